@@ -1,0 +1,12 @@
+pub mod Chains
+pub mod Sorting
+pub mod Total
+pub mod Lists
+pub mod Compose
+pub mod Simple
+pub mod Steps
+pub mod Examples
+pub mod Productive
+pub mod Values
+pub mod Lister
+pub mod Cycles

@@ -1,0 +1,13 @@
+pub mod Grammar
+pub mod Trees
+pub mod Analysis
+pub mod Derives
+pub mod Order
+pub mod All
+pub mod Simple
+pub mod Steps
+pub mod Cycles
+pub mod Acceptable
+pub mod Values
+pub mod Text
+pub mod Listable
