@@ -106,7 +106,7 @@ abbrev one_letter : Grammar
 one_letter = record { names = codes "S" ∷ codes "'a'" ∷ []; rules = rule 0 (1 ∷ []) 0 1 Left ∷ []; starts = 0 ∷ [] }
 
 abbrev arrays : Meaning
-arrays = record { rules = record { action = MakeArray; shown = true ∷ [] } ∷ []; lexeme = None }
+arrays = record { rules = record { action = MakeArray; shown = true ∷ []; sequence = false; separated = false } ∷ []; lexeme = None }
 
 abbrev a_token : List Token
 a_token = record { start = 0; length = 1; text = codes "a" } ∷ []
@@ -191,7 +191,7 @@ described = record {
 }
 
 abbrev with_spans : RuleMeaning
-with_spans = record { action = MakeItems (ItemName ∷ ItemStart ∷ ItemLength ∷ ItemG1Start ∷ ItemG1Length ∷ ItemValues ∷ []); shown = true ∷ true ∷ [] }
+with_spans = record { action = MakeItems (ItemName ∷ ItemStart ∷ ItemLength ∷ ItemG1Start ∷ ItemG1Length ∷ ItemValues ∷ []); shown = true ∷ true ∷ []; sequence = false; separated = false }
 
 abbrev descriptors : Meaning
 descriptors = record { rules = with_spans ∷ with_spans ∷ with_spans ∷ []; lexeme = Some (MakeItems (ItemSymbol ∷ ItemStart ∷ ItemLength ∷ ItemValues ∷ [])) }

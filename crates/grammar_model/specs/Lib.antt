@@ -11,3 +11,4 @@ pub mod Acceptable
 pub mod Values
 pub mod Text
 pub mod Listable
+pub mod Characters

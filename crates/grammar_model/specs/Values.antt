@@ -2,7 +2,7 @@
 -- is its text, unless the lexemes have an action; a nulled symbol has the value of its empty rule or of its star,
 -- if there is one. Shown as a tree, each node is the list of its left side's name, its rule's number and its children.
 -- Source: the Marpa SLIF DSL manual (array descriptor actions).
-use Rattle.std.specs.Prelude.{ℕ, zero, suc, ◌-◌, ◌+◌, ◌&&◌, ◌==◌, Bool, not, List, [], ◌∷◌, ◌++◌, Option, Some, None, length, take, drop, slice_index_or, option_map, ◌≡◌}
+use Rattle.std.specs.Prelude.{ℕ, zero, suc, ◌-◌, ◌+◌, ◌&&◌, ◌==◌, Bool, false, not, List, [], ◌∷◌, ◌++◌, Option, Some, None, length, take, drop, slice_index_or, option_map, ◌≡◌}
 use Rattle.std.specs.List.{flat_map, position, items_where_true}
 pub use Rattle.grammar_model.specs.declared.DescItem.{DescItem}
 pub use Rattle.grammar_model.specs.declared.DescItem.TheVariants.{Name as ItemName, Symbol as ItemSymbol, Start as ItemStart, Length as ItemLength, G1Start as ItemG1Start, G1Length as ItemG1Length, Values as ItemValues}
@@ -42,6 +42,8 @@ pub data Action : Type 0 where
 pub record RuleMeaning : Type 0 where
   pub action : Action
   pub shown : List Bool
+  pub sequence : Bool
+  pub separated : Bool
 
 pub record Meaning : Type 0 where
   pub rules : List RuleMeaning
@@ -115,7 +117,7 @@ rule_value ShowArray rule name shown start length g1start g1length action childr
 rule_value ShowTree rule name shown start length g1start g1length action children = list_of (Text name ∷ Number rule ∷ children)
 
 abbrev pub meaning_at : Meaning → ℕ → RuleMeaning
-meaning_at meaning i = slice_index_or meaning.rules i (record { action = MakeUndefined; shown = [] })
+meaning_at meaning i = slice_index_or meaning.rules i (record { action = MakeUndefined; shown = []; sequence = false; separated = false })
 
 -- of a sequence's first n children which are items
 abbrev pub items_shown : Option ℕ → ℕ → List Bool
