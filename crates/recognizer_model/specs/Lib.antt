@@ -9,3 +9,4 @@ pub mod Nodes
 pub mod Links
 pub mod Report
 pub mod Laws
+pub mod View
