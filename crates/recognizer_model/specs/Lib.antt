@@ -10,3 +10,5 @@ pub mod Links
 pub mod Report
 pub mod Laws
 pub mod View
+pub mod Invariant
+pub mod FlatForm
