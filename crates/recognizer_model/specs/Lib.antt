@@ -1,3 +1,4 @@
+pub mod FlatRule
 pub mod Flat
 pub mod FlatDerives
 pub mod Items
