@@ -7,7 +7,7 @@ mod rule;
 mod tests;
 mod written;
 
-pub use grammar_model::Assoc;
+pub use grammar_model::{Assoc, RuleId, SymbolId};
 pub use refusal::CoreRefusal;
-pub use rule::{Rule, RuleId, SeqRule, SymbolId, WrittenRule};
+pub use rule::{Rule, SeqRule, WrittenRule};
 pub use written::Written;
