@@ -256,7 +256,7 @@ module _ (w : Grammar) where
   list_right n (OfSeparated i x r b c s is sep prod st st') j e = let same : i ≡ j = cc in subst (λ z. (Written i ≡ Written z) × ListRight z (Sequence i ∷ c ∷ b ∷ [])) same (refl, BySeparated r x b c is sep st st' refl)
   list_right n (OfTop l start s at st) j e = cc
 
-  one_list : (i : ℕ) (a b : List FlatSymbol) → ListRight i a → ListRight i b → length a ≡ length b → a ≡ b
+  pub one_list : (i : ℕ) (a b : List FlatSymbol) → ListRight i a → ListRight i b → length a ≡ length b → a ≡ b
   one_list i a b (ByItem r x is st e) (ByItem r' y is' st' e') h =
       let same : Grammar.Sequence r ≡ Grammar.Sequence r' = sym is ∙ is' in
       let rr : r ≡ r' = cc in
