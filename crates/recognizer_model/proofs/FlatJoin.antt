@@ -50,28 +50,28 @@ module _ (f : FlatGrammar) (w : Grammar) (flat : IsFlat f) (made : IsFlatOf f w)
   -- ---- symbols
 
   -- a symbol that is no top is one of those of the list
-  told : (x : ℕ) → IsInner (form (symbol_at f x)) → slice_get f.symbols x ≡ Some (symbol_at f x)
+  pub told : (x : ℕ) → IsInner (form (symbol_at f x)) → slice_get f.symbols x ≡ Some (symbol_at f x)
   told x inner = go (get_or f.symbols x (Top 0))
     where
       go : (slice_get f.symbols x ≡ Some (symbol_at f x)) ⊎ (symbol_at f x ≡ Top 0) → slice_get f.symbols x ≡ Some (symbol_at f x)
       go (inl e) = e
       go (inr e) = absurd (subst (λ z. IsInner (form z)) e inner)
 
-  is_symbol : (x : ℕ) (s : FlatSymbol) → slice_get f.symbols x ≡ Some s → IsSymbolOf w s
+  pub is_symbol : (x : ℕ) (s : FlatSymbol) → slice_get f.symbols x ≡ Some s → IsSymbolOf w s
   is_symbol x s e =
       let (lt, is) = get_index f.symbols x (Top 0) s e in
       (made.symbols.exact s).0 (contains_from f.symbols s (subst (λ z. Among z f.symbols) is (among_at f.symbols x (Top 0) lt)))
 
   -- and each that there has to be is there
-  has_symbol : (s : FlatSymbol) → IsSymbolOf w s → (x : ℕ) × (slice_get f.symbols x ≡ Some s)
+  pub has_symbol : (s : FlatSymbol) → IsSymbolOf w s → (x : ℕ) × (slice_get f.symbols x ≡ Some s)
   has_symbol s h =
       let (x, lt, e) = at_among f.symbols s (Top 0) (among_from f.symbols s ((made.symbols.exact s).1 h)) in
       (x, index_get f.symbols x (Top 0) lt ∙ ap Some e)
 
-  at_symbol : (x : ℕ) (s : FlatSymbol) → slice_get f.symbols x ≡ Some s → symbol_at f x ≡ s
+  pub at_symbol : (x : ℕ) (s : FlatSymbol) → slice_get f.symbols x ≡ Some s → symbol_at f x ≡ s
   at_symbol x s e = (get_index f.symbols x (Top 0) s e).1
 
-  form_slot : (s : FlatSymbol) (slot : Grammar.Slot) → form s ≡ FlatSlot slot → s ≡ Slot slot.symbol slot.level
+  pub form_slot : (s : FlatSymbol) (slot : Grammar.Slot) → form s ≡ FlatSlot slot → s ≡ Slot slot.symbol slot.level
   form_slot (Terminal t) slot e = cc
   form_slot (Slot s k) slot e = let same : record { symbol = s; level = k } ≡ slot = cc in λ i. Slot (same i).symbol (same i).level
   form_slot (Sequence i) slot e = cc
@@ -83,7 +83,7 @@ module _ (f : FlatGrammar) (w : Grammar) (flat : IsFlat f) (made : IsFlatOf f w)
   form_terminal (Sequence i) t e = cc
   form_terminal (Top k) t e = cc
 
-  form_list : (s : FlatSymbol) (j : ℕ) → form s ≡ FlatList j → s ≡ Sequence j
+  pub form_list : (s : FlatSymbol) (j : ℕ) → form s ≡ FlatList j → s ≡ Sequence j
   form_list (Terminal t') t e = cc
   form_list (Slot s k) t e = cc
   form_list (Sequence i) t e = cc
@@ -92,10 +92,10 @@ module _ (f : FlatGrammar) (w : Grammar) (flat : IsFlat f) (made : IsFlatOf f w)
   inner_of : {s t : Forms.FlatSymbol} → s ≡ t → IsInner t → IsInner s
   inner_of e i = subst IsInner (sym e) i
 
-  slot_told : (x : ℕ) (slot : Grammar.Slot) → form (symbol_at f x) ≡ FlatSlot slot → slice_get f.symbols x ≡ Some (Slot slot.symbol slot.level)
+  pub slot_told : (x : ℕ) (slot : Grammar.Slot) → form (symbol_at f x) ≡ FlatSlot slot → slice_get f.symbols x ≡ Some (Slot slot.symbol slot.level)
   slot_told x slot e = told x (inner_of e tt) ∙ ap Some (form_slot (symbol_at f x) slot e)
 
-  list_told : (x j : ℕ) → form (symbol_at f x) ≡ FlatList j → slice_get f.symbols x ≡ Some (Sequence j)
+  pub list_told : (x j : ℕ) → form (symbol_at f x) ≡ FlatList j → slice_get f.symbols x ≡ Some (Sequence j)
   list_told x j e = told x (inner_of e tt) ∙ ap Some (form_list (symbol_at f x) j e)
 
   terminal_told : (x t : ℕ) → form (symbol_at f x) ≡ FlatTerminal t → slice_get f.symbols x ≡ Some (Terminal t)
@@ -103,10 +103,10 @@ module _ (f : FlatGrammar) (w : Grammar) (flat : IsFlat f) (made : IsFlatOf f w)
 
   -- ---- rules
 
-  flat_at : ℕ → FlatRule
+  pub flat_at : ℕ → FlatRule
   flat_at r = slice_index_or f.rules r no_rule
 
-  is_rule : (r : ℕ) → IsRule f r → IsRuleOf w (named f (flat_at r))
+  pub is_rule : (r : ℕ) → IsRule f r → IsRuleOf w (named f (flat_at r))
   unfolding flat_at
   is_rule r lt = (made.rules.exact (named f (flat_at r))).0 (contains_from _ _ (among_map (named f) (flat_at r) f.rules (among_at f.rules r no_rule lt)))
 
@@ -117,7 +117,7 @@ module _ (f : FlatGrammar) (w : Grammar) (flat : IsFlat f) (made : IsFlatOf f w)
       let (r, lt, e') = at_among f.rules rule no_rule m in
       (r, lt, ap (named f) e' ∙ e)
 
-  same_place : (r s : ℕ) → IsRule f r → IsRule f s → named f (flat_at r) ≡ named f (flat_at s) → r ≡ s
+  pub same_place : (r s : ℕ) → IsRule f r → IsRule f s → named f (flat_at r) ≡ named f (flat_at s) → r ≡ s
   unfolding flat_at
   same_place r s lr ls e =
       let len : length (map (named f) f.rules) ≡ length f.rules = map_length (named f) f.rules in
@@ -125,36 +125,36 @@ module _ (f : FlatGrammar) (w : Grammar) (flat : IsFlat f) (made : IsFlatOf f w)
       one_place (map (named f) f.rules) made.rules.once r s d (omega arith) (omega arith)
       (map_at (named f) f.rules r no_rule d lr ∙ e ∙ sym (map_at (named f) f.rules s no_rule d ls))
 
-  left_is : (r : ℕ) → (named f (flat_at r)).left ≡ symbol_at f (lhs_of f r)
+  pub left_is : (r : ℕ) → (named f (flat_at r)).left ≡ symbol_at f (lhs_of f r)
   unfolding flat_at
   left_is r = refl
 
-  source_is : (r : ℕ) → (named f (flat_at r)).source ≡ source_of f r
+  pub source_is : (r : ℕ) → (named f (flat_at r)).source ≡ source_of f r
   unfolding flat_at
   source_is r = refl
 
-  right_is : (r : ℕ) → (named f (flat_at r)).right ≡ map (symbol_at f) (rhs_of f r)
+  pub right_is : (r : ℕ) → (named f (flat_at r)).right ≡ map (symbol_at f) (rhs_of f r)
   unfolding flat_at
   right_is r = refl
 
-  length_is : (r : ℕ) → length (named f (flat_at r)).right ≡ length (rhs_of f r)
+  pub length_is : (r : ℕ) → length (named f (flat_at r)).right ≡ length (rhs_of f r)
   length_is r = ap length (right_is r) ∙ map_length (symbol_at f) (rhs_of f r)
 
-  part_is : (r k : ℕ) → k < length (rhs_of f r) → slice_index_or (named f (flat_at r)).right k (Top 0) ≡ symbol_at f (slice_index (rhs_of f r) k)
+  pub part_is : (r k : ℕ) → k < length (rhs_of f r) → slice_index_or (named f (flat_at r)).right k (Top 0) ≡ symbol_at f (slice_index (rhs_of f r) k)
   part_is r k lt = ap (λ z. slice_index_or z k (Top 0)) (right_is r) ∙ map_at (symbol_at f) (rhs_of f r) k 0 (Top 0) lt
 
   -- a rule of the view that has parts is a flat rule
-  real : (r : ℕ) → r < length view.rules → 0 < length (names.rhs r) → IsRule f r
+  pub real : (r : ℕ) → r < length view.rules → 0 < length (names.rhs r) → IsRule f r
   real r lt some = go (kind_of f r lt)
     where
       go : IsKindOf f r → IsRule f r
       go (inl rule) = rule
       go (inr (x, m, e)) = let none : length (names.rhs r) ≡ 0 = ap (λ z. length (parts z)) e in absurd (omega arith)
 
-  lhs_is : (r : ℕ) → IsRule f r → names.lhs r ≡ lhs_of f r
+  pub lhs_is : (r : ℕ) → IsRule f r → names.lhs r ≡ lhs_of f r
   lhs_is r rule = ap Grammar.lhs_of (rule_viewed f r rule)
 
-  rhs_is : (r : ℕ) → IsRule f r → names.rhs r ≡ rhs_of f r
+  pub rhs_is : (r : ℕ) → IsRule f r → names.rhs r ≡ rhs_of f r
   rhs_is r rule = ap parts (rule_viewed f r rule)
 
   -- ---- what each rule, part and mark stands for
@@ -174,7 +174,7 @@ module _ (f : FlatGrammar) (w : Grammar) (flat : IsFlat f) (made : IsFlatOf f w)
       let h2 = subst (λ z. IsHead w (names.symbol (names.lhs r)) (source_number w z) (length (named f (flat_at r)).right)) (source_is r) h1 in
       subst (λ z. IsHead w (names.symbol (names.lhs r)) (names.source r) z) (length_is r ∙ sym (ap length (rhs_is r rule))) h2
 
-  view_part : (r k : ℕ) → r < length view.rules → k < length (names.rhs r) → IsInner (names.symbol (names.lhs r)) → IsPart w (names.symbol (slice_index (names.rhs r) k)) (names.source r) k
+  pub view_part : (r k : ℕ) → r < length view.rules → k < length (names.rhs r) → IsInner (names.symbol (names.lhs r)) → IsPart w (names.symbol (slice_index (names.rhs r) k)) (names.source r) k
   view_part r k lt h inner =
       let rule = real r lt (omega arith) in
       let len = ap length (rhs_is r rule) in
@@ -185,10 +185,10 @@ module _ (f : FlatGrammar) (w : Grammar) (flat : IsFlat f) (made : IsFlatOf f w)
       subst (λ z. IsPart w (names.symbol (slice_index (names.rhs r) k)) (source_number w z) k) (source_is r) p1
 
   module _ (edge : Edges) where
-    only : OnlyTerminals f (FlatEdges f edge)
+    pub only : OnlyTerminals f (FlatEdges f edge)
     only x p q (t, is, e) = (t, is)
 
-    view_leaf : (x p q : ℕ) → IsTerminal view x → FlatEdges f edge x p q → (s : ℕ) × (names.symbol x ≡ FlatTerminal s) × IsTerminal w s × edge s p q
+    pub view_leaf : (x p q : ℕ) → IsTerminal view x → FlatEdges f edge x p q → (s : ℕ) × (names.symbol x ≡ FlatTerminal s) × IsTerminal w s × edge s p q
     view_leaf x p q t (s, is, e) = (s, ap form (at_symbol x (Terminal s) is), (is_symbol x (Terminal s) is).0, e)
 
     -- a marked symbol that is no top is a nullable slot
@@ -201,7 +201,7 @@ module _ (f : FlatGrammar) (w : Grammar) (flat : IsFlat f) (made : IsFlatOf f w)
         go (Sequence j) h i = absurd h
         go (Top k) h i = absurd i
 
-    view_nulled : (x : ℕ) → IsInner (names.symbol x) → Analysis.IsNullable view (slot_of x) → (slot : Grammar.Slot) × (names.symbol x ≡ FlatSlot slot) × Analysis.IsNullable w slot
+    pub view_nulled : (x : ℕ) → IsInner (names.symbol x) → Analysis.IsNullable view (slot_of x) → (slot : Grammar.Slot) × (names.symbol x ≡ FlatSlot slot) × Analysis.IsNullable w slot
     view_nulled x inner n = marked_slot x (marked_back f flat.marks n.0 (slot_of x) n.1) (symbol_at f x) (told x inner) inner
 
     pub reads : Forms.IsFlatOf view w names (FlatEdges f edge) edge
@@ -334,7 +334,7 @@ module _ (f : FlatGrammar) (w : Grammar) (flat : IsFlat f) (made : IsFlatOf f w)
             let n : NamedRule = record { left = Sequence i; right = Sequence i ∷ s ∷ b ∷ []; source = Written i } in
             list_rule n y y i (suc (slot_count (Grammar.Sequence r))) (found n (OfSeparated i c r b s (is_symbol y (Sequence i) told_y) is sep prod st' st) y told_y tt) refl (omega arith) count refl told_y
 
-    sequence_in_range : (i : ℕ) (r : SequenceRule) → rule_at w i ≡ Grammar.Sequence r → i < length w.rules
+    pub sequence_in_range : (i : ℕ) (r : SequenceRule) → rule_at w i ≡ Grammar.Sequence r → i < length w.rules
     sequence_in_range i r is = go (get_or w.rules i Grammar.no_rule)
       where
         go : (slice_get w.rules i ≡ Some (rule_at w i)) ⊎ (rule_at w i ≡ Grammar.no_rule) → i < length w.rules
