@@ -77,7 +77,7 @@ module _ (f : FlatGrammar) (w : Grammar) (flat : IsFlat f) (made : IsFlatOf f w)
   form_slot (Sequence i) slot e = cc
   form_slot (Top k) slot e = cc
 
-  form_terminal : (s : FlatSymbol) (t : ℕ) → form s ≡ FlatTerminal t → s ≡ Terminal t
+  pub form_terminal : (s : FlatSymbol) (t : ℕ) → form s ≡ FlatTerminal t → s ≡ Terminal t
   form_terminal (Terminal t') t e = cc
   form_terminal (Slot s k) t e = cc
   form_terminal (Sequence i) t e = cc

@@ -97,8 +97,8 @@ module _ (f : FlatGrammar) (w : Grammar) (flat : IsFlat f) (made : IsFlatOf f w)
       let ij : i ≡ j = sym (ap (source_number w) si) ∙ nat_cmp-Equal _ _ parts.0 ∙ ap (source_number w) sj in
       let trailing = bool_cmp-Equal _ _ parts.1 in
       let trailing' : has_trailing (rule_at w i) (length (name_at r).right) ≡ has_trailing (rule_at w i) (length (name_at r').right) =
-          (λ z. has_trailing (rule_at w (sym (ap (source_number w) si) z)) (count_is r rule z)) ∙ trailing
-          ∙ (λ z. has_trailing (rule_at w ((ap (source_number w) sj ∙ sym ij) z)) (sym (count_is r' rule') z)) in
+      (λ z. has_trailing (rule_at w (sym (ap (source_number w) si) z)) (count_is r rule z)) ∙ trailing
+      ∙ (λ z. has_trailing (rule_at w ((ap (source_number w) sj ∙ sym ij) z)) (sym (count_is r' rule') z)) in
       one_rule r r' rule rule' l (si ∙ ap Written ij ∙ sym sj)
       (one_right w i (name_at r).right (name_at r').right right (subst (λ z. SlotRight w z (name_at r').right) (sym ij) right') trailing')
 

@@ -9,11 +9,14 @@ use Rattle.grammar_model.specs.Grammar
 use Rattle.grammar_model.specs.Trees.{Tree, Children, Leaf, Nulled, Node, NoChild, Child}
 use Rattle.grammar_model.specs.Analysis.{IsProductive, IsAccessible, IsLive}
 use Rattle.grammar_model.specs.Analysis
-use Rattle.grammar_model.specs.Derives.{Edges, Derives}
+use Rattle.grammar_model.specs.Derives.{Edges, Held, Derives}
+use Rattle.grammar_model.specs.declared.Edge.{Edge}
+use Rattle.grammar_model.specs.Checked.{IsChecked}
 use Rattle.grammar_model.specs.declared.Ranking.{Ranking}
 use Rattle.grammar_model.specs.Order.{RuleOrder, rule_cmp, rank_order, tree_cmp}
 use Rattle.recognizer_model.specs.Flat.{FlatGrammar, FlatSymbol, Terminal, Slot, Sequence, Top, FlatSource, Written, OfStart, FlatRule, IsRule, lhs_of, rhs_of, source_of}
 use Rattle.recognizer_model.specs.View.{grammar_view}
+use Rattle.recognizer_model.specs.Invariant.{IsFlat}
 use Rattle.recognizer_model.specs.Counts.{IsListOf}
 
 -- WHICH SYMBOLS AND RULES
@@ -179,3 +182,8 @@ pub record IsFlatForm (f : FlatGrammar) (w : Grammar) (edge : Edges) (ranking : 
   pub in_order : (x p q : ℕ) (slot : Grammar.Slot) (t u : Tree) → x < length f.symbols → StandsFor w (symbol_at f x) slot →
       Derives (grammar_view f) (FlatEdges f edge) (slot_of x) p q t → Derives (grammar_view f) (FlatEdges f edge) (slot_of x) p q u →
       tree_cmp (flat_order w ranking f) t u ≡ tree_cmp (rank_order w ranking) (tree_of w f t) (tree_of w f u)
+
+-- the flat grammar of a checked grammar is its flat form, over edges that go forward
+abbrev pub FlatGrammarsAreFlatForms : Type 0
+FlatGrammarsAreFlatForms = (f : FlatGrammar) (w : Grammar) (edges : List Edge) (ranking : Ranking) → IsFlat f → IsFlatOf f w → IsChecked w →
+    ((s p q : ℕ) → Held edges s p q → p < q) → IsFlatForm f w (Held edges) ranking
