@@ -12,6 +12,7 @@ use Rattle.grammar_model.specs.Analysis
 use Rattle.grammar_model.specs.Derives.{Edges, Held, Derives}
 use Rattle.grammar_model.specs.declared.Edge.{Edge}
 use Rattle.grammar_model.specs.Checked.{IsChecked}
+use Rattle.grammar_model.specs.Acceptable.{IsAcceptable}
 use Rattle.grammar_model.specs.declared.Ranking.{Ranking}
 use Rattle.grammar_model.specs.Order.{RuleOrder, rule_cmp, rank_order, tree_cmp}
 use Rattle.recognizer_model.specs.Flat.{FlatGrammar, FlatSymbol, Terminal, Slot, Sequence, Top, FlatSource, Written, OfStart, FlatRule, IsRule, lhs_of, rhs_of, source_of}
@@ -187,3 +188,10 @@ pub record IsFlatForm (f : FlatGrammar) (w : Grammar) (edge : Edges) (ranking : 
 abbrev pub FlatGrammarsAreFlatForms : Type 0
 FlatGrammarsAreFlatForms = (f : FlatGrammar) (w : Grammar) (edges : List Edge) (ranking : Ranking) → IsFlat f → IsFlatOf f w → IsChecked w →
     ((s p q : ℕ) → Held edges s p q → p < q) → IsFlatForm f w (Held edges) ranking
+
+-- a written terminal is acceptable exactly where its flat symbol is
+abbrev pub AcceptableAreFlat : Type 0
+AcceptableAreFlat = (f : FlatGrammar) (w : Grammar) (edges : List Edge) (k start r t place : ℕ) → IsFlat f → IsFlatOf f w → IsChecked w →
+    ((s p q : ℕ) → Held edges s p q → p < q) → slice_get w.starts k ≡ Some start → slice_get f.tops k ≡ Some r →
+    IsAcceptable w (Held edges) start t place
+    ↔ ((x : ℕ) × (slice_get f.symbols x ≡ Some (Terminal t)) × IsAcceptable (grammar_view f) (FlatEdges f (Held edges)) (lhs_of f r) x place)
