@@ -1,1 +1,2 @@
 pub mod Arena
+pub mod Held

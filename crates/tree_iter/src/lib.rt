@@ -8,6 +8,9 @@ ghost use Rattle.grammar_model.specs.Characters.{IsAllOfCharacters, tree_line};
 ghost use Rattle.tree_iter.specs.Listing.{trees_of, line_of};
 
 mod cells;
+mod lister;
+mod rules;
+mod store;
 
 use grammar_core::Written;
 use std::alloc::{AllocError, Global};
