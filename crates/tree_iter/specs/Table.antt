@@ -1,9 +1,10 @@
 -- A table of lists: of the trees of a symbol over a span, and of the first so many children of a rule over a span.
-use Rattle.std.specs.Prelude.{◌≡◌, ℕ, zero, suc, ◌+◌, ◌-◌, ◌*◌, ◌<◌, ◌≤◌, Bool, ◌&&◌, ◌==◌, if◌then◌else◌, List, length, map, Option, Some, slice_get}
+use Rattle.std.specs.Prelude.{◌≡◌, ℕ, zero, suc, ◌+◌, ◌-◌, ◌*◌, ◌<◌, ◌≤◌, Bool, ◌&&◌, ◌==◌, if◌then◌else◌, List, length, map, Option, Some, slice_get, filter}
 use Rattle.std.specs.Map.{lookup}
-use Rattle.grammar_model.specs.Grammar.{Grammar, rule_at, slot_of}
-use Rattle.grammar_model.specs.Trees.{Tree, Children}
-use Rattle.grammar_model.specs.Simple.{Below, part_count, is_terminal, simple_fronts, simple_trees}
+use Rattle.std.specs.List.{flat_map}
+use Rattle.grammar_model.specs.Grammar.{Grammar, rule_at, slot_of, child_slot}
+use Rattle.grammar_model.specs.Trees.{Tree, Children, Node, Child}
+use Rattle.grammar_model.specs.Simple.{Below, part_count, is_terminal, fits, numbers, simple_fronts, simple_trees}
 use Rattle.grammar_model.specs.Characters.{is_quoted}
 use Rattle.tree_iter.specs.declared.store.Store.{Store}
 use Rattle.tree_iter.specs.Arena.{Meant}
@@ -53,12 +54,25 @@ pub record IsListed (g : Grammar) (input : List ℕ) (old new : Store) (k x n p 
   pub grows : Grows old new
   pub holds : Holds g input new k x n p q
 
--- a call found the key's list
-pub record IsTold (g : Grammar) (input : List ℕ) (old new : Store) (places : List ℕ) (x n p q : ℕ) : Type 0 where
+-- a call made a list of what these values tell
+pub record IsBuilt (g : Grammar) (input : List ℕ) (old new : Store) (places : List ℕ) (values : List Meant) : Type 0 where
   pub sound : IsSound g input new
   pub grows : Grows old new
   pub within : Within new.cells.items places
-  pub told : map (at new.cells.items) places ≡ value_at g input x n p q
+  pub told : map (at new.cells.items) places ≡ values
+
+-- a call found the key's list
+abbrev pub IsTold : Grammar → List ℕ → Store → Store → List ℕ → (x n p q : ℕ) → Type 0
+IsTold g input old new places x n p q = IsBuilt g input old new places (value_at g input x n p q)
+
+-- the nodes of the symbol x by its rules below n
+abbrev pub nodes_below : Grammar → List ℕ → (x p q n : ℕ) → List Tree
+nodes_below g input x p q n =
+    flat_map (λ i. map (λ children. Node i children p q) (fronts_listed g input i (part_count (rule_at g i)) p q)) (filter (λ i. fits (rule_at g i) (slot_of x)) (numbers n))
+
+-- the first suc n children of the rule i whose last one starts at r
+abbrev pub fronts_from : Grammar → List ℕ → (i n p q r : ℕ) → List Children
+fronts_from g input i n p q r = flat_map (λ front. map (Child front) (listed g input (child_slot (rule_at g i) n) r q)) (fronts_listed g input i n p r)
 
 -- how far a key is from those that need no other
 abbrev pub rank : Grammar → (x n : ℕ) → ℕ

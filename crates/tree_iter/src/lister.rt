@@ -69,9 +69,13 @@ fn leaves_at(
 {
     let mut out = Vec::new(alloc);
     let _ = w.symbol_count();
-    if q == p + 1 && is_quoted_at(w, input, x, p) {
-        add_cell(&mut store.cells, &mut out, Cell::Leaf(x as u32, p as u32))?;
+    if q != p + 1 {
+        return Ok(out);
     }
+    if !is_quoted_at(w, input, x, p) {
+        return Ok(out);
+    }
+    add_cell(&mut store.cells, &mut out, Cell::Leaf(x as u32, p as u32))?;
     Ok(out)
 }
 
@@ -96,10 +100,11 @@ fn nodes_at(
 {
     let mut out = Vec::new(alloc);
     for i in 0..w.rule_count() {
-        if left_of(w, i) as usize == x {
-            let k = list_at(alloc, w, input, store, i, parts_of(w, i), p, q)?;
-            add_nodes(&mut store.cells, &mut out, store.lists[k].as_slice(), i as u32, p as u32, q as u32)?;
+        if left_of(w, i) as usize != x {
+            continue;
         }
+        let k = list_at(alloc, w, input, store, i, parts_of(w, i), p, q)?;
+        add_nodes(&mut store.cells, &mut out, store.lists[k].as_slice(), i as u32, p as u32, q as u32)?;
     }
     Ok(out)
 }
@@ -154,7 +159,7 @@ fn pairs_at(
     let last = part_of(w, i, n - 1) as usize;
     let inner = is_inner(w, last);
     let mut r = q;
-    while r > p + (n - 1) {
+    while r - p > n - 1 {
         r -= 1;
         if inner || r + 1 == q {
             let a = list_at(alloc, w, input, store, i, n - 1, p, r)?;

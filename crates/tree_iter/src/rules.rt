@@ -31,8 +31,7 @@ pub fn parts_of(w: &Written, i: usize) -> usize
     }
 }
 
-/// The part at place `k`.
-pub fn part_of(w: &Written, i: usize, k: usize) -> u32
+fn part_at(w: &Written, i: usize, k: usize) -> u32
     requires rule { i < length w.now.rules }
     requires part { k < part_count (rule_at w.now i) }
     ensures { result ≡ (child_slot (rule_at w.now i) k).symbol }
@@ -42,6 +41,17 @@ pub fn part_of(w: &Written, i: usize, k: usize) -> u32
         WrittenRule::Plain(rule) => rule.rhs[k].0,
         WrittenRule::Sequence(rule) => rule.item.0,
     }
+}
+
+/// The part at place `k`.
+pub fn part_of(w: &Written, i: usize, k: usize) -> u32
+    requires rule { i < length w.now.rules }
+    requires part { k < part_count (rule_at w.now i) }
+    ensures part { result ≡ (child_slot (rule_at w.now i) k).symbol }
+    ensures known { result < length w.now.names }
+{
+    let _ = w.rule_count();
+    part_at(w, i, k)
 }
 
 /// Whether the symbol is some rule's left side.
