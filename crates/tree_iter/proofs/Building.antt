@@ -9,14 +9,14 @@ use Rattle.std.proofs.lemmas.Grind.{flat_map-append}
 use Rattle.grammar_model.specs.Grammar.{Grammar, Slot, WrittenRule, Plain, Sequence, rule_at, slot_of, child_slot, own_level, lhs_of, level_of}
 use Rattle.grammar_model.specs.Trees.{Tree, Children, Leaf, Node, NoChild, Child}
 use Rattle.grammar_model.specs.declared.Ranking.TheVariants.{Rule as RuleRanks}
-use Rattle.grammar_model.specs.Simple.{IsSimple, IsSimpleRule, Below, places, numbers, fits, part_count, is_terminal, simple_fronts, simple_nodes, simple_trees}
+use Rattle.grammar_model.specs.Simple.{IsSimple, IsSimpleRule, Below, places, numbers, fits, part_count, is_terminal, simple_fronts, simple_leaves, simple_nodes, simple_trees}
 use Rattle.grammar_model.specs.Characters.{is_quoted, is_named}
 use Rattle.grammar_model.proofs.Simple.{trees_again, among_places_from, is_terminal_from}
 use Rattle.grammar_model.proofs.Characters.{quoted_forward}
 use Rattle.grammar_model.proofs.Lists.{Among}
 use Rattle.tree_iter.specs.declared.store.Store.{Store}
 use Rattle.tree_iter.specs.declared.Cell.{Cell}
-use Rattle.tree_iter.specs.Arena.{Meant}
+use Rattle.tree_iter.specs.Arena.{Meant, tree_at}
 use Rattle.tree_iter.specs.Adding.{at, as_tree, as_front, Within, Keeps, Adds}
 use Rattle.tree_iter.specs.Table.{Key, same_key, IsKey, rank, listed, fronts_listed, nodes_below, fronts_from, value_at, Holds, Grows, IsSound, IsListed, IsBuilt}
 use Rattle.grammar_core.specs.Written.{IsWritten, symbols_of}
@@ -315,3 +315,20 @@ fronts_step g input i (suc m) p q h = let e : suc m - 1 ≡ m = omega arith in s
 pub starts_end : (i p q r n : ℕ) → (p + n ≤ r) ⊎ (r ≡ q) → r ≤ p + n → r ≤ q → places r q ≡ places (p + n) q
 starts_end i p q r n (inl a) b c = let e : r ≡ p + n = omega arith in ap (λ z. places z q) e
 starts_end i p q r n (inr e) b c = places_none r q (omega arith) ∙ sym (places_none (p + n) q (omega arith))
+
+pub empty_list : (xs : List ℕ) → length xs ≡ 0 → xs ≡ []
+empty_list [] e = refl
+empty_list (x ∷ xs) e = absurd (omega arith)
+
+-- ---- the whole
+
+pub trees_told : (cells : List Cell) (places : List ℕ) (ts : List Tree) → map (at cells) places ≡ map as_tree ts → map (tree_at cells) places ≡ ts
+trees_told cells places ts e =
+    sym (map_map (λ (m : Meant). m.tree) (at cells) places) ∙ ap (map (λ (m : Meant). m.tree)) e ∙ map_map (λ (m : Meant). m.tree) as_tree ts ∙ same ts
+  where
+    same : (l : List Tree) → map (λ t. t) l ≡ l
+    same [] = refl
+    same (t ∷ l) = ap (λ z. t ∷ z) (same l)
+
+pub none_over_nothing : (g : Grammar) (input : List ℕ) (slot : Slot) → length input ≡ 0 → listed g input slot 0 (length input) ≡ []
+none_over_nothing g input slot e = ap (λ n. cond (nat_lt 0 n) (cond (is_terminal g slot.symbol) (simple_leaves (is_quoted g input) slot 0 n) (simple_nodes g (simple_trees g (is_quoted g input) (length input)) slot 0 n)) []) e

@@ -3,11 +3,13 @@ use Rattle.std.specs.List.{flat_map}
 use Rattle.tree_iter.proofs.Held.{holds_grow}
 use Rattle.grammar_model.specs.Grammar.{lhs_of, rule_at, child_slot, slot_of}
 use Rattle.grammar_model.specs.Trees.{Node, NoChild, Child}
-use Rattle.grammar_model.specs.Simple.{part_count, places}
+use Rattle.grammar_model.specs.Simple.{part_count, places, is_terminal}
 use Rattle.tree_iter.specs.Adding.{at, as_tree, as_front}
 use Rattle.tree_iter.specs.declared.store.Store.{Store}
 use Rattle.tree_iter.specs.Table.{rank, listed, fronts_listed, fronts_from, nodes_below}
-use Rattle.tree_iter.proofs.Building.{built_none, built_cells, built_same, built_list, nodes_value, firsts_value, pairs_value, front_value, nodes_listed, nodes_more, nodes_as_before, firsts_listed, slot_is, pairs_more, pairs_as_before, no_last, no_front, places_none, within_read, told_read, in_lists, first_rank, weight_less, rank_low, rank_high, key_rule, fronts_step, starts_end}
+use Rattle.tree_iter.proofs.Building.{built_none, built_cells, built_same, built_list, nodes_value, firsts_value, pairs_value, front_value, nodes_listed, nodes_more, nodes_as_before, firsts_listed, slot_is, pairs_more, pairs_as_before, no_last, no_front, places_none, within_read, told_read, in_lists, first_rank, weight_less, rank_low, rank_high, key_rule, fronts_step, starts_end, empty_list}
+use Rattle.std.specs.Prelude.{not}
+use Rattle.std.proofs.lemmas.Bool.{eqb-true}
 use Rattle.grammar_model.proofs.Simple.{simple_parts}
 use Rattle.tree_iter.proofs.lister.+lister.Goals as goal
 
@@ -135,12 +137,41 @@ pairs_at-loop-r-preserved-in_ok-add_pairs t c =
 
 pub pairs_at-loop-r-preserved-else-not-is_empty : goal.pairs_at-loop-r-preserved-else-not-is_empty
 pairs_at-loop-r-preserved-else-not-is_empty t c =
-    let e = c.if-not-is_empty.ensures in
-    let f = c.if-not-is_empty.false in
-    ?
+    let g = c.args.w.now in
+    let input = c.args.input.now in
+    let i = c.args.i in
+    let m = c.args.n - 1 in
+    let p = c.args.p in
+    let q = c.args.q in
+    let r = c.loop-r.r - 1 in
+    let s = c.list_at.new.store in
+    let ps = c.as_slice.result.now in
+    let lt : r < q = omega (arith, c.loop-r.invariant.2) in
+    let next : c.loop-r.r ≡ suc r = omega arith in
+    let some : 0 < m = omega arith in
+    let empty : ps ≡ [] = empty_list ps (eqb-true (length ps) 0 (sym c.if-not-is_empty.ensures)) in
+    let fronts = told_read g input s c.in_ok-a.a i m p r c.index.result.now ps c.in_ok-a.ensures.holds c.index.ensures c.as_slice.ensures ∙ front_value g input i m p r some in
+    (inl (omega arith), omega arith, omega (arith, c.loop-r.invariant.2),
+    built_same g input c.args.store.now s c.loop-r.out.items _ _
+    (pairs_as_before g input i m p q c.loop-r.r r next lt (no_front g input i m p q r s.cells.items ps empty fronts))
+    (built_list g input c.args.store.now c.loop-r.store s c.loop-r.out.items _ c.in_ok-a.a i m p r c.loop-r.invariant.3 c.in_ok-a.ensures))
 
 pub pairs_at-loop-r-preserved : goal.pairs_at-loop-r-preserved
-pairs_at-loop-r-preserved t c = ?
+pairs_at-loop-r-preserved t c =
+    let g = c.args.w.now in
+    let input = c.args.input.now in
+    let i = c.args.i in
+    let m = c.args.n - 1 in
+    let q = c.args.q in
+    let r = c.loop-r.r - 1 in
+    let lt : r < q = omega (arith, c.loop-r.invariant.2) in
+    let next : c.loop-r.r ≡ suc r = omega arith in
+    let rule = c.requires.simple i (key_rule g i c.args.n c.requires.key (omega arith)) in
+    let terminal : is_terminal g (child_slot (rule_at g i) m).symbol ≡ true = subst (λ z. is_terminal g z ≡ true) c.part_of-last.ensures.part (ap not (sym c.if-inner.ensures)) in
+    (inl (omega arith), omega arith, omega (arith, c.loop-r.invariant.2),
+    built_same g input c.args.store.now c.loop-r.store c.loop-r.out.items _ _
+    (pairs_as_before g input i m c.args.p q c.loop-r.r r next lt (no_last g input i m c.args.p q r rule terminal lt (λ e. c.if-r-q.false (omega arith))))
+    c.loop-r.invariant.3)
 
 pub pairs_at-returns : goal.pairs_at-returns
 pairs_at-returns t c =
