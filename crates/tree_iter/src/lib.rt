@@ -67,6 +67,18 @@ fn lefts_of(alloc: Global, w: &Written) -> Result<Vec<u32>, AllocError>
     Ok(lefts)
 }
 
+fn copied(alloc: Global, places: &[u32]) -> Result<Vec<u32>, AllocError>
+    ensures { IfOk result (λ copy. copy.items ≡ places.now) }
+{
+    places.iter().copied().collect(alloc)
+}
+
+fn copied_bytes(alloc: Global, bytes: &[u8]) -> Result<Vec<u8>, AllocError>
+    ensures { IfOk result (λ copy. copy.items ≡ bytes.now) }
+{
+    bytes.iter().copied().collect(alloc)
+}
+
 // The trees of the first start over the input, in cells.
 fn trees_in_cells(alloc: Global, w: &Written, input: &[u8]) -> Result<(Vec<Cell>, Vec<u32>), AllocError>
     requires simple { IsSimple w.now }
@@ -85,7 +97,7 @@ fn trees_in_cells(alloc: Global, w: &Written, input: &[u8]) -> Result<(Vec<Cell>
         return Ok((store.cells, Vec::new(alloc)));
     }
     let k = list_at(alloc, w, input, &mut store, start.0 as usize, 0, 0, input.len())?;
-    let trees = store.lists[k].as_slice().to_vec(alloc)?;
+    let trees = copied(alloc, store.lists[k].as_slice())?;
     Ok((store.cells, trees))
 }
 
@@ -104,7 +116,7 @@ pub fn list_simple(alloc: Global, w: &Written, input: &[u8]) -> Result<SlowList,
     Ok(SlowList {
         names,
         lefts,
-        input: input.to_vec(alloc)?,
+        input: copied_bytes(alloc, input)?,
         cells,
         trees,
     })
