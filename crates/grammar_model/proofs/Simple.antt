@@ -146,7 +146,7 @@ from_fits rule slot f = and_from _ _ (eq-eqb _ _ f.0) (le-leb _ _ f.1)
 -- ---- simple grammars
 
 -- what a simple rule's parts are
-simple_parts : (g : Grammar) (rule : WrittenRule) → IsSimpleRule g rule → 0 < part_count rule
+pub simple_parts : (g : Grammar) (rule : WrittenRule) → IsSimpleRule g rule → 0 < part_count rule
 simple_parts g (Plain r) s = ⊎_elim (λ h. let e = h.0 in omega arith) (λ h. omega arith) s.2
 simple_parts g (Sequence r) h = absurd h
 
