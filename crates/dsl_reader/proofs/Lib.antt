@@ -1,0 +1,5 @@
+pub mod SimpleLemmas
+pub mod SoundLemmas
+pub mod AgainLemmas
+pub mod RowLemmas
+pub mod TextLemmas

@@ -1,0 +1,10 @@
+//! The laws between simple grammars and their texts.
+ghost use Rattle.std.specs.Prelude.{◌≡◌, ◌↔◌, ℕ, List, [], Some, IsTrue};
+ghost use Rattle.std.specs.List.{list_all};
+ghost use Rattle.language_model.specs.Simple.{SimpleLine, is_simple_line, print_simple};
+ghost use Rattle.dsl_reader.specs.SimpleReading.{read_from};
+
+/// A text is read as these lines exactly where the lines, printed, are the text.
+pub fn lines_are_read()
+    ensures { (text : List ℕ) (g : List SimpleLine) → (read_from [] [] text ≡ Some g) ↔ (IsTrue (list_all is_simple_line g) × (text ≡ print_simple g)) }
+{}
