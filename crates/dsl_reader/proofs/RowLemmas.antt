@@ -9,8 +9,8 @@ use Rattle.std.proofs.Math.Bool.{and-false}
 use Rattle.std.specs.Cmp.Derive.{both_true}
 use Rattle.std.proofs.lemmas.List.Folds.{list_all-map}
 use Rattle.language_model.specs.Simple.{SimplePart, SimpleLine, is_simple_name, is_quoted, same_part, same_parts, all_differ}
-use Rattle.dsl_reader.specs.declared.lines.Part.{Part}
-use Rattle.dsl_reader.specs.declared.lines.Alternative.{Alternative}
+use Rattle.dsl_reader.specs.declared.part.Part.{Part}
+use Rattle.dsl_reader.specs.declared.part.Alternative.{Alternative}
 use Rattle.dsl_reader.specs.SimpleReading.{part_of, has_fair_length, with_alternative, alternatives_of, line_of}
 use Rattle.dsl_reader.specs.SimpleSeen.{part_seen, row_seen, is_quoted_part, rows_after, rows_with_line, has_row, has_plain_row, rows_have_lines, rows_have_plain, same_row, names_are_lefts, has_plain_held, lefts_are_plain, are_simple_rows, are_simple_held}
 use Rattle.dsl_reader.proofs.SimpleLemmas.{clash, if_true, if_false}

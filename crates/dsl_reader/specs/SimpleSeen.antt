@@ -2,15 +2,15 @@
 use Rattle.std.specs.Prelude.{◌≡◌, ℕ, Bool, true, ◌&&◌, nat_lt, nat_le, List, ◌++◌, length, map, bytes_eq, Option, Some, None, string_bytes}
 use Rattle.std.specs.List.{list_all, list_any}
 use Rattle.language_model.specs.Simple.{SimplePart, Named, Quoted, SimpleLine, is_quoted, same_parts, all_differ, alternatives_in}
-use Rattle.dsl_reader.specs.declared.lines.Part.{Part}
-use Rattle.dsl_reader.specs.declared.lines.Part.TheVariants as held
-use Rattle.dsl_reader.specs.declared.lines.Alternative.{Alternative}
+use Rattle.dsl_reader.specs.declared.part.Part.{Part}
+use Rattle.dsl_reader.specs.declared.part.Part.TheVariants as held
+use Rattle.dsl_reader.specs.declared.part.Alternative.{Alternative}
 use Rattle.dsl_reader.specs.declared.refusal.SimpleRefusal.{SimpleRefusal}
 use Rattle.dsl_reader.specs.declared.refusal.SimpleRefusal.TheVariants.{NotSimple}
 
 abbrev pub part_seen : Part → SimplePart
 part_seen (held.Name name) = Named (string_bytes name)
-part_seen (held.Quoted c) = Quoted c
+part_seen (held.Quoted q) = Quoted q.character
 
 abbrev pub row_seen : Alternative → List ℕ × List SimplePart
 row_seen a = (string_bytes a.left, map part_seen a.parts.items)

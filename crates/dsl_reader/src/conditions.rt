@@ -4,7 +4,7 @@ ghost use Rattle.std.specs.List.{list_all, list_any};
 ghost use Rattle.language_model.specs.Simple.{same_part, same_parts, all_differ};
 ghost use Rattle.dsl_reader.specs.SimpleSeen.{part_seen, row_seen, is_quoted_part, has_row, same_row, names_are_lefts, has_plain_held, lefts_are_plain, are_simple_held};
 
-use crate::lines::{Alternative, Part};
+use crate::part::{Alternative, Part};
 
 const MOST_ALTERNATIVES: usize = 10_000;
 
@@ -72,7 +72,7 @@ fn is_same_part(a: &Part, b: &Part) -> bool
 {
     match (a, b) {
         (Part::Name(a), Part::Name(b)) => a.as_str() == b.as_str(),
-        (Part::Quoted(a), Part::Quoted(b)) => *a == *b,
+        (Part::Quoted(a), Part::Quoted(b)) => a.character == b.character,
         _ => false,
     }
 }

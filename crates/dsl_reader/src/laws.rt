@@ -1,10 +1,16 @@
 //! The laws between simple grammars and their texts.
 ghost use Rattle.std.specs.Prelude.{◌≡◌, ◌↔◌, ℕ, List, [], Some, IsTrue};
 ghost use Rattle.std.specs.List.{list_all};
-ghost use Rattle.language_model.specs.Simple.{SimpleLine, is_simple_line, print_simple};
+ghost use Rattle.language_model.specs.Simple.{SimpleLine, is_simple_line, print_simple, alternatives_in, grammar_of_simple};
+ghost use Rattle.dsl_reader.specs.SimpleNumbers.{grammar_of_rows};
 ghost use Rattle.dsl_reader.specs.SimpleReading.{read_from};
 
 /// A text is read as these lines exactly where the lines, printed, are the text.
 pub fn lines_are_read()
     ensures { (text : List ℕ) (g : List SimpleLine) → (read_from [] [] text ≡ Some g) ↔ (IsTrue (list_all is_simple_line g) × (text ≡ print_simple g)) }
+{}
+
+/// The rows of a simple grammar make its grammar.
+pub fn rows_make_the_grammar()
+    ensures { (g : List SimpleLine) → IsTrue (list_all is_simple_line g) → grammar_of_rows (alternatives_in g) ≡ grammar_of_simple g }
 {}

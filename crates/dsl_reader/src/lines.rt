@@ -8,22 +8,9 @@ ghost use Rattle.dsl_reader.specs.declared.refusal.SimpleRefusal.TheVariants.{No
 ghost use Rattle.dsl_reader.specs.SimpleSeen.{part_seen, row_seen, rows_after, rows_with_line, rows_with, IsNot};
 
 use crate::SimpleRefusal;
+use crate::part::{Alternative, Part, Quoted};
 use std::alloc::{AllocError, Global};
 use std::mem;
-
-/// A part of an alternative.
-#[derive(Debug, Drop)]
-pub enum Part {
-    Name(String),
-    Quoted(char),
-}
-
-/// A left side, and the parts of one of its alternatives.
-#[derive(Debug, Drop)]
-pub struct Alternative {
-    pub left: String,
-    pub parts: Vec<Part>,
-}
 
 fn are_letters(bytes: &[u8]) -> bool
     ensures { result ≡ list_all is_ascii_alphabetic bytes.now }
@@ -59,7 +46,8 @@ fn read_part(alloc: Global, word: &str) -> Result<Part, SimpleRefusal>
         return Ok(Part::Name(String::from_str(alloc, word)?));
     }
     if is_quoted(word.as_bytes()) {
-        return Ok(Part::Quoted(char::from(word.as_bytes()[1])));
+        let character = char::from(word.as_bytes()[1]);
+        return Ok(Part::Quoted(Quoted { character }));
     }
     Err(SimpleRefusal::NotSimple)
 }

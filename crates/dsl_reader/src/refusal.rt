@@ -1,6 +1,7 @@
 //! Why a text is not read as a simple grammar.
 ghost use Rattle.std.specs.Prelude.{◌≡◌};
 
+use grammar_core::CoreRefusal;
 use std::alloc::{AllocError, AllocFailed};
 use thiserror::Error;
 
@@ -30,6 +31,17 @@ impl<T: Drop> From<AllocFailed<T>> for SimpleRefusal {
     ghost from_gives = { λ _ refusal. refusal ≡ NoMemory };
 
     fn from(_error: AllocFailed<T>) -> Self {
+        SimpleRefusal::NoMemory
+    }
+}
+
+// A text of at most 2,000 bytes has too few symbols and rules for any other refusal.
+impl From<CoreRefusal> for SimpleRefusal {
+    ghost use Rattle.dsl_reader.specs.declared.refusal.SimpleRefusal.TheVariants.{NoMemory};
+
+    ghost from_gives = { λ _ refusal. refusal ≡ NoMemory };
+
+    fn from(_refusal: CoreRefusal) -> Self {
         SimpleRefusal::NoMemory
     }
 }

@@ -1,6 +1,6 @@
 use Rattle.std.proofs.Common.{ap, ◌∙◌, sym, length, ◌+◌, ◌-◌, take, drop}
 use Rattle.std.specs.List.{list_any}
-use Rattle.dsl_reader.specs.declared.lines.Alternative.{Alternative}
+use Rattle.dsl_reader.specs.declared.part.Alternative.{Alternative}
 use Rattle.dsl_reader.specs.SimpleSeen.{row_seen, same_row}
 use Rattle.dsl_reader.proofs.RowLemmas.{differ_not, differ_more}
 use Rattle.dsl_reader.proofs.conditions.do_differ.Goals as goal

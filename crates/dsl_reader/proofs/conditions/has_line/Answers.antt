@@ -1,7 +1,7 @@
 use Rattle.std.proofs.Common.{◌∙◌, sym, ap, List, ℕ, bytes_eq, string_bytes, map}
 use Rattle.std.specs.List.{list_any}
 use Rattle.language_model.specs.Simple.{SimplePart}
-use Rattle.dsl_reader.specs.declared.lines.Alternative.{Alternative}
+use Rattle.dsl_reader.specs.declared.part.Alternative.{Alternative}
 use Rattle.dsl_reader.specs.SimpleSeen.{row_seen, part_seen, has_row}
 use Rattle.dsl_reader.proofs.RowLemmas.{list_any-map}
 use Rattle.dsl_reader.proofs.conditions.has_line.Goals as goal
