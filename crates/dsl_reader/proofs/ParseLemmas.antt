@@ -1,8 +1,8 @@
 -- What is read of a text, and what makes it simple.
-use Rattle.std.proofs.Common.{◌≡◌, ◌∙◌, sym, ap, refl, ℕ, ◌<◌, ◌≤◌, Bool, true, false, ◌&&◌, List, [], ◌∷◌, ◌++◌, length, map, Option, Some, None, bytes_eq, nat_lt, nat_le, arith}
+use Rattle.std.proofs.Common.{◌≡◌, ◌∙◌, sym, ap, refl, ℕ, ◌<◌, ◌≤◌, Bool, true, false, ◌&&◌, List, [], ◌∷◌, ◌++◌, length, map, Option, Some, None, bytes_eq, nat_lt, nat_le, arith, inl, inr, ◌⊎◌}
 use Rattle.std.specs.Prelude.{◌||◌}
 use Rattle.std.specs.List.{list_all, list_any}
-use Rattle.std.proofs.lemmas.Bool.{and_parts}
+use Rattle.std.proofs.lemmas.Bool.{and_parts, leb-true, leb-false}
 use Rattle.std.specs.Cmp.Derive.{both_true}
 use Rattle.std.proofs.lemmas.List.Folds.{list_all-append, list_any-append}
 use Rattle.grammar_model.specs.Grammar.{Grammar}
@@ -126,3 +126,21 @@ parsed bytes rows w short h e made = go (read_from [] [] bytes) refl
         let t = text_takes bytes g f in
         let same = rows_are bytes rows g h f in
         (g, record { simple = rows_simple g t.0 (ap are_simple_rows same ∙ e); spelled = t.1; short = short }, made ∙ ap grammar_of_rows (sym same) ∙ rows_grammar g t.0)
+
+pub one_text : (bytes : List ℕ) (g h : List SimpleLine) → IsSimpleText bytes g → IsSimpleText bytes h → g ≡ h
+one_text bytes g h s t = let e : Some g ≡ Some h = sym (text_read bytes g s) ∙ text_read bytes h t in cc
+
+pub decided : (bytes : List ℕ) → ((g : List SimpleLine) × IsSimpleText bytes g) ⊎ ((g : List SimpleLine) → IsSimpleText bytes g → ⊥)
+decided bytes = short (nat_le (length bytes) 2000) refl
+  where
+    rows : (g : List SimpleLine) → length bytes ≤ 2000 → read_from [] [] bytes ≡ Some g → (b : Bool) → are_simple_rows (alternatives_in g) ≡ b → ((g : List SimpleLine) × IsSimpleText bytes g) ⊎ ((g : List SimpleLine) → IsSimpleText bytes g → ⊥)
+    rows g s e true f = let t = text_takes bytes g e in inl (g, record { simple = rows_simple g t.0 f; spelled = t.1; short = s })
+    rows g s e false f = inr (not_simple bytes (alternatives_in g) (ap (rows_with []) e) f)
+
+    read : (r : Option (List SimpleLine)) → length bytes ≤ 2000 → read_from [] [] bytes ≡ r → ((g : List SimpleLine) × IsSimpleText bytes g) ⊎ ((g : List SimpleLine) → IsSimpleText bytes g → ⊥)
+    read None s e = inr (not_read bytes e)
+    read (Some g) s e = rows g s e (are_simple_rows (alternatives_in g)) refl
+
+    short : (b : Bool) → nat_le (length bytes) 2000 ≡ b → ((g : List SimpleLine) × IsSimpleText bytes g) ⊎ ((g : List SimpleLine) → IsSimpleText bytes g → ⊥)
+    short true e = read (read_from [] [] bytes) (leb-true (length bytes) 2000 e) refl
+    short false e = inr (too_long bytes (leb-false (length bytes) 2000 e))

@@ -9,6 +9,9 @@ mod part;
 mod refusal;
 mod simple;
 
-pub use laws::{lines_are_read, rows_make_the_grammar};
+#[cfg(test)]
+mod tests;
+
+pub use laws::{lines_are_read, rows_make_the_grammar, simple_grammar_is_one, simple_text_is_decided};
 pub use refusal::SimpleRefusal;
 pub use simple::parse_simple;
