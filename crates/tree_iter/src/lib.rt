@@ -11,16 +11,19 @@ ghost use Rattle.grammar_model.specs.Characters.{IsAllOfCharacters, tree_line};
 ghost use Rattle.tree_iter.specs.Listing.{trees_of, line_of};
 
 mod cells;
+mod lines;
 mod lister;
 mod rules;
 mod store;
 
+use crate::lines::{append_value_line, tell_cells, value_told};
 use crate::lister::list_at;
 use crate::rules::left_of;
 use crate::store::Store;
 use grammar_core::{SymbolId, Written};
 use indexmap::IndexMap;
 use std::alloc::{AllocError, Global};
+use value_text::Pool;
 
 /// A tree, or the first children of one. A cell names others by their places in the list of cells, and they are earlier ones.
 #[derive(Clone, Copy)]
@@ -130,12 +133,16 @@ impl SlowList {
         self.trees.len()
     }
 
-    /// Appends the line of a derivation, with its line feed. Where memory runs out a part of the line may have been appended.
+    /// Appends the line of a derivation, with its line feed.
     pub fn append_line(&self, k: usize, out: &mut Vec<u8>) -> Result<(), AllocError>
         requires { k < length (trees_of self.now) }
         ensures ok { OnOk result ((t : Tree) × (slice_get (trees_of self.now) k ≡ Some t) × (out.new.items ≡ out.old.items ++ line_of self.now t)) }
-        ensures err { OnErr result ((told : List ℕ) × (out.new.items ≡ out.old.items ++ told)) }
+        ensures err { OnErr result (out.new.items ≡ out.old.items) }
     {
-        Err(AllocError)
+        let alloc = *self.cells.allocator();
+        let mut pool = Pool::new(alloc);
+        let told = tell_cells(alloc, self, &mut pool)?;
+        let id = value_told(&told, self.trees[k] as usize)?;
+        append_value_line(alloc, &pool, id, out)
     }
 }
