@@ -77,7 +77,6 @@ pub told_stays : (list : SlowList) (a b : List Value) (x : Told) (m : Meant) →
 told_stays list a b (told.Value id) m s t = let l = s.longer in let h = t.0 in (omega arith, s.same id t.0 ∙ t.1)
 told_stays list a b (told.Front ids) m s t = (ids_stay a b ids.items s t.0, map_stays a b ids.items s t.0 ∙ t.1)
 
-
 pub stays_all : (p : List Value) → Stays p p
 stays_all p = record { longer = omega arith; same = λ k h. refl }
 

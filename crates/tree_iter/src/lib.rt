@@ -83,7 +83,11 @@ fn copied_bytes(alloc: Global, bytes: &[u8]) -> Result<Vec<u8>, AllocError>
 }
 
 // The trees of the first start over the input, in cells.
-fn trees_in_cells(alloc: Global, w: &Written, input: &[u8]) -> Result<(Vec<Cell>, Vec<u32>), AllocError>
+fn trees_in_cells(
+    alloc: Global,
+    w: &Written,
+    input: &[u8],
+) -> Result<(Vec<Cell>, Vec<u32>), AllocError>
     requires simple { IsSimple w.now }
     requires started { 0 < length w.now.starts }
     requires short { length input.now ≤ 1000 }
@@ -99,7 +103,16 @@ fn trees_in_cells(alloc: Global, w: &Written, input: &[u8]) -> Result<(Vec<Cell>
     if input.is_empty() {
         return Ok((store.cells, Vec::new(alloc)));
     }
-    let k = list_at(alloc, w, input, &mut store, start.0 as usize, 0, 0, input.len())?;
+    let k = list_at(
+        alloc,
+        w,
+        input,
+        &mut store,
+        start.0 as usize,
+        0,
+        0,
+        input.len(),
+    )?;
     let trees = copied(alloc, store.lists[k].as_slice())?;
     Ok((store.cells, trees))
 }

@@ -34,7 +34,12 @@ fn name_value(list: &SlowList, pool: &mut Pool, symbol: usize) -> Result<ValueId
 }
 
 // The value of a leaf.
-fn leaf_value(list: &SlowList, pool: &mut Pool, symbol: u32, from: u32) -> Result<ValueId, AllocError>
+fn leaf_value(
+    list: &SlowList,
+    pool: &mut Pool,
+    symbol: u32,
+    from: u32,
+) -> Result<ValueId, AllocError>
     ensures { IfOk result (λ id. Puts pool.old pool.new id (tree_value list.now (Leaf symbol from (suc from)))) }
 {
     let name = name_value(list, pool, symbol as usize)?;
@@ -70,7 +75,13 @@ fn list_value(pool: &mut Pool, items: &[ValueId]) -> Result<ValueId, AllocError>
 }
 
 // The value of a rule's node.
-fn node_value(alloc: Global, list: &SlowList, pool: &mut Pool, rule: u32, children: &[ValueId]) -> Result<ValueId, AllocError>
+fn node_value(
+    alloc: Global,
+    list: &SlowList,
+    pool: &mut Pool,
+    rule: u32,
+    children: &[ValueId],
+) -> Result<ValueId, AllocError>
     requires { AreIds pool.old children.now }
     ensures { IfOk result (λ id. Puts pool.old pool.new id (list_of (Text (name_of (grammar_of list.now) (lhs_of (rule_at (grammar_of list.now) rule))) ∷ Number rule ∷ map (value_at pool.old) children.now))) }
 {
@@ -149,7 +160,12 @@ fn told_of(
 }
 
 // Appends the text of a value and a line feed.
-pub fn append_value_line(alloc: Global, pool: &Pool, id: ValueId, out: &mut Vec<u8>) -> Result<(), AllocError>
+pub fn append_value_line(
+    alloc: Global,
+    pool: &Pool,
+    id: ValueId,
+    out: &mut Vec<u8>,
+) -> Result<(), AllocError>
     requires { id < length pool.now }
     ensures ok { OnOk result (out.new.items ≡ out.old.items ++ (text_of (value_at pool.now id) ++ 10 ∷ [])) }
     ensures err { OnErr result (out.new.items ≡ out.old.items) }

@@ -17,11 +17,17 @@ returns-in_ok-node_value-in-Node c =
 
 pub returns-in_ok-push-in-First : goal.returns-in_ok-push-in-First
 returns-in_ok-push-in-First c =
-    rw c.in-First.is (stays_all c.args.pool.now, told_first c.args.list.now c.args.pool.now c.args.told.now c.args.done.now c.in-First.last c.in_ok-value_told-in-First.field-0 c.push.new.self.items c.requires c.in_ok-value_told-in-First.ensures
-    (c.in_ok-push-in-First.ensures.items ∙ ap (λ l. l ++ c.in_ok-value_told-in-First.field-0 ∷ []) c.new-ids.ensures.items))
+    rw c.in-First.is (
+      stays_all c.args.pool.now,
+      told_first c.args.list.now c.args.pool.now c.args.told.now c.args.done.now c.in-First.last c.in_ok-value_told-in-First.field-0 c.push.new.self.items c.requires c.in_ok-value_told-in-First.ensures
+          (c.in_ok-push-in-First.ensures.items ∙ ap (λ l. l ++ c.in_ok-value_told-in-First.field-0 ∷ []) c.new-ids.ensures.items),
+    )
 
 pub returns-in_ok-push-in-Next : goal.returns-in_ok-push-in-Next
 returns-in_ok-push-in-Next c =
-    rw c.in-Next.is (stays_all c.args.pool.now, told_next c.args.list.now c.args.pool.now c.args.told.now c.args.done.now c.in-Next.front c.in-Next.last c.in_ok-value_told-in-Next.field-0 c.in_ok-front_told-in-Next.field-0.now c.push-in-Next.new.self.items
-    c.requires c.in_ok-front_told-in-Next.ensures c.in_ok-value_told-in-Next.ensures
-    (c.in_ok-push-in-Next.ensures.items ∙ ap (λ l. l ++ c.in_ok-value_told-in-Next.field-0 ∷ []) (c.in_ok-extend_from_slice-in-Next.ensures.items ∙ ap (λ l. l ++ c.in_ok-front_told-in-Next.field-0.now) c.new-ids-in-Next.ensures.items)))
+    rw c.in-Next.is (
+      stays_all c.args.pool.now,
+      told_next c.args.list.now c.args.pool.now c.args.told.now c.args.done.now c.in-Next.front c.in-Next.last c.in_ok-value_told-in-Next.field-0 c.in_ok-front_told-in-Next.field-0.now c.push-in-Next.new.self.items
+          c.requires c.in_ok-front_told-in-Next.ensures c.in_ok-value_told-in-Next.ensures
+          (c.in_ok-push-in-Next.ensures.items ∙ ap (λ l. l ++ c.in_ok-value_told-in-Next.field-0 ∷ []) (c.in_ok-extend_from_slice-in-Next.ensures.items ∙ ap (λ l. l ++ c.in_ok-front_told-in-Next.field-0.now) c.new-ids-in-Next.ensures.items)),
+    )
