@@ -1,4 +1,5 @@
 pub mod Arena
 pub mod Held
 pub mod Building
-pub mod Lines
+pub mod BareLines
+pub mod Pooled

@@ -2,3 +2,4 @@ pub mod Arena
 pub mod Listing
 pub mod Adding
 pub mod Table
+pub mod Told

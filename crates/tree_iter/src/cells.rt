@@ -44,7 +44,11 @@ pub fn add_nodes(
 }
 
 /// Each of these trees as the one child.
-pub fn add_firsts(cells: &mut Vec<Cell>, out: &mut Vec<u32>, lasts: &[u32]) -> Result<(), AllocError>
+pub fn add_firsts(
+    cells: &mut Vec<Cell>,
+    out: &mut Vec<u32>,
+    lasts: &[u32],
+) -> Result<(), AllocError>
     requires out { Within cells.old.items out.old.items }
     requires lasts { Within cells.old.items lasts.now }
     ensures { OnOk result (Adds cells.old.items cells.new.items out.old.items out.new.items (map (λ k. as_front (Child NoChild ((at cells.old.items k).tree))) lasts.now)) }
@@ -56,7 +60,12 @@ pub fn add_firsts(cells: &mut Vec<Cell>, out: &mut Vec<u32>, lasts: &[u32]) -> R
 }
 
 /// These children with each of these trees behind them.
-pub fn add_lasts(cells: &mut Vec<Cell>, out: &mut Vec<u32>, front: u32, lasts: &[u32]) -> Result<(), AllocError>
+pub fn add_lasts(
+    cells: &mut Vec<Cell>,
+    out: &mut Vec<u32>,
+    front: u32,
+    lasts: &[u32],
+) -> Result<(), AllocError>
     requires out { Within cells.old.items out.old.items }
     requires front { front < length cells.old.items }
     requires lasts { Within cells.old.items lasts.now }
@@ -69,7 +78,12 @@ pub fn add_lasts(cells: &mut Vec<Cell>, out: &mut Vec<u32>, front: u32, lasts: &
 }
 
 /// Each of these lists of children with each of these trees behind it.
-pub fn add_pairs(cells: &mut Vec<Cell>, out: &mut Vec<u32>, fronts: &[u32], lasts: &[u32]) -> Result<(), AllocError>
+pub fn add_pairs(
+    cells: &mut Vec<Cell>,
+    out: &mut Vec<u32>,
+    fronts: &[u32],
+    lasts: &[u32],
+) -> Result<(), AllocError>
     requires out { Within cells.old.items out.old.items }
     requires fronts { Within cells.old.items fronts.now }
     requires lasts { Within cells.old.items lasts.now }

@@ -11,16 +11,19 @@ ghost use Rattle.grammar_model.specs.Characters.{IsAllOfCharacters, tree_line};
 ghost use Rattle.tree_iter.specs.Listing.{trees_of, line_of};
 
 mod cells;
+mod lines;
 mod lister;
 mod rules;
 mod store;
 
+use crate::lines::{append_value_line, tell_cells, value_told};
 use crate::lister::list_at;
 use crate::rules::left_of;
 use crate::store::Store;
 use grammar_core::{SymbolId, Written};
 use indexmap::IndexMap;
 use std::alloc::{AllocError, Global};
+use value_text::Pool;
 
 /// A tree, or the first children of one. A cell names others by their places in the list of cells, and they are earlier ones.
 #[derive(Clone, Copy)]
@@ -80,7 +83,11 @@ fn copied_bytes(alloc: Global, bytes: &[u8]) -> Result<Vec<u8>, AllocError>
 }
 
 // The trees of the first start over the input, in cells.
-fn trees_in_cells(alloc: Global, w: &Written, input: &[u8]) -> Result<(Vec<Cell>, Vec<u32>), AllocError>
+fn trees_in_cells(
+    alloc: Global,
+    w: &Written,
+    input: &[u8],
+) -> Result<(Vec<Cell>, Vec<u32>), AllocError>
     requires simple { IsSimple w.now }
     requires started { 0 < length w.now.starts }
     requires short { length input.now ≤ 1000 }
@@ -96,7 +103,16 @@ fn trees_in_cells(alloc: Global, w: &Written, input: &[u8]) -> Result<(Vec<Cell>
     if input.is_empty() {
         return Ok((store.cells, Vec::new(alloc)));
     }
-    let k = list_at(alloc, w, input, &mut store, start.0 as usize, 0, 0, input.len())?;
+    let k = list_at(
+        alloc,
+        w,
+        input,
+        &mut store,
+        start.0 as usize,
+        0,
+        0,
+        input.len(),
+    )?;
     let trees = copied(alloc, store.lists[k].as_slice())?;
     Ok((store.cells, trees))
 }
@@ -130,12 +146,16 @@ impl SlowList {
         self.trees.len()
     }
 
-    /// Appends the line of a derivation, with its line feed. Where memory runs out a part of the line may have been appended.
+    /// Appends the line of a derivation, with its line feed.
     pub fn append_line(&self, k: usize, out: &mut Vec<u8>) -> Result<(), AllocError>
         requires { k < length (trees_of self.now) }
         ensures ok { OnOk result ((t : Tree) × (slice_get (trees_of self.now) k ≡ Some t) × (out.new.items ≡ out.old.items ++ line_of self.now t)) }
-        ensures err { OnErr result ((told : List ℕ) × (out.new.items ≡ out.old.items ++ told)) }
+        ensures err { OnErr result (out.new.items ≡ out.old.items) }
     {
-        Err(AllocError)
+        let alloc = *self.cells.allocator();
+        let mut pool = Pool::new(alloc);
+        let told = tell_cells(alloc, self, &mut pool)?;
+        let id = value_told(&told, self.trees[k] as usize)?;
+        append_value_line(alloc, &pool, id, out)
     }
 }

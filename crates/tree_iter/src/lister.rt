@@ -104,7 +104,14 @@ fn nodes_at(
             continue;
         }
         let k = list_at(alloc, w, input, store, i, parts_of(w, i), p, q)?;
-        add_nodes(&mut store.cells, &mut out, store.lists[k].as_slice(), i as u32, p as u32, q as u32)?;
+        add_nodes(
+            &mut store.cells,
+            &mut out,
+            store.lists[k].as_slice(),
+            i as u32,
+            p as u32,
+            q as u32,
+        )?;
     }
     Ok(out)
 }
@@ -165,7 +172,12 @@ fn pairs_at(
             let a = list_at(alloc, w, input, store, i, n - 1, p, r)?;
             if !store.lists[a].as_slice().is_empty() {
                 let b = list_at(alloc, w, input, store, last, 0, r, q)?;
-                add_pairs(&mut store.cells, &mut out, store.lists[a].as_slice(), store.lists[b].as_slice())?;
+                add_pairs(
+                    &mut store.cells,
+                    &mut out,
+                    store.lists[a].as_slice(),
+                    store.lists[b].as_slice(),
+                )?;
             }
         }
     }

@@ -11,7 +11,6 @@ use indexmap::IndexMap;
 use std::alloc::AllocError;
 use std::marker::Model;
 
-
 /// Places in the list of cells.
 #[derive(Drop)]
 pub struct Places {

@@ -2,7 +2,7 @@ use Rattle.std.proofs.Common.{◌≡◌, ℕ, List, sym, subst}
 use Rattle.grammar_model.specs.Trees.{Tree}
 use Rattle.grammar_model.specs.Characters.{IsAllOfCharacters}
 use Rattle.grammar_model.proofs.Characters.{characters_listed}
-use Rattle.tree_iter.proofs.Lines.{same_line}
+use Rattle.tree_iter.proofs.BareLines.{same_line}
 use Rattle.tree_iter.proofs.list_simple.Goals as goal
 
 pub returns-clause-trees : goal.returns-clause-trees

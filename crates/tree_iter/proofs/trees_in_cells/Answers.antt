@@ -10,7 +10,9 @@ returns c =
     let g = c.args.w.now in
     let input = c.args.input.now in
     let s = c.list_at.new.store in
-    let told = told_read g input s c.in_ok-k.k c.start.inside.0 0 0 (length input) c.index.result.now c.as_slice.result.now c.in_ok-k.ensures.holds c.index.ensures c.as_slice.ensures in
-    (c.start-start.result, c.start-start.ensures,
-    trees_told s.cells.items c.in_ok-trees.trees.items (listed g input (slot_of c.start-start.result) 0 (length input))
-    (ap (map (at s.cells.items)) c.in_ok-trees.ensures ∙ told ∙ ap (λ z. map as_tree (listed g input (slot_of z) 0 (length input))) c.start.view_is))
+    let told = told_read g input s c.in_ok-k.k c.start.inside.0 0 0 (length input) c.index.result.now c.as_slice.result.now c.in_ok-k.ensures.holds c.index.ensures c.as_slice.ensures in (
+      c.start-start.result,
+      c.start-start.ensures,
+      trees_told s.cells.items c.in_ok-trees.trees.items (listed g input (slot_of c.start-start.result) 0 (length input))
+          (ap (map (at s.cells.items)) c.in_ok-trees.ensures ∙ told ∙ ap (λ z. map as_tree (listed g input (slot_of z) 0 (length input))) c.start.view_is),
+    )

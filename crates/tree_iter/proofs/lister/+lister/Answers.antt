@@ -57,7 +57,7 @@ nodes_at-loop-i-preserved t c =
     let some : 0 < c.parts_of.result = omega (arith, c.parts_of.ensures, simple_parts g (rule_at g i) (c.requires.simple i lt)) in
     let left : lhs_of (rule_at g i) ≡ c.args.x = omega (arith, c.left_of.ensures) in
     let told = told_read g input s c.in_ok-k.k i c.parts_of.result p q c.index.result.now c.as_slice.result.now c.in_ok-k.ensures.holds c.index.ensures c.as_slice.ensures
-        ∙ front_value g input i c.parts_of.result p q some ∙ ap (λ n. map as_front (fronts_listed g input i n p q)) c.parts_of.ensures in
+    ∙ front_value g input i c.parts_of.result p q some ∙ ap (λ n. map as_front (fronts_listed g input i n p q)) c.parts_of.ensures in
     built_same g input c.args.store.now (record { cells = c.add_nodes.new.cells; lists = s.lists; memo = s.memo }) c.add_nodes.new.out.items _ _
     (ap (λ l. map as_tree (nodes_below g input c.args.x p q i) ++ l) (nodes_value s.cells.items c.as_slice.result.now (fronts_listed g input i (part_count (rule_at g i)) p q) i p q told) ∙ nodes_more g input c.args.x p q i left)
     (built_cells g input c.args.store.now s (record { cells = c.add_nodes.new.cells; lists = s.lists; memo = s.memo }) c.loop-i.out.items c.add_nodes.new.out.items _ _ refl refl
@@ -72,18 +72,22 @@ nodes_at-returns t c =
     c.loop-i.invariant
 
 pub pairs_at-loop-r-init : goal.pairs_at-loop-r-init
-pairs_at-loop-r-init t c =
-    (inr refl, omega arith, omega arith,
-    built_none c.args.w.now c.args.input.now c.args.store.now c.new-out.result.items _ c.requires.sound c.new-out.ensures.items
-    (ap (λ l. map as_front (flat_map (fronts_from c.args.w.now c.args.input.now c.args.i (c.args.n - 1) c.args.p c.args.q) l)) (places_none c.args.q c.args.q (omega arith))))
+pairs_at-loop-r-init t c = (
+  inr refl,
+  omega arith,
+  omega arith,
+  built_none c.args.w.now c.args.input.now c.args.store.now c.new-out.result.items _ c.requires.sound c.new-out.ensures.items
+      (ap (λ l. map as_front (flat_map (fronts_from c.args.w.now c.args.input.now c.args.i (c.args.n - 1) c.args.p c.args.q) l)) (places_none c.args.q c.args.q (omega arith))),
+)
 
 pub pairs_at-index-requires : goal.pairs_at-index-requires
 pairs_at-index-requires t c = omega (arith, c.list_at.new.store.lists.ok, in_lists c.args.w.now c.args.input.now c.list_at.new.store c.in_ok-a.a c.args.i (c.args.n - 1) c.args.p (c.loop-r.r - 1) c.in_ok-a.ensures.holds)
 
 pub pairs_at-list_at-requires-then-not-is_empty : goal.pairs_at-list_at-requires-then-not-is_empty
-pairs_at-list_at-requires-then-not-is_empty t c =
-    (omega (arith, c.decreases, rank_low c.args.w.now c.part_of-last.result),
-    (c.requires.simple, (c.in_ok-a.ensures.sound, (c.part_of-last.ensures.known, (omega arith, (c.requires.within, c.requires.short))))))
+pairs_at-list_at-requires-then-not-is_empty t c = (
+  omega (arith, c.decreases, rank_low c.args.w.now c.part_of-last.result),
+  (c.requires.simple, (c.in_ok-a.ensures.sound, (c.part_of-last.ensures.known, (omega arith, (c.requires.within, c.requires.short))))),
+)
 
 pub pairs_at-index-requires-then-not-is_empty : goal.pairs_at-index-requires-then-not-is_empty
 pairs_at-index-requires-then-not-is_empty t c =
@@ -125,15 +129,18 @@ pairs_at-loop-r-preserved-in_ok-add_pairs t c =
     let h = holds_grow g input s1 s c.in_ok-a.a i m p r c.in_ok-b.ensures.grows c.in_ok-a.ensures.holds in
     let fronts = told_read g input s c.in_ok-a.a i m p r c.index-then-not-is_empty.result.now c.as_slice-then-not-is_empty.result.now h c.index-then-not-is_empty.ensures c.as_slice-then-not-is_empty.ensures ∙ front_value g input i m p r some in
     let lasts = told_read g input s c.in_ok-b.b c.part_of-last.result 0 r q c.index-then-not-is_empty-2.result.now c.as_slice-then-not-is_empty-2.result.now c.in_ok-b.ensures.holds c.index-then-not-is_empty-2.ensures c.as_slice-then-not-is_empty-2.ensures
-        ∙ ap (λ z. map as_tree (listed g input z r q)) (ap slot_of c.part_of-last.ensures.part ∙ sym (slot_is g (rule_at g i) m rule)) in
-    (inl (omega arith), omega arith, omega (arith, c.loop-r.invariant.2),
-    built_same g input c.args.store.now (record { cells = c.add_pairs.new.cells; lists = s.lists; memo = s.memo }) c.add_pairs.new.out.items _ _
-    (ap (λ l. map as_front (flat_map (fronts_from g input i m p q) (places c.loop-r.r q)) ++ l)
-    (pairs_value s.cells.items c.as_slice-then-not-is_empty.result.now c.as_slice-then-not-is_empty-2.result.now (fronts_listed g input i m p r) (listed g input (child_slot (rule_at g i) m) r q) fronts lasts)
-    ∙ pairs_more g input i m p q c.loop-r.r r next lt)
-    (built_cells g input c.args.store.now s (record { cells = c.add_pairs.new.cells; lists = s.lists; memo = s.memo }) c.loop-r.out.items c.add_pairs.new.out.items _ _ refl refl
-    (built_list g input c.args.store.now s1 s c.loop-r.out.items _ c.in_ok-b.b c.part_of-last.result 0 r q
-    (built_list g input c.args.store.now c.loop-r.store s1 c.loop-r.out.items _ c.in_ok-a.a i m p r c.loop-r.invariant.3 c.in_ok-a.ensures) c.in_ok-b.ensures) c.in_ok-add_pairs.ensures))
+    ∙ ap (λ z. map as_tree (listed g input z r q)) (ap slot_of c.part_of-last.ensures.part ∙ sym (slot_is g (rule_at g i) m rule)) in (
+      inl (omega arith),
+      omega arith,
+      omega (arith, c.loop-r.invariant.2),
+      built_same g input c.args.store.now (record { cells = c.add_pairs.new.cells; lists = s.lists; memo = s.memo }) c.add_pairs.new.out.items _ _
+          (ap (λ l. map as_front (flat_map (fronts_from g input i m p q) (places c.loop-r.r q)) ++ l)
+          (pairs_value s.cells.items c.as_slice-then-not-is_empty.result.now c.as_slice-then-not-is_empty-2.result.now (fronts_listed g input i m p r) (listed g input (child_slot (rule_at g i) m) r q) fronts lasts)
+          ∙ pairs_more g input i m p q c.loop-r.r r next lt)
+          (built_cells g input c.args.store.now s (record { cells = c.add_pairs.new.cells; lists = s.lists; memo = s.memo }) c.loop-r.out.items c.add_pairs.new.out.items _ _ refl refl
+          (built_list g input c.args.store.now s1 s c.loop-r.out.items _ c.in_ok-b.b c.part_of-last.result 0 r q
+          (built_list g input c.args.store.now c.loop-r.store s1 c.loop-r.out.items _ c.in_ok-a.a i m p r c.loop-r.invariant.3 c.in_ok-a.ensures) c.in_ok-b.ensures) c.in_ok-add_pairs.ensures),
+    )
 
 pub pairs_at-loop-r-preserved-else-not-is_empty : goal.pairs_at-loop-r-preserved-else-not-is_empty
 pairs_at-loop-r-preserved-else-not-is_empty t c =
@@ -150,11 +157,14 @@ pairs_at-loop-r-preserved-else-not-is_empty t c =
     let next : c.loop-r.r ≡ suc r = omega arith in
     let some : 0 < m = omega arith in
     let empty : ps ≡ [] = empty_list ps (eqb-true (length ps) 0 (sym c.if-not-is_empty.ensures)) in
-    let fronts = told_read g input s c.in_ok-a.a i m p r c.index.result.now ps c.in_ok-a.ensures.holds c.index.ensures c.as_slice.ensures ∙ front_value g input i m p r some in
-    (inl (omega arith), omega arith, omega (arith, c.loop-r.invariant.2),
-    built_same g input c.args.store.now s c.loop-r.out.items _ _
-    (pairs_as_before g input i m p q c.loop-r.r r next lt (no_front g input i m p q r s.cells.items ps empty fronts))
-    (built_list g input c.args.store.now c.loop-r.store s c.loop-r.out.items _ c.in_ok-a.a i m p r c.loop-r.invariant.3 c.in_ok-a.ensures))
+    let fronts = told_read g input s c.in_ok-a.a i m p r c.index.result.now ps c.in_ok-a.ensures.holds c.index.ensures c.as_slice.ensures ∙ front_value g input i m p r some in (
+      inl (omega arith),
+      omega arith,
+      omega (arith, c.loop-r.invariant.2),
+      built_same g input c.args.store.now s c.loop-r.out.items _ _
+          (pairs_as_before g input i m p q c.loop-r.r r next lt (no_front g input i m p q r s.cells.items ps empty fronts))
+          (built_list g input c.args.store.now c.loop-r.store s c.loop-r.out.items _ c.in_ok-a.a i m p r c.loop-r.invariant.3 c.in_ok-a.ensures),
+    )
 
 pub pairs_at-loop-r-preserved : goal.pairs_at-loop-r-preserved
 pairs_at-loop-r-preserved t c =
@@ -167,11 +177,14 @@ pairs_at-loop-r-preserved t c =
     let lt : r < q = omega (arith, c.loop-r.invariant.2) in
     let next : c.loop-r.r ≡ suc r = omega arith in
     let rule = c.requires.simple i (key_rule g i c.args.n c.requires.key (omega arith)) in
-    let terminal : is_terminal g (child_slot (rule_at g i) m).symbol ≡ true = subst (λ z. is_terminal g z ≡ true) c.part_of-last.ensures.part (ap not (sym c.if-inner.ensures)) in
-    (inl (omega arith), omega arith, omega (arith, c.loop-r.invariant.2),
-    built_same g input c.args.store.now c.loop-r.store c.loop-r.out.items _ _
-    (pairs_as_before g input i m c.args.p q c.loop-r.r r next lt (no_last g input i m c.args.p q r rule terminal lt (λ e. c.if-r-q.false (omega arith))))
-    c.loop-r.invariant.3)
+    let terminal : is_terminal g (child_slot (rule_at g i) m).symbol ≡ true = subst (λ z. is_terminal g z ≡ true) c.part_of-last.ensures.part (ap not (sym c.if-inner.ensures)) in (
+      inl (omega arith),
+      omega arith,
+      omega (arith, c.loop-r.invariant.2),
+      built_same g input c.args.store.now c.loop-r.store c.loop-r.out.items _ _
+          (pairs_as_before g input i m c.args.p q c.loop-r.r r next lt (no_last g input i m c.args.p q r rule terminal lt (λ e. c.if-r-q.false (omega arith))))
+          c.loop-r.invariant.3,
+    )
 
 pub pairs_at-returns : goal.pairs_at-returns
 pairs_at-returns t c =
