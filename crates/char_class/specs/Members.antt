@@ -1,5 +1,5 @@
 -- Membership as a test, which the stored bits and codes answer.
-use Rattle.std.specs.Prelude.{◌≡◌, ℕ, ◌<◌, Bool, not, ◌&&◌, ◌||◌, ◌==◌, if◌then◌else◌, List}
+use Rattle.std.specs.Prelude.{◌≡◌, ℕ, ◌<◌, ◌≤◌, Bool, not, ◌&&◌, ◌||◌, ◌==◌, if◌then◌else◌, List, length, slice_index}
 use Rattle.std.specs.Int.{bit_at}
 use Rattle.std.specs.List.{list_any}
 use Rattle.unicode.specs.CaseFolding.{fold_pairs}
@@ -26,3 +26,7 @@ HasBits k bits = (c : ℕ) → c < 128 → bit_at bits c ≡ bit_of (class_has k
 
 abbrev pub HasCodes : Bool → List ClassItem → List ℕ → Type 0
 HasCodes caseless items codes = (c : ℕ) → has_code codes c ≡ (caseless && folded_has items c)
+
+-- the codes do not fall
+abbrev pub Rises : List ℕ → Type 0
+Rises codes = (i j : ℕ) → i ≤ j → j < length codes → slice_index codes i ≤ slice_index codes j

@@ -4,7 +4,7 @@ ghost use Rattle.std.specs.Char.{IsScalar};
 ghost use Rattle.std.specs.Int.{bit_at};
 ghost use Rattle.language_model.specs.Classes.{Class, class_of, class_of_char, HasMember, some_item_has, modifier_len, between_brackets, without_caret};
 ghost use Rattle.char_class.specs.Reading.{Refuses, RefusedAs};
-ghost use Rattle.char_class.specs.Members.{bit_of, has_code, folded_has, HasBits, HasCodes};
+ghost use Rattle.char_class.specs.Members.{bit_of, has_code, folded_has, HasBits, HasCodes, Rises};
 ghost use Rattle.char_class.specs.declared.set.ClassRefusal.TheVariants.{NoMemory};
 
 use crate::escape::char_at;
@@ -39,7 +39,7 @@ pub struct CharSet {
     negated: bool,
     caseless: bool,
     items: Vec<ClassItem>,
-    // The codes that share their simple folding with another that an item has, where case is ignored.
+    // The codes that share their simple folding with another that an item has, where case is ignored. Sorted.
     folded: Vec<u32>,
     // A bit for each member below 128.
     ascii: u128,
@@ -50,7 +50,7 @@ impl Model for CharSet {
 
     ghost view = { λ s. record { negated = s.negated; caseless = s.caseless; items = s.items.items } };
 
-    ghost invariant = { λ s. HasBits (record { negated = s.negated; caseless = s.caseless; items = s.items.items }) s.ascii × HasCodes s.caseless s.items.items s.folded.items };
+    ghost invariant = { λ s. HasBits (record { negated = s.negated; caseless = s.caseless; items = s.items.items }) s.ascii × HasCodes s.caseless s.items.items s.folded.items × Rises s.folded.items };
 }
 
 fn some_item_has_code(items: &[ClassItem], code: u32) -> bool
@@ -63,8 +63,8 @@ fn some_item_has_code(items: &[ClassItem], code: u32) -> bool
     }
 }
 
-// The codes that share their simple folding with another that an item has.
-fn folded_codes(alloc: Global, items: &[ClassItem]) -> Result<Vec<u32>, AllocError>
+// The codes that share their simple folding with another that an item has, as the table of pairs has them.
+fn paired_codes(alloc: Global, items: &[ClassItem]) -> Result<Vec<u32>, AllocError>
     ensures { IfOk result (λ folded. (c : ℕ) → has_code folded.items c ≡ folded_has items.now c) }
 {
     let mut folded = Vec::new(alloc);
@@ -76,14 +76,33 @@ fn folded_codes(alloc: Global, items: &[ClassItem]) -> Result<Vec<u32>, AllocErr
     Ok(folded)
 }
 
+// The same codes, sorted.
+fn folded_codes(alloc: Global, items: &[ClassItem]) -> Result<Vec<u32>, AllocError>
+    ensures codes { IfOk result (λ folded. (c : ℕ) → has_code folded.items c ≡ folded_has items.now c) }
+    ensures sorted { IfOk result (λ folded. Rises folded.items) }
+{
+    let mut folded = paired_codes(alloc, items)?;
+    folded.sort()?;
+    Ok(folded)
+}
+
+fn is_among(codes: &[u32], code: u32) -> bool
+    requires { Rises codes.now }
+    ensures { result ≡ has_code codes.now code }
+{
+    codes.binary_search(&code).is_ok()
+}
+
 fn class_has(negated: bool, items: &[ClassItem], folded: &[u32], c: char) -> bool
+    requires { Rises folded.now }
     ensures { result ≡ (if negated then not (some_item_has items.now c || has_code folded.now c) else (some_item_has items.now c || has_code folded.now c)) }
 {
-    let matches = some_item_has(items, c) || folded.contains(&(c as u32));
+    let matches = some_item_has(items, c) || is_among(folded, c as u32);
     if negated { !matches } else { matches }
 }
 
 fn ascii_bits(negated: bool, items: &[ClassItem], folded: &[u32]) -> u128
+    requires { Rises folded.now }
     ensures { (c : ℕ) → c < 128 → bit_at result c ≡ bit_of (if negated then not (some_item_has items.now c || has_code folded.now c) else (some_item_has items.now c || has_code folded.now c)) }
 {
     let mut bits = 0u128;

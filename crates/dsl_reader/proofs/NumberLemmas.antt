@@ -18,7 +18,7 @@ use Rattle.dsl_reader.specs.SimpleSeen.{part_seen, row_seen}
 use Rattle.dsl_reader.proofs.SimpleLemmas.{clash, if_true, if_false, same_texts, same_bytes}
 use Rattle.dsl_reader.proofs.RowLemmas.{Row, drop_step}
 
-symmetric : (xs ys : List ℕ) → bytes_eq xs ys ≡ bytes_eq ys xs
+pub symmetric : (xs ys : List ℕ) → bytes_eq xs ys ≡ bytes_eq ys xs
 symmetric xs ys = go (bytes_eq xs ys) (bytes_eq ys xs) refl refl
   where
     go : (a b : Bool) → bytes_eq xs ys ≡ a → bytes_eq ys xs ≡ b → a ≡ b
@@ -27,22 +27,22 @@ symmetric xs ys = go (bytes_eq xs ys) (bytes_eq ys xs) refl refl
     go true false e f = sym (sym f ∙ ap (λ z. bytes_eq z xs) (sym (same_texts xs ys e)) ∙ same_bytes xs)
     go false true e f = sym e ∙ ap (λ z. bytes_eq xs z) (same_texts ys xs f) ∙ same_bytes xs
 
-here : (t x : List ℕ) (xs : List (List ℕ)) → bytes_eq t x ≡ true → position_or_len (bytes_eq t) (x ∷ xs) ≡ 0
+pub here : (t x : List ℕ) (xs : List (List ℕ)) → bytes_eq t x ≡ true → position_or_len (bytes_eq t) (x ∷ xs) ≡ 0
 here t x xs e = if_false (not (bytes_eq t x)) _ 0 (ap not e)
 
-next : (t x : List ℕ) (xs : List (List ℕ)) → bytes_eq t x ≡ false → position_or_len (bytes_eq t) (x ∷ xs) ≡ 1 + position_or_len (bytes_eq t) xs
+pub next : (t x : List ℕ) (xs : List (List ℕ)) → bytes_eq t x ≡ false → position_or_len (bytes_eq t) (x ∷ xs) ≡ 1 + position_or_len (bytes_eq t) xs
 next t x xs e = if_true (not (bytes_eq t x)) _ 0 (ap not e)
 
-new_here : (seen : List (List ℕ)) (t : List ℕ) (ts : List (List ℕ)) → is_one_of seen t ≡ false → new_texts seen (t ∷ ts) ≡ t ∷ new_texts (t ∷ seen) ts
+pub new_here : (seen : List (List ℕ)) (t : List ℕ) (ts : List (List ℕ)) → is_one_of seen t ≡ false → new_texts seen (t ∷ ts) ≡ t ∷ new_texts (t ∷ seen) ts
 new_here seen t ts e = if_false (is_one_of seen t) (new_texts seen ts) (t ∷ new_texts (t ∷ seen) ts) e
 
-new_seen : (seen : List (List ℕ)) (t : List ℕ) (ts : List (List ℕ)) → is_one_of seen t ≡ true → new_texts seen (t ∷ ts) ≡ new_texts seen ts
+pub new_seen : (seen : List (List ℕ)) (t : List ℕ) (ts : List (List ℕ)) → is_one_of seen t ≡ true → new_texts seen (t ∷ ts) ≡ new_texts seen ts
 new_seen seen t ts e = if_true (is_one_of seen t) (new_texts seen ts) (t ∷ new_texts (t ∷ seen) ts) e
 
-or_false : (a b : Bool) → a ≡ false → b ≡ false → (a || b) ≡ false
+pub or_false : (a b : Bool) → a ≡ false → b ≡ false → (a || b) ≡ false
 or_false a b e f = ap (λ x. x || b) e ∙ f
 
-or_second : (a b : Bool) → b ≡ true → (a || b) ≡ true
+pub or_second : (a b : Bool) → b ≡ true → (a || b) ≡ true
 or_second true b e = refl
 or_second false b e = e
 

@@ -42,7 +42,7 @@ all_left q left a (b ∷ bs) = ap (λ x. q left && x) (all_left q left b bs) ∙
     go true = refl
     go false = refl
 
-no_alternatives : {A : Type 0} (left : List ℕ) → is_simple_line (record { left = left; alternatives = [] }) ≡ true → A
+pub no_alternatives : {A : Type 0} (left : List ℕ) → is_simple_line (record { left = left; alternatives = [] }) ≡ true → A
 no_alternatives left k = clash (and_parts (is_simple_name left) false (and_parts (is_simple_name left && false) true k).0).1
 
 any_lines : (q : List ℕ → Bool) (g : List SimpleLine) → list_all is_simple_line g ≡ true → list_any (λ (r : Row). q r.0) (alternatives_in g) ≡ list_any (λ l. q l.left) g
@@ -79,7 +79,7 @@ names_same g h = all_same (λ (a : Row). list_all (has_row (alternatives_in g)) 
 plain_same : (g : List SimpleLine) → list_all is_simple_line g ≡ true → rows_have_plain (alternatives_in g) ≡ list_all (λ l. has_plain g l.left) g
 plain_same g h = all_lines (has_plain_row (alternatives_in g)) g h
 
-some_rows : (g : List SimpleLine) → list_all is_simple_line g ≡ true → nat_lt 0 (length (alternatives_in g)) ≡ nat_lt 0 (length g)
+pub some_rows : (g : List SimpleLine) → list_all is_simple_line g ≡ true → nat_lt 0 (length (alternatives_in g)) ≡ nat_lt 0 (length g)
 some_rows [] h = refl
 some_rows (l ∷ g) h = line l.left l.alternatives (and_parts (is_simple_line l) (list_all is_simple_line g) h).0
   where

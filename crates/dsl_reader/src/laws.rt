@@ -1,7 +1,8 @@
 //! The laws between simple grammars and their texts.
-ghost use Rattle.std.specs.Prelude.{◌≡◌, ◌↔◌, ◌⊎◌, ℕ, List, [], Some, IsTrue};
+ghost use Rattle.std.specs.Prelude.{◌≡◌, ◌↔◌, ◌⊎◌, length, ℕ, List, [], Some, IsTrue};
 ghost use Rattle.std.specs.List.{list_all};
-ghost use Rattle.language_model.specs.Simple.{SimpleLine, is_simple_line, print_simple, alternatives_in, grammar_of_simple, IsSimpleText};
+ghost use Rattle.grammar_model.specs.Simple.{IsSimple as HasSimpleRules};
+ghost use Rattle.language_model.specs.Simple.{SimpleLine, is_simple_line, print_simple, alternatives_in, grammar_of_simple, IsSimple, IsSimpleText};
 ghost use Rattle.dsl_reader.specs.SimpleNumbers.{grammar_of_rows};
 ghost use Rattle.dsl_reader.specs.SimpleReading.{read_from};
 
@@ -23,4 +24,9 @@ pub fn simple_grammar_is_one()
 /// It is decided whether a text is that of a simple grammar.
 pub fn simple_text_is_decided()
     ensures { (bytes : List ℕ) → ((g : List SimpleLine) × IsSimpleText bytes g) ⊎ ((g : List SimpleLine) → ¬ (IsSimpleText bytes g)) }
+{}
+
+/// The grammar of simple lines has rules of the simple form alone, and one start.
+pub fn simple_grammar_is_simple()
+    ensures { (g : List SimpleLine) → IsSimple g → HasSimpleRules (grammar_of_simple g) × (length (grammar_of_simple g).starts ≡ 1) }
 {}

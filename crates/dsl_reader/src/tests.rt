@@ -3,7 +3,10 @@ use grammar_core::{RuleId, SymbolId, WrittenRule};
 use std::test::Fail;
 
 fn is_refused(rt: &HostRuntime, text: &str) -> bool {
-    matches!(parse_simple(rt.alloc(), text.as_bytes()), Err(SimpleRefusal::NotSimple))
+    matches!(
+        parse_simple(rt.alloc(), text.as_bytes()),
+        Err(SimpleRefusal::NotSimple)
+    )
 }
 
 #[test]
@@ -19,7 +22,10 @@ fn sums_are_numbered_as_they_appear(rt: HostRuntime) -> Result<(), Fail> {
     let WrittenRule::Plain(rule) = written.written_rule(RuleId(0)) else {
         return Err(Fail::from("a plain rule"));
     };
-    assert_eq!(rt; rule.rhs.as_slice(), [SymbolId(0), SymbolId(1), SymbolId(0)].as_slice());
+    assert_eq!(rt;
+        rule.rhs.as_slice(),
+        [SymbolId(0), SymbolId(1), SymbolId(0)].as_slice()
+    );
     Ok(())
 }
 
