@@ -10,3 +10,4 @@ pub mod Productive
 pub mod Values
 pub mod Lister
 pub mod Cycles
+pub mod Characters
