@@ -17,7 +17,7 @@ use Rattle.grammar_model.specs.Text.{text_of}
 use Rattle.grammar_model.specs.Analysis.{IsNullable, IsNullableIn, IsProductive, IsAccessible}
 use Rattle.grammar_model.specs.Cycles.{IsCycle}
 
-abbrev rule : (lhs : ℕ) (rhs : List ℕ) (level groups : ℕ) → Assoc → WrittenRule
+abbrev pub rule : (lhs : ℕ) (rhs : List ℕ) (level groups : ℕ) → Assoc → WrittenRule
 rule lhs rhs level groups assoc = Plain (record { lhs = lhs; rhs = rhs; level = level; groups = groups; assoc = assoc; rank = pos 0; null_high = false })
 
 -- E ::= E plus E | N; N is a digit

@@ -7,15 +7,11 @@ use Rattle.std.specs.Prelude.{◌≡◌, ℕ, suc, ◌<◌, List, length, slice_
 use Rattle.grammar_model.specs.Grammar.{WrittenRule, Grammar, Slot, rule_at, IsTerminal, Fits, child_slot, IsChildCount}
 use Rattle.grammar_model.specs.Trees.{Tree, Children, Leaf, Nulled, Node, NoChild, Child, child_count}
 use Rattle.grammar_model.specs.Analysis.{IsNullable}
+pub use Rattle.grammar_model.specs.declared.Edge.{Edge}
 
 -- which terminals span which places: of the terminal s from p to q, edge s p q
 abbrev pub Edges : Type 1
 Edges = (symbol from to : ℕ) → Type 0
-
-pub record Edge : Type 0 where
-  pub symbol : ℕ
-  pub from : ℕ
-  pub to : ℕ
 
 -- the edges of a list
 abbrev pub Held : List Edge → Edges

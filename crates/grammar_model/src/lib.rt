@@ -18,6 +18,14 @@ pub enum Assoc {
     Group,
 }
 
+/// A terminal that spans from one place to a later one. Places count tokens.
+#[derive(Clone, Copy, Debug, PartialEq, Eq)]
+pub struct Edge {
+    pub symbol: u32,
+    pub from: u32,
+    pub to: u32,
+}
+
 /// Whether ranks count in the order of derivations.
 #[derive(Clone, Copy, Debug, PartialEq, Eq)]
 pub enum Ranking {

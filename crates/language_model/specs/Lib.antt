@@ -1,0 +1,7 @@
+pub mod Actions
+pub mod Building
+pub mod Classes
+pub mod Description
+pub mod Layout
+pub mod Simple
+pub mod Tokens

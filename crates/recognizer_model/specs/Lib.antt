@@ -1,0 +1,11 @@
+pub mod Flat
+pub mod FlatDerives
+pub mod Items
+pub mod Contexts
+pub mod Leo
+pub mod Acceptable
+pub mod Counts
+pub mod Nodes
+pub mod Links
+pub mod Report
+pub mod Laws

@@ -1,0 +1,37 @@
+//! Definitions that several crates cite.
+#![tactic(auto)]
+
+/// A rule, how many of its parts were found, and the place where they begin.
+#[derive(Clone, Copy, PartialEq, Eq, Hash)]
+pub struct Item {
+    pub rule: u32,
+    pub dot: u32,
+    pub origin: u32,
+}
+
+/// The first `dot` parts of a rule over a span.
+#[derive(Clone, Copy, PartialEq, Eq, Hash)]
+pub struct NodeKey {
+    pub rule: u32,
+    pub dot: u32,
+    pub origin: u32,
+    pub end: u32,
+}
+
+/// A line of a progress report: an item in terms of written rules.
+#[derive(Clone, Copy, PartialEq, Eq, PartialOrd, Ord)]
+pub struct ReportLine {
+    pub rule: u32,
+    pub dot: u32,
+    pub origin: u32,
+}
+
+ghost use Rattle.std.specs.Prelude.{ℕ, List};
+ghost use Rattle.recognizer_model.specs.Flat.{FlatGrammar};
+ghost use Rattle.grammar_model.specs.declared.Edge.{Edge};
+ghost use Rattle.recognizer_model.specs.Laws.{AreTokens, IsSound, EarleyLaws};
+
+/// The theorems on item sets, reduced sets, acceptable terminals and used nodes.
+pub fn earley_laws()
+    ensures { (g : FlatGrammar) (edges : List Edge) (top : ℕ) → IsSound g top → AreTokens g edges → EarleyLaws g edges top }
+{}
