@@ -3,6 +3,7 @@
 
 mod refusal;
 mod rule;
+mod steps;
 #[cfg(test)]
 mod tests;
 mod written;
@@ -10,4 +11,5 @@ mod written;
 pub use grammar_model::Assoc;
 pub use refusal::CoreRefusal;
 pub use rule::{Rule, RuleId, SeqRule, SymbolId, WrittenRule};
+pub use steps::{Span, TreeStep};
 pub use written::Written;

@@ -10,6 +10,10 @@ use Rattle.grammar_model.specs.Text.{text_of}
 abbrev pub action_in : Option (Bor ActionCode) → Option Action
 action_in action = option_map action_of (option_copied action)
 
+-- how many values are held
+abbrev pub held_count : List Value → ℕ
+held_count values = length values
+
 -- at least n values are held
 abbrev pub HoldsAtLeast : ℕ → List Value → Type 0
 HoldsAtLeast n values = n ≤ length values

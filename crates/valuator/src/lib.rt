@@ -3,6 +3,7 @@
 
 mod array;
 mod make;
+mod play;
 mod stack;
 mod teller;
 mod tree;
