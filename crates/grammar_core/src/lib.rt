@@ -4,6 +4,7 @@
 mod flat;
 mod refusal;
 mod rule;
+mod steps;
 #[cfg(test)]
 mod tests;
 mod written;
@@ -13,4 +14,5 @@ pub use grammar_model::{Assoc, RuleId, SymbolId};
 pub use recognizer_model::{FlatRule, FlatSource, FlatSymbol, Item};
 pub use refusal::CoreRefusal;
 pub use rule::{Rule, SeqRule, WrittenRule};
+pub use steps::{Span, TreeStep};
 pub use written::Written;

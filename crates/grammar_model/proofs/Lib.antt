@@ -10,5 +10,5 @@ pub mod Productive
 pub mod Values
 pub mod Lister
 pub mod Cycles
-pub mod Instances
 pub mod Characters
+pub mod Instances

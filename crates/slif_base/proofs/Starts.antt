@@ -1,0 +1,114 @@
+-- Where characters begin among the bytes of a text.
+use Rattle.std.proofs.Common.{◌≡◌, ℕ, zero, suc, ◌+◌, ◌-◌, ◌<◌, ◌≤◌, Bool, true, false, ◌&&◌, List, [], ◌∷◌, ◌++◌, length, take, drop, get_or, refl, sym, ap, ◌∙◌, arith, append_assoc, append-nil, length-append, length-take, subst, encode_utf8_all, IsUtf8, min}
+use Rattle.std.proofs.Math.Seq.{take-add, drop-append_seam, take-append_seam}
+use Rattle.std.proofs.Math.Utf8.{scalars, scalar}
+use Rattle.std.proofs.lemmas.List.{take-append-drop, get_or_default}
+use Rattle.std.proofs.lemmas.Str.{chars_past_char, chars-nil, encodes-append, length-encode, IsCharBoundary-at_seam, scalars-chars, encodes-chars}
+use Rattle.std.specs.Str.{chars, IsCharBoundary}
+use Rattle.std.specs.Char.{encode_utf8, len_utf8}
+use Rattle.std.specs.List.{slice_range}
+use Rattle.slif_base.specs.Characters.{starts_from}
+
+pub starts_step : (bytes rest starts starts' whole : List ℕ) (at c : ℕ) → IsUtf8 bytes → bytes ≡ encode_utf8 c ++ rest → starts' ≡ starts ++ at ∷ [] →
+    starts ++ starts_from at (chars bytes) ≡ whole → starts' ++ starts_from (at + len_utf8 c) (chars rest) ≡ whole
+starts_step bytes rest starts starts' whole at c utf8 e p w =
+    ap (λ b. b ++ starts_from (at + len_utf8 c) (chars rest)) p ∙ append_assoc starts (at ∷ []) (starts_from (at + len_utf8 c) (chars rest))
+    ∙ ap (λ cs. starts ++ starts_from at cs) (sym (chars_past_char bytes rest c utf8 e)) ∙ w
+
+pub starts_end : (bytes starts starts' whole : List ℕ) (at : ℕ) → length bytes ≡ 0 → starts' ≡ starts ++ at ∷ [] → starts ++ starts_from at (chars bytes) ≡ whole → starts' ≡ whole
+starts_end [] starts starts' whole at e p w = p ∙ ap (λ cs. starts ++ starts_from at cs) (sym chars-nil) ∙ w
+starts_end (b ∷ bytes) starts starts' whole at e p w = absurd (omega arith)
+
+pub length-starts : (at : ℕ) (cs : List ℕ) → length (starts_from at cs) ≡ suc (length cs)
+length-starts at [] = refl
+length-starts at (c ∷ cs) = ap suc (length-starts (at + len_utf8 c) cs)
+
+pub get_or-starts : (at : ℕ) (cs : List ℕ) (i : ℕ) → i ≤ length cs → get_or (starts_from at cs) i 0 ≡ at + length (encode_utf8_all (take i cs))
+get_or-starts at [] zero b = omega arith
+get_or-starts at [] (suc i) b = absurd (omega arith)
+get_or-starts at (c ∷ cs) zero b = omega arith
+get_or-starts at (c ∷ cs) (suc i) b =
+    let rest = get_or-starts (at + len_utf8 c) cs i (omega arith) in
+    omega (arith, rest, length-append (encode_utf8 c) (encode_utf8_all (take i cs)), length-encode c)
+
+both_right : (a b : Bool) → (a && b) ≡ true → b ≡ true
+both_right true b e = e
+both_right false b e = cc
+
+scalars-drop : (n : ℕ) (cs : List ℕ) → scalars cs ≡ true → scalars (drop n cs) ≡ true
+scalars-drop zero cs s = s
+scalars-drop (suc n) [] s = s
+scalars-drop (suc n) (c ∷ cs) s = scalars-drop n cs (both_right (scalar c) (scalars cs) s)
+
+-- the bytes of a text that is cut at two places
+pub record IsCut (cs : List ℕ) (from to : ℕ) : Type 0 where
+  pub start : length (encode_utf8_all (take from cs)) ≤ length (encode_utf8_all (take to cs))
+  pub from_boundary : IsCharBoundary (encode_utf8_all cs) (length (encode_utf8_all (take from cs)))
+  pub to_boundary : IsCharBoundary (encode_utf8_all cs) (length (encode_utf8_all (take to cs)))
+  pub part : slice_range (encode_utf8_all cs) (length (encode_utf8_all (take from cs))) (length (encode_utf8_all (take to cs))) ≡ encode_utf8_all (slice_range cs from to)
+
+pub is_cut : (cs : List ℕ) (from to : ℕ) → scalars cs ≡ true → from ≤ to → to ≤ length cs → IsCut cs from to
+is_cut cs from to s h l =
+    let front = take from cs in
+    let part = take (to - from) (drop from cs) in
+    let back = drop (to - from) (drop from cs) in
+    let whole : front ++ (part ++ back) ≡ cs = ap (λ x. front ++ x) (take-append-drop (to - from) (drop from cs)) ∙ take-append-drop from cs in
+    let at : from + (to - from) ≡ to = omega arith in
+    let until : take to cs ≡ front ++ part = sym (ap (λ n. take n cs) at) ∙ take-add from (to - from) cs in
+    let bytes : encode_utf8_all cs ≡ encode_utf8_all front ++ (encode_utf8_all part ++ encode_utf8_all back) =
+          ap encode_utf8_all (sym whole) ∙ encodes-append front (part ++ back) ∙ ap (λ x. encode_utf8_all front ++ x) (encodes-append part back) in
+    let to_bytes : encode_utf8_all (take to cs) ≡ encode_utf8_all front ++ encode_utf8_all part = ap encode_utf8_all until ∙ encodes-append front part in
+    let rest_utf8 : IsUtf8 (encode_utf8_all part ++ encode_utf8_all back) =
+          (drop from cs, (scalars-drop from cs s, sym (ap encode_utf8_all (take-append-drop (to - from) (drop from cs))) ∙ encodes-append part back)) in
+    let back_utf8 : IsUtf8 (encode_utf8_all back) = (back, (scalars-drop (to - from) (drop from cs) (scalars-drop from cs s), refl)) in
+    record {
+      start = omega (arith, ap length to_bytes, length-append (encode_utf8_all front) (encode_utf8_all part));
+      from_boundary = IsCharBoundary-at_seam (encode_utf8_all cs) (encode_utf8_all front) (encode_utf8_all part ++ encode_utf8_all back) bytes rest_utf8;
+      to_boundary = subst (λ (xs : List ℕ). IsCharBoundary (encode_utf8_all cs) (length xs)) (sym to_bytes)
+        (IsCharBoundary-at_seam (encode_utf8_all cs) (encode_utf8_all front ++ encode_utf8_all part) (encode_utf8_all back)
+         (bytes ∙ sym (append_assoc (encode_utf8_all front) (encode_utf8_all part) (encode_utf8_all back))) back_utf8);
+      part =
+        let count : length (encode_utf8_all (take to cs)) - length (encode_utf8_all front) ≡ length (encode_utf8_all part) =
+              omega (arith, ap length to_bytes, length-append (encode_utf8_all front) (encode_utf8_all part)) in
+        (λ i. take (count i) (drop (length (encode_utf8_all front)) (bytes i)))
+        ∙ ap (take (length (encode_utf8_all part))) (drop-append_seam (encode_utf8_all front) (encode_utf8_all part ++ encode_utf8_all back))
+        ∙ take-append_seam (encode_utf8_all part) (encode_utf8_all back);
+    }
+
+-- a text is that of its characters
+pub bytes_of_chars : (bytes : List ℕ) → IsUtf8 bytes → encode_utf8_all (chars bytes) ≡ bytes
+bytes_of_chars bytes utf8 = encodes-chars bytes utf8
+
+-- the byte that stands in the table
+pub start_at : (starts cs : List ℕ) (i m : ℕ) → starts ≡ starts_from 0 cs → i ≤ length cs → m ≡ get_or starts i m → m ≡ length (encode_utf8_all (take i cs))
+start_at starts cs i m e b at =
+    let inside : i < length starts = omega (arith, ap length e, length-starts 0 cs) in
+    let zero_at : get_or starts i 0 ≡ 0 + length (encode_utf8_all (take i cs)) = ap (λ (xs : List ℕ). get_or xs i 0) e ∙ get_or-starts 0 cs i b in
+    at ∙ get_or_default starts i m 0 inside ∙ (omega (arith, zero_at))
+
+pub index_inside : (starts cs values : List ℕ) (i : ℕ) → starts ≡ starts_from 0 cs → cs ≡ values → i ≤ length values → i < length starts
+index_inside starts cs values i e v b = omega (arith, ap length e, length-starts 0 cs, ap length v)
+
+pub count_of_starts : (starts cs values : List ℕ) → starts ≡ starts_from 0 cs → cs ≡ values → length starts ≡ suc (length values)
+count_of_starts starts cs values e v = ap length e ∙ length-starts 0 cs ∙ ap (λ (xs : List ℕ). suc (length xs)) v
+
+pub cut_at : (bytes : List ℕ) (from to a b : ℕ) → IsUtf8 bytes → from ≤ to → to ≤ length (chars bytes) → a ≡ length (encode_utf8_all (take from (chars bytes))) → b ≡ length (encode_utf8_all (take to (chars bytes))) →
+    (a ≤ b) × IsCharBoundary bytes a × IsCharBoundary bytes b × (slice_range bytes a b ≡ encode_utf8_all (slice_range (chars bytes) from to))
+cut_at bytes from to a b utf8 h l at_from at_to =
+    let same = bytes_of_chars bytes utf8 in
+    let cut = is_cut (chars bytes) from to (scalars-chars bytes utf8) h l in
+    (omega (arith, at_from, at_to, cut.start),
+     subst (λ (xs : List ℕ). IsCharBoundary xs a) same (subst (λ n. IsCharBoundary (encode_utf8_all (chars bytes)) n) (sym at_from) cut.from_boundary),
+     subst (λ (xs : List ℕ). IsCharBoundary xs b) same (subst (λ n. IsCharBoundary (encode_utf8_all (chars bytes)) n) (sym at_to) cut.to_boundary),
+     (λ i. slice_range (sym same i) (at_from i) (at_to i)) ∙ cut.part)
+
+pub cut_in : (text bytes starts cs : List ℕ) (from to a b : ℕ) → IsUtf8 bytes → bytes ≡ text → starts ≡ starts_from 0 (chars text) → chars text ≡ cs → from ≤ to → to ≤ length cs →
+    a ≡ get_or starts from a → b ≡ get_or starts to b → (a ≤ b) × IsCharBoundary bytes a × IsCharBoundary bytes b × (slice_range bytes a b ≡ encode_utf8_all (slice_range cs from to))
+cut_in text bytes starts cs from to a b utf8 same e v h l at_from at_to =
+    let all : chars bytes ≡ cs = ap chars same ∙ v in
+    let table : starts ≡ starts_from 0 (chars bytes) = e ∙ ap (λ (xs : List ℕ). starts_from 0 (chars xs)) (sym same) in
+    let count : length (chars bytes) ≡ length cs = ap length all in
+    let to_in : to ≤ length (chars bytes) = omega (arith, l, count) in
+    let from_in : from ≤ length (chars bytes) = omega (arith, l, count, h) in
+    let cut = cut_at bytes from to a b utf8 h to_in (start_at starts (chars bytes) from a table from_in at_from) (start_at starts (chars bytes) to b table to_in at_to) in
+    (cut.0, cut.1, cut.2, cut.3 ∙ ap (λ (xs : List ℕ). encode_utf8_all (slice_range xs from to)) all)

@@ -1,0 +1,116 @@
+// The characters of a text.
+ghost use Rattle.std.specs.Prelude.{◌≡◌, ◌^◌, ◌<◌, ◌≤◌, length, slice_range, encode_utf8_all, IsUtf8, IfOk, IfErr, OnOk};
+ghost use Rattle.std.specs.Str.{IsCharBoundary, chars};
+ghost use Rattle.slif_base.specs.Characters.{starts_from, RefusesText};
+
+use std::alloc::{AllocError, Global};
+use std::marker::Model;
+use thiserror::Error;
+
+/// Why bytes are no text.
+#[derive(Clone, Copy, Debug, PartialEq, Eq, Error)]
+pub enum TextRefusal {
+    /// The first `at` bytes are the longest front that is UTF-8.
+    #[error("not UTF-8 at byte {at}")]
+    NotUtf8 { at: usize },
+    /// There was no memory, or the text has 4,294,967,296 bytes or more.
+    #[error("out of memory")]
+    NoMemory,
+}
+
+impl From<AllocError> for TextRefusal {
+    ghost use Rattle.slif_base.specs.declared.chars.TextRefusal.TheVariants.{NoMemory};
+
+    ghost from_gives = { λ _ refusal. refusal ≡ NoMemory };
+
+    fn from(_error: AllocError) -> Self {
+        TextRefusal::NoMemory
+    }
+}
+
+/// A text, seen as the list of its characters, any part of which is found at once.
+#[derive(Drop)]
+pub struct Chars {
+    text: String,
+    starts: Vec<u32>,
+}
+
+impl Model for Chars {
+    ghost use Rattle.std.specs.Prelude.{◌≡◌, List, ℕ, string_bytes};
+    ghost use Rattle.std.specs.Str.{chars};
+
+    ghost Value = { List ℕ };
+
+    ghost use Rattle.slif_base.specs.Characters.{starts_from};
+
+    ghost view = { λ t. chars (string_bytes t.text) };
+
+    ghost invariant = { λ t. t.starts.items ≡ starts_from 0 (chars (string_bytes t.text)) };
+}
+
+/// Where each character begins, and where the text ends.
+fn starts_of(alloc: Global, text: &str) -> Result<Vec<u32>, AllocError>
+    requires { length text.now < 2 ^ 32 }
+    ensures { IfOk result (λ starts. starts.items ≡ starts_from 0 (chars text.now)) }
+{
+    let mut starts = Vec::new(alloc);
+    let mut at = 0u32;
+    for c in text.chars() {
+        starts.push(at)?;
+        at += c.len_utf8() as u32;
+    }
+    starts.push(at)?;
+    Ok(starts)
+}
+
+/// The characters of these bytes.
+pub fn chars_of(alloc: Global, bytes: &[u8]) -> Result<Chars, TextRefusal>
+    ensures utf8 { OnOk result (IsUtf8 bytes.now) }
+    ensures ok { IfOk result (λ text. text ≡ chars bytes.now) }
+    ensures refused { IfErr result (RefusesText bytes.now) }
+{
+    let text = match std::str::from_utf8(bytes) {
+        Ok(text) => text,
+        Err(error) => {
+            return Err(TextRefusal::NotUtf8 {
+                at: error.valid_up_to(),
+            });
+        }
+    };
+    if text.len() > u32::MAX as usize {
+        return Err(TextRefusal::NoMemory);
+    }
+    let starts = starts_of(alloc, text)?;
+    let text = String::from_str(alloc, text)?;
+    Ok(Chars { text, starts })
+}
+
+impl Chars {
+    /// How many characters there are.
+    pub fn len(&self) -> usize
+        ensures { result ≡ length self.now }
+    {
+        self.starts.len() - 1
+    }
+
+    /// The text from one place to another.
+    pub fn text(&self, from: usize, to: usize) -> &str
+        requires order { from ≤ to }
+        requires to { to ≤ length self.now }
+        ensures { result.now ≡ encode_utf8_all (slice_range self.now from to) }
+    {
+        let start = self.starts[from] as usize;
+        let end = self.starts[to] as usize;
+        part(self.text.as_str(), start, end)
+    }
+}
+
+/// A part of a text, by bytes.
+fn part(text: &str, start: usize, end: usize) -> &str
+    requires order { start ≤ end }
+    requires start { IsCharBoundary text.now start }
+    requires end { IsCharBoundary text.now end }
+    ensures { result.now ≡ slice_range text.now start end }
+{
+    &text[start..end]
+}

@@ -1,0 +1,18 @@
+use Rattle.std.proofs.Common.{refl}
+use Rattle.std.proofs.lemmas.Result.{MatchResult-from_err}
+use Rattle.valuator.proofs.Grown.{held_stays, held_more, ids_more}
+use Rattle.valuator.proofs.tree.TreeTellerTeller.nulling.Goals as goal
+
+pub returns-in_err-id-clause-err : goal.returns-in_err-id-clause-err
+returns-in_err-id-clause-err c =
+    rw (← c.self.view_is) (MatchResult-from_err _ _ _ c.from_residual.ensures.0 (λ _. held_stays _ _ _ _ c.put_nulled.ensures.grown c.self.invariant refl))
+
+pub returns-in_err-push-clause-err : goal.returns-in_err-push-clause-err
+returns-in_err-push-clause-err c =
+    rw (← c.self.view_is) (MatchResult-from_err _ _ _ c.from_residual-in_err-push.ensures.0 (λ _. held_stays _ _ _ _ c.put_nulled.ensures.grown c.self.invariant c.in_err-push.ensures.items))
+
+pub invariant_of-self-2 : goal.invariant_of-self-2
+invariant_of-self-2 c = ids_more _ _ _ _ _ _ c.put_nulled.ensures.grown c.self.invariant c.in_ok-id.ensures.ok c.in_ok-push.ensures.items
+
+pub returns-clause-ok : goal.returns-clause-ok
+returns-clause-ok c = rw (← c.self.view_is) (held_more _ _ _ _ _ _ _ c.put_nulled.ensures.grown c.self.invariant c.in_ok-id.ensures.ok c.in_ok-push.ensures.items refl)

@@ -1,0 +1,232 @@
+// Playing a derivation's steps to tellers.
+ghost use Rattle.std.specs.Prelude.{◌≡◌, ◌+◌, ◌-◌, ◌^◌, ◌==◌, ◌&&◌, ◌<◌, ◌≤◌, Bool, Some, None, is_some, option_map, option_copied, length, if◌then◌else◌, [], ◌∷◌, ◌++◌, slice_index_or, slice_range, encode_utf8_all, IfOk, OnOk};
+ghost use Rattle.grammar_model.specs.Grammar.{lhs_of, rule_at};
+ghost use Rattle.grammar_model.specs.Steps.{TokenStep, NulledStep, RuleStep};
+ghost use Rattle.grammar_model.specs.Values.{end_before, is_nulling, items_shown, name_of, nulled_action, nulling_value, rule_value, told, token_at, token_value, value_of_nulled, value_of_rule, value_of_token};
+ghost use Rattle.grammar_core.specs.Steps.{step_of};
+ghost use Rattle.grammar_core.specs.Written.{rule_of};
+ghost use Rattle.value_text.specs.Meaning.{action_of, meaning_of};
+ghost use Rattle.valuator.specs.Told.{action_in, held_count, HoldsAtLeast, replace_newest};
+ghost use Rattle.valuator.specs.Play.{AreSpans, CanTell, IsMeaningOf, tokens_of};
+
+use crate::Teller;
+use grammar_core::{RuleId, Span, SymbolId, TreeStep, Written, WrittenRule};
+use slif_base::Chars;
+use std::alloc::Global;
+use value_text::{Action, Meaning, NoMemory};
+
+/// A rule's left side.
+fn left_side(rule: &WrittenRule) -> SymbolId
+    ensures { result ≡ lhs_of (rule_of rule.now) }
+{
+    match rule {
+        WrittenRule::Plain(rule) => rule.lhs,
+        WrittenRule::Sequence(rule) => rule.lhs,
+    }
+}
+
+/// Of a sequence's first children, which are items.
+fn shown_items(alloc: Global, separated: bool, count: u32) -> Result<Vec<bool>, NoMemory>
+    ensures { IfOk result (λ shown. shown.items ≡ items_shown (if separated then Some 0 else None) count) }
+{
+    let mut shown = Vec::new(alloc);
+    let mut is_item = true;
+    for _k in 0..count {
+        shown.push(is_item)?;
+        if separated {
+            is_item = !is_item;
+        }
+    }
+    Ok(shown)
+}
+
+/// The text of a token.
+fn token_text<'p>(spans: &[Span], chars: &'p Chars, place: u32) -> &'p str
+    requires spans { AreSpans (length chars.now) spans.now }
+    requires place { place < length spans.now }
+    ensures { result.now ≡ (token_at (tokens_of chars.now spans.now) place).text }
+{
+    let span = spans[place as usize];
+    chars.text(span.start as usize, (span.start + span.length) as usize)
+}
+
+/// Where the token before a place ends, in characters.
+fn end_of(spans: &[Span], chars: &Chars, place: u32) -> u32
+    requires spans { AreSpans (length chars.now) spans.now }
+    requires place { place ≤ length spans.now }
+    ensures { result ≡ end_before (tokens_of chars.now spans.now) place }
+{
+    if place == 0 {
+        return 0;
+    }
+    let span = spans[place as usize - 1];
+    span.start + span.length
+}
+
+/// A symbol's name.
+fn name_in<'p>(w: &'p Written, symbol: SymbolId) -> &'p str
+    requires { symbol < length w.now.names }
+    ensures { result.now ≡ name_of w.now symbol }
+{
+    w.name(symbol)
+}
+
+/// What the steps of a derivation are played with.
+#[derive(Clone, Copy)]
+struct Score<'p> {
+    meaning: &'p Meaning,
+    w: &'p Written,
+    spans: &'p [Span],
+    chars: &'p Chars,
+}
+
+/// Whether it is the symbol's empty rule or star.
+fn nulls(rule: &WrittenRule, symbol: SymbolId) -> bool
+    ensures { result ≡ ((lhs_of (rule_of rule.now) == symbol) && is_nulling (rule_of rule.now)) }
+{
+    match rule {
+        WrittenRule::Plain(rule) => rule.lhs.0 == symbol.0 && rule.rhs.is_empty(),
+        WrittenRule::Sequence(rule) => rule.lhs.0 == symbol.0 && !rule.plus,
+    }
+}
+
+/// The action of a nulled symbol, if it has an empty rule or a star.
+fn nulling_action<'p>(w: &'p Written, meaning: &'p Meaning, symbol: SymbolId) -> Option<&'p Action>
+    requires { IsMeaningOf w.now (meaning_of meaning.now) }
+    ensures { action_in result ≡ nulled_action w.now (meaning_of meaning.now) symbol }
+{
+    let rules = meaning.rules.as_slice();
+    for i in 0..w.rule_count() {
+        let rule = w.written_rule(RuleId(i as u32));
+        if nulls(rule, symbol) {
+            return Some(&rules[i].action);
+        }
+    }
+    None
+}
+
+/// Tells the values of a token.
+fn pass_token(
+    teller: &mut Box<dyn Teller>,
+    name: &str,
+    text: &str,
+    span: Span,
+    from: u32,
+    action: Option<&Action>,
+) -> Result<(), NoMemory>
+    ensures ok { OnOk result (held teller.new ≡ held teller.old ++ token_value (shows teller.old) name.now text.now span.start span.length from (action_in action.entry) ∷ []) }
+    ensures kind { shows teller.new ≡ shows teller.old }
+{
+    teller.token(name, text, span.start, span.length, from, action)
+}
+
+/// Tells the values of a nulled symbol.
+fn pass_nulling(
+    teller: &mut Box<dyn Teller>,
+    name: &str,
+    start: u32,
+    at: u32,
+    action: Option<&Action>,
+) -> Result<(), NoMemory>
+    ensures ok { OnOk result (held teller.new ≡ held teller.old ++ nulling_value (shows teller.old) name.now start at (action_in action.entry) ∷ []) }
+    ensures kind { shows teller.new ≡ shows teller.old }
+{
+    teller.nulling(name, start, at, action)
+}
+
+/// Tells the values of a rule, whose span ends at `end`.
+fn pass_rule(
+    teller: &mut Box<dyn Teller>,
+    rule: RuleId,
+    name: &str,
+    shown: &[bool],
+    start: u32,
+    end: u32,
+    from: u32,
+    to: u32,
+    action: &Action,
+) -> Result<(), NoMemory>
+    requires count { length shown.now < 2 ^ 32 }
+    requires places { from ≤ to }
+    requires held { HoldsAtLeast (length shown.now) (held teller.old) }
+    ensures ok { OnOk result (held teller.new ≡ replace_newest (length shown.now) (rule_value (shows teller.old) rule name.now shown.now start (end - start) from (to - from) (action_of action.now)) (held teller.old)) }
+    ensures kind { shows teller.new ≡ shows teller.old }
+{
+    let count = shown.len() as u32;
+    let length = end.saturating_sub(start);
+    teller.rule(rule, name, count, shown, start, length, from, to - from, action)
+}
+
+/// Tells a token.
+fn tell_token(p: &Score<'_>, symbol: SymbolId, from: u32, teller: &mut Box<dyn Teller>) -> Result<(), NoMemory>
+    requires spans { AreSpans (length p.now.chars.now) p.now.spans.now }
+    requires symbol { symbol < length p.now.w.now.names }
+    requires from { from < length p.now.spans.now }
+    ensures ok { OnOk result (held teller.new ≡ held teller.old ++ value_of_token (shows teller.old) p.now.w.now (meaning_of p.now.meaning.now) (tokens_of p.now.chars.now p.now.spans.now) symbol from ∷ []) }
+    ensures kind { shows teller.new ≡ shows teller.old }
+{
+    let name = name_in(p.w, symbol);
+    let text = token_text(p.spans, p.chars, from);
+    let span = p.spans[from as usize];
+    let action = p.meaning.lexeme.as_ref();
+    pass_token(teller, name, text, span, from, action)
+}
+
+/// Tells a nulled symbol.
+fn tell_nulled(p: &Score<'_>, symbol: SymbolId, at: u32, teller: &mut Box<dyn Teller>) -> Result<(), NoMemory>
+    requires meaning { IsMeaningOf p.now.w.now (meaning_of p.now.meaning.now) }
+    requires spans { AreSpans (length p.now.chars.now) p.now.spans.now }
+    requires symbol { symbol < length p.now.w.now.names }
+    requires at { at ≤ length p.now.spans.now }
+    ensures ok { OnOk result (held teller.new ≡ held teller.old ++ value_of_nulled (shows teller.old) p.now.w.now (meaning_of p.now.meaning.now) (tokens_of p.now.chars.now p.now.spans.now) symbol at ∷ []) }
+    ensures kind { shows teller.new ≡ shows teller.old }
+{
+    let name = name_in(p.w, symbol);
+    let start = end_of(p.spans, p.chars, at);
+    let action = nulling_action(p.w, p.meaning, symbol);
+    pass_nulling(teller, name, start, at, action)
+}
+
+/// Of a rule's children, which are shown.
+fn tell_rule(
+    alloc: Global,
+    p: &Score<'_>,
+    rule: RuleId,
+    children: u32,
+    from: u32,
+    to: u32,
+    teller: &mut Box<dyn Teller>,
+) -> Result<(), NoMemory>
+    requires meaning { IsMeaningOf p.now.w.now (meaning_of p.now.meaning.now) }
+    requires spans { AreSpans (length p.now.chars.now) p.now.spans.now }
+    requires step { CanTell p.now.w.now (length p.now.spans.now) (held_count (held teller.old)) (RuleStep rule children from to) }
+    ensures ok { OnOk result (held teller.new ≡ replace_newest children (value_of_rule (shows teller.old) p.now.w.now (meaning_of p.now.meaning.now) (tokens_of p.now.chars.now p.now.spans.now) rule children from to) (held teller.old)) }
+    ensures kind { shows teller.new ≡ shows teller.old }
+{
+    let written = p.w.written_rule(rule);
+    let name = name_in(p.w, left_side(written));
+    let start = p.spans[from as usize].start;
+    let end = end_of(p.spans, p.chars, to);
+    let meaning = &p.meaning.rules.as_slice()[rule.0 as usize];
+    if meaning.sequence {
+        let shown = shown_items(alloc, meaning.separated, children)?;
+        pass_rule(teller, rule, name, shown.as_slice(), start, end, from, to, &meaning.action)
+    } else {
+        pass_rule(teller, rule, name, meaning.shown.as_slice(), start, end, from, to, &meaning.action)
+    }
+}
+
+/// Tells one step.
+fn tell(alloc: Global, p: &Score<'_>, step: TreeStep, teller: &mut Box<dyn Teller>) -> Result<(), NoMemory>
+    requires meaning { IsMeaningOf p.now.w.now (meaning_of p.now.meaning.now) }
+    requires spans { AreSpans (length p.now.chars.now) p.now.spans.now }
+    requires step { CanTell p.now.w.now (length p.now.spans.now) (held_count (held teller.old)) (step_of step) }
+    ensures ok { OnOk result (held teller.new ≡ told (shows teller.old) p.now.w.now (meaning_of p.now.meaning.now) (tokens_of p.now.chars.now p.now.spans.now) (held teller.old) (step_of step)) }
+    ensures kind { shows teller.new ≡ shows teller.old }
+{
+    match step {
+        TreeStep::Token { symbol, from, .. } => tell_token(p, symbol, from, teller),
+        TreeStep::Nulled { symbol, at } => tell_nulled(p, symbol, at, teller),
+        TreeStep::Rule { rule, children, from, to } => tell_rule(alloc, p, rule, children, from, to, teller),
+    }
+}
