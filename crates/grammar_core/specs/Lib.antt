@@ -1,3 +1,4 @@
 pub mod Written
 pub mod Refusals
 pub mod Flat
+pub mod Edges
