@@ -2,3 +2,4 @@ pub mod Written
 pub mod Refusals
 pub mod Flat
 pub mod Steps
+pub mod Edges

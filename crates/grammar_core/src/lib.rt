@@ -1,6 +1,7 @@
 //! Grammars as programs hold them: symbols with names, rules and starts, each under the number of its place.
 #![tactic(auto)]
 
+mod edges;
 mod flat;
 mod refusal;
 mod rule;
@@ -9,6 +10,7 @@ mod steps;
 mod tests;
 mod written;
 
+pub use edges::{Edge, EdgeRefusal, LONGEST_EDGE, TokenEdges};
 pub use flat::{Flat, FlatParts};
 pub use grammar_model::{Assoc, RuleId, SymbolId};
 pub use recognizer_model::{FlatRule, FlatSource, FlatSymbol, Item};
