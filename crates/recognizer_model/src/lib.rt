@@ -30,15 +30,12 @@ pub struct ReportLine {
     pub origin: u32,
 }
 
-ghost use Rattle.std.specs.Prelude.{ℕ, List};
-ghost use Rattle.recognizer_model.specs.Flat.{FlatGrammar};
-ghost use Rattle.grammar_model.specs.declared.Edge.{Edge};
 ghost use Rattle.recognizer_model.specs.FlatForm.{FlatGrammarsAreFlatForms, AcceptableAreFlat, ListsExist};
-ghost use Rattle.recognizer_model.specs.Laws.{AreTokens, IsSound, EarleyLaws};
+ghost use Rattle.recognizer_model.specs.Laws.{EarleyLawsHold};
 
 /// The theorems on item sets, reduced sets, acceptable terminals and used nodes.
 pub fn earley_laws()
-    ensures { (g : FlatGrammar) (edges : List Edge) (top : ℕ) → IsSound g top → AreTokens g edges → EarleyLaws g edges top }
+    ensures { EarleyLawsHold }
 {}
 
 /// What flat derivations stand for are the written grammar's derivations, one to one and in the declared order.
