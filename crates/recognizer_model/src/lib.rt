@@ -1,6 +1,10 @@
 //! Definitions that several crates cite.
 #![tactic(auto)]
 
+mod flat;
+
+pub use flat::{FlatRule, FlatSource, FlatSymbol};
+
 /// A rule, how many of its parts were found, and the place where they begin.
 #[derive(Clone, Copy, PartialEq, Eq, Hash)]
 pub struct Item {

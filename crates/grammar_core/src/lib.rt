@@ -1,0 +1,13 @@
+//! Grammars as programs hold them: symbols with names, rules and starts, each under the number of its place.
+#![tactic(auto)]
+
+mod refusal;
+mod rule;
+#[cfg(test)]
+mod tests;
+mod written;
+
+pub use grammar_model::{Assoc, RuleId, SymbolId};
+pub use refusal::CoreRefusal;
+pub use rule::{Rule, SeqRule, WrittenRule};
+pub use written::Written;
