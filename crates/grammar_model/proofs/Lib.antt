@@ -11,3 +11,4 @@ pub mod Values
 pub mod Lister
 pub mod Cycles
 pub mod Instances
+pub mod Characters

@@ -1,11 +1,11 @@
 -- The plain lister of simple grammars lists all derivations.
 use Rattle.std.proofs.Common.{◌≡◌, ◌≢◌, ℕ, zero, suc, ◌<◌, ◌≤◌, ◌+◌, Bool, true, false, cond, List, [], ◌∷◌, ◌++◌, length, ◌⊎◌, inl, inr, refl, sym, ap, ◌∙◌, subst, ⊎_elim, arith}
-use Rattle.std.specs.Prelude.{◌↔◌, ◌==◌, nat_lt, nat_le, slice_index, slice_index_or, filter}
+use Rattle.std.specs.Prelude.{◌↔◌, ◌==◌, nat_lt, nat_le, slice_index, slice_index_or, filter, pos}
 use Rattle.std.specs.List.{list_any}
 use Rattle.std.specs.List.Sorted.{IsStrictlySortedBy}
 use Rattle.std.specs.declared.cmp.Ordering.{Ordering}
 use Rattle.std.specs.declared.cmp.Ordering.TheVariants.{Less, Equal, Greater}
-use Rattle.std.specs.Ordering.{ordering_then, nat_cmp, bool_cmp, MatchOrdering}
+use Rattle.std.specs.Ordering.{ordering_then, nat_cmp, int_cmp, bool_cmp, MatchOrdering}
 use Rattle.std.specs.Cmp.{ranks}
 use Rattle.std.proofs.lemmas.Bool.{eqb-true, eqb-false, eq-eqb, ne_eqb, leb-true, le-leb, ltb-true, ltb-false, not-true, not-false, and_parts, and_from, or_cases, or_parts, cond_both, true≢false, cases_eq}
 use Rattle.std.proofs.lemmas.List.Kept.{IsStrictlySortedBy-filter}
@@ -13,11 +13,11 @@ use Rattle.grammar_model.specs.Grammar.{Grammar, Slot, WrittenRule, Plain, Seque
 use Rattle.grammar_model.specs.Trees.{Tree, Children, Leaf, Nulled, Node, NoChild, Child, child_count}
 use Rattle.grammar_model.specs.Analysis.{IsNullableIn, IsStar}
 use Rattle.grammar_model.specs.Derives.{Edges, Derives, DerivesFront}
-use Rattle.grammar_model.specs.declared.Ranking.TheVariants.{None as NoRanks}
-use Rattle.grammar_model.specs.Order.{RuleOrder, rank_order}
+use Rattle.grammar_model.specs.Order.{Ranking, NoRanks, RuleRanks, RuleOrder, rank_by, rank_order}
 use Rattle.grammar_model.specs.All.{IsAll}
 use Rattle.grammar_model.specs.Simple.{IsSimple, IsSimpleRule, Tested, is_terminal, fits, numbers, places, part_count, Below, simple_fronts, simple_leaves, fitting, simple_nodes, simple_trees}
 use Rattle.grammar_model.proofs.Sorting.{ranks_order}
+use Rattle.grammar_model.proofs.Total.{all_unique}
 use Rattle.grammar_model.proofs.Lists.{Among, among_from, contains_from, among_left, among_right, among_either, sorted_append, each_from}
 use Rattle.grammar_model.proofs.Compose.{GoForward, at_cmp, place_of, IsAllFront, all_with_last, all_nodes}
 
@@ -147,9 +147,14 @@ from_fits rule slot f = and_from _ _ (eq-eqb _ _ f.0) (le-leb _ _ f.1)
 
 -- what a simple rule's parts are
 simple_parts : (g : Grammar) (rule : WrittenRule) → IsSimpleRule g rule → 0 < part_count rule
-simple_parts g (Plain r) (inl h) = let e = h.0 in omega arith
-simple_parts g (Plain r) (inr h) = omega arith
+simple_parts g (Plain r) s = ⊎_elim (λ h. let e = h.0 in omega arith) (λ h. omega arith) s.2
 simple_parts g (Sequence r) h = absurd h
+
+-- ranks play no part
+unranked : (g : Grammar) (ranking : Ranking) (rule : WrittenRule) → IsSimpleRule g rule → rank_by ranking rule ≡ pos 0
+unranked g NoRanks rule s = refl
+unranked g RuleRanks (Plain r) s = s.1
+unranked g RuleRanks (Sequence r) s = absurd s
 
 count_is : (g : Grammar) (rule : WrittenRule) (n : ℕ) → IsSimpleRule g rule → IsChildCount rule n ↔ (n ≡ part_count rule)
 count_is g (Plain r) n s = (λ h. h, λ h. h)
@@ -163,12 +168,12 @@ slots_are_parts : (g : Grammar) (rule : WrittenRule) → IsSimpleRule g rule →
 slots_are_parts g (Plain r) s = refl
 slots_are_parts g (Sequence r) s = absurd s
 
-module _ (g : Grammar) (test : ℕ → ℕ → ℕ → Bool) (simple : IsSimple g) (forward : GoForward (Tested test)) where
+module _ (g : Grammar) (test : ℕ → ℕ → ℕ → Bool) (ranking : Ranking) (simple : IsSimple g) (forward : GoForward (Tested test)) where
   abbrev edge : Edges
   edge = Tested test
 
   abbrev order : RuleOrder
-  order = rank_order g NoRanks
+  order = rank_order g ranking
 
   none_nullable : (k : ℕ) (slot : Slot) → IsNullableIn k g slot → ⊥
   none_nullable zero slot n = n
@@ -196,9 +201,9 @@ module _ (g : Grammar) (test : ℕ → ℕ → ℕ → Bool) (simple : IsSimple 
   abbrev Exactly : ℕ → ℕ → Type 0
   Exactly n m = m ≡ n
 
-  no_front : (rule : WrittenRule) (high : Bool) (p q : ℕ) → IsAllFront g edge forward order (ranks_order g NoRanks) rule high (Exactly 0) p q (simple_fronts (λ s a b. []) rule 0 p q)
+  no_front : (rule : WrittenRule) (high : Bool) (p q : ℕ) → IsAllFront g edge forward order (ranks_order g ranking) rule high (Exactly 0) p q (simple_fronts (λ s a b. []) rule 0 p q)
   unfolding IsStrictlySortedBy
-  no_front rule high p q = cond_both (p == q) (NoChild ∷ []) [] (IsAllFront g edge forward order (ranks_order g NoRanks) rule high (Exactly 0) p q) here nowhere
+  no_front rule high p q = cond_both (p == q) (NoChild ∷ []) [] (IsAllFront g edge forward order (ranks_order g ranking) rule high (Exactly 0) p q) here nowhere
     where
       only : (cs : Children) → DerivesFront g edge rule p q cs × Exactly 0 (child_count cs) → NoChild ≡ cs
       only NoChild d = refl
@@ -208,28 +213,28 @@ module _ (g : Grammar) (test : ℕ → ℕ → ℕ → Bool) (simple : IsSimple 
       end NoChild d = d.0
       end (Child cs t) d = let e = d.1 in absurd (omega arith)
 
-      here : (p == q) ≡ true → IsAllFront g edge forward order (ranks_order g NoRanks) rule high (Exactly 0) p q (NoChild ∷ [])
+      here : (p == q) ≡ true → IsAllFront g edge forward order (ranks_order g ranking) rule high (Exactly 0) p q (NoChild ∷ [])
       here e = record {
         sorted = (tt, tt);
         each = λ cs. (λ m. elim m [ inl h ↦ subst (λ x. DerivesFront g edge rule p q x × Exactly 0 (child_count x)) h (eqb-true p q e, refl) | inr b ↦ absurd b ], λ d. inl (only cs d));
       }
 
-      nowhere : (p == q) ≡ false → IsAllFront g edge forward order (ranks_order g NoRanks) rule high (Exactly 0) p q []
+      nowhere : (p == q) ≡ false → IsAllFront g edge forward order (ranks_order g ranking) rule high (Exactly 0) p q []
       nowhere e = record { sorted = tt; each = λ cs. (λ m. absurd m, λ d. eqb-false p q e (end cs d)) }
 
   -- the first n children, where what is listed below is all at the parts that are short enough
   fronts_all : (below : Below) (rule : WrittenRule) (high : Bool) (p n q : ℕ) →
       ((k r s : ℕ) → k < n → p + k ≤ r → r < s → s + n ≤ q + suc k → IsAll g edge order (child_slot rule k) r s (below (child_slot rule k) r s)) →
-      IsAllFront g edge forward order (ranks_order g NoRanks) rule high (Exactly n) p q (simple_fronts below rule n p q)
+      IsAllFront g edge forward order (ranks_order g ranking) rule high (Exactly n) p q (simple_fronts below rule n p q)
   fronts_all below rule high p zero q h = no_front rule high p q
   fronts_all below rule high p (suc n) q h =
-      exactly (all_with_last g edge forward order (ranks_order g NoRanks) rule high (Exactly n) (child_slot rule n) (λ m e. ap (child_slot rule) e) p q (places (p + n) q)
+      exactly (all_with_last g edge forward order (ranks_order g ranking) rule high (Exactly n) (child_slot rule n) (λ m e. ap (child_slot rule) e) p q (places (p + n) q)
       (λ r. simple_fronts below rule n p r) (λ r. below (child_slot rule n) r q) (places_sorted high (p + n) q q (omega arith))
       (λ r m. let b = among_places_from (p + n) q r m in fronts_all below rule high p n r (λ k r' s lt a c d. h k r' s (omega arith) a c (omega arith)))
       (λ r m. let b = among_places_from (p + n) q r m in h n r q (omega arith) b.0 b.1 (omega arith))
       (λ r cs t f e d. let a = front_spans rule p r cs f in let c = spans (child_slot rule n) r q t d in among_places (p + n) q r (omega arith) c))
     where
-      exactly : {fronts : List Children} → IsAllFront g edge forward order (ranks_order g NoRanks) rule high (λ m. (k : ℕ) × Exactly n k × (m ≡ suc k)) p q fronts → IsAllFront g edge forward order (ranks_order g NoRanks) rule high (Exactly (suc n)) p q fronts
+      exactly : {fronts : List Children} → IsAllFront g edge forward order (ranks_order g ranking) rule high (λ m. (k : ℕ) × Exactly n k × (m ≡ suc k)) p q fronts → IsAllFront g edge forward order (ranks_order g ranking) rule high (Exactly (suc n)) p q fronts
       exactly {fronts} a = record {
         sorted = a.sorted;
         each = λ cs. (λ m. (let r = (a.each cs).0 m in (r.0, r.1.2 ∙ ap suc r.1.1)), λ d. (a.each cs).1 (d.0, (n, refl, d.1)));
@@ -276,11 +281,14 @@ module _ (g : Grammar) (test : ℕ → ℕ → ℕ → Bool) (simple : IsSimple 
 
   -- a simple rule's part is terminal, or the rule has another
   part_is : (rule : WrittenRule) → IsSimpleRule g rule → (k : ℕ) → k < part_count rule → IsTerminal g (child_slot rule k).symbol ⊎ (2 ≤ part_count rule)
-  part_is (Plain r) (inl h) k lt =
-      let e = h.0 in
-      let z : 0 ≡ k = omega arith in
-      inl (subst (λ j. IsTerminal g (slice_index r.rhs j)) z h.1)
-  part_is (Plain r) (inr h) k lt = inr h
+  part_is (Plain r) s k lt = one s.2
+    where
+      one : (length r.rhs ≡ 1) × IsTerminal g (slice_index r.rhs 0) ⊎ (2 ≤ length r.rhs) → IsTerminal g (slice_index r.rhs k) ⊎ (2 ≤ length r.rhs)
+      one (inl h) =
+          let e = h.0 in
+          let z : 0 ≡ k = omega arith in
+          inl (subst (λ j. IsTerminal g (slice_index r.rhs j)) z h.1)
+      one (inr h) = inr h
   part_is (Sequence r) s k lt = absurd s
 
   not_trailing : (rule : WrittenRule) (n : ℕ) → IsSimpleRule g rule → has_trailing rule n ≡ false
@@ -294,7 +302,7 @@ module _ (g : Grammar) (test : ℕ → ℕ → ℕ → Bool) (simple : IsSimple 
 
   by_number : (i j m n : ℕ) → i < length g.rules → j < length g.rules → order.cmp i m j n ≡ nat_cmp i j
   by_number i j m n a b =
-      (λ k. ordering_then (nat_cmp i j) (bool_cmp (not_trailing (rule_at g i) m (simple i a) k) (not_trailing (rule_at g j) n (simple j b) k)))
+      (λ k. ordering_then (int_cmp (unranked g ranking (rule_at g j) (simple j b) k) (unranked g ranking (rule_at g i) (simple i a) k)) (ordering_then (nat_cmp i j) (bool_cmp (not_trailing (rule_at g i) m (simple i a) k) (not_trailing (rule_at g j) n (simple j b) k))))
       ∙ then_Equal (nat_cmp i j)
 
   in_fitting : (slot : Slot) (i : ℕ) → Among i (fitting g slot) → (i < length g.rules) × Fits (rule_at g i) slot
@@ -302,27 +310,37 @@ module _ (g : Grammar) (test : ℕ → ℕ → ℕ → Bool) (simple : IsSimple 
       let f = among_filter_from (λ i. fits (rule_at g i) slot) i (numbers (length g.rules)) m in
       (among_numbers_from (length g.rules) i f.0, fits_from (rule_at g i) slot f.1)
 
+  -- the nodes of a slot, where what is listed below is all at the parts
+  pub nodes_all : (below : Below) (slot : Slot) (p q : ℕ) → p < q → is_terminal g slot.symbol ≡ false →
+      ((i : ℕ) → i < length g.rules → (k r s : ℕ) → k < part_count (rule_at g i) → p + k ≤ r → r < s → s + part_count (rule_at g i) ≤ q + suc k → IsAll g edge order (child_slot (rule_at g i) k) r s (below (child_slot (rule_at g i) k) r s)) →
+      IsAll g edge order slot p q (simple_nodes g below slot p q)
+  nodes_all below slot p q lt inner parts =
+      all_nodes g edge forward order (ranks_order g ranking) ℕ nat_cmp (λ i. i) (λ i. Exactly (part_count (rule_at g i))) slot p q lt
+      (no_terminal_from g slot.symbol inner) (fitting g slot) (λ i. simple_fronts below (rule_at g i) (part_count (rule_at g i)) p q)
+      (IsStrictlySortedBy-filter nat_cmp (λ i. fits (rule_at g i) slot) (numbers (length g.rules)) (numbers_sorted (length g.rules)))
+      (λ i j m n a b e e'. by_number i j m n (in_fitting slot i a).0 (in_fitting slot j b).0)
+      (λ i a. (let f = in_fitting slot i a in (f.0, f.1, λ n e. (count_is g (rule_at g i) n (simple i f.0)).1 e)))
+      (λ i a. (let f = in_fitting slot i a in fronts_all below (rule_at g i) (order.null_high i) p (part_count (rule_at g i)) q (parts i f.0)))
+      (λ i n a f c. (i, among_filter (λ i. fits (rule_at g i) slot) i (numbers (length g.rules)) (among_numbers (length g.rules) i a) (from_fits (rule_at g i) slot f), refl, (count_is g (rule_at g i) n (simple i a)).0 c))
+
   pub trees_all : (d : ℕ) (slot : Slot) (p q : ℕ) → q < p + d → IsAll g edge order slot p q (simple_trees g test d slot p q)
   trees_all zero slot p q h = none_listed slot p q (omega arith)
   trees_all (suc d) slot p q h =
       cond_both (nat_lt p q) (cond (is_terminal g slot.symbol) (simple_leaves test slot p q) (simple_nodes g (simple_trees g test d) slot p q)) [] (IsAll g edge order slot p q)
       (λ e. cond_both (is_terminal g slot.symbol) (simple_leaves test slot p q) (simple_nodes g (simple_trees g test d) slot p q) (IsAll g edge order slot p q)
       (λ t. leaves_all slot p q (terminal_from g slot.symbol t))
-      (λ t. nodes_all (λ s a b lt. trees_all d s a b lt) (ltb-true p q e) t))
+      (λ t. nodes_all (simple_trees g test d) slot p q (ltb-true p q e) t (parts_all (λ s a b lt. trees_all d s a b lt))))
       (λ e. none_listed slot p q (ltb-false p q e))
     where
-      parts_all : ((s : Slot) (a b : ℕ) → b < a + d → IsAll g edge order s a b (simple_trees g test d s a b)) → p < q → (i : ℕ) → i < length g.rules →
+      parts_all : ((s : Slot) (a b : ℕ) → b < a + d → IsAll g edge order s a b (simple_trees g test d s a b)) → (i : ℕ) → i < length g.rules →
           (k r s : ℕ) → k < part_count (rule_at g i) → p + k ≤ r → r < s → s + part_count (rule_at g i) ≤ q + suc k → IsAll g edge order (child_slot (rule_at g i) k) r s (simple_trees g test d (child_slot (rule_at g i) k) r s)
-      parts_all ih lt i in_range k r s a b c u =
+      parts_all ih i in_range k r s a b c u =
           ⊎_elim (λ terminal. terminal_all d (child_slot (rule_at g i) k) r s (omega arith) terminal) (λ two. ih (child_slot (rule_at g i) k) r s (omega arith))
           (part_is (rule_at g i) (simple i in_range) k a)
 
-      nodes_all : ((s : Slot) (a b : ℕ) → b < a + d → IsAll g edge order s a b (simple_trees g test d s a b)) → p < q → is_terminal g slot.symbol ≡ false → IsAll g edge order slot p q (simple_nodes g (simple_trees g test d) slot p q)
-      nodes_all ih lt inner =
-          all_nodes g edge forward order (ranks_order g NoRanks) ℕ nat_cmp (λ i. i) (λ i. Exactly (part_count (rule_at g i))) slot p q lt
-          (no_terminal_from g slot.symbol inner) (fitting g slot) (λ i. simple_fronts (simple_trees g test d) (rule_at g i) (part_count (rule_at g i)) p q)
-          (IsStrictlySortedBy-filter nat_cmp (λ i. fits (rule_at g i) slot) (numbers (length g.rules)) (numbers_sorted (length g.rules)))
-          (λ i j m n a b e e'. by_number i j m n (in_fitting slot i a).0 (in_fitting slot j b).0)
-          (λ i a. (let f = in_fitting slot i a in (f.0, f.1, λ n e. (count_is g (rule_at g i) n (simple i f.0)).1 e)))
-          (λ i a. (let f = in_fitting slot i a in fronts_all (simple_trees g test d) (rule_at g i) (order.null_high i) p (part_count (rule_at g i)) q (parts_all ih lt i f.0)))
-          (λ i n a f c. (i, among_filter (λ i. fits (rule_at g i) slot) i (numbers (length g.rules)) (among_numbers (length g.rules) i a) (from_fits (rule_at g i) slot f), refl, (count_is g (rule_at g i) n (simple i a)).0 c))
+  -- one more round changes nothing where the rounds before span enough
+  pub trees_again : (d : ℕ) (slot : Slot) (p q : ℕ) → p < q → q < p + d → is_terminal g slot.symbol ≡ false →
+      simple_trees g test d slot p q ≡ simple_nodes g (simple_trees g test d) slot p q
+  trees_again d slot p q lt h inner =
+      all_unique g edge order (ranks_order g ranking) slot p q _ _ (trees_all d slot p q h)
+      (nodes_all (simple_trees g test d) slot p q lt inner (λ i in_range k r s a b c u. trees_all d (child_slot (rule_at g i) k) r s (omega arith)))

@@ -9,6 +9,7 @@ use Rattle.grammar_model.specs.Trees.{Tree}
 use Rattle.grammar_model.specs.Derives.{Edges}
 use Rattle.grammar_model.specs.Order.{rank_order}
 use Rattle.grammar_model.specs.All.{IsAll}
+use Rattle.grammar_model.specs.Simple.{IsSimple}
 use Rattle.grammar_model.specs.Values.{Meaning, Token, value_of}
 use Rattle.grammar_model.specs.Text.{text_of}
 
@@ -30,6 +31,11 @@ Quoted g input symbol from to = IsQuoted g input symbol from to
 abbrev pub IsAllOfCharacters : Grammar → List ℕ → List Tree → Type 0
 IsAllOfCharacters g input trees =
     (start : ℕ) × (slice_get g.starts 0 ≡ Some start) × IsAll g (Quoted g input) (rank_order g RuleRanks) (slot_of start) 0 (length input) trees
+
+-- over a simple grammar that has a start there is one such list for each input, and only one
+abbrev pub CharactersHaveOneList : Type 0
+CharactersHaveOneList = (g : Grammar) (input : List ℕ) (start : ℕ) → IsSimple g → slice_get g.starts 0 ≡ Some start →
+    (trees : List Tree) × IsAllOfCharacters g input trees × ((others : List Tree) → IsAllOfCharacters g input others → others ≡ trees)
 
 -- each character is a token
 abbrev pub character_tokens : ℕ → List ℕ → List Token

@@ -1,16 +1,16 @@
--- The plain way to list the derivations of a simple grammar: no rule is a sequence, and each has one terminal or
--- two parts or more, so a part spans less than the whole. By the last part's start, then the parts before it.
-use Rattle.std.specs.Prelude.{◌≡◌, ℕ, zero, suc, ◌+◌, ◌<◌, ◌≤◌, Bool, not, ◌&&◌, ◌==◌, nat_lt, nat_le, if◌then◌else◌, List, [], ◌∷◌, ◌++◌, map, length, slice_index, ◌⊎◌, filter, IsTrue}
+-- The plain way to list the derivations of a simple grammar: no rule is a sequence, a statement has one group, ranks
+-- are 0, and each rule has one terminal or two parts or more, so a part spans less than the whole. By the last part's
+-- start, then the parts before it.
+use Rattle.std.specs.Prelude.{◌≡◌, ℕ, zero, suc, ◌+◌, ◌<◌, ◌≤◌, Bool, not, ◌&&◌, ◌==◌, nat_lt, nat_le, if◌then◌else◌, List, [], ◌∷◌, ◌++◌, map, length, slice_index, ◌⊎◌, filter, IsTrue, pos}
 use Rattle.std.specs.List.{list_any, flat_map}
 use Rattle.grammar_model.specs.Grammar.{Grammar, Slot, WrittenRule, Plain, Sequence, lhs_of, level_of, rule_at, child_slot, IsTerminal}
 use Rattle.grammar_model.specs.Trees.{Tree, Children, Leaf, Node, NoChild, Child}
 use Rattle.grammar_model.specs.Derives.{Edges}
-use Rattle.grammar_model.specs.declared.Ranking.TheVariants.{None as NoRanks}
-use Rattle.grammar_model.specs.Order.{rank_order}
+use Rattle.grammar_model.specs.Order.{Ranking, rank_order}
 use Rattle.grammar_model.specs.All.{IsAll}
 
 abbrev pub IsSimpleRule : Grammar → WrittenRule → Type 0
-IsSimpleRule g (Plain r) = (length r.rhs ≡ 1) × IsTerminal g (slice_index r.rhs 0) ⊎ (2 ≤ length r.rhs)
+IsSimpleRule g (Plain r) = (r.groups ≡ 1) × (r.rank ≡ pos 0) × ((length r.rhs ≡ 1) × IsTerminal g (slice_index r.rhs 0) ⊎ (2 ≤ length r.rhs))
 IsSimpleRule g (Sequence r) = ⊥
 
 abbrev pub IsSimple : Grammar → Type 0
@@ -67,6 +67,6 @@ simple_trees g test (suc d) slot p q =
     if nat_lt p q then (if is_terminal g slot.symbol then simple_leaves test slot p q else simple_nodes g (simple_trees g test d) slot p q) else []
 
 abbrev pub ListsAllOfSimple : Type 0
-ListsAllOfSimple = (g : Grammar) (test : ℕ → ℕ → ℕ → Bool) (slot : Slot) (p q d : ℕ) →
+ListsAllOfSimple = (g : Grammar) (test : ℕ → ℕ → ℕ → Bool) (ranking : Ranking) (slot : Slot) (p q d : ℕ) →
     IsSimple g → ((s i j : ℕ) → IsTrue (test s i j) → i < j) → q < p + d →
-    IsAll g (Tested test) (rank_order g NoRanks) slot p q (simple_trees g test d slot p q)
+    IsAll g (Tested test) (rank_order g ranking) slot p q (simple_trees g test d slot p q)

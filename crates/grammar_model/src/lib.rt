@@ -4,6 +4,7 @@
 
 ghost use Rattle.grammar_model.specs.All.{DerivationsAreOrdered, ListIsUnique};
 ghost use Rattle.grammar_model.specs.Simple.{ListsAllOfSimple};
+ghost use Rattle.grammar_model.specs.Characters.{CharactersHaveOneList};
 ghost use Rattle.grammar_model.specs.Steps.{StepsMakeTheTree, StepsTellTheTree};
 ghost use Rattle.grammar_model.specs.Values.{StepsTellTheValue};
 ghost use Rattle.grammar_model.specs.Cycles.{HeightsExcludeCycles};
@@ -68,6 +69,11 @@ pub fn list_is_unique()
 /// The plain lister lists all derivations of a simple grammar.
 pub fn simple_lister_lists_all()
     ensures { ListsAllOfSimple }
+{}
+
+/// An input of single characters has one list of derivations over a simple grammar that has a start.
+pub fn characters_have_one_list()
+    ensures { CharactersHaveOneList }
 {}
 
 /// The steps of a tree put it on top of the stack that they work on.
