@@ -6,7 +6,7 @@ use Rattle.language_model.specs.Simple.{grammar_of_simple}
 use Rattle.run_model.specs.Words.{Job}
 use Rattle.run_model.specs.Derivations.{Accepts, AcceptsNothing, Lists}
 use Rattle.run_model.proofs.Texts.{TextLaws}
-use Rattle.run_model.proofs.Listed.{characters_listed}
+use Rattle.grammar_model.proofs.Characters.{listed_from, characters_listed}
 
 first_of : (xs : List ℕ) → 0 < length xs → (x : ℕ) × (slice_get xs 0 ≡ Some x)
 first_of [] some = absurd (omega (arith, some))
@@ -27,6 +27,8 @@ module _ (laws : TextLaws) where
   pub accepted_lists : (job : Job) (text : List ℕ) (g : Grammar) → Accepts job text g → (input : List ℕ) → (lines : List (List ℕ)) × Lists g input lines
   accepted_lists job text g accepts input =
       let h = grammar_of_simple accepts.lines in
-      let listed = characters_listed h input (laws.simple text accepts.lines accepts.spelled) (laws.unranked text accepts.lines accepts.spelled) (first_of h.starts (laws.started text accepts.lines accepts.spelled)) in
-      subst (λ (k : Grammar). (lines : List (List ℕ)) × Lists k input lines) (sym accepts.grammar)
-      (map (tree_line h input) listed.0, record { trees = listed.0; all = listed.1; lines_are = refl })
+      let first = first_of h.starts (laws.started text accepts.lines accepts.spelled) in
+      subst (λ (k : Grammar). (lines : List (List ℕ)) × Lists k input lines) (sym accepts.grammar) (
+        map (tree_line h input) (listed_from h input first.0),
+        record { trees = listed_from h input first.0; all = characters_listed h input (laws.simple text accepts.lines accepts.spelled) first.0 first.1; lines_are = refl },
+      )

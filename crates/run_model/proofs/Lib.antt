@@ -1,6 +1,6 @@
 pub mod Asked
 pub mod Texts
-pub mod Listed
+pub mod SimpleTexts
 pub mod Accepted
 pub mod Outcomes
 pub mod OneEnd

@@ -1,6 +1,5 @@
 -- What a run needs to know of simple texts.
-use Rattle.std.proofs.Common.{◌≡◌, ℕ, ◌<◌, List, ◌⊎◌, length, pos}
-use Rattle.grammar_model.specs.Grammar.{rule_at, rank_of}
+use Rattle.std.proofs.Common.{◌≡◌, ℕ, ◌<◌, List, ◌⊎◌, length}
 use Rattle.grammar_model.specs.Simple.{IsSimple}
 use Rattle.language_model.specs.Simple.{SimpleLine, IsSimpleText, grammar_of_simple}
 
@@ -9,5 +8,4 @@ pub record TextLaws : Type 0 where
   pub one_text : (bytes : List ℕ) (a b : List SimpleLine) → IsSimpleText bytes a → IsSimpleText bytes b → a ≡ b
   pub decided : (bytes : List ℕ) → ((g : List SimpleLine) × IsSimpleText bytes g) ⊎ ((g : List SimpleLine) → IsSimpleText bytes g → ⊥)
   pub simple : (bytes : List ℕ) (lines : List SimpleLine) → IsSimpleText bytes lines → IsSimple (grammar_of_simple lines)
-  pub unranked : (bytes : List ℕ) (lines : List SimpleLine) → IsSimpleText bytes lines → (i : ℕ) → rank_of (rule_at (grammar_of_simple lines) i) ≡ pos 0
   pub started : (bytes : List ℕ) (lines : List SimpleLine) → IsSimpleText bytes lines → 0 < length (grammar_of_simple lines).starts
