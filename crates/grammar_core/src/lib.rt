@@ -1,13 +1,16 @@
 //! Grammars as programs hold them: symbols with names, rules and starts, each under the number of its place.
 #![tactic(auto)]
 
+mod flat;
 mod refusal;
 mod rule;
 #[cfg(test)]
 mod tests;
 mod written;
 
+pub use flat::{Flat, FlatParts};
 pub use grammar_model::{Assoc, RuleId, SymbolId};
+pub use recognizer_model::{FlatRule, FlatSource, FlatSymbol, Item};
 pub use refusal::CoreRefusal;
 pub use rule::{Rule, SeqRule, WrittenRule};
 pub use written::Written;

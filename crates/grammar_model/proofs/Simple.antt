@@ -124,10 +124,10 @@ some_from s (rule ∷ rules) e = pick (λ t. some_from s rules t) (or_cases _ _ 
     pick ih (inl t) = (0, omega arith, eqb-true (lhs_of rule) s t)
     pick ih (inr t) = let r = ih t in (suc r.0, omega arith, r.2)
 
-terminal_from : (g : Grammar) (s : ℕ) → is_terminal g s ≡ true → IsTerminal g s
+pub terminal_from : (g : Grammar) (s : ℕ) → is_terminal g s ≡ true → IsTerminal g s
 terminal_from g s e = none_from s g.rules (not-true _ e)
 
-no_terminal_from : (g : Grammar) (s : ℕ) → is_terminal g s ≡ false → IsTerminal g s → ⊥
+pub no_terminal_from : (g : Grammar) (s : ℕ) → is_terminal g s ≡ false → IsTerminal g s → ⊥
 no_terminal_from g s e t = let r = some_from s g.rules (not-false _ e) in t r.0 r.1 r.2
 
 is_terminal_from : (g : Grammar) (s : ℕ) → IsTerminal g s → is_terminal g s ≡ true

@@ -110,7 +110,7 @@ module _ (g : FlatGrammar) where
       (1, round)
 
   module _ (marks : MarksAreClosed g) where
-    marked_back : (k : ℕ) (slot : Slot) → IsNullableIn k (grammar_view g) slot → IsNullable g slot.symbol
+    pub marked_back : (k : ℕ) (slot : Slot) → IsNullableIn k (grammar_view g) slot → IsNullable g slot.symbol
     marked_back zero slot n = absurd n
     marked_back (suc k) slot (i, lt, fits, how) = go (λ slot n. marked_back k slot n) (kind_of i lt) how
       where

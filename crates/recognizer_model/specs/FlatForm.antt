@@ -2,20 +2,22 @@
 -- copied for each slot that it fits. A sequence rule makes lists, a symbol of its own, which grow by one item at their end.
 -- Only slots that are accessible and productive count, and rules that are live.
 -- Sources: the Libmarpa manual (sequence rules are rewritten); the levels are those of precedenced statements.
-use Rattle.std.specs.Prelude.{◌≡◌, ◌≢◌, ℕ, suc, ◌<◌, ◌↔◌, ◌⊎◌, Bool, true, false, cond, IsFalse, IsTrue, List, [], ◌∷◌, length, map, Option, Some, None, slice_get, slice_index_or, AllPairs}
-use Rattle.std.specs.declared.cmp.Ordering.{Ordering}
-use Rattle.std.specs.declared.cmp.Ordering.TheVariants.{Less, Greater}
+use Rattle.std.specs.Prelude.{◌≡◌, ◌≢◌, ℕ, suc, ◌+◌, ◌<◌, ◌↔◌, ◌⊎◌, Bool, true, false, cond, IsFalse, IsTrue, List, [], ◌∷◌, length, map, Option, Some, None, slice_get, slice_index_or, AllPairs}
 use Rattle.std.specs.Ordering.{ordering_then, nat_cmp}
 use Rattle.grammar_model.specs.Grammar.{PlainRule, SequenceRule, WrittenRule, Plain, Grammar, rule_at, slot_of, Fits, child_slot}
 use Rattle.grammar_model.specs.Grammar
 use Rattle.grammar_model.specs.Trees.{Tree, Children, Leaf, Nulled, Node, NoChild, Child}
 use Rattle.grammar_model.specs.Analysis.{IsProductive, IsAccessible, IsLive}
 use Rattle.grammar_model.specs.Analysis
-use Rattle.grammar_model.specs.Derives.{Edges, Derives}
+use Rattle.grammar_model.specs.Derives.{Edges, Held, Derives}
+use Rattle.grammar_model.specs.declared.Edge.{Edge}
+use Rattle.grammar_model.specs.Checked.{IsChecked}
+use Rattle.grammar_model.specs.Acceptable.{IsAcceptable}
 use Rattle.grammar_model.specs.declared.Ranking.{Ranking}
 use Rattle.grammar_model.specs.Order.{RuleOrder, rule_cmp, rank_order, tree_cmp}
 use Rattle.recognizer_model.specs.Flat.{FlatGrammar, FlatSymbol, Terminal, Slot, Sequence, Top, FlatSource, Written, OfStart, FlatRule, IsRule, lhs_of, rhs_of, source_of}
 use Rattle.recognizer_model.specs.View.{grammar_view}
+use Rattle.recognizer_model.specs.Invariant.{IsFlat}
 use Rattle.recognizer_model.specs.Counts.{IsListOf}
 
 -- WHICH SYMBOLS AND RULES
@@ -153,26 +155,21 @@ FlatEdges f edge x from to = (t : ℕ) × (slice_get f.symbols x ≡ Some (Termi
 
 -- THE ORDER OF FLAT RULES
 
--- by what the rules come from, and of a list's two rules the longer one first
-abbrev pub source_cmp : Grammar → Ranking → FlatGrammar → (r m s n : ℕ) → Ordering
-source_cmp w ranking f r m s n =
-    cond (is_list (symbol_at f (lhs_of f r))) (nat_cmp (length (rhs_of f s)) (length (rhs_of f r))) (by (source_of f r) (source_of f s))
-  where
-    by : FlatSource → FlatSource → Ordering
-    by (Written i) (Written j) = rule_cmp w ranking i m j n
-    by (OfStart k) (Written j) = Less
-    by (Written i) (OfStart l) = Greater
-    by (OfStart k) (OfStart l) = nat_cmp k l
+-- a top's rule counts as a rule behind the last one
+abbrev pub source_number : Grammar → FlatSource → ℕ
+source_number w (Written i) = i
+source_number w (OfStart k) = length w.rules + k
 
-abbrev pub null_high_by : Grammar → FlatSource → Bool
-null_high_by w (Written i) = Grammar.null_high_of (rule_at w i)
-null_high_by w (OfStart k) = false
+-- the length of a list's rule
+abbrev pub list_length : FlatGrammar → ℕ → ℕ
+list_length f r = cond (is_list (symbol_at f (lhs_of f r))) (length (rhs_of f r)) 0
 
--- the declared order of the flat rules of one left side
+-- the declared order of the flat rules of one left side: that of what they come from, and of a list's rules the longer one first
 abbrev pub flat_order : Grammar → Ranking → FlatGrammar → RuleOrder
 flat_order w ranking f = record {
-  cmp = λ r m s n. ordering_then (nat_cmp (lhs_of f r) (lhs_of f s)) (ordering_then (source_cmp w ranking f r m s n) (nat_cmp r s));
-  null_high = λ r. null_high_by w (source_of f r);
+  cmp = λ r m s n. ordering_then (nat_cmp (lhs_of f r) (lhs_of f s)) (ordering_then (nat_cmp (list_length f s) (list_length f r))
+      (ordering_then (rule_cmp w ranking (source_number w (source_of f r)) m (source_number w (source_of f s)) n) (nat_cmp r s)));
+  null_high = λ r. Grammar.null_high_of (rule_at w (source_number w (source_of f r)));
 }
 
 -- the derivations of the flat grammar stand for those of the written one, each for one, all of them, in the same order
@@ -186,3 +183,15 @@ pub record IsFlatForm (f : FlatGrammar) (w : Grammar) (edge : Edges) (ranking : 
   pub in_order : (x p q : ℕ) (slot : Grammar.Slot) (t u : Tree) → x < length f.symbols → StandsFor w (symbol_at f x) slot →
       Derives (grammar_view f) (FlatEdges f edge) (slot_of x) p q t → Derives (grammar_view f) (FlatEdges f edge) (slot_of x) p q u →
       tree_cmp (flat_order w ranking f) t u ≡ tree_cmp (rank_order w ranking) (tree_of w f t) (tree_of w f u)
+
+-- the flat grammar of a checked grammar is its flat form, over edges that go forward
+abbrev pub FlatGrammarsAreFlatForms : Type 0
+FlatGrammarsAreFlatForms = (f : FlatGrammar) (w : Grammar) (edges : List Edge) (ranking : Ranking) → IsFlat f → IsFlatOf f w → IsChecked w →
+    ((s p q : ℕ) → Held edges s p q → p < q) → IsFlatForm f w (Held edges) ranking
+
+-- a written terminal is acceptable exactly where its flat symbol is
+abbrev pub AcceptableAreFlat : Type 0
+AcceptableAreFlat = (f : FlatGrammar) (w : Grammar) (edges : List Edge) (k start r t place : ℕ) → IsFlat f → IsFlatOf f w → IsChecked w →
+    ((s p q : ℕ) → Held edges s p q → p < q) → slice_get w.starts k ≡ Some start → slice_get f.tops k ≡ Some r →
+    IsAcceptable w (Held edges) start t place
+    ↔ ((x : ℕ) × (slice_get f.symbols x ≡ Some (Terminal t)) × IsAcceptable (grammar_view f) (FlatEdges f (Held edges)) (lhs_of f r) x place)

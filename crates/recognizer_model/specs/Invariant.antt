@@ -1,7 +1,7 @@
 -- What is always so of a flat grammar: what recognizers, forests and reports rest on.
 -- Source: the Libmarpa manual (precomputation of grammars); the marks are Aycock and Horspool's (2002) nullable symbols.
-use Rattle.std.specs.Prelude.{◌≡◌, ◌≢◌, ℕ, ◌+◌, ◌<◌, ◌^◌, length, Some, slice_get}
-use Rattle.recognizer_model.specs.Flat.{FlatGrammar, FlatSymbol, Sequence, Slot, Top, FlatSource, Written, OfStart, IsRule, lhs_of, rhs_of, part_of, source_of, IsNullable}
+use Rattle.std.specs.Prelude.{◌≡◌, ◌≢◌, ℕ, ◌<◌, ◌≤◌, ◌^◌, length, Some, slice_get}
+use Rattle.recognizer_model.specs.Flat.{FlatGrammar, FlatSymbol, Terminal, Sequence, Slot, Top, FlatSource, Written, OfStart, IsRule, lhs_of, rhs_of, part_of, source_of, IsNullable}
 use Rattle.recognizer_model.specs.Contexts.{IsTop}
 use Rattle.recognizer_model.specs.Acceptable.{IsTerminal, IsProductive, MarksAreClosed, NoTerminalHasRules, TerminalsSpan}
 
@@ -56,3 +56,8 @@ pub record IsFlat (f : FlatGrammar) : Type 0 where
   pub heights : HasHeights f
   pub productive : (x : ℕ) → x < length f.symbols → IsProductive f x
   pub accessible : (x : ℕ) → x < length f.symbols → IsAccessible f x
+
+-- how the symbols and rules are arranged, so that they are found by halving: terminals first, by number, and the rules by left side
+pub record IsArranged (f : FlatGrammar) : Type 0 where
+  pub terminals : (x y t : ℕ) → x < y → slice_get f.symbols y ≡ Some (Terminal t) → (s : ℕ) × (slice_get f.symbols x ≡ Some (Terminal s)) × (s < t)
+  pub rules : (r s : ℕ) → r < s → IsRule f s → lhs_of f r ≤ lhs_of f s

@@ -33,9 +33,20 @@ pub struct ReportLine {
 ghost use Rattle.std.specs.Prelude.{ℕ, List};
 ghost use Rattle.recognizer_model.specs.Flat.{FlatGrammar};
 ghost use Rattle.grammar_model.specs.declared.Edge.{Edge};
+ghost use Rattle.recognizer_model.specs.FlatForm.{FlatGrammarsAreFlatForms, AcceptableAreFlat};
 ghost use Rattle.recognizer_model.specs.Laws.{AreTokens, IsSound, EarleyLaws};
 
 /// The theorems on item sets, reduced sets, acceptable terminals and used nodes.
 pub fn earley_laws()
     ensures { (g : FlatGrammar) (edges : List Edge) (top : ℕ) → IsSound g top → AreTokens g edges → EarleyLaws g edges top }
+{}
+
+/// What flat derivations stand for are the written grammar's derivations, one to one and in the declared order.
+pub fn flat_grammars_are_flat_forms()
+    ensures { FlatGrammarsAreFlatForms }
+{}
+
+/// A terminal of the written grammar is acceptable exactly where its flat symbol is.
+pub fn acceptable_are_flat()
+    ensures { AcceptableAreFlat }
 {}
