@@ -7,6 +7,8 @@ ghost use Rattle.grammar_model.specs.Simple.{IsSimple};
 ghost use Rattle.grammar_model.specs.Characters.{IsAllOfCharacters, tree_line};
 ghost use Rattle.tree_iter.specs.Listing.{trees_of, line_of};
 
+mod cells;
+
 use grammar_core::Written;
 use std::alloc::{AllocError, Global};
 

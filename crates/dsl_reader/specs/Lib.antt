@@ -1,0 +1,3 @@
+pub mod SimpleNumbers
+pub mod SimpleReading
+pub mod SimpleSeen

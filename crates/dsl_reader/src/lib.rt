@@ -1,0 +1,17 @@
+//! Grammars read from their texts.
+#![tactic(auto)]
+
+mod conditions;
+mod laws;
+mod lines;
+mod numbers;
+mod part;
+mod refusal;
+mod simple;
+
+#[cfg(test)]
+mod tests;
+
+pub use laws::{lines_are_read, rows_make_the_grammar, simple_grammar_is_one, simple_text_is_decided};
+pub use refusal::SimpleRefusal;
+pub use simple::parse_simple;
