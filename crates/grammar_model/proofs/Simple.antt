@@ -130,7 +130,7 @@ terminal_from g s e = none_from s g.rules (not-true _ e)
 pub no_terminal_from : (g : Grammar) (s : ℕ) → is_terminal g s ≡ false → IsTerminal g s → ⊥
 no_terminal_from g s e t = let r = some_from s g.rules (not-false _ e) in t r.0 r.1 r.2
 
-is_terminal_from : (g : Grammar) (s : ℕ) → IsTerminal g s → is_terminal g s ≡ true
+pub is_terminal_from : (g : Grammar) (s : ℕ) → IsTerminal g s → is_terminal g s ≡ true
 is_terminal_from g s t = go (is_terminal g s) refl
   where
     go : (b : Bool) → is_terminal g s ≡ b → b ≡ true
@@ -146,7 +146,7 @@ from_fits rule slot f = and_from _ _ (eq-eqb _ _ f.0) (le-leb _ _ f.1)
 -- ---- simple grammars
 
 -- what a simple rule's parts are
-simple_parts : (g : Grammar) (rule : WrittenRule) → IsSimpleRule g rule → 0 < part_count rule
+pub simple_parts : (g : Grammar) (rule : WrittenRule) → IsSimpleRule g rule → 0 < part_count rule
 simple_parts g (Plain r) s = ⊎_elim (λ h. let e = h.0 in omega arith) (λ h. omega arith) s.2
 simple_parts g (Sequence r) h = absurd h
 

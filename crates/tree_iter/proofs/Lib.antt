@@ -1,1 +1,4 @@
 pub mod Arena
+pub mod Held
+pub mod Building
+pub mod Lines

@@ -1,3 +1,4 @@
 pub mod Arena
 pub mod Listing
 pub mod Adding
+pub mod Table
