@@ -137,10 +137,10 @@ is_terminal_from g s t = go (is_terminal g s) refl
     go true e = refl
     go false e = absurd (no_terminal_from g s e t)
 
-fits_from : (rule : WrittenRule) (slot : Slot) → fits rule slot ≡ true → Fits rule slot
+pub fits_from : (rule : WrittenRule) (slot : Slot) → fits rule slot ≡ true → Fits rule slot
 fits_from rule slot e = let b = and_parts _ _ e in (eqb-true _ _ b.0, leb-true _ _ b.1)
 
-from_fits : (rule : WrittenRule) (slot : Slot) → Fits rule slot → fits rule slot ≡ true
+pub from_fits : (rule : WrittenRule) (slot : Slot) → Fits rule slot → fits rule slot ≡ true
 from_fits rule slot f = and_from _ _ (eq-eqb _ _ f.0) (le-leb _ _ f.1)
 
 -- ---- simple grammars

@@ -13,6 +13,7 @@ use Rattle.grammar_model.specs.Derives.{Edges, Held, Derives}
 use Rattle.grammar_model.specs.declared.Edge.{Edge}
 use Rattle.grammar_model.specs.Checked.{IsChecked}
 use Rattle.grammar_model.specs.Acceptable.{IsAcceptable}
+use Rattle.grammar_model.specs.All.{IsAll}
 use Rattle.grammar_model.specs.declared.Ranking.{Ranking}
 use Rattle.grammar_model.specs.Order.{RuleOrder, rule_cmp, rank_order, tree_cmp}
 use Rattle.recognizer_model.specs.Flat.{FlatGrammar, FlatSymbol, Terminal, Slot, Sequence, Top, FlatSource, Written, OfStart, FlatRule, IsRule, lhs_of, rhs_of, source_of}
@@ -195,3 +196,8 @@ AcceptableAreFlat = (f : FlatGrammar) (w : Grammar) (edges : List Edge) (k start
     ((s p q : ℕ) → Held edges s p q → p < q) → slice_get w.starts k ≡ Some start → slice_get f.tops k ≡ Some r →
     IsAcceptable w (Held edges) start t place
     ↔ ((x : ℕ) × (slice_get f.symbols x ≡ Some (Terminal t)) × IsAcceptable (grammar_view f) (FlatEdges f (Held edges)) (lhs_of f r) x place)
+
+-- the derivations of a checked grammar's slots that count have exactly one list; that there is no other is a law of lists
+abbrev pub ListsExist : Type 0
+ListsExist = (f : FlatGrammar) (w : Grammar) (edges : List Edge) (ranking : Ranking) → IsFlat f → IsFlatOf f w → IsChecked w → ((s p q : ℕ) → Held edges s p q → p < q) →
+    (x : ℕ) (slot : Grammar.Slot) (p q : ℕ) → x < length f.symbols → StandsFor w (symbol_at f x) slot → (trees : List Tree) × IsAll w (Held edges) (rank_order w ranking) slot p q trees

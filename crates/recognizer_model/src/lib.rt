@@ -33,7 +33,7 @@ pub struct ReportLine {
 ghost use Rattle.std.specs.Prelude.{ℕ, List};
 ghost use Rattle.recognizer_model.specs.Flat.{FlatGrammar};
 ghost use Rattle.grammar_model.specs.declared.Edge.{Edge};
-ghost use Rattle.recognizer_model.specs.FlatForm.{FlatGrammarsAreFlatForms, AcceptableAreFlat};
+ghost use Rattle.recognizer_model.specs.FlatForm.{FlatGrammarsAreFlatForms, AcceptableAreFlat, ListsExist};
 ghost use Rattle.recognizer_model.specs.Laws.{AreTokens, IsSound, EarleyLaws};
 
 /// The theorems on item sets, reduced sets, acceptable terminals and used nodes.
@@ -49,4 +49,9 @@ pub fn flat_grammars_are_flat_forms()
 /// A terminal of the written grammar is acceptable exactly where its flat symbol is.
 pub fn acceptable_are_flat()
     ensures { AcceptableAreFlat }
+{}
+
+/// The derivations of a checked grammar have a list, whatever the edges.
+pub fn lists_exist()
+    ensures { ListsExist }
 {}

@@ -1,0 +1,39 @@
+use Rattle.std.proofs.Common.{refl}
+use Rattle.value_text.proofs.Rest.{close_list, next_item, less_left, open_lists_again, first_open_id, lists_below, extended_through, one_longer, longer_through}
+use Rattle.value_text.proofs.text.append_value.Goals as goal
+
+pub loop-list-smaller-in_default-split_first : goal.loop-list-smaller-in_default-split_first
+loop-list-smaller-in_default-split_first c =
+    less_left _ _ _ _ _ c.loop-list.invariant.written
+    (close_list _ _ _ _ _ _ _ c.in-Some.ensures.items c.in_default-split_first.ensures.cases c.in_ok-append.ensures.ok c.loop-list.invariant.written)
+    (one_longer _ _ _ c.in_ok-append.ensures.ok)
+
+pub loop-list-preserved-in_default-split_first : goal.loop-list-preserved-in_default-split_first
+loop-list-preserved-in_default-split_first c = record {
+  written = close_list _ _ _ _ _ _ _ c.in-Some.ensures.items c.in_default-split_first.ensures.cases c.in_ok-append.ensures.ok c.loop-list.invariant.written;
+  extended = extended_through _ _ _ c.loop-list.invariant.extended c.append.ensures.extended;
+  lists = lists_below _ _ _ _ c.in-Some.ensures.items c.loop-list.invariant.lists;
+}
+
+pub append_start-requires-in-Some-clause-id : goal.append_start-requires-in-Some-clause-id
+append_start-requires-in-Some-clause-id c = first_open_id _ _ _ _ _ _ c.in-Some.ensures.items c.in-Some-split_first.ensures.cases.0 c.loop-list.invariant.lists
+
+pub append_start-requires-in-Some-clause-lists : goal.append_start-requires-in-Some-clause-lists
+append_start-requires-in-Some-clause-lists c =
+    open_lists_again _ _ _ _ _ _ _ c.in-Some.ensures.items c.in-Some-split_first.ensures.cases.0 c.in_ok-push.ensures.items c.loop-list.invariant.lists
+
+pub loop-list-smaller : goal.loop-list-smaller
+loop-list-smaller c =
+    less_left _ _ _ _ _ c.loop-list.invariant.written
+    (next_item _ _ _ c.append_start-in-Some.new.out.items _ _ _ _ c.append_start-in-Some.new.lists.items _ _ _ _ c.in-Some.ensures.items c.in-Some-split_first.ensures.cases.0 c.in_ok-append_comma.ensures.ok c.in_ok-push.ensures.items refl refl
+    c.in_ok-append_start-2.ensures.ok c.loop-list.invariant.written)
+    (longer_through _ _ _ c.append_comma.ensures.extended c.in_ok-append_start-2.ensures.longer)
+
+pub loop-list-preserved : goal.loop-list-preserved
+loop-list-preserved c = record {
+  written =
+      next_item _ _ _ c.append_start-in-Some.new.out.items _ _ _ _ c.append_start-in-Some.new.lists.items _ _ _ _ c.in-Some.ensures.items c.in-Some-split_first.ensures.cases.0 c.in_ok-append_comma.ensures.ok c.in_ok-push.ensures.items refl refl
+      c.in_ok-append_start-2.ensures.ok c.loop-list.invariant.written;
+  extended = extended_through _ _ _ (extended_through _ _ _ c.loop-list.invariant.extended c.append_comma.ensures.extended) c.append_start-in-Some.ensures.extended;
+  lists = c.append_start-in-Some.ensures.lists;
+}

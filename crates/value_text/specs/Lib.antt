@@ -1,0 +1,5 @@
+pub mod Meaning
+pub mod ValueCode
+pub mod Nodes
+pub mod Pool
+pub mod Parts
