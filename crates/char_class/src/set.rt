@@ -1,7 +1,10 @@
 //! A class that is ready to be asked.
 ghost use Rattle.std.specs.Prelude.{◌≡◌, ◌≤◌, ◌<◌, ◌↔◌, ℕ, length, chars, IsTrue, IfOk, not, ◌||◌, if◌then◌else◌};
+ghost use Rattle.std.specs.Prelude.{map, nat_lt, true, false, [], ◌∷◌, ◌-◌, take, drop};
+ghost use Rattle.std.specs.List.Sorted.{IsPartitionedBy, IsPartitionPoint};
 ghost use Rattle.std.specs.Char.{IsScalar};
 ghost use Rattle.std.specs.Int.{bit_at};
+ghost use Rattle.language_model.specs.declared.class.ClassItem.TheVariants.{Span};
 ghost use Rattle.language_model.specs.Classes.{Class, class_of, class_of_char, HasMember, some_item_has, modifier_len, between_brackets, without_caret};
 ghost use Rattle.char_class.specs.Reading.{Refuses, RefusedAs};
 ghost use Rattle.char_class.specs.Members.{bit_of, has_code, folded_has, HasBits, HasCodes, Rises};
@@ -86,6 +89,54 @@ fn folded_codes(alloc: Global, items: &[ClassItem]) -> Result<Vec<u32>, AllocErr
     Ok(folded)
 }
 
+fn codes_where(alloc: Global, caseless: bool, items: &[ClassItem]) -> Result<Vec<u32>, AllocError>
+    ensures codes { IfOk result (λ folded. HasCodes caseless items.now folded.items) }
+    ensures sorted { IfOk result (λ folded. Rises folded.items) }
+{
+    if caseless {
+        folded_codes(alloc, items)
+    } else {
+        Ok(Vec::new(alloc))
+    }
+}
+
+// How many pairs from the front on have a first code below this one.
+fn count_below(pairs: &[(u32, u32)], code: u32) -> usize
+    requires { IsPartitionedBy (λ pair. nat_lt pair.0 code) pairs.now }
+    ensures bound { result ≤ length pairs.now }
+    ensures split { IsPartitionPoint (λ pair. nat_lt pair.0 code ≡ true) (λ pair. nat_lt pair.0 code ≡ false) pairs.now result }
+{
+    pairs.partition_point(|pair| pair.0 < code)
+}
+
+// The second codes of the pairs from one place to another.
+fn seconds(
+    alloc: Global,
+    pairs: &[(u32, u32)],
+    from: usize,
+    to: usize,
+) -> Result<Vec<u32>, AllocError>
+    requires order { from ≤ to }
+    requires fits { to ≤ length pairs.now }
+    ensures { IfOk result (λ v. v.items ≡ map (λ pair. pair.1) (take (to - from) (drop from pairs.now))) }
+{
+    pairs[from..to].iter().map(|pair| pair.1).collect(alloc)
+}
+
+// The codes that share their simple folding with another character's, sorted.
+fn codes_of_char(alloc: Global, c: char) -> Result<Vec<u32>, AllocError>
+    ensures codes { IfOk result (λ others. (x : ℕ) → has_code others.items x ≡ folded_has (Span c c ∷ []) x) }
+    ensures sorted { IfOk result (λ others. Rises others.items) }
+{
+    let pairs = fold_pairs();
+    let code = c as u32;
+    let from = count_below(pairs, code);
+    let to = count_below(pairs, code + 1);
+    let mut others = seconds(alloc, pairs, from, to)?;
+    others.sort()?;
+    Ok(others)
+}
+
 fn is_among(codes: &[u32], code: u32) -> bool
     requires { Rises codes.now }
     ensures { result ≡ has_code codes.now code }
@@ -115,27 +166,19 @@ fn ascii_bits(negated: bool, items: &[ClassItem], folded: &[u32]) -> u128
 }
 
 impl CharSet {
-    fn of_items(
-        alloc: Global,
-        negated: bool,
-        caseless: bool,
-        items: Vec<ClassItem>,
-    ) -> Result<CharSet, AllocError>
-        ensures { IfOk result (λ s. s ≡ record { negated = negated; caseless = caseless; items = items.items }) }
+    fn of_items(negated: bool, caseless: bool, items: Vec<ClassItem>, folded: Vec<u32>) -> CharSet
+        requires codes { HasCodes caseless items.items folded.items }
+        requires sorted { Rises folded.items }
+        ensures { result ≡ record { negated = negated; caseless = caseless; items = items.items } }
     {
-        let folded = if caseless {
-            folded_codes(alloc, &items)?
-        } else {
-            Vec::new(alloc)
-        };
         let ascii = ascii_bits(negated, &items, &folded);
-        Ok(CharSet {
+        CharSet {
             negated,
             caseless,
             items,
             folded,
             ascii,
-        })
+        }
     }
 
     /// Whether the character is a member.
@@ -200,7 +243,10 @@ fn class_of(alloc: Global, text: &[char]) -> Result<CharSet, ClassRefusal>
     let caseless = modifier_len(text) > 0;
     let pieces = pieces_of(alloc, without_caret(inner))?;
     match items_of(alloc, &pieces) {
-        Ok(items) => Ok(CharSet::of_items(alloc, negated, caseless, items)?),
+        Ok(items) => {
+            let folded = codes_where(alloc, caseless, &items)?;
+            Ok(CharSet::of_items(negated, caseless, items, folded))
+        }
         Err(error) => Err(refusal_of(error)),
     }
 }
@@ -225,5 +271,10 @@ pub fn set_of_char(alloc: Global, c: char, caseless: bool) -> Result<CharSet, Al
 {
     let mut items = Vec::new(alloc);
     items.push(ClassItem::Span(c, c))?;
-    CharSet::of_items(alloc, false, caseless, items)
+    let folded = if caseless {
+        codes_of_char(alloc, c)?
+    } else {
+        Vec::new(alloc)
+    };
+    Ok(CharSet::of_items(false, caseless, items, folded))
 }
