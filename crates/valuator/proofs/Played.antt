@@ -106,7 +106,7 @@ pub told_rule : (show : Show) (g : Grammar) (m : Meaning) (chars : List ℕ) (sp
     new ≡ replace_newest n (value_of_rule show g m (tokens_of chars spans) rule n from to) old
 told_rule show g m chars spans old new rule n from to name shown d end action nm sh b en ac count e =
     let at : (get_or spans from d).start ≡ (token_at (tokens_of chars spans) from).start =
-          ap (λ (t : Token). t.start) (sym (get_or-mapped (token_of chars) spans from d (record { start = 0; length = 0; text = [] }) b)) in
+    ap (λ (t : Token). t.start) (sym (get_or-mapped (token_of chars) spans from d (record { start = 0; length = 0; text = [] }) b)) in
     e ∙ (λ i. replace_newest (count i) (rule_value show rule (nm i) (sh i) (at i) (en i - at i) from (to - from) (ac i)) old)
 
 pub meaning_found : (m : MeaningCode) (all : List RuleMeaningCode) (i j : ℕ) (item : RuleMeaningCode) → all ≡ m.rules → i ≡ j → j < length m.rules → item ≡ get_or all i item → meaning_at (meaning_of m) j ≡ rule_meaning_of item
