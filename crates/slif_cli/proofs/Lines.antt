@@ -1,14 +1,5 @@
 -- Lines that are written one after the other.
 use Rattle.std.proofs.Common.{◌≡◌, ℕ, zero, suc, ◌+◌, List, [], ◌∷◌, ◌++◌, Option, Some, take, refl, sym, ap, ◌∙◌, append_assoc, append-nil, slice_get, arith, subst, map, Result, Ok, Err, OnOk}
-use Rattle.std.proofs.lemmas.Option.{slice_get-map}
-use Rattle.std.specs.Option.{option_map}
-use Rattle.grammar_model.specs.Grammar.{Grammar}
-use Rattle.grammar_model.specs.Trees.{Tree}
-use Rattle.grammar_model.specs.Characters.{IsAllOfCharacters, tree_line}
-use Rattle.tree_iter.specs.declared.SlowList.{SlowList}
-use Rattle.tree_iter.specs.Listing.{trees_of, line_of}
-use Rattle.run_model.specs.Derivations.{Lists}
-use Rattle.slif_cli.specs.Stops.{lines_of}
 use Rattle.std.specs.List.{concat}
 use Rattle.std.specs.Io.KnownBytes.{Appends}
 use Rattle.slif_base.specs.Told.{AppendsPrefix}
@@ -59,18 +50,6 @@ lines_in_front lines k before after whole = let behind = behind_lines lines k in
 pub on_ok_both : {T E : Type 0} {A B C : Type 0} (result : Result T E) → (A → B → C) → OnOk result A → OnOk result B → OnOk result C
 on_ok_both (Ok v) f a b = f a b
 on_ok_both (Err e) f a b = tt
-
-same_map : {A B : Type 0} (f h : A → B) → ((x : A) → f x ≡ h x) → (xs : List A) → map f xs ≡ map h xs
-same_map f h same [] = refl
-same_map f h same (x ∷ xs) = λ i. same x i ∷ same_map f h same xs i
-
--- the lines of a list of all derivations
-pub listed : (g : Grammar) (input : List ℕ) (list : SlowList) → IsAllOfCharacters g input (trees_of list) → ((t : Tree) → line_of list t ≡ tree_line g input t) → Lists g input (lines_of list)
-listed g input list all lines = record { trees = trees_of list; all = all; lines_are = same_map (line_of list) (tree_line g input) lines (trees_of list) }
-
--- the line at a place
-pub line_at : (list : SlowList) (k : ℕ) (t : Tree) → slice_get (trees_of list) k ≡ Some t → slice_get (lines_of list) k ≡ Some (line_of list t)
-line_at list k t e = slice_get-map (line_of list) (trees_of list) k ∙ ap (option_map (line_of list)) e
 
 -- a line behind those before it
 pub one_more_written : (lines : List (List ℕ)) (k : ℕ) (line : List ℕ) (before middle after : Option (List ℕ)) → slice_get lines k ≡ Some line

@@ -6,8 +6,6 @@ use Rattle.slif_base.specs.Causes.{Rose}
 use Rattle.slif_base.specs.Told.{ToldFile, Holds, FileHolds, AppendsPrefix}
 use Rattle.grammar_model.specs.Grammar.{Grammar}
 use Rattle.grammar_model.specs.Simple.{IsSimple}
-use Rattle.tree_iter.specs.declared.SlowList.{SlowList}
-use Rattle.tree_iter.specs.Listing.{trees_of, line_of}
 use Rattle.run_model.specs.Words.{Job}
 use Rattle.run_model.specs.Derivations.{Accepts, AcceptsNothing}
 use Rattle.run_model.specs.Outcome.{Outcome, IsInputOutcome, not_built, no_derivation}
@@ -86,10 +84,6 @@ BytesStop g bytes before after (OpenFault name) = ⊥
 BytesStop g bytes before after ReadFault = ⊥
 BytesStop g bytes before after WriteFault = Rose before.faults after.faults × AppendsFront g (Some bytes) before.bytes after.bytes
 BytesStop g bytes before after NoMemory = AppendsFront g (Some bytes) before.bytes after.bytes
-
--- the lines of a list of derivations
-abbrev pub lines_of : SlowList → List (List ℕ)
-lines_of list = map (line_of list) (trees_of list)
 
 -- where a list's lines were not all written: there is none, or a front of their text was written
 abbrev pub ListStops : List (List ℕ) → Stream → Stream → Stop → Type 0

@@ -4,7 +4,7 @@ ghost use Rattle.std.specs.List.{concat};
 ghost use Rattle.std.specs.Io.KnownBytes.{Appends};
 ghost use Rattle.run_model.specs.Derivations.{IsInput};
 ghost use Rattle.run_model.specs.Outside.{stream};
-ghost use Rattle.slif_cli.specs.Stops.{Derives, IsListable, InputStops, BytesStop, ListStops, lines_of};
+ghost use Rattle.slif_cli.specs.Stops.{Derives, IsListable, InputStops, BytesStop, ListStops};
 
 use crate::stop::{Refusal, Stop};
 use grammar_core::Written;
@@ -68,9 +68,9 @@ fn write_derivations<'a, O: Sink>(
 
 // Writes the lines of a list of derivations, one piece each.
 fn write_list<'a, O: Sink>(alloc: Global, list: &SlowList, out: &mut O) -> Result<(), Stop<'a>>
-    ensures written { OnOk result (Appends (O.contents out.old) (O.contents out.new) (concat (lines_of list.now))) }
-    ensures some { OnOk result (0 < length (lines_of list.now)) }
-    ensures stops { IfErr result (ListStops (lines_of list.now)
+    ensures written { OnOk result (Appends (O.contents out.old) (O.contents out.new) (concat list.now)) }
+    ensures some { OnOk result (0 < length list.now) }
+    ensures stops { IfErr result (ListStops list.now
         (stream O.contents O.fault_count out.old) (stream O.contents O.fault_count out.new)) }
     ensures out_later { O.fault_count out.old ≤ O.fault_count out.new }
 {

@@ -3,3 +3,4 @@ pub mod Held
 pub mod Building
 pub mod BareLines
 pub mod Pooled
+pub mod Listed

@@ -3,3 +3,4 @@ pub mod Listing
 pub mod Adding
 pub mod Table
 pub mod Told
+pub mod Lines

@@ -7,7 +7,7 @@ use Rattle.grammar_model.specs.Values.{Value, value_of, values_of_all}
 use Rattle.grammar_model.specs.Characters.{no_meaning, character_tokens}
 use Rattle.value_text.specs.Nodes.{value_at}
 use Rattle.value_text.specs.Pool.{AreIds}
-use Rattle.tree_iter.specs.declared.SlowList.{SlowList}
+use Rattle.tree_iter.specs.declared.Derivations.{Derivations}
 use Rattle.tree_iter.specs.declared.lines.Told.{Told}
 use Rattle.tree_iter.specs.declared.lines.Told.TheVariants as told
 use Rattle.tree_iter.specs.declared.Cell.{Cell}
@@ -15,13 +15,13 @@ use Rattle.tree_iter.specs.Arena.{Meant}
 use Rattle.tree_iter.specs.Adding.{at}
 use Rattle.tree_iter.specs.Listing.{bare_rule}
 
-abbrev pub grammar_of : SlowList → Grammar
+abbrev pub grammar_of : Derivations → Grammar
 grammar_of list = record { names = map string_bytes list.names.items; rules = map bare_rule list.lefts.items; starts = [] }
 
-abbrev pub tree_value : SlowList → Tree → Value
+abbrev pub tree_value : Derivations → Tree → Value
 tree_value list t = value_of ShowTree (grammar_of list) no_meaning (character_tokens 0 list.input.items) t
 
-abbrev pub front_values : SlowList → Children → List Value
+abbrev pub front_values : Derivations → Children → List Value
 front_values list cs = values_of_all ShowTree (grammar_of list) no_meaning (character_tokens 0 list.input.items) cs
 
 -- the values of a pool stay
@@ -44,7 +44,7 @@ IsValueId (told.Value k) id = id ≡ k
 IsValueId (told.Front v) id = ⊥
 
 -- what was told of a cell
-abbrev pub IsTold : SlowList → List Value → Told → Meant → Type 0
+abbrev pub IsTold : Derivations → List Value → Told → Meant → Type 0
 IsTold list pool (told.Value id) m = (id < length pool) × (value_at pool id ≡ tree_value list m.tree)
 IsTold list pool (told.Front ids) m = AreIds pool ids.items × (map (value_at pool) ids.items ≡ front_values list m.front)
 
@@ -59,5 +59,9 @@ pub record IsValueTold (xs : List Told) (k id : ℕ) : Type 0 where
   pub value : IsValueId cell id
 
 -- each of the first cells was told
-abbrev pub AllTold : SlowList → List Value → List Told → List Cell → Type 0
+abbrev pub AllTold : Derivations → List Value → List Told → List Cell → Type 0
 AllTold list pool xs cells = (length xs ≡ length cells) × ((j : ℕ) (x : Told) → slice_get xs j ≡ Some x → IsTold list pool x (at cells j))
+
+-- the ids are those of the values that were told of these places
+abbrev pub AreValuesTold : List Told → (trees ids : List ℕ) → Type 0
+AreValuesTold xs trees ids = (length ids ≡ length trees) × ((j id : ℕ) → slice_get ids j ≡ Some id → (k : ℕ) × (slice_get trees j ≡ Some k) × IsValueTold xs k id)

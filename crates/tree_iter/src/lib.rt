@@ -1,7 +1,7 @@
 //! The lists of derivations: so far of simple grammars, each derivation built whole.
 #![tactic(auto)]
 
-ghost use Rattle.std.specs.Prelude.{◌≡◌, ◌<◌, ◌≤◌, ℕ, ◌++◌, length, All, IfOk, OnOk, OnErr, slice_get, Some, List, map, string_bytes};
+ghost use Rattle.std.specs.Prelude.{◌≡◌, ◌<◌, ◌≤◌, ℕ, length, All, IfOk, slice_get, Some, map, string_bytes};
 ghost use Rattle.grammar_model.specs.Grammar.{lhs_of, slot_of};
 ghost use Rattle.tree_iter.specs.Arena.{tree_at};
 ghost use Rattle.tree_iter.specs.Table.{listed};
@@ -12,18 +12,18 @@ ghost use Rattle.tree_iter.specs.Listing.{trees_of, line_of};
 
 mod cells;
 mod lines;
+mod list;
 mod lister;
 mod rules;
 mod store;
 
-use crate::lines::{append_value_line, tell_cells, value_told};
 use crate::lister::list_at;
 use crate::rules::left_of;
 use crate::store::Store;
 use grammar_core::{SymbolId, Written};
 use indexmap::IndexMap;
+pub use list::{SlowList, list_simple};
 use std::alloc::{AllocError, Global};
-use value_text::Pool;
 
 /// A tree, or the first children of one. A cell names others by their places in the list of cells, and they are earlier ones.
 #[derive(Clone, Copy)]
@@ -38,9 +38,9 @@ pub enum Cell {
     Next(u32, u32),
 }
 
-/// All derivations of an input, in the declared order.
+/// All derivations of an input, in the declared order, and what their lines are made of.
 #[derive(Drop)]
-pub struct SlowList {
+pub struct Derivations {
     names: Vec<String>,
     lefts: Vec<u32>,
     input: Vec<u8>,
@@ -117,8 +117,8 @@ fn trees_in_cells(
     Ok((store.cells, trees))
 }
 
-/// The derivations of the input, whose bytes are the tokens, from the grammar's first start.
-pub fn list_simple(alloc: Global, w: &Written, input: &[u8]) -> Result<SlowList, AllocError>
+// The derivations of the input from the grammar's first start.
+fn derive(alloc: Global, w: &Written, input: &[u8]) -> Result<Derivations, AllocError>
     requires simple { IsSimple w.now }
     requires started { 0 < length w.now.starts }
     requires short { length input.now ≤ 1000 }
@@ -129,33 +129,11 @@ pub fn list_simple(alloc: Global, w: &Written, input: &[u8]) -> Result<SlowList,
     let names = names_of(alloc, w)?;
     let lefts = lefts_of(alloc, w)?;
     let (cells, trees) = trees_in_cells(alloc, w, input)?;
-    Ok(SlowList {
+    Ok(Derivations {
         names,
         lefts,
         input: copied_bytes(alloc, input)?,
         cells,
         trees,
     })
-}
-
-impl SlowList {
-    /// How many derivations there are.
-    pub fn len(&self) -> usize
-        ensures { result ≡ length (trees_of self.now) }
-    {
-        self.trees.len()
-    }
-
-    /// Appends the line of a derivation, with its line feed.
-    pub fn append_line(&self, k: usize, out: &mut Vec<u8>) -> Result<(), AllocError>
-        requires { k < length (trees_of self.now) }
-        ensures ok { OnOk result ((t : Tree) × (slice_get (trees_of self.now) k ≡ Some t) × (out.new.items ≡ out.old.items ++ line_of self.now t)) }
-        ensures err { OnErr result (out.new.items ≡ out.old.items) }
-    {
-        let alloc = *self.cells.allocator();
-        let mut pool = Pool::new(alloc);
-        let told = tell_cells(alloc, self, &mut pool)?;
-        let id = value_told(&told, self.trees[k] as usize)?;
-        append_value_line(alloc, &pool, id, out)
-    }
 }

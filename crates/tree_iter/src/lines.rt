@@ -9,7 +9,7 @@ ghost use Rattle.value_text.specs.Pool.{AreIds};
 ghost use Rattle.tree_iter.specs.Told.{grammar_of, tree_value, Puts, Stays, IsTold, IsFrontTold, IsValueTold, AllTold};
 ghost use Rattle.tree_iter.specs.Arena.{meant, meanings};
 
-use crate::{Cell, SlowList};
+use crate::{Cell, Derivations};
 use std::alloc::{AllocError, Global};
 use value_text::{Pool, ValueId, append_text};
 
@@ -21,7 +21,7 @@ pub enum Told {
 }
 
 // The name of a symbol, as a value.
-fn name_value(list: &SlowList, pool: &mut Pool, symbol: usize) -> Result<ValueId, AllocError>
+fn name_value(list: &Derivations, pool: &mut Pool, symbol: usize) -> Result<ValueId, AllocError>
     ensures { IfOk result (λ id. Puts pool.old pool.new id (Text (name_of (grammar_of list.now) symbol))) }
 {
     if symbol >= list.names.len() {
@@ -35,7 +35,7 @@ fn name_value(list: &SlowList, pool: &mut Pool, symbol: usize) -> Result<ValueId
 
 // The value of a leaf.
 fn leaf_value(
-    list: &SlowList,
+    list: &Derivations,
     pool: &mut Pool,
     symbol: u32,
     from: u32,
@@ -77,7 +77,7 @@ fn list_value(pool: &mut Pool, items: &[ValueId]) -> Result<ValueId, AllocError>
 // The value of a rule's node.
 fn node_value(
     alloc: Global,
-    list: &SlowList,
+    list: &Derivations,
     pool: &mut Pool,
     rule: u32,
     children: &[ValueId],
@@ -130,7 +130,7 @@ pub fn value_told(told: &[Told], k: usize) -> Result<ValueId, AllocError>
 // What a cell stands for, from what earlier ones do.
 fn told_of(
     alloc: Global,
-    list: &SlowList,
+    list: &Derivations,
     pool: &mut Pool,
     done: &[Cell],
     told: &[Told],
@@ -180,7 +180,11 @@ pub fn append_value_line(
 }
 
 // What the cells of a list stand for.
-pub fn tell_cells(alloc: Global, list: &SlowList, pool: &mut Pool) -> Result<Vec<Told>, AllocError>
+pub fn tell_cells(
+    alloc: Global,
+    list: &Derivations,
+    pool: &mut Pool,
+) -> Result<Vec<Told>, AllocError>
     requires { pool.old ≡ [] }
     ensures { IfOk result (λ told. AllTold list.now pool.new told.items list.now.cells.items) }
 {

@@ -3,7 +3,7 @@ use Rattle.grammar_model.specs.Trees.{Tree}
 use Rattle.grammar_model.specs.Characters.{IsAllOfCharacters}
 use Rattle.grammar_model.proofs.Characters.{characters_listed}
 use Rattle.tree_iter.proofs.BareLines.{same_line}
-use Rattle.tree_iter.proofs.list_simple.Goals as goal
+use Rattle.tree_iter.proofs.derive.Goals as goal
 
 pub returns-clause-trees : goal.returns-clause-trees
 returns-clause-trees c =
