@@ -45,6 +45,9 @@ const SUM: Given<'static> = Given {
 const SUM_LINES: &[u8] =
     b"[\"E\",0,[\"E\",0,[\"E\",1,[\"'1'\",\"1\"]],[\"'+'\",\"+\"],[\"E\",1,[\"'1'\",\"1\"]]],[\"'+'\",\"+\"],[\"E\",1,[\"'1'\",\"1\"]]]\n[\"E\",0,[\"E\",1,[\"'1'\",\"1\"]],[\"'+'\",\"+\"],[\"E\",0,[\"E\",1,[\"'1'\",\"1\"]],[\"'+'\",\"+\"],[\"E\",1,[\"'1'\",\"1\"]]]]\n";
 
+const LONG_GRAMMAR: &[u8] = &[b'a'; 2001];
+const LONG_INPUT: &[u8] = &[b'1'; 1001];
+
 const NOT_BUILT: &[u8] = b"slif: not built yet\n";
 
 fn end_of<L: Ledger>(alloc: Global, given: &Given<'_>, blank: Blank) -> Result<Ended, AllocError>
@@ -132,9 +135,7 @@ fn answers(rt: HostRuntime) -> Result<(), Fail> {
 
 #[test]
 fn bad_input_is_refused(rt: HostRuntime) -> Result<(), Fail> {
-    let long_grammar = [b'a'; 2001];
-    let long_input = [b'1'; 1001];
-    let rows: [Given<'_>; 9] = [
+    let rows: [Given<'static>; 9] = [
         Given {
             grammar: b"S ::= T\n",
             ..SUM
@@ -148,7 +149,7 @@ fn bad_input_is_refused(rt: HostRuntime) -> Result<(), Fail> {
             ..SUM
         },
         Given {
-            grammar: long_grammar.as_slice(),
+            grammar: LONG_GRAMMAR,
             ..SUM
         },
         Given {
@@ -156,7 +157,7 @@ fn bad_input_is_refused(rt: HostRuntime) -> Result<(), Fail> {
             ..SUM
         },
         Given {
-            input: long_input.as_slice(),
+            input: LONG_INPUT,
             ..SUM
         },
         Given {

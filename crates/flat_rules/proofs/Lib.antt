@@ -1,0 +1,14 @@
+pub mod Arranged
+pub mod FlatOf
+pub mod Heights
+pub mod Instances
+pub mod Law
+pub mod Named
+pub mod Numbered
+pub mod Once
+pub mod Parts
+pub mod Ranges
+pub mod Reach
+pub mod Rules
+pub mod Symbols
+pub mod Whole
