@@ -1,0 +1,23 @@
+-- Rows that are kept end to end, told apart by the places where each ends.
+use Rattle.std.specs.Prelude.{ℕ, ◌≤◌, List, [], ◌∷◌, length, take, drop}
+use Rattle.recognizer_model.specs.declared.Item.{Item}
+use Rattle.earley_sets.specs.declared.rows.Waiting.{Waiting}
+use Rattle.earley_sets.specs.declared.rows.Ends.{Ends}
+use Rattle.earley_sets.specs.Kept.{Kept}
+
+abbrev pub cut : Ends → List Ends → List Item → List Waiting → List Kept
+cut start [] items waiting = []
+cut start (end ∷ ends) items waiting =
+    record { items = drop start.items (take end.items items); waiting = drop start.waiting (take end.waiting waiting) } ∷ cut end ends items waiting
+
+-- the ends rise, up to at most these lengths
+abbrev pub AreEnds : Ends → List Ends → (items waiting : ℕ) → Type 0
+AreEnds start [] items waiting = (start.items ≤ items) × (start.waiting ≤ waiting)
+AreEnds start (end ∷ ends) items waiting = (start.items ≤ end.items) × (start.waiting ≤ end.waiting) × AreEnds end ends items waiting
+
+abbrev pub start : Ends
+start = record { items = 0; waiting = 0 }
+
+abbrev pub last_end : Ends → List Ends → Ends
+last_end start [] = start
+last_end start (end ∷ ends) = last_end end ends

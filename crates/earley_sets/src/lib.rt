@@ -1,0 +1,10 @@
+//! A recognizer with full Earley sets over any flat grammar, which tells exactly the terminals that some continuation takes.
+#![tactic(auto)]
+
+
+
+
+
+mod rows;
+
+
