@@ -1,5 +1,5 @@
 -- Rows that are kept end to end.
-use Rattle.std.proofs.Common.{◌≡◌, ℕ, zero, suc, ◌+◌, ◌-◌, ◌<◌, ◌≤◌, ◌++◌, List, [], ◌∷◌, length, take, drop, get_or, refl, sym, ap, ◌∙◌, subst, arith, Result, Ok, Err, OnErr, length-append, length-take, length-drop}
+use Rattle.std.proofs.Common.{◌≡◌, ℕ, zero, suc, ◌+◌, ◌-◌, ◌<◌, ◌≤◌, ◌++◌, List, [], ◌∷◌, length, take, drop, get_or, refl, sym, ap, ◌∙◌, subst, arith, Result, Ok, Err, OnErr, OnOk, length-append, length-take, length-drop}
 use Rattle.std.proofs.lemmas.List.{drop-take, take-append-le, length-take-le}
 use Rattle.std.proofs.Math.Seq.{take-append_seam, take-length, drop-append_seam}
 use Rattle.recognizer_model.specs.declared.Item.{Item}
@@ -155,3 +155,13 @@ module _ (ends : List Ends) (xs : List Item) (ws : List Waiting) (h : AreEnds st
         ap (λ e. cut start e xs' ws') more ∙ (ap (λ x. cut start (ends ++ new_end ∷ []) x ws') put ∙ (ap (λ w. cut start (ends ++ new_end ∷ []) (take last.items xs ++ row) w) put'
         ∙ subst (λ (z : Ends). cut start (ends ++ new_end ∷ []) (take z.items xs ++ row) (take z.waiting ws ++ waits) ≡ cut start ends xs ws ++ record { items = row; waiting = waits } ∷ []) (sym is)
         (cut_more start ends xs ws h row waits new_end (subst (λ (z : Ends). last.items + n ≡ length (take z.items xs ++ row)) is items_long) (subst (λ (z : Ends). last.waiting + m ≡ length (take z.waiting ws ++ waits)) is waiting_long))))
+
+pub on_ok : {T E P : Type 0} (r : Result T E) → P → OnOk r P
+on_ok (Ok x) p = p
+on_ok (Err e) p = tt
+
+pub take_all : {A : Type 0} (n : ℕ) (xs : List A) → length xs ≤ n → take n xs ≡ xs
+take_all zero [] le = refl
+take_all zero (x ∷ xs) le = absurd (omega arith)
+take_all (suc n) [] le = refl
+take_all (suc n) (x ∷ xs) le = ap (λ l. x ∷ l) (take_all n xs (omega arith))

@@ -1,1 +1,9 @@
 pub mod Cutting
+pub mod Membership
+pub mod Following
+pub mod Listing
+pub mod Adding
+pub mod Growing
+pub mod Loops
+pub mod Scanning
+pub mod Recognizing

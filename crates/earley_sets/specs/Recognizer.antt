@@ -1,13 +1,14 @@
 -- Recognizers: the edges that they hold, and the item sets of all places so far.
 -- Sources: Earley 1970 (item sets); Aycock and Horspool 2002 (nullable symbols); the Libmarpa manual (alternatives, earlemes).
-use Rattle.std.specs.Prelude.{◌≡◌, ℕ, ◌-◌, ◌<◌, ◌≤◌, List, [], length, map, slice_get, slice_index, slice_index_or, Some, Contains}
+use Rattle.std.specs.Prelude.{◌≡◌, ℕ, ◌-◌, ◌+◌, ◌<◌, ◌≤◌, List, [], length, map, slice_get, slice_index, slice_index_or, Some, Contains}
 use Rattle.grammar_model.specs.declared.Edge.{Edge as HeldEdge}
 use Rattle.grammar_model.specs.Grammar.{slot_of}
 use Rattle.grammar_model.specs.Trees.{Tree}
 use Rattle.grammar_model.specs.Derives.{Edges, Held, Derives}
 use Rattle.grammar_model.specs.Acceptable.{IsAcceptable}
 use Rattle.recognizer_model.specs.declared.Item.{Item}
-use Rattle.recognizer_model.specs.Flat.{FlatGrammar, Terminal, lhs_of, rhs_of}
+use Rattle.recognizer_model.specs.Flat.{FlatGrammar, lhs_of, rhs_of}
+use Rattle.recognizer_model.specs.declared.flat.FlatSymbol.TheVariants.{Terminal}
 use Rattle.recognizer_model.specs.FlatForm.{FlatEdges}
 use Rattle.recognizer_model.specs.View.{grammar_view}
 use Rattle.recognizer_model.specs.Invariant.{IsFlat}
@@ -39,6 +40,10 @@ top_of r = slice_index r.flat.tops r.start
 abbrev pub start_symbol : Recognizer → ℕ
 start_symbol r = slice_index (rhs_of r.flat (top_of r)) 0
 
+-- the edge of a terminal that begins at the last place
+abbrev pub new_edge : Recognizer → (t length : ℕ) → HeldEdge
+new_edge r t n = record { symbol = t; from = place_of r; to = place_of r + n }
+
 -- the terminal is acceptable at the last place
 abbrev pub IsExpected : Recognizer → ℕ → Type 0
 IsExpected r t = (x : ℕ) × (slice_get r.flat.symbols x ≡ Some (Terminal t)) × IsAcceptable (grammar_view r.flat) (edges_of r) (lhs_of r.flat (top_of r)) x (place_of r)
@@ -62,4 +67,4 @@ pub record IsKeptBy (r : Recognizer) (rows : List Kept) (top : ℕ) : Type 0 whe
   pub is : IsRecognizer r
   pub indexed : AreIndexed r.flat rows
   pub sets : r.sets ≡ map (λ k. k.items) rows
-  pub top : top ≡ top_of r
+  pub top_is : top ≡ top_of r

@@ -6,18 +6,18 @@ use Rattle.earley_sets.specs.declared.rows.Ends.{Ends}
 use Rattle.earley_sets.specs.Kept.{Kept}
 
 abbrev pub cut : Ends → List Ends → List Item → List Waiting → List Kept
-cut start [] items waiting = []
-cut start (end ∷ ends) items waiting =
-    record { items = drop start.items (take end.items items); waiting = drop start.waiting (take end.waiting waiting) } ∷ cut end ends items waiting
+cut from [] items waiting = []
+cut from (end ∷ ends) items waiting =
+    record { items = drop from.items (take end.items items); waiting = drop from.waiting (take end.waiting waiting) } ∷ cut end ends items waiting
 
 -- the ends rise, up to at most these lengths
 abbrev pub AreEnds : Ends → List Ends → (items waiting : ℕ) → Type 0
-AreEnds start [] items waiting = (start.items ≤ items) × (start.waiting ≤ waiting)
-AreEnds start (end ∷ ends) items waiting = (start.items ≤ end.items) × (start.waiting ≤ end.waiting) × AreEnds end ends items waiting
+AreEnds from [] items waiting = (from.items ≤ items) × (from.waiting ≤ waiting)
+AreEnds from (end ∷ ends) items waiting = (from.items ≤ end.items) × (from.waiting ≤ end.waiting) × AreEnds end ends items waiting
 
 abbrev pub start : Ends
 start = record { items = 0; waiting = 0 }
 
 abbrev pub last_end : Ends → List Ends → Ends
-last_end start [] = start
-last_end start (end ∷ ends) = last_end end ends
+last_end from [] = from
+last_end from (end ∷ ends) = last_end end ends

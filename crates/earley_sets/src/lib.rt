@@ -5,6 +5,12 @@
 
 
 
+mod close;
+mod follow;
+mod index;
+mod recce;
 mod rows;
 
 
+
+pub use recce::{AlternativeRefusal, Recce, SetView};

@@ -71,6 +71,14 @@ impl Flat {
         self.symbols.len()
     }
 
+    /// States what is always so of a flat grammar.
+    pub fn known(&self)
+        ensures flat { IsFlat self.now }
+        ensures arranged { IsArranged self.now }
+    {
+        let _count = self.symbols.len();
+    }
+
     /// What a symbol stands for.
     pub fn symbol(&self, x: u32) -> FlatSymbol
         requires { x < length self.now.symbols }

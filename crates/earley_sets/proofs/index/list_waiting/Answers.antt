@@ -1,0 +1,2 @@
+use Rattle.earley_sets.proofs.index.list_waiting.Goals as goal
+
