@@ -7,3 +7,4 @@ pub mod Growing
 pub mod Loops
 pub mod Scanning
 pub mod Recognizing
+pub mod Awaiting

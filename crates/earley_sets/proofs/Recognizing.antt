@@ -32,10 +32,10 @@ use Rattle.recognizer_model.specs.Contexts.{IsTop, IsFound, AtStart}
 use Rattle.recognizer_model.specs.Counts.{IsListOf}
 use Rattle.recognizer_model.specs.Invariant.{IsFlat}
 use Rattle.earley_sets.specs.declared.rows.Waiting.{Waiting}
-use Rattle.earley_sets.specs.Kept.{Kept, no_items, kept_at, items_at, IsIndexed, AreIndexed}
+use Rattle.earley_sets.specs.Kept.{Kept, no_items, kept_at, items_at, IsIndexed, AreIndexed, IsAwaitedTerminal}
 use Rattle.earley_sets.specs.Scanning.{GoForward, AreSets}
 use Rattle.earley_sets.specs.Recognizer.{Recognizer, IsRecognizer, IsKeptBy, place_of, set_at, edges_of, top_of, start_symbol, IsExpected, HasTree}
-use Rattle.earley_sets.proofs.Membership.{Contains-none, get_at}
+use Rattle.earley_sets.proofs.Membership.{Contains-none, get_at, got_at}
 use Rattle.earley_sets.proofs.Adding.{item_eq, item_eq-laws}
 
 map_length : {A B : Type 0} (f : A → B) (xs : List A) → length (map f xs) ≡ length xs
@@ -214,6 +214,12 @@ module _ (g : FlatGrammar) (start : ℕ) (edges : List HeldEdge) (rows : List Ke
           let (item, i, a) = law.0 (subst (λ T. T) (sym same) (subst (λ z. IsAcceptable (grammar_view g) (FlatEdges g (Held edges)) (lhs_of g (slice_index g.tops start)) z (place_of (recognizer g start edges rows))) e acc)) in
           let w : Waiting = record { symbol = x; item = item } in
           (record { symbol = x; item = item }, ((k.indexed (length rows - 1)).waiting (record { symbol = x; item = item })).1 ((last_set item).1 i, a), refl)
+
+  pub listed_expected : (t : ℕ) → IsAwaitedTerminal g (kept_at rows (length rows - 1)).waiting (length g.symbols) t ↔ IsExpected (recognizer g start edges rows) t
+  listed_expected t = (
+    λ (x, lt, is, a). (awaited_expected x t is).0 a,
+    λ (x, is, acc). (x, (got_at g.symbols x (Terminal t) (Terminal t) (sym is)).0, is, (awaited_expected x t is).1 (x, is, acc)),
+  )
 
   -- a symbol that is no terminal is never expected
   pub never_expected : (t : ℕ) → ((x : ℕ) → slice_get g.symbols x ≢ Some (Terminal t)) → ¬ IsExpected (recognizer g start edges rows) t

@@ -1,5 +1,6 @@
 -- Item sets as they are kept: the items of each, and those that wait for a symbol, in the order of their symbols.
-use Rattle.std.specs.Prelude.{◌≡◌, ℕ, ◌≤◌, List, [], length, map, slice_index_or, Some, Contains, ◌↔◌}
+use Rattle.std.specs.Prelude.{◌≡◌, ℕ, ◌<◌, ◌≤◌, ◌++◌, List, [], ◌∷◌, length, map, slice_index_or, slice_get, Some, Contains, ◌↔◌, ◌⊎◌}
+use Rattle.recognizer_model.specs.declared.flat.FlatSymbol.TheVariants.{Terminal}
 use Rattle.std.specs.List.Sorted.{IsNonDecreasingBy}
 use Rattle.recognizer_model.specs.declared.Item.{Item}
 use Rattle.recognizer_model.specs.Flat.{FlatGrammar, IsRule, rhs_of}
@@ -37,3 +38,17 @@ pub record IsIndexed (g : FlatGrammar) (kept : Kept) : Type 0 where
 
 abbrev pub AreIndexed : FlatGrammar → List Kept → Type 0
 AreIndexed g rows = (i : ℕ) → IsIndexed g (kept_at rows i)
+
+-- an item waits for the symbol
+abbrev pub IsAwaited : List Waiting → ℕ → Type 0
+IsAwaited waiting x = (w : Waiting) × Contains waiting w × (w.symbol ≡ x)
+
+-- an item waits for the terminal, by one of the first symbols
+abbrev pub IsAwaitedTerminal : FlatGrammar → List Waiting → (symbols t : ℕ) → Type 0
+IsAwaitedTerminal g waiting n t = (x : ℕ) × (x < n) × (slice_get g.symbols x ≡ Some (Terminal t)) × IsAwaited waiting x
+
+-- the terminal of the symbol goes last, if there is one and an item waits for it
+abbrev pub AddsAwaited : FlatGrammar → List Waiting → (symbol : ℕ) → (old new : List ℕ) → Type 0
+AddsAwaited g waiting x old new =
+    ((t : ℕ) × (slice_get g.symbols x ≡ Some (Terminal t)) × IsAwaited waiting x × (new ≡ old ++ t ∷ []))
+    ⊎ ((new ≡ old) × ((t : ℕ) → slice_get g.symbols x ≡ Some (Terminal t) → IsAwaited waiting x → ⊥))

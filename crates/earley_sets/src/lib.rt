@@ -6,6 +6,7 @@
 
 
 mod close;
+mod expected;
 mod follow;
 mod index;
 mod recce;

@@ -1,8 +1,6 @@
 //! The recognizer: its edges, and the sets of the places so far.
 ghost use Rattle.std.specs.Prelude.{◌≡◌, ◌≢◌, ℕ, List, ◌+◌, ◌-◌, ◌<◌, ◌≤◌, ◌↔◌, ◌⊎◌, ◌++◌, ◌∷◌, [], length, map, slice_get, slice_index, Some, Err, IsTrue, IfOk, OnOk, OnErr, Contains};
 ghost use Rattle.std.specs.List.{AllPairs};
-ghost use Rattle.std.specs.List.Sorted.{IsNonDecreasingBy};
-ghost use Rattle.earley_sets.specs.declared.rows.Waiting.{Waiting};
 ghost use Rattle.recognizer_model.specs.declared.Item.{Item};
 ghost use Rattle.grammar_model.specs.declared.Edge.{Edge as HeldEdge};
 ghost use Rattle.grammar_model.specs.Derives.{Held};
@@ -17,7 +15,7 @@ ghost use Rattle.earley_sets.specs.Recognizer.{Recognizer, place_of, set_at, edg
 ghost use Rattle.earley_sets.specs.declared.recce.AlternativeRefusal.TheVariants.{Unexpected, Duplicate, BadLength};
 
 use crate::close::make_set;
-use crate::follow::waiting_for;
+use crate::expected::{expected, is_awaited};
 use crate::index::index;
 use crate::rows::{Rows, Waiting};
 use grammar_core::{EdgeRefusal, Flat, SymbolId, TokenEdges};
@@ -208,6 +206,15 @@ impl<'g> Recce<'g> {
         }
     }
 
+    /// The terminals that are acceptable at the place, in the order of their numbers.
+    pub fn expected(&self, alloc: Global) -> Result<Vec<SymbolId>, AllocError>
+        ensures order { IfOk result (λ ts. AllPairs (λ s t. s < t) ts.items) }
+        ensures exact { IfOk result (λ ts. (t : ℕ) → Contains ts.items t ↔ IsExpected self.now t) }
+    {
+        let last = self.rows.len() - 1;
+        expected(alloc, self.flat, self.rows.waiting(last))
+    }
+
     /// Whether a tree of the start spans the edges up to the place.
     pub fn at_end(&self) -> bool
         ensures { IsTrue result ↔ HasTree self.now }
@@ -254,12 +261,4 @@ impl<'g> Recce<'g> {
             Err(EdgeRefusal::NoMemory) => Err(AlternativeRefusal::NoMemory),
         }
     }
-}
-
-// Whether an item waits for the symbol, in a list in order of symbols.
-fn is_awaited(row: &[Waiting], symbol: u32) -> bool
-    requires { IsNonDecreasingBy (λ w. w.symbol) row.now }
-    ensures { IsTrue result ↔ ((w : Waiting) × Contains row.now w × (w.symbol ≡ symbol)) }
-{
-    !waiting_for(row, symbol).is_empty()
 }

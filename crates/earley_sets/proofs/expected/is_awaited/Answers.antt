@@ -2,7 +2,7 @@ use Rattle.std.proofs.Common.{◌≡◌, ◌==◌, ◌↔◌, ℕ, ◌<◌, Bool
 use Rattle.std.proofs.lemmas.Bool.{eqb-true}
 use Rattle.earley_sets.specs.declared.rows.Waiting.{Waiting}
 use Rattle.earley_sets.proofs.Membership.{Contains-none, Contains-first}
-use Rattle.earley_sets.proofs.recce.is_awaited.Goals as goal
+use Rattle.earley_sets.proofs.expected.is_awaited.Goals as goal
 
 some_there : (xs : List Waiting) → IsTrue (not (length xs == 0)) ↔ ((w : Waiting) × Contains xs w)
 some_there [] = ((λ f. absurd (cc)), (λ (w, c). absurd (Contains-none w c)))
