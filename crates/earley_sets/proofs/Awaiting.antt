@@ -22,13 +22,16 @@ module _ (g : FlatGrammar) (arranged : IsArranged g) (waiting : List Waiting) wh
   same_terminal s t e = cc
 
   pub more_listed : (old new : List ℕ) (k : ℕ) → AreListed old k → AddsAwaited g waiting k old new → AreListed new (k + 1)
-  more_listed old new k (order, exact) (inr (same, none)) = subst (λ l. AreListed l (k + 1)) (sym same) (order, λ t. (
-    λ h. (let (x, lt, is, a) = (exact t).0 h in (x, omega arith, is, a)),
-    λ (x, lt, is, a). elim (cases_lt x k) [
-      | inl l ↦ (exact t).1 (x, l, is, a)
-      | inr le ↦ let here : x ≡ k = omega arith in absurd (none t (subst (λ z. slice_get g.symbols z ≡ Some (Terminal t)) here is) (subst (IsAwaited waiting) here a))
-    ],
-  ))
+  more_listed old new k (order, exact) (inr (same, none)) = subst (λ l. AreListed l (k + 1)) (sym same) (
+    order,
+    λ t. (
+      λ h. (let (x, lt, is, a) = (exact t).0 h in (x, omega arith, is, a)),
+      λ (x, lt, is, a). elim (cases_lt x k) [
+        | inl l ↦ (exact t).1 (x, l, is, a)
+        | inr le ↦ let here : x ≡ k = omega arith in absurd (none t (subst (λ z. slice_get g.symbols z ≡ Some (Terminal t)) here is) (subst (IsAwaited waiting) here a))
+      ],
+    ),
+  )
   more_listed old new k (order, exact) (inl (t, is, a, e)) = subst (λ l. AreListed l (k + 1)) (sym e) (
     all_pairs_push (λ s t. s < t) old t order (λ i d lt. lower (get_or old i d) (Contains-get_or old i d lt)),
     λ u. (there u, back u),

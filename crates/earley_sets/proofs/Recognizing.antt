@@ -46,7 +46,6 @@ map_more : {A B : Type 0} (f : A → B) (xs : List A) (x : A) → map f (xs ++ x
 map_more f [] x = refl
 map_more f (y ∷ xs) x = ap (λ l. f y ∷ l) (map_more f xs x)
 
-
 abbrev pub recognizer : FlatGrammar → ℕ → List HeldEdge → List Kept → Recognizer
 recognizer g start edges rows = record { flat = g; start = start; edges = edges; sets = map (λ k. k.items) rows }
 
@@ -146,7 +145,7 @@ first_kept g start edges rows top kept none one flat lt e indexed exact =
         begun = λ d h. absurd (Contains-none d (subst (λ l. Contains l d) none h));
         known = λ d h. absurd (Contains-none d (subst (λ l. Contains l d) none h));
         exact = λ j below. (let here : 0 ≡ j = omega arith in subst (λ z. IsListOf (InSet g (FlatEdges g (Held edges)) (slice_index g.tops start) z) (get_or (kept.items ∷ []) z [])) here
-        (subst (λ t. IsListOf (InSet g (FlatEdges g (Held edges)) t 0) kept.items) e exact));
+            (subst (λ t. IsListOf (InSet g (FlatEdges g (Held edges)) t 0) kept.items) e exact));
       };
       indexed = indexed_more g [] kept (none_indexed g) indexed;
       sets = refl;
@@ -168,7 +167,7 @@ module _ (g : FlatGrammar) (start : ℕ) (edges : List HeldEdge) (rows rows' : L
     kept.items,
     ap (map (λ (k : Kept). k.items)) e ∙ map_more (λ (k : Kept). k.items) rows kept,
     subst (λ t. IsListOf (InSet g (FlatEdges g (Held edges)) t (length (map (λ (k : Kept). k.items) rows))) kept.items) k.top_is
-    (subst (λ n. IsListOf (InSet g (FlatEdges g (Held edges)) top n) kept.items) (sym (sets_length rows)) exact),
+        (subst (λ n. IsListOf (InSet g (FlatEdges g (Held edges)) top n) kept.items) (sym (sets_length rows)) exact),
   )
 
 -- the edges of flat symbols

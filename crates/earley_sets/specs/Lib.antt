@@ -3,5 +3,4 @@ pub mod Rows
 pub mod Closing
 pub mod Loops
 pub mod Scanning
-
 pub mod Recognizer

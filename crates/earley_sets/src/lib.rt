@@ -1,17 +1,11 @@
 //! A recognizer with full Earley sets over any flat grammar, which tells exactly the terminals that some continuation takes.
 #![tactic(auto)]
 
-
-
-
-
 mod close;
 mod expected;
 mod follow;
 mod index;
 mod recce;
 mod rows;
-
-
 
 pub use recce::{AlternativeRefusal, Recce, SetView};

@@ -23,8 +23,7 @@ use indexmap::IndexSet;
 use recognizer_model::Item;
 use slif_base::Steps;
 use std::alloc::{AllocError, Global};
-use std::marker::Brand;
-use std::marker::Model;
+use std::marker::{Brand, Model};
 use std::sync::ledger::{Blank, Ledger};
 use thiserror::Error;
 
@@ -56,7 +55,16 @@ fn add_row<L: Ledger>(
     ensures err { OnErr result (rows.new ≡ rows.old) }
 {
     let place = rows.len() as u32;
-    make_set(flat, top, rows, edges, place, &mut work.set, &mut work.next, steps)?;
+    make_set(
+        flat,
+        top,
+        rows,
+        edges,
+        place,
+        &mut work.set,
+        &mut work.next,
+        steps,
+    )?;
     index(flat, work.set.as_slice(), &mut work.waiting)?;
     rows.push(work.set.as_slice(), &work.waiting)
 }

@@ -1,2 +1,1 @@
 use Rattle.earley_sets.proofs.index.list_waiting.Goals as goal
-

@@ -44,4 +44,3 @@ invariant_of-self-2 c =
 pub returns-clause-ok : goal.returns-clause-ok
 returns-clause-ok c =
     put_more_view c.self.inside.ends.items c.self.inside.items.items c.self.inside.waiting.items c.self.invariant c.last-last.result (c.last-last.ensures ∙ ap (λ (l : List Ends). last_end start l) c.deref.ensures.value) c.args.items.now c.args.waiting.now c.put_items.new.items.items c.put_waiting.new.waiting.items c.push.new.self.items c.in_ok-put_items.ensures.ok c.in_ok-put_waiting.ensures.ok _ _ refl refl c.in_ok-push.ensures.items ∙ ap (λ (l : List Kept). l ++ record { items = c.args.items.now; waiting = c.args.waiting.now } ∷ []) c.self.view_is
-
