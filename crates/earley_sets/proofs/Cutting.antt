@@ -1,11 +1,11 @@
 -- Rows that are kept end to end.
-use Rattle.std.proofs.Common.{◌≡◌, ℕ, zero, suc, ◌+◌, ◌-◌, ◌<◌, ◌≤◌, ◌++◌, List, [], ◌∷◌, length, take, drop, get_or, refl, sym, ap, ◌∙◌, subst, arith, Result, Ok, Err, OnErr, OnOk, length-append, length-take, length-drop}
+use Rattle.std.proofs.Common.{◌≡◌, ℕ, zero, suc, ◌+◌, ◌-◌, ◌<◌, ◌≤◌, ◌++◌, List, [], ◌∷◌, length, take, drop, get_or, refl, sym, ap, ◌∙◌, subst, arith, Result, Ok, Err, OnErr, OnOk, length-append}
 use Rattle.std.proofs.lemmas.List.{drop-take, take-append-le, length-take-le}
-use Rattle.std.proofs.Math.Seq.{take-append_seam, take-length, drop-append_seam}
+use Rattle.std.proofs.Math.Seq.{take-length, drop-append_seam}
 use Rattle.recognizer_model.specs.declared.Item.{Item}
 use Rattle.earley_sets.specs.declared.rows.Waiting.{Waiting}
 use Rattle.earley_sets.specs.declared.rows.Ends.{Ends}
-use Rattle.earley_sets.specs.Kept.{Kept, kept_at, no_items}
+use Rattle.earley_sets.specs.Kept.{Kept, kept_at}
 use Rattle.earley_sets.specs.Rows.{cut, AreEnds, start, last_end}
 
 -- take e after take n

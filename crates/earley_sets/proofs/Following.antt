@@ -1,10 +1,10 @@
-use Rattle.std.proofs.Common.{◌≡◌, ℕ, zero, suc, ◌<◌, ◌≤◌, ◌++◌, ◌↔◌, ◌⊎◌, inl, inr, List, [], ◌∷◌, length, map, slice_get, get_or, Option, Some, None, Contains, refl, sym, ◌∙◌, ap, subst, arith}
+use Rattle.std.proofs.Common.{◌≡◌, ℕ, zero, suc, ◌<◌, ◌≤◌, ◌++◌, ◌↔◌, ◌⊎◌, inl, inr, List, [], ◌∷◌, length, map, slice_get, Some, None, Contains, refl, sym, ◌∙◌, ap, subst, arith}
 use Rattle.std.proofs.lemmas.List.Elements.{Contains-append_left, Contains-append_right, Contains-push, Contains-push_cases, Contains-append_cases}
 use Rattle.recognizer_model.specs.declared.Item.{Item}
 use Rattle.recognizer_model.specs.Flat.{FlatGrammar, IsRule, lhs_of, rhs_of, IsNullable}
 use Rattle.recognizer_model.specs.Items.{after, first_item, advanced}
 use Rattle.earley_sets.specs.declared.rows.Waiting.{Waiting}
-use Rattle.earley_sets.specs.Kept.{Kept, IsItem, AreItems, IsIndexed, AreIndexed, AreWaiting, items_at}
+use Rattle.earley_sets.specs.Kept.{Kept, IsItem, AreIndexed, AreWaiting, items_at}
 use Rattle.earley_sets.specs.Closing.{IsBegun, IsAdvancedOver, Follows, Predicts, Skips, Completes}
 use Rattle.earley_sets.proofs.Membership.{Contains-map, Contains-map_from}
 

@@ -1,9 +1,8 @@
 -- Recognizers: what is known of the next place, and what one more set keeps.
-use Rattle.std.proofs.Common.{◌≡◌, ◌≢◌, ℕ, zero, suc, ◌+◌, ◌-◌, ◌<◌, ◌≤◌, ◌++◌, ◌↔◌, ◌⊎◌, inl, inr, List, [], ◌∷◌, length, map, get_or, Some, None, Contains, slice_get, refl, sym, ◌∙◌, ap, subst, arith, length-append, Bool, true, false, Result, Ok, Err, OnOk, OnErr}
-use Rattle.std.specs.Prelude.{slice_index, slice_index_or}
-use Rattle.std.specs.List.{AllPairs}
+use Rattle.std.proofs.Common.{◌≡◌, ◌≢◌, ℕ, zero, suc, ◌+◌, ◌-◌, ◌<◌, ◌≤◌, ◌++◌, ◌↔◌, ◌⊎◌, inl, inr, List, [], ◌∷◌, length, map, get_or, Some, Contains, slice_get, refl, sym, ◌∙◌, ap, subst, arith, length-append, Result, Ok, Err, OnOk, OnErr}
+use Rattle.std.specs.Prelude.{slice_index}
 use Rattle.std.proofs.Math.ListN.{get_or-map}
-use Rattle.std.proofs.lemmas.Bool.{cases_lt, true≢false}
+use Rattle.std.proofs.lemmas.Bool.{cases_lt}
 use Rattle.std.proofs.lemmas.List.{get_or_append_left, get_or-append-add}
 use Rattle.grammar_model.specs.declared.Edge.{Edge as HeldEdge}
 use Rattle.grammar_model.specs.Derives.{Edges, Held}
@@ -34,9 +33,8 @@ use Rattle.recognizer_model.specs.Invariant.{IsFlat}
 use Rattle.earley_sets.specs.declared.rows.Waiting.{Waiting}
 use Rattle.earley_sets.specs.Kept.{Kept, no_items, kept_at, items_at, IsIndexed, AreIndexed, IsAwaitedTerminal}
 use Rattle.earley_sets.specs.Scanning.{GoForward, AreSets}
-use Rattle.earley_sets.specs.Recognizer.{Recognizer, IsRecognizer, IsKeptBy, place_of, set_at, edges_of, top_of, start_symbol, IsExpected, HasTree}
+use Rattle.earley_sets.specs.Recognizer.{Recognizer, IsKeptBy, place_of, edges_of, top_of, start_symbol, IsExpected, HasTree}
 use Rattle.earley_sets.proofs.Membership.{Contains-none, get_at, got_at}
-use Rattle.earley_sets.proofs.Adding.{item_eq, item_eq-laws}
 
 map_length : {A B : Type 0} (f : A → B) (xs : List A) → length (map f xs) ≡ length xs
 map_length f [] = refl

@@ -1,4 +1,4 @@
-use Rattle.std.proofs.Common.{◌≡◌, ℕ, ◌<◌, ◌≤◌, ◌+◌, ◌↔◌, ◌⊎◌, inl, inr, List, [], length, Some, None, Contains, slice_get, refl, sym, ◌∙◌, ap, subst, arith}
+use Rattle.std.proofs.Common.{◌≡◌, ℕ, ◌<◌, ◌≤◌, ◌+◌, ◌↔◌, ◌⊎◌, inl, inr, List, length, Some, Contains, slice_get, refl, sym, ◌∙◌, ap, subst, arith}
 use Rattle.std.proofs.lemmas.Bool.{cases_lt}
 use Rattle.grammar_model.specs.declared.Edge.{Edge as HeldEdge}
 use Rattle.grammar_model.specs.Derives.{Edges, Held}
@@ -7,7 +7,7 @@ use Rattle.recognizer_model.specs.declared.flat.FlatSymbol.{FlatSymbol}
 use Rattle.recognizer_model.specs.declared.flat.FlatSymbol.TheVariants.{Terminal}
 use Rattle.recognizer_model.specs.Flat.{FlatGrammar, lhs_of, rhs_of}
 use Rattle.recognizer_model.specs.FlatForm.{FlatEdges}
-use Rattle.recognizer_model.specs.Items.{after, first_item, advanced, InSet}
+use Rattle.recognizer_model.specs.Items.{first_item, advanced, InSet}
 use Rattle.recognizer_model.specs.Contexts.{IsTop}
 use Rattle.earley_sets.specs.Kept.{Kept, IsItem, AreItems, items_at}
 use Rattle.earley_sets.specs.Closing.{IsAdvancedOver, Follows, Predicts, Skips, Completes, IsReached, Seed, Step}

@@ -1,5 +1,5 @@
 -- Item sets as they are kept: the items of each, and those that wait for a symbol, in the order of their symbols.
-use Rattle.std.specs.Prelude.{◌≡◌, ℕ, ◌<◌, ◌≤◌, ◌++◌, List, [], ◌∷◌, length, map, slice_index_or, slice_get, Some, Contains, ◌↔◌, ◌⊎◌}
+use Rattle.std.specs.Prelude.{◌≡◌, ℕ, ◌<◌, ◌≤◌, ◌++◌, List, [], ◌∷◌, length, slice_index_or, slice_get, Some, Contains, ◌↔◌, ◌⊎◌}
 use Rattle.recognizer_model.specs.declared.flat.FlatSymbol.TheVariants.{Terminal}
 use Rattle.std.specs.List.Sorted.{IsNonDecreasingBy}
 use Rattle.recognizer_model.specs.declared.Item.{Item}

@@ -1,5 +1,5 @@
 -- Rows that are kept end to end, told apart by the places where each ends.
-use Rattle.std.specs.Prelude.{ℕ, ◌≤◌, List, [], ◌∷◌, length, take, drop}
+use Rattle.std.specs.Prelude.{ℕ, ◌≤◌, List, [], ◌∷◌, take, drop}
 use Rattle.recognizer_model.specs.declared.Item.{Item}
 use Rattle.earley_sets.specs.declared.rows.Waiting.{Waiting}
 use Rattle.earley_sets.specs.declared.rows.Ends.{Ends}

@@ -1,4 +1,3 @@
-use Rattle.std.proofs.Common.{◌≡◌}
 use Rattle.std.proofs.lemmas.Result.{on_ok_weaker}
 use Rattle.earley_sets.proofs.Scanning.{has_scanned}
 use Rattle.earley_sets.proofs.close.list_by_edge.Goals as goal

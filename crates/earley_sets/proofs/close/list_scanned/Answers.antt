@@ -1,4 +1,4 @@
-use Rattle.std.proofs.Common.{◌≡◌, ◌≤◌, sym, arith}
+use Rattle.std.proofs.Common.{sym, arith}
 use Rattle.earley_sets.proofs.Membership.{got_item}
 use Rattle.earley_sets.proofs.Scanning.{scanned_more, scanned_all}
 use Rattle.earley_sets.proofs.close.list_scanned.Goals as goal

@@ -1,11 +1,7 @@
-use Rattle.std.proofs.Common.{◌≡◌, ◌↔◌, ◌∙◌, sym, subst, List, Contains}
+use Rattle.std.proofs.Common.{◌↔◌, sym, subst, List, Contains}
 use Rattle.std.proofs.lemmas.Result.{on_ok_weaker}
 use Rattle.recognizer_model.specs.declared.Item.{Item}
-use Rattle.recognizer_model.specs.Items.{InSet}
-use Rattle.recognizer_model.specs.FlatForm.{FlatEdges}
-use Rattle.grammar_model.specs.Derives.{Held}
 use Rattle.earley_sets.specs.Closing.{IsReached, Follows}
-use Rattle.earley_sets.specs.Scanning.{IsSeed}
 use Rattle.earley_sets.proofs.Scanning.{reached_is_inside, seeds_are_items}
 use Rattle.earley_sets.proofs.close.make_set.Goals as goal
 

@@ -1,4 +1,4 @@
-use Rattle.std.proofs.Common.{◌≡◌, ◌↔◌, ℕ, sym, ◌∙◌, subst, arith, length, Contains}
+use Rattle.std.proofs.Common.{◌≡◌, ◌↔◌, subst, arith, length, Contains}
 use Rattle.earley_sets.specs.Kept.{IsAwaitedTerminal}
 use Rattle.earley_sets.proofs.Awaiting.{more_listed}
 use Rattle.earley_sets.proofs.expected.expected.Goals as goal

@@ -1,4 +1,4 @@
-use Rattle.std.proofs.Common.{◌≡◌, ◌==◌, ◌↔◌, ℕ, ◌<◌, Bool, true, false, not, List, [], ◌∷◌, length, Contains, refl, sym, ap, ◌∙◌, subst, arith, IsTrue}
+use Rattle.std.proofs.Common.{◌≡◌, ◌==◌, ◌↔◌, Bool, true, false, not, List, [], ◌∷◌, length, Contains, refl, sym, ap, subst, arith, IsTrue}
 use Rattle.std.proofs.lemmas.Bool.{eqb-true}
 use Rattle.earley_sets.specs.declared.rows.Waiting.{Waiting}
 use Rattle.earley_sets.proofs.Membership.{Contains-none, Contains-first}

@@ -1,4 +1,4 @@
-use Rattle.std.proofs.Common.{rules, ◌∙◌, ◌≡◌, ap, ◌++◌, ◌∷◌, []}
+use Rattle.std.proofs.Common.{rules}
 use Rattle.recognizer_model.specs.Flat.{IsNullable}
 use Rattle.earley_sets.proofs.Following.{begun_skips, begun_stays}
 use Rattle.earley_sets.proofs.follow.list_begun.Goals as goal

@@ -1,9 +1,9 @@
-use Rattle.std.proofs.Common.{◌≡◌, ◌<◌, ◌+◌, ◌^◌, sym, ◌∙◌, ap, subst, length, arith, Some, slice_get, Contains, ℕ, ◌↔◌}
+use Rattle.std.proofs.Common.{sym, subst, arith, Contains}
 use Rattle.std.proofs.lemmas.Result.{on_ok_weaker}
 use Rattle.std.specs.List.Sorted.{IsNonDecreasingBy}
 use Rattle.recognizer_model.specs.Flat.{rhs_of}
 use Rattle.earley_sets.specs.declared.rows.Waiting.{Waiting}
-use Rattle.earley_sets.specs.Kept.{AreWaiting, items_at, kept_at}
+use Rattle.earley_sets.specs.Kept.{AreWaiting, items_at}
 use Rattle.earley_sets.proofs.Following.{has_advanced, part_within}
 use Rattle.earley_sets.proofs.follow.list_completed.Goals as goal
 

@@ -1,4 +1,4 @@
-use Rattle.std.proofs.Common.{sym, ap}
+use Rattle.std.proofs.Common.{sym}
 use Rattle.std.proofs.lemmas.Result.{on_ok_weaker}
 use Rattle.earley_sets.proofs.Following.{has_begun, has_completed}
 use Rattle.earley_sets.proofs.follow.list_next.Goals as goal

@@ -1,4 +1,4 @@
-use Rattle.std.proofs.Common.{◌≡◌, ◌≤◌, ◌⊎◌, inl, inr, refl, arith, ⊎_elim}
+use Rattle.std.proofs.Common.{inl, inr, refl, arith, ⊎_elim}
 use Rattle.earley_sets.proofs.Listing.{predicted_none, predicted_more, predicted_all}
 use Rattle.earley_sets.proofs.follow.list_predicted.Goals as goal
 

@@ -1,4 +1,4 @@
-use Rattle.std.proofs.Common.{◌≡◌, ◌↔◌, ◌⊎◌, inl, inr, ◌∙◌, ap, sym, subst, List, ℕ, [], ◌++◌, ◌∷◌, ◌+◌, ◌<◌, Contains, Some, arith, take, get_or, length}
+use Rattle.std.proofs.Common.{◌≡◌, ◌↔◌, ◌⊎◌, inl, inr, sym, subst, List, ℕ, [], ◌++◌, ◌∷◌, ◌+◌, ◌<◌, Contains, Some, arith, take, get_or, length}
 use Rattle.std.proofs.lemmas.List.{take_more}
 use Rattle.std.proofs.lemmas.List.Elements.{Contains-get_or, Contains-append_left, Contains-push, Contains-push_cases}
 use Rattle.recognizer_model.specs.declared.Item.{Item}
@@ -7,7 +7,6 @@ use Rattle.recognizer_model.specs.Items.{after}
 use Rattle.earley_sets.specs.declared.rows.Waiting.{Waiting}
 use Rattle.earley_sets.specs.Kept.{AreWaiting}
 use Rattle.earley_sets.proofs.Cutting.{take_all}
-use Rattle.earley_sets.proofs.Membership.{Contains-none}
 use Rattle.earley_sets.proofs.index.list_all_waiting.Goals as goal
 
 waiting_more : (g : FlatGrammar) (items : List Item) (k : ℕ) (d : Item) (old new : List Waiting) → k < length items → AreWaiting g (take k items) old →

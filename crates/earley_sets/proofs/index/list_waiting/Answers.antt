@@ -1,1 +1,0 @@
-use Rattle.earley_sets.proofs.index.list_waiting.Goals as goal

@@ -1,14 +1,13 @@
-use Rattle.std.proofs.Common.{◌≡◌, ◌≢◌, ◌↔◌, ◌∙◌, ap, sym, subst, List, length, Contains, OnOk, ◌++◌, ◌∷◌, [], ◌<◌}
-use Rattle.std.specs.List.{AllPairs, IsDistinct}
+use Rattle.std.proofs.Common.{◌≡◌, ◌↔◌, ◌∙◌, sym, subst, List, length, Contains}
+use Rattle.std.specs.List.{IsDistinct}
 use Rattle.std.specs.List.Sorted.{IsNonDecreasingBy}
 use Rattle.std.proofs.lemmas.Result.{on_ok_weaker}
 use Rattle.recognizer_model.specs.declared.Item.{Item}
-use Rattle.recognizer_model.specs.Counts.{IsListOf}
 use Rattle.recognizer_model.specs.Items.{InSet}
 use Rattle.recognizer_model.specs.FlatForm.{FlatEdges}
 use Rattle.grammar_model.specs.Derives.{Held}
 use Rattle.earley_sets.specs.declared.rows.Waiting.{Waiting}
-use Rattle.earley_sets.specs.Kept.{Kept, AreItems, AreWaiting}
+use Rattle.earley_sets.specs.Kept.{AreItems, AreWaiting}
 use Rattle.earley_sets.proofs.Adding.{all_differ, item_eq}
 use Rattle.earley_sets.proofs.recce.add_row.Goals as goal
 

@@ -1,4 +1,3 @@
-use Rattle.std.proofs.Common.{◌≡◌, arith, length}
 use Rattle.earley_sets.specs.Rows.{start}
 use Rattle.earley_sets.proofs.Cutting.{last_index}
 use Rattle.earley_sets.proofs.rows.last.Goals as goal

@@ -1,5 +1,0 @@
-use Rattle.std.proofs.Common.{◌≡◌, ◌∙◌, sym, ap, subst, arith, ◌≤◌, ◌++◌, ◌+◌, List, length, take, length-append}
-use Rattle.std.proofs.lemmas.List.{length-take-le}
-use Rattle.recognizer_model.specs.declared.Item.{Item}
-use Rattle.earley_sets.proofs.Cutting.{take_prefix, take_take}
-use Rattle.earley_sets.proofs.rows.put_items.Goals as goal

@@ -1,4 +1,4 @@
-use Rattle.std.proofs.Common.{rules, ◌≡◌, ◌∙◌, ◌≤◌, sym, ap, subst, arith, IsTrue}
+use Rattle.std.proofs.Common.{rules, ◌∙◌, sym, ap, subst, arith}
 use Rattle.earley_sets.specs.Recognizer.{Recognizer, place_of, IsExpected}
 use Rattle.earley_sets.proofs.Recognizing.{edge_kept}
 use Rattle.earley_sets.proofs.recce.Recce.alternative.Goals as goal

@@ -1,9 +1,8 @@
-use Rattle.std.proofs.Common.{rules, ◌≡◌, ◌∙◌, ◌↔◌, ◌-◌, sym, ap, subst, List, length, true, Contains, IsTrue}
-use Rattle.std.specs.List.{list_any}
+use Rattle.std.proofs.Common.{rules, ◌≡◌, ◌∙◌, ◌↔◌, ◌-◌, sym, ap, subst, List, true, Contains}
 use Rattle.recognizer_model.specs.declared.Item.{Item}
 use Rattle.earley_sets.specs.Kept.{items_at}
 use Rattle.earley_sets.specs.Recognizer.{Recognizer, HasTree}
-use Rattle.earley_sets.proofs.Adding.{item_eq, any_there, there_any}
+use Rattle.earley_sets.proofs.Adding.{any_there, there_any}
 use Rattle.earley_sets.proofs.Recognizing.{whole_is_tree, recognizer}
 use Rattle.earley_sets.proofs.recce.Recce.at_end.Goals as goal
 

@@ -1,4 +1,4 @@
-use Rattle.std.proofs.Common.{◌≡◌, ◌∙◌, ap, sym, subst, List, length, arith, ◌++◌, ◌∷◌, [], map, OnOk}
+use Rattle.std.proofs.Common.{◌≡◌, ap, subst, List, length, arith, ◌++◌, ◌∷◌, [], map, OnOk}
 use Rattle.std.proofs.lemmas.Result.{on_ok_weaker}
 use Rattle.recognizer_model.specs.declared.Item.{Item}
 use Rattle.recognizer_model.specs.Items.{InSet}

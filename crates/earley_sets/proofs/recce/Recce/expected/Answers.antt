@@ -1,4 +1,4 @@
-use Rattle.std.proofs.Common.{◌≡◌, ◌∙◌, ◌↔◌, ◌-◌, ℕ, sym, ap, subst, List, length, Contains, IfOk, Result, Ok, Err}
+use Rattle.std.proofs.Common.{◌∙◌, ◌↔◌, ◌-◌, ℕ, sym, ap, subst, List, length, IfOk, Result, Ok, Err}
 use Rattle.std.specs.List.Sorted.{IsNonDecreasingBy}
 use Rattle.earley_sets.specs.declared.rows.Waiting.{Waiting}
 use Rattle.earley_sets.specs.Kept.{kept_at, IsAwaitedTerminal}

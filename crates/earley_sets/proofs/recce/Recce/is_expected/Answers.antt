@@ -1,4 +1,4 @@
-use Rattle.std.proofs.Common.{◌≡◌, ◌∙◌, ◌↔◌, ◌-◌, sym, ap, subst, List, length, Contains, IsTrue}
+use Rattle.std.proofs.Common.{◌≡◌, ◌∙◌, ◌↔◌, ◌-◌, sym, ap, subst, List, Contains}
 use Rattle.std.specs.List.Sorted.{IsNonDecreasingBy}
 use Rattle.earley_sets.specs.declared.rows.Waiting.{Waiting}
 use Rattle.earley_sets.specs.Kept.{kept_at}

@@ -1,5 +1,4 @@
-use Rattle.std.proofs.Common.{◌≡◌, ◌∙◌, ap, sym, subst, List, length, arith, Some, slice_get, ℕ}
-use Rattle.std.specs.Prelude.{slice_index}
+use Rattle.std.proofs.Common.{sym}
 use Rattle.earley_sets.proofs.Membership.{got_at}
 use Rattle.earley_sets.proofs.Recognizing.{first_kept, top_is_top}
 use Rattle.earley_sets.proofs.recce.Recce.new.Goals as goal

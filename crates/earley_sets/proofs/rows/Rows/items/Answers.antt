@@ -1,8 +1,7 @@
 use Rattle.std.proofs.Common.{◌≡◌, ◌∙◌, sym, ap, subst, arith, ◌<◌, ◌≤◌, ◌-◌, ◌∷◌, List, length, get_or, take, drop}
 use Rattle.recognizer_model.specs.declared.Item.{Item}
-use Rattle.earley_sets.specs.declared.rows.Waiting.{Waiting}
 use Rattle.earley_sets.specs.declared.rows.Ends.{Ends}
-use Rattle.earley_sets.specs.Rows.{start, cut}
+use Rattle.earley_sets.specs.Rows.{start}
 use Rattle.earley_sets.specs.Kept.{Kept, kept_at}
 use Rattle.earley_sets.proofs.Cutting.{cut_length, cut_at, IsRowAt}
 use Rattle.earley_sets.proofs.rows.Rows.items.Goals.{After-deref, After-deref-2, After-deref-3}

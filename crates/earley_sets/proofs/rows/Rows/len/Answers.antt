@@ -1,4 +1,4 @@
-use Rattle.std.proofs.Common.{◌≡◌, ◌∙◌, sym, ap, List, length}
+use Rattle.std.proofs.Common.{◌∙◌, sym, ap, List, length}
 use Rattle.earley_sets.specs.Rows.{start}
 use Rattle.earley_sets.specs.Kept.{Kept}
 use Rattle.earley_sets.proofs.Cutting.{cut_length}

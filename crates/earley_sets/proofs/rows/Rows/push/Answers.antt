@@ -1,4 +1,4 @@
-use Rattle.std.proofs.Common.{◌≡◌, ◌∙◌, sym, ap, subst, refl, List, ◌++◌, ◌∷◌, []}
+use Rattle.std.proofs.Common.{◌∙◌, ap, refl, List, ◌++◌, ◌∷◌, []}
 use Rattle.earley_sets.specs.declared.rows.Ends.{Ends}
 use Rattle.earley_sets.specs.Rows.{start, last_end}
 use Rattle.earley_sets.specs.Kept.{Kept}
