@@ -8,3 +8,4 @@ pub mod Loops
 pub mod Scanning
 pub mod Recognizing
 pub mod Awaiting
+pub mod Sums
