@@ -1,22 +1,15 @@
--- The flat grammar of `E ::= E '+' E | N`, with one start, as an instance of what is always so of flat grammars.
+-- The flat grammar of ambiguous sums is one.
 use Rattle.std.proofs.Common.{◌≡◌, ◌≢◌, ℕ, zero, suc, ◌-◌, ◌<◌, ◌≤◌, ◌^◌, Bool, true, false, List, [], ◌∷◌, length, Some, None, slice_get, refl, sym, ap, ◌∙◌, subst, arith}
 use Rattle.recognizer_model.specs.declared.flat.FlatSymbol.{FlatSymbol}
 use Rattle.recognizer_model.specs.declared.flat.FlatSymbol.TheVariants.{Terminal, Slot, Sequence, Top}
 use Rattle.recognizer_model.specs.declared.flat.FlatSource.TheVariants.{Written, Top as OfStart}
 use Rattle.recognizer_model.specs.FlatRule.{FlatRule}
+use Rattle.earley_sets.specs.Example.{sums}
 use Rattle.recognizer_model.specs.Flat.{FlatGrammar, IsRule, IsNullable, lhs_of, rhs_of, part_of, source_of}
 use Rattle.recognizer_model.specs.Contexts.{IsTop}
 use Rattle.recognizer_model.specs.Acceptable.{IsTerminal, IsProductive, Itself, ByRule, AreProductive, MarksAreClosed, NoTerminalHasRules}
 use Rattle.recognizer_model.specs.Acceptable
 use Rattle.recognizer_model.specs.Invariant.{IsFlat, IsArranged, IsAccessible, Outermost, Below, IsTopOf, HasSource, HasHeights, LeadsOver}
-
-abbrev pub sums : FlatGrammar
-sums = record {
-  symbols = Terminal 1 ∷ Terminal 2 ∷ Slot 0 0 ∷ Top 0 ∷ [];
-  nullable = false ∷ false ∷ false ∷ false ∷ [];
-  rules = record { lhs = 2; rhs = 2 ∷ 0 ∷ 2 ∷ []; source = Written 0 } ∷ record { lhs = 2; rhs = 1 ∷ []; source = Written 1 } ∷ record { lhs = 3; rhs = 2 ∷ []; source = OfStart 0 } ∷ [];
-  tops = 2 ∷ [];
-}
 
 -- each symbol tells its place
 abbrev key : FlatSymbol → ℕ
@@ -161,3 +154,19 @@ rises r (suc (suc (suc s))) lt rule = absurd (omega arith)
 
 pub is_arranged : IsArranged sums
 is_arranged = record { terminals = ordered; rules = rises }
+
+abbrev rules_of : (a b d : List ℕ) → List FlatRule
+rules_of a b d = record { lhs = 2; rhs = a; source = Written 0 } ∷ record { lhs = 2; rhs = b; source = Written 1 } ∷ record { lhs = 3; rhs = d; source = OfStart 0 } ∷ []
+
+-- made part by part
+pub flat_of : (ss : List FlatSymbol) (ns : List Bool) (rs : List FlatRule) (ts a b d : List ℕ) → ss ≡ Terminal 1 ∷ Terminal 2 ∷ Slot 0 0 ∷ Top 0 ∷ [] → ns ≡ false ∷ false ∷ false ∷ false ∷ [] →
+    rs ≡ record { lhs = 2; rhs = a; source = Written 0 } ∷ record { lhs = 2; rhs = b; source = Written 1 } ∷ record { lhs = 3; rhs = d; source = OfStart 0 } ∷ [] → ts ≡ 2 ∷ [] → a ≡ 2 ∷ 0 ∷ 2 ∷ [] → b ≡ 1 ∷ [] → d ≡ 2 ∷ [] →
+    IsFlat (record { symbols = ss; nullable = ns; rules = rs; tops = ts })
+flat_of ss ns rs ts a b d hs hn hr ht ha hb hd =
+    subst (λ z. IsFlat (record { symbols = z; nullable = ns; rules = rs; tops = ts })) (sym hs)
+    (subst (λ z. IsFlat (record { symbols = sums.symbols; nullable = z; rules = rs; tops = ts })) (sym hn)
+    (subst (λ z. IsFlat (record { symbols = sums.symbols; nullable = sums.nullable; rules = z; tops = ts })) (sym hr)
+    (subst (λ z. IsFlat (record { symbols = sums.symbols; nullable = sums.nullable; rules = rules_of a b d; tops = z })) (sym ht)
+    (subst (λ z. IsFlat (record { symbols = sums.symbols; nullable = sums.nullable; rules = rules_of z b d; tops = sums.tops })) (sym ha)
+    (subst (λ z. IsFlat (record { symbols = sums.symbols; nullable = sums.nullable; rules = rules_of (2 ∷ 0 ∷ 2 ∷ []) z d; tops = sums.tops })) (sym hb)
+    (subst (λ z. IsFlat (record { symbols = sums.symbols; nullable = sums.nullable; rules = rules_of (2 ∷ 0 ∷ 2 ∷ []) (1 ∷ []) z; tops = sums.tops })) (sym hd) is_flat))))))

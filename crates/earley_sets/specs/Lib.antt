@@ -4,3 +4,4 @@ pub mod Closing
 pub mod Loops
 pub mod Scanning
 pub mod Recognizer
+pub mod Example

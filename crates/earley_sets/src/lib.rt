@@ -7,5 +7,7 @@ mod follow;
 mod index;
 mod recce;
 mod rows;
+#[cfg(test)]
+mod tests;
 
 pub use recce::{AlternativeRefusal, Recce, SetView};
