@@ -1,0 +1,11 @@
+pub mod Cutting
+pub mod Membership
+pub mod Following
+pub mod Listing
+pub mod Adding
+pub mod Growing
+pub mod Loops
+pub mod Scanning
+pub mod Recognizing
+pub mod Awaiting
+pub mod Sums

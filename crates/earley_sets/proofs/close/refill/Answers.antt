@@ -1,0 +1,15 @@
+use Rattle.std.proofs.Common.{inl, inr, List, Contains, subst}
+use Rattle.std.proofs.lemmas.Result.{on_ok_weaker}
+use Rattle.recognizer_model.specs.declared.Item.{Item}
+use Rattle.earley_sets.specs.Closing.{Grows}
+use Rattle.earley_sets.proofs.Membership.{Contains-none}
+use Rattle.earley_sets.proofs.close.refill.Goals as goal
+
+pub returns : goal.returns
+returns g c =
+    on_ok_weaker c.add_items.result
+    (λ (h : Grows c.clear.new.self.keys c.add_items.new.set.keys c.args.items.now) item. (
+      λ n. elim ((h.has item).0 n) [ inl o ↦ absurd (Contains-none item (subst (λ (l : List Item). Contains l item) c.clear.ensures.empty o)) | inr s ↦ s ],
+      λ n. (h.has item).1 (inr n),
+    ))
+    c.add_items.ensures

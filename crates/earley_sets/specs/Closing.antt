@@ -1,0 +1,35 @@
+use Rattle.std.specs.Prelude.{◌≡◌, ℕ, ◌<◌, ◌++◌, ◌∷◌, [], List, Some, Contains, ◌↔◌, ◌⊎◌}
+use Rattle.recognizer_model.specs.declared.Item.{Item}
+use Rattle.recognizer_model.specs.Flat.{FlatGrammar, IsRule, lhs_of, IsNullable}
+use Rattle.recognizer_model.specs.Items.{after, IsWhole, first_item, advanced}
+use Rattle.earley_sets.specs.Kept.{Kept, items_at}
+
+-- what an item before that symbol leads to
+abbrev pub IsBegun : FlatGrammar → (place : ℕ) → Item → (symbol : ℕ) → Item → Type 0
+IsBegun g place item x other =
+    ((r : ℕ) × IsRule g r × (lhs_of g r ≡ x) × (other ≡ first_item r place)) ⊎ (IsNullable g x × (other ≡ advanced item))
+
+-- an item that waits for the symbol, with its dot advanced
+abbrev pub IsAdvancedOver : FlatGrammar → List Item → (symbol : ℕ) → Item → Type 0
+IsAdvancedOver g items x other = (w : Item) × Contains items w × (after g w ≡ Some x) × (other ≡ advanced w)
+
+-- one item leads to another in the same set
+pub data Follows (g : FlatGrammar) (rows : List Kept) (place : ℕ) (item : Item) : Item → Type 0 where
+  Predicts : {x r : ℕ} → after g item ≡ Some x → IsRule g r → lhs_of g r ≡ x → Follows g rows place item (first_item r place)
+  Skips : {x : ℕ} → after g item ≡ Some x → IsNullable g x → Follows g rows place item (advanced item)
+  Completes : {waiting : Item} → IsWhole g item → item.origin < place → Contains (items_at rows item.origin) waiting →
+      after g waiting ≡ Some (lhs_of g item.rule) → Follows g rows place item (advanced waiting)
+
+-- what some items lead to
+pub data IsReached (F : Item → Item → Type 0) (seeds : List Item) : Item → Type 0 where
+  Seed : {item : Item} → Contains seeds item → IsReached F seeds item
+  Step : {item next : Item} → IsReached F seeds item → F item next → IsReached F seeds next
+
+-- an item that was there, or that goes last
+abbrev pub Adds : (old new : List Item) → Item → Type 0
+Adds old new item = ((new ≡ old) × Contains old item) ⊎ ((new ≡ old ++ item ∷ []) × (¬ Contains old item))
+
+-- a set after some items were added to it
+pub record Grows (old new items : List Item) : Type 0 where
+  pub begins : (more : List Item) × (new ≡ old ++ more)
+  pub has : (item : Item) → Contains new item ↔ (Contains old item ⊎ Contains items item)

@@ -1,0 +1,70 @@
+-- Recognizers: the edges that they hold, and the item sets of all places so far.
+-- Sources: Earley 1970 (item sets); Aycock and Horspool 2002 (nullable symbols); the Libmarpa manual (alternatives, earlemes).
+use Rattle.std.specs.Prelude.{◌≡◌, ℕ, ◌-◌, ◌+◌, ◌<◌, ◌≤◌, List, [], length, map, slice_get, slice_index, slice_index_or, Some, Contains}
+use Rattle.grammar_model.specs.declared.Edge.{Edge as HeldEdge}
+use Rattle.grammar_model.specs.Grammar.{slot_of}
+use Rattle.grammar_model.specs.Trees.{Tree}
+use Rattle.grammar_model.specs.Derives.{Edges, Held, Derives}
+use Rattle.grammar_model.specs.Acceptable.{IsAcceptable}
+use Rattle.recognizer_model.specs.declared.Item.{Item}
+use Rattle.recognizer_model.specs.Flat.{FlatGrammar, lhs_of, rhs_of}
+use Rattle.recognizer_model.specs.declared.flat.FlatSymbol.TheVariants.{Terminal}
+use Rattle.recognizer_model.specs.FlatForm.{FlatEdges}
+use Rattle.recognizer_model.specs.View.{grammar_view}
+use Rattle.recognizer_model.specs.Invariant.{IsFlat}
+use Rattle.recognizer_model.specs.Items.{InSet}
+use Rattle.recognizer_model.specs.Counts.{IsListOf}
+use Rattle.earley_sets.specs.Kept.{Kept, AreIndexed}
+
+-- the start is a place among the grammar's starts
+pub record Recognizer : Type 0 where
+  pub flat : FlatGrammar
+  pub start : ℕ
+  pub edges : List HeldEdge
+  pub sets : List (List Item)
+
+-- the last place of which the set is made
+abbrev pub place_of : Recognizer → ℕ
+place_of r = length r.sets - 1
+
+abbrev pub set_at : Recognizer → ℕ → List Item
+set_at r j = slice_index_or r.sets j []
+
+abbrev pub edges_of : Recognizer → Edges
+edges_of r = FlatEdges r.flat (Held r.edges)
+
+-- the rule of the start's top, and the start's symbol
+abbrev pub top_of : Recognizer → ℕ
+top_of r = slice_index r.flat.tops r.start
+
+abbrev pub start_symbol : Recognizer → ℕ
+start_symbol r = slice_index (rhs_of r.flat (top_of r)) 0
+
+-- the edge of a terminal that begins at the last place
+abbrev pub new_edge : Recognizer → (t length : ℕ) → HeldEdge
+new_edge r t n = record { symbol = t; from = place_of r; to = place_of r + n }
+
+-- the terminal is acceptable at the last place
+abbrev pub IsExpected : Recognizer → ℕ → Type 0
+IsExpected r t = (x : ℕ) × (slice_get r.flat.symbols x ≡ Some (Terminal t)) × IsAcceptable (grammar_view r.flat) (edges_of r) (lhs_of r.flat (top_of r)) x (place_of r)
+
+-- a tree of the start spans the edges up to the last place
+abbrev pub HasTree : Recognizer → Type 0
+HasTree r = (tree : Tree) × Derives (grammar_view r.flat) (edges_of r) (slot_of (start_symbol r)) 0 (place_of r) tree
+
+pub record IsRecognizer (r : Recognizer) : Type 0 where
+  pub flat : IsFlat r.flat
+  pub start : r.start < length r.flat.tops
+  pub some : 0 < length r.sets
+  pub in_range : place_of r ≤ 16777216
+  pub forward : (e : HeldEdge) → Contains r.edges e → e.from < e.to
+  pub begun : (e : HeldEdge) → Contains r.edges e → e.from ≤ place_of r
+  pub known : (e : HeldEdge) → Contains r.edges e → (x : ℕ) × (slice_get r.flat.symbols x ≡ Some (Terminal e.symbol))
+  pub exact : (j : ℕ) → j < length r.sets → IsListOf (InSet r.flat (edges_of r) (top_of r) j) (set_at r j)
+
+-- the recognizer's sets, with those of their items that wait for a symbol
+pub record IsKeptBy (r : Recognizer) (rows : List Kept) (top : ℕ) : Type 0 where
+  pub is : IsRecognizer r
+  pub indexed : AreIndexed r.flat rows
+  pub sets : r.sets ≡ map (λ k. k.items) rows
+  pub top_is : top ≡ top_of r

@@ -1,0 +1,33 @@
+use Rattle.std.specs.Prelude.{◌≡◌, ℕ, ◌<◌, List, Some, slice_get, Contains, ◌↔◌, ◌⊎◌}
+use Rattle.grammar_model.specs.declared.Edge.{Edge as HeldEdge}
+use Rattle.grammar_model.specs.Derives.{Held}
+use Rattle.recognizer_model.specs.declared.Item.{Item}
+use Rattle.recognizer_model.specs.Flat.{FlatGrammar}
+use Rattle.recognizer_model.specs.declared.flat.FlatSymbol.TheVariants.{Terminal}
+use Rattle.recognizer_model.specs.FlatForm.{FlatEdges}
+use Rattle.recognizer_model.specs.Items.{InSet, after, first_item, advanced}
+use Rattle.earley_sets.specs.Kept.{Kept, items_at}
+
+-- an edge of a terminal leads from an item that waits for it
+pub record IsScannedBy (g : FlatGrammar) (rows : List Kept) (edge : HeldEdge) (other : Item) : Type 0 where
+  pub symbol : ℕ
+  pub is_symbol : slice_get g.symbols symbol ≡ Some (Terminal edge.symbol)
+  pub waiting : Item
+  pub there : Contains (items_at rows edge.from) waiting
+  pub waits : after g waiting ≡ Some symbol
+  pub same : other ≡ advanced waiting
+
+-- one of the edges that end at the place does
+abbrev pub IsScanned : FlatGrammar → List Kept → (place : ℕ) → List HeldEdge → Item → Type 0
+IsScanned g rows place edges other = (edge : HeldEdge) × Contains edges edge × (edge.to ≡ place) × IsScannedBy g rows edge other
+
+-- what a set begins with
+abbrev pub IsSeed : FlatGrammar → List Kept → (top place : ℕ) → List HeldEdge → Item → Type 0
+IsSeed g rows top place edges item = ((place ≡ 0) × (item ≡ first_item top 0)) ⊎ IsScanned g rows place edges item
+
+abbrev pub GoForward : List HeldEdge → Type 0
+GoForward edges = (e : HeldEdge) → Contains edges e → e.from < e.to
+
+-- the rows before a place are the full sets
+abbrev pub AreSets : FlatGrammar → List HeldEdge → (top : ℕ) → List Kept → (place : ℕ) → Type 0
+AreSets g edges top rows place = (i : ℕ) → i < place → (item : Item) → Contains (items_at rows i) item ↔ InSet g (FlatEdges g (Held edges)) top i item
