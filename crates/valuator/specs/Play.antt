@@ -1,6 +1,7 @@
 -- What is played to tellers: the steps of a derivation whose tokens lie one place each, with their spans in a text.
 use Rattle.std.specs.Prelude.{◌≡◌, ℕ, zero, suc, ◌+◌, ◌*◌, ◌^◌, ◌<◌, ◌≤◌, Bool, true, false, Option, is_some, List, [], ◌∷◌, length, map, slice_range, encode_utf8_all, All}
 use Rattle.grammar_model.specs.Grammar.{Grammar, lhs_of, Slot, WrittenRule, Plain, Sequence, rule_at, IsChildCount}
+use Rattle.grammar_model.specs.declared.Show.{Show}
 use Rattle.grammar_model.specs.Trees.{Tree}
 use Rattle.grammar_model.specs.Derives.{Edges, Derives}
 use Rattle.grammar_model.specs.Steps.{Step, TokenStep, NulledStep, RuleStep, steps_of}
@@ -48,3 +49,7 @@ abbrev pub CanTell : Grammar → (places held : ℕ) → Step → Type 0
 CanTell g places held (TokenStep symbol from to) = (symbol < length g.names) × (from < places)
 CanTell g places held (NulledStep symbol at) = (symbol < length g.names) × (at ≤ places)
 CanTell g places held (RuleStep i n from to) = (i < length g.rules) × (lhs_of (rule_at g i) < length g.names) × IsChildCount (rule_at g i) n × (from < to) × (to ≤ places) × (n ≤ held)
+
+-- each of these tellers can be told the step
+abbrev pub EachCanTell : Grammar → ℕ → List (Show × List Value) → Step → Type 0
+EachCanTell g places tellers step = All (λ (s : Show × List Value). CanTell g places (length s.1) step) tellers

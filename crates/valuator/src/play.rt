@@ -6,8 +6,8 @@ ghost use Rattle.grammar_model.specs.Values.{end_before, is_nulling, items_shown
 ghost use Rattle.grammar_core.specs.Steps.{step_of};
 ghost use Rattle.grammar_core.specs.Written.{rule_of};
 ghost use Rattle.value_text.specs.Meaning.{action_of, meaning_of};
-ghost use Rattle.valuator.specs.Told.{action_in, held_count, HoldsAtLeast, replace_newest};
-ghost use Rattle.valuator.specs.Play.{AreSpans, CanTell, IsMeaningOf, tokens_of};
+ghost use Rattle.valuator.specs.Told.{action_in, advanced, held_count, HoldsAtLeast, states, replace_newest};
+ghost use Rattle.valuator.specs.Play.{AreSpans, CanTell, EachCanTell, IsMeaningOf, tokens_of};
 
 use crate::Teller;
 use grammar_core::{RuleId, Span, SymbolId, TreeStep, Written, WrittenRule};
@@ -217,16 +217,34 @@ fn tell_rule(
 }
 
 /// Tells one step.
-fn tell(alloc: Global, p: &Score<'_>, step: TreeStep, teller: &mut Box<dyn Teller>) -> Result<(), NoMemory>
+fn tell(alloc: Global, p: &Score<'_>, step: &TreeStep, teller: &mut Box<dyn Teller>) -> Result<(), NoMemory>
     requires meaning { IsMeaningOf p.now.w.now (meaning_of p.now.meaning.now) }
     requires spans { AreSpans (length p.now.chars.now) p.now.spans.now }
-    requires step { CanTell p.now.w.now (length p.now.spans.now) (held_count (held teller.old)) (step_of step) }
-    ensures ok { OnOk result (held teller.new ≡ told (shows teller.old) p.now.w.now (meaning_of p.now.meaning.now) (tokens_of p.now.chars.now p.now.spans.now) (held teller.old) (step_of step)) }
+    requires step { CanTell p.now.w.now (length p.now.spans.now) (held_count (held teller.old)) (step_of step.now) }
+    ensures ok { OnOk result (held teller.new ≡ told (shows teller.old) p.now.w.now (meaning_of p.now.meaning.now) (tokens_of p.now.chars.now p.now.spans.now) (held teller.old) (step_of step.now)) }
     ensures kind { shows teller.new ≡ shows teller.old }
 {
     match step {
-        TreeStep::Token { symbol, from, .. } => tell_token(p, symbol, from, teller),
-        TreeStep::Nulled { symbol, at } => tell_nulled(p, symbol, at, teller),
-        TreeStep::Rule { rule, children, from, to } => tell_rule(alloc, p, rule, children, from, to, teller),
+        TreeStep::Token { symbol, from, .. } => tell_token(p, *symbol, *from, teller),
+        TreeStep::Nulled { symbol, at } => tell_nulled(p, *symbol, *at, teller),
+        TreeStep::Rule {
+            rule,
+            children,
+            from,
+            to,
+        } => tell_rule(alloc, p, *rule, *children, *from, *to, teller),
     }
+}
+
+/// Tells all tellers one step.
+fn tell_all(alloc: Global, p: &Score<'_>, step: &TreeStep, tellers: &mut Vec<Box<dyn Teller>>) -> Result<(), NoMemory>
+    requires meaning { IsMeaningOf p.now.w.now (meaning_of p.now.meaning.now) }
+    requires spans { AreSpans (length p.now.chars.now) p.now.spans.now }
+    requires step { EachCanTell p.now.w.now (length p.now.spans.now) (states tellers.old.items shows held) (step_of step.now) }
+    ensures ok { OnOk result (states tellers.new.items shows held ≡ advanced (λ show values. told show p.now.w.now (meaning_of p.now.meaning.now) (tokens_of p.now.chars.now p.now.spans.now) values (step_of step.now)) (states tellers.old.items shows held)) }
+{
+    for teller in tellers.iter_mut() {
+        tell(alloc, p, step, teller)?;
+    }
+    Ok(())
 }
