@@ -1,3 +1,4 @@
 pub mod Grown
 pub mod Played
 pub mod Every
+pub mod Following

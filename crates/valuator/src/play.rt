@@ -1,13 +1,13 @@
 // Playing a derivation's steps to tellers.
-ghost use Rattle.std.specs.Prelude.{◌≡◌, ◌+◌, ◌-◌, ◌^◌, ◌==◌, ◌&&◌, ◌<◌, ◌≤◌, Bool, Some, None, is_some, option_map, option_copied, length, if◌then◌else◌, [], ◌∷◌, ◌++◌, slice_index_or, slice_range, encode_utf8_all, IfOk, OnOk};
+ghost use Rattle.std.specs.Prelude.{◌≡◌, ◌+◌, ◌-◌, ◌^◌, ◌==◌, ◌&&◌, ◌<◌, ◌≤◌, Bool, Some, None, is_some, map, option_map, option_copied, length, if◌then◌else◌, [], ◌∷◌, ◌++◌, slice_index_or, slice_range, encode_utf8_all, IfOk, OnOk};
 ghost use Rattle.grammar_model.specs.Grammar.{lhs_of, rule_at};
 ghost use Rattle.grammar_model.specs.Steps.{TokenStep, NulledStep, RuleStep};
-ghost use Rattle.grammar_model.specs.Values.{end_before, is_nulling, items_shown, name_of, nulled_action, nulling_value, rule_value, told, token_at, token_value, value_of_nulled, value_of_rule, value_of_token};
+ghost use Rattle.grammar_model.specs.Values.{end_before, is_nulling, items_shown, name_of, nulled_action, nulling_value, rule_value, told, told_all, token_at, token_value, value_of_nulled, value_of_rule, value_of_token};
 ghost use Rattle.grammar_core.specs.Steps.{step_of};
 ghost use Rattle.grammar_core.specs.Written.{rule_of};
 ghost use Rattle.value_text.specs.Meaning.{action_of, meaning_of};
 ghost use Rattle.valuator.specs.Told.{action_in, advanced, held_count, HoldsAtLeast, states, replace_newest};
-ghost use Rattle.valuator.specs.Play.{AreSpans, CanTell, EachCanTell, IsMeaningOf, tokens_of};
+ghost use Rattle.valuator.specs.Play.{AreSpans, CanTell, EachCanTell, EachCanTellAll, IsMeaningOf, tokens_of};
 
 use crate::Teller;
 use grammar_core::{RuleId, Span, SymbolId, TreeStep, Written, WrittenRule};
@@ -245,6 +245,19 @@ fn tell_all(alloc: Global, p: &Score<'_>, step: &TreeStep, tellers: &mut Vec<Box
 {
     for teller in tellers.iter_mut() {
         tell(alloc, p, step, teller)?;
+    }
+    Ok(())
+}
+
+/// Tells all tellers one step after another.
+fn tell_steps(alloc: Global, p: &Score<'_>, list: &[TreeStep], tellers: &mut Vec<Box<dyn Teller>>) -> Result<(), NoMemory>
+    requires meaning { IsMeaningOf p.now.w.now (meaning_of p.now.meaning.now) }
+    requires spans { AreSpans (length p.now.chars.now) p.now.spans.now }
+    requires steps { EachCanTellAll p.now.w.now (length p.now.spans.now) (states tellers.old.items shows held) (map step_of list.now) }
+    ensures ok { OnOk result (states tellers.new.items shows held ≡ advanced (λ show values. told_all show p.now.w.now (meaning_of p.now.meaning.now) (tokens_of p.now.chars.now p.now.spans.now) values (map step_of list.now)) (states tellers.old.items shows held)) }
+{
+    for step in list {
+        tell_all(alloc, p, step, tellers)?;
     }
     Ok(())
 }
