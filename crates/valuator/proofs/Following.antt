@@ -1,6 +1,6 @@
 -- Steps that are told one after another.
-use Rattle.std.proofs.Common.{◌≡◌, ℕ, zero, suc, ◌+◌, ◌-◌, ◌<◌, ◌≤◌, List, [], ◌∷◌, ◌++◌, length, map, take, drop, get_or, refl, sym, ap, ◌∙◌, arith, subst, length-append, append_assoc}
-use Rattle.std.proofs.lemmas.List.{take_more, map-append, get_or-map, length-map, length-take-le, take-map}
+use Rattle.std.proofs.Common.{◌≡◌, ℕ, suc, ◌+◌, ◌-◌, ◌<◌, List, [], ◌∷◌, ◌++◌, length, map, take, drop, get_or, refl, sym, ap, ◌∙◌, arith, subst, length-append}
+use Rattle.std.proofs.lemmas.List.{take_more, map-append, get_or-map, length-map, length-take-le}
 use Rattle.std.proofs.Math.Seq.{drop-cons}
 use Rattle.grammar_model.specs.declared.Show.{Show}
 use Rattle.grammar_model.specs.Grammar.{Grammar}
@@ -9,7 +9,7 @@ use Rattle.grammar_model.specs.Values.{Value, Meaning, Token, told, told_all, va
 use Rattle.grammar_core.specs.declared.steps.TreeStep.{TreeStep}
 use Rattle.grammar_core.specs.Steps.{step_of}
 use Rattle.valuator.specs.Told.{advanced}
-use Rattle.valuator.specs.Play.{CanTell, CanTellAll, held_after, EachCanTell, EachCanTellAll}
+use Rattle.valuator.specs.Play.{CanTellAll, held_after, EachCanTell, EachCanTellAll}
 
 module _ (g : Grammar) (m : Meaning) (tokens : List Token) where
   pub length-told : (show : Show) (values : List Value) (step : Step) → length (told show g m tokens values step) ≡ held_after (length values) step
@@ -38,7 +38,7 @@ module _ (g : Grammar) (m : Meaning) (tokens : List Token) where
       now ≡ advanced (λ show values. told_all show g m tokens values (map step_of (take (i + 1) list))) first
   advanced_more first before now list i d b e f =
       let steps : map step_of (take (i + 1) list) ≡ map step_of (take i list) ++ step_of (get_or list i d) ∷ [] =
-            ap (map step_of) (take_more list i d b) ∙ map-append step_of (take i list) (get_or list i d ∷ []) in
+      ap (map step_of) (take_more list i d b) ∙ map-append step_of (take i list) (get_or list i d ∷ []) in
       f ∙ ap (advanced (λ show values. told show g m tokens values (step_of (get_or list i d)))) e
       ∙ advanced_push first (map step_of (take i list)) (step_of (get_or list i d))
       ∙ ap (λ (xs : List Step). advanced (λ show values. told_all show g m tokens values xs) first) (sym steps)
@@ -57,11 +57,11 @@ module _ (g : Grammar) (m : Meaning) (tokens : List Token) where
       let step = step_of (get_or list i d) in
       subst (λ (xs : List (Show × List Value)). EachCanTellAll g places xs (map step_of (drop (i + 1) list))) (sym f)
       (λ k e inside.
-        let inside2 : k < length before = omega (arith, inside, length-map {B = Show × List Value} before (λ (s : Show × List Value). (s.0, told s.0 g m tokens s.1 step))) in
-        let s = get_or before k e in
-        let rest = (subst (CanTellAll g places (length s.1)) (next_steps list i d b) (each k e inside2)).1 in
-        subst (λ (t : Show × List Value). CanTellAll g places (length t.1) (map step_of (drop (i + 1) list))) (sym (get_or-map {Y = Show × List Value} (λ (s : Show × List Value). (s.0, told s.0 g m tokens s.1 step)) before k e e inside2))
-        (subst (λ n. CanTellAll g places n (map step_of (drop (i + 1) list))) (sym (length-told s.0 s.1 step)) rest))
+      let inside2 : k < length before = omega (arith, inside, length-map {B = Show × List Value} before (λ (s : Show × List Value). (s.0, told s.0 g m tokens s.1 step))) in
+      let s = get_or before k e in
+      let rest = (subst (CanTellAll g places (length s.1)) (next_steps list i d b) (each k e inside2)).1 in
+      subst (λ (t : Show × List Value). CanTellAll g places (length t.1) (map step_of (drop (i + 1) list))) (sym (get_or-map {Y = Show × List Value} (λ (s : Show × List Value). (s.0, told s.0 g m tokens s.1 step)) before k e e inside2))
+      (subst (λ n. CanTellAll g places n (map step_of (drop (i + 1) list))) (sym (length-told s.0 s.1 step)) rest))
 
   pub advanced_more_at : (first before now : List (Show × List Value)) (list : List TreeStep) (i : ℕ) (s : TreeStep) → i < length list → s ≡ get_or list i s →
       before ≡ advanced (λ show values. told_all show g m tokens values (map step_of (take i list))) first →

@@ -1,5 +1,5 @@
 -- What is told of a derivation's steps.
-use Rattle.std.proofs.Common.{◌≡◌, ℕ, zero, suc, ◌+◌, ◌-◌, ◌<◌, ◌≤◌, Bool, true, false, List, [], ◌∷◌, ◌++◌, length, map, get_or, refl, sym, ap, ◌∙◌, arith, length-append, subst, Option, Some, None, cond, nat_lt}
+use Rattle.std.proofs.Common.{◌≡◌, ℕ, zero, suc, ◌+◌, ◌-◌, ◌<◌, ◌≤◌, Bool, true, false, List, [], ◌∷◌, ◌++◌, length, map, get_or, refl, sym, ap, ◌∙◌, arith, length-append, Option, Some, None, cond, nat_lt}
 use Rattle.grammar_core.specs.declared.steps.Span.{Span}
 use Rattle.grammar_model.specs.Values.{Value, RuleMeaning, is_nulling, Meaning, Action, MakeUndefined, meaning_at, Token, token_at, end_before, name_of, nulled_action, items_shown, shown_of, rule_value, value_of_rule, token_value, nulling_value, value_of_token, value_of_nulled}
 use Rattle.grammar_model.specs.declared.Show.{Show}
@@ -106,7 +106,7 @@ pub told_rule : (show : Show) (g : Grammar) (m : Meaning) (chars : List ℕ) (sp
     new ≡ replace_newest n (value_of_rule show g m (tokens_of chars spans) rule n from to) old
 told_rule show g m chars spans old new rule n from to name shown d end action nm sh b en ac count e =
     let at : (get_or spans from d).start ≡ (token_at (tokens_of chars spans) from).start =
-          ap (λ (t : Token). t.start) (sym (get_or-mapped (token_of chars) spans from d (record { start = 0; length = 0; text = [] }) b)) in
+    ap (λ (t : Token). t.start) (sym (get_or-mapped (token_of chars) spans from d (record { start = 0; length = 0; text = [] }) b)) in
     e ∙ (λ i. replace_newest (count i) (rule_value show rule (nm i) (sh i) (at i) (en i - at i) from (to - from) (ac i)) old)
 
 pub meaning_found : (m : MeaningCode) (all : List RuleMeaningCode) (i j : ℕ) (item : RuleMeaningCode) → all ≡ m.rules → i ≡ j → j < length m.rules → item ≡ get_or all i item → meaning_at (meaning_of m) j ≡ rule_meaning_of item

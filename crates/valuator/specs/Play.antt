@@ -1,5 +1,5 @@
 -- What is played to tellers: the steps of a derivation whose tokens lie one place each, with their spans in a text.
-use Rattle.std.specs.Prelude.{◌≡◌, ℕ, suc, ◌+◌, ◌-◌, ◌*◌, ◌^◌, ◌<◌, ◌≤◌, Bool, true, false, Option, is_some, List, [], ◌∷◌, length, map, slice_range, encode_utf8_all, All}
+use Rattle.std.specs.Prelude.{◌≡◌, ℕ, suc, ◌+◌, ◌-◌, ◌^◌, ◌<◌, ◌≤◌, true, false, is_some, List, [], ◌∷◌, length, map, slice_range, encode_utf8_all, All}
 use Rattle.grammar_model.specs.Grammar.{Grammar, lhs_of, Slot, WrittenRule, Plain, Sequence, rule_at, IsChildCount}
 use Rattle.grammar_model.specs.declared.Show.{Show}
 use Rattle.grammar_model.specs.Trees.{Tree}

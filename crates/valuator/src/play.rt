@@ -154,11 +154,26 @@ fn pass_rule(
 {
     let count = shown.len() as u32;
     let length = end.saturating_sub(start);
-    teller.rule(rule, name, count, shown, start, length, from, to - from, action)
+    teller.rule(
+        rule,
+        name,
+        count,
+        shown,
+        start,
+        length,
+        from,
+        to - from,
+        action,
+    )
 }
 
 /// Tells a token.
-fn tell_token(p: &Score<'_>, symbol: SymbolId, from: u32, teller: &mut Box<dyn Teller>) -> Result<(), NoMemory>
+fn tell_token(
+    p: &Score<'_>,
+    symbol: SymbolId,
+    from: u32,
+    teller: &mut Box<dyn Teller>,
+) -> Result<(), NoMemory>
     requires spans { AreSpans (length p.now.chars.now) p.now.spans.now }
     requires symbol { symbol < length p.now.w.now.names }
     requires from { from < length p.now.spans.now }
@@ -173,7 +188,12 @@ fn tell_token(p: &Score<'_>, symbol: SymbolId, from: u32, teller: &mut Box<dyn T
 }
 
 /// Tells a nulled symbol.
-fn tell_nulled(p: &Score<'_>, symbol: SymbolId, at: u32, teller: &mut Box<dyn Teller>) -> Result<(), NoMemory>
+fn tell_nulled(
+    p: &Score<'_>,
+    symbol: SymbolId,
+    at: u32,
+    teller: &mut Box<dyn Teller>,
+) -> Result<(), NoMemory>
     requires meaning { IsMeaningOf p.now.w.now (meaning_of p.now.meaning.now) }
     requires spans { AreSpans (length p.now.chars.now) p.now.spans.now }
     requires symbol { symbol < length p.now.w.now.names }
@@ -210,14 +230,39 @@ fn tell_rule(
     let meaning = &p.meaning.rules.as_slice()[rule.0 as usize];
     if meaning.sequence {
         let shown = shown_items(alloc, meaning.separated, children)?;
-        pass_rule(teller, rule, name, shown.as_slice(), start, end, from, to, &meaning.action)
+        pass_rule(
+            teller,
+            rule,
+            name,
+            shown.as_slice(),
+            start,
+            end,
+            from,
+            to,
+            &meaning.action,
+        )
     } else {
-        pass_rule(teller, rule, name, meaning.shown.as_slice(), start, end, from, to, &meaning.action)
+        pass_rule(
+            teller,
+            rule,
+            name,
+            meaning.shown.as_slice(),
+            start,
+            end,
+            from,
+            to,
+            &meaning.action,
+        )
     }
 }
 
 /// Tells one step.
-fn tell(alloc: Global, p: &Score<'_>, step: &TreeStep, teller: &mut Box<dyn Teller>) -> Result<(), NoMemory>
+fn tell(
+    alloc: Global,
+    p: &Score<'_>,
+    step: &TreeStep,
+    teller: &mut Box<dyn Teller>,
+) -> Result<(), NoMemory>
     requires meaning { IsMeaningOf p.now.w.now (meaning_of p.now.meaning.now) }
     requires spans { AreSpans (length p.now.chars.now) p.now.spans.now }
     requires step { CanTell p.now.w.now (length p.now.spans.now) (held_count (held teller.old)) (step_of step.now) }
@@ -237,7 +282,12 @@ fn tell(alloc: Global, p: &Score<'_>, step: &TreeStep, teller: &mut Box<dyn Tell
 }
 
 /// Tells all tellers one step.
-fn tell_all(alloc: Global, p: &Score<'_>, step: &TreeStep, tellers: &mut Vec<Box<dyn Teller>>) -> Result<(), NoMemory>
+fn tell_all(
+    alloc: Global,
+    p: &Score<'_>,
+    step: &TreeStep,
+    tellers: &mut Vec<Box<dyn Teller>>,
+) -> Result<(), NoMemory>
     requires meaning { IsMeaningOf p.now.w.now (meaning_of p.now.meaning.now) }
     requires spans { AreSpans (length p.now.chars.now) p.now.spans.now }
     requires step { EachCanTell p.now.w.now (length p.now.spans.now) (states tellers.old.items shows held) (step_of step.now) }
@@ -250,7 +300,12 @@ fn tell_all(alloc: Global, p: &Score<'_>, step: &TreeStep, tellers: &mut Vec<Box
 }
 
 /// Tells all tellers one step after another.
-fn tell_steps(alloc: Global, p: &Score<'_>, list: &[TreeStep], tellers: &mut Vec<Box<dyn Teller>>) -> Result<(), NoMemory>
+fn tell_steps(
+    alloc: Global,
+    p: &Score<'_>,
+    list: &[TreeStep],
+    tellers: &mut Vec<Box<dyn Teller>>,
+) -> Result<(), NoMemory>
     requires meaning { IsMeaningOf p.now.w.now (meaning_of p.now.meaning.now) }
     requires spans { AreSpans (length p.now.chars.now) p.now.spans.now }
     requires steps { EachCanTellAll p.now.w.now (length p.now.spans.now) (states tellers.old.items shows held) (map step_of list.now) }

@@ -8,5 +8,5 @@ pub returns-clause-ok : goal.returns-clause-ok
 returns-clause-ok g c =
     on_ok_weaker c.pass_nulling.result
     (λ e. told_nulled _ c.args.p.now.w.now (meaning_of c.args.p.now.meaning.now) (tokens_of c.args.p.now.chars.now c.args.p.now.spans.now) _ _ c.args.symbol c.args.at _ _ _
-          c.name_in-name.ensures c.end_of-start.ensures c.nulling_action-action.ensures e)
+    c.name_in-name.ensures c.end_of-start.ensures c.nulling_action-action.ensures e)
     c.pass_nulling.ensures.ok

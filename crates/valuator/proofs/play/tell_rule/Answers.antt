@@ -27,10 +27,10 @@ returns-in_ok-shown-clause-ok g c =
     let items = c.as_slice-then-meaning.ensures.value ∙ c.in_ok-shown.ensures in
     let count : length c.as_slice-then-meaning.result.now ≡ c.args.children = ap length items ∙ length-items_shown _ _ in
     let shown : c.as_slice-then-meaning.result.now ≡ shown_of (rule_at c.args.p.now.w.now c.args.rule) (meaning_at (meaning_of c.args.p.now.meaning.now) c.args.rule).shown c.args.children =
-          sequence_shown _ _ _ _ suits (ap (λ (r : RuleMeaning). r.sequence) meant ∙ c.if-meaning.true) (items ∙ ap (λ (r : RuleMeaning). items_shown (if r.separated then Some 0 else None) c.args.children) (sym meant)) in
+    sequence_shown _ _ _ _ suits (ap (λ (r : RuleMeaning). r.sequence) meant ∙ c.if-meaning.true) (items ∙ ap (λ (r : RuleMeaning). items_shown (if r.separated then Some 0 else None) c.args.children) (sym meant)) in
     on_ok_weaker c.pass_rule.result
     (λ e. told_rule _ c.args.p.now.w.now (meaning_of c.args.p.now.meaning.now) c.args.p.now.chars.now c.args.p.now.spans.now _ _ c.args.rule c.args.children c.args.from c.args.to _ _ _ _ _
-          name shown from c.end_of-end.ensures (sym (ap (λ (r : RuleMeaning). r.action) meant)) count e)
+    name shown from c.end_of-end.ensures (sym (ap (λ (r : RuleMeaning). r.action) meant)) count e)
     c.pass_rule.ensures.ok
 
 pub returns-else-meaning-clause-ok : goal.returns-else-meaning-clause-ok
@@ -45,5 +45,5 @@ returns-else-meaning-clause-ok g c =
     let count : length c.as_slice-else-meaning.result.now ≡ c.args.children = ap length (c.as_slice-else-meaning.ensures ∙ ap (λ (r : RuleMeaning). r.shown) (sym meant)) ∙ plain.1 in
     on_ok_weaker c.pass_rule-else-meaning.result
     (λ e. told_rule _ c.args.p.now.w.now (meaning_of c.args.p.now.meaning.now) c.args.p.now.chars.now c.args.p.now.spans.now _ _ c.args.rule c.args.children c.args.from c.args.to _ _ _ _ _
-          name shown from c.end_of-end.ensures (sym (ap (λ (r : RuleMeaning). r.action) meant)) count e)
+    name shown from c.end_of-end.ensures (sym (ap (λ (r : RuleMeaning). r.action) meant)) count e)
     c.pass_rule-else-meaning.ensures.ok

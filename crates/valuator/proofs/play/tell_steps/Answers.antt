@@ -1,4 +1,4 @@
-use Rattle.std.proofs.Common.{◌≡◌, ◌<◌, length, arith}
+use Rattle.std.proofs.Common.{arith}
 use Rattle.value_text.specs.Meaning.{meaning_of}
 use Rattle.valuator.specs.Play.{tokens_of}
 use Rattle.valuator.proofs.Following.{advanced_none, advanced_more_at, can_next_at, can_rest_at}

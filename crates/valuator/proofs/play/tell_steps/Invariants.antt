@@ -10,7 +10,7 @@ abbrev pub invariant-loop-step : goal.invariant-loop-step
 invariant-loop-step g l = record {
   told : states l.tellers.items (λ t. (goal.Teller-dyn g (t.vtable, t.value)).shows t.value) (λ t. (goal.Teller-dyn g (t.vtable, t.value)).held t.value)
       ≡ advanced (λ show values. told_all show l.fn.p.w.now (meaning_of l.fn.p.meaning.now) (tokens_of l.fn.p.chars.now l.fn.p.spans.now) values (map step_of (take l.step-index l.list)))
-          (states l.fn.tellers.items (λ t. (goal.Teller-dyn g (t.vtable, t.value)).shows t.value) (λ t. (goal.Teller-dyn g (t.vtable, t.value)).held t.value));
+      (states l.fn.tellers.items (λ t. (goal.Teller-dyn g (t.vtable, t.value)).shows t.value) (λ t. (goal.Teller-dyn g (t.vtable, t.value)).held t.value));
   can : EachCanTellAll l.fn.p.w.now (length l.fn.p.spans.now)
       (states l.tellers.items (λ t. (goal.Teller-dyn g (t.vtable, t.value)).shows t.value) (λ t. (goal.Teller-dyn g (t.vtable, t.value)).held t.value)) (map step_of (drop l.step-index l.list));
 }
