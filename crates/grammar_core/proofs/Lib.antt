@@ -1,1 +1,4 @@
 pub mod Growth
+pub mod Halving
+pub mod Placed
+pub mod Holding

@@ -1,3 +1,5 @@
 pub mod Written
 pub mod Refusals
+pub mod Flat
 pub mod Steps
+pub mod Edges

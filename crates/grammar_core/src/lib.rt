@@ -1,6 +1,8 @@
 //! Grammars as programs hold them: symbols with names, rules and starts, each under the number of its place.
 #![tactic(auto)]
 
+mod edges;
+mod flat;
 mod refusal;
 mod rule;
 mod steps;
@@ -8,8 +10,11 @@ mod steps;
 mod tests;
 mod written;
 
-pub use grammar_model::Assoc;
+pub use edges::{Edge, EdgeRefusal, LONGEST_EDGE, TokenEdges};
+pub use flat::{Flat, FlatParts};
+pub use grammar_model::{Assoc, RuleId, SymbolId};
+pub use recognizer_model::{FlatRule, FlatSource, FlatSymbol, Item};
 pub use refusal::CoreRefusal;
-pub use rule::{Rule, RuleId, SeqRule, SymbolId, WrittenRule};
+pub use rule::{Rule, SeqRule, WrittenRule};
 pub use steps::{Span, TreeStep};
 pub use written::Written;

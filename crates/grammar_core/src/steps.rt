@@ -5,11 +5,23 @@ use crate::{RuleId, SymbolId};
 #[derive(Clone, Copy, Debug, PartialEq, Eq)]
 pub enum TreeStep {
     /// a token
-    Token { symbol: SymbolId, from: u32, to: u32 },
+    Token {
+        symbol: SymbolId,
+        from: u32,
+        to: u32,
+    },
     /// a symbol that spans nothing
-    Nulled { symbol: SymbolId, at: u32 },
+    Nulled {
+        symbol: SymbolId,
+        at: u32,
+    },
     /// a rule, whose children are the newest so many
-    Rule { rule: RuleId, children: u32, from: u32, to: u32 },
+    Rule {
+        rule: RuleId,
+        children: u32,
+        from: u32,
+        to: u32,
+    },
 }
 
 /// Where a token lies in the text, in characters.

@@ -10,7 +10,7 @@ use Rattle.grammar_model.specs.Derives.{Edges, Derives, DerivesFront}
 use Rattle.grammar_model.specs.Order.{RuleOrder, RuleRanks, rank_order}
 use Rattle.grammar_model.specs.All.{IsAll}
 use Rattle.grammar_model.specs.Simple.{IsSimple, Tested, simple_trees}
-use Rattle.grammar_model.specs.Characters.{IsQuoted, Quoted, IsAllOfCharacters, quoted_name}
+use Rattle.grammar_model.specs.Characters.{IsQuoted, Quoted, IsAllOfCharacters, quoted_name, is_named, is_quoted}
 use Rattle.grammar_model.proofs.Sorting.{ranks_order}
 use Rattle.grammar_model.proofs.Total.{all_unique}
 use Rattle.grammar_model.proofs.Simple.{trees_all}
@@ -41,15 +41,6 @@ all_so g e f order slot p q trees forth back all = record {
   sorted = all.sorted;
   each = λ t. (λ c. derives_so g e f forth slot p q t ((all.each t).0 c), λ d. (all.each t).1 (derives_so g f e back slot p q t d));
 }
-
--- whether a byte is that of a symbol's quoted character
-abbrev pub is_named : Option ℕ → Option (List ℕ) → Bool
-is_named (Some c) (Some name) = bytes_eq name (quoted_name c)
-is_named (Some c) None = false
-is_named None name = false
-
-abbrev pub is_quoted : Grammar → List ℕ → ℕ → ℕ → ℕ → Bool
-is_quoted g input s i j = is_named (slice_get input i) (slice_get g.names s) && (j == suc i)
 
 named_from : (byte : Option ℕ) (name : Option (List ℕ)) → is_named byte name ≡ true → (c : ℕ) × (byte ≡ Some c) × (name ≡ Some (quoted_name c))
 named_from (Some c) (Some name) e = (c, refl, ap Some ((bytes_eq-Decides name (quoted_name c)).0 e))

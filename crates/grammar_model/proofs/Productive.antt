@@ -10,7 +10,7 @@ each_needed : (P Q : Slot → Type 0) (rule : WrittenRule) → ((s : Slot) → P
 each_needed P Q (Plain r) h e = λ k lt. h (child_slot (Plain r) k) (e k lt)
 each_needed P Q (Sequence r) h e = h (slot_of r.item) e
 
-item_first : (item : ℕ) (separator : Option ℕ) → sequence_symbol item separator 0 ≡ item
+pub item_first : (item : ℕ) (separator : Option ℕ) → sequence_symbol item separator 0 ≡ item
 item_first item None = refl
 item_first item (Some c) = refl
 

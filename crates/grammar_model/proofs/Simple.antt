@@ -124,29 +124,29 @@ some_from s (rule ∷ rules) e = pick (λ t. some_from s rules t) (or_cases _ _ 
     pick ih (inl t) = (0, omega arith, eqb-true (lhs_of rule) s t)
     pick ih (inr t) = let r = ih t in (suc r.0, omega arith, r.2)
 
-terminal_from : (g : Grammar) (s : ℕ) → is_terminal g s ≡ true → IsTerminal g s
+pub terminal_from : (g : Grammar) (s : ℕ) → is_terminal g s ≡ true → IsTerminal g s
 terminal_from g s e = none_from s g.rules (not-true _ e)
 
-no_terminal_from : (g : Grammar) (s : ℕ) → is_terminal g s ≡ false → IsTerminal g s → ⊥
+pub no_terminal_from : (g : Grammar) (s : ℕ) → is_terminal g s ≡ false → IsTerminal g s → ⊥
 no_terminal_from g s e t = let r = some_from s g.rules (not-false _ e) in t r.0 r.1 r.2
 
-is_terminal_from : (g : Grammar) (s : ℕ) → IsTerminal g s → is_terminal g s ≡ true
+pub is_terminal_from : (g : Grammar) (s : ℕ) → IsTerminal g s → is_terminal g s ≡ true
 is_terminal_from g s t = go (is_terminal g s) refl
   where
     go : (b : Bool) → is_terminal g s ≡ b → b ≡ true
     go true e = refl
     go false e = absurd (no_terminal_from g s e t)
 
-fits_from : (rule : WrittenRule) (slot : Slot) → fits rule slot ≡ true → Fits rule slot
+pub fits_from : (rule : WrittenRule) (slot : Slot) → fits rule slot ≡ true → Fits rule slot
 fits_from rule slot e = let b = and_parts _ _ e in (eqb-true _ _ b.0, leb-true _ _ b.1)
 
-from_fits : (rule : WrittenRule) (slot : Slot) → Fits rule slot → fits rule slot ≡ true
+pub from_fits : (rule : WrittenRule) (slot : Slot) → Fits rule slot → fits rule slot ≡ true
 from_fits rule slot f = and_from _ _ (eq-eqb _ _ f.0) (le-leb _ _ f.1)
 
 -- ---- simple grammars
 
 -- what a simple rule's parts are
-simple_parts : (g : Grammar) (rule : WrittenRule) → IsSimpleRule g rule → 0 < part_count rule
+pub simple_parts : (g : Grammar) (rule : WrittenRule) → IsSimpleRule g rule → 0 < part_count rule
 simple_parts g (Plain r) s = ⊎_elim (λ h. let e = h.0 in omega arith) (λ h. omega arith) s.2
 simple_parts g (Sequence r) h = absurd h
 

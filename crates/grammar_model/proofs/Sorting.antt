@@ -13,7 +13,7 @@ use Rattle.grammar_model.proofs.Chains.{Chains, chains_of, Chains-then, reverse-
 abbrev pub Made : Type 0
 Made = ℕ × ℕ
 
-rules_total : (g : Grammar) (ranking : Ranking) → IsTotalOrder (λ (x y : Made). rule_cmp g ranking x.0 x.1 y.0 y.1)
+pub rules_total : (g : Grammar) (ranking : Ranking) → IsTotalOrder (λ (x y : Made). rule_cmp g ranking x.0 x.1 y.0 y.1)
 rules_total g ranking =
     then_total (on_total (λ (x : Made). rank_by ranking (rule_at g x.0)) (back_total int_cmp_total))
     (then_total (on_total (λ (x : Made). x.0) nat_cmp_total) (on_total (λ (x : Made). has_trailing (rule_at g x.0) x.1) bool_cmp_total))

@@ -1,7 +1,8 @@
 -- Inputs whose tokens are single characters: the byte at a place is a token of the symbol that is named by the character in
 -- quotes. A derivation of such an input is told by one line.
 -- Source: the Marpa SLIF DSL manual (quoted strings as implicit lexemes).
-use Rattle.std.specs.Prelude.{◌≡◌, ℕ, suc, List, [], ◌∷◌, ◌++◌, length, slice_get, Option, Some, None}
+use Rattle.std.specs.Prelude.{◌≡◌, ℕ, suc, List, [], ◌∷◌, ◌++◌, length, slice_get, Option, Some, None, Bool, false, ◌&&◌, ◌==◌}
+use Rattle.std.specs.Str.{bytes_eq}
 use Rattle.grammar_model.specs.declared.Show.TheVariants.{Tree as ShowTree}
 use Rattle.grammar_model.specs.declared.Ranking.TheVariants.{Rule as RuleRanks}
 use Rattle.grammar_model.specs.Grammar.{Grammar, slot_of}
@@ -26,6 +27,15 @@ pub record IsQuoted (g : Grammar) (input : List ℕ) (symbol from to : ℕ) : Ty
 
 abbrev pub Quoted : Grammar → List ℕ → Edges
 Quoted g input symbol from to = IsQuoted g input symbol from to
+
+-- the same as a test
+abbrev pub is_named : Option ℕ → Option (List ℕ) → Bool
+is_named (Some c) (Some name) = bytes_eq name (quoted_name c)
+is_named (Some c) None = false
+is_named None name = false
+
+abbrev pub is_quoted : Grammar → List ℕ → ℕ → ℕ → ℕ → Bool
+is_quoted g input symbol from to = is_named (slice_get input from) (slice_get g.names symbol) && (to == suc from)
 
 -- the list of all derivations of the input from the grammar's first start
 abbrev pub IsAllOfCharacters : Grammar → List ℕ → List Tree → Type 0

@@ -12,3 +12,4 @@ pub mod Values
 pub mod Text
 pub mod Listable
 pub mod Characters
+pub mod Checked

@@ -10,6 +10,10 @@ ghost use Rattle.grammar_model.specs.Values.{StepsTellTheValue};
 ghost use Rattle.grammar_model.specs.Cycles.{HeightsExcludeCycles};
 ghost use Rattle.grammar_model.specs.Listable.{ListExists};
 
+mod id;
+
+pub use id::{RuleId, SymbolId};
+
 /// Which occurrence of the left side may have the rule's own level again.
 #[derive(Clone, Copy, Debug, PartialEq, Eq)]
 pub enum Assoc {

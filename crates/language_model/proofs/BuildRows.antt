@@ -1,5 +1,6 @@
 -- Worked rows of building, each by computing.
 use Rattle.std.specs.Prelude.{◌≡◌, ℕ, pos, Bool, true, false, List, [], ◌∷◌, codes, decimal, refl, Err}
+use Rattle.std.proofs.Common.{lit≤}
 use Rattle.std.specs.Str.{chars}
 use Rattle.language_model.specs.declared.token.TokenKind.TheVariants.{Word, Quote, Bracket, Mark}
 use Rattle.grammar_model.specs.declared.Assoc.TheVariants.{Left}
@@ -8,7 +9,7 @@ use Rattle.language_model.specs.Tokens.{Spelled}
 use Rattle.language_model.specs.Description.{Element, Bare, Adverb, Pair, Statement, Start, Lexeme, Rules, cut, pieces_of, tokens_of, Describes}
 use Rattle.language_model.specs.Building.{build, grammar_g1, grammar_l0, BadAdverb, RepeatedAdverb, LexemeNotDefined, InBoth, NotALexeme, BadClass, TwoStarts, NumberRange}
 use Rattle.language_model.specs.Classes.{class_of, posix_len, hex_piece, escape_piece, piece_at, pieces_behind, items_of}
-use Rattle.language_model.specs.Simple.{Named, Quoted, print_simple}
+use Rattle.language_model.specs.Simple.{Named, Quoted, print_simple, IsSimpleText, grammar_of_simple}
 
 abbrev word_at : ℕ → List ℕ → Spelled
 word_at at content = record { kind = Word; content = content; at = at }
@@ -75,6 +76,16 @@ l0_of_sums = refl
 simple : print_simple (record { left = codes "S"; alternatives = (Quoted 97 ∷ []) ∷ (Named (codes "S") ∷ Quoted 43 ∷ []) ∷ [] } ∷ []) ≡ codes "S ::= 'a' | S '+'\n"
 unfolding print_simple
 simple = refl
+
+-- `S ::= 'a' | S '+'` is a simple text
+simple_text : IsSimpleText (codes "S ::= 'a' | S '+'\n") (record { left = codes "S"; alternatives = (Quoted 97 ∷ []) ∷ (Named (codes "S") ∷ Quoted 43 ∷ []) ∷ [] } ∷ [])
+unfolding print_simple
+simple_text = record { simple = record { some = refl; lines = refl; names = refl; plain = refl; differ = refl; few = refl }; spelled = refl; short = lit≤ tt }
+
+-- its grammar, by the order of the names' first appearance
+simple_grammar : grammar_of_simple (record { left = codes "S"; alternatives = (Quoted 97 ∷ []) ∷ (Named (codes "S") ∷ Quoted 43 ∷ []) ∷ [] } ∷ [])
+    ≡ record { names = codes "S" ∷ codes "'a'" ∷ codes "'+'" ∷ []; rules = Plain (record { lhs = 0; rhs = 1 ∷ []; level = 0; groups = 1; assoc = Left; rank = pos 0; null_high = false }) ∷ Plain (record { lhs = 0; rhs = 0 ∷ 2 ∷ []; level = 0; groups = 1; assoc = Left; rank = pos 0; null_high = false }) ∷ []; starts = 0 ∷ [] }
+simple_grammar = refl
 
 -- `S ::= 'a' ; 'b'` has two pieces, the second of which begins at the thirteenth character
 two_pieces : pieces_of (word_at 0 (codes "S") ∷ mark_at 2 (codes "::=") ∷ quote_at 6 (codes "'a'") ∷ mark_at 10 (codes ";") ∷ quote_at 12 (codes "'b'") ∷ []) ≡ (word_at 0 (codes "S") ∷ mark_at 2 (codes "::=") ∷ quote_at 6 (codes "'a'") ∷ []) ∷ (quote_at 12 (codes "'b'") ∷ []) ∷ []

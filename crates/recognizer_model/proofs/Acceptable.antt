@@ -8,7 +8,7 @@ use Rattle.recognizer_model.specs.FlatDerives.{Derives, Token, Null, Rule, Spans
 use Rattle.recognizer_model.specs.Items.{after, first_item, InSet}
 use Rattle.recognizer_model.specs.Contexts.{IsTop, MayStand, AtStart, Next}
 use Rattle.recognizer_model.specs.Leo.{GoesForward}
-use Rattle.recognizer_model.specs.Acceptable.{IsTerminal, Laid, Continued, IsAcceptable, IsProductive, Itself, Marked, ByRule, AreProductive, Both, MarksAreClosed, PartsAreProductive, OnlyTerminals, NoTerminalHasRules, AcceptableAreAwaited}
+use Rattle.recognizer_model.specs.Acceptable.{IsTerminal, Laid, Continued, IsContinued, IsProductive, Itself, Marked, ByRule, AreProductive, Both, MarksAreClosed, PartsAreProductive, OnlyTerminals, NoTerminalHasRules, ContinuedAreAwaited}
 use Rattle.recognizer_model.proofs.Earley.{found, over_parts}
 
 le_or_above : (a b : ℕ) → (a ≤ b) ⊎ (b < a)
@@ -263,7 +263,7 @@ module _ (g : FlatGrammar) (E : Edges) (top : ℕ) (is_top : IsTop g top) (forwa
 
   -- the rules around a symbol are finished, from the inside out
   close : {x from : ℕ} → MayStand g E top x from → from ≤ p → (ws : List ℕ) → AllByRecursion (IsTerminal g) ws → {tree : Tree} →
-      Derives g (Word ws) x from (end_of ws) tree → IsAcceptable g E top p t
+      Derives g (Word ws) x from (end_of ws) tree → IsContinued g E top p t
   close (AtStart e) le ws terminals {tree = tree} d = record { more = ws; terminals = terminals; tree = tree; derives = subst (λ x. Derives g (Word ws) x 0 (end_of ws) tree) (sym e) d }
   close (Next {y = y} {p = start} {r = r} {d = k} {q = from} {cs = cs} m rule l s e) le ws terminals {tree = tree} d =
       let before = parts_forward g E forward s in
@@ -277,7 +277,7 @@ module _ (g : FlatGrammar) (E : Edges) (top : ℕ) (is_top : IsTop g top) (forwa
       let f = finish rule b (omega arith) in
       close m (omega arith) f.word f.terminals (Rule rule l (omega arith) f.spans)
 
-  acceptable : (item : Item) → InSet g E top p item → after g item ≡ Some t → IsAcceptable g E top p t
+  acceptable : (item : Item) → InSet g E top p item → after g item ≡ Some t → IsContinued g E top p t
   acceptable item i e =
       let f = found g E top is_top i in
       let within = part_within (rhs_of g item.rule) item.dot t e in
@@ -291,9 +291,9 @@ module _ (g : FlatGrammar) (E : Edges) (top : ℕ) (is_top : IsTop g top) (forwa
       let c = finish f.is_rule b (omega arith) in
       close f.may_stand before c.word c.terminals (Rule f.is_rule refl (omega arith) c.spans)
 
-pub acceptable_are_awaited : (g : FlatGrammar) (E : Edges) (top : ℕ) → IsTop g top → GoesForward E → OnlyTerminals g E → NoTerminalHasRules g →
-    MarksAreClosed g → PartsAreProductive g → AcceptableAreAwaited g E top
-acceptable_are_awaited g E top is_top forward only none closed productive place t terminal = (
+pub continued_are_awaited : (g : FlatGrammar) (E : Edges) (top : ℕ) → IsTop g top → GoesForward E → OnlyTerminals g E → NoTerminalHasRules g →
+    MarksAreClosed g → PartsAreProductive g → ContinuedAreAwaited g E top
+continued_are_awaited g E top is_top forward only none closed productive place t terminal = (
   λ a. awaited_before g E top is_top forward only none place t a.more terminal a.terminals
       (awaited_in g E top is_top forward only none place t a.more terminal a.terminals a.derives refl refl (omega arith)),
   λ (item, i, e). acceptable g E top is_top forward closed productive place t item i e,

@@ -5,6 +5,8 @@ use Rattle.grammar_model.specs.Trees.{Tree}
 use Rattle.recognizer_model.specs.Flat.{FlatGrammar, Terminal, IsRule, lhs_of, rhs_of, part_of, IsNullable}
 use Rattle.grammar_model.specs.Derives.{Edges}
 use Rattle.recognizer_model.specs.FlatDerives.{Derives}
+use Rattle.grammar_model.specs.Acceptable.{IsAcceptable}
+use Rattle.recognizer_model.specs.View.{grammar_view}
 use Rattle.recognizer_model.specs.Items.{after, InSet}
 
 abbrev pub IsTerminal : FlatGrammar → ℕ → Type 0
@@ -19,8 +21,8 @@ Laid p (t ∷ ts) x from to = ((x ≡ t) × (from ≡ p) × (to ≡ suc p)) ⊎ 
 abbrev pub Continued : Edges → ℕ → List ℕ → Edges
 Continued E p ts x from to = (E x from to × (to ≤ p)) ⊎ Laid p ts x from to
 
--- a symbol is acceptable at a place: with it and some terminals laid after the place, the start derives the whole
-pub record IsAcceptable (g : FlatGrammar) (E : Edges) (top place symbol : ℕ) : Type 0 where
+-- with the symbol and some terminals laid after the place, the start derives the whole: a form of acceptable in which no path is spelled
+pub record IsContinued (g : FlatGrammar) (E : Edges) (top place symbol : ℕ) : Type 0 where
   pub more : List ℕ
   pub terminals : AllByRecursion (IsTerminal g) more
   pub tree : Tree
@@ -51,7 +53,15 @@ OnlyTerminals g E = (x p q : ℕ) → E x p q → IsTerminal g x
 abbrev pub NoTerminalHasRules : FlatGrammar → Type 0
 NoTerminalHasRules g = (r : ℕ) → IsRule g r → ¬ IsTerminal g (lhs_of g r)
 
--- a terminal is acceptable exactly where an item waits for it
+abbrev pub ContinuedAreAwaited : (g : FlatGrammar) (E : Edges) (top : ℕ) → Type 0
+ContinuedAreAwaited g E top = (place t : ℕ) → IsTerminal g t →
+    IsContinued g E top place t ↔ ((item : Item) × InSet g E top place item × (after g item ≡ Some t))
+
+-- a terminal is acceptable exactly where an item of the set waits for it
 abbrev pub AcceptableAreAwaited : (g : FlatGrammar) (E : Edges) (top : ℕ) → Type 0
 AcceptableAreAwaited g E top = (place t : ℕ) → IsTerminal g t →
-    IsAcceptable g E top place t ↔ ((item : Item) × InSet g E top place item × (after g item ≡ Some t))
+    IsAcceptable (grammar_view g) E (lhs_of g top) t place ↔ ((item : Item) × InSet g E top place item × (after g item ≡ Some t))
+
+-- terminals are not marked
+abbrev pub TerminalsSpan : FlatGrammar → Type 0
+TerminalsSpan g = (x : ℕ) → IsTerminal g x → IsNullable g x → ⊥

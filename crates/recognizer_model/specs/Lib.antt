@@ -1,3 +1,4 @@
+pub mod FlatRule
 pub mod Flat
 pub mod FlatDerives
 pub mod Items
@@ -9,3 +10,6 @@ pub mod Nodes
 pub mod Links
 pub mod Report
 pub mod Laws
+pub mod View
+pub mod Invariant
+pub mod FlatForm

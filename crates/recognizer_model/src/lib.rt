@@ -1,6 +1,10 @@
 //! Definitions that several crates cite.
 #![tactic(auto)]
 
+mod flat;
+
+pub use flat::{FlatRule, FlatSource, FlatSymbol};
+
 /// A rule, how many of its parts were found, and the place where they begin.
 #[derive(Clone, Copy, PartialEq, Eq, Hash)]
 pub struct Item {
@@ -26,12 +30,25 @@ pub struct ReportLine {
     pub origin: u32,
 }
 
-ghost use Rattle.std.specs.Prelude.{ℕ, List};
-ghost use Rattle.recognizer_model.specs.Flat.{FlatGrammar};
-ghost use Rattle.grammar_model.specs.declared.Edge.{Edge};
-ghost use Rattle.recognizer_model.specs.Laws.{AreTokens, IsSound, EarleyLaws};
+ghost use Rattle.recognizer_model.specs.FlatForm.{FlatGrammarsAreFlatForms, AcceptableAreFlat, ListsExist};
+ghost use Rattle.recognizer_model.specs.Laws.{EarleyLawsHold};
 
 /// The theorems on item sets, reduced sets, acceptable terminals and used nodes.
 pub fn earley_laws()
-    ensures { (g : FlatGrammar) (edges : List Edge) (top : ℕ) → IsSound g top → AreTokens g edges → EarleyLaws g edges top }
+    ensures { EarleyLawsHold }
+{}
+
+/// What flat derivations stand for are the written grammar's derivations, one to one and in the declared order.
+pub fn flat_grammars_are_flat_forms()
+    ensures { FlatGrammarsAreFlatForms }
+{}
+
+/// A terminal of the written grammar is acceptable exactly where its flat symbol is.
+pub fn acceptable_are_flat()
+    ensures { AcceptableAreFlat }
+{}
+
+/// The derivations of a checked grammar have a list, whatever the edges.
+pub fn lists_exist()
+    ensures { ListsExist }
 {}

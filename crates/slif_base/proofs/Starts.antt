@@ -56,23 +56,23 @@ is_cut cs from to s h l =
     let at : from + (to - from) ≡ to = omega arith in
     let until : take to cs ≡ front ++ part = sym (ap (λ n. take n cs) at) ∙ take-add from (to - from) cs in
     let bytes : encode_utf8_all cs ≡ encode_utf8_all front ++ (encode_utf8_all part ++ encode_utf8_all back) =
-          ap encode_utf8_all (sym whole) ∙ encodes-append front (part ++ back) ∙ ap (λ x. encode_utf8_all front ++ x) (encodes-append part back) in
+    ap encode_utf8_all (sym whole) ∙ encodes-append front (part ++ back) ∙ ap (λ x. encode_utf8_all front ++ x) (encodes-append part back) in
     let to_bytes : encode_utf8_all (take to cs) ≡ encode_utf8_all front ++ encode_utf8_all part = ap encode_utf8_all until ∙ encodes-append front part in
     let rest_utf8 : IsUtf8 (encode_utf8_all part ++ encode_utf8_all back) =
-          (drop from cs, (scalars-drop from cs s, sym (ap encode_utf8_all (take-append-drop (to - from) (drop from cs))) ∙ encodes-append part back)) in
+    (drop from cs, (scalars-drop from cs s, sym (ap encode_utf8_all (take-append-drop (to - from) (drop from cs))) ∙ encodes-append part back)) in
     let back_utf8 : IsUtf8 (encode_utf8_all back) = (back, (scalars-drop (to - from) (drop from cs) (scalars-drop from cs s), refl)) in
     record {
       start = omega (arith, ap length to_bytes, length-append (encode_utf8_all front) (encode_utf8_all part));
       from_boundary = IsCharBoundary-at_seam (encode_utf8_all cs) (encode_utf8_all front) (encode_utf8_all part ++ encode_utf8_all back) bytes rest_utf8;
       to_boundary = subst (λ (xs : List ℕ). IsCharBoundary (encode_utf8_all cs) (length xs)) (sym to_bytes)
-        (IsCharBoundary-at_seam (encode_utf8_all cs) (encode_utf8_all front ++ encode_utf8_all part) (encode_utf8_all back)
-         (bytes ∙ sym (append_assoc (encode_utf8_all front) (encode_utf8_all part) (encode_utf8_all back))) back_utf8);
+          (IsCharBoundary-at_seam (encode_utf8_all cs) (encode_utf8_all front ++ encode_utf8_all part) (encode_utf8_all back)
+          (bytes ∙ sym (append_assoc (encode_utf8_all front) (encode_utf8_all part) (encode_utf8_all back))) back_utf8);
       part =
-        let count : length (encode_utf8_all (take to cs)) - length (encode_utf8_all front) ≡ length (encode_utf8_all part) =
-              omega (arith, ap length to_bytes, length-append (encode_utf8_all front) (encode_utf8_all part)) in
-        (λ i. take (count i) (drop (length (encode_utf8_all front)) (bytes i)))
-        ∙ ap (take (length (encode_utf8_all part))) (drop-append_seam (encode_utf8_all front) (encode_utf8_all part ++ encode_utf8_all back))
-        ∙ take-append_seam (encode_utf8_all part) (encode_utf8_all back);
+          let count : length (encode_utf8_all (take to cs)) - length (encode_utf8_all front) ≡ length (encode_utf8_all part) =
+          omega (arith, ap length to_bytes, length-append (encode_utf8_all front) (encode_utf8_all part)) in
+          (λ i. take (count i) (drop (length (encode_utf8_all front)) (bytes i)))
+          ∙ ap (take (length (encode_utf8_all part))) (drop-append_seam (encode_utf8_all front) (encode_utf8_all part ++ encode_utf8_all back))
+          ∙ take-append_seam (encode_utf8_all part) (encode_utf8_all back);
     }
 
 -- a text is that of its characters
@@ -96,11 +96,12 @@ pub cut_at : (bytes : List ℕ) (from to a b : ℕ) → IsUtf8 bytes → from �
     (a ≤ b) × IsCharBoundary bytes a × IsCharBoundary bytes b × (slice_range bytes a b ≡ encode_utf8_all (slice_range (chars bytes) from to))
 cut_at bytes from to a b utf8 h l at_from at_to =
     let same = bytes_of_chars bytes utf8 in
-    let cut = is_cut (chars bytes) from to (scalars-chars bytes utf8) h l in
-    (omega (arith, at_from, at_to, cut.start),
-     subst (λ (xs : List ℕ). IsCharBoundary xs a) same (subst (λ n. IsCharBoundary (encode_utf8_all (chars bytes)) n) (sym at_from) cut.from_boundary),
-     subst (λ (xs : List ℕ). IsCharBoundary xs b) same (subst (λ n. IsCharBoundary (encode_utf8_all (chars bytes)) n) (sym at_to) cut.to_boundary),
-     (λ i. slice_range (sym same i) (at_from i) (at_to i)) ∙ cut.part)
+    let cut = is_cut (chars bytes) from to (scalars-chars bytes utf8) h l in (
+      omega (arith, at_from, at_to, cut.start),
+      subst (λ (xs : List ℕ). IsCharBoundary xs a) same (subst (λ n. IsCharBoundary (encode_utf8_all (chars bytes)) n) (sym at_from) cut.from_boundary),
+      subst (λ (xs : List ℕ). IsCharBoundary xs b) same (subst (λ n. IsCharBoundary (encode_utf8_all (chars bytes)) n) (sym at_to) cut.to_boundary),
+      (λ i. slice_range (sym same i) (at_from i) (at_to i)) ∙ cut.part,
+    )
 
 pub cut_in : (text bytes starts cs : List ℕ) (from to a b : ℕ) → IsUtf8 bytes → bytes ≡ text → starts ≡ starts_from 0 (chars text) → chars text ≡ cs → from ≤ to → to ≤ length cs →
     a ≡ get_or starts from a → b ≡ get_or starts to b → (a ≤ b) × IsCharBoundary bytes a × IsCharBoundary bytes b × (slice_range bytes a b ≡ encode_utf8_all (slice_range cs from to))

@@ -1,0 +1,13 @@
+pub mod AdverbLemmas
+pub mod AgainLemmas
+pub mod AlternativeLemmas
+pub mod CutLemmas
+pub mod FormLemmas
+pub mod NumberLemmas
+pub mod ParseLemmas
+pub mod PieceLemmas
+pub mod QuietLemmas
+pub mod RowLemmas
+pub mod SimpleLemmas
+pub mod SoundLemmas
+pub mod TextLemmas

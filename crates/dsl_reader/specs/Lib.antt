@@ -1,0 +1,4 @@
+pub mod Reading
+pub mod SimpleNumbers
+pub mod SimpleReading
+pub mod SimpleSeen

@@ -1,0 +1,47 @@
+//! Why a text is not read as a simple grammar.
+ghost use Rattle.std.specs.Prelude.{◌≡◌};
+
+use grammar_core::CoreRefusal;
+use std::alloc::{AllocError, AllocFailed};
+use thiserror::Error;
+
+#[derive(Clone, Copy, Debug, PartialEq, Eq, Error)]
+pub enum SimpleRefusal {
+    /// The bytes are no simple text of at most 2,000 bytes.
+    #[error("not a simple grammar")]
+    NotSimple,
+    /// Memory ran out.
+    #[error("out of memory")]
+    NoMemory,
+}
+
+impl From<AllocError> for SimpleRefusal {
+    ghost use Rattle.dsl_reader.specs.declared.refusal.SimpleRefusal.TheVariants.{NoMemory};
+
+    ghost from_gives = { λ _ refusal. refusal ≡ NoMemory };
+
+    fn from(_error: AllocError) -> Self {
+        SimpleRefusal::NoMemory
+    }
+}
+
+impl<T: Drop> From<AllocFailed<T>> for SimpleRefusal {
+    ghost use Rattle.dsl_reader.specs.declared.refusal.SimpleRefusal.TheVariants.{NoMemory};
+
+    ghost from_gives = { λ _ refusal. refusal ≡ NoMemory };
+
+    fn from(_error: AllocFailed<T>) -> Self {
+        SimpleRefusal::NoMemory
+    }
+}
+
+// A text of at most 2,000 bytes has too few symbols and rules for any other refusal.
+impl From<CoreRefusal> for SimpleRefusal {
+    ghost use Rattle.dsl_reader.specs.declared.refusal.SimpleRefusal.TheVariants.{NoMemory};
+
+    ghost from_gives = { λ _ refusal. refusal ≡ NoMemory };
+
+    fn from(_refusal: CoreRefusal) -> Self {
+        SimpleRefusal::NoMemory
+    }
+}

@@ -1,0 +1,21 @@
+//! The laws between statements and their printed tokens.
+ghost use Rattle.std.specs.Prelude.{◌≡◌, ◌↔◌, List, None, Some, IsTrue};
+ghost use Rattle.std.specs.List.{flat_map, list_all};
+ghost use Rattle.language_model.specs.Tokens.{Spelled};
+ghost use Rattle.language_model.specs.Description.{Adverb, Alternative, Statement, Spells, pieces_of, is_adverb, is_element, tokens_of_adverbs, tokens_of_alternative, PrintedAs, Together};
+ghost use Rattle.dsl_reader.specs.Reading.{adverbs_of, alternative_of};
+
+/// Tokens are read as these adverbs exactly where the adverbs, printed, are the tokens.
+pub fn adverbs_are_read()
+    ensures { (adverbs : List Adverb) (tokens : List Spelled) → (adverbs_of tokens ≡ Some adverbs) ↔ (IsTrue (list_all is_adverb adverbs) × Together PrintedAs (tokens_of_adverbs adverbs) tokens) }
+{}
+
+/// Tokens are read as this alternative exactly where the alternative, printed, is the tokens.
+pub fn alternatives_are_read()
+    ensures { (a : Alternative) (tokens : List Spelled) → (alternative_of tokens None ≡ Some a) ↔ (IsTrue (list_all is_element a.elements) × IsTrue (list_all is_adverb a.adverbs) × Together PrintedAs (tokens_of_alternative a) tokens) }
+{}
+
+/// The tokens of printed statements, one after the other, are cut into the pieces of the statements.
+pub fn statements_are_cut()
+    ensures { (statements : List Statement) (pieces : List (List Spelled)) → Together Spells statements pieces → pieces_of (flat_map (λ p. p) pieces) ≡ pieces }
+{}

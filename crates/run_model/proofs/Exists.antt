@@ -1,0 +1,118 @@
+-- An outcome exists, whatever the words, the grammar and the input are.
+use Rattle.std.proofs.Common.{◌≡◌, ◌≢◌, ℕ, ◌<◌, ◌≤◌, List, [], ◌∷◌, length, map, Bool, true, false, ◌&&◌, not, nat_le, nat_lt, ◌==◌, IsTrue, refl, sym, ap, ◌∙◌, ◌⊎◌, inl, inr, codes, All, arith, leb-true, le-leb, ltb-true, lt-ltb, eqb-true, true≢false}
+use Rattle.std.proofs.lemmas.Bool.{and_parts, and_from, eqb-false, not-true}
+use Rattle.std.proofs.lemmas.List.Sums.{AllPass-from_list_all, list_all-from_AllPass}
+use Rattle.std.specs.List.{list_all}
+use Rattle.std.proofs.lemmas.Slice.Eq.{bytes_eq-Decides}
+use Rattle.std.specs.Str.{bytes_eq}
+use Rattle.grammar_model.specs.Grammar.{Grammar}
+use Rattle.grammar_model.specs.Characters.{tree_line}
+use Rattle.run_model.specs.Words.{Job, Asks, AskNothing, IsValue}
+use Rattle.run_model.specs.Words.Job.{RunTree}
+use Rattle.run_model.specs.Derivations.{Accepts, IsInput, NoInput, Lists}
+use Rattle.run_model.specs.Outcome.{Outcome, IsOutcome, IsJobOutcome, IsInputOutcome, done, not_built, no_derivation}
+use Rattle.run_model.specs.Outcome.IsOutcome.{WordsNotBuilt, OfJob}
+use Rattle.run_model.specs.Outcome.IsJobOutcome.{GrammarNotBuilt, OverGrammar}
+use Rattle.run_model.specs.Outcome.IsInputOutcome.{InputNotBuilt, NoDerivation, Derived}
+use Rattle.run_model.proofs.Texts.{TextLaws}
+use Rattle.run_model.proofs.Accepted.{accepts_or_not, accepted_lists}
+
+-- a test that comes out one way or the other
+either : (b : Bool) → (b ≡ true) ⊎ (b ≡ false)
+either true = inl refl
+either false = inr refl
+
+abbrev is_value : List ℕ → Bool
+is_value [] = false
+is_value (first ∷ rest) = not (first == 45)
+
+value_from : (word : List ℕ) → is_value word ≡ true → IsValue word
+value_from [] e = absurd (true≢false (sym e))
+value_from (first ∷ rest) e = eqb-false first 45 (not-true _ e)
+
+from_value : (word : List ℕ) → IsValue word → is_value word ≡ true
+from_value [] v = absurd v
+from_value (first ∷ rest) v = elim (either (first == 45)) [ inl same ↦ absurd (v (eqb-true first 45 same)) | inr other ↦ ap not other ]
+
+abbrev are_words : (a b c d e : List ℕ) → Bool
+are_words a b c d e = bytes_eq a (codes "run") && (bytes_eq b (codes "--grammar") && (is_value c && (bytes_eq d (codes "--show") && bytes_eq e (codes "tree"))))
+
+five_asked : (a b c d e : List ℕ) → are_words a b c d e ≡ true → Asks (a ∷ b ∷ c ∷ d ∷ e ∷ []) (RunTree c)
+five_asked a b c d e t =
+    let one = and_parts (bytes_eq a (codes "run")) _ t in
+    let two = and_parts (bytes_eq b (codes "--grammar")) _ one.1 in
+    let three = and_parts (is_value c) _ two.1 in
+    let four = and_parts (bytes_eq d (codes "--show")) _ three.1 in
+    let pa = (bytes_eq-Decides a (codes "run")).0 one.0 in
+    let pb = (bytes_eq-Decides b (codes "--grammar")).0 two.0 in
+    let pd = (bytes_eq-Decides d (codes "--show")).0 four.0 in
+    let pe = (bytes_eq-Decides e (codes "tree")).0 four.1 in
+    (cc (pa, pb, pd, pe), value_from c three.0)
+
+asked_five : (a b c d e grammar : List ℕ) → Asks (a ∷ b ∷ c ∷ d ∷ e ∷ []) (RunTree grammar) → are_words a b c d e ≡ true
+asked_five a b c d e grammar asks =
+    let words = asks.0 in
+    let pa : a ≡ codes "run" = cc words in
+    let pb : b ≡ codes "--grammar" = cc words in
+    let pc : c ≡ grammar = cc words in
+    let pd : d ≡ codes "--show" = cc words in
+    let pe : e ≡ codes "tree" = cc words in
+    and_from _ _ ((bytes_eq-Decides a (codes "run")).1 pa)
+    (and_from _ _ ((bytes_eq-Decides b (codes "--grammar")).1 pb)
+    (and_from _ _ (ap is_value pc ∙ from_value grammar asks.1)
+    (and_from _ _ ((bytes_eq-Decides d (codes "--show")).1 pd) ((bytes_eq-Decides e (codes "tree")).1 pe))))
+
+not_five : (words : List (List ℕ)) → (length words ≡ 5 → ⊥) → AskNothing words
+not_five words other (RunTree grammar) asks = other (ap length asks.0)
+
+pub asks_or_not : (words : List (List ℕ)) → ((job : Job) × Asks words job) ⊎ AskNothing words
+asks_or_not [] = inr (not_five _ (λ e. omega (arith, e)))
+asks_or_not (a ∷ []) = inr (not_five _ (λ e. omega (arith, e)))
+asks_or_not (a ∷ b ∷ []) = inr (not_five _ (λ e. omega (arith, e)))
+asks_or_not (a ∷ b ∷ c ∷ []) = inr (not_five _ (λ e. omega (arith, e)))
+asks_or_not (a ∷ b ∷ c ∷ d ∷ []) = inr (not_five _ (λ e. omega (arith, e)))
+asks_or_not (a ∷ b ∷ c ∷ d ∷ e ∷ []) =
+    elim (either (are_words a b c d e)) [ inl right ↦ inl (RunTree c, five_asked a b c d e right) | inr wrong ↦ inr (not_asked wrong) ]
+  where
+    not_asked : are_words a b c d e ≡ false → AskNothing (a ∷ b ∷ c ∷ d ∷ e ∷ [])
+    not_asked wrong (RunTree grammar) asks = true≢false (sym (asked_five a b c d e grammar asks) ∙ wrong)
+asks_or_not (a ∷ b ∷ c ∷ d ∷ e ∷ f ∷ words) = inr (not_five _ (λ e. omega (arith, e)))
+
+ascii_from : (bytes : List ℕ) → list_all (λ b. nat_lt b 128) bytes ≡ true → All (λ b. b < 128) bytes
+ascii_from bytes e = λ k d lt. ltb-true _ _ (AllPass-from_list_all (λ b. nat_lt b 128) bytes e k d lt)
+
+from_ascii : (bytes : List ℕ) → All (λ b. b < 128) bytes → list_all (λ b. nat_lt b 128) bytes ≡ true
+from_ascii bytes all = list_all-from_AllPass (λ b. nat_lt b 128) bytes (λ k d lt. lt-ltb _ _ (all k d lt))
+
+pub input_or_not : (bytes : List ℕ) → IsInput bytes ⊎ NoInput bytes
+input_or_not bytes =
+    elim (either (nat_le (length bytes) 1000 && list_all (λ b. nat_lt b 128) bytes)) [
+      | inl right ↦ (let parts = and_parts (nat_le (length bytes) 1000) _ right in inl (record { within = leb-true _ _ parts.0; ascii = ascii_from bytes parts.1 }))
+      | inr wrong ↦ inr (λ is. true≢false (sym (and_from _ _ (le-leb _ _ is.within) (from_ascii bytes is.ascii)) ∙ wrong))
+    ]
+
+of_lines : (job : Job) (g : Grammar) (input : List ℕ) → IsInput input → (lines : List (List ℕ)) → Lists g input lines → (outcome : Outcome) × IsInputOutcome job g input outcome
+of_lines job g input is [] lists = (no_derivation, NoDerivation is lists refl)
+of_lines job g input is (first ∷ others) lists = (done (first ∷ others), Derived first others is lists refl)
+
+module _ (laws : TextLaws) where
+  input_outcome : (job : Job) (text : List ℕ) (g : Grammar) → Accepts job text g → (input : List ℕ) → (outcome : Outcome) × IsInputOutcome job g input outcome
+  input_outcome job text g accepts input =
+      elim (input_or_not input) [
+        | inl is ↦ (let lists = accepted_lists laws job text g accepts input in of_lines job g input is lists.0 lists.1)
+        | inr none ↦ (not_built, InputNotBuilt none refl)
+      ]
+
+  job_outcome : (job : Job) (grammar input : List ℕ) → (outcome : Outcome) × IsJobOutcome job grammar input outcome
+  job_outcome job grammar input =
+      elim (accepts_or_not laws job grammar) [
+        | inl some ↦ (let o = input_outcome job grammar some.0 some.1 input in (o.0, OverGrammar some.0 some.1 o.1))
+        | inr none ↦ (not_built, GrammarNotBuilt none refl)
+      ]
+
+  pub an_outcome : (words : List (List ℕ)) (grammar input : List ℕ) → (outcome : Outcome) × IsOutcome words grammar input outcome
+  an_outcome words grammar input =
+      elim (asks_or_not words) [
+        | inl some ↦ (let o = job_outcome some.0 grammar input in (o.0, OfJob some.0 some.1 o.1))
+        | inr none ↦ (not_built, WordsNotBuilt none refl)
+      ]

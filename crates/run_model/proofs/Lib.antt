@@ -1,0 +1,7 @@
+pub mod Asked
+pub mod Texts
+pub mod SimpleTexts
+pub mod Accepted
+pub mod Outcomes
+pub mod OneEnd
+pub mod Exists

@@ -1,0 +1,5 @@
+use Rattle.run_model.proofs.Exists.{asks_or_not}
+use Rattle.run_model.proofs.job_or_none.Goals as goal
+
+pub returns : goal.returns
+returns c = asks_or_not

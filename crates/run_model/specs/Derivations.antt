@@ -1,0 +1,31 @@
+-- What a job accepts of a grammar's text and of an input, and the lines of all derivations.
+use Rattle.std.specs.Prelude.{◌≡◌, ℕ, ◌≤◌, ◌<◌, List, length, map, All}
+use Rattle.grammar_model.specs.Grammar.{Grammar}
+use Rattle.grammar_model.specs.Trees.{Tree}
+use Rattle.grammar_model.specs.Characters.{IsAllOfCharacters, tree_line}
+use Rattle.language_model.specs.Simple.{SimpleLine, IsSimpleText, grammar_of_simple}
+use Rattle.run_model.specs.Words.{Job}
+
+-- the text has this grammar, and the job goes on with it
+pub record Accepts (job : Job) (text : List ℕ) (g : Grammar) : Type 0 where
+  pub lines : List SimpleLine
+  pub spelled : IsSimpleText text lines
+  pub grammar : g ≡ grammar_of_simple lines
+
+-- the job goes on with no grammar of the text
+abbrev pub AcceptsNothing : Job → List ℕ → Type 0
+AcceptsNothing job text = (g : Grammar) → Accepts job text g → ⊥
+
+-- an input that is built
+pub record IsInput (bytes : List ℕ) : Type 0 where
+  pub within : length bytes ≤ 1000
+  pub ascii : All (λ b. b < 128) bytes
+
+abbrev pub NoInput : List ℕ → Type 0
+NoInput bytes = IsInput bytes → ⊥
+
+-- the lines are those of all derivations of the input, in order
+pub record Lists (g : Grammar) (input : List ℕ) (lines : List (List ℕ)) : Type 0 where
+  pub trees : List Tree
+  pub all : IsAllOfCharacters g input trees
+  pub lines_are : lines ≡ map (tree_line g input) trees

@@ -1,0 +1,6 @@
+pub mod Words
+pub mod Derivations
+pub mod Outcome
+pub mod Outside
+pub mod Runs
+pub mod Laws

@@ -1,0 +1,152 @@
+-- How a run ends, by how its work ended and by what was told of it.
+use Rattle.std.proofs.Common.{◌≡◌, ◌≢◌, ℕ, List, [], ◌∷◌, inl, inr, ◌⊎◌, refl, sym, ap, ◌∙◌, subst, arith}
+use Rattle.std.specs.Io.KnownBytes.{Appends}
+use Rattle.slif_base.specs.Causes.{Rose}
+use Rattle.slif_base.specs.Told.{AppendsPrefix}
+use Rattle.slif_base.proofs.Bytes.{appends_none}
+use Rattle.run_model.specs.Words.{Job}
+use Rattle.grammar_model.specs.Grammar.{Grammar}
+use Rattle.run_model.specs.Outcome.{Outcome, IsOutcome, IsJobOutcome, IsInputOutcome, not_built, no_derivation, done}
+use Rattle.run_model.specs.Outcome.IsOutcome.{WordsNotBuilt, OfJob}
+use Rattle.run_model.specs.Outcome.IsJobOutcome.{GrammarNotBuilt, OverGrammar}
+use Rattle.run_model.specs.Outcome.IsInputOutcome.{InputNotBuilt, NoDerivation as NothingDerived, Derived}
+use Rattle.run_model.specs.Outside.{Outside}
+use Rattle.run_model.specs.Runs.{Answers, Fault, fault_line, memory_line, HasCauseOf, ErrAtFault, Faults, RunsOut, IsQuiet, Runs}
+use Rattle.run_model.specs.Runs.IsFrontOf.{Nothing, Front}
+use Rattle.run_model.specs.Runs.Fault.{CannotOpen, CannotRead, CannotWrite}
+use Rattle.run_model.specs.Runs.OutAtFault.{OutEmpty, OutBroken}
+use Rattle.run_model.specs.Runs.ErrAtFault.{ErrWhole, ErrBroken}
+use Rattle.slif_cli.specs.Stops.{Done, WorkStops, Tells, Reports, refusal_outcome}
+use Rattle.slif_cli.specs.Stops.Tells.{Whole, Part}
+use Rattle.slif_cli.specs.declared.stop.Refusal.{Refusal}
+use Rattle.slif_cli.specs.declared.stop.Refusal.TheVariants.{NotBuilt, NoDerivation}
+use Rattle.slif_cli.specs.declared.stop.Stop.{Stop}
+use Rattle.slif_cli.specs.declared.stop.Stop.TheVariants.{Refused, OpenFault, ReadFault, WriteFault, NoMemory}
+
+-- the ways in which a run ends
+data Ends (words : List (List ℕ)) (before after : Outside) (status : ℕ) : Type 0 where
+  Answered : Answers words before after status → Ends words before after status
+  Faulted : status ≡ 4 → Faults words before after → Ends words before after status
+  RanOut : status ≡ 5 → RunsOut words before after → Ends words before after status
+
+-- an outcome has neither the status of a fault nor that of want of memory
+record IsPlain (outcome : Outcome) : Type 0 where
+  no_fault : outcome.status ≢ 4
+  no_memory : outcome.status ≢ 5
+
+plain_at : (outcome same : Outcome) → outcome ≡ same → same.status ≢ 4 → same.status ≢ 5 → IsPlain outcome
+plain_at outcome same is fault memory = subst IsPlain (sym is) (record { no_fault = fault; no_memory = memory })
+
+plain_input : (job : Job) (g : Grammar) (input : List ℕ) (outcome : Outcome) → IsInputOutcome job g input outcome → IsPlain outcome
+plain_input job g input outcome (InputNotBuilt none is) = plain_at outcome not_built is (λ e. omega arith) (λ e. omega arith)
+plain_input job g input outcome (NothingDerived is_input none is) = plain_at outcome no_derivation is (λ e. omega arith) (λ e. omega arith)
+plain_input job g input outcome (Derived first others is_input lists is) = plain_at outcome (done (first ∷ others)) is (λ e. omega arith) (λ e. omega arith)
+
+plain_job : (job : Job) (grammar input : List ℕ) (outcome : Outcome) → IsJobOutcome job grammar input outcome → IsPlain outcome
+plain_job job grammar input outcome (GrammarNotBuilt none is) = plain_at outcome not_built is (λ e. omega arith) (λ e. omega arith)
+plain_job job grammar input outcome (OverGrammar g is_text over) = plain_input job g input outcome over
+
+plain : (words : List (List ℕ)) (grammar input : List ℕ) (outcome : Outcome) → IsOutcome words grammar input outcome → IsPlain outcome
+plain words grammar input outcome (WordsNotBuilt none is) = plain_at outcome not_built is (λ e. omega arith) (λ e. omega arith)
+plain words grammar input outcome (OfJob job asks of) = plain_job job grammar input outcome of
+
+module _ (words : List (List ℕ)) (before after : Outside) where
+  err_told : (line : List ℕ) → Tells before.err after.err line → ErrAtFault words before after line
+  err_told line (Whole whole) = ErrWhole whole
+  err_told line (Part rose part) = ErrBroken rose [] part.bytes part.rest (Nothing refl) part.split part.appends
+
+  memory_told : Tells before.err after.err memory_line
+      → Appends before.err.bytes after.err.bytes memory_line ⊎ (Rose before.err.faults after.err.faults × AppendsPrefix before.err.bytes after.err.bytes memory_line)
+  memory_told (Whole whole) = inl whole
+  memory_told (Part rose part) = inr (rose, part)
+
+  -- the work was done, and nothing was told
+  ends_done : Done words before.files.file before.input.bytes before.out.bytes after.out.bytes → before.err.bytes ≡ after.err.bytes → Ends words before after 0
+  ends_done done same = Answered (record {
+    may = done.may;
+    status_is = sym done.status_is;
+    out = done.out;
+    err = subst (λ l. Appends before.err.bytes l done.may.outcome.line) same (subst (Appends before.err.bytes before.err.bytes) (sym done.line_is) (appends_none before.err.bytes));
+  })
+
+  refused_out : (refusal : Refusal) → (refusal_outcome refusal).out ≡ []
+  refused_out NotBuilt = refl
+  refused_out NoDerivation = refl
+
+  -- the work stopped, and it was told
+  ends_stop : (status : ℕ) (stop : Stop)
+      → WorkStops words before.files after.files before.input after.input before.out after.out stop
+      → Reports before.err after.err status stop → Ends words before after status
+  ends_stop status (Refused refusal) stops (inl told) = Answered (record {
+    may = stops.0.may;
+    status_is = told.0 ∙ sym (ap (λ (o : Outcome). o.status) stops.0.is);
+    out = subst (Appends before.out.bytes after.out.bytes) (sym (ap (λ (o : Outcome). o.out) stops.0.is ∙ refused_out refusal)) stops.1;
+    err = subst (λ (o : Outcome). Appends before.err.bytes after.err.bytes o.line) (sym stops.0.is) told.1;
+  })
+  ends_stop status (Refused refusal) stops (inr told) = Faulted told.0 (record {
+    fault = CannotWrite;
+    cause = inr told.1.rose;
+    out = OutEmpty stops.1;
+    err = ErrBroken told.1.rose told.1.text told.1.other_text told.1.other_rest
+        (Front stops.0.may told.1.rest (ap (λ (o : Outcome). o.line) stops.0.is ∙ told.1.split)) told.1.other_split told.1.appends;
+  })
+  ends_stop status (OpenFault name) stops (inl told) = Faulted told.0 (record {
+    fault = CannotOpen name.now;
+    cause = (stops.0, stops.1);
+    out = OutEmpty stops.2;
+    err = err_told (fault_line (CannotOpen name.now)) told.1;
+  })
+  ends_stop status (OpenFault name) stops (inr told) = RanOut told.0 (record { text = []; front = Nothing refl; out = stops.2; err = memory_told told.1 })
+  ends_stop status ReadFault stops told = Faulted told.0 (record {
+    fault = CannotRead;
+    cause = stops.0;
+    out = OutEmpty stops.1;
+    err = err_told (fault_line CannotRead) told.1;
+  })
+  ends_stop status WriteFault stops told = Faulted told.0 (record {
+    fault = CannotWrite;
+    cause = inl stops.0;
+    out = OutBroken stops.0 stops.1.text stops.1.front stops.1.appends;
+    err = err_told (fault_line CannotWrite) told.1;
+  })
+  ends_stop status NoMemory stops told = RanOut told.0 (record { text = stops.text; front = stops.front; out = stops.appends; err = memory_told told.1 })
+
+  -- whose count rose at a fault, if none did
+  not_quiet : Faults words before after → IsQuiet before after → ⊥
+  not_quiet faults quiet = unquiet faults.fault faults.cause where
+    unquiet : (fault : Fault) → HasCauseOf words before after fault → ⊥
+    unquiet (CannotOpen name) cause = quiet.files cause.0
+    unquiet CannotRead cause = elim cause [ inl rose ↦ quiet.files rose | inr rose ↦ quiet.input rose ]
+    unquiet CannotWrite cause = elim cause [ inl rose ↦ quiet.out rose | inr rose ↦ quiet.err rose ]
+
+  runs_from : (status : ℕ) → Ends words before after status → Runs words before after status
+  runs_from status (Answered answers) =
+      let is_plain : IsPlain answers.may.outcome = plain words answers.may.grammar answers.may.input answers.may.outcome answers.may.is_outcome in
+      record {
+        answer = λ no_fault no_memory. answers;
+        fault = λ e. absurd (is_plain.no_fault (sym answers.status_is ∙ e));
+        memory = λ e. absurd (is_plain.no_memory (sym answers.status_is ∙ e));
+        complete = λ quiet no_memory. answers;
+      }
+  runs_from status (Faulted is faults) = record {
+    answer = λ no_fault no_memory. absurd (no_fault is);
+    fault = λ e. faults;
+    memory = λ e. absurd (omega (arith, is, e));
+    complete = λ quiet no_memory. absurd (not_quiet faults quiet);
+  }
+  runs_from status (RanOut is runs_out) = record {
+    answer = λ no_fault no_memory. absurd (no_memory is);
+    fault = λ e. absurd (omega (arith, is, e));
+    memory = λ e. runs_out;
+    complete = λ quiet no_memory. absurd (no_memory is);
+  }
+
+  -- the work was done, and nothing was told
+  pub runs_done : Done words before.files.file before.input.bytes before.out.bytes after.out.bytes → before.err.bytes ≡ after.err.bytes → Runs words before after 0
+  runs_done done same = runs_from 0 (ends_done done same)
+
+  -- the work stopped, and it was told
+  pub runs_stop : (status : ℕ) (stop : Stop)
+      → WorkStops words before.files after.files before.input after.input before.out after.out stop
+      → Reports before.err after.err status stop → Runs words before after status
+  runs_stop status stop stops told = runs_from status (ends_stop status stop stops told)

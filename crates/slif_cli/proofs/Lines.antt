@@ -1,0 +1,80 @@
+-- Lines that are written one after the other.
+use Rattle.std.proofs.Common.{◌≡◌, ℕ, zero, suc, ◌+◌, List, [], ◌∷◌, ◌++◌, Option, Some, take, refl, sym, ap, ◌∙◌, append_assoc, append-nil, slice_get, arith, subst, map, Result, Ok, Err, OnOk}
+use Rattle.std.proofs.lemmas.Option.{slice_get-map}
+use Rattle.std.specs.Option.{option_map}
+use Rattle.grammar_model.specs.Grammar.{Grammar}
+use Rattle.grammar_model.specs.Trees.{Tree}
+use Rattle.grammar_model.specs.Characters.{IsAllOfCharacters, tree_line}
+use Rattle.tree_iter.specs.declared.SlowList.{SlowList}
+use Rattle.tree_iter.specs.Listing.{trees_of, line_of}
+use Rattle.run_model.specs.Derivations.{Lists}
+use Rattle.slif_cli.specs.Stops.{lines_of}
+use Rattle.std.specs.List.{concat}
+use Rattle.std.specs.Io.KnownBytes.{Appends}
+use Rattle.slif_base.specs.Told.{AppendsPrefix}
+use Rattle.slif_base.proofs.Bytes.{appends_twice}
+
+-- the text of one line more
+pub one_line_more : (lines : List (List ℕ)) (k : ℕ) (line : List ℕ) → slice_get lines k ≡ Some line → concat (take (suc k) lines) ≡ concat (take k lines) ++ line
+one_line_more [] k line e = absurd (cc e)
+one_line_more (first ∷ others) zero line e = let same : first ≡ line = cc e in append-nil first ∙ same
+one_line_more (first ∷ others) (suc k) line e = ap (λ t. first ++ t) (one_line_more others k line e) ∙ sym (append_assoc first (concat (take k others)) line)
+
+-- what is left of the text behind a line's front
+text_behind : (lines : List (List ℕ)) (k : ℕ) (line front rest : List ℕ) → slice_get lines k ≡ Some line → line ≡ front ++ rest
+    → (tail : List ℕ) × (concat lines ≡ (concat (take k lines) ++ front) ++ tail)
+text_behind [] k line front rest e split = absurd (cc e)
+text_behind (first ∷ others) zero line front rest e split =
+    let same : first ≡ line = cc e in
+    (rest ++ concat others, ap (λ l. l ++ concat others) (same ∙ split) ∙ append_assoc front rest (concat others))
+text_behind (first ∷ others) (suc k) line front rest e split =
+    let behind = text_behind others k line front rest e split in
+    (behind.0, ap (λ t. first ++ t) behind.1 ∙ sym (append_assoc first (concat (take k others) ++ front) behind.0) ∙ ap (λ t. t ++ behind.0) (sym (append_assoc first (concat (take k others)) front)))
+
+-- a front of a line behind whole lines is a front of the text
+pub front_of_text : (lines : List (List ℕ)) (k : ℕ) (line : List ℕ) (before middle after : Option (List ℕ)) → slice_get lines k ≡ Some line
+    → Appends before middle (concat (take k lines)) → AppendsPrefix middle after line → AppendsPrefix before after (concat lines)
+front_of_text lines k line before middle after e whole part =
+    let behind = text_behind lines k line part.bytes part.rest e part.split in
+    record {
+      bytes = concat (take k lines) ++ part.bytes;
+      rest = behind.0;
+      split = behind.1;
+      appends = appends_twice before middle after (concat (take k lines)) part.bytes whole part.appends;
+    }
+
+-- whole lines are a front of the text
+pub lines_in_front : (lines : List (List ℕ)) (k : ℕ) (before after : Option (List ℕ)) → Appends before after (concat (take k lines)) → AppendsPrefix before after (concat lines)
+lines_in_front lines k before after whole = let behind = behind_lines lines k in record { bytes = concat (take k lines); rest = behind.0; split = behind.1; appends = whole }
+  where
+    behind_lines : (lines : List (List ℕ)) (k : ℕ) → (tail : List ℕ) × (concat lines ≡ concat (take k lines) ++ tail)
+    behind_lines [] zero = ([], refl)
+    behind_lines [] (suc k) = ([], refl)
+    behind_lines (first ∷ others) zero = (concat (first ∷ others), refl)
+    behind_lines (first ∷ others) (suc k) =
+        let behind = behind_lines others k in
+        (behind.0, ap (λ t. first ++ t) behind.1 ∙ sym (append_assoc first (concat (take k others)) behind.0))
+
+-- two facts of an Ok
+pub on_ok_both : {T E : Type 0} {A B C : Type 0} (result : Result T E) → (A → B → C) → OnOk result A → OnOk result B → OnOk result C
+on_ok_both (Ok v) f a b = f a b
+on_ok_both (Err e) f a b = tt
+
+same_map : {A B : Type 0} (f h : A → B) → ((x : A) → f x ≡ h x) → (xs : List A) → map f xs ≡ map h xs
+same_map f h same [] = refl
+same_map f h same (x ∷ xs) = λ i. same x i ∷ same_map f h same xs i
+
+-- the lines of a list of all derivations
+pub listed : (g : Grammar) (input : List ℕ) (list : SlowList) → IsAllOfCharacters g input (trees_of list) → ((t : Tree) → line_of list t ≡ tree_line g input t) → Lists g input (lines_of list)
+listed g input list all lines = record { trees = trees_of list; all = all; lines_are = same_map (line_of list) (tree_line g input) lines (trees_of list) }
+
+-- the line at a place
+pub line_at : (list : SlowList) (k : ℕ) (t : Tree) → slice_get (trees_of list) k ≡ Some t → slice_get (lines_of list) k ≡ Some (line_of list t)
+line_at list k t e = slice_get-map (line_of list) (trees_of list) k ∙ ap (option_map (line_of list)) e
+
+-- a line behind those before it
+pub one_more_written : (lines : List (List ℕ)) (k : ℕ) (line : List ℕ) (before middle after : Option (List ℕ)) → slice_get lines k ≡ Some line
+    → Appends before middle (concat (take k lines)) → Appends middle after line → Appends before after (concat (take (k + 1) lines))
+one_more_written lines k line before middle after e whole more =
+    let next : k + 1 ≡ suc k = omega arith in
+    subst (Appends before after) (sym (ap (λ (n : ℕ). concat (take n lines)) next ∙ one_line_more lines k line e)) (appends_twice before middle after (concat (take k lines)) line whole more)

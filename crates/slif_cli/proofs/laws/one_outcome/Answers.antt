@@ -1,0 +1,6 @@
+use Rattle.run_model.proofs.Outcomes.{one_of_all}
+use Rattle.slif_cli.proofs.SimpleTextLaws.{text_laws}
+use Rattle.slif_cli.proofs.laws.one_outcome.Goals as goal
+
+pub returns : goal.returns
+returns c = one_of_all text_laws

@@ -1,0 +1,15 @@
+//! The top call of the program.
+#![tactic(auto)]
+
+mod grammar;
+mod input;
+mod laws;
+mod messages;
+mod stop;
+#[cfg(test)]
+mod tests;
+mod top;
+mod words;
+
+pub use laws::{has_outcome, one_end, one_outcome};
+pub use top::run;

@@ -1,0 +1,78 @@
+// What is told of a stop on the standard error.
+ghost use Rattle.std.specs.Prelude.{◌≡◌, ◌≤◌, IfOk};
+ghost use Rattle.run_model.specs.Outside.{stream};
+ghost use Rattle.run_model.specs.Runs.{fault_line};
+ghost use Rattle.run_model.specs.Runs.Fault.{CannotOpen};
+ghost use Rattle.slif_cli.specs.Stops.{Reports, Tells, refusal_outcome};
+
+use crate::stop::{Refusal, Stop};
+use slif_base::{Sink, write_all};
+use std::alloc::{AllocError, Global};
+
+const FAULT: u8 = 4;
+
+const OUT_OF_MEMORY: u8 = 5;
+
+/// Writes the line of a stop, and answers the status.
+pub fn report<E: Sink>(alloc: Global, stop: Stop<'_>, err: &mut E) -> u8
+    ensures { Reports (stream E.contents E.fault_count err.old) (stream E.contents E.fault_count err.new) result stop.entry }
+{
+    match stop {
+        Stop::Refused(refusal) => refuse(refusal, err),
+        Stop::OpenFault(name) => match open_line(alloc, name) {
+            Ok(line) => tell(err, &line, FAULT),
+            Err(_) => tell(err, b"slif: out of memory\n", OUT_OF_MEMORY),
+        },
+        Stop::ReadFault => tell(err, b"slif: read fault\n", FAULT),
+        Stop::WriteFault => tell(err, b"slif: write fault\n", FAULT),
+        Stop::NoMemory => tell(err, b"slif: out of memory\n", OUT_OF_MEMORY),
+    }
+}
+
+// Writes the line of a refusal. Where that fails, the fault is told.
+fn refuse<E: Sink>(refusal: Refusal, err: &mut E) -> u8
+    ensures { Reports (stream E.contents E.fault_count err.old) (stream E.contents E.fault_count err.new) result (Stop.Refused refusal) }
+{
+    match write_all(err, refusal_line(refusal)) {
+        Ok(()) => refusal_status(refusal),
+        Err(_) => tell(err, b"slif: write fault\n", FAULT),
+    }
+}
+
+fn refusal_line(refusal: Refusal) -> &'static [u8]
+    ensures { result.now ≡ (refusal_outcome refusal).line }
+{
+    match refusal {
+        Refusal::NotBuilt => b"slif: not built yet\n",
+        Refusal::NoDerivation => b"slif: no derivation\n",
+    }
+}
+
+fn refusal_status(refusal: Refusal) -> u8
+    ensures { result ≡ (refusal_outcome refusal).status }
+{
+    match refusal {
+        Refusal::NotBuilt => 6,
+        Refusal::NoDerivation => 1,
+    }
+}
+
+// Tries a line once.
+fn tell<E: Sink>(err: &mut E, line: &[u8], status: u8) -> u8
+    ensures same { result ≡ status }
+    ensures later { E.fault_count err.old ≤ E.fault_count err.new }
+    ensures told { Tells (stream E.contents E.fault_count err.old) (stream E.contents E.fault_count err.new) line.now }
+{
+    let _ = write_all(err, line);
+    status
+}
+
+fn open_line(alloc: Global, name: &str) -> Result<Vec<u8>, AllocError>
+    ensures { IfOk result (λ line. line.items ≡ fault_line (CannotOpen name.now)) }
+{
+    let mut line = Vec::new(alloc);
+    line.extend_from_slice(b"slif: cannot open ")?;
+    line.extend_from_slice(name.as_bytes())?;
+    line.extend_from_slice(b"\n")?;
+    Ok(line)
+}

@@ -1,0 +1,74 @@
+// The top call.
+ghost use Rattle.std.specs.Prelude.{◌≡◌, ◌≤◌, ◌⊎◌, map, string_bytes, OnOk, IfErr};
+ghost use Rattle.slif_base.specs.Told.{SameFiles};
+ghost use Rattle.run_model.specs.Outside.{Outside, stream, disk};
+ghost use Rattle.run_model.specs.Runs.{Runs, AsksNames, ReadsInput};
+ghost use Rattle.slif_cli.specs.Stops.{Done, WorkStops};
+
+use crate::grammar::load_grammar;
+use crate::input::derive_input;
+use crate::messages::report;
+use crate::stop::{Refusal, Stop};
+use crate::words::read_words;
+use slif_base::{Files, Sink, Source, Steps};
+use std::alloc::Global;
+use std::sync::ledger::Ledger;
+
+/// Does what the words ask for, and answers the status.
+pub fn run<F: Files, I: Source, O: Sink, E: Sink, L: Ledger>(
+    alloc: Global,
+    words: &[String],
+    files: &mut F,
+    input: &mut I,
+    out: &mut O,
+    err: &mut E,
+    _steps: &mut Steps<L>,
+) -> u8
+    ensures runs { let before : Outside = record {
+      files = disk F.told F.fault_count files.old;
+      input = stream I.left I.fault_count input.old;
+      out = stream O.contents O.fault_count out.old;
+      err = stream E.contents E.fault_count err.old;
+    } in
+        let after : Outside = record {
+          files = disk F.told F.fault_count files.new;
+          input = stream I.left I.fault_count input.new;
+          out = stream O.contents O.fault_count out.new;
+          err = stream E.contents E.fault_count err.new;
+        } in
+        Runs (map string_bytes words.now) before after result }
+    ensures asks { AsksNames (map string_bytes words.now) (F.told files.old) (F.asked files.old) (F.asked files.new) }
+    ensures input { (input.new ≡ input.old) ⊎ ReadsInput (map string_bytes words.now) (F.told files.old) }
+    ensures held { SameFiles (F.told files.old) (F.told files.new) }
+{
+    match work(alloc, words, files, input, out) {
+        Ok(()) => 0,
+        Err(stop) => report(alloc, stop, err),
+    }
+}
+
+// All but the lines on the standard error.
+fn work<'a, F: Files, I: Source, O: Sink>(
+    alloc: Global,
+    words: &'a [String],
+    files: &mut F,
+    input: &mut I,
+    out: &mut O,
+) -> Result<(), Stop<'a>>
+    ensures done { OnOk result (Done (map string_bytes words.now) (F.told files.old) (I.left input.old) (O.contents out.old) (O.contents out.new)) }
+    ensures stops { IfErr result (WorkStops (map string_bytes words.now)
+        (disk F.told F.fault_count files.old) (disk F.told F.fault_count files.new)
+        (stream I.left I.fault_count input.old) (stream I.left I.fault_count input.new)
+        (stream O.contents O.fault_count out.old) (stream O.contents O.fault_count out.new)) }
+    ensures asks { AsksNames (map string_bytes words.now) (F.told files.old) (F.asked files.old) (F.asked files.new) }
+    ensures input { (input.new ≡ input.old) ⊎ ReadsInput (map string_bytes words.now) (F.told files.old) }
+    ensures held { SameFiles (F.told files.old) (F.told files.new) }
+{
+    let Some(job) = read_words(words) else {
+        return Err(Stop::Refused(Refusal::NotBuilt));
+    };
+    match load_grammar(alloc, job.grammar, files) {
+        Ok(grammar) => derive_input(alloc, &grammar, input, out),
+        Err(stop) => Err(stop),
+    }
+}

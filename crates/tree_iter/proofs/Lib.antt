@@ -1,0 +1,5 @@
+pub mod Arena
+pub mod Held
+pub mod Building
+pub mod BareLines
+pub mod Pooled

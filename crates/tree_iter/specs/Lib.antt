@@ -1,0 +1,5 @@
+pub mod Arena
+pub mod Listing
+pub mod Adding
+pub mod Table
+pub mod Told
