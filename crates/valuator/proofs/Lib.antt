@@ -2,3 +2,4 @@ pub mod Grown
 pub mod Played
 pub mod Every
 pub mod Following
+pub mod Derived

@@ -2,7 +2,7 @@ use Rattle.std.proofs.Common.{◌<◌, length, arith, refl, get_or, ◌∙◌}
 use Rattle.grammar_core.specs.Steps.{step_of}
 use Rattle.valuator.specs.Play.{CanTell}
 use Rattle.valuator.proofs.Every.{told_more, rest_more, told_whole, at_place, written_back}
-use Rattle.valuator.proofs.play.tell_all.Goals as goal
+use Rattle.valuator.proofs.playing.tell_all.Goals as goal
 
 pub tell-requires-clause-step : goal.tell-requires-clause-step
 tell-requires-clause-step g c =

@@ -4,7 +4,7 @@ use Rattle.grammar_core.specs.Steps.{step_of}
 use Rattle.value_text.specs.Meaning.{meaning_of}
 use Rattle.valuator.specs.Told.{states, advanced}
 use Rattle.valuator.specs.Play.{tokens_of, EachCanTellAll}
-use Rattle.valuator.proofs.play.tell_steps.Given as goal
+use Rattle.valuator.proofs.playing.tell_steps.Given as goal
 
 abbrev pub invariant-loop-step : goal.invariant-loop-step
 invariant-loop-step g l = record {

@@ -1,13 +1,14 @@
 // Playing a derivation's steps to tellers.
-ghost use Rattle.std.specs.Prelude.{◌≡◌, ◌+◌, ◌-◌, ◌^◌, ◌==◌, ◌&&◌, ◌<◌, ◌≤◌, Bool, Some, None, is_some, map, option_map, option_copied, length, if◌then◌else◌, [], ◌∷◌, ◌++◌, slice_index_or, slice_range, encode_utf8_all, IfOk, OnOk};
+ghost use Rattle.std.specs.Prelude.{◌≡◌, ◌+◌, ◌-◌, ◌^◌, ◌==◌, ◌&&◌, ◌<◌, ◌≤◌, Bool, Some, None, is_some, map, option_map, option_copied, length, if◌then◌else◌, [], ◌∷◌, ◌++◌, slice_index_or, slice_range, encode_utf8_all, IfOk, OnOk, OnErr};
 ghost use Rattle.grammar_model.specs.Grammar.{lhs_of, rule_at};
-ghost use Rattle.grammar_model.specs.Steps.{TokenStep, NulledStep, RuleStep};
-ghost use Rattle.grammar_model.specs.Values.{end_before, is_nulling, items_shown, name_of, nulled_action, nulling_value, rule_value, told, told_all, token_at, token_value, value_of_nulled, value_of_rule, value_of_token};
+ghost use Rattle.grammar_model.specs.Steps.{TokenStep, NulledStep, RuleStep, steps_of};
+ghost use Rattle.grammar_model.specs.Trees.{Tree};
+ghost use Rattle.grammar_model.specs.Values.{end_before, is_nulling, items_shown, name_of, nulled_action, nulling_value, rule_value, told, told_all, token_at, token_value, value_of, value_of_nulled, value_of_rule, value_of_token};
 ghost use Rattle.grammar_core.specs.Steps.{step_of};
 ghost use Rattle.grammar_core.specs.Written.{rule_of};
 ghost use Rattle.value_text.specs.Meaning.{action_of, meaning_of};
 ghost use Rattle.valuator.specs.Told.{action_in, advanced, held_count, HoldsAtLeast, states, replace_newest};
-ghost use Rattle.valuator.specs.Play.{AreSpans, CanTell, EachCanTell, EachCanTellAll, IsMeaningOf, tokens_of};
+ghost use Rattle.valuator.specs.Play.{AreSpans, AreSteps, CanTell, EachCanTell, EachCanTellAll, IsMeaningOf, tokens_of};
 
 use crate::Teller;
 use grammar_core::{RuleId, Span, SymbolId, TreeStep, Written, WrittenRule};
@@ -315,4 +316,53 @@ fn tell_steps(
         tell_all(alloc, p, step, tellers)?;
     }
     Ok(())
+}
+
+/// Tells each teller the steps of a derivation, so that it holds the derivation's value on top of what it held. After
+/// an `Err` there are no tellers.
+pub fn play(
+    alloc: Global,
+    list: &[TreeStep],
+    meaning: &Meaning,
+    w: &Written,
+    spans: &[Span],
+    chars: &Chars,
+    tellers: &mut Vec<Box<dyn Teller>>,
+) -> Result<(), NoMemory>
+    requires list { AreSteps w.now (length spans.now) (map step_of list.now) }
+    requires meaning { IsMeaningOf w.now (meaning_of meaning.now) }
+    requires spans { AreSpans (length chars.now) spans.now }
+    ensures ok { (t : Tree) → map step_of list.now ≡ steps_of t → OnOk result (states tellers.new.items shows held ≡ advanced (λ show values. values ++ value_of show w.now (meaning_of meaning.now) (tokens_of chars.now spans.now) t ∷ []) (states tellers.old.items shows held)) }
+    ensures err { OnErr result (tellers.new.items ≡ []) }
+{
+    let told = tell_list(alloc, list, meaning, w, spans, chars, tellers);
+    if told.is_err() {
+        tellers.clear();
+    }
+    told
+}
+
+/// Tells the steps; after an `Err` tellers may hold anything.
+fn tell_list(
+    alloc: Global,
+    list: &[TreeStep],
+    meaning: &Meaning,
+    w: &Written,
+    spans: &[Span],
+    chars: &Chars,
+    tellers: &mut Vec<Box<dyn Teller>>,
+) -> Result<(), NoMemory>
+    requires list { AreSteps w.now (length spans.now) (map step_of list.now) }
+    requires meaning { IsMeaningOf w.now (meaning_of meaning.now) }
+    requires spans { AreSpans (length chars.now) spans.now }
+    ensures { OnOk result (states tellers.new.items shows held ≡ advanced (λ show values. told_all show w.now (meaning_of meaning.now) (tokens_of chars.now spans.now) values (map step_of list.now)) (states tellers.old.items shows held)) }
+{
+    let _symbols = w.symbol_count();
+    let p = Score {
+        meaning,
+        w,
+        spans,
+        chars,
+    };
+    tell_steps(alloc, &p, list, tellers)
 }

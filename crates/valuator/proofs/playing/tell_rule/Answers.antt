@@ -5,7 +5,7 @@ use Rattle.grammar_model.specs.Grammar.{lhs_of, rule_at}
 use Rattle.grammar_model.specs.Values.{RuleMeaning, name_of, items_shown, meaning_at, shown_of}
 use Rattle.value_text.specs.Meaning.{meaning_of}
 use Rattle.valuator.proofs.Played.{told_rule, sequence_shown, plain_shown, length-items_shown, meaning_found, rules_count, read_rule}
-use Rattle.valuator.proofs.play.tell_rule.Goals as goal
+use Rattle.valuator.proofs.playing.tell_rule.Goals as goal
 
 pub pass_rule-requires-clause-count : goal.pass_rule-requires-clause-count
 pass_rule-requires-clause-count g c =

@@ -2,7 +2,7 @@ use Rattle.std.proofs.Common.{ap, option_map}
 use Rattle.std.proofs.lemmas.Result.{on_ok_weaker}
 use Rattle.value_text.specs.Meaning.{action_of, meaning_of}
 use Rattle.valuator.proofs.Played.{told_token}
-use Rattle.valuator.proofs.play.tell_token.Goals as goal
+use Rattle.valuator.proofs.playing.tell_token.Goals as goal
 
 pub returns-clause-ok : goal.returns-clause-ok
 returns-clause-ok g c =

@@ -3,7 +3,7 @@ use Rattle.value_text.specs.Meaning.{meaning_of}
 use Rattle.valuator.proofs.Played.{nulled_found, nulled_none, nulls_read, nulls_symbol}
 use borrow.Author.Count.{below_more}
 use Rattle.grammar_model.specs.Grammar.{rule_at}
-use Rattle.valuator.proofs.play.nulling_action.Goals as goal
+use Rattle.valuator.proofs.playing.nulling_action.Goals as goal
 
 pub returns-then-nulls : goal.returns-then-nulls
 returns-then-nulls c =

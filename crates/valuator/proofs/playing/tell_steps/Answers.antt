@@ -2,7 +2,7 @@ use Rattle.std.proofs.Common.{arith}
 use Rattle.value_text.specs.Meaning.{meaning_of}
 use Rattle.valuator.specs.Play.{tokens_of}
 use Rattle.valuator.proofs.Following.{advanced_none, advanced_more_at, can_next_at, can_rest_at}
-use Rattle.valuator.proofs.play.tell_steps.Goals as goal
+use Rattle.valuator.proofs.playing.tell_steps.Goals as goal
 
 pub loop-step-init : goal.loop-step-init
 loop-step-init g c = record {

@@ -4,7 +4,7 @@ use Rattle.grammar_core.specs.Steps.{step_of}
 use Rattle.value_text.specs.Meaning.{meaning_of}
 use Rattle.valuator.specs.Told.{states, advanced}
 use Rattle.valuator.specs.Play.{tokens_of}
-use Rattle.valuator.proofs.play.tell_all.Given as goal
+use Rattle.valuator.proofs.playing.tell_all.Given as goal
 
 abbrev pub invariant-loop-teller : goal.invariant-loop-teller
 invariant-loop-teller g l = record {

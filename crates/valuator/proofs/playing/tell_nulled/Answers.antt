@@ -2,7 +2,7 @@ use Rattle.std.proofs.lemmas.Result.{on_ok_weaker}
 use Rattle.value_text.specs.Meaning.{meaning_of}
 use Rattle.valuator.specs.Play.{tokens_of}
 use Rattle.valuator.proofs.Played.{told_nulled}
-use Rattle.valuator.proofs.play.tell_nulled.Goals as goal
+use Rattle.valuator.proofs.playing.tell_nulled.Goals as goal
 
 pub returns-clause-ok : goal.returns-clause-ok
 returns-clause-ok g c =
