@@ -3,3 +3,4 @@ pub mod Played
 pub mod Every
 pub mod Following
 pub mod Derived
+pub mod Firsts

@@ -3,6 +3,7 @@
 
 mod array;
 mod make;
+mod nulling;
 mod playing;
 mod stack;
 mod teller;

@@ -8,23 +8,15 @@ ghost use Rattle.grammar_core.specs.Steps.{step_of};
 ghost use Rattle.grammar_core.specs.Written.{rule_of};
 ghost use Rattle.value_text.specs.Meaning.{action_of, meaning_of};
 ghost use Rattle.valuator.specs.Told.{action_in, advanced, held_count, HoldsAtLeast, states, replace_newest};
+ghost use Rattle.valuator.specs.Nulling.{AreFirst};
 ghost use Rattle.valuator.specs.Play.{AreSpans, AreSteps, CanTell, EachCanTell, EachCanTellAll, IsMeaningOf, tokens_of};
 
 use crate::Teller;
-use grammar_core::{RuleId, Span, SymbolId, TreeStep, Written, WrittenRule};
+use crate::nulling::{left_side, nulling_action, nulling_rules};
+use grammar_core::{RuleId, Span, SymbolId, TreeStep, Written};
 use slif_base::Chars;
 use std::alloc::Global;
 use value_text::{Action, Meaning, NoMemory};
-
-/// A rule's left side.
-fn left_side(rule: &WrittenRule) -> SymbolId
-    ensures { result ≡ lhs_of (rule_of rule.now) }
-{
-    match rule {
-        WrittenRule::Plain(rule) => rule.lhs,
-        WrittenRule::Sequence(rule) => rule.lhs,
-    }
-}
 
 /// Of a sequence's first children, which are items.
 fn shown_items(alloc: Global, separated: bool, count: u32) -> Result<Vec<bool>, NoMemory>
@@ -79,31 +71,7 @@ struct Score<'p> {
     w: &'p Written,
     spans: &'p [Span],
     chars: &'p Chars,
-}
-
-/// Whether it is the symbol's empty rule or star.
-fn nulls(rule: &WrittenRule, symbol: SymbolId) -> bool
-    ensures { result ≡ ((lhs_of (rule_of rule.now) == symbol) && is_nulling (rule_of rule.now)) }
-{
-    match rule {
-        WrittenRule::Plain(rule) => rule.lhs.0 == symbol.0 && rule.rhs.is_empty(),
-        WrittenRule::Sequence(rule) => rule.lhs.0 == symbol.0 && !rule.plus,
-    }
-}
-
-/// The action of a nulled symbol, if it has an empty rule or a star.
-fn nulling_action<'p>(w: &'p Written, meaning: &'p Meaning, symbol: SymbolId) -> Option<&'p Action>
-    requires { IsMeaningOf w.now (meaning_of meaning.now) }
-    ensures { action_in result ≡ nulled_action w.now (meaning_of meaning.now) symbol }
-{
-    let rules = meaning.rules.as_slice();
-    for i in 0..w.rule_count() {
-        let rule = w.written_rule(RuleId(i as u32));
-        if nulls(rule, symbol) {
-            return Some(&rules[i].action);
-        }
-    }
-    None
+    nulling: &'p [Option<RuleId>],
 }
 
 /// Tells the values of a token.
@@ -197,6 +165,7 @@ fn tell_nulled(
 ) -> Result<(), NoMemory>
     requires meaning { IsMeaningOf p.now.w.now (meaning_of p.now.meaning.now) }
     requires spans { AreSpans (length p.now.chars.now) p.now.spans.now }
+    requires nulling { AreFirst p.now.w.now (length p.now.w.now.rules) p.now.nulling.now }
     requires symbol { symbol < length p.now.w.now.names }
     requires at { at ≤ length p.now.spans.now }
     ensures ok { OnOk result (held teller.new ≡ held teller.old ++ value_of_nulled (shows teller.old) p.now.w.now (meaning_of p.now.meaning.now) (tokens_of p.now.chars.now p.now.spans.now) symbol at ∷ []) }
@@ -204,7 +173,7 @@ fn tell_nulled(
 {
     let name = name_in(p.w, symbol);
     let start = end_of(p.spans, p.chars, at);
-    let action = nulling_action(p.w, p.meaning, symbol);
+    let action = nulling_action(p.w, p.meaning, p.nulling, symbol);
     pass_nulling(teller, name, start, at, action)
 }
 
@@ -266,6 +235,7 @@ fn tell(
 ) -> Result<(), NoMemory>
     requires meaning { IsMeaningOf p.now.w.now (meaning_of p.now.meaning.now) }
     requires spans { AreSpans (length p.now.chars.now) p.now.spans.now }
+    requires nulling { AreFirst p.now.w.now (length p.now.w.now.rules) p.now.nulling.now }
     requires step { CanTell p.now.w.now (length p.now.spans.now) (held_count (held teller.old)) (step_of step.now) }
     ensures ok { OnOk result (held teller.new ≡ told (shows teller.old) p.now.w.now (meaning_of p.now.meaning.now) (tokens_of p.now.chars.now p.now.spans.now) (held teller.old) (step_of step.now)) }
     ensures kind { shows teller.new ≡ shows teller.old }
@@ -291,6 +261,7 @@ fn tell_all(
 ) -> Result<(), NoMemory>
     requires meaning { IsMeaningOf p.now.w.now (meaning_of p.now.meaning.now) }
     requires spans { AreSpans (length p.now.chars.now) p.now.spans.now }
+    requires nulling { AreFirst p.now.w.now (length p.now.w.now.rules) p.now.nulling.now }
     requires step { EachCanTell p.now.w.now (length p.now.spans.now) (states tellers.old.items shows held) (step_of step.now) }
     ensures ok { OnOk result (states tellers.new.items shows held ≡ advanced (λ show values. told show p.now.w.now (meaning_of p.now.meaning.now) (tokens_of p.now.chars.now p.now.spans.now) values (step_of step.now)) (states tellers.old.items shows held)) }
 {
@@ -309,6 +280,7 @@ fn tell_steps(
 ) -> Result<(), NoMemory>
     requires meaning { IsMeaningOf p.now.w.now (meaning_of p.now.meaning.now) }
     requires spans { AreSpans (length p.now.chars.now) p.now.spans.now }
+    requires nulling { AreFirst p.now.w.now (length p.now.w.now.rules) p.now.nulling.now }
     requires steps { EachCanTellAll p.now.w.now (length p.now.spans.now) (states tellers.old.items shows held) (map step_of list.now) }
     ensures ok { OnOk result (states tellers.new.items shows held ≡ advanced (λ show values. told_all show p.now.w.now (meaning_of p.now.meaning.now) (tokens_of p.now.chars.now p.now.spans.now) values (map step_of list.now)) (states tellers.old.items shows held)) }
 {
@@ -357,12 +329,13 @@ fn tell_list(
     requires spans { AreSpans (length chars.now) spans.now }
     ensures { OnOk result (states tellers.new.items shows held ≡ advanced (λ show values. told_all show w.now (meaning_of meaning.now) (tokens_of chars.now spans.now) values (map step_of list.now)) (states tellers.old.items shows held)) }
 {
-    let _symbols = w.symbol_count();
+    let nulling = nulling_rules(alloc, w)?;
     let p = Score {
         meaning,
         w,
         spans,
         chars,
+        nulling: nulling.as_slice(),
     };
     tell_steps(alloc, &p, list, tellers)
 }
