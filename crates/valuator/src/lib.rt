@@ -14,3 +14,6 @@ pub use grammar_model::Show;
 pub use playing::play;
 pub use teller::Teller;
 pub use tree::TreeTeller;
+
+#[cfg(test)]
+mod tests;
