@@ -35,8 +35,10 @@ more_first g n symbol rule rules known read l inside at f = (length-set rules sy
   where
     entry : Option ℕ
     entry = first_with known (is_nulling rule) n
+
     same : rule_at g n ≡ rule
     same = read_rule g n rule read
+
     each : (s : ℕ) → s < length g.names → IsFirst g s (n + 1) (get_or (set rules symbol entry) s None)
     each s b = pick (cases_eq s symbol)
       where
@@ -56,6 +58,7 @@ known_left g n symbol rule w b read l = subst (λ s. s < length g.names) (sym (l
     left : (r : WrittenRule) → lhs_of r ≡ get_or (symbols_of r) 0 0
     left (Rattle.grammar_model.specs.Grammar.Plain r) = refl
     left (Rattle.grammar_model.specs.Grammar.Sequence r) = refl
+
     some : (r : WrittenRule) → 0 < length (symbols_of r)
     some (Rattle.grammar_model.specs.Grammar.Plain r) = omega arith
     some (Rattle.grammar_model.specs.Grammar.Sequence r) = omega arith

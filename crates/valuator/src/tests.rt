@@ -8,26 +8,24 @@ use std::test::Fail;
 use value_text::{Action, DescItem, Items, Meaning, NoMemory};
 
 fn descriptor(alloc: Global) -> Result<Action, NoMemory> {
-    Ok(Action::Items(Items::new(vec![
-        in alloc;
+    Ok(Action::Items(Items::new(vec![in alloc;
         DescItem::Name,
         DescItem::Start,
         DescItem::Length,
         DescItem::G1Start,
         DescItem::G1Length,
-        DescItem::Values
+        DescItem::Values,
     ]?)))
 }
 
 #[test]
 fn descriptors_tell_all(rt: HostRuntime) -> Result<(), Fail> {
     let made = descriptor(rt.alloc())?;
-    let lexeme = Action::Items(Items::new(vec![
-        in rt.alloc();
+    let lexeme = Action::Items(Items::new(vec![in rt.alloc();
         DescItem::Symbol,
         DescItem::Start,
         DescItem::Length,
-        DescItem::Values
+        DescItem::Values,
     ]?));
     let mut teller = ArrayTeller::new(rt.alloc());
     teller.token("x", "x", 1, 1, 0, Some(&lexeme))?;
@@ -50,9 +48,29 @@ fn separators_and_hidden_parts_are_left_out(rt: HostRuntime) -> Result<(), Fail>
     teller.token("N", "1", 1, 1, 1, None)?;
     teller.token("comma", ",", 2, 1, 2, None)?;
     teller.token("N", "2", 3, 1, 3, None)?;
-    teller.rule(RuleId(1), "L", 3, &[true, false, true], 1, 3, 1, 3, &Action::Array)?;
+    teller.rule(
+        RuleId(1),
+        "L",
+        3,
+        &[true, false, true],
+        1,
+        3,
+        1,
+        3,
+        &Action::Array,
+    )?;
     teller.token("')'", ")", 4, 1, 4, None)?;
-    teller.rule(RuleId(0), "E", 3, &[false, true, false], 0, 5, 0, 5, &Action::Array)?;
+    teller.rule(
+        RuleId(0),
+        "E",
+        3,
+        &[false, true, false],
+        0,
+        5,
+        0,
+        5,
+        &Action::Array,
+    )?;
     let mut out = Vec::new(rt.alloc());
     teller.finish(&mut out)?;
     assert_eq!(rt; out.as_slice(), b"[[\"1\",\"2\"]]\n".as_slice());

@@ -18,7 +18,10 @@ fn texts_are_escaped(rt: HostRuntime) -> Result<(), Fail> {
     let mut pool = Pool::new(rt.alloc());
     let id = pool.text("a\"$@\\\n\r\t\u{0}\u{9f}\u{e4}\u{1d11e}")?;
     let out = text_of(rt.alloc(), &pool, id)?;
-    assert_eq!(rt; out.as_slice(), "\"a\\\"\\$\\@\\\\\\n\\r\\t\\x{00}\\x{9f}\u{e4}\u{1d11e}\"".as_bytes());
+    assert_eq!(rt;
+        out.as_slice(),
+        "\"a\\\"\\$\\@\\\\\\n\\r\\t\\x{00}\\x{9f}\u{e4}\u{1d11e}\"".as_bytes()
+    );
     Ok(())
 }
 
@@ -32,7 +35,10 @@ fn lists_have_commas(rt: HostRuntime) -> Result<(), Fail> {
     let empty = pool.list(&[])?;
     let id = pool.list(&[number, none, empty, number])?;
     let out = text_of(rt.alloc(), &pool, id)?;
-    assert_eq!(rt; out.as_slice(), b"[18446744073709551615,undef,[],18446744073709551615]".as_slice());
+    assert_eq!(rt;
+        out.as_slice(),
+        b"[18446744073709551615,undef,[],18446744073709551615]".as_slice()
+    );
     Ok(())
 }
 
