@@ -1,5 +1,5 @@
 -- What is told of a derivation's steps.
-use Rattle.std.proofs.Common.{◌≡◌, ℕ, zero, suc, ◌+◌, ◌-◌, ◌<◌, ◌≤◌, Bool, true, false, List, [], ◌∷◌, ◌++◌, length, map, get_or, refl, sym, ap, ◌∙◌, arith, length-append, subst, Option, Some, None, cond, nat_lt}
+use Rattle.std.proofs.Common.{◌≡◌, ℕ, zero, suc, ◌+◌, ◌-◌, ◌<◌, ◌≤◌, Bool, true, false, List, [], ◌∷◌, ◌++◌, length, map, get_or, refl, sym, ap, ◌∙◌, arith, length-append, Option, Some, None, cond, nat_lt}
 use Rattle.grammar_core.specs.declared.steps.Span.{Span}
 use Rattle.grammar_model.specs.Values.{Value, RuleMeaning, is_nulling, Meaning, Action, MakeUndefined, meaning_at, Token, token_at, end_before, name_of, nulled_action, items_shown, shown_of, rule_value, value_of_rule, token_value, nulling_value, value_of_token, value_of_nulled}
 use Rattle.grammar_model.specs.declared.Show.{Show}

@@ -1,6 +1,7 @@
 -- What is played to tellers: the steps of a derivation whose tokens lie one place each, with their spans in a text.
-use Rattle.std.specs.Prelude.{◌≡◌, ℕ, zero, suc, ◌+◌, ◌*◌, ◌^◌, ◌<◌, ◌≤◌, Bool, true, false, Option, is_some, List, [], ◌∷◌, length, map, slice_range, encode_utf8_all, All}
+use Rattle.std.specs.Prelude.{◌≡◌, ℕ, suc, ◌+◌, ◌-◌, ◌^◌, ◌<◌, ◌≤◌, true, false, is_some, List, [], ◌∷◌, length, map, slice_range, encode_utf8_all, All}
 use Rattle.grammar_model.specs.Grammar.{Grammar, lhs_of, Slot, WrittenRule, Plain, Sequence, rule_at, IsChildCount}
+use Rattle.grammar_model.specs.declared.Show.{Show}
 use Rattle.grammar_model.specs.Trees.{Tree}
 use Rattle.grammar_model.specs.Derives.{Edges, Derives}
 use Rattle.grammar_model.specs.Steps.{Step, TokenStep, NulledStep, RuleStep, steps_of}
@@ -48,3 +49,20 @@ abbrev pub CanTell : Grammar → (places held : ℕ) → Step → Type 0
 CanTell g places held (TokenStep symbol from to) = (symbol < length g.names) × (from < places)
 CanTell g places held (NulledStep symbol at) = (symbol < length g.names) × (at ≤ places)
 CanTell g places held (RuleStep i n from to) = (i < length g.rules) × (lhs_of (rule_at g i) < length g.names) × IsChildCount (rule_at g i) n × (from < to) × (to ≤ places) × (n ≤ held)
+
+-- each of these tellers can be told the step
+abbrev pub EachCanTell : Grammar → ℕ → List (Show × List Value) → Step → Type 0
+EachCanTell g places tellers step = All (λ (s : Show × List Value). CanTell g places (length s.1) step) tellers
+
+-- how many values are held behind a step, and what a teller that holds so many values can be told one after another
+abbrev pub held_after : ℕ → Step → ℕ
+held_after held (TokenStep symbol from to) = suc held
+held_after held (NulledStep symbol at) = suc held
+held_after held (RuleStep i n from to) = suc (held - n)
+
+abbrev pub CanTellAll : Grammar → (places held : ℕ) → List Step → Type 0
+CanTellAll g places held [] = Unit {0}
+CanTellAll g places held (step ∷ steps) = CanTell g places held step × CanTellAll g places (held_after held step) steps
+
+abbrev pub EachCanTellAll : Grammar → ℕ → List (Show × List Value) → List Step → Type 0
+EachCanTellAll g places tellers steps = All (λ (s : Show × List Value). CanTellAll g places (length s.1) steps) tellers

@@ -3,12 +3,17 @@
 
 mod array;
 mod make;
-mod play;
+mod nulling;
+mod playing;
 mod stack;
 mod teller;
 mod tree;
 
 pub use array::ArrayTeller;
 pub use grammar_model::Show;
+pub use playing::play;
 pub use teller::Teller;
 pub use tree::TreeTeller;
+
+#[cfg(test)]
+mod tests;
