@@ -1,0 +1,4 @@
+pub mod Found
+pub mod Search
+pub mod Results
+pub mod RowLemmas
