@@ -2,3 +2,4 @@ pub mod Found
 pub mod Search
 pub mod Results
 pub mod RowLemmas
+pub mod Known
