@@ -190,10 +190,12 @@ pub fn least_set(
     clauses: &[Clause],
     bound: usize,
 ) -> Result<IndexSet<u32>, AllocError>
-    requires few { length clauses.now < 2 ^ 32 }
-    requires below { AreBelow bound clauses.now }
+    requires { AreBelow bound clauses.now }
     ensures { IfOk result (λ found. IsLeastSet clauses.now found.keys) }
 {
+    if clauses.len() > u32::MAX as usize {
+        return Err(AllocError);
+    }
     let rows = occurrences(alloc, clauses, bound)?;
     let mut places = vec![in alloc; 0usize; clauses.len()]?;
     let mut found = IndexSet::new(alloc);
