@@ -1,5 +1,5 @@
 -- Numbers for slots: those of one symbol stand together, by level, and the numbers of the symbols stand in order.
-use Rattle.std.specs.Prelude.{◌≡◌, ℕ, suc, ◌+◌, ◌<◌, ◌≤◌, Bool, true, false, if◌then◌else◌, List, [], ◌∷◌, length, map, slice_index, Contains, ◌⊎◌, option_to_list}
+use Rattle.std.specs.Prelude.{◌≡◌, ℕ, suc, ◌+◌, ◌<◌, ◌≤◌, Bool, true, false, if◌then◌else◌, List, [], ◌∷◌, length, map, slice_index, slice_index_or, Contains, ◌⊎◌, option_to_list}
 use Rattle.std.specs.List.{range_with_len}
 use Rattle.grammar_model.specs.Grammar.{WrittenRule, Plain, Sequence, Grammar, Slot, PlainRule, rule_at, lhs_of, level_of, child_slot}
 use Rattle.grammar_check.specs.Least.{Clause}
@@ -42,5 +42,26 @@ chain_clause x = record { head = x; body = suc x ∷ [] }
 abbrev pub fact_clause : ℕ → Clause
 fact_clause x = record { head = x; body = [] }
 
-abbrev pub IsChain : List ℕ → ℕ → Clause → Type 0
-IsChain bases count c = (s : ℕ) × (x : ℕ) × (s < count) × (slice_index bases s ≤ x) × (suc x < end_of bases s) × (c ≡ chain_clause x)
+-- clauses were added that take each number before the end to the one before it
+pub record HasChain (old new : List Clause) (from to : ℕ) : Type 0 where
+  pub keeps : (c : Clause) → Contains old c → Contains new c
+  pub only : (c : Clause) → Contains new c → Contains old c ⊎ ((x : ℕ) × (from ≤ x) × (suc x < to) × (c ≡ chain_clause x))
+  pub has : (x : ℕ) → from ≤ x → suc x < to → Contains new (chain_clause x)
+
+-- clauses were added of each number from one to another
+pub record HasFacts (old new : List Clause) (from to : ℕ) : Type 0 where
+  pub keeps : (c : Clause) → Contains old c → Contains new c
+  pub only : (c : Clause) → Contains new c → Contains old c ⊎ ((x : ℕ) × (from ≤ x) × (x < to) × (c ≡ fact_clause x))
+  pub has : (x : ℕ) → from ≤ x → x < to → Contains new (fact_clause x)
+
+-- clauses were added of the levels of the first so many symbols
+pub record HasLevels (bases : List ℕ) (count : ℕ) (old new : List Clause) : Type 0 where
+  pub keeps : (c : Clause) → Contains old c → Contains new c
+  pub only : (c : Clause) → Contains new c → Contains old c ⊎ ((s : ℕ) × (x : ℕ) × (s < count) × (slice_index bases s ≤ x) × (suc x < end_of bases s) × (c ≡ chain_clause x))
+  pub has : (s x : ℕ) → s < count → slice_index bases s ≤ x → suc x < end_of bases s → Contains new (chain_clause x)
+
+-- clauses were added of those of the first so many symbols that are no left side
+pub record HasTerminals (bases : List ℕ) (lefts : List Bool) (count : ℕ) (old new : List Clause) : Type 0 where
+  pub keeps : (c : Clause) → Contains old c → Contains new c
+  pub only : (c : Clause) → Contains new c → Contains old c ⊎ ((s : ℕ) × (x : ℕ) × (s < count) × (slice_index bases s ≤ x) × (x < end_of bases s) × (slice_index_or lefts s false ≡ false) × (c ≡ fact_clause x))
+  pub has : (s x : ℕ) → s < count → slice_index bases s ≤ x → x < end_of bases s → slice_index_or lefts s false ≡ false → Contains new (fact_clause x)

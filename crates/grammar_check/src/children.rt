@@ -90,8 +90,8 @@ fn sequence_part(rule: &SeqRule, k: usize) -> u32
     }
 }
 
-// The symbol of a rule's child slot, and its level.
-fn child_at(w: &Written, i: usize, k: usize) -> (u32, u32)
+/// The symbol of a rule's child slot, and its level.
+pub fn child_at(w: &Written, i: usize, k: usize) -> (u32, u32)
     requires rule { i < length w.now.rules }
     requires part { k < slot_count (rule_at w.now i) }
     ensures symbol { result.0 ≡ (child_slot (rule_at w.now i) k).symbol }

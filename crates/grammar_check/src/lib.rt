@@ -2,5 +2,6 @@
 #![tactic(auto)]
 
 mod children;
+mod clauses;
 mod least;
 mod slots;
