@@ -6,3 +6,4 @@ pub mod Known
 pub mod Rounds
 pub mod Pushing
 pub mod Collected
+pub mod Beyond

@@ -2,3 +2,4 @@ pub mod Least
 pub mod Rows
 pub mod Slots
 pub mod Clauses
+pub mod Tables

@@ -29,6 +29,11 @@ abbrev pub body_count : Bool → WrittenRule → ℕ
 body_count separators (Plain r) = length r.rhs
 body_count separators (Sequence r) = if r.plus then (if separators then suc (length (option_to_list r.separator)) else 1) else 0
 
+-- how many a live rule needs to be productive
+abbrev pub needed_of : WrittenRule → ℕ
+needed_of (Plain r) = length r.rhs
+needed_of (Sequence r) = 1
+
 abbrev pub rule_clause : Bool → List ℕ → WrittenRule → Clause
 rule_clause separators bases rule = record {
   head = slice_index bases (lhs_of rule) + level_of rule;

@@ -3,7 +3,7 @@ ghost use Rattle.std.specs.Prelude.{◌≡◌, ℕ, suc, ◌+◌, ◌-◌, ◌<�
 ghost use Rattle.grammar_model.specs.Grammar.{rule_at, lhs_of, level_of, child_slot, slot_count};
 ghost use Rattle.grammar_model.specs.Checked.{IsLeft};
 ghost use Rattle.grammar_check.specs.Clauses.{HasClauses, IsAnalysis};
-ghost use Rattle.grammar_check.specs.Slots.{number, end_of, IsNumbering, body_count, rule_clause, HasChain, HasFacts, HasLevels, HasTerminals};
+ghost use Rattle.grammar_check.specs.Slots.{number, end_of, IsNumbering, body_count, needed_of, rule_clause, HasChain, HasFacts, HasLevels, HasTerminals};
 
 use crate::children::child_at;
 use crate::least::{Clause, least_set};
@@ -26,6 +26,31 @@ fn count_at(w: &Written, i: usize, separators: bool) -> usize
     }
 }
 
+/// How many child slots the rule has.
+pub fn part_count(w: &Written, i: usize) -> usize
+    requires { i < length w.now.rules }
+    ensures { result ≡ slot_count (rule_at w.now i) }
+{
+    let _ = w.rule_count();
+    match w.written_rule(RuleId(i as u32)) {
+        WrittenRule::Plain(rule) => rule.rhs.len(),
+        WrittenRule::Sequence(rule) if rule.separator.is_some() => 2,
+        WrittenRule::Sequence(_) => 1,
+    }
+}
+
+/// How many of them, from the first, a live rule needs to be productive.
+pub fn needed_count(w: &Written, i: usize) -> usize
+    requires { i < length w.now.rules }
+    ensures { result ≡ needed_of (rule_at w.now i) }
+{
+    let _ = w.rule_count();
+    match w.written_rule(RuleId(i as u32)) {
+        WrittenRule::Plain(rule) => rule.rhs.len(),
+        WrittenRule::Sequence(_) => 1,
+    }
+}
+
 fn level_at(w: &Written, i: usize) -> u32
     requires { i < length w.now.rules }
     ensures { result ≡ level_of (rule_at w.now i) }
@@ -37,8 +62,8 @@ fn level_at(w: &Written, i: usize) -> u32
     }
 }
 
-// The number of the tightest slot that the rule fits.
-fn head_number(w: &Written, bases: &[u32], i: usize) -> u32
+/// The number of the tightest slot that the rule fits.
+pub fn head_number(w: &Written, bases: &[u32], i: usize) -> u32
     requires rule { i < length w.now.rules }
     requires numbering { IsNumbering w.now bases.now }
     ensures { result ≡ slice_index bases.now (lhs_of (rule_at w.now i)) + level_of (rule_at w.now i) }
@@ -50,7 +75,8 @@ fn head_number(w: &Written, bases: &[u32], i: usize) -> u32
     bases[symbol] + level
 }
 
-fn child_number(w: &Written, bases: &[u32], i: usize, k: usize) -> u32
+/// The number of the rule's child slot at a place.
+pub fn child_number(w: &Written, bases: &[u32], i: usize, k: usize) -> u32
     requires rule { i < length w.now.rules }
     requires numbering { IsNumbering w.now bases.now }
     requires part { k < slot_count (rule_at w.now i) }

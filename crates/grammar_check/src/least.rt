@@ -22,8 +22,8 @@ impl Model for Clause {
     ghost view = { λ c. record { head = c.head; body = c.body.items } };
 }
 
-// Whether the number is found already.
-fn is_found(found: &IndexSet<u32>, x: u32) -> bool
+/// Whether the number is in the set.
+pub fn is_found(found: &IndexSet<u32>, x: u32) -> bool
     ensures { IsTrue result ↔ Contains found.now.keys x }
 {
     found.contains(&x)
