@@ -7,3 +7,6 @@ pub mod Rounds
 pub mod Pushing
 pub mod Collected
 pub mod Beyond
+pub mod More
+pub mod StepLemmas
+pub mod Reaching

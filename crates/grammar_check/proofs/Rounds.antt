@@ -43,7 +43,7 @@ to_nullable (suc n) g slot (inr (i, lt, fits, h)) = (i, lt, fits, each (rule_at 
         by true e = inr (λ k l. h k (subst (λ b. k < (if b then suc (length (option_to_list r.separator)) else 0)) (sym e) l))
         by false e = inl e
 
-item_first : (item : ℕ) (separator : Option ℕ) → sequence_symbol item separator 0 ≡ item
+pub item_first : (item : ℕ) (separator : Option ℕ) → sequence_symbol item separator 0 ≡ item
 item_first item None = refl
 item_first item (Some separator) = refl
 
@@ -111,7 +111,7 @@ part_is seps bases rule k d lt = get_or-map-range_with_len (λ k. number bases (
 pub body_length : (seps : Bool) (bases : List ℕ) (rule : WrittenRule) → length (rule_clause seps bases rule).body ≡ body_count seps rule
 body_length seps bases rule = length-map-range_with_len (λ k. number bases (child_slot rule k)) 0 (body_count seps rule)
 
-closed_by : (cs : List Clause) (keys : List ℕ) (c : Clause) → IsClosed cs keys → Contains cs c → All (Contains keys) c.body → Contains keys c.head
+pub closed_by : (cs : List Clause) (keys : List ℕ) (c : Clause) → IsClosed cs keys → Contains cs c → All (Contains keys) c.body → Contains keys c.head
 closed_by cs keys c closed (j, jl, e) all =
     let is : clause_at cs j ≡ c = get_or_default cs j (record { head = 0; body = [] }) c jl ∙ e in
     subst (λ c. Contains keys c.head) is (closed j jl (subst (λ c. All (Contains keys) c.body) (sym is) all))

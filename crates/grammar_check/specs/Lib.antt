@@ -3,3 +3,4 @@ pub mod Rows
 pub mod Slots
 pub mod Clauses
 pub mod Tables
+pub mod Steps

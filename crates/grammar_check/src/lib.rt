@@ -6,6 +6,7 @@ mod children;
 mod clauses;
 mod least;
 mod slots;
+mod steps;
 
 pub use checked::Checked;
 pub use grammar_core::{RuleId, SymbolId, Written};
