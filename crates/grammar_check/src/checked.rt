@@ -1,18 +1,19 @@
 //! Grammars with what their slots can do.
-ghost use Rattle.std.specs.Prelude.{◌≡◌, ℕ, ◌+◌, ◌<◌, ◌≤◌, ◌↔◌, length, slice_index, slice_index_or, false, IsTrue, IfOk, IfSome, IsNone};
+ghost use Rattle.std.specs.Prelude.{◌≡◌, ℕ, ◌+◌, ◌-◌, ◌^◌, ◌<◌, ◌≤◌, ◌↔◌, length, slice_index, slice_index_or, false, IsTrue, IfOk, IfSome, IsNone};
 ghost use Rattle.grammar_model.specs.Grammar.{Slot, slot_of};
-ghost use Rattle.grammar_model.specs.Analysis.{IsNullable, IsProductive};
+ghost use Rattle.grammar_model.specs.Analysis.{IsNullable, IsProductive, IsAccessible};
 ghost use Rattle.grammar_check.specs.Slots.{end_of, IsNumbering};
 
 use crate::clauses::{analysis_of, lefts_of};
 use crate::least::is_found;
 use crate::slots::bases_of;
+use crate::steps::reach_of;
 use grammar_core::{SymbolId, Written};
 use indexmap::IndexSet;
 use std::alloc::{AllocError, Global};
 use std::marker::Model;
 
-/// A grammar, and which of its slots are nullable and which are productive.
+/// A grammar, and which of its slots are nullable, productive and accessible.
 #[derive(Drop)]
 pub struct Checked<'a> {
     written: &'a Written,
@@ -20,6 +21,7 @@ pub struct Checked<'a> {
     lefts: Vec<bool>,
     nullable: IndexSet<u32>,
     productive: IndexSet<u32>,
+    reach: IndexSet<u32>,
 }
 
 impl<'a> Model for Checked<'a> {
@@ -30,7 +32,7 @@ impl<'a> Model for Checked<'a> {
 
     ghost view = { λ c. c.written.now };
 
-    ghost invariant = { λ c. AreTables c.written.now c.bases.items c.lefts.items c.nullable.keys c.productive.keys };
+    ghost invariant = { λ c. AreTables c.written.now c.bases.items c.lefts.items c.nullable.keys c.productive.keys c.reach.keys };
 }
 
 // The slot's number, if it has one.
@@ -47,6 +49,18 @@ fn number_of(bases: &[u32], s: u32, level: u32) -> Option<u32>
     } else {
         None
     }
+}
+
+// The number that stands for the tightest slot of a symbol being in use.
+fn last_use(bases: &[u32], s: u32) -> u32
+    requires known { s + 1 < length bases.now }
+    requires some { 0 < end_of bases.now s }
+    requires order { end_of bases.now s ≤ slice_index bases.now (length bases.now - 1) }
+    requires small { slice_index bases.now (length bases.now - 1) + slice_index bases.now (length bases.now - 1) < 2 ^ 32 }
+    ensures { result ≡ slice_index bases.now (length bases.now - 1) + (end_of bases.now s - 1) }
+{
+    let total = bases[bases.len() - 1];
+    total + (bases[s as usize + 1] - 1)
 }
 
 fn is_no_left(lefts: &[bool], s: u32) -> bool
@@ -66,12 +80,14 @@ impl<'a> Checked<'a> {
         let lefts = lefts_of(alloc, w)?;
         let nullable = analysis_of(alloc, w, &bases, &lefts, true)?;
         let productive = analysis_of(alloc, w, &bases, &lefts, false)?;
+        let reach = reach_of(alloc, w, &bases, &productive)?;
         Ok(Checked {
             written: w,
             bases,
             lefts,
             nullable,
             productive,
+            reach,
         })
     }
 
@@ -118,5 +134,25 @@ impl<'a> Checked<'a> {
         ensures { IsTrue result ↔ IsProductive self.now (slot_of s) }
     {
         self.slot_productive(s, 0)
+    }
+
+    /// Whether the slot stands in a tree of a start.
+    pub fn slot_accessible(&self, s: SymbolId, level: u32) -> bool
+        requires { s < length self.now.names }
+        ensures { IsTrue result ↔ IsAccessible self.now (record { symbol = s; level = level }) }
+    {
+        match number_of(&self.bases, s.0, level) {
+            Some(x) => is_found(&self.reach, x),
+            None => false,
+        }
+    }
+
+    /// Whether some slot of the symbol stands in a tree of a start.
+    pub fn accessible(&self, s: SymbolId) -> bool
+        requires { s < length self.now.names }
+        ensures { IsTrue result ↔ ((l : ℕ) × IsAccessible self.now (record { symbol = s; level = l })) }
+    {
+        let x = last_use(&self.bases, s.0);
+        is_found(&self.reach, x)
     }
 }

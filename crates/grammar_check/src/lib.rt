@@ -7,6 +7,8 @@ mod clauses;
 mod least;
 mod slots;
 mod steps;
+#[cfg(test)]
+mod tests;
 
 pub use checked::Checked;
 pub use grammar_core::{RuleId, SymbolId, Written};

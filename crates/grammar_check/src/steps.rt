@@ -204,7 +204,8 @@ pub fn reach_of(
 ) -> Result<IndexSet<u32>, AllocError>
     requires numbering { IsNumbering w.now bases.now }
     requires productive { IsAnalysis false w.now bases.now productive.now.keys }
-    ensures { IfOk result (λ found. IsReach w.now bases.now found.keys) }
+    ensures reach { IfOk result (λ found. IsReach w.now bases.now found.keys) }
+    ensures small { IfOk result (λ _. slice_index bases.now (length w.now.names) + slice_index bases.now (length w.now.names) < 2 ^ 32) }
 {
     let total = bases[w.symbol_count()];
     if total > u32::MAX / 2 {
