@@ -15,8 +15,8 @@ use Rattle.grammar_check.proofs.Rounds.{bases_rise}
 module _ (g : Grammar) (bases : List ℕ) (s l : ℕ) (w : IsWritten g) (n : IsNumbering g bases) (beyond : end_of bases s ≤ slice_index bases s + l) where
   no_rule_fits : (P : WrittenRule → Type 0) → SomeRule g (record { symbol = s; level = l }) P → ⊥
   no_rule_fits P (i, lt, (e, fits), p) =
-    let h = head_numbered g bases i w n lt in
-    omega (arith, h, beyond, fits, ap (slice_index bases) e, ap (end_of bases) e)
+      let h = head_numbered g bases i w n lt in
+      omega (arith, h, beyond, fits, ap (slice_index bases) e, ap (end_of bases) e)
 
   pub beyond_nullable : IsNullable g (record { symbol = s; level = l }) → ⊥
   beyond_nullable (zero, h) = h

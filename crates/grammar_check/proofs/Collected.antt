@@ -16,8 +16,8 @@ use Rattle.grammar_check.proofs.Rounds.{CanIn, from_nullable, to_nullable, from_
 module _ (seps : Bool) (g : Grammar) (bases : List ℕ) where
   in_rules : (c : Clause) → Contains (map (rule_clause seps bases) g.rules) c → IsOfRule seps g bases c
   in_rules c (i, lt, e) =
-    let il : i < length g.rules = omega (arith, lt, length-map g.rules (rule_clause seps bases)) in
-    (i, il, sym e ∙ get_or-map (rule_clause seps bases) g.rules i no_rule c il)
+      let il : i < length g.rules = omega (arith, lt, length-map g.rules (rule_clause seps bases)) in
+      (i, il, sym e ∙ get_or-map (rule_clause seps bases) g.rules i no_rule c il)
 
   rule_in : (i : ℕ) → i < length g.rules → Contains (map (rule_clause seps bases) g.rules) (rule_clause seps bases (rule_at g i))
   rule_in i lt = (i, omega (arith, lt, length-map g.rules (rule_clause seps bases)), get_or-map (rule_clause seps bases) g.rules i no_rule (rule_clause seps bases (rule_at g i)) lt)
@@ -62,12 +62,13 @@ module _ (seps : Bool) (g : Grammar) (bases : List ℕ) (cs : List Clause) (w : 
 
   pub below : AreBelow (slice_index bases (length g.names)) cs
   below j jl = elim (has.real (clause_at cs j) (Contains-get_or cs j (record { head = 0; body = [] }) jl)) [
-    | inl (i, il, is) ↦ subst (λ c. (c.head < slice_index bases (length g.names)) × All (λ x. x < slice_index bases (length g.names)) c.body) (sym is)
-        ((below_end (lhs_of (rule_at g i)) (slice_index bases (lhs_of (rule_at g i)) + level_of (rule_at g i)) (lhs_known g i w il) (head_numbered g bases i w n il)),
-          (λ k d lt.
-            let kl : k < body_count seps (rule_at g i) = subst (λ m. k < m) (body_length seps bases (rule_at g i)) lt in
-            let num = child_numbered g bases i k w n il (body_small seps (rule_at g i) k kl) in
-            subst (λ x. x < slice_index bases (length g.names)) (sym (part_is seps bases (rule_at g i) k d kl)) (below_end (child_slot (rule_at g i) k).symbol (number bases (child_slot (rule_at g i) k)) num.0 num.1)))
+    | inl (i, il, is) ↦ subst (λ c. (c.head < slice_index bases (length g.names)) × All (λ x. x < slice_index bases (length g.names)) c.body) (sym is) (
+      (below_end (lhs_of (rule_at g i)) (slice_index bases (lhs_of (rule_at g i)) + level_of (rule_at g i)) (lhs_known g i w il) (head_numbered g bases i w n il)),
+      (λ k d lt.
+          let kl : k < body_count seps (rule_at g i) = subst (λ m. k < m) (body_length seps bases (rule_at g i)) lt in
+          let num = child_numbered g bases i k w n il (body_small seps (rule_at g i) k kl) in
+          subst (λ x. x < slice_index bases (length g.names)) (sym (part_is seps bases (rule_at g i) k d kl)) (below_end (child_slot (rule_at g i) k).symbol (number bases (child_slot (rule_at g i) k)) num.0 num.1)),
+    )
     | inr (inl (s, x, known, from, to, is)) ↦ subst (λ c. (c.head < slice_index bases (length g.names)) × All (λ x. x < slice_index bases (length g.names)) c.body) (sym is)
         (below_end s x known (omega (arith, to)), one (suc x) (below_end s (suc x) known to))
     | inr (inr (s, x, known, from, to, fact, is)) ↦ subst (λ c. (c.head < slice_index bases (length g.names)) × All (λ x. x < slice_index bases (length g.names)) c.body) (sym is)
@@ -79,14 +80,19 @@ module _ (seps : Bool) (g : Grammar) (bases : List ℕ) (cs : List Clause) (w : 
       one x h (suc k) d lt = absurd (omega (arith, lt))
 
   pub analysed : (keys : List ℕ) → IsLeastSet cs keys → IsAnalysis seps g bases keys
-  analysed keys least = record { exact = λ slot numbered. (λ h.
-      let (r, d) = least.derived (number bases slot) h in
-      to seps r slot (sound seps g bases cs w n has r (number bases slot) slot.symbol slot.level numbered refl d)
-    , λ h. let (r, can) = from seps slot h in complete seps g bases cs w n has keys least.closed r slot.symbol slot.level numbered can) }
+  analysed keys least = record {
+    exact = λ slot numbered. (
+      λ h.
+          let (r, d) = least.derived (number bases slot) h in
+          to seps r slot (sound seps g bases cs w n has r (number bases slot) slot.symbol slot.level numbered refl d),
+      λ h. let (r, can) = from seps slot h in complete seps g bases cs w n has keys least.closed r slot.symbol slot.level numbered can,
+    );
+  }
     where
       to : (seps : Bool) (r : ℕ) (slot : Slot) → CanIn seps r g slot → Can seps g slot
       to true r slot h = (r, to_nullable r g slot h)
       to false r slot h = (r, to_productive r g slot h)
+
       from : (seps : Bool) (slot : Slot) → Can seps g slot → (r : ℕ) × CanIn seps r g slot
       from true slot (r, h) = (r, from_nullable r g slot h)
       from false slot (r, h) = (r, from_productive r g slot h)

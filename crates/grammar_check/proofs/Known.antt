@@ -22,8 +22,8 @@ numbering g rooms sums w e some rules e' steps = record {
   sized = e' ∙ ap suc e;
   rising = λ s lt. let a = steps s (omega arith) in let b = some s lt in omega (arith, a, b);
   rooms = λ i lt.
-    let known = lhs_known g i w lt in
-    let a = steps (lhs_of (rule_at g i)) (omega (arith, known, e)) in let b = rules i lt in omega (arith, a, b);
+      let known = lhs_known g i w lt in
+      let a = steps (lhs_of (rule_at g i)) (omega (arith, known, e)) in let b = rules i lt in omega (arith, a, b);
 }
 
 level_small : (rule : WrittenRule) → IsLevelled rule → level_of rule < groups_of rule
@@ -62,17 +62,19 @@ rule_numbered g bases (Plain r) k n all levelled room lt =
   where
     by : (b : Bool) → (nat_lt 1 r.groups && (slice_index r.rhs k == r.lhs)) ≡ b → slice_index r.rhs k < length g.names → slice_index bases (slice_index r.rhs k) + (if b then own_level r.assoc r k else 0) < end_of bases (slice_index r.rhs k)
     by true e known =
-      let same : slice_index r.rhs k ≡ r.lhs = eqb-true (slice_index r.rhs k) r.lhs (and_parts (nat_lt 1 r.groups) (slice_index r.rhs k == r.lhs) e).1 in
-      let small = own_small r.assoc r k levelled.0 in
-      subst (λ s. slice_index bases s + own_level r.assoc r k < end_of bases s) (sym same) (omega (arith, small, room))
+        let same : slice_index r.rhs k ≡ r.lhs = eqb-true (slice_index r.rhs k) r.lhs (and_parts (nat_lt 1 r.groups) (slice_index r.rhs k == r.lhs) e).1 in
+        let small = own_small r.assoc r k levelled.0 in
+        subst (λ s. slice_index bases s + own_level r.assoc r k < end_of bases s) (sym same) (omega (arith, small, room))
     by false e known = let h = n.rising (slice_index r.rhs k) known in omega (arith, h)
 rule_numbered g bases (Sequence r) k n all levelled room lt = by r.separator all
   where
     level_zero : (s : ℕ) → s < length g.names → IsNumbered g bases (slot_of s)
     level_zero s known = (known, (let h = n.rising s known in omega (arith, h)))
+
     parted : (item separator : ℕ) (b : Bool) → item < length g.names → separator < length g.names → IsNumbered g bases (slot_of (if b then item else separator))
     parted item separator true i s = level_zero item i
     parted item separator false i s = level_zero separator s
+
     by : (separator : Option ℕ) → All (λ s. s < length g.names) (r.lhs ∷ r.item ∷ option_to_list separator) → IsNumbered g bases (slot_of (sequence_symbol r.item separator k))
     by None all = level_zero r.item (all 1 0 (omega arith))
     by (Some separator) all = parted r.item separator (is_even k) (all 1 0 (omega arith)) (all 2 0 (omega arith))

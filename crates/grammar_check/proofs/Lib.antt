@@ -10,3 +10,4 @@ pub mod Beyond
 pub mod More
 pub mod StepLemmas
 pub mod Reaching
+pub mod Faults

@@ -53,7 +53,6 @@ nexts_split bases total n c = (
 )
 
 module _ (g : Grammar) (bases : List ℕ) (total : ℕ) where
-
   pub part_split : (i n : ℕ) (c : Clause) → IsProductive g (child_slot (rule_at g i) n) →
       IsOfPart g bases total i (n + 1) c ↔ (IsOfPart g bases total i n c ⊎ (c ≡ unit_clause (number bases (child_slot (rule_at g i) n)) (total + head_of g bases i)))
   part_split i n c p = (

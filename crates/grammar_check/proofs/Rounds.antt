@@ -56,8 +56,8 @@ from_productive (suc n) g slot (inr (i, lt, fits, h)) = inr (i, lt, fits, body (
     body rule rec (inl star) k l = absurd (star_none false rule k star l)
     body (Plain r) rec (inr each) k l = rec (child_slot (Plain r) k) (each k l)
     body (Sequence r) rec (inr each) k l =
-      let z : k ≡ 0 = by r.plus k l in
-      subst (λ k. CanIn false n g (child_slot (Sequence r) k)) (sym z) (subst (λ s. CanIn false n g (slot_of s)) (sym (item_first r.item r.separator)) (rec (slot_of r.item) each))
+        let z : k ≡ 0 = by r.plus k l in
+        subst (λ k. CanIn false n g (child_slot (Sequence r) k)) (sym z) (subst (λ s. CanIn false n g (slot_of s)) (sym (item_first r.item r.separator)) (rec (slot_of r.item) each))
       where
         by : (b : Bool) (k : ℕ) → k < (if b then 1 else 0) → k ≡ 0
         by true k l = omega arith
@@ -100,6 +100,7 @@ one_symbol g bases s t x n sl tl a b c d = by (compare s t)
   where
     compare : (s t : ℕ) → (s < t) ⊎ ((t < s) ⊎ (s ≡ t))
     compare s t = grind arith
+
     by : (s < t) ⊎ ((t < s) ⊎ (s ≡ t)) → s ≡ t
     by (inl lt) = let h = bases_rise g bases s t n lt (omega arith) in absurd (omega (arith, h, b, c))
     by (inr (inl lt)) = let h = bases_rise g bases t s n lt (omega arith) in absurd (omega (arith, h, a, d))
@@ -126,17 +127,22 @@ module _ (seps : Bool) (g : Grammar) (bases : List ℕ) (cs : List Clause) (w : 
         let within = head_numbered g bases i w n il in
         let same : lhs_of rule ≡ s = one_symbol g bases (lhs_of rule) s (slice_index bases s + l) n (lhs_known g i w il) known (omega (arith, at)) (omega (arith, at, within)) (omega arith) small in
         let bs : slice_index bases (lhs_of rule) ≡ slice_index bases s = ap (slice_index bases) same in
-        inr (i, il, (same, omega (arith, at, bs)), λ k kl.
-          let num = child_numbered g bases i k w n il (body_small seps rule k kl) in
-          let d = subst (λ c. All (IsDerivedIn r cs) c.body) is all k 0 (subst (λ m. k < m) (sym (body_length seps bases rule)) kl) in
-          sound r (number bases (child_slot rule k)) (child_slot rule k).symbol (child_slot rule k).level num refl (subst (IsDerivedIn r cs) (part_is seps bases rule k 0 kl) d))
+        inr (
+          i,
+          il,
+          (same, omega (arith, at, bs)),
+          λ k kl.
+              let num = child_numbered g bases i k w n il (body_small seps rule k kl) in
+              let d = subst (λ c. All (IsDerivedIn r cs) c.body) is all k 0 (subst (λ m. k < m) (sym (body_length seps bases rule)) kl) in
+              sound r (number bases (child_slot rule k)) (child_slot rule k).symbol (child_slot rule k).level num refl (subst (IsDerivedIn r cs) (part_is seps bases rule k 0 kl) d),
+        )
     | inr (inl (t, y, tl, from, to, is)) ↦
         let at : y ≡ slice_index bases s + l = sym (ap (λ c. c.head) is) ∙ (e' ∙ sym e) in
         let same : t ≡ s = one_symbol g bases t s y n tl known from (omega arith) (omega (arith, at)) (omega (arith, at, small)) in
         let ends : end_of bases t ≡ end_of bases s = ap (end_of bases) same in
         let d = subst (λ c. All (IsDerivedIn r cs) c.body) is all 0 0 (omega arith) in
         can_more seps r g (record { symbol = s; level = l }) (can_looser seps r g s l (suc l) (omega arith)
-          (sound r (suc y) s (suc l) (known, omega (arith, at, to, ends)) (omega (arith, at)) d))
+        (sound r (suc y) s (suc l) (known, omega (arith, at, to, ends)) (omega (arith, at)) d))
     | inr (inr (t, y, tl, from, to, fact, is)) ↦
         let at : y ≡ slice_index bases s + l = sym (ap (λ c. c.head) is) ∙ (e' ∙ sym e) in
         let same : t ≡ s = one_symbol g bases t s y n tl known from to (omega (arith, at)) (omega (arith, at, small)) in
@@ -147,8 +153,8 @@ module _ (seps : Bool) (g : Grammar) (bases : List ℕ) (cs : List Clause) (w : 
     down : (d s l : ℕ) → s < length g.names → slice_index bases s + (l + d) < end_of bases s → Contains keys (slice_index bases s + (l + d)) → Contains keys (slice_index bases s + l)
     down zero s l known small h = subst (Contains keys) (let z : slice_index bases s + (l + 0) ≡ slice_index bases s + l = omega arith in z) h
     down (suc d) s l known small h =
-      let next : suc (slice_index bases s + (l + d)) ≡ slice_index bases s + (l + suc d) = omega arith in
-      down d s l known (omega (arith, next, small)) (closed_by cs keys (chain_clause (slice_index bases s + (l + d))) closed
+        let next : suc (slice_index bases s + (l + d)) ≡ slice_index bases s + (l + suc d) = omega arith in
+        down d s l known (omega (arith, next, small)) (closed_by cs keys (chain_clause (slice_index bases s + (l + d))) closed
         (has.levels s (slice_index bases s + (l + d)) known (omega arith) (omega (arith, next, small)))
         (one (suc (slice_index bases s + (l + d))) (subst (Contains keys) (sym next) h)))
       where
@@ -163,12 +169,12 @@ module _ (seps : Bool) (g : Grammar) (bases : List ℕ) (cs : List Clause) (w : 
     complete zero s l numbered h = fact_in s l numbered h
     complete (suc r) s l numbered (inl h) = fact_in s l numbered h
     complete (suc r) s l numbered (inr (i, lt, (e, fits), h)) =
-      let rule = rule_at g i in
-      let head = closed_by cs keys (rule_clause seps bases rule) closed (has.rules i lt)
+        let rule = rule_at g i in
+        let head = closed_by cs keys (rule_clause seps bases rule) closed (has.rules i lt)
         (λ k d kl.
-          let kl' : k < body_count seps rule = subst (λ m. k < m) (body_length seps bases rule) kl in
-          subst (Contains keys) (sym (part_is seps bases rule k d kl')) (complete r (child_slot rule k).symbol (child_slot rule k).level (child_numbered g bases i k w n lt (body_small seps rule k kl')) (h k kl'))) in
-      let more : l + (level_of rule - l) ≡ level_of rule = omega (arith, fits) in
-      let at : slice_index bases (lhs_of rule) + level_of rule ≡ slice_index bases s + (l + (level_of rule - l)) = omega (arith, ap (slice_index bases) e, more) in
-      let within = head_numbered g bases i w n lt in
-      down (level_of rule - l) s l numbered.0 (omega (arith, at, within, ap (end_of bases) e)) (subst (Contains keys) at head)
+        let kl' : k < body_count seps rule = subst (λ m. k < m) (body_length seps bases rule) kl in
+        subst (Contains keys) (sym (part_is seps bases rule k d kl')) (complete r (child_slot rule k).symbol (child_slot rule k).level (child_numbered g bases i k w n lt (body_small seps rule k kl')) (h k kl'))) in
+        let more : l + (level_of rule - l) ≡ level_of rule = omega (arith, fits) in
+        let at : slice_index bases (lhs_of rule) + level_of rule ≡ slice_index bases s + (l + (level_of rule - l)) = omega (arith, ap (slice_index bases) e, more) in
+        let within = head_numbered g bases i w n lt in
+        down (level_of rule - l) s l numbered.0 (omega (arith, at, within, ap (end_of bases) e)) (subst (Contains keys) at head)

@@ -46,7 +46,7 @@ pub vec_pushed : (rows : List (Vec ℕ Global)) (x i : ℕ) (old new : Vec ℕ G
 vec_pushed rows x i old new lt is e =
     let row = row_is rows x old lt is in
     let set_is : rows_of (slice_set rows x new) ≡ slice_set (rows_of rows) x (row_at (rows_of rows) x ++ i ∷ []) =
-        map-set (λ (v : Vec ℕ Global). v.items) rows x new ∙ ap (λ l. slice_set (rows_of rows) x l) (e ∙ ap (λ l. l ++ i ∷ []) row) in
+    map-set (λ (v : Vec ℕ Global). v.items) rows x new ∙ ap (λ l. slice_set (rows_of rows) x l) (e ∙ ap (λ l. l ++ i ∷ []) row) in
     subst (λ n. HasAdded (rows_of rows) n x i) (sym set_is) (row_pushed (rows_of rows) x i (let l = rows_length rows in omega arith))
 
 pub add_none : (rows : List (List ℕ)) (xs : List ℕ) (i : ℕ) → HasAddedAll rows rows (take 0 xs) i
@@ -58,15 +58,15 @@ add_more old mid new xs n i lt a b = record {
   keeps = λ y j h. b.keeps y j (a.keeps y j h);
   only = λ y j h. elim (b.only y j h) [ inl before ↦ a.only y j before | inr now ↦ inr now ];
   has = λ m below.
-    let long : length (take (n + 1) xs) ≡ n + 1 = grind (arith, length-take-le) in
-    let now : slice_index (take (n + 1) xs) m ≡ slice_index xs m = get_or-take (n + 1) xs m 0 (omega arith) in
-    elim (same_or_below m n (omega arith)) [
-      | inl before ↦
-          let before_is : slice_index (take n xs) m ≡ slice_index xs m = get_or-take n xs m 0 before in
-          let few : length (take n xs) ≡ n = grind (arith, length-take-le) in
-          b.keeps (slice_index (take (n + 1) xs) m) i (subst (λ y. Contains (row_at mid y) i) (before_is ∙ sym now) (a.has m (omega arith)))
-      | inr same ↦ subst (λ y. Contains (row_at new y) i) (sym (now ∙ ap (slice_index xs) same)) b.has
-    ];
+      let long : length (take (n + 1) xs) ≡ n + 1 = grind (arith, length-take-le) in
+      let now : slice_index (take (n + 1) xs) m ≡ slice_index xs m = get_or-take (n + 1) xs m 0 (omega arith) in
+      elim (same_or_below m n (omega arith)) [
+        | inl before ↦
+            let before_is : slice_index (take n xs) m ≡ slice_index xs m = get_or-take n xs m 0 before in
+            let few : length (take n xs) ≡ n = grind (arith, length-take-le) in
+            b.keeps (slice_index (take (n + 1) xs) m) i (subst (λ y. Contains (row_at mid y) i) (before_is ∙ sym now) (a.has m (omega arith)))
+        | inr same ↦ subst (λ y. Contains (row_at new y) i) (sym (now ∙ ap (slice_index xs) same)) b.has
+      ];
 }
 
 pub places_none : (cs : List Clause) (rows : List (List ℕ)) → ((x : ℕ) → row_at rows x ≡ []) → HasPlacesTo cs rows 0

@@ -64,38 +64,40 @@ module _ (cs : List Clause) where
     -- it waits for a number that is not found
     pub stopped : p < length (clause_at cs i).body → (Contains keys (slice_index (clause_at cs i).body p) → ⊥) → Advances cs keys places keys (slice_set places i p) i
     stopped less fresh =
-      let settled : (k : ℕ) → k ≤ length keys → Waits cs keys (slice_set places i p) k i =
-          λ k le. inr (subst (λ q. q < length (clause_at cs i).body) (sym here) less,
-            λ j jk e. fresh (subst (Contains keys) (e ∙ ap (slice_index (clause_at cs i).body) here) (Contains-get_or keys j 0 (omega arith)))) in
-      record {
-        search = moved;
-        extends = ([], sym (append-nil keys));
-        settled = settled;
-        others = λ k j le w. elim (same_or_other j i) [
-          | inl same ↦ subst (Waits cs keys (slice_set places i p) k) (sym same) (settled k le)
-          | inr ne ↦ subst (λ q. Contains keys (clause_at cs j).head ⊎ ((q < length (clause_at cs j).body) × ((n : ℕ) → n < k → slice_index keys n ≢ slice_index (clause_at cs j).body q))) (sym (there j ne)) w
-        ];
-      }
+        let settled : (k : ℕ) → k ≤ length keys → Waits cs keys (slice_set places i p) k i =
+        λ k le. inr (
+          subst (λ q. q < length (clause_at cs i).body) (sym here) less,
+          λ j jk e. fresh (subst (Contains keys) (e ∙ ap (slice_index (clause_at cs i).body) here) (Contains-get_or keys j 0 (omega arith))),
+        ) in
+        record {
+          search = moved;
+          extends = ([], sym (append-nil keys));
+          settled = settled;
+          others = λ k j le w. elim (same_or_other j i) [
+            | inl same ↦ subst (Waits cs keys (slice_set places i p) k) (sym same) (settled k le)
+            | inr ne ↦ subst (λ q. Contains keys (clause_at cs j).head ⊎ ((q < length (clause_at cs j).body) × ((n : ℕ) → n < k → slice_index keys n ≢ slice_index (clause_at cs j).body q))) (sym (there j ne)) w
+          ];
+        }
 
     -- the head is found
     pub ended : (new : List ℕ) → p ≡ length (clause_at cs i).body → Adds keys new (clause_at cs i).head → Advances cs keys places new (slice_set places i p) i
     ended new e adds =
-      let ext = adds_extends keys new (clause_at cs i).head adds in
-      let has = adds_has keys new (clause_at cs i).head adds in
-      record {
-        search = record {
-          derived = adds_derived cs keys new i s.derived lt (λ m d below. subst (Contains keys) (get_or_default (clause_at cs i).body m 0 d below) (all_passed m (omega arith))) adds;
-          sized = moved.sized;
-          within = moved.within;
-          passed = λ j m below behind. extends_keeps keys new ext (slice_index (clause_at cs j).body m) (moved.passed j m below behind);
-        };
-        extends = ext;
-        settled = λ k le. inl has;
-        others = λ k j le w. elim (same_or_other j i) [
-          | inl same ↦ inl (subst (λ j. Contains new (clause_at cs j).head) (sym same) has)
-          | inr ne ↦ subst (λ q. Contains new (clause_at cs j).head ⊎ ((q < length (clause_at cs j).body) × ((n : ℕ) → n < k → slice_index new n ≢ slice_index (clause_at cs j).body q))) (sym (there j ne)) (kept j k le ext w)
-        ];
-      }
+        let ext = adds_extends keys new (clause_at cs i).head adds in
+        let has = adds_has keys new (clause_at cs i).head adds in
+        record {
+          search = record {
+            derived = adds_derived cs keys new i s.derived lt (λ m d below. subst (Contains keys) (get_or_default (clause_at cs i).body m 0 d below) (all_passed m (omega arith))) adds;
+            sized = moved.sized;
+            within = moved.within;
+            passed = λ j m below behind. extends_keeps keys new ext (slice_index (clause_at cs j).body m) (moved.passed j m below behind);
+          };
+          extends = ext;
+          settled = λ k le. inl has;
+          others = λ k j le w. elim (same_or_other j i) [
+            | inl same ↦ inl (subst (λ j. Contains new (clause_at cs j).head) (sym same) has)
+            | inr ne ↦ subst (λ q. Contains new (clause_at cs j).head ⊎ ((q < length (clause_at cs j).body) × ((n : ℕ) → n < k → slice_index new n ≢ slice_index (clause_at cs j).body q))) (sym (there j ne)) (kept j k le ext w)
+          ];
+        }
       where
         kept : (j k : ℕ) → k ≤ length keys → Extends keys new → Waits cs keys places k j → Waits cs new places k j
         kept j k le (more, e) (inl h) = inl (extends_keeps keys new (more, e) (clause_at cs j).head h)
@@ -110,19 +112,19 @@ module _ (cs : List Clause) where
     pub visit_more : (row : List ℕ) (k n i : ℕ) (keys' places' new_keys new_places : List ℕ) → k < length keys → n < length row → i ≡ slice_index row n →
         HasVisited cs keys (take n row) k keys' places' → Advances cs keys' places' new_keys new_places i → HasVisited cs keys (take (n + 1) row) k new_keys new_places
     visit_more row k n i keys' places' new_keys new_places kl nl e v a =
-      let (m1, e1) = v.extends in
-      let (m2, e2) = a.extends in
-      let l1 : length keys' ≡ length keys + length m1 = ap length e1 ∙ length-append keys m1 in
-      let l2 : length new_keys ≡ length keys' + length m2 = ap length e2 ∙ length-append keys' m2 in
-      record {
-        search = a.search;
-        extends = (m1 ++ m2, e2 ∙ ap (λ l. l ++ m2) e1 ∙ append_assoc keys m1 m2);
-        waits = λ j lt. a.others k j (omega arith) (v.waits j lt);
-        done = λ j h. elim (Contains-push_cases (take n row) (slice_index row n) j (subst (λ l. Contains l j) (take_more row n 0 nl) h)) [
-          | inl old ↦ a.others (suc k) j (omega arith) (v.done j old)
-          | inr now ↦ subst (Waits cs new_keys new_places (suc k)) (e ∙ now) (a.settled (suc k) (omega arith))
-        ];
-      }
+        let (m1, e1) = v.extends in
+        let (m2, e2) = a.extends in
+        let l1 : length keys' ≡ length keys + length m1 = ap length e1 ∙ length-append keys m1 in
+        let l2 : length new_keys ≡ length keys' + length m2 = ap length e2 ∙ length-append keys' m2 in
+        record {
+          search = a.search;
+          extends = (m1 ++ m2, e2 ∙ ap (λ l. l ++ m2) e1 ∙ append_assoc keys m1 m2);
+          waits = λ j lt. a.others k j (omega arith) (v.waits j lt);
+          done = λ j h. elim (Contains-push_cases (take n row) (slice_index row n) j (subst (λ l. Contains l j) (take_more row n 0 nl) h)) [
+            | inl old ↦ a.others (suc k) j (omega arith) (v.done j old)
+            | inr now ↦ subst (Waits cs new_keys new_places (suc k)) (e ∙ now) (a.settled (suc k) (omega arith))
+          ];
+        }
 
     -- once the row is done nothing waits for its number
     pub visit_done : (rows : List (List ℕ)) (k x : ℕ) (new_keys new_places : List ℕ) → HasPlaces cs rows → k < length keys → slice_index keys k ≡ x → HasVisited cs keys (row_at rows x) k new_keys new_places →
@@ -131,14 +133,15 @@ module _ (cs : List Clause) where
       where
         more : (j part : ℕ) → j < suc k → ((n : ℕ) → n < k → slice_index new_keys n ≢ part) → slice_index new_keys k ≢ part → slice_index new_keys j ≢ part
         more j part jk none ne same = elim (same_or_below j k (omega arith)) [ inl b ↦ none j b same | inr s ↦ ne (subst (λ n. slice_index new_keys n ≡ part) s same) ]
+
         by : Extends keys new_keys → Waits cs new_keys new_places k i → Waits cs new_keys new_places (suc k) i
         by ext (inl h) = inl h
         by (more_keys, e2) (inr (less, none)) =
-          let found : slice_index new_keys k ≡ x = ap (λ l. slice_index l k) e2 ∙ (get_or_append_left keys more_keys 0 k kl ∙ e) in
-          elim (same_or_other x (part_at cs new_places i)) [
-            | inl same ↦ v.done i (subst (λ y. Contains (row_at rows y) i) (sym same) (has.all i (slice_index new_places i) lt less))
-            | inr ne ↦ inr (less, λ j jk. more j (part_at cs new_places i) jk none (λ z. ne (sym found ∙ z)))
-          ]
+            let found : slice_index new_keys k ≡ x = ap (λ l. slice_index l k) e2 ∙ (get_or_append_left keys more_keys 0 k kl ∙ e) in
+            elim (same_or_other x (part_at cs new_places i)) [
+              | inl same ↦ v.done i (subst (λ y. Contains (row_at rows y) i) (sym same) (has.all i (slice_index new_places i) lt less))
+              | inr ne ↦ inr (less, λ j jk. more j (part_at cs new_places i) jk none (λ z. ne (sym found ∙ z)))
+            ]
 
   -- all that is found is gone on from
   pub closed_all : (keys places : List ℕ) (k : ℕ) → IsSearch cs keys places → ((i : ℕ) → i < length cs → Waits cs keys places k i) → length keys ≤ k → IsLeastSet cs keys
@@ -150,8 +153,8 @@ module _ (cs : List Clause) where
       by : (i : ℕ) → i < length cs → All (Contains keys) (clause_at cs i).body → Waits cs keys places k i → Contains keys (clause_at cs i).head
       by i lt all (inl h) = h
       by i lt all (inr (less, none)) =
-        let (j, jl, e) = all (slice_index places i) 0 less in
-        absurd (none j (omega arith) (get_or_default keys j 0 (part_at cs places i) jl ∙ e))
+          let (j, jl, e) = all (slice_index places i) 0 less in
+          absurd (none j (omega arith) (get_or_default keys j 0 (part_at cs places i) jl ∙ e))
 
   pub found_below : (bound n x : ℕ) → AreBelow bound cs → IsDerivedIn n cs x → x < bound
   found_below bound zero x below h = absurd h

@@ -4,3 +4,4 @@ pub mod Slots
 pub mod Clauses
 pub mod Tables
 pub mod Steps
+pub mod Counted

@@ -2,6 +2,7 @@
 ghost use Rattle.std.specs.Prelude.{◌≡◌, ℕ, ◌+◌, ◌-◌, ◌^◌, ◌<◌, ◌≤◌, ◌↔◌, length, slice_index, slice_index_or, false, IsTrue, IfOk, IfSome, IsNone};
 ghost use Rattle.grammar_model.specs.Grammar.{Slot, slot_of};
 ghost use Rattle.grammar_model.specs.Analysis.{IsNullable, IsProductive, IsAccessible};
+ghost use Rattle.grammar_model.specs.Checked.{IsLeft};
 ghost use Rattle.grammar_check.specs.Slots.{end_of, IsNumbering};
 
 use crate::clauses::{analysis_of, lefts_of};
@@ -96,6 +97,14 @@ impl<'a> Checked<'a> {
         ensures { result.now ≡ self.now }
     {
         self.written
+    }
+
+    /// Whether the symbol is the left side of a rule.
+    pub fn is_left(&self, s: SymbolId) -> bool
+        requires { s < length self.now.names }
+        ensures { IsTrue result ↔ IsLeft self.now s }
+    {
+        !is_no_left(&self.lefts, s.0)
     }
 
     /// Whether some tree of the slot spans nothing.

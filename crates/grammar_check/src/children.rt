@@ -80,13 +80,7 @@ fn sequence_part(rule: &SeqRule, k: usize) -> u32
 {
     match rule.separator {
         None => rule.item.0,
-        Some(separator) => {
-            if k == 0 {
-                rule.item.0
-            } else {
-                separator.0
-            }
-        }
+        Some(separator) => { if k == 0 { rule.item.0 } else { separator.0 } }
     }
 }
 

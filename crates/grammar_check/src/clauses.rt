@@ -126,11 +126,7 @@ pub fn push_rules(
 }
 
 // One clause, which takes a number to the one before it.
-fn push_link(
-    alloc: Global,
-    next: u32,
-    clauses: &mut Vec<Clause>,
-) -> Result<(), AllocError>
+fn push_link(alloc: Global, next: u32, clauses: &mut Vec<Clause>) -> Result<(), AllocError>
     requires { 0 < next }
     ensures { OnOk result (clauses.new.items ≡ clauses.old.items ++ record { head = next - 1; body = next ∷ [] } ∷ []) }
 {

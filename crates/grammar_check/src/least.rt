@@ -61,11 +61,7 @@ fn add_to_row(rows: &mut Vec<Vec<u32>>, x: usize, clause: u32) -> Result<(), All
 }
 
 // The clause in the row of each number of its body.
-fn add_clause(
-    rows: &mut Vec<Vec<u32>>,
-    body: &[u32],
-    clause: u32,
-) -> Result<(), AllocFailed<u32>>
+fn add_clause(rows: &mut Vec<Vec<u32>>, body: &[u32], clause: u32) -> Result<(), AllocFailed<u32>>
     requires { All (λ x. x < length rows.old.items) body.now }
     ensures { OnOk result (HasAddedAll (rows_of rows.old.items) (rows_of rows.new.items) body.now clause) }
 {
@@ -88,11 +84,7 @@ fn empty_rows(alloc: Global, count: usize) -> Result<Vec<Vec<u32>>, AllocError>
 }
 
 // Where each number stands: the clauses that have it in their bodies.
-fn occurrences(
-    alloc: Global,
-    clauses: &[Clause],
-    bound: usize,
-) -> Result<Vec<Vec<u32>>, AllocError>
+fn occurrences(alloc: Global, clauses: &[Clause], bound: usize) -> Result<Vec<Vec<u32>>, AllocError>
     requires few { length clauses.now < 2 ^ 32 }
     requires below { AreBelow bound clauses.now }
     ensures length { IfOk result (λ rows. length rows.items ≡ bound) }

@@ -5,6 +5,7 @@ mod checked;
 mod children;
 mod clauses;
 mod least;
+mod refusals;
 mod slots;
 mod steps;
 #[cfg(test)]

@@ -7,7 +7,7 @@ ghost use Rattle.grammar_check.specs.Clauses.{IsAnalysis};
 ghost use Rattle.grammar_check.specs.Least.{Clause};
 ghost use Rattle.grammar_check.specs.Steps.{unit_clause, HasMore, head_of, IsOfStart, IsOfUse, IsOfNext, IsOfNexts, IsOfPart, IsOfParts, IsStep, IsReach};
 
-use crate::clauses::{child_number, head_number, part_count, needed_count};
+use crate::clauses::{child_number, head_number, needed_count, part_count};
 use crate::least::{Clause, is_found, least_set};
 use grammar_core::Written;
 use indexmap::IndexSet;

@@ -6,7 +6,7 @@ use Rattle.grammar_check.proofs.clauses.analysis_of.Goals as goal
 pub least_set-requires : goal.least_set-requires
 least_set-requires c = subst (λ cs. AreBelow (slice_index c.args.bases.now c.symbol_count.result) cs) (sym c.deref.ensures.value)
     (subst (λ n. AreBelow (slice_index c.args.bases.now n) c.in_ok-clauses.clauses.items) (sym c.symbol_count.ensures.count)
-      (below c.args.separators c.args.w.now c.args.bases.now c.in_ok-clauses.clauses.items c.symbol_count.ensures.sound c.requires.numbering c.in_ok-clauses.ensures))
+    (below c.args.separators c.args.w.now c.args.bases.now c.in_ok-clauses.clauses.items c.symbol_count.ensures.sound c.requires.numbering c.in_ok-clauses.ensures))
 
 pub returns : goal.returns
 returns c = analysed c.args.separators c.args.w.now c.args.bases.now c.in_ok-clauses.clauses.items c.symbol_count.ensures.sound c.requires.numbering c.in_ok-clauses.ensures c.in_ok-found.found.keys

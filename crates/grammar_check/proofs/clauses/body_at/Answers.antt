@@ -13,4 +13,4 @@ pub loop-k-preserved : goal.loop-k-preserved
 loop-k-preserved c =
     let f : ℕ → ℕ = λ k. number c.args.bases.now (child_slot (rule_at c.args.w.now c.args.i) k) in
     c.in_ok-push.ensures.items ∙ (ap (λ l. l ++ c.child_number.result ∷ []) c.loop-k.invariant ∙
-      (ap (λ x. map f (range_with_len 0 c.loop-k.k) ++ x ∷ []) c.child_number.ensures ∙ sym (map-range_with_len_more f 0 c.loop-k.k c.loop-k.k (omega arith))))
+    (ap (λ x. map f (range_with_len 0 c.loop-k.k) ++ x ∷ []) c.child_number.ensures ∙ sym (map-range_with_len_more f 0 c.loop-k.k c.loop-k.k (omega arith))))

@@ -5,8 +5,10 @@ use Rattle.grammar_check.proofs.least.begin.Goals as goal
 
 pub loop-i-preserved : goal.loop-i-preserved
 loop-i-preserved c =
-    let a = c.in_ok-advance.ensures in
-    (a.search, λ j lt. elim (same_or_below j c.loop-i.i lt) [
-      | inl below ↦ a.others 0 j (omega arith) (c.loop-i.invariant.1 j below)
-      | inr same ↦ subst (Waits c.args.clauses.now c.advance.new.found.keys c.advance.new.places 0) (sym same) (a.settled 0 (omega arith))
-    ])
+    let a = c.in_ok-advance.ensures in (
+      a.search,
+      λ j lt. elim (same_or_below j c.loop-i.i lt) [
+        | inl below ↦ a.others 0 j (omega arith) (c.loop-i.invariant.1 j below)
+        | inr same ↦ subst (Waits c.args.clauses.now c.advance.new.found.keys c.advance.new.places 0) (sym same) (a.settled 0 (omega arith))
+      ],
+    )

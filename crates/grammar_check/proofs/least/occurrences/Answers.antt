@@ -19,6 +19,7 @@ pub loop-i-preserved : goal.loop-i-preserved
 loop-i-preserved c =
     let e = c.index-clauses-i.is ∙ get_or_default c.args.clauses.now c.loop-i.i c.index-clauses-i.result (record { head = 0; body = [] }) (omega arith) in
     let b = c.deref.ensures.value ∙ (ap (λ q. q.body) c.clause.view_is ∙ ap (λ q. q.body) e) in
-    let a = subst (λ body. HasAddedAll (rows_of c.loop-i.rows.items) (rows_of c.add_clause.new.rows.items) body c.loop-i.i) b c.in_ok-add_clause.ensures in
-    (omega (arith, a.same_length, rows_length c.loop-i.rows.items, rows_length c.add_clause.new.rows.items, c.loop-i.invariant.0),
-      places_more c.args.clauses.now (rows_of c.loop-i.rows.items) (rows_of c.add_clause.new.rows.items) c.loop-i.i (omega arith) c.loop-i.invariant.1 a)
+    let a = subst (λ body. HasAddedAll (rows_of c.loop-i.rows.items) (rows_of c.add_clause.new.rows.items) body c.loop-i.i) b c.in_ok-add_clause.ensures in (
+      omega (arith, a.same_length, rows_length c.loop-i.rows.items, rows_length c.add_clause.new.rows.items, c.loop-i.invariant.0),
+      places_more c.args.clauses.now (rows_of c.loop-i.rows.items) (rows_of c.add_clause.new.rows.items) c.loop-i.i (omega arith) c.loop-i.invariant.1 a,
+    )

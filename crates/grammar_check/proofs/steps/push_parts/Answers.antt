@@ -19,9 +19,9 @@ pub loop-i-preserved : goal.loop-i-preserved
 loop-i-preserved c = elim c.if-is_live.branch [
   | then-is_live+in_ok-push_part w ↦ subst (λ (v : Vec Clause Global). HasMore c.args.clauses.now.items v.items (IsOfParts c.args.w.now c.args.bases.now c.args.total (c.loop-i.i + 1))) (sym w.clauses-is)
       (more_by c.args.clauses.now.items c.loop-i.clauses.items w.push_part.new.clauses.items (IsOfParts c.args.w.now c.args.bases.now c.args.total c.loop-i.i)
-        (IsOfPart c.args.w.now c.args.bases.now c.args.total c.loop-i.i (slot_count (rule_at c.args.w.now c.loop-i.i))) (IsOfParts c.args.w.now c.args.bases.now c.args.total (c.loop-i.i + 1))
-        (λ d. parts_split c.args.w.now c.args.bases.now c.args.total c.loop-i.i d (c.is_live.ensures.0 w.if-is_live.true)) c.loop-i.invariant w.in_ok-push_part.ensures)
+      (IsOfPart c.args.w.now c.args.bases.now c.args.total c.loop-i.i (slot_count (rule_at c.args.w.now c.loop-i.i))) (IsOfParts c.args.w.now c.args.bases.now c.args.total (c.loop-i.i + 1))
+      (λ d. parts_split c.args.w.now c.args.bases.now c.args.total c.loop-i.i d (c.is_live.ensures.0 w.if-is_live.true)) c.loop-i.invariant w.in_ok-push_part.ensures)
   | else-is_live w ↦ subst (λ (v : Vec Clause Global). HasMore c.args.clauses.now.items v.items (IsOfParts c.args.w.now c.args.bases.now c.args.total (c.loop-i.i + 1))) (sym w.clauses-is)
       (more_same c.args.clauses.now.items c.loop-i.clauses.items (IsOfParts c.args.w.now c.args.bases.now c.args.total c.loop-i.i) (IsOfParts c.args.w.now c.args.bases.now c.args.total (c.loop-i.i + 1))
-        (λ d. parts_skip c.args.w.now c.args.bases.now c.args.total c.loop-i.i d (λ live. true≢false (sym (c.is_live.ensures.1 live) ∙ w.if-is_live.false))) c.loop-i.invariant)
+      (λ d. parts_skip c.args.w.now c.args.bases.now c.args.total c.loop-i.i d (λ live. true≢false (sym (c.is_live.ensures.1 live) ∙ w.if-is_live.false))) c.loop-i.invariant)
 ]
