@@ -1,0 +1,13 @@
+pub mod Found
+pub mod Search
+pub mod Results
+pub mod RowLemmas
+pub mod Known
+pub mod Rounds
+pub mod Pushing
+pub mod Collected
+pub mod Beyond
+pub mod More
+pub mod StepLemmas
+pub mod Reaching
+pub mod Faults

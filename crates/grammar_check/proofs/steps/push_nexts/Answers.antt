@@ -1,0 +1,25 @@
+use Rattle.std.proofs.Common.{arith, ◌≡◌, ℕ, suc, ◌+◌, ◌<◌, ◌≤◌, length, slice_index, subst, sym, ap, ◌∙◌, add-one, inl, inr}
+use Rattle.grammar_model.specs.Grammar.{rule_at, child_slot, slot_count}
+use Rattle.grammar_check.specs.Least.{Clause}
+use Rattle.grammar_check.specs.Slots.{fact_clause, number, end_of}
+use Rattle.grammar_check.specs.Steps.{unit_clause, HasMore, head_of, IsOfStart, IsOfUse, IsOfNext, IsOfNexts, IsOfPart, IsOfParts}
+use Rattle.grammar_check.proofs.More.{more_none, more_same, more_by, starts_split, uses_split, next_split, nexts_split, part_split, part_skip, parts_split, parts_skip}
+use Rattle.grammar_check.proofs.Rounds.{bases_rise}
+use Rattle.grammar_check.proofs.steps.push_nexts.Goals as goal
+
+pub loop-s-init : goal.loop-s-init
+loop-s-init c = more_none c.args.clauses.now.items (IsOfNexts c.args.bases.now c.args.total 0) (λ d (k, lt, e). omega (arith, lt))
+
+pub push_next-requires-clause-order : goal.push_next-requires-clause-order
+push_next-requires-clause-order c = subst (λ n. slice_index c.args.bases.now c.loop-s.s < slice_index c.args.bases.now n) (sym (add-one c.loop-s.s)) (c.requires.numbering.rising c.loop-s.s (omega (arith, c.symbol_count-s-end.ensures.count)))
+
+pub push_next-requires-clause-small : goal.push_next-requires-clause-small
+push_next-requires-clause-small c =
+    let h = bases_rise c.args.w.now c.args.bases.now c.loop-s.s (length c.args.w.now.names) c.requires.numbering (omega (arith, c.symbol_count-s-end.ensures.count)) (omega arith) in
+    let e = ap (slice_index c.args.bases.now) (add-one c.loop-s.s) in
+    omega (arith, h, e, c.requires.total, c.requires.small)
+
+pub loop-s-preserved : goal.loop-s-preserved
+loop-s-preserved c = more_by c.args.clauses.now.items c.loop-s.clauses.items c.push_next.new.clauses.items (IsOfNexts c.args.bases.now c.args.total c.loop-s.s) (IsOfNext c.args.total (slice_index c.args.bases.now c.loop-s.s) (end_of c.args.bases.now c.loop-s.s)) (IsOfNexts c.args.bases.now c.args.total (c.loop-s.s + 1))
+    (λ d. nexts_split c.args.bases.now c.args.total c.loop-s.s d) c.loop-s.invariant
+    (subst (λ n. HasMore c.loop-s.clauses.items c.push_next.new.clauses.items (IsOfNext c.args.total (slice_index c.args.bases.now c.loop-s.s) (slice_index c.args.bases.now n))) (add-one c.loop-s.s) c.in_ok-push_next.ensures)

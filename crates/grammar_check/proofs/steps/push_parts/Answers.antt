@@ -1,0 +1,27 @@
+use Rattle.std.proofs.Common.{arith, ◌≡◌, ℕ, suc, ◌+◌, ◌<◌, ◌≤◌, length, slice_index, subst, sym, ap, ◌∙◌, add-one, inl, inr, refl, true≢false, ◌⊎◌}
+use Rattle.std.specs.declared.vec.Vec.{Vec}
+use Rattle.std.specs.declared.alloc.Global.{Global}
+use Rattle.grammar_model.specs.Grammar.{rule_at, child_slot, slot_count}
+use Rattle.grammar_model.specs.Analysis.{IsProductive}
+use Rattle.grammar_check.specs.Least.{Clause}
+use Rattle.grammar_check.specs.Slots.{fact_clause, number, end_of, needed_of}
+use Rattle.grammar_check.specs.Steps.{unit_clause, HasMore, head_of, IsOfPart, IsOfParts}
+use Rattle.grammar_check.proofs.Search.{same_or_below}
+use Rattle.grammar_check.proofs.StepLemmas.{productive_found, all_needed, needed_small, head_small}
+use Rattle.grammar_check.proofs.More.{more_none, more_same, more_by, part_split, part_skip, parts_split, parts_skip}
+use Rattle.grammar_check.proofs.steps.push_parts.Goals as goal
+use Rattle.grammar_check.proofs.steps.push_parts.Goals.{then-is_live+in_ok-push_part, else-is_live}
+
+pub loop-i-init : goal.loop-i-init
+loop-i-init c = more_none c.args.clauses.now.items (IsOfParts c.args.w.now c.args.bases.now c.args.total 0) (λ d (k, lt, l, e). omega (arith, lt))
+
+pub loop-i-preserved : goal.loop-i-preserved
+loop-i-preserved c = elim c.if-is_live.branch [
+  | then-is_live+in_ok-push_part w ↦ subst (λ (v : Vec Clause Global). HasMore c.args.clauses.now.items v.items (IsOfParts c.args.w.now c.args.bases.now c.args.total (c.loop-i.i + 1))) (sym w.clauses-is)
+      (more_by c.args.clauses.now.items c.loop-i.clauses.items w.push_part.new.clauses.items (IsOfParts c.args.w.now c.args.bases.now c.args.total c.loop-i.i)
+      (IsOfPart c.args.w.now c.args.bases.now c.args.total c.loop-i.i (slot_count (rule_at c.args.w.now c.loop-i.i))) (IsOfParts c.args.w.now c.args.bases.now c.args.total (c.loop-i.i + 1))
+      (λ d. parts_split c.args.w.now c.args.bases.now c.args.total c.loop-i.i d (c.is_live.ensures.0 w.if-is_live.true)) c.loop-i.invariant w.in_ok-push_part.ensures)
+  | else-is_live w ↦ subst (λ (v : Vec Clause Global). HasMore c.args.clauses.now.items v.items (IsOfParts c.args.w.now c.args.bases.now c.args.total (c.loop-i.i + 1))) (sym w.clauses-is)
+      (more_same c.args.clauses.now.items c.loop-i.clauses.items (IsOfParts c.args.w.now c.args.bases.now c.args.total c.loop-i.i) (IsOfParts c.args.w.now c.args.bases.now c.args.total (c.loop-i.i + 1))
+      (λ d. parts_skip c.args.w.now c.args.bases.now c.args.total c.loop-i.i d (λ live. true≢false (sym (c.is_live.ensures.1 live) ∙ w.if-is_live.false))) c.loop-i.invariant)
+]

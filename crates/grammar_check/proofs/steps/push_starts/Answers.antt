@@ -1,0 +1,15 @@
+use Rattle.std.proofs.Common.{arith, ◌≡◌, ℕ, suc, ◌+◌, ◌<◌, ◌≤◌, length, slice_index, subst, sym, ap, ◌∙◌, add-one, inl, inr}
+use Rattle.grammar_model.specs.Grammar.{rule_at, child_slot, slot_count}
+use Rattle.grammar_check.specs.Least.{Clause}
+use Rattle.grammar_check.specs.Slots.{fact_clause, number, end_of}
+use Rattle.grammar_check.specs.Steps.{unit_clause, HasMore, head_of, IsOfStart, IsOfUse, IsOfNext, IsOfNexts, IsOfPart, IsOfParts}
+use Rattle.grammar_check.proofs.More.{more_none, more_same, more_by, starts_split, uses_split, next_split, nexts_split, part_split, part_skip, parts_split, parts_skip}
+use Rattle.grammar_check.proofs.steps.push_starts.Goals as goal
+
+pub loop-k-init : goal.loop-k-init
+loop-k-init c = more_none c.args.clauses.now.items (IsOfStart c.args.w.now c.args.bases.now 0) (λ d (k, lt, e). omega (arith, lt))
+
+pub loop-k-preserved : goal.loop-k-preserved
+loop-k-preserved c = more_by c.args.clauses.now.items c.loop-k.clauses.items c.push_fact.new.clauses.items (IsOfStart c.args.w.now c.args.bases.now c.loop-k.k) (λ d. d ≡ fact_clause (slice_index c.args.bases.now (slice_index c.args.w.now.starts c.loop-k.k))) (IsOfStart c.args.w.now c.args.bases.now (c.loop-k.k + 1))
+    (λ d. starts_split c.args.w.now c.args.bases.now c.loop-k.k d) c.loop-k.invariant
+    (subst (λ x. HasMore c.loop-k.clauses.items c.push_fact.new.clauses.items (λ d. d ≡ fact_clause x)) c.start_number-x.ensures c.in_ok-push_fact.ensures)

@@ -1,0 +1,83 @@
+//! Numbers for the slots of a grammar.
+ghost use Rattle.std.specs.Prelude.{◌≡◌, ℕ, suc, ◌+◌, ◌<◌, ◌≤◌, ◌^◌, length, slice_index, IfOk, IsTrue, ◌↔◌};
+ghost use Rattle.grammar_model.specs.Grammar.{rule_at, lhs_of, level_of, child_slot, child_level, tighter, occurs, own_level};
+ghost use Rattle.grammar_check.specs.Slots.{groups_of, number, end_of, IsNumbering, IsNumbered, body_count};
+
+use grammar_core::{RuleId, SymbolId, Written, WrittenRule};
+use std::alloc::{AllocError, Global};
+
+/// The rule's left side.
+pub fn left_of(w: &Written, i: usize) -> u32
+    requires { i < length w.now.rules }
+    ensures value { result ≡ lhs_of (rule_at w.now i) }
+    ensures known { result < length w.now.names }
+{
+    let _ = w.rule_count();
+    lhs_at(w, i)
+}
+
+fn lhs_at(w: &Written, i: usize) -> u32
+    requires { i < length w.now.rules }
+    ensures { result ≡ lhs_of (rule_at w.now i) }
+{
+    let _ = w.rule_count();
+    match w.written_rule(RuleId(i as u32)) {
+        WrittenRule::Plain(rule) => rule.lhs.0,
+        WrittenRule::Sequence(rule) => rule.lhs.0,
+    }
+}
+
+/// The groups of the rule's statement.
+pub fn groups_at(w: &Written, i: usize) -> u32
+    requires { i < length w.now.rules }
+    ensures { result ≡ groups_of (rule_at w.now i) }
+{
+    let _ = w.rule_count();
+    match w.written_rule(RuleId(i as u32)) {
+        WrittenRule::Plain(rule) => rule.groups,
+        WrittenRule::Sequence(_) => 1,
+    }
+}
+
+// How many levels each symbol has a number for.
+fn rooms_of(alloc: Global, w: &Written) -> Result<Vec<u32>, AllocError>
+    ensures length { IfOk result (λ rooms. length rooms.items ≡ length w.now.names) }
+    ensures some { IfOk result (λ rooms. (s : ℕ) → s < length w.now.names → 0 < slice_index rooms.items s) }
+    ensures rules { IfOk result (λ rooms. (i : ℕ) → i < length w.now.rules → groups_of (rule_at w.now i) ≤ slice_index rooms.items (lhs_of (rule_at w.now i))) }
+{
+    let mut rooms = vec![in alloc; 1u32; w.symbol_count()]?;
+    for i in 0..w.rule_count() {
+        let symbol = left_of(w, i) as usize;
+        let groups = groups_at(w, i);
+        rooms[symbol] = rooms[symbol].max(groups);
+    }
+    Ok(rooms)
+}
+
+// The sums of the rooms before each symbol, and of all.
+fn sums_of(alloc: Global, rooms: &[u32]) -> Result<Vec<u32>, AllocError>
+    ensures length { IfOk result (λ sums. length sums.items ≡ suc (length rooms.now)) }
+    ensures steps { IfOk result (λ sums. (s : ℕ) → s < length rooms.now → slice_index sums.items (suc s) ≡ slice_index sums.items s + slice_index rooms.now s) }
+{
+    let mut sums = Vec::new(alloc);
+    let mut sum = 0u32;
+    sums.push(sum)?;
+    for room in rooms {
+        sum = match sum.checked_add(*room) {
+            Some(next) => next,
+            None => return Err(AllocError),
+        };
+        sums.push(sum)?;
+    }
+    Ok(sums)
+}
+
+/// Where the numbers of each symbol's slots begin, and where all end.
+pub fn bases_of(alloc: Global, w: &Written) -> Result<Vec<u32>, AllocError>
+    ensures { IfOk result (λ bases. IsNumbering w.now bases.items) }
+{
+    let rooms = rooms_of(alloc, w)?;
+    let _ = w.rule_count();
+    let sums = sums_of(alloc, &rooms)?;
+    Ok(sums)
+}
