@@ -3,18 +3,41 @@ use grammar_core::{Assoc, CoreRefusal, Rule, SeqRule};
 use std::alloc::Global;
 use std::test::Fail;
 
-fn plain(
-    alloc: Global,
-    w: &mut Written,
-    lhs: SymbolId,
-    parts: &[SymbolId],
-    level: u32,
-) -> Result<RuleId, CoreRefusal> {
-    let rhs = parts.to_vec(alloc)?;
+// The symbols S, T, X, Y by their numbers.
+const S: u32 = 0;
+
+const T: u32 = 1;
+
+const X: u32 = 2;
+
+const Y: u32 = 3;
+
+// A left side, its parts and their level.
+type Plain = (u32, &'static [u32], u32);
+
+// S ::= T | X ; T ::= Y || T Y ; X ::= X Y
+const LEVELS: &[Plain] = &[
+    (S, &[T], 0),
+    (S, &[X], 0),
+    (T, &[Y], 1),
+    (T, &[T, Y], 0),
+    (X, &[X, Y], 0),
+];
+
+// X ::=
+const EMPTY: &[Plain] = &[(X, &[], 0)];
+
+// T ::= T Y ; X ::=
+const ENDLESS: &[Plain] = &[(T, &[T, Y], 0), (X, &[], 0)];
+
+const STARTS: &[u32] = &[S, Y, T];
+
+fn add_plain(alloc: Global, w: &mut Written, rule: &Plain) -> Result<RuleId, CoreRefusal> {
+    let rhs = rule.1.iter().map(|part| SymbolId(*part)).collect(alloc)?;
     w.rule_new(Rule {
-        lhs,
+        lhs: SymbolId(rule.0),
         rhs,
-        level,
+        level: rule.2,
         groups: 2,
         assoc: Assoc::Left,
         rank: 0,
@@ -22,100 +45,77 @@ fn plain(
     })
 }
 
-// S ::= E | T ; E ::= a || E b ; T ::= T a
-#[test]
-fn levels_and_dead_rules(rt: HostRuntime) -> Result<(), Fail> {
-    let mut w = Written::new(rt.alloc());
-    let s = w.symbol_new("S")?;
-    let e = w.symbol_new("E")?;
-    let t = w.symbol_new("T")?;
-    let a = w.symbol_new("a")?;
-    plain(rt.alloc(), &mut w, s, &[e], 0)?;
-    plain(rt.alloc(), &mut w, s, &[t], 0)?;
-    plain(rt.alloc(), &mut w, e, &[a], 1)?;
-    plain(rt.alloc(), &mut w, e, &[e, a], 0)?;
-    plain(rt.alloc(), &mut w, t, &[t, a], 0)?;
-    w.start_add(s)?;
-    assert!(rt; w.symbol_count() == 4 && s.0 < 4 && e.0 < 4 && t.0 < 4 && a.0 < 4);
-    let c = Checked::analyse(rt.alloc(), &w)?;
-    assert_eq!(rt;
-        (c.productive(e), c.productive(t), c.productive(a)),
-        (true, false, true)
-    );
-    assert_eq!(rt;
-        (c.slot_productive(e, 1), c.slot_productive(e, 2)),
-        (true, false)
-    );
-    assert_eq!(rt;
-        (c.accessible(a), c.accessible(e), c.accessible(t)),
-        (true, true, false)
-    );
-    assert_eq!(rt;
-        (c.slot_accessible(e, 0), c.slot_accessible(e, 1)),
-        (true, false)
-    );
-    assert_eq!(rt; c.nullable(s), false);
-    Ok(())
+// A grammar over the symbols S, T, X, Y.
+fn grammar(alloc: Global, rules: &[Plain], starts: &[u32]) -> Result<Written, CoreRefusal> {
+    let mut w = Written::new(alloc);
+    for name in &["S", "T", "X", "Y"] {
+        w.symbol_new(name)?;
+    }
+    for rule in rules {
+        add_plain(alloc, &mut w, rule)?;
+    }
+    for start in starts {
+        w.start_add(SymbolId(*start))?;
+    }
+    Ok(w)
 }
 
-// S ::= X* , separated by Y ; X ::= ; Y is a terminal
-#[test]
-fn stars_are_nullable(rt: HostRuntime) -> Result<(), Fail> {
-    let mut w = Written::new(rt.alloc());
-    let s = w.symbol_new("S")?;
-    let x = w.symbol_new("X")?;
-    let y = w.symbol_new("Y")?;
-    plain(rt.alloc(), &mut w, x, &[], 0)?;
+// S ::= X+, or X*, with a separator between, or none
+fn add_sequence(
+    w: &mut Written,
+    plus: bool,
+    separator: Option<SymbolId>,
+) -> Result<RuleId, CoreRefusal> {
     w.sequence_new(SeqRule {
-        lhs: s,
-        item: x,
-        plus: false,
-        separator: Some(y),
+        lhs: SymbolId(S),
+        item: SymbolId(X),
+        plus,
+        separator,
         proper: false,
         rank: 0,
         null_high: false,
-    })?;
-    w.start_add(s)?;
-    assert!(rt; w.symbol_count() == 3 && s.0 < 3 && x.0 < 3 && y.0 < 3);
+    })
+}
+
+#[test]
+fn levels_and_dead_rules(rt: HostRuntime) -> Result<(), Fail> {
+    let w = grammar(rt.alloc(), LEVELS, &STARTS[..1])?;
+    assert!(rt; w.symbol_count() == 4);
     let c = Checked::analyse(rt.alloc(), &w)?;
-    assert_eq!(rt;
-        (c.nullable(s), c.nullable(x), c.nullable(y)),
-        (true, true, false)
+    assert!(rt;
+        c.productive(SymbolId(T)) && !c.productive(SymbolId(X)) && c.productive(SymbolId(Y))
     );
-    assert_eq!(rt;
-        (c.slot_nullable(x, 1), c.slot_productive(y, 7)),
-        (false, true)
+    assert!(rt; c.slot_productive(SymbolId(T), 1) && !c.slot_productive(SymbolId(T), 2));
+    assert!(rt;
+        c.accessible(SymbolId(Y)) && c.accessible(SymbolId(T)) && !c.accessible(SymbolId(X))
     );
-    assert_eq!(rt; (c.accessible(x), c.accessible(y)), (true, true));
+    assert!(rt; c.slot_accessible(SymbolId(T), 0) && !c.slot_accessible(SymbolId(T), 1));
+    assert!(rt; !c.nullable(SymbolId(S)));
+    Ok(())
+}
+
+// S ::= X* with Y between
+#[test]
+fn stars_are_nullable(rt: HostRuntime) -> Result<(), Fail> {
+    let mut w = grammar(rt.alloc(), EMPTY, &STARTS[..1])?;
+    add_sequence(&mut w, false, Some(SymbolId(Y)))?;
+    assert!(rt; w.symbol_count() == 4);
+    let c = Checked::analyse(rt.alloc(), &w)?;
+    assert!(rt; c.nullable(SymbolId(S)) && c.nullable(SymbolId(X)) && !c.nullable(SymbolId(Y)));
+    assert!(rt; !c.slot_nullable(SymbolId(X), 1) && c.slot_productive(SymbolId(Y), 7));
+    assert!(rt; c.accessible(SymbolId(X)) && c.accessible(SymbolId(Y)));
     assert_eq!(rt; c.written().rule_count(), 2);
     Ok(())
 }
 
-// S ::= T | X* ; T ::= T a ; X ::= ; starts U, T
+// S ::= X+
 #[test]
 fn first_faults(rt: HostRuntime) -> Result<(), Fail> {
-    let mut w = Written::new(rt.alloc());
-    let s = w.symbol_new("S")?;
-    let t = w.symbol_new("T")?;
-    let x = w.symbol_new("X")?;
-    let u = w.symbol_new("U")?;
-    plain(rt.alloc(), &mut w, t, &[t, u], 0)?;
-    plain(rt.alloc(), &mut w, x, &[], 0)?;
-    w.sequence_new(SeqRule {
-        lhs: s,
-        item: x,
-        plus: true,
-        separator: None,
-        proper: false,
-        rank: 0,
-        null_high: false,
-    })?;
-    w.start_add(s)?;
-    w.start_add(u)?;
-    w.start_add(t)?;
+    let mut w = grammar(rt.alloc(), ENDLESS, STARTS)?;
+    add_sequence(&mut w, true, None)?;
     let c = Checked::analyse(rt.alloc(), &w)?;
-    assert_eq!(rt; c.start_without_rule(), Some(u));
-    assert_eq!(rt; c.unproductive_start(), Some(t));
-    assert_eq!(rt; c.counted_nullable(), Some(RuleId(2)));
+    assert!(rt; c.start_without_rule() == Some(SymbolId(Y)));
+    assert!(rt; c.unproductive_start() == Some(SymbolId(T)));
+    assert!(rt; c.counted_nullable() == Some(RuleId(2)));
     Ok(())
 }
