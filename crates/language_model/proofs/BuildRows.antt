@@ -9,7 +9,7 @@ use Rattle.language_model.specs.Tokens.{Spelled}
 use Rattle.language_model.specs.Description.{Element, Bare, Adverb, Pair, Statement, Start, Lexeme, Rules, cut, pieces_of, tokens_of, Describes}
 use Rattle.language_model.specs.Building.{build, grammar_g1, grammar_l0, BadAdverb, RepeatedAdverb, LexemeNotDefined, InBoth, NotALexeme, BadClass, TwoStarts, NumberRange}
 use Rattle.language_model.specs.Classes.{class_of, posix_len, hex_piece, escape_piece, piece_at, pieces_behind, items_of}
-use Rattle.language_model.specs.Simple.{Named, Quoted, print_simple, IsSimpleText, grammar_of_simple}
+use Rattle.language_model.specs.Simple.{Named, Quoted, IsSimpleDescription, grammar_of_simple}
 
 abbrev word_at : ℕ → List ℕ → Spelled
 word_at at content = record { kind = Word; content = content; at = at }
@@ -73,14 +73,11 @@ l0_of_sums : grammar_l0 (Rules (word_at 0 (codes "E")) false ((record { elements
 unfolding chars class_of posix_len hex_piece escape_piece piece_at pieces_behind items_of
 l0_of_sums = refl
 
-simple : print_simple (record { left = codes "S"; alternatives = (Quoted 97 ∷ []) ∷ (Named (codes "S") ∷ Quoted 43 ∷ []) ∷ [] } ∷ []) ≡ codes "S ::= 'a' | S '+'\n"
-unfolding print_simple
-simple = refl
-
--- `S ::= 'a' | S '+'` is a simple text
-simple_text : IsSimpleText (codes "S ::= 'a' | S '+'\n") (record { left = codes "S"; alternatives = (Quoted 97 ∷ []) ∷ (Named (codes "S") ∷ Quoted 43 ∷ []) ∷ [] } ∷ [])
-unfolding print_simple
-simple_text = record { simple = record { some = refl; lines = refl; names = refl; plain = refl; differ = refl; few = refl }; spelled = refl; short = lit≤ tt }
+-- the description of `S ::= 'a' | S '+'` is simple
+simple_description : IsSimpleDescription
+    (Rules (word_at 0 (codes "S")) false ((record { elements = Bare (quote_at 6 (codes "'a'")) ∷ []; adverbs = [] } ∷ record { elements = Bare (word_at 12 (codes "S")) ∷ Bare (quote_at 14 (codes "'+'")) ∷ []; adverbs = [] } ∷ []) ∷ []) ∷ [])
+    (record { left = codes "S"; alternatives = (Quoted 97 ∷ []) ∷ (Named (codes "S") ∷ Quoted 43 ∷ []) ∷ [] } ∷ [])
+simple_description = record { simple = record { some = refl; lines = refl; names = refl; plain = refl; differ = refl; few = refl }; says = refl }
 
 -- its grammar, by the order of the names' first appearance
 simple_grammar : grammar_of_simple (record { left = codes "S"; alternatives = (Quoted 97 ∷ []) ∷ (Named (codes "S") ∷ Quoted 43 ∷ []) ∷ [] } ∷ [])

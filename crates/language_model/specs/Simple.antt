@@ -1,10 +1,10 @@
--- Simple grammars: lines of rules whose parts are names and quoted characters, and their one spelling.
-use Rattle.std.specs.Prelude.{◌≡◌, ℕ, ◌≤◌, Bool, true, false, not, ◌&&◌, ◌==◌, nat_lt, nat_le, IsTrue, List, [], ◌∷◌, ◌++◌, length, map, flat_map, bytes_eq, codes}
+-- Simple descriptions: rules whose parts are names and quoted characters, in one group, without adverbs and brackets.
+use Rattle.std.specs.Prelude.{◌≡◌, ℕ, Bool, true, false, not, ◌&&◌, ◌==◌, nat_lt, nat_le, IsTrue, List, [], ◌∷◌, length, map, flat_map, bytes_eq, codes}
 use Rattle.std.specs.List.{list_all, list_any}
-use Rattle.std.specs.Char.{is_ascii_alphabetic}
 use Rattle.language_model.specs.declared.token.TokenKind.TheVariants as kind
 use Rattle.grammar_model.specs.Grammar.{Grammar}
-use Rattle.language_model.specs.Description.{Element, Bare, Statement, Rules}
+use Rattle.language_model.specs.Tokens.{Spelled}
+use Rattle.language_model.specs.Description.{Element, Bare, Hidden, Adverb, Comma, Pair, Alternative, Statement, Start, Default, LexemeDefault, Lexeme, Discard, Empty, Quantified, Rules}
 use Rattle.language_model.specs.Building.{grammar_g1}
 
 pub data SimplePart : Type 0 where
@@ -15,31 +15,16 @@ pub record SimpleLine : Type 0 where
   pub left : List ℕ
   pub alternatives : List (List SimplePart)
 
--- SPELLING
-
 abbrev pub spelling_of_part : SimplePart → List ℕ
 spelling_of_part (Named name) = name
 spelling_of_part (Quoted c) = 39 ∷ c ∷ 39 ∷ []
 
--- the texts one after the other, with another between them
-abbrev pub joined_texts : List ℕ → List (List ℕ) → List ℕ
-joined_texts between [] = []
-joined_texts between (t ∷ []) = t
-joined_texts between (t ∷ u ∷ us) = t ++ between ++ joined_texts between (u ∷ us)
-
-abbrev pub spelling_of_alternative : List SimplePart → List ℕ
-spelling_of_alternative parts = joined_texts (codes " ") (map spelling_of_part parts)
-
-abbrev pub spelling_of_line : SimpleLine → List ℕ
-spelling_of_line l = l.left ++ codes " ::= " ++ joined_texts (codes " | ") (map spelling_of_alternative l.alternatives) ++ codes "\n"
-
-unfoldable pub print_simple : List SimpleLine → List ℕ
-print_simple g = flat_map spelling_of_line g
-
 -- WHAT IS SIMPLE
 
+-- a name is not taken for a quoted character
 abbrev pub is_simple_name : List ℕ → Bool
-is_simple_name name = nat_lt 0 (length name) && list_all is_ascii_alphabetic name
+is_simple_name [] = false
+is_simple_name (c ∷ cs) = not (c == 39)
 
 -- U+0021 to U+007E, other than `'`, `"`, `\`, `$` and `@`
 abbrev pub is_simple_character : ℕ → Bool
@@ -96,12 +81,6 @@ pub record IsSimple (g : List SimpleLine) : Type 0 where
   pub differ : IsTrue (all_differ (alternatives_in g))
   pub few : IsTrue (nat_le (length (alternatives_in g)) 10000)
 
--- the bytes spell the simple grammar, and are few enough to be read as one
-pub record IsSimpleText (bytes : List ℕ) (g : List SimpleLine) : Type 0 where
-  pub simple : IsSimple g
-  pub spelled : bytes ≡ print_simple g
-  pub short : length bytes ≤ 2000
-
 -- AS A DESCRIPTION. Its places are all 0, and tell nothing.
 
 abbrev pub simple_part : SimplePart → Element
@@ -117,3 +96,34 @@ description_of_simple g = map simple_statement g
 -- the structural grammar of the lines: symbols are numbered where they appear first
 abbrev pub grammar_of_simple : List SimpleLine → Grammar
 grammar_of_simple g = grammar_g1 (description_of_simple g)
+
+-- statements without their places
+
+abbrev pub unplaced : Spelled → Spelled
+unplaced t = record { kind = t.kind; content = t.content; at = 0 }
+
+abbrev pub unplaced_element : Element → Element
+unplaced_element (Bare part) = Bare (unplaced part)
+unplaced_element (Hidden parts) = Hidden (map unplaced parts)
+
+abbrev pub unplaced_adverb : Adverb → Adverb
+unplaced_adverb (Comma at) = Comma 0
+unplaced_adverb (Pair name value) = Pair (unplaced name) (unplaced value)
+
+abbrev pub unplaced_alternative : Alternative → Alternative
+unplaced_alternative a = record { elements = map unplaced_element a.elements; adverbs = map unplaced_adverb a.adverbs }
+
+abbrev pub unplaced_statement : Statement → Statement
+unplaced_statement (Start at name) = Start 0 (unplaced name)
+unplaced_statement (Default at adverbs) = Default 0 (map unplaced_adverb adverbs)
+unplaced_statement (LexemeDefault at adverbs) = LexemeDefault 0 (map unplaced_adverb adverbs)
+unplaced_statement (Lexeme at name adverbs) = Lexeme 0 (unplaced name) (map unplaced_adverb adverbs)
+unplaced_statement (Discard at item adverbs) = Discard 0 (unplaced item) (map unplaced_adverb adverbs)
+unplaced_statement (Empty left lexical adverbs) = Empty (unplaced left) lexical (map unplaced_adverb adverbs)
+unplaced_statement (Quantified left lexical item plus adverbs) = Quantified (unplaced left) lexical (unplaced item) plus (map unplaced_adverb adverbs)
+unplaced_statement (Rules left lexical groups) = Rules (unplaced left) lexical (map (λ g. map unplaced_alternative g) groups)
+
+-- the description, whatever its places, is that of the simple lines
+pub record IsSimpleDescription (d : List Statement) (g : List SimpleLine) : Type 0 where
+  pub simple : IsSimple g
+  pub says : map unplaced_statement d ≡ description_of_simple g
