@@ -1,0 +1,7 @@
+//! The statements of a grammar text, as programs hold them.
+#![tactic(auto)]
+
+mod statement;
+
+pub use language_model::TokenKind;
+pub use statement::{Adverb, Alternative, Description, Element, Spelled, Statement};
