@@ -1,6 +1,5 @@
 -- Tokens that lead on.
-use Rattle.std.proofs.Common.{◌≡◌, ◌∙◌, sym, ap, subst, refl, ℕ, ◌+◌, ◌-◌, ◌<◌, ◌≤◌, false, List, [], ◌∷◌, ◌++◌, length, take, drop, arith}
-use Rattle.std.proofs.lemmas.List.{take_rest, length-drop}
+use Rattle.std.proofs.Common.{◌≡◌, ◌∙◌, sym, ap, ℕ, ◌+◌, false, List, [], ◌∷◌, ◌++◌, drop}
 use Rattle.language_model.specs.declared.token.Token.{Token}
 use Rattle.language_model.specs.Layout.{after_layout, layout_len}
 use Rattle.language_model.specs.Tokens.{LeadTo, IsLongest}
@@ -11,8 +10,5 @@ LeadTo-push text at [] place t next lead is longest then_at = (lead ∙ is, long
 LeadTo-push text at (u ∷ us) place t next lead is longest then_at = (lead.0, lead.1, LeadTo-push text u.to us place t next lead.2 is longest then_at)
 
 -- the layout that the code skips
-pub layout_skipped : (text : List ℕ) (to n : ℕ) → n ≡ layout_len (take (length text - to) (drop to text)) false → after_layout text to ≡ to + n
-layout_skipped text to n is = ap (λ k. to + k) (sym (is ∙ ap (λ t. layout_len t false) (take_rest text to)))
-
-pub rest_len : (text : List ℕ) (at : ℕ) → length (take (length text - at) (drop at text)) ≡ length text - at
-rest_len text at = ap length (take_rest text at) ∙ length-drop at text
+pub layout_skipped : (text : List ℕ) (to n : ℕ) → n ≡ layout_len (drop to text) false → after_layout text to ≡ to + n
+layout_skipped text to n is = ap (λ k. to + k) (sym is)

@@ -1,5 +1,5 @@
 -- The scan finds the longest spelling.
-use Rattle.std.proofs.Common.{◌≡◌, ◌≢◌, ◌∙◌, sym, ap, subst, refl, ℕ, zero, suc, ◌+◌, ◌-◌, ◌<◌, ◌≤◌, ◌==◌, ◌&&◌, Bool, true, false, List, [], ◌∷◌, ◌++◌, length, take, drop, Option, Some, None, arith, ne_eqb, eqb-true, slice_index, slice_index_or, codes, ◌||◌, ◌⊎◌, ⊎_elim, nat_lt, nat_eq, eq-eqb, append_assoc, length-append, Contains, inl, inr}
+use Rattle.std.proofs.Common.{◌≡◌, ◌∙◌, sym, ap, subst, refl, ℕ, zero, suc, ◌+◌, ◌-◌, ◌<◌, ◌≤◌, ◌==◌, ◌&&◌, Bool, true, false, List, [], ◌∷◌, ◌++◌, length, take, drop, Option, Some, None, arith, ne_eqb, eqb-true, slice_index, slice_index_or, codes, ◌||◌, ◌⊎◌, ⊎_elim, nat_lt, nat_eq, eq-eqb, append_assoc, length-append, Contains, inl, inr}
 use Rattle.std.specs.Cmp.Lexicographic.{pointwise}
 use Rattle.std.specs.Prelude.{if◌then◌else◌, option_map}
 use Rattle.std.specs.Char.{is_ascii_digit}
@@ -8,7 +8,7 @@ use Rattle.ucd_props.specs.Ranges.{white_space_ranges}
 use Rattle.unicode.specs.Binary.{is_white_space}
 use Rattle.ucd_perl.specs.Perl.{is_word_byte}
 use Rattle.std.specs.List.{slice_range, list_all, list_any, prefix_len, starts_with}
-use Rattle.std.proofs.lemmas.List.{take_rest, length-drop, length-take, length-take-le, take-append-drop, get_or-take}
+use Rattle.std.proofs.lemmas.List.{length-drop, length-take, length-take-le, take-append-drop, get_or-take}
 use Rattle.std.proofs.Math.Seq.{take-suc}
 use lib.Seq.{take-add}
 use Rattle.std.proofs.lemmas.List.Folds.{length-prefix_len}
@@ -566,25 +566,23 @@ found_spelled (c ∷ cs) kind len some found = subst (Good (c ∷ cs)) found (to
 
 -- AT A PLACE OF A TEXT
 
-pub IsLongest-found : (text : List ℕ) (at : ℕ) (kind : TokenKind) (len : ℕ) → at < length text → token_at (take (length text - at) (drop at text)) ≡ Some (kind, len) → IsLongest text (record { kind = kind; from = at; to = at + len })
+pub IsLongest-found : (text : List ℕ) (at : ℕ) (kind : TokenKind) (len : ℕ) → at < length text → token_at (drop at text) ≡ Some (kind, len) → IsLongest text (record { kind = kind; from = at; to = at + len })
 IsLongest-found text at kind len within found =
-    let here : token_at (drop at text) ≡ Some (kind, len) = ap token_at (sym (take_rest text at)) ∙ found in
     let rest_is : length (drop at text) ≡ length text - at = length-drop at text in
-    let parts = found_spelled (drop at text) kind len (omega arith) here in
+    let parts = found_spelled (drop at text) kind len (omega arith) found in
     record {
       some = omega (arith, parts.0);
       within = omega (arith, parts.1);
       spelled = subst (λ n. IsSpelling kind (take n (drop at text))) (omega arith) parts.2;
       longest = λ other to after to_within is.
-          let bound = subst (Bounded other (to - at)) here (bounded_at (drop at text) (to - at) other (omega arith) is) in
+          let bound = subst (Bounded other (to - at)) found (bounded_at (drop at text) (to - at) other (omega arith) is) in
           omega (arith, bound.0);
     }
 
-pub none_found : (text : List ℕ) (at : ℕ) → at < length text → token_at (take (length text - at) (drop at text)) ≡ None → (kind : TokenKind) (to : ℕ) → at < to → to ≤ length text → IsSpelling kind (slice_range text at to) → ⊥
+pub none_found : (text : List ℕ) (at : ℕ) → at < length text → token_at (drop at text) ≡ None → (kind : TokenKind) (to : ℕ) → at < to → to ≤ length text → IsSpelling kind (slice_range text at to) → ⊥
 none_found text at within none kind to after within_text is =
-    let here : token_at (drop at text) ≡ None = ap token_at (sym (take_rest text at)) ∙ none in
     let rest_is : length (drop at text) ≡ length text - at = length-drop at text in
-    subst (Bounded kind (to - at)) here (bounded_at (drop at text) (to - at) kind (omega arith) is)
+    subst (Bounded kind (to - at)) none (bounded_at (drop at text) (to - at) kind (omega arith) is)
 
 -- ONE LIST OF TOKENS
 

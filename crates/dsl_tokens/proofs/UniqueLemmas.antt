@@ -1,9 +1,8 @@
 -- A text has one list of tokens, or a bad place.
-use Rattle.std.proofs.Common.{◌≡◌, ◌∙◌, sym, ap, subst, refl, ℕ, ◌+◌, ◌-◌, ◌<◌, ◌≤◌, List, [], ◌∷◌, length, drop, Option, Some, None, arith}
+use Rattle.std.proofs.Common.{◌≡◌, ◌∙◌, sym, ap, subst, refl, ℕ, ◌-◌, ◌<◌, ◌≤◌, List, [], ◌∷◌, length, drop, Option, Some, arith}
 use Rattle.std.specs.List.{slice_range}
 use Rattle.language_model.specs.declared.token.TokenKind.{TokenKind}
 use Rattle.language_model.specs.declared.token.Token.{Token}
-use Rattle.language_model.specs.Layout.{after_layout}
 use Rattle.language_model.specs.Tokens.{IsSpelling, IsLongest, LeadTo}
 use Rattle.dsl_tokens.specs.Scanning.{token_at}
 use Rattle.dsl_tokens.proofs.LongestLemmas.{longest_found}

@@ -1,9 +1,6 @@
 -- What `tokens` answers.
-use Rattle.std.specs.Prelude.{ℕ, List, Result, Ok, Err}
-use Rattle.std.specs.declared.alloc.Global.{Global}
-use Rattle.std.specs.Prelude.{Vec}
-use Rattle.language_model.specs.declared.token.Token.{Token}
-use Rattle.language_model.specs.Tokens.{AreTokens, IsBadPlace}
+use Rattle.std.specs.Prelude.{ℕ, List}
+use Rattle.language_model.specs.Tokens.{IsBadPlace}
 use Rattle.dsl_tokens.specs.declared.reading.TokenRefusal.{TokenRefusal}
 use Rattle.dsl_tokens.specs.declared.reading.TokenRefusal.TheVariants.{BadToken, NoMemory}
 

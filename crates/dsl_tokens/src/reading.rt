@@ -4,16 +4,20 @@ ghost use Rattle.language_model.specs.Tokens.{AreTokens, IsBadPlace};
 ghost use Rattle.dsl_tokens.specs.Answer.{Refused};
 ghost use Rattle.dsl_tokens.specs.declared.reading.TokenRefusal.TheVariants.{NoMemory};
 
+use crate::list::Tokens;
+use crate::rest::rest_of;
 use crate::runs::layout_len;
 use crate::scan::token_at;
 use language_model::Token;
+use slif_base::Chars;
 use std::alloc::{AllocFailed, Global};
 
 /// Why a text has no tokens.
 #[derive(Clone, Copy, Debug, PartialEq, Eq)]
 pub enum TokenRefusal {
-    /// No token begins at this place.
-    BadToken(usize),
+    /// No token begins at this place, in characters.
+    BadToken { at: usize },
+    /// Memory ran out.
     NoMemory,
 }
 
@@ -25,24 +29,24 @@ impl<T: Drop> From<AllocFailed<T>> for TokenRefusal {
     }
 }
 
-/// The tokens of a text in order.
-pub fn tokens(alloc: Global, text: &[char]) -> Result<Vec<Token>, TokenRefusal>
+/// The tokens of a text.
+pub fn tokens(alloc: Global, chars: &Chars) -> Result<Tokens, TokenRefusal>
     // The tokens lead from the beginning to the end, each the longest at its place.
-    ensures found { IfOk result (λ tokens. AreTokens text.now tokens.items) }
+    ensures found { IfOk result (λ tokens. AreTokens chars.now tokens) }
     // Tokens lead to a place where no token begins.
-    ensures refused { IfErr result (λ e. Refused text.now e) }
+    ensures refused { IfErr result (λ e. Refused chars.now e) }
 {
-    let mut tokens = Vec::new(alloc);
-    let mut at = layout_len(text);
-    while at < text.len() {
-        match token_at(&text[at..]) {
+    let mut items = Vec::new(alloc);
+    let mut at = layout_len(&rest_of(chars, 0));
+    while at < chars.len() {
+        match token_at(&rest_of(chars, at)) {
             Some((kind, len)) => {
                 let to = at + len;
-                tokens.push(Token { kind, from: at, to })?;
-                at = to + layout_len(&text[to..]);
+                items.push(Token { kind, from: at, to })?;
+                at = to + layout_len(&rest_of(chars, to));
             }
-            None => return Err(TokenRefusal::BadToken(at)),
+            None => return Err(TokenRefusal::BadToken { at }),
         }
     }
-    Ok(tokens)
+    Ok(Tokens::of(items))
 }

@@ -1,10 +1,11 @@
 //! The longest token at the front of a text.
-ghost use Rattle.std.specs.Prelude.{◌≡◌, ◌≤◌, ◌<◌, ◌+◌, length, slice_index, IfSome, MatchOption, None, Some};
+ghost use Rattle.std.specs.Prelude.{◌≡◌, ◌≤◌, ◌<◌, ◌+◌, length, IfSome};
 ghost use Rattle.language_model.specs.Classes.{is_posix_letter};
 ghost use Rattle.language_model.specs.declared.token.BracketState.TheVariants.{Plain};
 ghost use Rattle.language_model.specs.Tokens.{state_behind_other, state_behind, closes, closing};
 ghost use Rattle.dsl_tokens.specs.Scanning.{modifier_at, word_at, angle_at, quote_at, bracket_at, colon_at, sign_at, mark_at, token_at};
 
+use crate::rest::Rest;
 use crate::runs::{angle_len, digits_len, has_word, quote_len, word_len};
 use char_class::is_word;
 use language_model::{BracketState, TokenKind};
@@ -12,14 +13,8 @@ use language_model::{BracketState, TokenKind};
 /// A token's kind and length, where there is one.
 type Found = Option<(TokenKind, usize)>;
 
-fn char_at(text: &[char], i: usize) -> char
-    ensures { result ≡ slice_index text.now i }
-{
-    if i < text.len() { text[i] } else { '\0' }
-}
-
 #[tactic(auto, unfolding(crate::specs::Scanning::modifier_at))]
-fn modifier_at(text: &[char]) -> usize
+fn modifier_at(text: &Rest<'_>) -> usize
     ensures value { result ≡ modifier_at text.now }
     ensures within { result ≤ length text.now }
 {
@@ -33,7 +28,7 @@ fn modifier_at(text: &[char]) -> usize
 }
 
 #[tactic(auto, unfolding(crate::specs::Scanning::word_at))]
-fn word_at(text: &[char]) -> Found
+fn word_at(text: &Rest<'_>) -> Found
     ensures value { result ≡ word_at text.now }
     ensures within { IfSome result (λ t. t.1 ≤ length text.now) }
 {
@@ -45,13 +40,13 @@ fn word_at(text: &[char]) -> Found
 }
 
 #[tactic(auto, unfolding(crate::specs::Scanning::angle_at))]
-fn angle_at(text: &[char]) -> Found
+fn angle_at(text: &Rest<'_>) -> Found
     requires { 0 < length text.now }
     ensures value { result ≡ angle_at text.now }
     ensures within { IfSome result (λ t. t.1 ≤ length text.now) }
 {
-    let len = angle_len(&text[1..]);
-    if char_at(text, 1 + len) == '>' && has_word(&text[1..1 + len]) {
+    let len = angle_len(&text.behind(1));
+    if text.at_or_zero(1 + len) == '>' && has_word(&text.behind(1), len) {
         Some((TokenKind::Angle, 2 + len))
     } else {
         None
@@ -59,14 +54,17 @@ fn angle_at(text: &[char]) -> Found
 }
 
 #[tactic(auto, unfolding(crate::specs::Scanning::quote_at))]
-fn quote_at(text: &[char]) -> Found
+fn quote_at(text: &Rest<'_>) -> Found
     requires { 0 < length text.now }
     ensures value { result ≡ quote_at text.now }
     ensures within { IfSome result (λ t. t.1 ≤ length text.now) }
 {
-    let len = quote_len(&text[1..]);
-    if len > 0 && char_at(text, 1 + len) == '\'' {
-        Some((TokenKind::Quote, 2 + len + modifier_at(&text[2 + len..])))
+    let len = quote_len(&text.behind(1));
+    if len > 0 && text.at_or_zero(1 + len) == '\'' {
+        Some((
+            TokenKind::Quote,
+            2 + len + modifier_at(&text.behind(2 + len)),
+        ))
     } else {
         None
     }
@@ -111,50 +109,54 @@ fn closes(state: BracketState, c: char) -> bool
 }
 
 /// The length up to the closing bracket and with it.
-fn closing(text: &[char]) -> Option<usize>
+fn closing(text: &Rest<'_>) -> Option<usize>
     ensures value { result ≡ closing text.now Plain }
     ensures within { IfSome result (λ len. len ≤ length text.now) }
 {
     let mut state = BracketState::Plain;
-    for (i, c) in text.iter().enumerate() {
-        if closes(state, *c) {
+    for i in 0..text.len() {
+        let c = text.at(i);
+        if closes(state, c) {
             return Some(i + 1);
         }
-        state = state_behind(state, *c);
+        state = state_behind(state, c);
     }
     None
 }
 
 #[tactic(auto, unfolding(crate::specs::Scanning::bracket_at))]
-fn bracket_at(text: &[char]) -> Found
+fn bracket_at(text: &Rest<'_>) -> Found
     requires { 0 < length text.now }
     ensures value { result ≡ bracket_at text.now }
     ensures within { IfSome result (λ t. t.1 ≤ length text.now) }
 {
-    match closing(&text[1..]) {
-        Some(len) => Some((TokenKind::Bracket, 1 + len + modifier_at(&text[1 + len..]))),
+    match closing(&text.behind(1)) {
+        Some(len) => Some((
+            TokenKind::Bracket,
+            1 + len + modifier_at(&text.behind(1 + len)),
+        )),
         None => None,
     }
 }
 
 #[tactic(auto, unfolding(crate::specs::Scanning::colon_at))]
-fn colon_at(text: &[char]) -> Found
+fn colon_at(text: &Rest<'_>) -> Found
     requires { 0 < length text.now }
     ensures value { result ≡ colon_at text.now }
     ensures within { IfSome result (λ t. t.1 ≤ length text.now) }
 {
-    if char_at(text, 1) == ':' {
-        if char_at(text, 2) == '=' {
+    if text.at_or_zero(1) == ':' {
+        if text.at_or_zero(2) == '=' {
             return Some((TokenKind::Mark, 3));
         }
-        let len = word_len(&text[2..]);
+        let len = word_len(&text.behind(2));
         if len > 0 {
             Some((TokenKind::Reserved, 2 + len))
         } else {
             None
         }
     } else {
-        let len = word_len(&text[1..]);
+        let len = word_len(&text.behind(1));
         if len > 0 {
             Some((TokenKind::Pseudo, 1 + len))
         } else {
@@ -164,15 +166,15 @@ fn colon_at(text: &[char]) -> Found
 }
 
 #[tactic(auto, unfolding(crate::specs::Scanning::sign_at))]
-fn sign_at(text: &[char]) -> Found
+fn sign_at(text: &Rest<'_>) -> Found
     requires { 0 < length text.now }
     ensures value { result ≡ sign_at text.now }
     ensures within { IfSome result (λ t. t.1 ≤ length text.now) }
 {
-    let len = digits_len(&text[1..]);
+    let len = digits_len(&text.behind(1));
     if len > 0 {
         Some((TokenKind::Signed, 1 + len))
-    } else if text[0] == '+' {
+    } else if text.at(0) == '+' {
         Some((TokenKind::Mark, 1))
     } else {
         None
@@ -180,13 +182,13 @@ fn sign_at(text: &[char]) -> Found
 }
 
 #[tactic(auto, unfolding(crate::specs::Scanning::mark_at))]
-fn mark_at(text: &[char]) -> Found
+fn mark_at(text: &Rest<'_>) -> Found
     requires { 0 < length text.now }
     ensures value { result ≡ mark_at text.now }
     ensures within { IfSome result (λ t. t.1 ≤ length text.now) }
 {
-    let c = text[0];
-    let next = char_at(text, 1);
+    let c = text.at(0);
+    let next = text.at_or_zero(1);
     if c == '|' {
         if next == '|' {
             Some((TokenKind::Mark, 2))
@@ -208,12 +210,12 @@ fn mark_at(text: &[char]) -> Found
 
 /// The longest token at the front.
 #[tactic(auto, unfolding(crate::specs::Scanning::token_at))]
-pub fn token_at(text: &[char]) -> Found
+pub fn token_at(text: &Rest<'_>) -> Found
     requires { 0 < length text.now }
     ensures value { result ≡ token_at text.now }
     ensures within { IfSome result (λ t. t.1 ≤ length text.now) }
 {
-    let c = text[0];
+    let c = text.at(0);
     if is_word(c) {
         word_at(text)
     } else if c == '<' {

@@ -1,14 +1,15 @@
 //! The tokens of a grammar of two lines, and a bad place.
 use crate::{TokenRefusal, tokens};
 use language_model::TokenKind;
-use std::alloc::{AllocError, Global};
+use slif_base::{Chars, TextRefusal, chars_of};
+use std::alloc::Global;
 
-fn characters(alloc: Global, text: &str) -> Result<Vec<char>, AllocError> {
-    text.chars().collect(alloc)
+fn characters(alloc: Global, text: &str) -> Result<Chars, TextRefusal> {
+    chars_of(alloc, text.as_bytes())
 }
 
 #[test]
-fn two_lines(rt: HostRuntime) -> Result<(), AllocError> {
+fn two_lines(rt: HostRuntime) -> Result<(), TextRefusal> {
     let text = characters(
         rt.alloc(),
         "S ::= 'a':i <b  c>+ # d\nN ~ [\\]\\d[:alpha:]] null-ranking => -1",
@@ -28,6 +29,7 @@ fn two_lines(rt: HostRuntime) -> Result<(), AllocError> {
     ];
     match tokens(rt.alloc(), &text) {
         Ok(found) => {
+            let found = found.as_slice();
             assert!(rt; found.len() == expected.len());
             for (i, token) in found.iter().enumerate() {
                 if i < expected.len() {
@@ -42,10 +44,10 @@ fn two_lines(rt: HostRuntime) -> Result<(), AllocError> {
 }
 
 #[test]
-fn bad_place(rt: HostRuntime) -> Result<(), AllocError> {
+fn bad_place(rt: HostRuntime) -> Result<(), TextRefusal> {
     let text = characters(rt.alloc(), "S ::= 'a")?;
     match tokens(rt.alloc(), &text) {
-        Err(TokenRefusal::BadToken(at)) => assert!(rt; at == 6),
+        Err(TokenRefusal::BadToken { at }) => assert!(rt; at == 6),
         _ => panic!(rt; "accepted"),
     }
     Ok(())

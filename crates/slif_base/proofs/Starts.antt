@@ -1,9 +1,9 @@
 -- Where characters begin among the bytes of a text.
-use Rattle.std.proofs.Common.{◌≡◌, ℕ, zero, suc, ◌+◌, ◌-◌, ◌<◌, ◌≤◌, Bool, true, false, ◌&&◌, List, [], ◌∷◌, ◌++◌, length, take, drop, get_or, refl, sym, ap, ◌∙◌, arith, append_assoc, append-nil, length-append, length-take, subst, encode_utf8_all, IsUtf8, min}
+use Rattle.std.proofs.Common.{◌≡◌, ℕ, zero, suc, ◌+◌, ◌-◌, ◌<◌, ◌≤◌, Bool, true, false, ◌&&◌, List, [], ◌∷◌, ◌++◌, length, take, drop, get_or, refl, sym, ap, ◌∙◌, arith, append_assoc, length-append, subst, encode_utf8_all, IsUtf8}
 use Rattle.std.proofs.Math.Seq.{take-add, drop-append_seam, take-append_seam}
 use Rattle.std.proofs.Math.Utf8.{scalars, scalar}
 use Rattle.std.proofs.lemmas.List.{take-append-drop, get_or_default}
-use Rattle.std.proofs.lemmas.Str.{chars_past_char, chars-nil, encodes-append, length-encode, IsCharBoundary-at_seam, scalars-chars, encodes-chars}
+use Rattle.std.proofs.lemmas.Str.{chars_past_char, chars-nil, chars-encodes, encodes-append, length-encode, IsCharBoundary-at_seam, scalars-chars, encodes-chars}
 use Rattle.std.specs.Str.{chars, IsCharBoundary}
 use Rattle.std.specs.Char.{encode_utf8, len_utf8}
 use Rattle.std.specs.List.{slice_range}
@@ -113,3 +113,19 @@ cut_in text bytes starts cs from to a b utf8 same e v h l at_from at_to =
     let from_in : from ≤ length (chars bytes) = omega (arith, l, count, h) in
     let cut = cut_at bytes from to a b utf8 h to_in (start_at starts (chars bytes) from a table from_in at_from) (start_at starts (chars bytes) to b table to_in at_to) in
     (cut.0, cut.1, cut.2, cut.3 ∙ ap (λ (xs : List ℕ). encode_utf8_all (slice_range xs from to)) all)
+
+scalars-take : (n : ℕ) (cs : List ℕ) → scalars cs ≡ true → scalars (take n cs) ≡ true
+scalars-take zero cs s = refl
+scalars-take (suc n) [] s = refl
+scalars-take (suc n) (c ∷ cs) s = both (scalar c) (scalars cs) (scalars (take n cs)) s (scalars-take n cs)
+  where
+    both : (a b d : Bool) → (a && b) ≡ true → (b ≡ true → d ≡ true) → (a && d) ≡ true
+    both true b d e f = f e
+    both false b d e f = cc
+
+-- the characters of a part of a text
+pub characters_of : (text bytes cs part : List ℕ) (from to : ℕ) → IsUtf8 bytes → bytes ≡ text → chars text ≡ cs → part ≡ encode_utf8_all (slice_range cs from to) → chars part ≡ slice_range cs from to
+characters_of text bytes cs part from to utf8 same v e =
+    let all : chars bytes ≡ cs = ap chars same ∙ v in
+    let s : scalars cs ≡ true = subst (λ (xs : List ℕ). scalars xs ≡ true) all (scalars-chars bytes utf8) in
+    ap chars e ∙ chars-encodes (slice_range cs from to) (scalars-take (to - from) (drop from cs) (scalars-drop from cs s))

@@ -1,5 +1,5 @@
 -- The characters of a text: where each begins, which bytes are refused, and lines and columns.
-use Rattle.std.specs.Prelude.{◌≡◌, ℕ, suc, ◌+◌, ◌==◌, not, List, [], ◌∷◌, length, count_by, take_while, reverse, IsUtf8}
+use Rattle.std.specs.Prelude.{ℕ, suc, ◌+◌, ◌==◌, not, List, [], ◌∷◌, length, count_by, take_while, reverse, IsUtf8}
 use Rattle.std.specs.Char.{len_utf8}
 use Rattle.std.specs.Str.{IsValidUpTo}
 use Rattle.slif_base.specs.declared.chars.TextRefusal.{TextRefusal}

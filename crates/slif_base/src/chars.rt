@@ -1,7 +1,7 @@
 // The characters of a text.
-ghost use Rattle.std.specs.Prelude.{◌≡◌, ◌^◌, ◌<◌, ◌≤◌, length, slice_range, encode_utf8_all, IsUtf8, IfOk, IfErr, OnOk};
+ghost use Rattle.std.specs.Prelude.{◌≡◌, ◌^◌, ◌<◌, ◌≤◌, length, take, slice_range, slice_index, encode_utf8_all, IsUtf8, IfOk, IfErr, OnOk};
 ghost use Rattle.std.specs.Str.{IsCharBoundary, chars};
-ghost use Rattle.slif_base.specs.Characters.{starts_from, RefusesText};
+ghost use Rattle.slif_base.specs.Characters.{starts_from, RefusesText, line_after, column_after};
 
 use std::alloc::{AllocError, Global};
 use std::marker::Model;
@@ -85,6 +85,25 @@ pub fn chars_of(alloc: Global, bytes: &[u8]) -> Result<Chars, TextRefusal>
     Ok(Chars { text, starts })
 }
 
+/// The line and the column behind a text.
+fn line_column_behind(text: &str) -> (u32, u32)
+    requires { length (chars text.now) < 4294967295 }
+    ensures line { result.0 ≡ line_after (chars text.now) }
+    ensures column { result.1 ≡ column_after (chars text.now) }
+{
+    let mut line = 1u32;
+    let mut column = 1u32;
+    for c in text.chars() {
+        if c == '\n' {
+            line += 1;
+            column = 1;
+        } else {
+            column += 1;
+        }
+    }
+    (line, column)
+}
+
 impl Chars {
     /// How many characters there are.
     pub fn len(&self) -> usize
@@ -97,11 +116,33 @@ impl Chars {
     pub fn text(&self, from: usize, to: usize) -> &str
         requires order { from ≤ to }
         requires to { to ≤ length self.now }
-        ensures { result.now ≡ encode_utf8_all (slice_range self.now from to) }
+        ensures bytes { result.now ≡ encode_utf8_all (slice_range self.now from to) }
+        ensures characters { chars result.now ≡ slice_range self.now from to }
     {
         let start = self.starts[from] as usize;
         let end = self.starts[to] as usize;
         part(self.text.as_str(), start, end)
+    }
+
+    /// The character at a place.
+    pub fn at(&self, i: usize) -> char
+        requires { i < length self.now }
+        ensures { result ≡ slice_index self.now i }
+    {
+        match self.text(i, self.len()).chars().next() {
+            Some(c) => c,
+            None => '\0',
+        }
+    }
+
+    /// The line and the column of a place, or of the end, both from 1. A line ends with LF; columns count characters.
+    pub fn line_column(&self, at: usize) -> (u32, u32)
+        requires within { at ≤ length self.now }
+        requires small { at < 4294967295 }
+        ensures line { result.0 ≡ line_after (take at self.now) }
+        ensures column { result.1 ≡ column_after (take at self.now) }
+    {
+        line_column_behind(self.text(0, at))
     }
 }
 

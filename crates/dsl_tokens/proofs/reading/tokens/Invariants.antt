@@ -3,7 +3,7 @@ use Rattle.language_model.specs.Tokens.{LeadTo}
 use Rattle.dsl_tokens.proofs.reading.tokens.Given as goal
 
 abbrev pub invariant-loop-at : goal.invariant-loop-at
-invariant-loop-at l = (l.at ≤ length l.text) × LeadTo l.text 0 l.tokens.items l.at
+invariant-loop-at l = (l.at ≤ length l.chars) × LeadTo l.chars 0 l.items.items l.at
 
 abbrev pub decreases-loop-at : goal.decreases-loop-at
-decreases-loop-at l = length l.text - l.at
+decreases-loop-at l = length l.chars - l.at

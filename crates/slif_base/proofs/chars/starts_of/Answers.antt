@@ -1,6 +1,6 @@
-use Rattle.std.proofs.Common.{◌≡◌, ◌+◌, length, length-append, ap, arith, sym}
+use Rattle.std.proofs.Common.{length, length-append, ap, arith}
 use Rattle.std.proofs.lemmas.Str.{IsUtf8-past_char, length-encode}
-use Rattle.std.specs.Char.{len_utf8, encode_utf8}
+use Rattle.std.specs.Char.{encode_utf8}
 use Rattle.std.specs.Str.Iter.{chars_rest}
 use Rattle.slif_base.proofs.Starts.{starts_step, starts_end}
 use Rattle.slif_base.proofs.chars.starts_of.Goals as goal

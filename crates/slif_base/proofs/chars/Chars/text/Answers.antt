@@ -1,6 +1,5 @@
-use Rattle.std.proofs.Common.{◌≡◌, ◌<◌, ◌≤◌, length, arith, rules, ap, sym, ◌∙◌, encode_utf8_all}
-use Rattle.std.specs.List.{slice_range}
-use Rattle.slif_base.proofs.Starts.{index_inside, cut_in}
+use Rattle.std.proofs.Common.{◌<◌, length, arith, rules, ◌∙◌}
+use Rattle.slif_base.proofs.Starts.{index_inside, cut_in, characters_of}
 use Rattle.slif_base.proofs.chars.Chars.text.Goals as goal
 
 pub index-requires : goal.index-requires
@@ -21,4 +20,8 @@ part-requires c =
 pub returns : goal.returns
 returns c =
     let cut = cut_in _ _ _ _ _ _ _ _ c.as_str.utf8 c.as_str.ensures.value c.self.invariant c.self.view_is c.requires.order c.requires.to c.index.ensures c.index-2.ensures in
-    c.part.ensures ∙ cut.3
+    let bytes = c.part.ensures ∙ cut.3 in
+    record {
+      bytes = bytes;
+      characters = characters_of _ _ _ _ _ _ c.as_str.utf8 c.as_str.ensures.value c.self.view_is bytes;
+    }

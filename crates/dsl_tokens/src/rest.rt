@@ -1,0 +1,81 @@
+//! What is left of a text behind a place.
+ghost use Rattle.std.specs.Prelude.{◌≡◌, ◌^◌, ◌<◌, ◌≤◌, length, drop, slice_index, nat_eq};
+ghost use Rattle.std.specs.List.{starts_with};
+
+use slif_base::Chars;
+use std::marker::Model;
+
+/// The characters of a text from a place on, seen as their list.
+#[derive(Drop)]
+pub struct Rest<'t> {
+    chars: &'t Chars,
+    from: usize,
+    end: usize,
+}
+
+impl<'t> Model for Rest<'t> {
+    ghost use Rattle.std.specs.Prelude.{◌≡◌, ◌^◌, ◌<◌, ◌≤◌, List, ℕ, length, drop};
+
+    ghost Value = { List ℕ };
+
+    ghost view = { λ r. drop r.from r.chars.now };
+
+    ghost invariant = { λ r. (r.from ≤ r.end) × (r.end ≡ length r.chars.now) × (r.end < 2 ^ 64) };
+}
+
+/// What is left behind a place.
+pub fn rest_of(chars: &Chars, from: usize) -> Rest<'_>
+    requires { from ≤ length chars.now }
+    ensures { result ≡ drop from chars.now }
+{
+    Rest {
+        chars,
+        from,
+        end: chars.len(),
+    }
+}
+
+impl<'t> Rest<'t> {
+    pub fn len(&self) -> usize
+        ensures { result ≡ length self.now }
+    {
+        self.end - self.from
+    }
+
+    pub fn at(&self, i: usize) -> char
+        requires { i < length self.now }
+        ensures { result ≡ slice_index self.now i }
+    {
+        self.chars.at(self.from + i)
+    }
+
+    /// What is left behind some more characters.
+    pub fn behind(&self, count: usize) -> Rest<'t>
+        requires { count ≤ length self.now }
+        ensures rest { result ≡ drop count self.now }
+        ensures small { length self.now < 2 ^ 64 }
+    {
+        rest_of(self.chars, self.from + count)
+    }
+
+    /// The character at a place, and U+0000 where there is none.
+    pub fn at_or_zero(&self, i: usize) -> char
+        ensures { result ≡ slice_index self.now i }
+    {
+        if i < self.len() { self.at(i) } else { '\0' }
+    }
+
+    pub fn starts_with(&self, front: &[char]) -> bool
+        ensures { result ≡ starts_with nat_eq self.now front.now }
+    {
+        if front.len() > self.len() {
+            return false;
+        }
+        for (i, c) in front.iter().enumerate() {
+            if self.at(i) != *c {
+                return false;
+            }
+        }
+        true
+    }
+}
