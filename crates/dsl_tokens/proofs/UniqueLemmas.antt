@@ -16,7 +16,7 @@ pair_parts k j m n e =
     (ap (λ (p : TokenKind × ℕ). p.0) both, ap (λ (p : TokenKind × ℕ). p.1) both)
 
 -- one longest token stands at a place
-same_longest : (text : List ℕ) (t u : Token) → IsLongest text t → IsLongest text u → t.from ≡ u.from → t ≡ u
+pub same_longest : (text : List ℕ) (t u : Token) → IsLongest text t → IsLongest text u → t.from ≡ u.from → t ≡ u
 same_longest text t u l m at =
     let both = sym (longest_found text t l) ∙ ap (λ k. token_at (drop k text)) at ∙ longest_found text u m in
     let parts = pair_parts t.kind u.kind (t.to - t.from) (u.to - u.from) both in
