@@ -10,12 +10,14 @@ use Rattle.grammar_model.specs.Characters.{tree_line}
 use Rattle.run_model.specs.Words.{Job, Asks, AskNothing, IsValue}
 use Rattle.run_model.specs.Words.Job.{RunTree}
 use Rattle.run_model.specs.Derivations.{Accepts, IsInput, NoInput, Lists}
-use Rattle.run_model.specs.Outcome.{Outcome, IsOutcome, IsJobOutcome, IsInputOutcome, done, not_built, no_derivation}
+use Rattle.run_model.specs.Outcome.{Outcome, IsOutcome, IsJobOutcome, IsInputOutcome, done, not_built, no_derivation, refused}
+use Rattle.run_model.specs.Texts.{fault_text}
 use Rattle.run_model.specs.Outcome.IsOutcome.{WordsNotBuilt, OfJob}
-use Rattle.run_model.specs.Outcome.IsJobOutcome.{GrammarNotBuilt, OverGrammar}
+use Rattle.run_model.specs.Outcome.IsJobOutcome.{GrammarRefused, GrammarNotBuilt, OverGrammar}
 use Rattle.run_model.specs.Outcome.IsInputOutcome.{InputNotBuilt, NoDerivation, Derived}
 use Rattle.run_model.proofs.Texts.{TextLaws}
-use Rattle.run_model.proofs.Accepted.{accepts_or_not, accepted_lists}
+use Rattle.run_model.proofs.Accepted.{reads, accepted_lists}
+use Rattle.run_model.proofs.Accepted.Reads.{Accepted, Unbuilt, Faulty}
 
 -- a test that comes out one way or the other
 either : (b : Bool) → (b ≡ true) ⊎ (b ≡ false)
@@ -105,9 +107,10 @@ module _ (laws : TextLaws) where
 
   job_outcome : (job : Job) (grammar input : List ℕ) → (outcome : Outcome) × IsJobOutcome job grammar input outcome
   job_outcome job grammar input =
-      elim (accepts_or_not laws job grammar) [
-        | inl some ↦ (let o = input_outcome job grammar some.0 some.1 input in (o.0, OverGrammar some.0 some.1 o.1))
-        | inr none ↦ (not_built, GrammarNotBuilt none refl)
+      elim (reads laws job grammar) [
+        | Accepted g accepts ↦ (let o = input_outcome job grammar g accepts input in (o.0, OverGrammar g accepts o.1))
+        | Unbuilt unbuilt ↦ (not_built, GrammarNotBuilt unbuilt refl)
+        | Faulty f has ↦ (refused 3 (fault_text grammar f), GrammarRefused f has refl)
       ]
 
   pub an_outcome : (words : List (List ℕ)) (grammar input : List ℕ) → (outcome : Outcome) × IsOutcome words grammar input outcome

@@ -1,6 +1,5 @@
 pub mod Asked
 pub mod Texts
-pub mod SimpleTexts
 pub mod Accepted
 pub mod Outcomes
 pub mod OneEnd

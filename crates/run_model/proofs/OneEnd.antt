@@ -1,17 +1,18 @@
 -- Told content leaves a run one outcome.
-use Rattle.std.proofs.Common.{◌≡◌, ◌≢◌, ℕ, List, Some, refl, sym, subst, ◌∙◌, IfSome}
+use Rattle.std.proofs.Common.{◌≡◌, ◌≢◌, ℕ, List, Some, refl, sym, ap, subst, ◌∙◌, IfSome}
 use Rattle.grammar_model.specs.Grammar.{Grammar}
 use Rattle.slif_base.specs.Told.{ToldFile, MayHold}
 use Rattle.slif_base.specs.Told.ToldFile.{Untold, Missing, Told}
 use Rattle.run_model.specs.Words.{Job, Asks, grammar_file}
 use Rattle.run_model.specs.Words.Job.{RunTree}
-use Rattle.run_model.specs.Outcome.{Outcome, IsOutcome, IsJobOutcome, IsInputOutcome}
+use Rattle.run_model.specs.Outcome.{Outcome, IsOutcome, IsJobOutcome, IsInputOutcome, refused}
+use Rattle.run_model.specs.Texts.{TextFault, fault_text}
 use Rattle.run_model.specs.Outcome.IsOutcome.{WordsNotBuilt, OfJob}
-use Rattle.run_model.specs.Outcome.IsJobOutcome.{GrammarNotBuilt, OverGrammar}
+use Rattle.run_model.specs.Outcome.IsJobOutcome.{GrammarRefused, GrammarNotBuilt, OverGrammar}
 use Rattle.run_model.specs.Runs.{Supplied, MayEnd}
 use Rattle.run_model.specs.Laws.{TellsFiles}
 use Rattle.run_model.proofs.Texts.{TextLaws}
-use Rattle.run_model.proofs.Accepted.{one_grammar}
+use Rattle.run_model.proofs.Accepted.{one_grammar, built_or_not}
 use Rattle.run_model.proofs.Asked.{asks_once}
 use Rattle.run_model.proofs.Outcomes.{one_input_outcome}
 
@@ -23,9 +24,15 @@ same_held (Told known) x y is_told p q = p ∙ sym q
 module _ (laws : TextLaws) (words : List (List ℕ)) (file : List ℕ → ToldFile) (known : List ℕ) (tells : TellsFiles words file) where
   one_of_job : (job : Job) → Asks words job → (grammar x y : List ℕ) (a b : Outcome) → Supplied words file (Some known) grammar x → Supplied words file (Some known) grammar y
       → IsJobOutcome job grammar x a → IsJobOutcome job grammar y b → a ≡ b
-  one_of_job (RunTree name) asks grammar x y a b p q (GrammarNotBuilt none is) (GrammarNotBuilt none' is') = is ∙ sym is'
-  one_of_job (RunTree name) asks grammar x y a b p q (GrammarNotBuilt none is) (OverGrammar g accepts over) = absurd (none g accepts)
-  one_of_job (RunTree name) asks grammar x y a b p q (OverGrammar g accepts over) (GrammarNotBuilt none is) = absurd (none g accepts)
+  one_of_job (RunTree name) asks grammar x y a b p q (GrammarRefused f has is) (GrammarRefused f' has' is') =
+      is ∙ ap (λ (z : TextFault). refused 3 (fault_text grammar z)) (laws.one_fault grammar f f' has has') ∙ sym is'
+  one_of_job (RunTree name) asks grammar x y a b p q (GrammarRefused f has is) (GrammarNotBuilt u is') = absurd (laws.not_both grammar u.description f u.has has)
+  one_of_job (RunTree name) asks grammar x y a b p q (GrammarRefused f has is) (OverGrammar g accepts over) = absurd (laws.not_both grammar accepts.description f accepts.has has)
+  one_of_job (RunTree name) asks grammar x y a b p q (GrammarNotBuilt u is) (GrammarRefused f has is') = absurd (laws.not_both grammar u.description f u.has has)
+  one_of_job (RunTree name) asks grammar x y a b p q (OverGrammar g accepts over) (GrammarRefused f has is') = absurd (laws.not_both grammar accepts.description f accepts.has has)
+  one_of_job (RunTree name) asks grammar x y a b p q (GrammarNotBuilt u is) (GrammarNotBuilt u' is') = is ∙ sym is'
+  one_of_job (RunTree name) asks grammar x y a b p q (GrammarNotBuilt u is) (OverGrammar g accepts over) = absurd (built_or_not laws (RunTree name) grammar g accepts u)
+  one_of_job (RunTree name) asks grammar x y a b p q (OverGrammar g accepts over) (GrammarNotBuilt u is) = absurd (built_or_not laws (RunTree name) grammar g accepts u)
   one_of_job (RunTree name) asks grammar x y a b p q (OverGrammar g accepts over) (OverGrammar h accepts' over') =
       let same_input : y ≡ x = q.input_held (RunTree name) asks (h, accepts') ∙ sym (p.input_held (RunTree name) asks (g, accepts)) in
       let over_h : IsInputOutcome (RunTree name) h x b = subst (λ l. IsInputOutcome (RunTree name) h l b) same_input over' in

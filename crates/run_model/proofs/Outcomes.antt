@@ -10,13 +10,14 @@ use Rattle.grammar_model.proofs.Sorting.{ranks_order}
 use Rattle.grammar_model.proofs.Total.{all_unique}
 use Rattle.run_model.specs.Words.{Job, Asks}
 use Rattle.run_model.specs.Derivations.{Accepts, Lists}
-use Rattle.run_model.specs.Outcome.{Outcome, IsOutcome, IsJobOutcome, IsInputOutcome, done}
+use Rattle.run_model.specs.Outcome.{Outcome, IsOutcome, IsJobOutcome, IsInputOutcome, done, refused}
+use Rattle.run_model.specs.Texts.{TextFault, fault_text}
 use Rattle.run_model.specs.Outcome.IsOutcome.{WordsNotBuilt, OfJob}
-use Rattle.run_model.specs.Outcome.IsJobOutcome.{GrammarNotBuilt, OverGrammar}
+use Rattle.run_model.specs.Outcome.IsJobOutcome.{GrammarRefused, GrammarNotBuilt, OverGrammar}
 use Rattle.run_model.specs.Outcome.IsInputOutcome.{InputNotBuilt, NoDerivation, Derived}
 use Rattle.run_model.proofs.Asked.{asks_once}
 use Rattle.run_model.proofs.Texts.{TextLaws}
-use Rattle.run_model.proofs.Accepted.{one_grammar}
+use Rattle.run_model.proofs.Accepted.{one_grammar, built_or_not}
 
 one_list : (g : Grammar) (input : List ℕ) (ts us : List Tree) → IsAllOfCharacters g input ts → IsAllOfCharacters g input us → ts ≡ us
 one_list g input ts us a b =
@@ -40,9 +41,15 @@ one_input_outcome job g input a b (Derived first others is_input lists is) (Deri
 
 module _ (laws : TextLaws) where
   pub one_job_outcome : (job : Job) (grammar input : List ℕ) (a b : Outcome) → IsJobOutcome job grammar input a → IsJobOutcome job grammar input b → a ≡ b
-  one_job_outcome job grammar input a b (GrammarNotBuilt none is) (GrammarNotBuilt none' is') = is ∙ sym is'
-  one_job_outcome job grammar input a b (GrammarNotBuilt none is) (OverGrammar g accepts over) = absurd (none g accepts)
-  one_job_outcome job grammar input a b (OverGrammar g accepts over) (GrammarNotBuilt none is) = absurd (none g accepts)
+  one_job_outcome job grammar input a b (GrammarRefused f has is) (GrammarRefused f' has' is') =
+      is ∙ ap (λ (x : TextFault). refused 3 (fault_text grammar x)) (laws.one_fault grammar f f' has has') ∙ sym is'
+  one_job_outcome job grammar input a b (GrammarRefused f has is) (GrammarNotBuilt u is') = absurd (laws.not_both grammar u.description f u.has has)
+  one_job_outcome job grammar input a b (GrammarRefused f has is) (OverGrammar g accepts over) = absurd (laws.not_both grammar accepts.description f accepts.has has)
+  one_job_outcome job grammar input a b (GrammarNotBuilt u is) (GrammarRefused f has is') = absurd (laws.not_both grammar u.description f u.has has)
+  one_job_outcome job grammar input a b (OverGrammar g accepts over) (GrammarRefused f has is') = absurd (laws.not_both grammar accepts.description f accepts.has has)
+  one_job_outcome job grammar input a b (GrammarNotBuilt u is) (GrammarNotBuilt u' is') = is ∙ sym is'
+  one_job_outcome job grammar input a b (GrammarNotBuilt u is) (OverGrammar g accepts over) = absurd (built_or_not laws job grammar g accepts u)
+  one_job_outcome job grammar input a b (OverGrammar g accepts over) (GrammarNotBuilt u is) = absurd (built_or_not laws job grammar g accepts u)
   one_job_outcome job grammar input a b (OverGrammar g accepts over) (OverGrammar h accepts' over') =
       one_input_outcome job g input a b over (subst (λ (k : Grammar). IsInputOutcome job k input b) (sym (one_grammar laws job grammar g h accepts accepts')) over')
 

@@ -1,11 +1,17 @@
--- What a run needs to know of simple texts.
+-- What a run needs to know of grammar texts.
 use Rattle.std.proofs.Common.{◌≡◌, ℕ, ◌<◌, List, ◌⊎◌, length}
-use Rattle.grammar_model.specs.Simple.{IsSimple}
-use Rattle.language_model.specs.Simple.{SimpleLine, IsSimpleText, grammar_of_simple}
+use Rattle.grammar_model.specs.Simple.{IsSimple as HasSimpleRules}
+use Rattle.language_model.specs.Description.{Statement}
+use Rattle.language_model.specs.Simple.{SimpleLine, IsSimple, IsSimpleDescription, grammar_of_simple}
+use Rattle.run_model.specs.Texts.{HasDescription, TextFault, HasFault}
 
--- a text has one simple grammar at most, and either it has one or it has none; the grammar can be listed
+-- a text has one description or one fault; a description is that of one simple grammar or of none, and that can be listed
 pub record TextLaws : Type 0 where
-  pub one_text : (bytes : List ℕ) (a b : List SimpleLine) → IsSimpleText bytes a → IsSimpleText bytes b → a ≡ b
-  pub decided : (bytes : List ℕ) → ((g : List SimpleLine) × IsSimpleText bytes g) ⊎ ((g : List SimpleLine) → IsSimpleText bytes g → ⊥)
-  pub simple : (bytes : List ℕ) (lines : List SimpleLine) → IsSimpleText bytes lines → IsSimple (grammar_of_simple lines)
-  pub started : (bytes : List ℕ) (lines : List SimpleLine) → IsSimpleText bytes lines → 0 < length (grammar_of_simple lines).starts
+  pub read : (bytes : List ℕ) → ((d : List Statement) × HasDescription bytes d) ⊎ ((f : TextFault) × HasFault bytes f)
+  pub one_description : (bytes : List ℕ) (d e : List Statement) → HasDescription bytes d → HasDescription bytes e → d ≡ e
+  pub one_fault : (bytes : List ℕ) (f g : TextFault) → HasFault bytes f → HasFault bytes g → f ≡ g
+  pub not_both : (bytes : List ℕ) (d : List Statement) (f : TextFault) → HasDescription bytes d → HasFault bytes f → ⊥
+  pub one_grammar : (d : List Statement) (a b : List SimpleLine) → IsSimpleDescription d a → IsSimpleDescription d b → a ≡ b
+  pub decided : (d : List Statement) → ((g : List SimpleLine) × IsSimpleDescription d g) ⊎ ((g : List SimpleLine) → IsSimpleDescription d g → ⊥)
+  pub simple : (lines : List SimpleLine) → IsSimple lines → HasSimpleRules (grammar_of_simple lines)
+  pub started : (lines : List SimpleLine) → IsSimple lines → 0 < length (grammar_of_simple lines).starts

@@ -3,18 +3,24 @@ use Rattle.std.specs.Prelude.{◌≡◌, ℕ, ◌≤◌, ◌<◌, List, length, 
 use Rattle.grammar_model.specs.Grammar.{Grammar}
 use Rattle.grammar_model.specs.Trees.{Tree}
 use Rattle.grammar_model.specs.Characters.{IsAllOfCharacters, tree_line}
-use Rattle.language_model.specs.Simple.{SimpleLine, IsSimpleText, grammar_of_simple}
+use Rattle.language_model.specs.Description.{Statement}
+use Rattle.language_model.specs.Simple.{SimpleLine, IsSimpleDescription, grammar_of_simple}
+use Rattle.run_model.specs.Texts.{HasDescription}
 use Rattle.run_model.specs.Words.{Job}
 
--- the text has this grammar, and the job goes on with it
+-- the text has a simple description with this grammar, and the job goes on with it
 pub record Accepts (job : Job) (text : List ℕ) (g : Grammar) : Type 0 where
+  pub description : List Statement
+  pub has : HasDescription text description
   pub lines : List SimpleLine
-  pub spelled : IsSimpleText text lines
+  pub simple : IsSimpleDescription description lines
   pub grammar : g ≡ grammar_of_simple lines
 
--- the job goes on with no grammar of the text
-abbrev pub AcceptsNothing : Job → List ℕ → Type 0
-AcceptsNothing job text = (g : Grammar) → Accepts job text g → ⊥
+-- the text has a description that the job does not go on with
+pub record IsUnbuilt (job : Job) (text : List ℕ) : Type 0 where
+  pub description : List Statement
+  pub has : HasDescription text description
+  pub none : (lines : List SimpleLine) → IsSimpleDescription description lines → ⊥
 
 -- an input that is built
 pub record IsInput (bytes : List ℕ) : Type 0 where

@@ -3,7 +3,8 @@ use Rattle.std.specs.Prelude.{◌≡◌, ℕ, List, [], ◌∷◌, ◌++◌, cod
 use Rattle.std.specs.List.{concat}
 use Rattle.grammar_model.specs.Grammar.{Grammar}
 use Rattle.run_model.specs.Words.{Job, Asks, AskNothing}
-use Rattle.run_model.specs.Derivations.{Accepts, AcceptsNothing, IsInput, NoInput, Lists}
+use Rattle.run_model.specs.Derivations.{Accepts, IsUnbuilt, IsInput, NoInput, Lists}
+use Rattle.run_model.specs.Texts.{TextFault, HasFault, fault_text}
 
 -- the text for the standard output, the line for the standard error, and the status
 pub record Outcome : Type 0 where
@@ -38,8 +39,9 @@ pub data IsInputOutcome (job : Job) (g : Grammar) (input : List ℕ) (outcome : 
 
 -- the outcome of a job, by cases in order
 pub data IsJobOutcome (job : Job) (grammar input : List ℕ) (outcome : Outcome) : Type 0 where
+  GrammarRefused : (fault : TextFault) → HasFault grammar fault → outcome ≡ refused 3 (fault_text grammar fault) → IsJobOutcome job grammar input outcome
   -- a grammar that is not built yet: a case that goes away
-  GrammarNotBuilt : AcceptsNothing job grammar → outcome ≡ not_built → IsJobOutcome job grammar input outcome
+  GrammarNotBuilt : IsUnbuilt job grammar → outcome ≡ not_built → IsJobOutcome job grammar input outcome
   OverGrammar : (g : Grammar) → Accepts job grammar g → IsInputOutcome job g input outcome → IsJobOutcome job grammar input outcome
 
 -- the outcome of the words, the grammar and the input, by cases in order
