@@ -6,9 +6,10 @@ use Rattle.slif_base.specs.Told.{AppendsPrefix}
 use Rattle.slif_base.proofs.Bytes.{appends_none}
 use Rattle.run_model.specs.Words.{Job}
 use Rattle.grammar_model.specs.Grammar.{Grammar}
-use Rattle.run_model.specs.Outcome.{Outcome, IsOutcome, IsJobOutcome, IsInputOutcome, not_built, no_derivation, done}
+use Rattle.run_model.specs.Outcome.{Outcome, IsOutcome, IsJobOutcome, IsInputOutcome, not_built, no_derivation, done, refused}
 use Rattle.run_model.specs.Outcome.IsOutcome.{WordsNotBuilt, OfJob}
-use Rattle.run_model.specs.Outcome.IsJobOutcome.{GrammarNotBuilt, OverGrammar}
+use Rattle.run_model.specs.Outcome.IsJobOutcome.{GrammarRefused, GrammarNotBuilt, OverGrammar}
+use Rattle.run_model.specs.Texts.{fault_text}
 use Rattle.run_model.specs.Outcome.IsInputOutcome.{InputNotBuilt, NoDerivation as NothingDerived, Derived}
 use Rattle.run_model.specs.Outside.{Outside}
 use Rattle.run_model.specs.Runs.{Answers, Fault, fault_line, memory_line, HasCauseOf, ErrAtFault, Faults, RunsOut, IsQuiet, Runs}
@@ -19,7 +20,7 @@ use Rattle.run_model.specs.Runs.ErrAtFault.{ErrWhole, ErrBroken}
 use Rattle.slif_cli.specs.Stops.{Done, WorkStops, Tells, Reports, refusal_outcome}
 use Rattle.slif_cli.specs.Stops.Tells.{Whole, Part}
 use Rattle.slif_cli.specs.declared.stop.Refusal.{Refusal}
-use Rattle.slif_cli.specs.declared.stop.Refusal.TheVariants.{NotBuilt, NoDerivation}
+use Rattle.slif_cli.specs.declared.stop.Refusal.TheVariants.{NotBuilt, NoDerivation, Grammar as BadGrammar}
 use Rattle.slif_cli.specs.declared.stop.Stop.{Stop}
 use Rattle.slif_cli.specs.declared.stop.Stop.TheVariants.{Refused, OpenFault, ReadFault, WriteFault, NoMemory}
 
@@ -43,6 +44,7 @@ plain_input job g input outcome (NothingDerived is_input none is) = plain_at out
 plain_input job g input outcome (Derived first others is_input lists is) = plain_at outcome (done (first ∷ others)) is (λ e. omega arith) (λ e. omega arith)
 
 plain_job : (job : Job) (grammar input : List ℕ) (outcome : Outcome) → IsJobOutcome job grammar input outcome → IsPlain outcome
+plain_job job grammar input outcome (GrammarRefused f has is) = plain_at outcome (refused 3 (fault_text grammar f)) is (λ e. omega arith) (λ e. omega arith)
 plain_job job grammar input outcome (GrammarNotBuilt none is) = plain_at outcome not_built is (λ e. omega arith) (λ e. omega arith)
 plain_job job grammar input outcome (OverGrammar g is_text over) = plain_input job g input outcome over
 
@@ -72,6 +74,7 @@ module _ (words : List (List ℕ)) (before after : Outside) where
   refused_out : (refusal : Refusal) → (refusal_outcome refusal).out ≡ []
   refused_out NotBuilt = refl
   refused_out NoDerivation = refl
+  refused_out (BadGrammar text) = refl
 
   -- the work stopped, and it was told
   ends_stop : (status : ℕ) (stop : Stop)
@@ -83,7 +86,8 @@ module _ (words : List (List ℕ)) (before after : Outside) where
     out = subst (Appends before.out.bytes after.out.bytes) (sym (ap (λ (o : Outcome). o.out) stops.0.is ∙ refused_out refusal)) stops.1;
     err = subst (λ (o : Outcome). Appends before.err.bytes after.err.bytes o.line) (sym stops.0.is) told.1;
   })
-  ends_stop status (Refused refusal) stops (inr told) = Faulted told.0 (record {
+  ends_stop status (Refused refusal) stops (inr (inr told)) = RanOut told.0 (record { text = []; front = Nothing refl; out = stops.1; err = memory_told told.1 })
+  ends_stop status (Refused refusal) stops (inr (inl told)) = Faulted told.0 (record {
     fault = CannotWrite;
     cause = inr told.1.rose;
     out = OutEmpty stops.1;

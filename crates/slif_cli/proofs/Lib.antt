@@ -1,5 +1,8 @@
 pub mod Telling
-pub mod SimpleTextLaws
+pub mod Utf8
+pub mod Places
+pub mod StatementLaws
+pub mod LanguageLaws
 pub mod Lines
 pub mod Deriving
 pub mod Working

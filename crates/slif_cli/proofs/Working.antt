@@ -5,9 +5,11 @@ use Rattle.slif_base.proofs.Bytes.{appends_none}
 use Rattle.run_model.specs.Words.{Job, Asks, AskNothing, InputFrom, grammar_file, input_from}
 use Rattle.run_model.specs.Words.InputFrom.{StandardInput}
 use Rattle.grammar_model.specs.Grammar.{Grammar}
-use Rattle.run_model.specs.Outcome.{not_built}
+use Rattle.run_model.specs.Outcome.{IsJobOutcome, not_built, refused}
 use Rattle.run_model.specs.Outcome.IsOutcome.{WordsNotBuilt, OfJob}
-use Rattle.run_model.specs.Outcome.IsJobOutcome.{GrammarNotBuilt, OverGrammar}
+use Rattle.run_model.specs.Outcome.IsJobOutcome.{GrammarRefused, GrammarNotBuilt, OverGrammar}
+use Rattle.run_model.proofs.Accepted.{built_or_not}
+use Rattle.slif_cli.proofs.LanguageLaws.{text_laws}
 use Rattle.run_model.proofs.Asked.{asks_once}
 use Rattle.run_model.specs.Outside.{Stream, Disk}
 use Rattle.run_model.specs.Runs.{MayEnd, InputMayBe, AsksNames, ReadsInput}
@@ -15,11 +17,17 @@ use Rattle.run_model.specs.Runs.MayOpen.{OfGrammar}
 use Rattle.run_model.specs.Runs.MayAsk.{ForNothing, ForGrammar}
 use Rattle.run_model.specs.Derivations.{Accepts}
 use Rattle.run_model.specs.Runs.IsFrontOf.{Nothing, Front}
-use Rattle.slif_cli.specs.Stops.{IsGrammarOf, HasNoGrammar, MayDerive, AppendsFront, Derives, InputStops, GrammarStops, WritesPart, Done, RefusedBy, WorkStops}
+use Rattle.slif_cli.specs.Stops.{IsGrammarOf, HasOther, HasBad, refusal_outcome, MayDerive, AppendsFront, Derives, InputStops, GrammarStops, WritesPart, Done, RefusedBy, WorkStops}
 use Rattle.slif_cli.specs.Stops.WritesFront.{Nothing as NothingYet, Front as FrontYet}
-use Rattle.slif_cli.specs.declared.stop.Refusal.TheVariants.{NotBuilt, NoDerivation}
+use Rattle.slif_cli.specs.declared.stop.Refusal.{Refusal}
+use Rattle.slif_cli.specs.declared.stop.Refusal.TheVariants.{NotBuilt, NoDerivation, Grammar as BadGrammar}
+use Rattle.slif_cli.specs.declared.stop.BadText.{BadText}
 use Rattle.slif_cli.specs.declared.stop.Stop.{Stop}
 use Rattle.slif_cli.specs.declared.stop.Stop.TheVariants.{Refused, OpenFault, ReadFault, WriteFault, NoMemory}
+
+-- no job goes on with the text
+abbrev AcceptedByNone : List ℕ → Type 0
+AcceptedByNone text = (job : Job) (g : Grammar) → Accepts job text g → ⊥
 
 pub not_asked : (words : List (List ℕ)) (file : List ℕ → ToldFile) (left : Option (List ℕ)) → AskNothing words → RefusedBy words file left NotBuilt
 not_asked words file left none = record {
@@ -45,28 +53,37 @@ module _ (words : List (List ℕ)) (job : Job) (asks : Asks words job) (file : L
       let here : InputMayBe (input_from job) file left input = subst (λ (i : InputFrom). InputMayBe i file left input) (sym standard) may_be in
       subst (λ (j : Job). InputMayBe (input_from j) file left input) (asks_once words job other asks others) here
 
-  -- no job of the words goes on with a text that has no grammar
-  not_accepted : {text : List ℕ} → HasNoGrammar text → (other : Job) → Asks words other → IfSome (grammar_file other) (λ _. (g : Grammar) × Accepts other text g) → ⊥
+  -- no job of the words goes on with a text that none accepts
+  not_accepted : {text : List ℕ} → AcceptedByNone text → (other : Job) → Asks words other → IfSome (grammar_file other) (λ _. (g : Grammar) × Accepts other text g) → ⊥
   not_accepted {text} none other others accepted =
       let here : IfSome (grammar_file job) (λ _. (g : Grammar) × Accepts job text g) =
       subst (λ (j : Job). IfSome (grammar_file j) (λ _. (g : Grammar) × Accepts j text g)) (asks_once words other job others asks) accepted in
       let some : (g : Grammar) × Accepts job text g = subst (λ (o : Option (List ℕ)). IfSome o (λ _. (g : Grammar) × Accepts job text g)) named here in
       none job some.0 some.1
 
-  pub not_a_grammar : FileHolds (file name) HasNoGrammar → RefusedBy words file left NotBuilt
-  not_a_grammar held = record {
+  refused_text : (refusal : Refusal) (text : List ℕ) → MayHold (file name) text → AcceptedByNone text → IsJobOutcome job text [] (refusal_outcome refusal) → RefusedBy words file left refusal
+  refused_text refusal text held none outcome = record {
     may = record {
-      grammar = held.bytes;
+      grammar = text;
       input = [];
-      outcome = not_built;
+      outcome = refusal_outcome refusal;
       supplied = record {
-        grammar_held = held_by_all held.bytes held.may_hold;
-        input_held = λ other others accepted. absurd (not_accepted held.holds other others accepted);
+        grammar_held = held_by_all text held;
+        input_held = λ other others accepted. absurd (not_accepted none other others accepted);
       };
-      is_outcome = OfJob job asks (GrammarNotBuilt (held.holds job) refl);
+      is_outcome = OfJob job asks outcome;
     };
     is = refl;
   }
+
+  pub other_grammar : FileHolds (file name) HasOther → RefusedBy words file left NotBuilt
+  other_grammar held =
+      refused_text NotBuilt held.bytes held.may_hold (λ other g accepts. built_or_not text_laws other held.bytes g accepts (held.holds other)) (GrammarNotBuilt (held.holds job) refl)
+
+  pub bad_grammar : (bad : BadText) → FileHolds (file name) (λ text. HasBad text bad) → RefusedBy words file left (BadGrammar bad)
+  bad_grammar bad held =
+      refused_text (BadGrammar bad) held.bytes held.may_hold (λ other g accepts. text_laws.not_both held.bytes accepts.description held.holds.fault accepts.has held.holds.has)
+      (GrammarRefused held.holds.fault held.holds.has (ap (refused 3) (sym held.holds.told)))
 
   module _ (g : Grammar) (held : FileHolds (file name) (IsGrammarOf g)) where
     abbrev may_end : MayDerive g left → MayEnd words file left
@@ -120,7 +137,8 @@ module _ (words : List (List ℕ)) (job : Job) (asks : Asks words job) (file : L
   pub grammar_stops : (faults : ℕ) (files_after : Disk) (input_faults : ℕ) (out : Stream) (stop : Stop)
       → GrammarStops name (file name) faults files_after.faults stop
       → WorkStops words (record { file = file; faults = faults }) files_after (record { bytes = left; faults = input_faults }) (record { bytes = left; faults = input_faults }) out out stop
-  grammar_stops faults files_after input_faults out (Refused NotBuilt) stops = (not_a_grammar stops, appends_none out.bytes)
+  grammar_stops faults files_after input_faults out (Refused NotBuilt) stops = (other_grammar stops, appends_none out.bytes)
+  grammar_stops faults files_after input_faults out (Refused (BadGrammar bad)) stops = (bad_grammar bad stops, appends_none out.bytes)
   grammar_stops faults files_after input_faults out (Refused NoDerivation) stops = absurd stops
   grammar_stops faults files_after input_faults out (OpenFault asked) stops = (stops.0, OfGrammar job asks (named ∙ ap (λ (n : List ℕ). Some n) (sym stops.1)), appends_none out.bytes)
   grammar_stops faults files_after input_faults out ReadFault stops = (inl stops, appends_none out.bytes)

@@ -1,11 +1,12 @@
 // What is told of a stop on the standard error.
-ghost use Rattle.std.specs.Prelude.{◌≡◌, ◌≤◌, IfOk};
+ghost use Rattle.std.specs.Prelude.{◌≡◌, ◌≤◌, IfOk, string_bytes};
 ghost use Rattle.run_model.specs.Outside.{stream};
 ghost use Rattle.run_model.specs.Runs.{fault_line};
 ghost use Rattle.run_model.specs.Runs.Fault.{CannotOpen};
-ghost use Rattle.slif_cli.specs.Stops.{Reports, Tells, refusal_outcome};
+ghost use Rattle.run_model.specs.Outcome.{message};
+ghost use Rattle.slif_cli.specs.Stops.{Reports, Tells, refusal_outcome, bad_text};
 
-use crate::stop::{Refusal, Stop};
+use crate::stop::{BadText, Refusal, Stop};
 use slif_base::{Sink, write_all};
 use std::alloc::{AllocError, Global};
 
@@ -18,7 +19,7 @@ pub fn report<E: Sink>(alloc: Global, stop: Stop<'_>, err: &mut E) -> u8
     ensures { Reports (stream E.contents E.fault_count err.old) (stream E.contents E.fault_count err.new) result stop.entry }
 {
     match stop {
-        Stop::Refused(refusal) => refuse(refusal, err),
+        Stop::Refused(refusal) => report_refusal(alloc, refusal, err),
         Stop::OpenFault(name) => match open_line(alloc, name) {
             Ok(line) => tell(err, &line, FAULT),
             Err(_) => tell(err, b"slif: out of memory\n", OUT_OF_MEMORY),
@@ -29,22 +30,52 @@ pub fn report<E: Sink>(alloc: Global, stop: Stop<'_>, err: &mut E) -> u8
     }
 }
 
-// Writes the line of a refusal. Where that fails, the fault is told.
-fn refuse<E: Sink>(refusal: Refusal, err: &mut E) -> u8
+fn report_refusal<E: Sink>(alloc: Global, refusal: Refusal, err: &mut E) -> u8
     ensures { Reports (stream E.contents E.fault_count err.old) (stream E.contents E.fault_count err.new) result (Stop.Refused refusal) }
 {
-    match write_all(err, refusal_line(refusal)) {
+    match refusal_line(alloc, refusal) {
+        Ok(line) => refuse(refusal, &line, err),
+        Err(_) => tell(err, b"slif: out of memory\n", OUT_OF_MEMORY),
+    }
+}
+
+// Writes the line of a refusal. Where that fails, the fault is told.
+fn refuse<E: Sink>(refusal: Refusal, line: &str, err: &mut E) -> u8
+    requires { line.now ≡ (refusal_outcome refusal).line }
+    ensures { Reports (stream E.contents E.fault_count err.old) (stream E.contents E.fault_count err.new) result (Stop.Refused refusal) }
+{
+    match write_all(err, line.as_bytes()) {
         Ok(()) => refusal_status(refusal),
         Err(_) => tell(err, b"slif: write fault\n", FAULT),
     }
 }
 
-fn refusal_line(refusal: Refusal) -> &'static [u8]
-    ensures { result.now ≡ (refusal_outcome refusal).line }
+fn refusal_line(alloc: Global, refusal: Refusal) -> Result<String, AllocError>
+    ensures { IfOk result (λ line. string_bytes line ≡ (refusal_outcome refusal).line) }
 {
     match refusal {
-        Refusal::NotBuilt => b"slif: not built yet\n",
-        Refusal::NoDerivation => b"slif: no derivation\n",
+        Refusal::NotBuilt => String::from_str(alloc, "slif: not built yet\n"),
+        Refusal::NoDerivation => String::from_str(alloc, "slif: no derivation\n"),
+        Refusal::Grammar(text) => {
+            let text = bad_text(alloc, text)?;
+            format!(in alloc; "slif: {text}\n")
+        }
+    }
+}
+
+// What is wrong with a grammar's text.
+fn bad_text(alloc: Global, text: BadText) -> Result<String, AllocError>
+    ensures { IfOk result (λ told. string_bytes told ≡ bad_text text) }
+{
+    match text {
+        BadText::TooLong => String::from_str(alloc, "grammar: longer than 1048576 bytes"),
+        BadText::NotUtf8 { at } => format!(in alloc; "grammar: not UTF-8 at byte {at}"),
+        BadText::BadToken { line, column } => {
+            format!(in alloc; "grammar: bad token at line {line} column {column}")
+        }
+        BadText::BadStatement { line, column } => {
+            format!(in alloc; "grammar: bad statement at line {line} column {column}")
+        }
     }
 }
 
@@ -54,6 +85,7 @@ fn refusal_status(refusal: Refusal) -> u8
     match refusal {
         Refusal::NotBuilt => 6,
         Refusal::NoDerivation => 1,
+        Refusal::Grammar(_) => 3,
     }
 }
 

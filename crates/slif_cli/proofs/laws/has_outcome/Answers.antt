@@ -1,5 +1,5 @@
 use Rattle.run_model.proofs.Exists.{an_outcome}
-use Rattle.slif_cli.proofs.SimpleTextLaws.{text_laws}
+use Rattle.slif_cli.proofs.LanguageLaws.{text_laws}
 use Rattle.slif_cli.proofs.laws.has_outcome.Goals as goal
 
 pub returns : goal.returns

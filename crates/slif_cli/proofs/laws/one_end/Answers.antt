@@ -1,5 +1,5 @@
 use Rattle.run_model.proofs.OneEnd.{one_end_of}
-use Rattle.slif_cli.proofs.SimpleTextLaws.{text_laws}
+use Rattle.slif_cli.proofs.LanguageLaws.{text_laws}
 use Rattle.slif_cli.proofs.laws.one_end.Goals as goal
 
 pub returns : goal.returns

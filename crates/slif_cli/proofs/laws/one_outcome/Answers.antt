@@ -1,5 +1,5 @@
 use Rattle.run_model.proofs.Outcomes.{one_of_all}
-use Rattle.slif_cli.proofs.SimpleTextLaws.{text_laws}
+use Rattle.slif_cli.proofs.LanguageLaws.{text_laws}
 use Rattle.slif_cli.proofs.laws.one_outcome.Goals as goal
 
 pub returns : goal.returns
