@@ -56,7 +56,9 @@ pub described_or_bad : (tokens : List Spelled) → ((d : List Statement) × Desc
 described_or_bad tokens =
     elim (decide (pieces_of tokens) (all_some (cut tokens))) [
       | inl some ↦ inl some
-      | inr bad ↦ inr (bad.bad.at, record {
+      | inr bad ↦ inr (
+        bad.bad.at,
+        record {
           good = bad.good;
           bad = bad.bad;
           behind = bad.behind;
@@ -66,7 +68,8 @@ described_or_bad tokens =
           described = bad.described;
           none = bad.none;
           place = refl;
-        })
+        },
+      )
     ]
 
 one_list : (pieces : List (List Spelled)) (d e : List Statement) → Together Spells d pieces → Together Spells e pieces → d ≡ e

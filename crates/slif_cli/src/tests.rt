@@ -45,8 +45,6 @@ const SUM: Given<'static> = Given {
 const SUM_LINES: &[u8] =
     b"[\"E\",0,[\"E\",0,[\"E\",1,[\"'1'\",\"1\"]],[\"'+'\",\"+\"],[\"E\",1,[\"'1'\",\"1\"]]],[\"'+'\",\"+\"],[\"E\",1,[\"'1'\",\"1\"]]]\n[\"E\",0,[\"E\",1,[\"'1'\",\"1\"]],[\"'+'\",\"+\"],[\"E\",0,[\"E\",1,[\"'1'\",\"1\"]],[\"'+'\",\"+\"],[\"E\",1,[\"'1'\",\"1\"]]]]\n";
 
-const LONG_GRAMMAR: &[u8] = &[b'a'; 2001];
-
 const LONG_INPUT: &[u8] = &[b'1'; 1001];
 
 const NOT_BUILT: &[u8] = b"slif: not built yet\n";
@@ -100,8 +98,17 @@ fn ends(
 
 #[test]
 fn answers(rt: HostRuntime) -> Result<(), Fail> {
-    let rows: [(Given<'_>, u8, &[u8], &[u8]); 4] = [
+    let rows: [(Given<'_>, u8, &[u8], &[u8]); 5] = [
         (SUM, 0, SUM_LINES, b""),
+        (
+            Given {
+                grammar: b"# a sum\nE::=E '+'\n E|'1' ;",
+                ..SUM
+            },
+            0,
+            SUM_LINES,
+            b"",
+        ),
         (
             Given {
                 grammar: b"S ::= 'a'\n",
@@ -146,11 +153,11 @@ fn bad_input_is_refused(rt: HostRuntime) -> Result<(), Fail> {
             ..SUM
         },
         Given {
-            grammar: b"E ::= E '+' E | '1'",
+            grammar: b"S ::= 'a' rank => 1\n",
             ..SUM
         },
         Given {
-            grammar: LONG_GRAMMAR,
+            grammar: b"S ~ 'a'\n",
             ..SUM
         },
         Given {
@@ -176,6 +183,51 @@ fn bad_input_is_refused(rt: HostRuntime) -> Result<(), Fail> {
     ];
     for given in &rows {
         assert!(rt; ends(rt.alloc(), given, 6, b"", NOT_BUILT)?);
+    }
+    Ok(())
+}
+
+#[test]
+fn bad_grammars_are_told(rt: HostRuntime) -> Result<(), Fail> {
+    let rows: [(Given<'static>, &[u8]); 5] = [
+        (
+            Given {
+                grammar: b"S ::= 'a",
+                ..SUM
+            },
+            b"slif: grammar: bad token at line 1 column 7\n",
+        ),
+        (
+            Given {
+                grammar: b"# c\n\n S ::= 'a' \"b\"",
+                ..SUM
+            },
+            b"slif: grammar: bad token at line 3 column 12\n",
+        ),
+        (
+            Given {
+                grammar: b"S ::= 'a'*",
+                ..SUM
+            },
+            b"slif: grammar: bad statement at line 1 column 1\n",
+        ),
+        (
+            Given {
+                grammar: b"S ::= 'a' ; 'b'",
+                ..SUM
+            },
+            b"slif: grammar: bad statement at line 1 column 13\n",
+        ),
+        (
+            Given {
+                grammar: b"S ::= \xFF",
+                ..SUM
+            },
+            b"slif: grammar: not UTF-8 at byte 6\n",
+        ),
+    ];
+    for (given, line) in &rows {
+        assert!(rt; ends(rt.alloc(), given, 3, b"", line)?);
     }
     Ok(())
 }
