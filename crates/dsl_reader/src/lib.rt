@@ -29,4 +29,5 @@ pub use simple::parse_simple;
 pub use statement_laws::{
     adverbs_are_read, alternatives_are_read, bad_statement_is_one, description_is_one,
     description_or_bad_statement, statements_are_cut, statements_are_read,
+    statements_are_told_apart,
 };

@@ -1,9 +1,10 @@
 //! The laws between statements and their printed tokens.
-ghost use Rattle.std.specs.Prelude.{◌≡◌, ◌↔◌, ℕ, List, None, Some, IsTrue};
+ghost use Rattle.std.specs.Prelude.{◌≡◌, ◌↔◌, ℕ, List, None, Some, IsTrue, map};
 ghost use Rattle.std.specs.List.{flat_map, list_all};
 ghost use Rattle.language_model.specs.Tokens.{Spelled};
 ghost use Rattle.language_model.specs.Description.{Adverb, Alternative, Statement, Spells, Describes, IsBadStatement, pieces_of, is_adverb, is_element, tokens_of_adverbs, tokens_of_alternative, PrintedAs, Together};
 ghost use Rattle.dsl_reader.specs.Forms.{statement_in};
+ghost use Rattle.dsl_reader.specs.Places.{unplaced, unplaced_token};
 ghost use Rattle.dsl_reader.specs.Reading.{adverbs_of, alternative_of};
 
 /// Tokens are read as these adverbs exactly where the adverbs, printed, are the tokens.
@@ -39,4 +40,9 @@ pub fn description_or_bad_statement()
 /// The bad statement of tokens is one.
 pub fn bad_statement_is_one()
     ensures { (tokens : List Spelled) (at other : ℕ) → IsBadStatement tokens at → IsBadStatement tokens other → at ≡ other }
+{}
+
+/// Statements that differ in more than their places never have the same tokens.
+pub fn statements_are_told_apart()
+    ensures { (s r : Statement) (tokens others : List Spelled) → Spells s tokens → Spells r others → map unplaced_token tokens ≡ map unplaced_token others → unplaced s ≡ unplaced r }
 {}
