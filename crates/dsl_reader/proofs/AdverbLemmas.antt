@@ -12,7 +12,7 @@ use Rattle.language_model.specs.Description.{Adverb, Comma, Pair, is_adverb, is_
 use Rattle.dsl_reader.specs.Reading.{adverbs_of, add_adverb, is_pair}
 
 -- a token is its parts
-same_token : (k l : TokenKind) (c d : List ℕ) (a b : ℕ) → k ≡ l → c ≡ d → a ≡ b → (let t : Spelled = record { kind = k; content = c; at = a } in t) ≡ record { kind = l; content = d; at = b }
+pub same_token : (k l : TokenKind) (c d : List ℕ) (a b : ℕ) → k ≡ l → c ≡ d → a ≡ b → (let t : Spelled = record { kind = k; content = c; at = a } in t) ≡ record { kind = l; content = d; at = b }
 same_token k l c d a b e f g = cc
 
 pub kept_is : (u t : Spelled) → PrintedAs (kept u) t → u ≡ t
@@ -48,13 +48,13 @@ no_comma Pseudo c at h = refl
 no_comma Reserved c at h = refl
 no_comma Signed c at h = refl
 
-comma_step : (t : Spelled) (ts : List Spelled) → is_mark (codes ",") t ≡ true → adverbs_of (t ∷ ts) ≡ add_adverb (Comma t.at) (adverbs_of ts)
+pub comma_step : (t : Spelled) (ts : List Spelled) → is_mark (codes ",") t ≡ true → adverbs_of (t ∷ ts) ≡ add_adverb (Comma t.at) (adverbs_of ts)
 unfolding adverbs_of
 comma_step t [] e = rw e refl
 comma_step t (u ∷ []) e = rw e refl
 comma_step t (u ∷ v ∷ ts) e = rw e refl
 
-pair_step : (t u v : Spelled) (ts : List Spelled) → is_mark (codes ",") t ≡ false → is_pair t u v ≡ true → adverbs_of (t ∷ u ∷ v ∷ ts) ≡ add_adverb (Pair t v) (adverbs_of ts)
+pub pair_step : (t u v : Spelled) (ts : List Spelled) → is_mark (codes ",") t ≡ false → is_pair t u v ≡ true → adverbs_of (t ∷ u ∷ v ∷ ts) ≡ add_adverb (Pair t v) (adverbs_of ts)
 unfolding adverbs_of
 pair_step t u v ts e f = rw (e, f) refl
 

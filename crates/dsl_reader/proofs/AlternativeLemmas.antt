@@ -12,7 +12,7 @@ use Rattle.dsl_reader.specs.Reading.{adverbs_of, alternative_of, add_element, on
 use Rattle.dsl_reader.proofs.AdverbLemmas.{kept_is, mark_is, mark_parts, adverbs_again, adverbs_takes}
 
 -- a part is no mark
-no_mark : (content : List ℕ) (k : TokenKind) (c : List ℕ) (at : ℕ) → is_kind_of_part k ≡ true → is_mark content (record { kind = k; content = c; at = at }) ≡ false
+pub no_mark : (content : List ℕ) (k : TokenKind) (c : List ℕ) (at : ℕ) → is_kind_of_part k ≡ true → is_mark content (record { kind = k; content = c; at = at }) ≡ false
 no_mark content Word c at h = refl
 no_mark content Angle c at h = refl
 no_mark content Quote c at h = refl
@@ -49,14 +49,14 @@ no_arrow Mark (x ∷ cs) at h = by_first (nat_eq x 110) refl
     by_first false e = let impossible : false ≡ true = sym (ap (λ b. b && bytes_eq cs (codes "ull-ranking")) e) ∙ h in cc
 
 -- no arrow stands first
-abbrev NoArrow : List Spelled → Type 0
+abbrev pub NoArrow : List Spelled → Type 0
 NoArrow [] = Unit {0}
 NoArrow (t ∷ ts) = is_mark (codes "=>") t ≡ false
 
 abbrev pub printed : List Element → List Adverb → List Printed
 printed elements adverbs = flat_map tokens_of_element elements ++ tokens_of_adverbs adverbs
 
-first_no_arrow : (elements : List Element) (adverbs : List Adverb) (p : List Spelled) → list_all is_element elements ≡ true → list_all is_adverb adverbs ≡ true → Together PrintedAs (printed elements adverbs) p → NoArrow p
+pub first_no_arrow : (elements : List Element) (adverbs : List Adverb) (p : List Spelled) → list_all is_element elements ≡ true → list_all is_adverb adverbs ≡ true → Together PrintedAs (printed elements adverbs) p → NoArrow p
 first_no_arrow elements adverbs [] ok fine h = tt
 first_no_arrow [] [] (t ∷ ts) ok fine h = absurd h
 first_no_arrow [] (Comma at ∷ adverbs) (t ∷ ts) ok fine h = other_mark (codes "=>") (codes ",") t.kind t.content t.at refl h.0.0 h.0.1
@@ -68,29 +68,29 @@ first_no_arrow (Bare part ∷ elements) adverbs (t ∷ ts) ok fine h =
 first_no_arrow (Hidden parts ∷ elements) adverbs (t ∷ ts) ok fine h = other_mark (codes "=>") (codes "(") t.kind t.content t.at refl h.0.0 h.0.1
 
 -- neither a comma first nor an arrow second
-no_adverb : (t : Spelled) (ts : List Spelled) → is_mark (codes ",") t ≡ false → NoArrow ts → begins_adverb (t ∷ ts) ≡ false
+pub no_adverb : (t : Spelled) (ts : List Spelled) → is_mark (codes ",") t ≡ false → NoArrow ts → begins_adverb (t ∷ ts) ≡ false
 no_adverb t [] e h = e
 no_adverb t (u ∷ ts) e h = ap (λ b. b || is_mark (codes "=>") u) e ∙ h
 
 -- STEPS OF READING
 
-bare_step : (t : Spelled) (ts : List Spelled) → begins_adverb (t ∷ ts) ≡ false → is_mark (codes "(") t ≡ false → is_kind_of_part t.kind ≡ true → alternative_of (t ∷ ts) None ≡ add_element (Bare t) (alternative_of ts None)
+pub bare_step : (t : Spelled) (ts : List Spelled) → begins_adverb (t ∷ ts) ≡ false → is_mark (codes "(") t ≡ false → is_kind_of_part t.kind ≡ true → alternative_of (t ∷ ts) None ≡ add_element (Bare t) (alternative_of ts None)
 unfolding alternative_of
 bare_step t ts e f g = rw (e, f, g) refl
 
-open_step : (t : Spelled) (ts : List Spelled) → begins_adverb (t ∷ ts) ≡ false → is_mark (codes "(") t ≡ true → alternative_of (t ∷ ts) None ≡ alternative_of ts (Some [])
+pub open_step : (t : Spelled) (ts : List Spelled) → begins_adverb (t ∷ ts) ≡ false → is_mark (codes "(") t ≡ true → alternative_of (t ∷ ts) None ≡ alternative_of ts (Some [])
 unfolding alternative_of
 open_step t ts e f = rw (e, f) refl
 
-adverb_step : (t : Spelled) (ts : List Spelled) → begins_adverb (t ∷ ts) ≡ true → alternative_of (t ∷ ts) None ≡ only_adverbs (adverbs_of (t ∷ ts))
+pub adverb_step : (t : Spelled) (ts : List Spelled) → begins_adverb (t ∷ ts) ≡ true → alternative_of (t ∷ ts) None ≡ only_adverbs (adverbs_of (t ∷ ts))
 unfolding alternative_of
 adverb_step t ts e = rw e refl
 
-part_step : (t : Spelled) (ts parts : List Spelled) → is_kind_of_part t.kind ≡ true → alternative_of (t ∷ ts) (Some parts) ≡ alternative_of ts (Some (parts ++ t ∷ []))
+pub part_step : (t : Spelled) (ts parts : List Spelled) → is_kind_of_part t.kind ≡ true → alternative_of (t ∷ ts) (Some parts) ≡ alternative_of ts (Some (parts ++ t ∷ []))
 unfolding alternative_of
 part_step t ts parts e = rw e refl
 
-close_step : (t : Spelled) (ts parts : List Spelled) → is_kind_of_part t.kind ≡ false → (is_mark (codes ")") t && is_some parts) ≡ true → alternative_of (t ∷ ts) (Some parts) ≡ add_element (Hidden parts) (alternative_of ts None)
+pub close_step : (t : Spelled) (ts parts : List Spelled) → is_kind_of_part t.kind ≡ false → (is_mark (codes ")") t && is_some parts) ≡ true → alternative_of (t ∷ ts) (Some parts) ≡ add_element (Hidden parts) (alternative_of ts None)
 unfolding alternative_of
 close_step t ts parts e f = rw (e, f) refl
 
@@ -119,7 +119,7 @@ hidden_again (x ∷ xs) front elements adverbs (t ∷ ts) a ok some h rest =
     ∙ ap (λ l. add_element (Hidden l) a) regroup
 
 -- the first of parts in round brackets is no arrow
-hidden_first : (parts : List Spelled) (rest : List Printed) (p : List Spelled) → is_some parts ≡ true → list_all (λ t. is_kind_of_part t.kind) parts ≡ true → Together PrintedAs ((map kept parts ++ mark (codes ")") ∷ []) ++ rest) p → NoArrow p
+pub hidden_first : (parts : List Spelled) (rest : List Printed) (p : List Spelled) → is_some parts ≡ true → list_all (λ t. is_kind_of_part t.kind) parts ≡ true → Together PrintedAs ((map kept parts ++ mark (codes ")") ∷ []) ++ rest) p → NoArrow p
 hidden_first [] rest p some ok h = absurd (let impossible : false ≡ true = some in clash impossible)
   where
     clash : false ≡ true → ⊥
@@ -129,7 +129,7 @@ hidden_first (x ∷ xs) rest (t ∷ ts) some ok h =
     no_mark (codes "=>") t.kind t.content t.at (subst (λ (y : Spelled). is_kind_of_part y.kind ≡ true) (kept_is x t h.0) (and_parts (is_kind_of_part x.kind) _ ok).0)
 
 -- an adverb that is printed begins one
-adverb_begins : (a : Adverb) (adverbs : List Adverb) (t : Spelled) (ts : List Spelled) → Together PrintedAs (tokens_of_adverbs (a ∷ adverbs)) (t ∷ ts) → begins_adverb (t ∷ ts) ≡ true
+pub adverb_begins : (a : Adverb) (adverbs : List Adverb) (t : Spelled) (ts : List Spelled) → Together PrintedAs (tokens_of_adverbs (a ∷ adverbs)) (t ∷ ts) → begins_adverb (t ∷ ts) ≡ true
 adverb_begins (Comma at) adverbs t [] h = mark_is (codes ",") t.kind t.content t.at h.0.0 h.0.1
 adverb_begins (Comma at) adverbs t (u ∷ ts) h = or_left _ _ (mark_is (codes ",") t.kind t.content t.at h.0.0 h.0.1)
 adverb_begins (Pair name value) adverbs t [] h = absurd h.1

@@ -3,5 +3,6 @@ pub mod Building
 pub mod Classes
 pub mod Description
 pub mod Layout
+pub mod Places
 pub mod Simple
 pub mod Tokens

@@ -3,8 +3,8 @@ use Rattle.std.specs.Prelude.{◌≡◌, ℕ, Bool, true, false, not, ◌&&◌, 
 use Rattle.std.specs.List.{list_all, list_any}
 use Rattle.language_model.specs.declared.token.TokenKind.TheVariants as kind
 use Rattle.grammar_model.specs.Grammar.{Grammar}
-use Rattle.language_model.specs.Tokens.{Spelled}
-use Rattle.language_model.specs.Description.{Element, Bare, Hidden, Adverb, Comma, Pair, Alternative, Statement, Start, Default, LexemeDefault, Lexeme, Discard, Empty, Quantified, Rules}
+use Rattle.language_model.specs.Description.{Element, Bare, Statement, Rules}
+use Rattle.language_model.specs.Places.{unplaced}
 use Rattle.language_model.specs.Building.{grammar_g1}
 
 pub data SimplePart : Type 0 where
@@ -97,33 +97,7 @@ description_of_simple g = map simple_statement g
 abbrev pub grammar_of_simple : List SimpleLine → Grammar
 grammar_of_simple g = grammar_g1 (description_of_simple g)
 
--- statements without their places
-
-abbrev pub unplaced : Spelled → Spelled
-unplaced t = record { kind = t.kind; content = t.content; at = 0 }
-
-abbrev pub unplaced_element : Element → Element
-unplaced_element (Bare part) = Bare (unplaced part)
-unplaced_element (Hidden parts) = Hidden (map unplaced parts)
-
-abbrev pub unplaced_adverb : Adverb → Adverb
-unplaced_adverb (Comma at) = Comma 0
-unplaced_adverb (Pair name value) = Pair (unplaced name) (unplaced value)
-
-abbrev pub unplaced_alternative : Alternative → Alternative
-unplaced_alternative a = record { elements = map unplaced_element a.elements; adverbs = map unplaced_adverb a.adverbs }
-
-abbrev pub unplaced_statement : Statement → Statement
-unplaced_statement (Start at name) = Start 0 (unplaced name)
-unplaced_statement (Default at adverbs) = Default 0 (map unplaced_adverb adverbs)
-unplaced_statement (LexemeDefault at adverbs) = LexemeDefault 0 (map unplaced_adverb adverbs)
-unplaced_statement (Lexeme at name adverbs) = Lexeme 0 (unplaced name) (map unplaced_adverb adverbs)
-unplaced_statement (Discard at item adverbs) = Discard 0 (unplaced item) (map unplaced_adverb adverbs)
-unplaced_statement (Empty left lexical adverbs) = Empty (unplaced left) lexical (map unplaced_adverb adverbs)
-unplaced_statement (Quantified left lexical item plus adverbs) = Quantified (unplaced left) lexical (unplaced item) plus (map unplaced_adverb adverbs)
-unplaced_statement (Rules left lexical groups) = Rules (unplaced left) lexical (map (λ g. map unplaced_alternative g) groups)
-
 -- the description, whatever its places, is that of the simple lines
 pub record IsSimpleDescription (d : List Statement) (g : List SimpleLine) : Type 0 where
   pub simple : IsSimple g
-  pub says : map unplaced_statement d ≡ description_of_simple g
+  pub says : map unplaced d ≡ description_of_simple g

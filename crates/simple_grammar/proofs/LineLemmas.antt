@@ -8,7 +8,8 @@ use Rattle.language_model.specs.declared.token.TokenKind.{TokenKind}
 use Rattle.language_model.specs.declared.token.TokenKind.TheVariants.{Word, Angle, Quote, Bracket, Pseudo, Reserved, Signed, Mark}
 use Rattle.language_model.specs.Tokens.{Spelled}
 use Rattle.language_model.specs.Description.{Element, Bare, Hidden, Adverb, Alternative, Statement, Start, Default, LexemeDefault, Lexeme, Discard, Empty, Quantified, Rules, is_some}
-use Rattle.language_model.specs.Simple.{SimplePart, Named, Quoted, SimpleLine, is_simple_name, is_simple_character, is_simple_part, is_simple_alternative, is_simple_line, is_quoted, simple_part, simple_statement, description_of_simple, unplaced, unplaced_element, unplaced_adverb, unplaced_alternative, unplaced_statement}
+use Rattle.language_model.specs.Simple.{SimplePart, Named, Quoted, SimpleLine, is_simple_name, is_simple_character, is_simple_part, is_simple_alternative, is_simple_line, is_quoted, simple_part, simple_statement, description_of_simple}
+use Rattle.language_model.specs.Places.{unplaced_token, unplaced_element, unplaced_adverb, unplaced_alternative, unplaced}
 use Rattle.std.proofs.lemmas.List.Folds.{list_all-map}
 use Rattle.std.proofs.lemmas.List.Sums.{AllPass-from_list_all}
 use Rattle.dsl_statement.specs.declared.statement.Element.{Element as HeldElement}
@@ -103,7 +104,7 @@ hidden_not parts (Quoted d) e = cc
 
 pub says_part : (e : Element) (p : SimplePart) → is_simple_part p ≡ true → unplaced_element e ≡ simple_part p → (is_part e ≡ true) × (part_of e ≡ p)
 says_part (Bare t) p ok e = text_says t.kind t.content p ok e
-says_part (Hidden parts) p ok e = absurd (hidden_not (map unplaced parts) p e)
+says_part (Hidden parts) p ok e = absurd (hidden_not (map unplaced_token parts) p e)
 
 -- right sides
 
@@ -162,7 +163,7 @@ some_length f [] h = clash h
 some_length f (x ∷ xs) h = some_count (length (map f xs))
 
 rights_say : (left : Spelled) (groups : List (List Alternative)) → is_left left ≡ true → are_rights groups ≡ true
-    → (unplaced_statement (Rules left false groups) ≡ simple_statement (line_of (Rules left false groups))) × (is_simple_line (line_of (Rules left false groups)) ≡ true)
+    → (unplaced (Rules left false groups) ≡ simple_statement (line_of (Rules left false groups))) × (is_simple_line (line_of (Rules left false groups)) ≡ true)
 rights_say left [] l h = clash h
 rights_say left (g ∷ []) l h =
     let parts = and_parts (is_some g) (list_all is_right g) h in
@@ -176,13 +177,13 @@ rights_say left (g ∷ []) l h =
 rights_say left (g ∷ k ∷ gs) l h = clash h
 
 rules_say : (left : Spelled) (lexical : Bool) (groups : List (List Alternative)) → is_line (Rules left lexical groups) ≡ true
-    → (unplaced_statement (Rules left lexical groups) ≡ simple_statement (line_of (Rules left lexical groups))) × (is_simple_line (line_of (Rules left lexical groups)) ≡ true)
+    → (unplaced (Rules left lexical groups) ≡ simple_statement (line_of (Rules left lexical groups))) × (is_simple_line (line_of (Rules left lexical groups)) ≡ true)
 rules_say left true groups h = clash (and_parts (is_left left) false (and_parts (is_left left && false) (are_rights groups) h).0).1
 rules_say left false groups h =
     let outer = and_parts (is_left left && true) (are_rights groups) h in
     rights_say left groups (and_parts (is_left left) true outer.0).0 outer.1
 
-pub line_says : (s : Statement) → is_line s ≡ true → (unplaced_statement s ≡ simple_statement (line_of s)) × (is_simple_line (line_of s) ≡ true)
+pub line_says : (s : Statement) → is_line s ≡ true → (unplaced s ≡ simple_statement (line_of s)) × (is_simple_line (line_of s) ≡ true)
 line_says (Start at name) h = clash h
 line_says (Default at adverbs) h = clash h
 line_says (LexemeDefault at adverbs) h = clash h
@@ -226,7 +227,7 @@ say_rights left (g ∷ []) l ok e k c =
     )
 say_rights left (g ∷ k' ∷ gs) l ok e k c = absurd cc
 
-says_rules : (left : Spelled) (lexical : Bool) (groups : List (List Alternative)) (l : SimpleLine) → is_simple_line l ≡ true → unplaced_statement (Rules left lexical groups) ≡ simple_statement l
+says_rules : (left : Spelled) (lexical : Bool) (groups : List (List Alternative)) (l : SimpleLine) → is_simple_line l ≡ true → unplaced (Rules left lexical groups) ≡ simple_statement l
     → (is_line (Rules left lexical groups) ≡ true) × (line_of (Rules left lexical groups) ≡ l)
 says_rules left lexical groups l ok e =
     let not_lexical : lexical ≡ false = ap lexical_in e in
@@ -235,7 +236,7 @@ says_rules left lexical groups l ok e =
     let gs : map (λ g. map unplaced_alternative g) groups ≡ map right_of l.alternatives ∷ [] = ap groups_in e in
     subst (λ (b : Bool). (is_line (Rules left b groups) ≡ true) × (line_of (Rules left b groups) ≡ l)) (sym not_lexical) (say_rights left groups l ok gs kind content)
 
-pub says_line : (s : Statement) (l : SimpleLine) → is_simple_line l ≡ true → unplaced_statement s ≡ simple_statement l → (is_line s ≡ true) × (line_of s ≡ l)
+pub says_line : (s : Statement) (l : SimpleLine) → is_simple_line l ≡ true → unplaced s ≡ simple_statement l → (is_line s ≡ true) × (line_of s ≡ l)
 says_line (Start at name) l ok e = absurd cc
 says_line (Default at adverbs) l ok e = absurd cc
 says_line (LexemeDefault at adverbs) l ok e = absurd cc
@@ -247,11 +248,11 @@ says_line (Rules left lexical groups) l ok e = says_rules left lexical groups l 
 
 -- descriptions
 
-pub lines_say : (d : List Statement) → list_all is_line d ≡ true → (map unplaced_statement d ≡ description_of_simple (map line_of d)) × (list_all is_simple_line (map line_of d) ≡ true)
-lines_say d h = each_says is_line line_of is_simple_line unplaced_statement simple_statement line_says d h
+pub lines_say : (d : List Statement) → list_all is_line d ≡ true → (map unplaced d ≡ description_of_simple (map line_of d)) × (list_all is_simple_line (map line_of d) ≡ true)
+lines_say d h = each_says is_line line_of is_simple_line unplaced simple_statement line_says d h
 
-pub says_lines : (d : List Statement) (g : List SimpleLine) → list_all is_simple_line g ≡ true → map unplaced_statement d ≡ description_of_simple g → (list_all is_line d ≡ true) × (map line_of d ≡ g)
-says_lines d g ok e = says_each is_line line_of is_simple_line unplaced_statement simple_statement says_line d g ok e
+pub says_lines : (d : List Statement) (g : List SimpleLine) → list_all is_simple_line g ≡ true → map unplaced d ≡ description_of_simple g → (list_all is_line d ≡ true) × (map line_of d ≡ g)
+says_lines d g ok e = says_each is_line line_of is_simple_line unplaced simple_statement says_line d g ok e
 
 -- the same of what is held
 

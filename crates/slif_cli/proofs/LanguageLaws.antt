@@ -16,7 +16,8 @@ use Rattle.run_model.specs.Texts.{IsText, HasTokens, HasDescription, TextFault, 
 use Rattle.run_model.proofs.Texts.{TextLaws}
 use Rattle.slif_cli.specs.Stops.{IsListable}
 use Rattle.slif_cli.proofs.Utf8.{broken_at}
-use Rattle.slif_cli.proofs.StatementLaws.{described_or_bad, one_description, one_bad_statement, bad_or_described}
+use Rattle.dsl_reader.proofs.SomeDescription.{described_or_bad}
+use Rattle.dsl_reader.proofs.OneDescription as statements
 
 -- ONE OF EACH
 
@@ -25,7 +26,7 @@ same_tokens bytes ts us a b = one_list (chars bytes) 0 ts us a.are b.are
 
 same_description : (bytes : List ℕ) (d e : List Statement) → HasDescription bytes d → HasDescription bytes e → d ≡ e
 same_description bytes d e a b =
-    one_description (spelled bytes a.tokens) d e a.described (subst (λ (ts : List Token). Describes e (spelled bytes ts)) (same_tokens bytes b.tokens a.tokens b.has a.has) b.described)
+    statements.one_list d e _ a.described (subst (λ (ts : List Token). Describes e (spelled bytes ts)) (same_tokens bytes b.tokens a.tokens b.has a.has) b.described)
 
 same_fault : (bytes : List ℕ) (f g : TextFault) → HasFault bytes f → HasFault bytes g → f ≡ g
 same_fault bytes TooLong TooLong a b = refl
@@ -44,14 +45,14 @@ same_fault bytes (BadStatement at) TooLong a b = let w = a.has.text.within in ab
 same_fault bytes (BadStatement at) (NotUtf8 at') a b = absurd (b.broken a.has.text.utf8)
 same_fault bytes (BadStatement at) (BadToken at') a b = absurd (no_bad_place (chars bytes) 0 a.tokens b.bad.before at' a.has.are b.bad.lead b.bad.within b.bad.none)
 same_fault bytes (BadStatement at) (BadStatement at') a b =
-    ap BadStatement (one_bad_statement (spelled bytes a.tokens) at at' a.bad (subst (λ (ts : List Token). IsBadStatement (spelled bytes ts) at') (same_tokens bytes b.tokens a.tokens b.has a.has) b.bad))
+    ap BadStatement (statements.one_bad_statement (spelled bytes a.tokens) at at' a.bad (subst (λ (ts : List Token). IsBadStatement (spelled bytes ts) at') (same_tokens bytes b.tokens a.tokens b.has a.has) b.bad))
 
 not_both : (bytes : List ℕ) (d : List Statement) (f : TextFault) → HasDescription bytes d → HasFault bytes f → ⊥
 not_both bytes d TooLong has fault = let w = has.has.text.within in absurd (omega (arith, fault, w))
 not_both bytes d (NotUtf8 at) has fault = fault.broken has.has.text.utf8
 not_both bytes d (BadToken at) has fault = no_bad_place (chars bytes) 0 has.tokens fault.bad.before at has.has.are fault.bad.lead fault.bad.within fault.bad.none
 not_both bytes d (BadStatement at) has fault =
-    bad_or_described (spelled bytes has.tokens) d at has.described (subst (λ (ts : List Token). IsBadStatement (spelled bytes ts) at) (same_tokens bytes fault.tokens has.tokens fault.has has.has) fault.bad)
+    statements.no_bad_statement d (spelled bytes has.tokens) at has.described (subst (λ (ts : List Token). IsBadStatement (spelled bytes ts) at) (same_tokens bytes fault.tokens has.tokens fault.has has.has) fault.bad)
 
 -- SOME OF ALL
 

@@ -1,7 +1,6 @@
 pub mod Telling
 pub mod Utf8
 pub mod Places
-pub mod StatementLaws
 pub mod LanguageLaws
 pub mod Lines
 pub mod Deriving

@@ -8,9 +8,9 @@ use Rattle.run_model.specs.Texts.{IsText, TextFault, BadToken, BadStatement, Not
 use Rattle.slif_base.specs.Characters.{RefusesText}
 use Rattle.slif_base.specs.declared.chars.TextRefusal.{TextRefusal}
 use Rattle.slif_base.specs.declared.chars.TextRefusal.TheVariants.{NotUtf8 as BrokenText}
-use Rattle.dsl_reader.specs.Answer.{Refused as RefusesStatements}
-use Rattle.dsl_reader.specs.declared.describing.StatementRefusal.{StatementRefusal}
-use Rattle.dsl_reader.specs.declared.describing.StatementRefusal.TheVariants.{BadStatement as BadPiece}
+use Rattle.dsl_reader.specs.Cutting.{Refuses as RefusesStatements}
+use Rattle.dsl_reader.specs.declared.refusal.StatementRefusal.{StatementRefusal}
+use Rattle.dsl_reader.specs.declared.refusal.StatementRefusal.TheVariants.{BadStatement as BadPiece}
 use Rattle.slif_cli.specs.Stops.{IsPlaceWith, IsBadIn, CharacterStops, TextStops, HasBad}
 use Rattle.slif_cli.specs.declared.stop.Refusal.TheVariants.{NotBuilt, NoDerivation, Grammar as BadGrammar}
 use Rattle.slif_cli.specs.declared.stop.BadText.TheVariants.{TooLong, NotUtf8, BadToken as ToldToken, BadStatement as ToldStatement}
