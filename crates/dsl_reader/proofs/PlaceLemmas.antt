@@ -1,11 +1,11 @@
 -- What is printed without places.
-use Rattle.std.proofs.Common.{◌≡◌, ◌∙◌, sym, ap, subst, refl, ℕ, Bool, true, false, not, ◌&&◌, List, [], ◌∷◌, ◌++◌, codes, map, Option, Some, None}
+use Rattle.std.proofs.Common.{◌≡◌, ◌∙◌, sym, ap, subst, refl, ℕ, Bool, true, false, ◌&&◌, List, [], ◌∷◌, ◌++◌, codes, map, Option, Some, None}
 use Rattle.std.specs.Prelude.{if◌then◌else◌, option_map, IfSome}
 use Rattle.std.specs.List.{list_all, flat_map}
 use Rattle.std.proofs.lemmas.List.{map-append}
 use Rattle.language_model.specs.declared.token.TokenKind.TheVariants.{Word, Pseudo, Mark}
 use Rattle.language_model.specs.Tokens.{Spelled}
-use Rattle.language_model.specs.Description.{Element, Bare, Hidden, Adverb, Comma, Pair, Alternative, Statement, Start, Default, LexemeDefault, Lexeme, Discard, Empty, Quantified, Rules, is_adverb, is_adverb_name, is_element, is_alternative, is_group, is_statement, is_one, is_some, is_name, is_kind_of_part, is_kind_of_single, is_kind_of_value, Printed, mark, kept, operator, joined, PrintedAs, Together, Spells, tokens_of, tokens_of_element, tokens_of_adverb, tokens_of_adverbs, tokens_of_alternative, tokens_of_groups}
+use Rattle.language_model.specs.Description.{Element, Bare, Hidden, Adverb, Comma, Pair, Alternative, Statement, Start, Default, LexemeDefault, Lexeme, Discard, Empty, Quantified, Rules, is_adverb, is_adverb_name, is_element, is_alternative, is_group, is_statement, is_one, is_some, is_name, is_kind_of_part, is_kind_of_single, is_kind_of_value, Printed, mark, kept, operator, PrintedAs, Together, Spells, tokens_of, tokens_of_element, tokens_of_adverbs, tokens_of_alternative, tokens_of_groups}
 use Rattle.language_model.specs.Places.{unplaced_token, unplaced_element, unplaced_adverb, unplaced_alternative, unplaced}
 use Rattle.dsl_reader.proofs.GroupLemmas.{tokens_of_group}
 use Rattle.dsl_reader.proofs.OneDescription.{one_statement}

@@ -17,6 +17,6 @@ pub use parsing::parse;
 pub use refusal::StatementRefusal;
 pub use statement_laws::{
     adverbs_are_read, alternatives_are_read, bad_statement_is_one, description_is_one,
-    description_or_bad_statement, descriptions_exclude_bad_statements, statements_are_cut, statements_are_read,
-    statements_are_told_apart,
+    description_or_bad_statement, descriptions_exclude_bad_statements, statements_are_cut,
+    statements_are_read, statements_are_told_apart,
 };

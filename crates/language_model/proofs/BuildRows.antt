@@ -1,6 +1,5 @@
 -- Worked rows of building, each by computing.
 use Rattle.std.specs.Prelude.{◌≡◌, ℕ, pos, Bool, true, false, List, [], ◌∷◌, codes, decimal, refl, Err}
-use Rattle.std.proofs.Common.{lit≤}
 use Rattle.std.specs.Str.{chars}
 use Rattle.language_model.specs.declared.token.TokenKind.TheVariants.{Word, Quote, Bracket, Mark}
 use Rattle.grammar_model.specs.declared.Assoc.TheVariants.{Left}

@@ -1,5 +1,5 @@
 -- The grammars that a job accepts.
-use Rattle.std.proofs.Common.{◌≡◌, ℕ, ◌<◌, List, ◌⊎◌, inl, inr, refl, sym, ap, subst, ◌∙◌, map, length, slice_get, Some, [], ◌∷◌, arith}
+use Rattle.std.proofs.Common.{◌≡◌, ℕ, ◌<◌, List, inl, inr, refl, sym, ap, subst, ◌∙◌, map, length, slice_get, Some, [], ◌∷◌, arith}
 use Rattle.grammar_model.specs.Grammar.{Grammar}
 use Rattle.grammar_model.specs.Characters.{tree_line}
 use Rattle.language_model.specs.Description.{Statement}

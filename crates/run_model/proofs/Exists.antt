@@ -1,12 +1,11 @@
 -- An outcome exists, whatever the words, the grammar and the input are.
-use Rattle.std.proofs.Common.{◌≡◌, ◌≢◌, ℕ, ◌<◌, ◌≤◌, List, [], ◌∷◌, length, map, Bool, true, false, ◌&&◌, not, nat_le, nat_lt, ◌==◌, IsTrue, refl, sym, ap, ◌∙◌, ◌⊎◌, inl, inr, codes, All, arith, leb-true, le-leb, ltb-true, lt-ltb, eqb-true, true≢false}
+use Rattle.std.proofs.Common.{◌≡◌, ℕ, ◌<◌, List, [], ◌∷◌, length, Bool, true, false, ◌&&◌, not, nat_le, nat_lt, ◌==◌, refl, sym, ap, ◌∙◌, ◌⊎◌, inl, inr, codes, All, arith, leb-true, le-leb, ltb-true, lt-ltb, eqb-true, true≢false}
 use Rattle.std.proofs.lemmas.Bool.{and_parts, and_from, eqb-false, not-true}
 use Rattle.std.proofs.lemmas.List.Sums.{AllPass-from_list_all, list_all-from_AllPass}
 use Rattle.std.specs.List.{list_all}
 use Rattle.std.proofs.lemmas.Slice.Eq.{bytes_eq-Decides}
 use Rattle.std.specs.Str.{bytes_eq}
 use Rattle.grammar_model.specs.Grammar.{Grammar}
-use Rattle.grammar_model.specs.Characters.{tree_line}
 use Rattle.run_model.specs.Words.{Job, Asks, AskNothing, IsValue}
 use Rattle.run_model.specs.Words.Job.{RunTree}
 use Rattle.run_model.specs.Derivations.{Accepts, IsInput, NoInput, Lists}

@@ -1,9 +1,9 @@
 -- Told content leaves a run one outcome.
-use Rattle.std.proofs.Common.{◌≡◌, ◌≢◌, ℕ, List, Some, refl, sym, ap, subst, ◌∙◌, IfSome}
+use Rattle.std.proofs.Common.{◌≡◌, ◌≢◌, ℕ, List, Some, refl, sym, ap, subst, ◌∙◌}
 use Rattle.grammar_model.specs.Grammar.{Grammar}
 use Rattle.slif_base.specs.Told.{ToldFile, MayHold}
 use Rattle.slif_base.specs.Told.ToldFile.{Untold, Missing, Told}
-use Rattle.run_model.specs.Words.{Job, Asks, grammar_file}
+use Rattle.run_model.specs.Words.{Job, Asks}
 use Rattle.run_model.specs.Words.Job.{RunTree}
 use Rattle.run_model.specs.Outcome.{Outcome, IsOutcome, IsJobOutcome, IsInputOutcome, refused}
 use Rattle.run_model.specs.Texts.{TextFault, fault_text}

@@ -1,5 +1,5 @@
 -- An outcome is determined by the words, the grammar and the input.
-use Rattle.std.proofs.Common.{◌≡◌, ℕ, List, [], ◌∷◌, sym, ap, subst, ◌∙◌, map, length, slice_get, Some}
+use Rattle.std.proofs.Common.{◌≡◌, ℕ, List, sym, ap, subst, ◌∙◌, map, length}
 use Rattle.grammar_model.specs.Grammar.{Grammar, slot_of}
 use Rattle.grammar_model.specs.Trees.{Tree}
 use Rattle.grammar_model.specs.Order.{rank_order}
@@ -8,8 +8,8 @@ use Rattle.grammar_model.specs.All.{IsAll}
 use Rattle.grammar_model.specs.Characters.{IsAllOfCharacters, Quoted, tree_line}
 use Rattle.grammar_model.proofs.Sorting.{ranks_order}
 use Rattle.grammar_model.proofs.Total.{all_unique}
-use Rattle.run_model.specs.Words.{Job, Asks}
-use Rattle.run_model.specs.Derivations.{Accepts, Lists}
+use Rattle.run_model.specs.Words.{Job}
+use Rattle.run_model.specs.Derivations.{Lists}
 use Rattle.run_model.specs.Outcome.{Outcome, IsOutcome, IsJobOutcome, IsInputOutcome, done, refused}
 use Rattle.run_model.specs.Texts.{TextFault, fault_text}
 use Rattle.run_model.specs.Outcome.IsOutcome.{WordsNotBuilt, OfJob}

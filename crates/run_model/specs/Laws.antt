@@ -2,7 +2,7 @@
 use Rattle.std.specs.Prelude.{◌≡◌, ◌≢◌, ℕ, List, Some, IfSome, ◌⊎◌}
 use Rattle.slif_base.specs.Told.{ToldFile}
 use Rattle.slif_base.specs.Told.ToldFile.{Untold}
-use Rattle.run_model.specs.Words.{Job, Asks, AskNothing, InputFrom, grammar_file, input_from}
+use Rattle.run_model.specs.Words.{Job, Asks, AskNothing, grammar_file, input_from}
 use Rattle.run_model.specs.Words.InputFrom.{FileNamed}
 use Rattle.run_model.specs.Outcome.{Outcome, IsOutcome}
 use Rattle.run_model.specs.Runs.{MayEnd}

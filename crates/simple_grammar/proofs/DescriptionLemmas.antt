@@ -1,13 +1,12 @@
 -- What makes a description simple.
-use Rattle.std.proofs.Common.{◌≡◌, ◌∙◌, sym, ap, refl, ℕ, ◌<◌, ◌≤◌, Bool, true, false, ◌&&◌, List, [], ◌∷◌, ◌++◌, length, map, Option, Some, None, bytes_eq, nat_lt, nat_le, arith, inl, inr, ◌⊎◌}
+use Rattle.std.proofs.Common.{◌≡◌, ◌∙◌, sym, ap, refl, ℕ, Bool, true, false, ◌&&◌, List, [], ◌∷◌, ◌++◌, length, map, bytes_eq, nat_lt, nat_le, inl, inr, ◌⊎◌}
 use Rattle.std.specs.Prelude.{◌||◌}
 use Rattle.std.specs.List.{list_all, list_any}
-use Rattle.std.proofs.lemmas.Bool.{and_parts, leb-true, leb-false}
+use Rattle.std.proofs.lemmas.Bool.{and_parts}
 use Rattle.std.specs.Cmp.Derive.{both_true}
 use Rattle.std.proofs.lemmas.List.Folds.{list_all-append, list_any-append}
 use Rattle.grammar_model.specs.Grammar.{Grammar}
-use Rattle.language_model.specs.Simple.{SimplePart, Named, Quoted, SimpleLine, is_simple_name, is_simple_line, alternatives_in, has_line, has_plain, all_differ, IsSimple, IsSimpleDescription, grammar_of_simple, description_of_simple}
-use Rattle.language_model.specs.Places.{unplaced}
+use Rattle.language_model.specs.Simple.{SimplePart, Named, Quoted, SimpleLine, is_simple_name, is_simple_line, alternatives_in, has_line, has_plain, all_differ, IsSimple, IsSimpleDescription, grammar_of_simple}
 use Rattle.language_model.specs.Description.{Statement}
 use Rattle.simple_grammar.specs.Lines.{is_line, line_of}
 use Rattle.simple_grammar.specs.Numbers.{grammar_of_rows}

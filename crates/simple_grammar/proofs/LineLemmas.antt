@@ -1,6 +1,6 @@
 -- Statements and the lines that they are.
-use Rattle.std.proofs.Common.{get_or, ◌<◌, arith, ◌≡◌, ◌∙◌, sym, ap, subst, refl, ℕ, suc, Bool, true, false, ◌&&◌, List, [], ◌∷◌, ◌++◌, length, map, ◌==◌, not, nat_le, nat_lt, eqb-true, append-nil}
-use Rattle.std.specs.Prelude.{slice_index, flat_map}
+use Rattle.std.proofs.Common.{get_or, ◌<◌, arith, ◌≡◌, ◌∙◌, sym, ap, subst, refl, ℕ, Bool, true, false, ◌&&◌, List, [], ◌∷◌, ◌++◌, length, map, ◌==◌, not, nat_lt, eqb-true, append-nil}
+use Rattle.std.specs.Prelude.{slice_index}
 use Rattle.std.specs.List.{list_all}
 use Rattle.std.proofs.lemmas.Bool.{and_parts}
 use Rattle.std.specs.Cmp.Derive.{both_true}
@@ -16,7 +16,7 @@ use Rattle.dsl_statement.specs.declared.statement.Element.{Element as HeldElemen
 use Rattle.dsl_statement.specs.declared.statement.Statement.{Statement as HeldStatement}
 use Rattle.dsl_statement.specs.Statements.{element_of, statement_of}
 use Rattle.simple_grammar.specs.Lines.{is_quoted_text, is_part_text, is_part, part_text, part_of, has_fair_length, parts_of, is_right, is_left, are_rights, is_line, line_of}
-use Rattle.simple_grammar.proofs.SimpleLemmas.{clash, clash', some_count}
+use Rattle.simple_grammar.proofs.SimpleLemmas.{clash, some_count}
 
 -- what is so of each is so of the list, and back
 

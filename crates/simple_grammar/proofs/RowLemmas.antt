@@ -1,18 +1,16 @@
 -- Rows of alternatives.
-use Rattle.std.proofs.Common.{◌≡◌, ◌∙◌, sym, ap, refl, ℕ, suc, ◌+◌, ◌<◌, ◌≤◌, Bool, true, false, ◌&&◌, List, [], ◌∷◌, ◌++◌, length, get_or, drop, map, codes, Option, Some, None, append_assoc, bytes_eq, string_bytes, String, Global, arith, take, ◌-◌, drop-cons, length-drop}
+use Rattle.std.proofs.Common.{◌≡◌, ◌∙◌, sym, ap, refl, ℕ, suc, ◌+◌, ◌<◌, Bool, true, false, ◌&&◌, List, [], ◌∷◌, length, get_or, drop, map, bytes_eq, string_bytes, arith, take, ◌-◌, drop-cons, length-drop}
 use Rattle.std.proofs.Math.Seq.{take-length}
-use Rattle.std.proofs.lemmas.List.{drop_all, length-map}
-use Rattle.std.specs.Prelude.{Result, Ok, Err, IfOk, IfErr, nat_lt, nat_le, not, ◌||◌, option_map}
+use Rattle.std.proofs.lemmas.List.{length-map}
+use Rattle.std.specs.Prelude.{Result, Ok, Err, IfOk, IfErr, nat_lt, nat_le, not, ◌||◌}
 use Rattle.std.specs.List.{list_all, list_any}
 use Rattle.std.proofs.lemmas.Bool.{and_parts}
-use Rattle.std.proofs.Math.Bool.{and-false}
-use Rattle.std.specs.Cmp.Derive.{both_true}
 use Rattle.std.proofs.lemmas.List.Folds.{list_all-map}
-use Rattle.language_model.specs.Simple.{SimplePart, SimpleLine, is_simple_name, is_quoted, same_part, same_parts, all_differ}
+use Rattle.language_model.specs.Simple.{SimplePart, is_quoted, same_part, same_parts, all_differ}
 use Rattle.simple_grammar.specs.declared.part.Part.{Part}
 use Rattle.simple_grammar.specs.declared.part.Alternative.{Alternative}
 use Rattle.simple_grammar.specs.Rows.{part_seen, row_seen, is_quoted_part, has_row, has_plain_row, rows_have_lines, rows_have_plain, same_row, names_are_lefts, has_plain_held, lefts_are_plain, are_simple_rows, are_simple_held}
-use Rattle.simple_grammar.proofs.SimpleLemmas.{clash, if_true, if_false}
+use Rattle.simple_grammar.proofs.SimpleLemmas.{clash}
 
 pub ok_then : {T E : Type 0} (r : Result T E) (P Q : T → Type 0) → ((x : T) → P x → Q x) → IfOk r P → IfOk r Q
 ok_then (Ok x) P Q f h = f x h

@@ -1,5 +1,5 @@
 -- Booleans and texts.
-use Rattle.std.proofs.Common.{◌≡◌, ◌∙◌, sym, suc, ap, refl, ℕ, Bool, true, false, List, [], ◌∷◌, ◌++◌, append_assoc, append-nil, bytes_eq, nat_eq, nat_lt, eqb-true, eq-eqb, arith}
+use Rattle.std.proofs.Common.{◌≡◌, suc, refl, ℕ, Bool, true, false, List, [], ◌∷◌, bytes_eq, nat_eq, nat_lt, eqb-true, eq-eqb, arith}
 use borrow.Author.Tests.{lt-ltb}
 use Rattle.std.specs.Prelude.{if◌then◌else◌}
 use Rattle.std.proofs.lemmas.Bool.{and_parts}

@@ -1,10 +1,10 @@
 -- Statements seen as simple lines.
-use Rattle.std.specs.Prelude.{ℕ, Bool, true, false, not, ◌&&◌, ◌==◌, nat_lt, nat_le, List, [], ◌∷◌, length, slice_index, map, flat_map}
+use Rattle.std.specs.Prelude.{ℕ, Bool, true, false, not, ◌&&◌, ◌==◌, nat_le, List, [], ◌∷◌, length, slice_index, map, flat_map}
 use Rattle.std.specs.List.{list_all}
 use Rattle.language_model.specs.declared.token.TokenKind.{TokenKind}
 use Rattle.language_model.specs.declared.token.TokenKind.TheVariants.{Word, Quote}
 use Rattle.language_model.specs.Tokens.{Spelled}
-use Rattle.language_model.specs.Description.{Element, Bare, Hidden, Adverb, Alternative, Statement, Rules, is_some}
+use Rattle.language_model.specs.Description.{Element, Bare, Hidden, Alternative, Statement, Rules, is_some}
 use Rattle.language_model.specs.Simple.{SimplePart, Named, Quoted, SimpleLine, is_simple_name, is_simple_character, is_quoted}
 
 -- a simple character between two single quotes

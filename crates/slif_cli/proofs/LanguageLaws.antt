@@ -1,11 +1,10 @@
 -- What a run needs to know of grammar texts, from the laws of tokens, of statements and of simple descriptions.
-use Rattle.std.proofs.Common.{◌≡◌, ◌∙◌, ◌≢◌, ℕ, ◌<◌, ◌≤◌, Bool, true, false, List, ◌⊎◌, inl, inr, refl, sym, ap, subst, arith, length, map, chars, IsUtf8, nat_le, leb-true, ltb-true}
+use Rattle.std.proofs.Common.{◌≡◌, ◌∙◌, ℕ, ◌<◌, ◌≤◌, Bool, true, false, List, ◌⊎◌, inl, inr, refl, sym, ap, subst, arith, length, chars, nat_le, leb-true}
 use Rattle.std.proofs.lemmas.Bool.{leb-false}
-use Rattle.std.specs.Str.{IsValidUpTo, is_utf8}
-use Rattle.std.proofs.lemmas.Str.{utf8_valid_len-IsValidUpTo, IsUtf8-from_is_utf8, is_utf8-from_IsUtf8, IsUtf8-nil}
+use Rattle.std.specs.Str.{is_utf8}
+use Rattle.std.proofs.lemmas.Str.{utf8_valid_len-IsValidUpTo, IsUtf8-from_is_utf8}
 use Rattle.grammar_model.specs.Grammar.{Grammar}
 use Rattle.language_model.specs.declared.token.Token.{Token}
-use Rattle.language_model.specs.Tokens.{Spelled, AreTokens, IsBadPlace, spelled_at}
 use Rattle.language_model.specs.Description.{Statement, Describes, IsBadStatement}
 use Rattle.language_model.specs.Simple.{SimpleLine, IsSimple, IsSimpleDescription, grammar_of_simple}
 use Rattle.dsl_tokens.proofs.ExistLemmas as tokens

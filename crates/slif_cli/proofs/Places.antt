@@ -1,17 +1,17 @@
 -- Where tokens stand, and what is known of a text by its characters.
-use Rattle.std.proofs.Common.{◌≡◌, ◌∙◌, ℕ, ◌<◌, ◌≤◌, Bool, true, false, List, [], ◌∷◌, ◌++◌, refl, sym, ap, subst, arith, length, map, filter, chars, IsUtf8, Some}
+use Rattle.std.proofs.Common.{◌≡◌, ℕ, ◌<◌, ◌≤◌, Bool, true, false, List, [], ◌∷◌, ◌++◌, refl, subst, arith, length, map, filter, chars}
 use Rattle.std.specs.Prelude.{if◌then◌else◌, codes}
 use Rattle.language_model.specs.declared.token.Token.{Token}
-use Rattle.language_model.specs.Tokens.{Spelled, AreTokens, LeadTo, IsBadPlace, spelled_at}
-use Rattle.language_model.specs.Description.{Statement, IsBadStatement, pieces_of, cut, is_some, is_mark, begins_piece, onto_first}
-use Rattle.run_model.specs.Texts.{IsText, TextFault, BadToken, BadStatement, NotUtf8 as NotText}
+use Rattle.language_model.specs.Tokens.{Spelled, AreTokens, LeadTo, spelled_at}
+use Rattle.language_model.specs.Description.{IsBadStatement, cut, is_some, is_mark, begins_piece, onto_first}
+use Rattle.run_model.specs.Texts.{IsText, BadToken, BadStatement, NotUtf8 as NotText}
 use Rattle.slif_base.specs.Characters.{RefusesText}
 use Rattle.slif_base.specs.declared.chars.TextRefusal.{TextRefusal}
 use Rattle.slif_base.specs.declared.chars.TextRefusal.TheVariants.{NotUtf8 as BrokenText}
 use Rattle.dsl_reader.specs.Cutting.{Refuses as RefusesStatements}
 use Rattle.dsl_reader.specs.declared.refusal.StatementRefusal.{StatementRefusal}
 use Rattle.dsl_reader.specs.declared.refusal.StatementRefusal.TheVariants.{BadStatement as BadPiece}
-use Rattle.slif_cli.specs.Stops.{IsPlaceWith, IsBadIn, CharacterStops, TextStops, HasBad}
+use Rattle.slif_cli.specs.Stops.{CharacterStops, TextStops}
 use Rattle.slif_cli.specs.declared.stop.Refusal.TheVariants.{NotBuilt, NoDerivation, Grammar as BadGrammar}
 use Rattle.slif_cli.specs.declared.stop.BadText.TheVariants.{TooLong, NotUtf8, BadToken as ToldToken, BadStatement as ToldStatement}
 use Rattle.slif_cli.specs.declared.stop.Stop.{Stop}

@@ -1,5 +1,5 @@
 -- Bytes that are not UTF-8 have a longest front that is.
-use Rattle.std.proofs.Common.{◌≡◌, ◌∙◌, ℕ, zero, suc, ◌<◌, ◌≤◌, Bool, true, false, List, refl, sym, ap, subst, arith, length, take, IsUtf8}
+use Rattle.std.proofs.Common.{◌≡◌, ◌∙◌, ℕ, zero, suc, ◌≤◌, Bool, true, false, List, refl, sym, subst, arith, length, take, IsUtf8}
 use Rattle.std.proofs.lemmas.Bool.{true≢false}
 use Rattle.std.proofs.lemmas.List.{take_all}
 use Rattle.std.specs.Str.{IsValidUpTo, is_utf8}

@@ -1,4 +1,4 @@
-use Rattle.std.proofs.Common.{◌∙◌, sym, ap, true}
+use Rattle.std.proofs.Common.{◌∙◌, ap}
 use Rattle.dsl_statement.specs.Statements.{element_of}
 use Rattle.simple_grammar.specs.Lines.{is_part}
 use Rattle.simple_grammar.proofs.LineLemmas.{element_passes}

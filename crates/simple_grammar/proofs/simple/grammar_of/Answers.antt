@@ -1,4 +1,4 @@
-use Rattle.std.proofs.Common.{◌≡◌, ◌∙◌, sym, ap, map}
+use Rattle.std.proofs.Common.{◌∙◌, sym, ap, map}
 use Rattle.simple_grammar.specs.Rows.{row_seen, are_simple_held}
 use Rattle.simple_grammar.specs.Numbers.{grammar_of_rows}
 use Rattle.simple_grammar.proofs.RowLemmas.{simple_seen, ok_then}

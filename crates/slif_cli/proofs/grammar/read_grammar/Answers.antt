@@ -1,4 +1,4 @@
-use Rattle.std.proofs.Common.{◌≡◌, ◌<◌, refl, sym, ap, subst, arith, length, chars}
+use Rattle.std.proofs.Common.{sym, ap, subst, arith, length, chars}
 use Rattle.std.proofs.lemmas.Str.{length-le-encodes, encodes-chars}
 use Rattle.slif_cli.specs.declared.stop.Refusal.TheVariants.{Grammar as BadGrammar}
 use Rattle.slif_cli.specs.declared.stop.BadText.TheVariants.{NotUtf8}
