@@ -11,3 +11,5 @@ pub mod More
 pub mod StepLemmas
 pub mod Reaching
 pub mod Faults
+pub mod Gaining
+pub mod Layering

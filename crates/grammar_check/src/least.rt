@@ -45,7 +45,8 @@ fn open_place(body: &[u32], found: &IndexSet<u32>, from: usize) -> usize
     body.len()
 }
 
-fn add(found: &mut IndexSet<u32>, x: u32) -> Result<(), AllocFailed<u32>>
+/// One more number in the set.
+pub fn add(found: &mut IndexSet<u32>, x: u32) -> Result<(), AllocFailed<u32>>
     ensures { OnOk result (Adds found.old.keys found.new.keys x) }
 {
     found.insert(x)?;
