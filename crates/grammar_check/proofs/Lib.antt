@@ -13,3 +13,4 @@ pub mod Reaching
 pub mod Faults
 pub mod Gaining
 pub mod Layering
+pub mod Choosing

@@ -1,6 +1,6 @@
 -- Steps between the numbers of slots. A row has, for a number, the tightest slots from which there is a step to it;
 -- the looser ones of the same symbol have it too, down to the symbol's first number, their floor.
-use Rattle.std.specs.Prelude.{◌≡◌, ℕ, zero, suc, ◌+◌, ◌<◌, ◌≤◌, List, [], ◌++◌, length, slice_index, Contains}
+use Rattle.std.specs.Prelude.{◌≡◌, ℕ, zero, suc, ◌+◌, ◌-◌, ◌<◌, ◌≤◌, List, [], ◌++◌, length, slice_index, Contains}
 use Rattle.grammar_check.specs.Rows.{row_at}
 
 -- a looser slot of the same symbol, or the same slot
@@ -47,3 +47,19 @@ pub record AreLayers (rows : List (List ℕ)) (floors : List ℕ) (to : ℕ) (ke
   pub sound : (n j : ℕ) → suc n < length starts → slice_index starts n ≤ j → j < slice_index starts (suc n) → Walks rows floors to (suc n) (slice_index keys j)
   pub least : (n j m : ℕ) → suc n < length starts → slice_index starts n ≤ j → j < length keys → Walks rows floors to (suc m) (slice_index keys j) → n ≤ m
   pub complete : (n x : ℕ) → suc n < length starts → Walks rows floors to (suc n) x → (j : ℕ) × (j < slice_index starts (suc n)) × (slice_index keys j ≡ x)
+
+-- the least of the numbers at some places to which there is a step
+pub record IsLeastNext (rows : List (List ℕ)) (floors keys : List ℕ) (from to x t : ℕ) : Type 0 where
+  pub place : (j : ℕ) × (from ≤ j) × (j < to) × (slice_index keys j ≡ t)
+  pub step : Step rows floors x t
+  pub least : (j : ℕ) → from ≤ j → j < to → Step rows floors x (slice_index keys j) → t ≤ slice_index keys j
+
+-- a shortest walk of n steps from a number back to it, each time by the least number that a shortest one can go on by
+pub record IsLeastPath (rows : List (List ℕ)) (floors : List ℕ) (to n : ℕ) (path : List ℕ) : Type 0 where
+  pub some : 0 < n
+  pub sized : length path ≡ suc n
+  pub first : slice_index path 0 ≡ to
+  pub last : slice_index path n ≡ to
+  pub steps : (i : ℕ) → i < n → Step rows floors (slice_index path i) (slice_index path (suc i))
+  pub least : (i t : ℕ) → i < n → Step rows floors (slice_index path i) t → Walks rows floors to (n - suc i) t → slice_index path (suc i) ≤ t
+  pub shortest : (m : ℕ) → Walks rows floors to (suc m) to → n ≤ suc m

@@ -1,5 +1,5 @@
 //! The least steps from each slot to one of them, found layer by layer.
-ghost use Rattle.std.specs.Prelude.{◌≡◌, ℕ, suc, ◌+◌, ◌<◌, ◌≤◌, length, slice_index, All, Contains, IfOk, OnOk};
+ghost use Rattle.std.specs.Prelude.{◌≡◌, ℕ, suc, ◌+◌, ◌-◌, ◌<◌, ◌≤◌, length, slice_index, All, Contains, IfOk, OnOk};
 ghost use Rattle.grammar_check.specs.Rows.{rows_of};
 ghost use Rattle.grammar_check.specs.Links.{Tied, Step, Walks, AreFloors, AreRows, IsDown, Gains, StepsInto, AreLayers};
 
@@ -96,6 +96,7 @@ pub fn layers_of(
     requires floors { AreFloors floors.now }
     ensures layers { IfOk result (λ r. AreLayers (rows_of rows.now) floors.now to r.0.keys r.1.items) }
     ensures known { IfOk result (λ r. All (λ x. x < length rows.now) r.0.keys) }
+    ensures ended { IfOk result (λ r. (length r.1.items ≡ suc (length r.1.items - 1)) × (slice_index r.1.items (length r.1.items - 1) ≡ length r.0.keys)) }
     ensures all { IfOk result (λ r. (n x : ℕ) → Walks (rows_of rows.now) floors.now to (suc n) x → Contains r.0.keys x) }
 {
     let mut found = IndexSet::new(alloc);

@@ -8,6 +8,7 @@ mod clauses;
 mod layers;
 mod least;
 mod refusals;
+mod shortest;
 mod slots;
 mod steps;
 #[cfg(test)]
