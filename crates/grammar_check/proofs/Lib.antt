@@ -14,3 +14,4 @@ pub mod Faults
 pub mod Gaining
 pub mod Layering
 pub mod Choosing
+pub mod Linking

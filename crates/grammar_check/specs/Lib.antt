@@ -6,3 +6,4 @@ pub mod Tables
 pub mod Steps
 pub mod Counted
 pub mod Links
+pub mod Linked

@@ -53,8 +53,8 @@ pub fn add(found: &mut IndexSet<u32>, x: u32) -> Result<(), AllocFailed<u32>>
     Ok(())
 }
 
-// One more clause in a row.
-fn add_to_row(rows: &mut Vec<Vec<u32>>, x: usize, clause: u32) -> Result<(), AllocFailed<u32>>
+/// One more clause in a row.
+pub fn add_to_row(rows: &mut Vec<Vec<u32>>, x: usize, clause: u32) -> Result<(), AllocFailed<u32>>
     requires { x < length rows.old.items }
     ensures { OnOk result (HasAdded (rows_of rows.old.items) (rows_of rows.new.items) x clause) }
 {
@@ -72,7 +72,8 @@ fn add_clause(rows: &mut Vec<Vec<u32>>, body: &[u32], clause: u32) -> Result<(),
     Ok(())
 }
 
-fn empty_rows(alloc: Global, count: usize) -> Result<Vec<Vec<u32>>, AllocError>
+/// Rows of nothing.
+pub fn empty_rows(alloc: Global, count: usize) -> Result<Vec<Vec<u32>>, AllocError>
     ensures length { IfOk result (λ rows. length rows.items ≡ count) }
     ensures empty { IfOk result (λ rows. (x : ℕ) → row_at (rows_of rows.items) x ≡ []) }
 {

@@ -7,6 +7,7 @@ mod children;
 mod clauses;
 mod layers;
 mod least;
+mod links;
 mod refusals;
 mod shortest;
 mod slots;
