@@ -15,3 +15,4 @@ pub mod Gaining
 pub mod Layering
 pub mod Choosing
 pub mod Linking
+pub mod Settling

@@ -7,3 +7,4 @@ pub mod Steps
 pub mod Counted
 pub mod Links
 pub mod Linked
+pub mod Settled

@@ -5,6 +5,7 @@ mod analysis;
 mod checked;
 mod children;
 mod clauses;
+mod cycles;
 mod layers;
 mod least;
 mod links;
