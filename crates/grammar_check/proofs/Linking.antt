@@ -106,16 +106,16 @@ part_below g bases i k x w n il kl e =
     let h = numbered_small g bases n (child_slot (rule_at g i) k) (child_numbered g bases i k w n il (needed_small (rule_at g i) k kl)) in omega (arith, h, e)
 
 -- a table whose part for one symbol more was filled up
-pub floored_more : (g : Grammar) (bases old new : List ℕ) (n : ℕ) → IsNumbering g bases → n < length g.names → length old ≡ slice_index bases n → length new ≡ end_of bases n →
-    ((k d : ℕ) → k < end_of bases n → k < length old → get_or new k d ≡ get_or old k d) → ((k d : ℕ) → length old ≤ k → k < end_of bases n → get_or new k d ≡ slice_index bases n) →
-    ((s x : ℕ) → s < n → slice_index bases s ≤ x → x < end_of bases s → slice_index old x ≡ slice_index bases s) →
-    (s x : ℕ) → s < n + 1 → slice_index bases s ≤ x → x < end_of bases s → slice_index new x ≡ slice_index bases s
-floored_more g bases old new n num lt size size' same here before s x sl a b = elim (same_or_below s n sl) [
+pub filled_more : (v : ℕ → ℕ) (g : Grammar) (bases old new : List ℕ) (n : ℕ) → IsNumbering g bases → n < length g.names → length old ≡ slice_index bases n → length new ≡ end_of bases n →
+    ((k d : ℕ) → k < end_of bases n → k < length old → get_or new k d ≡ get_or old k d) → ((k d : ℕ) → length old ≤ k → k < end_of bases n → get_or new k d ≡ v n) →
+    ((s x : ℕ) → s < n → slice_index bases s ≤ x → x < end_of bases s → slice_index old x ≡ v s) →
+    (s x : ℕ) → s < n + 1 → slice_index bases s ≤ x → x < end_of bases s → slice_index new x ≡ v s
+filled_more v g bases old new n num lt size size' same here before s x sl a b = elim (same_or_below s n sl) [
   | inl low ↦
       let r = bases_rise g bases s n num low (omega arith) in let z = num.rising n lt in
       same x 0 (omega (arith, b, r, z)) (omega (arith, b, r, size)) ∙ before s x low a b
   | inr e ↦
       let eb = ap (slice_index bases) e in
       let ee = ap (end_of bases) e in
-      here x 0 (omega (arith, a, eb, size)) (omega (arith, b, ee)) ∙ sym eb
+      here x 0 (omega (arith, a, eb, size)) (omega (arith, b, ee)) ∙ ap v (sym e)
 ]

@@ -8,3 +8,4 @@ pub mod Counted
 pub mod Links
 pub mod Linked
 pub mod Settled
+pub mod Told

@@ -13,6 +13,7 @@ mod refusals;
 mod shortest;
 mod slots;
 mod steps;
+mod table;
 #[cfg(test)]
 mod tests;
 
