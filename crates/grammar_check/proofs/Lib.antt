@@ -16,4 +16,4 @@ pub mod Layering
 pub mod Choosing
 pub mod Linking
 pub mod Settling
-pub mod Cyclic
+pub mod SlotCycles

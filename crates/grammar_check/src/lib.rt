@@ -6,6 +6,7 @@ mod checked;
 mod children;
 mod clauses;
 mod cycles;
+mod cyclic;
 mod layers;
 mod least;
 mod links;

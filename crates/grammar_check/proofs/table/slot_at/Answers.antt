@@ -1,5 +1,5 @@
 use Rattle.std.proofs.Common.{arith}
-use Rattle.grammar_check.proofs.Cyclic.{homed}
+use Rattle.grammar_check.proofs.SlotCycles.{homed}
 use Rattle.grammar_check.proofs.table.slot_at.Goals as goal
 
 pub bounds-bases-symbol : goal.bounds-bases-symbol

@@ -1,7 +1,7 @@
 -- Steps between numbers are those between slots, so their least cycle is the grammar's.
-use Rattle.std.proofs.Common.{arith, ◌≡◌, ◌≢◌, ◌⊎◌, ◌↔◌, inl, inr, ℕ, zero, suc, ◌+◌, ◌-◌, ◌<◌, ◌≤◌, Bool, true, false, nat_lt, ◌==◌, if◌then◌else◌, Option, Some, None, List, [], ◌∷◌, length, map, take, Contains, get_or, slice_index, slice_index_or, slice_get, refl, sym, ◌∙◌, ap, subst}
+use Rattle.std.proofs.Common.{arith, ◌≡◌, ◌≢◌, ◌⊎◌, ◌↔◌, inl, inr, ℕ, zero, suc, ◌+◌, ◌-◌, ◌<◌, ◌≤◌, Bool, true, false, nat_lt, ◌==◌, if◌then◌else◌, Option, Some, None, List, [], ◌∷◌, length, map, take, All, Contains, get_or, slice_index, slice_index_or, slice_get, refl, sym, ◌∙◌, ap, subst}
 use Rattle.std.proofs.lemmas.Bool.{eqb-true, eqb-false}
-use Rattle.std.proofs.lemmas.List.{get_or_default}
+use Rattle.std.proofs.lemmas.List.{get_or_default, get_or-map, length-map}
 use Rattle.std.specs.declared.cmp.Ordering.{Ordering}
 use Rattle.std.specs.declared.cmp.Ordering.TheVariants.{Less, Equal, Greater}
 use Rattle.std.specs.Ordering.{ordering_then, nat_cmp}
@@ -24,7 +24,7 @@ use Rattle.grammar_check.proofs.Rounds.{item_first, bases_rise, one_symbol}
 use Rattle.grammar_check.proofs.Reaching.{numbered_small, same_slot}
 use Rattle.grammar_check.proofs.Beyond.{accessible_numbered}
 use Rattle.grammar_check.proofs.StepLemmas.{all_needed, needed_small, head_small}
-use Rattle.grammar_check.proofs.Layering.{lt_or}
+use Rattle.grammar_check.proofs.Layering.{lt_or, step_known}
 use Rattle.grammar_check.proofs.Settling.{contained_or}
 
 needs : (P : Slot → Type 0) (rule : WrittenRule) → ((k : ℕ) → k < slot_count rule → P (child_slot rule k)) → EachNeeded P rule
@@ -301,3 +301,29 @@ homed g w bases n homes h x lt =
     let (s, a, b, d) = symbol_of g w bases n (length g.names) x (omega arith) lt in
     let e = sym (h.home s x a b d) in
     subst (λ s. (s < length g.names) × (slice_index bases s ≤ x) × (x < end_of bases s)) e (a, b, d)
+
+abbrev pub AreLinks : Grammar → List ℕ → List (List ℕ) → Type 0
+AreLinks g bases rows = (t h : ℕ) → Contains (row_at rows t) h ↔ IsLinkTo g bases (length g.rules) t h
+
+module _ (g : Grammar) (w : IsWritten g) (bases : List ℕ) (n : IsNumbering g bases) (floors : List ℕ) (fl : IsFloored g bases floors) (rows : List (List ℕ)) (links : AreLinks g bases rows) where
+  pub path_known : (to m : ℕ) (path : List ℕ) → IsLeastPath rows floors to m path → All (λ x. x < slice_index bases (length g.names)) path
+  path_known to m path p k d lt = subst (λ x. x < slice_index bases (length g.names)) (get_or_default path k 0 d lt) (by (lt_or k m))
+    where
+      inner : (i : ℕ) → i < m → slice_index path i < slice_index bases (length g.names)
+      inner i il = let s = step_known rows floors (slice_index path i) (slice_index path (suc i)) (subst (λ n. AreRows n rows) (sym fl.sized) (rows_are g w bases n floors fl rows links)) (p.steps i il) in omega (arith, s, fl.sized)
+
+      by : (k < m) ⊎ (m ≤ k) → slice_index path k < slice_index bases (length g.names)
+      by (inl less) = inner k less
+      by (inr up) =
+          let is : k ≡ m = omega (arith, up, lt, p.sized) in
+          let z = inner 0 p.some in
+          omega (arith, z, ap (slice_index path) is, p.last, p.first)
+
+  pub cycle_told : (to m : ℕ) (path : List ℕ) (pairs : List (ℕ × ℕ)) → IsLeastPath rows floors to m path → NoneBelow rows floors to → AreSlotsAt g bases path pairs → IsLeastCycle g (slots_with pairs)
+  cycle_told to m path pairs p below told =
+      let long = length-map pairs slot_with in
+      least_is g w bases n floors fl rows links to m path p below (slots_with pairs) (omega (arith, long, told.sized, p.sized))
+      (λ j jl.
+      let jl' : j < length pairs = omega (arith, long, jl) in
+      let jp : j < length path = omega (arith, jl', told.sized) in
+      subst (λ s. IsNumbered g bases s × (number bases s ≡ slice_index path j)) (sym (get_or-map slot_with pairs j (0, 0) (slot_of 0) jl')) (told.numbered j jp, told.same j jp))
