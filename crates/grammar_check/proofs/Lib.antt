@@ -16,4 +16,5 @@ pub mod Layering
 pub mod Choosing
 pub mod Linking
 pub mod Settling
+pub mod Sharing
 pub mod SlotCycles

@@ -9,3 +9,5 @@ pub mod Links
 pub mod Linked
 pub mod Settled
 pub mod Told
+pub mod Shared
+pub mod Refused

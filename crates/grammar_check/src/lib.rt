@@ -10,7 +10,9 @@ mod cyclic;
 mod layers;
 mod least;
 mod links;
+mod refusal;
 mod refusals;
+mod shared;
 mod shortest;
 mod slots;
 mod steps;
@@ -18,5 +20,6 @@ mod table;
 #[cfg(test)]
 mod tests;
 
-pub use checked::Checked;
+pub use checked::{Checked, check};
 pub use grammar_core::{RuleId, SymbolId, Written};
+pub use refusal::GrammarRefusal;
