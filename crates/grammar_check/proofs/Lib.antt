@@ -17,4 +17,5 @@ pub mod Choosing
 pub mod Linking
 pub mod Settling
 pub mod Sharing
+pub mod Clearing
 pub mod SlotCycles
