@@ -18,4 +18,5 @@ pub mod Linking
 pub mod Settling
 pub mod Sharing
 pub mod Clearing
+pub mod Naming
 pub mod SlotCycles

@@ -11,3 +11,4 @@ pub mod Settled
 pub mod Told
 pub mod Shared
 pub mod Refused
+pub mod Message

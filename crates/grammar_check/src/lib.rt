@@ -10,6 +10,7 @@ mod cyclic;
 mod layers;
 mod least;
 mod links;
+mod message;
 mod refusal;
 mod refusals;
 mod shared;
@@ -22,4 +23,5 @@ mod tests;
 
 pub use checked::{Checked, check};
 pub use grammar_core::{RuleId, SymbolId, Written};
+pub use message::append_refusal;
 pub use refusal::GrammarRefusal;
