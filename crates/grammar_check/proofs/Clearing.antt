@@ -1,7 +1,9 @@
 -- What a grammar has passed excludes the earlier faults.
 use Rattle.std.proofs.Common.{arith, ◌≡◌, ℕ, zero, suc, ◌<◌, ◌≤◌, List, [], ◌∷◌, length, Option, Some, None, Contains, slice_get, refl, sym, ◌∙◌, ap, subst}
 use Rattle.grammar_model.specs.Grammar.{Grammar}
-use Rattle.grammar_model.specs.Checked.{IsLeft, StartsAreLeft, SequencesAreAlone, RulesDiffer, ItemsSpan, StartsAreProductive, Refusal, NoRules, NoStart, StartNotLhs, SequenceLhs, Duplicate, CountedNullable, UnproductiveStart, Cyclic, IsFault, kind_of, IsChecked}
+use Rattle.grammar_model.specs.Checked.{IsFirstStart, IsLeft, StartsAreLeft, SequencesAreAlone, RulesDiffer, ItemsSpan, StartsAreProductive, Refusal, NoRules, NoStart, StartNotLhs, SequenceLhs, Duplicate, CountedNullable, UnproductiveStart, Cyclic, IsFault, kind_of, IsChecked}
+use Rattle.grammar_core.specs.Written.{IsWritten}
+use Rattle.grammar_check.proofs.Known.{lhs_known}
 use Rattle.std.specs.Option.{IfSome, IsNone}
 use Rattle.grammar_model.specs.Cycles.{HasHeights}
 
@@ -30,3 +32,9 @@ some_told r x P e h = subst (λ r. IfSome r P) e h
 
 pub no_fault_at : (k n : ℕ) (P : Type 0) → k ≡ n → n < k → P
 no_fault_at k n P e lt = absurd (omega (arith, e, lt))
+
+pub start_of : (g : Grammar) (P : ℕ → Type 0) (s : ℕ) → IsWritten g → IsFirstStart g P s → s < length g.names
+start_of g P s w (k, e, p, first) = let (j, jl, is) = contains_got g.starts k s e in subst (λ s. s < length g.names) is (w.starts_known j s jl)
+
+pub shared_of : (g : Grammar) (s : ℕ) → IsWritten g → IsFault g (SequenceLhs s) → s < length g.names
+shared_of g s w ((i, j, r, il, jl, ne, is, a, b), least) = subst (λ s. s < length g.names) b (lhs_known g j w jl)

@@ -17,6 +17,7 @@ use Rattle.grammar_check.specs.Steps.{head_of}
 use Rattle.grammar_check.specs.Linked.{IsLinkAt, IsLinkTo, IsFloored}
 use Rattle.grammar_check.specs.Links.{Tied, Step, Walks, AreFloors, AreRows, IsLeastPath}
 use Rattle.grammar_check.specs.Settled.{NoneBelow, Rises}
+use Rattle.grammar_check.specs.Message.{AreOf}
 use Rattle.grammar_check.specs.Told.{slot_with, slots_with, IsHomed, AreSlotsAt}
 use Rattle.grammar_check.proofs.Search.{same_or_other}
 use Rattle.grammar_check.proofs.Known.{lhs_known, head_numbered, child_numbered}
@@ -327,3 +328,6 @@ module _ (g : Grammar) (w : IsWritten g) (bases : List ℕ) (n : IsNumbering g b
       let jl' : j < length pairs = omega (arith, long, jl) in
       let jp : j < length path = omega (arith, jl', told.sized) in
       subst (λ s. IsNumbered g bases s × (number bases s ≡ slice_index path j)) (sym (get_or-map slot_with pairs j (0, 0) (slot_of 0) jl')) (told.numbered j jp, told.same j jp))
+
+pub slots_of_grammar : (g : Grammar) (bases path : List ℕ) (pairs : List (ℕ × ℕ)) → AreSlotsAt g bases path pairs → AreOf g pairs
+slots_of_grammar g bases path pairs told k d lt = subst (λ (p : ℕ × ℕ). p.0 < length g.names) (get_or_default pairs k (0, 0) d lt) (told.numbered k (omega (arith, lt, told.sized))).0

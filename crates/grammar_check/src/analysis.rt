@@ -5,6 +5,7 @@ ghost use Rattle.grammar_model.specs.Analysis.{IsNullable, IsProductive, IsAcces
 ghost use Rattle.grammar_model.specs.Checked.{IsLeft};
 ghost use Rattle.grammar_model.specs.Cycles.{IsLeastCycle, HasHeights};
 ghost use Rattle.grammar_check.specs.Slots.{end_of, IsNumbering};
+ghost use Rattle.grammar_check.specs.Message.{AreOf};
 ghost use Rattle.grammar_check.specs.Told.{slots_with};
 
 use crate::clauses::{analysis_of, lefts_of};
@@ -172,6 +173,7 @@ impl<'a> Analysis<'a> {
     /// The least cycle, if there is one.
     pub fn cycle(&self, alloc: Global) -> Result<Option<Vec<(SymbolId, u32)>>, AllocError>
         ensures some { IfOk result (λ r. IfSome r (λ cycle. IsLeastCycle self.now (slots_with cycle.items))) }
+        ensures known { IfOk result (λ r. IfSome r (λ cycle. AreOf self.now cycle.items)) }
         ensures none { IfOk result (λ r. IsNone r → HasHeights self.now) }
     {
         let slots = Slots {

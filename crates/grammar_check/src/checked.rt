@@ -3,13 +3,14 @@ ghost use Rattle.std.specs.Prelude.{◌≡◌, ℕ, ◌<◌, ◌↔◌, length, 
 ghost use Rattle.grammar_model.specs.Grammar.{Slot, slot_of};
 ghost use Rattle.grammar_model.specs.Analysis.{IsNullable, IsProductive, IsAccessible};
 ghost use Rattle.grammar_model.specs.Checked.{IsChecked};
+ghost use Rattle.grammar_check.specs.Message.{IsOf};
 ghost use Rattle.grammar_check.specs.Refused.{IsTold};
 
 use crate::GrammarRefusal;
 use crate::analysis::Analysis;
 use crate::shared::{duplicate_rule, shared_sequence};
-use std::alloc::Global;
 use grammar_core::{SymbolId, Written};
+use std::alloc::Global;
 use std::marker::Model;
 
 /// A grammar that a check has passed, and which of its slots are nullable, productive and accessible.
@@ -33,6 +34,7 @@ impl<'a> Model for Checked<'a> {
 fn first_fault(alloc: Global, analysis: &Analysis<'_>) -> Result<(), GrammarRefusal>
     ensures ok { OnOk result (IsChecked analysis.now) }
     ensures err { IfErr result (IsTold analysis.now) }
+    ensures of { IfErr result (IsOf analysis.now) }
 {
     let w = analysis.written();
     if w.rule_count() == 0 {
@@ -67,6 +69,7 @@ pub fn check(alloc: Global, w: &Written) -> Result<Checked<'_>, GrammarRefusal>
     ensures ok { IfOk result (λ c. c ≡ w.now) }
     ensures checked { OnOk result (IsChecked w.now) }
     ensures err { IfErr result (IsTold w.now) }
+    ensures of { IfErr result (IsOf w.now) }
 {
     let analysis = Analysis::analyse(alloc, w)?;
     first_fault(alloc, &analysis)?;

@@ -4,6 +4,7 @@ ghost use Rattle.grammar_model.specs.Cycles.{IsLeastCycle, HasHeights};
 ghost use Rattle.grammar_check.specs.Slots.{IsNumbering};
 ghost use Rattle.grammar_check.specs.Clauses.{IsAnalysis};
 ghost use Rattle.grammar_check.specs.Steps.{IsReach};
+ghost use Rattle.grammar_check.specs.Message.{AreOf};
 ghost use Rattle.grammar_check.specs.Told.{slots_with};
 
 use crate::cycles::least_cycle;
@@ -24,6 +25,7 @@ pub fn cycle_of(
     requires reach { IsReach w.now slots.now.bases.now slots.now.reach.now.keys }
     requires small { slice_index slots.now.bases.now (length w.now.names) + slice_index slots.now.bases.now (length w.now.names) < 2 ^ 32 }
     ensures some { IfOk result (λ r. IfSome r (λ cycle. IsLeastCycle w.now (slots_with cycle.items))) }
+    ensures known { IfOk result (λ r. IfSome r (λ cycle. AreOf w.now cycle.items)) }
     ensures none { IfOk result (λ r. IsNone r → HasHeights w.now) }
 {
     let _ = w.rule_count();

@@ -8,7 +8,7 @@ use Rattle.grammar_check.specs.Linked.{IsFloored}
 use Rattle.grammar_check.specs.Settled.{NoneBelow, Rises}
 use Rattle.grammar_check.specs.Told.{AreSlotsAt}
 use Rattle.grammar_check.proofs.RowLemmas.{rows_length}
-use Rattle.grammar_check.proofs.SlotCycles.{AreLinks, floors_are, rows_are, path_known, cycle_told, heights}
+use Rattle.grammar_check.proofs.SlotCycles.{AreLinks, floors_are, rows_are, path_known, cycle_told, slots_of_grammar, heights}
 use Rattle.grammar_check.proofs.cyclic.cycle_of.Goals as goal
 
 pub least_cycle-requires-clause-rows : goal.least_cycle-requires-clause-rows
@@ -46,3 +46,8 @@ returns-clause-some c =
     let (to, n, p, below) = least c.deref.result.now c.in_ok-rows.rows.items c.deref-2.result.now c.in_ok-floors.floors.items c.in_ok-path.field-0 c.in-Some.path c.deref.ensures.value c.deref-2.ensures.value c.in-Some.is c.in_ok-path.ensures.some in
     cycle_told c.args.w.now c.rule_count.ensures.sound c.args.slots.now.bases.now c.requires.numbering c.in_ok-floors.floors.items c.in_ok-floors.ensures (rows_of c.in_ok-rows.rows.items) c.in_ok-rows.ensures.links to n c.in-Some.path.items c.in_ok-cycle.cycle.items p below
     (subst (λ l. AreSlotsAt c.args.w.now c.args.slots.now.bases.now l c.in_ok-cycle.cycle.items) c.deref-3.ensures.value c.in_ok-cycle.ensures)
+
+pub returns-clause-known : goal.returns-clause-known
+returns-clause-known c =
+    let told = subst (λ l. AreSlotsAt c.args.w.now c.args.slots.now.bases.now l c.in_ok-cycle.cycle.items) c.deref-3.ensures.value c.in_ok-cycle.ensures in
+    slots_of_grammar c.args.w.now c.args.slots.now.bases.now c.in-Some.path.items c.in_ok-cycle.cycle.items told
