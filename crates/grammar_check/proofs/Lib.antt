@@ -19,4 +19,5 @@ pub mod Settling
 pub mod Sharing
 pub mod Clearing
 pub mod Naming
+pub mod Uniqueness
 pub mod SlotCycles

@@ -56,7 +56,7 @@ less_greater : (Path Ordering Less Greater) ⊎ (Path Ordering Equal Greater) �
 less_greater (inl e) = absurd (cc)
 less_greater (inr e) = absurd (cc)
 
-nat_cases : (a b : ℕ) → ((nat_cmp a b ≡ Less) × (a < b)) ⊎ (((nat_cmp a b ≡ Equal) × (a ≡ b)) ⊎ ((nat_cmp a b ≡ Greater) × (b < a)))
+pub nat_cases : (a b : ℕ) → ((nat_cmp a b ≡ Less) × (a < b)) ⊎ (((nat_cmp a b ≡ Equal) × (a ≡ b)) ⊎ ((nat_cmp a b ≡ Greater) × (b < a)))
 nat_cases a b = by (nat_lt a b) (a == b) refl refl
   where
     yes : (a b : ℕ) → nat_lt a b ≡ true → a < b

@@ -12,3 +12,4 @@ pub mod Told
 pub mod Shared
 pub mod Refused
 pub mod Message
+pub mod Laws

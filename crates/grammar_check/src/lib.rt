@@ -7,6 +7,7 @@ mod children;
 mod clauses;
 mod cycles;
 mod cyclic;
+mod laws;
 mod layers;
 mod least;
 mod links;
@@ -23,5 +24,6 @@ mod tests;
 
 pub use checked::{Checked, check};
 pub use grammar_core::{RuleId, SymbolId, Written};
+pub use laws::{checked_is_not_refused, refusal_is_one};
 pub use message::append_refusal;
 pub use refusal::GrammarRefusal;
