@@ -11,3 +11,13 @@ pub mod More
 pub mod StepLemmas
 pub mod Reaching
 pub mod Faults
+pub mod Gaining
+pub mod Layering
+pub mod Choosing
+pub mod Linking
+pub mod Settling
+pub mod Sharing
+pub mod Clearing
+pub mod Naming
+pub mod Uniqueness
+pub mod SlotCycles

@@ -5,3 +5,11 @@ pub mod Clauses
 pub mod Tables
 pub mod Steps
 pub mod Counted
+pub mod Links
+pub mod Linked
+pub mod Settled
+pub mod Told
+pub mod Shared
+pub mod Refused
+pub mod Message
+pub mod Laws

@@ -1,15 +1,29 @@
 //! What a written grammar's symbols can do, and whether it can be used: its analyses and their refusals.
 #![tactic(auto)]
 
+mod analysis;
 mod checked;
 mod children;
 mod clauses;
+mod cycles;
+mod cyclic;
+mod laws;
+mod layers;
 mod least;
+mod links;
+mod message;
+mod refusal;
 mod refusals;
+mod shared;
+mod shortest;
 mod slots;
 mod steps;
+mod table;
 #[cfg(test)]
 mod tests;
 
-pub use checked::Checked;
+pub use checked::{Checked, check};
 pub use grammar_core::{RuleId, SymbolId, Written};
+pub use laws::{checked_is_not_refused, refusal_is_one};
+pub use message::append_refusal;
+pub use refusal::GrammarRefusal;
