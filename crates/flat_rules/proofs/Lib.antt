@@ -1,7 +1,9 @@
 pub mod Arranged
 pub mod FlatOf
 pub mod Heights
-pub mod Instances
+pub mod ListsChecked
+pub mod ListsDecided
+pub mod ListsMet
 pub mod Law
 pub mod Named
 pub mod Numbered
