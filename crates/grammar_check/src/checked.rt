@@ -1,110 +1,43 @@
-//! Grammars with what their slots can do.
-ghost use Rattle.std.specs.Prelude.{◌≡◌, ℕ, ◌+◌, ◌-◌, ◌^◌, ◌<◌, ◌≤◌, ◌↔◌, length, slice_index, slice_index_or, false, IsTrue, IfOk, IfSome, IsNone};
+//! Grammars that are checked.
+ghost use Rattle.std.specs.Prelude.{◌≡◌, ℕ, ◌<◌, ◌↔◌, length, IsTrue};
 ghost use Rattle.grammar_model.specs.Grammar.{Slot, slot_of};
 ghost use Rattle.grammar_model.specs.Analysis.{IsNullable, IsProductive, IsAccessible};
-ghost use Rattle.grammar_model.specs.Checked.{IsLeft};
-ghost use Rattle.grammar_check.specs.Slots.{end_of, IsNumbering};
+ghost use Rattle.grammar_model.specs.Checked.{IsChecked};
 
-use crate::clauses::{analysis_of, lefts_of};
-use crate::least::is_found;
-use crate::slots::bases_of;
-use crate::steps::reach_of;
+use crate::analysis::Analysis;
 use grammar_core::{SymbolId, Written};
-use indexmap::IndexSet;
-use std::alloc::{AllocError, Global};
 use std::marker::Model;
 
-/// A grammar, and which of its slots are nullable, productive and accessible.
+/// A grammar that a check has passed, and which of its slots are nullable, productive and accessible.
 #[derive(Drop)]
 pub struct Checked<'a> {
-    written: &'a Written,
-    bases: Vec<u32>,
-    lefts: Vec<bool>,
-    nullable: IndexSet<u32>,
-    productive: IndexSet<u32>,
-    reach: IndexSet<u32>,
+    analysis: Analysis<'a>,
 }
 
 impl<'a> Model for Checked<'a> {
     ghost use Rattle.grammar_model.specs.Grammar.{Grammar};
-    ghost use Rattle.grammar_check.specs.Tables.{AreTables};
+    ghost use Rattle.grammar_model.specs.Checked.{IsChecked};
 
     ghost Value = { Grammar };
 
-    ghost view = { λ c. c.written.now };
+    ghost view = { λ c. c.analysis };
 
-    ghost invariant = { λ c. AreTables c.written.now c.bases.items c.lefts.items c.nullable.keys c.productive.keys c.reach.keys };
-}
-
-// The slot's number, if it has one.
-fn number_of(bases: &[u32], s: u32, level: u32) -> Option<u32>
-    requires known { s + 1 < length bases.now }
-    requires rising { slice_index bases.now s < end_of bases.now s }
-    ensures some { IfSome result (λ x. (x ≡ slice_index bases.now s + level) × (x < end_of bases.now s)) }
-    ensures none { IsNone result → end_of bases.now s ≤ slice_index bases.now s + level }
-{
-    let from = bases[s as usize];
-    let end = bases[s as usize + 1];
-    if level < end - from {
-        Some(from + level)
-    } else {
-        None
-    }
-}
-
-// The number that stands for the tightest slot of a symbol being in use.
-fn last_use(bases: &[u32], s: u32) -> u32
-    requires known { s + 1 < length bases.now }
-    requires some { 0 < end_of bases.now s }
-    requires order { end_of bases.now s ≤ slice_index bases.now (length bases.now - 1) }
-    requires small { slice_index bases.now (length bases.now - 1) + slice_index bases.now (length bases.now - 1) < 2 ^ 32 }
-    ensures { result ≡ slice_index bases.now (length bases.now - 1) + (end_of bases.now s - 1) }
-{
-    let total = bases[bases.len() - 1];
-    total + (bases[s as usize + 1] - 1)
-}
-
-fn is_no_left(lefts: &[bool], s: u32) -> bool
-    requires { s < length lefts.now }
-    ensures { IsTrue result ↔ (slice_index_or lefts.now s false ≡ false) }
-{
-    !lefts[s as usize]
+    ghost invariant = { λ c. IsChecked c.analysis };
 }
 
 impl<'a> Checked<'a> {
-    /// The grammar with its analyses.
-    pub fn analyse(alloc: Global, w: &'a Written) -> Result<Checked<'a>, AllocError>
-        ensures { IfOk result (λ c. c ≡ w.now) }
+    /// What is known of a checked grammar.
+    pub fn known(&self)
+        ensures checked { IsChecked self.now }
     {
-        let _ = w.rule_count();
-        let bases = bases_of(alloc, w)?;
-        let lefts = lefts_of(alloc, w)?;
-        let nullable = analysis_of(alloc, w, &bases, &lefts, true)?;
-        let productive = analysis_of(alloc, w, &bases, &lefts, false)?;
-        let reach = reach_of(alloc, w, &bases, &productive)?;
-        Ok(Checked {
-            written: w,
-            bases,
-            lefts,
-            nullable,
-            productive,
-            reach,
-        })
+        let _ = &self.analysis;
     }
 
     /// The grammar.
     pub fn written(&self) -> &Written
         ensures { result.now ≡ self.now }
     {
-        self.written
-    }
-
-    /// Whether the symbol is the left side of a rule.
-    pub fn is_left(&self, s: SymbolId) -> bool
-        requires { s < length self.now.names }
-        ensures { IsTrue result ↔ IsLeft self.now s }
-    {
-        !is_no_left(&self.lefts, s.0)
+        self.analysis.written()
     }
 
     /// Whether some tree of the slot spans nothing.
@@ -112,10 +45,7 @@ impl<'a> Checked<'a> {
         requires { s < length self.now.names }
         ensures { IsTrue result ↔ IsNullable self.now (record { symbol = s; level = level }) }
     {
-        match number_of(&self.bases, s.0, level) {
-            Some(x) => is_found(&self.nullable, x),
-            None => false,
-        }
+        self.analysis.slot_nullable(s, level)
     }
 
     /// Whether the slot has a tree. A terminal has one at each level.
@@ -123,26 +53,7 @@ impl<'a> Checked<'a> {
         requires { s < length self.now.names }
         ensures { IsTrue result ↔ IsProductive self.now (record { symbol = s; level = level }) }
     {
-        match number_of(&self.bases, s.0, level) {
-            Some(x) => is_found(&self.productive, x),
-            None => is_no_left(&self.lefts, s.0),
-        }
-    }
-
-    /// Whether some tree of the symbol spans nothing.
-    pub fn nullable(&self, s: SymbolId) -> bool
-        requires { s < length self.now.names }
-        ensures { IsTrue result ↔ IsNullable self.now (slot_of s) }
-    {
-        self.slot_nullable(s, 0)
-    }
-
-    /// Whether the symbol has a tree.
-    pub fn productive(&self, s: SymbolId) -> bool
-        requires { s < length self.now.names }
-        ensures { IsTrue result ↔ IsProductive self.now (slot_of s) }
-    {
-        self.slot_productive(s, 0)
+        self.analysis.slot_productive(s, level)
     }
 
     /// Whether the slot stands in a tree of a start.
@@ -150,10 +61,23 @@ impl<'a> Checked<'a> {
         requires { s < length self.now.names }
         ensures { IsTrue result ↔ IsAccessible self.now (record { symbol = s; level = level }) }
     {
-        match number_of(&self.bases, s.0, level) {
-            Some(x) => is_found(&self.reach, x),
-            None => false,
-        }
+        self.analysis.slot_accessible(s, level)
+    }
+
+    /// Whether some tree of the symbol spans nothing.
+    pub fn nullable(&self, s: SymbolId) -> bool
+        requires { s < length self.now.names }
+        ensures { IsTrue result ↔ IsNullable self.now (slot_of s) }
+    {
+        self.analysis.nullable(s)
+    }
+
+    /// Whether the symbol has a tree.
+    pub fn productive(&self, s: SymbolId) -> bool
+        requires { s < length self.now.names }
+        ensures { IsTrue result ↔ IsProductive self.now (slot_of s) }
+    {
+        self.analysis.productive(s)
     }
 
     /// Whether some slot of the symbol stands in a tree of a start.
@@ -161,7 +85,6 @@ impl<'a> Checked<'a> {
         requires { s < length self.now.names }
         ensures { IsTrue result ↔ ((l : ℕ) × IsAccessible self.now (record { symbol = s; level = l })) }
     {
-        let x = last_use(&self.bases, s.0);
-        is_found(&self.reach, x)
+        self.analysis.accessible(s)
     }
 }

@@ -1,6 +1,7 @@
 //! What a written grammar's symbols can do, and whether it can be used: its analyses and their refusals.
 #![tactic(auto)]
 
+mod analysis;
 mod checked;
 mod children;
 mod clauses;

@@ -5,10 +5,10 @@ ghost use Rattle.grammar_model.specs.Analysis.{IsProductive};
 ghost use Rattle.grammar_model.specs.Checked.{IsLeft, IsFault, StartNotLhs, CountedNullable, UnproductiveStart, StartsAreLeft, StartsAreProductive, IsCountedNullable, ItemsSpan};
 ghost use Rattle.grammar_check.specs.Counted.{HasNullable};
 
-use crate::Checked;
+use crate::analysis::Analysis;
 use grammar_core::{RuleId, SeqRule, SymbolId, Written, WrittenRule};
 
-impl<'a> Checked<'a> {
+impl<'a> Analysis<'a> {
     /// The first start that is no left side.
     pub fn start_without_rule(&self) -> Option<SymbolId>
         ensures some { IfSome result (λ s. IsFault self.now (StartNotLhs s)) }

@@ -1,4 +1,5 @@
 use super::*;
+use crate::analysis::Analysis;
 use grammar_core::{Assoc, CoreRefusal, Rule, SeqRule};
 use std::alloc::Global;
 use std::test::Fail;
@@ -81,7 +82,7 @@ fn add_sequence(
 fn levels_and_dead_rules(rt: HostRuntime) -> Result<(), Fail> {
     let w = grammar(rt.alloc(), LEVELS, &STARTS[..1])?;
     assert!(rt; w.symbol_count() == 4);
-    let c = Checked::analyse(rt.alloc(), &w)?;
+    let c = Analysis::analyse(rt.alloc(), &w)?;
     assert!(rt;
         c.productive(SymbolId(T)) && !c.productive(SymbolId(X)) && c.productive(SymbolId(Y))
     );
@@ -100,7 +101,7 @@ fn stars_are_nullable(rt: HostRuntime) -> Result<(), Fail> {
     let mut w = grammar(rt.alloc(), EMPTY, &STARTS[..1])?;
     add_sequence(&mut w, false, Some(SymbolId(Y)))?;
     assert!(rt; w.symbol_count() == 4);
-    let c = Checked::analyse(rt.alloc(), &w)?;
+    let c = Analysis::analyse(rt.alloc(), &w)?;
     assert!(rt; c.nullable(SymbolId(S)) && c.nullable(SymbolId(X)) && !c.nullable(SymbolId(Y)));
     assert!(rt; !c.slot_nullable(SymbolId(X), 1) && c.slot_productive(SymbolId(Y), 7));
     assert!(rt; c.accessible(SymbolId(X)) && c.accessible(SymbolId(Y)));
@@ -113,7 +114,7 @@ fn stars_are_nullable(rt: HostRuntime) -> Result<(), Fail> {
 fn first_faults(rt: HostRuntime) -> Result<(), Fail> {
     let mut w = grammar(rt.alloc(), ENDLESS, STARTS)?;
     add_sequence(&mut w, true, None)?;
-    let c = Checked::analyse(rt.alloc(), &w)?;
+    let c = Analysis::analyse(rt.alloc(), &w)?;
     assert!(rt; c.start_without_rule() == Some(SymbolId(Y)));
     assert!(rt; c.unproductive_start() == Some(SymbolId(T)));
     assert!(rt; c.counted_nullable() == Some(RuleId(2)));

@@ -2,7 +2,7 @@ use Rattle.std.proofs.Common.{arith, ◌≡◌, ℕ, sym, ◌∙◌, ap, subst, 
 use Rattle.grammar_model.specs.Grammar.{Grammar}
 use Rattle.grammar_model.specs.Checked.{IsCountedNullable}
 use Rattle.grammar_check.proofs.Search.{same_or_below}
-use Rattle.grammar_check.proofs.checked.Checked.counted_nullable.Goals as goal
+use Rattle.grammar_check.proofs.analysis.Analysis.counted_nullable.Goals as goal
 
 pub loop-i-preserved : goal.loop-i-preserved
 loop-i-preserved c = λ j lt h. elim (same_or_below j c.loop-i.i lt) [

@@ -1,6 +1,6 @@
 use Rattle.std.proofs.Common.{sym, ◌∙◌, ap, refl, true, false}
 use Rattle.grammar_check.proofs.Beyond.{told_some, last_order, last_is}
-use Rattle.grammar_check.proofs.checked.Checked.accessible.Goals as goal
+use Rattle.grammar_check.proofs.analysis.Analysis.accessible.Goals as goal
 
 pub last_use-x-requires-clause-order : goal.last_use-x-requires-clause-order
 last_use-x-requires-clause-order c = last_order c.self.inside.written.now c.args.self.now c.self.inside.bases.items c.deref.result.now c.args.s c.s.inside.0 c.self.view_is c.deref.ensures.value c.s.view_is c.self.invariant.numbering c.requires

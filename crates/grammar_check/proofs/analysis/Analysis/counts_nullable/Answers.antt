@@ -2,7 +2,7 @@ use Rattle.std.proofs.Common.{arith, ◌≡◌, ℕ, Some, sym, ◌∙◌, ap, s
 use Rattle.grammar_model.specs.Grammar.{Grammar}
 use Rattle.grammar_core.specs.Written.{rule_of}
 use Rattle.grammar_check.proofs.Faults.{sequence_known, counted_plain, counted_sequence}
-use Rattle.grammar_check.proofs.checked.Checked.counts_nullable.Goals as goal
+use Rattle.grammar_check.proofs.analysis.Analysis.counts_nullable.Goals as goal
 
 pub has_nullable-requires-clause-item : goal.has_nullable-requires-clause-item
 has_nullable-requires-clause-item c = (sequence_known c.written-w.result.now c.args.self.now c.args.i c.in-Sequence.rule c.written-w.ensures c.rule_count.ensures.sound

@@ -1,6 +1,6 @@
 use Rattle.std.proofs.Common.{sym, ◌∙◌, ap, refl, true, false, true≢false}
 use Rattle.grammar_check.proofs.Beyond.{told_reach, no_reach}
-use Rattle.grammar_check.proofs.checked.Checked.slot_accessible.Goals as goal
+use Rattle.grammar_check.proofs.analysis.Analysis.slot_accessible.Goals as goal
 
 pub returns-in-Some : goal.returns-in-Some
 returns-in-Some c = told_reach c.self.inside.written.now c.args.self.now c.self.inside.bases.items c.deref.result.now c.self.inside.reach.keys c.in-Some.x c.args.s c.s.inside.0 c.args.level c.is_found.result

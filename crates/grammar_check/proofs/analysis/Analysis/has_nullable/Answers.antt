@@ -2,7 +2,7 @@ use Rattle.std.proofs.Common.{arith, ◌≡◌, ℕ, Some, sym, ◌∙◌, ap, s
 use Rattle.grammar_model.specs.Grammar.{slot_of}
 use Rattle.grammar_model.specs.Analysis.{IsNullable}
 use Rattle.grammar_check.proofs.Faults.{has_item, has_either}
-use Rattle.grammar_check.proofs.checked.Checked.has_nullable.Goals as goal
+use Rattle.grammar_check.proofs.analysis.Analysis.has_nullable.Goals as goal
 
 pub returns-else-nullable : goal.returns-else-nullable
 returns-else-nullable c =
