@@ -55,7 +55,7 @@ told_beyond g g' bases bases' keys1 keys2 keys3 lefts lefts' s s' l b eg eb el e
     none true e t = let (i, lt, same) = (tables.left s).0 e in absurd (t i lt same)
     none false e t = e
 
-accessible_numbered : (m : ℕ) (g : Grammar) (bases : List ℕ) (slot : Slot) → IsWritten g → IsNumbering g bases → IsAccessibleIn m g slot → IsNumbered g bases slot
+pub accessible_numbered : (m : ℕ) (g : Grammar) (bases : List ℕ) (slot : Slot) → IsWritten g → IsNumbering g bases → IsAccessibleIn m g slot → IsNumbered g bases slot
 accessible_numbered zero g bases slot w n (s, (k, kl, e), is) =
     let known : s < length g.names = subst (λ s. s < length g.names) e (w.starts_known k s kl) in
     subst (IsNumbered g bases) (sym is) (known, (let h = n.rising s known in omega (arith, h)))

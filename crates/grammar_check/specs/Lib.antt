@@ -5,3 +5,4 @@ pub mod Clauses
 pub mod Tables
 pub mod Steps
 pub mod Counted
+pub mod Tested

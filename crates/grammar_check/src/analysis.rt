@@ -4,6 +4,7 @@ ghost use Rattle.grammar_model.specs.Grammar.{Slot, slot_of};
 ghost use Rattle.grammar_model.specs.Analysis.{IsNullable, IsProductive, IsAccessible};
 ghost use Rattle.grammar_model.specs.Checked.{IsLeft};
 ghost use Rattle.grammar_check.specs.Slots.{end_of, IsNumbering};
+ghost use Rattle.grammar_check.specs.Tested.{HasTests};
 
 use crate::clauses::{analysis_of, lefts_of};
 use crate::least::is_found;
@@ -97,6 +98,13 @@ impl<'a> Analysis<'a> {
         ensures { result.now ≡ self.now }
     {
         self.written
+    }
+
+    /// States that what slots can do is told by tests.
+    pub fn tested(&self)
+        ensures { HasTests self.now }
+    {
+        let _count = self.bases.len();
     }
 
     /// Whether the symbol is the left side of a rule.

@@ -3,6 +3,7 @@ ghost use Rattle.std.specs.Prelude.{◌≡◌, ℕ, ◌<◌, ◌↔◌, length, 
 ghost use Rattle.grammar_model.specs.Grammar.{Slot, slot_of};
 ghost use Rattle.grammar_model.specs.Analysis.{IsNullable, IsProductive, IsAccessible};
 ghost use Rattle.grammar_model.specs.Checked.{IsChecked};
+ghost use Rattle.grammar_check.specs.Tested.{HasTests};
 
 use crate::analysis::Analysis;
 use grammar_core::{SymbolId, Written};
@@ -31,6 +32,13 @@ impl<'a> Checked<'a> {
         ensures checked { IsChecked self.now }
     {
         let _ = &self.analysis;
+    }
+
+    /// States that what slots can do is told by tests.
+    pub fn tested(&self)
+        ensures { HasTests self.now }
+    {
+        self.analysis.tested();
     }
 
     /// The grammar.

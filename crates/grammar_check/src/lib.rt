@@ -13,4 +13,5 @@ mod steps;
 mod tests;
 
 pub use checked::Checked;
+pub use children::child_at;
 pub use grammar_core::{RuleId, SymbolId, Written};
