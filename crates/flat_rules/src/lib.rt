@@ -2,6 +2,11 @@
 //! one, with the theorem that it is its flat grammar; the code that makes it is to come.
 #![tactic(auto)]
 
+mod lefts;
+mod refusal;
+
+pub use refusal::FlatRefusal;
+
 ghost use Rattle.flat_rules.specs.Flatten.{FlatGrammarsExist};
 ghost use Rattle.flat_rules.specs.Lists.{ListsHaveFlatGrammar};
 
