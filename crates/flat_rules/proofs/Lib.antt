@@ -11,6 +11,7 @@ pub mod Once
 pub mod Parts
 pub mod Ranges
 pub mod Reach
+pub mod Listing
 pub mod Rows
 pub mod Rules
 pub mod Symbols

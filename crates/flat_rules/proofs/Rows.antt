@@ -1,15 +1,17 @@
 -- Rows of rules by their left sides, and what is known of a grammar's rules.
 use Rattle.std.proofs.Common.{◌≡◌, ◌≢◌, ℕ, zero, suc, ◌+◌, ◌<◌, ◌≤◌, Bool, true, false, cond, List, [], ◌∷◌, ◌++◌, length, map, All, get_or, slice_set, Result, Ok, Err, is_ok, ◌⊎◌, inl, inr, Option, Some, None, refl, sym, ap, ◌∙◌, subst, arith, length-set, if◌then◌else◌}
-use Rattle.std.specs.Prelude.{◌==◌, ◌↔◌, filter, slice_index, slice_index_or, option_to_list}
+use Rattle.std.specs.Prelude.{◌==◌, ◌↔◌, filter, slice_index, slice_index_or, option_to_list, slice_get}
 use Rattle.std.specs.Result.{OnOk}
 use Rattle.std.specs.declared.vec.Vec.{Vec}
 use Rattle.std.specs.declared.alloc.Global.{Global}
 use Rattle.std.proofs.lemmas.Bool.{cases_eq, eqb-true, ne_eqb, eq-eqb}
 use Rattle.std.proofs.lemmas.List.{get_or-set_same, get_or-set_other, get_or-map, map-set, length-map}
 use Rattle.std.proofs.lemmas.List.Elements.{filter-append}
-use Rattle.grammar_model.specs.Grammar.{WrittenRule, Plain, Sequence, PlainRule, Grammar, rule_at, lhs_of, child_slot, slot_count, sequence_symbol, is_even}
+use Rattle.grammar_model.specs.Grammar.{WrittenRule, Plain, Sequence, PlainRule, Grammar, rule_at, lhs_of, level_of, child_slot, slot_count, sequence_symbol, is_even}
 use Rattle.grammar_model.specs.Simple.{numbers}
-use Rattle.grammar_core.specs.Written.{IsWritten, symbols_of}
+use Rattle.grammar_core.specs.Written.{IsWritten, IsLevelled, symbols_of}
+use Rattle.grammar_check.specs.Slots.{groups_of}
+use Rattle.recognizer_model.proofs.FlatNamed.{get_index}
 use Rattle.flat_rules.specs.Tables.{rows_of, row_at, HasAdded, rules_with}
 
 -- ---- rows
@@ -23,6 +25,9 @@ row_pushed rows s i lt = record {
 
 pub rows_length : (rows : List (Vec ℕ Global)) → length (rows_of rows) ≡ length rows
 rows_length rows = length-map rows (λ (v : Vec ℕ Global). v.items)
+
+pub row_is : (rows : List (Vec ℕ Global)) (s : ℕ) (v : Vec ℕ Global) → s < length rows → v ≡ get_or rows s v → v.items ≡ row_at (rows_of rows) s
+row_is rows s v lt is = ap (λ v. v.items) is ∙ sym (get_or-map (λ (v : Vec ℕ Global). v.items) rows s v [] lt)
 
 vec_pushed : (rows : List (Vec ℕ Global)) (s i : ℕ) (old new : Vec ℕ Global) → s < length rows → old ≡ get_or rows s old → new.items ≡ old.items ++ i ∷ [] → HasAdded (rows_of rows) (rows_of (slice_set rows s new)) s i
 vec_pushed rows s i old new lt is e =
@@ -54,7 +59,7 @@ rules_next : (w : Grammar) (n s : ℕ) (b : Bool) → (lhs_of (rule_at w n) == s
 rules_next w n s b e =
     ap (filter (λ i. lhs_of (rule_at w i) == s)) (numbers_next n) ∙ filter-append (λ i. lhs_of (rule_at w i) == s) (numbers n) (n ∷ []) ∙ ap (λ c. rules_to w n s ++ cond c (n ∷ []) []) e
 
-append_none : {X : Type 0} (xs : List X) → xs ++ [] ≡ xs
+pub append_none : {X : Type 0} (xs : List X) → xs ++ [] ≡ xs
 append_none [] = refl
 append_none (x ∷ xs) = ap (λ l. x ∷ l) (append_none xs)
 
@@ -83,3 +88,15 @@ child_known w i k written lt less = go (rule_at w i) (written.rules_known i lt).
     go : (rule : WrittenRule) → All (λ s. s < length w.names) (symbols_of rule) → k < slot_count rule → (child_slot rule k).symbol < length w.names
     go (Plain r) all less = all (suc k) 0 (omega arith)
     go (Sequence r) all less = of r r.separator all
+
+-- ---- levels are below groups
+
+level_small : (rule : WrittenRule) → IsLevelled rule → (groups : ℕ) → groups_of rule ≡ groups → level_of rule < groups
+level_small (Plain r) h groups e = let lt = h.0 in omega arith
+level_small (Sequence r) h groups e = omega arith
+
+pub level_below : (w : Grammar) (i groups : ℕ) (rule : WrittenRule) → IsWritten w → i < length w.rules → slice_get w.rules i ≡ Some rule → groups_of rule ≡ groups → level_of (rule_at w i) < groups
+level_below w i groups rule written lt e g = level_small (rule_at w i) (written.rules_known i lt).1 groups (ap groups_of (rule_is w i rule e) ∙ g)
+  where
+    rule_is : (w : Grammar) (i : ℕ) (rule : WrittenRule) → slice_get w.rules i ≡ Some rule → rule_at w i ≡ rule
+    rule_is w i rule e = (get_index w.rules i _ rule e).1

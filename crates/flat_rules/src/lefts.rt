@@ -40,14 +40,14 @@ fn lhs_at(w: &Written, i: usize) -> u32
     }
 }
 
-// The left side of a rule.
-fn left_of(w: &Written, i: usize) -> usize
+/// The left side of a rule.
+pub fn left_of(w: &Written, i: usize) -> u32
     requires { i < length w.now.rules }
     ensures value { result ≡ lhs_of (rule_at w.now i) }
     ensures known { result < length w.now.names }
 {
     let _ = w.rule_count();
-    lhs_at(w, i) as usize
+    lhs_at(w, i)
 }
 
 /// The rules of each left side.
@@ -56,7 +56,7 @@ pub fn rules_by_left(alloc: Global, w: &Written) -> Result<Vec<Vec<u32>>, AllocE
 {
     let mut rows = empty_rows(alloc, w.symbol_count())?;
     for i in 0..w.rule_count() {
-        add_to_row(&mut rows, left_of(w, i), i as u32)?;
+        add_to_row(&mut rows, left_of(w, i) as usize, i as u32)?;
     }
     Ok(rows)
 }

@@ -3,6 +3,7 @@
 #![tactic(auto)]
 
 mod lefts;
+mod numbering;
 mod refusal;
 
 pub use refusal::FlatRefusal;

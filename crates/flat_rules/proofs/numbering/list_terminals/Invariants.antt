@@ -1,0 +1,11 @@
+use Rattle.std.proofs.Common.{◌≡◌, ℕ, ◌<◌, ◌++◌, map, take, slice_index}
+use Rattle.std.specs.Prelude.{◌&&◌, filter}
+use Rattle.std.specs.List.{flat_map}
+use Rattle.grammar_model.specs.Grammar.{rule_at, level_of, slot_of}
+use Rattle.grammar_model.specs.Simple.{is_terminal, numbers}
+use Rattle.flat_rules.specs.Flatten.{Decided, levels_of}
+use Rattle.flat_rules.specs.Tables.{told_slot, slot_at}
+use Rattle.flat_rules.proofs.numbering.list_terminals.Given as goal
+
+abbrev pub invariant-loop-s : goal.invariant-loop-s
+invariant-loop-s l = (d : Decided l.c) → map told_slot l.slots.items ≡ map told_slot l.initial.slots.items ++ map slot_of (filter (λ s. is_terminal l.c s && d.used (slot_of s)) (numbers l.s))
