@@ -1,4 +1,6 @@
+pub mod Adding
 pub mod Arranged
+pub mod Deciding
 pub mod FlatOf
 pub mod Heights
 pub mod ListsChecked
@@ -14,5 +16,6 @@ pub mod Reach
 pub mod Listing
 pub mod Rows
 pub mod Rules
+pub mod SlotRules
 pub mod Symbols
 pub mod Whole

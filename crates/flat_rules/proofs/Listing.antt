@@ -1,9 +1,10 @@
 -- Lists of numbers that pass a test, as they grow; and what bounds them.
 use Rattle.std.proofs.Common.{◌≡◌, ◌≢◌, ℕ, zero, suc, ◌+◌, ◌<◌, ◌≤◌, Bool, true, false, cond, not, List, [], ◌∷◌, ◌++◌, length, map, take, get_or, ◌⊎◌, inl, inr, refl, sym, ap, ◌∙◌, subst, arith, true≢false}
-use Rattle.std.specs.Prelude.{◌&&◌, ◌||◌, ◌==◌, ◌↔◌, filter, Contains, slice_index, slice_index_or}
-use Rattle.std.specs.List.{AllPairs, flat_map, list_any}
+use Rattle.std.specs.Prelude.{◌&&◌, ◌||◌, ◌==◌, ◌↔◌, filter, Contains, slice_index, slice_index_or, nat_lt, unwrap_or, Option, Some, None}
+use Rattle.std.specs.List.{AllPairs, flat_map, list_any, position}
+use Rattle.grammar_core.proofs.Growth.{position_or_len-map}
 use Rattle.std.proofs.lemmas.Bool.{cases_Bool, eqb-true, and_parts, eq-eqb}
-use Rattle.std.proofs.lemmas.List.{map-append, take_more, get_or-take, length-take-le}
+use Rattle.std.proofs.lemmas.List.{map-append, take_more, get_or-take, length-take-le, length-map}
 use Rattle.std.proofs.lemmas.List.Elements.{filter-append}
 use Rattle.std.proofs.lemmas.Grind.{flat_map-append}
 use Rattle.indexmap.specs.IndexSet.{insert_key}
@@ -18,7 +19,7 @@ use Rattle.recognizer_model.specs.FlatForm.{IsUsedSlot}
 use Rattle.flat_rules.specs.Flatten
 use Rattle.flat_rules.specs.Flatten.{Decided, levels_of}
 use Rattle.flat_rules.specs.declared.numbering.SlotKey.{SlotKey}
-use Rattle.flat_rules.specs.Tables.{row_at, rules_with, is_sequence_rule, AreLive, AreLefts, told_slot, slot_at, slots_of_terminals, slots_of_lefts}
+use Rattle.flat_rules.specs.Tables.{row_at, rules_with, is_sequence_rule, AreLive, AreLefts, told_slot, slot_at, same_slot, place_of, slots_of_terminals, slots_of_lefts}
 use Rattle.flat_rules.proofs.Once.{among_filter, among_filter_from, among_numbers, among_numbers_from}
 use Rattle.flat_rules.proofs.Symbols.{terminal_no}
 use Rattle.flat_rules.proofs.Rules.{live_from, from_live}
@@ -122,6 +123,18 @@ keys_more keys old new n key pairs lt is e h =
   where
     take_more' : (keys : List SlotKey) (n : ℕ) (d : SlotKey) → n < length keys → take (n + 1) keys ≡ take n keys ++ get_or keys n d ∷ []
     take_more' keys n d lt = grind (arith, take_more)
+
+position_map : {X Y : Type 0} (p : Y → Bool) (f : X → Y) (xs : List X) → position p (map f xs) ≡ position (λ x. p (f x)) xs
+position_map p f xs =
+    let places = position_or_len-map p f xs in
+    let long = length-map xs f in
+    λ i. cond (nat_lt (places i) (long i)) (Some (places i)) None
+
+-- a key's place is its slot's
+pub place_told : (keys : List SlotKey) (slots : List Grammar.Slot) (symbol level : ℕ) (place : Option ℕ) → map told_slot keys ≡ slots → place ≡ position (key_eq (record { symbol = symbol; level = level })) keys →
+    unwrap_or place 0 ≡ place_of slots (slot_at symbol level)
+place_told keys slots symbol level place is e =
+    ap (λ o. unwrap_or o 0) (e ∙ sym (position_map (same_slot (slot_at symbol level)) told_slot keys)) ∙ ap (λ l. place_of l (slot_at symbol level)) is
 
 -- ---- what bounds slots that count
 

@@ -1,3 +1,4 @@
 pub mod Flatten
 pub mod Lists
 pub mod Tables
+pub mod Added

@@ -89,5 +89,6 @@ pub record AreNumbers (w : Grammar) (t : Numbering) : Type 0 where
   pub slots : (d : Decided w) → t.slots ≡ slots_of_terminals w d ++ slots_of_lefts w d
   pub lists : (d : Decided w) → t.lists ≡ lists_to w d (length w.rules)
   pub before : (d : Decided w) (i : ℕ) → i < length w.rules → slice_index t.before i ≡ length (lists_to w d i)
+  pub few : (i : ℕ) → i < length w.rules → slice_index t.before i ≤ length t.lists
   pub sized : length t.before ≡ length w.rules
   pub small : length t.slots + (length t.lists + length w.starts) < 2 ^ 32

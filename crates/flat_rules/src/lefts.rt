@@ -69,7 +69,8 @@ pub fn is_used(c: &Checked<'_>, symbol: u32, level: u32) -> bool
     c.slot_accessible(SymbolId(symbol), level) && c.slot_productive(SymbolId(symbol), level)
 }
 
-fn is_child_productive(c: &Checked<'_>, i: usize, k: usize) -> bool
+/// Whether the part has trees.
+pub fn is_child_productive(c: &Checked<'_>, i: usize, k: usize) -> bool
     requires rule { i < length c.now.rules }
     requires part { k < slot_count (rule_at c.now i) }
     ensures { IsTrue result ↔ IsProductive c.now (child_slot (rule_at c.now i) k) }

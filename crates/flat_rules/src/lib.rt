@@ -4,7 +4,9 @@
 
 mod lefts;
 mod numbering;
+mod pushing;
 mod refusal;
+
 
 pub use refusal::FlatRefusal;
 

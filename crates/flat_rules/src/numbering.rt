@@ -1,11 +1,11 @@
 //! The symbols of a flat grammar, numbered.
-ghost use Rattle.std.specs.Prelude.{◌≡◌, ◌≢◌, ℕ, ◌+◌, ◌<◌, ◌^◌, ◌++◌, [], not, ◌&&◌, length, map, filter, slice_index, Contains, IsTrue, ◌↔◌, IfOk, OnOk};
+ghost use Rattle.std.specs.Prelude.{◌≡◌, ◌≢◌, ℕ, ◌+◌, ◌<◌, ◌≤◌, Some, slice_get, ◌^◌, ◌++◌, [], not, ◌&&◌, length, map, filter, slice_index, Contains, IsTrue, ◌↔◌, IfOk, OnOk};
 ghost use Rattle.std.specs.List.{AllPairs};
 ghost use Rattle.grammar_model.specs.Grammar.{Slot, rule_at, level_of, slot_of};
 ghost use Rattle.grammar_model.specs.Simple.{is_terminal, numbers};
 ghost use Rattle.recognizer_model.specs.declared.flat.FlatSymbol.TheVariants.{Sequence};
 ghost use Rattle.flat_rules.specs.Flatten.{Decided, makes_list};
-ghost use Rattle.flat_rules.specs.Tables.{rows_of, is_sequence_rule, AreLefts, AreLive, told_slot, slot_at, place_of, slots_of_terminals, slots_of_lefts, lists_to, AreNumbers};
+ghost use Rattle.flat_rules.specs.Tables.{rows_of, is_sequence_rule, AreLefts, AreLive, told_slot, slot_at, place_of, slots_of_terminals, slots_of_lefts, lists_to, number_in, AreNumbers};
 
 use crate::lefts::{is_used, left_of};
 use grammar_check::Checked;
@@ -13,6 +13,9 @@ use grammar_core::{RuleId, Written, WrittenRule};
 use indexmap::IndexSet;
 use std::alloc::{AllocError, AllocFailed, Global};
 use std::marker::Model;
+
+// So that with 16,777,215 lists and as many tops the numbers of symbols fit.
+const MOST_SLOTS: usize = 4_000_000_000;
 
 /// A symbol with a least level.
 #[derive(Clone, Copy, PartialEq, Eq, Hash)]
@@ -143,7 +146,8 @@ fn set_of(alloc: Global, keys: &[SlotKey]) -> Result<IndexSet<SlotKey>, AllocErr
     Ok(set)
 }
 
-fn is_sequence(w: &Written, i: usize) -> bool
+/// Whether the rule is a sequence.
+pub fn is_sequence(w: &Written, i: usize) -> bool
     requires { i < length w.now.rules }
     ensures { result ≡ is_sequence_rule (rule_at w.now i) }
 {
@@ -175,7 +179,9 @@ fn list_lists(
     requires none_before { before.old.items ≡ [] }
     ensures lists { OnOk result ((d : Decided c.now) → lists.new.items ≡ lists_to c.now d (length c.now.rules)) }
     ensures before { OnOk result ((d : Decided c.now) (i : ℕ) → i < length c.now.rules → slice_index before.new.items i ≡ length (lists_to c.now d i)) }
+    ensures few { OnOk result ((i : ℕ) → i < length c.now.rules → slice_index before.new.items i ≤ length lists.new.items) }
     ensures sized { OnOk result (length before.new.items ≡ length c.now.rules) }
+    ensures small { OnOk result (length lists.new.items ≤ length c.now.rules) }
 {
     for i in 0..c.written().rule_count() {
         before.push(lists.len() as u32)?;
@@ -184,4 +190,74 @@ fn list_lists(
         }
     }
     Ok(())
+}
+
+/// The symbols of the flat grammar before its tops, numbered.
+pub fn symbols_of(
+    alloc: Global,
+    c: &Checked<'_>,
+    rows: &[Vec<u32>],
+    live: &[bool],
+) -> Result<Symbols, AllocError>
+    requires rows { AreLefts c.now (rows_of rows.now) }
+    requires live { AreLive c.now live.now }
+    ensures { IfOk result (λ symbols. AreNumbers c.now symbols) }
+{
+    c.tested();
+    let _ = c.written().rule_count();
+    let mut keys = Vec::new(alloc);
+    list_terminals(c, rows, &mut keys)?;
+    list_lefts(c, rows, &mut keys)?;
+    let mut lists = Vec::new(alloc);
+    let mut before = Vec::new(alloc);
+    list_lists(c, live, &mut lists, &mut before)?;
+    if keys.len() > MOST_SLOTS {
+        return Err(AllocError);
+    }
+    let slots = set_of(alloc, &keys)?;
+    Ok(Symbols { slots, lists, before })
+}
+
+impl Symbols {
+    /// The number of a slot.
+    pub fn slot_number(&self, symbol: u32, level: u32) -> u32
+        requires { length self.now.slots < 2 ^ 32 }
+        ensures { result ≡ place_of self.now.slots (slot_at symbol level) }
+    {
+        match self.slots.get_index_of(&SlotKey { symbol, level }) {
+            Some(place) => place as u32,
+            None => 0,
+        }
+    }
+
+    /// How many slots there are.
+    pub fn slot_count(&self) -> usize
+        ensures { result ≡ length self.now.slots }
+    {
+        self.slots.len()
+    }
+
+    /// The slot at a place.
+    pub fn slot(&self, place: usize) -> SlotKey
+        requires { place < length self.now.slots }
+        ensures { slice_get self.now.slots place ≡ Some (told_slot result) }
+    {
+        self.slots.as_slice()[place]
+    }
+
+    /// The rules that make lists.
+    pub fn lists(&self) -> &[u32]
+        ensures { result.now ≡ self.now.lists }
+    {
+        &self.lists
+    }
+
+    /// The number of a rule's list.
+    pub fn list_number(&self, i: usize) -> u32
+        requires rule { i < length self.now.before }
+        requires small { length self.now.slots + slice_index self.now.before i < 2 ^ 32 }
+        ensures { result ≡ number_in self.now (Sequence i) }
+    {
+        self.slots.len() as u32 + self.before[i]
+    }
 }

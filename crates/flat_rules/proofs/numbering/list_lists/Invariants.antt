@@ -5,8 +5,9 @@ use Rattle.flat_rules.proofs.numbering.list_lists.Given as goal
 
 abbrev pub invariant-loop-i : goal.invariant-loop-i
 invariant-loop-i l = record {
-  few : length l.lists.items ≤ l.i;
+  small : length l.lists.items ≤ l.i;
   sized : length l.before.items ≡ l.i;
+  few : (j : ℕ) → j < l.i → slice_index l.before.items j ≤ length l.lists.items;
   lists : (d : Decided l.c) → l.lists.items ≡ lists_to l.c d l.i;
   before : (d : Decided l.c) (j : ℕ) → j < l.i → slice_index l.before.items j ≡ length (lists_to l.c d j);
 }

@@ -1,0 +1,71 @@
+-- Flat rules that are added, one part of a list after another.
+use Rattle.std.proofs.Common.{◌≡◌, ℕ, zero, suc, ◌+◌, ◌<◌, ◌≤◌, Bool, true, false, cond, List, [], ◌∷◌, ◌++◌, length, map, take, drop, get_or, Result, Ok, Err, refl, sym, ap, ◌∙◌, subst, arith, append_assoc, length-append}
+use Rattle.std.specs.List.{flat_map}
+use Rattle.std.specs.Result.{IsErrAnd}
+use Rattle.std.proofs.lemmas.Grind.{flat_map-append}
+use Rattle.std.proofs.lemmas.List.{map-append, take_more, take-append-drop}
+use Rattle.grammar_model.specs.Simple.{numbers}
+use Rattle.recognizer_model.specs.Flat.{FlatRule}
+use Rattle.flat_rules.specs.declared.refusal.FlatRefusal.{FlatRefusal}
+use Rattle.flat_rules.specs.declared.refusal.FlatRefusal.TheVariants.{TooManyRules, NoMemory}
+use Rattle.grammar_model.specs.Grammar.{WrittenRule}
+use Rattle.recognizer_model.specs.declared.flat.FlatSymbol.TheVariants.{Sequence}
+use Rattle.flat_rules.specs.Tables.{Numbering, number_in}
+use Rattle.flat_rules.specs.Added.{Adds, most_rules, rule_by, part_in, longer_by, has_separator_rule}
+use Rattle.flat_rules.proofs.Rows.{numbers_next, append_none}
+
+pub map_next : {X : Type 0} (g : ℕ → X) (n : ℕ) → map g (numbers (n + 1)) ≡ map g (numbers n) ++ g n ∷ []
+map_next g n = ap (map g) (numbers_next n) ∙ map-append g (numbers n) (n ∷ [])
+
+pub adds_none : {T : Type 0} (old : List FlatRule) (x : T) → Adds old old [] (Ok x)
+adds_none old x = (sym (append_none old), (λ le. le))
+
+pub adds_two : {T U : Type 0} (old mid new a b : List FlatRule) (x : T) (r : Result U FlatRefusal) → Adds old mid a (Ok x) → Adds mid new b r → Adds old new (a ++ b) r
+adds_two old mid new a b x (Ok y) h k = (k.0 ∙ ap (λ l. l ++ b) h.0 ∙ append_assoc old a b, (λ le. k.1 (h.1 le)))
+adds_two old mid new a b x (Err TooManyRules) h k =
+    let e = ap length h.0 ∙ length-append old a in
+    let f = length-append a b in
+    omega (arith, e, f, k)
+adds_two old mid new a b x (Err NoMemory) h k = tt
+
+-- what comes behind makes no difference to a refusal
+pub adds_err : (T U : Type 0) (old new other a b : List FlatRule) (e : FlatRefusal) → Adds {T = T} old new a (Err e) → Adds {T = U} old other (a ++ b) (Err e)
+adds_err T U old new other a b TooManyRules h = let f = length-append a b in omega (arith, f, h)
+adds_err T U old new other a b NoMemory h = tt
+
+-- a refusal that is handed on
+pub adds_given : (T U : Type 0) (old new other a b : List FlatRule) (e : FlatRefusal) (r : Result U FlatRefusal) → IsErrAnd r (λ x. x ≡ e) → Adds {T = T} old new a (Err e) → Adds {T = U} old other (a ++ b) r
+adds_given T U old new other a b e (Ok x) is h = absurd is
+adds_given T U old new other a b e (Err x) is h = subst (λ z. Adds {T = U} old other (a ++ b) (Err z)) (sym is) (adds_err T U old new other a b e h)
+
+pub adds_to : {T : Type 0} (old new a b : List FlatRule) (r : Result T FlatRefusal) → a ≡ b → Adds old new a r → Adds old new b r
+adds_to old new a b r e h = subst (λ l. Adds old new l r) e h
+
+-- ---- one part after another
+
+part_more : {X : Type 0} (g : X → List FlatRule) (xs : List X) (n : ℕ) (x : X) → n < length xs → x ≡ get_or xs n x → flat_map g (take n xs) ++ g x ≡ flat_map g (take (n + 1) xs)
+part_more g xs n x lt is =
+    let more : take (n + 1) xs ≡ take n xs ++ get_or xs n x ∷ [] = grind (arith, take_more) in
+    sym (ap (flat_map g) (more ∙ ap (λ y. take n xs ++ y ∷ []) (sym is)) ∙ flat_map-append g (take n xs) (x ∷ []) ∙ ap (λ l. flat_map g (take n xs) ++ l) (append_none (g x)))
+
+parts_all : {X : Type 0} (g : X → List FlatRule) (xs : List X) (n : ℕ) → flat_map g (take n xs) ++ flat_map g (drop n xs) ≡ flat_map g xs
+parts_all g xs n = sym (flat_map-append g (take n xs) (drop n xs)) ∙ ap (flat_map g) (take-append-drop n xs)
+
+pub adds_next : {X T U : Type 0} (g : X → List FlatRule) (xs : List X) (n : ℕ) (x : X) (start mid new : List FlatRule) (u : T) (v : U) → n < length xs → x ≡ get_or xs n x →
+    Adds start mid (flat_map g (take n xs)) (Ok u) → Adds mid new (g x) (Ok v) → Adds start new (flat_map g (take (n + 1) xs)) (Ok v)
+adds_next g xs n x start mid new u v lt is h k =
+    adds_to start new (flat_map g (take n xs) ++ g x) (flat_map g (take (n + 1) xs)) (Ok v) (part_more g xs n x lt is) (adds_two start mid new (flat_map g (take n xs)) (g x) u (Ok v) h k)
+
+pub adds_stop : {X T : Type 0} (U V : Type 0) (g : X → List FlatRule) (xs : List X) (n : ℕ) (x : X) (start mid new other : List FlatRule) (u : T) (e : FlatRefusal) → n < length xs → x ≡ get_or xs n x →
+    Adds start mid (flat_map g (take n xs)) (Ok u) → Adds {T = U} mid new (g x) (Err e) → Adds {T = V} start other (flat_map g xs) (Err e)
+adds_stop {X} {T} U V g xs n x start mid new other u e lt is h k =
+    let stop : Adds {T = U} start new (flat_map g (take n xs) ++ g x) (Err e) = adds_two {T = T} {U = U} start mid new (flat_map g (take n xs)) (g x) u (Err e) h k in
+    let more : Adds {T = V} start other ((flat_map g (take n xs) ++ g x) ++ flat_map g (drop (n + 1) xs)) (Err e) = adds_err U V start new other (flat_map g (take n xs) ++ g x) (flat_map g (drop (n + 1) xs)) e stop in
+    adds_to {T = V} start other ((flat_map g (take n xs) ++ g x) ++ flat_map g (drop (n + 1) xs)) (flat_map g xs) (Err e)
+    (ap (λ l. l ++ flat_map g (drop (n + 1) xs)) (part_more g xs n x lt is) ∙ parts_all g xs (n + 1)) more
+
+pub longer_three : (t : Numbering) (i : ℕ) (counts : Bool) (rule : WrittenRule) (list separator item : ℕ) → has_separator_rule rule ≡ true → counts ≡ true → list ≡ number_in t (Sequence i) → separator ≡ part_in t rule 1 → item ≡ part_in t rule 0 →
+    rule_by i list (list ∷ separator ∷ item ∷ []) ∷ [] ≡ longer_by t i counts rule
+longer_three t i counts rule list separator item has so a b e =
+    (λ z. rule_by i (a z) (a z ∷ b z ∷ e z ∷ []) ∷ [])
+    ∙ (λ z. cond (sym has z) (cond (sym so z) (rule_by i (number_in t (Sequence i)) (number_in t (Sequence i) ∷ part_in t rule 1 ∷ part_in t rule 0 ∷ []) ∷ []) []) (rule_by i (number_in t (Sequence i)) (number_in t (Sequence i) ∷ part_in t rule 0 ∷ []) ∷ []))
