@@ -1,6 +1,7 @@
 -- Flat rules that are added, one part of a list after another.
 use Rattle.std.proofs.Common.{◌≡◌, ℕ, zero, suc, ◌+◌, ◌<◌, ◌≤◌, Bool, true, false, cond, List, [], ◌∷◌, ◌++◌, length, map, take, drop, get_or, Result, Ok, Err, refl, sym, ap, ◌∙◌, subst, arith, append_assoc, length-append}
 use Rattle.std.specs.List.{flat_map}
+use Rattle.std.specs.Prelude.{slice_get, Some}
 use Rattle.std.specs.Result.{IsErrAnd}
 use Rattle.std.proofs.lemmas.Grind.{flat_map-append}
 use Rattle.std.proofs.lemmas.List.{map-append, take_more, take-append-drop}
@@ -9,9 +10,11 @@ use Rattle.recognizer_model.specs.Flat.{FlatRule}
 use Rattle.flat_rules.specs.declared.refusal.FlatRefusal.{FlatRefusal}
 use Rattle.flat_rules.specs.declared.refusal.FlatRefusal.TheVariants.{TooManyRules, NoMemory}
 use Rattle.grammar_model.specs.Grammar.{WrittenRule}
-use Rattle.recognizer_model.specs.declared.flat.FlatSymbol.TheVariants.{Sequence}
+use Rattle.recognizer_model.specs.declared.flat.FlatSymbol.TheVariants.{Sequence, Top}
+use Rattle.recognizer_model.proofs.FlatNamed.{map_at, map_length, get_index}
 use Rattle.flat_rules.specs.Tables.{Numbering, number_in}
 use Rattle.flat_rules.specs.Added.{Adds, most_rules, rule_by, part_in, longer_by, has_separator_rule}
+use Rattle.flat_rules.proofs.FlatOf.{numbers_length, numbers_at}
 use Rattle.flat_rules.proofs.Rows.{numbers_next, append_none}
 
 pub map_next : {X : Type 0} (g : ℕ → X) (n : ℕ) → map g (numbers (n + 1)) ≡ map g (numbers n) ++ g n ∷ []
@@ -63,6 +66,46 @@ adds_stop {X} {T} U V g xs n x start mid new other u e lt is h k =
     let more : Adds {T = V} start other ((flat_map g (take n xs) ++ g x) ++ flat_map g (drop (n + 1) xs)) (Err e) = adds_err U V start new other (flat_map g (take n xs) ++ g x) (flat_map g (drop (n + 1) xs)) e stop in
     adds_to {T = V} start other ((flat_map g (take n xs) ++ g x) ++ flat_map g (drop (n + 1) xs)) (flat_map g xs) (Err e)
     (ap (λ l. l ++ flat_map g (drop (n + 1) xs)) (part_more g xs n x lt is) ∙ parts_all g xs (n + 1)) more
+
+-- ---- the steps of a loop
+
+abbrev Done : Type 0
+Done = Unit {0}
+
+pub loop_stop : {X : Type 0} (g : X → List FlatRule) (xs : List X) (n : ℕ) (x : X) (start mid new other : List FlatRule) (e : FlatRefusal) (r : Result Done FlatRefusal) → n < length xs → x ≡ get_or xs n x → IsErrAnd r (λ z. z ≡ e) →
+    Adds {T = Done} start mid (flat_map g (take n xs)) (Ok tt) → Adds {T = Done} mid new (g x) (Err e) → Adds {T = Done} start other (flat_map g xs) r
+loop_stop g xs n x start mid new other e (Ok u) lt is given h k = absurd given
+loop_stop g xs n x start mid new other e (Err z) lt is given h k =
+    subst (λ z. Adds {T = Done} start other (flat_map g xs) (Err z)) (sym given) (adds_stop {T = Done} Done Done g xs n x start mid new other tt e lt is h k)
+
+pub loop_next : {X : Type 0} (g : X → List FlatRule) (xs : List X) (n : ℕ) (x : X) (start mid new : List FlatRule) → n < length xs → x ≡ get_or xs n x →
+    Adds {T = Done} start mid (flat_map g (take n xs)) (Ok tt) → Adds {T = Done} mid new (g x) (Ok tt) → Adds {T = Done} start new (flat_map g (take (n + 1) xs)) (Ok tt)
+loop_next g xs n x start mid new lt is h k = adds_next {T = Done} {U = Done} g xs n x start mid new tt tt lt is h k
+
+pub loop_end : {X : Type 0} (g : X → List FlatRule) (xs : List X) (n : ℕ) (start new : List FlatRule) → length xs ≤ n → Adds {T = Done} start new (flat_map g (take n xs)) (Ok tt) → Adds {T = Done} start new (flat_map g xs) (Ok tt)
+loop_end g xs n start new le h = adds_to {T = Done} start new (flat_map g (take n xs)) (flat_map g xs) (Ok tt) (ap (flat_map g) (all xs n le)) h
+  where
+    all : {X : Type 0} (xs : List X) (n : ℕ) → length xs ≤ n → take n xs ≡ xs
+    all [] zero le = refl
+    all [] (suc n) le = refl
+    all (x ∷ xs) zero le = absurd (omega arith)
+    all (x ∷ xs) (suc n) le = ap (λ l. x ∷ l) (all xs n (omega arith))
+
+-- what stands at a place of a list that is made of another
+pub at_map : {A B : Type 0} (g : A → B) (xs : List A) (k : ℕ) (d : A) → k < length xs → (k < length (map g xs)) × (g (get_or xs k d) ≡ get_or (map g xs) k (g (get_or xs k d)))
+at_map g xs k d lt = let long = map_length g xs in (omega (arith, long, lt), sym (map_at g xs k d (g (get_or xs k d)) lt))
+
+pub at_slot : {A B : Type 0} (g : A → B) (xs : List A) (k : ℕ) (x : A) → slice_get xs k ≡ Some x → (k < length (map g xs)) × (g x ≡ get_or (map g xs) k (g x))
+at_slot g xs k x e =
+    let (lt, is) = get_index xs k x x e in
+    let (less, same) = at_map g xs k x lt in
+    (less, subst (λ y. g y ≡ get_or (map g xs) k (g y)) is same)
+
+pub at_top : (n k : ℕ) → k < n → (k < length (map Top (numbers n))) × (Top k ≡ get_or (map Top (numbers n)) k (Top k))
+at_top n k lt =
+    let count = numbers_length n in
+    let (less, is) = at_map Top (numbers n) k 0 (omega (arith, count, lt)) in
+    (less, subst (λ z. Top z ≡ get_or (map Top (numbers n)) k (Top z)) (numbers_at n k 0 lt) is)
 
 pub longer_three : (t : Numbering) (i : ℕ) (counts : Bool) (rule : WrittenRule) (list separator item : ℕ) → has_separator_rule rule ≡ true → counts ≡ true → list ≡ number_in t (Sequence i) → separator ≡ part_in t rule 1 → item ≡ part_in t rule 0 →
     rule_by i list (list ∷ separator ∷ item ∷ []) ∷ [] ≡ longer_by t i counts rule

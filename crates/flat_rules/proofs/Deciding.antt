@@ -9,7 +9,7 @@ use Rattle.grammar_model.specs.Simple.{is_terminal, numbers}
 use Rattle.grammar_model.proofs.Lists.{Among, among_left, among_map}
 use Rattle.grammar_core.specs.Written.{IsWritten}
 use Rattle.grammar_check.specs.Tested.{HasTests}
-use Rattle.recognizer_model.specs.FlatForm.{IsUsedSlot}
+use Rattle.recognizer_model.specs.FlatForm.{IsUsedSlot, IsSymbolOf}
 use Rattle.recognizer_model.specs.declared.flat.FlatSymbol.{FlatSymbol}
 use Rattle.recognizer_model.specs.declared.flat.FlatSymbol.TheVariants.{Terminal, Slot}
 use Rattle.flat_rules.specs.Flatten
@@ -17,7 +17,7 @@ use Rattle.flat_rules.specs.Flatten.{Decided, levels_of}
 use Rattle.flat_rules.specs.declared.numbering.SlotKey.{SlotKey}
 use Rattle.flat_rules.specs.Tables.{told_slot, slot_at, slots_of_terminals, slots_of_lefts}
 use Rattle.flat_rules.proofs.Once.{Once, once_pairs, among_filter_from}
-use Rattle.flat_rules.proofs.Symbols.{both, both_from, false_of_not, once_symbols}
+use Rattle.flat_rules.proofs.Symbols.{both, both_from, false_of_not, once_symbols, symbol_in}
 use Rattle.flat_rules.proofs.FlatOf.{append_all}
 use Rattle.flat_rules.proofs.Listing.{used_known, productive_rule}
 
@@ -70,11 +70,11 @@ map_twice : {X Y Z : Type 0} (g : Y → Z) (f : X → Y) (xs : List X) → map g
 map_twice g f [] = refl
 map_twice g f (x ∷ xs) = ap (λ l. g (f x) ∷ l) (map_twice g f xs)
 
-map_both : {X Y : Type 0} (f : X → Y) (xs ys : List X) → map f (xs ++ ys) ≡ map f xs ++ map f ys
+pub map_both : {X Y : Type 0} (f : X → Y) (xs ys : List X) → map f (xs ++ ys) ≡ map f xs ++ map f ys
 map_both f [] ys = refl
 map_both f (x ∷ xs) ys = ap (λ l. f x ∷ l) (map_both f xs ys)
 
-map_flat : {X Y : Type 0} (f : X → Y) (g : ℕ → List X) (h : ℕ → List Y) (xs : List ℕ) → ((k : ℕ) → map f (g k) ≡ h k) → map f (flat_map g xs) ≡ flat_map h xs
+pub map_flat : {K X Y : Type 0} (f : X → Y) (g : K → List X) (h : K → List Y) (xs : List K) → ((k : K) → map f (g k) ≡ h k) → map f (flat_map g xs) ≡ flat_map h xs
 map_flat f g h [] same = refl
 map_flat f g h (x ∷ xs) same = map_both f (g x) (flat_map g xs) ∙ (λ i. same x i ++ map_flat f g h xs same i)
 
@@ -111,6 +111,18 @@ module _ (w : Grammar) (d : Decided w) where
   pub once_slots_in : Once slots_in
   once_slots_in =
       once_unmap (Flatten.symbol_for w d) slots_in (once_left (map (Flatten.symbol_for w d) slots_in) (Flatten.lists w d ++ Flatten.tops w d) (subst Once symbols_split (once_symbols w d)))
+
+-- a slot that is numbered is one that counts, of a known symbol
+pub slots_known : (w : Grammar) (d : Decided w) → IsWritten w → (slot : Grammar.Slot) → Among slot (slots_of_terminals w d ++ slots_of_lefts w d) → slot.symbol < length w.names
+slots_known w d written slot m = go (is_terminal w slot.symbol) refl
+  where
+    there : Among (Flatten.symbol_for w d slot) (Flatten.symbols w d)
+    there = subst (Among (Flatten.symbol_for w d slot)) (sym (symbols_split w d))
+        (among_left (Flatten.symbol_for w d slot) (map (Flatten.symbol_for w d) (slots_in w d)) (Flatten.lists w d ++ Flatten.tops w d) (among_map (Flatten.symbol_for w d) slot (slots_in w d) m))
+
+    go : (b : Bool) → is_terminal w slot.symbol ≡ b → slot.symbol < length w.names
+    go true e = let symbol : IsSymbolOf w (Terminal slot.symbol) = subst (IsSymbolOf w) (terminal_symbol w d slot.symbol slot.level e) (symbol_in w d (Flatten.symbol_for w d slot) there) in used_known w written (slot_of slot.symbol) symbol.1
+    go false e = let symbol : IsSymbolOf w (Slot slot.symbol slot.level) = subst (IsSymbolOf w) (left_symbol w d slot.symbol slot.level e) (symbol_in w d (Flatten.symbol_for w d slot) there) in used_known w written slot symbol.1
 
 pub keys_differ : (w : Grammar) (d : Decided w) (keys : List SlotKey) → map told_slot keys ≡ slots_of_terminals w d ++ slots_of_lefts w d → AllPairs (λ x y. x ≢ y) keys
 keys_differ w d keys e = once_pairs keys (once_unmap told_slot keys (subst Once (sym e) (once_slots_in w d)))

@@ -1,4 +1,5 @@
 pub mod Adding
+pub mod Agreeing
 pub mod Arranged
 pub mod Deciding
 pub mod FlatOf
@@ -17,5 +18,6 @@ pub mod Listing
 pub mod Rows
 pub mod Rules
 pub mod SlotRules
+pub mod SymbolRules
 pub mod Symbols
 pub mod Whole

@@ -165,12 +165,15 @@ among_rule w s i m =
 pub no_rules : (w : Grammar) (s : ℕ) → rules_with w s ≡ [] → Grammar.IsTerminal w s
 no_rules w s e i lt is = subst (Among i) e (rule_among w s i lt is)
 
-pub some_rules : (w : Grammar) (s : ℕ) → (rules_with w s ≡ [] → ⊥) → Grammar.IsTerminal w s → ⊥
-some_rules w s more t = more (none (rules_with w s) (λ i m. (let (lt, e) = among_rule w s i m in t i lt e)))
+pub terminal_none : (w : Grammar) (s : ℕ) → Grammar.IsTerminal w s → rules_with w s ≡ []
+terminal_none w s t = none (rules_with w s) (λ i m. (let (lt, e) = among_rule w s i m in t i lt e))
   where
     none : (xs : List ℕ) → ((i : ℕ) → Among i xs → ⊥) → xs ≡ []
     none [] h = refl
     none (x ∷ xs) h = absurd (h x (inl refl))
+
+pub some_rules : (w : Grammar) (s : ℕ) → (rules_with w s ≡ [] → ⊥) → Grammar.IsTerminal w s → ⊥
+some_rules w s more t = more (terminal_none w s t)
 
 module _ (w : Grammar) (d : Decided w) where
   pub terminal_then : (s : ℕ) (r : Bool) → rules_with w s ≡ [] → (r ≡ true) ↔ IsUsedSlot w (slot_at s 0) → r ≡ (is_terminal w s && d.used (slot_of s))
@@ -183,17 +186,10 @@ module _ (w : Grammar) (d : Decided w) where
   pub levels_are : (s room : ℕ) → (rules_with w s ≡ [] → room ≡ 0) → ((i : ℕ) → Among i (rules_with w s) → level_of (rule_at w i) < room) → levels_of w d s ≡ filter (λ k. d.used (slot_at s k)) (numbers room)
   levels_are s room zero_room bound = go (is_terminal w s) refl
     where
-      some : (xs : List ℕ) → (xs ≡ []) ⊎ (xs ≡ [] → ⊥)
-      some [] = inl refl
-      some (x ∷ xs) = inr (λ e. cc)
-
-      none_there : Grammar.IsTerminal w s → rules_with w s ≡ []
-      none_there t = elim (some (rules_with w s)) [ inl e ↦ e | inr more ↦ absurd (some_rules w s more t) ]
-
       go : (b : Bool) → is_terminal w s ≡ b → filter (λ k. not (is_terminal w s) && d.used (slot_at s k)) (numbers d.levels) ≡ filter (λ k. d.used (slot_at s k)) (numbers room)
       go true e =
           filter_none (λ k. not (is_terminal w s) && d.used (slot_at s k)) (numbers d.levels) (λ k t. (let h : (not true && d.used (slot_at s k)) ≡ true = ap (λ b. not b && d.used (slot_at s k)) (sym e) ∙ t in cc))
-          ∙ ap (λ n. filter (λ k. d.used (slot_at s k)) (numbers n)) (sym (zero_room (none_there (terminal_from w s e))))
+          ∙ ap (λ n. filter (λ k. d.used (slot_at s k)) (numbers n)) (sym (zero_room (terminal_none w s (terminal_from w s e))))
       go false e =
           filter_bound (λ k. not (is_terminal w s) && d.used (slot_at s k)) (λ k. d.used (slot_at s k)) d.levels room
           (λ k t. d.below_levels (slot_at s k) ((d.used_is (slot_at s k)).0 (ap (λ b. not b && d.used (slot_at s k)) (sym e) ∙ t)) (no_terminal_from w s e))

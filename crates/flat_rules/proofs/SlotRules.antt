@@ -23,7 +23,7 @@ use Rattle.flat_rules.proofs.Listing.{same_test}
 use Rattle.flat_rules.proofs.Parts.{level_zero}
 use Rattle.flat_rules.proofs.Rules.{live_from, from_live}
 
-abbrev named_by : FlatSymbol → List FlatSymbol → ℕ → NamedRule
+abbrev pub named_by : FlatSymbol → List FlatSymbol → ℕ → NamedRule
 named_by left right i = record { left = left; right = right; source = Written i }
 
 module _ (w : Grammar) (d : Decided w) where

@@ -4,14 +4,16 @@ use Rattle.grammar_model.specs.Grammar.{WrittenRule, Plain, Grammar, rule_at, sl
 use Rattle.grammar_model.specs.Grammar
 use Rattle.grammar_model.specs.Simple.{numbers, part_count}
 use Rattle.recognizer_model.specs.Flat.{FlatRule}
-use Rattle.recognizer_model.specs.declared.flat.FlatSource.TheVariants.{Written}
+use Rattle.recognizer_model.specs.declared.flat.FlatSource.TheVariants.{Written, Top as OfStart}
 use Rattle.flat_rules.specs.declared.refusal.FlatRefusal.{FlatRefusal}
 use Rattle.flat_rules.specs.declared.refusal.FlatRefusal.TheVariants.{TooManyRules, NoMemory}
 use Rattle.flat_rules.specs.Flatten.{Decided, slot_rules, rules_of}
 use Rattle.recognizer_model.specs.declared.flat.FlatSymbol.{FlatSymbol}
 use Rattle.std.specs.List.{flat_map}
+use Rattle.std.specs.declared.vec.Vec.{Vec}
+use Rattle.std.specs.declared.alloc.Global.{Global}
 use Rattle.flat_rules.specs.Tables.{Numbering, number_in, numbered_in, place_of}
-use Rattle.recognizer_model.specs.declared.flat.FlatSymbol.TheVariants.{Sequence}
+use Rattle.recognizer_model.specs.declared.flat.FlatSymbol.TheVariants.{Sequence, Top}
 
 abbrev pub most_rules : ℕ
 most_rules = 65536
@@ -21,6 +23,12 @@ abbrev pub Adds : {T : Type 0} → List FlatRule → List FlatRule → List Flat
 Adds old new more (Ok x) = (new ≡ old ++ more) × (length old ≤ most_rules → length new ≤ most_rules)
 Adds old new more (Err TooManyRules) = most_rules < length old + length more
 Adds old new more (Err NoMemory) = Unit {0}
+
+-- these are all, or they are too many, want of memory aside
+abbrev pub AreAll : List FlatRule → Result (Vec FlatRule Global) FlatRefusal → Type 0
+AreAll all (Ok rules) = (rules.items ≡ all) × (length all ≤ most_rules)
+AreAll all (Err TooManyRules) = most_rules < length all
+AreAll all (Err NoMemory) = Unit {0}
 
 abbrev pub rule_by : ℕ → ℕ → List ℕ → FlatRule
 rule_by i lhs rhs = record { lhs = lhs; rhs = rhs; source = Written i }
@@ -78,3 +86,7 @@ module _ (w : Grammar) (d : Decided w) (t : Numbering) where
 
   abbrev pub from_symbols : List FlatSymbol → List FlatRule
   from_symbols symbols = flat_map (λ x. map (numbered_in t) (rules_of w d x)) symbols
+
+-- the rule of a top
+abbrev pub top_by : Numbering → ℕ → ℕ → FlatRule
+top_by t k start = record { lhs = number_in t (Top k); rhs = place_of t.slots (slot_of start) ∷ []; source = OfStart k }

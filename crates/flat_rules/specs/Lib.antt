@@ -2,3 +2,4 @@ pub mod Flatten
 pub mod Lists
 pub mod Tables
 pub mod Added
+pub mod Flattened

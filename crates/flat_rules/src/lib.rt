@@ -2,10 +2,12 @@
 //! one, with the theorem that it is its flat grammar; the code that makes it is to come.
 #![tactic(auto)]
 
+mod flatten;
 mod lefts;
 mod numbering;
 mod pushing;
 mod refusal;
+
 
 
 pub use refusal::FlatRefusal;

@@ -3,7 +3,7 @@ ghost use Rattle.std.specs.Prelude.{◌≡◌, ◌≢◌, ℕ, ◌+◌, ◌<◌,
 ghost use Rattle.std.specs.List.{AllPairs};
 ghost use Rattle.grammar_model.specs.Grammar.{Slot, rule_at, level_of, slot_of};
 ghost use Rattle.grammar_model.specs.Simple.{is_terminal, numbers};
-ghost use Rattle.recognizer_model.specs.declared.flat.FlatSymbol.TheVariants.{Sequence};
+ghost use Rattle.recognizer_model.specs.declared.flat.FlatSymbol.TheVariants.{Sequence, Top};
 ghost use Rattle.flat_rules.specs.Flatten.{Decided, makes_list};
 ghost use Rattle.flat_rules.specs.Tables.{rows_of, is_sequence_rule, AreLefts, AreLive, told_slot, slot_at, place_of, slots_of_terminals, slots_of_lefts, lists_to, number_in, AreNumbers};
 
@@ -41,7 +41,8 @@ impl Model for Symbols {
     ghost view = { λ s. record { slots = map told_slot s.slots.keys; lists = s.lists.items; before = s.before.items } };
 }
 
-fn has_none(row: &[u32]) -> bool
+/// Whether there are no rules.
+pub fn has_none(row: &[u32]) -> bool
     ensures { IsTrue result ↔ (row.now ≡ []) }
 {
     row.is_empty()
@@ -259,5 +260,13 @@ impl Symbols {
         ensures { result ≡ number_in self.now (Sequence i) }
     {
         self.slots.len() as u32 + self.before[i]
+    }
+
+    /// The number of a start's top.
+    pub fn top_number(&self, k: usize) -> u32
+        requires { length self.now.slots + (length self.now.lists + k) < 2 ^ 32 }
+        ensures { result ≡ number_in self.now (Top k) }
+    {
+        self.slots.len() as u32 + (self.lists.as_slice().len() as u32 + k as u32)
     }
 }

@@ -152,7 +152,8 @@ fn has_live_separator(c: &Checked<'_>, i: usize) -> bool
     has_separator(c.written(), i) && is_child_productive(c, i, 1)
 }
 
-fn copied(alloc: Global, parts: &[u32]) -> Result<Vec<u32>, AllocError>
+/// The numbers, as a list of their own.
+pub fn copied(alloc: Global, parts: &[u32]) -> Result<Vec<u32>, AllocError>
     ensures { IfOk result (λ all. all.items ≡ parts.now) }
 {
     let mut all = Vec::new(alloc);
@@ -236,8 +237,8 @@ fn push_longer(
     push_these(alloc, rules, i, list, &[list, separator, item])
 }
 
-// The rules of a list.
-fn push_items(
+/// The rules of a list.
+pub fn push_items(
     alloc: Global,
     c: &Checked<'_>,
     symbols: &Symbols,
@@ -266,8 +267,8 @@ fn makes_rules(c: &Checked<'_>, live: &[bool], level: u32, i: usize) -> bool
     live[i] && level <= level_at(c.written(), i)
 }
 
-// The rules of a slot that come from a rule of its symbol.
-fn push_for_slot(
+/// The rules of a slot that come from a rule of its symbol.
+pub fn push_for_slot(
     alloc: Global,
     c: &Checked<'_>,
     symbols: &Symbols,
