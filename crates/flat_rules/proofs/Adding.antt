@@ -1,6 +1,8 @@
 -- Flat rules that are added, one part of a list after another.
 use Rattle.std.proofs.Common.{◌≡◌, ℕ, zero, suc, ◌+◌, ◌<◌, ◌≤◌, Bool, true, false, cond, List, [], ◌∷◌, ◌++◌, length, map, take, drop, get_or, Result, Ok, Err, refl, sym, ap, ◌∙◌, subst, arith, append_assoc, length-append}
 use Rattle.std.specs.List.{flat_map}
+use Rattle.std.specs.declared.vec.Vec.{Vec}
+use Rattle.std.specs.declared.alloc.Global.{Global}
 use Rattle.std.specs.Prelude.{slice_get, Some}
 use Rattle.std.specs.Result.{IsErrAnd}
 use Rattle.std.proofs.lemmas.Grind.{flat_map-append}
@@ -13,7 +15,7 @@ use Rattle.grammar_model.specs.Grammar.{WrittenRule}
 use Rattle.recognizer_model.specs.declared.flat.FlatSymbol.TheVariants.{Sequence, Top}
 use Rattle.recognizer_model.proofs.FlatNamed.{map_at, map_length, get_index}
 use Rattle.flat_rules.specs.Tables.{Numbering, number_in}
-use Rattle.flat_rules.specs.Added.{Adds, most_rules, rule_by, part_in, longer_by, has_separator_rule}
+use Rattle.flat_rules.specs.Added.{Adds, AreAll, most_rules, rule_by, part_in, longer_by, has_separator_rule}
 use Rattle.flat_rules.proofs.FlatOf.{numbers_length, numbers_at}
 use Rattle.flat_rules.proofs.Rows.{numbers_next, append_none}
 
@@ -82,18 +84,46 @@ pub loop_next : {X : Type 0} (g : X → List FlatRule) (xs : List X) (n : ℕ) (
     Adds {T = Done} start mid (flat_map g (take n xs)) (Ok tt) → Adds {T = Done} mid new (g x) (Ok tt) → Adds {T = Done} start new (flat_map g (take (n + 1) xs)) (Ok tt)
 loop_next g xs n x start mid new lt is h k = adds_next {T = Done} {U = Done} g xs n x start mid new tt tt lt is h k
 
-pub loop_end : {X : Type 0} (g : X → List FlatRule) (xs : List X) (n : ℕ) (start new : List FlatRule) → length xs ≤ n → Adds {T = Done} start new (flat_map g (take n xs)) (Ok tt) → Adds {T = Done} start new (flat_map g xs) (Ok tt)
-loop_end g xs n start new le h = adds_to {T = Done} start new (flat_map g (take n xs)) (flat_map g xs) (Ok tt) (ap (flat_map g) (all xs n le)) h
-  where
-    all : {X : Type 0} (xs : List X) (n : ℕ) → length xs ≤ n → take n xs ≡ xs
-    all [] zero le = refl
-    all [] (suc n) le = refl
-    all (x ∷ xs) zero le = absurd (omega arith)
-    all (x ∷ xs) (suc n) le = ap (λ l. x ∷ l) (all xs n (omega arith))
+pub take_all : {X : Type 0} (xs : List X) (n : ℕ) → length xs ≤ n → take n xs ≡ xs
+take_all [] zero le = refl
+take_all [] (suc n) le = refl
+take_all (x ∷ xs) zero le = absurd (omega arith)
+take_all (x ∷ xs) (suc n) le = ap (λ l. x ∷ l) (take_all xs n (omega arith))
 
+pub loop_end : {X : Type 0} (g : X → List FlatRule) (xs : List X) (n : ℕ) (start new : List FlatRule) → length xs ≤ n → Adds {T = Done} start new (flat_map g (take n xs)) (Ok tt) → Adds {T = Done} start new (flat_map g xs) (Ok tt)
+loop_end g xs n start new le h = adds_to {T = Done} start new (flat_map g (take n xs)) (flat_map g xs) (Ok tt) (ap (flat_map g) (take_all xs n le)) h
 -- what stands at a place of a list that is made of another
 pub at_map : {A B : Type 0} (g : A → B) (xs : List A) (k : ℕ) (d : A) → k < length xs → (k < length (map g xs)) × (g (get_or xs k d) ≡ get_or (map g xs) k (g (get_or xs k d)))
 at_map g xs k d lt = let long = map_length g xs in (omega (arith, long, lt), sym (map_at g xs k d (g (get_or xs k d)) lt))
+
+pub take_step : {A B : Type 0} (g : A → B) (xs : List A) (n : ℕ) (x : A) (y : B) (start old new : List B) → n < length xs → x ≡ get_or xs n x → old ≡ start ++ map g (take n xs) → new ≡ old ++ y ∷ [] → y ≡ g x → new ≡ start ++ map g (take (n + 1) xs)
+take_step g xs n x y start old new lt is h e same =
+    let more : take (n + 1) xs ≡ take n xs ++ get_or xs n x ∷ [] = grind (arith, take_more) in
+    e ∙ (λ i. h i ++ same i ∷ []) ∙ append_assoc start (map g (take n xs)) (g x ∷ [])
+    ∙ ap (λ l. start ++ l) (sym (map-append g (take n xs) (x ∷ [])) ∙ ap (λ z. map g (take n xs ++ z ∷ [])) is ∙ ap (map g) (sym more))
+
+pub numbers_step : {B : Type 0} (g : ℕ → B) (n : ℕ) (y : B) (start old new : List B) → old ≡ start ++ map g (numbers n) → new ≡ old ++ y ∷ [] → y ≡ g n → new ≡ start ++ map g (numbers (n + 1))
+numbers_step g n y start old new h e same = e ∙ (λ i. h i ++ same i ∷ []) ∙ append_assoc start (map g (numbers n)) (g n ∷ []) ∙ ap (λ l. start ++ l) (sym (map_next g n))
+
+-- ---- all of them
+
+pub all_err : (T : Type 0) (start new a b all : List FlatRule) (e : FlatRefusal) (r : Result (Vec FlatRule Global) FlatRefusal) → start ≡ [] → all ≡ a ++ b → IsErrAnd r (λ z. z ≡ e) → Adds {T = T} start new a (Err e) → AreAll all r
+all_err T start new a b all e (Ok v) none is given h = absurd given
+all_err T start new a b all e (Err z) none is given h = go e z given h
+  where
+    go : (e z : FlatRefusal) → z ≡ e → Adds {T = T} start new a (Err e) → AreAll all (Err z)
+    go e TooManyRules same h =
+        let many : Adds {T = T} start new a (Err TooManyRules) = subst (λ x. Adds {T = T} start new a (Err x)) (sym same) h in
+        let long = ap length is ∙ length-append a b in
+        let empty = ap length none in
+        omega (arith, many, long, empty)
+    go e NoMemory same h = tt
+
+pub all_ok : {T : Type 0} (start new a all : List FlatRule) (x : T) → start ≡ [] → all ≡ a → Adds start new a (Ok x) → (new ≡ all) × (length all ≤ most_rules)
+all_ok start new a all x none is h =
+    let same : new ≡ all = h.0 ∙ ap (λ l. l ++ a) none ∙ sym is in
+    let empty = ap length none in
+    (same, subst (λ l. length l ≤ most_rules) same (h.1 (omega (arith, empty))))
 
 pub at_slot : {A B : Type 0} (g : A → B) (xs : List A) (k : ℕ) (x : A) → slice_get xs k ≡ Some x → (k < length (map g xs)) × (g x ≡ get_or (map g xs) k (g x))
 at_slot g xs k x e =

@@ -66,7 +66,7 @@ map_filter f g p xs same = go (filter p xs) (λ k m. same k (among_filter_from p
     go [] h = refl
     go (y ∷ ys) h = λ i. h y (inl refl) i ∷ go ys (λ k m. h k (inr m)) i
 
-map_twice : {X Y Z : Type 0} (g : Y → Z) (f : X → Y) (xs : List X) → map g (map f xs) ≡ map (λ x. g (f x)) xs
+pub map_twice : {X Y Z : Type 0} (g : Y → Z) (f : X → Y) (xs : List X) → map g (map f xs) ≡ map (λ x. g (f x)) xs
 map_twice g f [] = refl
 map_twice g f (x ∷ xs) = ap (λ l. g (f x) ∷ l) (map_twice g f xs)
 

@@ -1,24 +1,26 @@
 -- The rules of each symbol, by the numbers of their symbols.
 use Rattle.std.proofs.Common.{◌≡◌, ℕ, ◌<◌, Bool, true, false, cond, List, [], ◌∷◌, ◌++◌, length, map, get_or, Option, Some, None, inl, inr, refl, sym, ap, ◌∙◌, subst, true≢false, arith}
-use Rattle.std.specs.Prelude.{◌&&◌, ◌==◌, filter, nat_lt, nat_le, slice_index, slice_get, is_some}
+use Rattle.std.specs.Prelude.{◌&&◌, ◌==◌, ◌↔◌, filter, nat_lt, nat_le, slice_index, slice_get, is_some}
 use Rattle.std.specs.List.{flat_map}
 use Rattle.std.proofs.lemmas.List.{map-append}
 use Rattle.grammar_model.specs.Grammar.{SequenceRule, WrittenRule, Plain, Grammar, rule_at, slot_of, sequence_symbol}
 use Rattle.grammar_model.specs.Grammar
 use Rattle.grammar_model.specs.Simple.{is_terminal, numbers}
-use Rattle.grammar_model.proofs.Simple.{terminal_from}
+use Rattle.grammar_model.proofs.Simple.{terminal_from, no_terminal_from}
 use Rattle.grammar_model.proofs.Lists.{Among}
 use Rattle.recognizer_model.specs.Flat.{FlatRule}
 use Rattle.recognizer_model.specs.declared.flat.FlatSymbol.{FlatSymbol}
 use Rattle.recognizer_model.specs.declared.flat.FlatSymbol.TheVariants.{Terminal, Slot, Sequence, Top}
-use Rattle.recognizer_model.proofs.FlatNamed.{among_at}
+use Rattle.recognizer_model.proofs.FlatNamed.{among_at, get_index}
 use Rattle.flat_rules.specs.Flatten
 use Rattle.flat_rules.specs.Flatten.{Decided}
 use Rattle.flat_rules.specs.Tables.{Numbering, number_in, numbered_in, place_of, slot_at, is_sequence_rule, rules_with, lists_to, rows_of, AreLefts, slots_of_terminals, slots_of_lefts}
 use Rattle.flat_rules.specs.Added.{rule_by, part_in, longer_by, items_by, top_by, from_rule, from_rules, separator_counts, counts_separator}
 use Rattle.flat_rules.proofs.Once.{among_filter_from, among_numbers_from}
 use Rattle.flat_rules.proofs.Deciding.{slots_known, map_flat, terminal_symbol, left_symbol}
-use Rattle.flat_rules.proofs.Listing.{terminal_none}
+use Rattle.flat_rules.proofs.Listing.{terminal_none, no_rules, same_test}
+use Rattle.grammar_model.specs.Analysis.{IsNullable}
+use Rattle.grammar_model.proofs.Total.{nullable_not_terminal}
 use Rattle.flat_rules.proofs.SlotRules.{named_by, number_flat}
 use Rattle.std.specs.declared.vec.Vec.{Vec}
 use Rattle.std.specs.declared.alloc.Global.{Global}
@@ -108,3 +110,29 @@ row_of_slot w d slots x slot rows row written are at lefts is =
     let long = rows_length rows in
     let lt : slot.symbol < length rows = omega (arith, known, long, lefts.sized) in
     (lt, row_is rows slot.symbol row lt is ∙ lefts.each slot.symbol known)
+
+-- ---- the symbol of a slot, and its mark
+
+pub symbol_told : (w : Grammar) (d : Decided w) (slot : Grammar.Slot) (row : List ℕ) (r : FlatSymbol) → row ≡ rules_with w slot.symbol → (row ≡ [] → r ≡ Terminal slot.symbol) → ((row ≡ [] → ⊥) → r ≡ Slot slot.symbol slot.level) →
+    r ≡ Flatten.symbol_for w d slot
+symbol_told w d slot row r e terminal left = go (is_terminal w slot.symbol) refl
+  where
+    go : (b : Bool) → is_terminal w slot.symbol ≡ b → r ≡ Flatten.symbol_for w d slot
+    go true t = terminal (e ∙ terminal_none w slot.symbol (terminal_from w slot.symbol t)) ∙ sym (terminal_symbol w d slot.symbol slot.level t)
+    go false f = left (λ none. no_terminal_from w slot.symbol f (no_rules w slot.symbol (sym e ∙ none))) ∙ sym (left_symbol w d slot.symbol slot.level f)
+
+pub mark_told : (w : Grammar) (d : Decided w) (slot : Grammar.Slot) (r : Bool) → (r ≡ true) ↔ IsNullable w slot → r ≡ Flatten.is_marked w d (Flatten.symbol_for w d slot)
+mark_told w d slot r is = go (is_terminal w slot.symbol) refl
+  where
+    none : (r : Bool) → (r ≡ true → ⊥) → r ≡ false
+    none true never = absurd (never refl)
+    none false never = refl
+
+    go : (b : Bool) → is_terminal w slot.symbol ≡ b → r ≡ Flatten.is_marked w d (Flatten.symbol_for w d slot)
+    go true t = none r (λ e. nullable_not_terminal w slot (is.0 e) (terminal_from w slot.symbol t)) ∙ ap (Flatten.is_marked w d) (sym (terminal_symbol w d slot.symbol slot.level t))
+    go false f = same_test r (d.nullable slot) (IsNullable w slot) is (d.nullable_is slot) ∙ ap (Flatten.is_marked w d) (sym (left_symbol w d slot.symbol slot.level f))
+
+pub top_told : (w w' : Grammar) (d : Decided w) (k start : ℕ) (r : Bool) → w' ≡ w → slice_get w'.starts k ≡ Some start → (r ≡ true) ↔ IsNullable w (slot_of start) → r ≡ Flatten.is_marked w d (Top k)
+top_told w w' d k start r e at is =
+    let here : slice_index w.starts k ≡ start = (get_index w.starts k _ start (ap (λ (g : Grammar). slice_get g.starts k) (sym e) ∙ at)).1 in
+    same_test r (d.nullable (slot_of start)) (IsNullable w (slot_of start)) is (d.nullable_is (slot_of start)) ∙ ap (λ s. d.nullable (slot_of s)) (sym here)

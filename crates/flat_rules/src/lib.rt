@@ -2,7 +2,7 @@
 //! one, with the theorem that it is its flat grammar; the code that makes it is to come.
 #![tactic(auto)]
 
-mod flatten;
+mod flattening;
 mod lefts;
 mod numbering;
 mod pushing;
@@ -10,6 +10,7 @@ mod refusal;
 
 
 
+pub use flattening::flatten;
 pub use refusal::FlatRefusal;
 
 ghost use Rattle.flat_rules.specs.Flatten.{FlatGrammarsExist};

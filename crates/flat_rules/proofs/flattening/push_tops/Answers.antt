@@ -11,7 +11,7 @@ use Rattle.flat_rules.specs.Added.{top_by}
 use Rattle.flat_rules.proofs.Adding.{adds_to, loop_stop, loop_next, loop_end, at_top}
 use Rattle.flat_rules.proofs.FlatOf.{numbers_length}
 use Rattle.flat_rules.proofs.SymbolRules.{top_of}
-use Rattle.flat_rules.proofs.flatten.push_tops.Goals as goal
+use Rattle.flat_rules.proofs.flattening.push_tops.Goals as goal
 
 pub returns-in_err-push_top : goal.returns-in_err-push_top
 returns-in_err-push_top c = λ d.

@@ -3,7 +3,7 @@ use Rattle.std.proofs.lemmas.List.{get_or_default}
 use Rattle.flat_rules.specs.Tables.{told_slot}
 use Rattle.flat_rules.specs.Added.{from_rule}
 use Rattle.flat_rules.proofs.Adding.{loop_stop, loop_next, loop_end}
-use Rattle.flat_rules.proofs.flatten.push_row.Goals as goal
+use Rattle.flat_rules.proofs.flattening.push_row.Goals as goal
 
 pub push_for_slot-requires-clause-rule : goal.push_for_slot-requires-clause-rule
 push_for_slot-requires-clause-rule c = (c.requires.row _ (c.loop-i.i-index, c.loop-i-test.true, get_or_default c.args.row.now c.loop-i.i-index _ 0 c.loop-i-test.true)).0

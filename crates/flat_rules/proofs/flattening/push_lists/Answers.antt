@@ -11,7 +11,7 @@ use Rattle.flat_rules.specs.Added.{from_symbols, items_by, counts_separator}
 use Rattle.flat_rules.proofs.Adding.{adds_to, loop_stop, loop_next, loop_end, at_map}
 use Rattle.flat_rules.proofs.Deciding.{decided_of}
 use Rattle.flat_rules.proofs.SymbolRules.{lists_known, items_of}
-use Rattle.flat_rules.proofs.flatten.push_lists.Goals as goal
+use Rattle.flat_rules.proofs.flattening.push_lists.Goals as goal
 
 pub push_items-requires-clause-rule : goal.push_items-requires-clause-rule
 push_items-requires-clause-rule c =

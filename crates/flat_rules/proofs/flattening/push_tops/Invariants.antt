@@ -4,7 +4,7 @@ use Rattle.recognizer_model.specs.declared.flat.FlatSymbol.TheVariants.{Sequence
 use Rattle.flat_rules.specs.Flatten.{Decided, symbol_for}
 use Rattle.flat_rules.specs.Tables.{told_slot}
 use Rattle.flat_rules.specs.Added.{Adds, from_rules, from_symbols}
-use Rattle.flat_rules.proofs.flatten.push_row.Given as goal
+use Rattle.flat_rules.proofs.flattening.push_tops.Given as goal
 
-abbrev pub invariant-loop-i : goal.invariant-loop-i
-invariant-loop-i l = (d : Decided l.c) → Adds {T = Unit {0}} l.initial.rules.items l.rules.items (from_rules l.c d l.symbols (told_slot l.slot) (take l.i-index l.row)) (Ok tt)
+abbrev pub invariant-loop-k : goal.invariant-loop-k
+invariant-loop-k l = (d : Decided l.w) → Adds {T = Unit {0}} l.initial.rules.items l.rules.items (from_symbols l.w d l.symbols (take l.k (map Top (numbers (length l.w.starts))))) (Ok tt)

@@ -14,7 +14,7 @@ use Rattle.flat_rules.proofs.Listing.{among_rule}
 use Rattle.flat_rules.proofs.Named.{get_among}
 use Rattle.flat_rules.proofs.Rows.{row_is, rows_length}
 use Rattle.flat_rules.proofs.SymbolRules.{row_rules, row_of_slot}
-use Rattle.flat_rules.proofs.flatten.push_slots.Goals as goal
+use Rattle.flat_rules.proofs.flattening.push_slots.Goals as goal
 
 pub bounds-rows-slot : goal.bounds-rows-slot
 bounds-rows-slot c =

@@ -4,15 +4,17 @@ ghost use Rattle.grammar_model.specs.Grammar.{Plain, rule_at, lhs_of, slot_of};
 ghost use Rattle.grammar_model.specs.Simple.{numbers};
 ghost use Rattle.recognizer_model.specs.declared.flat.FlatSymbol.TheVariants.{Terminal, Slot, Sequence, Top};
 ghost use Rattle.flat_rules.specs.declared.refusal.FlatRefusal.TheVariants.{TooManyRules};
-ghost use Rattle.flat_rules.specs.Flatten.{Decided, symbol_for, is_marked, flat_of};
+ghost use Rattle.flat_rules.specs.Flatten.{Decided, symbol_for, is_marked, flat_of, symbols as symbols_of};
 ghost use Rattle.flat_rules.specs.Tables.{rows_of, row_at, AreLefts, AreLive, AreNumbers, told_slot};
-ghost use Rattle.flat_rules.specs.Added.{Adds, AreAll, from_rules, from_symbols, top_by};
+ghost use Rattle.flat_rules.specs.Flattened.{IsFlattened, HasTooMany};
+ghost use Rattle.flat_rules.specs.Added.{Adds, AreAll, most_rules, from_rules, from_symbols, top_by};
 
 use crate::FlatRefusal;
-use crate::numbering::{SlotKey, Symbols, has_none};
+use crate::lefts::{live_rules, rules_by_left};
+use crate::numbering::{SlotKey, Symbols, has_none, symbols_of};
 use crate::pushing::{copied, push_for_slot, push_items, push_rule};
 use grammar_check::Checked;
-use grammar_core::{RuleId, SymbolId, Written};
+use grammar_core::{Flat, FlatParts, RuleId, SymbolId, Written};
 use recognizer_model::{FlatRule, FlatSource, FlatSymbol};
 use std::alloc::{AllocError, AllocFailed, Global};
 
@@ -221,4 +223,60 @@ fn flat_rules(
     push_lists(alloc, c, symbols, &mut rules)?;
     push_tops(alloc, c.written(), symbols, &mut rules)?;
     Ok(rules)
+}
+
+// The symbols, and whether they are nullable.
+fn flat_symbols(
+    alloc: Global,
+    c: &Checked<'_>,
+    symbols: &Symbols,
+    rows: &[Vec<u32>],
+) -> Result<(Vec<FlatSymbol>, Vec<bool>), AllocError>
+    requires rows { AreLefts c.now (rows_of rows.now) }
+    requires numbers { AreNumbers c.now symbols.now }
+    ensures list { IfOk result (λ r. (d : Decided c.now) → r.0.items ≡ symbols_of c.now d) }
+    ensures marks { IfOk result (λ r. (d : Decided c.now) → r.1.items ≡ map (is_marked c.now d) (symbols_of c.now d)) }
+{
+    let mut list = Vec::new(alloc);
+    let mut marks = Vec::new(alloc);
+    list_slots(c, symbols, rows, &mut list, &mut marks)?;
+    list_lists(symbols, &mut list, &mut marks)?;
+    list_tops(c, &mut list, &mut marks)?;
+    Ok((list, marks))
+}
+
+// The parts of the flat grammar.
+fn parts_of(alloc: Global, c: &Checked<'_>) -> Result<FlatParts, FlatRefusal>
+    ensures flat { IfOk result (λ parts. (d : Decided c.now) → parts ≡ flat_of c.now d) }
+    ensures few { IfOk result (λ parts. length parts.rules ≤ most_rules) }
+    ensures many { IfErr result (λ e. e ≡ TooManyRules → (d : Decided c.now) → most_rules < length (flat_of c.now d).rules) }
+{
+    c.tested();
+    c.known();
+    let w = c.written();
+    let starts = w.start_count();
+    let rows = rules_by_left(alloc, w)?;
+    let live = live_rules(alloc, c)?;
+    let symbols = symbols_of(alloc, c, &rows, &live)?;
+    let rules = flat_rules(alloc, c, &symbols, &rows, &live)?;
+    let tops = top_rules(alloc, rules.len() - starts, starts)?;
+    let (list, marks) = flat_symbols(alloc, c, &symbols, &rows)?;
+    Ok(FlatParts {
+        symbols: list,
+        nullable: marks,
+        rules,
+        tops,
+    })
+}
+
+/// The flat grammar of a checked one.
+pub fn flatten(alloc: Global, c: &Checked<'_>) -> Result<Flat, FlatRefusal>
+    ensures flat { IfOk result (λ f. IsFlattened c.now f) }
+    ensures many { IfErr result (λ e. e ≡ TooManyRules → HasTooMany c.now) }
+{
+    c.tested();
+    c.known();
+    let _ = c.written().rule_count();
+    let parts = parts_of(alloc, c)?;
+    Ok(Flat::from_parts(parts))
 }

@@ -4,7 +4,7 @@ use Rattle.recognizer_model.specs.declared.flat.FlatSymbol.TheVariants.{Sequence
 use Rattle.flat_rules.specs.Flatten.{Decided, symbol_for}
 use Rattle.flat_rules.specs.Tables.{told_slot}
 use Rattle.flat_rules.specs.Added.{Adds, from_rules, from_symbols}
-use Rattle.flat_rules.proofs.flatten.push_lists.Given as goal
+use Rattle.flat_rules.proofs.flattening.push_row.Given as goal
 
 abbrev pub invariant-loop-i : goal.invariant-loop-i
-invariant-loop-i l = (d : Decided l.c) → Adds {T = Unit {0}} l.initial.rules.items l.rules.items (from_symbols l.c d l.symbols (take l.i-index (map Sequence l.lists))) (Ok tt)
+invariant-loop-i l = (d : Decided l.c) → Adds {T = Unit {0}} l.initial.rules.items l.rules.items (from_rules l.c d l.symbols (told_slot l.slot) (take l.i-index l.row)) (Ok tt)

@@ -1,0 +1,11 @@
+use Rattle.std.proofs.Common.{◌≡◌, ℕ, ◌+◌, ◌++◌, map, take, false}
+use Rattle.grammar_model.specs.Simple.{numbers}
+use Rattle.recognizer_model.specs.declared.flat.FlatSymbol.TheVariants.{Sequence, Top}
+use Rattle.flat_rules.specs.Flatten.{Decided, symbol_for, is_marked}
+use Rattle.flat_rules.proofs.flattening.list_lists.Given as goal
+
+abbrev pub invariant-loop-i : goal.invariant-loop-i
+invariant-loop-i l = record {
+  list : l.list.items ≡ l.initial.list.items ++ map Sequence (take l.i-index l.lists);
+  marks : l.marks.items ≡ l.initial.marks.items ++ map (λ i. false) (take l.i-index l.lists);
+}
