@@ -1,5 +1,5 @@
 -- Flat rules that are added, one part of a list after another.
-use Rattle.std.proofs.Common.{◌≡◌, ℕ, zero, suc, ◌+◌, ◌<◌, ◌≤◌, Bool, true, false, cond, List, [], ◌∷◌, ◌++◌, length, map, take, drop, get_or, Result, Ok, Err, refl, sym, ap, ◌∙◌, subst, arith, append_assoc, length-append}
+use Rattle.std.proofs.Common.{◌≡◌, ℕ, zero, suc, ◌+◌, ◌<◌, ◌≤◌, Bool, true, cond, List, [], ◌∷◌, ◌++◌, length, map, take, drop, get_or, Result, Ok, Err, refl, sym, ap, ◌∙◌, subst, arith, append_assoc, length-append}
 use Rattle.std.specs.List.{flat_map}
 use Rattle.std.specs.declared.vec.Vec.{Vec}
 use Rattle.std.specs.declared.alloc.Global.{Global}
@@ -92,6 +92,7 @@ take_all (x ∷ xs) (suc n) le = ap (λ l. x ∷ l) (take_all xs n (omega arith)
 
 pub loop_end : {X : Type 0} (g : X → List FlatRule) (xs : List X) (n : ℕ) (start new : List FlatRule) → length xs ≤ n → Adds {T = Done} start new (flat_map g (take n xs)) (Ok tt) → Adds {T = Done} start new (flat_map g xs) (Ok tt)
 loop_end g xs n start new le h = adds_to {T = Done} start new (flat_map g (take n xs)) (flat_map g xs) (Ok tt) (ap (flat_map g) (take_all xs n le)) h
+
 -- what stands at a place of a list that is made of another
 pub at_map : {A B : Type 0} (g : A → B) (xs : List A) (k : ℕ) (d : A) → k < length xs → (k < length (map g xs)) × (g (get_or xs k d) ≡ get_or (map g xs) k (g (get_or xs k d)))
 at_map g xs k d lt = let long = map_length g xs in (omega (arith, long, lt), sym (map_at g xs k d (g (get_or xs k d)) lt))

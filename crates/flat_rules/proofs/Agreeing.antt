@@ -1,6 +1,6 @@
 -- The numbers of symbols are their places, so flat rules by these numbers are those of the flat grammar.
-use Rattle.std.proofs.Common.{◌≡◌, ℕ, zero, suc, ◌+◌, ◌<◌, ◌≤◌, Bool, true, false, not, cond, List, [], ◌∷◌, ◌++◌, length, map, ◌⊎◌, Option, Some, None, inl, inr, refl, sym, ap, ◌∙◌, subst, arith, true≢false}
-use Rattle.std.specs.Prelude.{◌&&◌, ◌==◌, filter, nat_lt, slice_get, slice_index, unwrap_or}
+use Rattle.std.proofs.Common.{◌≡◌, ℕ, zero, suc, ◌+◌, ◌<◌, ◌≤◌, Bool, true, false, not, cond, List, [], ◌∷◌, ◌++◌, length, map, ◌⊎◌, Some, None, inl, inr, refl, sym, ap, ◌∙◌, subst, arith, true≢false, append_assoc, length-append, ◌-◌, ◌^◌, Result, Ok, Err}
+use Rattle.std.specs.Prelude.{◌&&◌, ◌==◌, filter, slice_get, unwrap_or}
 use Rattle.std.specs.List.{flat_map, position_or_len}
 use Rattle.std.proofs.lemmas.Bool.{and_parts, eqb-true, eq-eqb, lt-ltb, cases_lt}
 use Rattle.std.proofs.lemmas.Grind.{flat_map-append}
@@ -13,20 +13,24 @@ use Rattle.grammar_model.proofs.Lists.{Among, among_left, among_right, among_map
 use Rattle.recognizer_model.specs.Flat.{FlatRule}
 use Rattle.recognizer_model.specs.declared.flat.FlatSymbol.{FlatSymbol}
 use Rattle.recognizer_model.specs.declared.flat.FlatSymbol.TheVariants.{Terminal, Slot, Sequence, Top}
-use Rattle.recognizer_model.specs.FlatForm.{IsUsedSlot, IsSymbolOf, NamedRule, IsRuleOf}
+use Rattle.recognizer_model.specs.FlatForm.{IsUsedSlot, IsSymbolOf, NamedRule}
 use Rattle.flat_rules.specs.Flatten
 use Rattle.flat_rules.specs.Flatten.{Decided, levels_of}
 use Rattle.flat_rules.specs.Tables.{Numbering, number_in, numbered_in, place_of, slot_at, same_slot, slots_of_terminals, slots_of_lefts, lists_to, AreNumbers}
-use Rattle.flat_rules.specs.Added.{from_symbols}
+use Rattle.flat_rules.specs.Added.{from_symbols, AreAll, most_rules}
+use Rattle.flat_rules.specs.Flattened.{HasTooMany}
+use Rattle.flat_rules.specs.declared.refusal.FlatRefusal.{FlatRefusal}
+use Rattle.flat_rules.specs.declared.refusal.FlatRefusal.TheVariants.{TooManyRules}
+use Rattle.std.specs.Result.{IsErrAnd, IfErr}
+use Rattle.grammar_core.specs.Written.{IsWritten, IsLevelled}
 use Rattle.flat_rules.proofs.Once.{among_filter, among_numbers}
 use Rattle.flat_rules.proofs.Symbols.{both, not_of_false, terminal_no, all_lists}
 use Rattle.flat_rules.proofs.Rules.{named_in}
 use Rattle.flat_rules.proofs.Parts.{parts_are}
-use Rattle.flat_rules.proofs.FlatOf.{numbers_length, numbers_at}
+use Rattle.flat_rules.proofs.FlatOf.{numbers_length, numbers_at, rules_length, split as named_split, front as named_front, top_made}
 use Rattle.flat_rules.proofs.Named.{at_number, get_mapped}
 use Rattle.flat_rules.proofs.Listing.{filter_keep, filter_drop}
-use Rattle.flat_rules.proofs.Rows.{numbers_next}
-use Rattle.flat_rules.proofs.Deciding.{map_flat, slots_in, symbols_split, terminal_symbol, left_symbol}
+use Rattle.flat_rules.proofs.Deciding.{map_flat, map_twice, map_both, slots_in, symbols_split, terminal_symbol, left_symbol}
 use Rattle.recognizer_model.proofs.FlatNamed.{index_get}
 
 -- ---- places
@@ -179,3 +183,72 @@ module _ (w : Grammar) (d : Decided w) (t : Numbering) (are : AreNumbers w t) wh
       ∙ ap (λ l. from_symbols w d t front ++ l) (sym (flat_map-append g (Flatten.lists w d) (Flatten.tops w d)))
       ∙ sym (flat_map-append g front behind) ∙ ap (flat_map g) (sym split)
       ∙ sym (map_flat (numbered_in t) (Flatten.rules_of w d) g (Flatten.symbols w d) (λ x. refl))
+
+  -- ---- the parts of the flat grammar
+
+  listed_as : (front ++ map Sequence t.lists) ++ map Top (numbers (length w.starts)) ≡ Flatten.symbols w d
+  listed_as = append_assoc front (map Sequence t.lists) (Flatten.tops w d) ∙ ap (λ l. front ++ (map Sequence l ++ Flatten.tops w d)) (are.lists d) ∙ sym split
+
+  pub listed_symbols : (none slots lists all : List FlatSymbol) → none ≡ [] → slots ≡ none ++ front → lists ≡ slots ++ map Sequence t.lists → all ≡ lists ++ map Top (numbers (length w.starts)) → all ≡ Flatten.symbols w d
+  listed_symbols none slots lists all e a b c =
+      c ∙ ap (λ l. l ++ Flatten.tops w d) (b ∙ ap (λ l. l ++ map Sequence t.lists) (a ∙ ap (λ l. l ++ front) e)) ∙ listed_as
+
+  pub listed_marks : (none slots lists all : List Bool) → none ≡ [] → slots ≡ none ++ map (Flatten.is_marked w d) front → lists ≡ slots ++ map (λ i. false) t.lists →
+      all ≡ lists ++ map (Flatten.is_marked w d) (map Top (numbers (length w.starts))) → all ≡ map (Flatten.is_marked w d) (Flatten.symbols w d)
+  listed_marks none slots lists all e a b c =
+      let m : FlatSymbol → Bool = Flatten.is_marked w d in
+      c ∙ ap (λ l. l ++ map m (Flatten.tops w d)) (b ∙ (λ i. (a ∙ ap (λ l. l ++ map m front) e) i ++ sym (map_twice m Sequence t.lists) i) ∙ sym (map_both m front (map Sequence t.lists)))
+      ∙ sym (map_both m (front ++ map Sequence t.lists) (Flatten.tops w d)) ∙ ap (map m) listed_as
+
+  pub count_symbols : length (Flatten.symbols w d) ≡ length t.slots + (length t.lists + length w.starts)
+  count_symbols =
+      let a = ap length (sym listed_as) in
+      let b = length-append (front ++ map Sequence t.lists) (Flatten.tops w d) in
+      let c = length-append front (map Sequence t.lists) in
+      let e = length_front in
+      let f = Rattle.recognizer_model.proofs.FlatNamed.map_length Sequence t.lists in
+      let g = Rattle.recognizer_model.proofs.FlatNamed.map_length Top (numbers (length w.starts)) in
+      let h = numbers_length (length w.starts) in
+      omega (arith, a, b, c, e, f, g, h)
+
+module _ (w : Grammar) (d : Decided w) where
+  -- the rules of the tops are the last ones
+  pub count_rules : length (Flatten.flat_of w d).rules ≡ Flatten.before_tops w d + length w.starts
+  count_rules =
+      let a = rules_length w d in
+      let b = ap length (named_split w d) in
+      let c = length-append (named_front w d) (map (top_made w d) (numbers (length w.starts))) in
+      let e = Rattle.recognizer_model.proofs.FlatNamed.map_length (top_made w d) (numbers (length w.starts)) in
+      let f = numbers_length (length w.starts) in
+      omega (arith, a, b, c, e, f)
+
+  pub tops_as : (tops : List ℕ) (rules : List FlatRule) (count : ℕ) → rules ≡ (Flatten.flat_of w d).rules → count ≡ length w.starts → tops ≡ map (λ k. (length rules - count) + k) (numbers count) → tops ≡ (Flatten.flat_of w d).tops
+  tops_as tops rules count e same is =
+      let a = ap length e in
+      let b = count_rules in
+      let before : length rules - count ≡ Flatten.before_tops w d = omega (arith, a, b, same) in
+      is ∙ (λ i. map (λ k. before i + k) (numbers (same i)))
+
+  pub tops_within : (rules : List FlatRule) (count : ℕ) → rules ≡ (Flatten.flat_of w d).rules → count ≡ length w.starts → count ≤ length rules
+  tops_within rules count e same = let a = ap length e in let b = count_rules in omega (arith, a, b, same)
+
+-- ---- refusals
+
+pub err_many : {T : Type 0} (w : Grammar) (r : Result T FlatRefusal) (e : FlatRefusal) → IsErrAnd r (λ z. z ≡ e) → ((d : Decided w) → AreAll (Flatten.flat_of w d).rules (Err e)) →
+    IfErr r (λ x. x ≡ TooManyRules → (d : Decided w) → most_rules < length (Flatten.flat_of w d).rules)
+err_many w (Ok x) e given h = tt
+err_many w (Err z) e given h = λ same d. subst (λ x. AreAll (Flatten.flat_of w d).rules (Err x)) (sym given ∙ same) (h d)
+
+pub err_too_many : {T : Type 0} (w : Grammar) (d : Decided w) (r : Result T FlatRefusal) (e : FlatRefusal) → IsErrAnd r (λ z. z ≡ e) → (e ≡ TooManyRules → (d : Decided w) → most_rules < length (Flatten.flat_of w d).rules) → IfErr r (λ x. x ≡ TooManyRules → HasTooMany w)
+err_too_many w d (Ok x) e given h = tt
+err_too_many w d (Err z) e given h = λ same. record { decided = d; many = h (sym given ∙ same) }
+
+-- ---- few enough to be numbered
+
+pub few_enough : (w : Grammar) (d : Decided w) → IsWritten w → length (Flatten.flat_of w d).symbols < 2 ^ 32 → length (Flatten.flat_of w d).rules ≤ most_rules → Flatten.AreFew w (Flatten.flat_of w d)
+few_enough w d written symbols rules = record {
+  symbols = symbols;
+  rules = omega (arith, rules);
+  starts = omega (arith, written.few_starts);
+  short = λ i r lt is. (let levelled = subst IsLevelled is (written.rules_known i lt).1 in omega (arith, levelled.1));
+}

@@ -1,16 +1,14 @@
 -- What a check tells by tests is what it decides; and the slots that are numbered, each once.
 use Rattle.std.proofs.Common.{◌≡◌, ◌≢◌, ℕ, zero, suc, ◌+◌, ◌<◌, ◌≤◌, Bool, true, false, List, [], ◌∷◌, ◌++◌, length, map, inl, inr, refl, sym, ap, ◌∙◌, subst, arith}
-use Rattle.std.specs.Prelude.{◌&&◌, ◌↔◌, filter, not, slice_index_or}
+use Rattle.std.specs.Prelude.{◌&&◌, filter, not, slice_index_or}
 use Rattle.std.specs.List.{AllPairs, flat_map}
-use Rattle.std.proofs.lemmas.Bool.{and_parts}
 use Rattle.grammar_model.specs.Grammar.{WrittenRule, Grammar, rule_at, no_rule, slot_of, level_of}
 use Rattle.grammar_model.specs.Grammar
 use Rattle.grammar_model.specs.Simple.{is_terminal, numbers}
 use Rattle.grammar_model.proofs.Lists.{Among, among_left, among_map}
 use Rattle.grammar_core.specs.Written.{IsWritten}
 use Rattle.grammar_check.specs.Tested.{HasTests}
-use Rattle.recognizer_model.specs.FlatForm.{IsUsedSlot, IsSymbolOf}
-use Rattle.recognizer_model.specs.declared.flat.FlatSymbol.{FlatSymbol}
+use Rattle.recognizer_model.specs.FlatForm.{IsSymbolOf}
 use Rattle.recognizer_model.specs.declared.flat.FlatSymbol.TheVariants.{Terminal, Slot}
 use Rattle.flat_rules.specs.Flatten
 use Rattle.flat_rules.specs.Flatten.{Decided, levels_of}

@@ -1,6 +1,6 @@
 -- Lists of numbers that pass a test, as they grow; and what bounds them.
 use Rattle.std.proofs.Common.{◌≡◌, ◌≢◌, ℕ, zero, suc, ◌+◌, ◌<◌, ◌≤◌, Bool, true, false, cond, not, List, [], ◌∷◌, ◌++◌, length, map, take, get_or, ◌⊎◌, inl, inr, refl, sym, ap, ◌∙◌, subst, arith, true≢false}
-use Rattle.std.specs.Prelude.{◌&&◌, ◌||◌, ◌==◌, ◌↔◌, filter, Contains, slice_index, slice_index_or, nat_lt, unwrap_or, Option, Some, None}
+use Rattle.std.specs.Prelude.{◌&&◌, ◌||◌, ◌==◌, ◌↔◌, filter, slice_index_or, nat_lt, unwrap_or, Option, Some, None}
 use Rattle.std.specs.List.{AllPairs, flat_map, list_any, position}
 use Rattle.grammar_core.proofs.Growth.{position_or_len-map}
 use Rattle.std.proofs.lemmas.Bool.{cases_Bool, eqb-true, and_parts, eq-eqb}
@@ -10,16 +10,16 @@ use Rattle.std.proofs.lemmas.Grind.{flat_map-append}
 use Rattle.indexmap.specs.IndexSet.{insert_key}
 use Rattle.grammar_model.specs.Grammar.{Grammar, WrittenRule, rule_at, slot_of, lhs_of, level_of, Plain, child_slot}
 use Rattle.grammar_model.specs.Grammar
-use Rattle.grammar_model.specs.Analysis.{IsLive, IsProductive, IsProductiveIn, IsAccessibleIn, IsAccessible}
+use Rattle.grammar_model.specs.Analysis.{IsLive, IsProductive, IsAccessibleIn}
 use Rattle.grammar_model.specs.Simple.{is_terminal, numbers}
 use Rattle.grammar_model.proofs.Simple.{terminal_from, no_terminal_from, is_terminal_from}
-use Rattle.grammar_model.proofs.Lists.{Among, among_from, contains_from}
+use Rattle.grammar_model.proofs.Lists.{Among, contains_from}
 use Rattle.grammar_core.specs.Written.{IsWritten}
 use Rattle.recognizer_model.specs.FlatForm.{IsUsedSlot}
 use Rattle.flat_rules.specs.Flatten
 use Rattle.flat_rules.specs.Flatten.{Decided, levels_of}
 use Rattle.flat_rules.specs.declared.numbering.SlotKey.{SlotKey}
-use Rattle.flat_rules.specs.Tables.{row_at, rules_with, is_sequence_rule, AreLive, AreLefts, told_slot, slot_at, same_slot, place_of, slots_of_terminals, slots_of_lefts}
+use Rattle.flat_rules.specs.Tables.{rules_with, is_sequence_rule, AreLive, told_slot, slot_at, same_slot, place_of, slots_of_terminals, slots_of_lefts}
 use Rattle.flat_rules.proofs.Once.{among_filter, among_filter_from, among_numbers, among_numbers_from}
 use Rattle.flat_rules.proofs.Symbols.{terminal_no}
 use Rattle.flat_rules.proofs.Rules.{live_from, from_live}
@@ -114,10 +114,10 @@ key_new x (y ∷ ys) h = go (key_eq x y) refl (key_new x ys (λ z m. h z (inr m)
 pub keys_more : (keys old new : List SlotKey) (n : ℕ) (key : SlotKey) → AllPairs (λ x y. x ≢ y) keys → n < length keys → key ≡ get_or keys n key → old ≡ take n keys → new ≡ insert_key key_eq old key → new ≡ take (n + 1) keys
 keys_more keys old new n key pairs lt is e h =
     let differ : (y : SlotKey) → Among y (take n keys) → y ≢ key = λ y m. (
-        let (k, less, at) = contains_from (take n keys) y m in
-        let few : length (take n keys) ≡ n = grind (arith, length-take-le) in
-        let here : slice_index_or keys k y ≡ y = sym (get_or-take n keys k y (omega arith)) ∙ at in
-        λ same. pairs k n y (omega arith) lt (here ∙ (same ∙ (is ∙ Rattle.std.proofs.lemmas.List.get_or_default keys n key y lt)))) in
+    let (k, less, at) = contains_from (take n keys) y m in
+    let few : length (take n keys) ≡ n = grind (arith, length-take-le) in
+    let here : slice_index_or keys k y ≡ y = sym (get_or-take n keys k y (omega arith)) ∙ at in
+    λ same. pairs k n y (omega arith) lt (here ∙ (same ∙ (is ∙ Rattle.std.proofs.lemmas.List.get_or_default keys n key y lt)))) in
     let new_key = key_new key (take n keys) differ in
     h ∙ ap (λ l. insert_key key_eq l key) e ∙ ap (λ b. cond b (take n keys) (take n keys ++ key ∷ [])) new_key ∙ ap (λ x. take n keys ++ x ∷ []) is ∙ sym (take_more' keys n key lt)
   where

@@ -1,10 +1,10 @@
 -- Rows of rules by their left sides, and what is known of a grammar's rules.
-use Rattle.std.proofs.Common.{◌≡◌, ◌≢◌, ℕ, zero, suc, ◌+◌, ◌<◌, ◌≤◌, Bool, true, false, cond, List, [], ◌∷◌, ◌++◌, length, map, All, get_or, slice_set, Result, Ok, Err, is_ok, ◌⊎◌, inl, inr, Option, Some, None, refl, sym, ap, ◌∙◌, subst, arith, length-set, if◌then◌else◌}
-use Rattle.std.specs.Prelude.{◌==◌, ◌↔◌, filter, slice_index, slice_index_or, option_to_list, slice_get}
+use Rattle.std.proofs.Common.{◌≡◌, ◌≢◌, ℕ, zero, suc, ◌+◌, ◌<◌, Bool, true, false, cond, List, [], ◌∷◌, ◌++◌, length, All, get_or, slice_set, Result, Ok, Err, is_ok, ◌⊎◌, inl, inr, Option, Some, None, refl, sym, ap, ◌∙◌, subst, arith, length-set, if◌then◌else◌}
+use Rattle.std.specs.Prelude.{◌==◌, filter, option_to_list, slice_get}
 use Rattle.std.specs.Result.{OnOk}
 use Rattle.std.specs.declared.vec.Vec.{Vec}
 use Rattle.std.specs.declared.alloc.Global.{Global}
-use Rattle.std.proofs.lemmas.Bool.{cases_eq, eqb-true, ne_eqb, eq-eqb}
+use Rattle.std.proofs.lemmas.Bool.{cases_eq, ne_eqb, eq-eqb}
 use Rattle.std.proofs.lemmas.List.{get_or-set_same, get_or-set_other, get_or-map, map-set, length-map}
 use Rattle.std.proofs.lemmas.List.Elements.{filter-append}
 use Rattle.grammar_model.specs.Grammar.{WrittenRule, Plain, Sequence, PlainRule, Grammar, rule_at, lhs_of, level_of, child_slot, slot_count, sequence_symbol, is_even}
@@ -12,7 +12,7 @@ use Rattle.grammar_model.specs.Simple.{numbers}
 use Rattle.grammar_core.specs.Written.{IsWritten, IsLevelled, symbols_of}
 use Rattle.grammar_check.specs.Slots.{groups_of}
 use Rattle.recognizer_model.proofs.FlatNamed.{get_index}
-use Rattle.flat_rules.specs.Tables.{rows_of, row_at, HasAdded, rules_with}
+use Rattle.flat_rules.specs.Tables.{rows_of, row_at, HasAdded}
 
 -- ---- rows
 

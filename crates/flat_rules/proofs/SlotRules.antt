@@ -1,23 +1,21 @@
 -- The rules of a slot and of a list, by the numbers of their symbols.
-use Rattle.std.proofs.Common.{◌≡◌, ℕ, zero, suc, ◌+◌, ◌<◌, ◌≤◌, Bool, true, false, not, cond, List, [], ◌∷◌, ◌++◌, length, map, Option, Some, None, refl, sym, ap, ◌∙◌, subst, arith, true≢false}
-use Rattle.std.specs.Prelude.{◌&&◌, ◌==◌, ◌↔◌, nat_lt, nat_le, slice_index_or, if◌then◌else◌}
-use Rattle.std.proofs.lemmas.Bool.{cases_Bool, le-leb, leb-true, eq-eqb}
+use Rattle.std.proofs.Common.{◌≡◌, ℕ, zero, suc, ◌+◌, ◌<◌, Bool, true, false, not, cond, List, [], ◌∷◌, ◌++◌, length, map, Option, Some, None, refl, sym, ap, ◌∙◌, subst, arith, true≢false}
+use Rattle.std.specs.Prelude.{◌&&◌, nat_lt, nat_le, slice_index_or}
+use Rattle.std.proofs.lemmas.Bool.{leb-true, eq-eqb}
 use Rattle.std.proofs.lemmas.List.{map-append}
 use Rattle.grammar_model.specs.Grammar.{PlainRule, SequenceRule, WrittenRule, Plain, Grammar, rule_at, slot_of, child_slot, sequence_symbol, level_of}
 use Rattle.grammar_model.specs.Grammar
 use Rattle.grammar_model.specs.Analysis.{IsLive}
-use Rattle.grammar_model.specs.Simple.{is_terminal, fits, numbers, part_count}
+use Rattle.grammar_model.specs.Simple.{is_terminal, fits, numbers}
 use Rattle.grammar_model.proofs.Simple.{terminal_from}
-use Rattle.recognizer_model.specs.Flat.{FlatRule}
 use Rattle.recognizer_model.specs.declared.flat.FlatSymbol.{FlatSymbol}
-use Rattle.recognizer_model.specs.declared.flat.FlatSymbol.TheVariants.{Terminal, Slot, Sequence, Top}
+use Rattle.recognizer_model.specs.declared.flat.FlatSymbol.TheVariants.{Slot, Sequence}
 use Rattle.recognizer_model.specs.declared.flat.FlatSource.TheVariants.{Written}
 use Rattle.recognizer_model.specs.FlatForm.{NamedRule}
 use Rattle.flat_rules.specs.Flatten
 use Rattle.flat_rules.specs.Flatten.{Decided}
 use Rattle.flat_rules.specs.Tables.{Numbering, number_in, numbered_in, place_of, slot_at, AreLive, is_sequence_rule}
-use Rattle.flat_rules.specs.Added.{rule_by, part_in, parts_in, plain_by, lists_by, longer_by, items_by, from_rule, has_separator_rule, is_proper_rule, separator_counts, counts_separator}
-use Rattle.flat_rules.proofs.Adding.{map_next}
+use Rattle.flat_rules.specs.Added.{rule_by, part_in, parts_in, plain_by, lists_by, from_rule, is_proper_rule, separator_counts, counts_separator}
 use Rattle.flat_rules.proofs.Deciding.{terminal_symbol, left_symbol}
 use Rattle.flat_rules.proofs.Listing.{same_test}
 use Rattle.flat_rules.proofs.Parts.{level_zero}

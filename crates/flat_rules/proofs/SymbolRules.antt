@@ -1,5 +1,5 @@
 -- The rules of each symbol, by the numbers of their symbols.
-use Rattle.std.proofs.Common.{◌≡◌, ℕ, ◌<◌, Bool, true, false, cond, List, [], ◌∷◌, ◌++◌, length, map, get_or, Option, Some, None, inl, inr, refl, sym, ap, ◌∙◌, subst, true≢false, arith}
+use Rattle.std.proofs.Common.{◌≡◌, ℕ, ◌<◌, Bool, true, false, cond, List, [], ◌∷◌, ◌++◌, length, map, get_or, Option, Some, None, refl, sym, ap, ◌∙◌, subst, true≢false, arith}
 use Rattle.std.specs.Prelude.{◌&&◌, ◌==◌, ◌↔◌, filter, nat_lt, nat_le, slice_index, slice_get, is_some}
 use Rattle.std.specs.List.{flat_map}
 use Rattle.std.proofs.lemmas.List.{map-append}
@@ -8,14 +8,13 @@ use Rattle.grammar_model.specs.Grammar
 use Rattle.grammar_model.specs.Simple.{is_terminal, numbers}
 use Rattle.grammar_model.proofs.Simple.{terminal_from, no_terminal_from}
 use Rattle.grammar_model.proofs.Lists.{Among}
-use Rattle.recognizer_model.specs.Flat.{FlatRule}
 use Rattle.recognizer_model.specs.declared.flat.FlatSymbol.{FlatSymbol}
 use Rattle.recognizer_model.specs.declared.flat.FlatSymbol.TheVariants.{Terminal, Slot, Sequence, Top}
 use Rattle.recognizer_model.proofs.FlatNamed.{among_at, get_index}
 use Rattle.flat_rules.specs.Flatten
 use Rattle.flat_rules.specs.Flatten.{Decided}
-use Rattle.flat_rules.specs.Tables.{Numbering, number_in, numbered_in, place_of, slot_at, is_sequence_rule, rules_with, lists_to, rows_of, AreLefts, slots_of_terminals, slots_of_lefts}
-use Rattle.flat_rules.specs.Added.{rule_by, part_in, longer_by, items_by, top_by, from_rule, from_rules, separator_counts, counts_separator}
+use Rattle.flat_rules.specs.Tables.{Numbering, number_in, numbered_in, place_of, is_sequence_rule, rules_with, lists_to, rows_of, AreLefts, slots_of_terminals, slots_of_lefts}
+use Rattle.flat_rules.specs.Added.{rule_by, part_in, items_by, top_by, from_rule, from_rules, separator_counts, counts_separator}
 use Rattle.flat_rules.proofs.Once.{among_filter_from, among_numbers_from}
 use Rattle.flat_rules.proofs.Deciding.{slots_known, map_flat, terminal_symbol, left_symbol}
 use Rattle.flat_rules.proofs.Listing.{terminal_none, no_rules, same_test}

@@ -1,5 +1,5 @@
 //! The flat grammar of a checked one.
-ghost use Rattle.std.specs.Prelude.{◌≡◌, ℕ, ◌+◌, ◌<◌, ◌≤◌, ◌^◌, ◌++◌, ◌∷◌, [], false, length, map, slice_index, Contains, IfOk, IfErr, OnOk};
+ghost use Rattle.std.specs.Prelude.{◌≡◌, ℕ, ◌+◌, ◌-◌, ◌<◌, ◌≤◌, ◌^◌, ◌++◌, ◌∷◌, [], false, length, map, slice_index, Contains, IfOk, IfErr, OnOk};
 ghost use Rattle.grammar_model.specs.Grammar.{Plain, rule_at, lhs_of, slot_of};
 ghost use Rattle.grammar_model.specs.Simple.{numbers};
 ghost use Rattle.recognizer_model.specs.declared.flat.FlatSymbol.TheVariants.{Terminal, Slot, Sequence, Top};
@@ -56,7 +56,15 @@ fn push_slots(
     let _ = c.written().rule_count();
     for x in 0..symbols.slot_count() {
         let slot = symbols.slot(x);
-        push_row(alloc, c, symbols, live, slot, &rows[slot.symbol as usize], rules)?;
+        push_row(
+            alloc,
+            c,
+            symbols,
+            live,
+            slot,
+            &rows[slot.symbol as usize],
+            rules,
+        )?;
     }
     Ok(())
 }
@@ -193,10 +201,12 @@ fn list_tops(
 }
 
 // The top rules, which are the last ones.
-fn top_rules(alloc: Global, before: usize, count: usize) -> Result<Vec<u32>, AllocError>
-    requires { before + count < 2 ^ 32 }
-    ensures { IfOk result (λ tops. tops.items ≡ map (λ k. before + k) (numbers count)) }
+fn top_rules(alloc: Global, rules: &[FlatRule], count: usize) -> Result<Vec<u32>, AllocError>
+    requires count { count ≤ length rules.now }
+    requires small { length rules.now < 2 ^ 32 }
+    ensures { IfOk result (λ tops. tops.items ≡ map (λ k. (length rules.now - count) + k) (numbers count)) }
 {
+    let before = rules.len() - count;
     let mut tops = Vec::new(alloc);
     for k in 0..count {
         tops.push((before + k) as u32)?;
@@ -249,6 +259,7 @@ fn flat_symbols(
 fn parts_of(alloc: Global, c: &Checked<'_>) -> Result<FlatParts, FlatRefusal>
     ensures flat { IfOk result (λ parts. (d : Decided c.now) → parts ≡ flat_of c.now d) }
     ensures few { IfOk result (λ parts. length parts.rules ≤ most_rules) }
+    ensures small { IfOk result (λ parts. length parts.symbols < 2 ^ 32) }
     ensures many { IfErr result (λ e. e ≡ TooManyRules → (d : Decided c.now) → most_rules < length (flat_of c.now d).rules) }
 {
     c.tested();
@@ -259,7 +270,7 @@ fn parts_of(alloc: Global, c: &Checked<'_>) -> Result<FlatParts, FlatRefusal>
     let live = live_rules(alloc, c)?;
     let symbols = symbols_of(alloc, c, &rows, &live)?;
     let rules = flat_rules(alloc, c, &symbols, &rows, &live)?;
-    let tops = top_rules(alloc, rules.len() - starts, starts)?;
+    let tops = top_rules(alloc, &rules, starts)?;
     let (list, marks) = flat_symbols(alloc, c, &symbols, &rows)?;
     Ok(FlatParts {
         symbols: list,

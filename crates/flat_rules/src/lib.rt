@@ -8,13 +8,11 @@ mod numbering;
 mod pushing;
 mod refusal;
 
-
+ghost use Rattle.flat_rules.specs.Flatten.{FlatGrammarsExist};
+ghost use Rattle.flat_rules.specs.Lists.{ListsHaveFlatGrammar};
 
 pub use flattening::flatten;
 pub use refusal::FlatRefusal;
-
-ghost use Rattle.flat_rules.specs.Flatten.{FlatGrammarsExist};
-ghost use Rattle.flat_rules.specs.Lists.{ListsHaveFlatGrammar};
 
 /// A checked grammar has the flat grammar that is listed for it: its symbols, rules, marks and tops are those of the written one, and
 /// all that is always so of a flat grammar is so of it.

@@ -216,7 +216,11 @@ pub fn symbols_of(
         return Err(AllocError);
     }
     let slots = set_of(alloc, &keys)?;
-    Ok(Symbols { slots, lists, before })
+    Ok(Symbols {
+        slots,
+        lists,
+        before,
+    })
 }
 
 impl Symbols {

@@ -31,12 +31,7 @@ pub fn push_rule(rules: &mut Vec<FlatRule>, rule: FlatRule) -> Result<(), FlatRe
     }
 }
 
-fn push_by(
-    rules: &mut Vec<FlatRule>,
-    i: usize,
-    lhs: u32,
-    rhs: Vec<u32>,
-) -> Result<(), FlatRefusal>
+fn push_by(rules: &mut Vec<FlatRule>, i: usize, lhs: u32, rhs: Vec<u32>) -> Result<(), FlatRefusal>
     requires { i < 2 ^ 32 }
     ensures { Adds rules.old.items rules.new.items (rule_by i lhs rhs.items ∷ []) result }
 {

@@ -1,7 +1,5 @@
-use Rattle.std.proofs.Common.{◌≡◌, ℕ, ◌+◌, ◌++◌, map, take, false}
-use Rattle.grammar_model.specs.Simple.{numbers}
-use Rattle.recognizer_model.specs.declared.flat.FlatSymbol.TheVariants.{Sequence, Top}
-use Rattle.flat_rules.specs.Flatten.{Decided, symbol_for, is_marked}
+use Rattle.std.proofs.Common.{◌≡◌, ◌++◌, map, take, false}
+use Rattle.recognizer_model.specs.declared.flat.FlatSymbol.TheVariants.{Sequence}
 use Rattle.flat_rules.proofs.flattening.list_lists.Given as goal
 
 abbrev pub invariant-loop-i : goal.invariant-loop-i

@@ -1,5 +1,5 @@
-use Rattle.std.proofs.Common.{◌≡◌, ◌<◌, map, take, length, sym, ◌∙◌, ap, refl, arith, ◌++◌, subst}
-use Rattle.grammar_model.specs.Grammar.{Grammar, Slot}
+use Rattle.std.proofs.Common.{map, sym, ◌∙◌, ap, arith, ◌++◌, subst}
+use Rattle.grammar_model.specs.Grammar.{Slot}
 use Rattle.grammar_core.specs.Written.{IsWritten}
 use Rattle.grammar_model.proofs.Lists.{Among}
 use Rattle.recognizer_model.proofs.FlatNamed.{get_index}

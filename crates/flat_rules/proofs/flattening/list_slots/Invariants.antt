@@ -1,6 +1,4 @@
-use Rattle.std.proofs.Common.{◌≡◌, ℕ, ◌+◌, ◌++◌, map, take, false}
-use Rattle.grammar_model.specs.Simple.{numbers}
-use Rattle.recognizer_model.specs.declared.flat.FlatSymbol.TheVariants.{Sequence, Top}
+use Rattle.std.proofs.Common.{◌≡◌, ◌++◌, map, take}
 use Rattle.flat_rules.specs.Flatten.{Decided, symbol_for, is_marked}
 use Rattle.flat_rules.proofs.flattening.list_slots.Given as goal
 

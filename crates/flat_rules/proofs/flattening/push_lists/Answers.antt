@@ -1,12 +1,12 @@
-use Rattle.std.proofs.Common.{◌≡◌, ◌<◌, ◌≤◌, ℕ, List, arith, refl, get_or, map, length, subst, sym, ◌∙◌, ap, Ok, Err}
-use Rattle.grammar_model.specs.Grammar.{Grammar, rule_at}
+use Rattle.std.proofs.Common.{◌≤◌, List, arith, get_or, map, length, subst, ◌∙◌, ap, Ok, Err}
+use Rattle.grammar_model.specs.Grammar.{rule_at}
 use Rattle.grammar_core.specs.Written.{IsWritten}
 use Rattle.recognizer_model.specs.Flat.{FlatRule}
 use Rattle.recognizer_model.specs.declared.flat.FlatSymbol.{FlatSymbol}
 use Rattle.recognizer_model.specs.declared.flat.FlatSymbol.TheVariants.{Sequence}
 use Rattle.recognizer_model.proofs.FlatNamed.{map_length}
 use Rattle.flat_rules.specs.Flatten.{Decided, rules_of}
-use Rattle.flat_rules.specs.Tables.{Numbering, numbered_in, is_sequence_rule}
+use Rattle.flat_rules.specs.Tables.{numbered_in}
 use Rattle.flat_rules.specs.Added.{from_symbols, items_by, counts_separator}
 use Rattle.flat_rules.proofs.Adding.{adds_to, loop_stop, loop_next, loop_end, at_map}
 use Rattle.flat_rules.proofs.Deciding.{decided_of}

@@ -1,9 +1,7 @@
-use Rattle.std.proofs.Common.{ℕ, map, take, length, Ok}
-use Rattle.grammar_model.specs.Simple.{numbers}
-use Rattle.recognizer_model.specs.declared.flat.FlatSymbol.TheVariants.{Sequence, Top}
-use Rattle.flat_rules.specs.Flatten.{Decided, symbol_for}
-use Rattle.flat_rules.specs.Tables.{told_slot}
-use Rattle.flat_rules.specs.Added.{Adds, from_rules, from_symbols}
+use Rattle.std.proofs.Common.{map, take, Ok}
+use Rattle.recognizer_model.specs.declared.flat.FlatSymbol.TheVariants.{Sequence}
+use Rattle.flat_rules.specs.Flatten.{Decided}
+use Rattle.flat_rules.specs.Added.{Adds, from_symbols}
 use Rattle.flat_rules.proofs.flattening.push_lists.Given as goal
 
 abbrev pub invariant-loop-i : goal.invariant-loop-i

@@ -1,18 +1,18 @@
-use Rattle.std.proofs.Common.{◌≡◌, ◌<◌, ◌≤◌, ℕ, List, arith, refl, get_or, map, length, subst, sym, ◌∙◌, ap, Ok, Err}
-use Rattle.grammar_model.specs.Grammar.{Grammar, Slot}
+use Rattle.std.proofs.Common.{◌≤◌, List, arith, map, length, subst, ◌∙◌, ap, Ok, Err}
+use Rattle.grammar_model.specs.Grammar.{Slot}
 use Rattle.grammar_core.specs.Written.{IsWritten}
 use Rattle.grammar_model.proofs.Lists.{Among, among_from}
 use Rattle.recognizer_model.specs.Flat.{FlatRule}
 use Rattle.recognizer_model.specs.declared.flat.FlatSymbol.{FlatSymbol}
-use Rattle.recognizer_model.proofs.FlatNamed.{map_length, get_index}
+use Rattle.recognizer_model.proofs.FlatNamed.{map_length}
 use Rattle.flat_rules.specs.Flatten.{Decided, rules_of, symbol_for}
-use Rattle.flat_rules.specs.Tables.{Numbering, numbered_in, told_slot, rows_of, rules_with}
+use Rattle.flat_rules.specs.Tables.{numbered_in, told_slot}
 use Rattle.flat_rules.specs.Added.{from_rules}
 use Rattle.flat_rules.proofs.Adding.{adds_to, loop_stop, loop_next, loop_end, at_slot}
 use Rattle.flat_rules.proofs.Deciding.{decided_of, slots_known}
 use Rattle.flat_rules.proofs.Listing.{among_rule}
 use Rattle.flat_rules.proofs.Named.{get_among}
-use Rattle.flat_rules.proofs.Rows.{row_is, rows_length}
+use Rattle.flat_rules.proofs.Rows.{rows_length}
 use Rattle.flat_rules.proofs.SymbolRules.{row_rules, row_of_slot}
 use Rattle.flat_rules.proofs.flattening.push_slots.Goals as goal
 

@@ -1,12 +1,12 @@
-use Rattle.std.proofs.Common.{◌≡◌, ◌<◌, ◌≤◌, ℕ, List, [], ◌∷◌, arith, refl, get_or, map, length, subst, sym, ◌∙◌, ap, Ok, Err}
+use Rattle.std.proofs.Common.{◌≤◌, List, [], ◌∷◌, arith, map, length, Ok, Err}
 use Rattle.std.specs.Prelude.{slice_index}
 use Rattle.grammar_model.specs.Simple.{numbers}
 use Rattle.recognizer_model.specs.Flat.{FlatRule}
 use Rattle.recognizer_model.specs.declared.flat.FlatSymbol.{FlatSymbol}
 use Rattle.recognizer_model.specs.declared.flat.FlatSymbol.TheVariants.{Top}
 use Rattle.recognizer_model.proofs.FlatNamed.{map_length}
-use Rattle.flat_rules.specs.Flatten.{Decided, rules_of}
-use Rattle.flat_rules.specs.Tables.{Numbering, numbered_in}
+use Rattle.flat_rules.specs.Flatten.{rules_of}
+use Rattle.flat_rules.specs.Tables.{numbered_in}
 use Rattle.flat_rules.specs.Added.{top_by}
 use Rattle.flat_rules.proofs.Adding.{adds_to, loop_stop, loop_next, loop_end, at_top}
 use Rattle.flat_rules.proofs.FlatOf.{numbers_length}

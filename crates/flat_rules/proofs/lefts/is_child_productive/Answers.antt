@@ -1,4 +1,4 @@
-use Rattle.std.proofs.Common.{◌≡◌, ◌<◌, length, sym, subst, ◌∙◌, ◌↔◌}
+use Rattle.std.proofs.Common.{◌≡◌, ◌<◌, length, sym, subst, ◌↔◌}
 use Rattle.std.specs.Bool.{IsTrue}
 use Rattle.grammar_model.specs.Grammar.{Grammar, Slot, rule_at, child_slot, slot_count}
 use Rattle.grammar_model.specs.Analysis.{IsProductive}

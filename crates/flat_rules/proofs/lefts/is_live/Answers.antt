@@ -1,4 +1,4 @@
-use Rattle.std.proofs.Common.{arith, ◌≡◌, ◌<◌, subst, sym, ◌∙◌, inl, inr, refl, true≢false, ap}
+use Rattle.std.proofs.Common.{arith, ◌<◌, subst, sym, ◌∙◌, inl, inr, refl, true≢false, ap}
 use Rattle.grammar_model.specs.Grammar.{Grammar, rule_at, child_slot}
 use Rattle.grammar_model.specs.Analysis.{IsProductive}
 use Rattle.grammar_check.specs.Slots.{needed_of}

@@ -1,5 +1,5 @@
 use Rattle.std.proofs.Common.{arith, ◌∙◌, ap, ◌≡◌, length}
-use Rattle.flat_rules.specs.Tables.{rows_of, row_at}
+use Rattle.flat_rules.specs.Tables.{rows_of}
 use Rattle.flat_rules.proofs.Rows.{lefts_more, rows_length, rules_to}
 use Rattle.flat_rules.proofs.lefts.rules_by_left.Goals as goal
 

@@ -1,5 +1,4 @@
-use Rattle.std.proofs.Common.{◌≡◌, ◌<◌, ◌∙◌, sym, true≢false, length, arith}
-use Rattle.flat_rules.specs.Tables.{rows_of, row_at, rules_with}
+use Rattle.std.proofs.Common.{◌<◌, ◌∙◌, sym, true≢false, length, arith}
 use Rattle.flat_rules.proofs.Rows.{row_is, rows_length}
 use Rattle.flat_rules.proofs.Listing.{terminal_then, terminal_else}
 use Rattle.flat_rules.proofs.numbering.is_used_terminal.Goals as goal

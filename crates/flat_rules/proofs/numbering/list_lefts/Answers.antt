@@ -1,12 +1,11 @@
-use Rattle.std.proofs.Common.{◌≡◌, ℕ, ◌<◌, ap, ◌∙◌, sym, subst, ◌++◌, map, arith, length, append_assoc}
+use Rattle.std.proofs.Common.{◌≡◌, ◌<◌, ap, ◌∙◌, sym, subst, ◌++◌, map, arith, length, append_assoc}
 use Rattle.std.specs.List.{flat_map}
-use Rattle.std.specs.Prelude.{Contains, filter}
 use Rattle.grammar_model.specs.Grammar.{Grammar, rule_at, level_of}
 use Rattle.grammar_model.specs.Simple.{numbers}
 use Rattle.grammar_model.proofs.Lists.{Among, among_from, contains_from}
 use Rattle.grammar_core.specs.Written.{IsWritten}
 use Rattle.flat_rules.specs.Flatten.{levels_of}
-use Rattle.flat_rules.specs.Tables.{told_slot, slot_at, rules_with}
+use Rattle.flat_rules.specs.Tables.{told_slot, slot_at}
 use Rattle.flat_rules.proofs.Rows.{row_is, rows_length}
 use Rattle.flat_rules.proofs.Listing.{levels_are, flat_next, lefts_to, among_rule}
 use Rattle.flat_rules.proofs.numbering.list_lefts.Goals as goal

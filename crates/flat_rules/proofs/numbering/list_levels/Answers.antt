@@ -1,4 +1,4 @@
-use Rattle.std.proofs.Common.{◌≡◌, ap, ◌∙◌, sym, subst, ◌++◌, map, arith, refl}
+use Rattle.std.proofs.Common.{◌≡◌, ap, ◌∙◌, sym, ◌++◌, map, arith, refl}
 use Rattle.std.specs.Prelude.{filter}
 use Rattle.std.specs.declared.vec.Vec.{Vec}
 use Rattle.std.specs.declared.alloc.Global.{Global}

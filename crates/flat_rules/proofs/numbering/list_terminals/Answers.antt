@@ -6,7 +6,7 @@ use Rattle.grammar_model.specs.Grammar.{Grammar, slot_of}
 use Rattle.grammar_core.specs.Written.{IsWritten}
 use Rattle.grammar_model.specs.Simple.{numbers, is_terminal}
 use Rattle.flat_rules.specs.declared.numbering.SlotKey.{SlotKey}
-use Rattle.flat_rules.specs.Tables.{told_slot, slot_at}
+use Rattle.flat_rules.specs.Tables.{told_slot}
 use Rattle.flat_rules.proofs.Listing.{list_step, list_skip, terminals_to}
 use Rattle.flat_rules.proofs.numbering.list_terminals.Goals as goal
 use Rattle.flat_rules.proofs.numbering.list_terminals.Goals.{then-is_used_terminal+in_ok-push, else-is_used_terminal}

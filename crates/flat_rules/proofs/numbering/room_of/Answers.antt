@@ -1,4 +1,4 @@
-use Rattle.std.proofs.Common.{◌≡◌, ◌<◌, ◌≤◌, arith, refl, subst, ◌∙◌, sym}
+use Rattle.std.proofs.Common.{◌<◌, arith, subst, ◌∙◌}
 use Rattle.grammar_model.specs.Grammar.{rule_at, level_of}
 use Rattle.std.proofs.lemmas.List.{get_or_default}
 use Rattle.flat_rules.proofs.numbering.room_of.Goals as goal

@@ -1,6 +1,5 @@
-use Rattle.std.proofs.Common.{◌≡◌, map, ap, ◌∙◌, ◌++◌, subst, length, arith}
+use Rattle.std.proofs.Common.{map, ap, ◌∙◌, ◌++◌, subst, length, arith}
 use Rattle.std.proofs.lemmas.List.{length-map}
-use Rattle.grammar_model.specs.Grammar.{Grammar}
 use Rattle.grammar_core.specs.Written.{IsWritten}
 use Rattle.flat_rules.specs.Flatten.{Decided}
 use Rattle.flat_rules.specs.Tables.{told_slot, slots_of_lefts, slots_of_terminals}

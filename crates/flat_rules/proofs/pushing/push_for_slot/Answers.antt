@@ -1,7 +1,7 @@
-use Rattle.std.proofs.Common.{◌≡◌, ap, ◌∙◌, sym, subst, [], ◌++◌, false}
+use Rattle.std.proofs.Common.{ap, ◌∙◌, sym, ◌++◌}
 use Rattle.std.specs.Prelude.{not, ◌&&◌}
-use Rattle.grammar_model.specs.Grammar.{Grammar, rule_at}
-use Rattle.flat_rules.specs.Tables.{told_slot, place_of, slot_at, is_sequence_rule}
+use Rattle.grammar_model.specs.Grammar.{rule_at}
+use Rattle.flat_rules.specs.Tables.{told_slot, is_sequence_rule}
 use Rattle.flat_rules.specs.Added.{from_rule, lists_by, plain_by, is_proper_rule, counts_separator}
 use Rattle.flat_rules.proofs.Adding.{adds_to}
 use Rattle.flat_rules.proofs.Rows.{append_none}

@@ -1,4 +1,4 @@
-use Rattle.std.proofs.Common.{◌≡◌, [], ◌∷◌}
+use Rattle.std.proofs.Common.{[], ◌∷◌}
 use Rattle.grammar_model.specs.Grammar.{rule_at}
 use Rattle.recognizer_model.specs.declared.flat.FlatSymbol.TheVariants.{Sequence}
 use Rattle.flat_rules.specs.Tables.{number_in}

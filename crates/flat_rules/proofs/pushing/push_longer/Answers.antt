@@ -1,6 +1,6 @@
-use Rattle.std.proofs.Common.{◌≡◌, ap, ◌∙◌, sym, subst, true}
-use Rattle.grammar_model.specs.Grammar.{Grammar, rule_at}
-use Rattle.flat_rules.specs.Added.{rule_by, longer_by, counts_separator, part_in, has_separator_rule}
+use Rattle.std.proofs.Common.{◌≡◌, ap, ◌∙◌, sym, true}
+use Rattle.grammar_model.specs.Grammar.{rule_at}
+use Rattle.flat_rules.specs.Added.{longer_by, counts_separator, part_in, has_separator_rule}
 use Rattle.flat_rules.proofs.Adding.{adds_to, longer_three}
 use Rattle.flat_rules.proofs.pushing.push_longer.Goals as goal
 

@@ -1,7 +1,5 @@
-use Rattle.std.proofs.Common.{◌≡◌, map, ap, Some, None}
-use Rattle.std.specs.Prelude.{List}
-use Rattle.grammar_model.specs.Grammar.{Slot}
-use Rattle.flat_rules.specs.Tables.{told_slot, Numbering}
+use Rattle.std.proofs.Common.{ap, Some, None}
+use Rattle.flat_rules.specs.Tables.{Numbering}
 use Rattle.flat_rules.proofs.Listing.{place_told}
 use Rattle.flat_rules.proofs.numbering.Symbols.slot_number.Goals as goal
 
