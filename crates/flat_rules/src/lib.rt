@@ -1,5 +1,5 @@
-//! Flat rules: levels, sequences and nullable symbols as plain rules. The definition of the flat grammar that is made of a checked
-//! one, with the theorem that it is its flat grammar; the code that makes it is to come.
+//! Flat rules: levels, sequences and nullable symbols as plain rules. The flat grammar of a checked one, and the theorem that it is
+//! its flat grammar.
 #![tactic(auto)]
 
 mod flattening;
