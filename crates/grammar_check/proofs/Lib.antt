@@ -11,4 +11,4 @@ pub mod More
 pub mod StepLemmas
 pub mod Reaching
 pub mod Faults
-pub mod Tests
+pub mod Telling

@@ -1,6 +1,6 @@
 use Rattle.std.proofs.Common.{subst}
 use Rattle.grammar_check.specs.Tested.{HasTests}
-use Rattle.grammar_check.proofs.Tests.{has_tests}
+use Rattle.grammar_check.proofs.Telling.{has_tests}
 use Rattle.grammar_check.proofs.analysis.Analysis.tested.Goals as goal
 
 pub returns : goal.returns
