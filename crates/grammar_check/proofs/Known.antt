@@ -17,9 +17,10 @@ lhs_known g i w lt = first_symbol (length g.names) (rule_at g i) (w.rules_known 
 
 pub numbering : (g : Grammar) (rooms sums : List ℕ) → IsWritten g → length rooms ≡ length g.names → ((s : ℕ) → s < length g.names → 0 < slice_index rooms s) →
     ((i : ℕ) → i < length g.rules → groups_of (rule_at g i) ≤ slice_index rooms (lhs_of (rule_at g i))) →
-    length sums ≡ suc (length rooms) → ((s : ℕ) → s < length rooms → slice_index sums (suc s) ≡ slice_index sums s + slice_index rooms s) → IsNumbering g sums
-numbering g rooms sums w e some rules e' steps = record {
+    length sums ≡ suc (length rooms) → slice_index sums 0 ≡ 0 → ((s : ℕ) → s < length rooms → slice_index sums (suc s) ≡ slice_index sums s + slice_index rooms s) → IsNumbering g sums
+numbering g rooms sums w e some rules e' begin steps = record {
   sized = e' ∙ ap suc e;
+  begin = begin;
   rising = λ s lt. let a = steps s (omega arith) in let b = some s lt in omega (arith, a, b);
   rooms = λ i lt.
       let known = lhs_known g i w lt in

@@ -12,3 +12,12 @@ pub mod StepLemmas
 pub mod Reaching
 pub mod Faults
 pub mod Telling
+pub mod Gaining
+pub mod Layering
+pub mod Choosing
+pub mod Linking
+pub mod Settling
+pub mod Sharing
+pub mod Clearing
+pub mod Naming
+pub mod SlotCycles

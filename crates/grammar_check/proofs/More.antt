@@ -1,5 +1,6 @@
 -- Clauses of one kind, added to others.
-use Rattle.std.proofs.Common.{arith, ◌≡◌, ◌⊎◌, ◌↔◌, inl, inr, ℕ, zero, suc, ◌+◌, ◌<◌, ◌≤◌, List, [], ◌∷◌, length, slice_index, Contains, refl, sym, ◌∙◌, ap, subst}
+use Rattle.std.proofs.Common.{arith, ◌≡◌, ◌⊎◌, ◌↔◌, inl, inr, ℕ, zero, suc, ◌+◌, ◌<◌, ◌≤◌, List, [], ◌∷◌, ◌++◌, length, slice_index, Contains, refl, sym, ◌∙◌, ap, subst}
+use Rattle.std.proofs.lemmas.List.Elements.{Contains-append_left, Contains-push, Contains-push_cases}
 use Rattle.grammar_model.specs.Grammar.{Grammar, rule_at, child_slot, slot_count}
 use Rattle.grammar_model.specs.Analysis.{IsLive, IsProductive}
 use Rattle.grammar_check.specs.Least.{Clause}
@@ -77,3 +78,10 @@ module _ (g : Grammar) (bases : List ℕ) (total : ℕ) where
     λ (i, lt, l, h). (i, omega arith, l, h),
     λ (i, lt, l, h). elim (same_or_below i n lt) [ inl b ↦ (i, b, l, h) | inr s ↦ absurd (dead (subst (λ i. IsLive g (rule_at g i)) s l)) ],
   )
+
+pub more_pushed : (old new : List Clause) (d : Clause) → new ≡ old ++ d ∷ [] → HasMore old new (λ c. c ≡ d)
+more_pushed old new d e = record {
+  keeps = λ c h. subst (λ l. Contains l c) (sym e) (Contains-append_left old (d ∷ []) c h);
+  only = λ c h. elim (Contains-push_cases old d c (subst (λ l. Contains l c) e h)) [ inl o ↦ inl o | inr now ↦ inr (sym now) ];
+  has = λ c is. subst (λ l. Contains l c) (sym e) (subst (Contains (old ++ d ∷ [])) (sym is) (Contains-push old d));
+}

@@ -28,7 +28,7 @@ module _ (g : Grammar) (bases : List ℕ) (n : IsNumbering g bases) where
   numbered_small slot (known, small) = let h = bases_rise g bases slot.symbol (length g.names) n known (omega arith) in omega (arith, h, small)
 
   -- a number is that of one slot
-  same_slot : (slot other : Slot) → IsNumbered g bases slot → IsNumbered g bases other → number bases slot ≡ number bases other → slot ≡ other
+  pub same_slot : (slot other : Slot) → IsNumbered g bases slot → IsNumbered g bases other → number bases slot ≡ number bases other → slot ≡ other
   same_slot slot other (k1, s1) (k2, s2) e =
       let es = one_symbol g bases slot.symbol other.symbol (number bases slot) n k1 k2 (omega arith) s1 (omega (arith, e)) (omega (arith, e, s2)) in
       let el : slot.level ≡ other.level = omega (arith, e, ap (slice_index bases) es) in

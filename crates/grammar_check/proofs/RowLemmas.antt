@@ -23,7 +23,7 @@ row_pushed rows x i lt =
       only = λ y j h. elim (same_or_other y x) [
         | inl same ↦ elim (Contains-push_cases (row_at rows x) i j (subst (λ l. Contains l j) here (subst (λ y. Contains (row_at (slice_set rows x row) y) j) same h))) [
           | inl old ↦ inl (subst (λ y. Contains (row_at rows y) j) (sym same) old)
-          | inr now ↦ inr (sym now)
+          | inr now ↦ inr (same, sym now)
         ]
         | inr ne ↦ inl (subst (λ l. Contains l j) (get_or-set_other rows x y row [] ne) h)
       ];
@@ -56,7 +56,7 @@ pub add_more : (old mid new : List (List ℕ)) (xs : List ℕ) (n i : ℕ) → n
 add_more old mid new xs n i lt a b = record {
   same_length = b.same_length ∙ a.same_length;
   keeps = λ y j h. b.keeps y j (a.keeps y j h);
-  only = λ y j h. elim (b.only y j h) [ inl before ↦ a.only y j before | inr now ↦ inr now ];
+  only = λ y j h. elim (b.only y j h) [ inl before ↦ a.only y j before | inr (at, now) ↦ inr now ];
   has = λ m below.
       let long : length (take (n + 1) xs) ≡ n + 1 = grind (arith, length-take-le) in
       let now : slice_index (take (n + 1) xs) m ≡ slice_index xs m = get_or-take (n + 1) xs m 0 (omega arith) in

@@ -5,7 +5,7 @@ use Rattle.std.proofs.lemmas.List.Elements.{Contains-push_cases, Contains-get_or
 use Rattle.std.proofs.Math.ListN.{replicate}
 use Rattle.grammar_check.specs.Least.{Clause, clause_at, part_at, IsDerivedIn, IsDerived, IsLeastSet, AreBelow, IsSearch, Waits, Adds, Advances, HasVisited, Extends}
 use Rattle.grammar_check.specs.Rows.{HasPlaces, row_at}
-use Rattle.grammar_check.proofs.Found.{Contains-none, more_rounds, adds_derived, adds_extends, adds_has, extends_keeps}
+use Rattle.grammar_check.proofs.Found.{Contains-none, more_rounds, adds_derived, adds_made, adds_extends, adds_has, extends_keeps}
 
 pub same_or_below : (m k : ℕ) → m < k + 1 → (m < k) ⊎ (m ≡ k)
 same_or_below m k lt = grind arith
@@ -28,6 +28,7 @@ module _ (cs : List Clause) where
   pub begun_search : (places : List ℕ) → length places ≡ length cs → ((i : ℕ) → slice_index places i ≡ 0) → IsSearch cs [] places
   begun_search places e zeros = record {
     derived = λ x h. absurd (Contains-none x h);
+    made = λ k lt. absurd (omega arith);
     sized = e;
     within = λ i lt. let z = zeros i in omega arith;
     passed = λ i m lt below. let z = zeros i in absurd (omega arith);
@@ -50,6 +51,7 @@ module _ (cs : List Clause) where
     pub moved : IsSearch cs keys (slice_set places i p)
     moved = record {
       derived = s.derived;
+      made = s.made;
       sized = length-set places i p ∙ s.sized;
       within = λ j below. elim (same_or_other j i) [
         | inl same ↦ subst (λ j. slice_index (slice_set places i p) j ≤ length (clause_at cs j).body) (sym same) (subst (λ q. q ≤ length (clause_at cs i).body) (sym here) within)
@@ -87,6 +89,7 @@ module _ (cs : List Clause) where
         record {
           search = record {
             derived = adds_derived cs keys new i s.derived lt (λ m d below. subst (Contains keys) (get_or_default (clause_at cs i).body m 0 d below) (all_passed m (omega arith))) adds;
+            made = adds_made cs keys new i s.made lt (λ m d below. subst (Contains keys) (get_or_default (clause_at cs i).body m 0 d below) (all_passed m (omega arith))) adds;
             sized = moved.sized;
             within = moved.within;
             passed = λ j m below behind. extends_keeps keys new ext (slice_index (clause_at cs j).body m) (moved.passed j m below behind);
@@ -148,6 +151,7 @@ module _ (cs : List Clause) where
   closed_all keys places k s w le = record {
     derived = λ x h. (length keys, s.derived x h);
     closed = λ i lt all. by i lt all (w i lt);
+    made = s.made;
   }
     where
       by : (i : ℕ) → i < length cs → All (Contains keys) (clause_at cs i).body → Waits cs keys places k i → Contains keys (clause_at cs i).head

@@ -1,6 +1,6 @@
 -- Least sets by rules: a clause puts its head into the set where all of its body is there.
 -- Source: Dowling and Gallier 1984 (Horn clauses).
-use Rattle.std.specs.Prelude.{◌≡◌, ◌≢◌, ℕ, zero, suc, ◌<◌, ◌≤◌, List, [], ◌++◌, length, slice_index, slice_index_or, All, Contains, ◌∷◌, ◌⊎◌}
+use Rattle.std.specs.Prelude.{◌≡◌, ◌≢◌, ℕ, zero, suc, ◌<◌, ◌≤◌, List, [], ◌++◌, length, take, slice_index, slice_index_or, All, Contains, ◌∷◌, ◌⊎◌}
 
 pub record Clause : Type 0 where
   pub head : ℕ
@@ -17,6 +17,10 @@ IsDerivedIn (suc n) clauses x = (i : ℕ) × (i < length clauses) × ((clause_at
 abbrev pub IsDerived : List Clause → ℕ → Type 0
 IsDerived clauses x = (n : ℕ) × IsDerivedIn n clauses x
 
+-- made by a clause from numbers that stand before its place
+abbrev pub IsMade : List Clause → List ℕ → ℕ → Type 0
+IsMade clauses keys k = (i : ℕ) × (i < length clauses) × ((clause_at clauses i).head ≡ slice_index keys k) × All (Contains (take k keys)) (clause_at clauses i).body
+
 -- what the clauses derive from the set's own is in the set
 abbrev pub IsClosed : List Clause → List ℕ → Type 0
 IsClosed clauses keys = (i : ℕ) → i < length clauses → All (Contains keys) (clause_at clauses i).body → Contains keys (clause_at clauses i).head
@@ -24,6 +28,7 @@ IsClosed clauses keys = (i : ℕ) → i < length clauses → All (Contains keys)
 pub record IsLeastSet (clauses : List Clause) (keys : List ℕ) : Type 0 where
   pub derived : (x : ℕ) → Contains keys x → IsDerived clauses x
   pub closed : IsClosed clauses keys
+  pub made : (k : ℕ) → k < length keys → IsMade clauses keys k
 
 -- the numbers in clauses are below a bound
 abbrev pub AreBelow : ℕ → List Clause → Type 0
@@ -37,6 +42,7 @@ part_at clauses places i = slice_index (clause_at clauses i).body (slice_index p
 -- what is found is derived, and so is each part of a body before the place that the search has come to
 pub record IsSearch (clauses : List Clause) (keys places : List ℕ) : Type 0 where
   pub derived : (x : ℕ) → Contains keys x → IsDerivedIn (length keys) clauses x
+  pub made : (k : ℕ) → k < length keys → IsMade clauses keys k
   pub sized : length places ≡ length clauses
   pub within : (i : ℕ) → i < length clauses → slice_index places i ≤ length (clause_at clauses i).body
   pub passed : (i m : ℕ) → i < length clauses → m < slice_index places i → Contains keys (slice_index (clause_at clauses i).body m)

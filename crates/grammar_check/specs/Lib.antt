@@ -6,3 +6,10 @@ pub mod Tables
 pub mod Steps
 pub mod Counted
 pub mod Tested
+pub mod Links
+pub mod Linked
+pub mod Settled
+pub mod Told
+pub mod Shared
+pub mod Refused
+pub mod Message

@@ -19,7 +19,7 @@ pub record HasPlaces (clauses : List Clause) (rows : List (List ℕ)) : Type 0 w
 pub record HasAdded (old new : List (List ℕ)) (x i : ℕ) : Type 0 where
   pub same_length : length new ≡ length old
   pub keeps : (y j : ℕ) → Contains (row_at old y) j → Contains (row_at new y) j
-  pub only : (y j : ℕ) → Contains (row_at new y) j → Contains (row_at old y) j ⊎ (j ≡ i)
+  pub only : (y j : ℕ) → Contains (row_at new y) j → Contains (row_at old y) j ⊎ ((y ≡ x) × (j ≡ i))
   pub has : Contains (row_at new x) i
 
 -- a number was added to the row of each of these

@@ -17,6 +17,7 @@ end_of bases symbol = slice_index bases (suc symbol)
 -- room for each level of each symbol's rules, and for level 0 in any case
 pub record IsNumbering (g : Grammar) (bases : List ℕ) : Type 0 where
   pub sized : length bases ≡ suc (length g.names)
+  pub begin : slice_index bases 0 ≡ 0
   pub rising : (s : ℕ) → s < length g.names → slice_index bases s < end_of bases s
   pub rooms : (i : ℕ) → i < length g.rules → slice_index bases (lhs_of (rule_at g i)) + groups_of (rule_at g i) ≤ end_of bases (lhs_of (rule_at g i))
 

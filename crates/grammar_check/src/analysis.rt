@@ -3,11 +3,15 @@ ghost use Rattle.std.specs.Prelude.{◌≡◌, ℕ, ◌+◌, ◌-◌, ◌^◌, �
 ghost use Rattle.grammar_model.specs.Grammar.{Slot, slot_of};
 ghost use Rattle.grammar_model.specs.Analysis.{IsNullable, IsProductive, IsAccessible};
 ghost use Rattle.grammar_model.specs.Checked.{IsLeft};
+ghost use Rattle.grammar_model.specs.Cycles.{IsLeastCycle, HasHeights};
 ghost use Rattle.grammar_check.specs.Slots.{end_of, IsNumbering};
 ghost use Rattle.grammar_check.specs.Tested.{HasTests};
+ghost use Rattle.grammar_check.specs.Told.{slots_with};
 
 use crate::clauses::{analysis_of, lefts_of};
+use crate::cyclic::cycle_of;
 use crate::least::is_found;
+use crate::links::Slots;
 use crate::slots::bases_of;
 use crate::steps::reach_of;
 use grammar_core::{SymbolId, Written};
@@ -171,5 +175,20 @@ impl<'a> Analysis<'a> {
     {
         let x = last_use(&self.bases, s.0);
         is_found(&self.reach, x)
+    }
+
+    /// The least cycle, if there is one.
+    pub fn cycle(&self, alloc: Global) -> Result<Option<Vec<(SymbolId, u32)>>, AllocError>
+        ensures some { IfOk result (λ r. IfSome r (λ cycle. IsLeastCycle self.now (slots_with cycle.items))) }
+        ensures none { IfOk result (λ r. IsNone r → HasHeights self.now) }
+    {
+        let slots = Slots {
+            bases: &self.bases,
+            nullable: &self.nullable,
+            productive: &self.productive,
+            reach: &self.reach,
+        };
+        let cycle = cycle_of(alloc, self.written, &slots)?;
+        Ok(cycle)
     }
 }

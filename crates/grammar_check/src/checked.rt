@@ -1,11 +1,15 @@
 //! Grammars that are checked.
-ghost use Rattle.std.specs.Prelude.{◌≡◌, ℕ, ◌<◌, ◌↔◌, length, IsTrue};
+ghost use Rattle.std.specs.Prelude.{◌≡◌, ℕ, ◌<◌, ◌↔◌, length, IsTrue, IfOk, IfErr, OnOk};
 ghost use Rattle.grammar_model.specs.Grammar.{Slot, slot_of};
 ghost use Rattle.grammar_model.specs.Analysis.{IsNullable, IsProductive, IsAccessible};
 ghost use Rattle.grammar_model.specs.Checked.{IsChecked};
 ghost use Rattle.grammar_check.specs.Tested.{HasTests};
+ghost use Rattle.grammar_check.specs.Refused.{IsTold};
 
+use crate::GrammarRefusal;
 use crate::analysis::Analysis;
+use crate::shared::{duplicate_rule, shared_sequence};
+use std::alloc::Global;
 use grammar_core::{SymbolId, Written};
 use std::marker::Model;
 
@@ -24,6 +28,50 @@ impl<'a> Model for Checked<'a> {
     ghost view = { λ c. c.analysis };
 
     ghost invariant = { λ c. IsChecked c.analysis };
+}
+
+// Nothing, where the grammar passes, or the first fault.
+fn first_fault(alloc: Global, analysis: &Analysis<'_>) -> Result<(), GrammarRefusal>
+    ensures ok { OnOk result (IsChecked analysis.now) }
+    ensures err { IfErr result (IsTold analysis.now) }
+{
+    let w = analysis.written();
+    if w.rule_count() == 0 {
+        return Err(GrammarRefusal::NoRules);
+    }
+    if w.start_count() == 0 {
+        return Err(GrammarRefusal::NoStart);
+    }
+    if let Some(symbol) = analysis.start_without_rule() {
+        return Err(GrammarRefusal::StartNotLhs { symbol });
+    }
+    if let Some(symbol) = shared_sequence(alloc, w)? {
+        return Err(GrammarRefusal::SequenceLhs { symbol });
+    }
+    if let Some(rule) = duplicate_rule(alloc, w)? {
+        return Err(GrammarRefusal::Duplicate { rule });
+    }
+    if let Some(rule) = analysis.counted_nullable() {
+        return Err(GrammarRefusal::CountedNullable { rule });
+    }
+    if let Some(symbol) = analysis.unproductive_start() {
+        return Err(GrammarRefusal::UnproductiveStart { symbol });
+    }
+    if let Some(cycle) = analysis.cycle(alloc)? {
+        return Err(GrammarRefusal::Cyclic { cycle });
+    }
+    Ok(())
+}
+
+/// The grammar, where it passes the check, or the first refusal in order.
+pub fn check(alloc: Global, w: &Written) -> Result<Checked<'_>, GrammarRefusal>
+    ensures ok { IfOk result (λ c. c ≡ w.now) }
+    ensures checked { OnOk result (IsChecked w.now) }
+    ensures err { IfErr result (IsTold w.now) }
+{
+    let analysis = Analysis::analyse(alloc, w)?;
+    first_fault(alloc, &analysis)?;
+    Ok(Checked { analysis })
 }
 
 impl<'a> Checked<'a> {

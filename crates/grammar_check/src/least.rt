@@ -45,15 +45,16 @@ fn open_place(body: &[u32], found: &IndexSet<u32>, from: usize) -> usize
     body.len()
 }
 
-fn add(found: &mut IndexSet<u32>, x: u32) -> Result<(), AllocFailed<u32>>
+/// One more number in the set.
+pub fn add(found: &mut IndexSet<u32>, x: u32) -> Result<(), AllocFailed<u32>>
     ensures { OnOk result (Adds found.old.keys found.new.keys x) }
 {
     found.insert(x)?;
     Ok(())
 }
 
-// One more clause in a row.
-fn add_to_row(rows: &mut Vec<Vec<u32>>, x: usize, clause: u32) -> Result<(), AllocFailed<u32>>
+/// One more clause in a row.
+pub fn add_to_row(rows: &mut Vec<Vec<u32>>, x: usize, clause: u32) -> Result<(), AllocFailed<u32>>
     requires { x < length rows.old.items }
     ensures { OnOk result (HasAdded (rows_of rows.old.items) (rows_of rows.new.items) x clause) }
 {
@@ -71,7 +72,8 @@ fn add_clause(rows: &mut Vec<Vec<u32>>, body: &[u32], clause: u32) -> Result<(),
     Ok(())
 }
 
-fn empty_rows(alloc: Global, count: usize) -> Result<Vec<Vec<u32>>, AllocError>
+/// Rows of nothing.
+pub fn empty_rows(alloc: Global, count: usize) -> Result<Vec<Vec<u32>>, AllocError>
     ensures length { IfOk result (λ rows. length rows.items ≡ count) }
     ensures empty { IfOk result (λ rows. (x : ℕ) → row_at (rows_of rows.items) x ≡ []) }
 {

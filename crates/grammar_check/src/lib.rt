@@ -5,13 +5,24 @@ mod analysis;
 mod checked;
 mod children;
 mod clauses;
+mod cycles;
+mod cyclic;
+mod layers;
 mod least;
+mod links;
+mod message;
+mod refusal;
 mod refusals;
+mod shared;
+mod shortest;
 mod slots;
 mod steps;
+mod table;
 #[cfg(test)]
 mod tests;
 
-pub use checked::Checked;
+pub use checked::{Checked, check};
 pub use children::child_at;
 pub use grammar_core::{RuleId, SymbolId, Written};
+pub use message::append_refusal;
+pub use refusal::GrammarRefusal;

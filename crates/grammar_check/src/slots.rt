@@ -57,6 +57,7 @@ fn rooms_of(alloc: Global, w: &Written) -> Result<Vec<u32>, AllocError>
 // The sums of the rooms before each symbol, and of all.
 fn sums_of(alloc: Global, rooms: &[u32]) -> Result<Vec<u32>, AllocError>
     ensures length { IfOk result (λ sums. length sums.items ≡ suc (length rooms.now)) }
+    ensures begin { IfOk result (λ sums. slice_index sums.items 0 ≡ 0) }
     ensures steps { IfOk result (λ sums. (s : ℕ) → s < length rooms.now → slice_index sums.items (suc s) ≡ slice_index sums.items s + slice_index rooms.now s) }
 {
     let mut sums = Vec::new(alloc);

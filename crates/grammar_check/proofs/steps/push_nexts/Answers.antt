@@ -23,3 +23,6 @@ pub loop-s-preserved : goal.loop-s-preserved
 loop-s-preserved c = more_by c.args.clauses.now.items c.loop-s.clauses.items c.push_next.new.clauses.items (IsOfNexts c.args.bases.now c.args.total c.loop-s.s) (IsOfNext c.args.total (slice_index c.args.bases.now c.loop-s.s) (end_of c.args.bases.now c.loop-s.s)) (IsOfNexts c.args.bases.now c.args.total (c.loop-s.s + 1))
     (λ d. nexts_split c.args.bases.now c.args.total c.loop-s.s d) c.loop-s.invariant
     (subst (λ n. HasMore c.loop-s.clauses.items c.push_next.new.clauses.items (IsOfNext c.args.total (slice_index c.args.bases.now c.loop-s.s) (slice_index c.args.bases.now n))) (add-one c.loop-s.s) c.in_ok-push_next.ensures)
+
+pub returns : goal.returns
+returns c = subst (λ n. HasMore c.args.clauses.now.items c.loop-s.clauses.items (IsOfNexts c.args.bases.now c.args.total n)) (let z : c.loop-s.s ≡ length c.args.w.now.names = omega (arith, c.loop-s-test.false, c.loop-s.auto.s-end, c.symbol_count-s-end.ensures.count) in z) c.loop-s.invariant

@@ -33,3 +33,6 @@ loop-k-preserved c =
           (more_same c.args.clauses.now.items c.loop-k.clauses.items (IsOfPart c.args.w.now c.args.bases.now c.args.total c.args.i c.loop-k.k) (IsOfPart c.args.w.now c.args.bases.now c.args.total c.args.i (c.loop-k.k + 1))
           (λ d. part_skip c.args.w.now c.args.bases.now c.args.total c.args.i c.loop-k.k d (λ p. true≢false (sym (told.1 p) ∙ w.if-is_found.false))) c.loop-k.invariant)
     ]
+
+pub returns : goal.returns
+returns c = subst (λ n. HasMore c.args.clauses.now.items c.loop-k.clauses.items (IsOfPart c.args.w.now c.args.bases.now c.args.total c.args.i n)) (let z : c.loop-k.k ≡ slot_count (rule_at c.args.w.now c.args.i) = omega (arith, c.loop-k-test.false, c.loop-k.auto.k-end, c.part_count-k-end.ensures) in z) c.loop-k.invariant

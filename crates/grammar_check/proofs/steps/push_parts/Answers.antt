@@ -25,3 +25,6 @@ loop-i-preserved c = elim c.if-is_live.branch [
       (more_same c.args.clauses.now.items c.loop-i.clauses.items (IsOfParts c.args.w.now c.args.bases.now c.args.total c.loop-i.i) (IsOfParts c.args.w.now c.args.bases.now c.args.total (c.loop-i.i + 1))
       (λ d. parts_skip c.args.w.now c.args.bases.now c.args.total c.loop-i.i d (λ live. true≢false (sym (c.is_live.ensures.1 live) ∙ w.if-is_live.false))) c.loop-i.invariant)
 ]
+
+pub returns : goal.returns
+returns c = subst (λ n. HasMore c.args.clauses.now.items c.loop-i.clauses.items (IsOfParts c.args.w.now c.args.bases.now c.args.total n)) (let z : c.loop-i.i ≡ length c.args.w.now.rules = omega (arith, c.loop-i-test.false, c.loop-i.auto.i-end, c.rule_count-i-end.ensures.count) in z) c.loop-i.invariant

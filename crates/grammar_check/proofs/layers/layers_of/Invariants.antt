@@ -1,0 +1,12 @@
+use Rattle.std.proofs.Common.{◌≡◌, ℕ, suc, ◌+◌, ◌<◌, ◌≤◌, List, [], ◌∷◌, ◌++◌, length, slice_index, All}
+use Rattle.grammar_check.specs.Rows.{rows_of}
+use Rattle.grammar_check.specs.Links.{Tied, IsDown, AreLayers}
+use Rattle.grammar_check.proofs.layers.layers_of.Given as goal
+
+abbrev pub invariant-loop-n : goal.invariant-loop-n
+invariant-loop-n l = record {
+  sized : length l.starts.items ≡ l.n + 1;
+  layers : AreLayers (rows_of l.rows) l.floors l.to l.found.keys (l.starts.items ++ length l.found.keys ∷ []);
+  known : All (λ x. x < length l.rows) l.found.keys;
+  down : IsDown l.floors l.found.keys
+}

@@ -1,0 +1,11 @@
+use Rattle.std.proofs.Common.{◌≡◌, Bool, true, false, not, sym, ap, ◌∙◌, true≢false}
+use Rattle.std.specs.Bool.{IsTrue}
+use Rattle.std.specs.List.{Contains}
+use Rattle.grammar_check.proofs.Sharing.{found_text, added_text, fresh_text}
+use Rattle.grammar_check.proofs.shared.add_text.Goals as goal
+
+pub returns-clause-was : goal.returns-clause-was
+returns-clause-was c = fresh_text c.args.texts.now.keys c.args.text c.in_ok-new.new c.in_ok-new.ensures.added
+
+pub returns-clause-added : goal.returns-clause-added
+returns-clause-added c = added_text c.args.texts.now.keys c.insert.new.self.keys c.args.text c.in_ok-new.ensures.keys

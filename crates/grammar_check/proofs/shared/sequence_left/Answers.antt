@@ -1,0 +1,17 @@
+use Rattle.std.proofs.Common.{arith, ◌≡◌, ◌↔◌, ℕ, Bool, true, false, ◌+◌, ◌||◌, List, sym, ap, ◌∙◌, subst, refl, length, slice_index_or, slice_set, length-set}
+use Rattle.grammar_check.specs.Shared.{HasSequence, IsSequenceAt, Marks}
+use Rattle.grammar_check.proofs.Sharing.{mark_more, sequence_more}
+use Rattle.grammar_check.proofs.shared.sequence_left.Goals as goal
+
+pub loop-i-preserved : goal.loop-i-preserved
+loop-i-preserved c =
+    let known = c.left_of-symbol.ensures.known in
+    record {
+      sized = ap length c.mark.ensures ∙ (length-set c.loop-i.marks.items c.left_of-symbol.result (slice_index_or c.loop-i.marks.items c.left_of-symbol.result false || c.is_sequence.result) ∙ c.loop-i.invariant.sized);
+      marks = subst (λ (l : List Bool). Marks l (HasSequence c.args.w.now (c.loop-i.i + 1))) (sym c.mark.ensures)
+          (mark_more c.loop-i.marks.items (HasSequence c.args.w.now c.loop-i.i) (HasSequence c.args.w.now (c.loop-i.i + 1)) c.left_of-symbol.result c.is_sequence.result (IsSequenceAt c.args.w.now c.loop-i.i) c.loop-i.invariant.marks (omega (arith, known, c.loop-i.invariant.sized))
+          c.is_sequence.ensures (sequence_more c.args.w.now c.loop-i.i c.left_of-symbol.result c.left_of-symbol.ensures.value));
+    }
+
+pub returns-clause-marks : goal.returns-clause-marks
+returns-clause-marks c = subst (λ n. Marks c.loop-i.marks.items (HasSequence c.args.w.now n)) (let z : c.loop-i.i ≡ length c.args.w.now.rules = omega (arith, c.loop-i-test.false, c.loop-i.auto.i-end, c.rule_count-i-end.ensures.count) in z) c.loop-i.invariant.marks
