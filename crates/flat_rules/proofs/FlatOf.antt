@@ -111,7 +111,7 @@ module _ (w : Grammar) (d : Decided w) where
 
   -- ---- tops
 
-  abbrev top_made : ℕ → NamedRule
+  abbrev pub top_made : ℕ → NamedRule
   top_made k = record { left = Top k; right = Flatten.symbol_for w d (slot_of (slice_index w.starts k)) ∷ []; source = OfStart k }
 
   top_rules : flat_map (Flatten.rules_of w d) (Flatten.tops w d) ≡ map top_made (numbers (length w.starts))

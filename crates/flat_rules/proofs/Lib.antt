@@ -1,7 +1,12 @@
+pub mod Adding
+pub mod Agreeing
 pub mod Arranged
+pub mod Deciding
 pub mod FlatOf
 pub mod Heights
-pub mod Instances
+pub mod ListsChecked
+pub mod ListsDecided
+pub mod ListsMet
 pub mod Law
 pub mod Named
 pub mod Numbered
@@ -9,6 +14,10 @@ pub mod Once
 pub mod Parts
 pub mod Ranges
 pub mod Reach
+pub mod Listing
+pub mod Rows
 pub mod Rules
+pub mod SlotRules
+pub mod SymbolRules
 pub mod Symbols
 pub mod Whole

@@ -1,1 +1,5 @@
 pub mod Flatten
+pub mod Lists
+pub mod Tables
+pub mod Added
+pub mod Flattened

@@ -1,11 +1,29 @@
-//! Flat rules: levels, sequences and nullable symbols as plain rules. The definition of the flat grammar that is made of a checked
-//! one, with the theorem that it is its flat grammar; the code that makes it is to come.
+//! Flat rules: levels, sequences and nullable symbols as plain rules. The flat grammar of a checked one, and the theorem that it is
+//! its flat grammar.
 #![tactic(auto)]
 
+mod flattening;
+mod lefts;
+mod numbering;
+mod pushing;
+mod refusal;
+#[cfg(test)]
+mod tests;
+
 ghost use Rattle.flat_rules.specs.Flatten.{FlatGrammarsExist};
+ghost use Rattle.flat_rules.specs.Lists.{ListsHaveFlatGrammar};
+
+pub use flattening::flatten;
+pub use refusal::FlatRefusal;
 
 /// A checked grammar has the flat grammar that is listed for it: its symbols, rules, marks and tops are those of the written one, and
 /// all that is always so of a flat grammar is so of it.
 pub fn flat_grammars_exist()
     ensures { FlatGrammarsExist }
+{}
+
+/// A small grammar with a star, a separated list, levels and a start that is nullable is checked, and its flat grammar is the one
+/// that is written out by hand.
+pub fn lists_have_flat_grammar()
+    ensures { ListsHaveFlatGrammar }
 {}

@@ -11,6 +11,7 @@ pub mod More
 pub mod StepLemmas
 pub mod Reaching
 pub mod Faults
+pub mod Telling
 pub mod Gaining
 pub mod Layering
 pub mod Choosing

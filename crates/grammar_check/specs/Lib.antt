@@ -5,6 +5,7 @@ pub mod Clauses
 pub mod Tables
 pub mod Steps
 pub mod Counted
+pub mod Tested
 pub mod Links
 pub mod Linked
 pub mod Settled

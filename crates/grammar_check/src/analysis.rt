@@ -5,7 +5,11 @@ ghost use Rattle.grammar_model.specs.Analysis.{IsNullable, IsProductive, IsAcces
 ghost use Rattle.grammar_model.specs.Checked.{IsLeft};
 ghost use Rattle.grammar_model.specs.Cycles.{IsLeastCycle, HasHeights};
 ghost use Rattle.grammar_check.specs.Slots.{end_of, IsNumbering};
+<<<<<<< HEAD
 ghost use Rattle.grammar_check.specs.Message.{AreOf};
+=======
+ghost use Rattle.grammar_check.specs.Tested.{HasTests};
+>>>>>>> a036f9e197a89a75afb7ba786547f7d5057451de
 ghost use Rattle.grammar_check.specs.Told.{slots_with};
 
 use crate::clauses::{analysis_of, lefts_of};
@@ -102,6 +106,13 @@ impl<'a> Analysis<'a> {
         ensures { result.now ≡ self.now }
     {
         self.written
+    }
+
+    /// States that what slots can do is told by tests.
+    pub fn tested(&self)
+        ensures { HasTests self.now }
+    {
+        let _count = self.bases.len();
     }
 
     /// Whether the symbol is the left side of a rule.

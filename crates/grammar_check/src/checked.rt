@@ -4,6 +4,7 @@ ghost use Rattle.grammar_model.specs.Grammar.{Slot, slot_of};
 ghost use Rattle.grammar_model.specs.Analysis.{IsNullable, IsProductive, IsAccessible};
 ghost use Rattle.grammar_model.specs.Checked.{IsChecked};
 ghost use Rattle.grammar_check.specs.Message.{IsOf};
+ghost use Rattle.grammar_check.specs.Tested.{HasTests};
 ghost use Rattle.grammar_check.specs.Refused.{IsTold};
 
 use crate::GrammarRefusal;
@@ -82,6 +83,13 @@ impl<'a> Checked<'a> {
         ensures checked { IsChecked self.now }
     {
         let _ = &self.analysis;
+    }
+
+    /// States that what slots can do is told by tests.
+    pub fn tested(&self)
+        ensures { HasTests self.now }
+    {
+        self.analysis.tested();
     }
 
     /// The grammar.

@@ -23,6 +23,7 @@ mod table;
 mod tests;
 
 pub use checked::{Checked, check};
+pub use children::child_at;
 pub use grammar_core::{RuleId, SymbolId, Written};
 pub use laws::{checked_is_not_refused, refusal_is_one};
 pub use message::append_refusal;

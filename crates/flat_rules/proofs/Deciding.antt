@@ -1,0 +1,126 @@
+-- What a check tells by tests is what it decides; and the slots that are numbered, each once.
+use Rattle.std.proofs.Common.{◌≡◌, ◌≢◌, ℕ, zero, suc, ◌+◌, ◌<◌, ◌≤◌, Bool, true, false, List, [], ◌∷◌, ◌++◌, length, map, inl, inr, refl, sym, ap, ◌∙◌, subst, arith}
+use Rattle.std.specs.Prelude.{◌&&◌, filter, not, slice_index_or}
+use Rattle.std.specs.List.{AllPairs, flat_map}
+use Rattle.grammar_model.specs.Grammar.{WrittenRule, Grammar, rule_at, no_rule, slot_of, level_of}
+use Rattle.grammar_model.specs.Grammar
+use Rattle.grammar_model.specs.Simple.{is_terminal, numbers}
+use Rattle.grammar_model.proofs.Lists.{Among, among_left, among_map}
+use Rattle.grammar_core.specs.Written.{IsWritten}
+use Rattle.grammar_check.specs.Tested.{HasTests}
+use Rattle.recognizer_model.specs.FlatForm.{IsSymbolOf}
+use Rattle.recognizer_model.specs.declared.flat.FlatSymbol.TheVariants.{Terminal, Slot}
+use Rattle.flat_rules.specs.Flatten
+use Rattle.flat_rules.specs.Flatten.{Decided, levels_of}
+use Rattle.flat_rules.specs.declared.numbering.SlotKey.{SlotKey}
+use Rattle.flat_rules.specs.Tables.{told_slot, slot_at, slots_of_terminals, slots_of_lefts}
+use Rattle.flat_rules.proofs.Once.{Once, once_pairs, among_filter_from}
+use Rattle.flat_rules.proofs.Symbols.{both, both_from, false_of_not, once_symbols, symbol_in}
+use Rattle.flat_rules.proofs.FlatOf.{append_all}
+use Rattle.flat_rules.proofs.Listing.{used_known, productive_rule}
+
+-- ---- what is decided
+
+abbrev top_level : List WrittenRule → ℕ
+top_level [] = 0
+top_level (r ∷ rs) = suc (level_of r + top_level rs)
+
+below_top : (rules : List WrittenRule) (i : ℕ) → i < length rules → level_of (slice_index_or rules i no_rule) < top_level rules
+below_top [] i lt = absurd (omega arith)
+below_top (r ∷ rs) zero lt = omega arith
+below_top (r ∷ rs) (suc i) lt = let h = below_top rs i (omega arith) in omega arith
+
+pub decided_of : (w : Grammar) → IsWritten w → HasTests w → Decided w
+decided_of w written t = record {
+  used = λ s. t.accessible s && t.productive s;
+  used_is = λ s. (
+    (λ e. (let (a, b) = both_from (t.accessible s) (t.productive s) e in ((t.accessible_is s).0 a, (t.productive_is s).0 b))),
+    (λ u. both (t.accessible s) (t.productive s) ((t.accessible_is s).1 u.0) ((t.productive_is s).1 u.1)),
+  );
+  productive = t.productive;
+  productive_is = t.productive_is;
+  nullable = t.nullable;
+  nullable_is = t.nullable_is;
+  symbols = length w.names;
+  below_symbols = λ s u. used_known w written s u;
+  levels = top_level w.rules;
+  below_levels = λ s u other. (let (i, lt, is, le) = productive_rule w s other u.1 in let less = below_top w.rules i lt in omega arith);
+}
+
+-- ---- each slot once
+
+once_left : {X : Type 0} (xs ys : List X) → Once (xs ++ ys) → Once xs
+once_left [] ys h = tt
+once_left (x ∷ xs) ys h = ((λ m. h.0 (among_left x xs ys m)), once_left xs ys h.1)
+
+once_unmap : {X Y : Type 0} (f : X → Y) (xs : List X) → Once (map f xs) → Once xs
+once_unmap f [] h = tt
+once_unmap f (x ∷ xs) h = ((λ m. h.0 (among_map f x xs m)), once_unmap f xs h.1)
+
+map_filter : {X : Type 0} (f g : ℕ → X) (p : ℕ → Bool) (xs : List ℕ) → ((k : ℕ) → p k ≡ true → f k ≡ g k) → map f (filter p xs) ≡ map g (filter p xs)
+map_filter f g p xs same = go (filter p xs) (λ k m. same k (among_filter_from p k xs m).1)
+  where
+    go : (ys : List ℕ) → ((k : ℕ) → Among k ys → f k ≡ g k) → map f ys ≡ map g ys
+    go [] h = refl
+    go (y ∷ ys) h = λ i. h y (inl refl) i ∷ go ys (λ k m. h k (inr m)) i
+
+pub map_twice : {X Y Z : Type 0} (g : Y → Z) (f : X → Y) (xs : List X) → map g (map f xs) ≡ map (λ x. g (f x)) xs
+map_twice g f [] = refl
+map_twice g f (x ∷ xs) = ap (λ l. g (f x) ∷ l) (map_twice g f xs)
+
+pub map_both : {X Y : Type 0} (f : X → Y) (xs ys : List X) → map f (xs ++ ys) ≡ map f xs ++ map f ys
+map_both f [] ys = refl
+map_both f (x ∷ xs) ys = ap (λ l. f x ∷ l) (map_both f xs ys)
+
+pub map_flat : {K X Y : Type 0} (f : X → Y) (g : K → List X) (h : K → List Y) (xs : List K) → ((k : K) → map f (g k) ≡ h k) → map f (flat_map g xs) ≡ flat_map h xs
+map_flat f g h [] same = refl
+map_flat f g h (x ∷ xs) same = map_both f (g x) (flat_map g xs) ∙ (λ i. same x i ++ map_flat f g h xs same i)
+
+module _ (w : Grammar) (d : Decided w) where
+  abbrev pub slots_in : List Grammar.Slot
+  slots_in = slots_of_terminals w d ++ slots_of_lefts w d
+
+  pub terminal_symbol : (s k : ℕ) → is_terminal w s ≡ true → Flatten.symbol_for w d (slot_at s k) ≡ Terminal s
+  terminal_symbol s k e = ap (λ b. Rattle.std.proofs.Common.cond b (Terminal s) (Slot s k)) e
+
+  pub left_symbol : (s k : ℕ) → is_terminal w s ≡ false → Flatten.symbol_for w d (slot_at s k) ≡ Slot s k
+  left_symbol s k e = ap (λ b. Rattle.std.proofs.Common.cond b (Terminal s) (Slot s k)) e
+
+  terminals_are : map (Flatten.symbol_for w d) (slots_of_terminals w d) ≡ Flatten.terminals w d
+  terminals_are =
+      let p : ℕ → Bool = λ s. is_terminal w s && d.used (slot_of s) in
+      map_twice (Flatten.symbol_for w d) slot_of (filter p (numbers d.symbols))
+      ∙ map_filter (λ s. Flatten.symbol_for w d (slot_of s)) Terminal p (numbers d.symbols) (λ s t. terminal_symbol s 0 (both_from (is_terminal w s) (d.used (slot_of s)) t).0)
+
+  slots_are : map (Flatten.symbol_for w d) (slots_of_lefts w d) ≡ Flatten.slots w d
+  slots_are =
+      map_flat (Flatten.symbol_for w d) (λ s. map (slot_at s) (levels_of w d s)) (λ s. map (Slot s) (levels_of w d s)) (numbers d.symbols)
+      (λ s. map_twice (Flatten.symbol_for w d) (slot_at s) (levels_of w d s)
+      ∙ map_filter (λ k. Flatten.symbol_for w d (slot_at s k)) (Slot s) (λ k. not (is_terminal w s) && d.used (slot_at s k)) (numbers d.levels)
+      (λ k t. left_symbol s k (false_of_not (is_terminal w s) (both_from (not (is_terminal w s)) (d.used (slot_at s k)) t).0)))
+
+  pub front_is : Flatten.terminals w d ++ Flatten.slots w d ≡ map (Flatten.symbol_for w d) slots_in
+  front_is = (λ i. sym terminals_are i ++ sym slots_are i) ∙ sym (map_both (Flatten.symbol_for w d) (slots_of_terminals w d) (slots_of_lefts w d))
+
+  -- the symbols, slots first
+  pub symbols_split : Flatten.symbols w d ≡ map (Flatten.symbol_for w d) slots_in ++ (Flatten.lists w d ++ Flatten.tops w d)
+  symbols_split = sym (append_all (Flatten.terminals w d) (Flatten.slots w d) (Flatten.lists w d ++ Flatten.tops w d)) ∙ ap (λ l. l ++ (Flatten.lists w d ++ Flatten.tops w d)) front_is
+
+  pub once_slots_in : Once slots_in
+  once_slots_in =
+      once_unmap (Flatten.symbol_for w d) slots_in (once_left (map (Flatten.symbol_for w d) slots_in) (Flatten.lists w d ++ Flatten.tops w d) (subst Once symbols_split (once_symbols w d)))
+
+-- a slot that is numbered is one that counts, of a known symbol
+pub slots_known : (w : Grammar) (d : Decided w) → IsWritten w → (slot : Grammar.Slot) → Among slot (slots_of_terminals w d ++ slots_of_lefts w d) → slot.symbol < length w.names
+slots_known w d written slot m = go (is_terminal w slot.symbol) refl
+  where
+    there : Among (Flatten.symbol_for w d slot) (Flatten.symbols w d)
+    there = subst (Among (Flatten.symbol_for w d slot)) (sym (symbols_split w d))
+        (among_left (Flatten.symbol_for w d slot) (map (Flatten.symbol_for w d) (slots_in w d)) (Flatten.lists w d ++ Flatten.tops w d) (among_map (Flatten.symbol_for w d) slot (slots_in w d) m))
+
+    go : (b : Bool) → is_terminal w slot.symbol ≡ b → slot.symbol < length w.names
+    go true e = let symbol : IsSymbolOf w (Terminal slot.symbol) = subst (IsSymbolOf w) (terminal_symbol w d slot.symbol slot.level e) (symbol_in w d (Flatten.symbol_for w d slot) there) in used_known w written (slot_of slot.symbol) symbol.1
+    go false e = let symbol : IsSymbolOf w (Slot slot.symbol slot.level) = subst (IsSymbolOf w) (left_symbol w d slot.symbol slot.level e) (symbol_in w d (Flatten.symbol_for w d slot) there) in used_known w written slot symbol.1
+
+pub keys_differ : (w : Grammar) (d : Decided w) (keys : List SlotKey) → map told_slot keys ≡ slots_of_terminals w d ++ slots_of_lefts w d → AllPairs (λ x y. x ≢ y) keys
+keys_differ w d keys e = once_pairs keys (once_unmap told_slot keys (subst Once (sym e) (once_slots_in w d)))

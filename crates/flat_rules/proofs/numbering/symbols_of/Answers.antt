@@ -1,0 +1,28 @@
+use Rattle.std.proofs.Common.{map, ap, ◌∙◌, ◌++◌, subst, length, arith}
+use Rattle.std.proofs.lemmas.List.{length-map}
+use Rattle.grammar_core.specs.Written.{IsWritten}
+use Rattle.flat_rules.specs.Flatten.{Decided}
+use Rattle.flat_rules.specs.Tables.{told_slot, slots_of_lefts, slots_of_terminals}
+use Rattle.flat_rules.proofs.Deciding.{decided_of, keys_differ}
+use Rattle.flat_rules.proofs.numbering.symbols_of.Goals as goal
+
+pub set_of-requires : goal.set_of-requires
+set_of-requires c =
+    let d : Decided c.args.c.now = decided_of c.args.c.now (subst IsWritten c.written.ensures c.rule_count.ensures.sound) c.tested.ensures in
+    keys_differ c.args.c.now d c.deref.result.now
+    (ap (map told_slot) c.deref.ensures.value ∙ c.in_ok-list_lefts.ensures d ∙ ap (λ l. l ++ slots_of_lefts c.args.c.now d) (c.in_ok-list_terminals.ensures d ∙ ap (λ l. map told_slot l ++ slots_of_terminals c.args.c.now d) c.new-keys.ensures.items))
+
+pub returns : goal.returns
+returns c =
+    let long = length-map c.in_ok-slots.slots.keys told_slot in
+    let keys = ap length c.in_ok-slots.ensures in record {
+      slots = λ d. ap (map told_slot) (c.in_ok-slots.ensures ∙ c.deref.ensures.value) ∙ c.in_ok-list_lefts.ensures d
+          ∙ ap (λ l. l ++ slots_of_lefts c.args.c.now d) (c.in_ok-list_terminals.ensures d ∙ ap (λ l. map told_slot l ++ slots_of_terminals c.args.c.now d) c.new-keys.ensures.items);
+      lists = c.in_ok-list_lists.ensures.lists;
+      before = c.in_ok-list_lists.ensures.before;
+      few = c.in_ok-list_lists.ensures.few;
+      sized = c.in_ok-list_lists.ensures.sized;
+      small =
+          let written = subst IsWritten c.written.ensures c.rule_count.ensures.sound in
+          omega (arith, long, keys, c.if-len-gt-MOST_SLOTS.false, c.len.ensures, c.deref.ensures.len, c.in_ok-list_lists.ensures.small, written.few_rules, written.few_starts);
+    }

@@ -1,0 +1,166 @@
+// Flat rules of small grammars against lists written by hand.
+use crate::*;
+use grammar_check::check;
+use grammar_core::{Assoc, CoreRefusal, Flat, Rule, RuleId, SeqRule, SymbolId, Written};
+use std::alloc::Global;
+use std::test::Fail;
+
+// Parts, level, groups, and which occurrence of the left side keeps the level.
+type Alternative = (&'static [u32], u32, Assoc);
+
+// A left side and its parts, by the numbers of flat symbols.
+type Line = (u32, &'static [u32]);
+
+// E ::= N | ( E ) || E ** E || E * E || E + E, with the numbers 0 E, 1 N, 2 (, 3 ), 4 **, 5 *, 6 +
+const SUMS: &[Alternative] = &[
+    (&[1], 3, Assoc::Left),
+    (&[2, 0, 3], 3, Assoc::Group),
+    (&[0, 4, 0], 2, Assoc::Right),
+    (&[0, 5, 0], 1, Assoc::Left),
+    (&[0, 6, 0], 0, Assoc::Left),
+];
+
+// Flat symbols: terminals from 0 to 5, E at its levels from 6 to 9, the top 10.
+const SUM_LINES: &[Line] = &[
+    (6, &[0]),
+    (6, &[1, 6, 2]),
+    (6, &[9, 3, 8]),
+    (6, &[7, 4, 8]),
+    (6, &[6, 5, 7]),
+    (7, &[0]),
+    (7, &[1, 6, 2]),
+    (7, &[9, 3, 8]),
+    (7, &[7, 4, 8]),
+    (8, &[0]),
+    (8, &[1, 6, 2]),
+    (8, &[9, 3, 8]),
+    (9, &[0]),
+    (9, &[1, 6, 2]),
+    (10, &[6]),
+];
+
+// Flat symbols of a star without separator: the item 0, the left side 1, the list 2, the top 3.
+const STAR_LINES: &[Line] = &[(1, &[2]), (2, &[2, 0]), (2, &[0]), (3, &[1])];
+
+// Flat symbols of a list with a separator: the item 0, the separator 1, the left side 2, the list 3, the top 4.
+const LIST_LINES: &[Line] = &[
+    (2, &[3]),
+    (2, &[3, 1]),
+    (3, &[3, 1, 0]),
+    (3, &[0]),
+    (4, &[2]),
+];
+
+// The same without a separator behind the list.
+const PROPER_LINES: &[Line] = &[(2, &[3]), (3, &[3, 1, 0]), (3, &[0]), (4, &[2])];
+
+// The same with a separator that has no tree, and so is no flat symbol.
+const DEAD_LINES: &[Line] = &[(1, &[2]), (2, &[0]), (3, &[1])];
+
+const ENDLESS: &[u32] = &[2, 1];
+
+fn named(alloc: Global, names: &[&str]) -> Result<Written, CoreRefusal> {
+    let mut w = Written::new(alloc);
+    for name in names {
+        w.symbol_new(name)?;
+    }
+    w.start_add(SymbolId(0))?;
+    Ok(w)
+}
+
+fn sums(alloc: Global) -> Result<Written, CoreRefusal> {
+    let mut w = named(alloc, &["E", "N", "(", ")", "**", "*", "+"])?;
+    for (parts, level, assoc) in SUMS {
+        let rhs = parts.iter().map(|part| SymbolId(*part)).collect(alloc)?;
+        w.rule_new(Rule {
+            lhs: SymbolId(0),
+            rhs,
+            level: *level,
+            groups: 4,
+            assoc: *assoc,
+            rank: 0,
+            null_high: false,
+        })?;
+    }
+    Ok(w)
+}
+
+// Symbol 0 is a list of symbols 1.
+fn list(
+    alloc: Global,
+    plus: bool,
+    separator: Option<SymbolId>,
+    proper: bool,
+) -> Result<Written, CoreRefusal> {
+    let mut w = named(alloc, &["L", "N", ","])?;
+    w.sequence_new(SeqRule {
+        lhs: SymbolId(0),
+        item: SymbolId(1),
+        plus,
+        separator,
+        proper,
+        rank: 0,
+        null_high: false,
+    })?;
+    Ok(w)
+}
+
+// , ::= , N
+fn add_endless(alloc: Global, w: &mut Written) -> Result<RuleId, CoreRefusal> {
+    let rhs = ENDLESS.iter().map(|part| SymbolId(*part)).collect(alloc)?;
+    w.rule_new(Rule {
+        lhs: SymbolId(2),
+        rhs,
+        level: 0,
+        groups: 1,
+        assoc: Assoc::Left,
+        rank: 0,
+        null_high: false,
+    })
+}
+
+fn has_lines(flat: &Flat, lines: &[Line]) -> bool {
+    if flat.rule_count() != lines.len() {
+        return false;
+    }
+    for r in 0..lines.len().min(flat.rule_count()).min(1000) {
+        let line = &lines[r];
+        if flat.lhs(r as u32) != line.0 || flat.rhs(r as u32) != line.1 {
+            return false;
+        }
+    }
+    true
+}
+
+// Whether the grammar is checked, and its flat rules are these.
+fn makes(alloc: Global, w: &Written, lines: &[Line]) -> bool {
+    match check(alloc, w) {
+        Ok(c) => match flatten(alloc, &c) {
+            Ok(flat) => has_lines(&flat, lines),
+            Err(_) => false,
+        },
+        Err(_) => false,
+    }
+}
+
+#[test]
+fn levels(rt: HostRuntime) -> Result<(), Fail> {
+    let w = sums(rt.alloc())?;
+    assert!(rt; makes(rt.alloc(), &w, SUM_LINES));
+    Ok(())
+}
+
+#[test]
+fn lists(rt: HostRuntime) -> Result<(), Fail> {
+    let comma = Some(SymbolId(2));
+    let star = list(rt.alloc(), false, None, false)?;
+    assert!(rt; makes(rt.alloc(), &star, STAR_LINES));
+    let separated = list(rt.alloc(), true, comma, false)?;
+    assert!(rt; makes(rt.alloc(), &separated, LIST_LINES));
+    let proper = list(rt.alloc(), true, comma, true)?;
+    assert!(rt; makes(rt.alloc(), &proper, PROPER_LINES));
+    let mut dead = list(rt.alloc(), true, comma, false)?;
+    add_endless(rt.alloc(), &mut dead)?;
+    assert!(rt; makes(rt.alloc(), &dead, DEAD_LINES));
+    Ok(())
+}
