@@ -3,6 +3,7 @@ use crate::analysis::Analysis;
 use grammar_core::{Assoc, CoreRefusal, Rule, SeqRule};
 use std::alloc::Global;
 use std::test::Fail;
+use value_text::NoMemory;
 
 // The symbols S, T, X, Y by their numbers.
 const S: u32 = 0;
@@ -118,5 +119,126 @@ fn first_faults(rt: HostRuntime) -> Result<(), Fail> {
     assert!(rt; c.start_without_rule() == Some(SymbolId(Y)));
     assert!(rt; c.unproductive_start() == Some(SymbolId(T)));
     assert!(rt; c.counted_nullable() == Some(RuleId(2)));
+    Ok(())
+}
+
+// Rules, starts, and what the check tells.
+type Case = (&'static [Plain], &'static [u32], &'static str);
+
+const CASES: &[Case] = &[
+    (&[], &[S], "no rules"),
+    (&[(S, &[Y], 0)], &[], "no start symbol"),
+    (
+        &[(S, &[Y], 0), (S, &[Y], 0)],
+        &[S, T, X],
+        "start symbol T has no rule",
+    ),
+    (
+        &[(S, &[Y], 0), (T, &[Y], 0), (S, &[Y], 1)],
+        &[S],
+        "rule 2 of S is a duplicate",
+    ),
+    (&[(S, &[Y, S], 0)], &[S], "start symbol S is unproductive"),
+    (
+        &[(S, &[T], 0), (T, &[S], 0), (T, &[Y], 0)],
+        &[S],
+        "cyclic: S, T, S",
+    ),
+    (
+        &[(S, &[T, X], 0), (X, &[], 0), (T, &[S], 0), (T, &[Y], 0)],
+        &[S],
+        "cyclic: S, T, S",
+    ),
+];
+
+// Of several cycles the least, and none that cannot be met.
+const CYCLES: &[Case] = &[
+    (
+        &[(S, &[Y], 0), (T, &[X], 0), (X, &[T], 0), (X, &[Y], 0)],
+        &[S],
+        "",
+    ),
+    (&[(S, &[S], 1), (S, &[Y], 0)], &[S], ""),
+    (
+        &[
+            (S, &[T], 0),
+            (S, &[X], 0),
+            (T, &[X], 0),
+            (X, &[S], 0),
+            (X, &[Y], 0),
+        ],
+        &[S],
+        "cyclic: S, X, S",
+    ),
+    (
+        &[
+            (S, &[X], 0),
+            (S, &[T], 0),
+            (X, &[S], 0),
+            (T, &[S], 0),
+            (T, &[Y], 0),
+        ],
+        &[S],
+        "cyclic: S, T, S",
+    ),
+    (
+        &[(S, &[T, Y], 0), (T, &[X], 0), (X, &[T], 0), (X, &[Y], 0)],
+        &[S],
+        "cyclic: T, X, T",
+    ),
+];
+
+// With S ::= X+
+const SEQUENCES: &[Case] = &[
+    (&[(X, &[Y], 0)], &[S], ""),
+    (
+        &[(S, &[Y], 0)],
+        &[S],
+        "S is a sequence and has another rule",
+    ),
+    (
+        &[(X, &[], 0)],
+        &[S],
+        "sequence S has a nullable item or separator",
+    ),
+    (&[(X, &[S], 0), (X, &[Y], 0)], &[S], "cyclic: S, X, S"),
+];
+
+fn told(alloc: Global, w: &Written) -> Result<Vec<u8>, NoMemory> {
+    let mut out = Vec::new(alloc);
+    if let Err(refusal) = check(alloc, w) {
+        append_refusal(w, &refusal, &mut out)?;
+    }
+    Ok(out)
+}
+
+#[test]
+fn refusals_in_order(rt: HostRuntime) -> Result<(), Fail> {
+    for case in CASES {
+        let w = grammar(rt.alloc(), case.0, case.1)?;
+        let text = told(rt.alloc(), &w)?;
+        assert!(rt; text.as_slice() == case.2.as_bytes());
+    }
+    Ok(())
+}
+
+#[test]
+fn least_cycles(rt: HostRuntime) -> Result<(), Fail> {
+    for case in CYCLES {
+        let w = grammar(rt.alloc(), case.0, case.1)?;
+        let text = told(rt.alloc(), &w)?;
+        assert!(rt; text.as_slice() == case.2.as_bytes());
+    }
+    Ok(())
+}
+
+#[test]
+fn sequences_are_checked(rt: HostRuntime) -> Result<(), Fail> {
+    for case in SEQUENCES {
+        let mut w = grammar(rt.alloc(), case.0, case.1)?;
+        add_sequence(&mut w, true, None)?;
+        let text = told(rt.alloc(), &w)?;
+        assert!(rt; text.as_slice() == case.2.as_bytes());
+    }
     Ok(())
 }
