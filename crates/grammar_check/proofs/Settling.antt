@@ -247,6 +247,7 @@ module _ (rows : List (List ℕ)) (floors : List ℕ) (cs : List Clause) (keys :
     back : (i d : ℕ) → Walks rows floors (at i) d (at (i + d))
     back i zero = ap at (let z : i + 0 ≡ i = omega arith in z)
     back i (suc d) = subst (λ n. Walks rows floors (at i) (suc d) (at n)) (let z : suc (i + d) ≡ i + suc d = omega arith in z) (at (i + d), one (i + d), back i d)
+
     -- so some number is on a cycle
     pub not_endless : ((x m : ℕ) → x < total → Walks rows floors x (suc m) x → ⊥) → ⊥
     not_endless none = let le = pigeonhole (suc total) total at (λ i lt. (endless i).1) one_to_one in omega (arith, le)
@@ -297,15 +298,21 @@ module _ (rows : List (List ℕ)) (floors : List ℕ) (cs : List Clause) (known 
   Low c = (c.head < length rows + length rows) × All (λ x. x < length rows + length rows) c.body
 
   low_of : (c : Clause) → IsOfNodes rows (length rows) (length rows) c ⊎ IsOfUses floors (length rows) (length rows) c → Low c
-  low_of c (inl (y, lt, is)) = subst Low (sym is) (omega (arith, lt), λ k d kl.
-      let (h, row, e) = map_only (λ h. length rows + h) (row_at rows y) (get_or (map (λ h. length rows + h) (row_at rows y)) k d) (Contains-get_or (map (λ h. length rows + h) (row_at rows y)) k d kl) in
-      let small = known y h row in
-      omega (arith, e, small))
-  low_of c (inr (y, lt, is)) = subst Low (sym is) (omega (arith, lt), λ k d kl.
-      elim (use_only floors (length rows) y (get_or (use_clause floors (length rows) y).body k d) (Contains-get_or (use_clause floors (length rows) y).body k d kl)) [
-        | inl e ↦ omega (arith, e, lt)
-        | inr (low, e) ↦ omega (arith, e, lt)
-      ])
+  low_of c (inl (y, lt, is)) = subst Low (sym is) (
+    omega (arith, lt),
+    λ k d kl.
+        let (h, row, e) = map_only (λ h. length rows + h) (row_at rows y) (get_or (map (λ h. length rows + h) (row_at rows y)) k d) (Contains-get_or (map (λ h. length rows + h) (row_at rows y)) k d kl) in
+        let small = known y h row in
+        omega (arith, e, small),
+  )
+  low_of c (inr (y, lt, is)) = subst Low (sym is) (
+    omega (arith, lt),
+    λ k d kl.
+        elim (use_only floors (length rows) y (get_or (use_clause floors (length rows) y).body k d) (Contains-get_or (use_clause floors (length rows) y).body k d kl)) [
+          | inl e ↦ omega (arith, e, lt)
+          | inr (low, e) ↦ omega (arith, e, lt)
+        ],
+  )
 
   pub settling_below : AreBelow (length rows + length rows) cs
   settling_below i il = low_of (clause_at cs i) ((has (clause_at cs i)).0 (Contains-get_or cs i (record { head = 0; body = [] }) il))

@@ -9,8 +9,8 @@ ghost use Rattle.grammar_check.specs.Refused.{IsTold};
 use crate::GrammarRefusal;
 use crate::analysis::Analysis;
 use crate::shared::{duplicate_rule, shared_sequence};
-use std::alloc::Global;
 use grammar_core::{SymbolId, Written};
+use std::alloc::Global;
 use std::marker::Model;
 
 /// A grammar that a check has passed, and which of its slots are nullable, productive and accessible.

@@ -128,11 +128,7 @@ fn add_links(
 }
 
 /// The rows of all steps: for each slot, the tightest slots from which there is one to it.
-pub fn links_of(
-    alloc: Global,
-    w: &Written,
-    slots: &Slots<'_>,
-) -> Result<Vec<Vec<u32>>, AllocError>
+pub fn links_of(alloc: Global, w: &Written, slots: &Slots<'_>) -> Result<Vec<Vec<u32>>, AllocError>
     requires numbering { IsNumbering w.now slots.now.bases.now }
     requires nullable { IsAnalysis true w.now slots.now.bases.now slots.now.nullable.now.keys }
     requires productive { IsAnalysis false w.now slots.now.bases.now slots.now.productive.now.keys }

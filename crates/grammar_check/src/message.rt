@@ -11,12 +11,7 @@ use itoa::Buffer;
 use std::alloc::{AllocError, Global};
 use value_text::NoMemory;
 
-fn phrase(
-    alloc: Global,
-    before: &[u8],
-    name: &str,
-    after: &[u8],
-) -> Result<Vec<u8>, AllocError>
+fn phrase(alloc: Global, before: &[u8], name: &str, after: &[u8]) -> Result<Vec<u8>, AllocError>
     ensures { IfOk result (λ text. text.items ≡ before.now ++ (name.now ++ after.now)) }
 {
     let mut text = Vec::from_slice(alloc, before)?;
@@ -50,11 +45,7 @@ fn duplicate_text(alloc: Global, w: &Written, rule: RuleId) -> Result<Vec<u8>, A
     Ok(text)
 }
 
-fn names_text(
-    alloc: Global,
-    w: &Written,
-    cycle: &[(SymbolId, u32)],
-) -> Result<Vec<u8>, AllocError>
+fn names_text(alloc: Global, w: &Written, cycle: &[(SymbolId, u32)]) -> Result<Vec<u8>, AllocError>
     requires { AreOf w.now cycle.now }
     ensures { IfOk result (λ text. text.items ≡ cycle_text w.now cycle.now) }
 {
@@ -78,7 +69,12 @@ fn text_of(alloc: Global, w: &Written, r: &GrammarRefusal) -> Result<Vec<u8>, Al
         GrammarRefusal::NoRules => Vec::from_slice(alloc, b"no rules"),
         GrammarRefusal::NoStart => Vec::from_slice(alloc, b"no start symbol"),
         GrammarRefusal::StartNotLhs { symbol } => {
-            phrase(alloc, b"start symbol ", symbol_name(w, *symbol), b" has no rule")
+            phrase(
+                alloc,
+                b"start symbol ",
+                symbol_name(w, *symbol),
+                b" has no rule",
+            )
         }
         GrammarRefusal::SequenceLhs { symbol } => {
             let after = b" is a sequence and has another rule";
@@ -90,7 +86,12 @@ fn text_of(alloc: Global, w: &Written, r: &GrammarRefusal) -> Result<Vec<u8>, Al
             phrase(alloc, b"sequence ", left_name(w, *rule), after)
         }
         GrammarRefusal::UnproductiveStart { symbol } => {
-            phrase(alloc, b"start symbol ", symbol_name(w, *symbol), b" is unproductive")
+            phrase(
+                alloc,
+                b"start symbol ",
+                symbol_name(w, *symbol),
+                b" is unproductive",
+            )
         }
         GrammarRefusal::Cyclic { cycle } => names_text(alloc, w, cycle),
         GrammarRefusal::NoMemory => Ok(Vec::new(alloc)),
@@ -99,11 +100,7 @@ fn text_of(alloc: Global, w: &Written, r: &GrammarRefusal) -> Result<Vec<u8>, Al
 
 /// Appends the text of a refusal, and nothing for want of memory. The symbols and rules in it have to be the grammar's.
 /// Where memory runs out nothing is appended.
-pub fn append_refusal(
-    w: &Written,
-    r: &GrammarRefusal,
-    out: &mut Vec<u8>,
-) -> Result<(), NoMemory>
+pub fn append_refusal(w: &Written, r: &GrammarRefusal, out: &mut Vec<u8>) -> Result<(), NoMemory>
     requires { IsOf w.now r.now }
     ensures ok { OnOk result (out.new.items ≡ out.old.items ++ refusal_text w.now r.now) }
     ensures err { OnErr result (out.new.items ≡ out.old.items) }

@@ -83,10 +83,7 @@ fn text_of(alloc: Global, rule: &Rule) -> Result<Vec<u32>, AllocError>
 }
 
 // Whether the text was there. It is there afterwards.
-fn add_text(
-    texts: &mut IndexSet<Vec<u32>>,
-    text: Vec<u32>,
-) -> Result<bool, AllocFailed<Vec<u32>>>
+fn add_text(texts: &mut IndexSet<Vec<u32>>, text: Vec<u32>) -> Result<bool, AllocFailed<Vec<u32>>>
     ensures was { IfOk result (λ r. IsTrue r ↔ Contains (rows_of texts.old.keys) text.items) }
     ensures added { OnOk result ((t : List ℕ) → Contains (rows_of texts.new.keys) t ↔ (Contains (rows_of texts.old.keys) t ⊎ (t ≡ text.items))) }
 {

@@ -8,5 +8,5 @@ invariant-loop-n l = record {
   sized : length l.starts.items ≡ l.n + 1;
   layers : AreLayers (rows_of l.rows) l.floors l.to l.found.keys (l.starts.items ++ length l.found.keys ∷ []);
   known : All (λ x. x < length l.rows) l.found.keys;
-  down : IsDown l.floors l.found.keys
+  down : IsDown l.floors l.found.keys;
 }

@@ -7,5 +7,5 @@ use Rattle.grammar_check.proofs.shared.duplicate_rule.Given as goal
 abbrev pub invariant-loop-i : goal.invariant-loop-i
 invariant-loop-i l = record {
   none : (j : ℕ) → j < l.i → IsDuplicate l.w j → ⊥;
-  texts : HasTexts l.w l.i (rows_of l.texts.keys)
+  texts : HasTexts l.w l.i (rows_of l.texts.keys);
 }

@@ -8,5 +8,5 @@ invariant-loop-i l = record {
   seen_length : length l.seen.items ≡ length l.w.names;
   twice_length : length l.twice.items ≡ length l.w.names;
   seen : Marks l.seen.items (SeenIn l.w l.i);
-  twice : Marks l.twice.items (HasTwo l.w l.i)
+  twice : Marks l.twice.items (HasTwo l.w l.i);
 }

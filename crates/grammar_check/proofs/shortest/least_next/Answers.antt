@@ -12,10 +12,13 @@ loop-j-preserved c =
     chosen_more (rows_of c.args.rows.now) c.args.floors.now c.args.found.now.keys c.args.from c.args.x c.loop-j.j t c.loop-j.best c.if-t-best.best c.loop-j.auto.j is c.loop-j.invariant
     (elim c.if-t-best.branch [
       | then-t-best+then-has_step w ↦ inl (w.best-is, w.if-t-best.true, w.has_step.ensures.0 w.if-has_step.true)
-      | else-t-best w ↦ inr (w.best-is, λ s. elim w.else-t-best.branch [
-        | else-t-best-via-then-t-best+else-has_step v ↦ absurd (true≢false (sym (v.has_step.ensures.1 s) ∙ v.if-has_step.false))
-        | else-t-best-via-else-t-best v ↦ omega (arith, v.if-t-best.false)
-      ])
+      | else-t-best w ↦ inr (
+        w.best-is,
+        λ s. elim w.else-t-best.branch [
+          | else-t-best-via-then-t-best+else-has_step v ↦ absurd (true≢false (sym (v.has_step.ensures.1 s) ∙ v.if-has_step.false))
+          | else-t-best-via-else-t-best v ↦ omega (arith, v.if-t-best.false)
+        ],
+      )
     ])
 
 pub returns : goal.returns

@@ -7,5 +7,5 @@ abbrev pub invariant-loop-x : goal.invariant-loop-x
 invariant-loop-x l = record {
   sized : length l.slots.items ≡ l.x-index;
   numbered : (i : ℕ) → i < l.x-index → IsNumbered l.w l.bases (slot_with (slice_index_or l.slots.items i (0, 0)));
-  same : (i : ℕ) → i < l.x-index → number l.bases (slot_with (slice_index_or l.slots.items i (0, 0))) ≡ slice_index l.path i
+  same : (i : ℕ) → i < l.x-index → number l.bases (slot_with (slice_index_or l.slots.items i (0, 0))) ≡ slice_index l.path i;
 }
