@@ -151,16 +151,30 @@ fn levels(rt: HostRuntime) -> Result<(), Fail> {
 }
 
 #[test]
-fn lists(rt: HostRuntime) -> Result<(), Fail> {
-    let comma = Some(SymbolId(2));
-    let star = list(rt.alloc(), false, None, false)?;
-    assert!(rt; makes(rt.alloc(), &star, STAR_LINES));
-    let separated = list(rt.alloc(), true, comma, false)?;
-    assert!(rt; makes(rt.alloc(), &separated, LIST_LINES));
-    let proper = list(rt.alloc(), true, comma, true)?;
-    assert!(rt; makes(rt.alloc(), &proper, PROPER_LINES));
-    let mut dead = list(rt.alloc(), true, comma, false)?;
-    add_endless(rt.alloc(), &mut dead)?;
-    assert!(rt; makes(rt.alloc(), &dead, DEAD_LINES));
+fn star(rt: HostRuntime) -> Result<(), Fail> {
+    let w = list(rt.alloc(), false, None, false)?;
+    assert!(rt; makes(rt.alloc(), &w, STAR_LINES));
+    Ok(())
+}
+
+#[test]
+fn separated(rt: HostRuntime) -> Result<(), Fail> {
+    let w = list(rt.alloc(), true, Some(SymbolId(2)), false)?;
+    assert!(rt; makes(rt.alloc(), &w, LIST_LINES));
+    Ok(())
+}
+
+#[test]
+fn proper(rt: HostRuntime) -> Result<(), Fail> {
+    let w = list(rt.alloc(), true, Some(SymbolId(2)), true)?;
+    assert!(rt; makes(rt.alloc(), &w, PROPER_LINES));
+    Ok(())
+}
+
+#[test]
+fn dead_separator(rt: HostRuntime) -> Result<(), Fail> {
+    let mut w = list(rt.alloc(), true, Some(SymbolId(2)), false)?;
+    add_endless(rt.alloc(), &mut w)?;
+    assert!(rt; makes(rt.alloc(), &w, DEAD_LINES));
     Ok(())
 }
