@@ -1,0 +1,5 @@
+pub mod Descriptors
+pub mod Firsts
+pub mod Keeping
+pub mod Numbers
+pub mod Pairs

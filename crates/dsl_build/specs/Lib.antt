@@ -1,0 +1,3 @@
+pub mod Adverbs
+pub mod Found
+pub mod Texts

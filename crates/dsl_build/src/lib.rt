@@ -1,0 +1,12 @@
+//! Building: from the statements of a grammar text to its two grammars and their tables.
+#![tactic(auto)]
+
+mod adverbs;
+mod checks;
+mod descriptor;
+mod found;
+mod names;
+mod refusal;
+mod values;
+
+pub use refusal::BuildRefusal;
