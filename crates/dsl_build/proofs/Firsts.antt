@@ -1,8 +1,11 @@
 -- The first of a list that is made piece by piece.
-use Rattle.std.proofs.Common.{◌≡◌, ℕ, zero, suc, ◌+◌, ◌<◌, List, [], ◌∷◌, ◌++◌, length, take, get_or, Option, Some, None, refl, sym, ap, ◌∙◌, arith, map, add-one, subst, ◌≤◌}
-use Rattle.std.specs.Prelude.{flat_map, option_map}
+use Rattle.std.proofs.Common.{◌≡◌, ℕ, zero, suc, ◌+◌, ◌<◌, List, [], ◌∷◌, ◌++◌, length, take, get_or, Option, Some, None, refl, sym, ap, ◌∙◌, arith, map, add-one, subst, ◌≤◌, Bool, true, false, cond}
+use Rattle.std.specs.Prelude.{flat_map, option_map, is_some}
+use Rattle.std.proofs.lemmas.Bool.{true≢false}
 use Rattle.std.proofs.lemmas.List.{take_all}
-use Rattle.dsl_build.specs.Found.{first_of}
+use Rattle.language_model.specs.Building.{Fault, at_most}
+use Rattle.dsl_build.specs.declared.found.Found.{Found}
+use Rattle.dsl_build.specs.Found.{first_of, fault_of}
 
 pub first_of_append : {A : Type 0} (xs ys : List A) → xs ≡ [] → first_of (xs ++ ys) ≡ first_of ys
 first_of_append [] ys e = refl
@@ -57,3 +60,18 @@ none_there g xs i x lt is none e = flat_none g xs i x lt none (subst (λ y. firs
 
 pub none_at_all : {A B : Type 0} (g : A → List B) (xs : List A) (i : ℕ) → length xs ≤ i → flat_map g (take i xs) ≡ [] → first_of (flat_map g xs) ≡ None
 none_at_all g xs i le none = no_first (flat_map g xs) (subst (λ ys. flat_map g ys ≡ []) (take_all i xs le) none)
+
+-- a loop that looks for a first fault goes on, or stops
+pub goes_on : {A : Type 0} (g : A → List Fault) (xs : List A) (i : ℕ) (x : A) (o : Option Found) → i < length xs → x ≡ get_or xs i x → flat_map g (take i xs) ≡ [] →
+    option_map fault_of o ≡ first_of (g x) → is_some o ≡ false → flat_map g (take (i + 1) xs) ≡ []
+goes_on g xs i x None lt is none e f = none_there g xs i x lt is none (sym e)
+goes_on g xs i x (Some y) lt is none e f = absurd (true≢false f)
+
+pub stops : {A : Type 0} (g : A → List Fault) (xs : List A) (i : ℕ) (x : A) (o : Option Found) → i < length xs → x ≡ get_or xs i x → flat_map g (take i xs) ≡ [] →
+    option_map fault_of o ≡ first_of (g x) → is_some o ≡ true → option_map fault_of o ≡ first_of (flat_map g xs)
+stops g xs i x None lt is none e f = absurd (true≢false (sym f))
+stops g xs i x (Some y) lt is none e f = sym (first_there g xs i x (fault_of y) lt is none (sym e))
+
+pub first_at_most : (b : Bool) (f : Fault) → first_of (at_most b f ++ []) ≡ cond b (Some f) None
+first_at_most true f = refl
+first_at_most false f = refl

@@ -3,3 +3,4 @@ pub mod Firsts
 pub mod Keeping
 pub mod Numbers
 pub mod Pairs
+pub mod Repeats

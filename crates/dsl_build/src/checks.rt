@@ -1,11 +1,10 @@
 //! The faults of adverbs.
-ghost use Rattle.std.specs.Prelude.{◌≡◌, IfOk, option_map, flat_map, map, if◌then◌else◌};
-ghost use Rattle.language_model.specs.Building.{InAlternative, InEmpty, InQuantified, InLexicalQuantified, InOther};
-ghost use Rattle.dsl_build.specs.declared.checks.Check.TheVariants.{Known, Once, Small};
-ghost use Rattle.dsl_build.specs.declared.adverbs.Place.TheVariants.{Other};
+ghost use Rattle.std.specs.Prelude.{◌≡◌, IfOk, option_map, flat_map, map, [], ◌∷◌, if◌then◌else◌};
+ghost use Rattle.language_model.specs.Building.{pairs_of, repeated_in, InAlternative, InEmpty, InQuantified, InLexicalQuantified, InOther};
+ghost use Rattle.dsl_build.specs.declared.checks.Check.TheVariants.{Known};
 ghost use Rattle.dsl_statement.specs.Statements.{adverb_of, adverbs_of, statement_of};
 ghost use Rattle.dsl_build.specs.Found.{fault_of, first_of};
-ghost use Rattle.dsl_build.specs.Adverbs.{place_of, list_faults, statement_faults};
+ghost use Rattle.dsl_build.specs.Adverbs.{place_of, names_of, list_faults, big_faults, statement_faults};
 
 use crate::adverbs::{Place, is_allowed, value_of};
 use crate::found::{Found, fault_at};
@@ -24,42 +23,88 @@ pub enum Check {
     Small,
 }
 
+fn unknown_adverb(
+    alloc: Global,
+    place: Place,
+    adverb: &Adverb,
+) -> Result<Option<Found<'_>>, AllocError>
+    ensures { IfOk result (λ found. option_map fault_of found ≡ first_of (list_faults Known (place_of place, adverb_of adverb.now ∷ []))) }
+{
+    match adverb {
+        Adverb::Comma { .. } => Ok(None),
+        Adverb::Pair { name, value } => {
+            let text = name.content.as_str();
+            if is_allowed(place, text) && fits(alloc, text, value)? {
+                Ok(None)
+            } else {
+                Ok(Some(fault_at(name)))
+            }
+        }
+    }
+}
+
 fn unknown(alloc: Global, place: Place, adverbs: &[Adverb]) -> Result<Option<Found<'_>>, AllocError>
     ensures { IfOk result (λ found. option_map fault_of found ≡ first_of (list_faults Known (place_of place, adverbs_of adverbs.now))) }
 {
     for adverb in adverbs {
-        if let Adverb::Pair { name, value } = adverb {
-            if !is_allowed(place, name.content.as_str())
-                || !fits(alloc, name.content.as_str(), value)?
-            {
-                return Ok(Some(fault_at(name)));
-            }
+        let found = unknown_adverb(alloc, place, adverb)?;
+        if found.is_some() {
+            return Ok(found);
         }
     }
     Ok(None)
 }
 
+// Whether the adverb stands among those before it.
+fn repeated_adverb<'a>(before: &[Adverb], adverb: &'a Adverb) -> Option<Found<'a>>
+    ensures { option_map fault_of result ≡ first_of (repeated_in (names_of before.now) (pairs_of (adverb_of adverb.now ∷ []))) }
+{
+    match adverb {
+        Adverb::Comma { .. } => None,
+        Adverb::Pair { name, .. } => {
+            if value_of(name.content.as_str(), before).is_some() {
+                Some(fault_at(name))
+            } else {
+                None
+            }
+        }
+    }
+}
+
 fn repeated(adverbs: &[Adverb]) -> Option<Found<'_>>
-    ensures { option_map fault_of result ≡ first_of (list_faults Once (place_of Other, adverbs_of adverbs.now)) }
+    ensures { option_map fault_of result ≡ first_of (repeated_in [] (pairs_of (adverbs_of adverbs.now))) }
 {
     for (i, adverb) in adverbs.iter().enumerate() {
-        if let Adverb::Pair { name, .. } = adverb {
-            if value_of(name.content.as_str(), &adverbs[..i]).is_some() {
-                return Some(fault_at(name));
-            }
+        let found = repeated_adverb(&adverbs[..i], adverb);
+        if found.is_some() {
+            return found;
         }
     }
     None
 }
 
+fn big_adverb(adverb: &Adverb) -> Option<Found<'_>>
+    ensures { option_map fault_of result ≡ first_of (big_faults (adverb_of adverb.now ∷ [])) }
+{
+    match adverb {
+        Adverb::Comma { .. } => None,
+        Adverb::Pair { name, value } => {
+            if is_big(name.content.as_str(), value) {
+                Some(fault_at(value))
+            } else {
+                None
+            }
+        }
+    }
+}
+
 fn too_big(adverbs: &[Adverb]) -> Option<Found<'_>>
-    ensures { option_map fault_of result ≡ first_of (list_faults Small (place_of Other, adverbs_of adverbs.now)) }
+    ensures { option_map fault_of result ≡ first_of (big_faults (adverbs_of adverbs.now)) }
 {
     for adverb in adverbs {
-        if let Adverb::Pair { name, value } = adverb {
-            if is_big(name.content.as_str(), value) {
-                return Some(fault_at(value));
-            }
+        let found = big_adverb(adverb);
+        if found.is_some() {
+            return found;
         }
     }
     None
