@@ -1,6 +1,5 @@
 -- The pairs of adverbs, and the value of one.
 use Rattle.std.proofs.Common.{◌≡◌, ℕ, zero, suc, ◌+◌, ◌<◌, Bool, true, false, cond, List, [], ◌∷◌, ◌++◌, length, take, get_or, Option, Some, None, refl, sym, ap, ◌∙◌, arith, map, add-one, subst, append-nil, Vec, Global}
-use Rattle.std.proofs.lemmas.Grind.{flat_map-append}
 use Rattle.std.proofs.lemmas.List.Folds.{flat_map-map}
 use Rattle.std.specs.Prelude.{flat_map, option_to_list, not, ◌&&◌}
 use Rattle.std.specs.Str.{bytes_eq}
@@ -16,6 +15,7 @@ use Rattle.dsl_statement.specs.Statements.{adverb_of, adverbs_of}
 use Rattle.dsl_build.specs.declared.checks.Check.TheVariants.{Known}
 use Rattle.dsl_build.specs.Adverbs.{list_faults, big_faults, is_big}
 use Rattle.dsl_build.specs.Found.{first_of}
+use Rattle.dsl_build.proofs.Lists.{flat_flat, flat_same}
 
 -- the value that an adverb gives
 abbrev pub value_in : List ℕ → Adverb → Option Spelled
@@ -51,14 +51,6 @@ known_flat place held = pairs_flat (λ p. at_most (not (is_one_of (names_at plac
 
 pub big_flat : (held : List HeldAdverb) → big_faults (adverbs_of held) ≡ flat_map (λ a. big_faults (adverb_of a ∷ [])) held
 big_flat held = pairs_flat (λ p. at_most (is_big p.0.content p.1) (fault_at p.1)) held
-
-flat_flat : {A B C : Type 0} (g : B → List C) (f : A → List B) (xs : List A) → flat_map g (flat_map f xs) ≡ flat_map (λ x. flat_map g (f x)) xs
-flat_flat g f [] = refl
-flat_flat g f (x ∷ xs) = flat_map-append g (f x) (flat_map f xs) ∙ ap (λ ys. flat_map g (f x) ++ ys) (flat_flat g f xs)
-
-flat_same : {A B : Type 0} (f g : A → List B) (xs : List A) → ((x : A) → f x ≡ g x) → flat_map f xs ≡ flat_map g xs
-flat_same f g [] same = refl
-flat_same f g (x ∷ xs) same = ap (λ ys. f x ++ ys) (flat_same f g xs same) ∙ ap (λ y. y ++ flat_map g xs) (same x)
 
 -- the faults of the adverbs of alternatives
 pub groups_flat : (check : Check) (place : AdverbPlace) (groups : List (Vec HeldAlternative Global)) →

@@ -1,3 +1,4 @@
 pub mod Adverbs
 pub mod Found
 pub mod Texts
+pub mod Uses

@@ -6,7 +6,9 @@ mod checks;
 mod descriptor;
 mod found;
 mod names;
+mod parts;
 mod refusal;
+mod uses;
 mod values;
 
 pub use refusal::BuildRefusal;
