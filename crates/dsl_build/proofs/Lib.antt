@@ -5,4 +5,5 @@ pub mod Lists
 pub mod Numbers
 pub mod Pairs
 pub mod Repeats
+pub mod Scans
 pub mod UseLemmas

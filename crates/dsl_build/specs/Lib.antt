@@ -1,4 +1,5 @@
 pub mod Adverbs
+pub mod Faults
 pub mod Found
 pub mod Texts
 pub mod Uses

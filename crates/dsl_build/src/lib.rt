@@ -8,6 +8,7 @@ mod found;
 mod names;
 mod parts;
 mod refusal;
+mod symbols;
 mod uses;
 mod values;
 

@@ -170,7 +170,8 @@ pub enum Which {
     Discarded,
 }
 
-fn is_asked(which: Which, used: &Use<'_>) -> bool
+/// Whether the use is one of them.
+pub fn is_asked(which: Which, used: &Use<'_>) -> bool
     ensures { result ≡ is_asked which (used_of used.now) }
 {
     match which {

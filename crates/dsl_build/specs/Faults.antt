@@ -1,0 +1,43 @@
+-- Faults of the uses of symbols, by tables of the names that rules define.
+use Rattle.std.specs.Prelude.{ℕ, Bool, true, false, not, ◌&&◌, ◌||◌, if◌then◌else◌, List, [], ◌∷◌, map, flat_map, codes, is_ok, chars}
+use Rattle.language_model.specs.Tokens.{Spelled}
+use Rattle.language_model.specs.Description.{Statement, LexemeDefault, Lexeme, is_name}
+use Rattle.language_model.specs.Classes.{class_of}
+use Rattle.language_model.specs.Building.{Fault, fault_at, at_most, is_one_of, is_bracket}
+use Rattle.dsl_build.specs.Texts.{with_text}
+use Rattle.dsl_build.specs.Uses.{Used, is_left, is_right}
+
+-- a name on a right side that no rule defines, or in a lexical place no lexical rule
+abbrev pub is_undefined : (structural lexical : List (List ℕ)) → Used → Bool
+is_undefined structural lexical u = is_right u && (is_name u.token && not (is_one_of lexical u.token.content || (not u.lexical && is_one_of structural u.token.content)))
+
+abbrev pub is_bad_class : Used → Bool
+is_bad_class u = is_right u && (is_bracket u.token && not (is_ok (class_of (chars u.token.content))))
+
+abbrev pub undefined_fault : (structural lexical : List (List ℕ)) → Used → List Fault
+undefined_fault structural lexical u = at_most (is_undefined structural lexical u) (fault_at u.token)
+
+abbrev pub class_fault : Used → List Fault
+class_fault u = at_most (is_bad_class u) (fault_at u.token)
+
+-- a left side of one level that is one of the other
+abbrev pub both_fault : (structural lexical : List (List ℕ)) → Used → List Fault
+both_fault structural lexical u = at_most (is_left u && is_one_of (if u.lexical then structural else lexical) u.token.content) (fault_at u.token)
+
+abbrev pub left_part : Used → List (Bool × Spelled)
+left_part u = if is_left u then (u.lexical, u.token) ∷ [] else []
+
+-- the name of a `:lexeme` that is no symbol, or one that a structural rule defines
+abbrev pub lexeme_fault : (symbols left : List (List ℕ)) → Statement → List Fault
+lexeme_fault symbols left (Lexeme at name adverbs) = at_most (not (is_one_of symbols name.content && not (is_one_of left name.content))) (fault_at name)
+lexeme_fault symbols left _ = []
+
+-- a second statement of its kind
+abbrev pub second_fault : Bool → List (List ℕ) → Statement → List Fault
+second_fault seen lexemes (LexemeDefault at adverbs) = at_most seen (record { at = at; name = codes "lexeme default" })
+second_fault seen lexemes (Lexeme at name adverbs) = at_most (is_one_of lexemes name.content) (record { at = at; name = codes ":lexeme" })
+second_fault seen lexemes _ = []
+
+abbrev pub with_lexeme : List (List ℕ) → Statement → List (List ℕ)
+with_lexeme lexemes (Lexeme at name adverbs) = with_text lexemes name.content
+with_lexeme lexemes _ = lexemes
