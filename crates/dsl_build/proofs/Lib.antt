@@ -6,4 +6,5 @@ pub mod Numbers
 pub mod Pairs
 pub mod Repeats
 pub mod Scans
+pub mod SecondLemmas
 pub mod UseLemmas

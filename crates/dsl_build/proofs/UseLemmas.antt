@@ -5,15 +5,19 @@ use Rattle.std.specs.List.{list_any}
 use Rattle.std.proofs.lemmas.List.Folds.{flat_map-map}
 use Rattle.language_model.specs.Tokens.{Spelled}
 use Rattle.language_model.specs.Description.{Alternative}
-use Rattle.language_model.specs.Building.{parts_of, alternatives_of, Fault, fault_at, at_most, in_both}
+use Rattle.language_model.specs.Building.{parts_of, alternatives_of, Fault, fault_at, at_most, in_both, is_one_of, new_texts}
 use Rattle.dsl_statement.specs.declared.statement.Alternative.{Alternative as HeldAlternative}
 use Rattle.dsl_statement.specs.declared.statement.Statement.{Statement as HeldStatement}
 use Rattle.dsl_statement.specs.declared.statement.Statement.TheVariants.{Rules}
 use Rattle.dsl_statement.specs.Statements.{statement_of}
-use Rattle.dsl_build.specs.Uses.{used, Used, uses_of, used_of, is_left}
+use Rattle.dsl_build.specs.Uses.{used, Used, uses_of, used_of, is_left, is_asked, texts_asked}
+use Rattle.std.proofs.Math.Bool.{or-false}
+use Rattle.dsl_build.specs.declared.uses.Which.{Which}
+use Rattle.dsl_build.specs.declared.uses.Which.TheVariants.{StructuralLeft, LexicalLeft}
 use Rattle.dsl_build.specs.declared.uses.Use.{Use}
-use Rattle.dsl_build.specs.Faults.{left_part}
-use Rattle.dsl_build.proofs.Scans.{scan}
+use Rattle.dsl_build.specs.Faults.{left_part, both_fault}
+use Rattle.dsl_build.proofs.Scans.{scan, turned, any_turned}
+use Rattle.dsl_build.proofs.Keeping.{among_texts}
 use Rattle.dsl_build.specs.declared.uses.Role.TheVariants as role
 use Rattle.dsl_build.proofs.Lists.{flat_flat, flat_same, map_map, map_flat}
 
@@ -53,3 +57,58 @@ both_scan before (u ∷ us) = go (is_left (used_of u)) refl (both_scan (u ∷ be
         ap (λ fs. at_most (list_any (λ x. bytes_eq x.1.content u.token.now.content && not ((x.0 && u.lexical) || (not x.0 && not u.lexical))) (flat_map left_part (map used_of before))) (fault_at u.token.now) ++ fs)
         (ap (λ b. in_both (cond b ((u.lexical, u.token.now) ∷ []) [] ++ flat_map left_part (map used_of before)) (flat_map left_part (map used_of us))) (sym is) ∙ e)
     go false is e = ap (λ b. in_both (cond b ((u.lexical, u.token.now) ∷ []) [] ++ flat_map left_part (map used_of before)) (flat_map left_part (map used_of us))) (sym is) ∙ e
+
+any_same : {A : Type 0} (p q : A → Bool) (xs : List A) → ((x : A) → p x ≡ q x) → list_any p xs ≡ list_any q xs
+any_same p q [] same = refl
+any_same p q (x ∷ xs) same = ap (λ b. b || list_any p xs) (same x) ∙ ap (λ b. q x || b) (any_same p q xs same)
+
+any_lefts : (p : Bool × Spelled → Bool) (xs : List Use) → list_any p (flat_map left_part (map used_of xs)) ≡ list_any (λ x. is_left (used_of x) && p (x.lexical, x.token.now)) xs
+any_lefts p [] = refl
+any_lefts p (x ∷ xs) = go (is_left (used_of x)) (any_lefts p xs)
+  where
+    go : (b : Bool) → list_any p (flat_map left_part (map used_of xs)) ≡ list_any (λ y. is_left (used_of y) && p (y.lexical, y.token.now)) xs →
+        list_any p (cond b ((x.lexical, x.token.now) ∷ []) [] ++ flat_map left_part (map used_of xs)) ≡ ((b && p (x.lexical, x.token.now)) || list_any (λ y. is_left (used_of y) && p (y.lexical, y.token.now)) xs)
+    go true e = ap (λ b. p (x.lexical, x.token.now) || b) e
+    go false e = e
+
+pub texts_any : (which : Which) (t : List ℕ) (xs : List Use) → is_one_of (flat_map (λ u. texts_asked which (used_of u)) xs) t ≡ list_any (λ x. is_asked which (used_of x) && bytes_eq x.token.now.content t) xs
+texts_any which t [] = refl
+texts_any which t (x ∷ xs) = go (is_asked which (used_of x)) (texts_any which t xs)
+  where
+    go : (b : Bool) → is_one_of (flat_map (λ u. texts_asked which (used_of u)) xs) t ≡ list_any (λ y. is_asked which (used_of y) && bytes_eq y.token.now.content t) xs →
+        is_one_of (cond b (x.token.now.content ∷ []) [] ++ flat_map (λ u. texts_asked which (used_of u)) xs) t ≡ ((b && bytes_eq x.token.now.content t) || list_any (λ y. is_asked which (used_of y) && bytes_eq y.token.now.content t) xs)
+    go true e = ap (λ b. bytes_eq x.token.now.content t || b) e
+    go false e = e
+
+of_other : (a s l : Bool) → (a && (s && not ((l && true) || (not l && false)))) ≡ ((a && not l) && s)
+of_other false s l = refl
+of_other true true true = refl
+of_other true false true = refl
+of_other true true false = refl
+of_other true false false = refl
+
+of_lexical : (a s l : Bool) → (a && (s && not ((l && false) || (not l && true)))) ≡ ((a && l) && s)
+of_lexical false s l = refl
+of_lexical true true true = refl
+of_lexical true false true = refl
+of_lexical true true false = refl
+of_lexical true false false = refl
+
+abbrev is_other : Bool → List ℕ → Bool × Spelled → Bool
+is_other lexical t b = bytes_eq b.1.content t && not ((b.0 && lexical) || (not b.0 && not lexical))
+
+turned_lefts : (p : Bool × Spelled → Bool) (xs : List Use) → list_any p (flat_map left_part (map used_of (turned [] xs))) ≡ list_any (λ x. is_left (used_of x) && p (x.lexical, x.token.now)) xs
+turned_lefts p xs = any_lefts p (turned [] xs) ∙ any_turned (λ (x : Use). is_left (used_of x) && p (x.lexical, x.token.now)) [] xs ∙ or-false (list_any (λ (x : Use). is_left (used_of x) && p (x.lexical, x.token.now)) xs)
+
+other_level : (lexical : Bool) (t : List ℕ) (xs : List Use) (structural lefts : List (List ℕ)) → structural ≡ new_texts [] (flat_map (λ u. texts_asked StructuralLeft (used_of u)) xs) → lefts ≡ new_texts [] (flat_map (λ u. texts_asked LexicalLeft (used_of u)) xs) →
+    is_one_of (cond lexical structural lefts) t ≡ list_any (is_other lexical t) (flat_map left_part (map used_of (turned [] xs)))
+other_level true t xs structural lefts s l =
+    ap (λ ns. is_one_of ns t) s ∙ among_texts (flat_map (λ u. texts_asked StructuralLeft (used_of u)) xs) t ∙ texts_any StructuralLeft t xs
+    ∙ sym (turned_lefts (is_other true t) xs ∙ any_same (λ (x : Use). is_left (used_of x) && is_other true t (x.lexical, x.token.now)) (λ x. is_asked StructuralLeft (used_of x) && bytes_eq x.token.now.content t) xs (λ (x : Use). of_other (is_left (used_of x)) (bytes_eq x.token.now.content t) x.lexical))
+other_level false t xs structural lefts s l =
+    ap (λ ns. is_one_of ns t) l ∙ among_texts (flat_map (λ u. texts_asked LexicalLeft (used_of u)) xs) t ∙ texts_any LexicalLeft t xs
+    ∙ sym (turned_lefts (is_other false t) xs ∙ any_same (λ (x : Use). is_left (used_of x) && is_other false t (x.lexical, x.token.now)) (λ x. is_asked LexicalLeft (used_of x) && bytes_eq x.token.now.content t) xs (λ (x : Use). of_lexical (is_left (used_of x)) (bytes_eq x.token.now.content t) x.lexical))
+
+pub both_known : (u : Use) (xs : List Use) (structural lefts : List (List ℕ)) → structural ≡ new_texts [] (flat_map (λ u. texts_asked StructuralLeft (used_of u)) xs) → lefts ≡ new_texts [] (flat_map (λ u. texts_asked LexicalLeft (used_of u)) xs) →
+    both_fault structural lefts (used_of u) ≡ both_before (turned [] xs) u
+both_known u xs structural lefts s l = ap (λ b. at_most (is_left (used_of u) && b) (fault_at u.token.now)) (other_level u.lexical u.token.now.content xs structural lefts s l)

@@ -1,9 +1,9 @@
 -- Faults of the uses of symbols, by tables of the names that rules define.
-use Rattle.std.specs.Prelude.{ℕ, Bool, true, false, not, ◌&&◌, ◌||◌, if◌then◌else◌, List, [], ◌∷◌, map, flat_map, codes, is_ok, chars}
+use Rattle.std.specs.Prelude.{ℕ, Bool, true, false, not, ◌&&◌, ◌||◌, if◌then◌else◌, List, [], ◌∷◌, map, flat_map, codes, is_ok, chars, length, nat_lt, ◌==◌}
 use Rattle.language_model.specs.Tokens.{Spelled}
-use Rattle.language_model.specs.Description.{Statement, LexemeDefault, Lexeme, is_name}
+use Rattle.language_model.specs.Description.{Statement, Start, LexemeDefault, Lexeme, is_name}
 use Rattle.language_model.specs.Classes.{class_of}
-use Rattle.language_model.specs.Building.{Fault, fault_at, at_most, is_one_of, is_bracket}
+use Rattle.language_model.specs.Building.{Fault, fault_at, at_most, is_one_of, is_bracket, is_quote, quoted}
 use Rattle.dsl_build.specs.Texts.{with_text}
 use Rattle.dsl_build.specs.Uses.{Used, is_left, is_right}
 
@@ -41,3 +41,15 @@ second_fault seen lexemes _ = []
 abbrev pub with_lexeme : List (List ℕ) → Statement → List (List ℕ)
 with_lexeme lexemes (Lexeme at name adverbs) = with_text lexemes name.content
 with_lexeme lexemes _ = lexemes
+
+abbrev pub start_fault : Bool → Statement → List Fault
+start_fault seen (Start at name) = at_most seen (record { at = at; name = codes ":start" })
+start_fault seen _ = []
+
+abbrev pub is_start : Statement → Bool
+is_start (Start at name) = true
+is_start _ = false
+
+-- the part behind so many others, or a quoted text, is too long
+abbrev pub long_fault : ℕ → Spelled → List Fault
+long_fault before t = at_most (before == 1000 || (is_quote t && nat_lt 1000 (length (quoted t.content)))) (fault_at t)

@@ -152,7 +152,8 @@ fn action_of(alloc: Global, text: &[char]) -> Result<Option<Action>, AllocError>
     }
 }
 
-fn chars_of(alloc: Global, text: &str) -> Result<Vec<char>, AllocError>
+/// The characters of the text.
+pub fn chars_of(alloc: Global, text: &str) -> Result<Vec<char>, AllocError>
     ensures { IfOk result (λ v. v.items ≡ chars text.now) }
 {
     text.chars().collect(alloc)
