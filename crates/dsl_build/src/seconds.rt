@@ -120,7 +120,7 @@ pub fn repeated(alloc: Global, statements: &[Statement]) -> Result<Option<Found<
         if found.is_some() {
             return Ok(found);
         }
-        seen = is_lexeme_default(s) || seen;
+        seen |= is_lexeme_default(s);
         keep_lexeme(&mut lexemes, s)?;
     }
     Ok(None)
@@ -160,7 +160,7 @@ pub fn second_start(statements: &[Statement]) -> Option<Found<'_>>
         if found.is_some() {
             return found;
         }
-        seen = is_start(s) || seen;
+        seen |= is_start(s);
     }
     None
 }
