@@ -1,9 +1,9 @@
 -- Faults of the uses of symbols, by tables of the names that rules define.
-use Rattle.std.specs.Prelude.{ℕ, Bool, true, false, not, ◌&&◌, ◌||◌, if◌then◌else◌, List, [], ◌∷◌, map, flat_map, codes, is_ok, chars, length, nat_lt, ◌==◌}
+use Rattle.std.specs.Prelude.{ℕ, Bool, true, false, not, ◌&&◌, ◌||◌, if◌then◌else◌, List, [], ◌∷◌, ◌++◌, map, flat_map, codes, is_ok, chars, length, nat_lt, ◌==◌}
 use Rattle.language_model.specs.Tokens.{Spelled}
 use Rattle.language_model.specs.Description.{Statement, Start, LexemeDefault, Lexeme, is_name}
 use Rattle.language_model.specs.Classes.{class_of}
-use Rattle.language_model.specs.Building.{Fault, fault_at, at_most, is_one_of, is_bracket, is_quote, quoted}
+use Rattle.language_model.specs.Building.{Fault, fault_at, at_most, is_one_of, is_bracket, is_quote, quoted, BuildFault, BadAdverb, RepeatedAdverb, LexemeNotDefined, InBoth, NotALexeme, BadClass, TwoStarts, NumberRange, TooLong, bad_adverbs, repeated, in_both, second_starts, big_numbers, too_long}
 use Rattle.dsl_build.specs.Texts.{with_text}
 use Rattle.dsl_build.specs.Uses.{Used, is_left, is_right}
 
@@ -53,3 +53,10 @@ is_start _ = false
 -- the part behind so many others, or a quoted text, is too long
 abbrev pub long_fault : ℕ → Spelled → List Fault
 long_fault before t = at_most (before == 1000 || (is_quote t && nat_lt 1000 (length (quoted t.content)))) (fault_at t)
+
+-- the faults of a description with these uses of symbols, kind after kind
+abbrev pub all_faults : (symbols structural lexical : List (List ℕ)) → List Used → List Statement → List BuildFault
+all_faults symbols structural lexical us d =
+    map BadAdverb (bad_adverbs d) ++ map RepeatedAdverb (repeated [] d) ++ map LexemeNotDefined (flat_map (undefined_fault structural lexical) us)
+    ++ map InBoth (in_both [] (flat_map left_part us)) ++ map NotALexeme (flat_map (lexeme_fault symbols structural) d) ++ map BadClass (flat_map class_fault us)
+    ++ map TwoStarts (second_starts d) ++ map NumberRange (big_numbers d) ++ map TooLong (too_long d)

@@ -11,6 +11,7 @@ mod quotes;
 mod refusal;
 mod seconds;
 mod symbols;
+mod telling;
 mod uses;
 mod values;
 
