@@ -1,3 +1,4 @@
+pub mod Bridges
 pub mod Descriptors
 pub mod Firsts
 pub mod Keeping

@@ -4,6 +4,7 @@
 mod adverbs;
 mod checks;
 mod descriptor;
+mod faults;
 mod found;
 mod names;
 mod parts;
@@ -15,4 +16,5 @@ mod telling;
 mod uses;
 mod values;
 
+pub use faults::check;
 pub use refusal::BuildRefusal;
