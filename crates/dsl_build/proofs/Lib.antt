@@ -3,7 +3,7 @@ pub mod Descriptors
 pub mod Firsts
 pub mod Keeping
 pub mod Lists
-pub mod Numbers
+pub mod Digits
 pub mod Pairs
 pub mod Repeats
 pub mod Scans

@@ -1,5 +1,5 @@
 use Rattle.std.proofs.Common.{◌≡◌, min, take}
-use Rattle.dsl_build.proofs.Numbers.{spelled}
+use Rattle.dsl_build.proofs.Digits.{spelled}
 use Rattle.dsl_build.proofs.values.size_of.Given as goal
 
 abbrev pub invariant-loop-b : goal.invariant-loop-b
