@@ -1,7 +1,7 @@
 -- Lists that are made piece by piece.
-use Rattle.std.proofs.Common.{◌≡◌, ℕ, zero, suc, ◌+◌, ◌<◌, List, [], ◌∷◌, ◌++◌, length, take, get_or, refl, sym, ap, ◌∙◌, arith, map, append-nil, append_assoc, add-one}
+use Rattle.std.proofs.Common.{◌≡◌, ℕ, zero, suc, ◌+◌, ◌<◌, List, [], ◌∷◌, ◌++◌, length, take, get_or, refl, sym, ap, ◌∙◌, arith, map, append-nil, append_assoc, add-one, Some}
 use Rattle.std.proofs.Math.Seq.{take-suc}
-use Rattle.std.specs.Prelude.{flat_map}
+use Rattle.std.specs.Prelude.{flat_map, slice_get}
 use Rattle.std.proofs.lemmas.Grind.{flat_map-append}
 use Rattle.std.proofs.lemmas.List.{map-append}
 
@@ -26,3 +26,14 @@ pub flat_more : {A B : Type 0} (g : A → List B) (xs : List A) (i : ℕ) (x : A
 flat_more g xs i x lt is =
     ap (λ k. flat_map g (take k xs)) (add-one i) ∙ ap (flat_map g) (take-suc xs i x lt) ∙ flat_map-append g (take i xs) (get_or xs i x ∷ [])
     ∙ ap (λ ys. flat_map g (take i xs) ++ ys) (append-nil (g (get_or xs i x)) ∙ ap g (sym is))
+
+some_is : {A : Type 0} (a b : A) → Some a ≡ Some b → a ≡ b
+some_is a b e = cc
+
+take_get_suc : {A : Type 0} (x : A) (xs : List A) (i : ℕ) → slice_get xs i ≡ Some x → take (suc i) xs ≡ take i xs ++ x ∷ []
+take_get_suc x [] i e = cc
+take_get_suc x (y ∷ ys) zero e = ap (λ z. z ∷ []) (some_is y x e)
+take_get_suc x (y ∷ ys) (suc i) e = ap (λ zs. y ∷ zs) (take_get_suc x ys i e)
+
+pub take_get : {A : Type 0} (xs : List A) (i : ℕ) (x : A) → slice_get xs i ≡ Some x → take (i + 1) xs ≡ take i xs ++ x ∷ []
+take_get xs i x e = ap (λ k. take k xs) (add-one i) ∙ take_get_suc x xs i e

@@ -1,5 +1,5 @@
 -- The tokens that name symbols, in order of the text, and what each is used as.
-use Rattle.std.specs.Prelude.{ℕ, Bool, false, true, List, [], ◌∷◌, ◌++◌, map, flat_map, option_to_list, not, ◌&&◌, if◌then◌else◌}
+use Rattle.std.specs.Prelude.{ℕ, Bool, false, true, List, [], ◌∷◌, ◌++◌, map, flat_map, take, option_to_list, not, ◌&&◌, if◌then◌else◌}
 use Rattle.language_model.specs.Tokens.{Spelled}
 use Rattle.language_model.specs.Description.{Statement, Start, Discard}
 use Rattle.language_model.specs.Building.{left_of, right_of}
@@ -55,11 +55,23 @@ is_discard u = is_discard_role u.role
     is_discard_role role.Discard = true
     is_discard_role _ = false
 
+abbrev pub is_named_start : Used → Bool
+is_named_start u = is_start_role u.role
+  where
+    is_start_role : Role → Bool
+    is_start_role role.Start = true
+    is_start_role _ = false
+
 abbrev pub is_asked : Which → Used → Bool
 is_asked which.StructuralLeft u = is_left u && not u.lexical
 is_asked which.LexicalLeft u = is_left u && u.lexical
 is_asked which.Structural u = not u.lexical
 is_asked which.Discarded u = is_discard u
+is_asked which.Started u = is_named_start u
 
 abbrev pub texts_asked : Which → Used → List (List ℕ)
 texts_asked w u = if is_asked w u then u.token.content ∷ [] else []
+
+-- the name of a `:start`, else the first structural left side
+abbrev pub starts_asked : List Used → List (List ℕ)
+starts_asked us = take 1 (flat_map (texts_asked which.Started) us ++ flat_map (texts_asked which.StructuralLeft) us)

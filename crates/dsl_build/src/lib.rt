@@ -13,6 +13,7 @@ mod quotes;
 mod refusal;
 mod rules;
 mod seconds;
+mod structural;
 mod symbols;
 mod telling;
 mod uses;

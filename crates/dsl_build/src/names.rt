@@ -1,5 +1,5 @@
 //! Texts in order of their first appearance, each once.
-ghost use Rattle.std.specs.Prelude.{◌≡◌, [], length, is_some, IfOk, IfSome, OnErr};
+ghost use Rattle.std.specs.Prelude.{◌≡◌, ◌<◌, [], ◌∷◌, ◌++◌, length, is_some, slice_get, Some, IfOk, IfSome, OnErr};
 ghost use Rattle.language_model.specs.Building.{is_one_of, place_in};
 ghost use Rattle.dsl_build.specs.Texts.{with_text};
 
@@ -65,5 +65,23 @@ impl Names {
         let owned = String::from_str(alloc, name)?;
         self.names.insert(owned)?;
         Ok(())
+    }
+
+    /// The text at the place.
+    pub fn text(&self, place: usize) -> &str
+        requires { place < length self.now }
+        ensures { slice_get self.now place ≡ Some result.now }
+    {
+        self.names.as_slice()[place].as_str()
+    }
+
+    /// Puts a text that is not there behind the others.
+    pub fn add_new(&mut self, name: &str) -> Result<(), AllocError>
+        ensures ok { IfOk result (λ _. self.new ≡ self.old ++ name.now ∷ []) }
+    {
+        if self.has(name) {
+            return Err(AllocError);
+        }
+        self.add(name)
     }
 }

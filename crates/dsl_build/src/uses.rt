@@ -1,8 +1,9 @@
 //! The tokens of a description that name symbols.
-ghost use Rattle.std.specs.Prelude.{◌≡◌, ◌++◌, ◌∷◌, [], map, flat_map, OnOk, IfOk};
+ghost use Rattle.std.specs.Prelude.{◌≡◌, ◌++◌, ◌∷◌, [], map, flat_map, option_map, OnOk, IfOk};
 ghost use Rattle.language_model.specs.Building.{parts_of, separator_of, new_texts};
 ghost use Rattle.dsl_statement.specs.Statements.{adverbs_of, statement_of};
 ghost use Rattle.dsl_build.specs.Uses.{used, used_of, uses_of, is_asked, texts_asked};
+ghost use Rattle.dsl_build.specs.Found.{first_of};
 ghost use Rattle.dsl_build.specs.declared.uses.Role.TheVariants.{Right};
 
 use crate::adverbs::value_of;
@@ -168,6 +169,7 @@ pub enum Which {
     LexicalLeft,
     Structural,
     Discarded,
+    Started,
 }
 
 /// Whether the use is one of them.
@@ -179,6 +181,7 @@ pub fn is_asked(which: Which, used: &Use<'_>) -> bool
         Which::LexicalLeft => matches!(used.role, Role::Left) && used.lexical,
         Which::Structural => !used.lexical,
         Which::Discarded => matches!(used.role, Role::Discard),
+        Which::Started => matches!(used.role, Role::Start),
     }
 }
 
@@ -201,4 +204,16 @@ pub fn names_of(alloc: Global, which: Which, uses: &[Use<'_>]) -> Result<Names, 
         }
     }
     Ok(names)
+}
+
+/// The token of the first use that is asked for.
+pub fn first_asked<'a>(which: Which, uses: &[Use<'a>]) -> Option<&'a Spelled>
+    ensures { option_map (λ t. t.now.content) result ≡ first_of (flat_map (texts_asked which) (map used_of uses.now)) }
+{
+    for used in uses {
+        if is_asked(which, used) {
+            return Some(used.token);
+        }
+    }
+    None
 }
