@@ -5,6 +5,7 @@ pub mod Keeping
 pub mod Lists
 pub mod Digits
 pub mod Pairs
+pub mod PlacedLemmas
 pub mod Repeats
 pub mod Scans
 pub mod SecondLemmas

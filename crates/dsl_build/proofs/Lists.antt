@@ -2,6 +2,7 @@
 use Rattle.std.proofs.Common.{◌≡◌, ℕ, zero, suc, ◌+◌, ◌<◌, List, [], ◌∷◌, ◌++◌, length, take, get_or, refl, sym, ap, ◌∙◌, arith, map, append-nil, append_assoc, add-one, Some}
 use Rattle.std.proofs.Math.Seq.{take-suc}
 use Rattle.std.specs.Prelude.{flat_map, slice_get}
+use Rattle.language_model.specs.Building.{count_from}
 use Rattle.std.proofs.lemmas.Grind.{flat_map-append}
 use Rattle.std.proofs.lemmas.List.{map-append}
 
@@ -37,3 +38,10 @@ take_get_suc x (y ∷ ys) (suc i) e = ap (λ zs. y ∷ zs) (take_get_suc x ys i 
 
 pub take_get : {A : Type 0} (xs : List A) (i : ℕ) (x : A) → slice_get xs i ≡ Some x → take (i + 1) xs ≡ take i xs ++ x ∷ []
 take_get xs i x e = ap (λ k. take k xs) (add-one i) ∙ take_get_suc x xs i e
+
+count_suc : (n k : ℕ) → count_from n (suc k) ≡ count_from n k ++ (n + k) ∷ []
+count_suc n zero = let e : n ≡ n + 0 = omega arith in ap (λ m. m ∷ []) e
+count_suc n (suc k) = let e : n + 1 + k ≡ n + suc k = omega arith in ap (λ ms. n ∷ ms) (count_suc (n + 1) k ∙ ap (λ m. count_from (n + 1) k ++ m ∷ []) e)
+
+pub count_more : (n k m : ℕ) → m ≡ n + k → count_from n (k + 1) ≡ count_from n k ++ m ∷ []
+count_more n k m e = ap (count_from n) (add-one k) ∙ count_suc n k ∙ ap (λ x. count_from n k ++ x ∷ []) (sym e)

@@ -1,6 +1,7 @@
 pub mod Adverbs
 pub mod Faults
 pub mod Found
+pub mod Lexical
 pub mod Rules
 pub mod Texts
 pub mod Uses

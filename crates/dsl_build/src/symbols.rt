@@ -30,13 +30,15 @@ pub fn is_bracket(token: &Spelled) -> bool
     matches!(token.kind, TokenKind::Bracket)
 }
 
-fn is_right(used: &Use<'_>) -> bool
+/// Whether the use stands on a right side, or in a `:discard`.
+pub fn is_right(used: &Use<'_>) -> bool
     ensures { result ≡ is_right (used_of used.now) }
 {
     matches!(used.role, Role::Right | Role::Discard)
 }
 
-fn is_left(used: &Use<'_>) -> bool
+/// Whether the use is a left side.
+pub fn is_left(used: &Use<'_>) -> bool
     ensures { result ≡ is_left (used_of used.now) }
 {
     matches!(used.role, Role::Left)

@@ -1,0 +1,20 @@
+-- The tokens that have a place in the lexical grammar, and what it adds.
+use Rattle.std.specs.Prelude.{ℕ, Bool, ◌&&◌, ◌||◌, if◌then◌else◌, List, [], ◌∷◌, ◌++◌, map, decimal, Result, Ok, Err}
+use Rattle.language_model.specs.Tokens.{Spelled}
+use Rattle.language_model.specs.Classes.{Class}
+use Rattle.language_model.specs.Building.{is_quote_or_bracket}
+use Rattle.dsl_build.specs.Uses.{Used, is_left, is_right}
+
+abbrev pub is_placed : Used → Bool
+is_placed u = (is_left u && u.lexical) || (is_right u && (u.lexical || is_quote_or_bracket u.token))
+
+abbrev pub placed_part : Used → List Spelled
+placed_part u = if is_placed u then u.token ∷ [] else []
+
+-- the name of a character set's symbol
+abbrev pub set_name : ℕ → List ℕ
+set_name k = 58 ∷ decimal k
+
+abbrev pub class_sets : {E : Type 0} → Result Class E → List Class
+class_sets (Ok k) = k ∷ []
+class_sets (Err e) = []
