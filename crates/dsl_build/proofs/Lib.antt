@@ -2,6 +2,7 @@ pub mod Bridges
 pub mod Descriptors
 pub mod Firsts
 pub mod Keeping
+pub mod LexicalLemmas
 pub mod Lists
 pub mod Digits
 pub mod Pairs

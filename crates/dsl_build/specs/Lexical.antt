@@ -1,8 +1,10 @@
 -- The tokens that have a place in the lexical grammar, and what it adds.
-use Rattle.std.specs.Prelude.{ℕ, Bool, ◌&&◌, ◌||◌, if◌then◌else◌, List, [], ◌∷◌, ◌++◌, map, decimal, Result, Ok, Err}
+use Rattle.std.specs.Prelude.{ℕ, Bool, ◌&&◌, ◌||◌, if◌then◌else◌, List, [], ◌∷◌, ◌++◌, map, decimal, length, pos, false, Result, Ok, Err}
 use Rattle.language_model.specs.Tokens.{Spelled}
 use Rattle.language_model.specs.Classes.{Class}
-use Rattle.language_model.specs.Building.{is_quote_or_bracket}
+use Rattle.language_model.specs.Building.{is_quote_or_bracket, count_from, sets_of}
+use Rattle.grammar_model.specs.declared.Assoc.TheVariants.{Left}
+use Rattle.grammar_model.specs.Grammar.{WrittenRule, Plain}
 use Rattle.dsl_build.specs.Uses.{Used, is_left, is_right}
 
 abbrev pub is_placed : Used → Bool
@@ -18,3 +20,10 @@ set_name k = 58 ∷ decimal k
 abbrev pub class_sets : {E : Type 0} → Result Class E → List Class
 class_sets (Ok k) = k ∷ []
 class_sets (Err e) = []
+
+-- the rule of a quoted text or a class, with this many sets
+abbrev pub added_of : (number next count : ℕ) → Spelled → List WrittenRule
+added_of number next count t = if is_quote_or_bracket t then Plain (record { lhs = number; rhs = count_from next count; level = 0; groups = 1; assoc = Left; rank = pos 0; null_high = false }) ∷ [] else []
+
+abbrev pub added_rule : (number next : ℕ) → Spelled → List WrittenRule
+added_rule number next t = added_of number next (length (sets_of t)) t

@@ -7,3 +7,6 @@ with_rules g rules = record { names = g.names; rules = g.rules ++ rules; starts 
 
 abbrev pub with_names : Grammar → List (List ℕ) → Grammar
 with_names g names = record { names = g.names ++ names; rules = g.rules; starts = g.starts }
+
+abbrev pub with_starts : Grammar → List ℕ → Grammar
+with_starts g starts = record { names = g.names; rules = g.rules; starts = g.starts ++ starts }

@@ -6,6 +6,7 @@ mod checks;
 mod descriptor;
 mod faults;
 mod found;
+mod lexical;
 mod names;
 mod numbers;
 mod parts;

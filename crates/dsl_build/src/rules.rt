@@ -15,17 +15,24 @@ use dsl_statement::{Adverb, Alternative, Spelled, Statement};
 use grammar_core::{Assoc, Rule, SeqRule, SymbolId, Written};
 use std::alloc::{AllocError, Global};
 
-/// The number of the token's text.
-pub fn number_of(names: &Names, token: &Spelled) -> Result<SymbolId, AllocError>
-    ensures { IfOk result (λ s. s ≡ place_in names.now token.now.content) }
+/// The number of the text.
+pub fn symbol_of(names: &Names, text: &str) -> Result<SymbolId, AllocError>
+    ensures { IfOk result (λ s. s ≡ place_in names.now text.now) }
 {
-    let Some(place) = names.position(token.content.as_str()) else {
+    let Some(place) = names.position(text) else {
         return Err(AllocError);
     };
     match u32::try_from(place) {
         Ok(number) => Ok(SymbolId(number)),
         Err(_) => Err(AllocError),
     }
+}
+
+/// The number of the token's text.
+pub fn number_of(names: &Names, token: &Spelled) -> Result<SymbolId, AllocError>
+    ensures { IfOk result (λ s. s ≡ place_in names.now token.now.content) }
+{
+    symbol_of(names, token.content.as_str())
 }
 
 fn numbers_of(alloc: Global, names: &Names, parts: &[&Spelled]) -> Result<Vec<SymbolId>, AllocError>
@@ -58,7 +65,8 @@ fn count_of(count: usize) -> Result<u32, AllocError>
     }
 }
 
-fn add_plain(w: &mut Written, rule: Rule) -> Result<(), AllocError>
+/// Adds a plain rule.
+pub fn add_plain(w: &mut Written, rule: Rule) -> Result<(), AllocError>
     ensures { OnOk result (w.new ≡ with_rules w.old (Plain rule ∷ [])) }
 {
     match w.rule_new(rule) {

@@ -49,7 +49,8 @@ fn push_class(alloc: Global, sets: &mut Vec<CharSet>, text: &str) -> Result<(), 
     }
 }
 
-fn push_sets(alloc: Global, sets: &mut Vec<CharSet>, token: &Spelled) -> Result<(), AllocError>
+/// Puts the sets of the token behind the others.
+pub fn push_sets(alloc: Global, sets: &mut Vec<CharSet>, token: &Spelled) -> Result<(), AllocError>
     ensures { OnOk result (sets.new.items ≡ sets.old.items ++ sets_of token.now) }
 {
     let text = token.content.as_str();
@@ -71,7 +72,13 @@ fn name_of_set(alloc: Global, number: usize) -> Result<String, AllocError>
     Ok(name)
 }
 
-fn add_set_symbols(alloc: Global, w: &mut Written, from: usize, to: usize) -> Result<(), AllocError>
+/// Symbols of sets, named by their numbers.
+pub fn add_set_symbols(
+    alloc: Global,
+    w: &mut Written,
+    from: usize,
+    to: usize,
+) -> Result<(), AllocError>
     requires { from ≤ to }
     ensures { OnOk result (w.new ≡ with_names w.old (map set_name (count_from from (to - from)))) }
 {
@@ -82,7 +89,8 @@ fn add_set_symbols(alloc: Global, w: &mut Written, from: usize, to: usize) -> Re
     Ok(())
 }
 
-fn numbers_from(alloc: Global, from: usize, count: usize) -> Result<Vec<SymbolId>, AllocError>
+/// Numbers one after another.
+pub fn numbers_from(alloc: Global, from: usize, count: usize) -> Result<Vec<SymbolId>, AllocError>
     ensures { IfOk result (λ numbers. numbers.items ≡ count_from from count) }
 {
     let mut numbers = Vec::new(alloc);
