@@ -5,6 +5,7 @@ pub mod Keeping
 pub mod LexicalLemmas
 pub mod Lists
 pub mod Digits
+pub mod MeaningLemmas
 pub mod Pairs
 pub mod PlacedLemmas
 pub mod Repeats

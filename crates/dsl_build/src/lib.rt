@@ -7,6 +7,7 @@ mod descriptor;
 mod faults;
 mod found;
 mod lexical;
+mod meanings;
 mod names;
 mod numbers;
 mod parts;
