@@ -20,6 +20,8 @@ mod sets;
 mod structural;
 mod symbols;
 mod telling;
+#[cfg(test)]
+mod tests;
 mod uses;
 mod values;
 
