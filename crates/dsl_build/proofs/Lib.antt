@@ -11,4 +11,5 @@ pub mod PlacedLemmas
 pub mod Repeats
 pub mod Scans
 pub mod SecondLemmas
+pub mod TableLemmas
 pub mod UseLemmas

@@ -19,6 +19,7 @@ mod seconds;
 mod sets;
 mod structural;
 mod symbols;
+mod tables;
 mod telling;
 #[cfg(test)]
 mod tests;
