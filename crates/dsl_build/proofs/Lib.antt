@@ -1,0 +1,15 @@
+pub mod Bridges
+pub mod Descriptors
+pub mod Firsts
+pub mod Keeping
+pub mod LexicalLemmas
+pub mod Lists
+pub mod Digits
+pub mod MeaningLemmas
+pub mod Pairs
+pub mod PlacedLemmas
+pub mod Repeats
+pub mod Scans
+pub mod SecondLemmas
+pub mod TableLemmas
+pub mod UseLemmas

@@ -1,0 +1,16 @@
+use Rattle.std.proofs.Common.{◌≡◌, [], ◌++◌, arith, sym, ◌∙◌, ap, ◌<◌, ◌≤◌, length, subst, map, cond, Bool, false}
+use Rattle.std.specs.Prelude.{flat_map, OnOk}
+use Rattle.language_model.specs.Building.{alternatives_of}
+use Rattle.value_text.specs.Meaning.{action_of, rule_meaning_of}
+use Rattle.dsl_statement.specs.Statements.{statement_of}
+use Rattle.dsl_build.specs.Meanings.{meaning_of_alternative, meanings_of}
+use Rattle.dsl_build.proofs.MeaningLemmas.{alternatives_flat, meanings_on, meanings_end}
+use Rattle.dsl_build.proofs.meanings.meanings.Goals as goal
+
+pub loop-s-preserved : goal.loop-s-preserved
+loop-s-preserved c =
+    meanings_on c.args.statements.now c.loop-s.s-index c.s-item.result (action_of c.loop-s.default) _ (map rule_meaning_of c.loop-s.out.items) (map rule_meaning_of c.push_statement.new.out.items) _ (omega arith) c.s-item.is
+    c.in_ok-push_statement.ensures c.in_ok-default.ensures c.loop-s.invariant
+
+pub returns : goal.returns
+returns c = meanings_end c.args.statements.now c.loop-s.s-index (action_of c.loop-s.default) (map rule_meaning_of c.loop-s.out.items) _ (omega arith) c.loop-s.invariant

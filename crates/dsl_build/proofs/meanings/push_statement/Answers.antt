@@ -1,0 +1,19 @@
+use Rattle.std.proofs.Common.{◌≡◌, [], ◌++◌, arith, sym, ◌∙◌, ap, ◌<◌, ◌≤◌, length, subst, map, cond, Bool, false}
+use Rattle.std.specs.Prelude.{flat_map, OnOk}
+use Rattle.std.proofs.lemmas.List.{take_all}
+use Rattle.std.proofs.lemmas.List.Folds.{flat_map-map}
+use Rattle.language_model.specs.Building.{alternatives_of, shown_of_element}
+use Rattle.value_text.specs.Meaning.{action_of, rule_meaning_of}
+use Rattle.dsl_statement.specs.declared.statement.Element.{Element as HeldElement}
+use Rattle.dsl_statement.specs.Statements.{statement_of, element_of}
+use Rattle.dsl_build.specs.Meanings.{meaning_of_alternative, meanings_of}
+use Rattle.dsl_build.proofs.MeaningLemmas.{alternatives_flat, meanings_on, meanings_end}
+use Rattle.dsl_build.proofs.meanings.push_statement.Goals as goal
+
+pub returns-in-Rules : goal.returns-in-Rules
+returns-in-Rules c =
+    let default = action_of c.args.default.now in
+    let e : meanings_of default (statement_of c.args.s.now) ≡ cond c.in-Rules.lexical [] (flat_map (λ g. map (meaning_of_alternative default) g.items) c.deref-in-Rules.result.now) =
+    ap (λ s. meanings_of default (statement_of s)) c.in-Rules.is
+    ∙ ap (λ ms. cond c.in-Rules.lexical [] ms) (alternatives_flat default c.in-Rules.groups.items ∙ ap (flat_map (λ g. map (meaning_of_alternative default) g.items)) (sym c.deref-in-Rules.ensures.value)) in
+    subst (λ ms. OnOk c.push_rules.result (map rule_meaning_of c.push_rules.new.out.items ≡ map rule_meaning_of c.args.out.now.items ++ ms)) (sym e) c.push_rules.ensures

@@ -1,0 +1,12 @@
+use Rattle.std.proofs.Common.{◌≡◌, [], take, map, Bor, ◌++◌}
+use Rattle.std.specs.Prelude.{flat_map, filter, not}
+use Rattle.language_model.specs.Tokens.{Spelled}
+use Rattle.language_model.specs.Building.{is_one_of}
+use Rattle.dsl_build.proofs.PlacedLemmas.{placed_to}
+use Rattle.dsl_build.proofs.placed.placed_tokens.Given as goal
+
+abbrev pub invariant-loop-used : goal.invariant-loop-used
+invariant-loop-used l = record {
+  tokens : map (λ (t : Bor Spelled). t.now) l.tokens.items ≡ placed_to l.uses l.used-index;
+  names : l.names ≡ map (λ (t : Spelled). t.content) (placed_to l.uses l.used-index);
+}

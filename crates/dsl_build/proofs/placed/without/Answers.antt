@@ -1,0 +1,17 @@
+use Rattle.std.proofs.Common.{◌≡◌, [], ◌∷◌, ◌++◌, take, arith, sym, ◌∙◌, ap, ◌<◌, ◌≤◌, length, ℕ, List, map, Bor, cond, append_assoc, append-nil}
+use Rattle.std.specs.Prelude.{flat_map, not}
+use Rattle.std.proofs.lemmas.List.{map-append, take_all}
+use Rattle.std.proofs.lemmas.List.Folds.{flat_map-map}
+use Rattle.language_model.specs.Tokens.{Spelled}
+use Rattle.language_model.specs.Building.{is_one_of, new_tokens}
+use Rattle.dsl_build.specs.declared.uses.Use.{Use}
+use Rattle.dsl_build.specs.Uses.{used_of}
+use Rattle.dsl_build.specs.Lexical.{placed_part}
+use Rattle.dsl_build.proofs.Lists.{take_get}
+use Rattle.dsl_build.proofs.PlacedLemmas.{placed_to, placed_on, filter_more}
+use Rattle.dsl_build.proofs.placed.without.Goals as goal
+
+pub loop-place-preserved : goal.loop-place-preserved
+loop-place-preserved c =
+    let p = λ (t : List ℕ). not (is_one_of c.args.others.now t) in
+    c.in_ok-add_unless.ensures ∙ ap (λ ns. ns ++ cond (p c.text.result.now) (c.text.result.now ∷ []) []) c.loop-place.invariant ∙ sym (filter_more p c.args.texts.now c.loop-place.place c.text.result.now c.text.ensures)

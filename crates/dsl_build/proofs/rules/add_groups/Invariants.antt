@@ -1,0 +1,15 @@
+use Rattle.std.proofs.Common.{◌≡◌, [], ◌∷◌, ◌++◌, take, drop, List, map, ℕ, Bool, Bor, length, ◌≤◌, ◌+◌, ◌-◌, ◌<◌}
+use Rattle.std.specs.Prelude.{flat_map, filter}
+use Rattle.language_model.specs.Tokens.{Spelled}
+use Rattle.language_model.specs.Building.{digits_number, place_in, plain_rule, rules_of_groups, rules_of, is_of_level}
+use Rattle.dsl_statement.specs.Statements.{statement_of}
+use Rattle.dsl_build.specs.Rules.{with_rules}
+use Rattle.dsl_build.proofs.rules.add_groups.Given as goal
+
+abbrev pub invariant-loop-group : goal.invariant-loop-group
+invariant-loop-group l = record {
+  level : l.level + l.group-index ≡ length l.groups;
+  names : l.w.names ≡ l.fn.w.names;
+  starts : l.w.starts ≡ l.fn.w.starts;
+  rules : l.w.rules ++ rules_of_groups l.names l.left (length l.groups) (map (λ g. g.items) (drop l.group-index l.groups)) ≡ l.fn.w.rules ++ rules_of_groups l.names l.left (length l.groups) (map (λ g. g.items) l.groups);
+}

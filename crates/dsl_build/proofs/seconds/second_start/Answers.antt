@@ -1,0 +1,30 @@
+use Rattle.std.proofs.Common.{◌≡◌, [], ◌∷◌, ◌++◌, take, arith, sym, ◌∙◌, ap, ◌<◌, ◌≤◌, length, subst, ℕ, refl, List, Bool, map, true, false, ◌+◌, Vec, Global, Bor}
+use Rattle.std.specs.Prelude.{flat_map, IfOk, option_map, ◌||◌}
+use Rattle.std.proofs.lemmas.List.{take_all}
+use Rattle.std.proofs.lemmas.List.Folds.{flat_map-map}
+use Rattle.language_model.specs.Tokens.{Spelled}
+use Rattle.language_model.specs.Description.{Alternative}
+use Rattle.language_model.specs.Building.{is_lexeme_default, long_parts, parts_of, right_sides}
+use Rattle.dsl_statement.specs.declared.statement.Statement.{Statement as HeldStatement}
+use Rattle.dsl_statement.specs.Statements.{statement_of}
+use Rattle.dsl_build.specs.Found.{fault_of, first_of}
+use Rattle.dsl_build.specs.Faults.{lexeme_fault, is_start}
+use Rattle.dsl_build.proofs.Firsts.{goes_on, stops, none_at_all, no_first}
+use Rattle.dsl_build.proofs.Scans.{scan, scan_goes_on, scan_stops}
+use Rattle.dsl_build.proofs.SecondLemmas.{repeated_before, repeated_scan, repeated_known, any_more, lexemes_more, start_before, start_scan, start_known, long_before, long_scan, long_known, long_flat}
+use Rattle.dsl_build.proofs.seconds.second_start.Goals as goal
+
+pub returns-then-is_some : goal.returns-then-is_some
+returns-then-is_some c =
+    scan_stops start_before c.args.statements.now c.loop-s.s-index c.s-item.result c.start_fault-found.result (omega arith) c.s-item.is c.loop-s.invariant.none
+    (c.start_fault-found.ensures ∙ ap first_of (start_known c.loop-s.seen (take c.loop-s.s-index c.args.statements.now) c.s-item.result c.loop-s.invariant.seen)) (sym c.is_some.ensures ∙ c.if-is_some.true) ∙ ap first_of (sym (start_scan c.args.statements.now))
+
+pub loop-s-preserved : goal.loop-s-preserved
+loop-s-preserved c = record {
+  none = scan_goes_on start_before c.args.statements.now c.loop-s.s-index c.s-item.result c.start_fault-found.result (omega arith) c.s-item.is c.loop-s.invariant.none
+      (c.start_fault-found.ensures ∙ ap first_of (start_known c.loop-s.seen (take c.loop-s.s-index c.args.statements.now) c.s-item.result c.loop-s.invariant.seen)) (sym c.is_some.ensures ∙ c.if-is_some.false);
+  seen = ap (λ b. c.loop-s.seen || b) c.is_start-seen.ensures ∙ any_more is_start c.args.statements.now c.loop-s.s-index c.s-item.result c.loop-s.seen (omega arith) c.s-item.is c.loop-s.invariant.seen;
+}
+
+pub returns : goal.returns
+returns c = sym (no_first _ (ap (scan start_before []) (sym (take_all c.loop-s.s-index c.args.statements.now (omega arith))) ∙ c.loop-s.invariant.none)) ∙ ap first_of (sym (start_scan c.args.statements.now))

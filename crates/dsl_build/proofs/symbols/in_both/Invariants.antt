@@ -1,0 +1,17 @@
+use Rattle.std.proofs.Common.{◌≡◌, [], ◌∷◌, take, List, map, ℕ}
+use Rattle.std.specs.Prelude.{flat_map}
+use Rattle.language_model.specs.Building.{in_both, new_texts, Fault}
+use Rattle.dsl_build.specs.declared.uses.Use.{Use}
+use Rattle.dsl_build.specs.declared.uses.Which.TheVariants.{StructuralLeft, LexicalLeft}
+use Rattle.dsl_build.specs.Uses.{used_of, texts_asked}
+use Rattle.dsl_build.specs.Faults.{undefined_fault, class_fault, left_part}
+use Rattle.dsl_build.proofs.Scans.{scan}
+use Rattle.dsl_build.proofs.UseLemmas.{both_before}
+use Rattle.dsl_build.proofs.symbols.in_both.Given as goal
+
+abbrev pub invariant-loop-used : goal.invariant-loop-used
+invariant-loop-used l = record {
+  none : scan both_before [] (take l.used-index l.uses) ≡ [];
+  structural : l.structural ≡ new_texts [] (flat_map (λ u. texts_asked StructuralLeft (used_of u)) (take l.used-index l.uses));
+  lexical : l.lexical ≡ new_texts [] (flat_map (λ u. texts_asked LexicalLeft (used_of u)) (take l.used-index l.uses));
+}

@@ -1,0 +1,30 @@
+//! Building: from the statements of a grammar text to its two grammars and their tables.
+#![tactic(auto)]
+
+mod adverbs;
+mod checks;
+mod descriptor;
+mod faults;
+mod found;
+mod lexical;
+mod meanings;
+mod names;
+mod numbers;
+mod parts;
+mod placed;
+mod quotes;
+mod refusal;
+mod rules;
+mod seconds;
+mod sets;
+mod structural;
+mod symbols;
+mod tables;
+mod telling;
+#[cfg(test)]
+mod tests;
+mod uses;
+mod values;
+
+pub use faults::check;
+pub use refusal::BuildRefusal;

@@ -1,0 +1,107 @@
+//! The character sets of quoted texts and classes, and the rules that are made of them.
+ghost use Rattle.std.specs.Prelude.{◌≡◌, ◌≤◌, ◌-◌, ◌++◌, map, nat_lt, chars, string_bytes, IfOk, OnOk};
+ghost use Rattle.language_model.specs.Classes.{class_of, class_of_char};
+ghost use Rattle.language_model.specs.Classes as classes;
+ghost use Rattle.language_model.specs.Building.{sets_of, count_from};
+ghost use Rattle.dsl_build.specs.Lexical.{set_name, class_sets};
+ghost use Rattle.dsl_build.specs.Rules.{with_names};
+
+use crate::quotes::{is_quote, modifier_len, quoted};
+use crate::structural::add_symbol;
+use crate::symbols::is_bracket;
+use char_class::{CharSet, ClassRefusal, read_class, set_of_char};
+use dsl_statement::Spelled;
+use grammar_core::{SymbolId, Written};
+use itoa::Buffer;
+use std::alloc::{AllocError, Global};
+
+fn push_characters(
+    alloc: Global,
+    sets: &mut Vec<CharSet>,
+    characters: &[char],
+    caseless: bool,
+) -> Result<(), AllocError>
+    ensures { OnOk result (sets.new.items ≡ sets.old.items ++ map (λ c. class_of_char c caseless) characters.now) }
+{
+    for c in characters {
+        sets.push(set_of_char(alloc, *c, caseless)?)?;
+    }
+    Ok(())
+}
+
+fn is_caseless(text: &str) -> bool
+    ensures { result ≡ nat_lt 0 (classes.modifier_len text.now) }
+{
+    modifier_len(text.as_bytes()) > 0
+}
+
+// A class that cannot be read gives no set.
+fn push_class(alloc: Global, sets: &mut Vec<CharSet>, text: &str) -> Result<(), AllocError>
+    ensures { OnOk result (sets.new.items ≡ sets.old.items ++ class_sets (class_of (chars text.now))) }
+{
+    match read_class(alloc, text) {
+        Ok(set) => {
+            sets.push(set)?;
+            Ok(())
+        }
+        Err(ClassRefusal::NoMemory) => Err(AllocError),
+        Err(_) => Ok(()),
+    }
+}
+
+/// Puts the sets of the token behind the others.
+pub fn push_sets(alloc: Global, sets: &mut Vec<CharSet>, token: &Spelled) -> Result<(), AllocError>
+    ensures { OnOk result (sets.new.items ≡ sets.old.items ++ sets_of token.now) }
+{
+    let text = token.content.as_str();
+    if is_quote(token) {
+        let characters = quoted(alloc, text)?;
+        push_characters(alloc, sets, &characters, is_caseless(text))
+    } else if is_bracket(token) {
+        push_class(alloc, sets, text)
+    } else {
+        Ok(())
+    }
+}
+
+fn name_of_set(alloc: Global, number: usize) -> Result<String, AllocError>
+    ensures { IfOk result (λ name. string_bytes name ≡ set_name number) }
+{
+    let mut name = String::from_str(alloc, ":")?;
+    name.push_str(Buffer::new().format(number))?;
+    Ok(name)
+}
+
+/// Symbols of sets, named by their numbers.
+pub fn add_set_symbols(
+    alloc: Global,
+    w: &mut Written,
+    from: usize,
+    to: usize,
+) -> Result<(), AllocError>
+    requires { from ≤ to }
+    ensures { OnOk result (w.new ≡ with_names w.old (map set_name (count_from from (to - from)))) }
+{
+    for number in from..to {
+        let name = name_of_set(alloc, number)?;
+        add_symbol(w, name.as_str())?;
+    }
+    Ok(())
+}
+
+/// Numbers one after another.
+pub fn numbers_from(alloc: Global, from: usize, count: usize) -> Result<Vec<SymbolId>, AllocError>
+    ensures { IfOk result (λ numbers. numbers.items ≡ count_from from count) }
+{
+    let mut numbers = Vec::new(alloc);
+    for k in 0..count {
+        let Some(number) = from.checked_add(k) else {
+            return Err(AllocError);
+        };
+        match u32::try_from(number) {
+            Ok(number) => numbers.push(SymbolId(number))?,
+            Err(_) => return Err(AllocError),
+        }
+    }
+    Ok(numbers)
+}
