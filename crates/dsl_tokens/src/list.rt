@@ -20,12 +20,14 @@ impl Model for Tokens {
 }
 
 impl Tokens {
+    /// These tokens as one value.
     pub fn of(items: Vec<Token>) -> Tokens
         ensures { result ≡ items.items }
     {
         Tokens { items }
     }
 
+    /// The tokens in order.
     pub fn as_slice(&self) -> &[Token]
         ensures { result.now ≡ self.now }
     {
