@@ -1,21 +1,20 @@
 -- The faults that are told are those of the definition.
-use Rattle.std.proofs.Common.{◌≡◌, ℕ, Bool, true, false, cond, List, [], ◌∷◌, ◌++◌, Option, Some, None, refl, sym, ap, ◌∙◌, subst, map, append_assoc, append-nil}
+use Rattle.std.proofs.Common.{◌≡◌, ℕ, Bool, true, false, cond, List, [], ◌∷◌, ◌++◌, Option, Some, None, refl, sym, ap, ◌∙◌, map}
 use Rattle.std.specs.Prelude.{flat_map, filter_map, filter, option_to_list, bytes_eq, not, ◌&&◌, ◌||◌, is_ok, chars}
-use Rattle.std.specs.List.{list_any, cons_option}
+use Rattle.std.specs.List.{cons_option}
 use Rattle.std.proofs.Math.Bool.{or-false}
-use Rattle.std.proofs.lemmas.Grind.{flat_map-append}
 use Rattle.std.proofs.lemmas.List.Folds.{flat_map-map}
 use Rattle.std.proofs.lemmas.Slice.Eq.{bytes_eq-Decides}
 use Rattle.language_model.specs.Tokens.{Spelled}
 use Rattle.language_model.specs.Classes.{class_of}
 use Rattle.language_model.specs.Description.{Statement, Start, Default, LexemeDefault, Lexeme, Discard, Empty, Quantified, Rules, is_name}
-use Rattle.language_model.specs.Building.{left_of, right_of, lefts, left_names, all_left_names, is_one_of, new_texts, symbols_g1, structural_names, lexemes, not_lexemes, no_lexeme_of, not_defined, bad_classes, at_most, fault_at, is_bracket, in_both, faults_of, separator_of, parts_of, alternatives_of, Fault, BuildFault, BadAdverb, RepeatedAdverb, LexemeNotDefined, InBoth, NotALexeme, BadClass, TwoStarts, NumberRange, TooLong, bad_adverbs, repeated, second_starts, big_numbers, too_long}
+use Rattle.language_model.specs.Building.{left_of, right_of, lefts, left_names, all_left_names, is_one_of, new_texts, symbols_g1, structural_names, not_lexemes, no_lexeme_of, not_defined, bad_classes, at_most, fault_at, is_bracket, in_both, faults_of, separator_of, parts_of, alternatives_of, Fault, BuildFault, BadAdverb, RepeatedAdverb, LexemeNotDefined, InBoth, NotALexeme, BadClass, TwoStarts, NumberRange, TooLong, bad_adverbs, repeated, second_starts, big_numbers, too_long}
 use Rattle.dsl_build.specs.declared.uses.Role.{Role}
 use Rattle.dsl_build.specs.declared.uses.Role.TheVariants as role
 use Rattle.dsl_build.specs.declared.uses.Which.TheVariants.{StructuralLeft, LexicalLeft, Structural}
 use Rattle.dsl_build.specs.Uses.{Used, used, uses_of, texts_asked, is_left}
 use Rattle.dsl_build.specs.Faults.{undefined_fault, class_fault, left_part, lexeme_fault, all_faults}
-use Rattle.dsl_build.proofs.Lists.{flat_flat, flat_same, map_map}
+use Rattle.dsl_build.proofs.Lists.{flat_flat, flat_same}
 use Rattle.dsl_build.proofs.Keeping.{among_texts}
 
 filter_flat : {A B : Type 0} (f : A → Option B) (xs : List A) → filter_map f xs ≡ flat_map (λ x. option_to_list (f x)) xs

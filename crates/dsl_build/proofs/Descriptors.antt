@@ -1,9 +1,9 @@
 -- The parts of a descriptor between commas, one after the other.
-use Rattle.std.proofs.Common.{◌≡◌, ℕ, zero, suc, ◌+◌, ◌≤◌, ◌<◌, Bool, true, false, cond, List, [], ◌∷◌, ◌++◌, length, take, drop, Option, Some, None, refl, sym, ap, ◌∙◌, subst, arith, map, length-drop, append_assoc, ◌-◌}
+use Rattle.std.proofs.Common.{◌≡◌, ℕ, suc, ◌+◌, ◌≤◌, ◌<◌, Bool, true, false, cond, List, [], ◌∷◌, ◌++◌, length, take, drop, Option, Some, None, refl, sym, ap, ◌∙◌, arith, length-drop, append_assoc, ◌-◌}
 use Rattle.std.proofs.lemmas.Bool.{lt-leb, le-leb, ltb-true, ltb-false}
 use Rattle.std.proofs.lemmas.List.{take_all, drop-drop}
 use Rattle.std.proofs.Math.Dec.{leb-suc-suc, leb-zero}
-use Rattle.std.specs.Prelude.{not, ◌==◌, option_map, nat_lt, nat_le, ◌&&◌}
+use Rattle.std.specs.Prelude.{not, ◌==◌, option_map, nat_lt, nat_le}
 use Rattle.std.specs.List.{list_all, prefix_len}
 use Rattle.unicode.specs.Binary.{is_white_space}
 use Rattle.grammar_model.specs.declared.DescItem.{DescItem}

@@ -1,5 +1,5 @@
 -- Numbers of digits, one digit after the other.
-use Rattle.std.proofs.Common.{◌≡◌, ℕ, zero, suc, ◌+◌, ◌*◌, ◌-◌, ◌≤◌, ◌<◌, Bool, true, false, cond, List, [], ◌∷◌, ◌++◌, length, take, drop, get_or, refl, sym, ap, ◌∙◌, subst, arith, map, add-one, min}
+use Rattle.std.proofs.Common.{◌≡◌, ℕ, zero, suc, ◌+◌, ◌*◌, ◌<◌, Bool, true, false, cond, List, [], ◌∷◌, length, take, get_or, refl, sym, ap, ◌∙◌, arith, add-one, min}
 use Rattle.std.specs.Prelude.{filter, fold}
 use Rattle.std.specs.Char.{is_ascii_digit, digit_value}
 use Rattle.language_model.specs.Building.{digits_number}

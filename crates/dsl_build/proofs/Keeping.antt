@@ -1,14 +1,14 @@
 -- Texts in a table, each once.
-use Rattle.std.proofs.Common.{◌≡◌, ℕ, Bool, true, false, cond, List, [], ◌∷◌, ◌++◌, refl, sym, ap, ◌∙◌, map, subst, append-nil, ◌<◌, ◌+◌, length, take, get_or}
+use Rattle.std.proofs.Common.{◌≡◌, ℕ, Bool, true, false, cond, List, [], ◌∷◌, ◌++◌, refl, sym, ap, ◌∙◌, subst, append-nil, ◌<◌, ◌+◌, length, take, get_or}
 use Rattle.std.specs.Prelude.{flat_map}
 use Rattle.std.specs.Prelude.{◌||◌}
-use Rattle.std.specs.List.{list_any, position_or_len}
+use Rattle.std.specs.List.{list_any}
 use Rattle.std.specs.Str.{bytes_eq}
 use Rattle.std.proofs.lemmas.Bool.Decides.{same_from_decides}
 use Rattle.std.proofs.lemmas.Slice.Eq.{bytes_eq-Decides}
 use Rattle.std.proofs.Math.Bool.{or-false}
 use Rattle.std.proofs.lemmas.Bool.{true≢false}
-use Rattle.language_model.specs.Building.{is_one_of, place_in, new_texts}
+use Rattle.language_model.specs.Building.{is_one_of, new_texts}
 use Rattle.dsl_build.specs.Texts.{with_text}
 use Rattle.dsl_build.specs.declared.uses.Use.{Use}
 use Rattle.dsl_build.specs.declared.uses.Which.{Which}

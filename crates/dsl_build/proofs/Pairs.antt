@@ -1,5 +1,5 @@
 -- The pairs of adverbs, and the value of one.
-use Rattle.std.proofs.Common.{◌≡◌, ℕ, zero, suc, ◌+◌, ◌<◌, Bool, true, false, cond, List, [], ◌∷◌, ◌++◌, length, take, get_or, Option, Some, None, refl, sym, ap, ◌∙◌, arith, map, add-one, subst, append-nil, Vec, Global}
+use Rattle.std.proofs.Common.{◌≡◌, ℕ, Bool, true, false, cond, List, [], ◌∷◌, ◌++◌, Option, Some, None, refl, sym, ap, ◌∙◌, map, subst, append-nil, Vec, Global}
 use Rattle.std.proofs.lemmas.List.Folds.{flat_map-map}
 use Rattle.std.specs.Prelude.{flat_map, option_to_list, not, ◌&&◌}
 use Rattle.std.specs.Str.{bytes_eq}
@@ -8,7 +8,7 @@ use Rattle.language_model.specs.Description as description
 use Rattle.language_model.specs.Description.{Adverb, Alternative}
 use Rattle.dsl_statement.specs.declared.statement.Alternative.{Alternative as HeldAlternative}
 use Rattle.dsl_build.specs.declared.checks.Check.{Check}
-use Rattle.language_model.specs.Building.{value_of, pairs_of, AdverbPlace, Fault, fault_at, at_most, is_one_of, names_at, fits_adverb}
+use Rattle.language_model.specs.Building.{value_of, pairs_of, AdverbPlace, fault_at, at_most, is_one_of, names_at, fits_adverb}
 use Rattle.dsl_statement.specs.declared.statement.Adverb.{Adverb as HeldAdverb}
 use Rattle.dsl_statement.specs.declared.statement.Adverb.TheVariants.{Comma, Pair}
 use Rattle.dsl_statement.specs.Statements.{adverb_of, adverbs_of}

@@ -1,8 +1,7 @@
 -- Tokens and texts, each once.
-use Rattle.std.proofs.Common.{◌≡◌, ℕ, zero, suc, ◌+◌, ◌<◌, Bool, true, false, cond, List, [], ◌∷◌, ◌++◌, length, take, get_or, Some, refl, sym, ap, ◌∙◌, map, append-nil}
+use Rattle.std.proofs.Common.{◌≡◌, ℕ, ◌+◌, ◌<◌, Bool, true, false, cond, List, [], ◌∷◌, ◌++◌, length, take, get_or, Some, refl, sym, ap, ◌∙◌, map, append-nil}
 use Rattle.std.specs.Prelude.{flat_map, filter, ◌||◌, ◌&&◌, not, bytes_eq, slice_get}
 use Rattle.std.proofs.Math.Bool.{or-false}
-use Rattle.std.proofs.lemmas.List.{map-append}
 use Rattle.std.proofs.lemmas.List.Elements.{filter-append}
 use Rattle.language_model.specs.Tokens.{Spelled}
 use Rattle.language_model.specs.Building.{is_one_of, new_tokens}

@@ -1,5 +1,5 @@
 -- Faults of whole statements by those before, and of the parts of right sides.
-use Rattle.std.proofs.Common.{◌≡◌, ℕ, zero, suc, ◌+◌, ◌<◌, ◌≤◌, Bool, true, false, cond, List, [], ◌∷◌, ◌++◌, length, take, drop, get_or, Option, Some, None, refl, sym, ap, ◌∙◌, subst, arith, map, add-one, append_assoc, append-nil, Bor, Vec, Global}
+use Rattle.std.proofs.Common.{◌≡◌, ℕ, ◌+◌, ◌<◌, Bool, true, false, List, [], ◌∷◌, ◌++◌, length, take, drop, get_or, refl, sym, ap, ◌∙◌, arith, map, add-one, Bor, Vec, Global}
 use Rattle.std.specs.Prelude.{flat_map, ◌||◌, codes, bytes_eq}
 use Rattle.std.specs.List.{list_any}
 use Rattle.std.proofs.Math.Bool.{or-false}
@@ -7,7 +7,6 @@ use Rattle.std.proofs.lemmas.List.{length-take-le}
 use Rattle.std.proofs.Math.Seq.{take-suc}
 use Rattle.std.proofs.lemmas.List.Folds.{flat_map-map}
 use Rattle.language_model.specs.Tokens.{Spelled}
-use Rattle.language_model.specs.Description as description
 use Rattle.language_model.specs.Description.{Alternative, Statement, Adverb}
 use Rattle.language_model.specs.Building.{Fault, at_most, repeated, repeated_statement, second_starts, start_places, is_lexeme_default, is_lexeme_of, is_one_of, long_parts, parts_of, alternatives_of, repeated_in, pairs_of, adverb_lists, AdverbPlace}
 use Rattle.dsl_statement.specs.declared.statement.Statement.{Statement as HeldStatement}
@@ -19,7 +18,7 @@ use Rattle.dsl_build.specs.declared.checks.Check.TheVariants.{Once}
 use Rattle.dsl_build.specs.Texts.{with_text}
 use Rattle.dsl_build.specs.Faults.{second_fault, with_lexeme, start_fault, is_start, long_fault}
 use Rattle.dsl_build.proofs.Scans.{scan, turned, any_turned}
-use Rattle.dsl_build.proofs.Lists.{map_flat, flat_flat, flat_same}
+use Rattle.dsl_build.proofs.Lists.{flat_flat, flat_same}
 use Rattle.dsl_build.proofs.Keeping.{among_more, bytes_eq_sym}
 use Rattle.grammar_core.proofs.Growth.{list_any-map}
 

@@ -1,5 +1,5 @@
 -- The uses of statements, and what is told of them.
-use Rattle.std.proofs.Common.{◌≡◌, ℕ, Bool, true, false, cond, List, [], ◌∷◌, ◌++◌, Option, Some, None, refl, sym, ap, ◌∙◌, subst, map, Vec, Global, append_assoc, append-nil, Result, Ok, Err}
+use Rattle.std.proofs.Common.{◌≡◌, ℕ, Bool, true, false, cond, List, [], ◌∷◌, ◌++◌, refl, sym, ap, ◌∙◌, map, Vec, Global, append_assoc, Result, Ok, Err}
 use Rattle.std.specs.Prelude.{flat_map, OnOk, bytes_eq, not, ◌&&◌, ◌||◌}
 use Rattle.std.specs.List.{list_any}
 use Rattle.std.proofs.lemmas.List.Folds.{flat_map-map}
@@ -19,7 +19,7 @@ use Rattle.dsl_build.specs.Faults.{left_part, both_fault}
 use Rattle.dsl_build.proofs.Scans.{scan, turned, any_turned}
 use Rattle.dsl_build.proofs.Keeping.{among_texts}
 use Rattle.dsl_build.specs.declared.uses.Role.TheVariants as role
-use Rattle.dsl_build.proofs.Lists.{flat_flat, flat_same, map_map, map_flat}
+use Rattle.dsl_build.proofs.Lists.{flat_flat, map_map, map_flat}
 
 -- what each part of all alternatives gives, group by group
 pub parts_flat : {A : Type 0} (f : Spelled → A) (groups : List (Vec HeldAlternative Global)) →

@@ -1,5 +1,5 @@
 -- The tokens that have a place in the lexical grammar, and what it adds.
-use Rattle.std.specs.Prelude.{ℕ, Bool, ◌&&◌, ◌||◌, if◌then◌else◌, List, [], ◌∷◌, ◌++◌, map, decimal, length, pos, false, Result, Ok, Err}
+use Rattle.std.specs.Prelude.{ℕ, Bool, ◌&&◌, ◌||◌, if◌then◌else◌, List, [], ◌∷◌, decimal, length, pos, false, Result, Ok, Err}
 use Rattle.language_model.specs.Tokens.{Spelled}
 use Rattle.language_model.specs.Classes.{Class}
 use Rattle.language_model.specs.Building.{is_quote_or_bracket, count_from, sets_of}

@@ -1,5 +1,5 @@
 -- The meanings of the rules of one statement.
-use Rattle.std.specs.Prelude.{Bool, List, [], ◌∷◌, map, flat_map, unwrap_or, if◌then◌else◌}
+use Rattle.std.specs.Prelude.{List, [], ◌∷◌, map, flat_map, unwrap_or, if◌then◌else◌}
 use Rattle.grammar_model.specs.Values.{Action, RuleMeaning}
 use Rattle.language_model.specs.Description.{Alternative, Statement, Default, Empty, Quantified, Rules}
 use Rattle.language_model.specs.Building.{action_in, alternatives_of, meaning_of_plain, meaning_of_quantified, shown_of_element}

@@ -3,11 +3,10 @@ use Rattle.std.proofs.Common.{arith, ◌≡◌, ◌⊎◌, inl, inr, ℕ, zero, 
 use Rattle.std.specs.Bool.{IsTrue}
 use Rattle.grammar_check.specs.Clauses.{Can, IsAnalysis}
 use Rattle.grammar_check.specs.Tables.{AreTables}
-use Rattle.grammar_model.specs.Grammar.{Grammar, Slot, WrittenRule, rule_at, lhs_of, level_of, IsTerminal, EachChildSlot}
+use Rattle.grammar_model.specs.Grammar.{Grammar, Slot, WrittenRule, IsTerminal, EachChildSlot}
 use Rattle.grammar_model.specs.Analysis.{SomeRule, IsStar, EachNeeded, IsNullableIn, IsNullable, IsProductiveIn, IsProductive, IsAccessibleIn, IsAccessible}
-use Rattle.grammar_model.specs.Checked.{IsLeft}
 use Rattle.grammar_core.specs.Written.{IsWritten}
-use Rattle.grammar_check.specs.Slots.{number, end_of, IsNumbering, IsNumbered}
+use Rattle.grammar_check.specs.Slots.{end_of, IsNumbering, IsNumbered}
 use Rattle.grammar_check.proofs.Known.{head_numbered, child_numbered}
 use Rattle.grammar_check.specs.Steps.{IsReach}
 use Rattle.grammar_check.proofs.Rounds.{bases_rise}

@@ -1,6 +1,6 @@
 -- The least number to which there is a step, and walks that always go on by it.
-use Rattle.std.proofs.Common.{arith, ◌≡◌, ◌⊎◌, inl, inr, ℕ, zero, suc, ◌+◌, ◌-◌, ◌<◌, ◌≤◌, List, [], ◌∷◌, ◌++◌, length, Contains, All, get_or, slice_index, refl, sym, ◌∙◌, ap, subst, length-append}
-use Rattle.std.proofs.lemmas.List.{get_or_append_left, get_or-append_right, get_or_push, get_or_default}
+use Rattle.std.proofs.Common.{arith, ◌≡◌, ◌⊎◌, inl, inr, ℕ, suc, ◌+◌, ◌-◌, ◌<◌, ◌≤◌, List, [], ◌∷◌, ◌++◌, length, slice_index, sym, ◌∙◌, ap, subst, length-append}
+use Rattle.std.proofs.lemmas.List.{get_or_append_left, get_or_push}
 use Rattle.grammar_check.specs.Links.{Step, Walks, StepsInto, AreLayers, IsLeastNext, IsLeastPath}
 use Rattle.grammar_check.proofs.Search.{same_or_below}
 use Rattle.grammar_check.proofs.Layering.{lt_or, locate}

@@ -1,11 +1,10 @@
 -- What a grammar has passed excludes the earlier faults.
-use Rattle.std.proofs.Common.{arith, ◌≡◌, ℕ, zero, suc, ◌<◌, ◌≤◌, List, [], ◌∷◌, length, Option, Some, None, Contains, slice_get, refl, sym, ◌∙◌, ap, subst}
+use Rattle.std.proofs.Common.{arith, ◌≡◌, ℕ, zero, suc, ◌<◌, ◌≤◌, List, [], ◌∷◌, length, Option, Some, None, Contains, slice_get, refl, sym, ◌∙◌, subst}
 use Rattle.grammar_model.specs.Grammar.{Grammar}
-use Rattle.grammar_model.specs.Checked.{IsFirstStart, IsLeft, StartsAreLeft, SequencesAreAlone, RulesDiffer, ItemsSpan, StartsAreProductive, Refusal, NoRules, NoStart, StartNotLhs, SequenceLhs, Duplicate, CountedNullable, UnproductiveStart, Cyclic, IsFault, kind_of, IsChecked}
+use Rattle.grammar_model.specs.Checked.{IsFirstStart, StartsAreLeft, SequencesAreAlone, RulesDiffer, ItemsSpan, StartsAreProductive, Refusal, NoRules, NoStart, StartNotLhs, SequenceLhs, Duplicate, CountedNullable, UnproductiveStart, Cyclic, IsFault, kind_of}
 use Rattle.grammar_core.specs.Written.{IsWritten}
 use Rattle.grammar_check.proofs.Known.{lhs_known}
 use Rattle.std.specs.Option.{IfSome, IsNone}
-use Rattle.grammar_model.specs.Cycles.{HasHeights}
 
 pub contains_got : (xs : List ℕ) (k x : ℕ) → slice_get xs k ≡ Some x → Contains xs x
 contains_got [] k x e = absurd (cc)

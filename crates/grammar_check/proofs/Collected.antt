@@ -1,15 +1,14 @@
 -- All clauses of a grammar, and what their least set tells.
-use Rattle.std.proofs.Common.{arith, ◌≡◌, ◌≢◌, ◌⊎◌, ◌↔◌, inl, inr, ℕ, zero, suc, ◌+◌, ◌<◌, ◌≤◌, Bool, true, false, List, [], ◌∷◌, ◌++◌, length, map, All, Contains, get_or, slice_index, slice_index_or, refl, sym, ◌∙◌, ap, subst, true≢false}
+use Rattle.std.proofs.Common.{arith, ◌≡◌, ◌↔◌, inl, inr, ℕ, zero, suc, ◌+◌, ◌<◌, Bool, true, false, List, [], ◌∷◌, ◌++◌, length, map, All, Contains, slice_index, slice_index_or, refl, sym, ◌∙◌, ap, subst, true≢false}
 use Rattle.std.proofs.lemmas.List.{get_or-map, length-map}
 use Rattle.std.proofs.lemmas.List.Elements.{Contains-get_or}
 use Rattle.std.specs.Bool.{IsTrue}
-use Rattle.grammar_model.specs.Grammar.{WrittenRule, Grammar, Slot, no_rule, rule_at, lhs_of, level_of, child_slot, IsTerminal}
-use Rattle.grammar_model.specs.Analysis.{IsNullable, IsProductive}
+use Rattle.grammar_model.specs.Grammar.{Grammar, Slot, no_rule, rule_at, lhs_of, level_of, child_slot, IsTerminal}
 use Rattle.grammar_model.specs.Checked.{IsLeft}
 use Rattle.grammar_core.specs.Written.{IsWritten}
-use Rattle.grammar_check.specs.Least.{Clause, clause_at, AreBelow, IsLeastSet, IsDerivedIn}
-use Rattle.grammar_check.specs.Slots.{number, end_of, IsNumbering, IsNumbered, body_count, rule_clause, chain_clause, fact_clause, HasLevels, HasTerminals}
-use Rattle.grammar_check.specs.Clauses.{IsFact, HasClauses, IsOfRule, IsOfLevels, IsOfTerminal, Can, IsAnalysis}
+use Rattle.grammar_check.specs.Least.{Clause, clause_at, AreBelow, IsLeastSet}
+use Rattle.grammar_check.specs.Slots.{number, end_of, IsNumbering, body_count, rule_clause, chain_clause, HasLevels, HasTerminals}
+use Rattle.grammar_check.specs.Clauses.{IsFact, HasClauses, IsOfRule, Can, IsAnalysis}
 use Rattle.grammar_check.proofs.Known.{lhs_known, head_numbered, child_numbered, body_small}
 use Rattle.grammar_check.proofs.Rounds.{CanIn, from_nullable, to_nullable, from_productive, to_productive, sound, complete, bases_rise, part_is, body_length}
 

@@ -1,13 +1,12 @@
 -- The first faults.
-use Rattle.std.proofs.Common.{arith, ◌≡◌, ◌⊎◌, ◌↔◌, inl, inr, ℕ, zero, suc, ◌+◌, ◌<◌, ◌≤◌, Bool, true, false, ◌||◌, Option, Some, None, option_to_list, List, [], ◌∷◌, length, Contains, get_or, slice_get, slice_index_or, refl, sym, ◌∙◌, ap, subst, true≢false}
-use Rattle.std.specs.Bool.{IsTrue}
+use Rattle.std.proofs.Common.{arith, ◌≡◌, ◌⊎◌, ◌↔◌, inl, inr, ℕ, zero, suc, ◌+◌, ◌<◌, Option, Some, None, option_to_list, List, [], ◌∷◌, length, Contains, get_or, slice_get, sym, ◌∙◌, ap, subst}
 use Rattle.std.proofs.Common.{All}
 use Rattle.std.specs.Option.{IfSome}
 use Rattle.grammar_core.specs.Written.{IsWritten, symbols_of}
 use Rattle.std.proofs.lemmas.Option.{get_or_from_slice_get}
-use Rattle.grammar_model.specs.Grammar.{Grammar, PlainRule, SequenceRule, Plain, Sequence, Slot, slot_of, rule_at, no_rule, child_slot, slot_count, sequence_symbol, is_even}
-use Rattle.grammar_model.specs.Analysis.{IsNullable, IsProductive}
-use Rattle.grammar_model.specs.Checked.{IsLeft, IsCountedNullable}
+use Rattle.grammar_model.specs.Grammar.{Grammar, PlainRule, SequenceRule, Plain, Sequence, slot_of, rule_at, no_rule, sequence_symbol}
+use Rattle.grammar_model.specs.Analysis.{IsNullable}
+use Rattle.grammar_model.specs.Checked.{IsCountedNullable}
 use Rattle.grammar_check.specs.Counted.{HasNullable}
 use Rattle.grammar_check.proofs.Search.{same_or_below}
 

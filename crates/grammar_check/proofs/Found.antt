@@ -1,5 +1,5 @@
 -- What is in a set of numbers, and what it leads to.
-use Rattle.std.proofs.Common.{rules, arith, ◌≡◌, ◌≢◌, ◌⊎◌, inl, inr, ℕ, zero, suc, ◌+◌, ◌<◌, ◌≤◌, Bool, true, false, List, [], ◌∷◌, ◌++◌, length, take, All, Contains, slice_index, slice_index_or, refl, sym, ◌∙◌, ap, subst, nat_eq, if◌then◌else◌, length-append, append-nil, add-one}
+use Rattle.std.proofs.Common.{rules, arith, ◌≡◌, ◌⊎◌, inl, inr, ℕ, zero, suc, ◌<◌, ◌≤◌, Bool, true, false, List, [], ◌∷◌, ◌++◌, length, take, All, Contains, slice_index_or, refl, sym, ◌∙◌, ap, subst, nat_eq, if◌then◌else◌, length-append, append-nil}
 use Rattle.std.specs.Cmp.{IsEquivalence}
 use Rattle.std.specs.Cmp.Rules.{comparing}
 use Rattle.std.specs.List.{list_any}
@@ -9,7 +9,7 @@ use Rattle.std.proofs.lemmas.List.{get_or_append_left, get_or_push, take-append-
 use Rattle.std.proofs.Math.Seq.{take-append_seam}
 use Rattle.std.proofs.lemmas.List.Elements.{Contains-append_left, Contains-push, Contains-push_cases}
 use Rattle.indexmap.specs.IndexSet.{insert_key}
-use Rattle.grammar_check.specs.Least.{Clause, clause_at, IsDerivedIn, IsMade, IsSearch, Adds, Extends}
+use Rattle.grammar_check.specs.Least.{Clause, clause_at, IsDerivedIn, IsMade, Adds, Extends}
 
 eq_laws : IsEquivalence nat_eq
 eq_laws = search (comparing, rules)

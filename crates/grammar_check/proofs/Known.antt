@@ -1,12 +1,12 @@
 -- What is true of written grammars, by rule.
-use Rattle.std.proofs.Common.{arith, ◌≡◌, ◌⊎◌, inl, inr, ℕ, zero, suc, ◌+◌, ◌<◌, ◌≤◌, List, [], ◌∷◌, length, All, get_or, slice_index, slice_index_or, refl, sym, ◌∙◌, ap, subst}
+use Rattle.std.proofs.Common.{arith, ◌≡◌, ℕ, suc, ◌+◌, ◌<◌, ◌≤◌, List, ◌∷◌, length, All, slice_index, refl, sym, ◌∙◌, ap, subst}
 use Rattle.std.proofs.Common.{Bool, true, false, nat_lt, ◌==◌, ◌&&◌, if◌then◌else◌, Option, Some, None, option_to_list, take, drop}
 use Rattle.std.proofs.lemmas.Bool.{eqb-true, eqb-false, and_parts}
 use Rattle.grammar_model.specs.declared.Assoc.{Assoc}
 use Rattle.grammar_model.specs.declared.Assoc.TheVariants.{Left, Right, Group}
-use Rattle.grammar_model.specs.Grammar.{WrittenRule, Plain, Sequence, PlainRule, Grammar, rule_at, lhs_of, level_of, tighter, occurs, own_level, child_level, child_slot, slot_count, slot_of, sequence_symbol, is_even}
+use Rattle.grammar_model.specs.Grammar.{WrittenRule, Plain, Sequence, PlainRule, Grammar, rule_at, lhs_of, level_of, tighter, occurs, own_level, child_slot, slot_count, slot_of, sequence_symbol, is_even}
 use Rattle.grammar_core.specs.Written.{IsWritten, IsLevelled, symbols_of}
-use Rattle.grammar_check.specs.Slots.{groups_of, number, end_of, IsNumbering, IsNumbered, body_count}
+use Rattle.grammar_check.specs.Slots.{groups_of, end_of, IsNumbering, IsNumbered, body_count}
 
 first_symbol : (bound : ℕ) (rule : WrittenRule) → All (λ s. s < bound) (symbols_of rule) → lhs_of rule < bound
 first_symbol bound (Plain r) all = all 0 0 (omega arith)

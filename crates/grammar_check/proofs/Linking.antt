@@ -1,7 +1,7 @@
 -- The parts of rules that can stand alone, and the rows of them.
-use Rattle.std.proofs.Common.{arith, ◌≡◌, ◌≢◌, ◌⊎◌, ◌↔◌, inl, inr, ℕ, zero, suc, ◌+◌, ◌-◌, ◌<◌, ◌≤◌, Bool, true, false, List, [], ◌∷◌, length, Contains, get_or, slice_index, refl, sym, ◌∙◌, ap, subst, true≢false}
+use Rattle.std.proofs.Common.{arith, ◌≡◌, ◌≢◌, ◌⊎◌, ◌↔◌, inl, inr, ℕ, ◌+◌, ◌-◌, ◌<◌, ◌≤◌, Bool, List, length, Contains, get_or, slice_index, refl, sym, ◌∙◌, ap, subst}
 use Rattle.std.specs.Bool.{IsTrue}
-use Rattle.grammar_model.specs.Grammar.{Grammar, Slot, rule_at, child_slot, slot_count}
+use Rattle.grammar_model.specs.Grammar.{Grammar, Slot, rule_at, child_slot}
 use Rattle.grammar_model.specs.Analysis.{IsNullable, IsProductive, IsAccessible}
 use Rattle.grammar_core.specs.Written.{IsWritten}
 use Rattle.grammar_check.specs.Rows.{row_at, HasAdded}

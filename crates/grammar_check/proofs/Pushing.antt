@@ -1,5 +1,5 @@
 -- Clauses that are added one at a time.
-use Rattle.std.proofs.Common.{arith, ◌≡◌, ◌⊎◌, inl, inr, ℕ, zero, suc, ◌+◌, ◌-◌, ◌<◌, ◌≤◌, Bool, true, false, List, [], ◌∷◌, ◌++◌, length, Contains, get_or, slice_index, slice_index_or, refl, sym, ◌∙◌, ap, subst, true≢false}
+use Rattle.std.proofs.Common.{arith, ◌≡◌, inl, inr, ℕ, suc, ◌+◌, ◌-◌, ◌<◌, ◌≤◌, Bool, true, false, List, [], ◌∷◌, ◌++◌, Contains, slice_index, slice_index_or, sym, ◌∙◌, ap, subst, true≢false}
 use Rattle.std.proofs.lemmas.List.Elements.{Contains-append_left, Contains-push, Contains-push_cases}
 use Rattle.grammar_check.specs.Least.{Clause}
 use Rattle.grammar_check.specs.Slots.{end_of, chain_clause, fact_clause, HasChain, HasFacts, HasLevels, HasTerminals}

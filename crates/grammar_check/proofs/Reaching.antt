@@ -1,9 +1,9 @@
 -- The least set of the steps is what is accessible.
-use Rattle.std.proofs.Common.{arith, ◌≡◌, ◌⊎◌, ◌↔◌, inl, inr, ℕ, zero, suc, ◌+◌, ◌-◌, ◌<◌, ◌≤◌, Bool, true, false, List, [], ◌∷◌, length, All, Contains, get_or, slice_index, slice_index_or, refl, sym, ◌∙◌, ap, subst}
+use Rattle.std.proofs.Common.{arith, ◌≡◌, ◌↔◌, inl, inr, ℕ, zero, suc, ◌+◌, ◌-◌, ◌<◌, ◌≤◌, List, [], ◌∷◌, length, All, Contains, slice_index, refl, sym, ◌∙◌, ap, subst}
 use Rattle.std.proofs.lemmas.List.{get_or_default}
 use Rattle.std.proofs.lemmas.List.Elements.{Contains-get_or}
-use Rattle.grammar_model.specs.Grammar.{Grammar, Slot, slot_of, rule_at, lhs_of, level_of, child_slot, slot_count}
-use Rattle.grammar_model.specs.Analysis.{SomeRule, IsLive, IsProductive, IsAccessibleIn, IsAccessible}
+use Rattle.grammar_model.specs.Grammar.{Grammar, Slot, slot_of, rule_at, lhs_of, level_of, child_slot}
+use Rattle.grammar_model.specs.Analysis.{IsProductive, IsAccessibleIn, IsAccessible}
 use Rattle.grammar_core.specs.Written.{IsWritten}
 use Rattle.grammar_check.specs.Least.{Clause, clause_at, AreBelow, IsDerivedIn, IsClosed, IsLeastSet}
 use Rattle.grammar_check.specs.Slots.{number, end_of, IsNumbering, IsNumbered, fact_clause}

@@ -1,13 +1,12 @@
 -- The least set of a grammar's clauses is what its slots can do by rounds.
-use Rattle.std.proofs.Common.{arith, ◌≡◌, ◌≢◌, ◌⊎◌, ◌↔◌, inl, inr, ℕ, zero, suc, ◌+◌, ◌-◌, ◌<◌, ◌≤◌, Bool, true, false, if◌then◌else◌, Option, Some, None, option_to_list, List, [], ◌∷◌, length, map, All, Contains, get_or, slice_index, slice_index_or, refl, sym, ◌∙◌, ap, subst, add-one}
-use Rattle.std.specs.List.{range_with_len}
+use Rattle.std.proofs.Common.{arith, ◌≡◌, ◌⊎◌, inl, inr, ℕ, zero, suc, ◌+◌, ◌-◌, ◌<◌, ◌≤◌, Bool, true, false, if◌then◌else◌, Option, Some, None, option_to_list, List, [], ◌∷◌, length, All, Contains, get_or, slice_index, refl, sym, ◌∙◌, ap, subst}
 use Rattle.std.proofs.lemmas.List.{get_or_default}
 use Rattle.std.proofs.lemmas.List.Elements.{Contains-get_or}
 use Rattle.std.proofs.lemmas.List.FromFn.{get_or-map-range_with_len, length-map-range_with_len}
-use Rattle.grammar_model.specs.Grammar.{WrittenRule, Plain, Sequence, Grammar, Slot, slot_of, rule_at, lhs_of, level_of, child_slot, slot_count, EachChildSlot, IsTerminal, Fits, sequence_symbol}
-use Rattle.grammar_model.specs.Analysis.{SomeRule, IsStar, IsNullableIn, IsNullable, EachNeeded, IsProductiveIn, IsProductive}
+use Rattle.grammar_model.specs.Grammar.{WrittenRule, Plain, Sequence, Grammar, Slot, slot_of, rule_at, lhs_of, level_of, child_slot, EachChildSlot, sequence_symbol}
+use Rattle.grammar_model.specs.Analysis.{SomeRule, IsStar, IsNullableIn, EachNeeded, IsProductiveIn}
 use Rattle.grammar_core.specs.Written.{IsWritten}
-use Rattle.grammar_check.specs.Least.{Clause, clause_at, IsDerivedIn, IsDerived, IsClosed, IsLeastSet}
+use Rattle.grammar_check.specs.Least.{Clause, clause_at, IsDerivedIn, IsClosed}
 use Rattle.grammar_check.specs.Slots.{number, end_of, IsNumbering, IsNumbered, body_count, rule_clause, chain_clause, fact_clause}
 use Rattle.grammar_check.specs.Clauses.{IsFact, HasClauses}
 use Rattle.grammar_check.proofs.Known.{lhs_known, head_numbered, child_numbered, body_small}

@@ -1,9 +1,9 @@
 -- Rows that numbers are added to.
-use Rattle.std.proofs.Common.{arith, ◌≡◌, ◌≢◌, ◌⊎◌, inl, inr, ℕ, zero, suc, ◌+◌, ◌<◌, ◌≤◌, List, [], ◌∷◌, ◌++◌, length, take, map, All, Contains, get_or, slice_index, slice_index_or, slice_set, refl, sym, ◌∙◌, ap, subst, length-set}
+use Rattle.std.proofs.Common.{arith, ◌≡◌, inl, inr, ℕ, zero, suc, ◌+◌, ◌<◌, List, [], ◌∷◌, ◌++◌, length, take, Contains, get_or, slice_index, slice_set, refl, sym, ◌∙◌, ap, subst, length-set}
 use Rattle.std.proofs.Common.{Result, Ok, Err, if◌then◌else◌}
 use Rattle.std.specs.Result.{OnOk, is_ok}
 use Rattle.grammar_check.specs.Least.{Clause, clause_at}
-use Rattle.std.proofs.lemmas.List.{get_or-set_same, get_or-set_other, get_or_default, get_or-map, map-set, length-map, take_more, get_or-take, length-take-le}
+use Rattle.std.proofs.lemmas.List.{get_or-set_same, get_or-set_other, get_or-map, map-set, length-map, get_or-take, length-take-le}
 use Rattle.std.proofs.lemmas.List.Elements.{Contains-append_left, Contains-push, Contains-push_cases}
 use Rattle.std.specs.declared.vec.Vec.{Vec}
 use Rattle.std.specs.declared.alloc.Global.{Global}

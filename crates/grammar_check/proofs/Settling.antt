@@ -1,13 +1,13 @@
 -- Settled numbers: heights rise along steps to them, and where one is not settled there is a cycle.
-use Rattle.std.proofs.Common.{arith, ◌≡◌, ◌≢◌, ◌⊎◌, ◌↔◌, inl, inr, ℕ, zero, suc, ◌+◌, ◌-◌, ◌<◌, ◌≤◌, Bool, true, false, nat_lt, ◌==◌, if◌then◌else◌, List, [], ◌∷◌, ◌++◌, length, map, take, Contains, All, get_or, slice_index, slice_index_or, refl, sym, ◌∙◌, ap, subst, length-append}
+use Rattle.std.proofs.Common.{arith, ◌≡◌, ◌⊎◌, ◌↔◌, inl, inr, ℕ, zero, suc, ◌+◌, ◌-◌, ◌<◌, ◌≤◌, Bool, true, false, nat_lt, ◌==◌, if◌then◌else◌, List, [], ◌∷◌, length, map, take, Contains, All, get_or, slice_index, refl, sym, ◌∙◌, ap, subst}
 use Rattle.std.proofs.lemmas.Bool.{eqb-true, eqb-false}
-use Rattle.std.proofs.lemmas.List.{get_or_default, get_or-take, length-take-le, get_or-map, length-map}
+use Rattle.std.proofs.lemmas.List.{get_or-take, length-take-le, get_or-map, length-map}
 use Rattle.std.proofs.lemmas.List.Elements.{Contains-get_or}
-use Rattle.indexmap.proofs.IndexTableLemmas.Probe.{Into, OneToOne, pigeonhole}
-use Rattle.grammar_check.specs.Least.{Clause, clause_at, IsMade, IsClosed, IsLeastSet, AreBelow}
+use Rattle.indexmap.proofs.IndexTableLemmas.Probe.{OneToOne, pigeonhole}
+use Rattle.grammar_check.specs.Least.{Clause, clause_at, IsLeastSet, AreBelow}
 use Rattle.grammar_check.specs.Rows.{row_at}
 use Rattle.grammar_check.specs.Links.{Tied, Step, Walks, AreFloors, AreRows}
-use Rattle.grammar_check.specs.Settled.{node_clause, use_clause, IsOfNodes, IsOfUses, NoneBelow, Rises}
+use Rattle.grammar_check.specs.Settled.{node_clause, use_clause, IsOfNodes, IsOfUses, Rises}
 use Rattle.grammar_check.proofs.Found.{Contains-none}
 use Rattle.grammar_check.proofs.Layering.{lt_or, contains_at, at_contained, step_known}
 use Rattle.grammar_check.proofs.Rounds.{closed_by}

@@ -1,5 +1,5 @@
 -- Marks of symbols, and texts of rules.
-use Rattle.std.proofs.Common.{arith, ◌≡◌, ◌≢◌, ◌⊎◌, ◌↔◌, inl, inr, ℕ, zero, suc, ◌+◌, ◌<◌, ◌≤◌, Bool, true, false, not, ◌||◌, if◌then◌else◌, Option, Some, None, List, [], ◌∷◌, ◌++◌, length, map, Contains, get_or, slice_get, slice_index_or, slice_set, nat_eq, refl, sym, ◌∙◌, ap, subst, true≢false, length-set}
+use Rattle.std.proofs.Common.{arith, ◌≡◌, ◌≢◌, ◌⊎◌, ◌↔◌, inl, inr, ℕ, zero, suc, ◌+◌, ◌<◌, Bool, true, false, not, ◌||◌, if◌then◌else◌, Some, List, [], ◌∷◌, ◌++◌, length, Contains, slice_get, slice_index_or, slice_set, nat_eq, refl, sym, ◌∙◌, ap, subst, true≢false}
 use Rattle.std.specs.Bool.{IsTrue, Decides}
 use Rattle.std.specs.List.{list_any}
 use Rattle.std.specs.Cmp.Lexicographic.{pointwise}

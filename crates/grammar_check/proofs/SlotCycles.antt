@@ -1,21 +1,20 @@
 -- Steps between numbers are those between slots, so their least cycle is the grammar's.
-use Rattle.std.proofs.Common.{arith, ◌≡◌, ◌≢◌, ◌⊎◌, ◌↔◌, inl, inr, ℕ, zero, suc, ◌+◌, ◌-◌, ◌<◌, ◌≤◌, Bool, true, false, nat_lt, ◌==◌, if◌then◌else◌, Option, Some, None, List, [], ◌∷◌, length, map, take, All, Contains, get_or, slice_index, slice_index_or, slice_get, refl, sym, ◌∙◌, ap, subst}
+use Rattle.std.proofs.Common.{arith, ◌≡◌, ◌≢◌, ◌⊎◌, ◌↔◌, inl, inr, ℕ, zero, suc, ◌+◌, ◌-◌, ◌<◌, ◌≤◌, Bool, true, false, nat_lt, ◌==◌, if◌then◌else◌, Option, Some, List, [], ◌∷◌, length, All, Contains, slice_index, slice_index_or, slice_get, refl, sym, ◌∙◌, ap, subst}
 use Rattle.std.proofs.lemmas.Bool.{eqb-true, eqb-false}
 use Rattle.std.proofs.lemmas.List.{get_or_default, get_or-map, length-map}
 use Rattle.std.specs.declared.cmp.Ordering.{Ordering}
 use Rattle.std.specs.declared.cmp.Ordering.TheVariants.{Less, Equal, Greater}
 use Rattle.std.specs.Ordering.{ordering_then, nat_cmp}
 use Rattle.std.specs.Cmp.Lexicographic.{slice_cmp}
-use Rattle.grammar_model.specs.Grammar.{WrittenRule, Plain, Sequence, Grammar, Slot, slot_of, rule_at, lhs_of, level_of, child_slot, slot_count, EachChildSlot}
-use Rattle.grammar_model.specs.Analysis.{SomeRule, IsStar, IsNullableIn, IsNullable, EachNeeded, IsProductiveIn, IsProductive, IsLive, IsAccessibleIn, IsAccessible, IsAlone, LeadsTo}
-use Rattle.grammar_model.specs.Cycles.{IsWalk, IsCycle, IsLeastCycle, IsCyclic, HasHeights, slot_cmp, cycle_cmp}
+use Rattle.grammar_model.specs.Grammar.{WrittenRule, Plain, Sequence, Grammar, Slot, slot_of, rule_at, lhs_of, child_slot, slot_count, EachChildSlot}
+use Rattle.grammar_model.specs.Analysis.{IsStar, IsNullableIn, IsNullable, EachNeeded, IsProductiveIn, IsProductive, IsAccessible, IsAlone, LeadsTo}
+use Rattle.grammar_model.specs.Cycles.{IsWalk, IsCycle, IsLeastCycle, HasHeights, slot_cmp, cycle_cmp}
 use Rattle.grammar_core.specs.Written.{IsWritten}
 use Rattle.grammar_check.specs.Rows.{row_at}
 use Rattle.grammar_check.specs.Slots.{number, end_of, IsNumbering, IsNumbered, needed_of}
-use Rattle.grammar_check.specs.Clauses.{IsAnalysis}
 use Rattle.grammar_check.specs.Steps.{head_of}
-use Rattle.grammar_check.specs.Linked.{IsLinkAt, IsLinkTo, IsFloored}
-use Rattle.grammar_check.specs.Links.{Tied, Step, Walks, AreFloors, AreRows, IsLeastPath}
+use Rattle.grammar_check.specs.Linked.{IsLinkTo, IsFloored}
+use Rattle.grammar_check.specs.Links.{Step, Walks, AreFloors, AreRows, IsLeastPath}
 use Rattle.grammar_check.specs.Settled.{NoneBelow, Rises}
 use Rattle.grammar_check.specs.Message.{AreOf}
 use Rattle.grammar_check.specs.Told.{slot_with, slots_with, IsHomed, AreSlotsAt}

@@ -1,11 +1,11 @@
 -- Live rules and productive parts, as they are looked up.
-use Rattle.std.proofs.Common.{arith, ◌≡◌, ◌⊎◌, ◌↔◌, inl, inr, ℕ, zero, suc, ◌+◌, ◌<◌, ◌≤◌, Bool, true, false, List, [], ◌∷◌, ◌++◌, length, slice_index, Contains, refl, sym, ◌∙◌, ap, subst, option_to_list}
+use Rattle.std.proofs.Common.{arith, ◌≡◌, ◌↔◌, inl, inr, ℕ, zero, suc, ◌<◌, Bool, false, List, [], length, slice_index, Contains, sym, subst}
 use Rattle.std.specs.Bool.{IsTrue}
-use Rattle.grammar_model.specs.Grammar.{Grammar, WrittenRule, Plain, Sequence, Slot, slot_of, rule_at, child_slot, slot_count, lhs_of}
+use Rattle.grammar_model.specs.Grammar.{Grammar, WrittenRule, Plain, Sequence, slot_of, rule_at, child_slot, slot_count, lhs_of}
 use Rattle.grammar_model.specs.Analysis.{IsLive, IsProductive}
 use Rattle.grammar_core.specs.Written.{IsWritten}
 use Rattle.grammar_check.specs.Least.{Clause}
-use Rattle.grammar_check.specs.Slots.{number, end_of, IsNumbering, needed_of}
+use Rattle.grammar_check.specs.Slots.{number, IsNumbering, needed_of}
 use Rattle.grammar_check.specs.Clauses.{IsAnalysis}
 use Rattle.grammar_check.specs.Steps.{HasMore, head_of, IsOfStart, IsOfUse, IsOfNexts, IsOfParts, IsStep}
 use Rattle.grammar_check.proofs.Known.{child_numbered, head_numbered, lhs_known}

@@ -1,14 +1,12 @@
 -- What the tables of an analysis tell is told by tests, for each slot.
-use Rattle.std.proofs.Common.{arith, ◌≡◌, ◌⊎◌, inl, inr, ℕ, zero, suc, ◌+◌, ◌<◌, ◌≤◌, Bool, true, false, cond, List, [], ◌∷◌, length, ap, sym, subst, ◌∙◌, refl, true≢false}
+use Rattle.std.proofs.Common.{arith, ◌≡◌, ◌⊎◌, inl, inr, ℕ, zero, suc, ◌<◌, Bool, true, false, cond, List, [], ◌∷◌, length, ap, sym, subst, ◌∙◌, refl, true≢false}
 use Rattle.std.specs.Prelude.{◌↔◌, ◌&&◌, ◌||◌, ◌==◌, not, nat_lt, Contains, slice_index, slice_index_or}
 use Rattle.std.specs.List.{list_any}
-use Rattle.std.proofs.lemmas.Bool.{and_parts, ltb-true, lt-ltb, eqb-true, eq-eqb, cases_Bool}
-use Rattle.grammar_model.specs.Grammar.{Grammar, Slot, WrittenRule, rule_at, IsTerminal, EachChildSlot}
+use Rattle.std.proofs.lemmas.Bool.{and_parts, ltb-true, lt-ltb, eqb-true, eq-eqb}
+use Rattle.grammar_model.specs.Grammar.{Grammar, Slot, WrittenRule, IsTerminal, EachChildSlot}
 use Rattle.grammar_model.specs.Analysis.{SomeRule, IsStar, EachNeeded, IsNullableIn, IsNullable, IsProductiveIn, IsProductive, IsAccessible}
-use Rattle.grammar_model.specs.Checked.{IsLeft}
 use Rattle.grammar_model.proofs.Lists.{Among, among_from, contains_from}
-use Rattle.grammar_core.specs.Written.{IsWritten}
-use Rattle.grammar_check.specs.Slots.{number, end_of, IsNumbering, IsNumbered}
+use Rattle.grammar_check.specs.Slots.{number, end_of, IsNumbered}
 use Rattle.grammar_check.specs.Tables.{AreTables}
 use Rattle.grammar_check.specs.Tested.{HasTests}
 use Rattle.grammar_check.proofs.Known.{lhs_known, head_numbered}

@@ -1,12 +1,12 @@
 -- A grammar that is checked has no refusal, and no grammar has two.
-use Rattle.std.proofs.Common.{arith, ◌≡◌, ◌≢◌, ◌⊎◌, inl, inr, ℕ, zero, suc, ◌<◌, ◌≤◌, Bool, true, false, List, [], ◌∷◌, length, take, Option, Some, None, slice_get, refl, sym, ◌∙◌, ap, subst}
+use Rattle.std.proofs.Common.{arith, ◌≡◌, ◌⊎◌, inl, inr, ℕ, ◌<◌, List, [], ◌∷◌, length, take, Some, slice_get, refl, sym, ◌∙◌, ap}
 use Rattle.std.specs.declared.cmp.Ordering.{Ordering}
 use Rattle.std.specs.declared.cmp.Ordering.TheVariants.{Less, Equal, Greater}
 use Rattle.std.specs.Ordering.{ordering_then, nat_cmp}
 use Rattle.std.specs.Cmp.Lexicographic.{slice_cmp}
 use Rattle.grammar_model.specs.Grammar.{Grammar, Slot}
 use Rattle.grammar_model.specs.Cycles.{IsLeastCycle, slot_cmp, cycle_cmp}
-use Rattle.grammar_model.specs.Checked.{IsLeastWith, IsFirstStart, IsChecked, Refusal, NoRules, NoStart, StartNotLhs, SequenceLhs, Duplicate, CountedNullable, UnproductiveStart, Cyclic, IsFault, kind_of, Refuses}
+use Rattle.grammar_model.specs.Checked.{IsLeastWith, IsFirstStart, Refusal, NoRules, NoStart, StartNotLhs, SequenceLhs, Duplicate, CountedNullable, UnproductiveStart, Cyclic, IsFault, kind_of}
 use Rattle.grammar_check.specs.Laws.{CheckedIsNotRefused, RefusalIsOne}
 use Rattle.grammar_check.proofs.Clearing.{clear}
 use Rattle.grammar_check.proofs.SlotCycles.{nat_cases}

@@ -1,6 +1,6 @@
 -- The rows of the steps between slots, from a grammar.
-use Rattle.std.specs.Prelude.{◌≡◌, ◌≢◌, ℕ, suc, ◌+◌, ◌<◌, ◌≤◌, List, [], length, slice_index, Contains, ◌⊎◌, ◌↔◌}
-use Rattle.grammar_model.specs.Grammar.{Grammar, Slot, WrittenRule, rule_at, child_slot}
+use Rattle.std.specs.Prelude.{◌≡◌, ◌≢◌, ℕ, ◌<◌, ◌≤◌, List, length, slice_index, Contains, ◌⊎◌}
+use Rattle.grammar_model.specs.Grammar.{Grammar, rule_at, child_slot}
 use Rattle.grammar_model.specs.Analysis.{IsNullable, IsProductive, IsAccessible}
 use Rattle.grammar_check.specs.Rows.{row_at}
 use Rattle.grammar_check.specs.Slots.{number, end_of, needed_of}

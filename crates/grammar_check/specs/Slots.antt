@@ -1,7 +1,7 @@
 -- Numbers for slots: those of one symbol stand together, by level, and the numbers of the symbols stand in order.
-use Rattle.std.specs.Prelude.{◌≡◌, ℕ, suc, ◌+◌, ◌<◌, ◌≤◌, Bool, true, false, if◌then◌else◌, List, [], ◌∷◌, length, map, slice_index, slice_index_or, Contains, ◌⊎◌, option_to_list}
+use Rattle.std.specs.Prelude.{◌≡◌, ℕ, suc, ◌+◌, ◌<◌, ◌≤◌, Bool, false, if◌then◌else◌, List, [], ◌∷◌, length, map, slice_index, slice_index_or, Contains, ◌⊎◌, option_to_list}
 use Rattle.std.specs.List.{range_with_len}
-use Rattle.grammar_model.specs.Grammar.{WrittenRule, Plain, Sequence, Grammar, Slot, PlainRule, rule_at, lhs_of, level_of, child_slot}
+use Rattle.grammar_model.specs.Grammar.{WrittenRule, Plain, Sequence, Grammar, Slot, rule_at, lhs_of, level_of, child_slot}
 use Rattle.grammar_check.specs.Least.{Clause}
 
 abbrev pub groups_of : WrittenRule → ℕ

@@ -5,11 +5,8 @@ ghost use Rattle.grammar_model.specs.Analysis.{IsNullable, IsProductive, IsAcces
 ghost use Rattle.grammar_model.specs.Checked.{IsLeft};
 ghost use Rattle.grammar_model.specs.Cycles.{IsLeastCycle, HasHeights};
 ghost use Rattle.grammar_check.specs.Slots.{end_of, IsNumbering};
-<<<<<<< HEAD
 ghost use Rattle.grammar_check.specs.Message.{AreOf};
-=======
 ghost use Rattle.grammar_check.specs.Tested.{HasTests};
->>>>>>> a036f9e197a89a75afb7ba786547f7d5057451de
 ghost use Rattle.grammar_check.specs.Told.{slots_with};
 
 use crate::clauses::{analysis_of, lefts_of};

@@ -1,4 +1,4 @@
-use Rattle.std.proofs.Common.{◌≡◌, ap, sym, ◌∙◌, map, List, ℕ, Bor}
+use Rattle.std.proofs.Common.{ap, sym, ◌∙◌, map, List, ℕ, Bor}
 use Rattle.std.specs.Prelude.{bytes_eq}
 use Rattle.std.specs.List.{list_any}
 use Rattle.grammar_core.proofs.Growth.{list_any-map}

@@ -1,5 +1,5 @@
-use Rattle.std.proofs.Common.{◌≡◌, [], Some, None, ap, sym, ◌∙◌, arith, true, take, length, ◌≤◌, ◌<◌}
-use Rattle.std.specs.Prelude.{flat_map, bytes_eq}
+use Rattle.std.proofs.Common.{◌≡◌, ap, sym, ◌∙◌, arith, true}
+use Rattle.std.specs.Prelude.{bytes_eq}
 use Rattle.dsl_build.proofs.Firsts.{first_there, none_at_all}
 use Rattle.dsl_build.proofs.Pairs.{values_in, value_of_first, value_here}
 use Rattle.dsl_build.proofs.adverbs.value_of.Goals as goal

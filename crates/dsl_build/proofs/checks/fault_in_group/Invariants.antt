@@ -1,9 +1,6 @@
-use Rattle.std.proofs.Common.{◌≡◌, [], ◌∷◌, take, arith, sym, ◌∙◌, ap, ◌<◌, ◌≤◌, length, subst, IfOk, Ok, ℕ}
-use Rattle.std.specs.Prelude.{flat_map, option_map}
-use Rattle.dsl_statement.specs.Statements.{adverb_of, adverbs_of, statement_of}
-use Rattle.dsl_build.specs.Found.{fault_of, first_of}
-use Rattle.dsl_build.specs.Adverbs.{place_of, list_faults, big_faults, statement_faults}
-use Rattle.dsl_build.specs.declared.checks.Check.TheVariants.{Known, Once, Small}
+use Rattle.std.proofs.Common.{◌≡◌, [], take}
+use Rattle.std.specs.Prelude.{flat_map}
+use Rattle.dsl_build.specs.Adverbs.{place_of, list_faults}
 use Rattle.dsl_build.proofs.checks.fault_in_group.Given as goal
 
 abbrev pub invariant-loop-alternative : goal.invariant-loop-alternative

@@ -1,4 +1,4 @@
-use Rattle.std.proofs.Common.{◌≡◌, ℕ, ◌≤◌, length, arith, sym, ◌∙◌, ap, ◌++◌, ◌∷◌, [], ◌+◌}
+use Rattle.std.proofs.Common.{arith, sym, ◌∙◌, ap, ◌+◌}
 use Rattle.dsl_build.proofs.Descriptors.{no_item, one_item, with_front, left_items}
 use Rattle.dsl_build.proofs.descriptor.items_of.Goals as goal
 

@@ -1,4 +1,4 @@
-use Rattle.std.proofs.Common.{◌≡◌, ◌≤◌, ◌+◌, ◌-◌, length, drop}
+use Rattle.std.proofs.Common.{◌≡◌, ◌≤◌, ◌+◌, ◌-◌, length}
 use Rattle.language_model.specs.Actions.{items_named, between_commas}
 use Rattle.dsl_build.proofs.Descriptors.{left_items, with_front}
 use Rattle.dsl_build.proofs.descriptor.items_of.Given as goal

@@ -1,4 +1,4 @@
-use Rattle.std.proofs.Common.{◌≡◌, sym, ◌∙◌, ap, map, subst, []}
+use Rattle.std.proofs.Common.{◌≡◌, ◌∙◌, ap, map, subst, []}
 use Rattle.std.specs.Prelude.{flat_map}
 use Rattle.language_model.specs.Building.{new_texts, faults_of}
 use Rattle.dsl_statement.specs.Statements.{statement_of, statements_of}

@@ -1,12 +1,9 @@
-use Rattle.std.proofs.Common.{◌≡◌, [], ◌∷◌, ◌++◌, ◌+◌, arith, sym, ◌∙◌, ap, ◌<◌, ◌≤◌, ℕ, List, map, take, length, Bor, append_assoc}
-use Rattle.std.specs.Prelude.{flat_map}
+use Rattle.std.proofs.Common.{[], ◌∷◌, ◌++◌, sym, ◌∙◌, ap, ℕ, List, map, take, append_assoc}
 use Rattle.std.proofs.lemmas.List.{map-append}
 use Rattle.grammar_model.specs.Grammar.{Grammar}
-use Rattle.language_model.specs.Tokens.{Spelled}
-use Rattle.language_model.specs.Building.{place_in, sets_of}
+use Rattle.language_model.specs.Building.{place_in}
 use Rattle.dsl_build.specs.Rules.{with_starts}
-use Rattle.dsl_build.proofs.Lists.{take_get, flat_more}
-use Rattle.dsl_build.proofs.LexicalLemmas.{names_on, rules_on, sets_all, grammar_all}
+use Rattle.dsl_build.proofs.Lists.{take_get}
 use Rattle.dsl_build.proofs.lexical.add_starts.Goals as goal
 
 pub loop-place-preserved : goal.loop-place-preserved

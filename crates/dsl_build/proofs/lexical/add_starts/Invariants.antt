@@ -1,8 +1,5 @@
-use Rattle.std.proofs.Common.{◌≡◌, [], take, drop, map, Bor, ◌++◌, ◌+◌, length}
-use Rattle.std.specs.Prelude.{flat_map}
-use Rattle.language_model.specs.Tokens.{Spelled}
-use Rattle.language_model.specs.Building.{count_from, sets_of, added_rules, place_in}
-use Rattle.dsl_build.specs.Lexical.{set_name}
+use Rattle.std.proofs.Common.{◌≡◌, take, map}
+use Rattle.language_model.specs.Building.{place_in}
 use Rattle.dsl_build.specs.Rules.{with_starts}
 use Rattle.dsl_build.proofs.lexical.add_starts.Given as goal
 

@@ -1,9 +1,8 @@
-use Rattle.std.proofs.Common.{◌≡◌, [], take, drop, map, Bor, ◌++◌, ◌+◌, length}
+use Rattle.std.proofs.Common.{◌≡◌, take, drop, map, Bor, ◌++◌, ◌+◌, length}
 use Rattle.std.specs.Prelude.{flat_map}
 use Rattle.language_model.specs.Tokens.{Spelled}
-use Rattle.language_model.specs.Building.{count_from, sets_of, added_rules, place_in}
+use Rattle.language_model.specs.Building.{count_from, sets_of, added_rules}
 use Rattle.dsl_build.specs.Lexical.{set_name}
-use Rattle.dsl_build.specs.Rules.{with_starts}
 use Rattle.dsl_build.proofs.lexical.add_tokens.Given as goal
 
 abbrev pub invariant-loop-i : goal.invariant-loop-i

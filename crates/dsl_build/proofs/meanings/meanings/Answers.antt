@@ -1,10 +1,6 @@
-use Rattle.std.proofs.Common.{◌≡◌, [], ◌++◌, arith, sym, ◌∙◌, ap, ◌<◌, ◌≤◌, length, subst, map, cond, Bool, false}
-use Rattle.std.specs.Prelude.{flat_map, OnOk}
-use Rattle.language_model.specs.Building.{alternatives_of}
+use Rattle.std.proofs.Common.{arith, map}
 use Rattle.value_text.specs.Meaning.{action_of, rule_meaning_of}
-use Rattle.dsl_statement.specs.Statements.{statement_of}
-use Rattle.dsl_build.specs.Meanings.{meaning_of_alternative, meanings_of}
-use Rattle.dsl_build.proofs.MeaningLemmas.{alternatives_flat, meanings_on, meanings_end}
+use Rattle.dsl_build.proofs.MeaningLemmas.{meanings_on, meanings_end}
 use Rattle.dsl_build.proofs.meanings.meanings.Goals as goal
 
 pub loop-s-preserved : goal.loop-s-preserved

@@ -1,13 +1,9 @@
-use Rattle.std.proofs.Common.{◌≡◌, [], ◌++◌, arith, sym, ◌∙◌, ap, ◌<◌, ◌≤◌, length, subst, map, cond, Bool, false}
+use Rattle.std.proofs.Common.{◌≡◌, [], ◌++◌, sym, ◌∙◌, ap, subst, map, cond}
 use Rattle.std.specs.Prelude.{flat_map, OnOk}
-use Rattle.std.proofs.lemmas.List.{take_all}
-use Rattle.std.proofs.lemmas.List.Folds.{flat_map-map}
-use Rattle.language_model.specs.Building.{alternatives_of, shown_of_element}
 use Rattle.value_text.specs.Meaning.{action_of, rule_meaning_of}
-use Rattle.dsl_statement.specs.declared.statement.Element.{Element as HeldElement}
-use Rattle.dsl_statement.specs.Statements.{statement_of, element_of}
+use Rattle.dsl_statement.specs.Statements.{statement_of}
 use Rattle.dsl_build.specs.Meanings.{meaning_of_alternative, meanings_of}
-use Rattle.dsl_build.proofs.MeaningLemmas.{alternatives_flat, meanings_on, meanings_end}
+use Rattle.dsl_build.proofs.MeaningLemmas.{alternatives_flat}
 use Rattle.dsl_build.proofs.meanings.push_statement.Goals as goal
 
 pub returns-in-Rules : goal.returns-in-Rules

@@ -1,4 +1,4 @@
-use Rattle.std.proofs.Common.{◌≡◌, ◌++◌, map, take, Bor}
+use Rattle.std.proofs.Common.{◌≡◌, map, take, Bor}
 use Rattle.std.specs.Prelude.{flat_map}
 use Rattle.language_model.specs.Tokens.{Spelled}
 use Rattle.language_model.specs.Building.{parts_of_element}

@@ -1,14 +1,5 @@
-use Rattle.std.proofs.Common.{◌≡◌, [], ◌∷◌, ◌++◌, take, arith, sym, ◌∙◌, ap, ◌<◌, ◌≤◌, length, ℕ, List, map, Bor, cond, append_assoc, append-nil}
-use Rattle.std.specs.Prelude.{flat_map, not}
-use Rattle.std.proofs.lemmas.List.{map-append, take_all}
-use Rattle.std.proofs.lemmas.List.Folds.{flat_map-map}
-use Rattle.language_model.specs.Tokens.{Spelled}
-use Rattle.language_model.specs.Building.{is_one_of, new_tokens}
-use Rattle.dsl_build.specs.declared.uses.Use.{Use}
-use Rattle.dsl_build.specs.Uses.{used_of}
-use Rattle.dsl_build.specs.Lexical.{placed_part}
+use Rattle.std.proofs.Common.{[], ◌∷◌, ◌++◌, take, sym, ◌∙◌, ap, append_assoc}
 use Rattle.dsl_build.proofs.Lists.{take_get}
-use Rattle.dsl_build.proofs.PlacedLemmas.{placed_to, placed_on, filter_more}
 use Rattle.dsl_build.proofs.placed.append.Goals as goal
 
 pub loop-place-preserved : goal.loop-place-preserved

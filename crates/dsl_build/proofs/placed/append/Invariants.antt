@@ -1,8 +1,4 @@
-use Rattle.std.proofs.Common.{◌≡◌, [], take, map, Bor, ◌++◌}
-use Rattle.std.specs.Prelude.{flat_map, filter, not}
-use Rattle.language_model.specs.Tokens.{Spelled}
-use Rattle.language_model.specs.Building.{is_one_of}
-use Rattle.dsl_build.proofs.PlacedLemmas.{placed_to}
+use Rattle.std.proofs.Common.{◌≡◌, take, ◌++◌}
 use Rattle.dsl_build.proofs.placed.append.Given as goal
 
 abbrev pub invariant-loop-place : goal.invariant-loop-place

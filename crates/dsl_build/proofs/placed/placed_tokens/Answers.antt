@@ -1,14 +1,13 @@
-use Rattle.std.proofs.Common.{◌≡◌, [], ◌∷◌, ◌++◌, take, arith, sym, ◌∙◌, ap, ◌<◌, ◌≤◌, length, ℕ, List, map, Bor, cond, append_assoc, append-nil, Vec, Global}
-use Rattle.std.specs.Prelude.{flat_map, not}
+use Rattle.std.proofs.Common.{[], ◌∷◌, ◌++◌, arith, sym, ◌∙◌, ap, map, Bor, cond, append-nil, Vec, Global}
+use Rattle.std.specs.Prelude.{flat_map}
 use Rattle.std.proofs.lemmas.List.{map-append, take_all}
 use Rattle.std.proofs.lemmas.List.Folds.{flat_map-map}
 use Rattle.language_model.specs.Tokens.{Spelled}
-use Rattle.language_model.specs.Building.{is_one_of, new_tokens}
+use Rattle.language_model.specs.Building.{new_tokens}
 use Rattle.dsl_build.specs.declared.uses.Use.{Use}
 use Rattle.dsl_build.specs.Uses.{used_of}
 use Rattle.dsl_build.specs.Lexical.{placed_part}
-use Rattle.dsl_build.proofs.Lists.{take_get}
-use Rattle.dsl_build.proofs.PlacedLemmas.{placed_to, placed_on, filter_more}
+use Rattle.dsl_build.proofs.PlacedLemmas.{placed_to, placed_on}
 use Rattle.dsl_build.proofs.placed.placed_tokens.Goals as goal
 use Rattle.dsl_build.proofs.placed.placed_tokens.Goals.{then-is_new+in_ok-add_new+in_ok-push, else-is_new}
 

@@ -1,7 +1,5 @@
-use Rattle.std.proofs.Common.{◌≡◌, [], take, map, Bor, ◌++◌}
-use Rattle.std.specs.Prelude.{flat_map, filter, not}
+use Rattle.std.proofs.Common.{◌≡◌, map, Bor}
 use Rattle.language_model.specs.Tokens.{Spelled}
-use Rattle.language_model.specs.Building.{is_one_of}
 use Rattle.dsl_build.proofs.PlacedLemmas.{placed_to}
 use Rattle.dsl_build.proofs.placed.placed_tokens.Given as goal
 

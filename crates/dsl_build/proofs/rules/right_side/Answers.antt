@@ -1,4 +1,4 @@
-use Rattle.std.proofs.Common.{◌≡◌, sym, ◌∙◌, ap, map, subst, Bor, List, ℕ}
+use Rattle.std.proofs.Common.{◌≡◌, sym, ◌∙◌, ap, map, subst, Bor}
 use Rattle.std.specs.Prelude.{IfOk}
 use Rattle.language_model.specs.Tokens.{Spelled}
 use Rattle.language_model.specs.Building.{place_in, numbers_in, parts_of}

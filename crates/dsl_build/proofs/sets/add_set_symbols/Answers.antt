@@ -1,4 +1,4 @@
-use Rattle.std.proofs.Common.{◌≡◌, [], ◌∷◌, ◌++◌, ◌+◌, ◌-◌, arith, sym, ◌∙◌, ap, ◌<◌, ◌≤◌, ℕ, List, map, append_assoc}
+use Rattle.std.proofs.Common.{◌≡◌, [], ◌∷◌, ◌++◌, ◌+◌, ◌-◌, arith, sym, ◌∙◌, ap, map, append_assoc}
 use Rattle.std.proofs.lemmas.List.{map-append}
 use Rattle.grammar_model.specs.Grammar.{Grammar}
 use Rattle.language_model.specs.Building.{count_from}

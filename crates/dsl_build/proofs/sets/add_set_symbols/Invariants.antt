@@ -1,5 +1,4 @@
-use Rattle.std.proofs.Common.{◌≡◌, [], take, map, Bor, ◌++◌, ◌-◌}
-use Rattle.language_model.specs.Classes.{class_of_char}
+use Rattle.std.proofs.Common.{◌≡◌, map, ◌-◌}
 use Rattle.language_model.specs.Building.{count_from}
 use Rattle.dsl_build.specs.Lexical.{set_name}
 use Rattle.dsl_build.specs.Rules.{with_names}

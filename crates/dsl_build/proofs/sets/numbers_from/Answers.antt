@@ -1,9 +1,4 @@
-use Rattle.std.proofs.Common.{◌≡◌, [], ◌∷◌, ◌++◌, ◌+◌, ◌-◌, arith, sym, ◌∙◌, ap, ◌<◌, ◌≤◌, ℕ, List, map, append_assoc}
-use Rattle.std.proofs.lemmas.List.{map-append}
-use Rattle.grammar_model.specs.Grammar.{Grammar}
-use Rattle.language_model.specs.Building.{count_from}
-use Rattle.dsl_build.specs.Lexical.{set_name}
-use Rattle.dsl_build.specs.Rules.{with_names}
+use Rattle.std.proofs.Common.{◌≡◌, [], ◌∷◌, ◌++◌, ◌+◌, arith, sym, ◌∙◌, ap}
 use Rattle.dsl_build.proofs.Lists.{count_more}
 use Rattle.dsl_build.proofs.sets.numbers_from.Goals as goal
 

@@ -1,8 +1,5 @@
-use Rattle.std.proofs.Common.{◌≡◌, [], take, map, Bor, ◌++◌, ◌-◌}
+use Rattle.std.proofs.Common.{◌≡◌, take, map, ◌++◌}
 use Rattle.language_model.specs.Classes.{class_of_char}
-use Rattle.language_model.specs.Building.{count_from}
-use Rattle.dsl_build.specs.Lexical.{set_name}
-use Rattle.dsl_build.specs.Rules.{with_names}
 use Rattle.dsl_build.proofs.sets.push_characters.Given as goal
 
 abbrev pub invariant-loop-c : goal.invariant-loop-c

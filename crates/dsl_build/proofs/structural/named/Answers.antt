@@ -1,4 +1,4 @@
-use Rattle.std.proofs.Common.{◌≡◌, sym, ◌∙◌, ap, List, ℕ, [], ◌∷◌, ◌++◌}
+use Rattle.std.proofs.Common.{sym, ◌∙◌, ap, List, ℕ, [], ◌∷◌, ◌++◌}
 use Rattle.grammar_model.specs.Grammar.{Grammar}
 use Rattle.dsl_build.proofs.Lists.{take_get}
 use Rattle.dsl_build.proofs.structural.named.Goals as goal

@@ -1,6 +1,4 @@
 use Rattle.std.proofs.Common.{◌≡◌, [], take}
-use Rattle.std.specs.Prelude.{flat_map}
-use Rattle.dsl_build.specs.Uses.{used_of, texts_asked}
 use Rattle.dsl_build.proofs.structural.named.Given as goal
 
 abbrev pub invariant-loop-place : goal.invariant-loop-place

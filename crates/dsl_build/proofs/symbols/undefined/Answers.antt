@@ -1,17 +1,10 @@
-use Rattle.std.proofs.Common.{◌≡◌, [], ◌∷◌, ◌++◌, take, arith, sym, ◌∙◌, ap, ◌<◌, ◌≤◌, length, subst, ℕ, refl, List, Bool, map, true, false, ◌+◌}
-use Rattle.std.specs.Prelude.{flat_map}
-use Rattle.std.proofs.lemmas.List.{take_all}
+use Rattle.std.proofs.Common.{arith, sym, ◌∙◌, ap}
 use Rattle.std.proofs.lemmas.List.Folds.{flat_map-map}
-use Rattle.language_model.specs.Building.{in_both}
 use Rattle.dsl_build.specs.declared.uses.Use.{Use}
-use Rattle.dsl_build.specs.declared.uses.Which.TheVariants.{StructuralLeft, LexicalLeft}
-use Rattle.dsl_build.specs.Found.{fault_of, first_of}
+use Rattle.dsl_build.specs.Found.{first_of}
 use Rattle.dsl_build.specs.Uses.{used_of}
-use Rattle.dsl_build.specs.Faults.{undefined_fault, class_fault, left_part}
-use Rattle.dsl_build.proofs.Firsts.{goes_on, stops, none_at_all, no_first}
-use Rattle.dsl_build.proofs.Scans.{scan, scan_goes_on, scan_stops}
-use Rattle.dsl_build.proofs.UseLemmas.{both_before, both_scan, both_known}
-use Rattle.dsl_build.proofs.Keeping.{texts_on}
+use Rattle.dsl_build.specs.Faults.{undefined_fault}
+use Rattle.dsl_build.proofs.Firsts.{stops, none_at_all}
 use Rattle.dsl_build.proofs.symbols.undefined.Goals as goal
 
 pub returns-then-is_some : goal.returns-then-is_some

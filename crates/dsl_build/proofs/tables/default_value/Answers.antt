@@ -1,4 +1,4 @@
-use Rattle.std.proofs.Common.{◌≡◌, arith, sym, ◌∙◌, ap, ◌<◌, ◌≤◌, length}
+use Rattle.std.proofs.Common.{arith, sym, ◌∙◌, ap}
 use Rattle.language_model.specs.Building.{value_of}
 use Rattle.dsl_build.proofs.TableLemmas.{default_on, default_here, default_nowhere}
 use Rattle.dsl_build.proofs.tables.default_value.Goals as goal

@@ -1,4 +1,4 @@
-use Rattle.std.proofs.Common.{◌≡◌, sym, ◌∙◌, ap, ◌∷◌, [], ◌++◌, map, take}
+use Rattle.std.proofs.Common.{sym, ◌∙◌, ap, ◌∷◌, [], ◌++◌, map, take}
 use Rattle.std.proofs.lemmas.List.{map-append}
 use Rattle.language_model.specs.Building.{place_in}
 use Rattle.dsl_build.proofs.Lists.{take_get}

@@ -1,5 +1,4 @@
-use Rattle.std.proofs.Common.{◌≡◌, [], ◌∷◌, arith, sym, ◌∙◌, ap, ◌<◌, ◌≤◌, length, map, cond, true, List, ℕ}
-use Rattle.std.specs.Prelude.{flat_map}
+use Rattle.std.proofs.Common.{[], ◌∷◌, arith, sym, ◌∙◌, ap, cond}
 use Rattle.std.proofs.lemmas.List.Folds.{flat_map-map}
 use Rattle.dsl_build.specs.Found.{first_of}
 use Rattle.dsl_build.specs.Uses.{used_of, texts_asked}

@@ -1,4 +1,4 @@
-use Rattle.std.proofs.Common.{◌≡◌, [], arith, sym, ◌∙◌, ap, ◌<◌, ◌≤◌, length, map, cond, true, false}
+use Rattle.std.proofs.Common.{[], arith, sym, ◌∙◌, ap, cond}
 use Rattle.std.specs.Prelude.{flat_map}
 use Rattle.std.proofs.lemmas.List.{take_all}
 use Rattle.std.proofs.lemmas.List.Folds.{flat_map-map}

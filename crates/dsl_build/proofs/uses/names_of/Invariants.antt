@@ -1,4 +1,4 @@
-use Rattle.std.proofs.Common.{◌≡◌, [], map, take}
+use Rattle.std.proofs.Common.{◌≡◌, [], take}
 use Rattle.std.specs.Prelude.{flat_map}
 use Rattle.language_model.specs.Building.{new_texts}
 use Rattle.dsl_build.specs.Uses.{used_of, texts_asked}

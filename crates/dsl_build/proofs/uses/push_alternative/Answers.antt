@@ -1,15 +1,10 @@
-use Rattle.std.proofs.Common.{◌≡◌, [], ◌∷◌, ◌++◌, take, arith, sym, ◌∙◌, ap, ◌<◌, ◌≤◌, length, subst, ℕ, refl, Vec, Global, List, Bool, map, Bor}
-use Rattle.std.specs.Prelude.{flat_map, OnOk}
-use Rattle.std.proofs.lemmas.List.{take_all}
-use Rattle.std.proofs.lemmas.List.Folds.{flat_map-map}
+use Rattle.std.proofs.Common.{◌≡◌, ◌++◌, sym, ◌∙◌, ap, subst, map, Bor}
+use Rattle.std.specs.Prelude.{OnOk}
 use Rattle.language_model.specs.Tokens.{Spelled}
 use Rattle.language_model.specs.Building.{parts_of}
-use Rattle.dsl_statement.specs.declared.statement.Statement.{Statement as HeldStatement}
-use Rattle.dsl_statement.specs.Statements.{statement_of}
-use Rattle.dsl_build.specs.Uses.{used, used_of, uses_of, Used}
+use Rattle.dsl_build.specs.Uses.{used, used_of}
 use Rattle.dsl_build.specs.declared.uses.Role.TheVariants.{Right}
 use Rattle.dsl_build.proofs.Lists.{map_map}
-use Rattle.dsl_build.proofs.UseLemmas.{rules_uses}
 use Rattle.dsl_build.proofs.uses.push_alternative.Goals as goal
 
 pub returns : goal.returns

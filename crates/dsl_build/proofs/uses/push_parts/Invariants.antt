@@ -1,9 +1,6 @@
-use Rattle.std.proofs.Common.{◌≡◌, ◌++◌, map, take, Bor, Vec, Global}
-use Rattle.std.specs.Prelude.{flat_map}
+use Rattle.std.proofs.Common.{◌≡◌, ◌++◌, map, take, Bor}
 use Rattle.language_model.specs.Tokens.{Spelled}
-use Rattle.language_model.specs.Building.{parts_of}
-use Rattle.dsl_statement.specs.Statements.{statement_of}
-use Rattle.dsl_build.specs.Uses.{used, used_of, uses_of}
+use Rattle.dsl_build.specs.Uses.{used, used_of}
 use Rattle.dsl_build.specs.declared.uses.Role.TheVariants.{Right}
 use Rattle.dsl_build.proofs.uses.push_parts.Given as goal
 

@@ -1,7 +1,7 @@
-use Rattle.std.proofs.Common.{arith, ◌≡◌, ◌<◌, Option, sym, ap, ◌∙◌, subst, refl, length}
+use Rattle.std.proofs.Common.{arith, ◌<◌, ap, subst, refl, length}
 use Rattle.grammar_model.specs.Grammar.{Grammar}
 use Rattle.grammar_model.specs.Cycles.{HasHeights, IsLeastCycle}
-use Rattle.grammar_model.specs.Checked.{Refusal, SequenceLhs, Duplicate, CountedNullable, UnproductiveStart, Cyclic, IsFault, kind_of, IsChecked, SequencesAreAlone, RulesDiffer}
+use Rattle.grammar_model.specs.Checked.{SequenceLhs, Duplicate, IsFault, SequencesAreAlone, RulesDiffer}
 use Rattle.grammar_model.proofs.Cycles.{no_cycle}
 use Rattle.grammar_check.specs.Told.{slots_with}
 use Rattle.grammar_check.proofs.Clearing.{clear, none_told, some_told}

@@ -1,4 +1,4 @@
-use Rattle.std.proofs.Common.{arith, sym, ap, ◌∙◌, subst, slice_index, length}
+use Rattle.std.proofs.Common.{sym, subst, slice_index}
 use Rattle.grammar_check.specs.Least.{IsLeastSet, AreBelow}
 use Rattle.grammar_check.proofs.Collected.{below, analysed}
 use Rattle.grammar_check.proofs.clauses.analysis_of.Goals as goal

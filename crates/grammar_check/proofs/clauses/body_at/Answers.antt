@@ -1,4 +1,4 @@
-use Rattle.std.proofs.Common.{arith, ◌≡◌, ◌++◌, ◌∷◌, [], map, ap, sym, ◌∙◌, ℕ}
+use Rattle.std.proofs.Common.{arith, ◌++◌, ◌∷◌, [], map, ap, sym, ◌∙◌, ℕ}
 use Rattle.std.specs.List.{range_with_len}
 use Rattle.std.proofs.lemmas.List.FromFn.{map-range_with_len_more}
 use Rattle.grammar_model.specs.Grammar.{rule_at, child_slot}

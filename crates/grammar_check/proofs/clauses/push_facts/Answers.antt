@@ -1,7 +1,6 @@
 use Rattle.std.proofs.Common.{arith, subst, ◌∙◌, ap, ◌++◌, ◌∷◌, [], List, ℕ}
 use Rattle.grammar_check.specs.Slots.{HasFacts}
 use Rattle.grammar_check.proofs.Pushing.{facts_none, facts_more}
-use Rattle.grammar_check.specs.Least.{Clause}
 use Rattle.grammar_check.proofs.clauses.push_facts.Goals as goal
 
 pub loop-x-init : goal.loop-x-init

@@ -1,4 +1,4 @@
-use Rattle.std.proofs.Common.{arith, sym, subst, slice_index, add-one, ◌<◌, ◌+◌, ◌≡◌, slice_index_or, true, false}
+use Rattle.std.proofs.Common.{sym, subst, slice_index, add-one, ◌+◌}
 use Rattle.std.specs.declared.vec.Vec.{Vec}
 use Rattle.std.specs.declared.alloc.Global.{Global}
 use Rattle.grammar_check.specs.Least.{Clause}

@@ -1,4 +1,4 @@
-use Rattle.std.proofs.Common.{arith, ◌≡◌, ◌⊎◌, ◌↔◌, inl, inr, ℕ, suc, ◌<◌, ◌≤◌, ◌+◌, List, Contains, Option, None, Some, subst, sym, ap, ◌∙◌, refl, length}
+use Rattle.std.proofs.Common.{arith, ◌≡◌, ◌⊎◌, ◌↔◌, inl, inr, ℕ, suc, ◌<◌, ◌+◌, List, Contains, Option, subst, sym, ◌∙◌, refl, length}
 use Rattle.std.specs.Option.{IfSome, IsNone}
 use Rattle.std.specs.declared.vec.Vec.{Vec}
 use Rattle.std.specs.declared.alloc.Global.{Global}

@@ -1,7 +1,5 @@
-use Rattle.std.proofs.Common.{arith, ◌≡◌, ◌⊎◌, ℕ, ◌<◌, ◌+◌, ◌++◌, ◌∷◌, [], List, inl, inr, subst, sym, ap, ◌∙◌, slice_index, length, Contains, All, map}
-use Rattle.grammar_check.specs.Least.{Clause}
+use Rattle.std.proofs.Common.{arith, ◌≡◌, ℕ, ◌<◌, ◌+◌, ◌++◌, ◌∷◌, [], List, subst, sym, ap, ◌∙◌, All, map}
 use Rattle.grammar_check.specs.Rows.{rows_of, row_at}
-use Rattle.grammar_check.specs.Steps.{HasMore}
 use Rattle.grammar_check.specs.Settled.{node_clause, IsOfNodes}
 use Rattle.grammar_check.proofs.RowLemmas.{row_is}
 use Rattle.grammar_check.proofs.Gaining.{row_known}

@@ -1,4 +1,4 @@
-use Rattle.std.proofs.Common.{arith, ◌≡◌, ℕ, ◌<◌, ◌+◌}
+use Rattle.std.proofs.Common.{arith, ◌≡◌, ◌+◌}
 use Rattle.grammar_check.specs.Settled.{use_clause, IsOfUses}
 use Rattle.grammar_check.proofs.More.{more_none, more_by, more_pushed}
 use Rattle.grammar_check.proofs.Settling.{uses_split}

@@ -1,6 +1,6 @@
-use Rattle.std.proofs.Common.{arith, ◌≡◌, ℕ, ◌⊎◌, ◌+◌, ◌-◌, ◌<◌, ◌≤◌, slice_index, Contains, subst, sym, ap, ◌∙◌, true≢false}
-use Rattle.grammar_check.specs.Links.{Tied, Gains}
-use Rattle.grammar_check.proofs.Gaining.{gains_none, gains_one, gains_both, gains_same, gains_down, Above, above_none, above_more, above_stop, above_end, tied_down}
+use Rattle.std.proofs.Common.{arith, ◌≡◌, ◌⊎◌, ◌+◌, ◌-◌, sym, ◌∙◌, true≢false}
+use Rattle.grammar_check.specs.Links.{Tied}
+use Rattle.grammar_check.proofs.Gaining.{gains_one, gains_both, gains_same, gains_down, Above, above_more, above_stop, above_end, tied_down}
 use Rattle.grammar_check.proofs.layers.descend.Goals as goal
 
 pub overflow_sub-k-end : goal.overflow_sub-k-end

@@ -1,4 +1,4 @@
-use Rattle.std.proofs.Common.{ℕ, ◌<◌, ◌≤◌, ◌+◌}
+use Rattle.std.proofs.Common.{◌<◌, ◌≤◌, ◌+◌}
 use Rattle.grammar_check.specs.Links.{Gains}
 use Rattle.grammar_check.proofs.layers.descend.Given as goal
 

@@ -1,5 +1,5 @@
-use Rattle.std.proofs.Common.{arith, ℕ, ◌<◌, ◌+◌, Contains, subst, sym, ap, slice_index, length}
-use Rattle.grammar_check.specs.Links.{Tied, Gains}
+use Rattle.std.proofs.Common.{arith, ◌+◌, slice_index}
+use Rattle.grammar_check.specs.Links.{Tied}
 use Rattle.grammar_check.proofs.Gaining.{gains_none, gains_both, gains_same, TiedTo, tied_more, tied_all}
 use Rattle.grammar_check.proofs.layers.gather.Goals as goal
 

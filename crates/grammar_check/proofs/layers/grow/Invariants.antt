@@ -1,6 +1,5 @@
-use Rattle.std.proofs.Common.{ℕ, ◌<◌, ◌≤◌, length, slice_index, All}
 use Rattle.grammar_check.specs.Rows.{rows_of}
-use Rattle.grammar_check.specs.Links.{Tied, IsDown, Gains, StepsInto}
+use Rattle.grammar_check.specs.Links.{IsDown, Gains, StepsInto}
 use Rattle.grammar_check.proofs.layers.grow.Given as goal
 
 abbrev pub invariant-loop-j : goal.invariant-loop-j

@@ -1,8 +1,6 @@
-use Rattle.std.proofs.Common.{arith, ◌≡◌, ℕ, suc, ◌<◌, ◌≤◌, ◌+◌, List, [], ◌∷◌, ◌++◌, Contains, subst, sym, ap, ◌∙◌, slice_index, length, get_or, length-append}
-use Rattle.std.proofs.lemmas.List.{get_or_append_left, get_or_push}
+use Rattle.std.proofs.Common.{arith, ◌≡◌, ℕ, ◌+◌, List, [], ◌∷◌, ◌++◌, subst, sym, ap, ◌∙◌, slice_index, length, length-append}
 use Rattle.grammar_check.specs.Rows.{rows_of}
 use Rattle.grammar_check.specs.Links.{Step, StepsInto, Gains, AreLayers}
-use Rattle.grammar_check.proofs.Found.{Contains-none}
 use Rattle.grammar_check.proofs.Layering.{layers_first, turn_order, turn_closed, turn_more, all_known, step_known}
 use Rattle.grammar_check.proofs.layers.layers_of.Goals as goal
 

@@ -1,6 +1,6 @@
-use Rattle.std.proofs.Common.{◌≡◌, ℕ, suc, ◌+◌, ◌<◌, ◌≤◌, List, [], ◌∷◌, ◌++◌, length, slice_index, All}
+use Rattle.std.proofs.Common.{◌≡◌, ◌+◌, ◌<◌, [], ◌∷◌, ◌++◌, length, All}
 use Rattle.grammar_check.specs.Rows.{rows_of}
-use Rattle.grammar_check.specs.Links.{Tied, IsDown, AreLayers}
+use Rattle.grammar_check.specs.Links.{IsDown, AreLayers}
 use Rattle.grammar_check.proofs.layers.layers_of.Given as goal
 
 abbrev pub invariant-loop-n : goal.invariant-loop-n

@@ -1,4 +1,4 @@
-use Rattle.std.proofs.Common.{arith, slice_index, sym, ◌∙◌, subst, length, ◌<◌}
+use Rattle.std.proofs.Common.{arith}
 use Rattle.grammar_check.specs.Rows.{rows_of}
 use Rattle.grammar_check.proofs.RowLemmas.{add_none, add_more, rows_length}
 use Rattle.grammar_check.proofs.least.add_clause.Goals as goal

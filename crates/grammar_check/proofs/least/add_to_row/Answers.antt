@@ -1,4 +1,3 @@
-use Rattle.std.proofs.Common.{◌≡◌, ◌++◌, ◌∷◌, [], ap, ◌∙◌, Ok, Err, is_ok}
 use Rattle.grammar_check.proofs.RowLemmas.{pushed_row}
 use Rattle.grammar_check.proofs.least.add_to_row.Goals as goal
 

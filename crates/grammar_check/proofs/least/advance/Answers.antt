@@ -1,6 +1,6 @@
-use Rattle.std.proofs.Common.{arith, ◌≡◌, ap, sym, ◌∙◌, subst, get_or, List, [], ℕ, ◌≤◌, ◌<◌, length, Contains, slice_index}
+use Rattle.std.proofs.Common.{arith, ◌≡◌, ap, sym, ◌∙◌, subst, [], ◌≤◌, length, Contains, slice_index}
 use Rattle.std.proofs.lemmas.List.{get_or_default}
-use Rattle.grammar_check.specs.Least.{Clause, clause_at, Adds}
+use Rattle.grammar_check.specs.Least.{clause_at, Adds}
 use Rattle.grammar_check.proofs.Search.{stopped, ended}
 use Rattle.grammar_check.proofs.Results.{on_ok}
 use Rattle.grammar_check.proofs.least.advance.Goals as goal

@@ -1,4 +1,4 @@
-use Rattle.std.proofs.Common.{arith, inl, inr, subst, sym, ◌⊎◌}
+use Rattle.std.proofs.Common.{arith, inl, inr, subst, sym}
 use Rattle.grammar_check.specs.Least.{Waits}
 use Rattle.grammar_check.proofs.Search.{same_or_below}
 use Rattle.grammar_check.proofs.least.begin.Goals as goal

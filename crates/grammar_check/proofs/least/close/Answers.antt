@@ -1,4 +1,4 @@
-use Rattle.std.proofs.Common.{arith, ◌≡◌, ◌≤◌, ◌+◌, refl, sym, ◌∙◌, ap, subst, length, slice_index, Contains, length-append, add-one}
+use Rattle.std.proofs.Common.{arith, ◌≡◌, sym, ◌∙◌, ap, subst, length, Contains, length-append, add-one}
 use Rattle.std.proofs.lemmas.List.Elements.{Contains-get_or}
 use Rattle.grammar_check.specs.Least.{HasVisited, Waits}
 use Rattle.grammar_check.specs.Rows.{rows_of, row_at}

@@ -1,4 +1,4 @@
-use Rattle.std.proofs.Common.{arith, ap, ◌∙◌, refl, length, length-append, subst, ◌≡◌, ℕ, [], ◌∷◌, ◌++◌, sym}
+use Rattle.std.proofs.Common.{arith, ap, ◌∙◌, length, length-append, subst, ◌≡◌, [], ◌∷◌, sym}
 use Rattle.grammar_check.specs.Rows.{rows_of, row_at}
 use Rattle.grammar_check.proofs.RowLemmas.{empty_more}
 use Rattle.grammar_check.proofs.least.empty_rows.Goals as goal

@@ -1,6 +1,5 @@
-use Rattle.std.proofs.Common.{arith, ◌≡◌, ap, ◌∙◌, subst, sym, [], All, ◌<◌}
+use Rattle.std.proofs.Common.{arith, ap, ◌∙◌, subst, sym, [], All, ◌<◌}
 use Rattle.std.proofs.lemmas.List.{get_or_default}
-use Rattle.grammar_check.specs.Least.{clause_at}
 use Rattle.grammar_check.specs.Rows.{rows_of, HasAddedAll}
 use Rattle.grammar_check.proofs.RowLemmas.{places_none, places_more, rows_length}
 use Rattle.grammar_check.proofs.least.occurrences.Goals as goal

@@ -1,4 +1,4 @@
-use Rattle.std.proofs.Common.{ℕ, ◌<◌, ◌≤◌, ◌⊎◌, ◌≡◌, inl, inr, Contains, slice_index, subst, sym, arith}
+use Rattle.std.proofs.Common.{inl, inr, Contains, slice_index, subst, sym}
 use Rattle.grammar_check.proofs.Search.{same_or_below}
 use Rattle.grammar_check.proofs.least.open_place.Goals as goal
 

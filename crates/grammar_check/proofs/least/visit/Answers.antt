@@ -1,4 +1,4 @@
-use Rattle.std.proofs.Common.{arith, refl, sym, subst, slice_index, Contains}
+use Rattle.std.proofs.Common.{arith, refl, slice_index}
 use Rattle.std.proofs.lemmas.List.Elements.{Contains-get_or}
 use Rattle.grammar_check.proofs.Search.{visit_begun, visit_more}
 use Rattle.grammar_check.proofs.least.visit.Goals as goal

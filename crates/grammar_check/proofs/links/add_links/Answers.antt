@@ -1,4 +1,4 @@
-use Rattle.std.proofs.Common.{arith, ◌≡◌, ◌⊎◌, ◌↔◌, ℕ, ◌<◌, ◌+◌, inl, inr, subst, sym, ap, ◌∙◌, slice_index, length, true≢false}
+use Rattle.std.proofs.Common.{arith, ◌≡◌, ℕ, ◌<◌, ◌+◌, subst, sym, ◌∙◌, true≢false}
 use Rattle.std.specs.declared.vec.Vec.{Vec}
 use Rattle.std.specs.declared.alloc.Global.{Global}
 use Rattle.grammar_model.specs.Grammar.{rule_at}

@@ -1,5 +1,4 @@
 use Rattle.std.proofs.Common.{arith, ◌≡◌, ◌+◌, sym, ap, ◌∙◌, slice_index, length, refl, suc}
-use Rattle.grammar_check.specs.Slots.{end_of}
 use Rattle.grammar_check.proofs.Linking.{filled_more}
 use Rattle.grammar_check.proofs.links.floors_of.Goals as goal
 

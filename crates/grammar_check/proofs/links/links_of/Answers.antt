@@ -1,6 +1,6 @@
-use Rattle.std.proofs.Common.{arith, ◌≡◌, ◌⊎◌, ◌↔◌, ℕ, ◌<◌, ◌+◌, inl, inr, subst, sym, ap, ◌∙◌, slice_index, length, Contains, List, []}
+use Rattle.std.proofs.Common.{arith, ◌≡◌, ℕ, ◌+◌, inl, inr, subst, length, Contains, List}
 use Rattle.grammar_model.specs.Grammar.{rule_at}
-use Rattle.grammar_check.specs.Rows.{rows_of, row_at}
+use Rattle.grammar_check.specs.Rows.{rows_of}
 use Rattle.grammar_check.specs.Slots.{needed_of}
 use Rattle.grammar_check.specs.Linked.{HasPairs, IsLinkOf, IsLinkTo}
 use Rattle.grammar_check.proofs.Found.{Contains-none}

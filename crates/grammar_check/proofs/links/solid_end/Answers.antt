@@ -1,4 +1,4 @@
-use Rattle.std.proofs.Common.{arith, ◌≡◌, ◌+◌, ◌-◌, ◌⊎◌, inl, inr, subst, sym, ap, ◌∙◌, true≢false}
+use Rattle.std.proofs.Common.{arith, ◌≡◌, ◌-◌, inl, inr, subst, sym, ◌∙◌, true≢false}
 use Rattle.grammar_model.specs.Grammar.{rule_at, child_slot}
 use Rattle.grammar_model.specs.Analysis.{IsNullable}
 use Rattle.grammar_check.proofs.Search.{same_or_below}

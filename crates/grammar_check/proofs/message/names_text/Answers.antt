@@ -1,6 +1,5 @@
-use Rattle.std.proofs.Common.{arith, ◌≡◌, ◌<◌, ◌++◌, ◌∷◌, [], List, length, codes, sym, ap, ◌∙◌, subst, length}
+use Rattle.std.proofs.Common.{arith, ◌++◌, length, sym, ap, ◌∙◌, length}
 use Rattle.std.proofs.lemmas.Bool.{eqb-false}
-use Rattle.grammar_model.specs.Values.{name_of}
 use Rattle.grammar_check.proofs.Naming.{named_more, named_end}
 use Rattle.grammar_check.proofs.message.names_text.Goals as goal
 

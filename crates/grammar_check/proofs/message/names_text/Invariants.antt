@@ -1,4 +1,4 @@
-use Rattle.std.proofs.Common.{◌≡◌, ◌<◌}
+use Rattle.std.proofs.Common.{◌≡◌}
 use Rattle.grammar_check.proofs.Naming.{named_to}
 use Rattle.grammar_check.proofs.message.names_text.Given as goal
 

@@ -1,7 +1,4 @@
-use Rattle.std.proofs.Common.{◌≡◌, Bool, true, false, not, sym, ap, ◌∙◌, true≢false}
-use Rattle.std.specs.Bool.{IsTrue}
-use Rattle.std.specs.List.{Contains}
-use Rattle.grammar_check.proofs.Sharing.{found_text, added_text, fresh_text}
+use Rattle.grammar_check.proofs.Sharing.{added_text, fresh_text}
 use Rattle.grammar_check.proofs.shared.add_text.Goals as goal
 
 pub returns-clause-was : goal.returns-clause-was

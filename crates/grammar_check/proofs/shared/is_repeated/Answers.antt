@@ -1,5 +1,4 @@
-use Rattle.std.proofs.Common.{◌≡◌, ◌∷◌, Some, sym, ap, ◌∙◌, subst, true≢false, refl, slice_get}
-use Rattle.grammar_model.specs.Grammar.{PlainRule}
+use Rattle.std.proofs.Common.{Some, sym, ap, ◌∙◌, true≢false}
 use Rattle.grammar_core.specs.Written.{rule_of}
 use Rattle.grammar_check.specs.Rows.{rows_of}
 use Rattle.grammar_check.proofs.Sharing.{rule_is_plain, rule_is_sequence, texts_skip, texts_more, never_duplicate, duplicate_from}

@@ -1,4 +1,4 @@
-use Rattle.std.proofs.Common.{arith, ◌≡◌, ◌↔◌, ℕ, Bool, true, false, ◌+◌, ◌||◌, List, sym, ap, ◌∙◌, subst, refl, length, slice_index_or, slice_set, length-set}
+use Rattle.std.proofs.Common.{arith, ◌≡◌, Bool, false, ◌+◌, ◌||◌, List, sym, ap, ◌∙◌, subst, length, slice_index_or, length-set}
 use Rattle.grammar_check.specs.Shared.{HasSequence, IsSequenceAt, Marks}
 use Rattle.grammar_check.proofs.Sharing.{mark_more, sequence_more}
 use Rattle.grammar_check.proofs.shared.sequence_left.Goals as goal

@@ -1,4 +1,4 @@
-use Rattle.std.proofs.Common.{arith, ◌≡◌, ◌+◌, ◌⊎◌, inl, inr, true, false, sym, ap, ◌∙◌, subst, true≢false, length, slice_index_or}
+use Rattle.std.proofs.Common.{arith, inl, inr, false, sym, ◌∙◌, subst, true≢false}
 use Rattle.std.proofs.lemmas.List.{get_or_default}
 use Rattle.grammar_model.specs.Checked.{IsShared}
 use Rattle.grammar_check.proofs.Search.{same_or_below}

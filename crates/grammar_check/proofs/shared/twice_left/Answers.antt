@@ -1,6 +1,5 @@
-use Rattle.std.proofs.Common.{arith, ◌≡◌, ◌↔◌, ℕ, Bool, true, false, ◌+◌, ◌||◌, List, sym, ap, ◌∙◌, subst, refl, length, slice_index_or, slice_set, length-set}
+use Rattle.std.proofs.Common.{arith, ◌≡◌, Bool, true, false, ◌+◌, ◌||◌, List, sym, ap, ◌∙◌, subst, refl, length, slice_index_or, length-set}
 use Rattle.std.proofs.lemmas.List.{get_or_default}
-use Rattle.grammar_model.specs.Grammar.{rule_at, lhs_of}
 use Rattle.grammar_check.specs.Shared.{HasTwo, Marks}
 use Rattle.grammar_check.proofs.Sharing.{SeenIn, mark_more, seen_more, two_more}
 use Rattle.grammar_check.proofs.shared.twice_left.Goals as goal

@@ -1,4 +1,4 @@
-use Rattle.std.proofs.Common.{arith, ◌≡◌, ℕ, ◌<◌, ◌↔◌, List, All, Contains, subst, sym, ap, ◌∙◌, slice_index, length}
+use Rattle.std.proofs.Common.{◌≡◌, ℕ, ◌<◌, ◌↔◌, List, All, Contains, subst, sym, ◌∙◌, length}
 use Rattle.std.specs.Bool.{IsTrue}
 use Rattle.grammar_check.specs.Rows.{rows_of, row_at}
 use Rattle.grammar_check.specs.Links.{Tied}

@@ -1,4 +1,4 @@
-use Rattle.std.proofs.Common.{ℕ, ◌<◌, ◌≤◌, ◌-◌, slice_index}
+use Rattle.std.proofs.Common.{◌≤◌, ◌-◌, slice_index}
 use Rattle.grammar_check.proofs.shortest.layer_of.Given as goal
 
 abbrev pub invariant-loop-n : goal.invariant-loop-n

@@ -1,4 +1,3 @@
-use Rattle.std.proofs.Common.{◌≤◌}
 use Rattle.grammar_check.specs.Rows.{rows_of}
 use Rattle.grammar_check.proofs.Choosing.{Partway}
 use Rattle.grammar_check.proofs.shortest.path_of.Given as goal

@@ -1,4 +1,4 @@
-use Rattle.std.proofs.Common.{◌≡◌, ℕ, suc, ◌+◌, ◌<◌, ◌≤◌, length, slice_index}
+use Rattle.std.proofs.Common.{◌≡◌, ℕ, suc, ◌+◌, ◌<◌, length, slice_index}
 use Rattle.grammar_check.proofs.slots.sums_of.Given as goal
 
 abbrev pub invariant-loop-room : goal.invariant-loop-room

@@ -1,14 +1,9 @@
-use Rattle.std.proofs.Common.{arith, ◌≡◌, ℕ, suc, ◌+◌, ◌<◌, ◌≤◌, length, slice_index, subst, sym, ap, ◌∙◌, add-one, inl, inr, refl, true≢false, ◌⊎◌}
-use Rattle.std.specs.declared.vec.Vec.{Vec}
-use Rattle.std.specs.declared.alloc.Global.{Global}
-use Rattle.grammar_model.specs.Grammar.{rule_at, child_slot, slot_count}
+use Rattle.std.proofs.Common.{arith, ◌<◌, subst, sym, ◌∙◌, inl, inr, refl, true≢false}
+use Rattle.grammar_model.specs.Grammar.{rule_at, child_slot}
 use Rattle.grammar_model.specs.Analysis.{IsProductive}
-use Rattle.grammar_check.specs.Least.{Clause}
-use Rattle.grammar_check.specs.Slots.{fact_clause, number, end_of, needed_of}
-use Rattle.grammar_check.specs.Steps.{unit_clause, HasMore, head_of, IsOfPart, IsOfParts}
+use Rattle.grammar_check.specs.Slots.{needed_of}
 use Rattle.grammar_check.proofs.Search.{same_or_below}
-use Rattle.grammar_check.proofs.StepLemmas.{productive_found, all_needed, needed_small, head_small}
-use Rattle.grammar_check.proofs.More.{more_none, more_same, more_by, part_split, part_skip, parts_split, parts_skip}
+use Rattle.grammar_check.proofs.StepLemmas.{productive_found, all_needed, needed_small}
 use Rattle.grammar_check.proofs.steps.is_live.Goals as goal
 
 pub child_number-requires-clause-part : goal.child_number-requires-clause-part

@@ -1,9 +1,6 @@
-use Rattle.std.proofs.Common.{arith, ◌≡◌, ℕ, suc, ◌+◌, ◌<◌, ◌≤◌, length, slice_index, subst, sym, ap, ◌∙◌, add-one, inl, inr}
-use Rattle.grammar_model.specs.Grammar.{rule_at, child_slot, slot_count}
-use Rattle.grammar_check.specs.Least.{Clause}
-use Rattle.grammar_check.specs.Slots.{fact_clause, number, end_of}
-use Rattle.grammar_check.specs.Steps.{unit_clause, HasMore, head_of, IsOfStart, IsOfUse, IsOfNext, IsOfNexts, IsOfPart, IsOfParts}
-use Rattle.grammar_check.proofs.More.{more_none, more_same, more_by, starts_split, uses_split, next_split, nexts_split, part_split, part_skip, parts_split, parts_skip}
+use Rattle.std.proofs.Common.{arith, ◌≡◌, suc, ◌+◌, subst, add-one}
+use Rattle.grammar_check.specs.Steps.{unit_clause, HasMore, IsOfNext}
+use Rattle.grammar_check.proofs.More.{more_none, more_by, next_split}
 use Rattle.grammar_check.proofs.steps.push_next.Goals as goal
 
 pub loop-x-init : goal.loop-x-init

@@ -1,7 +1,5 @@
-use Rattle.std.proofs.Common.{◌≡◌, ℕ, suc, ◌+◌, ◌<◌, ◌≤◌, length, slice_index}
-use Rattle.grammar_model.specs.Grammar.{rule_at, child_slot, slot_count}
-use Rattle.grammar_model.specs.Analysis.{IsProductive}
-use Rattle.grammar_check.specs.Steps.{HasMore, IsOfStart, IsOfUse, IsOfNext, IsOfNexts, IsOfPart, IsOfParts}
+use Rattle.std.proofs.Common.{suc}
+use Rattle.grammar_check.specs.Steps.{HasMore, IsOfNext}
 use Rattle.grammar_check.proofs.steps.push_next.Given as goal
 
 abbrev pub invariant-loop-x : goal.invariant-loop-x

@@ -1,14 +1,10 @@
-use Rattle.std.proofs.Common.{arith, ◌≡◌, ℕ, suc, ◌+◌, ◌<◌, ◌≤◌, length, slice_index, subst, sym, ap, ◌∙◌, add-one, inl, inr, refl, true≢false, ◌⊎◌}
+use Rattle.std.proofs.Common.{arith, ◌≡◌, ◌+◌, length, subst, sym, ◌∙◌, true≢false}
 use Rattle.std.specs.declared.vec.Vec.{Vec}
 use Rattle.std.specs.declared.alloc.Global.{Global}
-use Rattle.grammar_model.specs.Grammar.{rule_at, child_slot, slot_count}
-use Rattle.grammar_model.specs.Analysis.{IsProductive}
+use Rattle.grammar_model.specs.Grammar.{rule_at, slot_count}
 use Rattle.grammar_check.specs.Least.{Clause}
-use Rattle.grammar_check.specs.Slots.{fact_clause, number, end_of, needed_of}
-use Rattle.grammar_check.specs.Steps.{unit_clause, HasMore, head_of, IsOfPart, IsOfParts}
-use Rattle.grammar_check.proofs.Search.{same_or_below}
-use Rattle.grammar_check.proofs.StepLemmas.{productive_found, all_needed, needed_small, head_small}
-use Rattle.grammar_check.proofs.More.{more_none, more_same, more_by, part_split, part_skip, parts_split, parts_skip}
+use Rattle.grammar_check.specs.Steps.{HasMore, IsOfPart, IsOfParts}
+use Rattle.grammar_check.proofs.More.{more_none, more_same, more_by, parts_split, parts_skip}
 use Rattle.grammar_check.proofs.steps.push_parts.Goals as goal
 use Rattle.grammar_check.proofs.steps.push_parts.Goals.{then-is_live+in_ok-push_part, else-is_live}
 

@@ -1,7 +1,4 @@
-use Rattle.std.proofs.Common.{◌≡◌, ℕ, suc, ◌+◌, ◌<◌, ◌≤◌, length, slice_index}
-use Rattle.grammar_model.specs.Grammar.{rule_at, child_slot, slot_count}
-use Rattle.grammar_model.specs.Analysis.{IsProductive}
-use Rattle.grammar_check.specs.Steps.{HasMore, IsOfStart, IsOfUse, IsOfNext, IsOfNexts, IsOfPart, IsOfParts}
+use Rattle.grammar_check.specs.Steps.{HasMore, IsOfUse}
 use Rattle.grammar_check.proofs.steps.push_uses.Given as goal
 
 abbrev pub invariant-loop-x : goal.invariant-loop-x

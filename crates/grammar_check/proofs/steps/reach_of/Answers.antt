@@ -1,4 +1,4 @@
-use Rattle.std.proofs.Common.{arith, ◌≡◌, ◌+◌, sym, ap, ◌∙◌, subst, slice_index, length, Contains, ◌↔◌}
+use Rattle.std.proofs.Common.{◌+◌, sym, ap, subst, slice_index, Contains, ◌↔◌}
 use Rattle.grammar_check.specs.Least.{Clause, IsLeastSet, AreBelow}
 use Rattle.grammar_check.specs.Steps.{IsStep}
 use Rattle.grammar_check.proofs.Reaching.{below, reached}

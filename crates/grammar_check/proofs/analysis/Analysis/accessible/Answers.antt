@@ -1,4 +1,3 @@
-use Rattle.std.proofs.Common.{sym, ◌∙◌, ap, refl, true, false}
 use Rattle.grammar_check.proofs.Beyond.{told_some, last_order, last_is}
 use Rattle.grammar_check.proofs.analysis.Analysis.accessible.Goals as goal
 

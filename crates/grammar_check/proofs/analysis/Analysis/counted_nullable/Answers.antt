@@ -1,4 +1,4 @@
-use Rattle.std.proofs.Common.{arith, ◌≡◌, ℕ, sym, ◌∙◌, ap, subst, length, true≢false, inl, inr, ◌⊎◌}
+use Rattle.std.proofs.Common.{arith, sym, ◌∙◌, ap, subst, length, true≢false, inl, inr}
 use Rattle.grammar_model.specs.Grammar.{Grammar}
 use Rattle.grammar_model.specs.Checked.{IsCountedNullable}
 use Rattle.grammar_check.proofs.Search.{same_or_below}

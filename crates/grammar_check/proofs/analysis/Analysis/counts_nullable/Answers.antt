@@ -1,4 +1,4 @@
-use Rattle.std.proofs.Common.{arith, ◌≡◌, ℕ, Some, sym, ◌∙◌, ap, subst, length, slice_get, true≢false}
+use Rattle.std.proofs.Common.{arith, Some, sym, ◌∙◌, ap, length, slice_get, true≢false}
 use Rattle.grammar_model.specs.Grammar.{Grammar}
 use Rattle.grammar_core.specs.Written.{rule_of}
 use Rattle.grammar_check.proofs.Faults.{sequence_known, counted_plain, counted_sequence}

@@ -1,7 +1,7 @@
-use Rattle.std.proofs.Common.{arith, ◌≡◌, ℕ, Some, sym, ◌∙◌, ap, subst, true≢false, inl, inr, ◌⊎◌}
+use Rattle.std.proofs.Common.{sym, ◌∙◌, ap, subst, true≢false, inl, inr}
 use Rattle.grammar_model.specs.Grammar.{slot_of}
 use Rattle.grammar_model.specs.Analysis.{IsNullable}
-use Rattle.grammar_check.proofs.Faults.{has_item, has_either}
+use Rattle.grammar_check.proofs.Faults.{has_either}
 use Rattle.grammar_check.proofs.analysis.Analysis.has_nullable.Goals as goal
 
 pub returns-else-nullable : goal.returns-else-nullable

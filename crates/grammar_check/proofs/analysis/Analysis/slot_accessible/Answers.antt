@@ -1,4 +1,4 @@
-use Rattle.std.proofs.Common.{sym, ◌∙◌, ap, refl, true, false, true≢false}
+use Rattle.std.proofs.Common.{sym, refl, true≢false}
 use Rattle.grammar_check.proofs.Beyond.{told_reach, no_reach}
 use Rattle.grammar_check.proofs.analysis.Analysis.slot_accessible.Goals as goal
 

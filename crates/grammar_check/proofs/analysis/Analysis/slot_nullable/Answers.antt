@@ -1,5 +1,5 @@
-use Rattle.std.proofs.Common.{sym, ◌∙◌, ap, refl, true, false}
-use Rattle.grammar_check.proofs.Beyond.{told, told_beyond}
+use Rattle.std.proofs.Common.{true}
+use Rattle.grammar_check.proofs.Beyond.{told}
 use Rattle.grammar_check.proofs.analysis.Analysis.slot_nullable.Goals as goal
 
 pub returns-in-Some : goal.returns-in-Some

@@ -1,4 +1,4 @@
-use Rattle.std.proofs.Common.{sym, ◌∙◌, ap, refl, true, false}
+use Rattle.std.proofs.Common.{refl, false}
 use Rattle.grammar_check.proofs.Beyond.{told, told_beyond}
 use Rattle.grammar_check.proofs.analysis.Analysis.slot_productive.Goals as goal
 

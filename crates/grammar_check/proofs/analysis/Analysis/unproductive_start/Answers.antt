@@ -1,7 +1,6 @@
-use Rattle.std.proofs.Common.{arith, ◌≡◌, ℕ, Some, sym, ◌∙◌, ap, subst, slice_get, length, true≢false}
+use Rattle.std.proofs.Common.{arith, sym, ◌∙◌, ap, slice_get, length, true≢false}
 use Rattle.grammar_model.specs.Grammar.{Grammar, slot_of}
 use Rattle.grammar_model.specs.Analysis.{IsProductive}
-use Rattle.grammar_model.specs.Checked.{IsLeft}
 use Rattle.grammar_check.proofs.Faults.{starts_more, starts_all}
 use Rattle.grammar_check.proofs.analysis.Analysis.unproductive_start.Goals as goal
 
