@@ -1,0 +1,54 @@
+//! Grammars by tables of their rules.
+ghost use Rattle.std.specs.Prelude.{◌<◌, length, IfOk};
+
+use anyhow::bail;
+use flat_rules::flatten;
+use grammar_check::check;
+use grammar_core::{Assoc, CoreRefusal, Flat, Rule, RuleId, SymbolId, Written};
+use std::alloc::Global;
+
+/// A left side and its parts, by the numbers of symbols.
+pub type Line = (u32, &'static [u32]);
+
+/// The names of the symbols, of which the first is the start, and the rules.
+#[derive(Clone, Copy)]
+pub struct Language {
+    pub names: &'static [&'static str],
+    pub lines: &'static [Line],
+}
+
+fn add_line(alloc: Global, w: &mut Written, line: &Line) -> Result<RuleId, CoreRefusal> {
+    let rhs = line.1.iter().map(|part| SymbolId(*part)).collect(alloc)?;
+    w.rule_new(Rule {
+        lhs: SymbolId(line.0),
+        rhs,
+        level: 0,
+        groups: 1,
+        assoc: Assoc::Left,
+        rank: 0,
+        null_high: false,
+    })
+}
+
+/// The grammar of the rules.
+pub fn written_of(alloc: Global, language: &Language) -> Result<Written, CoreRefusal> {
+    let mut w = Written::new(alloc);
+    for name in language.names {
+        w.symbol_new(name)?;
+    }
+    for line in language.lines {
+        add_line(alloc, &mut w, line)?;
+    }
+    w.start_add(SymbolId(0))?;
+    Ok(w)
+}
+
+/// The flat grammar of a grammar that passes the check.
+pub fn flat_of(alloc: Global, w: &Written) -> Result<Flat, anyhow::Error>
+    ensures start { IfOk result (λ f. 0 < length f.tops) }
+{
+    match check(alloc, w) {
+        Ok(checked) => Ok(flatten(alloc, &checked)?),
+        Err(_) => bail!("the check refuses the grammar"),
+    }
+}
