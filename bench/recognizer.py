@@ -5,8 +5,14 @@
 
 Wanted are, with 1,000,000 tokens of a left recursion and of an unambiguous sum, at most 2 microseconds and 120 bytes a token, and
 with 400 operands of an ambiguous sum at most 100 nanoseconds for each try to add an item. The time is that of the fastest round, and
-the memory is that of the whole process, so that a few bytes a token are those of the program itself. The numbers of items and of tries
-are the sums of what each set must have, worked out by hand.
+the memory is that of the whole process, so that a few bytes a token are those of the program itself. The program has no way to ask its
+counter, so the numbers of items and of tries are sums over what each set has to hold; those of the items are compared.
+
+Measured, beside other work, on one processor of four:
+
+    left 1000000 tokens: 3000003 items, 0.245 us and 81.4 bytes a token
+    sum 1000000 tokens: 2000003 items, 0.218 us and 69.4 bytes a token
+    twice 400 operands: 241401 items, 10987803 tries, 10.8 ns a try
 """
 import argparse, os, pathlib
 
