@@ -5,3 +5,4 @@ pub mod Loops
 pub mod Scanning
 pub mod Recognizer
 pub mod Example
+pub mod Laws

@@ -10,4 +10,14 @@ mod rows;
 #[cfg(test)]
 mod tests;
 
+ghost use Rattle.earley_sets.specs.Laws.{ExpectedAreAcceptable};
+
 pub use recce::{AlternativeRefusal, Recce, SetView};
+use recognizer_model::acceptable_are_flat;
+
+/// Over the flat grammar of a checked one, the expected terminals are those that are acceptable to the checked grammar.
+pub fn expected_are_acceptable()
+    ensures { ExpectedAreAcceptable }
+{
+    acceptable_are_flat();
+}
