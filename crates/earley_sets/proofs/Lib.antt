@@ -9,3 +9,4 @@ pub mod Scanning
 pub mod Recognizing
 pub mod Awaiting
 pub mod Sums
+pub mod Starts

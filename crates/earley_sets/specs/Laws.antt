@@ -1,13 +1,19 @@
 -- What a recognizer over the flat grammar of a checked grammar tells of the checked grammar itself.
 use Rattle.std.specs.Prelude.{◌≡◌, ℕ, ◌↔◌, Some, slice_get}
-use Rattle.grammar_model.specs.Grammar.{Grammar}
+use Rattle.grammar_model.specs.Grammar.{Grammar, slot_of}
+use Rattle.grammar_model.specs.Trees.{Tree}
 use Rattle.grammar_model.specs.Checked.{IsChecked}
-use Rattle.grammar_model.specs.Derives.{Held}
+use Rattle.grammar_model.specs.Derives.{Held, Derives}
 use Rattle.grammar_model.specs.Acceptable.{IsAcceptable}
 use Rattle.recognizer_model.specs.FlatForm.{IsFlatOf}
-use Rattle.earley_sets.specs.Recognizer.{Recognizer, IsRecognizer, IsExpected, place_of}
+use Rattle.earley_sets.specs.Recognizer.{Recognizer, IsRecognizer, IsExpected, HasTree, place_of}
 
 -- the expected terminals are those that are acceptable to the checked grammar
 abbrev pub ExpectedAreAcceptable : Type 0
 ExpectedAreAcceptable = (w : Grammar) (r : Recognizer) (start t : ℕ) → IsChecked w → IsFlatOf r.flat w → IsRecognizer r → slice_get w.starts r.start ≡ Some start →
     IsExpected r t ↔ IsAcceptable w (Held r.edges) start t (place_of r)
+
+-- there is a tree exactly where the checked grammar has a derivation of the start
+abbrev pub TreesAreDerivations : Type 0
+TreesAreDerivations = (w : Grammar) (r : Recognizer) (start : ℕ) → IsChecked w → IsFlatOf r.flat w → IsRecognizer r → slice_get w.starts r.start ≡ Some start →
+    HasTree r ↔ ((tree : Tree) × Derives w (Held r.edges) (slot_of start) 0 (place_of r) tree)
