@@ -1,8 +1,8 @@
 -- The one part of a top's rule stands for its start.
-use Rattle.std.proofs.Common.{◌≡◌, ℕ, suc, ◌<◌, List, [], ◌∷◌, map, length, Some, slice_get, refl, sym, ap, ◌∙◌, subst, arith}
+use Rattle.std.proofs.Common.{◌≡◌, ℕ, ◌<◌, List, [], ◌∷◌, map, length, Some, slice_get, refl, sym, subst, arith}
 use Rattle.std.specs.Prelude.{slice_index, slice_index_or}
 use Rattle.grammar_model.specs.Grammar.{Grammar, slot_of}
-use Rattle.recognizer_model.specs.Flat.{FlatGrammar, IsRule, lhs_of, rhs_of, no_rule}
+use Rattle.recognizer_model.specs.Flat.{FlatGrammar, IsRule, rhs_of, no_rule}
 use Rattle.recognizer_model.specs.declared.flat.FlatSymbol.{FlatSymbol}
 use Rattle.recognizer_model.specs.declared.flat.FlatSymbol.TheVariants.{Top}
 use Rattle.recognizer_model.specs.Invariant.{IsFlat}

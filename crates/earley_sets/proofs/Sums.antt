@@ -1,15 +1,15 @@
 -- The flat grammar of ambiguous sums is one.
-use Rattle.std.proofs.Common.{◌≡◌, ◌≢◌, ℕ, zero, suc, ◌-◌, ◌<◌, ◌≤◌, ◌^◌, Bool, true, false, List, [], ◌∷◌, length, Some, None, slice_get, refl, sym, ap, ◌∙◌, subst, arith}
+use Rattle.std.proofs.Common.{◌≡◌, ℕ, zero, suc, ◌-◌, ◌<◌, ◌≤◌, ◌^◌, Bool, false, List, [], ◌∷◌, length, Some, slice_get, refl, sym, ap, ◌∙◌, subst, arith}
 use Rattle.recognizer_model.specs.declared.flat.FlatSymbol.{FlatSymbol}
 use Rattle.recognizer_model.specs.declared.flat.FlatSymbol.TheVariants.{Terminal, Slot, Sequence, Top}
 use Rattle.recognizer_model.specs.declared.flat.FlatSource.TheVariants.{Written, Top as OfStart}
 use Rattle.recognizer_model.specs.FlatRule.{FlatRule}
 use Rattle.earley_sets.specs.Example.{sums}
-use Rattle.recognizer_model.specs.Flat.{FlatGrammar, IsRule, IsNullable, lhs_of, rhs_of, part_of, source_of}
+use Rattle.recognizer_model.specs.Flat.{IsRule, IsNullable, lhs_of, rhs_of, part_of, source_of}
 use Rattle.recognizer_model.specs.Contexts.{IsTop}
 use Rattle.recognizer_model.specs.Acceptable.{IsTerminal, IsProductive, Itself, ByRule, AreProductive, MarksAreClosed, NoTerminalHasRules}
 use Rattle.recognizer_model.specs.Acceptable
-use Rattle.recognizer_model.specs.Invariant.{IsFlat, IsArranged, IsAccessible, Outermost, Below, IsTopOf, HasSource, HasHeights, LeadsOver}
+use Rattle.recognizer_model.specs.Invariant.{IsFlat, IsArranged, IsAccessible, Outermost, Below, IsTopOf, HasSource, LeadsOver}
 
 -- each symbol tells its place
 abbrev key : FlatSymbol → ℕ
