@@ -1,11 +1,13 @@
 #!/usr/bin/env python3
-"""Makes a grammar text of all forms of statements, to time the reading of the grammar language.
+"""Times the reading of grammar texts of all forms of statements, or makes one.
 
-    bench/language.py OUT [--bytes 1048576]
+    bench/language.py [--binary crates/slif/out/slif]      times four sizes up to 1 MiB on the built program
+    bench/language.py --out FILE [--bytes 1048576]         makes one text
 
-The text has at most so many bytes, and is less than one block of statements shorter.
+A text has at most so many bytes, and is less than one block of statements shorter. The program reads it to its end
+and answers `slif: not built yet`.
 """
-import argparse, pathlib
+import argparse, pathlib, subprocess, sys, tempfile, time
 
 HEAD = """# Every form of statement.
 :default ::= action => ::first
@@ -27,22 +29,46 @@ comma{n} ~ ',' | ';' | 'über{n}'
 :lexeme ~ {name} priority => {priority} latm => 0;
 """
 
-def main():
-    options = argparse.ArgumentParser()
-    options.add_argument("out", type=pathlib.Path)
-    options.add_argument("--bytes", type=int, default=1 << 20)
-    options = options.parse_args()
+def text_of(most):
     parts = [HEAD.encode()]
     size = len(parts[0])
     n = 0
     while True:
         block = BLOCK.format(n=n, next=n + 1, name=f"name{n}", priority=n % 7 - 3).encode()
-        if size + len(block) > options.bytes:
-            break
+        if size + len(block) > most:
+            return b"".join(parts)
         parts.append(block)
         size += len(block)
         n += 1
-    options.out.write_bytes(b"".join(parts))
-    print(f"{size} bytes, {n} blocks")
+
+
+def seconds(binary, path):
+    best = None
+    for _ in range(5):
+        begin = time.perf_counter()
+        got = subprocess.run([binary, "run", "--grammar", path, "--show", "tree"], stdin=subprocess.DEVNULL, capture_output=True)
+        spent = time.perf_counter() - begin
+        if (got.returncode, got.stderr) != (6, b"slif: not built yet\n"):
+            sys.exit(f"answered {got.returncode}: {got.stderr!r}")
+        best = spent if best is None else min(best, spent)
+    return best
+
+
+def main():
+    root = pathlib.Path(__file__).resolve().parent.parent
+    options = argparse.ArgumentParser()
+    options.add_argument("--binary", default=str(root / "crates/slif/out/slif"))
+    options.add_argument("--out", type=pathlib.Path)
+    options.add_argument("--bytes", type=int, default=1 << 20)
+    options = options.parse_args()
+    if options.out:
+        options.out.write_bytes(text_of(options.bytes))
+        return
+    with tempfile.TemporaryDirectory() as folder:
+        path = pathlib.Path(folder) / "g.slif"
+        for size in (1 << 17, 1 << 18, 1 << 19, 1 << 20):
+            path.write_bytes(text_of(size))
+            print(f"{path.stat().st_size} bytes: {seconds(options.binary, str(path)) * 1000:.0f} ms")
+
 
 main()

@@ -35,7 +35,7 @@ fn rule(
     lexical: bool,
     at: usize,
 ) -> Result<Statement, AllocError> {
-    let part = word(alloc, part, at + 6)?;
+    let part = word(alloc, part, at.saturating_add(6))?;
     let group = one(alloc, alternative(alloc, part)?)?;
     Ok(Statement::Rules {
         left: word(alloc, left, at)?,
