@@ -3,7 +3,8 @@ use Rattle.std.proofs.Common.{◌≡◌, ℕ, ◌<◌, List, ◌⊎◌, length}
 use Rattle.grammar_model.specs.Simple.{IsSimple as HasSimpleRules}
 use Rattle.language_model.specs.Description.{Statement}
 use Rattle.language_model.specs.Simple.{SimpleLine, IsSimple, IsSimpleDescription, grammar_of_simple}
-use Rattle.run_model.specs.Texts.{HasDescription, TextFault, HasFault}
+use Rattle.language_model.specs.Texts.{HasDescription}
+use Rattle.run_model.specs.Texts.{TextFault, HasFault}
 
 -- a text has one description or one fault; a description is that of one simple grammar or of none, and that can be listed
 pub record TextLaws : Type 0 where

@@ -5,7 +5,7 @@ use Rattle.grammar_model.specs.Trees.{Tree}
 use Rattle.grammar_model.specs.Characters.{IsAllOfCharacters, tree_line}
 use Rattle.language_model.specs.Description.{Statement}
 use Rattle.language_model.specs.Simple.{SimpleLine, IsSimpleDescription, grammar_of_simple}
-use Rattle.run_model.specs.Texts.{HasDescription}
+use Rattle.language_model.specs.Texts.{HasDescription}
 use Rattle.run_model.specs.Words.{Job}
 
 -- the text has a simple description with this grammar, and the job goes on with it

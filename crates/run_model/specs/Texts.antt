@@ -1,30 +1,11 @@
--- What the bytes of a grammar say: a description, or a fault, which is told in one line.
-use Rattle.std.specs.Prelude.{ℕ, ◌≤◌, ◌<◌, ◌++◌, List, length, map, take, chars, codes, decimal, IsUtf8}
+-- Why the bytes of a grammar say nothing: a fault, which is told in one line.
+use Rattle.std.specs.Prelude.{ℕ, ◌≤◌, ◌<◌, ◌++◌, List, length, take, chars, codes, decimal, IsUtf8}
 use Rattle.std.specs.Str.{IsValidUpTo}
 use Rattle.slif_base.specs.Characters.{line_after, column_after}
 use Rattle.language_model.specs.declared.token.Token.{Token}
-use Rattle.language_model.specs.Tokens.{Spelled, AreTokens, IsBadPlace, spelled_at}
-use Rattle.language_model.specs.Description.{Statement, Describes, IsBadStatement}
-
--- the bytes are those of a text, and not too many
-pub record IsText (bytes : List ℕ) : Type 0 where
-  pub within : length bytes ≤ 1048576
-  pub utf8 : IsUtf8 bytes
-
--- the text has these tokens
-pub record HasTokens (bytes : List ℕ) (tokens : List Token) : Type 0 where
-  pub text : IsText bytes
-  pub are : AreTokens (chars bytes) tokens
-
--- what the tokens say
-abbrev pub spelled : List ℕ → List Token → List Spelled
-spelled bytes tokens = map (spelled_at (chars bytes)) tokens
-
--- the text has this description
-pub record HasDescription (bytes : List ℕ) (d : List Statement) : Type 0 where
-  pub tokens : List Token
-  pub has : HasTokens bytes tokens
-  pub described : Describes d (spelled bytes tokens)
+use Rattle.language_model.specs.Tokens.{IsBadPlace}
+use Rattle.language_model.specs.Description.{IsBadStatement}
+use Rattle.language_model.specs.Texts.{IsText, HasTokens, spelled}
 
 -- why there is none, with the place, in bytes or in characters
 pub data TextFault : Type 0 where

@@ -11,7 +11,8 @@ use Rattle.dsl_tokens.proofs.ExistLemmas as tokens
 use Rattle.dsl_tokens.proofs.UniqueLemmas.{one_list, no_bad_place}
 use Rattle.simple_grammar.proofs.DescriptionLemmas.{one_simple, decided}
 use Rattle.simple_grammar.proofs.FormLemmas.{grammar_simple}
-use Rattle.run_model.specs.Texts.{IsText, HasTokens, HasDescription, TextFault, TooLong, NotUtf8, BadToken, BadStatement, HasFault, spelled}
+use Rattle.language_model.specs.Texts.{IsText, HasTokens, HasDescription, spelled}
+use Rattle.run_model.specs.Texts.{TextFault, TooLong, NotUtf8, BadToken, BadStatement, HasFault}
 use Rattle.run_model.proofs.Texts.{TextLaws}
 use Rattle.slif_cli.specs.Stops.{IsListable}
 use Rattle.slif_cli.proofs.Utf8.{broken_at}

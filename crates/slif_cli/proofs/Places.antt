@@ -4,7 +4,8 @@ use Rattle.std.specs.Prelude.{if◌then◌else◌, codes}
 use Rattle.language_model.specs.declared.token.Token.{Token}
 use Rattle.language_model.specs.Tokens.{Spelled, AreTokens, LeadTo, spelled_at}
 use Rattle.language_model.specs.Description.{IsBadStatement, cut, is_some, is_mark, begins_piece, onto_first}
-use Rattle.run_model.specs.Texts.{IsText, BadToken, BadStatement, NotUtf8 as NotText}
+use Rattle.language_model.specs.Texts.{IsText}
+use Rattle.run_model.specs.Texts.{BadToken, BadStatement, NotUtf8 as NotText}
 use Rattle.slif_base.specs.Characters.{RefusesText}
 use Rattle.slif_base.specs.declared.chars.TextRefusal.{TextRefusal}
 use Rattle.slif_base.specs.declared.chars.TextRefusal.TheVariants.{NotUtf8 as BrokenText}
