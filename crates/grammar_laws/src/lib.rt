@@ -1,0 +1,2 @@
+//! Laws of grammars: what contracts end in exists. Each is shown by a contract alone.
+#![tactic(auto)]
