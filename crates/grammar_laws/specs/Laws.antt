@@ -2,6 +2,7 @@
 -- many flat rules, each place has its items, and whether a tree spans two places is decided.
 -- Sources: the usual closures over finite sets of symbols and items; Earley 1970.
 use Rattle.std.specs.Prelude.{◌≡◌, ℕ, ◌<◌, ◌⊎◌, Bool, true, List, Some, slice_get}
+use Rattle.finite_sets.specs.Decided.{IsDecided}
 use Rattle.grammar_model.specs.declared.Edge.{Edge}
 use Rattle.grammar_model.specs.Grammar.{Grammar, Slot}
 use Rattle.grammar_model.specs.Trees.{Tree}
@@ -16,10 +17,6 @@ use Rattle.recognizer_model.specs.Counts.{IsListOf, IsCountOf}
 use Rattle.recognizer_model.specs.Invariant.{IsFlat}
 use Rattle.recognizer_model.specs.FlatForm.{FlatEdges, IsRuleOf, IsFlatOf}
 use Rattle.flat_rules.specs.Flatten.{Decided, named_rules}
-
--- it holds, or it does not
-abbrev pub IsDecided : Type 0 → Type 0
-IsDecided P = P ⊎ (P → ⊥)
 
 abbrev pub GoForward : Edges → Type 0
 GoForward edge = (symbol from to : ℕ) → edge symbol from to → from < to
