@@ -3,3 +3,4 @@ pub mod Tests
 pub mod Faults
 pub mod LeastCycles
 pub mod Checks
+pub mod Flats
