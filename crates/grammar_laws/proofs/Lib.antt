@@ -4,3 +4,4 @@ pub mod Faults
 pub mod LeastCycles
 pub mod Checks
 pub mod Flats
+pub mod ItemSets
