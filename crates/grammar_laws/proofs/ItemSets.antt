@@ -31,7 +31,7 @@ pub some_held : (o : Option ℕ) (P : ℕ → Type 0) → ((x : ℕ) → IsDecid
 some_held None P d = inr (λ (x, e, p). none_some x e)
 some_held (Some y) P d = moved (λ p. (y, refl, p)) (λ (x, e, p). subst P (sym (some_one y x e)) p) (d y)
 
-same_option : (o : Option ℕ) (x : ℕ) → IsDecided (o ≡ Some x)
+pub same_option : (o : Option ℕ) (x : ℕ) → IsDecided (o ≡ Some x)
 same_option None x = inr (λ e. none_some x e)
 same_option (Some y) x = moved (ap Some) (λ e. some_one y x e) (equal y x)
 

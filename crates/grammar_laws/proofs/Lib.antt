@@ -5,3 +5,5 @@ pub mod LeastCycles
 pub mod Checks
 pub mod Flats
 pub mod ItemSets
+pub mod Acceptance
+pub mod Spans

@@ -1,7 +1,7 @@
 //! Laws of grammars: what contracts end in exists. Each is shown by a contract alone, and its function does nothing.
 #![tactic(auto)]
 
-ghost use Rattle.grammar_laws.specs.Laws.{TestsExist, ChecksDecide, DecisionsExist, NamedRulesAreAll, RulesAreCounted};
+ghost use Rattle.grammar_laws.specs.Laws.{TestsExist, ChecksDecide, DecisionsExist, NamedRulesAreAll, RulesAreCounted, ItemSetsExist, AcceptableAreDecided, TreesAreDecided, ToldTreesAreDecided};
 
 /// Of each slot it is decided whether it is nullable, productive and accessible.
 pub fn tests_exist()
@@ -26,4 +26,24 @@ pub fn named_rules_are_all()
 /// There is a number of flat rules.
 pub fn rules_are_counted()
     ensures { RulesAreCounted }
+{}
+
+/// Each place has a list of its items, over edges that go forward.
+pub fn item_sets_exist()
+    ensures { ItemSetsExist }
+{}
+
+/// It is decided whether a terminal is acceptable at a place.
+pub fn acceptable_are_decided()
+    ensures { AcceptableAreDecided }
+{}
+
+/// It is decided whether a tree of a slot spans two places, over the edges of a list.
+pub fn trees_are_decided()
+    ensures { TreesAreDecided }
+{}
+
+/// The same over the edges that a test tells, as those of characters.
+pub fn told_trees_are_decided()
+    ensures { ToldTreesAreDecided }
 {}
