@@ -1,5 +1,5 @@
 -- Decisions of parts, of numbers, and of numbers below a bound.
-use Rattle.std.proofs.Common.{arith, ◌≡◌, ◌⊎◌, inl, inr, ℕ, zero, suc, ◌<◌, ◌≤◌, Bool, true, false, sym, ◌∙◌, subst, refl, true≢false}
+use Rattle.std.proofs.Common.{arith, ◌≡◌, ◌⊎◌, inl, inr, ℕ, zero, suc, ◌<◌, ◌≤◌, Bool, true, false, sym, subst, refl, true≢false}
 use Rattle.finite_sets.specs.Decided.{IsDecided}
 
 pub both : {A B : Type 0} → IsDecided A → IsDecided B → IsDecided (A × B)

@@ -1,5 +1,5 @@
 -- Whether a terminal is acceptable at a place is decided, over edges that are decided and go forward.
-use Rattle.std.proofs.Common.{arith, ◌≡◌, ◌⊎◌, inl, inr, ℕ, zero, suc, ◌<◌, List, [], ◌∷◌, length, Option, Some, None, slice_get, sym, ◌∙◌}
+use Rattle.std.proofs.Common.{arith, ◌≡◌, inr, ℕ, zero, suc, ◌<◌, List, [], ◌∷◌, length, Option, Some, None, slice_get}
 use Rattle.grammar_model.specs.Grammar.{Grammar}
 use Rattle.grammar_model.specs.Derives.{Edges, Held, Line}
 use Rattle.grammar_model.specs.Checked.{IsChecked}

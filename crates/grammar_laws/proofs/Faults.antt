@@ -1,7 +1,7 @@
 -- Whether a grammar has each fault but a cycle is decided, with the least witness.
 use Rattle.std.proofs.Common.{arith, ◌≡◌, ◌≢◌, ◌⊎◌, inl, inr, ℕ, zero, suc, ◌<◌, List, [], ◌∷◌, length, Option, Some, None, slice_get, slice_index_or, Contains, refl, sym, ◌∙◌, ap, subst}
-use Rattle.grammar_model.specs.Grammar.{WrittenRule, PlainRule, SequenceRule, Plain, Sequence, Grammar, slot_of, rule_at, lhs_of, child_slot, slot_count}
-use Rattle.grammar_model.specs.Analysis.{IsNullable, IsProductive}
+use Rattle.grammar_model.specs.Grammar.{WrittenRule, PlainRule, SequenceRule, Plain, Sequence, Grammar, rule_at, lhs_of, child_slot, slot_count}
+use Rattle.grammar_model.specs.Analysis.{IsNullable}
 use Rattle.grammar_model.specs.Checked.{IsLeft, SequencesAreAlone, IsDuplicate, IsCountedNullable, IsShared, IsLeastWith, IsFirstStart}
 use Rattle.finite_sets.specs.Decided.{IsDecided}
 use Rattle.finite_sets.proofs.Deciding.{both, negated, moved, equal, some_below, least_below, least_of}

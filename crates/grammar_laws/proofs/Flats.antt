@@ -1,8 +1,8 @@
 -- What flattening takes from a check exists, and its named rules are all flat rules.
-use Rattle.std.proofs.Common.{arith, ◌≡◌, ◌⊎◌, ◌↔◌, inl, inr, ℕ, suc, ◌+◌, ◌<◌, ◌≤◌, List, [], ◌∷◌, length, refl, ap}
-use Rattle.grammar_model.specs.Grammar.{Grammar, Slot}
+use Rattle.std.proofs.Common.{arith, inl, inr, ℕ, suc, ◌+◌, ◌<◌, List, [], ◌∷◌, length, refl, ap}
+use Rattle.grammar_model.specs.Grammar.{Slot}
 use Rattle.recognizer_model.specs.FlatForm.{IsRuleOf}
-use Rattle.flat_rules.specs.Flatten.{Decided, named_rules}
+use Rattle.flat_rules.specs.Flatten.{named_rules}
 use Rattle.flat_rules.proofs.Once.{listed}
 use Rattle.flat_rules.proofs.Rules.{named_in}
 use Rattle.flat_rules.proofs.Whole.{in_named, once_named}

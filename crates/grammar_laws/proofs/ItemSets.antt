@@ -1,18 +1,18 @@
 -- Each place has a list of its items, over edges that are decided and go forward.
-use Rattle.std.proofs.Common.{arith, ◌≡◌, ◌≢◌, ◌⊎◌, ◌↔◌, inl, inr, ℕ, zero, suc, ◌+◌, ◌<◌, ◌≤◌, Bool, true, false, List, [], ◌∷◌, length, flat_map, Contains, Option, Some, None, slice_get, refl, sym, ◌∙◌, ap, subst}
+use Rattle.std.proofs.Common.{arith, ◌≡◌, ◌⊎◌, inl, inr, ℕ, zero, suc, ◌<◌, ◌≤◌, Bool, true, false, List, [], ◌∷◌, length, flat_map, Option, Some, None, slice_get, refl, sym, ◌∙◌, ap, subst}
 use Rattle.grammar_model.specs.Derives.{Edges, Held}
 use Rattle.grammar_model.specs.declared.Edge.{Edge}
 use Rattle.recognizer_model.specs.declared.Item.{Item}
 use Rattle.recognizer_model.specs.declared.flat.FlatSymbol.{FlatSymbol}
 use Rattle.recognizer_model.specs.declared.flat.FlatSymbol.TheVariants.{Terminal, Slot, Sequence, Top}
-use Rattle.recognizer_model.specs.Flat.{FlatGrammar, IsRule, lhs_of, rhs_of, part_of, IsNullable}
+use Rattle.recognizer_model.specs.Flat.{FlatGrammar, IsRule, lhs_of, rhs_of, IsNullable}
 use Rattle.recognizer_model.specs.FlatForm.{FlatEdges}
 use Rattle.recognizer_model.specs.Items.{after, IsWhole, first_item, advanced, InSet, Start, Predict, Skip, Scan, Complete}
 use Rattle.recognizer_model.specs.Counts.{IsListOf}
 use Rattle.finite_sets.specs.Decided.{IsDecided}
-use Rattle.finite_sets.proofs.Deciding.{both, both_then, one_of, moved, equal, less, some_below, is_true}
+use Rattle.finite_sets.proofs.Deciding.{both, both_then, one_of, moved, equal, less, some_below}
 use Rattle.finite_sets.proofs.Members.{Among, among_from, contains_from, among_flat_map, values, among_values, some_among, member, once_pairs, listed}
-use Rattle.finite_sets.proofs.Rounds.{AreRounds, decided, grown}
+use Rattle.finite_sets.proofs.Rounds.{AreRounds, decided}
 use Rattle.grammar_laws.specs.Laws.{GoForward, ItemSetsExist}
 
 same_item : (x y : Item) → IsDecided (x ≡ y)
@@ -194,11 +194,13 @@ module _ (g : FlatGrammar) (E : Edges) (top : ℕ) (forward : (x p q : ℕ) → 
 
   pub item_set : (j : ℕ) → (xs : List Item) × IsListOf (InSet g E top j) xs
   item_set j =
-      let (xs, (once, is, all)) = listed (InSet g E top j) same_item (items j) (λ item m. item_decided j item) in
-      (xs, record {
-        once = once_pairs xs once;
-        exact = λ item. ((λ c. (is item (among_from xs item c)).1), (λ s. contains_from xs item (all item (in_items j item s) s)));
-      })
+      let (xs, (once, is, all)) = listed (InSet g E top j) same_item (items j) (λ item m. item_decided j item) in (
+        xs,
+        record {
+          once = once_pairs xs once;
+          exact = λ item. ((λ c. (is item (among_from xs item c)).1), (λ s. contains_from xs item (all item (in_items j item s) s)));
+        },
+      )
 
   -- whether an item of the set has a property
   pub some_item : (j : ℕ) (P : Item → Type 0) → ((item : Item) → IsDecided (P item)) → IsDecided ((item : Item) × InSet g E top j item × P item)

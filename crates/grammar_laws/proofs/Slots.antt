@@ -1,9 +1,9 @@
 -- Slots are told apart, those that may count are members of a list, and what rules say of slots is decided by their parts.
-use Rattle.std.proofs.Common.{arith, ◌≡◌, ◌≢◌, ◌⊎◌, inl, inr, ℕ, zero, suc, ◌<◌, ◌≤◌, Bool, true, false, IsFalse, List, [], ◌∷◌, ◌++◌, length, map, flat_map, Contains, Option, Some, None, refl, sym, ◌∙◌, ap, subst}
-use Rattle.grammar_model.specs.Grammar.{WrittenRule, PlainRule, SequenceRule, Plain, Sequence, Grammar, Slot, slot_of, rule_at, lhs_of, level_of, IsTerminal, Fits, child_slot, slot_count, sequence_symbol, EachChildSlot, IsChildSlot}
+use Rattle.std.proofs.Common.{arith, ◌≡◌, ◌≢◌, inl, inr, ℕ, ◌<◌, Bool, true, false, IsFalse, List, ◌++◌, length, map, flat_map, Contains, Option, Some, None, refl, sym, ap, subst}
+use Rattle.grammar_model.specs.Grammar.{WrittenRule, Plain, Sequence, Grammar, Slot, slot_of, rule_at, lhs_of, level_of, IsTerminal, Fits, child_slot, slot_count, sequence_symbol, EachChildSlot, IsChildSlot}
 use Rattle.grammar_model.specs.Analysis.{SomeRule, IsStar, EachNeeded}
 use Rattle.finite_sets.specs.Decided.{IsDecided}
-use Rattle.finite_sets.proofs.Deciding.{both, negated, moved, equal, less, at_most, some_below, each_below}
+use Rattle.finite_sets.proofs.Deciding.{both, negated, moved, equal, at_most, some_below, each_below}
 use Rattle.finite_sets.proofs.Members.{Among, among_from, among_left, among_right, among_map, among_flat_map, values, among_values}
 
 pub same_slot : (s t : Slot) → IsDecided (s ≡ t)

@@ -1,12 +1,12 @@
 -- Whether a tree of a slot spans two places is decided, over edges that are decided and go forward. Trees and the first
 -- children of rules are found round by round. Of a sequence's children it counts whether there are some, and whether their
 -- number is even.
-use Rattle.std.proofs.Common.{arith, ◌≡◌, ◌≢◌, ◌⊎◌, inl, inr, ℕ, zero, suc, ◌+◌, ◌<◌, ◌≤◌, Bool, true, false, not, IsTrue, IsFalse, List, [], ◌∷◌, ◌++◌, length, flat_map, Option, Some, None, refl, sym, ◌∙◌, ap, subst}
+use Rattle.std.proofs.Common.{arith, ◌≡◌, ◌⊎◌, inl, inr, ℕ, zero, suc, ◌+◌, ◌<◌, ◌≤◌, Bool, true, false, not, IsTrue, IsFalse, List, [], ◌∷◌, ◌++◌, length, flat_map, Option, Some, None, refl, sym, ◌∙◌, ap, subst}
 use Rattle.std.proofs.Common.{if◌then◌else◌, option_to_list}
-use Rattle.grammar_model.specs.Grammar.{WrittenRule, PlainRule, SequenceRule, Plain, Sequence, Grammar, Slot, slot_of, rule_at, lhs_of, IsTerminal, Fits, child_slot, slot_count, sequence_symbol, is_even, ends_with_separator, has_trailing, IsChildCount}
+use Rattle.grammar_model.specs.Grammar.{WrittenRule, SequenceRule, Plain, Sequence, Grammar, Slot, slot_of, rule_at, IsTerminal, Fits, child_slot, slot_count, sequence_symbol, is_even, ends_with_separator, IsChildCount}
 use Rattle.grammar_model.specs.Trees.{Tree, Children, Leaf, Nulled, Node, NoChild, Child, child_count}
 use Rattle.grammar_model.specs.Analysis.{IsNullable}
-use Rattle.grammar_model.specs.Derives.{Edges, Held, IsLeaf, IsNulled, IsNode, Derives, DerivesFront}
+use Rattle.grammar_model.specs.Derives.{Edges, Held, Derives, DerivesFront}
 use Rattle.finite_sets.specs.Decided.{IsDecided}
 use Rattle.finite_sets.proofs.Deciding.{both, both_then, one_of, moved, equal, less, at_most, implied, some_below, is_true}
 use Rattle.finite_sets.proofs.Members.{Among, among_left, among_right, among_either, among_flat_map, among_flat_map_from, values, among_values, among_values_from}
@@ -172,16 +172,18 @@ module _ (g : Grammar) (E : Edges) where
 
   next_made : (R : Fact → Type 0) → ((x : Fact) → R x → Made x) → (x : Fact) → Next R x → Made x
   next_made R f (TreeOf s p q) (lt, (i, il, (fits, (c, cl, (count, h))))) =
-      let (cs, d, e) = f (FrontOf i c p q) h in
-      (Node i cs p q, record {
-        from_is = refl;
-        to_is = refl;
-        spans = lt;
-        in_range = il;
-        fits = fits;
-        complete = class_count (rule_at g i) (child_count cs) (subst (IsChildCount (rule_at g i)) (sym e) count);
-        front = d;
-      })
+      let (cs, d, e) = f (FrontOf i c p q) h in (
+        Node i cs p q,
+        record {
+          from_is = refl;
+          to_is = refl;
+          spans = lt;
+          in_range = il;
+          fits = fits;
+          complete = class_count (rule_at g i) (child_count cs) (subst (IsChildCount (rule_at g i)) (sym e) count);
+          front = d;
+        },
+      )
   next_made R f (FrontOf i c p q) (b, bl, ((e, le), (r, rl, (h, t)))) =
       let (cs, d, m) = f (FrontOf i b p r) h in
       let (tree, dt) = f (TreeOf (child_slot (rule_at g i) b) r q) t in
@@ -218,23 +220,25 @@ module _ (g : Grammar) (E : Edges) where
           let (j, a) = front_in front i p r low f in
           let (k, b) = tree_in last (child_slot (rule_at g i) (child_count front)) r q d in
           let order = tree_order last (child_slot (rule_at g i) (child_count front)) r q d in
-          let b' = subst (λ s. In k (TreeOf s r q)) (sym (slot_same (rule_at g i) (child_count front))) b in
-          (suc (j + k), inr (
-            class (rule_at g i) (child_count front),
-            omega (arith, low),
-            (
-              (sym (class_after (rule_at g i) (child_count front)), le),
+          let b' = subst (λ s. In k (TreeOf s r q)) (sym (slot_same (rule_at g i) (child_count front))) b in (
+            suc (j + k),
+            inr (
+              class (rule_at g i) (child_count front),
+              omega (arith, low),
               (
-                r,
-                omega (arith, order),
+                (sym (class_after (rule_at g i) (child_count front)), le),
                 (
-                  grown j k (FrontOf i (class (rule_at g i) (child_count front)) p r) a,
-                  subst (λ n. In n (TreeOf (child_slot (rule_at g i) (class (rule_at g i) (child_count front))) r q)) (let e : k + j ≡ j + k = omega arith in e)
-                  (grown k j (TreeOf (child_slot (rule_at g i) (class (rule_at g i) (child_count front))) r q) b'),
+                  r,
+                  omega (arith, order),
+                  (
+                    grown j k (FrontOf i (class (rule_at g i) (child_count front)) p r) a,
+                    subst (λ n. In n (TreeOf (child_slot (rule_at g i) (class (rule_at g i) (child_count front))) r q)) (let e : k + j ≡ j + k = omega arith in e)
+                        (grown k j (TreeOf (child_slot (rule_at g i) (class (rule_at g i) (child_count front))) r q) b'),
+                  ),
                 ),
               ),
             ),
-          ))
+          )
 
   -- ---- the rounds up to a place
 
