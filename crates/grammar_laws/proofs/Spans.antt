@@ -300,15 +300,18 @@ module _ (g : Grammar) (E : Edges) where
       let (q, ql, e) = among_values_from (λ q. TreeOf s p q) (suc end) x m in
       subst (Known end) e (among_number end p pm, omega (arith, ql))
 
+  front_known : (end i c p q : ℕ) (x : Fact) → FrontOf i c p q ≡ x → i < length g.rules → c ≤ most (rule_at g i) → p ≤ end → q ≤ end → Known end x
+  front_known end i c p q x e il cl pl ql = subst (Known end) e (il, cl, pl, ql)
+
   known_front : (end : ℕ) (x : Fact) → Among x (flat_map (fronts_of end) (values (λ i. i) (length g.rules))) → Known end x
   unfolding fronts_of fronts_by fronts_at
   known_front end x m =
-      let (i, im, m) = among_flat_map_from (fronts_of end) x (values (λ i. i) (length g.rules)) m in
+      let (i, im, mi) = among_flat_map_from (fronts_of end) x (values (λ i. i) (length g.rules)) m in
       let (j, jl, same) = among_values_from (λ i. i) (length g.rules) i im in
-      let (c, cm, m) = among_flat_map_from (fronts_by end i) x (numbers (most (rule_at g i))) m in
-      let (p, pm, m) = among_flat_map_from (fronts_at end i c) x (numbers end) m in
-      let (q, ql, e) = among_values_from (λ q. FrontOf i c p q) (suc end) x m in
-      subst (Known end) e (omega (arith, jl, same), among_number (most (rule_at g i)) c cm, among_number end p pm, omega (arith, ql))
+      let (c, cm, mc) = among_flat_map_from (fronts_by end i) x (numbers (most (rule_at g i))) mi in
+      let (p, pm, mp) = among_flat_map_from (fronts_at end i c) x (numbers end) mc in
+      let (q, ql, e) = among_values_from (λ q. FrontOf i c p q) (suc end) x mp in
+      front_known end i c p q x e (omega (arith, jl, same)) (among_number (most (rule_at g i)) c cm) (among_number end p pm) (omega (arith, ql))
 
   known_among : (end : ℕ) (x : Fact) → Among x (facts end) → Known end x
   unfolding facts
