@@ -20,17 +20,8 @@ use Rattle.recognizer_model.proofs.Paths.{acceptable_are_awaited}
 use Rattle.finite_sets.specs.Decided.{IsDecided}
 use Rattle.finite_sets.proofs.Deciding.{both_then, moved, equal, some_below}
 use Rattle.grammar_laws.specs.Laws.{GoForward, AcceptableAreDecided}
-use Rattle.grammar_laws.proofs.ItemSets.{AreEdgesDecided, same_option, some_item, held_decided, flat_decided, flat_forward}
-
-got_short : (xs : List FlatSymbol) (k : ℕ) (s : FlatSymbol) → slice_get xs k ≡ Some s → k < length xs
-got_short [] k s e = absurd (cc)
-got_short (x ∷ xs) zero s e = omega arith
-got_short (x ∷ xs) (suc k) s e = let lt = got_short xs k s e in omega arith
-
-start_short : (xs : List ℕ) (k s : ℕ) → slice_get xs k ≡ Some s → k < length xs
-start_short [] k s e = absurd (cc)
-start_short (x ∷ xs) zero s e = omega arith
-start_short (x ∷ xs) (suc k) s e = let lt = start_short xs k s e in omega arith
+use Rattle.grammar_laws.proofs.Options.{same_option, got_short}
+use Rattle.grammar_laws.proofs.ItemSets.{AreEdgesDecided, some_item, held_decided, flat_decided, flat_forward}
 
 has_at : (xs : List ℕ) (k : ℕ) → k < length xs → (x : ℕ) × (slice_get xs k ≡ Some x)
 has_at [] k lt = absurd (omega arith)
@@ -61,7 +52,7 @@ module _ (w : Grammar) (f : FlatGrammar) (E : Edges) (edge : AreEdgesDecided E) 
   pub acceptable_decided : (k start t place : ℕ) → slice_get w.starts k ≡ Some start → IsDecided (IsAcceptable w E start t place)
   acceptable_decided k start t place at =
       let all = made.tops_all in
-      let lt = start_short w.starts k start at in
+      let lt = got_short w.starts k start at in
       let (r, top) = has_at f.tops k (omega (arith, all, lt)) in
       acceptable_at k start r t place at top
 

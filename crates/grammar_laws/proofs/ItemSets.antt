@@ -1,5 +1,5 @@
 -- Each place has a list of its items, over edges that are decided and go forward.
-use Rattle.std.proofs.Common.{arith, ◌≡◌, ◌⊎◌, inl, inr, ℕ, zero, suc, ◌<◌, ◌≤◌, Bool, true, false, List, [], ◌∷◌, length, flat_map, Option, Some, None, slice_get, refl, sym, ◌∙◌, ap, subst}
+use Rattle.std.proofs.Common.{arith, ◌≡◌, ◌⊎◌, inl, inr, ℕ, zero, suc, ◌<◌, ◌≤◌, List, ◌∷◌, length, flat_map, Option, Some, None, slice_get, refl, sym, ◌∙◌, ap, subst}
 use Rattle.grammar_model.specs.Derives.{Edges, Held}
 use Rattle.grammar_model.specs.declared.Edge.{Edge}
 use Rattle.recognizer_model.specs.declared.Item.{Item}
@@ -14,36 +14,12 @@ use Rattle.finite_sets.proofs.Deciding.{both, both_then, one_of, moved, equal, l
 use Rattle.finite_sets.proofs.Members.{Among, among_from, contains_from, among_flat_map, values, among_values, some_among, member, once_pairs, listed}
 use Rattle.finite_sets.proofs.Rounds.{AreRounds, decided}
 use Rattle.grammar_laws.specs.Laws.{GoForward, ItemSetsExist}
+use Rattle.grammar_laws.proofs.Options.{some_held, same_option, some_true, got_short}
 
 same_item : (x y : Item) → IsDecided (x ≡ y)
 same_item x y =
     moved (λ (a, (b, c)) i. record { rule = a i; dot = b i; origin = c i }) (λ e. (ap (λ (u : Item). u.rule) e, (ap (λ (u : Item). u.dot) e, ap (λ (u : Item). u.origin) e)))
     (both (equal x.rule y.rule) (both (equal x.dot y.dot) (equal x.origin y.origin)))
-
-some_one : (s t : ℕ) → Some s ≡ Some t → s ≡ t
-some_one s t e = cc
-
-none_some : (s : ℕ) → Path (Option ℕ) None (Some s) → ⊥
-none_some s e = absurd (cc)
-
--- what an option holds has a property
-pub some_held : (o : Option ℕ) (P : ℕ → Type 0) → ((x : ℕ) → IsDecided (P x)) → IsDecided ((x : ℕ) × (o ≡ Some x) × P x)
-some_held None P d = inr (λ (x, e, p). none_some x e)
-some_held (Some y) P d = moved (λ p. (y, refl, p)) (λ (x, e, p). subst P (sym (some_one y x e)) p) (d y)
-
-pub same_option : (o : Option ℕ) (x : ℕ) → IsDecided (o ≡ Some x)
-same_option None x = inr (λ e. none_some x e)
-same_option (Some y) x = moved (ap Some) (λ e. some_one y x e) (equal y x)
-
-some_true : (o : Option Bool) → IsDecided (o ≡ Some true)
-some_true None = inr (λ e. absurd (cc))
-some_true (Some true) = inl refl
-some_true (Some false) = inr (λ e. absurd (cc))
-
-got_short : (xs : List ℕ) (k s : ℕ) → slice_get xs k ≡ Some s → k < length xs
-got_short [] k s e = absurd (none_some s e)
-got_short (x ∷ xs) zero s e = omega arith
-got_short (x ∷ xs) (suc k) s e = let lt = got_short xs k s e in omega arith
 
 abbrev pub AreEdgesDecided : Edges → Type 0
 AreEdgesDecided E = (x p q : ℕ) → IsDecided (E x p q)

@@ -1,3 +1,4 @@
+pub mod Options
 pub mod Slots
 pub mod Tests
 pub mod Faults
@@ -7,3 +8,5 @@ pub mod Flats
 pub mod ItemSets
 pub mod Acceptance
 pub mod Spans
+pub mod Flattening
+pub mod Applied

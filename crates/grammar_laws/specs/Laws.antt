@@ -17,6 +17,7 @@ use Rattle.recognizer_model.specs.Counts.{IsListOf, IsCountOf}
 use Rattle.recognizer_model.specs.Invariant.{IsFlat}
 use Rattle.recognizer_model.specs.FlatForm.{FlatEdges, IsRuleOf, IsFlatOf}
 use Rattle.flat_rules.specs.Flatten.{Decided, named_rules}
+use Rattle.flat_rules.specs.Flattened.{IsFlattened, HasTooMany}
 
 abbrev pub GoForward : Edges → Type 0
 GoForward edge = (symbol from to : ℕ) → edge symbol from to → from < to
@@ -43,6 +44,10 @@ NamedRulesAreAll = (g : Grammar) (d : Decided g) → IsListOf (IsRuleOf g) (name
 
 abbrev pub RulesAreCounted : Type 0
 RulesAreCounted = (g : Grammar) → (n : ℕ) × IsCountOf (IsRuleOf g) n
+
+-- a checked grammar is flattened, or it would have too many flat rules
+abbrev pub FlatteningDecides : Type 0
+FlatteningDecides = (w : Grammar) → IsChecked w → ((f : FlatGrammar) × IsFlattened w f) ⊎ HasTooMany w
 
 -- each place has a list of its items
 abbrev pub ItemSetsExist : Type 0

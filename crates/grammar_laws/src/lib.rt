@@ -1,7 +1,8 @@
 //! Laws of grammars: what contracts end in exists. Each is shown by a contract alone, and its function does nothing.
 #![tactic(auto)]
 
-ghost use Rattle.grammar_laws.specs.Laws.{TestsExist, ChecksDecide, DecisionsExist, NamedRulesAreAll, RulesAreCounted, ItemSetsExist, AcceptableAreDecided, TreesAreDecided, ToldTreesAreDecided};
+ghost use Rattle.grammar_laws.specs.Applied.{LawsApply};
+ghost use Rattle.grammar_laws.specs.Laws.{TestsExist, ChecksDecide, DecisionsExist, NamedRulesAreAll, RulesAreCounted, FlatteningDecides, ItemSetsExist, AcceptableAreDecided, TreesAreDecided, ToldTreesAreDecided};
 
 /// Of each slot it is decided whether it is nullable, productive and accessible.
 pub fn tests_exist()
@@ -28,6 +29,11 @@ pub fn rules_are_counted()
     ensures { RulesAreCounted }
 {}
 
+/// A checked grammar is flattened, or it would have too many flat rules.
+pub fn flattening_decides()
+    ensures { FlatteningDecides }
+{}
+
 /// Each place has a list of its items, over edges that go forward.
 pub fn item_sets_exist()
     ensures { ItemSetsExist }
@@ -46,4 +52,9 @@ pub fn trees_are_decided()
 /// The same over the edges that a test tells, as those of characters.
 pub fn told_trees_are_decided()
     ensures { ToldTreesAreDecided }
+{}
+
+/// The laws at ambiguous sums, at a rule that is its own part, and at a grammar of lists.
+pub fn laws_apply()
+    ensures { LawsApply }
 {}
