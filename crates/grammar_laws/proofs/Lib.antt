@@ -7,6 +7,7 @@ pub mod Checks
 pub mod Flats
 pub mod ItemSets
 pub mod Acceptance
+pub mod Facts
 pub mod Spans
 pub mod Flattening
 pub mod Applied
