@@ -81,7 +81,7 @@ laws_apply = record {
   lists_counted = counted;
   lists_flattened = flattened;
   lists_placed = item_sets_exist flat_lists tokens 13 3 forward;
-  lists_acceptable = acceptable_are_decided lists flat_lists tokens 0 0 4 3 passed lists_have_flat_grammar.flat lists_have_flat_grammar.made forward refl;
+  lists_acceptable = acceptable_are_decided lists tokens 0 4 3 passed forward;
   lists_spanned = trees_are_decided lists tokens (slot_of 0) 0 3 forward;
   sums_spanned = told_trees_are_decided sums (is_at (2 ∷ 1 ∷ 2 ∷ 1 ∷ 2 ∷ [])) (slot_of 0) 0 5 (told_forward (2 ∷ 1 ∷ 2 ∷ 1 ∷ 2 ∷ []));
 }

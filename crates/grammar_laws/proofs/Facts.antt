@@ -6,9 +6,9 @@ use Rattle.grammar_model.specs.Grammar.{WrittenRule, SequenceRule, Plain, Sequen
 use Rattle.grammar_model.specs.Trees.{Tree, Children, Leaf, Nulled, Node, NoChild, Child, child_count}
 use Rattle.grammar_model.specs.Analysis.{IsNullable, IsProductive}
 use Rattle.grammar_model.proofs.Productive.{productive}
-use Rattle.grammar_model.specs.Derives.{Edges, Held, Derives, DerivesFront}
+use Rattle.grammar_model.specs.Derives.{Edges, Derives, DerivesFront}
 use Rattle.finite_sets.specs.Decided.{IsDecided}
-use Rattle.finite_sets.proofs.Deciding.{both, both_then, one_of, moved, equal, less, at_most, implied, some_below, is_true}
+use Rattle.finite_sets.proofs.Deciding.{both, both_then, one_of, equal, less, at_most, implied, some_below, is_true}
 use Rattle.finite_sets.proofs.Members.{Among, among_left, among_right, among_either, among_flat_map, among_flat_map_from, values, among_values, among_values_from}
 use Rattle.finite_sets.proofs.Rounds.{AreRounds, decided}
 use Rattle.grammar_laws.specs.Laws.{GoForward}
@@ -196,23 +196,25 @@ module _ (g : Grammar) (E : Edges) (Free : ℕ → Slot → Type 0) where
           let (j, a) = front_in front i p r low f in
           let (k, b) = tree_in last (child_slot (rule_at g i) (child_count front)) r q d in
           let order = rise r q (tree_order last (child_slot (rule_at g i) (child_count front)) r q d) in
-          let b' = subst (λ s. In k (TreeOf s (move r) (move q))) (sym (slot_same (rule_at g i) (child_count front))) b in
-          (suc (j + k), inr (
-            class (rule_at g i) (child_count front),
-            omega (arith, low),
-            (
-              (sym (class_after (rule_at g i) (child_count front)), le),
+          let b' = subst (λ s. In k (TreeOf s (move r) (move q))) (sym (slot_same (rule_at g i) (child_count front))) b in (
+            suc (j + k),
+            inr (
+              class (rule_at g i) (child_count front),
+              omega (arith, low),
               (
-                move r,
-                omega (arith, order),
+                (sym (class_after (rule_at g i) (child_count front)), le),
                 (
-                  grown j k (FrontOf i (class (rule_at g i) (child_count front)) (move p) (move r)) a,
-                  subst (λ n. In n (TreeOf (child_slot (rule_at g i) (class (rule_at g i) (child_count front))) (move r) (move q))) (let e : k + j ≡ j + k = omega arith in e)
-                  (grown k j (TreeOf (child_slot (rule_at g i) (class (rule_at g i) (child_count front))) (move r) (move q)) b'),
+                  move r,
+                  omega (arith, order),
+                  (
+                    grown j k (FrontOf i (class (rule_at g i) (child_count front)) (move p) (move r)) a,
+                    subst (λ n. In n (TreeOf (child_slot (rule_at g i) (class (rule_at g i) (child_count front))) (move r) (move q))) (let e : k + j ≡ j + k = omega arith in e)
+                        (grown k j (TreeOf (child_slot (rule_at g i) (class (rule_at g i) (child_count front))) (move r) (move q)) b'),
+                  ),
                 ),
               ),
             ),
-          ))
+          )
 
   -- ---- the rounds up to a place
 

@@ -178,12 +178,6 @@ module _ (g : FlatGrammar) (E : Edges) (top : ℕ) (forward : (x p q : ℕ) → 
         },
       )
 
-  -- whether an item of the set has a property
-  pub some_item : (j : ℕ) (P : Item → Type 0) → ((item : Item) → IsDecided (P item)) → IsDecided ((item : Item) × InSet g E top j item × P item)
-  some_item j P d =
-      moved (λ (item, m, (s, p)). (item, s, p)) (λ (item, s, p). (item, in_items j item s, (s, p)))
-      (some_among (λ item. InSet g E top j item × P item) (items j) (λ item m. both (item_decided j item) (d item)))
-
 -- ---- edges of a list
 
 same_edge : (x y : Edge) → IsDecided (x ≡ y)

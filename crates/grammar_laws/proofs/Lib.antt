@@ -6,8 +6,8 @@ pub mod LeastCycles
 pub mod Checks
 pub mod Flats
 pub mod ItemSets
-pub mod Acceptance
 pub mod Facts
+pub mod Acceptance
 pub mod Spans
 pub mod Flattening
 pub mod Applied

@@ -1,20 +1,15 @@
 -- Whether a tree of a slot spans two places is decided, over edges that are decided and go forward.
-use Rattle.std.proofs.Common.{arith, ◌≡◌, ◌⊎◌, inl, inr, ℕ, zero, suc, ◌+◌, ◌<◌, ◌≤◌, Bool, true, false, not, IsTrue, IsFalse, List, [], ◌∷◌, ◌++◌, length, flat_map, Option, Some, None, refl, sym, ◌∙◌, ap, subst}
-use Rattle.std.proofs.Common.{if◌then◌else◌, option_to_list}
-use Rattle.grammar_model.specs.Grammar.{WrittenRule, SequenceRule, Plain, Sequence, Grammar, Slot, slot_of, rule_at, IsTerminal, Fits, child_slot, slot_count, sequence_symbol, is_even, ends_with_separator, IsChildCount}
+use Rattle.std.proofs.Common.{arith, ◌≡◌, inl, inr, ℕ, zero, suc, ◌+◌, refl, sym, ◌∙◌, ap, subst}
+use Rattle.grammar_model.specs.Grammar.{Grammar, Slot, rule_at, child_slot, IsChildCount}
 use Rattle.grammar_model.specs.Trees.{Tree, Children, Leaf, Nulled, Node, NoChild, Child, child_count}
 use Rattle.grammar_model.specs.Analysis.{IsNullable}
 use Rattle.grammar_model.specs.Derives.{Edges, Held, Derives, DerivesFront}
 use Rattle.finite_sets.specs.Decided.{IsDecided}
-use Rattle.finite_sets.proofs.Deciding.{both, both_then, one_of, moved, equal, less, at_most, implied, some_below, is_true}
-use Rattle.finite_sets.proofs.Members.{Among, among_left, among_right, among_either, among_flat_map, among_flat_map_from, values, among_values, among_values_from}
-use Rattle.finite_sets.proofs.Rounds.{AreRounds, decided}
+use Rattle.finite_sets.proofs.Deciding.{moved, is_true}
 use Rattle.grammar_laws.specs.Laws.{GoForward, Told, TreesAreDecided, ToldTreesAreDecided}
-use Rattle.grammar_laws.proofs.Slots.{slots, child_among, fits_decided, terminal_decided, false_or}
 use Rattle.grammar_laws.proofs.Facts.{class, after, class_zero, class_after, class_count, slot_same, Fact, TreeOf, FrontOf, Base, Next, In, tree_in, fact_decided}
 use Rattle.grammar_laws.proofs.Tests.{nullable_decided}
 use Rattle.grammar_laws.proofs.ItemSets.{AreEdgesDecided, held_decided}
-
 
 module _ (g : Grammar) (E : Edges) where
   abbrev Free : ℕ → Slot → Type 0

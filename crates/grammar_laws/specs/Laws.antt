@@ -1,7 +1,7 @@
 -- That what contracts end in exists: what slots can do is decided, a grammar passes the check or has a refusal, it has so
 -- many flat rules, each place has its items, and whether a tree spans two places is decided.
 -- Sources: the usual closures over finite sets of symbols and items; Earley 1970.
-use Rattle.std.specs.Prelude.{◌≡◌, ℕ, ◌<◌, ◌⊎◌, Bool, true, List, Some, slice_get}
+use Rattle.std.specs.Prelude.{◌≡◌, ℕ, ◌<◌, ◌⊎◌, Bool, true, List}
 use Rattle.finite_sets.specs.Decided.{IsDecided}
 use Rattle.grammar_model.specs.declared.Edge.{Edge}
 use Rattle.grammar_model.specs.Grammar.{Grammar, Slot}
@@ -14,8 +14,7 @@ use Rattle.recognizer_model.specs.declared.Item.{Item}
 use Rattle.recognizer_model.specs.Flat.{FlatGrammar}
 use Rattle.recognizer_model.specs.Items.{InSet}
 use Rattle.recognizer_model.specs.Counts.{IsListOf, IsCountOf}
-use Rattle.recognizer_model.specs.Invariant.{IsFlat}
-use Rattle.recognizer_model.specs.FlatForm.{FlatEdges, IsRuleOf, IsFlatOf}
+use Rattle.recognizer_model.specs.FlatForm.{FlatEdges, IsRuleOf}
 use Rattle.flat_rules.specs.Flatten.{Decided, named_rules}
 use Rattle.flat_rules.specs.Flattened.{IsFlattened, HasTooMany}
 
@@ -55,8 +54,7 @@ ItemSetsExist = (f : FlatGrammar) (edges : List Edge) (top j : ℕ) → GoForwar
 
 -- whether a terminal is acceptable at a place
 abbrev pub AcceptableAreDecided : Type 0
-AcceptableAreDecided = (w : Grammar) (f : FlatGrammar) (edges : List Edge) (k start t place : ℕ) → IsChecked w → IsFlat f → IsFlatOf f w → GoForward (Held edges) →
-    slice_get w.starts k ≡ Some start → IsDecided (IsAcceptable w (Held edges) start t place)
+AcceptableAreDecided = (w : Grammar) (edges : List Edge) (start t place : ℕ) → IsChecked w → GoForward (Held edges) → IsDecided (IsAcceptable w (Held edges) start t place)
 
 -- whether a tree of a slot spans two places, over the edges of a list and over those that a test tells
 abbrev pub TreesAreDecided : Type 0
