@@ -100,3 +100,13 @@ module _ (P : ℕ → Type 0) where
   -- where it holds of some number, it holds of a least one
   pub least_of : ((i : ℕ) → IsDecided (P i)) → (n : ℕ) → P n → (i : ℕ) × P i × ((j : ℕ) → j < i → P j → ⊥)
   least_of d n p = elim (least_below (suc n) (λ i lt. d i)) [ inl (i, lt, q, none) ↦ (i, q, none) | inr none ↦ absurd (none n (omega arith) p) ]
+
+  -- the greatest below the bound of which it holds, or none
+  pub greatest_below : (n : ℕ) → ((i : ℕ) → i < n → IsDecided (P i)) → ((i : ℕ) × (i < n) × P i × ((j : ℕ) → j < n → P j → j ≤ i)) ⊎ ((i : ℕ) → i < n → P i → ⊥)
+  greatest_below zero d = inr (λ i lt p. absurd (omega arith))
+  greatest_below (suc n) d = go (d n (omega arith)) (greatest_below n (λ i lt. d i (omega arith)))
+    where
+      go : IsDecided (P n) → ((i : ℕ) × (i < n) × P i × ((j : ℕ) → j < n → P j → j ≤ i)) ⊎ ((i : ℕ) → i < n → P i → ⊥) → ((i : ℕ) × (i < suc n) × P i × ((j : ℕ) → j < suc n → P j → j ≤ i)) ⊎ ((i : ℕ) → i < suc n → P i → ⊥)
+      go (inl p) r = inl (n, omega arith, p, (λ j lt q. omega (arith, lt)))
+      go (inr p) (inl (i, lt, q, most)) = inl (i, omega (arith, lt), q, (λ j l h. elim (same_or_below j n l) [ inl low ↦ most j low h | inr e ↦ absurd (p (subst P e h)) ]))
+      go (inr p) (inr none) = inr (λ i l h. elim (same_or_below i n l) [ inl low ↦ none i low h | inr e ↦ p (subst P e h) ])

@@ -4,3 +4,4 @@ pub mod Choosing
 pub mod Rounds
 pub mod Walks
 pub mod Numbers
+pub mod Sorting

@@ -12,8 +12,8 @@ use Rattle.recognizer_model.proofs.Moved.{moved as moved_tree, moved_all, count-
 use Rattle.recognizer_model.proofs.Words.{line_forward, spells-append}
 use Rattle.grammar_check.proofs.Rounds.{item_first}
 use Rattle.finite_sets.specs.Decided.{IsDecided}
-use Rattle.finite_sets.proofs.Deciding.{both, one_of, moved, equal, at_most}
-use Rattle.grammar_laws.specs.Laws.{GoForward, AcceptableAreDecided}
+use Rattle.finite_sets.proofs.Deciding.{both, one_of, moved, equal, at_most, is_true}
+use Rattle.grammar_laws.specs.Laws.{GoForward, Told, AcceptableAreDecided, ToldAcceptableAreDecided}
 use Rattle.grammar_laws.proofs.Tests.{nullable_decided, productive_decided}
 use Rattle.grammar_laws.proofs.Facts.{class, after, class_zero, class_after, class_count, slot_same, Fact, TreeOf, FrontOf, Base, Next, In, tree_in, fact_decided}
 use Rattle.grammar_laws.proofs.ItemSets.{AreEdgesDecided, held_decided}
@@ -323,3 +323,6 @@ module _ (g : Grammar) (E : Edges) (forward : GoForward E) (t p : ℕ) where
 
 pub acceptable_are_decided : AcceptableAreDecided
 acceptable_are_decided w edges start t place checked forward = acceptable_decided w (Held edges) forward t place checked.items_span (held_decided edges) start
+
+pub told_acceptable_are_decided : ToldAcceptableAreDecided
+told_acceptable_are_decided w test start t place checked forward = acceptable_decided w (Told test) forward t place checked.items_span (λ s a b. is_true (test s a b)) start

@@ -52,9 +52,12 @@ FlatteningDecides = (w : Grammar) → IsChecked w → ((f : FlatGrammar) × IsFl
 abbrev pub ItemSetsExist : Type 0
 ItemSetsExist = (f : FlatGrammar) (edges : List Edge) (top j : ℕ) → GoForward (Held edges) → (items : List Item) × IsListOf (InSet f (FlatEdges f (Held edges)) top j) items
 
--- whether a terminal is acceptable at a place
+-- whether a terminal is acceptable at a place, over the edges of a list and over those that a test tells
 abbrev pub AcceptableAreDecided : Type 0
 AcceptableAreDecided = (w : Grammar) (edges : List Edge) (start t place : ℕ) → IsChecked w → GoForward (Held edges) → IsDecided (IsAcceptable w (Held edges) start t place)
+
+abbrev pub ToldAcceptableAreDecided : Type 0
+ToldAcceptableAreDecided = (w : Grammar) (test : ℕ → ℕ → ℕ → Bool) (start t place : ℕ) → IsChecked w → GoForward (Told test) → IsDecided (IsAcceptable w (Told test) start t place)
 
 -- whether a tree of a slot spans two places, over the edges of a list and over those that a test tells
 abbrev pub TreesAreDecided : Type 0

@@ -2,7 +2,7 @@
 #![tactic(auto)]
 
 ghost use Rattle.grammar_laws.specs.Applied.{LawsApply};
-ghost use Rattle.grammar_laws.specs.Laws.{TestsExist, ChecksDecide, DecisionsExist, NamedRulesAreAll, RulesAreCounted, FlatteningDecides, ItemSetsExist, AcceptableAreDecided, TreesAreDecided, ToldTreesAreDecided};
+ghost use Rattle.grammar_laws.specs.Laws.{TestsExist, ChecksDecide, DecisionsExist, NamedRulesAreAll, RulesAreCounted, FlatteningDecides, ItemSetsExist, AcceptableAreDecided, ToldAcceptableAreDecided, TreesAreDecided, ToldTreesAreDecided};
 
 /// Of each slot it is decided whether it is nullable, productive and accessible.
 pub fn tests_exist()
@@ -39,9 +39,14 @@ pub fn item_sets_exist()
     ensures { ItemSetsExist }
 {}
 
-/// It is decided whether a terminal is acceptable at a place.
+/// It is decided whether a terminal is acceptable at a place of a checked grammar, over the edges of a list.
 pub fn acceptable_are_decided()
     ensures { AcceptableAreDecided }
+{}
+
+/// The same over the edges that a test tells.
+pub fn told_acceptable_are_decided()
+    ensures { ToldAcceptableAreDecided }
 {}
 
 /// It is decided whether a tree of a slot spans two places, over the edges of a list.
