@@ -1,5 +1,5 @@
 -- Members of lists, and searches among them.
-use Rattle.std.proofs.Common.{arith, ◌≡◌, ◌≢◌, ◌⊎◌, inl, inr, ℕ, zero, suc, ◌<◌, List, [], ◌∷◌, ◌++◌, map, length, sym, ◌∙◌, ap, subst, refl, Contains, AllPairs, flat_map, slice_index_or}
+use Rattle.std.proofs.Common.{arith, ◌≡◌, ◌≢◌, ◌⊎◌, inl, inr, ℕ, zero, suc, ◌<◌, ◌≤◌, List, [], ◌∷◌, ◌++◌, map, length, sym, ◌∙◌, ap, subst, refl, Contains, AllPairs, flat_map, slice_index_or}
 use Rattle.finite_sets.specs.Decided.{IsDecided}
 use Rattle.finite_sets.proofs.Deciding.{both, one_of, moved}
 
@@ -124,6 +124,10 @@ once_pairs (x ∷ xs) h i zero d lt within e = omega arith
 once_pairs (x ∷ xs) h zero (suc j) d lt within e = h.0 (subst (λ z. Among z xs) (sym e) (among_at xs j d (omega arith)))
 once_pairs (x ∷ xs) h (suc i) (suc j) d lt within e = once_pairs xs h.1 i j d (omega arith) (omega arith) e
 
+pub pairs_once : {X : Type 0} (xs : List X) → AllPairs (λ x y. x ≢ y) xs → Once xs
+pairs_once [] h = tt
+pairs_once (x ∷ xs) h = ((λ m. let (k, lt, e) = contains_from xs x m in h 0 (suc k) x (omega arith) (omega (arith, lt)) (sym e)), pairs_once xs (λ i j d lt within. h (suc i) (suc j) d (omega (arith, lt)) (omega (arith, within))))
+
 -- a list without one of its elements
 pub without : {X : Type 0} (x : X) (xs : List X) → Among x xs →
     (ys : List X) × (suc (length ys) ≡ length xs) × ((y : X) → Among y xs → (x ≡ y) ⊎ Among y ys) × ((y : X) → Among y ys → Among y xs)
@@ -146,6 +150,14 @@ without {X} x (z ∷ zs) (inr m) = by (without x zs m)
         back' : (y : X) → Among y (z ∷ ys) → Among y (z ∷ zs)
         back' y (inl f) = inl f
         back' y (inr n) = inr (back y n)
+
+-- elements that are each there once are no more than those of a list that has them all
+pub once_most : {X : Type 0} (xs ys : List X) → Once xs → ((x : X) → Among x xs → Among x ys) → length xs ≤ length ys
+once_most [] ys once inside = omega arith
+once_most (x ∷ xs) ys (fresh, once) inside =
+    let (zs, shorter, parted, back) = without x ys (inside x (inl refl)) in
+    let le = once_most xs zs once (λ y m. elim (parted y (inside y (inr m))) [ inl same ↦ absurd (fresh (subst (λ z. Among z xs) (sym same) m)) | inr there ↦ there ]) in
+    omega (arith, le, shorter)
 
 -- the elements of which P holds, each once
 module _ {X : Type 0} (P : X → Type 0) (same : (x y : X) → IsDecided (x ≡ y)) where

@@ -44,6 +44,9 @@ NamedRulesAreAll = (g : Grammar) (d : Decided g) → IsListOf (IsRuleOf g) (name
 abbrev pub RulesAreCounted : Type 0
 RulesAreCounted = (g : Grammar) → (n : ℕ) × IsCountOf (IsRuleOf g) n
 
+abbrev pub RuleCountIsOne : Type 0
+RuleCountIsOne = (g : Grammar) (m n : ℕ) → IsCountOf (IsRuleOf g) m → IsCountOf (IsRuleOf g) n → m ≡ n
+
 -- a checked grammar is flattened, or it would have too many flat rules
 abbrev pub FlatteningDecides : Type 0
 FlatteningDecides = (w : Grammar) → IsChecked w → ((f : FlatGrammar) × IsFlattened w f) ⊎ HasTooMany w

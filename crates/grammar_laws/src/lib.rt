@@ -2,7 +2,7 @@
 #![tactic(auto)]
 
 ghost use Rattle.grammar_laws.specs.Applied.{LawsApply};
-ghost use Rattle.grammar_laws.specs.Laws.{TestsExist, ChecksDecide, DecisionsExist, NamedRulesAreAll, RulesAreCounted, FlatteningDecides, ItemSetsExist, AcceptableAreDecided, ToldAcceptableAreDecided, TreesAreDecided, ToldTreesAreDecided};
+ghost use Rattle.grammar_laws.specs.Laws.{TestsExist, ChecksDecide, DecisionsExist, NamedRulesAreAll, RulesAreCounted, RuleCountIsOne, FlatteningDecides, ItemSetsExist, AcceptableAreDecided, ToldAcceptableAreDecided, TreesAreDecided, ToldTreesAreDecided};
 
 /// Of each slot it is decided whether it is nullable, productive and accessible.
 pub fn tests_exist()
@@ -27,6 +27,11 @@ pub fn named_rules_are_all()
 /// There is a number of flat rules.
 pub fn rules_are_counted()
     ensures { RulesAreCounted }
+{}
+
+/// There is no other number of flat rules.
+pub fn rule_count_is_one()
+    ensures { RuleCountIsOne }
 {}
 
 /// A checked grammar is flattened, or it would have too many flat rules.
