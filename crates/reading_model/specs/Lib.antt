@@ -1,0 +1,4 @@
+pub mod Accepted
+pub mod Matches
+pub mod Reading
+pub mod Laws
