@@ -1,0 +1,7 @@
+pub mod Deciding
+pub mod Members
+pub mod Choosing
+pub mod Rounds
+pub mod Walks
+pub mod Numbers
+pub mod Sorting
