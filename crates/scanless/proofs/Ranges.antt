@@ -1,5 +1,5 @@
 -- Each place in a table is one of its list.
-use Rattle.std.proofs.Common.{◌≡◌, ℕ, zero, suc, ◌+◌, ◌<◌, ◌≤◌, Bool, true, false, cond, List, [], ◌∷◌, ◌++◌, length, length-append, map, refl, sym, ap, ◌∙◌, subst, arith, All}
+use Rattle.std.proofs.Common.{◌≡◌, ℕ, zero, suc, ◌+◌, ◌<◌, ◌≤◌, Bool, true, false, cond, List, [], ◌∷◌, ◌++◌, length, length-append, refl, sym, ap, ◌∙◌, subst, arith, All}
 use Rattle.std.specs.Prelude.{not, filter, decimal, ◌||◌}
 use Rattle.std.specs.List.{list_any, position_or_len}
 use Rattle.std.specs.Str.{bytes_eq}
@@ -7,7 +7,6 @@ use Rattle.std.proofs.lemmas.Slice.Eq.{bytes_eq-Decides}
 use Rattle.std.proofs.lemmas.List.Elements.{All-nil, All-cons, All-weaker, All-map}
 use Rattle.std.proofs.lemmas.List.Folds.{list_any-append}
 use Rattle.recognizer_model.proofs.FlatNamed.{map_length}
-use Rattle.language_model.specs.Classes.{Class}
 use Rattle.language_model.specs.Description.{Statement}
 use Rattle.language_model.specs.Building.{Built, LexemeRow, built_of, is_one_of, place_in, symbols_g1, lexemes, lexeme_row, left_names, start_texts, discarded, named_l0, sets_l0, set_names, count_from, numbered_from}
 use Rattle.language_model.specs.Texts.{IsBuilt}
