@@ -12,6 +12,7 @@ ghost use Rattle.reading_model.specs.Accepted.{IsAccepted};
 ghost use Rattle.scanless.specs.Abilities.{IsAbility};
 ghost use Rattle.scanless.specs.Faults.{IsFault, IsRefusal};
 ghost use Rattle.scanless.specs.Prepared.{IsLexicalForm};
+ghost use Rattle.scanless.specs.Tables.{AreTables};
 
 use crate::PrepareRefusal;
 use crate::abilities::Ability;
@@ -92,6 +93,7 @@ impl Prepared {
     pub fn known(&self)
         ensures built { IsBuilt self.now }
         ensures accepted { IsAccepted self.now }
+        ensures tables { AreTables self.now }
     {
         let _ = &self.built;
     }

@@ -1,4 +1,4 @@
-use Rattle.std.proofs.Common.{◌≡◌, ◌∙◌, sym, ap, subst, refl, arith, [], ◌∷◌, ◌++◌, None, Some}
+use Rattle.std.proofs.Common.{◌≡◌, ◌∙◌, ap, arith, [], ◌∷◌, ◌++◌, None}
 use Rattle.valuator.specs.Rows.{plain_rule, list_rule, list_in_brackets}
 use Rattle.valuator.proofs.RowLemmas.{list_in_brackets_steps, list_in_brackets_meaning, five_spans}
 use Rattle.valuator.proofs.rows.hidden_parts_and_separators_are_not_shown.Goals as goal

@@ -1,4 +1,4 @@
-use Rattle.std.proofs.Common.{◌≡◌, ◌∙◌, [], ◌∷◌, ◌++◌, ap, length}
+use Rattle.std.proofs.Common.{◌∙◌, [], ◌∷◌, ◌++◌, ap}
 use Rattle.grammar_model.specs.Values.{value_of}
 use Rattle.value_text.specs.Meaning.{meaning_of}
 use Rattle.valuator.specs.Play.{tokens_of}

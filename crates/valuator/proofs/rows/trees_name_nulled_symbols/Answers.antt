@@ -1,4 +1,4 @@
-use Rattle.std.proofs.Common.{◌≡◌, ◌∙◌, sym, ap, subst, refl, arith, [], ◌∷◌, ◌++◌, None}
+use Rattle.std.proofs.Common.{◌≡◌, ◌∙◌, ap, arith, [], ◌∷◌, ◌++◌, None}
 use Rattle.valuator.specs.Rows.{plain_rule, begins_nulled}
 use Rattle.valuator.proofs.RowLemmas.{begins_nulled_steps, begins_nulled_meaning, one_span}
 use Rattle.valuator.proofs.rows.trees_name_nulled_symbols.Goals as goal

@@ -1,5 +1,5 @@
-use Rattle.std.proofs.Common.{◌≡◌, ◌∙◌, sym, ap, subst, refl, arith, [], ◌∷◌, ◌++◌, None, Some}
-use Rattle.valuator.specs.Rows.{plain_rule, list_rule, one_part}
+use Rattle.std.proofs.Common.{◌≡◌, ◌∙◌, ap, arith, [], ◌∷◌, ◌++◌, None}
+use Rattle.valuator.specs.Rows.{plain_rule, one_part}
 use Rattle.valuator.proofs.RowLemmas.{one_part_steps, one_part_meaning, one_span}
 use Rattle.valuator.proofs.rows.values_held_before_stay_below.Goals as goal
 
