@@ -123,7 +123,7 @@ module _ (f : Forest) (is : IsForest f) where
   abbrev pub lists : Lists
   lists n = at (slice_get f.nodes n)
 
-  node_list : (n : ℕ) (k : NodeKey) → IsNode f n k → lists n ≡ key_list k
+  pub node_list : (n : ℕ) (k : NodeKey) → IsNode f n k → lists n ≡ key_list k
   node_list n k (node, e, h) = ap at e ∙ ap key_list h
 
   node_rule : (n : ℕ) (k : NodeKey) → IsNode f n k → rule_of (slice_get f.nodes n) ≡ k.rule
@@ -306,7 +306,7 @@ module _ (f : Forest) (is : IsForest f) where
           exact = λ t. (λ h. back a.symbol b.start key.end t ((all.each t).0 h), λ d. (all.each t).1 (viewed d));
         })
 
-  node_among : (n : ℕ) (node : ForestNode) → slice_get f.nodes n ≡ Some node → Contains f.nodes node
+  pub node_among : (n : ℕ) (node : ForestNode) → slice_get f.nodes n ≡ Some node → Contains f.nodes node
   node_among n node e = contains_from f.nodes node (get_among f.nodes n node e)
 
   pub equal : AreLists f lists

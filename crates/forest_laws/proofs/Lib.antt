@@ -1,4 +1,4 @@
 pub mod Lists
 pub mod Fronts
 pub mod Exact
-
+pub mod One
