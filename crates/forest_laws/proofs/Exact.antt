@@ -36,10 +36,9 @@ use Rattle.forest_model.specs.Listing.{IsListing}
 use Rattle.forest_laws.specs.Lists.{Lists, last_symbol, rule_of, fronts_by, whole_by, lasts_by, alternative_by, node_by, AreLists, roots_by, trees_by}
 use Rattle.forest_laws.specs.Laws.{AreAllSpans, AreAllTrees, AreAllLists, ForestsHaveLists}
 use Rattle.forest_laws.proofs.Lists.{flat_map_map, flat_map_same, flat_map_both, only_one, get_among, among_get, get_there, get_first, append_nil}
+use Rattle.forest_laws.proofs.Reading
+use Rattle.forest_laws.proofs.Reading.{D, rule_there}
 use Rattle.forest_laws.proofs.Fronts.{AllFronts, front_unique, one_front, behind, one_more, all_fronts, nodes_of, nodes_all}
-
-abbrev D : Grammar.Grammar → Edges → Slot → ℕ → ℕ → Tree → Type 0
-D = Derives.Derives
 
 sorted_as : {X : Type 0} (R S : X → X → Ordering) → ((x y : X) → R x y ≡ S x y) → (xs : List X) → IsStrictlySortedBy R xs → IsStrictlySortedBy S xs
 sorted_as R S e xs s = let same : R ≡ S = λ i x y. e x y i in subst (λ c. IsStrictlySortedBy c xs) same s
@@ -58,12 +57,6 @@ same_start high end m n =
     let b = same_place high n end in
     λ i. ordering_then (nat_cmp (a i) (b i)) (nat_cmp n m)
 
--- a rule with a part is there
-rule_there : (rules : List FlatRule) (r d x : ℕ) → slice_get (slice_index_or rules r no_rule).rhs d ≡ Some x → r < length rules
-rule_there [] r d x e = cc
-rule_there (y ∷ ys) zero d x e = omega arith
-rule_there (y ∷ ys) (suc r) d x e = let h = rule_there ys r d x e in omega arith
-
 module _ (f : Forest) (is : IsForest f) where
   abbrev g : FlatGrammar
   g = f.flat
@@ -80,38 +73,38 @@ module _ (f : Forest) (is : IsForest f) where
   abbrev flat : IsFlat f.flat
   flat = is.derived.flat
 
-  pub laws : IsRuleOrder (flat_order f.written f.ranking f.flat)
-  laws = flat_order_laws f.written f.ranking f.flat
+  abbrev pub laws : IsRuleOrder (flat_order f.written f.ranking f.flat)
+  laws = Reading.laws f is.derived
 
-  pub held_forward : (s p q : ℕ) → Held f.edges s p q → p < q
-  held_forward s p q h = is.derived.forward (record { symbol = s; from = p; to = q }) h
+  abbrev held_forward : (s p q : ℕ) → Held f.edges s p q → p < q
+  held_forward = Reading.held_forward f is.derived
 
-  pub forward : GoForward (edges_of f)
-  forward x p q e = held_forward e.0 p q e.2
+  abbrev pub forward : GoForward (edges_of f)
+  forward = Reading.forward f is.derived
 
-  pub only : OnlyTerminals f.flat (edges_of f)
-  only x p q e = (e.0, e.1)
+  abbrev only : OnlyTerminals f.flat (edges_of f)
+  only = Reading.only f is.derived
 
-  viewed : {x p q : ℕ} {t : Tree} → FlatDerives.Derives g E x p q t → D F E (slot_of x) p q t
-  viewed d = symbol_viewed g flat.marks E only flat.no_rules flat.terminals_span d
+  abbrev viewed : {x p q : ℕ} {t : Tree} → FlatDerives.Derives g E x p q t → D F E (slot_of x) p q t
+  viewed d = Reading.viewed f is.derived d
 
-  back : (x p q : ℕ) (t : Tree) → D F E (slot_of x) p q t → FlatDerives.Derives g E x p q t
-  back x p q t d = symbol_back g flat.marks E only flat.no_rules flat.terminals_span t (slot_of x) p q d
+  abbrev back : (x p q : ℕ) (t : Tree) → D F E (slot_of x) p q t → FlatDerives.Derives g E x p q t
+  back = Reading.back f is.derived
 
-  front_viewed : {r d p q : ℕ} {cs : Children} → IsRule g r → Spans g E r d p q cs → DerivesFront F E (rule_at F r) p q cs × (child_count cs ≡ d)
-  front_viewed rule s = parts_viewed g flat.marks E only flat.no_rules flat.terminals_span rule s
+  abbrev front_viewed : {r d p q : ℕ} {cs : Children} → IsRule g r → Spans g E r d p q cs → DerivesFront F E (rule_at F r) p q cs × (child_count cs ≡ d)
+  front_viewed rule s = Reading.front_viewed f is.derived rule s
 
-  front_back : (cs : Children) (r : ℕ) → IsRule g r → (p q : ℕ) → child_count cs ≤ length (rhs_of g r) → DerivesFront F E (rule_at F r) p q cs → Spans g E r (child_count cs) p q cs
-  front_back cs r rule p q le d = parts_back g flat.marks E only flat.no_rules flat.terminals_span cs r rule p q le d
+  abbrev front_back : (cs : Children) (r : ℕ) → IsRule g r → (p q : ℕ) → child_count cs ≤ length (rhs_of g r) → DerivesFront F E (rule_at F r) p q cs → Spans g E r (child_count cs) p q cs
+  front_back = Reading.front_back f is.derived
 
-  pub exact : (slot : Slot) (p q : ℕ) → (trees : List Tree) × IsAll F E order slot p q trees
-  exact slot p q = flat_list f.flat f.written flat f.ranking f.edges held_forward slot p q
+  abbrev pub exact : (slot : Slot) (p q : ℕ) → (trees : List Tree) × IsAll F E order slot p q trees
+  exact = Reading.exact f is.derived
 
   abbrev pub All : (r n p q : ℕ) → List Children → Type 0
   All r n p q xs = AllFronts F E forward order laws (rule_at F r) (order.null_high r) n p q xs
 
   abbrev pub spans : (r n p q : ℕ) → (cs : List Children) × All r n p q cs
-  spans r n p q = all_fronts F E forward order laws exact (rule_at F r) (order.null_high r) n p q
+  spans r n p q = Reading.spans f is.derived r n p q
 
   abbrev pub key_list : NodeKey → List Children
   key_list k = (spans k.rule k.dot k.origin k.end).0

@@ -1,4 +1,5 @@
 pub mod Lists
 pub mod Fronts
+pub mod Reading
 pub mod Exact
 pub mod One
