@@ -3,3 +3,7 @@ pub mod Fronts
 pub mod Reading
 pub mod Exact
 pub mod One
+pub mod Chosen
+pub mod Used
+pub mod Moved
+pub mod Existing

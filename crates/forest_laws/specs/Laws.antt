@@ -1,12 +1,12 @@
 -- Laws of forests: what the nodes stand for is there, is one, and is all that their keys say, in the declared order.
-use Rattle.std.specs.Prelude.{◌≡◌, ℕ, ◌<◌, ◌↔◌, List, length, Some, slice_get, Contains}
+use Rattle.std.specs.Prelude.{◌≡◌, ℕ, ◌<◌, ◌↔◌, List, length, Option, Some, slice_get, Contains}
 use Rattle.std.specs.List.Sorted.{IsStrictlySortedBy}
 use Rattle.grammar_model.specs.Trees.{Tree, Children}
 use Rattle.grammar_model.specs.Order.{children_cmp, tree_cmp}
 use Rattle.recognizer_model.specs.declared.NodeKey.{NodeKey}
 use Rattle.recognizer_model.specs.FlatForm.{flat_order}
 use Rattle.recognizer_model.specs.FlatDerives.{Derives, Spans}
-use Rattle.forest_model.specs.Forest.{Alternative, ForestNode, Forest, edges_of, ranks_high, IsForest}
+use Rattle.forest_model.specs.Forest.{Alternative, ForestNode, Forest, edges_of, ranks_high, IsDerived, IsForest}
 use Rattle.forest_model.specs.Listing.{IsListing}
 use Rattle.forest_laws.specs.Lists.{Lists, AreLists, last_symbol, lasts_by, trees_by}
 
@@ -35,3 +35,11 @@ ForestsHaveLists = (f : Forest) → IsForest f → (lists : Lists) × AreAllList
 -- whatever its nodes may stand for, it is the same
 abbrev pub ListsAreOne : Type 0
 ListsAreOne = (f : Forest) → IsForest f → (lists others : Lists) → AreLists f lists → AreLists f others → (n : ℕ) → n < length f.nodes → lists n ≡ others n
+
+-- a forest of the same reading
+abbrev pub with_nodes : Forest → List ForestNode → Option ℕ → Forest
+with_nodes f nodes root = record { written = f.written; flat = f.flat; start = f.start; edges = f.edges; place = f.place; ranking = f.ranking; nodes = nodes; root = root }
+
+-- each reading with a derivation has a forest
+abbrev pub ForestsExist : Type 0
+ForestsExist = (f : Forest) → IsDerived f → (nodes : List ForestNode) × (root : Option ℕ) × IsForest (with_nodes f nodes root)

@@ -1,7 +1,12 @@
 //! Laws of the shared packed forest: what its nodes stand for. Each is shown by a contract alone, and its function does nothing.
 #![tactic(auto)]
 
-ghost use Rattle.forest_laws.specs.Laws.{ForestsHaveLists, ListsAreOne};
+ghost use Rattle.forest_laws.specs.Laws.{ForestsExist, ForestsHaveLists, ListsAreOne};
+
+/// Each reading with a derivation has a forest.
+pub fn forests_exist()
+    ensures { ForestsExist }
+{}
 
 /// The nodes of a forest stand for lists: of each node all child lists of its key, of each last part all its trees, and of the whole
 /// all derivations of the reading, in the declared order.
