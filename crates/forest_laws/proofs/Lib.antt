@@ -7,3 +7,4 @@ pub mod Chosen
 pub mod Used
 pub mod Moved
 pub mod Existing
+pub mod Applied

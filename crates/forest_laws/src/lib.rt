@@ -1,6 +1,7 @@
 //! Laws of the shared packed forest: what its nodes stand for. Each is shown by a contract alone, and its function does nothing.
 #![tactic(auto)]
 
+ghost use Rattle.forest_laws.specs.Applied.{ForestsApply};
 ghost use Rattle.forest_laws.specs.Laws.{ForestsExist, ForestsHaveLists, ListsAreOne};
 
 /// Each reading with a derivation has a forest.
@@ -17,4 +18,9 @@ pub fn forests_have_lists()
 /// The nodes of a forest stand for nothing else.
 pub fn lists_are_one()
     ensures { ListsAreOne }
+{}
+
+/// The laws at a reading with two derivations.
+pub fn forests_apply()
+    ensures { ForestsApply }
 {}
