@@ -8,3 +8,4 @@ pub mod Used
 pub mod Moved
 pub mod Existing
 pub mod Applied
+pub mod Walked

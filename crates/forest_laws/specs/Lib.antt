@@ -1,3 +1,5 @@
 pub mod Lists
 pub mod Laws
 pub mod Applied
+pub mod Goals
+pub mod Walked

@@ -3,6 +3,7 @@
 
 ghost use Rattle.forest_laws.specs.Applied.{ForestsApply};
 ghost use Rattle.forest_laws.specs.Laws.{ForestsExist, ForestsHaveLists, ListsAreOne};
+ghost use Rattle.forest_laws.specs.Walked.{ForestsAreWalked};
 
 /// Each reading with a derivation has a forest.
 pub fn forests_exist()
@@ -23,4 +24,9 @@ pub fn lists_are_one()
 /// The laws at a reading with two derivations.
 pub fn forests_apply()
     ensures { ForestsApply }
+{}
+
+/// A walk through a forest, which goes on from the last choice that has a later option, comes to each derivation once, in the declared order.
+pub fn forests_are_walked()
+    ensures { ForestsAreWalked }
 {}

@@ -1,0 +1,262 @@
+-- Walks through a forest: options in order, and what is still to come.
+use Rattle.std.proofs.Common.{◌≡◌, ℕ, zero, suc, ◌<◌, List, [], ◌∷◌, ◌++◌, map, length, ◌⊎◌, inl, inr, Option, Some, None, refl, sym, ap, ◌∙◌, subst, arith}
+use Rattle.std.specs.Prelude.{slice_get, Contains}
+use Rattle.std.specs.List.{flat_map}
+use Rattle.grammar_model.specs.Trees.{Tree, Children, Leaf, Nulled, Node, NoChild, Child, child_count}
+use Rattle.grammar_model.specs.Steps.{Step, TokenStep, NulledStep, RuleStep, steps_of, steps_of_all}
+use Rattle.grammar_model.proofs.Lists.{Among, among_from, contains_from, among_map_from}
+use Rattle.recognizer_model.specs.FlatDerives.{Spans, More}
+use Rattle.recognizer_model.specs.FlatDerives
+use Rattle.recognizer_model.specs.Flat.{FlatGrammar}
+use Rattle.grammar_model.specs.Derives.{Edges}
+use Rattle.forest_model.specs.Forest.{Last, AnEdge, Nothing, Wholes, Alternative, ForestNode, Forest, edges_of, IsNode, IsFront, IsLast, IsRoot, AreWholes, AreAlternatives, IsForest}
+use Rattle.forest_laws.specs.Lists.{Lists, last_symbol, rule_of, fronts_by, whole_by, lasts_by, alternative_by, node_by, roots_by}
+use Rattle.forest_laws.specs.Laws.{AreAllLists}
+use Rattle.forest_laws.specs.Goals.{Goal, Parts, OneOf, Write, count_of, front_goals, last_goals, whole_goals, alternative_goals, node_options, options, IsGoal, AreGoals, root_goals, steps_from, Done, Wrote, Chose, Walks, Ended, Writes, Chooses, written, later_steps, to_come, AreSpent, GoalsAreChosen, WalksGoOn}
+use Rattle.forest_laws.specs.Walked.{IsWalked, ForestsAreWalked}
+use Rattle.forest_laws.proofs.Lists.{flat_map_map, flat_map_same, get_among, among_get, get_there, append_nil}
+use Rattle.recognizer_model.proofs.FlatNamed.{get_index}
+
+-- ---- lists
+
+assoc : {X : Type 0} (xs ys zs : List X) → (xs ++ ys) ++ zs ≡ xs ++ (ys ++ zs)
+assoc [] ys zs = refl
+assoc (x ∷ xs) ys zs = ap (λ l. x ∷ l) (assoc xs ys zs)
+
+map_both : {X Y : Type 0} (f : X → Y) (xs ys : List X) → map f (xs ++ ys) ≡ map f xs ++ map f ys
+map_both f [] ys = refl
+map_both f (x ∷ xs) ys = ap (λ l. f x ∷ l) (map_both f xs ys)
+
+map_map : {X Y Z : Type 0} (f : X → Y) (h : Y → Z) (k : X → Z) → ((x : X) → h (f x) ≡ k x) → (xs : List X) → map h (map f xs) ≡ map k xs
+map_map f h k e [] = refl
+map_map f h k e (x ∷ xs) =
+    let a = e x in
+    let b = map_map f h k e xs in
+    λ i. a i ∷ b i
+
+map_id : {X : Type 0} (f : X → X) → ((x : X) → f x ≡ x) → (xs : List X) → map f xs ≡ xs
+map_id f e [] = refl
+map_id f e (x ∷ xs) =
+    let a = e x in
+    let b = map_id f e xs in
+    λ i. a i ∷ b i
+
+map_same : {X Y : Type 0} (f h : X → Y) → ((x : X) → f x ≡ h x) → (xs : List X) → map f xs ≡ map h xs
+map_same f h e [] = refl
+map_same f h e (x ∷ xs) =
+    let a = e x in
+    let b = map_same f h e xs in
+    λ i. a i ∷ b i
+
+flat_both : {X Y : Type 0} (f : X → List Y) (xs ys : List X) → flat_map f (xs ++ ys) ≡ flat_map f xs ++ flat_map f ys
+flat_both f [] ys = refl
+flat_both f (x ∷ xs) ys = ap (λ l. f x ++ l) (flat_both f xs ys) ∙ sym (assoc (f x) (flat_map f xs) (flat_map f ys))
+
+flat_flat : {X Y Z : Type 0} (f : X → List Y) (h : Y → List Z) (xs : List X) → flat_map h (flat_map f xs) ≡ flat_map (λ x. flat_map h (f x)) xs
+flat_flat f h [] = refl
+flat_flat f h (x ∷ xs) = flat_both h (f x) (flat_map f xs) ∙ ap (λ l. flat_map h (f x) ++ l) (flat_flat f h xs)
+
+map_flat : {X Y Z : Type 0} (f : X → List Y) (h : Y → Z) (xs : List X) → map h (flat_map f xs) ≡ flat_map (λ x. map h (f x)) xs
+map_flat f h [] = refl
+map_flat f h (x ∷ xs) = map_both h (f x) (flat_map f xs) ∙ ap (λ l. map h (f x) ++ l) (map_flat f h xs)
+
+-- ---- walks, whatever the lists are
+
+module _ (f : Forest) (lists : Lists) where
+  abbrev S : List Goal → List (List Step)
+  S = steps_from f lists
+
+  spent : (done : List Done) → AreSpent done → to_come f lists done ≡ []
+  spent [] h = refl
+  spent (Wrote step ∷ done) h = ap (map (λ rest. step ∷ rest)) (spent done h)
+  spent (Chose later behind ∷ done) (e, h) =
+      let a = spent done h in
+      λ i. a i ++ later_steps f lists behind (e i)
+
+  next : (front back new : List Done) (option behind : List Goal) (later : List (List Goal)) → AreSpent back → S (option ++ behind) ≡ written new ∷ to_come f lists new →
+      to_come f lists (front ++ Chose (option ∷ later) behind ∷ back) ≡ written (front ++ Chose later behind ∷ new) ∷ to_come f lists (front ++ Chose later behind ∷ new)
+  next [] back new option behind later h e =
+      let a = spent back h in
+      λ i. a i ++ (e i ++ later_steps f lists behind later)
+  next (Wrote step ∷ front) back new option behind later h e = ap (map (λ rest. step ∷ rest)) (next front back new option behind later h e)
+  next (Chose others others' ∷ front) back new option behind later h e = ap (λ l. l ++ later_steps f lists others' others) (next front back new option behind later h e)
+
+  module _ (choices : GoalsAreChosen f lists) where
+    goals_both : (xs ys : List Goal) → AreGoals f xs → AreGoals f ys → AreGoals f (xs ++ ys)
+    goals_both [] ys a b = b
+    goals_both (x ∷ xs) ys a b = (a.0, goals_both xs ys a.1 b)
+
+    contains_mid : {X : Type 0} (xs ys : List X) (x : X) → Contains (xs ++ x ∷ ys) x
+    contains_mid xs ys x = contains_from (xs ++ x ∷ ys) x (Rattle.grammar_model.proofs.Lists.among_right x xs (x ∷ ys) (inl refl))
+
+    no_step : (goal : Goal) (option : List Goal) (earlier later : List (List Goal)) → options f goal ≡ earlier ++ option ∷ later → (step : Step) → goal ≡ Write step → ⊥
+    no_step goal option [] later e step is = let h : [] ≡ option ∷ later = sym (ap (options f) is) ∙ e in cc
+    no_step goal option (o ∷ earlier) later e step is = let h : [] ≡ o ∷ (earlier ++ option ∷ later) = sym (ap (options f) is) ∙ e in cc
+
+    place : (goals : List Goal) (done : List Done) → AreGoals f goals → Walks f goals done → (before : List (List Step)) × (S goals ≡ before ++ written done ∷ to_come f lists done)
+    place goals done are Ended = ([], refl)
+    place goals done are (Writes {step = step} {goals = goals'} {done = done'} w) =
+        let (before, e) = place goals' done' are.1 w in
+        (map (λ rest. step ∷ rest) before, ap (map (λ rest. step ∷ rest)) e ∙ map_both (λ rest. step ∷ rest) before (written done' ∷ to_come f lists done'))
+    place goals done are (Chooses {goal = goal} {goals = goals'} {done = done'} option earlier later e w) =
+        let inside = choices.kept goal option are.0 (subst (λ l. Contains l option) (sym e) (contains_mid earlier later option)) in
+        let (before, is) = place (option ++ goals') done' (goals_both option goals' inside are.1) w in
+        let all = choices.chosen goal goals' are.0 (no_step goal option earlier later e) ∙ ap (later_steps f lists goals') e ∙ flat_both (λ o. S (o ++ goals')) earlier (option ∷ later) in
+        (
+          later_steps f lists goals' earlier ++ before,
+          all ∙ ap (λ l. later_steps f lists goals' earlier ++ (l ++ later_steps f lists goals' later)) is
+          ∙ ap (λ l. later_steps f lists goals' earlier ++ l) (assoc before (written done' ∷ to_come f lists done') (later_steps f lists goals' later))
+          ∙ sym (assoc (later_steps f lists goals' earlier) before (written done' ∷ (to_come f lists done' ++ later_steps f lists goals' later))),
+        )
+
+
+-- ---- the goals of a forest
+
+count_is : {g : FlatGrammar} {E : Edges} {r d p q : ℕ} {cs : Children} → Spans g E r d p q cs → child_count cs ≡ d
+count_is FlatDerives.Nothing = refl
+count_is (More s e t) = ap suc (count_is s)
+
+there : {X : Type 0} (xs : List X) (n : ℕ) → n < length xs → (x : X) × (slice_get xs n ≡ Some x)
+there [] n lt = absurd (omega arith)
+there (x ∷ xs) zero lt = (x, refl)
+there (x ∷ xs) (suc n) lt = there xs n (omega arith)
+
+within : {X : Type 0} (xs : List X) (n : ℕ) (x : X) → slice_get xs n ≡ Some x → n < length xs
+within [] n x e = cc
+within (y ∷ ys) zero x e = omega arith
+within (y ∷ ys) (suc n) x e = let h = within ys n x e in omega arith
+
+module _ (f : Forest) (lists : Lists) (is : IsForest f) (all : AreAllLists f lists) where
+  counted : (n : ℕ) → n < length f.nodes → (cs : Children) → Among cs (lists n) → child_count cs ≡ count_of (slice_get f.nodes n)
+  counted n lt cs m =
+      let (node, e) = there f.nodes n lt in
+      count_is (((all.nodes n node e).exact cs).0 (contains_from (lists n) cs m)) ∙ sym (ap count_of e)
+
+  module _ (goals : List Goal) where
+    abbrev after : List (List Step)
+    after = steps_from f lists goals
+
+    abbrev with_children : Children → List (List Step)
+    with_children cs = map (λ rest. steps_of_all cs ++ rest) (steps_from f lists goals)
+
+    abbrev with_tree : Tree → List (List Step)
+    with_tree t = map (λ rest. steps_of t ++ rest) (steps_from f lists goals)
+
+    last_one : (x m q : ℕ) (l : Last) → steps_from f lists (last_goals x m q l ++ goals) ≡ flat_map with_tree (lasts_by f lists x m q l)
+    last_one x m q AnEdge = sym (append_nil (map (λ rest. TokenStep x m q ∷ rest) after))
+    last_one x m q Nothing = sym (append_nil (map (λ rest. NulledStep x m ∷ rest) after))
+    last_one x m q (Wholes nodes) = refl
+
+    front_one : (front : Option ℕ) (more : List Goal) → steps_from f lists (front_goals front ++ more) ≡ flat_map (λ cs. map (λ rest. steps_of_all cs ++ rest) (steps_from f lists more)) (fronts_by lists front)
+    front_one None more = sym (append_nil (map (λ rest. rest) (steps_from f lists more)) ∙ map_id (λ rest. rest) (λ x. refl) (steps_from f lists more))
+    front_one (Some n) more = refl
+
+    one_more : (front : Children) (trees : List Tree) → map (λ rest. steps_of_all front ++ rest) (flat_map with_tree trees) ≡ flat_map with_children (map (Child front) trees)
+    one_more front trees =
+        map_flat with_tree (λ rest. steps_of_all front ++ rest) trees
+        ∙ flat_map_same (λ t. map (λ rest. steps_of_all front ++ rest) (with_tree t)) (λ t. with_children (Child front t)) trees
+        (λ t m. map_map (λ rest. steps_of t ++ rest) (λ rest. steps_of_all front ++ rest) (λ rest. (steps_of_all front ++ steps_of t) ++ rest) (λ x. sym (assoc (steps_of_all front) (steps_of t) x)) after)
+        ∙ sym (flat_map_map (Child front) with_children trees)
+
+    alternative_one : (node : ForestNode) (a : Alternative) →
+        flat_map with_children (alternative_by f lists (last_symbol f node.key) node.key.end a) ≡ steps_from f lists (alternative_goals f node a ++ goals)
+    alternative_one node a =
+        let trees : List Tree = lasts_by f lists (last_symbol f node.key) a.start node.key.end a.last in
+        let ends : List Goal = last_goals (last_symbol f node.key) a.start node.key.end a.last in
+        flat_flat (λ front. map (Child front) (lasts_by f lists (last_symbol f node.key) a.start node.key.end a.last)) with_children (fronts_by lists a.front)
+        ∙ sym (ap (steps_from f lists) (assoc (front_goals a.front) ends goals) ∙ front_one a.front (ends ++ goals)
+        ∙ ap (λ (l : List (List Step)). flat_map (λ cs. map (λ rest. steps_of_all cs ++ rest) l) (fronts_by lists a.front)) (last_one (last_symbol f node.key) a.start node.key.end a.last)
+        ∙ flat_map_same (λ cs. map (λ rest. steps_of_all cs ++ rest) (flat_map with_tree trees)) (λ cs. flat_map with_children (map (Child cs) trees)) (fronts_by lists a.front) (λ cs m. one_more cs trees))
+
+    parts_chosen : (n : ℕ) (node : ForestNode) → slice_get f.nodes n ≡ Some node → steps_from f lists (Parts n ∷ goals) ≡ later_steps f lists goals (options f (Parts n))
+    parts_chosen n node e =
+        ap (flat_map with_children) (all.equal n node e)
+        ∙ flat_flat (alternative_by f lists (last_symbol f node.key) node.key.end) with_children node.alternatives
+        ∙ flat_map_same (λ a. flat_map with_children (alternative_by f lists (last_symbol f node.key) node.key.end a)) (λ a. steps_from f lists (alternative_goals f node a ++ goals)) node.alternatives (λ a m. alternative_one node a)
+        ∙ sym (flat_map_map (alternative_goals f node) (λ option. steps_from f lists (option ++ goals)) node.alternatives)
+        ∙ ap (λ o. later_steps f lists goals (node_options f o)) (sym e)
+
+    whole_one : (m q n : ℕ) → n < length f.nodes → flat_map with_tree (whole_by f lists m q n) ≡ steps_from f lists (whole_goals f m q n ++ goals)
+    whole_one m q n lt =
+        let r : ℕ = rule_of (slice_get f.nodes n) in
+        let c : ℕ = count_of (slice_get f.nodes n) in
+        flat_map_map (λ cs. Node (rule_of (slice_get f.nodes n)) cs m q) with_tree (lists n)
+        ∙ flat_map_same (λ cs. with_tree (Node r cs m q)) (λ cs. map (λ rest. steps_of_all cs ++ rest) (map (λ rest. RuleStep r c m q ∷ rest) after)) (lists n)
+        (λ cs i. sym (map_map (λ rest. RuleStep r c m q ∷ rest) (λ rest. steps_of_all cs ++ rest) (λ rest. (steps_of_all cs ++ RuleStep r (child_count cs) m q ∷ []) ++ rest)
+        (λ x. ap (λ k. steps_of_all cs ++ RuleStep r k m q ∷ x) (sym (counted n lt cs i)) ∙ sym (assoc (steps_of_all cs) (RuleStep r (child_count cs) m q ∷ []) x)) after))
+
+    wholes_chosen : (m q : ℕ) (nodes : List ℕ) → ((n : ℕ) → Contains nodes n → n < length f.nodes) → steps_from f lists (OneOf m q nodes ∷ goals) ≡ later_steps f lists goals (options f (OneOf m q nodes))
+    wholes_chosen m q nodes inside =
+        flat_flat (whole_by f lists m q) with_tree nodes
+        ∙ flat_map_same (λ n. flat_map with_tree (whole_by f lists m q n)) (λ n. steps_from f lists (whole_goals f m q n ++ goals)) nodes (λ n i. whole_one m q n (inside n (contains_from nodes n i)))
+        ∙ sym (flat_map_map (whole_goals f m q) (λ option. steps_from f lists (option ++ goals)) nodes)
+
+  goal_chosen : (goal : Goal) (goals : List Goal) → IsGoal f goal → ((step : Step) → goal ≡ Write step → ⊥) → steps_from f lists (goal ∷ goals) ≡ later_steps f lists goals (options f goal)
+  goal_chosen (Parts n) goals lt other = let (node, e) = there f.nodes n lt in parts_chosen goals n node e
+  goal_chosen (OneOf m q nodes) goals inside other = wholes_chosen goals m q nodes inside
+  goal_chosen (Write step) goals h other = absurd (other step refl)
+
+  is_node : (n : ℕ) (k : _) → IsNode f n k → n < length f.nodes
+  is_node n k (node, e, same) = within f.nodes n node e
+
+  fronts_kept : (rule dot origin m : ℕ) (front : Option ℕ) → IsFront f rule dot origin m front → AreGoals f (front_goals front)
+  fronts_kept rule dot origin m None h = tt
+  fronts_kept rule dot origin m (Some n) h = (is_node n _ h.1, tt)
+
+  lasts_kept : (x m q : ℕ) (y : ℕ) (l : Last) → IsLast f x m q l → AreGoals f (last_goals y m q l)
+  lasts_kept x m q y AnEdge h = (tt, tt)
+  lasts_kept x m q y Nothing h = (tt, tt)
+  lasts_kept x m q y (Wholes nodes) h = (inside, tt)
+    where
+      inside : (n : ℕ) → Contains nodes n → n < length f.nodes
+      inside n c =
+          let (i, e) = among_get nodes n (among_from nodes n c) in
+          let (r, e') = get_there nodes h.rules i n h.all e in
+          is_node n _ (h.each i n r e e')
+
+  both : (xs ys : List Goal) → AreGoals f xs → AreGoals f ys → AreGoals f (xs ++ ys)
+  both [] ys a b = b
+  both (x ∷ xs) ys a b = (a.0, both xs ys a.1 b)
+
+  goal_kept : (goal : Goal) (option : List Goal) → IsGoal f goal → Contains (options f goal) option → AreGoals f option
+  goal_kept (Parts n) option lt c =
+      let (node, e) = there f.nodes n lt in
+      let here = subst (λ o. Contains (node_options f o) option) e c in
+      let (a, i, same) = among_map_from (alternative_goals f node) option node.alternatives (among_from _ option here) in
+      let alternatives = is.alternatives node (contains_from f.nodes node (get_among f.nodes n node e)) in
+      let one = alternatives.each a (contains_from node.alternatives a i) in
+      subst (AreGoals f) same (both (front_goals a.front) (last_goals (last_symbol f node.key) a.start node.key.end a.last)
+      (fronts_kept node.key.rule alternatives.dot node.key.origin a.start a.front one.front) (lasts_kept alternatives.symbol a.start node.key.end (last_symbol f node.key) a.last one.last))
+  goal_kept (OneOf m q nodes) option inside c =
+      let (n, i, same) = among_map_from (whole_goals f m q) option nodes (among_from _ option c) in
+      subst (AreGoals f) same (inside n (contains_from nodes n i), (tt, tt))
+  goal_kept (Write step) option h c = absurd (among_from [] option c)
+
+  choices : GoalsAreChosen f lists
+  choices = record { chosen = goal_chosen; kept = goal_kept }
+
+  alone : (trees : List Tree) → flat_map (λ t. map (λ rest. steps_of t ++ rest) ([] ∷ [])) trees ≡ map steps_of trees
+  alone [] = refl
+  alone (t ∷ trees) =
+      let a = append_nil (steps_of t) in
+      let b = alone trees in
+      λ i. a i ∷ b i
+
+  root_kept : (root : Option ℕ) → IsRoot f root → AreGoals f (root_goals f root)
+  root_kept None h = (tt, tt)
+  root_kept (Some n) h = (is_node n _ h.1, (tt, tt))
+
+  root_steps : (root : Option ℕ) → IsRoot f root → steps_from f lists (root_goals f root) ≡ map steps_of (roots_by f lists root)
+  root_steps None h = refl
+  root_steps (Some n) h = sym (whole_one [] 0 f.place n (is_node n _ h.1)) ∙ alone (whole_by f lists 0 f.place n)
+
+  pub is_walked : IsWalked f lists
+  is_walked = record {
+    choices = choices;
+    walks = record { place = place f lists choices; ended = spent f lists; next = next f lists };
+    are_goals = root_kept f.root is.root;
+    root = root_steps f.root is.root;
+  }
+
+pub forests_are_walked : ForestsAreWalked
+forests_are_walked f lists is all = is_walked f lists is all
