@@ -1,23 +1,21 @@
 -- The laws at a reading with two derivations.
-use Rattle.std.proofs.Common.{◌≡◌, ℕ, zero, suc, ◌<◌, List, [], ◌∷◌, length, Option, Some, None, refl, sym, ap, subst, arith, lit<}
+use Rattle.std.proofs.Common.{◌≡◌, ℕ, zero, suc, ◌<◌, [], ◌∷◌, length, refl, sym, ap, subst, arith, lit<}
 use Rattle.std.specs.Prelude.{slice_get, Contains}
 use Rattle.grammar_model.specs.declared.Edge.{Edge}
 use Rattle.grammar_model.specs.Grammar.{slot_of}
-use Rattle.grammar_model.specs.Trees.{Tree, Children, Leaf, Nulled, Node, NoChild, Child}
+use Rattle.grammar_model.specs.Trees.{Tree, Children, Leaf, Node, NoChild, Child}
 use Rattle.grammar_model.specs.Derives.{Edges, Held}
 use Rattle.grammar_model.specs.Derives
 use Rattle.grammar_model.specs.declared.Ranking.TheVariants.{None as NoRanks}
 use Rattle.recognizer_model.specs.Flat.{IsRule, lhs_of, rhs_of}
-use Rattle.recognizer_model.specs.FlatForm.{FlatEdges, tree_of, IsFlatForm}
+use Rattle.recognizer_model.specs.FlatForm.{FlatEdges, tree_of}
 use Rattle.recognizer_model.specs.FlatDerives
 use Rattle.recognizer_model.specs.FlatDerives.{Spans, Token, Rule, More}
-use Rattle.recognizer_model.specs.View.{grammar_view}
 use Rattle.recognizer_model.proofs.FlatFormLaw.{flat_form}
 use Rattle.flat_rules.specs.Lists.{lists, flat_lists}
 use Rattle.flat_rules.proofs.ListsChecked.{lists_have_flat_grammar}
-use Rattle.forest_model.specs.Forest.{ForestNode, Forest, IsDerived, IsForest, edges_of}
-use Rattle.forest_laws.specs.Lists.{trees_by}
-use Rattle.forest_laws.specs.Laws.{AreAllLists, with_nodes}
+use Rattle.forest_model.specs.Forest.{IsDerived}
+use Rattle.forest_laws.specs.Laws.{with_nodes}
 use Rattle.forest_laws.specs.Applied.{tokens, reading, two_lists, one_list, ForestsApply}
 use Rattle.forest_laws.proofs.Reading.{viewed}
 use Rattle.forest_laws.proofs.Exact.{forests_have_lists}

@@ -1,5 +1,5 @@
 -- A list with one value for each element of another.
-use Rattle.std.proofs.Common.{◌≡◌, ℕ, zero, suc, List, [], ◌∷◌, map, length, ◌⊎◌, inl, inr, Some, refl, sym, ap, ◌∙◌, subst, arith}
+use Rattle.std.proofs.Common.{◌≡◌, ℕ, zero, suc, List, [], ◌∷◌, map, length, inl, inr, Some, refl, ap, subst}
 use Rattle.std.specs.Prelude.{slice_get}
 use Rattle.grammar_model.proofs.Lists.{Among}
 

@@ -1,6 +1,6 @@
 -- What the nodes of a forest stand for is all that their keys say.
-use Rattle.std.proofs.Common.{◌≡◌, ℕ, zero, suc, ◌<◌, ◌≤◌, ◌-◌, Bool, true, false, List, [], ◌∷◌, ◌++◌, map, length, ◌⊎◌, inl, inr, Option, Some, None, refl, sym, ap, ◌∙◌, subst, arith, lit≤}
-use Rattle.std.specs.Prelude.{◌↔◌, ◌==◌, if◌then◌else◌, slice_get, slice_index, slice_index_or, Contains}
+use Rattle.std.proofs.Common.{◌≡◌, ℕ, zero, suc, ◌<◌, ◌≤◌, ◌-◌, Bool, true, false, List, [], ◌∷◌, map, length, inl, inr, Option, Some, None, refl, sym, ap, ◌∙◌, subst, arith, lit≤}
+use Rattle.std.specs.Prelude.{◌==◌, if◌then◌else◌, slice_get, slice_index_or, Contains}
 use Rattle.std.specs.List.{flat_map}
 use Rattle.std.specs.List.Sorted.{IsStrictlySortedBy}
 use Rattle.std.specs.declared.cmp.Ordering.{Ordering}
@@ -9,36 +9,32 @@ use Rattle.grammar_model.specs.Grammar.{Slot, slot_of, rule_at, child_slot}
 use Rattle.grammar_model.specs.Grammar
 use Rattle.grammar_model.specs.Trees.{Tree, Children, Leaf, Nulled, Node, NoChild, Child, child_count}
 use Rattle.grammar_model.specs.Derives.{Edges, Held, DerivesFront}
-use Rattle.grammar_model.specs.Derives
-use Rattle.grammar_model.specs.Order.{RuleOrder, IsRuleOrder, tree_cmp, children_cmp}
+use Rattle.grammar_model.specs.Order.{RuleOrder, IsRuleOrder}
 use Rattle.grammar_model.specs.All.{IsAll}
 use Rattle.grammar_model.proofs.Total.{all_unique, nullable_not_terminal}
-use Rattle.grammar_model.proofs.Lists.{Among, among_from, contains_from, among_map_from, among_map}
+use Rattle.grammar_model.proofs.Lists.{Among, among_from, contains_from}
 use Rattle.grammar_model.proofs.Compose.{GoForward, at_cmp, place_of}
 use Rattle.recognizer_model.specs.declared.NodeKey.{NodeKey}
-use Rattle.recognizer_model.specs.declared.flat.FlatSymbol.{FlatSymbol}
-use Rattle.recognizer_model.specs.declared.flat.FlatSymbol.TheVariants.{Terminal, Sequence, Top}
-use Rattle.recognizer_model.specs.Flat.{FlatGrammar, FlatRule, no_rule, IsRule, lhs_of, rhs_of, part_of, IsNullable}
-use Rattle.recognizer_model.specs.FlatForm.{FlatEdges, StandsFor, symbol_at, flat_order, tree_of}
+use Rattle.recognizer_model.specs.declared.flat.FlatSymbol.TheVariants.{Terminal, Top}
+use Rattle.recognizer_model.specs.Flat.{FlatGrammar, IsRule, lhs_of, rhs_of, IsNullable}
+use Rattle.recognizer_model.specs.FlatForm.{StandsFor, symbol_at, flat_order}
 use Rattle.recognizer_model.specs.FlatDerives.{Spans, Token, Null, Rule, More}
 use Rattle.recognizer_model.specs.FlatDerives
 use Rattle.recognizer_model.specs.Acceptable.{OnlyTerminals}
-use Rattle.recognizer_model.specs.Contexts.{IsTop}
 use Rattle.recognizer_model.specs.Invariant.{IsFlat, IsTopOf}
-use Rattle.recognizer_model.specs.View.{plain_rule, grammar_view}
+use Rattle.recognizer_model.specs.View.{grammar_view}
 use Rattle.recognizer_model.proofs.Views.{IsKindOf, kind_of, rule_viewed, in_view, nullable_viewed, terminal_viewed, symbol_viewed, parts_viewed, symbol_back, parts_back}
-use Rattle.recognizer_model.proofs.FlatNamed.{get_or, get_index}
-use Rattle.recognizer_model.proofs.FlatKeeps.{flat_order_laws}
-use Rattle.recognizer_model.proofs.FlatListed.{flat_list, written_all}
+use Rattle.recognizer_model.proofs.FlatNamed.{get_index}
+use Rattle.recognizer_model.proofs.FlatListed.{written_all}
 use Rattle.recognizer_model.proofs.FlatFormLaw.{flat_form}
-use Rattle.forest_model.specs.Forest.{Last, AnEdge, Nothing, Wholes, Alternative, ForestNode, Forest, edges_of, top_of, IsNode, start_place, starts_cmp, ranks_high, rules_cmp, whole_key, IsSplit, IsWholeOver, AreWholes, IsLast, IsFront, IsAlternative, AreAlternatives, IsRoot, IsForest}
+use Rattle.forest_model.specs.Forest.{Last, AnEdge, Nothing, Wholes, Alternative, ForestNode, Forest, edges_of, top_of, IsNode, start_place, starts_cmp, ranks_high, rules_cmp, whole_key, IsSplit, IsWholeOver, AreWholes, IsLast, IsFront, AreAlternatives, IsRoot, IsForest}
 use Rattle.forest_model.specs.Listing.{IsListing}
-use Rattle.forest_laws.specs.Lists.{Lists, last_symbol, rule_of, fronts_by, whole_by, lasts_by, alternative_by, node_by, AreLists, roots_by, trees_by}
+use Rattle.forest_laws.specs.Lists.{Lists, last_symbol, rule_of, fronts_by, whole_by, lasts_by, alternative_by, AreLists, roots_by, trees_by}
 use Rattle.forest_laws.specs.Laws.{AreAllSpans, AreAllTrees, AreAllLists, ForestsHaveLists}
-use Rattle.forest_laws.proofs.Lists.{flat_map_map, flat_map_same, flat_map_both, only_one, get_among, among_get, get_there, get_first, append_nil}
+use Rattle.forest_laws.proofs.Lists.{flat_map_map, flat_map_same, flat_map_both, only_one, get_among, get_first, append_nil}
 use Rattle.forest_laws.proofs.Reading
 use Rattle.forest_laws.proofs.Reading.{D, rule_there}
-use Rattle.forest_laws.proofs.Fronts.{AllFronts, front_unique, one_front, behind, one_more, all_fronts, nodes_of, nodes_all}
+use Rattle.forest_laws.proofs.Fronts.{AllFronts, front_unique, one_front, behind, one_more, nodes_of, nodes_all}
 
 sorted_as : {X : Type 0} (R S : X → X → Ordering) → ((x y : X) → R x y ≡ S x y) → (xs : List X) → IsStrictlySortedBy R xs → IsStrictlySortedBy S xs
 sorted_as R S e xs s = let same : R ≡ S = λ i x y. e x y i in subst (λ c. IsStrictlySortedBy c xs) same s
@@ -269,7 +265,7 @@ module _ (f : Forest) (is : IsForest f) where
         let x = front_same key.rule a.dot key.origin b.start b.front (a.each b c).front in
         let y = all_unique F E order laws (slot_of a.symbol) b.start key.end _ _ (last_is b c) (exact (slot_of a.symbol) b.start key.end).1 in
         let z : alternative_by f lists a.symbol key.end b ≡ flat_map (λ cs. map (Child cs) (exact (slot_of a.symbol) b.start key.end).0) (before b.start).0 =
-            λ i. flat_map (λ cs. map (Child cs) (y i)) (x i) in
+        λ i. flat_map (λ cs. map (Child cs) (y i)) (x i) in
         sym z ∙ sym (ap (λ s. alternative_by f lists s key.end b) symbol_is)
 
     pub key_by : key_list key ≡ flat_map (alternative_by f lists (last_symbol f key) key.end) alternatives

@@ -1,5 +1,5 @@
 -- Each reading with a derivation has a forest: its trees are finitely many, and so are the nodes that stand in them.
-use Rattle.std.proofs.Common.{◌≡◌, ℕ, zero, suc, ◌<◌, ◌≤◌, List, [], ◌∷◌, map, length, ◌⊎◌, inl, inr, ⊎_elim, Option, Some, None, refl, sym, ap, ◌∙◌, subst, arith}
+use Rattle.std.proofs.Common.{◌≡◌, ℕ, zero, suc, ◌<◌, ◌≤◌, List, [], ◌∷◌, map, length, ◌⊎◌, inl, inr, Option, Some, None, refl, sym, ap, ◌∙◌, subst, arith}
 use Rattle.std.specs.Prelude.{◌↔◌, slice_get, Contains}
 use Rattle.std.specs.List.{flat_map}
 use Rattle.std.specs.List.Sorted.{IsStrictlySortedBy}
@@ -7,7 +7,7 @@ use Rattle.std.specs.declared.cmp.Ordering.{Ordering}
 use Rattle.std.specs.declared.cmp.Ordering.TheVariants.{Less, Equal, Greater}
 use Rattle.std.specs.Ordering.{ordering_reverse, nat_cmp}
 use Rattle.std.specs.Cmp.{IsTotalOrder, nat_cmp_total, then_total, on_total, back_total}
-use Rattle.grammar_model.specs.Trees.{Tree, Children, Node, NoChild, Child}
+use Rattle.grammar_model.specs.Trees.{Tree, Children}
 use Rattle.grammar_model.proofs.Chains.{both_Equal}
 use Rattle.grammar_model.proofs.Sorting.{nat_cmp-Equal}
 use Rattle.grammar_model.proofs.Lists.{Among, among_from, contains_from, among_flat_map, among_flat_map_from}
@@ -17,9 +17,8 @@ use Rattle.finite_sets.proofs.Members
 use Rattle.finite_sets.proofs.Members.{values, among_values, among_values_from, once_pairs, listed}
 use Rattle.finite_sets.proofs.Sorting.{sorted_listed}
 use Rattle.recognizer_model.specs.declared.NodeKey.{NodeKey}
-use Rattle.recognizer_model.specs.declared.flat.FlatSymbol.TheVariants.{Terminal, Top}
+use Rattle.recognizer_model.specs.declared.flat.FlatSymbol.TheVariants.{Terminal}
 use Rattle.recognizer_model.specs.Flat.{FlatGrammar, IsRule, lhs_of, rhs_of, part_of, IsNullable}
-use Rattle.recognizer_model.specs.FlatForm.{flat_order}
 use Rattle.recognizer_model.specs.FlatDerives.{Derives, Spans, Token, Null, Rule, More}
 use Rattle.recognizer_model.specs.FlatDerives
 use Rattle.recognizer_model.specs.Counts.{IsListOf}
@@ -30,7 +29,7 @@ use Rattle.recognizer_model.proofs.FlatNamed.{get_index}
 use Rattle.forest_model.specs.Forest.{AnEdge, Nothing, Wholes, Alternative, ForestNode, Forest, edges_of, top_of, IsNode, start_place, starts_cmp, ranks_high, rules_cmp, whole_key, IsSplit, IsWholeOver, AreWholes, IsLast, IsFront, IsAlternative, AreAlternatives, IsDerived, IsRoot, IsForest}
 use Rattle.forest_model.specs.Forest
 use Rattle.forest_laws.specs.Laws.{with_nodes, ForestsExist}
-use Rattle.forest_laws.proofs.Lists.{get_among, among_get}
+use Rattle.forest_laws.proofs.Lists.{among_get}
 use Rattle.forest_laws.proofs.Reading.{laws, forward, only, rule_there, spans, trees_of, tree_in, in_trees, span_in, in_spans}
 use Rattle.forest_laws.proofs.Chosen.{chosen, Paired, paired_length, paired_get, paired_at, paired_map, paired_from}
 use Rattle.forest_laws.proofs.Used.{nodes_in, in_tree, from_tree, first_in}
@@ -143,7 +142,6 @@ module _ (f : Forest) (derived : IsDerived f) where
   met_spans (Before {cs = cs} m s e d) = (cs, s)
   met_spans (Last {cs' = cs} m s e rule lt s') = (cs, s')
 
-
   whole_spans : {x q : ℕ} {t : Tree} → Derives g (edges_of f) x 0 q t → x ≡ lhs_of g top → 0 < q → (cs : Children) × Spans g (edges_of f) top (length (rhs_of g top)) 0 q cs
   whole_spans (Token (t, is, e)) same lt = absurd (derived.flat.no_rules top is_top.is_rule (t, subst (λ z. slice_get g.symbols z ≡ Some (Terminal t)) same is))
   whole_spans (Null n) same lt = absurd (omega arith)
@@ -233,8 +231,7 @@ module _ (f : Forest) (derived : IsDerived f) where
         let (rules, sorted, exact) = rules_of x m q in
         let (nodes, pairs) = chosen (λ rule n. IsNode bare n (whole_key bare rule m q)) rules (λ rule i. numbered rule ((exact rule).0 (contains_from rules rule i))) in
         let all = paired_length (λ rule n. IsNode bare n (whole_key bare rule m q)) rules nodes pairs in
-        let there = (exact r').1 over in
-        (
+        let there = (exact r').1 over in (
           nodes,
           record {
             spans = lt;
@@ -271,8 +268,7 @@ module _ (f : Forest) (derived : IsDerived f) where
     alternatives_of =
         let (from, sorted, exact) = starts in
         let (alternatives, pairs) = chosen Fits from (λ m i. alternative_for m ((exact m).0 (contains_from from m i))) in
-        let same : from ≡ map (λ (a : Alternative). a.start) alternatives = sym (paired_map Fits (λ (a : Alternative). a.start) (λ m a fits. fits.0) from alternatives pairs) in
-        (
+        let same : from ≡ map (λ (a : Alternative). a.start) alternatives = sym (paired_map Fits (λ (a : Alternative). a.start) (λ m a fits. fits.0) from alternatives pairs) in (
           alternatives,
           record {
             dot = d;
@@ -330,8 +326,7 @@ module _ (f : Forest) (derived : IsDerived f) where
 
   pub a_forest : (nodes : List ForestNode) × (root : Option ℕ) × IsForest (with_nodes f nodes root)
   a_forest =
-      let (root, is_root) = root_for in
-      (
+      let (root, is_root) = root_for in (
         nodes,
         root,
         record {

@@ -1,14 +1,13 @@
 -- The lists of child lists of a grammar, where those of its trees are known: over all starts of the last child, and by other
 -- starts or rules that are enough.
-use Rattle.std.proofs.Common.{◌≡◌, ℕ, zero, suc, ◌<◌, ◌≤◌, Bool, true, false, cond, List, [], ◌∷◌, ◌++◌, map, length, ◌⊎◌, inl, inr, refl, sym, ap, ◌∙◌, subst, arith}
-use Rattle.std.specs.Prelude.{◌==◌, ◌↔◌}
+use Rattle.std.proofs.Common.{◌≡◌, ℕ, zero, suc, ◌<◌, ◌≤◌, Bool, true, false, List, [], ◌∷◌, ◌++◌, map, length, ◌⊎◌, inl, inr, refl, sym, ap, ◌∙◌, subst, arith}
 use Rattle.std.specs.List.{flat_map}
 use Rattle.std.specs.List.Sorted.{IsStrictlySortedBy}
 use Rattle.std.specs.declared.cmp.Ordering.{Ordering}
 use Rattle.std.specs.declared.cmp.Ordering.TheVariants.{Less, Equal}
 use Rattle.std.specs.Ordering.{ordering_then, ordering_reverse, nat_cmp}
 use Rattle.std.specs.Cmp.{tied_itself}
-use Rattle.std.proofs.lemmas.Bool.{cond_both, eqb-true, eqb-false, eq-eqb, ne_eqb, cases_eq}
+use Rattle.std.proofs.lemmas.Bool.{eq-eqb, ne_eqb, cases_eq}
 use Rattle.grammar_model.specs.Grammar.{Grammar, Slot, WrittenRule, rule_at, Fits, IsChildCount, IsTerminal, child_slot}
 use Rattle.grammar_model.specs.Trees.{Tree, Children, Leaf, Nulled, Node, NoChild, Child, child_count}
 use Rattle.grammar_model.specs.Derives.{Edges, Derives, DerivesFront}
@@ -114,11 +113,10 @@ module _ (g : Grammar) (edge : Edges) (forward : GoForward edge) (order : RuleOr
         go (inl e) = (NoChild ∷ [], subst (λ z. AllFronts rule high 0 p z (NoChild ∷ [])) e (one_front rule high p))
         go (inr ne) = ([], none_front rule high p q ne)
     all_fronts rule high (suc n) p q =
-        let fronts = λ (r : ℕ). all_fronts rule high n p r in
-        (
+        let fronts = λ (r : ℕ). all_fronts rule high n p r in (
           flat_map (behind (child_slot rule n) q (λ r. (fronts r).0)) (starts high q),
           one_more rule high n (child_slot rule n) refl p q fronts (starts high q) (starts_sorted high q)
-          (λ r cs t f e d. among_starts high q r (ahead (child_slot rule n) r q t d)),
+              (λ r cs t f e d. among_starts high q r (ahead (child_slot rule n) r q t d)),
         )
 
     -- the nodes of a slot, by rules that are enough

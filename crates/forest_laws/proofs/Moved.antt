@@ -1,8 +1,7 @@
 -- What is so of a forest's nodes by their keys is so of another forest of the same reading with those keys.
-use Rattle.std.proofs.Common.{◌≡◌, ℕ, List, Option, Some, None}
-use Rattle.std.specs.Prelude.{◌↔◌, Contains}
+use Rattle.std.proofs.Common.{ℕ, List, Option, Some, None}
 use Rattle.recognizer_model.specs.declared.NodeKey.{NodeKey}
-use Rattle.forest_model.specs.Forest.{Last, AnEdge, Nothing, Wholes, Alternative, ForestNode, Forest, IsNode, IsSplit, IsWholeOver, AreWholes, IsLast, IsFront, IsAlternative, AreAlternatives}
+use Rattle.forest_model.specs.Forest.{Last, AnEdge, Nothing, Wholes, Alternative, ForestNode, Forest, IsNode, IsSplit, IsWholeOver, IsLast, IsFront, AreAlternatives}
 use Rattle.forest_laws.specs.Laws.{with_nodes}
 
 module _ (f : Forest) (nodes nodes' : List ForestNode) (root root' : Option ℕ) where

@@ -5,13 +5,12 @@ use Rattle.std.specs.List.{flat_map}
 use Rattle.grammar_model.specs.Trees.{Tree, Children, Leaf, Nulled, Node, NoChild, Child}
 use Rattle.grammar_model.proofs.Lists.{Among, among_from, contains_from}
 use Rattle.recognizer_model.specs.declared.NodeKey.{NodeKey}
-use Rattle.recognizer_model.specs.Flat.{lhs_of, rhs_of}
 use Rattle.recognizer_model.specs.FlatDerives.{Derives, Spans, Rule, More}
-use Rattle.forest_model.specs.Forest.{Last, AnEdge, Nothing, Wholes, Alternative, ForestNode, Forest, edges_of, IsNode, whole_key, IsSplit, IsWholeOver, AreWholes, IsLast, IsFront, AreAlternatives, IsForest}
+use Rattle.forest_model.specs.Forest.{Last, AnEdge, Nothing, Wholes, Alternative, ForestNode, Forest, edges_of, IsNode, whole_key, IsSplit, IsLast, IsFront, AreAlternatives, IsForest}
 use Rattle.forest_laws.specs.Lists.{Lists, last_symbol, rule_of, fronts_by, whole_by, lasts_by, alternative_by, node_by, AreLists}
 use Rattle.forest_laws.specs.Laws.{ListsAreOne}
 use Rattle.forest_laws.proofs.Lists.{flat_map_same, among_get, get_there, get_among}
-use Rattle.forest_laws.proofs.Exact.{lists, key_list, equal, key_all, key_by, symbol_is, node_among}
+use Rattle.forest_laws.proofs.Exact.{lists, key_list, equal, key_all, symbol_is, node_among}
 
 abbrev mutual
   tree_size : Tree → ℕ

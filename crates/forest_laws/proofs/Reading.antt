@@ -1,40 +1,28 @@
 -- The lists of a reading: all trees of a symbol over a span, and all child lists of first parts, in order.
-use Rattle.std.proofs.Common.{◌≡◌, ℕ, zero, suc, ◌<◌, ◌≤◌, ◌-◌, Bool, true, false, List, [], ◌∷◌, ◌++◌, map, length, ◌⊎◌, inl, inr, Option, Some, None, refl, sym, ap, ◌∙◌, subst, arith, lit≤}
-use Rattle.std.specs.Prelude.{◌↔◌, ◌==◌, if◌then◌else◌, slice_get, slice_index, slice_index_or, Contains}
-use Rattle.std.specs.List.{flat_map}
-use Rattle.std.specs.List.Sorted.{IsStrictlySortedBy}
-use Rattle.std.specs.declared.cmp.Ordering.{Ordering}
-use Rattle.std.specs.Ordering.{ordering_then, nat_cmp}
+use Rattle.std.proofs.Common.{◌≡◌, ℕ, zero, suc, ◌<◌, ◌≤◌, List, [], ◌∷◌, length, Some, subst, arith}
+use Rattle.std.specs.Prelude.{slice_get, slice_index_or}
 use Rattle.grammar_model.specs.Grammar.{Slot, slot_of, rule_at, child_slot}
 use Rattle.grammar_model.specs.Grammar
-use Rattle.grammar_model.specs.Trees.{Tree, Children, Leaf, Nulled, Node, NoChild, Child, child_count}
+use Rattle.grammar_model.specs.Trees.{Tree, Children, child_count}
 use Rattle.grammar_model.specs.Derives.{Edges, Held, DerivesFront}
 use Rattle.grammar_model.specs.Derives
-use Rattle.grammar_model.specs.Order.{RuleOrder, IsRuleOrder, tree_cmp, children_cmp}
+use Rattle.grammar_model.specs.Order.{RuleOrder, IsRuleOrder}
 use Rattle.grammar_model.specs.All.{IsAll}
-use Rattle.grammar_model.proofs.Total.{all_unique, nullable_not_terminal}
-use Rattle.grammar_model.proofs.Lists.{Among, among_from, contains_from, among_map_from, among_map}
-use Rattle.grammar_model.proofs.Compose.{GoForward, at_cmp, place_of}
+use Rattle.grammar_model.proofs.Lists.{Among, among_from, contains_from}
+use Rattle.grammar_model.proofs.Compose.{GoForward}
 use Rattle.recognizer_model.specs.declared.NodeKey.{NodeKey}
-use Rattle.recognizer_model.specs.declared.flat.FlatSymbol.{FlatSymbol}
-use Rattle.recognizer_model.specs.declared.flat.FlatSymbol.TheVariants.{Terminal, Sequence, Top}
-use Rattle.recognizer_model.specs.Flat.{FlatGrammar, FlatRule, no_rule, IsRule, lhs_of, rhs_of, part_of, IsNullable}
-use Rattle.recognizer_model.specs.FlatForm.{FlatEdges, StandsFor, symbol_at, flat_order, tree_of}
+use Rattle.recognizer_model.specs.Flat.{FlatGrammar, FlatRule, no_rule, IsRule, rhs_of}
+use Rattle.recognizer_model.specs.FlatForm.{flat_order}
 use Rattle.recognizer_model.specs.FlatDerives.{Spans, Token, Null, Rule, More}
 use Rattle.recognizer_model.specs.FlatDerives
 use Rattle.recognizer_model.specs.Acceptable.{OnlyTerminals}
-use Rattle.recognizer_model.specs.Contexts.{IsTop}
-use Rattle.recognizer_model.specs.Invariant.{IsFlat, IsTopOf}
-use Rattle.recognizer_model.specs.View.{plain_rule, grammar_view}
-use Rattle.recognizer_model.proofs.Views.{IsKindOf, kind_of, rule_viewed, in_view, nullable_viewed, terminal_viewed, symbol_viewed, parts_viewed, symbol_back, parts_back}
-use Rattle.recognizer_model.proofs.FlatNamed.{get_or, get_index}
+use Rattle.recognizer_model.specs.Invariant.{IsFlat}
+use Rattle.recognizer_model.specs.View.{grammar_view}
+use Rattle.recognizer_model.proofs.Views.{symbol_viewed, parts_viewed, symbol_back, parts_back}
 use Rattle.recognizer_model.proofs.FlatKeeps.{flat_order_laws}
-use Rattle.recognizer_model.proofs.FlatListed.{flat_list, written_all}
-use Rattle.recognizer_model.proofs.FlatFormLaw.{flat_form}
-use Rattle.forest_model.specs.Forest.{Last, AnEdge, Nothing, Wholes, Alternative, ForestNode, Forest, edges_of, top_of, IsNode, start_place, starts_cmp, ranks_high, rules_cmp, whole_key, IsSplit, IsWholeOver, AreWholes, IsLast, IsFront, IsAlternative, AreAlternatives, IsRoot, IsDerived}
-use Rattle.forest_model.specs.Listing.{IsListing}
-use Rattle.forest_laws.proofs.Lists.{flat_map_map, flat_map_same, flat_map_both, only_one, get_among, among_get, get_there, get_first, append_nil}
-use Rattle.forest_laws.proofs.Fronts.{AllFronts, front_unique, one_front, behind, one_more, all_fronts, nodes_of, nodes_all}
+use Rattle.recognizer_model.proofs.FlatListed.{flat_list}
+use Rattle.forest_model.specs.Forest.{Forest, edges_of, IsDerived}
+use Rattle.forest_laws.proofs.Fronts.{AllFronts, all_fronts}
 
 abbrev pub D : Grammar.Grammar → Edges → Slot → ℕ → ℕ → Tree → Type 0
 D = Derives.Derives

@@ -1,5 +1,5 @@
 -- The nodes that stand in trees, as lists.
-use Rattle.std.proofs.Common.{◌≡◌, ℕ, suc, ◌<◌, List, [], ◌∷◌, ◌++◌, ◌⊎◌, inl, inr, refl, sym, ap, subst, arith}
+use Rattle.std.proofs.Common.{◌≡◌, ℕ, suc, ◌<◌, List, [], ◌∷◌, ◌++◌, ◌⊎◌, inl, inr, refl, sym, subst, arith}
 use Rattle.grammar_model.specs.Trees.{Tree, Children, Leaf, Nulled, Node, NoChild, Child, child_count, from_of}
 use Rattle.grammar_model.proofs.Lists.{Among, among_left, among_right, among_either}
 use Rattle.recognizer_model.specs.declared.NodeKey.{NodeKey}

@@ -1,21 +1,23 @@
 -- Walks through a forest: options in order, and what is still to come.
-use Rattle.std.proofs.Common.{◌≡◌, ℕ, zero, suc, ◌<◌, List, [], ◌∷◌, ◌++◌, map, length, ◌⊎◌, inl, inr, Option, Some, None, refl, sym, ap, ◌∙◌, subst, arith}
-use Rattle.std.specs.Prelude.{slice_get, Contains}
+use Rattle.std.proofs.Common.{◌≡◌, ℕ, zero, suc, ◌<◌, List, [], ◌∷◌, ◌++◌, map, length, Option, Some, None, refl, sym, ap, ◌∙◌, subst, arith}
+use Rattle.std.specs.Prelude.{slice_get, slice_index_or, Contains}
 use Rattle.std.specs.List.{flat_map}
-use Rattle.grammar_model.specs.Trees.{Tree, Children, Leaf, Nulled, Node, NoChild, Child, child_count}
+use Rattle.grammar_model.specs.Trees.{Tree, Children, Node, Child, child_count}
 use Rattle.grammar_model.specs.Steps.{Step, TokenStep, NulledStep, RuleStep, steps_of, steps_of_all}
-use Rattle.grammar_model.proofs.Lists.{Among, among_from, contains_from, among_map_from}
-use Rattle.recognizer_model.specs.FlatDerives.{Spans, More}
+use Rattle.grammar_model.proofs.Lists.{Among, among_from, contains_from, among_map, among_map_from}
+use Rattle.recognizer_model.specs.Contexts.{IsTop}
+use Rattle.recognizer_model.specs.Nodes.{IsMet, Whole, Before, Last as MetLast}
+use Rattle.recognizer_model.proofs.Nodes.{used_are_met}
+use Rattle.recognizer_model.specs.FlatDerives.{Derives, Spans, More}
 use Rattle.recognizer_model.specs.FlatDerives
-use Rattle.recognizer_model.specs.Flat.{FlatGrammar}
+use Rattle.recognizer_model.specs.Flat.{FlatGrammar, part_of}
 use Rattle.grammar_model.specs.Derives.{Edges}
-use Rattle.forest_model.specs.Forest.{Last, AnEdge, Nothing, Wholes, Alternative, ForestNode, Forest, edges_of, IsNode, IsFront, IsLast, IsRoot, AreWholes, AreAlternatives, IsForest}
-use Rattle.forest_laws.specs.Lists.{Lists, last_symbol, rule_of, fronts_by, whole_by, lasts_by, alternative_by, node_by, roots_by}
+use Rattle.forest_model.specs.Forest.{Last, AnEdge, Nothing, Wholes, Alternative, ForestNode, Forest, edges_of, top_of, IsNode, IsSplit, IsFront, IsLast, IsRoot, IsForest}
+use Rattle.forest_laws.specs.Lists.{Lists, last_symbol, rule_of, fronts_by, whole_by, lasts_by, alternative_by, roots_by}
 use Rattle.forest_laws.specs.Laws.{AreAllLists}
-use Rattle.forest_laws.specs.Goals.{Goal, Parts, OneOf, Write, count_of, front_goals, last_goals, whole_goals, alternative_goals, node_options, options, IsGoal, AreGoals, root_goals, steps_from, Done, Wrote, Chose, Walks, Ended, Writes, Chooses, written, later_steps, to_come, AreSpent, GoalsAreChosen, WalksGoOn}
+use Rattle.forest_laws.specs.Goals.{Goal, Parts, OneOf, Write, count_of, front_goals, last_goals, whole_goals, alternative_goals, node_options, options, IsGoal, AreGoals, root_goals, steps_from, Done, Wrote, Chose, written, later_steps, to_come, stands, GoalsAreChosen, WalksGoOn}
 use Rattle.forest_laws.specs.Walked.{IsWalked, ForestsAreWalked}
 use Rattle.forest_laws.proofs.Lists.{flat_map_map, flat_map_same, get_among, among_get, get_there, append_nil}
-use Rattle.recognizer_model.proofs.FlatNamed.{get_index}
 
 -- ---- lists
 
@@ -66,49 +68,63 @@ module _ (f : Forest) (lists : Lists) where
   abbrev S : List Goal → List (List Step)
   S = steps_from f lists
 
-  spent : (done : List Done) → AreSpent done → to_come f lists done ≡ []
-  spent [] h = refl
-  spent (Wrote step ∷ done) h = ap (map (λ rest. step ∷ rest)) (spent done h)
-  spent (Chose later behind ∷ done) (e, h) =
-      let a = spent done h in
-      λ i. a i ++ later_steps f lists behind (e i)
+  unwrites : (done : List Done) (step : Step) → to_come f lists (done ++ Wrote step ∷ []) ≡ to_come f lists done
+  unwrites [] step = refl
+  unwrites (Wrote s ∷ done) step = ap (map (λ rest. s ∷ rest)) (unwrites done step)
+  unwrites (Chose later behind ∷ done) step = ap (λ l. l ++ later_steps f lists behind later) (unwrites done step)
 
-  next : (front back new : List Done) (option behind : List Goal) (later : List (List Goal)) → AreSpent back → S (option ++ behind) ≡ written new ∷ to_come f lists new →
-      to_come f lists (front ++ Chose (option ∷ later) behind ∷ back) ≡ written (front ++ Chose later behind ∷ new) ∷ to_come f lists (front ++ Chose later behind ∷ new)
-  next [] back new option behind later h e =
-      let a = spent back h in
-      λ i. a i ++ (e i ++ later_steps f lists behind later)
-  next (Wrote step ∷ front) back new option behind later h e = ap (map (λ rest. step ∷ rest)) (next front back new option behind later h e)
-  next (Chose others others' ∷ front) back new option behind later h e = ap (λ l. l ++ later_steps f lists others' others) (next front back new option behind later h e)
+  chose : (done : List Done) (later : List (List Goal)) (behind : List Goal) →
+      to_come f lists (done ++ Chose later behind ∷ []) ≡ map (λ rest. written done ++ rest) (later_steps f lists behind later) ++ to_come f lists done
+  chose [] later behind = sym (append_nil (map (λ rest. rest) (later_steps f lists behind later)) ∙ map_id (λ rest. rest) (λ x. refl) (later_steps f lists behind later))
+  chose (Wrote s ∷ done) later behind =
+      let l : List (List Step) = later_steps f lists behind later in
+      ap (map (λ rest. s ∷ rest)) (chose done later behind) ∙ map_both (λ rest. s ∷ rest) (map (λ rest. written done ++ rest) l) (to_come f lists done)
+      ∙ ap (λ m. m ++ map (λ rest. s ∷ rest) (to_come f lists done)) (map_map (λ rest. written done ++ rest) (λ rest. s ∷ rest) (λ rest. s ∷ (written done ++ rest)) (λ x. refl) l)
+  chose (Chose others before ∷ done) later behind =
+      ap (λ l. l ++ later_steps f lists before others) (chose done later behind)
+      ∙ assoc (map (λ rest. written done ++ rest) (later_steps f lists behind later)) (to_come f lists done) (later_steps f lists before others)
 
-  module _ (choices : GoalsAreChosen f lists) where
-    goals_both : (xs ys : List Goal) → AreGoals f xs → AreGoals f ys → AreGoals f (xs ++ ys)
-    goals_both [] ys a b = b
-    goals_both (x ∷ xs) ys a b = (a.0, goals_both xs ys a.1 b)
+  wrote_more : (done : List Done) (step : Step) → written (done ++ Wrote step ∷ []) ≡ written done ++ step ∷ []
+  wrote_more [] step = refl
+  wrote_more (Wrote s ∷ done) step = ap (λ l. s ∷ l) (wrote_more done step)
+  wrote_more (Chose later behind ∷ done) step = wrote_more done step
 
-    contains_mid : {X : Type 0} (xs ys : List X) (x : X) → Contains (xs ++ x ∷ ys) x
-    contains_mid xs ys x = contains_from (xs ++ x ∷ ys) x (Rattle.grammar_model.proofs.Lists.among_right x xs (x ∷ ys) (inl refl))
+  wrote_same : (done : List Done) (later : List (List Goal)) (behind : List Goal) → written (done ++ Chose later behind ∷ []) ≡ written done
+  wrote_same [] later behind = refl
+  wrote_same (Wrote s ∷ done) later behind = ap (λ l. s ∷ l) (wrote_same done later behind)
+  wrote_same (Chose others before ∷ done) later behind = wrote_same done later behind
 
-    no_step : (goal : Goal) (option : List Goal) (earlier later : List (List Goal)) → options f goal ≡ earlier ++ option ∷ later → (step : Step) → goal ≡ Write step → ⊥
-    no_step goal option [] later e step is = let h : [] ≡ option ∷ later = sym (ap (options f) is) ∙ e in cc
-    no_step goal option (o ∷ earlier) later e step is = let h : [] ≡ o ∷ (earlier ++ option ∷ later) = sym (ap (options f) is) ∙ e in cc
+  writes : (done : List Done) (step : Step) (left : List Goal) → stands f lists done (Write step ∷ left) ≡ stands f lists (done ++ Wrote step ∷ []) left
+  writes done step left =
+      let same : map (λ rest. written done ++ rest) (map (λ rest. step ∷ rest) (S left)) ≡ map (λ rest. written (done ++ Wrote step ∷ []) ++ rest) (S left) =
+      map_map (λ rest. step ∷ rest) (λ rest. written done ++ rest) (λ rest. written (done ++ Wrote step ∷ []) ++ rest)
+      (λ x. sym (ap (λ l. l ++ x) (wrote_more done step) ∙ assoc (written done) (step ∷ []) x)) (S left) in
+      let rest = sym (unwrites done step) in
+      λ i. same i ++ rest i
 
-    place : (goals : List Goal) (done : List Done) → AreGoals f goals → Walks f goals done → (before : List (List Step)) × (S goals ≡ before ++ written done ∷ to_come f lists done)
-    place goals done are Ended = ([], refl)
-    place goals done are (Writes {step = step} {goals = goals'} {done = done'} w) =
-        let (before, e) = place goals' done' are.1 w in
-        (map (λ rest. step ∷ rest) before, ap (map (λ rest. step ∷ rest)) e ∙ map_both (λ rest. step ∷ rest) before (written done' ∷ to_come f lists done'))
-    place goals done are (Chooses {goal = goal} {goals = goals'} {done = done'} option earlier later e w) =
-        let inside = choices.kept goal option are.0 (subst (λ l. Contains l option) (sym e) (contains_mid earlier later option)) in
-        let (before, is) = place (option ++ goals') done' (goals_both option goals' inside are.1) w in
-        let all = choices.chosen goal goals' are.0 (no_step goal option earlier later e) ∙ ap (later_steps f lists goals') e ∙ flat_both (λ o. S (o ++ goals')) earlier (option ∷ later) in
-        (
-          later_steps f lists goals' earlier ++ before,
-          all ∙ ap (λ l. later_steps f lists goals' earlier ++ (l ++ later_steps f lists goals' later)) is
-          ∙ ap (λ l. later_steps f lists goals' earlier ++ l) (assoc before (written done' ∷ to_come f lists done') (later_steps f lists goals' later))
-          ∙ sym (assoc (later_steps f lists goals' earlier) before (written done' ∷ (to_come f lists done' ++ later_steps f lists goals' later))),
-        )
+  opened : (done : List Done) (option behind : List Goal) (later : List (List Goal)) →
+      map (λ rest. written done ++ rest) (S (option ++ behind) ++ later_steps f lists behind later) ++ to_come f lists done ≡ stands f lists (done ++ Chose later behind ∷ []) (option ++ behind)
+  opened done option behind later =
+      let first : List (List Step) = S (option ++ behind) in
+      let l : List (List Step) = later_steps f lists behind later in
+      let a : map (λ rest. written done ++ rest) first ≡ map (λ rest. written (done ++ Chose later behind ∷ []) ++ rest) first = ap (λ w. map (λ rest. w ++ rest) first) (sym (wrote_same done later behind)) in
+      let b = sym (chose done later behind) in
+      ap (λ m. m ++ to_come f lists done) (map_both (λ rest. written done ++ rest) first l)
+      ∙ assoc (map (λ rest. written done ++ rest) first) (map (λ rest. written done ++ rest) l) (to_come f lists done)
+      ∙ (λ i. a i ++ b i)
 
+  walks_go_on : GoalsAreChosen f lists → WalksGoOn f lists
+  walks_go_on choices = record {
+    writes = writes;
+    chooses = λ done goal left option later is e.
+        ap (λ l. map (λ rest. written done ++ rest) l ++ to_come f lists done)
+        (choices.chosen goal left is (λ step same. (let h : [] ≡ option ∷ later = sym (ap (options f) same) ∙ e in cc)) ∙ ap (later_steps f lists left) e)
+        ∙ opened done option left later;
+    gives = λ done. ap (λ l. l ∷ to_come f lists done) (append_nil (written done));
+    unwrites = unwrites;
+    is_spent = λ done behind. chose done [] behind;
+    goes_on = λ done option behind later. chose done (option ∷ later) behind ∙ opened done option behind later;
+  }
 
 -- ---- the goals of a forest
 
@@ -193,7 +209,7 @@ module _ (f : Forest) (lists : Lists) (is : IsForest f) (all : AreAllLists f lis
 
   goal_chosen : (goal : Goal) (goals : List Goal) → IsGoal f goal → ((step : Step) → goal ≡ Write step → ⊥) → steps_from f lists (goal ∷ goals) ≡ later_steps f lists goals (options f goal)
   goal_chosen (Parts n) goals lt other = let (node, e) = there f.nodes n lt in parts_chosen goals n node e
-  goal_chosen (OneOf m q nodes) goals inside other = wholes_chosen goals m q nodes inside
+  goal_chosen (OneOf m q nodes) goals h other = wholes_chosen goals m q nodes h.1
   goal_chosen (Write step) goals h other = absurd (other step refl)
 
   is_node : (n : ℕ) (k : _) → IsNode f n k → n < length f.nodes
@@ -206,7 +222,7 @@ module _ (f : Forest) (lists : Lists) (is : IsForest f) (all : AreAllLists f lis
   lasts_kept : (x m q : ℕ) (y : ℕ) (l : Last) → IsLast f x m q l → AreGoals f (last_goals y m q l)
   lasts_kept x m q y AnEdge h = (tt, tt)
   lasts_kept x m q y Nothing h = (tt, tt)
-  lasts_kept x m q y (Wholes nodes) h = (inside, tt)
+  lasts_kept x m q y (Wholes nodes) h = ((h.some, inside), tt)
     where
       inside : (n : ℕ) → Contains nodes n → n < length f.nodes
       inside n c =
@@ -227,13 +243,59 @@ module _ (f : Forest) (lists : Lists) (is : IsForest f) (all : AreAllLists f lis
       let one = alternatives.each a (contains_from node.alternatives a i) in
       subst (AreGoals f) same (both (front_goals a.front) (last_goals (last_symbol f node.key) a.start node.key.end a.last)
       (fronts_kept node.key.rule alternatives.dot node.key.origin a.start a.front one.front) (lasts_kept alternatives.symbol a.start node.key.end (last_symbol f node.key) a.last one.last))
-  goal_kept (OneOf m q nodes) option inside c =
+  goal_kept (OneOf m q nodes) option (some, inside) c =
       let (n, i, same) = among_map_from (whole_goals f m q) option nodes (among_from _ option c) in
       subst (AreGoals f) same (inside n (contains_from nodes n i), (tt, tt))
   goal_kept (Write step) option h c = absurd (among_from [] option c)
 
+  is_top : IsTop f.flat (top_of f)
+  is_top = (is.derived.flat.tops f.start (top_of f) (go f.flat.tops f.start is.derived.start)).is_top
+    where
+      go : (xs : List ℕ) (k : ℕ) → k < length xs → slice_get xs k ≡ Some (slice_index_or xs k 0)
+      go [] k lt = absurd (omega arith)
+      go (x ∷ xs) zero lt = refl
+      go (x ∷ xs) (suc k) lt = go xs k (omega arith)
+
+  -- the first parts of a used node are there
+  met_spans : {r d p q : ℕ} → IsMet f.flat (edges_of f) (top_of f) f.place r d p q → (cs : Children) × Spans f.flat (edges_of f) r d p q cs
+  met_spans (Whole {cs = cs} lt s) = (cs, s)
+  met_spans (Before {cs = cs} m s e d) = (cs, s)
+  met_spans (MetLast {cs' = cs} m s e rule lt s') = (cs, s')
+
+  split_there : {r d p q x : ℕ} {cs : Children} → Spans f.flat (edges_of f) r (suc d) p q cs → part_of f.flat r d ≡ Some x → (m : ℕ) × IsSplit f r d p x m q
+  split_there {r} {d} {p} {q} {x} (More {m = m} {x = y} {cs = cs} {t = t} s e h) part =
+      let same : y ≡ x = (let both = sym e ∙ part in cc) in
+      (m, record { children = cs; front = s; tree = t; last = subst (λ z. Derives f.flat (edges_of f) z m q t) same h })
+
+  map_length : {X Y : Type 0} (h : X → Y) (xs : List X) → length (map h xs) ≡ length xs
+  map_length h [] = refl
+  map_length h (x ∷ xs) = ap suc (map_length h xs)
+
+  some_alternative : (n : ℕ) (node : ForestNode) → slice_get f.nodes n ≡ Some node → 0 < length node.alternatives
+  some_alternative n node e =
+      let here = get_among f.nodes n node e in
+      let a = is.alternatives node (contains_from f.nodes node here) in
+      let used = (is.used.exact node.key).0 (contains_from _ node.key (among_map (λ (z : ForestNode). z.key) node f.nodes here)) in
+      let met = ((used_are_met f.flat (edges_of f) (top_of f) is_top (λ x p q e. (e.0, e.1)) is.derived.flat.no_rules f.place node.key).0 used).1 in
+      let (cs, s) = met_spans met in
+      let (m, split) = split_there (subst (λ d. Spans f.flat (edges_of f) node.key.rule d node.key.origin node.key.end cs) a.dot_is s) a.part in
+      let c = (a.exact m).1 split in
+      let l = map_length (λ (z : Alternative). z.start) node.alternatives in
+      let lt = c.1 in
+      omega (arith, l, lt)
+
+  goal_some : (goal : Goal) → IsGoal f goal → ((step : Step) → goal ≡ Write step → ⊥) → 0 < length (options f goal)
+  goal_some (Parts n) lt other =
+      let (node, e) = there f.nodes n lt in
+      let h = some_alternative n node e in
+      let l = map_length (alternative_goals f node) node.alternatives in
+      let same : length (node_options f (slice_get f.nodes n)) ≡ length (map (alternative_goals f node) node.alternatives) = ap (λ o. length (node_options f o)) e in
+      omega (arith, h, l, same)
+  goal_some (OneOf m q nodes) (some, inside) other = let l = map_length (whole_goals f m q) nodes in omega (arith, some, l)
+  goal_some (Write step) h other = absurd (other step refl)
+
   choices : GoalsAreChosen f lists
-  choices = record { chosen = goal_chosen; kept = goal_kept }
+  choices = record { chosen = goal_chosen; some = goal_some; kept = goal_kept }
 
   alone : (trees : List Tree) → flat_map (λ t. map (λ rest. steps_of t ++ rest) ([] ∷ [])) trees ≡ map steps_of trees
   alone [] = refl
@@ -253,7 +315,7 @@ module _ (f : Forest) (lists : Lists) (is : IsForest f) (all : AreAllLists f lis
   pub is_walked : IsWalked f lists
   is_walked = record {
     choices = choices;
-    walks = record { place = place f lists choices; ended = spent f lists; next = next f lists };
+    walks = walks_go_on f lists choices;
     are_goals = root_kept f.root is.root;
     root = root_steps f.root is.root;
   }

@@ -1,7 +1,7 @@
 -- The laws at a reading with two derivations: lists of numbers with commas between them, where a last comma may stand.
 use Rattle.std.specs.Prelude.{ℕ, List, [], ◌∷◌, Option, None, Contains}
 use Rattle.grammar_model.specs.declared.Edge.{Edge}
-use Rattle.grammar_model.specs.Trees.{Tree, Children, Leaf, Node, NoChild, Child}
+use Rattle.grammar_model.specs.Trees.{Tree, Leaf, Node, NoChild, Child}
 use Rattle.grammar_model.specs.declared.Ranking.TheVariants.{None as NoRanks}
 use Rattle.grammar_model.specs.Order.{rank_order, Before}
 use Rattle.flat_rules.specs.Lists.{lists, flat_lists}

@@ -2,7 +2,6 @@
 -- one of its options, which is a list of goals again. The front is walked before the last part, and the children before their rule.
 use Rattle.std.specs.Prelude.{◌≡◌, ℕ, ◌<◌, List, [], ◌∷◌, ◌++◌, map, length, Option, Some, None, slice_get, Contains}
 use Rattle.std.specs.List.{flat_map}
-use Rattle.grammar_model.specs.Trees.{Tree}
 use Rattle.grammar_model.specs.Steps.{Step, TokenStep, NulledStep, RuleStep, steps_of, steps_of_all}
 use Rattle.recognizer_model.specs.Flat.{lhs_of}
 use Rattle.forest_model.specs.Forest.{Last, AnEdge, Nothing, Wholes, Alternative, ForestNode, Forest, top_of}
@@ -47,7 +46,7 @@ options f (Write step) = []
 -- its nodes are nodes of the forest
 abbrev pub IsGoal : Forest → Goal → Type 0
 IsGoal f (Parts n) = n < length f.nodes
-IsGoal f (OneOf start end nodes) = (n : ℕ) → Contains nodes n → n < length f.nodes
+IsGoal f (OneOf start end nodes) = (0 < length nodes) × ((n : ℕ) → Contains nodes n → n < length f.nodes)
 IsGoal f (Write step) = Unit {0}
 
 abbrev pub AreGoals : Forest → List Goal → Type 0
@@ -70,13 +69,6 @@ pub data Done : Type 0 where
   Wrote : (step : Step) → Done
   Chose : (later : List (List Goal)) (behind : List Goal) → Done
 
--- a walk that did all goals
-pub data Walks (f : Forest) : List Goal → List Done → Type 0 where
-  Ended : Walks f [] []
-  Writes : {step : Step} {goals : List Goal} {done : List Done} → Walks f goals done → Walks f (Write step ∷ goals) (Wrote step ∷ done)
-  Chooses : {goal : Goal} {goals : List Goal} {done : List Done} (option : List Goal) (earlier later : List (List Goal)) → options f goal ≡ earlier ++ option ∷ later →
-      Walks f (option ++ goals) done → Walks f (goal ∷ goals) (Chose later goals ∷ done)
-
 abbrev pub written : List Done → List Step
 written [] = []
 written (Wrote step ∷ done) = step ∷ written done
@@ -92,22 +84,26 @@ to_come f lists [] = []
 to_come f lists (Wrote step ∷ done) = map (λ rest. step ∷ rest) (to_come f lists done)
 to_come f lists (Chose later behind ∷ done) = to_come f lists done ++ later_steps f lists behind later
 
--- no choice has a later option
-abbrev pub AreSpent : List Done → Type 0
-AreSpent [] = Unit {0}
-AreSpent (Wrote step ∷ done) = AreSpent done
-AreSpent (Chose later behind ∷ done) = (later ≡ []) × AreSpent done
+-- what stands before a walk that has done this much and has these goals left: first all that they stand for, behind what is written
+abbrev pub stands : Forest → Lists → List Done → List Goal → List (List Step)
+stands f lists done left = map (λ rest. written done ++ rest) (steps_from f lists left) ++ to_come f lists done
 
 -- THE LAWS
 
--- a goal stands for what its options stand for, one after another, and its options are goals of the forest
+-- a goal stands for what its options stand for, one after another; it has one, and they are goals of the forest
 pub record GoalsAreChosen (f : Forest) (lists : Lists) : Type 0 where
   pub chosen : (goal : Goal) (goals : List Goal) → IsGoal f goal → ((step : Step) → goal ≡ Write step → ⊥) → steps_from f lists (goal ∷ goals) ≡ later_steps f lists goals (options f goal)
+  pub some : (goal : Goal) → IsGoal f goal → ((step : Step) → goal ≡ Write step → ⊥) → 0 < length (options f goal)
   pub kept : (goal : Goal) (option : List Goal) → IsGoal f goal → Contains (options f goal) option → AreGoals f option
 
--- what is still to come is known behind each walk, and going on with the next option of the last choice that has one takes its first
+-- a walk that goes on by first options and, when no goal is left, from its last choice that has a later option: nothing is lost
+-- of what stands before it, but for the steps that it gives
 pub record WalksGoOn (f : Forest) (lists : Lists) : Type 0 where
-  pub place : (goals : List Goal) (done : List Done) → AreGoals f goals → Walks f goals done → (before : List (List Step)) × (steps_from f lists goals ≡ before ++ written done ∷ to_come f lists done)
-  pub ended : (done : List Done) → AreSpent done → to_come f lists done ≡ []
-  pub next : (front back new : List Done) (option behind : List Goal) (later : List (List Goal)) → AreSpent back → steps_from f lists (option ++ behind) ≡ written new ∷ to_come f lists new →
-      to_come f lists (front ++ Chose (option ∷ later) behind ∷ back) ≡ written (front ++ Chose later behind ∷ new) ∷ to_come f lists (front ++ Chose later behind ∷ new)
+  pub writes : (done : List Done) (step : Step) (left : List Goal) → stands f lists done (Write step ∷ left) ≡ stands f lists (done ++ Wrote step ∷ []) left
+  pub chooses : (done : List Done) (goal : Goal) (left option : List Goal) (later : List (List Goal)) → IsGoal f goal → options f goal ≡ option ∷ later →
+      stands f lists done (goal ∷ left) ≡ stands f lists (done ++ Chose later left ∷ []) (option ++ left)
+  pub gives : (done : List Done) → stands f lists done [] ≡ written done ∷ to_come f lists done
+  pub unwrites : (done : List Done) (step : Step) → to_come f lists (done ++ Wrote step ∷ []) ≡ to_come f lists done
+  pub is_spent : (done : List Done) (behind : List Goal) → to_come f lists (done ++ Chose [] behind ∷ []) ≡ to_come f lists done
+  pub goes_on : (done : List Done) (option behind : List Goal) (later : List (List Goal)) →
+      to_come f lists (done ++ Chose (option ∷ later) behind ∷ []) ≡ stands f lists (done ++ Chose later behind ∷ []) (option ++ behind)
