@@ -9,3 +9,4 @@ pub mod Moved
 pub mod Existing
 pub mod Applied
 pub mod Walked
+pub mod Written

@@ -3,3 +3,4 @@ pub mod Laws
 pub mod Applied
 pub mod Goals
 pub mod Walked
+pub mod Written

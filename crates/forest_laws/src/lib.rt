@@ -4,6 +4,7 @@
 ghost use Rattle.forest_laws.specs.Applied.{ForestsApply};
 ghost use Rattle.forest_laws.specs.Laws.{ForestsExist, ForestsHaveLists, ListsAreOne};
 ghost use Rattle.forest_laws.specs.Walked.{ForestsAreWalked};
+ghost use Rattle.forest_laws.specs.Written.{StepsAreWritten};
 
 /// Each reading with a derivation has a forest.
 pub fn forests_exist()
@@ -29,4 +30,9 @@ pub fn forests_apply()
 /// A walk through a forest, which goes on from the last choice that has a later option, comes to each derivation once, in the declared order.
 pub fn forests_are_walked()
     ensures { ForestsAreWalked }
+{}
+
+/// The steps of a flat derivation are written, one after another, as the steps of what it stands for.
+pub fn steps_are_written()
+    ensures { StepsAreWritten }
 {}
