@@ -355,7 +355,7 @@ module _ (f : Forest) (is : IsForest f) where
       one zero m r a b = let a' : n ≡ m = cc in let b' : top_of f ≡ r = cc in subst (λ z. IsNode f z (whole_key f r 0 f.place)) a' (subst (λ z. IsNode f n (whole_key f z 0 f.place)) b' node)
       one (suc i) m r a b = cc
 
-  root_all : (root : Option ℕ) → IsRoot f root → IsAll F E order (slot_of whole_symbol) 0 f.place (roots_by f lists root)
+  pub root_all : (root : Option ℕ) → IsRoot f root → IsAll F E order (slot_of whole_symbol) 0 f.place (roots_by f lists root)
   root_all None h =
       let e : 0 ≡ f.place = sym h in
       null_all whole_symbol 0 f.place e (over_nothing is.derived.derives e)

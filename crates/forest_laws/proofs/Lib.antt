@@ -10,3 +10,4 @@ pub mod Existing
 pub mod Applied
 pub mod Walked
 pub mod Written
+pub mod Taken

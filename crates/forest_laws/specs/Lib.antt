@@ -4,3 +4,4 @@ pub mod Applied
 pub mod Goals
 pub mod Walked
 pub mod Written
+pub mod Taken

@@ -3,6 +3,7 @@
 
 ghost use Rattle.forest_laws.specs.Applied.{ForestsApply};
 ghost use Rattle.forest_laws.specs.Laws.{ForestsExist, ForestsHaveLists, ListsAreOne};
+ghost use Rattle.forest_laws.specs.Taken.{FrontsAreTaken};
 ghost use Rattle.forest_laws.specs.Walked.{ForestsAreWalked};
 ghost use Rattle.forest_laws.specs.Written.{StepsAreWritten};
 
@@ -35,4 +36,9 @@ pub fn forests_are_walked()
 /// The steps of a flat derivation are written, one after another, as the steps of what it stands for.
 pub fn steps_are_written()
     ensures { StepsAreWritten }
+{}
+
+/// What a walk has given so far are the first derivations of the list, and with nothing left it is the whole list.
+pub fn fronts_are_taken()
+    ensures { FrontsAreTaken }
 {}

@@ -1,0 +1,82 @@
+-- The first lists of steps are those of the first derivations.
+use Rattle.std.proofs.Common.{◌≡◌, ℕ, List, [], ◌∷◌, ◌++◌, map, inl, inr, Option, Some, None, refl, sym, ap, ◌∙◌, subst}
+use Rattle.std.specs.Prelude.{slice_get}
+use Rattle.grammar_model.specs.Trees.{Tree, Node}
+use Rattle.grammar_model.specs.Steps.{Step, steps_of}
+use Rattle.grammar_model.proofs.Lists.{Among, contains_from, among_left}
+use Rattle.recognizer_model.specs.Flat.{lhs_of}
+use Rattle.recognizer_model.specs.FlatForm.{tree_of}
+use Rattle.recognizer_model.specs.FlatDerives.{Derives}
+use Rattle.forest_model.specs.Forest.{Forest, IsForest, IsRoot, edges_of, top_of}
+use Rattle.forest_model.specs.Listing.{IsListing}
+use Rattle.forest_laws.specs.Lists.{Lists, roots_by, rule_of}
+use Rattle.forest_laws.specs.Laws.{AreAllLists}
+use Rattle.forest_laws.specs.Written.{steps_written}
+use Rattle.forest_laws.specs.Taken.{AreTaken, FrontsAreTaken}
+use Rattle.forest_laws.proofs.Lists.{append_nil}
+use Rattle.forest_laws.proofs.Reading
+use Rattle.forest_laws.proofs.Exact
+use Rattle.forest_laws.proofs.Exact.{root_all}
+use Rattle.forest_laws.proofs.One.{only_one}
+use Rattle.forest_laws.proofs.Written.{steps_are_written}
+
+record IsSplitAt {X Y : Type 0} (h : X → Y) (xs : List X) (ys zs : List Y) : Type 0 where
+  first : List X
+  second : List X
+  both : xs ≡ first ++ second
+  first_is : map h first ≡ ys
+  second_is : map h second ≡ zs
+
+split_map : {X Y : Type 0} (h : X → Y) (xs : List X) (ys zs : List Y) → map h xs ≡ ys ++ zs → IsSplitAt h xs ys zs
+split_map h xs [] zs e = record { first = []; second = xs; both = refl; first_is = refl; second_is = e }
+split_map h [] (y ∷ ys) zs e = cc
+split_map h (x ∷ xs) (y ∷ ys) zs e =
+    let head : h x ≡ y = cc in
+    let tail : map h xs ≡ ys ++ zs = cc in
+    let s = split_map h xs ys zs tail in
+    let same = s.first_is in
+    record { first = x ∷ s.first; second = s.second; both = ap (λ l. x ∷ l) s.both; first_is = λ i. head i ∷ same i; second_is = s.second_is }
+
+map_both : {X Y : Type 0} (f : X → Y) (xs ys : List X) → map f (xs ++ ys) ≡ map f xs ++ map f ys
+map_both f [] ys = refl
+map_both f (x ∷ xs) ys = ap (λ l. f x ∷ l) (map_both f xs ys)
+
+none_left : {X Y : Type 0} (h : X → Y) (xs : List X) → map h xs ≡ [] → xs ≡ []
+none_left h [] e = refl
+none_left h (x ∷ xs) e = cc
+
+each_written : (out : List Step → List Step) (tree : Tree → Tree) (ts : List Tree) → ((t : Tree) → Among t ts → out (steps_of t) ≡ steps_of (tree t)) → map out (map steps_of ts) ≡ map steps_of (map tree ts)
+each_written out tree [] e = refl
+each_written out tree (t ∷ ts) e =
+    let a = e t (inl refl) in
+    let b = each_written out tree ts (λ u m. e u (inr m)) in
+    λ i. a i ∷ b i
+
+module _ (f : Forest) (lists : Lists) (is : IsForest f) (all : AreAllLists f lists) where
+  roots_same : (root : Option ℕ) → IsRoot f root → roots_by f lists root ≡ roots_by f (Exact.lists f is) root
+  roots_same None h = refl
+  roots_same (Some n) (lt, (node, e, same)) = ap (map (λ cs. Node (rule_of (slice_get f.nodes n)) cs 0 f.place)) (only_one f is lists all.equal n node e)
+
+  derived : (t : Tree) → Among t (roots_by f lists f.root) → Derives f.flat (edges_of f) (lhs_of f.flat (top_of f)) 0 f.place t
+  derived t m =
+      let known = root_all f is f.root is.root in
+      let here = subst (Among t) (roots_same f.root is.root) m in
+      Reading.back f is.derived (lhs_of f.flat (top_of f)) 0 f.place t ((known.each t).0 (contains_from (roots_by f (Exact.lists f is) f.root) t here))
+
+  pub taken_are : (taken rest : List (List Step)) → map steps_of (roots_by f lists f.root) ≡ taken ++ rest → AreTaken f taken rest
+  taken_are taken rest e =
+      let s = split_map steps_of (roots_by f lists f.root) taken rest e in
+      let listing : IsListing f (map (tree_of f.written f.flat) s.first ++ map (tree_of f.written f.flat) s.second) =
+      subst (IsListing f) (ap (map (tree_of f.written f.flat)) s.both ∙ map_both (tree_of f.written f.flat) s.first s.second) all.listing in
+      record {
+        given = map (tree_of f.written f.flat) s.first;
+        first = record { rest = map (tree_of f.written f.flat) s.second; listing = listing };
+        steps = ap (map (steps_written f.written f.flat [])) (sym s.first_is)
+            ∙ each_written (steps_written f.written f.flat []) (tree_of f.written f.flat) s.first
+            (λ t m. steps_are_written f is.derived t (derived t (subst (Among t) (sym s.both) (among_left t s.first s.second m))));
+        all = λ none. (let gone = none_left steps_of s.second (s.second_is ∙ none) in
+            subst (IsListing f) (ap (λ l. map (tree_of f.written f.flat) s.first ++ map (tree_of f.written f.flat) l) gone ∙ append_nil (map (tree_of f.written f.flat) s.first)) listing);
+      }
+
+pub fronts_are_taken : FrontsAreTaken
+fronts_are_taken f lists taken rest is all e = taken_are f lists is all taken rest e
