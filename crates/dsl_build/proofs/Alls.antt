@@ -1,5 +1,5 @@
 -- Facts that hold along lists.
-use Rattle.std.proofs.Common.{◌≡◌, ℕ, zero, suc, ◌<◌, Bool, true, false, cond, List, [], ◌∷◌, ◌++◌, refl, sym, ap, ◌∙◌, map, length, arith}
+use Rattle.std.proofs.Common.{◌≡◌, ℕ, zero, suc, ◌<◌, Bool, true, false, cond, List, [], ◌∷◌, ◌++◌, refl, map, length, arith}
 use Rattle.std.specs.Prelude.{flat_map, filter, slice_index_or}
 use Rattle.std.specs.List.{AllByRecursion}
 use Rattle.dsl_build.proofs.Faultless.{front_empty, back_empty}

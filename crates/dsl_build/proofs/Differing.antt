@@ -3,11 +3,10 @@ use Rattle.std.proofs.Common.{◌≡◌, ℕ, zero, suc, Bool, true, false, cond
 use Rattle.std.specs.Prelude.{filter, not, ◌||◌, bytes_eq, slice_get}
 use Rattle.std.proofs.lemmas.Bool.{true≢false}
 use Rattle.std.proofs.lemmas.Slice.Eq.{bytes_eq-Decides}
-use Rattle.std.proofs.Math.Bool.{or-false}
 use Rattle.std.specs.List.{AllByRecursion}
 use Rattle.language_model.specs.Tokens.{Spelled}
 use Rattle.language_model.specs.Description.{Statement}
-use Rattle.language_model.specs.Building.{is_one_of, new_texts, new_tokens, symbols_g1, lexemes, discarded, start_texts, placed_tokens, texts_l0, named_l0, left_names, lexical_tokens}
+use Rattle.language_model.specs.Building.{is_one_of, new_texts, new_tokens, symbols_g1, lexemes, discarded, start_texts, texts_l0, named_l0, left_names}
 use Rattle.dsl_build.specs.Texts.{AllNew}
 
 -- none of the texts is one of those seen
@@ -70,11 +69,12 @@ filter_new p seen (n ∷ ns) new = go (p n) (filter_new p (n ∷ seen) ns new.1)
 -- more texts that were seen
 more : (seen others all names : List (List ℕ)) → ((t : List ℕ) → is_one_of seen t ≡ false → is_one_of others t ≡ false → is_one_of all t ≡ false) → AllNew seen names → Apart others names → AllNew all names
 more seen others all [] h new apart = tt
-more seen others all (n ∷ ns) h new apart =
-    (h n new.0 apart.0,
-    more (n ∷ seen) others (n ∷ all) ns
-    (λ (t : List ℕ) (e : (bytes_eq n t || is_one_of seen t) ≡ false) (f : is_one_of others t ≡ false). both_false (bytes_eq n t) (is_one_of all t) (neither (bytes_eq n t) (is_one_of seen t) e).0 (h t (neither (bytes_eq n t) (is_one_of seen t) e).1 f))
-    new.1 apart.1)
+more seen others all (n ∷ ns) h new apart = (
+  h n new.0 apart.0,
+  more (n ∷ seen) others (n ∷ all) ns
+      (λ (t : List ℕ) (e : (bytes_eq n t || is_one_of seen t) ≡ false) (f : is_one_of others t ≡ false). both_false (bytes_eq n t) (is_one_of all t) (neither (bytes_eq n t) (is_one_of seen t) e).0 (h t (neither (bytes_eq n t) (is_one_of seen t) e).1 f))
+      new.1 apart.1,
+)
 
 apart_one : (x : List ℕ) (xs ys : List (List ℕ)) → Apart (x ∷ xs) ys → Apart xs ys
 apart_one x xs [] a = tt

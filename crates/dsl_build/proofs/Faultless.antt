@@ -1,7 +1,7 @@
 -- What a description without faults has not.
-use Rattle.std.proofs.Common.{◌≡◌, Bool, true, false, List, [], ◌∷◌, ◌++◌, refl, sym, ap, ◌∙◌, map}
+use Rattle.std.proofs.Common.{◌≡◌, Bool, true, false, List, [], ◌∷◌, ◌++◌, refl, map}
 use Rattle.language_model.specs.Description.{Statement}
-use Rattle.language_model.specs.Building.{Fault, BuildFault, BadAdverb, RepeatedAdverb, LexemeNotDefined, InBoth, NotALexeme, BadClass, TwoStarts, NumberRange, TooLong, faults_of, bad_adverbs, repeated, not_defined, in_both, lefts, not_lexemes, bad_classes, second_starts, big_numbers, too_long, at_most}
+use Rattle.language_model.specs.Building.{Fault, BadAdverb, RepeatedAdverb, LexemeNotDefined, InBoth, NotALexeme, BadClass, TwoStarts, NumberRange, TooLong, faults_of, bad_adverbs, repeated, not_defined, in_both, lefts, not_lexemes, bad_classes, second_starts, big_numbers, too_long, at_most}
 
 pub front_empty : {A : Type 0} (xs ys : List A) → xs ++ ys ≡ [] → xs ≡ []
 front_empty [] ys e = refl

@@ -1,5 +1,5 @@
 -- A token with a place in the lexical grammar has at most a thousand character sets.
-use Rattle.std.proofs.Common.{◌≡◌, ℕ, ◌+◌, ◌≤◌, ◌==◌, Bool, true, false, cond, List, [], ◌∷◌, ◌++◌, Option, Some, None, refl, sym, ap, ◌∙◌, subst, map, length, arith, ltb-false}
+use Rattle.std.proofs.Common.{◌≡◌, ℕ, ◌+◌, ◌≤◌, ◌==◌, Bool, true, false, cond, List, [], ◌∷◌, ◌++◌, Some, refl, sym, subst, map, length, arith, ltb-false}
 use Rattle.std.specs.Prelude.{flat_map, filter, not, ◌||◌, ◌&&◌, bytes_eq, codes, option_to_list, nat_lt, IsTrue, Result, Ok, Err, chars}
 use Rattle.std.specs.List.{AllByRecursion, list_all}
 use Rattle.std.proofs.lemmas.Bool.{true≢false}
@@ -11,10 +11,10 @@ use Rattle.language_model.specs.declared.class.ClassFault.{ClassFault}
 use Rattle.language_model.specs.Tokens.{Spelled}
 use Rattle.language_model.specs.Classes.{Class, class_of, class_of_char, modifier_len}
 use Rattle.language_model.specs.Description.{Alternative, Adverb, Comma, Pair, Statement, Start, Default, LexemeDefault, Lexeme, Discard, Empty, Quantified, Rules, is_statement, is_name, is_kind_of_single, is_adverb, Together, Spells, pieces_of}
-use Rattle.language_model.specs.Building.{AdverbPlace, InLexicalQuantified, InQuantified, is_one_of, names_at, fits_adverb, is_single, pairs_of, adverb_lists, value_of, separator_of, parts_of, alternatives_of, right_of, right_sides, long_parts, too_long, bad_adverbs, at_most, fault_at, Fault, is_quote, is_bracket, is_quote_or_bracket, quoted, sets_of, lexical_tokens, new_tokens, placed_tokens}
+use Rattle.language_model.specs.Building.{AdverbPlace, InLexicalQuantified, InQuantified, is_one_of, names_at, fits_adverb, is_single, pairs_of, adverb_lists, value_of, separator_of, parts_of, alternatives_of, right_sides, long_parts, at_most, fault_at, Fault, is_quote, is_quote_or_bracket, quoted, sets_of, lexical_tokens, new_tokens, placed_tokens}
 use Rattle.language_model.specs.Texts.{IsDescription, spelled}
 use Rattle.dsl_build.proofs.Faultless.{Faultless, front_empty, back_empty, none_of}
-use Rattle.dsl_build.proofs.Alls.{all_front, all_back, all_join, all_map, all_mapped, all_weaker, all_always, all_flat, all_filter, all_empty}
+use Rattle.dsl_build.proofs.Alls.{all_map, all_mapped, all_weaker, all_flat, all_filter, all_empty}
 
 -- a token with at most a thousand sets
 abbrev pub IsFew : Spelled → Type 0
@@ -117,9 +117,10 @@ or_back false b e = e
 
 parts_few : (before : ℕ) (ts : List Spelled) → long_parts before ts ≡ [] → AllByRecursion IsFew ts
 parts_few before [] e = tt
-parts_few before (t ∷ ts) e =
-    (few_token t (or_back (before == 1000) (is_long t) (none_of (before == 1000 || is_long t) (fault_at t) (front_empty (at_most (before == 1000 || is_long t) (fault_at t)) (long_parts (before + 1) ts) e))),
-    parts_few (before + 1) ts (back_empty (at_most (before == 1000 || is_long t) (fault_at t)) (long_parts (before + 1) ts) e))
+parts_few before (t ∷ ts) e = (
+  few_token t (or_back (before == 1000) (is_long t) (none_of (before == 1000 || is_long t) (fault_at t) (front_empty (at_most (before == 1000 || is_long t) (fault_at t)) (long_parts (before + 1) ts) e))),
+  parts_few (before + 1) ts (back_empty (at_most (before == 1000 || is_long t) (fault_at t)) (long_parts (before + 1) ts) e),
+)
 
 sides_few : (alternatives : List Alternative) → flat_map (long_parts 0) (map parts_of alternatives) ≡ [] → AllByRecursion IsFew (flat_map parts_of alternatives)
 sides_few alternatives e =

@@ -1,18 +1,18 @@
 -- Rules name symbols of their grammar, and their right sides are short.
-use Rattle.std.proofs.Common.{◌≡◌, ℕ, zero, suc, ◌+◌, ◌<◌, ◌≤◌, ◌==◌, Bool, true, false, cond, List, [], ◌∷◌, ◌++◌, Option, Some, None, refl, sym, ap, ◌∙◌, subst, map, length, arith, eq-eqb}
+use Rattle.std.proofs.Common.{◌≡◌, ℕ, suc, ◌+◌, ◌<◌, ◌≤◌, ◌==◌, Bool, true, false, cond, List, [], ◌∷◌, ◌++◌, Option, Some, None, refl, sym, ap, ◌∙◌, subst, map, length, arith}
 use Rattle.std.specs.Prelude.{flat_map, filter, not, ◌||◌, ◌&&◌, bytes_eq, codes, All, option_map, option_to_list, nat_lt}
 use Rattle.std.specs.List.{AllByRecursion}
 use Rattle.std.proofs.lemmas.Bool.{true≢false}
 use Rattle.std.proofs.lemmas.List.{map-append, length-map}
 use Rattle.std.proofs.lemmas.List.Elements.{All-from_recursion}
-use Rattle.grammar_model.specs.Grammar.{WrittenRule, Plain, Sequence}
+use Rattle.grammar_model.specs.Grammar.{WrittenRule}
 use Rattle.grammar_core.specs.Written.{symbols_of, IsLevelled}
 use Rattle.language_model.specs.Tokens.{Spelled}
-use Rattle.language_model.specs.Description.{Alternative, Adverb, Statement, Start, Default, LexemeDefault, Lexeme, Discard, Empty, Quantified, Rules}
+use Rattle.language_model.specs.Description.{Alternative, Statement, Start, Default, LexemeDefault, Lexeme, Discard, Empty, Quantified, Rules}
 use Rattle.language_model.specs.Building.{is_one_of, place_in, numbers_in, parts_of, alternatives_of, separator_of, value_of, plain_rule, rules_of_groups, rules_of, is_of_level, right_sides, long_parts, too_long, at_most, fault_at, is_quote, quoted}
 use Rattle.dsl_build.proofs.Keeping.{bytes_eq_sym}
 use Rattle.dsl_build.proofs.Faultless.{front_empty, back_empty, none_of}
-use Rattle.dsl_build.proofs.Alls.{all_front, all_back, all_join, all_map, all_mapped, all_weaker, all_flat, all_filter, all_empty}
+use Rattle.dsl_build.proofs.Alls.{all_front, all_back, all_join, all_mapped, all_weaker, all_empty}
 use Rattle.std.proofs.lemmas.Grind.{flat_map-append}
 use Rattle.std.proofs.lemmas.Bool.{eqb-false}
 
@@ -54,9 +54,10 @@ group_good names left level count [] lt held known short = tt
 group_good names left level count (a ∷ as') lt held known short =
     let split : AllIn names (contents (parts_of a) ++ alternatives_in as') = subst (AllIn names) (map-append (λ (t : Spelled). t.content) (parts_of a) (flat_map parts_of as')) known in
     let parts = numbers_known names (parts_of a) (all_front (λ t. is_one_of names t ≡ true) (contents (parts_of a)) (alternatives_in as') split) in
-    let long : length (numbers_in names (parts_of a)) ≤ 1000 = subst (λ n. n ≤ 1000) (sym (length-map (parts_of a) (λ t. place_in names t.content))) short.0 in
-    ((All-from_recursion (λ s. s < length names) (place_in names left.content ∷ numbers_in names (parts_of a)) (place_known names left.content held, parts), (lt, long)),
-    group_good names left level count as' lt held (all_back (λ t. is_one_of names t ≡ true) (contents (parts_of a)) (alternatives_in as') split) short.1)
+    let long : length (numbers_in names (parts_of a)) ≤ 1000 = subst (λ n. n ≤ 1000) (sym (length-map (parts_of a) (λ t. place_in names t.content))) short.0 in (
+      (All-from_recursion (λ s. s < length names) (place_in names left.content ∷ numbers_in names (parts_of a)) (place_known names left.content held, parts), (lt, long)),
+      group_good names left level count as' lt held (all_back (λ t. is_one_of names t ≡ true) (contents (parts_of a)) (alternatives_in as') split) short.1,
+    )
 
 groups_good : (names : List (List ℕ)) (left : Spelled) (count : ℕ) (gs : List (List Alternative)) → length gs ≤ count → is_one_of names left.content ≡ true → AllIn names (alternatives_in (alternatives_of gs)) → AllByRecursion IsShort (alternatives_of gs) →
     AllByRecursion (IsGood (length names)) (rules_of_groups names left count gs)

@@ -1,13 +1,12 @@
 -- What `:lexeme` statements say of a lexeme.
-use Rattle.std.proofs.Common.{◌≡◌, ℕ, zero, suc, ◌+◌, Bool, true, false, cond, List, [], ◌∷◌, ◌++◌, Option, Some, None, refl, sym, ap, ◌∙◌, map, append-nil, length, arith}
+use Rattle.std.proofs.Common.{◌≡◌, ℕ, suc, ◌+◌, Bool, true, false, cond, List, [], ◌∷◌, ◌++◌, Option, Some, refl, sym, ap, ◌∙◌, map, append-nil, length, arith}
 use Rattle.std.specs.Prelude.{flat_map, option_map, unwrap_or, bytes_eq, codes, pos, slice_index_or, not, ◌||◌}
 use Rattle.std.specs.List.{list_any, position_or_len}
 use Rattle.std.proofs.lemmas.Bool.{true≢false}
 use Rattle.std.proofs.lemmas.Slice.Eq.{bytes_eq-Decides}
-use Rattle.std.proofs.Math.Bool.{or-false}
 use Rattle.language_model.specs.Tokens.{Spelled}
 use Rattle.language_model.specs.Description.{Adverb, Comma, Pair, Statement, Start, Default, LexemeDefault, Lexeme, Discard, Empty, Quantified, Rules}
-use Rattle.language_model.specs.Building.{is_one_of, value_of, says, place_in, number_of, LexemeRow, lexeme_row, lexeme_adverbs, lexeme_default_adverbs, symbols_g1, start_texts, repeated, repeated_statement, repeated_in, pairs_of, adverb_lists, is_lexeme_of, at_most, Fault}
+use Rattle.language_model.specs.Building.{is_one_of, value_of, place_in, number_of, LexemeRow, lexeme_row, lexeme_adverbs, lexeme_default_adverbs, symbols_g1, start_texts, repeated, repeated_statement, repeated_in, pairs_of, adverb_lists, is_lexeme_of}
 use Rattle.dsl_build.specs.Tables.{lexeme_parts, adverbs_at, or_else, row_from}
 use Rattle.dsl_build.specs.Texts.{AllNew}
 use Rattle.dsl_build.proofs.Lists.{flat_flat, flat_same}
@@ -27,7 +26,6 @@ value_or name (Pair n value ∷ own) all = go (bytes_eq n.content name) (value_o
 
 -- NO SECOND STATEMENT OF A LEXEME
 
-
 -- every text that was seen is the name of a statement before
 abbrev SameSeen : List (List ℕ) → List Statement → Type 0
 SameSeen seen before = (t : List ℕ) → is_one_of seen t ≡ list_any (is_lexeme_of t) before
@@ -43,9 +41,10 @@ statements_new seen before (s ∷ ss) same e =
     go s own (λ (seen' : List (List ℕ)) (same' : SameSeen seen' (s ∷ before)). statements_new seen' (s ∷ before) ss same' rest)
   where
     go : (x : Statement) → repeated_statement before x ≡ [] → ((seen' : List (List ℕ)) → SameSeen seen' (x ∷ before) → AllNew seen' (names_of ss)) → AllNew seen (names_of (x ∷ ss))
-    go (Lexeme at name adverbs) own rest =
-        (same name.content ∙ none_of (list_any (is_lexeme_of name.content) before) (record { at = at; name = codes ":lexeme" }) own,
-        rest (name.content ∷ seen) (λ (t : List ℕ). ap (λ b. b || is_one_of seen t) (bytes_eq_sym name.content t) ∙ ap (λ b. bytes_eq t name.content || b) (same t)))
+    go (Lexeme at name adverbs) own rest = (
+      same name.content ∙ none_of (list_any (is_lexeme_of name.content) before) (record { at = at; name = codes ":lexeme" }) own,
+      rest (name.content ∷ seen) (λ (t : List ℕ). ap (λ b. b || is_one_of seen t) (bytes_eq_sym name.content t) ∙ ap (λ b. bytes_eq t name.content || b) (same t)),
+    )
     go (Start at name) own rest = rest seen same
     go (Default at adverbs) own rest = rest seen same
     go (LexemeDefault at adverbs) own rest = rest seen same

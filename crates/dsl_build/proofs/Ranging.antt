@@ -1,28 +1,26 @@
 -- What is built of a description without faults is in range.
-use Rattle.std.proofs.Common.{◌≡◌, ℕ, zero, suc, ◌+◌, ◌<◌, ◌≤◌, Bool, true, false, cond, List, [], ◌∷◌, ◌++◌, Option, Some, None, refl, sym, ap, ◌∙◌, subst, map, length, take, arith, ◌⊎◌, inl, inr, ⊎_elim}
-use Rattle.std.specs.Prelude.{flat_map, filter, filter_map, not, ◌||◌, ◌&&◌, bytes_eq, codes, All, option_to_list, decimal, pos}
-use Rattle.std.specs.List.{AllByRecursion, cons_option}
+use Rattle.std.proofs.Common.{◌≡◌, ℕ, zero, suc, ◌+◌, ◌<◌, ◌≤◌, Bool, true, false, cond, List, [], ◌∷◌, ◌++◌, refl, sym, ap, ◌∙◌, subst, map, length, take, arith, ◌⊎◌, inl, inr, ⊎_elim}
+use Rattle.std.specs.Prelude.{flat_map, filter, not, ◌||◌, ◌&&◌, bytes_eq, decimal, pos}
+use Rattle.std.specs.List.{AllByRecursion}
 use Rattle.std.proofs.lemmas.Bool.{true≢false}
-use Rattle.std.proofs.lemmas.List.{map-append, length-map, length-append}
+use Rattle.std.proofs.lemmas.List.{length-map, length-append}
 use Rattle.std.proofs.lemmas.List.Elements.{All-from_recursion, recursion_from_All}
 use Rattle.std.proofs.lemmas.Slice.Eq.{bytes_eq-Decides}
-use Rattle.grammar_model.specs.Grammar.{WrittenRule, Plain, Grammar}
+use Rattle.grammar_model.specs.Grammar.{WrittenRule, Plain}
 use Rattle.grammar_model.specs.declared.Assoc.TheVariants.{Left}
 use Rattle.grammar_core.specs.Written.{symbols_of}
 use Rattle.language_model.specs.Tokens.{Spelled}
-use Rattle.language_model.specs.Classes.{Class, class_of}
-use Rattle.language_model.specs.Description.{Alternative, Adverb, Statement, Start, Default, LexemeDefault, Lexeme, Discard, Empty, Quantified, Rules}
-use Rattle.language_model.specs.Building.{Built, is_one_of, place_in, parts_of, alternatives_of, separator_of, rules_of, is_of_level, structural_names, symbols_g1, lefts, left_of, left_names, lexemes, start_names, start_of, lexical_tokens, placed_tokens, new_tokens, new_texts, texts_l0, named_l0, sets_l0, sets_of, set_names, added_rules, count_from, discards_of, discarded, start_texts, grammar_g1, grammar_l0, lexeme_row, built_of, numbered_from, faults_of, is_quote_or_bracket, is_quote, is_bracket}
-use Rattle.language_model.specs.Texts.{IsBuiltOf, IsDescription}
+use Rattle.language_model.specs.Description.{Statement, Start, Default, LexemeDefault, Lexeme, Discard, Empty, Quantified, Rules}
+use Rattle.language_model.specs.Building.{Built, is_one_of, place_in, parts_of, alternatives_of, separator_of, rules_of, is_of_level, structural_names, symbols_g1, left_names, lexemes, start_names, start_of, lexical_tokens, placed_tokens, new_tokens, new_texts, texts_l0, named_l0, sets_l0, sets_of, set_names, added_rules, count_from, discards_of, discarded, start_texts, grammar_g1, grammar_l0, lexeme_row, built_of, numbered_from, is_quote_or_bracket}
+use Rattle.language_model.specs.Texts.{IsBuiltOf}
 use Rattle.dsl_build.specs.Ranges.{IsKnown, IsInRange}
 use Rattle.dsl_build.proofs.Lists.{map_flat}
 use Rattle.dsl_build.proofs.Keeping.{among_texts}
 use Rattle.dsl_build.proofs.Bridges.{among_filtered}
 use Rattle.dsl_build.proofs.Faultless.{Faultless, faultless}
-use Rattle.dsl_build.proofs.Differing.{symbols_new}
-use Rattle.dsl_build.proofs.Alls.{all_front, all_back, all_join, all_map, all_mapped, all_weaker, all_flat, all_pieces}
+use Rattle.dsl_build.proofs.Alls.{all_join, all_map, all_weaker, all_flat, all_pieces}
 use Rattle.dsl_build.proofs.Few.{IsFew, few_placed}
-use Rattle.dsl_build.proofs.Known.{AllIn, place_known, numbers_known, IsGood, names_in, AreShort, level_good, sides_short}
+use Rattle.dsl_build.proofs.Known.{AllIn, place_known, IsGood, names_in, level_good, sides_short}
 
 -- TEXTS AMONG TEXTS
 
@@ -293,8 +291,11 @@ tables_in_range d f few =
     record {
       g1 = g1_known d f;
       l0 = l0_known d f few;
-      sets = (length (named_l0 d), ap (λ k. length (named_l0 d) + k) (numbered_long (length (named_l0 d)) (sets_l0 d)) ∙ sym (names_long d),
-      numbers_are (length (named_l0 d)) (sets_l0 d) ∙ ap (count_from (length (named_l0 d))) (sym (numbered_long (length (named_l0 d)) (sets_l0 d))));
+      sets = (
+        length (named_l0 d),
+        ap (λ k. length (named_l0 d) + k) (numbered_long (length (named_l0 d)) (sets_l0 d)) ∙ sym (names_long d),
+        numbers_are (length (named_l0 d)) (sets_l0 d) ∙ ap (count_from (length (named_l0 d))) (sym (numbered_long (length (named_l0 d)) (sets_l0 d))),
+      );
       symbols = All-from_recursion (λ r. r.symbol < length (symbols_g1 d)) (map (lexeme_row d) (lexemes d))
           (all_map (λ r. r.symbol < length (symbols_g1 d)) (lexeme_row d) (lexemes d) (all_weaker (λ t. is_one_of (symbols_g1 d) t ≡ true) (λ t. place_in (symbols_g1 d) t < length (symbols_g1 d)) (lexemes d) (place_known (symbols_g1 d)) (all_in (symbols_g1 d) (lexemes d) (symbol_of_lexeme d))));
       starts = All-from_recursion (λ r. r.start < length (grammar_l0 d).starts) (map (lexeme_row d) (lexemes d))

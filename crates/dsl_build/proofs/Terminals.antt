@@ -1,33 +1,32 @@
 -- The terminals of a lexical grammar: its character sets, and a start that has no rule at all.
-use Rattle.std.proofs.Common.{◌≡◌, ◌≢◌, ℕ, zero, suc, ◌+◌, ◌<◌, ◌≤◌, Bool, true, false, cond, List, [], ◌∷◌, ◌++◌, Option, Some, None, refl, sym, ap, ◌∙◌, subst, map, length, take, drop, arith, ◌⊎◌, inl, inr, ⊎_elim, append_assoc, ◌-◌}
+use Rattle.std.proofs.Common.{◌≡◌, ◌≢◌, ℕ, zero, suc, ◌+◌, ◌<◌, ◌≤◌, Bool, true, false, cond, List, [], ◌∷◌, ◌++◌, Option, Some, refl, sym, ap, ◌∙◌, subst, map, length, take, drop, arith, ◌⊎◌, inl, inr, ⊎_elim, ◌-◌}
 use Rattle.std.proofs.lemmas.Bool.{cases_lt}
-use Rattle.std.specs.Prelude.{flat_map, filter, filter_map, not, ◌||◌, ◌&&◌, bytes_eq, codes, IsTrue, slice_index_or, slice_get, option_to_list, pos}
+use Rattle.std.specs.Prelude.{flat_map, filter, not, ◌||◌, ◌&&◌, bytes_eq, codes, IsTrue, slice_index_or, slice_get, option_to_list, pos}
 use Rattle.std.specs.List.{AllByRecursion, list_all}
 use Rattle.std.proofs.lemmas.Bool.{true≢false}
 use Rattle.std.proofs.lemmas.Grind.{flat_map-append}
-use Rattle.std.proofs.lemmas.List.{length-append, length-map}
 use Rattle.std.proofs.lemmas.Slice.Eq.{bytes_eq-Decides}
 use Rattle.grammar_model.specs.declared.Assoc.TheVariants.{Left}
-use Rattle.grammar_model.specs.Grammar.{WrittenRule, Plain, Grammar, lhs_of, no_rule, IsTerminal}
+use Rattle.grammar_model.specs.Grammar.{WrittenRule, Plain, lhs_of, no_rule, IsTerminal}
 use Rattle.grammar_core.proofs.Growth.{named}
 use Rattle.language_model.specs.declared.token.TokenKind.{TokenKind}
 use Rattle.language_model.specs.declared.token.TokenKind.TheVariants.{Word, Angle, Quote, Bracket, Pseudo, Reserved, Signed, Mark}
 use Rattle.language_model.specs.Tokens.{Spelled}
 use Rattle.language_model.specs.Description.{Element, Bare, Hidden, Alternative, Adverb, Comma, Pair, Statement, Start, Default, LexemeDefault, Lexeme, Discard, Empty, Quantified, Rules, is_statement, is_name, is_kind_of_single, is_kind_of_part, is_adverb, is_element, is_alternative, is_group, is_one, is_some as is_filled}
-use Rattle.language_model.specs.Building.{AdverbPlace, InLexicalQuantified, InQuantified, is_one_of, names_at, fits_adverb, is_single, pairs_of, value_of, separator_of, parts_of, parts_of_element, alternatives_of, place_in, plain_rule, rules_of_groups, rules_of, is_of_level, left_of, right_of, lefts, left_names, all_left_names, structural_names, symbols_g1, lexemes, start_names, start_places, start_of, second_starts, not_defined, at_most, fault_at, Fault, is_quote_or_bracket, lexical_tokens, new_texts, new_tokens, placed_tokens, texts_l0, named_l0, sets_l0, sets_of, count_from, added_rules, grammar_g1, grammar_l0, Built, built_of, numbered_from, set_names}
+use Rattle.language_model.specs.Building.{AdverbPlace, InLexicalQuantified, InQuantified, is_one_of, names_at, fits_adverb, is_single, pairs_of, value_of, separator_of, parts_of, parts_of_element, alternatives_of, place_in, plain_rule, rules_of_groups, rules_of, is_of_level, left_of, right_of, lefts, left_names, all_left_names, structural_names, symbols_g1, lexemes, start_names, start_places, start_of, second_starts, at_most, fault_at, Fault, is_quote_or_bracket, lexical_tokens, new_texts, placed_tokens, texts_l0, named_l0, sets_l0, sets_of, count_from, added_rules, grammar_g1, grammar_l0, Built, built_of, set_names}
 use Rattle.language_model.specs.Texts.{IsDescription, IsBuiltOf, spelled}
 use Rattle.dsl_build.specs.Ranges.{HasSet, IsBareStart, TerminalsHaveSets}
 use Rattle.language_model.specs.Description.{pieces_of}
 use Rattle.dsl_build.proofs.Keeping.{among_texts}
-use Rattle.dsl_build.proofs.Bridges.{among_filtered, any_left, names_at_level}
+use Rattle.dsl_build.proofs.Bridges.{among_filtered, any_left}
 use Rattle.dsl_build.proofs.Faultless.{Faultless, faultless, front_empty, back_empty, map_empty, none_of}
-use Rattle.dsl_build.proofs.Differing.{differ, named_new, symbols_new}
-use Rattle.dsl_build.proofs.Alls.{all_front, all_back, all_join, all_map, all_mapped, all_weaker, all_always, all_flat, all_pieces, all_filter, all_empty, all_at}
+use Rattle.dsl_build.proofs.Differing.{differ, named_new}
+use Rattle.dsl_build.proofs.Alls.{all_front, all_back, all_join, all_map, all_weaker, all_always, all_flat, all_pieces, all_filter, all_empty, all_at}
 use Rattle.dsl_build.proofs.Few.{and_front, and_back, bad_pair, bad_of, not_false, true_back, statements_are, all_tokens}
 use Rattle.dsl_build.proofs.Known.{AllIn, place_known}
 use Rattle.dsl_build.specs.Texts.{AllNew}
 use Rattle.std.proofs.Math.Bool.{or-false}
-use Rattle.dsl_build.proofs.Ranging.{or_true, all_in, any_append, one_in, symbols_all, lefts_in, lexical_all, tokens_as_texts, contents, or_cases, rights_all, names_long, numbers_are, numbered_long, front_true, symbol_of_lexeme}
+use Rattle.dsl_build.proofs.Ranging.{or_true, all_in, any_append, one_in, symbols_all, lefts_in, tokens_as_texts, contents, or_cases, names_long, numbers_are, numbered_long, front_true, symbol_of_lexeme}
 use Rattle.dsl_build.proofs.Lists.{map_flat}
 
 -- RULES WITH A LEFT SIDE
@@ -435,12 +434,13 @@ kept_known names (r ∷ rs) a = go (is_kept r) refl a (λ (b : AllIn names (cont
 
 rights_found : (d : List Statement) (ts : List Spelled) → AllByRecursion (IsSettled d) (map (λ t. (false, t)) ts) → AllByRecursion (λ r. is_kept r ≡ true → is_one_of (texts_l0 d) r.1.content ≡ true) (map (λ t. (false, t)) ts) → AllByRecursion (IsFound d) (contents ts)
 rights_found d [] a b = tt
-rights_found d (t ∷ ts) a b =
-    (⊎_elim (λ (q : is_quote_or_bracket t ≡ true). inr (inr (b.0 q)))
-    (λ (o : is_one_of (all_left_names d) t.content ≡ true).
-    ⊎_elim (λ (x : is_one_of (left_names true d) t.content ≡ true). inr (inr (lexical_placed d t.content x))) (λ (y : is_one_of (left_names false d) t.content ≡ true). inr (inl y))
-    (or_cases (is_one_of (left_names true d) t.content) (is_one_of (left_names false d) t.content) (sym (any_left (lefts d) t.content) ∙ o))) a.0,
-    rights_found d ts a.1 b.1)
+rights_found d (t ∷ ts) a b = (
+  ⊎_elim (λ (q : is_quote_or_bracket t ≡ true). inr (inr (b.0 q)))
+      (λ (o : is_one_of (all_left_names d) t.content ≡ true).
+      ⊎_elim (λ (x : is_one_of (left_names true d) t.content ≡ true). inr (inr (lexical_placed d t.content x))) (λ (y : is_one_of (left_names false d) t.content ≡ true). inr (inl y))
+      (or_cases (is_one_of (left_names true d) t.content) (is_one_of (left_names false d) t.content) (sym (any_left (lefts d) t.content) ∙ o))) a.0,
+  rights_found d ts a.1 b.1,
+)
 
 statement_found : (d : List Statement) (s : Statement) → AllIn (flat_map start_names d) (start_names s) → LeftIn false (left_names false d) s → AllByRecursion (IsSettled d) (right_of s) → AllIn (texts_l0 d) (contents (lexical_tokens s)) → AllByRecursion (IsFound d) (structural_names s)
 statement_found d (Start at name) a h r x = (inl a.0, tt)

@@ -1,5 +1,5 @@
 -- What a program's tables mean, and a lexeme's row by tables.
-use Rattle.std.specs.Prelude.{◌≡◌, ℕ, Bool, true, false, not, ◌&&◌, List, [], ◌∷◌, pos, Option, Some, None, option_map, unwrap_or, bytes_eq, codes, slice_index_or}
+use Rattle.std.specs.Prelude.{ℕ, false, List, [], ◌∷◌, pos, Option, Some, None, option_map, unwrap_or, bytes_eq, codes, slice_index_or}
 use Rattle.language_model.specs.Tokens.{Spelled}
 use Rattle.language_model.specs.Description.{Adverb, Statement, Lexeme}
 use Rattle.language_model.specs.Building.{LexemeRow, place_in, number_of, value_of}

@@ -109,8 +109,8 @@ pub fn lexeme_rows(
     lexemes: &Names,
 ) -> Result<Vec<LexemeRow>, AllocError>
     ensures { IfOk result (λ rows. map row_of rows.items ≡ map (λ name. row_from symbols.now starts.now
-      (adverbs_at (map (λ p. p.0) (flat_map lexeme_parts (map statement_of statements.now))) (map (λ p. p.1) (flat_map lexeme_parts (map statement_of statements.now))) name)
-      (building.value_of (codes "latm") (flat_map lexeme_default_adverbs (map statement_of statements.now))) name) lexemes.now) }
+        (adverbs_at (map (λ p. p.0) (flat_map lexeme_parts (map statement_of statements.now))) (map (λ p. p.1) (flat_map lexeme_parts (map statement_of statements.now))) name)
+        (building.value_of (codes "latm") (flat_map lexeme_default_adverbs (map statement_of statements.now))) name) lexemes.now) }
 {
     let own = own_adverbs(alloc, statements)?;
     let default = default_value("latm", statements);

@@ -230,12 +230,14 @@ struct Expected {
 
 fn is_built(alloc: Global, expected: &Expected) -> Result<bool, BuildRefusal> {
     let built = built(alloc, expected.text)?;
-    Ok(names_of(alloc, &built.g1)?.as_str() == expected.g1[0]
-        && rules_of(alloc, &built.g1)?.as_str() == expected.g1[1]
-        && names_of(alloc, &built.l0)?.as_str() == expected.l0[0]
-        && rules_of(alloc, &built.l0)?.as_str() == expected.l0[1]
-        && rows_of(alloc, &built)?.as_str() == expected.rows
-        && meaning_of(alloc, &built)?.as_str() == expected.meaning)
+    Ok(
+        names_of(alloc, &built.g1)?.as_str() == expected.g1[0]
+            && rules_of(alloc, &built.g1)?.as_str() == expected.g1[1]
+            && names_of(alloc, &built.l0)?.as_str() == expected.l0[0]
+            && rules_of(alloc, &built.l0)?.as_str() == expected.l0[1]
+            && rows_of(alloc, &built)?.as_str() == expected.rows
+            && meaning_of(alloc, &built)?.as_str() == expected.meaning,
+    )
 }
 
 const BUILT: [Expected; 5] = [
@@ -243,10 +245,7 @@ const BUILT: [Expected; 5] = [
     Expected {
         text: "S ::= 'ab' [c] 'ab' ('d')",
         g1: ["S 'ab' [c] 'd' ", "0 1 2 1 3 / | 0 "],
-        l0: [
-            "'ab' [c] 'd' :0 :1 :2 :3 ",
-            "0 3 4 / 1 5 / 2 6 / | 0 1 2 ",
-        ],
+        l0: ["'ab' [c] 'd' :0 :1 :2 :3 ", "0 3 4 / 1 5 / 2 6 / | 0 1 2 "],
         rows: "1 0 0 / 2 1 0 / 3 2 0 / | ",
         meaning: "xxx-U ",
     },

@@ -70,14 +70,10 @@ fn starts_of(alloc: Global, uses: &[Use<'_>]) -> Result<Starts, AllocError>
     })
 }
 
-fn placed_of<'a>(
-    alloc: Global,
-    uses: &[Use<'a>],
-    lexemes: &Names,
-) -> Result<Placed<'a>, AllocError>
+fn placed_of<'a>(alloc: Global, uses: &[Use<'a>], lexemes: &Names) -> Result<Placed<'a>, AllocError>
     ensures tokens { IfOk result (λ p. map (λ t. t.now) p.tokens.items ≡ new_tokens [] (flat_map placed_part (map used_of uses.now))) }
     ensures names { IfOk result (λ p. p.names ≡ map (λ t. t.content) (new_tokens [] (flat_map placed_part (map used_of uses.now)))
-      ++ filter (λ t. not (is_one_of (map (λ u. u.content) (new_tokens [] (flat_map placed_part (map used_of uses.now)))) t)) lexemes.now) }
+        ++ filter (λ t. not (is_one_of (map (λ u. u.content) (new_tokens [] (flat_map placed_part (map used_of uses.now)))) t)) lexemes.now) }
 {
     let Placed { tokens, names } = placed_tokens(alloc, uses)?;
     Ok(Placed {

@@ -37,6 +37,11 @@ among_map f x [] h = absurd h
 among_map f x (y ∷ ys) (inl e) = inl (ap f e)
 among_map f x (y ∷ ys) (inr h) = inr (among_map f x ys h)
 
+pub among_map_from : {X Y : Type 0} (f : X → Y) (y : Y) (xs : List X) → Among y (map f xs) → (x : X) × Among x xs × (f x ≡ y)
+among_map_from f y [] h = absurd h
+among_map_from f y (x ∷ xs) (inl e) = (x, inl refl, e)
+among_map_from f y (x ∷ xs) (inr h) = let r = among_map_from f y xs h in (r.0, inr r.1, r.2)
+
 pub among_flat_map : {X Y : Type 0} (f : X → List Y) (x : X) (y : Y) (xs : List X) → Among x xs → Among y (f x) → Among y (flat_map f xs)
 among_flat_map f x y [] h k = absurd h
 among_flat_map f x y (z ∷ zs) (inl e) k = among_left y (f z) (flat_map f zs) (subst (λ w. Among y (f w)) (sym e) k)

@@ -1,4 +1,4 @@
--- A strictly sorted list of the elements of which a decided property holds.
+-- A strictly sorted list of the elements of which a decided property holds, by an order that tells known elements apart.
 use Rattle.std.proofs.Common.{◌≡◌, ◌⊎◌, inl, inr, List, [], ◌∷◌, refl, sym, ◌∙◌, subst}
 use Rattle.std.specs.List.{AllByRecursion}
 use Rattle.std.specs.List.Sorted.{IsStrictlySortedBy}
@@ -7,7 +7,7 @@ use Rattle.std.specs.declared.cmp.Ordering.TheVariants.{Less}
 use Rattle.finite_sets.specs.Decided.{IsDecided}
 use Rattle.finite_sets.proofs.Members.{Among}
 
-module _ {X : Type 0} (cmp : X → X → Ordering) (three : (x y : X) → (cmp x y ≡ Less) ⊎ ((x ≡ y) ⊎ (cmp y x ≡ Less))) (through : (x y z : X) → cmp x y ≡ Less → cmp y z ≡ Less → cmp x z ≡ Less) where
+module _ {X : Type 0} (cmp : X → X → Ordering) (Known : X → Type 0) (three : (x y : X) → Known x → Known y → (cmp x y ≡ Less) ⊎ ((x ≡ y) ⊎ (cmp y x ≡ Less))) (through : (x y z : X) → cmp x y ≡ Less → cmp y z ≡ Less → cmp x z ≡ Less) where
   abbrev Under : X → List X → Type 0
   Under x ys = AllByRecursion (λ z. cmp x z ≡ Less) ys
 
@@ -22,10 +22,10 @@ module _ {X : Type 0} (cmp : X → X → Ordering) (three : (x y : X) → (cmp x
     all : (z : X) → (x ≡ z) ⊎ Among z ys → Among z zs
     under : (b : X) → cmp b x ≡ Less → Under b ys → Under b zs
 
-  put : (x : X) (ys : List X) → IsStrictlySortedBy cmp ys → (zs : List X) × Put x ys zs
+  put : (x : X) (ys : List X) → Known x → ((y : X) → Among y ys → Known y) → IsStrictlySortedBy cmp ys → (zs : List X) × Put x ys zs
   unfolding IsStrictlySortedBy
-  put x [] s = (x ∷ [], record { sorted = (tt, tt); only = λ z m. m; all = λ z m. m; under = λ b lt h. (lt, tt) })
-  put x (y ∷ ys) s = go (three x y) (put x ys s.1)
+  put x [] k ks s = (x ∷ [], record { sorted = (tt, tt); only = λ z m. m; all = λ z m. m; under = λ b lt h. (lt, tt) })
+  put x (y ∷ ys) k ks s = go (three x y k (ks y (inl refl))) (put x ys k (λ z m. ks z (inr m)) s.1)
     where
       go : (cmp x y ≡ Less) ⊎ ((x ≡ y) ⊎ (cmp y x ≡ Less)) → (zs : List X) × Put x ys zs → (zs : List X) × Put x (y ∷ ys) zs
       go (inl lt) r = (x ∷ y ∷ ys, record { sorted = ((lt, under_on x y ys lt s.0), s); only = λ z m. m; all = λ z m. m; under = λ b l h. (l, h) })
@@ -56,13 +56,13 @@ module _ {X : Type 0} (cmp : X → X → Ordering) (three : (x y : X) → (cmp x
     unfolding IsStrictlySortedBy
     nothing = tt
 
-    pub sorted_listed : (xs : List X) → ((x : X) → Among x xs → IsDecided (P x)) → (ys : List X) × Listed xs ys
-    sorted_listed [] d = ([], (nothing, (λ x m. absurd m), (λ x m p. m)))
-    sorted_listed (x ∷ xs) d = go (d x (inl refl)) (sorted_listed xs (λ y m. d y (inr m)))
+    pub sorted_listed : (xs : List X) → ((x : X) → Among x xs → Known x) → ((x : X) → Among x xs → IsDecided (P x)) → (ys : List X) × Listed xs ys
+    sorted_listed [] ks d = ([], (nothing, (λ x m. absurd m), (λ x m p. m)))
+    sorted_listed (x ∷ xs) ks d = go (d x (inl refl)) (sorted_listed xs (λ y m. ks y (inr m)) (λ y m. d y (inr m)))
       where
         go : IsDecided (P x) → (ys : List X) × Listed xs ys → (ys : List X) × Listed (x ∷ xs) ys
         go (inr other) (ys, (s, is, all)) =
             (ys, (s, (λ y m. let h = is y m in (inr h.0, h.1)), (λ y m p. elim m [ inl e ↦ absurd (other (subst P (sym e) p)) | inr later ↦ all y later p ])))
         go (inl p) (ys, (s, is, all)) =
-            let (zs, r) = put x ys s in
+            let (zs, r) = put x ys (ks x (inl refl)) (λ y m. ks y (inr (is y m).0)) s in
             (zs, (r.sorted, (λ y m. elim (r.only y m) [ inl e ↦ (inl e, subst P e p) | inr later ↦ (let h = is y later in (inr h.0, h.1)) ]), (λ y m q. r.all y (elim m [ inl e ↦ inl e | inr later ↦ inr (all y later q) ]))))

@@ -1,9 +1,9 @@
-use Rattle.std.proofs.Common.{◌≡◌, ◌∙◌, ap, map, subst, List, ℕ}
+use Rattle.std.proofs.Common.{◌≡◌, ◌∙◌, ap, map, subst, List}
 use Rattle.std.specs.Prelude.{IfOk}
-use Rattle.language_model.specs.Building.{LexemeRow, lexeme_row, lexemes}
+use Rattle.language_model.specs.Building.{LexemeRow, lexeme_row}
 use Rattle.dsl_statement.specs.Statements.{statement_of}
 use Rattle.dsl_build.specs.Tables.{row_of}
-use Rattle.dsl_build.proofs.Faultless.{Faultless, faultless}
+use Rattle.dsl_build.proofs.Faultless.{faultless}
 use Rattle.dsl_build.proofs.LexemeLemmas.{rows_are}
 use Rattle.dsl_build.proofs.building.rows_of.Goals as goal
 

@@ -1,7 +1,6 @@
 use Rattle.std.proofs.Common.{◌≡◌, ◌<◌, arith, sym, ◌∙◌, ap, map, length, Bor, List, []}
 use Rattle.std.specs.Prelude.{slice_index_or, is_some}
 use Rattle.std.proofs.lemmas.List.{get_or-map, get_or_past, length-map}
-use Rattle.language_model.specs.Description.{Adverb}
 use Rattle.dsl_statement.specs.declared.statement.Adverb.{Adverb as HeldAdverb}
 use Rattle.dsl_statement.specs.Statements.{adverbs_of}
 use Rattle.dsl_build.proofs.LexemeLemmas.{absent_place}

@@ -1,7 +1,7 @@
 use Rattle.std.proofs.Common.{◌≡◌, ◌∙◌, ap, map, sym, [], ◌++◌, List, ℕ}
 use Rattle.std.specs.Prelude.{flat_map, filter, not}
 use Rattle.language_model.specs.Tokens.{Spelled}
-use Rattle.language_model.specs.Building.{new_texts, new_tokens, is_one_of, symbols_g1, lexemes, discarded, start_texts, placed_tokens, texts_l0, named_l0}
+use Rattle.language_model.specs.Building.{new_texts, new_tokens, is_one_of, symbols_g1, lexemes, discarded, start_texts, placed_tokens, texts_l0}
 use Rattle.dsl_statement.specs.Statements.{statement_of}
 use Rattle.dsl_build.specs.Lexical.{placed_part}
 use Rattle.dsl_build.specs.Uses.{Used, used_of, uses_of, texts_asked}

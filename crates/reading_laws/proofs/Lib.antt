@@ -1,0 +1,4 @@
+pub mod Matching
+pub mod Candidates
+pub mod Reading
+pub mod Applied

@@ -1,0 +1,21 @@
+//! Laws of reading: what is matched is decided, and each text has a reading. Each is shown by a contract alone, and its function
+//! does nothing.
+#![tactic(auto)]
+
+ghost use Rattle.reading_laws.specs.Applied.{ReadingApplies};
+ghost use Rattle.reading_laws.specs.Laws.{MatchesAreDecided, ReadingExists};
+
+/// It is decided whether a start of the lexical grammar matches the characters between two places.
+pub fn matches_are_decided()
+    ensures { MatchesAreDecided }
+{}
+
+/// Each text has a reading, where the structural grammar is checked and its lexemes have names of their own.
+pub fn reading_exists()
+    ensures { ReadingExists }
+{}
+
+/// A digit and a comma have a reading by small grammars.
+pub fn reading_applies()
+    ensures { ReadingApplies }
+{}
