@@ -1,5 +1,5 @@
 -- Bytes are accepted or refused, in one way.
-use Rattle.std.proofs.Common.{◌≡◌, ℕ, ◌<◌, List, ◌⊎◌, inl, inr, refl, sym, ap, subst, ◌∙◌, map, length, slice_get, Some, [], ◌∷◌, ◌++◌, codes, arith}
+use Rattle.std.proofs.Common.{◌≡◌, ℕ, ◌<◌, List, ◌⊎◌, inl, inr, refl, sym, ap, subst, ◌∙◌, map, length, chars, slice_get, Some, [], ◌∷◌, ◌++◌, codes, arith}
 use Rattle.grammar_model.specs.Grammar.{Grammar}
 use Rattle.grammar_model.specs.Characters.{tree_line}
 use Rattle.language_model.specs.Description.{Statement}
@@ -41,7 +41,7 @@ module _ (laws : RunLaws) (bytes : List ℕ) where
   one_refused t u (ByDescription d has fault others faults is) (ByDescription d' has' fault' others' faults' is') =
       let same : fault ∷ others ≡ fault' ∷ others' = sym faults ∙ ap faults_of (laws.texts.one_description bytes d d' has has') ∙ faults' in
       let first : fault ≡ fault' = cc same in
-      is ∙ ap (λ (f : BuildFault). codes "grammar: " ++ build_text bytes f) first ∙ sym is'
+      is ∙ ap (λ (f : BuildFault). codes "grammar: " ++ build_text (chars bytes) f) first ∙ sym is'
   one_refused t u (ByDescription d has fault others faults is) (ByGrammars d' has' b built fault' faulty is') =
       let none : fault ∷ others ≡ [] = sym faults ∙ ap faults_of (laws.texts.one_description bytes d d' has has') ∙ built.faultless in absurd (cc none)
   one_refused t u (ByGrammars d has b built fault faulty is) (ByDescription d' has' fault' others faults is') =
@@ -75,7 +75,7 @@ module _ (laws : RunLaws) (bytes : List ℕ) where
   Judged = ((b : Built) × Accepted bytes b) ⊎ ((t : List ℕ) × IsRefused bytes t)
 
   of_faults : (d : List Statement) → HasDescription bytes d → (faults : List BuildFault) → faults_of d ≡ faults → Judged
-  of_faults d has (fault ∷ others) e = inr (codes "grammar: " ++ build_text bytes fault, ByDescription d has fault others e refl)
+  of_faults d has (fault ∷ others) e = inr (codes "grammar: " ++ build_text (chars bytes) fault, ByDescription d has fault others e refl)
   of_faults d has [] e =
       let built : IsBuiltOf d (built_of d) = record { described = (bytes, has); faultless = e; is = refl } in
       elim (accepted_or_fault laws.checks (built_of d)) [

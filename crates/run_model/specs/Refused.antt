@@ -21,19 +21,19 @@ pub record Accepted (bytes : List ℕ) (b : Built) : Type 0 where
 -- TEXTS
 
 abbrev pub at_place : List ℕ → ℕ → List ℕ
-at_place bytes at = codes " at " ++ place_text (chars bytes) at
+at_place cs at = codes " at " ++ place_text cs at
 
--- what is told of a fault of the description
+-- what is told of a fault of the description of these characters
 abbrev pub build_text : List ℕ → BuildFault → List ℕ
-build_text bytes (BadAdverb f) = codes "bad adverb " ++ (f.name ++ at_place bytes f.at)
-build_text bytes (RepeatedAdverb f) = codes "repeated " ++ (f.name ++ at_place bytes f.at)
-build_text bytes (LexemeNotDefined f) = codes "no rule for " ++ (f.name ++ at_place bytes f.at)
-build_text bytes (InBoth f) = f.name ++ (codes " has rules of both levels" ++ at_place bytes f.at)
-build_text bytes (NotALexeme f) = f.name ++ (codes " is not a lexeme" ++ at_place bytes f.at)
-build_text bytes (BadClass f) = codes "bad class " ++ (f.name ++ at_place bytes f.at)
-build_text bytes (TwoStarts f) = codes "second start" ++ at_place bytes f.at
-build_text bytes (NumberRange f) = codes "number out of range" ++ at_place bytes f.at
-build_text bytes (TooLong f) = codes "too long" ++ at_place bytes f.at
+build_text cs (BadAdverb f) = codes "bad adverb " ++ (f.name ++ at_place cs f.at)
+build_text cs (RepeatedAdverb f) = codes "repeated " ++ (f.name ++ at_place cs f.at)
+build_text cs (LexemeNotDefined f) = codes "no rule for " ++ (f.name ++ at_place cs f.at)
+build_text cs (InBoth f) = f.name ++ (codes " has rules of both levels" ++ at_place cs f.at)
+build_text cs (NotALexeme f) = f.name ++ (codes " is not a lexeme" ++ at_place cs f.at)
+build_text cs (BadClass f) = codes "bad class " ++ (f.name ++ at_place cs f.at)
+build_text cs (TwoStarts f) = codes "second start" ++ at_place cs f.at
+build_text cs (NumberRange f) = codes "number out of range" ++ at_place cs f.at
+build_text cs (TooLong f) = codes "too long" ++ at_place cs f.at
 
 -- names, parted by commas
 abbrev pub listed : List (List ℕ) → List ℕ
@@ -65,6 +65,6 @@ grammar_text b (TooManyRules true) = codes "lexical grammar: more than 65536 fla
 pub data IsRefused (bytes text : List ℕ) : Type 0 where
   ByText : (fault : TextFault) → HasFault bytes fault → text ≡ fault_text bytes fault → IsRefused bytes text
   ByDescription : (d : List Statement) → HasDescription bytes d → (fault : BuildFault) (others : List BuildFault) → faults_of d ≡ fault ∷ others →
-      text ≡ codes "grammar: " ++ build_text bytes fault → IsRefused bytes text
+      text ≡ codes "grammar: " ++ build_text (chars bytes) fault → IsRefused bytes text
   ByGrammars : (d : List Statement) → HasDescription bytes d → (b : Built) → IsBuiltOf d b → (fault : GrammarFault) → HasGrammarFault b fault →
       text ≡ grammar_text b fault → IsRefused bytes text
