@@ -1,7 +1,7 @@
 -- What job `check` tells of accepted grammars: how many rules, lexemes and discards there are, and what each left side of the
 -- structural grammar can do.
 -- Source: the usual analyses of context-free grammars, and the Libmarpa manual (precomputation); the lines are our own.
-use Rattle.std.specs.Prelude.{◌≡◌, ℕ, ◌++◌, List, [], ◌∷◌, length, map, All, Bool, ◌↔◌, IsTrue, if◌then◌else◌, codes, decimal}
+use Rattle.std.specs.Prelude.{◌≡◌, ℕ, ◌++◌, List, [], ◌∷◌, length, map, All, Bool, not, ◌↔◌, IsTrue, if◌then◌else◌, codes, decimal}
 use Rattle.grammar_model.specs.Grammar.{WrittenRule, Grammar, slot_of, lhs_of, occurs}
 use Rattle.grammar_model.specs.Analysis.{IsNullable, IsProductive, IsAccessible}
 use Rattle.grammar_model.specs.Values.{name_of}
@@ -32,13 +32,17 @@ pub record AreRows (g : Grammar) (rows : List SymbolRow) : Type 0 where
 
 abbrev pub head_line : Built → List ℕ
 head_line b =
-    codes "accepted: " ++ decimal (length b.g1.rules) ++ codes " rules, " ++ decimal (length b.lexemes) ++ codes " lexemes, "
-    ++ decimal (length b.discards) ++ codes " discards" ++ 10 ∷ []
+    codes "accepted: " ++ (decimal (length b.g1.rules) ++ (codes " rules, " ++ (decimal (length b.lexemes) ++ (codes " lexemes, "
+    ++ (decimal (length b.discards) ++ codes " discards\n")))))
+
+-- a word that is told where it holds
+abbrev pub word_if : Bool → List ℕ → List ℕ
+word_if holds word = if holds then word else []
 
 abbrev pub row_line : Grammar → SymbolRow → List ℕ
 row_line g row =
-    name_of g row.symbol ++ (if row.nullable then codes " nullable" else []) ++ (if row.productive then [] else codes " unproductive")
-    ++ (if row.accessible then [] else codes " inaccessible") ++ 10 ∷ []
+    name_of g row.symbol ++ word_if row.nullable (codes " nullable") ++ word_if (not row.productive) (codes " unproductive")
+    ++ word_if (not row.accessible) (codes " inaccessible") ++ 10 ∷ []
 
 -- the lines that are told of the grammars
 pub record AreCheckLines (b : Built) (lines : List (List ℕ)) : Type 0 where
