@@ -4,5 +4,6 @@ pub mod Found
 pub mod Lexical
 pub mod Meanings
 pub mod Rules
+pub mod Tables
 pub mod Texts
 pub mod Uses

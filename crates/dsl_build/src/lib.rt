@@ -2,6 +2,8 @@
 #![tactic(auto)]
 
 mod adverbs;
+mod building;
+mod built;
 mod checks;
 mod descriptor;
 mod faults;
@@ -26,5 +28,7 @@ mod tests;
 mod uses;
 mod values;
 
+pub use building::build;
+pub use built::{Built, LexemeRow};
 pub use faults::check;
 pub use refusal::BuildRefusal;
