@@ -1,0 +1,5 @@
+pub mod Deciding
+pub mod Members
+pub mod Choosing
+pub mod Rounds
+pub mod Walks

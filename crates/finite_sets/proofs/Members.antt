@@ -1,0 +1,160 @@
+-- Members of lists, and searches among them.
+use Rattle.std.proofs.Common.{arith, ◌≡◌, ◌≢◌, ◌⊎◌, ◌↔◌, inl, inr, ℕ, zero, suc, ◌+◌, ◌<◌, List, [], ◌∷◌, ◌++◌, map, length, sym, ◌∙◌, ap, subst, refl, Contains, AllPairs, flat_map, slice_index_or}
+use Rattle.finite_sets.specs.Decided.{IsDecided}
+use Rattle.finite_sets.proofs.Deciding.{both, one_of, moved}
+
+-- x is an element, by recursion
+abbrev pub Among : {X : Type 0} → X → List X → Type 0
+Among x [] = ⊥
+Among x (y ∷ ys) = (y ≡ x) ⊎ Among x ys
+
+pub among_from : {X : Type 0} (xs : List X) (x : X) → Contains xs x → Among x xs
+among_from [] x (k, lt, e) = absurd (omega arith)
+among_from (y ∷ ys) x (zero, lt, e) = inl e
+among_from (y ∷ ys) x (suc k, lt, e) = inr (among_from ys x (k, omega arith, e))
+
+pub contains_from : {X : Type 0} (xs : List X) (x : X) → Among x xs → Contains xs x
+contains_from [] x h = absurd h
+contains_from (y ∷ ys) x (inl e) = (0, omega arith, e)
+contains_from (y ∷ ys) x (inr h) = let c = contains_from ys x h in (suc c.0, omega arith, c.2)
+
+pub among_left : {X : Type 0} (x : X) (xs ys : List X) → Among x xs → Among x (xs ++ ys)
+among_left x [] ys h = absurd h
+among_left x (y ∷ xs) ys (inl e) = inl e
+among_left x (y ∷ xs) ys (inr h) = inr (among_left x xs ys h)
+
+pub among_right : {X : Type 0} (x : X) (xs ys : List X) → Among x ys → Among x (xs ++ ys)
+among_right x [] ys h = h
+among_right x (y ∷ xs) ys h = inr (among_right x xs ys h)
+
+pub among_map : {X Y : Type 0} (f : X → Y) (x : X) (xs : List X) → Among x xs → Among (f x) (map f xs)
+among_map f x [] h = absurd h
+among_map f x (y ∷ ys) (inl e) = inl (ap f e)
+among_map f x (y ∷ ys) (inr h) = inr (among_map f x ys h)
+
+pub among_flat_map : {X Y : Type 0} (f : X → List Y) (x : X) (y : Y) (xs : List X) → Among x xs → Among y (f x) → Among y (flat_map f xs)
+among_flat_map f x y [] h k = absurd h
+among_flat_map f x y (z ∷ zs) (inl e) k = among_left y (f z) (flat_map f zs) (subst (λ w. Among y (f w)) (sym e) k)
+among_flat_map f x y (z ∷ zs) (inr h) k = among_right y (f z) (flat_map f zs) (among_flat_map f x y zs h k)
+
+-- the values of a function below a bound
+abbrev pub values : {X : Type 0} → (ℕ → X) → ℕ → List X
+values f zero = []
+values f (suc n) = f n ∷ values f n
+
+pub among_values : {X : Type 0} (f : ℕ → X) (n k : ℕ) → k < n → Among (f k) (values f n)
+among_values f zero k lt = absurd (omega arith)
+among_values f (suc n) k lt = by (rest f n k lt) (among_values f n k)
+  where
+    rest : {X : Type 0} (f : ℕ → X) (n k : ℕ) → k < suc n → (f n ≡ f k) ⊎ (k < n)
+    rest f n k lt = elim (side n k lt) [ inl e ↦ inl (ap f e) | inr l ↦ inr l ]
+      where
+        side : (n k : ℕ) → k < suc n → (n ≡ k) ⊎ (k < n)
+        side n k lt = grind arith
+
+    by : (f n ≡ f k) ⊎ (k < n) → (k < n → Among (f k) (values f n)) → (f n ≡ f k) ⊎ Among (f k) (values f n)
+    by (inl e) ih = inl e
+    by (inr l) ih = inr (ih l)
+
+module _ {X : Type 0} (P : X → Type 0) where
+  pub some_among : (xs : List X) → ((x : X) → Among x xs → IsDecided (P x)) → IsDecided ((x : X) × Among x xs × P x)
+  some_among [] d = inr (λ h. h.1)
+  some_among (x ∷ xs) d = go (d x (inl refl)) (some_among xs (λ y m. d y (inr m)))
+    where
+      go : IsDecided (P x) → IsDecided ((y : X) × Among y xs × P y) → IsDecided ((y : X) × Among y (x ∷ xs) × P y)
+      go (inl p) s = inl (x, inl refl, p)
+      go (inr p) (inl (y, m, q)) = inl (y, inr m, q)
+      go (inr p) (inr s) = inr (λ (y, m, q). elim m [ inl e ↦ p (subst P (sym e) q) | inr m ↦ s (y, m, q) ])
+
+  pub each_among : (xs : List X) → ((x : X) → Among x xs → IsDecided (P x)) → IsDecided ((x : X) → Among x xs → P x)
+  each_among [] d = inl (λ x m. absurd m)
+  each_among (x ∷ xs) d = go (d x (inl refl)) (each_among xs (λ y m. d y (inr m)))
+    where
+      go : IsDecided (P x) → IsDecided ((y : X) → Among y xs → P y) → IsDecided ((y : X) → Among y (x ∷ xs) → P y)
+      go (inr p) s = inr (λ all. p (all x (inl refl)))
+      go (inl p) (inr s) = inr (λ all. s (λ y m. all y (inr m)))
+      go (inl p) (inl s) = inl (λ y m. elim m [ inl e ↦ subst P e p | inr m ↦ s y m ])
+
+module _ {X : Type 0} (same : (x y : X) → IsDecided (x ≡ y)) where
+  pub member : (x : X) (xs : List X) → IsDecided (Among x xs)
+  member x [] = inr (λ h. h)
+  member x (y ∷ ys) = one_of (same y x) (member x ys)
+
+  pub equal_lists : (xs ys : List X) → IsDecided (xs ≡ ys)
+  equal_lists [] [] = inl refl
+  equal_lists [] (y ∷ ys) = inr (λ e. absurd (cc))
+  equal_lists (x ∷ xs) [] = inr (λ e. absurd (cc))
+  equal_lists (x ∷ xs) (y ∷ ys) = moved joined parted (both (same x y) (equal_lists xs ys))
+    where
+      joined : (x ≡ y) × (xs ≡ ys) → x ∷ xs ≡ y ∷ ys
+      joined (a, b) = λ i. a i ∷ b i
+
+      parted : x ∷ xs ≡ y ∷ ys → (x ≡ y) × (xs ≡ ys)
+      parted e = (cc, cc)
+
+-- ---- lists of which no two elements are the same
+
+abbrev pub Once : {X : Type 0} → List X → Type 0
+Once [] = Unit {0}
+Once (x ∷ xs) = (Among x xs → ⊥) × Once xs
+
+among_at : {X : Type 0} (xs : List X) (k : ℕ) (d : X) → k < length xs → Among (slice_index_or xs k d) xs
+among_at [] k d lt = absurd (omega arith)
+among_at (x ∷ xs) zero d lt = inl refl
+among_at (x ∷ xs) (suc k) d lt = inr (among_at xs k d (omega arith))
+
+pub once_pairs : {X : Type 0} (xs : List X) → Once xs → AllPairs (λ x y. x ≢ y) xs
+once_pairs [] h i j d lt within e = omega arith
+once_pairs (x ∷ xs) h i zero d lt within e = omega arith
+once_pairs (x ∷ xs) h zero (suc j) d lt within e = h.0 (subst (λ z. Among z xs) (sym e) (among_at xs j d (omega arith)))
+once_pairs (x ∷ xs) h (suc i) (suc j) d lt within e = once_pairs xs h.1 i j d (omega arith) (omega arith) e
+
+-- a list without one of its elements
+pub without : {X : Type 0} (x : X) (xs : List X) → Among x xs →
+    (ys : List X) × (suc (length ys) ≡ length xs) × ((y : X) → Among y xs → (x ≡ y) ⊎ Among y ys) × ((y : X) → Among y ys → Among y xs)
+without x [] m = absurd m
+without {X} x (z ∷ zs) (inl e) = (zs, omega arith, parted, λ y m. inr m)
+  where
+    parted : (y : X) → Among y (z ∷ zs) → (x ≡ y) ⊎ Among y zs
+    parted y (inl f) = inl (sym e ∙ f)
+    parted y (inr m) = inr m
+without {X} x (z ∷ zs) (inr m) = by (without x zs m)
+  where
+    by : (ys : List X) × (suc (length ys) ≡ length zs) × ((y : X) → Among y zs → (x ≡ y) ⊎ Among y ys) × ((y : X) → Among y ys → Among y zs) →
+        (ys : List X) × (suc (length ys) ≡ length (z ∷ zs)) × ((y : X) → Among y (z ∷ zs) → (x ≡ y) ⊎ Among y ys) × ((y : X) → Among y ys → Among y (z ∷ zs))
+    by (ys, e, parted, back) = (z ∷ ys, omega (arith, e), parted', back')
+      where
+        parted' : (y : X) → Among y (z ∷ zs) → (x ≡ y) ⊎ Among y (z ∷ ys)
+        parted' y (inl f) = inr (inl f)
+        parted' y (inr n) = elim (parted y n) [ inl f ↦ inl f | inr k ↦ inr (inr k) ]
+
+        back' : (y : X) → Among y (z ∷ ys) → Among y (z ∷ zs)
+        back' y (inl f) = inl f
+        back' y (inr n) = inr (back y n)
+
+-- the elements of which P holds, each once
+module _ {X : Type 0} (P : X → Type 0) (same : (x y : X) → IsDecided (x ≡ y)) where
+  abbrev Listed : List X → List X → Type 0
+  Listed xs ys = Once ys × ((x : X) → Among x ys → Among x xs × P x) × ((x : X) → Among x xs → P x → Among x ys)
+
+  pub listed : (xs : List X) → ((x : X) → Among x xs → IsDecided (P x)) → (ys : List X) × Listed xs ys
+  listed [] d = ([], (tt, (λ x m. absurd m), (λ x m p. m)))
+  listed (x ∷ xs) d = go (d x (inl refl)) (listed xs (λ y m. d y (inr m)))
+    where
+      drop : (ys : List X) → Listed xs ys → (P x → Among x ys) → Listed (x ∷ xs) ys
+      drop ys (once, is, all) there = (once, (λ y m. let h = is y m in (inr h.0, h.1)), (λ y m p. elim m [ inl e ↦ subst (λ z. Among z ys) e (there (subst P (sym e) p)) | inr m ↦ all y m p ]))
+
+      keep : (ys : List X) → Listed xs ys → P x → (Among x ys → ⊥) → Listed (x ∷ xs) (x ∷ ys)
+      keep ys (once, is, all) p fresh = ((fresh, once), is', all')
+        where
+          is' : (y : X) → Among y (x ∷ ys) → Among y (x ∷ xs) × P y
+          is' y (inl e) = (inl e, subst P e p)
+          is' y (inr m) = let h = is y m in (inr h.0, h.1)
+
+          all' : (y : X) → Among y (x ∷ xs) → P y → Among y (x ∷ ys)
+          all' y (inl e) q = inl e
+          all' y (inr m) q = inr (all y m q)
+
+      go : IsDecided (P x) → (ys : List X) × Listed xs ys → (ys : List X) × Listed (x ∷ xs) ys
+      go (inr p) (ys, l) = (ys, drop ys l (λ q. absurd (p q)))
+      go (inl p) (ys, l) = elim (member same x ys) [ inl m ↦ (ys, drop ys l (λ q. m)) | inr fresh ↦ (x ∷ ys, keep ys l p fresh) ]

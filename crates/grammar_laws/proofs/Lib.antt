@@ -1,0 +1,5 @@
+pub mod Slots
+pub mod Tests
+pub mod Faults
+pub mod LeastCycles
+pub mod Checks
