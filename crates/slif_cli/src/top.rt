@@ -3,8 +3,7 @@ ghost use Rattle.std.specs.Prelude.{◌≡◌, ◌≤◌, ◌⊎◌, ℕ, List, 
 ghost use Rattle.slif_base.specs.Told.{SameFiles, AsksAmong};
 ghost use Rattle.run_model.specs.Outside.{Outside, Stream, stream, disk};
 ghost use Rattle.run_model.specs.Runs.{Runs, AsksNames, ReadsInput};
-ghost use Rattle.run_model.specs.Words.{Asks};
-ghost use Rattle.run_model.specs.Words.Job as asked;
+ghost use Rattle.run_model.specs.Words.{Asks, RunTree as AskedTrees, Check as AskedCheck};
 ghost use Rattle.slif_cli.specs.Stops.{Does, MayHave, WorkStops, DoesJob, JobStops};
 
 use crate::checking::write_check;
@@ -82,13 +81,13 @@ fn list_trees<'a, F: Files, I: Source, O: Sink>(
     input: &mut I,
     out: &mut O,
 ) -> Result<(), Stop<'a>>
-    ensures done { OnOk result (DoesJob (asked.RunTree name.now) (F.told files.old) (I.left input.old) (O.contents out.old) (O.contents out.new)) }
-    ensures stops { IfErr result (JobStops (asked.RunTree name.now)
+    ensures done { OnOk result (DoesJob (AskedTrees name.now) (F.told files.old) (I.left input.old) (O.contents out.old) (O.contents out.new)) }
+    ensures stops { IfErr result (JobStops (AskedTrees name.now)
         (disk F.told F.fault_count files.old) (disk F.told F.fault_count files.new)
         (stream I.left I.fault_count input.old) (stream I.left I.fault_count input.new)
         (stream O.contents O.fault_count out.old) (stream O.contents O.fault_count out.new)) }
     ensures asks { AsksAmong (F.asked files.old) (F.asked files.new) (name.now ∷ []) }
-    ensures input { (input.new ≡ input.old) ⊎ ((words : List (List ℕ)) → Asks words (asked.RunTree name.now) → ReadsInput words (F.told files.old)) }
+    ensures input { (input.new ≡ input.old) ⊎ ((words : List (List ℕ)) → Asks words (AskedTrees name.now) → ReadsInput words (F.told files.old)) }
     ensures held { SameFiles (F.told files.old) (F.told files.new) }
 {
     let loaded = load_grammar(alloc, name, files)?;
@@ -103,8 +102,8 @@ fn check_grammar<'a, F: Files, O: Sink>(
     files: &mut F,
     out: &mut O,
 ) -> Result<(), Stop<'a>>
-    ensures done { OnOk result ((left : Option (List ℕ)) → DoesJob (asked.Check name.now) (F.told files.old) left (O.contents out.old) (O.contents out.new)) }
-    ensures stops { IfErr result (λ stop. (input : Stream) → JobStops (asked.Check name.now)
+    ensures done { OnOk result ((left : Option (List ℕ)) → DoesJob (AskedCheck name.now) (F.told files.old) left (O.contents out.old) (O.contents out.new)) }
+    ensures stops { IfErr result (λ stop. (input : Stream) → JobStops (AskedCheck name.now)
         (disk F.told F.fault_count files.old) (disk F.told F.fault_count files.new) input input
         (stream O.contents O.fault_count out.old) (stream O.contents O.fault_count out.new) stop) }
     ensures asks { AsksAmong (F.asked files.old) (F.asked files.new) (name.now ∷ []) }

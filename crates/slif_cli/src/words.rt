@@ -1,7 +1,6 @@
 // The words of the command line.
 ghost use Rattle.std.specs.Prelude.{◌≡◌, ◌↔◌, map, string_bytes, MatchOption, IsTrue, codes};
 ghost use Rattle.run_model.specs.Words.{Asks, AskNothing, IsValue};
-ghost use Rattle.run_model.specs.Words.Job as asked;
 ghost use Rattle.slif_cli.specs.Stops.{job_of};
 
 /// What the words ask for, with the name of the grammar's file.
