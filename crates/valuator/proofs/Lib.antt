@@ -4,3 +4,4 @@ pub mod Every
 pub mod Following
 pub mod Derived
 pub mod Firsts
+mod RowLemmas

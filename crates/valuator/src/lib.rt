@@ -16,4 +16,6 @@ pub use teller::Teller;
 pub use tree::TreeTeller;
 
 #[cfg(test)]
+mod rows;
+#[cfg(test)]
 mod tests;

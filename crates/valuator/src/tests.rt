@@ -1,3 +1,4 @@
+use super::rows::{all_described, nulled_at_the_end, play_nulled};
 use super::*;
 use grammar_core::{RuleId, Span, TreeStep, Written};
 use slif_base::chars_of;
@@ -213,5 +214,37 @@ fn no_teller_is_left_where_one_refuses(rt: HostRuntime) -> Result<(), Fail> {
     let refused = play_token(rt.alloc(), &mut tellers)?;
     assert_eq!(rt; (refused, tellers.len(), calls.get()), (false, 0, 2));
     assert_eq!(rt; Rc::strong_count(&calls), 1);
+    Ok(())
+}
+
+// A teller that counts its calls, and refuses once `most` were made.
+fn counted(alloc: Global, most: u32, calls: &Rc<Cell<u32>>) -> Result<Vec<Box<dyn Teller>>, Fail> {
+    let counting = Counting {
+        inner: TreeTeller::new(alloc),
+        most,
+        calls: Rc::clone(calls)?,
+    };
+    let mut tellers: Vec<Box<dyn Teller>> = Vec::new(alloc);
+    tellers.push(Box::new(alloc, counting)?)?;
+    Ok(tellers)
+}
+
+// Plays four steps to it: whether all were told, how many tellers are left, its calls, and who holds their count.
+fn play_counted(alloc: Global, most: u32) -> Result<(bool, usize, u32, usize), Fail> {
+    let w = nulled_at_the_end(alloc)?;
+    let meaning = all_described(alloc)?;
+    let chars = chars_of(alloc, b" x")?;
+    let calls = Rc::new(alloc, Cell::new(0))?;
+    let mut tellers = counted(alloc, most, &calls)?;
+    let told = chars.len() >= 2 && play_nulled(alloc, &meaning, &w, &chars, &mut tellers).is_ok();
+    Ok((told, tellers.len(), calls.get(), Rc::strong_count(&calls)))
+}
+
+#[test]
+fn each_refused_call_ends_the_play(rt: HostRuntime) -> Result<(), Fail> {
+    for most in 0..4 {
+        assert_eq!(rt; play_counted(rt.alloc(), most)?, (false, 0, most + 1, 1));
+    }
+    assert_eq!(rt; play_counted(rt.alloc(), 4)?, (true, 1, 4, 2));
     Ok(())
 }

@@ -1,0 +1,96 @@
+-- From the faults of each step to those of the grammars.
+use Rattle.std.proofs.Common.{◌≡◌, ◌<◌, true, false, length, map, Option, Some, None, refl, subst, arith, List}
+use Rattle.grammar_model.specs.Grammar.{Grammar}
+use Rattle.grammar_model.specs.Checked as model
+use Rattle.grammar_model.specs.Checked.{IsChecked}
+use Rattle.recognizer_model.specs.Flat.{FlatGrammar}
+use Rattle.recognizer_model.specs.FlatForm.{IsFlatOf, named}
+use Rattle.recognizer_model.proofs.FlatNamed.{map_length}
+use Rattle.flat_rules.specs.Flatten.{flat_of}
+use Rattle.flat_rules.specs.Flattened.{IsFlattened, HasTooMany}
+use Rattle.flat_rules.proofs.FlatOf.{is_flat_of}
+use Rattle.language_model.specs.Building.{Built}
+use Rattle.grammar_check.specs.declared.refusal.GrammarRefusal.{GrammarRefusal}
+use Rattle.grammar_check.specs.declared.refusal.GrammarRefusal.TheVariants.{NoRules, NoStart, StartNotLhs, SequenceLhs, Duplicate, CountedNullable, UnproductiveStart, Cyclic, NoMemory}
+use Rattle.grammar_check.specs.Told.{slots_with}
+use Rattle.grammar_check.specs.Message.{IsOf}
+use Rattle.grammar_check.specs.Refused.{IsTold}
+use Rattle.reading_model.specs.Accepted.{AreChecked, HasFewRules, HasTooManyRules}
+use Rattle.scanless.specs.declared.abilities.Ability.{Ability}
+use Rattle.scanless.specs.declared.parts.Fault.{Fault}
+use Rattle.scanless.specs.declared.parts.Fault.TheVariants.{Refused, TooManyRules as FaultTooMany, NoMemory as FaultNoMemory}
+use Rattle.scanless.specs.Abilities.{AreAbilities}
+use Rattle.scanless.specs.Faults.{IsSaid, IsFault, IsRefusedBy, IsOverfull, IsCheckedLexical, IsFlatLexical, IsLexicalOverfull}
+use Rattle.scanless.specs.Prepared.{AreParts, IsLexicalForm}
+
+-- RULES
+
+pub few_rules : (w : Grammar) (f : FlatGrammar) → IsFlattened w f → HasFewRules w
+few_rules w f is = record { count = length f.rules; counted = (map (named f) f.rules, is.made.rules, map_length (named f) f.rules); few = is.few }
+
+pub many_rules : (w : Grammar) → IsChecked w → HasTooMany w → HasTooManyRules w
+many_rules w c many =
+    let f = flat_of w many.decided in
+    record { count = length f.rules; counted = (map (named f) f.rules, (is_flat_of w many.decided c).rules, map_length (named f) f.rules); many = many.many many.decided }
+
+-- REFUSALS
+
+pub said : (g : Grammar) (r : GrammarRefusal) → IsTold g r → IsOf g r → (r ≡ NoMemory → ⊥) → IsSaid g r (model.Refuses g)
+said g NoRules told of other = record { of = of; told = model.NoRules; says = refl; fault = told }
+said g NoStart told of other = record { of = of; told = model.NoStart; says = refl; fault = told }
+said g (StartNotLhs symbol) told of other = record { of = of; told = model.StartNotLhs symbol; says = refl; fault = told }
+said g (SequenceLhs symbol) told of other = record { of = of; told = model.SequenceLhs symbol; says = refl; fault = told }
+said g (Duplicate rule) told of other = record { of = of; told = model.Duplicate rule; says = refl; fault = told }
+said g (CountedNullable rule) told of other = record { of = of; told = model.CountedNullable rule; says = refl; fault = told }
+said g (UnproductiveStart symbol) told of other = record { of = of; told = model.UnproductiveStart symbol; says = refl; fault = told }
+said g (Cyclic cycle) told of other = record { of = of; told = model.Cyclic (slots_with cycle.items); says = refl; fault = told }
+said g NoMemory told of other = absurd (other refl)
+
+-- FAULTS
+
+pub structural_fault : (b : Built) (fault : Fault) → IsRefusedBy b.g1 false fault → IsFault b fault
+structural_fault b (Refused false refusal) (e, is) = record { of = is.of; told = is.told; says = is.says; fault = is.fault }
+structural_fault b (Refused true refusal) (e, is) = cc
+structural_fault b (FaultTooMany which) is = absurd is
+structural_fault b FaultNoMemory is = tt
+
+pub lexical_fault : (b : Built) (fault : Fault) → IsChecked b.g1 → (0 < length b.l0.starts) × IsRefusedBy b.l0 true fault → IsFault b fault
+lexical_fault b (Refused true refusal) c (some, (e, is)) = record { of = is.of; told = is.told; says = is.says; fault = (c, some, is.fault) }
+lexical_fault b (Refused false refusal) c (some, (e, is)) = cc
+lexical_fault b (FaultTooMany which) c (some, is) = absurd is
+lexical_fault b FaultNoMemory c is = tt
+
+pub are_checked : (b : Built) (c : Option Grammar) → IsChecked b.g1 → IsCheckedLexical b.l0 c → AreChecked b
+are_checked b None structural none = record { structural = structural; lexical = λ some. absurd (omega (arith, some, none)) }
+are_checked b (Some g) structural (same, some, lexical) = record { structural = structural; lexical = λ _. lexical }
+
+pub overfull_fault : (b : Built) (g : Grammar) (fault : Fault) → g ≡ b.g1 → AreChecked b → IsOverfull g false fault → IsFault b fault
+overfull_fault b g (Refused which refusal) same c is = absurd is
+overfull_fault b g (FaultTooMany false) same c (e, many) = (c, subst HasTooManyRules same many)
+overfull_fault b g (FaultTooMany true) same c (e, many) = cc
+overfull_fault b g FaultNoMemory same c is = tt
+
+pub lexical_overfull : (b : Built) (c : Option Grammar) (fault : Fault) → AreChecked b → HasFewRules b.g1 → IsCheckedLexical b.l0 c → IsLexicalOverfull c fault → IsFault b fault
+lexical_overfull b None fault checked few is over = absurd over
+lexical_overfull b (Some g) (Refused which refusal) checked few is over = absurd over
+lexical_overfull b (Some g) (FaultTooMany true) checked few (same, some, l) (e, many) = (checked, few, some, subst HasTooManyRules same many)
+lexical_overfull b (Some g) (FaultTooMany false) checked few is (e, many) = cc
+lexical_overfull b (Some g) FaultNoMemory checked few is over = tt
+
+-- PARTS
+
+lexical_form : (b : Built) (c : Option Grammar) (lexical : Option FlatGrammar) → IsCheckedLexical b.l0 c → IsFlatLexical c lexical → IsLexicalForm b lexical × (0 < length b.l0.starts → HasFewRules b.l0)
+lexical_form b None None none flat = ((λ some. omega (arith, some, none)), λ some. absurd (omega (arith, some, none)))
+lexical_form b None (Some f) none flat = absurd flat
+lexical_form b (Some g) None is flat = absurd flat
+lexical_form b (Some g) (Some f) (same, some, l) (form, few) = ((some, subst (IsFlatOf f) same form), λ _. subst HasFewRules same few)
+
+pub are_parts : (b : Built) (g : Grammar) (c : Option Grammar) (flat : FlatGrammar) (lexical : Option FlatGrammar) (abilities : List Ability) → g ≡ b.g1 → IsChecked b.g1 → IsCheckedLexical b.l0 c
+    → IsFlatOf flat g → HasFewRules g → IsFlatLexical c lexical → AreAbilities g abilities → AreParts b flat lexical abilities
+are_parts b g c flat lexical abilities same structural checked form few lexical_flat able =
+    let both = lexical_form b c lexical checked lexical_flat in record {
+      accepted = record { checked = are_checked b c structural checked; structural = subst HasFewRules same few; lexical = both.1 };
+      flat_form = subst (IsFlatOf flat) same form;
+      lexical_form = both.0;
+      are_abilities = subst (λ h. AreAbilities h abilities) same able;
+    }

@@ -1,0 +1,10 @@
+//! Reading by the grammars of a text: whether they are accepted, and what is kept of them.
+#![tactic(auto)]
+
+mod abilities;
+mod parts;
+mod prepared;
+mod refusal;
+
+pub use prepared::{Prepared, prepare};
+pub use refusal::PrepareRefusal;

@@ -1,0 +1,188 @@
+//! The grammars of a text, ready to read with.
+ghost use Rattle.std.specs.Prelude.{◌≡◌, ℕ, ◌<◌, ◌↔◌, length, map, option_copied, IsTrue, IfOk, IfErr, OnOk};
+ghost use Rattle.grammar_model.specs.Grammar.{slot_of};
+ghost use Rattle.grammar_model.specs.Analysis.{IsNullable, IsProductive, IsAccessible};
+ghost use Rattle.grammar_model.specs.Checked.{IsChecked};
+ghost use Rattle.recognizer_model.specs.FlatForm.{IsFlatOf};
+ghost use Rattle.recognizer_model.specs.Invariant.{IsFlat};
+ghost use Rattle.language_model.specs.Texts.{IsBuilt};
+ghost use Rattle.value_text.specs.Meaning.{meaning_of};
+ghost use Rattle.dsl_build.specs.Tables.{row_of};
+ghost use Rattle.reading_model.specs.Accepted.{IsAccepted};
+ghost use Rattle.scanless.specs.Abilities.{IsAbility};
+ghost use Rattle.scanless.specs.Faults.{IsFault, IsRefusal};
+ghost use Rattle.scanless.specs.Prepared.{IsLexicalForm};
+
+use crate::PrepareRefusal;
+use crate::abilities::Ability;
+use crate::parts::{Fault, parts_of};
+use char_class::CharSet;
+use dsl_build::{Built, LexemeRow};
+use grammar_core::{Flat, SymbolId, Written};
+use std::alloc::Global;
+use std::marker::Model;
+use value_text::Meaning;
+
+/// Grammars and tables of a text that are accepted, and the flat forms of the grammars. It is seen as what was built.
+#[derive(Drop)]
+pub struct Prepared {
+    built: Built,
+    flat: Flat,
+    lexical: Option<Flat>,
+    abilities: Vec<Ability>,
+}
+
+impl Model for Prepared {
+    ghost use Rattle.language_model.specs.Building.{Built as BuiltOf};
+    ghost use Rattle.scanless.specs.Prepared.{IsPrepared};
+
+    ghost Value = { BuiltOf };
+
+    ghost view = { λ p. p.built };
+
+    ghost invariant = { λ p. IsPrepared p.built p.flat p.lexical p.abilities.items };
+}
+
+/// The refusal of a fault, with the grammar that was checked.
+fn refusal_of(built: Built, fault: Fault) -> PrepareRefusal
+    requires { IsFault built fault }
+    ensures { IsRefusal built result }
+{
+    match fault {
+        Fault::Refused {
+            lexical: false,
+            refusal,
+        } => PrepareRefusal::Grammar {
+            w: built.g1,
+            refusal,
+        },
+        Fault::Refused {
+            lexical: true,
+            refusal,
+        } => PrepareRefusal::Lexical {
+            w: built.l0,
+            refusal,
+        },
+        Fault::TooManyRules { lexical } => PrepareRefusal::TooManyRules { lexical },
+        Fault::NoMemory => PrepareRefusal::NoMemory,
+    }
+}
+
+/// The grammars, ready to read with, where they are accepted; else their first fault, in the order of `PrepareRefusal`.
+/// Both grammars are checked before either is flattened.
+pub fn prepare(alloc: Global, built: Built) -> Result<Prepared, PrepareRefusal>
+    requires read { IsBuilt built }
+    ensures ok { IfOk result (λ p. p ≡ built) }
+    ensures accepted { OnOk result (IsAccepted built) }
+    ensures err { IfErr result (IsRefusal built) }
+{
+    match parts_of(alloc, &built) {
+        Ok(parts) => Ok(Prepared {
+            built,
+            flat: parts.flat,
+            lexical: parts.lexical,
+            abilities: parts.abilities,
+        }),
+        Err(fault) => Err(refusal_of(built, fault)),
+    }
+}
+
+impl Prepared {
+    /// States what is always so of grammars that are ready.
+    pub fn known(&self)
+        ensures built { IsBuilt self.now }
+        ensures accepted { IsAccepted self.now }
+    {
+        let _ = &self.built;
+    }
+
+    /// The flat form of the structural grammar.
+    pub fn flat(&self) -> &Flat
+        ensures form { IsFlatOf result.now self.now.g1 }
+        ensures flat { IsFlat result.now }
+        ensures checked { IsChecked self.now.g1 }
+    {
+        self.flat.known();
+        &self.flat
+    }
+
+    /// The structural grammar.
+    pub fn written(&self) -> &Written
+        ensures { result.now ≡ self.now.g1 }
+    {
+        &self.built.g1
+    }
+
+    // What a symbol of the structural grammar can do.
+    fn ability(&self, s: SymbolId) -> Ability
+        requires { s < length self.now.g1.names }
+        ensures { IsAbility self.now.g1 s result }
+    {
+        self.abilities[s.0 as usize]
+    }
+
+    /// Whether some tree of the symbol spans nothing.
+    pub fn nullable(&self, s: SymbolId) -> bool
+        requires { s < length self.now.g1.names }
+        ensures { IsTrue result ↔ IsNullable self.now.g1 (slot_of s) }
+    {
+        self.ability(s).nullable
+    }
+
+    /// Whether the symbol has a tree.
+    pub fn productive(&self, s: SymbolId) -> bool
+        requires { s < length self.now.g1.names }
+        ensures { IsTrue result ↔ IsProductive self.now.g1 (slot_of s) }
+    {
+        self.ability(s).productive
+    }
+
+    /// Whether some slot of the symbol stands in a tree of a start.
+    pub fn accessible(&self, s: SymbolId) -> bool
+        requires { s < length self.now.g1.names }
+        ensures { IsTrue result ↔ ((l : ℕ) × IsAccessible self.now.g1 (record { symbol = s; level = l })) }
+    {
+        self.ability(s).accessible
+    }
+
+    /// The lexemes, in order of their symbols.
+    pub fn lexemes(&self) -> &[LexemeRow]
+        ensures { map row_of result.now ≡ self.now.lexemes }
+    {
+        self.built.lexemes.as_slice()
+    }
+
+    pub fn discard_count(&self) -> usize
+        ensures { result ≡ length self.now.discards }
+    {
+        self.built.discards.len()
+    }
+
+    /// The places of the discards among the starts of the lexical grammar.
+    pub fn discards(&self) -> &[u32]
+        ensures { result.now ≡ self.now.discards }
+    {
+        self.built.discards.as_slice()
+    }
+
+    /// What the rules of the structural grammar and its lexemes mean.
+    pub fn meaning(&self) -> &Meaning
+        ensures { meaning_of result.now ≡ self.now.meaning }
+    {
+        &self.built.meaning
+    }
+
+    /// The flat form of the lexical grammar, where there is a lexeme or a discard.
+    pub fn lexical(&self) -> Option<&Flat>
+        ensures { IsLexicalForm self.now (option_copied result) }
+    {
+        self.lexical.as_ref()
+    }
+
+    /// The character sets, each with its symbol in the lexical grammar.
+    pub fn sets(&self) -> &[(SymbolId, CharSet)]
+        ensures { result.now ≡ self.now.sets }
+    {
+        self.built.sets.as_slice()
+    }
+}
