@@ -1,11 +1,16 @@
 -- Decisions of parts, of numbers, and of numbers below a bound.
-use Rattle.std.proofs.Common.{arith, ◌≡◌, ◌⊎◌, inl, inr, ℕ, zero, suc, ◌<◌, ◌≤◌, Bool, true, false, sym, ◌∙◌, subst, refl, true≢false}
+use Rattle.std.proofs.Common.{arith, ◌≡◌, ◌⊎◌, inl, inr, ℕ, zero, suc, ◌<◌, ◌≤◌, Bool, true, false, sym, subst, refl, true≢false}
 use Rattle.finite_sets.specs.Decided.{IsDecided}
 
 pub both : {A B : Type 0} → IsDecided A → IsDecided B → IsDecided (A × B)
 both (inl a) (inl b) = inl (a, b)
 both (inl a) (inr b) = inr (λ h. b h.1)
 both (inr a) b = inr (λ h. a h.0)
+
+-- the second is asked for only where the first holds
+pub both_then : {A B : Type 0} → IsDecided A → (A → IsDecided B) → IsDecided (A × B)
+both_then (inl a) b = both (inl a) (b a)
+both_then (inr a) b = inr (λ h. a h.0)
 
 pub one_of : {A B : Type 0} → IsDecided A → IsDecided B → IsDecided (A ⊎ B)
 one_of (inl a) b = inl (inl a)

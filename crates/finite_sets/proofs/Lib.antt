@@ -3,3 +3,4 @@ pub mod Members
 pub mod Choosing
 pub mod Rounds
 pub mod Walks
+pub mod Numbers

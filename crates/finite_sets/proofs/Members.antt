@@ -1,5 +1,5 @@
 -- Members of lists, and searches among them.
-use Rattle.std.proofs.Common.{arith, ◌≡◌, ◌≢◌, ◌⊎◌, ◌↔◌, inl, inr, ℕ, zero, suc, ◌+◌, ◌<◌, List, [], ◌∷◌, ◌++◌, map, length, sym, ◌∙◌, ap, subst, refl, Contains, AllPairs, flat_map, slice_index_or}
+use Rattle.std.proofs.Common.{arith, ◌≡◌, ◌≢◌, ◌⊎◌, inl, inr, ℕ, zero, suc, ◌<◌, List, [], ◌∷◌, ◌++◌, map, length, sym, ◌∙◌, ap, subst, refl, Contains, AllPairs, flat_map, slice_index_or}
 use Rattle.finite_sets.specs.Decided.{IsDecided}
 use Rattle.finite_sets.proofs.Deciding.{both, one_of, moved}
 
@@ -27,6 +27,11 @@ pub among_right : {X : Type 0} (x : X) (xs ys : List X) → Among x ys → Among
 among_right x [] ys h = h
 among_right x (y ∷ xs) ys h = inr (among_right x xs ys h)
 
+pub among_either : {X : Type 0} (x : X) (xs ys : List X) → Among x (xs ++ ys) → Among x xs ⊎ Among x ys
+among_either x [] ys h = inr h
+among_either x (y ∷ xs) ys (inl e) = inl (inl e)
+among_either x (y ∷ xs) ys (inr h) = elim (among_either x xs ys h) [ inl m ↦ inl (inr m) | inr m ↦ inr m ]
+
 pub among_map : {X Y : Type 0} (f : X → Y) (x : X) (xs : List X) → Among x xs → Among (f x) (map f xs)
 among_map f x [] h = absurd h
 among_map f x (y ∷ ys) (inl e) = inl (ap f e)
@@ -36,6 +41,11 @@ pub among_flat_map : {X Y : Type 0} (f : X → List Y) (x : X) (y : Y) (xs : Lis
 among_flat_map f x y [] h k = absurd h
 among_flat_map f x y (z ∷ zs) (inl e) k = among_left y (f z) (flat_map f zs) (subst (λ w. Among y (f w)) (sym e) k)
 among_flat_map f x y (z ∷ zs) (inr h) k = among_right y (f z) (flat_map f zs) (among_flat_map f x y zs h k)
+
+pub among_flat_map_from : {X Y : Type 0} (f : X → List Y) (y : Y) (xs : List X) → Among y (flat_map f xs) → (x : X) × Among x xs × Among y (f x)
+among_flat_map_from f y [] h = absurd h
+among_flat_map_from f y (z ∷ zs) h =
+    elim (among_either y (f z) (flat_map f zs) h) [ inl m ↦ (z, inl refl, m) | inr m ↦ (let r = among_flat_map_from f y zs m in (r.0, inr r.1, r.2)) ]
 
 -- the values of a function below a bound
 abbrev pub values : {X : Type 0} → (ℕ → X) → ℕ → List X
@@ -55,6 +65,11 @@ among_values f (suc n) k lt = by (rest f n k lt) (among_values f n k)
     by : (f n ≡ f k) ⊎ (k < n) → (k < n → Among (f k) (values f n)) → (f n ≡ f k) ⊎ Among (f k) (values f n)
     by (inl e) ih = inl e
     by (inr l) ih = inr (ih l)
+
+pub among_values_from : {X : Type 0} (f : ℕ → X) (n : ℕ) (x : X) → Among x (values f n) → (k : ℕ) × (k < n) × (f k ≡ x)
+among_values_from f zero x m = absurd m
+among_values_from f (suc n) x (inl e) = (n, omega arith, e)
+among_values_from f (suc n) x (inr m) = let (k, lt, e) = among_values_from f n x m in (k, omega (arith, lt), e)
 
 module _ {X : Type 0} (P : X → Type 0) where
   pub some_among : (xs : List X) → ((x : X) → Among x xs → IsDecided (P x)) → IsDecided ((x : X) × Among x xs × P x)

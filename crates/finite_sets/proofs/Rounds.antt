@@ -1,7 +1,7 @@
 -- Sets that grow round by round within a finite universe: they settle, so what they come to is decided.
-use Rattle.std.proofs.Common.{arith, ◌≡◌, ◌⊎◌, inl, inr, ℕ, zero, suc, ◌+◌, ◌<◌, ◌≤◌, List, [], ◌∷◌, length, sym, subst}
+use Rattle.std.proofs.Common.{arith, ◌≡◌, ◌⊎◌, inl, inr, ℕ, zero, suc, ◌+◌, ◌≤◌, List, [], ◌∷◌, length, subst}
 use Rattle.finite_sets.specs.Decided.{IsDecided}
-use Rattle.finite_sets.proofs.Deciding.{moved, lt_or}
+use Rattle.finite_sets.proofs.Deciding.{moved}
 use Rattle.finite_sets.proofs.Members.{Among, some_among, without}
 
 -- a round is decided of what is known, and rests on the members of the round before
@@ -33,12 +33,19 @@ module _ {X : Type 0} (universe : List X) (known : X → Type 0) (round : ℕ �
       go rec (inl (x, m, h)) =
           let (ys, shorter, parted, back) = without x xs m in
           let (s, le, is) = rec ys (suc k) (omega (arith, e, shorter)) (λ y a. inside y (back y a))
-              (λ y a. elim (all y a) [ inl old ↦ inl (r.grows k y (r.members y a) old) | inr new ↦ elim (parted y new) [ inl same ↦ inl (subst (round (suc k)) same h) | inr still ↦ inr still ] ]) in
+          (λ y a. elim (all y a) [ inl old ↦ inl (r.grows k y (r.members y a) old) | inr new ↦ elim (parted y new) [ inl same ↦ inl (subst (round (suc k)) same h) | inr still ↦ inr still ] ]) in
           (s, omega (arith, le), is)
 
   -- it settles within as many rounds as the universe has members
   pub settled : (m : ℕ) × (m ≤ length universe) × IsSettled m
   settled = let (m, le, is) = settle (length universe) universe 0 (λ i. length universe) (λ x a. a) (λ x a. inr a) in (m, omega (arith, le), is)
+
+  -- a round sooner where the first has a member
+  pub settled_early : (x : X) → Among x universe → round 0 x → (m : ℕ) × (suc m ≤ length universe) × IsSettled m
+  settled_early x a first =
+      let (ys, shorter, parted, back) = without x universe a in
+      let (m, le, is) = settle (length ys) ys 0 (λ i. length ys) back (λ y b. elim (parted y b) [ inl e ↦ inl (subst (round 0) e first) | inr c ↦ inr c ]) in
+      (m, omega (arith, le, shorter), is)
 
   pub grown : (j k : ℕ) (x : X) → known x → round j x → round (j + k) x
   grown j zero x h a = subst (λ n. round n x) (let e : j ≡ j + 0 = omega arith in e) a

@@ -1,9 +1,9 @@
 -- A grammar passes the check, or it has a refusal.
-use Rattle.std.proofs.Common.{arith, ◌≡◌, ◌≢◌, ◌⊎◌, inl, inr, ℕ, zero, suc, ◌<◌, ◌≤◌, List, length, Contains}
+use Rattle.std.proofs.Common.{arith, ◌≡◌, ◌⊎◌, inl, inr, ℕ, ◌<◌, List, length, Contains}
 use Rattle.grammar_model.specs.Grammar.{Grammar, Slot, slot_of}
 use Rattle.grammar_model.specs.Analysis.{IsProductive}
 use Rattle.grammar_model.specs.Cycles.{IsCyclic, IsLeastCycle, HasHeights}
-use Rattle.grammar_model.specs.Checked.{IsChecked, IsLeft, StartsAreLeft, SequencesAreAlone, RulesDiffer, ItemsSpan, StartsAreProductive, IsLeastWith, IsShared, IsDuplicate, IsCountedNullable, IsFirstStart, Refusal, NoRules, NoStart, StartNotLhs, SequenceLhs, Duplicate, CountedNullable, UnproductiveStart, Cyclic, Refuses, kind_of}
+use Rattle.grammar_model.specs.Checked.{IsChecked, IsLeft, StartsAreLeft, SequencesAreAlone, RulesDiffer, ItemsSpan, StartsAreProductive, IsLeastWith, IsShared, IsDuplicate, IsCountedNullable, IsFirstStart, Refusal, NoRules, NoStart, StartNotLhs, SequenceLhs, Duplicate, CountedNullable, UnproductiveStart, Cyclic, Refuses}
 use Rattle.grammar_check.proofs.Clearing.{clear}
 use Rattle.finite_sets.specs.Decided.{IsDecided}
 use Rattle.finite_sets.proofs.Deciding.{negated}

@@ -1,28 +1,18 @@
 -- Whether a grammar has each fault but a cycle is decided, with the least witness.
-use Rattle.std.proofs.Common.{arith, ◌≡◌, ◌≢◌, ◌⊎◌, inl, inr, ℕ, zero, suc, ◌<◌, List, [], ◌∷◌, length, Option, Some, None, slice_get, slice_index_or, Contains, refl, sym, ◌∙◌, ap, subst}
-use Rattle.grammar_model.specs.Grammar.{WrittenRule, PlainRule, SequenceRule, Plain, Sequence, Grammar, slot_of, rule_at, lhs_of, child_slot, slot_count}
-use Rattle.grammar_model.specs.Analysis.{IsNullable, IsProductive}
+use Rattle.std.proofs.Common.{arith, ◌≡◌, ◌≢◌, ◌⊎◌, inl, inr, ℕ, zero, suc, ◌<◌, List, [], ◌∷◌, length, Some, slice_get, slice_index_or, Contains, refl, sym, ◌∙◌, ap, subst}
+use Rattle.grammar_model.specs.Grammar.{WrittenRule, PlainRule, SequenceRule, Plain, Sequence, Grammar, rule_at, lhs_of, child_slot, slot_count}
+use Rattle.grammar_model.specs.Analysis.{IsNullable}
 use Rattle.grammar_model.specs.Checked.{IsLeft, SequencesAreAlone, IsDuplicate, IsCountedNullable, IsShared, IsLeastWith, IsFirstStart}
 use Rattle.finite_sets.specs.Decided.{IsDecided}
 use Rattle.finite_sets.proofs.Deciding.{both, negated, moved, equal, some_below, least_below, least_of}
 use Rattle.finite_sets.proofs.Members.{equal_lists}
+use Rattle.grammar_laws.proofs.Options.{some_held}
 use Rattle.grammar_laws.proofs.Tests.{nullable_decided}
-
-some_one : (s t : ℕ) → Some s ≡ Some t → s ≡ t
-some_one s t e = cc
-
-none_some : (s : ℕ) → Path (Option ℕ) None (Some s) → ⊥
-none_some s e = absurd (cc)
 
 got_from : (xs : List ℕ) (k s : ℕ) → k < length xs → slice_index_or xs k s ≡ s → slice_get xs k ≡ Some s
 got_from [] k s lt e = absurd (omega arith)
 got_from (x ∷ xs) zero s lt e = ap Some e
 got_from (x ∷ xs) (suc k) s lt e = got_from xs k s (omega arith) e
-
-got_short : (xs : List ℕ) (k s : ℕ) → slice_get xs k ≡ Some s → k < length xs
-got_short [] k s e = absurd (none_some s e)
-got_short (x ∷ xs) zero s e = omega arith
-got_short (x ∷ xs) (suc k) s e = let lt = got_short xs k s e in omega arith
 
 plain_sequence : (r : PlainRule) (s : SequenceRule) → Path WrittenRule (Plain r) (Sequence s) → ⊥
 plain_sequence r s e = absurd (cc)
@@ -61,11 +51,7 @@ module _ (g : Grammar) where
     At k = (s : ℕ) × (slice_get g.starts k ≡ Some s) × P s
 
     at_decided : (k : ℕ) → IsDecided (At k)
-    at_decided k = go (slice_get g.starts k) refl
-      where
-        go : (o : Option ℕ) → slice_get g.starts k ≡ o → IsDecided (At k)
-        go None e = inr (λ (s, f, p). none_some s (sym e ∙ f))
-        go (Some s) e = moved (λ p. (s, e, p)) (λ (t, f, p). subst P (some_one t s (sym f ∙ e)) p) (d s)
+    at_decided k = some_held (slice_get g.starts k) P d
 
     pub first_start : ((s : ℕ) × IsFirstStart g P s) ⊎ ((s : ℕ) → Contains g.starts s → P s → ⊥)
     first_start = elim (least_below At (length g.starts) (λ k lt. at_decided k)) [

@@ -1,5 +1,5 @@
 -- A grammar has a least cycle, or heights that fall along each step.
-use Rattle.std.proofs.Common.{arith, ◌≡◌, ◌≢◌, ◌⊎◌, inl, inr, ℕ, zero, suc, ◌+◌, ◌-◌, ◌<◌, ◌≤◌, List, [], ◌∷◌, length, take, Option, Some, None, slice_get, refl, sym, ◌∙◌, ap, subst}
+use Rattle.std.proofs.Common.{arith, ◌≡◌, ◌≢◌, ◌⊎◌, inl, inr, ℕ, zero, suc, ◌-◌, ◌<◌, ◌≤◌, List, [], ◌∷◌, length, Option, Some, slice_get, refl, sym, ◌∙◌, ap, subst}
 use Rattle.std.specs.declared.cmp.Ordering.{Ordering}
 use Rattle.std.specs.declared.cmp.Ordering.TheVariants.{Less, Equal, Greater}
 use Rattle.std.specs.Ordering.{ordering_then, nat_cmp}
@@ -9,10 +9,11 @@ use Rattle.grammar_model.specs.Analysis.{IsNullable, IsProductive, IsAccessible,
 use Rattle.grammar_model.specs.Cycles.{IsWalk, IsCycle, IsCyclic, IsLeastCycle, HasHeights, slot_cmp, cycle_cmp}
 use Rattle.grammar_check.proofs.SlotCycles.{nat_cases}
 use Rattle.finite_sets.specs.Decided.{IsDecided}
-use Rattle.finite_sets.proofs.Deciding.{both, moved, negated, implied, equal, less, some_below, each_below, least_of}
-use Rattle.finite_sets.proofs.Members.{Among, some_among}
+use Rattle.finite_sets.proofs.Deciding.{both, moved, negated, implied, equal, some_below, each_below, least_of}
+use Rattle.finite_sets.proofs.Members.{Among}
 use Rattle.finite_sets.proofs.Choosing.{least_among}
-use Rattle.finite_sets.proofs.Walks.{Walk, Leads, walk_decided, leads_decided, height, falls}
+use Rattle.finite_sets.specs.Walks.{Walk, Leads}
+use Rattle.finite_sets.proofs.Walks.{walk_decided, leads_decided, height, falls}
 use Rattle.grammar_laws.proofs.Slots.{same_slot, slots, some_rule}
 use Rattle.grammar_laws.proofs.Tests.{nullable_decided, productive_decided, accessible_decided, accessible_member}
 
@@ -240,17 +241,17 @@ module _ (g : Grammar) where
                   then_low (slice_cmp slot_cmp (s ∷ []) (t ∷ [])) (ordering_then (nat_cmp (length (s ∷ zs)) (length (t ∷ ws))) (slice_cmp slot_cmp (s ∷ zs) (t ∷ ws)))
                   (then_low (slot_cmp s t) Equal (low_slots s t (low t (k, path_walk (suc k) t t ws q))) (λ e. equal_greater))
                   (λ e.
-                      let same : s ≡ t = slots_same s t (then_equal (slot_cmp s t) Equal e).0 in
-                      let q' : Path' (suc k) s s ws = subst (λ r. Path' (suc k) r r ws) (sym same) q in
-                      let le : n ≤ k = elim (or_less n k) [ inl le ↦ le | inr lt ↦ absurd (short k lt (path_walk (suc k) s s ws q')) ] in
-                      let a = path_long (suc n) s s zs p in
-                      let b = path_long (suc k) s s ws q' in
-                      then_low (nat_cmp (length (s ∷ zs)) (length (t ∷ ws))) (slice_cmp slot_cmp (s ∷ zs) (t ∷ ws)) (nat_low (length (s ∷ zs)) (length (t ∷ ws)) (omega (arith, le, a, b)))
-                      (λ f.
-                          let long = nat_same (length (s ∷ zs)) (length (t ∷ ws)) f in
-                          let kn : k ≡ n = omega (arith, long, a, b) in
-                          then_low (slot_cmp s t) (slice_cmp slot_cmp zs ws) (low_slots s t (low t (k, path_walk (suc k) t t ws q)))
-                          (λ _. least ws (subst (λ r. Path' (suc r) s s ws) kn q'))))
+                  let same : s ≡ t = slots_same s t (then_equal (slot_cmp s t) Equal e).0 in
+                  let q' : Path' (suc k) s s ws = subst (λ r. Path' (suc k) r r ws) (sym same) q in
+                  let le : n ≤ k = elim (or_less n k) [ inl le ↦ le | inr lt ↦ absurd (short k lt (path_walk (suc k) s s ws q')) ] in
+                  let a = path_long (suc n) s s zs p in
+                  let b = path_long (suc k) s s ws q' in
+                  then_low (nat_cmp (length (s ∷ zs)) (length (t ∷ ws))) (slice_cmp slot_cmp (s ∷ zs) (t ∷ ws)) (nat_low (length (s ∷ zs)) (length (t ∷ ws)) (omega (arith, le, a, b)))
+                  (λ f.
+                  let long = nat_same (length (s ∷ zs)) (length (t ∷ ws)) f in
+                  let kn : k ≡ n = omega (arith, long, a, b) in
+                  then_low (slot_cmp s t) (slice_cmp slot_cmp zs ws) (low_slots s t (low t (k, path_walk (suc k) t t ws q)))
+                  (λ _. least ws (subst (λ r. Path' (suc r) s s ws) kn q'))))
                 where
                   or_less : (n k : ℕ) → (n ≤ k) ⊎ (k < n)
                   or_less n k = grind arith

@@ -1,5 +1,13 @@
+pub mod Options
 pub mod Slots
 pub mod Tests
 pub mod Faults
 pub mod LeastCycles
 pub mod Checks
+pub mod Flats
+pub mod ItemSets
+pub mod Facts
+pub mod Acceptance
+pub mod Spans
+pub mod Flattening
+pub mod Applied

@@ -1,9 +1,10 @@
 -- Slots are told apart, those that may count are members of a list, and what rules say of slots is decided by their parts.
-use Rattle.std.proofs.Common.{arith, ◌≡◌, ◌≢◌, ◌⊎◌, inl, inr, ℕ, zero, suc, ◌<◌, ◌≤◌, Bool, true, false, IsFalse, List, [], ◌∷◌, ◌++◌, length, map, flat_map, Contains, Option, Some, None, refl, sym, ◌∙◌, ap, subst}
-use Rattle.grammar_model.specs.Grammar.{WrittenRule, PlainRule, SequenceRule, Plain, Sequence, Grammar, Slot, slot_of, rule_at, lhs_of, level_of, IsTerminal, Fits, child_slot, slot_count, sequence_symbol, EachChildSlot, IsChildSlot}
+use Rattle.std.proofs.Common.{arith, ◌≡◌, ◌≢◌, inl, inr, ℕ, ◌<◌, Bool, true, false, IsFalse, List, ◌++◌, length, map, flat_map, Contains, refl, sym, ap, subst}
+use Rattle.grammar_model.specs.Grammar.{WrittenRule, Plain, Sequence, Grammar, Slot, slot_of, rule_at, lhs_of, level_of, IsTerminal, Fits, child_slot, slot_count, EachChildSlot, IsChildSlot}
 use Rattle.grammar_model.specs.Analysis.{SomeRule, IsStar, EachNeeded}
+use Rattle.grammar_check.proofs.Rounds.{item_first}
 use Rattle.finite_sets.specs.Decided.{IsDecided}
-use Rattle.finite_sets.proofs.Deciding.{both, negated, moved, equal, less, at_most, some_below, each_below}
+use Rattle.finite_sets.proofs.Deciding.{both, negated, moved, equal, at_most, some_below, each_below}
 use Rattle.finite_sets.proofs.Members.{Among, among_from, among_left, among_right, among_map, among_flat_map, values, among_values}
 
 pub same_slot : (s t : Slot) → IsDecided (s ≡ t)
@@ -28,11 +29,6 @@ pub start_among : (g : Grammar) (s : ℕ) → Contains g.starts s → Among (slo
 start_among g s h =
     among_right _ (flat_map (λ i. child_slots (rule_at g i)) (values (λ i. i) (length g.rules))) (map slot_of g.starts)
     (among_map slot_of s g.starts (among_from g.starts s h))
-
--- the item is a sequence's first child slot
-pub item_first : (item : ℕ) (separator : Option ℕ) → sequence_symbol item separator 0 ≡ item
-item_first item None = refl
-item_first item (Some separator) = refl
 
 -- ---- what rules say
 

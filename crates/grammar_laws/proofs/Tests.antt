@@ -1,10 +1,9 @@
 -- Whether a slot is nullable, productive and accessible is decided, whatever the grammar.
-use Rattle.std.proofs.Common.{arith, ◌≡◌, ◌⊎◌, ◌↔◌, inl, inr, ℕ, zero, suc, ◌<◌, List, length, Contains, refl, sym, ◌∙◌, ap, subst}
-use Rattle.grammar_model.specs.Grammar.{WrittenRule, Plain, Sequence, Grammar, Slot, slot_of, rule_at, lhs_of, IsTerminal, child_slot, slot_count, EachChildSlot, IsChildSlot}
+use Rattle.std.proofs.Common.{◌≡◌, ◌⊎◌, inl, inr, ℕ, zero, suc, sym, subst}
+use Rattle.grammar_model.specs.Grammar.{WrittenRule, Grammar, Slot, slot_of, rule_at, child_slot, EachChildSlot, IsChildSlot}
 use Rattle.grammar_model.specs.Analysis.{SomeRule, IsStar, IsNullableIn, IsNullable, EachNeeded, IsProductiveIn, IsProductive, IsLive, IsAccessibleIn, IsAccessible}
-use Rattle.grammar_check.specs.Tested.{HasTests}
 use Rattle.finite_sets.specs.Decided.{IsDecided}
-use Rattle.finite_sets.proofs.Deciding.{both, one_of, moved, equal, test_of, test_true, true_test}
+use Rattle.finite_sets.proofs.Deciding.{both, one_of, moved, test_of, test_true, true_test}
 use Rattle.finite_sets.proofs.Members.{Among, some_among, among_from, contains_from}
 use Rattle.finite_sets.proofs.Rounds.{AreRounds, decided}
 use Rattle.grammar_laws.specs.Laws.{TestsExist}

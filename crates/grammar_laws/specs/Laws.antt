@@ -1,7 +1,7 @@
 -- That what contracts end in exists: what slots can do is decided, a grammar passes the check or has a refusal, it has so
 -- many flat rules, each place has its items, and whether a tree spans two places is decided.
 -- Sources: the usual closures over finite sets of symbols and items; Earley 1970.
-use Rattle.std.specs.Prelude.{◌≡◌, ℕ, ◌<◌, ◌⊎◌, Bool, true, List, Some, slice_get}
+use Rattle.std.specs.Prelude.{◌≡◌, ℕ, ◌<◌, ◌⊎◌, Bool, true, List}
 use Rattle.finite_sets.specs.Decided.{IsDecided}
 use Rattle.grammar_model.specs.declared.Edge.{Edge}
 use Rattle.grammar_model.specs.Grammar.{Grammar, Slot}
@@ -14,9 +14,9 @@ use Rattle.recognizer_model.specs.declared.Item.{Item}
 use Rattle.recognizer_model.specs.Flat.{FlatGrammar}
 use Rattle.recognizer_model.specs.Items.{InSet}
 use Rattle.recognizer_model.specs.Counts.{IsListOf, IsCountOf}
-use Rattle.recognizer_model.specs.Invariant.{IsFlat}
-use Rattle.recognizer_model.specs.FlatForm.{FlatEdges, IsRuleOf, IsFlatOf}
+use Rattle.recognizer_model.specs.FlatForm.{FlatEdges, IsRuleOf}
 use Rattle.flat_rules.specs.Flatten.{Decided, named_rules}
+use Rattle.flat_rules.specs.Flattened.{IsFlattened, HasTooMany}
 
 abbrev pub GoForward : Edges → Type 0
 GoForward edge = (symbol from to : ℕ) → edge symbol from to → from < to
@@ -44,14 +44,17 @@ NamedRulesAreAll = (g : Grammar) (d : Decided g) → IsListOf (IsRuleOf g) (name
 abbrev pub RulesAreCounted : Type 0
 RulesAreCounted = (g : Grammar) → (n : ℕ) × IsCountOf (IsRuleOf g) n
 
+-- a checked grammar is flattened, or it would have too many flat rules
+abbrev pub FlatteningDecides : Type 0
+FlatteningDecides = (w : Grammar) → IsChecked w → ((f : FlatGrammar) × IsFlattened w f) ⊎ HasTooMany w
+
 -- each place has a list of its items
 abbrev pub ItemSetsExist : Type 0
 ItemSetsExist = (f : FlatGrammar) (edges : List Edge) (top j : ℕ) → GoForward (Held edges) → (items : List Item) × IsListOf (InSet f (FlatEdges f (Held edges)) top j) items
 
 -- whether a terminal is acceptable at a place
 abbrev pub AcceptableAreDecided : Type 0
-AcceptableAreDecided = (w : Grammar) (f : FlatGrammar) (edges : List Edge) (k start t place : ℕ) → IsChecked w → IsFlat f → IsFlatOf f w → GoForward (Held edges) →
-    slice_get w.starts k ≡ Some start → IsDecided (IsAcceptable w (Held edges) start t place)
+AcceptableAreDecided = (w : Grammar) (edges : List Edge) (start t place : ℕ) → IsChecked w → GoForward (Held edges) → IsDecided (IsAcceptable w (Held edges) start t place)
 
 -- whether a tree of a slot spans two places, over the edges of a list and over those that a test tells
 abbrev pub TreesAreDecided : Type 0
