@@ -8,6 +8,7 @@ use Rattle.finite_sets.proofs.Members.{Among}
 use Rattle.grammar_laws.proofs.Slots.{slots}
 use Rattle.grammar_laws.proofs.Tests.{nullable_decided, productive_decided, accessible_decided, accessible_member}
 use Rattle.grammar_laws.proofs.Checks.{checks_decide}
+use Rattle.grammar_laws.proofs.Flats.{rules_are_counted}
 use Rattle.grammar_check.proofs.Uniqueness.{not_refused, one_refusal}
 use Rattle.reading_model.proofs.Accepting.{CheckLaws}
 use Rattle.run_model.specs.Checking.{SymbolRow, IsRowOf}
@@ -42,7 +43,7 @@ row g s =
     )
 
 pub check_laws : CheckLaws
-check_laws = record { decided = checks_decide; not_both = not_refused; one_refusal = one_refusal; counted = ? }
+check_laws = record { decided = checks_decide; not_both = not_refused; one_refusal = one_refusal; counted = rules_are_counted }
 
 pub run_laws : RunLaws
 run_laws = record { texts = text_laws; checks = check_laws; row = row }

@@ -1,12 +1,14 @@
 -- The rows of the left sides, as they are collected rule by rule.
-use Rattle.std.proofs.Common.{◌≡◌, ◌≢◌, ◌∙◌, ℕ, suc, ◌+◌, ◌<◌, ◌==◌, ◌||◌, Bool, true, false, List, [], ◌∷◌, ◌++◌, length, map, drop, All, refl, sym, ap, subst, arith, append_assoc, append-nil, slice_index_or, slice_set}
+use Rattle.std.proofs.Common.{◌≡◌, ◌≢◌, ◌∙◌, ℕ, zero, suc, ◌+◌, ◌<◌, ◌==◌, ◌||◌, Bool, true, false, List, [], ◌∷◌, ◌++◌, length, map, take, drop, All, eqb-true, refl, sym, ap, subst, arith, append_assoc, append-nil, slice_index_or, slice_set}
 use Rattle.std.proofs.lemmas.Bool.{eqb-false}
 use Rattle.std.proofs.lemmas.Bool.{cases_lt}
 use Rattle.std.proofs.lemmas.List.{get_or-set_same, get_or-set_other, length-set, map-append}
-use Rattle.std.proofs.lemmas.List.Elements.{All-push, All-nil}
+use Rattle.std.proofs.lemmas.List.Elements.{All-push, All-nil, All-cons}
 use Rattle.std.proofs.Math.Seq.{drop-cons}
 use Rattle.grammar_model.specs.Grammar.{Grammar, WrittenRule, rule_at, no_rule, lhs_of, occurs}
-use Rattle.run_model.specs.Checking.{SymbolRow, IsRowOf, AreRows, left_sides}
+use Rattle.run_model.specs.Checking.{SymbolRow, IsRowOf, AreRows, left_sides, row_line}
+use Rattle.slif_cli.specs.declared.checking.SymbolRow as held
+use Rattle.slif_cli.specs.Stops.{told_row}
 
 -- the list turned round, before another
 abbrev turned : List ℕ → List ℕ → List ℕ
@@ -60,7 +62,7 @@ module _ (g : Grammar) (i : ℕ) (seen : List Bool) (rows : List SymbolRow) (c :
   marks_more t d within = by_same (s == t) refl
     where
       by_same : (b : Bool) → (s == t) ≡ b → slice_index_or (slice_set seen s true) t d ≡ (b || occurs t (turned (symbols_of rows) []))
-      by_same true e = let size = c.sized in let same : t ≡ s = omega (arith, e) in ap (λ (x : ℕ). slice_index_or (slice_set seen s true) x d) same ∙ get_or-set_same seen s true d (omega (arith, size, known))
+      by_same true e = let size = c.sized in let same : t ≡ s = sym (eqb-true s t e) in ap (λ (x : ℕ). slice_index_or (slice_set seen s true) x d) same ∙ get_or-set_same seen s true d (omega (arith, size, known))
       by_same false e = get_or-set_other seen s t true d (λ same. eqb-false s t e (sym same)) ∙ c.marks t d within
 
   pub collected_more : (row : SymbolRow) → row.symbol ≡ s → IsRowOf g row → (d : Bool) → slice_index_or seen s d ≡ false → Collected g (i + 1) (slice_set seen s true) (rows ++ row ∷ [])
@@ -91,3 +93,23 @@ collected_all g seen rows c = record {
   symbols = sym (append-nil (symbols_of rows)) ∙ ap (λ (rs : List WrittenRule). symbols_of rows ++ left_sides (turned (symbols_of rows) []) rs) (sym (drop_all g.rules)) ∙ c.left;
   each = c.each;
 }
+
+-- what is known of rows, as a program holds them
+pub known_held : (n : ℕ) (rows : List held.SymbolRow) → All (λ r. r.symbol < n) (map told_row rows) → All (λ r. r.symbol < n) rows
+known_held n [] all = All-nil (λ r. r.symbol < n)
+known_held n (x ∷ xs) all =
+    All-cons (λ r. r.symbol < n) x xs (all 0 (told_row x) (omega arith)) (known_held n xs (λ k d lt. all (suc k) d (omega (arith, lt))))
+
+-- the line of one row more
+row_more : (f : SymbolRow → List ℕ) (rows : List held.SymbolRow) (k : ℕ) (x : held.SymbolRow) → k < length rows → x ≡ slice_index_or rows k x
+    → map f (take (suc k) (map told_row rows)) ≡ map f (take k (map told_row rows)) ++ f (told_row x) ∷ []
+row_more f [] k x lt e = absurd (omega arith)
+row_more f (y ∷ ys) zero x lt e = ap (λ (r : held.SymbolRow). f (told_row r) ∷ []) (sym e)
+row_more f (y ∷ ys) (suc k) x lt e = ap (λ ls. f (told_row y) ∷ ls) (row_more f ys k x (omega arith) e)
+
+pub line_more : (g : Grammar) (head : List ℕ) (rows : List held.SymbolRow) (k : ℕ) (x : held.SymbolRow) → k < length rows → x ≡ slice_index_or rows k x → (old new : List (List ℕ)) (line : List ℕ)
+    → old ≡ head ∷ map (row_line g) (take k (map told_row rows)) → line ≡ row_line g (told_row x) → new ≡ old ++ line ∷ [] → new ≡ head ∷ map (row_line g) (take (k + 1) (map told_row rows))
+line_more g head rows k x lt e old new line before is more =
+    let next : k + 1 ≡ suc k = omega arith in
+    more ∙ ap (λ ls. ls ++ line ∷ []) before ∙ ap (λ l. head ∷ (map (row_line g) (take k (map told_row rows)) ++ l ∷ [])) is
+    ∙ ap (λ ls. head ∷ ls) (sym (row_more (row_line g) rows k x lt e)) ∙ ap (λ (n : ℕ). head ∷ map (row_line g) (take n (map told_row rows))) (sym next)

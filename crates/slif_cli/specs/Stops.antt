@@ -1,5 +1,5 @@
 -- What is known where a part of the work stops.
-use Rattle.std.specs.Prelude.{◌≡◌, ℕ, List, [], ◌∷◌, ◌++◌, ◌⊎◌, Option, Some, ⊤, ◌<◌, length, map, codes}
+use Rattle.std.specs.Prelude.{◌≡◌, ℕ, List, [], ◌∷◌, ◌++◌, ◌⊎◌, Option, Some, None, ⊤, ◌<◌, length, map, codes}
 use Rattle.std.specs.List.{concat}
 use Rattle.std.specs.Io.KnownBytes.{Appends}
 use Rattle.slif_base.specs.Causes.{Rose}
@@ -86,6 +86,11 @@ pub record IsGrammarText (b : Built) (text : List ℕ) : Type 0 where
   pub fault : GrammarFault
   pub has : HasGrammarFault b fault
   pub told : text ≡ grammar_text b fault
+
+-- what is told of a fault of the description, where there is one
+abbrev pub IsFaultText : List ℕ → Option BuildFault → List ℕ → Type 0
+IsFaultText cs None text = ⊥
+IsFaultText cs (Some fault) text = text ≡ codes "grammar: " ++ build_text cs fault
 
 -- why a description of these characters is not accepted, as it is told
 pub data IsBadDescription (cs : List ℕ) (d : List Statement) (text : List ℕ) : Type 0 where

@@ -1,5 +1,5 @@
 // What job `check` writes.
-ghost use Rattle.std.specs.Prelude.{◌≡◌, ◌≤◌, ◌<◌, ◌++◌, All, map, length, IfOk, IfErr, OnOk};
+ghost use Rattle.std.specs.Prelude.{◌≡◌, ◌≤◌, ◌<◌, ◌++◌, All, map, length, IfOk, IfErr, OnOk, slice_set, true};
 ghost use Rattle.std.specs.List.{concat};
 ghost use Rattle.std.specs.Io.KnownBytes.{Appends};
 ghost use Rattle.grammar_model.specs.Grammar.{rule_at, lhs_of};
@@ -109,17 +109,32 @@ fn rows_of(alloc: Global, prepared: &Prepared) -> Result<Vec<SymbolRow>, AllocEr
     for i in 0..w.rule_count() {
         let symbol = left_side(w, i);
         if !seen[symbol.0 as usize] {
-            seen[symbol.0 as usize] = true;
+            mark(&mut seen, symbol.0 as usize);
             rows.push(row_of(prepared, symbol))?;
         }
     }
     Ok(rows)
 }
 
+fn mark(seen: &mut Vec<bool>, at: usize)
+    requires { at < length seen.old.items }
+    ensures { seen.new.items ≡ slice_set seen.old.items at true }
+{
+    seen[at] = true;
+}
+
 fn left_side(w: &Written, i: usize) -> SymbolId
     requires { i < length w.now.rules }
     ensures is { result ≡ lhs_of (rule_at w.now i) }
     ensures known { result < length w.now.names }
+{
+    let _ = w.rule_count();
+    left_at(w, i)
+}
+
+fn left_at(w: &Written, i: usize) -> SymbolId
+    requires { i < length w.now.rules }
+    ensures { result ≡ lhs_of (rule_at w.now i) }
 {
     let _ = w.rule_count();
     match w.written_rule(RuleId(i as u32)) {

@@ -9,12 +9,12 @@ ghost use Rattle.slif_cli.specs.Stops.{LoadStops, IsLoaded, IsListable, TellsTex
 
 use crate::refusals::{description_text, grammars_text, not_utf8_text, phrase};
 use crate::stop::{Refusal, Stop};
-use dsl_build::{BuildRefusal, build};
+use dsl_build::build;
 use dsl_reader::{StatementRefusal, parse};
 use dsl_statement::Description;
 use dsl_tokens::{TokenRefusal, tokens};
 use grammar_core::Written;
-use scanless::{PrepareRefusal, Prepared, prepare};
+use scanless::{Prepared, prepare};
 use simple_grammar::{SimpleRefusal, grammar_of};
 use slif_base::{Chars, FileRefusal, Files, TextRefusal, chars_of, read_named};
 use std::alloc::Global;
@@ -64,13 +64,21 @@ fn read_grammar<'a>(alloc: Global, bytes: &[u8]) -> Result<Loaded, Stop<'a>>
     ensures read { IfOk result (λ l. IsLoaded l.description l.prepared bytes.now) }
     ensures stops { IfErr result (TellsText (IsRefused bytes.now)) }
 {
-    let chars = characters(alloc, bytes)?;
-    let description = describe(alloc, &chars)?;
-    let prepared = accept(alloc, &chars, &description)?;
-    Ok(Loaded {
-        description,
-        prepared,
-    })
+    let chars = match characters(alloc, bytes) {
+        Ok(chars) => chars,
+        Err(stop) => return Err(stop),
+    };
+    let description = match describe(alloc, &chars) {
+        Ok(description) => description,
+        Err(stop) => return Err(stop),
+    };
+    match accept(alloc, &chars, &description) {
+        Ok(prepared) => Ok(Loaded {
+            description,
+            prepared,
+        }),
+        Err(stop) => Err(stop),
+    }
 }
 
 fn characters<'a>(alloc: Global, bytes: &[u8]) -> Result<Chars, Stop<'a>>
@@ -122,12 +130,11 @@ fn accept<'a>(
     requires small { length chars.now < 4294967295 }
     requires read { IsDescription description.now }
     ensures built { IfOk result (λ p. IsBuiltOf description.now p) }
-    ensures accepted { IfOk result (λ p. IsAccepted p) }
+    ensures accepted { IfOk result IsAccepted }
     ensures stops { IfErr result (TellsText (IsBadDescription chars.now description.now)) }
 {
     let built = match build(alloc, description) {
         Ok(built) => built,
-        Err(BuildRefusal::NoMemory) => return Err(Stop::NoMemory),
         Err(refusal) => {
             let text = description_text(alloc, chars, &refusal)?;
             return Err(refused(text));
@@ -135,7 +142,6 @@ fn accept<'a>(
     };
     match prepare(alloc, built) {
         Ok(prepared) => Ok(prepared),
-        Err(PrepareRefusal::NoMemory) => Err(Stop::NoMemory),
         Err(refusal) => {
             let text = grammars_text(alloc, &refusal)?;
             Err(refused(text))

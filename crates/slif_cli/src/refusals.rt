@@ -1,12 +1,13 @@
 // What is told of a grammar that is refused.
-ghost use Rattle.std.specs.Prelude.{◌≡◌, ◌≢◌, ◌<◌, ◌++◌, length, take, chars, codes, decimal, false, IfOk, IfSome, OnOk};
+ghost use Rattle.std.specs.Prelude.{◌≡◌, ◌<◌, ◌++◌, length, take, chars, codes, decimal, false, IfOk};
 ghost use Rattle.slif_base.specs.Characters.{line_after, column_after};
 ghost use Rattle.grammar_check.specs.Message.{IsOf, refusal_text};
 ghost use Rattle.dsl_build.specs.Found.{refused_fault};
 ghost use Rattle.language_model.specs.Building.{Built};
-ghost use Rattle.run_model.specs.Refused.{at_place, build_text};
-ghost use Rattle.scanless.specs.Refused.{IsRefusedBy};
-ghost use Rattle.slif_cli.specs.Stops.{IsGrammarText};
+ghost use Rattle.reading_model.specs.Accepted.{TooManyRules as TooMany};
+ghost use Rattle.run_model.specs.Refused.{at_place, grammar_text};
+ghost use Rattle.scanless.specs.Faults.{IsRefusal};
+ghost use Rattle.slif_cli.specs.Stops.{IsFaultText, IsGrammarText};
 
 use dsl_build::BuildRefusal;
 use grammar_check::{GrammarRefusal, append_refusal};
@@ -41,7 +42,7 @@ pub fn phrase(
     after: &[u8],
     chars: &Chars,
     at: usize,
-) -> Result<Vec<u8>, AllocError>
+) -> Result<Vec<u8>, NoMemory>
     requires { length chars.now < 4294967295 }
     ensures { IfOk result (λ text. text.items ≡ before.now ++ (name.now ++ (after.now ++ at_place chars.now at))) }
 {
@@ -59,9 +60,9 @@ pub fn description_text(
     alloc: Global,
     chars: &Chars,
     refusal: &BuildRefusal,
-) -> Result<Vec<u8>, AllocError>
+) -> Result<Vec<u8>, NoMemory>
     requires { length chars.now < 4294967295 }
-    ensures { IfOk result (λ text. IfSome (refused_fault refusal.now) (λ f. text.items ≡ codes "grammar: " ++ build_text chars.now f)) }
+    ensures { IfOk result (λ text. IsFaultText chars.now (refused_fault refusal.now) text.items) }
 {
     match refusal {
         BuildRefusal::BadAdverb { at, name } => {
@@ -92,7 +93,7 @@ pub fn description_text(
         BuildRefusal::TooLong { at, .. } => {
             phrase(alloc, b"grammar: too long", "", b"", chars, *at)
         }
-        BuildRefusal::NoMemory => Ok(Vec::new(alloc)),
+        BuildRefusal::NoMemory => Err(NoMemory),
     }
 }
 
@@ -110,23 +111,27 @@ fn check_text(
     Ok(text)
 }
 
+fn rules_text(alloc: Global, lexical: bool) -> Result<Vec<u8>, AllocError>
+    ensures { IfOk result (λ text. (b : Built) → text.items ≡ grammar_text b (TooMany lexical)) }
+{
+    if lexical {
+        Vec::from_slice(alloc, b"lexical grammar: more than 65536 flat rules")
+    } else {
+        Vec::from_slice(alloc, b"grammar: more than 65536 flat rules")
+    }
+}
+
 /// Grammars that are not accepted.
 pub fn grammars_text(alloc: Global, refusal: &PrepareRefusal) -> Result<Vec<u8>, NoMemory>
-    requires { (b : Built) × IsRefusedBy b refusal.now }
-    ensures { IfOk result (λ text. (b : Built) → IsRefusedBy b refusal.now → refusal.now ≢ PrepareRefusal.NoMemory → IsGrammarText b text.items) }
+    requires { (b : Built) × IsRefusal b refusal.now }
+    ensures { IfOk result (λ text. (b : Built) → IsRefusal b refusal.now → IsGrammarText b text.items) }
 {
     match refusal {
         PrepareRefusal::Grammar { w, refusal } => check_text(alloc, b"grammar: ", w, refusal),
         PrepareRefusal::Lexical { w, refusal } => {
             check_text(alloc, b"lexical grammar: ", w, refusal)
         }
-        PrepareRefusal::TooManyRules { lexical: false } => {
-            Ok(Vec::from_slice(alloc, b"grammar: more than 65536 flat rules")?)
-        }
-        PrepareRefusal::TooManyRules { lexical: true } => {
-            let text = b"lexical grammar: more than 65536 flat rules";
-            Ok(Vec::from_slice(alloc, text)?)
-        }
-        PrepareRefusal::NoMemory => Ok(Vec::new(alloc)),
+        PrepareRefusal::TooManyRules { lexical } => Ok(rules_text(alloc, *lexical)?),
+        PrepareRefusal::NoMemory => Err(NoMemory),
     }
 }

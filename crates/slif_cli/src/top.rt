@@ -90,9 +90,14 @@ fn list_trees<'a, F: Files, I: Source, O: Sink>(
     ensures input { (input.new ≡ input.old) ⊎ ((words : List (List ℕ)) → Asks words (AskedTrees name.now) → ReadsInput words (F.told files.old)) }
     ensures held { SameFiles (F.told files.old) (F.told files.new) }
 {
-    let loaded = load_grammar(alloc, name, files)?;
-    let grammar = simple_of(alloc, &loaded.description)?;
-    derive_input(alloc, &grammar, input, out)
+    let loaded = match load_grammar(alloc, name, files) {
+        Ok(loaded) => loaded,
+        Err(stop) => return Err(stop),
+    };
+    match simple_of(alloc, &loaded.description) {
+        Ok(grammar) => derive_input(alloc, &grammar, input, out),
+        Err(stop) => Err(stop),
+    }
 }
 
 // Checks the grammar of that name.
@@ -109,6 +114,8 @@ fn check_grammar<'a, F: Files, O: Sink>(
     ensures asks { AsksAmong (F.asked files.old) (F.asked files.new) (name.now ∷ []) }
     ensures held { SameFiles (F.told files.old) (F.told files.new) }
 {
-    let loaded = load_grammar(alloc, name, files)?;
-    write_check(alloc, &loaded.prepared, out)
+    match load_grammar(alloc, name, files) {
+        Ok(loaded) => write_check(alloc, &loaded.prepared, out),
+        Err(stop) => Err(stop),
+    }
 }
