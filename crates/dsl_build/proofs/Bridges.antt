@@ -17,7 +17,7 @@ use Rattle.dsl_build.specs.Faults.{undefined_fault, class_fault, left_part, lexe
 use Rattle.dsl_build.proofs.Lists.{flat_flat, flat_same}
 use Rattle.dsl_build.proofs.Keeping.{among_texts}
 
-filter_flat : {A B : Type 0} (f : A → Option B) (xs : List A) → filter_map f xs ≡ flat_map (λ x. option_to_list (f x)) xs
+pub filter_flat : {A B : Type 0} (f : A → Option B) (xs : List A) → filter_map f xs ≡ flat_map (λ x. option_to_list (f x)) xs
 filter_flat f [] = refl
 filter_flat {A} {B} f (x ∷ xs) = go (f x) ∙ ap (λ ys. option_to_list (f x) ++ ys) (filter_flat f xs)
   where
@@ -26,7 +26,7 @@ filter_flat {A} {B} f (x ∷ xs) = go (f x) ∙ ap (λ ys. option_to_list (f x) 
     go None = refl
 
 -- what gives nothing for right sides gives what it gives for the left one
-nothing : {A : Type 0} (g : Used → List A) (r : Role) (xs : List (Bool × Spelled)) → ((l : Bool) (t : Spelled) → g (used r l t) ≡ []) → flat_map g (map (λ x. used r x.0 x.1) xs) ≡ []
+pub nothing : {A : Type 0} (g : Used → List A) (r : Role) (xs : List (Bool × Spelled)) → ((l : Bool) (t : Spelled) → g (used r l t) ≡ []) → flat_map g (map (λ x. used r x.0 x.1) xs) ≡ []
 nothing g r [] e = refl
 nothing g r (x ∷ xs) e = ap (λ ys. ys ++ flat_map g (map (λ y. used r y.0 y.1) xs)) (e x.0 x.1) ∙ nothing g r xs e
 
@@ -56,7 +56,7 @@ rights_only g f (Rules left lexical groups) st le ri di =
     let xs = map (λ t. (lexical, t)) (flat_map parts_of (alternatives_of groups)) in
     ap (λ ys. ys ++ flat_map g (map (λ x. used role.Right x.0 x.1) xs)) (le lexical left) ∙ flat_map-map g (λ (x : Bool × Spelled). used role.Right x.0 x.1) xs ∙ flat_same (λ (x : Bool × Spelled). g (used role.Right x.0 x.1)) f xs ri
 
-abbrev uses : List Statement → List Used
+abbrev pub uses : List Statement → List Used
 uses d = flat_map uses_of d
 
 single : {A : Type 0} (xs : List A) → flat_map (λ x. x ∷ []) xs ≡ xs
@@ -69,10 +69,10 @@ lefts_of_uses d =
     ∙ sym (flat_flat left_part uses_of d ∙ flat_same (λ s. flat_map left_part (uses_of s)) (λ s. option_to_list (left_of s)) d
     (λ (s : Statement). lefts_only left_part s (λ (l : Bool) (t : Spelled). refl) (λ (l : Bool) (t : Spelled). refl) (λ (l : Bool) (t : Spelled). refl) ∙ single (option_to_list (left_of s))))
 
-abbrev names_at_level : Bool → Bool × Spelled → List (List ℕ)
+abbrev pub names_at_level : Bool → Bool × Spelled → List (List ℕ)
 names_at_level lexical l = cond ((lexical && l.0) || (not lexical && not l.0)) (l.1.content ∷ []) []
 
-lexical_lefts : (d : List Statement) → left_names true d ≡ flat_map (texts_asked LexicalLeft) (uses d)
+pub lexical_lefts : (d : List Statement) → left_names true d ≡ flat_map (texts_asked LexicalLeft) (uses d)
 lexical_lefts d =
     ap (flat_map (names_at_level true)) (lefts_of_uses d) ∙ flat_flat (names_at_level true) left_part (uses d)
     ∙ flat_same (λ u. flat_map (names_at_level true) (left_part u)) (texts_asked LexicalLeft) (uses d) (λ (u : Used). go (is_left u) u.lexical u.token)
@@ -82,7 +82,7 @@ lexical_lefts d =
     go true false t = refl
     go false l t = refl
 
-structural_lefts : (d : List Statement) → left_names false d ≡ flat_map (texts_asked StructuralLeft) (uses d)
+pub structural_lefts : (d : List Statement) → left_names false d ≡ flat_map (texts_asked StructuralLeft) (uses d)
 structural_lefts d =
     ap (flat_map (names_at_level false)) (lefts_of_uses d) ∙ flat_flat (names_at_level false) left_part (uses d)
     ∙ flat_same (λ u. flat_map (names_at_level false) (left_part u)) (texts_asked StructuralLeft) (uses d) (λ (u : Used). go (is_left u) u.lexical u.token)
@@ -92,7 +92,7 @@ structural_lefts d =
     go true false t = refl
     go false l t = refl
 
-any_left : (ls : List (Bool × Spelled)) (t : List ℕ) → is_one_of (map (λ l. l.1.content) ls) t ≡ (is_one_of (flat_map (names_at_level true) ls) t || is_one_of (flat_map (names_at_level false) ls) t)
+pub any_left : (ls : List (Bool × Spelled)) (t : List ℕ) → is_one_of (map (λ l. l.1.content) ls) t ≡ (is_one_of (flat_map (names_at_level true) ls) t || is_one_of (flat_map (names_at_level false) ls) t)
 any_left [] t = refl
 any_left (l ∷ ls) t =
     ap (λ a. bytes_eq l.1.content t || a) (any_left ls t) ∙ moves l.0 (bytes_eq l.1.content t) (is_one_of (flat_map (names_at_level true) ls) t) (is_one_of (flat_map (names_at_level false) ls) t) ∙ sym (both l.0)
@@ -139,7 +139,7 @@ symbols_are d = ap (new_texts []) (sym (flat_flat (texts_asked Structural) uses_
     each (Rules left true groups) = no_rights (flat_map parts_of (alternatives_of groups))
     each (Rules left false groups) = ap (λ ys. left.content ∷ ys) (rights (flat_map parts_of (alternatives_of groups)))
 
-among_filtered : (p : List ℕ → Bool) (xs : List (List ℕ)) (t : List ℕ) → is_one_of (filter p xs) t ≡ (is_one_of xs t && p t)
+pub among_filtered : (p : List ℕ → Bool) (xs : List (List ℕ)) (t : List ℕ) → is_one_of (filter p xs) t ≡ (is_one_of xs t && p t)
 among_filtered p [] t = refl
 among_filtered p (x ∷ xs) t = go (p x) (bytes_eq x t) refl refl (among_filtered p xs t)
   where

@@ -12,4 +12,14 @@ pub mod Repeats
 pub mod Scans
 pub mod SecondLemmas
 pub mod TableLemmas
+pub mod TextLemmas
+pub mod LexemeLemmas
+pub mod Faultless
 pub mod UseLemmas
+pub mod Alls
+pub mod Differing
+pub mod Few
+pub mod Known
+pub mod Ranging
+pub mod NumberedLemmas
+pub mod Terminals

@@ -1,8 +1,10 @@
 pub mod Adverbs
+pub mod Built
 pub mod Faults
 pub mod Found
 pub mod Lexical
 pub mod Meanings
+pub mod Ranges
 pub mod Rules
 pub mod Tables
 pub mod Texts

@@ -8,6 +8,8 @@ mod checks;
 mod descriptor;
 mod faults;
 mod found;
+mod laws;
+mod lexemes;
 mod lexical;
 mod meanings;
 mod names;
@@ -25,10 +27,12 @@ mod tables;
 mod telling;
 #[cfg(test)]
 mod tests;
+mod texts;
 mod uses;
 mod values;
 
 pub use building::build;
 pub use built::{Built, LexemeRow};
 pub use faults::check;
+pub use laws::{built_is_in_range, terminals_have_sets};
 pub use refusal::BuildRefusal;

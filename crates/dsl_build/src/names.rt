@@ -42,6 +42,7 @@ impl Names {
     pub fn position(&self, name: &str) -> Option<usize>
         ensures held { is_some result ≡ is_one_of self.now name.now }
         ensures place { IfSome result (λ k. k ≡ place_in self.now name.now) }
+        ensures within { IfSome result (λ k. k < length self.now) }
     {
         self.names.get_index_of(name)
     }

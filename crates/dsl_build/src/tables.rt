@@ -1,17 +1,21 @@
-//! What `lexeme default` says, and the places of discards.
-ghost use Rattle.std.specs.Prelude.{◌≡◌, map, flat_map, option_copied, option_map, IfOk};
+//! What `lexeme default` says, the places of discards, the numbers of character sets, and what rules mean.
+ghost use Rattle.std.specs.Prelude.{◌≡◌, ◌≤◌, ◌-◌, length, map, flat_map, option_copied, option_map, IfOk};
 ghost use Rattle.language_model.specs.Building as building;
-ghost use Rattle.language_model.specs.Building.{lexeme_default_adverbs, place_in};
-ghost use Rattle.value_text.specs.Meaning.{action_of};
+ghost use Rattle.language_model.specs.Building.{lexeme_default_adverbs, place_in, numbered_from};
+ghost use Rattle.grammar_model.specs.Values.{MakeUndefined};
+ghost use Rattle.value_text.specs.Meaning.{action_of, meaning_of};
 ghost use Rattle.dsl_statement.specs.Statements.{adverbs_of, statement_of};
 
 use crate::adverbs::value_of;
 use crate::descriptor::read_action;
+use crate::meanings::meanings;
 use crate::names::Names;
 use crate::rules::symbol_of;
+use char_class::CharSet;
 use dsl_statement::{Adverb, Spelled, Statement};
+use grammar_core::{SymbolId, Written};
 use std::alloc::{AllocError, Global};
-use value_text::Action;
+use value_text::{Action, Items, Meaning};
 
 fn default_adverbs(s: &Statement) -> &[Adverb]
     ensures { adverbs_of result.now ≡ lexeme_default_adverbs (statement_of s.now) }
@@ -55,4 +59,37 @@ pub fn places_of(alloc: Global, names: &Names, texts: &Names) -> Result<Vec<u32>
         places.push(symbol.0)?;
     }
     Ok(places)
+}
+
+/// The sets, each with its symbol, which are the last symbols of the grammar.
+pub fn numbered(
+    alloc: Global,
+    grammar: &Written,
+    mut sets: Vec<CharSet>,
+) -> Result<Vec<(SymbolId, CharSet)>, AllocError>
+    requires { length sets.items ≤ length grammar.now.names }
+    ensures { IfOk result (λ numbered. numbered.items ≡ numbered_from (length grammar.now.names - length sets.items) sets.items) }
+{
+    let first = grammar.symbol_count() - sets.len();
+    let mut numbered = Vec::new(alloc);
+    while let Some(set) = sets.pop() {
+        let number = first + sets.len();
+        numbered.push((SymbolId(number as u32), set))?;
+    }
+    numbered.reverse();
+    Ok(numbered)
+}
+
+/// The meanings of the structural rules, and of the lexemes.
+pub fn meaning(alloc: Global, statements: &[Statement]) -> Result<Meaning, AllocError>
+    ensures { IfOk result (λ m. meaning_of m ≡ record {
+      rules = building.meanings MakeUndefined (map statement_of statements.now);
+      lexeme = building.action_in (flat_map lexeme_default_adverbs (map statement_of statements.now));
+    }) }
+{
+    let rules = meanings(alloc, statements)?;
+    Ok(Meaning {
+        rules: Items::new(rules),
+        lexeme: lexeme_action(alloc, statements)?,
+    })
 }

@@ -1,7 +1,16 @@
-//! Refusals of small descriptions.
-use crate::{BuildRefusal, check};
+//! Refusals of small descriptions, and what is built of small texts.
+ghost use Rattle.std.specs.Prelude.{IfOk};
+ghost use Rattle.language_model.specs.Texts.{IsDescription};
+
+use crate::{BuildRefusal, Built, build, check};
+use dsl_reader::parse;
 use dsl_statement::{Alternative, Description, Element, Spelled, Statement, TokenKind};
+use dsl_tokens::tokens;
+use grammar_core::{RuleId, SymbolId, Written, WrittenRule};
+use itoa::Buffer;
+use slif_base::chars_of;
 use std::alloc::{AllocError, Global};
+use value_text::Action;
 
 fn word(alloc: Global, text: &str, at: usize) -> Result<Spelled, AllocError> {
     Ok(Spelled {
@@ -96,6 +105,195 @@ fn two_starts(rt: HostRuntime) -> Result<(), AllocError> {
             at == 20 && name.as_str() == ":start"
         ),
         _ => panic!(rt; "another answer"),
+    }
+    Ok(())
+}
+
+fn description_of(alloc: Global, text: &str) -> Result<Description, BuildRefusal>
+    ensures { IfOk result (λ d. IsDescription d) }
+{
+    if text.len() > 1_048_576 {
+        return Err(BuildRefusal::NoMemory);
+    }
+    let Ok(chars) = chars_of(alloc, text.as_bytes()) else {
+        return Err(BuildRefusal::NoMemory);
+    };
+    let Ok(found) = tokens(alloc, &chars) else {
+        return Err(BuildRefusal::NoMemory);
+    };
+    match parse(alloc, &chars, &found) {
+        Ok(description) => Ok(description),
+        Err(_) => Err(BuildRefusal::NoMemory),
+    }
+}
+
+fn built(alloc: Global, text: &str) -> Result<Built, BuildRefusal> {
+    let description = description_of(alloc, text)?;
+    build(alloc, &description)
+}
+
+// The names, each with a blank behind it.
+fn write_names(out: &mut String, w: &Written) -> Result<(), AllocError> {
+    for k in 0..w.symbol_count() {
+        out.push_str(w.name(SymbolId(k as u32)))?;
+        out.push_str(" ")?;
+    }
+    Ok(())
+}
+
+fn write_number(out: &mut String, number: u32) -> Result<(), AllocError> {
+    out.push_str(Buffer::new().format(number))?;
+    out.push_str(" ")
+}
+
+fn write_rule(out: &mut String, rule: &WrittenRule) -> Result<(), AllocError> {
+    match rule {
+        WrittenRule::Plain(rule) => {
+            write_number(out, rule.lhs.0)?;
+            for part in &rule.rhs {
+                write_number(out, part.0)?;
+            }
+        }
+        WrittenRule::Sequence(rule) => {
+            write_number(out, rule.lhs.0)?;
+            out.push_str(if rule.plus { "+ " } else { "* " })?;
+            write_number(out, rule.item.0)?;
+        }
+    }
+    out.push_str("/ ")
+}
+
+// The rules, each a left side and its parts, and the starts.
+fn write_rules(out: &mut String, w: &Written) -> Result<(), AllocError> {
+    for k in 0..w.rule_count() {
+        write_rule(out, w.written_rule(RuleId(k as u32)))?;
+    }
+    out.push_str("| ")?;
+    for k in 0..w.start_count() {
+        write_number(out, w.start(k).0)?;
+    }
+    Ok(())
+}
+
+fn names_of(alloc: Global, w: &Written) -> Result<String, AllocError> {
+    let mut out = String::new(alloc);
+    write_names(&mut out, w)?;
+    Ok(out)
+}
+
+fn rules_of(alloc: Global, w: &Written) -> Result<String, AllocError> {
+    let mut out = String::new(alloc);
+    write_rules(&mut out, w)?;
+    Ok(out)
+}
+
+// Each lexeme's symbol, start, priority and `latm`, and the discards.
+fn rows_of(alloc: Global, built: &Built) -> Result<String, AllocError> {
+    let mut out = String::new(alloc);
+    for row in &built.lexemes {
+        write_number(&mut out, row.symbol.0)?;
+        write_number(&mut out, row.start)?;
+        out.push_str(Buffer::new().format(row.priority))?;
+        out.push_str(if row.latm { " latm / " } else { " / " })?;
+    }
+    out.push_str("| ")?;
+    for discard in &built.discards {
+        write_number(&mut out, *discard)?;
+    }
+    Ok(out)
+}
+
+// Each shown part of each rule is an `x`, and each hidden one a `-`; then the letter of the rule's action.
+fn meaning_of(alloc: Global, built: &Built) -> Result<String, AllocError> {
+    let mut out = String::new(alloc);
+    for rule in built.meaning.rules.as_slice() {
+        for shown in rule.shown.as_slice() {
+            out.push_str(if *shown { "x" } else { "-" })?;
+        }
+        out.push_str(match rule.action {
+            Action::Array => "A ",
+            Action::First => "F ",
+            Action::Undef => "U ",
+            Action::Items(_) => "I ",
+        })?;
+    }
+    Ok(out)
+}
+
+struct Expected {
+    text: &'static str,
+    g1: [&'static str; 2],
+    l0: [&'static str; 2],
+    rows: &'static str,
+    meaning: &'static str,
+}
+
+fn is_built(alloc: Global, expected: &Expected) -> Result<bool, BuildRefusal> {
+    let built = built(alloc, expected.text)?;
+    Ok(names_of(alloc, &built.g1)?.as_str() == expected.g1[0]
+        && rules_of(alloc, &built.g1)?.as_str() == expected.g1[1]
+        && names_of(alloc, &built.l0)?.as_str() == expected.l0[0]
+        && rules_of(alloc, &built.l0)?.as_str() == expected.l0[1]
+        && rows_of(alloc, &built)?.as_str() == expected.rows
+        && meaning_of(alloc, &built)?.as_str() == expected.meaning)
+}
+
+const BUILT: [Expected; 5] = [
+    // Quoted texts and classes of structural rules are lexemes with rules of their own.
+    Expected {
+        text: "S ::= 'ab' [c] 'ab' ('d')",
+        g1: ["S 'ab' [c] 'd' ", "0 1 2 1 3 / | 0 "],
+        l0: [
+            "'ab' [c] 'd' :0 :1 :2 :3 ",
+            "0 3 4 / 1 5 / 2 6 / | 0 1 2 ",
+        ],
+        rows: "1 0 0 / 2 1 0 / 3 2 0 / | ",
+        meaning: "xxx-U ",
+    },
+    // A start that no rule has is a lexeme without a place.
+    Expected {
+        text: ":start ::= T S ::= a a ~ 'x' b b ~ [y]",
+        g1: ["T S a ", "1 2 / | 0 "],
+        l0: ["a 'x' b [y] T :0 :1 ", "0 1 2 / 2 3 / 1 5 / 3 6 / | 4 0 "],
+        rows: "0 0 0 / 2 1 0 / | ",
+        meaning: "xU ",
+    },
+    // Discards: one is a lexeme, one is told twice, one is a class.
+    Expected {
+        text: "S ::= a b a ~ 'x' :discard ~ [\\s] :discard ~ b b ~ 'y' :discard ~ [\\s] :discard ~ c c ~ [z]+",
+        g1: ["S a b ", "0 1 2 / | 0 "],
+        l0: [
+            "a 'x' [\\s] b 'y' c [z] :0 :1 :2 :3 ",
+            "0 1 / 3 4 / 5 + 6 / 1 7 / 2 8 / 4 9 / 6 10 / | 0 3 2 5 ",
+        ],
+        rows: "1 0 0 / 2 1 0 / | 2 1 3 ",
+        meaning: "xxU ",
+    },
+    // A default holds for the rules behind it.
+    Expected {
+        text: "S ::= a :default ::= action => ::first T ::= a | a a action => ::array :default ::= action => [name] U ::= :default ::= V ::= a+ a ~ 'x'",
+        g1: ["S a T U V ", "0 1 / 2 1 / 2 1 1 / 3 / 4 + 1 / | 0 "],
+        l0: ["a 'x' :0 ", "0 1 / 1 2 / | 0 "],
+        rows: "1 0 0 / | ",
+        meaning: "xU xF xxA I I ",
+    },
+    // What `:lexeme` says of `latm` stands, and `lexeme default` tells the others, wherever it stands.
+    Expected {
+        text: ":lexeme ~ a latm => 0 S ::= a b c d lexeme default = latm => 1 :lexeme ~ b priority => -5 :lexeme ~ d latm => 1 priority => +7 a ~ 'x' b ~ 'x' c ~ 'x' d ~ 'x'",
+        g1: ["S a b c d ", "0 1 2 3 4 / | 0 "],
+        l0: [
+            "a 'x' b c d :0 ",
+            "0 1 / 2 1 / 3 1 / 4 1 / 1 5 / | 0 2 3 4 ",
+        ],
+        rows: "1 0 0 / 2 1 -5 latm / 3 2 0 latm / 4 3 7 latm / | ",
+        meaning: "xxxxU ",
+    },
+];
+
+#[test]
+fn built_as_written_by_hand(rt: HostRuntime) -> Result<(), BuildRefusal> {
+    for expected in &BUILT {
+        assert!(rt; is_built(rt.alloc(), expected)?, "{}", expected.text);
     }
     Ok(())
 }

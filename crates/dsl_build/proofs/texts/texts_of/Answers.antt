@@ -1,0 +1,38 @@
+use Rattle.std.proofs.Common.{◌≡◌, ◌∙◌, ap, map, sym, [], ◌++◌, List, ℕ}
+use Rattle.std.specs.Prelude.{flat_map, filter, not}
+use Rattle.language_model.specs.Tokens.{Spelled}
+use Rattle.language_model.specs.Building.{new_texts, new_tokens, is_one_of, symbols_g1, lexemes, discarded, start_texts, placed_tokens, texts_l0, named_l0}
+use Rattle.dsl_statement.specs.Statements.{statement_of}
+use Rattle.dsl_build.specs.Lexical.{placed_part}
+use Rattle.dsl_build.specs.Uses.{Used, used_of, uses_of, texts_asked}
+use Rattle.dsl_build.specs.declared.uses.Use.{Use}
+use Rattle.dsl_build.specs.declared.uses.Which.TheVariants.{StructuralLeft, Structural, Discarded}
+use Rattle.dsl_build.proofs.Bridges.{symbols_are}
+use Rattle.dsl_build.proofs.TextLemmas.{lexemes_are, discards_are, placed_are}
+use Rattle.dsl_build.proofs.texts.texts_of.Goals as goal
+
+pub returns : goal.returns
+returns c =
+    let d = map statement_of c.args.statements.now in
+    let starts = c.in_ok-starts.starts in
+    let used : map used_of c.in_ok-uses.uses.items ≡ flat_map uses_of d = c.in_ok-uses.ensures in
+    let seen : map used_of c.deref.result.now ≡ flat_map uses_of d = ap (λ (xs : List Use). map used_of xs) c.deref.ensures.value ∙ used in
+    let again : map used_of c.deref-2.result.now ≡ flat_map uses_of d = ap (λ (xs : List Use). map used_of xs) c.deref-2.ensures.value ∙ used in
+    let symbols : starts.symbols ≡ symbols_g1 d = c.in_ok-starts.ensures.symbols ∙ ap (λ (us : List Used). new_texts [] (flat_map (texts_asked Structural) us)) seen ∙ sym (symbols_are d) in
+    let left = ap (λ (us : List Used). new_texts [] (flat_map (texts_asked StructuralLeft) us)) seen in
+    let lexical : starts.lexemes ≡ lexemes d = c.in_ok-starts.ensures.lexemes ∙ lexemes_are d starts.symbols (new_texts [] (flat_map (texts_asked StructuralLeft) (map used_of c.deref.result.now))) symbols left in
+    let discards : starts.discards ≡ discarded d = c.in_ok-starts.ensures.discards ∙ ap (λ (us : List Used). new_texts [] (flat_map (texts_asked Discarded) us)) seen ∙ discards_are d in
+    let texts : starts.texts ≡ start_texts d =
+    c.in_ok-starts.ensures.texts ∙ ap (λ (ns : List (List ℕ)). ns ++ filter (λ t. not (is_one_of ns t)) starts.discards) lexical
+    ∙ ap (λ (ns : List (List ℕ)). lexemes d ++ filter (λ t. not (is_one_of (lexemes d) t)) ns) discards in
+    let placed : new_tokens [] (flat_map placed_part (map used_of c.deref-2.result.now)) ≡ placed_tokens d = ap (λ (us : List Used). new_tokens [] (flat_map placed_part us)) again ∙ placed_are d in
+    record {
+      uses = used;
+      symbols = symbols;
+      lexemes = lexical;
+      discards = discards;
+      starts = texts;
+      tokens = c.in_ok-placed.ensures.tokens ∙ placed;
+      named = c.in_ok-placed.ensures.names ∙ ap (λ (ts : List Spelled). map (λ t. t.content) ts ++ filter (λ t. not (is_one_of (map (λ u. u.content) ts) t)) starts.lexemes) placed
+          ∙ ap (λ (ns : List (List ℕ)). texts_l0 d ++ filter (λ t. not (is_one_of (texts_l0 d) t)) ns) lexical;
+    }

@@ -1,0 +1,101 @@
+//! The texts that name the symbols and the starts of both grammars.
+ghost use Rattle.std.specs.Prelude.{◌≡◌, ◌++◌, [], filter, flat_map, not, map, IfOk};
+ghost use Rattle.language_model.specs.Building.{is_one_of, new_tokens, new_texts};
+ghost use Rattle.dsl_statement.specs.Statements.{statement_of};
+ghost use Rattle.dsl_build.specs.Built.{AreTexts, AreStarts};
+ghost use Rattle.dsl_build.specs.Lexical.{placed_part};
+ghost use Rattle.dsl_build.specs.Uses.{used_of, texts_asked};
+ghost use Rattle.dsl_build.specs.declared.uses.Which.TheVariants.{StructuralLeft};
+
+use crate::names::Names;
+use crate::placed::{Placed, append, placed_tokens, without};
+use crate::uses::{Use, Which, names_of, uses_of};
+use dsl_statement::Statement;
+use std::alloc::{AllocError, Global};
+
+/// The texts of structural symbols, and of the starts of the lexical grammar.
+#[derive(Drop)]
+pub struct Starts {
+    /// the symbols of the structural grammar
+    pub symbols: Names,
+    /// those of them that no structural rule defines
+    pub lexemes: Names,
+    /// what is discarded
+    pub discards: Names,
+    /// the starts of the lexical grammar
+    pub texts: Names,
+}
+
+/// The uses of symbols in a description, and the texts of its grammars' symbols and starts.
+#[derive(Drop)]
+pub struct Texts<'a> {
+    /// the tokens that name symbols
+    pub uses: Vec<Use<'a>>,
+    pub starts: Starts,
+    /// the tokens that have a place in the lexical grammar, and all its symbols other than character sets
+    pub placed: Placed<'a>,
+}
+
+// The first texts, and those of the second that are none of them.
+fn joined(alloc: Global, first: &Names, second: &Names) -> Result<Names, AllocError>
+    ensures { IfOk result (λ names. names ≡ first.now ++ filter (λ t. not (is_one_of first.now t)) second.now) }
+{
+    let others = without(alloc, second, first)?;
+    let mut names = Names::new(alloc);
+    append(&mut names, first)?;
+    append(&mut names, &others)?;
+    Ok(names)
+}
+
+// The symbols that no structural rule defines.
+fn lexemes_of(alloc: Global, uses: &[Use<'_>], symbols: &Names) -> Result<Names, AllocError>
+    ensures { IfOk result (λ names. names ≡ filter (λ t. not (is_one_of (new_texts [] (flat_map (texts_asked StructuralLeft) (map used_of uses.now))) t)) symbols.now) }
+{
+    let left = names_of(alloc, Which::StructuralLeft, uses)?;
+    without(alloc, symbols, &left)
+}
+
+fn starts_of(alloc: Global, uses: &[Use<'_>]) -> Result<Starts, AllocError>
+    ensures { IfOk result (λ starts. AreStarts (map used_of uses.now) starts) }
+{
+    let symbols = names_of(alloc, Which::Structural, uses)?;
+    let lexemes = lexemes_of(alloc, uses, &symbols)?;
+    let discards = names_of(alloc, Which::Discarded, uses)?;
+    let texts = joined(alloc, &lexemes, &discards)?;
+    Ok(Starts {
+        symbols,
+        lexemes,
+        discards,
+        texts,
+    })
+}
+
+fn placed_of<'a>(
+    alloc: Global,
+    uses: &[Use<'a>],
+    lexemes: &Names,
+) -> Result<Placed<'a>, AllocError>
+    ensures tokens { IfOk result (λ p. map (λ t. t.now) p.tokens.items ≡ new_tokens [] (flat_map placed_part (map used_of uses.now))) }
+    ensures names { IfOk result (λ p. p.names ≡ map (λ t. t.content) (new_tokens [] (flat_map placed_part (map used_of uses.now)))
+      ++ filter (λ t. not (is_one_of (map (λ u. u.content) (new_tokens [] (flat_map placed_part (map used_of uses.now)))) t)) lexemes.now) }
+{
+    let Placed { tokens, names } = placed_tokens(alloc, uses)?;
+    Ok(Placed {
+        tokens,
+        names: joined(alloc, &names, lexemes)?,
+    })
+}
+
+/// The texts of a description.
+pub fn texts_of(alloc: Global, statements: &[Statement]) -> Result<Texts<'_>, AllocError>
+    ensures { IfOk result (λ texts. AreTexts (map statement_of statements.now) texts) }
+{
+    let uses = uses_of(alloc, statements)?;
+    let starts = starts_of(alloc, &uses)?;
+    let placed = placed_of(alloc, &uses, &starts.lexemes)?;
+    Ok(Texts {
+        uses,
+        starts,
+        placed,
+    })
+}
