@@ -14,6 +14,6 @@ returns-in-Lexical c =
     IfOk-weaker c.check_text-in-Lexical.result _ _
     (λ text e b refused. let said = subst (IsRefusal b) c.in-Lexical.is refused in lexical_text b c.in-Lexical.w c.in-Lexical.refusal said.0 said.1 text.items e) c.check_text-in-Lexical.ensures
 
-pub returns-in_ok-rules_text : goal.returns-in_ok-rules_text
-returns-in_ok-rules_text c =
-    λ b refused. rules_text b c.in-TooManyRules.lexical (subst (IsRefusal b) c.in-TooManyRules.is refused) c.in_ok-rules_text.field-0.items (c.in_ok-rules_text.ensures b)
+pub returns-in_ok-rules_text-in-TooManyRules : goal.returns-in_ok-rules_text-in-TooManyRules
+returns-in_ok-rules_text-in-TooManyRules c =
+    λ b refused. rules_text b c.in-TooManyRules.lexical (subst (IsRefusal b) c.in-TooManyRules.is refused) c.in_ok-rules_text-in-TooManyRules.field-0.items (c.in_ok-rules_text-in-TooManyRules.ensures b)
