@@ -75,11 +75,11 @@ module _ (g : Grammar) (i : ℕ) (seen : List Bool) (rows : List SymbolRow) (c :
         sized = length-set seen s true ∙ c.sized;
         marks = λ t e within. marks_more t e within ∙ ap (λ (ss : List ℕ). occurs t ss) (sym behind);
         left = ap (λ (ss : List ℕ). ss ++ left_sides (turned (symbols_of (rows ++ row ∷ [])) []) (drop (i + 1) g.rules)) more
-        ∙ append_assoc (symbols_of rows) (s ∷ []) (left_sides (turned (symbols_of (rows ++ row ∷ [])) []) (drop (i + 1) g.rules))
-        ∙ ap (λ (b : List ℕ). symbols_of rows ++ s ∷ left_sides b (drop (i + 1) g.rules)) behind
-        ∙ ap (λ (t : ℕ). symbols_of rows ++ t ∷ left_sides (t ∷ before) (drop (i + 1) g.rules)) is
-        ∙ ap (λ (ss : List ℕ). symbols_of rows ++ ss) (sym (of_new g i before lt new))
-        ∙ c.left;
+            ∙ append_assoc (symbols_of rows) (s ∷ []) (left_sides (turned (symbols_of (rows ++ row ∷ [])) []) (drop (i + 1) g.rules))
+            ∙ ap (λ (b : List ℕ). symbols_of rows ++ s ∷ left_sides b (drop (i + 1) g.rules)) behind
+            ∙ ap (λ (t : ℕ). symbols_of rows ++ t ∷ left_sides (t ∷ before) (drop (i + 1) g.rules)) is
+            ∙ ap (λ (ss : List ℕ). symbols_of rows ++ ss) (sym (of_new g i before lt new))
+            ∙ c.left;
         each = All-push (IsRowOf g) rows row c.each told;
         known = All-push (λ r. r.symbol < length g.names) rows row c.known (subst (λ (t : ℕ). t < length g.names) (sym same) known);
       }

@@ -72,8 +72,9 @@ fn first_line(alloc: Global, prepared: &Prepared) -> Result<Vec<u8>, AllocError>
     let rules = prepared.written().rule_count();
     let lexemes = prepared.lexemes().len();
     let discards = prepared.discard_count();
-    let line =
-        format!(in alloc; "accepted: {rules} rules, {lexemes} lexemes, {discards} discards\n")?;
+    let line = format!(in alloc;
+        "accepted: {rules} rules, {lexemes} lexemes, {discards} discards\n"
+    )?;
     Ok(line.into_bytes())
 }
 

@@ -122,11 +122,7 @@ fn describe<'a>(alloc: Global, chars: &Chars) -> Result<Description, Stop<'a>>
 }
 
 /// The grammars of a description.
-fn accept<'a>(
-    alloc: Global,
-    chars: &Chars,
-    description: &Description,
-) -> Result<Prepared, Stop<'a>>
+fn accept<'a>(alloc: Global, chars: &Chars, description: &Description) -> Result<Prepared, Stop<'a>>
     requires small { length chars.now < 4294967295 }
     requires read { IsDescription description.now }
     ensures built { IfOk result (λ p. IsBuiltOf description.now p) }

@@ -314,10 +314,7 @@ const CHECK_ROWS: [(&[u8], &[u8]); 9] = [
 
 // Both jobs refuse a grammar alike.
 fn refuse(alloc: Global, grammar: &[u8], line: &[u8]) -> Result<bool, AllocError> {
-    let check = Given {
-        grammar,
-        ..CHECKED
-    };
+    let check = Given { grammar, ..CHECKED };
     let run = Given { grammar, ..SUM };
     Ok(ends(alloc, &check, 3, b"", line)? && ends(alloc, &run, 3, b"", line)?)
 }
@@ -360,7 +357,7 @@ fn accepted_grammars_are_told(rt: HostRuntime) -> Result<(), Fail> {
     };
     assert!(rt; ends(alloc, &unread, 0, CHECKED_LINES, b"")?);
     let spaced = Given {
-        grammar: b":discard ~ white\nwhite ~ [\\s]+\nS ::= <a  list>* separator => ','\n<a  list> ::= 'x' 'y'\n",
+        grammar: b":discard ~ white\nwhite ~ [\\s]+\nS ::= <a  list>* separator => comma\ncomma ~ ','\n<a  list> ::= 'x' 'y'\n",
         ..CHECKED
     };
     let lines = b"accepted: 2 rules, 3 lexemes, 1 discards\nS nullable\na list\n";
