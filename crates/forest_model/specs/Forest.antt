@@ -95,9 +95,10 @@ pub record IsWholeOver (f : Forest) (symbol p q rule : ℕ) : Type 0 where
   pub children : Children
   pub spans : Spans f.flat (edges_of f) rule (length (rhs_of f.flat rule)) p q children
 
--- the nodes of the rules of the symbol that derive the span, in the order of the rules
+-- the nodes of the rules of the symbol that derive the span, one or more, in the order of the rules
 pub record AreWholes (f : Forest) (symbol p q : ℕ) (nodes : List ℕ) : Type 0 where
   pub spans : p < q
+  pub some : 0 < length nodes
   pub rules : List ℕ
   pub sorted : IsStrictlySortedBy (rules_cmp f) rules
   pub exact : (r : ℕ) → Contains rules r ↔ IsWholeOver f symbol p q r

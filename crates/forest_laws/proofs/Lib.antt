@@ -1,0 +1,10 @@
+pub mod Lists
+pub mod Fronts
+pub mod Reading
+pub mod Exact
+pub mod One
+pub mod Chosen
+pub mod Used
+pub mod Moved
+pub mod Existing
+pub mod Applied
