@@ -4,8 +4,8 @@
     bench/language.py [--binary crates/slif/out/slif]      times four sizes up to 1 MiB on the built program
     bench/language.py --out FILE [--bytes 1048576]         makes one text
 
-A text has at most so many bytes, and is less than one block of statements shorter. The program reads it to its end
-and answers `slif: not built yet`.
+A text has at most so many bytes, and is less than one block of statements shorter. The program reads it to its end,
+looks at all that building refuses, and tells that the rule behind the last one is not there.
 """
 import argparse, pathlib, subprocess, sys, tempfile, time
 
@@ -48,7 +48,7 @@ def seconds(binary, path):
         begin = time.perf_counter()
         got = subprocess.run([binary, "run", "--grammar", path, "--show", "tree"], stdin=subprocess.DEVNULL, capture_output=True)
         spent = time.perf_counter() - begin
-        if (got.returncode, got.stderr) != (6, b"slif: not built yet\n"):
+        if got.returncode != 3 or not got.stderr.startswith(b"slif: grammar: no rule for rule "):
             sys.exit(f"answered {got.returncode}: {got.stderr!r}")
         best = spent if best is None else min(best, spent)
     return best

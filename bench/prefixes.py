@@ -179,7 +179,7 @@ def place(text, at):
 
 
 def expected(data):
-    """The status and the line for the empty input."""
+    """The status and the line for the empty input; None where the text has statements of other forms than the simple ones."""
     if len(data) > 1048576:
         return 3, "slif: grammar: longer than 1048576 bytes\n"
     try:
@@ -195,7 +195,19 @@ def expected(data):
             return 3, f"slif: grammar: bad statement at {place(text, piece[0][2])}\n"
     if is_simple(pieces):
         return 1, "slif: no derivation\n"
-    return 6, "slif: not built yet\n"
+    return None
+
+
+def is_expected(data, got):
+    """A text that is read has no fault of its tokens or its statements; what its statements say may be refused."""
+    wanted = expected(data)
+    if wanted is not None:
+        return got == wanted
+    if got == (6, "slif: not built yet\n"):
+        return True
+    reads = ("longer than", "not UTF-8", "bad token at", "bad statement at")
+    return got[0] == 3 and got[1].startswith(("slif: grammar: ", "slif: lexical grammar: ")) and not any(
+        got[1].startswith("slif: grammar: " + read) for read in reads)
 
 
 def main():
@@ -223,7 +235,7 @@ def main():
     failed = 0
     with ThreadPoolExecutor(4) as pool:
         for front, got, out in pool.map(answer, fronts):
-            if got != expected(front) or out:
+            if not is_expected(front, got) or out:
                 failed += 1
                 if failed <= 10:
                     print(f"{front!r}: {got}, wanted {expected(front)}")

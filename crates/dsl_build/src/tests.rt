@@ -228,16 +228,46 @@ struct Expected {
     meaning: &'static str,
 }
 
+fn has_names(alloc: Global, w: &Written, expected: &str) -> Result<bool, AllocError> {
+    let names = names_of(alloc, w)?;
+    Ok(names.as_str() == expected)
+}
+
+fn has_rules(alloc: Global, w: &Written, expected: &str) -> Result<bool, AllocError> {
+    let rules = rules_of(alloc, w)?;
+    Ok(rules.as_str() == expected)
+}
+
+fn has_rows(alloc: Global, built: &Built, expected: &str) -> Result<bool, AllocError> {
+    let rows = rows_of(alloc, built)?;
+    Ok(rows.as_str() == expected)
+}
+
+fn has_meaning(alloc: Global, built: &Built, expected: &str) -> Result<bool, AllocError> {
+    let meaning = meaning_of(alloc, built)?;
+    Ok(meaning.as_str() == expected)
+}
+
+fn is_grammar(alloc: Global, w: &Written, names: &str, rules: &str) -> Result<bool, AllocError> {
+    Ok(has_names(alloc, w, names)? && has_rules(alloc, w, rules)?)
+}
+
+fn are_tables(alloc: Global, built: &Built, rows: &str, meaning: &str) -> Result<bool, AllocError> {
+    Ok(has_rows(alloc, built, rows)? && has_meaning(alloc, built, meaning)?)
+}
+
+fn is_as(alloc: Global, built: &Built, expected: &Expected) -> Result<bool, AllocError> {
+    let [names, rules] = expected.g1;
+    let structural = is_grammar(alloc, &built.g1, names, rules)?;
+    let [names, rules] = expected.l0;
+    let lexical = is_grammar(alloc, &built.l0, names, rules)?;
+    let tables = are_tables(alloc, built, expected.rows, expected.meaning)?;
+    Ok(structural && lexical && tables)
+}
+
 fn is_built(alloc: Global, expected: &Expected) -> Result<bool, BuildRefusal> {
     let built = built(alloc, expected.text)?;
-    Ok(
-        names_of(alloc, &built.g1)?.as_str() == expected.g1[0]
-            && rules_of(alloc, &built.g1)?.as_str() == expected.g1[1]
-            && names_of(alloc, &built.l0)?.as_str() == expected.l0[0]
-            && rules_of(alloc, &built.l0)?.as_str() == expected.l0[1]
-            && rows_of(alloc, &built)?.as_str() == expected.rows
-            && meaning_of(alloc, &built)?.as_str() == expected.meaning,
-    )
+    Ok(is_as(alloc, &built, expected)?)
 }
 
 const BUILT: [Expected; 5] = [

@@ -1,54 +1,106 @@
--- The grammars that a job accepts.
-use Rattle.std.proofs.Common.{◌≡◌, ℕ, ◌<◌, List, inl, inr, refl, sym, ap, subst, ◌∙◌, map, length, slice_get, Some, [], ◌∷◌, arith}
+-- Bytes are accepted or refused, in one way.
+use Rattle.std.proofs.Common.{◌≡◌, ℕ, ◌<◌, List, ◌⊎◌, inl, inr, refl, sym, ap, subst, ◌∙◌, map, length, chars, slice_get, Some, [], ◌∷◌, ◌++◌, codes, arith}
 use Rattle.grammar_model.specs.Grammar.{Grammar}
 use Rattle.grammar_model.specs.Characters.{tree_line}
 use Rattle.language_model.specs.Description.{Statement}
+use Rattle.language_model.specs.Building.{Built, BuildFault, faults_of, built_of}
 use Rattle.language_model.specs.Simple.{IsSimpleDescription, grammar_of_simple}
-use Rattle.run_model.specs.Words.{Job}
-use Rattle.run_model.specs.Derivations.{Accepts, IsUnbuilt, Lists}
-use Rattle.run_model.specs.Texts.{TextFault, HasFault}
-use Rattle.run_model.proofs.Texts.{TextLaws}
+use Rattle.language_model.specs.Texts.{HasDescription, IsBuiltOf}
+use Rattle.reading_model.specs.Accepted.{IsAccepted, GrammarFault, HasGrammarFault}
+use Rattle.reading_model.proofs.Accepting.{no_fault, one_fault, accepted_or_fault}
+use Rattle.run_model.specs.Texts.{fault_text}
+use Rattle.run_model.specs.Refused.{Accepted, IsRefused, ByText, ByDescription, ByGrammars, build_text, grammar_text}
+use Rattle.run_model.specs.Derivations.{HasSimple, IsUnbuilt, Lists}
+use Rattle.run_model.proofs.Texts.{RunLaws}
 use Rattle.grammar_model.proofs.Characters.{listed_from, characters_listed}
 
 first_of : (xs : List ℕ) → 0 < length xs → (x : ℕ) × (slice_get xs 0 ≡ Some x)
 first_of [] some = absurd (omega (arith, some))
 first_of (x ∷ xs) some = (x, refl)
 
-module _ (laws : TextLaws) where
-  pub one_grammar : (job : Job) (text : List ℕ) (g h : Grammar) → Accepts job text g → Accepts job text h → g ≡ h
-  one_grammar job text g h a b =
-      let same = laws.one_description text a.description b.description a.has b.has in
+-- ONE OF EACH
+
+module _ (laws : RunLaws) (bytes : List ℕ) where
+  same_built : (d e : List Statement) (a b : Built) → HasDescription bytes d → HasDescription bytes e → IsBuiltOf d a → IsBuiltOf e b → a ≡ b
+  same_built d e a b has_d has_e p q = p.is ∙ ap built_of (laws.texts.one_description bytes d e has_d has_e) ∙ sym q.is
+
+  pub one_built : (a b : Built) → Accepted bytes a → Accepted bytes b → a ≡ b
+  one_built a b p q = same_built p.description q.description a b p.has q.has p.built q.built
+
+  one_of_grammars : (a b : Built) (x y : GrammarFault) → a ≡ b → HasGrammarFault a x → HasGrammarFault b y → grammar_text a x ≡ grammar_text b y
+  one_of_grammars a b x y same p q =
+      let here : HasGrammarFault a y = subst (λ (c : Built). HasGrammarFault c y) (sym same) q in
+      ap (grammar_text a) (one_fault laws.checks a x y p here) ∙ ap (λ (c : Built). grammar_text c y) same
+
+  pub one_refused : (t u : List ℕ) → IsRefused bytes t → IsRefused bytes u → t ≡ u
+  one_refused t u (ByText f has is) (ByText f' has' is') = is ∙ ap (fault_text bytes) (laws.texts.one_fault bytes f f' has has') ∙ sym is'
+  one_refused t u (ByText f has is) (ByDescription d has' fault others faults is') = absurd (laws.texts.not_both bytes d f has' has)
+  one_refused t u (ByText f has is) (ByGrammars d has' b built fault faulty is') = absurd (laws.texts.not_both bytes d f has' has)
+  one_refused t u (ByDescription d has fault others faults is) (ByText f has' is') = absurd (laws.texts.not_both bytes d f has has')
+  one_refused t u (ByGrammars d has b built fault faulty is) (ByText f has' is') = absurd (laws.texts.not_both bytes d f has has')
+  one_refused t u (ByDescription d has fault others faults is) (ByDescription d' has' fault' others' faults' is') =
+      let same : fault ∷ others ≡ fault' ∷ others' = sym faults ∙ ap faults_of (laws.texts.one_description bytes d d' has has') ∙ faults' in
+      let first : fault ≡ fault' = cc same in
+      is ∙ ap (λ (f : BuildFault). codes "grammar: " ++ build_text (chars bytes) f) first ∙ sym is'
+  one_refused t u (ByDescription d has fault others faults is) (ByGrammars d' has' b built fault' faulty is') =
+      let none : fault ∷ others ≡ [] = sym faults ∙ ap faults_of (laws.texts.one_description bytes d d' has has') ∙ built.faultless in absurd (cc none)
+  one_refused t u (ByGrammars d has b built fault faulty is) (ByDescription d' has' fault' others faults is') =
+      let none : fault' ∷ others ≡ [] = sym faults ∙ ap faults_of (laws.texts.one_description bytes d' d has' has) ∙ built.faultless in absurd (cc none)
+  one_refused t u (ByGrammars d has b built fault faulty is) (ByGrammars d' has' b' built' fault' faulty' is') =
+      is ∙ one_of_grammars b b' fault fault' (same_built d d' b b' has has' built built') faulty faulty' ∙ sym is'
+
+  pub not_refused : (b : Built) (t : List ℕ) → Accepted bytes b → IsRefused bytes t → ⊥
+  not_refused b t accepted (ByText f has is) = laws.texts.not_both bytes accepted.description f accepted.has has
+  not_refused b t accepted (ByDescription d has fault others faults is) =
+      let none : fault ∷ others ≡ [] = sym faults ∙ ap faults_of (laws.texts.one_description bytes d accepted.description has accepted.has) ∙ accepted.built.faultless in absurd (cc none)
+  not_refused b t accepted (ByGrammars d has c built fault faulty is) =
+      let same = same_built accepted.description d b c accepted.has has accepted.built built in
+      no_fault laws.checks c fault (subst IsAccepted same accepted.accepted) faulty
+
+  pub one_grammar : (g h : Grammar) → HasSimple bytes g → HasSimple bytes h → g ≡ h
+  one_grammar g h a b =
+      let same = laws.texts.one_description bytes a.description b.description a.has b.has in
       a.grammar
-      ∙ ap grammar_of_simple (laws.one_grammar a.description a.lines b.lines a.simple (subst (λ (d : List Statement). IsSimpleDescription d b.lines) (sym same) b.simple))
+      ∙ ap grammar_of_simple (laws.texts.one_grammar a.description a.lines b.lines a.simple (subst (λ (d : List Statement). IsSimpleDescription d b.lines) (sym same) b.simple))
       ∙ sym b.grammar
 
-  pub built_or_not : (job : Job) (text : List ℕ) (g : Grammar) → Accepts job text g → IsUnbuilt job text → ⊥
-  built_or_not job text g a u =
-      let same = laws.one_description text a.description u.description a.has u.has in
+  pub built_or_not : (g : Grammar) → HasSimple bytes g → IsUnbuilt bytes → ⊥
+  built_or_not g a u =
+      let same = laws.texts.one_description bytes a.description u.description a.has u.has in
       u.none a.lines (subst (λ (d : List Statement). IsSimpleDescription d a.lines) same a.simple)
 
-  -- a text is accepted, is not built, or has a fault
-  pub data Reads (job : Job) (text : List ℕ) : Type 0 where
-    Accepted : (g : Grammar) → Accepts job text g → Reads job text
-    Unbuilt : IsUnbuilt job text → Reads job text
-    Faulty : (f : TextFault) → HasFault text f → Reads job text
+  -- SOME OF ALL
 
-  pub reads : (job : Job) (text : List ℕ) → Reads job text
-  reads job text =
-      elim (laws.read text) [
-        | inl some ↦ elim (laws.decided some.0) [
-          | inl simple ↦ Accepted (grammar_of_simple simple.0) (record { description = some.0; has = some.1; lines = simple.0; simple = simple.1; grammar = refl })
-          | inr none ↦ Unbuilt (record { description = some.0; has = some.1; none = none })
-        ]
-        | inr fault ↦ Faulty fault.0 fault.1
+  abbrev Judged : Type 0
+  Judged = ((b : Built) × Accepted bytes b) ⊎ ((t : List ℕ) × IsRefused bytes t)
+
+  of_faults : (d : List Statement) → HasDescription bytes d → (faults : List BuildFault) → faults_of d ≡ faults → Judged
+  of_faults d has (fault ∷ others) e = inr (codes "grammar: " ++ build_text (chars bytes) fault, ByDescription d has fault others e refl)
+  of_faults d has [] e =
+      let built : IsBuiltOf d (built_of d) = record { described = (bytes, has); faultless = e; is = refl } in
+      elim (accepted_or_fault laws.checks (built_of d)) [
+        | inl accepted ↦ inl (built_of d, record { description = d; has = has; built = built; accepted = accepted })
+        | inr fault ↦ inr (grammar_text (built_of d) fault.0, ByGrammars d has (built_of d) built fault.0 fault.1 refl)
       ]
 
-  -- an accepted grammar has the lines of its derivations
-  pub accepted_lists : (job : Job) (text : List ℕ) (g : Grammar) → Accepts job text g → (input : List ℕ) → (lines : List (List ℕ)) × Lists g input lines
-  accepted_lists job text g accepts input =
-      let h = grammar_of_simple accepts.lines in
-      let first = first_of h.starts (laws.started accepts.lines accepts.simple.simple) in
-      subst (λ (k : Grammar). (lines : List (List ℕ)) × Lists k input lines) (sym accepts.grammar) (
+  pub judged : Judged
+  judged = elim (laws.texts.read bytes) [
+    | inl some ↦ of_faults some.0 some.1 (faults_of some.0) refl
+    | inr fault ↦ inr (fault_text bytes fault.0, ByText fault.0 fault.1 refl)
+  ]
+
+  pub simple_or_not : (d : List Statement) → HasDescription bytes d → ((g : Grammar) × HasSimple bytes g) ⊎ IsUnbuilt bytes
+  simple_or_not d has = elim (laws.texts.decided d) [
+    | inl simple ↦ inl (grammar_of_simple simple.0, record { description = d; has = has; lines = simple.0; simple = simple.1; grammar = refl })
+    | inr none ↦ inr (record { description = d; has = has; none = none })
+  ]
+
+  -- a simple grammar has the lines of its derivations
+  pub simple_lists : (g : Grammar) → HasSimple bytes g → (input : List ℕ) → (lines : List (List ℕ)) × Lists g input lines
+  simple_lists g has input =
+      let h = grammar_of_simple has.lines in
+      let first = first_of h.starts (laws.texts.started has.lines has.simple.simple) in
+      subst (λ (k : Grammar). (lines : List (List ℕ)) × Lists k input lines) (sym has.grammar) (
         map (tree_line h input) (listed_from h input first.0),
-        record { trees = listed_from h input first.0; all = characters_listed h input (laws.simple accepts.lines accepts.simple.simple) first.0 first.1; lines_are = refl },
+        record { trees = listed_from h input first.0; all = characters_listed h input (laws.texts.simple has.lines has.simple.simple) first.0 first.1; lines_are = refl },
       )

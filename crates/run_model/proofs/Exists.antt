@@ -6,17 +6,19 @@ use Rattle.std.specs.List.{list_all}
 use Rattle.std.proofs.lemmas.Slice.Eq.{bytes_eq-Decides}
 use Rattle.std.specs.Str.{bytes_eq}
 use Rattle.grammar_model.specs.Grammar.{Grammar}
+use Rattle.language_model.specs.Building.{Built}
 use Rattle.run_model.specs.Words.{Job, Asks, AskNothing, IsValue}
-use Rattle.run_model.specs.Words.Job.{RunTree}
-use Rattle.run_model.specs.Derivations.{Accepts, IsInput, NoInput, Lists}
-use Rattle.run_model.specs.Outcome.{Outcome, IsOutcome, IsJobOutcome, IsInputOutcome, done, not_built, no_derivation, refused}
-use Rattle.run_model.specs.Texts.{fault_text}
+use Rattle.run_model.specs.Words.Job.{RunTree, Check}
+use Rattle.run_model.specs.Refused.{Accepted}
+use Rattle.run_model.specs.Derivations.{HasSimple, IsInput, NoInput, Lists}
+use Rattle.run_model.specs.Outcome.{Outcome, IsOutcome, IsJobOutcome, IsAcceptedOutcome, IsRunOutcome, IsInputOutcome, done, not_built, no_derivation, refused}
 use Rattle.run_model.specs.Outcome.IsOutcome.{WordsNotBuilt, OfJob}
-use Rattle.run_model.specs.Outcome.IsJobOutcome.{GrammarRefused, GrammarNotBuilt, OverGrammar}
+use Rattle.run_model.specs.Outcome.IsJobOutcome.{GrammarRefused, GrammarAccepted}
+use Rattle.run_model.specs.Outcome.IsRunOutcome.{GrammarNotBuilt, OverSimple}
 use Rattle.run_model.specs.Outcome.IsInputOutcome.{InputNotBuilt, NoDerivation, Derived}
-use Rattle.run_model.proofs.Texts.{TextLaws}
-use Rattle.run_model.proofs.Accepted.{reads, accepted_lists}
-use Rattle.run_model.proofs.Accepted.Reads.{Accepted, Unbuilt, Faulty}
+use Rattle.run_model.proofs.Texts.{RunLaws}
+use Rattle.run_model.proofs.Accepted.{judged, simple_or_not, simple_lists}
+use Rattle.run_model.proofs.Checked.{check_outcome}
 
 -- a test that comes out one way or the other
 either : (b : Bool) → (b ≡ true) ⊎ (b ≡ false)
@@ -63,21 +65,48 @@ asked_five a b c d e grammar asks =
     (and_from _ _ (ap is_value pc ∙ from_value grammar asks.1)
     (and_from _ _ ((bytes_eq-Decides d (codes "--show")).1 pd) ((bytes_eq-Decides e (codes "tree")).1 pe))))
 
-not_five : (words : List (List ℕ)) → (length words ≡ 5 → ⊥) → AskNothing words
-not_five words other (RunTree grammar) asks = other (ap length asks.0)
+abbrev are_check_words : (a b c : List ℕ) → Bool
+are_check_words a b c = bytes_eq a (codes "check") && (bytes_eq b (codes "--grammar") && is_value c)
+
+three_asked : (a b c : List ℕ) → are_check_words a b c ≡ true → Asks (a ∷ b ∷ c ∷ []) (Check c)
+three_asked a b c t =
+    let one = and_parts (bytes_eq a (codes "check")) _ t in
+    let two = and_parts (bytes_eq b (codes "--grammar")) _ one.1 in
+    let pa = (bytes_eq-Decides a (codes "check")).0 one.0 in
+    let pb = (bytes_eq-Decides b (codes "--grammar")).0 two.0 in
+    (cc (pa, pb), value_from c two.1)
+
+asked_three : (a b c grammar : List ℕ) → Asks (a ∷ b ∷ c ∷ []) (Check grammar) → are_check_words a b c ≡ true
+asked_three a b c grammar asks =
+    let words = asks.0 in
+    let pa : a ≡ codes "check" = cc words in
+    let pb : b ≡ codes "--grammar" = cc words in
+    let pc : c ≡ grammar = cc words in
+    and_from _ _ ((bytes_eq-Decides a (codes "check")).1 pa)
+    (and_from _ _ ((bytes_eq-Decides b (codes "--grammar")).1 pb) (ap is_value pc ∙ from_value grammar asks.1))
+
+not_so_many : (words : List (List ℕ)) → (length words ≡ 5 → ⊥) → (length words ≡ 3 → ⊥) → AskNothing words
+not_so_many words five three (RunTree grammar) asks = five (ap length asks.0)
+not_so_many words five three (Check grammar) asks = three (ap length asks.0)
 
 pub asks_or_not : (words : List (List ℕ)) → ((job : Job) × Asks words job) ⊎ AskNothing words
-asks_or_not [] = inr (not_five _ (λ e. omega (arith, e)))
-asks_or_not (a ∷ []) = inr (not_five _ (λ e. omega (arith, e)))
-asks_or_not (a ∷ b ∷ []) = inr (not_five _ (λ e. omega (arith, e)))
-asks_or_not (a ∷ b ∷ c ∷ []) = inr (not_five _ (λ e. omega (arith, e)))
-asks_or_not (a ∷ b ∷ c ∷ d ∷ []) = inr (not_five _ (λ e. omega (arith, e)))
+asks_or_not [] = inr (not_so_many _ (λ e. omega (arith, e)) (λ e. omega (arith, e)))
+asks_or_not (a ∷ []) = inr (not_so_many _ (λ e. omega (arith, e)) (λ e. omega (arith, e)))
+asks_or_not (a ∷ b ∷ []) = inr (not_so_many _ (λ e. omega (arith, e)) (λ e. omega (arith, e)))
+asks_or_not (a ∷ b ∷ c ∷ []) =
+    elim (either (are_check_words a b c)) [ inl right ↦ inl (Check c, three_asked a b c right) | inr wrong ↦ inr (not_asked wrong) ]
+  where
+    not_asked : are_check_words a b c ≡ false → AskNothing (a ∷ b ∷ c ∷ [])
+    not_asked wrong (Check grammar) asks = true≢false (sym (asked_three a b c grammar asks) ∙ wrong)
+    not_asked wrong (RunTree grammar) asks = let e = ap length asks.0 in omega (arith, e)
+asks_or_not (a ∷ b ∷ c ∷ d ∷ []) = inr (not_so_many _ (λ e. omega (arith, e)) (λ e. omega (arith, e)))
 asks_or_not (a ∷ b ∷ c ∷ d ∷ e ∷ []) =
     elim (either (are_words a b c d e)) [ inl right ↦ inl (RunTree c, five_asked a b c d e right) | inr wrong ↦ inr (not_asked wrong) ]
   where
     not_asked : are_words a b c d e ≡ false → AskNothing (a ∷ b ∷ c ∷ d ∷ e ∷ [])
     not_asked wrong (RunTree grammar) asks = true≢false (sym (asked_five a b c d e grammar asks) ∙ wrong)
-asks_or_not (a ∷ b ∷ c ∷ d ∷ e ∷ f ∷ words) = inr (not_five _ (λ e. omega (arith, e)))
+    not_asked wrong (Check grammar) asks = let n = ap length asks.0 in omega (arith, n)
+asks_or_not (a ∷ b ∷ c ∷ d ∷ e ∷ f ∷ words) = inr (not_so_many _ (λ e. omega (arith, e)) (λ e. omega (arith, e)))
 
 ascii_from : (bytes : List ℕ) → list_all (λ b. nat_lt b 128) bytes ≡ true → All (λ b. b < 128) bytes
 ascii_from bytes e = λ k d lt. ltb-true _ _ (AllPass-from_list_all (λ b. nat_lt b 128) bytes e k d lt)
@@ -92,24 +121,34 @@ input_or_not bytes =
       | inr wrong ↦ inr (λ is. true≢false (sym (and_from _ _ (le-leb _ _ is.within) (from_ascii bytes is.ascii)) ∙ wrong))
     ]
 
-of_lines : (job : Job) (g : Grammar) (input : List ℕ) → IsInput input → (lines : List (List ℕ)) → Lists g input lines → (outcome : Outcome) × IsInputOutcome job g input outcome
-of_lines job g input is [] lists = (no_derivation, NoDerivation is lists refl)
-of_lines job g input is (first ∷ others) lists = (done (first ∷ others), Derived first others is lists refl)
+of_lines : (g : Grammar) (input : List ℕ) → IsInput input → (lines : List (List ℕ)) → Lists g input lines → (outcome : Outcome) × IsInputOutcome g input outcome
+of_lines g input is [] lists = (no_derivation, NoDerivation is lists refl)
+of_lines g input is (first ∷ others) lists = (done (first ∷ others), Derived first others is lists refl)
 
-module _ (laws : TextLaws) where
-  input_outcome : (job : Job) (text : List ℕ) (g : Grammar) → Accepts job text g → (input : List ℕ) → (outcome : Outcome) × IsInputOutcome job g input outcome
-  input_outcome job text g accepts input =
+module _ (laws : RunLaws) where
+  input_outcome : (text : List ℕ) (g : Grammar) → HasSimple text g → (input : List ℕ) → (outcome : Outcome) × IsInputOutcome g input outcome
+  input_outcome text g simple input =
       elim (input_or_not input) [
-        | inl is ↦ (let lists = accepted_lists laws job text g accepts input in of_lines job g input is lists.0 lists.1)
+        | inl is ↦ (let lists = simple_lists laws text g simple input in of_lines g input is lists.0 lists.1)
         | inr none ↦ (not_built, InputNotBuilt none refl)
       ]
 
+  run_outcome : (grammar : List ℕ) (b : Built) → Accepted grammar b → (input : List ℕ) → (outcome : Outcome) × IsRunOutcome grammar input outcome
+  run_outcome grammar b accepted input =
+      elim (simple_or_not laws grammar accepted.description accepted.has) [
+        | inl simple ↦ (let o = input_outcome grammar simple.0 simple.1 input in (o.0, OverSimple simple.0 simple.1 o.1))
+        | inr unbuilt ↦ (not_built, GrammarNotBuilt unbuilt refl)
+      ]
+
+  accepted_outcome : (job : Job) (grammar : List ℕ) (b : Built) → Accepted grammar b → (input : List ℕ) → (outcome : Outcome) × IsAcceptedOutcome job grammar b input outcome
+  accepted_outcome (RunTree name) grammar b accepted input = run_outcome grammar b accepted input
+  accepted_outcome (Check name) grammar b accepted input = check_outcome laws b
+
   job_outcome : (job : Job) (grammar input : List ℕ) → (outcome : Outcome) × IsJobOutcome job grammar input outcome
   job_outcome job grammar input =
-      elim (reads laws job grammar) [
-        | Accepted g accepts ↦ (let o = input_outcome job grammar g accepts input in (o.0, OverGrammar g accepts o.1))
-        | Unbuilt unbuilt ↦ (not_built, GrammarNotBuilt unbuilt refl)
-        | Faulty f has ↦ (refused 3 (fault_text grammar f), GrammarRefused f has refl)
+      elim (judged laws grammar) [
+        | inl some ↦ (let o = accepted_outcome job grammar some.0 some.1 input in (o.0, GrammarAccepted some.0 some.1 o.1))
+        | inr refusal ↦ (refused 3 refusal.0, GrammarRefused refusal.0 refusal.1 refl)
       ]
 
   pub an_outcome : (words : List (List ℕ)) (grammar input : List ℕ) → (outcome : Outcome) × IsOutcome words grammar input outcome

@@ -1,52 +1,69 @@
 -- Told content leaves a run one outcome.
-use Rattle.std.proofs.Common.{◌≡◌, ◌≢◌, ℕ, List, Some, refl, sym, ap, subst, ◌∙◌}
-use Rattle.grammar_model.specs.Grammar.{Grammar}
+use Rattle.std.proofs.Common.{◌≡◌, ◌≢◌, ℕ, List, Some, IfSome, refl, sym, ap, subst, ◌∙◌}
 use Rattle.slif_base.specs.Told.{ToldFile, MayHold}
 use Rattle.slif_base.specs.Told.ToldFile.{Untold, Missing, Told}
-use Rattle.run_model.specs.Words.{Job, Asks}
-use Rattle.run_model.specs.Words.Job.{RunTree}
-use Rattle.run_model.specs.Outcome.{Outcome, IsOutcome, IsJobOutcome, IsInputOutcome, refused}
-use Rattle.run_model.specs.Texts.{TextFault, fault_text}
+use Rattle.language_model.specs.Building.{Built}
+use Rattle.run_model.specs.Words.{Job, Asks, grammar_file}
+use Rattle.run_model.specs.Words.Job.{RunTree, Check}
+use Rattle.run_model.specs.Refused.{Accepted}
+use Rattle.run_model.specs.Derivations.{GoesOnWith}
+use Rattle.run_model.specs.Outcome.{Outcome, IsOutcome, IsJobOutcome, IsAcceptedOutcome, IsRunOutcome, refused}
 use Rattle.run_model.specs.Outcome.IsOutcome.{WordsNotBuilt, OfJob}
-use Rattle.run_model.specs.Outcome.IsJobOutcome.{GrammarRefused, GrammarNotBuilt, OverGrammar}
+use Rattle.run_model.specs.Outcome.IsJobOutcome.{GrammarRefused, GrammarAccepted}
+use Rattle.run_model.specs.Outcome.IsRunOutcome.{GrammarNotBuilt, OverSimple}
 use Rattle.run_model.specs.Runs.{Supplied, MayEnd}
 use Rattle.run_model.specs.Laws.{TellsFiles}
-use Rattle.run_model.proofs.Texts.{TextLaws}
-use Rattle.run_model.proofs.Accepted.{one_grammar, built_or_not}
+use Rattle.run_model.proofs.Texts.{RunLaws}
+use Rattle.run_model.proofs.Accepted.{one_built, one_refused, not_refused, built_or_not}
 use Rattle.run_model.proofs.Asked.{asks_once}
-use Rattle.run_model.proofs.Outcomes.{one_input_outcome}
+use Rattle.run_model.proofs.Checked.{one_check}
+use Rattle.run_model.proofs.Outcomes.{one_run_outcome}
 
 same_held : (told : ToldFile) (x y : List ℕ) → told ≢ Untold → MayHold told x → MayHold told y → x ≡ y
 same_held Untold x y is_told p q = absurd (is_told refl)
 same_held Missing x y is_told p q = absurd p
 same_held (Told known) x y is_told p q = p ∙ sym q
 
-module _ (laws : TextLaws) (words : List (List ℕ)) (file : List ℕ → ToldFile) (known : List ℕ) (tells : TellsFiles words file) where
+module _ (laws : RunLaws) (words : List (List ℕ)) (file : List ℕ → ToldFile) (known : List ℕ) (tells : TellsFiles words file) where
+  -- an input counts only where the job goes on to it
+  one_of_run : (name : List ℕ) → Asks words (RunTree name) → (grammar : List ℕ) (c : Built) → Accepted grammar c → (x y : List ℕ) (a b : Outcome)
+      → Supplied words file (Some known) grammar x → Supplied words file (Some known) grammar y → IsRunOutcome grammar x a → IsRunOutcome grammar y b → a ≡ b
+  one_of_run name asks grammar c accepted x y a b p q (GrammarNotBuilt u is) (GrammarNotBuilt u' is') = is ∙ sym is'
+  one_of_run name asks grammar c accepted x y a b p q (GrammarNotBuilt u is) (OverSimple g simple over) = absurd (built_or_not laws grammar g simple u)
+  one_of_run name asks grammar c accepted x y a b p q (OverSimple g simple over) (GrammarNotBuilt u is) = absurd (built_or_not laws grammar g simple u)
+  one_of_run name asks grammar c accepted x y a b p q (OverSimple g simple over) (OverSimple h simple' over') =
+      let goes : (b : Built) × GoesOnWith grammar b = (c, record { accepted = accepted; simple = (g, simple) }) in
+      let same : y ≡ x = q.input_held (RunTree name) asks goes ∙ sym (p.input_held (RunTree name) asks goes) in
+      one_run_outcome laws grammar x a b (OverSimple g simple over) (subst (λ l. IsRunOutcome grammar l b) same (OverSimple h simple' over'))
+
+  one_of_accepted : (job : Job) → Asks words job → (grammar : List ℕ) (c : Built) → Accepted grammar c → (x y : List ℕ) (a b : Outcome)
+      → Supplied words file (Some known) grammar x → Supplied words file (Some known) grammar y
+      → IsAcceptedOutcome job grammar c x a → IsAcceptedOutcome job grammar c y b → a ≡ b
+  one_of_accepted (RunTree name) asks grammar c accepted x y a b p q of_x of_y = one_of_run name asks grammar c accepted x y a b p q of_x of_y
+  one_of_accepted (Check name) asks grammar c accepted x y a b p q of_x of_y = one_check c a b of_x of_y
+
   one_of_job : (job : Job) → Asks words job → (grammar x y : List ℕ) (a b : Outcome) → Supplied words file (Some known) grammar x → Supplied words file (Some known) grammar y
       → IsJobOutcome job grammar x a → IsJobOutcome job grammar y b → a ≡ b
-  one_of_job (RunTree name) asks grammar x y a b p q (GrammarRefused f has is) (GrammarRefused f' has' is') =
-      is ∙ ap (λ (z : TextFault). refused 3 (fault_text grammar z)) (laws.one_fault grammar f f' has has') ∙ sym is'
-  one_of_job (RunTree name) asks grammar x y a b p q (GrammarRefused f has is) (GrammarNotBuilt u is') = absurd (laws.not_both grammar u.description f u.has has)
-  one_of_job (RunTree name) asks grammar x y a b p q (GrammarRefused f has is) (OverGrammar g accepts over) = absurd (laws.not_both grammar accepts.description f accepts.has has)
-  one_of_job (RunTree name) asks grammar x y a b p q (GrammarNotBuilt u is) (GrammarRefused f has is') = absurd (laws.not_both grammar u.description f u.has has)
-  one_of_job (RunTree name) asks grammar x y a b p q (OverGrammar g accepts over) (GrammarRefused f has is') = absurd (laws.not_both grammar accepts.description f accepts.has has)
-  one_of_job (RunTree name) asks grammar x y a b p q (GrammarNotBuilt u is) (GrammarNotBuilt u' is') = is ∙ sym is'
-  one_of_job (RunTree name) asks grammar x y a b p q (GrammarNotBuilt u is) (OverGrammar g accepts over) = absurd (built_or_not laws (RunTree name) grammar g accepts u)
-  one_of_job (RunTree name) asks grammar x y a b p q (OverGrammar g accepts over) (GrammarNotBuilt u is) = absurd (built_or_not laws (RunTree name) grammar g accepts u)
-  one_of_job (RunTree name) asks grammar x y a b p q (OverGrammar g accepts over) (OverGrammar h accepts' over') =
-      let same_input : y ≡ x = q.input_held (RunTree name) asks (h, accepts') ∙ sym (p.input_held (RunTree name) asks (g, accepts)) in
-      let over_h : IsInputOutcome (RunTree name) h x b = subst (λ l. IsInputOutcome (RunTree name) h l b) same_input over' in
-      one_input_outcome (RunTree name) g x a b over (subst (λ (k : Grammar). IsInputOutcome (RunTree name) k x b) (sym (one_grammar laws (RunTree name) grammar g h accepts accepts')) over_h)
+  one_of_job job asks grammar x y a b p q (GrammarRefused t refused_t is) (GrammarRefused u refused_u is') = is ∙ ap (refused 3) (one_refused laws grammar t u refused_t refused_u) ∙ sym is'
+  one_of_job job asks grammar x y a b p q (GrammarRefused t refused_t is) (GrammarAccepted c accepted over) = absurd (not_refused laws grammar c t accepted refused_t)
+  one_of_job job asks grammar x y a b p q (GrammarAccepted c accepted over) (GrammarRefused t refused_t is) = absurd (not_refused laws grammar c t accepted refused_t)
+  one_of_job job asks grammar x y a b p q (GrammarAccepted c accepted over) (GrammarAccepted d accepted' over') =
+      one_of_accepted job asks grammar c accepted x y a b p q over
+      (subst (λ (k : Built). IsAcceptedOutcome job grammar k y b) (sym (one_built laws grammar c d accepted accepted')) over')
+
+  same_grammar : (job : Job) → Asks words job → (x y : List ℕ) → IfSome (grammar_file job) (λ name. MayHold (file name) x) → IfSome (grammar_file job) (λ name. MayHold (file name) y) → x ≡ y
+  same_grammar (RunTree name) asks x y p q = same_held (file name) x y (tells.grammar (RunTree name) asks) p q
+  same_grammar (Check name) asks x y p q = same_held (file name) x y (tells.grammar (Check name) asks) p q
 
   one_of_two : (grammar grammar' x y : List ℕ) (a b : Outcome) → Supplied words file (Some known) grammar x → Supplied words file (Some known) grammar' y
       → IsOutcome words grammar x a → IsOutcome words grammar' y b → a ≡ b
   one_of_two grammar grammar' x y a b p q (WordsNotBuilt none is) (WordsNotBuilt none' is') = is ∙ sym is'
   one_of_two grammar grammar' x y a b p q (WordsNotBuilt none is) (OfJob job asks of) = absurd (none job asks)
   one_of_two grammar grammar' x y a b p q (OfJob job asks of) (WordsNotBuilt none is) = absurd (none job asks)
-  one_of_two grammar grammar' x y a b p q (OfJob (RunTree name) asks of) (OfJob job' asks' of') =
-      let same : grammar' ≡ grammar = same_held (file name) grammar' grammar (tells.grammar (RunTree name) asks) (q.grammar_held (RunTree name) asks) (p.grammar_held (RunTree name) asks) in
-      let of_job : IsJobOutcome (RunTree name) grammar' y b = subst (λ (j : Job). IsJobOutcome j grammar' y b) (sym (asks_once words (RunTree name) job' asks asks')) of' in
-      one_of_job (RunTree name) asks grammar x y a b p (subst (λ l. Supplied words file (Some known) l y) same q) of (subst (λ l. IsJobOutcome (RunTree name) l y b) same of_job)
+  one_of_two grammar grammar' x y a b p q (OfJob job asks of) (OfJob job' asks' of') =
+      let same : grammar' ≡ grammar = same_grammar job asks grammar' grammar (q.grammar_held job asks) (p.grammar_held job asks) in
+      let of_job : IsJobOutcome job grammar' y b = subst (λ (j : Job). IsJobOutcome j grammar' y b) (sym (asks_once words job job' asks asks')) of' in
+      one_of_job job asks grammar x y a b p (subst (λ l. Supplied words file (Some known) l y) same q) of (subst (λ l. IsJobOutcome job l y b) same of_job)
 
   pub one_end_of : (a b : MayEnd words file (Some known)) → a.outcome ≡ b.outcome
   one_end_of a b = one_of_two a.grammar b.grammar a.input b.input a.outcome b.outcome a.supplied b.supplied a.is_outcome b.is_outcome

@@ -4,7 +4,10 @@ use Rattle.grammar_model.specs.Simple.{IsSimple as HasSimpleRules}
 use Rattle.language_model.specs.Description.{Statement}
 use Rattle.language_model.specs.Simple.{SimpleLine, IsSimple, IsSimpleDescription, grammar_of_simple}
 use Rattle.language_model.specs.Texts.{HasDescription}
+use Rattle.grammar_model.specs.Grammar.{Grammar}
+use Rattle.reading_model.proofs.Accepting.{CheckLaws}
 use Rattle.run_model.specs.Texts.{TextFault, HasFault}
+use Rattle.run_model.specs.Checking.{SymbolRow, IsRowOf}
 
 -- a text has one description or one fault; a description is that of one simple grammar or of none, and that can be listed
 pub record TextLaws : Type 0 where
@@ -16,3 +19,9 @@ pub record TextLaws : Type 0 where
   pub decided : (d : List Statement) → ((g : List SimpleLine) × IsSimpleDescription d g) ⊎ ((g : List SimpleLine) → IsSimpleDescription d g → ⊥)
   pub simple : (lines : List SimpleLine) → IsSimple lines → HasSimpleRules (grammar_of_simple lines)
   pub started : (lines : List SimpleLine) → IsSimple lines → 0 < length (grammar_of_simple lines).starts
+
+-- and of grammars: checks decide, and what each symbol can do is decided
+pub record RunLaws : Type 0 where
+  pub texts : TextLaws
+  pub checks : CheckLaws
+  pub row : (g : Grammar) (s : ℕ) → (row : SymbolRow) × (row.symbol ≡ s) × IsRowOf g row

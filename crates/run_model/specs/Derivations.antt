@@ -1,26 +1,32 @@
--- What a job accepts of a grammar's text and of an input, and the lines of all derivations.
+-- With what job `run` goes on for now: a simple description, an input of few characters, and the lines of all derivations.
 use Rattle.std.specs.Prelude.{◌≡◌, ℕ, ◌≤◌, ◌<◌, List, length, map, All}
 use Rattle.grammar_model.specs.Grammar.{Grammar}
 use Rattle.grammar_model.specs.Trees.{Tree}
 use Rattle.grammar_model.specs.Characters.{IsAllOfCharacters, tree_line}
 use Rattle.language_model.specs.Description.{Statement}
 use Rattle.language_model.specs.Simple.{SimpleLine, IsSimpleDescription, grammar_of_simple}
+use Rattle.language_model.specs.Building.{Built}
 use Rattle.language_model.specs.Texts.{HasDescription}
-use Rattle.run_model.specs.Words.{Job}
+use Rattle.run_model.specs.Refused.{Accepted}
 
--- the text has a simple description with this grammar, and the job goes on with it
-pub record Accepts (job : Job) (text : List ℕ) (g : Grammar) : Type 0 where
+-- the text has a simple description with this grammar
+pub record HasSimple (text : List ℕ) (g : Grammar) : Type 0 where
   pub description : List Statement
   pub has : HasDescription text description
   pub lines : List SimpleLine
   pub simple : IsSimpleDescription description lines
   pub grammar : g ≡ grammar_of_simple lines
 
--- the text has a description that the job does not go on with
-pub record IsUnbuilt (job : Job) (text : List ℕ) : Type 0 where
+-- the text has a description that is not simple
+pub record IsUnbuilt (text : List ℕ) : Type 0 where
   pub description : List Statement
   pub has : HasDescription text description
   pub none : (lines : List SimpleLine) → IsSimpleDescription description lines → ⊥
+
+-- a job goes on to its input: the grammars are accepted, and for now the description is simple
+pub record GoesOnWith (text : List ℕ) (b : Built) : Type 0 where
+  pub accepted : Accepted text b
+  pub simple : (g : Grammar) × HasSimple text g
 
 -- an input that is built
 pub record IsInput (bytes : List ℕ) : Type 0 where

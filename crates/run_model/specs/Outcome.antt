@@ -2,9 +2,11 @@
 use Rattle.std.specs.Prelude.{◌≡◌, ℕ, List, [], ◌∷◌, ◌++◌, codes}
 use Rattle.std.specs.List.{concat}
 use Rattle.grammar_model.specs.Grammar.{Grammar}
-use Rattle.run_model.specs.Words.{Job, Asks, AskNothing}
-use Rattle.run_model.specs.Derivations.{Accepts, IsUnbuilt, IsInput, NoInput, Lists}
-use Rattle.run_model.specs.Texts.{TextFault, HasFault, fault_text}
+use Rattle.language_model.specs.Building.{Built}
+use Rattle.run_model.specs.Words.{Job, RunTree, Check, Asks, AskNothing}
+use Rattle.run_model.specs.Refused.{Accepted, IsRefused}
+use Rattle.run_model.specs.Checking.{AreCheckLines}
+use Rattle.run_model.specs.Derivations.{HasSimple, IsUnbuilt, IsInput, NoInput, Lists}
 
 -- the text for the standard output, the line for the standard error, and the status
 pub record Outcome : Type 0 where
@@ -30,19 +32,33 @@ no_derivation = refused 1 (codes "no derivation")
 abbrev pub done : List (List ℕ) → Outcome
 done lines = record { out = concat lines; line = []; status = 0 }
 
--- the outcome of a job over a grammar that is accepted, by cases in order
-pub data IsInputOutcome (job : Job) (g : Grammar) (input : List ℕ) (outcome : Outcome) : Type 0 where
+-- the outcome of `run` over the grammar of a simple description, by cases in order
+pub data IsInputOutcome (g : Grammar) (input : List ℕ) (outcome : Outcome) : Type 0 where
   -- an input that is not built yet: a case that goes away
-  InputNotBuilt : NoInput input → outcome ≡ not_built → IsInputOutcome job g input outcome
-  NoDerivation : IsInput input → Lists g input [] → outcome ≡ no_derivation → IsInputOutcome job g input outcome
-  Derived : (first : List ℕ) (others : List (List ℕ)) → IsInput input → Lists g input (first ∷ others) → outcome ≡ done (first ∷ others) → IsInputOutcome job g input outcome
+  InputNotBuilt : NoInput input → outcome ≡ not_built → IsInputOutcome g input outcome
+  NoDerivation : IsInput input → Lists g input [] → outcome ≡ no_derivation → IsInputOutcome g input outcome
+  Derived : (first : List ℕ) (others : List (List ℕ)) → IsInput input → Lists g input (first ∷ others) → outcome ≡ done (first ∷ others) → IsInputOutcome g input outcome
+
+-- the outcome of `run` over an accepted grammar, by cases in order
+pub data IsRunOutcome (grammar input : List ℕ) (outcome : Outcome) : Type 0 where
+  -- a grammar that is not built yet: a case that goes away
+  GrammarNotBuilt : IsUnbuilt grammar → outcome ≡ not_built → IsRunOutcome grammar input outcome
+  OverSimple : (g : Grammar) → HasSimple grammar g → IsInputOutcome g input outcome → IsRunOutcome grammar input outcome
+
+-- the outcome of `check` over accepted grammars
+pub record IsCheckOutcome (b : Built) (outcome : Outcome) : Type 0 where
+  pub lines : List (List ℕ)
+  pub are : AreCheckLines b lines
+  pub is : outcome ≡ done lines
+
+abbrev pub IsAcceptedOutcome : Job → (grammar : List ℕ) → Built → (input : List ℕ) → Outcome → Type 0
+IsAcceptedOutcome (RunTree name) grammar b input outcome = IsRunOutcome grammar input outcome
+IsAcceptedOutcome (Check name) grammar b input outcome = IsCheckOutcome b outcome
 
 -- the outcome of a job, by cases in order
 pub data IsJobOutcome (job : Job) (grammar input : List ℕ) (outcome : Outcome) : Type 0 where
-  GrammarRefused : (fault : TextFault) → HasFault grammar fault → outcome ≡ refused 3 (fault_text grammar fault) → IsJobOutcome job grammar input outcome
-  -- a grammar that is not built yet: a case that goes away
-  GrammarNotBuilt : IsUnbuilt job grammar → outcome ≡ not_built → IsJobOutcome job grammar input outcome
-  OverGrammar : (g : Grammar) → Accepts job grammar g → IsInputOutcome job g input outcome → IsJobOutcome job grammar input outcome
+  GrammarRefused : (text : List ℕ) → IsRefused grammar text → outcome ≡ refused 3 text → IsJobOutcome job grammar input outcome
+  GrammarAccepted : (b : Built) → Accepted grammar b → IsAcceptedOutcome job grammar b input outcome → IsJobOutcome job grammar input outcome
 
 -- the outcome of the words, the grammar and the input, by cases in order
 pub data IsOutcome (words : List (List ℕ)) (grammar input : List ℕ) (outcome : Outcome) : Type 0 where

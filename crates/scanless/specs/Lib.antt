@@ -1,4 +1,3 @@
 pub mod Abilities
 pub mod Faults
 pub mod Prepared
-pub mod Tables

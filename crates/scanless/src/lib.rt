@@ -5,6 +5,8 @@ mod abilities;
 mod parts;
 mod prepared;
 mod refusal;
+#[cfg(test)]
+mod tests;
 
 pub use prepared::{Prepared, prepare};
 pub use refusal::PrepareRefusal;

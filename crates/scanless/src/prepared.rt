@@ -7,12 +7,12 @@ ghost use Rattle.recognizer_model.specs.FlatForm.{IsFlatOf};
 ghost use Rattle.recognizer_model.specs.Invariant.{IsFlat};
 ghost use Rattle.language_model.specs.Texts.{IsBuilt};
 ghost use Rattle.value_text.specs.Meaning.{meaning_of};
+ghost use Rattle.dsl_build.specs.Ranges.{IsInRange};
 ghost use Rattle.dsl_build.specs.Tables.{row_of};
 ghost use Rattle.reading_model.specs.Accepted.{IsAccepted};
 ghost use Rattle.scanless.specs.Abilities.{IsAbility};
 ghost use Rattle.scanless.specs.Faults.{IsFault, IsRefusal};
 ghost use Rattle.scanless.specs.Prepared.{IsLexicalForm};
-ghost use Rattle.scanless.specs.Tables.{AreTables};
 
 use crate::PrepareRefusal;
 use crate::abilities::Ability;
@@ -93,7 +93,7 @@ impl Prepared {
     pub fn known(&self)
         ensures built { IsBuilt self.now }
         ensures accepted { IsAccepted self.now }
-        ensures tables { AreTables self.now }
+        ensures ranges { IsInRange self.now }
     {
         let _ = &self.built;
     }

@@ -4,20 +4,23 @@ use Rattle.std.specs.Io.KnownBytes.{Appends}
 use Rattle.slif_base.specs.Causes.{Rose}
 use Rattle.slif_base.specs.Told.{AppendsPrefix}
 use Rattle.slif_base.proofs.Bytes.{appends_none}
-use Rattle.run_model.specs.Words.{Job}
+use Rattle.language_model.specs.Building.{Built}
 use Rattle.grammar_model.specs.Grammar.{Grammar}
-use Rattle.run_model.specs.Outcome.{Outcome, IsOutcome, IsJobOutcome, IsInputOutcome, not_built, no_derivation, done, refused}
+use Rattle.run_model.specs.Words.{Job}
+use Rattle.run_model.specs.Words.Job.{RunTree, Check}
+use Rattle.run_model.specs.Outcome.{Outcome, IsOutcome, IsJobOutcome, IsAcceptedOutcome, IsRunOutcome, IsInputOutcome, not_built, no_derivation, done, refused}
 use Rattle.run_model.specs.Outcome.IsOutcome.{WordsNotBuilt, OfJob}
-use Rattle.run_model.specs.Outcome.IsJobOutcome.{GrammarRefused, GrammarNotBuilt, OverGrammar}
-use Rattle.run_model.specs.Texts.{fault_text}
+use Rattle.run_model.specs.Outcome.IsJobOutcome.{GrammarRefused, GrammarAccepted}
+use Rattle.run_model.specs.Outcome.IsRunOutcome.{GrammarNotBuilt, OverSimple}
 use Rattle.run_model.specs.Outcome.IsInputOutcome.{InputNotBuilt, NoDerivation as NothingDerived, Derived}
 use Rattle.run_model.specs.Outside.{Outside}
-use Rattle.run_model.specs.Runs.{Answers, Fault, fault_line, memory_line, HasCauseOf, ErrAtFault, Faults, RunsOut, IsQuiet, Runs}
+use Rattle.run_model.specs.Runs.{Answers, Fault, fault_line, memory_line, HasCauseOf, ErrAtFault, Faults, RunsOut, IsQuiet, IsFrontOf, Runs}
 use Rattle.run_model.specs.Runs.IsFrontOf.{Nothing, Front}
 use Rattle.run_model.specs.Runs.Fault.{CannotOpen, CannotRead, CannotWrite}
 use Rattle.run_model.specs.Runs.OutAtFault.{OutEmpty, OutBroken}
 use Rattle.run_model.specs.Runs.ErrAtFault.{ErrWhole, ErrBroken}
-use Rattle.slif_cli.specs.Stops.{Done, WorkStops, Tells, Reports, refusal_outcome}
+use Rattle.slif_cli.specs.Stops.{Does, MayHave, IsFront, WorkStops, Tells, Reports, refusal_outcome}
+use Rattle.slif_cli.specs.Stops.IsFront.{Nothing as NothingYet, Front as FrontYet}
 use Rattle.slif_cli.specs.Stops.Tells.{Whole, Part}
 use Rattle.slif_cli.specs.declared.stop.Refusal.{Refusal}
 use Rattle.slif_cli.specs.declared.stop.Refusal.TheVariants.{NotBuilt, NoDerivation, Grammar as BadGrammar}
@@ -38,15 +41,22 @@ record IsPlain (outcome : Outcome) : Type 0 where
 plain_at : (outcome same : Outcome) → outcome ≡ same → same.status ≢ 4 → same.status ≢ 5 → IsPlain outcome
 plain_at outcome same is fault memory = subst IsPlain (sym is) (record { no_fault = fault; no_memory = memory })
 
-plain_input : (job : Job) (g : Grammar) (input : List ℕ) (outcome : Outcome) → IsInputOutcome job g input outcome → IsPlain outcome
-plain_input job g input outcome (InputNotBuilt none is) = plain_at outcome not_built is (λ e. omega arith) (λ e. omega arith)
-plain_input job g input outcome (NothingDerived is_input none is) = plain_at outcome no_derivation is (λ e. omega arith) (λ e. omega arith)
-plain_input job g input outcome (Derived first others is_input lists is) = plain_at outcome (done (first ∷ others)) is (λ e. omega arith) (λ e. omega arith)
+plain_input : (g : Grammar) (input : List ℕ) (outcome : Outcome) → IsInputOutcome g input outcome → IsPlain outcome
+plain_input g input outcome (InputNotBuilt none is) = plain_at outcome not_built is (λ e. omega arith) (λ e. omega arith)
+plain_input g input outcome (NothingDerived is_input none is) = plain_at outcome no_derivation is (λ e. omega arith) (λ e. omega arith)
+plain_input g input outcome (Derived first others is_input lists is) = plain_at outcome (done (first ∷ others)) is (λ e. omega arith) (λ e. omega arith)
+
+plain_run : (grammar input : List ℕ) (outcome : Outcome) → IsRunOutcome grammar input outcome → IsPlain outcome
+plain_run grammar input outcome (GrammarNotBuilt none is) = plain_at outcome not_built is (λ e. omega arith) (λ e. omega arith)
+plain_run grammar input outcome (OverSimple g simple over) = plain_input g input outcome over
+
+plain_accepted : (job : Job) (grammar : List ℕ) (b : Built) (input : List ℕ) (outcome : Outcome) → IsAcceptedOutcome job grammar b input outcome → IsPlain outcome
+plain_accepted (RunTree name) grammar b input outcome over = plain_run grammar input outcome over
+plain_accepted (Check name) grammar b input outcome over = plain_at outcome (done over.lines) over.is (λ e. omega arith) (λ e. omega arith)
 
 plain_job : (job : Job) (grammar input : List ℕ) (outcome : Outcome) → IsJobOutcome job grammar input outcome → IsPlain outcome
-plain_job job grammar input outcome (GrammarRefused f has is) = plain_at outcome (refused 3 (fault_text grammar f)) is (λ e. omega arith) (λ e. omega arith)
-plain_job job grammar input outcome (GrammarNotBuilt none is) = plain_at outcome not_built is (λ e. omega arith) (λ e. omega arith)
-plain_job job grammar input outcome (OverGrammar g is_text over) = plain_input job g input outcome over
+plain_job job grammar input outcome (GrammarRefused text refused_text is) = plain_at outcome (refused 3 text) is (λ e. omega arith) (λ e. omega arith)
+plain_job job grammar input outcome (GrammarAccepted b accepted over) = plain_accepted job grammar b input outcome over
 
 plain : (words : List (List ℕ)) (grammar input : List ℕ) (outcome : Outcome) → IsOutcome words grammar input outcome → IsPlain outcome
 plain words grammar input outcome (WordsNotBuilt none is) = plain_at outcome not_built is (λ e. omega arith) (λ e. omega arith)
@@ -62,14 +72,22 @@ module _ (words : List (List ℕ)) (before after : Outside) where
   memory_told (Whole whole) = inl whole
   memory_told (Part rose part) = inr (rose, part)
 
+  -- a front of the text of an outcome that a run may have
+  front_of : (text : List ℕ) → IsFront (MayHave words before.files.file before.input.bytes) text → IsFrontOf words before.files.file before.input.bytes (λ o. o.out) text
+  front_of text (NothingYet e) = Nothing e
+  front_of text (FrontYet outcome has rest e) = Front has.0 rest (ap (λ (o : Outcome). o.out) has.1 ∙ e)
+
   -- the work was done, and nothing was told
-  ends_done : Done words before.files.file before.input.bytes before.out.bytes after.out.bytes → before.err.bytes ≡ after.err.bytes → Ends words before after 0
-  ends_done done same = Answered (record {
-    may = done.may;
-    status_is = sym done.status_is;
-    out = done.out;
-    err = subst (λ l. Appends before.err.bytes l done.may.outcome.line) same (subst (Appends before.err.bytes before.err.bytes) (sym done.line_is) (appends_none before.err.bytes));
-  })
+  ends_done : Does (MayHave words before.files.file before.input.bytes) before.out.bytes after.out.bytes → before.err.bytes ≡ after.err.bytes → Ends words before after 0
+  ends_done done same =
+      let is = done.is.1 in
+      let no_line : done.is.0.outcome.line ≡ [] = ap (λ (o : Outcome). o.line) is ∙ done.line_is in
+      Answered (record {
+        may = done.is.0;
+        status_is = sym (ap (λ (o : Outcome). o.status) is ∙ done.status_is);
+        out = subst (λ (o : Outcome). Appends before.out.bytes after.out.bytes o.out) (sym is) done.out;
+        err = subst (λ l. Appends before.err.bytes l done.is.0.outcome.line) same (subst (Appends before.err.bytes before.err.bytes) (sym no_line) (appends_none before.err.bytes));
+      })
 
   refused_out : (refusal : Refusal) → (refusal_outcome refusal).out ≡ []
   refused_out NotBuilt = refl
@@ -81,10 +99,10 @@ module _ (words : List (List ℕ)) (before after : Outside) where
       → WorkStops words before.files after.files before.input after.input before.out after.out stop
       → Reports before.err after.err status stop → Ends words before after status
   ends_stop status (Refused refusal) stops (inl told) = Answered (record {
-    may = stops.0.may;
-    status_is = told.0 ∙ sym (ap (λ (o : Outcome). o.status) stops.0.is);
-    out = subst (Appends before.out.bytes after.out.bytes) (sym (ap (λ (o : Outcome). o.out) stops.0.is ∙ refused_out refusal)) stops.1;
-    err = subst (λ (o : Outcome). Appends before.err.bytes after.err.bytes o.line) (sym stops.0.is) told.1;
+    may = stops.0.0;
+    status_is = told.0 ∙ sym (ap (λ (o : Outcome). o.status) stops.0.1);
+    out = subst (Appends before.out.bytes after.out.bytes) (sym (ap (λ (o : Outcome). o.out) stops.0.1 ∙ refused_out refusal)) stops.1;
+    err = subst (λ (o : Outcome). Appends before.err.bytes after.err.bytes o.line) (sym stops.0.1) told.1;
   })
   ends_stop status (Refused refusal) stops (inr (inr told)) = RanOut told.0 (record { text = []; front = Nothing refl; out = stops.1; err = memory_told told.1 })
   ends_stop status (Refused refusal) stops (inr (inl told)) = Faulted told.0 (record {
@@ -92,15 +110,15 @@ module _ (words : List (List ℕ)) (before after : Outside) where
     cause = inr told.1.rose;
     out = OutEmpty stops.1;
     err = ErrBroken told.1.rose told.1.text told.1.other_text told.1.other_rest
-        (Front stops.0.may told.1.rest (ap (λ (o : Outcome). o.line) stops.0.is ∙ told.1.split)) told.1.other_split told.1.appends;
+        (Front stops.0.0 told.1.rest (ap (λ (o : Outcome). o.line) stops.0.1 ∙ told.1.split)) told.1.other_split told.1.appends;
   })
   ends_stop status (OpenFault name) stops (inl told) = Faulted told.0 (record {
     fault = CannotOpen name.now;
-    cause = (stops.0, stops.1);
-    out = OutEmpty stops.2;
+    cause = stops.0;
+    out = OutEmpty stops.1;
     err = err_told (fault_line (CannotOpen name.now)) told.1;
   })
-  ends_stop status (OpenFault name) stops (inr told) = RanOut told.0 (record { text = []; front = Nothing refl; out = stops.2; err = memory_told told.1 })
+  ends_stop status (OpenFault name) stops (inr told) = RanOut told.0 (record { text = []; front = Nothing refl; out = stops.1; err = memory_told told.1 })
   ends_stop status ReadFault stops told = Faulted told.0 (record {
     fault = CannotRead;
     cause = stops.0;
@@ -110,10 +128,10 @@ module _ (words : List (List ℕ)) (before after : Outside) where
   ends_stop status WriteFault stops told = Faulted told.0 (record {
     fault = CannotWrite;
     cause = inl stops.0;
-    out = OutBroken stops.0 stops.1.text stops.1.front stops.1.appends;
+    out = OutBroken stops.0 stops.1.text (front_of stops.1.text stops.1.front) stops.1.appends;
     err = err_told (fault_line CannotWrite) told.1;
   })
-  ends_stop status NoMemory stops told = RanOut told.0 (record { text = stops.text; front = stops.front; out = stops.appends; err = memory_told told.1 })
+  ends_stop status NoMemory stops told = RanOut told.0 (record { text = stops.text; front = front_of stops.text stops.front; out = stops.appends; err = memory_told told.1 })
 
   -- whose count rose at a fault, if none did
   not_quiet : Faults words before after → IsQuiet before after → ⊥
@@ -146,7 +164,7 @@ module _ (words : List (List ℕ)) (before after : Outside) where
   }
 
   -- the work was done, and nothing was told
-  pub runs_done : Done words before.files.file before.input.bytes before.out.bytes after.out.bytes → before.err.bytes ≡ after.err.bytes → Runs words before after 0
+  pub runs_done : Does (MayHave words before.files.file before.input.bytes) before.out.bytes after.out.bytes → before.err.bytes ≡ after.err.bytes → Runs words before after 0
   runs_done done same = runs_from 0 (ends_done done same)
 
   -- the work stopped, and it was told

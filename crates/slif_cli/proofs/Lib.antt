@@ -1,9 +1,13 @@
 pub mod Telling
 pub mod Utf8
-pub mod Places
 pub mod LanguageLaws
+pub mod GrammarLaws
+pub mod Refusing
+pub mod Rows
+pub mod Stopping
 pub mod Lines
 pub mod Deriving
 pub mod Working
 pub mod Ending
 pub mod Spelling
+pub mod Asking

@@ -1,5 +1,5 @@
 -- Lines that are written one after the other.
-use Rattle.std.proofs.Common.{◌≡◌, ℕ, zero, suc, ◌+◌, List, [], ◌∷◌, ◌++◌, Option, Some, take, refl, sym, ap, ◌∙◌, append_assoc, append-nil, slice_get, arith, subst, Result, Ok, Err, OnOk}
+use Rattle.std.proofs.Common.{◌≡◌, ℕ, zero, suc, ◌+◌, List, [], ◌∷◌, ◌++◌, Option, Some, take, refl, sym, ap, ◌∙◌, append_assoc, append-nil, slice_get, slice_index_or, map, length, ◌<◌, arith, subst, Result, Ok, Err, OnOk}
 use Rattle.std.specs.List.{concat}
 use Rattle.std.specs.Io.KnownBytes.{Appends}
 use Rattle.slif_base.specs.Told.{AppendsPrefix}
@@ -57,3 +57,9 @@ pub one_more_written : (lines : List (List ℕ)) (k : ℕ) (line : List ℕ) (be
 one_more_written lines k line before middle after e whole more =
     let next : k + 1 ≡ suc k = omega arith in
     subst (Appends before after) (sym (ap (λ (n : ℕ). concat (take n lines)) next ∙ one_line_more lines k line e)) (appends_twice before middle after (concat (take k lines)) line whole more)
+
+-- an item of a list, as a line
+pub mapped_item : {X : Type 0} (f : X → List ℕ) (xs : List X) (k : ℕ) (x : X) → k < length xs → x ≡ slice_index_or xs k x → slice_get (map f xs) k ≡ Some (f x)
+mapped_item f [] k x lt e = absurd (omega arith)
+mapped_item f (y ∷ ys) zero x lt e = ap (λ z. Some (f z)) (sym e)
+mapped_item f (y ∷ ys) (suc k) x lt e = mapped_item f ys k x (omega arith) e

@@ -1,28 +1,41 @@
 // The grammar, read from its file.
-ghost use Rattle.std.specs.Prelude.{◌≡◌, ◌≤◌, ◌<◌, ◌∷◌, [], IfOk, IfErr, length};
+ghost use Rattle.std.specs.Prelude.{◌≡◌, ◌≤◌, ◌<◌, ◌∷◌, [], List, IfOk, IfErr, OnOk, IsUtf8, chars as chars_in, length};
 ghost use Rattle.slif_base.specs.Told.{FileHolds, SameFiles, AsksAmong};
-ghost use Rattle.slif_cli.specs.Stops.{GrammarStops, IsGrammarOf, IsListable, TextStops, IsDescriptionOf, CharacterStops};
+ghost use Rattle.language_model.specs.Texts.{IsDescription, IsBuiltOf};
+ghost use Rattle.language_model.specs.Simple.{SimpleLine, IsSimpleDescription, grammar_of_simple};
+ghost use Rattle.reading_model.specs.Accepted.{IsAccepted};
+ghost use Rattle.run_model.specs.Refused.{IsRefused};
+ghost use Rattle.slif_cli.specs.Stops.{LoadStops, IsLoaded, IsListable, TellsText, IsDescriptionOf, IsBadText, IsBadDescription, SimpleStops};
 
-use crate::stop::{BadText, Refusal, Stop};
+use crate::refusals::{description_text, grammars_text, not_utf8_text, phrase};
+use crate::stop::{Refusal, Stop};
+use dsl_build::build;
 use dsl_reader::{StatementRefusal, parse};
 use dsl_statement::Description;
 use dsl_tokens::{TokenRefusal, tokens};
 use grammar_core::Written;
+use scanless::{Prepared, prepare};
 use simple_grammar::{SimpleRefusal, grammar_of};
 use slif_base::{Chars, FileRefusal, Files, TextRefusal, chars_of, read_named};
 use std::alloc::Global;
 
 const LIMIT: usize = 1_048_576;
 
+/// The description of a text, and its grammars, which are accepted.
+#[derive(Drop)]
+pub struct Loaded {
+    pub description: Description,
+    pub prepared: Prepared,
+}
+
 /// Reads the grammar from the named file.
 pub fn load_grammar<'a, F: Files>(
     alloc: Global,
     name: &'a str,
     files: &mut F,
-) -> Result<Written, Stop<'a>>
-    ensures read { IfOk result (λ g. FileHolds (F.told files.old name.now) (IsGrammarOf g)) }
-    ensures listable { IfOk result IsListable }
-    ensures stops { IfErr result (GrammarStops name.now (F.told files.old name.now) (F.fault_count files.old) (F.fault_count files.new)) }
+) -> Result<Loaded, Stop<'a>>
+    ensures read { IfOk result (λ l. FileHolds (F.told files.old name.now) (IsLoaded l.description l.prepared)) }
+    ensures stops { IfErr result (LoadStops name.now (F.told files.old name.now) (F.fault_count files.old) (F.fault_count files.new)) }
     ensures later { F.fault_count files.old ≤ F.fault_count files.new }
     ensures held { SameFiles (F.told files.old) (F.told files.new) }
     ensures asks { AsksAmong (F.asked files.old) (F.asked files.new) (name.now ∷ []) }
@@ -31,37 +44,56 @@ pub fn load_grammar<'a, F: Files>(
         Ok(bytes) => read_grammar(alloc, &bytes),
         Err(FileRefusal::OpenFault) => Err(Stop::OpenFault(name)),
         Err(FileRefusal::ReadFault) => Err(Stop::ReadFault),
-        Err(FileRefusal::TooLarge) => Err(refused(BadText::TooLong)),
+        Err(FileRefusal::TooLarge) => {
+            let text = Vec::from_slice(alloc, b"grammar: longer than 1048576 bytes")?;
+            Err(refused(text))
+        }
         Err(FileRefusal::NoMemory) => Err(Stop::NoMemory),
     }
 }
 
-fn refused<'a>(text: BadText) -> Stop<'a>
+fn refused<'a>(text: Vec<u8>) -> Stop<'a>
     ensures { result ≡ Stop.Refused (Refusal.Grammar text) }
 {
-    Stop::Refused(Refusal::Grammar(text))
+    Stop::Refused(Refusal::Grammar { text })
 }
 
-/// The grammar of a text.
-fn read_grammar<'a>(alloc: Global, bytes: &[u8]) -> Result<Written, Stop<'a>>
+/// The grammars of a text.
+fn read_grammar<'a>(alloc: Global, bytes: &[u8]) -> Result<Loaded, Stop<'a>>
     requires { length bytes.now ≤ 1048576 }
-    ensures read { IfOk result (λ g. IsGrammarOf g bytes.now) }
-    ensures listable { IfOk result IsListable }
-    ensures stops { IfErr result (TextStops bytes.now) }
+    ensures read { IfOk result (λ l. IsLoaded l.description l.prepared bytes.now) }
+    ensures stops { IfErr result (TellsText (IsRefused bytes.now)) }
 {
-    let chars = match chars_of(alloc, bytes) {
+    let chars = match characters(alloc, bytes) {
         Ok(chars) => chars,
-        Err(TextRefusal::NotUtf8 { at }) => return Err(refused(BadText::NotUtf8 { at })),
-        Err(TextRefusal::NoMemory) => return Err(Stop::NoMemory),
+        Err(stop) => return Err(stop),
     };
     let description = match describe(alloc, &chars) {
         Ok(description) => description,
         Err(stop) => return Err(stop),
     };
-    match grammar_of(alloc, &description) {
-        Ok(grammar) => Ok(grammar),
-        Err(SimpleRefusal::NotSimple) => Err(Stop::Refused(Refusal::NotBuilt)),
-        Err(SimpleRefusal::NoMemory) => Err(Stop::NoMemory),
+    match accept(alloc, &chars, &description) {
+        Ok(prepared) => Ok(Loaded {
+            description,
+            prepared,
+        }),
+        Err(stop) => Err(stop),
+    }
+}
+
+fn characters<'a>(alloc: Global, bytes: &[u8]) -> Result<Chars, Stop<'a>>
+    requires { length bytes.now ≤ 1048576 }
+    ensures utf8 { OnOk result (IsUtf8 bytes.now) }
+    ensures ok { IfOk result (λ chars. chars ≡ chars_in bytes.now) }
+    ensures stops { IfErr result (TellsText (IsRefused bytes.now)) }
+{
+    match chars_of(alloc, bytes) {
+        Ok(chars) => Ok(chars),
+        Err(TextRefusal::NotUtf8 { at }) => {
+            let text = not_utf8_text(alloc, at)?;
+            Err(refused(text))
+        }
+        Err(TextRefusal::NoMemory) => Err(Stop::NoMemory),
     }
 }
 
@@ -69,22 +101,59 @@ fn read_grammar<'a>(alloc: Global, bytes: &[u8]) -> Result<Written, Stop<'a>>
 fn describe<'a>(alloc: Global, chars: &Chars) -> Result<Description, Stop<'a>>
     requires { length chars.now < 4294967295 }
     ensures described { IfOk result (λ d. IsDescriptionOf d chars.now) }
-    ensures stops { IfErr result (CharacterStops chars.now) }
+    ensures stops { IfErr result (TellsText (IsBadText chars.now)) }
 {
     let tokens = match tokens(alloc, chars) {
         Ok(tokens) => tokens,
         Err(TokenRefusal::BadToken { at }) => {
-            let (line, column) = chars.line_column(at);
-            return Err(refused(BadText::BadToken { line, column }));
+            let text = phrase(alloc, b"grammar: bad token", "", b"", chars, at)?;
+            return Err(refused(text));
         }
         Err(TokenRefusal::NoMemory) => return Err(Stop::NoMemory),
     };
     match parse(alloc, chars, &tokens) {
         Ok(description) => Ok(description),
         Err(StatementRefusal::BadStatement { at }) => {
-            let (line, column) = chars.line_column(at);
-            Err(refused(BadText::BadStatement { line, column }))
+            let text = phrase(alloc, b"grammar: bad statement", "", b"", chars, at)?;
+            Err(refused(text))
         }
         Err(StatementRefusal::NoMemory) => Err(Stop::NoMemory),
+    }
+}
+
+/// The grammars of a description.
+fn accept<'a>(alloc: Global, chars: &Chars, description: &Description) -> Result<Prepared, Stop<'a>>
+    requires small { length chars.now < 4294967295 }
+    requires read { IsDescription description.now }
+    ensures built { IfOk result (λ p. IsBuiltOf description.now p) }
+    ensures accepted { IfOk result IsAccepted }
+    ensures stops { IfErr result (TellsText (IsBadDescription chars.now description.now)) }
+{
+    let built = match build(alloc, description) {
+        Ok(built) => built,
+        Err(refusal) => {
+            let text = description_text(alloc, chars, &refusal)?;
+            return Err(refused(text));
+        }
+    };
+    match prepare(alloc, built) {
+        Ok(prepared) => Ok(prepared),
+        Err(refusal) => {
+            let text = grammars_text(alloc, &refusal)?;
+            Err(refused(text))
+        }
+    }
+}
+
+/// The grammar of a simple description.
+pub fn simple_of<'a>(alloc: Global, description: &Description) -> Result<Written, Stop<'a>>
+    ensures simple { IfOk result (λ w. (lines : List SimpleLine) × IsSimpleDescription description.now lines × (w ≡ grammar_of_simple lines)) }
+    ensures listable { IfOk result IsListable }
+    ensures stops { IfErr result (SimpleStops description.now) }
+{
+    match grammar_of(alloc, description) {
+        Ok(grammar) => Ok(grammar),
+        Err(SimpleRefusal::NotSimple) => Err(Stop::Refused(Refusal::NotBuilt)),
+        Err(SimpleRefusal::NoMemory) => Err(Stop::NoMemory),
     }
 }

@@ -4,7 +4,8 @@ ghost use Rattle.std.specs.List.{concat};
 ghost use Rattle.std.specs.Io.KnownBytes.{Appends};
 ghost use Rattle.run_model.specs.Derivations.{IsInput};
 ghost use Rattle.run_model.specs.Outside.{stream};
-ghost use Rattle.slif_cli.specs.Stops.{Derives, IsListable, InputStops, BytesStop, ListStops};
+ghost use Rattle.run_model.specs.Outcome.{IsInputOutcome};
+ghost use Rattle.slif_cli.specs.Stops.{Does, MayDerive, IsListable, InputStops, WriteStops, lines_outcome};
 
 use crate::stop::{Refusal, Stop};
 use grammar_core::Written;
@@ -22,7 +23,7 @@ pub fn derive_input<'a, I: Source, O: Sink>(
     out: &mut O,
 ) -> Result<(), Stop<'a>>
     requires { IsListable grammar.now }
-    ensures derives { OnOk result (Derives grammar.now (I.left input.old) (O.contents out.old) (O.contents out.new)) }
+    ensures derives { OnOk result (Does (MayDerive grammar.now (I.left input.old)) (O.contents out.old) (O.contents out.new)) }
     ensures stops { IfErr result (InputStops grammar.now
         (stream I.left I.fault_count input.old) (stream I.left I.fault_count input.new)
         (stream O.contents O.fault_count out.old) (stream O.contents O.fault_count out.new)) }
@@ -52,8 +53,8 @@ fn write_derivations<'a, O: Sink>(
     out: &mut O,
 ) -> Result<(), Stop<'a>>
     requires { IsListable grammar.now }
-    ensures derives { OnOk result (Derives grammar.now (Some bytes.now) (O.contents out.old) (O.contents out.new)) }
-    ensures stops { IfErr result (BytesStop grammar.now bytes.now
+    ensures derives { OnOk result (Does (IsInputOutcome grammar.now bytes.now) (O.contents out.old) (O.contents out.new)) }
+    ensures stops { IfErr result (WriteStops (IsInputOutcome grammar.now bytes.now)
         (stream O.contents O.fault_count out.old) (stream O.contents O.fault_count out.new)) }
     ensures out_later { O.fault_count out.old ≤ O.fault_count out.new }
 {
@@ -68,9 +69,8 @@ fn write_derivations<'a, O: Sink>(
 
 // Writes the lines of a list of derivations, one piece each.
 fn write_list<'a, O: Sink>(alloc: Global, list: &SlowList, out: &mut O) -> Result<(), Stop<'a>>
-    ensures written { OnOk result (Appends (O.contents out.old) (O.contents out.new) (concat list.now)) }
-    ensures some { OnOk result (0 < length list.now) }
-    ensures stops { IfErr result (ListStops list.now
+    ensures written { OnOk result (Does (λ o. o ≡ lines_outcome list.now) (O.contents out.old) (O.contents out.new)) }
+    ensures stops { IfErr result (WriteStops (λ o. o ≡ lines_outcome list.now)
         (stream O.contents O.fault_count out.old) (stream O.contents O.fault_count out.new)) }
     ensures out_later { O.fault_count out.old ≤ O.fault_count out.new }
 {

@@ -1,10 +1,12 @@
 //! The top call of the program.
 #![tactic(auto)]
 
+mod checking;
 mod grammar;
 mod input;
 mod laws;
 mod messages;
+mod refusals;
 mod stop;
 #[cfg(test)]
 mod tests;

@@ -1,12 +1,12 @@
 // What is told of a stop on the standard error.
-ghost use Rattle.std.specs.Prelude.{◌≡◌, ◌≤◌, IfOk, string_bytes};
+ghost use Rattle.std.specs.Prelude.{◌≡◌, ◌≤◌, IfOk};
 ghost use Rattle.run_model.specs.Outside.{stream};
 ghost use Rattle.run_model.specs.Runs.{fault_line};
 ghost use Rattle.run_model.specs.Runs.Fault.{CannotOpen};
 ghost use Rattle.run_model.specs.Outcome.{message};
-ghost use Rattle.slif_cli.specs.Stops.{Reports, Tells, refusal_outcome, bad_text};
+ghost use Rattle.slif_cli.specs.Stops.{Reports, Tells, refusal_outcome};
 
-use crate::stop::{BadText, Refusal, Stop};
+use crate::stop::{Refusal, Stop};
 use slif_base::{Sink, write_all};
 use std::alloc::{AllocError, Global};
 
@@ -33,59 +33,50 @@ pub fn report<E: Sink>(alloc: Global, stop: Stop<'_>, err: &mut E) -> u8
 fn report_refusal<E: Sink>(alloc: Global, refusal: Refusal, err: &mut E) -> u8
     ensures { Reports (stream E.contents E.fault_count err.old) (stream E.contents E.fault_count err.new) result (Stop.Refused refusal) }
 {
-    match refusal_line(alloc, refusal) {
-        Ok(line) => refuse(refusal, &line, err),
+    match refusal_line(alloc, &refusal) {
+        Ok(line) => refuse(&refusal, &line, err),
         Err(_) => tell(err, b"slif: out of memory\n", OUT_OF_MEMORY),
     }
 }
 
 // Writes the line of a refusal. Where that fails, the fault is told.
-fn refuse<E: Sink>(refusal: Refusal, line: &str, err: &mut E) -> u8
-    requires { line.now ≡ (refusal_outcome refusal).line }
-    ensures { Reports (stream E.contents E.fault_count err.old) (stream E.contents E.fault_count err.new) result (Stop.Refused refusal) }
+fn refuse<E: Sink>(refusal: &Refusal, line: &[u8], err: &mut E) -> u8
+    requires { line.now ≡ (refusal_outcome refusal.now).line }
+    ensures { Reports (stream E.contents E.fault_count err.old) (stream E.contents E.fault_count err.new) result (Stop.Refused refusal.now) }
 {
-    match write_all(err, line.as_bytes()) {
+    match write_all(err, line) {
         Ok(()) => refusal_status(refusal),
         Err(_) => tell(err, b"slif: write fault\n", FAULT),
     }
 }
 
-fn refusal_line(alloc: Global, refusal: Refusal) -> Result<String, AllocError>
-    ensures { IfOk result (λ line. string_bytes line ≡ (refusal_outcome refusal).line) }
+fn refusal_line(alloc: Global, refusal: &Refusal) -> Result<Vec<u8>, AllocError>
+    ensures { IfOk result (λ line. line.items ≡ (refusal_outcome refusal.now).line) }
 {
     match refusal {
-        Refusal::NotBuilt => String::from_str(alloc, "slif: not built yet\n"),
-        Refusal::NoDerivation => String::from_str(alloc, "slif: no derivation\n"),
-        Refusal::Grammar(text) => {
-            let text = bad_text(alloc, text)?;
-            format!(in alloc; "slif: {text}\n")
-        }
+        Refusal::NotBuilt => Vec::from_slice(alloc, b"slif: not built yet\n"),
+        Refusal::NoDerivation => Vec::from_slice(alloc, b"slif: no derivation\n"),
+        Refusal::Grammar { text } => message(alloc, text),
     }
 }
 
-// What is wrong with a grammar's text.
-fn bad_text(alloc: Global, text: BadText) -> Result<String, AllocError>
-    ensures { IfOk result (λ told. string_bytes told ≡ bad_text text) }
+// The text as a line.
+fn message(alloc: Global, text: &[u8]) -> Result<Vec<u8>, AllocError>
+    ensures { IfOk result (λ line. line.items ≡ message text.now) }
 {
-    match text {
-        BadText::TooLong => String::from_str(alloc, "grammar: longer than 1048576 bytes"),
-        BadText::NotUtf8 { at } => format!(in alloc; "grammar: not UTF-8 at byte {at}"),
-        BadText::BadToken { line, column } => {
-            format!(in alloc; "grammar: bad token at line {line} column {column}")
-        }
-        BadText::BadStatement { line, column } => {
-            format!(in alloc; "grammar: bad statement at line {line} column {column}")
-        }
-    }
+    let mut line = Vec::from_slice(alloc, b"slif: ")?;
+    line.extend_from_slice(text)?;
+    line.extend_from_slice(b"\n")?;
+    Ok(line)
 }
 
-fn refusal_status(refusal: Refusal) -> u8
-    ensures { result ≡ (refusal_outcome refusal).status }
+fn refusal_status(refusal: &Refusal) -> u8
+    ensures { result ≡ (refusal_outcome refusal.now).status }
 {
     match refusal {
         Refusal::NotBuilt => 6,
         Refusal::NoDerivation => 1,
-        Refusal::Grammar(_) => 3,
+        Refusal::Grammar { .. } => 3,
     }
 }
 

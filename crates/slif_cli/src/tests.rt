@@ -45,6 +45,17 @@ const SUM: Given<'static> = Given {
 const SUM_LINES: &[u8] =
     b"[\"E\",0,[\"E\",0,[\"E\",1,[\"'1'\",\"1\"]],[\"'+'\",\"+\"],[\"E\",1,[\"'1'\",\"1\"]]],[\"'+'\",\"+\"],[\"E\",1,[\"'1'\",\"1\"]]]\n[\"E\",0,[\"E\",1,[\"'1'\",\"1\"]],[\"'+'\",\"+\"],[\"E\",0,[\"E\",1,[\"'1'\",\"1\"]],[\"'+'\",\"+\"],[\"E\",1,[\"'1'\",\"1\"]]]]\n";
 
+// A rule of three symbols whose second alternative has no tree, and one that nothing leads to.
+const CHECKED: Given<'static> = Given {
+    words: &["check", "--grammar", "g.slif"],
+    grammar: b"S ::= 'a' | B\nB ::= 'b' B\nC ::=\n",
+    input: b"",
+    ..SUM
+};
+
+const CHECKED_LINES: &[u8] =
+    b"accepted: 4 rules, 2 lexemes, 0 discards\nS\nB unproductive inaccessible\nC nullable inaccessible\n";
+
 const LONG_INPUT: &[u8] = &[b'1'; 1001];
 
 const NOT_BUILT: &[u8] = b"slif: not built yet\n";
@@ -143,21 +154,13 @@ fn answers(rt: HostRuntime) -> Result<(), Fail> {
 
 #[test]
 fn bad_input_is_refused(rt: HostRuntime) -> Result<(), Fail> {
-    let rows: [Given<'static>; 9] = [
-        Given {
-            grammar: b"S ::= T\n",
-            ..SUM
-        },
-        Given {
-            grammar: b"",
-            ..SUM
-        },
+    let rows: [Given<'static>; 8] = [
         Given {
             grammar: b"S ::= 'a' rank => 1\n",
             ..SUM
         },
         Given {
-            grammar: b"S ~ 'a'\n",
+            grammar: b"S ::= A\nA ::= 'a'\n",
             ..SUM
         },
         Given {
@@ -178,6 +181,10 @@ fn bad_input_is_refused(rt: HostRuntime) -> Result<(), Fail> {
         },
         Given {
             words: &["run", "--grammar", "", "--show", "tree"],
+            ..SUM
+        },
+        Given {
+            words: &["check", "--grammar", "-g"],
             ..SUM
         },
     ];
@@ -229,6 +236,151 @@ fn bad_grammars_are_told(rt: HostRuntime) -> Result<(), Fail> {
     for (given, line) in &rows {
         assert!(rt; ends(rt.alloc(), given, 3, b"", line)?);
     }
+    Ok(())
+}
+
+// What is refused of a description, in the order of its refusals.
+const BUILD_ROWS: [(&[u8], &[u8]); 8] = [
+    (
+        b"S ::= 'a' bless => x",
+        b"slif: grammar: bad adverb bless at line 1 column 11\n",
+    ),
+    (
+        b"S ::= 'a' rank => 1 rank => 2",
+        b"slif: grammar: repeated rank at line 1 column 21\n",
+    ),
+    (
+        b"S ::= <no  rule>",
+        b"slif: grammar: no rule for no rule at line 1 column 7\n",
+    ),
+    (
+        b"S ::= 'a'\nS ~ 'b'",
+        b"slif: grammar: S has rules of both levels at line 2 column 1\n",
+    ),
+    (
+        b"S ::= 'a'\n:lexeme ~ S priority => 1",
+        b"slif: grammar: S is not a lexeme at line 2 column 11\n",
+    ),
+    (
+        b"S ::= [z-a]",
+        b"slif: grammar: bad class [z-a] at line 1 column 7\n",
+    ),
+    (
+        b":start ::= S\n:start ::= S\nS ::= 'a'",
+        b"slif: grammar: second start at line 2 column 1\n",
+    ),
+    (
+        b"S ::= 'a' rank => 1000001",
+        b"slif: grammar: number out of range at line 1 column 19\n",
+    ),
+];
+
+// What a check refuses of the structural grammar, and then of the lexical one.
+const CHECK_ROWS: [(&[u8], &[u8]); 9] = [
+    (b"", b"slif: grammar: no rules\n"),
+    (
+        b":start ::= T\nS ::= 'a'",
+        b"slif: grammar: start symbol T has no rule\n",
+    ),
+    (
+        b"S ::= X*\nS ::= 'x'\nX ~ 'a'",
+        b"slif: grammar: S is a sequence and has another rule\n",
+    ),
+    (
+        b"S ::= 'a' | 'a'",
+        b"slif: grammar: rule 1 of S is a duplicate\n",
+    ),
+    (
+        b"S ::= X*\nX ::= 'a'\nX ::=",
+        b"slif: grammar: sequence S has a nullable item or separator\n",
+    ),
+    (
+        b"S ::= 'a' S",
+        b"slif: grammar: start symbol S is unproductive\n",
+    ),
+    (
+        b"P ::= Q\nQ ::= P | 'b'\n",
+        b"slif: grammar: cyclic: P, Q, P\n",
+    ),
+    (
+        b"S ::= x\nx ~ y\ny ~ x",
+        b"slif: lexical grammar: start symbol x is unproductive\n",
+    ),
+    (
+        b"S ::= x\nx ~ y\ny ~ x\ny ~ 'a'",
+        b"slif: lexical grammar: cyclic: x, y, x\n",
+    ),
+];
+
+// Both jobs refuse a grammar alike.
+fn refuse(alloc: Global, grammar: &[u8], line: &[u8]) -> Result<bool, AllocError> {
+    let check = Given { grammar, ..CHECKED };
+    let run = Given { grammar, ..SUM };
+    Ok(ends(alloc, &check, 3, b"", line)? && ends(alloc, &run, 3, b"", line)?)
+}
+
+#[test]
+fn faults_of_descriptions_are_told(rt: HostRuntime) -> Result<(), Fail> {
+    for (grammar, line) in &BUILD_ROWS {
+        assert!(rt; refuse(rt.alloc(), grammar, line)?);
+    }
+    Ok(())
+}
+
+#[test]
+fn a_quoted_text_that_is_too_long_is_told(rt: HostRuntime) -> Result<(), Fail> {
+    let mut grammar = Vec::from_slice(rt.alloc(), b"S ::= '")?;
+    for _ in 0..1001 {
+        grammar.push(b'x')?;
+    }
+    grammar.push(b'\'')?;
+    let line = b"slif: grammar: too long at line 1 column 7\n";
+    assert!(rt; refuse(rt.alloc(), &grammar, line)?);
+    Ok(())
+}
+
+#[test]
+fn faults_of_grammars_are_told(rt: HostRuntime) -> Result<(), Fail> {
+    for (grammar, line) in &CHECK_ROWS {
+        assert!(rt; refuse(rt.alloc(), grammar, line)?);
+    }
+    Ok(())
+}
+
+#[test]
+fn accepted_grammars_are_told(rt: HostRuntime) -> Result<(), Fail> {
+    let alloc = rt.alloc();
+    assert!(rt; ends(alloc, &CHECKED, 0, CHECKED_LINES, b"")?);
+    let unread = Given {
+        input_fails: &[1],
+        ..CHECKED
+    };
+    assert!(rt; ends(alloc, &unread, 0, CHECKED_LINES, b"")?);
+    let spaced = Given {
+        grammar: b":discard ~ white\nwhite ~ [\\s]+\nS ::= <a  list>* separator => comma\ncomma ~ ','\n<a  list> ::= 'x' 'y'\n",
+        ..CHECKED
+    };
+    let lines = b"accepted: 2 rules, 3 lexemes, 1 discards\nS nullable\na list\n";
+    assert!(rt; ends(alloc, &spaced, 0, lines, b"")?);
+    Ok(())
+}
+
+// Each write of what is told fails in turn, and a front of it stands.
+#[test]
+fn writes_of_a_check_fail_in_turn(rt: HostRuntime) -> Result<(), Fail> {
+    for k in 1..100 {
+        let broken = Given {
+            out_fails: &[k],
+            ..CHECKED
+        };
+        let end = run_of(rt.alloc(), &broken)?;
+        if end.status == 0 {
+            return Ok(());
+        }
+        assert!(rt; end.status == 4 && CHECKED_LINES.starts_with(end.out.written()));
+        assert_eq!(rt; end.err.written(), b"slif: write fault\n".as_slice());
+    }
+    assert!(rt; false);
     Ok(())
 }
 

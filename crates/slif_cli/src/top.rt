@@ -1,15 +1,17 @@
 // The top call.
-ghost use Rattle.std.specs.Prelude.{◌≡◌, ◌≤◌, ◌⊎◌, map, string_bytes, OnOk, IfErr};
-ghost use Rattle.slif_base.specs.Told.{SameFiles};
-ghost use Rattle.run_model.specs.Outside.{Outside, stream, disk};
+ghost use Rattle.std.specs.Prelude.{◌≡◌, ◌≤◌, ◌⊎◌, ℕ, List, [], ◌∷◌, Option, map, string_bytes, OnOk, IfErr};
+ghost use Rattle.slif_base.specs.Told.{SameFiles, AsksAmong};
+ghost use Rattle.run_model.specs.Outside.{Outside, Stream, stream, disk};
 ghost use Rattle.run_model.specs.Runs.{Runs, AsksNames, ReadsInput};
-ghost use Rattle.slif_cli.specs.Stops.{Done, WorkStops};
+ghost use Rattle.run_model.specs.Words.{Asks, RunTree as AskedTrees, Check as AskedCheck};
+ghost use Rattle.slif_cli.specs.Stops.{Does, MayHave, WorkStops, DoesJob, JobStops};
 
-use crate::grammar::load_grammar;
+use crate::checking::write_check;
+use crate::grammar::{load_grammar, simple_of};
 use crate::input::derive_input;
 use crate::messages::report;
 use crate::stop::{Refusal, Stop};
-use crate::words::read_words;
+use crate::words::{Job, read_words};
 use slif_base::{Files, Sink, Source, Steps};
 use std::alloc::Global;
 use std::sync::ledger::Ledger;
@@ -55,7 +57,7 @@ fn work<'a, F: Files, I: Source, O: Sink>(
     input: &mut I,
     out: &mut O,
 ) -> Result<(), Stop<'a>>
-    ensures done { OnOk result (Done (map string_bytes words.now) (F.told files.old) (I.left input.old) (O.contents out.old) (O.contents out.new)) }
+    ensures done { OnOk result (Does (MayHave (map string_bytes words.now) (F.told files.old) (I.left input.old)) (O.contents out.old) (O.contents out.new)) }
     ensures stops { IfErr result (WorkStops (map string_bytes words.now)
         (disk F.told F.fault_count files.old) (disk F.told F.fault_count files.new)
         (stream I.left I.fault_count input.old) (stream I.left I.fault_count input.new)
@@ -64,11 +66,56 @@ fn work<'a, F: Files, I: Source, O: Sink>(
     ensures input { (input.new ≡ input.old) ⊎ ReadsInput (map string_bytes words.now) (F.told files.old) }
     ensures held { SameFiles (F.told files.old) (F.told files.new) }
 {
-    let Some(job) = read_words(words) else {
-        return Err(Stop::Refused(Refusal::NotBuilt));
+    match read_words(words) {
+        Some(Job::RunTree { grammar }) => list_trees(alloc, grammar, files, input, out),
+        Some(Job::Check { grammar }) => check_grammar(alloc, grammar, files, out),
+        None => Err(Stop::Refused(Refusal::NotBuilt)),
+    }
+}
+
+// Lists the trees of the input by the grammar of that name.
+fn list_trees<'a, F: Files, I: Source, O: Sink>(
+    alloc: Global,
+    name: &'a str,
+    files: &mut F,
+    input: &mut I,
+    out: &mut O,
+) -> Result<(), Stop<'a>>
+    ensures done { OnOk result (DoesJob (AskedTrees name.now) (F.told files.old) (I.left input.old) (O.contents out.old) (O.contents out.new)) }
+    ensures stops { IfErr result (JobStops (AskedTrees name.now)
+        (disk F.told F.fault_count files.old) (disk F.told F.fault_count files.new)
+        (stream I.left I.fault_count input.old) (stream I.left I.fault_count input.new)
+        (stream O.contents O.fault_count out.old) (stream O.contents O.fault_count out.new)) }
+    ensures asks { AsksAmong (F.asked files.old) (F.asked files.new) (name.now ∷ []) }
+    ensures input { (input.new ≡ input.old) ⊎ ((words : List (List ℕ)) → Asks words (AskedTrees name.now) → ReadsInput words (F.told files.old)) }
+    ensures held { SameFiles (F.told files.old) (F.told files.new) }
+{
+    let loaded = match load_grammar(alloc, name, files) {
+        Ok(loaded) => loaded,
+        Err(stop) => return Err(stop),
     };
-    match load_grammar(alloc, job.grammar, files) {
+    match simple_of(alloc, &loaded.description) {
         Ok(grammar) => derive_input(alloc, &grammar, input, out),
+        Err(stop) => Err(stop),
+    }
+}
+
+// Checks the grammar of that name.
+fn check_grammar<'a, F: Files, O: Sink>(
+    alloc: Global,
+    name: &'a str,
+    files: &mut F,
+    out: &mut O,
+) -> Result<(), Stop<'a>>
+    ensures done { OnOk result ((left : Option (List ℕ)) → DoesJob (AskedCheck name.now) (F.told files.old) left (O.contents out.old) (O.contents out.new)) }
+    ensures stops { IfErr result (λ stop. (input : Stream) → JobStops (AskedCheck name.now)
+        (disk F.told F.fault_count files.old) (disk F.told F.fault_count files.new) input input
+        (stream O.contents O.fault_count out.old) (stream O.contents O.fault_count out.new) stop) }
+    ensures asks { AsksAmong (F.asked files.old) (F.asked files.new) (name.now ∷ []) }
+    ensures held { SameFiles (F.told files.old) (F.told files.new) }
+{
+    match load_grammar(alloc, name, files) {
+        Ok(loaded) => write_check(alloc, &loaded.prepared, out),
         Err(stop) => Err(stop),
     }
 }

@@ -1,38 +1,53 @@
 // The words of the command line.
 ghost use Rattle.std.specs.Prelude.{◌≡◌, ◌↔◌, map, string_bytes, MatchOption, IsTrue, codes};
 ghost use Rattle.run_model.specs.Words.{Asks, AskNothing, IsValue};
-ghost use Rattle.run_model.specs.Words.Job.{RunTree};
+ghost use Rattle.slif_cli.specs.Stops.{job_of};
 
-/// What the words ask for.
-#[derive(Clone, Copy)]
-pub struct Job<'a> {
-    pub grammar: &'a str,
+/// What the words ask for, with the name of the grammar's file.
+#[derive(Clone, Copy, Debug)]
+pub enum Job<'a> {
+    RunTree { grammar: &'a str },
+    Check { grammar: &'a str },
 }
 
 /// The job that the words ask for.
 pub fn read_words(words: &[String]) -> Option<Job<'_>>
     ensures { MatchOption result
         (AskNothing (map string_bytes words.now))
-        (λ job. Asks (map string_bytes words.now) (RunTree job.grammar.now)) }
+        (λ job. Asks (map string_bytes words.now) (job_of job)) }
 {
-    let [job, grammar, file, show, tree] = words else {
-        return None;
-    };
-    if !asks_for_trees(job.as_str(), grammar.as_str(), show.as_str(), tree.as_str()) {
-        return None;
+    match words {
+        [job, option, file] => {
+            let grammar = named_grammar(option.as_str(), file.as_str())?;
+            if job.as_str() == "check" {
+                Some(Job::Check { grammar })
+            } else {
+                None
+            }
+        }
+        [job, option, file, show, tree] => {
+            let grammar = named_grammar(option.as_str(), file.as_str())?;
+            if job.as_str() == "run" && show.as_str() == "--show" && tree.as_str() == "tree" {
+                Some(Job::RunTree { grammar })
+            } else {
+                None
+            }
+        }
+        _ => None,
     }
-    let grammar = file.as_str();
-    if !is_value(grammar) {
-        return None;
-    }
-    Some(Job { grammar })
 }
 
-// Whether the words round the file's name ask for the trees of an input.
-fn asks_for_trees(job: &str, grammar: &str, show: &str, tree: &str) -> bool
-    ensures { IsTrue result ↔ ((job.now ≡ codes "run") × (grammar.now ≡ codes "--grammar") × (show.now ≡ codes "--show") × (tree.now ≡ codes "tree")) }
+// The file that the two words name as the grammar's.
+fn named_grammar<'a>(option: &str, file: &'a str) -> Option<&'a str>
+    ensures { MatchOption result
+        ((option.now ≡ codes "--grammar") → IsValue file.now → ⊥)
+        (λ name. (option.now ≡ codes "--grammar") × IsValue file.now × (name.now ≡ file.now)) }
 {
-    job == "run" && grammar == "--grammar" && show == "--show" && tree == "tree"
+    if option == "--grammar" && is_value(file) {
+        Some(file)
+    } else {
+        None
+    }
 }
 
 // Whether a word can be an option's value.

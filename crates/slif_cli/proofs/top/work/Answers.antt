@@ -1,43 +1,30 @@
-use Rattle.std.proofs.Common.{map, inr, refl}
+use Rattle.std.proofs.Common.{List, map, refl, subst}
 use Rattle.std.specs.Prelude.{string_bytes}
-use Rattle.std.proofs.lemmas.Result.{on_ok_weaker, MatchResult-weaker}
+use Rattle.std.proofs.lemmas.Result.{MatchResult-weaker}
 use Rattle.slif_base.proofs.Bytes.{appends_none}
-use Rattle.run_model.specs.Words.Job.{RunTree}
-use Rattle.run_model.specs.Outside.{stream, disk}
-use Rattle.slif_cli.proofs.Working.{not_asked, done_from, input_stops, reads_input, grammar_stops, asks_names}
+use Rattle.run_model.specs.Words.{Asks}
+use Rattle.run_model.specs.Words.Job.{RunTree, Check}
+use Rattle.run_model.specs.Outside.{stream}
+use Rattle.slif_cli.specs.Stops.{job_of}
+use Rattle.slif_cli.specs.declared.words.Job.{Job}
+use Rattle.slif_cli.proofs.Working.{not_asked, asks_names}
 use Rattle.slif_cli.proofs.top.work.Goals as goal
 
-pub returns-in_default-clause-stops : goal.returns-in_default-clause-stops
-returns-in_default-clause-stops g c = (not_asked (map string_bytes c.args.words.now) (g.F.Files.told c.args.files.now) _ c.in_default.ensures, appends_none _)
+pub returns-in-Some-RunTree-clause-asks : goal.returns-in-Some-RunTree-clause-asks
+returns-in-Some-RunTree-clause-asks g c =
+    let asks = subst (λ (j : Job). Asks (map string_bytes c.args.words.now) (job_of j)) c.in-Some-RunTree.field-0-is c.in-Some-RunTree.ensures in
+    asks_names (map string_bytes c.args.words.now) (RunTree c.in-Some-RunTree.grammar.now) asks (g.F.Files.told c.args.files.now) (g.I.Source.left c.args.input.now) c.in-Some-RunTree.grammar.now refl _ _ c.list_trees.ensures.asks
 
-pub returns-in-Ok-clause-done : goal.returns-in-Ok-clause-done
-returns-in-Ok-clause-done g c =
-    on_ok_weaker c.derive_input.result
-    (done_from (map string_bytes c.args.words.now) (RunTree c.in-Some.job.grammar.now) c.in-Some.ensures (g.F.Files.told c.args.files.now) (g.I.Source.left c.args.input.now) c.in-Some.job.grammar.now refl refl c.in-Ok.grammar c.in-Ok.ensures.read _ _)
-    c.derive_input.ensures.derives
+pub returns-in-Some-Check-clause-stops : goal.returns-in-Some-Check-clause-stops
+returns-in-Some-Check-clause-stops g c =
+    let asks = subst (λ (j : Job). Asks (map string_bytes c.args.words.now) (job_of j)) c.in-Some-Check.field-0-is c.in-Some-Check.ensures in
+    MatchResult-weaker c.check_grammar.result c.check_grammar.ensures.stops (λ _ x. x)
+    (λ stop stops. stops (stream g.I.Source.left g.I.Source.fault_count c.args.input.now) (map string_bytes c.args.words.now) asks)
 
-pub returns-in-Ok-clause-stops : goal.returns-in-Ok-clause-stops
-returns-in-Ok-clause-stops g c =
-    MatchResult-weaker c.derive_input.result c.derive_input.ensures.stops (λ _ x. x)
-    (λ stop. input_stops (map string_bytes c.args.words.now) (RunTree c.in-Some.job.grammar.now) c.in-Some.ensures (g.F.Files.told c.args.files.now) (g.I.Source.left c.args.input.now) c.in-Some.job.grammar.now refl refl c.in-Ok.grammar c.in-Ok.ensures.read
-    (g.F.Files.fault_count c.args.files.now) (g.I.Source.fault_count c.args.input.now)
-    (disk g.F.Files.told g.F.Files.fault_count c.load_grammar.new.files)
-    (stream g.I.Source.left g.I.Source.fault_count c.derive_input.new.input)
-    (stream g.O.Sink.contents g.O.Sink.fault_count c.args.out.now)
-    (stream g.O.Sink.contents g.O.Sink.fault_count c.derive_input.new.out) stop)
+pub returns-in-Some-Check-clause-asks : goal.returns-in-Some-Check-clause-asks
+returns-in-Some-Check-clause-asks g c =
+    let asks = subst (λ (j : Job). Asks (map string_bytes c.args.words.now) (job_of j)) c.in-Some-Check.field-0-is c.in-Some-Check.ensures in
+    asks_names (map string_bytes c.args.words.now) (Check c.in-Some-Check.grammar.now) asks (g.F.Files.told c.args.files.now) (g.I.Source.left c.args.input.now) c.in-Some-Check.grammar.now refl _ _ c.check_grammar.ensures.asks
 
-pub returns-in-Ok-clause-asks : goal.returns-in-Ok-clause-asks
-returns-in-Ok-clause-asks g c = asks_names (map string_bytes c.args.words.now) (RunTree c.in-Some.job.grammar.now) c.in-Some.ensures (g.F.Files.told c.args.files.now) (g.I.Source.left c.args.input.now) c.in-Some.job.grammar.now refl refl _ _ c.in-Ok.ensures.asks
-
-pub returns-in-Ok-clause-input : goal.returns-in-Ok-clause-input
-returns-in-Ok-clause-input g c =
-    inr (reads_input (map string_bytes c.args.words.now) (RunTree c.in-Some.job.grammar.now) c.in-Some.ensures (g.F.Files.told c.args.files.now) (g.I.Source.left c.args.input.now) c.in-Some.job.grammar.now refl refl c.in-Ok.grammar c.in-Ok.ensures.read)
-
-pub returns-in-Err-clause-stops : goal.returns-in-Err-clause-stops
-returns-in-Err-clause-stops g c =
-    grammar_stops (map string_bytes c.args.words.now) (RunTree c.in-Some.job.grammar.now) c.in-Some.ensures (g.F.Files.told c.args.files.now) (g.I.Source.left c.args.input.now) c.in-Some.job.grammar.now refl refl
-    (g.F.Files.fault_count c.args.files.now) (disk g.F.Files.told g.F.Files.fault_count c.load_grammar.new.files) (g.I.Source.fault_count c.args.input.now)
-    (stream g.O.Sink.contents g.O.Sink.fault_count c.args.out.now) c.in-Err.stop c.in-Err.ensures.stops
-
-pub returns-in-Err-clause-asks : goal.returns-in-Err-clause-asks
-returns-in-Err-clause-asks g c = asks_names (map string_bytes c.args.words.now) (RunTree c.in-Some.job.grammar.now) c.in-Some.ensures (g.F.Files.told c.args.files.now) (g.I.Source.left c.args.input.now) c.in-Some.job.grammar.now refl refl _ _ c.in-Err.ensures.asks
+pub returns-in-None-clause-stops : goal.returns-in-None-clause-stops
+returns-in-None-clause-stops g c = (not_asked (map string_bytes c.args.words.now) (g.F.Files.told c.args.files.now) _ c.in-None.ensures, appends_none _)

@@ -1,7 +1,7 @@
 use Rattle.std.proofs.Common.{subst}
-use Rattle.scanless.specs.Tables.{AreTables}
-use Rattle.scanless.proofs.Ranges.{are_tables}
+use Rattle.dsl_build.specs.Ranges.{IsInRange}
+use Rattle.dsl_build.proofs.Ranging.{built_ranges}
 use Rattle.scanless.proofs.prepared.Prepared.known.Goals as goal
 
-pub returns-clause-tables : goal.returns-clause-tables
-returns-clause-tables c = subst AreTables c.self.view_is (are_tables c.self.inside.built c.self.invariant.built)
+pub returns-clause-ranges : goal.returns-clause-ranges
+returns-clause-ranges c = subst IsInRange c.self.view_is (built_ranges c.self.invariant.built.0 c.self.inside.built c.self.invariant.built.1)

@@ -1,0 +1,49 @@
+-- What a run needs to know of grammars, from the laws of grammars and of checks.
+use Rattle.std.proofs.Common.{◌≡◌, ◌↔◌, ℕ, Bool, true, IsTrue, List, [], ◌∷◌, inl, inr, refl, sym, subst}
+use Rattle.grammar_model.specs.Grammar.{Grammar, Slot, slot_of}
+use Rattle.grammar_model.specs.Analysis.{IsNullable, IsProductive, IsAccessible}
+use Rattle.finite_sets.specs.Decided.{IsDecided}
+use Rattle.finite_sets.proofs.Deciding.{both, one_of, moved, equal, test_of, test_true, true_test}
+use Rattle.finite_sets.proofs.Members.{Among}
+use Rattle.grammar_laws.proofs.Slots.{slots}
+use Rattle.grammar_laws.proofs.Tests.{nullable_decided, productive_decided, accessible_decided, accessible_member}
+use Rattle.grammar_laws.proofs.Checks.{checks_decide}
+use Rattle.grammar_laws.proofs.Flats.{rules_are_counted}
+use Rattle.grammar_check.proofs.Uniqueness.{not_refused, one_refusal}
+use Rattle.reading_model.proofs.Accepting.{CheckLaws}
+use Rattle.run_model.specs.Checking.{SymbolRow, IsRowOf}
+use Rattle.run_model.proofs.Texts.{RunLaws}
+use Rattle.slif_cli.proofs.LanguageLaws.{text_laws}
+
+some_slot : (P : Slot → Type 0) → ((s : Slot) → IsDecided (P s)) → (xs : List Slot) → IsDecided ((s : Slot) × Among s xs × P s)
+some_slot P d [] = inr (λ (s, m, p). m)
+some_slot P d (x ∷ xs) =
+    moved (λ some. elim some [ inl p ↦ (x, inl refl, p) | inr (s, m, p) ↦ (s, inr m, p) ])
+    (λ (s, m, p). elim m [ inl e ↦ inl (subst P (sym e) p) | inr n ↦ inr (s, n, p) ])
+    (one_of (d x) (some_slot P d xs))
+
+abbrev IsReached : Grammar → ℕ → Type 0
+IsReached g s = (level : ℕ) × IsAccessible g (record { symbol = s; level = level })
+
+-- a symbol is accessible at some level, or at none
+reached_decided : (g : Grammar) (s : ℕ) → IsDecided (IsReached g s)
+reached_decided g s =
+    moved (λ (t, m, (e, a)). (t.level, subst (λ (x : ℕ). IsAccessible g (record { symbol = x; level = t.level })) e a))
+    (λ (level, a). (record { symbol = s; level = level }, accessible_member g (record { symbol = s; level = level }) a, (refl, a)))
+    (some_slot (λ t. (t.symbol ≡ s) × IsAccessible g t) (λ t. both (equal t.symbol s) (accessible_decided g t)) (slots g))
+
+row : (g : Grammar) (s : ℕ) → (row : SymbolRow) × (row.symbol ≡ s) × IsRowOf g row
+row g s =
+    let n = nullable_decided g (slot_of s) in
+    let p = productive_decided g (slot_of s) in
+    let a = reached_decided g s in (
+      record { symbol = s; nullable = test_of n; productive = test_of p; accessible = test_of a },
+      refl,
+      record { nullable = (true_test n, test_true n); productive = (true_test p, test_true p); accessible = (true_test a, test_true a) },
+    )
+
+pub check_laws : CheckLaws
+check_laws = record { decided = checks_decide; not_both = not_refused; one_refusal = one_refusal; counted = rules_are_counted }
+
+pub run_laws : RunLaws
+run_laws = record { texts = text_laws; checks = check_laws; row = row }

@@ -1,0 +1,5 @@
+//! Tests that go through several crates. There is nothing else here.
+#![tactic(auto)]
+
+#[cfg(test)]
+mod levels;
