@@ -28,7 +28,8 @@ pub fn forests_apply()
     ensures { ForestsApply }
 {}
 
-/// A walk through a forest, which goes on from the last choice that has a later option, comes to each derivation once, in the declared order.
+/// The root's goals stand for the steps of all flat derivations, in order; and what stands before a walk, which goes on from its last
+/// choice that has a later option, changes by nothing but the steps that it gives.
 pub fn forests_are_walked()
     ensures { ForestsAreWalked }
 {}
