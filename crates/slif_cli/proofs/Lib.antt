@@ -9,4 +9,3 @@ pub mod Deriving
 pub mod Working
 pub mod Ending
 pub mod Spelling
-pub mod Asking

@@ -1,5 +1,6 @@
 -- What is known where a part of the work stops.
-use Rattle.std.specs.Prelude.{◌≡◌, ℕ, List, [], ◌∷◌, ◌++◌, ◌⊎◌, Option, Some, None, ⊤, ◌<◌, length, map, codes}
+use Rattle.std.specs.Prelude.{◌≡◌, ℕ, List, [], ◌∷◌, ◌++◌, ◌⊎◌, Option, Some, None, ⊤, ◌<◌, length, map, codes, decimal, option_copied, IsUtf8}
+use Rattle.std.specs.Str.{IsValidUpTo}
 use Rattle.std.specs.List.{concat}
 use Rattle.std.specs.Io.KnownBytes.{Appends}
 use Rattle.slif_base.specs.Causes.{Rose}
@@ -14,25 +15,27 @@ use Rattle.language_model.specs.Simple.{SimpleLine, IsSimpleDescription}
 use Rattle.language_model.specs.Texts.{HasDescription, IsBuiltOf}
 use Rattle.reading_model.specs.Accepted.{GrammarFault, HasGrammarFault}
 use Rattle.run_model.specs.Words as model
-use Rattle.run_model.specs.Words.{Asks}
+use Rattle.run_model.specs.Words.{Asks, InputFrom}
+use Rattle.run_model.specs.Words.InputFrom.{Nowhere, StandardInput, FileNamed}
 use Rattle.run_model.specs.Texts.{place_text}
 use Rattle.run_model.specs.Refused.{Accepted, IsRefused, build_text, grammar_text}
 use Rattle.run_model.specs.Checking as checks
 use Rattle.run_model.specs.Outcome.{Outcome, IsInputOutcome, not_built, no_derivation, done, refused}
 use Rattle.run_model.specs.Outside.{Stream, Disk}
-use Rattle.run_model.specs.Runs.{MayEnd, MayOpen, fault_line, memory_line}
+use Rattle.run_model.specs.Runs.{MayEnd, MayOpen, InputMayBe, fault_line, memory_line}
 use Rattle.run_model.specs.Runs.Fault.{CannotOpen, CannotRead, CannotWrite}
 use Rattle.slif_cli.specs.declared.words.Job.{Job}
-use Rattle.slif_cli.specs.declared.words.Job.TheVariants.{RunTree, Check}
+use Rattle.slif_cli.specs.declared.words.Job.TheVariants.{RunTree, Check, Expect}
 use Rattle.slif_cli.specs.declared.checking.SymbolRow.{SymbolRow}
 use Rattle.slif_cli.specs.declared.stop.Refusal.{Refusal}
-use Rattle.slif_cli.specs.declared.stop.Refusal.TheVariants.{NotBuilt, NoDerivation, Grammar as BadGrammar}
+use Rattle.slif_cli.specs.declared.stop.Refusal.TheVariants.{NotBuilt, NoDerivation, Grammar as BadGrammar, Input as BadInput}
 use Rattle.slif_cli.specs.declared.stop.Stop.{Stop}
 use Rattle.slif_cli.specs.declared.stop.Stop.TheVariants.{Refused, OpenFault, ReadFault, WriteFault, NoMemory}
 
 abbrev pub job_of : Job → model.Job
 job_of (RunTree grammar) = model.RunTree grammar.now
 job_of (Check grammar) = model.Check grammar.now
+job_of (Expect grammar input) = model.Expect grammar.now (option_copied input)
 
 abbrev pub told_row : SymbolRow → checks.SymbolRow
 told_row r = record { symbol = r.symbol; nullable = r.nullable; productive = r.productive; accessible = r.accessible }
@@ -41,6 +44,7 @@ abbrev pub refusal_outcome : Refusal → Outcome
 refusal_outcome NotBuilt = not_built
 refusal_outcome NoDerivation = no_derivation
 refusal_outcome (BadGrammar text) = refused 3 text.items
+refusal_outcome (BadInput text) = refused 1 text.items
 
 -- THE GRAMMAR
 
@@ -49,6 +53,7 @@ abbrev pub TellsText : (List ℕ → Type 0) → Stop → Type 0
 TellsText P (Refused NotBuilt) = ⊥
 TellsText P (Refused NoDerivation) = ⊥
 TellsText P (Refused (BadGrammar text)) = P text.items
+TellsText P (Refused (BadInput text)) = ⊥
 TellsText P (OpenFault name) = ⊥
 TellsText P ReadFault = ⊥
 TellsText P WriteFault = ⊥
@@ -64,6 +69,7 @@ abbrev pub LoadStops : List ℕ → ToldFile → ℕ → ℕ → Stop → Type 0
 LoadStops name told before after (Refused NotBuilt) = ⊥
 LoadStops name told before after (Refused NoDerivation) = ⊥
 LoadStops name told before after (Refused (BadGrammar text)) = FileHolds told (λ bytes. IsRefused bytes text.items)
+LoadStops name told before after (Refused (BadInput text)) = ⊥
 LoadStops name told before after (OpenFault asked) = Rose before after × (asked.now ≡ name)
 LoadStops name told before after ReadFault = Rose before after
 LoadStops name told before after WriteFault = ⊥
@@ -102,6 +108,7 @@ abbrev pub SimpleStops : List Statement → Stop → Type 0
 SimpleStops d (Refused NotBuilt) = (lines : List SimpleLine) → IsSimpleDescription d lines → ⊥
 SimpleStops d (Refused NoDerivation) = ⊥
 SimpleStops d (Refused (BadGrammar text)) = ⊥
+SimpleStops d (Refused (BadInput text)) = ⊥
 SimpleStops d (OpenFault name) = ⊥
 SimpleStops d ReadFault = ⊥
 SimpleStops d WriteFault = ⊥
@@ -111,6 +118,76 @@ SimpleStops d NoMemory = ⊤
 pub record IsListable (g : Grammar) : Type 0 where
   pub simple : IsSimple g
   pub started : 0 < length g.starts
+
+-- THE INPUT
+
+-- bytes that may be those of the input have P
+pub record InputHolds (from : InputFrom) (file : List ℕ → ToldFile) (left : Option (List ℕ)) (P : List ℕ → Type 0) : Type 0 where
+  pub bytes : List ℕ
+  pub may_be : InputMayBe from file left bytes
+  pub holds : P bytes
+
+-- the names of the files that are opened for the input
+abbrev pub names_from : InputFrom → List (List ℕ)
+names_from Nowhere = []
+names_from StandardInput = []
+names_from (FileNamed name) = name ∷ []
+
+-- where the bytes of the input were not read
+abbrev pub ReadStops : (from : InputFrom) → (List ℕ → ToldFile) → Option (List ℕ) → (Files Input : Type 0) → Stop → Type 0
+ReadStops from file left Files Input (Refused NotBuilt) = ⊥
+ReadStops from file left Files Input (Refused NoDerivation) = ⊥
+ReadStops from file left Files Input (Refused (BadGrammar text)) = ⊥
+ReadStops from file left Files Input (Refused (BadInput text)) =
+    (text.items ≡ codes "input is longer than 16777216 bytes") × InputHolds from file left (λ bytes. 16777216 < length bytes)
+ReadStops from file left Files Input (OpenFault name) = Files × (from ≡ FileNamed name.now)
+ReadStops from file left Files Input ReadFault = Files ⊎ Input
+ReadStops from file left Files Input WriteFault = ⊥
+ReadStops from file left Files Input NoMemory = ⊤
+
+-- where those of a file were not read
+abbrev pub FileStops : List ℕ → ToldFile → (Files : Type 0) → Stop → Type 0
+FileStops name told Files (Refused NotBuilt) = ⊥
+FileStops name told Files (Refused NoDerivation) = ⊥
+FileStops name told Files (Refused (BadGrammar text)) = ⊥
+FileStops name told Files (Refused (BadInput text)) = (text.items ≡ codes "input is longer than 16777216 bytes") × FileHolds told (λ bytes. 16777216 < length bytes)
+FileStops name told Files (OpenFault asked) = Files × (asked.now ≡ name)
+FileStops name told Files ReadFault = Files
+FileStops name told Files WriteFault = ⊥
+FileStops name told Files NoMemory = ⊤
+
+-- where those of the standard input were not read
+abbrev pub SourceStops : Option (List ℕ) → (Input : Type 0) → Stop → Type 0
+SourceStops left Input (Refused NotBuilt) = ⊥
+SourceStops left Input (Refused NoDerivation) = ⊥
+SourceStops left Input (Refused (BadGrammar text)) = ⊥
+SourceStops left Input (Refused (BadInput text)) = (text.items ≡ codes "input is longer than 16777216 bytes") × Holds left (λ bytes. 16777216 < length bytes)
+SourceStops left Input (OpenFault name) = ⊥
+SourceStops left Input ReadFault = Input
+SourceStops left Input WriteFault = ⊥
+SourceStops left Input NoMemory = ⊤
+
+-- a text of which P holds is told of the input, or there is no memory
+abbrev pub TellsInput : (List ℕ → Type 0) → Stop → Type 0
+TellsInput P (Refused NotBuilt) = ⊥
+TellsInput P (Refused NoDerivation) = ⊥
+TellsInput P (Refused (BadGrammar text)) = ⊥
+TellsInput P (Refused (BadInput text)) = P text.items
+TellsInput P (OpenFault name) = ⊥
+TellsInput P ReadFault = ⊥
+TellsInput P WriteFault = ⊥
+TellsInput P NoMemory = ⊤
+
+-- the text tells where the bytes are not UTF-8
+pub record IsBrokenText (bytes text : List ℕ) : Type 0 where
+  pub at : ℕ
+  pub broken : ¬ (IsUtf8 bytes)
+  pub front : IsValidUpTo bytes at
+  pub told : text ≡ codes "input is not UTF-8 at byte " ++ decimal at
+
+-- an outcome over what may be the input
+abbrev pub MayRead : (List ℕ → Outcome → Type 0) → (from : InputFrom) → (List ℕ → ToldFile) → Option (List ℕ) → Outcome → Type 0
+MayRead P from file left outcome = InputHolds from file left (λ bytes. P bytes outcome)
 
 -- OUTCOMES. One of those with P comes about.
 

@@ -4,6 +4,7 @@
 mod checking;
 mod grammar;
 mod input;
+mod inputs;
 mod laws;
 mod messages;
 mod refusals;

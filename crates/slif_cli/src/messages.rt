@@ -56,7 +56,7 @@ fn refusal_line(alloc: Global, refusal: &Refusal) -> Result<Vec<u8>, AllocError>
     match refusal {
         Refusal::NotBuilt => Vec::from_slice(alloc, b"slif: not built yet\n"),
         Refusal::NoDerivation => Vec::from_slice(alloc, b"slif: no derivation\n"),
-        Refusal::Grammar { text } => message(alloc, text),
+        Refusal::Grammar { text } | Refusal::Input { text } => message(alloc, text),
     }
 }
 
@@ -75,7 +75,7 @@ fn refusal_status(refusal: &Refusal) -> u8
 {
     match refusal {
         Refusal::NotBuilt => 6,
-        Refusal::NoDerivation => 1,
+        Refusal::NoDerivation | Refusal::Input { .. } => 1,
         Refusal::Grammar { .. } => 3,
     }
 }

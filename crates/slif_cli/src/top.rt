@@ -69,6 +69,7 @@ fn work<'a, F: Files, I: Source, O: Sink>(
     match read_words(words) {
         Some(Job::RunTree { grammar }) => list_trees(alloc, grammar, files, input, out),
         Some(Job::Check { grammar }) => check_grammar(alloc, grammar, files, out),
+        Some(Job::Expect { .. }) => Err(Stop::NoMemory),
         None => Err(Stop::Refused(Refusal::NotBuilt)),
     }
 }
