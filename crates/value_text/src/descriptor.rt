@@ -175,12 +175,19 @@ impl From<AllocError> for DescriptorRefusal {
     }
 }
 
+// The characters of the text.
+fn chars_of(alloc: Global, text: &str) -> Result<Vec<char>, AllocError>
+    ensures { IfOk result (λ v. v.items ≡ chars text.now) }
+{
+    text.chars().collect(alloc)
+}
+
 /// The action that the text tells: `::array`, `::first`, `::undef`, or items in brackets, parted by commas.
 pub fn read_descriptor(alloc: Global, text: &str) -> Result<Action, DescriptorRefusal>
     ensures ok { IfOk result (λ action. actions.action_of (chars text.now) ≡ Some (action_of action)) }
     ensures bad_item { IfErr result (λ refusal. refusal ≡ BadItem → actions.action_of (chars text.now) ≡ None) }
 {
-    let text: Vec<char> = text.chars().collect(alloc)?;
+    let text = chars_of(alloc, text)?;
     match action_of(alloc, &text)? {
         Some(action) => Ok(action),
         None => Err(DescriptorRefusal::BadItem),
