@@ -1,22 +1,16 @@
--- The words ask for one job.
-use Rattle.std.proofs.Common.{◌≡◌, ℕ, List, Some, None, ap}
-use Rattle.run_model.specs.Words.{Job, Asks}
-use Rattle.run_model.specs.Words.Job.{RunTree, Check, Expect}
+-- The words ask for one job, or for none.
+use Rattle.std.proofs.Common.{◌≡◌, ℕ, List, Option, Some, None, ◌⊎◌, inl, inr, refl, sym, ◌∙◌}
+use Rattle.run_model.specs.Words.{Job, Asks, AskNothing, job_asked}
 
 pub asks_once : (words : List (List ℕ)) (a b : Job) → Asks words a → Asks words b → a ≡ b
-asks_once words (RunTree x) (RunTree y) p q = let same : x ≡ y = cc (p.0, q.0) in ap RunTree same
-asks_once words (RunTree x) (Check y) p q = absurd (cc (p.0, q.0))
-asks_once words (RunTree x) (Expect y None) p q = absurd (cc (p.0, q.0))
-asks_once words (RunTree x) (Expect y (Some i)) p q = absurd (cc (p.0, q.0))
-asks_once words (Check x) (RunTree y) p q = absurd (cc (p.0, q.0))
-asks_once words (Check x) (Check y) p q = let same : x ≡ y = cc (p.0, q.0) in ap Check same
-asks_once words (Check x) (Expect y None) p q = absurd (cc (p.0, q.0))
-asks_once words (Check x) (Expect y (Some i)) p q = absurd (cc (p.0, q.0))
-asks_once words (Expect x None) (RunTree y) p q = absurd (cc (p.0, q.0))
-asks_once words (Expect x None) (Check y) p q = absurd (cc (p.0, q.0))
-asks_once words (Expect x None) (Expect y None) p q = let same : x ≡ y = cc (p.0, q.0) in ap (λ n. Expect n None) same
-asks_once words (Expect x None) (Expect y (Some i)) p q = absurd (cc (p.0, q.0))
-asks_once words (Expect x (Some i)) (RunTree y) p q = absurd (cc (p.0, q.0))
-asks_once words (Expect x (Some i)) (Check y) p q = absurd (cc (p.0, q.0))
-asks_once words (Expect x (Some i)) (Expect y None) p q = absurd (cc (p.0, q.0))
-asks_once words (Expect x (Some i)) (Expect y (Some j)) p q = let one : x ≡ y = cc (p.0, q.0) in let two : i ≡ j = cc (p.0, q.0) in cc (one, two)
+asks_once words a b p q = let same : Some a ≡ Some b = sym p ∙ q in cc same
+
+pub asks_or_not : (words : List (List ℕ)) → ((job : Job) × Asks words job) ⊎ AskNothing words
+asks_or_not words = by (job_asked words) refl
+  where
+    by : (o : Option Job) → job_asked words ≡ o → ((job : Job) × Asks words job) ⊎ AskNothing words
+    by None e = inr e
+    by (Some job) e = inl (job, e)
+
+pub not_both : (words : List (List ℕ)) (job : Job) → Asks words job → AskNothing words → ⊥
+not_both words job asks none = let e : Some job ≡ None = sym asks ∙ none in cc e

@@ -13,7 +13,7 @@ use Rattle.run_model.specs.Runs.{Supplied, MayEnd}
 use Rattle.run_model.specs.Laws.{TellsFiles}
 use Rattle.run_model.proofs.Texts.{RunLaws}
 use Rattle.run_model.proofs.Accepted.{one_built, one_refused, not_refused}
-use Rattle.run_model.proofs.Asked.{asks_once}
+use Rattle.run_model.proofs.Asked.{asks_once, not_both}
 use Rattle.run_model.proofs.Checked.{one_check}
 use Rattle.run_model.proofs.Inputs.{one_expect}
 use Rattle.run_model.proofs.Outcomes.{one_run_outcome}
@@ -64,8 +64,8 @@ module _ (laws : RunLaws) (words : List (List ℕ)) (file : List ℕ → ToldFil
   one_of_two : (grammar grammar' x y : List ℕ) (a b : Outcome) → Supplied words file (Some known) grammar x → Supplied words file (Some known) grammar' y
       → IsOutcome words grammar x a → IsOutcome words grammar' y b → a ≡ b
   one_of_two grammar grammar' x y a b p q (WordsNotBuilt none is) (WordsNotBuilt none' is') = is ∙ sym is'
-  one_of_two grammar grammar' x y a b p q (WordsNotBuilt none is) (OfJob job asks of) = absurd (none job asks)
-  one_of_two grammar grammar' x y a b p q (OfJob job asks of) (WordsNotBuilt none is) = absurd (none job asks)
+  one_of_two grammar grammar' x y a b p q (WordsNotBuilt none is) (OfJob job asks of) = absurd (not_both words job asks none)
+  one_of_two grammar grammar' x y a b p q (OfJob job asks of) (WordsNotBuilt none is) = absurd (not_both words job asks none)
   one_of_two grammar grammar' x y a b p q (OfJob job asks of) (OfJob job' asks' of') =
       let same : grammar' ≡ grammar = same_grammar job asks grammar' grammar (q.grammar_held job asks) (p.grammar_held job asks) in
       let of_job : IsJobOutcome job grammar' y b = subst (λ (j : Job). IsJobOutcome j grammar' y b) (sym (asks_once words job job' asks asks')) of' in

@@ -17,7 +17,7 @@ use Rattle.run_model.specs.Outcome.IsOutcome.{WordsNotBuilt, OfJob}
 use Rattle.run_model.specs.Outcome.IsJobOutcome.{GrammarRefused, GrammarAccepted}
 use Rattle.run_model.specs.Outcome.IsRunOutcome.{GrammarNotBuilt, OverSimple}
 use Rattle.run_model.specs.Outcome.IsInputOutcome.{InputNotBuilt, NoDerivation, Derived}
-use Rattle.run_model.proofs.Asked.{asks_once}
+use Rattle.run_model.proofs.Asked.{asks_once, not_both}
 use Rattle.run_model.proofs.Texts.{RunLaws}
 use Rattle.run_model.proofs.Accepted.{one_built, one_refused, not_refused, one_grammar, built_or_not}
 use Rattle.run_model.proofs.Checked.{one_check}
@@ -66,7 +66,7 @@ module _ (laws : RunLaws) where
 
   pub one_of_all : (words : List (List ℕ)) (grammar input : List ℕ) (a b : Outcome) → IsOutcome words grammar input a → IsOutcome words grammar input b → a ≡ b
   one_of_all words grammar input a b (WordsNotBuilt none is) (WordsNotBuilt none' is') = is ∙ sym is'
-  one_of_all words grammar input a b (WordsNotBuilt none is) (OfJob job asks of) = absurd (none job asks)
-  one_of_all words grammar input a b (OfJob job asks of) (WordsNotBuilt none is) = absurd (none job asks)
+  one_of_all words grammar input a b (WordsNotBuilt none is) (OfJob job asks of) = absurd (not_both words job asks none)
+  one_of_all words grammar input a b (OfJob job asks of) (WordsNotBuilt none is) = absurd (not_both words job asks none)
   one_of_all words grammar input a b (OfJob job asks of) (OfJob job' asks' of') =
       one_job_outcome job grammar input a b of (subst (λ (j : Job). IsJobOutcome j grammar input b) (sym (asks_once words job job' asks asks')) of')

@@ -14,12 +14,14 @@ use Rattle.language_model.specs.Building.{Built, BuildFault, faults_of}
 use Rattle.language_model.specs.Simple.{SimpleLine, IsSimpleDescription}
 use Rattle.language_model.specs.Texts.{HasDescription, IsBuiltOf}
 use Rattle.reading_model.specs.Accepted.{GrammarFault, HasGrammarFault}
+use Rattle.reading_model.specs.Reading.{Piece, Stopped, IsReading}
 use Rattle.run_model.specs.Words as model
 use Rattle.run_model.specs.Words.{Asks, InputFrom}
 use Rattle.run_model.specs.Words.InputFrom.{Nowhere, StandardInput, FileNamed}
 use Rattle.run_model.specs.Texts.{place_text}
 use Rattle.run_model.specs.Refused.{Accepted, IsRefused, build_text, grammar_text}
 use Rattle.run_model.specs.Checking as checks
+use Rattle.run_model.specs.Inputs.{stop_text}
 use Rattle.run_model.specs.Outcome.{Outcome, IsInputOutcome, not_built, no_derivation, done, refused}
 use Rattle.run_model.specs.Outside.{Stream, Disk}
 use Rattle.run_model.specs.Runs.{MayEnd, MayOpen, InputMayBe, fault_line, memory_line}
@@ -184,6 +186,15 @@ pub record IsBrokenText (bytes text : List ℕ) : Type 0 where
   pub broken : ¬ (IsUtf8 bytes)
   pub front : IsValidUpTo bytes at
   pub told : text ≡ codes "input is not UTF-8 at byte " ++ decimal at
+
+-- the text tells where reading these characters stops
+pub record IsStopText (b : Built) (cs text : List ℕ) : Type 0 where
+  pub pieces : List Piece
+  pub at : ℕ
+  pub found : List ℕ
+  pub expected : List ℕ
+  pub reading : IsReading b cs pieces (Stopped at found expected)
+  pub told : text ≡ stop_text b.g1 cs at found expected
 
 -- an outcome over what may be the input
 abbrev pub MayRead : (List ℕ → Outcome → Type 0) → (from : InputFrom) → (List ℕ → ToldFile) → Option (List ℕ) → Outcome → Type 0

@@ -39,8 +39,8 @@ pub fn write_check<'a, O: Sink>(
     write_lines(&lines, out)
 }
 
-// Writes lines, one piece each.
-fn write_lines<'a, O: Sink>(lines: &[Vec<u8>], out: &mut O) -> Result<(), Stop<'a>>
+/// Writes lines, one piece each.
+pub fn write_lines<'a, O: Sink>(lines: &[Vec<u8>], out: &mut O) -> Result<(), Stop<'a>>
     ensures written { OnOk result (Appends (O.contents out.old) (O.contents out.new) (concat (map (λ l. l.items) lines.now))) }
     ensures stops { IfErr result (LinesStop (map (λ l. l.items) lines.now)
         (stream O.contents O.fault_count out.old) (stream O.contents O.fault_count out.new)) }

@@ -2,11 +2,13 @@
 #![tactic(auto)]
 
 mod checking;
+mod expecting;
 mod grammar;
 mod input;
 mod inputs;
 mod laws;
 mod messages;
+mod reading;
 mod refusals;
 mod stop;
 #[cfg(test)]

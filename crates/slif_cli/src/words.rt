@@ -1,6 +1,7 @@
 // The words of the command line.
-ghost use Rattle.std.specs.Prelude.{◌≡◌, ◌↔◌, map, string_bytes, MatchOption, IsTrue, codes};
-ghost use Rattle.run_model.specs.Words.{Asks, AskNothing, IsValue};
+ghost use Rattle.std.specs.Prelude.{◌≡◌, ◌≤◌, map, string_bytes, option_map, IsTrue, Some, ◌∷◌, length, drop};
+ghost use Rattle.run_model.specs.Words as model;
+ghost use Rattle.run_model.specs.Words.{job_asked, job_named, check_asked, expect_asked, run_asked};
 ghost use Rattle.slif_cli.specs.Stops.{job_of};
 
 /// What the words ask for, with the names of the files.
@@ -14,58 +15,61 @@ pub enum Job<'a> {
 
 /// The job that the words ask for.
 pub fn read_words(words: &[String]) -> Option<Job<'_>>
-    ensures { MatchOption result
-        (AskNothing (map string_bytes words.now))
-        (λ job. Asks (map string_bytes words.now) (job_of job)) }
+    ensures { option_map job_of result ≡ job_asked (map string_bytes words.now) }
 {
-    match words {
-        [job, option, file] => {
-            let grammar = named_grammar(option.as_str(), file.as_str())?;
-            if job.as_str() == "check" {
-                Some(Job::Check { grammar })
-            } else if job.as_str() == "expect" {
-                let input = None;
-                Some(Job::Expect { grammar, input })
-            } else {
-                None
-            }
-        }
-        [job, option, file, other, value] => {
-            let grammar = named_grammar(option.as_str(), file.as_str())?;
-            if job.as_str() == "run" && other.as_str() == "--show" && value.as_str() == "tree" {
-                Some(Job::RunTree { grammar })
-            } else if job.as_str() == "expect" {
-                let input = Some(named_input(other.as_str(), value.as_str())?);
-                Some(Job::Expect { grammar, input })
-            } else {
-                None
-            }
-        }
-        _ => None,
+    if words.len() < 3 {
+        return None;
     }
-}
-
-// The file that the two words name as the input's.
-fn named_input<'a>(option: &str, file: &'a str) -> Option<&'a str>
-    ensures { MatchOption result
-        ((option.now ≡ codes "--input") → IsValue file.now → ⊥)
-        (λ name. (option.now ≡ codes "--input") × IsValue file.now × (name.now ≡ file.now)) }
-{
-    if option == "--input" && is_value(file) {
-        Some(file)
+    if words[1].as_str() == "--grammar" && is_value(words[2].as_str()) {
+        named_job(words[0].as_str(), words[2].as_str(), &words[3..])
     } else {
         None
     }
 }
 
-// The file that the two words name as the grammar's.
-fn named_grammar<'a>(option: &str, file: &'a str) -> Option<&'a str>
-    ensures { MatchOption result
-        ((option.now ≡ codes "--grammar") → IsValue file.now → ⊥)
-        (λ name. (option.now ≡ codes "--grammar") × IsValue file.now × (name.now ≡ file.now)) }
+// The job of that name, with the words behind its grammar's file.
+fn named_job<'a>(name: &str, grammar: &'a str, words: &'a [String]) -> Option<Job<'a>>
+    ensures { option_map job_of result ≡ job_named name.now grammar.now (map string_bytes words.now) }
 {
-    if option == "--grammar" && is_value(file) {
-        Some(file)
+    if name == "check" {
+        check_job(grammar, words)
+    } else if name == "expect" {
+        expect_job(grammar, words)
+    } else if name == "run" {
+        run_job(grammar, words)
+    } else {
+        None
+    }
+}
+
+fn check_job<'a>(grammar: &'a str, words: &[String]) -> Option<Job<'a>>
+    ensures { option_map job_of result ≡ check_asked grammar.now (map string_bytes words.now) }
+{
+    if words.is_empty() {
+        Some(Job::Check { grammar })
+    } else {
+        None
+    }
+}
+
+fn expect_job<'a>(grammar: &'a str, words: &'a [String]) -> Option<Job<'a>>
+    ensures { option_map job_of result ≡ expect_asked grammar.now (map string_bytes words.now) }
+{
+    if words.is_empty() {
+        return Some(Job::Expect { grammar, input: None });
+    }
+    if words.len() == 2 && words[0].as_str() == "--input" && is_value(words[1].as_str()) {
+        let input = Some(words[1].as_str());
+        return Some(Job::Expect { grammar, input });
+    }
+    None
+}
+
+fn run_job<'a>(grammar: &'a str, words: &[String]) -> Option<Job<'a>>
+    ensures { option_map job_of result ≡ run_asked grammar.now (map string_bytes words.now) }
+{
+    if words.len() == 2 && words[0].as_str() == "--show" && words[1].as_str() == "tree" {
+        Some(Job::RunTree { grammar })
     } else {
         None
     }
@@ -73,7 +77,7 @@ fn named_grammar<'a>(option: &str, file: &'a str) -> Option<&'a str>
 
 // Whether a word can be an option's value.
 fn is_value(word: &str) -> bool
-    ensures { IsTrue result ↔ IsValue word.now }
+    ensures { result ≡ model.is_value word.now }
 {
     match word.as_bytes() {
         [] => false,

@@ -1,4 +1,4 @@
-use Rattle.run_model.proofs.Exists.{asks_or_not}
+use Rattle.run_model.proofs.Asked.{asks_or_not}
 use Rattle.run_model.proofs.job_or_none.Goals as goal
 
 pub returns : goal.returns
