@@ -1,2 +1,4 @@
 pub mod Counting
 pub mod Accepting
+pub mod Within
+pub mod One

@@ -1,3 +1,4 @@
 pub mod Abilities
 pub mod Faults
 pub mod Prepared
+pub mod Reading

@@ -4,9 +4,13 @@
 mod abilities;
 mod parts;
 mod prepared;
+mod reading;
 mod refusal;
 #[cfg(test)]
 mod tests;
+mod told;
 
 pub use prepared::{Prepared, prepare};
+pub use reading::{Ending, Reading, read_input};
 pub use refusal::PrepareRefusal;
+pub use told::expected_lexemes;
