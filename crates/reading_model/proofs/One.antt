@@ -130,3 +130,7 @@ pub reading_is_one : ReadingIsOne
 reading_is_one b text pieces others x y r s =
     let (same, ending) = one_rest b text [] 0 (pieces ++ []) (others ++ []) x y (goes b text pieces x r) (goes b text others y s) in
     (sym (append-nil pieces) ∙ same ∙ append-nil others, ending)
+
+-- and one list of what is expected behind its pieces
+pub one_expected : (b : Built) (pieces : List Piece) (xs ys : List ℕ) → AreExpected b pieces xs → AreExpected b pieces ys → xs ≡ ys
+one_expected b pieces xs ys p q = one_named b xs ys p.sorted q.sorted (λ z. through (p.exact z) (q.exact z))

@@ -7,8 +7,8 @@ use Rattle.slif_base.proofs.Bytes.{appends_none}
 use Rattle.language_model.specs.Building.{Built}
 use Rattle.grammar_model.specs.Grammar.{Grammar}
 use Rattle.run_model.specs.Words.{Job}
-use Rattle.run_model.specs.Words.Job.{RunTree, Check}
-use Rattle.run_model.specs.Outcome.{Outcome, IsOutcome, IsJobOutcome, IsAcceptedOutcome, IsRunOutcome, IsInputOutcome, not_built, no_derivation, done, refused}
+use Rattle.run_model.specs.Words.Job.{RunTree, Check, Expect}
+use Rattle.run_model.specs.Outcome.{Outcome, IsOutcome, IsJobOutcome, IsAcceptedOutcome, IsRunOutcome, IsInputOutcome, IsExpectOutcome, InputRefused, Expected, not_built, no_derivation, done, refused}
 use Rattle.run_model.specs.Outcome.IsOutcome.{WordsNotBuilt, OfJob}
 use Rattle.run_model.specs.Outcome.IsJobOutcome.{GrammarRefused, GrammarAccepted}
 use Rattle.run_model.specs.Outcome.IsRunOutcome.{GrammarNotBuilt, OverSimple}
@@ -23,7 +23,7 @@ use Rattle.slif_cli.specs.Stops.{Does, MayHave, IsFront, WorkStops, Tells, Repor
 use Rattle.slif_cli.specs.Stops.IsFront.{Nothing as NothingYet, Front as FrontYet}
 use Rattle.slif_cli.specs.Stops.Tells.{Whole, Part}
 use Rattle.slif_cli.specs.declared.stop.Refusal.{Refusal}
-use Rattle.slif_cli.specs.declared.stop.Refusal.TheVariants.{NotBuilt, NoDerivation, Grammar as BadGrammar}
+use Rattle.slif_cli.specs.declared.stop.Refusal.TheVariants.{NotBuilt, NoDerivation, Grammar as BadGrammar, Input as BadInput}
 use Rattle.slif_cli.specs.declared.stop.Stop.{Stop}
 use Rattle.slif_cli.specs.declared.stop.Stop.TheVariants.{Refused, OpenFault, ReadFault, WriteFault, NoMemory}
 
@@ -50,9 +50,14 @@ plain_run : (grammar input : List ℕ) (outcome : Outcome) → IsRunOutcome gram
 plain_run grammar input outcome (GrammarNotBuilt none is) = plain_at outcome not_built is (λ e. omega arith) (λ e. omega arith)
 plain_run grammar input outcome (OverSimple g simple over) = plain_input g input outcome over
 
+plain_expect : (b : Built) (input : List ℕ) (outcome : Outcome) → IsExpectOutcome b input outcome → IsPlain outcome
+plain_expect b input outcome (InputRefused text is of) = plain_at outcome (refused 1 text) of (λ e. omega arith) (λ e. omega arith)
+plain_expect b input outcome (Expected pieces expected read are of) = plain_at outcome _ of (λ e. omega arith) (λ e. omega arith)
+
 plain_accepted : (job : Job) (grammar : List ℕ) (b : Built) (input : List ℕ) (outcome : Outcome) → IsAcceptedOutcome job grammar b input outcome → IsPlain outcome
 plain_accepted (RunTree name) grammar b input outcome over = plain_run grammar input outcome over
 plain_accepted (Check name) grammar b input outcome over = plain_at outcome (done over.lines) over.is (λ e. omega arith) (λ e. omega arith)
+plain_accepted (Expect name from) grammar b input outcome over = plain_expect b input outcome over
 
 plain_job : (job : Job) (grammar input : List ℕ) (outcome : Outcome) → IsJobOutcome job grammar input outcome → IsPlain outcome
 plain_job job grammar input outcome (GrammarRefused text refused_text is) = plain_at outcome (refused 3 text) is (λ e. omega arith) (λ e. omega arith)
@@ -93,6 +98,7 @@ module _ (words : List (List ℕ)) (before after : Outside) where
   refused_out NotBuilt = refl
   refused_out NoDerivation = refl
   refused_out (BadGrammar text) = refl
+  refused_out (BadInput text) = refl
 
   -- the work stopped, and it was told
   ends_stop : (status : ℕ) (stop : Stop)

@@ -11,6 +11,14 @@ use Rattle.grammar_laws.proofs.Checks.{checks_decide}
 use Rattle.grammar_laws.proofs.Flats.{rules_are_counted}
 use Rattle.grammar_check.proofs.Uniqueness.{not_refused, one_refusal}
 use Rattle.reading_model.proofs.Accepting.{CheckLaws}
+use Rattle.reading_model.proofs.One.{reading_is_one, one_expected}
+use Rattle.reading_laws.specs.Laws.{LexemesAreNamed}
+use Rattle.reading_laws.proofs.Candidates.{expected_list}
+use Rattle.reading_laws.proofs.Reading.{reading_exists}
+use Rattle.language_model.specs.Building.{Built}
+use Rattle.language_model.specs.Texts.{IsBuilt}
+use Rattle.scanless.proofs.Ordered.{in_order}
+use Rattle.run_model.proofs.Inputs.{ReadingLaws}
 use Rattle.run_model.specs.Checking.{SymbolRow, IsRowOf}
 use Rattle.run_model.proofs.Texts.{RunLaws}
 use Rattle.slif_cli.proofs.LanguageLaws.{text_laws}
@@ -45,5 +53,17 @@ row g s =
 pub check_laws : CheckLaws
 check_laws = record { decided = checks_decide; not_both = not_refused; one_refusal = one_refusal; counted = rules_are_counted }
 
+-- lexemes have names of their own
+lexemes_named : (b : Built) → IsBuilt b → LexemesAreNamed b
+lexemes_named b built = (in_order b built).differ
+
+pub reading_laws : ReadingLaws
+reading_laws = record {
+  read = λ b text built accepted. reading_exists b text accepted.checked.structural (lexemes_named b built);
+  one = reading_is_one;
+  expected = λ b pieces built accepted. expected_list b accepted.checked.structural [] pieces 0 (lexemes_named b built);
+  one_expected = one_expected;
+}
+
 pub run_laws : RunLaws
-run_laws = record { texts = text_laws; checks = check_laws; row = row }
+run_laws = record { texts = text_laws; checks = check_laws; reading = reading_laws; row = row }

@@ -9,3 +9,5 @@ pub mod Deriving
 pub mod Working
 pub mod Ending
 pub mod Spelling
+pub mod InputLemmas
+pub mod ExpectLemmas

@@ -18,7 +18,7 @@ use Rattle.reading_model.specs.Accepted.{Structural, Lexical, TooManyRules, HasG
 use Rattle.run_model.specs.Texts.{BadToken, BadStatement, NotUtf8, TooLong, place_text, fault_text}
 use Rattle.slif_base.specs.Told.{ToldFile, MayHold, FileHolds}
 use Rattle.slif_cli.specs.Stops.{TellsText, LoadStops, IsFaultText}
-use Rattle.slif_cli.specs.declared.stop.Refusal.TheVariants.{NotBuilt, NoDerivation, Grammar as BadGrammar}
+use Rattle.slif_cli.specs.declared.stop.Refusal.TheVariants.{NotBuilt, NoDerivation, Grammar as BadGrammar, Input as BadInput}
 use Rattle.slif_cli.specs.declared.stop.Stop.{Stop}
 use Rattle.slif_cli.specs.declared.stop.Stop.TheVariants as stopped
 use Rattle.language_model.specs.declared.token.Token.{Token}
@@ -121,6 +121,7 @@ pub load_text : (name : List ℕ) (told : ToldFile) (before after : ℕ) (bytes 
 load_text name told before after bytes held (stopped.Refused NotBuilt) stops = stops
 load_text name told before after bytes held (stopped.Refused NoDerivation) stops = stops
 load_text name told before after bytes held (stopped.Refused (BadGrammar text)) stops = record { bytes = bytes; may_hold = held; holds = stops }
+load_text name told before after bytes held (stopped.Refused (BadInput text)) stops = stops
 load_text name told before after bytes held (stopped.OpenFault asked) stops = absurd stops
 load_text name told before after bytes held stopped.ReadFault stops = absurd stops
 load_text name told before after bytes held stopped.WriteFault stops = stops

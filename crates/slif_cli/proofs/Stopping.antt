@@ -8,7 +8,7 @@ use Rattle.run_model.specs.Outcome.{Outcome, no_derivation, done}
 use Rattle.run_model.specs.Outside.{Stream}
 use Rattle.slif_cli.specs.Stops.{TellsText, IsFront, AppendsFront, Does, StopsAt, WriteStops, LinesStop, lines_outcome}
 use Rattle.slif_cli.specs.Stops.IsFront.{Nothing, Front}
-use Rattle.slif_cli.specs.declared.stop.Refusal.TheVariants.{NotBuilt, NoDerivation, Grammar as BadGrammar}
+use Rattle.slif_cli.specs.declared.stop.Refusal.TheVariants.{NotBuilt, NoDerivation, Grammar as BadGrammar, Input as BadInput}
 use Rattle.slif_cli.specs.declared.stop.Stop.{Stop}
 use Rattle.slif_cli.specs.declared.stop.Stop.TheVariants.{Refused, OpenFault, ReadFault, WriteFault, NoMemory}
 
@@ -16,6 +16,7 @@ pub told_weaker : (P Q : List ℕ → Type 0) → ((t : List ℕ) → P t → Q 
 told_weaker P Q f (Refused NotBuilt) told = told
 told_weaker P Q f (Refused NoDerivation) told = told
 told_weaker P Q f (Refused (BadGrammar text)) told = f text.items told
+told_weaker P Q f (Refused (BadInput text)) told = told
 told_weaker P Q f (OpenFault name) told = told
 told_weaker P Q f ReadFault told = told
 told_weaker P Q f WriteFault told = told

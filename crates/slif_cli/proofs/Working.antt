@@ -1,5 +1,5 @@
 -- What the words, the files and the input come to.
-use Rattle.std.proofs.Common.{◌≡◌, ℕ, List, [], ◌∷◌, ◌++◌, Option, inl, inr, ◌⊎◌, refl, subst, Some, IfSome, ◌∙◌, ap, sym}
+use Rattle.std.proofs.Common.{◌≡◌, ℕ, List, [], ◌∷◌, ◌++◌, Option, inl, inr, ◌⊎◌, refl, subst, Some, None, IfSome, ◌∙◌, ap, sym}
 use Rattle.slif_base.specs.Told.{ToldFile, MayHold, FileHolds, AsksAmong, MayBe}
 use Rattle.slif_base.proofs.Bytes.{appends_none}
 use Rattle.grammar_model.specs.Grammar.{Grammar}
@@ -9,8 +9,8 @@ use Rattle.language_model.specs.Simple.{SimpleLine, IsSimpleDescription, grammar
 use Rattle.run_model.specs.Words.{Job, Asks, AskNothing, InputFrom, grammar_file, input_from}
 use Rattle.run_model.specs.Words.Job.{RunTree, Check}
 use Rattle.run_model.specs.Refused.{Accepted, IsRefused}
-use Rattle.run_model.specs.Derivations.{HasSimple, IsUnbuilt, GoesOnWith}
-use Rattle.run_model.specs.Outcome.{Outcome, IsJobOutcome, IsCheckOutcome, not_built, refused}
+use Rattle.run_model.specs.Derivations.{HasSimple, IsUnbuilt}
+use Rattle.run_model.specs.Outcome.{Outcome, IsJobOutcome, IsRunOutcome, IsCheckOutcome, not_built, refused}
 use Rattle.run_model.specs.Outcome.IsOutcome.{WordsNotBuilt, OfJob}
 use Rattle.run_model.specs.Outcome.IsJobOutcome.{GrammarRefused, GrammarAccepted}
 use Rattle.run_model.specs.Outcome.IsRunOutcome.{GrammarNotBuilt, OverSimple}
@@ -18,10 +18,10 @@ use Rattle.run_model.specs.Outside.{Stream, Disk}
 use Rattle.run_model.specs.Runs.{MayEnd, InputMayBe, AsksNames, ReadsInput}
 use Rattle.run_model.specs.Runs.MayOpen.{OfGrammar}
 use Rattle.run_model.specs.Runs.MayAsk.{ForNothing, ForGrammar}
-use Rattle.run_model.proofs.Accepted.{built_or_not, not_refused}
-use Rattle.run_model.proofs.Asked.{asks_once}
+use Rattle.run_model.proofs.Accepted.{not_refused}
+use Rattle.run_model.proofs.Asked.{asks_once, not_both}
 use Rattle.slif_cli.specs.Stops.{IsLoaded, LoadStops, SimpleStops, MayDerive, MayHave, WorkStops}
-use Rattle.slif_cli.specs.declared.stop.Refusal.TheVariants.{NotBuilt, NoDerivation, Grammar as BadGrammar}
+use Rattle.slif_cli.specs.declared.stop.Refusal.TheVariants.{NotBuilt, NoDerivation, Grammar as BadGrammar, Input as BadInput}
 use Rattle.slif_cli.specs.declared.stop.Stop.{Stop}
 use Rattle.slif_cli.specs.declared.stop.Stop.TheVariants.{Refused, OpenFault, ReadFault, WriteFault, NoMemory}
 use Rattle.slif_cli.proofs.GrammarLaws.{run_laws}
@@ -33,29 +33,34 @@ not_asked words file left none = (
     grammar = [];
     input = [];
     outcome = not_built;
-    supplied = record { grammar_held = λ job asks. absurd (none job asks); input_held = λ job asks accepted. absurd (none job asks) };
+    supplied = record { grammar_held = λ job asks. absurd (not_both words job asks none); input_held = λ job asks accepted. absurd (not_both words job asks none) };
     is_outcome = WordsNotBuilt none refl;
   },
   refl,
 )
 
+-- bytes that may be those that are left
+some_input : (left : Option (List ℕ)) → (input : List ℕ) × MayBe left input
+some_input None = ([], tt)
+some_input (Some known) = (known, refl)
+
 -- no job goes on to its input with the text
 abbrev GoesOnWithNone : List ℕ → Type 0
-GoesOnWithNone text = (b : Built) → GoesOnWith text b → ⊥
+GoesOnWithNone text = (b : Built) → Accepted text b → ⊥
 
 module _ (words : List (List ℕ)) (job : Job) (asks : Asks words job) (file : List ℕ → ToldFile) (left : Option (List ℕ))
     (name : List ℕ) (named : grammar_file job ≡ Some name) where
-  held_by_all : (grammar : List ℕ) → MayHold (file name) grammar → (other : Job) → Asks words other → IfSome (grammar_file other) (λ n. MayHold (file n) grammar)
+  pub held_by_all : (grammar : List ℕ) → MayHold (file name) grammar → (other : Job) → Asks words other → IfSome (grammar_file other) (λ n. MayHold (file n) grammar)
   held_by_all grammar held other others =
       let here : IfSome (grammar_file job) (λ n. MayHold (file n) grammar) = subst (λ (o : Option (List ℕ)). IfSome o (λ n. MayHold (file n) grammar)) (sym named) held in
       subst (λ (j : Job). IfSome (grammar_file j) (λ n. MayHold (file n) grammar)) (asks_once words job other asks others) here
 
   -- no job of the words goes on with a text that none goes on with
-  goes_on_with_none : {text : List ℕ} → GoesOnWithNone text → (other : Job) → Asks words other → IfSome (grammar_file other) (λ _. (b : Built) × GoesOnWith text b) → ⊥
+  goes_on_with_none : {text : List ℕ} → GoesOnWithNone text → (other : Job) → Asks words other → IfSome (grammar_file other) (λ _. (b : Built) × Accepted text b) → ⊥
   goes_on_with_none {text} none other others goes =
-      let here : IfSome (grammar_file job) (λ _. (b : Built) × GoesOnWith text b) =
-      subst (λ (j : Job). IfSome (grammar_file j) (λ _. (b : Built) × GoesOnWith text b)) (asks_once words other job others asks) goes in
-      let some : (b : Built) × GoesOnWith text b = subst (λ (o : Option (List ℕ)). IfSome o (λ _. (b : Built) × GoesOnWith text b)) named here in
+      let here : IfSome (grammar_file job) (λ _. (b : Built) × Accepted text b) =
+      subst (λ (j : Job). IfSome (grammar_file j) (λ _. (b : Built) × Accepted text b)) (asks_once words other job others asks) goes in
+      let some : (b : Built) × Accepted text b = subst (λ (o : Option (List ℕ)). IfSome o (λ _. (b : Built) × Accepted text b)) named here in
       none some.0 some.1
 
   -- an outcome that asks for no input
@@ -76,7 +81,7 @@ module _ (words : List (List ℕ)) (job : Job) (asks : Asks words job) (file : L
 
   refused_grammar : (told : List ℕ) → FileHolds (file name) (λ text. IsRefused text told) → MayHave words file left (refused 3 told)
   refused_grammar told held =
-      without_input held.bytes held.may_hold (λ b goes. not_refused run_laws held.bytes b told goes.accepted held.holds) (refused 3 told) (GrammarRefused told held.holds refl)
+      without_input held.bytes held.may_hold (λ b goes. not_refused run_laws held.bytes b told goes held.holds) (refused 3 told) (GrammarRefused told held.holds refl)
 
   pub load_stops : (faults : ℕ) (files_after : Disk) (input_faults : ℕ) (out : Stream) (stop : Stop)
       → LoadStops name (file name) faults files_after.faults stop
@@ -84,6 +89,7 @@ module _ (words : List (List ℕ)) (job : Job) (asks : Asks words job) (file : L
   load_stops faults files_after input_faults out (Refused NotBuilt) stops = absurd stops
   load_stops faults files_after input_faults out (Refused NoDerivation) stops = absurd stops
   load_stops faults files_after input_faults out (Refused (BadGrammar text)) stops = (refused_grammar text.items stops, appends_none out.bytes)
+  load_stops faults files_after input_faults out (Refused (BadInput text)) stops = absurd stops
   load_stops faults files_after input_faults out (OpenFault asked) stops = ((stops.0, OfGrammar job asks (named ∙ ap (λ (n : List ℕ). Some n) (sym stops.1))), appends_none out.bytes)
   load_stops faults files_after input_faults out ReadFault stops = (inl stops, appends_none out.bytes)
   load_stops faults files_after input_faults out WriteFault stops = absurd stops
@@ -123,18 +129,35 @@ checked words name asks file left d b held o is = (
 
 module _ (words : List (List ℕ)) (name : List ℕ) (asks : Asks words (RunTree name)) (file : List ℕ → ToldFile) (left : Option (List ℕ)) (d : List Statement) (b : Built)
     (held : FileHolds (file name) (IsLoaded d b)) where
+  given_by_all : (input : List ℕ) → MayBe left input → (other : Job) → Asks words other → InputMayBe (input_from other) file left input
+  given_by_all input may_be other others = subst (λ (j : Job). InputMayBe (input_from j) file left input) (asks_once words (RunTree name) other asks others) may_be
+
+  over_input : (input : List ℕ) → MayBe left input → (o : Outcome) → IsRunOutcome held.bytes input o → MayHave words file left o
+  over_input input may_be o is = (
+    record {
+      grammar = held.bytes;
+      input = input;
+      outcome = o;
+      supplied = record {
+        grammar_held = held_by_all words (RunTree name) asks file left name refl held.bytes held.may_hold;
+        input_held = λ other others goes. given_by_all input may_be other others;
+      };
+      is_outcome = OfJob (RunTree name) asks (GrammarAccepted b held.holds.accepted is);
+    },
+    refl,
+  )
+
   not_simple : ((lines : List SimpleLine) → IsSimpleDescription d lines → ⊥) → MayHave words file left not_built
   not_simple none =
-      let unbuilt : IsUnbuilt held.bytes = record { description = d; has = held.holds.has; none = none } in
-      without_input words (RunTree name) asks file left name refl held.bytes held.may_hold
-      (λ c goes. built_or_not run_laws held.bytes goes.simple.0 goes.simple.1 unbuilt) not_built
-      (GrammarAccepted b held.holds.accepted (GrammarNotBuilt unbuilt refl))
+      let (input, may_be) = some_input left in
+      over_input input may_be not_built (GrammarNotBuilt (record { description = d; has = held.holds.has; none = none }) refl)
 
   pub simple_stops : (faults : ℕ) (files_after : Disk) (input_faults : ℕ) (out : Stream) (stop : Stop) → SimpleStops d stop
       → WorkStops words (record { file = file; faults = faults }) files_after (record { bytes = left; faults = input_faults }) (record { bytes = left; faults = input_faults }) out out stop
   simple_stops faults files_after input_faults out (Refused NotBuilt) stops = (not_simple stops, appends_none out.bytes)
   simple_stops faults files_after input_faults out (Refused NoDerivation) stops = absurd stops
   simple_stops faults files_after input_faults out (Refused (BadGrammar text)) stops = absurd stops
+  simple_stops faults files_after input_faults out (Refused (BadInput text)) stops = absurd stops
   simple_stops faults files_after input_faults out (OpenFault asked) stops = absurd stops
   simple_stops faults files_after input_faults out ReadFault stops = absurd stops
   simple_stops faults files_after input_faults out WriteFault stops = absurd stops
@@ -144,23 +167,8 @@ module _ (words : List (List ℕ)) (name : List ℕ) (asks : Asks words (RunTree
     is_simple : HasSimple held.bytes g
     is_simple = record { description = d; has = held.holds.has; lines = made.0; simple = made.1; grammar = made.2 }
 
-    given_by_all : (input : List ℕ) → MayBe left input → (other : Job) → Asks words other → InputMayBe (input_from other) file left input
-    given_by_all input may_be other others = subst (λ (j : Job). InputMayBe (input_from j) file left input) (asks_once words (RunTree name) other asks others) may_be
-
     pub derived : (o : Outcome) → MayDerive g left o → MayHave words file left o
-    derived o may = (
-      record {
-        grammar = held.bytes;
-        input = may.bytes;
-        outcome = o;
-        supplied = record {
-          grammar_held = held_by_all words (RunTree name) asks file left name refl held.bytes held.may_hold;
-          input_held = λ other others goes. given_by_all may.bytes may.may_be other others;
-        };
-        is_outcome = OfJob (RunTree name) asks (GrammarAccepted b held.holds.accepted (OverSimple g is_simple may.holds));
-      },
-      refl,
-    )
+    derived o may = over_input may.bytes may.may_be o (OverSimple g is_simple may.holds)
 
     pub reads_input : ReadsInput words file
     reads_input = record {
@@ -170,6 +178,6 @@ module _ (words : List (List ℕ)) (name : List ℕ) (asks : Asks words (RunTree
       goes_on = record {
         grammar = held.bytes;
         held = held.may_hold;
-        accepted = (b, record { accepted = held.holds.accepted; simple = (g, is_simple) });
+        accepted = (b, held.holds.accepted);
       };
     }

@@ -1,6 +1,6 @@
 // The grammar, read from its file.
 ghost use Rattle.std.specs.Prelude.{◌≡◌, ◌≤◌, ◌<◌, ◌∷◌, [], List, IfOk, IfErr, OnOk, IsUtf8, chars as chars_in, length};
-ghost use Rattle.slif_base.specs.Told.{FileHolds, SameFiles, AsksAmong};
+ghost use Rattle.slif_base.specs.Told.{FileHolds, SameFiles, AsksAmong, AddsNames};
 ghost use Rattle.language_model.specs.Texts.{IsDescription, IsBuiltOf};
 ghost use Rattle.language_model.specs.Simple.{SimpleLine, IsSimpleDescription, grammar_of_simple};
 ghost use Rattle.reading_model.specs.Accepted.{IsAccepted};
@@ -39,6 +39,7 @@ pub fn load_grammar<'a, F: Files>(
     ensures later { F.fault_count files.old ≤ F.fault_count files.new }
     ensures held { SameFiles (F.told files.old) (F.told files.new) }
     ensures asks { AsksAmong (F.asked files.old) (F.asked files.new) (name.now ∷ []) }
+    ensures asked { OnOk result (AddsNames (F.asked files.old) (F.asked files.new) (name.now ∷ [])) }
 {
     match read_named(alloc, files, name, LIMIT) {
         Ok(bytes) => read_grammar(alloc, &bytes),

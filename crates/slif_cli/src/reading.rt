@@ -90,8 +90,24 @@ pub fn append_names(w: &Written, symbols: &[SymbolId], text: &mut Vec<u8>) -> Re
         text.extend_from_slice(b"none")?;
         return Ok(());
     }
-    text.extend_from_slice(w.name(symbols[0]).as_bytes())?;
+    append_name(w, symbols[0], text)?;
     append_others(w, &symbols[1..], text)
+}
+
+fn append_name(w: &Written, symbol: SymbolId, text: &mut Vec<u8>) -> Result<(), AllocError>
+    requires { symbol < length w.now.names }
+    ensures { OnOk result (text.new.items ≡ text.old.items ++ name_of w.now symbol) }
+{
+    text.extend_from_slice(w.name(symbol).as_bytes())?;
+    Ok(())
+}
+
+fn append_next(w: &Written, symbol: SymbolId, text: &mut Vec<u8>) -> Result<(), AllocError>
+    requires { symbol < length w.now.names }
+    ensures { OnOk result (text.new.items ≡ text.old.items ++ (codes ", " ++ name_of w.now symbol)) }
+{
+    text.extend_from_slice(b", ")?;
+    append_name(w, symbol, text)
 }
 
 fn append_others(w: &Written, symbols: &[SymbolId], text: &mut Vec<u8>) -> Result<(), AllocError>
@@ -99,8 +115,7 @@ fn append_others(w: &Written, symbols: &[SymbolId], text: &mut Vec<u8>) -> Resul
     ensures { OnOk result (text.new.items ≡ text.old.items ++ flat_map (λ s. codes ", " ++ name_of w.now s) symbols.now) }
 {
     for symbol in symbols {
-        text.extend_from_slice(b", ")?;
-        text.extend_from_slice(w.name(*symbol).as_bytes())?;
+        append_next(w, *symbol, text)?;
     }
     Ok(())
 }
