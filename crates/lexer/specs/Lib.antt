@@ -1,2 +1,4 @@
 pub mod Lexical
 pub mod Laws
+pub mod Terminals
+pub mod Running

@@ -2,26 +2,10 @@
 ghost use Rattle.std.specs.Prelude.{◌≡◌, ◌<◌, ◌≤◌, ℕ, length, Contains, IfOk, IfSome, IsNone, OnErr};
 ghost use Rattle.lexer.specs.Lexical.{IsLongestMatch, IsUnmatched};
 
-use char_class::CharSet;
-use grammar_core::{Flat, SymbolId};
+use crate::table::{Lexical, Table};
 use slif_base::Chars;
 use std::alloc::{AllocError, Global};
 use std::marker::Model;
-
-/// The flat form of a lexical grammar, and the character sets of its terminals.
-#[derive(Drop)]
-pub struct Lexical<'g> {
-    pub flat: &'g Flat,
-    pub sets: &'g [(SymbolId, CharSet)],
-}
-
-impl<'g> Model for Lexical<'g> {
-    ghost use Rattle.lexer.specs.Lexical.{LexicalForm};
-
-    ghost Value = { LexicalForm };
-
-    ghost view = { λ l. record { flat = l.flat.now; sets = l.sets.now } };
-}
 
 /// The longest match, in characters, and every candidate that has it, in the order of the candidates.
 #[derive(Debug, Drop)]
@@ -33,7 +17,7 @@ pub struct LexAnswer {
 /// The recognizers of the starts of a lexical grammar. It is seen as the grammar.
 #[derive(Drop)]
 pub struct Lexer<'g> {
-    l0: Lexical<'g>,
+    table: Table<'g>,
 }
 
 impl<'g> Model for Lexer<'g> {
@@ -41,13 +25,13 @@ impl<'g> Model for Lexer<'g> {
 
     ghost Value = { LexicalForm };
 
-    ghost view = { λ l. l.l0 };
+    ghost view = { λ l. l.table };
 }
 
 impl<'g> Lexer<'g> {
     /// A lexer with a recognizer for each start.
     pub fn new(alloc: Global, l0: Lexical<'g>) -> Result<Lexer<'g>, AllocError>
-        ensures { IfOk result (λ l. l ≡ l0) }
+        ensures { IfOk result (λ l. l ≡ l0.entry) }
     {
         Err(AllocError)
     }
@@ -83,8 +67,8 @@ pub fn longest(
     requires at { at ≤ length chars.now }
     requires few { length chars.now ≤ 16777216 }
     requires starts { (k : ℕ) → Contains candidates.now k → k < length l0.flat.tops }
-    ensures none { IfOk result (λ answer. IsNone answer → IsUnmatched l0 chars.now at candidates.now) }
-    ensures some { IfOk result (λ answer. IfSome answer (λ a. IsLongestMatch l0 chars.now at candidates.now a.length a.matched.items)) }
+    ensures none { IfOk result (λ answer. IsNone answer → IsUnmatched l0.entry chars.now at candidates.now) }
+    ensures some { IfOk result (λ answer. IfSome answer (λ a. IsLongestMatch l0.entry chars.now at candidates.now a.length a.matched.items)) }
 {
     let mut lexer = Lexer::new(alloc, l0)?;
     lexer.longest(alloc, chars, at, candidates)

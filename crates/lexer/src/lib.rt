@@ -2,5 +2,9 @@
 #![tactic(auto)]
 
 mod lexer;
+mod run;
+mod table;
+mod terminals;
 
-pub use lexer::{LexAnswer, Lexer, Lexical, longest};
+pub use lexer::{LexAnswer, Lexer, longest};
+pub use table::Lexical;
