@@ -33,7 +33,8 @@ fn take_terminal(recce: &mut Recce<'_>, terminal: SymbolId) -> Result<bool, Allo
         return Ok(false);
     }
     match recce.alternative(terminal, 1) {
-        Ok(_) | Err(AlternativeRefusal::Duplicate) => Ok(true),
+        Ok(()) => Ok(true),
+        Err(AlternativeRefusal::Duplicate) => Ok(true),
         Err(AlternativeRefusal::Unexpected | AlternativeRefusal::BadLength) => Ok(false),
         Err(AlternativeRefusal::NoMemory) => Err(AllocError),
     }
@@ -89,13 +90,11 @@ fn read<L: Ledger>(
     steps: &mut Steps<L>,
 ) -> Result<bool, AllocError>
     requires { place_of recce.old < 16777216 }
-    ensures is { IsRecognizer recce.old }
     ensures flat { recce.new.flat ≡ recce.old.flat }
     ensures start { recce.new.start ≡ recce.old.start }
     ensures none { IfOk result (λ read. IsFalse read → (¬ IsSomeAwaited terminals.now recce.old) × (recce.new.sets ≡ recce.old.sets)) }
     ensures some { IfOk result (λ read. IsTrue read → HasNextSet terminals.now recce.old recce.new) }
 {
-    let _place = recce.place();
     if !take_terminals(recce, terminals)? {
         return Ok(false);
     }
@@ -133,6 +132,7 @@ pub fn run<L: Ledger>(
     ensures rows { AreLooked table.now.sets chars.now at looked.new.rows }
     ensures longest { IfOk result (λ n. IsLongestOf table.now chars.now recce.old.start at n) }
 {
+    let _place = recce.place();
     let mut steps = Steps::<L>::of_blank(blank);
     let mut longest = 0;
     for place in 0..chars.len() - at {

@@ -1,4 +1,4 @@
-use Rattle.std.proofs.Common.{refl, sym, subst}
+use Rattle.std.proofs.Common.{◌∷◌, [], Err, refl, sym, ap, subst}
 use Rattle.earley_sets.specs.Recognizer.{IsExpected}
 use Rattle.lexer.specs.Running.{HasTaken}
 use Rattle.lexer.proofs.Taking.{expected_awaited, not_taken, held_taken, edge_taken}
@@ -15,14 +15,17 @@ pub returns-then-not-is_expected-clause-some : goal.returns-then-not-is_expected
 returns-then-not-is_expected-clause-some c = ((λ f. absurd (cc)), (λ a. absurd (none c ((expected_awaited c.args.recce.now c.place-place.ensures.is c.args.terminal).1 a))))
 
 pub returns-in-Ok-clause-taken : goal.returns-in-Ok-clause-taken
-returns-in-Ok-clause-taken c = edge_taken c.args.recce.now c.place-place.ensures.is c.args.terminal c.alternative.new.self c.alternative.ensures.same.0 c.alternative.ensures.same.1 c.alternative.ensures.same.2 c.in-Ok.ensures.ok
+returns-in-Ok-clause-taken c =
+    let s = c.in-Ok.ensures.same in
+    edge_taken c.args.recce.now c.place-place.ensures.is c.args.terminal c.alternative.new.self s.0 s.1 s.2 c.in-Ok.ensures.ok
 
 pub returns-in-Ok-clause-some : goal.returns-in-Ok-clause-some
 returns-in-Ok-clause-some c = ((λ t. (expected_awaited c.args.recce.now c.place-place.ensures.is c.args.terminal).0 (c.is_expected.ensures.0 c.if-not-is_expected.false)), (λ a. refl))
 
-pub returns-in-Ok-2-clause-some : goal.returns-in-Ok-2-clause-some
-returns-in-Ok-2-clause-some c = ((λ t. (expected_awaited c.args.recce.now c.place-place.ensures.is c.args.terminal).0 (c.is_expected.ensures.0 c.if-not-is_expected.false)), (λ a. refl))
+pub returns-in-Err-Duplicate-clause-some : goal.returns-in-Err-Duplicate-clause-some
+returns-in-Err-Duplicate-clause-some c = ((λ t. (expected_awaited c.args.recce.now c.place-place.ensures.is c.args.terminal).0 (c.is_expected.ensures.0 c.if-not-is_expected.false)), (λ a. refl))
 
-pub returns-in-Ok-2-clause-taken : goal.returns-in-Ok-2-clause-taken
-returns-in-Ok-2-clause-taken c =
-    subst (HasTaken _ c.args.recce.now) (sym c.in-Ok.ensures.err) (held_taken c.args.recce.now c.place-place.ensures.is c.args.terminal (c.in-Ok.ensures.duplicate.0 refl).1)
+pub returns-in-Err-Duplicate-clause-taken : goal.returns-in-Err-Duplicate-clause-taken
+returns-in-Err-Duplicate-clause-taken c =
+    subst (HasTaken (c.args.terminal ∷ []) c.args.recce.now) (sym c.in-Err-Duplicate.ensures.err)
+    (held_taken c.args.recce.now c.place-place.ensures.is c.args.terminal (c.in-Err-Duplicate.ensures.duplicate.0 (ap Err c.in-Err-Duplicate.field-0-is)).1)
