@@ -2,3 +2,4 @@ pub mod Reading
 pub mod Cutting
 pub mod Listing
 pub mod Taking
+pub mod Choosing

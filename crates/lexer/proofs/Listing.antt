@@ -1,10 +1,15 @@
 -- Loops over lists: one element more.
-use Rattle.std.proofs.Common.{◌≡◌, ◌↔◌, ◌⊎◌, inl, inr, ℕ, suc, ◌+◌, ◌<◌, ◌≤◌, ◌++◌, List, [], ◌∷◌, length, take, get_or, Contains, refl, sym, ap, ◌∙◌, subst, arith, length-append}
+use Rattle.std.proofs.Common.{◌≡◌, ◌↔◌, ◌⊎◌, inl, inr, ℕ, zero, suc, ◌+◌, ◌<◌, ◌≤◌, ◌++◌, List, [], ◌∷◌, length, take, get_or, Contains, refl, sym, ap, ◌∙◌, subst, arith, length-append}
 use Rattle.std.proofs.lemmas.Bool.{cases_lt}
 use Rattle.std.proofs.lemmas.List.{take_more, get_or_append_left, get_or-append-add}
 use Rattle.std.proofs.lemmas.List.Elements.{Contains-append_left, Contains-push, Contains-push_cases}
 use Rattle.language_model.specs.Classes.{Class, HasMember}
 use Rattle.lexer.specs.Terminals.{HasTerminal, AreTerminalsOf, row_at}
+
+pub get_or-default : {X : Type 0} (xs : List X) (k : ℕ) (d e : X) → k < length xs → get_or xs k d ≡ get_or xs k e
+get_or-default [] k d e lt = absurd (omega arith)
+get_or-default (x ∷ xs) zero d e lt = refl
+get_or-default (x ∷ xs) (suc k) d e lt = get_or-default xs k d e (omega arith)
 
 -- the first elements with one more, which a loop has at hand
 pub next_is : {X : Type 0} (xs : List X) (i : ℕ) (y : X) → i < length xs → y ≡ get_or xs i y → take (i + 1) xs ≡ take i xs ++ y ∷ []
@@ -47,16 +52,20 @@ module _ (sets : List (ℕ × Class)) (c i : ℕ) (item : ℕ × Class) (old : L
         | inr s ↦ absurd (none (subst (λ (z : ℕ × Class). HasMember z.1 c) (sym s) m))
       ]
 
--- ---- one row more
+-- ---- one element more
+
+module _ {X : Type 0} (P : ℕ → X → Type 0) (xs xs' : List X) (x : X) (is : xs' ≡ xs ++ x ∷ []) where
+  pub each_more : ((k : ℕ) (d : X) → k < length xs → P k (get_or xs k d)) → P (length xs) x → (k : ℕ) (d : X) → k < length xs' → P k (get_or xs' k d)
+  each_more before here k d lt = elim (cases_lt k (length xs)) [
+    | inl l ↦ subst (P k) (sym (get_or_append_left xs (x ∷ []) d k l) ∙ ap (λ r. get_or r k d) (sym is)) (before k d l)
+    | inr ge ↦
+        let len = length-append xs (x ∷ []) in
+        let len' = ap (λ (l : List X). length l) is in
+        let same : length xs + 0 ≡ k = omega arith in
+        let at : get_or xs' (length xs + 0) d ≡ x = ap (λ r. get_or r (length xs + 0) d) is ∙ get_or-append-add xs (x ∷ []) 0 d in
+        subst (λ z. P z (get_or xs' z d)) same (subst (P (length xs + 0)) (sym at) (subst (λ z. P z x) (let z : length xs ≡ length xs + 0 = omega arith in z) here))
+  ]
 
 pub rows_more : (P : ℕ → List ℕ → Type 0) (rows rows' : List (List ℕ)) (row : List ℕ) → rows' ≡ rows ++ row ∷ [] → ((k : ℕ) → k < length rows → P k (row_at rows k)) → P (length rows) row →
     (k : ℕ) → k < length rows' → P k (row_at rows' k)
-rows_more P rows rows' row is before here k lt = elim (cases_lt k (length rows)) [
-  | inl l ↦ subst (P k) (sym (get_or_append_left rows (row ∷ []) [] k l) ∙ ap (λ r. row_at r k) (sym is)) (before k l)
-  | inr ge ↦
-      let len = length-append rows (row ∷ []) in
-      let len' = ap (λ (l : List (List ℕ)). length l) is in
-      let same : length rows + 0 ≡ k = omega arith in
-      let at : row_at rows' (length rows + 0) ≡ row = ap (λ r. row_at r (length rows + 0)) is ∙ get_or-append-add rows (row ∷ []) 0 [] in
-      subst (λ z. P z (row_at rows' z)) same (subst (λ l. P (length rows + 0) l) (sym at) (subst (λ z. P z row) (let z : length rows ≡ length rows + 0 = omega arith in z) here))
-]
+rows_more P rows rows' row is before here k lt = each_more P rows rows' row is (λ k d lt. subst (P k) (get_or-default rows k [] d lt) (before k lt)) here k [] lt

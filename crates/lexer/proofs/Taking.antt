@@ -1,7 +1,8 @@
 -- What a recognizer has read, when it takes the terminals of one character more.
-use Rattle.std.proofs.Common.{◌≡◌, ◌↔◌, ◌⊎◌, inl, inr, ℕ, zero, suc, ◌+◌, ◌-◌, ◌<◌, ◌≤◌, ◌++◌, List, [], ◌∷◌, length, take, get_or, Some, Contains, slice_get, Bool, true, IsTrue, refl, sym, ap, ◌∙◌, subst, arith, length-append}
+use Rattle.std.proofs.Common.{◌≡◌, ◌↔◌, ◌⊎◌, inl, inr, ℕ, zero, suc, ◌+◌, ◌-◌, ◌<◌, ◌≤◌, ◌++◌, List, [], ◌∷◌, length, take, get_or, Some, Contains, slice_get, Bool, true, false, ◌||◌, nat_le, IsTrue, refl, sym, ap, ◌∙◌, subst, arith, length-append}
 use Rattle.std.specs.Prelude.{slice_index}
 use Rattle.std.proofs.lemmas.Bool.{cases_lt}
+use Rattle.std.proofs.lemmas.Bool.Decides.{nat_tests}
 use Rattle.std.proofs.lemmas.List.{get_or_append_left}
 use Rattle.std.proofs.lemmas.List.Elements.{Contains-append_left, Contains-append_right, Contains-push, Contains-push_cases}
 use Rattle.grammar_model.specs.declared.Edge.{Edge as HeldEdge}
@@ -25,7 +26,7 @@ use Rattle.earley_sets.proofs.Recognizing.{top_is_top, awaited, only, goes}
 use Rattle.language_model.specs.Classes.{Class, HasMember}
 use Rattle.lexer.specs.Lexical.{LexicalForm, SetEdges, HasMatch}
 use Rattle.lexer.specs.Terminals.{HasTerminal, AreTerminalsOf}
-use Rattle.lexer.specs.Running.{IsLongestOf, IsLongestTo, IsAwaitedIn, IsFresh, HasRead, HasTaken, HasNextSet, IsSomeAwaited}
+use Rattle.lexer.specs.Running.{IsLongestOf, IsLongestTo, IsAwaitedIn, IsFresh, HasRead, HasTaken, HasNextSet, IsSomeAwaited, AreFirst, fresh, may_begin}
 use Rattle.lexer.proofs.Reading.{GoesByOne, not_past, awaited_enough, whole_item, IsDerived, whole_is_derived, tree_back}
 
 -- ---- expected terminals are those that are awaited in the last set
@@ -270,17 +271,6 @@ module _ (sets : List (ℕ × Class)) (text : List ℕ) (at place : ℕ) (r : Re
           let (lt, at_c) = got_at text (at + place) c 0 (sym get) in
           none t lt (set, k, subst (HasMember set) (sym at_c) m) (x, sym_is, (item, ((is.exact place (let l = h.long in omega arith)).exact item).1 (to_own (omega arith) i), e))
 
--- ---- the set of the next place
-
-pub next_set : (ts : List ℕ) (old mid new : Recognizer) (set : List Item) → HasTaken ts old mid → new.edges ≡ mid.edges → new.sets ≡ mid.sets ++ set ∷ [] → HasNextSet ts old new
-next_set ts old mid new set h e s = record {
-  edges = mid.edges;
-  taken = record { flat = refl; start_is = refl; sets = refl; kept = h.kept; made = h.made; taken = h.taken };
-  edges_are = e;
-  set = set;
-  sets = s ∙ ap (λ l. l ++ set ∷ []) h.sets;
-}
-
 -- ---- the longest match so far
 
 pub longest_none : (l : LexicalForm) (text : List ℕ) (start at : ℕ) → IsLongestTo l text start at 0 0
@@ -325,3 +315,45 @@ module _ (l : LexicalForm) (text : List ℕ) (start at place : ℕ) (r : Recogni
 
   pub ends_here : length text ≤ at + place → (m : ℕ) → HasMatch l text start at (at + m) → m ≤ place
   ends_here end m match = no_longer l.sets text at place r is over (λ t lt has w. omega arith) m (subst (λ T. T) (sym (same (at + m))) match)
+
+-- ---- the first character
+
+abbrev ExpectedBy : (t : ℕ) → FlatGrammar → List HeldEdge → (start n : ℕ) → Type 0
+ExpectedBy t g edges start n = (x : ℕ) × (slice_get g.symbols x ≡ Some (Terminal t)) × IsAcceptable (grammar_view g) (FlatEdges g (Held edges)) (lhs_of g (slice_index g.tops start)) x (n - 1)
+
+expected_fresh : (g : FlatGrammar) (start : ℕ) (r : Recognizer) → IsFresh g start r → (t : ℕ) → IsExpected r t ≡ IsExpected (fresh g start) t
+expected_fresh g start r f t =
+    ap (λ z. ExpectedBy t z r.edges r.start (length r.sets)) f.flat
+    ∙ (ap (λ z. ExpectedBy t g z r.start (length r.sets)) f.no_edges ∙ (ap (λ z. ExpectedBy t g [] z (length r.sets)) f.start_is ∙ ap (ExpectedBy t g [] start) f.one_set))
+
+module _ (g : FlatGrammar) (start : ℕ) (r : Recognizer) (f : IsFresh g start r) (t : ℕ) where
+  pub to_fresh : IsExpected r t → IsExpected (fresh g start) t
+  to_fresh h = subst (λ T. T) (expected_fresh g start r f t) h
+
+  pub from_fresh : IsExpected (fresh g start) t → IsExpected r t
+  from_fresh h = subst (λ T. T) (sym (expected_fresh g start r f t)) h
+
+-- a recognizer that was not yet given a character
+module _ (l : LexicalForm) (text : List ℕ) (at : ℕ) (r : Recognizer) (is : IsRecognizer r) (f : IsFresh l.flat r.start r) where
+  pub none_at_end : length text ≤ at → IsLongestOf l text r.start at 0
+  none_at_end end =
+      longest_done l text r.start at 0 0 (longest_none l text r.start at) (ends_here l text r.start at 0 r is (read_nothing l text r.start at r f) (omega arith))
+
+  pub none_begins : (first : List Bool) → AreFirst l r.start first → may_begin first (slice_index text at) ≡ false → IsLongestOf l text r.start at 0
+  none_begins first are unset =
+      longest_done l text r.start at 0 0 (longest_none l text r.start at)
+      (λ m match. no_longer l.sets text at 0 r is (over l text r.start at 0 r is (read_nothing l text r.start at r f)) (λ t lt has w. absurd (never t (subst (λ z. HasTerminal l.sets (slice_index text z) t) (let z : at + 0 ≡ at = omega arith in z) has) w)) m
+          (subst (λ T. T) (sym (same l text r.start at 0 r is (read_nothing l text r.start at r f) (at + m))) match))
+    where
+      zero_is : place_of r ≡ 0
+      zero_is = let o = f.one_set in omega arith
+
+      unmarked : (b : Bool) → (c : ℕ) → (nat_le 128 c || b) ≡ false → (c < 128) × (b ≡ false)
+      unmarked b c e = grind (arith, nat_tests)
+
+      never : (t : ℕ) → HasTerminal l.sets (slice_index text at) t → IsAwaitedIn r.flat (set_at r 0) t → ⊥
+      never t has w =
+          let (lt, unmarked_here) = unmarked (get_or first (slice_index text at) false) (slice_index text at) unset in
+          let e = (expected_awaited r is t).1 (subst (λ z. IsAwaitedIn r.flat (set_at r z) t) (sym zero_is) w) in
+          let marked = are.marked (slice_index text at) lt (t, has, to_fresh l.flat r.start r f t e) in
+          absurd (cc)

@@ -2,3 +2,4 @@ pub mod Lexical
 pub mod Laws
 pub mod Terminals
 pub mod Running
+pub mod Choosing

@@ -1,5 +1,5 @@
 -- A recognizer that reads a text from a place on.
-use Rattle.std.specs.Prelude.{◌≡◌, ℕ, suc, ◌+◌, ◌<◌, ◌≤◌, ◌↔◌, ◌⊎◌, Bool, false, List, [], ◌∷◌, ◌++◌, length, Some, Contains, slice_get, slice_index, slice_index_or}
+use Rattle.std.specs.Prelude.{◌≡◌, ℕ, suc, ◌+◌, ◌<◌, ◌≤◌, ◌↔◌, ◌⊎◌, Bool, true, false, ◌||◌, nat_le, List, [], ◌∷◌, ◌++◌, length, Some, Contains, slice_get, slice_index, slice_index_or}
 use Rattle.grammar_model.specs.declared.Edge.{Edge as HeldEdge}
 use Rattle.grammar_model.specs.Derives.{Edges}
 use Rattle.recognizer_model.specs.declared.Item.{Item}
@@ -70,13 +70,20 @@ pub record HasNextSet (terminals : List ℕ) (old new : Recognizer) : Type 0 whe
 abbrev pub IsSomeAwaited : List ℕ → Recognizer → Type 0
 IsSomeAwaited terminals r = (t : ℕ) × Contains terminals t × IsAwaitedIn r.flat (set_at r (place_of r)) t
 
--- no terminal of the character can come first
-abbrev pub IsNeverFirst : LexicalForm → (start c : ℕ) → Type 0
-IsNeverFirst l start c = (t : ℕ) → HasTerminal l.sets c t → IsExpected (fresh l.flat start) t → ⊥
+abbrev pub IsSomeExpected : List ℕ → Recognizer → Type 0
+IsSomeExpected terminals r = (t : ℕ) × Contains terminals t × IsExpected r t
 
--- where a character is marked with false, it cannot come first
-abbrev pub AreFirst : LexicalForm → (start : ℕ) → List Bool → Type 0
-AreFirst l start first = (length first ≡ 128) × ((c : ℕ) → c < 128 → slice_index_or first c false ≡ false → IsNeverFirst l start c)
+-- a terminal of the character can come first
+abbrev pub CanBegin : LexicalForm → (start c : ℕ) → Type 0
+CanBegin l start c = (t : ℕ) × HasTerminal l.sets c t × IsExpected (fresh l.flat start) t
+
+-- each ASCII character that can come first is marked
+pub record AreFirst (l : LexicalForm) (start : ℕ) (first : List Bool) : Type 0 where
+  pub long : length first ≡ 128
+  pub marked : (c : ℕ) → c < 128 → CanBegin l start c → slice_index_or first c false ≡ true
+
+abbrev pub may_begin : List Bool → (c : ℕ) → Bool
+may_begin first c = nat_le 128 c || slice_index_or first c false
 
 -- the rows are the terminals of the characters from the place on
 abbrev pub AreLooked : List (ℕ × Class) → List ℕ → (at : ℕ) → List (List ℕ) → Type 0

@@ -1,6 +1,7 @@
 //! The longest match of several starts of a lexical grammar, by one recognizer for each start.
 #![tactic(auto)]
 
+mod first;
 mod lexer;
 mod run;
 mod table;
