@@ -1,47 +1,56 @@
 -- The longest match of several candidates, of which each is tried once.
 use Rattle.std.proofs.Common.{◌≡◌, ◌↔◌, ◌⊎◌, inl, inr, ℕ, zero, suc, ◌+◌, ◌<◌, ◌≤◌, ◌++◌, Bool, List, [], ◌∷◌, length, take, get_or, set, Contains, refl, sym, ap, ◌∙◌, subst, arith, length-append}
-use Rattle.std.specs.List.{AllByRecursion}
 use Rattle.std.specs.List.Sorted.{IsStrictlySortedBy}
 use Rattle.std.specs.Ordering.{nat_cmp}
-use Rattle.std.specs.declared.cmp.Ordering.TheVariants.{Less}
 use Rattle.std.proofs.lemmas.Bool.{cases_lt}
+use Rattle.std.proofs.lemmas.List.{get_or_append_left, get_or-append-add}
+use Rattle.std.proofs.lemmas.Map.Keys.{below_from_sorted, sorted_from_strictly_increasing}
 use Rattle.std.proofs.lemmas.List.Elements.{Contains-append_left, Contains-push, Contains-push_cases}
 use Rattle.std.proofs.Math.ListN.{length-set}
 use Rattle.earley_sets.specs.Recognizer.{Recognizer}
-use Rattle.earley_sets.proofs.Membership.{Contains-none, Contains-first, Contains-rest, Contains-cons_cases}
+use Rattle.earley_sets.proofs.Membership.{Contains-none}
 use Rattle.lexer.specs.Lexical.{LexicalForm, HasMatch, IsLongestMatch, IsUnmatched}
 use Rattle.lexer.specs.Running.{IsLongestOf}
 use Rattle.lexer.specs.Choosing.{IsBestOf, AreRecognizers}
+use Rattle.lexer.proofs.Listing.{get_or-default}
 
 -- ---- lists in order
 
-all_front : (P : ℕ → Type 0) (xs : List ℕ) (k : ℕ) → AllByRecursion P (xs ++ k ∷ []) → AllByRecursion P xs
-all_front P [] k h = tt
-all_front P (x ∷ xs) k (p, h) = (p, all_front P xs k h)
-
-all_last : (P : ℕ → Type 0) (xs : List ℕ) (k : ℕ) → AllByRecursion P (xs ++ k ∷ []) → P k
-all_last P [] k (p, h) = p
-all_last P (x ∷ xs) k (p, h) = all_last P xs k h
-
-all_push : (P : ℕ → Type 0) (xs : List ℕ) (k : ℕ) → AllByRecursion P xs → P k → AllByRecursion P (xs ++ k ∷ [])
-all_push P [] k h p = (p, tt)
-all_push P (x ∷ xs) k (q, h) p = (q, all_push P xs k h p)
-
 sorted_front : (cs : List ℕ) (k : ℕ) → IsStrictlySortedBy nat_cmp (cs ++ k ∷ []) → IsStrictlySortedBy nat_cmp cs
-sorted_front [] k h = tt
-sorted_front (c ∷ cs) k (a, h) = (all_front (λ y. nat_cmp c y ≡ Less) cs k a, sorted_front cs k h)
+sorted_front cs k h = sorted_from_strictly_increasing cs (λ i lt.
+    let below = below_from_sorted (cs ++ k ∷ []) i (i + 1) 0 h (omega arith) (let l = length-append cs (k ∷ []) in omega arith) in
+    let a = get_or_append_left cs (k ∷ []) 0 i (omega arith) in
+    let b = get_or_append_left cs (k ∷ []) 0 (i + 1) lt in
+    omega arith)
 
-sorted_last : (cs : List ℕ) (k x : ℕ) → IsStrictlySortedBy nat_cmp (cs ++ k ∷ []) → Contains cs x → nat_cmp x k ≡ Less
-sorted_last [] k x h c = absurd (Contains-none x c)
-sorted_last (c ∷ cs) k x (a, h) there = elim (Contains-cons_cases c cs x there) [
-  | inl e ↦ subst (λ z. nat_cmp z k ≡ Less) e (all_last (λ y. nat_cmp c y ≡ Less) cs k a)
-  | inr r ↦ sorted_last cs k x h r
-]
+sorted_last : (cs : List ℕ) (k x : ℕ) → IsStrictlySortedBy nat_cmp (cs ++ k ∷ []) → Contains cs x → x < k
+sorted_last cs k x h (i, lt, e) =
+    let below = below_from_sorted (cs ++ k ∷ []) i (length cs + 0) 0 h (omega arith) (let l = length-append cs (k ∷ []) in omega arith) in
+    let a = get_or_append_left cs (k ∷ []) 0 i lt in
+    let b = get_or-append-add cs (k ∷ []) 0 0 in
+    let d = get_or-default cs i 0 x lt in
+    omega arith
 
-sorted_push : (ms : List ℕ) (k : ℕ) → IsStrictlySortedBy nat_cmp ms → ((x : ℕ) → Contains ms x → nat_cmp x k ≡ Less) → IsStrictlySortedBy nat_cmp (ms ++ k ∷ [])
-sorted_push [] k h below = (tt, tt)
-sorted_push (m ∷ ms) k (a, h) below =
-    (all_push (λ y. nat_cmp m y ≡ Less) ms k a (below m (Contains-first m ms)), sorted_push ms k h (λ x c. below x (Contains-rest m ms x c)))
+sorted_push : (ms : List ℕ) (k : ℕ) → IsStrictlySortedBy nat_cmp ms → ((x : ℕ) → Contains ms x → x < k) → IsStrictlySortedBy nat_cmp (ms ++ k ∷ [])
+sorted_push ms k h below = sorted_from_strictly_increasing (ms ++ k ∷ []) (λ i lt. go i lt (cases_lt (i + 1) (length ms)))
+  where
+    go : (i : ℕ) → i + 1 < length (ms ++ k ∷ []) → (i + 1 < length ms) ⊎ (length ms ≤ i + 1) → get_or (ms ++ k ∷ []) i 0 < get_or (ms ++ k ∷ []) (i + 1) 0
+    go i lt (inl l) =
+        let b = below_from_sorted ms i (i + 1) 0 h (omega arith) l in
+        let a = get_or_append_left ms (k ∷ []) 0 i (omega arith) in
+        let c = get_or_append_left ms (k ∷ []) 0 (i + 1) l in
+        omega arith
+    go i lt (inr ge) =
+        let len = length-append ms (k ∷ []) in
+        let at : length ms + 0 ≡ i + 1 = omega arith in
+        let inside : i < length ms = omega arith in
+        let a = get_or_append_left ms (k ∷ []) 0 i inside in
+        let last : get_or (ms ++ k ∷ []) (i + 1) 0 ≡ k = subst (λ z. get_or (ms ++ k ∷ []) z 0 ≡ k) at (get_or-append-add ms (k ∷ []) 0 0) in
+        let b = below (get_or ms i 0) (i, inside, get_or-default ms i (get_or ms i 0) 0 inside) in
+        omega arith
+
+sorted_none : IsStrictlySortedBy nat_cmp []
+sorted_none = sorted_from_strictly_increasing [] (λ i lt. absurd (omega arith))
 
 -- ---- one candidate more
 
@@ -50,7 +59,7 @@ best_none l text at = record {
   found = λ lt. absurd (omega arith);
   exact = λ k. ((λ h. absurd (Contains-none k h)), (λ (lt, c, h). absurd (omega arith)));
   longest = λ k m c h. absurd (Contains-none k c);
-  sorted = λ s. tt;
+  sorted = λ s. sorted_none;
 }
 
 module _ (l : LexicalForm) (text candidates : List ℕ) (at n : ℕ) (matched : List ℕ) (h : IsBestOf l text at candidates n matched) (k own : ℕ) (is : IsLongestOf l text k at own) where
@@ -74,7 +83,7 @@ module _ (l : LexicalForm) (text candidates : List ℕ) (at n : ℕ) (matched : 
       ],
     );
     longest = longest_with own (omega arith) (omega arith);
-    sorted = λ s. (tt, tt);
+    sorted = λ s. sorted_push [] k sorted_none (λ x c. absurd (Contains-none x c));
   }
 
   pub best_equal : own ≡ n → 0 < own → IsBestOf l text at (candidates ++ k ∷ []) n (matched ++ k ∷ [])
@@ -160,3 +169,6 @@ recognizers_set l rs i r are f s = record {
   flat = each_set (λ k (z : Recognizer). z.flat ≡ l.flat) rs i r are.flat f;
   start = each_set (λ k (z : Recognizer). z.start ≡ k) rs i r are.start s;
 }
+
+pub recognizer_at : (l : LexicalForm) (rs : List Recognizer) (k : ℕ) (r : Recognizer) → AreRecognizers l rs → r ≡ get_or rs k r → k < length rs → (r.flat ≡ l.flat) × (r.start ≡ k)
+recognizer_at l rs k r are is lt = (ap (λ (z : Recognizer). z.flat) is ∙ are.flat k r lt, ap (λ (z : Recognizer). z.start) is ∙ are.start k r lt)
