@@ -1,6 +1,6 @@
 -- Rows that lie end to end.
 use Rattle.std.proofs.Common.{◌≡◌, ℕ, zero, suc, ◌+◌, ◌-◌, ◌<◌, ◌≤◌, ◌++◌, List, [], ◌∷◌, length, take, drop, get_or, refl, sym, ap, ◌∙◌, subst, arith, length-append}
-use Rattle.std.proofs.lemmas.List.{drop-take, take-append-le, length-take-le}
+use Rattle.std.proofs.lemmas.List.{drop-take, length-take-le}
 use Rattle.std.proofs.Math.Seq.{take-length, drop-append_seam}
 use Rattle.earley_sets.proofs.Cutting.{take_take, take_prefix}
 use Rattle.lexer.specs.Terminals.{cut, AreEnds, last_end, row_at}

@@ -3,3 +3,4 @@ pub mod Cutting
 pub mod Listing
 pub mod Taking
 pub mod Choosing
+pub mod Matching

@@ -1,5 +1,5 @@
 -- What a recognizer over the edges of a text has read.
-use Rattle.std.proofs.Common.{◌≡◌, ◌↔◌, ◌⊎◌, inl, inr, ℕ, zero, suc, ◌+◌, ◌-◌, ◌<◌, ◌≤◌, List, length, Some, Contains, slice_get, refl, sym, ap, ◌∙◌, subst, arith}
+use Rattle.std.proofs.Common.{◌≡◌, ◌↔◌, ◌⊎◌, inl, inr, ℕ, suc, ◌-◌, ◌<◌, ◌≤◌, length, Some, refl, sym, ap, subst, arith}
 use Rattle.std.specs.Prelude.{slice_index}
 use Rattle.grammar_model.specs.Grammar.{Grammar, Slot, WrittenRule, slot_of, rule_at, child_slot, IsChildCount}
 use Rattle.grammar_model.specs.Trees.{Tree, Children, Leaf, Nulled, Node, NoChild, Child, child_count}
@@ -16,7 +16,7 @@ use Rattle.recognizer_model.specs.Leo.{GoesForward}
 use Rattle.recognizer_model.specs.Acceptable.{OnlyTerminals}
 use Rattle.recognizer_model.proofs.Earley.{items_are_found}
 use Rattle.recognizer_model.proofs.Views.{symbol_viewed, symbol_back}
-use Rattle.recognizer_model.proofs.Moved.{moved, moved_all, count-moved, tree_moved}
+use Rattle.recognizer_model.proofs.Moved.{moved, moved_all, count-moved}
 use Rattle.earley_sets.proofs.Membership.{get_at}
 use Rattle.earley_sets.proofs.Recognizing.{top_is_top}
 

@@ -1,5 +1,5 @@
 -- What a recognizer has read, when it takes the terminals of one character more.
-use Rattle.std.proofs.Common.{◌≡◌, ◌↔◌, ◌⊎◌, inl, inr, ℕ, zero, suc, ◌+◌, ◌-◌, ◌<◌, ◌≤◌, ◌++◌, List, [], ◌∷◌, length, take, get_or, Some, Contains, slice_get, Bool, true, false, ◌||◌, nat_le, IsTrue, refl, sym, ap, ◌∙◌, subst, arith, length-append}
+use Rattle.std.proofs.Common.{◌≡◌, ◌↔◌, ◌⊎◌, inl, inr, ℕ, suc, ◌+◌, ◌-◌, ◌<◌, ◌≤◌, ◌++◌, List, [], ◌∷◌, length, get_or, Some, Contains, slice_get, Bool, true, false, ◌||◌, nat_le, IsTrue, refl, sym, ap, ◌∙◌, subst, arith, length-append}
 use Rattle.std.specs.Prelude.{slice_index}
 use Rattle.std.proofs.lemmas.Bool.{cases_lt}
 use Rattle.std.proofs.lemmas.Bool.Decides.{nat_tests}
@@ -27,7 +27,7 @@ use Rattle.language_model.specs.Classes.{Class, HasMember}
 use Rattle.lexer.specs.Lexical.{LexicalForm, SetEdges, HasMatch}
 use Rattle.lexer.specs.Terminals.{HasTerminal, AreTerminalsOf}
 use Rattle.lexer.specs.Running.{IsLongestOf, IsLongestTo, IsAwaitedIn, IsFresh, HasRead, HasTaken, HasNextSet, IsSomeAwaited, AreFirst, fresh, may_begin}
-use Rattle.lexer.proofs.Reading.{GoesByOne, not_past, awaited_enough, whole_item, IsDerived, whole_is_derived, tree_back}
+use Rattle.lexer.proofs.Reading.{GoesByOne, not_past, awaited_enough, IsDerived, whole_is_derived, tree_back}
 
 -- ---- expected terminals are those that are awaited in the last set
 
@@ -218,10 +218,12 @@ module _ (g : FlatGrammar) (sets : List (ℕ × Class)) (text : List ℕ) (start
   pub match_derived : (n : ℕ) → HasMatch form text start at (at + n) → (t : Tree) × Derives (grammar_view g) E (slot_of (slice_index (rhs_of g (slice_index g.tops start)) 0)) 0 n t
   match_derived n (t, d) =
       let moves = λ (x p q : ℕ) (le : at ≤ p) (h : FlatEdges g (SetEdges sets text) x p q). (let f = far x p q h in
-          subst (λ z. FlatEdges g (SetEdges sets text) x z (at + (q - at))) (let z : p ≡ at + (p - at) = omega arith in z) (subst (λ z. FlatEdges g (SetEdges sets text) x p z) (let z : q ≡ at + (q - at) = omega arith in z) h)) in
-      let d' = tree_back (grammar_view g) (FlatEdges g (SetEdges sets text)) E at far moves t (slot_of (slice_index (rhs_of g (slice_index g.tops start)) 0)) at (at + n) (omega arith) d in
-      (moved (λ z. z - at) t, subst (λ z. Derives (grammar_view g) E (slot_of (slice_index (rhs_of g (slice_index g.tops start)) 0)) z n (moved (λ z. z - at) t)) (let z : at - at ≡ 0 = omega arith in z)
-          (subst (λ z. Derives (grammar_view g) E (slot_of (slice_index (rhs_of g (slice_index g.tops start)) 0)) (at - at) z (moved (λ z. z - at) t)) (let z : (at + n) - at ≡ n = omega arith in z) d'))
+      subst (λ z. FlatEdges g (SetEdges sets text) x z (at + (q - at))) (let z : p ≡ at + (p - at) = omega arith in z) (subst (λ z. FlatEdges g (SetEdges sets text) x p z) (let z : q ≡ at + (q - at) = omega arith in z) h)) in
+      let d' = tree_back (grammar_view g) (FlatEdges g (SetEdges sets text)) E at far moves t (slot_of (slice_index (rhs_of g (slice_index g.tops start)) 0)) at (at + n) (omega arith) d in (
+        moved (λ z. z - at) t,
+        subst (λ z. Derives (grammar_view g) E (slot_of (slice_index (rhs_of g (slice_index g.tops start)) 0)) z n (moved (λ z. z - at) t)) (let z : at - at ≡ 0 = omega arith in z)
+            (subst (λ z. Derives (grammar_view g) E (slot_of (slice_index (rhs_of g (slice_index g.tops start)) 0)) (at - at) z (moved (λ z. z - at) t)) (let z : (at + n) - at ≡ n = omega arith in z) d'),
+      )
 
   pub derived_match : (n : ℕ) → (t : Tree) × Derives (grammar_view g) E (slot_of (slice_index (rhs_of g (slice_index g.tops start)) 0)) 0 n t → HasMatch form text start at (at + n)
   derived_match n (t, d) =
@@ -343,7 +345,7 @@ module _ (l : LexicalForm) (text : List ℕ) (at : ℕ) (r : Recognizer) (is : I
   none_begins first are unset =
       longest_done l text r.start at 0 0 (longest_none l text r.start at)
       (λ m match. no_longer l.sets text at 0 r is (over l text r.start at 0 r is (read_nothing l text r.start at r f)) (λ t lt has w. absurd (never t (subst (λ z. HasTerminal l.sets (slice_index text z) t) (let z : at + 0 ≡ at = omega arith in z) has) w)) m
-          (subst (λ T. T) (sym (same l text r.start at 0 r is (read_nothing l text r.start at r f) (at + m))) match))
+      (subst (λ T. T) (sym (same l text r.start at 0 r is (read_nothing l text r.start at r f) (at + m))) match))
     where
       zero_is : place_of r ≡ 0
       zero_is = let o = f.one_set in omega arith

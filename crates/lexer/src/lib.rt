@@ -7,5 +7,15 @@ mod run;
 mod table;
 mod terminals;
 
+ghost use Rattle.lexer.specs.Laws.{MatchesAreTheGrammars};
+
 pub use lexer::{LexAnswer, Lexer, longest};
+use recognizer_model::flat_grammars_are_flat_forms;
 pub use table::Lexical;
+
+/// What the flat form of a checked lexical grammar matches is what the grammar matches.
+pub fn matches_are_the_grammars()
+    ensures { MatchesAreTheGrammars }
+{
+    flat_grammars_are_flat_forms();
+}

@@ -1,4 +1,4 @@
-use Rattle.std.proofs.Common.{◌≡◌, ◌<◌, ◌+◌, ◌⊎◌, ℕ, inl, inr, Bool, true, false, length, get_or, set, sym, subst, ap, ◌∙◌, arith}
+use Rattle.std.proofs.Common.{◌≡◌, inl, inr, true, false, get_or, set, sym, subst, ◌∙◌, arith}
 use Rattle.std.proofs.lemmas.Bool.{cases_lt}
 use Rattle.std.proofs.Math.ListN.{length-set}
 use Rattle.lexer.specs.Running.{CanBegin}
@@ -13,8 +13,8 @@ loop-code-preserved c =
     let b = c.is_some_expected.result in
     let inv = c.loop-code.invariant in
     let here = λ (can : CanBegin c.args.table.now c.args.recce.now.start code). (
-        let (t, has, e) = can in
-        c.is_some_expected.ensures.1 (t, (c.ascii.ensures t).1 has, from_fresh c.args.table.now.flat c.args.recce.now.start c.args.recce.now c.requires t e)) in
+    let (t, has, e) = can in
+    c.is_some_expected.ensures.1 (t, (c.ascii.ensures t).1 has, from_fresh c.args.table.now.flat c.args.recce.now.start c.args.recce.now c.requires t e)) in
     record {
       long = length-set first code b ∙ inv.long;
       marked = λ k lt can. elim (cases_lt k code) [

@@ -1,4 +1,4 @@
-use Rattle.std.proofs.Common.{◌⊎◌, inl, inr, Contains, sym, subst, true, false}
+use Rattle.std.proofs.Common.{inl, inr, Contains, sym, subst}
 use Rattle.earley_sets.specs.Recognizer.{IsExpected}
 use Rattle.earley_sets.proofs.Cutting.{take_all}
 use Rattle.lexer.proofs.Listing.{contains_next}

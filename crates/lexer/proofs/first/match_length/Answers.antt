@@ -1,4 +1,4 @@
-use Rattle.std.proofs.Common.{◌∙◌, ◌≤◌, refl, sym, ap, subst, arith, List, length, not, true, false}
+use Rattle.std.proofs.Common.{◌∙◌, refl, sym, ap, subst, arith, List, length}
 use Rattle.recognizer_model.specs.declared.Item.{Item}
 use Rattle.lexer.specs.Running.{IsFresh, IsLongestOf, AreFirst, may_begin}
 use Rattle.lexer.proofs.Taking.{none_at_end, none_begins}

@@ -1,7 +1,6 @@
-use Rattle.std.proofs.Common.{◌≡◌, ◌∙◌, ◌<◌, ◌+◌, ℕ, Bool, List, [], length, get_or, take, Contains, refl, sym, ap, subst, arith}
-use Rattle.earley_sets.specs.Recognizer.{Recognizer}
+use Rattle.std.proofs.Common.{◌≡◌, ◌∙◌, ◌<◌, ℕ, List, [], length, get_or, take, Contains, sym, ap, subst, arith}
 use Rattle.earley_sets.proofs.Cutting.{take_all}
-use Rattle.lexer.specs.Running.{IsLongestOf, AreFirst, AreLooked}
+use Rattle.lexer.specs.Running.{IsLongestOf, AreFirst}
 use Rattle.lexer.specs.Choosing.{IsBestOf}
 use Rattle.lexer.proofs.Listing.{get_or-default, next_is}
 use Rattle.lexer.proofs.Choosing.{best_none, recognizers_set, recognizer_at}

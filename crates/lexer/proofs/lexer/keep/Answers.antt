@@ -1,4 +1,4 @@
-use Rattle.std.proofs.Common.{◌≡◌, ◌∙◌, ◌<◌, ◌≤◌, ◌++◌, ◌∷◌, [], ap, sym, subst, arith, List, ℕ}
+use Rattle.std.proofs.Common.{◌≡◌, ◌∙◌, ◌<◌, ◌++◌, ◌∷◌, [], ap, sym, subst, arith}
 use Rattle.lexer.specs.declared.lexer.LexAnswer.{LexAnswer}
 use Rattle.lexer.specs.Choosing.{IsBestOf}
 use Rattle.lexer.proofs.Choosing.{best_longer, best_equal, best_kept}

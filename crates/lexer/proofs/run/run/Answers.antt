@@ -1,4 +1,4 @@
-use Rattle.std.proofs.Common.{◌≡◌, ◌+◌, ◌<◌, ◌≤◌, suc, ℕ, length, true, false, sym, subst, arith}
+use Rattle.std.proofs.Common.{◌≡◌, ◌+◌, ◌<◌, suc, length, sym, subst, arith}
 use Rattle.std.specs.Prelude.{slice_index}
 use Rattle.lexer.specs.Terminals.{AreTerminalsOf}
 use Rattle.lexer.specs.Running.{HasRead, IsLongestTo}

@@ -1,4 +1,4 @@
-use Rattle.std.proofs.Common.{◌≡◌, ◌≤◌, length}
+use Rattle.std.proofs.Common.{◌≤◌, length}
 use Rattle.earley_sets.specs.Recognizer.{IsRecognizer}
 use Rattle.lexer.specs.Running.{HasRead, IsLongestTo, AreLooked}
 use Rattle.lexer.proofs.run.run.Given as goal

@@ -1,4 +1,4 @@
-use Rattle.std.proofs.Common.{◌↔◌, IsTrue, ◌+◌, ◌++◌, ◌∷◌, [], true, sym, subst, take}
+use Rattle.std.proofs.Common.{◌↔◌, IsTrue, ◌++◌, ◌∷◌, [], sym, subst, take}
 use Rattle.earley_sets.proofs.Membership.{Contains-none}
 use Rattle.earley_sets.proofs.Cutting.{take_all}
 use Rattle.lexer.specs.Running.{HasTaken, IsSomeAwaited}

@@ -1,6 +1,5 @@
 use Rattle.std.proofs.Common.{◌↔◌, IsTrue, take}
 use Rattle.lexer.specs.Running.{HasTaken, IsSomeAwaited}
-use Rattle.lexer.proofs.Taking.{taken_more}
 use Rattle.lexer.proofs.run.take_terminals.Given as goal
 
 abbrev pub invariant-loop-terminal : goal.invariant-loop-terminal

@@ -1,4 +1,4 @@
-use Rattle.std.proofs.Common.{◌≡◌, ◌<◌, ◌+◌, ℕ, List, ap, sym, subst, arith, length, length-append, ◌∷◌, []}
+use Rattle.std.proofs.Common.{ℕ, List, ap, sym, subst, arith, length, length-append, ◌∷◌, []}
 use Rattle.lexer.specs.Terminals.{AreTerminalsOf}
 use Rattle.lexer.proofs.Listing.{rows_more}
 use Rattle.lexer.proofs.terminals.ascii_rows.Goals as goal

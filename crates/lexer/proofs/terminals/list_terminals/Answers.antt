@@ -1,5 +1,4 @@
-use Rattle.std.proofs.Common.{◌≡◌, ◌++◌, ◌∷◌, [], ◌+◌, true, false, sym, subst, take}
-use Rattle.language_model.specs.Classes.{HasMember}
+use Rattle.std.proofs.Common.{◌≡◌, ◌++◌, ◌∷◌, [], ◌+◌, sym, subst, take}
 use Rattle.lexer.specs.Terminals.{AreTerminalsOf}
 use Rattle.earley_sets.proofs.Cutting.{take_all}
 use Rattle.lexer.proofs.Listing.{terminals_more, terminals_same}

@@ -1,4 +1,4 @@
-use Rattle.std.proofs.Common.{◌≡◌, ◌<◌, ℕ, sym, subst, ap, arith, length, IfOk, Contains, Ok}
+use Rattle.std.proofs.Common.{◌<◌, ℕ, sym, subst, arith, length, IfOk, Contains}
 use Rattle.std.specs.Prelude.{IsNone, IfSome}
 use Rattle.lexer.specs.declared.lexer.LexAnswer.{LexAnswer}
 use Rattle.lexer.specs.Lexical.{LexicalForm, IsLongestMatch, IsUnmatched}

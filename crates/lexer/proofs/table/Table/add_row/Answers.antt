@@ -1,4 +1,4 @@
-use Rattle.std.proofs.Common.{sym, subst, List, ℕ, ◌≡◌, ◌++◌, ◌∷◌, []}
+use Rattle.std.proofs.Common.{sym, subst}
 use Rattle.std.proofs.lemmas.Result.{on_ok_weaker}
 use Rattle.lexer.specs.Lexical.{LexicalForm}
 use Rattle.lexer.specs.Terminals.{AreTerminalsOf}
