@@ -6,6 +6,8 @@ mod lexer;
 mod run;
 mod table;
 mod terminals;
+#[cfg(test)]
+mod tests;
 
 ghost use Rattle.lexer.specs.Laws.{MatchesAreTheGrammars};
 
