@@ -1,16 +1,18 @@
-//! The action that the value of the adverb `action` tells.
-ghost use Rattle.std.specs.Prelude.{◌≡◌, ◌≤◌, length, chars, IfOk, not, ◌==◌, option_map, false};
+//! Actions as they are told by a text, such as the value of the adverb `action`.
+ghost use Rattle.std.specs.Prelude.{◌≡◌, ◌≤◌, length, chars, IfOk, IfErr, Some, None, not, ◌==◌, option_map, false};
 ghost use Rattle.std.specs.List.{prefix_len, list_all};
 ghost use Rattle.unicode.specs.Binary.{is_white_space};
 ghost use Rattle.language_model.specs.Tokens.{spaced};
 ghost use Rattle.language_model.specs.Actions as actions;
 ghost use Rattle.language_model.specs.Actions.{item_named, items_named, between_commas, descriptor_of};
 ghost use Rattle.value_text.specs.Meaning.{action_of};
+ghost use Rattle.value_text.specs.declared.descriptor.DescriptorRefusal.TheVariants.{BadItem, NoMemory};
 
+use crate::meaning::{Action, Items};
 use grammar_model::DescItem;
 use std::alloc::{AllocError, Global};
+use thiserror::Error;
 use unicode::properties::is_white_space;
-use value_text::{Action, Items};
 
 const ARRAY: &[char] = &[':', ':', 'a', 'r', 'r', 'a', 'y'];
 
@@ -152,17 +154,42 @@ fn action_of(alloc: Global, text: &[char]) -> Result<Option<Action>, AllocError>
     }
 }
 
-/// The characters of the text.
-pub fn chars_of(alloc: Global, text: &str) -> Result<Vec<char>, AllocError>
+/// Why a text is no descriptor. Want of memory may come at any point.
+#[derive(Clone, Copy, Debug, PartialEq, Eq, Error)]
+pub enum DescriptorRefusal {
+    /// The text is no action's name, and no list of items in brackets.
+    #[error("no action")]
+    BadItem,
+    /// Memory ran out.
+    #[error("out of memory")]
+    NoMemory,
+}
+
+impl From<AllocError> for DescriptorRefusal {
+    ghost use Rattle.value_text.specs.declared.descriptor.DescriptorRefusal.TheVariants.{NoMemory};
+
+    ghost from_gives = { λ _ refusal. refusal ≡ NoMemory };
+
+    fn from(_error: AllocError) -> DescriptorRefusal {
+        DescriptorRefusal::NoMemory
+    }
+}
+
+// The characters of the text.
+fn chars_of(alloc: Global, text: &str) -> Result<Vec<char>, AllocError>
     ensures { IfOk result (λ v. v.items ≡ chars text.now) }
 {
     text.chars().collect(alloc)
 }
 
-/// The action that the text tells, if it tells one.
-pub fn read_action(alloc: Global, text: &str) -> Result<Option<Action>, AllocError>
-    ensures { IfOk result (λ action. option_map action_of action ≡ actions.action_of (chars text.now)) }
+/// The action that the text tells: `::array`, `::first`, `::undef`, or items in brackets, parted by commas.
+pub fn read_descriptor(alloc: Global, text: &str) -> Result<Action, DescriptorRefusal>
+    ensures ok { IfOk result (λ action. actions.action_of (chars text.now) ≡ Some (action_of action)) }
+    ensures bad_item { IfErr result (λ refusal. refusal ≡ BadItem → actions.action_of (chars text.now) ≡ None) }
 {
     let text = chars_of(alloc, text)?;
-    action_of(alloc, &text)
+    match action_of(alloc, &text)? {
+        Some(action) => Ok(action),
+        None => Err(DescriptorRefusal::BadItem),
+    }
 }
