@@ -124,20 +124,24 @@ const CASES: &[Case] = &[
 ];
 
 // Whether one lexer finds all that.
-fn finds(
-    alloc: Global,
-    w: &Written,
-    sets: &[(SymbolId, CharSet)],
-    cases: &[Case],
-) -> Result<bool, AllocError> {
+fn finds(alloc: Global, w: &Written, cases: &[Case]) -> Result<bool, AllocError> {
     let Ok(checked) = check(alloc, w) else {
         return Ok(false);
     };
     let Ok(flat) = flatten(alloc, &checked) else {
         return Ok(false);
     };
+    let Ok(sets) = sets(alloc) else {
+        return Ok(false);
+    };
     let starts = flat.start_count();
-    let mut lexer = Lexer::new(alloc, Lexical { flat: &flat, sets })?;
+    let mut lexer = Lexer::new(
+        alloc,
+        Lexical {
+            flat: &flat,
+            sets: &sets,
+        },
+    )?;
     for (text, at, candidates, expected) in cases {
         let found = found(alloc, &mut lexer, starts, text.as_bytes(), *at, candidates)?;
         if found.as_slice() != *expected {
@@ -150,9 +154,6 @@ fn finds(
 #[test]
 fn longest_matches(rt: HostRuntime) -> Result<(), Fail> {
     let w = grammar(rt.alloc())?;
-    let Ok(sets) = sets(rt.alloc()) else {
-        return Err(Fail);
-    };
-    assert!(rt; finds(rt.alloc(), &w, &sets, CASES)?);
+    assert!(rt; finds(rt.alloc(), &w, CASES)?);
     Ok(())
 }
