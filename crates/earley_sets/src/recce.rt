@@ -185,6 +185,27 @@ impl<'g> Recce<'g> {
         (self.rows.len() - 1) as u32
     }
 
+    /// The flat grammar that is read by.
+    pub fn flat(&self) -> &'g Flat
+        ensures { result.now ≡ self.now.flat }
+    {
+        self.flat
+    }
+
+    /// The start's place among the starts.
+    pub fn start(&self) -> usize
+        ensures { result ≡ self.now.start }
+    {
+        self.start
+    }
+
+    /// The edges that were taken.
+    pub fn edges(&self) -> &TokenEdges
+        ensures { result.now ≡ self.now.edges }
+    {
+        &self.edges
+    }
+
     /// Makes the set of the next place. After an error the recognizer is as before.
     pub fn complete_earleme<L: Ledger>(&mut self, steps: &mut Steps<L>) -> Result<(), AllocError>
         requires { place_of self.old < 16777216 }

@@ -1,0 +1,14 @@
+pub mod RowLemmas
+pub mod PartLemmas
+pub mod Sources
+pub mod Gathering
+pub mod PartOrder
+pub mod Splits
+pub mod Growing
+pub mod Putting
+pub mod Wholes
+pub mod Grouping
+pub mod Finishing
+pub mod Walking
+pub mod Whole
+pub mod NodeKeys

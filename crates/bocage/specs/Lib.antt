@@ -1,0 +1,4 @@
+pub mod Rows
+pub mod Readers
+pub mod Parts
+pub mod Walk

@@ -1,0 +1,177 @@
+-- What is looked up on the way back, and how what is found grows.
+use Rattle.std.specs.Prelude.{◌≡◌, ℕ, suc, ◌+◌, ◌-◌, ◌<◌, ◌≤◌, List, [], ◌∷◌, ◌++◌, length, map, take, Bool, Option, Some, None, Contains, ◌⊎◌, ◌↔◌, slice_get}
+use Rattle.std.specs.List.Sorted.{IsStrictlySortedBy}
+use Rattle.grammar_model.specs.declared.Ranking.{Ranking}
+use Rattle.grammar_model.specs.Grammar.{Grammar}
+use Rattle.grammar_model.specs.Checked.{IsChecked}
+use Rattle.recognizer_model.specs.declared.Item.{Item}
+use Rattle.recognizer_model.specs.declared.NodeKey.{NodeKey}
+use Rattle.recognizer_model.specs.Flat.{FlatGrammar, IsRule, rhs_of, part_of, IsNullable}
+use Rattle.recognizer_model.specs.FlatForm.{IsFlatOf, flat_order}
+use Rattle.recognizer_model.specs.Nodes.{IsUsed}
+use Rattle.earley_sets.specs.Recognizer.{Recognizer, IsRecognizer, place_of, set_at, edges_of, top_of}
+use Rattle.forest_model.specs.Forest.{Forest, ForestNode, Alternative, IsAlternative, AreAlternatives, starts_cmp}
+use Rattle.bocage.specs.declared.index.Placed.{Placed}
+use Rattle.bocage.specs.declared.parts.Part.{Part}
+use Rattle.bocage.specs.declared.parts.RuleKey.{RuleKey}
+use Rattle.bocage.specs.declared.rows.AlternativeRow.{AlternativeRow}
+use Rattle.bocage.specs.declared.rows.LastRow.{LastRow}
+use Rattle.bocage.specs.declared.rows.LastRow.TheVariants as row
+use Rattle.bocage.specs.declared.walk.Known.{Known}
+use Rattle.bocage.specs.declared.walk.Found.{Found}
+use Rattle.bocage.specs.Parts.{part_cmp, IsPart, part_at}
+use Rattle.bocage.specs.declared.rows.NodeRow.{NodeRow}
+use Rattle.bocage.specs.Rows.{alternative_of, node_of, between, IsLastWithin, AreWithin, AreNodesWithin}
+
+-- an item in the set of a place
+abbrev pub IsPlaced : Recognizer → Placed → Type 0
+IsPlaced r p = (p.place ≤ place_of r) × Contains (set_at r p.place) p.item
+
+-- a recognizer over the flat grammar of a checked one, with its items and its parts
+pub record IsKnown (w : Grammar) (ranking : Ranking) (r : Recognizer) (placed : List Placed) (all : List Part) : Type 0 where
+  pub checked : IsChecked w
+  pub flat_of : IsFlatOf r.flat w
+  pub is : IsRecognizer r
+  pub items : (p : Placed) → Contains placed p ↔ IsPlaced r p
+  pub parts : (p : Part) → Contains all p ↔ IsPart w ranking r p
+  pub sorted : IsStrictlySortedBy part_cmp all
+
+-- a node of which the key is known
+abbrev pub bare : NodeKey → ForestNode
+bare key = record { key = key; alternatives = [] }
+
+-- the forest of the reading with these nodes
+abbrev pub seen : Grammar → Ranking → Recognizer → List NodeKey → Forest
+seen w ranking r keys = record { written = w; flat = r.flat; start = r.start; edges = r.edges; place = place_of r; ranking = ranking; nodes = map bare keys; root = None }
+
+abbrev pub IsUsedIn : Recognizer → NodeKey → Type 0
+IsUsedIn r key = IsUsed r.flat (edges_of r) (top_of r) (place_of r) key
+
+-- more keys stand behind the old ones, each with the property
+abbrev pub GrowsBy : (NodeKey → Type 0) → (old new : List NodeKey) → Type 0
+GrowsBy P old new = (more : List NodeKey) × (new ≡ old ++ more) × ((key : NodeKey) → Contains more key → P key)
+
+-- the node of first parts up to a place
+abbrev pub node_of_item : Item → (end : ℕ) → NodeKey
+node_of_item item end = record { rule = item.rule; dot = item.dot; origin = item.origin; end = end }
+
+-- the node of one part more
+abbrev pub node_after : Item → (end : ℕ) → NodeKey
+node_after front end = record { rule = front.rule; dot = suc front.dot; origin = front.origin; end = end }
+
+abbrev pub whole_keys_by : FlatGrammar → Part → Option RuleKey → List NodeKey
+whole_keys_by g p None = []
+whole_keys_by g p (Some key) = record { rule = key.rule; dot = length (rhs_of g key.rule); origin = p.end - p.length; end = p.end } ∷ []
+
+-- the nodes of those parts that are whole rules
+abbrev pub whole_keys : FlatGrammar → List Part → List NodeKey
+whole_keys g [] = []
+whole_keys g (p ∷ ps) = whole_keys_by g p p.whole ++ whole_keys g ps
+
+abbrev pub HasRule : FlatGrammar → Option RuleKey → Type 0
+HasRule g None = Unit {0}
+HasRule g (Some key) = IsRule g key.rule
+
+-- the part lies where it can, and its rule is one of the grammar's
+abbrev pub FitsPart : FlatGrammar → Part → Type 0
+FitsPart g p = (p.length ≤ p.end) × HasRule g p.whole
+
+-- the numbers are those of the keys
+abbrev pub AreNumbers : (keys : List NodeKey) → (numbers : List ℕ) → (of : List NodeKey) → Type 0
+AreNumbers keys numbers of = map (slice_get keys) numbers ≡ map Some of
+
+-- more nodes of whole rules stand behind the old ones
+abbrev pub AddsWholes : (keys of : List NodeKey) → (old new : List ℕ) → Type 0
+AddsWholes keys of old new = (numbers : List ℕ) × (new ≡ old ++ numbers) × AreNumbers keys numbers of
+
+-- the number of the node of the parts before, if there are any
+abbrev pub IsFrontFound : List NodeKey → Item → (end : ℕ) → Option ℕ → Type 0
+IsFrontFound keys front end None = front.dot ≡ 0
+IsFrontFound keys front end (Some n) = (0 < front.dot) × (slice_get keys n ≡ Some (node_of_item front end))
+
+-- what the last part is, by parts over one span
+abbrev pub IsLastFound : FlatGrammar → List Part → (keys : List NodeKey) → (old new : List ℕ) → LastRow → Type 0
+IsLastFound g parts keys old new row.Edge = ((part_at parts 0).whole ≡ None) × (new ≡ old)
+IsLastFound g parts keys old new row.Nothing = ⊥
+IsLastFound g parts keys old new (row.Wholes first end) = (key : RuleKey) × ((part_at parts 0).whole ≡ Some key) × (first ≡ length old) × (end ≡ length new) × AddsWholes keys (whole_keys g parts) old new
+
+abbrev pub Knows : Known → Type 0
+Knows k = IsKnown k.written.now k.ranking k.recce.now k.items.now.keys k.parts.now
+
+abbrev pub seen_by : Known → List NodeKey → Forest
+seen_by k keys = seen k.written.now k.ranking k.recce.now keys
+
+abbrev pub is_high : Known → Item → Bool
+is_high k front = (flat_order k.written.now k.ranking k.recce.now.flat).null_high front.rule
+
+-- the alternatives of the node of one part more, whose last part begins where D says: those of which the front is there, in order
+pub record AreListed (F : Forest) (r : Recognizer) (high : Bool) (front : Item) (symbol end : ℕ) (D : ℕ → Type 0) (wholes : List ℕ) (rows : List AlternativeRow) : Type 0 where
+  pub exact : (m : ℕ) → Contains (map (λ a. a.start) rows) m ↔ (D m × Contains (set_at r m) front)
+  pub sorted : IsStrictlySortedBy (starts_cmp high end) (map (λ a. a.start) rows)
+  pub each : (a : AlternativeRow) → Contains rows a → IsAlternative F front.rule front.dot front.origin symbol end (alternative_of wholes a) × IsLastWithin wholes a.last
+
+-- so many alternatives were put
+pub record Lists (k : Known) (front : Item) (symbol end : ℕ) (D : ℕ → Type 0) (old new : Found) : Type 0 where
+  pub rows : List AlternativeRow
+  pub is : new.alternatives.items ≡ old.alternatives.items ++ rows
+  pub listed : AreListed (seen_by k new.keys.keys) k.recce.now (is_high k front) front symbol end D new.wholes.items rows
+  pub keys : GrowsBy (IsUsedIn k.recce.now) old.keys.keys new.keys.keys
+  pub more : List ℕ
+  pub wholes : new.wholes.items ≡ old.wholes.items ++ more
+
+-- parts over one span: all of them that there are
+pub record IsGroup (all parts : List Part) : Type 0 where
+  pub some : 0 < length parts
+  pub sorted : IsStrictlySortedBy part_cmp parts
+  pub exact : (p : Part) → Contains parts p ↔ (Contains all p × (p.end ≡ (part_at parts 0).end) × (p.symbol ≡ (part_at parts 0).symbol) × (p.length ≡ (part_at parts 0).length))
+
+-- what may stand behind a front, as far as it has to be looked at
+pub record AreCandidates (all : List Part) (front : Item) (symbol place : ℕ) (parts : List Part) : Type 0 where
+  pub sorted : IsStrictlySortedBy part_cmp parts
+  pub exact : (p : Part) → Contains parts p ↔ (Contains all p × (p.end ≡ place) × (p.symbol ≡ symbol) × (front.dot ≡ 0 → p.length + front.origin ≡ place))
+
+-- a last part begins at one of the parts
+abbrev pub BeginsIn : List Part → ℕ → Type 0
+BeginsIn parts m = (p : Part) × Contains parts p × (m + p.length ≡ p.end)
+
+-- the node of one part more is used, and the symbol is that part
+pub record IsNext (k : Known) (front : Item) (symbol place : ℕ) : Type 0 where
+  pub used : IsUsedIn k.recce.now (node_after front place)
+  pub part : part_of k.recce.now.flat front.rule front.dot ≡ Some symbol
+  pub end : place ≤ place_of k.recce.now
+
+-- a last part of the symbol may begin there
+abbrev pub MayBegin : Known → Item → (symbol place : ℕ) → ℕ → Type 0
+MayBegin k front symbol place m = ((m ≡ place) × IsNullable k.recce.now.flat symbol) ⊎ ((p : Part) × Contains k.parts.now p × (p.end ≡ place) × (p.symbol ≡ symbol) × (m + p.length ≡ place) × (front.dot ≡ 0 → m ≡ front.origin))
+
+abbrev pub front_of_key : NodeKey → Item
+front_of_key key = record { rule = key.rule; dot = key.dot - 1; origin = key.origin }
+
+-- the alternatives of a node were put
+pub record ListsKey (k : Known) (key : NodeKey) (old new : Found) : Type 0 where
+  pub symbol : ℕ
+  pub some : 0 < key.dot
+  pub part : part_of k.recce.now.flat key.rule (key.dot - 1) ≡ Some symbol
+  pub next : IsNext k (front_of_key key) symbol key.end
+  pub lists : Lists k (front_of_key key) symbol key.end (MayBegin k (front_of_key key) symbol key.end) old new
+
+-- the node of the whole
+abbrev pub top_key : Recognizer → NodeKey
+top_key r = record { rule = top_of r; dot = length (rhs_of r.flat (top_of r)); origin = 0; end = place_of r }
+
+-- begun with the node of the whole, if there is one
+abbrev pub IsBegun : Recognizer → List NodeKey → Option ℕ → Type 0
+IsBegun r keys None = (place_of r ≡ 0) × (keys ≡ [])
+IsBegun r keys (Some n) = (0 < place_of r) × (slice_get keys n ≡ Some (top_key r)) × ((key : NodeKey) → Contains keys key → key ≡ top_key r)
+
+abbrev pub rows_of : List NodeRow → List AlternativeRow → List ℕ → List ForestNode
+rows_of nodes alternatives wholes = map (node_of alternatives wholes) nodes
+
+-- the first of the keys have their alternatives
+pub record AreWalked (k : Known) (nodes : List NodeRow) (count : ℕ) (f : Found) : Type 0 where
+  pub bound : count ≤ length f.keys.keys
+  pub are : map (λ n. n.key) nodes ≡ take count f.keys.keys
+  pub each : (n : NodeRow) → Contains nodes n → AreAlternatives (seen_by k f.keys.keys) n.key (map (alternative_of f.wholes.items) (between n.first n.end f.alternatives.items))
+  pub inside : AreNodesWithin nodes f.alternatives.items
+  pub within : AreWithin f.alternatives.items f.wholes.items
+  pub used : (key : NodeKey) → Contains f.keys.keys key → IsUsedIn k.recce.now key

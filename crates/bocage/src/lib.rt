@@ -1,0 +1,13 @@
+//! The shared packed forest of a reading: all derivations of the start, each way to derive the first parts of a rule over a span once.
+#![tactic(auto)]
+
+mod forest;
+mod index;
+mod parts;
+mod refusal;
+mod rows;
+mod walk;
+
+pub use forest::{Alternatives, Forest};
+pub use refusal::ForestRefusal;
+pub use rows::LastPart;
