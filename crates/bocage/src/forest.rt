@@ -44,6 +44,7 @@ impl<'f> Model for Alternatives<'f> {
 }
 
 impl<'f> Alternatives<'f> {
+    /// How many starts the last part has.
     pub fn len(&self) -> usize
         ensures { result ≡ length self.now }
     {
@@ -101,7 +102,8 @@ impl<'a> Model for Forest<'a> {
 }
 
 impl<'a> Forest<'a> {
-    /// The forest of all derivations of the recognizer's start over the places so far.
+    /// The forest of all derivations of the recognizer's start over the places so far. `w` is the grammar that the recognizer's flat
+    /// grammar was made from, and `ranking` says whether ranks of rules count. No step is counted.
     pub fn build<L: Ledger>(
         alloc: Global,
         recce: &'a Recce<'a>,
@@ -173,6 +175,7 @@ impl<'a> Forest<'a> {
         let _count = self.nodes.as_slice().len();
     }
 
+    /// How many nodes there are. They are numbered from 0, in the order in which the walk back from the whole met them.
     pub fn node_count(&self) -> usize
         ensures { result ≡ length self.now.nodes }
     {

@@ -2,4 +2,6 @@
 #![tactic(auto)]
 
 #[cfg(test)]
+mod forests;
+#[cfg(test)]
 mod levels;
