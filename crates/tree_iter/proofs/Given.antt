@@ -7,7 +7,7 @@ use Rattle.grammar_model.specs.Order.{rank_order}
 use Rattle.grammar_model.proofs.Sorting.{ranks_order}
 use Rattle.grammar_model.proofs.Total.{all_unique}
 use Rattle.grammar_model.specs.Derives.{Held}
-use Rattle.std.specs.Prelude.{slice_index_or}
+use Rattle.std.specs.Prelude.{slice_index_or, IsSome}
 use Rattle.forest_model.specs.Forest.{Forest, IsForest}
 use Rattle.forest_model.specs.Listing.{IsListing, AreFirst}
 use Rattle.forest_laws.specs.Lists.{Lists, roots_by}
@@ -127,6 +127,9 @@ answer_more w n given place after forest u (at, r) trees g =
       record { first = subst (λ f. AreFirst f (trees ++ next.tree ∷ [])) same next.are_first; count = length-append trees (next.tree ∷ []) ∙ ap (λ k. k + 1) g.count },
       ap (λ p. current_of p n.steps.items) at ∙ ap Some (r.shows ∙ ap (λ (f : Forest). steps_written f.written f.flat [] r.first) (sym same) ∙ next.steps),
     )
+
+pub stands_more : (n : Walk) (after : Place) (rest : List (List Step)) → Advances after n rest true → IsSome (current_of after n.steps.items)
+stands_more n after rest (at, r) = subst (λ p. IsSome (current_of p n.steps.items)) (sym at) refl
 
 -- there is none left
 pub under_way_none : (w n : Walk) (given : ℕ) (place after : Place) → n.forest ≡ w.forest → (u : IsUnderWay w given place) → Advances after n u.rest false → IsUnderWay n given after

@@ -1,5 +1,5 @@
 //! The iterator over the derivations of a forest.
-ghost use Rattle.std.specs.Prelude.{◌≡◌, ◌+◌, ◌<◌, ◌++◌, [], List, length, map, vec_len, vec_capacity, IfOk, OnOk, OnErr, IfSome, IsSome, IsFalse};
+ghost use Rattle.std.specs.Prelude.{◌≡◌, ◌+◌, ◌<◌, ◌++◌, [], List, length, map, vec_len, vec_capacity, IfOk, OnOk, OnErr, IfSome, IsSome, IsTrue, IsFalse};
 ghost use Rattle.grammar_core.specs.Steps.{step_of};
 ghost use Rattle.grammar_model.specs.Trees.{Tree};
 ghost use Rattle.tree_iter.specs.Iteration.{AreGiven, IsAnswer, between, begun};
@@ -57,6 +57,7 @@ impl<'f> TreeIter<'f> {
     /// from where it was. There are fewer than 2^64.
     pub fn next<L: Ledger>(&mut self, steps: &mut Steps<L>) -> Result<bool, NoMemory>
         ensures answer { IfOk result (λ more. (given : List Tree) → AreGiven self.old given → IsAnswer self.new given more) }
+        ensures stands { IfOk result (λ more. IsTrue more → IsSome self.new.current) }
         ensures end { IfOk result (λ more. IsFalse more → self.new ≡ between self.old) }
         ensures forest { self.new.forest ≡ self.old.forest }
         ensures err { OnErr result (self.new ≡ between self.old) }
