@@ -182,6 +182,13 @@ impl<'a> Forest<'a> {
         self.nodes.as_slice().len()
     }
 
+    /// The start's place among the starts of the grammar.
+    pub fn start(&self) -> usize
+        ensures { result ≡ self.now.start }
+    {
+        self.recce.start()
+    }
+
     /// The node of the whole. A start that spans nothing has none.
     pub fn root(&self) -> Option<u32>
         ensures { result ≡ self.now.root }

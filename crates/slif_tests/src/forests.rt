@@ -31,7 +31,7 @@ type List = (u32, u32, Option<u32>);
 type Starts = (u32, &'static [u32]);
 
 #[derive(Clone, Copy)]
-struct Language {
+pub(crate) struct Language {
     names: &'static [&'static str],
     lines: &'static [Line],
     lists: &'static [List],
@@ -56,14 +56,14 @@ struct Row {
 }
 
 // E -> E '+' E | N
-const SUM: Language = Language {
+pub(crate) const SUM: Language = Language {
     names: &["E", "N", "+"],
     lines: &[(0, &[0, 2, 0], 0, false), (0, &[1], 0, false)],
     lists: &[],
 };
 
 // S -> B B, B -> a, B ->
-const LOW: Language = Language {
+pub(crate) const LOW: Language = Language {
     names: &["S", "B", "a"],
     lines: &[
         (0, &[1, 1], 0, false),
@@ -74,7 +74,7 @@ const LOW: Language = Language {
 };
 
 // The same, with nulled last parts first.
-const HIGH: Language = Language {
+pub(crate) const HIGH: Language = Language {
     names: &["S", "B", "a"],
     lines: &[
         (0, &[1, 1], 0, true),
@@ -97,14 +97,14 @@ const RANKED: Language = Language {
 };
 
 // L is a list of x, with a comma between each two
-const COMMAS: Language = Language {
+pub(crate) const COMMAS: Language = Language {
     names: &["L", "x", ","],
     lines: &[],
     lists: &[(0, 1, Some(2))],
 };
 
 // L is a list of I; I -> a | a a
-const PIECES: Language = Language {
+pub(crate) const PIECES: Language = Language {
     names: &["L", "I", "a"],
     lines: &[(1, &[2], 0, false), (1, &[2, 2], 0, false)],
     lists: &[(0, 1, None)],
@@ -287,7 +287,7 @@ fn add_list(w: &mut Written, list: &List) -> Result<RuleId, CoreRefusal> {
     })
 }
 
-fn written_of(alloc: Global, language: &Language) -> Result<Written, CoreRefusal> {
+pub(crate) fn written_of(alloc: Global, language: &Language) -> Result<Written, CoreRefusal> {
     let mut w = Written::new(alloc);
     for name in language.names {
         w.symbol_new(name)?;
@@ -302,7 +302,7 @@ fn written_of(alloc: Global, language: &Language) -> Result<Written, CoreRefusal
     Ok(w)
 }
 
-fn flat_of(alloc: Global, w: &Written) -> Result<Flat, anyhow::Error>
+pub(crate) fn flat_of(alloc: Global, w: &Written) -> Result<Flat, anyhow::Error>
     ensures checked { OnOk result (IsChecked w.now) }
     ensures flat { IfOk result (λ f. IsFlatOf f w.now) }
     ensures start { IfOk result (λ f. 0 < length f.tops) }
@@ -329,7 +329,7 @@ fn read<L: Ledger>(
     Ok(())
 }
 
-fn read_all<L: Ledger>(
+pub(crate) fn read_all<L: Ledger>(
     recce: &mut Recce<'_>,
     tokens: &[u32],
     steps: &mut Steps<L>,

@@ -2,6 +2,8 @@
 #![tactic(auto)]
 
 #[cfg(test)]
+mod derivations;
+#[cfg(test)]
 mod forests;
 #[cfg(test)]
 mod levels;

@@ -1,10 +1,10 @@
 -- The line of a tree tells names, left sides and the input alone.
-use Rattle.std.proofs.Common.{◌≡◌, ℕ, zero, suc, List, [], ◌∷◌, ◌++◌, map, refl, sym, ap, ◌∙◌, arith, String}
-use Rattle.std.specs.Prelude.{slice_index_or, string_bytes}
+use Rattle.std.proofs.Common.{◌≡◌, ℕ, zero, suc, List, [], ◌∷◌, ◌++◌, map, refl, ap, ◌∙◌}
+use Rattle.std.specs.Prelude.{slice_index_or}
 use Rattle.grammar_model.specs.declared.Show.TheVariants.{Tree as ShowTree}
-use Rattle.grammar_model.specs.Grammar.{Grammar, WrittenRule, lhs_of, rule_at, no_rule}
+use Rattle.grammar_model.specs.Grammar.{Grammar, WrittenRule, lhs_of, no_rule}
 use Rattle.grammar_model.specs.Trees.{Tree, Children, Leaf, Nulled, Node, NoChild, Child}
-use Rattle.grammar_model.specs.Values.{Value, Token, name_of, value_of, values_of_all, Text, Number, list_of, nulling_value}
+use Rattle.grammar_model.specs.Values.{Token, name_of, value_of, values_of_all, Text, Number, list_of}
 use Rattle.grammar_model.specs.Text.{text_of}
 use Rattle.grammar_model.specs.Characters.{no_meaning, tree_line, character_tokens}
 use Rattle.tree_iter.specs.Listing.{bare_rule}

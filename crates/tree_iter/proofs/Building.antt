@@ -1,15 +1,15 @@
 -- How lists are built: from lists found before, by steps of the loops.
-use Rattle.std.proofs.Common.{◌≡◌, ℕ, zero, suc, ◌<◌, ◌≤◌, ◌+◌, Bool, true, false, cond, List, [], ◌∷◌, ◌++◌, length, map, Option, Some, None, ◌⊎◌, inl, inr, refl, sym, ap, ◌∙◌, subst, arith, get_or, ⊎_elim, ◌*◌, ◌-◌}
-use Rattle.std.specs.Prelude.{All, slice_get, slice_index, nat_lt, nat_le, ◌&&◌, ◌==◌, filter, not}
+use Rattle.std.proofs.Common.{◌≡◌, ℕ, zero, suc, ◌<◌, ◌≤◌, ◌+◌, Bool, true, false, cond, List, [], ◌∷◌, ◌++◌, length, map, Some, ◌⊎◌, inl, inr, refl, sym, ap, ◌∙◌, subst, arith, get_or, ⊎_elim, ◌*◌, ◌-◌}
+use Rattle.std.specs.Prelude.{All, slice_get, slice_index, nat_lt, nat_le, ◌&&◌, ◌==◌, filter}
 use Rattle.std.specs.List.{flat_map}
 use Rattle.std.specs.Map.{lookup}
-use Rattle.std.proofs.lemmas.Bool.{and_parts, eqb-true, eq-eqb, ne_eqb, le-leb, lt-leb, lt-ltb, leb-true, cond_both, cases_eq, true≢false}
+use Rattle.std.proofs.lemmas.Bool.{eqb-true, eq-eqb, ne_eqb, le-leb, lt-leb, lt-ltb, cases_eq}
 use Rattle.std.proofs.lemmas.List.{map-append, append-nil}
 use Rattle.std.proofs.lemmas.Grind.{flat_map-append}
 use Rattle.grammar_model.specs.Grammar.{Grammar, Slot, WrittenRule, Plain, Sequence, rule_at, slot_of, child_slot, own_level, lhs_of, level_of}
 use Rattle.grammar_model.specs.Trees.{Tree, Children, Leaf, Node, NoChild, Child}
 use Rattle.grammar_model.specs.declared.Ranking.TheVariants.{Rule as RuleRanks}
-use Rattle.grammar_model.specs.Simple.{IsSimple, IsSimpleRule, Below, places, numbers, fits, part_count, is_terminal, simple_fronts, simple_leaves, simple_nodes, simple_trees}
+use Rattle.grammar_model.specs.Simple.{IsSimple, IsSimpleRule, places, numbers, fits, part_count, is_terminal, simple_leaves, simple_nodes, simple_trees}
 use Rattle.grammar_model.specs.Characters.{is_quoted, is_named}
 use Rattle.grammar_model.proofs.Simple.{trees_again, among_places_from, is_terminal_from}
 use Rattle.grammar_model.proofs.Characters.{quoted_forward}
@@ -18,10 +18,10 @@ use Rattle.tree_iter.specs.declared.store.Store.{Store}
 use Rattle.tree_iter.specs.declared.Cell.{Cell}
 use Rattle.tree_iter.specs.Arena.{Meant, tree_at}
 use Rattle.tree_iter.specs.Adding.{at, as_tree, as_front, Within, Keeps, Adds}
-use Rattle.tree_iter.specs.Table.{Key, same_key, IsKey, rank, listed, fronts_listed, nodes_below, fronts_from, value_at, Holds, Grows, IsSound, IsListed, IsBuilt}
+use Rattle.tree_iter.specs.Table.{same_key, IsKey, rank, listed, fronts_listed, nodes_below, fronts_from, value_at, Holds, Grows, IsSound, IsListed, IsBuilt}
 use Rattle.grammar_core.specs.Written.{IsWritten, symbols_of}
 use Rattle.std.proofs.lemmas.Option.{get_or_from_slice_get, slice_get_within}
-use Rattle.tree_iter.proofs.Arena.{keeps_all, keeps_then, within_keeps, map_keeps}
+use Rattle.tree_iter.proofs.Arena.{within_keeps, map_keeps}
 use Rattle.tree_iter.proofs.Held.{grows_none, grows_then, holds_grow}
 
 -- ---- the store

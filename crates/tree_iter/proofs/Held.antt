@@ -1,12 +1,12 @@
 -- The table grows, and what it holds stays held.
-use Rattle.std.proofs.Common.{◌≡◌, ℕ, zero, suc, ◌<◌, ◌≤◌, ◌+◌, Bool, true, false, cond, List, [], ◌∷◌, ◌++◌, length, map, Option, Some, None, refl, sym, ap, ◌∙◌, subst, arith}
+use Rattle.std.proofs.Common.{◌≡◌, ℕ, zero, suc, Bool, true, false, cond, List, [], ◌∷◌, ◌++◌, length, map, Some, refl, sym, ◌∙◌, subst}
 use Rattle.std.specs.Prelude.{slice_get}
 use Rattle.std.specs.Map.{lookup}
 use Rattle.std.proofs.lemmas.Bool.{and_parts, eqb-true}
 use Rattle.grammar_model.specs.Grammar.{Grammar}
 use Rattle.tree_iter.specs.declared.store.Store.{Store}
-use Rattle.tree_iter.specs.Adding.{at, Within, Keeps, Adds}
-use Rattle.tree_iter.specs.Table.{Key, same_key, value_at, Holds, Grows, IsSound, IsListed, IsTold}
+use Rattle.tree_iter.specs.Adding.{at, Within, Keeps}
+use Rattle.tree_iter.specs.Table.{Key, same_key, value_at, Holds, Grows, IsSound, IsListed}
 use Rattle.tree_iter.proofs.Arena.{keeps_all, keeps_then, within_keeps, map_keeps}
 
 pub grows_none : (s : Store) → Grows s s

@@ -1,3 +1,9 @@
+pub mod Linked
+pub mod Written
+pub mod GoalLemmas
+pub mod Walks
+pub mod Trails
+pub mod Given
 pub mod Arena
 pub mod Held
 pub mod Building

@@ -1,11 +1,9 @@
 -- The lines of a list are those of its trees.
-use Rattle.std.proofs.Common.{◌≡◌, ℕ, zero, suc, ◌<◌, ◌+◌, List, [], ◌∷◌, ◌++◌, Option, Some, map, length, ◌⊎◌, inl, inr, refl, sym, ap, ◌∙◌, subst, arith, length-append}
+use Rattle.std.proofs.Common.{◌≡◌, ℕ, zero, suc, ◌+◌, List, [], ◌∷◌, ◌++◌, Some, map, length, ◌⊎◌, inl, inr, refl, sym, ap, ◌∙◌, subst, arith, length-append}
 use Rattle.std.specs.Prelude.{slice_get, slice_index_or}
 use Rattle.std.proofs.lemmas.Option.{slice_get-get_or}
-use Rattle.grammar_model.specs.Trees.{Tree}
 use Rattle.grammar_model.specs.Values.{Value}
 use Rattle.grammar_model.specs.Text.{text_of}
-use Rattle.value_text.specs.Nodes.{value_at}
 use Rattle.value_text.specs.Pool.{AreIds}
 use Rattle.tree_iter.specs.declared.Derivations.{Derivations}
 use Rattle.tree_iter.specs.declared.lines.Told.{Told}

@@ -1,5 +1,5 @@
 -- How the list of cells grows while a list of places in it does.
-use Rattle.std.specs.Prelude.{◌≡◌, ℕ, ◌<◌, ◌≤◌, List, [], ◌∷◌, ◌++◌, All, length, map}
+use Rattle.std.specs.Prelude.{◌≡◌, ℕ, ◌<◌, ◌≤◌, List, ◌++◌, All, length, map}
 use Rattle.grammar_model.specs.Trees.{Tree, Children, Nulled, NoChild}
 use Rattle.tree_iter.specs.declared.Cell.{Cell}
 use Rattle.tree_iter.specs.Arena.{Meant, meant_at, meanings}

@@ -1,5 +1,5 @@
 -- Trees that share their parts: a cell is a tree, or the first children of one, and names earlier cells by their places.
-use Rattle.std.specs.Prelude.{ℕ, suc, List, [], ◌∷◌, ◌++◌, slice_index_or, map}
+use Rattle.std.specs.Prelude.{ℕ, suc, List, [], ◌∷◌, ◌++◌, slice_index_or}
 use Rattle.grammar_model.specs.Trees.{Tree, Children, Leaf, Nulled, Node, NoChild, Child}
 use Rattle.tree_iter.specs.declared.Cell.{Cell}
 use Rattle.tree_iter.specs.declared.Cell.TheVariants as cell

@@ -1,3 +1,8 @@
+pub mod Iteration
+pub mod Linked
+pub mod Writing
+pub mod Goals
+pub mod Walk
 pub mod Arena
 pub mod Listing
 pub mod Adding

@@ -2,7 +2,7 @@
 -- the input.
 use Rattle.std.specs.Prelude.{ℕ, List, [], map, pos, false, string_bytes}
 use Rattle.grammar_model.specs.declared.Assoc.TheVariants.{Left}
-use Rattle.grammar_model.specs.Grammar.{Grammar, WrittenRule, Plain}
+use Rattle.grammar_model.specs.Grammar.{WrittenRule, Plain}
 use Rattle.grammar_model.specs.Trees.{Tree}
 use Rattle.grammar_model.specs.Characters.{tree_line}
 use Rattle.tree_iter.specs.declared.Derivations.{Derivations}

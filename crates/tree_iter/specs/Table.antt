@@ -1,5 +1,5 @@
 -- A table of lists: of the trees of a symbol over a span, and of the first so many children of a rule over a span.
-use Rattle.std.specs.Prelude.{◌≡◌, ℕ, zero, suc, ◌+◌, ◌-◌, ◌*◌, ◌<◌, ◌≤◌, Bool, ◌&&◌, ◌==◌, if◌then◌else◌, List, length, map, Option, Some, slice_get, filter}
+use Rattle.std.specs.Prelude.{◌≡◌, ℕ, zero, suc, ◌+◌, ◌-◌, ◌*◌, ◌<◌, Bool, ◌&&◌, ◌==◌, if◌then◌else◌, List, length, map, Some, slice_get, filter}
 use Rattle.std.specs.Map.{lookup}
 use Rattle.std.specs.List.{flat_map}
 use Rattle.grammar_model.specs.Grammar.{Grammar, rule_at, slot_of, child_slot}

@@ -1,5 +1,5 @@
 -- The values of trees and of children, put into a pool.
-use Rattle.std.specs.Prelude.{◌≡◌, ℕ, suc, ◌<◌, ◌≤◌, List, [], ◌∷◌, length, map, string_bytes, slice_get, Some}
+use Rattle.std.specs.Prelude.{◌≡◌, ℕ, ◌<◌, ◌≤◌, List, [], length, map, string_bytes, slice_get, Some}
 use Rattle.grammar_model.specs.declared.Show.TheVariants.{Tree as ShowTree}
 use Rattle.grammar_model.specs.Grammar.{Grammar}
 use Rattle.grammar_model.specs.Trees.{Tree, Children}

@@ -11,17 +11,22 @@ ghost use Rattle.grammar_model.specs.Characters.{IsAllOfCharacters, tree_line};
 ghost use Rattle.tree_iter.specs.Listing.{trees_of, line_of};
 
 mod cells;
+mod goals;
+mod iter;
 mod lines;
 mod list;
 mod lister;
 mod rules;
 mod store;
+mod walk;
+mod writing;
 
 use crate::lister::list_at;
 use crate::rules::left_of;
 use crate::store::Store;
 use grammar_core::{SymbolId, Written};
 use indexmap::IndexMap;
+pub use iter::TreeIter;
 pub use list::{SlowList, list_simple};
 use std::alloc::{AllocError, Global};
 

@@ -1,5 +1,4 @@
 use Rattle.std.proofs.Common.{◌≡◌, map, take}
-use Rattle.std.specs.Prelude.{string_bytes}
 use Rattle.grammar_model.specs.Grammar.{lhs_of}
 use Rattle.tree_iter.proofs.lefts_of.Given as goal
 

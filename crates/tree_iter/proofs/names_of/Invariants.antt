@@ -1,6 +1,5 @@
 use Rattle.std.proofs.Common.{◌≡◌, map, take}
 use Rattle.std.specs.Prelude.{string_bytes}
-use Rattle.grammar_model.specs.Grammar.{lhs_of}
 use Rattle.tree_iter.proofs.names_of.Given as goal
 
 abbrev pub invariant-loop-i : goal.invariant-loop-i

@@ -1,4 +1,4 @@
-use Rattle.std.proofs.Common.{◌≡◌, ℕ, map, length, sym, ap, ◌∙◌}
+use Rattle.std.proofs.Common.{map, length, ap, ◌∙◌}
 use Rattle.grammar_model.specs.Grammar.{slot_of}
 use Rattle.tree_iter.specs.Adding.{at, as_tree}
 use Rattle.tree_iter.specs.Table.{listed}

@@ -1,4 +1,4 @@
-use Rattle.std.proofs.Common.{◌≡◌, ℕ, length, arith}
+use Rattle.std.proofs.Common.{◌≡◌, length, arith}
 use Rattle.tree_iter.proofs.Arena.{adds_push}
 use Rattle.tree_iter.proofs.cells.add_cell.Goals as goal
 

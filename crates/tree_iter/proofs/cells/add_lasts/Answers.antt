@@ -1,8 +1,7 @@
-use Rattle.std.proofs.Common.{◌≡◌, ℕ, length, map, get_or, refl, ap, arith}
-use Rattle.grammar_model.specs.Trees.{Node, NoChild, Child}
-use Rattle.tree_iter.specs.Arena.{Meant}
-use Rattle.tree_iter.specs.Adding.{at, as_tree, as_front}
-use Rattle.tree_iter.proofs.Arena.{keeps_all, adds_nothing, adds_cell, adds_list, adds_whole_map, adds_whole_flat_map, lasts_keep}
+use Rattle.std.proofs.Common.{get_or, arith}
+use Rattle.grammar_model.specs.Trees.{Child}
+use Rattle.tree_iter.specs.Adding.{at, as_front}
+use Rattle.tree_iter.proofs.Arena.{keeps_all, adds_nothing, adds_cell, adds_whole_map}
 use Rattle.tree_iter.proofs.cells.add_lasts.Goals as goal
 
 pub loop-last-init : goal.loop-last-init

@@ -1,7 +1,7 @@
-use Rattle.std.proofs.Common.{◌≡◌, ℕ, map, take}
+use Rattle.std.proofs.Common.{map, take}
 use Rattle.std.specs.List.{flat_map}
-use Rattle.grammar_model.specs.Trees.{Node, NoChild, Child}
-use Rattle.tree_iter.specs.Adding.{at, as_tree, as_front, Adds}
+use Rattle.grammar_model.specs.Trees.{Child}
+use Rattle.tree_iter.specs.Adding.{at, as_front, Adds}
 use Rattle.tree_iter.proofs.cells.add_pairs.Given as goal
 
 abbrev pub invariant-loop-front : goal.invariant-loop-front

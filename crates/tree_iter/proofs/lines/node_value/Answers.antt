@@ -1,6 +1,6 @@
-use Rattle.std.proofs.Common.{◌≡◌, ℕ, ◌<◌, [], ◌∷◌, ◌++◌, length, map, get_or, refl, sym, ap, ◌∙◌, arith}
+use Rattle.std.proofs.Common.{◌<◌, [], ◌∷◌, ◌++◌, length, map, ap, ◌∙◌, arith}
 use Rattle.std.proofs.lemmas.Result.{IfOk-weaker}
-use Rattle.grammar_model.specs.Values.{Text, Number, list_of, name_of, Value}
+use Rattle.grammar_model.specs.Values.{Text, Number, list_of, name_of}
 use Rattle.value_text.specs.Nodes.{value_at}
 use Rattle.tree_iter.specs.Told.{grammar_of}
 use Rattle.tree_iter.proofs.Pooled.{puts_list, puts_same, bare_lhs}

@@ -1,4 +1,4 @@
-use Rattle.std.proofs.Common.{◌≡◌, ℕ, [], ◌∷◌, ◌++◌, List, refl, sym, ap, ◌∙◌}
+use Rattle.std.proofs.Common.{[], ◌∷◌, ◌++◌, List, ap, ◌∙◌}
 use Rattle.grammar_model.specs.Grammar.{lhs_of, rule_at}
 use Rattle.grammar_model.specs.Values.{Value, Text, Number, list_of, name_of}
 use Rattle.tree_iter.specs.Told.{grammar_of}

@@ -1,4 +1,4 @@
-use Rattle.std.proofs.Common.{◌≡◌, ℕ, List, sym, subst}
+use Rattle.std.proofs.Common.{ℕ, List, subst}
 use Rattle.tree_iter.specs.declared.lines.Told.{Told}
 use Rattle.tree_iter.specs.Told.{AreValuesTold}
 use Rattle.tree_iter.proofs.Listed.{lines_are, ids_are}

@@ -1,4 +1,4 @@
-use Rattle.std.proofs.Common.{◌≡◌, List, ◌∙◌}
+use Rattle.std.proofs.Common.{◌∙◌}
 use Rattle.grammar_model.specs.Characters.{tree_line}
 use Rattle.tree_iter.specs.Listing.{trees_of, line_of}
 use Rattle.tree_iter.proofs.Listed.{same_map}

@@ -1,13 +1,13 @@
-use Rattle.std.proofs.Common.{◌≡◌, ℕ, zero, suc, ◌<◌, ◌≤◌, ◌+◌, ◌-◌, ◌*◌, ◌⊎◌, inl, inr, Bool, true, false, List, [], ◌∷◌, ◌++◌, length, map, get_or, refl, sym, ap, ◌∙◌, subst, arith, cond}
+use Rattle.std.proofs.Common.{◌≡◌, ℕ, suc, ◌<◌, ◌-◌, inl, inr, true, [], ◌++◌, length, map, refl, sym, ap, ◌∙◌, subst, arith}
 use Rattle.std.specs.List.{flat_map}
 use Rattle.tree_iter.proofs.Held.{holds_grow}
 use Rattle.grammar_model.specs.Grammar.{lhs_of, rule_at, child_slot, slot_of}
-use Rattle.grammar_model.specs.Trees.{Node, NoChild, Child}
+use Rattle.grammar_model.specs.Trees.{NoChild, Child}
 use Rattle.grammar_model.specs.Simple.{part_count, places, is_terminal}
-use Rattle.tree_iter.specs.Adding.{at, as_tree, as_front}
+use Rattle.tree_iter.specs.Adding.{as_tree, as_front}
 use Rattle.tree_iter.specs.declared.store.Store.{Store}
 use Rattle.tree_iter.specs.Table.{rank, listed, fronts_listed, fronts_from, nodes_below}
-use Rattle.tree_iter.proofs.Building.{built_none, built_cells, built_same, built_list, nodes_value, firsts_value, pairs_value, front_value, nodes_listed, nodes_more, nodes_as_before, firsts_listed, slot_is, pairs_more, pairs_as_before, no_last, no_front, places_none, within_read, told_read, in_lists, first_rank, weight_less, rank_low, rank_high, key_rule, fronts_step, starts_end, empty_list}
+use Rattle.tree_iter.proofs.Building.{built_none, built_cells, built_same, built_list, nodes_value, firsts_value, pairs_value, front_value, nodes_listed, nodes_more, firsts_listed, slot_is, pairs_more, pairs_as_before, no_last, no_front, places_none, within_read, told_read, in_lists, first_rank, weight_less, rank_low, key_rule, fronts_step, starts_end, empty_list}
 use Rattle.std.specs.Prelude.{not}
 use Rattle.std.proofs.lemmas.Bool.{eqb-true}
 use Rattle.grammar_model.proofs.Simple.{simple_parts}

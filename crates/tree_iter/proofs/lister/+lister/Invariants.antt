@@ -1,4 +1,4 @@
-use Rattle.std.proofs.Common.{◌≡◌, ◌<◌, ◌≤◌, ℕ, ◌+◌, ◌*◌, ◌-◌, ◌⊎◌, map}
+use Rattle.std.proofs.Common.{◌≡◌, ◌≤◌, ◌+◌, ◌*◌, ◌-◌, ◌⊎◌, map}
 use Rattle.std.specs.List.{flat_map}
 use Rattle.grammar_model.specs.Simple.{places}
 use Rattle.tree_iter.specs.Adding.{as_tree, as_front}

@@ -1,4 +1,4 @@
-use Rattle.std.proofs.Common.{◌≡◌, ℕ, suc, [], ◌∷◌, ◌++◌, map, true, refl, sym, ap, ◌∙◌, arith}
+use Rattle.std.proofs.Common.{◌≡◌, suc, [], ◌∷◌, map, true, refl, sym, ap, ◌∙◌, arith}
 use Rattle.grammar_model.specs.Trees.{Leaf}
 use Rattle.tree_iter.specs.Adding.{as_tree}
 use Rattle.tree_iter.specs.declared.store.Store.{Store}

@@ -1,4 +1,4 @@
-use Rattle.std.proofs.Common.{◌≡◌, ◌==◌, ℕ, false, take}
+use Rattle.std.proofs.Common.{◌≡◌, ◌==◌, false, take}
 use Rattle.std.specs.List.{list_any}
 use Rattle.grammar_model.specs.Grammar.{lhs_of}
 use Rattle.tree_iter.proofs.rules.is_inner.Given as goal

@@ -1,4 +1,3 @@
-use Rattle.std.proofs.Common.{◌≡◌, ℕ, ◌<◌, length, sym, subst}
 use Rattle.tree_iter.proofs.Building.{part_known}
 use Rattle.tree_iter.proofs.rules.part_of.Goals as goal
 

@@ -1,4 +1,4 @@
-use Rattle.std.proofs.Common.{◌≡◌, ℕ, refl, length, arith}
+use Rattle.std.proofs.Common.{◌≡◌, refl, length, arith}
 use Rattle.tree_iter.proofs.Held.{kept}
 use Rattle.tree_iter.proofs.store.keep_list.Goals as goal
 

@@ -1,0 +1,182 @@
+-- The derivations that were given, when one more is.
+use Rattle.std.proofs.Common.{◌≡◌, ℕ, zero, suc, ◌+◌, List, [], ◌∷◌, ◌++◌, length, map, true, false, Some, None, refl, sym, ap, ◌∙◌, subst, append_assoc, length-append, arith}
+use Rattle.grammar_model.specs.Grammar.{slot_of}
+use Rattle.grammar_model.specs.Trees.{Tree}
+use Rattle.grammar_model.specs.Steps.{Step, steps_of}
+use Rattle.grammar_model.specs.Order.{rank_order}
+use Rattle.grammar_model.proofs.Sorting.{ranks_order}
+use Rattle.grammar_model.proofs.Total.{all_unique}
+use Rattle.grammar_model.specs.Derives.{Held}
+use Rattle.std.specs.Prelude.{slice_index_or, IsSome}
+use Rattle.forest_model.specs.Forest.{Forest, IsForest}
+use Rattle.forest_model.specs.Listing.{IsListing, AreFirst}
+use Rattle.forest_laws.specs.Lists.{Lists, roots_by}
+use Rattle.forest_laws.specs.Laws.{AreAllLists}
+use Rattle.forest_laws.specs.Written.{steps_written}
+use Rattle.forest_laws.proofs.Taken.{fronts_are_taken}
+use Rattle.tree_iter.specs.declared.walk.Walk.{Walk}
+use Rattle.tree_iter.specs.declared.walk.Place.{Place}
+use Rattle.tree_iter.specs.declared.walk.Place.TheVariants.{Walking, At, Between}
+use Rattle.tree_iter.specs.Iteration.{Iteration, AreGiven, IsAnswer, between}
+use Rattle.tree_iter.specs.Walk.{Remain, Advances, Waits, current_of, IsUnderWay}
+use Rattle.tree_iter.proofs.Trails.{same_ends}
+
+append_nil : {X : Type 0} (xs : List X) → xs ++ [] ≡ xs
+append_nil [] = refl
+append_nil (x ∷ xs) = ap (λ l. x ∷ l) (append_nil xs)
+
+map_both : {X Y : Type 0} (f : X → Y) (xs ys : List X) → map f (xs ++ ys) ≡ map f xs ++ map f ys
+map_both f [] ys = refl
+map_both f (x ∷ xs) ys = ap (λ l. f x ∷ l) (map_both f xs ys)
+
+map_length : {X Y : Type 0} (f : X → Y) (xs : List X) → length (map f xs) ≡ length xs
+map_length f [] = refl
+map_length f (x ∷ xs) = ap suc (map_length f xs)
+
+same_fronts : {X : Type 0} (xs ys us vs : List X) → xs ++ us ≡ ys ++ vs → length xs ≡ length ys → xs ≡ ys
+same_fronts [] [] us vs e l = refl
+same_fronts [] (y ∷ ys) us vs e l = absurd (omega arith)
+same_fronts (x ∷ xs) [] us vs e l = absurd (omega arith)
+same_fronts (x ∷ xs) (y ∷ ys) us vs e l =
+    let tails : xs ++ us ≡ ys ++ vs = cc in
+    let heads : x ≡ y = cc in
+    let r = same_fronts xs ys us vs tails (omega arith) in
+    λ i. heads i ∷ r i
+
+record IsEnded {X : Type 0} (xs : List X) : Type 0 where
+  front : List X
+  last : X
+  is : xs ≡ front ++ last ∷ []
+
+ended : {X : Type 0} (n : ℕ) (xs : List X) → length xs ≡ suc n → IsEnded xs
+ended n [] e = absurd (omega arith)
+ended zero (x ∷ []) e = record { front = []; last = x; is = refl }
+ended zero (x ∷ y ∷ xs) e = absurd (omega arith)
+ended (suc n) (x ∷ xs) e =
+    let r = ended n xs (omega arith) in
+    record { front = x ∷ r.front; last = r.last; is = ap (λ l. x ∷ l) r.is }
+
+listings_same : (f : Forest) (ts us : List Tree) → IsListing f ts → IsListing f us → ts ≡ us
+listings_same f ts us a b = all_unique f.written (Held f.edges) (rank_order f.written f.ranking) (ranks_order f.written f.ranking) (slot_of (slice_index_or f.written.starts f.start 0)) 0 f.place ts us a b
+
+pub fronts_same : (f : Forest) (a b : List Tree) → AreFirst f a → AreFirst f b → length a ≡ length b → a ≡ b
+fronts_same f a b g h l = same_fronts a b g.rest h.rest (listings_same f (a ++ g.rest) (b ++ h.rest) g.listing h.listing) l
+
+-- behind those given before, this one is next
+record IsNext (f : Forest) (given : List Tree) (first : List Step) : Type 0 where
+  tree : Tree
+  are_first : AreFirst f (given ++ tree ∷ [])
+  steps : steps_written f.written f.flat [] first ≡ steps_of tree
+
+next_is : (f : Forest) (lists : Lists) → IsForest f → AreAllLists f lists → (taken later : List (List Step)) (first : List Step) → map steps_of (roots_by f lists f.root) ≡ taken ++ first ∷ later →
+    (given : List Tree) → AreFirst f given → length given ≡ length taken → IsNext f given first
+next_is f lists is all taken later first e given g l =
+    let W : List Step → List Step = steps_written f.written f.flat [] in
+    let t = fronts_are_taken f lists (taken ++ first ∷ []) later is all (e ∙ sym (append_assoc taken (first ∷ []) later)) in
+    let sizes : length t.given ≡ suc (length taken) =
+    sym (map_length steps_of t.given) ∙ ap (λ (x : List (List Step)). length x) (sym t.steps) ∙ map_length W (taken ++ first ∷ []) ∙ length-append taken (first ∷ []) ∙ (let n : length taken + 1 ≡ suc (length taken) = omega arith in n) in
+    let r = ended (length taken) t.given sizes in
+    let longer : length t.given ≡ length (r.front ++ r.last ∷ []) = ap (λ (x : List Tree). length x) r.is in
+    let parts = length-append r.front (r.last ∷ []) in
+    let whole : AreFirst f (r.front ++ r.last ∷ []) = subst (AreFirst f) r.is t.first in
+    let front : AreFirst f r.front = record { rest = r.last ∷ whole.rest; listing = subst (IsListing f) (append_assoc r.front (r.last ∷ []) whole.rest) whole.listing } in
+    let count : length given ≡ length r.front = omega arith in
+    let same : r.front ≡ given = sym (fronts_same f given r.front g front count) in
+    let ends = same_ends (map W taken) (map steps_of r.front) (W first) (steps_of r.last)
+    (sym (map_both W taken (first ∷ [])) ∙ t.steps ∙ ap (map steps_of) r.is ∙ map_both steps_of r.front (r.last ∷ [])) in
+    record { tree = r.last; are_first = subst (λ g'. AreFirst f (g' ++ r.last ∷ [])) same whole; steps = ends.lasts }
+
+all_given : (f : Forest) (lists : Lists) → IsForest f → AreAllLists f lists → (taken rest : List (List Step)) → map steps_of (roots_by f lists f.root) ≡ taken ++ rest → rest ≡ [] →
+    (given : List Tree) → AreFirst f given → length given ≡ length taken → IsListing f given
+all_given f lists is all taken rest e none given g l =
+    let t = fronts_are_taken f lists taken rest is all e in
+    let W : List Step → List Step = steps_written f.written f.flat [] in
+    let sizes : length t.given ≡ length taken = sym (map_length steps_of t.given) ∙ ap (λ (x : List (List Step)). length x) (sym t.steps) ∙ map_length W taken in
+    subst (IsListing f) (fronts_same f t.given given t.first g (sizes ∙ sym l)) (t.all none)
+
+-- ---- the iterator
+
+abbrev pub seen : Walk → ℕ → Place → Iteration
+seen w given place = record { forest = w.forest.now; given = given; current = current_of place w.steps.items }
+
+pub is_forest : (w : Walk) (rest : List (List Step)) (place : Place) → Remain place w rest → IsForest w.forest.now
+is_forest w rest Walking h = h.is.forest
+is_forest w rest At h = h.is.forest
+is_forest w rest Between h = h.is.forest
+
+-- one more was given
+pub under_way_more : (w n : Walk) (given : ℕ) (place after : Place) → n.forest ≡ w.forest → (u : IsUnderWay w given place) → Advances after n u.rest true → IsUnderWay n (given + 1) after
+under_way_more w n given place after forest u (at, r) =
+    let same : w.forest.now ≡ n.forest.now = ap (λ (x : _). x.now) (sym forest) in
+    record {
+      lists = u.lists;
+      all = subst (λ f. AreAllLists f u.lists) same u.all;
+      taken = u.taken ++ r.first ∷ [];
+      rest = r.later;
+      both = ap (λ (f : Forest). map steps_of (roots_by f u.lists f.root)) (sym same) ∙ u.both ∙ ap (λ l. u.taken ++ l) r.rest_is ∙ sym (append_assoc u.taken (r.first ∷ []) r.later);
+      count = length-append u.taken (r.first ∷ []) ∙ ap (λ k. k + 1) u.count;
+      remain = subst (λ p. Remain p n r.later) (sym at) r.behind;
+    }
+
+pub answer_more : (w n : Walk) (given : ℕ) (place after : Place) → n.forest ≡ w.forest → (u : IsUnderWay w given place) → Advances after n u.rest true →
+    (trees : List Tree) → AreGiven (seen w given place) trees → IsAnswer (seen n (given + 1) after) trees true
+answer_more w n given place after forest u (at, r) trees g =
+    let same : w.forest.now ≡ n.forest.now = ap (λ (x : _). x.now) (sym forest) in
+    let next = next_is w.forest.now u.lists (is_forest w u.rest place u.remain) u.all u.taken r.later r.first (u.both ∙ ap (λ l. u.taken ++ l) r.rest_is) trees g.first (g.count ∙ sym u.count) in (
+      next.tree,
+      record { first = subst (λ f. AreFirst f (trees ++ next.tree ∷ [])) same next.are_first; count = length-append trees (next.tree ∷ []) ∙ ap (λ k. k + 1) g.count },
+      ap (λ p. current_of p n.steps.items) at ∙ ap Some (r.shows ∙ ap (λ (f : Forest). steps_written f.written f.flat [] r.first) (sym same) ∙ next.steps),
+    )
+
+pub stands_more : (n : Walk) (after : Place) (rest : List (List Step)) → Advances after n rest true → IsSome (current_of after n.steps.items)
+stands_more n after rest (at, r) = subst (λ p. IsSome (current_of p n.steps.items)) (sym at) refl
+
+-- there is none left
+pub under_way_none : (w n : Walk) (given : ℕ) (place after : Place) → n.forest ≡ w.forest → (u : IsUnderWay w given place) → Advances after n u.rest false → IsUnderWay n given after
+under_way_none w n given place after forest u (at, behind, none) =
+    let same : w.forest.now ≡ n.forest.now = ap (λ (x : _). x.now) (sym forest) in
+    record {
+      lists = u.lists;
+      all = subst (λ f. AreAllLists f u.lists) same u.all;
+      taken = u.taken;
+      rest = u.rest;
+      both = ap (λ (f : Forest). map steps_of (roots_by f u.lists f.root)) (sym same) ∙ u.both;
+      count = u.count;
+      remain = subst (λ p. Remain p n u.rest) (sym at) behind;
+    }
+
+pub answer_none : (w n : Walk) (given : ℕ) (place after : Place) → n.forest ≡ w.forest → (u : IsUnderWay w given place) → Advances after n u.rest false →
+    (trees : List Tree) → AreGiven (seen w given place) trees → IsAnswer (seen n given after) trees false
+answer_none w n given place after forest u (at, behind, none) trees g =
+    let same : w.forest.now ≡ n.forest.now = ap (λ (x : _). x.now) (sym forest) in
+    subst (λ f. IsListing f trees) same
+    (all_given w.forest.now u.lists (is_forest w u.rest place u.remain) u.all u.taken u.rest u.both none trees g.first (g.count ∙ sym u.count))
+
+pub seen_between : (w n : Walk) (given : ℕ) (place after : Place) → n.forest ≡ w.forest → current_of after n.steps.items ≡ None → seen n given after ≡ between (seen w given place)
+seen_between w n given place after forest none =
+    let same : n.forest.now ≡ w.forest.now = ap (λ (x : _). x.now) forest in
+    λ i. record { forest = same i; given = given; current = none i }
+
+-- the call ran out of memory
+waits_remain : (after : Place) (n : Walk) (rest : List (List Step)) → Waits after n rest → Remain after n rest
+waits_remain Walking n rest h = h
+waits_remain At n rest h = absurd h
+waits_remain Between n rest h = h
+
+pub waits_none : (after : Place) (n : Walk) (rest : List (List Step)) → Waits after n rest → current_of after n.steps.items ≡ None
+waits_none Walking n rest h = refl
+waits_none At n rest h = absurd h
+waits_none Between n rest h = refl
+
+pub under_way_waits : (w n : Walk) (given : ℕ) (place after : Place) → n.forest ≡ w.forest → (u : IsUnderWay w given place) → Waits after n u.rest → IsUnderWay n given after
+under_way_waits w n given place after forest u h =
+    let same : w.forest.now ≡ n.forest.now = ap (λ (x : _). x.now) (sym forest) in
+    record {
+      lists = u.lists;
+      all = subst (λ f. AreAllLists f u.lists) same u.all;
+      taken = u.taken;
+      rest = u.rest;
+      both = ap (λ (f : Forest). map steps_of (roots_by f u.lists f.root)) (sym same) ∙ u.both;
+      count = u.count;
+      remain = waits_remain after n u.rest h;
+    }

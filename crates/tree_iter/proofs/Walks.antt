@@ -1,0 +1,431 @@
+-- Walks: what is still to come when a goal is done, and when the last choice is taken again.
+use Rattle.std.proofs.Common.{◌≡◌, ℕ, zero, suc, ◌+◌, ◌-◌, ◌<◌, ◌≤◌, List, [], ◌∷◌, ◌++◌, length, map, take, drop, Some, Result, Ok, Err, refl, sym, ap, ◌∙◌, subst, length-append, arith}
+use Rattle.std.specs.Prelude.{slice_get, slice_set, slice_index_or, OnOk, OnErr}
+use Rattle.std.proofs.Math.Seq.{take-append_seam}
+use Rattle.std.proofs.lemmas.Option.{slice_get_within}
+use Rattle.grammar_core.specs.Steps.{step_of}
+use Rattle.grammar_model.specs.Steps.{Step, steps_of}
+use Rattle.forest_model.specs.Forest.{Forest, IsForest}
+use Rattle.forest_laws.specs.Lists.{Lists, roots_by}
+use Rattle.forest_laws.specs.Laws.{AreAllLists}
+use Rattle.forest_laws.specs.Goals.{Goal, Write, IsGoal, options, written, to_come, stands, steps_from, root_goals, WalksGoOn}
+use Rattle.forest_laws.specs.Goals
+use Rattle.forest_laws.specs.Walked.{IsWalked}
+use Rattle.forest_laws.specs.Written.{steps_written}
+use Rattle.forest_laws.proofs.Exact.{forests_have_lists}
+use Rattle.forest_laws.proofs.Walked.{forests_are_walked}
+use Rattle.tree_iter.specs.declared.goals.Fork.{Fork}
+use Rattle.tree_iter.specs.declared.goals.Fork.TheVariants.{Parts, OneOf}
+use Rattle.tree_iter.specs.declared.goals.GoalRow.{GoalRow}
+use Rattle.tree_iter.specs.declared.goals.Put.{Put}
+use Rattle.tree_iter.specs.declared.walk.Choice.{Choice}
+use Rattle.tree_iter.specs.declared.walk.Walk.{Walk}
+use Rattle.tree_iter.specs.declared.walk.Place.{Place}
+use Rattle.tree_iter.specs.declared.walk.Place.TheVariants.{Walking, At, Between}
+use Rattle.tree_iter.specs.Linked.{Grows}
+use Rattle.tree_iter.specs.Goals.{fork_of, goal_of, IsStack, IsReady, AreReady, Puts, PutsOption}
+use Rattle.tree_iter.specs.Writing.{IsStepOf, AreDone, IsCounted, counts_behind}
+use Rattle.tree_iter.specs.Walk.{Trail, Begun, Wrote, Chose, done_of, steps_on, IsChoice, AreChoices, IsTrail, StandsBefore, StandsBehind, Reaches, IsAbout, IsBack, Remain, IsUnderWay}
+use Rattle.tree_iter.proofs.Linked.{append_none, drop_from, linked_top, linked_none, linked_more, linked_bound}
+use Rattle.tree_iter.proofs.Written.{done_taken}
+use Rattle.tree_iter.proofs.GoalLemmas.{ready_both, option_ready, root_ready, is_goal}
+use Rattle.tree_iter.proofs.Trails.{steps_are, choice_in, choices_more, cut_at, none_to_come}
+
+take_all : {X : Type 0} (k : ℕ) (xs : List X) → k ≡ length xs → take k xs ≡ xs
+take_all zero [] e = refl
+take_all zero (x ∷ xs) e = absurd (omega arith)
+take_all (suc k) [] e = absurd (omega arith)
+take_all (suc k) (x ∷ xs) e = ap (λ l. x ∷ l) (take_all k xs (omega arith))
+
+drop_past : {X : Type 0} (k : ℕ) (xs : List X) → length xs ≤ k → drop k xs ≡ []
+drop_past zero [] le = refl
+drop_past zero (x ∷ xs) le = absurd (omega arith)
+drop_past (suc k) [] le = refl
+drop_past (suc k) (x ∷ xs) le = drop_past k xs (omega arith)
+
+take_front : {X : Type 0} (xs before : List X) (c : X) → xs ≡ before ++ c ∷ [] → take (length xs - 1) xs ≡ before
+take_front xs before c e =
+    let size : length xs - 1 ≡ length before = (let a = ap (λ (l : List _). length l) e in let b = length-append before (c ∷ []) in omega arith) in
+    (λ i. take (size i) (e i)) ∙ take-append_seam before (c ∷ [])
+
+set_behind : {X : Type 0} (before : List X) (c y : X) → slice_set (before ++ c ∷ []) (length before) y ≡ before ++ y ∷ []
+set_behind [] c y = refl
+set_behind (x ∷ before) c y = ap (λ l. x ∷ l) (set_behind before c y)
+
+pub set_last : {X : Type 0} (xs before : List X) (c y : X) → xs ≡ before ++ c ∷ [] → slice_set xs (length xs - 1) y ≡ before ++ y ∷ []
+set_last xs before c y e =
+    let size : length xs - 1 ≡ length before = (let a = ap (λ (l : List _). length l) e in let b = length-append before (c ∷ []) in omega arith) in
+    (λ i. slice_set (e i) (size i) y) ∙ set_behind before c y
+
+get_behind : {X : Type 0} (before : List X) (c d : X) → slice_index_or (before ++ c ∷ []) (length before) d ≡ c
+get_behind [] c d = refl
+get_behind (x ∷ before) c d = get_behind before c d
+
+pub get_last : {X : Type 0} (xs before : List X) (c d : X) → xs ≡ before ++ c ∷ [] → slice_index_or xs (length xs - 1) d ≡ c
+get_last xs before c d e =
+    let size : length xs - 1 ≡ length before = (let a = ap (λ (l : List _). length l) e in let b = length-append before (c ∷ []) in omega arith) in
+    (λ i. slice_index_or (e i) (size i) d) ∙ get_behind before c d
+
+pub any_ok : {T E A : Type 0} (r : Result T E) → A → OnOk r A
+any_ok (Ok x) a = a
+any_ok (Err e) a = tt
+
+pub any_err : {T E A : Type 0} (r : Result T E) → A → OnErr r A
+any_err (Ok x) a = tt
+any_err (Err e) a = a
+
+-- the topmost goal of a walk, and the others
+pub record IsFirst (w : Walk) (rest : List (List Step)) (goal : Goal) (behind : ℕ) : Type 0 where
+  pub lists : Lists
+  pub all : AreAllLists w.forest.now lists
+  pub trail : Trail
+  pub is : IsTrail w trail
+  pub others : List Goal
+  pub linked : IsStack w.goals.items behind others
+  pub ready : IsReady w.forest.now goal
+  pub are_ready : AreReady w.forest.now others
+  pub rest_is : rest ≡ stands w.forest.now lists (done_of w.forest.now trail) (goal ∷ others)
+
+pub first_goal : (w : Walk) (rest : List (List Step)) (place : ℕ) (row : GoalRow) → w.left ≡ suc place → slice_get w.goals.items place ≡ Some row →
+    StandsBefore w rest → IsFirst w rest (goal_of row.goal) row.below
+first_goal w rest place row at e h =
+    let on = linked_top (λ (r : GoalRow). goal_of r.goal) (λ r. r.below) w.goals.items place row h.left e (subst (λ k. IsStack w.goals.items k h.left) at h.left_is) in
+    let ready : AreReady w.forest.now (goal_of row.goal ∷ on.rest) = subst (AreReady w.forest.now) on.both h.ready in
+    record {
+      lists = h.lists;
+      all = h.all;
+      trail = h.trail;
+      is = h.is;
+      others = on.rest;
+      linked = on.linked;
+      ready = ready.0;
+      are_ready = ready.1;
+      rest_is = h.rest_is ∙ ap (stands w.forest.now h.lists (done_of w.forest.now h.trail)) on.both;
+    }
+
+walked : (w : Walk) (trail : Trail) (lists : Lists) → IsTrail w trail → AreAllLists w.forest.now lists → IsWalked w.forest.now lists
+walked w trail lists is all = forests_are_walked w.forest.now lists is.forest all
+
+pub first_of : (w : Walk) (goal : Goal) (behind : ℕ) → IsAbout w goal behind → (rest : List (List Step)) → StandsBefore w rest → IsFirst w rest goal behind
+first_of w goal behind a rest h =
+    subst (IsFirst w rest goal) a.behind_is (subst (λ g. IsFirst w rest g a.row.below) a.goal_is (first_goal w rest a.place a.row a.left_is a.row_is h))
+
+-- a fork that is about to be chosen for has options
+no_write : (fork : Fork) (step : Step) → fork_of fork ≡ Write step → ⊥
+no_write (Parts node) step e = cc
+no_write (OneOf start end nodes) step e = cc
+
+no_write_goal : (f : Forest) (fork : Fork) → IsReady f (fork_of fork) → IsGoal f (fork_of fork)
+no_write_goal f (Parts node) h = h
+no_write_goal f (OneOf start end nodes) h = h
+
+pub fork_goal : (w : Walk) (fork : Fork) (behind : ℕ) → IsAbout w (fork_of fork) behind → IsGoal w.forest.now (fork_of fork)
+fork_goal w fork behind a = no_write_goal w.forest.now fork ((first_of w (fork_of fork) behind a a.rest a.stands).ready)
+
+pub fork_some : (w : Walk) (fork : Fork) (behind : ℕ) → IsAbout w (fork_of fork) behind → 0 < length (options w.forest.now (fork_of fork))
+fork_some w fork behind a =
+    let h = first_of w (fork_of fork) behind a a.rest a.stands in
+    (walked w h.trail h.lists h.is h.all).choices.some (fork_of fork) (fork_goal w fork behind a) (no_write fork)
+
+-- the step that is about to be written is one of the grammar's
+pub step_ready : (w : Walk) (step : Step) (behind : ℕ) → IsAbout w (Write step) behind → IsStepOf w.forest.now.flat step
+step_ready w step behind a = (first_of w (Write step) behind a a.rest a.stands).ready
+
+-- where goals are left, the topmost has a row
+pub left_within : (w : Walk) (rest : List (List Step)) → StandsBefore w rest → w.left ≤ length w.goals.items
+left_within w rest h = linked_bound (λ (r : GoalRow). goal_of r.goal) (λ r. r.below) w.goals.items w.left h.left h.left_is
+
+-- a step was written
+pub wrote_one : (w n : Walk) (rest : List (List Step)) (step : Step) (behind : ℕ) → IsFirst w rest (Write step) behind →
+    ((done : List Step) → AreDone w.forest.now.written w.forest.now.flat w.counts.items w.steps.items done → AreDone w.forest.now.written w.forest.now.flat n.counts.items n.steps.items (done ++ step ∷ [])) →
+    StandsBefore (record w { left = behind; counts = n.counts; steps = n.steps }) rest
+wrote_one w n rest step behind h done = record {
+  lists = h.lists;
+  all = h.all;
+  trail = Wrote h.trail step;
+  is = record { forest = h.is.forest; choices = h.is.choices; done = done (steps_on h.trail) h.is.done };
+  left = h.others;
+  left_is = h.linked;
+  ready = h.are_ready;
+  rest_is = h.rest_is ∙ (walked w h.trail h.lists h.is h.all).walks.writes (done_of w.forest.now h.trail) step h.others;
+}
+
+-- it was not, and all is as before
+pub same_before : (w n : Walk) (rest : List (List Step)) → n.counts.items ≡ w.counts.items → n.steps.items ≡ w.steps.items → StandsBefore w rest →
+    StandsBefore (record w { counts = n.counts; steps = n.steps }) rest
+same_before w n rest counts steps h =
+    let F : Forest = w.forest.now in
+    record {
+      lists = h.lists;
+      all = h.all;
+      trail = h.trail;
+      is = record {
+        forest = h.is.forest;
+        choices = h.is.choices;
+        done = subst (λ c. AreDone F.written F.flat c n.steps.items (steps_on h.trail)) (sym counts) (subst (λ s. AreDone F.written F.flat w.counts.items s (steps_on h.trail)) (sym steps) h.is.done);
+      };
+      left = h.left;
+      left_is = h.left_is;
+      ready = h.ready;
+      rest_is = h.rest_is;
+    }
+
+-- rows were added that nothing names
+pub grown_before : (w n : Walk) (rest : List (List Step)) → Grows w.goals.items n.goals.items → n.choices.items ≡ w.choices.items → StandsBefore w rest →
+    StandsBefore (record w { goals = n.goals; choices = n.choices }) rest
+grown_before w n rest grows choices h =
+    let F : Forest = w.forest.now in
+    let is : AreChoices F n.goals.items w.choices.items h.trail = subst (λ g. AreChoices F g w.choices.items h.trail) (sym grows.is) (choices_more F w.goals.items grows.more w.choices.items h.trail h.is.choices) in
+    record {
+      lists = h.lists;
+      all = h.all;
+      trail = h.trail;
+      is = record {
+        forest = h.is.forest;
+        choices = subst (λ c. AreChoices F n.goals.items c h.trail) (sym choices) is;
+        done = h.is.done;
+      };
+      left = h.left;
+      left_is = subst (λ g. IsStack g w.left h.left) (sym grows.is) (linked_more (λ (r : GoalRow). goal_of r.goal) (λ r. r.below) w.goals.items grows.more w.left h.left h.left_is);
+      ready = h.ready;
+      rest_is = h.rest_is;
+    }
+
+-- how a new choice stands to what there is
+pub record IsMarked (w : Walk) (goal : Goal) (chosen behind : ℕ) (c : Choice) : Type 0 where
+  pub goal_is : fork_of c.fork ≡ goal
+  pub chosen_is : c.chosen ≡ chosen
+  pub behind_is : c.behind ≡ behind
+  pub goals : c.goals ≡ length w.goals.items
+  pub steps : c.steps ≡ length w.steps.items
+  pub counts : c.counts ≡ length w.counts.items
+
+map_length : {X Y : Type 0} (f : X → Y) (xs : List X) → length (map f xs) ≡ length xs
+map_length f [] = refl
+map_length f (x ∷ xs) = ap suc (map_length f xs)
+
+-- the first option of a goal was chosen
+pub chose_one : (w n : Walk) (rest : List (List Step)) (goal : Goal) (behind : ℕ) (c : Choice) (put : Put) → IsFirst w rest goal behind → IsMarked w goal 0 behind c →
+    c.count ≡ put.count → n.choices.items ≡ w.choices.items ++ c ∷ [] → PutsOption w.forest.now goal w.goals.items n.goals.items 0 behind put →
+    StandsBefore (record w { goals = n.goals; left = put.top; choices = n.choices }) rest
+chose_one w n rest goal behind c put h mark count choices p =
+    let F : Forest = w.forest.now in
+    let known = walked w h.trail h.lists h.is h.all in
+    let opened : options F goal ≡ p.option ∷ drop 1 (options F goal) = drop_from (options F goal) 0 p.option p.option_is in
+    let within = slice_get_within (options F goal) 0 p.option p.option_is in
+    let longer : length n.goals.items ≡ length w.goals.items + length p.puts.grows.more = ap (λ (l : List GoalRow). length l) p.puts.grows.is ∙ length-append w.goals.items p.puts.grows.more in
+    let old : take c.goals n.goals.items ≡ w.goals.items = (λ i. take (mark.goals i) (p.puts.grows.is i)) ∙ take-append_seam w.goals.items p.puts.grows.more in
+    let goals = mark.goals in
+    let is : IsChoice F n.goals.items h.trail goal 0 h.others c = record {
+      goal_is = mark.goal_is;
+      ready = h.ready;
+      chosen_is = mark.chosen_is;
+      count = count ∙ p.count;
+      among = within;
+      goals = omega arith;
+      behind_is = subst (λ g. IsStack g c.behind h.others) (sym old) (subst (λ k. IsStack w.goals.items k h.others) (sym mark.behind_is) h.linked);
+      are_ready = h.are_ready;
+      steps = mark.steps ∙ sym (map_length step_of w.steps.items) ∙ ap (λ (l : List Step). length l) h.is.done.written;
+      counts = mark.counts ∙ h.is.done.counted.all;
+    } in
+    record {
+      lists = h.lists;
+      all = h.all;
+      trail = Chose h.trail goal 0 h.others;
+      is = record {
+        forest = h.is.forest;
+        choices = (w.choices.items, c, choices, is, subst (λ g. AreChoices F g w.choices.items h.trail) (sym old) h.is.choices);
+        done = h.is.done;
+      };
+      left = p.option ++ h.others;
+      left_is = p.puts.stack h.others h.linked;
+      ready = ready_both F p.option h.others (option_ready F h.lists h.is.forest known.choices goal h.ready 0 p.option p.option_is) h.are_ready;
+      rest_is = h.rest_is ∙ known.walks.chooses (done_of F h.trail) goal h.others p.option (drop 1 (options F goal)) (is_goal F goal 0 h.ready within) opened;
+    }
+
+-- no goal is left
+pub reaches : (w : Walk) (rest : List (List Step)) → w.left ≡ 0 → StandsBefore w rest → Reaches w rest
+reaches w rest none h =
+    let F : Forest = w.forest.now in
+    let known = walked w h.trail h.lists h.is h.all in
+    let empty : h.left ≡ [] = linked_none (λ (r : GoalRow). goal_of r.goal) (λ r. r.below) w.goals.items h.left (subst (λ k. IsStack w.goals.items k h.left) none h.left_is) in
+    record {
+      first = written (done_of F h.trail);
+      later = to_come F h.lists (done_of F h.trail);
+      rest_is = h.rest_is ∙ ap (stands F h.lists (done_of F h.trail)) empty ∙ known.walks.gives (done_of F h.trail);
+      behind = record { lists = h.lists; all = h.all; trail = h.trail; is = h.is; rest_is = refl };
+      shows = h.is.done.written ∙ ap (steps_written F.written F.flat []) (sym (steps_are F h.trail));
+    }
+
+-- ---- back
+
+-- what was done after the last choice was undone
+pub cut_back : (w n : Walk) (rest : List (List Step)) (before : List Choice) (c : Choice) → w.choices.items ≡ before ++ c ∷ [] → n.goals.items ≡ take c.goals w.goals.items →
+    n.counts.items ≡ take c.counts w.counts.items → n.steps.items ≡ take c.steps w.steps.items → StandsBehind w rest →
+    IsBack (record w { goals = n.goals; counts = n.counts; steps = n.steps }) c rest
+cut_back w n rest before c choices goals counts steps h =
+    let F : Forest = w.forest.now in
+    let known = walked w h.trail h.lists h.is h.all in
+    let r = cut_at F h.lists known.walks w.goals.items before c h.trail (subst (λ l. AreChoices F w.goals.items l h.trail) choices h.is.choices) in
+    let le = r.is.goals in
+    let size : length n.goals.items ≡ c.goals = ap (λ (l : List GoalRow). length l) goals ∙ length_taken c.goals w.goals.items le in
+    let done = done_taken F.written F.flat w.counts.items w.steps.items (steps_on r.first) r.more (subst (AreDone F.written F.flat w.counts.items w.steps.items) r.steps h.is.done) in
+    let counts_same : n.counts.items ≡ take (length (steps_on r.first)) w.counts.items = counts ∙ ap (λ k. take k w.counts.items) r.is.counts in
+    let steps_same : n.steps.items ≡ take (length (steps_written F.written F.flat [] (steps_on r.first))) w.steps.items = steps ∙ ap (λ k. take k w.steps.items) r.is.steps in
+    record {
+      forest = h.is.forest;
+      lists = h.lists;
+      all = h.all;
+      trail = r.first;
+      goal = r.goal;
+      chosen = r.chosen;
+      behind = r.behind;
+      before = before;
+      choices = choices;
+      is = choice_in F w.goals.items n.goals.items r.first r.goal r.chosen r.behind c (omega arith) (ap (take c.goals) goals ∙ take_twice c.goals w.goals.items) r.is;
+      goals = sym size;
+      earlier = subst (λ g. AreChoices F g before r.first) (sym goals) r.earlier;
+      done = subst (λ x. AreDone F.written F.flat x n.steps.items (steps_on r.first)) (sym counts_same) (subst (λ x. AreDone F.written F.flat (take (length (steps_on r.first)) w.counts.items) x (steps_on r.first)) (sym steps_same) done);
+      rest_is = h.rest_is ∙ r.same;
+    }
+  where
+    take_twice : {X : Type 0} (k : ℕ) (xs : List X) → take k (take k xs) ≡ take k xs
+    take_twice zero xs = refl
+    take_twice (suc k) [] = refl
+    take_twice (suc k) (x ∷ xs) = ap (λ l. x ∷ l) (take_twice k xs)
+
+    length_taken : {X : Type 0} (k : ℕ) (xs : List X) → k ≤ length xs → length (take k xs) ≡ k
+    length_taken zero xs le = refl
+    length_taken (suc k) [] le = absurd (omega arith)
+    length_taken (suc k) (x ∷ xs) le = ap suc (length_taken k xs (omega arith))
+
+-- the walk is behind a choice again, with other rows behind those
+pub back_behind : (w n : Walk) (rest : List (List Step)) (c : Choice) → Grows w.goals.items n.goals.items → IsBack w c rest → StandsBehind (record w { goals = n.goals }) rest
+back_behind w n rest c grows h =
+    let F : Forest = w.forest.now in
+    let goals = h.goals in
+    let is : AreChoices F w.goals.items w.choices.items (Chose h.trail h.goal h.chosen h.behind) =
+    (h.before, c, h.choices, h.is, subst (λ g. AreChoices F g h.before h.trail) (sym (take_all c.goals w.goals.items goals)) h.earlier) in
+    record {
+      lists = h.lists;
+      all = h.all;
+      trail = Chose h.trail h.goal h.chosen h.behind;
+      is = record {
+        forest = h.forest;
+        choices = subst (λ g. AreChoices F g w.choices.items (Chose h.trail h.goal h.chosen h.behind)) (sym grows.is)
+            (choices_more F w.goals.items grows.more w.choices.items (Chose h.trail h.goal h.chosen h.behind) is);
+        done = h.done;
+      };
+      rest_is = h.rest_is;
+    }
+
+-- the choice has no later option, and is given up
+pub gave_up : (w n : Walk) (rest : List (List Step)) (c : Choice) → n.choices.items ≡ take (length w.choices.items - 1) w.choices.items → c.count ≤ suc c.chosen → IsBack w c rest → StandsBehind (record w { choices = n.choices }) rest
+gave_up w n rest c choices last h =
+    let F : Forest = w.forest.now in
+    let front : h.before ≡ n.choices.items = sym (choices ∙ take_front w.choices.items h.before c h.choices) in
+    let a = h.is.count in
+    let b = h.is.chosen_is in
+    let none : drop (suc h.chosen) (options F h.goal) ≡ [] = drop_past (suc h.chosen) (options F h.goal) (omega arith) in
+    let known = forests_are_walked F h.lists h.forest h.all in
+    record {
+      lists = h.lists;
+      all = h.all;
+      trail = h.trail;
+      is = record { forest = h.forest; choices = subst (λ l. AreChoices F w.goals.items l h.trail) front h.earlier; done = h.done };
+      rest_is = h.rest_is ∙ ap (λ l. to_come F h.lists (done_of F h.trail ++ Goals.Chose l h.behind ∷ [])) none ∙ known.walks.is_spent (done_of F h.trail) h.behind;
+    }
+
+-- the next option of the choice was chosen
+pub chose_next : (w n : Walk) (rest : List (List Step)) (c d : Choice) (put : Put) → d ≡ record c { chosen = suc c.chosen } → PutsOption w.forest.now (fork_of c.fork) w.goals.items n.goals.items (suc c.chosen) c.behind put →
+    ((before : List Choice) → w.choices.items ≡ before ++ c ∷ [] → n.choices.items ≡ before ++ d ∷ []) → IsBack w c rest →
+    StandsBefore (record w { goals = n.goals; left = put.top; choices = n.choices }) rest
+chose_next w n rest c d put d_is q choices h =
+    let F : Forest = w.forest.now in
+    let known = forests_are_walked F h.lists h.forest h.all in
+    let p : PutsOption F h.goal w.goals.items n.goals.items (suc h.chosen) c.behind put =
+    subst (λ k. PutsOption F h.goal w.goals.items n.goals.items (suc k) c.behind put) h.is.chosen_is (subst (λ g. PutsOption F g w.goals.items n.goals.items (suc c.chosen) c.behind put) h.is.goal_is q) in
+    let opened = drop_from (options F h.goal) (suc h.chosen) p.option p.option_is in
+    let within = slice_get_within (options F h.goal) (suc h.chosen) p.option p.option_is in
+    let old : take c.goals n.goals.items ≡ w.goals.items = (λ i. take (h.goals i) (p.puts.grows.is i)) ∙ take-append_seam w.goals.items p.puts.grows.more in
+    let linked : IsStack w.goals.items c.behind h.behind = subst (λ g. IsStack g c.behind h.behind) (take_all c.goals w.goals.items h.goals) h.is.behind_is in
+    let longer : length n.goals.items ≡ length w.goals.items + length p.puts.grows.more = ap (λ (l : List GoalRow). length l) p.puts.grows.is ∙ length-append w.goals.items p.puts.grows.more in
+    let goals = h.goals in
+    let next : Choice = record c { chosen = suc c.chosen } in
+    let is : IsChoice F n.goals.items h.trail h.goal (suc h.chosen) h.behind next = record {
+      goal_is = h.is.goal_is;
+      ready = h.is.ready;
+      chosen_is = ap suc h.is.chosen_is;
+      count = h.is.count;
+      among = within;
+      goals = omega arith;
+      behind_is = subst (λ g. IsStack g c.behind h.behind) (sym old) linked;
+      are_ready = h.is.are_ready;
+      steps = h.is.steps;
+      counts = h.is.counts;
+    } in
+    record {
+      lists = h.lists;
+      all = h.all;
+      trail = Chose h.trail h.goal (suc h.chosen) h.behind;
+      is = record {
+        forest = h.forest;
+        choices = (h.before, next, choices h.before h.choices ∙ ap (λ x. h.before ++ x ∷ []) d_is, is, subst (λ g. AreChoices F g h.before h.trail) (sym old) h.earlier);
+        done = h.done;
+      };
+      left = p.option ++ h.behind;
+      left_is = p.puts.stack h.behind linked;
+      ready = ready_both F p.option h.behind (option_ready F h.lists h.forest known.choices h.goal h.is.ready (suc h.chosen) p.option p.option_is) h.is.are_ready;
+      rest_is = h.rest_is ∙ ap (λ l. to_come F h.lists (done_of F h.trail ++ Goals.Chose l h.behind ∷ [])) opened
+          ∙ known.walks.goes_on (done_of F h.trail) p.option h.behind (drop (suc (suc h.chosen)) (options F h.goal));
+    }
+
+-- with no choice left there is no other derivation
+pub none_left : (w : Walk) (rest : List (List Step)) → w.choices.items ≡ [] → StandsBehind w rest → rest ≡ []
+none_left w rest none h =
+    let F : Forest = w.forest.now in
+    h.rest_is ∙ none_to_come F h.lists (walked w h.trail h.lists h.is h.all).walks w.goals.items h.trail (subst (λ l. AreChoices F w.goals.items l h.trail) none h.is.choices)
+
+pub behind_of : (p : Place) (w : Walk) (rest : List (List Step)) → (p ≡ Walking → ⊥) → Remain p w rest → StandsBehind w rest
+behind_of Walking w rest other h = absurd (other refl)
+behind_of At w rest other h = h
+behind_of Between w rest other h = h
+
+-- ---- the beginning
+
+map_id : {X : Type 0} (xs : List X) → map (λ x. x) xs ≡ xs
+map_id [] = refl
+map_id (x ∷ xs) = ap (λ l. x ∷ l) (map_id xs)
+
+pub begun_walk : (w : Walk) → IsForest w.forest.now → w.choices.items ≡ [] → w.counts.items ≡ [] → w.steps.items ≡ [] →
+    Puts [] w.goals.items 0 w.left (root_goals w.forest.now w.forest.now.root) → IsUnderWay w 0 Walking
+begun_walk w is choices counts steps puts =
+    let F : Forest = w.forest.now in
+    let l = forests_have_lists F is in
+    let known = forests_are_walked F l.0 is l.1 in
+    let goals : List Goal = root_goals F F.root in
+    record {
+      lists = l.0;
+      all = l.1;
+      taken = [];
+      rest = map steps_of (roots_by F l.0 F.root);
+      both = refl;
+      count = refl;
+      remain = record {
+        lists = l.0;
+        all = l.1;
+        trail = Begun;
+        is = record {
+          forest = is;
+          choices = choices;
+          done = record {
+            counted = record { all = ap (λ (x : List _). length x) counts; each = λ n le. (let none : 0 ≡ n = omega arith in subst (λ k. IsCounted w.counts.items k (counts_behind F.flat [] (take k []))) none refl) };
+            written = ap (map step_of) steps;
+          };
+        };
+        left = goals;
+        left_is = subst (IsStack w.goals.items w.left) (append_none goals) (puts.stack [] refl);
+        ready = root_ready F is F.root is.root;
+        rest_is = sym known.root ∙ sym (append_none (map (λ x. x) (steps_from F l.0 goals)) ∙ map_id (steps_from F l.0 goals));
+      };
+    }

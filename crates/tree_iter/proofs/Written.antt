@@ -1,0 +1,170 @@
+-- Steps that are written and counted, when one more is, or when some are undone.
+use Rattle.std.proofs.Common.{◌≡◌, ℕ, zero, suc, ◌+◌, ◌<◌, ◌≤◌, List, [], ◌∷◌, ◌++◌, length, map, take, inl, inr, ◌⊎◌, Some, Result, Ok, Err, refl, sym, ap, ◌∙◌, subst, append_assoc, length-append, arith}
+use Rattle.std.specs.Prelude.{slice_get, option_to_list, OnOk}
+use Rattle.std.proofs.Math.Seq.{take-append_seam}
+use Rattle.std.proofs.lemmas.List.{take-append-le}
+use Rattle.grammar_core.specs.declared.steps.TreeStep.{TreeStep}
+use Rattle.grammar_core.specs.Steps.{step_of}
+use Rattle.grammar_model.specs.Grammar.{Grammar}
+use Rattle.grammar_model.specs.Steps.{Step}
+use Rattle.grammar_model.proofs.Lists.{contains_from}
+use Rattle.recognizer_model.specs.declared.flat.FlatSymbol.{FlatSymbol}
+use Rattle.recognizer_model.specs.declared.flat.FlatSymbol.TheVariants.{Sequence, Top}
+use Rattle.recognizer_model.specs.Flat.{FlatGrammar}
+use Rattle.recognizer_model.specs.FlatForm.{IsFlatOf, symbol_at, written_symbol}
+use Rattle.forest_laws.proofs.Lists.{get_among}
+use Rattle.forest_laws.specs.Written.{sum_newest, older, step_written, counts_after, steps_written}
+use Rattle.tree_iter.specs.declared.writing.CountRow.{CountRow}
+use Rattle.tree_iter.specs.declared.writing.Effect.{Effect}
+use Rattle.tree_iter.specs.Writing.{IsCounted, AreTakenOff, IsEffect, counts_behind, AreCounted, AreDone}
+use Rattle.tree_iter.proofs.Linked.{linked_more, linked_taken, linked_push, linked_top, linked_none, linked_bound}
+use Rattle.tree_iter.proofs.GoalLemmas.{index_is}
+
+assoc : {X : Type 0} (xs ys zs : List X) → (xs ++ ys) ++ zs ≡ xs ++ (ys ++ zs)
+assoc xs ys zs = append_assoc xs ys zs
+
+pub written_both : (w : Grammar) (g : FlatGrammar) (counts : List ℕ) (a b : List Step) → steps_written w g counts (a ++ b) ≡ steps_written w g counts a ++ steps_written w g (counts_behind g counts a) b
+written_both w g counts [] b = refl
+written_both w g counts (s ∷ a) b =
+    ap (λ l. step_written w g counts s ++ l) (written_both w g (counts_after g counts s) a b)
+    ∙ sym (assoc (step_written w g counts s) (steps_written w g (counts_after g counts s) a) (steps_written w g (counts_behind g (counts_after g counts s) a) b))
+
+pub counts_both : (g : FlatGrammar) (counts : List ℕ) (a b : List Step) → counts_behind g counts (a ++ b) ≡ counts_behind g (counts_behind g counts a) b
+counts_both g counts [] b = refl
+counts_both g counts (s ∷ a) b = counts_both g (counts_after g counts s) a b
+
+map_both : {X Y : Type 0} (f : X → Y) (xs ys : List X) → map f (xs ++ ys) ≡ map f xs ++ map f ys
+map_both f [] ys = refl
+map_both f (x ∷ xs) ys = ap (λ l. f x ∷ l) (map_both f xs ys)
+
+map_taken : {X Y : Type 0} (f : X → Y) (k : ℕ) (xs : List X) → map f (take k xs) ≡ take k (map f xs)
+map_taken f zero xs = refl
+map_taken f (suc k) [] = refl
+map_taken f (suc k) (x ∷ xs) = ap (λ l. f x ∷ l) (map_taken f k xs)
+
+take_whole : {X : Type 0} (xs : List X) → take (length xs) xs ≡ xs
+take_whole [] = refl
+take_whole (x ∷ xs) = ap (λ l. x ∷ l) (take_whole xs)
+
+length_taken : {X : Type 0} (k : ℕ) (xs : List X) → k ≤ length xs → length (take k xs) ≡ k
+length_taken zero xs le = refl
+length_taken (suc k) [] le = absurd (omega arith)
+length_taken (suc k) (x ∷ xs) le = ap suc (length_taken k xs (omega arith))
+
+upto : (n m : ℕ) → n ≤ suc m → (n ≤ m) ⊎ (n ≡ suc m)
+upto zero m le = inl (omega arith)
+upto (suc n) zero le = inr (omega arith)
+upto (suc n) (suc m) le = elim (upto n m (omega arith)) as (λ _. (suc n ≤ suc m) ⊎ (suc n ≡ suc (suc m))) [ inl h ↦ inl (omega arith) | inr h ↦ inr (omega arith) ]
+
+-- the counts that stand there now
+pub counted_now : (g : FlatGrammar) (rows : List CountRow) (done : List Step) → AreCounted g rows done → IsCounted rows (length rows) (counts_behind g [] done)
+counted_now g rows done h =
+    let here : IsCounted rows (length done) (counts_behind g [] done) = subst (λ d. IsCounted rows (length done) (counts_behind g [] d)) (take_whole done) (h.each (length done) (omega arith)) in
+    subst (λ n. IsCounted rows n (counts_behind g [] done)) (sym h.all) here
+
+counted_more : (w : Grammar) (g : FlatGrammar) (rows : List CountRow) (done : List Step) (step : Step) (effect : Effect) → AreCounted g rows done →
+    IsEffect w g rows (counts_behind g [] done) step effect → AreCounted g (rows ++ effect.row ∷ []) (done ++ step ∷ [])
+counted_more w g rows done step effect h is = record {
+  all = (let a = length-append rows (effect.row ∷ []) in let b = length-append done (step ∷ []) in let c = h.all in omega arith);
+  each = λ n le. at n (upto n (length done) (let b = length-append done (step ∷ []) in omega arith));
+}
+  where
+    last : IsCounted (rows ++ effect.row ∷ []) (suc (length rows)) (counts_behind g [] (done ++ step ∷ []))
+    last = subst (λ l. IsCounted (rows ++ effect.row ∷ []) (suc (length rows)) l) (sym (counts_both g [] done (step ∷ []) ∙ is.after))
+        (linked_push (λ (row : CountRow). row.count) (λ row. row.below) rows effect.row is.left is.below)
+
+    at : (n : ℕ) → (n ≤ length done) ⊎ (n ≡ suc (length done)) → IsCounted (rows ++ effect.row ∷ []) n (counts_behind g [] (take n (done ++ step ∷ [])))
+    at n (inl le) = subst (λ l. IsCounted (rows ++ effect.row ∷ []) n (counts_behind g [] l)) (sym (take-append-le n done (step ∷ []) le))
+        (linked_more (λ (row : CountRow). row.count) (λ row. row.below) rows (effect.row ∷ []) n (counts_behind g [] (take n done)) (h.each n le))
+    at n (inr e) =
+        let whole : take n (done ++ step ∷ []) ≡ done ++ step ∷ [] = ap (λ k. take k (done ++ step ∷ [])) (let b = length-append done (step ∷ []) in let c : n ≡ length (done ++ step ∷ []) = omega arith in c) ∙ take_whole (done ++ step ∷ []) in
+        let place : suc (length rows) ≡ n = ap suc h.all ∙ sym e in
+        subst (λ l. IsCounted (rows ++ effect.row ∷ []) n (counts_behind g [] l)) (sym whole) (subst (λ k. IsCounted (rows ++ effect.row ∷ []) k (counts_behind g [] (done ++ step ∷ []))) place last)
+
+-- one more step is done
+pub done_more : (w : Grammar) (g : FlatGrammar) (rows : List CountRow) (steps : List TreeStep) (done : List Step) (step : Step) (effect : Effect) → AreDone w g rows steps done →
+    IsEffect w g rows (counts_behind g [] done) step effect → AreDone w g (rows ++ effect.row ∷ []) (steps ++ option_to_list effect.step) (done ++ step ∷ [])
+done_more w g rows steps done step effect h is = record {
+  counted = counted_more w g rows done step effect h.counted is;
+  written = map_both step_of steps (option_to_list effect.step) ∙ (let a = h.written in let b = is.written in λ i. a i ++ b i)
+      ∙ sym (written_both w g [] done (step ∷ []) ∙ ap (λ l. steps_written w g [] done ++ l) (append_nil (step_written w g (counts_behind g [] done) step)));
+}
+  where
+    append_nil : {X : Type 0} (xs : List X) → xs ++ [] ≡ xs
+    append_nil [] = refl
+    append_nil (x ∷ xs) = ap (λ l. x ∷ l) (append_nil xs)
+
+-- steps are undone, from the last on
+pub done_taken : (w : Grammar) (g : FlatGrammar) (rows : List CountRow) (steps : List TreeStep) (a b : List Step) → AreDone w g rows steps (a ++ b) →
+    AreDone w g (take (length a) rows) (take (length (steps_written w g [] a)) steps) a
+done_taken w g rows steps a b h =
+    let c = h.counted.all in
+    let d = length-append a b in
+    record {
+      counted = record {
+        all = length_taken (length a) rows (omega arith);
+        each = λ n le. linked_taken (λ (row : CountRow). row.count) (λ row. row.below) rows (length a) n (counts_behind g [] (take n a)) le
+            (subst (λ l. IsCounted rows n (counts_behind g [] l)) (take-append-le n a b le) (h.counted.each n (omega arith)));
+      };
+      written = map_taken step_of (length (steps_written w g [] a)) steps ∙ ap (take (length (steps_written w g [] a))) (h.written ∙ written_both w g [] a b)
+          ∙ take-append_seam (steps_written w g [] a) (steps_written w g (counts_behind g [] a) b);
+    }
+
+-- counts taken off, one after another
+pub newest_none : (n : ℕ) (counts : List ℕ) → older n counts ≡ [] → (older (suc n) counts ≡ []) × (sum_newest (suc n) counts ≡ sum_newest n counts)
+newest_none zero [] e = (refl, refl)
+newest_none zero (c ∷ counts) e = cc
+newest_none (suc n) [] e = (refl, refl)
+newest_none (suc n) (c ∷ counts) e =
+    let h = newest_none n counts e in
+    (h.0, ap (λ k. k + c) h.1)
+
+pub newest_more : (n : ℕ) (counts : List ℕ) (c : ℕ) (rest : List ℕ) → older n counts ≡ c ∷ rest → (older (suc n) counts ≡ rest) × (sum_newest (suc n) counts ≡ sum_newest n counts + c)
+newest_more zero [] c rest e = cc
+newest_more zero (d ∷ counts) c rest e =
+    let same : d ≡ c = cc in
+    let tail : counts ≡ rest = cc in
+    (tail, ap (λ k. 0 + k) same)
+newest_more (suc n) [] c rest e = cc
+newest_more (suc n) (d ∷ counts) c rest e =
+    let h = newest_more n counts c rest e in
+    let sum = h.1 in
+    (h.0, (let goal : sum_newest (suc n) counts + d ≡ (sum_newest n counts + d) + c = omega arith in goal))
+
+-- what is known of the symbols of a flat grammar
+pub sequence_within : (g : FlatGrammar) (w : Grammar) → IsFlatOf g w → (x i : ℕ) → slice_get g.symbols x ≡ Some (Sequence i) → i < length w.rules
+sequence_within g w is x i e = ((is.symbols.exact (Sequence i)).0 (contains_from g.symbols (Sequence i) (get_among g.symbols x (Sequence i) e))).1
+
+pub top_within : (g : FlatGrammar) (w : Grammar) → IsFlatOf g w → (x k : ℕ) → slice_get g.symbols x ≡ Some (Top k) → k < length w.starts
+top_within g w is x k e = (is.symbols.exact (Top k)).0 (contains_from g.symbols (Top k) (get_among g.symbols x (Top k) e))
+
+pub stands_at : (g : FlatGrammar) (w : Grammar) (x : ℕ) (s : FlatSymbol) → slice_get g.symbols x ≡ Some s → written_symbol w (symbol_at g x) ≡ written_symbol w s
+stands_at g w x s e = ap (written_symbol w) (index_is g.symbols x s (Top 0) e)
+
+-- one count more is taken off, or there is none
+pub taken_first : (rows : List CountRow) (counts : List ℕ) → IsCounted rows (length rows) counts → AreTakenOff rows 0 counts (record { count = 0; below = length rows })
+taken_first rows counts h = record { sum = refl; rest = h }
+
+pub taken_more : (rows : List CountRow) (counts : List ℕ) (n sum place : ℕ) (row : CountRow) → slice_get rows place ≡ Some row → AreTakenOff rows n counts (record { count = sum; below = suc place }) →
+    AreTakenOff rows (suc n) counts (record { count = sum + row.count; below = row.below })
+taken_more rows counts n sum place row e h =
+    let on = linked_top (λ (r : CountRow). r.count) (λ r. r.below) rows place row (older n counts) e h.rest in
+    let next = newest_more n counts row.count on.rest on.both in
+    record {
+      sum = ap (λ k. k + row.count) h.sum ∙ sym next.1;
+      rest = subst (λ l. IsCounted rows row.below l) (sym next.0) on.linked;
+    }
+
+pub taken_same : (rows : List CountRow) (counts : List ℕ) (n sum : ℕ) → AreTakenOff rows n counts (record { count = sum; below = 0 }) → AreTakenOff rows (suc n) counts (record { count = sum; below = 0 })
+taken_same rows counts n sum h =
+    let none = linked_none (λ (r : CountRow). r.count) (λ r. r.below) rows (older n counts) h.rest in
+    let next = newest_none n counts none in
+    record { sum = h.sum ∙ sym next.1; rest = subst (λ l. IsCounted rows 0 l) (sym next.0) refl }
+
+pub taken_bound : (rows : List CountRow) (counts : List ℕ) (n : ℕ) (row : CountRow) → AreTakenOff rows n counts row → row.below ≤ length rows
+taken_bound rows counts n row h = linked_bound (λ (r : CountRow). r.count) (λ r. r.below) rows row.below (older n counts) h.rest
+
+-- what holds where both of two facts do
+pub both_ok : {T E A B C : Type 0} (r : Result T E) → OnOk r A → OnOk r B → (A → B → C) → OnOk r C
+both_ok (Ok x) a b f = f a b
+both_ok (Err e) a b f = tt

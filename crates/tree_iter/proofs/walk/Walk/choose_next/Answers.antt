@@ -1,0 +1,29 @@
+use Rattle.std.proofs.Common.{◌≡◌, suc, ◌+◌, ◌-◌, List, length, ap, subst, ◌∙◌, add-one}
+use Rattle.tree_iter.specs.declared.walk.Choice.{Choice}
+use Rattle.tree_iter.specs.declared.walk.Walk.{Walk}
+use Rattle.tree_iter.specs.Goals.{fork_of}
+use Rattle.std.specs.Prelude.{slice_set, slice_index_or}
+use Rattle.std.specs.Vec.{with_item}
+use Rattle.tree_iter.specs.Goals.{PutsOption}
+use Rattle.tree_iter.proofs.Walks.{back_behind, chose_next, set_last, get_last, any_err}
+use Rattle.tree_iter.proofs.walk.Walk.choose_next.Goals as goal
+
+pub returns-in_err-put-clause-err : goal.returns-in_err-put-clause-err
+returns-in_err-put-clause-err g c = any_err c.from_residual.result
+    (λ rest h. back_behind c.args.self.now (record c.args.self.now { goals = c.put_option.new.rows }) rest c.args.choice c.in_err-put.ensures.err h)
+
+pub returns-clause-ok : goal.returns-clause-ok
+returns-clause-ok g c = λ rest h.
+    let w : Walk = c.args.self.now in
+    let last : Choice = c.args.choice in
+    let held : Choice = c.index_mut.result.now in
+    let size : length c.as_slice.result.now - 1 ≡ length w.choices.items - 1 = ap (λ (l : List Choice). length l - 1) c.as_slice.ensures.value in
+    let same : held ≡ last = c.index_mut.ensures.value ∙ ap (λ k. slice_index_or w.choices.items k held) size ∙ get_last w.choices.items h.before last held h.choices in
+    let next : Choice = record { fork = held.fork; chosen = last.chosen + 1; count = held.count; behind = held.behind; goals = held.goals; steps = held.steps; counts = held.counts } in
+    let more = add-one last.chosen in
+    let next_is : next ≡ record last { chosen = suc last.chosen } =
+    (λ i. record { fork = (same i).fork; chosen = more i; count = (same i).count; behind = (same i).behind; goals = (same i).goals; steps = (same i).steps; counts = (same i).counts }) in
+    let n : Walk = record w { goals = c.put_option.new.rows; choices = with_item w.choices (length c.as_slice.result.now - 1) next } in
+    chose_next w n rest last next c.in_ok-put.put next_is
+    (subst (λ k. PutsOption w.forest.now (fork_of last.fork) w.goals.items n.goals.items k last.behind c.in_ok-put.put) more c.in_ok-put.ensures.ok)
+    (λ before e. ap (λ k. slice_set w.choices.items k next) size ∙ set_last w.choices.items before last next e) h

@@ -1,0 +1,21 @@
+use Rattle.std.proofs.Common.{[], ◌∷◌, ◌++◌, sym, subst}
+use Rattle.forest_laws.specs.Goals.{Write}
+use Rattle.tree_iter.specs.declared.walk.Walk.{Walk}
+use Rattle.forest_model.specs.Forest.{Forest}
+use Rattle.tree_iter.specs.Writing.{AreDone, IsStepOf, flat_step}
+use Rattle.tree_iter.proofs.Walks.{first_of, step_ready, wrote_one}
+use Rattle.tree_iter.proofs.walk.Walk.write.Goals as goal
+
+pub write_step-requires-clause-step : goal.write_step-requires-clause-step
+write_step-requires-clause-step c = subst (λ f. IsStepOf f (flat_step c.args.step)) (sym c.flat.ensures) (step_ready c.args.self.now (flat_step c.args.step) c.args.behind c.requires)
+
+pub returns-clause-goes : goal.returns-clause-goes
+returns-clause-goes c = λ rest h.
+    let w : Walk = c.args.self.now in
+    wrote_one w (record w { counts = c.write_step.new.counts; steps = c.write_step.new.steps }) rest (flat_step c.args.step) c.args.behind (first_of w (Write (flat_step c.args.step)) c.args.behind c.requires rest h)
+    (λ done k.
+    let F : Forest = w.forest.now in
+    let old : AreDone c.written.result.now c.flat.result.now w.counts.items w.steps.items done =
+    subst (λ x. AreDone x c.flat.result.now w.counts.items w.steps.items done) (sym c.written.ensures) (subst (λ y. AreDone F.written y w.counts.items w.steps.items done) (sym c.flat.ensures) k) in
+    subst (λ y. AreDone F.written y c.write_step.new.counts.items c.write_step.new.steps.items (done ++ flat_step c.args.step ∷ [])) c.flat.ensures
+    (subst (λ x. AreDone x c.flat.result.now c.write_step.new.counts.items c.write_step.new.steps.items (done ++ flat_step c.args.step ∷ [])) c.written.ensures (c.in_ok-write_step.ensures.ok done old)))

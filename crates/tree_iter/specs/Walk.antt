@@ -1,0 +1,169 @@
+-- A walk through a forest as it is kept: what it has done, what it has left, and what is still to come.
+use Rattle.std.specs.Prelude.{◌≡◌, ℕ, suc, ◌<◌, ◌≤◌, Bool, true, false, List, [], ◌∷◌, ◌++◌, length, map, take, drop, Option, Some, None, slice_get}
+use Rattle.grammar_core.specs.declared.steps.TreeStep.{TreeStep}
+use Rattle.grammar_core.specs.Steps.{step_of}
+use Rattle.grammar_model.specs.Steps.{Step, steps_of}
+use Rattle.forest_model.specs.Forest.{Forest, IsForest}
+use Rattle.forest_laws.specs.Lists.{Lists, roots_by}
+use Rattle.forest_laws.specs.Laws.{AreAllLists}
+use Rattle.forest_laws.specs.Goals.{Goal, options, Done, to_come, stands}
+use Rattle.forest_laws.specs.Goals
+use Rattle.forest_laws.specs.Written.{steps_written}
+use Rattle.tree_iter.specs.declared.goals.GoalRow.{GoalRow}
+use Rattle.tree_iter.specs.declared.walk.Choice.{Choice}
+use Rattle.tree_iter.specs.declared.walk.Walk.{Walk}
+use Rattle.tree_iter.specs.declared.walk.Place.{Place}
+use Rattle.tree_iter.specs.declared.walk.Place.TheVariants.{Walking, At, Between}
+use Rattle.tree_iter.specs.Writing.{AreDone}
+use Rattle.tree_iter.specs.Goals.{fork_of, goal_of, IsStack, IsReady, AreReady}
+
+-- what a walk has done, the newest last: it wrote a step, or chose an option of a goal, with other goals behind that goal
+pub data Trail : Type 0 where
+  Begun : Trail
+  Wrote : (trail : Trail) (step : Step) → Trail
+  Chose : (trail : Trail) (goal : Goal) (chosen : ℕ) (behind : List Goal) → Trail
+
+abbrev pub done_of : Forest → Trail → List Done
+done_of f Begun = []
+done_of f (Wrote trail step) = done_of f trail ++ Goals.Wrote step ∷ []
+done_of f (Chose trail goal chosen behind) = done_of f trail ++ Goals.Chose (drop (suc chosen) (options f goal)) behind ∷ []
+
+-- the flat steps that it wrote
+abbrev pub steps_on : Trail → List Step
+steps_on Begun = []
+steps_on (Wrote trail step) = steps_on trail ++ step ∷ []
+steps_on (Chose trail goal chosen behind) = steps_on trail
+
+-- a choice as it is kept, with how far the rest had come
+pub record IsChoice (f : Forest) (rows : List GoalRow) (trail : Trail) (goal : Goal) (chosen : ℕ) (behind : List Goal) (c : Choice) : Type 0 where
+  pub goal_is : fork_of c.fork ≡ goal
+  pub ready : IsReady f goal
+  pub chosen_is : c.chosen ≡ chosen
+  pub count : c.count ≡ length (options f goal)
+  pub among : chosen < length (options f goal)
+  pub goals : c.goals ≤ length rows
+  pub behind_is : IsStack (take c.goals rows) c.behind behind
+  pub are_ready : AreReady f behind
+  pub steps : c.steps ≡ length (steps_written f.written f.flat [] (steps_on trail))
+  pub counts : c.counts ≡ length (steps_on trail)
+
+abbrev pub AreChoices : Forest → List GoalRow → List Choice → Trail → Type 0
+AreChoices f rows choices Begun = choices ≡ []
+AreChoices f rows choices (Wrote trail step) = AreChoices f rows choices trail
+AreChoices f rows choices (Chose trail goal chosen behind) =
+    (before : List Choice) × (c : Choice) × (choices ≡ before ++ c ∷ []) × IsChoice f rows trail goal chosen behind c × AreChoices f (take c.goals rows) before trail
+
+-- the walk has come along this trail
+pub record IsTrail (w : Walk) (trail : Trail) : Type 0 where
+  pub forest : IsForest w.forest.now
+  pub choices : AreChoices w.forest.now w.goals.items w.choices.items trail
+  pub done : AreDone w.forest.now.written w.forest.now.flat w.counts.items w.steps.items (steps_on trail)
+
+-- the walk has goals left, and these are the steps of the derivations still to come, from the one that it is on
+pub record StandsBefore (w : Walk) (rest : List (List Step)) : Type 0 where
+  pub lists : Lists
+  pub all : AreAllLists w.forest.now lists
+  pub trail : Trail
+  pub is : IsTrail w trail
+  pub left : List Goal
+  pub left_is : IsStack w.goals.items w.left left
+  pub ready : AreReady w.forest.now left
+  pub rest_is : rest ≡ stands w.forest.now lists (done_of w.forest.now trail) left
+
+-- the walk has come to the end of a derivation, and these are those behind it
+pub record StandsBehind (w : Walk) (rest : List (List Step)) : Type 0 where
+  pub lists : Lists
+  pub all : AreAllLists w.forest.now lists
+  pub trail : Trail
+  pub is : IsTrail w trail
+  pub rest_is : rest ≡ to_come w.forest.now lists (done_of w.forest.now trail)
+
+-- the steps are written
+abbrev pub Shows : Walk → List Step → Type 0
+Shows w steps = map step_of w.steps.items ≡ steps_written w.forest.now.written w.forest.now.flat [] steps
+
+-- the walk came to the end of the first of those derivations
+pub record Reaches (w : Walk) (rest : List (List Step)) : Type 0 where
+  pub first : List Step
+  pub later : List (List Step)
+  pub rest_is : rest ≡ first ∷ later
+  pub behind : StandsBehind w later
+  pub shows : Shows w first
+
+-- the walk is on the next derivation, or there is none
+abbrev pub Turns : Walk → List (List Step) → Bool → Type 0
+Turns w rest true = StandsBefore w rest
+Turns w rest false = StandsBehind w rest × (rest ≡ [])
+
+-- what is still to come before one walk is so before the other
+abbrev pub Goes : (old new : Walk) → Type 0
+Goes old new = (rest : List (List Step)) → StandsBefore old rest → StandsBefore new rest
+
+-- the walk has this goal left, and then those behind it
+pub record IsAbout (w : Walk) (goal : Goal) (behind : ℕ) : Type 0 where
+  pub rest : List (List Step)
+  pub stands : StandsBefore w rest
+  pub place : ℕ
+  pub row : GoalRow
+  pub left_is : w.left ≡ suc place
+  pub row_is : slice_get w.goals.items place ≡ Some row
+  pub goal_is : goal_of row.goal ≡ goal
+  pub behind_is : row.below ≡ behind
+
+abbrev pub IsLast : List Choice → Choice → Type 0
+IsLast choices choice = (before : List Choice) × (choices ≡ before ++ choice ∷ [])
+
+-- the walk is right behind a choice, and what was done after it is undone
+pub record IsBack (w : Walk) (choice : Choice) (rest : List (List Step)) : Type 0 where
+  pub forest : IsForest w.forest.now
+  pub lists : Lists
+  pub all : AreAllLists w.forest.now lists
+  pub trail : Trail
+  pub goal : Goal
+  pub chosen : ℕ
+  pub behind : List Goal
+  pub before : List Choice
+  pub choices : w.choices.items ≡ before ++ choice ∷ []
+  pub is : IsChoice w.forest.now w.goals.items trail goal chosen behind choice
+  pub goals : choice.goals ≡ length w.goals.items
+  pub earlier : AreChoices w.forest.now w.goals.items before trail
+  pub done : AreDone w.forest.now.written w.forest.now.flat w.counts.items w.steps.items (steps_on trail)
+  pub rest_is : rest ≡ to_come w.forest.now lists (done_of w.forest.now (Chose trail goal chosen behind))
+
+-- what is still to come, by where the walk is
+abbrev pub Remain : Place → Walk → List (List Step) → Type 0
+Remain Walking w rest = StandsBefore w rest
+Remain At w rest = StandsBehind w rest
+Remain Between w rest = StandsBehind w rest
+
+abbrev pub current_of : Place → List TreeStep → Option (List Step)
+current_of Walking steps = None
+current_of At steps = Some (map step_of steps)
+current_of Between steps = None
+
+-- the walk reached one more derivation and is at it, or there is none
+abbrev pub Advances : Place → Walk → List (List Step) → Bool → Type 0
+Advances place w rest true = (place ≡ At) × Reaches w rest
+Advances place w rest false = (place ≡ Between) × StandsBehind w rest × (rest ≡ [])
+
+-- a walk that is at a derivation leaves it
+abbrev pub left : Place → Place
+left Walking = Walking
+left At = Between
+left Between = Between
+
+-- nothing is lost, and the walk is at no derivation
+abbrev pub Waits : Place → Walk → List (List Step) → Type 0
+Waits Walking w rest = StandsBefore w rest
+Waits At w rest = ⊥
+Waits Between w rest = StandsBehind w rest
+
+-- so many derivations were taken, and the others remain
+pub record IsUnderWay (w : Walk) (given : ℕ) (place : Place) : Type 0 where
+  pub lists : Lists
+  pub all : AreAllLists w.forest.now lists
+  pub taken : List (List Step)
+  pub rest : List (List Step)
+  pub both : map steps_of (roots_by w.forest.now lists w.forest.now.root) ≡ taken ++ rest
+  pub count : length taken ≡ given
+  pub remain : Remain place w rest

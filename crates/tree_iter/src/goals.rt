@@ -1,0 +1,193 @@
+//! What a walk through a forest has left to do: goals, in stacks that share what lies below.
+ghost use Rattle.std.specs.Prelude.{◌≡◌, ◌<◌, ◌∷◌, [], length, slice_get, Some, IfOk, OnErr};
+ghost use Rattle.forest_laws.specs.Goals.{IsGoal, options, alternative_goals, last_goals, whole_goals, root_goals};
+ghost use Rattle.forest_laws.specs.Lists.{last_symbol as symbol_of_last};
+ghost use Rattle.bocage.specs.Rows.{part_told};
+ghost use Rattle.bocage.specs.Readers.{alternative_at, node_at};
+ghost use Rattle.tree_iter.specs.Linked.{Grows};
+ghost use Rattle.tree_iter.specs.Goals.{fork_of, goal_of, Puts, PutsOption};
+
+use crate::writing::FlatStep;
+use bocage::{Alternatives, Forest, LastPart};
+use slif_base::Steps;
+use std::sync::ledger::Ledger;
+use value_text::NoMemory;
+
+/// A goal that is done by choosing one of its options.
+#[derive(Clone, Copy)]
+pub enum Fork<'f> {
+    /// the parts that a node stands for
+    Parts(u32),
+    /// the node of one whole rule of these, over the span
+    OneOf {
+        start: u32,
+        end: u32,
+        nodes: &'f [u32],
+    },
+}
+
+/// What is left to do.
+#[derive(Clone, Copy)]
+pub enum Goal<'f> {
+    Choose(Fork<'f>),
+    Write(FlatStep),
+}
+
+/// A goal, and the place behind the row of the one below it; 0 is none.
+#[derive(Clone, Copy)]
+pub struct GoalRow<'f> {
+    pub goal: Goal<'f>,
+    pub below: usize,
+}
+
+/// Goals that were put: the place of the topmost, and how many options there were to choose from.
+#[derive(Clone, Copy)]
+pub struct Put {
+    pub top: usize,
+    pub count: usize,
+}
+
+pub fn goal_row<'f>(rows: &[GoalRow<'f>], k: usize) -> GoalRow<'f>
+    requires { k < length rows.now }
+    ensures { slice_get rows.now k ≡ Some result }
+{
+    rows[k]
+}
+
+// Puts a goal on top of those below.
+fn push_goal<'f>(
+    rows: &mut Vec<GoalRow<'f>>,
+    goal: Goal<'f>,
+    below: usize,
+) -> Result<usize, NoMemory>
+    ensures ok { IfOk result (λ top. Puts rows.old.items rows.new.items below top (goal_of goal.entry ∷ [])) }
+    ensures err { OnErr result (rows.new.items ≡ rows.old.items) }
+{
+    rows.push(GoalRow { goal, below })?;
+    Ok(rows.as_slice().len())
+}
+
+// The symbol of a node's last part.
+fn last_symbol(forest: &Forest<'_>, node: u32) -> u32
+    requires { node < length forest.now.nodes }
+    ensures { result ≡ symbol_of_last forest.now (node_at forest.now node).key }
+{
+    forest.known();
+    let key = forest.key(node);
+    forest.flat().rhs(key.rule)[key.dot as usize - 1]
+}
+
+// The goal of a last part.
+fn last_goal(symbol: u32, start: u32, end: u32, last: LastPart<'_>) -> Goal<'_>
+    ensures { goal_of result ∷ [] ≡ last_goals symbol start end (part_told last.entry) }
+{
+    match last {
+        LastPart::Edge => Goal::Write(FlatStep::Token {
+            symbol,
+            from: start,
+            to: end,
+        }),
+        LastPart::Nothing => Goal::Write(FlatStep::Nulled { symbol, at: start }),
+        LastPart::Wholes(nodes) => Goal::Choose(Fork::OneOf { start, end, nodes }),
+    }
+}
+
+// Puts the goals of an alternative, the front on top.
+fn put_alternative<'f>(
+    rows: &mut Vec<GoalRow<'f>>,
+    forest: &'f Forest<'f>,
+    node: u32,
+    alternatives: &Alternatives<'f>,
+    at: usize,
+    behind: usize,
+) -> Result<usize, NoMemory>
+    requires node { node < length forest.now.nodes }
+    requires alternatives { alternatives.now ≡ (node_at forest.now node).alternatives }
+    requires at { at < length alternatives.now }
+    ensures ok { IfOk result (λ top. Puts rows.old.items rows.new.items behind top (alternative_goals forest.now (node_at forest.now node) (alternative_at alternatives.now at))) }
+    ensures err { OnErr result (Grows rows.old.items rows.new.items) }
+{
+    let last = last_goal(
+        last_symbol(forest, node),
+        alternatives.start(at),
+        forest.key(node).end,
+        alternatives.last(at),
+    );
+    let top = push_goal(rows, last, behind)?;
+    match alternatives.front(at) {
+        Some(front) => push_goal(rows, Goal::Choose(Fork::Parts(front)), top),
+        None => Ok(top),
+    }
+}
+
+// Puts the goals of a whole rule, its parts on top.
+fn put_whole<'f>(
+    rows: &mut Vec<GoalRow<'f>>,
+    forest: &'f Forest<'f>,
+    start: u32,
+    end: u32,
+    node: u32,
+    behind: usize,
+) -> Result<usize, NoMemory>
+    requires { node < length forest.now.nodes }
+    ensures ok { IfOk result (λ top. Puts rows.old.items rows.new.items behind top (whole_goals forest.now start end node)) }
+    ensures err { OnErr result (Grows rows.old.items rows.new.items) }
+{
+    let key = forest.key(node);
+    let rule = Goal::Write(FlatStep::Rule {
+        rule: key.rule,
+        children: key.dot,
+        from: start,
+        to: end,
+    });
+    let top = push_goal(rows, rule, behind)?;
+    push_goal(rows, Goal::Choose(Fork::Parts(node)), top)
+}
+
+/// Puts an option of a fork on top of the goals behind it.
+pub fn put_option<'f, L: Ledger>(
+    rows: &mut Vec<GoalRow<'f>>,
+    forest: &'f Forest<'f>,
+    fork: Fork<'f>,
+    at: usize,
+    behind: usize,
+    steps: &mut Steps<L>,
+) -> Result<Put, NoMemory>
+    requires goal { IsGoal forest.now (fork_of fork) }
+    requires at { at < length (options forest.now (fork_of fork)) }
+    ensures ok { IfOk result (λ put. PutsOption forest.now (fork_of fork.entry) rows.old.items rows.new.items at behind put) }
+    ensures err { OnErr result (Grows rows.old.items rows.new.items) }
+{
+    match fork {
+        Fork::Parts(node) => {
+            let alternatives = forest.alternatives(node, steps);
+            let top = put_alternative(rows, forest, node, &alternatives, at, behind)?;
+            Ok(Put {
+                top,
+                count: alternatives.len(),
+            })
+        }
+        Fork::OneOf { start, end, nodes } => {
+            let top = put_whole(rows, forest, start, end, nodes[at], behind)?;
+            Ok(Put {
+                top,
+                count: nodes.len(),
+            })
+        }
+    }
+}
+
+/// Puts the goals of the whole.
+pub fn put_root<'f>(rows: &mut Vec<GoalRow<'f>>, forest: &'f Forest<'f>) -> Result<usize, NoMemory>
+    ensures { IfOk result (λ top. Puts rows.old.items rows.new.items 0 top (root_goals forest.now forest.now.root)) }
+{
+    forest.known();
+    match forest.root() {
+        Some(node) => put_whole(rows, forest, 0, forest.key(node).end, node, 0),
+        None => {
+            let flat = forest.flat();
+            let symbol = flat.lhs(flat.top(forest.start()));
+            push_goal(rows, Goal::Write(FlatStep::Nulled { symbol, at: 0 }), 0)
+        }
+    }
+}

@@ -1,0 +1,94 @@
+//! The iterator over the derivations of a forest.
+ghost use Rattle.std.specs.Prelude.{◌≡◌, ◌+◌, ◌<◌, ◌++◌, [], List, length, map, vec_len, vec_capacity, IfOk, OnOk, OnErr, IfSome, IsSome, IsTrue, IsFalse};
+ghost use Rattle.grammar_core.specs.Steps.{step_of};
+ghost use Rattle.grammar_model.specs.Trees.{Tree};
+ghost use Rattle.tree_iter.specs.Iteration.{AreGiven, IsAnswer, between, begun};
+
+use crate::walk::{Place, Walk, advance, leave};
+use bocage::Forest;
+use grammar_core::TreeStep;
+use slif_base::Steps;
+use std::alloc::Global;
+use std::marker::Model;
+use std::sync::ledger::Ledger;
+use value_text::NoMemory;
+
+/// The derivations of a forest, one after another in the declared order. Two that follow each other share what they have in common at
+/// their beginning.
+#[derive(Drop)]
+pub struct TreeIter<'f> {
+    walk: Walk<'f>,
+    place: Place,
+    given: u64,
+}
+
+impl<'f> Model for TreeIter<'f> {
+    ghost use Rattle.tree_iter.specs.Iteration.{Iteration};
+    ghost use Rattle.tree_iter.specs.Walk.{IsUnderWay, current_of};
+
+    ghost Value = { Iteration };
+
+    ghost view = { λ i. record { forest = i.walk.forest.now; given = i.given; current = current_of i.place i.walk.steps.items } };
+
+    ghost invariant = { λ i. IsUnderWay i.walk i.given i.place };
+}
+
+fn one_more(given: u64) -> Option<u64>
+    ensures { IfSome result (λ more. more ≡ given + 1) }
+{
+    given.checked_add(1)
+}
+
+impl<'f> TreeIter<'f> {
+    /// An iterator before the first derivation.
+    pub fn new(alloc: Global, forest: &'f Forest<'f>) -> Result<TreeIter<'f>, NoMemory>
+        ensures begun { IfOk result (λ iter. iter ≡ begun forest.now) }
+        ensures none { IfOk result (λ iter. AreGiven iter []) }
+    {
+        let walk = Walk::begin(alloc, forest)?;
+        Ok(TreeIter {
+            walk,
+            place: Place::Walking,
+            given: 0,
+        })
+    }
+
+    /// Goes to the next derivation. Answers whether there is one. A call that runs out of memory gives none, and the next call goes on
+    /// from where it was. There are fewer than 2^64.
+    pub fn next<L: Ledger>(&mut self, steps: &mut Steps<L>) -> Result<bool, NoMemory>
+        ensures answer { IfOk result (λ more. (given : List Tree) → AreGiven self.old given → IsAnswer self.new given more) }
+        ensures stands { IfOk result (λ more. IsTrue more → IsSome self.new.current) }
+        ensures end { IfOk result (λ more. IsFalse more → self.new ≡ between self.old) }
+        ensures forest { self.new.forest ≡ self.old.forest }
+        ensures err { OnErr result (self.new ≡ between self.old) }
+    {
+        let Some(given) = one_more(self.given) else {
+            leave(&mut self.place);
+            return Err(NoMemory);
+        };
+        if !advance(&mut self.walk, &mut self.place, steps)? {
+            return Ok(false);
+        }
+        self.given = given;
+        Ok(true)
+    }
+
+    /// How many steps the current derivation has.
+    pub fn steps_needed(&self) -> usize
+        requires { IsSome self.now.current }
+        ensures { IfSome self.now.current (λ steps. result ≡ length steps) }
+    {
+        self.walk.steps.as_slice().len()
+    }
+
+    /// Appends the steps of the current derivation, children before their rule.
+    pub fn steps_of(&self, out: &mut Vec<TreeStep>) -> Result<(), NoMemory>
+        requires { IsSome self.now.current }
+        ensures ok { OnOk result (IfSome self.now.current (λ steps. map step_of out.new.items ≡ map step_of out.old.items ++ steps)) }
+        ensures err { OnErr result (out.new.items ≡ out.old.items) }
+        ensures full { OnErr result (IfSome self.now.current (λ steps. vec_capacity out.old < vec_len out.old + length steps)) }
+    {
+        out.extend_from_slice(&self.walk.steps)?;
+        Ok(())
+    }
+}

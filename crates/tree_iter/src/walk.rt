@@ -1,0 +1,243 @@
+//! A walk through a forest from one derivation to the next. It goes back to the last choice that has a later option, and on by first
+//! options from there, so that what the two derivations share at their beginning is not done again.
+ghost use Rattle.std.specs.Prelude.{◌≡◌, ◌+◌, ◌<◌, [], List, IfOk, OnOk, OnErr, IfSome, IsNone};
+ghost use Rattle.grammar_model.specs.Steps.{Step};
+ghost use Rattle.forest_laws.specs.Goals.{Write};
+ghost use Rattle.tree_iter.specs.Writing.{flat_step};
+ghost use Rattle.tree_iter.specs.Goals.{fork_of};
+ghost use Rattle.tree_iter.specs.Walk.{IsAbout, IsBack, Goes, StandsBefore, StandsBehind, Reaches, Turns, Remain, Advances, Waits, IsUnderWay, left, IsLast};
+ghost use Rattle.tree_iter.specs.declared.walk.Place.TheVariants.{Walking};
+
+use crate::goals::{Fork, Goal, GoalRow, goal_row, put_option, put_root};
+use crate::writing::{CountRow, FlatStep, write_step};
+use bocage::Forest;
+use grammar_core::TreeStep;
+use slif_base::Steps;
+use std::alloc::Global;
+use std::sync::ledger::Ledger;
+use value_text::NoMemory;
+
+/// An option that was chosen, of so many, with the place of the goals behind it, and how many goals, steps and counts there were.
+#[derive(Clone, Copy)]
+pub struct Choice<'f> {
+    pub fork: Fork<'f>,
+    pub chosen: usize,
+    pub count: usize,
+    pub behind: usize,
+    pub goals: usize,
+    pub steps: usize,
+    pub counts: usize,
+}
+
+/// Where a walk is: on the way to a derivation, at one, or behind those that were given.
+#[derive(Clone, Copy)]
+pub enum Place {
+    Walking,
+    At,
+    Between,
+}
+
+/// What a walk has done and has left. The goals that are left have the topmost in the row before `left`.
+#[derive(Drop)]
+pub struct Walk<'f> {
+    pub forest: &'f Forest<'f>,
+    pub goals: Vec<GoalRow<'f>>,
+    pub left: usize,
+    pub choices: Vec<Choice<'f>>,
+    pub counts: Vec<CountRow>,
+    pub steps: Vec<TreeStep>,
+}
+
+impl<'f> Walk<'f> {
+    /// A walk to the first derivation.
+    pub fn begin(alloc: Global, forest: &'f Forest<'f>) -> Result<Walk<'f>, NoMemory>
+        ensures forest { IfOk result (λ walk. walk.forest.now ≡ forest.now) }
+        ensures begun { IfOk result (λ walk. IsUnderWay walk 0 Walking) }
+    {
+        forest.known();
+        let mut goals = Vec::new(alloc);
+        let left = put_root(&mut goals, forest)?;
+        Ok(Walk {
+            forest,
+            goals,
+            left,
+            choices: Vec::new(alloc),
+            counts: Vec::new(alloc),
+            steps: Vec::new(alloc),
+        })
+    }
+
+    // Chooses the first option of a fork.
+    fn choose<L: Ledger>(
+        &mut self,
+        fork: Fork<'f>,
+        behind: usize,
+        steps: &mut Steps<L>,
+    ) -> Result<(), NoMemory>
+        requires { IsAbout self.old (fork_of fork) behind }
+        ensures goes { Goes self.old self.new }
+        ensures forest { self.new.forest ≡ self.old.forest }
+    {
+        let goals = self.goals.as_slice().len();
+        let put = put_option(&mut self.goals, self.forest, fork, 0, behind, steps)?;
+        self.choices.push(Choice {
+            fork,
+            chosen: 0,
+            count: put.count,
+            behind,
+            goals,
+            steps: self.steps.as_slice().len(),
+            counts: self.counts.as_slice().len(),
+        })?;
+        self.left = put.top;
+        Ok(())
+    }
+
+    // Writes a step.
+    fn write(&mut self, step: FlatStep, behind: usize) -> Result<(), NoMemory>
+        requires { IsAbout self.old (Write (flat_step step)) behind }
+        ensures goes { Goes self.old self.new }
+        ensures forest { self.new.forest ≡ self.old.forest }
+    {
+        write_step(
+            &mut self.counts,
+            &mut self.steps,
+            self.forest.flat(),
+            self.forest.written(),
+            step,
+        )?;
+        self.left = behind;
+        Ok(())
+    }
+
+    // Does the topmost goal that is left.
+    fn go_one<L: Ledger>(&mut self, steps: &mut Steps<L>) -> Result<(), NoMemory>
+        requires some { 0 < self.old.left }
+        requires stands { (rest : List (List Step)) × StandsBefore self.old rest }
+        ensures goes { Goes self.old self.new }
+        ensures forest { self.new.forest ≡ self.old.forest }
+    {
+        let row = goal_row(&self.goals, self.left - 1);
+        match row.goal {
+            Goal::Choose(fork) => self.choose(fork, row.below, steps),
+            Goal::Write(step) => self.write(step, row.below),
+        }
+    }
+
+    /// Goes on to the end of a derivation.
+    fn go_on<L: Ledger>(&mut self, steps: &mut Steps<L>) -> Result<(), NoMemory>
+        requires { (rest : List (List Step)) × StandsBefore self.old rest }
+        ensures ok { OnOk result ((rest : List (List Step)) → StandsBefore self.old rest → Reaches self.new rest) }
+        ensures err { OnErr result (Goes self.old self.new) }
+        ensures forest { self.new.forest ≡ self.old.forest }
+    {
+        'walk: for _ in 0..u64::MAX {
+            if self.left == 0 {
+                return Ok(());
+            }
+            self.go_one(steps)?;
+        }
+        Err(NoMemory)
+    }
+
+    fn last_choice(&self) -> Option<Choice<'f>>
+        ensures some { IfSome result (λ choice. IsLast self.now.choices.items choice) }
+        ensures none { IsNone result → self.now.choices.items ≡ [] }
+    {
+        self.choices.as_slice().last().copied()
+    }
+
+    // Undoes what was done after a choice.
+    fn cut(&mut self, choice: Choice<'f>)
+        requires last { IsLast self.old.choices.items choice }
+        requires behind { (rest : List (List Step)) × StandsBehind self.old rest }
+        ensures back { (rest : List (List Step)) → StandsBehind self.old rest → IsBack self.new choice.entry rest }
+        ensures choices { self.new.choices ≡ self.old.choices }
+        ensures forest { self.new.forest ≡ self.old.forest }
+    {
+        self.goals.truncate(choice.goals);
+        self.steps.truncate(choice.steps);
+        self.counts.truncate(choice.counts);
+    }
+
+    // Takes the next option of the last choice.
+    fn choose_next<L: Ledger>(
+        &mut self,
+        choice: Choice<'f>,
+        steps: &mut Steps<L>,
+    ) -> Result<(), NoMemory>
+        requires back { (rest : List (List Step)) × IsBack self.old choice rest }
+        requires later { choice.chosen + 1 < choice.count }
+        ensures ok { OnOk result ((rest : List (List Step)) → IsBack self.old choice.entry rest → StandsBefore self.new rest) }
+        ensures err { OnErr result ((rest : List (List Step)) → IsBack self.old choice.entry rest → StandsBehind self.new rest) }
+        ensures forest { self.new.forest ≡ self.old.forest }
+    {
+        let chosen = choice.chosen + 1;
+        let put = put_option(
+            &mut self.goals,
+            self.forest,
+            choice.fork,
+            chosen,
+            choice.behind,
+            steps,
+        )?;
+        let last = self.choices.as_slice().len() - 1;
+        self.choices[last].chosen = chosen;
+        self.left = put.top;
+        Ok(())
+    }
+
+    /// Goes back to the last choice that has a later option, and takes that. Answers whether there is one.
+    fn go_back<L: Ledger>(&mut self, steps: &mut Steps<L>) -> Result<bool, NoMemory>
+        requires { (rest : List (List Step)) × StandsBehind self.old rest }
+        ensures ok { IfOk result (λ more. (rest : List (List Step)) → StandsBehind self.old rest → Turns self.new rest more) }
+        ensures err { OnErr result ((rest : List (List Step)) → StandsBehind self.old rest → StandsBehind self.new rest) }
+        ensures forest { self.new.forest ≡ self.old.forest }
+    {
+        'back: while let Some(choice) = self.last_choice() {
+            self.cut(choice);
+            if choice.count - choice.chosen > 1 {
+                self.choose_next(choice, steps)?;
+                return Ok(true);
+            }
+            self.choices.truncate(self.choices.as_slice().len() - 1);
+        }
+        Ok(false)
+    }
+}
+
+/// Walks to the next derivation. Answers whether there is one.
+pub fn advance<L: Ledger>(
+    walk: &mut Walk<'_>,
+    place: &mut Place,
+    steps: &mut Steps<L>,
+) -> Result<bool, NoMemory>
+    requires { (rest : List (List Step)) × Remain place.old walk.old rest }
+    ensures ok { IfOk result (λ more. (rest : List (List Step)) → Remain place.old walk.old rest → Advances place.new walk.new rest more) }
+    ensures err { OnErr result ((rest : List (List Step)) → Remain place.old walk.old rest → Waits place.new walk.new rest) }
+    ensures forest { walk.new.forest ≡ walk.old.forest }
+{
+    match *place {
+        Place::Walking => {}
+        _ => {
+            *place = Place::Between;
+            if !walk.go_back(steps)? {
+                return Ok(false);
+            }
+            *place = Place::Walking;
+        }
+    }
+    walk.go_on(steps)?;
+    *place = Place::At;
+    Ok(true)
+}
+
+/// Leaves a derivation, if the walk is at one.
+pub fn leave(place: &mut Place)
+    ensures { place.new ≡ left place.old }
+{
+    match *place {
+        Place::At => *place = Place::Between,
+        _ => {}
+    }
+}

@@ -1,0 +1,245 @@
+//! Steps of flat derivations, written one after another as steps of what they stand for.
+ghost use Rattle.std.specs.Prelude.{◌≡◌, ◌+◌, ◌<◌, ◌∷◌, ◌++◌, [], ℕ, List, length, map, slice_get, Some, option_to_list, IfOk, OnOk, OnErr, false};
+ghost use Rattle.grammar_core.specs.Steps.{step_of};
+ghost use Rattle.grammar_model.specs.Grammar.{Grammar, lhs_of as written_lhs, rule_at};
+ghost use Rattle.grammar_model.specs.Steps.{Step, RuleStep};
+ghost use Rattle.recognizer_model.specs.Flat.{IsRule, source_of};
+ghost use Rattle.recognizer_model.specs.FlatForm.{IsFlatOf, symbol_at, written_symbol as stands_for};
+ghost use Rattle.forest_laws.specs.Written.{is_list_rule as is_rule_of_list, rule_written};
+ghost use Rattle.tree_iter.specs.Writing.{flat_step, IsStepOf, IsCounted, AreTakenOff, IsEffect, AreDone};
+
+use grammar_core::{
+    Flat, FlatSource, FlatSymbol, RuleId, SymbolId, TreeStep, Written, WrittenRule,
+};
+use value_text::NoMemory;
+
+/// A step of a flat derivation, by the numbers of flat symbols and rules.
+#[derive(Clone, Copy)]
+pub enum FlatStep {
+    Token {
+        symbol: u32,
+        from: u32,
+        to: u32,
+    },
+    Nulled {
+        symbol: u32,
+        at: u32,
+    },
+    Rule {
+        rule: u32,
+        children: u32,
+        from: u32,
+        to: u32,
+    },
+}
+
+/// For how many children something counts that is no child yet, and the place behind the row of what was read before it; 0 is none.
+#[derive(Clone, Copy)]
+pub struct CountRow {
+    pub count: u32,
+    pub below: usize,
+}
+
+/// What a step does: it leaves a count, and may be written.
+#[derive(Clone, Copy)]
+pub struct Effect {
+    pub row: CountRow,
+    pub step: Option<TreeStep>,
+}
+
+// The left side of a written rule.
+fn left_of(written: &Written, rule: RuleId) -> SymbolId
+    requires { rule < length written.now.rules }
+    ensures { result ≡ written_lhs (rule_at written.now rule) }
+{
+    match written.written_rule(rule) {
+        WrittenRule::Plain(rule) => rule.lhs,
+        WrittenRule::Sequence(rule) => rule.lhs,
+    }
+}
+
+// The written symbol that a flat one stands for.
+fn written_symbol(flat: &Flat, written: &Written, x: u32) -> SymbolId
+    requires flat_of { IsFlatOf flat.now written.now }
+    requires symbol { x < length flat.now.symbols }
+    ensures { result ≡ stands_for written.now (symbol_at flat.now x) }
+{
+    match flat.symbol(x) {
+        FlatSymbol::Terminal(symbol) => symbol,
+        FlatSymbol::Slot { symbol, .. } => symbol,
+        FlatSymbol::Sequence(rule) => left_of(written, rule),
+        FlatSymbol::Top(k) => written.start(k as usize),
+    }
+}
+
+fn is_list_rule(flat: &Flat, rule: u32) -> bool
+    requires { IsRule flat.now rule }
+    ensures { result ≡ is_rule_of_list flat.now rule }
+{
+    flat.known();
+    match flat.symbol(flat.lhs(rule)) {
+        FlatSymbol::Sequence(_) => true,
+        _ => false,
+    }
+}
+
+fn row_at(rows: &[CountRow], k: usize) -> CountRow
+    requires { k < length rows.now }
+    ensures { slice_get rows.now k ≡ Some result }
+{
+    rows[k]
+}
+
+fn sum_of(a: u32, b: u32) -> Result<u32, NoMemory>
+    ensures { IfOk result (λ sum. sum ≡ a + b) }
+{
+    match a.checked_add(b) {
+        Some(sum) => Ok(sum),
+        None => Err(NoMemory),
+    }
+}
+
+// The sum of the newest so many counts, and what lies below them.
+fn newest(rows: &[CountRow], count: u32) -> Result<CountRow, NoMemory>
+    requires { (counts : List ℕ) × IsCounted rows.now (length rows.now) counts }
+    ensures { IfOk result (λ row. (counts : List ℕ) → IsCounted rows.now (length rows.now) counts → AreTakenOff rows.now count counts row) }
+{
+    let mut sum = 0u32;
+    let mut top = rows.len();
+    'newest: for _ in 0..count {
+        if top > 0 {
+            let row = row_at(rows, top - 1);
+            sum = sum_of(sum, row.count)?;
+            top = row.below;
+        }
+    }
+    Ok(CountRow {
+        count: sum,
+        below: top,
+    })
+}
+
+// A rule that is no list's, as it is written; a top is not.
+fn rule_step(flat: &Flat, rule: u32, children: u32, from: u32, to: u32) -> Option<TreeStep>
+    requires { IsRule flat.now rule }
+    ensures { map step_of (option_to_list result) ≡ rule_written false (source_of flat.now rule) children from to }
+{
+    match flat.origin_of(rule) {
+        FlatSource::Written(rule) => Some(TreeStep::Rule {
+            rule,
+            children,
+            from,
+            to,
+        }),
+        FlatSource::Top(_) => None,
+    }
+}
+
+// What a rule does.
+fn rule_effect(
+    rows: &[CountRow],
+    flat: &Flat,
+    rule: u32,
+    children: u32,
+    from: u32,
+    to: u32,
+) -> Result<Effect, NoMemory>
+    requires rule { IsRule flat.now rule }
+    requires counted { (counts : List ℕ) × IsCounted rows.now (length rows.now) counts }
+    ensures { IfOk result (λ effect. (w : Grammar) (counts : List ℕ) → IsCounted rows.now (length rows.now) counts → IsEffect w flat.now rows.now counts (RuleStep rule children from to) effect) }
+{
+    let newest = newest(rows, children)?;
+    if is_list_rule(flat, rule) {
+        return Ok(Effect {
+            row: newest,
+            step: None,
+        });
+    }
+    Ok(Effect {
+        row: CountRow {
+            count: 1,
+            below: newest.below,
+        },
+        step: rule_step(flat, rule, newest.count, from, to),
+    })
+}
+
+// What a step does behind those that left these counts.
+fn effect_of(
+    rows: &[CountRow],
+    flat: &Flat,
+    written: &Written,
+    step: FlatStep,
+) -> Result<Effect, NoMemory>
+    requires flat_of { IsFlatOf flat.now written.now }
+    requires step { IsStepOf flat.now (flat_step step) }
+    requires counted { (counts : List ℕ) × IsCounted rows.now (length rows.now) counts }
+    ensures { IfOk result (λ effect. (counts : List ℕ) → IsCounted rows.now (length rows.now) counts → IsEffect written.now flat.now rows.now counts (flat_step step) effect) }
+{
+    let row = CountRow {
+        count: 1,
+        below: rows.len(),
+    };
+    match step {
+        FlatStep::Token { symbol, from, to } => Ok(Effect {
+            row,
+            step: Some(TreeStep::Token {
+                symbol: written_symbol(flat, written, symbol),
+                from,
+                to,
+            }),
+        }),
+        FlatStep::Nulled { symbol, at } => Ok(Effect {
+            row,
+            step: Some(TreeStep::Nulled {
+                symbol: written_symbol(flat, written, symbol),
+                at,
+            }),
+        }),
+        FlatStep::Rule {
+            rule,
+            children,
+            from,
+            to,
+        } => rule_effect(rows, flat, rule, children, from, to),
+    }
+}
+
+// Puts what a step does behind the others.
+fn put_effect(
+    counts: &mut Vec<CountRow>,
+    steps: &mut Vec<TreeStep>,
+    row: CountRow,
+    step: Option<TreeStep>,
+) -> Result<(), NoMemory>
+    ensures counts { OnOk result (counts.new.items ≡ counts.old.items ++ row ∷ []) }
+    ensures steps { OnOk result (steps.new.items ≡ steps.old.items ++ option_to_list step) }
+    ensures err { OnErr result ((counts.new.items ≡ counts.old.items) × (steps.new.items ≡ steps.old.items)) }
+{
+    counts.push(row)?;
+    if let Some(step) = step {
+        if steps.push(step).is_err() {
+            counts.pop();
+            return Err(NoMemory);
+        }
+    }
+    Ok(())
+}
+
+/// Writes a step behind the others.
+pub fn write_step(
+    counts: &mut Vec<CountRow>,
+    steps: &mut Vec<TreeStep>,
+    flat: &Flat,
+    written: &Written,
+    step: FlatStep,
+) -> Result<(), NoMemory>
+    requires flat_of { IsFlatOf flat.now written.now }
+    requires step { IsStepOf flat.now (flat_step step) }
+    requires done { (done : List Step) × AreDone written.now flat.now counts.old.items steps.old.items done }
+    ensures ok { OnOk result ((done : List Step) → AreDone written.now flat.now counts.old.items steps.old.items done → AreDone written.now flat.now counts.new.items steps.new.items (done ++ flat_step step ∷ [])) }
+    ensures err { OnErr result ((counts.new.items ≡ counts.old.items) × (steps.new.items ≡ steps.old.items)) }
+{
+    let effect = effect_of(counts, flat, written, step)?;
+    put_effect(counts, steps, effect.row, effect.step)
+}
