@@ -2,10 +2,14 @@
 #![tactic(auto)]
 
 mod abilities;
+mod candidates;
+mod kept;
+mod names;
 mod parts;
 mod prepared;
 mod reading;
 mod refusal;
+mod taking;
 #[cfg(test)]
 mod tests;
 mod told;
