@@ -11,7 +11,7 @@ use crate::Prepared;
 use dsl_build::LexemeRow;
 use earley_sets::Recce;
 use grammar_core::SymbolId;
-use lexer::{LexAnswer, Lexer, Lexical};
+use lexer::{LexAnswer, Lexer, Lexical, matches_are_the_grammars};
 use slif_base::Chars;
 use std::alloc::{AllocError, AllocFailed, Global};
 
@@ -125,7 +125,11 @@ fn longest(
     ensures some { IfOk result (λ answer. IfSome answer (λ a. AreMatched p.now chars.now at starts.now a.length a.matched.items)) }
 {
     p.known();
-    Err(AllocError)
+    matches_are_the_grammars();
+    match lexer {
+        None => Ok(None),
+        Some(lexer) => lexer.longest(alloc, chars, at, starts),
+    }
 }
 
 // Marks these of so many starts.
