@@ -1,5 +1,4 @@
 pub mod Bridges
-pub mod Descriptors
 pub mod Firsts
 pub mod Keeping
 pub mod LexicalLemmas

@@ -165,3 +165,16 @@ take_all zero [] le = refl
 take_all zero (x ∷ xs) le = absurd (omega arith)
 take_all (suc n) [] le = refl
 take_all (suc n) (x ∷ xs) le = ap (λ l. x ∷ l) (take_all n xs (omega arith))
+
+-- the first row alone
+module _ (xs : List Item) (ws : List Waiting) where
+  pub first_ends : (s : Ends) (ends : List Ends) → AreEnds s ends (length xs) (length ws) → AreEnds s (take 1 ends) (length xs) (length ws)
+  first_ends s [] h = h
+  first_ends s (e ∷ es) (a, b, h) =
+      let (c, d) = last_above e es (length xs) (length ws) h in
+      let (i, w) = last_within e es (length xs) (length ws) h in
+      (a, b, (omega arith, omega arith))
+
+  pub first_row : (s : Ends) (ends : List Ends) → 0 < length ends → cut s (take 1 ends) xs ws ≡ kept_at (cut s ends xs ws) 0 ∷ []
+  first_row s [] some = absurd (omega arith)
+  first_row s (e ∷ es) some = refl

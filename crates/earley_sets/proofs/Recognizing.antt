@@ -328,3 +328,28 @@ module _ (g : FlatGrammar) (start : ℕ) (edges : List HeldEdge) (rows : List Ke
         some : 0 < n
         some = elim (cases_lt 0 n) [ inl lt ↦ lt | inr le ↦ let e = bad.1 (fresh, inl (omega arith)) in absurd (cc) ]
     edge_kept (Err x) edges' ok err dup bad = subst (λ z. IsKeptBy (recognizer g start z rows) rows top) (sym err) k
+
+-- the first set alone, with no edges
+module _ (g : FlatGrammar) (start : ℕ) (edges : List HeldEdge) (rows : List Kept) (top : ℕ) (k : IsKeptBy (recognizer g start edges rows) rows top) where
+  pub first_there : 0 < length rows
+  first_there = let s = k.is.some in let l = sets_length rows in omega arith
+
+  first_set : (edges' : List HeldEdge) → edges' ≡ [] → IsListOf (InSet g (FlatEdges g (Held edges')) top 0) (items_at rows 0)
+  first_set edges' none = record {
+    once = (subst (IsListOf (InSet g (FlatEdges g (Held edges)) (slice_index g.tops start) 0)) (set_is rows 0) (k.is.exact 0 k.is.some)).once;
+    exact = λ item. (let there = kept_sets g start edges rows top k 0 first_there item in ((λ h. without (there.0 h)), (λ i. there.1 (with_edges i))));
+  }
+    where
+      empty : GoForward edges'
+      empty e h = absurd (Contains-none e (subst (λ l. Contains l e) none h))
+
+      without : {item : Item} → InSet g (FlatEdges g (Held edges)) top 0 item → InSet g (FlatEdges g (Held edges')) top 0 item
+      without i = set_over g (FlatEdges g (Held edges)) (goes g edges k.is.flat k.is.forward) (FlatEdges g (Held edges')) i
+          (λ y a b le (s, is, h). let f = k.is.forward (record { symbol = s; from = a; to = b }) h in absurd (omega arith))
+
+      with_edges : {item : Item} → InSet g (FlatEdges g (Held edges')) top 0 item → InSet g (FlatEdges g (Held edges)) top 0 item
+      with_edges i = set_over g (FlatEdges g (Held edges')) (goes g edges' k.is.flat empty) (FlatEdges g (Held edges)) i
+          (λ y a b le (s, is, h). let f = empty (record { symbol = s; from = a; to = b }) h in absurd (omega arith))
+
+  pub restarted : (edges' : List HeldEdge) (rows' : List Kept) → edges' ≡ [] → rows' ≡ kept_at rows 0 ∷ [] → IsKeptBy (recognizer g start edges' rows') rows' top
+  restarted edges' rows' none one = first_kept g start edges' rows' top (kept_at rows 0) none one k.is.flat k.is.start k.top_is (k.indexed 0) (first_set edges' none)

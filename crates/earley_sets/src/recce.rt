@@ -247,6 +247,16 @@ impl<'g> Recce<'g> {
         }
     }
 
+    /// Goes back to place 0, with no edges.
+    pub fn restart(&mut self)
+        ensures same { (self.new.flat ≡ self.old.flat) × (self.new.start ≡ self.old.start) }
+        ensures edges { self.new.edges ≡ [] }
+        ensures sets { self.new.sets ≡ set_at self.old 0 ∷ [] }
+    {
+        self.rows.keep_first();
+        self.edges.clear();
+    }
+
     /// Takes a terminal that begins at the place and is so many places long.
     pub fn alternative(&mut self, t: SymbolId, length: u32) -> Result<(), AlternativeRefusal>
         requires { place_of self.old < 16777216 }

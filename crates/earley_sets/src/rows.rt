@@ -78,6 +78,14 @@ impl Rows {
         waiting_between(&self.waiting, start.waiting, end.waiting)
     }
 
+    /// Keeps the first row alone.
+    pub fn keep_first(&mut self)
+        requires { 0 < length self.old }
+        ensures { self.new ≡ kept_at self.old 0 ∷ [] }
+    {
+        self.ends.truncate(1);
+    }
+
     /// One more row.
     pub fn push(&mut self, items: &[Item], waiting: &[Waiting]) -> Result<(), AllocError>
         ensures ok { OnOk result (self.new ≡ self.old ++ record { items = items.now; waiting = waiting.now } ∷ []) }

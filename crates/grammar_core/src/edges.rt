@@ -65,6 +65,7 @@ impl Model for TokenEdges {
 }
 
 impl TokenEdges {
+    /// No edges.
     pub fn new(alloc: Global) -> TokenEdges
         ensures { result ≡ [] }
     {
@@ -89,6 +90,14 @@ impl TokenEdges {
         let start = before(&self.places, at);
         let end = up_to(&self.places, at);
         part(&self.edges, start, end)
+    }
+
+    /// Lets all edges go, and keeps their room.
+    pub fn clear(&mut self)
+        ensures { self.new ≡ [] }
+    {
+        self.places.clear();
+        self.edges.clear();
     }
 
     // Whether that edge is held.

@@ -125,6 +125,13 @@ impl Flat {
         self.rules[r as usize].source
     }
 
+    /// How many starts there are.
+    pub fn start_count(&self) -> usize
+        ensures { result ≡ length self.now.tops }
+    {
+        self.tops.len()
+    }
+
     /// The top rule of a start, by its place.
     pub fn top(&self, start: usize) -> u32
         requires { start < length self.now.tops }

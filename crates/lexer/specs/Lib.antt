@@ -1,2 +1,5 @@
 pub mod Lexical
 pub mod Laws
+pub mod Terminals
+pub mod Running
+pub mod Choosing

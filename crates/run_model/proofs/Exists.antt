@@ -1,5 +1,5 @@
 -- An outcome exists, whatever the words, the grammar and the input are.
-use Rattle.std.proofs.Common.{◌≡◌, ℕ, ◌<◌, List, [], ◌∷◌, length, Bool, true, false, ◌&&◌, not, nat_le, nat_lt, ◌==◌, refl, sym, ap, ◌∙◌, ◌⊎◌, inl, inr, codes, All, arith, leb-true, le-leb, ltb-true, lt-ltb, eqb-true, true≢false}
+use Rattle.std.proofs.Common.{◌≡◌, ℕ, ◌<◌, List, [], ◌∷◌, Some, None, length, Bool, true, false, ◌&&◌, not, nat_le, nat_lt, ◌==◌, refl, sym, ap, ◌∙◌, ◌⊎◌, inl, inr, codes, All, arith, leb-true, le-leb, ltb-true, lt-ltb, eqb-true, true≢false}
 use Rattle.std.proofs.lemmas.Bool.{and_parts, and_from, eqb-false, not-true}
 use Rattle.std.proofs.lemmas.List.Sums.{AllPass-from_list_all, list_all-from_AllPass}
 use Rattle.std.specs.List.{list_all}
@@ -8,7 +8,7 @@ use Rattle.std.specs.Str.{bytes_eq}
 use Rattle.grammar_model.specs.Grammar.{Grammar}
 use Rattle.language_model.specs.Building.{Built}
 use Rattle.run_model.specs.Words.{Job, Asks, AskNothing, IsValue}
-use Rattle.run_model.specs.Words.Job.{RunTree, Check}
+use Rattle.run_model.specs.Words.Job.{RunTree, Check, Expect}
 use Rattle.run_model.specs.Refused.{Accepted}
 use Rattle.run_model.specs.Derivations.{HasSimple, IsInput, NoInput, Lists}
 use Rattle.run_model.specs.Outcome.{Outcome, IsOutcome, IsJobOutcome, IsAcceptedOutcome, IsRunOutcome, IsInputOutcome, done, not_built, no_derivation, refused}
@@ -19,6 +19,7 @@ use Rattle.run_model.specs.Outcome.IsInputOutcome.{InputNotBuilt, NoDerivation, 
 use Rattle.run_model.proofs.Texts.{RunLaws}
 use Rattle.run_model.proofs.Accepted.{judged, simple_or_not, simple_lists}
 use Rattle.run_model.proofs.Checked.{check_outcome}
+use Rattle.run_model.proofs.Inputs.{expect_outcome}
 
 -- a test that comes out one way or the other
 either : (b : Bool) → (b ≡ true) ⊎ (b ≡ false)
@@ -85,27 +86,92 @@ asked_three a b c grammar asks =
     and_from _ _ ((bytes_eq-Decides a (codes "check")).1 pa)
     (and_from _ _ ((bytes_eq-Decides b (codes "--grammar")).1 pb) (ap is_value pc ∙ from_value grammar asks.1))
 
+abbrev are_expect_words : (a b c : List ℕ) → Bool
+are_expect_words a b c = bytes_eq a (codes "expect") && (bytes_eq b (codes "--grammar") && is_value c)
+
+three_expected : (a b c : List ℕ) → are_expect_words a b c ≡ true → Asks (a ∷ b ∷ c ∷ []) (Expect c None)
+three_expected a b c t =
+    let one = and_parts (bytes_eq a (codes "expect")) _ t in
+    let two = and_parts (bytes_eq b (codes "--grammar")) _ one.1 in
+    let pa = (bytes_eq-Decides a (codes "expect")).0 one.0 in
+    let pb = (bytes_eq-Decides b (codes "--grammar")).0 two.0 in
+    (cc (pa, pb), value_from c two.1)
+
+expected_three : (a b c grammar : List ℕ) → Asks (a ∷ b ∷ c ∷ []) (Expect grammar None) → are_expect_words a b c ≡ true
+expected_three a b c grammar asks =
+    let words = asks.0 in
+    let pa : a ≡ codes "expect" = cc words in
+    let pb : b ≡ codes "--grammar" = cc words in
+    let pc : c ≡ grammar = cc words in
+    and_from _ _ ((bytes_eq-Decides a (codes "expect")).1 pa)
+    (and_from _ _ ((bytes_eq-Decides b (codes "--grammar")).1 pb) (ap is_value pc ∙ from_value grammar asks.1))
+
+abbrev are_input_words : (a b c d e : List ℕ) → Bool
+are_input_words a b c d e = bytes_eq a (codes "expect") && (bytes_eq b (codes "--grammar") && (is_value c && (bytes_eq d (codes "--input") && is_value e)))
+
+five_expected : (a b c d e : List ℕ) → are_input_words a b c d e ≡ true → Asks (a ∷ b ∷ c ∷ d ∷ e ∷ []) (Expect c (Some e))
+five_expected a b c d e t =
+    let one = and_parts (bytes_eq a (codes "expect")) _ t in
+    let two = and_parts (bytes_eq b (codes "--grammar")) _ one.1 in
+    let three = and_parts (is_value c) _ two.1 in
+    let four = and_parts (bytes_eq d (codes "--input")) _ three.1 in
+    let pa = (bytes_eq-Decides a (codes "expect")).0 one.0 in
+    let pb = (bytes_eq-Decides b (codes "--grammar")).0 two.0 in
+    let pd = (bytes_eq-Decides d (codes "--input")).0 four.0 in
+    (cc (pa, pb, pd), value_from c three.0, value_from e four.1)
+
+expected_five : (a b c d e grammar input : List ℕ) → Asks (a ∷ b ∷ c ∷ d ∷ e ∷ []) (Expect grammar (Some input)) → are_input_words a b c d e ≡ true
+expected_five a b c d e grammar input asks =
+    let words = asks.0 in
+    let pa : a ≡ codes "expect" = cc words in
+    let pb : b ≡ codes "--grammar" = cc words in
+    let pc : c ≡ grammar = cc words in
+    let pd : d ≡ codes "--input" = cc words in
+    let pe : e ≡ input = cc words in
+    and_from _ _ ((bytes_eq-Decides a (codes "expect")).1 pa)
+    (and_from _ _ ((bytes_eq-Decides b (codes "--grammar")).1 pb)
+    (and_from _ _ (ap is_value pc ∙ from_value grammar asks.1)
+    (and_from _ _ ((bytes_eq-Decides d (codes "--input")).1 pd) (ap is_value pe ∙ from_value input asks.2))))
+
 not_so_many : (words : List (List ℕ)) → (length words ≡ 5 → ⊥) → (length words ≡ 3 → ⊥) → AskNothing words
 not_so_many words five three (RunTree grammar) asks = five (ap length asks.0)
 not_so_many words five three (Check grammar) asks = three (ap length asks.0)
+not_so_many words five three (Expect grammar None) asks = three (ap length asks.0)
+not_so_many words five three (Expect grammar (Some input)) asks = five (ap length asks.0)
+
+none_of_three : (a b c : List ℕ) → are_check_words a b c ≡ false → are_expect_words a b c ≡ false → AskNothing (a ∷ b ∷ c ∷ [])
+none_of_three a b c no_check no_expect (Check grammar) asks = true≢false (sym (asked_three a b c grammar asks) ∙ no_check)
+none_of_three a b c no_check no_expect (Expect grammar None) asks = true≢false (sym (expected_three a b c grammar asks) ∙ no_expect)
+none_of_three a b c no_check no_expect (Expect grammar (Some input)) asks = let e = ap length asks.0 in omega (arith, e)
+none_of_three a b c no_check no_expect (RunTree grammar) asks = let e = ap length asks.0 in omega (arith, e)
+
+none_of_five : (a b c d e : List ℕ) → are_words a b c d e ≡ false → are_input_words a b c d e ≡ false → AskNothing (a ∷ b ∷ c ∷ d ∷ e ∷ [])
+none_of_five a b c d e no_run no_expect (RunTree grammar) asks = true≢false (sym (asked_five a b c d e grammar asks) ∙ no_run)
+none_of_five a b c d e no_run no_expect (Check grammar) asks = let n = ap length asks.0 in omega (arith, n)
+none_of_five a b c d e no_run no_expect (Expect grammar None) asks = let n = ap length asks.0 in omega (arith, n)
+none_of_five a b c d e no_run no_expect (Expect grammar (Some input)) asks = true≢false (sym (expected_five a b c d e grammar input asks) ∙ no_expect)
 
 pub asks_or_not : (words : List (List ℕ)) → ((job : Job) × Asks words job) ⊎ AskNothing words
 asks_or_not [] = inr (not_so_many _ (λ e. omega (arith, e)) (λ e. omega (arith, e)))
 asks_or_not (a ∷ []) = inr (not_so_many _ (λ e. omega (arith, e)) (λ e. omega (arith, e)))
 asks_or_not (a ∷ b ∷ []) = inr (not_so_many _ (λ e. omega (arith, e)) (λ e. omega (arith, e)))
 asks_or_not (a ∷ b ∷ c ∷ []) =
-    elim (either (are_check_words a b c)) [ inl right ↦ inl (Check c, three_asked a b c right) | inr wrong ↦ inr (not_asked wrong) ]
-  where
-    not_asked : are_check_words a b c ≡ false → AskNothing (a ∷ b ∷ c ∷ [])
-    not_asked wrong (Check grammar) asks = true≢false (sym (asked_three a b c grammar asks) ∙ wrong)
-    not_asked wrong (RunTree grammar) asks = let e = ap length asks.0 in omega (arith, e)
+    elim (either (are_check_words a b c)) [
+      | inl right ↦ inl (Check c, three_asked a b c right)
+      | inr no_check ↦ elim (either (are_expect_words a b c)) [
+        | inl right ↦ inl (Expect c None, three_expected a b c right)
+        | inr no_expect ↦ inr (none_of_three a b c no_check no_expect)
+      ]
+    ]
 asks_or_not (a ∷ b ∷ c ∷ d ∷ []) = inr (not_so_many _ (λ e. omega (arith, e)) (λ e. omega (arith, e)))
 asks_or_not (a ∷ b ∷ c ∷ d ∷ e ∷ []) =
-    elim (either (are_words a b c d e)) [ inl right ↦ inl (RunTree c, five_asked a b c d e right) | inr wrong ↦ inr (not_asked wrong) ]
-  where
-    not_asked : are_words a b c d e ≡ false → AskNothing (a ∷ b ∷ c ∷ d ∷ e ∷ [])
-    not_asked wrong (RunTree grammar) asks = true≢false (sym (asked_five a b c d e grammar asks) ∙ wrong)
-    not_asked wrong (Check grammar) asks = let n = ap length asks.0 in omega (arith, n)
+    elim (either (are_words a b c d e)) [
+      | inl right ↦ inl (RunTree c, five_asked a b c d e right)
+      | inr no_run ↦ elim (either (are_input_words a b c d e)) [
+        | inl right ↦ inl (Expect c (Some e), five_expected a b c d e right)
+        | inr no_expect ↦ inr (none_of_five a b c d e no_run no_expect)
+      ]
+    ]
 asks_or_not (a ∷ b ∷ c ∷ d ∷ e ∷ f ∷ words) = inr (not_so_many _ (λ e. omega (arith, e)) (λ e. omega (arith, e)))
 
 ascii_from : (bytes : List ℕ) → list_all (λ b. nat_lt b 128) bytes ≡ true → All (λ b. b < 128) bytes
@@ -143,6 +209,7 @@ module _ (laws : RunLaws) where
   accepted_outcome : (job : Job) (grammar : List ℕ) (b : Built) → Accepted grammar b → (input : List ℕ) → (outcome : Outcome) × IsAcceptedOutcome job grammar b input outcome
   accepted_outcome (RunTree name) grammar b accepted input = run_outcome grammar b accepted input
   accepted_outcome (Check name) grammar b accepted input = check_outcome laws b
+  accepted_outcome (Expect name from) grammar b accepted input = expect_outcome laws.reading b (accepted.description, accepted.built) accepted.accepted input
 
   job_outcome : (job : Job) (grammar input : List ℕ) → (outcome : Outcome) × IsJobOutcome job grammar input outcome
   job_outcome job grammar input =

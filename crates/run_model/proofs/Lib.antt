@@ -5,3 +5,5 @@ pub mod Checked
 pub mod Outcomes
 pub mod OneEnd
 pub mod Exists
+pub mod Inputs
+pub mod Utf8

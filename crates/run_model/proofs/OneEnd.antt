@@ -1,22 +1,21 @@
 -- Told content leaves a run one outcome.
-use Rattle.std.proofs.Common.{◌≡◌, ◌≢◌, ℕ, List, Some, IfSome, refl, sym, ap, subst, ◌∙◌}
+use Rattle.std.proofs.Common.{◌≡◌, ◌≢◌, ℕ, List, Some, None, IfSome, refl, sym, ap, subst, ◌∙◌}
 use Rattle.slif_base.specs.Told.{ToldFile, MayHold}
 use Rattle.slif_base.specs.Told.ToldFile.{Untold, Missing, Told}
 use Rattle.language_model.specs.Building.{Built}
 use Rattle.run_model.specs.Words.{Job, Asks, grammar_file}
-use Rattle.run_model.specs.Words.Job.{RunTree, Check}
+use Rattle.run_model.specs.Words.Job.{RunTree, Check, Expect}
 use Rattle.run_model.specs.Refused.{Accepted}
-use Rattle.run_model.specs.Derivations.{GoesOnWith}
-use Rattle.run_model.specs.Outcome.{Outcome, IsOutcome, IsJobOutcome, IsAcceptedOutcome, IsRunOutcome, refused}
+use Rattle.run_model.specs.Outcome.{Outcome, IsOutcome, IsJobOutcome, IsAcceptedOutcome, IsRunOutcome, IsExpectOutcome, refused}
 use Rattle.run_model.specs.Outcome.IsOutcome.{WordsNotBuilt, OfJob}
 use Rattle.run_model.specs.Outcome.IsJobOutcome.{GrammarRefused, GrammarAccepted}
-use Rattle.run_model.specs.Outcome.IsRunOutcome.{GrammarNotBuilt, OverSimple}
 use Rattle.run_model.specs.Runs.{Supplied, MayEnd}
 use Rattle.run_model.specs.Laws.{TellsFiles}
 use Rattle.run_model.proofs.Texts.{RunLaws}
-use Rattle.run_model.proofs.Accepted.{one_built, one_refused, not_refused, built_or_not}
+use Rattle.run_model.proofs.Accepted.{one_built, one_refused, not_refused}
 use Rattle.run_model.proofs.Asked.{asks_once}
 use Rattle.run_model.proofs.Checked.{one_check}
+use Rattle.run_model.proofs.Inputs.{one_expect}
 use Rattle.run_model.proofs.Outcomes.{one_run_outcome}
 
 same_held : (told : ToldFile) (x y : List ℕ) → told ≢ Untold → MayHold told x → MayHold told y → x ≡ y
@@ -28,19 +27,25 @@ module _ (laws : RunLaws) (words : List (List ℕ)) (file : List ℕ → ToldFil
   -- an input counts only where the job goes on to it
   one_of_run : (name : List ℕ) → Asks words (RunTree name) → (grammar : List ℕ) (c : Built) → Accepted grammar c → (x y : List ℕ) (a b : Outcome)
       → Supplied words file (Some known) grammar x → Supplied words file (Some known) grammar y → IsRunOutcome grammar x a → IsRunOutcome grammar y b → a ≡ b
-  one_of_run name asks grammar c accepted x y a b p q (GrammarNotBuilt u is) (GrammarNotBuilt u' is') = is ∙ sym is'
-  one_of_run name asks grammar c accepted x y a b p q (GrammarNotBuilt u is) (OverSimple g simple over) = absurd (built_or_not laws grammar g simple u)
-  one_of_run name asks grammar c accepted x y a b p q (OverSimple g simple over) (GrammarNotBuilt u is) = absurd (built_or_not laws grammar g simple u)
-  one_of_run name asks grammar c accepted x y a b p q (OverSimple g simple over) (OverSimple h simple' over') =
-      let goes : (b : Built) × GoesOnWith grammar b = (c, record { accepted = accepted; simple = (g, simple) }) in
-      let same : y ≡ x = q.input_held (RunTree name) asks goes ∙ sym (p.input_held (RunTree name) asks goes) in
-      one_run_outcome laws grammar x a b (OverSimple g simple over) (subst (λ l. IsRunOutcome grammar l b) same (OverSimple h simple' over'))
+  one_of_run name asks grammar c accepted x y a b p q of_x of_y =
+      let same : y ≡ x = q.input_held (RunTree name) asks (c, accepted) ∙ sym (p.input_held (RunTree name) asks (c, accepted)) in
+      one_run_outcome laws grammar x a b of_x (subst (λ l. IsRunOutcome grammar l b) same of_y)
+
+  one_of_expect : (c : Built) (x y : List ℕ) (a b : Outcome) → y ≡ x → IsExpectOutcome c x a → IsExpectOutcome c y b → a ≡ b
+  one_of_expect c x y a b same of_x of_y = one_expect laws.reading c x a b of_x (subst (λ l. IsExpectOutcome c l b) same of_y)
 
   one_of_accepted : (job : Job) → Asks words job → (grammar : List ℕ) (c : Built) → Accepted grammar c → (x y : List ℕ) (a b : Outcome)
       → Supplied words file (Some known) grammar x → Supplied words file (Some known) grammar y
       → IsAcceptedOutcome job grammar c x a → IsAcceptedOutcome job grammar c y b → a ≡ b
   one_of_accepted (RunTree name) asks grammar c accepted x y a b p q of_x of_y = one_of_run name asks grammar c accepted x y a b p q of_x of_y
   one_of_accepted (Check name) asks grammar c accepted x y a b p q of_x of_y = one_check c a b of_x of_y
+  one_of_accepted (Expect name None) asks grammar c accepted x y a b p q of_x of_y =
+      let same : y ≡ x = q.input_held (Expect name None) asks (c, accepted) ∙ sym (p.input_held (Expect name None) asks (c, accepted)) in
+      one_of_expect c x y a b same of_x of_y
+  one_of_accepted (Expect name (Some input)) asks grammar c accepted x y a b p q of_x of_y =
+      let same : y ≡ x = same_held (file input) y x (tells.input (Expect name (Some input)) input asks refl)
+          (q.input_held (Expect name (Some input)) asks (c, accepted)) (p.input_held (Expect name (Some input)) asks (c, accepted)) in
+      one_of_expect c x y a b same of_x of_y
 
   one_of_job : (job : Job) → Asks words job → (grammar x y : List ℕ) (a b : Outcome) → Supplied words file (Some known) grammar x → Supplied words file (Some known) grammar y
       → IsJobOutcome job grammar x a → IsJobOutcome job grammar y b → a ≡ b
@@ -54,6 +59,7 @@ module _ (laws : RunLaws) (words : List (List ℕ)) (file : List ℕ → ToldFil
   same_grammar : (job : Job) → Asks words job → (x y : List ℕ) → IfSome (grammar_file job) (λ name. MayHold (file name) x) → IfSome (grammar_file job) (λ name. MayHold (file name) y) → x ≡ y
   same_grammar (RunTree name) asks x y p q = same_held (file name) x y (tells.grammar (RunTree name) asks) p q
   same_grammar (Check name) asks x y p q = same_held (file name) x y (tells.grammar (Check name) asks) p q
+  same_grammar (Expect name from) asks x y p q = same_held (file name) x y (tells.grammar (Expect name from) asks) p q
 
   one_of_two : (grammar grammar' x y : List ℕ) (a b : Outcome) → Supplied words file (Some known) grammar x → Supplied words file (Some known) grammar' y
       → IsOutcome words grammar x a → IsOutcome words grammar' y b → a ≡ b

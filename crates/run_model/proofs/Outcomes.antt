@@ -10,7 +10,7 @@ use Rattle.grammar_model.proofs.Sorting.{ranks_order}
 use Rattle.grammar_model.proofs.Total.{all_unique}
 use Rattle.language_model.specs.Building.{Built}
 use Rattle.run_model.specs.Words.{Job}
-use Rattle.run_model.specs.Words.Job.{RunTree, Check}
+use Rattle.run_model.specs.Words.Job.{RunTree, Check, Expect}
 use Rattle.run_model.specs.Derivations.{Lists}
 use Rattle.run_model.specs.Outcome.{Outcome, IsOutcome, IsJobOutcome, IsAcceptedOutcome, IsRunOutcome, IsInputOutcome, done, refused}
 use Rattle.run_model.specs.Outcome.IsOutcome.{WordsNotBuilt, OfJob}
@@ -21,6 +21,7 @@ use Rattle.run_model.proofs.Asked.{asks_once}
 use Rattle.run_model.proofs.Texts.{RunLaws}
 use Rattle.run_model.proofs.Accepted.{one_built, one_refused, not_refused, one_grammar, built_or_not}
 use Rattle.run_model.proofs.Checked.{one_check}
+use Rattle.run_model.proofs.Inputs.{one_expect}
 
 one_list : (g : Grammar) (input : List ℕ) (ts us : List Tree) → IsAllOfCharacters g input ts → IsAllOfCharacters g input us → ts ≡ us
 one_list g input ts us a b =
@@ -53,6 +54,7 @@ module _ (laws : RunLaws) where
   one_accepted_outcome : (job : Job) (grammar : List ℕ) (c : Built) (input : List ℕ) (a b : Outcome) → IsAcceptedOutcome job grammar c input a → IsAcceptedOutcome job grammar c input b → a ≡ b
   one_accepted_outcome (RunTree name) grammar c input a b p q = one_run_outcome grammar input a b p q
   one_accepted_outcome (Check name) grammar c input a b p q = one_check c a b p q
+  one_accepted_outcome (Expect name from) grammar c input a b p q = one_expect laws.reading c input a b p q
 
   one_job_outcome : (job : Job) (grammar input : List ℕ) (a b : Outcome) → IsJobOutcome job grammar input a → IsJobOutcome job grammar input b → a ≡ b
   one_job_outcome job grammar input a b (GrammarRefused t refused_t is) (GrammarRefused u refused_u is') =

@@ -7,6 +7,7 @@ use Rattle.language_model.specs.Texts.{HasDescription}
 use Rattle.grammar_model.specs.Grammar.{Grammar}
 use Rattle.reading_model.proofs.Accepting.{CheckLaws}
 use Rattle.run_model.specs.Texts.{TextFault, HasFault}
+use Rattle.run_model.proofs.Inputs.{ReadingLaws}
 use Rattle.run_model.specs.Checking.{SymbolRow, IsRowOf}
 
 -- a text has one description or one fault; a description is that of one simple grammar or of none, and that can be listed
@@ -20,8 +21,9 @@ pub record TextLaws : Type 0 where
   pub simple : (lines : List SimpleLine) → IsSimple lines → HasSimpleRules (grammar_of_simple lines)
   pub started : (lines : List SimpleLine) → IsSimple lines → 0 < length (grammar_of_simple lines).starts
 
--- and of grammars: checks decide, and what each symbol can do is decided
+-- and of grammars: checks decide, what each symbol can do is decided, and texts have one reading
 pub record RunLaws : Type 0 where
   pub texts : TextLaws
   pub checks : CheckLaws
+  pub reading : ReadingLaws
   pub row : (g : Grammar) (s : ℕ) → (row : SymbolRow) × (row.symbol ≡ s) × IsRowOf g row

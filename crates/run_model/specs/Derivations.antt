@@ -5,9 +5,7 @@ use Rattle.grammar_model.specs.Trees.{Tree}
 use Rattle.grammar_model.specs.Characters.{IsAllOfCharacters, tree_line}
 use Rattle.language_model.specs.Description.{Statement}
 use Rattle.language_model.specs.Simple.{SimpleLine, IsSimpleDescription, grammar_of_simple}
-use Rattle.language_model.specs.Building.{Built}
 use Rattle.language_model.specs.Texts.{HasDescription}
-use Rattle.run_model.specs.Refused.{Accepted}
 
 -- the text has a simple description with this grammar
 pub record HasSimple (text : List ℕ) (g : Grammar) : Type 0 where
@@ -22,11 +20,6 @@ pub record IsUnbuilt (text : List ℕ) : Type 0 where
   pub description : List Statement
   pub has : HasDescription text description
   pub none : (lines : List SimpleLine) → IsSimpleDescription description lines → ⊥
-
--- a job goes on to its input: the grammars are accepted, and for now the description is simple
-pub record GoesOnWith (text : List ℕ) (b : Built) : Type 0 where
-  pub accepted : Accepted text b
-  pub simple : (g : Grammar) × HasSimple text g
 
 -- an input that is built
 pub record IsInput (bytes : List ℕ) : Type 0 where

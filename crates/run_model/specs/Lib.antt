@@ -2,6 +2,7 @@ pub mod Texts
 pub mod Words
 pub mod Refused
 pub mod Checking
+pub mod Inputs
 pub mod Derivations
 pub mod Outcome
 pub mod Outside

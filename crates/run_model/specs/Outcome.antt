@@ -1,11 +1,14 @@
 -- What a run writes and answers, by its words, the bytes of the grammar and those of the input.
-use Rattle.std.specs.Prelude.{◌≡◌, ℕ, List, [], ◌∷◌, ◌++◌, codes}
+use Rattle.std.specs.Prelude.{◌≡◌, ℕ, List, [], ◌∷◌, ◌++◌, map, codes}
 use Rattle.std.specs.List.{concat}
 use Rattle.grammar_model.specs.Grammar.{Grammar}
+use Rattle.grammar_model.specs.Values.{name_of}
 use Rattle.language_model.specs.Building.{Built}
-use Rattle.run_model.specs.Words.{Job, RunTree, Check, Asks, AskNothing}
+use Rattle.reading_model.specs.Reading.{Piece, AreExpected}
+use Rattle.run_model.specs.Words.{Job, RunTree, Check, Expect, Asks, AskNothing}
 use Rattle.run_model.specs.Refused.{Accepted, IsRefused}
 use Rattle.run_model.specs.Checking.{AreCheckLines}
+use Rattle.run_model.specs.Inputs.{IsRead, IsInputRefused}
 use Rattle.run_model.specs.Derivations.{HasSimple, IsUnbuilt, IsInput, NoInput, Lists}
 
 -- the text for the standard output, the line for the standard error, and the status
@@ -51,9 +54,16 @@ pub record IsCheckOutcome (b : Built) (outcome : Outcome) : Type 0 where
   pub are : AreCheckLines b lines
   pub is : outcome ≡ done lines
 
+-- the outcome of `expect` over accepted grammars, by cases in order
+pub data IsExpectOutcome (b : Built) (input : List ℕ) (outcome : Outcome) : Type 0 where
+  InputRefused : (text : List ℕ) → IsInputRefused b input text → outcome ≡ refused 1 text → IsExpectOutcome b input outcome
+  Expected : (pieces : List Piece) (expected : List ℕ) → IsRead b input pieces → AreExpected b pieces expected →
+      outcome ≡ done (map (λ s. name_of b.g1 s ++ 10 ∷ []) expected) → IsExpectOutcome b input outcome
+
 abbrev pub IsAcceptedOutcome : Job → (grammar : List ℕ) → Built → (input : List ℕ) → Outcome → Type 0
 IsAcceptedOutcome (RunTree name) grammar b input outcome = IsRunOutcome grammar input outcome
 IsAcceptedOutcome (Check name) grammar b input outcome = IsCheckOutcome b outcome
+IsAcceptedOutcome (Expect name from) grammar b input outcome = IsExpectOutcome b input outcome
 
 -- the outcome of a job, by cases in order
 pub data IsJobOutcome (job : Job) (grammar input : List ℕ) (outcome : Outcome) : Type 0 where

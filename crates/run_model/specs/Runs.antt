@@ -6,7 +6,7 @@ use Rattle.language_model.specs.Building.{Built}
 use Rattle.slif_base.specs.Told.{ToldFile, MayBe, MayHold, AppendsPrefix, AddsNames}
 use Rattle.run_model.specs.Words.{Job, Asks, InputFrom, grammar_file, input_from}
 use Rattle.run_model.specs.Words.InputFrom.{Nowhere, StandardInput, FileNamed}
-use Rattle.run_model.specs.Derivations.{GoesOnWith}
+use Rattle.run_model.specs.Refused.{Accepted}
 use Rattle.run_model.specs.Outcome.{Outcome, IsOutcome, message}
 use Rattle.run_model.specs.Outside.{Outside}
 
@@ -19,7 +19,7 @@ InputMayBe (FileNamed name) file left bytes = MayHold (file name) bytes
 -- the bytes that a job needs are those that the outside holds, as far as it tells them
 pub record Supplied (words : List (List ℕ)) (file : List ℕ → ToldFile) (left : Option (List ℕ)) (grammar input : List ℕ) : Type 0 where
   pub grammar_held : (job : Job) → Asks words job → IfSome (grammar_file job) (λ name. MayHold (file name) grammar)
-  pub input_held : (job : Job) → Asks words job → IfSome (grammar_file job) (λ _. (b : Built) × GoesOnWith grammar b) → InputMayBe (input_from job) file left input
+  pub input_held : (job : Job) → Asks words job → IfSome (grammar_file job) (λ _. (b : Built) × Accepted grammar b) → InputMayBe (input_from job) file left input
 
 -- an outcome that a run may have over these files and this input
 pub record MayEnd (words : List (List ℕ)) (file : List ℕ → ToldFile) (left : Option (List ℕ)) : Type 0 where
@@ -45,7 +45,7 @@ pub record Answers (words : List (List ℕ)) (before after : Outside) (status : 
 pub record GoesOn (job : Job) (file : List ℕ → ToldFile) : Type 0 where
   pub grammar : List ℕ
   pub held : IfSome (grammar_file job) (λ name. MayHold (file name) grammar)
-  pub accepted : IfSome (grammar_file job) (λ _. (b : Built) × GoesOnWith grammar b)
+  pub accepted : IfSome (grammar_file job) (λ _. (b : Built) × Accepted grammar b)
 
 -- the words have the run open the file: that of the job's grammar, or that of its input where the job goes on to it
 pub data MayOpen (words : List (List ℕ)) (file : List ℕ → ToldFile) (name : List ℕ) : Type 0 where

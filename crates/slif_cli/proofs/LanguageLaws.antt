@@ -15,7 +15,7 @@ use Rattle.language_model.specs.Texts.{IsText, HasTokens, HasDescription, spelle
 use Rattle.run_model.specs.Texts.{TextFault, TooLong, NotUtf8, BadToken, BadStatement, HasFault}
 use Rattle.run_model.proofs.Texts.{TextLaws}
 use Rattle.slif_cli.specs.Stops.{IsListable}
-use Rattle.slif_cli.proofs.Utf8.{broken_at}
+use Rattle.run_model.proofs.Utf8.{broken_at}
 use Rattle.dsl_reader.proofs.SomeDescription.{described_or_bad}
 use Rattle.dsl_reader.proofs.OneDescription as statements
 

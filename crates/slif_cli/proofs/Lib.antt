@@ -1,5 +1,4 @@
 pub mod Telling
-pub mod Utf8
 pub mod LanguageLaws
 pub mod GrammarLaws
 pub mod Refusing

@@ -1,2 +1,3 @@
+pub mod Descriptors
 pub mod Folds
 pub mod Rest

@@ -53,3 +53,36 @@ fn a_deep_value_has_a_text(rt: HostRuntime) -> Result<(), Fail> {
     assert_eq!(rt; out.len(), 2_000_005);
     Ok(())
 }
+
+// Whether the text tells no action.
+fn is_bad(alloc: Global, text: &str) -> bool {
+    matches!(read_descriptor(alloc, text), Err(DescriptorRefusal::BadItem))
+}
+
+#[test]
+fn descriptors_tell_actions(rt: HostRuntime) -> Result<(), Fail> {
+    let Action::Items(items) = read_descriptor(rt.alloc(), "[ g1start ,value, symbol]")? else {
+        return Err(Fail::new("no items"));
+    };
+    let wanted = [DescItem::G1Start, DescItem::Values, DescItem::Symbol];
+    assert_eq!(rt; items.as_slice(), wanted.as_slice());
+    let Action::Items(none) = read_descriptor(rt.alloc(), "[ ]")? else {
+        return Err(Fail::new("no items"));
+    };
+    assert_eq!(rt; none.as_slice().len(), 0);
+    let Action::First = read_descriptor(rt.alloc(), "::first")? else {
+        return Err(Fail::new("another action"));
+    };
+    Ok(())
+}
+
+#[test]
+fn other_texts_tell_no_action(rt: HostRuntime) -> Result<(), Fail> {
+    assert!(rt; is_bad(rt.alloc(), "[name,]"));
+    assert!(rt; is_bad(rt.alloc(), "[Name]"));
+    assert!(rt; is_bad(rt.alloc(), "name"));
+    assert!(rt; is_bad(rt.alloc(), "::last"));
+    assert!(rt; is_bad(rt.alloc(), "["));
+    assert!(rt; is_bad(rt.alloc(), ""));
+    Ok(())
+}

@@ -1,6 +1,6 @@
 use Rattle.std.proofs.Common.{arith, sym, ◌∙◌, ap, ◌+◌}
-use Rattle.dsl_build.proofs.Descriptors.{no_item, one_item, with_front, left_items}
-use Rattle.dsl_build.proofs.descriptor.items_of.Goals as goal
+use Rattle.value_text.proofs.Descriptors.{no_item, one_item, with_front, left_items}
+use Rattle.value_text.proofs.descriptor.items_of.Goals as goal
 
 pub returns-in-None : goal.returns-in-None
 returns-in-None c =

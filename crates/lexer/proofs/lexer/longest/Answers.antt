@@ -1,0 +1,15 @@
+use Rattle.std.proofs.Common.{◌<◌, ℕ, sym, subst, length, IfOk, Contains}
+use Rattle.std.specs.Prelude.{IsNone, IfSome}
+use Rattle.lexer.specs.declared.lexer.LexAnswer.{LexAnswer}
+use Rattle.lexer.specs.Lexical.{LexicalForm, IsLongestMatch, IsUnmatched}
+use Rattle.lexer.proofs.lexer.longest.Goals as goal
+
+pub longest-requires-clause-starts : goal.longest-requires-clause-starts
+longest-requires-clause-starts c = subst (λ (l : LexicalForm). (k : ℕ) → Contains c.args.candidates.now k → k < length l.flat.tops) (sym c.in_ok-lexer.ensures) c.requires.starts
+
+pub returns-clause-none : goal.returns-clause-none
+returns-clause-none c = subst (λ (l : LexicalForm). IfOk c.longest.result (λ answer. IsNone answer → IsUnmatched l c.args.chars.now c.args.at c.args.candidates.now)) c.in_ok-lexer.ensures c.longest.ensures.none
+
+pub returns-clause-some : goal.returns-clause-some
+returns-clause-some c =
+    subst (λ (l : LexicalForm). IfOk c.longest.result (λ answer. IfSome answer (λ (a : LexAnswer). IsLongestMatch l c.args.chars.now c.args.at c.args.candidates.now a.length a.matched.items))) c.in_ok-lexer.ensures c.longest.ensures.some

@@ -1,0 +1,104 @@
+-- The bytes of an input are read to their end, or refused, in one way.
+use Rattle.std.proofs.Common.{◌≡◌, ℕ, ◌≤◌, ◌++◌, List, [], ◌∷◌, Bool, true, false, ◌⊎◌, inl, inr, refl, sym, ap, subst, ◌∙◌, arith, length, map, chars, codes, decimal, nat_le, leb-true}
+use Rattle.std.proofs.lemmas.Bool.{leb-false}
+use Rattle.std.specs.Str.{IsValidUpTo, is_utf8}
+use Rattle.std.proofs.lemmas.Str.{utf8_valid_len-IsValidUpTo, IsUtf8-from_is_utf8}
+use Rattle.grammar_model.specs.Values.{name_of}
+use Rattle.language_model.specs.Building.{Built}
+use Rattle.language_model.specs.Texts.{IsBuilt}
+use Rattle.reading_model.specs.Accepted.{IsAccepted}
+use Rattle.reading_model.specs.Reading.{Piece, Ending, End, Stopped, IsReading, AreExpected}
+use Rattle.reading_model.specs.Laws.{ReadingIsOne}
+use Rattle.run_model.specs.Inputs.{IsInputText, IsBrokenInput, IsRead, IsInputRefused, TooLong, NotUtf8, ReadingStops, stop_text}
+use Rattle.run_model.specs.Outcome.{Outcome, IsExpectOutcome, InputRefused, Expected, done, refused}
+use Rattle.run_model.proofs.Utf8.{broken_at}
+
+-- what is needed of readings: a text has one, and one list of what is expected behind its pieces
+pub record ReadingLaws : Type 0 where
+  pub read : (b : Built) (text : List ℕ) → IsBuilt b → IsAccepted b → (pieces : List Piece) × (ending : Ending) × IsReading b text pieces ending
+  pub one : ReadingIsOne
+  pub expected : (b : Built) (pieces : List Piece) → IsBuilt b → IsAccepted b → (symbols : List ℕ) × AreExpected b pieces symbols
+  pub one_expected : (b : Built) (pieces : List Piece) (xs ys : List ℕ) → AreExpected b pieces xs → AreExpected b pieces ys → xs ≡ ys
+
+-- SOME OF ALL
+
+text_or : (bytes : List ℕ) → IsInputText bytes ⊎ ((b : Built) → (text : List ℕ) × IsInputRefused b bytes text)
+text_or bytes = by_length (nat_le (length bytes) 16777216) refl
+  where
+    by_utf8 : length bytes ≤ 16777216 → (t : Bool) → is_utf8 bytes ≡ t → IsInputText bytes ⊎ ((b : Built) → (text : List ℕ) × IsInputRefused b bytes text)
+    by_utf8 within true e = inl (record { within = within; utf8 = IsUtf8-from_is_utf8 bytes e })
+    by_utf8 within false e =
+        let (at, broken, front) = broken_at bytes e in
+        inr (λ b. (codes "input is not UTF-8 at byte " ++ decimal at, NotUtf8 at (record { within = within; broken = broken; front = front }) refl))
+
+    by_length : (t : Bool) → nat_le (length bytes) 16777216 ≡ t → IsInputText bytes ⊎ ((b : Built) → (text : List ℕ) × IsInputRefused b bytes text)
+    by_length true e = by_utf8 (leb-true _ _ e) (is_utf8 bytes) refl
+    by_length false e = inr (λ b. (codes "input is longer than 16777216 bytes", TooLong (leb-false _ _ e) refl))
+
+module _ (laws : ReadingLaws) (b : Built) (built : IsBuilt b) (accepted : IsAccepted b) (bytes : List ℕ) where
+  by_ending : IsInputText bytes → (pieces : List Piece) (ending : Ending) → IsReading b (chars bytes) pieces ending →
+      ((pieces : List Piece) × IsRead b bytes pieces) ⊎ ((text : List ℕ) × IsInputRefused b bytes text)
+  by_ending text pieces End reading = inl (pieces, record { text = text; reading = reading })
+  by_ending text pieces (Stopped at found expected) reading =
+      inr (stop_text b.g1 (chars bytes) at found expected, ReadingStops pieces at found expected text reading refl)
+
+  pub read_or : ((pieces : List Piece) × IsRead b bytes pieces) ⊎ ((text : List ℕ) × IsInputRefused b bytes text)
+  read_or = elim (text_or bytes) [
+    | inl text ↦ (let (pieces, ending, reading) = laws.read b (chars bytes) built accepted in by_ending text pieces ending reading)
+    | inr other ↦ inr (other b)
+  ]
+
+  pub expect_outcome : (outcome : Outcome) × IsExpectOutcome b bytes outcome
+  expect_outcome = elim read_or [
+    | inl (pieces, read) ↦ (let (expected, are) = laws.expected b pieces built accepted in
+        (done (map (λ s. name_of b.g1 s ++ 10 ∷ []) expected), Expected pieces expected read are refl))
+    | inr (text, is) ↦ (refused 1 text, InputRefused text is refl)
+  ]
+
+-- ONE OF EACH
+
+end_or_stopped : (at : ℕ) (found expected : List ℕ) → End ≡ Stopped at found expected → ⊥
+end_or_stopped at found expected e = cc e
+
+module _ (laws : ReadingLaws) (b : Built) (bytes : List ℕ) where
+  pub one_read : (xs ys : List Piece) → IsRead b bytes xs → IsRead b bytes ys → xs ≡ ys
+  one_read xs ys p q = (laws.one b (chars bytes) xs ys End End p.reading q.reading).0
+
+  pub not_both : (pieces : List Piece) (text : List ℕ) → IsRead b bytes pieces → IsInputRefused b bytes text → ⊥
+  not_both pieces text read (TooLong long is) = let w = read.text.within in absurd (omega (arith, w, long))
+  not_both pieces text read (NotUtf8 at broken is) = broken.broken read.text.utf8
+  not_both pieces text read (ReadingStops others at found expected is_text reading is) =
+      end_or_stopped at found expected (laws.one b (chars bytes) pieces others End (Stopped at found expected) read.reading reading).1
+
+  same_stop : (xs ys : List Piece) (at at' : ℕ) (found found' expected expected' : List ℕ) → IsReading b (chars bytes) xs (Stopped at found expected) →
+      IsReading b (chars bytes) ys (Stopped at' found' expected') → stop_text b.g1 (chars bytes) at found expected ≡ stop_text b.g1 (chars bytes) at' found' expected'
+  same_stop xs ys at at' found found' expected expected' p q =
+      let same = (laws.one b (chars bytes) xs ys _ _ p q).1 in
+      let one : at ≡ at' = cc same in
+      let two : found ≡ found' = cc same in
+      let three : expected ≡ expected' = cc same in
+      cc (one, two, three)
+
+  pub one_refused : (x y : List ℕ) → IsInputRefused b bytes x → IsInputRefused b bytes y → x ≡ y
+  one_refused x y (TooLong long is) (TooLong long' is') = is ∙ sym is'
+  one_refused x y (TooLong long is) (NotUtf8 at broken is') = let w = broken.within in absurd (omega (arith, w, long))
+  one_refused x y (TooLong long is) (ReadingStops pieces at found expected text reading is') = let w = text.within in absurd (omega (arith, w, long))
+  one_refused x y (NotUtf8 at broken is) (TooLong long is') = let w = broken.within in absurd (omega (arith, w, long))
+  one_refused x y (NotUtf8 at broken is) (NotUtf8 at' broken' is') =
+      is ∙ ap (λ k. codes "input is not UTF-8 at byte " ++ decimal k) (sym (utf8_valid_len-IsValidUpTo bytes at broken.front) ∙ utf8_valid_len-IsValidUpTo bytes at' broken'.front) ∙ sym is'
+  one_refused x y (NotUtf8 at broken is) (ReadingStops pieces at' found expected text reading is') = absurd (broken.broken text.utf8)
+  one_refused x y (ReadingStops pieces at found expected text reading is) (TooLong long is') = let w = text.within in absurd (omega (arith, w, long))
+  one_refused x y (ReadingStops pieces at found expected text reading is) (NotUtf8 at' broken is') = absurd (broken.broken text.utf8)
+  one_refused x y (ReadingStops pieces at found expected text reading is) (ReadingStops pieces' at' found' expected' text' reading' is') =
+      is ∙ same_stop pieces pieces' at at' found found' expected expected' reading reading' ∙ sym is'
+
+  same_lines : (xs ys : List Piece) (s t : List ℕ) → IsRead b bytes xs → IsRead b bytes ys → AreExpected b xs s → AreExpected b ys t → s ≡ t
+  same_lines xs ys s t p q a e =
+      laws.one_expected b xs s t a (subst (λ (ps : List Piece). AreExpected b ps t) (one_read ys xs q p) e)
+
+  pub one_expect : (x y : Outcome) → IsExpectOutcome b bytes x → IsExpectOutcome b bytes y → x ≡ y
+  one_expect x y (InputRefused text is of) (InputRefused other is' of') = of ∙ ap (refused 1) (one_refused text other is is') ∙ sym of'
+  one_expect x y (InputRefused text is of) (Expected pieces expected read are of') = absurd (not_both pieces text read is)
+  one_expect x y (Expected pieces expected read are of) (InputRefused text is of') = absurd (not_both pieces text read is)
+  one_expect x y (Expected pieces expected read are of) (Expected pieces' expected' read' are' of') =
+      of ∙ ap (λ s. done (map (λ k. name_of b.g1 k ++ 10 ∷ []) s)) (same_lines pieces pieces' expected expected' read read' are are') ∙ sym of'
