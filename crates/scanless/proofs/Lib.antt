@@ -1,2 +1,13 @@
 pub mod Listed
 pub mod Faults
+mod Gathering
+mod Nexts
+mod Highest
+mod Choosing
+mod Holding
+mod Ordered
+mod Naming
+mod Steps
+mod Matched
+mod Edges
+mod Marking

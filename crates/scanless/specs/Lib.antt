@@ -2,3 +2,5 @@ pub mod Abilities
 pub mod Faults
 pub mod Prepared
 pub mod Reading
+pub mod Pieces
+pub mod Taking

@@ -2,12 +2,18 @@
 #![tactic(auto)]
 
 mod abilities;
+mod candidates;
+mod kept;
+mod names;
 mod parts;
 mod prepared;
 mod reading;
 mod refusal;
+mod taking;
 #[cfg(test)]
 mod tests;
+#[cfg(test)]
+mod tests_reading;
 mod told;
 
 pub use prepared::{Prepared, prepare};

@@ -12,6 +12,7 @@ ghost use Rattle.dsl_build.specs.Tables.{row_of};
 ghost use Rattle.reading_model.specs.Accepted.{IsAccepted};
 ghost use Rattle.scanless.specs.Abilities.{IsAbility};
 ghost use Rattle.scanless.specs.Faults.{IsFault, IsRefusal};
+ghost use Rattle.scanless.specs.Pieces.{AreInOrder};
 ghost use Rattle.scanless.specs.Prepared.{IsLexicalForm};
 
 use crate::PrepareRefusal;
@@ -98,6 +99,13 @@ impl Prepared {
         let _ = &self.built;
     }
 
+    /// States that the lexemes are in order.
+    pub(crate) fn in_order(&self)
+        ensures { AreInOrder self.now }
+    {
+        let _ = &self.built;
+    }
+
     /// The flat form of the structural grammar.
     pub fn flat(&self) -> &Flat
         ensures form { IsFlatOf result.now self.now.g1 }
@@ -152,6 +160,13 @@ impl Prepared {
         ensures { map row_of result.now ≡ self.now.lexemes }
     {
         self.built.lexemes.as_slice()
+    }
+
+    // How many starts the lexical grammar has.
+    pub(crate) fn start_count(&self) -> usize
+        ensures { result ≡ length self.now.l0.starts }
+    {
+        self.built.l0.start_count()
     }
 
     pub fn discard_count(&self) -> usize

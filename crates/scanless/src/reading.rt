@@ -1,8 +1,19 @@
 //! Reading: a text is cut into tokens and skipped pieces, from the left.
-ghost use Rattle.std.specs.Prelude.{◌≤◌, length, IfOk};
-ghost use Rattle.scanless.specs.Reading.{IsReadingOf};
+ghost use Rattle.std.specs.Prelude.{◌≡◌, ℕ, ◌+◌, ◌<◌, ◌≤◌, ◌++◌, ◌∷◌, [], List, length, map, IfOk, IfSome, IsNone, OnOk, Contains};
+ghost use Rattle.std.specs.Option.{IsSomeAnd};
+ghost use Rattle.std.specs.List.Sorted.{IsStrictlySortedBy};
+ghost use Rattle.std.specs.Ordering.{nat_cmp};
+ghost use Rattle.grammar_model.specs.declared.Edge.{Edge as HeldEdge};
+ghost use Rattle.reading_model.specs.Reading.{Piece};
+ghost use Rattle.earley_sets.specs.Recognizer.{place_of, IsExpected};
+ghost use Rattle.scanless.specs.Taking.{Takes};
+ghost use Rattle.scanless.specs.Reading.{span_of, IsReadingOf, HasRead, IsReader, IsStuck};
 
 use crate::Prepared;
+use crate::candidates::{Work, look};
+use crate::kept::{Choice, choose};
+use crate::taking::take_token;
+use crate::told::{expected_lexemes, found_lexemes};
 use earley_sets::Recce;
 use grammar_core::{Span, SymbolId};
 use slif_base::{Chars, Steps};
@@ -34,6 +45,110 @@ pub struct Reading<'p> {
     pub ending: Ending,
 }
 
+// What is read so far, up to a character.
+#[derive(Drop)]
+struct Reader<'p> {
+    recce: Recce<'p>,
+    spans: Vec<Span>,
+    at: usize,
+    work: Work<'p>,
+}
+
+impl<'p> Reader<'p> {
+    fn new(alloc: Global, p: &'p Prepared) -> Result<Reader<'p>, AllocError>
+        ensures { IfOk result (λ r. (text : List ℕ) → IsReader p.now text r) }
+    {
+        p.known();
+        let recce = Recce::new(alloc, p.flat(), 0)?;
+        Ok(Reader {
+            recce,
+            spans: Vec::new(alloc),
+            at: 0,
+            work: Work::new(alloc, p)?,
+        })
+    }
+
+    // Takes a token of so many characters, as each of the lexemes that are kept.
+    fn take<L: Ledger>(&mut self, length: u32, steps: &mut Steps<L>) -> Result<(), AllocError>
+        requires at { self.old.at + length ≤ 16777216 }
+        requires place { place_of self.old.recce < 16777216 }
+        requires expected { (s : ℕ) → Contains self.old.work.kept.items s → IsExpected self.old.recce s }
+        requires order { IsStrictlySortedBy nat_cmp self.old.work.kept.items }
+        requires begun { (e : HeldEdge) → Contains self.old.recce.edges e → e.from < place_of self.old.recce }
+        ensures lexer { OnOk result (self.new.work.lexer ≡ self.old.work.lexer) }
+        ensures at { OnOk result (self.new.at ≡ self.old.at + length) }
+        ensures span { OnOk result (map span_of self.new.spans.items ≡ map span_of self.old.spans.items ++ (self.old.at, length) ∷ []) }
+        ensures takes { OnOk result (Takes self.old.recce self.new.recce self.old.work.kept.items) }
+    {
+        let start = self.at as u32;
+        self.spans.push(Span { start, length })?;
+        take_token(&mut self.recce, self.work.kept.as_slice(), steps)?;
+        self.at += length as usize;
+        Ok(())
+    }
+
+    // How reading ends where nothing can be taken.
+    fn stop(
+        &self,
+        alloc: Global,
+        p: &Prepared,
+        found: Vec<SymbolId>,
+    ) -> Result<Option<Ending>, AllocError>
+        ensures { (text : List ℕ) (pieces : List Piece) → HasRead p.now text pieces self.now.at self.now.recce self.now.spans.items → IsStuck p.now text pieces self.now.at found.items →
+            IfOk result (λ e. IsSomeAnd e (λ ending. IsReadingOf p.now text self.now.recce self.now.spans.items ending)) }
+    {
+        let expected = expected_lexemes(alloc, p, &self.recce)?;
+        Ok(Some(Ending::Stopped {
+            at: self.at,
+            found,
+            expected,
+        }))
+    }
+
+    // Reads one piece. Where none can be taken, it tells how reading ends.
+    fn next<L: Ledger>(
+        &mut self,
+        alloc: Global,
+        p: &Prepared,
+        chars: &Chars,
+        steps: &mut Steps<L>,
+    ) -> Result<Option<Ending>, AllocError>
+        requires reader { IsReader p.now chars.now self.old }
+        requires few { length chars.now ≤ 16777216 }
+        requires more { self.old.at < length chars.now }
+        ensures goes_on { IfOk result (λ e. IsNone e → IsReader p.now chars.now self.new × (self.old.at < self.new.at)) }
+        ensures ends { IfOk result (λ e. IfSome e (λ ending. IsReadingOf p.now chars.now self.new.recce self.new.spans.items ending)) }
+    {
+        let Some(length) = look(&mut self.work, alloc, p, &self.recce, chars, self.at)? else {
+            return self.stop(alloc, p, Vec::new(alloc));
+        };
+        match choose(&mut self.work, p, &self.recce)? {
+            Choice::Token => {
+                self.take(length, steps)?;
+                Ok(None)
+            }
+            Choice::Skipped => {
+                self.at += length as usize;
+                Ok(None)
+            }
+            Choice::Nothing => {
+                let found = found_lexemes(alloc, p, self.work.marks.as_slice())?;
+                self.stop(alloc, p, found)
+            }
+        }
+    }
+
+    fn ended(self, ending: Ending) -> Reading<'p>
+        ensures { (result.recce ≡ self.entry.recce) × (result.spans.items ≡ self.entry.spans.items) × (result.ending ≡ ending) }
+    {
+        Reading {
+            recce: self.recce,
+            spans: self.spans,
+            ending,
+        }
+    }
+}
+
 /// Reads a text, to its end or to the first place where neither a token nor a discard can be taken.
 pub fn read_input<'p, L: Ledger>(
     alloc: Global,
@@ -44,5 +159,11 @@ pub fn read_input<'p, L: Ledger>(
     requires { length chars.now ≤ 16777216 }
     ensures { IfOk result (λ r. IsReadingOf p.now chars.now r.recce r.spans.items r.ending) }
 {
-    Err(AllocError)
+    let mut reader = Reader::new(alloc, p)?;
+    while reader.at < chars.len() {
+        if let Some(ending) = reader.next(alloc, p, chars, steps)? {
+            return Ok(reader.ended(ending));
+        }
+    }
+    Ok(reader.ended(Ending::End))
 }

@@ -1,0 +1,77 @@
+-- Lists that gather what rows have, row after row.
+use Rattle.std.proofs.Common.{arith, ◌≡◌, inl, inr, ℕ, suc, ◌+◌, ◌<◌, ◌≤◌, List, [], ◌∷◌, ◌++◌, length, map, take, get_or, Contains, refl, sym, ◌∙◌, ap, subst}
+use Rattle.std.specs.List.{AllByRecursion}
+use Rattle.std.specs.List.Sorted.{IsStrictlySortedBy}
+use Rattle.std.specs.declared.cmp.Ordering.TheVariants.{Less}
+use Rattle.std.specs.Ordering.{nat_cmp}
+use Rattle.std.specs.Cmp.{nat_cmp_is}
+use Rattle.std.proofs.lemmas.List.{take_more, take_all, get_or-take, get_or-map, length-take-le, length-map}
+use Rattle.std.proofs.lemmas.List.Elements.{Contains-append_left, Contains-push, Contains-push_cases}
+use Rattle.std.proofs.lemmas.Map.Keys.{below_from_sorted}
+use Rattle.scanless.specs.Pieces.{AddsIf, Gathers}
+
+-- ---- one element more
+
+module _ {A B : Type 0} (P : A → Type 0) (f : A → B) where
+  pub gathers_none : Gathers P f [] []
+  gathers_none y = ((λ (k, lt, e). absurd (omega (arith, lt))), (λ (r, (k, lt, e), p, is). absurd (omega (arith, lt))))
+
+  gathers_push : (rows : List A) (row : A) (xs ys : List B) → Gathers P f rows xs → AddsIf (P row) (f row) xs ys → Gathers P f (rows ++ row ∷ []) ys
+  gathers_push rows row xs ys g (inl (p, e)) y = (
+    λ c. elim (Contains-push_cases xs (f row) y (subst (λ l. Contains l y) e c)) [
+      | inl o ↦ (let (r, m, q, is) = (g y).0 o in (r, Contains-append_left rows (row ∷ []) r m, q, is))
+      | inr same ↦ (row, Contains-push rows row, p, same)
+    ],
+    λ (r, m, q, is). subst (λ l. Contains l y) (sym e) (elim (Contains-push_cases rows row r m) [
+      | inl o ↦ Contains-append_left xs (f row ∷ []) y ((g y).1 (r, o, q, is))
+      | inr same ↦ subst (Contains (xs ++ f row ∷ [])) (ap f same ∙ is) (Contains-push xs (f row))
+    ]),
+  )
+  gathers_push rows row xs ys g (inr (not, e)) y = (
+    λ c. (let (r, m, q, is) = (g y).0 (subst (λ l. Contains l y) e c) in (r, Contains-append_left rows (row ∷ []) r m, q, is)),
+    λ (r, m, q, is). elim (Contains-push_cases rows row r m) [
+      | inl o ↦ subst (λ l. Contains l y) (sym e) ((g y).1 (r, o, q, is))
+      | inr same ↦ absurd (not (subst P (sym same) q))
+    ],
+  )
+
+  pub gathers_more : (rows : List A) (i : ℕ) (row : A) (xs ys : List B) → i < length rows → row ≡ get_or rows i row → Gathers P f (take i rows) xs → AddsIf (P row) (f row) xs ys → Gathers P f (take (i + 1) rows) ys
+  gathers_more rows i row xs ys lt is g adds =
+      subst (λ rs. Gathers P f rs ys) (sym (take_more rows i row lt)) (subst (λ r. Gathers P f (take i rows ++ r ∷ []) ys) is (gathers_push (take i rows) row xs ys g adds))
+
+  pub gathers_all : (rows : List A) (n : ℕ) (xs : List B) → length rows ≤ n → Gathers P f (take n rows) xs → Gathers P f rows xs
+  gathers_all rows n xs le g = subst (λ rs. Gathers P f rs xs) (take_all n rows le) g
+
+-- ---- in ascending order
+
+below : (x y : ℕ) → x < y → nat_cmp x y ≡ Less
+below x y lt = sym (nat_cmp_is x y Less lt)
+
+under_push : (x : ℕ) (xs : List ℕ) (y : ℕ) → AllByRecursion (λ z. nat_cmp x z ≡ Less) xs → x < y → AllByRecursion (λ z. nat_cmp x z ≡ Less) (xs ++ y ∷ [])
+under_push x [] y h lt = (below x y lt, tt)
+under_push x (z ∷ zs) y h lt = (h.0, under_push x zs y h.1 lt)
+
+sorted_push : (xs : List ℕ) (y : ℕ) → IsStrictlySortedBy nat_cmp xs → ((x : ℕ) → Contains xs x → x < y) → IsStrictlySortedBy nat_cmp (xs ++ y ∷ [])
+unfolding IsStrictlySortedBy
+sorted_push [] y s above = (tt, tt)
+sorted_push (x ∷ xs) y s above =
+    (under_push x xs y s.0 (above x (0, omega arith, refl)), sorted_push xs y s.1 (λ z (k, lt, e). above z (suc k, omega (arith, lt), e)))
+
+pub sorted_none : IsStrictlySortedBy nat_cmp []
+unfolding IsStrictlySortedBy
+sorted_none = tt
+
+module _ {A : Type 0} (P : A → Type 0) (f : A → ℕ) (rows : List A) (ascend : IsStrictlySortedBy nat_cmp (map f rows)) (i : ℕ) (row : A) (lt : i < length rows) (is : row ≡ get_or rows i row) where
+  above : (r : A) → Contains (take i rows) r → f r < f row
+  above r (k, k_lt, e) =
+      let short = length-take-le i rows (omega (arith, lt)) in
+      let k_lt_i : k < i = omega (arith, k_lt, short) in
+      let r_is : get_or rows k r ≡ r = sym (get_or-take i rows k r k_lt_i) ∙ e in
+      let rises = below_from_sorted (map f rows) k i 0 ascend k_lt_i (let l = length-map rows f in omega (arith, l, lt)) in
+      let left : get_or (map f rows) k 0 ≡ f r = get_or-map f rows k r 0 (omega (arith, k_lt_i, lt)) ∙ ap f r_is in
+      let right : get_or (map f rows) i 0 ≡ f row = get_or-map f rows i row 0 lt ∙ ap f (sym is) in
+      omega (arith, rises, left, right)
+
+  pub sorted_more : (xs ys : List ℕ) → Gathers P f (take i rows) xs → IsStrictlySortedBy nat_cmp xs → AddsIf (P row) (f row) xs ys → IsStrictlySortedBy nat_cmp ys
+  sorted_more xs ys g s (inl (p, e)) = subst (IsStrictlySortedBy nat_cmp) (sym e) (sorted_push xs (f row) s (λ x c. (let (r, m, q, same) = (g x).0 c in subst (λ z. z < f row) same (above r m))))
+  sorted_more xs ys g s (inr (not, e)) = subst (IsStrictlySortedBy nat_cmp) (sym e) s

@@ -1,0 +1,45 @@
+use Rattle.std.proofs.Common.{◌≡◌, ◌↔◌, ℕ, Contains, None, Some, sym, subst}
+use Rattle.std.specs.Prelude.{option_copied}
+use Rattle.std.specs.List.Sorted.{IsStrictlySortedBy}
+use Rattle.std.specs.Ordering.{nat_cmp}
+use Rattle.std.proofs.lemmas.Result.{on_ok_weaker}
+use Rattle.earley_sets.specs.Recognizer.{IsExpected}
+use Rattle.reading_model.specs.Reading.{IsKept}
+use Rattle.scanless.specs.Pieces.{IsHighestOf, IsFit}
+use Rattle.scanless.proofs.Gathering.{sorted_none}
+use Rattle.scanless.proofs.Nexts.{next_is}
+use Rattle.scanless.proofs.Choosing.{rows_ascend, rows_start, kept_are, none_kept}
+use Rattle.scanless.proofs.kept.list_kept.Goals as goal
+
+pub highest-requires : goal.highest-requires
+highest-requires c = rows_start c.args.p.now c.lexemes-rows.result.now c.lexemes-rows.ensures c.args.marks.now c.known.ensures.ranges.starts c.requires
+
+pub keep_all-requires-clause-starts : goal.keep_all-requires-clause-starts
+keep_all-requires-clause-starts c = rows_start c.args.p.now c.lexemes-rows.result.now c.lexemes-rows.ensures c.args.marks.now c.known.ensures.ranges.starts c.requires
+
+pub keep_all-requires-clause-order : goal.keep_all-requires-clause-order
+keep_all-requires-clause-order c = rows_ascend c.args.p.now c.lexemes-rows.result.now c.lexemes-rows.ensures c.in_order.ensures
+
+pub returns-in-Some-clause-expected : goal.returns-in-Some-clause-expected
+returns-in-Some-clause-expected c =
+    on_ok_weaker c.keep_all.result (λ g s m. (let (r, k, (fit, e), is) = (g s).0 m in subst (IsExpected c.args.recce.now) is fit.1)) c.keep_all.ensures.exact
+
+pub returns-in-Some-clause-exact : goal.returns-in-Some-clause-exact
+returns-in-Some-clause-exact c =
+    let e : c.highest.result ≡ Some c.in-Some.row = cc in
+    on_ok_weaker c.keep_all.result
+    (λ g text pieces at n holds by. kept_are c.args.p.now c.lexemes-rows.result.now c.lexemes-rows.ensures c.known.ensures.ranges.starts text pieces at n c.args.marks.now by c.args.recce.now
+    (next_is c.args.p.now c.known.ensures.accepted.checked.structural pieces c.args.recce.now c.place-place.ensures.is holds) c.in-Some.row.now c.keep_all.new.kept.items
+    (subst (λ o. IsHighestOf (IsFit c.args.recce.now c.args.marks.now) c.lexemes-rows.result.now (option_copied o)) e c.highest.ensures) g)
+    c.keep_all.ensures.exact
+
+pub returns-in-None-clause-sorted : goal.returns-in-None-clause-sorted
+returns-in-None-clause-sorted c = subst (IsStrictlySortedBy nat_cmp) (sym c.clear.ensures.items) sorted_none
+
+pub returns-in-None-clause-exact : goal.returns-in-None-clause-exact
+returns-in-None-clause-exact c = λ text pieces at n holds by.
+    let e : c.highest.result ≡ None = cc in
+    subst (λ kept. (symbol : ℕ) → Contains kept symbol ↔ IsKept c.args.p.now text pieces at n symbol) (sym c.clear.ensures.items)
+    (none_kept c.args.p.now c.lexemes-rows.result.now c.lexemes-rows.ensures c.known.ensures.ranges.starts text pieces at n c.args.marks.now by c.args.recce.now
+    (next_is c.args.p.now c.known.ensures.accepted.checked.structural pieces c.args.recce.now c.place-place.ensures.is holds)
+    (subst (λ o. IsHighestOf (IsFit c.args.recce.now c.args.marks.now) c.lexemes-rows.result.now (option_copied o)) e c.highest.ensures))

@@ -1,0 +1,63 @@
+-- What can be taken at a place of a text, as a program looks for it.
+use Rattle.std.specs.Prelude.{◌≡◌, ℕ, ◌+◌, ◌<◌, ◌≤◌, ◌≤ℤ◌, ◌⊎◌, ◌↔◌, ◌++◌, List, [], ◌∷◌, length, map, Bool, false, IsTrue, Option, Some, None, Contains, slice_index_or}
+use Rattle.std.specs.List.Sorted.{IsStrictlySortedBy}
+use Rattle.std.specs.Ordering.{nat_cmp}
+use Rattle.grammar_model.specs.Values.{name_of}
+use Rattle.recognizer_model.specs.FlatForm.{IsFlatOf}
+use Rattle.recognizer_model.specs.Invariant.{IsFlat}
+use Rattle.language_model.specs.Building.{Built, LexemeRow}
+use Rattle.reading_model.specs.Accepted.{IsLexical}
+use Rattle.reading_model.specs.Matches.{Matches}
+use Rattle.reading_model.specs.Reading.{Piece, IsCandidate, IsLongest}
+use Rattle.dsl_build.specs.declared.built.LexemeRow.{LexemeRow as HeldRow}
+use Rattle.earley_sets.specs.Recognizer.{Recognizer, IsExpected}
+use Rattle.lexer.specs.Lexical.{LexicalForm}
+
+-- the lexemes are in order of their symbols, each of which has a name of its own
+pub record AreInOrder (b : Built) : Type 0 where
+  pub ascend : IsStrictlySortedBy nat_cmp (map (λ (l : LexemeRow). l.symbol) b.lexemes)
+  pub differ : (l m : LexemeRow) → Contains b.lexemes l → Contains b.lexemes m → name_of b.g1 l.symbol ≡ name_of b.g1 m.symbol → l.symbol ≡ m.symbol
+
+-- a lexer for the lexical grammar, where there is a lexeme or a discard
+abbrev pub IsLexerOf : Built → Option LexicalForm → Type 0
+IsLexerOf b None = IsLexical b → ⊥
+IsLexerOf b (Some l) = IsLexical b × IsFlat l.flat × IsFlatOf l.flat b.l0 × (l.sets ≡ b.sets)
+
+abbrev pub AreCandidates : Built → List Piece → List ℕ → Type 0
+AreCandidates b pieces starts = (start : ℕ) → Contains starts start ↔ IsCandidate b pieces start
+
+abbrev pub IsMarked : List Bool → ℕ → Type 0
+IsMarked marks start = IsTrue (slice_index_or marks start false)
+
+-- the length of the longest match, and of all starts just the candidates that have it are marked
+pub record IsLongestBy (b : Built) (text : List ℕ) (pieces : List Piece) (at n : ℕ) (marks : List Bool) : Type 0 where
+  pub longest : IsLongest b text pieces at n
+  pub marked : (start : ℕ) → start < length b.l0.starts → IsMarked marks start ↔ (IsCandidate b pieces start × Matches b text start at (at + n))
+
+-- the element goes last, if P holds
+abbrev pub AddsIf : {A : Type 0} → Type 0 → A → (old new : List A) → Type 0
+AddsIf P x old new = (P × (new ≡ old ++ x ∷ [])) ⊎ ((P → ⊥) × (new ≡ old))
+
+-- the list has f of just those rows that have P
+abbrev pub Gathers : {A B : Type 0} → (A → Type 0) → (A → B) → List A → List B → Type 0
+Gathers {A} {B} P f rows xs = (y : B) → Contains xs y ↔ ((r : A) × Contains rows r × P r × (f r ≡ y))
+
+-- each symbol is that of a lexeme
+abbrev pub AreLexemes : Built → List ℕ → Type 0
+AreLexemes b symbols = (s : ℕ) → Contains symbols s → (l : LexemeRow) × Contains b.lexemes l × (l.symbol ≡ s)
+
+-- the greatest length that one of the starts matches, which is not nothing, and all of them that match it
+pub record AreMatched (b : Built) (text : List ℕ) (at : ℕ) (starts : List ℕ) (n : ℕ) (matched : List ℕ) : Type 0 where
+  pub some : 0 < n
+  pub found : 0 < length matched
+  pub exact : (k : ℕ) → Contains matched k ↔ (Contains starts k × Matches b text k at (at + n))
+  pub longest : (k m : ℕ) → Contains starts k → Matches b text k at (at + m) → m ≤ n
+
+-- a row of the highest priority of those that have P, if there are some
+abbrev pub IsHighestOf : (HeldRow → Type 0) → List HeldRow → Option HeldRow → Type 0
+IsHighestOf P rows None = (r : HeldRow) → Contains rows r → P r → ⊥
+IsHighestOf P rows (Some h) = Contains rows h × P h × ((r : HeldRow) → Contains rows r → P r → r.priority ≤ℤ h.priority)
+
+-- the row's start is marked and its symbol expected
+abbrev pub IsFit : Recognizer → List Bool → HeldRow → Type 0
+IsFit recce marks r = IsMarked marks r.start × IsExpected recce r.symbol

@@ -1,0 +1,21 @@
+-- What a recognizer holds when it takes a token.
+use Rattle.std.specs.Prelude.{◌≡◌, ℕ, suc, ◌++◌, List, map}
+use Rattle.grammar_model.specs.declared.Edge.{Edge}
+use Rattle.earley_sets.specs.Recognizer.{Recognizer, place_of}
+
+-- the edges of a token that begins at the place
+abbrev pub token_edges : ℕ → List ℕ → List Edge
+token_edges place symbols = map (λ s. record { symbol = s; from = place; to = suc place }) symbols
+
+-- nothing but edges may change
+pub record Keeps (old new : Recognizer) : Type 0 where
+  pub flat : new.flat ≡ old.flat
+  pub start : new.start ≡ old.start
+  pub sets : new.sets ≡ old.sets
+
+-- a token is taken, as each of the symbols
+pub record Takes (old new : Recognizer) (symbols : List ℕ) : Type 0 where
+  pub flat : new.flat ≡ old.flat
+  pub start : new.start ≡ old.start
+  pub edges : new.edges ≡ old.edges ++ token_edges (place_of old) symbols
+  pub place : place_of new ≡ suc (place_of old)

@@ -1,0 +1,178 @@
+//! What can come next in a text: the starts that are looked for, and their longest match.
+ghost use Rattle.std.specs.Prelude.{◌≡◌, ℕ, ◌+◌, ◌<◌, ◌≤◌, ◌⊎◌, ◌↔◌, List, length, IsFalse, IsTrue, IfOk, IfSome, IsNone, OnOk, Contains};
+ghost use Rattle.earley_sets.specs.Recognizer.{IsExpected};
+ghost use Rattle.dsl_build.specs.declared.built.LexemeRow.{LexemeRow as HeldRow};
+ghost use Rattle.reading_model.specs.Matches.{Matches};
+ghost use Rattle.reading_model.specs.Reading.{Piece, IsLongest};
+ghost use Rattle.scanless.specs.Reading.{HoldsPieces};
+ghost use Rattle.scanless.specs.Pieces.{IsLexerOf, AreCandidates, AreMatched, IsMarked, IsLongestBy, AddsIf, Gathers};
+
+use crate::Prepared;
+use dsl_build::LexemeRow;
+use earley_sets::Recce;
+use grammar_core::SymbolId;
+use lexer::{LexAnswer, Lexer, Lexical, matches_are_the_grammars};
+use slif_base::Chars;
+use std::alloc::{AllocError, AllocFailed, Global};
+
+/// What is used from place to place: the lexer, if the lexical grammar has a start, and room for what is found.
+#[derive(Drop)]
+pub struct Work<'p> {
+    pub lexer: Option<Lexer<'p>>,
+    /// what is looked for, by its places among the starts
+    pub candidates: Vec<u32>,
+    /// which starts have the longest match
+    pub marks: Vec<bool>,
+    /// the lexemes that are kept
+    pub kept: Vec<SymbolId>,
+}
+
+impl<'p> Work<'p> {
+    pub fn new(alloc: Global, p: &'p Prepared) -> Result<Work<'p>, AllocError>
+        ensures { IfOk result (λ work. IsLexerOf p.now work.lexer) }
+    {
+        Ok(Work {
+            lexer: lexer_of(alloc, p)?,
+            candidates: Vec::new(alloc),
+            marks: Vec::new(alloc),
+            kept: Vec::new(alloc),
+        })
+    }
+}
+
+fn lexer_of<'p>(alloc: Global, p: &'p Prepared) -> Result<Option<Lexer<'p>>, AllocError>
+    ensures { IfOk result (IsLexerOf p.now) }
+{
+    match p.lexical() {
+        None => Ok(None),
+        Some(flat) => {
+            flat.known();
+            let l0 = Lexical {
+                flat,
+                sets: p.sets(),
+            };
+            let lexer = Lexer::new(alloc, l0)?;
+            Ok(Some(lexer))
+        }
+    }
+}
+
+/// Lists what is looked for, by its places among the starts: each lexeme that is always looked for, each that is acceptable, and
+/// each discard.
+pub fn list_candidates(
+    p: &Prepared,
+    recce: &Recce<'_>,
+    candidates: &mut Vec<u32>,
+) -> Result<(), AllocError>
+    ensures known { OnOk result ((k : ℕ) → Contains candidates.new.items k → k < length p.now.l0.starts) }
+    ensures exact { OnOk result ((pieces : List Piece) → HoldsPieces p.now pieces recce.now → AreCandidates p.now pieces candidates.new.items) }
+{
+    p.known();
+    let _place = recce.place();
+    list_lexemes(p.lexemes(), recce, candidates)?;
+    candidates.extend_from_slice(p.discards())
+}
+
+// The starts of the lexemes that are looked for.
+fn list_lexemes(
+    rows: &[LexemeRow],
+    recce: &Recce<'_>,
+    starts: &mut Vec<u32>,
+) -> Result<(), AllocFailed<u32>>
+    ensures { OnOk result (Gathers (λ (r : HeldRow). IsFalse r.latm ⊎ IsExpected recce.now r.symbol) (λ (r : HeldRow). r.start) rows.now starts.new.items) }
+{
+    starts.clear();
+    for row in rows {
+        add_candidate(row, recce, starts)?;
+    }
+    Ok(())
+}
+
+fn is_looked_for(row: &LexemeRow, recce: &Recce<'_>) -> bool
+    ensures { IsTrue result ↔ (IsFalse row.now.latm ⊎ IsExpected recce.now row.now.symbol) }
+{
+    !row.latm || recce.is_expected(row.symbol)
+}
+
+fn add_candidate(
+    row: &LexemeRow,
+    recce: &Recce<'_>,
+    starts: &mut Vec<u32>,
+) -> Result<(), AllocFailed<u32>>
+    ensures { OnOk result (AddsIf (IsFalse row.now.latm ⊎ IsExpected recce.now row.now.symbol) row.now.start starts.old.items starts.new.items) }
+{
+    if is_looked_for(row, recce) {
+        starts.push(row.start)?;
+    }
+    Ok(())
+}
+
+// The longest match of the starts, where one matches a character.
+fn longest(
+    lexer: &mut Option<Lexer<'_>>,
+    alloc: Global,
+    p: &Prepared,
+    chars: &Chars,
+    at: usize,
+    starts: &[u32],
+) -> Result<Option<LexAnswer>, AllocError>
+    requires lexer { IsLexerOf p.now lexer.old }
+    requires at { at ≤ length chars.now }
+    requires few { length chars.now ≤ 16777216 }
+    requires starts { (k : ℕ) → Contains starts.now k → k < length p.now.l0.starts }
+    ensures same { lexer.new ≡ lexer.old }
+    ensures none { IfOk result (λ answer. IsNone answer → (k m : ℕ) → Contains starts.now k → 0 < m → Matches p.now chars.now k at (at + m) → ⊥) }
+    ensures some { IfOk result (λ answer. IfSome answer (λ a. AreMatched p.now chars.now at starts.now a.length a.matched.items)) }
+{
+    p.known();
+    matches_are_the_grammars();
+    match lexer {
+        None => Ok(None),
+        Some(lexer) => lexer.longest(alloc, chars, at, starts),
+    }
+}
+
+// Marks these of so many starts.
+fn mark(marks: &mut Vec<bool>, count: usize, starts: &[u32]) -> Result<(), AllocError>
+    requires { (k : ℕ) → Contains starts.now k → k < count }
+    ensures all { OnOk result (length marks.new.items ≡ count) }
+    ensures exact { OnOk result ((k : ℕ) → k < count → IsMarked marks.new.items k ↔ Contains starts.now k) }
+{
+    marks.clear();
+    marks.resize(count, false)?;
+    for start in starts {
+        marks[*start as usize] = true;
+    }
+    Ok(())
+}
+
+/// The length of the longest match of what is looked for at a place, where something matches a character; then just the starts
+/// that have it are marked.
+pub fn look(
+    work: &mut Work<'_>,
+    alloc: Global,
+    p: &Prepared,
+    recce: &Recce<'_>,
+    chars: &Chars,
+    at: usize,
+) -> Result<Option<u32>, AllocError>
+    requires lexer { IsLexerOf p.now work.old.lexer }
+    requires at { at ≤ length chars.now }
+    requires few { length chars.now ≤ 16777216 }
+    ensures lexer { OnOk result (IsLexerOf p.now work.new.lexer) }
+    ensures none { IfOk result (λ answer. IsNone answer → (pieces : List Piece) → HoldsPieces p.now pieces recce.now → (n : ℕ) → IsLongest p.now chars.now pieces at n → ⊥) }
+    ensures some { IfOk result (λ answer. IfSome answer (λ n. (pieces : List Piece) → HoldsPieces p.now pieces recce.now → IsLongestBy p.now chars.now pieces at n work.new.marks.items)) }
+    ensures within { IfOk result (λ answer. IfSome answer (λ n. (0 < n) × (at + n ≤ length chars.now))) }
+    ensures marks { IfOk result (λ answer. IfSome answer (λ n. length work.new.marks.items ≡ length p.now.l0.starts)) }
+{
+    p.known();
+    list_candidates(p, recce, &mut work.candidates)?;
+    let starts = work.candidates.as_slice();
+    match longest(&mut work.lexer, alloc, p, chars, at, starts)? {
+        None => Ok(None),
+        Some(answer) => {
+            mark(&mut work.marks, p.start_count(), answer.matched.as_slice())?;
+            Ok(Some(answer.length))
+        }
+    }
+}
