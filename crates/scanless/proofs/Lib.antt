@@ -5,7 +5,7 @@ mod Nexts
 mod Highest
 mod Choosing
 mod Holding
-mod Ordered
+pub mod Ordered
 mod Naming
 mod Steps
 mod Matched
