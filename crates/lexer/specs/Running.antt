@@ -1,11 +1,9 @@
 -- A recognizer that reads a text from a place on.
 use Rattle.std.specs.Prelude.{◌≡◌, ℕ, suc, ◌+◌, ◌<◌, ◌≤◌, ◌⊎◌, Bool, true, false, ◌||◌, nat_le, List, [], ◌∷◌, ◌++◌, length, Some, Contains, slice_get, slice_index, slice_index_or}
 use Rattle.grammar_model.specs.declared.Edge.{Edge as HeldEdge}
-use Rattle.grammar_model.specs.Derives.{Edges}
 use Rattle.recognizer_model.specs.declared.Item.{Item}
 use Rattle.recognizer_model.specs.declared.flat.FlatSymbol.TheVariants.{Terminal}
 use Rattle.recognizer_model.specs.Flat.{FlatGrammar}
-use Rattle.recognizer_model.specs.FlatForm.{FlatEdges}
 use Rattle.recognizer_model.specs.Items.{after}
 use Rattle.earley_sets.specs.Recognizer.{Recognizer, IsExpected, set_at, place_of, new_edge}
 use Rattle.language_model.specs.Classes.{Class}
@@ -22,10 +20,6 @@ pub record IsLongestTo (l : LexicalForm) (text : List ℕ) (start at place n : �
   pub matches : 0 < n → HasMatch l text start at (at + n)
   pub longest : (m : ℕ) → m ≤ place → HasMatch l text start at (at + m) → m ≤ n
   pub within : n ≤ place
-
--- the edges of the characters from the place on
-abbrev pub TextEdges : LexicalForm → List ℕ → (at : ℕ) → Edges
-TextEdges l text at x from to = FlatEdges l.flat (SetEdges l.sets text) x (at + from) (at + to)
 
 -- an item of the set waits for the terminal
 abbrev pub IsAwaitedIn : FlatGrammar → List Item → (t : ℕ) → Type 0
