@@ -165,5 +165,6 @@ pub fn longest(
     ensures none { IfOk result (λ answer. IsNone answer → IsUnmatched l0.entry chars.now at candidates.now) }
     ensures some { IfOk result (λ answer. IfSome answer (λ a. IsLongestMatch l0.entry chars.now at candidates.now a.length a.matched.items)) }
 {
-    Err(AllocError)
+    let mut lexer = Lexer::new(alloc, l0)?;
+    lexer.longest(alloc, chars, at, candidates)
 }
