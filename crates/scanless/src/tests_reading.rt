@@ -19,7 +19,7 @@ struct Told {
     expected: Vec<SymbolId>,
 }
 
-fn told<L: Ledger>(
+fn read_text<L: Ledger>(
     blank: Blank,
     alloc: Global,
     grammar: &[u8],
@@ -66,17 +66,25 @@ fn span(start: u32, length: u32) -> Span {
 // A lexeme that is looked for wherever it stands keeps a shorter one back.
 #[test]
 fn a_longer_lexeme_stops_reading(rt: HostRuntime) -> Result<(), Fail> {
-    let t = told::<Brand>(Blank::new(1), rt.alloc(), b"S ::= '=' '=' | 'a' '=='", b"==")?;
+    let t = read_text::<Brand>(
+        Blank::new(1),
+        rt.alloc(),
+        b"S ::= '=' '=' | 'a' '=='",
+        b"==",
+    )?;
     assert_eq!(rt; (t.spans.len(), t.stopped), (0, Some(0)));
     assert_eq!(rt; t.found.as_slice(), [SymbolId(3)].as_slice());
-    assert_eq!(rt; t.expected.as_slice(), [SymbolId(1), SymbolId(2)].as_slice());
+    assert_eq!(rt;
+        t.expected.as_slice(),
+        [SymbolId(1), SymbolId(2)].as_slice()
+    );
     Ok(())
 }
 
 #[test]
 fn unacceptable_lexemes_are_not_looked_for(rt: HostRuntime) -> Result<(), Fail> {
     let grammar = b"S ::= '=' '=' | 'a' '==' lexeme default = latm => 1";
-    let t = told::<Brand>(Blank::new(1), rt.alloc(), grammar, b"==")?;
+    let t = read_text::<Brand>(Blank::new(1), rt.alloc(), grammar, b"==")?;
     assert_eq!(rt; t.spans.as_slice(), [span(0, 1), span(1, 1)].as_slice());
     assert_eq!(rt; (t.stopped, t.expected.len()), (None, 0));
     Ok(())
@@ -87,11 +95,14 @@ fn unacceptable_lexemes_are_not_looked_for(rt: HostRuntime) -> Result<(), Fail> 
 fn the_longest_match_decides_before_the_priority(rt: HostRuntime) -> Result<(), Fail> {
     let plain = b"S ::= kw 'x' | id 'y' kw ~ 'if' id ~ [a-z]+";
     let ranked = b"S ::= kw 'x' | id 'y' kw ~ 'if' id ~ [a-z]+ :lexeme ~ kw priority => 1";
-    let t = told::<Brand>(Blank::new(1), rt.alloc(), plain, b"if")?;
-    assert_eq!(rt; t.expected.as_slice(), [SymbolId(2), SymbolId(4)].as_slice());
-    let t = told::<Brand>(Blank::new(1), rt.alloc(), ranked, b"if")?;
+    let t = read_text::<Brand>(Blank::new(1), rt.alloc(), plain, b"if")?;
+    assert_eq!(rt;
+        t.expected.as_slice(),
+        [SymbolId(2), SymbolId(4)].as_slice()
+    );
+    let t = read_text::<Brand>(Blank::new(1), rt.alloc(), ranked, b"if")?;
     assert_eq!(rt; t.expected.as_slice(), [SymbolId(2)].as_slice());
-    let t = told::<Brand>(Blank::new(1), rt.alloc(), ranked, b"iffy")?;
+    let t = read_text::<Brand>(Blank::new(1), rt.alloc(), ranked, b"iffy")?;
     assert_eq!(rt; t.expected.as_slice(), [SymbolId(4)].as_slice());
     Ok(())
 }
@@ -100,15 +111,23 @@ fn the_longest_match_decides_before_the_priority(rt: HostRuntime) -> Result<(), 
 #[test]
 fn kept_lexemes_win_over_discards(rt: HostRuntime) -> Result<(), Fail> {
     let grammar = b"S ::= x sp x x ~ 'x' sp ~ ' ' :discard ~ blank blank ~ ' '";
-    let t = told::<Brand>(Blank::new(1), rt.alloc(), grammar, b" x x ")?;
-    assert_eq!(rt; t.spans.as_slice(), [span(1, 1), span(2, 1), span(3, 1)].as_slice());
+    let t = read_text::<Brand>(Blank::new(1), rt.alloc(), grammar, b" x x ")?;
+    assert_eq!(rt;
+        t.spans.as_slice(),
+        [span(1, 1), span(2, 1), span(3, 1)].as_slice()
+    );
     assert_eq!(rt; (t.stopped, t.expected.len()), (None, 0));
     Ok(())
 }
 
 #[test]
 fn reading_stops_at_the_first_place(rt: HostRuntime) -> Result<(), Fail> {
-    let t = told::<Brand>(Blank::new(1), rt.alloc(), b"E ::= N | E '+' E N ~ [0-9]", b"1++")?;
+    let t = read_text::<Brand>(
+        Blank::new(1),
+        rt.alloc(),
+        b"E ::= N | E '+' E N ~ [0-9]",
+        b"1++",
+    )?;
     assert_eq!(rt; t.spans.as_slice(), [span(0, 1), span(1, 1)].as_slice());
     assert_eq!(rt; t.stopped, Some(2));
     assert_eq!(rt; t.found.as_slice(), [SymbolId(2)].as_slice());
@@ -119,18 +138,27 @@ fn reading_stops_at_the_first_place(rt: HostRuntime) -> Result<(), Fail> {
 // The names are '2' and '1', with the numbers 1 and 2.
 #[test]
 fn lexemes_are_told_by_their_names(rt: HostRuntime) -> Result<(), Fail> {
-    let t = told::<Brand>(Blank::new(1), rt.alloc(), b"S ::= '2' | '1'", b"3")?;
+    let t = read_text::<Brand>(Blank::new(1), rt.alloc(), b"S ::= '2' | '1'", b"3")?;
     assert_eq!(rt; (t.stopped, t.found.len()), (Some(0), 0));
-    assert_eq!(rt; t.expected.as_slice(), [SymbolId(2), SymbolId(1)].as_slice());
-    let t = told::<Brand>(Blank::new(1), rt.alloc(), b"S ::= '2' | '1'", b"")?;
+    assert_eq!(rt;
+        t.expected.as_slice(),
+        [SymbolId(2), SymbolId(1)].as_slice()
+    );
+    let t = read_text::<Brand>(Blank::new(1), rt.alloc(), b"S ::= '2' | '1'", b"")?;
     assert_eq!(rt; t.stopped, None);
-    assert_eq!(rt; t.expected.as_slice(), [SymbolId(2), SymbolId(1)].as_slice());
+    assert_eq!(rt;
+        t.expected.as_slice(),
+        [SymbolId(2), SymbolId(1)].as_slice()
+    );
     Ok(())
 }
 
 #[test]
 fn nothing_matches_without_lexemes(rt: HostRuntime) -> Result<(), Fail> {
-    let t = told::<Brand>(Blank::new(1), rt.alloc(), b"S ::=", b"x")?;
-    assert_eq!(rt; (t.stopped, t.found.len(), t.expected.len()), (Some(0), 0, 0));
+    let t = read_text::<Brand>(Blank::new(1), rt.alloc(), b"S ::=", b"x")?;
+    assert_eq!(rt;
+        (t.stopped, t.found.len(), t.expected.len()),
+        (Some(0), 0, 0)
+    );
     Ok(())
 }
