@@ -439,3 +439,115 @@ fn writes_fail_in_turn(rt: HostRuntime) -> Result<(), Fail> {
     assert!(rt; false);
     Ok(())
 }
+
+const NUMBERS: &[u8] = b"E ::= E '+' E | N\nN ~ [\\d]\n";
+
+// Numbers with plus signs between them. What comes behind the input `1+` is a number.
+const EXPECTED: Given<'static> = Given {
+    words: &["expect", "--grammar", "g.slif"],
+    grammar: NUMBERS,
+    input: b"1+",
+    ..SUM
+};
+
+const OPERATORS: &[u8] = b"E ::= N\n | ('(') E (')') assoc => group\n || E '**' E assoc => right\n || E '*' E\n || E '+' E\nN ~ [\\d]\n";
+
+// Grammars, inputs, and what is told of them: names on the standard output, or a line on the standard error.
+const EXPECT_ROWS: [(&[u8], &[u8], &[u8], &[u8]); 8] = [
+    (NUMBERS, b"1", b"'+'\n", b""),
+    (NUMBERS, b"", b"N\n", b""),
+    (
+        NUMBERS,
+        b"x",
+        b"",
+        b"slif: input stopped at line 1 column 1; found: none; expected: N\n",
+    ),
+    (
+        NUMBERS,
+        b"1+2\xff",
+        b"",
+        b"slif: input is not UTF-8 at byte 3\n",
+    ),
+    (OPERATORS, b"1+", b"'('\nN\n", b""),
+    (
+        OPERATORS,
+        b"1+*2",
+        b"",
+        b"slif: input stopped at line 1 column 3; found: '*'; expected: '(', N\n",
+    ),
+    (
+        b"S ::= '=' '=' | 'a' '=='\n",
+        b"==",
+        b"",
+        b"slif: input stopped at line 1 column 1; found: '=='; expected: '=', 'a'\n",
+    ),
+    (
+        b"S ::= '=' '=' | 'a' '=='\nlexeme default = latm => 1\n",
+        b"==",
+        b"",
+        b"",
+    ),
+];
+
+#[test]
+fn what_is_expected_is_told(rt: HostRuntime) -> Result<(), Fail> {
+    for (grammar, input, out, err) in &EXPECT_ROWS {
+        let given = Given {
+            grammar,
+            input,
+            ..EXPECTED
+        };
+        let status = if err.is_empty() { 0 } else { 1 };
+        assert!(rt; ends(rt.alloc(), &given, status, out, err)?);
+    }
+    Ok(())
+}
+
+#[test]
+fn the_input_is_read_where_the_grammar_is_accepted(rt: HostRuntime) -> Result<(), Fail> {
+    let alloc = rt.alloc();
+    let named = Given {
+        words: &["expect", "--grammar", "g.slif", "--input", "g.slif"],
+        ..EXPECTED
+    };
+    let line = b"slif: input stopped at line 1 column 1; found: none; expected: N\n";
+    assert!(rt; ends(alloc, &named, 1, b"", line)?);
+    let missing = Given {
+        words: &["expect", "--grammar", "g.slif", "--input", "h.slif"],
+        ..EXPECTED
+    };
+    assert!(rt; ends(alloc, &missing, 4, b"", b"slif: cannot open h.slif\n")?);
+    assert_eq!(rt; run_of(alloc, &missing)?.asked, 2);
+    let refused = Given {
+        grammar: b"E ::= E E",
+        input_fails: &[1],
+        ..EXPECTED
+    };
+    assert!(rt; ends(alloc, &refused, 3, b"", b"slif: grammar: start symbol E is unproductive\n")?);
+    let unread = Given {
+        input_fails: &[2],
+        ..EXPECTED
+    };
+    assert!(rt; ends(alloc, &unread, 4, b"", b"slif: read fault\n")?);
+    Ok(())
+}
+
+// Each write of the names fails in turn, and a front of them stands.
+#[test]
+fn writes_of_names_fail_in_turn(rt: HostRuntime) -> Result<(), Fail> {
+    for k in 1..10 {
+        let broken = Given {
+            grammar: OPERATORS,
+            out_fails: &[k],
+            ..EXPECTED
+        };
+        let end = run_of(rt.alloc(), &broken)?;
+        if end.status == 0 {
+            return Ok(());
+        }
+        assert!(rt; end.status == 4 && b"'('\nN\n".starts_with(end.out.written()));
+        assert_eq!(rt; end.err.written(), b"slif: write fault\n".as_slice());
+    }
+    assert!(rt; false);
+    Ok(())
+}
