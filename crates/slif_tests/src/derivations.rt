@@ -6,7 +6,7 @@ ghost use Rattle.recognizer_model.specs.FlatForm.{IsFlatOf};
 use crate::forests::{COMMAS, HIGH, LOW, Language, PIECES, SUM, flat_of, read_all, written_of};
 use bocage::Forest;
 use earley_sets::Recce;
-use grammar_core::{Flat, RuleId, SymbolId, TreeStep, Written};
+use grammar_core::{Flat, SymbolId, TreeStep, Written};
 use grammar_model::Ranking;
 use slif_base::Steps;
 use std::alloc::{AllocError, Global};
@@ -78,7 +78,7 @@ const SUMS: &[usize] = &[1, 1, 2, 5, 14, 42, 132, 429, 1430];
 
 const MOST_TREES: usize = 10_000;
 
-fn name_of(w: &Written, symbol: SymbolId) -> &str {
+pub(crate) fn name_of(w: &Written, symbol: SymbolId) -> &str {
     if (symbol.0 as usize) < w.symbol_count() {
         w.name(symbol)
     } else {
@@ -86,22 +86,23 @@ fn name_of(w: &Written, symbol: SymbolId) -> &str {
     }
 }
 
-// Puts the text of a rule in place of those of its children.
-fn put_rule(
-    alloc: Global,
+// Puts the text of a rule, which begins so, in place of those of its children.
+pub(crate) fn put_rule(
     texts: &mut Vec<String>,
-    rule: RuleId,
+    beginning: String,
     children: u32,
+    between: &str,
+    end: &str,
 ) -> Result<(), AllocError> {
     let first = texts.len().saturating_sub(children as usize);
-    let mut text = format!(in alloc; "{}(", rule.0)?;
+    let mut text = beginning;
     for k in first..texts.len() {
         if k > first {
-            text.push_str(" ")?;
+            text.push_str(between)?;
         }
         text.push_str(texts[k].as_str())?;
     }
-    text.push_str(")")?;
+    text.push_str(end)?;
     texts.truncate(first);
     texts.push(text)?;
     Ok(())
@@ -119,12 +120,17 @@ fn text_of(alloc: Global, w: &Written, steps: &[TreeStep]) -> Result<String, All
                 texts.push(format!(in alloc; "{}@{}", name_of(w, *symbol), at)?)?;
             }
             TreeStep::Rule { rule, children, .. } => {
-                put_rule(alloc, &mut texts, *rule, *children)?;
+                let beginning = format!(in alloc; "{}(", rule.0)?;
+                put_rule(&mut texts, beginning, *children, " ", ")")?;
             }
         }
     }
+    joined(alloc, &texts)
+}
+
+pub(crate) fn joined(alloc: Global, texts: &[String]) -> Result<String, AllocError> {
     let mut whole = String::new(alloc);
-    for text in &texts {
+    for text in texts {
         whole.push_str(text.as_str())?;
     }
     Ok(whole)

@@ -7,3 +7,5 @@ mod derivations;
 mod forests;
 #[cfg(test)]
 mod levels;
+#[cfg(test)]
+mod lines;

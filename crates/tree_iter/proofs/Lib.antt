@@ -4,9 +4,3 @@ pub mod GoalLemmas
 pub mod Walks
 pub mod Trails
 pub mod Given
-pub mod Arena
-pub mod Held
-pub mod Building
-pub mod BareLines
-pub mod Pooled
-pub mod Listed

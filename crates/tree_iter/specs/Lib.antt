@@ -3,9 +3,3 @@ pub mod Linked
 pub mod Writing
 pub mod Goals
 pub mod Walk
-pub mod Arena
-pub mod Listing
-pub mod Adding
-pub mod Table
-pub mod Told
-pub mod Lines

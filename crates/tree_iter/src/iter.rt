@@ -54,7 +54,7 @@ impl<'f> TreeIter<'f> {
     }
 
     /// Goes to the next derivation. Answers whether there is one. A call that runs out of memory gives none, and the next call goes on
-    /// from where it was. There are fewer than 2^64.
+    /// from where it was; more than 2^64 - 1 derivations count as too many for memory. Only looks at alternatives raise `steps`.
     pub fn next<L: Ledger>(&mut self, steps: &mut Steps<L>) -> Result<bool, NoMemory>
         ensures answer { IfOk result (λ more. (given : List Tree) → AreGiven self.old given → IsAnswer self.new given more) }
         ensures stands { IfOk result (λ more. IsTrue more → IsSome self.new.current) }
@@ -81,7 +81,7 @@ impl<'f> TreeIter<'f> {
         self.walk.steps.as_slice().len()
     }
 
-    /// Appends the steps of the current derivation, children before their rule.
+    /// Appends the steps of the current derivation, children before their rule. It takes no memory but for room in `out`.
     pub fn steps_of(&self, out: &mut Vec<TreeStep>) -> Result<(), NoMemory>
         requires { IsSome self.now.current }
         ensures ok { OnOk result (IfSome self.now.current (λ steps. map step_of out.new.items ≡ map step_of out.old.items ++ steps)) }

@@ -124,7 +124,7 @@ impl<'f> Walk<'f> {
         }
     }
 
-    /// Goes on to the end of a derivation.
+    // Goes on to the end of a derivation.
     fn go_on<L: Ledger>(&mut self, steps: &mut Steps<L>) -> Result<(), NoMemory>
         requires { (rest : List (List Step)) × StandsBefore self.old rest }
         ensures ok { OnOk result ((rest : List (List Step)) → StandsBefore self.old rest → Reaches self.new rest) }
@@ -187,7 +187,7 @@ impl<'f> Walk<'f> {
         Ok(())
     }
 
-    /// Goes back to the last choice that has a later option, and takes that. Answers whether there is one.
+    // Goes back to the last choice that has a later option, and takes that. Answers whether there is one.
     fn go_back<L: Ledger>(&mut self, steps: &mut Steps<L>) -> Result<bool, NoMemory>
         requires { (rest : List (List Step)) × StandsBehind self.old rest }
         ensures ok { IfOk result (λ more. (rest : List (List Step)) → StandsBehind self.old rest → Turns self.new rest more) }
