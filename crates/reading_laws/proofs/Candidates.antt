@@ -26,7 +26,8 @@ use Rattle.grammar_laws.proofs.Slots.{false_or}
 use Rattle.grammar_laws.proofs.ItemSets.{held_decided}
 use Rattle.grammar_laws.proofs.Acceptance.{acceptable_decided}
 use Rattle.reading_laws.specs.Laws.{LexemesAreNamed}
-use Rattle.reading_laws.proofs.Matching.{matches_decided, match_within}
+use Rattle.reading_model.proofs.Within.{match_within}
+use Rattle.reading_laws.proofs.Matching.{matches_decided}
 
 -- ---- orders
 

@@ -1,4 +1,4 @@
--- What a start of the lexical grammar matches is decided, and lies within the text.
+-- What a start of the lexical grammar matches is decided.
 use Rattle.std.proofs.Common.{arith, ◌≡◌, ◌⊎◌, inl, inr, ℕ, suc, ◌+◌, ◌<◌, ◌≤◌, List, length, slice_get, slice_index, refl, sym, ◌∙◌, subst}
 use Rattle.grammar_model.specs.Grammar.{Grammar, Slot, WrittenRule, slot_of, rule_at, child_slot}
 use Rattle.grammar_model.specs.Trees.{Tree, Children, Leaf, Nulled, Node, NoChild, Child, child_count}
@@ -11,27 +11,9 @@ use Rattle.char_class.proofs.MembersLemmas.{class_has_iff}
 use Rattle.finite_sets.specs.Decided.{IsDecided}
 use Rattle.finite_sets.proofs.Deciding.{both, moved, equal, is_true}
 use Rattle.finite_sets.proofs.Members.{Among, among_from, contains_from, some_among}
-use Rattle.grammar_laws.proofs.Options.{some_held, got_short}
+use Rattle.grammar_laws.proofs.Options.{some_held}
 use Rattle.grammar_laws.proofs.Spans.{tree_decided}
 use Rattle.reading_laws.specs.Laws.{MatchesAreDecided}
-
--- ---- trees end where edges end
-
-module _ (g : Grammar) (E : Edges) (top : ℕ) (within : (s p q : ℕ) → E s p q → q ≤ top) where
-  mutual
-    tree_within : (t : Tree) (slot : Slot) (p q : ℕ) → Derives g E slot p q t → (q ≤ top) ⊎ (p ≡ q)
-    tree_within (Leaf s a b) slot p q d = let le = within s a b d.held in let e = d.to_is in inl (omega (arith, le, e))
-    tree_within (Nulled s a) slot p q d = inr (sym d.from_is ∙ d.to_is)
-    tree_within (Node i cs a b) slot p q d = front_within cs (rule_at g i) p q d.front
-
-    front_within : (cs : Children) (rule : WrittenRule) (p q : ℕ) → DerivesFront g E rule p q cs → (q ≤ top) ⊎ (p ≡ q)
-    front_within NoChild rule p q e = inr e
-    front_within (Child front last) rule p q (r, f, d) = join (tree_within last (child_slot rule (child_count front)) r q d) (front_within front rule p r f)
-      where
-        join : (q ≤ top) ⊎ (r ≡ q) → (r ≤ top) ⊎ (p ≡ r) → (q ≤ top) ⊎ (p ≡ q)
-        join (inl le) f = inl le
-        join (inr e) (inl le) = inl (omega (arith, e, le))
-        join (inr e) (inr e') = inr (e' ∙ e)
 
 -- ---- matches
 
@@ -53,13 +35,6 @@ module _ (b : Built) where
 
     pub matches_decided : (start from to : ℕ) → IsDecided (Matches b text start from to)
     matches_decided start from to = tree_decided b.l0 (CharacterEdges b text) character_decided (λ s p q h. let e = h.0 in omega (arith, e)) (slot_of (slice_index b.l0.starts start)) from to
-
-    character_within : (s p q : ℕ) → CharacterEdges b text s p q → q ≤ length text
-    character_within s p q (e, (c, is, h)) = let lt = got_short text p c is in omega (arith, e, lt)
-
-    pub match_within : (start at n : ℕ) → 0 < n → Matches b text start at (at + n) → at + n ≤ length text
-    match_within start at n some (tree, d) =
-        elim (tree_within b.l0 (CharacterEdges b text) (length text) character_within tree (slot_of (slice_index b.l0.starts start)) at (at + n) d) [ inl le ↦ le | inr e ↦ absurd (omega (arith, some, e)) ]
 
 pub matches_are_decided : MatchesAreDecided
 matches_are_decided b text start from to = matches_decided b text start from to

@@ -8,7 +8,7 @@ use Rattle.reading_model.specs.Reading.{Piece, Token, Skipped, IsLongest, IsKept
 use Rattle.finite_sets.specs.Decided.{IsDecided}
 use Rattle.finite_sets.proofs.Deciding.{lt_or}
 use Rattle.reading_laws.specs.Laws.{LexemesAreNamed, ReadingExists}
-use Rattle.reading_laws.proofs.Matching.{match_within}
+use Rattle.reading_model.proofs.Within.{match_within}
 use Rattle.reading_laws.proofs.Candidates.{longest_or, one_longest, kept_list, skipped_decided, found_list, expected_list}
 
 module _ (b : Built) (checked : IsChecked b.g1) (names : LexemesAreNamed b) (text : List ℕ) where

@@ -39,19 +39,24 @@ fn read_text<L: Ledger>(
     }
     let mut steps = Steps::<L>::of_blank(blank);
     let reading = read_input(alloc, &p, &chars, &mut steps)?;
-    match reading.ending {
+    let Reading {
+        recce,
+        spans,
+        ending,
+    } = reading;
+    match ending {
         Ending::End => Ok(Told {
-            spans: reading.spans,
+            spans,
             stopped: None,
             found: Vec::new(alloc),
-            expected: expected_lexemes(alloc, &p, &reading.recce)?,
+            expected: expected_lexemes(alloc, &p, &recce)?,
         }),
         Ending::Stopped {
             at,
             found,
             expected,
         } => Ok(Told {
-            spans: reading.spans,
+            spans,
             stopped: Some(at),
             found,
             expected,
