@@ -1,5 +1,7 @@
 //! Grammars by tables of their rules.
-ghost use Rattle.std.specs.Prelude.{◌<◌, length, IfOk};
+ghost use Rattle.std.specs.Prelude.{◌<◌, length, IfOk, OnOk};
+ghost use Rattle.grammar_model.specs.Checked.{IsChecked};
+ghost use Rattle.recognizer_model.specs.FlatForm.{IsFlatOf};
 
 use anyhow::bail;
 use flat_rules::flatten;
@@ -45,6 +47,8 @@ pub fn written_of(alloc: Global, language: &Language) -> Result<Written, CoreRef
 
 /// The flat grammar of a grammar that passes the check.
 pub fn flat_of(alloc: Global, w: &Written) -> Result<Flat, anyhow::Error>
+    ensures checked { OnOk result (IsChecked w.now) }
+    ensures flat { IfOk result (λ f. IsFlatOf f w.now) }
     ensures start { IfOk result (λ f. 0 < length f.tops) }
 {
     match check(alloc, w) {

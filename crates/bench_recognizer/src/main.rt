@@ -1,9 +1,12 @@
-//! Reads so many tokens by one of three grammars, and prints the number of items of all sets. With a third word it prints how long
-//! reading took.
+//! Reads so many tokens by one of five grammars, and prints the number of items of all sets. With the word `time` it prints how long
+//! reading took, and with the word `forest` it builds the forest, and prints how many nodes it has and how long that took.
 //!
 //!     bench_recognizer left TOKENS     S -> S a | a
+//!     bench_recognizer right TOKENS    S -> a S | a
 //!     bench_recognizer sum TOKENS      E -> E '+' N | N
 //!     bench_recognizer twice OPERANDS  E -> E '+' E | N
+//!     bench_recognizer json OBJECTS    an array of objects
+//!     bench_recognizer deep ARRAYS     arrays in arrays, by the same grammar
 #![tactic(auto)]
 
 mod grammar;
@@ -12,12 +15,16 @@ mod reading;
 mod tests;
 
 ghost use Rattle.std.specs.Prelude.{◌≡◌, ◌<◌, length};
+ghost use Rattle.grammar_model.specs.Checked.{IsChecked};
+ghost use Rattle.recognizer_model.specs.FlatForm.{IsFlatOf};
 
 use crate::grammar::{flat_of, written_of};
-use crate::reading::{Word, item_count, read};
+use crate::reading::{Word, item_count, read_all};
 use anyhow::bail;
+use bocage::Forest;
 use earley_sets::Recce;
-use grammar_core::Flat;
+use grammar_core::{Flat, Written};
+use grammar_model::Ranking;
 use slif_base::Steps;
 use std::env;
 use std::marker::Brand;
@@ -33,32 +40,79 @@ fn words_of(rt: &HostRuntime) -> Result<Vec<String>, anyhow::Error> {
     Ok(words)
 }
 
-// Reads the tokens, and prints what came of it.
+// What came of a run. Times are in microseconds.
+#[derive(Clone, Copy)]
+struct Outcome {
+    place: u32,
+    items: usize,
+    at_end: bool,
+    time: u128,
+    /// nodes, and the time of building
+    forest: Option<(usize, u128)>,
+}
+
+// The number of nodes of the forest, and how long it took.
+fn build<'r, L: Ledger>(
+    rt: &HostRuntime,
+    recce: &'r Recce<'r>,
+    w: &'r Written,
+    steps: &mut Steps<L>,
+) -> Result<(usize, u128), anyhow::Error>
+    requires checked { IsChecked w.now }
+    requires flat { IsFlatOf recce.now.flat w.now }
+{
+    let begun = Instant::now(rt)?;
+    let forest = Forest::build(rt.alloc(), recce, w, Ranking::Rule, steps)?;
+    let took = begun.elapsed(rt)?;
+    Ok((forest.node_count(), took.as_micros()))
+}
+
+// Reads the tokens, and may build the forest.
 fn run<L: Ledger>(
     rt: &HostRuntime,
     blank: Blank,
+    w: &Written,
     flat: &Flat,
     word: Word,
     count: u32,
-    timed: bool,
-) -> Result<(), anyhow::Error>
+    builds: bool,
+) -> Result<Outcome, anyhow::Error>
     requires name { blank.name ≡ L.name }
     requires parts { blank.parts ≡ L.parts }
     requires some { 0 < blank.parts }
+    requires checked { IsChecked w.now }
+    requires flat { IsFlatOf flat.now w.now }
     requires start { 0 < length flat.now.tops }
 {
     let mut steps = Steps::<L>::of_blank(blank);
     let begun = Instant::now(rt)?;
     let mut recce = Recce::new(rt.alloc(), flat, 0)?;
-    for k in 0..count {
-        read(&mut recce, word.token(k), &mut steps)?;
-    }
+    read_all(&mut recce, word, count, &mut steps)?;
     let took = begun.elapsed(rt)?;
-    println!(rt; "place {}", recce.place())?;
-    println!(rt; "items {}", item_count(&recce))?;
-    println!(rt; "at end {}", recce.at_end())?;
+    let forest = if builds {
+        Some(build(rt, &recce, w, &mut steps)?)
+    } else {
+        None
+    };
+    Ok(Outcome {
+        place: recce.place(),
+        items: item_count(&recce),
+        at_end: recce.at_end(),
+        time: took.as_micros(),
+        forest,
+    })
+}
+
+fn print(rt: &HostRuntime, outcome: Outcome, timed: bool) -> Result<(), anyhow::Error> {
+    println!(rt; "place {}", outcome.place)?;
+    println!(rt; "items {}", outcome.items)?;
+    println!(rt; "at end {}", outcome.at_end)?;
     if timed {
-        println!(rt; "us {}", took.as_micros())?;
+        println!(rt; "us {}", outcome.time)?;
+    }
+    if let Some((nodes, time)) = outcome.forest {
+        println!(rt; "nodes {nodes}")?;
+        println!(rt; "forest us {time}")?;
     }
     Ok(())
 }
@@ -72,12 +126,14 @@ fn main(rt: HostRuntime) -> Result<(), anyhow::Error> {
     let count = words[1].parse::<u32>()?;
     let written = written_of(rt.alloc(), &word.language())?;
     let flat = flat_of(rt.alloc(), &written)?;
-    run::<Brand>(
+    let outcome = run::<Brand>(
         &rt,
         Blank::new(1),
+        &written,
         &flat,
         word,
         word.tokens(count),
-        words.len() > 2,
-    )
+        words.len() > 2 && words[2].as_str() == "forest",
+    )?;
+    print(&rt, outcome, words.len() > 2)
 }

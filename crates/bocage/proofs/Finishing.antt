@@ -1,34 +1,22 @@
 -- What a walk found is the forest.
-use Rattle.std.proofs.Common.{◌≡◌, ◌≢◌, ℕ, zero, suc, ◌<◌, ◌≤◌, ◌+◌, ◌-◌, ◌++◌, ◌⊎◌, inl, inr, ◌↔◌, Contains, List, [], ◌∷◌, Option, Some, None, length, map, take, drop, get_or, slice_get, refl, sym, ◌∙◌, ap, subst, arith}
+use Rattle.std.proofs.Common.{◌≡◌, ℕ, suc, ◌<◌, ◌≤◌, ◌-◌, inl, inr, Contains, List, [], ◌∷◌, Some, None, length, map, get_or, slice_get, refl, sym, ◌∙◌, ap, subst, arith}
 use Rattle.std.specs.List.Sorted.{IsStrictlySortedBy}
-use Rattle.std.proofs.lemmas.List.{append-nil}
-use Rattle.std.proofs.lemmas.List.Elements.{Contains-append_cases, Contains-push_cases}
-use Rattle.grammar_model.specs.declared.Ranking.{Ranking}
-use Rattle.grammar_model.specs.Grammar.{Grammar}
 use Rattle.grammar_model.specs.declared.Edge.{Edge as HeldEdge}
-use Rattle.grammar_model.specs.Trees.{Tree, Children, Leaf, Nulled, Node}
-use Rattle.recognizer_model.specs.declared.Item.{Item}
+use Rattle.grammar_model.specs.Trees.{Tree, Leaf, Nulled, Node}
 use Rattle.recognizer_model.specs.declared.NodeKey.{NodeKey}
-use Rattle.recognizer_model.specs.declared.flat.FlatSymbol.TheVariants.{Terminal}
-use Rattle.recognizer_model.specs.Flat.{FlatGrammar, IsRule, lhs_of, rhs_of, part_of, IsNullable}
+use Rattle.recognizer_model.specs.Flat.{rhs_of, part_of}
 use Rattle.recognizer_model.specs.FlatDerives.{Derives, Token, Null, Rule, Spans}
-use Rattle.recognizer_model.specs.Contexts.{IsFound, Next}
-use Rattle.earley_sets.specs.Recognizer.{Recognizer, IsRecognizer, place_of, set_at, edges_of, top_of}
-use Rattle.earley_sets.proofs.Membership.{Contains-none, Contains-map, Contains-map_from, get_at, got_at, got_item, found_at}
-use Rattle.forest_model.specs.Forest.{Forest, ForestNode, Alternative, IsNode, IsSplit, IsAlternative, AreAlternatives, starts_cmp, ranks_high}
-use Rattle.bocage.specs.declared.parts.Part.{Part}
+use Rattle.recognizer_model.specs.Contexts.{Next}
+use Rattle.earley_sets.specs.Recognizer.{place_of, set_at, edges_of}
+use Rattle.earley_sets.proofs.Membership.{Contains-map_from, get_at}
+use Rattle.forest_model.specs.Forest.{Alternative, IsSplit, IsAlternative, AreAlternatives, starts_cmp, ranks_high}
 use Rattle.bocage.specs.declared.rows.AlternativeRow.{AlternativeRow}
-use Rattle.bocage.specs.declared.rows.NodeRow.{NodeRow}
 use Rattle.bocage.specs.declared.walk.Known.{Known}
-use Rattle.bocage.specs.declared.walk.Found.{Found}
-use Rattle.bocage.specs.Rows.{between, alternative_of, node_of, IsLastWithin, AreWithin, AreNodesWithin}
+use Rattle.bocage.specs.Rows.{alternative_of}
 use Rattle.bocage.specs.Parts.{IsPart, rule_key_of}
-use Rattle.bocage.specs.Walk.{seen, seen_by, IsUsedIn, node_after, front_of_key, IsNext, MayBegin, AreListed, Lists, ListsKey, Knows, AreWalked, GrowsBy}
-use Rattle.bocage.proofs.RowLemmas.{one_more_taken, from_between}
+use Rattle.bocage.specs.Walk.{seen_by, IsUsedIn, front_of_key, IsNext, MayBegin, AreListed, Knows}
 use Rattle.bocage.proofs.Splits.{in_set, used_within, derives_forward}
-use Rattle.bocage.proofs.Growing.{alternative_more, between_more, alternative_same, within_more, map_both, get_more}
 use Rattle.bocage.proofs.Putting.{spans_nothing}
-use Rattle.bocage.proofs.Wholes.{between_all, length_both, take_all}
 
 pub next_of_key : (k : Known) → Knows k → (key : NodeKey) → IsUsedIn k.recce.now key → (symbol : ℕ) → symbol ≡ get_or (rhs_of k.recce.now.flat key.rule) (key.dot - 1) 0 → IsNext k (front_of_key key) symbol key.end
 next_of_key k knows key used symbol e =

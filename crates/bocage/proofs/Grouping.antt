@@ -1,6 +1,6 @@
 -- Parts that derive one symbol up to one place, span by span.
-use Rattle.std.proofs.Common.{◌≡◌, ℕ, zero, suc, ◌<◌, ◌≤◌, ◌+◌, ◌-◌, ◌⊎◌, inl, inr, ◌↔◌, Bool, true, false, ◌==◌, if◌then◌else◌, eq-eqb, Contains, List, [], ◌∷◌, Some, length, map, take, drop, get_or, slice_get, refl, sym, ◌∙◌, ap, subst, arith}
-use Rattle.std.specs.declared.cmp.Ordering.TheVariants.{Less, Equal}
+use Rattle.std.proofs.Common.{◌≡◌, ℕ, zero, suc, ◌<◌, ◌≤◌, ◌+◌, ◌-◌, ◌⊎◌, inl, inr, ◌↔◌, Bool, true, false, ◌==◌, if◌then◌else◌, eq-eqb, Contains, List, [], ◌∷◌, Some, length, take, drop, get_or, slice_get, refl, sym, ◌∙◌, ap, subst, arith}
+use Rattle.std.specs.declared.cmp.Ordering.TheVariants.{Less}
 use Rattle.std.specs.Ordering.{ordering_then, nat_cmp}
 use Rattle.std.specs.Cmp.{nat_cmp_is}
 use Rattle.std.proofs.lemmas.Bool.{eqb-true, cases_lt}
@@ -15,9 +15,9 @@ use Rattle.bocage.specs.declared.walk.Found.{Found}
 use Rattle.bocage.specs.Rows.{between}
 use Rattle.bocage.specs.Parts.{part_cmp, part_at, no_part, IsPart}
 use Rattle.bocage.specs.Walk.{AreCandidates, IsGroup, IsNext, BeginsIn, MayBegin, Lists, Knows, is_high}
-use Rattle.bocage.proofs.PartLemmas.{SameEnds, SameSymbols, lengths_rise, sorted_between}
+use Rattle.bocage.proofs.PartLemmas.{lengths_rise, sorted_between}
 use Rattle.bocage.proofs.RowLemmas.{there}
-use Rattle.bocage.proofs.Growing.{lists_then, lists_same}
+use Rattle.bocage.proofs.Growing.{lists_then}
 
 not_same : (m n : ℕ) → m < n → (m == n) ≡ false
 not_same m n lt = go (m == n) refl

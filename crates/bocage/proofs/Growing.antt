@@ -1,5 +1,5 @@
 -- How what is found grows, and lists of alternatives one behind another.
-use Rattle.std.proofs.Common.{◌≡◌, ℕ, zero, suc, ◌<◌, ◌≤◌, ◌+◌, ◌-◌, ◌++◌, ◌⊎◌, inl, inr, ◌↔◌, Bool, Contains, List, [], ◌∷◌, Option, Some, None, length, map, take, drop, slice_get, refl, sym, ◌∙◌, ap, subst, arith}
+use Rattle.std.proofs.Common.{◌≡◌, ℕ, zero, suc, ◌≤◌, ◌-◌, ◌++◌, ◌⊎◌, inl, inr, ◌↔◌, Bool, Contains, List, [], ◌∷◌, Option, Some, None, length, map, take, drop, slice_get, refl, sym, ◌∙◌, ap, subst, arith}
 use Rattle.std.specs.declared.cmp.Ordering.{Ordering}
 use Rattle.std.specs.declared.cmp.Ordering.TheVariants.{Less}
 use Rattle.std.specs.List.{AllByRecursion}
@@ -11,8 +11,8 @@ use Rattle.grammar_model.specs.Grammar.{Grammar}
 use Rattle.recognizer_model.specs.declared.Item.{Item}
 use Rattle.recognizer_model.specs.declared.NodeKey.{NodeKey}
 use Rattle.earley_sets.specs.Recognizer.{Recognizer, set_at}
-use Rattle.earley_sets.proofs.Membership.{Contains-none, Contains-cons_cases, Contains-first, Contains-rest}
-use Rattle.forest_model.specs.Forest.{Forest, ForestNode, Last, AnEdge, Nothing, Wholes, Alternative, IsNode, IsFront, IsLast, AreWholes, IsWholeOver, IsAlternative, starts_cmp}
+use Rattle.earley_sets.proofs.Membership.{Contains-none, Contains-first, Contains-rest}
+use Rattle.forest_model.specs.Forest.{Forest, ForestNode, Last, AnEdge, Nothing, Wholes, Alternative, IsNode, IsFront, IsLast, IsWholeOver, IsAlternative, starts_cmp}
 use Rattle.bocage.specs.declared.rows.AlternativeRow.{AlternativeRow}
 use Rattle.bocage.specs.declared.rows.LastRow.{LastRow}
 use Rattle.bocage.specs.declared.rows.LastRow.TheVariants as row

@@ -1,5 +1,5 @@
 -- Keys of nodes that stand in a set.
-use Rattle.std.proofs.Common.{rules, ◌≡◌, ◌==◌, ◌&&◌, ◌≢◌, ℕ, zero, suc, ◌<◌, length, get_or, subst, arith, Bool, true, false, List, [], ◌∷◌, sym, ◌∙◌, true≢false}
+use Rattle.std.proofs.Common.{rules, ◌≡◌, ◌==◌, ◌&&◌, ◌≢◌, ℕ, zero, suc, ◌<◌, length, get_or, subst, arith, Bool, false, List, [], ◌∷◌, sym, ◌∙◌, true≢false}
 use Rattle.std.specs.Cmp.{IsEquivalence}
 use Rattle.std.specs.Cmp.Rules.{comparing}
 use Rattle.std.specs.List.{IsDistinct, AllPairs, AllByRecursion}

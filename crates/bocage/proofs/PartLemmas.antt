@@ -1,5 +1,5 @@
 -- Parts in order: those with one end, one symbol or one length stand together.
-use Rattle.std.proofs.Common.{◌≡◌, ℕ, zero, suc, ◌<◌, ◌≤◌, ◌+◌, ◌-◌, ◌⊎◌, inl, inr, ◌↔◌, Contains, List, [], ◌∷◌, length, get_or, take, drop, refl, sym, ◌∙◌, ap, subst, arith}
+use Rattle.std.proofs.Common.{◌≡◌, ℕ, zero, suc, ◌<◌, ◌≤◌, ◌-◌, ◌⊎◌, inl, inr, ◌↔◌, Contains, List, [], ◌∷◌, length, get_or, take, drop, ◌∙◌, ap, subst, arith}
 use Rattle.std.specs.Prelude.{nat_lt, nat_le, slice_index_or}
 use Rattle.std.specs.declared.cmp.Ordering.{Ordering}
 use Rattle.std.specs.declared.cmp.Ordering.TheVariants.{Less, Equal, Greater}
@@ -11,7 +11,6 @@ use Rattle.std.proofs.lemmas.Bool.{ltb-true, leb-true, lt-ltb, le-leb, cases_lt}
 use Rattle.std.proofs.lemmas.Map.Keys.{Less-from_sorted}
 use Rattle.grammar_core.proofs.Placed.{part_from, part_to, found_at, at_found}
 use Rattle.grammar_core.proofs.Halving.{index_get}
-use Rattle.earley_sets.proofs.Membership.{Contains-none}
 use Rattle.bocage.specs.declared.parts.Part.{Part}
 use Rattle.std.specs.Option.{option_cmp}
 use Rattle.bocage.specs.Parts.{key_cmp, part_cmp, part_at, no_part}

@@ -1,10 +1,9 @@
 -- The order of parts is total, and tells parts apart.
-use Rattle.std.proofs.Common.{◌≡◌, ℕ, Bool, true, false, ◌==◌, ◌&&◌, Some, None, Option, refl, sym, ◌∙◌, ap, subst, arith}
+use Rattle.std.proofs.Common.{◌≡◌, Bool, true, false, ◌==◌, ◌&&◌, Some, None, Option, refl, sym, ◌∙◌, ap, subst}
 use mathlib.Core.Bool.{beq}
-use lib.IntN.{ℤ}
 use Rattle.std.specs.declared.cmp.Ordering.{Ordering}
 use Rattle.std.specs.declared.cmp.Ordering.TheVariants.{Less, Equal, Greater}
-use Rattle.std.specs.Ordering.{ordering_then, ordering_reverse, nat_cmp, int_cmp, int_eq, bool_cmp, eq_by_cmp, is_eq}
+use Rattle.std.specs.Ordering.{ordering_reverse, nat_cmp, int_cmp, int_eq, bool_cmp, eq_by_cmp, is_eq}
 use Rattle.std.specs.Option.{option_cmp, option_eq}
 use Rattle.std.specs.Cmp.{IsTotalOrder, IsEquivalence, unsigned_ties, both_tied, bool_cmp_total, eq_by_cmp_equiv}
 use Rattle.std.specs.Cmp.Lexicographic.{options_total}

@@ -1,31 +1,30 @@
 -- One alternative more.
-use Rattle.std.proofs.Common.{rules, ◌≡◌, ℕ, zero, suc, ◌<◌, ◌≤◌, ◌+◌, ◌-◌, ◌++◌, ◌⊎◌, inl, inr, ◌↔◌, Bool, true, false, true≢false, ◌==◌, ◌&&◌, Contains, List, [], ◌∷◌, Option, Some, None, length, map, slice_get, refl, sym, ◌∙◌, ap, subst, arith}
-use Rattle.std.specs.declared.cmp.Ordering.TheVariants.{Less}
+use Rattle.std.proofs.Common.{rules, ◌≡◌, ℕ, ◌<◌, ◌≤◌, ◌++◌, inl, inr, ◌↔◌, true, Contains, List, [], ◌∷◌, Option, Some, None, length, refl, sym, ◌∙◌, ap, subst, arith}
 use Rattle.std.specs.List.{list_any}
 use Rattle.std.specs.List.Sorted.{IsStrictlySortedBy}
 use Rattle.std.specs.Cmp.{IsEquivalence}
 use Rattle.std.specs.Cmp.Rules.{comparing}
 use Rattle.std.proofs.lemmas.Map.Views.{Contains-from_any, list_any-from_Contains}
 use Rattle.grammar_model.specs.Trees.{Tree, Children}
-use Rattle.grammar_model.specs.Derives.{Edges, Held}
+use Rattle.grammar_model.specs.Derives.{Edges}
 use Rattle.recognizer_model.specs.declared.Item.{Item}
 use Rattle.recognizer_model.specs.declared.NodeKey.{NodeKey}
-use Rattle.recognizer_model.specs.Flat.{FlatGrammar, IsRule, lhs_of, rhs_of, part_of, IsNullable}
-use Rattle.recognizer_model.specs.FlatDerives.{Derives, Token, Null, Rule, Spans, Nothing, More}
-use Rattle.recognizer_model.specs.Nodes.{IsUsed, IsMet, Before, Last}
-use Rattle.earley_sets.specs.Recognizer.{Recognizer, IsRecognizer, place_of, set_at, edges_of, top_of}
+use Rattle.recognizer_model.specs.Flat.{FlatGrammar, IsRule, lhs_of, rhs_of}
+use Rattle.recognizer_model.specs.FlatDerives.{Derives, Spans, Nothing, More}
+use Rattle.recognizer_model.specs.Nodes.{Before, Last}
+use Rattle.earley_sets.specs.Recognizer.{Recognizer, place_of, set_at, edges_of}
 use Rattle.earley_sets.proofs.Membership.{Contains-none, Contains-first, Contains-cons_cases}
-use Rattle.forest_model.specs.Forest.{Forest, IsFront, IsLast, IsAlternative, starts_cmp}
+use Rattle.forest_model.specs.Forest.{IsFront, IsLast, IsAlternative}
 use Rattle.bocage.specs.declared.index.Placed.{Placed}
 use Rattle.bocage.specs.declared.rows.AlternativeRow.{AlternativeRow}
 use Rattle.bocage.specs.declared.rows.LastRow.{LastRow}
 use Rattle.bocage.specs.declared.walk.Known.{Known}
 use Rattle.bocage.specs.declared.walk.Found.{Found}
 use Rattle.bocage.specs.Rows.{last_of, alternative_of, IsLastWithin}
-use Rattle.bocage.specs.Walk.{seen_by, GrowsBy, IsUsedIn, node_of_item, node_after, IsFrontFound, AreListed, Lists, IsNext, Knows, is_high}
+use Rattle.bocage.specs.Walk.{seen_by, GrowsBy, IsUsedIn, node_of_item, node_after, IsFrontFound, Lists, IsNext, Knows}
 use Rattle.bocage.proofs.Gathering.{placed_eq, placed_eq-true}
-use Rattle.bocage.proofs.Growing.{node_seen, grows_weaker, grows_then}
-use Rattle.bocage.proofs.Splits.{in_set, used_met, met_stands}
+use Rattle.bocage.proofs.Growing.{node_seen}
+use Rattle.bocage.proofs.Splits.{in_set, used_met}
 
 placed_laws : IsEquivalence placed_eq
 placed_laws = search (comparing, rules)

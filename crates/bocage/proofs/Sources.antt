@@ -1,12 +1,11 @@
 -- What flat rules come from, and even numbers.
-use Rattle.std.proofs.Common.{◌≡◌, ◌≢◌, ℕ, zero, suc, ◌<◌, ◌%◌, Bool, true, false, List, [], ◌∷◌, length, map, get_or, slice_get, Some, Contains, nat_eq, ◌+◌, refl, sym, ◌∙◌, ap, subst, arith}
+use Rattle.std.proofs.Common.{◌≡◌, ℕ, zero, suc, ◌<◌, ◌%◌, Bool, true, false, List, [], ◌∷◌, length, get_or, slice_get, Some, nat_eq, ◌+◌, refl, sym, ◌∙◌, ap, subst, arith}
 use Rattle.std.specs.Prelude.{slice_index_or, not}
 use Rattle.grammar_model.specs.Grammar.{Grammar, is_even, rule_at, no_rule, WrittenRule}
 use Rattle.recognizer_model.specs.declared.flat.FlatSource.{FlatSource}
-use Rattle.recognizer_model.specs.declared.flat.FlatSource.TheVariants.{Written, Top as OfStart}
-use Rattle.recognizer_model.specs.FlatRule.{FlatRule}
+use Rattle.recognizer_model.specs.declared.flat.FlatSource.TheVariants.{Written}
 use Rattle.recognizer_model.specs.Flat.{FlatGrammar, IsRule, source_of, no_rule as no_flat_rule}
-use Rattle.recognizer_model.specs.FlatForm.{IsFlatOf, IsRuleOf, NamedRule, OfPlain, OfList, OfTrailing, OfItem, OfItems, OfSeparated, OfTop, named, source_number, IsSymbolOf}
+use Rattle.recognizer_model.specs.FlatForm.{IsFlatOf, IsRuleOf, NamedRule, OfPlain, OfList, OfTrailing, OfItem, OfItems, OfSeparated, OfTop, named, source_number}
 use Rattle.earley_sets.proofs.Membership.{Contains-map, got_at}
 use Rattle.bocage.proofs.RowLemmas.{there}
 

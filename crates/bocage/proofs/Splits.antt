@@ -1,13 +1,11 @@
 -- What the sets of a recognizer say of derivations.
-use Rattle.std.proofs.Common.{◌≡◌, ◌≢◌, ℕ, zero, suc, ◌<◌, ◌≤◌, ◌+◌, ◌-◌, ◌⊎◌, inl, inr, ◌↔◌, Contains, List, [], ◌∷◌, length, slice_get, Some, refl, sym, ◌∙◌, ap, subst, arith}
-use Rattle.std.specs.Prelude.{slice_index}
+use Rattle.std.proofs.Common.{ℕ, ◌<◌, ◌≤◌, ◌↔◌, Contains, length, refl, arith}
 use Rattle.grammar_model.specs.Trees.{Tree, Children}
-use Rattle.grammar_model.specs.Derives.{Edges, Held}
+use Rattle.grammar_model.specs.Derives.{Edges}
 use Rattle.recognizer_model.specs.declared.Item.{Item}
 use Rattle.recognizer_model.specs.declared.NodeKey.{NodeKey}
-use Rattle.recognizer_model.specs.Flat.{FlatGrammar, IsRule, lhs_of, rhs_of, part_of, IsNullable}
+use Rattle.recognizer_model.specs.Flat.{FlatGrammar, IsRule, lhs_of, rhs_of}
 use Rattle.recognizer_model.specs.FlatDerives.{Derives, Token, Null, Rule, Spans, Nothing, More}
-use Rattle.recognizer_model.specs.Items.{InSet}
 use Rattle.recognizer_model.specs.Contexts.{IsTop, IsFound, MayStand, AtStart, Next}
 use Rattle.recognizer_model.specs.Nodes.{IsUsed, IsMet, Whole, Before, Last}
 use Rattle.recognizer_model.proofs.Earley.{items_are_found}

@@ -1,20 +1,20 @@
 -- The walk, node by node.
-use Rattle.std.proofs.Common.{◌≡◌, ◌≢◌, ℕ, zero, suc, ◌<◌, ◌≤◌, ◌+◌, ◌-◌, ◌++◌, ◌⊎◌, inl, inr, ◌↔◌, Contains, List, [], ◌∷◌, Option, Some, None, length, map, take, drop, get_or, slice_get, refl, sym, ◌∙◌, ap, subst, arith}
+use Rattle.std.proofs.Common.{◌≡◌, ℕ, zero, suc, ◌≤◌, ◌+◌, ◌++◌, inl, inr, ◌↔◌, Contains, List, [], ◌∷◌, Option, Some, None, length, map, take, slice_get, refl, sym, ◌∙◌, ap, subst, arith}
 use Rattle.std.proofs.lemmas.List.Elements.{Contains-append_cases, Contains-push_cases}
 use Rattle.grammar_model.specs.declared.Ranking.{Ranking}
 use Rattle.grammar_model.specs.Grammar.{Grammar}
 use Rattle.recognizer_model.specs.declared.NodeKey.{NodeKey}
 use Rattle.earley_sets.specs.Recognizer.{Recognizer, place_of}
-use Rattle.earley_sets.proofs.Membership.{Contains-none, Contains-cons_cases, Contains-first, Contains-rest, got_at}
-use Rattle.forest_model.specs.Forest.{Forest, ForestNode, Alternative, IsNode, IsFront, IsLast, Last, AnEdge, Nothing, Wholes, IsWholeOver, IsSplit, IsAlternative, AreAlternatives}
+use Rattle.earley_sets.proofs.Membership.{Contains-none, Contains-first, Contains-rest, got_at}
+use Rattle.forest_model.specs.Forest.{Forest, ForestNode, Alternative, IsNode, IsFront, IsLast, Last, AnEdge, Nothing, Wholes, IsWholeOver, IsSplit, AreAlternatives}
 use Rattle.bocage.specs.declared.rows.AlternativeRow.{AlternativeRow}
 use Rattle.bocage.specs.declared.rows.NodeRow.{NodeRow}
 use Rattle.bocage.specs.declared.walk.Known.{Known}
 use Rattle.bocage.specs.declared.walk.Found.{Found}
-use Rattle.bocage.specs.Rows.{between, alternative_of, node_of, IsLastWithin, AreWithin, AreNodesWithin}
-use Rattle.bocage.specs.Walk.{bare, seen, seen_by, IsUsedIn, front_of_key, MayBegin, Lists, ListsKey, Knows, AreWalked, GrowsBy}
-use Rattle.bocage.proofs.RowLemmas.{one_more_taken, from_between, taken_whole}
-use Rattle.bocage.proofs.Growing.{between_more, alternative_same, within_more, map_both, get_more, take_more, length_more}
+use Rattle.bocage.specs.Rows.{between, alternative_of, IsLastWithin}
+use Rattle.bocage.specs.Walk.{bare, seen_by, IsUsedIn, ListsKey, Knows, AreWalked}
+use Rattle.bocage.proofs.RowLemmas.{one_more_taken, from_between}
+use Rattle.bocage.proofs.Growing.{between_more, alternative_same, within_more, map_both, get_more, take_more}
 use Rattle.bocage.proofs.Wholes.{between_all, length_both}
 use Rattle.bocage.proofs.Finishing.{key_law}
 

@@ -1,34 +1,28 @@
 -- The forest of a walk.
-use Rattle.std.proofs.Common.{◌≡◌, ◌≢◌, ℕ, zero, suc, ◌<◌, ◌≤◌, ◌+◌, ◌-◌, ◌++◌, ◌⊎◌, inl, inr, ◌↔◌, Contains, List, [], ◌∷◌, Option, Some, None, length, map, take, get_or, slice_get, refl, sym, ◌∙◌, ap, subst, arith}
-use Rattle.std.specs.Prelude.{slice_index, AllPairs}
+use Rattle.std.proofs.Common.{◌≡◌, ◌≢◌, ℕ, suc, ◌<◌, ◌≤◌, ◌++◌, inl, inr, Contains, List, Option, Some, None, length, map, get_or, slice_get, refl, sym, ◌∙◌, ap, subst, arith}
+use Rattle.std.specs.Prelude.{AllPairs}
 use Rattle.std.proofs.lemmas.Bool.{cases_lt}
-use Rattle.grammar_model.specs.declared.Edge.{Edge as HeldEdge}
-use Rattle.grammar_model.specs.Trees.{Tree, Children, Leaf, Nulled, Node, NoChild, Child}
-use Rattle.grammar_model.specs.Derives as View
-use Rattle.grammar_model.specs.Derives.{Held}
+use Rattle.grammar_model.specs.Trees.{Tree, Children, Nulled, Node, NoChild, Child}
 use Rattle.grammar_model.specs.Grammar.{slot_of}
 use Rattle.recognizer_model.specs.declared.NodeKey.{NodeKey}
-use Rattle.recognizer_model.specs.declared.flat.FlatSymbol.TheVariants.{Terminal}
 use Rattle.recognizer_model.specs.Flat.{FlatGrammar, IsRule, lhs_of, rhs_of, part_of, IsNullable}
 use Rattle.recognizer_model.specs.FlatDerives.{Derives, Token, Null, Rule, Spans, More}
 use Rattle.recognizer_model.specs.FlatDerives as Flat
-use Rattle.recognizer_model.specs.View.{grammar_view}
 use Rattle.recognizer_model.specs.Nodes.{IsUsed, IsMet, Whole, Before, Last}
 use Rattle.recognizer_model.specs.Counts.{IsListOf}
 use Rattle.recognizer_model.proofs.Views.{symbol_back}
-use Rattle.earley_sets.specs.Recognizer.{Recognizer, IsRecognizer, HasTree, place_of, set_at, edges_of, top_of, start_symbol}
+use Rattle.earley_sets.specs.Recognizer.{Recognizer, HasTree, place_of, edges_of, top_of, start_symbol}
 use Rattle.earley_sets.proofs.Recognizing.{only}
-use Rattle.earley_sets.proofs.Membership.{Contains-none, Contains-map, Contains-map_from, get_at, got_at, got_item, found_at}
+use Rattle.earley_sets.proofs.Membership.{Contains-none, Contains-map_from, get_at, got_at, got_item, found_at}
 use Rattle.forest_model.specs.Forest as model
 use Rattle.forest_model.specs.Forest.{Forest, ForestNode, Alternative, IsNode, IsFront, IsLast, AnEdge, Nothing, Wholes, IsSplit, AreAlternatives, IsForest, IsDerived, IsRoot, IsAlternative, whole_key}
-use Rattle.bocage.specs.declared.rows.AlternativeRow.{AlternativeRow}
 use Rattle.bocage.specs.declared.rows.NodeRow.{NodeRow}
 use Rattle.bocage.specs.declared.walk.Known.{Known}
 use Rattle.bocage.specs.declared.walk.Found.{Found}
 use Rattle.bocage.specs.Rows.{between, alternative_of, node_of}
-use Rattle.bocage.specs.Walk.{bare, seen, seen_by, IsUsedIn, Knows, AreWalked, IsBegun, top_key, rows_of}
+use Rattle.bocage.specs.Walk.{bare, seen_by, IsUsedIn, Knows, AreWalked, IsBegun, top_key}
 use Rattle.bocage.proofs.RowLemmas.{taken_whole}
-use Rattle.bocage.proofs.Splits.{is_top, used_met, derives_forward}
+use Rattle.bocage.proofs.Splits.{is_top, used_met}
 use Rattle.bocage.proofs.Growing.{seen_node, get_map, get_mapped, get_more}
 use Rattle.bocage.proofs.Finishing.{map_map}
 use Rattle.bocage.proofs.Walking.{alternatives_moved}

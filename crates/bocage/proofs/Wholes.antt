@@ -1,5 +1,5 @@
 -- Parts over one span: an edge, or the whole rules of a symbol.
-use Rattle.std.proofs.Common.{◌≡◌, ◌≢◌, ℕ, zero, suc, ◌<◌, ◌≤◌, ◌+◌, ◌-◌, ◌++◌, ◌⊎◌, inl, inr, ◌↔◌, Contains, List, [], ◌∷◌, Option, Some, None, length, map, take, drop, get_or, slice_get, refl, sym, ◌∙◌, ap, subst, arith}
+use Rattle.std.proofs.Common.{◌≡◌, ℕ, zero, suc, ◌<◌, ◌≤◌, ◌+◌, ◌-◌, ◌++◌, inl, inr, Contains, List, [], ◌∷◌, Option, Some, None, length, map, take, drop, slice_get, refl, sym, ◌∙◌, ap, subst, arith}
 use Rattle.std.specs.declared.cmp.Ordering.{Ordering}
 use Rattle.std.specs.declared.cmp.Ordering.TheVariants.{Less, Equal, Greater}
 use Rattle.std.specs.Ordering.{ordering_then, nat_cmp, int_cmp, bool_cmp}
@@ -8,26 +8,26 @@ use Rattle.std.specs.Cmp.{nat_cmp_is}
 use Rattle.std.specs.List.{AllByRecursion}
 use Rattle.std.specs.List.Sorted.{IsStrictlySortedBy}
 use Rattle.std.proofs.lemmas.List.{append-nil}
-use Rattle.std.proofs.lemmas.List.Elements.{at_from_Contains, Contains-append_left, Contains-append_right, Contains-append_cases}
+use Rattle.std.proofs.lemmas.List.Elements.{at_from_Contains, Contains-append_right}
 use Rattle.grammar_model.specs.declared.Edge.{Edge as HeldEdge}
 use Rattle.grammar_model.specs.Trees.{Tree, Children, Leaf, Node}
 use Rattle.recognizer_model.specs.declared.Item.{Item}
 use Rattle.recognizer_model.specs.declared.NodeKey.{NodeKey}
 use Rattle.recognizer_model.specs.declared.flat.FlatSymbol.TheVariants.{Terminal}
-use Rattle.recognizer_model.specs.Flat.{FlatGrammar, IsRule, lhs_of, rhs_of, part_of, IsNullable}
-use Rattle.recognizer_model.specs.FlatDerives.{Derives, Token, Null, Rule, Spans}
-use Rattle.recognizer_model.specs.Contexts.{IsFound, MayStand, Next}
-use Rattle.earley_sets.specs.Recognizer.{Recognizer, IsRecognizer, place_of, set_at, edges_of, top_of}
+use Rattle.recognizer_model.specs.Flat.{FlatGrammar, IsRule, lhs_of, rhs_of}
+use Rattle.recognizer_model.specs.FlatDerives.{Derives, Token, Rule, Spans}
+use Rattle.recognizer_model.specs.Contexts.{IsFound, Next}
+use Rattle.earley_sets.specs.Recognizer.{place_of, set_at, edges_of, top_of}
 use Rattle.earley_sets.proofs.Membership.{Contains-none, Contains-first, Contains-rest, Contains-cons_cases}
-use Rattle.forest_model.specs.Forest.{Forest, AreWholes, IsWholeOver, IsNode, IsLast, whole_key, rules_cmp}
+use Rattle.forest_model.specs.Forest.{AreWholes, IsWholeOver, IsLast, whole_key, rules_cmp}
 use Rattle.bocage.specs.declared.parts.RuleKey.{RuleKey}
 use Rattle.bocage.specs.declared.parts.Part.{Part}
 use Rattle.bocage.specs.declared.rows.LastRow.{LastRow}
 use Rattle.bocage.specs.declared.rows.LastRow.TheVariants as row
 use Rattle.bocage.specs.declared.walk.Known.{Known}
 use Rattle.bocage.specs.Rows.{between, last_of, IsLastWithin}
-use Rattle.bocage.specs.Parts.{part_cmp, key_cmp, part_at, no_part, rule_key_of, IsPart, IsEdgeOf, IsWholeOf}
-use Rattle.bocage.specs.Walk.{seen_by, IsUsedIn, node_of_item, node_after, whole_keys, whole_keys_by, AreNumbers, AddsWholes, IsLastFound, IsGroup, IsNext, Knows, Lists, GrowsBy, IsFrontFound, FitsPart, HasRule}
+use Rattle.bocage.specs.Parts.{part_cmp, key_cmp, part_at, no_part, rule_key_of, IsPart, IsWholeOf}
+use Rattle.bocage.specs.Walk.{seen_by, IsUsedIn, node_of_item, node_after, whole_keys, whole_keys_by, AreNumbers, IsLastFound, IsGroup, IsNext, Knows, Lists, GrowsBy, IsFrontFound, FitsPart, HasRule}
 use Rattle.bocage.specs.declared.walk.Found.{Found}
 use Rattle.bocage.proofs.Putting.{whole_used, front_used, put_one}
 use Rattle.bocage.proofs.PartLemmas.{then_rest}

@@ -1,5 +1,5 @@
 -- Edges and whole rules, as what may be the last part of a node, and their order.
-use Rattle.std.specs.Prelude.{◌≡◌, ℕ, ◌+◌, ◌-◌, ◌<◌, ◌≤◌, List, [], ◌∷◌, length, Option, Some, None, Contains, ◌⊎◌, slice_get, slice_index_or}
+use Rattle.std.specs.Prelude.{◌≡◌, ℕ, ◌+◌, ◌<◌, ◌≤◌, List, length, Some, None, Contains, ◌⊎◌, slice_get, slice_index_or}
 use Rattle.grammar_model.specs.declared.Edge.{Edge as HeldEdge}
 use Rattle.recognizer_model.specs.declared.flat.FlatSymbol.TheVariants.{Terminal}
 use Rattle.std.specs.declared.cmp.Ordering.{Ordering}
@@ -9,7 +9,6 @@ use Rattle.grammar_model.specs.declared.Ranking.{Ranking}
 use Rattle.grammar_model.specs.Grammar.{Grammar, rule_at, has_trailing}
 use Rattle.grammar_model.specs.Order.{rank_by}
 use Rattle.recognizer_model.specs.declared.Item.{Item}
-use Rattle.recognizer_model.specs.declared.NodeKey.{NodeKey}
 use Rattle.recognizer_model.specs.Flat.{FlatGrammar, lhs_of, rhs_of, source_of}
 use Rattle.recognizer_model.specs.FlatForm.{source_number, list_length}
 use Rattle.earley_sets.specs.Recognizer.{Recognizer, place_of, set_at}

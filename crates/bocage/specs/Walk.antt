@@ -10,7 +10,7 @@ use Rattle.recognizer_model.specs.Flat.{FlatGrammar, IsRule, rhs_of, part_of, Is
 use Rattle.recognizer_model.specs.FlatForm.{IsFlatOf, flat_order}
 use Rattle.recognizer_model.specs.Nodes.{IsUsed}
 use Rattle.earley_sets.specs.Recognizer.{Recognizer, IsRecognizer, place_of, set_at, edges_of, top_of}
-use Rattle.forest_model.specs.Forest.{Forest, ForestNode, Alternative, IsAlternative, AreAlternatives, starts_cmp}
+use Rattle.forest_model.specs.Forest.{Forest, ForestNode, IsAlternative, AreAlternatives, starts_cmp}
 use Rattle.bocage.specs.declared.index.Placed.{Placed}
 use Rattle.bocage.specs.declared.parts.Part.{Part}
 use Rattle.bocage.specs.declared.parts.RuleKey.{RuleKey}

@@ -1,5 +1,5 @@
-use Rattle.std.proofs.Common.{◌≡◌, ◌∙◌, ℕ, ◌<◌, ◌≤◌, [], List, length, Contains, slice_get, inl, inr, sym, ap, subst, arith}
-use Rattle.earley_sets.specs.Recognizer.{set_at, place_of}
+use Rattle.std.proofs.Common.{◌≡◌, ℕ, [], List, Contains, inl, inr, sym, subst, arith}
+use Rattle.earley_sets.specs.Recognizer.{set_at}
 use Rattle.bocage.specs.declared.index.Placed.{Placed}
 use Rattle.bocage.proofs.Gathering.{Gains, ByBelow, below_none, below_more}
 use Rattle.earley_sets.proofs.Membership.{Contains-none}

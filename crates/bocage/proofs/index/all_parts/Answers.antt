@@ -1,10 +1,10 @@
-use Rattle.std.proofs.Common.{◌≡◌, ◌∙◌, ℕ, ◌<◌, ◌≤◌, ◌⊎◌, [], List, length, Contains, inl, inr, sym, ap, subst, arith}
+use Rattle.std.proofs.Common.{ℕ, ◌<◌, List, Contains, inl, inr, subst, arith}
 use Rattle.recognizer_model.specs.declared.Item.{Item}
-use Rattle.earley_sets.specs.Recognizer.{set_at, place_of}
+use Rattle.earley_sets.specs.Recognizer.{set_at}
 use Rattle.earley_sets.proofs.Membership.{Contains-none}
 use Rattle.bocage.specs.declared.parts.Part.{Part}
-use Rattle.bocage.specs.Parts.{IsWholeOf, IsPart, IsEdgePart, IsWholePart}
-use Rattle.bocage.proofs.Gathering.{Gains, ByBelow, below_none, below_more}
+use Rattle.bocage.specs.Parts.{IsWholeOf, IsPart}
+use Rattle.bocage.proofs.Gathering.{below_none, below_more}
 use Rattle.bocage.proofs.index.all_parts.Goals as goal
 
 pub loop-end-init : goal.loop-end-init

@@ -1,4 +1,4 @@
-use Rattle.std.proofs.Common.{◌≡◌, ◌∙◌, ℕ, ◌<◌, ◌≤◌, [], List, length, Contains, slice_get, sym, ap, subst, arith}
+use Rattle.std.proofs.Common.{◌∙◌, ◌≤◌, List, length, slice_get, sym, ap, subst}
 use Rattle.recognizer_model.specs.declared.Item.{Item}
 use Rattle.earley_sets.specs.Recognizer.{set_at}
 use Rattle.bocage.specs.declared.parts.Part.{Part}

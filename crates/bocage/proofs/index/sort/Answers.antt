@@ -1,4 +1,4 @@
-use Rattle.std.proofs.Common.{◌∙◌, List, Contains, sym, subst}
+use Rattle.std.proofs.Common.{List, Contains, sym, subst}
 use Rattle.std.specs.List.Sorted.{IsStrictlySortedBy}
 use Rattle.std.proofs.lemmas.List.Filters.{dedup_is}
 use Rattle.std.proofs.lemmas.List.Kept.{IsStrictlySortedBy-dedup, Contains-from_dedup, Contains-dedup}

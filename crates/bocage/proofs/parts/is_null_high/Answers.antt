@@ -1,5 +1,5 @@
-use Rattle.std.proofs.Common.{sym, ap}
-use Rattle.bocage.proofs.Sources.{source_within, past_rules}
+use Rattle.std.proofs.Common.{sym}
+use Rattle.bocage.proofs.Sources.{source_within}
 use Rattle.bocage.proofs.parts.is_null_high.Goals as goal
 
 pub written_rule-requires : goal.written_rule-requires

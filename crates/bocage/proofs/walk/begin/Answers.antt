@@ -1,7 +1,6 @@
-use Rattle.std.proofs.Common.{◌≡◌, ◌∙◌, ◌<◌, ◌++◌, ℕ, List, [], Some, length, slice_get, Contains, sym, ap, subst, arith}
+use Rattle.std.proofs.Common.{◌≡◌, ◌∙◌, ◌++◌, ℕ, List, Some, length, Contains, ap, subst, arith}
 use Rattle.recognizer_model.specs.declared.NodeKey.{NodeKey}
-use Rattle.recognizer_model.specs.Flat.{FlatGrammar, rhs_of}
-use Rattle.earley_sets.specs.Recognizer.{place_of, top_of}
+use Rattle.recognizer_model.specs.Flat.{rhs_of}
 use Rattle.bocage.specs.Walk.{top_key}
 use Rattle.bocage.proofs.Whole.{top_is}
 use Rattle.bocage.proofs.walk.begin.Goals as goal

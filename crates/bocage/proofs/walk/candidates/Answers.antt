@@ -1,5 +1,4 @@
-use Rattle.std.proofs.Common.{◌≡◌, ◌∙◌, ◌+◌, ◌-◌, ◌≤◌, ◌<◌, ℕ, Contains, sym, arith}
-use Rattle.bocage.specs.declared.parts.Part.{Part}
+use Rattle.std.proofs.Common.{◌∙◌, sym, arith}
 use Rattle.bocage.proofs.walk.candidates.Goals as goal
 
 pub parts_of-parts-requires-clause-ends : goal.parts_of-parts-requires-clause-ends

@@ -1,10 +1,9 @@
-use Rattle.std.proofs.Common.{rules, ◌≡◌, ◌∙◌, ◌+◌, ◌-◌, ◌≤◌, ◌<◌, ℕ, List, Contains, true, true≢false, sym, ap, subst, arith, Option, Some}
+use Rattle.std.proofs.Common.{rules, ◌≡◌, ◌+◌, ◌-◌, Contains, true, sym, subst, arith}
 use Rattle.recognizer_model.specs.declared.NodeKey.{NodeKey}
 use Rattle.recognizer_model.specs.Flat.{FlatGrammar}
-use Rattle.earley_sets.specs.Recognizer.{set_at, place_of}
-use Rattle.bocage.specs.declared.parts.Part.{Part}
+use Rattle.earley_sets.specs.Recognizer.{set_at}
 use Rattle.bocage.specs.Parts.{no_part, part_at}
-use Rattle.bocage.specs.Walk.{FitsPart, Lists, whole_keys, GrowsBy, IsLastFound}
+use Rattle.bocage.specs.Walk.{FitsPart, whole_keys, GrowsBy, IsLastFound}
 use Rattle.bocage.proofs.RowLemmas.{there}
 use Rattle.bocage.proofs.Growing.{lists_none}
 use Rattle.bocage.proofs.Wholes.{fits_part, put_group}

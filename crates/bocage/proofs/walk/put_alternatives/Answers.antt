@@ -1,8 +1,7 @@
-use Rattle.std.proofs.Common.{◌≡◌, ◌∙◌, ◌+◌, ◌-◌, ◌≤◌, ◌<◌, ℕ, List, [], length, take, Contains, sym, ap, subst, arith}
+use Rattle.std.proofs.Common.{◌≡◌, ◌+◌, List, [], sym, subst, arith}
 use Rattle.earley_sets.proofs.Membership.{Contains-none}
 use Rattle.bocage.specs.declared.parts.Part.{Part}
 use Rattle.bocage.specs.Parts.{part_at}
-use Rattle.bocage.specs.Rows.{between}
 use Rattle.bocage.specs.Walk.{Lists, BeginsIn, IsGroup, IsNext}
 use Rattle.bocage.proofs.RowLemmas.{taken_whole}
 use Rattle.bocage.proofs.Growing.{lists_none}

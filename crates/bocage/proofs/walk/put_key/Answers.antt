@@ -1,7 +1,6 @@
-use Rattle.std.proofs.Common.{◌≡◌, ◌∙◌, ◌-◌, ◌<◌, ◌≤◌, ℕ, List, Some, length, slice_get, get_or, sym, ap, subst, arith}
+use Rattle.std.proofs.Common.{◌∙◌, ◌-◌, ◌<◌, ℕ, List, length, get_or, sym, ap, subst, arith}
 use Rattle.std.proofs.lemmas.Result.{on_ok_weaker}
 use Rattle.recognizer_model.specs.Flat.{FlatGrammar, rhs_of}
-use Rattle.earley_sets.proofs.Membership.{get_at}
 use Rattle.bocage.proofs.Splits.{used_within}
 use Rattle.bocage.proofs.Finishing.{next_of_key}
 use Rattle.bocage.proofs.walk.put_key.Goals as goal

@@ -1,12 +1,12 @@
-use Rattle.std.proofs.Common.{rules, ◌≡◌, ◌∙◌, ◌+◌, ◌-◌, ◌≤◌, ◌<◌, ◌++◌, ℕ, List, [], Contains, true, refl, sym, ap, subst, arith, Option, Some}
+use Rattle.std.proofs.Common.{rules, ◌≡◌, ◌<◌, [], Contains, refl, sym, subst}
 use Rattle.std.proofs.lemmas.List.{append-nil}
 use Rattle.grammar_model.specs.Trees.{Nulled}
 use Rattle.recognizer_model.specs.declared.NodeKey.{NodeKey}
 use Rattle.recognizer_model.specs.Flat.{FlatGrammar, IsNullable}
 use Rattle.recognizer_model.specs.FlatDerives.{Null}
-use Rattle.earley_sets.specs.Recognizer.{set_at, place_of}
+use Rattle.earley_sets.specs.Recognizer.{set_at}
 use Rattle.bocage.specs.declared.rows.LastRow.TheVariants as row
-use Rattle.bocage.specs.Walk.{Lists, GrowsBy, IsUsedIn, node_of_item}
+use Rattle.bocage.specs.Walk.{IsUsedIn, node_of_item}
 use Rattle.bocage.proofs.Growing.{lists_none, grows_weaker}
 use Rattle.bocage.proofs.Putting.{put_one, front_used}
 use Rattle.bocage.proofs.walk.put_nothing.Goals.{else-nullable-via-then-nullable+else-has, else-nullable-via-else-nullable}

@@ -1,6 +1,5 @@
 use Rattle.std.proofs.Common.{◌≡◌, ◌∙◌, ◌-◌, ◌++◌, ℕ, List, [], Option, Some, length, Contains, sym, ap, subst}
 use Rattle.recognizer_model.specs.declared.NodeKey.{NodeKey}
-use Rattle.recognizer_model.specs.Flat.{rhs_of}
 use Rattle.earley_sets.proofs.Membership.{Contains-first}
 use Rattle.bocage.specs.declared.parts.RuleKey.{RuleKey}
 use Rattle.bocage.specs.Walk.{whole_keys_by}

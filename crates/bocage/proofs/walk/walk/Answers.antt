@@ -1,8 +1,8 @@
-use Rattle.std.proofs.Common.{◌≡◌, ◌∙◌, ◌++◌, ◌∷◌, ◌+◌, List, [], Some, None, length, sym, ap, subst}
+use Rattle.std.proofs.Common.{◌∙◌, ◌++◌, ◌∷◌, ◌+◌, List, [], length, sym, ap, subst}
 use Rattle.earley_sets.proofs.Membership.{got_item}
 use Rattle.bocage.specs.declared.rows.AlternativeRow.{AlternativeRow}
 use Rattle.bocage.specs.declared.rows.NodeRow.{NodeRow}
-use Rattle.bocage.specs.Walk.{AreWalked, GrowsBy, IsUsedIn}
+use Rattle.bocage.specs.Walk.{AreWalked, IsUsedIn}
 use Rattle.bocage.proofs.Growing.{grows_none, grows_then}
 use Rattle.bocage.proofs.Walking.{walked_none, walked_more, walked_done}
 use Rattle.bocage.proofs.walk.walk.Goals as goal

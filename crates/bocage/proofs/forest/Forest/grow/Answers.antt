@@ -1,6 +1,5 @@
-use Rattle.std.proofs.Common.{◌≡◌, ◌↔◌, List, Contains, sym, subst}
+use Rattle.std.proofs.Common.{◌↔◌, List, Contains, sym, subst}
 use Rattle.std.specs.List.Sorted.{IsStrictlySortedBy}
-use Rattle.recognizer_model.specs.declared.NodeKey.{NodeKey}
 use Rattle.bocage.specs.declared.parts.Part.{Part}
 use Rattle.bocage.specs.Parts.{part_cmp, IsPart}
 use Rattle.bocage.proofs.Whole.{top_used, used_by}
