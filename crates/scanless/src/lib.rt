@@ -12,6 +12,8 @@ mod refusal;
 mod taking;
 #[cfg(test)]
 mod tests;
+#[cfg(test)]
+mod tests_reading;
 mod told;
 
 pub use prepared::{Prepared, prepare};
