@@ -44,7 +44,7 @@ module _ (laws : RunLaws) (words : List (List ℕ)) (file : List ℕ → ToldFil
       one_of_expect c x y a b same of_x of_y
   one_of_accepted (Expect name (Some input)) asks grammar c accepted x y a b p q of_x of_y =
       let same : y ≡ x = same_held (file input) y x (tells.input (Expect name (Some input)) input asks refl)
-          (q.input_held (Expect name (Some input)) asks (c, accepted)) (p.input_held (Expect name (Some input)) asks (c, accepted)) in
+      (q.input_held (Expect name (Some input)) asks (c, accepted)) (p.input_held (Expect name (Some input)) asks (c, accepted)) in
       one_of_expect c x y a b same of_x of_y
 
   one_of_job : (job : Job) → Asks words job → (grammar x y : List ℕ) (a b : Outcome) → Supplied words file (Some known) grammar x → Supplied words file (Some known) grammar y

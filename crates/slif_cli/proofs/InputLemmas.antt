@@ -78,7 +78,7 @@ module _ (b : Built) (bytes : List ℕ) (within : length bytes ≤ 16777216) whe
   pub refused_stop : IsUtf8 bytes → (text : List ℕ) → IsStopText b (chars bytes) text → IsInputRefused b bytes text
   refused_stop utf8 text stop = ReadingStops stop.pieces stop.at stop.found stop.expected (record { within = within; utf8 = utf8 }) stop.reading stop.told
 
--- AN INPUT THAT IS READ
+  -- AN INPUT THAT IS READ
 
   pub is_read : IsUtf8 bytes → (recce : Recognizer) (spans : List Span) (read : IsReadingOf b (chars bytes) recce spans AtEnd) → IsRead b bytes read.pieces
   is_read utf8 recce spans read = record { text = record { within = within; utf8 = utf8 }; reading = read.is_reading }

@@ -8,7 +8,9 @@ ghost use Rattle.run_model.specs.Runs.{InputMayBe};
 ghost use Rattle.slif_cli.specs.Stops.{ReadStops, FileStops, SourceStops, TellsInput, IsBrokenText, names_from};
 
 use crate::stop::{Refusal, Stop};
-use slif_base::{Chars, FileRefusal, Files, ReadRefusal, Source, TextRefusal, chars_of, read_all, read_named};
+use slif_base::{
+    Chars, FileRefusal, Files, ReadRefusal, Source, TextRefusal, chars_of, read_all, read_named,
+};
 use std::alloc::{AllocError, Global};
 
 const LIMIT: usize = 16_777_216;
@@ -52,7 +54,9 @@ fn file_bytes<'a, F: Files>(
         Ok(bytes) => Ok(bytes),
         Err(FileRefusal::OpenFault) => Err(Stop::OpenFault(name)),
         Err(FileRefusal::ReadFault) => Err(Stop::ReadFault),
-        Err(FileRefusal::TooLarge) => Err(Stop::Refused(Refusal::Input { text: too_long_text(alloc)? })),
+        Err(FileRefusal::TooLarge) => Err(Stop::Refused(Refusal::Input {
+            text: too_long_text(alloc)?,
+        })),
         Err(FileRefusal::NoMemory) => Err(Stop::NoMemory),
     }
 }
@@ -66,7 +70,9 @@ fn standard_bytes<'a, I: Source>(alloc: Global, input: &mut I) -> Result<Vec<u8>
     match read_all(alloc, input, LIMIT) {
         Ok(bytes) => Ok(bytes),
         Err(ReadRefusal::ReadFault) => Err(Stop::ReadFault),
-        Err(ReadRefusal::TooLarge) => Err(Stop::Refused(Refusal::Input { text: too_long_text(alloc)? })),
+        Err(ReadRefusal::TooLarge) => Err(Stop::Refused(Refusal::Input {
+            text: too_long_text(alloc)?,
+        })),
         Err(ReadRefusal::NoMemory) => Err(Stop::NoMemory),
     }
 }

@@ -121,7 +121,11 @@ fn append_others(w: &Written, symbols: &[SymbolId], text: &mut Vec<u8>) -> Resul
 }
 
 /// The names of symbols, one a line.
-pub fn name_lines(alloc: Global, w: &Written, symbols: &[SymbolId]) -> Result<Vec<Vec<u8>>, AllocError>
+pub fn name_lines(
+    alloc: Global,
+    w: &Written,
+    symbols: &[SymbolId],
+) -> Result<Vec<Vec<u8>>, AllocError>
     requires { All (λ s. s < length w.now.names) symbols.now }
     ensures { IfOk result (λ lines. map (λ l. l.items) lines.items ≡ map (λ s. name_of w.now s ++ 10 ∷ []) symbols.now) }
 {

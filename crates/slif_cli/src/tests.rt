@@ -450,7 +450,8 @@ const EXPECTED: Given<'static> = Given {
     ..SUM
 };
 
-const OPERATORS: &[u8] = b"E ::= N\n | ('(') E (')') assoc => group\n || E '**' E assoc => right\n || E '*' E\n || E '+' E\nN ~ [\\d]\n";
+const OPERATORS: &[u8] =
+    b"E ::= N\n | ('(') E (')') assoc => group\n || E '**' E assoc => right\n || E '*' E\n || E '+' E\nN ~ [\\d]\n";
 
 // Grammars, inputs, and what is told of them: names on the standard output, or a line on the standard error.
 const EXPECT_ROWS: [(&[u8], &[u8], &[u8], &[u8]); 8] = [
@@ -523,7 +524,15 @@ fn the_input_is_read_where_the_grammar_is_accepted(rt: HostRuntime) -> Result<()
         input_fails: &[1],
         ..EXPECTED
     };
-    assert!(rt; ends(alloc, &refused, 3, b"", b"slif: grammar: start symbol E is unproductive\n")?);
+    assert!(rt;
+        ends(
+            alloc,
+            &refused,
+            3,
+            b"",
+            b"slif: grammar: start symbol E is unproductive\n"
+        )?
+    );
     let unread = Given {
         input_fails: &[2],
         ..EXPECTED

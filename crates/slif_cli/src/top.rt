@@ -71,10 +71,12 @@ fn work<'a, F: Files, I: Source, O: Sink, L: Ledger>(
     match read_words(words) {
         Some(Job::RunTree { grammar }) => list_trees(alloc, grammar, files, input, out),
         Some(Job::Check { grammar }) => check_grammar(alloc, grammar, files, out),
-        Some(Job::Expect {
-            grammar,
-            input: name,
-        }) => expect_names(alloc, grammar, name, files, input, out, steps),
+        Some(
+            Job::Expect {
+                grammar,
+                input: name,
+            },
+        ) => expect_names(alloc, grammar, name, files, input, out, steps),
         None => Err(Stop::Refused(Refusal::NotBuilt)),
     }
 }

@@ -7,10 +7,17 @@ ghost use Rattle.slif_cli.specs.Stops.{job_of};
 /// What the words ask for, with the names of the files.
 #[derive(Clone, Copy, Debug)]
 pub enum Job<'a> {
-    RunTree { grammar: &'a str },
-    Check { grammar: &'a str },
+    RunTree {
+        grammar: &'a str,
+    },
+    Check {
+        grammar: &'a str,
+    },
     /// with the name of the input's file, if there is one
-    Expect { grammar: &'a str, input: Option<&'a str> },
+    Expect {
+        grammar: &'a str,
+        input: Option<&'a str>,
+    },
 }
 
 /// The job that the words ask for.
@@ -56,7 +63,10 @@ fn expect_job<'a>(grammar: &'a str, words: &'a [String]) -> Option<Job<'a>>
     ensures { option_map job_of result ≡ expect_asked grammar.now (map string_bytes words.now) }
 {
     if words.is_empty() {
-        return Some(Job::Expect { grammar, input: None });
+        return Some(Job::Expect {
+            grammar,
+            input: None,
+        });
     }
     if words.len() == 2 && words[0].as_str() == "--input" && is_value(words[1].as_str()) {
         let input = Some(words[1].as_str());

@@ -56,7 +56,10 @@ fn a_deep_value_has_a_text(rt: HostRuntime) -> Result<(), Fail> {
 
 // Whether the text tells no action.
 fn is_bad(alloc: Global, text: &str) -> bool {
-    matches!(read_descriptor(alloc, text), Err(DescriptorRefusal::BadItem))
+    matches!(
+        read_descriptor(alloc, text),
+        Err(DescriptorRefusal::BadItem)
+    )
 }
 
 #[test]

@@ -23,7 +23,7 @@ returns-in-Ok-clause-done g c =
     on_ok_weaker c.expect_input.result
     (λ does words asks. does_weaker (MayRead (IsExpectOutcome b) (input_named from) (g.F.Files.told c.load_grammar.new.files) left) (MayHave words file left)
     (λ o may. expected words c.args.grammar.now from asks file left c.in-Ok.loaded.description b c.in-Ok.ensures.read o
-        (read_before (IsExpectOutcome b) (input_named from) file (g.F.Files.told c.load_grammar.new.files) c.in-Ok.ensures.held left o may)) _ _ does)
+    (read_before (IsExpectOutcome b) (input_named from) file (g.F.Files.told c.load_grammar.new.files) c.in-Ok.ensures.held left o may)) _ _ does)
     c.expect_input.ensures.done
 
 pub returns-in-Ok-clause-stops : goal.returns-in-Ok-clause-stops
@@ -40,7 +40,7 @@ returns-in-Ok-clause-stops g c =
     MatchResult-weaker c.expect_input.result c.expect_input.ensures.stops (λ _ x. x)
     (λ stop stops words asks. stops_weaker (MayRead (IsExpectOutcome b) (input_named from) (g.F.Files.told c.load_grammar.new.files) left) (MayHave words file left)
     (λ o may. expected words c.args.grammar.now from asks file left c.in-Ok.loaded.description b c.in-Ok.ensures.read o
-        (read_before (IsExpectOutcome b) (input_named from) file (g.F.Files.told c.load_grammar.new.files) c.in-Ok.ensures.held left o may))
+    (read_before (IsExpectOutcome b) (input_named from) file (g.F.Files.told c.load_grammar.new.files) c.in-Ok.ensures.held left o may))
     (λ asked. Rose middle after × (input_named from ≡ FileNamed asked)) (λ asked. Rose before after × MayOpen words file asked) (Rose middle after ⊎ read) (Rose before after ⊎ read)
     (λ asked x. (earlier x.0, opens_input words c.args.grammar.now from asks file left c.in-Ok.loaded.description b c.in-Ok.ensures.read asked x.1))
     (λ x. elim x [ inl rose ↦ inl (earlier rose) | inr rose ↦ inr rose ])
