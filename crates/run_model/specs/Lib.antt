@@ -3,6 +3,7 @@ pub mod Words
 pub mod Refused
 pub mod Checking
 pub mod Inputs
+pub mod Listing
 pub mod Derivations
 pub mod Outcome
 pub mod Outside

@@ -1,0 +1,90 @@
+-- The derivation at which an iterator stands can be played, and its line is that of the definition.
+use Rattle.std.proofs.Common.{◌≡◌, ℕ, ◌<◌, ◌≤◌, ◌++◌, [], ◌∷◌, List, Bool, true, false, Some, IfSome, length, map, Contains, refl, sym, ap, subst, ◌∙◌, slice_index_or, arith}
+use Rattle.std.specs.Prelude.{All}
+use Rattle.std.proofs.lemmas.List.Elements.{Contains-append_right, Contains-append_left}
+use Rattle.grammar_model.specs.Grammar.{Grammar, slot_of}
+use Rattle.grammar_model.specs.Trees.{Tree}
+use Rattle.grammar_model.specs.Derives.{Held, Derives}
+use Rattle.grammar_model.specs.Steps.{Step, steps_of}
+use Rattle.grammar_model.specs.Text.{text_of}
+use Rattle.grammar_model.specs.Values.{Value, Meaning, value_of}
+use Rattle.grammar_model.specs.declared.Show.{Show}
+use Rattle.grammar_model.specs.declared.Show.TheVariants.{Tree as ShowTree}
+use Rattle.grammar_model.specs.Checked.{IsChecked}
+use Rattle.grammar_core.specs.declared.steps.Span.{Span}
+use Rattle.language_model.specs.Building.{Built}
+use Rattle.dsl_build.specs.Ranges.{IsInRange}
+use Rattle.reading_model.specs.Reading.{Piece, edges_of, place_after, spans_from}
+use Rattle.forest_model.specs.Forest.{Forest}
+use Rattle.scanless.specs.Reading.{span_of}
+use Rattle.tree_iter.specs.Iteration.{Iteration, AreGiven, IsAnswer}
+use Rattle.valuator.specs.Play.{AreSteps, AreSpans, tokens_of}
+use Rattle.valuator.specs.Told.{advanced}
+use Rattle.run_model.specs.Listing.{line_of, tokens_in}
+use Rattle.value_lines.specs.Lines.{IsForestOf, IsLineOf}
+use Rattle.value_lines.proofs.Playing.{spans_fit, tokens_fit, steps_fit}
+
+-- a teller that held nothing holds what it is told
+pub told_one : (f : Show → List Value → List Value) (old new : List (Show × List Value)) → old ≡ (ShowTree, []) ∷ [] → new ≡ advanced f old → new ≡ (ShowTree, f ShowTree []) ∷ []
+told_one f old new e p = p ∙ ap (advanced f) e
+
+-- one more was given
+abbrev Given : Iteration → List Tree → Type 0
+Given new given = (tree : Tree) × AreGiven new (given ++ tree ∷ []) × (new.current ≡ Some (steps_of tree))
+
+pub one_more : (b : Bool) (new : Iteration) (given : List Tree) → b ≡ true → IsAnswer new given b → Given new given
+one_more true new given e answer = answer
+one_more false new given e answer = absurd (cc e)
+
+pub none_more : (b : Bool) (new : Iteration) (given : List Tree) → b ≡ false → IsAnswer new given b → IsAnswer new given false
+none_more true new given e answer = absurd (cc e)
+none_more false new given e answer = answer
+
+module _ (b : Built) (checked : IsChecked b.g1) (ranges : IsInRange b) (cs : List ℕ) (spans : List Span) (f : Forest) (pieces : List Piece) (of : IsForestOf b cs spans f pieces) where
+  start : ℕ
+  start = slice_index_or b.g1.starts 0 0
+
+  start_known : start < length b.g1.names
+  unfolding start
+  start_known = ranges.g1.starts 0 0 checked.some_start
+
+  last_in : (given rest : List Tree) (tree : Tree) → Contains ((given ++ tree ∷ []) ++ rest) tree
+  last_in given rest tree = Contains-append_left (given ++ tree ∷ []) rest tree (Contains-append_right given (tree ∷ []) tree (0, omega arith, refl))
+
+  derived : (new : Iteration) → new.forest ≡ f → (given : List Tree) (tree : Tree) → AreGiven new (given ++ tree ∷ []) → Derives b.g1 (Held (edges_of pieces)) (slot_of start) 0 (place_after pieces) tree
+  unfolding start
+  derived new same given tree are =
+      let d = (are.first.listing.each tree).0 (last_in given are.first.rest tree) in
+      let of_f : Derives f.written (Held f.edges) (slot_of (slice_index_or f.written.starts f.start 0)) 0 f.place tree =
+      subst (λ (g : Forest). Derives g.written (Held g.edges) (slot_of (slice_index_or g.written.starts g.start 0)) 0 g.place tree) same d in
+      subst (λ n. Derives b.g1 (Held (edges_of pieces)) (slot_of (slice_index_or b.g1.starts n 0)) 0 (place_after pieces) tree) of.start
+      (subst (λ n. Derives b.g1 (Held (edges_of pieces)) (slot_of (slice_index_or b.g1.starts f.start 0)) 0 n tree) of.place
+      (subst (λ es. Derives b.g1 (Held es) (slot_of (slice_index_or b.g1.starts f.start 0)) 0 f.place tree) of.edges
+      (subst (λ (g : Grammar). Derives g (Held f.edges) (slot_of (slice_index_or g.starts f.start 0)) 0 f.place tree) of.written of_f)))
+
+  pub spans_are : AreSpans (length cs) spans
+  spans_are = (spans_fit b cs pieces spans of.few of.reading of.spans_are).0
+
+  steps_are : (new : Iteration) → new.forest ≡ f → (given : List Tree) (tree : Tree) → AreGiven new (given ++ tree ∷ []) → AreSteps b.g1 (length spans) (steps_of tree)
+  steps_are new same given tree are =
+      let count = (spans_fit b cs pieces spans of.few of.reading of.spans_are).1 in
+      steps_fit b pieces start (place_after pieces) (length spans) tree start_known (omega (arith, count)) (derived new same given tree are)
+
+  -- what the iterator told of where it stands
+  told : (new : Iteration) (given : List Tree) (more : Given new given) (old list : List Step) → old ≡ [] → IfSome new.current (λ steps. list ≡ old ++ steps) → list ≡ steps_of more.0
+  told new given more old list none is = subst (λ o. IfSome o (λ steps. list ≡ old ++ steps)) more.2 is ∙ ap (λ xs. xs ++ steps_of more.0) none
+
+  pub can_play : (new : Iteration) → new.forest ≡ f → (given : List Tree) (more : Given new given) (old list : List Step) → old ≡ [] → IfSome new.current (λ steps. list ≡ old ++ steps) → AreSteps b.g1 (length spans) list
+  can_play new same given more old list none is = subst (AreSteps b.g1 (length spans)) (sym (told new given more old list none is)) (steps_are new same given more.0 more.1)
+
+  pub the_line : (new : Iteration) (given : List Tree) (more : Given new given) (old list : List Step) → old ≡ [] → IfSome new.current (λ steps. list ≡ old ++ steps) → (w : Grammar) (m : Meaning) (before line : List ℕ) →
+      w ≡ b.g1 → m ≡ b.meaning → before ≡ [] → ((t : Tree) → list ≡ steps_of t → line ≡ before ++ (text_of (value_of ShowTree w m (tokens_of cs spans) t) ++ 10 ∷ [])) → IsLineOf b cs pieces new given line true
+  the_line new given more old list none is w m before line same_w same_m empty each = (
+    more.0,
+    more.1,
+    each more.0 (told new given more old list none is)
+        ∙ ap (λ xs. xs ++ (text_of (value_of ShowTree w m (tokens_of cs spans) more.0) ++ 10 ∷ [])) empty
+        ∙ ap (λ (g : Grammar). text_of (value_of ShowTree g m (tokens_of cs spans) more.0) ++ 10 ∷ []) same_w
+        ∙ ap (λ (n : Meaning). text_of (value_of ShowTree b.g1 n (tokens_of cs spans) more.0) ++ 10 ∷ []) same_m
+        ∙ ap (λ ts. text_of (value_of ShowTree b.g1 b.meaning ts more.0) ++ 10 ∷ []) (tokens_fit cs spans pieces of.spans_are),
+  )

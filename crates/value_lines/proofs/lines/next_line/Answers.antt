@@ -1,0 +1,32 @@
+use Rattle.std.proofs.Common.{◌≡◌, sym, ap, subst, map, ◌∙◌, refl}
+use Rattle.grammar_core.specs.Steps.{step_of}
+use Rattle.value_text.specs.Meaning.{meaning_of}
+use Rattle.value_lines.proofs.Meanings.{meaning_fits}
+use Rattle.value_lines.proofs.Fitting.{one_more, none_more, spans_are, can_play, the_line}
+use Rattle.value_lines.proofs.lines.next_line.Goals as goal
+
+pub append_line-requires-clause-meaning : goal.append_line-requires-clause-meaning
+append_line-requires-clause-meaning g c = rw (c.written.ensures, c.meaning.ensures) (meaning_fits c.args.prepared.now c.known.ensures.built)
+
+pub append_line-requires-clause-spans : goal.append_line-requires-clause-spans
+append_line-requires-clause-spans g c =
+    spans_are c.args.prepared.now c.known.ensures.accepted.checked.structural c.known.ensures.ranges c.args.chars.now c.args.spans.now c.args.iter.now.forest c.requires.forest.0 c.requires.forest.1
+
+pub append_line-requires-clause-list : goal.append_line-requires-clause-list
+append_line-requires-clause-list g c =
+    let b = c.args.prepared.now in
+    let given = c.requires.given.0 in
+    let more = one_more c.in_ok-next.field-0 c.next.new.self given c.if-not-branch.false (c.in_ok-next.ensures.answer given c.requires.given.1) in
+    let steps = can_play b c.known.ensures.accepted.checked.structural c.known.ensures.ranges c.args.chars.now c.args.spans.now c.args.iter.now.forest c.requires.forest.0 c.requires.forest.1
+    c.next.new.self c.in_ok-next.ensures.forest given more (map step_of c.new-list.result.items) (map step_of c.steps_of.new.out.items) (ap (map step_of) c.new-list.ensures.items) c.in_ok-steps_of.ensures.ok in
+    rw (c.written.ensures, c.deref.ensures.value) steps
+
+pub returns-clause-line : goal.returns-clause-line
+returns-clause-line g c =
+    λ pieces given of are.
+    let b = c.args.prepared.now in
+    let more = one_more c.in_ok-next.field-0 c.next.new.self given c.if-not-branch.false (c.in_ok-next.ensures.answer given are) in
+    the_line b c.known.ensures.accepted.checked.structural c.known.ensures.ranges c.args.chars.now c.args.spans.now c.args.iter.now.forest pieces of
+    c.next.new.self given more (map step_of c.new-list.result.items) (map step_of c.steps_of.new.out.items) (ap (map step_of) c.new-list.ensures.items) c.in_ok-steps_of.ensures.ok
+    c.written.result.now (meaning_of c.meaning.result.now) c.clear.new.self.items c.append_line.new.line.items c.written.ensures c.meaning.ensures c.clear.ensures.items
+    (λ t is. c.in_ok-append_line.ensures.line t (ap (map step_of) c.deref.ensures.value ∙ is))

@@ -1,0 +1,27 @@
+-- The lines of a reading's derivations, one after another.
+use Rattle.std.specs.Prelude.{◌≡◌, ℕ, ◌≤◌, Bool, true, false, List, [], ◌∷◌, ◌++◌, length, map}
+use Rattle.grammar_model.specs.Trees.{Tree}
+use Rattle.grammar_model.specs.declared.Show.TheVariants.{Tree as ShowTree}
+use Rattle.grammar_core.specs.declared.steps.Span.{Span}
+use Rattle.language_model.specs.Building.{Built}
+use Rattle.reading_model.specs.Reading.{Piece, End, IsReading, edges_of, place_after, spans_from}
+use Rattle.forest_model.specs.Forest.{Forest}
+use Rattle.forest_model.specs.Listing.{IsListing}
+use Rattle.scanless.specs.Reading.{span_of}
+use Rattle.tree_iter.specs.Iteration.{Iteration, AreGiven}
+use Rattle.run_model.specs.Listing.{line_of}
+
+-- the forest is that of the pieces, and these are the spans of their tokens
+pub record IsForestOf (b : Built) (cs : List ℕ) (spans : List Span) (f : Forest) (pieces : List Piece) : Type 0 where
+  pub few : length cs ≤ 16777216
+  pub reading : IsReading b cs pieces End
+  pub spans_are : map span_of spans ≡ spans_from 0 pieces
+  pub written : f.written ≡ b.g1
+  pub start : f.start ≡ 0
+  pub edges : f.edges ≡ edges_of pieces
+  pub place : f.place ≡ place_after pieces
+
+-- one more is given, and this is its line; or those given are all
+abbrev pub IsLineOf : Built → List ℕ → List Piece → (new : Iteration) → (given : List Tree) → (line : List ℕ) → Bool → Type 0
+IsLineOf b cs pieces new given line true = (tree : Tree) × AreGiven new (given ++ tree ∷ []) × (line ≡ line_of b ShowTree cs pieces tree)
+IsLineOf b cs pieces new given line false = IsListing new.forest given

@@ -1,0 +1,105 @@
+// The line of the next derivation.
+ghost use Rattle.std.specs.Prelude.{◌≡◌, ◌<◌, ◌≤◌, ◌++◌, ◌∷◌, [], List, length, map, IfOk, OnOk};
+ghost use Rattle.grammar_model.specs.Trees.{Tree};
+ghost use Rattle.grammar_model.specs.Steps.{steps_of};
+ghost use Rattle.grammar_model.specs.Text.{text_of};
+ghost use Rattle.grammar_model.specs.Values.{Value, value_of};
+ghost use Rattle.grammar_model.specs.declared.Show.TheVariants.{Tree as ShowTree};
+ghost use Rattle.grammar_core.specs.Steps.{step_of};
+ghost use Rattle.value_text.specs.Meaning.{meaning_of};
+ghost use Rattle.valuator.specs.Play.{AreSteps, AreSpans, IsMeaningOf, tokens_of};
+ghost use Rattle.valuator.specs.Told.{HoldsOne, states, line_of as line_held};
+ghost use Rattle.reading_model.specs.Reading.{Piece};
+ghost use Rattle.tree_iter.specs.Iteration.{AreGiven};
+ghost use Rattle.value_lines.specs.Lines.{IsForestOf, IsLineOf};
+
+use grammar_core::{Span, TreeStep, Written};
+use scanless::Prepared;
+use slif_base::{Chars, Steps};
+use std::alloc::Global;
+use std::sync::ledger::Ledger;
+use tree_iter::TreeIter;
+use valuator::{Teller, play};
+use value_text::{Meaning, NoMemory};
+
+fn finish(teller: &mut Box<dyn Teller>, line: &mut Vec<u8>) -> Result<(), NoMemory>
+    requires { HoldsOne (held teller.old) }
+    ensures line { OnOk result (line.new.items ≡ line.old.items ++ line_held (held teller.old)) }
+    ensures held { OnOk result (held teller.new ≡ []) }
+    ensures kind { shows teller.new ≡ shows teller.old }
+{
+    teller.finish(line)
+}
+
+// Appends the line of the one value that the one teller holds, which then holds nothing.
+fn finish_first(tellers: &mut Vec<Box<dyn Teller>>, line: &mut Vec<u8>) -> Result<(), NoMemory>
+    requires { (v : Value) × (states tellers.old.items shows held ≡ (ShowTree, v ∷ []) ∷ []) }
+    ensures line { (v : Value) → states tellers.old.items shows held ≡ (ShowTree, v ∷ []) ∷ [] → OnOk result (line.new.items ≡ line.old.items ++ (text_of v ++ 10 ∷ [])) }
+    ensures tellers { OnOk result (states tellers.new.items shows held ≡ (ShowTree, []) ∷ []) }
+{
+    finish(&mut tellers[0], line)
+}
+
+// Appends the line of the derivation that has these steps.
+fn append_line(
+    alloc: Global,
+    list: &[TreeStep],
+    meaning: &Meaning,
+    w: &Written,
+    spans: &[Span],
+    chars: &Chars,
+    tellers: &mut Vec<Box<dyn Teller>>,
+    line: &mut Vec<u8>,
+) -> Result<(), NoMemory>
+    requires list { AreSteps w.now (length spans.now) (map step_of list.now) }
+    requires meaning { IsMeaningOf w.now (meaning_of meaning.now) }
+    requires spans { AreSpans (length chars.now) spans.now }
+    requires tellers { states tellers.old.items shows held ≡ (ShowTree, []) ∷ [] }
+    ensures tellers { OnOk result (states tellers.new.items shows held ≡ (ShowTree, []) ∷ []) }
+    ensures line { (t : Tree) → map step_of list.now ≡ steps_of t → OnOk result (line.new.items ≡
+        line.old.items ++ (text_of (value_of ShowTree w.now (meaning_of meaning.now) (tokens_of chars.now spans.now) t) ++ 10 ∷ [])) }
+{
+    play(alloc, list, meaning, w, spans, chars, tellers)?;
+    finish_first(tellers, line)
+}
+
+/// Goes to the next derivation of a reading's forest and puts its line in place of what `line` held; answers whether there is one.
+/// `spans` are those of the reading's tokens in `chars`; `tellers` is one teller of trees that holds nothing, and does so again after
+/// an `Ok`.
+pub fn next_line<L: Ledger>(
+    alloc: Global,
+    prepared: &Prepared,
+    chars: &Chars,
+    spans: &[Span],
+    iter: &mut TreeIter<'_>,
+    tellers: &mut Vec<Box<dyn Teller>>,
+    line: &mut Vec<u8>,
+    steps: &mut Steps<L>,
+) -> Result<bool, NoMemory>
+    requires forest { (pieces : List Piece) × IsForestOf prepared.now chars.now spans.now iter.old.forest pieces }
+    requires given { (given : List Tree) × AreGiven iter.old given }
+    requires tellers { states tellers.old.items shows held ≡ (ShowTree, []) ∷ [] }
+    ensures line { IfOk result (λ more. (pieces : List Piece) (given : List Tree) → IsForestOf prepared.now chars.now spans.now iter.old.forest pieces → AreGiven iter.old given →
+        IsLineOf prepared.now chars.now pieces iter.new given line.new.items more) }
+    ensures forest { iter.new.forest ≡ iter.old.forest }
+    ensures tellers { OnOk result (states tellers.new.items shows held ≡ (ShowTree, []) ∷ []) }
+{
+    prepared.known();
+    if !iter.next(steps)? {
+        return Ok(false);
+    }
+    let mut list = Vec::new(alloc);
+    iter.steps_of(&mut list)?;
+    line.clear();
+    append_line(
+        alloc,
+        &list,
+        prepared.meaning(),
+        prepared.written(),
+        spans,
+        chars,
+        tellers,
+        line,
+    )?;
+    Ok(true)
+}
