@@ -2,3 +2,4 @@ pub mod Matching
 pub mod Candidates
 pub mod Reading
 pub mod Applied
+pub mod Accepted

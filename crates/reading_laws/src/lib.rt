@@ -2,6 +2,7 @@
 //! does nothing.
 #![tactic(auto)]
 
+ghost use Rattle.reading_model.specs.Laws.{AcceptedHaveNoFault, GrammarFaultIsOne};
 ghost use Rattle.reading_laws.specs.Applied.{ReadingApplies};
 ghost use Rattle.reading_laws.specs.Laws.{MatchesAreDecided, ReadingExists};
 
@@ -18,4 +19,14 @@ pub fn reading_exists()
 /// A digit and a comma have a reading by small grammars.
 pub fn reading_applies()
     ensures { ReadingApplies }
+{}
+
+/// Grammars that are accepted have no fault.
+pub fn accepted_have_no_fault()
+    ensures { AcceptedHaveNoFault }
+{}
+
+/// Grammars have one fault at most.
+pub fn grammar_fault_is_one()
+    ensures { GrammarFaultIsOne }
 {}
