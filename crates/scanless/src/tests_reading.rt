@@ -39,17 +39,18 @@ fn read_text<L: Ledger>(
     }
     let mut steps = Steps::<L>::of_blank(blank);
     let reading = read_input(alloc, &p, &chars, &mut steps)?;
-    let Reading {
-        recce,
-        spans,
-        ending,
-    } = reading;
-    match ending {
+    told_of(alloc, &p, &reading)
+}
+
+// What a reading tells.
+fn told_of(alloc: Global, p: &Prepared, reading: &Reading<'_>) -> Result<Told, Fail> {
+    let spans = reading.spans.to_vec(alloc)?;
+    match &reading.ending {
         Ending::End => Ok(Told {
             spans,
             stopped: None,
             found: Vec::new(alloc),
-            expected: expected_lexemes(alloc, &p, &recce)?,
+            expected: expected_lexemes(alloc, p, &reading.recce)?,
         }),
         Ending::Stopped {
             at,
@@ -57,9 +58,9 @@ fn read_text<L: Ledger>(
             expected,
         } => Ok(Told {
             spans,
-            stopped: Some(at),
-            found,
-            expected,
+            stopped: Some(*at),
+            found: found.to_vec(alloc)?,
+            expected: expected.to_vec(alloc)?,
         }),
     }
 }
