@@ -12,8 +12,6 @@ mod refusal;
 mod taking;
 #[cfg(test)]
 mod tests;
-#[cfg(test)]
-mod tests_reading;
 mod told;
 
 pub use prepared::{Prepared, prepare};

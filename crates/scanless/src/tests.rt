@@ -25,7 +25,7 @@ fn described(alloc: Global, text: &[u8]) -> Result<Description, Fail>
 }
 
 // What is built of a text.
-pub fn built(alloc: Global, text: &[u8]) -> Result<Built, Fail>
+fn built(alloc: Global, text: &[u8]) -> Result<Built, Fail>
     ensures { IfOk result (λ b. IsBuilt b) }
 {
     let d = described(alloc, text)?;
