@@ -1,0 +1,6 @@
+mod Numbers
+mod Options
+mod Rows
+mod Looks
+mod Walked
+mod Agreed

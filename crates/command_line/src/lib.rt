@@ -1,0 +1,14 @@
+//! The words of the command line, read by `clap`.
+#![tactic(auto)]
+
+mod asked;
+mod command;
+mod job;
+mod value;
+mod words;
+
+pub use job::{Job, RunAsked};
+pub use words::read_words;
+
+#[cfg(test)]
+mod tests;

@@ -1,0 +1,5 @@
+pub mod Asked
+mod Examples
+pub mod Settings
+pub mod Spellings
+mod Orders

@@ -1,0 +1,26 @@
+-- Laws of the definitions.
+use Rattle.std.specs.Prelude.{◌≡◌, ℕ, Bool, true, false, not, List, ◌∷◌, ◌++◌, ◌⊎◌, Some, None, bytes_eq, codes}
+use Rattle.std.specs.List.{list_all}
+use Rattle.language_model.specs.Building.{is_one_of}
+use Rattle.words_model.specs.Words.{Job, Setting, Asks, AskNothing, is_dashed, job_asked, with_value, words_set}
+
+-- the words ask for a job or for none, and for one at most
+abbrev pub HasJobOrNone : Type 0
+HasJobOrNone = (words : List (List ℕ)) → ((job : Job) × Asks words job) ⊎ AskNothing words
+
+abbrev pub HasOneJob : Type 0
+HasOneJob = (words : List (List ℕ)) (a b : Job) → Asks words a → Asks words b → a ≡ b
+
+-- `--name value` and `--name=value` set the same
+abbrev pub SpellingsAgree : Type 0
+SpellingsAgree = (name value : List ℕ) (words : List (List ℕ)) → is_one_of with_value name ≡ true → is_dashed value ≡ false
+    → words_set ((codes "--" ++ name) ∷ value ∷ words) None ≡ words_set ((codes "--" ++ name ++ 61 ∷ value) ∷ words) None
+
+-- no word ends the options
+abbrev pub has_no_end : List (List ℕ) → Bool
+has_no_end words = list_all (λ word. not (bytes_eq word (codes "--"))) words
+
+-- two parts of the words that each set something may change places
+abbrev pub PartsChangePlaces : Type 0
+PartsChangePlaces = (front back : List (List ℕ)) (settings more : List Setting) → has_no_end front ≡ true → has_no_end back ≡ true
+    → words_set front None ≡ Some settings → words_set back None ≡ Some more → job_asked (front ++ back) ≡ job_asked (back ++ front)

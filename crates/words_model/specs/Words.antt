@@ -1,0 +1,250 @@
+-- What the words of the command line ask for. They follow POSIX's utility syntax (XBD 12.1 and 12.2) with GNU's long options:
+-- a word that begins with `--` names an option, whose value stands behind `=` (61) or is the next word; `--` alone ends the
+-- options; any other word is an operand. A word is the bytes of its characters.
+use Rattle.std.specs.Prelude.{◌≡◌, ℕ, ◌==◌, Bool, true, false, not, ◌&&◌, ◌||◌, if◌then◌else◌, nat_eq, nat_lt, nat_le, List, [], ◌∷◌, map, length, drop, Option, Some, None, is_some, option_map, option_and_then, find, bytes_eq, codes}
+use Rattle.std.specs.Char.{is_ascii_digit}
+use Rattle.std.specs.List.{list_all, list_any, starts_with, before_first, after_first}
+use Rattle.grammar_model.specs.declared.Ranking.{Ranking}
+use Rattle.grammar_model.specs.declared.Ranking.TheVariants.{None as NoRanks, Rule as RuleRanks}
+use Rattle.grammar_model.specs.declared.Show.{Show}
+use Rattle.grammar_model.specs.declared.Show.TheVariants.{Array as ShowArray, Tree as ShowTree}
+use Rattle.language_model.specs.Building.{digits_number, is_one_of}
+
+-- ---- jobs
+
+-- the values of one input: the names of the files, where the input has one, and which values are shown and how
+pub record RunAsked : Type 0 where
+  pub grammar : List ℕ
+  pub input : Option (List ℕ)
+  pub show : Show
+  pub ranking : Ranking
+  -- at most so many values
+  pub first : Option ℕ
+  pub stats : Bool
+
+-- a job, with what it was given
+pub data Job : Type 0 where
+  Run : (asked : RunAsked) → Job
+  Check : (grammar : List ℕ) → Job
+  Expect : (grammar : List ℕ) (input : Option (List ℕ)) → Job
+  Progress : (grammar : List ℕ) (at : ℕ) (input : Option (List ℕ)) → Job
+  Work : (size : ℕ) → Job
+
+-- where the input of a job is
+pub data InputFrom : Type 0 where
+  Nowhere : InputFrom
+  StandardInput : InputFrom
+  FileNamed : (name : List ℕ) → InputFrom
+
+-- the name of the file that has the job's grammar, if it needs one
+abbrev pub grammar_file : Job → Option (List ℕ)
+grammar_file (Run asked) = Some asked.grammar
+grammar_file (Check grammar) = Some grammar
+grammar_file (Expect grammar input) = Some grammar
+grammar_file (Progress grammar at input) = Some grammar
+grammar_file (Work size) = None
+
+abbrev pub input_named : Option (List ℕ) → InputFrom
+input_named None = StandardInput
+input_named (Some name) = FileNamed name
+
+abbrev pub input_from : Job → InputFrom
+input_from (Run asked) = input_named asked.input
+input_from (Check grammar) = Nowhere
+input_from (Expect grammar input) = input_named input
+input_from (Progress grammar at input) = input_named input
+input_from (Work size) = Nowhere
+
+-- ---- what the words set, one after the other
+
+-- the value of an option, or the operand, which stands under the name JOB
+pub record Setting : Type 0 where
+  pub name : List ℕ
+  pub value : List ℕ
+
+-- the options that take a value, and the one that takes none
+abbrev pub with_value : List (List ℕ)
+with_value = codes "grammar" ∷ codes "input" ∷ codes "first" ∷ codes "rank" ∷ codes "show" ∷ codes "at" ∷ codes "size" ∷ []
+
+abbrev pub stats : List ℕ
+stats = codes "stats"
+
+abbrev pub set : (name value : List ℕ) → Setting
+set name value = record { name = name; value = value }
+
+abbrev pub set_job : List ℕ → Setting
+set_job = set (codes "JOB")
+
+-- the word sets this, and the words behind it what they set
+abbrev pub and_then : Setting → Option (List Setting) → Option (List Setting)
+and_then setting = option_map (λ settings. setting ∷ settings)
+
+-- the word begins with '-' and is longer
+abbrev pub is_dashed : List ℕ → Bool
+is_dashed [] = false
+is_dashed (c ∷ cs) = c == 45 && nat_lt 0 (length cs)
+
+-- the name and the value in `--name=value`, and in `--name`, which has none
+abbrev pub option_name : List ℕ → List ℕ
+option_name word = before_first (λ c. c == 61) (drop 2 word)
+
+abbrev pub option_value : List ℕ → Option (List ℕ)
+option_value word =
+    if list_any (λ c. c == 61) (drop 2 word) then Some (after_first (λ c. c == 61) (drop 2 word)) else None
+
+-- a word that names an option; `next` is what the words behind it set, where an option may wait for its value
+abbrev pub option_sets : (name : List ℕ) (value : Option (List ℕ)) (next : Option (List ℕ) → Option (List Setting)) → Option (List Setting)
+option_sets name (Some value) next = if is_one_of with_value name then and_then (set name value) (next None) else None
+option_sets name None next =
+    if is_one_of with_value name then next (Some name)
+    else (if bytes_eq name stats then and_then (set name (codes "true")) (next None)
+    else None)
+
+abbrev pub word_sets : (word : List ℕ) (next : Option (List ℕ) → Option (List Setting)) → Option (List Setting)
+word_sets word next =
+    if starts_with nat_eq word (codes "--") then option_sets (option_name word) (option_value word) next
+    else (if is_dashed word then None
+    else and_then (set_job word) (next None))
+
+-- what the words set, where an option may wait for its value; they set nothing where one is no option or lacks its value
+abbrev pub words_set : List (List ℕ) → (waiting : Option (List ℕ)) → Option (List Setting)
+words_set [] None = Some []
+words_set [] (Some option) = None
+words_set (word ∷ words) None =
+    if bytes_eq word (codes "--") then Some (map set_job words)
+    else word_sets word (words_set words)
+words_set (word ∷ words) (Some option) =
+    if is_dashed word then None else and_then (set option word) (words_set words None)
+
+-- each option and the operand is set once at most
+abbrev pub are_set_once : List Setting → Bool
+are_set_once [] = true
+are_set_once (s ∷ ss) = not (list_any (λ t. bytes_eq t.name s.name) ss) && are_set_once ss
+
+abbrev pub value_of : List Setting → (name : List ℕ) → Option (List ℕ)
+value_of settings name = option_map (λ s. s.value) (find (λ s. bytes_eq s.name name) settings)
+
+-- ---- values
+
+-- the value of an option, or what stands for it where it is not given; None where the value has no meaning
+abbrev pub read_or : {T : Type 0} → T → (List ℕ → Option T) → Option (List ℕ) → Option T
+read_or default read None = Some default
+read_or default read (Some value) = read value
+
+-- a name that is not empty and not '-'
+abbrev pub file_name : List ℕ → Option (List ℕ)
+file_name value = if nat_eq (length value) 0 || bytes_eq value (codes "-") then None else Some value
+
+-- a number of one to ten ASCII digits
+abbrev pub number_from : (least most : ℕ) → List ℕ → Option ℕ
+number_from least most value =
+    if nat_lt 0 (length value) && nat_le (length value) 10 && list_all is_ascii_digit value
+    && nat_le least (digits_number value) && nat_le (digits_number value) most
+    then Some (digits_number value) else None
+
+abbrev pub some_file : List ℕ → Option (Option (List ℕ))
+some_file value = option_map (λ name. Some name) (file_name value)
+
+-- at most so many values
+abbrev pub value_count : List ℕ → Option (Option ℕ)
+value_count value = option_map (λ n. Some n) (number_from 1 4294967295 value)
+
+abbrev pub ranking_of : List ℕ → Option Ranking
+ranking_of value =
+    if bytes_eq value (codes "none") then Some NoRanks
+    else (if bytes_eq value (codes "rule") then Some RuleRanks
+    else None)
+
+abbrev pub show_of : List ℕ → Option Show
+show_of value =
+    if bytes_eq value (codes "array") then Some ShowArray
+    else (if bytes_eq value (codes "tree") then Some ShowTree
+    else None)
+
+-- ---- the table of jobs. `given` is the value of each name that was set
+
+-- no option is given but these
+abbrev pub gives_only : List (List ℕ) → (given : List ℕ → Option (List ℕ)) → Bool
+gives_only names given = list_all (λ option. is_one_of names option || not (is_some (given option))) (stats ∷ with_value)
+
+abbrev pub grammar_given : (given : List ℕ → Option (List ℕ)) → Option (List ℕ)
+grammar_given given = option_and_then file_name (given (codes "grammar"))
+
+abbrev pub input_given : (given : List ℕ → Option (List ℕ)) → Option (Option (List ℕ))
+input_given given = read_or None some_file (given (codes "input"))
+
+-- needs --grammar; may have --input, --first, --rank, --show and --stats
+abbrev pub run_asked : (given : List ℕ → Option (List ℕ)) → Option Job
+run_asked given =
+    if gives_only (codes "grammar" ∷ codes "input" ∷ codes "first" ∷ codes "rank" ∷ codes "show" ∷ stats ∷ []) given then
+    option_and_then (λ grammar.
+    option_and_then (λ input.
+    option_and_then (λ show.
+    option_and_then (λ ranking.
+    option_map (λ first. Run (record {
+      grammar = grammar;
+      input = input;
+      show = show;
+      ranking = ranking;
+      first = first;
+      stats = is_some (given stats);
+    }))
+    (read_or None value_count (given (codes "first"))))
+    (read_or RuleRanks ranking_of (given (codes "rank"))))
+    (read_or ShowArray show_of (given (codes "show"))))
+    (input_given given))
+    (grammar_given given)
+    else None
+
+-- needs --grammar
+abbrev pub check_asked : (given : List ℕ → Option (List ℕ)) → Option Job
+check_asked given =
+    if gives_only (codes "grammar" ∷ []) given then option_map Check (grammar_given given) else None
+
+-- needs --grammar; may have --input
+abbrev pub expect_asked : (given : List ℕ → Option (List ℕ)) → Option Job
+expect_asked given =
+    if gives_only (codes "grammar" ∷ codes "input" ∷ []) given then
+    option_and_then (λ grammar. option_map (Expect grammar) (input_given given)) (grammar_given given)
+    else None
+
+-- needs --grammar and --at; may have --input
+abbrev pub progress_asked : (given : List ℕ → Option (List ℕ)) → Option Job
+progress_asked given =
+    if gives_only (codes "grammar" ∷ codes "at" ∷ codes "input" ∷ []) given then
+    option_and_then (λ grammar.
+    option_and_then (λ at. option_map (Progress grammar at) (input_given given))
+    (option_and_then (number_from 0 16777216) (given (codes "at"))))
+    (grammar_given given)
+    else None
+
+-- needs --size
+abbrev pub work_asked : (given : List ℕ → Option (List ℕ)) → Option Job
+work_asked given =
+    if gives_only (codes "size" ∷ []) given then
+    option_map Work (option_and_then (number_from 1 100000) (given (codes "size")))
+    else None
+
+abbrev pub job_named : (name : List ℕ) (given : List ℕ → Option (List ℕ)) → Option Job
+job_named name given =
+    if bytes_eq name (codes "run") then run_asked given
+    else (if bytes_eq name (codes "check") then check_asked given
+    else (if bytes_eq name (codes "expect") then expect_asked given
+    else (if bytes_eq name (codes "progress") then progress_asked given
+    else (if bytes_eq name (codes "work") then work_asked given
+    else None))))
+
+abbrev pub job_given : (given : List ℕ → Option (List ℕ)) → Option Job
+job_given given = option_and_then (λ name. job_named name given) (given (codes "JOB"))
+
+-- THE JOB THAT WORDS ASK FOR
+abbrev pub job_asked : List (List ℕ) → Option Job
+job_asked words =
+    option_and_then (λ settings. if are_set_once settings then job_given (value_of settings) else None) (words_set words None)
+
+abbrev pub Asks : List (List ℕ) → Job → Type 0
+Asks words job = job_asked words ≡ Some job
+
+-- the words ask for no job
+abbrev pub AskNothing : List (List ℕ) → Type 0
+AskNothing words = job_asked words ≡ None
