@@ -3,3 +3,6 @@ pub mod Candidates
 pub mod Reading
 pub mod Applied
 pub mod Accepted
+pub mod Short
+pub mod Lists
+pub mod ListsApplied

@@ -1,8 +1,6 @@
 -- What a start of the lexical grammar matches is decided.
-use Rattle.std.proofs.Common.{arith, ◌≡◌, ◌⊎◌, inl, inr, ℕ, suc, ◌+◌, ◌<◌, ◌≤◌, List, length, slice_get, slice_index, refl, sym, ◌∙◌, subst}
-use Rattle.grammar_model.specs.Grammar.{Grammar, Slot, WrittenRule, slot_of, rule_at, child_slot}
-use Rattle.grammar_model.specs.Trees.{Tree, Children, Leaf, Nulled, Node, NoChild, Child, child_count}
-use Rattle.grammar_model.specs.Derives.{Edges, Derives, DerivesFront}
+use Rattle.std.proofs.Common.{arith, ◌≡◌, ℕ, suc, List, slice_get, slice_index, refl, subst}
+use Rattle.grammar_model.specs.Grammar.{slot_of}
 use Rattle.language_model.specs.Classes.{Class, HasMember}
 use Rattle.language_model.specs.Building.{Built}
 use Rattle.reading_model.specs.Matches.{IsInSet, CharacterEdges, Matches}

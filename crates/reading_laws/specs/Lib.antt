@@ -1,2 +1,3 @@
 pub mod Laws
 pub mod Applied
+pub mod Lists

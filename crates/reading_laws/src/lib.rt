@@ -5,6 +5,7 @@
 ghost use Rattle.reading_model.specs.Laws.{AcceptedHaveNoFault, GrammarFaultIsOne};
 ghost use Rattle.reading_laws.specs.Applied.{ReadingApplies};
 ghost use Rattle.reading_laws.specs.Laws.{MatchesAreDecided, ReadingExists};
+ghost use Rattle.reading_laws.specs.Lists.{BuiltAreShort, StartsAreListed, DerivationsAreListed, ListingApplies};
 
 /// It is decided whether a start of the lexical grammar matches the characters between two places.
 pub fn matches_are_decided()
@@ -29,4 +30,24 @@ pub fn accepted_have_no_fault()
 /// Grammars have one fault at most.
 pub fn grammar_fault_is_one()
     ensures { GrammarFaultIsOne }
+{}
+
+/// The right sides of what is built of a text have at most a thousand parts.
+pub fn built_are_short()
+    ensures { BuiltAreShort }
+{}
+
+/// The derivations of the first start of an accepted grammar have a list, over edges that go forward.
+pub fn starts_are_listed()
+    ensures { StartsAreListed }
+{}
+
+/// The derivations of any pieces have a list, in the declared order.
+pub fn derivations_are_listed()
+    ensures { DerivationsAreListed }
+{}
+
+/// The derivations of a separated list have a list.
+pub fn listing_applies()
+    ensures { ListingApplies }
 {}
