@@ -1,22 +1,13 @@
 -- Bytes are accepted or refused, in one way.
-use Rattle.std.proofs.Common.{◌≡◌, ℕ, ◌<◌, List, ◌⊎◌, inl, inr, refl, sym, ap, subst, ◌∙◌, map, length, chars, slice_get, Some, [], ◌∷◌, ◌++◌, codes, arith}
-use Rattle.grammar_model.specs.Grammar.{Grammar}
-use Rattle.grammar_model.specs.Characters.{tree_line}
+use Rattle.std.proofs.Common.{◌≡◌, ℕ, List, ◌⊎◌, inl, inr, refl, sym, ap, subst, ◌∙◌, chars, [], ◌∷◌, ◌++◌, codes}
 use Rattle.language_model.specs.Description.{Statement}
 use Rattle.language_model.specs.Building.{Built, BuildFault, faults_of, built_of}
-use Rattle.language_model.specs.Simple.{IsSimpleDescription, grammar_of_simple}
 use Rattle.language_model.specs.Texts.{HasDescription, IsBuiltOf}
 use Rattle.reading_model.specs.Accepted.{IsAccepted, GrammarFault, HasGrammarFault}
 use Rattle.reading_model.proofs.Accepting.{no_fault, one_fault, accepted_or_fault}
 use Rattle.run_model.specs.Texts.{fault_text}
 use Rattle.run_model.specs.Refused.{Accepted, IsRefused, ByText, ByDescription, ByGrammars, build_text, grammar_text}
-use Rattle.run_model.specs.Derivations.{HasSimple, IsUnbuilt, Lists}
 use Rattle.run_model.proofs.Texts.{RunLaws}
-use Rattle.grammar_model.proofs.Characters.{listed_from, characters_listed}
-
-first_of : (xs : List ℕ) → 0 < length xs → (x : ℕ) × (slice_get xs 0 ≡ Some x)
-first_of [] some = absurd (omega (arith, some))
-first_of (x ∷ xs) some = (x, refl)
 
 -- ONE OF EACH
 
@@ -57,18 +48,6 @@ module _ (laws : RunLaws) (bytes : List ℕ) where
       let same = same_built accepted.description d b c accepted.has has accepted.built built in
       no_fault laws.checks c fault (subst IsAccepted same accepted.accepted) faulty
 
-  pub one_grammar : (g h : Grammar) → HasSimple bytes g → HasSimple bytes h → g ≡ h
-  one_grammar g h a b =
-      let same = laws.texts.one_description bytes a.description b.description a.has b.has in
-      a.grammar
-      ∙ ap grammar_of_simple (laws.texts.one_grammar a.description a.lines b.lines a.simple (subst (λ (d : List Statement). IsSimpleDescription d b.lines) (sym same) b.simple))
-      ∙ sym b.grammar
-
-  pub built_or_not : (g : Grammar) → HasSimple bytes g → IsUnbuilt bytes → ⊥
-  built_or_not g a u =
-      let same = laws.texts.one_description bytes a.description u.description a.has u.has in
-      u.none a.lines (subst (λ (d : List Statement). IsSimpleDescription d a.lines) same a.simple)
-
   -- SOME OF ALL
 
   abbrev Judged : Type 0
@@ -88,19 +67,3 @@ module _ (laws : RunLaws) (bytes : List ℕ) where
     | inl some ↦ of_faults some.0 some.1 (faults_of some.0) refl
     | inr fault ↦ inr (fault_text bytes fault.0, ByText fault.0 fault.1 refl)
   ]
-
-  pub simple_or_not : (d : List Statement) → HasDescription bytes d → ((g : Grammar) × HasSimple bytes g) ⊎ IsUnbuilt bytes
-  simple_or_not d has = elim (laws.texts.decided d) [
-    | inl simple ↦ inl (grammar_of_simple simple.0, record { description = d; has = has; lines = simple.0; simple = simple.1; grammar = refl })
-    | inr none ↦ inr (record { description = d; has = has; none = none })
-  ]
-
-  -- a simple grammar has the lines of its derivations
-  pub simple_lists : (g : Grammar) → HasSimple bytes g → (input : List ℕ) → (lines : List (List ℕ)) × Lists g input lines
-  simple_lists g has input =
-      let h = grammar_of_simple has.lines in
-      let first = first_of h.starts (laws.texts.started has.lines has.simple.simple) in
-      subst (λ (k : Grammar). (lines : List (List ℕ)) × Lists k input lines) (sym has.grammar) (
-        map (tree_line h input) (listed_from h input first.0),
-        record { trees = listed_from h input first.0; all = characters_listed h input (laws.texts.simple has.lines has.simple.simple) first.0 first.1; lines_are = refl },
-      )

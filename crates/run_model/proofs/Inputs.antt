@@ -1,24 +1,30 @@
 -- The bytes of an input are read to their end, or refused, in one way.
-use Rattle.std.proofs.Common.{◌≡◌, ℕ, ◌≤◌, ◌++◌, List, [], ◌∷◌, Bool, true, false, ◌⊎◌, inl, inr, refl, sym, ap, subst, ◌∙◌, arith, length, map, chars, codes, decimal, nat_le, leb-true}
+use Rattle.std.proofs.Common.{◌≡◌, ℕ, ◌≤◌, ◌++◌, List, Bool, true, false, ◌⊎◌, inl, inr, refl, sym, ap, ◌∙◌, arith, length, chars, codes, decimal, nat_le, leb-true}
 use Rattle.std.proofs.lemmas.Bool.{leb-false}
-use Rattle.std.specs.Str.{IsValidUpTo, is_utf8}
+use Rattle.std.specs.Str.{is_utf8}
 use Rattle.std.proofs.lemmas.Str.{utf8_valid_len-IsValidUpTo, IsUtf8-from_is_utf8}
-use Rattle.grammar_model.specs.Values.{name_of}
+use Rattle.grammar_model.specs.Trees.{Tree}
+use Rattle.grammar_model.specs.declared.Ranking.{Ranking}
+use Rattle.recognizer_model.specs.declared.ReportLine.{ReportLine}
+use Rattle.report_model.specs.Report.{IsReport}
 use Rattle.language_model.specs.Building.{Built}
 use Rattle.language_model.specs.Texts.{IsBuilt}
 use Rattle.reading_model.specs.Accepted.{IsAccepted}
-use Rattle.reading_model.specs.Reading.{Piece, Ending, End, Stopped, IsReading, AreExpected}
+use Rattle.reading_model.specs.Reading.{Piece, Ending, End, Stopped, IsReading, AreExpected, edges_of}
 use Rattle.reading_model.specs.Laws.{ReadingIsOne}
-use Rattle.run_model.specs.Inputs.{IsInputText, IsBrokenInput, IsRead, IsInputRefused, TooLong, NotUtf8, ReadingStops, stop_text}
-use Rattle.run_model.specs.Outcome.{Outcome, IsExpectOutcome, InputRefused, Expected, done, refused}
+use Rattle.run_model.specs.Inputs.{IsInputText, IsRead, IsInputRefused, TooLong, NotUtf8, ReadingStops, stop_text}
+use Rattle.run_model.specs.Listing.{AreDerivations}
 use Rattle.run_model.proofs.Utf8.{broken_at}
 
--- what is needed of readings: a text has one, and one list of what is expected behind its pieces
+-- what is needed of readings: a text has one, and what follows its pieces is listed: what is expected, all derivations, reports
 pub record ReadingLaws : Type 0 where
   pub read : (b : Built) (text : List ℕ) → IsBuilt b → IsAccepted b → (pieces : List Piece) × (ending : Ending) × IsReading b text pieces ending
   pub one : ReadingIsOne
   pub expected : (b : Built) (pieces : List Piece) → IsBuilt b → IsAccepted b → (symbols : List ℕ) × AreExpected b pieces symbols
   pub one_expected : (b : Built) (pieces : List Piece) (xs ys : List ℕ) → AreExpected b pieces xs → AreExpected b pieces ys → xs ≡ ys
+  pub derivations : (b : Built) (ranking : Ranking) (pieces : List Piece) → IsBuilt b → IsAccepted b → (trees : List Tree) × AreDerivations b ranking pieces trees
+  pub report : (b : Built) (pieces : List Piece) (at : ℕ) → IsBuilt b → IsAccepted b → (lines : List ReportLine) × IsReport b.g1 (edges_of pieces) 0 at lines
+  pub one_report : (b : Built) (pieces : List Piece) (at : ℕ) (xs ys : List ReportLine) → IsReport b.g1 (edges_of pieces) 0 at xs → IsReport b.g1 (edges_of pieces) 0 at ys → xs ≡ ys
 
 -- SOME OF ALL
 
@@ -46,13 +52,6 @@ module _ (laws : ReadingLaws) (b : Built) (built : IsBuilt b) (accepted : IsAcce
   read_or = elim (text_or bytes) [
     | inl text ↦ (let (pieces, ending, reading) = laws.read b (chars bytes) built accepted in by_ending text pieces ending reading)
     | inr other ↦ inr (other b)
-  ]
-
-  pub expect_outcome : (outcome : Outcome) × IsExpectOutcome b bytes outcome
-  expect_outcome = elim read_or [
-    | inl (pieces, read) ↦ (let (expected, are) = laws.expected b pieces built accepted in
-        (done (map (λ s. name_of b.g1 s ++ 10 ∷ []) expected), Expected pieces expected read are refl))
-    | inr (text, is) ↦ (refused 1 text, InputRefused text is refl)
   ]
 
 -- ONE OF EACH
@@ -91,14 +90,3 @@ module _ (laws : ReadingLaws) (b : Built) (bytes : List ℕ) where
   one_refused x y (ReadingStops pieces at found expected text reading is) (NotUtf8 at' broken is') = absurd (broken.broken text.utf8)
   one_refused x y (ReadingStops pieces at found expected text reading is) (ReadingStops pieces' at' found' expected' text' reading' is') =
       is ∙ same_stop pieces pieces' at at' found found' expected expected' reading reading' ∙ sym is'
-
-  same_lines : (xs ys : List Piece) (s t : List ℕ) → IsRead b bytes xs → IsRead b bytes ys → AreExpected b xs s → AreExpected b ys t → s ≡ t
-  same_lines xs ys s t p q a e =
-      laws.one_expected b xs s t a (subst (λ (ps : List Piece). AreExpected b ps t) (one_read ys xs q p) e)
-
-  pub one_expect : (x y : Outcome) → IsExpectOutcome b bytes x → IsExpectOutcome b bytes y → x ≡ y
-  one_expect x y (InputRefused text is of) (InputRefused other is' of') = of ∙ ap (refused 1) (one_refused text other is is') ∙ sym of'
-  one_expect x y (InputRefused text is of) (Expected pieces expected read are of') = absurd (not_both pieces text read is)
-  one_expect x y (Expected pieces expected read are of) (InputRefused text is of') = absurd (not_both pieces text read is)
-  one_expect x y (Expected pieces expected read are of) (Expected pieces' expected' read' are' of') =
-      of ∙ ap (λ s. done (map (λ k. name_of b.g1 k ++ 10 ∷ []) s)) (same_lines pieces pieces' expected expected' read read' are are') ∙ sym of'

@@ -1,7 +1,8 @@
-pub mod Asked
 pub mod Texts
 pub mod Accepted
 pub mod Checked
+pub mod Taken
+pub mod Told
 pub mod Outcomes
 pub mod OneEnd
 pub mod Exists

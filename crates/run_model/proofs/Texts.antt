@@ -1,8 +1,6 @@
 -- What a run needs to know of grammar texts.
-use Rattle.std.proofs.Common.{◌≡◌, ℕ, ◌<◌, List, ◌⊎◌, length}
-use Rattle.grammar_model.specs.Simple.{IsSimple as HasSimpleRules}
+use Rattle.std.proofs.Common.{◌≡◌, ℕ, List, ◌⊎◌}
 use Rattle.language_model.specs.Description.{Statement}
-use Rattle.language_model.specs.Simple.{SimpleLine, IsSimple, IsSimpleDescription, grammar_of_simple}
 use Rattle.language_model.specs.Texts.{HasDescription}
 use Rattle.grammar_model.specs.Grammar.{Grammar}
 use Rattle.reading_model.proofs.Accepting.{CheckLaws}
@@ -10,16 +8,12 @@ use Rattle.run_model.specs.Texts.{TextFault, HasFault}
 use Rattle.run_model.proofs.Inputs.{ReadingLaws}
 use Rattle.run_model.specs.Checking.{SymbolRow, IsRowOf}
 
--- a text has one description or one fault; a description is that of one simple grammar or of none, and that can be listed
+-- a text has one description or one fault
 pub record TextLaws : Type 0 where
   pub read : (bytes : List ℕ) → ((d : List Statement) × HasDescription bytes d) ⊎ ((f : TextFault) × HasFault bytes f)
   pub one_description : (bytes : List ℕ) (d e : List Statement) → HasDescription bytes d → HasDescription bytes e → d ≡ e
   pub one_fault : (bytes : List ℕ) (f g : TextFault) → HasFault bytes f → HasFault bytes g → f ≡ g
   pub not_both : (bytes : List ℕ) (d : List Statement) (f : TextFault) → HasDescription bytes d → HasFault bytes f → ⊥
-  pub one_grammar : (d : List Statement) (a b : List SimpleLine) → IsSimpleDescription d a → IsSimpleDescription d b → a ≡ b
-  pub decided : (d : List Statement) → ((g : List SimpleLine) × IsSimpleDescription d g) ⊎ ((g : List SimpleLine) → IsSimpleDescription d g → ⊥)
-  pub simple : (lines : List SimpleLine) → IsSimple lines → HasSimpleRules (grammar_of_simple lines)
-  pub started : (lines : List SimpleLine) → IsSimple lines → 0 < length (grammar_of_simple lines).starts
 
 -- and of grammars: checks decide, what each symbol can do is decided, and texts have one reading
 pub record RunLaws : Type 0 where

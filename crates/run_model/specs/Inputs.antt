@@ -5,7 +5,7 @@ use Rattle.std.specs.Str.{IsValidUpTo}
 use Rattle.grammar_model.specs.Grammar.{Grammar}
 use Rattle.grammar_model.specs.Values.{name_of}
 use Rattle.language_model.specs.Building.{Built}
-use Rattle.reading_model.specs.Reading.{Piece, Ending, End, Stopped, IsReading}
+use Rattle.reading_model.specs.Reading.{Piece, End, Stopped, IsReading}
 use Rattle.run_model.specs.Refused.{at_place, listed}
 
 -- the bytes are a text that is not too long

@@ -1,10 +1,10 @@
 pub mod Texts
-pub mod Words
 pub mod Refused
 pub mod Checking
 pub mod Inputs
 pub mod Listing
-pub mod Derivations
+pub mod Telling
+pub mod Jobs
 pub mod Outcome
 pub mod Outside
 pub mod Runs

@@ -1,7 +1,7 @@
 -- What job `run` tells of an input that is read to its end: the derivations of its tokens from the start symbol, in the declared
 -- order, each with the text of its value.
 -- Source: the Libmarpa manual (bocage, order, tree, value); the order is our own.
-use Rattle.std.specs.Prelude.{◌≡◌, ℕ, ◌+◌, ◌++◌, List, [], ◌∷◌, map, take, Option, Some, None, slice_index_or, slice_range, encode_utf8_all}
+use Rattle.std.specs.Prelude.{ℕ, ◌+◌, ◌++◌, List, [], ◌∷◌, map, take, Option, Some, None, slice_index_or, slice_range, encode_utf8_all}
 use Rattle.grammar_model.specs.Grammar.{slot_of}
 use Rattle.grammar_model.specs.Trees.{Tree}
 use Rattle.grammar_model.specs.Derives.{Held}

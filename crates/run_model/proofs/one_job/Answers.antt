@@ -1,5 +1,0 @@
-use Rattle.run_model.proofs.Asked.{asks_once}
-use Rattle.run_model.proofs.one_job.Goals as goal
-
-pub returns : goal.returns
-returns c = asks_once

@@ -1,0 +1,89 @@
+-- What the jobs tell of an input that is read to its end, by its pieces.
+-- Sources: the Libmarpa manual (progress reports; bocage, order, tree, value) and the Marpa::R2 SLIF DSL manual (lexemes that are
+-- expected); the texts are our own.
+use Rattle.std.specs.Prelude.{◌≡◌, ℕ, ◌<◌, ◌≤◌, ◌++◌, List, [], ◌∷◌, map, take, length, codes, decimal}
+use Rattle.std.specs.List.{concat}
+use Rattle.grammar_model.specs.Grammar.{Grammar, rule_at, lhs_of}
+use Rattle.grammar_model.specs.Trees.{Tree}
+use Rattle.grammar_model.specs.Values.{name_of}
+use Rattle.grammar_model.specs.declared.Ranking.{Ranking}
+use Rattle.grammar_model.specs.declared.Ranking.TheVariants.{Rule as RuleRanks}
+use Rattle.recognizer_model.specs.declared.ReportLine.{ReportLine}
+use Rattle.report_model.specs.Report.{IsReport}
+use Rattle.language_model.specs.Building.{Built}
+use Rattle.reading_model.specs.Reading.{Piece, AreExpected, edges_of, place_after}
+use Rattle.words_model.specs.Words.{RunAsked}
+use Rattle.run_model.specs.Inputs.{names_text}
+use Rattle.run_model.specs.Listing.{AreDerivations, line_of, first_of}
+use Rattle.run_model.specs.Jobs.{Task}
+use Rattle.run_model.specs.Jobs.Task.{Values, Expected, Report, Count}
+
+-- the text for the standard output, the line for the standard error, and the status
+pub record Outcome : Type 0 where
+  pub out : List ℕ
+  pub line : List ℕ
+  pub status : ℕ
+
+-- a line of the standard error
+abbrev pub message : List ℕ → List ℕ
+message text = codes "slif: " ++ text ++ (10 ∷ [])
+
+-- a refusal writes its line and nothing else
+abbrev pub refused : ℕ → List ℕ → Outcome
+refused status text = record { out = []; line = message text; status = status }
+
+-- a job that was done writes its lines and nothing else
+abbrev pub done : List (List ℕ) → Outcome
+done lines = record { out = concat lines; line = []; status = 0 }
+
+-- LINES
+
+abbrev pub name_line : Grammar → ℕ → List ℕ
+name_line g symbol = name_of g symbol ++ 10 ∷ []
+
+abbrev pub value_lines : Built → RunAsked → List ℕ → List Piece → List Tree → List (List ℕ)
+value_lines b asked cs pieces trees = map (line_of b asked.show cs pieces) (first_of asked.first trees)
+
+-- the derivations that are counted are at most as many as 32 bits tell
+abbrev pub count_line : (size : ℕ) → List Piece → List Tree → List ℕ
+count_line size pieces trees =
+    codes "work " ++ (decimal size ++ (codes ": tokens " ++ (decimal (place_after pieces) ++ (codes " values " ++ (decimal (length (take 4294967295 trees)) ++ 10 ∷ [])))))
+
+-- an item by its written rule, its dot, its origin, the place of the report, and the rule's left side
+abbrev pub report_line : Grammar → (at : ℕ) → ReportLine → List ℕ
+report_line g at l =
+    decimal l.rule ++ (codes ":" ++ (decimal l.dot ++ (codes " @" ++ (decimal l.origin ++ (codes "-" ++ (decimal at ++ (codes " " ++ (name_of g (lhs_of (rule_at g l.rule)) ++ 10 ∷ []))))))))
+
+-- WHAT IS TOLD
+
+abbrev pub no_derivation_text : Grammar → List ℕ → List ℕ
+no_derivation_text g expected = codes "input ended without a derivation; expected: " ++ names_text g expected
+
+abbrev pub no_set_text : (at last : ℕ) → List ℕ
+no_set_text at last = codes "no set " ++ (decimal at ++ (codes "; the last is " ++ decimal last))
+
+-- the lexemes that could come next
+pub record TellsExpected (b : Built) (pieces : List Piece) (outcome : Outcome) : Type 0 where
+  pub expected : List ℕ
+  pub are : AreExpected b pieces expected
+  pub is : outcome ≡ done (map (name_line b.g1) expected)
+
+-- lines of the derivations, which are in order; or there is none
+pub data TellsDerivations (b : Built) (ranking : Ranking) (lines : List Tree → List (List ℕ)) (pieces : List Piece) (outcome : Outcome) : Type 0 where
+  NoDerivation : (expected : List ℕ) → AreDerivations b ranking pieces [] → AreExpected b pieces expected → outcome ≡ refused 1 (no_derivation_text b.g1 expected) →
+      TellsDerivations b ranking lines pieces outcome
+  Derived : (tree : Tree) (trees : List Tree) → AreDerivations b ranking pieces (tree ∷ trees) → outcome ≡ done (lines (tree ∷ trees)) →
+      TellsDerivations b ranking lines pieces outcome
+
+-- the report at a place; or it is past the last
+pub data TellsReport (b : Built) (at : ℕ) (pieces : List Piece) (outcome : Outcome) : Type 0 where
+  NoSuchSet : place_after pieces < at → outcome ≡ refused 1 (no_set_text at (place_after pieces)) → TellsReport b at pieces outcome
+  Reported : (lines : List ReportLine) → at ≤ place_after pieces → IsReport b.g1 (edges_of pieces) 0 at lines → outcome ≡ done (map (report_line b.g1 at) lines) →
+      TellsReport b at pieces outcome
+
+-- what the task tells of these characters, which were read in these pieces
+abbrev pub Tells : Task → Built → (cs : List ℕ) → List Piece → Outcome → Type 0
+Tells (Values asked) b cs pieces outcome = TellsDerivations b asked.ranking (value_lines b asked cs pieces) pieces outcome
+Tells Expected b cs pieces outcome = TellsExpected b pieces outcome
+Tells (Report at) b cs pieces outcome = TellsReport b at pieces outcome
+Tells (Count size) b cs pieces outcome = TellsDerivations b RuleRanks (λ trees. count_line size pieces trees ∷ []) pieces outcome
