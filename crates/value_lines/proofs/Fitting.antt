@@ -1,6 +1,5 @@
 -- The derivation at which an iterator stands can be played, and its line is that of the definition.
-use Rattle.std.proofs.Common.{◌≡◌, ℕ, ◌<◌, ◌≤◌, ◌++◌, [], ◌∷◌, List, Bool, true, false, Some, IfSome, length, map, Contains, refl, sym, ap, subst, ◌∙◌, slice_index_or, arith}
-use Rattle.std.specs.Prelude.{All}
+use Rattle.std.proofs.Common.{◌≡◌, ℕ, ◌<◌, ◌++◌, [], ◌∷◌, List, Bool, true, false, Some, IfSome, length, Contains, refl, sym, ap, subst, ◌∙◌, slice_index_or, arith, Result, Ok, Err, OnOk}
 use Rattle.std.proofs.lemmas.List.Elements.{Contains-append_right, Contains-append_left}
 use Rattle.grammar_model.specs.Grammar.{Grammar, slot_of}
 use Rattle.grammar_model.specs.Trees.{Tree}
@@ -9,24 +8,25 @@ use Rattle.grammar_model.specs.Steps.{Step, steps_of}
 use Rattle.grammar_model.specs.Text.{text_of}
 use Rattle.grammar_model.specs.Values.{Value, Meaning, value_of}
 use Rattle.grammar_model.specs.declared.Show.{Show}
-use Rattle.grammar_model.specs.declared.Show.TheVariants.{Tree as ShowTree}
 use Rattle.grammar_model.specs.Checked.{IsChecked}
 use Rattle.grammar_core.specs.declared.steps.Span.{Span}
 use Rattle.language_model.specs.Building.{Built}
 use Rattle.dsl_build.specs.Ranges.{IsInRange}
-use Rattle.reading_model.specs.Reading.{Piece, edges_of, place_after, spans_from}
+use Rattle.reading_model.specs.Reading.{Piece, edges_of, place_after}
 use Rattle.forest_model.specs.Forest.{Forest}
-use Rattle.scanless.specs.Reading.{span_of}
 use Rattle.tree_iter.specs.Iteration.{Iteration, AreGiven, IsAnswer}
 use Rattle.valuator.specs.Play.{AreSteps, AreSpans, tokens_of}
 use Rattle.valuator.specs.Told.{advanced}
-use Rattle.run_model.specs.Listing.{line_of, tokens_in}
 use Rattle.value_lines.specs.Lines.{IsForestOf, IsLineOf}
 use Rattle.value_lines.proofs.Playing.{spans_fit, tokens_fit, steps_fit}
 
 -- a teller that held nothing holds what it is told
-pub told_one : (f : Show → List Value → List Value) (old new : List (Show × List Value)) → old ≡ (ShowTree, []) ∷ [] → new ≡ advanced f old → new ≡ (ShowTree, f ShowTree []) ∷ []
-told_one f old new e p = p ∙ ap (advanced f) e
+pub told_one : (f : Show → List Value → List Value) (show : Show) (old new : List (Show × List Value)) → old ≡ (show, []) ∷ [] → new ≡ advanced f old → new ≡ (show, f show []) ∷ []
+told_one f show old new e p = p ∙ ap (advanced f) e
+
+pub back_on_ok : {T E : Type 0} (r : Result T E) (old new now : List (Show × List Value)) → old ≡ now → OnOk r (new ≡ now) → OnOk r (new ≡ old)
+back_on_ok (Ok x) old new now e p = p ∙ sym e
+back_on_ok (Err x) old new now e p = p
 
 -- one more was given
 abbrev Given : Iteration → List Tree → Type 0
@@ -77,14 +77,14 @@ module _ (b : Built) (checked : IsChecked b.g1) (ranges : IsInRange b) (cs : Lis
   pub can_play : (new : Iteration) → new.forest ≡ f → (given : List Tree) (more : Given new given) (old list : List Step) → old ≡ [] → IfSome new.current (λ steps. list ≡ old ++ steps) → AreSteps b.g1 (length spans) list
   can_play new same given more old list none is = subst (AreSteps b.g1 (length spans)) (sym (told new given more old list none is)) (steps_are new same given more.0 more.1)
 
-  pub the_line : (new : Iteration) (given : List Tree) (more : Given new given) (old list : List Step) → old ≡ [] → IfSome new.current (λ steps. list ≡ old ++ steps) → (w : Grammar) (m : Meaning) (before line : List ℕ) →
-      w ≡ b.g1 → m ≡ b.meaning → before ≡ [] → ((t : Tree) → list ≡ steps_of t → line ≡ before ++ (text_of (value_of ShowTree w m (tokens_of cs spans) t) ++ 10 ∷ [])) → IsLineOf b cs pieces new given line true
-  the_line new given more old list none is w m before line same_w same_m empty each = (
+  pub the_line : (show : Show) (new : Iteration) (given : List Tree) (more : Given new given) (old list : List Step) → old ≡ [] → IfSome new.current (λ steps. list ≡ old ++ steps) → (w : Grammar) (m : Meaning) (before line : List ℕ) →
+      w ≡ b.g1 → m ≡ b.meaning → before ≡ [] → ((t : Tree) → list ≡ steps_of t → line ≡ before ++ (text_of (value_of show w m (tokens_of cs spans) t) ++ 10 ∷ [])) → IsLineOf b show cs pieces new given line true
+  the_line show new given more old list none is w m before line same_w same_m empty each = (
     more.0,
     more.1,
     each more.0 (told new given more old list none is)
-        ∙ ap (λ xs. xs ++ (text_of (value_of ShowTree w m (tokens_of cs spans) more.0) ++ 10 ∷ [])) empty
-        ∙ ap (λ (g : Grammar). text_of (value_of ShowTree g m (tokens_of cs spans) more.0) ++ 10 ∷ []) same_w
-        ∙ ap (λ (n : Meaning). text_of (value_of ShowTree b.g1 n (tokens_of cs spans) more.0) ++ 10 ∷ []) same_m
-        ∙ ap (λ ts. text_of (value_of ShowTree b.g1 b.meaning ts more.0) ++ 10 ∷ []) (tokens_fit cs spans pieces of.spans_are),
+        ∙ ap (λ xs. xs ++ (text_of (value_of show w m (tokens_of cs spans) more.0) ++ 10 ∷ [])) empty
+        ∙ ap (λ (g : Grammar). text_of (value_of show g m (tokens_of cs spans) more.0) ++ 10 ∷ []) same_w
+        ∙ ap (λ (n : Meaning). text_of (value_of show b.g1 n (tokens_of cs spans) more.0) ++ 10 ∷ []) same_m
+        ∙ ap (λ ts. text_of (value_of show b.g1 b.meaning ts more.0) ++ 10 ∷ []) (tokens_fit cs spans pieces of.spans_are),
   )

@@ -1,3 +1,4 @@
 pub mod Meanings
 pub mod Playing
 pub mod Fitting
+pub mod Texts

@@ -1,7 +1,7 @@
 -- The lines of a reading's derivations, one after another.
 use Rattle.std.specs.Prelude.{◌≡◌, ℕ, ◌≤◌, Bool, true, false, List, [], ◌∷◌, ◌++◌, length, map}
 use Rattle.grammar_model.specs.Trees.{Tree}
-use Rattle.grammar_model.specs.declared.Show.TheVariants.{Tree as ShowTree}
+use Rattle.grammar_model.specs.declared.Show.{Show}
 use Rattle.grammar_core.specs.declared.steps.Span.{Span}
 use Rattle.language_model.specs.Building.{Built}
 use Rattle.reading_model.specs.Reading.{Piece, End, IsReading, edges_of, place_after, spans_from}
@@ -22,6 +22,6 @@ pub record IsForestOf (b : Built) (cs : List ℕ) (spans : List Span) (f : Fores
   pub place : f.place ≡ place_after pieces
 
 -- one more is given, and this is its line; or those given are all
-abbrev pub IsLineOf : Built → List ℕ → List Piece → (new : Iteration) → (given : List Tree) → (line : List ℕ) → Bool → Type 0
-IsLineOf b cs pieces new given line true = (tree : Tree) × AreGiven new (given ++ tree ∷ []) × (line ≡ line_of b ShowTree cs pieces tree)
-IsLineOf b cs pieces new given line false = IsListing new.forest given
+abbrev pub IsLineOf : Built → Show → List ℕ → List Piece → (new : Iteration) → (given : List Tree) → (line : List ℕ) → Bool → Type 0
+IsLineOf b show cs pieces new given line true = (tree : Tree) × AreGiven new (given ++ tree ∷ []) × (line ≡ line_of b show cs pieces tree)
+IsLineOf b show cs pieces new given line false = IsListing new.forest given

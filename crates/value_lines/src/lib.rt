@@ -2,5 +2,7 @@
 #![tactic(auto)]
 
 mod lines;
+mod writing;
 
 pub use lines::next_line;
+pub use writing::{WriteRefusal, write_derivations};

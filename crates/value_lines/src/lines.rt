@@ -4,7 +4,7 @@ ghost use Rattle.grammar_model.specs.Trees.{Tree};
 ghost use Rattle.grammar_model.specs.Steps.{steps_of};
 ghost use Rattle.grammar_model.specs.Text.{text_of};
 ghost use Rattle.grammar_model.specs.Values.{Value, value_of};
-ghost use Rattle.grammar_model.specs.declared.Show.TheVariants.{Tree as ShowTree};
+ghost use Rattle.grammar_model.specs.declared.Show.{Show};
 ghost use Rattle.grammar_core.specs.Steps.{step_of};
 ghost use Rattle.value_text.specs.Meaning.{meaning_of};
 ghost use Rattle.valuator.specs.Play.{AreSteps, AreSpans, IsMeaningOf, tokens_of};
@@ -33,9 +33,9 @@ fn finish(teller: &mut Box<dyn Teller>, line: &mut Vec<u8>) -> Result<(), NoMemo
 
 // Appends the line of the one value that the one teller holds, which then holds nothing.
 fn finish_first(tellers: &mut Vec<Box<dyn Teller>>, line: &mut Vec<u8>) -> Result<(), NoMemory>
-    requires { (v : Value) × (states tellers.old.items shows held ≡ (ShowTree, v ∷ []) ∷ []) }
-    ensures line { (v : Value) → states tellers.old.items shows held ≡ (ShowTree, v ∷ []) ∷ [] → OnOk result (line.new.items ≡ line.old.items ++ (text_of v ++ 10 ∷ [])) }
-    ensures tellers { OnOk result (states tellers.new.items shows held ≡ (ShowTree, []) ∷ []) }
+    requires { (show : Show) × (v : Value) × (states tellers.old.items shows held ≡ (show, v ∷ []) ∷ []) }
+    ensures line { (show : Show) (v : Value) → states tellers.old.items shows held ≡ (show, v ∷ []) ∷ [] → OnOk result (line.new.items ≡ line.old.items ++ (text_of v ++ 10 ∷ [])) }
+    ensures tellers { (show : Show) (v : Value) → states tellers.old.items shows held ≡ (show, v ∷ []) ∷ [] → OnOk result (states tellers.new.items shows held ≡ (show, []) ∷ []) }
 {
     finish(&mut tellers[0], line)
 }
@@ -54,18 +54,17 @@ fn append_line(
     requires list { AreSteps w.now (length spans.now) (map step_of list.now) }
     requires meaning { IsMeaningOf w.now (meaning_of meaning.now) }
     requires spans { AreSpans (length chars.now) spans.now }
-    requires tellers { states tellers.old.items shows held ≡ (ShowTree, []) ∷ [] }
-    ensures tellers { OnOk result (states tellers.new.items shows held ≡ (ShowTree, []) ∷ []) }
-    ensures line { (t : Tree) → map step_of list.now ≡ steps_of t → OnOk result (line.new.items ≡
-        line.old.items ++ (text_of (value_of ShowTree w.now (meaning_of meaning.now) (tokens_of chars.now spans.now) t) ++ 10 ∷ [])) }
+    requires tellers { (show : Show) × (states tellers.old.items shows held ≡ (show, []) ∷ []) }
+    ensures tellers { OnOk result (states tellers.new.items shows held ≡ states tellers.old.items shows held) }
+    ensures line { (show : Show) (t : Tree) → states tellers.old.items shows held ≡ (show, []) ∷ [] → map step_of list.now ≡ steps_of t → OnOk result (line.new.items ≡
+        line.old.items ++ (text_of (value_of show w.now (meaning_of meaning.now) (tokens_of chars.now spans.now) t) ++ 10 ∷ [])) }
 {
     play(alloc, list, meaning, w, spans, chars, tellers)?;
     finish_first(tellers, line)
 }
 
 /// Goes to the next derivation of a reading's forest and puts its line in place of what `line` held; answers whether there is one.
-/// `spans` are those of the reading's tokens in `chars`; `tellers` is one teller of trees that holds nothing, and does so again after
-/// an `Ok`.
+/// `spans` are those of the reading's tokens in `chars`; `tellers` is one teller that holds nothing, and does so again after an `Ok`.
 pub fn next_line<L: Ledger>(
     alloc: Global,
     prepared: &Prepared,
@@ -78,11 +77,11 @@ pub fn next_line<L: Ledger>(
 ) -> Result<bool, NoMemory>
     requires forest { (pieces : List Piece) × IsForestOf prepared.now chars.now spans.now iter.old.forest pieces }
     requires given { (given : List Tree) × AreGiven iter.old given }
-    requires tellers { states tellers.old.items shows held ≡ (ShowTree, []) ∷ [] }
-    ensures line { IfOk result (λ more. (pieces : List Piece) (given : List Tree) → IsForestOf prepared.now chars.now spans.now iter.old.forest pieces → AreGiven iter.old given →
-        IsLineOf prepared.now chars.now pieces iter.new given line.new.items more) }
+    requires tellers { (show : Show) × (states tellers.old.items shows held ≡ (show, []) ∷ []) }
+    ensures line { IfOk result (λ more. (show : Show) (pieces : List Piece) (given : List Tree) → states tellers.old.items shows held ≡ (show, []) ∷ [] →
+        IsForestOf prepared.now chars.now spans.now iter.old.forest pieces → AreGiven iter.old given → IsLineOf prepared.now show chars.now pieces iter.new given line.new.items more) }
     ensures forest { iter.new.forest ≡ iter.old.forest }
-    ensures tellers { OnOk result (states tellers.new.items shows held ≡ (ShowTree, []) ∷ []) }
+    ensures tellers { OnOk result (states tellers.new.items shows held ≡ states tellers.old.items shows held) }
 {
     prepared.known();
     if !iter.next(steps)? {

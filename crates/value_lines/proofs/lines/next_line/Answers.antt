@@ -1,8 +1,8 @@
-use Rattle.std.proofs.Common.{◌≡◌, sym, ap, subst, map, ◌∙◌, refl}
+use Rattle.std.proofs.Common.{ap, map, ◌∙◌}
 use Rattle.grammar_core.specs.Steps.{step_of}
 use Rattle.value_text.specs.Meaning.{meaning_of}
 use Rattle.value_lines.proofs.Meanings.{meaning_fits}
-use Rattle.value_lines.proofs.Fitting.{one_more, none_more, spans_are, can_play, the_line}
+use Rattle.value_lines.proofs.Fitting.{one_more, spans_are, can_play, the_line}
 use Rattle.value_lines.proofs.lines.next_line.Goals as goal
 
 pub append_line-requires-clause-meaning : goal.append_line-requires-clause-meaning
@@ -23,10 +23,10 @@ append_line-requires-clause-list g c =
 
 pub returns-clause-line : goal.returns-clause-line
 returns-clause-line g c =
-    λ pieces given of are.
+    λ show pieces given alone of are.
     let b = c.args.prepared.now in
     let more = one_more c.in_ok-next.field-0 c.next.new.self given c.if-not-branch.false (c.in_ok-next.ensures.answer given are) in
     the_line b c.known.ensures.accepted.checked.structural c.known.ensures.ranges c.args.chars.now c.args.spans.now c.args.iter.now.forest pieces of
-    c.next.new.self given more (map step_of c.new-list.result.items) (map step_of c.steps_of.new.out.items) (ap (map step_of) c.new-list.ensures.items) c.in_ok-steps_of.ensures.ok
+    show c.next.new.self given more (map step_of c.new-list.result.items) (map step_of c.steps_of.new.out.items) (ap (map step_of) c.new-list.ensures.items) c.in_ok-steps_of.ensures.ok
     c.written.result.now (meaning_of c.meaning.result.now) c.clear.new.self.items c.append_line.new.line.items c.written.ensures c.meaning.ensures c.clear.ensures.items
-    (λ t is. c.in_ok-append_line.ensures.line t (ap (map step_of) c.deref.ensures.value ∙ is))
+    (λ t is. c.in_ok-append_line.ensures.line show t alone (ap (map step_of) c.deref.ensures.value ∙ is))

@@ -1,0 +1,112 @@
+// Writing the lines of the derivations of a reading.
+ghost use Rattle.std.specs.Prelude.{◌≡◌, ◌≤◌, ◌↔◌, ◌∷◌, [], List, IfErr, IfSome, IsTrue, OnOk};
+ghost use Rattle.std.specs.Io.KnownBytes.{Appends};
+ghost use Rattle.reading_model.specs.Reading.{Piece};
+ghost use Rattle.run_model.specs.Outside.{stream};
+ghost use Rattle.valuator.specs.Told.{states};
+ghost use Rattle.value_lines.specs.Lines.{IsForestOf};
+ghost use Rattle.value_lines.specs.Writing.{AreBothTellers, TextHas, TextStops};
+
+use crate::next_line;
+use bocage::Forest;
+use grammar_core::Span;
+use scanless::Prepared;
+use slif_base::{Chars, Sink, Steps, write_all};
+use std::alloc::Global;
+use std::sync::ledger::Ledger;
+use thiserror::Error;
+use tree_iter::TreeIter;
+use valuator::{Show, Teller};
+
+/// Why the lines were not all written.
+#[derive(Clone, Copy, Debug, PartialEq, Eq, Error)]
+pub enum WriteRefusal {
+    #[error("a write failed")]
+    WriteFault,
+    #[error("no memory")]
+    NoMemory,
+}
+
+/// Writes the lines of so many of the first derivations of a reading's forest, or of all, in the declared order and each as one piece,
+/// as the teller of the kind asked for tells them. `spans` are those of the reading's tokens in `chars`. More than 2^64 - 1
+/// derivations count as too many for memory.
+pub fn write_derivations<O: Sink, L: Ledger>(
+    alloc: Global,
+    prepared: &Prepared,
+    chars: &Chars,
+    spans: &[Span],
+    forest: &Forest<'_>,
+    show: Show,
+    first: Option<u32>,
+    mut tellers: Vec<Box<dyn Teller>>,
+    out: &mut O,
+    steps: &mut Steps<L>,
+) -> Result<(), WriteRefusal>
+    requires forest { (pieces : List Piece) × IsForestOf prepared.now chars.now spans.now forest.now pieces }
+    requires tellers { AreBothTellers (states tellers.items shows held) }
+    ensures written { OnOk result (TextHas prepared.now show chars.now spans.now forest.now first (λ text. Appends (O.contents out.old) (O.contents out.new) text)) }
+    ensures stops { IfErr result (λ refusal. TextHas prepared.now show chars.now spans.now forest.now first
+        (λ text. TextStops (stream O.contents O.fault_count out.old) (stream O.contents O.fault_count out.new) refusal text)) }
+    ensures later { O.fault_count out.old ≤ O.fault_count out.new }
+{
+    forest.known();
+    keep_teller(show, &mut tellers);
+    let Ok(mut iter) = TreeIter::new(alloc, forest) else {
+        return Err(WriteRefusal::NoMemory);
+    };
+    let mut line = Vec::new(alloc);
+    let limit = limit_of(first);
+    for _k in 0..limit {
+        let Ok(more) = next_line(
+            alloc,
+            prepared,
+            chars,
+            spans,
+            &mut iter,
+            &mut tellers,
+            &mut line,
+            steps,
+        ) else {
+            return Err(WriteRefusal::NoMemory);
+        };
+        if !more {
+            return Ok(());
+        }
+        let Ok(()) = write_all(out, &line) else {
+            return Err(WriteRefusal::WriteFault);
+        };
+    }
+    match first {
+        Some(_) => Ok(()),
+        None => Err(WriteRefusal::NoMemory),
+    }
+}
+
+// Whether a teller is of a kind.
+fn is_of(show: Show, teller: &Box<dyn Teller>) -> bool
+    ensures { IsTrue result ↔ (shows teller.now ≡ show) }
+{
+    teller.kind() == show
+}
+
+// Keeps the teller of the kind.
+fn keep_teller(show: Show, tellers: &mut Vec<Box<dyn Teller>>)
+    requires { AreBothTellers (states tellers.old.items shows held) }
+    ensures { states tellers.new.items shows held ≡ (show, []) ∷ [] }
+{
+    if is_of(show, &tellers[0]) {
+        tellers.truncate(1);
+    } else {
+        tellers.swap_remove(0);
+    }
+}
+
+// How many lines are written at most.
+fn limit_of(first: Option<u32>) -> u64
+    ensures { IfSome first (λ n. result ≡ n) }
+{
+    match first {
+        Some(count) => u64::from(count),
+        None => u64::MAX,
+    }
+}
