@@ -1,7 +1,7 @@
 -- What a run needs to know of grammars, from the laws of grammars and of checks.
-use Rattle.std.proofs.Common.{◌≡◌, ◌↔◌, ℕ, Bool, true, IsTrue, List, [], ◌∷◌, inl, inr, refl, sym, subst}
+use Rattle.std.proofs.Common.{◌≡◌, ℕ, List, [], ◌∷◌, inl, inr, refl, sym, subst}
 use Rattle.grammar_model.specs.Grammar.{Grammar, Slot, slot_of}
-use Rattle.grammar_model.specs.Analysis.{IsNullable, IsProductive, IsAccessible}
+use Rattle.grammar_model.specs.Analysis.{IsAccessible}
 use Rattle.finite_sets.specs.Decided.{IsDecided}
 use Rattle.finite_sets.proofs.Deciding.{both, one_of, moved, equal, test_of, test_true, true_test}
 use Rattle.finite_sets.proofs.Members.{Among}
@@ -13,7 +13,15 @@ use Rattle.grammar_check.proofs.Uniqueness.{not_refused, one_refusal}
 use Rattle.reading_model.proofs.Accepting.{CheckLaws}
 use Rattle.reading_model.proofs.One.{reading_is_one, one_expected}
 use Rattle.reading_laws.specs.Laws.{LexemesAreNamed}
-use Rattle.reading_laws.proofs.Candidates.{expected_list}
+use Rattle.reading_laws.proofs.Candidates.{expected_list, pieces_forward}
+use Rattle.reading_laws.proofs.Lists.{derivations_listed, flat_form_exists}
+use Rattle.reading_laws.proofs.Short.{built_are_short}
+use Rattle.report_model.specs.Report.{IsReport}
+use Rattle.report_model.proofs.One.{report_is_one}
+use Rattle.report_model.proofs.Existing.{reports_exist}
+use Rattle.recognizer_model.specs.declared.ReportLine.{ReportLine}
+use Rattle.reading_model.specs.Accepted.{IsAccepted}
+use Rattle.reading_model.specs.Reading.{Piece, edges_of}
 use Rattle.reading_laws.proofs.Reading.{reading_exists}
 use Rattle.language_model.specs.Building.{Built}
 use Rattle.language_model.specs.Texts.{IsBuilt}
@@ -57,12 +65,22 @@ check_laws = record { decided = checks_decide; not_both = not_refused; one_refus
 lexemes_named : (b : Built) → IsBuilt b → LexemesAreNamed b
 lexemes_named b built = (in_order b built).differ
 
+-- each place has a report
+some_report : (b : Built) (pieces : List Piece) (at : ℕ) → IsBuilt b → IsAccepted b → (lines : List ReportLine) × IsReport b.g1 (edges_of pieces) 0 at lines
+some_report b pieces at built accepted =
+    let checked = accepted.checked.structural in
+    let (flat, is_flat, form) = flat_form_exists b.g1 checked accepted.structural (built_are_short b built) in
+    reports_exist b.g1 flat (edges_of pieces) 0 at is_flat form (pieces_forward pieces) checked.some_start
+
 pub reading_laws : ReadingLaws
 reading_laws = record {
   read = λ b text built accepted. reading_exists b text accepted.checked.structural (lexemes_named b built);
   one = reading_is_one;
   expected = λ b pieces built accepted. expected_list b accepted.checked.structural [] pieces 0 (lexemes_named b built);
   one_expected = one_expected;
+  derivations = derivations_listed;
+  report = some_report;
+  one_report = λ b pieces at xs ys p q. report_is_one b.g1 (edges_of pieces) 0 at xs ys p q;
 }
 
 pub run_laws : RunLaws

@@ -4,7 +4,6 @@ use Rattle.std.proofs.lemmas.List.{take_all}
 use Rattle.std.specs.List.{flat_map}
 use Rattle.grammar_model.specs.Grammar.{Grammar}
 use Rattle.std.proofs.lemmas.List.Elements.{All-weaker, All-contains_itself, All-contains}
-use Rattle.std.specs.Str.{IsValidUpTo}
 use Rattle.grammar_core.specs.declared.steps.Span.{Span}
 use Rattle.grammar_model.specs.Values.{name_of}
 use Rattle.language_model.specs.Building.{Built, LexemeRow}
@@ -12,13 +11,12 @@ use Rattle.dsl_build.specs.Ranges.{IsInRange}
 use Rattle.slif_base.specs.Characters.{RefusesText}
 use Rattle.slif_base.specs.declared.chars.TextRefusal.{TextRefusal}
 use Rattle.slif_base.specs.declared.chars.TextRefusal.TheVariants.{NotUtf8 as BrokenText}
-use Rattle.reading_model.specs.Reading.{Piece, Ending, End, Stopped, IsReading, HasStopped, AreFound, AreExpected}
+use Rattle.reading_model.specs.Reading.{Piece, Stopped, IsReading, HasStopped, AreFound, AreExpected}
 use Rattle.earley_sets.specs.Recognizer.{Recognizer}
-use Rattle.scanless.specs.Reading.{IsReadingOf, HoldsPieces, ending_of}
+use Rattle.scanless.specs.Reading.{IsReadingOf, ending_of}
 use Rattle.scanless.specs.declared.reading.Ending.{Ending as HeldEnding}
-use Rattle.scanless.specs.declared.reading.Ending.TheVariants.{End as AtEnd, Stopped as Stops}
-use Rattle.run_model.specs.Inputs.{IsInputText, IsRead, IsInputRefused, NotUtf8, ReadingStops, stop_text, names_text}
-use Rattle.run_model.specs.Outcome.{Outcome, IsExpectOutcome, InputRefused, Expected, done, refused}
+use Rattle.scanless.specs.declared.reading.Ending.TheVariants.{Stopped as Stops}
+use Rattle.run_model.specs.Inputs.{IsInputRefused, NotUtf8, ReadingStops, stop_text, names_text}
 use Rattle.slif_cli.specs.Stops.{IsBrokenText, IsStopText}
 
 -- SYMBOLS
@@ -77,15 +75,6 @@ module _ (b : Built) (bytes : List ℕ) (within : length bytes ≤ 16777216) whe
 
   pub refused_stop : IsUtf8 bytes → (text : List ℕ) → IsStopText b (chars bytes) text → IsInputRefused b bytes text
   refused_stop utf8 text stop = ReadingStops stop.pieces stop.at stop.found stop.expected (record { within = within; utf8 = utf8 }) stop.reading stop.told
-
-  -- AN INPUT THAT IS READ
-
-  pub is_read : IsUtf8 bytes → (recce : Recognizer) (spans : List Span) (read : IsReadingOf b (chars bytes) recce spans AtEnd) → IsRead b bytes read.pieces
-  is_read utf8 recce spans read = record { text = record { within = within; utf8 = utf8 }; reading = read.is_reading }
-
-  pub expects : IsUtf8 bytes → (recce : Recognizer) (spans : List Span) (read : IsReadingOf b (chars bytes) recce spans AtEnd) (symbols : List ℕ) →
-      ((pieces : List Piece) → HoldsPieces b pieces recce → AreExpected b pieces symbols) → (lines : List (List ℕ)) → lines ≡ map (λ s. name_of b.g1 s ++ 10 ∷ []) symbols → IsExpectOutcome b bytes (done lines)
-  expects utf8 recce spans read symbols are lines same = Expected read.pieces symbols (is_read utf8 recce spans read) (are read.pieces read.holds) (ap done same)
 
 -- NAMES
 

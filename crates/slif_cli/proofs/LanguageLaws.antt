@@ -1,20 +1,15 @@
--- What a run needs to know of grammar texts, from the laws of tokens, of statements and of simple descriptions.
-use Rattle.std.proofs.Common.{◌≡◌, ◌∙◌, ℕ, ◌<◌, ◌≤◌, Bool, true, false, List, ◌⊎◌, inl, inr, refl, sym, ap, subst, arith, length, chars, nat_le, leb-true}
+-- What a run needs to know of grammar texts, from the laws of tokens and of statements.
+use Rattle.std.proofs.Common.{◌≡◌, ◌∙◌, ℕ, ◌≤◌, Bool, true, false, List, ◌⊎◌, inl, inr, refl, sym, ap, subst, arith, length, chars, nat_le, leb-true}
 use Rattle.std.proofs.lemmas.Bool.{leb-false}
 use Rattle.std.specs.Str.{is_utf8}
 use Rattle.std.proofs.lemmas.Str.{utf8_valid_len-IsValidUpTo, IsUtf8-from_is_utf8}
-use Rattle.grammar_model.specs.Grammar.{Grammar}
 use Rattle.language_model.specs.declared.token.Token.{Token}
 use Rattle.language_model.specs.Description.{Statement, Describes, IsBadStatement}
-use Rattle.language_model.specs.Simple.{SimpleLine, IsSimple, IsSimpleDescription, grammar_of_simple}
 use Rattle.dsl_tokens.proofs.ExistLemmas as tokens
 use Rattle.dsl_tokens.proofs.UniqueLemmas.{one_list, no_bad_place}
-use Rattle.simple_grammar.proofs.DescriptionLemmas.{one_simple, decided}
-use Rattle.simple_grammar.proofs.FormLemmas.{grammar_simple}
 use Rattle.language_model.specs.Texts.{IsText, HasTokens, HasDescription, spelled}
 use Rattle.run_model.specs.Texts.{TextFault, TooLong, NotUtf8, BadToken, BadStatement, HasFault}
 use Rattle.run_model.proofs.Texts.{TextLaws}
-use Rattle.slif_cli.specs.Stops.{IsListable}
 use Rattle.run_model.proofs.Utf8.{broken_at}
 use Rattle.dsl_reader.proofs.SomeDescription.{described_or_bad}
 use Rattle.dsl_reader.proofs.OneDescription as statements
@@ -85,21 +80,5 @@ module _ (bytes : List ℕ) where
       by_length true e = of_bytes (leb-true _ _ e) (is_utf8 bytes) refl
       by_length false e = inr (TooLong, leb-false _ _ e)
 
-started : (lines : List SimpleLine) → IsSimple lines → 0 < length (grammar_of_simple lines).starts
-started lines simple = let one = (grammar_simple lines simple).1 in omega (arith, one)
-
 pub text_laws : TextLaws
-text_laws = record {
-  read = read;
-  one_description = same_description;
-  one_fault = same_fault;
-  not_both = not_both;
-  one_grammar = one_simple;
-  decided = decided;
-  simple = λ lines simple. (grammar_simple lines simple).0;
-  started = started;
-}
-
--- the grammar of a simple description can be listed
-pub listable : (w : Grammar) (d : List Statement) → (g : List SimpleLine) × IsSimpleDescription d g × (w ≡ grammar_of_simple g) → IsListable w
-listable w d made = subst IsListable (sym made.2) (record { simple = (grammar_simple made.0 made.1.simple).0; started = started made.0 made.1.simple })
+text_laws = record { read = read; one_description = same_description; one_fault = same_fault; not_both = not_both }

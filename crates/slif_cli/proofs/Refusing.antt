@@ -1,5 +1,5 @@
 -- What is told of a refused grammar is the text of the definition.
-use Rattle.std.proofs.Common.{◌≡◌, ◌≢◌, ◌∙◌, ℕ, ◌≤◌, ◌<◌, Bool, List, [], ◌∷◌, ◌++◌, Option, length, Some, None, IfSome, refl, sym, ap, subst, map, chars, codes}
+use Rattle.std.proofs.Common.{◌≡◌, ◌∙◌, ℕ, ◌≤◌, ◌<◌, Bool, List, [], ◌∷◌, ◌++◌, Option, length, Some, None, IfSome, refl, sym, ap, subst, map, chars, codes}
 use Rattle.std.specs.List.{flat_map}
 use Rattle.grammar_model.specs.Grammar.{Grammar}
 use Rattle.grammar_model.specs.Values.{name_of}
@@ -18,7 +18,7 @@ use Rattle.reading_model.specs.Accepted.{Structural, Lexical, TooManyRules, HasG
 use Rattle.run_model.specs.Texts.{BadToken, BadStatement, NotUtf8, TooLong, place_text, fault_text}
 use Rattle.slif_base.specs.Told.{ToldFile, MayHold, FileHolds}
 use Rattle.slif_cli.specs.Stops.{TellsText, LoadStops, IsFaultText}
-use Rattle.slif_cli.specs.declared.stop.Refusal.TheVariants.{NotBuilt, NoDerivation, Grammar as BadGrammar, Input as BadInput}
+use Rattle.slif_cli.specs.declared.stop.Refusal.TheVariants.{NotBuilt, Usage, Grammar as BadGrammar, Input as BadInput}
 use Rattle.slif_cli.specs.declared.stop.Stop.{Stop}
 use Rattle.slif_cli.specs.declared.stop.Stop.TheVariants as stopped
 use Rattle.language_model.specs.declared.token.Token.{Token}
@@ -32,7 +32,7 @@ use Rattle.dsl_tokens.specs.declared.reading.TokenRefusal.TheVariants.{BadToken 
 use Rattle.dsl_reader.specs.Cutting.{Refuses as RefusesStatements}
 use Rattle.dsl_reader.specs.declared.refusal.StatementRefusal.{StatementRefusal}
 use Rattle.dsl_reader.specs.declared.refusal.StatementRefusal.TheVariants.{BadStatement as BadPiece}
-use Rattle.run_model.specs.Refused.{IsRefused, ByText, ByDescription, ByGrammars, refusal_text, build_text, grammar_text, listed}
+use Rattle.run_model.specs.Refused.{IsRefused, ByText, ByDescription, ByGrammars, refusal_text, grammar_text, listed}
 use Rattle.slif_cli.specs.Stops.{IsBadText, OfTokens, OfStatements, IsBadDescription, OfBuilding, OfGrammars, IsGrammarText}
 
 -- A CHECK
@@ -119,7 +119,7 @@ bad_statement cs ts text e at are is refuses told = OfStatements at ts are (subs
 
 pub load_text : (name : List ℕ) (told : ToldFile) (before after : ℕ) (bytes : List ℕ) → MayHold told bytes → (stop : Stop) → TellsText (IsRefused bytes) stop → LoadStops name told before after stop
 load_text name told before after bytes held (stopped.Refused NotBuilt) stops = stops
-load_text name told before after bytes held (stopped.Refused NoDerivation) stops = stops
+load_text name told before after bytes held (stopped.Refused Usage) stops = stops
 load_text name told before after bytes held (stopped.Refused (BadGrammar text)) stops = record { bytes = bytes; may_hold = held; holds = stops }
 load_text name told before after bytes held (stopped.Refused (BadInput text)) stops = stops
 load_text name told before after bytes held (stopped.OpenFault asked) stops = absurd stops

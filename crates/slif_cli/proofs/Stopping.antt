@@ -1,20 +1,20 @@
 -- What is known of a stop, and what follows from it.
-use Rattle.std.proofs.Common.{◌≡◌, ℕ, ◌<◌, List, [], ◌∷◌, ◌++◌, Option, refl, sym, subst, arith, length}
+use Rattle.std.proofs.Common.{ℕ, List, [], Option, refl}
 use Rattle.std.specs.List.{concat}
 use Rattle.std.specs.Io.KnownBytes.{Appends}
 use Rattle.slif_base.specs.Told.{AppendsPrefix}
 use Rattle.slif_base.proofs.Bytes.{appends_none}
-use Rattle.run_model.specs.Outcome.{Outcome, no_derivation, done}
+use Rattle.run_model.specs.Outcome.{Outcome, done}
 use Rattle.run_model.specs.Outside.{Stream}
-use Rattle.slif_cli.specs.Stops.{TellsText, IsFront, AppendsFront, Does, StopsAt, WriteStops, LinesStop, lines_outcome}
+use Rattle.slif_cli.specs.Stops.{TellsText, IsFront, AppendsFront, Does, StopsAt, WriteStops, LinesStop}
 use Rattle.slif_cli.specs.Stops.IsFront.{Nothing, Front}
-use Rattle.slif_cli.specs.declared.stop.Refusal.TheVariants.{NotBuilt, NoDerivation, Grammar as BadGrammar, Input as BadInput}
+use Rattle.slif_cli.specs.declared.stop.Refusal.TheVariants.{NotBuilt, Usage, Grammar as BadGrammar, Input as BadInput}
 use Rattle.slif_cli.specs.declared.stop.Stop.{Stop}
 use Rattle.slif_cli.specs.declared.stop.Stop.TheVariants.{Refused, OpenFault, ReadFault, WriteFault, NoMemory}
 
 pub told_weaker : (P Q : List ℕ → Type 0) → ((t : List ℕ) → P t → Q t) → (stop : Stop) → TellsText P stop → TellsText Q stop
 told_weaker P Q f (Refused NotBuilt) told = told
-told_weaker P Q f (Refused NoDerivation) told = told
+told_weaker P Q f (Refused Usage) told = told
 told_weaker P Q f (Refused (BadGrammar text)) told = f text.items told
 told_weaker P Q f (Refused (BadInput text)) told = told
 told_weaker P Q f (OpenFault name) told = told
@@ -59,19 +59,3 @@ module _ (P : Outcome → Type 0) (lines : List (List ℕ)) (is : P (done lines)
   lines_stop before after ReadFault stops = absurd stops
   lines_stop before after WriteFault stops = (stops.0, part_done before.bytes after.bytes stops.1)
   lines_stop before after NoMemory stops = part_done before.bytes after.bytes stops
-
-some_lines : (lines : List (List ℕ)) → 0 < length lines → done lines ≡ lines_outcome lines
-some_lines [] some = absurd (omega (arith, some))
-some_lines (first ∷ others) some = refl
-
--- a list that is not empty
-module _ (lines : List (List ℕ)) (some : 0 < length lines) where
-  pub list_done : (before after : Option (List ℕ)) → Appends before after (concat lines) → Does (λ o. o ≡ lines_outcome lines) before after
-  list_done before after written = lines_done (λ o. o ≡ lines_outcome lines) lines (some_lines lines some) before after written
-
-  pub list_stop : (before after : Stream) (stop : Stop) → LinesStop lines before after stop → WriteStops (λ o. o ≡ lines_outcome lines) before after stop
-  list_stop before after stop stops = lines_stop (λ o. o ≡ lines_outcome lines) lines (some_lines lines some) before after stop stops
-
-pub no_lines : (lines : List (List ℕ)) → length lines ≡ 0 → no_derivation ≡ lines_outcome lines
-no_lines [] none = refl
-no_lines (first ∷ others) none = absurd (omega (arith, none))

@@ -1,50 +1,40 @@
 -- What is known where a part of the work stops.
-use Rattle.std.specs.Prelude.{◌≡◌, ℕ, List, [], ◌∷◌, ◌++◌, ◌⊎◌, Option, Some, None, ⊤, ◌<◌, length, map, codes, decimal, option_copied, IsUtf8}
+use Rattle.std.specs.Prelude.{◌≡◌, ℕ, List, [], ◌∷◌, ◌++◌, ◌⊎◌, Option, Some, None, ⊤, ◌<◌, length, map, codes, decimal, IsUtf8}
 use Rattle.std.specs.Str.{IsValidUpTo}
 use Rattle.std.specs.List.{concat}
 use Rattle.std.specs.Io.KnownBytes.{Appends}
 use Rattle.slif_base.specs.Causes.{Rose}
 use Rattle.slif_base.specs.Told.{ToldFile, Holds, FileHolds, AppendsPrefix}
-use Rattle.grammar_model.specs.Grammar.{Grammar}
-use Rattle.grammar_model.specs.Simple.{IsSimple}
 use Rattle.language_model.specs.declared.token.Token.{Token}
 use Rattle.language_model.specs.Tokens.{AreTokens, IsBadPlace, spelled_at}
 use Rattle.language_model.specs.Description.{Statement, Describes, IsBadStatement}
 use Rattle.language_model.specs.Building.{Built, BuildFault, faults_of}
-use Rattle.language_model.specs.Simple.{SimpleLine, IsSimpleDescription}
-use Rattle.language_model.specs.Texts.{HasDescription, IsBuiltOf}
+use Rattle.language_model.specs.Texts.{IsBuiltOf}
 use Rattle.reading_model.specs.Accepted.{GrammarFault, HasGrammarFault}
 use Rattle.reading_model.specs.Reading.{Piece, Stopped, IsReading}
-use Rattle.run_model.specs.Words as model
-use Rattle.run_model.specs.Words.{Asks, InputFrom}
-use Rattle.run_model.specs.Words.InputFrom.{Nowhere, StandardInput, FileNamed}
+use Rattle.words_model.specs.Words.{Job, InputFrom}
+use Rattle.words_model.specs.Words.InputFrom.{Nowhere, StandardInput, FileNamed}
 use Rattle.run_model.specs.Texts.{place_text}
-use Rattle.run_model.specs.Refused.{Accepted, IsRefused, build_text, grammar_text}
+use Rattle.run_model.specs.Jobs.{Takes}
+use Rattle.run_model.specs.Refused.{IsRefused, build_text, grammar_text}
 use Rattle.run_model.specs.Checking as checks
 use Rattle.run_model.specs.Inputs.{stop_text}
-use Rattle.run_model.specs.Outcome.{Outcome, IsInputOutcome, not_built, no_derivation, done, refused}
+use Rattle.run_model.specs.Outcome.{Outcome, not_built, usage, refused}
 use Rattle.run_model.specs.Outside.{Stream, Disk}
 use Rattle.run_model.specs.Runs.{MayEnd, MayOpen, InputMayBe, fault_line, memory_line}
 use Rattle.run_model.specs.Runs.Fault.{CannotOpen, CannotRead, CannotWrite}
-use Rattle.slif_cli.specs.declared.words.Job.{Job}
-use Rattle.slif_cli.specs.declared.words.Job.TheVariants.{RunTree, Check, Expect}
 use Rattle.slif_cli.specs.declared.checking.SymbolRow.{SymbolRow}
 use Rattle.slif_cli.specs.declared.stop.Refusal.{Refusal}
-use Rattle.slif_cli.specs.declared.stop.Refusal.TheVariants.{NotBuilt, NoDerivation, Grammar as BadGrammar, Input as BadInput}
+use Rattle.slif_cli.specs.declared.stop.Refusal.TheVariants.{NotBuilt, Usage, Grammar as BadGrammar, Input as BadInput}
 use Rattle.slif_cli.specs.declared.stop.Stop.{Stop}
 use Rattle.slif_cli.specs.declared.stop.Stop.TheVariants.{Refused, OpenFault, ReadFault, WriteFault, NoMemory}
-
-abbrev pub job_of : Job → model.Job
-job_of (RunTree grammar) = model.RunTree grammar.now
-job_of (Check grammar) = model.Check grammar.now
-job_of (Expect grammar input) = model.Expect grammar.now (option_copied input)
 
 abbrev pub told_row : SymbolRow → checks.SymbolRow
 told_row r = record { symbol = r.symbol; nullable = r.nullable; productive = r.productive; accessible = r.accessible }
 
 abbrev pub refusal_outcome : Refusal → Outcome
 refusal_outcome NotBuilt = not_built
-refusal_outcome NoDerivation = no_derivation
+refusal_outcome Usage = usage
 refusal_outcome (BadGrammar text) = refused 3 text.items
 refusal_outcome (BadInput text) = refused 1 text.items
 
@@ -53,7 +43,7 @@ refusal_outcome (BadInput text) = refused 1 text.items
 -- a text of which P holds is told, or there is no memory
 abbrev pub TellsText : (List ℕ → Type 0) → Stop → Type 0
 TellsText P (Refused NotBuilt) = ⊥
-TellsText P (Refused NoDerivation) = ⊥
+TellsText P (Refused Usage) = ⊥
 TellsText P (Refused (BadGrammar text)) = P text.items
 TellsText P (Refused (BadInput text)) = ⊥
 TellsText P (OpenFault name) = ⊥
@@ -61,15 +51,10 @@ TellsText P ReadFault = ⊥
 TellsText P WriteFault = ⊥
 TellsText P NoMemory = ⊤
 
--- the bytes have this description and these grammars, which are accepted
-pub record IsLoaded (d : List Statement) (b : Built) (bytes : List ℕ) : Type 0 where
-  pub has : HasDescription bytes d
-  pub accepted : Accepted bytes b
-
 -- where the grammar was not read from the file of the name
 abbrev pub LoadStops : List ℕ → ToldFile → ℕ → ℕ → Stop → Type 0
 LoadStops name told before after (Refused NotBuilt) = ⊥
-LoadStops name told before after (Refused NoDerivation) = ⊥
+LoadStops name told before after (Refused Usage) = ⊥
 LoadStops name told before after (Refused (BadGrammar text)) = FileHolds told (λ bytes. IsRefused bytes text.items)
 LoadStops name told before after (Refused (BadInput text)) = ⊥
 LoadStops name told before after (OpenFault asked) = Rose before after × (asked.now ≡ name)
@@ -105,22 +90,6 @@ pub data IsBadDescription (cs : List ℕ) (d : List Statement) (text : List ℕ)
   OfBuilding : (fault : BuildFault) (others : List BuildFault) → faults_of d ≡ fault ∷ others → text ≡ codes "grammar: " ++ build_text cs fault → IsBadDescription cs d text
   OfGrammars : (b : Built) → IsBuiltOf d b → IsGrammarText b text → IsBadDescription cs d text
 
--- where a description has no simple grammar
-abbrev pub SimpleStops : List Statement → Stop → Type 0
-SimpleStops d (Refused NotBuilt) = (lines : List SimpleLine) → IsSimpleDescription d lines → ⊥
-SimpleStops d (Refused NoDerivation) = ⊥
-SimpleStops d (Refused (BadGrammar text)) = ⊥
-SimpleStops d (Refused (BadInput text)) = ⊥
-SimpleStops d (OpenFault name) = ⊥
-SimpleStops d ReadFault = ⊥
-SimpleStops d WriteFault = ⊥
-SimpleStops d NoMemory = ⊤
-
--- the derivations of the grammar can be listed
-pub record IsListable (g : Grammar) : Type 0 where
-  pub simple : IsSimple g
-  pub started : 0 < length g.starts
-
 -- THE INPUT
 
 -- bytes that may be those of the input have P
@@ -138,7 +107,7 @@ names_from (FileNamed name) = name ∷ []
 -- where the bytes of the input were not read
 abbrev pub ReadStops : (from : InputFrom) → (List ℕ → ToldFile) → Option (List ℕ) → (Files Input : Type 0) → Stop → Type 0
 ReadStops from file left Files Input (Refused NotBuilt) = ⊥
-ReadStops from file left Files Input (Refused NoDerivation) = ⊥
+ReadStops from file left Files Input (Refused Usage) = ⊥
 ReadStops from file left Files Input (Refused (BadGrammar text)) = ⊥
 ReadStops from file left Files Input (Refused (BadInput text)) =
     (text.items ≡ codes "input is longer than 16777216 bytes") × InputHolds from file left (λ bytes. 16777216 < length bytes)
@@ -150,7 +119,7 @@ ReadStops from file left Files Input NoMemory = ⊤
 -- where those of a file were not read
 abbrev pub FileStops : List ℕ → ToldFile → (Files : Type 0) → Stop → Type 0
 FileStops name told Files (Refused NotBuilt) = ⊥
-FileStops name told Files (Refused NoDerivation) = ⊥
+FileStops name told Files (Refused Usage) = ⊥
 FileStops name told Files (Refused (BadGrammar text)) = ⊥
 FileStops name told Files (Refused (BadInput text)) = (text.items ≡ codes "input is longer than 16777216 bytes") × FileHolds told (λ bytes. 16777216 < length bytes)
 FileStops name told Files (OpenFault asked) = Files × (asked.now ≡ name)
@@ -161,7 +130,7 @@ FileStops name told Files NoMemory = ⊤
 -- where those of the standard input were not read
 abbrev pub SourceStops : Option (List ℕ) → (Input : Type 0) → Stop → Type 0
 SourceStops left Input (Refused NotBuilt) = ⊥
-SourceStops left Input (Refused NoDerivation) = ⊥
+SourceStops left Input (Refused Usage) = ⊥
 SourceStops left Input (Refused (BadGrammar text)) = ⊥
 SourceStops left Input (Refused (BadInput text)) = (text.items ≡ codes "input is longer than 16777216 bytes") × Holds left (λ bytes. 16777216 < length bytes)
 SourceStops left Input (OpenFault name) = ⊥
@@ -172,7 +141,7 @@ SourceStops left Input NoMemory = ⊤
 -- a text of which P holds is told of the input, or there is no memory
 abbrev pub TellsInput : (List ℕ → Type 0) → Stop → Type 0
 TellsInput P (Refused NotBuilt) = ⊥
-TellsInput P (Refused NoDerivation) = ⊥
+TellsInput P (Refused Usage) = ⊥
 TellsInput P (Refused (BadGrammar text)) = ⊥
 TellsInput P (Refused (BadInput text)) = P text.items
 TellsInput P (OpenFault name) = ⊥
@@ -232,13 +201,6 @@ StopsAt P Unopened Unread before after NoMemory = AppendsFront P before.bytes af
 abbrev pub WriteStops : (P : Outcome → Type 0) → Stream → Stream → Stop → Type 0
 WriteStops P before after stop = StopsAt P (λ name. ⊥) ⊥ before after stop
 
--- an outcome of the grammar over what may be the input
-abbrev pub MayDerive : Grammar → Option (List ℕ) → Outcome → Type 0
-MayDerive g left outcome = Holds left (λ input. IsInputOutcome g input outcome)
-
-abbrev pub InputStops : Grammar → Stream → Stream → Stream → Stream → Stop → Type 0
-InputStops g input input_after before after stop = StopsAt (MayDerive g input.bytes) (λ name. ⊥) (Rose input.faults input_after.faults) before after stop
-
 -- lines were not all written: a front of their text was
 abbrev pub LinesStop : List (List ℕ) → Stream → Stream → Stop → Type 0
 LinesStop lines before after (Refused refusal) = ⊥
@@ -246,11 +208,6 @@ LinesStop lines before after (OpenFault name) = ⊥
 LinesStop lines before after ReadFault = ⊥
 LinesStop lines before after WriteFault = Rose before.faults after.faults × AppendsPrefix before.bytes after.bytes (concat lines)
 LinesStop lines before after NoMemory = AppendsPrefix before.bytes after.bytes (concat lines)
-
--- the outcome of a list of lines
-abbrev pub lines_outcome : List (List ℕ) → Outcome
-lines_outcome [] = no_derivation
-lines_outcome (first ∷ others) = done (first ∷ others)
 
 -- an outcome that a run by the words may have
 abbrev pub MayHave : List (List ℕ) → (List ℕ → ToldFile) → Option (List ℕ) → Outcome → Type 0
@@ -261,13 +218,13 @@ WorkStops words files files_after input input_after before after stop =
     StopsAt (MayHave words files.file input.bytes) (λ name. Rose files.faults files_after.faults × MayOpen words files.file name)
     (Rose files.faults files_after.faults ⊎ Rose input.faults input_after.faults) before after stop
 
--- whatever the words are that ask for the job
-abbrev pub DoesJob : model.Job → (List ℕ → ToldFile) → Option (List ℕ) → (before after : Option (List ℕ)) → Type 0
-DoesJob job file left before after = (words : List (List ℕ)) → Asks words job → Does (MayHave words file left) before after
+-- whatever the words are that have the job taken up
+abbrev pub DoesJob : Job → (List ℕ → ToldFile) → Option (List ℕ) → (before after : Option (List ℕ)) → Type 0
+DoesJob job file left before after = (words : List (List ℕ)) → Takes words job → Does (MayHave words file left) before after
 
-abbrev pub JobStops : model.Job → Disk → Disk → Stream → Stream → Stream → Stream → Stop → Type 0
+abbrev pub JobStops : Job → Disk → Disk → Stream → Stream → Stream → Stream → Stop → Type 0
 JobStops job files files_after input input_after before after stop =
-    (words : List (List ℕ)) → Asks words job → WorkStops words files files_after input input_after before after stop
+    (words : List (List ℕ)) → Takes words job → WorkStops words files files_after input input_after before after stop
 
 -- TELLING
 

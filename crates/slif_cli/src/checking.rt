@@ -124,7 +124,8 @@ fn mark(seen: &mut Vec<bool>, at: usize)
     seen[at] = true;
 }
 
-fn left_side(w: &Written, i: usize) -> SymbolId
+/// The left side of a rule.
+pub fn left_side(w: &Written, i: usize) -> SymbolId
     requires { i < length w.now.rules }
     ensures is { result ≡ lhs_of (rule_at w.now i) }
     ensures known { result < length w.now.names }

@@ -1,11 +1,10 @@
 // The grammar, read from its file.
-ghost use Rattle.std.specs.Prelude.{◌≡◌, ◌≤◌, ◌<◌, ◌∷◌, [], List, IfOk, IfErr, OnOk, IsUtf8, chars as chars_in, length};
+ghost use Rattle.std.specs.Prelude.{◌≡◌, ◌≤◌, ◌<◌, ◌∷◌, [], IfOk, IfErr, OnOk, IsUtf8, chars as chars_in, length};
 ghost use Rattle.slif_base.specs.Told.{FileHolds, SameFiles, AsksAmong, AddsNames};
 ghost use Rattle.language_model.specs.Texts.{IsDescription, IsBuiltOf};
-ghost use Rattle.language_model.specs.Simple.{SimpleLine, IsSimpleDescription, grammar_of_simple};
 ghost use Rattle.reading_model.specs.Accepted.{IsAccepted};
-ghost use Rattle.run_model.specs.Refused.{IsRefused};
-ghost use Rattle.slif_cli.specs.Stops.{LoadStops, IsLoaded, IsListable, TellsText, IsDescriptionOf, IsBadText, IsBadDescription, SimpleStops};
+ghost use Rattle.run_model.specs.Refused.{Accepted, IsRefused};
+ghost use Rattle.slif_cli.specs.Stops.{LoadStops, TellsText, IsDescriptionOf, IsBadText, IsBadDescription};
 
 use crate::refusals::{description_text, grammars_text, not_utf8_text, phrase};
 use crate::stop::{Refusal, Stop};
@@ -13,28 +12,19 @@ use dsl_build::build;
 use dsl_reader::{StatementRefusal, parse};
 use dsl_statement::Description;
 use dsl_tokens::{TokenRefusal, tokens};
-use grammar_core::Written;
 use scanless::{Prepared, prepare};
-use simple_grammar::{SimpleRefusal, grammar_of};
 use slif_base::{Chars, FileRefusal, Files, TextRefusal, chars_of, read_named};
 use std::alloc::Global;
 
 const LIMIT: usize = 1_048_576;
-
-/// The description of a text, and its grammars, which are accepted.
-#[derive(Drop)]
-pub struct Loaded {
-    pub description: Description,
-    pub prepared: Prepared,
-}
 
 /// Reads the grammar from the named file.
 pub fn load_grammar<'a, F: Files>(
     alloc: Global,
     name: &'a str,
     files: &mut F,
-) -> Result<Loaded, Stop<'a>>
-    ensures read { IfOk result (λ l. FileHolds (F.told files.old name.now) (IsLoaded l.description l.prepared)) }
+) -> Result<Prepared, Stop<'a>>
+    ensures read { IfOk result (λ p. FileHolds (F.told files.old name.now) (λ bytes. Accepted bytes p)) }
     ensures stops { IfErr result (LoadStops name.now (F.told files.old name.now) (F.fault_count files.old) (F.fault_count files.new)) }
     ensures later { F.fault_count files.old ≤ F.fault_count files.new }
     ensures held { SameFiles (F.told files.old) (F.told files.new) }
@@ -60,9 +50,9 @@ fn refused<'a>(text: Vec<u8>) -> Stop<'a>
 }
 
 /// The grammars of a text.
-fn read_grammar<'a>(alloc: Global, bytes: &[u8]) -> Result<Loaded, Stop<'a>>
+pub fn read_grammar<'a>(alloc: Global, bytes: &[u8]) -> Result<Prepared, Stop<'a>>
     requires { length bytes.now ≤ 1048576 }
-    ensures read { IfOk result (λ l. IsLoaded l.description l.prepared bytes.now) }
+    ensures read { IfOk result (Accepted bytes.now) }
     ensures stops { IfErr result (TellsText (IsRefused bytes.now)) }
 {
     let chars = match characters(alloc, bytes) {
@@ -74,10 +64,7 @@ fn read_grammar<'a>(alloc: Global, bytes: &[u8]) -> Result<Loaded, Stop<'a>>
         Err(stop) => return Err(stop),
     };
     match accept(alloc, &chars, &description) {
-        Ok(prepared) => Ok(Loaded {
-            description,
-            prepared,
-        }),
+        Ok(prepared) => Ok(prepared),
         Err(stop) => Err(stop),
     }
 }
@@ -143,18 +130,5 @@ fn accept<'a>(alloc: Global, chars: &Chars, description: &Description) -> Result
             let text = grammars_text(alloc, &refusal)?;
             Err(refused(text))
         }
-    }
-}
-
-/// The grammar of a simple description.
-pub fn simple_of<'a>(alloc: Global, description: &Description) -> Result<Written, Stop<'a>>
-    ensures simple { IfOk result (λ w. (lines : List SimpleLine) × IsSimpleDescription description.now lines × (w ≡ grammar_of_simple lines)) }
-    ensures listable { IfOk result IsListable }
-    ensures stops { IfErr result (SimpleStops description.now) }
-{
-    match grammar_of(alloc, description) {
-        Ok(grammar) => Ok(grammar),
-        Err(SimpleRefusal::NotSimple) => Err(Stop::Refused(Refusal::NotBuilt)),
-        Err(SimpleRefusal::NoMemory) => Err(Stop::NoMemory),
     }
 }

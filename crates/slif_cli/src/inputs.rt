@@ -2,8 +2,8 @@
 ghost use Rattle.std.specs.Prelude.{◌≡◌, ◌≤◌, ◌⊎◌, ◌++◌, [], ◌∷◌, length, chars as chars_in, codes, decimal, option_copied, IsUtf8, IfOk, IfErr, OnOk};
 ghost use Rattle.slif_base.specs.Causes.{Rose};
 ghost use Rattle.slif_base.specs.Told.{MayBe, MayHold, SameFiles, AsksAmong};
-ghost use Rattle.run_model.specs.Words.{input_named};
-ghost use Rattle.run_model.specs.Words.InputFrom.{StandardInput};
+ghost use Rattle.words_model.specs.Words.{input_named};
+ghost use Rattle.words_model.specs.Words.InputFrom.{StandardInput};
 ghost use Rattle.run_model.specs.Runs.{InputMayBe};
 ghost use Rattle.slif_cli.specs.Stops.{ReadStops, FileStops, SourceStops, TellsInput, IsBrokenText, names_from};
 

@@ -2,19 +2,30 @@
 #![tactic(auto)]
 
 mod checking;
+mod counting;
 mod expecting;
+mod forests;
 mod grammar;
-mod input;
 mod inputs;
 mod laws;
 mod messages;
 mod reading;
 mod refusals;
+mod reporting;
 mod stop;
+mod task;
+mod telling;
 #[cfg(test)]
 mod tests;
+#[cfg(test)]
+mod tests_examples;
+#[cfg(test)]
+mod tests_faults;
+#[cfg(test)]
+mod tests_refused;
 mod top;
-mod words;
+mod values;
+mod working;
 
 pub use laws::{has_outcome, one_end, one_outcome};
 pub use top::run;

@@ -55,7 +55,10 @@ fn refusal_line(alloc: Global, refusal: &Refusal) -> Result<Vec<u8>, AllocError>
 {
     match refusal {
         Refusal::NotBuilt => Vec::from_slice(alloc, b"slif: not built yet\n"),
-        Refusal::NoDerivation => Vec::from_slice(alloc, b"slif: no derivation\n"),
+        Refusal::Usage => Vec::from_slice(
+            alloc,
+            b"slif: usage: slif JOB [options]; jobs: run, check, expect, progress, work\n",
+        ),
         Refusal::Grammar { text } | Refusal::Input { text } => message(alloc, text),
     }
 }
@@ -75,7 +78,8 @@ fn refusal_status(refusal: &Refusal) -> u8
 {
     match refusal {
         Refusal::NotBuilt => 6,
-        Refusal::NoDerivation | Refusal::Input { .. } => 1,
+        Refusal::Usage => 2,
+        Refusal::Input { .. } => 1,
         Refusal::Grammar { .. } => 3,
     }
 }

@@ -1,5 +1,6 @@
-// Whole runs over forms in memory.
-ghost use Rattle.std.specs.Prelude.{◌≡◌, ◌<◌};
+// Whole runs over forms in memory: what each job tells with ample memory.
+ghost use Rattle.std.specs.Prelude.{◌≡◌, ◌<◌, []};
+ghost use Rattle.grammar_model.specs.declared.Show.TheVariants.{Array as ShowArray};
 
 use crate::run;
 use slif_base::{MemFiles, MemSink, MemSource, Steps};
@@ -7,96 +8,167 @@ use std::alloc::{AllocError, Global};
 use std::marker::Brand;
 use std::sync::ledger::{Blank, Ledger};
 use std::test::Fail;
+use valuator::{ArrayTeller, Teller, TreeTeller};
 
-// What a run is given: its words, the text of the file g.slif, the input, and the calls that fail.
+/// What a run is given: its words, the texts of the files g.slif and i.txt, the input, and the calls that fail.
 #[derive(Clone, Copy)]
-struct Given<'a> {
-    words: &'a [&'a str],
-    grammar: &'a [u8],
-    input: &'a [u8],
-    files_fail: &'a [u64],
-    input_fails: &'a [u64],
-    out_fails: &'a [u64],
-    err_fails: &'a [u64],
+pub struct Given<'a> {
+    pub words: &'a [&'a str],
+    pub grammar: &'a [u8],
+    pub file: &'a [u8],
+    pub input: &'a [u8],
+    pub files_fail: &'a [u64],
+    pub input_fails: &'a [u64],
+    pub out_fails: &'a [u64],
+    pub err_fails: &'a [u64],
 }
 
-// What it does.
+/// What it does. The names of the files that it asked for are counted.
 #[derive(Drop)]
-struct Ended {
-    status: u8,
-    out: MemSink,
-    err: MemSink,
-    asked: usize,
+pub struct Ended {
+    pub status: u8,
+    pub out: MemSink,
+    pub err: MemSink,
+    pub asked: usize,
 }
 
-const WORDS: &[&str] = &["run", "--grammar", "g.slif", "--show", "tree"];
+pub const SUMS: &[u8] = b":default ::= action => ::array\nE ::= E '+' E | N\nN ~ [\\d]\n";
 
-// The sum `1+1+1` has two derivations.
-const SUM: Given<'static> = Given {
-    words: WORDS,
-    grammar: b"E ::= E '+' E | '1'\n",
-    input: b"1+1+1",
+/// The sum `1+2+3` has two derivations.
+pub const SUM: Given<'static> = Given {
+    words: &["run", "--grammar", "g.slif"],
+    grammar: SUMS,
+    file: b"1+",
+    input: b"1+2+3",
     files_fail: &[],
     input_fails: &[],
     out_fails: &[],
     err_fails: &[],
 };
 
-const SUM_LINES: &[u8] =
-    b"[\"E\",0,[\"E\",0,[\"E\",1,[\"'1'\",\"1\"]],[\"'+'\",\"+\"],[\"E\",1,[\"'1'\",\"1\"]]],[\"'+'\",\"+\"],[\"E\",1,[\"'1'\",\"1\"]]]\n[\"E\",0,[\"E\",1,[\"'1'\",\"1\"]],[\"'+'\",\"+\"],[\"E\",0,[\"E\",1,[\"'1'\",\"1\"]],[\"'+'\",\"+\"],[\"E\",1,[\"'1'\",\"1\"]]]]\n";
+pub const SUM_LINES: &[u8] =
+    b"[[[\"1\"],\"+\",[\"2\"]],\"+\",[\"3\"]]\n[[\"1\"],\"+\",[[\"2\"],\"+\",[\"3\"]]]\n";
 
-// A rule of three symbols whose second alternative has no tree, and one that nothing leads to.
-const CHECKED: Given<'static> = Given {
+pub const TREES: Given<'static> = Given {
+    words: &["run", "--show", "tree", "--grammar", "g.slif"],
+    ..SUM
+};
+
+pub const TREE_LINES: &[u8] =
+    b"[\"E\",0,[\"E\",0,[\"E\",1,[\"N\",\"1\"]],[\"'+'\",\"+\"],[\"E\",1,[\"N\",\"2\"]]],[\"'+'\",\"+\"],[\"E\",1,[\"N\",\"3\"]]]\n[\"E\",0,[\"E\",1,[\"N\",\"1\"]],[\"'+'\",\"+\"],[\"E\",0,[\"E\",1,[\"N\",\"2\"]],[\"'+'\",\"+\"],[\"E\",1,[\"N\",\"3\"]]]]\n";
+
+/// A symbol that cannot be derived, and one that nothing leads to.
+pub const CHECKED: Given<'static> = Given {
     words: &["check", "--grammar", "g.slif"],
     grammar: b"S ::= 'a' | B\nB ::= 'b' B\nC ::=\n",
     input: b"",
     ..SUM
 };
 
-const CHECKED_LINES: &[u8] =
+pub const CHECKED_LINES: &[u8] =
     b"accepted: 4 rules, 2 lexemes, 0 discards\nS\nB unproductive inaccessible\nC nullable inaccessible\n";
 
-const LONG_INPUT: &[u8] = &[b'1'; 1001];
+pub const OPERATORS: &[u8] =
+    b":default ::= action => ::array\nE ::= N\n   | ('(') E (')') assoc => group\n  || E '**' E assoc => right\n  || E '*' E\n  || E '+' E\nN ~ [\\d]\n";
 
-const NOT_BUILT: &[u8] = b"slif: not built yet\n";
+/// Behind an operator comes a bracket or a number.
+pub const EXPECTED: Given<'static> = Given {
+    words: &["expect", "--grammar", "g.slif"],
+    grammar: OPERATORS,
+    input: b"1+",
+    ..SUM
+};
 
-fn end_of<L: Ledger>(alloc: Global, given: &Given<'_>, blank: Blank) -> Result<Ended, AllocError>
+pub const EXPECTED_LINES: &[u8] = b"'('\nN\n";
+
+pub const REPORTED: Given<'static> = Given {
+    words: &["progress", "--at", "2", "--grammar", "g.slif"],
+    input: b"1+",
+    ..SUM
+};
+
+pub const REPORTED_LINES: &[u8] = b"0:0 @2-2 E\n0:2 @0-2 E\n1:0 @2-2 E\n";
+
+pub const WORKED: Given<'static> = Given {
+    words: &["work", "--size", "2"],
+    input: b"",
+    ..SUM
+};
+
+pub const WORKED_LINES: &[u8] = b"work 2: tokens 7 values 1\n";
+
+// The files, which fail as it is given.
+fn files_of(alloc: Global, given: &Given<'_>) -> Result<MemFiles, AllocError> {
+    let mut held = Vec::new(alloc);
+    let grammar = String::from_str(alloc, "g.slif")?;
+    held.push((grammar, given.grammar.to_vec(alloc)?))?;
+    let input = String::from_str(alloc, "i.txt")?;
+    held.push((input, given.file.to_vec(alloc)?))?;
+    Ok(MemFiles::new(alloc, held, given.files_fail.to_vec(alloc)?))
+}
+
+fn words_of(alloc: Global, texts: &[&str]) -> Result<Vec<String>, AllocError> {
+    let mut words = Vec::new(alloc);
+    for text in texts {
+        words.push(String::from_str(alloc, text)?)?;
+    }
+    Ok(words)
+}
+
+fn end_with<T: Teller + 'static, L: Ledger>(
+    blank: Blank,
+    alloc: Global,
+    given: &Given<'_>,
+    array: T,
+) -> Result<Ended, AllocError>
     requires name { blank.name ≡ L.name }
     requires parts { blank.parts ≡ L.parts }
     requires some { 0 < blank.parts }
+    requires kind { T.shows array ≡ ShowArray }
+    requires empty { T.held array ≡ [] }
 {
-    let mut words = Vec::new(alloc);
-    for word in given.words {
-        words.push(String::from_str(alloc, word)?)?;
-    }
-    let name = String::from_str(alloc, "g.slif")?;
-    let held = vec![in alloc; (name, given.grammar.to_vec(alloc)?)]?;
-    let mut files = MemFiles::new(alloc, held, given.files_fail.to_vec(alloc)?);
-    let mut input = MemSource::new(
-        given.input.to_vec(alloc)?,
-        1,
-        given.input_fails.to_vec(alloc)?,
-    );
+    let words = words_of(alloc, given.words)?;
+    let mut files = files_of(alloc, given)?;
+    let fails = given.input_fails.to_vec(alloc)?;
+    let mut input = MemSource::new(given.input.to_vec(alloc)?, 2, fails);
     let mut out = MemSink::new(alloc, 10, given.out_fails.to_vec(alloc)?);
     let mut err = MemSink::new(alloc, 10, given.err_fails.to_vec(alloc)?);
+    let array: Box<dyn Teller> = Box::new(alloc, array)?;
+    let tree: Box<dyn Teller> = Box::new(alloc, TreeTeller::new(alloc))?;
+    let mut tellers = Vec::new(alloc);
+    tellers.push(tree)?;
+    tellers.push(array)?;
     let mut steps = Steps::<L>::of_blank(blank);
     let status = run(
-        alloc, &words, &mut files, &mut input, &mut out, &mut err, &mut steps,
+        alloc, &words, &mut files, &mut input, &mut out, &mut err, tellers, &mut steps,
     );
+    let asked = files.asked().len();
     Ok(Ended {
         status,
         out,
         err,
-        asked: files.asked().len(),
+        asked,
     })
 }
 
-fn run_of(alloc: Global, given: &Given<'_>) -> Result<Ended, AllocError> {
-    end_of::<Brand>(alloc, given, Blank::new(1))
+/// Runs with this teller of arrays and a teller of trees.
+pub fn run_with<T: Teller + 'static>(
+    alloc: Global,
+    given: &Given<'_>,
+    array: T,
+) -> Result<Ended, AllocError>
+    requires kind { T.shows array ≡ ShowArray }
+    requires empty { T.held array ≡ [] }
+{
+    end_with::<T, Brand>(Blank::new(1), alloc, given, array)
 }
 
-// Whether a run ends so.
-fn ends(
+pub fn run_of(alloc: Global, given: &Given<'_>) -> Result<Ended, AllocError> {
+    run_with(alloc, given, ArrayTeller::new(alloc))
+}
+
+/// Whether a run ends so.
+pub fn ends(
     alloc: Global,
     given: &Given<'_>,
     status: u8,
@@ -107,250 +179,150 @@ fn ends(
     Ok(end.status == status && end.out.written() == out && end.err.written() == err)
 }
 
-#[test]
-fn answers(rt: HostRuntime) -> Result<(), Fail> {
-    let rows: [(Given<'_>, u8, &[u8], &[u8]); 5] = [
-        (SUM, 0, SUM_LINES, b""),
-        (
-            Given {
-                grammar: b"# a sum\nE::=E '+'\n E|'1' ;",
-                ..SUM
-            },
-            0,
-            SUM_LINES,
-            b"",
-        ),
-        (
-            Given {
-                grammar: b"S ::= 'a'\n",
-                input: b"a",
-                ..SUM
-            },
-            0,
-            b"[\"S\",0,[\"'a'\",\"a\"]]\n",
-            b"",
-        ),
-        (
-            Given {
-                input: b"1+",
-                ..SUM
-            },
-            1,
-            b"",
-            b"slif: no derivation\n",
-        ),
-        (
-            Given { input: b"", ..SUM },
-            1,
-            b"",
-            b"slif: no derivation\n",
-        ),
-    ];
-    for (given, status, out, err) in &rows {
-        assert!(rt; ends(rt.alloc(), given, *status, out, err)?);
-    }
-    Ok(())
-}
+// Two rules of one span, of which the second has the higher rank.
+const RANKED: &[u8] =
+    b":default ::= action => [name,values]\nS ::= P | Q rank => 5\nP ::= x\nQ ::= x\nx ~ 'x'\n";
 
-#[test]
-fn bad_input_is_refused(rt: HostRuntime) -> Result<(), Fail> {
-    let rows: [Given<'static>; 8] = [
-        Given {
-            grammar: b"S ::= 'a' rank => 1\n",
-            ..SUM
-        },
-        Given {
-            grammar: b"S ::= A\nA ::= 'a'\n",
-            ..SUM
-        },
-        Given {
-            input: b"\x80",
-            ..SUM
-        },
-        Given {
-            input: LONG_INPUT,
-            ..SUM
-        },
-        Given {
-            words: &["run"],
-            ..SUM
-        },
-        Given {
-            words: &["run", "--grammar", "-g", "--show", "tree"],
-            ..SUM
-        },
-        Given {
-            words: &["run", "--grammar", "", "--show", "tree"],
-            ..SUM
-        },
-        Given {
-            words: &["check", "--grammar", "-g"],
-            ..SUM
-        },
-    ];
-    for given in &rows {
-        assert!(rt; ends(rt.alloc(), given, 6, b"", NOT_BUILT)?);
-    }
-    Ok(())
-}
-
-#[test]
-fn bad_grammars_are_told(rt: HostRuntime) -> Result<(), Fail> {
-    let rows: [(Given<'static>, &[u8]); 5] = [
-        (
-            Given {
-                grammar: b"S ::= 'a",
-                ..SUM
-            },
-            b"slif: grammar: bad token at line 1 column 7\n",
-        ),
-        (
-            Given {
-                grammar: b"# c\n\n S ::= 'a' \"b\"",
-                ..SUM
-            },
-            b"slif: grammar: bad token at line 3 column 12\n",
-        ),
-        (
-            Given {
-                grammar: b"S ::= 'a'*",
-                ..SUM
-            },
-            b"slif: grammar: bad statement at line 1 column 1\n",
-        ),
-        (
-            Given {
-                grammar: b"S ::= 'a' ; 'b'",
-                ..SUM
-            },
-            b"slif: grammar: bad statement at line 1 column 13\n",
-        ),
-        (
-            Given {
-                grammar: b"S ::= \xFF",
-                ..SUM
-            },
-            b"slif: grammar: not UTF-8 at byte 6\n",
-        ),
-    ];
-    for (given, line) in &rows {
-        assert!(rt; ends(rt.alloc(), given, 3, b"", line)?);
-    }
-    Ok(())
-}
-
-// What is refused of a description, in the order of its refusals.
-const BUILD_ROWS: [(&[u8], &[u8]); 8] = [
+// Words, and the lines of the one input.
+const RANK_ROWS: [(&[&str], &[u8]); 4] = [
     (
-        b"S ::= 'a' bless => x",
-        b"slif: grammar: bad adverb bless at line 1 column 11\n",
+        &["run", "--grammar", "g.slif"],
+        b"[\"S\",[\"Q\",\"x\"]]\n[\"S\",[\"P\",\"x\"]]\n",
     ),
     (
-        b"S ::= 'a' rank => 1 rank => 2",
-        b"slif: grammar: repeated rank at line 1 column 21\n",
+        &["run", "--grammar", "g.slif", "--rank", "rule"],
+        b"[\"S\",[\"Q\",\"x\"]]\n[\"S\",[\"P\",\"x\"]]\n",
     ),
     (
-        b"S ::= <no  rule>",
-        b"slif: grammar: no rule for no rule at line 1 column 7\n",
+        &["run", "--grammar", "g.slif", "--rank", "none"],
+        b"[\"S\",[\"P\",\"x\"]]\n[\"S\",[\"Q\",\"x\"]]\n",
     ),
     (
-        b"S ::= 'a'\nS ~ 'b'",
-        b"slif: grammar: S has rules of both levels at line 2 column 1\n",
-    ),
-    (
-        b"S ::= 'a'\n:lexeme ~ S priority => 1",
-        b"slif: grammar: S is not a lexeme at line 2 column 11\n",
-    ),
-    (
-        b"S ::= [z-a]",
-        b"slif: grammar: bad class [z-a] at line 1 column 7\n",
-    ),
-    (
-        b":start ::= S\n:start ::= S\nS ::= 'a'",
-        b"slif: grammar: second start at line 2 column 1\n",
-    ),
-    (
-        b"S ::= 'a' rank => 1000001",
-        b"slif: grammar: number out of range at line 1 column 19\n",
+        &[
+            "--rank=none",
+            "--show=tree",
+            "--first=1",
+            "--grammar=g.slif",
+            "--",
+            "run",
+        ],
+        b"[\"S\",0,[\"P\",2,[\"x\",\"x\"]]]\n",
     ),
 ];
 
-// What a check refuses of the structural grammar, and then of the lexical one.
-const CHECK_ROWS: [(&[u8], &[u8]); 9] = [
-    (b"", b"slif: grammar: no rules\n"),
+#[test]
+fn derivations_are_told_by_rank(rt: HostRuntime) -> Result<(), Fail> {
+    for (words, lines) in &RANK_ROWS {
+        let given = Given {
+            words,
+            grammar: RANKED,
+            input: b"x",
+            ..SUM
+        };
+        assert!(rt; ends(rt.alloc(), &given, 0, lines, b"")?);
+    }
+    Ok(())
+}
+
+#[test]
+fn all_derivations_are_told_as_arrays_or_trees(rt: HostRuntime) -> Result<(), Fail> {
+    let alloc = rt.alloc();
+    assert!(rt; ends(alloc, &SUM, 0, SUM_LINES, b"")?);
+    assert!(rt; ends(alloc, &TREES, 0, TREE_LINES, b"")?);
+    let shown = Given {
+        words: &["run", "--grammar", "g.slif", "--show", "array"],
+        ..SUM
+    };
+    assert!(rt; ends(alloc, &shown, 0, SUM_LINES, b"")?);
+    Ok(())
+}
+
+#[test]
+fn so_many_of_the_first_are_told(rt: HostRuntime) -> Result<(), Fail> {
+    let two = Given {
+        words: &["run", "--grammar", "g.slif", "--first", "2"],
+        input: b"1+2+3+4",
+        ..SUM
+    };
+    let lines: &[u8] =
+        b"[[[[\"1\"],\"+\",[\"2\"]],\"+\",[\"3\"]],\"+\",[\"4\"]]\n[[[\"1\"],\"+\",[[\"2\"],\"+\",[\"3\"]]],\"+\",[\"4\"]]\n";
+    assert!(rt; ends(rt.alloc(), &two, 0, lines, b"")?);
+    let more = Given {
+        words: &["run", "--grammar", "g.slif", "--first", "3"],
+        ..SUM
+    };
+    assert!(rt; ends(rt.alloc(), &more, 0, SUM_LINES, b"")?);
+    Ok(())
+}
+
+// The standard input is left alone where the words name a file.
+#[test]
+fn the_input_is_read_from_its_file(rt: HostRuntime) -> Result<(), Fail> {
+    let named = Given {
+        words: &["run", "--grammar", "g.slif", "--input", "i.txt"],
+        file: b"1+2+3",
+        input: b"?",
+        input_fails: &[1],
+        ..SUM
+    };
+    let end = run_of(rt.alloc(), &named)?;
+    assert_eq!(rt; (end.status, end.asked), (0, 2));
+    assert_eq!(rt; end.out.written(), SUM_LINES);
+    Ok(())
+}
+
+// Grammars, inputs, and the values of their derivations.
+const VALUE_ROWS: [(&[u8], &[u8], &[u8]); 7] = [
     (
-        b":start ::= T\nS ::= 'a'",
-        b"slif: grammar: start symbol T has no rule\n",
+        b":default ::= action => ::array\nS ::= X*\nX ~ 'a'\n",
+        b"",
+        b"[]\n",
     ),
     (
-        b"S ::= X*\nS ::= 'x'\nX ~ 'a'",
-        b"slif: grammar: S is a sequence and has another rule\n",
+        OPERATORS,
+        b"2**3**2+1*4",
+        b"[[[\"2\"],\"**\",[[\"3\"],\"**\",[\"2\"]]],\"+\",[[\"1\"],\"*\",[\"4\"]]]\n",
     ),
     (
-        b"S ::= 'a' | 'a'",
-        b"slif: grammar: rule 1 of S is a duplicate\n",
+        b":default ::= action => ::array\nS ::= B B\nB ::= 'a'\nB ::=\n",
+        b"a",
+        b"[[],[\"a\"]]\n[[\"a\"],[]]\n",
     ),
     (
-        b"S ::= X*\nX ::= 'a'\nX ::=",
-        b"slif: grammar: sequence S has a nullable item or separator\n",
+        b":default ::= action => ::array\nS ::= C 'x' | 'a' B\nC ::= S\nB ::= 'b'\n",
+        b"abx",
+        b"[[[\"a\",[\"b\"]]],\"x\"]\n",
     ),
     (
-        b"S ::= 'a' S",
-        b"slif: grammar: start symbol S is unproductive\n",
+        b":default ::= action => [name,values]\nS ::= K | I\nK ::= kw\nI ::= id\nkw ~ 'if'\nid ~ [a-z]+\n:lexeme ~ kw priority => 1\n",
+        b"iffy",
+        b"[\"S\",[\"I\",\"iffy\"]]\n",
     ),
     (
-        b"P ::= Q\nQ ::= P | 'b'\n",
-        b"slif: grammar: cyclic: P, Q, P\n",
+        b":default ::= action => ::array\nL ::= N+ separator => comma\nN ~ [\\d]\ncomma ~ ','\n",
+        b"1,2,",
+        b"[\"1\",\"2\"]\n",
     ),
-    (
-        b"S ::= x\nx ~ y\ny ~ x",
-        b"slif: lexical grammar: start symbol x is unproductive\n",
-    ),
-    (
-        b"S ::= x\nx ~ y\ny ~ x\ny ~ 'a'",
-        b"slif: lexical grammar: cyclic: x, y, x\n",
-    ),
+    (b"S ::= 'a' rank => 1000000\n", b"a", b"undef\n"),
 ];
 
-// Both jobs refuse a grammar alike.
-fn refuse(alloc: Global, grammar: &[u8], line: &[u8]) -> Result<bool, AllocError> {
-    let check = Given { grammar, ..CHECKED };
-    let run = Given { grammar, ..SUM };
-    Ok(ends(alloc, &check, 3, b"", line)? && ends(alloc, &run, 3, b"", line)?)
-}
-
 #[test]
-fn faults_of_descriptions_are_told(rt: HostRuntime) -> Result<(), Fail> {
-    for (grammar, line) in &BUILD_ROWS {
-        assert!(rt; refuse(rt.alloc(), grammar, line)?);
+fn values_are_told(rt: HostRuntime) -> Result<(), Fail> {
+    for (grammar, input, lines) in &VALUE_ROWS {
+        let given = Given {
+            grammar,
+            input,
+            ..SUM
+        };
+        assert!(rt; ends(rt.alloc(), &given, 0, lines, b"")?);
     }
     Ok(())
 }
 
-#[test]
-fn a_quoted_text_that_is_too_long_is_told(rt: HostRuntime) -> Result<(), Fail> {
-    let mut grammar = Vec::from_slice(rt.alloc(), b"S ::= '")?;
-    for _ in 0..1001 {
-        grammar.push(b'x')?;
-    }
-    grammar.push(b'\'')?;
-    let line = b"slif: grammar: too long at line 1 column 7\n";
-    assert!(rt; refuse(rt.alloc(), &grammar, line)?);
-    Ok(())
-}
-
-#[test]
-fn faults_of_grammars_are_told(rt: HostRuntime) -> Result<(), Fail> {
-    for (grammar, line) in &CHECK_ROWS {
-        assert!(rt; refuse(rt.alloc(), grammar, line)?);
-    }
-    Ok(())
-}
-
+// The input of a check is left alone.
 #[test]
 fn accepted_grammars_are_told(rt: HostRuntime) -> Result<(), Fail> {
     let alloc = rt.alloc();
-    assert!(rt; ends(alloc, &CHECKED, 0, CHECKED_LINES, b"")?);
     let unread = Given {
         input_fails: &[1],
         ..CHECKED
@@ -362,201 +334,84 @@ fn accepted_grammars_are_told(rt: HostRuntime) -> Result<(), Fail> {
     };
     let lines = b"accepted: 2 rules, 3 lexemes, 1 discards\nS nullable\na list\n";
     assert!(rt; ends(alloc, &spaced, 0, lines, b"")?);
-    Ok(())
-}
-
-// Each write of what is told fails in turn, and a front of it stands.
-#[test]
-fn writes_of_a_check_fail_in_turn(rt: HostRuntime) -> Result<(), Fail> {
-    for k in 1..100 {
-        let broken = Given {
-            out_fails: &[k],
-            ..CHECKED
-        };
-        let end = run_of(rt.alloc(), &broken)?;
-        if end.status == 0 {
-            return Ok(());
-        }
-        assert!(rt; end.status == 4 && CHECKED_LINES.starts_with(end.out.written()));
-        assert_eq!(rt; end.err.written(), b"slif: write fault\n".as_slice());
-    }
-    assert!(rt; false);
-    Ok(())
-}
-
-#[test]
-fn faults_are_told(rt: HostRuntime) -> Result<(), Fail> {
-    let alloc = rt.alloc();
-    let missing = Given {
-        words: &["run", "--grammar", "h.slif", "--show", "tree"],
-        ..SUM
+    let unused = Given {
+        words: &["--grammar", "g.slif", "--", "check"],
+        grammar: b"S ::= X+ separator => U\nU ::= 'u' U\nX ~ 'x'\n",
+        ..CHECKED
     };
-    assert!(rt; ends(alloc, &missing, 4, b"", b"slif: cannot open h.slif\n")?);
-    let closed = Given {
-        files_fail: &[1],
-        ..SUM
-    };
-    assert!(rt; ends(alloc, &closed, 4, b"", b"slif: cannot open g.slif\n")?);
-    for k in 2..4 {
-        let broken = Given {
-            files_fail: &[k],
-            ..SUM
-        };
-        assert!(rt; ends(alloc, &broken, 4, b"", b"slif: read fault\n")?);
-    }
-    for k in 1..7 {
-        let broken = Given {
-            input_fails: &[k],
-            ..SUM
-        };
-        assert!(rt; ends(alloc, &broken, 4, b"", b"slif: read fault\n")?);
-    }
-    let untold = Given {
-        input: b"1+",
-        err_fails: &[2],
-        ..SUM
-    };
-    assert!(rt; ends(alloc, &untold, 4, b"", b"slif: no dslif: write fault\n")?);
+    let lines = b"accepted: 2 rules, 2 lexemes, 0 discards\nS\nU unproductive inaccessible\n";
+    assert!(rt; ends(alloc, &unused, 0, lines, b"")?);
     Ok(())
 }
 
-// Each write of the text fails in turn, and a front of the text stands.
-#[test]
-fn writes_fail_in_turn(rt: HostRuntime) -> Result<(), Fail> {
-    for k in 1..100 {
-        let broken = Given {
-            out_fails: &[k],
-            ..SUM
-        };
-        let end = run_of(rt.alloc(), &broken)?;
-        assert!(rt; end.asked == 1);
-        if end.status == 0 {
-            return Ok(());
-        }
-        assert!(rt; end.status == 4 && SUM_LINES.starts_with(end.out.written()));
-        assert_eq!(rt; end.err.written(), b"slif: write fault\n".as_slice());
-    }
-    assert!(rt; false);
-    Ok(())
-}
-
-const NUMBERS: &[u8] = b"E ::= E '+' E | N\nN ~ [\\d]\n";
-
-// Numbers with plus signs between them. What comes behind the input `1+` is a number.
-const EXPECTED: Given<'static> = Given {
-    words: &["expect", "--grammar", "g.slif"],
-    grammar: NUMBERS,
-    input: b"1+",
-    ..SUM
-};
-
-const OPERATORS: &[u8] =
-    b"E ::= N\n | ('(') E (')') assoc => group\n || E '**' E assoc => right\n || E '*' E\n || E '+' E\nN ~ [\\d]\n";
-
-// Grammars, inputs, and what is told of them: names on the standard output, or a line on the standard error.
-const EXPECT_ROWS: [(&[u8], &[u8], &[u8], &[u8]); 8] = [
-    (NUMBERS, b"1", b"'+'\n", b""),
-    (NUMBERS, b"", b"N\n", b""),
-    (
-        NUMBERS,
-        b"x",
-        b"",
-        b"slif: input stopped at line 1 column 1; found: none; expected: N\n",
-    ),
-    (
-        NUMBERS,
-        b"1+2\xff",
-        b"",
-        b"slif: input is not UTF-8 at byte 3\n",
-    ),
-    (OPERATORS, b"1+", b"'('\nN\n", b""),
-    (
-        OPERATORS,
-        b"1+*2",
-        b"",
-        b"slif: input stopped at line 1 column 3; found: '*'; expected: '(', N\n",
-    ),
-    (
-        b"S ::= '=' '=' | 'a' '=='\n",
-        b"==",
-        b"",
-        b"slif: input stopped at line 1 column 1; found: '=='; expected: '=', 'a'\n",
-    ),
+const EXPECT_ROWS: [(&[u8], &[u8], &[u8]); 5] = [
+    (SUMS, b"1", b"'+'\n"),
+    (SUMS, b"", b"N\n"),
+    (OPERATORS, b"1+", EXPECTED_LINES),
     (
         b"S ::= '=' '=' | 'a' '=='\nlexeme default = latm => 1\n",
         b"==",
         b"",
-        b"",
+    ),
+    (
+        b"L ::= N+ separator => comma proper => 1\nN ~ [\\d]\ncomma ~ ','\n",
+        b"1,2,",
+        b"N\n",
     ),
 ];
 
 #[test]
 fn what_is_expected_is_told(rt: HostRuntime) -> Result<(), Fail> {
-    for (grammar, input, out, err) in &EXPECT_ROWS {
+    for (grammar, input, lines) in &EXPECT_ROWS {
         let given = Given {
             grammar,
             input,
             ..EXPECTED
         };
-        let status = if err.is_empty() { 0 } else { 1 };
-        assert!(rt; ends(rt.alloc(), &given, status, out, err)?);
+        assert!(rt; ends(rt.alloc(), &given, 0, lines, b"")?);
     }
     Ok(())
 }
 
-#[test]
-fn the_input_is_read_where_the_grammar_is_accepted(rt: HostRuntime) -> Result<(), Fail> {
-    let alloc = rt.alloc();
-    let named = Given {
-        words: &["expect", "--grammar", "g.slif", "--input", "g.slif"],
-        ..EXPECTED
-    };
-    let line = b"slif: input stopped at line 1 column 1; found: none; expected: N\n";
-    assert!(rt; ends(alloc, &named, 1, b"", line)?);
-    let missing = Given {
-        words: &["expect", "--grammar", "g.slif", "--input", "h.slif"],
-        ..EXPECTED
-    };
-    assert!(rt; ends(alloc, &missing, 4, b"", b"slif: cannot open h.slif\n")?);
-    assert_eq!(rt; run_of(alloc, &missing)?.asked, 2);
-    let refused = Given {
-        grammar: b"E ::= E E",
-        input_fails: &[1],
-        ..EXPECTED
-    };
-    assert!(rt;
-        ends(
-            alloc,
-            &refused,
-            3,
-            b"",
-            b"slif: grammar: start symbol E is unproductive\n"
-        )?
-    );
-    let unread = Given {
-        input_fails: &[2],
-        ..EXPECTED
-    };
-    assert!(rt; ends(alloc, &unread, 4, b"", b"slif: read fault\n")?);
-    Ok(())
-}
+// Places, and the report of the sum `1+` there.
+const REPORT_ROWS: [(&str, &[u8]); 3] = [
+    ("0", b"0:0 @0-0 E\n1:0 @0-0 E\n"),
+    ("1", b"0:1 @0-1 E\n1:1 @0-1 E\n"),
+    ("2", REPORTED_LINES),
+];
 
-// Each write of the names fails in turn, and a front of them stands.
 #[test]
-fn writes_of_names_fail_in_turn(rt: HostRuntime) -> Result<(), Fail> {
-    for k in 1..10 {
-        let broken = Given {
-            grammar: OPERATORS,
-            out_fails: &[k],
-            ..EXPECTED
+fn reports_are_told(rt: HostRuntime) -> Result<(), Fail> {
+    for (at, lines) in &REPORT_ROWS {
+        let given = Given {
+            words: &["progress", "--at", at, "--grammar", "g.slif"],
+            ..REPORTED
         };
-        let end = run_of(rt.alloc(), &broken)?;
-        if end.status == 0 {
-            return Ok(());
-        }
-        assert!(rt; end.status == 4 && b"'('\nN\n".starts_with(end.out.written()));
-        assert_eq!(rt; end.err.written(), b"slif: write fault\n".as_slice());
+        assert!(rt; ends(rt.alloc(), &given, 0, lines, b"")?);
     }
-    assert!(rt; false);
+    let separated = Given {
+        grammar: b":default ::= action => ::array\nL ::= N+ separator => comma\nN ~ [\\d]\ncomma ~ ','\n",
+        input: b"1,",
+        ..REPORTED
+    };
+    assert!(rt; ends(rt.alloc(), &separated, 0, b"0:2 @0-2 L\n", b"")?);
+    Ok(())
+}
+
+// Work needs no file and no input.
+#[test]
+fn work_is_counted(rt: HostRuntime) -> Result<(), Fail> {
+    let alone = Given {
+        files_fail: &[1],
+        input_fails: &[1],
+        ..WORKED
+    };
+    assert!(rt; ends(rt.alloc(), &alone, 0, WORKED_LINES, b"")?);
+    let larger = Given {
+        words: &["work", "--size", "100"],
+        ..WORKED
+    };
+    let line = b"work 100: tokens 301 values 1\n";
+    assert!(rt; ends(rt.alloc(), &larger, 0, line, b"")?);
     Ok(())
 }

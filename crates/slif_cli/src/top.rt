@@ -1,23 +1,33 @@
 // The top call.
-ghost use Rattle.std.specs.Prelude.{◌≡◌, ◌≤◌, ◌⊎◌, ℕ, List, [], ◌∷◌, Option, map, string_bytes, option_copied, OnOk, IfErr};
+ghost use Rattle.std.specs.Prelude.{◌≡◌, ◌≤◌, ◌⊎◌, ℕ, List, [], ◌∷◌, Option, map, string_bytes, option_copied, true, OnOk, IfErr};
 ghost use Rattle.slif_base.specs.Told.{SameFiles, AsksAmong};
+ghost use Rattle.words_model.specs.Words as asked_words;
+ghost use Rattle.words_model.specs.Words.{input_named, Check as AskedCheck};
+ghost use Rattle.run_model.specs.Jobs.{Takes};
+ghost use Rattle.run_model.specs.Jobs as model;
 ghost use Rattle.run_model.specs.Outside.{Outside, Stream, stream, disk};
 ghost use Rattle.run_model.specs.Runs.{Runs, AsksNames, ReadsInput};
-ghost use Rattle.run_model.specs.Words.{Asks, RunTree as AskedTrees, Check as AskedCheck, Expect as AskedExpect};
+ghost use Rattle.command_line.specs.Jobs.{job_of};
+ghost use Rattle.valuator.specs.Told.{states};
+ghost use Rattle.value_lines.specs.Writing.{AreBothTellers};
 ghost use Rattle.slif_cli.specs.Stops.{Does, MayHave, WorkStops, DoesJob, JobStops};
+ghost use Rattle.slif_cli.specs.Tasks.{task_of, IsTaskJob};
 
 use crate::checking::write_check;
-use crate::expecting::expect_input;
-use crate::grammar::{load_grammar, simple_of};
-use crate::input::derive_input;
+use crate::grammar::load_grammar;
 use crate::messages::report;
 use crate::stop::{Refusal, Stop};
-use crate::words::{Job, read_words};
+use crate::task::Task;
+use crate::telling::tell_input;
+use crate::working::work_of_size;
+use command_line::{Job, read_words};
 use slif_base::{Files, Sink, Source, Steps};
 use std::alloc::Global;
 use std::sync::ledger::Ledger;
+use valuator::Teller;
 
-/// Does what the words ask for, and answers the status.
+/// Does what the words ask for, and answers the status. The words are those behind the program's own name. Of the tellers that of
+/// the kind asked for is kept, and the other is dropped before any value is told.
 pub fn run<F: Files, I: Source, O: Sink, E: Sink, L: Ledger>(
     alloc: Global,
     words: &[String],
@@ -25,8 +35,10 @@ pub fn run<F: Files, I: Source, O: Sink, E: Sink, L: Ledger>(
     input: &mut I,
     out: &mut O,
     err: &mut E,
+    tellers: Vec<Box<dyn Teller>>,
     steps: &mut Steps<L>,
 ) -> u8
+    requires tellers { AreBothTellers (states tellers.items shows held) }
     ensures runs { let before : Outside = record {
       files = disk F.told F.fault_count files.old;
       input = stream I.left I.fault_count input.old;
@@ -44,7 +56,7 @@ pub fn run<F: Files, I: Source, O: Sink, E: Sink, L: Ledger>(
     ensures input { (input.new ≡ input.old) ⊎ ReadsInput (map string_bytes words.now) (F.told files.old) }
     ensures held { SameFiles (F.told files.old) (F.told files.new) }
 {
-    match work(alloc, words, files, input, out, steps) {
+    match work(alloc, words, files, input, out, tellers, steps) {
         Ok(()) => 0,
         Err(stop) => report(alloc, stop, err),
     }
@@ -57,8 +69,10 @@ fn work<'a, F: Files, I: Source, O: Sink, L: Ledger>(
     files: &mut F,
     input: &mut I,
     out: &mut O,
+    tellers: Vec<Box<dyn Teller>>,
     steps: &mut Steps<L>,
 ) -> Result<(), Stop<'a>>
+    requires tellers { AreBothTellers (states tellers.items shows held) }
     ensures done { OnOk result (Does (MayHave (map string_bytes words.now) (F.told files.old) (I.left input.old)) (O.contents out.old) (O.contents out.new)) }
     ensures stops { IfErr result (WorkStops (map string_bytes words.now)
         (disk F.told F.fault_count files.old) (disk F.told F.fault_count files.new)
@@ -68,43 +82,92 @@ fn work<'a, F: Files, I: Source, O: Sink, L: Ledger>(
     ensures input { (input.new ≡ input.old) ⊎ ReadsInput (map string_bytes words.now) (F.told files.old) }
     ensures held { SameFiles (F.told files.old) (F.told files.new) }
 {
-    match read_words(words) {
-        Some(Job::RunTree { grammar }) => list_trees(alloc, grammar, files, input, out),
-        Some(Job::Check { grammar }) => check_grammar(alloc, grammar, files, out),
-        Some(
-            Job::Expect {
-                grammar,
-                input: name,
-            },
-        ) => expect_names(alloc, grammar, name, files, input, out, steps),
-        None => Err(Stop::Refused(Refusal::NotBuilt)),
+    let job = match read_words(alloc, words) {
+        Ok(Some(job)) => job,
+        Ok(None) => return Err(Stop::Refused(Refusal::Usage)),
+        Err(_) => return Err(Stop::NoMemory),
+    };
+    if is_built(job) {
+        do_job(alloc, job, files, input, out, tellers, steps)
+    } else {
+        Err(Stop::Refused(Refusal::NotBuilt))
     }
 }
 
-// Lists the trees of the input by the grammar of that name.
-fn list_trees<'a, F: Files, I: Source, O: Sink>(
+// Whether the job is built yet.
+fn is_built(job: Job<'_>) -> bool
+    ensures { result ≡ model.is_built (job_of job.entry) }
+{
+    match job {
+        Job::Run(asked) => !asked.stats,
+        Job::Work { size } => size <= 1000,
+        _ => true,
+    }
+}
+
+fn do_job<'a, F: Files, I: Source, O: Sink, L: Ledger>(
     alloc: Global,
-    name: &'a str,
+    job: Job<'a>,
     files: &mut F,
     input: &mut I,
     out: &mut O,
+    tellers: Vec<Box<dyn Teller>>,
+    steps: &mut Steps<L>,
 ) -> Result<(), Stop<'a>>
-    ensures done { OnOk result (DoesJob (AskedTrees name.now) (F.told files.old) (I.left input.old) (O.contents out.old) (O.contents out.new)) }
-    ensures stops { IfErr result (JobStops (AskedTrees name.now)
+    requires built { model.is_built (job_of job) ≡ true }
+    requires tellers { AreBothTellers (states tellers.items shows held) }
+    ensures done { OnOk result (DoesJob (job_of job.entry) (F.told files.old) (I.left input.old) (O.contents out.old) (O.contents out.new)) }
+    ensures stops { IfErr result (JobStops (job_of job.entry)
         (disk F.told F.fault_count files.old) (disk F.told F.fault_count files.new)
         (stream I.left I.fault_count input.old) (stream I.left I.fault_count input.new)
         (stream O.contents O.fault_count out.old) (stream O.contents O.fault_count out.new)) }
-    ensures asks { AsksAmong (F.asked files.old) (F.asked files.new) (name.now ∷ []) }
-    ensures input { (input.new ≡ input.old) ⊎ ((words : List (List ℕ)) → Asks words (AskedTrees name.now) → ReadsInput words (F.told files.old)) }
+    ensures asks { (words : List (List ℕ)) → Takes words (job_of job.entry) → AsksNames words (F.told files.old) (F.asked files.old) (F.asked files.new) }
+    ensures input { (input.new ≡ input.old) ⊎ ((words : List (List ℕ)) → Takes words (job_of job.entry) → ReadsInput words (F.told files.old)) }
     ensures held { SameFiles (F.told files.old) (F.told files.new) }
 {
-    let loaded = match load_grammar(alloc, name, files) {
-        Ok(loaded) => loaded,
-        Err(stop) => return Err(stop),
-    };
-    match simple_of(alloc, &loaded.description) {
-        Ok(grammar) => derive_input(alloc, &grammar, input, out),
-        Err(stop) => Err(stop),
+    match job {
+        Job::Run(asked) => do_task(
+            alloc,
+            asked.grammar,
+            asked.input,
+            Task::Values(asked),
+            files,
+            input,
+            out,
+            tellers,
+            steps,
+        ),
+        Job::Check { grammar } => check_grammar(alloc, grammar, files, out),
+        Job::Expect {
+            grammar,
+            input: name,
+        } => do_task(
+            alloc,
+            grammar,
+            name,
+            Task::Expected,
+            files,
+            input,
+            out,
+            tellers,
+            steps,
+        ),
+        Job::Progress {
+            grammar,
+            at,
+            input: name,
+        } => do_task(
+            alloc,
+            grammar,
+            name,
+            Task::Report { at },
+            files,
+            input,
+            out,
+            tellers,
+            steps,
+        ),
+        Job::Work { size } => work_of_size(alloc, size, out, tellers, steps),
     }
 }
 
@@ -123,32 +186,40 @@ fn check_grammar<'a, F: Files, O: Sink>(
     ensures held { SameFiles (F.told files.old) (F.told files.new) }
 {
     match load_grammar(alloc, name, files) {
-        Ok(loaded) => write_check(alloc, &loaded.prepared, out),
+        Ok(prepared) => write_check(alloc, &prepared, out),
         Err(stop) => Err(stop),
     }
 }
 
-// Tells what is expected behind the input, by the grammar of that name.
-fn expect_names<'a, F: Files, I: Source, O: Sink, L: Ledger>(
+// Reads the grammar of that name and the input, and writes what is told of the input.
+fn do_task<'a, F: Files, I: Source, O: Sink, L: Ledger>(
     alloc: Global,
     grammar: &'a str,
     name: Option<&'a str>,
+    task: Task<'_>,
     files: &mut F,
     input: &mut I,
     out: &mut O,
+    tellers: Vec<Box<dyn Teller>>,
     steps: &mut Steps<L>,
 ) -> Result<(), Stop<'a>>
-    ensures done { OnOk result (DoesJob (AskedExpect grammar.now (option_copied name.entry)) (F.told files.old) (I.left input.old) (O.contents out.old) (O.contents out.new)) }
-    ensures stops { IfErr result (JobStops (AskedExpect grammar.now (option_copied name.entry))
+    requires tellers { AreBothTellers (states tellers.items shows held) }
+    ensures done { OnOk result ((job : asked_words.Job) → IsTaskJob job grammar.now (input_named (option_copied name.entry)) (task_of task.entry) →
+        DoesJob job (F.told files.old) (I.left input.old) (O.contents out.old) (O.contents out.new)) }
+    ensures stops { IfErr result (λ stop. (job : asked_words.Job) → IsTaskJob job grammar.now (input_named (option_copied name.entry)) (task_of task.entry) → JobStops job
         (disk F.told F.fault_count files.old) (disk F.told F.fault_count files.new)
         (stream I.left I.fault_count input.old) (stream I.left I.fault_count input.new)
-        (stream O.contents O.fault_count out.old) (stream O.contents O.fault_count out.new)) }
-    ensures asks { (words : List (List ℕ)) → Asks words (AskedExpect grammar.now (option_copied name.entry)) → AsksNames words (F.told files.old) (F.asked files.old) (F.asked files.new) }
-    ensures input { (input.new ≡ input.old) ⊎ ((words : List (List ℕ)) → Asks words (AskedExpect grammar.now (option_copied name.entry)) → ReadsInput words (F.told files.old)) }
+        (stream O.contents O.fault_count out.old) (stream O.contents O.fault_count out.new) stop) }
+    ensures asks { (job : asked_words.Job) → IsTaskJob job grammar.now (input_named (option_copied name.entry)) (task_of task.entry) →
+        (words : List (List ℕ)) → Takes words job → AsksNames words (F.told files.old) (F.asked files.old) (F.asked files.new) }
+    ensures input { (input.new ≡ input.old) ⊎ ((job : asked_words.Job) → IsTaskJob job grammar.now (input_named (option_copied name.entry)) (task_of task.entry) →
+        (words : List (List ℕ)) → Takes words job → ReadsInput words (F.told files.old)) }
     ensures held { SameFiles (F.told files.old) (F.told files.new) }
 {
     match load_grammar(alloc, grammar, files) {
-        Ok(loaded) => expect_input(alloc, &loaded.prepared, name, files, input, out, steps),
+        Ok(prepared) => tell_input(
+            alloc, &prepared, task, name, files, input, out, tellers, steps,
+        ),
         Err(stop) => Err(stop),
     }
 }

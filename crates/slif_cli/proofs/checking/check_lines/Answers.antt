@@ -1,4 +1,4 @@
-use Rattle.std.proofs.Common.{◌≡◌, ◌++◌, ◌∷◌, [], ◌∙◌, ℕ, List, Vec, Global, map, ap, subst, arith}
+use Rattle.std.proofs.Common.{◌≡◌, ◌∷◌, [], ◌∙◌, ℕ, List, Vec, Global, map, ap, subst, arith}
 use Rattle.std.proofs.lemmas.List.{map-append}
 use Rattle.grammar_model.specs.Grammar.{Grammar}
 use Rattle.run_model.specs.Checking.{head_line, row_line}

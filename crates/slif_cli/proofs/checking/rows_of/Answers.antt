@@ -1,8 +1,8 @@
-use Rattle.std.proofs.Common.{◌≡◌, ◌<◌, ◌∙◌, ℕ, Bool, true, false, List, [], ◌∷◌, length, map, sym, ap, subst, arith, slice_index_or}
+use Rattle.std.proofs.Common.{◌≡◌, ◌<◌, ◌∙◌, ℕ, [], ◌∷◌, length, map, sym, ap, subst, arith, slice_index_or}
 use Rattle.std.proofs.lemmas.List.{map-append}
 use Rattle.grammar_model.specs.Grammar.{Grammar, rule_at, lhs_of}
 use Rattle.slif_cli.specs.Stops.{told_row}
-use Rattle.slif_cli.proofs.Rows.{Collected, collected_same, collected_more, known_held}
+use Rattle.slif_cli.proofs.Rows.{collected_same, collected_more, known_held}
 use Rattle.slif_cli.proofs.checking.rows_of.Goals.{then-not-index+in_ok-push, else-not-index}
 use Rattle.slif_cli.proofs.checking.rows_of.Goals as goal
 

@@ -1,4 +1,4 @@
-use Rattle.std.proofs.Common.{ℕ, List, sym, ap, subst, arith, length, chars}
+use Rattle.std.proofs.Common.{ℕ, List, ap, subst, arith, length, chars}
 use Rattle.std.proofs.lemmas.Str.{length-le-encodes, encodes-chars}
 use Rattle.language_model.specs.Texts.{IsText, HasDescription}
 use Rattle.run_model.specs.Refused.{IsRefused}

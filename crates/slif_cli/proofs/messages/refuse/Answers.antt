@@ -1,7 +1,7 @@
 use Rattle.std.proofs.Common.{inl, inr, subst}
 use Rattle.slif_base.specs.Told.{AppendsPrefix}
 use Rattle.run_model.specs.Outside.{stream}
-use Rattle.slif_cli.proofs.Telling.{breaks}
+use Rattle.slif_cli.proofs.ErrLines.{breaks}
 use Rattle.slif_cli.proofs.messages.refuse.Goals as goal
 
 pub returns-in-Err : goal.returns-in-Err

@@ -1,5 +1,4 @@
-use Rattle.std.proofs.Common.{List}
-use Rattle.slif_cli.proofs.InputLemmas.{stops_known, known_in, stop_told}
+use Rattle.slif_cli.proofs.InputLemmas.{stops_known, known_in}
 use Rattle.slif_cli.proofs.reading.ended.Goals as goal
 
 pub stopped_text-requires-clause-found : goal.stopped_text-requires-clause-found

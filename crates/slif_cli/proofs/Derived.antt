@@ -1,0 +1,241 @@
+-- What a forest tells of the derivations of a reading.
+use Rattle.std.proofs.Common.{◌≡◌, ℕ, ◌≤◌, List, [], ◌∷◌, ◌++◌, Option, Some, length, take, refl, sym, ap, subst, ◌∙◌, arith, Contains, slice_get, slice_index_or}
+use Rattle.std.proofs.lemmas.List.{take_all}
+use Rattle.std.specs.List.Sorted.{IsStrictlySortedBy}
+use Rattle.std.specs.Io.KnownBytes.{Appends}
+use Rattle.grammar_model.specs.Grammar.{Grammar, slot_of}
+use Rattle.grammar_model.specs.Trees.{Tree}
+use Rattle.grammar_model.specs.Derives.{Held, Derives}
+use Rattle.grammar_model.specs.Checked.{IsChecked}
+use Rattle.grammar_model.specs.declared.Edge.{Edge}
+use Rattle.grammar_model.specs.declared.Ranking.{Ranking}
+use Rattle.grammar_model.specs.declared.Ranking.TheVariants.{Rule as RuleRanks}
+use Rattle.grammar_model.specs.Order.{rank_order, tree_cmp}
+use Rattle.grammar_model.proofs.Sorting.{ranks_order}
+use Rattle.grammar_model.proofs.Total.{all_unique}
+use Rattle.grammar_model.specs.All.{IsAll}
+use Rattle.grammar_core.specs.declared.steps.Span.{Span}
+use Rattle.recognizer_model.specs.declared.flat.FlatSymbol.TheVariants.{Top}
+use Rattle.recognizer_model.specs.Flat.{lhs_of}
+use Rattle.recognizer_model.specs.FlatForm.{StandsFor, symbol_at, tree_of}
+use Rattle.recognizer_model.proofs.FlatNamed.{get_index, index_get}
+use Rattle.recognizer_model.proofs.FlatFormLaw.{flat_form}
+use Rattle.earley_sets.specs.Laws.{TreesAreDerivations}
+use Rattle.earley_sets.specs.Recognizer.{Recognizer, IsRecognizer, HasTree, place_of}
+use Rattle.forest_model.specs.Forest.{Forest, IsForest, top_of}
+use Rattle.forest_model.specs.Listing.{IsListing}
+use Rattle.forest_laws.specs.Lists.{trees_by}
+use Rattle.forest_laws.proofs.Exact.{forests_have_lists}
+use Rattle.forest_laws.proofs.Reading as reading
+use Rattle.language_model.specs.Building.{Built}
+use Rattle.reading_model.specs.Reading.{End, edges_of, place_after}
+use Rattle.scanless.specs.Reading.{IsReadingOf}
+use Rattle.scanless.specs.declared.reading.Ending.TheVariants.{End as AtEnd}
+use Rattle.words_model.specs.Words.{RunAsked}
+use Rattle.run_model.specs.Listing.{AreDerivations}
+use Rattle.run_model.specs.Jobs.Task.{Values, Count}
+use Rattle.run_model.specs.Telling.{Outcome, TellsDerivations, value_lines, count_line, done, refused}
+use Rattle.run_model.specs.Telling.TellsDerivations.{NoDerivation, Derived}
+use Rattle.run_model.specs.Outside.{Stream}
+use Rattle.value_lines.specs.Writing.{TextHas, TextStops}
+use Rattle.value_lines.specs.declared.writing.WriteRefusal.{WriteRefusal}
+use Rattle.value_lines.specs.declared.writing.WriteRefusal.TheVariants.{WriteFault as WriteFailed, NoMemory as NoRoom}
+use Rattle.reading_model.proofs.One.{reading_is_one}
+use Rattle.slif_base.proofs.Bytes.{appends_none}
+use Rattle.slif_cli.specs.Stops.{Does, WriteStops, TellsInput}
+use Rattle.slif_cli.specs.Tasks.{TellsReading, HasForest, IsNoDerivation, TellsEnd, counted, write_stop}
+use Rattle.slif_cli.specs.declared.stop.Refusal.TheVariants.{NotBuilt, Usage, Grammar as BadGrammar, Input as BadInput}
+use Rattle.slif_cli.specs.declared.stop.Stop.{Stop}
+use Rattle.slif_cli.specs.declared.stop.Stop.TheVariants.{Refused, OpenFault, ReadFault, WriteFault, NoMemory}
+use Rattle.slif_cli.proofs.Stopping.{lines_done, lines_stop, nothing_appended}
+
+no_element : {X : Type 0} (x : X) → Contains [] x → ⊥
+no_element x (k, lt, e) = omega (arith, lt)
+
+-- A FOREST HAS A DERIVATION
+
+module _ (f : Forest) (is : IsForest f) where
+  abbrev whole : ℕ
+  whole = lhs_of f.flat (top_of f)
+
+  top_symbol : slice_get f.flat.symbols whole ≡ Some (Top f.start)
+  top_symbol = (is.derived.flat.tops f.start (top_of f) (index_get f.flat.tops f.start 0 is.derived.start)).symbol
+
+  stands : StandsFor f.written (symbol_at f.flat whole) (slot_of (slice_index_or f.written.starts f.start 0))
+  stands =
+      let e : symbol_at f.flat whole ≡ Top f.start = (get_index f.flat.symbols whole (Top 0) (Top f.start) top_symbol).1 in
+      let all = is.derived.flat_of.tops_all in
+      let lt = is.derived.start in
+      subst (λ s. StandsFor f.written s (slot_of (slice_index_or f.written.starts f.start 0))) (sym e)
+      (slice_index_or f.written.starts f.start 0, index_get f.written.starts f.start 0 (omega (arith, all, lt)), refl)
+
+  pub has_derivation : (t : Tree) × Derives f.written (Held f.edges) (slot_of (slice_index_or f.written.starts f.start 0)) 0 f.place t
+  has_derivation =
+      let form = flat_form f.flat f.written is.derived.flat is.derived.flat_of is.derived.checked (Held f.edges) (reading.held_forward f is.derived) f.ranking in (
+        tree_of f.written f.flat is.derived.tree,
+        form.sound whole 0 f.place _ is.derived.tree (get_index f.flat.symbols whole (Top 0) (Top f.start) top_symbol).0 stands (reading.viewed f is.derived is.derived.derives),
+      )
+
+-- equal parts
+derives_as : (w v : Grammar) (es gs : List Edge) (k p q : ℕ) (t : Tree) → w ≡ v → es ≡ gs → k ≡ 0 → p ≡ q
+    → Derives w (Held es) (slot_of (slice_index_or w.starts k 0)) 0 p t → Derives v (Held gs) (slot_of (slice_index_or v.starts 0 0)) 0 q t
+derives_as w v es gs k p q t same_w same_e same_k same_p d =
+    subst (λ (g : Grammar). Derives g (Held gs) (slot_of (slice_index_or g.starts 0 0)) 0 q t) same_w
+    (subst (λ (l : List Edge). Derives w (Held l) (slot_of (slice_index_or w.starts 0 0)) 0 q t) same_e
+    (subst (λ n. Derives w (Held es) (slot_of (slice_index_or w.starts n 0)) 0 q t) same_k
+    (subst (λ n. Derives w (Held es) (slot_of (slice_index_or w.starts k 0)) 0 n t) same_p d)))
+
+all_as : (w v : Grammar) (es gs : List Edge) (r s : Ranking) (k p q : ℕ) (ts : List Tree) → w ≡ v → es ≡ gs → r ≡ s → k ≡ 0 → p ≡ q
+    → IsAll w (Held es) (rank_order w r) (slot_of (slice_index_or w.starts k 0)) 0 p ts → IsAll v (Held gs) (rank_order v s) (slot_of (slice_index_or v.starts 0 0)) 0 q ts
+all_as w v es gs r s k p q ts same_w same_e same_r same_k same_p d =
+    subst (λ (g : Grammar). IsAll g (Held gs) (rank_order g s) (slot_of (slice_index_or g.starts 0 0)) 0 q ts) same_w
+    (subst (λ (l : List Edge). IsAll w (Held l) (rank_order w s) (slot_of (slice_index_or w.starts 0 0)) 0 q ts) same_e
+    (subst (λ (x : Ranking). IsAll w (Held es) (rank_order w x) (slot_of (slice_index_or w.starts 0 0)) 0 q ts) same_r
+    (subst (λ n. IsAll w (Held es) (rank_order w r) (slot_of (slice_index_or w.starts n 0)) 0 q ts) same_k
+    (subst (λ n. IsAll w (Held es) (rank_order w r) (slot_of (slice_index_or w.starts k 0)) 0 n ts) same_p d))))
+
+-- WHERE THE FOREST IS BUILT
+
+module _ (b : Built) (ranking : Ranking) (cs : List ℕ) (recce : Recognizer) (spans : List Span) (few : length cs ≤ 16777216) (read : IsReadingOf b cs recce spans AtEnd) where
+  pub has_forest : (f : Forest) → IsForest f → (w : Grammar) → w ≡ b.g1 → f.written ≡ w → f.start ≡ recce.start → f.edges ≡ recce.edges → f.place ≡ place_of recce → f.ranking ≡ ranking
+      → HasForest b ranking cs spans f
+  has_forest f is w same written start edges place ranked =
+      let start_is = start ∙ read.holds.start in
+      let edges_are = edges ∙ read.holds.edges in
+      let place_is = place ∙ read.holds.place in
+      let some = has_derivation f is in
+      record {
+        pieces = read.pieces;
+        of = record {
+          few = few;
+          reading = read.is_reading;
+          spans_are = read.spans_are;
+          written = written ∙ same;
+          start = start_is;
+          edges = edges_are;
+          place = place_is;
+        };
+        ranking_is = ranked;
+        tree = some.0;
+        derives = derives_as f.written b.g1 f.edges (edges_of read.pieces) f.start f.place (place_after read.pieces) some.0 (written ∙ same) edges_are start_is place_is some.1;
+      }
+
+  -- no tree, no derivation
+  start_get : IsRecognizer recce → slice_get b.g1.starts recce.start ≡ Some (slice_index_or b.g1.starts recce.start 0)
+  start_get is = let all = read.holds.flat.tops_all in let lt = is.start in index_get b.g1.starts recce.start 0 (omega (arith, all, lt))
+
+  none_derived : TreesAreDerivations → IsChecked b.g1 → IsRecognizer recce → (HasTree recce → ⊥) → (t : Tree)
+      → Derives b.g1 (Held (edges_of read.pieces)) (slot_of (slice_index_or b.g1.starts 0 0)) 0 (place_after read.pieces) t → ⊥
+  none_derived law checked is none t d =
+      let here : Derives b.g1 (Held recce.edges) (slot_of (slice_index_or b.g1.starts recce.start 0)) 0 (place_of recce) t =
+      subst (λ (l : List Edge). Derives b.g1 (Held l) (slot_of (slice_index_or b.g1.starts recce.start 0)) 0 (place_of recce) t) (sym read.holds.edges)
+      (subst (λ n. Derives b.g1 (Held (edges_of read.pieces)) (slot_of (slice_index_or b.g1.starts n 0)) 0 (place_of recce) t) (sym read.holds.start)
+      (subst (λ n. Derives b.g1 (Held (edges_of read.pieces)) (slot_of (slice_index_or b.g1.starts 0 0)) 0 n t) (sym read.holds.place) d)) in
+      none ((law b.g1 recce (slice_index_or b.g1.starts recce.start 0) checked read.holds.flat is (start_get is)).1 (t, here))
+
+  none_sorted : IsStrictlySortedBy (tree_cmp (rank_order b.g1 ranking)) []
+  unfolding IsStrictlySortedBy
+  none_sorted = tt
+
+  pub no_derivation : TreesAreDerivations → IsChecked b.g1 → IsRecognizer recce → (HasTree recce → ⊥) → (text : List ℕ) → TellsEnd b recce text → IsNoDerivation b ranking cs text
+  no_derivation law checked is none text tells = record {
+    pieces = read.pieces;
+    reading = read.is_reading;
+    none = record { sorted = none_sorted; each = λ t. (λ among. absurd (no_element t among), λ d. absurd (none_derived law checked is none t d)) };
+    expected = tells.0;
+    are = tells.1 read.pieces read.holds;
+    told = tells.2;
+  }
+
+-- WHAT IS TOLD OF THE DERIVATIONS
+
+module _ (b : Built) (ranking : Ranking) (cs : List ℕ) (spans : List Span) (f : Forest) (has : HasForest b ranking cs spans f) where
+  listed : (trees : List Tree) → IsListing f trees → AreDerivations b ranking has.pieces trees
+  listed trees l =
+      all_as f.written b.g1 f.edges (edges_of has.pieces) f.ranking ranking f.start f.place (place_after has.pieces) trees
+      has.of.written has.of.edges has.ranking_is has.of.start has.of.place l
+
+  pub derived : (lines : List Tree → List (List ℕ)) (trees : List Tree) → IsListing f trees → TellsDerivations b ranking lines has.pieces (done (lines trees))
+  derived lines trees l = by trees (listed trees l)
+    where
+      by : (ts : List Tree) → AreDerivations b ranking has.pieces ts → TellsDerivations b ranking lines has.pieces (done (lines ts))
+      by [] all = absurd (no_element has.tree ((all.each has.tree).1 has.derives))
+      by (t ∷ ts) all = Derived t ts all refl
+
+  -- the forest has a list
+  pub some_listing : IsForest f → (trees : List Tree) × IsListing f trees
+  some_listing is = (trees_by f (forests_have_lists f is).0, (forests_have_lists f is).1.listing)
+
+-- JOB run
+
+module _ (asked : RunAsked) (b : Built) (cs : List ℕ) (spans : List Span) (f : Forest) (has : HasForest b asked.ranking cs spans f) where
+  abbrev Told : Outcome → Type 0
+  Told = TellsReading (Values asked) b cs
+
+  value_told : (trees : List Tree) → IsListing f trees → Told (done (value_lines b asked cs has.pieces trees))
+  value_told trees l = record { pieces = has.pieces; reading = has.of.reading; tells = derived b asked.ranking cs spans f has (value_lines b asked cs has.pieces) trees l }
+
+  pub values_done : (before after : Option (List ℕ)) → TextHas b asked.show cs spans f asked.first (λ text. Appends before after text) → Does Told before after
+  values_done before after text =
+      let (trees, l, appends) = text has.pieces has.of in
+      lines_done Told (value_lines b asked cs has.pieces trees) (value_told trees l) before after appends
+
+  pub values_stop : (before after : Stream) (refusal : WriteRefusal) → TextHas b asked.show cs spans f asked.first (λ text. TextStops before after refusal text) → WriteStops Told before after (write_stop refusal)
+  values_stop before after WriteFailed text =
+      let (trees, l, stops) = text has.pieces has.of in
+      lines_stop Told (value_lines b asked cs has.pieces trees) (value_told trees l) before after WriteFault stops
+  values_stop before after NoRoom text =
+      let (trees, l, stops) = text has.pieces has.of in
+      lines_stop Told (value_lines b asked cs has.pieces trees) (value_told trees l) before after NoMemory stops
+
+-- JOB work
+
+-- how many of a list there are, or of the first so many
+module _ (f : Forest) (most : ℕ) where
+  one_list : (xs ys : List Tree) → IsListing f xs → IsListing f ys → xs ≡ ys
+  one_list xs ys p q = all_unique f.written (Held f.edges) (rank_order f.written f.ranking) (ranks_order f.written f.ranking) (slot_of (slice_index_or f.written.starts f.start 0)) 0 f.place xs ys p q
+
+  pub counts_all : (given trees : List Tree) (n : ℕ) → IsListing f given → IsListing f trees → length given ≡ n → n ≤ most → n ≡ length (take most trees)
+  counts_all given trees n p q is le =
+      sym is ∙ ap length (sym (take_all most given (omega (arith, is, le)))) ∙ ap (λ (ts : List Tree). length (take most ts)) (one_list given trees p q)
+
+  pub counts_most : (given rest trees : List Tree) → IsListing f (given ++ rest) → IsListing f trees → length given ≡ most → most ≡ length (take most trees)
+  counts_most given rest trees p q is =
+      sym is ∙ ap length (sym (take_front given rest)) ∙ ap (λ n. length (take n (given ++ rest))) is ∙ ap (λ (ts : List Tree). length (take most ts)) (one_list (given ++ rest) trees p q)
+    where
+      take_front : (xs ys : List Tree) → take (length xs) (xs ++ ys) ≡ xs
+      take_front [] ys = refl
+      take_front (x ∷ xs) ys = ap (λ (l : List Tree). x ∷ l) (take_front xs ys)
+
+module _ (size : ℕ) (b : Built) (cs : List ℕ) (spans : List Span) (f : Forest) (has : HasForest b RuleRanks cs spans f) where
+  pub count_told : IsForest f → (recce : Recognizer) → IsReadingOf b cs recce spans AtEnd → (n tokens : ℕ) → ((trees : List Tree) → IsListing f trees → n ≡ length (take 4294967295 trees))
+      → tokens ≡ place_of recce → TellsReading (Count size) b cs (done (counted size tokens n ∷ []))
+  count_told is recce read n tokens all place =
+      let (trees, l) = some_listing b RuleRanks cs spans f has is in
+      let same = (reading_is_one b cs read.pieces has.pieces End End read.is_reading has.of.reading).0 in
+      let tokens_are : tokens ≡ place_after has.pieces = place ∙ read.holds.place ∙ ap place_after same in
+      record {
+        pieces = has.pieces;
+        reading = has.of.reading;
+        tells = subst (λ line. TellsDerivations b RuleRanks (λ ts. count_line size has.pieces ts ∷ []) has.pieces (done (line ∷ [])))
+            (ap (λ t. counted size t (length (take 4294967295 trees))) (sym tokens_are) ∙ ap (counted size tokens) (sym (all trees l)))
+            (derived b RuleRanks cs spans f has (λ ts. count_line size has.pieces ts ∷ []) trees l);
+      }
+
+-- NO DERIVATION
+
+pub told_refusal : (Q : List ℕ → Type 0) (P : Outcome → Type 0) → ((text : List ℕ) → Q text → P (refused 1 text)) → (out : Stream) (stop : Stop) → TellsInput Q stop → WriteStops P out out stop
+told_refusal Q P f out (Refused NotBuilt) stops = absurd stops
+told_refusal Q P f out (Refused Usage) stops = absurd stops
+told_refusal Q P f out (Refused (BadGrammar text)) stops = absurd stops
+told_refusal Q P f out (Refused (BadInput text)) stops = (f text.items stops, appends_none out.bytes)
+told_refusal Q P f out (OpenFault asked) stops = absurd stops
+told_refusal Q P f out ReadFault stops = absurd stops
+told_refusal Q P f out WriteFault stops = absurd stops
+told_refusal Q P f out NoMemory stops = nothing_appended P out.bytes
+
+pub no_values : (asked : RunAsked) (b : Built) (cs text : List ℕ) → IsNoDerivation b asked.ranking cs text → TellsReading (Values asked) b cs (refused 1 text)
+no_values asked b cs text is = record { pieces = is.pieces; reading = is.reading; tells = NoDerivation is.expected is.none is.are (ap (refused 1) is.told) }
+
+pub no_count : (size : ℕ) (b : Built) (cs text : List ℕ) → IsNoDerivation b RuleRanks cs text → TellsReading (Count size) b cs (refused 1 text)
+no_count size b cs text is = record { pieces = is.pieces; reading = is.reading; tells = NoDerivation is.expected is.none is.are (ap (refused 1) is.told) }
