@@ -11,6 +11,7 @@ from concurrent.futures import ThreadPoolExecutor
 
 LINE_ENDS = "\n\x0b\x0c\r\x85\u2028\u2029"
 SPACES = " \t\n\x0b\x0c\r\x85\xa0\u1680\u2000\u2001\u2002\u2003\u2004\u2005\u2006\u2007\u2008\u2009\u200a\u2028\u2029\u202f\u205f\u3000"
+UNDERIVED = "slif: input ended without a derivation; expected: "
 MARKS = ["::=", "~", "|", "||", "=>", "=", "(", ")", "*", "+", ",", ";", "null-ranking"]
 
 
@@ -147,13 +148,13 @@ def is_statement(piece):
     return STATEMENT.fullmatch(letters) is not None
 
 
-def is_simple(pieces):
-    """Whether the statements are rules of words and simple quoted characters alone."""
+def simple_rules(pieces):
+    """The rules, where the statements are rules of words and simple quoted characters alone; else None."""
     rules = []
     for piece in pieces:
         letters = shape(piece)
         if re.fullmatch(r"w:[wq]+(?:\|[wq]+)*", letters) is None:
-            return False
+            return None
         right = [[]]
         for token in piece[2:]:
             if token[0] == "Mark":
@@ -163,14 +164,29 @@ def is_simple(pieces):
         for parts in right:
             for kind, text, _ in parts:
                 if kind == "Quote" and not (len(text) == 3 and "!" <= text[1] <= "~" and text[1] not in "'\"\\$@"):
-                    return False
+                    return None
             if len(parts) == 1 and parts[0][0] != "Quote" or len(parts) > 1000:
-                return False
+                return None
             rules.append((piece[0][1], tuple(t[:2] for t in parts)))
     lefts = {left for left, _ in rules}
     plain = {left for left, parts in rules if all(kind == "Quote" for kind, _ in parts)}
     named = {text for _, parts in rules for kind, text in parts if kind == "Word"}
-    return bool(rules) and named <= lefts and plain == lefts and len(set(rules)) == len(rules) <= 10000
+    fits = bool(rules) and named <= lefts and plain == lefts and len(set(rules)) == len(rules) <= 10000
+    return rules if fits else None
+
+
+def first_characters(rules):
+    """The quoted characters with which a text of the first left side can begin, sorted. No symbol of simple rules spans nothing."""
+    begins, seen, found = [rules[0][0]], set(), set()
+    while begins:
+        name = begins.pop()
+        if name in seen:
+            continue
+        seen.add(name)
+        for left, parts in rules:
+            if left == name:
+                (found.add if parts[0][0] == "Quote" else begins.append)(parts[0][1])
+    return sorted(found)
 
 
 def place(text, at):
@@ -193,17 +209,21 @@ def expected(data):
     for piece in pieces:
         if not is_statement(piece):
             return 3, f"slif: grammar: bad statement at {place(text, piece[0][2])}\n"
-    if is_simple(pieces):
-        return 1, "slif: no derivation\n"
+    rules = simple_rules(pieces)
+    if rules is not None:
+        return 1, f"{UNDERIVED}{', '.join(first_characters(rules))}\n"
     return None
 
 
-def is_expected(data, got):
-    """A text that is read has no fault of its tokens or its statements; what its statements say may be refused."""
+def is_expected(data, got, out):
+    """A text that is read has no fault of its tokens or its statements; what its statements say may be refused, or the empty input be
+    derived or not."""
+    if (got[0] == 0) != (out != b""):
+        return False
     wanted = expected(data)
     if wanted is not None:
         return got == wanted
-    if got == (6, "slif: not built yet\n"):
+    if got == (0, "") or got[0] == 1 and got[1].startswith(UNDERIVED):
         return True
     reads = ("longer than", "not UTF-8", "bad token at", "bad statement at")
     return got[0] == 3 and got[1].startswith(("slif: grammar: ", "slif: lexical grammar: ")) and not any(
@@ -235,7 +255,7 @@ def main():
     failed = 0
     with ThreadPoolExecutor(4) as pool:
         for front, got, out in pool.map(answer, fronts):
-            if not is_expected(front, got) or out:
+            if not is_expected(front, got, out):
                 failed += 1
                 if failed <= 10:
                     print(f"{front!r}: {got}, wanted {expected(front)}")

@@ -1,6 +1,7 @@
 // Whole runs over forms in memory: what each job tells with ample memory.
-ghost use Rattle.std.specs.Prelude.{◌≡◌, ◌<◌, []};
-ghost use Rattle.grammar_model.specs.declared.Show.TheVariants.{Array as ShowArray};
+ghost use Rattle.std.specs.Prelude.{◌≡◌, ◌<◌};
+ghost use Rattle.valuator.specs.Told.{states};
+ghost use Rattle.value_lines.specs.Writing.{AreBothTellers};
 
 use crate::run;
 use slif_base::{MemFiles, MemSink, MemSource, Steps};
@@ -115,17 +116,16 @@ fn words_of(alloc: Global, texts: &[&str]) -> Result<Vec<String>, AllocError> {
     Ok(words)
 }
 
-fn end_with<T: Teller + 'static, L: Ledger>(
+fn end_with<L: Ledger>(
     blank: Blank,
     alloc: Global,
     given: &Given<'_>,
-    array: T,
+    tellers: Vec<Box<dyn Teller>>,
 ) -> Result<Ended, AllocError>
     requires name { blank.name ≡ L.name }
     requires parts { blank.parts ≡ L.parts }
     requires some { 0 < blank.parts }
-    requires kind { T.shows array ≡ ShowArray }
-    requires empty { T.held array ≡ [] }
+    requires tellers { AreBothTellers (states tellers.items shows held) }
 {
     let words = words_of(alloc, given.words)?;
     let mut files = files_of(alloc, given)?;
@@ -133,11 +133,6 @@ fn end_with<T: Teller + 'static, L: Ledger>(
     let mut input = MemSource::new(given.input.to_vec(alloc)?, 2, fails);
     let mut out = MemSink::new(alloc, 10, given.out_fails.to_vec(alloc)?);
     let mut err = MemSink::new(alloc, 10, given.err_fails.to_vec(alloc)?);
-    let array: Box<dyn Teller> = Box::new(alloc, array)?;
-    let tree: Box<dyn Teller> = Box::new(alloc, TreeTeller::new(alloc))?;
-    let mut tellers = Vec::new(alloc);
-    tellers.push(tree)?;
-    tellers.push(array)?;
     let mut steps = Steps::<L>::of_blank(blank);
     let status = run(
         alloc, &words, &mut files, &mut input, &mut out, &mut err, tellers, &mut steps,
@@ -151,20 +146,24 @@ fn end_with<T: Teller + 'static, L: Ledger>(
     })
 }
 
-/// Runs with this teller of arrays and a teller of trees.
-pub fn run_with<T: Teller + 'static>(
+/// Runs with these tellers.
+pub fn run_with(
     alloc: Global,
     given: &Given<'_>,
-    array: T,
+    tellers: Vec<Box<dyn Teller>>,
 ) -> Result<Ended, AllocError>
-    requires kind { T.shows array ≡ ShowArray }
-    requires empty { T.held array ≡ [] }
+    requires { AreBothTellers (states tellers.items shows held) }
 {
-    end_with::<T, Brand>(Blank::new(1), alloc, given, array)
+    end_with::<Brand>(Blank::new(1), alloc, given, tellers)
 }
 
 pub fn run_of(alloc: Global, given: &Given<'_>) -> Result<Ended, AllocError> {
-    run_with(alloc, given, ArrayTeller::new(alloc))
+    let array: Box<dyn Teller> = Box::new(alloc, ArrayTeller::new(alloc))?;
+    let tree: Box<dyn Teller> = Box::new(alloc, TreeTeller::new(alloc))?;
+    let mut tellers = Vec::new(alloc);
+    tellers.push(array)?;
+    tellers.push(tree)?;
+    run_with(alloc, given, tellers)
 }
 
 /// Whether a run ends so.

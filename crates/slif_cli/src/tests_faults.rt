@@ -9,7 +9,7 @@ use std::alloc::{AllocError, Global};
 use std::cell::Cell;
 use std::rc::Rc;
 use std::test::Fail;
-use valuator::{ArrayTeller, Show, Teller};
+use valuator::{ArrayTeller, Show, Teller, TreeTeller};
 use value_text::{Action, NoMemory};
 
 const CANNOT_READ: &[u8] = b"slif: read fault\n";
@@ -244,7 +244,12 @@ fn run_refusing(
         refused,
         calls: Rc::clone(&calls)?,
     };
-    let end = run_with(alloc, given, teller)?;
+    let array: Box<dyn Teller> = Box::new(alloc, teller)?;
+    let tree: Box<dyn Teller> = Box::new(alloc, TreeTeller::new(alloc))?;
+    let mut tellers = Vec::new(alloc);
+    tellers.push(tree)?;
+    tellers.push(array)?;
+    let end = run_with(alloc, given, tellers)?;
     Ok((end, calls.get(), Rc::strong_count(&calls)))
 }
 

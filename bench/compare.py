@@ -1,0 +1,95 @@
+#!/usr/bin/env python3
+"""Times job `run` of the built program beside Marpa::R2 and bison's GLR parser, where those are installed.
+
+    bench/compare.py [--binary crates/slif/out/slif] [--rounds 3] [--only WORD]
+
+JSON documents, right and left recursion, all values of an ambiguous sum, expressions by an operator table, nested brackets. All read the
+same files in turn. The least times and the greatest memory are printed, and the ratio of the processor times: less than 1 is faster than
+Marpa::R2. The two have to write the same lines, in any order, and as many as there are derivations; bison's parser is a recognizer here. With `--only` those cases are run whose
+name has the word. Debian has Marpa::R2 as libmarpa-r2-perl.
+"""
+import argparse, pathlib, sys, tempfile
+
+import glr
+from measuring import BINARY, HERE, ROOT, best, document, has_marpa
+
+FIRST = ":default ::= action => ::first\n"
+RIGHT = FIRST + "L ::= x L | x\nx ~ 'x'\n"
+LEFT = FIRST + "L ::= L x | x\nx ~ 'x'\n"
+SUM = ":default ::= action => ::array\nE ::= E '+' E | N\nN ~ [\\d]\n"
+BRACKETS = FIRST + "B ::= ('(') B (')') | 'x'\n"
+
+
+def expression(size):
+    """Sums of products with signs, powers and brackets, of at least so many bytes."""
+    parts, length, n = [], 0, 0
+    while length < size:
+        part = f"-{n % 97} ^ 2 * ({n} - {n % 7}.5 / 3) + (({n % 11} + 1) * 2 - 8 / 4 / 2)"
+        parts.append(part)
+        length += len(part) + 3
+        n += 1
+    return " + ".join(parts)
+
+
+def cases():
+    """The name, the grammar, the input, and the number of derivations."""
+    json = (ROOT / "examples/json.slif").read_text()
+    operators = (ROOT / "examples/operators.slif").read_text()
+    for kilobytes in (10, 100, 1000):
+        yield f"JSON {kilobytes} KB", json, document(1000 * kilobytes), 1
+    yield "right recursion 1,000", RIGHT, "x" * 1000, 1
+    yield "left recursion 1,000,000", LEFT, "x" * 1_000_000, 1
+    yield "sum of 11 operands", SUM, "+".join("12345678901"), 16_796
+    yield "sum of 12 operands", SUM, "+".join("123456789012"), 58_786
+    yield "operators 100 KB", operators, expression(100_000), 1
+    for depth in (1000, 10_000, 100_000):
+        yield f"brackets {depth:,}", BRACKETS, "(" * depth + "x" + ")" * depth, 1
+
+
+def fault_of(results, count):
+    """What is wrong with the answers, if anything is."""
+    for who, (_, _, _, status, text) in zip(("slif", "Marpa::R2"), results):
+        lines = text.count("\n")
+        if status != 0 or lines != count:
+            return f"{who}: status {status}, {lines} lines, but {count} are right: {text[:200]!r}"
+    if len(results) == 2 and sorted(results[0][4].splitlines()) != sorted(results[1][4].splitlines()):
+        return "the lines differ"
+    return None
+
+
+def main():
+    options = argparse.ArgumentParser()
+    options.add_argument("--binary", default=BINARY)
+    options.add_argument("--rounds", type=int, default=3)
+    options.add_argument("--only", default="")
+    options = options.parse_args()
+    marpa, bison, bad = has_marpa(), glr.has_bison(), 0
+    print(f"{'what':26}{'seconds':>9}{'cpu':>8}{'MB':>6}" + (f"{'marpa s':>11}{'cpu':>8}{'MB':>6}{'ratio':>8}" if marpa else "    (Marpa::R2 is not installed)")
+          + (f"{'bison s':>11}{'cpu':>8}{'MB':>6}" if bison else "    (bison is not installed)"))
+    with tempfile.TemporaryDirectory() as folder:
+        grammar, path = pathlib.Path(folder) / "g.slif", pathlib.Path(folder) / "input.txt"
+        for name, source, text, count in cases():
+            if options.only not in name:
+                continue
+            grammar.write_text(source)
+            path.write_text(text)
+            commands = [[options.binary, "run", "--grammar", str(grammar), "--input", str(path)]]
+            if marpa:
+                commands.append(["perl", str(HERE / "marpa_run.pl"), str(grammar), str(path)])
+            results = best(commands, options.rounds)
+            counted = best([[glr.build(name, folder), str(path)]], options.rounds)[0] if bison else None
+            fault = fault_of(results, count)
+            if counted and (counted[3] != 0 or count == 1 and counted[4] != "1\n"):
+                fault = f"bison's parser: status {counted[3]}, {counted[4]!r}"
+            bad += fault is not None
+            line = f"{name:26}{results[0][0]:>9.3f}{results[0][1]:>8.3f}{results[0][2]:>6.0f}"
+            if marpa:
+                line += f"{results[1][0]:>11.3f}{results[1][1]:>8.3f}{results[1][2]:>6.0f}{results[0][1] / results[1][1]:>8.2f}"
+            if counted:
+                line += f"{counted[0]:>11.3f}{counted[1]:>8.3f}{counted[2]:>6.0f}"
+            print(line + (f"  WRONG: {fault}" if fault else ""), flush=True)
+    return 1 if bad else 0
+
+
+if __name__ == "__main__":
+    sys.exit(main())

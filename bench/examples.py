@@ -1,0 +1,96 @@
+#!/usr/bin/env python3
+"""Runs each example of docs/LANGUAGE.md with the built program, and compares what it writes.
+
+    bench/examples.py [--binary crates/slif/out/slif] [--page docs/LANGUAGE.md]
+
+An indented block whose first line is a comment with a name, as `# sum.slif`, is a file of that name. A line of a block that begins with
+`$` is a command, and the lines below it are all that it writes, to standard output or standard error. The files are made in a folder of
+their own, where the folder examples/ is that of the repository. Of each examples/NAME.out there has to be a command that names
+examples/NAME.slif and writes just that.
+"""
+import argparse, os, pathlib, re, subprocess, sys, tempfile
+
+INDENT = "    "
+ROOT = pathlib.Path(__file__).resolve().parent.parent
+
+
+def blocks_of(page):
+    """The indented blocks, each as the number of its first line and its lines."""
+    blocks, last = [], 0
+    for number, line in enumerate(page.splitlines(), 1):
+        if not line.startswith(INDENT):
+            continue
+        if number != last + 1 or not blocks:
+            blocks.append((number, []))
+        blocks[-1][1].append(line[len(INDENT):])
+        last = number
+    return blocks
+
+
+def commands_of(first, lines):
+    """The commands of a block, each with the number of its line and what it should write."""
+    commands = []
+    for number, line in enumerate(lines, first):
+        if line.startswith("$ "):
+            commands.append([number, line[2:], ""])
+        elif commands:
+            commands[-1][2] += line + "\n"
+    return commands
+
+
+def read(page):
+    """The files and the commands of a page, in its order. A name that stands for two files is a mistake of the page."""
+    files, commands = {}, []
+    for first, lines in blocks_of(page):
+        named = re.fullmatch(r"# ([\w-]+\.slif)", lines[0])
+        if named:
+            text = "\n".join(lines) + "\n"
+            if files.setdefault(named[1], text) != text:
+                raise SystemExit(f"line {first}: {named[1]} is there twice")
+        commands += commands_of(first, lines)
+    return files, commands
+
+
+def run(command, folder, tools):
+    env = {**os.environ, "PATH": f"{tools}{os.pathsep}{os.environ['PATH']}"}
+    done = subprocess.run(["sh", "-c", command], stdin=subprocess.DEVNULL, stdout=subprocess.PIPE, stderr=subprocess.STDOUT,
+                          cwd=folder, env=env, timeout=60)
+    return done.stdout.decode(errors="replace")
+
+
+def outputs_told(commands):
+    """What is told of each file examples/NAME.out: whether a command writes it."""
+    told = []
+    for path in sorted((ROOT / "examples").glob("*.out")):
+        name, text = f"examples/{path.stem}.slif", path.read_text()
+        told.append((path.name, any(name in command and wanted == text for _, command, wanted in commands)))
+    return told
+
+
+def main():
+    options = argparse.ArgumentParser()
+    options.add_argument("--binary", default=str(ROOT / "crates/slif/out/slif"))
+    options.add_argument("--page", type=pathlib.Path, default=ROOT / "docs/LANGUAGE.md")
+    options = options.parse_args()
+    files, commands = read(options.page.read_text())
+    failed = 0
+    with tempfile.TemporaryDirectory() as folder, tempfile.TemporaryDirectory() as tools:
+        os.symlink(pathlib.Path(options.binary).resolve(), pathlib.Path(tools) / "slif")
+        os.symlink(ROOT / "examples", pathlib.Path(folder) / "examples")
+        for name, text in files.items():
+            (pathlib.Path(folder) / name).write_text(text)
+        for number, command, wanted in commands:
+            got = run(command, folder, tools)
+            if got != wanted:
+                failed += 1
+                print(f"line {number}: {command}\n  wanted {wanted!r}\n  got    {got!r}")
+    for name, is_told in outputs_told(commands):
+        if not is_told:
+            failed += 1
+            print(f"examples/{name}: no command of the page writes this")
+    print(f"{len(files)} grammars, {len(commands)} commands, {failed} failed")
+    return 1 if failed else 0
+
+
+if __name__ == "__main__":
+    sys.exit(main())
