@@ -3,14 +3,14 @@
 
     bench/compare.py [--binary crates/slif/out/slif] [--rounds 3] [--only WORD]
 
-JSON documents, right and left recursion, all values of an ambiguous sum, expressions by an operator table, nested brackets. All read the
-same files in turn. The least times and the greatest memory are printed, and the ratio of the processor times: less than 1 is faster than
+JSON, SQL, Lua, CSV, logs, right and left recursion, one long string, languages of many keywords and of many levels, all values of an ambiguous
+sum, expressions by an operator table, nested brackets. All read the same files in turn. The least times and the greatest memory are printed, and the ratio of the processor times: less than 1 is faster than
 Marpa::R2. The two have to write the same lines, in any order, and as many as there are derivations; bison's parser is a recognizer here. With `--only` those cases are run whose
 name has the word. Debian has Marpa::R2 as libmarpa-r2-perl.
 """
 import argparse, pathlib, sys, tempfile
 
-import glr
+import glr, inputs
 from measuring import BINARY, HERE, ROOT, best, document, has_marpa
 
 FIRST = ":default ::= action => ::first\n"
@@ -37,7 +37,20 @@ def cases():
     operators = (ROOT / "examples/operators.slif").read_text()
     for kilobytes in (10, 100, 1000):
         yield f"JSON {kilobytes} KB", json, document(1000 * kilobytes), 1
-    yield "right recursion 1,000", RIGHT, "x" * 1000, 1
+    for name in ("sql", "lua", "log"):
+        grammar = (HERE / f"grammars/{name}.slif").read_text()
+        for kilobytes in (10, 100, 1000):
+            yield f"{name.upper()} {kilobytes} KB", grammar, getattr(inputs, name)(1000 * kilobytes), 1
+    csv = (ROOT / "examples/csv.slif").read_text()
+    for kilobytes in (100, 1000):
+        yield f"CSV {kilobytes} KB", csv, inputs.csv(1000 * kilobytes), 1
+    yield "string of 1 MB", json, '["' + "a long text " * 83_333 + '"]', 1
+    for length in (1000, 10_000, 100_000):
+        yield f"right recursion {length:,}", RIGHT, "x" * length, 1
+    for count in (100, 200, 1000):
+        yield f"keywords {count:,}", *inputs.keywords(count, 1000), 1
+    for count in (20, 40, 80):
+        yield f"levels {count}", *inputs.levels(count, 1600), 1
     yield "left recursion 1,000,000", LEFT, "x" * 1_000_000, 1
     yield "sum of 11 operands", SUM, "+".join("12345678901"), 16_796
     yield "sum of 12 operands", SUM, "+".join("123456789012"), 58_786
@@ -77,7 +90,8 @@ def main():
             if marpa:
                 commands.append(["perl", str(HERE / "marpa_run.pl"), str(grammar), str(path)])
             results = best(commands, options.rounds)
-            counted = best([[glr.build(name, folder), str(path)]], options.rounds)[0] if bison else None
+            has_twin = bison and name.split()[0] in glr.GRAMMARS
+            counted = best([[glr.build(name, folder), str(path)]], options.rounds)[0] if has_twin else None
             fault = fault_of(results, count)
             if counted and (counted[3] != 0 or count == 1 and counted[4] != "1\n"):
                 fault = f"bison's parser: status {counted[3]}, {counted[4]!r}"

@@ -1,7 +1,7 @@
 #!/usr/bin/env python3
 """Times building forests of texts like JSON, and takes the greatest memory.
 
-    bench/forest.py [--binary crates/bench_recognizer/out/bench_recognizer] [--rounds 3]
+    bench/forest.py [--binary crates/bench_drivers/out/bench_drivers] [--rounds 3]
 
 An object has 14 tokens and 28 nodes, an array in an array 2 tokens and 5 nodes, and so the numbers of nodes are counted by hand. The
 time is that of the fastest round without reading, and the memory that of the whole process.
@@ -33,7 +33,7 @@ def run(binary, word, count):
 def main():
     top = pathlib.Path(__file__).resolve().parent.parent
     options = argparse.ArgumentParser()
-    options.add_argument("--binary", default=str(top / "crates/bench_recognizer/out/bench_recognizer"))
+    options.add_argument("--binary", default=str(top / "crates/bench_drivers/out/bench_drivers"))
     options.add_argument("--rounds", type=int, default=3)
     options = options.parse_args()
     for word, counts in ROUNDS.items():

@@ -1,7 +1,7 @@
 #!/usr/bin/env python3
 """Times the recognizer on three grammars, and takes its greatest memory.
 
-    bench/recognizer.py [--binary crates/bench_recognizer/out/bench_recognizer] [--rounds 5]
+    bench/recognizer.py [--binary crates/bench_drivers/out/bench_drivers] [--rounds 5]
 
 Wanted are, with 1,000,000 tokens of a left recursion and of an unambiguous sum, at most 2 microseconds and 120 bytes a token, and
 with 400 operands of an ambiguous sum at most 100 nanoseconds for each try to add an item. The time is that of the fastest round, and
@@ -49,7 +49,7 @@ def run(binary, word, count):
 def main():
     top = pathlib.Path(__file__).resolve().parent.parent
     options = argparse.ArgumentParser()
-    options.add_argument("--binary", default=str(top / "crates/bench_recognizer/out/bench_recognizer"))
+    options.add_argument("--binary", default=str(top / "crates/bench_drivers/out/bench_drivers"))
     options.add_argument("--rounds", type=int, default=5)
     options = options.parse_args()
     for word in ["left", "sum"]:

@@ -1,20 +1,19 @@
 -- Lists that grow by what has a property.
-use Rattle.std.proofs.Common.{◌≡◌, ℕ, ◌<◌, ◌≤◌, ◌+◌, ◌++◌, ◌⊎◌, inl, inr, ◌↔◌, Bool, true, false, Contains, List, [], ◌∷◌, length, slice_get, Some, None, refl, sym, ◌∙◌, ap, subst, arith, if◌then◌else◌, ◌==◌, ◌&&◌}
-use Rattle.std.specs.List.{list_any}
-use Rattle.std.proofs.lemmas.Bool.{and_parts, eqb-true, cases_lt}
+use Rattle.std.proofs.Common.{◌≡◌, ℕ, ◌<◌, ◌≤◌, ◌+◌, ◌++◌, ◌⊎◌, inl, inr, ◌↔◌, Contains, List, [], ◌∷◌, length, slice_get, Some, None, sym, ◌∙◌, ap, subst, arith}
+use Rattle.std.proofs.lemmas.Bool.{cases_lt}
 use Rattle.std.proofs.lemmas.List.Elements.{Contains-append_left, Contains-push, Contains-push_cases}
-use Rattle.std.proofs.lemmas.Map.Views.{Contains-from_any}
-use Rattle.indexmap.specs.IndexSet.{insert_key}
 use Rattle.earley_sets.proofs.Membership.{got_at, got_item, found_at}
-use Rattle.earley_sets.proofs.Adding.{item_eq, item_eq-true}
 use Rattle.grammar_model.specs.declared.Edge.{Edge as HeldEdge}
+use Rattle.grammar_model.specs.declared.Ranking.{Ranking}
+use Rattle.grammar_model.specs.Grammar.{Grammar}
 use Rattle.recognizer_model.specs.declared.Item.{Item}
 use Rattle.recognizer_model.specs.declared.flat.FlatSymbol.TheVariants.{Terminal}
 use Rattle.recognizer_model.specs.Flat.{FlatGrammar}
+use Rattle.recognizer_model.specs.Items.{InSet}
 use Rattle.recognizer_model.specs.Invariant.{IsFlat}
+use Rattle.earley_sets.specs.Recognizer.{Recognizer, place_of, edges_of, top_of}
 use Rattle.bocage.specs.declared.parts.Part.{Part}
-use Rattle.bocage.specs.Parts.{IsEdgeOf}
-use Rattle.bocage.specs.declared.index.Placed.{Placed}
+use Rattle.bocage.specs.Parts.{IsEdgeOf, IsWholeOf, IsPartAt}
 
 module _ {X : Type 0} where
   abbrev pub Gains : (X → Type 0) → (old new : List X) → Type 0
@@ -68,13 +67,6 @@ module _ {X : Type 0} where
       λ (y, h, rel). let (i, is) = found_at ys y h in let (lt, e) = got_at ys i y y (sym is) in (i, y, omega arith, is, rel),
     ))
 
-    -- what is told of the one at a place
-    pub gains_at : (k : ℕ) (y : Y) (old new : List X) → slice_get ys k ≡ Some y → Gains (λ x. (z : Y) × (slice_get ys k ≡ Some z) × R z x) old new → Gains (R y) old new
-    gains_at k y old new at g = gains_same (λ x. (z : Y) × (slice_get ys k ≡ Some z) × R z x) (R y) old new g (λ x. (
-      λ (z, is, rel). (let one : Some z ≡ Some y = sym is ∙ at in let e : z ≡ y = cc in subst (λ v. R v x) e rel),
-      λ rel. (y, at, rel),
-    ))
-
   -- by what the numbers below bring
   module _ (R : ℕ → X → Type 0) where
     abbrev pub ByBelow : ℕ → X → Type 0
@@ -96,47 +88,48 @@ module _ {X : Type 0} where
         back x (inl (i, lt, rel)) = (i, omega arith, rel)
         back x (inr rel) = (k, omega arith, rel)
 
-  -- a key that a set takes
-  pub gains_key : (E : X → X → Bool) → ((x y : X) → E x y ≡ true → x ≡ y) → (ks new : List X) (k : X) → new ≡ insert_key E ks k → Gains (λ x. x ≡ k) ks new
-  gains_key E exact ks new k e = by (list_any (E k) ks) refl
-    where
-      by : (b : Bool) → list_any (E k) ks ≡ b → Gains (λ x. x ≡ k) ks new
-      by true h x =
-          let same : new ≡ ks = e ∙ ap (λ c. if c then ks else ks ++ k ∷ []) h in
-          let held = Contains-from_any exact k ks h in
-          (λ n. inl (subst (λ l. Contains l x) same n), λ n. subst (λ l. Contains l x) (sym same) (elim n [ inl o ↦ o | inr s ↦ subst (Contains ks) (sym s) held ]))
-      by false h x = gains_push (λ x. x ≡ k) ks new k (e ∙ ap (λ c. if c then ks else ks ++ k ∷ []) h) (λ x. (λ s. s, λ s. s)) x
+abbrev pub no_edge : HeldEdge
+no_edge = record { symbol = 0; from = 0; to = 0 }
 
-abbrev pub placed_eq : Placed → Placed → Bool
-placed_eq x y = (x.place == y.place) && item_eq x.item y.item
-
-pub placed_eq-true : (x y : Placed) → placed_eq x y ≡ true → x ≡ y
-placed_eq-true x y h =
-    let (a, b) = and_parts (x.place == y.place) (item_eq x.item y.item) h in
-    let ea = eqb-true x.place y.place a in
-    let eb = item_eq-true x.item y.item b in
-    λ i. record { place = ea i; item = eb i }
-
--- an item in a set goes in
-pub gains_placed : (ks new : List Placed) (place : ℕ) (item : Item) → new ≡ insert_key placed_eq ks (record { place = place; item = item }) → Gains (λ p. (p.place ≡ place) × (p.item ≡ item)) ks new
-gains_placed ks new place item e =
-    gains_same (λ p. p ≡ record { place = place; item = item }) (λ p. (p.place ≡ place) × (p.item ≡ item)) ks new (gains_key placed_eq placed_eq-true ks new (record { place = place; item = item }) e)
-    (λ p. ((λ s. (ap (λ (q : Placed). q.place) s, ap (λ (q : Placed). q.item) s)), (λ (a, b) i. record { place = a i; item = b i })))
+abbrev pub no_item : Item
+no_item = record { rule = 0; dot = 0; origin = 0 }
 
 -- the part of an edge goes in
-pub gains_edge : (g : FlatGrammar) (edges : List HeldEdge) (k symbol : ℕ) (e : HeldEdge) (v : Part) (old new : List Part) → IsFlat g → slice_get edges k ≡ Some e → slice_get g.symbols symbol ≡ Some (Terminal e.symbol) →
-    v.end ≡ e.to → v.symbol ≡ symbol → e.from + v.length ≡ e.to → v.whole ≡ None → new ≡ old ++ v ∷ [] → Gains (λ p. (f : HeldEdge) × (slice_get edges k ≡ Some f) × IsEdgeOf g f p) old new
-gains_edge g edges k symbol e v old new flat at is to same from none grown =
-    gains_push (λ p. (f : HeldEdge) × (slice_get edges k ≡ Some f) × IsEdgeOf g f p) old new v grown (λ p. (
-      λ (f, at', rel). (
-          let one : Some f ≡ Some e = sym at' ∙ at in
-          let q : f ≡ e = cc in
-          let r : IsEdgeOf g e p = subst (λ z. IsEdgeOf g z p) q rel in
+pub gains_edge : (g : FlatGrammar) (least symbol : ℕ) (e : HeldEdge) (v : Part) (old new : List Part) → IsFlat g → least ≤ e.from → slice_get g.symbols symbol ≡ Some (Terminal e.symbol) →
+    v.end ≡ e.to → v.symbol ≡ symbol → e.from + v.length ≡ e.to → v.whole ≡ None → new ≡ old ++ v ∷ [] → Gains (λ p. (least ≤ e.from) × IsEdgeOf g e p) old new
+gains_edge g least symbol e v old new flat le is to same from none grown =
+    gains_push (λ p. (least ≤ e.from) × IsEdgeOf g e p) old new v grown (λ p. (
+      λ (l, r). (
           let s : p.symbol ≡ v.symbol = flat.differ p.symbol symbol (Terminal e.symbol) r.symbol is ∙ sym same in
           let a : p.end ≡ v.end = r.end ∙ sym to in
           let n : p.length ≡ v.length = (let x = r.start in let y = r.end in omega arith) in
           let w : p.whole ≡ v.whole = r.whole ∙ sym none in
           λ i. record { end = a i; symbol = s i; length = n i; whole = w i }
           ),
-      λ q. (e, at, subst (IsEdgeOf g e) (sym q) (record { symbol = subst (λ x. slice_get g.symbols x ≡ Some (Terminal e.symbol)) (sym same) is; end = to; start = from ∙ sym to; whole = none })),
+      λ q. (le, subst (IsEdgeOf g e) (sym q) (record { symbol = subst (λ x. slice_get g.symbols x ≡ Some (Terminal e.symbol)) (sym same) is; end = to; start = from ∙ sym to; whole = none })),
     ))
+
+-- what was put are the parts that end at the place and do not begin too early
+pub parts_are : (w : Grammar) (ranking : Ranking) (r : Recognizer) (end least : ℕ) (edges : List HeldEdge) → end ≤ place_of r → ((e : HeldEdge) → Contains edges e ↔ (Contains r.edges e × (e.to ≡ end))) → (p : Part) →
+    (((e : HeldEdge) × Contains edges e × ((least ≤ e.from) × IsEdgeOf r.flat e p)) ⊎ ((item : Item) × InSet r.flat (edges_of r) (top_of r) end item × ((least ≤ item.origin) × IsWholeOf w ranking r.flat end item p)))
+    ↔ IsPartAt w ranking r end least p
+parts_are w ranking r end least edges le are p = (to, from)
+  where
+    to : (((e : HeldEdge) × Contains edges e × ((least ≤ e.from) × IsEdgeOf r.flat e p)) ⊎ ((item : Item) × InSet r.flat (edges_of r) (top_of r) end item × ((least ≤ item.origin) × IsWholeOf w ranking r.flat end item p))) → IsPartAt w ranking r end least p
+    to (inl (e, h, (late, is))) =
+        let (held, here) = (are e).0 h in
+        let s = is.start in
+        let t = is.end in
+        (inl (e, held, is), is.end ∙ here, omega arith)
+    to (inr (item, h, (late, is))) =
+        let s = is.start in
+        (inr (end, item, le, h, is), is.end, omega arith)
+
+    from : IsPartAt w ranking r end least p → (((e : HeldEdge) × Contains edges e × ((least ≤ e.from) × IsEdgeOf r.flat e p)) ⊎ ((item : Item) × InSet r.flat (edges_of r) (top_of r) end item × ((least ≤ item.origin) × IsWholeOf w ranking r.flat end item p)))
+    from (inl (e, held, is), here, bound) =
+        let s = is.start in
+        inl (e, (are e).1 (held, sym is.end ∙ here), (omega arith, is))
+    from (inr (place, item, le', h, is), here, bound) =
+        let same : place ≡ end = sym is.end ∙ here in
+        let s = is.start in
+        inr (item, subst (λ z. InSet r.flat (edges_of r) (top_of r) z item) same h, (omega arith, subst (λ z. IsWholeOf w ranking r.flat z item p) same is))

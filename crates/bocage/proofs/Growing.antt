@@ -19,7 +19,7 @@ use Rattle.bocage.specs.declared.rows.LastRow.TheVariants as row
 use Rattle.bocage.specs.declared.walk.Known.{Known}
 use Rattle.bocage.specs.declared.walk.Found.{Found}
 use Rattle.bocage.specs.Rows.{between, last_of, alternative_of, IsLastWithin}
-use Rattle.bocage.specs.Walk.{bare, seen, seen_by, GrowsBy, IsUsedIn, AreListed, Lists, is_high, whole_keys, whole_keys_by, AreNumbers, AddsWholes}
+use Rattle.bocage.specs.Walk.{bare, seen, seen_by, GrowsBy, IsNew, AreListed, Lists, is_high, whole_keys, whole_keys_by, AreNumbers, AddsWholes}
 use Rattle.recognizer_model.specs.Flat.{FlatGrammar}
 use Rattle.bocage.specs.declared.parts.Part.{Part}
 
@@ -165,14 +165,14 @@ module _ (w : Grammar) (ranking : Ranking) (r : Recognizer) (high : Bool) (front
 
   -- one list behind another
   pub listed_both : (D D' D'' : ℕ → Type 0) (F : Forest) (wholes : List ℕ) (rows rows' : List AlternativeRow) → AreListed F r high front symbol end D wholes rows → AreListed F r high front symbol end D' wholes rows' →
-      ((m n : ℕ) → D m → D' n → starts_cmp high end m n ≡ Less) → ((m : ℕ) → D'' m ↔ (D m ⊎ D' m)) → AreListed F r high front symbol end D'' wholes (rows ++ rows')
+      ((m n : ℕ) → D m → D' n → starts_cmp high end m n ≡ Less) → ((m : ℕ) → Contains (set_at r m) front → D'' m ↔ (D m ⊎ D' m)) → AreListed F r high front symbol end D'' wholes (rows ++ rows')
   listed_both D D' D'' F wholes rows rows' h g less iff = record {
     exact = λ m. (
       λ i. elim (Contains-append_cases (starts rows) (starts rows') m (subst (λ l. Contains l m) (map_both (λ (a : AlternativeRow). a.start) rows rows') i)) [
-        | inl a ↦ let (d, s) = (h.exact m).0 a in ((iff m).1 (inl d), s)
-        | inr b ↦ let (d, s) = (g.exact m).0 b in ((iff m).1 (inr d), s)
+        | inl a ↦ let (d, s) = (h.exact m).0 a in ((iff m s).1 (inl d), s)
+        | inr b ↦ let (d, s) = (g.exact m).0 b in ((iff m s).1 (inr d), s)
       ],
-      λ (d, s). subst (λ l. Contains l m) (sym (map_both (λ (a : AlternativeRow). a.start) rows rows')) (elim ((iff m).0 d) [
+      λ (d, s). subst (λ l. Contains l m) (sym (map_both (λ (a : AlternativeRow). a.start) rows rows')) (elim ((iff m s).0 d) [
         | inl a ↦ Contains-append_left (starts rows) (starts rows') m ((h.exact m).1 (a, s))
         | inr b ↦ Contains-append_right (starts rows) (starts rows') m ((g.exact m).1 (b, s))
       ]),
@@ -182,8 +182,8 @@ module _ (w : Grammar) (ranking : Ranking) (r : Recognizer) (high : Bool) (front
     each = λ a i. elim (Contains-append_cases rows rows' a i) [ inl x ↦ h.each a x | inr y ↦ g.each a y ];
   }
 
-module _ (k : Known) (front : Item) (symbol end : ℕ) where
-  pub lists_none : (D : ℕ → Type 0) (t : Found) → ((m : ℕ) → D m → Contains (set_at k.recce.now m) front → ⊥) → Lists k front symbol end D t t
+module _ (k : Known) (front : Item) (symbol : ℕ) where
+  pub lists_none : (D : ℕ → Type 0) (t : Found) → ((m : ℕ) → D m → Contains (set_at k.recce.now m) front → ⊥) → Lists k front symbol D t t
   unfolding IsStrictlySortedBy
   lists_none D t never = record {
     rows = [];
@@ -193,30 +193,30 @@ module _ (k : Known) (front : Item) (symbol end : ℕ) where
       sorted = tt;
       each = λ a h. absurd (Contains-none a h);
     };
-    keys = grows_none (IsUsedIn k.recce.now) t.keys.keys;
+    keys = grows_none (IsNew k) t.keys.keys;
     more = [];
     wholes = sym (append-nil t.wholes.items);
   }
 
-  pub lists_then : (D D' D'' : ℕ → Type 0) (old mid new : Found) → Lists k front symbol end D old mid → Lists k front symbol end D' mid new →
-      ((m n : ℕ) → D m → D' n → starts_cmp (is_high k front) end m n ≡ Less) → ((m : ℕ) → D'' m ↔ (D m ⊎ D' m)) → Lists k front symbol end D'' old new
+  pub lists_then : (D D' D'' : ℕ → Type 0) (old mid new : Found) → Lists k front symbol D old mid → Lists k front symbol D' mid new →
+      ((m n : ℕ) → D m → D' n → starts_cmp (is_high k front) k.end m n ≡ Less) → ((m : ℕ) → Contains (set_at k.recce.now m) front → D'' m ↔ (D m ⊎ D' m)) → Lists k front symbol D'' old new
   lists_then D D' D'' old mid new h g less iff = record {
     rows = h.rows ++ g.rows;
     is = g.is ∙ ap (λ l. l ++ g.rows) h.is ∙ assoc old.alternatives.items h.rows g.rows;
-    listed = listed_both k.written.now k.ranking k.recce.now (is_high k front) front symbol end D D' D'' (seen_by k new.keys.keys) new.wholes.items h.rows g.rows
-        (listed_more k.written.now k.ranking k.recce.now (is_high k front) front symbol end D mid.keys.keys new.keys.keys (g.keys).0 mid.wholes.items new.wholes.items g.more h.rows (g.keys).1 g.wholes h.listed)
+    listed = listed_both k.written.now k.ranking k.recce.now (is_high k front) front symbol k.end D D' D'' (seen_by k new.keys.keys) new.wholes.items h.rows g.rows
+        (listed_more k.written.now k.ranking k.recce.now (is_high k front) front symbol k.end D mid.keys.keys new.keys.keys (g.keys).0 mid.wholes.items new.wholes.items g.more h.rows (g.keys).1 g.wholes h.listed)
         g.listed less iff;
-    keys = grows_then (IsUsedIn k.recce.now) old.keys.keys mid.keys.keys new.keys.keys h.keys g.keys;
+    keys = grows_then (IsNew k) old.keys.keys mid.keys.keys new.keys.keys h.keys g.keys;
     more = h.more ++ g.more;
     wholes = g.wholes ∙ ap (λ l. l ++ g.more) h.wholes ∙ assoc old.wholes.items h.more g.more;
   }
 
-  pub lists_same : (D D' : ℕ → Type 0) (old new : Found) → Lists k front symbol end D old new → ((m : ℕ) → D m ↔ D' m) → Lists k front symbol end D' old new
+  pub lists_same : (D D' : ℕ → Type 0) (old new : Found) → Lists k front symbol D old new → ((m : ℕ) → Contains (set_at k.recce.now m) front → D m ↔ D' m) → Lists k front symbol D' old new
   lists_same D D' old new h iff = record {
     rows = h.rows;
     is = h.is;
     listed = record {
-      exact = λ m. ((λ i. let (d, s) = (h.listed.exact m).0 i in ((iff m).0 d, s)), (λ (d, s). (h.listed.exact m).1 ((iff m).1 d, s)));
+      exact = λ m. ((λ i. let (d, s) = (h.listed.exact m).0 i in ((iff m s).0 d, s)), (λ (d, s). (h.listed.exact m).1 ((iff m s).1 d, s)));
       sorted = h.listed.sorted;
       each = h.listed.each;
     };

@@ -1,10 +1,6 @@
 -- One alternative more.
-use Rattle.std.proofs.Common.{rules, ◌≡◌, ℕ, ◌<◌, ◌≤◌, ◌++◌, inl, inr, ◌↔◌, true, Contains, List, [], ◌∷◌, Option, Some, None, length, refl, sym, ◌∙◌, ap, subst, arith}
-use Rattle.std.specs.List.{list_any}
+use Rattle.std.proofs.Common.{◌≡◌, ℕ, ◌<◌, ◌≤◌, ◌++◌, inl, inr, Contains, List, [], ◌∷◌, Option, Some, None, length, refl, sym, ◌∙◌, ap, subst, arith}
 use Rattle.std.specs.List.Sorted.{IsStrictlySortedBy}
-use Rattle.std.specs.Cmp.{IsEquivalence}
-use Rattle.std.specs.Cmp.Rules.{comparing}
-use Rattle.std.proofs.lemmas.Map.Views.{Contains-from_any, list_any-from_Contains}
 use Rattle.grammar_model.specs.Trees.{Tree, Children}
 use Rattle.grammar_model.specs.Derives.{Edges}
 use Rattle.recognizer_model.specs.declared.Item.{Item}
@@ -12,56 +8,54 @@ use Rattle.recognizer_model.specs.declared.NodeKey.{NodeKey}
 use Rattle.recognizer_model.specs.Flat.{FlatGrammar, IsRule, lhs_of, rhs_of}
 use Rattle.recognizer_model.specs.FlatDerives.{Derives, Spans, Nothing, More}
 use Rattle.recognizer_model.specs.Nodes.{Before, Last}
-use Rattle.earley_sets.specs.Recognizer.{Recognizer, place_of, set_at, edges_of}
+use Rattle.recognizer_model.specs.Contexts.{IsFound}
+use Rattle.earley_sets.proofs.Following.{part_within}
+use Rattle.earley_sets.specs.Recognizer.{set_at, edges_of, top_of}
 use Rattle.earley_sets.proofs.Membership.{Contains-none, Contains-first, Contains-cons_cases}
 use Rattle.forest_model.specs.Forest.{IsFront, IsLast, IsAlternative}
-use Rattle.bocage.specs.declared.index.Placed.{Placed}
 use Rattle.bocage.specs.declared.rows.AlternativeRow.{AlternativeRow}
 use Rattle.bocage.specs.declared.rows.LastRow.{LastRow}
 use Rattle.bocage.specs.declared.walk.Known.{Known}
 use Rattle.bocage.specs.declared.walk.Found.{Found}
 use Rattle.bocage.specs.Rows.{last_of, alternative_of, IsLastWithin}
-use Rattle.bocage.specs.Walk.{seen_by, GrowsBy, IsUsedIn, node_of_item, node_after, IsFrontFound, Lists, IsNext, Knows}
-use Rattle.bocage.proofs.Gathering.{placed_eq, placed_eq-true}
+use Rattle.bocage.specs.Walk.{seen_by, GrowsBy, IsUsedIn, IsNew, node_of_item, node_after, IsFrontFound, Lists, IsNext, Knows}
 use Rattle.bocage.proofs.Growing.{node_seen}
-use Rattle.bocage.proofs.Splits.{in_set, used_met}
-
-placed_laws : IsEquivalence placed_eq
-placed_laws = search (comparing, rules)
-
-pub any_placed : (ks : List Placed) (p : Placed) → (list_any (placed_eq p) ks ≡ true) ↔ Contains ks p
-any_placed ks p = (λ h. Contains-from_any placed_eq-true p ks h, λ h. list_any-from_Contains placed_laws p ks h)
+use Rattle.bocage.proofs.Splits.{waits_in, used_met}
 
 pub spans_nothing : {g : FlatGrammar} {E : Edges} {r d p q : ℕ} {cs : Children} → Spans g E r d p q cs → d ≡ 0 → q ≡ p
 spans_nothing Nothing e = refl
 spans_nothing (More s part t) e = absurd (omega arith)
 
-module _ (k : Known) (knows : Knows k) (front : Item) (symbol end m : ℕ) (le : m ≤ place_of k.recce.now) (there : Contains (set_at k.recce.now m) front) where
-  abbrev r : Recognizer
-  r = k.recce.now
+module _ (k : Known) (knows : Knows k) (front : Item) (symbol m : ℕ) (le : m ≤ k.end) (there : Contains (set_at k.recce.now m) front) (next : IsNext k front symbol) where
+  -- the parts before the last one
+  pub found_front : IsFound k.recce.now.flat (edges_of k.recce.now) (top_of k.recce.now) m front
+  found_front = let e = knows.end in (waits_in k.recce.now knows.is m front symbol (omega arith) next.part).0 there
 
   front_is : (keys : List NodeKey) (o : Option ℕ) → IsFrontFound keys front m o → IsFront (seen_by k keys) front.rule front.dot front.origin m o
-  front_is keys None h = (h, spans_nothing ((in_set k.recce.now knows.is m front le).0 there).spans h)
+  front_is keys None h = (h, spans_nothing found_front.spans h)
   front_is keys (Some n) (lt, h) = (lt, node_seen k.written.now k.ranking k.recce.now keys n (node_of_item front m) h)
 
-  module _ (next : IsNext k front symbol end) (tree : Tree) (derives : Derives k.recce.now.flat (edges_of k.recce.now) symbol m end tree) where
+  module _ (tree : Tree) (derives : Derives k.recce.now.flat (edges_of k.recce.now) symbol m k.end tree) where
     pub front_used : 0 < front.dot → IsUsedIn k.recce.now (node_of_item front m)
     front_used lt =
-        let met = ((used_met k.recce.now knows.is (node_after front end)).0 next.used).1 in
-        (used_met k.recce.now knows.is (node_of_item front m)).1 (lt, Before met ((in_set k.recce.now knows.is m front le).0 there).spans next.part derives)
+        let met = ((used_met k.recce.now knows.is (node_after front k.end)).0 next.used).1 in
+        (used_met k.recce.now knows.is (node_of_item front m)).1 (lt, Before met found_front.spans next.part derives)
 
-    pub whole_used : (rule : ℕ) (cs : Children) → IsRule k.recce.now.flat rule → symbol ≡ lhs_of k.recce.now.flat rule → m < end → Spans k.recce.now.flat (edges_of k.recce.now) rule (length (rhs_of k.recce.now.flat rule)) m end cs →
-        IsUsedIn k.recce.now (record { rule = rule; dot = length (rhs_of k.recce.now.flat rule); origin = m; end = end })
+    pub front_new : 0 < front.dot → IsNew k (node_of_item front m)
+    front_new lt = record { used = front_used lt; before = le; least = λ e. next.least; waits = λ below. part_within (rhs_of k.recce.now.flat front.rule) front.dot symbol next.part }
+
+    pub whole_used : (rule : ℕ) (cs : Children) → IsRule k.recce.now.flat rule → symbol ≡ lhs_of k.recce.now.flat rule → m < k.end → Spans k.recce.now.flat (edges_of k.recce.now) rule (length (rhs_of k.recce.now.flat rule)) m k.end cs →
+        IsUsedIn k.recce.now (record { rule = rule; dot = length (rhs_of k.recce.now.flat rule); origin = m; end = k.end })
     whole_used rule cs is same lt s =
-        let met = ((used_met k.recce.now knows.is (node_after front end)).0 next.used).1 in
+        let met = ((used_met k.recce.now knows.is (node_after front k.end)).0 next.used).1 in
         let some = knows.is.flat.some rule is in
-        (used_met k.recce.now knows.is (record { rule = rule; dot = length (rhs_of k.recce.now.flat rule); origin = m; end = end })).1
-        (some, Last met ((in_set k.recce.now knows.is m front le).0 there).spans (next.part ∙ ap Some same) is lt s)
+        (used_met k.recce.now knows.is (record { rule = rule; dot = length (rhs_of k.recce.now.flat rule); origin = m; end = k.end })).1
+        (some, Last met found_front.spans (next.part ∙ ap Some same) is lt s)
 
     -- the alternative goes last
     pub put_one : (D : ℕ → Type 0) (old new : Found) (o : Option ℕ) (last : LastRow) (more : List ℕ) → D m → ((n : ℕ) → D n → n ≡ m) →
-        new.alternatives.items ≡ old.alternatives.items ++ record { start = m; front = o; last = last } ∷ [] → new.wholes.items ≡ old.wholes.items ++ more → GrowsBy (IsUsedIn k.recce.now) old.keys.keys new.keys.keys →
-        IsFrontFound new.keys.keys front m o → IsLast (seen_by k new.keys.keys) symbol m end (last_of new.wholes.items last) → IsLastWithin new.wholes.items last → Lists k front symbol end D old new
+        new.alternatives.items ≡ old.alternatives.items ++ record { start = m; front = o; last = last } ∷ [] → new.wholes.items ≡ old.wholes.items ++ more → GrowsBy (IsNew k) old.keys.keys new.keys.keys →
+        IsFrontFound new.keys.keys front m o → IsLast (seen_by k new.keys.keys) symbol m k.end (last_of new.wholes.items last) → IsLastWithin new.wholes.items last → Lists k front symbol D old new
     unfolding IsStrictlySortedBy
     put_one D old new o last more d one is wholes keys found is_last within = record {
       rows = record { start = m; front = o; last = last } ∷ [];
@@ -73,7 +67,7 @@ module _ (k : Known) (knows : Knows k) (front : Item) (symbol end m : ℕ) (le :
         );
         sorted = (tt, tt);
         each = λ a h. elim (Contains-cons_cases (record { start = m; front = o; last = last }) [] a h) [
-          | inl e ↦ subst (λ (z : AlternativeRow). IsAlternative (seen_by k new.keys.keys) front.rule front.dot front.origin symbol end (alternative_of new.wholes.items z) × IsLastWithin new.wholes.items z.last) e
+          | inl e ↦ subst (λ (z : AlternativeRow). IsAlternative (seen_by k new.keys.keys) front.rule front.dot front.origin symbol k.end (alternative_of new.wholes.items z) × IsLastWithin new.wholes.items z.last) e
               (record { front = front_is new.keys.keys o found; last = is_last }, within)
           | inr t ↦ absurd (Contains-none a t)
         ];

@@ -1,10 +1,7 @@
--- Rows that are kept end to end.
-use Rattle.std.proofs.Common.{refl, ◌≡◌, ℕ, zero, suc, ◌<◌, ◌≤◌, ◌-◌, ◌+◌, ◌++◌, List, [], ◌∷◌, map, length, take, drop, get_or, Contains, inl, inr, sym, ◌∙◌, ap, subst, arith}
-use Rattle.std.proofs.lemmas.List.{length-map}
+-- Parts of lists.
+use Rattle.std.proofs.Common.{refl, ◌≡◌, ℕ, zero, suc, ◌<◌, ◌≤◌, ◌-◌, ◌+◌, ◌++◌, List, [], ◌∷◌, length, take, drop, get_or, Contains, inl, inr, sym, ◌∙◌, ap, subst, arith}
 use Rattle.std.proofs.Math.Seq.{take-suc}
-use Rattle.bocage.specs.Rows.{between, node_of, no_node, AreNodesWithin}
-use Rattle.bocage.specs.declared.rows.AlternativeRow.{AlternativeRow}
-use Rattle.bocage.specs.declared.rows.NodeRow.{NodeRow}
+use Rattle.bocage.specs.Rows.{between}
 use Rattle.earley_sets.proofs.Membership.{Contains-none, Contains-cons_cases, Contains-first, Contains-rest, get_at, got_item}
 
 pub from_take : {X : Type 0} (n : ℕ) (xs : List X) (x : X) → Contains (take n xs) x → Contains xs x
@@ -25,13 +22,6 @@ from_between first end xs x h = from_drop first xs x (from_take (end - first) (d
 
 pub there : {X : Type 0} (xs : List X) (k : ℕ) (d : X) → k < length xs → Contains xs (get_or xs k d)
 there xs k d lt = got_item xs k (get_or xs k d) (sym (get_at xs k d lt))
-
-pub row_within : (nodes nodes' : List NodeRow) (alternatives : List AlternativeRow) (wholes : List ℕ) (k : ℕ) (row : NodeRow) {count : ℕ} → length (map (node_of alternatives wholes) nodes) ≡ count → k < count →
-    AreNodesWithin nodes alternatives → row ≡ get_or nodes' k no_node → nodes' ≡ nodes → (row.first ≤ row.end) × (row.end ≤ length alternatives)
-row_within nodes nodes' alternatives wholes k row c lt within is same =
-    let l = length-map nodes (node_of alternatives wholes) in
-    let below : k < length nodes = omega arith in
-    subst (λ (r : NodeRow). (r.first ≤ r.end) × (r.end ≤ length alternatives)) (sym (is ∙ ap (λ (l : List NodeRow). get_or l k no_node) same)) (within (get_or nodes k no_node) (there nodes k no_node below))
 
 pub one_more_taken : {X : Type 0} (xs : List X) (n : ℕ) (d : X) → n < length xs → take (n + 1) xs ≡ take n xs ++ get_or xs n d ∷ []
 one_more_taken xs n d lt = let e : n + 1 ≡ suc n = omega arith in ap (λ k. take k xs) e ∙ take-suc xs n d lt

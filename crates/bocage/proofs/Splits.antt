@@ -1,5 +1,5 @@
 -- What the sets of a recognizer say of derivations.
-use Rattle.std.proofs.Common.{ℕ, ◌<◌, ◌≤◌, ◌↔◌, Contains, length, refl, arith}
+use Rattle.std.proofs.Common.{◌≡◌, ℕ, ◌<◌, ◌≤◌, ◌↔◌, Contains, Some, length, refl, arith}
 use Rattle.grammar_model.specs.Trees.{Tree, Children}
 use Rattle.grammar_model.specs.Derives.{Edges}
 use Rattle.recognizer_model.specs.declared.Item.{Item}
@@ -13,7 +13,10 @@ use Rattle.recognizer_model.proofs.Nodes.{used_are_met}
 use Rattle.earley_sets.specs.Kept.{IsItem}
 use Rattle.earley_sets.specs.Recognizer.{Recognizer, IsRecognizer, place_of, set_at, edges_of, top_of}
 use Rattle.earley_sets.proofs.Following.{part_within}
+use Rattle.earley_sets.proofs.Membership.{get_at}
 use Rattle.earley_sets.proofs.Recognizing.{top_is_top, only}
+use Rattle.bocage.proofs.Sets.{waits_exact}
+use Rattle.recognizer_model.specs.Items.{InSet, after}
 
 spans_within : {g : FlatGrammar} {E : Edges} {r d p q : ℕ} {cs : Children} → Spans g E r d p q cs → d ≤ length (rhs_of g r)
 spans_within Nothing = omega arith
@@ -23,15 +26,18 @@ module _ (r : Recognizer) (is : IsRecognizer r) where
   pub is_top : IsTop r.flat (top_of r)
   is_top = top_is_top r.flat r.start (top_of r) is.flat is.start refl
 
-  pub in_set : (j : ℕ) (item : Item) → j ≤ place_of r → Contains (set_at r j) item ↔ IsFound r.flat (edges_of r) (top_of r) j item
-  in_set j item le =
-      let s = is.some in
-      let a = (is.exact j (omega arith)).exact item in
-      let b = items_are_found r.flat (edges_of r) (top_of r) is_top j item in
+  pub in_full : (j : ℕ) (item : Item) → InSet r.flat (edges_of r) (top_of r) j item ↔ IsFound r.flat (edges_of r) (top_of r) j item
+  in_full j item = items_are_found r.flat (edges_of r) (top_of r) is_top j item
+
+  -- an item that waits is kept exactly where it was found
+  pub waits_in : (j : ℕ) (item : Item) (x : ℕ) → j ≤ place_of r → after r.flat item ≡ Some x → Contains (set_at r j) item ↔ IsFound r.flat (edges_of r) (top_of r) j item
+  waits_in j item x le e =
+      let a = waits_exact r is j item x le e in
+      let b = in_full j item in
       ((λ h. b.0 (a.0 h)), (λ f. a.1 (b.1 f)))
 
-  pub is_item : (j : ℕ) (item : Item) → j ≤ place_of r → Contains (set_at r j) item → IsItem r.flat item
-  is_item j item le h = let f = (in_set j item le).0 h in record { is_rule = f.is_rule; within = spans_within f.spans }
+  pub found_item : (j : ℕ) (item : Item) → InSet r.flat (edges_of r) (top_of r) j item → IsItem r.flat item
+  found_item j item h = let f = (in_full j item).0 h in record { is_rule = f.is_rule; within = spans_within f.spans }
 
   pub used_met : (n : NodeKey) → IsUsed r.flat (edges_of r) (top_of r) (place_of r) n ↔ ((0 < n.dot) × IsMet r.flat (edges_of r) (top_of r) (place_of r) n.rule n.dot n.origin n.end)
   used_met n = used_are_met r.flat (edges_of r) (top_of r) is_top (only r.flat r.edges is.flat is.forward) is.flat.no_rules (place_of r) n
@@ -72,3 +78,16 @@ module _ (r : Recognizer) (is : IsRecognizer r) where
       let w = met_within m in
       let (rule, stands) = met_stands m in
       record { some = lt; is_rule = rule; stands = stands; parts = w.0; forward = w.1; inside = w.2 }
+
+  met_spans : {rule d p q : ℕ} → IsMet r.flat (edges_of r) (top_of r) (place_of r) rule d p q → (cs : Children) × Spans r.flat (edges_of r) rule d p q cs
+  met_spans (Whole {cs = cs} lt s) = (cs, s)
+  met_spans (Before {cs = cs} m s e t) = (cs, s)
+  met_spans (Last {cs' = cs'} m s e rule lt s') = (cs', s')
+
+  -- a used node that waits is one of a kept item
+  pub used_waits : (n : NodeKey) → IsUsed r.flat (edges_of r) (top_of r) (place_of r) n → n.dot < length (rhs_of r.flat n.rule) → Contains (set_at r n.end) (record { rule = n.rule; dot = n.dot; origin = n.origin })
+  used_waits n u lt =
+      let m = ((used_met n).0 u).1 in
+      let w = used_within n u in
+      let (cs, s) = met_spans m in
+      (waits_in n.end (record { rule = n.rule; dot = n.dot; origin = n.origin }) _ w.inside (get_at (rhs_of r.flat n.rule) n.dot 0 lt)).1 (record { is_rule = w.is_rule; may_stand = w.stands; children = cs; spans = s })

@@ -17,7 +17,8 @@ use Rattle.recognizer_model.specs.declared.flat.FlatSymbol.TheVariants.{Terminal
 use Rattle.recognizer_model.specs.Flat.{FlatGrammar, IsRule, lhs_of, rhs_of}
 use Rattle.recognizer_model.specs.FlatDerives.{Derives, Token, Rule, Spans}
 use Rattle.recognizer_model.specs.Contexts.{IsFound, Next}
-use Rattle.earley_sets.specs.Recognizer.{place_of, set_at, edges_of, top_of}
+use Rattle.earley_sets.specs.Recognizer.{set_at, edges_of, top_of}
+use Rattle.recognizer_model.specs.Items.{InSet}
 use Rattle.earley_sets.proofs.Membership.{Contains-none, Contains-first, Contains-rest, Contains-cons_cases}
 use Rattle.forest_model.specs.Forest.{AreWholes, IsWholeOver, IsLast, whole_key, rules_cmp}
 use Rattle.bocage.specs.declared.parts.RuleKey.{RuleKey}
@@ -26,14 +27,14 @@ use Rattle.bocage.specs.declared.rows.LastRow.{LastRow}
 use Rattle.bocage.specs.declared.rows.LastRow.TheVariants as row
 use Rattle.bocage.specs.declared.walk.Known.{Known}
 use Rattle.bocage.specs.Rows.{between, last_of, IsLastWithin}
-use Rattle.bocage.specs.Parts.{part_cmp, key_cmp, part_at, no_part, rule_key_of, IsPart, IsWholeOf}
-use Rattle.bocage.specs.Walk.{seen_by, IsUsedIn, node_of_item, node_after, whole_keys, whole_keys_by, AreNumbers, IsLastFound, IsGroup, IsNext, Knows, Lists, GrowsBy, IsFrontFound, FitsPart, HasRule}
+use Rattle.bocage.specs.Parts.{part_cmp, key_cmp, part_at, no_part, rule_key_of, IsPart, IsPartAt, IsWholeOf}
+use Rattle.bocage.specs.Walk.{seen_by, IsUsedIn, node_of_item, node_after, whole_keys, whole_keys_by, AreNumbers, IsLastFound, IsSpan, IsNew, IsNext, Knows, Lists, GrowsBy, IsFrontFound, FitsPart, HasRule}
 use Rattle.bocage.specs.declared.walk.Found.{Found}
-use Rattle.bocage.proofs.Putting.{whole_used, front_used, put_one}
-use Rattle.bocage.proofs.PartLemmas.{then_rest}
+use Rattle.bocage.proofs.Putting.{found_front, whole_used, front_new, put_one}
+use Rattle.bocage.proofs.InOrder.{then_rest}
 use Rattle.bocage.proofs.RowLemmas.{there}
 use Rattle.bocage.proofs.Growing.{node_seen, get_more, grows_then, grows_weaker}
-use Rattle.bocage.proofs.Splits.{in_set, used_met, met_stands}
+use Rattle.bocage.proofs.Splits.{in_full, used_met, met_stands}
 
 -- the rules of parts
 abbrev pub rules_by : Option RuleKey → List ℕ
@@ -67,7 +68,7 @@ pub record IsTidy (k : Known) (symbol m end length' : ℕ) (p : Part) : Type 0 w
   pub is_rule : IsRule k.recce.now.flat rule
   pub left : lhs_of k.recce.now.flat rule ≡ symbol
   pub whole : p.whole ≡ Some (rule_key_of k.written.now k.ranking k.recce.now.flat rule)
-  pub in_place : Contains (set_at k.recce.now end) (record { rule = rule; dot = length (rhs_of k.recce.now.flat rule); origin = m })
+  pub in_place : InSet k.recce.now.flat (edges_of k.recce.now) (top_of k.recce.now) end (record { rule = rule; dot = length (rhs_of k.recce.now.flat rule); origin = m })
   pub end_is : p.end ≡ end
   pub symbol_is : p.symbol ≡ symbol
   pub length_is : p.length ≡ length'
@@ -144,14 +145,14 @@ front_stays keys keys' more e front m (Some n) (lt, h) = (lt, subst (λ l. slice
 
 -- a part lies where it can
 pub fits_part : (k : Known) → Knows k → (p : Part) → Contains k.parts.now p → FitsPart k.recce.now.flat p
-fits_part k knows p h = go ((knows.parts p).0 h)
+fits_part k knows p h = go ((knows.gathered.parts p).0 h).0
   where
     go : IsPart k.written.now k.ranking k.recce.now p → FitsPart k.recce.now.flat p
     go (inl (e, i, is)) = let s = is.start in (omega arith, subst (λ o. HasRule k.recce.now.flat o) (sym is.whole) tt)
     go (inr (place, item, le, i, is)) =
         let s = is.start in
         let e = is.end in
-        (omega arith, subst (λ o. HasRule k.recce.now.flat o) (sym is.whole) ((in_set k.recce.now knows.is place item le).0 i).is_rule)
+        (omega arith, subst (λ o. HasRule k.recce.now.flat o) (sym is.whole) ((in_full k.recce.now knows.is place item).0 i).is_rule)
 
 length_map : {X Y : Type 0} (f : X → Y) (xs : List X) → length (map f xs) ≡ length xs
 length_map f [] = refl
@@ -188,186 +189,193 @@ between_all xs ys =
     let e : length (xs ++ ys) - length xs ≡ length ys = omega arith in
     ap (λ n. take n (drop (length xs) (xs ++ ys))) e ∙ ap (take (length ys)) (drop_all xs ys) ∙ take_all ys
 
-module _ (k : Known) (knows : Knows k) (front : Item) (parts : List Part) (group : IsGroup k.parts.now parts) (m : ℕ) (sum : m + (part_at parts 0).length ≡ (part_at parts 0).end)
-    (next : IsNext k front (part_at parts 0).symbol (part_at parts 0).end) where
-  abbrev first : Part
-  first = part_at parts 0
-
+module _ (k : Known) (knows : Knows k) (front : Item) (parts : List Part) (span : IsSpan k.parts.now parts) (m : ℕ) (sum : m + (part_at parts 0).length ≡ k.end)
+    (next : IsNext k front (part_at parts 0).symbol) where
   first_there : Contains parts (part_at parts 0)
-  first_there = there parts 0 no_part group.some
+  first_there = there parts 0 no_part span.some
 
-  first_part : IsPart k.written.now k.ranking k.recce.now (part_at parts 0)
-  first_part = (knows.parts (part_at parts 0)).0 ((group.exact (part_at parts 0)).0 first_there).0
+  part_is : (p : Part) → Contains parts p → IsPartAt k.written.now k.ranking k.recce.now k.end k.least p
+  part_is p h = (knows.gathered.parts p).0 ((span.exact p).0 h).0
 
   -- an edge
-  pub edge_over : (part_at parts 0).whole ≡ None → edges_of k.recce.now (part_at parts 0).symbol m (part_at parts 0).end
-  edge_over none = go first_part
+  pub edge_over : (part_at parts 0).whole ≡ None → edges_of k.recce.now (part_at parts 0).symbol m k.end
+  edge_over none = let (part, end, bound) = part_is (part_at parts 0) first_there in go end part
     where
-      go : IsPart k.written.now k.ranking k.recce.now (part_at parts 0) → edges_of k.recce.now (part_at parts 0).symbol m (part_at parts 0).end
-      go (inl (e, h, is)) =
+      go : (part_at parts 0).end ≡ k.end → IsPart k.written.now k.ranking k.recce.now (part_at parts 0) → edges_of k.recce.now (part_at parts 0).symbol m k.end
+      go end (inl (e, h, is)) =
           let s = is.start in
           let from : e.from ≡ m = omega arith in
-          (e.symbol, is.symbol, subst (λ (z : HeldEdge). Contains k.recce.now.edges z) (λ i. record { symbol = e.symbol; from = from i; to = sym is.end i }) h)
-      go (inr (place, item, le, h, is)) = let w = is.whole in absurd (cc)
+          (e.symbol, is.symbol, subst (λ (z : HeldEdge). Contains k.recce.now.edges z) (λ i. record { symbol = e.symbol; from = from i; to = (sym is.end ∙ end) i }) h)
+      go end (inr (place, item, le, h, is)) = let w = is.whole in absurd (cc)
 
-  tidy_part : (p : Part) → p.end ≡ (part_at parts 0).end → p.symbol ≡ (part_at parts 0).symbol → p.length ≡ (part_at parts 0).length →
-      (place : ℕ) (item : Item) → place ≤ place_of k.recce.now → Contains (set_at k.recce.now place) item → IsWholeOf k.written.now k.ranking k.recce.now.flat place item p →
-      IsTidy k (part_at parts 0).symbol m (part_at parts 0).end (part_at parts 0).length p
-  tidy_part p e s l place item le h is =
-      let f = (in_set k.recce.now knows.is place item le).0 h in
+  tidy_part : (p : Part) → p.end ≡ k.end → p.symbol ≡ (part_at parts 0).symbol → p.length ≡ (part_at parts 0).length →
+      (place : ℕ) (item : Item) → InSet k.recce.now.flat (edges_of k.recce.now) (top_of k.recce.now) place item → IsWholeOf k.written.now k.ranking k.recce.now.flat place item p →
+      IsTidy k (part_at parts 0).symbol m k.end (part_at parts 0).length p
+  tidy_part p e s l place item h is =
+      let f = (in_full k.recce.now knows.is place item).0 h in
       let a = is.start in
       let b = is.end in
       let origin : item.origin ≡ m = omega arith in
-      let same : place ≡ (part_at parts 0).end = sym is.end ∙ e in
+      let same : place ≡ k.end = sym is.end ∙ e in
       record {
         rule = item.rule;
         is_rule = f.is_rule;
         left = sym is.symbol ∙ s;
         whole = is.whole;
-        in_place = subst (λ z. Contains (set_at k.recce.now z) (record { rule = item.rule; dot = length (rhs_of k.recce.now.flat item.rule); origin = m })) same
-            (subst (λ (z : Item). Contains (set_at k.recce.now place) z) (λ i. record { rule = item.rule; dot = is.dot i; origin = origin i }) h);
+        in_place = subst (λ z. InSet k.recce.now.flat (edges_of k.recce.now) (top_of k.recce.now) z (record { rule = item.rule; dot = length (rhs_of k.recce.now.flat item.rule); origin = m })) same
+            (subst (λ (z : Item). InSet k.recce.now.flat (edges_of k.recce.now) (top_of k.recce.now) place z) (λ i. record { rule = item.rule; dot = is.dot i; origin = origin i }) h);
         end_is = e;
         symbol_is = s;
         length_is = l;
       }
 
   module _ (key : RuleKey) (whole : (part_at parts 0).whole ≡ Some key) where
-    first_tidy : IsTidy k (part_at parts 0).symbol m (part_at parts 0).end (part_at parts 0).length (part_at parts 0)
-    first_tidy = go first_part
+    first_tidy : IsTidy k (part_at parts 0).symbol m k.end (part_at parts 0).length (part_at parts 0)
+    first_tidy = let (part, end, bound) = part_is (part_at parts 0) first_there in go end part
       where
-        go : IsPart k.written.now k.ranking k.recce.now (part_at parts 0) → IsTidy k (part_at parts 0).symbol m (part_at parts 0).end (part_at parts 0).length (part_at parts 0)
-        go (inl (e, h, is)) = let w = is.whole in absurd (cc)
-        go (inr (place, item, le, h, is)) = tidy_part (part_at parts 0) refl refl refl place item le h is
+        go : (part_at parts 0).end ≡ k.end → IsPart k.written.now k.ranking k.recce.now (part_at parts 0) → IsTidy k (part_at parts 0).symbol m k.end (part_at parts 0).length (part_at parts 0)
+        go end (inl (e, h, is)) = let w = is.whole in absurd (cc)
+        go end (inr (place, item, le, h, is)) = tidy_part (part_at parts 0) end refl refl place item h is
 
     no_edge : (t : ℕ) → slice_get k.recce.now.flat.symbols (part_at parts 0).symbol ≡ Some (Terminal t) → ⊥
     no_edge t e = knows.is.flat.no_rules first_tidy.rule first_tidy.is_rule (t, ap (slice_get k.recce.now.flat.symbols) first_tidy.left ∙ e)
 
-    tidy : (p : Part) → Contains parts p → IsTidy k (part_at parts 0).symbol m (part_at parts 0).end (part_at parts 0).length p
-    tidy p h = go ((knows.parts p).0 ((group.exact p).0 h).0)
+    tidy : (p : Part) → Contains parts p → IsTidy k (part_at parts 0).symbol m k.end (part_at parts 0).length p
+    tidy p h = let (part, end, bound) = part_is p h in go end part
       where
-        go : IsPart k.written.now k.ranking k.recce.now p → IsTidy k (part_at parts 0).symbol m (part_at parts 0).end (part_at parts 0).length p
-        go (inl (e, i, is)) = absurd (no_edge e.symbol (ap (slice_get k.recce.now.flat.symbols) (sym ((group.exact p).0 h).2) ∙ is.symbol))
-        go (inr (place, item, le, i, is)) = let g = (group.exact p).0 h in tidy_part p g.1 g.2 g.3 place item le i is
+        go : p.end ≡ k.end → IsPart k.written.now k.ranking k.recce.now p → IsTidy k (part_at parts 0).symbol m k.end (part_at parts 0).length p
+        go end (inl (e, i, is)) = absurd (no_edge e.symbol (ap (slice_get k.recce.now.flat.symbols) (sym ((span.exact p).0 h).1) ∙ is.symbol))
+        go end (inr (place, item, le, i, is)) = let g = (span.exact p).0 h in tidy_part p end g.1 g.2 place item i is
 
-    pub tidy_spans : (p : Part) (t : IsTidy k (part_at parts 0).symbol m (part_at parts 0).end (part_at parts 0).length p) →
-        (cs : Children) × Spans k.recce.now.flat (edges_of k.recce.now) t.rule (length (rhs_of k.recce.now.flat t.rule)) m (part_at parts 0).end cs
-    tidy_spans p t = let f = (in_set k.recce.now knows.is (part_at parts 0).end _ next.end).0 t.in_place in (f.children, f.spans)
+    pub tidy_spans : (p : Part) (t : IsTidy k (part_at parts 0).symbol m k.end (part_at parts 0).length p) →
+        (cs : Children) × Spans k.recce.now.flat (edges_of k.recce.now) t.rule (length (rhs_of k.recce.now.flat t.rule)) m k.end cs
+    tidy_spans p t = let f = (in_full k.recce.now knows.is k.end _).0 t.in_place in (f.children, f.spans)
 
-    pub goes_on : m < (part_at parts 0).end
-    goes_on = go first_part
+    pub goes_on : m < k.end
+    goes_on = let (part, end, bound) = part_is (part_at parts 0) first_there in go end part
       where
-        go : IsPart k.written.now k.ranking k.recce.now (part_at parts 0) → m < (part_at parts 0).end
-        go (inl (e, h, is)) = let w = is.whole in absurd (cc)
-        go (inr (place, item, le, h, is)) = let a = is.start in let b = is.end in let c = is.spans in omega arith
+        go : (part_at parts 0).end ≡ k.end → IsPart k.written.now k.ranking k.recce.now (part_at parts 0) → m < k.end
+        go end (inl (e, h, is)) = let w = is.whole in absurd (cc)
+        go end (inr (place, item, le, h, is)) = let a = is.start in let b = is.end in let c = is.spans in omega arith
 
     module _ (keys : List NodeKey) where
-      rule_over : (r : ℕ) → Contains (rules_of parts) r → IsWholeOver (seen_by k keys) (part_at parts 0).symbol m (part_at parts 0).end r
+      rule_over : (r : ℕ) → Contains (rules_of parts) r → IsWholeOver (seen_by k keys) (part_at parts 0).symbol m k.end r
       rule_over r h =
-          let (p, i, (t, e)) = from_rules k (part_at parts 0).symbol m (part_at parts 0).end (part_at parts 0).length sum keys parts tidy r h in
+          let (p, i, (t, e)) = from_rules k (part_at parts 0).symbol m k.end (part_at parts 0).length sum keys parts tidy r h in
           let (cs, spans) = tidy_spans p t in
-          subst (λ z. IsWholeOver (seen_by k keys) (part_at parts 0).symbol m (part_at parts 0).end z) e (record { is_rule = t.is_rule; left = t.left; children = cs; spans = spans })
+          subst (λ z. IsWholeOver (seen_by k keys) (part_at parts 0).symbol m k.end z) e (record { is_rule = t.is_rule; left = t.left; children = cs; spans = spans })
 
-      over_rule : Contains (set_at k.recce.now m) front → m ≤ place_of k.recce.now → (r : ℕ) → IsWholeOver (seen_by k keys) (part_at parts 0).symbol m (part_at parts 0).end r → Contains (rules_of parts) r
-      over_rule at le r h =
-          let met = ((used_met k.recce.now knows.is (node_after front (part_at parts 0).end)).0 next.used).1 in
+      over_rule : Contains (set_at k.recce.now m) front → (r : ℕ) → IsWholeOver (seen_by k keys) (part_at parts 0).symbol m k.end r → Contains (rules_of parts) r
+      over_rule at r h =
+          let met = ((used_met k.recce.now knows.is (node_after front k.end)).0 next.used).1 in
           let (is, stands) = met_stands k.recce.now knows.is met in
-          let f = (in_set k.recce.now knows.is m front le).0 at in
-          let item : Item = record { rule = r; dot = length (rhs_of k.recce.now.flat r); origin = m } in
-          let found : IsFound k.recce.now.flat (edges_of k.recce.now) (top_of k.recce.now) (part_at parts 0).end (record { rule = r; dot = length (rhs_of k.recce.now.flat r); origin = m }) =
+          let f = found_front k knows front (part_at parts 0).symbol m (omega arith) at next in
+          let found : IsFound k.recce.now.flat (edges_of k.recce.now) (top_of k.recce.now) k.end (record { rule = r; dot = length (rhs_of k.recce.now.flat r); origin = m }) =
           record { is_rule = h.is_rule; may_stand = Next stands is refl f.spans (next.part ∙ ap Some (sym h.left)); children = h.children; spans = h.spans } in
-          let there' = (in_set k.recce.now knows.is (part_at parts 0).end (record { rule = r; dot = length (rhs_of k.recce.now.flat r); origin = m }) next.end).1 found in
-          let p : Part = record { end = (part_at parts 0).end; symbol = (part_at parts 0).symbol; length = (part_at parts 0).length; whole = Some (rule_key_of k.written.now k.ranking k.recce.now.flat r) } in
-          let all : Contains k.parts.now (record { end = (part_at parts 0).end; symbol = (part_at parts 0).symbol; length = (part_at parts 0).length; whole = Some (rule_key_of k.written.now k.ranking k.recce.now.flat r) }) =
-          (knows.parts _).1 (inr (
-            (part_at parts 0).end,
-            record { rule = r; dot = length (rhs_of k.recce.now.flat r); origin = m },
-            next.end,
-            there',
-            record { dot = refl; end = refl; spans = goes_on; start = sum; symbol = sym h.left; whole = refl },
-          )) in
-          to_rules k (part_at parts 0).symbol m (part_at parts 0).end (part_at parts 0).length sum keys parts _ (rule_key_of k.written.now k.ranking k.recce.now.flat r) ((group.exact _).1 (all, refl, refl, refl)) refl
+          let there' = (in_full k.recce.now knows.is k.end (record { rule = r; dot = length (rhs_of k.recce.now.flat r); origin = m })).1 found in
+          let (first, end, bound) = part_is (part_at parts 0) first_there in
+          let all : Contains k.parts.now (record { end = k.end; symbol = (part_at parts 0).symbol; length = (part_at parts 0).length; whole = Some (rule_key_of k.written.now k.ranking k.recce.now.flat r) }) =
+          (knows.gathered.parts _).1 (
+            inr (
+              k.end,
+              record { rule = r; dot = length (rhs_of k.recce.now.flat r); origin = m },
+              knows.end,
+              there',
+              record { dot = refl; end = refl; spans = goes_on; start = sum; symbol = sym h.left; whole = refl },
+            ),
+            refl,
+            bound,
+          ) in
+          to_rules k (part_at parts 0).symbol m k.end (part_at parts 0).length sum keys parts _ (rule_key_of k.written.now k.ranking k.recce.now.flat r) ((span.exact _).1 (all, refl, refl)) refl
 
-      pub are_wholes : Contains (set_at k.recce.now m) front → m ≤ place_of k.recce.now → (ns : List ℕ) → AreNumbers keys ns (whole_keys k.recce.now.flat parts) → AreWholes (seen_by k keys) (part_at parts 0).symbol m (part_at parts 0).end ns
-      are_wholes at le ns h =
-          let is = keys_are k (part_at parts 0).symbol m (part_at parts 0).end (part_at parts 0).length sum keys parts tidy in
+      pub are_wholes : Contains (set_at k.recce.now m) front → (ns : List ℕ) → AreNumbers keys ns (whole_keys k.recce.now.flat parts) → AreWholes (seen_by k keys) (part_at parts 0).symbol m k.end ns
+      are_wholes at ns h =
+          let is = keys_are k (part_at parts 0).symbol m k.end (part_at parts 0).length sum keys parts tidy in
           let h' = subst (λ ks. AreNumbers keys ns ks) is h in
           let l1 = length_map (slice_get keys) ns in
-          let l2 = length_map (λ (z : NodeKey). Some z) (map (λ r. whole_key (seen_by k keys) r m (part_at parts 0).end) (rules_of parts)) in
-          let l3 = length_map (λ r. whole_key (seen_by k keys) r m (part_at parts 0).end) (rules_of parts) in
+          let l2 = length_map (λ (z : NodeKey). Some z) (map (λ r. whole_key (seen_by k keys) r m k.end) (rules_of parts)) in
+          let l3 = length_map (λ r. whole_key (seen_by k keys) r m k.end) (rules_of parts) in
           let l4 = ap (λ (z : List (Option NodeKey)). length z) h' in
           let (cs, derives) = tidy_spans (part_at parts 0) first_tidy in
-          let one = over_rule at le first_tidy.rule (record { is_rule = first_tidy.is_rule; left = first_tidy.left; children = cs; spans = derives }) in
+          let one = over_rule at first_tidy.rule (record { is_rule = first_tidy.is_rule; left = first_tidy.left; children = cs; spans = derives }) in
           let (j, lt, _) = at_from_Contains (rules_of parts) first_tidy.rule one in
           record {
             spans = goes_on;
             some = omega arith;
             rules = rules_of parts;
-            sorted = rules_sorted k (part_at parts 0).symbol m (part_at parts 0).end (part_at parts 0).length sum keys parts tidy group.sorted;
-            exact = λ r. (rule_over r, over_rule at le r);
+            sorted = rules_sorted k (part_at parts 0).symbol m k.end (part_at parts 0).length sum keys parts tidy span.sorted;
+            exact = λ r. (rule_over r, over_rule at r);
             all = omega arith;
-            each = λ i n r a b. node_seen k.written.now k.ranking k.recce.now keys n (whole_key (seen_by k keys) r m (part_at parts 0).end)
-                (number_at keys ns (λ z. whole_key (seen_by k keys) z m (part_at parts 0).end) (rules_of parts) h' i n r a b);
+            each = λ i n r a b. node_seen k.written.now k.ranking k.recce.now keys n (whole_key (seen_by k keys) r m k.end)
+                (number_at keys ns (λ z. whole_key (seen_by k keys) z m k.end) (rules_of parts) h' i n r a b);
           }
 
   -- what the last part is
-  pub last_is : Contains (set_at k.recce.now m) front → m ≤ place_of k.recce.now → (keys : List NodeKey) (old new : List ℕ) (last : LastRow) → IsLastFound k.recce.now.flat parts keys old new last →
-      IsLast (seen_by k keys) (part_at parts 0).symbol m (part_at parts 0).end (last_of new last) × IsLastWithin new last × ((more : List ℕ) × (new ≡ old ++ more))
-  last_is at le keys old new row.Edge (none, e) = (edge_over none, tt, ([], e ∙ sym (append-nil old)))
-  last_is at le keys old new row.Nothing h = absurd h
-  last_is at le keys old new (row.Wholes first' end') (key, whole, a, b, (ns, e, h)) =
+  pub last_is : Contains (set_at k.recce.now m) front → (keys : List NodeKey) (old new : List ℕ) (last : LastRow) → IsLastFound k.recce.now.flat parts keys old new last →
+      IsLast (seen_by k keys) (part_at parts 0).symbol m k.end (last_of new last) × IsLastWithin new last × ((more : List ℕ) × (new ≡ old ++ more))
+  last_is at keys old new row.Edge (none, e) = (edge_over none, tt, ([], e ∙ sym (append-nil old)))
+  last_is at keys old new row.Nothing h = absurd h
+  last_is at keys old new (row.Wholes first' end') (key, whole, a, b, (ns, e, h)) =
       let is : between first' end' new ≡ ns = (λ i. between (a i) (b i) (e i)) ∙ ap (λ n. between (length old) n (old ++ ns)) (ap (λ (l : List ℕ). length l) e) ∙ between_all old ns in
       let l = length_both old ns in
       let l' = ap (λ (z : List ℕ). length z) e in (
-        subst (λ z. AreWholes (seen_by k keys) (part_at parts 0).symbol m (part_at parts 0).end z) (sym is) (are_wholes key whole keys at le ns h),
+        subst (λ z. AreWholes (seen_by k keys) (part_at parts 0).symbol m k.end z) (sym is) (are_wholes key whole keys at ns h),
         (omega arith, omega arith),
         (ns, e),
       )
 
   -- a tree over the span
-  pub has_tree : (tree : Tree) × Derives k.recce.now.flat (edges_of k.recce.now) (part_at parts 0).symbol m (part_at parts 0).end tree
+  pub has_tree : (tree : Tree) × Derives k.recce.now.flat (edges_of k.recce.now) (part_at parts 0).symbol m k.end tree
   has_tree = go (part_at parts 0).whole refl
     where
-      go : (o : Option RuleKey) → (part_at parts 0).whole ≡ o → (tree : Tree) × Derives k.recce.now.flat (edges_of k.recce.now) (part_at parts 0).symbol m (part_at parts 0).end tree
-      go None e = (Leaf (part_at parts 0).symbol m (part_at parts 0).end, Token (edge_over e))
-      go (Some key) e = let t = first_tidy key e in let (cs, s) = tidy_spans key e (part_at parts 0) t in (Node t.rule cs m (part_at parts 0).end, Rule t.is_rule t.left (goes_on key e) s)
+      go : (o : Option RuleKey) → (part_at parts 0).whole ≡ o → (tree : Tree) × Derives k.recce.now.flat (edges_of k.recce.now) (part_at parts 0).symbol m k.end tree
+      go None e = (Leaf (part_at parts 0).symbol m k.end, Token (edge_over e))
+      go (Some key) e = let t = first_tidy key e in let (cs, s) = tidy_spans key e (part_at parts 0) t in (Node t.rule cs m k.end, Rule t.is_rule t.left (goes_on key e) s)
 
-  -- the nodes of whole rules are used
-  pub wholes_used : Contains (set_at k.recce.now m) front → m ≤ place_of k.recce.now → (n : NodeKey) → Contains (whole_keys k.recce.now.flat parts) n → IsUsedIn k.recce.now n
-  wholes_used at le n h =
+  -- the nodes of whole rules may be met
+  pub wholes_new : Contains (set_at k.recce.now m) front → (n : NodeKey) → Contains (whole_keys k.recce.now.flat parts) n → IsNew k n
+  wholes_new at n h =
       let (p, i, (key, e, q)) = from_keys k.recce.now.flat parts n h in
-      go p i key e q ((knows.parts p).0 ((group.exact p).0 i).0)
+      let (part, end, bound) = part_is p i in
+      go p i key e q end bound part
     where
       go : (p : Part) → Contains parts p → (key : RuleKey) → p.whole ≡ Some key → n ≡ record { rule = key.rule; dot = length (rhs_of k.recce.now.flat key.rule); origin = p.end - p.length; end = p.end } →
-          IsPart k.written.now k.ranking k.recce.now p → IsUsedIn k.recce.now n
-      go p i key e q (inl (f, h, is)) = let w = is.whole in absurd (cc)
-      go p i key e q (inr (place, item, le', h, is)) =
-          let g = (group.exact p).0 i in
-          let t = tidy_part p g.1 g.2 g.3 place item le' h is in
-          let s = (in_set k.recce.now knows.is (part_at parts 0).end _ next.end).0 t.in_place in
+          p.end ≡ k.end → p.length + k.least ≤ k.end → IsPart k.written.now k.ranking k.recce.now p → IsNew k n
+      go p i key e q end bound (inl (f, h, is)) = let w = is.whole in absurd (cc)
+      go p i key e q end bound (inr (place, item, le', h, is)) =
+          let g = (span.exact p).0 i in
+          let t = tidy_part p end g.1 g.2 place item h is in
+          let s = (in_full k.recce.now knows.is k.end _).0 t.in_place in
           let (tree, derives) = has_tree in
           let one : Some (rule_key_of k.written.now k.ranking k.recce.now.flat t.rule) ≡ Some key = sym t.whole ∙ e in
           let rule : t.rule ≡ key.rule = ap (λ (z : RuleKey). z.rule) (let x : rule_key_of k.written.now k.ranking k.recce.now.flat t.rule ≡ key = cc in x) in
           let a = is.start in
           let b = is.end in
           let c = is.spans in
-          let d = g.1 in
-          let f = g.3 in
+          let f = g.2 in
           let from : m ≡ p.end - p.length = omega arith in
-          let lt : m < (part_at parts 0).end = omega arith in
-          let used = whole_used k knows front (part_at parts 0).symbol (part_at parts 0).end m le at next tree derives t.rule s.children t.is_rule (sym t.left) lt s.spans in
-          subst (λ z. IsUsedIn k.recce.now z) ((λ j. record { rule = rule j; dot = length (rhs_of k.recce.now.flat (rule j)); origin = from j; end = sym g.1 j }) ∙ sym q) used
+          let lt : m < k.end = omega arith in
+          let used = whole_used k knows front (part_at parts 0).symbol m (omega arith) at next tree derives t.rule s.children t.is_rule (sym t.left) lt s.spans in
+          let here : n.end ≡ k.end = ap (λ (z : NodeKey). z.end) q ∙ end in
+          let origin : n.origin ≡ p.end - p.length = ap (λ (z : NodeKey). z.origin) q in
+          record {
+            used = subst (λ z. IsUsedIn k.recce.now z) ((λ j. record { rule = rule j; dot = length (rhs_of k.recce.now.flat (rule j)); origin = from j; end = sym end j }) ∙ sym q) used;
+            before = omega arith;
+            least = λ _. omega arith;
+            waits = λ below. absurd (omega arith);
+          }
 
   -- the alternative of the parts
-  pub put_group : Contains (set_at k.recce.now m) front → m ≤ place_of k.recce.now → (old new : Found) (mid : List NodeKey) (o : Option ℕ) (last : LastRow) →
+  pub put_group : Contains (set_at k.recce.now m) front → (old new : Found) (mid : List NodeKey) (o : Option ℕ) (last : LastRow) →
       new.alternatives.items ≡ old.alternatives.items ++ record { start = m; front = o; last = last } ∷ [] → IsFrontFound mid front m o →
       GrowsBy (λ z. (0 < front.dot) × (z ≡ node_of_item front m)) old.keys.keys mid → GrowsBy (λ z. Contains (whole_keys k.recce.now.flat parts) z) mid new.keys.keys →
       IsLastFound k.recce.now.flat parts new.keys.keys old.wholes.items new.wholes.items last →
-      Lists k front (part_at parts 0).symbol (part_at parts 0).end (λ n. n + (part_at parts 0).length ≡ (part_at parts 0).end) old new
-  put_group at le old new mid o last is found one two found_last =
+      Lists k front (part_at parts 0).symbol (λ n. n ≡ m) old new
+  put_group at old new mid o last is found one two found_last =
       let (tree, derives) = has_tree in
-      let (a, b, (more, e)) = last_is at le new.keys.keys old.wholes.items new.wholes.items last found_last in
-      put_one k knows front (part_at parts 0).symbol (part_at parts 0).end m le at next tree derives (λ n. n + (part_at parts 0).length ≡ (part_at parts 0).end) old new o last more sum (λ n d. omega arith) is e
-      (grows_then (IsUsedIn k.recce.now) old.keys.keys mid new.keys.keys
-      (grows_weaker (IsUsedIn k.recce.now) (λ z. (0 < front.dot) × (z ≡ node_of_item front m)) old.keys.keys mid (λ z (lt, q). subst (λ y. IsUsedIn k.recce.now y) (sym q) (front_used k knows front (part_at parts 0).symbol (part_at parts 0).end m le at next tree derives lt)) one)
-      (grows_weaker (IsUsedIn k.recce.now) (λ z. Contains (whole_keys k.recce.now.flat parts) z) mid new.keys.keys (wholes_used at le) two))
+      let (a, b, (more, e)) = last_is at new.keys.keys old.wholes.items new.wholes.items last found_last in
+      put_one k knows front (part_at parts 0).symbol m (omega arith) at next tree derives (λ n. n ≡ m) old new o last more refl (λ n d. d) is e
+      (grows_then (IsNew k) old.keys.keys mid new.keys.keys
+      (grows_weaker (IsNew k) (λ z. (0 < front.dot) × (z ≡ node_of_item front m)) old.keys.keys mid (λ z (lt, q). subst (λ y. IsNew k y) (sym q) (front_new k knows front (part_at parts 0).symbol m (omega arith) at next tree derives lt)) one)
+      (grows_weaker (IsNew k) (λ z. Contains (whole_keys k.recce.now.flat parts) z) mid new.keys.keys (wholes_new at) two))
       (front_stays mid new.keys.keys (two).0 (two).1 front m o found) a b

@@ -11,7 +11,8 @@ use Rattle.grammar_model.specs.Order.{rank_by}
 use Rattle.recognizer_model.specs.declared.Item.{Item}
 use Rattle.recognizer_model.specs.Flat.{FlatGrammar, lhs_of, rhs_of, source_of}
 use Rattle.recognizer_model.specs.FlatForm.{source_number, list_length}
-use Rattle.earley_sets.specs.Recognizer.{Recognizer, place_of, set_at}
+use Rattle.recognizer_model.specs.Items.{InSet}
+use Rattle.earley_sets.specs.Recognizer.{Recognizer, place_of, edges_of, top_of}
 use Rattle.bocage.specs.declared.parts.RuleKey.{RuleKey}
 use Rattle.bocage.specs.declared.parts.Part.{Part}
 
@@ -57,7 +58,11 @@ abbrev pub IsEdgePart : Recognizer → Part → Type 0
 IsEdgePart r p = (e : HeldEdge) × Contains r.edges e × IsEdgeOf r.flat e p
 
 abbrev pub IsWholePart : Grammar → Ranking → Recognizer → Part → Type 0
-IsWholePart w ranking r p = (end : ℕ) × (item : Item) × (end ≤ place_of r) × Contains (set_at r end) item × IsWholeOf w ranking r.flat end item p
+IsWholePart w ranking r p = (end : ℕ) × (item : Item) × (end ≤ place_of r) × InSet r.flat (edges_of r) (top_of r) end item × IsWholeOf w ranking r.flat end item p
 
 abbrev pub IsPart : Grammar → Ranking → Recognizer → Part → Type 0
 IsPart w ranking r p = IsEdgePart r p ⊎ IsWholePart w ranking r p
+
+-- a part that ends at a place, and begins at another or behind it
+abbrev pub IsPartAt : Grammar → Ranking → Recognizer → (end least : ℕ) → Part → Type 0
+IsPartAt w ranking r end least p = IsPart w ranking r p × (p.end ≡ end) × (p.length + least ≤ end)

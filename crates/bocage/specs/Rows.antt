@@ -1,10 +1,10 @@
--- Nodes and alternatives that are kept end to end.
-use Rattle.std.specs.Prelude.{ℕ, ◌≤◌, ◌-◌, List, None, length, map, take, drop, Contains}
+-- Nodes and alternatives as they are kept.
+use Rattle.std.specs.Prelude.{◌≡◌, ℕ, ◌<◌, ◌≤◌, ◌-◌, List, [], ◌∷◌, Some, None, length, map, take, drop, slice_get, Contains}
 use Rattle.forest_model.specs.Forest.{Last, AnEdge, Nothing, Wholes, Alternative, ForestNode}
 use Rattle.bocage.specs.declared.rows.LastRow.{LastRow}
 use Rattle.bocage.specs.declared.rows.LastRow.TheVariants as row
 use Rattle.bocage.specs.declared.rows.AlternativeRow.{AlternativeRow}
-use Rattle.bocage.specs.declared.rows.NodeRow.{NodeRow}
+use Rattle.recognizer_model.specs.declared.NodeKey.{NodeKey}
 use Rattle.bocage.specs.declared.rows.LastPart.{LastPart}
 use Rattle.bocage.specs.declared.rows.LastPart.TheVariants as part
 
@@ -20,8 +20,11 @@ last_of wholes (row.Wholes first end) = Wholes (between first end wholes)
 abbrev pub alternative_of : List ℕ → AlternativeRow → Alternative
 alternative_of wholes a = record { start = a.start; front = a.front; last = last_of wholes a.last }
 
-abbrev pub node_of : List AlternativeRow → List ℕ → NodeRow → ForestNode
-node_of alternatives wholes n = record { key = n.key; alternatives = map (alternative_of wholes) (between n.first n.end alternatives) }
+-- nodes by their keys, with the alternatives of each
+abbrev pub nodes_of : (wholes : List ℕ) → List NodeKey → List (List AlternativeRow) → List ForestNode
+nodes_of wholes [] rows = []
+nodes_of wholes (key ∷ keys) [] = []
+nodes_of wholes (key ∷ keys) (row ∷ rows) = record { key = key; alternatives = map (alternative_of wholes) row } ∷ nodes_of wholes keys rows
 
 -- the places of a row are among those that there are
 abbrev pub IsLastWithin : List ℕ → LastRow → Type 0
@@ -32,15 +35,14 @@ IsLastWithin wholes (row.Wholes first end) = (first ≤ end) × (end ≤ length 
 abbrev pub AreWithin : List AlternativeRow → List ℕ → Type 0
 AreWithin alternatives wholes = (a : AlternativeRow) → Contains alternatives a → IsLastWithin wholes a.last
 
-abbrev pub AreNodesWithin : List NodeRow → List AlternativeRow → Type 0
-AreNodesWithin nodes alternatives = (n : NodeRow) → Contains nodes n → (n.first ≤ n.end) × (n.end ≤ length alternatives)
+-- each node has its alternatives
+pub record IsTable (keys : List NodeKey) (table : List (List AlternativeRow)) (wholes : List ℕ) : Type 0 where
+  pub long : length keys ≤ length table
+  pub within : (n : ℕ) (rows : List AlternativeRow) → n < length keys → slice_get table n ≡ Some rows → AreWithin rows wholes
 
 -- past the last one no row is told
 abbrev pub no_alternative : AlternativeRow
 no_alternative = record { start = 0; front = None; last = row.Edge }
-
-abbrev pub no_node : NodeRow
-no_node = record { key = record { rule = 0; dot = 0; origin = 0; end = 0 }; first = 0; end = 0 }
 
 abbrev pub part_told : LastPart → Last
 part_told part.Edge = AnEdge

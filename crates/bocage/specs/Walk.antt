@@ -1,5 +1,5 @@
--- What is looked up on the way back, and how what is found grows.
-use Rattle.std.specs.Prelude.{◌≡◌, ℕ, suc, ◌+◌, ◌-◌, ◌<◌, ◌≤◌, List, [], ◌∷◌, ◌++◌, length, map, take, Bool, Option, Some, None, Contains, ◌⊎◌, ◌↔◌, slice_get}
+-- What is looked up at one place, and how what is found grows.
+use Rattle.std.specs.Prelude.{◌≡◌, ℕ, suc, ◌+◌, ◌-◌, ◌<◌, ◌≤◌, List, [], ◌∷◌, ◌++◌, length, map, Bool, Option, Some, None, Contains, ◌⊎◌, ◌↔◌, slice_get}
 use Rattle.std.specs.List.Sorted.{IsStrictlySortedBy}
 use Rattle.grammar_model.specs.declared.Ranking.{Ranking}
 use Rattle.grammar_model.specs.Grammar.{Grammar}
@@ -10,8 +10,7 @@ use Rattle.recognizer_model.specs.Flat.{FlatGrammar, IsRule, rhs_of, part_of, Is
 use Rattle.recognizer_model.specs.FlatForm.{IsFlatOf, flat_order}
 use Rattle.recognizer_model.specs.Nodes.{IsUsed}
 use Rattle.earley_sets.specs.Recognizer.{Recognizer, IsRecognizer, place_of, set_at, edges_of, top_of}
-use Rattle.forest_model.specs.Forest.{Forest, ForestNode, IsAlternative, AreAlternatives, starts_cmp}
-use Rattle.bocage.specs.declared.index.Placed.{Placed}
+use Rattle.forest_model.specs.Forest.{Forest, ForestNode, IsAlternative, starts_cmp}
 use Rattle.bocage.specs.declared.parts.Part.{Part}
 use Rattle.bocage.specs.declared.parts.RuleKey.{RuleKey}
 use Rattle.bocage.specs.declared.rows.AlternativeRow.{AlternativeRow}
@@ -19,22 +18,33 @@ use Rattle.bocage.specs.declared.rows.LastRow.{LastRow}
 use Rattle.bocage.specs.declared.rows.LastRow.TheVariants as row
 use Rattle.bocage.specs.declared.walk.Known.{Known}
 use Rattle.bocage.specs.declared.walk.Found.{Found}
-use Rattle.bocage.specs.Parts.{part_cmp, IsPart, part_at}
-use Rattle.bocage.specs.declared.rows.NodeRow.{NodeRow}
-use Rattle.bocage.specs.Rows.{alternative_of, node_of, between, IsLastWithin, AreWithin, AreNodesWithin}
+use Rattle.bocage.specs.declared.groups.Group.{Group}
+use Rattle.bocage.specs.declared.joins.Join.{Join}
+use Rattle.bocage.specs.Groups.{AreGroups}
+use Rattle.bocage.specs.Joins.{join_cmp, front_of_join, AreJoins}
+use Rattle.bocage.specs.Parts.{part_cmp, IsPartAt, part_at}
+use Rattle.bocage.specs.Rows.{alternative_of, IsLastWithin}
 
--- an item in the set of a place
-abbrev pub IsPlaced : Recognizer → Placed → Type 0
-IsPlaced r p = (p.place ≤ place_of r) × Contains (set_at r p.place) p.item
-
--- a recognizer over the flat grammar of a checked one, with its items and its parts
-pub record IsKnown (w : Grammar) (ranking : Ranking) (r : Recognizer) (placed : List Placed) (all : List Part) : Type 0 where
+-- a recognizer over the flat grammar of a checked one
+pub record IsRead (w : Grammar) (r : Recognizer) : Type 0 where
   pub checked : IsChecked w
   pub flat_of : IsFlatOf r.flat w
   pub is : IsRecognizer r
-  pub items : (p : Placed) → Contains placed p ↔ IsPlaced r p
-  pub parts : (p : Part) → Contains all p ↔ IsPart w ranking r p
+
+-- what may be the last part of nodes that end at a place and do not begin too early, and what stands before it
+pub record AreGathered (w : Grammar) (ranking : Ranking) (r : Recognizer) (end least : ℕ) (all : List Part) (spans : List Group) (fronts : List Join) : Type 0 where
+  pub parts : (p : Part) → Contains all p ↔ IsPartAt w ranking r end least p
   pub sorted : IsStrictlySortedBy part_cmp all
+  pub groups : AreGroups end all spans
+  pub joins : AreJoins r least spans fronts
+
+-- with all of this for one place
+pub record Knows (k : Known) : Type 0 where
+  pub checked : IsChecked k.written.now
+  pub flat_of : IsFlatOf k.recce.now.flat k.written.now
+  pub is : IsRecognizer k.recce.now
+  pub end : k.end ≤ place_of k.recce.now
+  pub gathered : AreGathered k.written.now k.ranking k.recce.now k.end k.least k.parts.now k.groups.now k.joins.now
 
 -- a node of which the key is known
 abbrev pub bare : NodeKey → ForestNode
@@ -95,11 +105,15 @@ IsLastFound g parts keys old new row.Edge = ((part_at parts 0).whole ≡ None) �
 IsLastFound g parts keys old new row.Nothing = ⊥
 IsLastFound g parts keys old new (row.Wholes first end) = (key : RuleKey) × ((part_at parts 0).whole ≡ Some key) × (first ≡ length old) × (end ≡ length new) × AddsWholes keys (whole_keys g parts) old new
 
-abbrev pub Knows : Known → Type 0
-Knows k = IsKnown k.written.now k.ranking k.recce.now k.items.now.keys k.parts.now
-
 abbrev pub seen_by : Known → List NodeKey → Forest
 seen_by k keys = seen k.written.now k.ranking k.recce.now keys
+
+-- a used node that may be met here: it ends here and does not begin too early, or waits for one more part
+pub record IsNew (k : Known) (key : NodeKey) : Type 0 where
+  pub used : IsUsedIn k.recce.now key
+  pub before : key.end ≤ k.end
+  pub least : key.end ≡ k.end → k.least ≤ key.origin
+  pub waits : key.end < k.end → key.dot < length (rhs_of k.recce.now.flat key.rule)
 
 abbrev pub is_high : Known → Item → Bool
 is_high k front = (flat_order k.written.now k.ranking k.recce.now.flat).null_high front.rule
@@ -111,38 +125,41 @@ pub record AreListed (F : Forest) (r : Recognizer) (high : Bool) (front : Item) 
   pub each : (a : AlternativeRow) → Contains rows a → IsAlternative F front.rule front.dot front.origin symbol end (alternative_of wholes a) × IsLastWithin wholes a.last
 
 -- so many alternatives were put
-pub record Lists (k : Known) (front : Item) (symbol end : ℕ) (D : ℕ → Type 0) (old new : Found) : Type 0 where
+pub record Lists (k : Known) (front : Item) (symbol : ℕ) (D : ℕ → Type 0) (old new : Found) : Type 0 where
   pub rows : List AlternativeRow
   pub is : new.alternatives.items ≡ old.alternatives.items ++ rows
-  pub listed : AreListed (seen_by k new.keys.keys) k.recce.now (is_high k front) front symbol end D new.wholes.items rows
-  pub keys : GrowsBy (IsUsedIn k.recce.now) old.keys.keys new.keys.keys
+  pub listed : AreListed (seen_by k new.keys.keys) k.recce.now (is_high k front) front symbol k.end D new.wholes.items rows
+  pub keys : GrowsBy (IsNew k) old.keys.keys new.keys.keys
   pub more : List ℕ
   pub wholes : new.wholes.items ≡ old.wholes.items ++ more
 
 -- parts over one span: all of them that there are
-pub record IsGroup (all parts : List Part) : Type 0 where
+pub record IsSpan (all parts : List Part) : Type 0 where
   pub some : 0 < length parts
   pub sorted : IsStrictlySortedBy part_cmp parts
-  pub exact : (p : Part) → Contains parts p ↔ (Contains all p × (p.end ≡ (part_at parts 0).end) × (p.symbol ≡ (part_at parts 0).symbol) × (p.length ≡ (part_at parts 0).length))
+  pub exact : (p : Part) → Contains parts p ↔ (Contains all p × (p.symbol ≡ (part_at parts 0).symbol) × (p.length ≡ (part_at parts 0).length))
 
--- what may stand behind a front, as far as it has to be looked at
-pub record AreCandidates (all : List Part) (front : Item) (symbol place : ℕ) (parts : List Part) : Type 0 where
-  pub sorted : IsStrictlySortedBy part_cmp parts
-  pub exact : (p : Part) → Contains parts p ↔ (Contains all p × (p.end ≡ place) × (p.symbol ≡ symbol) × (front.dot ≡ 0 → p.length + front.origin ≡ place))
+abbrev pub IsGroupOf : Known → Group → Type 0
+IsGroupOf k g = Contains k.groups.now g
 
--- a last part begins at one of the parts
-abbrev pub BeginsIn : List Part → ℕ → Type 0
-BeginsIn parts m = (p : Part) × Contains parts p × (m + p.length ≡ p.end)
+-- the joins of one item, in order
+pub record AreJoinsOf (k : Known) (front : Item) (joins : List Join) : Type 0 where
+  pub sorted : IsStrictlySortedBy join_cmp joins
+  pub exact : (j : Join) → Contains joins j ↔ (Contains k.joins.now j × (front_of_join j ≡ front))
 
--- the node of one part more is used, and the symbol is that part
-pub record IsNext (k : Known) (front : Item) (symbol place : ℕ) : Type 0 where
-  pub used : IsUsedIn k.recce.now (node_after front place)
+-- a last part begins where the group of one of the joins does
+abbrev pub BeginsIn : Known → List Join → ℕ → Type 0
+BeginsIn k joins m = (j : Join) × (g : Group) × Contains joins j × (slice_get k.groups.now j.group ≡ Some g) × (m ≡ g.start)
+
+-- the node of one part more is used and ends here, and the symbol is that part
+pub record IsNext (k : Known) (front : Item) (symbol : ℕ) : Type 0 where
+  pub used : IsUsedIn k.recce.now (node_after front k.end)
   pub part : part_of k.recce.now.flat front.rule front.dot ≡ Some symbol
-  pub end : place ≤ place_of k.recce.now
+  pub least : k.least ≤ front.origin
 
 -- a last part of the symbol may begin there
-abbrev pub MayBegin : Known → Item → (symbol place : ℕ) → ℕ → Type 0
-MayBegin k front symbol place m = ((m ≡ place) × IsNullable k.recce.now.flat symbol) ⊎ ((p : Part) × Contains k.parts.now p × (p.end ≡ place) × (p.symbol ≡ symbol) × (m + p.length ≡ place) × (front.dot ≡ 0 → m ≡ front.origin))
+abbrev pub MayBegin : Known → (symbol : ℕ) → ℕ → Type 0
+MayBegin k symbol m = ((m ≡ k.end) × IsNullable k.recce.now.flat symbol) ⊎ ((p : Part) × Contains k.parts.now p × (p.symbol ≡ symbol) × (m + p.length ≡ k.end))
 
 abbrev pub front_of_key : NodeKey → Item
 front_of_key key = record { rule = key.rule; dot = key.dot - 1; origin = key.origin }
@@ -152,8 +169,8 @@ pub record ListsKey (k : Known) (key : NodeKey) (old new : Found) : Type 0 where
   pub symbol : ℕ
   pub some : 0 < key.dot
   pub part : part_of k.recce.now.flat key.rule (key.dot - 1) ≡ Some symbol
-  pub next : IsNext k (front_of_key key) symbol key.end
-  pub lists : Lists k (front_of_key key) symbol key.end (MayBegin k (front_of_key key) symbol key.end) old new
+  pub next : IsNext k (front_of_key key) symbol
+  pub lists : Lists k (front_of_key key) symbol (MayBegin k symbol) old new
 
 -- the node of the whole
 abbrev pub top_key : Recognizer → NodeKey
@@ -163,15 +180,3 @@ top_key r = record { rule = top_of r; dot = length (rhs_of r.flat (top_of r)); o
 abbrev pub IsBegun : Recognizer → List NodeKey → Option ℕ → Type 0
 IsBegun r keys None = (place_of r ≡ 0) × (keys ≡ [])
 IsBegun r keys (Some n) = (0 < place_of r) × (slice_get keys n ≡ Some (top_key r)) × ((key : NodeKey) → Contains keys key → key ≡ top_key r)
-
-abbrev pub rows_of : List NodeRow → List AlternativeRow → List ℕ → List ForestNode
-rows_of nodes alternatives wholes = map (node_of alternatives wholes) nodes
-
--- the first of the keys have their alternatives
-pub record AreWalked (k : Known) (nodes : List NodeRow) (count : ℕ) (f : Found) : Type 0 where
-  pub bound : count ≤ length f.keys.keys
-  pub are : map (λ n. n.key) nodes ≡ take count f.keys.keys
-  pub each : (n : NodeRow) → Contains nodes n → AreAlternatives (seen_by k f.keys.keys) n.key (map (alternative_of f.wholes.items) (between n.first n.end f.alternatives.items))
-  pub inside : AreNodesWithin nodes f.alternatives.items
-  pub within : AreWithin f.alternatives.items f.wholes.items
-  pub used : (key : NodeKey) → Contains f.keys.keys key → IsUsedIn k.recce.now key

@@ -1,25 +1,28 @@
 //! The forest, and what is read of it.
-ghost use Rattle.std.specs.Prelude.{◌≡◌, ℕ, ◌+◌, ◌<◌, ◌↔◌, Err, IfOk, length};
+ghost use Rattle.std.specs.Prelude.{◌≡◌, ℕ, ◌+◌, ◌<◌, ◌≤◌, ◌↔◌, Err, IfOk, length};
 ghost use Rattle.grammar_model.specs.Checked.{IsChecked};
 ghost use Rattle.recognizer_model.specs.FlatForm.{IsFlatOf};
-ghost use Rattle.earley_sets.specs.Recognizer.{HasTree, place_of};
-ghost use Rattle.forest_model.specs.Forest.{IsForest, IsNode};
+ghost use Rattle.recognizer_model.specs.Counts.{IsCountOf};
+ghost use Rattle.recognizer_model.specs.Nodes.{IsExpanded, IsStats};
+ghost use Rattle.earley_sets.specs.Recognizer.{HasTree, place_of, edges_of, top_of};
+ghost use Rattle.forest_model.specs.Forest.{IsForest, IsNode, edges_of as forest_edges, top_of as forest_top};
+ghost use Rattle.bocage.specs.Hidden.{IsExpandedIn, RisesWithin};
 ghost use Rattle.bocage.specs.Rows.{part_told};
 ghost use Rattle.bocage.specs.Readers.{alternative_at, node_at};
 ghost use Rattle.bocage.specs.declared.refusal.ForestRefusal.TheVariants.{NoParse};
 
 use crate::ForestRefusal;
-use crate::index::{all_items, all_parts};
-use crate::rows::{
-    AlternativeRow, LastPart, NodeRow, alternative_row, alternatives_between, last_part, node_row,
-};
-use crate::walk::{Found, Known, begin, differ, walk};
+use crate::ends::{Work, walk};
+use crate::rows::{AlternativeRow, LastPart, alternative_row, key_at, last_part, rows_at};
+use crate::walk::{Found, begin, differ};
+use bumpalo::Bump;
 use earley_sets::Recce;
 use grammar_core::{Flat, Written};
 use grammar_model::Ranking;
 use indexmap::IndexSet;
 use recognizer_model::NodeKey;
 use slif_base::Steps;
+use smallvec::SmallVec;
 use std::alloc::Global;
 use std::marker::Model;
 use std::sync::ledger::Ledger;
@@ -76,36 +79,52 @@ impl<'f> Alternatives<'f> {
     }
 }
 
+/// The numbers of a reading: the places that were read, the items that were kept, the nodes, and the hidden items that were given for
+/// them.
+#[derive(Clone, Copy, Debug, PartialEq, Eq)]
+pub struct Stats {
+    pub tokens: u128,
+    pub kept: u128,
+    pub nodes: u128,
+    pub expanded: u128,
+}
+
 /// The shared packed forest of a reading.
 #[derive(Drop)]
 pub struct Forest<'a> {
     recce: &'a Recce<'a>,
     written: &'a Written,
     ranking: Ranking,
-    nodes: Vec<NodeRow>,
-    alternatives: Vec<AlternativeRow>,
+    keys: IndexSet<NodeKey>,
+    // the alternatives of each node
+    table: Vec<&'a [AlternativeRow]>,
     wholes: Vec<u32>,
     root: Option<u32>,
+    // how many hidden items were given
+    expanded: u64,
 }
 
 impl<'a> Model for Forest<'a> {
     ghost use Rattle.std.specs.Prelude.{map};
     ghost use Rattle.earley_sets.specs.Recognizer.{place_of};
     ghost use Rattle.forest_model.specs.Forest.{Forest, IsForest};
-    ghost use Rattle.bocage.specs.Rows.{node_of, AreWithin, AreNodesWithin};
+    ghost use Rattle.recognizer_model.specs.Counts.{IsCountOf};
+    ghost use Rattle.bocage.specs.Rows.{nodes_of, IsTable};
+    ghost use Rattle.bocage.specs.Hidden.{IsExpandedIn};
 
     ghost Value = { Forest };
 
-    ghost view = { λ f. record { written = f.written.now; flat = f.recce.now.flat; start = f.recce.now.start; edges = f.recce.now.edges; place = place_of f.recce.now; ranking = f.ranking; nodes = map (node_of f.alternatives.items f.wholes.items) f.nodes.items; root = f.root } };
+    ghost view = { λ f. record { written = f.written.now; flat = f.recce.now.flat; start = f.recce.now.start; edges = f.recce.now.edges; place = place_of f.recce.now; ranking = f.ranking; nodes = nodes_of f.wholes.items f.keys.keys (map (λ r. r.now) f.table.items); root = f.root } };
 
-    ghost invariant = { λ f. IsForest (record { written = f.written.now; flat = f.recce.now.flat; start = f.recce.now.start; edges = f.recce.now.edges; place = place_of f.recce.now; ranking = f.ranking; nodes = map (node_of f.alternatives.items f.wholes.items) f.nodes.items; root = f.root }) × AreNodesWithin f.nodes.items f.alternatives.items × AreWithin f.alternatives.items f.wholes.items };
+    ghost invariant = { λ f. IsForest (record { written = f.written.now; flat = f.recce.now.flat; start = f.recce.now.start; edges = f.recce.now.edges; place = place_of f.recce.now; ranking = f.ranking; nodes = nodes_of f.wholes.items f.keys.keys (map (λ r. r.now) f.table.items); root = f.root }) × IsTable f.keys.keys (map (λ r. r.now) f.table.items) f.wholes.items × IsCountOf (IsExpandedIn f.recce.now) f.expanded };
 }
 
 impl<'a> Forest<'a> {
     /// The forest of all derivations of the recognizer's start over the places so far. `w` is the grammar that the recognizer's flat
-    /// grammar was made from, and `ranking` says whether ranks of rules count. No step is counted.
+    /// grammar was made from, and `ranking` says whether ranks of rules count. The arena holds the alternatives.
     pub fn build<L: Ledger>(
         alloc: Global,
+        arena: &'a Bump,
         recce: &'a Recce<'a>,
         w: &'a Written,
         ranking: Ranking,
@@ -116,55 +135,53 @@ impl<'a> Forest<'a> {
         ensures forest { IfOk result (λ f. IsForest f) }
         ensures reading { IfOk result (λ f. (f.written ≡ w.now) × (f.flat ≡ recce.now.flat) × (f.start ≡ recce.now.start) × (f.edges ≡ recce.now.edges) × (f.place ≡ place_of recce.now) × (f.ranking ≡ ranking)) }
         ensures no_parse { (result ≡ Err NoParse) ↔ (¬ HasTree recce.now) }
-        ensures counted { steps.new ≡ steps.old }
+        ensures counted { (n : ℕ) → IsCountOf (IsExpanded recce.now.flat (edges_of recce.now) (top_of recce.now) (place_of recce.now)) n → steps.new ≤ steps.old + n }
     {
         if !recce.at_end() {
             return Err(ForestRefusal::NoParse);
         }
-        match Forest::grow(alloc, recce, w, ranking) {
+        match Forest::grow(alloc, arena, recce, w, ranking, steps) {
             Ok(forest) => Ok(forest),
             Err(_) => Err(ForestRefusal::NoMemory),
         }
     }
 
     // The forest of a start that has a tree.
-    fn grow(
+    fn grow<L: Ledger>(
         alloc: Global,
+        arena: &'a Bump,
         recce: &'a Recce<'a>,
         w: &'a Written,
         ranking: Ranking,
+        steps: &mut Steps<L>,
     ) -> Result<Forest<'a>, ForestRefusal>
         requires checked { IsChecked w.now }
         requires flat { IsFlatOf recce.now.flat w.now }
         requires tree { HasTree recce.now }
         ensures reading { IfOk result (λ f. (f.written ≡ w.now) × (f.flat ≡ recce.now.flat) × (f.start ≡ recce.now.start) × (f.edges ≡ recce.now.edges) × (f.place ≡ place_of recce.now) × (f.ranking ≡ ranking)) }
         ensures forest { IfOk result (λ f. IsForest f) }
+        ensures counted { RisesWithin (IsExpandedIn recce.now) steps.old steps.new }
     {
-        let items = all_items(alloc, recce)?;
-        let parts = all_parts(alloc, recce, w, ranking)?;
-        let known = Known {
-            recce: &*recce,
-            written: &*w,
-            ranking,
-            items: &items,
-            parts: &parts,
-        };
         let mut found = Found {
             keys: IndexSet::new(alloc),
-            alternatives: Vec::new(alloc),
+            alternatives: SmallVec::new(alloc),
             wholes: Vec::new(alloc),
         };
+        let mut work = Work::new(alloc);
         let root = begin(recce, &mut found.keys)?;
-        let nodes = walk(alloc, &known, &mut found)?;
+        let table = walk(
+            alloc, recce, w, ranking, arena, &mut found, &mut work, steps,
+        )?;
         differ(&found.keys);
         Ok(Forest {
             recce,
             written: w,
             ranking,
-            nodes,
-            alternatives: found.alternatives,
+            keys: found.keys,
+            table,
             wholes: found.wholes,
             root,
+            expanded: work.expanded,
         })
     }
 
@@ -172,14 +189,26 @@ impl<'a> Forest<'a> {
     pub fn known(&self)
         ensures { IsForest self.now }
     {
-        let _count = self.nodes.as_slice().len();
+        let _count = self.wholes.as_slice().len();
     }
 
     /// How many nodes there are. They are numbered from 0, in the order in which the walk back from the whole met them.
     pub fn node_count(&self) -> usize
         ensures { result ≡ length self.now.nodes }
     {
-        self.nodes.as_slice().len()
+        self.keys.as_slice().len()
+    }
+
+    /// The numbers of the reading: its places, and its items and nodes.
+    pub fn stats(&self) -> Stats
+        ensures { IsStats self.now.flat (forest_edges self.now) (forest_top self.now) self.now.place result.tokens result.kept result.nodes result.expanded }
+    {
+        Stats {
+            tokens: u128::from(self.recce.place()),
+            kept: u128::from(self.recce.item_count()),
+            nodes: self.keys.as_slice().len() as u128,
+            expanded: u128::from(self.expanded),
+        }
     }
 
     /// The start's place among the starts of the grammar.
@@ -202,7 +231,7 @@ impl<'a> Forest<'a> {
         ensures value { result ≡ (node_at self.now node).key }
         ensures node { IsNode self.now node result }
     {
-        node_row(&self.nodes, node as usize).key
+        key_at(self.keys.as_slice(), node as usize)
     }
 
     /// The alternatives of a node, in the declared order. Each call counts as one step.
@@ -212,9 +241,8 @@ impl<'a> Forest<'a> {
         ensures counted { steps.new ≡ steps.old + 1 }
     {
         steps.tick();
-        let row = node_row(&self.nodes, node as usize);
         Alternatives {
-            rows: alternatives_between(&self.alternatives, row.first, row.end),
+            rows: rows_at(&self.table, node as usize),
             wholes: &self.wholes,
         }
     }

@@ -1,13 +1,16 @@
 //! The shared packed forest of a reading: all derivations of the start, each way to derive the first parts of a rule over a span once.
 #![tactic(auto)]
 
+mod ends;
 mod forest;
-mod index;
+mod gather;
+mod groups;
+mod joins;
 mod parts;
 mod refusal;
 mod rows;
 mod walk;
 
-pub use forest::{Alternatives, Forest};
+pub use forest::{Alternatives, Forest, Stats};
 pub use refusal::ForestRefusal;
 pub use rows::LastPart;

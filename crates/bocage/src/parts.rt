@@ -1,14 +1,12 @@
 //! What may be the last part of a node: edges and whole rules, in the order in which a forest has them.
-ghost use Rattle.std.specs.Prelude.{◌≡◌, ℕ, ◌<◌, ◌≤◌, ◌↔◌, length, Contains};
-ghost use Rattle.std.specs.List.Sorted.{IsStrictlySortedBy};
+ghost use Rattle.std.specs.Prelude.{◌≡◌, ◌≤◌, length};
 ghost use Rattle.grammar_model.specs.Grammar.{is_even as is_even_number, has_trailing, null_high_of, rule_at};
 ghost use Rattle.grammar_model.specs.Order.{rank_by};
 ghost use Rattle.recognizer_model.specs.Flat.{IsRule, source_of};
 ghost use Rattle.recognizer_model.specs.FlatForm.{IsFlatOf, list_length as length_of_list, source_number};
 ghost use Rattle.grammar_core.specs.Written.{rule_of};
 ghost use Rattle.bocage.specs.Rows.{between};
-ghost use Rattle.bocage.specs.Parts.{part_at, part_cmp, rule_key_of};
-ghost use Rattle.bocage.specs.declared.parts.Part.{Part};
+ghost use Rattle.bocage.specs.Parts.{rule_key_of};
 
 use grammar_core::{Flat, FlatSource, FlatSymbol, Written, WrittenRule};
 use grammar_model::Ranking;
@@ -135,55 +133,4 @@ pub fn parts_between(parts: &[Part], first: usize, end: usize) -> &[Part]
     ensures { result.now ≡ between first end parts.now }
 {
     &parts[first..end]
-}
-
-/// Those of the parts that end at a place.
-pub fn parts_to(parts: &[Part], end: u32) -> &[Part]
-    requires sorted { IsStrictlySortedBy part_cmp parts.now }
-    ensures sorted { IsStrictlySortedBy part_cmp result.now }
-    ensures exact { (p : Part) → Contains result.now p ↔ (Contains parts.now p × (p.end ≡ end)) }
-{
-    let first = parts.partition_point(|part| part.end < end);
-    let last = parts.partition_point(|part| part.end <= end);
-    parts_between(parts, first, last)
-}
-
-/// Those of the parts, which all end at one place, that derive a symbol.
-pub fn parts_of(parts: &[Part], symbol: u32) -> &[Part]
-    requires sorted { IsStrictlySortedBy part_cmp parts.now }
-    requires ends { (p q : Part) → Contains parts.now p → Contains parts.now q → p.end ≡ q.end }
-    ensures sorted { IsStrictlySortedBy part_cmp result.now }
-    ensures exact { (p : Part) → Contains result.now p ↔ (Contains parts.now p × (p.symbol ≡ symbol)) }
-{
-    let first = parts.partition_point(|part| part.symbol < symbol);
-    let last = parts.partition_point(|part| part.symbol <= symbol);
-    parts_between(parts, first, last)
-}
-
-/// Those of the parts, which all derive one symbol up to one place, that have a length.
-pub fn parts_over(parts: &[Part], length: u32) -> &[Part]
-    requires sorted { IsStrictlySortedBy part_cmp parts.now }
-    requires ends { (p q : Part) → Contains parts.now p → Contains parts.now q → p.end ≡ q.end }
-    requires symbols { (p q : Part) → Contains parts.now p → Contains parts.now q → p.symbol ≡ q.symbol }
-    ensures sorted { IsStrictlySortedBy part_cmp result.now }
-    ensures exact { (p : Part) → Contains result.now p ↔ (Contains parts.now p × (p.length ≡ length)) }
-{
-    let first = parts.partition_point(|part| part.length < length);
-    let last = parts.partition_point(|part| part.length <= length);
-    parts_between(parts, first, last)
-}
-
-/// Where those end that have the length of the part at a place, in parts that all derive one symbol up to one place.
-pub fn end_of_length(parts: &[Part], k: usize) -> usize
-    requires place { k < length parts.now }
-    requires sorted { IsStrictlySortedBy part_cmp parts.now }
-    requires ends { (p q : Part) → Contains parts.now p → Contains parts.now q → p.end ≡ q.end }
-    requires symbols { (p q : Part) → Contains parts.now p → Contains parts.now q → p.symbol ≡ q.symbol }
-    ensures order { k < result }
-    ensures bound { result ≤ length parts.now }
-    ensures below { (i : ℕ) → i < result → (part_at parts.now i).length ≤ (part_at parts.now k).length }
-    ensures above { (i : ℕ) → result ≤ i → i < length parts.now → (part_at parts.now k).length < (part_at parts.now i).length }
-{
-    let length = parts[k].length;
-    parts.partition_point(|part| part.length <= length)
 }

@@ -1,40 +1,43 @@
-//! The walk back from the whole: each node that is met gets a number and its alternatives.
+//! The alternatives of a node: each that is met gets a number, and what may be its last part is joined with its first parts.
 ghost use Rattle.std.specs.Prelude.{◌≡◌, ◌≢◌, AllPairs, ℕ, ◌<◌, ◌≤◌, ◌+◌, ◌-◌, ◌↔◌, [], ◌∷◌, length, map, IfOk, OnOk, IsTrue, IsFalse, Contains, slice_get, Some};
 ghost use Rattle.recognizer_model.specs.Flat.{IsNullable, IsRule, rhs_of};
-ghost use Rattle.recognizer_model.specs.declared.NodeKey.{NodeKey as TheKey};
 ghost use Rattle.earley_sets.specs.Recognizer.{IsRecognizer, place_of, set_at};
 ghost use Rattle.bocage.specs.declared.parts.Part.{Part as ThePart};
 ghost use Rattle.bocage.specs.Parts.{part_at};
-ghost use Rattle.bocage.specs.Walk.{FitsPart, GrowsBy, whole_keys, AddsWholes, IsFrontFound, IsLastFound, node_of_item, IsPlaced, Knows, Lists, IsGroup, IsNext, IsUsedIn, AreCandidates, BeginsIn, MayBegin, ListsKey, IsBegun, AreWalked, is_high};
+ghost use Rattle.bocage.specs.Rows.{between};
+ghost use Rattle.bocage.specs.Joins.{front_of_join};
+ghost use Rattle.bocage.specs.Walk.{FitsPart, GrowsBy, whole_keys, AddsWholes, IsFrontFound, IsLastFound, node_of_item, Knows, Lists, IsGroupOf, AreJoinsOf, IsNext, IsNew, BeginsIn, MayBegin, ListsKey, IsBegun, is_high, IsUsedIn};
 
 use crate::ForestRefusal;
-use crate::index::Placed;
-use crate::parts::{
-    Part, end_of_length, is_null_high, parts_between, parts_of, parts_over, parts_to,
-};
-use crate::rows::{AlternativeRow, LastRow, NodeRow};
+use crate::groups::Group;
+use crate::joins::{Join, joins_of};
+use crate::parts::{Part, is_null_high, parts_between};
+use crate::rows::{AlternativeRow, LastRow, number};
 use earley_sets::Recce;
 use grammar_core::{Flat, Written};
 use grammar_model::Ranking;
 use indexmap::IndexSet;
 use recognizer_model::{Item, NodeKey};
-use std::alloc::Global;
+use smallvec::SmallVec;
 
-/// What is looked up on the way.
+/// What is looked up where nodes end at one place: the parts that end there and begin at `least` or behind it.
 #[derive(Clone, Copy, Drop)]
 pub struct Known<'k> {
     pub recce: &'k Recce<'k>,
     pub written: &'k Written,
     pub ranking: Ranking,
-    pub items: &'k IndexSet<Placed>,
+    pub end: u32,
+    pub least: u32,
     pub parts: &'k [Part],
+    pub groups: &'k [Group],
+    pub joins: &'k [Join],
 }
 
-/// Nodes by their numbers, and what was found of them.
+/// Nodes by their numbers, the alternatives of the one that is looked at, and the nodes of whole rules.
 #[derive(Drop)]
 pub struct Found {
     pub keys: IndexSet<NodeKey>,
-    pub alternatives: Vec<AlternativeRow>,
+    pub alternatives: SmallVec<AlternativeRow, 4>,
     pub wholes: Vec<u32>,
 }
 
@@ -43,11 +46,8 @@ fn number_of(keys: &mut IndexSet<NodeKey>, key: NodeKey) -> Result<u32, ForestRe
     ensures number { IfOk result (λ n. slice_get keys.new.keys n ≡ Some key) }
     ensures grows { OnOk result (GrowsBy (λ k. k ≡ key) keys.old.keys keys.new.keys) }
 {
-    let (number, _) = keys.insert_full(key)?;
-    match u32::try_from(number) {
-        Ok(number) => Ok(number),
-        Err(_) => Err(ForestRefusal::NoMemory),
-    }
+    let (at, _) = keys.insert_full(key)?;
+    number(at)
 }
 
 // The number of the node of the parts before the last one, if there are any.
@@ -86,7 +86,7 @@ fn put_whole(
 {
     flat.known();
     if let Some(whole) = part.whole {
-        let number = number_of(
+        let node = number_of(
             keys,
             NodeKey {
                 rule: whole.rule,
@@ -95,7 +95,7 @@ fn put_whole(
                 end: part.end,
             },
         )?;
-        wholes.push(number)?;
+        wholes.push(node)?;
     }
     Ok(())
 }
@@ -132,68 +132,57 @@ fn last_of(
     if parts[0].whole.is_none() {
         return Ok(LastRow::Edge);
     }
-    let first = wholes.len();
+    let first = number(wholes.len())?;
     put_wholes(flat, parts, keys, wholes)?;
     Ok(LastRow::Wholes {
         first,
-        end: wholes.len(),
+        end: number(wholes.len())?,
     })
 }
 
-fn has(known: &Known<'_>, place: u32, item: Item) -> bool
-    requires { Knows known.now }
-    ensures { IsTrue result ↔ ((place ≤ place_of known.now.recce.now) × Contains (set_at known.now.recce.now place) item) }
-{
-    known.items.contains(&Placed { place, item })
-}
-
-// Puts the alternative of parts over one span, if the parts before are there.
+// Puts the alternative of parts over one span.
 fn put_alternative(
     known: &Known<'_>,
     front: Item,
-    parts: &[Part],
+    group: Group,
     found: &mut Found,
 ) -> Result<(), ForestRefusal>
     requires knows { Knows known.now }
-    requires group { IsGroup known.now.parts.now parts.now }
-    requires next { IsNext known.now front (part_at parts.now 0).symbol (part_at parts.now 0).end }
-    ensures { OnOk result (Lists known.now front (part_at parts.now 0).symbol (part_at parts.now 0).end (λ m. m + (part_at parts.now 0).length ≡ (part_at parts.now 0).end) found.old found.new) }
+    requires group { IsGroupOf known.now group }
+    requires next { IsNext known.now front group.symbol }
+    requires there { Contains (set_at known.now.recce.now group.start) front }
+    ensures { OnOk result (Lists known.now front group.symbol (λ m. m ≡ group.start) found.old found.new) }
 {
-    let start = parts[0].end - parts[0].length;
-    if has(known, start, front) {
-        let front = front_of(&mut found.keys, front, start)?;
-        let last = last_of(
-            known.recce.flat(),
-            parts,
-            &mut found.keys,
-            &mut found.wholes,
-        )?;
-        found
-            .alternatives
-            .push(AlternativeRow { start, front, last })?;
-    }
+    let start = group.start;
+    let parts = parts_between(known.parts, group.first, group.past);
+    let front = front_of(&mut found.keys, front, start)?;
+    let last = last_of(
+        known.recce.flat(),
+        parts,
+        &mut found.keys,
+        &mut found.wholes,
+    )?;
+    found
+        .alternatives
+        .push(AlternativeRow { start, front, last })?;
     Ok(())
 }
 
-// Puts the alternatives of parts that derive one symbol up to one place.
+// Puts the alternatives of joins, which all have the item.
 fn put_alternatives(
     known: &Known<'_>,
     front: Item,
     symbol: u32,
-    end: u32,
-    parts: &[Part],
+    joins: &[Join],
     found: &mut Found,
 ) -> Result<(), ForestRefusal>
     requires knows { Knows known.now }
-    requires parts { AreCandidates known.now.parts.now front symbol end parts.now }
-    requires next { IsNext known.now front symbol end }
-    ensures { OnOk result (Lists known.now front symbol end (BeginsIn parts.now) found.old found.new) }
+    requires joins { AreJoinsOf known.now front joins.now }
+    requires next { IsNext known.now front symbol }
+    ensures { OnOk result (Lists known.now front symbol (BeginsIn known.now joins.now) found.old found.new) }
 {
-    let mut k = 0;
-    while k < parts.len() {
-        let past = end_of_length(parts, k);
-        put_alternative(known, front, parts_between(parts, k, past), found)?;
-        k = past;
+    for join in joins {
+        put_alternative(known, front, known.groups[join.group as usize], found)?;
     }
     Ok(())
 }
@@ -203,17 +192,16 @@ fn put_nothing(
     known: &Known<'_>,
     front: Item,
     symbol: u32,
-    end: u32,
     found: &mut Found,
 ) -> Result<(), ForestRefusal>
     requires knows { Knows known.now }
-    requires next { IsNext known.now front symbol end }
-    ensures { OnOk result (Lists known.now front symbol end (λ m. (m ≡ end) × IsNullable known.now.recce.now.flat symbol) found.old found.new) }
+    requires next { IsNext known.now front symbol }
+    ensures { OnOk result (Lists known.now front symbol (λ m. (m ≡ known.now.end) × IsNullable known.now.recce.now.flat symbol) found.old found.new) }
 {
-    if known.recce.flat().nullable(symbol) && has(known, end, front) {
-        let front = front_of(&mut found.keys, front, end)?;
+    if known.recce.flat().nullable(symbol) && known.recce.has(known.end, front) {
+        let front = front_of(&mut found.keys, front, known.end)?;
         found.alternatives.push(AlternativeRow {
-            start: end,
+            start: known.end,
             front,
             last: LastRow::Nothing,
         })?;
@@ -221,37 +209,22 @@ fn put_nothing(
     Ok(())
 }
 
-// The parts that may stand behind some first parts. Behind none only those that begin at the origin may.
-fn candidates<'k>(known: &Known<'k>, front: Item, symbol: u32, end: u32) -> &'k [Part]
-    requires knows { Knows known.now }
-    requires origin { front.origin ≤ end }
-    ensures { AreCandidates known.now.parts.now front symbol end result.now }
-{
-    let parts = parts_of(parts_to(known.parts, end), symbol);
-    if front.dot == 0 {
-        parts_over(parts, end - front.origin)
-    } else {
-        parts
-    }
-}
-
 // Puts the alternatives of a node whose rule puts nulled last parts first.
 fn put_nothing_first(
     known: &Known<'_>,
     front: Item,
     symbol: u32,
-    end: u32,
-    parts: &[Part],
+    joins: &[Join],
     found: &mut Found,
 ) -> Result<(), ForestRefusal>
     requires knows { Knows known.now }
     requires high { IsTrue (is_high known.now front) }
-    requires parts { AreCandidates known.now.parts.now front symbol end parts.now }
-    requires next { IsNext known.now front symbol end }
-    ensures { OnOk result (Lists known.now front symbol end (MayBegin known.now front symbol end) found.old found.new) }
+    requires joins { AreJoinsOf known.now front joins.now }
+    requires next { IsNext known.now front symbol }
+    ensures { OnOk result (Lists known.now front symbol (MayBegin known.now symbol) found.old found.new) }
 {
-    put_nothing(known, front, symbol, end, found)?;
-    put_alternatives(known, front, symbol, end, parts, found)
+    put_nothing(known, front, symbol, found)?;
+    put_alternatives(known, front, symbol, joins, found)
 }
 
 // Puts the alternatives of a node whose rule puts nulled last parts last.
@@ -259,18 +232,17 @@ fn put_nothing_last(
     known: &Known<'_>,
     front: Item,
     symbol: u32,
-    end: u32,
-    parts: &[Part],
+    joins: &[Join],
     found: &mut Found,
 ) -> Result<(), ForestRefusal>
     requires knows { Knows known.now }
     requires low { IsFalse (is_high known.now front) }
-    requires parts { AreCandidates known.now.parts.now front symbol end parts.now }
-    requires next { IsNext known.now front symbol end }
-    ensures { OnOk result (Lists known.now front symbol end (MayBegin known.now front symbol end) found.old found.new) }
+    requires joins { AreJoinsOf known.now front joins.now }
+    requires next { IsNext known.now front symbol }
+    ensures { OnOk result (Lists known.now front symbol (MayBegin known.now symbol) found.old found.new) }
 {
-    put_alternatives(known, front, symbol, end, parts, found)?;
-    put_nothing(known, front, symbol, end, found)
+    put_alternatives(known, front, symbol, joins, found)?;
+    put_nothing(known, front, symbol, found)
 }
 
 // Puts the alternatives of a node.
@@ -278,27 +250,27 @@ fn put_node(
     known: &Known<'_>,
     front: Item,
     symbol: u32,
-    end: u32,
     found: &mut Found,
 ) -> Result<(), ForestRefusal>
     requires knows { Knows known.now }
     requires rule { IsRule known.now.recce.now.flat front.rule }
-    requires next { IsNext known.now front symbol end }
-    requires origin { front.origin ≤ end }
-    ensures { OnOk result (Lists known.now front symbol end (MayBegin known.now front symbol end) found.old found.new) }
+    requires next { IsNext known.now front symbol }
+    ensures { OnOk result (Lists known.now front symbol (MayBegin known.now symbol) found.old found.new) }
 {
-    let parts = candidates(known, front, symbol, end);
+    let joins = joins_of(known.joins, front);
     if is_null_high(known.recce.flat(), known.written, front.rule) {
-        put_nothing_first(known, front, symbol, end, parts, found)
+        put_nothing_first(known, front, symbol, joins, found)
     } else {
-        put_nothing_last(known, front, symbol, end, parts, found)
+        put_nothing_last(known, front, symbol, joins, found)
     }
 }
 
-// Puts the alternatives of a node by its key.
-fn put_key(known: &Known<'_>, key: NodeKey, found: &mut Found) -> Result<(), ForestRefusal>
+/// Puts the alternatives of a node by its key.
+pub fn put_key(known: &Known<'_>, key: NodeKey, found: &mut Found) -> Result<(), ForestRefusal>
     requires knows { Knows known.now }
     requires used { IsUsedIn known.now.recce.now key }
+    requires end { key.end ≡ known.now.end }
+    requires least { known.now.least ≤ key.origin }
     ensures { OnOk result (ListsKey known.now key found.old found.new) }
 {
     let front = Item {
@@ -307,7 +279,7 @@ fn put_key(known: &Known<'_>, key: NodeKey, found: &mut Found) -> Result<(), For
         origin: key.origin,
     };
     let symbol = known.recce.flat().rhs(key.rule)[front.dot as usize];
-    put_node(known, front, symbol, key.end, found)
+    put_node(known, front, symbol, found)
 }
 
 /// Begins with the node of the whole, if it spans something.
@@ -332,44 +304,9 @@ pub fn begin(recce: &Recce<'_>, keys: &mut IndexSet<NodeKey>) -> Result<Option<u
     )?))
 }
 
-fn count(rows: &[AlternativeRow]) -> usize
-    ensures { result ≡ length rows.now }
-{
-    rows.len()
-}
-
 /// States that no node has two numbers.
 pub fn differ(keys: &IndexSet<NodeKey>)
     ensures { AllPairs (λ x y. x ≢ y) keys.now.keys }
 {
     let _keys = keys.as_slice();
-}
-
-/// Finds all nodes that are met.
-pub fn walk(
-    alloc: Global,
-    known: &Known<'_>,
-    found: &mut Found,
-) -> Result<Vec<NodeRow>, ForestRefusal>
-    requires knows { Knows known.now }
-    requires used { (key : TheKey) → Contains found.old.keys.keys key → IsUsedIn known.now.recce.now key }
-    requires alternatives { found.old.alternatives.items ≡ [] }
-    requires wholes { found.old.wholes.items ≡ [] }
-    ensures walked { IfOk result (λ nodes. AreWalked known.now nodes.items (length found.new.keys.keys) found.new) }
-    ensures begins { OnOk result (GrowsBy (IsUsedIn known.now.recce.now) found.old.keys.keys found.new.keys.keys) }
-{
-    let mut nodes = Vec::new(alloc);
-    for n in 0..usize::MAX {
-        let Some(key) = found.keys.get_index(n).copied() else {
-            return Ok(nodes);
-        };
-        let first = count(&found.alternatives);
-        put_key(known, key, found)?;
-        nodes.push(NodeRow {
-            key,
-            first,
-            end: count(&found.alternatives),
-        })?;
-    }
-    Err(ForestRefusal::NoMemory)
 }

@@ -25,8 +25,6 @@ mod structural;
 mod symbols;
 mod tables;
 mod telling;
-#[cfg(test)]
-mod tests;
 mod texts;
 mod uses;
 mod values;

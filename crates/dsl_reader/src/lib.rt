@@ -9,8 +9,6 @@ mod refusal;
 mod spelling;
 mod statement_laws;
 mod statements;
-#[cfg(test)]
-mod tests;
 
 pub use dsl_statement::{Adverb, Alternative, Description, Element, Spelled, Statement};
 pub use parsing::parse;

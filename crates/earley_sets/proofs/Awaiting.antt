@@ -7,13 +7,13 @@ use Rattle.std.proofs.lemmas.List.Elements.{Contains-get_or, Contains-append_lef
 use Rattle.recognizer_model.specs.declared.flat.FlatSymbol.TheVariants.{Terminal}
 use Rattle.recognizer_model.specs.Flat.{FlatGrammar}
 use Rattle.recognizer_model.specs.Invariant.{IsArranged}
-use Rattle.earley_sets.specs.declared.rows.Waiting.{Waiting}
+use Rattle.recognizer_model.specs.declared.Item.{Item}
 use Rattle.earley_sets.specs.Kept.{IsAwaited, IsAwaitedTerminal, AddsAwaited}
 use Rattle.earley_sets.proofs.Membership.{Contains-none}
 
-module _ (g : FlatGrammar) (arranged : IsArranged g) (waiting : List Waiting) where
+module _ (g : FlatGrammar) (arranged : IsArranged g) (row : List Item) where
   abbrev pub AreListed : List ℕ → ℕ → Type 0
-  AreListed ts n = AllPairs (λ s t. s < t) ts × ((t : ℕ) → Contains ts t ↔ IsAwaitedTerminal g waiting n t)
+  AreListed ts n = AllPairs (λ s t. s < t) ts × ((t : ℕ) → Contains ts t ↔ IsAwaitedTerminal g row n t)
 
   pub none_listed : AreListed [] 0
   none_listed = ((λ i j d lt below. absurd (omega arith)), λ t. ((λ h. absurd (Contains-none t h)), (λ (x, lt, is, a). absurd (omega arith))))
@@ -21,14 +21,14 @@ module _ (g : FlatGrammar) (arranged : IsArranged g) (waiting : List Waiting) wh
   same_terminal : (s t : ℕ) → Some (Terminal s) ≡ Some (Terminal t) → s ≡ t
   same_terminal s t e = cc
 
-  pub more_listed : (old new : List ℕ) (k : ℕ) → AreListed old k → AddsAwaited g waiting k old new → AreListed new (k + 1)
+  pub more_listed : (old new : List ℕ) (k : ℕ) → AreListed old k → AddsAwaited g row k old new → AreListed new (k + 1)
   more_listed old new k (order, exact) (inr (same, none)) = subst (λ l. AreListed l (k + 1)) (sym same) (
     order,
     λ t. (
       λ h. (let (x, lt, is, a) = (exact t).0 h in (x, omega arith, is, a)),
       λ (x, lt, is, a). elim (cases_lt x k) [
         | inl l ↦ (exact t).1 (x, l, is, a)
-        | inr le ↦ let here : x ≡ k = omega arith in absurd (none t (subst (λ z. slice_get g.symbols z ≡ Some (Terminal t)) here is) (subst (IsAwaited waiting) here a))
+        | inr le ↦ let here : x ≡ k = omega arith in absurd (none t (subst (λ z. slice_get g.symbols z ≡ Some (Terminal t)) here is) (subst (IsAwaited g row) here a))
       ],
     ),
   )
@@ -44,13 +44,13 @@ module _ (g : FlatGrammar) (arranged : IsArranged g) (waiting : List Waiting) wh
           let same : s' ≡ s = same_terminal s' s (sym is'' ∙ is') in
           subst (λ z. z < t) same less
 
-      there : (u : ℕ) → Contains (old ++ t ∷ []) u → IsAwaitedTerminal g waiting (k + 1) u
+      there : (u : ℕ) → Contains (old ++ t ∷ []) u → IsAwaitedTerminal g row (k + 1) u
       there u h = elim (Contains-push_cases old t u h) [
         | inl o ↦ let (x, lt, i, b) = (exact u).0 o in (x, omega arith, i, b)
         | inr s ↦ (k, omega arith, is ∙ ap (λ z. Some (Terminal z)) s, a)
       ]
 
-      back : (u : ℕ) → IsAwaitedTerminal g waiting (k + 1) u → Contains (old ++ t ∷ []) u
+      back : (u : ℕ) → IsAwaitedTerminal g row (k + 1) u → Contains (old ++ t ∷ []) u
       back u (x, lt, i, b) = elim (cases_lt x k) [
         | inl l ↦ Contains-append_left old (t ∷ []) u ((exact u).1 (x, l, i, b))
         | inr le ↦

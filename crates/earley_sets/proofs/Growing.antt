@@ -5,11 +5,11 @@ use Rattle.recognizer_model.specs.declared.Item.{Item}
 use Rattle.earley_sets.specs.Closing.{Adds}
 use Rattle.earley_sets.specs.Closing.{Grows}
 
-Adds-begins : (old new : List Item) (item : Item) → Adds old new item → (more : List Item) × (new ≡ old ++ more)
+pub Adds-begins : (old new : List Item) (item : Item) → Adds old new item → (more : List Item) × (new ≡ old ++ more)
 Adds-begins old new item (inl (e, there)) = ([], e ∙ sym (append-nil old))
 Adds-begins old new item (inr (e, not_there)) = (item ∷ [], e)
 
-Adds-has : (old new : List Item) (item k : Item) → Adds old new item → Contains new k ↔ (Contains old k ⊎ (item ≡ k))
+pub Adds-has : (old new : List Item) (item k : Item) → Adds old new item → Contains new k ↔ (Contains old k ⊎ (item ≡ k))
 Adds-has old new item k (inl (e, there)) = (λ h. inl (subst (λ l. Contains l k) e h), λ h. elim h [ inl a ↦ subst (λ l. Contains l k) (sym e) a | inr b ↦ subst (λ l. Contains l k) (sym e) (subst (Contains old) b there) ])
 Adds-has old new item k (inr (e, not_there)) = (
   λ h. Contains-push_cases old item k (subst (λ l. Contains l k) e h),

@@ -5,7 +5,7 @@ use Rattle.recognizer_model.specs.Flat.{FlatGrammar}
 use Rattle.earley_sets.specs.Kept.{IsItem, AreItems}
 use Rattle.earley_sets.specs.Closing.{IsReached, Seed, Step, Grows}
 use Rattle.earley_sets.specs.Loops.{IsClosedTo}
-use Rattle.earley_sets.proofs.Membership.{Contains-none, got_at, got_item}
+use Rattle.earley_sets.proofs.Membership.{got_at, got_item}
 
 pub got_none : (xs : List Item) (k : ℕ) → Path (Option Item) None (slice_get xs k) → length xs ≤ k
 got_none [] k e = omega arith
@@ -31,8 +31,8 @@ module _ (g : FlatGrammar) (F : Item → Item → Type 0) where
 
     pub closed_more : (item : Item) (next new : List Item) → Some item ≡ slice_get keys k →
         ((other : Item) → F item other → IsItem g other) →
-        ((other : Item) → Contains next other ↔ (Contains [] other ⊎ F item other)) → Grows keys new next → IsClosedTo g F seeds new (k + 1)
-    closed_more item next new at are listed grows =
+        ((other : Item) → Contains next other → F item other) → ((other : Item) → F item other → Contains keys other ⊎ Contains next other) → Grows keys new next → IsClosedTo g F seeds new (k + 1)
+    closed_more item next new at are only all grows =
         let there = got_item keys k item at in
         let (lt, same) = got_at keys k item item at in
         let (more, e) = grows.begins in
@@ -41,7 +41,7 @@ module _ (g : FlatGrammar) (F : Item → Item → Type 0) where
           begun = λ other h. kept other (inv.begun other h);
           reached = λ other h. elim ((grows.has other).0 h) [
             | inl old ↦ inv.reached other old
-            | inr n ↦ elim ((listed other).0 n) [ inl none ↦ absurd (Contains-none other none) | inr f ↦ Step (inv.reached item there) f ]
+            | inr n ↦ Step (inv.reached item there) (only other n)
           ];
           followed = λ i d below other f. elim (le_or_above i k) [
             | inl before ↦
@@ -50,11 +50,11 @@ module _ (g : FlatGrammar) (F : Item → Item → Type 0) where
             | inr now ↦
                 let here : i ≡ k = omega arith in
                 let it : get_or new i d ≡ item = ap (λ n. get_or new n d) here ∙ (ap (λ l. get_or l k d) e ∙ (get_or_append_left keys more d k lt ∙ (got_at keys k item d at).1)) in
-                (grows.has other).1 (inr ((listed other).1 (inr (subst (λ b. F b other) it f))))
+                (grows.has other).1 (all other (subst (λ b. F b other) it f))
           ];
           within = let l : length new ≡ length keys + length more = ap length e ∙ length-append keys more in omega arith;
           items = λ other h. elim ((grows.has other).0 h) [
             | inl old ↦ inv.items other old
-            | inr n ↦ elim ((listed other).0 n) [ inl none ↦ absurd (Contains-none other none) | inr f ↦ are other f ]
+            | inr n ↦ are other (only other n)
           ];
         }

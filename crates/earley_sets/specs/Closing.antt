@@ -2,23 +2,40 @@ use Rattle.std.specs.Prelude.{◌≡◌, ℕ, ◌<◌, ◌++◌, ◌∷◌, [], 
 use Rattle.recognizer_model.specs.declared.Item.{Item}
 use Rattle.recognizer_model.specs.Flat.{FlatGrammar, IsRule, lhs_of, IsNullable}
 use Rattle.recognizer_model.specs.Items.{after, IsWhole, first_item, advanced}
-use Rattle.earley_sets.specs.Kept.{Kept, items_at}
+use Rattle.item_rows.specs.Rows.{row_at}
+use Rattle.leo_items.specs.ByRows.{IsNotLeoIn, LeadsIn}
 
--- what an item before that symbol leads to
-abbrev pub IsBegun : FlatGrammar → (place : ℕ) → Item → (symbol : ℕ) → Item → Type 0
-IsBegun g place item x other =
-    ((r : ℕ) × IsRule g r × (lhs_of g r ≡ x) × (other ≡ first_item r place)) ⊎ (IsNullable g x × (other ≡ advanced item))
+-- a rule of the symbol begins at the place
+abbrev pub IsPredicted : FlatGrammar → (place symbol : ℕ) → Item → Type 0
+IsPredicted g place x other = (r : ℕ) × IsRule g r × (lhs_of g r ≡ x) × (other ≡ first_item r place)
+
+-- where one rule of a symbol has begun at the place, all have
+abbrev pub BeginTogether : FlatGrammar → (place : ℕ) → (set : List Item) → Type 0
+BeginTogether g place set = (r s : ℕ) → IsRule g r → IsRule g s → lhs_of g r ≡ lhs_of g s → Contains set (first_item r place) → Contains set (first_item s place)
+
+-- what an item before that symbol leads to, without the rules that have begun in the set
+abbrev pub IsBegun : FlatGrammar → (place : ℕ) → (set : List Item) → Item → (symbol : ℕ) → Item → Type 0
+IsBegun g place set item x other = (IsPredicted g place x other × (¬ Contains set other)) ⊎ (IsNullable g x × (other ≡ advanced item))
 
 -- an item that waits for the symbol, with its dot advanced
 abbrev pub IsAdvancedOver : FlatGrammar → List Item → (symbol : ℕ) → Item → Type 0
 IsAdvancedOver g items x other = (w : Item) × Contains items w × (after g w ≡ Some x) × (other ≡ advanced w)
 
+-- what the completion of a symbol that began in an earlier set leads to
+abbrev pub IsDone : FlatGrammar → (rows : List (List Item)) → (i x : ℕ) → Item → Type 0
+IsDone g rows i x other = (IsNotLeoIn g rows i x × IsAdvancedOver g (row_at rows i) x other) ⊎ LeadsIn g rows i x other
+
 -- one item leads to another in the same set
-pub data Follows (g : FlatGrammar) (rows : List Kept) (place : ℕ) (item : Item) : Item → Type 0 where
+pub data Follows (g : FlatGrammar) (rows : List (List Item)) (place : ℕ) (item : Item) : Item → Type 0 where
   Predicts : {x r : ℕ} → after g item ≡ Some x → IsRule g r → lhs_of g r ≡ x → Follows g rows place item (first_item r place)
   Skips : {x : ℕ} → after g item ≡ Some x → IsNullable g x → Follows g rows place item (advanced item)
-  Completes : {waiting : Item} → IsWhole g item → item.origin < place → Contains (items_at rows item.origin) waiting →
-      after g waiting ≡ Some (lhs_of g item.rule) → Follows g rows place item (advanced waiting)
+  Completes : {waiting : Item} → IsWhole g item → item.origin < place → IsNotLeoIn g rows item.origin (lhs_of g item.rule) →
+      Contains (row_at rows item.origin) waiting → after g waiting ≡ Some (lhs_of g item.rule) → Follows g rows place item (advanced waiting)
+  Leaps : {topmost : Item} → IsWhole g item → item.origin < place → LeadsIn g rows item.origin (lhs_of g item.rule) topmost → Follows g rows place item topmost
+
+-- what follows from an item, without the rules that have begun in the set
+abbrev pub FollowsAnew : FlatGrammar → (rows : List (List Item)) → (place : ℕ) → (set : List Item) → Item → Item → Type 0
+FollowsAnew g rows place set item other = Follows g rows place item other × (other.dot ≡ 0 → ¬ Contains set other)
 
 -- what some items lead to
 pub data IsReached (F : Item → Item → Type 0) (seeds : List Item) : Item → Type 0 where

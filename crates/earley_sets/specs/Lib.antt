@@ -1,8 +1,9 @@
 pub mod Kept
-pub mod Rows
 pub mod Closing
 pub mod Loops
 pub mod Scanning
+pub mod Tried
 pub mod Recognizer
-pub mod Example
+pub mod Counted
+pub mod Hidden
 pub mod Laws

@@ -1,6 +1,6 @@
--- Recognizers: the edges that they hold, and the item sets of all places so far.
--- Sources: Earley 1970 (item sets); Aycock and Horspool 2002 (nullable symbols); the Libmarpa manual (alternatives, earlemes).
-use Rattle.std.specs.Prelude.{◌≡◌, ℕ, ◌-◌, ◌+◌, ◌<◌, ◌≤◌, List, [], length, map, slice_get, slice_index, slice_index_or, Some, Contains}
+-- Recognizers: the edges that they hold, the reduced item sets of all places so far, and the Leo pairs that were noted.
+-- Sources: Earley 1970 (item sets); Leo 1991 (reduced sets); Aycock and Horspool 2002 (nullable symbols); the Libmarpa manual (alternatives, earlemes).
+use Rattle.std.specs.Prelude.{◌≡◌, ◌≢◌, ℕ, ◌-◌, ◌+◌, ◌<◌, ◌≤◌, List, [], length, slice_get, slice_index, slice_index_or, Some, Contains, AllPairs}
 use Rattle.grammar_model.specs.declared.Edge.{Edge as HeldEdge}
 use Rattle.grammar_model.specs.Grammar.{slot_of}
 use Rattle.grammar_model.specs.Trees.{Tree}
@@ -12,9 +12,12 @@ use Rattle.recognizer_model.specs.declared.flat.FlatSymbol.TheVariants.{Terminal
 use Rattle.recognizer_model.specs.FlatForm.{FlatEdges}
 use Rattle.recognizer_model.specs.View.{grammar_view}
 use Rattle.recognizer_model.specs.Invariant.{IsFlat}
-use Rattle.recognizer_model.specs.Items.{InSet}
+use Rattle.recognizer_model.specs.Leo.{InReduced, IsLeo}
 use Rattle.recognizer_model.specs.Counts.{IsListOf}
-use Rattle.earley_sets.specs.Kept.{Kept, AreIndexed}
+use Rattle.item_rows.specs.Kept.{AreRows}
+use Rattle.leo_items.specs.declared.memo.Pair.{Pair}
+use Rattle.leo_items.specs.Memo.{Note}
+use Rattle.leo_items.specs.ByRows.{IsMemo}
 
 -- the start is a place among the grammar's starts
 pub record Recognizer : Type 0 where
@@ -22,6 +25,7 @@ pub record Recognizer : Type 0 where
   pub start : ℕ
   pub edges : List HeldEdge
   pub sets : List (List Item)
+  pub noted : List Pair
 
 -- the last place of which the set is made
 abbrev pub place_of : Recognizer → ℕ
@@ -32,6 +36,10 @@ set_at r j = slice_index_or r.sets j []
 
 abbrev pub edges_of : Recognizer → Edges
 edges_of r = FlatEdges r.flat (Held r.edges)
+
+-- how many pairs were noted
+abbrev pub made : Recognizer → ℕ
+made r = length r.noted
 
 -- the rule of the start's top, and the start's symbol
 abbrev pub top_of : Recognizer → ℕ
@@ -52,19 +60,26 @@ IsExpected r t = (x : ℕ) × (slice_get r.flat.symbols x ≡ Some (Terminal t))
 abbrev pub HasTree : Recognizer → Type 0
 HasTree r = (tree : Tree) × Derives (grammar_view r.flat) (edges_of r) (slot_of (start_symbol r)) 0 (place_of r) tree
 
+-- a pair of a place so far has a Leo item
+abbrev pub IsLeoPair : Recognizer → Pair → Type 0
+IsLeoPair r pair = (pair.set ≤ place_of r) × ((item : Item) × IsLeo r.flat (edges_of r) (top_of r) pair.set pair.symbol item)
+
 pub record IsRecognizer (r : Recognizer) : Type 0 where
   pub flat : IsFlat r.flat
   pub start : r.start < length r.flat.tops
   pub some : 0 < length r.sets
   pub in_range : place_of r ≤ 16777216
+  pub once : AllPairs (λ d e. d ≢ e) r.edges
   pub forward : (e : HeldEdge) → Contains r.edges e → e.from < e.to
   pub begun : (e : HeldEdge) → Contains r.edges e → e.from ≤ place_of r
   pub known : (e : HeldEdge) → Contains r.edges e → (x : ℕ) × (slice_get r.flat.symbols x ≡ Some (Terminal e.symbol))
-  pub exact : (j : ℕ) → j < length r.sets → IsListOf (InSet r.flat (edges_of r) (top_of r) j) (set_at r j)
+  pub exact : (j : ℕ) → j < length r.sets → IsListOf (InReduced r.flat (edges_of r) (top_of r) j) (set_at r j)
+  pub noted_once : AllPairs (λ p q. p ≢ q) r.noted
+  pub noted_leo : (pair : Pair) → Contains r.noted pair → IsLeoPair r pair
 
--- the recognizer's sets, with those of their items that wait for a symbol
-pub record IsKeptBy (r : Recognizer) (rows : List Kept) (top : ℕ) : Type 0 where
+-- the recognizer's sets are rows, and what is noted of their pairs is right
+pub record IsKept (r : Recognizer) (top : ℕ) (notes : List Note) : Type 0 where
   pub is : IsRecognizer r
-  pub indexed : AreIndexed r.flat rows
-  pub sets : r.sets ≡ map (λ k. k.items) rows
+  pub rows : AreRows r.flat r.sets
+  pub memo : IsMemo r.flat r.sets notes
   pub top_is : top ≡ top_of r

@@ -5,29 +5,30 @@ use Rattle.recognizer_model.specs.declared.Item.{Item}
 use Rattle.recognizer_model.specs.Flat.{FlatGrammar}
 use Rattle.recognizer_model.specs.declared.flat.FlatSymbol.TheVariants.{Terminal}
 use Rattle.recognizer_model.specs.FlatForm.{FlatEdges}
-use Rattle.recognizer_model.specs.Items.{InSet, after, first_item, advanced}
-use Rattle.earley_sets.specs.Kept.{Kept, items_at}
+use Rattle.recognizer_model.specs.Items.{after, first_item, advanced}
+use Rattle.recognizer_model.specs.Leo.{InReduced}
+use Rattle.item_rows.specs.Rows.{row_at}
 
 -- an edge of a terminal leads from an item that waits for it
-pub record IsScannedBy (g : FlatGrammar) (rows : List Kept) (edge : HeldEdge) (other : Item) : Type 0 where
+pub record IsScannedBy (g : FlatGrammar) (rows : List (List Item)) (edge : HeldEdge) (other : Item) : Type 0 where
   pub symbol : ℕ
   pub is_symbol : slice_get g.symbols symbol ≡ Some (Terminal edge.symbol)
   pub waiting : Item
-  pub there : Contains (items_at rows edge.from) waiting
+  pub there : Contains (row_at rows edge.from) waiting
   pub waits : after g waiting ≡ Some symbol
   pub same : other ≡ advanced waiting
 
 -- one of the edges that end at the place does
-abbrev pub IsScanned : FlatGrammar → List Kept → (place : ℕ) → List HeldEdge → Item → Type 0
+abbrev pub IsScanned : FlatGrammar → List (List Item) → (place : ℕ) → List HeldEdge → Item → Type 0
 IsScanned g rows place edges other = (edge : HeldEdge) × Contains edges edge × (edge.to ≡ place) × IsScannedBy g rows edge other
 
 -- what a set begins with
-abbrev pub IsSeed : FlatGrammar → List Kept → (top place : ℕ) → List HeldEdge → Item → Type 0
+abbrev pub IsSeed : FlatGrammar → List (List Item) → (top place : ℕ) → List HeldEdge → Item → Type 0
 IsSeed g rows top place edges item = ((place ≡ 0) × (item ≡ first_item top 0)) ⊎ IsScanned g rows place edges item
 
 abbrev pub GoForward : List HeldEdge → Type 0
 GoForward edges = (e : HeldEdge) → Contains edges e → e.from < e.to
 
--- the rows before a place are the full sets
-abbrev pub AreSets : FlatGrammar → List HeldEdge → (top : ℕ) → List Kept → (place : ℕ) → Type 0
-AreSets g edges top rows place = (i : ℕ) → i < place → (item : Item) → Contains (items_at rows i) item ↔ InSet g (FlatEdges g (Held edges)) top i item
+-- the rows before a place are the reduced sets
+abbrev pub AreReduced : FlatGrammar → List HeldEdge → (top : ℕ) → List (List Item) → (place : ℕ) → Type 0
+AreReduced g edges top rows place = (i : ℕ) → i < place → (item : Item) → Contains (row_at rows i) item ↔ InReduced g (FlatEdges g (Held edges)) top i item

@@ -1,24 +1,29 @@
 //! Sets that are closed: what an item leads to is there too.
-ghost use Rattle.std.specs.Prelude.{◌≡◌, ℕ, ◌<◌, ◌≤◌, ◌+◌, ◌↔◌, ◌⊎◌, [], length, slice_get, Some, OnOk, Contains};
+ghost use Rattle.std.specs.Prelude.{◌≡◌, ◌≢◌, ℕ, ◌<◌, ◌≤◌, ◌+◌, ◌^◌, ◌↔◌, ◌⊎◌, [], length, slice_get, Some, OnOk, Contains};
 ghost use Rattle.std.specs.List.{AllPairs};
 ghost use Rattle.recognizer_model.specs.declared.Item.{Item};
 ghost use Rattle.grammar_model.specs.declared.Edge.{Edge as HeldEdge};
 ghost use Rattle.grammar_model.specs.Derives.{Held};
 ghost use Rattle.recognizer_model.specs.Contexts.{IsTop};
 ghost use Rattle.recognizer_model.specs.FlatForm.{FlatEdges};
-ghost use Rattle.recognizer_model.specs.Items.{InSet, first_item};
-ghost use Rattle.earley_sets.specs.Kept.{IsItem, AreItems, AreIndexed};
-ghost use Rattle.earley_sets.specs.Closing.{Adds, Follows, IsReached, Grows};
-ghost use Rattle.earley_sets.specs.Scanning.{IsScanned, IsScannedBy, IsSeed, GoForward, AreSets};
+ghost use Rattle.recognizer_model.specs.Items.{first_item};
+ghost use Rattle.recognizer_model.specs.Leo.{InReduced};
+ghost use Rattle.recognizer_model.specs.Links.{IsLink};
+ghost use Rattle.leo_items.specs.ByRows.{IsMemo, NotesMore, AreNulled};
+ghost use Rattle.earley_sets.specs.Kept.{IsItem, AreItems, AreRows};
+ghost use Rattle.earley_sets.specs.Closing.{Adds, BeginTogether, Follows, IsReached, Grows};
+ghost use Rattle.earley_sets.specs.Scanning.{IsScanned, IsScannedBy, IsSeed, GoForward, AreReduced};
+ghost use Rattle.earley_sets.specs.Tried.{RisesBy, AwaitsEdge, MakesScan, MakesOne};
 
 use crate::follow::{list_completed, list_next};
-use crate::rows::Rows;
 use grammar_core::{Flat, SymbolId, TokenEdges};
 use grammar_model::Edge as HeldEdge;
 use indexmap::IndexSet;
+use item_rows::Rows;
+use leo_items::Memo;
 use recognizer_model::Item;
 use slif_base::Steps;
-use std::alloc::AllocFailed;
+use std::alloc::{AllocError, AllocFailed};
 use std::sync::ledger::Ledger;
 
 /// Tries to add an item, and counts the try.
@@ -41,7 +46,8 @@ fn add_items<L: Ledger>(
     items: &[Item],
     steps: &mut Steps<L>,
 ) -> Result<(), AllocFailed<Item>>
-    ensures { OnOk result (Grows set.old.keys set.new.keys items.now) }
+    ensures grows { OnOk result (Grows set.old.keys set.new.keys items.now) }
+    ensures counted { OnOk result (steps.new ≡ steps.old + length items.now) }
 {
     for item in items {
         add_item(set, *item, steps)?;
@@ -49,28 +55,44 @@ fn add_items<L: Ledger>(
     Ok(())
 }
 
+// The item of that number, in a set that has each item once.
+fn item_at(set: &IndexSet<Item>, k: usize) -> Option<Item>
+    ensures item { result ≡ slice_get set.now.keys k }
+    ensures once { AllPairs (λ x y. x ≢ y) set.now.keys }
+    ensures small { length set.now.keys < 2 ^ 63 }
+{
+    let _len = set.len();
+    set.get_index(k).copied()
+}
+
 // Adds whatever the items of the set lead to.
 fn close<L: Ledger>(
     flat: &Flat,
     rows: &Rows,
+    memo: &mut Memo,
     place: u32,
     set: &mut IndexSet<Item>,
     next: &mut Vec<Item>,
     steps: &mut Steps<L>,
-) -> Result<(), AllocFailed<Item>>
+) -> Result<(), AllocError>
     requires items { AreItems flat.now set.old.keys }
-    requires rows { AreIndexed flat.now rows.now }
+    requires rows { AreRows flat.now rows.now }
+    requires nulled { AreNulled flat.now rows.now }
+    requires memo { IsMemo flat.now rows.now memo.old }
     requires place { place ≤ length rows.now }
+    requires together { BeginTogether flat.now place set.old.keys }
     ensures items { OnOk result (AreItems flat.now set.new.keys) }
+    ensures memo { NotesMore flat.now rows.now memo.old memo.new }
     ensures closed { OnOk result ((item : Item) → Contains set.new.keys item ↔
         IsReached (Follows flat.now rows.now place) set.old.keys item) }
+    ensures counted { OnOk result (RisesBy (MakesOne flat.now rows.now place set.new.keys) (steps.old + length memo.new) (steps.new + length memo.old)) }
 {
     for k in 0..usize::MAX {
-        let Some(item) = set.get_index(k).copied() else {
+        let Some(item) = item_at(set, k) else {
             return Ok(());
         };
         next.clear();
-        list_next(flat, rows, place, item, next)?;
+        list_next(flat, rows, memo, place, set, item, next, steps)?;
         add_items(set, next, steps)?;
     }
     let _len = set.len();
@@ -84,48 +106,16 @@ fn list_by_edge(
     edge: HeldEdge,
     next: &mut Vec<Item>,
 ) -> Result<(), AllocFailed<Item>>
-    requires rows { AreIndexed flat.now rows.now }
+    requires rows { AreRows flat.now rows.now }
     requires from { edge.from < length rows.now }
-    ensures { OnOk result ((other : Item) → Contains next.new.items other ↔
+    ensures listed { OnOk result ((other : Item) → Contains next.new.items other ↔
         (Contains next.old.items other ⊎ IsScannedBy flat.now rows.now edge other)) }
+    ensures links { OnOk result (RisesBy (AwaitsEdge flat.now rows.now edge) (length next.old.items) (length next.new.items)) }
 {
     flat.known();
     match flat.terminal(SymbolId(edge.symbol)) {
         Some(symbol) => list_completed(flat, rows, edge.from, symbol, next),
         None => Ok(()),
-    }
-}
-
-// Lists the items that an edge advances, if it ends at the place.
-fn list_by_edge_to(
-    flat: &Flat,
-    rows: &Rows,
-    edge: HeldEdge,
-    place: u32,
-    next: &mut Vec<Item>,
-) -> Result<(), AllocFailed<Item>>
-    requires rows { AreIndexed flat.now rows.now }
-    requires from { edge.from < length rows.now }
-    ensures { OnOk result ((other : Item) → Contains next.new.items other ↔
-        (Contains next.old.items other ⊎ ((edge.to ≡ place) × IsScannedBy flat.now rows.now edge other))) }
-{
-    if edge.to == place {
-        list_by_edge(flat, rows, edge, next)
-    } else {
-        Ok(())
-    }
-}
-
-// An edge, as it is held.
-fn edge_at(edges: &TokenEdges, k: usize) -> HeldEdge
-    requires { k < length edges.now }
-    ensures { slice_get edges.now k ≡ Some result }
-{
-    let (from, edge) = edges.edge(k);
-    HeldEdge {
-        symbol: edge.symbol.0,
-        from,
-        to: from + edge.length,
     }
 }
 
@@ -135,22 +125,26 @@ fn list_scanned(
     rows: &Rows,
     edges: &TokenEdges,
     place: u32,
+    ending: &mut Vec<HeldEdge>,
     next: &mut Vec<Item>,
-) -> Result<(), AllocFailed<Item>>
-    requires rows { AreIndexed flat.now rows.now }
+) -> Result<(), AllocError>
+    requires rows { AreRows flat.now rows.now }
     requires begun { (e : HeldEdge) → Contains edges.now e → e.from < length rows.now }
-    ensures { OnOk result ((other : Item) → Contains next.new.items other ↔
+    ensures listed { OnOk result ((other : Item) → Contains next.new.items other ↔
         (Contains next.old.items other ⊎ IsScanned flat.now rows.now place edges.now other)) }
+    ensures links { OnOk result (RisesBy (MakesScan flat.now rows.now place edges.now) (length next.old.items) (length next.new.items)) }
 {
-    for k in edges.first_ending_at(place)..edges.count() {
-        list_by_edge_to(flat, rows, edge_at(edges, k), place, next)?;
+    edges.list_to(place, ending)?;
+    for edge in &*ending {
+        list_by_edge(flat, rows, *edge, next)?;
     }
     Ok(())
 }
 
 // Lists the item that the first place begins with.
 fn list_first(top: u32, place: u32, next: &mut Vec<Item>) -> Result<(), AllocFailed<Item>>
-    ensures { OnOk result ((item : Item) → Contains next.new.items item ↔ ((place ≡ 0) × (item ≡ first_item top 0))) }
+    ensures listed { OnOk result ((item : Item) → Contains next.new.items item ↔ ((place ≡ 0) × (item ≡ first_item top 0))) }
+    ensures none { OnOk result (0 < place → length next.new.items ≡ 0) }
 {
     next.clear();
     if place == 0 {
@@ -170,14 +164,16 @@ fn list_seeds(
     rows: &Rows,
     edges: &TokenEdges,
     place: u32,
+    ending: &mut Vec<HeldEdge>,
     next: &mut Vec<Item>,
-) -> Result<(), AllocFailed<Item>>
-    requires rows { AreIndexed flat.now rows.now }
+) -> Result<(), AllocError>
+    requires rows { AreRows flat.now rows.now }
     requires begun { (e : HeldEdge) → Contains edges.now e → e.from < length rows.now }
-    ensures { OnOk result ((item : Item) → Contains next.new.items item ↔ IsSeed flat.now rows.now top place edges.now item) }
+    ensures listed { OnOk result ((item : Item) → Contains next.new.items item ↔ IsSeed flat.now rows.now top place edges.now item) }
+    ensures links { OnOk result (0 < place → RisesBy (MakesScan flat.now rows.now place edges.now) 0 (length next.new.items)) }
 {
     list_first(top, place, next)?;
-    list_scanned(flat, rows, edges, place, next)
+    list_scanned(flat, rows, edges, place, ending, next)
 }
 
 // Begins a set anew with these items.
@@ -186,33 +182,62 @@ fn refill<L: Ledger>(
     items: &[Item],
     steps: &mut Steps<L>,
 ) -> Result<(), AllocFailed<Item>>
-    ensures { OnOk result ((item : Item) → Contains set.new.keys item ↔ Contains items.now item) }
+    ensures same { OnOk result ((item : Item) → Contains set.new.keys item ↔ Contains items.now item) }
+    ensures counted { OnOk result (steps.new ≡ steps.old + length items.now) }
 {
     set.clear();
     add_items(set, items, steps)
 }
 
-/// Makes the full set of a place. Nothing is known of the set after an error.
+/// What is used while a set is made.
+#[derive(Drop)]
+pub struct Work {
+    pub set: IndexSet<Item>,
+    pub next: Vec<Item>,
+    pub ending: Vec<HeldEdge>,
+}
+
+/// Makes the reduced set of a place. Nothing is known of the set after an error.
 pub fn make_set<L: Ledger>(
     flat: &Flat,
     top: u32,
     rows: &Rows,
+    memo: &mut Memo,
     edges: &TokenEdges,
     place: u32,
-    set: &mut IndexSet<Item>,
-    next: &mut Vec<Item>,
+    work: &mut Work,
     steps: &mut Steps<L>,
-) -> Result<(), AllocFailed<Item>>
+) -> Result<(), AllocError>
     requires top { IsTop flat.now top }
-    requires sets { AreSets flat.now edges.now top rows.now place }
-    requires rows { AreIndexed flat.now rows.now }
-    requires place { place ≤ length rows.now }
+    requires sets { AreReduced flat.now edges.now top rows.now place }
+    requires rows { AreRows flat.now rows.now }
+    requires memo { IsMemo flat.now rows.now memo.old }
+    requires place { place ≡ length rows.now }
     requires begun { (e : HeldEdge) → Contains edges.now e → e.from < length rows.now }
     requires forward { GoForward edges.now }
-    ensures items { OnOk result (AreItems flat.now set.new.keys) }
-    ensures exact { OnOk result ((item : Item) → Contains set.new.keys item ↔ InSet flat.now (FlatEdges flat.now (Held edges.now)) top place item) }
+    ensures items { OnOk result (AreItems flat.now work.new.set.keys) }
+    ensures memo { NotesMore flat.now rows.now memo.old memo.new }
+    ensures exact { OnOk result ((item : Item) → Contains work.new.set.keys item ↔ InReduced flat.now (FlatEdges flat.now (Held edges.now)) top place item) }
+    ensures counted { OnOk result (0 < place →
+        RisesBy (IsLink flat.now (FlatEdges flat.now (Held edges.now)) top place) (steps.old + length memo.new) (steps.new + length memo.old)) }
 {
-    list_seeds(flat, top, rows, edges, place, next)?;
-    refill(set, next, steps)?;
-    close(flat, rows, place, set, next, steps)
+    list_seeds(
+        flat,
+        top,
+        rows,
+        edges,
+        place,
+        &mut work.ending,
+        &mut work.next,
+    )?;
+    refill(&mut work.set, &work.next, steps)?;
+    close(
+        flat,
+        rows,
+        memo,
+        place,
+        &mut work.set,
+        &mut work.next,
+        steps,
+    )
 }

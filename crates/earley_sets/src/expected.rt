@@ -1,35 +1,35 @@
 //! The terminals that the items of a set wait for.
 ghost use Rattle.std.specs.Prelude.{◌≡◌, ℕ, ◌<◌, ◌↔◌, ◌⊎◌, ◌++◌, ◌∷◌, [], length, Some, slice_get, IsTrue, IfOk, OnOk, Contains};
 ghost use Rattle.std.specs.List.{AllPairs};
-ghost use Rattle.std.specs.List.Sorted.{IsNonDecreasingBy};
+ghost use Rattle.item_rows.specs.Order.{IsRow};
 ghost use Rattle.earley_sets.specs.Kept.{IsAwaited, IsAwaitedTerminal, AddsAwaited};
 
-use crate::follow::waiting_for;
-use crate::rows::Waiting;
 use grammar_core::{Flat, FlatSymbol, SymbolId};
+use item_rows::waiting;
+use recognizer_model::Item;
 use std::alloc::{AllocError, AllocFailed, Global};
 
-/// Whether an item waits for the symbol, in a list in order of symbols.
-pub fn is_awaited(row: &[Waiting], symbol: u32) -> bool
-    requires { IsNonDecreasingBy (λ w. w.symbol) row.now }
-    ensures { IsTrue result ↔ IsAwaited row.now symbol }
+/// Whether an item of a row waits for the symbol.
+pub fn is_awaited(flat: &Flat, row: &[Item], symbol: u32) -> bool
+    requires { IsRow flat.now row.now }
+    ensures { IsTrue result ↔ IsAwaited flat.now row.now symbol }
 {
-    !waiting_for(row, symbol).is_empty()
+    !waiting(flat, row, symbol).is_empty()
 }
 
 // Lists the terminal of a symbol, if an item waits for it.
 fn list_terminal(
     flat: &Flat,
-    row: &[Waiting],
+    row: &[Item],
     symbol: u32,
     expected: &mut Vec<SymbolId>,
 ) -> Result<(), AllocFailed<SymbolId>>
-    requires order { IsNonDecreasingBy (λ w. w.symbol) row.now }
+    requires row { IsRow flat.now row.now }
     requires symbol { symbol < length flat.now.symbols }
     ensures { OnOk result (AddsAwaited flat.now row.now symbol expected.old.items expected.new.items) }
 {
     if let FlatSymbol::Terminal(t) = flat.symbol(symbol) {
-        if is_awaited(row, symbol) {
+        if is_awaited(flat, row, symbol) {
             expected.push(t)?;
         }
     }
@@ -37,8 +37,8 @@ fn list_terminal(
 }
 
 /// The terminals that items wait for, in the order of their numbers.
-pub fn expected(alloc: Global, flat: &Flat, row: &[Waiting]) -> Result<Vec<SymbolId>, AllocError>
-    requires { IsNonDecreasingBy (λ w. w.symbol) row.now }
+pub fn expected(alloc: Global, flat: &Flat, row: &[Item]) -> Result<Vec<SymbolId>, AllocError>
+    requires { IsRow flat.now row.now }
     ensures order { IfOk result (λ ts. AllPairs (λ s t. s < t) ts.items) }
     ensures exact { IfOk result (λ ts. (t : ℕ) → Contains ts.items t ↔ IsAwaitedTerminal flat.now row.now (length flat.now.symbols) t) }
 {

@@ -1,17 +1,22 @@
 //! What follows from an item in its set.
-ghost use Rattle.std.specs.Prelude.{◌≡◌, ℕ, ◌<◌, ◌≤◌, ◌+◌, ◌^◌, ◌++◌, ◌⊎◌, ◌↔◌, length, map, IfSome, OnOk, Contains};
-ghost use Rattle.std.specs.List.Sorted.{IsNonDecreasingBy};
+ghost use Rattle.std.specs.Prelude.{◌≡◌, ℕ, ◌<◌, ◌≤◌, ◌+◌, ◌^◌, ◌++◌, ◌⊎◌, ◌↔◌, length, map, IsTrue, IfSome, OnOk, Contains};
 ghost use Rattle.recognizer_model.specs.declared.Item.{Item};
-ghost use Rattle.recognizer_model.specs.Flat.{IsRule};
+ghost use Rattle.recognizer_model.specs.Flat.{IsRule, lhs_of};
 ghost use Rattle.recognizer_model.specs.Items.{after, first_item, advanced as item_after};
-ghost use Rattle.earley_sets.specs.declared.rows.Waiting.{Waiting};
-ghost use Rattle.earley_sets.specs.Kept.{IsItem, AreIndexed, items_at};
-ghost use Rattle.earley_sets.specs.Closing.{IsBegun, IsAdvancedOver, Follows};
+ghost use Rattle.item_rows.specs.Rows.{row_at};
+ghost use Rattle.earley_sets.specs.Kept.{IsItem, AreRows};
+ghost use Rattle.leo_items.specs.ByRows.{IsMemo, NotesMore, AreNulled};
+ghost use Rattle.earley_sets.specs.Closing.{IsPredicted, BeginTogether, IsBegun, IsAdvancedOver, IsDone, FollowsAnew};
+ghost use Rattle.earley_sets.specs.Tried.{RisesBy, IsWaiting, MakesBegun, RisesByDone, MakesLink};
 
-use crate::rows::{Rows, Waiting, waiting_between};
 use grammar_core::Flat;
+use indexmap::IndexSet;
+use item_rows::{Rows, waiting};
+use leo_items::{Memo, Pair, pair_above, step_in, topmost};
 use recognizer_model::Item;
-use std::alloc::AllocFailed;
+use slif_base::Steps;
+use std::alloc::{AllocError, AllocFailed};
+use std::sync::ledger::Ledger;
 
 /// The symbol after the dot.
 pub fn next_symbol(flat: &Flat, item: Item) -> Option<u32>
@@ -42,8 +47,9 @@ pub fn list_predicted(
     place: u32,
     next: &mut Vec<Item>,
 ) -> Result<(), AllocFailed<Item>>
-    ensures { OnOk result ((other : Item) → Contains next.new.items other ↔
+    ensures listed { OnOk result ((other : Item) → Contains next.new.items other ↔
         (Contains next.old.items other ⊎ ((r : ℕ) × (first ≤ r) × (r < end) × (other ≡ first_item r place)))) }
+    ensures links { OnOk result (RisesBy (λ (r : ℕ). (first ≤ r) × (r < end)) (length next.old.items) (length next.new.items)) }
 {
     for rule in first..end {
         next.push(Item {
@@ -55,42 +61,66 @@ pub fn list_predicted(
     Ok(())
 }
 
-// Those of the items, which are in order of symbols, that wait for a symbol.
-pub fn waiting_for(row: &[Waiting], symbol: u32) -> &[Waiting]
-    requires { IsNonDecreasingBy (λ w. w.symbol) row.now }
-    ensures { (w : Waiting) → Contains result.now w ↔ (Contains row.now w × (w.symbol ≡ symbol)) }
-{
-    let start = row.partition_point(|waiting| waiting.symbol < symbol);
-    let end = row.partition_point(|waiting| waiting.symbol <= symbol);
-    waiting_between(row, start, end)
-}
-
 /// Lists items with their dots advanced.
-pub fn list_advanced(waiting: &[Waiting], next: &mut Vec<Item>) -> Result<(), AllocFailed<Item>>
-    requires { (w : Waiting) → Contains waiting.now w → w.item.dot + 1 < 2 ^ 32 }
-    ensures { OnOk result (next.new.items ≡ next.old.items ++ map (λ w. item_after w.item) waiting.now) }
+pub fn list_advanced(waiting: &[Item], next: &mut Vec<Item>) -> Result<(), AllocFailed<Item>>
+    requires { (item : Item) → Contains waiting.now item → item.dot + 1 < 2 ^ 32 }
+    ensures { OnOk result (next.new.items ≡ next.old.items ++ map item_after waiting.now) }
 {
     for item in waiting {
-        next.push(advanced(item.item))?;
+        next.push(advanced(*item))?;
     }
     Ok(())
+}
+
+// Whether the first of some rules has begun in the set, or there is none.
+fn have_begun(set: &IndexSet<Item>, first: u32, end: u32, place: u32) -> bool
+    ensures { IsTrue result ↔ ((end ≤ first) ⊎ Contains set.now.keys (first_item first place)) }
+{
+    end <= first
+        || set.contains(&Item {
+            rule: first,
+            dot: 0,
+            origin: place,
+        })
+}
+
+// Lists the first items of a symbol's rules, if they are not in the set.
+fn list_rules(
+    flat: &Flat,
+    set: &IndexSet<Item>,
+    place: u32,
+    symbol: u32,
+    next: &mut Vec<Item>,
+) -> Result<(), AllocFailed<Item>>
+    requires { BeginTogether flat.now place set.now.keys }
+    ensures listed { OnOk result ((other : Item) → Contains next.new.items other ↔
+        (Contains next.old.items other ⊎ (IsPredicted flat.now place symbol other × (¬ Contains set.now.keys other)))) }
+    ensures links { OnOk result (RisesBy (λ (r : ℕ). IsRule flat.now r × (lhs_of flat.now r ≡ symbol)) (length next.old.items) (length next.new.items)) }
+{
+    let rules = flat.rules_of(symbol);
+    if have_begun(set, rules.start, rules.end, place) {
+        return Ok(());
+    }
+    list_predicted(rules.start, rules.end, place, next)
 }
 
 // Lists what follows from an item that waits for a symbol.
 fn list_begun(
     flat: &Flat,
+    set: &IndexSet<Item>,
     place: u32,
     item: Item,
     symbol: u32,
     next: &mut Vec<Item>,
 ) -> Result<(), AllocFailed<Item>>
+    requires together { BeginTogether flat.now place set.now.keys }
     requires item { item.dot + 1 < 2 ^ 32 }
     requires symbol { symbol < length flat.now.symbols }
-    ensures { OnOk result ((other : Item) → Contains next.new.items other ↔
-        (Contains next.old.items other ⊎ IsBegun flat.now place item symbol other)) }
+    ensures listed { OnOk result ((other : Item) → Contains next.new.items other ↔
+        (Contains next.old.items other ⊎ IsBegun flat.now place set.now.keys item symbol other)) }
+    ensures links { OnOk result (RisesBy (MakesBegun flat.now item symbol) (length next.old.items) (length next.new.items)) }
 {
-    let rules = flat.rules_of(symbol);
-    list_predicted(rules.start, rules.end, place, next)?;
+    list_rules(flat, set, place, symbol, next)?;
     if flat.nullable(symbol) {
         next.push(advanced(item))?;
     }
@@ -105,36 +135,75 @@ pub fn list_completed(
     symbol: u32,
     next: &mut Vec<Item>,
 ) -> Result<(), AllocFailed<Item>>
-    requires rows { AreIndexed flat.now rows.now }
+    requires rows { AreRows flat.now rows.now }
     requires origin { origin < length rows.now }
-    ensures { OnOk result ((other : Item) → Contains next.new.items other ↔
-        (Contains next.old.items other ⊎ IsAdvancedOver flat.now (items_at rows.now origin) symbol other)) }
+    ensures listed { OnOk result ((other : Item) → Contains next.new.items other ↔
+        (Contains next.old.items other ⊎ IsAdvancedOver flat.now (row_at rows.now origin) symbol other)) }
+    ensures links { OnOk result (RisesBy (IsWaiting flat.now (row_at rows.now origin) symbol) (length next.old.items) (length next.new.items)) }
 {
     flat.known();
-    let waiting = waiting_for(rows.waiting(origin as usize), symbol);
+    let waiting = waiting(flat, rows.row(origin as usize), symbol);
     list_advanced(waiting, next)
 }
 
-/// Lists what follows from an item in its set.
-pub fn list_next(
+// Lists what the completion of a symbol that began in an earlier set leads to.
+fn list_done<L: Ledger>(
     flat: &Flat,
     rows: &Rows,
+    memo: &mut Memo,
+    pair: Pair,
+    next: &mut Vec<Item>,
+    steps: &mut Steps<L>,
+) -> Result<(), AllocError>
+    requires rows { AreRows flat.now rows.now }
+    requires nulled { AreNulled flat.now rows.now }
+    requires memo { IsMemo flat.now rows.now memo.old }
+    requires set { pair.set < length rows.now }
+    ensures listed { OnOk result ((other : Item) → Contains next.new.items other ↔
+        (Contains next.old.items other ⊎ IsDone flat.now rows.now pair.set pair.symbol other)) }
+    ensures links { OnOk result (RisesByDone flat.now rows.now pair.set pair.symbol (length next.old.items) (length next.new.items)) }
+    ensures memo { NotesMore flat.now rows.now memo.old memo.new }
+    ensures counted { steps.new + length memo.old ≡ steps.old + length memo.new }
+{
+    match step_in(flat, rows, pair) {
+        Some(step) => next.push(topmost(flat, rows, memo, pair, step, steps)?)?,
+        None => list_completed(flat, rows, pair.set, pair.symbol, next)?,
+    }
+    Ok(())
+}
+
+/// Lists what follows from an item in its set, but no first item that is there.
+pub fn list_next<L: Ledger>(
+    flat: &Flat,
+    rows: &Rows,
+    memo: &mut Memo,
     place: u32,
+    set: &IndexSet<Item>,
     item: Item,
     next: &mut Vec<Item>,
-) -> Result<(), AllocFailed<Item>>
+    steps: &mut Steps<L>,
+) -> Result<(), AllocError>
     requires item { IsItem flat.now item }
-    requires rows { AreIndexed flat.now rows.now }
+    requires rows { AreRows flat.now rows.now }
+    requires nulled { AreNulled flat.now rows.now }
+    requires memo { IsMemo flat.now rows.now memo.old }
     requires place { place ≤ length rows.now }
-    ensures { OnOk result ((other : Item) → Contains next.new.items other ↔
-        (Contains next.old.items other ⊎ Follows flat.now rows.now place item other)) }
+    requires together { BeginTogether flat.now place set.now.keys }
+    ensures listed { OnOk result ((other : Item) → Contains next.new.items other ↔
+        (Contains next.old.items other ⊎ FollowsAnew flat.now rows.now place set.now.keys item other)) }
+    ensures links { OnOk result (RisesBy (MakesLink flat.now rows.now place item) (length next.old.items) (length next.new.items)) }
+    ensures memo { NotesMore flat.now rows.now memo.old memo.new }
+    ensures counted { steps.new + length memo.old ≡ steps.old + length memo.new }
 {
     flat.known();
     match next_symbol(flat, item) {
-        Some(x) => list_begun(flat, place, item, x, next),
+        Some(x) => {
+            list_begun(flat, set, place, item, x, next)?;
+            Ok(())
+        }
         None => {
             if item.origin < place {
-                list_completed(flat, rows, item.origin, flat.lhs(item.rule), next)
+                list_done(flat, rows, memo, pair_above(flat, item), next, steps)
             } else {
                 Ok(())
             }

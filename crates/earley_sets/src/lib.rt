@@ -1,16 +1,13 @@
-//! A recognizer with full Earley sets over any flat grammar, which tells exactly the terminals that some continuation takes.
+//! A recognizer with Leo's reduced Earley sets over any flat grammar, which tells exactly the terminals that some continuation takes.
 #![tactic(auto)]
 
 mod close;
 mod expected;
 mod follow;
-mod index;
+mod hidden;
 mod recce;
-mod rows;
-#[cfg(test)]
-mod tests;
 
-ghost use Rattle.earley_sets.specs.Laws.{ExpectedAreAcceptable, TreesAreDerivations};
+ghost use Rattle.earley_sets.specs.Laws.{ExpectedAreAcceptable, TreesAreDerivations, TriesAreFew};
 
 pub use recce::{AlternativeRefusal, Recce, SetView};
 use recognizer_model::{acceptable_are_flat, flat_grammars_are_flat_forms};
@@ -28,3 +25,8 @@ pub fn trees_are_derivations()
 {
     flat_grammars_are_flat_forms();
 }
+
+/// Making a set takes at most as many steps as the set has links, and one more for each Leo pair that is noted.
+pub fn tries_are_few()
+    ensures { TriesAreFew }
+{}

@@ -1,5 +1,5 @@
 //! The recognizer: its edges, and the sets of the places so far.
-ghost use Rattle.std.specs.Prelude.{◌≡◌, ◌≢◌, ℕ, List, ◌+◌, ◌-◌, ◌<◌, ◌≤◌, ◌↔◌, ◌⊎◌, ◌++◌, ◌∷◌, [], length, map, slice_get, slice_index, Some, Err, IsTrue, IfOk, OnOk, OnErr, Contains};
+ghost use Rattle.std.specs.Prelude.{◌≡◌, ◌≢◌, ℕ, List, ◌+◌, ◌-◌, ◌<◌, ◌≤◌, ◌↔◌, ◌⊎◌, ◌++◌, ◌∷◌, [], length, map, sum, slice_get, slice_index, Some, Err, IsTrue, IfOk, OnOk, OnErr, Contains};
 ghost use Rattle.std.specs.List.{AllPairs};
 ghost use Rattle.recognizer_model.specs.declared.Item.{Item};
 ghost use Rattle.grammar_model.specs.declared.Edge.{Edge as HeldEdge};
@@ -7,19 +7,25 @@ ghost use Rattle.grammar_model.specs.Derives.{Held};
 ghost use Rattle.recognizer_model.specs.Contexts.{IsTop};
 ghost use Rattle.recognizer_model.specs.Counts.{IsListOf};
 ghost use Rattle.recognizer_model.specs.FlatForm.{FlatEdges};
-ghost use Rattle.recognizer_model.specs.Items.{InSet};
+ghost use Rattle.recognizer_model.specs.Items.{InSet, IsWhole, after};
+ghost use Rattle.recognizer_model.specs.Leo.{InReduced, IsHidden};
+ghost use Rattle.recognizer_model.specs.Links.{Link, IsLink};
+ghost use Rattle.leo_items.specs.ByRows.{IsMemo, NotesMore};
 ghost use Rattle.grammar_core.specs.Edges.{longest_edge};
-ghost use Rattle.earley_sets.specs.Kept.{Kept, AreItems, AreIndexed, IsIndexed};
-ghost use Rattle.earley_sets.specs.Scanning.{GoForward, AreSets};
-ghost use Rattle.earley_sets.specs.Recognizer.{Recognizer, place_of, set_at, edges_of, top_of, new_edge, IsExpected, HasTree, IsRecognizer};
+ghost use Rattle.item_rows.specs.Order.{IsRow};
+ghost use Rattle.earley_sets.specs.Kept.{AreItems, AreRows, IsRowOf};
+ghost use Rattle.earley_sets.specs.Scanning.{GoForward, AreReduced};
+ghost use Rattle.earley_sets.specs.Tried.{RisesBy};
+ghost use Rattle.earley_sets.specs.Recognizer.{Recognizer, place_of, set_at, edges_of, top_of, made, new_edge, IsExpected, HasTree, IsRecognizer};
 ghost use Rattle.earley_sets.specs.declared.recce.AlternativeRefusal.TheVariants.{Unexpected, Duplicate, BadLength};
 
-use crate::close::make_set;
+use crate::close::{Work, make_set};
 use crate::expected::{expected, is_awaited};
-use crate::index::index;
-use crate::rows::{Rows, Waiting};
+use crate::hidden::list_hidden;
 use grammar_core::{EdgeRefusal, Flat, SymbolId, TokenEdges};
 use indexmap::IndexSet;
+use item_rows::{Rows, contains, sort, waiting};
+use leo_items::Memo;
 use recognizer_model::Item;
 use slif_base::Steps;
 use std::alloc::{AllocError, Global};
@@ -27,46 +33,79 @@ use std::marker::{Brand, Model};
 use std::sync::ledger::{Blank, Ledger};
 use thiserror::Error;
 
-// What is used while a set is made.
-#[derive(Drop)]
-struct Work {
-    set: IndexSet<Item>,
-    next: Vec<Item>,
-    waiting: Vec<Waiting>,
+// Lists the items of a set in the order of a row.
+fn list_row(flat: &Flat, set: &IndexSet<Item>, row: &mut Vec<Item>) -> Result<(), AllocError>
+    ensures row { OnOk result (IsRow flat.now row.new.items) }
+    ensures same { OnOk result ((item : Item) → Contains row.new.items item ↔ Contains set.now.keys item) }
+{
+    row.clear();
+    row.extend_from_slice(set.as_slice())?;
+    sort(flat, row);
+    Ok(())
 }
 
 // Makes the set of the place behind the last row, as a row.
-fn add_row<L: Ledger>(
+fn make_row<L: Ledger>(
     flat: &Flat,
     top: u32,
     rows: &mut Rows,
+    memo: &mut Memo,
     edges: &TokenEdges,
     work: &mut Work,
     steps: &mut Steps<L>,
 ) -> Result<(), AllocError>
     requires top { IsTop flat.now top }
-    requires sets { AreSets flat.now edges.now top rows.old (length rows.old) }
-    requires rows { AreIndexed flat.now rows.old }
+    requires sets { AreReduced flat.now edges.now top rows.old (length rows.old) }
+    requires rows { AreRows flat.now rows.old }
+    requires memo { IsMemo flat.now rows.old memo.old }
     requires place { length rows.old ≤ 16777216 }
     requires begun { (e : HeldEdge) → Contains edges.now e → e.from < length rows.old }
     requires forward { GoForward edges.now }
-    ensures ok { OnOk result ((kept : Kept) × (rows.new ≡ rows.old ++ kept ∷ []) × IsIndexed flat.now kept ×
-        IsListOf (InSet flat.now (FlatEdges flat.now (Held edges.now)) top (length rows.old)) kept.items) }
+    ensures ok { OnOk result ((row : List Item) × (rows.new ≡ rows.old ++ row ∷ []) × IsRowOf flat.now (length rows.old) row ×
+        IsListOf (InReduced flat.now (FlatEdges flat.now (Held edges.now)) top (length rows.old)) row) }
+    ensures memo { NotesMore flat.now rows.old memo.old memo.new }
     ensures err { OnErr result (rows.new ≡ rows.old) }
+    ensures counted { OnOk result (0 < length rows.old →
+        RisesBy (IsLink flat.now (FlatEdges flat.now (Held edges.now)) top (length rows.old)) (steps.old + length memo.new) (steps.new + length memo.old)) }
 {
     let place = rows.len() as u32;
-    make_set(
-        flat,
-        top,
-        rows,
-        edges,
-        place,
-        &mut work.set,
-        &mut work.next,
-        steps,
-    )?;
-    index(flat, work.set.as_slice(), &mut work.waiting)?;
-    rows.push(work.set.as_slice(), &work.waiting)
+    make_set(flat, top, rows, memo, edges, place, work, steps)?;
+    list_row(flat, &work.set, &mut work.next)?;
+    rows.push(&work.next)
+}
+
+// The same. After an error the notes are as before.
+fn add_row<L: Ledger>(
+    flat: &Flat,
+    top: u32,
+    rows: &mut Rows,
+    memo: &mut Memo,
+    edges: &TokenEdges,
+    work: &mut Work,
+    steps: &mut Steps<L>,
+) -> Result<(), AllocError>
+    requires top { IsTop flat.now top }
+    requires sets { AreReduced flat.now edges.now top rows.old (length rows.old) }
+    requires rows { AreRows flat.now rows.old }
+    requires memo { IsMemo flat.now rows.old memo.old }
+    requires place { length rows.old ≤ 16777216 }
+    requires begun { (e : HeldEdge) → Contains edges.now e → e.from < length rows.old }
+    requires forward { GoForward edges.now }
+    ensures ok { OnOk result ((row : List Item) × (rows.new ≡ rows.old ++ row ∷ []) × IsRowOf flat.now (length rows.old) row ×
+        IsListOf (InReduced flat.now (FlatEdges flat.now (Held edges.now)) top (length rows.old)) row) }
+    ensures memo { IsMemo flat.now rows.old memo.new }
+    ensures err { OnErr result ((rows.new ≡ rows.old) × (memo.new ≡ memo.old)) }
+    ensures counted { OnOk result (0 < length rows.old →
+        RisesBy (IsLink flat.now (FlatEdges flat.now (Held edges.now)) top (length rows.old)) (steps.old + length memo.new) (steps.new + length memo.old)) }
+{
+    let noted = memo.len();
+    match make_row(flat, top, rows, memo, edges, work, steps) {
+        Ok(()) => Ok(()),
+        Err(error) => {
+            memo.keep_first(noted);
+            Err(error)
+        }
+    }
 }
 
 // Makes the set of the first place, on a counter of its own.
@@ -75,6 +114,7 @@ fn add_first<L: Ledger>(
     flat: &Flat,
     top: u32,
     rows: &mut Rows,
+    memo: &mut Memo,
     edges: &TokenEdges,
     work: &mut Work,
 ) -> Result<(), AllocError>
@@ -83,12 +123,14 @@ fn add_first<L: Ledger>(
     requires some { 0 < blank.parts }
     requires top { IsTop flat.now top }
     requires rows { rows.old ≡ [] }
+    requires memo { memo.old ≡ [] }
     requires edges { edges.now ≡ [] }
-    ensures ok { OnOk result ((kept : Kept) × (rows.new ≡ kept ∷ []) × IsIndexed flat.now kept ×
-        IsListOf (InSet flat.now (FlatEdges flat.now (Held edges.now)) top 0) kept.items) }
+    ensures ok { OnOk result ((row : List Item) × (rows.new ≡ row ∷ []) × IsRowOf flat.now 0 row ×
+        IsListOf (InReduced flat.now (FlatEdges flat.now (Held edges.now)) top 0) row) }
+    ensures memo { memo.new ≡ [] }
 {
     let mut steps = Steps::<L>::of_blank(blank);
-    add_row(flat, top, rows, edges, work, &mut steps)
+    add_row(flat, top, rows, memo, edges, work, &mut steps)
 }
 
 /// Why an alternative is not taken. Of several reasons the first in this order is told, but want of memory may come at any point.
@@ -116,63 +158,99 @@ pub struct Recce<'g> {
     top: u32,
     edges: TokenEdges,
     rows: Rows,
+    memo: Memo,
     work: Work,
 }
 
 impl<'g> Model for Recce<'g> {
-    ghost use Rattle.std.specs.Prelude.{map};
-    ghost use Rattle.earley_sets.specs.Recognizer.{Recognizer, IsKeptBy};
+    ghost use Rattle.leo_items.specs.Memo.{pairs_of};
+    ghost use Rattle.earley_sets.specs.Recognizer.{Recognizer, IsKept};
 
     ghost Value = { Recognizer };
 
-    ghost view = { λ r. record { flat = r.flat.now; start = r.start; edges = r.edges; sets = map (λ k. k.items) r.rows } };
+    ghost view = { λ r. record { flat = r.flat.now; start = r.start; edges = r.edges; sets = r.rows; noted = pairs_of r.memo } };
 
-    ghost invariant = { λ r. IsKeptBy (record { flat = r.flat.now; start = r.start; edges = r.edges; sets = map (λ k. k.items) r.rows }) r.rows r.top };
+    ghost invariant = { λ r. IsKept (record { flat = r.flat.now; start = r.start; edges = r.edges; sets = r.rows; noted = pairs_of r.memo }) r.top r.memo };
 }
 
-/// The items of a set, in the order of finding.
-#[derive(Clone, Copy, Drop)]
+/// Items of a set: by the symbol after the dot, whole items last, then by rule, dot and origin.
+#[derive(Drop)]
 pub struct SetView<'r> {
     items: &'r [Item],
 }
 
+impl<'r> Model for SetView<'r> {
+    ghost use Rattle.std.specs.Prelude.{List};
+    ghost use Rattle.recognizer_model.specs.declared.Item.{Item};
+
+    ghost Value = { List Item };
+
+    ghost view = { λ s. s.items.now };
+}
+
 impl<'r> SetView<'r> {
     pub fn len(&self) -> usize
-        ensures { result ≡ length self.now.items.now }
+        ensures { result ≡ length self.now }
     {
         self.items.len()
     }
 
     /// An item, by its number.
     pub fn at(&self, k: usize) -> Item
-        requires { k < length self.now.items.now }
-        ensures { slice_get self.now.items.now k ≡ Some result }
+        requires { k < length self.now }
+        ensures { slice_get self.now k ≡ Some result }
     {
-        self.items[k]
+        item_at(self.items, k)
     }
+}
+
+// Counts items.
+fn count<L: Ledger>(items: &[Item], steps: &mut Steps<L>)
+    ensures { steps.new ≡ steps.old + length items.now }
+{
+    for _ in items {
+        steps.tick();
+    }
+}
+
+fn item_at(items: &[Item], k: usize) -> Item
+    requires { k < length items.now }
+    ensures { slice_get items.now k ≡ Some result }
+{
+    items[k]
 }
 
 impl<'g> Recce<'g> {
     /// A recognizer at place 0, for a start by its place among the starts.
     pub fn new(alloc: Global, flat: &'g Flat, start: usize) -> Result<Recce<'g>, AllocError>
         requires { start < length flat.now.tops }
-        ensures { IfOk result (λ r. (r.flat ≡ flat.now) × (r.start ≡ start) × (r.edges ≡ []) × (length r.sets ≡ 1)) }
+        ensures { IfOk result (λ r. (r.flat ≡ flat.now) × (r.start ≡ start) × (r.edges ≡ []) × (length r.sets ≡ 1) × (r.noted ≡ [])) }
     {
         let top = flat.top(start);
         let edges = TokenEdges::new(alloc);
         let mut rows = Rows::new(alloc);
+        let mut memo = Memo::new(alloc);
         let mut work = Work {
             set: IndexSet::new(alloc),
             next: Vec::new(alloc),
-            waiting: Vec::new(alloc),
+            ending: Vec::new(alloc),
         };
-        add_first::<Brand>(Blank::new(1), flat, top, &mut rows, &edges, &mut work)?;
+        add_first::<Brand>(
+            Blank::new(1),
+            flat,
+            top,
+            &mut rows,
+            &mut memo,
+            &edges,
+            &mut work,
+        )?;
         Ok(Recce {
             flat,
             start,
             top,
             edges,
             rows,
+            memo,
             work,
         })
     }
@@ -206,18 +284,22 @@ impl<'g> Recce<'g> {
         &self.edges
     }
 
-    /// Makes the set of the next place. After an error the recognizer is as before.
+    /// Makes the set of the next place. After an error the recognizer is as before. Each step is a try of another link, or notes a Leo pair.
     pub fn complete_earleme<L: Ledger>(&mut self, steps: &mut Steps<L>) -> Result<(), AllocError>
         requires { place_of self.old < 16777216 }
         ensures same { (self.new.flat ≡ self.old.flat) × (self.new.start ≡ self.old.start) × (self.new.edges ≡ self.old.edges) }
         ensures ok { OnOk result ((set : List Item) × (self.new.sets ≡ self.old.sets ++ set ∷ []) ×
-            IsListOf (InSet self.old.flat (edges_of self.old) (top_of self.old) (length self.old.sets)) set) }
+            IsListOf (InReduced self.old.flat (edges_of self.old) (top_of self.old) (length self.old.sets)) set) }
         ensures err { OnErr result (self.new ≡ self.old) }
+        ensures counted { OnOk result ((tried : List Link) × AllPairs (λ a b. a ≢ b) tried ×
+            ((l : Link) → Contains tried l → IsLink self.old.flat (edges_of self.old) (top_of self.old) (length self.old.sets) l) ×
+            (steps.new + made self.old ≡ steps.old + length tried + made self.new)) }
     {
         add_row(
             self.flat,
             self.top,
             &mut self.rows,
+            &mut self.memo,
             &self.edges,
             &mut self.work,
             steps,
@@ -230,7 +312,7 @@ impl<'g> Recce<'g> {
     {
         let last = self.rows.len() - 1;
         match self.flat.terminal(t) {
-            Some(symbol) => is_awaited(self.rows.waiting(last), symbol),
+            Some(symbol) => is_awaited(self.flat, self.rows.row(last), symbol),
             None => false,
         }
     }
@@ -241,7 +323,7 @@ impl<'g> Recce<'g> {
         ensures exact { IfOk result (λ ts. (t : ℕ) → Contains ts.items t ↔ IsExpected self.now t) }
     {
         let last = self.rows.len() - 1;
-        expected(alloc, self.flat, self.rows.waiting(last))
+        expected(alloc, self.flat, self.rows.row(last))
     }
 
     /// Whether a tree of the start spans the edges up to the place.
@@ -254,18 +336,62 @@ impl<'g> Recce<'g> {
             dot: 1,
             origin: 0,
         };
-        self.rows.items(last).contains(&whole)
+        contains(self.flat, self.rows.row(last), whole)
     }
 
-    /// The set of a place.
+    /// The set of a place, as far as it is kept.
     pub fn kept(&self, j: u32) -> SetView<'_>
         requires { j ≤ place_of self.now }
-        ensures items { result.items.now ≡ set_at self.now j }
-        ensures exact { IsListOf (InSet self.now.flat (edges_of self.now) (top_of self.now) j) result.items.now }
+        ensures { result ≡ set_at self.now j }
     {
         SetView {
-            items: self.rows.items(j as usize),
+            items: self.rows.row(j as usize),
         }
+    }
+
+    /// Whether an item is kept in the set of a place.
+    pub fn has(&self, j: u32, item: Item) -> bool
+        requires { j ≤ place_of self.now }
+        ensures { IsTrue result ↔ Contains (set_at self.now j) item }
+    {
+        contains(self.flat, self.rows.row(j as usize), item)
+    }
+
+    /// The items of a set that wait for a symbol.
+    pub fn waiting(&self, j: u32, symbol: u32) -> SetView<'_>
+        requires { j ≤ place_of self.now }
+        ensures { (item : Item) → Contains result item ↔ (Contains (set_at self.now j) item × (after self.now.flat item ≡ Some symbol)) }
+    {
+        SetView {
+            items: waiting(self.flat, self.rows.row(j as usize), symbol),
+        }
+    }
+
+    /// How many items are kept.
+    pub fn item_count(&self) -> u64
+        ensures { result ≡ sum (map length self.now.sets) }
+    {
+        self.rows.item_count() as u64
+    }
+
+    /// The hidden items of a set that begin at a place or behind it.
+    pub fn expand<L: Ledger>(
+        &self,
+        alloc: Global,
+        j: u32,
+        from: u32,
+        steps: &mut Steps<L>,
+    ) -> Result<Vec<Item>, AllocError>
+        requires { j ≤ place_of self.now }
+        ensures hidden { IfOk result (λ items. IsListOf (λ item. IsHidden self.now.flat (edges_of self.now) (top_of self.now) j item × (from ≤ item.origin)) items.items) }
+        ensures full { IfOk result (λ items. (item : Item) → IsWhole self.now.flat item → from ≤ item.origin →
+            (Contains (set_at self.now j) item ⊎ Contains items.items item) ↔ InSet self.now.flat (edges_of self.now) (top_of self.now) j item) }
+        ensures counted { IfOk result (λ items. steps.new ≡ steps.old + length items.items) }
+        ensures err { OnErr result (steps.new ≡ steps.old) }
+    {
+        let hidden = list_hidden(alloc, self.flat, &self.rows, j, from)?;
+        count(&hidden, steps);
+        Ok(hidden)
     }
 
     /// Goes back to place 0, with no edges.
@@ -273,15 +399,17 @@ impl<'g> Recce<'g> {
         ensures same { (self.new.flat ≡ self.old.flat) × (self.new.start ≡ self.old.start) }
         ensures edges { self.new.edges ≡ [] }
         ensures sets { self.new.sets ≡ set_at self.old 0 ∷ [] }
+        ensures noted { self.new.noted ≡ [] }
     {
         self.rows.keep_first();
+        self.memo.clear();
         self.edges.clear();
     }
 
     /// Takes a terminal that begins at the place and is so many places long.
     pub fn alternative(&mut self, t: SymbolId, length: u32) -> Result<(), AlternativeRefusal>
         requires { place_of self.old < 16777216 }
-        ensures same { (self.new.flat ≡ self.old.flat) × (self.new.start ≡ self.old.start) × (self.new.sets ≡ self.old.sets) }
+        ensures same { (self.new.flat ≡ self.old.flat) × (self.new.start ≡ self.old.start) × (self.new.sets ≡ self.old.sets) × (self.new.noted ≡ self.old.noted) }
         ensures ok { OnOk result (self.new.edges ≡ self.old.edges ++ new_edge self.old t length ∷ []) }
         ensures err { OnErr result (self.new ≡ self.old) }
         ensures unexpected { (result ≡ Err Unexpected) ↔ (¬ IsExpected self.old t) }

@@ -7,8 +7,6 @@ mod lefts;
 mod numbering;
 mod pushing;
 mod refusal;
-#[cfg(test)]
-mod tests;
 
 ghost use Rattle.flat_rules.specs.Flatten.{FlatGrammarsExist};
 ghost use Rattle.flat_rules.specs.Lists.{ListsHaveFlatGrammar};

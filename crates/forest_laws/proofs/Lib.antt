@@ -10,4 +10,5 @@ pub mod Existing
 pub mod Applied
 pub mod Walked
 pub mod Written
+pub mod Few
 pub mod Taken

@@ -1,5 +1,5 @@
 -- The first lists of steps are those of the first derivations.
-use Rattle.std.proofs.Common.{◌≡◌, ℕ, List, [], ◌∷◌, ◌++◌, map, inl, inr, Option, Some, None, refl, sym, ap, ◌∙◌, subst}
+use Rattle.std.proofs.Common.{◌≡◌, ℕ, zero, suc, ◌≤◌, List, [], ◌∷◌, ◌++◌, length, map, inl, inr, Option, Some, None, refl, sym, ap, ◌∙◌, subst}
 use Rattle.std.specs.Prelude.{slice_get}
 use Rattle.grammar_model.specs.Trees.{Tree, Node}
 use Rattle.grammar_model.specs.Steps.{Step, steps_of}
@@ -7,6 +7,7 @@ use Rattle.grammar_model.proofs.Lists.{Among, contains_from, among_left}
 use Rattle.recognizer_model.specs.Flat.{lhs_of}
 use Rattle.recognizer_model.specs.FlatForm.{tree_of}
 use Rattle.recognizer_model.specs.FlatDerives.{Derives}
+use Rattle.recognizer_model.specs.Links.{choices}
 use Rattle.forest_model.specs.Forest.{Forest, IsForest, IsRoot, edges_of, top_of}
 use Rattle.forest_model.specs.Listing.{IsListing}
 use Rattle.forest_laws.specs.Lists.{Lists, roots_by, rule_of}
@@ -19,6 +20,7 @@ use Rattle.forest_laws.proofs.Exact
 use Rattle.forest_laws.proofs.Exact.{root_all}
 use Rattle.forest_laws.proofs.One.{only_one}
 use Rattle.forest_laws.proofs.Written.{steps_are_written}
+use Rattle.forest_laws.proofs.Few.{steps_are_few}
 
 record IsSplitAt {X Y : Type 0} (h : X → Y) (xs : List X) (ys zs : List Y) : Type 0 where
   first : List X
@@ -52,6 +54,15 @@ each_written out tree (t ∷ ts) e =
     let b = each_written out tree ts (λ u m. e u (inr m)) in
     λ i. a i ∷ b i
 
+each_few : (tree : Tree → Tree) (ts : List Tree) → ((t : Tree) → Among t ts → length (steps_of t) ≤ suc (choices (tree t))) →
+    (k : ℕ) (flat : List Step) (t : Tree) → slice_get (map steps_of ts) k ≡ Some flat → slice_get (map tree ts) k ≡ Some t → length flat ≤ suc (choices t)
+each_few tree [] e k flat t a b = cc
+each_few tree (u ∷ ts) e zero flat t a b =
+    let flat_is : steps_of u ≡ flat = cc in
+    let tree_is : tree u ≡ t = cc in
+    subst (λ x. length x ≤ suc (choices t)) flat_is (subst (λ x. length (steps_of u) ≤ suc (choices x)) tree_is (e u (inl refl)))
+each_few tree (u ∷ ts) e (suc k) flat t a b = each_few tree ts (λ v m. e v (inr m)) k flat t a b
+
 module _ (f : Forest) (lists : Lists) (is : IsForest f) (all : AreAllLists f lists) where
   roots_same : (root : Option ℕ) → IsRoot f root → roots_by f lists root ≡ roots_by f (Exact.lists f is) root
   roots_same None h = refl
@@ -74,6 +85,9 @@ module _ (f : Forest) (lists : Lists) (is : IsForest f) (all : AreAllLists f lis
         steps = ap (map (steps_written f.written f.flat [])) (sym s.first_is)
             ∙ each_written (steps_written f.written f.flat []) (tree_of f.written f.flat) s.first
             (λ t m. steps_are_written f is.derived t (derived t (subst (Among t) (sym s.both) (among_left t s.first s.second m))));
+        few = λ k flat tree at there.
+            each_few (tree_of f.written f.flat) s.first (λ t m. steps_are_few f is.derived t (derived t (subst (Among t) (sym s.both) (among_left t s.first s.second m))))
+            k flat tree (subst (λ l. slice_get l k ≡ Some flat) (sym s.first_is) at) there;
         all = λ none. (let gone = none_left steps_of s.second (s.second_is ∙ none) in
             subst (IsListing f) (ap (λ l. map (tree_of f.written f.flat) s.first ++ map (tree_of f.written f.flat) l) gone ∙ append_nil (map (tree_of f.written f.flat) s.first)) listing);
       }

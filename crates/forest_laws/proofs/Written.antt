@@ -28,7 +28,7 @@ steps_join : (a b : Children) → steps_of_all (join a b) ≡ steps_of_all a ++ 
 steps_join a NoChild = sym (append_nil (steps_of_all a))
 steps_join a (Child b t) = ap (λ l. l ++ steps_of t) (steps_join a b) ∙ assoc (steps_of_all a) (steps_of_all b) (steps_of t)
 
-count_join : (a b : Children) → child_count (join a b) ≡ child_count a + child_count b
+pub count_join : (a b : Children) → child_count (join a b) ≡ child_count a + child_count b
 count_join a NoChild = omega arith
 count_join a (Child b t) = let h = count_join a b in omega arith
 
@@ -119,7 +119,7 @@ module _ (w : Grammar) (g : FlatGrammar) where
         ∙ sym (assoc (steps_of_all (children_of w g front)) (out last) (W (count last ∷ counts_of front counts) rest))
         ∙ ap (λ l. l ++ W (count last ∷ counts_of front counts) rest) (sym (out_more front last))
 
-get_of : {X : Type 0} (xs : List X) (k : ℕ) (d : X) → k < length xs → slice_get xs k ≡ Some (slice_index_or xs k d)
+pub get_of : {X : Type 0} (xs : List X) (k : ℕ) (d : X) → k < length xs → slice_get xs k ≡ Some (slice_index_or xs k d)
 get_of [] k d lt = absurd (omega arith)
 get_of (x ∷ xs) zero d lt = refl
 get_of (x ∷ xs) (suc k) d lt = get_of xs k d (omega arith)
@@ -128,7 +128,7 @@ first_is : (h : ℕ → FlatSymbol) (xs : List ℕ) (s : FlatSymbol) (x : ℕ) �
 first_is h [] s x e e' = cc
 first_is h (y ∷ ys) s x e e' = let a : h y ≡ s = cc in let b : y ≡ x = cc in ap h (sym b) ∙ a
 
-no_list : (w : Grammar) (slot : Grammar.Slot) (s : FlatSymbol) → Stands w slot s → is_list s ≡ false
+pub no_list : (w : Grammar) (slot : Grammar.Slot) (s : FlatSymbol) → Stands w slot s → is_list s ≡ false
 no_list w slot (Terminal t) (AsTerminal h) = refl
 no_list w slot (Slot t k) (AsSlot h) = refl
 no_list w slot (Sequence i) h = elim h [ ]
@@ -157,17 +157,17 @@ module _ (f : Forest) (derived : IsDerived f) where
   abbrev flat : IsFlat f.flat
   flat = derived.flat
 
-  abbrev IsNoTop : ℕ → Type 0
+  abbrev pub IsNoTop : ℕ → Type 0
   IsNoTop x = (k : ℕ) → slice_get f.flat.symbols x ≡ Some (Top k) → ⊥
 
-  part_no_top : (r d x : ℕ) → part_of g r d ≡ Some x → IsNoTop x
+  pub part_no_top : (r d x : ℕ) → part_of g r d ≡ Some x → IsNoTop x
   part_no_top r d x part k at =
       let r' : ℕ = slice_index_or g.tops k 0 in
       let top = flat.tops k r' (get_of g.tops k 0 (flat.all_tops x k at)) in
       let same : x ≡ lhs_of g r' = flat.differ x (lhs_of g r') (Top k) at top.symbol in
       top.is_top.outermost r d (part ∙ ap Some same)
 
-  source_written : (r : ℕ) → IsRule g r → IsNoTop (lhs_of g r) → (i : ℕ) × (source_of g r ≡ Written i)
+  pub source_written : (r : ℕ) → IsRule g r → IsNoTop (lhs_of g r) → (i : ℕ) × (source_of g r ≡ Written i)
   source_written r rule other =
       let at = get_of g.symbols (lhs_of g r) (Top 0) (flat.in_range.left r rule) in
       go (symbol_at g (lhs_of g r)) at (source_of g r) refl (flat.sources r (symbol_at g (lhs_of g r)) rule at)
@@ -197,10 +197,10 @@ module _ (f : Forest) (derived : IsDerived f) where
   list_node (Null n) h = refl
   list_node (Rule rule l lt s) h = ap (λ y. is_list (symbol_at g y)) l ∙ h
 
-  top_is : IsTopOf f.flat f.start (top_of f)
+  pub top_is : IsTopOf f.flat f.start (top_of f)
   top_is = flat.tops f.start (top_of f) (get_of g.tops f.start 0 derived.start)
 
-  start_is : (x : ℕ) → part_of g (top_of f) 0 ≡ Some x → is_list (symbol_at g x) ≡ false
+  pub start_is : (x : ℕ) → part_of g (top_of f) 0 ≡ Some x → is_list (symbol_at g x) ≡ false
   start_is x part =
       let rule : FlatRule = slice_index_or g.rules (top_of f) no_rule in
       let at = get_among g.rules (top_of f) rule (get_of g.rules (top_of f) no_rule top_is.is_top.is_rule) in
@@ -209,7 +209,7 @@ module _ (f : Forest) (derived : IsDerived f) where
       ap is_list (first_is (symbol_at g) (rhs_of g (top_of f)) s x right part) ∙ none
 
   -- the tree of the only child
-  only_child : {r n p q : ℕ} {cs : Children} → Spans g E r n p q cs → n ≡ 1 → (x : ℕ) × (m : ℕ) × (t : Tree) × (cs ≡ Child NoChild t) × (part_of g r 0 ≡ Some x) × Derives g E x m q t
+  pub only_child : {r n p q : ℕ} {cs : Children} → Spans g E r n p q cs → n ≡ 1 → (x : ℕ) × (m : ℕ) × (t : Tree) × (cs ≡ Child NoChild t) × (part_of g r 0 ≡ Some x) × Derives g E x m q t
   only_child FlatDerives.Nothing one = absurd (omega arith)
   only_child (More {m = m} {x = x} {t = t} FlatDerives.Nothing e d) one = (x, m, t, refl, e, d)
   only_child (More (More s e' d') e d) one = absurd (omega arith)

@@ -4,4 +4,5 @@ pub mod Applied
 pub mod Goals
 pub mod Walked
 pub mod Written
+pub mod Few
 pub mod Taken

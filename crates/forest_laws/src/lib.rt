@@ -2,6 +2,7 @@
 #![tactic(auto)]
 
 ghost use Rattle.forest_laws.specs.Applied.{ForestsApply};
+ghost use Rattle.forest_laws.specs.Few.{StepsAreFew};
 ghost use Rattle.forest_laws.specs.Laws.{ForestsExist, ForestsHaveLists, ListsAreOne};
 ghost use Rattle.forest_laws.specs.Taken.{FrontsAreTaken};
 ghost use Rattle.forest_laws.specs.Walked.{ForestsAreWalked};
@@ -37,6 +38,11 @@ pub fn forests_are_walked()
 /// The steps of a flat derivation are written, one after another, as the steps of what it stands for.
 pub fn steps_are_written()
     ensures { StepsAreWritten }
+{}
+
+/// A flat derivation has few steps: at most one more than the choices of the derivation that it stands for.
+pub fn steps_are_few()
+    ensures { StepsAreFew }
 {}
 
 /// What a walk has given so far are the first derivations of the list, and with nothing left it is the whole list.

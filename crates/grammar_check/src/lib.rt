@@ -19,8 +19,6 @@ mod shortest;
 mod slots;
 mod steps;
 mod table;
-#[cfg(test)]
-mod tests;
 
 pub use checked::{Checked, check};
 pub use children::child_at;

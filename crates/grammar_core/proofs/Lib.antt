@@ -2,3 +2,5 @@ pub mod Growth
 pub mod Halving
 pub mod Placed
 pub mod Holding
+pub mod Listing
+pub mod Chains

@@ -1,13 +1,14 @@
 -- Edges held by their places: what stands at a number, and how a part of the list is cut out.
-use Rattle.std.proofs.Common.{◌≡◌, ℕ, zero, suc, ◌+◌, ◌-◌, ◌<◌, ◌≤◌, ◌++◌, ◌↔◌, List, [], ◌∷◌, length, take, drop, get_or, Option, Some, None, Contains, refl, sym, ap, ◌∙◌, subst, ⊎_elim, ◌⊎◌, inl, inr, arith, length-append, length-take, length-drop}
-use Rattle.std.specs.Prelude.{nat_lt, nat_le, slice_get, slice_index}
+use Rattle.std.proofs.Common.{◌≡◌, ◌≢◌, ℕ, zero, suc, ◌+◌, ◌-◌, ◌<◌, ◌≤◌, ◌++◌, ◌↔◌, List, [], ◌∷◌, length, take, drop, get_or, Some, Contains, refl, sym, ap, ◌∙◌, subst, ⊎_elim, ◌⊎◌, inl, inr, arith, length-append, length-take, length-drop}
+use Rattle.std.specs.Prelude.{nat_lt, nat_le, slice_get, slice_index, slice_index_or, AllPairs}
 use Rattle.std.specs.List.Sorted.{IsPartitionedBy}
 use Rattle.std.proofs.lemmas.Bool.{ltb-true, leb-true, lt-ltb, le-leb, cases_lt}
 use Rattle.std.proofs.lemmas.List.{get_or-take, get_or-drop, get_or_append_left, get_or-append-add}
-use Rattle.std.proofs.lemmas.List.Elements.{Contains-append_left, Contains-push_cases}
+use Rattle.std.proofs.lemmas.List.Elements.{Contains-append_left, Contains-push, Contains-push_cases}
+use Rattle.std.proofs.lemmas.List.Quantifiers.{all_pairs_push}
 use Rattle.grammar_model.specs.declared.Edge.{Edge as HeldEdge}
 use Rattle.grammar_core.specs.declared.edges.Edge.{Edge}
-use Rattle.grammar_core.specs.Edges.{placed, all_placed, AreOrdered, ArePlaced, GoFrom}
+use Rattle.grammar_core.specs.Edges.{placed, all_placed, longest_edge, AreOrdered, AreLongOf, ArePlaced, GoFrom}
 use Rattle.grammar_core.proofs.Halving.{index_get, get_index}
 
 pub index_any : {A : Type 0} (xs : List A) (k : ℕ) (d e : A) → k < length xs → get_or xs k d ≡ get_or xs k e
@@ -120,7 +121,7 @@ module _ (places : List ℕ) (ordered : AreOrdered places) (at : ℕ) where
           here (inl l) = let a = left i l in let b = lower i l in let c = at_j in omega arith
           here (inr g') = let same : i ≡ j = (let s = size in omega arith) in subst (λ z. slice_index (places ++ at ∷ []) i ≤ slice_index (places ++ at ∷ []) z) same (omega arith)
 
-module _ (places : List ℕ) (edges : List Edge) (longest : ℕ) (are : ArePlaced places edges longest) where
+module _ (places : List ℕ) (edges : List Edge) (long : List HeldEdge) (are : ArePlaced places edges long) where
   -- the edges between the first that begins at the place and the first behind it
   pub part_is : (at start end : ℕ) → start ≤ length places → end ≤ length places →
       ((k : ℕ) → k < start → slice_index places k < at) → ((k : ℕ) → start ≤ k → k < length places → at ≤ slice_index places k) →
@@ -173,15 +174,56 @@ module _ (places : List ℕ) (edges : List Edge) (longest : ℕ) (are : ArePlace
               go (inl l) = l
               go (inr l) = let x = a2 k l lt in absurd (omega arith)
 
-  -- what is held at a number
-  pub held_short : (k : ℕ) (h : HeldEdge) → slice_get (all_placed places edges) k ≡ Some h → (k < length places) × (slice_index places k ≡ h.from) × (h.to ≤ h.from + longest)
-  held_short k h is =
+  pub part_once : (at start end : ℕ) → start ≤ end → end ≤ length places →
+      ((k : ℕ) → start ≤ k → k < length places → at ≤ slice_index places k) → ((k : ℕ) → k < end → slice_index places k ≤ at) → AllPairs (λ a b. a ≢ b) (take (end - start) (drop start edges))
+  part_once at start end le bound above below i j d lt short same = are.once (start + i) (start + j) (placed at d)
+      (omega (arith, lt)) (let n = placed_length places edges are.same in let s = are.same in let q = inside in omega arith) (one i (let q = inside in omega arith) ∙ (ap (placed at) same ∙ sym (one j inside)))
+    where
+      size : length (take (end - start) (drop start edges)) ≡ end - start
+      size = part_length edges start end le (let s = are.same in omega arith)
+
+      inside : j < end - start
+      inside = let s = size in omega arith
+
+      one : (k : ℕ) → k < end - start → slice_index_or (all_placed places edges) (start + k) (placed at d) ≡ placed at (slice_index_or (take (end - start) (drop start edges)) k d)
+      one k lt' =
+          let x = get_or edges (start + k) d in
+          let s = are.same in
+          let in_places : start + k < length places = omega arith in
+          let a = above (start + k) (omega arith) in_places in
+          let b = below (start + k) (omega arith) in
+          let there : slice_index places (start + k) ≡ at = omega arith in
+          let held = placed_at places edges (start + k) at x (get_index places (start + k) 0 in_places ∙ ap Some there) (get_index edges (start + k) d (omega arith)) in
+          let (below_all, is) = index_get (all_placed places edges) (start + k) (placed at d) (placed at x) held in
+          is ∙ ap (placed at) (sym (get_or-take (end - start) (drop start edges) k d lt' ∙ get_or-drop start edges k d))
+
+  -- each goes forward, and not too far
+  pub placed_bounds : (h : HeldEdge) → Contains (all_placed places edges) h → (h.from < h.to) × (h.to ≤ h.from + longest_edge)
+  placed_bounds h c =
+      let (k, is) = found_at (all_placed places edges) h c in
       let r = at_placed places edges k h is in
-      let (lt, is') = index_get places k 0 r.place r.at in
       let from : h.from ≡ r.place = ap (λ (z : HeldEdge). z.from) r.same in
       let to : h.to ≡ r.place + r.edge.length = ap (λ (z : HeldEdge). z.to) r.same in
-      let short = are.short r.edge (at_found edges k r.edge r.is) in
-      (lt, is' ∙ sym from, omega arith)
+      let there = at_found edges k r.edge r.is in
+      let some = are.some r.edge there in
+      let short = are.short r.edge there in
+      (omega arith, omega arith)
+
+  -- none begins before an earlier one
+  pub placed_order : AllPairs (λ (a b : HeldEdge). a.from ≤ b.from) (all_placed places edges)
+  placed_order i j d lt end =
+      let n = placed_length places edges are.same in
+      let same = are.same in
+      let (lt_i, at_i) = from_at i (slice_index_or (all_placed places edges) i d) (get_index (all_placed places edges) i d (omega arith)) in
+      let (lt_j, at_j) = from_at j (slice_index_or (all_placed places edges) j d) (get_index (all_placed places edges) j d end) in
+      let o = are.order i j (omega arith) lt_j in
+      omega arith
+    where
+      from_at : (k : ℕ) (h : HeldEdge) → slice_get (all_placed places edges) k ≡ Some h → (k < length places) × (slice_index places k ≡ h.from)
+      from_at k h is =
+          let r = at_placed places edges k h is in
+          let (lt, at) = index_get places k 0 r.place r.at in
+          (lt, at ∙ sym (ap (λ (z : HeldEdge). z.from) r.same))
 
   pub placed_from : (at : ℕ) → GoFrom (all_placed places edges) at → (p : ℕ) → Contains places p → p ≤ at
   placed_from at all p h =
@@ -193,12 +235,38 @@ module _ (places : List ℕ) (edges : List Edge) (longest : ℕ) (are : ArePlace
       all (placed p (get_or edges k d)) (at_found (all_placed places edges) k (placed p (get_or edges k d)) (placed_at places edges k p (get_or edges k d) is (get_index edges k d lt')))
 
   -- one more
-  pub are_more : (at limit : ℕ) (e : Edge) → GoFrom (all_placed places edges) at → at ≤ 16777216 → 0 < e.length → longest ≤ limit → e.length ≤ limit → limit ≤ 1 → ArePlaced (places ++ at ∷ []) (edges ++ e ∷ []) limit
-  are_more at limit e from here some up short lim = record {
+  pub are_more : (at : ℕ) (e : Edge) (longer : List HeldEdge) → GoFrom (all_placed places edges) at → at ≤ 16777216 → 0 < e.length → e.length ≤ longest_edge → (¬ Contains (all_placed places edges) (placed at e)) →
+      AreLongOf (all_placed places edges ++ placed at e ∷ []) longer → ArePlaced (places ++ at ∷ []) (edges ++ e ∷ []) longer
+  are_more at e longer from here some up new is_long = record {
     same = let a = length-append places (at ∷ []) in let b = length-append edges (e ∷ []) in let s = are.same in omega arith;
     order = ordered_more places are.order at (placed_from at from);
     in_range = λ p h. ⊎_elim (are.in_range p) (λ s. subst (λ z. z ≤ 16777216) s here) (Contains-push_cases places at p h);
     some = λ x h. ⊎_elim (are.some x) (λ s. subst (λ (z : Edge). 0 < z.length) s some) (Contains-push_cases edges e x h);
-    short = λ x h. ⊎_elim (λ i. (let l = are.short x i in omega arith)) (λ s. subst (λ (z : Edge). z.length ≤ limit) s short) (Contains-push_cases edges e x h);
-    limit = lim;
+    short = λ x h. ⊎_elim (are.short x) (λ s. subst (λ (z : Edge). z.length ≤ longest_edge) s up) (Contains-push_cases edges e x h);
+    once = subst (AllPairs (λ a b. a ≢ b)) (sym more) (all_pairs_push (λ a b. a ≢ b) (all_placed places edges) (placed at e) are.once
+        (λ k d lt same. new (k, lt, index_any (all_placed places edges) k (placed at e) d lt ∙ same)));
+    long = subst (λ l. AreLongOf l longer) (sym more) is_long;
   }
+    where
+      more : all_placed (places ++ at ∷ []) (edges ++ e ∷ []) ≡ all_placed places edges ++ placed at e ∷ []
+      more = placed_more places edges at e are.same
+
+  pub are_more_as : (at : ℕ) (e : Edge) (longer held : List HeldEdge) (ps : List ℕ) (es : List Edge) → all_placed places edges ≡ held → ps ≡ places ++ at ∷ [] → es ≡ edges ++ e ∷ [] →
+      GoFrom held at → at ≤ 16777216 → 0 < e.length → e.length ≤ longest_edge → (¬ Contains held (placed at e)) → AreLongOf (held ++ placed at e ∷ []) longer → ArePlaced ps es longer
+  are_more_as at e longer held ps es is p q from here some up new is_long =
+      subst (λ l. ArePlaced l es longer) (sym p) (subst (λ l. ArePlaced (places ++ at ∷ []) l longer) (sym q)
+      (are_more at e longer (subst (λ h. GoFrom h at) (sym is) from) here some up (subst (λ h. ¬ Contains h (placed at e)) (sym is) new) (subst (λ h. AreLongOf (h ++ placed at e ∷ []) longer) (sym is) is_long)))
+
+-- the edges that span more than one place, where one more is pushed
+module _ (edges long : List HeldEdge) (are : AreLongOf edges long) (e : HeldEdge) where
+  pub long_more : e.from + 1 < e.to → AreLongOf (edges ++ e ∷ []) (long ++ e ∷ [])
+  long_more longer x = (
+    λ h. ⊎_elim (λ l. (let (c, lt) = (are x).0 l in (Contains-append_left edges (e ∷ []) x c, lt))) (λ s. (subst (Contains (edges ++ e ∷ [])) s (Contains-push edges e), subst (λ (z : HeldEdge). z.from + 1 < z.to) s longer)) (Contains-push_cases long e x h),
+    λ (h, lt). ⊎_elim (λ c. Contains-append_left long (e ∷ []) x ((are x).1 (c, lt))) (λ s. subst (Contains (long ++ e ∷ [])) s (Contains-push long e)) (Contains-push_cases edges e x h),
+  )
+
+  pub long_same : e.to ≤ e.from + 1 → AreLongOf (edges ++ e ∷ []) long
+  long_same short x = (
+    λ l. (let (c, lt) = (are x).0 l in (Contains-append_left edges (e ∷ []) x c, lt)),
+    λ (h, lt). ⊎_elim (λ c. (are x).1 (c, lt)) (λ s. (let t : x.from + 1 < x.to = lt in let u : x.to ≤ x.from + 1 = subst (λ (z : HeldEdge). z.to ≤ z.from + 1) s short in absurd (omega arith))) (Contains-push_cases edges e x h),
+  )

@@ -1,11 +1,11 @@
 -- Token edges, held by the places where they begin.
-use Rattle.std.specs.Prelude.{◌≡◌, ℕ, ◌+◌, ◌<◌, ◌≤◌, List, [], ◌∷◌, length, Contains, slice_index}
+use Rattle.std.specs.Prelude.{◌≡◌, ◌≢◌, ℕ, ◌+◌, ◌-◌, ◌<◌, ◌≤◌, ◌↔◌, List, [], ◌∷◌, length, AllPairs, Contains, slice_index}
 use Rattle.grammar_model.specs.declared.Edge.{Edge as HeldEdge}
 use Rattle.grammar_core.specs.declared.edges.Edge.{Edge}
 
 -- the greatest length that an edge may have
 abbrev pub longest_edge : ℕ
-longest_edge = 1
+longest_edge = 1048576
 
 -- the edge that begins at a place
 abbrev pub placed : ℕ → Edge → HeldEdge
@@ -23,11 +23,20 @@ GoFrom edges at = (e : HeldEdge) → Contains edges e → e.from ≤ at
 abbrev pub AreOrdered : List ℕ → Type 0
 AreOrdered places = (i j : ℕ) → i ≤ j → j < length places → slice_index places i ≤ slice_index places j
 
--- the places are in order, and no edge is empty or longer than the longest
-pub record ArePlaced (places : List ℕ) (edges : List Edge) (longest : ℕ) : Type 0 where
+-- the edges that span more than one place
+abbrev pub AreLongOf : List HeldEdge → List HeldEdge → Type 0
+AreLongOf edges long = (e : HeldEdge) → Contains long e ↔ (Contains edges e × (e.from + 1 < e.to))
+
+-- an edge of length one to the place, of those that begin just before it
+abbrev pub IsShortTo : List Edge → ℕ → HeldEdge → Type 0
+IsShortTo edges place e = (x : Edge) × Contains edges x × (x.length ≡ 1) × (e ≡ placed (place - 1) x)
+
+-- the places are in order, each edge is held once, and none is empty or longer than an edge may be
+pub record ArePlaced (places : List ℕ) (edges : List Edge) (longer : List HeldEdge) : Type 0 where
   pub same : length places ≡ length edges
   pub order : AreOrdered places
   pub in_range : (p : ℕ) → Contains places p → p ≤ 16777216
   pub some : (e : Edge) → Contains edges e → 0 < e.length
-  pub short : (e : Edge) → Contains edges e → e.length ≤ longest
-  pub limit : longest ≤ longest_edge
+  pub short : (e : Edge) → Contains edges e → e.length ≤ longest_edge
+  pub once : AllPairs (λ a b. a ≢ b) (all_placed places edges)
+  pub long : AreLongOf (all_placed places edges) longer

@@ -3,3 +3,4 @@ pub mod Refusals
 pub mod Flat
 pub mod Steps
 pub mod Edges
+pub mod Long

@@ -1,16 +1,18 @@
 //! Token edges: which terminals span which places.
-ghost use Rattle.std.specs.Prelude.{◌≡◌, ◌≢◌, ℕ, ◌+◌, ◌<◌, ◌≤◌, ◌^◌, ◌↔◌, ◌⊎◌, ◌++◌, ◌∷◌, [], length, Contains, IsTrue, Err, Some, OnOk, OnErr, slice_get, slice_index, take, drop, ◌-◌};
+ghost use Rattle.std.specs.Prelude.{◌≡◌, ◌≢◌, ℕ, ◌+◌, ◌<◌, ◌≤◌, ◌↔◌, ◌⊎◌, ◌++◌, ◌∷◌, [], length, AllPairs, Contains, IsTrue, Err, OnOk, OnErr, slice_index, take, drop, ◌-◌};
 ghost use Rattle.grammar_model.specs.declared.Edge.{Edge as HeldEdge};
-ghost use Rattle.grammar_core.specs.Edges.{placed, longest_edge, GoFrom, AreOrdered};
+ghost use Rattle.grammar_core.specs.Edges.{placed, longest_edge, GoFrom, AreOrdered, IsShortTo};
 ghost use Rattle.grammar_core.specs.declared.edges.EdgeRefusal.TheVariants.{Duplicate, BadLength, NoMemory};
 
 use crate::SymbolId;
+use crate::long::LongEdges;
+use grammar_model::Edge as HeldEdge;
 use std::alloc::{AllocError, AllocFailed, Global};
 use std::marker::Model;
 use thiserror::Error;
 
 /// The greatest length that an edge may have.
-pub const LONGEST_EDGE: u32 = 1;
+pub const LONGEST_EDGE: u32 = 1_048_576;
 
 /// A terminal and how many places it spans.
 #[derive(Clone, Copy, Debug, PartialEq, Eq)]
@@ -43,13 +45,13 @@ impl<T: Drop> From<AllocFailed<T>> for EdgeRefusal {
     }
 }
 
-/// Edges in the order of the places where they begin.
+/// Edges in the order of the places where they begin, each once.
 #[derive(Debug, Drop)]
 pub struct TokenEdges {
     places: Vec<u32>,
     edges: Vec<Edge>,
-    // at least the length of each
-    longest: u32,
+    // those of them that span more than one place
+    long: LongEdges,
 }
 
 impl Model for TokenEdges {
@@ -61,7 +63,7 @@ impl Model for TokenEdges {
 
     ghost view = { λ e. all_placed e.places.items e.edges.items };
 
-    ghost invariant = { λ e. ArePlaced e.places.items e.edges.items e.longest };
+    ghost invariant = { λ e. ArePlaced e.places.items e.edges.items e.long };
 }
 
 impl TokenEdges {
@@ -72,8 +74,17 @@ impl TokenEdges {
         TokenEdges {
             places: Vec::new(alloc),
             edges: Vec::new(alloc),
-            longest: 0,
+            long: LongEdges::new(alloc),
         }
+    }
+
+    /// States what is always so of the edges.
+    pub fn known(&self)
+        ensures once { AllPairs (λ a b. a ≢ b) self.now }
+        ensures order { AllPairs (λ a b. a.from ≤ b.from) self.now }
+        ensures lengths { (e : HeldEdge) → Contains self.now e → (e.from < e.to) × (e.to ≤ e.from + longest_edge) }
+    {
+        let _count = self.edges.len();
     }
 
     /// How many edges are held.
@@ -85,7 +96,8 @@ impl TokenEdges {
 
     /// The edges that begin at a place, in the order of pushing.
     pub fn edges_at(&self, at: u32) -> &[Edge]
-        ensures { (e : Edge) → Contains result.now e ↔ Contains self.now (placed at e) }
+        ensures exact { (e : Edge) → Contains result.now e ↔ Contains self.now (placed at e) }
+        ensures once { AllPairs (λ a b. a ≢ b) result.now }
     {
         let start = before(&self.places, at);
         let end = up_to(&self.places, at);
@@ -98,6 +110,7 @@ impl TokenEdges {
     {
         self.places.clear();
         self.edges.clear();
+        self.long.clear();
     }
 
     // Whether that edge is held.
@@ -113,6 +126,7 @@ impl TokenEdges {
         requires place { at ≤ 16777216 }
         requires some { 0 < length }
         requires short { length ≤ longest_edge }
+        requires new { ¬ Contains self.old (record { symbol = t; from = at; to = at + length }) }
         ensures ok { OnOk result (self.new ≡ self.old ++ record { symbol = t; from = at; to = at + length } ∷ []) }
         ensures err { OnErr result (self.new ≡ self.old) }
         ensures memory { OnErr result (result ≡ Err NoMemory) }
@@ -122,7 +136,16 @@ impl TokenEdges {
             self.edges.pop();
             return Err(EdgeRefusal::from(failed));
         }
-        self.longest = self.longest.max(length);
+        let edge = HeldEdge {
+            symbol: t.0,
+            from: at,
+            to: at + length,
+        };
+        if length > 1 && self.long.push(edge).is_err() {
+            self.places.pop();
+            self.edges.pop();
+            return Err(EdgeRefusal::NoMemory);
+        }
         Ok(())
     }
 
@@ -145,22 +168,43 @@ impl TokenEdges {
         self.add(at, t, length)
     }
 
-    /// How many edges can be passed over where those that end at a place or behind it are looked for.
-    pub fn first_ending_at(&self, place: u32) -> usize
-        ensures bound { result ≤ length self.now }
-        ensures past { (k : ℕ) (e : HeldEdge) → k < result → slice_get self.now k ≡ Some e → e.to < place }
+    /// Lists the edges that end at a place, each once, in place of what the list held.
+    pub fn list_to(&self, place: u32, edges: &mut Vec<HeldEdge>) -> Result<(), AllocError>
+        ensures exact { OnOk result ((e : HeldEdge) → Contains edges.new.items e ↔ (Contains self.now e × (e.to ≡ place))) }
+        ensures once { OnOk result (AllPairs (λ d e. d ≢ e) edges.new.items) }
     {
-        before(&self.places, place.saturating_sub(self.longest))
+        edges.clear();
+        if place > 0 {
+            list_short(self.edges_at(place - 1), place, edges)?;
+        }
+        self.long.list_to(place, edges)?;
+        Ok(())
     }
+}
 
-    /// An edge, by its number in the order of pushing, and the place where it begins.
-    pub fn edge(&self, k: usize) -> (u32, Edge)
-        requires { k < length self.now }
-        ensures held { slice_get self.now k ≡ Some (placed result.0 result.1) }
-        ensures fits { (0 < result.1.length) × (result.0 + result.1.length < 2 ^ 32) }
-    {
-        (place_at(&self.places, k), edge_at(&self.edges, k))
+// Lists the edges of length one to a place, of those that begin just before it, behind what the list holds.
+fn list_short(
+    begun: &[Edge],
+    place: u32,
+    edges: &mut Vec<HeldEdge>,
+) -> Result<(), AllocFailed<HeldEdge>>
+    requires place { 0 < place }
+    requires begun { AllPairs (λ a b. a ≢ b) begun.now }
+    requires once { AllPairs (λ d e. d ≢ e) edges.old.items }
+    requires apart { (e : HeldEdge) → Contains edges.old.items e → ¬ IsShortTo begun.now place e }
+    ensures listed { OnOk result ((e : HeldEdge) → Contains edges.new.items e ↔ (Contains edges.old.items e ⊎ IsShortTo begun.now place e)) }
+    ensures once { OnOk result (AllPairs (λ d e. d ≢ e) edges.new.items) }
+{
+    for edge in begun {
+        if edge.length == 1 {
+            edges.push(HeldEdge {
+                symbol: edge.symbol.0,
+                from: place - 1,
+                to: place,
+            })?;
+        }
     }
+    Ok(())
 }
 
 // How many of the places, which are in order, are lower.
@@ -189,18 +233,4 @@ fn part(edges: &[Edge], start: usize, end: usize) -> &[Edge]
     ensures { result.now ≡ take (end - start) (drop start edges.now) }
 {
     &edges[start..end]
-}
-
-fn place_at(places: &[u32], k: usize) -> u32
-    requires { k < length places.now }
-    ensures { slice_get places.now k ≡ Some result }
-{
-    places[k]
-}
-
-fn edge_at(edges: &[Edge], k: usize) -> Edge
-    requires { k < length edges.now }
-    ensures { slice_get edges.now k ≡ Some result }
-{
-    edges[k]
 }

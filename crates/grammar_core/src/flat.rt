@@ -2,7 +2,7 @@
 ghost use Rattle.std.specs.Prelude.{◌≡◌, ◌≢◌, ℕ, ◌<◌, ◌≤◌, ◌^◌, ◌↔◌, true, false, length, IsTrue, IfSome, IsNone, slice_get, Some};
 ghost use Rattle.recognizer_model.specs.declared.flat.FlatSymbol.{FlatSymbol};
 ghost use Rattle.recognizer_model.specs.declared.flat.FlatSymbol.TheVariants.{Terminal};
-ghost use Rattle.recognizer_model.specs.Flat.{IsRule, IsNullable, lhs_of, rhs_of, source_of};
+ghost use Rattle.recognizer_model.specs.Flat.{IsRule, IsNullable, lhs_of, rhs_of, part_of, source_of};
 ghost use Rattle.grammar_core.specs.Flat.{terminal_below};
 ghost use Rattle.recognizer_model.specs.Invariant.{IsFlat, IsArranged};
 
@@ -107,6 +107,14 @@ impl Flat {
         ensures { result.now ≡ rhs_of self.now r }
     {
         &self.rules[r as usize].rhs
+    }
+
+    /// The symbol at a position of a rule's right side, if the grammar has both.
+    pub fn part(&self, r: u32, position: u32) -> Option<u32>
+        ensures { result ≡ part_of self.now r position }
+    {
+        let rule = self.rules.get(r as usize)?;
+        rule.rhs.get(position as usize).copied()
     }
 
     /// Whether a symbol is nullable.

@@ -3,11 +3,10 @@
 
 mod edges;
 mod flat;
+mod long;
 mod refusal;
 mod rule;
 mod steps;
-#[cfg(test)]
-mod tests;
 mod written;
 
 pub use edges::{Edge, EdgeRefusal, LONGEST_EDGE, TokenEdges};

@@ -10,4 +10,5 @@ pub mod Facts
 pub mod Acceptance
 pub mod Spans
 pub mod Flattening
+pub mod Reduced
 pub mod Applied

@@ -2,6 +2,7 @@
 #![tactic(auto)]
 
 ghost use Rattle.grammar_laws.specs.Applied.{LawsApply};
+ghost use Rattle.grammar_laws.specs.Reduced.{ReducedSetsAgree, ReducedSetsApply};
 ghost use Rattle.grammar_laws.specs.Laws.{TestsExist, ChecksDecide, DecisionsExist, NamedRulesAreAll, RulesAreCounted, RuleCountIsOne, FlatteningDecides, ItemSetsExist, AcceptableAreDecided, ToldAcceptableAreDecided, TreesAreDecided, ToldTreesAreDecided};
 
 /// Of each slot it is decided whether it is nullable, productive and accessible.
@@ -42,6 +43,16 @@ pub fn flattening_decides()
 /// Each place has a list of its items, over edges that go forward.
 pub fn item_sets_exist()
     ensures { ItemSetsExist }
+{}
+
+/// The reduced and the full sets keep the same waiting items, and the expanded sets are the full ones.
+pub fn reduced_sets_agree()
+    ensures { ReducedSetsAgree }
+{}
+
+/// The law of reduced sets where a completion leads on through two pairs, with an item that is hidden.
+pub fn reduced_sets_apply()
+    ensures { ReducedSetsApply }
 {}
 
 /// It is decided whether a terminal is acceptable at a place of a checked grammar, over the edges of a list.

@@ -8,7 +8,6 @@ use Rattle.language_model.specs.Tokens.{Spelled}
 use Rattle.language_model.specs.Description.{Element, Bare, Adverb, Pair, Statement, Start, Lexeme, Rules, cut, pieces_of, tokens_of, Describes}
 use Rattle.language_model.specs.Building.{build, grammar_g1, grammar_l0, BadAdverb, RepeatedAdverb, LexemeNotDefined, InBoth, NotALexeme, BadClass, TwoStarts, NumberRange}
 use Rattle.language_model.specs.Classes.{class_of, posix_len, hex_piece, escape_piece, piece_at, pieces_behind, items_of}
-use Rattle.language_model.specs.Simple.{Named, Quoted, IsSimpleDescription, grammar_of_simple}
 
 abbrev word_at : ℕ → List ℕ → Spelled
 word_at at content = record { kind = Word; content = content; at = at }
@@ -71,17 +70,6 @@ l0_of_sums : grammar_l0 (Rules (word_at 0 (codes "E")) false ((record { elements
     ≡ record { names = codes "'+'" ∷ codes "N" ∷ codes "[\\d]" ∷ (58 ∷ decimal 0) ∷ (58 ∷ decimal 1) ∷ []; rules = Plain (record { lhs = 1; rhs = 2 ∷ []; level = 0; groups = 1; assoc = Left; rank = pos 0; null_high = false }) ∷ Plain (record { lhs = 0; rhs = 3 ∷ []; level = 0; groups = 1; assoc = Left; rank = pos 0; null_high = false }) ∷ Plain (record { lhs = 2; rhs = 4 ∷ []; level = 0; groups = 1; assoc = Left; rank = pos 0; null_high = false }) ∷ []; starts = 0 ∷ 1 ∷ [] }
 unfolding chars class_of posix_len hex_piece escape_piece piece_at pieces_behind items_of
 l0_of_sums = refl
-
--- the description of `S ::= 'a' | S '+'` is simple
-simple_description : IsSimpleDescription
-    (Rules (word_at 0 (codes "S")) false ((record { elements = Bare (quote_at 6 (codes "'a'")) ∷ []; adverbs = [] } ∷ record { elements = Bare (word_at 12 (codes "S")) ∷ Bare (quote_at 14 (codes "'+'")) ∷ []; adverbs = [] } ∷ []) ∷ []) ∷ [])
-    (record { left = codes "S"; alternatives = (Quoted 97 ∷ []) ∷ (Named (codes "S") ∷ Quoted 43 ∷ []) ∷ [] } ∷ [])
-simple_description = record { simple = record { some = refl; lines = refl; names = refl; plain = refl; differ = refl; few = refl }; says = refl }
-
--- its grammar, by the order of the names' first appearance
-simple_grammar : grammar_of_simple (record { left = codes "S"; alternatives = (Quoted 97 ∷ []) ∷ (Named (codes "S") ∷ Quoted 43 ∷ []) ∷ [] } ∷ [])
-    ≡ record { names = codes "S" ∷ codes "'a'" ∷ codes "'+'" ∷ []; rules = Plain (record { lhs = 0; rhs = 1 ∷ []; level = 0; groups = 1; assoc = Left; rank = pos 0; null_high = false }) ∷ Plain (record { lhs = 0; rhs = 0 ∷ 2 ∷ []; level = 0; groups = 1; assoc = Left; rank = pos 0; null_high = false }) ∷ []; starts = 0 ∷ [] }
-simple_grammar = refl
 
 -- `S ::= 'a' ; 'b'` has two pieces, the second of which begins at the thirteenth character
 two_pieces : pieces_of (word_at 0 (codes "S") ∷ mark_at 2 (codes "::=") ∷ quote_at 6 (codes "'a'") ∷ mark_at 10 (codes ";") ∷ quote_at 12 (codes "'b'") ∷ []) ≡ (word_at 0 (codes "S") ∷ mark_at 2 (codes "::=") ∷ quote_at 6 (codes "'a'") ∷ []) ∷ (quote_at 12 (codes "'b'") ∷ []) ∷ []

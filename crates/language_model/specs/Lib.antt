@@ -4,6 +4,5 @@ pub mod Classes
 pub mod Description
 pub mod Layout
 pub mod Places
-pub mod Simple
 pub mod Texts
 pub mod Tokens

@@ -1,9 +1,22 @@
 -- Rows that lie end to end.
-use Rattle.std.proofs.Common.{◌≡◌, ℕ, zero, suc, ◌+◌, ◌-◌, ◌<◌, ◌≤◌, ◌++◌, List, [], ◌∷◌, length, take, drop, get_or, refl, sym, ap, ◌∙◌, subst, arith, length-append}
-use Rattle.std.proofs.lemmas.List.{drop-take, length-take-le}
+use Rattle.std.proofs.Common.{◌≡◌, ℕ, zero, suc, ◌+◌, ◌-◌, ◌<◌, ◌≤◌, ◌++◌, List, [], ◌∷◌, length, take, drop, get_or, refl, sym, ap, ◌∙◌, subst, arith, length-append, Result, Ok, Err, OnErr}
+use Rattle.std.proofs.lemmas.List.{drop-take, take-append-le, length-take-le}
 use Rattle.std.proofs.Math.Seq.{take-length, drop-append_seam}
-use Rattle.earley_sets.proofs.Cutting.{take_take, take_prefix}
 use Rattle.lexer.specs.Terminals.{cut, AreEnds, last_end, row_at}
+
+-- take e after take n
+take_take : {A : Type 0} (e n : ℕ) (xs : List A) → e ≤ n → take e (take n xs) ≡ take e xs
+take_take zero n xs le = refl
+take_take (suc e) zero xs le = absurd (omega arith)
+take_take (suc e) (suc n) [] le = refl
+take_take (suc e) (suc n) (x ∷ xs) le = ap (λ l. x ∷ l) (take_take e n xs (omega arith))
+
+take_prefix : {A : Type 0} (n : ℕ) (xs row : List A) → n ≤ length xs → take n (take n xs ++ row) ≡ take n xs
+take_prefix n xs row le = take-append-le n (take n xs) row (let l = length-take-le n xs le in omega arith) ∙ take_take n n xs (omega arith)
+
+pub on_err : {T E P : Type 0} (r : Result T E) → P → OnErr r P
+on_err (Ok x) p = tt
+on_err (Err e) p = p
 
 take_as : (e n : ℕ) (xs ys : List ℕ) → e ≤ n → take n xs ≡ take n ys → take e xs ≡ take e ys
 take_as e n xs ys le h = sym (take_take e n xs le) ∙ (ap (take e) h ∙ take_take e n ys le)

@@ -1,6 +1,13 @@
-pub mod Reading
-pub mod Cutting
 pub mod Listing
-pub mod Taking
-pub mod Choosing
+pub mod Sorted
+pub mod Cutting
+pub mod Starts
 pub mod Matching
+pub mod Moving
+pub mod Runs
+pub mod ClassLists
+pub mod Noting
+pub mod RowKinds
+pub mod Machines
+pub mod Done
+pub mod ReadOn

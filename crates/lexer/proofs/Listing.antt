@@ -1,5 +1,5 @@
 -- Loops over lists: one element more.
-use Rattle.std.proofs.Common.{◌≡◌, ◌↔◌, ◌⊎◌, inl, inr, ℕ, zero, suc, ◌+◌, ◌<◌, ◌++◌, List, [], ◌∷◌, length, take, get_or, Contains, refl, sym, ap, ◌∙◌, subst, arith, length-append}
+use Rattle.std.proofs.Common.{◌≡◌, ◌↔◌, ◌⊎◌, inl, inr, ℕ, zero, suc, ◌+◌, ◌<◌, ◌++◌, List, [], ◌∷◌, length, take, map, get_or, Contains, refl, sym, ap, ◌∙◌, subst, arith, length-append}
 use Rattle.std.proofs.lemmas.Bool.{cases_lt}
 use Rattle.std.proofs.lemmas.List.{take_more, get_or_append_left, get_or-append-add}
 use Rattle.std.proofs.lemmas.List.Elements.{Contains-append_left, Contains-push, Contains-push_cases}
@@ -69,3 +69,11 @@ module _ {X : Type 0} (P : ℕ → X → Type 0) (xs xs' : List X) (x : X) (is :
 pub rows_more : (P : ℕ → List ℕ → Type 0) (rows rows' : List (List ℕ)) (row : List ℕ) → rows' ≡ rows ++ row ∷ [] → ((k : ℕ) → k < length rows → P k (row_at rows k)) → P (length rows) row →
     (k : ℕ) → k < length rows' → P k (row_at rows' k)
 rows_more P rows rows' row is before here k lt = each_more P rows rows' row is (λ k d lt. subst (P k) (get_or-default rows k [] d lt) (before k lt)) here k [] lt
+
+map_at : {X Y : Type 0} (f : X → Y) (x : X) (xs : List X) (k : ℕ) → k < length xs → get_or xs k x ≡ x → Contains (map f xs) (f x)
+map_at f x [] k lt e = absurd (omega arith)
+map_at f x (y ∷ ys) zero lt e = (0, omega arith, ap f e)
+map_at f x (y ∷ ys) (suc k) lt e = let (j, jl, je) = map_at f x ys k (omega arith) e in (suc j, omega arith, je)
+
+pub Contains-map : {X Y : Type 0} (f : X → Y) (xs : List X) (x : X) → Contains xs x → Contains (map f xs) (f x)
+Contains-map f xs x (k, lt, e) = map_at f x xs k lt e

@@ -12,12 +12,12 @@ use Rattle.recognizer_model.specs.Flat.{FlatGrammar, rhs_of}
 use Rattle.recognizer_model.specs.Invariant.{IsFlat}
 use Rattle.recognizer_model.specs.FlatForm.{FlatEdges, IsFlatOf, IsFlatForm, FlatGrammarsAreFlatForms, tree_of}
 use Rattle.recognizer_model.specs.View.{grammar_view}
-use Rattle.earley_sets.proofs.Membership.{Contains-none, get_at}
-use Rattle.earley_sets.proofs.Starts.{part_in_range, part_stands}
+use Rattle.threads.proofs.Listing.{Contains-none, get_at}
 use Rattle.language_model.specs.Building.{Built}
 use Rattle.reading_model.specs.Matches.{CharacterEdges, Matches}
 use Rattle.lexer.specs.Lexical.{SetEdges, HasMatch}
 use Rattle.lexer.specs.Laws.{MatchesAreTheGrammars}
+use Rattle.lexer.proofs.Starts.{part_in_range, part_stands}
 
 -- ---- the edges of a tree
 

@@ -1,5 +1,5 @@
 pub mod Lexical
 pub mod Laws
 pub mod Terminals
-pub mod Running
-pub mod Choosing
+pub mod Machines
+pub mod Reading

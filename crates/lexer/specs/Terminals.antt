@@ -1,5 +1,5 @@
 -- The terminals of characters, kept in rows that lie end to end.
-use Rattle.std.specs.Prelude.{ℕ, ◌≤◌, ◌↔◌, List, [], ◌∷◌, take, drop, slice_index_or, Contains}
+use Rattle.std.specs.Prelude.{ℕ, ◌<◌, ◌≤◌, ◌↔◌, List, [], ◌∷◌, length, take, drop, slice_index_or, Contains}
 use Rattle.language_model.specs.Classes.{Class, HasMember}
 
 -- the terminal has a set with the character
@@ -25,3 +25,13 @@ last_end from (end ∷ ends) = last_end end ends
 
 abbrev pub row_at : List (List ℕ) → ℕ → List ℕ
 row_at rows k = slice_index_or rows k []
+
+-- the sets of the terminals, and the terminals of each class of characters
+pub record ClassRows : Type 0 where
+  pub sets : List (ℕ × Class)
+  pub rows : List (List ℕ)
+
+-- the class of a character: its row has just the terminals of the character
+pub record IsClassOf (sets : List (ℕ × Class)) (rows : List (List ℕ)) (c class : ℕ) : Type 0 where
+  pub there : class < length rows
+  pub exact : AreTerminalsOf sets c (row_at rows class)

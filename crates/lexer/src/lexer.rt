@@ -1,18 +1,23 @@
-//! A lexer: the recognizers of all starts, used again from token to token.
-ghost use Rattle.std.specs.Prelude.{◌≡◌, ◌<◌, ◌≤◌, ◌++◌, ◌∷◌, [], ℕ, List, length, Contains, IfOk, IfSome, IsNone, OnOk};
-ghost use Rattle.recognizer_model.specs.Flat.{FlatGrammar};
-ghost use Rattle.lexer.specs.Lexical.{LexicalForm, IsLongestMatch, IsUnmatched};
-ghost use Rattle.lexer.specs.Running.{IsLongestOf, AreLooked};
-ghost use Rattle.lexer.specs.Choosing.{IsBestOf, AreRecognizers, AreFirsts};
+//! A lexer: states that are used again from token to token.
+ghost use Rattle.std.specs.Prelude.{◌≡◌, ◌<◌, ◌≤◌, ◌↔◌, ℕ, List, length, Some, Contains, IfOk, IfSome, IsNone, IsTrue, OnOk, ◌⊎◌, [], slice_get};
+ghost use Rattle.std.specs.List.Sorted.{IsStrictlySortedBy};
+ghost use Rattle.std.specs.Ordering.{nat_cmp};
+ghost use Rattle.recognizer_model.specs.declared.thread.Thread.{Thread as AThread};
+ghost use Rattle.recognizer_model.specs.Flat.{IsRule};
+ghost use Rattle.threads.specs.Lists.{list_at};
+ghost use Rattle.threads.specs.Steps.{IsBegin};
+ghost use Rattle.lexer.specs.Lexical.{IsLongestMatch, IsUnmatched};
+ghost use Rattle.lexer.specs.Machines.{form_of, IsMatch, IsKindOf, IsMachine, Goes};
+ghost use Rattle.lexer.specs.Reading.{IsDoneIn, IsBestRow};
 
-use crate::first::{first_characters, match_length};
-use crate::run::Looked;
-use crate::table::{Lexical, Table};
-use crate::terminals::TerminalRows;
-use earley_sets::Recce;
+use crate::kinds::{Kind, is_match};
+use crate::machine::{Machine, begin, forget_if_full, new_machine, step};
+use crate::table::Lexical;
+use grammar_core::Flat;
 use slif_base::Chars;
 use std::alloc::{AllocError, Global};
 use std::marker::Model;
+use threads::Thread;
 
 /// The longest match, in characters, and every candidate that has it, in the order of the candidates.
 #[derive(Debug, Drop)]
@@ -21,100 +26,178 @@ pub struct LexAnswer {
     pub matched: Vec<u32>,
 }
 
-/// The recognizers of the starts of a lexical grammar. It is seen as the grammar.
+/// The states of a lexical grammar that were met. It is seen as the grammar.
 #[derive(Drop)]
 pub struct Lexer<'g> {
-    table: Table<'g>,
-    recognizers: Vec<Recce<'g>>,
-    // for each start, which ASCII characters can come first
-    first: Vec<[bool; 128]>,
-    // room that is used again
-    looked: Looked,
+    machine: Machine<'g>,
 }
 
 impl<'g> Model for Lexer<'g> {
-    ghost use Rattle.std.specs.Prelude.{◌≡◌, length};
     ghost use Rattle.lexer.specs.Lexical.{LexicalForm};
-    ghost use Rattle.lexer.specs.Choosing.{AreRecognizers, AreFirsts};
 
     ghost Value = { LexicalForm };
 
-    ghost view = { λ l. l.table };
+    ghost use Rattle.lexer.specs.Machines.{form_of, IsMachine};
 
-    ghost invariant = { λ l. AreRecognizers l.table l.recognizers.items × AreFirsts l.table l.first.items };
+    ghost view = { λ l. form_of l.machine };
+
+    ghost invariant = { λ l. IsMachine l.machine };
 }
 
-// Keeps the candidate if it has the longest match so far.
-fn keep(best: &mut LexAnswer, candidate: u32, length: u32) -> Result<(), AllocError>
-    ensures { OnOk result ((l : LexicalForm) (text candidates : List ℕ) (at : ℕ) →
-        IsBestOf l text at candidates best.old.length best.old.matched.items → IsLongestOf l text candidate at length →
-        IsBestOf l text at (candidates ++ candidate ∷ []) best.new.length best.new.matched.items) }
+// A length, and the state there.
+#[derive(Clone, Copy)]
+struct Best {
+    length: usize,
+    state: usize,
+}
+
+fn kind_at(machine: &Machine<'_>, state: usize) -> Kind
+    requires is { IsMachine machine.now }
+    requires state { state < length machine.now.rows }
+    ensures { IsKindOf machine.now.flat.now (list_at machine.now.rows state) result }
 {
-    if length > best.length {
-        best.length = length;
-        best.matched.clear();
-    }
-    if length == best.length && length > 0 {
-        best.matched.push(candidate)?;
-    }
-    Ok(())
+    machine.kinds[state]
 }
 
-// The longest match of the candidates; of length 0 where there is none.
-fn best_of(
+// Reads from a place on, from the state of no text.
+fn read(
+    machine: &mut Machine<'_>,
     alloc: Global,
-    table: &Table<'_>,
-    first: &[[bool; 128]],
-    recognizers: &mut Vec<Recce<'_>>,
-    looked: &mut Looked,
     chars: &Chars,
     at: usize,
     candidates: &[u32],
-) -> Result<LexAnswer, AllocError>
+    first: usize,
+) -> Result<Best, AllocError>
+    requires is { IsMachine machine.old }
     requires at { at ≤ length chars.now }
-    requires few { length chars.now ≤ 16777216 }
-    requires starts { (k : ℕ) → Contains candidates.now k → k < length table.now.flat.tops }
-    requires recognizers { AreRecognizers table.now recognizers.old.items }
-    requires first { AreFirsts table.now first.now }
-    ensures recognizers { AreRecognizers table.now recognizers.new.items }
-    ensures best { IfOk result (λ a. IsBestOf table.now chars.now at candidates.now a.length a.matched.items) }
+    requires starts { (k : ℕ) → Contains candidates.now k → k < length machine.old.flat.now.tops }
+    requires state { first < length machine.old.rows }
+    requires begins { (set : List AThread) × IsBegin machine.old.flat.now machine.old.parts candidates.now set (list_at machine.old.rows first) }
+    ensures goes { Goes machine.old machine.new }
+    ensures there { IfOk result (λ best. best.state < length machine.new.rows) }
+    ensures within { IfOk result (λ best. best.length ≤ length chars.now) }
+    ensures best { IfOk result (λ best. IsBestRow (form_of machine.new) chars.now at candidates.now (list_at machine.new.rows best.state) best.length) }
 {
-    looked.rows.clear();
-    let mut best = LexAnswer {
-        length: 0,
-        matched: Vec::new(alloc),
-    };
-    for candidate in candidates {
-        let start = *candidate as usize;
-        let recce = &mut recognizers[start];
-        let length = match_length(table, &first[start], chars, at, looked, recce)?;
-        keep(&mut best, *candidate, length)?;
+    machine.flat.known();
+    let mut state = first;
+    let mut best = Best { length: 0, state };
+    for place in 0..chars.len() - at {
+        if !kind_at(machine, state).goes {
+            return Ok(best);
+        }
+        state = step(machine, alloc, state, chars.at(at + place))?;
+        if kind_at(machine, state).matches {
+            best = Best {
+                length: place + 1,
+                state,
+            };
+        }
     }
     Ok(best)
 }
 
+// Lists the rules of starts that are done in a row.
+fn list_done(flat: &Flat, row: &[Thread], done: &mut Vec<u32>) -> Result<(), AllocError>
+    requires { (th : AThread) → Contains row.now th → IsRule flat.now th.rule }
+    ensures { OnOk result ((r : ℕ) → Contains done.new.items r ↔ (Contains done.old.items r ⊎ ((th : AThread) × Contains row.now th × IsMatch flat.now th × (th.rule ≡ r)))) }
+{
+    for thread in row {
+        if is_match(flat, *thread) {
+            done.push(thread.rule)?;
+        }
+    }
+    Ok(())
+}
+
+// Whether the start's rule is one of these.
+fn is_done(flat: &Flat, done: &[u32], candidate: u32) -> bool
+    requires { candidate < length flat.now.tops }
+    ensures { IsTrue result ↔ ((r : ℕ) × (slice_get flat.now.tops candidate ≡ Some r) × Contains done.now r) }
+{
+    done.contains(&flat.top(candidate as usize))
+}
+
+// Lists the candidates whose rules are done.
+fn list_matched(
+    flat: &Flat,
+    done: &[u32],
+    candidates: &[u32],
+    matched: &mut Vec<u32>,
+) -> Result<(), AllocError>
+    requires candidates { (k : ℕ) → Contains candidates.now k → k < length flat.now.tops }
+    requires empty { matched.old.items ≡ [] }
+    ensures exact { OnOk result ((k : ℕ) → Contains matched.new.items k ↔ (Contains candidates.now k × ((r : ℕ) × (slice_get flat.now.tops k ≡ Some r) × Contains done.now r))) }
+    ensures sorted { OnOk result (IsStrictlySortedBy nat_cmp candidates.now → IsStrictlySortedBy nat_cmp matched.new.items) }
+{
+    for candidate in candidates {
+        if is_done(flat, done, *candidate) {
+            matched.push(*candidate)?;
+        }
+    }
+    Ok(())
+}
+
+// The candidates that are done in a row, in their order.
+fn matched_of(
+    alloc: Global,
+    flat: &Flat,
+    row: &[Thread],
+    candidates: &[u32],
+) -> Result<Vec<u32>, AllocError>
+    requires row { (th : AThread) → Contains row.now th → IsRule flat.now th.rule }
+    requires candidates { (k : ℕ) → Contains candidates.now k → k < length flat.now.tops }
+    ensures exact { IfOk result (λ matched. (k : ℕ) → Contains matched.items k ↔ (Contains candidates.now k × IsDoneIn flat.now row.now k)) }
+    ensures sorted { IfOk result (λ matched. IsStrictlySortedBy nat_cmp candidates.now → IsStrictlySortedBy nat_cmp matched.items) }
+{
+    let mut done = Vec::new(alloc);
+    list_done(flat, row, &mut done)?;
+    let mut matched = Vec::new(alloc);
+    list_matched(flat, &done, candidates, &mut matched)?;
+    Ok(matched)
+}
+
+// The longest match, by the states of a machine.
+fn longest_by(
+    machine: &mut Machine<'_>,
+    alloc: Global,
+    chars: &Chars,
+    at: usize,
+    candidates: &[u32],
+) -> Result<Option<LexAnswer>, AllocError>
+    requires is { IsMachine machine.old }
+    requires at { at ≤ length chars.now }
+    requires few { length chars.now ≤ 16777216 }
+    requires starts { (k : ℕ) → Contains candidates.now k → k < length machine.old.flat.now.tops }
+    ensures is { IsMachine machine.new }
+    ensures form { form_of machine.new ≡ form_of machine.old }
+    ensures none { IfOk result (λ answer. IsNone answer → IsUnmatched (form_of machine.old) chars.now at candidates.now) }
+    ensures some { IfOk result (λ answer. IfSome answer (λ a. IsLongestMatch (form_of machine.old) chars.now at candidates.now a.length a.matched.items)) }
+{
+    forget_if_full(machine);
+    let first = begin(machine, alloc, candidates)?;
+    let best = read(machine, alloc, chars, at, candidates, first)?;
+    if best.length == 0 {
+        return Ok(None);
+    }
+    let matched = matched_of(
+        alloc,
+        machine.flat,
+        machine.rows.list(best.state),
+        candidates,
+    )?;
+    Ok(Some(LexAnswer {
+        length: best.length as u32,
+        matched,
+    }))
+}
+
 impl<'g> Lexer<'g> {
-    /// A lexer with a recognizer for each start.
+    /// A lexer with no states yet.
     pub fn new(alloc: Global, l0: Lexical<'g>) -> Result<Lexer<'g>, AllocError>
         ensures { IfOk result (λ l. l ≡ l0.entry) }
     {
-        let table = Table::new(alloc, l0)?;
-        let mut recognizers = Vec::new(alloc);
-        let mut first = Vec::new(alloc);
-        for start in 0..table.flat().start_count() {
-            let recce = Recce::new(alloc, table.flat(), start)?;
-            first.push(first_characters(&table, &recce))?;
-            recognizers.push(recce)?;
-        }
-        Ok(Lexer {
-            table,
-            recognizers,
-            first,
-            looked: Looked {
-                rows: TerminalRows::new(alloc),
-                terminals: Vec::new(alloc),
-            },
-        })
+        let machine = new_machine(alloc, l0)?;
+        Ok(Lexer { machine })
     }
 
     /// The longest match of the candidates, which are starts by their places, at a place of the text; none where no candidate
@@ -133,21 +216,7 @@ impl<'g> Lexer<'g> {
         ensures none { IfOk result (λ answer. IsNone answer → IsUnmatched self.old chars.now at candidates.now) }
         ensures some { IfOk result (λ answer. IfSome answer (λ a. IsLongestMatch self.old chars.now at candidates.now a.length a.matched.items)) }
     {
-        let best = best_of(
-            alloc,
-            &self.table,
-            &self.first,
-            &mut self.recognizers,
-            &mut self.looked,
-            chars,
-            at,
-            candidates,
-        )?;
-        if best.length == 0 {
-            Ok(None)
-        } else {
-            Ok(Some(best))
-        }
+        longest_by(&mut self.machine, alloc, chars, at, candidates)
     }
 }
 

@@ -1,13 +1,14 @@
-//! The longest match of several starts of a lexical grammar, by one recognizer for each start.
+//! The longest match of several starts of a lexical grammar, by states that are made when they are first met.
 #![tactic(auto)]
 
-mod first;
+mod begins;
+mod classes;
+mod kinds;
 mod lexer;
-mod run;
+mod machine;
+mod next;
 mod table;
 mod terminals;
-#[cfg(test)]
-mod tests;
 
 ghost use Rattle.lexer.specs.Laws.{MatchesAreTheGrammars};
 

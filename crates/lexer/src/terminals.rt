@@ -51,13 +51,6 @@ impl TerminalRows {
         between(&self.terminals, start, end)
     }
 
-    /// No rows; the room is kept.
-    pub fn clear(&mut self)
-        ensures { self.new ≡ [] }
-    {
-        self.ends.clear();
-    }
-
     /// One more row.
     pub fn push(&mut self, row: &[SymbolId]) -> Result<(), AllocError>
         ensures ok { OnOk result (self.new ≡ self.old ++ row.now ∷ []) }
@@ -136,18 +129,4 @@ pub fn list_terminals(
         }
     }
     Ok(())
-}
-
-/// The terminals of each ASCII character, by its code.
-pub fn ascii_rows(alloc: Global, sets: &[(SymbolId, CharSet)]) -> Result<TerminalRows, AllocError>
-    ensures long { IfOk result (λ rows. length rows ≡ 128) }
-    ensures exact { IfOk result (λ rows. (c : ℕ) → c < 128 → AreTerminalsOf sets.now c (row_at rows c)) }
-{
-    let mut rows = TerminalRows::new(alloc);
-    let mut terminals = Vec::new(alloc);
-    for code in 0..128u8 {
-        list_terminals(sets, code as char, &mut terminals)?;
-        rows.push(&terminals)?;
-    }
-    Ok(rows)
 }

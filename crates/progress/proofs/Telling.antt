@@ -3,7 +3,10 @@ use Rattle.std.proofs.Common.{◌≡◌, ℕ, ◌<◌, ◌≤◌, ◌+◌, ◌++
 use Rattle.std.proofs.lemmas.Bool.{cases_lt}
 use Rattle.std.proofs.lemmas.List.Elements.{Contains-append_left, Contains-push, Contains-push_cases}
 use Rattle.recognizer_model.specs.declared.Item.{Item}
-use Rattle.recognizer_model.specs.Flat.{IsRule}
+use Rattle.grammar_model.specs.Grammar.{Grammar}
+use Rattle.recognizer_model.specs.declared.ReportLine.{ReportLine}
+use Rattle.recognizer_model.specs.Report.{IsLine, line_of}
+use Rattle.recognizer_model.specs.Flat.{FlatGrammar, IsRule}
 use Rattle.recognizer_model.specs.Items.{InSet}
 use Rattle.recognizer_model.proofs.Earley.{items_are_found}
 use Rattle.earley_sets.specs.Recognizer.{Recognizer, IsRecognizer, edges_of, top_of}
@@ -67,3 +70,15 @@ module _ {X Y : Type 0} (f : X → Option Y) (xs : List X) where
 -- the item of a set has a rule
 pub has_rule : (r : Recognizer) (j : ℕ) (item : Item) → IsRecognizer r → InSet r.flat (edges_of r) (top_of r) j item → IsRule r.flat item.rule
 has_rule r j item is h = ((items_are_found r.flat (edges_of r) (top_of r) (top_is_top r.flat r.start (top_of r) is.flat is.start refl) j item).0 h).is_rule
+
+-- the lines of all items of a set
+pub lines_told : (w : Grammar) (r : Recognizer) (j : ℕ) (flat : FlatGrammar) → flat ≡ r.flat → (items told : List Item) → told ≡ items → (lines : List ReportLine) →
+    ((item : Item) → Contains items item ↔ InSet r.flat (edges_of r) (top_of r) j item) → ((line : ReportLine) → Contains lines line ↔ ((item : Item) × Contains told item × (line_of w flat item ≡ Some line))) →
+    (line : ReportLine) → Contains lines line ↔ IsLine w r.flat (edges_of r) (top_of r) j line
+lines_told w r j flat same items told is lines exact tells line = (
+  λ h. (
+      let (item, c, e) = (tells line).0 h in
+      (item, (exact item).0 (subst (λ l. Contains l item) is c), subst (λ f. line_of w f item ≡ Some line) same e)
+      ),
+  λ (item, i, e). (tells line).1 (item, subst (λ l. Contains l item) (sym is) ((exact item).1 i), subst (λ f. line_of w f item ≡ Some line) (sym same) e),
+)

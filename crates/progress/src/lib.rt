@@ -3,8 +3,6 @@
 
 mod lines;
 mod refusal;
-#[cfg(test)]
-mod tests;
 
 pub use lines::report;
 pub use recognizer_model::ReportLine;

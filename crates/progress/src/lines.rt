@@ -1,9 +1,11 @@
 //! The report of a place, from the items of its set.
-ghost use Rattle.std.specs.Prelude.{◌≡◌, ◌<◌, ◌≤◌, ◌↔◌, Contains, Err, IfOk, OnOk};
+ghost use Rattle.std.specs.Prelude.{◌≡◌, ◌<◌, ◌≤◌, ◌↔◌, Contains, Some, Err, IfOk, OnOk};
 ghost use Rattle.std.specs.List.Sorted.{IsStrictlySortedBy};
 ghost use Rattle.grammar_core.specs.Written.{rule_of};
 ghost use Rattle.recognizer_model.specs.declared.ReportLine.{ReportLine};
+ghost use Rattle.recognizer_model.specs.declared.Item.{Item as TheItem};
 ghost use Rattle.recognizer_model.specs.Flat.{IsRule};
+ghost use Rattle.recognizer_model.specs.Items.{InSet};
 ghost use Rattle.recognizer_model.specs.FlatForm.{IsFlatOf};
 ghost use Rattle.recognizer_model.specs.Report.{IsLine, line_of as line_of_item, written_dot as dot_by};
 ghost use Rattle.report_model.specs.Report.{IsReport, line_cmp};
@@ -14,7 +16,10 @@ use crate::ProgressRefusal;
 use earley_sets::Recce;
 use grammar_core::{Flat, FlatSource, Written, WrittenRule};
 use recognizer_model::{Item, ReportLine};
+use slif_base::Steps;
 use std::alloc::{AllocError, Global};
+use std::marker::Brand;
+use std::sync::ledger::{Blank, Ledger};
 
 // The dot in the written rule. A sequence's rule tells only what stands before the dot: nothing, an item, or a separator.
 fn written_dot(rule: &WrittenRule, dot: u32) -> u32
@@ -46,23 +51,45 @@ fn line_of(w: &Written, flat: &Flat, item: Item) -> Option<ReportLine>
     }
 }
 
-// The lines of a set's items, in the order of the items.
+// The items of the full set of a place: those that are not kept, and those that are. They are counted on a counter of its own.
+fn items_of<L: Ledger>(
+    blank: Blank,
+    alloc: Global,
+    recce: &Recce<'_>,
+    j: u32,
+) -> Result<Vec<Item>, AllocError>
+    requires name { blank.name ≡ L.name }
+    requires parts { blank.parts ≡ L.parts }
+    requires some { 0 < blank.parts }
+    requires is { IsRecognizer recce.now }
+    requires place { j ≤ place_of recce.now }
+    ensures { IfOk result (λ items. (item : TheItem) → Contains items.items item ↔
+        InSet recce.now.flat (edges_of recce.now) (top_of recce.now) j item) }
+{
+    let mut steps = Steps::<L>::of_blank(blank);
+    let mut items = recce.expand(alloc, j, 0, &mut steps)?;
+    let set = recce.kept(j);
+    for k in 0..set.len() {
+        items.push(set.at(k))?;
+    }
+    Ok(items)
+}
+
+// The lines of items, in their order.
 fn lines_of(
     alloc: Global,
     w: &Written,
-    recce: &Recce<'_>,
-    j: u32,
+    flat: &Flat,
+    items: &[Item],
 ) -> Result<Vec<ReportLine>, AllocError>
-    requires is { IsRecognizer recce.now }
-    requires flat { IsFlatOf recce.now.flat w.now }
-    requires place { j ≤ place_of recce.now }
+    requires flat { IsFlatOf flat.now w.now }
+    requires rules { (item : TheItem) → Contains items.now item → IsRule flat.now item.rule }
     ensures { IfOk result (λ lines. (line : ReportLine) → Contains lines.items line ↔
-        IsLine w.now recce.now.flat (edges_of recce.now) (top_of recce.now) j line) }
+        ((item : TheItem) × Contains items.now item × (line_of_item w.now flat.now item ≡ Some line))) }
 {
-    let set = recce.kept(j);
     let mut lines = Vec::new(alloc);
-    for k in 0..set.len() {
-        if let Some(line) = line_of(w, recce.flat(), set.at(k)) {
+    for item in items {
+        if let Some(line) = line_of(w, flat, *item) {
             lines.push(line)?;
         }
     }
@@ -93,7 +120,8 @@ pub fn report(
     if j > recce.place() {
         return Err(ProgressRefusal::NoSuchSet);
     }
-    let mut lines = lines_of(alloc, w, recce, j)?;
+    let items = items_of::<Brand>(Blank::new(1), alloc, recce, j)?;
+    let mut lines = lines_of(alloc, w, recce.flat(), &items)?;
     sort(&mut lines)?;
     Ok(lines)
 }

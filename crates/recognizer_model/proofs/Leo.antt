@@ -7,14 +7,14 @@ use Rattle.recognizer_model.specs.Contexts.{IsTop}
 use Rattle.recognizer_model.specs.Leo.{IsLeo, IsNotLeo, LeadsTo, InReduced, InExpanded, Kept, Step, GoesForward, LeoIsKnown, KeepsWaiting, ExpandsToAll}
 
 -- nothing stands after the end
-past_end : (xs : List ℕ) (n x : ℕ) → n ≡ length xs → slice_get xs n ≢ Some x
+pub past_end : (xs : List ℕ) (n x : ℕ) → n ≡ length xs → slice_get xs n ≢ Some x
 past_end [] n x e h = cc
 past_end (y ∷ ys) zero x e h = absurd (omega arith)
 past_end (y ∷ ys) (suc n) x e h = past_end ys n x (omega arith) h
 
 module _ (g : FlatGrammar) (E : Edges) (top : ℕ) (is_top : IsTop g top) (forward : GoesForward E) where
   -- an item begins none later than its set
-  origin_below : {j : ℕ} {item : Item} → InSet g E top j item → item.origin ≤ j
+  pub origin_below : {j : ℕ} {item : Item} → InSet g E top j item → item.origin ≤ j
   origin_below InSet.Start = omega arith
   origin_below (InSet.Predict i e rule l) = omega arith
   origin_below (InSet.Skip i e n) = origin_below i
@@ -33,7 +33,7 @@ module _ (g : FlatGrammar) (E : Edges) (top : ℕ) (is_top : IsTop g top) (forwa
       leo.last refl refl (omega arith)
 
   -- a reduced set is part of the full set
-  reduced_inside : {j : ℕ} {item : Item} → InReduced g E top j item → InSet g E top j item
+  pub reduced_inside : {j : ℕ} {item : Item} → InReduced g E top j item → InSet g E top j item
   reduced_inside InReduced.Start = InSet.Start
   reduced_inside (InReduced.Predict i e rule l) = InSet.Predict (reduced_inside i) e rule l
   reduced_inside (InReduced.Skip i e n) = InSet.Skip (reduced_inside i) e n
@@ -42,7 +42,7 @@ module _ (g : FlatGrammar) (E : Edges) (top : ℕ) (is_top : IsTop g top) (forwa
   reduced_inside (InReduced.Leap w whole lt leads) = leads_inside leads _ (reduced_inside w) whole refl refl lt
 
   -- an expanded set is part of the full set
-  expanded_inside : {j : ℕ} {item : Item} → InExpanded g E top j item → InSet g E top j item
+  pub expanded_inside : {j : ℕ} {item : Item} → InExpanded g E top j item → InSet g E top j item
   expanded_inside (Kept k) = reduced_inside k
   expanded_inside (Step w whole lt leo) = InSet.Complete (expanded_inside w) whole lt leo.inside leo.waits
 
@@ -50,14 +50,14 @@ module _ (g : FlatGrammar) (E : Edges) (top : ℕ) (is_top : IsTop g top) (forwa
   Leads i x = (topmost : Item) × LeadsTo g E top i x topmost
 
   -- a Leo item leads somewhere, if the one above it does
-  leads_from : {i x : ℕ} {item : Item} → IsLeo g E top i x item →
+  pub leads_from : {i x : ℕ} {item : Item} → IsLeo g E top i x item →
       ((other : Item) → IsLeo g E top item.origin (lhs_of g item.rule) other → Leads item.origin (lhs_of g item.rule)) →
       ((other : Item) × IsLeo g E top item.origin (lhs_of g item.rule) other) ⊎ IsNotLeo g E top item.origin (lhs_of g item.rule) → Leads i x
   leads_from leo above (inl (other, leo')) = let (topmost, more) = above other leo' in (topmost, LeadsTo.On leo more)
   leads_from leo above (inr none) = (_, LeadsTo.Last leo none)
 
   -- above an item of a set every Leo item leads somewhere: the item that predicted it is the only one
-  leads_above : {k j : ℕ} {item : Item} → LeoIsKnown g E top k → InSet g E top j item → j < k →
+  pub leads_above : {k j : ℕ} {item : Item} → LeoIsKnown g E top k → InSet g E top j item → j < k →
       (other : Item) → IsLeo g E top item.origin (lhs_of g item.rule) other → Leads item.origin (lhs_of g item.rule)
   leads_above known InSet.Start lt other leo = absurd (is_top.outermost _ _ leo.waits)
   leads_above known (InSet.Predict {j = j} {r = r} {item = item} i e rule l) lt other leo =
@@ -69,15 +69,15 @@ module _ (g : FlatGrammar) (E : Edges) (top : ℕ) (is_top : IsTop g top) (forwa
   leads_above known (InSet.Complete w whole lt' i e) lt other leo = leads_above known i (omega arith) other leo
 
   -- a completion that was left out of the reduced set: one step of a Leo item whose topmost item is kept
-  record IsLeft (place : ℕ) (item : Item) : Type 0 where
-    from : ℕ
-    symbol : ℕ
-    below : Item
-    topmost : Item
-    leo : IsLeo g E top from symbol below
-    is_step : item ≡ advanced below
-    leads : LeadsTo g E top from symbol topmost
-    kept : InReduced g E top place topmost
+  pub record IsLeft (place : ℕ) (item : Item) : Type 0 where
+    pub from : ℕ
+    pub symbol : ℕ
+    pub below : Item
+    pub topmost : Item
+    pub leo : IsLeo g E top from symbol below
+    pub is_step : item ≡ advanced below
+    pub leads : LeadsTo g E top from symbol topmost
+    pub kept : InReduced g E top place topmost
 
   -- what waits was not left out
   waits_kept : {j x : ℕ} {item : Item} → InReduced g E top j item ⊎ IsLeft j item → after g item ≡ Some x → InReduced g E top j item
@@ -85,7 +85,7 @@ module _ (g : FlatGrammar) (E : Edges) (top : ℕ) (is_top : IsTop g top) (forwa
   waits_kept {x = x} (inr l) e = absurd (past_end (rhs_of g l.below.rule) (suc l.below.dot) x l.leo.last (subst (λ o. after g o ≡ Some x) l.is_step e))
 
   -- a symbol that leads somewhere has a Leo item
-  leo_of : {i x : ℕ} {topmost : Item} → LeadsTo g E top i x topmost → (item : Item) × IsLeo g E top i x item
+  pub leo_of : {i x : ℕ} {topmost : Item} → LeadsTo g E top i x topmost → (item : Item) × IsLeo g E top i x item
   leo_of (LeadsTo.Last {item = item} leo none) = (item, leo)
   leo_of (LeadsTo.On {item = item} leo more) = (item, leo)
 
@@ -98,7 +98,7 @@ module _ (g : FlatGrammar) (E : Edges) (top : ℕ) (is_top : IsTop g top) (forwa
       absurd (none' above (subst (λ o. IsLeo g E top o.origin (lhs_of g o.rule) above) (leo.only item' leo'.inside leo'.waits) leo''))
 
   -- where it has one, the topmost item is that item's
-  step_on : {i x : ℕ} {item above topmost : Item} → IsLeo g E top i x item → LeadsTo g E top i x topmost →
+  pub step_on : {i x : ℕ} {item above topmost : Item} → IsLeo g E top i x item → LeadsTo g E top i x topmost →
       IsLeo g E top item.origin (lhs_of g item.rule) above → LeadsTo g E top item.origin (lhs_of g item.rule) topmost
   step_on {above = above} leo (LeadsTo.Last {item = item'} leo' none) up =
       absurd (none above (subst (λ o. IsLeo g E top o.origin (lhs_of g o.rule) above) (sym (leo.only item' leo'.inside leo'.waits)) up))
@@ -109,7 +109,7 @@ module _ (g : FlatGrammar) (E : Edges) (top : ℕ) (is_top : IsTop g top) (forwa
   known_before lt known k x l = known k x (omega arith)
 
   -- a completion whose symbol has no Leo item is kept
-  whole_kept : {j : ℕ} {w : Item} → InReduced g E top j w ⊎ IsLeft j w → IsNotLeo g E top w.origin (lhs_of g w.rule) → InReduced g E top j w
+  pub whole_kept : {j : ℕ} {w : Item} → InReduced g E top j w ⊎ IsLeft j w → IsNotLeo g E top w.origin (lhs_of g w.rule) → InReduced g E top j w
   whole_kept (inl k) none = k
   whole_kept {j = j} {w = w} (inr l) none =
       let same : w ≡ l.topmost = l.is_step ∙ sym (last_step l.leo l.leads (subst (λ o. IsNotLeo g E top o.origin (lhs_of g o.rule)) l.is_step none)) in
@@ -134,7 +134,7 @@ module _ (g : FlatGrammar) (E : Edges) (top : ℕ) (is_top : IsTop g top) (forwa
   completed p whole lt i e known (inr none) = inl (InReduced.Complete (whole_kept p none) whole lt none i e)
 
   -- each item of the full set is kept, or was left out
-  kept_or_left : {j : ℕ} {item : Item} → InSet g E top j item → LeoIsKnown g E top j → InReduced g E top j item ⊎ IsLeft j item
+  pub kept_or_left : {j : ℕ} {item : Item} → InSet g E top j item → LeoIsKnown g E top j → InReduced g E top j item ⊎ IsLeft j item
   kept_or_left InSet.Start known = inl InReduced.Start
   kept_or_left (InSet.Predict i e rule l) known = inl (InReduced.Predict (waits_kept (kept_or_left i known) e) e rule l)
   kept_or_left (InSet.Skip i e n) known = inl (InReduced.Skip (waits_kept (kept_or_left i known) e) e n)

@@ -13,3 +13,5 @@ pub mod Laws
 pub mod View
 pub mod Invariant
 pub mod FlatForm
+pub mod Once
+pub mod Threads

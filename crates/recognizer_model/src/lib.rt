@@ -2,8 +2,10 @@
 #![tactic(auto)]
 
 mod flat;
+mod thread;
 
 pub use flat::{FlatRule, FlatSource, FlatSymbol};
+pub use thread::{Label, Thread};
 
 /// A rule, how many of its parts were found, and the place where they begin.
 #[derive(Clone, Copy, PartialEq, Eq, Hash)]
@@ -32,6 +34,8 @@ pub struct ReportLine {
 
 ghost use Rattle.recognizer_model.specs.FlatForm.{FlatGrammarsAreFlatForms, AcceptableAreFlat, ListsExist};
 ghost use Rattle.recognizer_model.specs.Laws.{EarleyLawsHold};
+ghost use Rattle.recognizer_model.specs.Once.{KeptInOneStep, KnownByLists};
+ghost use Rattle.recognizer_model.specs.Threads.{ThreadLawsHold};
 
 /// The theorems on item sets, reduced sets, acceptable terminals and used nodes.
 pub fn earley_laws()
@@ -51,4 +55,19 @@ pub fn acceptable_are_flat()
 /// The derivations of a checked grammar have a list, whatever the edges.
 pub fn lists_exist()
     ensures { ListsExist }
+{}
+
+/// The reduced set of a place follows in one step from the full sets.
+pub fn reduced_in_one_step()
+    ensures { KeptInOneStep }
+{}
+
+/// Where the items that wait for a symbol are listed, it is known whether there is a Leo item.
+pub fn leo_by_lists()
+    ensures { KnownByLists }
+{}
+
+/// What rows of threads along a text tell of its starts.
+pub fn thread_laws()
+    ensures { ThreadLawsHold }
 {}

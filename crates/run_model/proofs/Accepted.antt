@@ -7,11 +7,11 @@ use Rattle.reading_model.specs.Accepted.{IsAccepted, GrammarFault, HasGrammarFau
 use Rattle.reading_model.proofs.Accepting.{no_fault, one_fault, accepted_or_fault}
 use Rattle.run_model.specs.Texts.{fault_text}
 use Rattle.run_model.specs.Refused.{Accepted, IsRefused, ByText, ByDescription, ByGrammars, build_text, grammar_text}
-use Rattle.run_model.proofs.Texts.{RunLaws}
+use Rattle.run_model.proofs.Texts.{GrammarLaws}
 
 -- ONE OF EACH
 
-module _ (laws : RunLaws) (bytes : List ℕ) where
+module _ (laws : GrammarLaws) (bytes : List ℕ) where
   same_built : (d e : List Statement) (a b : Built) → HasDescription bytes d → HasDescription bytes e → IsBuiltOf d a → IsBuiltOf e b → a ≡ b
   same_built d e a b has_d has_e p q = p.is ∙ ap built_of (laws.texts.one_description bytes d e has_d has_e) ∙ sym q.is
 

@@ -14,15 +14,19 @@ use Rattle.reading_model.specs.Reading.{Piece, Ending, End, Stopped, IsReading, 
 use Rattle.reading_model.specs.Laws.{ReadingIsOne}
 use Rattle.run_model.specs.Inputs.{IsInputText, IsRead, IsInputRefused, TooLong, NotUtf8, ReadingStops, stop_text}
 use Rattle.run_model.specs.Listing.{AreDerivations}
+use Rattle.run_model.specs.Numbers.{Numbers, HasNumbers}
 use Rattle.run_model.proofs.Utf8.{broken_at}
 
--- what is needed of readings: a text has one, and what follows its pieces is listed: what is expected, all derivations, reports
+-- what is needed of readings: a text has one, and what follows its pieces is listed: what is expected, all derivations, the numbers,
+-- reports
 pub record ReadingLaws : Type 0 where
   pub read : (b : Built) (text : List ℕ) → IsBuilt b → IsAccepted b → (pieces : List Piece) × (ending : Ending) × IsReading b text pieces ending
   pub one : ReadingIsOne
   pub expected : (b : Built) (pieces : List Piece) → IsBuilt b → IsAccepted b → (symbols : List ℕ) × AreExpected b pieces symbols
   pub one_expected : (b : Built) (pieces : List Piece) (xs ys : List ℕ) → AreExpected b pieces xs → AreExpected b pieces ys → xs ≡ ys
   pub derivations : (b : Built) (ranking : Ranking) (pieces : List Piece) → IsBuilt b → IsAccepted b → (trees : List Tree) × AreDerivations b ranking pieces trees
+  pub numbers : (b : Built) (pieces : List Piece) → IsBuilt b → IsAccepted b → (n : Numbers) × HasNumbers b pieces n
+  pub one_numbers : (b : Built) (pieces : List Piece) (m n : Numbers) → HasNumbers b pieces m → HasNumbers b pieces n → m ≡ n
   pub report : (b : Built) (pieces : List Piece) (at : ℕ) → IsBuilt b → IsAccepted b → (lines : List ReportLine) × IsReport b.g1 (edges_of pieces) 0 at lines
   pub one_report : (b : Built) (pieces : List Piece) (at : ℕ) (xs ys : List ReportLine) → IsReport b.g1 (edges_of pieces) 0 at xs → IsReport b.g1 (edges_of pieces) 0 at ys → xs ≡ ys
 

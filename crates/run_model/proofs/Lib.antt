@@ -1,7 +1,7 @@
 pub mod Texts
 pub mod Accepted
 pub mod Checked
-pub mod Taken
+pub mod Sized
 pub mod Told
 pub mod Outcomes
 pub mod OneEnd

@@ -1,24 +1,23 @@
 -- Told content leaves a run one outcome.
-use Rattle.std.proofs.Common.{◌≡◌, ◌≢◌, ℕ, List, Option, Some, None, IfSome, refl, sym, ap, subst, ◌∙◌}
+use Rattle.std.proofs.Common.{◌≡◌, ◌≢◌, ℕ, List, Option, Some, None, IfSome, refl, sym, subst, ◌∙◌}
 use Rattle.slif_base.specs.Told.{ToldFile, MayHold}
 use Rattle.slif_base.specs.Told.ToldFile.{Untold, Missing, Told}
 use Rattle.language_model.specs.Building.{Built}
-use Rattle.words_model.specs.Words.{Job, InputFrom, grammar_file, input_from, input_named}
+use Rattle.words_model.specs.Words.{Job, InputFrom, Asks, grammar_file, input_from, input_named}
 use Rattle.words_model.specs.Words.InputFrom.{Nowhere, StandardInput, FileNamed}
 use Rattle.words_model.specs.Words.Job.{Run, Check, Expect, Progress, Work}
-use Rattle.words_model.proofs.Asked.{not_both}
+use Rattle.words_model.proofs.Asked.{asks_once, not_both}
 use Rattle.run_model.specs.Refused.{Accepted}
-use Rattle.run_model.specs.Jobs.{Takes}
-use Rattle.run_model.specs.Outcome.{Outcome, IsOutcome, IsJobOutcome, IsAcceptedOutcome, refused}
-use Rattle.run_model.specs.Outcome.IsOutcome.{NoJob, JobNotBuilt, OfJob}
-use Rattle.run_model.specs.Outcome.IsJobOutcome.{GrammarRefused, GrammarAccepted}
+use Rattle.run_model.specs.Jobs.{Task}
+use Rattle.run_model.specs.Jobs.Task.{Values, Expected, Report}
+use Rattle.run_model.specs.Outcome.{Outcome, IsOutcome, IsJobOutcome, IsGrammarOutcome, IsTaskOutcome, IsCheckOutcome}
+use Rattle.run_model.specs.Outcome.IsOutcome.{NoJob, OfJob}
 use Rattle.run_model.specs.Runs.{Supplied, MayEnd, InputMayBe}
 use Rattle.run_model.specs.Laws.{TellsFiles}
 use Rattle.run_model.proofs.Texts.{RunLaws}
-use Rattle.run_model.proofs.Accepted.{one_built, one_refused, not_refused}
-use Rattle.run_model.proofs.Taken.{takes_once, none_taken, unbuilt_not_taken}
 use Rattle.run_model.proofs.Checked.{one_check}
-use Rattle.run_model.proofs.Outcomes.{one_accepted_outcome}
+use Rattle.run_model.proofs.Told.{one_task}
+use Rattle.run_model.proofs.Outcomes.{one_over, one_work}
 
 same_held : (told : ToldFile) (x y : List ℕ) → told ≢ Untold → MayHold told x → MayHold told y → x ≡ y
 same_held Untold x y is_told p q = absurd (is_told refl)
@@ -40,57 +39,60 @@ module _ (laws : RunLaws) (words : List (List ℕ)) (file : List ℕ → ToldFil
   one_input (FileNamed name) x y some told p q = same_held (file name) y x (told name refl) q p
 
   -- an input counts only where the job goes on to it
-  same_input : (job : Job) → Takes words job → input_from job ≢ Nowhere → (grammar x y : List ℕ) (c : Built) → IfSome (grammar_file job) (λ _. (b : Built) × Accepted grammar b)
+  same_input : (job : Job) → Asks words job → input_from job ≢ Nowhere → (grammar x y : List ℕ) → IfSome (grammar_file job) (λ _. (b : Built) × Accepted grammar b)
       → Has grammar x → Has grammar y → y ≡ x
-  same_input job takes some grammar x y c goes p q =
-      one_input (input_from job) x y some (λ name e. tells.input job name takes e) (p.input_held job takes goes) (q.input_held job takes goes)
+  same_input job asks some grammar x y goes p q =
+      one_input (input_from job) x y some (λ name e. tells.input job name asks e) (p.input_held job asks goes) (q.input_held job asks goes)
 
-  over_same : (job : Job) (c : Built) (x y : List ℕ) (a b : Outcome) → y ≡ x → IsAcceptedOutcome job c x a → IsAcceptedOutcome job c y b → a ≡ b
-  over_same job c x y a b same of_x of_y = one_accepted_outcome laws job c x a b of_x (subst (λ l. IsAcceptedOutcome job c l b) same of_y)
+  over_inputs : (task : Task) (grammar x y : List ℕ) (a b : Outcome) → ((c : Built) → Accepted grammar c → y ≡ x)
+      → IsGrammarOutcome grammar (λ c. IsTaskOutcome task c x) a → IsGrammarOutcome grammar (λ c. IsTaskOutcome task c y) b → a ≡ b
+  over_inputs task grammar x y a b same of_x of_y =
+      one_over laws (λ c. IsTaskOutcome task c x) (λ c. IsTaskOutcome task c y) grammar a b
+      (λ c accepted in_x in_y. one_task laws.reading task c x a b in_x (subst (λ l. IsTaskOutcome task c l b) (same c accepted) in_y)) of_x of_y
 
-  one_of_accepted : (job : Job) → Takes words job → (grammar : List ℕ) (c : Built) → Accepted grammar c → (x y : List ℕ) (a b : Outcome)
-      → Has grammar x → Has grammar y → IsAcceptedOutcome job c x a → IsAcceptedOutcome job c y b → a ≡ b
-  one_of_accepted (Run asked) takes grammar c accepted x y a b p q of_x of_y =
-      over_same (Run asked) c x y a b (same_input (Run asked) takes (named_somewhere asked.input) grammar x y c (c, accepted) p q) of_x of_y
-  one_of_accepted (Check name) takes grammar c accepted x y a b p q of_x of_y = one_check c a b of_x of_y
-  one_of_accepted (Expect name from) takes grammar c accepted x y a b p q of_x of_y =
-      over_same (Expect name from) c x y a b (same_input (Expect name from) takes (named_somewhere from) grammar x y c (c, accepted) p q) of_x of_y
-  one_of_accepted (Progress name at from) takes grammar c accepted x y a b p q of_x of_y =
-      over_same (Progress name at from) c x y a b (same_input (Progress name at from) takes (named_somewhere from) grammar x y c (c, accepted) p q) of_x of_y
-  one_of_accepted (Work size) takes grammar c accepted x y a b p q of_x of_y =
-      over_same (Work size) c x y a b ((q.own (Work size) takes).1 ∙ sym (p.own (Work size) takes).1) of_x of_y
-
-  one_of_job : (job : Job) → Takes words job → (grammar x y : List ℕ) (a b : Outcome) → Has grammar x → Has grammar y
+  one_of_job : (job : Job) → Asks words job → (grammar x y : List ℕ) (a b : Outcome) → Has grammar x → Has grammar y
       → IsJobOutcome job grammar x a → IsJobOutcome job grammar y b → a ≡ b
-  one_of_job job takes grammar x y a b p q (GrammarRefused t refused_t is) (GrammarRefused u refused_u is') = is ∙ ap (refused 3) (one_refused laws grammar t u refused_t refused_u) ∙ sym is'
-  one_of_job job takes grammar x y a b p q (GrammarRefused t refused_t is) (GrammarAccepted c accepted over) = absurd (not_refused laws grammar c t accepted refused_t)
-  one_of_job job takes grammar x y a b p q (GrammarAccepted c accepted over) (GrammarRefused t refused_t is) = absurd (not_refused laws grammar c t accepted refused_t)
-  one_of_job job takes grammar x y a b p q (GrammarAccepted c accepted over) (GrammarAccepted d accepted' over') =
-      one_of_accepted job takes grammar c accepted x y a b p q over
-      (subst (λ (k : Built). IsAcceptedOutcome job k y b) (sym (one_built laws grammar c d accepted accepted')) over')
+  one_of_job (Run asked) asks grammar x y a b p q of_x of_y =
+      over_inputs (Values asked) grammar x y a b (λ c accepted. same_input (Run asked) asks (named_somewhere asked.input) grammar x y (c, accepted) p q) of_x of_y
+  one_of_job (Check name) asks grammar x y a b p q of_x of_y = one_over laws IsCheckOutcome IsCheckOutcome grammar a b (λ c accepted. one_check c a b) of_x of_y
+  one_of_job (Expect name from) asks grammar x y a b p q of_x of_y =
+      over_inputs Expected grammar x y a b (λ c accepted. same_input (Expect name from) asks (named_somewhere from) grammar x y (c, accepted) p q) of_x of_y
+  one_of_job (Progress name at from) asks grammar x y a b p q of_x of_y =
+      over_inputs (Report at) grammar x y a b (λ c accepted. same_input (Progress name at from) asks (named_somewhere from) grammar x y (c, accepted) p q) of_x of_y
+  one_of_job (Work size) asks grammar x y a b p q of_x of_y = one_work laws size a b of_x of_y
 
-  same_grammar : (job : Job) → Takes words job → (grammar grammar' x y : List ℕ) → Has grammar x → Has grammar' y → grammar' ≡ grammar
-  same_grammar (Run asked) takes g h x y p q = same_held (file asked.grammar) h g (tells.grammar (Run asked) takes) (q.grammar_held (Run asked) takes) (p.grammar_held (Run asked) takes)
-  same_grammar (Check name) takes g h x y p q = same_held (file name) h g (tells.grammar (Check name) takes) (q.grammar_held (Check name) takes) (p.grammar_held (Check name) takes)
-  same_grammar (Expect name from) takes g h x y p q =
-      same_held (file name) h g (tells.grammar (Expect name from) takes) (q.grammar_held (Expect name from) takes) (p.grammar_held (Expect name from) takes)
-  same_grammar (Progress name at from) takes g h x y p q =
-      same_held (file name) h g (tells.grammar (Progress name at from) takes) (q.grammar_held (Progress name at from) takes) (p.grammar_held (Progress name at from) takes)
-  same_grammar (Work size) takes g h x y p q = (q.own (Work size) takes).0 ∙ sym (p.own (Work size) takes).0
+  -- a job's outcome is of the grammar that its file holds
+  over_same : (job : Job) → Asks words job → (grammar grammar' x y : List ℕ) (a b : Outcome) → grammar' ≡ grammar → Has grammar x → Has grammar' y
+      → IsJobOutcome job grammar x a → IsJobOutcome job grammar' y b → a ≡ b
+  over_same job asks grammar grammar' x y a b same p q of of' =
+      one_of_job job asks grammar x y a b p (subst (λ l. Has l y) same q) of (subst (λ l. IsJobOutcome job l y b) same of')
+
+  held_in : (job : Job) (name grammar grammar' x y : List ℕ) → Asks words job → grammar_file job ≡ Some name → Has grammar x → Has grammar' y → grammar' ≡ grammar
+  held_in job name grammar grammar' x y asks named p q =
+      same_held (file name) grammar' grammar (of_file (λ n. file n ≢ Untold) (tells.grammar job asks)) (of_file (λ n. MayHold (file n) grammar') (q.grammar_held job asks))
+      (of_file (λ n. MayHold (file n) grammar) (p.grammar_held job asks))
+    where
+      of_file : (P : List ℕ → Type 0) → IfSome (grammar_file job) P → P name
+      of_file P held = subst (λ (o : Option (List ℕ)). IfSome o P) named held
+
+  one_of_jobs : (job : Job) → Asks words job → (grammar grammar' x y : List ℕ) (a b : Outcome) → Has grammar x → Has grammar' y
+      → IsJobOutcome job grammar x a → IsJobOutcome job grammar' y b → a ≡ b
+  one_of_jobs (Run asked) asks grammar grammar' x y a b p q of of' =
+      over_same (Run asked) asks grammar grammar' x y a b (held_in (Run asked) asked.grammar grammar grammar' x y asks refl p q) p q of of'
+  one_of_jobs (Check name) asks grammar grammar' x y a b p q of of' =
+      over_same (Check name) asks grammar grammar' x y a b (held_in (Check name) name grammar grammar' x y asks refl p q) p q of of'
+  one_of_jobs (Expect name from) asks grammar grammar' x y a b p q of of' =
+      over_same (Expect name from) asks grammar grammar' x y a b (held_in (Expect name from) name grammar grammar' x y asks refl p q) p q of of'
+  one_of_jobs (Progress name at from) asks grammar grammar' x y a b p q of of' =
+      over_same (Progress name at from) asks grammar grammar' x y a b (held_in (Progress name at from) name grammar grammar' x y asks refl p q) p q of of'
+  one_of_jobs (Work size) asks grammar grammar' x y a b p q of of' = one_work laws size a b of of'
 
   one_of_two : (grammar grammar' x y : List ℕ) (a b : Outcome) → Has grammar x → Has grammar' y → IsOutcome words grammar x a → IsOutcome words grammar' y b → a ≡ b
   one_of_two grammar grammar' x y a b p q (NoJob none is) (NoJob none' is') = is ∙ sym is'
-  one_of_two grammar grammar' x y a b p q (NoJob none is) (JobNotBuilt job asks unbuilt is') = absurd (not_both words job asks none)
-  one_of_two grammar grammar' x y a b p q (NoJob none is) (OfJob job takes of) = absurd (none_taken words none job takes)
-  one_of_two grammar grammar' x y a b p q (JobNotBuilt job asks unbuilt is) (NoJob none is') = absurd (not_both words job asks none)
-  one_of_two grammar grammar' x y a b p q (JobNotBuilt job asks unbuilt is) (JobNotBuilt job' asks' unbuilt' is') = is ∙ sym is'
-  one_of_two grammar grammar' x y a b p q (JobNotBuilt job asks unbuilt is) (OfJob job' takes of) = absurd (unbuilt_not_taken words job asks unbuilt job' takes)
-  one_of_two grammar grammar' x y a b p q (OfJob job takes of) (NoJob none is) = absurd (none_taken words none job takes)
-  one_of_two grammar grammar' x y a b p q (OfJob job takes of) (JobNotBuilt job' asks unbuilt is) = absurd (unbuilt_not_taken words job' asks unbuilt job takes)
-  one_of_two grammar grammar' x y a b p q (OfJob job takes of) (OfJob job' takes' of') =
-      let same : grammar' ≡ grammar = same_grammar job takes grammar grammar' x y p q in
-      let of_job : IsJobOutcome job grammar' y b = subst (λ (j : Job). IsJobOutcome j grammar' y b) (sym (takes_once words job job' takes takes')) of' in
-      one_of_job job takes grammar x y a b p (subst (λ l. Has l y) same q) of (subst (λ l. IsJobOutcome job l y b) same of_job)
+  one_of_two grammar grammar' x y a b p q (NoJob none is) (OfJob job asks of) = absurd (not_both words job asks none)
+  one_of_two grammar grammar' x y a b p q (OfJob job asks of) (NoJob none is) = absurd (not_both words job asks none)
+  one_of_two grammar grammar' x y a b p q (OfJob job asks of) (OfJob job' asks' of') =
+      one_of_jobs job asks grammar grammar' x y a b p q of (subst (λ (j : Job). IsJobOutcome j grammar' y b) (sym (asks_once words job job' asks asks')) of')
 
   pub one_end_of : (a b : MayEnd words file (Some known)) → a.outcome ≡ b.outcome
   one_end_of a b = one_of_two a.grammar b.grammar a.input b.input a.outcome b.outcome a.supplied b.supplied a.is_outcome b.is_outcome

@@ -1,43 +1,58 @@
 -- An outcome is determined by the words, the grammar and the input.
-use Rattle.std.proofs.Common.{◌≡◌, ℕ, List, sym, ap, subst, ◌∙◌}
+use Rattle.std.proofs.Common.{◌≡◌, ℕ, List, [], ◌∷◌, sym, ap, subst, ◌∙◌}
 use Rattle.language_model.specs.Building.{Built}
+use Rattle.reading_model.specs.Reading.{Piece}
 use Rattle.words_model.specs.Words.{Job}
 use Rattle.words_model.specs.Words.Job.{Run, Check, Expect, Progress, Work}
-use Rattle.run_model.specs.Jobs.Task.{Values, Expected, Report, Count}
-use Rattle.run_model.specs.Outcome.{Outcome, IsOutcome, IsJobOutcome, IsAcceptedOutcome, refused}
-use Rattle.run_model.specs.Outcome.IsOutcome.{NoJob, JobNotBuilt, OfJob}
-use Rattle.run_model.specs.Outcome.IsJobOutcome.{GrammarRefused, GrammarAccepted}
-use Rattle.run_model.proofs.Taken.{takes_once, none_taken, unbuilt_not_taken}
-use Rattle.words_model.proofs.Asked.{not_both}
+use Rattle.words_model.proofs.Asked.{asks_once, not_both}
+use Rattle.run_model.specs.Refused.{Accepted}
+use Rattle.run_model.specs.Inputs.{IsRead}
+use Rattle.run_model.specs.Numbers.{Numbers, HasNumbers}
+use Rattle.run_model.specs.Jobs.{Task, work_grammar, work_input}
+use Rattle.run_model.specs.Jobs.Task.{Values, Expected, Report}
+use Rattle.run_model.specs.Telling.{work_line}
+use Rattle.run_model.specs.Outcome.{Outcome, IsOutcome, IsJobOutcome, IsGrammarOutcome, IsTaskOutcome, IsCheckOutcome, IsWorkOutcome, done, refused}
+use Rattle.run_model.specs.Outcome.IsOutcome.{NoJob, OfJob}
+use Rattle.run_model.specs.Outcome.IsGrammarOutcome.{GrammarRefused, GrammarAccepted}
 use Rattle.run_model.proofs.Texts.{RunLaws}
+use Rattle.run_model.proofs.Inputs.{one_read}
 use Rattle.run_model.proofs.Accepted.{one_built, one_refused, not_refused}
 use Rattle.run_model.proofs.Checked.{one_check}
 use Rattle.run_model.proofs.Told.{one_task}
 
 module _ (laws : RunLaws) where
-  pub one_accepted_outcome : (job : Job) (c : Built) (input : List ℕ) (a b : Outcome) → IsAcceptedOutcome job c input a → IsAcceptedOutcome job c input b → a ≡ b
-  one_accepted_outcome (Run asked) c input a b p q = one_task laws.reading (Values asked) c input a b p q
-  one_accepted_outcome (Check name) c input a b p q = one_check c a b p q
-  one_accepted_outcome (Expect name from) c input a b p q = one_task laws.reading Expected c input a b p q
-  one_accepted_outcome (Progress name at from) c input a b p q = one_task laws.reading (Report at) c input a b p q
-  one_accepted_outcome (Work size) c input a b p q = one_task laws.reading (Count size) c input a b p q
+  -- two outcomes that come of a grammar are one, where those over what was built of it are
+  pub one_over : (P Q : Built → Outcome → Type 0) (grammar : List ℕ) (x y : Outcome) → ((b : Built) → Accepted grammar b → P b x → Q b y → x ≡ y)
+      → IsGrammarOutcome grammar P x → IsGrammarOutcome grammar Q y → x ≡ y
+  one_over P Q grammar x y one (GrammarRefused t refused_t is) (GrammarRefused u refused_u is') = is ∙ ap (refused 3) (one_refused laws.grammars grammar t u refused_t refused_u) ∙ sym is'
+  one_over P Q grammar x y one (GrammarRefused t refused_t is) (GrammarAccepted c accepted over) = absurd (not_refused laws.grammars grammar c t accepted refused_t)
+  one_over P Q grammar x y one (GrammarAccepted c accepted over) (GrammarRefused t refused_t is) = absurd (not_refused laws.grammars grammar c t accepted refused_t)
+  one_over P Q grammar x y one (GrammarAccepted c accepted over) (GrammarAccepted d accepted' over') =
+      one c accepted over (subst (λ (k : Built). Q k y) (sym (one_built laws.grammars grammar c d accepted accepted')) over')
 
-  pub one_job_outcome : (job : Job) (grammar input : List ℕ) (a b : Outcome) → IsJobOutcome job grammar input a → IsJobOutcome job grammar input b → a ≡ b
-  one_job_outcome job grammar input a b (GrammarRefused t refused_t is) (GrammarRefused u refused_u is') =
-      is ∙ ap (refused 3) (one_refused laws grammar t u refused_t refused_u) ∙ sym is'
-  one_job_outcome job grammar input a b (GrammarRefused t refused_t is) (GrammarAccepted c accepted over) = absurd (not_refused laws grammar c t accepted refused_t)
-  one_job_outcome job grammar input a b (GrammarAccepted c accepted over) (GrammarRefused t refused_t is) = absurd (not_refused laws grammar c t accepted refused_t)
-  one_job_outcome job grammar input a b (GrammarAccepted c accepted over) (GrammarAccepted d accepted' over') =
-      one_accepted_outcome job c input a b over (subst (λ (k : Built). IsAcceptedOutcome job k input b) (sym (one_built laws grammar c d accepted accepted')) over')
+  one_over_task : (task : Task) (grammar input : List ℕ) (x y : Outcome) → IsGrammarOutcome grammar (λ b. IsTaskOutcome task b input) x → IsGrammarOutcome grammar (λ b. IsTaskOutcome task b input) y → x ≡ y
+  one_over_task task grammar input x y p q =
+      one_over (λ b. IsTaskOutcome task b input) (λ b. IsTaskOutcome task b input) grammar x y (λ b accepted. one_task laws.reading task b input x y) p q
+
+  pub one_work : (size : ℕ) (x y : Outcome) → IsWorkOutcome size x → IsWorkOutcome size y → x ≡ y
+  one_work size x y p q =
+      let built : q.built ≡ p.built = one_built laws.grammars work_grammar q.built p.built q.accepted p.accepted in
+      let read : IsRead p.built (work_input size) q.pieces = subst (λ (b : Built). IsRead b (work_input size) q.pieces) built q.read in
+      let pieces : q.pieces ≡ p.pieces = one_read laws.reading p.built (work_input size) q.pieces p.pieces read p.read in
+      let has : HasNumbers p.built p.pieces q.numbers =
+      subst (λ (ps : List Piece). HasNumbers p.built ps q.numbers) pieces (subst (λ (b : Built). HasNumbers b q.pieces q.numbers) built q.has) in
+      p.is ∙ ap (λ (n : Numbers). done (work_line size n 1 ∷ [])) (laws.reading.one_numbers p.built p.pieces p.numbers q.numbers p.has has) ∙ sym q.is
+
+  one_job_outcome : (job : Job) (grammar input : List ℕ) (a b : Outcome) → IsJobOutcome job grammar input a → IsJobOutcome job grammar input b → a ≡ b
+  one_job_outcome (Run asked) grammar input a b p q = one_over_task (Values asked) grammar input a b p q
+  one_job_outcome (Check name) grammar input a b p q = one_over IsCheckOutcome IsCheckOutcome grammar a b (λ c accepted. one_check c a b) p q
+  one_job_outcome (Expect name from) grammar input a b p q = one_over_task Expected grammar input a b p q
+  one_job_outcome (Progress name at from) grammar input a b p q = one_over_task (Report at) grammar input a b p q
+  one_job_outcome (Work size) grammar input a b p q = one_work size a b p q
 
   pub one_of_all : (words : List (List ℕ)) (grammar input : List ℕ) (a b : Outcome) → IsOutcome words grammar input a → IsOutcome words grammar input b → a ≡ b
   one_of_all words grammar input a b (NoJob none is) (NoJob none' is') = is ∙ sym is'
-  one_of_all words grammar input a b (NoJob none is) (JobNotBuilt job asks unbuilt is') = absurd (not_both words job asks none)
-  one_of_all words grammar input a b (NoJob none is) (OfJob job takes of) = absurd (none_taken words none job takes)
-  one_of_all words grammar input a b (JobNotBuilt job asks unbuilt is) (NoJob none is') = absurd (not_both words job asks none)
-  one_of_all words grammar input a b (JobNotBuilt job asks unbuilt is) (JobNotBuilt job' asks' unbuilt' is') = is ∙ sym is'
-  one_of_all words grammar input a b (JobNotBuilt job asks unbuilt is) (OfJob job' takes of) = absurd (unbuilt_not_taken words job asks unbuilt job' takes)
-  one_of_all words grammar input a b (OfJob job takes of) (NoJob none is) = absurd (none_taken words none job takes)
-  one_of_all words grammar input a b (OfJob job takes of) (JobNotBuilt job' asks unbuilt is) = absurd (unbuilt_not_taken words job' asks unbuilt job takes)
-  one_of_all words grammar input a b (OfJob job takes of) (OfJob job' takes' of') =
-      one_job_outcome job grammar input a b of (subst (λ (j : Job). IsJobOutcome j grammar input b) (sym (takes_once words job job' takes takes')) of')
+  one_of_all words grammar input a b (NoJob none is) (OfJob job asks of) = absurd (not_both words job asks none)
+  one_of_all words grammar input a b (OfJob job asks of) (NoJob none is) = absurd (not_both words job asks none)
+  one_of_all words grammar input a b (OfJob job asks of) (OfJob job' asks' of') =
+      one_job_outcome job grammar input a b of (subst (λ (j : Job). IsJobOutcome j grammar input b) (sym (asks_once words job job' asks asks')) of')

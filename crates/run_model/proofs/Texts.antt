@@ -1,5 +1,5 @@
--- What a run needs to know of grammar texts.
-use Rattle.std.proofs.Common.{◌≡◌, ℕ, List, ◌⊎◌}
+-- What is needed of grammar texts and of all else that a run comes to.
+use Rattle.std.proofs.Common.{◌≡◌, ℕ, ◌≤◌, List, ◌⊎◌}
 use Rattle.language_model.specs.Description.{Statement}
 use Rattle.language_model.specs.Texts.{HasDescription}
 use Rattle.grammar_model.specs.Grammar.{Grammar}
@@ -7,6 +7,7 @@ use Rattle.reading_model.proofs.Accepting.{CheckLaws}
 use Rattle.run_model.specs.Texts.{TextFault, HasFault}
 use Rattle.run_model.proofs.Inputs.{ReadingLaws}
 use Rattle.run_model.specs.Checking.{SymbolRow, IsRowOf}
+use Rattle.run_model.specs.Outcome.{Outcome, IsWorkOutcome}
 
 -- a text has one description or one fault
 pub record TextLaws : Type 0 where
@@ -15,9 +16,14 @@ pub record TextLaws : Type 0 where
   pub one_fault : (bytes : List ℕ) (f g : TextFault) → HasFault bytes f → HasFault bytes g → f ≡ g
   pub not_both : (bytes : List ℕ) (d : List Statement) (f : TextFault) → HasDescription bytes d → HasFault bytes f → ⊥
 
--- and of grammars: checks decide, what each symbol can do is decided, and texts have one reading
-pub record RunLaws : Type 0 where
+-- and checks decide
+pub record GrammarLaws : Type 0 where
   pub texts : TextLaws
   pub checks : CheckLaws
+
+-- and of the rest: what each symbol can do is decided, texts have one reading, and job `work` has an outcome
+pub record RunLaws : Type 0 where
+  pub grammars : GrammarLaws
   pub reading : ReadingLaws
   pub row : (g : Grammar) (s : ℕ) → (row : SymbolRow) × (row.symbol ≡ s) × IsRowOf g row
+  pub work : (size : ℕ) → size ≤ 100000 → (outcome : Outcome) × IsWorkOutcome size outcome

@@ -1,11 +1,10 @@
 -- What a task tells of the pieces of its input exists, and is one.
-use Rattle.std.proofs.Common.{◌≡◌, ℕ, List, [], ◌∷◌, Bool, true, false, refl, sym, ap, subst, ◌∙◌, arith, inl, inr, map, chars, slice_index_or, nat_le, leb-true}
+use Rattle.std.proofs.Common.{◌≡◌, ℕ, List, [], ◌∷◌, ◌++◌, Bool, true, false, refl, sym, ap, subst, ◌∙◌, arith, inl, inr, map, chars, slice_index_or, nat_le, leb-true}
 use Rattle.std.proofs.lemmas.Bool.{leb-false}
 use Rattle.grammar_model.specs.Grammar.{slot_of}
 use Rattle.grammar_model.specs.Trees.{Tree}
 use Rattle.grammar_model.specs.Derives.{Held}
 use Rattle.grammar_model.specs.declared.Ranking.{Ranking}
-use Rattle.grammar_model.specs.declared.Ranking.TheVariants.{Rule as RuleRanks}
 use Rattle.grammar_model.specs.Order.{rank_order}
 use Rattle.grammar_model.proofs.Sorting.{ranks_order}
 use Rattle.grammar_model.proofs.Total.{all_unique}
@@ -14,11 +13,13 @@ use Rattle.language_model.specs.Building.{Built}
 use Rattle.language_model.specs.Texts.{IsBuilt}
 use Rattle.reading_model.specs.Accepted.{IsAccepted}
 use Rattle.reading_model.specs.Reading.{Piece, edges_of, place_after}
+use Rattle.words_model.specs.Words.{RunAsked}
 use Rattle.run_model.specs.Listing.{AreDerivations}
+use Rattle.run_model.specs.Numbers.{Numbers}
 use Rattle.run_model.specs.Jobs.{Task}
-use Rattle.run_model.specs.Jobs.Task.{Values, Expected, Report, Count}
-use Rattle.run_model.specs.Telling.{Outcome, refused, done, name_line, report_line, value_lines, count_line, no_derivation_text, no_set_text, TellsExpected, TellsDerivations, TellsReport, Tells}
-use Rattle.run_model.specs.Telling.TellsDerivations.{NoDerivation, Derived}
+use Rattle.run_model.specs.Jobs.Task.{Values, Expected, Report}
+use Rattle.run_model.specs.Telling.{Outcome, refused, done, name_line, report_line, value_lines, stats_lines, no_derivation_text, no_set_text, TellsExpected, TellsValues, TellsReport, Tells}
+use Rattle.run_model.specs.Telling.TellsValues.{NoDerivation, Derived}
 use Rattle.run_model.specs.Telling.TellsReport.{NoSuchSet, Reported}
 use Rattle.run_model.specs.Outcome.{IsTaskOutcome}
 use Rattle.run_model.specs.Outcome.IsTaskOutcome.{InputRefused, InputRead}
@@ -38,13 +39,14 @@ module _ (laws : ReadingLaws) (b : Built) (pieces : List Piece) where
   no_tree : (ranking : Ranking) (t : Tree) (ts : List Tree) → AreDerivations b ranking pieces [] → AreDerivations b ranking pieces (t ∷ ts) → ⊥
   no_tree ranking t ts p q = let e : [] ≡ t ∷ ts = same_trees ranking [] (t ∷ ts) p q in cc e
 
-  one_derived : (ranking : Ranking) (lines : List Tree → List (List ℕ)) (x y : Outcome) → TellsDerivations b ranking lines pieces x → TellsDerivations b ranking lines pieces y → x ≡ y
-  one_derived ranking lines x y (NoDerivation expected none are is) (NoDerivation expected' none' are' is') =
+  one_values : (asked : RunAsked) (cs : List ℕ) (x y : Outcome) → TellsValues asked b cs pieces x → TellsValues asked b cs pieces y → x ≡ y
+  one_values asked cs x y (NoDerivation expected none are is) (NoDerivation expected' none' are' is') =
       is ∙ ap (λ symbols. refused 1 (no_derivation_text b.g1 symbols)) (laws.one_expected b pieces expected expected' are are') ∙ sym is'
-  one_derived ranking lines x y (NoDerivation expected none are is) (Derived t ts all is') = absurd (no_tree ranking t ts none all)
-  one_derived ranking lines x y (Derived t ts all is) (NoDerivation expected none are is') = absurd (no_tree ranking t ts none all)
-  one_derived ranking lines x y (Derived t ts all is) (Derived u us all' is') =
-      is ∙ ap (λ trees. done (lines trees)) (same_trees ranking (t ∷ ts) (u ∷ us) all all') ∙ sym is'
+  one_values asked cs x y (NoDerivation expected none are is) (Derived t ts n all has is') = absurd (no_tree asked.ranking t ts none all)
+  one_values asked cs x y (Derived t ts n all has is) (NoDerivation expected none are is') = absurd (no_tree asked.ranking t ts none all)
+  one_values asked cs x y (Derived t ts n all has is) (Derived u us m all' has' is') =
+      is ∙ ap (λ trees. done (value_lines b asked cs pieces trees ++ stats_lines asked.stats n)) (same_trees asked.ranking (t ∷ ts) (u ∷ us) all all')
+      ∙ ap (λ (k : Numbers). done (value_lines b asked cs pieces (u ∷ us) ++ stats_lines asked.stats k)) (laws.one_numbers b pieces n m has has') ∙ sym is'
 
   one_report : (at : ℕ) (x y : Outcome) → TellsReport b at pieces x → TellsReport b at pieces y → x ≡ y
   one_report at x y (NoSuchSet past is) (NoSuchSet past' is') = is ∙ sym is'
@@ -54,10 +56,9 @@ module _ (laws : ReadingLaws) (b : Built) (pieces : List Piece) where
       is ∙ ap (λ (ls : List ReportLine). done (map (report_line b.g1 at) ls)) (laws.one_report b pieces at lines lines' are are') ∙ sym is'
 
   pub one_told : (task : Task) (cs : List ℕ) (x y : Outcome) → Tells task b cs pieces x → Tells task b cs pieces y → x ≡ y
-  one_told (Values asked) cs x y p q = one_derived asked.ranking (value_lines b asked cs pieces) x y p q
+  one_told (Values asked) cs x y p q = one_values asked cs x y p q
   one_told Expected cs x y p q = one_expected x y p q
   one_told (Report at) cs x y p q = one_report at x y p q
-  one_told (Count size) cs x y p q = one_derived RuleRanks (λ trees. count_line size pieces trees ∷ []) x y p q
 
 module _ (laws : ReadingLaws) (task : Task) (b : Built) (input : List ℕ) where
   pub one_task : (x y : Outcome) → IsTaskOutcome task b input x → IsTaskOutcome task b input y → x ≡ y
@@ -70,14 +71,16 @@ module _ (laws : ReadingLaws) (task : Task) (b : Built) (input : List ℕ) where
 -- SOME OF ALL
 
 module _ (laws : ReadingLaws) (b : Built) (built : IsBuilt b) (accepted : IsAccepted b) (pieces : List Piece) where
-  of_trees : (ranking : Ranking) (lines : List Tree → List (List ℕ)) (trees : List Tree) → AreDerivations b ranking pieces trees → (outcome : Outcome) × TellsDerivations b ranking lines pieces outcome
-  of_trees ranking lines [] are =
+  of_trees : (asked : RunAsked) (cs : List ℕ) (trees : List Tree) → AreDerivations b asked.ranking pieces trees → (outcome : Outcome) × TellsValues asked b cs pieces outcome
+  of_trees asked cs [] are =
       let (expected, e) = laws.expected b pieces built accepted in
       (refused 1 (no_derivation_text b.g1 expected), NoDerivation expected are e refl)
-  of_trees ranking lines (tree ∷ trees) are = (done (lines (tree ∷ trees)), Derived tree trees are refl)
+  of_trees asked cs (tree ∷ trees) are =
+      let (n, has) = laws.numbers b pieces built accepted in
+      (done (value_lines b asked cs pieces (tree ∷ trees) ++ stats_lines asked.stats n), Derived tree trees n are has refl)
 
-  some_derived : (ranking : Ranking) (lines : List Tree → List (List ℕ)) → (outcome : Outcome) × TellsDerivations b ranking lines pieces outcome
-  some_derived ranking lines = let (trees, are) = laws.derivations b ranking pieces built accepted in of_trees ranking lines trees are
+  some_values : (asked : RunAsked) (cs : List ℕ) → (outcome : Outcome) × TellsValues asked b cs pieces outcome
+  some_values asked cs = let (trees, are) = laws.derivations b asked.ranking pieces built accepted in of_trees asked cs trees are
 
   some_report : (at : ℕ) → (outcome : Outcome) × TellsReport b at pieces outcome
   some_report at = by (nat_le at (place_after pieces)) refl
@@ -87,12 +90,11 @@ module _ (laws : ReadingLaws) (b : Built) (built : IsBuilt b) (accepted : IsAcce
       by false e = (refused 1 (no_set_text at (place_after pieces)), NoSuchSet (leb-false _ _ e) refl)
 
   pub some_told : (task : Task) (cs : List ℕ) → (outcome : Outcome) × Tells task b cs pieces outcome
-  some_told (Values asked) cs = some_derived asked.ranking (value_lines b asked cs pieces)
+  some_told (Values asked) cs = some_values asked cs
   some_told Expected cs =
       let (expected, are) = laws.expected b pieces built accepted in
       (done (map (name_line b.g1) expected), record { expected = expected; are = are; is = refl })
   some_told (Report at) cs = some_report at
-  some_told (Count size) cs = some_derived RuleRanks (λ trees. count_line size pieces trees ∷ [])
 
 pub some_task : (laws : ReadingLaws) (b : Built) → IsBuilt b → IsAccepted b → (task : Task) (input : List ℕ) → (outcome : Outcome) × IsTaskOutcome task b input outcome
 some_task laws b built accepted task input = elim (read_or laws b built accepted input) [

@@ -3,6 +3,7 @@ pub mod Refused
 pub mod Checking
 pub mod Inputs
 pub mod Listing
+pub mod Numbers
 pub mod Telling
 pub mod Jobs
 pub mod Outcome

@@ -1,13 +1,11 @@
 -- What the jobs tell of an input that is read to its end, by its pieces.
 -- Sources: the Libmarpa manual (progress reports; bocage, order, tree, value) and the Marpa::R2 SLIF DSL manual (lexemes that are
 -- expected); the texts are our own.
-use Rattle.std.specs.Prelude.{◌≡◌, ℕ, ◌<◌, ◌≤◌, ◌++◌, List, [], ◌∷◌, map, take, length, codes, decimal}
+use Rattle.std.specs.Prelude.{◌≡◌, ℕ, ◌<◌, ◌≤◌, ◌++◌, if◌then◌else◌, Bool, List, [], ◌∷◌, map, codes, decimal}
 use Rattle.std.specs.List.{concat}
 use Rattle.grammar_model.specs.Grammar.{Grammar, rule_at, lhs_of}
 use Rattle.grammar_model.specs.Trees.{Tree}
 use Rattle.grammar_model.specs.Values.{name_of}
-use Rattle.grammar_model.specs.declared.Ranking.{Ranking}
-use Rattle.grammar_model.specs.declared.Ranking.TheVariants.{Rule as RuleRanks}
 use Rattle.recognizer_model.specs.declared.ReportLine.{ReportLine}
 use Rattle.report_model.specs.Report.{IsReport}
 use Rattle.language_model.specs.Building.{Built}
@@ -15,8 +13,9 @@ use Rattle.reading_model.specs.Reading.{Piece, AreExpected, edges_of, place_afte
 use Rattle.words_model.specs.Words.{RunAsked}
 use Rattle.run_model.specs.Inputs.{names_text}
 use Rattle.run_model.specs.Listing.{AreDerivations, line_of, first_of}
+use Rattle.run_model.specs.Numbers.{Numbers, HasNumbers}
 use Rattle.run_model.specs.Jobs.{Task}
-use Rattle.run_model.specs.Jobs.Task.{Values, Expected, Report, Count}
+use Rattle.run_model.specs.Jobs.Task.{Values, Expected, Report}
 
 -- the text for the standard output, the line for the standard error, and the status
 pub record Outcome : Type 0 where
@@ -44,10 +43,19 @@ name_line g symbol = name_of g symbol ++ 10 ∷ []
 abbrev pub value_lines : Built → RunAsked → List ℕ → List Piece → List Tree → List (List ℕ)
 value_lines b asked cs pieces trees = map (line_of b asked.show cs pieces) (first_of asked.first trees)
 
--- the derivations that are counted are at most as many as 32 bits tell
-abbrev pub count_line : (size : ℕ) → List Piece → List Tree → List ℕ
-count_line size pieces trees =
-    codes "work " ++ (decimal size ++ (codes ": tokens " ++ (decimal (place_after pieces) ++ (codes " values " ++ (decimal (length (take 4294967295 trees)) ++ 10 ∷ [])))))
+abbrev pub numbers_text : Numbers → List ℕ
+numbers_text n =
+    codes "tokens " ++ (decimal n.tokens ++ (codes " kept " ++ (decimal n.kept ++ (codes " nodes " ++ (decimal n.nodes ++ (codes " expanded " ++ decimal n.expanded))))))
+
+abbrev pub stats_line : Numbers → List ℕ
+stats_line n = codes "stats: " ++ (numbers_text n ++ 10 ∷ [])
+
+-- the line of the numbers, where it is asked for
+abbrev pub stats_lines : Bool → Numbers → List (List ℕ)
+stats_lines asked n = if asked then stats_line n ∷ [] else []
+
+abbrev pub work_line : (size : ℕ) → Numbers → (values : ℕ) → List ℕ
+work_line size n values = codes "work " ++ (decimal size ++ (codes ": " ++ (numbers_text n ++ (codes " values " ++ (decimal values ++ 10 ∷ [])))))
 
 -- an item by its written rule, its dot, its origin, the place of the report, and the rule's left side
 abbrev pub report_line : Grammar → (at : ℕ) → ReportLine → List ℕ
@@ -68,12 +76,12 @@ pub record TellsExpected (b : Built) (pieces : List Piece) (outcome : Outcome) :
   pub are : AreExpected b pieces expected
   pub is : outcome ≡ done (map (name_line b.g1) expected)
 
--- lines of the derivations, which are in order; or there is none
-pub data TellsDerivations (b : Built) (ranking : Ranking) (lines : List Tree → List (List ℕ)) (pieces : List Piece) (outcome : Outcome) : Type 0 where
-  NoDerivation : (expected : List ℕ) → AreDerivations b ranking pieces [] → AreExpected b pieces expected → outcome ≡ refused 1 (no_derivation_text b.g1 expected) →
-      TellsDerivations b ranking lines pieces outcome
-  Derived : (tree : Tree) (trees : List Tree) → AreDerivations b ranking pieces (tree ∷ trees) → outcome ≡ done (lines (tree ∷ trees)) →
-      TellsDerivations b ranking lines pieces outcome
+-- the values of the derivations, which are in order, and the numbers behind them; or there is no derivation
+pub data TellsValues (asked : RunAsked) (b : Built) (cs : List ℕ) (pieces : List Piece) (outcome : Outcome) : Type 0 where
+  NoDerivation : (expected : List ℕ) → AreDerivations b asked.ranking pieces [] → AreExpected b pieces expected → outcome ≡ refused 1 (no_derivation_text b.g1 expected) →
+      TellsValues asked b cs pieces outcome
+  Derived : (tree : Tree) (trees : List Tree) (n : Numbers) → AreDerivations b asked.ranking pieces (tree ∷ trees) → HasNumbers b pieces n →
+      outcome ≡ done (value_lines b asked cs pieces (tree ∷ trees) ++ stats_lines asked.stats n) → TellsValues asked b cs pieces outcome
 
 -- the report at a place; or it is past the last
 pub data TellsReport (b : Built) (at : ℕ) (pieces : List Piece) (outcome : Outcome) : Type 0 where
@@ -83,7 +91,6 @@ pub data TellsReport (b : Built) (at : ℕ) (pieces : List Piece) (outcome : Out
 
 -- what the task tells of these characters, which were read in these pieces
 abbrev pub Tells : Task → Built → (cs : List ℕ) → List Piece → Outcome → Type 0
-Tells (Values asked) b cs pieces outcome = TellsDerivations b asked.ranking (value_lines b asked cs pieces) pieces outcome
+Tells (Values asked) b cs pieces outcome = TellsValues asked b cs pieces outcome
 Tells Expected b cs pieces outcome = TellsExpected b pieces outcome
 Tells (Report at) b cs pieces outcome = TellsReport b at pieces outcome
-Tells (Count size) b cs pieces outcome = TellsDerivations b RuleRanks (λ trees. count_line size pieces trees ∷ []) pieces outcome

@@ -1,5 +1,6 @@
 -- A recognizer that takes the edges of a token goes on expecting what it expected.
-use Rattle.std.proofs.Common.{arith, ◌≡◌, inl, inr, ℕ, suc, ◌+◌, ◌-◌, ◌<◌, ◌++◌, List, [], ◌∷◌, length, take, get_or, Contains, sym, ◌∙◌, ap, subst}
+use Rattle.std.proofs.Common.{arith, ◌≡◌, ◌≢◌, inl, inr, ℕ, suc, ◌+◌, ◌-◌, ◌<◌, ◌++◌, List, [], ◌∷◌, length, take, get_or, Contains, sym, ◌∙◌, ap, subst}
+use Rattle.std.specs.List.{AllPairs}
 use Rattle.std.specs.List.Sorted.{IsStrictlySortedBy}
 use Rattle.std.specs.Ordering.{nat_cmp}
 use Rattle.std.proofs.lemmas.List.{get_or-take, get_or_default, length-take-le, map_more, append_assoc, append-nil, length-append}
@@ -9,7 +10,10 @@ use Rattle.grammar_model.specs.declared.Edge.{Edge}
 use Rattle.grammar_model.specs.Derives.{Edges}
 use Rattle.grammar_model.specs.Acceptable.{Spells}
 use Rattle.recognizer_model.specs.declared.Item.{Item}
-use Rattle.earley_sets.specs.Recognizer.{Recognizer, IsExpected, place_of, edges_of, new_edge}
+use Rattle.recognizer_model.specs.Links.{Link, IsLink}
+use Rattle.earley_sets.specs.Recognizer.{Recognizer, IsRecognizer, IsExpected, place_of, edges_of, top_of, made, new_edge}
+use Rattle.earley_sets.specs.Counted.{CountsFrom}
+use Rattle.earley_sets.proofs.Counting.{counts_set, counts_more}
 use Rattle.earley_sets.proofs.Membership.{Contains-map_from}
 use Rattle.scanless.specs.Taking.{token_edges, Keeps}
 
@@ -22,11 +26,11 @@ module _ (old new : Recognizer) (keeps : Keeps old new) where
   same_place = ap (λ (sets : List (List Item)). length sets - 1) keeps.sets
 
   with_edges : Recognizer
-  with_edges = record { flat = old.flat; start = old.start; edges = new.edges; sets = old.sets }
+  with_edges = record { flat = old.flat; start = old.start; edges = new.edges; sets = old.sets; noted = old.noted }
 
   is_new : Path Recognizer with_edges new
   unfolding with_edges
-  is_new = λ i. record { flat = (sym keeps.flat) i; start = (sym keeps.start) i; edges = new.edges; sets = (sym keeps.sets) i }
+  is_new = λ i. record { flat = (sym keeps.flat) i; start = (sym keeps.start) i; edges = new.edges; sets = (sym keeps.sets) i; noted = (sym keeps.noted) i }
 
   module _ (more : List Edge) (edges_are : new.edges ≡ old.edges ++ more) where
     more_edges : (x p q : ℕ) → edges_of old x p q → edges_of with_edges x p q
@@ -78,4 +82,20 @@ pub place_more : (old new : List (List Item)) (set : List Item) → 0 < length o
 place_more old new set some e = let l = length-append old (set ∷ []) in let k = ap (λ (s : List (List Item)). length s) e in omega (arith, some, l, k)
 
 pub keeps_through : (a b c : Recognizer) → Keeps a b → Keeps b c → Keeps a c
-keeps_through a b c k l = record { flat = l.flat ∙ k.flat; start = l.start ∙ k.start; sets = l.sets ∙ k.sets }
+keeps_through a b c k l = record { flat = l.flat ∙ k.flat; start = l.start ∙ k.start; sets = l.sets ∙ k.sets; noted = l.noted ∙ k.noted }
+
+-- the edges of a token end behind the place
+behind : (place : ℕ) (symbols : List ℕ) (e : Edge) → Contains (token_edges place symbols) e → place < e.to
+behind place symbols e c =
+    let (s, there, is) = Contains-map_from (λ s. record { symbol = s; from = place; to = suc place }) symbols e c in
+    let to_is : e.to ≡ suc place = ap (λ (d : Edge). d.to) is in
+    omega (arith, to_is)
+
+-- the steps of a token are those of its set
+module _ (old mid new : Recognizer) (symbols : List ℕ) (is : IsRecognizer mid) (keeps : Keeps old mid) (edges : mid.edges ≡ old.edges ++ token_edges (place_of old) symbols)
+    (flat : new.flat ≡ mid.flat) (start : new.start ≡ mid.start) (same : new.edges ≡ mid.edges) (set : List Item) (sets : new.sets ≡ mid.sets ++ set ∷ []) where
+  pub counts_token : (middle after : ℕ) (tried : List Link) → AllPairs (λ a b. a ≢ b) tried → ((l : Link) → Contains tried l → IsLink mid.flat (edges_of mid) (top_of mid) (length mid.sets) l) →
+      after + made mid ≡ middle + length tried + made new → (before : ℕ) → CountsFrom old before middle → CountsFrom new before after
+  counts_token middle after tried once are count before counts =
+      counts_set mid new flat start same is.some set sets before middle after tried once are count
+      (counts_more old mid is keeps.flat keeps.start keeps.sets keeps.noted (token_edges (place_of old) symbols) edges (behind (place_of old) symbols) before middle counts)

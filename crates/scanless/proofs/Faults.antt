@@ -86,11 +86,11 @@ lexical_form b (Some g) None is flat = absurd flat
 lexical_form b (Some g) (Some f) (same, some, l) (form, few) = ((some, subst (IsFlatOf f) same form), λ _. subst HasFewRules same few)
 
 pub are_parts : (b : Built) (g : Grammar) (c : Option Grammar) (flat : FlatGrammar) (lexical : Option FlatGrammar) (abilities : List Ability) → g ≡ b.g1 → IsChecked b.g1 → IsCheckedLexical b.l0 c
-    → IsFlatOf flat g → HasFewRules g → IsFlatLexical c lexical → AreAbilities g abilities → AreParts b flat lexical abilities
+    → IsFlattened g flat → HasFewRules g → IsFlatLexical c lexical → AreAbilities g abilities → AreParts b flat lexical abilities
 are_parts b g c flat lexical abilities same structural checked form few lexical_flat able =
     let both = lexical_form b c lexical checked lexical_flat in record {
       accepted = record { checked = are_checked b c structural checked; structural = subst HasFewRules same few; lexical = both.1 };
-      flat_form = subst (IsFlatOf flat) same form;
+      flattened = subst (λ h. IsFlattened h flat) same form;
       lexical_form = both.0;
       are_abilities = subst (λ h. AreAbilities h abilities) same able;
     }

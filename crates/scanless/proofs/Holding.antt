@@ -4,7 +4,7 @@ use Rattle.std.proofs.lemmas.List.Elements.{Contains-append_cases}
 use Rattle.grammar_model.specs.declared.Edge.{Edge}
 use Rattle.language_model.specs.Building.{Built}
 use Rattle.reading_model.specs.Reading.{Piece, Token, Skipped, place_after, edges_from, edges_of, spans_from, Reads, Begin, Take, Skip}
-use Rattle.recognizer_model.specs.FlatForm.{IsFlatOf}
+use Rattle.flat_rules.specs.Flattened.{IsFlattened}
 use Rattle.earley_sets.specs.Recognizer.{Recognizer, place_of}
 use Rattle.earley_sets.proofs.Membership.{Contains-none, Contains-map_from}
 use Rattle.scanless.specs.Taking.{token_edges, Takes}
@@ -101,7 +101,7 @@ module _ (b : Built) (pieces : List Piece) (old : Recognizer) (holds : HoldsPiec
 
   pub holds_token : (new : Recognizer) (n : ℕ) (ss : List ℕ) → Takes old new ss → HoldsPieces b (pieces ++ Token n ss ∷ []) new
   holds_token new n ss t = record {
-    flat = subst (λ f. IsFlatOf f b.g1) (sym t.flat) holds.flat;
+    flat = subst (IsFlattened b.g1) (sym t.flat) holds.flat;
     start = t.start ∙ holds.start;
     edges = t.edges ∙ (ap (λ es. es ++ token_edges (place_of old) ss) holds.edges ∙ (ap (λ k. edges_of pieces ++ token_edges k ss) (let p = holds.place in let e : place_of old ≡ 0 + place_after pieces = omega (arith, p) in e) ∙ sym (edges_token 0 pieces n ss)));
     place = t.place ∙ (ap suc holds.place ∙ sym (place_token pieces n ss));

@@ -19,10 +19,10 @@ module _ (b : Built) (checked : IsChecked b.g1) (pieces : List Piece) (recce : R
   forward s p q held = is.forward (record { symbol = s; from = p; to = q }) held
 
   forms : (words : List ℕ) (ranking : Ranking) → IsFlatForm recce.flat b.g1 (Line words) ranking
-  forms words ranking = flat_form recce.flat b.g1 is.flat holds.flat checked (Line words) (line_forward words) ranking
+  forms words ranking = flat_form recce.flat b.g1 is.flat holds.flat.made checked (Line words) (line_forward words) ranking
 
   start_within : recce.start < length b.g1.starts
-  start_within = let e = holds.flat.tops_all in omega (arith, e, is.start)
+  start_within = let e = holds.flat.made.tops_all in omega (arith, e, is.start)
 
   law : (t : ℕ) → IsExpected recce t ↔ IsAcceptable b.g1 (Held recce.edges) (slice_index b.g1.starts recce.start) t (place_of recce)
   law t =

@@ -3,7 +3,7 @@ use Rattle.std.proofs.Common.{arith, ◌≡◌, ◌↔◌, ℕ, ◌+◌, ◌<◌
 use Rattle.std.specs.List.Sorted.{IsStrictlySortedBy}
 use Rattle.std.specs.Ordering.{nat_cmp}
 use Rattle.grammar_core.specs.declared.steps.Span.{Span}
-use Rattle.recognizer_model.specs.FlatForm.{IsFlatOf}
+use Rattle.flat_rules.specs.Flattened.{IsFlattened}
 use Rattle.language_model.specs.Building.{Built}
 use Rattle.reading_model.specs.Reading as model
 use Rattle.reading_model.specs.Reading.{Piece, Token, Skipped, IsLongest, IsKept, IsFound, AreFound, AreSorted, AreExpected, Reads, Begin, Take, Skip, IsReading, HasEnded, HasStopped}
@@ -17,7 +17,7 @@ use Rattle.scanless.specs.Reading.{span_of, IsReadingOf, HasRead, IsChosen, IsSt
 use Rattle.scanless.proofs.Holding.{spans_with_token, spans_with_skipped, holds_token, holds_skipped}
 
 module _ (b : Built) (text : List ℕ) where
-  pub has_begun : (recce : Recognizer) → IsFlatOf recce.flat b.g1 → recce.start ≡ 0 → recce.edges ≡ [] → length recce.sets ≡ 1 → HasRead b text [] 0 recce []
+  pub has_begun : (recce : Recognizer) → IsFlattened b.g1 recce.flat → recce.start ≡ 0 → recce.edges ≡ [] → length recce.sets ≡ 1 → HasRead b text [] 0 recce []
   has_begun recce flat start edges one = record {
     reads = Begin;
     within = omega arith;

@@ -2,6 +2,7 @@
 use Rattle.std.specs.Prelude.{List, Option, Some, None}
 use Rattle.recognizer_model.specs.Flat.{FlatGrammar}
 use Rattle.recognizer_model.specs.FlatForm.{IsFlatOf}
+use Rattle.flat_rules.specs.Flattened.{IsFlattened}
 use Rattle.language_model.specs.Building.{Built}
 use Rattle.language_model.specs.Texts.{IsBuilt}
 use Rattle.reading_model.specs.Accepted.{IsLexical, IsAccepted}
@@ -15,7 +16,7 @@ IsLexicalForm b (Some flat) = IsLexical b × IsFlatOf flat b.l0
 
 pub record AreParts (b : Built) (flat : FlatGrammar) (lexical : Option FlatGrammar) (abilities : List Ability) : Type 0 where
   pub accepted : IsAccepted b
-  pub flat_form : IsFlatOf flat b.g1
+  pub flattened : IsFlattened b.g1 flat
   pub lexical_form : IsLexicalForm b lexical
   pub are_abilities : AreAbilities b.g1 abilities
 

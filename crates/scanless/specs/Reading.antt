@@ -1,7 +1,7 @@
 -- What reading a text gives: a recognizer that holds the edges of its tokens, the spans of the tokens, and how reading ends.
 use Rattle.std.specs.Prelude.{◌≡◌, ℕ, ◌<◌, ◌≤◌, ◌↔◌, List, length, map, Contains}
 use Rattle.grammar_core.specs.declared.steps.Span.{Span}
-use Rattle.recognizer_model.specs.FlatForm.{IsFlatOf}
+use Rattle.flat_rules.specs.Flattened.{IsFlattened}
 use Rattle.earley_sets.specs.Recognizer.{Recognizer, place_of}
 use Rattle.language_model.specs.Building.{Built}
 use Rattle.reading_model.specs.Reading as model
@@ -23,7 +23,7 @@ span_of s = (s.start, s.length)
 
 -- a recognizer for the structural grammar's start holds the edges of the pieces and stands behind them
 pub record HoldsPieces (b : Built) (pieces : List Piece) (recce : Recognizer) : Type 0 where
-  pub flat : IsFlatOf recce.flat b.g1
+  pub flat : IsFlattened b.g1 recce.flat
   pub start : recce.start ≡ 0
   pub edges : recce.edges ≡ edges_of pieces
   pub place : place_of recce ≡ place_after pieces

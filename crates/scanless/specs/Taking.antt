@@ -12,6 +12,7 @@ pub record Keeps (old new : Recognizer) : Type 0 where
   pub flat : new.flat ≡ old.flat
   pub start : new.start ≡ old.start
   pub sets : new.sets ≡ old.sets
+  pub noted : new.noted ≡ old.noted
 
 -- a token is taken, as each of the symbols
 pub record Takes (old new : Recognizer) (symbols : List ℕ) : Type 0 where

@@ -10,8 +10,6 @@ mod prepared;
 mod reading;
 mod refusal;
 mod taking;
-#[cfg(test)]
-mod tests;
 mod told;
 
 pub use prepared::{Prepared, prepare};

@@ -4,7 +4,7 @@ ghost use Rattle.grammar_model.specs.Grammar.{Grammar};
 ghost use Rattle.grammar_model.specs.Checked.{IsChecked};
 ghost use Rattle.grammar_check.specs.Message.{IsOf};
 ghost use Rattle.grammar_check.specs.Refused.{IsTold};
-ghost use Rattle.recognizer_model.specs.FlatForm.{IsFlatOf};
+ghost use Rattle.flat_rules.specs.Flattened.{IsFlattened};
 ghost use Rattle.reading_model.specs.Accepted.{HasFewRules};
 ghost use Rattle.scanless.specs.declared.parts.Fault.TheVariants.{NoMemory};
 ghost use Rattle.scanless.specs.Faults.{IsRefusedBy, IsOverfull, IsCheckedLexical, IsFlatLexical, IsLexicalOverfull, IsFault};
@@ -85,7 +85,7 @@ fn checked_lexical(alloc: Global, l0: &Written) -> Result<Option<Checked<'_>>, F
 
 /// The flat form of a grammar, where it has not too many rules.
 fn flattened(alloc: Global, c: &Checked<'_>, lexical: bool) -> Result<Flat, Fault>
-    ensures ok { IfOk result (λ flat. IsFlatOf flat c.now) }
+    ensures ok { IfOk result (λ flat. IsFlattened c.now flat) }
     ensures few { OnOk result (HasFewRules c.now) }
     ensures err { IfErr result (IsOverfull c.now lexical) }
 {

@@ -5,6 +5,7 @@ ghost use Rattle.grammar_model.specs.Analysis.{IsNullable, IsProductive, IsAcces
 ghost use Rattle.grammar_model.specs.Checked.{IsChecked};
 ghost use Rattle.recognizer_model.specs.FlatForm.{IsFlatOf};
 ghost use Rattle.recognizer_model.specs.Invariant.{IsFlat};
+ghost use Rattle.flat_rules.specs.Flattened.{IsFlattened};
 ghost use Rattle.language_model.specs.Texts.{IsBuilt};
 ghost use Rattle.value_text.specs.Meaning.{meaning_of};
 ghost use Rattle.dsl_build.specs.Ranges.{IsInRange};
@@ -108,6 +109,7 @@ impl Prepared {
 
     /// The flat form of the structural grammar.
     pub fn flat(&self) -> &Flat
+        ensures flattened { IsFlattened self.now.g1 result.now }
         ensures form { IsFlatOf result.now self.now.g1 }
         ensures flat { IsFlat result.now }
         ensures checked { IsChecked self.now.g1 }

@@ -6,6 +6,7 @@ ghost use Rattle.std.specs.Ordering.{nat_cmp};
 ghost use Rattle.grammar_model.specs.declared.Edge.{Edge as HeldEdge};
 ghost use Rattle.reading_model.specs.Reading.{Piece};
 ghost use Rattle.earley_sets.specs.Recognizer.{place_of, IsExpected};
+ghost use Rattle.earley_sets.specs.Counted.{CountsFrom, TakesAtMost};
 ghost use Rattle.scanless.specs.Taking.{Takes};
 ghost use Rattle.scanless.specs.Reading.{span_of, IsReadingOf, HasRead, IsReader, IsStuck};
 
@@ -56,7 +57,8 @@ struct Reader<'p> {
 
 impl<'p> Reader<'p> {
     fn new(alloc: Global, p: &'p Prepared) -> Result<Reader<'p>, AllocError>
-        ensures { IfOk result (λ r. (text : List ℕ) → IsReader p.now text r) }
+        ensures reader { IfOk result (λ r. (text : List ℕ) → IsReader p.now text r) }
+        ensures noted { IfOk result (λ r. r.recce.noted ≡ []) }
     {
         p.known();
         let recce = Recce::new(alloc, p.flat(), 0)?;
@@ -79,6 +81,7 @@ impl<'p> Reader<'p> {
         ensures at { OnOk result (self.new.at ≡ self.old.at + length) }
         ensures span { OnOk result (map span_of self.new.spans.items ≡ map span_of self.old.spans.items ++ (self.old.at, length) ∷ []) }
         ensures takes { OnOk result (Takes self.old.recce self.new.recce self.old.work.kept.items) }
+        ensures counted { OnOk result ((before : ℕ) → CountsFrom self.old.recce before steps.old → CountsFrom self.new.recce before steps.new) }
     {
         let start = self.at as u32;
         self.spans.push(Span { start, length })?;
@@ -118,6 +121,7 @@ impl<'p> Reader<'p> {
         requires more { self.old.at < length chars.now }
         ensures goes_on { IfOk result (λ e. IsNone e → IsReader p.now chars.now self.new × (self.old.at < self.new.at)) }
         ensures ends { IfOk result (λ e. IfSome e (λ ending. IsReadingOf p.now chars.now self.new.recce self.new.spans.items ending)) }
+        ensures counted { OnOk result ((before : ℕ) → CountsFrom self.old.recce before steps.old → CountsFrom self.new.recce before steps.new) }
     {
         let Some(length) = look(&mut self.work, alloc, p, &self.recce, chars, self.at)? else {
             return self.stop(alloc, p, Vec::new(alloc));
@@ -139,8 +143,10 @@ impl<'p> Reader<'p> {
     }
 
     fn ended(self, ending: Ending) -> Reading<'p>
-        ensures { (result.recce ≡ self.entry.recce) × (result.spans.items ≡ self.entry.spans.items) × (result.ending ≡ ending) }
+        ensures same { (result.recce ≡ self.entry.recce) × (result.spans.items ≡ self.entry.spans.items) × (result.ending ≡ ending) }
+        ensures counted { (before after : ℕ) → CountsFrom self.entry.recce before after → TakesAtMost result.recce before after }
     {
+        let _place = self.recce.place();
         Reading {
             recce: self.recce,
             spans: self.spans,
@@ -157,7 +163,8 @@ pub fn read_input<'p, L: Ledger>(
     steps: &mut Steps<L>,
 ) -> Result<Reading<'p>, AllocError>
     requires { length chars.now ≤ 16777216 }
-    ensures { IfOk result (λ r. IsReadingOf p.now chars.now r.recce r.spans.items r.ending) }
+    ensures reading { IfOk result (λ r. IsReadingOf p.now chars.now r.recce r.spans.items r.ending) }
+    ensures counted { IfOk result (λ r. TakesAtMost r.recce steps.old steps.new) }
 {
     let mut reader = Reader::new(alloc, p)?;
     while reader.at < chars.len() {

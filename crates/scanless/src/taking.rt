@@ -4,6 +4,7 @@ ghost use Rattle.std.specs.List.Sorted.{IsStrictlySortedBy};
 ghost use Rattle.std.specs.Ordering.{nat_cmp};
 ghost use Rattle.grammar_model.specs.declared.Edge.{Edge as HeldEdge};
 ghost use Rattle.earley_sets.specs.Recognizer.{place_of, new_edge, IsExpected};
+ghost use Rattle.earley_sets.specs.Counted.{CountsFrom};
 ghost use Rattle.scanless.specs.Taking.{token_edges, Keeps, Takes};
 
 use earley_sets::{AlternativeRefusal, Recce};
@@ -53,7 +54,8 @@ pub fn take_token<L: Ledger>(
     requires expected { (s : ℕ) → Contains symbols.now s → IsExpected recce.old s }
     requires order { IsStrictlySortedBy nat_cmp symbols.now }
     requires begun { (e : HeldEdge) → Contains recce.old.edges e → e.from < place_of recce.old }
-    ensures { OnOk result (Takes recce.old recce.new symbols.now) }
+    ensures takes { OnOk result (Takes recce.old recce.new symbols.now) }
+    ensures counted { OnOk result ((before : ℕ) → CountsFrom recce.old before steps.old → CountsFrom recce.new before steps.new) }
 {
     take_lexemes(recce, symbols)?;
     let _place = recce.place();

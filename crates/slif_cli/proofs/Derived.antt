@@ -1,6 +1,7 @@
 -- What a forest tells of the derivations of a reading.
-use Rattle.std.proofs.Common.{◌≡◌, ℕ, ◌≤◌, List, [], ◌∷◌, ◌++◌, Option, Some, length, take, refl, sym, ap, subst, ◌∙◌, arith, Contains, slice_get, slice_index_or}
-use Rattle.std.proofs.lemmas.List.{take_all}
+use Rattle.std.proofs.Common.{Bool, true, false, Result, ◌≡◌, ℕ, ◌≤◌, List, [], ◌∷◌, ◌++◌, Option, Some, length, refl, sym, ap, subst, ◌∙◌, arith, Contains, slice_get, slice_index_or}
+use Rattle.std.specs.Prelude.{IfErr}
+use Rattle.std.specs.List.{concat}
 use Rattle.std.specs.List.Sorted.{IsStrictlySortedBy}
 use Rattle.std.specs.Io.KnownBytes.{Appends}
 use Rattle.grammar_model.specs.Grammar.{Grammar, slot_of}
@@ -9,14 +10,12 @@ use Rattle.grammar_model.specs.Derives.{Held, Derives}
 use Rattle.grammar_model.specs.Checked.{IsChecked}
 use Rattle.grammar_model.specs.declared.Edge.{Edge}
 use Rattle.grammar_model.specs.declared.Ranking.{Ranking}
-use Rattle.grammar_model.specs.declared.Ranking.TheVariants.{Rule as RuleRanks}
 use Rattle.grammar_model.specs.Order.{rank_order, tree_cmp}
-use Rattle.grammar_model.proofs.Sorting.{ranks_order}
-use Rattle.grammar_model.proofs.Total.{all_unique}
 use Rattle.grammar_model.specs.All.{IsAll}
 use Rattle.grammar_core.specs.declared.steps.Span.{Span}
 use Rattle.recognizer_model.specs.declared.flat.FlatSymbol.TheVariants.{Top}
 use Rattle.recognizer_model.specs.Flat.{lhs_of}
+use Rattle.flat_rules.specs.Flattened.{IsFlattened}
 use Rattle.recognizer_model.specs.FlatForm.{StandsFor, symbol_at, tree_of}
 use Rattle.recognizer_model.proofs.FlatNamed.{get_index, index_get}
 use Rattle.recognizer_model.proofs.FlatFormLaw.{flat_form}
@@ -28,25 +27,26 @@ use Rattle.forest_laws.specs.Lists.{trees_by}
 use Rattle.forest_laws.proofs.Exact.{forests_have_lists}
 use Rattle.forest_laws.proofs.Reading as reading
 use Rattle.language_model.specs.Building.{Built}
-use Rattle.reading_model.specs.Reading.{End, edges_of, place_after}
+use Rattle.reading_model.specs.Reading.{edges_of, place_after}
 use Rattle.scanless.specs.Reading.{IsReadingOf}
 use Rattle.scanless.specs.declared.reading.Ending.TheVariants.{End as AtEnd}
 use Rattle.words_model.specs.Words.{RunAsked}
 use Rattle.run_model.specs.Listing.{AreDerivations}
-use Rattle.run_model.specs.Jobs.Task.{Values, Count}
-use Rattle.run_model.specs.Telling.{Outcome, TellsDerivations, value_lines, count_line, done, refused}
-use Rattle.run_model.specs.Telling.TellsDerivations.{NoDerivation, Derived}
+use Rattle.run_model.specs.Numbers.{Numbers, HasNumbers}
+use Rattle.run_model.specs.Jobs.Task.{Values}
+use Rattle.run_model.specs.Telling.{Outcome, TellsValues, value_lines, stats_line, stats_lines, done, refused}
+use Rattle.run_model.specs.Telling.TellsValues.{NoDerivation, Derived}
 use Rattle.run_model.specs.Outside.{Stream}
 use Rattle.value_lines.specs.Writing.{TextHas, TextStops}
 use Rattle.value_lines.specs.declared.writing.WriteRefusal.{WriteRefusal}
 use Rattle.value_lines.specs.declared.writing.WriteRefusal.TheVariants.{WriteFault as WriteFailed, NoMemory as NoRoom}
-use Rattle.reading_model.proofs.One.{reading_is_one}
 use Rattle.slif_base.proofs.Bytes.{appends_none}
-use Rattle.slif_cli.specs.Stops.{Does, WriteStops, TellsInput}
-use Rattle.slif_cli.specs.Tasks.{TellsReading, HasForest, IsNoDerivation, TellsEnd, counted, write_stop}
-use Rattle.slif_cli.specs.declared.stop.Refusal.TheVariants.{NotBuilt, Usage, Grammar as BadGrammar, Input as BadInput}
+use Rattle.slif_cli.specs.Stops.{Does, WriteStops, LinesStop, TellsInput}
+use Rattle.slif_cli.specs.Tasks.{TellsReading, HasForest, IsNoDerivation, TellsEnd, write_stop}
+use Rattle.slif_cli.specs.declared.stop.Refusal.TheVariants.{Usage, Grammar as BadGrammar, Input as BadInput}
 use Rattle.slif_cli.specs.declared.stop.Stop.{Stop}
 use Rattle.slif_cli.specs.declared.stop.Stop.TheVariants.{Refused, OpenFault, ReadFault, WriteFault, NoMemory}
+use Rattle.slif_cli.proofs.Lines.{appends_both, front_of_both, stops_behind}
 use Rattle.slif_cli.proofs.Stopping.{lines_done, lines_stop, nothing_appended}
 
 no_element : {X : Type 0} (x : X) → Contains [] x → ⊥
@@ -97,9 +97,9 @@ all_as w v es gs r s k p q ts same_w same_e same_r same_k same_p d =
 -- WHERE THE FOREST IS BUILT
 
 module _ (b : Built) (ranking : Ranking) (cs : List ℕ) (recce : Recognizer) (spans : List Span) (few : length cs ≤ 16777216) (read : IsReadingOf b cs recce spans AtEnd) where
-  pub has_forest : (f : Forest) → IsForest f → (w : Grammar) → w ≡ b.g1 → f.written ≡ w → f.start ≡ recce.start → f.edges ≡ recce.edges → f.place ≡ place_of recce → f.ranking ≡ ranking
+  pub has_forest : (f : Forest) → IsForest f → (w : Grammar) → w ≡ b.g1 → f.written ≡ w → f.flat ≡ recce.flat → f.start ≡ recce.start → f.edges ≡ recce.edges → f.place ≡ place_of recce → f.ranking ≡ ranking
       → HasForest b ranking cs spans f
-  has_forest f is w same written start edges place ranked =
+  has_forest f is w same written flat start edges place ranked =
       let start_is = start ∙ read.holds.start in
       let edges_are = edges ∙ read.holds.edges in
       let place_is = place ∙ read.holds.place in
@@ -111,6 +111,7 @@ module _ (b : Built) (ranking : Ranking) (cs : List ℕ) (recce : Recognizer) (s
           reading = read.is_reading;
           spans_are = read.spans_are;
           written = written ∙ same;
+          flat = subst (IsFlattened b.g1) (sym flat) read.holds.flat;
           start = start_is;
           edges = edges_are;
           place = place_is;
@@ -122,7 +123,7 @@ module _ (b : Built) (ranking : Ranking) (cs : List ℕ) (recce : Recognizer) (s
 
   -- no tree, no derivation
   start_get : IsRecognizer recce → slice_get b.g1.starts recce.start ≡ Some (slice_index_or b.g1.starts recce.start 0)
-  start_get is = let all = read.holds.flat.tops_all in let lt = is.start in index_get b.g1.starts recce.start 0 (omega (arith, all, lt))
+  start_get is = let all = read.holds.flat.made.tops_all in let lt = is.start in index_get b.g1.starts recce.start 0 (omega (arith, all, lt))
 
   none_derived : TreesAreDerivations → IsChecked b.g1 → IsRecognizer recce → (HasTree recce → ⊥) → (t : Tree)
       → Derives b.g1 (Held (edges_of read.pieces)) (slot_of (slice_index_or b.g1.starts 0 0)) 0 (place_after read.pieces) t → ⊥
@@ -131,7 +132,7 @@ module _ (b : Built) (ranking : Ranking) (cs : List ℕ) (recce : Recognizer) (s
       subst (λ (l : List Edge). Derives b.g1 (Held l) (slot_of (slice_index_or b.g1.starts recce.start 0)) 0 (place_of recce) t) (sym read.holds.edges)
       (subst (λ n. Derives b.g1 (Held (edges_of read.pieces)) (slot_of (slice_index_or b.g1.starts n 0)) 0 (place_of recce) t) (sym read.holds.start)
       (subst (λ n. Derives b.g1 (Held (edges_of read.pieces)) (slot_of (slice_index_or b.g1.starts 0 0)) 0 n t) (sym read.holds.place) d)) in
-      none ((law b.g1 recce (slice_index_or b.g1.starts recce.start 0) checked read.holds.flat is (start_get is)).1 (t, here))
+      none ((law b.g1 recce (slice_index_or b.g1.starts recce.start 0) checked read.holds.flat.made is (start_get is)).1 (t, here))
 
   none_sorted : IsStrictlySortedBy (tree_cmp (rank_order b.g1 ranking)) []
   unfolding IsStrictlySortedBy
@@ -150,17 +151,10 @@ module _ (b : Built) (ranking : Ranking) (cs : List ℕ) (recce : Recognizer) (s
 -- WHAT IS TOLD OF THE DERIVATIONS
 
 module _ (b : Built) (ranking : Ranking) (cs : List ℕ) (spans : List Span) (f : Forest) (has : HasForest b ranking cs spans f) where
-  listed : (trees : List Tree) → IsListing f trees → AreDerivations b ranking has.pieces trees
+  pub listed : (trees : List Tree) → IsListing f trees → AreDerivations b ranking has.pieces trees
   listed trees l =
       all_as f.written b.g1 f.edges (edges_of has.pieces) f.ranking ranking f.start f.place (place_after has.pieces) trees
       has.of.written has.of.edges has.ranking_is has.of.start has.of.place l
-
-  pub derived : (lines : List Tree → List (List ℕ)) (trees : List Tree) → IsListing f trees → TellsDerivations b ranking lines has.pieces (done (lines trees))
-  derived lines trees l = by trees (listed trees l)
-    where
-      by : (ts : List Tree) → AreDerivations b ranking has.pieces ts → TellsDerivations b ranking lines has.pieces (done (lines ts))
-      by [] all = absurd (no_element has.tree ((all.each has.tree).1 has.derives))
-      by (t ∷ ts) all = Derived t ts all refl
 
   -- the forest has a list
   pub some_listing : IsForest f → (trees : List Tree) × IsListing f trees
@@ -168,64 +162,50 @@ module _ (b : Built) (ranking : Ranking) (cs : List ℕ) (spans : List Span) (f 
 
 -- JOB run
 
-module _ (asked : RunAsked) (b : Built) (cs : List ℕ) (spans : List Span) (f : Forest) (has : HasForest b asked.ranking cs spans f) where
+module _ (asked : RunAsked) (b : Built) (cs : List ℕ) (spans : List Span) (f : Forest) (has : HasForest b asked.ranking cs spans f) (n : Numbers) (numbers : HasNumbers b has.pieces n) where
   abbrev Told : Outcome → Type 0
   Told = TellsReading (Values asked) b cs
 
-  value_told : (trees : List Tree) → IsListing f trees → Told (done (value_lines b asked cs has.pieces trees))
-  value_told trees l = record { pieces = has.pieces; reading = has.of.reading; tells = derived b asked.ranking cs spans f has (value_lines b asked cs has.pieces) trees l }
+  abbrev values : List Tree → List (List ℕ)
+  values = value_lines b asked cs has.pieces
 
-  pub values_done : (before after : Option (List ℕ)) → TextHas b asked.show cs spans f asked.first (λ text. Appends before after text) → Does Told before after
-  values_done before after text =
-      let (trees, l, appends) = text has.pieces has.of in
-      lines_done Told (value_lines b asked cs has.pieces trees) (value_told trees l) before after appends
+  value_told : (trees : List Tree) → IsListing f trees → Told (done (values trees ++ stats_lines asked.stats n))
+  value_told trees l = record { pieces = has.pieces; reading = has.of.reading; tells = by trees (listed b asked.ranking cs spans f has trees l) }
+    where
+      by : (ts : List Tree) → AreDerivations b asked.ranking has.pieces ts → TellsValues asked b cs has.pieces (done (values ts ++ stats_lines asked.stats n))
+      by [] all = absurd (no_element has.tree ((all.each has.tree).1 has.derives))
+      by (t ∷ ts) all = Derived t ts n all numbers refl
+
+  -- the numbers were written behind the values
+  pub values_done : (before middle after : Option (List ℕ)) → TextHas b asked.show cs spans f asked.first (λ text. Appends before middle text) → Appends middle after (concat (stats_lines asked.stats n)) → Does Told before after
+  values_done before middle after text more =
+      let (trees, l, first) = text has.pieces has.of in
+      lines_done Told (values trees ++ stats_lines asked.stats n) (value_told trees l) before after (appends_both (values trees) (stats_lines asked.stats n) before middle after first more)
+
+  -- they were not
+  pub stats_stop : (before middle after : Stream) (stop : Stop) → TextHas b asked.show cs spans f asked.first (λ text. Appends before.bytes middle.bytes text) → before.faults ≤ middle.faults
+      → LinesStop (stats_lines asked.stats n) middle after stop → WriteStops Told before after stop
+  stats_stop before middle after stop text later stops =
+      let (trees, l, first) = text has.pieces has.of in
+      lines_stop Told (values trees ++ stats_lines asked.stats n) (value_told trees l) before after stop (stops_behind (values trees) (stats_lines asked.stats n) before middle after stop first later stops)
 
   pub values_stop : (before after : Stream) (refusal : WriteRefusal) → TextHas b asked.show cs spans f asked.first (λ text. TextStops before after refusal text) → WriteStops Told before after (write_stop refusal)
   values_stop before after WriteFailed text =
       let (trees, l, stops) = text has.pieces has.of in
-      lines_stop Told (value_lines b asked cs has.pieces trees) (value_told trees l) before after WriteFault stops
+      lines_stop Told (values trees ++ stats_lines asked.stats n) (value_told trees l) before after WriteFault (stops.0, front_of_both (values trees) (stats_lines asked.stats n) before.bytes after.bytes stops.1)
   values_stop before after NoRoom text =
       let (trees, l, stops) = text has.pieces has.of in
-      lines_stop Told (value_lines b asked cs has.pieces trees) (value_told trees l) before after NoMemory stops
+      lines_stop Told (values trees ++ stats_lines asked.stats n) (value_told trees l) before after NoMemory (front_of_both (values trees) (stats_lines asked.stats n) before.bytes after.bytes stops)
 
--- JOB work
-
--- how many of a list there are, or of the first so many
-module _ (f : Forest) (most : ℕ) where
-  one_list : (xs ys : List Tree) → IsListing f xs → IsListing f ys → xs ≡ ys
-  one_list xs ys p q = all_unique f.written (Held f.edges) (rank_order f.written f.ranking) (ranks_order f.written f.ranking) (slot_of (slice_index_or f.written.starts f.start 0)) 0 f.place xs ys p q
-
-  pub counts_all : (given trees : List Tree) (n : ℕ) → IsListing f given → IsListing f trees → length given ≡ n → n ≤ most → n ≡ length (take most trees)
-  counts_all given trees n p q is le =
-      sym is ∙ ap length (sym (take_all most given (omega (arith, is, le)))) ∙ ap (λ (ts : List Tree). length (take most ts)) (one_list given trees p q)
-
-  pub counts_most : (given rest trees : List Tree) → IsListing f (given ++ rest) → IsListing f trees → length given ≡ most → most ≡ length (take most trees)
-  counts_most given rest trees p q is =
-      sym is ∙ ap length (sym (take_front given rest)) ∙ ap (λ n. length (take n (given ++ rest))) is ∙ ap (λ (ts : List Tree). length (take most ts)) (one_list (given ++ rest) trees p q)
-    where
-      take_front : (xs ys : List Tree) → take (length xs) (xs ++ ys) ≡ xs
-      take_front [] ys = refl
-      take_front (x ∷ xs) ys = ap (λ (l : List Tree). x ∷ l) (take_front xs ys)
-
-module _ (size : ℕ) (b : Built) (cs : List ℕ) (spans : List Span) (f : Forest) (has : HasForest b RuleRanks cs spans f) where
-  pub count_told : IsForest f → (recce : Recognizer) → IsReadingOf b cs recce spans AtEnd → (n tokens : ℕ) → ((trees : List Tree) → IsListing f trees → n ≡ length (take 4294967295 trees))
-      → tokens ≡ place_of recce → TellsReading (Count size) b cs (done (counted size tokens n ∷ []))
-  count_told is recce read n tokens all place =
-      let (trees, l) = some_listing b RuleRanks cs spans f has is in
-      let same = (reading_is_one b cs read.pieces has.pieces End End read.is_reading has.of.reading).0 in
-      let tokens_are : tokens ≡ place_after has.pieces = place ∙ read.holds.place ∙ ap place_after same in
-      record {
-        pieces = has.pieces;
-        reading = has.of.reading;
-        tells = subst (λ line. TellsDerivations b RuleRanks (λ ts. count_line size has.pieces ts ∷ []) has.pieces (done (line ∷ [])))
-            (ap (λ t. counted size t (length (take 4294967295 trees))) (sym tokens_are) ∙ ap (counted size tokens) (sym (all trees l)))
-            (derived b RuleRanks cs spans f has (λ ts. count_line size has.pieces ts ∷ []) trees l);
-      }
+-- the line of the numbers that is asked for was not written
+pub asked_stops : {T : Type 0} (asked : Bool) (n : Numbers) → asked ≡ true → (line : List ℕ) → line ≡ stats_line n → (before after : Stream) (r : Result T Stop)
+    → IfErr r (LinesStop (line ∷ []) before after) → IfErr r (LinesStop (stats_lines asked n) before after)
+asked_stops true n is line e before after r stops = subst (λ l. IfErr r (LinesStop (l ∷ []) before after)) e stops
+asked_stops false n is line e before after r stops = absurd (cc is)
 
 -- NO DERIVATION
 
 pub told_refusal : (Q : List ℕ → Type 0) (P : Outcome → Type 0) → ((text : List ℕ) → Q text → P (refused 1 text)) → (out : Stream) (stop : Stop) → TellsInput Q stop → WriteStops P out out stop
-told_refusal Q P f out (Refused NotBuilt) stops = absurd stops
 told_refusal Q P f out (Refused Usage) stops = absurd stops
 told_refusal Q P f out (Refused (BadGrammar text)) stops = absurd stops
 told_refusal Q P f out (Refused (BadInput text)) stops = (f text.items stops, appends_none out.bytes)
@@ -236,6 +216,3 @@ told_refusal Q P f out NoMemory stops = nothing_appended P out.bytes
 
 pub no_values : (asked : RunAsked) (b : Built) (cs text : List ℕ) → IsNoDerivation b asked.ranking cs text → TellsReading (Values asked) b cs (refused 1 text)
 no_values asked b cs text is = record { pieces = is.pieces; reading = is.reading; tells = NoDerivation is.expected is.none is.are (ap (refused 1) is.told) }
-
-pub no_count : (size : ℕ) (b : Built) (cs text : List ℕ) → IsNoDerivation b RuleRanks cs text → TellsReading (Count size) b cs (refused 1 text)
-no_count size b cs text is = record { pieces = is.pieces; reading = is.reading; tells = NoDerivation is.expected is.none is.are (ap (refused 1) is.told) }

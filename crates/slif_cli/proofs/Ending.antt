@@ -4,20 +4,18 @@ use Rattle.std.specs.Io.KnownBytes.{Appends}
 use Rattle.slif_base.specs.Causes.{Rose}
 use Rattle.slif_base.specs.Told.{AppendsPrefix}
 use Rattle.slif_base.proofs.Bytes.{appends_none}
-use Rattle.grammar_model.specs.Trees.{Tree}
-use Rattle.grammar_model.specs.declared.Ranking.{Ranking}
 use Rattle.language_model.specs.Building.{Built}
 use Rattle.reading_model.specs.Reading.{Piece}
-use Rattle.words_model.specs.Words.{Job}
+use Rattle.words_model.specs.Words.{Job, RunAsked}
 use Rattle.words_model.specs.Words.Job.{Run, Check, Expect, Progress, Work}
 use Rattle.run_model.specs.Jobs.{Task}
-use Rattle.run_model.specs.Jobs.Task.{Values, Expected, Report, Count}
-use Rattle.run_model.specs.Telling.{TellsDerivations, TellsReport, Tells as ToldBy}
-use Rattle.run_model.specs.Telling.TellsDerivations.{NoDerivation, Derived}
+use Rattle.run_model.specs.Jobs.Task.{Values, Expected, Report}
+use Rattle.run_model.specs.Telling.{TellsValues, TellsReport, Tells as ToldBy}
+use Rattle.run_model.specs.Telling.TellsValues.{NoDerivation, Derived}
 use Rattle.run_model.specs.Telling.TellsReport.{NoSuchSet, Reported}
-use Rattle.run_model.specs.Outcome.{Outcome, IsOutcome, IsJobOutcome, IsAcceptedOutcome, IsTaskOutcome, not_built, usage, done, refused}
-use Rattle.run_model.specs.Outcome.IsOutcome.{NoJob, JobNotBuilt, OfJob}
-use Rattle.run_model.specs.Outcome.IsJobOutcome.{GrammarRefused, GrammarAccepted}
+use Rattle.run_model.specs.Outcome.{Outcome, IsOutcome, IsJobOutcome, IsGrammarOutcome, IsTaskOutcome, IsCheckOutcome, usage, done, refused}
+use Rattle.run_model.specs.Outcome.IsOutcome.{NoJob, OfJob}
+use Rattle.run_model.specs.Outcome.IsGrammarOutcome.{GrammarRefused, GrammarAccepted}
 use Rattle.run_model.specs.Outcome.IsTaskOutcome.{InputRefused, InputRead}
 use Rattle.run_model.specs.Outside.{Outside}
 use Rattle.run_model.specs.Runs.{Answers, Fault, fault_line, memory_line, HasCauseOf, ErrAtFault, Faults, RunsOut, IsQuiet, IsFrontOf, Runs}
@@ -29,7 +27,7 @@ use Rattle.slif_cli.specs.Stops.{Does, MayHave, IsFront, WorkStops, Tells, Repor
 use Rattle.slif_cli.specs.Stops.IsFront.{Nothing as NothingYet, Front as FrontYet}
 use Rattle.slif_cli.specs.Stops.Tells.{Whole, Part}
 use Rattle.slif_cli.specs.declared.stop.Refusal.{Refusal}
-use Rattle.slif_cli.specs.declared.stop.Refusal.TheVariants.{NotBuilt, Usage, Grammar as BadGrammar, Input as BadInput}
+use Rattle.slif_cli.specs.declared.stop.Refusal.TheVariants.{Usage, Grammar as BadGrammar, Input as BadInput}
 use Rattle.slif_cli.specs.declared.stop.Stop.{Stop}
 use Rattle.slif_cli.specs.declared.stop.Stop.TheVariants.{Refused, OpenFault, ReadFault, WriteFault, NoMemory}
 
@@ -47,39 +45,40 @@ record IsPlain (outcome : Outcome) : Type 0 where
 plain_at : (outcome same : Outcome) → outcome ≡ same → same.status ≢ 4 → same.status ≢ 5 → IsPlain outcome
 plain_at outcome same is fault memory = subst IsPlain (sym is) (record { no_fault = fault; no_memory = memory })
 
-plain_derived : (b : Built) (ranking : Ranking) (lines : List Tree → List (List ℕ)) (pieces : List Piece) (outcome : Outcome) → TellsDerivations b ranking lines pieces outcome → IsPlain outcome
-plain_derived b ranking lines pieces outcome (NoDerivation expected none are is) = plain_at outcome _ is (λ e. omega arith) (λ e. omega arith)
-plain_derived b ranking lines pieces outcome (Derived tree trees are is) = plain_at outcome _ is (λ e. omega arith) (λ e. omega arith)
+plain_values : (asked : RunAsked) (b : Built) (cs : List ℕ) (pieces : List Piece) (outcome : Outcome) → TellsValues asked b cs pieces outcome → IsPlain outcome
+plain_values asked b cs pieces outcome (NoDerivation expected none are is) = plain_at outcome _ is (λ e. omega arith) (λ e. omega arith)
+plain_values asked b cs pieces outcome (Derived tree trees n are has is) = plain_at outcome _ is (λ e. omega arith) (λ e. omega arith)
 
 plain_report : (b : Built) (at : ℕ) (pieces : List Piece) (outcome : Outcome) → TellsReport b at pieces outcome → IsPlain outcome
 plain_report b at pieces outcome (NoSuchSet past is) = plain_at outcome _ is (λ e. omega arith) (λ e. omega arith)
 plain_report b at pieces outcome (Reported lines within are is) = plain_at outcome _ is (λ e. omega arith) (λ e. omega arith)
 
 plain_told : (task : Task) (b : Built) (cs : List ℕ) (pieces : List Piece) (outcome : Outcome) → ToldBy task b cs pieces outcome → IsPlain outcome
-plain_told (Values asked) b cs pieces outcome told = plain_derived b _ _ pieces outcome told
+plain_told (Values asked) b cs pieces outcome told = plain_values asked b cs pieces outcome told
 plain_told Expected b cs pieces outcome told = plain_at outcome _ told.is (λ e. omega arith) (λ e. omega arith)
 plain_told (Report at) b cs pieces outcome told = plain_report b at pieces outcome told
-plain_told (Count size) b cs pieces outcome told = plain_derived b _ _ pieces outcome told
 
 plain_task : (task : Task) (b : Built) (input : List ℕ) (outcome : Outcome) → IsTaskOutcome task b input outcome → IsPlain outcome
 plain_task task b input outcome (InputRefused text is of) = plain_at outcome (refused 1 text) of (λ e. omega arith) (λ e. omega arith)
 plain_task task b input outcome (InputRead pieces read told) = plain_told task b _ pieces outcome told
 
-plain_accepted : (job : Job) (b : Built) (input : List ℕ) (outcome : Outcome) → IsAcceptedOutcome job b input outcome → IsPlain outcome
-plain_accepted (Run asked) b input outcome over = plain_task (Values asked) b input outcome over
-plain_accepted (Check name) b input outcome over = plain_at outcome (done over.lines) over.is (λ e. omega arith) (λ e. omega arith)
-plain_accepted (Expect name from) b input outcome over = plain_task Expected b input outcome over
-plain_accepted (Progress name at from) b input outcome over = plain_task (Report at) b input outcome over
-plain_accepted (Work size) b input outcome over = plain_task (Count size) b input outcome over
+plain_over : (IsOver : Built → Outcome → Type 0) (grammar : List ℕ) (outcome : Outcome) → ((b : Built) → IsOver b outcome → IsPlain outcome) → IsGrammarOutcome grammar IsOver outcome → IsPlain outcome
+plain_over IsOver grammar outcome each (GrammarRefused text refused_text is) = plain_at outcome (refused 3 text) is (λ e. omega arith) (λ e. omega arith)
+plain_over IsOver grammar outcome each (GrammarAccepted b accepted over) = each b over
+
+plain_of_task : (task : Task) (grammar input : List ℕ) (outcome : Outcome) → IsGrammarOutcome grammar (λ b. IsTaskOutcome task b input) outcome → IsPlain outcome
+plain_of_task task grammar input outcome of = plain_over (λ b. IsTaskOutcome task b input) grammar outcome (λ b over. plain_task task b input outcome over) of
 
 plain_job : (job : Job) (grammar input : List ℕ) (outcome : Outcome) → IsJobOutcome job grammar input outcome → IsPlain outcome
-plain_job job grammar input outcome (GrammarRefused text refused_text is) = plain_at outcome (refused 3 text) is (λ e. omega arith) (λ e. omega arith)
-plain_job job grammar input outcome (GrammarAccepted b accepted over) = plain_accepted job b input outcome over
+plain_job (Run asked) grammar input outcome of = plain_of_task (Values asked) grammar input outcome of
+plain_job (Check name) grammar input outcome of = plain_over IsCheckOutcome grammar outcome (λ b over. plain_at outcome (done over.lines) over.is (λ e. omega arith) (λ e. omega arith)) of
+plain_job (Expect name from) grammar input outcome of = plain_of_task Expected grammar input outcome of
+plain_job (Progress name at from) grammar input outcome of = plain_of_task (Report at) grammar input outcome of
+plain_job (Work size) grammar input outcome of = plain_at outcome _ of.is (λ e. omega arith) (λ e. omega arith)
 
 plain : (words : List (List ℕ)) (grammar input : List ℕ) (outcome : Outcome) → IsOutcome words grammar input outcome → IsPlain outcome
 plain words grammar input outcome (NoJob none is) = plain_at outcome usage is (λ e. omega arith) (λ e. omega arith)
-plain words grammar input outcome (JobNotBuilt job asks unbuilt is) = plain_at outcome not_built is (λ e. omega arith) (λ e. omega arith)
-plain words grammar input outcome (OfJob job takes of) = plain_job job grammar input outcome of
+plain words grammar input outcome (OfJob job asks of) = plain_job job grammar input outcome of
 
 module _ (words : List (List ℕ)) (before after : Outside) where
   err_told : (line : List ℕ) → Tells before.err after.err line → ErrAtFault words before after line
@@ -109,7 +108,6 @@ module _ (words : List (List ℕ)) (before after : Outside) where
       })
 
   refused_out : (refusal : Refusal) → (refusal_outcome refusal).out ≡ []
-  refused_out NotBuilt = refl
   refused_out Usage = refl
   refused_out (BadGrammar text) = refl
   refused_out (BadInput text) = refl

@@ -1,5 +1,5 @@
 -- What a run needs to know of grammars, from the laws of grammars and of checks.
-use Rattle.std.proofs.Common.{◌≡◌, ℕ, List, [], ◌∷◌, inl, inr, refl, sym, subst}
+use Rattle.std.proofs.Common.{◌≡◌, ℕ, ◌≤◌, List, [], ◌∷◌, inl, inr, refl, sym, subst, arith}
 use Rattle.grammar_model.specs.Grammar.{Grammar, Slot, slot_of}
 use Rattle.grammar_model.specs.Analysis.{IsAccessible}
 use Rattle.finite_sets.specs.Decided.{IsDecided}
@@ -16,6 +16,9 @@ use Rattle.reading_laws.specs.Laws.{LexemesAreNamed}
 use Rattle.reading_laws.proofs.Candidates.{expected_list, pieces_forward}
 use Rattle.reading_laws.proofs.Lists.{derivations_listed, flat_form_exists}
 use Rattle.reading_laws.proofs.Short.{built_are_short}
+use Rattle.number_laws.proofs.Exist.{numbers_exist}
+use Rattle.number_laws.proofs.One.{numbers_are_one}
+use Rattle.work_laws.proofs.Working.{work_has_one}
 use Rattle.report_model.specs.Report.{IsReport}
 use Rattle.report_model.proofs.One.{report_is_one}
 use Rattle.report_model.proofs.Existing.{reports_exist}
@@ -28,7 +31,10 @@ use Rattle.language_model.specs.Texts.{IsBuilt}
 use Rattle.scanless.proofs.Ordered.{in_order}
 use Rattle.run_model.proofs.Inputs.{ReadingLaws}
 use Rattle.run_model.specs.Checking.{SymbolRow, IsRowOf}
-use Rattle.run_model.proofs.Texts.{RunLaws}
+use Rattle.run_model.proofs.Texts.{GrammarLaws, RunLaws}
+use Rattle.grammar_model.specs.declared.Ranking.TheVariants.{Rule as RuleRanks}
+use Rattle.run_model.specs.Telling.{work_line}
+use Rattle.run_model.specs.Outcome.{Outcome, IsWorkOutcome, done}
 use Rattle.slif_cli.proofs.LanguageLaws.{text_laws}
 
 some_slot : (P : Slot → Type 0) → ((s : Slot) → IsDecided (P s)) → (xs : List Slot) → IsDecided ((s : Slot) × Among s xs × P s)
@@ -58,8 +64,11 @@ row g s =
       record { nullable = (true_test n, test_true n); productive = (true_test p, test_true p); accessible = (true_test a, test_true a) },
     )
 
-pub check_laws : CheckLaws
+check_laws : CheckLaws
 check_laws = record { decided = checks_decide; not_both = not_refused; one_refusal = one_refusal; counted = rules_are_counted }
+
+pub grammar_laws : GrammarLaws
+grammar_laws = record { texts = text_laws; checks = check_laws }
 
 -- lexemes have names of their own
 lexemes_named : (b : Built) → IsBuilt b → LexemesAreNamed b
@@ -79,9 +88,19 @@ reading_laws = record {
   expected = λ b pieces built accepted. expected_list b accepted.checked.structural [] pieces 0 (lexemes_named b built);
   one_expected = one_expected;
   derivations = derivations_listed;
+  numbers = numbers_exist;
+  one_numbers = numbers_are_one;
   report = some_report;
   one_report = λ b pieces at xs ys p q. report_is_one b.g1 (edges_of pieces) 0 at xs ys p q;
 }
 
+-- job `work` has an outcome
+some_work : (size : ℕ) → size ≤ 100000 → (outcome : Outcome) × IsWorkOutcome size outcome
+some_work size most =
+    let (b, accepted, (pieces, read, place, one)) = work_has_one size (omega (arith, most)) in
+    let (tree, are) = one RuleRanks in
+    let (n, has) = numbers_exist b pieces (accepted.description, accepted.built) accepted.accepted in
+    (done (work_line size n 1 ∷ []), record { built = b; accepted = accepted; pieces = pieces; read = read; tree = tree; one = are; numbers = n; has = has; is = refl })
+
 pub run_laws : RunLaws
-run_laws = record { texts = text_laws; checks = check_laws; reading = reading_laws; row = row }
+run_laws = record { grammars = grammar_laws; reading = reading_laws; row = row; work = some_work }

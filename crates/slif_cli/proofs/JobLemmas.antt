@@ -5,26 +5,24 @@ use Rattle.slif_base.proofs.Bytes.{appends_none}
 use Rattle.language_model.specs.Building.{Built}
 use Rattle.words_model.specs.Words.{Job, Asks, AskNothing, grammar_file, input_from}
 use Rattle.words_model.specs.Words.Job.{Run, Check, Expect, Progress, Work}
+use Rattle.words_model.proofs.Asked.{asks_once, not_both}
 use Rattle.run_model.specs.Refused.{Accepted, IsRefused}
-use Rattle.run_model.specs.Jobs.{Takes, AreItsOwn, is_built}
-use Rattle.run_model.specs.Outcome.{Outcome, IsJobOutcome, IsCheckOutcome, not_built, usage, refused}
-use Rattle.run_model.specs.Outcome.IsOutcome.{NoJob, JobNotBuilt, OfJob}
-use Rattle.run_model.specs.Outcome.IsJobOutcome.{GrammarRefused, GrammarAccepted}
+use Rattle.run_model.specs.Outcome.{Outcome, IsJobOutcome, IsCheckOutcome, IsWorkOutcome, usage, refused}
+use Rattle.run_model.specs.Outcome.IsOutcome.{NoJob, OfJob}
+use Rattle.run_model.specs.Outcome.IsGrammarOutcome.{GrammarRefused, GrammarAccepted}
 use Rattle.run_model.specs.Outside.{Stream, Disk}
 use Rattle.run_model.specs.Runs.{InputMayBe, AsksNames}
 use Rattle.run_model.specs.Runs.MayOpen.{OfGrammar}
 use Rattle.run_model.specs.Runs.MayAsk.{ForNothing, ForGrammar}
 use Rattle.run_model.proofs.Accepted.{not_refused}
-use Rattle.run_model.proofs.Taken.{takes_once, none_taken, unbuilt_not_taken}
 use Rattle.slif_cli.specs.Stops.{LoadStops, MayHave, WorkStops}
-use Rattle.slif_cli.specs.Tasks.{IsOwnOutcome}
-use Rattle.slif_cli.specs.declared.stop.Refusal.TheVariants.{NotBuilt, Usage, Grammar as BadGrammar, Input as BadInput}
+use Rattle.slif_cli.specs.declared.stop.Refusal.TheVariants.{Usage, Grammar as BadGrammar, Input as BadInput}
 use Rattle.slif_cli.specs.declared.stop.Stop.{Stop}
 use Rattle.slif_cli.specs.declared.stop.Stop.TheVariants.{Refused, OpenFault, ReadFault, WriteFault, NoMemory}
-use Rattle.slif_cli.proofs.GrammarLaws.{run_laws}
+use Rattle.slif_cli.proofs.GrammarLaws.{grammar_laws}
 use Rattle.slif_cli.proofs.Stopping.{nothing_appended}
 
--- NO JOB IS TAKEN UP
+-- NO JOB IS ASKED FOR
 
 module _ (words : List (List ℕ)) (file : List ℕ → ToldFile) (left : Option (List ℕ)) where
   pub not_asked : AskNothing words → MayHave words file left usage
@@ -34,27 +32,10 @@ module _ (words : List (List ℕ)) (file : List ℕ → ToldFile) (left : Option
       input = [];
       outcome = usage;
       supplied = record {
-        grammar_held = λ job takes. absurd (none_taken words none job takes);
-        input_held = λ job takes accepted. absurd (none_taken words none job takes);
-        own = λ job takes. absurd (none_taken words none job takes);
+        grammar_held = λ job asks. absurd (not_both words job asks none);
+        input_held = λ job asks accepted. absurd (not_both words job asks none);
       };
       is_outcome = NoJob none refl;
-    },
-    refl,
-  )
-
-  pub not_taken : (job : Job) → Asks words job → is_built job ≡ false → MayHave words file left not_built
-  not_taken job asks unbuilt = (
-    record {
-      grammar = [];
-      input = [];
-      outcome = not_built;
-      supplied = record {
-        grammar_held = λ other takes. absurd (unbuilt_not_taken words job asks unbuilt other takes);
-        input_held = λ other takes accepted. absurd (unbuilt_not_taken words job asks unbuilt other takes);
-        own = λ other takes. absurd (unbuilt_not_taken words job asks unbuilt other takes);
-      };
-      is_outcome = JobNotBuilt job asks unbuilt refl;
     },
     refl,
   )
@@ -68,34 +49,30 @@ module _ (words : List (List ℕ)) (file : List ℕ → ToldFile) (left : Option
 
 -- A JOB WITH A GRAMMAR
 
--- a job with a grammar's file has no grammar of its own
-pub own_of_named : (job : Job) (name : List ℕ) → grammar_file job ≡ Some name → (grammar input : List ℕ) → AreItsOwn job grammar input
-own_of_named (Run asked) name named grammar input = tt
-own_of_named (Check file) name named grammar input = tt
-own_of_named (Expect file from) name named grammar input = tt
-own_of_named (Progress file at from) name named grammar input = tt
-own_of_named (Work size) name named grammar input = absurd (cc named)
+-- the grammar of a job that has one may be refused
+pub refused_of : (job : Job) (name : List ℕ) → grammar_file job ≡ Some name → (text input told : List ℕ) → IsRefused text told → IsJobOutcome job text input (refused 3 told)
+refused_of (Run asked) name named text input told is = GrammarRefused told is refl
+refused_of (Check file) name named text input told is = GrammarRefused told is refl
+refused_of (Expect file from) name named text input told is = GrammarRefused told is refl
+refused_of (Progress file at from) name named text input told is = GrammarRefused told is refl
+refused_of (Work size) name named text input told is = absurd (cc named)
 
 -- no job goes on to its input with the text
 abbrev GoesOnWithNone : List ℕ → Type 0
 GoesOnWithNone text = (b : Built) → Accepted text b → ⊥
 
-module _ (words : List (List ℕ)) (job : Job) (takes : Takes words job) (file : List ℕ → ToldFile) (left : Option (List ℕ))
+module _ (words : List (List ℕ)) (job : Job) (asks : Asks words job) (file : List ℕ → ToldFile) (left : Option (List ℕ))
     (name : List ℕ) (named : grammar_file job ≡ Some name) where
-  pub held_by_all : (grammar : List ℕ) → MayHold (file name) grammar → (other : Job) → Takes words other → IfSome (grammar_file other) (λ n. MayHold (file n) grammar)
+  pub held_by_all : (grammar : List ℕ) → MayHold (file name) grammar → (other : Job) → Asks words other → IfSome (grammar_file other) (λ n. MayHold (file n) grammar)
   held_by_all grammar held other others =
       let here : IfSome (grammar_file job) (λ n. MayHold (file n) grammar) = subst (λ (o : Option (List ℕ)). IfSome o (λ n. MayHold (file n) grammar)) (sym named) held in
-      subst (λ (j : Job). IfSome (grammar_file j) (λ n. MayHold (file n) grammar)) (takes_once words job other takes others) here
-
-  pub own_by_all : (grammar input : List ℕ) (other : Job) → Takes words other → AreItsOwn other grammar input
-  own_by_all grammar input other others =
-      subst (λ (j : Job). AreItsOwn j grammar input) (takes_once words job other takes others) (own_of_named job name named grammar input)
+      subst (λ (j : Job). IfSome (grammar_file j) (λ n. MayHold (file n) grammar)) (asks_once words job other asks others) here
 
   -- no job of the words goes on with a text that none goes on with
-  goes_on_with_none : {text : List ℕ} → GoesOnWithNone text → (other : Job) → Takes words other → IfSome (grammar_file other) (λ _. (b : Built) × Accepted text b) → ⊥
+  goes_on_with_none : {text : List ℕ} → GoesOnWithNone text → (other : Job) → Asks words other → IfSome (grammar_file other) (λ _. (b : Built) × Accepted text b) → ⊥
   goes_on_with_none {text} none other others goes =
       let here : IfSome (grammar_file job) (λ _. (b : Built) × Accepted text b) =
-      subst (λ (j : Job). IfSome (grammar_file j) (λ _. (b : Built) × Accepted text b)) (takes_once words other job others takes) goes in
+      subst (λ (j : Job). IfSome (grammar_file j) (λ _. (b : Built) × Accepted text b)) (asks_once words other job others asks) goes in
       let some : (b : Built) × Accepted text b = subst (λ (o : Option (List ℕ)). IfSome o (λ _. (b : Built) × Accepted text b)) named here in
       none some.0 some.1
 
@@ -109,25 +86,23 @@ module _ (words : List (List ℕ)) (job : Job) (takes : Takes words job) (file :
       supplied = record {
         grammar_held = held_by_all text held;
         input_held = λ other others goes. absurd (goes_on_with_none none other others goes);
-        own = own_by_all text [];
       };
-      is_outcome = OfJob job takes is;
+      is_outcome = OfJob job asks is;
     },
     refl,
   )
 
   refused_grammar : (told : List ℕ) → FileHolds (file name) (λ text. IsRefused text told) → MayHave words file left (refused 3 told)
   refused_grammar told held =
-      without_input held.bytes held.may_hold (λ b goes. not_refused run_laws held.bytes b told goes held.holds) (refused 3 told) (GrammarRefused told held.holds refl)
+      without_input held.bytes held.may_hold (λ b goes. not_refused grammar_laws held.bytes b told goes held.holds) (refused 3 told) (refused_of job name named held.bytes [] told held.holds)
 
   pub load_stops : (faults : ℕ) (files_after : Disk) (input_faults : ℕ) (out : Stream) (stop : Stop)
       → LoadStops name (file name) faults files_after.faults stop
       → WorkStops words (record { file = file; faults = faults }) files_after (record { bytes = left; faults = input_faults }) (record { bytes = left; faults = input_faults }) out out stop
-  load_stops faults files_after input_faults out (Refused NotBuilt) stops = absurd stops
   load_stops faults files_after input_faults out (Refused Usage) stops = absurd stops
   load_stops faults files_after input_faults out (Refused (BadGrammar text)) stops = (refused_grammar text.items stops, appends_none out.bytes)
   load_stops faults files_after input_faults out (Refused (BadInput text)) stops = absurd stops
-  load_stops faults files_after input_faults out (OpenFault asked) stops = ((stops.0, OfGrammar job takes (named ∙ ap (λ (n : List ℕ). Some n) (sym stops.1))), appends_none out.bytes)
+  load_stops faults files_after input_faults out (OpenFault asked) stops = ((stops.0, OfGrammar job asks (named ∙ ap (λ (n : List ℕ). Some n) (sym stops.1))), appends_none out.bytes)
   load_stops faults files_after input_faults out ReadFault stops = (inl stops, appends_none out.bytes)
   load_stops faults files_after input_faults out WriteFault stops = absurd stops
   load_stops faults files_after input_faults out NoMemory stops = nothing_appended (MayHave words file left) out.bytes
@@ -141,42 +116,40 @@ module _ (words : List (List ℕ)) (job : Job) (takes : Takes words job) (file :
   asks_names old new among = record {
     names = among.asked;
     adds = among.adds;
-    may_ask = elim (front_of_one among.asked among.rest name among.split) [ inl e ↦ ForNothing e | inr e ↦ ForGrammar job name takes named e ];
+    may_ask = elim (front_of_one among.asked among.rest name among.split) [ inl e ↦ ForNothing e | inr e ↦ ForGrammar job name asks named e ];
   }
 
 -- CHECK
 
-pub checked : (words : List (List ℕ)) (name : List ℕ) → Takes words (Check name) → (file : List ℕ → ToldFile) (left : Option (List ℕ)) (b : Built)
+pub checked : (words : List (List ℕ)) (name : List ℕ) → Asks words (Check name) → (file : List ℕ → ToldFile) (left : Option (List ℕ)) (b : Built)
     → FileHolds (file name) (λ bytes. Accepted bytes b) → (o : Outcome) → IsCheckOutcome b o → MayHave words file left o
-checked words name takes file left b held o is = (
+checked words name asks file left b held o is = (
   record {
     grammar = held.bytes;
     input = [];
     outcome = o;
     supplied = record {
-      grammar_held = held_by_all words (Check name) takes file left name refl held.bytes held.may_hold;
-      input_held = λ other others goes. subst (λ (j : Job). InputMayBe (input_from j) file left []) (takes_once words (Check name) other takes others) tt;
-      own = own_by_all words (Check name) takes file left name refl held.bytes [];
+      grammar_held = held_by_all words (Check name) asks file left name refl held.bytes held.may_hold;
+      input_held = λ other others goes. subst (λ (j : Job). InputMayBe (input_from j) file left []) (asks_once words (Check name) other asks others) tt;
     };
-    is_outcome = OfJob (Check name) takes (GrammarAccepted b held.holds is);
+    is_outcome = OfJob (Check name) asks (GrammarAccepted b held.holds is);
   },
   refl,
 )
 
 -- WORK
 
-pub worked : (words : List (List ℕ)) (size : ℕ) → Takes words (Work size) → (file : List ℕ → ToldFile) (left : Option (List ℕ)) (o : Outcome) → IsOwnOutcome (Work size) o → MayHave words file left o
-worked words size takes file left o is = (
+pub worked : (words : List (List ℕ)) (size : ℕ) → Asks words (Work size) → (file : List ℕ → ToldFile) (left : Option (List ℕ)) (o : Outcome) → IsWorkOutcome size o → MayHave words file left o
+worked words size asks file left o is = (
   record {
-    grammar = is.grammar;
-    input = is.input;
+    grammar = [];
+    input = [];
     outcome = o;
     supplied = record {
-      grammar_held = λ other others. subst (λ (j : Job). IfSome (grammar_file j) (λ n. MayHold (file n) is.grammar)) (takes_once words (Work size) other takes others) tt;
-      input_held = λ other others goes. subst (λ (j : Job). InputMayBe (input_from j) file left is.input) (takes_once words (Work size) other takes others) tt;
-      own = λ other others. subst (λ (j : Job). AreItsOwn j is.grammar is.input) (takes_once words (Work size) other takes others) is.own;
+      grammar_held = λ other others. subst (λ (j : Job). IfSome (grammar_file j) (λ n. MayHold (file n) [])) (asks_once words (Work size) other asks others) tt;
+      input_held = λ other others goes. subst (λ (j : Job). InputMayBe (input_from j) file left []) (asks_once words (Work size) other asks others) tt;
     };
-    is_outcome = OfJob (Work size) takes is.is;
+    is_outcome = OfJob (Work size) asks is;
   },
   refl,
 )

@@ -1,9 +1,14 @@
 -- Lines that are written one after the other.
-use Rattle.std.proofs.Common.{◌≡◌, ℕ, zero, suc, ◌+◌, List, [], ◌∷◌, ◌++◌, Option, Some, take, refl, sym, ap, ◌∙◌, append_assoc, append-nil, slice_get, slice_index_or, map, length, ◌<◌, arith, subst, Result, Ok, Err, OnOk}
+use Rattle.std.proofs.Common.{◌≡◌, ℕ, zero, suc, ◌+◌, ◌≤◌, List, [], ◌∷◌, ◌++◌, Option, Some, take, refl, sym, ap, ◌∙◌, append_assoc, append-nil, slice_get, slice_index_or, map, length, ◌<◌, arith, subst, Result, Ok, Err, OnOk}
 use Rattle.std.specs.List.{concat}
 use Rattle.std.specs.Io.KnownBytes.{Appends}
 use Rattle.slif_base.specs.Told.{AppendsPrefix}
+use Rattle.std.proofs.lemmas.List.Folds.{concat-append}
 use Rattle.slif_base.proofs.Bytes.{appends_twice}
+use Rattle.run_model.specs.Outside.{Stream}
+use Rattle.slif_cli.specs.Stops.{LinesStop}
+use Rattle.slif_cli.specs.declared.stop.Stop.{Stop}
+use Rattle.slif_cli.specs.declared.stop.Stop.TheVariants.{Refused, OpenFault, ReadFault, WriteFault, NoMemory}
 
 -- the text of one line more
 pub one_line_more : (lines : List (List ℕ)) (k : ℕ) (line : List ℕ) → slice_get lines k ≡ Some line → concat (take (suc k) lines) ≡ concat (take k lines) ++ line
@@ -63,3 +68,33 @@ pub mapped_item : {X : Type 0} (f : X → List ℕ) (xs : List X) (k : ℕ) (x :
 mapped_item f [] k x lt e = absurd (omega arith)
 mapped_item f (y ∷ ys) zero x lt e = ap (λ z. Some (f z)) (sym e)
 mapped_item f (y ∷ ys) (suc k) x lt e = mapped_item f ys k x (omega arith) e
+
+-- LINES BEHIND OTHERS
+
+module _ (xs ys : List (List ℕ)) where
+  pub appends_both : (before middle after : Option (List ℕ)) → Appends before middle (concat xs) → Appends middle after (concat ys) → Appends before after (concat (xs ++ ys))
+  appends_both before middle after first second = subst (Appends before after) (sym (concat-append xs ys)) (appends_twice before middle after (concat xs) (concat ys) first second)
+
+  pub front_of_both : (before after : Option (List ℕ)) → AppendsPrefix before after (concat xs) → AppendsPrefix before after (concat (xs ++ ys))
+  front_of_both before after part = record {
+    bytes = part.bytes;
+    rest = part.rest ++ concat ys;
+    split = concat-append xs ys ∙ ap (λ t. t ++ concat ys) part.split ∙ append_assoc part.bytes part.rest (concat ys);
+    appends = part.appends;
+  }
+
+  front_behind : (before middle after : Option (List ℕ)) → Appends before middle (concat xs) → AppendsPrefix middle after (concat ys) → AppendsPrefix before after (concat (xs ++ ys))
+  front_behind before middle after first part = record {
+    bytes = concat xs ++ part.bytes;
+    rest = part.rest;
+    split = concat-append xs ys ∙ ap (λ t. concat xs ++ t) part.split ∙ sym (append_assoc (concat xs) part.bytes part.rest);
+    appends = appends_twice before middle after (concat xs) part.bytes first part.appends;
+  }
+
+  -- the lines behind those that were written are not all written
+  pub stops_behind : (before middle after : Stream) (stop : Stop) → Appends before.bytes middle.bytes (concat xs) → before.faults ≤ middle.faults → LinesStop ys middle after stop → LinesStop (xs ++ ys) before after stop
+  stops_behind before middle after (Refused refusal) first later stops = stops
+  stops_behind before middle after (OpenFault name) first later stops = stops
+  stops_behind before middle after ReadFault first later stops = stops
+  stops_behind before middle after WriteFault first later stops = (let rose = stops.0 in omega (arith, later, rose), front_behind before.bytes middle.bytes after.bytes first stops.1)
+  stops_behind before middle after NoMemory first later stops = front_behind before.bytes middle.bytes after.bytes first stops

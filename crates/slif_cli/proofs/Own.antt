@@ -1,21 +1,37 @@
--- What job `work` comes to, over its own grammar and input.
-use Rattle.std.proofs.Common.{◌≡◌, ℕ, ◌+◌, ◌*◌, List, ◌∷◌, ◌++◌, replicate, length, refl, subst, length-append, arith}
-use Rattle.std.proofs.lemmas.List.{length-replicate}
-use Rattle.slif_base.proofs.Bytes.{appends_none}
+-- What job `work` comes to: its grammar is accepted, its input is read to its end, and it has one derivation.
+use Rattle.std.proofs.Common.{◌≡◌, ℕ, ◌+◌, ◌*◌, ◌≤◌, List, [], ◌∷◌, ◌++◌, replicate, length, take, refl, sym, ap, subst, ◌∙◌, length-append, arith, chars, IsUtf8, slice_index_or}
+use Rattle.std.proofs.lemmas.List.{length-replicate, take_all}
+use Rattle.std.proofs.lemmas.Str.{length-le-encodes, encodes-chars}
+use Rattle.grammar_model.specs.Grammar.{slot_of}
+use Rattle.grammar_model.specs.Trees.{Tree}
+use Rattle.grammar_model.specs.Derives.{Held}
+use Rattle.grammar_model.specs.declared.Ranking.{Ranking}
+use Rattle.grammar_model.specs.declared.Ranking.TheVariants.{Rule as RuleRanks}
+use Rattle.grammar_model.specs.Order.{rank_order}
+use Rattle.grammar_model.proofs.Sorting.{ranks_order}
+use Rattle.grammar_model.proofs.Total.{all_unique}
+use Rattle.grammar_core.specs.declared.steps.Span.{Span}
 use Rattle.language_model.specs.Building.{Built}
-use Rattle.words_model.specs.Words.Job.{Work}
-use Rattle.run_model.specs.Jobs.{work_grammar, work_input}
-use Rattle.run_model.specs.Jobs.Task.{Count}
+use Rattle.reading_model.specs.Reading.{Piece, End, Stopped, IsReading, edges_of, place_after}
+use Rattle.reading_model.proofs.One.{reading_is_one}
+use Rattle.forest_model.specs.Forest.{Forest, IsForest}
+use Rattle.forest_model.specs.Listing.{IsListing}
 use Rattle.run_model.specs.Refused.{Accepted, IsRefused}
-use Rattle.run_model.specs.Outcome.{Outcome, IsTaskOutcome}
-use Rattle.run_model.specs.Outcome.IsJobOutcome.{GrammarRefused, GrammarAccepted}
-use Rattle.run_model.specs.Outside.{Stream}
-use Rattle.slif_cli.specs.Stops.{TellsText, WriteStops}
-use Rattle.slif_cli.specs.Tasks.{IsOwnOutcome}
-use Rattle.slif_cli.specs.declared.stop.Refusal.TheVariants.{NotBuilt, Usage, Grammar as BadGrammar, Input as BadInput}
+use Rattle.run_model.specs.Inputs.{IsInputText, IsRead}
+use Rattle.run_model.specs.Listing.{AreDerivations}
+use Rattle.run_model.specs.Numbers.{Numbers, HasNumbers}
+use Rattle.run_model.specs.Jobs.{work_grammar, work_input}
+use Rattle.run_model.specs.Telling.{work_line}
+use Rattle.run_model.specs.Outcome.{Outcome, IsWorkOutcome, done}
+use Rattle.run_model.proofs.Accepted.{one_built, not_refused}
+use Rattle.work_laws.proofs.Working.{work_has_one}
+use Rattle.slif_cli.specs.Stops.{TellsText, TellsInput, IsBrokenText, IsStopText}
+use Rattle.slif_cli.specs.Tasks.{HasForest, IsNoDerivation}
+use Rattle.slif_cli.specs.declared.stop.Refusal.TheVariants.{Usage, Grammar as BadGrammar, Input as BadInput}
 use Rattle.slif_cli.specs.declared.stop.Stop.{Stop}
 use Rattle.slif_cli.specs.declared.stop.Stop.TheVariants.{Refused, OpenFault, ReadFault, WriteFault, NoMemory}
-use Rattle.slif_cli.proofs.Stopping.{nothing_appended}
+use Rattle.slif_cli.proofs.GrammarLaws.{grammar_laws}
+use Rattle.slif_cli.proofs.Derived.{listed, some_listing}
 
 pub work_length : (n : ℕ) → length (work_input n) ≡ 3 * n + 1
 work_length n =
@@ -26,23 +42,98 @@ work_length n =
     let whole = length-append {A = ℕ} (replicate n 97) (replicate n 40 ++ (97 ∷ replicate n 41)) in
     omega (arith, letters, opened, closed, back, whole)
 
-pub own_told : (size : ℕ) (b : Built) → Accepted work_grammar b → (bytes : List ℕ) → bytes ≡ work_input size → (o : Outcome) → IsTaskOutcome (Count size) b bytes o → IsOwnOutcome (Work size) o
-own_told size b accepted bytes same o is = record {
-  grammar = work_grammar;
-  input = work_input size;
-  own = (refl, refl);
-  is = GrammarAccepted b accepted (subst (λ l. IsTaskOutcome (Count size) b l o) same is);
-}
+-- WHERE NOTHING IS REFUSED, only memory is wanting
 
-pub own_refused : (size : ℕ) (out : Stream) (stop : Stop) → TellsText (IsRefused work_grammar) stop → WriteStops (IsOwnOutcome (Work size)) out out stop
-own_refused size out (Refused NotBuilt) stops = absurd stops
-own_refused size out (Refused Usage) stops = absurd stops
-own_refused size out (Refused (BadGrammar text)) stops = (
-  record { grammar = work_grammar; input = work_input size; own = (refl, refl); is = GrammarRefused text.items stops refl },
-  appends_none out.bytes,
-)
-own_refused size out (Refused (BadInput text)) stops = absurd stops
-own_refused size out (OpenFault asked) stops = absurd stops
-own_refused size out ReadFault stops = absurd stops
-own_refused size out WriteFault stops = absurd stops
-own_refused size out NoMemory stops = nothing_appended (IsOwnOutcome (Work size)) out.bytes
+pub text_memory : (P : List ℕ → Type 0) → ((text : List ℕ) → P text → ⊥) → (stop : Stop) → TellsText P stop → stop ≡ NoMemory
+text_memory P none (Refused Usage) tells = absurd tells
+text_memory P none (Refused (BadGrammar text)) tells = absurd (none text.items tells)
+text_memory P none (Refused (BadInput text)) tells = absurd tells
+text_memory P none (OpenFault name) tells = absurd tells
+text_memory P none ReadFault tells = absurd tells
+text_memory P none WriteFault tells = absurd tells
+text_memory P none NoMemory tells = refl
+
+pub input_memory : (P : List ℕ → Type 0) → ((text : List ℕ) → P text → ⊥) → (stop : Stop) → TellsInput P stop → stop ≡ NoMemory
+input_memory P none (Refused Usage) tells = absurd tells
+input_memory P none (Refused (BadGrammar text)) tells = absurd tells
+input_memory P none (Refused (BadInput text)) tells = absurd (none text.items tells)
+input_memory P none (OpenFault name) tells = absurd tells
+input_memory P none ReadFault tells = absurd tells
+input_memory P none WriteFault tells = absurd tells
+input_memory P none NoMemory tells = refl
+
+-- THE GRAMMAR
+
+pub own_accepted : (text : List ℕ) → IsRefused work_grammar text → ⊥
+own_accepted text refused = let law = work_has_one 1 (omega arith) in not_refused grammar_laws work_grammar law.0 text law.1 refused
+
+-- THE INPUT
+
+-- an input that is read, with one derivation
+abbrev IsOwn : (size : ℕ) → Built → List Piece → Type 0
+IsOwn size b pieces = IsRead b (work_input size) pieces × ((ranking : Ranking) → (tree : Tree) × AreDerivations b ranking pieces (tree ∷ []))
+
+module _ (size : ℕ) (sized : size ≤ 100000) where
+  own_text : IsInputText (work_input size)
+  own_text = let law = work_has_one size (omega (arith, sized)) in law.2.1.text
+
+  pub own_utf8 : (bytes : List ℕ) → bytes ≡ work_input size → (text : List ℕ) → IsBrokenText bytes text → ⊥
+  own_utf8 bytes is text broken = broken.broken (subst IsUtf8 (sym is) own_text.utf8)
+
+  pub own_few : (cs : List ℕ) → cs ≡ chars (work_input size) → length cs ≤ 16777216
+  own_few cs is =
+      let bytes = work_input size in
+      omega (arith, ap length is, length-le-encodes (chars bytes), ap length (encodes-chars bytes own_text.utf8), work_length size, sized)
+
+  module _ (b : Built) (accepted : Accepted work_grammar b) where
+    own : (pieces : List Piece) × IsOwn size b pieces
+    own =
+        let law = work_has_one size (omega (arith, sized)) in
+        subst (λ (c : Built). (pieces : List Piece) × IsOwn size c pieces) (one_built grammar_laws work_grammar law.0 b law.1 accepted) (law.2.0, (law.2.1, law.2.3))
+
+    module _ (cs : List ℕ) (is : cs ≡ chars (work_input size)) where
+      own_reading : IsReading b cs own.0 End
+      own_reading = subst (λ (l : List ℕ). IsReading b l own.0 End) (sym is) own.1.0.reading
+
+      pub own_read : (text : List ℕ) → IsStopText b cs text → ⊥
+      own_read text stop = let (same, ends) = reading_is_one b cs own.0 stop.pieces End (Stopped stop.at stop.found stop.expected) own_reading stop.reading in absurd (cc ends)
+
+      -- the one derivation
+      only : (pieces : List Piece) → IsReading b cs pieces End → (ranking : Ranking) → (tree : Tree) × AreDerivations b ranking pieces (tree ∷ [])
+      only pieces reading ranking =
+          let (same, ends) = reading_is_one b cs own.0 pieces End End own_reading reading in
+          subst (λ (ps : List Piece). (tree : Tree) × AreDerivations b ranking ps (tree ∷ [])) same (own.1.1 ranking)
+
+      same_list : (ranking : Ranking) (pieces : List Piece) (ts us : List Tree) → AreDerivations b ranking pieces ts → AreDerivations b ranking pieces us → ts ≡ us
+      same_list ranking pieces ts us p q =
+          all_unique b.g1 (Held (edges_of pieces)) (rank_order b.g1 ranking) (ranks_order b.g1 ranking) (slot_of (slice_index_or b.g1.starts 0 0)) 0 (place_after pieces) ts us p q
+
+      pub own_derived : (ranking : Ranking) (text : List ℕ) → IsNoDerivation b ranking cs text → ⊥
+      own_derived ranking text none =
+          let (tree, one) = only none.pieces none.reading ranking in
+          let e : [] ≡ tree ∷ [] = same_list ranking none.pieces [] (tree ∷ []) none.none one in
+          absurd (cc e)
+
+      module _ (spans : List Span) (f : Forest) (has : HasForest b RuleRanks cs spans f) (forest : IsForest f) where
+        one_counted : (n : ℕ) → ((trees : List Tree) → IsListing f trees → n ≡ length (take 4294967295 trees)) → n ≡ 1
+        one_counted n counted =
+            let (trees, l) = some_listing b RuleRanks cs spans f has forest in
+            let (tree, one) = only has.pieces has.of.reading RuleRanks in
+            let same = same_list RuleRanks has.pieces trees (tree ∷ []) (listed b RuleRanks cs spans f has trees l) one in
+            counted trees l ∙ ap (λ (ts : List Tree). length (take 4294967295 ts)) same ∙ ap length (take_all 4294967295 (tree ∷ []) (omega arith))
+
+        pub own_told : (numbers : Numbers) → HasNumbers b has.pieces numbers → (n : ℕ) → ((trees : List Tree) → IsListing f trees → n ≡ length (take 4294967295 trees)) → (line : List ℕ) →
+            line ≡ work_line size numbers n → IsWorkOutcome size (done (line ∷ []))
+        own_told numbers has_numbers n counted line told =
+            let (tree, one) = only has.pieces has.of.reading RuleRanks in
+            record {
+              built = b;
+              accepted = accepted;
+              pieces = has.pieces;
+              read = record { text = own_text; reading = subst (λ (l : List ℕ). IsReading b l has.pieces End) is has.of.reading };
+              tree = tree;
+              one = one;
+              numbers = numbers;
+              has = has_numbers;
+              is = ap (λ l. done (l ∷ [])) (told ∙ ap (work_line size numbers) (one_counted n counted));
+            }

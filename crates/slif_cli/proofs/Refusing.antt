@@ -18,7 +18,7 @@ use Rattle.reading_model.specs.Accepted.{Structural, Lexical, TooManyRules, HasG
 use Rattle.run_model.specs.Texts.{BadToken, BadStatement, NotUtf8, TooLong, place_text, fault_text}
 use Rattle.slif_base.specs.Told.{ToldFile, MayHold, FileHolds}
 use Rattle.slif_cli.specs.Stops.{TellsText, LoadStops, IsFaultText}
-use Rattle.slif_cli.specs.declared.stop.Refusal.TheVariants.{NotBuilt, Usage, Grammar as BadGrammar, Input as BadInput}
+use Rattle.slif_cli.specs.declared.stop.Refusal.TheVariants.{Usage, Grammar as BadGrammar, Input as BadInput}
 use Rattle.slif_cli.specs.declared.stop.Stop.{Stop}
 use Rattle.slif_cli.specs.declared.stop.Stop.TheVariants as stopped
 use Rattle.language_model.specs.declared.token.Token.{Token}
@@ -118,7 +118,6 @@ bad_statement cs ts text e at are is refuses told = OfStatements at ts are (subs
 -- FILES
 
 pub load_text : (name : List ℕ) (told : ToldFile) (before after : ℕ) (bytes : List ℕ) → MayHold told bytes → (stop : Stop) → TellsText (IsRefused bytes) stop → LoadStops name told before after stop
-load_text name told before after bytes held (stopped.Refused NotBuilt) stops = stops
 load_text name told before after bytes held (stopped.Refused Usage) stops = stops
 load_text name told before after bytes held (stopped.Refused (BadGrammar text)) stops = record { bytes = bytes; may_hold = held; holds = stops }
 load_text name told before after bytes held (stopped.Refused (BadInput text)) stops = stops

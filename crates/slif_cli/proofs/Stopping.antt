@@ -1,5 +1,6 @@
 -- What is known of a stop, and what follows from it.
-use Rattle.std.proofs.Common.{ℕ, List, [], Option, refl}
+use Rattle.std.proofs.Common.{◌≡◌, ℕ, List, [], Option, Result, Ok, Err, refl, sym, subst}
+use Rattle.std.specs.Prelude.{IsErrAnd, IfErr}
 use Rattle.std.specs.List.{concat}
 use Rattle.std.specs.Io.KnownBytes.{Appends}
 use Rattle.slif_base.specs.Told.{AppendsPrefix}
@@ -8,12 +9,11 @@ use Rattle.run_model.specs.Outcome.{Outcome, done}
 use Rattle.run_model.specs.Outside.{Stream}
 use Rattle.slif_cli.specs.Stops.{TellsText, IsFront, AppendsFront, Does, StopsAt, WriteStops, LinesStop}
 use Rattle.slif_cli.specs.Stops.IsFront.{Nothing, Front}
-use Rattle.slif_cli.specs.declared.stop.Refusal.TheVariants.{NotBuilt, Usage, Grammar as BadGrammar, Input as BadInput}
+use Rattle.slif_cli.specs.declared.stop.Refusal.TheVariants.{Usage, Grammar as BadGrammar, Input as BadInput}
 use Rattle.slif_cli.specs.declared.stop.Stop.{Stop}
 use Rattle.slif_cli.specs.declared.stop.Stop.TheVariants.{Refused, OpenFault, ReadFault, WriteFault, NoMemory}
 
 pub told_weaker : (P Q : List ℕ → Type 0) → ((t : List ℕ) → P t → Q t) → (stop : Stop) → TellsText P stop → TellsText Q stop
-told_weaker P Q f (Refused NotBuilt) told = told
 told_weaker P Q f (Refused Usage) told = told
 told_weaker P Q f (Refused (BadGrammar text)) told = f text.items told
 told_weaker P Q f (Refused (BadInput text)) told = told
@@ -43,6 +43,11 @@ module _ (P Q : Outcome → Type 0) (f : (o : Outcome) → P o → Q o) where
 
 pub nothing_appended : (P : Outcome → Type 0) (before : Option (List ℕ)) → AppendsFront P before before
 nothing_appended P before = record { text = []; front = Nothing refl; appends = appends_none before }
+
+-- a call that found no memory, and nothing was written
+pub memory_stops : {T : Type 0} (P : Outcome → Type 0) (before : Stream) (r : Result T Stop) → IsErrAnd r (λ stop. stop ≡ NoMemory) → IfErr r (WriteStops P before before)
+memory_stops P before (Ok x) h = tt
+memory_stops P before (Err e) h = subst (WriteStops P before before) (sym h) (nothing_appended P before.bytes)
 
 -- LINES
 

@@ -5,34 +5,33 @@ use Rattle.slif_base.specs.Causes.{Rose}
 use Rattle.slif_base.specs.Told.{ToldFile, MayHold, FileHolds, AsksAmong, AddsNames, SameFiles}
 use Rattle.slif_base.proofs.Bytes.{appends_none}
 use Rattle.language_model.specs.Building.{Built}
-use Rattle.words_model.specs.Words.{Job, RunAsked, InputFrom, input_from, input_named}
+use Rattle.words_model.specs.Words.{Job, RunAsked, InputFrom, Asks, input_from, input_named}
 use Rattle.words_model.specs.Words.Job.{Run, Expect, Progress}
+use Rattle.words_model.proofs.Asked.{asks_once}
 use Rattle.words_model.specs.Words.InputFrom.{Nowhere, StandardInput, FileNamed}
 use Rattle.run_model.specs.Refused.{Accepted}
-use Rattle.run_model.specs.Jobs.{Task, Takes}
+use Rattle.run_model.specs.Jobs.{Task}
 use Rattle.run_model.specs.Jobs.Task.{Values, Expected, Report}
 use Rattle.run_model.specs.Outcome.{Outcome, IsTaskOutcome, refused}
 use Rattle.run_model.specs.Outcome.IsTaskOutcome.{InputRefused, InputRead}
 use Rattle.run_model.specs.Outcome.IsOutcome.{OfJob}
-use Rattle.run_model.specs.Outcome.IsJobOutcome.{GrammarAccepted}
+use Rattle.run_model.specs.Outcome.IsGrammarOutcome.{GrammarAccepted}
 use Rattle.run_model.specs.Inputs.{IsInputText, IsInputRefused, TooLong}
 use Rattle.run_model.specs.Outside.{Stream}
 use Rattle.run_model.specs.Runs.{MayOpen, InputMayBe, AsksNames, ReadsInput, GoesOn}
 use Rattle.run_model.specs.Runs.MayOpen.{OfInput}
 use Rattle.run_model.specs.Runs.MayAsk.{ForGrammar, ForInput}
-use Rattle.run_model.proofs.Taken.{takes_once}
 use Rattle.slif_cli.specs.Stops.{MayHave, MayRead, ReadStops, FileStops, SourceStops, TellsInput, StopsAt, WriteStops, names_from}
 use Rattle.slif_cli.specs.Tasks.{IsTaskJob, TellsReading}
-use Rattle.slif_cli.specs.declared.stop.Refusal.TheVariants.{NotBuilt, Usage, Grammar as BadGrammar, Input as BadInput}
+use Rattle.slif_cli.specs.declared.stop.Refusal.TheVariants.{Usage, Grammar as BadGrammar, Input as BadInput}
 use Rattle.slif_cli.specs.declared.stop.Stop.{Stop}
 use Rattle.slif_cli.specs.declared.stop.Stop.TheVariants.{Refused, OpenFault, ReadFault, WriteFault, NoMemory}
-use Rattle.slif_cli.proofs.JobLemmas.{held_by_all, own_by_all}
+use Rattle.slif_cli.proofs.JobLemmas.{held_by_all}
 use Rattle.slif_cli.proofs.Stopping.{nothing_appended}
 
 -- THE INPUT
 
 pub of_file : (name : List ℕ) (file : List ℕ → ToldFile) (left : Option (List ℕ)) (Files Input : Type 0) (stop : Stop) → FileStops name (file name) Files stop → ReadStops (FileNamed name) file left Files Input stop
-of_file name file left Files Input (Refused NotBuilt) stops = stops
 of_file name file left Files Input (Refused Usage) stops = stops
 of_file name file left Files Input (Refused (BadGrammar text)) stops = stops
 of_file name file left Files Input (Refused (BadInput text)) stops = (stops.0, record { bytes = stops.1.bytes; may_be = stops.1.may_hold; holds = stops.1.holds })
@@ -42,7 +41,6 @@ of_file name file left Files Input WriteFault stops = stops
 of_file name file left Files Input NoMemory stops = stops
 
 pub of_source : (file : List ℕ → ToldFile) (left : Option (List ℕ)) (Files Input : Type 0) (stop : Stop) → SourceStops left Input stop → ReadStops StandardInput file left Files Input stop
-of_source file left Files Input (Refused NotBuilt) stops = stops
 of_source file left Files Input (Refused Usage) stops = stops
 of_source file left Files Input (Refused (BadGrammar text)) stops = stops
 of_source file left Files Input (Refused (BadInput text)) stops = (stops.0, record { bytes = stops.1.bytes; may_be = stops.1.may_be; holds = stops.1.holds })
@@ -63,7 +61,6 @@ module _ (b : Built) (P : List ℕ → Outcome → Type 0) (refuses : (bytes tex
   -- the bytes were not read
   pub unread : (from : InputFrom) (file : List ℕ → ToldFile) (left : Option (List ℕ)) (Files Input : Type 0) (out : Stream) (stop : Stop) → ReadStops from file left Files Input stop →
       StopsAt (MayRead P from file left) (λ asked. Files × (from ≡ FileNamed asked)) (Files ⊎ Input) out out stop
-  unread from file left Files Input out (Refused NotBuilt) stops = absurd stops
   unread from file left Files Input out (Refused Usage) stops = absurd stops
   unread from file left Files Input out (Refused (BadGrammar text)) stops = absurd stops
   unread from file left Files Input out (Refused (BadInput text)) stops =
@@ -75,7 +72,6 @@ module _ (b : Built) (P : List ℕ → Outcome → Type 0) (refuses : (bytes tex
 
   -- the bytes are refused
   pub told_input : (bytes : List ℕ) (out : Stream) (stop : Stop) → TellsInput (IsInputRefused b bytes) stop → WriteStops (P bytes) out out stop
-  told_input bytes out (Refused NotBuilt) stops = absurd stops
   told_input bytes out (Refused Usage) stops = absurd stops
   told_input bytes out (Refused (BadGrammar text)) stops = absurd stops
   told_input bytes out (Refused (BadInput text)) stops = (refuses bytes text.items stops, appends_none out.bytes)
@@ -85,7 +81,6 @@ module _ (b : Built) (P : List ℕ → Outcome → Type 0) (refuses : (bytes tex
   told_input bytes out NoMemory stops = nothing_appended (P bytes) out.bytes
 
 pub input_weaker : (P Q : List ℕ → Type 0) → ((t : List ℕ) → P t → Q t) → (stop : Stop) → TellsInput P stop → TellsInput Q stop
-input_weaker P Q f (Refused NotBuilt) told = told
 input_weaker P Q f (Refused Usage) told = told
 input_weaker P Q f (Refused (BadGrammar text)) told = told
 input_weaker P Q f (Refused (BadInput text)) told = f text.items told
@@ -121,7 +116,7 @@ adds_twice (Some k) (Some l) (Some m) xs ys p q = q ∙ ap (λ zs. zs ++ ys) p �
 
 -- THE JOB
 
-module _ (words : List (List ℕ)) (job : Job) (name : List ℕ) (from : Option (List ℕ)) (task : Task) (is_job : IsTaskJob job name (input_named from) task) (takes : Takes words job)
+module _ (words : List (List ℕ)) (job : Job) (name : List ℕ) (from : Option (List ℕ)) (task : Task) (is_job : IsTaskJob job name (input_named from) task) (asks : Asks words job)
     (file : List ℕ → ToldFile) (left : Option (List ℕ)) (b : Built) (held : FileHolds (file name) (λ bytes. Accepted bytes b)) where
   goes_on : GoesOn job file
   goes_on = record {
@@ -137,24 +132,23 @@ module _ (words : List (List ℕ)) (job : Job) (name : List ℕ) (from : Option 
       input = may.bytes;
       outcome = o;
       supplied = record {
-        grammar_held = held_by_all words job takes file left name is_job.named held.bytes held.may_hold;
-        input_held = λ other others goes. subst (λ (j : Job). InputMayBe (input_from j) file left may.bytes) (takes_once words job other takes others)
+        grammar_held = held_by_all words job asks file left name is_job.named held.bytes held.may_hold;
+        input_held = λ other others goes. subst (λ (j : Job). InputMayBe (input_from j) file left may.bytes) (asks_once words job other asks others)
             (subst (λ (f : InputFrom). InputMayBe f file left may.bytes) (sym is_job.input) may.may_be);
-        own = own_by_all words job takes file left name is_job.named held.bytes may.bytes;
       };
-      is_outcome = OfJob job takes (GrammarAccepted b held.holds (is_job.outcome b may.bytes o may.holds));
+      is_outcome = OfJob job asks (is_job.outcome held.bytes may.bytes o (GrammarAccepted b held.holds may.holds));
     },
     refl,
   )
 
   pub reads_input : input_named from ≡ StandardInput → ReadsInput words file
-  reads_input standard = record { job = job; takes = takes; standard = is_job.input ∙ standard; goes_on = goes_on }
+  reads_input standard = record { job = job; asks = asks; standard = is_job.input ∙ standard; goes_on = goes_on }
 
   pub opens_input : (asked : List ℕ) → input_named from ≡ FileNamed asked → MayOpen words file asked
-  opens_input asked is = OfInput job takes (is_job.input ∙ is) goes_on
+  opens_input asked is = OfInput job asks (is_job.input ∙ is) goes_on
 
   asks_one : (old mid new : Option (List (List ℕ))) → AddsNames old mid (name ∷ []) → AddsNames mid new [] → AsksNames words file old new
-  asks_one old mid new first adds = record { names = name ∷ []; may_ask = ForGrammar job name takes is_job.named refl; adds = adds_twice old mid new (name ∷ []) [] first adds }
+  asks_one old mid new first adds = record { names = name ∷ []; may_ask = ForGrammar job name asks is_job.named refl; adds = adds_twice old mid new (name ∷ []) [] first adds }
 
   asks_by : (from' : Option (List ℕ)) → from ≡ from' → (old mid new : Option (List (List ℕ))) → AddsNames old mid (name ∷ []) → AsksAmong mid new (names_from (input_named from')) → AsksNames words file old new
   asks_by None is old mid new first among = by among.asked among.adds among.split
@@ -168,7 +162,7 @@ module _ (words : List (List ℕ)) (job : Job) (name : List ℕ) (from : Option 
       by [] adds split = asks_one old mid new first adds
       by (a ∷ []) adds split = record {
         names = name ∷ a ∷ [];
-        may_ask = ForInput job a takes (is_job.input ∙ ap input_named is ∙ ap FileNamed (let e : input ≡ a = cc split in e)) goes_on
+        may_ask = ForInput job a asks (is_job.input ∙ ap input_named is ∙ ap FileNamed (let e : input ≡ a = cc split in e)) goes_on
             (ap (λ (o : Option (List ℕ)). option_to_list o ++ a ∷ []) (sym is_job.named));
         adds = adds_twice old mid new (name ∷ []) (a ∷ []) first adds;
       }
@@ -180,10 +174,10 @@ module _ (words : List (List ℕ)) (job : Job) (name : List ℕ) (from : Option 
 -- the jobs that tell of an input
 
 pub run_job : (asked : RunAsked) → IsTaskJob (Run asked) asked.grammar (input_named asked.input) (Values asked)
-run_job asked = record { named = refl; input = refl; outcome = λ b bytes o is. is }
+run_job asked = record { named = refl; input = refl; outcome = λ text bytes o is. is }
 
 pub expect_job : (name : List ℕ) (from : Option (List ℕ)) → IsTaskJob (Expect name from) name (input_named from) Expected
-expect_job name from = record { named = refl; input = refl; outcome = λ b bytes o is. is }
+expect_job name from = record { named = refl; input = refl; outcome = λ text bytes o is. is }
 
 pub progress_job : (name : List ℕ) (at : ℕ) (from : Option (List ℕ)) → IsTaskJob (Progress name at from) name (input_named from) (Report at)
-progress_job name at from = record { named = refl; input = refl; outcome = λ b bytes o is. is }
+progress_job name at from = record { named = refl; input = refl; outcome = λ text bytes o is. is }

@@ -12,20 +12,19 @@ use Rattle.language_model.specs.Building.{Built, BuildFault, faults_of}
 use Rattle.language_model.specs.Texts.{IsBuiltOf}
 use Rattle.reading_model.specs.Accepted.{GrammarFault, HasGrammarFault}
 use Rattle.reading_model.specs.Reading.{Piece, Stopped, IsReading}
-use Rattle.words_model.specs.Words.{Job, InputFrom}
+use Rattle.words_model.specs.Words.{Job, InputFrom, Asks}
 use Rattle.words_model.specs.Words.InputFrom.{Nowhere, StandardInput, FileNamed}
 use Rattle.run_model.specs.Texts.{place_text}
-use Rattle.run_model.specs.Jobs.{Takes}
 use Rattle.run_model.specs.Refused.{IsRefused, build_text, grammar_text}
 use Rattle.run_model.specs.Checking as checks
 use Rattle.run_model.specs.Inputs.{stop_text}
-use Rattle.run_model.specs.Outcome.{Outcome, not_built, usage, refused}
+use Rattle.run_model.specs.Outcome.{Outcome, usage, refused}
 use Rattle.run_model.specs.Outside.{Stream, Disk}
 use Rattle.run_model.specs.Runs.{MayEnd, MayOpen, InputMayBe, fault_line, memory_line}
 use Rattle.run_model.specs.Runs.Fault.{CannotOpen, CannotRead, CannotWrite}
 use Rattle.slif_cli.specs.declared.checking.SymbolRow.{SymbolRow}
 use Rattle.slif_cli.specs.declared.stop.Refusal.{Refusal}
-use Rattle.slif_cli.specs.declared.stop.Refusal.TheVariants.{NotBuilt, Usage, Grammar as BadGrammar, Input as BadInput}
+use Rattle.slif_cli.specs.declared.stop.Refusal.TheVariants.{Usage, Grammar as BadGrammar, Input as BadInput}
 use Rattle.slif_cli.specs.declared.stop.Stop.{Stop}
 use Rattle.slif_cli.specs.declared.stop.Stop.TheVariants.{Refused, OpenFault, ReadFault, WriteFault, NoMemory}
 
@@ -33,7 +32,6 @@ abbrev pub told_row : SymbolRow → checks.SymbolRow
 told_row r = record { symbol = r.symbol; nullable = r.nullable; productive = r.productive; accessible = r.accessible }
 
 abbrev pub refusal_outcome : Refusal → Outcome
-refusal_outcome NotBuilt = not_built
 refusal_outcome Usage = usage
 refusal_outcome (BadGrammar text) = refused 3 text.items
 refusal_outcome (BadInput text) = refused 1 text.items
@@ -42,7 +40,6 @@ refusal_outcome (BadInput text) = refused 1 text.items
 
 -- a text of which P holds is told, or there is no memory
 abbrev pub TellsText : (List ℕ → Type 0) → Stop → Type 0
-TellsText P (Refused NotBuilt) = ⊥
 TellsText P (Refused Usage) = ⊥
 TellsText P (Refused (BadGrammar text)) = P text.items
 TellsText P (Refused (BadInput text)) = ⊥
@@ -53,7 +50,6 @@ TellsText P NoMemory = ⊤
 
 -- where the grammar was not read from the file of the name
 abbrev pub LoadStops : List ℕ → ToldFile → ℕ → ℕ → Stop → Type 0
-LoadStops name told before after (Refused NotBuilt) = ⊥
 LoadStops name told before after (Refused Usage) = ⊥
 LoadStops name told before after (Refused (BadGrammar text)) = FileHolds told (λ bytes. IsRefused bytes text.items)
 LoadStops name told before after (Refused (BadInput text)) = ⊥
@@ -106,7 +102,6 @@ names_from (FileNamed name) = name ∷ []
 
 -- where the bytes of the input were not read
 abbrev pub ReadStops : (from : InputFrom) → (List ℕ → ToldFile) → Option (List ℕ) → (Files Input : Type 0) → Stop → Type 0
-ReadStops from file left Files Input (Refused NotBuilt) = ⊥
 ReadStops from file left Files Input (Refused Usage) = ⊥
 ReadStops from file left Files Input (Refused (BadGrammar text)) = ⊥
 ReadStops from file left Files Input (Refused (BadInput text)) =
@@ -118,7 +113,6 @@ ReadStops from file left Files Input NoMemory = ⊤
 
 -- where those of a file were not read
 abbrev pub FileStops : List ℕ → ToldFile → (Files : Type 0) → Stop → Type 0
-FileStops name told Files (Refused NotBuilt) = ⊥
 FileStops name told Files (Refused Usage) = ⊥
 FileStops name told Files (Refused (BadGrammar text)) = ⊥
 FileStops name told Files (Refused (BadInput text)) = (text.items ≡ codes "input is longer than 16777216 bytes") × FileHolds told (λ bytes. 16777216 < length bytes)
@@ -129,7 +123,6 @@ FileStops name told Files NoMemory = ⊤
 
 -- where those of the standard input were not read
 abbrev pub SourceStops : Option (List ℕ) → (Input : Type 0) → Stop → Type 0
-SourceStops left Input (Refused NotBuilt) = ⊥
 SourceStops left Input (Refused Usage) = ⊥
 SourceStops left Input (Refused (BadGrammar text)) = ⊥
 SourceStops left Input (Refused (BadInput text)) = (text.items ≡ codes "input is longer than 16777216 bytes") × Holds left (λ bytes. 16777216 < length bytes)
@@ -140,7 +133,6 @@ SourceStops left Input NoMemory = ⊤
 
 -- a text of which P holds is told of the input, or there is no memory
 abbrev pub TellsInput : (List ℕ → Type 0) → Stop → Type 0
-TellsInput P (Refused NotBuilt) = ⊥
 TellsInput P (Refused Usage) = ⊥
 TellsInput P (Refused (BadGrammar text)) = ⊥
 TellsInput P (Refused (BadInput text)) = P text.items
@@ -218,13 +210,13 @@ WorkStops words files files_after input input_after before after stop =
     StopsAt (MayHave words files.file input.bytes) (λ name. Rose files.faults files_after.faults × MayOpen words files.file name)
     (Rose files.faults files_after.faults ⊎ Rose input.faults input_after.faults) before after stop
 
--- whatever the words are that have the job taken up
+-- whatever the words are that ask for the job
 abbrev pub DoesJob : Job → (List ℕ → ToldFile) → Option (List ℕ) → (before after : Option (List ℕ)) → Type 0
-DoesJob job file left before after = (words : List (List ℕ)) → Takes words job → Does (MayHave words file left) before after
+DoesJob job file left before after = (words : List (List ℕ)) → Asks words job → Does (MayHave words file left) before after
 
 abbrev pub JobStops : Job → Disk → Disk → Stream → Stream → Stream → Stream → Stop → Type 0
 JobStops job files files_after input input_after before after stop =
-    (words : List (List ℕ)) → Takes words job → WorkStops words files files_after input input_after before after stop
+    (words : List (List ℕ)) → Asks words job → WorkStops words files files_after input input_after before after stop
 
 -- TELLING
 

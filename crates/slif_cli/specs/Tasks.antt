@@ -1,5 +1,5 @@
 -- What is known where a task is told.
-use Rattle.std.specs.Prelude.{◌≡◌, ℕ, List, [], ◌∷◌, ◌++◌, Some, slice_index_or, codes, decimal}
+use Rattle.std.specs.Prelude.{◌≡◌, ℕ, List, [], Some, slice_index_or}
 use Rattle.grammar_model.specs.Grammar.{slot_of}
 use Rattle.grammar_model.specs.Trees.{Tree}
 use Rattle.grammar_model.specs.Derives.{Held, Derives}
@@ -13,10 +13,9 @@ use Rattle.scanless.specs.Reading.{HoldsPieces}
 use Rattle.words_model.specs.Words as words
 use Rattle.words_model.specs.Words.{InputFrom, grammar_file, input_from}
 use Rattle.run_model.specs.Jobs as model
-use Rattle.run_model.specs.Jobs.{AreItsOwn}
 use Rattle.run_model.specs.Listing.{AreDerivations}
 use Rattle.run_model.specs.Telling.{Outcome, Tells, no_derivation_text}
-use Rattle.run_model.specs.Outcome.{IsJobOutcome, IsTaskOutcome, IsAcceptedOutcome}
+use Rattle.run_model.specs.Outcome.{IsJobOutcome, IsGrammarOutcome, IsTaskOutcome}
 use Rattle.value_lines.specs.Lines.{IsForestOf}
 use Rattle.command_line.specs.Jobs.{asked_of}
 use Rattle.value_lines.specs.declared.writing.WriteRefusal.{WriteRefusal}
@@ -24,13 +23,12 @@ use Rattle.value_lines.specs.declared.writing.WriteRefusal.TheVariants.{WriteFau
 use Rattle.slif_cli.specs.declared.stop.Stop.{Stop}
 use Rattle.slif_cli.specs.declared.stop.Stop.TheVariants as Stopped
 use Rattle.slif_cli.specs.declared.task.Task.{Task}
-use Rattle.slif_cli.specs.declared.task.Task.TheVariants.{Values, Expected, Report, Count}
+use Rattle.slif_cli.specs.declared.task.Task.TheVariants.{Values, Expected, Report}
 
 abbrev pub task_of : Task → model.Task
 task_of (Values asked) = model.Values (asked_of asked)
 task_of Expected = model.Expected
 task_of (Report at) = model.Report at
-task_of (Count size) = model.Count size
 
 -- the characters are read to their end, and this is told of them
 pub record TellsReading (task : model.Task) (b : Built) (cs : List ℕ) (outcome : Outcome) : Type 0 where
@@ -63,22 +61,11 @@ pub record HasForest (b : Built) (ranking : Ranking) (cs : List ℕ) (spans : Li
   pub tree : Tree
   pub derives : Derives b.g1 (Held (edges_of pieces)) (slot_of (slice_index_or b.g1.starts 0 0)) 0 (place_after pieces) tree
 
--- an outcome of a job over its own grammar and input
-pub record IsOwnOutcome (job : words.Job) (outcome : Outcome) : Type 0 where
-  pub grammar : List ℕ
-  pub input : List ℕ
-  pub own : AreItsOwn job grammar input
-  pub is : IsJobOutcome job grammar input outcome
-
 -- the job tells this of the input from there, by the grammar of that file
 pub record IsTaskJob (job : words.Job) (grammar : List ℕ) (from : InputFrom) (task : model.Task) : Type 0 where
   pub named : grammar_file job ≡ Some grammar
   pub input : input_from job ≡ from
-  pub outcome : (b : Built) (bytes : List ℕ) (o : Outcome) → IsTaskOutcome task b bytes o → IsAcceptedOutcome job b bytes o
-
--- the line of a count
-abbrev pub counted : (size tokens values : ℕ) → List ℕ
-counted size tokens values = codes "work " ++ (decimal size ++ (codes ": tokens " ++ (decimal tokens ++ (codes " values " ++ (decimal values ++ 10 ∷ [])))))
+  pub outcome : (text bytes : List ℕ) (o : Outcome) → IsGrammarOutcome text (λ b. IsTaskOutcome task b bytes) o → IsJobOutcome job text bytes o
 
 -- how the work stops where values were not all written
 abbrev pub write_stop : WriteRefusal → Stop

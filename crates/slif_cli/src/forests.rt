@@ -8,6 +8,7 @@ ghost use Rattle.slif_cli.specs.Tasks.{HasForest, HoldsSome, IsNoDerivation, Tel
 use crate::reading::append_names;
 use crate::stop::{Refusal, Stop};
 use bocage::{Forest, ForestRefusal};
+use bumpalo::Bump;
 use earley_sets::trees_are_derivations;
 use grammar_model::Ranking;
 use scanless::{Prepared, Reading, expected_lexemes};
@@ -15,9 +16,10 @@ use slif_base::{Chars, Steps};
 use std::alloc::{AllocError, Global};
 use std::sync::ledger::Ledger;
 
-/// The forest of the derivations; or the input ended without one.
+/// The forest of the derivations, in the arena; or the input ended without one.
 pub fn forest_of<'r, 'a, L: Ledger>(
     alloc: Global,
+    arena: &'r Bump,
     prepared: &'r Prepared,
     ranking: Ranking,
     chars: &Chars,
@@ -34,7 +36,14 @@ pub fn forest_of<'r, 'a, L: Ledger>(
     let _flat = prepared.flat();
     let _place = reading.recce.place();
     let _ = chars;
-    match Forest::build(alloc, &reading.recce, prepared.written(), ranking, steps) {
+    match Forest::build(
+        alloc,
+        arena,
+        &reading.recce,
+        prepared.written(),
+        ranking,
+        steps,
+    ) {
         Ok(forest) => Ok(forest),
         Err(ForestRefusal::NoParse) => {
             let text = no_derivation_text(alloc, prepared, reading)?;

@@ -2,7 +2,6 @@
 #![tactic(auto)]
 
 mod checking;
-mod counting;
 mod expecting;
 mod forests;
 mod grammar;
@@ -15,14 +14,6 @@ mod reporting;
 mod stop;
 mod task;
 mod telling;
-#[cfg(test)]
-mod tests;
-#[cfg(test)]
-mod tests_examples;
-#[cfg(test)]
-mod tests_faults;
-#[cfg(test)]
-mod tests_refused;
 mod top;
 mod values;
 mod working;

@@ -54,7 +54,6 @@ fn refusal_line(alloc: Global, refusal: &Refusal) -> Result<Vec<u8>, AllocError>
     ensures { IfOk result (λ line. line.items ≡ (refusal_outcome refusal.now).line) }
 {
     match refusal {
-        Refusal::NotBuilt => Vec::from_slice(alloc, b"slif: not built yet\n"),
         Refusal::Usage => Vec::from_slice(
             alloc,
             b"slif: usage: slif JOB [options]; jobs: run, check, expect, progress, work\n",
@@ -77,7 +76,6 @@ fn refusal_status(refusal: &Refusal) -> u8
     ensures { result ≡ (refusal_outcome refusal.now).status }
 {
     match refusal {
-        Refusal::NotBuilt => 6,
         Refusal::Usage => 2,
         Refusal::Input { .. } => 1,
         Refusal::Grammar { .. } => 3,

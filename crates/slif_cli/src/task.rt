@@ -11,6 +11,4 @@ pub enum Task<'a> {
     Expected,
     /// The progress report at a place, counted in tokens.
     Report { at: u32 },
-    /// How many tokens and derivations there are; the size is told with them.
-    Count { size: u32 },
 }

@@ -13,7 +13,6 @@ ghost use Rattle.scanless.specs.declared.reading.Ending.TheVariants.{End};
 ghost use Rattle.slif_cli.specs.Stops.{Does, MayRead, StopsAt, WriteStops, names_from};
 ghost use Rattle.slif_cli.specs.Tasks.{task_of, TellsReading};
 
-use crate::counting::write_count;
 use crate::expecting::write_expected;
 use crate::inputs::{input_chars, read_bytes};
 use crate::reading::read_text;
@@ -59,8 +58,8 @@ pub fn tell_input<'a, F: Files, I: Source, O: Sink, L: Ledger>(
     }
 }
 
-/// Writes what is told of the bytes of an input.
-pub fn tell_bytes<'a, O: Sink, L: Ledger>(
+// Writes what is told of the bytes of an input.
+fn tell_bytes<'a, O: Sink, L: Ledger>(
     alloc: Global,
     prepared: &Prepared,
     task: Task<'_>,
@@ -111,6 +110,5 @@ fn tell_reading<'a, O: Sink, L: Ledger>(
         ),
         Task::Expected => write_expected(alloc, prepared, chars, reading, out),
         Task::Report { at } => write_report(alloc, prepared, at, chars, reading, out),
-        Task::Count { size } => write_count(alloc, prepared, size, chars, reading, out, steps),
     }
 }

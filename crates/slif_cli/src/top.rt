@@ -1,10 +1,8 @@
 // The top call.
-ghost use Rattle.std.specs.Prelude.{◌≡◌, ◌≤◌, ◌⊎◌, ℕ, List, [], ◌∷◌, Option, map, string_bytes, option_copied, true, OnOk, IfErr};
+ghost use Rattle.std.specs.Prelude.{◌≡◌, ◌≤◌, ◌⊎◌, ℕ, List, [], ◌∷◌, Option, map, string_bytes, option_copied, OnOk, IfErr};
 ghost use Rattle.slif_base.specs.Told.{SameFiles, AsksAmong};
 ghost use Rattle.words_model.specs.Words as asked_words;
-ghost use Rattle.words_model.specs.Words.{input_named, Check as AskedCheck};
-ghost use Rattle.run_model.specs.Jobs.{Takes};
-ghost use Rattle.run_model.specs.Jobs as model;
+ghost use Rattle.words_model.specs.Words.{Asks, input_named, Check as AskedCheck};
 ghost use Rattle.run_model.specs.Outside.{Outside, Stream, stream, disk};
 ghost use Rattle.run_model.specs.Runs.{Runs, AsksNames, ReadsInput};
 ghost use Rattle.command_line.specs.Jobs.{job_of};
@@ -87,22 +85,7 @@ fn work<'a, F: Files, I: Source, O: Sink, L: Ledger>(
         Ok(None) => return Err(Stop::Refused(Refusal::Usage)),
         Err(_) => return Err(Stop::NoMemory),
     };
-    if is_built(job) {
-        do_job(alloc, job, files, input, out, tellers, steps)
-    } else {
-        Err(Stop::Refused(Refusal::NotBuilt))
-    }
-}
-
-// Whether the job is built yet.
-fn is_built(job: Job<'_>) -> bool
-    ensures { result ≡ model.is_built (job_of job.entry) }
-{
-    match job {
-        Job::Run(asked) => !asked.stats,
-        Job::Work { size } => size <= 1000,
-        _ => true,
-    }
+    do_job(alloc, job, files, input, out, tellers, steps)
 }
 
 fn do_job<'a, F: Files, I: Source, O: Sink, L: Ledger>(
@@ -114,15 +97,15 @@ fn do_job<'a, F: Files, I: Source, O: Sink, L: Ledger>(
     tellers: Vec<Box<dyn Teller>>,
     steps: &mut Steps<L>,
 ) -> Result<(), Stop<'a>>
-    requires built { model.is_built (job_of job) ≡ true }
+    requires asked { (words : List (List ℕ)) × Asks words (job_of job) }
     requires tellers { AreBothTellers (states tellers.items shows held) }
     ensures done { OnOk result (DoesJob (job_of job.entry) (F.told files.old) (I.left input.old) (O.contents out.old) (O.contents out.new)) }
     ensures stops { IfErr result (JobStops (job_of job.entry)
         (disk F.told F.fault_count files.old) (disk F.told F.fault_count files.new)
         (stream I.left I.fault_count input.old) (stream I.left I.fault_count input.new)
         (stream O.contents O.fault_count out.old) (stream O.contents O.fault_count out.new)) }
-    ensures asks { (words : List (List ℕ)) → Takes words (job_of job.entry) → AsksNames words (F.told files.old) (F.asked files.old) (F.asked files.new) }
-    ensures input { (input.new ≡ input.old) ⊎ ((words : List (List ℕ)) → Takes words (job_of job.entry) → ReadsInput words (F.told files.old)) }
+    ensures asks { (words : List (List ℕ)) → Asks words (job_of job.entry) → AsksNames words (F.told files.old) (F.asked files.old) (F.asked files.new) }
+    ensures input { (input.new ≡ input.old) ⊎ ((words : List (List ℕ)) → Asks words (job_of job.entry) → ReadsInput words (F.told files.old)) }
     ensures held { SameFiles (F.told files.old) (F.told files.new) }
 {
     match job {
@@ -167,7 +150,7 @@ fn do_job<'a, F: Files, I: Source, O: Sink, L: Ledger>(
             tellers,
             steps,
         ),
-        Job::Work { size } => work_of_size(alloc, size, out, tellers, steps),
+        Job::Work { size } => work_of_size(alloc, size, out, steps),
     }
 }
 
@@ -211,9 +194,9 @@ fn do_task<'a, F: Files, I: Source, O: Sink, L: Ledger>(
         (stream I.left I.fault_count input.old) (stream I.left I.fault_count input.new)
         (stream O.contents O.fault_count out.old) (stream O.contents O.fault_count out.new) stop) }
     ensures asks { (job : asked_words.Job) → IsTaskJob job grammar.now (input_named (option_copied name.entry)) (task_of task.entry) →
-        (words : List (List ℕ)) → Takes words job → AsksNames words (F.told files.old) (F.asked files.old) (F.asked files.new) }
+        (words : List (List ℕ)) → Asks words job → AsksNames words (F.told files.old) (F.asked files.old) (F.asked files.new) }
     ensures input { (input.new ≡ input.old) ⊎ ((job : asked_words.Job) → IsTaskJob job grammar.now (input_named (option_copied name.entry)) (task_of task.entry) →
-        (words : List (List ℕ)) → Takes words job → ReadsInput words (F.told files.old)) }
+        (words : List (List ℕ)) → Asks words job → ReadsInput words (F.told files.old)) }
     ensures held { SameFiles (F.told files.old) (F.told files.new) }
 {
     match load_grammar(alloc, grammar, files) {

@@ -1,26 +1,33 @@
 // What job `run` writes.
 ghost use Rattle.std.specs.Prelude.{◌≤◌, length, IfErr, OnOk};
+ghost use Rattle.std.specs.List.{concat};
+ghost use Rattle.std.specs.Io.KnownBytes.{Appends};
 ghost use Rattle.run_model.specs.Outside.{stream};
 ghost use Rattle.run_model.specs.Jobs.Task.{Values};
+ghost use Rattle.run_model.specs.Telling.{stats_lines};
 ghost use Rattle.command_line.specs.Jobs.{asked_of};
 ghost use Rattle.valuator.specs.Told.{states};
+ghost use Rattle.value_lines.specs.Counts.{numbers_of};
 ghost use Rattle.value_lines.specs.Writing.{AreBothTellers};
 ghost use Rattle.scanless.specs.Reading.{IsReadingOf};
 ghost use Rattle.scanless.specs.declared.reading.Ending.TheVariants.{End};
-ghost use Rattle.slif_cli.specs.Stops.{Does, WriteStops};
+ghost use Rattle.slif_cli.specs.Stops.{Does, WriteStops, LinesStop};
 ghost use Rattle.slif_cli.specs.Tasks.{TellsReading};
 
+use crate::checking::write_lines;
 use crate::forests::forest_of;
 use crate::stop::Stop;
+use bocage::Stats;
+use bumpalo::Bump;
 use command_line::RunAsked;
 use scanless::{Prepared, Reading};
 use slif_base::{Chars, Sink, Steps};
 use std::alloc::Global;
 use std::sync::ledger::Ledger;
 use valuator::Teller;
-use value_lines::{WriteRefusal, write_derivations};
+use value_lines::{WriteRefusal, stats_line, write_derivations};
 
-/// Writes the values that are asked for, one a line.
+/// Writes the values that are asked for, one a line, and behind them the line of the numbers, where it is asked for.
 pub fn write_values<'a, O: Sink, L: Ledger>(
     alloc: Global,
     prepared: &Prepared,
@@ -39,10 +46,21 @@ pub fn write_values<'a, O: Sink, L: Ledger>(
         (stream O.contents O.fault_count out.old) (stream O.contents O.fault_count out.new)) }
     ensures out_later { O.fault_count out.old ≤ O.fault_count out.new }
 {
-    let forest = match forest_of(alloc, prepared, asked.ranking, chars, reading, steps) {
+    let arena = Bump::new(alloc);
+    let forest = match forest_of(
+        alloc,
+        &arena,
+        prepared,
+        asked.ranking,
+        chars,
+        reading,
+        steps,
+    ) {
         Ok(forest) => forest,
         Err(stop) => return Err(stop),
     };
+    forest.known();
+    let stats = forest.stats();
     match write_derivations(
         alloc,
         prepared,
@@ -55,8 +73,27 @@ pub fn write_values<'a, O: Sink, L: Ledger>(
         out,
         steps,
     ) {
-        Ok(()) => Ok(()),
+        Ok(()) => write_stats(alloc, asked.stats, &stats, out),
         Err(WriteRefusal::WriteFault) => Err(Stop::WriteFault),
         Err(WriteRefusal::NoMemory) => Err(Stop::NoMemory),
     }
+}
+
+// Writes the line of the numbers, where it is asked for.
+fn write_stats<'a, O: Sink>(
+    alloc: Global,
+    asked: bool,
+    stats: &Stats,
+    out: &mut O,
+) -> Result<(), Stop<'a>>
+    ensures written { OnOk result (Appends (O.contents out.old) (O.contents out.new) (concat (stats_lines asked (numbers_of stats.now)))) }
+    ensures stops { IfErr result (LinesStop (stats_lines asked (numbers_of stats.now))
+        (stream O.contents O.fault_count out.old) (stream O.contents O.fault_count out.new)) }
+    ensures out_later { O.fault_count out.old ≤ O.fault_count out.new }
+{
+    if !asked {
+        return Ok(());
+    }
+    let line = stats_line(alloc, stats)?;
+    write_lines(&[line], out)
 }

@@ -1,57 +1,93 @@
-// Job `work`, which has a grammar and an input of its own.
-ghost use Rattle.std.specs.Prelude.{◌≡◌, ◌≤◌, ◌*◌, ◌+◌, ◌++◌, List, ℕ, replicate, length, IfOk, IfErr, OnOk};
-ghost use Rattle.words_model.specs.Words.Job.{Work};
-ghost use Rattle.run_model.specs.Jobs.{work_input};
+// Job `work`, which has a grammar and an input of its own. None of them is refused.
+ghost use Rattle.std.specs.Prelude.{◌≡◌, ◌≤◌, ◌∷◌, [], length, chars as chars_in, IfOk, IfErr, OnOk};
+ghost use Rattle.run_model.specs.Jobs.{work_grammar, work_input};
+ghost use Rattle.run_model.specs.Refused.{Accepted};
+ghost use Rattle.run_model.specs.Outcome.{IsWorkOutcome, done};
 ghost use Rattle.run_model.specs.Outside.{stream};
-ghost use Rattle.valuator.specs.Told.{states};
-ghost use Rattle.value_lines.specs.Writing.{AreBothTellers};
+ghost use Rattle.scanless.specs.Reading.{IsReadingOf};
+ghost use Rattle.scanless.specs.declared.reading.Ending.TheVariants.{End};
 ghost use Rattle.slif_cli.specs.Stops.{Does, WriteStops};
-ghost use Rattle.slif_cli.specs.Tasks.{IsOwnOutcome};
 
+use crate::checking::write_lines;
+use crate::forests::forest_of;
 use crate::grammar::read_grammar;
+use crate::inputs::input_chars;
+use crate::reading::read_text;
 use crate::stop::Stop;
-use crate::task::Task;
-use crate::telling::tell_bytes;
-use slif_base::{Sink, Steps};
+use bumpalo::Bump;
+use grammar_model::Ranking;
+use scanless::{Prepared, Reading};
+use slif_base::{Chars, Sink, Steps};
 use std::alloc::{AllocError, Global};
 use std::sync::ledger::Ledger;
-use valuator::Teller;
+use value_lines::{count_derivations, work_line};
+use value_text::NoMemory;
 
 const GRAMMAR: &[u8] = b"L ::= I L | I\nI ::= 'a' | '(' L ')'\n";
 
-/// Counts the tokens and derivations of an input of that size.
+/// Reads an input of that size, and writes the line of its numbers and of how many derivations it has.
 pub fn work_of_size<'a, O: Sink, L: Ledger>(
     alloc: Global,
     size: u32,
     out: &mut O,
-    tellers: Vec<Box<dyn Teller>>,
     steps: &mut Steps<L>,
 ) -> Result<(), Stop<'a>>
-    requires few { size ≤ 1000 }
-    requires tellers { AreBothTellers (states tellers.items shows held) }
-    ensures done { OnOk result (Does (IsOwnOutcome (Work size)) (O.contents out.old) (O.contents out.new)) }
-    ensures stops { IfErr result (WriteStops (IsOwnOutcome (Work size))
+    requires { size ≤ 100000 }
+    ensures done { OnOk result (Does (IsWorkOutcome size) (O.contents out.old) (O.contents out.new)) }
+    ensures stops { IfErr result (WriteStops (IsWorkOutcome size)
         (stream O.contents O.fault_count out.old) (stream O.contents O.fault_count out.new)) }
     ensures out_later { O.fault_count out.old ≤ O.fault_count out.new }
 {
+    let line = line_of_size(alloc, size, steps)?;
+    write_lines(&[line], out)
+}
+
+fn line_of_size<L: Ledger>(
+    alloc: Global,
+    size: u32,
+    steps: &mut Steps<L>,
+) -> Result<Vec<u8>, NoMemory>
+    requires { size ≤ 100000 }
+    ensures { IfOk result (λ line. IsWorkOutcome size (done (line.items ∷ []))) }
+{
+    let prepared = own_grammar(alloc)?;
+    let chars = own_chars(alloc, size)?;
+    let reading = own_reading(alloc, size, &prepared, &chars, steps)?;
+    line_of_reading(alloc, size, &prepared, &chars, &reading, steps)
+}
+
+// What stops job `work`.
+fn no_memory(stop: Stop<'_>) -> NoMemory
+    requires { stop ≡ Stop.NoMemory }
+{
+    match stop {
+        Stop::NoMemory => NoMemory,
+        _ => unreachable!(),
+    }
+}
+
+fn own_grammar(alloc: Global) -> Result<Prepared, NoMemory>
+    ensures { IfOk result (Accepted work_grammar) }
+{
+    match read_grammar(alloc, GRAMMAR) {
+        Ok(prepared) => Ok(prepared),
+        Err(stop) => Err(no_memory(stop)),
+    }
+}
+
+fn own_chars(alloc: Global, size: u32) -> Result<Chars, NoMemory>
+    requires { size ≤ 100000 }
+    ensures { IfOk result (λ chars. chars ≡ chars_in (work_input size)) }
+{
     let bytes = work_bytes(alloc, size as usize)?;
-    let prepared = match read_grammar(alloc, GRAMMAR) {
-        Ok(prepared) => prepared,
-        Err(stop) => return Err(stop),
-    };
-    tell_bytes(
-        alloc,
-        &prepared,
-        Task::Count { size },
-        &bytes,
-        out,
-        tellers,
-        steps,
-    )
+    match input_chars(alloc, &bytes) {
+        Ok(chars) => Ok(chars),
+        Err(stop) => Err(no_memory(stop)),
+    }
 }
 
 fn work_bytes(alloc: Global, size: usize) -> Result<Vec<u8>, AllocError>
-    requires { size ≤ 1000 }
+    requires { size ≤ 100000 }
     ensures { IfOk result (λ bytes. bytes.items ≡ work_input size) }
 {
     let mut bytes = vec![in alloc; b'a'; size]?;
@@ -59,4 +95,57 @@ fn work_bytes(alloc: Global, size: usize) -> Result<Vec<u8>, AllocError>
     bytes.push(b'a')?;
     bytes.resize(3 * size + 1, b')')?;
     Ok(bytes)
+}
+
+fn own_reading<'p, L: Ledger>(
+    alloc: Global,
+    size: u32,
+    prepared: &'p Prepared,
+    chars: &Chars,
+    steps: &mut Steps<L>,
+) -> Result<Reading<'p>, NoMemory>
+    requires size { size ≤ 100000 }
+    requires grammar { Accepted work_grammar prepared.now }
+    requires chars { chars.now ≡ chars_in (work_input size) }
+    ensures { IfOk result (λ r. IsReadingOf prepared.now chars.now r.recce r.spans.items End) }
+{
+    let _ = size;
+    match read_text(alloc, prepared, chars, steps) {
+        Ok(reading) => Ok(reading),
+        Err(stop) => Err(no_memory(stop)),
+    }
+}
+
+fn line_of_reading<L: Ledger>(
+    alloc: Global,
+    size: u32,
+    prepared: &Prepared,
+    chars: &Chars,
+    reading: &Reading<'_>,
+    steps: &mut Steps<L>,
+) -> Result<Vec<u8>, NoMemory>
+    requires size { size ≤ 100000 }
+    requires grammar { Accepted work_grammar prepared.now }
+    requires chars { chars.now ≡ chars_in (work_input size) }
+    requires read { IsReadingOf prepared.now chars.now reading.now.recce reading.now.spans.items End }
+    ensures { IfOk result (λ line. IsWorkOutcome size (done (line.items ∷ []))) }
+{
+    let arena = Bump::new(alloc);
+    let forest = match forest_of(
+        alloc,
+        &arena,
+        prepared,
+        Ranking::Rule,
+        chars,
+        reading,
+        steps,
+    ) {
+        Ok(forest) => forest,
+        Err(stop) => return Err(no_memory(stop)),
+    };
+    forest.known();
+    let stats = forest.stats();
+    let values = count_derivations(alloc, &forest, steps)?;
+    let line = work_line(alloc, size, &stats, values)?;
+    Ok(line)
 }

@@ -1,5 +1,5 @@
 -- The derivations that were given, when one more is.
-use Rattle.std.proofs.Common.{◌≡◌, ℕ, zero, suc, ◌+◌, List, [], ◌∷◌, ◌++◌, length, map, true, false, Some, None, refl, sym, ap, ◌∙◌, subst, append_assoc, length-append, arith}
+use Rattle.std.proofs.Common.{◌≡◌, ℕ, zero, suc, ◌+◌, ◌≤◌, List, [], ◌∷◌, ◌++◌, length, map, Bool, true, false, Some, refl, sym, ap, ◌∙◌, subst, append_assoc, length-append, arith}
 use Rattle.grammar_model.specs.Grammar.{slot_of}
 use Rattle.grammar_model.specs.Trees.{Tree}
 use Rattle.grammar_model.specs.Steps.{Step, steps_of}
@@ -7,7 +7,8 @@ use Rattle.grammar_model.specs.Order.{rank_order}
 use Rattle.grammar_model.proofs.Sorting.{ranks_order}
 use Rattle.grammar_model.proofs.Total.{all_unique}
 use Rattle.grammar_model.specs.Derives.{Held}
-use Rattle.std.specs.Prelude.{slice_index_or, IsSome}
+use Rattle.std.specs.Prelude.{slice_get, slice_index_or}
+use Rattle.recognizer_model.specs.Links.{choices}
 use Rattle.forest_model.specs.Forest.{Forest, IsForest}
 use Rattle.forest_model.specs.Listing.{IsListing, AreFirst}
 use Rattle.forest_laws.specs.Lists.{Lists, roots_by}
@@ -17,8 +18,11 @@ use Rattle.forest_laws.proofs.Taken.{fronts_are_taken}
 use Rattle.tree_iter.specs.declared.walk.Walk.{Walk}
 use Rattle.tree_iter.specs.declared.walk.Place.{Place}
 use Rattle.tree_iter.specs.declared.walk.Place.TheVariants.{Walking, At, Between}
-use Rattle.tree_iter.specs.Iteration.{Iteration, AreGiven, IsAnswer, between}
-use Rattle.tree_iter.specs.Walk.{Remain, Advances, Waits, current_of, IsUnderWay}
+use Rattle.tree_iter.specs.Iteration.{Iteration, AreGiven, IsAnswer, AreFew}
+use Rattle.grammar_core.specs.declared.steps.TreeStep.{TreeStep}
+use Rattle.grammar_core.specs.Steps.{step_of}
+use Rattle.tree_iter.specs.Walk.{AreFewLooks, Remain, Advances, Reaches, current_of, IsUnderWay}
+use Rattle.tree_iter.proofs.Linked.{get_behind}
 use Rattle.tree_iter.proofs.Trails.{same_ends}
 
 append_nil : {X : Type 0} (xs : List X) → xs ++ [] ≡ xs
@@ -67,6 +71,7 @@ record IsNext (f : Forest) (given : List Tree) (first : List Step) : Type 0 wher
   tree : Tree
   are_first : AreFirst f (given ++ tree ∷ [])
   steps : steps_written f.written f.flat [] first ≡ steps_of tree
+  few : length first ≤ suc (choices tree)
 
 next_is : (f : Forest) (lists : Lists) → IsForest f → AreAllLists f lists → (taken later : List (List Step)) (first : List Step) → map steps_of (roots_by f lists f.root) ≡ taken ++ first ∷ later →
     (given : List Tree) → AreFirst f given → length given ≡ length taken → IsNext f given first
@@ -84,7 +89,9 @@ next_is f lists is all taken later first e given g l =
     let same : r.front ≡ given = sym (fronts_same f given r.front g front count) in
     let ends = same_ends (map W taken) (map steps_of r.front) (W first) (steps_of r.last)
     (sym (map_both W taken (first ∷ [])) ∙ t.steps ∙ ap (map steps_of) r.is ∙ map_both steps_of r.front (r.last ∷ [])) in
-    record { tree = r.last; are_first = subst (λ g'. AreFirst f (g' ++ r.last ∷ [])) same whole; steps = ends.lasts }
+    let few = t.few (length taken) first r.last (get_behind taken first)
+    (subst (λ l. slice_get l (length taken) ≡ Some r.last) (sym r.is) (subst (λ k. slice_get (r.front ++ r.last ∷ []) k ≡ Some r.last) (let at : length r.front ≡ length taken = omega arith in at) (get_behind r.front r.last))) in
+    record { tree = r.last; are_first = subst (λ g'. AreFirst f (g' ++ r.last ∷ [])) same whole; steps = ends.lasts; few = few }
 
 all_given : (f : Forest) (lists : Lists) → IsForest f → AreAllLists f lists → (taken rest : List (List Step)) → map steps_of (roots_by f lists f.root) ≡ taken ++ rest → rest ≡ [] →
     (given : List Tree) → AreFirst f given → length given ≡ length taken → IsListing f given
@@ -96,17 +103,17 @@ all_given f lists is all taken rest e none given g l =
 
 -- ---- the iterator
 
-abbrev pub seen : Walk → ℕ → Place → Iteration
-seen w given place = record { forest = w.forest.now; given = given; current = current_of place w.steps.items }
+abbrev pub seen : Walk → ℕ → Bool → List TreeStep → Iteration
+seen w given stands shown = record { forest = w.forest.now; given = given; current = current_of stands shown }
 
 pub is_forest : (w : Walk) (rest : List (List Step)) (place : Place) → Remain place w rest → IsForest w.forest.now
 is_forest w rest Walking h = h.is.forest
-is_forest w rest At h = h.is.forest
+is_forest w rest At h = h.behind.is.forest
 is_forest w rest Between h = h.is.forest
 
 -- one more was given
-pub under_way_more : (w n : Walk) (given : ℕ) (place after : Place) → n.forest ≡ w.forest → (u : IsUnderWay w given place) → Advances after n u.rest true → IsUnderWay n (given + 1) after
-under_way_more w n given place after forest u (at, r) =
+pub under_way_more : (w n : Walk) (given : ℕ) (place : Place) → n.forest ≡ w.forest → (u : IsUnderWay w given place) → Reaches n u.rest → IsUnderWay n (given + 1) Between
+under_way_more w n given place forest u r =
     let same : w.forest.now ≡ n.forest.now = ap (λ (x : _). x.now) (sym forest) in
     record {
       lists = u.lists;
@@ -115,25 +122,33 @@ under_way_more w n given place after forest u (at, r) =
       rest = r.later;
       both = ap (λ (f : Forest). map steps_of (roots_by f u.lists f.root)) (sym same) ∙ u.both ∙ ap (λ l. u.taken ++ l) r.rest_is ∙ sym (append_assoc u.taken (r.first ∷ []) r.later);
       count = length-append u.taken (r.first ∷ []) ∙ ap (λ k. k + 1) u.count;
-      remain = subst (λ p. Remain p n r.later) (sym at) r.behind;
+      remain = r.behind;
     }
 
-pub answer_more : (w n : Walk) (given : ℕ) (place after : Place) → n.forest ≡ w.forest → (u : IsUnderWay w given place) → Advances after n u.rest true →
-    (trees : List Tree) → AreGiven (seen w given place) trees → IsAnswer (seen n (given + 1) after) trees true
-answer_more w n given place after forest u (at, r) trees g =
+pub answer_more : (w n : Walk) (given : ℕ) (place : Place) (stands : Bool) (old shown : List TreeStep) → n.forest ≡ w.forest → (u : IsUnderWay w given place) → Reaches n u.rest → shown ≡ n.steps.items →
+    (trees : List Tree) → AreGiven (seen w given stands old) trees → IsAnswer (seen n (given + 1) true shown) trees true
+answer_more w n given place stands old shown forest u r is trees g =
     let same : w.forest.now ≡ n.forest.now = ap (λ (x : _). x.now) (sym forest) in
     let next = next_is w.forest.now u.lists (is_forest w u.rest place u.remain) u.all u.taken r.later r.first (u.both ∙ ap (λ l. u.taken ++ l) r.rest_is) trees g.first (g.count ∙ sym u.count) in (
       next.tree,
       record { first = subst (λ f. AreFirst f (trees ++ next.tree ∷ [])) same next.are_first; count = length-append trees (next.tree ∷ []) ∙ ap (λ k. k + 1) g.count },
-      ap (λ p. current_of p n.steps.items) at ∙ ap Some (r.shows ∙ ap (λ (f : Forest). steps_written f.written f.flat [] r.first) (sym same) ∙ next.steps),
+      ap Some (ap (map step_of) is ∙ r.shows ∙ ap (λ (f : Forest). steps_written f.written f.flat [] r.first) (sym same) ∙ next.steps),
     )
 
-pub stands_more : (n : Walk) (after : Place) (rest : List (List Step)) → Advances after n rest true → IsSome (current_of after n.steps.items)
-stands_more n after rest (at, r) = subst (λ p. IsSome (current_of p n.steps.items)) (sym at) refl
+pub few_more : (w n : Walk) (given : ℕ) (place : Place) (stands : Bool) (old shown : List TreeStep) → n.forest ≡ w.forest → (u : IsUnderWay w given place) → Reaches n u.rest → (before after : ℕ) → AreFewLooks n true before after →
+    (trees : List Tree) → AreGiven (seen w given stands old) trees → AreFew (seen n (given + 1) true shown) trees true before after
+few_more w n given place stands old shown forest u r before after few trees g = λ tree h.
+    let same : w.forest.now ≡ n.forest.now = ap (λ (x : _). x.now) (sym forest) in
+    let next = next_is w.forest.now u.lists (is_forest w u.rest place u.remain) u.all u.taken r.later r.first (u.both ∙ ap (λ l. u.taken ++ l) r.rest_is) trees g.first (g.count ∙ sym u.count) in
+    let held : AreFirst w.forest.now (trees ++ tree ∷ []) = subst (λ f. AreFirst f (trees ++ tree ∷ [])) (sym same) h.first in
+    let one = same_ends trees trees tree next.tree (fronts_same w.forest.now (trees ++ tree ∷ []) (trees ++ next.tree ∷ []) held next.are_first (length-append trees (tree ∷ []) ∙ sym (length-append trees (next.tree ∷ [])))) in
+    let bound : length r.first ≤ suc (choices tree) = subst (λ t. length r.first ≤ suc (choices t)) (sym one.lasts) next.few in
+    let counts = r.counts in
+    omega arith
 
--- there is none left
-pub under_way_none : (w n : Walk) (given : ℕ) (place after : Place) → n.forest ≡ w.forest → (u : IsUnderWay w given place) → Advances after n u.rest false → IsUnderWay n given after
-under_way_none w n given place after forest u (at, behind, none) =
+-- the walk went on, and none was given
+pub under_way_on : (w n : Walk) (given : ℕ) (place after : Place) → n.forest ≡ w.forest → (u : IsUnderWay w given place) → Remain after n u.rest → IsUnderWay n given after
+under_way_on w n given place after forest u h =
     let same : w.forest.now ≡ n.forest.now = ap (λ (x : _). x.now) (sym forest) in
     record {
       lists = u.lists;
@@ -142,41 +157,23 @@ under_way_none w n given place after forest u (at, behind, none) =
       rest = u.rest;
       both = ap (λ (f : Forest). map steps_of (roots_by f u.lists f.root)) (sym same) ∙ u.both;
       count = u.count;
-      remain = subst (λ p. Remain p n u.rest) (sym at) behind;
+      remain = h;
     }
 
-pub answer_none : (w n : Walk) (given : ℕ) (place after : Place) → n.forest ≡ w.forest → (u : IsUnderWay w given place) → Advances after n u.rest false →
-    (trees : List Tree) → AreGiven (seen w given place) trees → IsAnswer (seen n given after) trees false
-answer_none w n given place after forest u (at, behind, none) trees g =
+pub remain_none : (n : Walk) (after : Place) (rest : List (List Step)) → Advances after n rest false → Remain after n rest
+remain_none n after rest (at, behind, none) = subst (λ p. Remain p n rest) (sym at) behind
+
+pub remain_more : (n : Walk) (after : Place) (rest : List (List Step)) → Advances after n rest true → Remain after n rest
+remain_more n after rest (at, reached) = subst (λ p. Remain p n rest) (sym at) reached
+
+pub answer_none : (w n : Walk) (given : ℕ) (place after : Place) (stands : Bool) (old : List TreeStep) → n.forest ≡ w.forest → (u : IsUnderWay w given place) → Advances after n u.rest false →
+    (trees : List Tree) → AreGiven (seen w given stands old) trees → IsAnswer (seen n given false old) trees false
+answer_none w n given place after stands old forest u (at, behind, none) trees g =
     let same : w.forest.now ≡ n.forest.now = ap (λ (x : _). x.now) (sym forest) in
     subst (λ f. IsListing f trees) same
     (all_given w.forest.now u.lists (is_forest w u.rest place u.remain) u.all u.taken u.rest u.both none trees g.first (g.count ∙ sym u.count))
 
-pub seen_between : (w n : Walk) (given : ℕ) (place after : Place) → n.forest ≡ w.forest → current_of after n.steps.items ≡ None → seen n given after ≡ between (seen w given place)
-seen_between w n given place after forest none =
+pub seen_on : (w n : Walk) (given : ℕ) (stands : Bool) (shown : List TreeStep) → n.forest ≡ w.forest → seen n given stands shown ≡ seen w given stands shown
+seen_on w n given stands shown forest =
     let same : n.forest.now ≡ w.forest.now = ap (λ (x : _). x.now) forest in
-    λ i. record { forest = same i; given = given; current = none i }
-
--- the call ran out of memory
-waits_remain : (after : Place) (n : Walk) (rest : List (List Step)) → Waits after n rest → Remain after n rest
-waits_remain Walking n rest h = h
-waits_remain At n rest h = absurd h
-waits_remain Between n rest h = h
-
-pub waits_none : (after : Place) (n : Walk) (rest : List (List Step)) → Waits after n rest → current_of after n.steps.items ≡ None
-waits_none Walking n rest h = refl
-waits_none At n rest h = absurd h
-waits_none Between n rest h = refl
-
-pub under_way_waits : (w n : Walk) (given : ℕ) (place after : Place) → n.forest ≡ w.forest → (u : IsUnderWay w given place) → Waits after n u.rest → IsUnderWay n given after
-under_way_waits w n given place after forest u h =
-    let same : w.forest.now ≡ n.forest.now = ap (λ (x : _). x.now) (sym forest) in
-    record {
-      lists = u.lists;
-      all = subst (λ f. AreAllLists f u.lists) same u.all;
-      taken = u.taken;
-      rest = u.rest;
-      both = ap (λ (f : Forest). map steps_of (roots_by f u.lists f.root)) (sym same) ∙ u.both;
-      count = u.count;
-      remain = waits_remain after n u.rest h;
-    }
+    λ i. record { forest = same i; given = given; current = current_of stands shown }

@@ -1,5 +1,5 @@
 -- Goals that are put on stacks, and what is always so of a forest's goals.
-use Rattle.std.proofs.Common.{◌≡◌, ℕ, zero, suc, ◌-◌, ◌<◌, ◌≤◌, List, [], ◌∷◌, ◌++◌, length, map, Option, Some, None, refl, sym, ap, ◌∙◌, subst, append_assoc, arith}
+use Rattle.std.proofs.Common.{◌≡◌, ℕ, zero, suc, ◌+◌, ◌-◌, ◌<◌, ◌≤◌, List, [], ◌∷◌, ◌++◌, length, map, Option, Some, None, refl, sym, ap, ◌∙◌, subst, append_assoc, arith}
 use Rattle.std.specs.Prelude.{slice_get, slice_index_or, Contains}
 use Rattle.std.proofs.lemmas.Option.{slice_get_within}
 use Rattle.grammar_model.specs.Steps.{NulledStep, RuleStep}
@@ -13,7 +13,7 @@ use Rattle.forest_laws.proofs.Lists.{get_among}
 use Rattle.bocage.specs.Readers.{alternative_at, node_at}
 use Rattle.tree_iter.specs.declared.goals.GoalRow.{GoalRow}
 use Rattle.tree_iter.specs.declared.goals.Put.{Put}
-use Rattle.tree_iter.specs.Goals.{goal_of, IsStack, IsReady, AreReady, Puts, PutsOption}
+use Rattle.tree_iter.specs.Goals.{goal_of, IsStack, IsReady, AreReady, unit, units, look, Puts, PutsOption}
 use Rattle.tree_iter.proofs.Linked.{linked_push, grows_then}
 
 -- ---- stacks
@@ -38,9 +38,13 @@ pub goals_split : (f : Forest) (a b : List Goal) → AreGoals f (a ++ b) → Are
 goals_split f [] b h = (tt, h)
 goals_split f (x ∷ a) b (is, h) = let r = goals_split f a b h in ((is, r.0), r.1)
 
+pub units_both : (a b : List Goal) → units (a ++ b) ≡ units a + units b
+units_both [] b = omega arith
+units_both (x ∷ a) b = let h = units_both a b in omega arith
+
 pub ready_both : (f : Forest) (a b : List Goal) → AreReady f a → AreReady f b → AreReady f (a ++ b)
 ready_both f [] b h g = g
-ready_both f (x ∷ a) b (is, h) g = (is, ready_both f a b h g)
+ready_both f (x ∷ a) b (is, backed, h) g = let both = units_both a b in (is, omega (arith, both, backed), ready_both f a b h g)
 
 part_is_rule : (rules : List FlatRule) (r d x : ℕ) → slice_get (slice_index_or rules r no_rule).rhs d ≡ Some x → r < length rules
 part_is_rule [] r d x e = cc
@@ -74,20 +78,25 @@ node_sound f is node m =
       symbol = omega arith;
     }
 
-front_ready : (f : Forest) (front : Option ℕ) → AreGoals f (front_goals front) → AreReady f (front_goals front)
-front_ready f None h = tt
-front_ready f (Some n) h = h
+last_unit : (symbol start end : ℕ) (last : Last) → units (last_goals symbol start end last) ≡ 1
+last_unit symbol start end AnEdge = refl
+last_unit symbol start end Nothing = refl
+last_unit symbol start end (Wholes nodes) = refl
+
+front_ready : (f : Forest) (front : Option ℕ) (lasts : List Goal) → units lasts ≡ 1 → AreGoals f (front_goals front) → AreReady f lasts → AreReady f (front_goals front ++ lasts)
+front_ready f None lasts one h g = g
+front_ready f (Some n) lasts one h g = (h.0, omega (arith, one), g)
 
 last_ready : (f : Forest) (symbol start end : ℕ) (last : Last) → symbol < length f.flat.symbols → AreGoals f (last_goals symbol start end last) → AreReady f (last_goals symbol start end last)
-last_ready f symbol start end AnEdge lt h = (lt, tt)
-last_ready f symbol start end Nothing lt h = (lt, tt)
-last_ready f symbol start end (Wholes nodes) lt h = h
+last_ready f symbol start end AnEdge lt h = (lt, omega arith, tt)
+last_ready f symbol start end Nothing lt h = (lt, omega arith, tt)
+last_ready f symbol start end (Wholes nodes) lt h = (h.0, omega arith, tt)
 
 pub alternative_ready : (f : Forest) → IsForest f → (node : ForestNode) → Contains f.nodes node → (a : Alternative) → AreGoals f (alternative_goals f node a) → AreReady f (alternative_goals f node a)
 alternative_ready f is node m a h =
     let s = node_sound f is node m in
     let g = goals_split f (front_goals a.front) (last_goals (last_symbol f node.key) a.start node.key.end a.last) h in
-    ready_both f (front_goals a.front) (last_goals (last_symbol f node.key) a.start node.key.end a.last) (front_ready f a.front g.0)
+    front_ready f a.front (last_goals (last_symbol f node.key) a.start node.key.end a.last) (last_unit (last_symbol f node.key) a.start node.key.end a.last) g.0
     (last_ready f (last_symbol f node.key) a.start node.key.end a.last s.symbol g.1)
 
 whole_ready_at : (f : Forest) → IsForest f → (start end n : ℕ) (node : Option ForestNode) → slice_get f.nodes n ≡ node → n < length f.nodes → IsRule f.flat (rule_of node)
@@ -100,7 +109,7 @@ whole_ready_at f is start end n None e lt = absurd (none_there f.nodes n e lt)
 whole_ready_at f is start end n (Some node) e lt = (node_sound f is node (contains_from f.nodes node (get_among f.nodes n node e))).rule
 
 pub whole_ready : (f : Forest) → IsForest f → (start end n : ℕ) → n < length f.nodes → AreReady f (whole_goals f start end n)
-whole_ready f is start end n lt = (lt, (whole_ready_at f is start end n (slice_get f.nodes n) refl lt, tt))
+whole_ready f is start end n lt = (lt, omega arith, (whole_ready_at f is start end n (slice_get f.nodes n) refl lt, omega arith, tt))
 
 -- the options of a goal are ready
 pub record IsMapped {X Y : Type 0} (h : X → Y) (xs : List X) (k : ℕ) (y : Y) : Type 0 where
@@ -131,13 +140,38 @@ option_ready f lists is choices (Write step) ready k option there = cc
 pub root_ready : (f : Forest) → IsForest f → (root : Option ℕ) → IsRoot f root → AreReady f (root_goals f root)
 root_ready f is None h =
     let top = top_there f.flat.tops f.start is.derived.start in
-    (is.derived.flat.in_range.left (top_of f) ((is.derived.flat.tops f.start (top_of f) top).is_top.is_rule), tt)
+    (is.derived.flat.in_range.left (top_of f) ((is.derived.flat.tops f.start (top_of f) top).is_top.is_rule), omega arith, tt)
   where
     top_there : (tops : List ℕ) (k : ℕ) → k < length tops → slice_get tops k ≡ Some (slice_index_or tops k 0)
     top_there [] k lt = absurd (omega arith)
     top_there (t ∷ tops) zero lt = refl
     top_there (t ∷ tops) (suc k) lt = top_there tops k (omega arith)
 root_ready f is (Some n) (lt, (node, e, same)) = whole_ready f is 0 f.place n (slice_get_within f.nodes n node e)
+
+-- ---- an option becomes as many steps as its goal, and one more for a look
+
+front_unit : (front : Option ℕ) → units (front_goals front) ≡ 0
+front_unit None = refl
+front_unit (Some n) = refl
+
+parts_units : (f : Forest) (node : Option ForestNode) (k : ℕ) (option : List Goal) → slice_get (node_options f node) k ≡ Some option → units option ≡ 1
+parts_units f None k option there = cc
+parts_units f (Some node) k option there =
+    let r = mapped_at (alternative_goals f node) node.alternatives k option there in
+    let fronts = front_goals r.x.front in
+    let lasts = last_goals (last_symbol f node.key) r.x.start node.key.end r.x.last in
+    let both = units_both fronts lasts in
+    let none = front_unit r.x.front in
+    let one = last_unit (last_symbol f node.key) r.x.start node.key.end r.x.last in
+    let sum : units (fronts ++ lasts) ≡ 1 = omega arith in
+    subst (λ o. units o ≡ 1) r.is sum
+
+pub option_units : (f : Forest) (goal : Goal) (k : ℕ) (option : List Goal) → slice_get (options f goal) k ≡ Some option → units option ≡ unit goal + look goal
+option_units f (Parts n) k option there = parts_units f (slice_get f.nodes n) k option there
+option_units f (OneOf start end nodes) k option there =
+    let r = mapped_at (whole_goals f start end) nodes k option there in
+    subst (λ o. units o ≡ 1) r.is refl
+option_units f (Write step) k option there = cc
 
 -- ---- a step is no goal to choose for
 pub is_goal : (f : Forest) (goal : Goal) (k : ℕ) → IsReady f goal → k < length (options f goal) → IsGoal f goal

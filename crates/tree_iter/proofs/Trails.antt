@@ -1,5 +1,5 @@
 -- Trails: what was done along them, and the choices on them.
-use Rattle.std.proofs.Common.{◌≡◌, ℕ, suc, ◌≤◌, List, [], ◌∷◌, ◌++◌, length, take, drop, refl, sym, ap, ◌∙◌, subst, append_assoc, length-append, arith}
+use Rattle.std.proofs.Common.{◌≡◌, inl, inr, ℕ, zero, suc, ◌≤◌, List, [], ◌∷◌, ◌++◌, length, take, drop, refl, sym, ap, ◌∙◌, subst, append_assoc, length-append, arith}
 use Rattle.std.proofs.lemmas.List.{take-append-le}
 use Rattle.grammar_model.specs.Steps.{Step}
 use Rattle.forest_model.specs.Forest.{Forest}
@@ -39,6 +39,7 @@ choice_in f rows others trail goal chosen behind c le same h = record {
   among = h.among;
   goals = le;
   behind_is = subst (λ r. IsStack r c.behind behind) (sym same) h.behind_is;
+  backed = h.backed;
   are_ready = h.are_ready;
   steps = h.steps;
   counts = h.counts;
@@ -47,11 +48,35 @@ choice_in f rows others trail goal chosen behind c le same h = record {
 pub choices_more : (f : Forest) (rows more : List GoalRow) (choices : List Choice) (trail : Trail) → AreChoices f rows choices trail → AreChoices f (rows ++ more) choices trail
 choices_more f rows more choices Begun h = h
 choices_more f rows more choices (Wrote trail step) h = choices_more f rows more choices trail h
-choices_more f rows more choices (Chose trail goal chosen behind) (before, c, e, is, h) =
+choices_more f rows more choices (Chose trail goal chosen behind) (inr (spent, h)) = inr (spent, choices_more f rows more choices trail h)
+choices_more f rows more choices (Chose trail goal chosen behind) (inl (before, c, e, is, h)) =
     let same = take-append-le c.goals rows more is.goals in
     let longer = length-append rows more in
     let le = is.goals in
-    (before, c, e, choice_in f rows (rows ++ more) trail goal chosen behind c (omega arith) same is, subst (λ r. AreChoices f r before trail) (sym same) h)
+    inl (before, c, e, choice_in f rows (rows ++ more) trail goal chosen behind c (omega arith) same is, subst (λ r. AreChoices f r before trail) (sym same) h)
+
+take_within : {X : Type 0} (n k : ℕ) (xs : List X) → n ≤ k → take n (take k xs) ≡ take n xs
+take_within zero k xs le = refl
+take_within (suc n) zero xs le = absurd (omega arith)
+take_within (suc n) (suc k) [] le = refl
+take_within (suc n) (suc k) (x ∷ xs) le = ap (λ l. x ∷ l) (take_within n k xs (omega arith))
+
+size_taken : {X : Type 0} (n k : ℕ) (xs : List X) → n ≤ k → n ≤ length xs → n ≤ length (take k xs)
+size_taken zero k xs le h = omega arith
+size_taken (suc n) zero xs le h = absurd (omega arith)
+size_taken (suc n) (suc k) [] le h = h
+size_taken (suc n) (suc k) (x ∷ xs) le h = let r = size_taken n k xs (omega arith) (omega arith) in omega arith
+
+-- rows that no choice protects are cut off
+pub choices_cut : (f : Forest) (rows : List GoalRow) (k : ℕ) (choices : List Choice) (trail : Trail) → ((before : List Choice) (c : Choice) → choices ≡ before ++ c ∷ [] → c.goals ≤ k) →
+    AreChoices f rows choices trail → AreChoices f (take k rows) choices trail
+choices_cut f rows k choices Begun within h = h
+choices_cut f rows k choices (Wrote trail step) within h = choices_cut f rows k choices trail within h
+choices_cut f rows k choices (Chose trail goal chosen behind) within (inr (spent, h)) = inr (spent, choices_cut f rows k choices trail within h)
+choices_cut f rows k choices (Chose trail goal chosen behind) within (inl (before, c, e, is, h)) =
+    let le = within before c e in
+    let same = take_within c.goals k rows le in
+    inl (before, c, e, choice_in f rows (take k rows) trail goal chosen behind c (size_taken c.goals k rows le is.goals) same is, subst (λ r. AreChoices f r before trail) (sym same) h)
 
 -- ---- the last choice
 
@@ -102,7 +127,20 @@ cut_at f lists walks rows before c (Wrote trail step) h =
       steps = ap (λ l. l ++ step ∷ []) r.steps ∙ append_assoc (steps_on r.first) r.more (step ∷ []);
       same = walks.unwrites (done_of f trail) step ∙ r.same;
     }
-cut_at f lists walks rows before c (Chose trail goal chosen behind) (others, d, e, is, h) =
+cut_at f lists walks rows before c (Chose trail goal chosen behind) (inr (spent, h)) =
+    let r = cut_at f lists walks rows before c trail h in
+    record {
+      first = r.first;
+      goal = r.goal;
+      chosen = r.chosen;
+      behind = r.behind;
+      is = r.is;
+      earlier = r.earlier;
+      more = r.more;
+      steps = r.steps;
+      same = ap (λ l. to_come f lists (done_of f trail ++ Goals.Chose l behind ∷ [])) spent ∙ walks.is_spent (done_of f trail) behind ∙ r.same;
+    }
+cut_at f lists walks rows before c (Chose trail goal chosen behind) (inl (others, d, e, is, h)) =
     let s = same_ends others before d c (sym e) in
     record {
       first = trail;
@@ -120,4 +158,6 @@ cut_at f lists walks rows before c (Chose trail goal chosen behind) (others, d, 
 pub none_to_come : (f : Forest) (lists : Lists) → WalksGoOn f lists → (rows : List GoalRow) (trail : Trail) → AreChoices f rows [] trail → to_come f lists (done_of f trail) ≡ []
 none_to_come f lists walks rows Begun h = refl
 none_to_come f lists walks rows (Wrote trail step) h = walks.unwrites (done_of f trail) step ∙ none_to_come f lists walks rows trail h
-none_to_come f lists walks rows (Chose trail goal chosen behind) (before, c, e, is, h) = absurd (no_more before c (sym e))
+none_to_come f lists walks rows (Chose trail goal chosen behind) (inr (spent, h)) =
+    ap (λ l. to_come f lists (done_of f trail ++ Goals.Chose l behind ∷ [])) spent ∙ walks.is_spent (done_of f trail) behind ∙ none_to_come f lists walks rows trail h
+none_to_come f lists walks rows (Chose trail goal chosen behind) (inl (before, c, e, is, h)) = absurd (no_more before c (sym e))

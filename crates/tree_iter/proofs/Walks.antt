@@ -1,5 +1,5 @@
 -- Walks: what is still to come when a goal is done, and when the last choice is taken again.
-use Rattle.std.proofs.Common.{◌≡◌, ℕ, zero, suc, ◌+◌, ◌-◌, ◌<◌, ◌≤◌, List, [], ◌∷◌, ◌++◌, length, map, take, drop, Some, Result, Ok, Err, refl, sym, ap, ◌∙◌, subst, length-append, arith}
+use Rattle.std.proofs.Common.{◌≡◌, inl, inr, ℕ, zero, suc, ◌+◌, ◌-◌, ◌<◌, ◌≤◌, List, [], ◌∷◌, ◌++◌, length, map, take, drop, Option, Some, None, Result, Ok, Err, refl, sym, ap, ◌∙◌, subst, length-append, arith}
 use Rattle.std.specs.Prelude.{slice_get, slice_set, slice_index_or, OnOk, OnErr}
 use Rattle.std.proofs.Math.Seq.{take-append_seam}
 use Rattle.std.proofs.lemmas.Option.{slice_get_within}
@@ -20,16 +20,15 @@ use Rattle.tree_iter.specs.declared.goals.GoalRow.{GoalRow}
 use Rattle.tree_iter.specs.declared.goals.Put.{Put}
 use Rattle.tree_iter.specs.declared.walk.Choice.{Choice}
 use Rattle.tree_iter.specs.declared.walk.Walk.{Walk}
-use Rattle.tree_iter.specs.declared.walk.Place.{Place}
-use Rattle.tree_iter.specs.declared.walk.Place.TheVariants.{Walking, At, Between}
+use Rattle.tree_iter.specs.declared.walk.Place.TheVariants.{Walking}
 use Rattle.tree_iter.specs.Linked.{Grows}
-use Rattle.tree_iter.specs.Goals.{fork_of, goal_of, IsStack, IsReady, AreReady, Puts, PutsOption}
+use Rattle.tree_iter.specs.Goals.{fork_of, goal_of, IsStack, IsReady, IsBacked, AreReady, unit, units, look, Puts, PutsOption}
 use Rattle.tree_iter.specs.Writing.{IsStepOf, AreDone, IsCounted, counts_behind}
-use Rattle.tree_iter.specs.Walk.{Trail, Begun, Wrote, Chose, done_of, steps_on, IsChoice, AreChoices, IsTrail, StandsBefore, StandsBehind, Reaches, IsAbout, IsBack, Remain, IsUnderWay}
-use Rattle.tree_iter.proofs.Linked.{append_none, drop_from, linked_top, linked_none, linked_more, linked_bound}
+use Rattle.tree_iter.specs.Walk.{IsKept, IsLast, HasSteps, Looks, Trail, Begun, Wrote, Chose, done_of, steps_on, IsChoice, AreChoices, IsTrail, StandsBefore, StandsBehind, Reaches, IsAbout, IsBack, IsUnderWay}
+use Rattle.tree_iter.proofs.Linked.{append_none, drop_from, linked_top, linked_none, linked_more, linked_taken, linked_bound}
 use Rattle.tree_iter.proofs.Written.{done_taken}
-use Rattle.tree_iter.proofs.GoalLemmas.{ready_both, option_ready, root_ready, is_goal}
-use Rattle.tree_iter.proofs.Trails.{steps_are, choice_in, choices_more, cut_at, none_to_come}
+use Rattle.tree_iter.proofs.GoalLemmas.{units_both, ready_both, option_ready, option_units, root_ready, is_goal}
+use Rattle.tree_iter.proofs.Trails.{no_more, same_ends, steps_are, choice_in, choices_more, choices_cut, cut_at, none_to_come}
 
 take_all : {X : Type 0} (k : ℕ) (xs : List X) → k ≡ length xs → take k xs ≡ xs
 take_all zero [] e = refl
@@ -70,9 +69,23 @@ pub any_ok : {T E A : Type 0} (r : Result T E) → A → OnOk r A
 any_ok (Ok x) a = a
 any_ok (Err e) a = tt
 
+pub ok_weaker : {T E A B : Type 0} (r : Result T E) → (A → B) → OnOk r A → OnOk r B
+ok_weaker (Ok x) f a = f a
+ok_weaker (Err e) f a = tt
+
 pub any_err : {T E A : Type 0} (r : Result T E) → A → OnErr r A
 any_err (Ok x) a = tt
 any_err (Err e) a = a
+
+-- a stack has one list of goals
+pub stack_one : (rows : List GoalRow) (top : ℕ) (a b : List Goal) → IsStack rows top a → IsStack rows top b → a ≡ b
+stack_one rows top [] [] h g = refl
+stack_one rows top [] (y ∷ b) h g = let e = g.0.top_is in absurd (omega (arith, h))
+stack_one rows top (x ∷ a) b h g =
+    let t = h.0 in
+    let on = linked_top (λ (r : GoalRow). goal_of r.goal) (λ r. r.below) rows t.place t.row b t.row_is (subst (λ k. IsStack rows k b) t.top_is g) in
+    let tails = stack_one rows t.row.below a on.rest h.1 on.linked in
+    (λ i. sym t.value_is i ∷ tails i) ∙ sym on.both
 
 -- the topmost goal of a walk, and the others
 pub record IsFirst (w : Walk) (rest : List (List Step)) (goal : Goal) (behind : ℕ) : Type 0 where
@@ -83,6 +96,7 @@ pub record IsFirst (w : Walk) (rest : List (List Step)) (goal : Goal) (behind : 
   pub others : List Goal
   pub linked : IsStack w.goals.items behind others
   pub ready : IsReady w.forest.now goal
+  pub backed : IsBacked goal others
   pub are_ready : AreReady w.forest.now others
   pub rest_is : rest ≡ stands w.forest.now lists (done_of w.forest.now trail) (goal ∷ others)
 
@@ -99,7 +113,8 @@ first_goal w rest place row at e h =
       others = on.rest;
       linked = on.linked;
       ready = ready.0;
-      are_ready = ready.1;
+      backed = ready.1;
+      are_ready = ready.2;
       rest_is = h.rest_is ∙ ap (stands w.forest.now h.lists (done_of w.forest.now h.trail)) on.both;
     }
 
@@ -135,20 +150,27 @@ step_ready w step behind a = (first_of w (Write step) behind a a.rest a.stands).
 pub left_within : (w : Walk) (rest : List (List Step)) → StandsBefore w rest → w.left ≤ length w.goals.items
 left_within w rest h = linked_bound (λ (r : GoalRow). goal_of r.goal) (λ r. r.below) w.goals.items w.left h.left h.left_is
 
+pub wrote_count : (w n : Walk) (step : Step) (done : List Step) → length w.counts.items ≡ length done → length n.counts.items ≡ length (done ++ step ∷ []) → length n.counts.items ≡ suc (length w.counts.items)
+wrote_count w n step done a b = let c = length-append done (step ∷ []) in omega arith
+
 -- a step was written
 pub wrote_one : (w n : Walk) (rest : List (List Step)) (step : Step) (behind : ℕ) → IsFirst w rest (Write step) behind →
     ((done : List Step) → AreDone w.forest.now.written w.forest.now.flat w.counts.items w.steps.items done → AreDone w.forest.now.written w.forest.now.flat n.counts.items n.steps.items (done ++ step ∷ [])) →
     StandsBefore (record w { left = behind; counts = n.counts; steps = n.steps }) rest
-wrote_one w n rest step behind h done = record {
-  lists = h.lists;
-  all = h.all;
-  trail = Wrote h.trail step;
-  is = record { forest = h.is.forest; choices = h.is.choices; done = done (steps_on h.trail) h.is.done };
-  left = h.others;
-  left_is = h.linked;
-  ready = h.are_ready;
-  rest_is = h.rest_is ∙ (walked w h.trail h.lists h.is h.all).walks.writes (done_of w.forest.now h.trail) step h.others;
-}
+wrote_one w n rest step behind h done =
+    let after = done (steps_on h.trail) h.is.done in
+    let longer = wrote_count w n step (steps_on h.trail) h.is.done.counted.all after.counted.all in
+    record {
+      lists = h.lists;
+      all = h.all;
+      trail = Wrote h.trail step;
+      is = record { forest = h.is.forest; choices = h.is.choices; done = after };
+      left = h.others;
+      left_is = h.linked;
+      ready = h.are_ready;
+      some = omega arith;
+      rest_is = h.rest_is ∙ (walked w h.trail h.lists h.is h.all).walks.writes (done_of w.forest.now h.trail) step h.others;
+    }
 
 -- it was not, and all is as before
 pub same_before : (w n : Walk) (rest : List (List Step)) → n.counts.items ≡ w.counts.items → n.steps.items ≡ w.steps.items → StandsBefore w rest →
@@ -167,6 +189,7 @@ same_before w n rest counts steps h =
       left = h.left;
       left_is = h.left_is;
       ready = h.ready;
+      some = subst (λ (c : List _). 0 < length c + units h.left) (sym counts) h.some;
       rest_is = h.rest_is;
     }
 
@@ -188,6 +211,7 @@ grown_before w n rest grows choices h =
       left = h.left;
       left_is = subst (λ g. IsStack g w.left h.left) (sym grows.is) (linked_more (λ (r : GoalRow). goal_of r.goal) (λ r. r.below) w.goals.items grows.more w.left h.left h.left_is);
       ready = h.ready;
+      some = h.some;
       rest_is = h.rest_is;
     }
 
@@ -224,6 +248,7 @@ chose_one w n rest goal behind c put h mark count choices p =
       among = within;
       goals = omega arith;
       behind_is = subst (λ g. IsStack g c.behind h.others) (sym old) (subst (λ k. IsStack w.goals.items k h.others) (sym mark.behind_is) h.linked);
+      backed = h.backed;
       are_ready = h.are_ready;
       steps = mark.steps ∙ sym (map_length step_of w.steps.items) ∙ ap (λ (l : List Step). length l) h.is.done.written;
       counts = mark.counts ∙ h.is.done.counted.all;
@@ -234,14 +259,139 @@ chose_one w n rest goal behind c put h mark count choices p =
       trail = Chose h.trail goal 0 h.others;
       is = record {
         forest = h.is.forest;
-        choices = (w.choices.items, c, choices, is, subst (λ g. AreChoices F g w.choices.items h.trail) (sym old) h.is.choices);
+        choices = inl (w.choices.items, c, choices, is, subst (λ g. AreChoices F g w.choices.items h.trail) (sym old) h.is.choices);
         done = h.is.done;
       };
       left = p.option ++ h.others;
       left_is = p.puts.stack h.others h.linked;
       ready = ready_both F p.option h.others (option_ready F h.lists h.is.forest known.choices goal h.ready 0 p.option p.option_is) h.are_ready;
+      some = (let backed = h.backed in let own = option_units F goal 0 p.option p.option_is in let both = units_both p.option h.others in omega arith);
       rest_is = h.rest_is ∙ known.walks.chooses (done_of F h.trail) goal h.others p.option (drop 1 (options F goal)) (is_goal F goal 0 h.ready within) opened;
     }
+
+-- so was the only option, and the choice is not kept
+pub chose_only : (w n : Walk) (rest : List (List Step)) (goal : Goal) (behind : ℕ) (put : Put) → IsFirst w rest goal behind → put.count ≤ 1 → n.choices.items ≡ w.choices.items →
+    PutsOption w.forest.now goal w.goals.items n.goals.items 0 behind put → StandsBefore (record w { goals = n.goals; left = put.top; choices = n.choices }) rest
+chose_only w n rest goal behind put h one choices p =
+    let F : Forest = w.forest.now in
+    let known = walked w h.trail h.lists h.is h.all in
+    let opened : options F goal ≡ p.option ∷ drop 1 (options F goal) = drop_from (options F goal) 0 p.option p.option_is in
+    let within = slice_get_within (options F goal) 0 p.option p.option_is in
+    let count = p.count in
+    let spent : drop 1 (options F goal) ≡ [] = drop_past 1 (options F goal) (omega arith) in
+    let more = choices_more F w.goals.items p.puts.grows.more w.choices.items h.trail h.is.choices in
+    let grown : AreChoices F n.goals.items n.choices.items h.trail =
+    subst (λ c. AreChoices F n.goals.items c h.trail) (sym choices) (subst (λ g. AreChoices F g w.choices.items h.trail) (sym p.puts.grows.is) more) in
+    record {
+      lists = h.lists;
+      all = h.all;
+      trail = Chose h.trail goal 0 h.others;
+      is = record { forest = h.is.forest; choices = inr (spent, grown); done = h.is.done };
+      left = p.option ++ h.others;
+      left_is = p.puts.stack h.others h.linked;
+      ready = ready_both F p.option h.others (option_ready F h.lists h.is.forest known.choices goal h.ready 0 p.option p.option_is) h.are_ready;
+      some = (let backed = h.backed in let own = option_units F goal 0 p.option p.option_is in let both = units_both p.option h.others in omega arith);
+      rest_is = h.rest_is ∙ known.walks.chooses (done_of F h.trail) goal h.others p.option (drop 1 (options F goal)) (is_goal F goal 0 h.ready within) opened;
+    }
+
+-- ---- rows that nothing needs are cut off
+
+pub last_within : (choices : List Choice) (last : Choice) (k : ℕ) → IsLast choices last → last.goals ≤ k → (before : List Choice) (c : Choice) → choices ≡ before ++ c ∷ [] → c.goals ≤ k
+last_within choices last k (front, e) le before c e' =
+    let same = same_ends front before last c (sym e ∙ e') in
+    subst (λ (x : Choice). x.goals ≤ k) same.lasts le
+
+pub none_within : (choices : List Choice) (k : ℕ) → choices ≡ [] → (before : List Choice) (c : Choice) → choices ≡ before ++ c ∷ [] → c.goals ≤ k
+none_within choices k none before c e = absurd (no_more before c (sym e ∙ none))
+
+pub cut_before : (w n : Walk) (rest : List (List Step)) (k : ℕ) → IsKept w k → n.goals.items ≡ take k w.goals.items → StandsBefore w rest → StandsBefore (record w { goals = n.goals }) rest
+cut_before w n rest k kept goals h =
+    let F : Forest = w.forest.now in
+    record {
+      lists = h.lists;
+      all = h.all;
+      trail = h.trail;
+      is = record {
+        forest = h.is.forest;
+        choices = subst (λ g. AreChoices F g w.choices.items h.trail) (sym goals) (choices_cut F w.goals.items k w.choices.items h.trail kept.1 h.is.choices);
+        done = h.is.done;
+      };
+      left = h.left;
+      left_is = subst (λ g. IsStack g w.left h.left) (sym goals) (linked_taken (λ (r : GoalRow). goal_of r.goal) (λ r. r.below) w.goals.items k w.left h.left kept.0 h.left_is);
+      ready = h.ready;
+      some = h.some;
+      rest_is = h.rest_is;
+    }
+
+pub cut_steps : (w n : Walk) (k : ℕ) → IsKept w k → n.goals.items ≡ take k w.goals.items → (m : ℕ) → HasSteps w m → HasSteps (record w { goals = n.goals }) m
+cut_steps w n k kept goals m h = record {
+  left = h.left;
+  left_is = subst (λ g. IsStack g w.left h.left) (sym goals) (linked_taken (λ (r : GoalRow). goal_of r.goal) (λ r. r.below) w.goals.items k w.left h.left kept.0 h.left_is);
+  count = h.count;
+}
+
+-- ---- looks
+
+-- an option of the topmost goal was put in its place
+pub put_steps : (w n : Walk) (goal : Goal) (at behind : ℕ) (put : Put) → IsAbout w goal behind → n.counts.items ≡ w.counts.items → n.left ≡ put.top →
+    PutsOption w.forest.now goal w.goals.items n.goals.items at behind put → (k : ℕ) → HasSteps w k → HasSteps n (k + look goal)
+put_steps w n goal at behind put a counts left p k h =
+    let on = linked_top (λ (r : GoalRow). goal_of r.goal) (λ r. r.below) w.goals.items a.place a.row h.left a.row_is (subst (λ t. IsStack w.goals.items t h.left) a.left_is h.left_is) in
+    let linked : IsStack w.goals.items behind on.rest = subst (λ t. IsStack w.goals.items t on.rest) a.behind_is on.linked in
+    let stands : h.left ≡ goal ∷ on.rest = on.both ∙ ap (λ g. g ∷ on.rest) a.goal_is in
+    let all : units h.left ≡ unit goal + units on.rest = ap units stands in
+    let own = option_units w.forest.now goal at p.option p.option_is in
+    let both = units_both p.option on.rest in
+    let same : length n.counts.items ≡ length w.counts.items = ap (λ (l : List _). length l) counts in
+    let sum = h.count in
+    record {
+      left = p.option ++ on.rest;
+      left_is = subst (λ t. IsStack n.goals.items t (p.option ++ on.rest)) (sym left) (p.puts.stack on.rest linked);
+      count = omega arith;
+    }
+
+-- the topmost goal was written
+pub write_steps : (w n : Walk) (step : Step) (behind : ℕ) → IsAbout w (Write step) behind → length n.counts.items ≡ suc (length w.counts.items) → n.goals.items ≡ w.goals.items → n.left ≡ behind →
+    (k : ℕ) → HasSteps w k → HasSteps n k
+write_steps w n step behind a longer goals left k h =
+    let on = linked_top (λ (r : GoalRow). goal_of r.goal) (λ r. r.below) w.goals.items a.place a.row h.left a.row_is (subst (λ t. IsStack w.goals.items t h.left) a.left_is h.left_is) in
+    let linked : IsStack w.goals.items behind on.rest = subst (λ t. IsStack w.goals.items t on.rest) a.behind_is on.linked in
+    let stands : h.left ≡ Write step ∷ on.rest = on.both ∙ ap (λ g. g ∷ on.rest) a.goal_is in
+    let same : units h.left ≡ units (Write step ∷ on.rest) = ap units stands in
+    let all : units h.left ≡ suc (units on.rest) = omega arith in
+    let sum = h.count in
+    record {
+      left = on.rest;
+      left_is = subst (λ t. IsStack n.goals.items t on.rest) (sym left) (subst (λ g. IsStack g behind on.rest) (sym goals) linked);
+      count = omega arith;
+    }
+
+-- with no goal left the walk wrote them all
+pub all_written : (w : Walk) → w.left ≡ 0 → (k : ℕ) → HasSteps w k → k ≡ length w.counts.items
+all_written w none k h =
+    let empty = linked_none (λ (r : GoalRow). goal_of r.goal) (λ r. r.below) w.goals.items h.left (subst (λ t. IsStack w.goals.items t h.left) none h.left_is) in
+    let no_units : units h.left ≡ 0 = ap units empty in
+    let sum = h.count in
+    omega arith
+
+pub has_steps : (w : Walk) (rest : List (List Step)) (h : StandsBefore w rest) → HasSteps w (length w.counts.items + units h.left)
+has_steps w rest h = record { left = h.left; left_is = h.left_is; count = refl }
+
+pub looks_none : (w : Walk) (steps : ℕ) → Looks w w steps steps
+looks_none w steps = λ n h. (0, subst (HasSteps w) (let e : n ≡ n + 0 = omega arith in e) h, (let e : steps ≡ steps + 0 = omega arith in e))
+
+pub looks_then : (a b c : Walk) (i j k : ℕ) → Looks a b i j → Looks b c j k → Looks a c i k
+looks_then a b c i j k g h = λ n has.
+    let (m, mid, e) = g n has in
+    let (l, end, e') = h (n + m) mid in
+    (m + l, subst (HasSteps c) (let s : (n + m) + l ≡ n + (m + l) = omega arith in s) end, (let s : k ≡ i + (m + l) = omega arith in s))
+
+-- a walk that leaves some and goes on to the end looked less often than the derivation has steps
+pub all_looked : (w n : Walk) (mid after before k : ℕ) → Looks w n mid after → n.left ≡ 0 → HasSteps w k → mid < before + k → after < before + length n.counts.items
+all_looked w n mid after before k looks none has lt =
+    let (more, end, e) = looks k has in
+    let all = all_written n none (k + more) end in
+    omega arith
 
 -- no goal is left
 pub reaches : (w : Walk) (rest : List (List Step)) → w.left ≡ 0 → StandsBefore w rest → Reaches w rest
@@ -255,6 +405,9 @@ reaches w rest none h =
       rest_is = h.rest_is ∙ ap (stands F h.lists (done_of F h.trail)) empty ∙ known.walks.gives (done_of F h.trail);
       behind = record { lists = h.lists; all = h.all; trail = h.trail; is = h.is; rest_is = refl };
       shows = h.is.done.written ∙ ap (steps_written F.written F.flat []) (sym (steps_are F h.trail));
+      counts = h.is.done.counted.all ∙ ap (λ (l : List Step). length l) (sym (steps_are F h.trail));
+      some = (let some = h.some in let gone : units h.left ≡ 0 = ap units empty in let counts = h.is.done.counted.all in
+          subst (λ (l : List Step). 0 < length l) (sym (steps_are F h.trail)) (omega arith));
     }
 
 -- ---- back
@@ -305,7 +458,7 @@ back_behind w n rest c grows h =
     let F : Forest = w.forest.now in
     let goals = h.goals in
     let is : AreChoices F w.goals.items w.choices.items (Chose h.trail h.goal h.chosen h.behind) =
-    (h.before, c, h.choices, h.is, subst (λ g. AreChoices F g h.before h.trail) (sym (take_all c.goals w.goals.items goals)) h.earlier) in
+    inl (h.before, c, h.choices, h.is, subst (λ g. AreChoices F g h.before h.trail) (sym (take_all c.goals w.goals.items goals)) h.earlier) in
     record {
       lists = h.lists;
       all = h.all;
@@ -360,6 +513,7 @@ chose_next w n rest c d put d_is q choices h =
       among = within;
       goals = omega arith;
       behind_is = subst (λ g. IsStack g c.behind h.behind) (sym old) linked;
+      backed = h.is.backed;
       are_ready = h.is.are_ready;
       steps = h.is.steps;
       counts = h.is.counts;
@@ -370,15 +524,30 @@ chose_next w n rest c d put d_is q choices h =
       trail = Chose h.trail h.goal (suc h.chosen) h.behind;
       is = record {
         forest = h.forest;
-        choices = (h.before, next, choices h.before h.choices ∙ ap (λ x. h.before ++ x ∷ []) d_is, is, subst (λ g. AreChoices F g h.before h.trail) (sym old) h.earlier);
+        choices = inl (h.before, next, choices h.before h.choices ∙ ap (λ x. h.before ++ x ∷ []) d_is, is, subst (λ g. AreChoices F g h.before h.trail) (sym old) h.earlier);
         done = h.done;
       };
       left = p.option ++ h.behind;
       left_is = p.puts.stack h.behind linked;
       ready = ready_both F p.option h.behind (option_ready F h.lists h.forest known.choices h.goal h.is.ready (suc h.chosen) p.option p.option_is) h.is.are_ready;
+      some = (let backed = h.is.backed in let own = option_units F h.goal (suc h.chosen) p.option p.option_is in let both = units_both p.option h.behind in omega arith);
       rest_is = h.rest_is ∙ ap (λ l. to_come F h.lists (done_of F h.trail ++ Goals.Chose l h.behind ∷ [])) opened
           ∙ known.walks.goes_on (done_of F h.trail) p.option h.behind (drop (suc (suc h.chosen)) (options F h.goal));
     }
+
+-- the looks at the option that was chosen next: none, or one, and then it is not the last step
+pub next_leaves : (w n : Walk) (rest : List (List Step)) (c : Choice) (put : Put) (before after : ℕ) → after ≡ before + look (fork_of c.fork) → IsBack w c rest →
+    PutsOption w.forest.now (fork_of c.fork) w.goals.items n.goals.items (suc c.chosen) c.behind put → n.left ≡ put.top → (k : ℕ) → HasSteps n k → after < before + k
+next_leaves w n rest c put before after looks h q left k has =
+    let F : Forest = w.forest.now in
+    let linked : IsStack w.goals.items c.behind h.behind = subst (λ g. IsStack g c.behind h.behind) (take_all c.goals w.goals.items h.goals) h.is.behind_is in
+    let same = stack_one n.goals.items n.left has.left (q.option ++ h.behind) has.left_is (subst (λ t. IsStack n.goals.items t (q.option ++ h.behind)) (sym left) (q.puts.stack h.behind linked)) in
+    let all : units has.left ≡ units (q.option ++ h.behind) = ap units same in
+    let both = units_both q.option h.behind in
+    let own = option_units F (fork_of c.fork) (suc c.chosen) q.option q.option_is in
+    let backed : 0 < unit (fork_of c.fork) + units h.behind = subst (λ g. 0 < unit g + units h.behind) (sym h.is.goal_is) h.is.backed in
+    let sum = has.count in
+    omega arith
 
 -- with no choice left there is no other derivation
 pub none_left : (w : Walk) (rest : List (List Step)) → w.choices.items ≡ [] → StandsBehind w rest → rest ≡ []
@@ -386,16 +555,15 @@ none_left w rest none h =
     let F : Forest = w.forest.now in
     h.rest_is ∙ none_to_come F h.lists (walked w h.trail h.lists h.is h.all).walks w.goals.items h.trail (subst (λ l. AreChoices F w.goals.items l h.trail) none h.is.choices)
 
-pub behind_of : (p : Place) (w : Walk) (rest : List (List Step)) → (p ≡ Walking → ⊥) → Remain p w rest → StandsBehind w rest
-behind_of Walking w rest other h = absurd (other refl)
-behind_of At w rest other h = h
-behind_of Between w rest other h = h
-
 -- ---- the beginning
 
 map_id : {X : Type 0} (xs : List X) → map (λ x. x) xs ≡ xs
 map_id [] = refl
 map_id (x ∷ xs) = ap (λ l. x ∷ l) (map_id xs)
+
+root_units : (f : Forest) (root : Option ℕ) → units (root_goals f root) ≡ 1
+root_units f None = refl
+root_units f (Some n) = refl
 
 pub begun_walk : (w : Walk) → IsForest w.forest.now → w.choices.items ≡ [] → w.counts.items ≡ [] → w.steps.items ≡ [] →
     Puts [] w.goals.items 0 w.left (root_goals w.forest.now w.forest.now.root) → IsUnderWay w 0 Walking
@@ -426,6 +594,7 @@ begun_walk w is choices counts steps puts =
         left = goals;
         left_is = subst (IsStack w.goals.items w.left) (append_none goals) (puts.stack [] refl);
         ready = root_ready F is F.root is.root;
+        some = (let own = root_units F F.root in omega arith);
         rest_is = sym known.root ∙ sym (append_none (map (λ x. x) (steps_from F l.0 goals)) ∙ map_id (steps_from F l.0 goals));
       };
     }

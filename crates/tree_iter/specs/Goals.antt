@@ -1,5 +1,5 @@
 -- Goals as they are kept, and the stacks of them.
-use Rattle.std.specs.Prelude.{◌≡◌, ℕ, List, [], ◌∷◌, ◌++◌, length, Some, slice_get}
+use Rattle.std.specs.Prelude.{◌≡◌, ℕ, ◌+◌, ◌<◌, List, [], ◌∷◌, ◌++◌, length, Some, slice_get}
 use Rattle.forest_model.specs.Forest.{Forest}
 use Rattle.forest_laws.specs.Goals.{Goal, Parts, OneOf, Write, options, IsGoal}
 use Rattle.tree_iter.specs.declared.goals.Fork.{Fork}
@@ -28,9 +28,29 @@ IsReady f (Parts node) = IsGoal f (Parts node)
 IsReady f (OneOf start end nodes) = IsGoal f (OneOf start end nodes)
 IsReady f (Write step) = IsStepOf f.flat step
 
+-- a goal becomes one step in the end; parts alone become none of their own
+abbrev pub unit : Goal → ℕ
+unit (Parts node) = 0
+unit (OneOf start end nodes) = 1
+unit (Write step) = 1
+
+abbrev pub units : List Goal → ℕ
+units [] = 0
+units (goal ∷ goals) = unit goal + units goals
+
+-- to choose an option of parts, their alternatives are looked at once
+abbrev pub look : Goal → ℕ
+look (Parts node) = 1
+look (OneOf start end nodes) = 0
+look (Write step) = 0
+
+-- behind parts there is a goal that becomes a step
+abbrev pub IsBacked : Goal → List Goal → Type 0
+IsBacked goal behind = 0 < unit goal + units behind
+
 abbrev pub AreReady : Forest → List Goal → Type 0
 AreReady f [] = Unit {0}
-AreReady f (goal ∷ goals) = IsReady f goal × AreReady f goals
+AreReady f (goal ∷ goals) = IsReady f goal × IsBacked goal goals × AreReady f goals
 
 -- goals were put on top of a stack
 pub record Puts (old new : List GoalRow) (behind top : ℕ) (goals : List Goal) : Type 0 where

@@ -1,7 +1,8 @@
 -- An iterator over the derivations of a forest, as its callers see it.
-use Rattle.std.specs.Prelude.{◌≡◌, ℕ, Bool, true, false, List, [], ◌∷◌, ◌++◌, length, Option, Some, None}
+use Rattle.std.specs.Prelude.{◌≡◌, ℕ, ◌+◌, ◌≤◌, Bool, true, false, List, [], ◌∷◌, ◌++◌, length, Option, Some, None}
 use Rattle.grammar_model.specs.Trees.{Tree}
 use Rattle.grammar_model.specs.Steps.{Step, steps_of}
+use Rattle.recognizer_model.specs.Links.{choices}
 use Rattle.forest_model.specs.Forest.{Forest}
 use Rattle.forest_model.specs.Listing.{IsListing, AreFirst}
 
@@ -27,3 +28,8 @@ begun f = record { forest = f; given = 0; current = None }
 abbrev pub IsAnswer : (new : Iteration) → (given : List Tree) → Bool → Type 0
 IsAnswer new given true = (tree : Tree) × AreGiven new (given ++ tree ∷ []) × (new.current ≡ Some (steps_of tree))
 IsAnswer new given false = IsListing new.forest given
+
+-- the steps of a call: at most the choices of the derivation that it gives, and none where it gives none
+abbrev pub AreFew : (new : Iteration) → (given : List Tree) → Bool → (before after : ℕ) → Type 0
+AreFew new given true before after = (tree : Tree) → AreGiven new (given ++ tree ∷ []) → after ≤ before + choices tree
+AreFew new given false before after = after ≡ before

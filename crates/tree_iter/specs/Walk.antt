@@ -1,5 +1,5 @@
 -- A walk through a forest as it is kept: what it has done, what it has left, and what is still to come.
-use Rattle.std.specs.Prelude.{◌≡◌, ℕ, suc, ◌<◌, ◌≤◌, Bool, true, false, List, [], ◌∷◌, ◌++◌, length, map, take, drop, Option, Some, None, slice_get}
+use Rattle.std.specs.Prelude.{◌≡◌, ◌⊎◌, ℕ, suc, ◌+◌, ◌<◌, ◌≤◌, Bool, true, false, List, [], ◌∷◌, ◌++◌, length, map, take, drop, Option, Some, None, slice_get}
 use Rattle.grammar_core.specs.declared.steps.TreeStep.{TreeStep}
 use Rattle.grammar_core.specs.Steps.{step_of}
 use Rattle.grammar_model.specs.Steps.{Step, steps_of}
@@ -15,7 +15,7 @@ use Rattle.tree_iter.specs.declared.walk.Walk.{Walk}
 use Rattle.tree_iter.specs.declared.walk.Place.{Place}
 use Rattle.tree_iter.specs.declared.walk.Place.TheVariants.{Walking, At, Between}
 use Rattle.tree_iter.specs.Writing.{AreDone}
-use Rattle.tree_iter.specs.Goals.{fork_of, goal_of, IsStack, IsReady, AreReady}
+use Rattle.tree_iter.specs.Goals.{fork_of, goal_of, IsStack, IsReady, IsBacked, AreReady, units}
 
 -- what a walk has done, the newest last: it wrote a step, or chose an option of a goal, with other goals behind that goal
 pub data Trail : Type 0 where
@@ -43,15 +43,18 @@ pub record IsChoice (f : Forest) (rows : List GoalRow) (trail : Trail) (goal : G
   pub among : chosen < length (options f goal)
   pub goals : c.goals ≤ length rows
   pub behind_is : IsStack (take c.goals rows) c.behind behind
+  pub backed : IsBacked goal behind
   pub are_ready : AreReady f behind
   pub steps : c.steps ≡ length (steps_written f.written f.flat [] (steps_on trail))
   pub counts : c.counts ≡ length (steps_on trail)
 
+-- each choice is kept, or has no later option
 abbrev pub AreChoices : Forest → List GoalRow → List Choice → Trail → Type 0
 AreChoices f rows choices Begun = choices ≡ []
 AreChoices f rows choices (Wrote trail step) = AreChoices f rows choices trail
 AreChoices f rows choices (Chose trail goal chosen behind) =
-    (before : List Choice) × (c : Choice) × (choices ≡ before ++ c ∷ []) × IsChoice f rows trail goal chosen behind c × AreChoices f (take c.goals rows) before trail
+    ((before : List Choice) × (c : Choice) × (choices ≡ before ++ c ∷ []) × IsChoice f rows trail goal chosen behind c × AreChoices f (take c.goals rows) before trail)
+    ⊎ ((drop (suc chosen) (options f goal) ≡ []) × AreChoices f rows choices trail)
 
 -- the walk has come along this trail
 pub record IsTrail (w : Walk) (trail : Trail) : Type 0 where
@@ -68,6 +71,7 @@ pub record StandsBefore (w : Walk) (rest : List (List Step)) : Type 0 where
   pub left : List Goal
   pub left_is : IsStack w.goals.items w.left left
   pub ready : AreReady w.forest.now left
+  pub some : 0 < length w.counts.items + units left
   pub rest_is : rest ≡ stands w.forest.now lists (done_of w.forest.now trail) left
 
 -- the walk has come to the end of a derivation, and these are those behind it
@@ -82,6 +86,26 @@ pub record StandsBehind (w : Walk) (rest : List (List Step)) : Type 0 where
 abbrev pub Shows : Walk → List Step → Type 0
 Shows w steps = map step_of w.steps.items ≡ steps_written w.forest.now.written w.forest.now.flat [] steps
 
+-- so many flat steps the walk wrote, and has goals left for
+pub record HasSteps (w : Walk) (n : ℕ) : Type 0 where
+  pub left : List Goal
+  pub left_is : IsStack w.goals.items w.left left
+  pub count : n ≡ length w.counts.items + units left
+
+-- each look at alternatives makes a derivation longer by one step
+abbrev pub Looks : (old new : Walk) → (before after : ℕ) → Type 0
+Looks old new before after = (n : ℕ) → HasSteps old n → (looked : ℕ) × HasSteps new (n + looked) × (after ≡ before + looked)
+
+-- there were fewer looks than the derivation has steps, and none where there is no derivation
+abbrev pub AreFewLooks : Walk → Bool → (before after : ℕ) → Type 0
+AreFewLooks w true before after = after < before + length w.counts.items
+AreFewLooks w false before after = after ≡ before
+
+-- so few that the walk may go on from there
+abbrev pub LeavesSome : Walk → Bool → (before after : ℕ) → Type 0
+LeavesSome w true before after = (n : ℕ) → HasSteps w n → after < before + n
+LeavesSome w false before after = after ≡ before
+
 -- the walk came to the end of the first of those derivations
 pub record Reaches (w : Walk) (rest : List (List Step)) : Type 0 where
   pub first : List Step
@@ -89,6 +113,8 @@ pub record Reaches (w : Walk) (rest : List (List Step)) : Type 0 where
   pub rest_is : rest ≡ first ∷ later
   pub behind : StandsBehind w later
   pub shows : Shows w first
+  pub counts : length w.counts.items ≡ length first
+  pub some : 0 < length first
 
 -- the walk is on the next derivation, or there is none
 abbrev pub Turns : Walk → List (List Step) → Bool → Type 0
@@ -109,6 +135,10 @@ pub record IsAbout (w : Walk) (goal : Goal) (behind : ℕ) : Type 0 where
   pub row_is : slice_get w.goals.items place ≡ Some row
   pub goal_is : goal_of row.goal ≡ goal
   pub behind_is : row.below ≡ behind
+
+-- the rows below that place are all that is left or that a choice goes back to
+abbrev pub IsKept : Walk → ℕ → Type 0
+IsKept w k = (w.left ≤ k) × ((before : List Choice) (c : Choice) → w.choices.items ≡ before ++ c ∷ [] → c.goals ≤ k)
 
 abbrev pub IsLast : List Choice → Choice → Type 0
 IsLast choices choice = (before : List Choice) × (choices ≡ before ++ choice ∷ [])
@@ -133,30 +163,18 @@ pub record IsBack (w : Walk) (choice : Choice) (rest : List (List Step)) : Type 
 -- what is still to come, by where the walk is
 abbrev pub Remain : Place → Walk → List (List Step) → Type 0
 Remain Walking w rest = StandsBefore w rest
-Remain At w rest = StandsBehind w rest
+Remain At w rest = Reaches w rest
 Remain Between w rest = StandsBehind w rest
 
-abbrev pub current_of : Place → List TreeStep → Option (List Step)
-current_of Walking steps = None
-current_of At steps = Some (map step_of steps)
-current_of Between steps = None
+-- the steps that are shown, if any
+abbrev pub current_of : Bool → List TreeStep → Option (List Step)
+current_of true steps = Some (map step_of steps)
+current_of false steps = None
 
--- the walk reached one more derivation and is at it, or there is none
+-- the walk is at one more derivation, or there is none
 abbrev pub Advances : Place → Walk → List (List Step) → Bool → Type 0
 Advances place w rest true = (place ≡ At) × Reaches w rest
 Advances place w rest false = (place ≡ Between) × StandsBehind w rest × (rest ≡ [])
-
--- a walk that is at a derivation leaves it
-abbrev pub left : Place → Place
-left Walking = Walking
-left At = Between
-left Between = Between
-
--- nothing is lost, and the walk is at no derivation
-abbrev pub Waits : Place → Walk → List (List Step) → Type 0
-Waits Walking w rest = StandsBefore w rest
-Waits At w rest = ⊥
-Waits Between w rest = StandsBehind w rest
 
 -- so many derivations were taken, and the others remain
 pub record IsUnderWay (w : Walk) (given : ℕ) (place : Place) : Type 0 where

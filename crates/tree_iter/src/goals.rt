@@ -1,11 +1,11 @@
 //! What a walk through a forest has left to do: goals, in stacks that share what lies below.
-ghost use Rattle.std.specs.Prelude.{◌≡◌, ◌<◌, ◌∷◌, [], length, slice_get, Some, IfOk, OnErr};
+ghost use Rattle.std.specs.Prelude.{◌≡◌, ◌+◌, ◌<◌, ◌∷◌, [], length, slice_get, Some, IfOk, OnErr};
 ghost use Rattle.forest_laws.specs.Goals.{IsGoal, options, alternative_goals, last_goals, whole_goals, root_goals};
 ghost use Rattle.forest_laws.specs.Lists.{last_symbol as symbol_of_last};
 ghost use Rattle.bocage.specs.Rows.{part_told};
 ghost use Rattle.bocage.specs.Readers.{alternative_at, node_at};
 ghost use Rattle.tree_iter.specs.Linked.{Grows};
-ghost use Rattle.tree_iter.specs.Goals.{fork_of, goal_of, Puts, PutsOption};
+ghost use Rattle.tree_iter.specs.Goals.{fork_of, goal_of, look, Puts, PutsOption};
 
 use crate::writing::FlatStep;
 use bocage::{Alternatives, Forest, LastPart};
@@ -157,6 +157,7 @@ pub fn put_option<'f, L: Ledger>(
     requires at { at < length (options forest.now (fork_of fork)) }
     ensures ok { IfOk result (λ put. PutsOption forest.now (fork_of fork.entry) rows.old.items rows.new.items at behind put) }
     ensures err { OnErr result (Grows rows.old.items rows.new.items) }
+    ensures looks { steps.new ≡ steps.old + look (fork_of fork.entry) }
 {
     match fork {
         Fork::Parts(node) => {

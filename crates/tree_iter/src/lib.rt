@@ -1,4 +1,4 @@
-//! The derivations of a forest, one after another in the declared order, and beside that the plain lister as a yardstick.
+//! The derivations of a forest, one after another in the declared order.
 #![tactic(auto)]
 
 mod goals;
@@ -7,4 +7,3 @@ mod walk;
 mod writing;
 
 pub use iter::TreeIter;
-pub use plain_lister::{SlowList, list_simple};

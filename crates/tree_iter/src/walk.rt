@@ -1,11 +1,11 @@
 //! A walk through a forest from one derivation to the next. It goes back to the last choice that has a later option, and on by first
 //! options from there, so that what the two derivations share at their beginning is not done again.
-ghost use Rattle.std.specs.Prelude.{◌≡◌, ◌+◌, ◌<◌, [], List, IfOk, OnOk, OnErr, IfSome, IsNone};
+ghost use Rattle.std.specs.Prelude.{◌≡◌, ℕ, true, ◌+◌, ◌<◌, [], List, IfOk, OnOk, OnErr, IfSome, IsNone};
 ghost use Rattle.grammar_model.specs.Steps.{Step};
 ghost use Rattle.forest_laws.specs.Goals.{Write};
 ghost use Rattle.tree_iter.specs.Writing.{flat_step};
 ghost use Rattle.tree_iter.specs.Goals.{fork_of};
-ghost use Rattle.tree_iter.specs.Walk.{IsAbout, IsBack, Goes, StandsBefore, StandsBehind, Reaches, Turns, Remain, Advances, Waits, IsUnderWay, left, IsLast};
+ghost use Rattle.tree_iter.specs.Walk.{IsKept, HasSteps, Looks, AreFewLooks, LeavesSome, IsAbout, IsBack, Goes, StandsBefore, StandsBehind, Reaches, Turns, Remain, Advances, IsUnderWay, IsLast};
 ghost use Rattle.tree_iter.specs.declared.walk.Place.TheVariants.{Walking};
 
 use crate::goals::{Fork, Goal, GoalRow, goal_row, put_option, put_root};
@@ -29,7 +29,7 @@ pub struct Choice<'f> {
     pub counts: usize,
 }
 
-/// Where a walk is: on the way to a derivation, at one, or behind those that were given.
+/// Where a walk is: on the way to the next derivation, at it, or behind those that were given.
 #[derive(Clone, Copy)]
 pub enum Place {
     Walking,
@@ -67,7 +67,7 @@ impl<'f> Walk<'f> {
         })
     }
 
-    // Chooses the first option of a fork.
+    // Chooses the first option of a fork, and keeps the choice where there is another.
     fn choose<L: Ledger>(
         &mut self,
         fork: Fork<'f>,
@@ -76,19 +76,22 @@ impl<'f> Walk<'f> {
     ) -> Result<(), NoMemory>
         requires { IsAbout self.old (fork_of fork) behind }
         ensures goes { Goes self.old self.new }
+        ensures looks { OnOk result (Looks self.old self.new steps.old steps.new) }
         ensures forest { self.new.forest ≡ self.old.forest }
     {
         let goals = self.goals.as_slice().len();
         let put = put_option(&mut self.goals, self.forest, fork, 0, behind, steps)?;
-        self.choices.push(Choice {
-            fork,
-            chosen: 0,
-            count: put.count,
-            behind,
-            goals,
-            steps: self.steps.as_slice().len(),
-            counts: self.counts.as_slice().len(),
-        })?;
+        if put.count > 1 {
+            self.choices.push(Choice {
+                fork,
+                chosen: 0,
+                count: put.count,
+                behind,
+                goals,
+                steps: self.steps.as_slice().len(),
+                counts: self.counts.as_slice().len(),
+            })?;
+        }
         self.left = put.top;
         Ok(())
     }
@@ -97,6 +100,7 @@ impl<'f> Walk<'f> {
     fn write(&mut self, step: FlatStep, behind: usize) -> Result<(), NoMemory>
         requires { IsAbout self.old (Write (flat_step step)) behind }
         ensures goes { Goes self.old self.new }
+        ensures keeps { OnOk result ((n : ℕ) → HasSteps self.old n → HasSteps self.new n) }
         ensures forest { self.new.forest ≡ self.old.forest }
     {
         write_step(
@@ -107,7 +111,28 @@ impl<'f> Walk<'f> {
             step,
         )?;
         self.left = behind;
+        self.let_go();
         Ok(())
+    }
+
+    // How many rows of goals are left, or may be gone back to.
+    fn kept(&self) -> usize
+        ensures { IsKept self.now result }
+    {
+        match self.last_choice() {
+            Some(choice) if choice.goals > self.left => choice.goals,
+            _ => self.left,
+        }
+    }
+
+    // Lets go of the goals that are done and that no choice goes back to.
+    fn let_go(&mut self)
+        ensures goes { Goes self.old self.new }
+        ensures keeps { (n : ℕ) → HasSteps self.old n → HasSteps self.new n }
+        ensures forest { self.new.forest ≡ self.old.forest }
+    {
+        let kept = self.kept();
+        self.goals.truncate(kept);
     }
 
     // Does the topmost goal that is left.
@@ -115,6 +140,7 @@ impl<'f> Walk<'f> {
         requires some { 0 < self.old.left }
         requires stands { (rest : List (List Step)) × StandsBefore self.old rest }
         ensures goes { Goes self.old self.new }
+        ensures looks { OnOk result (Looks self.old self.new steps.old steps.new) }
         ensures forest { self.new.forest ≡ self.old.forest }
     {
         let row = goal_row(&self.goals, self.left - 1);
@@ -128,6 +154,8 @@ impl<'f> Walk<'f> {
     fn go_on<L: Ledger>(&mut self, steps: &mut Steps<L>) -> Result<(), NoMemory>
         requires { (rest : List (List Step)) × StandsBefore self.old rest }
         ensures ok { OnOk result ((rest : List (List Step)) → StandsBefore self.old rest → Reaches self.new rest) }
+        ensures looks { OnOk result (Looks self.old self.new steps.old steps.new) }
+        ensures none { OnOk result (self.new.left ≡ 0) }
         ensures err { OnErr result (Goes self.old self.new) }
         ensures forest { self.new.forest ≡ self.old.forest }
     {
@@ -169,6 +197,7 @@ impl<'f> Walk<'f> {
         requires back { (rest : List (List Step)) × IsBack self.old choice rest }
         requires later { choice.chosen + 1 < choice.count }
         ensures ok { OnOk result ((rest : List (List Step)) → IsBack self.old choice.entry rest → StandsBefore self.new rest) }
+        ensures looks { OnOk result (LeavesSome self.new true steps.old steps.new) }
         ensures err { OnErr result ((rest : List (List Step)) → IsBack self.old choice.entry rest → StandsBehind self.new rest) }
         ensures forest { self.new.forest ≡ self.old.forest }
     {
@@ -191,6 +220,7 @@ impl<'f> Walk<'f> {
     fn go_back<L: Ledger>(&mut self, steps: &mut Steps<L>) -> Result<bool, NoMemory>
         requires { (rest : List (List Step)) × StandsBehind self.old rest }
         ensures ok { IfOk result (λ more. (rest : List (List Step)) → StandsBehind self.old rest → Turns self.new rest more) }
+        ensures looks { IfOk result (λ more. LeavesSome self.new more steps.old steps.new) }
         ensures err { OnErr result ((rest : List (List Step)) → StandsBehind self.old rest → StandsBehind self.new rest) }
         ensures forest { self.new.forest ≡ self.old.forest }
     {
@@ -214,13 +244,14 @@ pub fn advance<L: Ledger>(
 ) -> Result<bool, NoMemory>
     requires { (rest : List (List Step)) × Remain place.old walk.old rest }
     ensures ok { IfOk result (λ more. (rest : List (List Step)) → Remain place.old walk.old rest → Advances place.new walk.new rest more) }
-    ensures err { OnErr result ((rest : List (List Step)) → Remain place.old walk.old rest → Waits place.new walk.new rest) }
+    ensures few { IfOk result (λ more. AreFewLooks walk.new more steps.old steps.new) }
+    ensures err { OnErr result ((rest : List (List Step)) → Remain place.old walk.old rest → Remain place.new walk.new rest) }
     ensures forest { walk.new.forest ≡ walk.old.forest }
 {
     match *place {
+        Place::At => return Ok(true),
         Place::Walking => {}
-        _ => {
-            *place = Place::Between;
+        Place::Between => {
             if !walk.go_back(steps)? {
                 return Ok(false);
             }
@@ -230,14 +261,4 @@ pub fn advance<L: Ledger>(
     walk.go_on(steps)?;
     *place = Place::At;
     Ok(true)
-}
-
-/// Leaves a derivation, if the walk is at one.
-pub fn leave(place: &mut Place)
-    ensures { place.new ≡ left place.old }
-{
-    match *place {
-        Place::At => *place = Place::Between,
-        _ => {}
-    }
 }

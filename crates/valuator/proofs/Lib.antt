@@ -4,4 +4,3 @@ pub mod Every
 pub mod Following
 pub mod Derived
 pub mod Firsts
-mod RowLemmas

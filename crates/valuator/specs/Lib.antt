@@ -2,4 +2,3 @@ pub mod Told
 pub mod Made
 pub mod Play
 pub mod Nulling
-pub mod Rows

@@ -14,8 +14,3 @@ pub use grammar_model::Show;
 pub use playing::play;
 pub use teller::Teller;
 pub use tree::TreeTeller;
-
-#[cfg(test)]
-mod rows;
-#[cfg(test)]
-mod tests;

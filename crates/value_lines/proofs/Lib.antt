@@ -2,3 +2,4 @@ pub mod Meanings
 pub mod Playing
 pub mod Fitting
 pub mod Texts
+pub mod Counting

@@ -5,18 +5,20 @@ use Rattle.grammar_model.specs.declared.Show.{Show}
 use Rattle.grammar_core.specs.declared.steps.Span.{Span}
 use Rattle.language_model.specs.Building.{Built}
 use Rattle.reading_model.specs.Reading.{Piece, End, IsReading, edges_of, place_after, spans_from}
+use Rattle.flat_rules.specs.Flattened.{IsFlattened}
 use Rattle.forest_model.specs.Forest.{Forest}
 use Rattle.forest_model.specs.Listing.{IsListing}
 use Rattle.scanless.specs.Reading.{span_of}
 use Rattle.tree_iter.specs.Iteration.{Iteration, AreGiven}
 use Rattle.run_model.specs.Listing.{line_of}
 
--- the forest is that of the pieces, and these are the spans of their tokens
+-- the forest is that of the pieces, by the flat grammar that is listed, and these are the spans of their tokens
 pub record IsForestOf (b : Built) (cs : List ℕ) (spans : List Span) (f : Forest) (pieces : List Piece) : Type 0 where
   pub few : length cs ≤ 16777216
   pub reading : IsReading b cs pieces End
   pub spans_are : map span_of spans ≡ spans_from 0 pieces
   pub written : f.written ≡ b.g1
+  pub flat : IsFlattened b.g1 f.flat
   pub start : f.start ≡ 0
   pub edges : f.edges ≡ edges_of pieces
   pub place : f.place ≡ place_after pieces

@@ -1,8 +1,10 @@
-//! The lines of the derivations of a reading, one after another in the declared order.
+//! The lines of the derivations of a reading, one after another in the declared order, and those of its numbers.
 #![tactic(auto)]
 
+mod counts;
 mod lines;
 mod writing;
 
+pub use counts::{count_derivations, stats_line, work_line};
 pub use lines::next_line;
 pub use writing::{WriteRefusal, write_derivations};

@@ -13,6 +13,3 @@ pub use meaning::{Action, Items, Meaning, RuleMeaning};
 pub use no_memory::NoMemory;
 pub use pool::{Pool, ValueId};
 pub use text::append_text;
-
-#[cfg(test)]
-mod tests;

@@ -1,48 +1,47 @@
-use Rattle.std.proofs.Common.{◌≡◌, ◌+◌, List, [], sym, subst, arith}
-use Rattle.earley_sets.proofs.Membership.{Contains-none}
-use Rattle.bocage.specs.declared.parts.Part.{Part}
-use Rattle.bocage.specs.Parts.{part_at}
-use Rattle.bocage.specs.Walk.{Lists, BeginsIn, IsGroup, IsNext}
-use Rattle.bocage.proofs.RowLemmas.{taken_whole}
+use Rattle.std.proofs.Common.{◌∙◌, List, [], get_or, Contains, sym, ap, subst}
+use Rattle.earley_sets.specs.Recognizer.{set_at}
+use Rattle.earley_sets.proofs.Membership.{Contains-none, got_at, get_at}
+use Rattle.bocage.specs.declared.joins.Join.{Join}
+use Rattle.bocage.specs.declared.groups.Group.{Group}
+use Rattle.bocage.specs.Walk.{Lists, BeginsIn, IsNext}
+use Rattle.bocage.proofs.RowLemmas.{there, taken_whole}
+use Rattle.bocage.proofs.JoinOrder.{no_join}
 use Rattle.bocage.proofs.Growing.{lists_none}
-use Rattle.bocage.proofs.Grouping.{same_ends, same_symbols, is_group, next_is, lists_next, apart_past}
+use Rattle.bocage.proofs.Joining.{no_group, group_of_join, lists_next}
 use Rattle.bocage.proofs.walk.put_alternatives.Goals as goal
 
-pub loop-k-init : goal.loop-k-init
-loop-k-init c = record {
-  within = omega arith;
-  listed = lists_none c.args.known.now c.args.front c.args.symbol c.args.end (BeginsIn []) c.args.found.now (λ m (p, h, s) i. Contains-none p h);
-  apart = λ i j lt le l. absurd (omega arith);
-}
+pub loop-join-init : goal.loop-join-init
+loop-join-init c = lists_none c.args.known.now c.args.front c.args.symbol (BeginsIn c.args.known.now []) c.args.found.now (λ m (j, g, h, s, q) i. Contains-none j h)
 
-pub end_of_length-past-requires-clause-ends : goal.end_of_length-past-requires-clause-ends
-end_of_length-past-requires-clause-ends c = same_ends c.args.known.now c.requires.knows c.args.front c.args.symbol c.args.end c.args.parts.now c.requires.parts
-
-pub end_of_length-past-requires-clause-symbols : goal.end_of_length-past-requires-clause-symbols
-end_of_length-past-requires-clause-symbols c = same_symbols c.args.known.now c.requires.knows c.args.front c.args.symbol c.args.end c.args.parts.now c.requires.parts
+pub bounds-known-join : goal.bounds-known-join
+bounds-known-join c =
+    let (g, at, in_set, s) = group_of_join c.args.known.now c.requires.knows c.args.front c.args.symbol c.requires.next c.args.joins.now c.requires.joins (get_or c.args.joins.now c.loop-join.join-index no_join) (there c.args.joins.now c.loop-join.join-index no_join c.loop-join-test.true) in
+    (got_at c.args.known.now.groups.now (get_or c.args.joins.now c.loop-join.join-index no_join).group g no_group (sym at)).0
 
 pub put_alternative-requires-clause-group : goal.put_alternative-requires-clause-group
 put_alternative-requires-clause-group c =
-    let e = c.end_of_length-past.ensures in
-    subst (λ (l : List Part). IsGroup c.args.known.now.parts.now l) (sym c.parts_between.ensures)
-    (is_group c.args.known.now c.requires.knows c.args.front c.args.symbol c.args.end c.args.parts.now c.requires.parts c.loop-k.k c.end_of_length-past.result c.loop-k-test.true e.order e.bound e.below e.above c.loop-k.invariant.apart)
+    let (g, at, in_set, s) = group_of_join c.args.known.now c.requires.knows c.args.front c.args.symbol c.requires.next c.args.joins.now c.requires.joins (get_or c.args.joins.now c.loop-join.join-index no_join) (there c.args.joins.now c.loop-join.join-index no_join c.loop-join-test.true) in
+    there c.args.known.now.groups.now (get_or c.args.joins.now c.loop-join.join-index no_join).group no_group (got_at c.args.known.now.groups.now (get_or c.args.joins.now c.loop-join.join-index no_join).group g no_group (sym at)).0
 
 pub put_alternative-requires-clause-next : goal.put_alternative-requires-clause-next
 put_alternative-requires-clause-next c =
-    let e = c.end_of_length-past.ensures in
-    subst (λ (l : List Part). IsNext c.args.known.now c.args.front (part_at l 0).symbol (part_at l 0).end) (sym c.parts_between.ensures)
-    (next_is c.args.known.now c.requires.knows c.args.front c.args.symbol c.args.end c.args.parts.now c.requires.parts c.loop-k.k c.end_of_length-past.result c.loop-k-test.true e.order e.bound e.below e.above c.loop-k.invariant.apart c.requires.next)
+    let (g, at, in_set, s) = group_of_join c.args.known.now c.requires.knows c.args.front c.args.symbol c.requires.next c.args.joins.now c.requires.joins (get_or c.args.joins.now c.loop-join.join-index no_join) (there c.args.joins.now c.loop-join.join-index no_join c.loop-join-test.true) in
+    let (lt, same) = got_at c.args.known.now.groups.now (get_or c.args.joins.now c.loop-join.join-index no_join).group g no_group (sym at) in
+    subst (λ x. IsNext c.args.known.now c.args.front x) (sym (ap (λ (z : Group). z.symbol) same ∙ s)) c.requires.next
 
-pub loop-k-preserved : goal.loop-k-preserved
-loop-k-preserved c =
-    let e = c.end_of_length-past.ensures in
-    record {
-      within = e.bound;
-      listed = lists_next c.args.known.now c.requires.knows c.args.front c.args.symbol c.args.end c.args.parts.now c.requires.parts c.loop-k.k c.end_of_length-past.result c.loop-k-test.true e.order e.bound e.below e.above c.loop-k.invariant.apart
-          c.args.found.now c.loop-k.found c.put_alternative.new.found c.loop-k.invariant.listed
-          (subst (λ (l : List Part). Lists c.args.known.now c.args.front (part_at l 0).symbol (part_at l 0).end (λ m. m + (part_at l 0).length ≡ (part_at l 0).end) c.loop-k.found c.put_alternative.new.found) c.parts_between.ensures c.in_ok-put_alternative.ensures);
-      apart = apart_past c.args.known.now c.requires.knows c.args.front c.args.symbol c.args.end c.args.parts.now c.requires.parts c.loop-k.k c.end_of_length-past.result c.loop-k-test.true e.order e.bound e.below e.above c.loop-k.invariant.apart;
-    }
+pub put_alternative-requires-clause-there : goal.put_alternative-requires-clause-there
+put_alternative-requires-clause-there c =
+    let (g, at, in_set, s) = group_of_join c.args.known.now c.requires.knows c.args.front c.args.symbol c.requires.next c.args.joins.now c.requires.joins (get_or c.args.joins.now c.loop-join.join-index no_join) (there c.args.joins.now c.loop-join.join-index no_join c.loop-join-test.true) in
+    let (lt, same) = got_at c.args.known.now.groups.now (get_or c.args.joins.now c.loop-join.join-index no_join).group g no_group (sym at) in
+    subst (λ (z : Group). Contains (set_at c.args.known.now.recce.now z.start) c.args.front) (sym same) in_set
+
+pub loop-join-preserved : goal.loop-join-preserved
+loop-join-preserved c =
+    let (g, at, in_set, s) = group_of_join c.args.known.now c.requires.knows c.args.front c.args.symbol c.requires.next c.args.joins.now c.requires.joins (get_or c.args.joins.now c.loop-join.join-index no_join) (there c.args.joins.now c.loop-join.join-index no_join c.loop-join-test.true) in
+    let (lt, same) = got_at c.args.known.now.groups.now (get_or c.args.joins.now c.loop-join.join-index no_join).group g no_group (sym at) in
+    lists_next c.args.known.now c.requires.knows c.args.front c.args.symbol c.requires.next c.args.joins.now c.requires.joins c.loop-join.join-index c.loop-join-test.true
+    (get_or c.args.known.now.groups.now (get_or c.args.joins.now c.loop-join.join-index no_join).group no_group) (get_at c.args.known.now.groups.now (get_or c.args.joins.now c.loop-join.join-index no_join).group no_group lt) c.args.found.now c.loop-join.found c.put_alternative.new.found
+    c.loop-join.invariant c.in_ok-put_alternative.ensures
 
 pub returns : goal.returns
-returns c = subst (λ (l : List Part). Lists c.args.known.now c.args.front c.args.symbol c.args.end (BeginsIn l) c.args.found.now c.loop-k.found) (taken_whole c.args.parts.now c.loop-k.k c.loop-k-test.false) c.loop-k.invariant.listed
+returns c = subst (λ (l : List Join). Lists c.args.known.now c.args.front c.args.symbol (BeginsIn c.args.known.now l) c.args.found.now c.loop-join.found) (taken_whole c.args.joins.now c.loop-join.join-index c.loop-join-test.false) c.loop-join.invariant

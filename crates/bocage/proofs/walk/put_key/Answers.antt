@@ -22,14 +22,11 @@ put_node-requires-clause-rule c = (used_within c.args.known.now.recce.now c.requ
 pub put_node-requires-clause-next : goal.put_node-requires-clause-next
 put_node-requires-clause-next c =
     let e = c.rhs.ensures ∙ ap (λ (g : FlatGrammar). rhs_of g c.args.key.rule) c.flat.ensures in
-    next_of_key c.args.known.now c.requires.knows c.args.key c.requires.used (get_or c.rhs.result.now (c.args.key.dot - 1) 0) (ap (λ (l : List ℕ). get_or l (c.args.key.dot - 1) 0) e)
-
-pub put_node-requires-clause-origin : goal.put_node-requires-clause-origin
-put_node-requires-clause-origin c = (used_within c.args.known.now.recce.now c.requires.knows.is c.args.key c.requires.used).forward
+    next_of_key c.args.known.now c.requires.knows c.args.key c.requires.used c.requires.end c.requires.least (get_or c.rhs.result.now (c.args.key.dot - 1) 0) (ap (λ (l : List ℕ). get_or l (c.args.key.dot - 1) 0) e)
 
 pub returns : goal.returns
 returns c =
     let w = used_within c.args.known.now.recce.now c.requires.knows.is c.args.key c.requires.used in
     let e = c.rhs.ensures ∙ ap (λ (g : FlatGrammar). rhs_of g c.args.key.rule) c.flat.ensures in
-    let next = next_of_key c.args.known.now c.requires.knows c.args.key c.requires.used (get_or c.rhs.result.now (c.args.key.dot - 1) 0) (ap (λ (l : List ℕ). get_or l (c.args.key.dot - 1) 0) e) in
+    let next = next_of_key c.args.known.now c.requires.knows c.args.key c.requires.used c.requires.end c.requires.least (get_or c.rhs.result.now (c.args.key.dot - 1) 0) (ap (λ (l : List ℕ). get_or l (c.args.key.dot - 1) 0) e) in
     on_ok_weaker c.put_node.result (λ h. record { symbol = get_or c.rhs.result.now (c.args.key.dot - 1) 0; some = w.some; part = next.part; next = next; lists = h }) c.put_node.ensures

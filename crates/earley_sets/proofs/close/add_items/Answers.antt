@@ -3,4 +3,7 @@ use Rattle.earley_sets.proofs.Growing.{Grows-more}
 use Rattle.earley_sets.proofs.close.add_items.Goals as goal
 
 pub loop-item-preserved : goal.loop-item-preserved
-loop-item-preserved g c = Grows-more c.args.set.now.keys c.loop-item.set.keys c.add_item.new.set.keys c.args.items.now c.loop-item.item-index (record { rule = 0; dot = 0; origin = 0 }) (omega arith) c.loop-item.invariant c.in_ok-add_item.ensures.added
+loop-item-preserved g c = record {
+  grows = Grows-more c.args.set.now.keys c.loop-item.set.keys c.add_item.new.set.keys c.args.items.now c.loop-item.item-index (record { rule = 0; dot = 0; origin = 0 }) (omega arith) c.loop-item.invariant.grows c.in_ok-add_item.ensures.added;
+  counted = (let s = c.in_ok-add_item.ensures.counted in let k = c.loop-item.invariant.counted in omega (arith, s, k));
+}

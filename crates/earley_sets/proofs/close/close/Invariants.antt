@@ -1,6 +1,14 @@
-use Rattle.earley_sets.specs.Closing.{Follows}
+use Rattle.std.proofs.Common.{◌+◌, length, take}
+use Rattle.leo_items.specs.ByRows.{NotesMore}
+use Rattle.earley_sets.specs.Closing.{BeginTogether, Follows}
 use Rattle.earley_sets.specs.Loops.{IsClosedTo}
+use Rattle.earley_sets.specs.Tried.{RisesBy, MakesOne}
 use Rattle.earley_sets.proofs.close.close.Given as goal
 
 abbrev pub invariant-loop-k : goal.invariant-loop-k
-invariant-loop-k g l = IsClosedTo l.flat (Follows l.flat l.rows l.place) l.initial.set.keys l.set.keys l.k
+invariant-loop-k g l = record {
+  closed : IsClosedTo l.flat (Follows l.flat l.rows l.place) l.initial.set.keys l.set.keys l.k;
+  together : BeginTogether l.flat l.place l.set.keys;
+  memo : NotesMore l.flat l.rows l.initial.memo l.memo;
+  counted : RisesBy (MakesOne l.flat l.rows l.place (take l.k l.set.keys)) (l.initial.steps + length l.memo) (l.steps + length l.initial.memo);
+}

@@ -1,5 +1,10 @@
+use Rattle.std.proofs.Common.{length, take}
+use Rattle.earley_sets.specs.Tried.{RisesBy, MakesScan}
 use Rattle.earley_sets.proofs.Scanning.{ListedTo}
 use Rattle.earley_sets.proofs.close.list_scanned.Given as goal
 
-abbrev pub invariant-loop-k : goal.invariant-loop-k
-invariant-loop-k l = ListedTo l.flat l.rows l.place l.edges l.initial.next.items l.next.items l.k
+abbrev pub invariant-loop-edge : goal.invariant-loop-edge
+invariant-loop-edge l = record {
+  listed : ListedTo l.flat l.rows l.place l.edge-items l.initial.next.items l.next.items l.edge-index;
+  links : RisesBy (MakesScan l.flat l.rows l.place (take l.edge-index l.edge-items)) (length l.initial.next.items) (length l.next.items);
+}

@@ -19,7 +19,7 @@ take_lexeme-requires-clause-fresh c =
     fresh c.args.recce.now c.loop-symbol.recce c.loop-symbol.invariant.0 c.args.symbols.now c.requires.order c.loop-symbol.symbol-index c.symbol-item.result (omega arith) c.symbol-item.is c.loop-symbol.invariant.1 c.requires.begun
 
 pub loop-symbol-init : goal.loop-symbol-init
-loop-symbol-init c = (record { flat = refl; start = refl; sets = refl }, no_edges c.args.recce.now)
+loop-symbol-init c = (record { flat = refl; start = refl; sets = refl; noted = refl }, no_edges c.args.recce.now)
 
 pub loop-symbol-preserved : goal.loop-symbol-preserved
 loop-symbol-preserved c = (

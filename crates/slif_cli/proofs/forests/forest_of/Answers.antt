@@ -6,7 +6,7 @@ pub returns-in-Ok-clause-forest : goal.returns-in-Ok-clause-forest
 returns-in-Ok-clause-forest g c =
     let r = c.in-Ok.ensures.reading in
     has_forest c.args.prepared.now c.args.ranking c.args.chars.now c.args.reading.now.recce c.args.reading.now.spans.items c.requires.few c.requires.read
-    c.in-Ok.forest c.in-Ok.ensures.forest c.written.result.now c.written.ensures r.0 r.2 r.3 r.4 r.5
+    c.in-Ok.forest c.in-Ok.ensures.forest c.written.result.now c.written.ensures r.0 r.1 r.2 r.3 r.4 r.5
 
 pub returns-in_ok-text-in-Err-NoParse-clause-stops : goal.returns-in_ok-text-in-Err-NoParse-clause-stops
 returns-in_ok-text-in-Err-NoParse-clause-stops g c =

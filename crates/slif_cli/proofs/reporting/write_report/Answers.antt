@@ -14,7 +14,7 @@ use Rattle.slif_cli.proofs.Reported.{report_known, reported, past_last, within_f
 use Rattle.slif_cli.proofs.reporting.write_report.Goals as goal
 
 pub report-requires : goal.report-requires
-report-requires g c = subst (λ (w : Grammar). IsFlatOf c.args.reading.now.recce.flat w) (sym c.written.ensures) c.requires.holds.flat
+report-requires g c = subst (λ (w : Grammar). IsFlatOf c.args.reading.now.recce.flat w) (sym c.written.ensures) c.requires.holds.flat.made
 
 pub report_lines-requires : goal.report_lines-requires
 report_lines-requires g c =

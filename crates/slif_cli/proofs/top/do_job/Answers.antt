@@ -1,14 +1,16 @@
-use Rattle.std.proofs.Common.{◌≡◌, true, refl, inl, inr, ◌⊎◌, leb-true, subst}
+use Rattle.std.proofs.Common.{refl, inl, inr, ◌⊎◌, subst}
 use Rattle.std.specs.Prelude.{option_copied}
 use Rattle.std.proofs.lemmas.Result.{on_ok_weaker, MatchResult-weaker}
 use Rattle.slif_base.specs.Causes.{Rose}
+use Rattle.words_model.specs.Words.{Asks}
 use Rattle.words_model.specs.Words.Job.{Run, Check, Expect, Progress, Work}
+use Rattle.run_model.specs.Outcome.{IsWorkOutcome}
+use Rattle.run_model.proofs.Sized.{asked_size}
 use Rattle.run_model.specs.Outside.{stream}
 use Rattle.run_model.specs.Runs.{MayOpen}
 use Rattle.command_line.specs.Jobs.{asked_of, job_of}
-use Rattle.run_model.specs.Jobs.{is_built}
+use Rattle.command_line.specs.declared.job.Job.{Job}
 use Rattle.slif_cli.specs.Stops.{MayHave}
-use Rattle.slif_cli.specs.Tasks.{IsOwnOutcome}
 use Rattle.slif_cli.proofs.JobLemmas.{asks_names, asks_nothing, worked}
 use Rattle.slif_cli.proofs.Stopping.{does_weaker, stops_weaker}
 use Rattle.slif_cli.proofs.TaskLemmas.{run_job, expect_job, progress_job}
@@ -97,10 +99,12 @@ returns-in-Check-clause-stops g c =
 
 pub returns-in-Check-clause-asks : goal.returns-in-Check-clause-asks
 returns-in-Check-clause-asks g c =
-    rw c.in-Check.is (λ words takes. asks_names words (Check c.in-Check.grammar.now) takes (g.F.Files.told c.args.files.now) (g.I.Source.left c.args.input.now) c.in-Check.grammar.now refl _ _ c.check_grammar.ensures.asks)
+    rw c.in-Check.is (λ words asks. asks_names words (Check c.in-Check.grammar.now) asks (g.F.Files.told c.args.files.now) (g.I.Source.left c.args.input.now) c.in-Check.grammar.now refl _ _ c.check_grammar.ensures.asks)
 
-pub work_of_size-requires-clause-few : goal.work_of_size-requires-clause-few
-work_of_size-requires-clause-few g c = leb-true _ _ (subst (λ j. is_built (job_of j) ≡ true) c.in-Work.is c.requires.built)
+pub work_of_size-requires : goal.work_of_size-requires
+work_of_size-requires g c =
+    let (words, asks) = c.requires.asked in
+    asked_size words c.in-Work.size (subst (λ (j : Job). Asks words (job_of j)) c.in-Work.is asks)
 
 pub returns-in-Work-clause-done : goal.returns-in-Work-clause-done
 returns-in-Work-clause-done g c =
@@ -108,7 +112,7 @@ returns-in-Work-clause-done g c =
     let file = g.F.Files.told c.args.files.now in
     let left = g.I.Source.left c.args.input.now in
     rw c.in-Work.is (on_ok_weaker c.work_of_size.result
-    (λ does words takes. does_weaker (IsOwnOutcome (Work size)) (MayHave words file left) (worked words size takes file left) _ _ does) c.work_of_size.ensures.done)
+    (λ does words asks. does_weaker (IsWorkOutcome size) (MayHave words file left) (worked words size asks file left) _ _ does) c.work_of_size.ensures.done)
 
 pub returns-in-Work-clause-stops : goal.returns-in-Work-clause-stops
 returns-in-Work-clause-stops g c =
@@ -118,10 +122,10 @@ returns-in-Work-clause-stops g c =
     let faults = g.F.Files.fault_count c.args.files.now in
     let input = g.I.Source.fault_count c.args.input.now in
     rw c.in-Work.is (MatchResult-weaker c.work_of_size.result c.work_of_size.ensures.stops (λ _ x. x)
-    (λ stop stops words takes. stops_weaker (IsOwnOutcome (Work size)) (MayHave words file left) (worked words size takes file left)
+    (λ stop stops words asks. stops_weaker (IsWorkOutcome size) (MayHave words file left) (worked words size asks file left)
     (λ name. ⊥) (λ name. Rose faults faults × MayOpen words file name) ⊥ (Rose faults faults ⊎ Rose input input) (λ name x. absurd x) (λ x. absurd x)
     (stream g.O.Sink.contents g.O.Sink.fault_count c.args.out.now) (stream g.O.Sink.contents g.O.Sink.fault_count c.work_of_size.new.out) stop stops))
 
 pub returns-in-Work-clause-asks : goal.returns-in-Work-clause-asks
 returns-in-Work-clause-asks g c =
-    rw c.in-Work.is (λ words takes. asks_nothing words (g.F.Files.told c.args.files.now) (g.I.Source.left c.args.input.now) (g.F.Files.asked c.args.files.now))
+    rw c.in-Work.is (λ words asks. asks_nothing words (g.F.Files.told c.args.files.now) (g.I.Source.left c.args.input.now) (g.F.Files.asked c.args.files.now))

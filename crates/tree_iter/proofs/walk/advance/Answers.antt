@@ -1,19 +1,26 @@
-use Rattle.std.proofs.Common.{sym, subst, ◌∙◌}
-use Rattle.tree_iter.specs.Walk.{StandsBefore, Turns}
-use Rattle.tree_iter.specs.Walk.{Remain, Waits}
-use Rattle.tree_iter.proofs.Walks.{any_err, behind_of}
-use Rattle.tree_iter.proofs.walk.advance.Goals.{in-Walking, in_default+in_ok-go_back-in_default+else-not-branch}
+use Rattle.std.proofs.Common.{true, ◌+◌, ◌<◌, length, arith, sym, subst}
+use Rattle.tree_iter.specs.Goals.{units}
+use Rattle.tree_iter.specs.Walk.{StandsBefore, StandsBehind, Turns, HasSteps, LeavesSome, Remain}
+use Rattle.tree_iter.proofs.Walks.{has_steps, all_looked}
+use Rattle.tree_iter.proofs.walk.advance.Goals.{in-Walking, in-Between+in_ok-go_back-in-Between+else-not-branch}
 use Rattle.tree_iter.proofs.walk.advance.Goals as goal
 
-pub returns-in_err-go_on-clause-err : goal.returns-in_err-go_on-clause-err
-returns-in_err-go_on-clause-err g c = any_err c.from_residual-in_err-go_on.result
-    (λ rest h. elim c.match-place.branch as (λ _. Waits c.match-place.place c.go_on.new.self rest) [
+pub returns-clause-few : goal.returns-clause-few
+returns-clause-few g c =
+    elim c.match-place.branch as (λ _. c.go_on.new.steps < c.args.steps.now + length c.go_on.new.self.counts.items) [
       | in-Walking w ↦
-          let at = w.place-is ∙ w.in-Walking.is in
-          let before : StandsBefore c.args.walk.now rest = subst (λ p. Remain p c.args.walk.now rest) w.in-Walking.is h in
-          subst (λ p. Waits p c.go_on.new.self rest) (sym at) (c.in_err-go_on.ensures.err rest (subst (λ x. StandsBefore x rest) (sym w.walk-is) before))
-      | in_default+in_ok-go_back-in_default+else-not-branch w ↦
-          let behind = behind_of c.args.place.now c.args.walk.now rest w.in_default.not-Walking h in
-          let turned : StandsBefore w.go_back.new.self rest = subst (λ b. Turns w.go_back.new.self rest b) w.if-not-branch.false (w.in_ok-go_back-in_default.ensures.ok rest behind) in
-          subst (λ p. Waits p c.go_on.new.self rest) (sym w.place-is) (c.in_err-go_on.ensures.err rest (subst (λ x. StandsBefore x rest) (sym w.walk-is) turned))
-    ])
+          let before : StandsBefore c.args.walk.now c.requires.0 = subst (λ p. Remain p c.args.walk.now c.requires.0) w.in-Walking.is c.requires.1 in
+          let has = has_steps c.args.walk.now c.requires.0 before in
+          let some = before.some in
+          all_looked c.match-place.walk c.go_on.new.self c.match-place.steps c.go_on.new.steps c.args.steps.now (length c.args.walk.now.counts.items + units before.left)
+          c.in_ok-go_on.ensures.looks c.in_ok-go_on.ensures.none (subst (λ x. HasSteps x (length c.args.walk.now.counts.items + units before.left)) (sym w.walk-is) has)
+          (subst (λ k. k < c.args.steps.now + (length c.args.walk.now.counts.items + units before.left)) (sym w.steps-is) (omega arith))
+      | in-Between+in_ok-go_back-in-Between+else-not-branch w ↦
+          let behind : StandsBehind c.args.walk.now c.requires.0 = subst (λ p. Remain p c.args.walk.now c.requires.0) w.in-Between.is c.requires.1 in
+          let turned : StandsBefore w.go_back.new.self c.requires.0 = subst (λ b. Turns w.go_back.new.self c.requires.0 b) w.if-not-branch.false (w.in_ok-go_back-in-Between.ensures.ok c.requires.0 behind) in
+          let leaves : LeavesSome w.go_back.new.self true c.args.steps.now w.go_back.new.steps = subst (λ b. LeavesSome w.go_back.new.self b c.args.steps.now w.go_back.new.steps) w.if-not-branch.false w.in_ok-go_back-in-Between.ensures.looks in
+          let n = length w.go_back.new.self.counts.items + units turned.left in
+          let has = has_steps w.go_back.new.self c.requires.0 turned in
+          all_looked c.match-place.walk c.go_on.new.self c.match-place.steps c.go_on.new.steps c.args.steps.now n
+          c.in_ok-go_on.ensures.looks c.in_ok-go_on.ensures.none (subst (λ x. HasSteps x n) (sym w.walk-is) has) (subst (λ k. k < c.args.steps.now + n) (sym w.steps-is) (leaves n has))
+    ]

@@ -1,17 +1,27 @@
-use Rattle.std.proofs.Common.{◌∙◌, List, sym, ap, get_or}
-use Rattle.std.proofs.Math.ListN.{get_or-map}
-use Rattle.forest_model.specs.Forest.{Forest, ForestNode}
-use Rattle.bocage.specs.declared.rows.NodeRow.{NodeRow}
-use Rattle.bocage.specs.Rows.{node_of, no_node}
-use Rattle.bocage.specs.Readers.{node_at}
+use Rattle.std.proofs.Common.{◌≡◌, ◌∙◌, List, Some, length, map, slice_get, sym, ap, subst, arith}
+use Rattle.recognizer_model.specs.declared.NodeKey.{NodeKey}
 use Rattle.earley_sets.proofs.Membership.{get_at}
+use Rattle.forest_model.specs.Forest.{Forest}
+use Rattle.bocage.specs.Readers.{node_at}
+use Rattle.bocage.proofs.Telling.{nodes_long, key_told}
 use Rattle.bocage.proofs.forest.Forest.key.Goals as goal
 
+pub key_at-requires : goal.key_at-requires
+key_at-requires c =
+    let l = nodes_long c.self.inside.wholes.items c.self.inside.keys.keys (map (λ r. r.now) c.self.inside.table.items) c.self.invariant.1.long in
+    let v = ap (λ (f : Forest). length f.nodes) c.self.view_is in
+    let r = c.requires in
+    let k = ap (λ (l : List NodeKey). length l) c.as_slice.ensures.keys in
+    omega arith
+
+told : (c : goal.After-key_at) → (node_at c.args.self.now c.args.node).key ≡ c.key_at.result
+told c =
+    sym (ap (λ (f : Forest). (node_at f c.args.node).key) c.self.view_is)
+    ∙ key_told c.self.inside.wholes.items c.self.inside.keys.keys (map (λ r. r.now) c.self.inside.table.items) c.self.invariant.1 c.args.node c.key_at.result _
+    (subst (λ (l : List NodeKey). slice_get l c.args.node ≡ Some c.key_at.result) c.as_slice.ensures.keys c.key_at.ensures)
+
+pub returns-clause-value : goal.returns-clause-value
+returns-clause-value c = sym (told c)
+
 pub returns-clause-node : goal.returns-clause-node
-returns-clause-node c = (
-  node_at c.args.self.now c.args.node,
-  get_at c.args.self.now.nodes c.args.node _ c.requires,
-  sym (ap (λ (f : Forest). (node_at f c.args.node).key) c.self.view_is)
-      ∙ ap (λ (n : ForestNode). n.key) (get_or-map (node_of c.self.inside.alternatives.items c.self.inside.wholes.items) c.self.inside.nodes.items c.args.node no_node)
-      ∙ ap (λ (n : NodeRow). n.key) (sym (c.node_row.ensures ∙ ap (λ (l : List NodeRow). get_or l c.args.node no_node) c.deref.ensures.value)),
-)
+returns-clause-node c = (node_at c.args.self.now c.args.node, get_at c.args.self.now.nodes c.args.node _ c.requires, told c)

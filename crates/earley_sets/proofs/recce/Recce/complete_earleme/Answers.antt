@@ -1,32 +1,41 @@
-use Rattle.std.proofs.Common.{◌≡◌, ap, subst, List, length, arith, ◌++◌, ◌∷◌, [], map, OnOk}
+use Rattle.std.proofs.Common.{◌≡◌, ◌≢◌, ◌+◌, Contains, ap, subst, List, length, arith, ◌++◌, ◌∷◌, [], OnOk}
 use Rattle.std.proofs.lemmas.Result.{on_ok_weaker}
 use Rattle.recognizer_model.specs.declared.Item.{Item}
-use Rattle.recognizer_model.specs.Items.{InSet}
+use Rattle.recognizer_model.specs.Leo.{InReduced}
 use Rattle.recognizer_model.specs.Counts.{IsListOf}
-use Rattle.earley_sets.specs.Kept.{Kept}
-use Rattle.earley_sets.specs.Recognizer.{Recognizer, edges_of, top_of}
-use Rattle.earley_sets.proofs.Recognizing.{kept_top, kept_sets, kept_begun, add_kept, added_set, sets_length}
+use Rattle.std.specs.List.{AllPairs}
+use Rattle.recognizer_model.specs.Links.{Link, IsLink}
+use Rattle.leo_items.specs.Memo.{pairs_of}
+use Rattle.earley_sets.specs.Recognizer.{Recognizer, edges_of, top_of, made}
+use Rattle.earley_sets.proofs.Recognizing.{kept_top, kept_sets, kept_begun, add_kept, added_set, tried_links}
 use Rattle.earley_sets.proofs.recce.Recce.complete_earleme.Goals as goal
 
 pub add_row-requires-clause-top : goal.add_row-requires-clause-top
-add_row-requires-clause-top g c = kept_top c.self.inside.flat.now c.self.inside.start c.self.inside.edges c.self.inside.rows c.self.inside.top c.self.invariant
+add_row-requires-clause-top g c = kept_top c.self.inside.flat.now c.self.inside.start c.self.inside.edges c.self.inside.rows c.self.inside.top c.self.inside.memo c.self.invariant
 
 pub add_row-requires-clause-sets : goal.add_row-requires-clause-sets
-add_row-requires-clause-sets g c = kept_sets c.self.inside.flat.now c.self.inside.start c.self.inside.edges c.self.inside.rows c.self.inside.top c.self.invariant
+add_row-requires-clause-sets g c = kept_sets c.self.inside.flat.now c.self.inside.start c.self.inside.edges c.self.inside.rows c.self.inside.top c.self.inside.memo c.self.invariant
 
 pub add_row-requires-clause-begun : goal.add_row-requires-clause-begun
-add_row-requires-clause-begun g c = kept_begun c.self.inside.flat.now c.self.inside.start c.self.inside.edges c.self.inside.rows c.self.inside.top c.self.invariant
+add_row-requires-clause-begun g c = kept_begun c.self.inside.flat.now c.self.inside.start c.self.inside.edges c.self.inside.rows c.self.inside.top c.self.inside.memo c.self.invariant
 
 pub invariant_of-self : goal.invariant_of-self
 invariant_of-self g c =
-    let k = c.self.invariant in
     let v = ap (λ (r : Recognizer). length r.sets) c.self.view_is in
     let r = c.requires in
-    let l = sets_length c.self.inside.rows in
-    let s = k.is.some in
-    add_kept c.self.inside.flat.now c.self.inside.start c.self.inside.edges c.self.inside.rows c.add_row.new.rows c.self.inside.top c.self.invariant c.add_row.result (omega arith) c.add_row.ensures.ok c.add_row.ensures.err
+    let s = c.self.invariant.is.some in
+    add_kept c.self.inside.flat.now c.self.inside.start c.self.inside.edges c.self.inside.rows c.add_row.new.rows c.self.inside.top c.self.inside.memo c.self.invariant c.add_row.result c.add_row.new.memo c.add_row.ensures.memo (omega arith) c.add_row.ensures.ok c.add_row.ensures.err
 
 pub returns-clause-ok : goal.returns-clause-ok
 returns-clause-ok g c =
-    subst (λ (r : Recognizer). OnOk c.add_row.result ((set : List Item) × (map (λ (k : Kept). k.items) c.add_row.new.rows ≡ r.sets ++ set ∷ []) × IsListOf (InSet r.flat (edges_of r) (top_of r) (length r.sets)) set)) c.self.view_is
-    (on_ok_weaker c.add_row.result (added_set c.self.inside.flat.now c.self.inside.start c.self.inside.edges c.self.inside.rows c.add_row.new.rows c.self.inside.top c.self.invariant) c.add_row.ensures.ok)
+    subst (λ (r : Recognizer). OnOk c.add_row.result ((set : List Item) × (c.add_row.new.rows ≡ r.sets ++ set ∷ []) × IsListOf (InReduced r.flat (edges_of r) (top_of r) (length r.sets)) set)) c.self.view_is
+    (on_ok_weaker c.add_row.result (added_set c.self.inside.flat.now c.self.inside.start c.self.inside.edges c.self.inside.rows c.add_row.new.rows c.self.inside.top c.self.inside.memo c.self.invariant) c.add_row.ensures.ok)
+
+pub add_row-requires-clause-memo : goal.add_row-requires-clause-memo
+add_row-requires-clause-memo g c = c.self.invariant.memo
+
+pub returns-clause-counted : goal.returns-clause-counted
+returns-clause-counted g c =
+    subst (λ (r : Recognizer). OnOk c.add_row.result ((tried : List Link) × AllPairs (λ a b. a ≢ b) tried × ((l : Link) → Contains tried l → IsLink r.flat (edges_of r) (top_of r) (length r.sets) l) ×
+    (c.add_row.new.steps + made r ≡ c.args.steps.now + length tried + length (pairs_of c.add_row.new.memo)))) c.self.view_is
+    (on_ok_weaker c.add_row.result (tried_links c.self.inside.flat.now c.self.inside.start c.self.inside.edges c.self.inside.rows c.add_row.new.rows c.self.inside.top c.self.inside.memo c.self.invariant c.add_row.new.memo c.args.steps.now c.add_row.new.steps) c.add_row.ensures.counted)

@@ -1,17 +1,14 @@
-use Rattle.std.proofs.Common.{◌∙◌, ◌∷◌, [], sym, ap, map}
-use Rattle.earley_sets.specs.Kept.{Kept}
+use Rattle.std.proofs.Common.{◌∙◌, ◌∷◌, [], ap}
 use Rattle.earley_sets.specs.Recognizer.{Recognizer, set_at}
-use Rattle.earley_sets.proofs.Recognizing.{first_there, restarted, set_is}
+use Rattle.earley_sets.proofs.Recognizing.{first_there, restarted}
 use Rattle.earley_sets.proofs.recce.Recce.restart.Goals as goal
 
 pub keep_first-requires : goal.keep_first-requires
-keep_first-requires c = first_there c.self.inside.flat.now c.self.inside.start c.self.inside.edges c.self.inside.rows c.self.inside.top c.self.invariant
+keep_first-requires c = first_there c.self.inside.flat.now c.self.inside.start c.self.inside.edges c.self.inside.rows c.self.inside.top c.self.inside.memo c.self.invariant
 
 pub invariant_of-self : goal.invariant_of-self
 invariant_of-self c =
-    restarted c.self.inside.flat.now c.self.inside.start c.self.inside.edges c.self.inside.rows c.self.inside.top c.self.invariant c.clear.new.self c.keep_first.new.self c.clear.ensures c.keep_first.ensures
+    restarted c.self.inside.flat.now c.self.inside.start c.self.inside.edges c.self.inside.rows c.self.inside.top c.self.inside.memo c.self.invariant c.clear-2.new.self c.keep_first.new.self c.clear.new.self c.clear-2.ensures c.keep_first.ensures c.clear.ensures
 
 pub returns-clause-sets : goal.returns-clause-sets
-returns-clause-sets c =
-    ap (map (λ (k : Kept). k.items)) c.keep_first.ensures
-    ∙ (ap (λ l. l ∷ []) (sym (set_is c.self.inside.rows 0)) ∙ ap (λ (r : Recognizer). set_at r 0 ∷ []) c.self.view_is)
+returns-clause-sets c = c.keep_first.ensures ∙ ap (λ (r : Recognizer). set_at r 0 ∷ []) c.self.view_is

@@ -1,31 +1,63 @@
-use Rattle.std.proofs.Common.{◌≡◌, ◌<◌, ◌≤◌, max, length, sym, ap, ◌∙◌, List, ℕ, subst, arith, ◌++◌, ◌∷◌, []}
+use Rattle.std.proofs.Common.{◌≡◌, Contains, ◌<◌, ◌≤◌, ◌+◌, false, Result, Ok, Err, sym, ap, ◌∙◌, List, ℕ, subst, arith, ◌++◌, ◌∷◌, []}
+use Rattle.std.specs.Prelude.{OnOk, is_err}
 use Rattle.grammar_model.specs.declared.Edge.{Edge as HeldEdge}
 use Rattle.grammar_core.specs.declared.edges.Edge.{Edge}
-use Rattle.grammar_core.specs.Edges.{placed, all_placed, ArePlaced, GoFrom}
-use Rattle.grammar_core.proofs.Placed.{placed_more, are_more}
+use Rattle.grammar_core.specs.Edges.{placed, all_placed, AreLongOf}
+use Rattle.grammar_core.proofs.Placed.{placed_more, are_more_as, long_more, long_same}
+use Rattle.grammar_core.proofs.edges.TokenEdges.add.Goals.{else-length-gt1-via-then-length-gt1+else-is_err, else-length-gt1-via-else-length-gt1}
 use Rattle.grammar_core.proofs.edges.TokenEdges.add.Goals as goal
 
 edge_of : ℕ → ℕ → Edge
 edge_of t n = record { symbol = t; length = n }
 
-pub invariant_of-self-2 : goal.invariant_of-self-2
+told_of_ok : {T E P : Type 0} (r : Result T E) → is_err r ≡ false → OnOk r P → P
+told_of_ok (Ok x) e h = h
+told_of_ok (Err y) e h = absurd (cc)
+
+pub push-requires-then-length-gt1 : goal.push-requires-then-length-gt1
 unfolding edge_of
-invariant_of-self-2 c =
-    let limit = c.max-self-inside.result in
-    let m = c.max-self-inside.ensures in
-    let places = c.self.inside.places.items in
-    let edges = c.self.inside.edges.items in
-    let r = c.requires.some in
-    let s = c.requires.short in
-    let l = c.self.invariant.limit in
-    let are : ArePlaced (places ++ c.args.at ∷ []) (edges ++ edge_of c.args.t c.args.length ∷ []) limit =
-    are_more places edges c.self.inside.longest c.self.invariant c.args.at limit (edge_of c.args.t c.args.length) (subst (λ h. GoFrom h c.args.at) (sym c.self.view_is) c.requires.order) c.requires.place r (omega arith) (omega arith) (omega arith) in
-    subst (λ p. ArePlaced p c.push.new.self.items limit) (sym (c.in_default.ensures.items)) (subst (λ e. ArePlaced (places ++ c.args.at ∷ []) e limit) (sym c.in_ok-push.ensures.items) are)
+push-requires-then-length-gt1 c l =
+    let e = edge_of c.args.t c.args.length in
+    let same : _ ≡ placed c.args.at e = λ i. record { symbol = c.t.view_is i; from = c.args.at; to = c.args.at + c.args.length } in
+    c.requires.new (subst (λ (h : List HeldEdge). Contains h (placed c.args.at e)) c.self.view_is ((c.self.invariant.long (placed c.args.at e)).0 (subst (λ (z : HeldEdge). Contains c.self.inside.long z) same l)).0)
+
+pub invariant_of-self-else-is_err : goal.invariant_of-self-else-is_err
+unfolding edge_of
+invariant_of-self-else-is_err c =
+    let e = edge_of c.args.t c.args.length in
+    let held = c.args.self.now in
+    let long = c.self.inside.long in
+    let longer = c.push-then-length-gt1.new.self in
+    let far : c.args.at + 1 < c.args.at + c.args.length = (let t = c.if-length-gt1.true in omega arith) in
+    let are : AreLongOf (held ++ placed c.args.at e ∷ []) (long ++ placed c.args.at e ∷ []) = long_more held long (subst (λ h. AreLongOf h long) c.self.view_is c.self.invariant.long) (placed c.args.at e) far in
+    let same : _ ≡ placed c.args.at e = λ i. record { symbol = c.t.view_is i; from = c.args.at; to = c.args.at + c.args.length } in
+    let is : longer ≡ long ++ placed c.args.at e ∷ [] =
+    told_of_ok c.push-then-length-gt1.result (sym c.is_err.ensures.value ∙ c.if-is_err.false) c.push-then-length-gt1.ensures.ok ∙ ap (λ (z : HeldEdge). long ++ z ∷ []) same in
+    are_more_as c.self.inside.places.items c.self.inside.edges.items long c.self.invariant c.args.at e longer held c.push-2.new.self.items c.push.new.self.items c.self.view_is
+    c.in_default.ensures.items c.in_ok-push.ensures.items c.requires.order c.requires.place c.requires.some c.requires.short c.requires.new
+    (subst (AreLongOf (held ++ placed c.args.at e ∷ [])) (sym is) are)
+
+pub invariant_of-self-else-length-gt1 : goal.invariant_of-self-else-length-gt1
+unfolding edge_of
+invariant_of-self-else-length-gt1 c =
+    let e = edge_of c.args.t c.args.length in
+    let held = c.args.self.now in
+    let long = c.self.inside.long in
+    let near : c.args.at + c.args.length ≤ c.args.at + 1 = (let f = c.if-length-gt1.false in omega arith) in
+    are_more_as c.self.inside.places.items c.self.inside.edges.items long c.self.invariant c.args.at e long held c.push-2.new.self.items c.push.new.self.items c.self.view_is
+    c.in_default.ensures.items c.in_ok-push.ensures.items c.requires.order c.requires.place c.requires.some c.requires.short c.requires.new
+    (long_same held long (subst (λ h. AreLongOf h long) c.self.view_is c.self.invariant.long) (placed c.args.at e) near)
 
 pub returns-clause-ok : goal.returns-clause-ok
 unfolding edge_of
 returns-clause-ok c =
     let places = c.self.inside.places.items in
     let edges = c.self.inside.edges.items in
+    let e = edge_of c.args.t c.args.length in
+    let same =
     ap (λ p. all_placed p c.push.new.self.items) c.in_default.ensures.items ∙ (ap (all_placed (places ++ c.args.at ∷ [])) c.in_ok-push.ensures.items
-    ∙ (placed_more places edges c.args.at (edge_of c.args.t c.args.length) c.self.invariant.same ∙ ap (λ (h : List HeldEdge). h ++ placed c.args.at (edge_of c.args.t c.args.length) ∷ []) c.self.view_is))
+    ∙ (placed_more places edges c.args.at e c.self.invariant.same ∙ ap (λ (h : List HeldEdge). h ++ placed c.args.at e ∷ []) c.self.view_is)) in
+    elim c.else-length-gt1.branch [
+      | else-length-gt1-via-then-length-gt1+else-is_err w ↦ w.self-is ∙ same
+      | else-length-gt1-via-else-length-gt1 w ↦ w.self-is ∙ same
+    ]

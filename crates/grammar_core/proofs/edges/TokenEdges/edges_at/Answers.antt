@@ -1,9 +1,8 @@
-use Rattle.std.proofs.Common.{rules, ◌≡◌, ◌<◌, ◌≤◌, ◌-◌, ◌↔◌, take, drop, length, Contains, sym, ap, ◌∙◌, subst, arith, List, ℕ}
-use Rattle.std.specs.Prelude.{slice_index}
-use Rattle.grammar_model.specs.declared.Edge.{Edge as HeldEdge}
-use Rattle.grammar_core.specs.Edges.{placed, all_placed, ArePlaced, AreOrdered}
+use Rattle.std.proofs.Common.{◌≡◌, ◌≢◌, ◌<◌, ◌≤◌, ◌-◌, ◌↔◌, take, drop, length, Contains, sym, ap, ◌∙◌, subst, arith, List, ℕ}
+use Rattle.std.specs.Prelude.{slice_index, AllPairs}
+use Rattle.grammar_core.specs.Edges.{placed, all_placed, AreOrdered}
 use Rattle.grammar_core.specs.declared.edges.Edge.{Edge}
-use Rattle.grammar_core.proofs.Placed.{part_is}
+use Rattle.grammar_core.proofs.Placed.{part_is, part_once}
 use Rattle.grammar_core.proofs.edges.TokenEdges.edges_at.Goals as goal
 
 pub before-start-requires : goal.before-start-requires
@@ -19,7 +18,7 @@ part_of c =
     let w = c.deref-2.ensures.value in
     let one = c.before-start.ensures in
     let two = c.up_to-end.ensures in
-    part_is places c.self.inside.edges.items c.self.inside.longest c.self.invariant c.args.at c.before-start.result c.up_to-end.result
+    part_is places c.self.inside.edges.items c.self.inside.long c.self.invariant c.args.at c.before-start.result c.up_to-end.result
     (subst (λ (l : List ℕ). c.before-start.result ≤ length l) v one.bound) (subst (λ (l : List ℕ). c.up_to-end.result ≤ length l) w two.bound)
     (subst (λ (l : List ℕ). (k : ℕ) → k < c.before-start.result → slice_index l k < c.args.at) v one.below)
     (subst (λ (l : List ℕ). (k : ℕ) → c.before-start.result ≤ k → k < length l → c.args.at ≤ slice_index l k) v one.above)
@@ -36,8 +35,20 @@ part-requires-clause-bound c =
     let e = ap (λ (l : List Edge). length l) c.deref-3.ensures.value in
     omega arith
 
-pub returns : goal.returns
-returns c e =
+pub returns-clause-once : goal.returns-clause-once
+returns-clause-once c =
+    let v = c.deref.ensures.value in
+    let w = c.deref-2.ensures.value in
+    let one = c.before-start.ensures in
+    let two = c.up_to-end.ensures in
+    subst (AllPairs (λ a b. a ≢ b)) (sym (c.part.ensures ∙ ap (λ (l : List Edge). take (c.up_to-end.result - c.before-start.result) (drop c.before-start.result l)) c.deref-3.ensures.value))
+    (part_once c.self.inside.places.items c.self.inside.edges.items c.self.inside.long c.self.invariant c.args.at c.before-start.result c.up_to-end.result
+    (part_of c.before).0 (subst (λ (l : List ℕ). c.up_to-end.result ≤ length l) w two.bound)
+    (subst (λ (l : List ℕ). (k : ℕ) → c.before-start.result ≤ k → k < length l → c.args.at ≤ slice_index l k) v one.above)
+    (subst (λ (l : List ℕ). (k : ℕ) → k < c.up_to-end.result → slice_index l k ≤ c.args.at) w two.below))
+
+pub returns-clause-exact : goal.returns-clause-exact
+returns-clause-exact c e =
     let (le, is) = part_of c.before in
     let same : c.part.result.now ≡ take (c.up_to-end.result - c.before-start.result) (drop c.before-start.result c.self.inside.edges.items) =
     c.part.ensures ∙ ap (λ (l : List Edge). take (c.up_to-end.result - c.before-start.result) (drop c.before-start.result l)) c.deref-3.ensures.value in (

@@ -1,5 +1,5 @@
 use Rattle.std.proofs.Common.{◌∙◌, ap, refl, List, ℕ, ◌++◌, ◌∷◌, []}
-use Rattle.earley_sets.proofs.Cutting.{on_err}
+use Rattle.lexer.proofs.Cutting.{on_err}
 use Rattle.lexer.specs.Terminals.{last_end}
 use Rattle.lexer.proofs.Cutting.{put_within, put_view, put_ends, put_more_ends, put_more_view}
 use Rattle.lexer.proofs.terminals.TerminalRows.push.Goals as goal

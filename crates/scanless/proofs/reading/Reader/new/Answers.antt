@@ -1,13 +1,13 @@
 use Rattle.std.proofs.Common.{[], sym, subst}
-use Rattle.recognizer_model.specs.FlatForm.{IsFlatOf}
+use Rattle.flat_rules.specs.Flattened.{IsFlattened}
 use Rattle.scanless.specs.Reading.{HasRead}
 use Rattle.scanless.proofs.Steps.{has_begun}
 use Rattle.scanless.proofs.reading.Reader.new.Goals as goal
 
-pub returns : goal.returns
-returns c = λ text. record {
+pub returns-clause-reader : goal.returns-clause-reader
+returns-clause-reader c = λ text. record {
   lexer = c.in_ok-new.ensures;
   pieces = [];
   has_read = subst (HasRead c.args.p.now text [] 0 c.in_ok-recce.recce) (sym c.new-2.ensures.items)
-      (has_begun c.args.p.now text c.in_ok-recce.recce (subst (λ f. IsFlatOf f c.args.p.now.g1) (sym c.in_ok-recce.ensures.0) c.flat.ensures.form) c.in_ok-recce.ensures.1 c.in_ok-recce.ensures.2 c.in_ok-recce.ensures.3);
+      (has_begun c.args.p.now text c.in_ok-recce.recce (subst (IsFlattened c.args.p.now.g1) (sym c.in_ok-recce.ensures.0) c.flat.ensures.flattened) c.in_ok-recce.ensures.1 c.in_ok-recce.ensures.2 c.in_ok-recce.ensures.3);
 }

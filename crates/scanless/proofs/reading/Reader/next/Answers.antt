@@ -2,6 +2,7 @@ use Rattle.std.proofs.Common.{arith, ◌<◌, ◌≤◌, ◌+◌, ◌++◌, ◌�
 use Rattle.reading_model.specs.Reading.{Piece, Token, Skipped}
 use Rattle.scanless.specs.Pieces.{IsLexerOf, IsLongestBy}
 use Rattle.scanless.specs.Reading.{HoldsPieces, HasRead, IsStuck, IsChosen, IsReadingOf}
+use Rattle.earley_sets.proofs.Cutting.{on_ok}
 use Rattle.scanless.proofs.Holding.{place_within, holds_begun}
 use Rattle.scanless.proofs.Steps.{reads_token, reads_skipped, stuck_at, stuck_without}
 use Rattle.scanless.proofs.Marking.{is_none, at_some, not_none, some_if}
@@ -70,3 +71,9 @@ returns-in_ok-found-in-Nothing-clause-ends g c =
     let found = c.in_ok-found-in-Nothing.ensures c.args.chars.now c.requires.reader.pieces c.args.self.now.at c.in-Some.length (subst (IsLongestBy c.args.p.now c.args.chars.now c.requires.reader.pieces c.args.self.now.at c.in-Some.length) (sym (c.as_slice.ensures.value ∙ c.in_ok-choose.ensures.same.1)) by) in
     let stuck = stuck_at c.args.p.now c.args.chars.now c.requires.reader.pieces c.args.self.now.at c.args.self.now.recce c.args.self.now.spans.items c.requires.reader.has_read c.in-Some.length c.look.new.work.marks.items c.requires.more by c.choose.new.work.kept.items chosen c.in_ok-found-in-Nothing.found.items found in
     some_if c.stop-in-Nothing.result (λ ending. IsReadingOf c.args.p.now c.args.chars.now c.args.self.now.recce c.args.self.now.spans.items ending) (c.stop-in-Nothing.ensures c.args.chars.now c.requires.reader.pieces c.requires.reader.has_read stuck)
+
+pub returns-in_default-clause-counted : goal.returns-in_default-clause-counted
+returns-in_default-clause-counted g c = on_ok c.stop.result (λ before counts. counts)
+
+pub returns-in_ok-found-in-Nothing-clause-counted : goal.returns-in_ok-found-in-Nothing-clause-counted
+returns-in_ok-found-in-Nothing-clause-counted g c = on_ok c.stop-in-Nothing.result (λ before counts. counts)

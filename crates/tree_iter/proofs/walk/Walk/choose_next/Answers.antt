@@ -1,11 +1,11 @@
-use Rattle.std.proofs.Common.{◌≡◌, suc, ◌+◌, ◌-◌, List, length, ap, subst, ◌∙◌, add-one}
+use Rattle.std.proofs.Common.{◌≡◌, refl, suc, ◌+◌, ◌-◌, List, length, ap, subst, ◌∙◌, add-one}
 use Rattle.tree_iter.specs.declared.walk.Choice.{Choice}
 use Rattle.tree_iter.specs.declared.walk.Walk.{Walk}
 use Rattle.tree_iter.specs.Goals.{fork_of}
 use Rattle.std.specs.Prelude.{slice_set, slice_index_or}
 use Rattle.std.specs.Vec.{with_item}
 use Rattle.tree_iter.specs.Goals.{PutsOption}
-use Rattle.tree_iter.proofs.Walks.{back_behind, chose_next, set_last, get_last, any_err}
+use Rattle.tree_iter.proofs.Walks.{back_behind, chose_next, next_leaves, set_last, get_last, any_err}
 use Rattle.tree_iter.proofs.walk.Walk.choose_next.Goals as goal
 
 pub returns-in_err-put-clause-err : goal.returns-in_err-put-clause-err
@@ -27,3 +27,12 @@ returns-clause-ok g c = λ rest h.
     chose_next w n rest last next c.in_ok-put.put next_is
     (subst (λ k. PutsOption w.forest.now (fork_of last.fork) w.goals.items n.goals.items k last.behind c.in_ok-put.put) more c.in_ok-put.ensures.ok)
     (λ before e. ap (λ k. slice_set w.choices.items k next) size ∙ set_last w.choices.items before last next e) h
+
+pub returns-clause-looks : goal.returns-clause-looks
+returns-clause-looks g c = λ k h.
+    let w : Walk = c.args.self.now in
+    let last : Choice = c.args.choice in
+    let next : Choice = record { fork = c.index_mut.result.now.fork; chosen = last.chosen + 1; count = c.index_mut.result.now.count; behind = c.index_mut.result.now.behind; goals = c.index_mut.result.now.goals; steps = c.index_mut.result.now.steps; counts = c.index_mut.result.now.counts } in
+    let n : Walk = record w { goals = c.put_option.new.rows; left = c.in_ok-put.put.top; choices = with_item w.choices (length c.as_slice.result.now - 1) next } in
+    next_leaves w n c.requires.back.0 last c.in_ok-put.put c.args.steps.now c.put_option.new.steps c.put_option.ensures.looks c.requires.back.1
+    (subst (λ i. PutsOption w.forest.now (fork_of last.fork) w.goals.items n.goals.items i last.behind c.in_ok-put.put) (add-one last.chosen) c.in_ok-put.ensures.ok) refl k h

@@ -38,6 +38,7 @@ back-smaller g c =
 pub back-preserved : goal.back-preserved
 back-preserved g c = record {
   forest = c.cut.ensures.forest ∙ c.back.invariant.forest;
+  none = c.back.invariant.none;
   goes = λ rest h.
       (let w : Walk = c.cut.new.self in
       let last = c.if-choice-gt1.false in
@@ -50,3 +51,9 @@ pub returns-clause-ok : goal.returns-clause-ok
 returns-clause-ok g c = λ rest h.
     let behind = c.back.invariant.goes rest h in
     (behind, none_left c.back.self rest (c.in_default.ensures.none refl) behind)
+
+pub returns-then-choice-gt1-clause-looks : goal.returns-then-choice-gt1-clause-looks
+returns-then-choice-gt1-clause-looks g c = λ k h.
+    let less = c.in_ok-choose_next.ensures.looks k h in
+    let same = c.back.invariant.none in
+    omega arith

@@ -8,6 +8,7 @@ abbrev pub invariant-back : goal.invariant-back
 invariant-back g l = record {
   forest : l.self.forest ≡ l.initial.self.forest;
   goes : (rest : List (List Step)) → StandsBehind l.initial.self rest → StandsBehind l.self rest;
+  none : l.steps ≡ l.initial.steps;
 }
 
 abbrev pub decreases-back : goal.decreases-back

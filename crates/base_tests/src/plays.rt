@@ -1,0 +1,487 @@
+//! Whole derivations, played step by step.
+ghost use Rattle.std.specs.Prelude.{◌≡◌, ◌≤◌, ◌++◌, ◌∷◌, [], true, false, length, map, Some, IfOk, OnOk};
+ghost use Rattle.grammar_model.specs.Grammar.{Grammar};
+ghost use Rattle.grammar_core.specs.Steps.{step_of};
+ghost use Rattle.grammar_core.specs.Written.{IsWritten};
+ghost use Rattle.value_text.specs.Meaning.{meaning_of};
+ghost use Rattle.base_tests.specs.Rows.{plain_rule, list_rule, ends_nulled, IsPlainMeaning};
+ghost use Rattle.valuator.specs.Told.{HoldsOne};
+ghost use Rattle.valuator.specs.Play.{AreSteps, IsMeaningOf, AreSpans};
+
+use grammar_core::{Assoc, CoreRefusal, Rule, RuleId, SeqRule, Span, SymbolId, TreeStep, Written};
+use slif_base::{Chars, chars_of};
+use std::alloc::Global;
+use std::test::Fail;
+use valuator::{ArrayTeller, Teller, TreeTeller, play};
+use value_text::{Action, DescItem, Items, Meaning, NoMemory, RuleMeaning};
+
+// A grammar of symbols with these names and without rules.
+fn named(alloc: Global, names: &[&str]) -> Result<Written, CoreRefusal>
+    ensures { IfOk result (λ w. w.rules ≡ []) }
+{
+    let mut w = Written::new(alloc);
+    for name in names {
+        w.symbol_new(name)?;
+    }
+    Ok(w)
+}
+
+fn symbols(alloc: Global, parts: &[u32]) -> Result<Vec<SymbolId>, CoreRefusal>
+    ensures { IfOk result (λ symbols. symbols.items ≡ parts.now) }
+{
+    let mut symbols = Vec::new(alloc);
+    for part in parts {
+        let Ok(()) = symbols.push(SymbolId(*part)) else {
+            return Err(CoreRefusal::NoMemory);
+        };
+    }
+    Ok(symbols)
+}
+
+// Adds a plain rule.
+fn add_rule(alloc: Global, w: &mut Written, lhs: u32, parts: &[u32]) -> Result<(), CoreRefusal>
+    ensures added { IfOk result (λ _. w.new.rules ≡ w.old.rules ++ plain_rule lhs parts.now ∷ []) }
+    ensures sound { IfOk result (λ _. IsWritten w.new) }
+{
+    let rhs = symbols(alloc, parts)?;
+    w.rule_new(Rule {
+        lhs: SymbolId(lhs),
+        rhs,
+        level: 0,
+        groups: 1,
+        assoc: Assoc::Left,
+        rank: 0,
+        null_high: false,
+    })?;
+    let _ = w.rule_count();
+    Ok(())
+}
+
+// Adds a rule for one or more items with separators.
+fn add_list(w: &mut Written, lhs: u32, item: u32, separator: u32) -> Result<(), CoreRefusal>
+    ensures added { IfOk result (λ _. w.new.rules ≡ w.old.rules ++ list_rule lhs item separator ∷ []) }
+    ensures sound { IfOk result (λ _. IsWritten w.new) }
+{
+    w.sequence_new(SeqRule {
+        lhs: SymbolId(lhs),
+        item: SymbolId(item),
+        plus: true,
+        separator: Some(SymbolId(separator)),
+        proper: false,
+        rank: 0,
+        null_high: false,
+    })?;
+    let _ = w.rule_count();
+    Ok(())
+}
+
+// The meaning of a separated list.
+fn separated(alloc: Global, action: Action) -> RuleMeaning
+    ensures { (result.sequence ≡ true) × (result.separated ≡ true) }
+{
+    RuleMeaning {
+        action,
+        shown: Items::new(Vec::new(alloc)),
+        sequence: true,
+        separated: true,
+    }
+}
+
+// The meaning of a plain rule.
+fn plain(alloc: Global, action: Action, shown: &[bool]) -> Result<RuleMeaning, NoMemory>
+    ensures { IfOk result (λ m. IsPlainMeaning m shown.now) }
+{
+    Ok(RuleMeaning {
+        action,
+        shown: Items::new(shown.to_vec(alloc)?),
+        sequence: false,
+        separated: false,
+    })
+}
+
+fn finish(teller: &mut Box<dyn Teller>, line: &mut Vec<u8>) -> Result<(), NoMemory>
+    requires { HoldsOne (held teller.old) }
+{
+    teller.finish(line)
+}
+
+// Plays the steps to a teller that holds nothing, and answers its line.
+fn line_of(
+    alloc: Global,
+    list: &[TreeStep],
+    meaning: &Meaning,
+    w: &Written,
+    spans: &[Span],
+    chars: &Chars,
+    teller: Box<dyn Teller>,
+) -> Result<Vec<u8>, NoMemory>
+    requires list { AreSteps w.now (length spans.now) (map step_of list.now) }
+    requires meaning { IsMeaningOf w.now (meaning_of meaning.now) }
+    requires spans { AreSpans (length chars.now) spans.now }
+    requires none { held teller ≡ [] }
+{
+    let mut tellers = Vec::new(alloc);
+    tellers.push(teller)?;
+    play(alloc, list, meaning, w, spans, chars, &mut tellers)?;
+    let mut line = Vec::new(alloc);
+    if tellers.len() == 1 {
+        finish(&mut tellers[0], &mut line)?;
+    }
+    Ok(line)
+}
+
+fn list_of_two(teller: &mut Box<dyn Teller>) -> Result<(), NoMemory>
+    requires { length (held teller.old) ≡ 2 }
+    ensures { OnOk result (length (held teller.new) ≡ 1) }
+{
+    teller.rule(RuleId(0), "S", 2, &[true, true], 0, 1, 0, 1, &Action::Array)
+}
+
+// Plays the steps to a teller that holds a value, makes a list of both values, and answers its line.
+fn line_of_two(
+    alloc: Global,
+    list: &[TreeStep],
+    meaning: &Meaning,
+    w: &Written,
+    spans: &[Span],
+    chars: &Chars,
+    teller: Box<dyn Teller>,
+) -> Result<Vec<u8>, NoMemory>
+    requires list { AreSteps w.now (length spans.now) (map step_of list.now) }
+    requires meaning { IsMeaningOf w.now (meaning_of meaning.now) }
+    requires spans { AreSpans (length chars.now) spans.now }
+    requires one { length (held teller) ≡ 1 }
+{
+    let mut tellers = Vec::new(alloc);
+    tellers.push(teller)?;
+    play(alloc, list, meaning, w, spans, chars, &mut tellers)?;
+    let mut line = Vec::new(alloc);
+    if tellers.len() == 1 {
+        let teller = &mut tellers[0];
+        list_of_two(teller)?;
+        finish(teller, &mut line)?;
+    }
+    Ok(line)
+}
+
+const ONE_EACH: [Span; 5] = [
+    Span {
+        start: 0,
+        length: 1,
+    },
+    Span {
+        start: 1,
+        length: 1,
+    },
+    Span {
+        start: 2,
+        length: 1,
+    },
+    Span {
+        start: 3,
+        length: 1,
+    },
+    Span {
+        start: 4,
+        length: 1,
+    },
+];
+
+// S ::= B B; B ::= 'a'; B is empty: the numbers 0 S, 1 B, 2 'a'. The first B is nulled.
+#[test]
+fn trees_name_nulled_symbols(rt: HostRuntime) -> Result<(), Fail> {
+    let alloc = rt.alloc();
+    let mut w = named(alloc, &["S", "B", "'a'"])?;
+    add_rule(alloc, &mut w, 0, &[1, 1])?;
+    add_rule(alloc, &mut w, 1, &[2])?;
+    add_rule(alloc, &mut w, 1, &[])?;
+    let rules = vec![in alloc;
+        plain(alloc, Action::Undef, &[true, true])?,
+        plain(alloc, Action::Undef, &[true])?,
+        plain(alloc, Action::Undef, &[])?,
+    ]?;
+    let meaning = Meaning {
+        rules: Items::new(rules),
+        lexeme: None,
+    };
+    let chars = chars_of(alloc, b"a")?;
+    if chars.len() < 1 {
+        return Err(Fail::new("the text is short"));
+    }
+    let steps = [
+        TreeStep::Nulled {
+            symbol: SymbolId(1),
+            at: 0,
+        },
+        TreeStep::Token {
+            symbol: SymbolId(2),
+            from: 0,
+            to: 1,
+        },
+        TreeStep::Rule {
+            rule: RuleId(1),
+            children: 1,
+            from: 0,
+            to: 1,
+        },
+        TreeStep::Rule {
+            rule: RuleId(0),
+            children: 2,
+            from: 0,
+            to: 1,
+        },
+    ];
+    let teller = Box::new(alloc, TreeTeller::new(alloc))?;
+    let line = line_of(alloc, &steps, &meaning, &w, &ONE_EACH[..1], &chars, teller)?;
+    assert_eq!(rt;
+        line.as_slice(),
+        b"[\"S\",0,[\"B\"],[\"B\",1,[\"'a'\",\"a\"]]]\n".as_slice()
+    );
+    Ok(())
+}
+
+// S ::= B C; B ::= x; C is empty: the numbers 0 S, 1 B, 2 C, 3 x.
+pub fn nulled_at_the_end(alloc: Global) -> Result<Written, CoreRefusal>
+    ensures rules { IfOk result (λ w. w.rules ≡ ends_nulled) }
+    ensures sound { IfOk result (λ w. IsWritten w) }
+{
+    let mut w = named(alloc, &["S", "B", "C", "x"])?;
+    add_rule(alloc, &mut w, 0, &[1, 2])?;
+    add_rule(alloc, &mut w, 1, &[3])?;
+    add_rule(alloc, &mut w, 2, &[])?;
+    Ok(w)
+}
+
+/// The items of a rule.
+pub const MADE: [DescItem; 6] = [
+    DescItem::Name,
+    DescItem::Start,
+    DescItem::Length,
+    DescItem::G1Start,
+    DescItem::G1Length,
+    DescItem::Values,
+];
+
+/// The items of a lexeme.
+pub const SEEN: [DescItem; 4] = [
+    DescItem::Symbol,
+    DescItem::Start,
+    DescItem::Length,
+    DescItem::Values,
+];
+
+pub fn described_by(alloc: Global, items: &[DescItem]) -> Result<Action, NoMemory> {
+    Ok(Action::Items(Items::new(items.to_vec(alloc)?)))
+}
+
+// A plain rule that tells all items, and all its parts.
+fn described(alloc: Global, shown: &[bool]) -> Result<RuleMeaning, NoMemory>
+    ensures { IfOk result (λ m. IsPlainMeaning m shown.now) }
+{
+    plain(alloc, described_by(alloc, &MADE)?, shown)
+}
+
+// All items of the rules, and of lexemes those that they have.
+pub fn all_described(alloc: Global) -> Result<Meaning, NoMemory>
+    ensures { IfOk result (λ m. (g : Grammar) → g.rules ≡ ends_nulled → IsMeaningOf g (meaning_of m)) }
+{
+    let both = described(alloc, &[true, true])?;
+    let one = described(alloc, &[true])?;
+    let none = described(alloc, &[])?;
+    let lexeme = described_by(alloc, &SEEN)?;
+    let rules = vec![in alloc; both, one, none]?;
+    Ok(Meaning {
+        rules: Items::new(rules),
+        lexeme: Some(lexeme),
+    })
+}
+
+// C is nulled behind the second character.
+const NULLED_AT_THE_END: [TreeStep; 4] = [
+    TreeStep::Token {
+        symbol: SymbolId(3),
+        from: 0,
+        to: 1,
+    },
+    TreeStep::Rule {
+        rule: RuleId(1),
+        children: 1,
+        from: 0,
+        to: 1,
+    },
+    TreeStep::Nulled {
+        symbol: SymbolId(2),
+        at: 1,
+    },
+    TreeStep::Rule {
+        rule: RuleId(0),
+        children: 2,
+        from: 0,
+        to: 1,
+    },
+];
+
+fn line_of_nulled(
+    alloc: Global,
+    meaning: &Meaning,
+    w: &Written,
+    chars: &Chars,
+    teller: Box<dyn Teller>,
+) -> Result<Vec<u8>, NoMemory>
+    requires rules { w.now.rules ≡ ends_nulled }
+    requires sound { IsWritten w.now }
+    requires meaning { IsMeaningOf w.now (meaning_of meaning.now) }
+    requires chars { 2 ≤ length chars.now }
+    requires none { held teller ≡ [] }
+{
+    line_of(
+        alloc,
+        &NULLED_AT_THE_END,
+        meaning,
+        w,
+        &ONE_EACH[1..2],
+        chars,
+        teller,
+    )
+}
+
+pub fn play_nulled(
+    alloc: Global,
+    meaning: &Meaning,
+    w: &Written,
+    chars: &Chars,
+    tellers: &mut Vec<Box<dyn Teller>>,
+) -> Result<(), NoMemory>
+    requires rules { w.now.rules ≡ ends_nulled }
+    requires sound { IsWritten w.now }
+    requires meaning { IsMeaningOf w.now (meaning_of meaning.now) }
+    requires chars { 2 ≤ length chars.now }
+{
+    play(
+        alloc,
+        &NULLED_AT_THE_END,
+        meaning,
+        w,
+        &ONE_EACH[1..2],
+        chars,
+        tellers,
+    )
+}
+
+#[test]
+fn descriptors_tell_all_items(rt: HostRuntime) -> Result<(), Fail> {
+    let alloc = rt.alloc();
+    let w = nulled_at_the_end(alloc)?;
+    let meaning = all_described(alloc)?;
+    let chars = chars_of(alloc, b" x")?;
+    if chars.len() < 2 {
+        return Err(Fail::new("the text is short"));
+    }
+    let teller = Box::new(alloc, ArrayTeller::new(alloc))?;
+    let line = line_of_nulled(alloc, &meaning, &w, &chars, teller)?;
+    assert_eq!(rt;
+        line.as_slice(),
+        b"[\"S\",1,1,0,1,[\"B\",1,1,0,1,[\"x\",1,1,\"x\"]],[\"C\",2,0,1,0]]\n".as_slice()
+    );
+    Ok(())
+}
+
+// E ::= ('(') L (')'); L ::= N+ separator => comma: the numbers 0 E, 1 '(', 2 L, 3 ')', 4 N, 5 comma.
+#[test]
+fn hidden_parts_and_separators_are_not_shown(rt: HostRuntime) -> Result<(), Fail> {
+    let alloc = rt.alloc();
+    let mut w = named(alloc, &["E", "'('", "L", "')'", "N", "comma"])?;
+    add_rule(alloc, &mut w, 0, &[1, 2, 3])?;
+    add_list(&mut w, 2, 4, 5)?;
+    let rules = vec![in alloc;
+        plain(alloc, Action::Array, &[false, true, false])?,
+        separated(alloc, Action::Array),
+    ]?;
+    let meaning = Meaning {
+        rules: Items::new(rules),
+        lexeme: None,
+    };
+    let chars = chars_of(alloc, b"(1,2)")?;
+    if chars.len() < 5 {
+        return Err(Fail::new("the text is short"));
+    }
+    let steps = [
+        TreeStep::Token {
+            symbol: SymbolId(1),
+            from: 0,
+            to: 1,
+        },
+        TreeStep::Token {
+            symbol: SymbolId(4),
+            from: 1,
+            to: 2,
+        },
+        TreeStep::Token {
+            symbol: SymbolId(5),
+            from: 2,
+            to: 3,
+        },
+        TreeStep::Token {
+            symbol: SymbolId(4),
+            from: 3,
+            to: 4,
+        },
+        TreeStep::Rule {
+            rule: RuleId(1),
+            children: 3,
+            from: 1,
+            to: 4,
+        },
+        TreeStep::Token {
+            symbol: SymbolId(3),
+            from: 4,
+            to: 5,
+        },
+        TreeStep::Rule {
+            rule: RuleId(0),
+            children: 3,
+            from: 0,
+            to: 5,
+        },
+    ];
+    let teller = Box::new(alloc, ArrayTeller::new(alloc))?;
+    let line = line_of(alloc, &steps, &meaning, &w, &ONE_EACH, &chars, teller)?;
+    assert_eq!(rt; line.as_slice(), b"[[\"1\",\"2\"]]\n".as_slice());
+    Ok(())
+}
+
+// S ::= 'a': the numbers 0 S, 1 'a'. The teller holds the text 7 before it is played to.
+#[test]
+fn values_held_before_stay_below(rt: HostRuntime) -> Result<(), Fail> {
+    let alloc = rt.alloc();
+    let mut w = named(alloc, &["S", "'a'"])?;
+    add_rule(alloc, &mut w, 0, &[1])?;
+    let rules = vec![in alloc; plain(alloc, Action::Array, &[true])?]?;
+    let meaning = Meaning {
+        rules: Items::new(rules),
+        lexeme: None,
+    };
+    let chars = chars_of(alloc, b"a")?;
+    if chars.len() < 1 {
+        return Err(Fail::new("the text is short"));
+    }
+    let steps = [
+        TreeStep::Token {
+            symbol: SymbolId(1),
+            from: 0,
+            to: 1,
+        },
+        TreeStep::Rule {
+            rule: RuleId(0),
+            children: 1,
+            from: 0,
+            to: 1,
+        },
+    ];
+    let mut teller = ArrayTeller::new(alloc);
+    teller.token("x", "7", 0, 1, 0, None)?;
+    let teller = Box::new(alloc, teller)?;
+    let line = line_of_two(alloc, &steps, &meaning, &w, &ONE_EACH[..1], &chars, teller)?;
+    assert_eq!(rt; line.as_slice(), b"[\"7\",[\"a\"]]\n".as_slice());
+    Ok(())
+}

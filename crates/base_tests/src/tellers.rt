@@ -1,0 +1,229 @@
+//! Tellers: what they make of each call, and that one that refuses is let go.
+use crate::plays::{MADE, SEEN, all_described, described_by, nulled_at_the_end, play_nulled};
+use grammar_core::{RuleId, Span, TreeStep, Written};
+use slif_base::chars_of;
+use std::alloc::Global;
+use std::cell::Cell;
+use std::rc::Rc;
+use std::test::Fail;
+use valuator::{ArrayTeller, Show, Teller, TreeTeller, play};
+use value_text::{Action, Items, Meaning, NoMemory};
+
+#[test]
+fn descriptors_tell_all(rt: HostRuntime) -> Result<(), Fail> {
+    let made = described_by(rt.alloc(), &MADE)?;
+    let lexeme = described_by(rt.alloc(), &SEEN)?;
+    let mut teller = ArrayTeller::new(rt.alloc());
+    teller.token("x", "x", 1, 1, 0, Some(&lexeme))?;
+    teller.rule(RuleId(1), "B", 1, &[true], 1, 1, 0, 1, &made)?;
+    teller.nulling("C", 2, 1, Some(&made))?;
+    teller.rule(RuleId(0), "S", 2, &[true, true], 1, 1, 0, 1, &made)?;
+    let mut out = Vec::new(rt.alloc());
+    teller.finish(&mut out)?;
+    assert_eq!(rt;
+        out.as_slice(),
+        b"[\"S\",1,1,0,1,[\"B\",1,1,0,1,[\"x\",1,1,\"x\"]],[\"C\",2,0,1,0]]\n".as_slice()
+    );
+    Ok(())
+}
+
+#[test]
+fn separators_and_hidden_parts_are_left_out(rt: HostRuntime) -> Result<(), Fail> {
+    let mut teller = ArrayTeller::new(rt.alloc());
+    teller.token("'('", "(", 0, 1, 0, None)?;
+    teller.token("N", "1", 1, 1, 1, None)?;
+    teller.token("comma", ",", 2, 1, 2, None)?;
+    teller.token("N", "2", 3, 1, 3, None)?;
+    teller.rule(
+        RuleId(1),
+        "L",
+        3,
+        &[true, false, true],
+        1,
+        3,
+        1,
+        3,
+        &Action::Array,
+    )?;
+    teller.token("')'", ")", 4, 1, 4, None)?;
+    teller.rule(
+        RuleId(0),
+        "E",
+        3,
+        &[false, true, false],
+        0,
+        5,
+        0,
+        5,
+        &Action::Array,
+    )?;
+    let mut out = Vec::new(rt.alloc());
+    teller.finish(&mut out)?;
+    assert_eq!(rt; out.as_slice(), b"[[\"1\",\"2\"]]\n".as_slice());
+    Ok(())
+}
+
+#[test]
+fn trees_name_their_rules(rt: HostRuntime) -> Result<(), Fail> {
+    let mut teller = TreeTeller::new(rt.alloc());
+    teller.nulling("B", 0, 0, None)?;
+    teller.token("'a'", "a", 0, 1, 0, None)?;
+    teller.rule(RuleId(1), "B", 1, &[true], 0, 1, 0, 1, &Action::Undef)?;
+    teller.rule(RuleId(0), "S", 2, &[true, true], 0, 1, 0, 1, &Action::Undef)?;
+    let mut out = Vec::new(rt.alloc());
+    teller.finish(&mut out)?;
+    assert_eq!(rt;
+        out.as_slice(),
+        b"[\"S\",0,[\"B\"],[\"B\",1,[\"'a'\",\"a\"]]]\n".as_slice()
+    );
+    Ok(())
+}
+
+// Counts its calls, and refuses once so many were made.
+#[derive(Drop)]
+struct Counting {
+    inner: TreeTeller,
+    most: u32,
+    calls: Rc<Cell<u32>>,
+}
+
+impl Counting {
+    fn call(&self) -> Result<(), NoMemory> {
+        let calls = self.calls.get();
+        self.calls.set(calls.wrapping_add(1));
+        if calls < self.most {
+            Ok(())
+        } else {
+            Err(NoMemory)
+        }
+    }
+}
+
+impl Teller for Counting {
+    ghost use Rattle.grammar_model.specs.declared.Show.TheVariants.{Tree as ShowTree};
+
+    ghost held = { λ t. t.inner };
+
+    ghost shows = { λ _. ShowTree };
+
+    fn kind(&self) -> Show {
+        Show::Tree
+    }
+
+    fn token(
+        &mut self,
+        name: &str,
+        text: &str,
+        start: u32,
+        length: u32,
+        g1start: u32,
+        action: Option<&Action>,
+    ) -> Result<(), NoMemory> {
+        self.call()?;
+        self.inner.token(name, text, start, length, g1start, action)
+    }
+
+    fn nulling(
+        &mut self,
+        name: &str,
+        start: u32,
+        g1start: u32,
+        action: Option<&Action>,
+    ) -> Result<(), NoMemory> {
+        self.call()?;
+        self.inner.nulling(name, start, g1start, action)
+    }
+
+    fn rule(
+        &mut self,
+        rule: RuleId,
+        name: &str,
+        children: u32,
+        shown: &[bool],
+        start: u32,
+        length: u32,
+        g1start: u32,
+        g1length: u32,
+        action: &Action,
+    ) -> Result<(), NoMemory> {
+        self.call()?;
+        self.inner.rule(
+            rule, name, children, shown, start, length, g1start, g1length, action,
+        )
+    }
+
+    fn finish(&mut self, out: &mut Vec<u8>) -> Result<(), NoMemory> {
+        self.call()?;
+        self.inner.finish(out)
+    }
+}
+
+// Plays one token to tellers, and answers whether they were told.
+fn play_token(alloc: Global, tellers: &mut Vec<Box<dyn Teller>>) -> Result<bool, Fail> {
+    let mut w = Written::new(alloc);
+    let symbol = w.symbol_new("x")?;
+    let meaning = Meaning {
+        rules: Items::new(Vec::new(alloc)),
+        lexeme: None,
+    };
+    let chars = chars_of(alloc, b"x")?;
+    if chars.len() < 1 {
+        return Err(Fail::new("the text is short"));
+    }
+    let span = Span {
+        start: 0,
+        length: 1,
+    };
+    let step = TreeStep::Token {
+        symbol,
+        from: 0,
+        to: 1,
+    };
+    let played = play(alloc, &[step], &meaning, &w, &[span], &chars, tellers);
+    Ok(played.is_ok())
+}
+
+#[test]
+fn no_teller_is_left_where_one_refuses(rt: HostRuntime) -> Result<(), Fail> {
+    let calls = Rc::new(rt.alloc(), Cell::new(0))?;
+    let mut tellers = counted(rt.alloc(), 1, &calls)?;
+    let told = play_token(rt.alloc(), &mut tellers)?;
+    assert_eq!(rt; (told, tellers.len(), calls.get()), (true, 1, 1));
+    assert_eq!(rt; Rc::strong_count(&calls), 2);
+    let refused = play_token(rt.alloc(), &mut tellers)?;
+    assert_eq!(rt; (refused, tellers.len(), calls.get()), (false, 0, 2));
+    assert_eq!(rt; Rc::strong_count(&calls), 1);
+    Ok(())
+}
+
+// A teller that counts its calls, and refuses once `most` were made.
+fn counted(alloc: Global, most: u32, calls: &Rc<Cell<u32>>) -> Result<Vec<Box<dyn Teller>>, Fail> {
+    let counting = Counting {
+        inner: TreeTeller::new(alloc),
+        most,
+        calls: Rc::clone(calls)?,
+    };
+    let mut tellers: Vec<Box<dyn Teller>> = Vec::new(alloc);
+    tellers.push(Box::new(alloc, counting)?)?;
+    Ok(tellers)
+}
+
+// Plays four steps to it: whether all were told, how many tellers are left, its calls, and who holds their count.
+fn play_counted(alloc: Global, most: u32) -> Result<(bool, usize, u32, usize), Fail> {
+    let w = nulled_at_the_end(alloc)?;
+    let meaning = all_described(alloc)?;
+    let chars = chars_of(alloc, b" x")?;
+    let calls = Rc::new(alloc, Cell::new(0))?;
+    let mut tellers = counted(alloc, most, &calls)?;
+    let told = chars.len() >= 2 && play_nulled(alloc, &meaning, &w, &chars, &mut tellers).is_ok();
+    Ok((told, tellers.len(), calls.get(), Rc::strong_count(&calls)))
+}
+
+#[test]
+fn each_refused_call_ends_the_play(rt: HostRuntime) -> Result<(), Fail> {
+    for most in 0..4 {
+        assert_eq!(rt; play_counted(rt.alloc(), most)?, (false, 0, most + 1, 1));
+    }
+    assert_eq!(rt; play_counted(rt.alloc(), 4)?, (true, 1, 4, 2));
+    Ok(())
+}

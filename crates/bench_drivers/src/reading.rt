@@ -1,0 +1,160 @@
+//! The tokens of a run, and reading them.
+ghost use Rattle.std.specs.Prelude.{◌≡◌};
+
+use crate::grammar::Language;
+use anyhow::bail;
+use earley_sets::Recce;
+use grammar_core::SymbolId;
+use slif_base::Steps;
+use std::sync::ledger::Ledger;
+
+const MOST_PLACES: u32 = 16_777_216;
+
+// S -> S a | a
+const LEFT: Language = Language {
+    names: &["S", "a"],
+    lines: &[(0, &[0, 1]), (0, &[1])],
+};
+
+// E -> E '+' N | N
+const SUM: Language = Language {
+    names: &["E", "N", "+"],
+    lines: &[(0, &[0, 2, 1]), (0, &[1])],
+};
+
+/// E -> E '+' E | N
+pub const TWICE: Language = Language {
+    names: &["E", "N", "+"],
+    lines: &[(0, &[0, 2, 0]), (0, &[1])],
+};
+
+// S -> a S | a
+const RIGHT: Language = Language {
+    names: &["S", "a"],
+    lines: &[(0, &[1, 0]), (0, &[1])],
+};
+
+// Values, objects, members and elements of JSON.
+const JSON: Language = Language {
+    names: &[
+        "value", "object", "members", "member", "array", "elements", "string", "number", "{", "}",
+        "[", "]", ",", ":",
+    ],
+    lines: &[
+        (0, &[6]),
+        (0, &[7]),
+        (0, &[1]),
+        (0, &[4]),
+        (1, &[8, 9]),
+        (1, &[8, 2, 9]),
+        (2, &[2, 12, 3]),
+        (2, &[3]),
+        (3, &[6, 13, 0]),
+        (4, &[10, 11]),
+        (4, &[10, 5, 11]),
+        (5, &[5, 12, 0]),
+        (5, &[0]),
+    ],
+};
+
+// { "" : [ 0 , "" ] , "" : 0 } ,
+const OBJECT: &[u32] = &[8, 6, 13, 10, 7, 12, 6, 11, 12, 6, 13, 7, 9, 12];
+
+/// What is read.
+#[derive(Clone, Copy)]
+pub enum Word {
+    Left,
+    Right,
+    Sum,
+    Twice,
+    Json,
+    Deep,
+}
+
+impl Word {
+    /// The word with this name.
+    pub fn named(name: &str) -> Result<Word, anyhow::Error> {
+        match name {
+            "left" => Ok(Word::Left),
+            "right" => Ok(Word::Right),
+            "sum" => Ok(Word::Sum),
+            "twice" => Ok(Word::Twice),
+            "json" => Ok(Word::Json),
+            "deep" => Ok(Word::Deep),
+            _ => bail!("left, right, sum, twice, json, deep or values is wanted"),
+        }
+    }
+
+    pub fn language(self) -> Language {
+        match self {
+            Word::Left => LEFT,
+            Word::Right => RIGHT,
+            Word::Sum => SUM,
+            Word::Twice => TWICE,
+            Word::Json | Word::Deep => JSON,
+        }
+    }
+
+    /// How many tokens there are, for a count of tokens, of operands, of objects or of arrays.
+    pub fn tokens(self, count: u32) -> u32 {
+        match self {
+            Word::Left | Word::Right | Word::Sum => count,
+            Word::Twice => count.saturating_mul(2).saturating_sub(1),
+            Word::Json => count.saturating_mul(14).saturating_add(1),
+            Word::Deep => count.saturating_mul(2),
+        }
+    }
+
+    /// The token at a place, of so many.
+    pub fn token(self, k: u32, count: u32) -> u32 {
+        match self {
+            Word::Left | Word::Right => 1,
+            Word::Sum | Word::Twice => 1 + k % 2,
+            Word::Json if k == 0 => 10,
+            Word::Json if k == count.saturating_sub(1) => 11,
+            Word::Json => OBJECT[((k - 1) % 14) as usize],
+            Word::Deep if k < count / 2 => 10,
+            Word::Deep => 11,
+        }
+    }
+}
+
+/// Reads a token that is one place long.
+pub fn read<L: Ledger>(
+    recce: &mut Recce<'_>,
+    token: u32,
+    steps: &mut Steps<L>,
+) -> Result<(), anyhow::Error>
+    ensures { recce.new.flat ≡ recce.old.flat }
+{
+    if recce.place() >= MOST_PLACES {
+        bail!("too many tokens");
+    }
+    recce.alternative(SymbolId(token), 1)?;
+    recce.complete_earleme(steps)?;
+    Ok(())
+}
+
+/// Reads so many tokens.
+pub fn read_all<L: Ledger>(
+    recce: &mut Recce<'_>,
+    word: Word,
+    count: u32,
+    steps: &mut Steps<L>,
+) -> Result<(), anyhow::Error>
+    ensures { recce.new.flat ≡ recce.old.flat }
+{
+    for k in 0..count {
+        read(recce, word.token(k, count), steps)?;
+    }
+    Ok(())
+}
+
+/// How many items all sets have.
+pub fn item_count(recce: &Recce<'_>) -> usize {
+    let mut count: usize = 0;
+    for j in 0..=recce.place() {
+        count = count.saturating_add(recce.kept(j).len());
+    }
+    count
+}

@@ -1,0 +1,194 @@
+-- The hidden items that are given for a place are the expanded ones.
+use Rattle.std.proofs.Common.{◌≡◌, ◌≢◌, ◌⊎◌, inl, inr, ◌↔◌, ℕ, zero, suc, ◌+◌, ◌<◌, ◌≤◌, List, [], ◌∷◌, Some, length, map, take, get_or, Contains, slice_get, refl, sym, ◌∙◌, ap, subst, arith}
+use Rattle.std.specs.Prelude.{sum}
+use Rattle.std.proofs.lemmas.Bool.{cases_lt}
+use Rattle.std.proofs.lemmas.List.Sums.{sum_by_push}
+use Rattle.grammar_model.specs.declared.Ranking.{Ranking}
+use Rattle.grammar_model.specs.Grammar.{Grammar}
+use Rattle.recognizer_model.specs.declared.Item.{Item}
+use Rattle.recognizer_model.specs.declared.NodeKey.{NodeKey}
+use Rattle.recognizer_model.specs.Counts.{IsCountOf}
+use Rattle.recognizer_model.specs.Leo.{InReduced}
+use Rattle.recognizer_model.specs.Nodes.{Before, Placed}
+use Rattle.recognizer_model.proofs.Over.{hidden_whole}
+use Rattle.earley_sets.specs.Recognizer.{Recognizer, IsRecognizer, place_of, set_at, edges_of, top_of}
+use Rattle.earley_sets.proofs.Membership.{got_item, found_at}
+use Rattle.bocage.specs.declared.rows.AlternativeRow.{AlternativeRow}
+use Rattle.bocage.specs.declared.walk.Found.{Found}
+use Rattle.bocage.specs.Walk.{IsRead, IsUsedIn, node_of_item, top_key}
+use Rattle.bocage.specs.Ends.{IsKnownNode, IsGoing}
+use Rattle.bocage.specs.Hidden.{IsHiddenFrom, IsExpandedIn, IsExpandedAt, IsExpandedFrom, RisesWithin, RisesBy}
+use Rattle.bocage.proofs.Sets.{at_top, goes}
+use Rattle.bocage.proofs.RowLemmas.{there, one_more_taken}
+use Rattle.bocage.proofs.Splits.{used_met, used_within, used_waits}
+use Rattle.bocage.proofs.Growing.{map_both}
+use Rattle.bocage.proofs.Asking.{IsAsked, asked, least_asked}
+use Rattle.bocage.proofs.Counting.{at_place, none_at_least, none_counted, at_least_of, count_of, at_least_both, count_both, at_least_placed, count_placed}
+
+module _ (w : Grammar) (ranking : Ranking) (r : Recognizer) (read : IsRead w r) (end first : ℕ) (f : Found) (table : List (List AlternativeRow)) (going : IsGoing w ranking r end first f table) (nodes : List ℕ)
+    (listed : (n : ℕ) → Contains nodes n ↔ ((n < first) × IsKnownNode r end f.keys.keys n)) where
+  -- where a used node ends before the last place, one of the listed nodes begins no later
+  pub reached : end ≢ place_of r → (key : NodeKey) → IsUsedIn r key → key.end ≡ end → (n : ℕ) × (k : NodeKey) × Contains nodes n × (slice_get f.keys.keys n ≡ Some k) × (k.origin ≤ key.origin)
+  reached inner key used same =
+      let (some, met) = (used_met r read.is key).0 used in
+      elim (least_asked r read.is met some) [ inl e ↦ absurd (inner (sym same ∙ e)) | inr a ↦ go (subst (λ z. IsAsked r key.origin z) same a) ]
+    where
+      go : IsAsked r key.origin end → (n : ℕ) × (k : NodeKey) × Contains nodes n × (slice_get f.keys.keys n ≡ Some k) × (k.origin ≤ key.origin)
+      go a =
+          let b = a.behind in
+          let item : Item = record { rule = a.rule; dot = a.dot; origin = a.origin } in
+          let held = asked w ranking r read (suc end) f.keys.keys f.wholes.items table (λ n k at le. going.visited n k at (omega arith)) (λ k lt e. subst (λ z. Contains f.keys.keys z) (sym e) (going.top lt)) a.met (omega arith) a.front a.part a.last a.some in
+          let (n, at) = found_at f.keys.keys (node_of_item item end) held in
+          let lt : n < first = elim (cases_lt n first) [ inl lt ↦ lt | inr ge ↦ absurd (inner (going.begun n (node_of_item item end) at ge refl)) ] in
+          let is = (used_met r read.is (node_of_item item end)).1 (a.some, Before a.met a.front a.part a.last) in
+          let kept = used_waits r read.is (node_of_item item end) is (going.waits n (node_of_item item end) at (inl lt) (omega arith)) in
+          (n, node_of_item item end, (listed n).1 (lt, (item, kept, at)), at, a.low)
+
+  -- a listed node is used, and ends here
+  pub listed_used : (n : ℕ) (key : NodeKey) → Contains nodes n → slice_get f.keys.keys n ≡ Some key → IsUsedIn r key × (key.end ≡ end)
+  listed_used n key h at =
+      let (lt, (item, held, at')) = (listed n).0 h in
+      let one : Some (node_of_item item end) ≡ Some key = sym at' ∙ at in
+      let e : node_of_item item end ≡ key = cc in
+      (going.used key (got_item f.keys.keys n key (sym at)), sym (ap (λ (z : NodeKey). z.end) e))
+
+  -- where no node is listed nothing is expanded
+  pub none_expanded : end ≢ place_of r → ((n : ℕ) → Contains nodes n → ⊥) → (item : Item) → IsExpandedAt r end item → ⊥
+  none_expanded inner none item (hidden, (key, used, same, le)) = let (n, k, h, at, low) = reached inner key used same in none n h
+
+  -- the least origin is that of one of the listed nodes
+  pub least_met : (lowest least : ℕ) → end ≢ place_of r → lowest ≡ end → 0 < length nodes → least ≤ lowest →
+      (least ≡ lowest) ⊎ ((n : ℕ) × (key : NodeKey) × Contains nodes n × (slice_get f.keys.keys n ≡ Some key) × (key.origin ≡ least)) →
+      (key : NodeKey) × IsUsedIn r key × (key.end ≡ end) × (key.origin ≤ least)
+  least_met lowest least inner is some le (inr (n, key, h, at, e)) = let (used, same) = listed_used n key h at in (key, used, same, omega arith)
+  least_met lowest least inner is some le (inl e) =
+      let h = there nodes 0 0 some in
+      let (lt, (item, held, at)) = (listed (get_or nodes 0 0)).0 h in
+      let (used, same) = listed_used (get_or nodes 0 0) (node_of_item item end) h at in
+      let low = (used_within r read.is (node_of_item item end) used).forward in
+      (node_of_item item end, used, same, omega arith)
+
+  module _ (least : ℕ) (low : (n : ℕ) (key : NodeKey) → Contains nodes n → slice_get f.keys.keys n ≡ Some key → least ≤ key.origin) (whole : end ≡ place_of r → least ≡ 0)
+      (met : end ≢ place_of r → (key : NodeKey) × IsUsedIn r key × (key.end ≡ end) × (key.origin ≤ least)) where
+    -- at any place, or at the last one
+    same_or_not : (end ≡ place_of r) ⊎ (end ≢ place_of r)
+    same_or_not = elim (cases_lt end (place_of r)) [
+      | inl lt ↦ inr (λ e. let q : end ≡ place_of r = e in absurd (omega arith))
+      | inr ge ↦ elim (cases_lt (place_of r) end) [ inl gt ↦ inr (λ e. let q : end ≡ place_of r = e in absurd (omega arith)) | inr le ↦ inl (omega arith) ]
+    ]
+
+    pub hidden_expanded : (item : Item) → IsHiddenFrom r end least item → IsExpandedAt r end item
+    hidden_expanded item (hidden, le) = (
+      hidden,
+      elim same_or_not [
+        | inl e ↦
+            let lt = (hidden_whole r.flat (edges_of r) (top_of r) (at_top r read.is) (goes r read.is) hidden).1 in
+            (top_key r, going.used (top_key r) (going.top (omega arith)), sym e, omega arith)
+        | inr inner ↦ let (key, used, same, below) = met inner in (key, used, same, omega arith)
+      ],
+    )
+
+    pub expanded_hidden : (item : Item) → IsExpandedAt r end item → IsHiddenFrom r end least item
+    expanded_hidden item (hidden, (key, used, same, le)) = (
+      hidden,
+      elim same_or_not [
+        | inl e ↦ let z = whole e in omega arith
+        | inr inner ↦ let (n, k, h, at, below) = reached inner key used same in let l = low n k h at in omega arith
+      ],
+    )
+
+  -- what was given for the place is what is expanded there
+  pub given_expanded : (lowest least : ℕ) → ((n : ℕ) (key : NodeKey) → Contains nodes n → slice_get f.keys.keys n ≡ Some key → least ≤ key.origin) → least ≤ lowest →
+      (least ≡ lowest) ⊎ ((n : ℕ) × (key : NodeKey) × Contains nodes n × (slice_get f.keys.keys n ≡ Some key) × (key.origin ≡ least)) →
+      (end ≡ place_of r → lowest ≡ 0) → (end ≢ place_of r → (lowest ≡ end) × (0 < length nodes)) → (item : Item) → IsHiddenFrom r end least item ↔ IsExpandedAt r end item
+  given_expanded lowest least low le met whole inner item =
+      let whole' : end ≡ place_of r → least ≡ 0 = λ e. (let z = whole e in omega arith) in
+      let met' : end ≢ place_of r → (key : NodeKey) × IsUsedIn r key × (key.end ≡ end) × (key.origin ≤ least) = λ n. (let (is, some) = inner n in least_met lowest least n is some le met) in
+      (hidden_expanded least low whole' met' item, expanded_hidden least low whole' met' item)
+
+-- one place more
+module _ (r : Recognizer) where
+  abbrev at_end : (end : ℕ) → Placed → Type 0
+  at_end end p = IsExpandedIn r p × (p.place ≡ end)
+
+  here : (end : ℕ) (item : Item) → IsExpandedAt r end item → at_end end (at_place end item)
+  here end item h = (h, refl)
+
+  out : (end : ℕ) (p : Placed) → at_end end p → (p.place ≡ end) × IsExpandedAt r end p.item
+  out end p (h, e) = (e, subst (λ (z : Placed). IsExpandedIn r z) (λ i. record { place = e i; item = p.item }) h)
+
+  apart : (end : ℕ) (p : Placed) → IsExpandedFrom r (suc end) p → at_end end p → ⊥
+  apart end p (h, le) (h', e) = absurd (omega arith)
+
+  later : (end : ℕ) (p : Placed) → IsExpandedFrom r (suc end) p → IsExpandedFrom r end p
+  later end p (h, le) = (h, omega arith)
+
+  now : (end : ℕ) (p : Placed) → at_end end p → IsExpandedFrom r end p
+  now end p (h, e) = (h, omega arith)
+
+  parted : (end : ℕ) (p : Placed) → IsExpandedFrom r end p → IsExpandedFrom r (suc end) p ⊎ at_end end p
+  parted end p (h, le) = elim (cases_lt end p.place) [ inl lt ↦ inl (h, omega arith) | inr ge ↦ inr (h, omega arith) ]
+
+  pub within_more : (end k l m : ℕ) → RisesWithin (IsExpandedFrom r (suc end)) k l → RisesWithin (IsExpandedAt r end) l m → RisesWithin (IsExpandedFrom r end) k m
+  within_more end k l m (a, some, e) (b, more, e') = (
+    a + b,
+    at_least_both (IsExpandedFrom r (suc end)) (at_end end) (IsExpandedFrom r end) (apart end) (later end) (now end) a b some (at_least_placed end (IsExpandedAt r end) (at_end end) (here end) b more),
+    omega arith,
+  )
+
+  pub count_more : (end k l : ℕ) → IsCountOf (IsExpandedFrom r (suc end)) k → RisesBy (IsExpandedAt r end) k l → IsCountOf (IsExpandedFrom r end) l
+  count_more end k l some (n, more, e) =
+      subst (λ z. IsCountOf (IsExpandedFrom r end) z) (sym e)
+      (count_both (IsExpandedFrom r (suc end)) (at_end end) (IsExpandedFrom r end) (apart end) (later end) (now end) k n (parted end) some (count_placed end (IsExpandedAt r end) (at_end end) (here end) n (out end) more))
+
+  -- behind the last place nothing is expanded
+  pub none_behind : IsRecognizer r → IsCountOf (IsExpandedFrom r (suc (place_of r))) 0
+  none_behind is = none_counted (IsExpandedFrom r (suc (place_of r))) (λ p ((hidden, (key, used, same, low)), le). (let w = (used_within r is key used).inside in absurd (omega arith)))
+
+  pub none_within : (k : ℕ) → RisesWithin (IsExpandedFrom r (suc (place_of r))) k k
+  none_within k = (0, none_at_least (IsExpandedFrom r (suc (place_of r))), omega arith)
+
+  pub within_first : (end k l : ℕ) → end ≡ place_of r → RisesWithin (IsExpandedAt r end) k l → RisesWithin (IsExpandedFrom r end) k l
+  within_first end k l e h = within_more end k k l (subst (λ p. RisesWithin (IsExpandedFrom r (suc p)) k k) (sym e) (none_within k)) h
+
+  pub count_first : IsRecognizer r → (end k l : ℕ) → end ≡ place_of r → k ≡ 0 → RisesBy (IsExpandedAt r end) k l → IsCountOf (IsExpandedFrom r end) l
+  count_first is end k l e z h = count_more end 0 l (subst (λ p. IsCountOf (IsExpandedFrom r (suc p)) 0) (sym e) (none_behind is)) (subst (λ m. RisesBy (IsExpandedAt r end) m l) z h)
+
+  pub within_all : (end k l : ℕ) → RisesWithin (IsExpandedFrom r end) k l → RisesWithin (IsExpandedIn r) k l
+  within_all end k l (n, some, e) = (n, at_least_of (IsExpandedFrom r end) (IsExpandedIn r) n (λ p h. h.0) some, e)
+
+  pub count_all : (n : ℕ) → IsCountOf (IsExpandedFrom r 0) n → IsCountOf (IsExpandedIn r) n
+  count_all n all = count_of (IsExpandedFrom r 0) (IsExpandedIn r) n (λ p. ((λ h. h.0), (λ h. (h, omega arith)))) all
+
+-- the kept items of the first places
+module _ (r : Recognizer) (is : IsRecognizer r) where
+  abbrev IsKeptBelow : ℕ → Placed → Type 0
+  IsKeptBelow k p = (p.place < k) × InReduced r.flat (edges_of r) (top_of r) p.place p.item
+
+  abbrev IsKeptAt : ℕ → Placed → Type 0
+  IsKeptAt k p = (p.place ≡ k) × InReduced r.flat (edges_of r) (top_of r) p.place p.item
+
+  kept_below : (k : ℕ) → k ≤ length r.sets → IsCountOf (IsKeptBelow k) (sum (map length (take k r.sets)))
+  kept_below zero le = none_counted (IsKeptBelow 0) (λ p (lt, h). absurd (omega arith))
+  kept_below (suc k) le =
+      subst (λ n. IsCountOf (IsKeptBelow (suc k)) n) (sym longer)
+      (count_both (IsKeptBelow k) (IsKeptAt k) (IsKeptBelow (suc k)) (λ p (lt, h) (e, h'). absurd (omega arith)) (λ p (lt, h). (omega arith, h)) (λ p (e, h). (omega arith, h)) (sum (map length (take k r.sets))) (length (set_at r k))
+      (λ p (lt, h). elim (cases_lt p.place k) [ inl below ↦ inl (below, h) | inr ge ↦ inr (omega arith, h) ])
+      (kept_below k (omega arith))
+      (count_placed k (λ item. InReduced r.flat (edges_of r) (top_of r) k item) (IsKeptAt k) (λ item h. (refl, h)) (length (set_at r k)) (λ p (e, h). (e, subst (λ z. InReduced r.flat (edges_of r) (top_of r) z p.item) e h)) (set_at r k, is.exact k (omega arith), refl)))
+    where
+      longer : sum (map length (take (suc k) r.sets)) ≡ sum (map length (take k r.sets)) + length (set_at r k)
+      longer =
+          ap (λ l. sum (map length l)) (ap (λ n. take n r.sets) (let e : suc k ≡ k + 1 = omega arith in e) ∙ one_more_taken r.sets k [] (omega arith))
+          ∙ ap sum (map_both length (take k r.sets) (set_at r k ∷ []))
+          ∙ sum_by_push (λ x. x) (map length (take k r.sets)) (length (set_at r k))
+
+  pub kept_counted : IsCountOf {A = Placed} (λ p. (p.place ≤ place_of r) × InReduced r.flat (edges_of r) (top_of r) p.place p.item) (sum (map length r.sets))
+  kept_counted =
+      let s = is.some in
+      count_of (IsKeptBelow (length r.sets)) (λ p. (p.place ≤ place_of r) × InReduced r.flat (edges_of r) (top_of r) p.place p.item) (sum (map length r.sets)) (λ p. ((λ (lt, h). (omega arith, h)), (λ (le, h). (omega arith, h))))
+      (subst (λ l. IsCountOf (IsKeptBelow (length r.sets)) (sum (map length l))) (all r.sets) (kept_below (length r.sets) (omega arith)))
+    where
+      all : {X : Type 0} (xs : List X) → take (length xs) xs ≡ xs
+      all [] = refl
+      all (x ∷ xs) = ap (λ l. x ∷ l) (all xs)

@@ -1,0 +1,163 @@
+-- Parts that end at one place, span by span.
+use Rattle.std.proofs.Common.{◌≡◌, ℕ, zero, suc, ◌<◌, ◌≤◌, ◌+◌, ◌-◌, ◌++◌, ◌⊎◌, inl, inr, Contains, List, [], ◌∷◌, Some, length, take, drop, get_or, slice_get, refl, sym, ◌∙◌, ap, subst, arith}
+use Rattle.std.specs.Option.{option_cmp}
+use Rattle.std.specs.List.Sorted.{IsStrictlySortedBy}
+use Rattle.std.proofs.lemmas.Bool.{cases_lt}
+use Rattle.std.proofs.lemmas.List.Elements.{Contains-push_cases}
+use Rattle.grammar_core.proofs.Placed.{part_from, part_to}
+use Rattle.earley_sets.proofs.Membership.{got_at, got_item, get_at, found_at}
+use Rattle.bocage.specs.declared.parts.Part.{Part}
+use Rattle.bocage.specs.declared.groups.Group.{Group}
+use Rattle.bocage.specs.Rows.{between}
+use Rattle.bocage.specs.Parts.{part_cmp, key_cmp, part_at, no_part}
+use Rattle.bocage.specs.Groups.{IsSameSpan, IsGroup}
+use Rattle.bocage.specs.Walk.{IsSpan}
+use Rattle.bocage.proofs.InOrder.{seconds_rise, thirds_rise, sorted_between}
+use Rattle.bocage.proofs.RowLemmas.{there}
+use Rattle.bocage.proofs.Growing.{get_more}
+
+first_between : {X : Type 0} (k end : ℕ) (xs : List X) (d : X) → k < end → k < length xs → get_or (between k end xs) 0 d ≡ get_or xs k d
+first_between zero (suc end) [] d lt l = absurd (omega arith)
+first_between zero (suc end) (x ∷ xs) d lt l = let e : suc end - 0 ≡ suc end = omega arith in ap (λ n. get_or (take n (x ∷ xs)) 0 d) e
+first_between zero zero xs d lt l = absurd (omega arith)
+first_between (suc k) zero xs d lt l = absurd (omega arith)
+first_between (suc k) (suc end) [] d lt l = absurd (omega arith)
+first_between (suc k) (suc end) (x ∷ xs) d lt l = let e : suc end - suc k ≡ end - k = omega arith in ap (λ n. get_or (take n (drop k xs)) 0 d) e ∙ first_between k end xs d (omega arith) (omega arith)
+
+pub last_is : {X : Type 0} (xs : List X) (x : X) → slice_get (xs ++ x ∷ []) (length xs) ≡ Some x
+last_is [] x = refl
+last_is (y ∷ ys) x = last_is ys x
+
+pub pushed_at : {X : Type 0} (xs : List X) (x : X) (n : ℕ) (y : X) → slice_get (xs ++ x ∷ []) n ≡ Some y → (slice_get xs n ≡ Some y) ⊎ ((n ≡ length xs) × (x ≡ y))
+pushed_at [] x zero y e = inr (refl, (let s : x ≡ y = cc in s))
+pushed_at [] x (suc n) y e = absurd (cc)
+pushed_at (z ∷ zs) x zero y e = inl e
+pushed_at (z ∷ zs) x (suc n) y e = elim (pushed_at zs x n y e) [ inl a ↦ inl a | inr (a, b) ↦ inr (ap suc a, b) ]
+
+module _ (end : ℕ) (parts : List Part) (sorted : IsStrictlySortedBy part_cmp parts) (ends : (p : Part) → Contains parts p → (p.end ≡ end) × (p.length ≤ end)) where
+  same_ends : (p q : Part) → Contains parts p → Contains parts q → p.end ≡ q.end
+  same_ends p q a b = (ends p a).0 ∙ sym (ends q b).0
+
+  symbols_rise : (i j : ℕ) (d : Part) → i ≤ j → j < length parts → (get_or parts i d).symbol ≤ (get_or parts j d).symbol
+  symbols_rise = seconds_rise (λ (p : Part). p.end) (λ (p : Part). p.symbol) (λ (p : Part). p.length) (λ (p q : Part). option_cmp key_cmp p.whole q.whole) parts sorted same_ends
+
+  lengths_rise : (i j : ℕ) (d : Part) → i ≤ j → j < length parts → (get_or parts i d).symbol ≡ (get_or parts j d).symbol → (get_or parts i d).length ≤ (get_or parts j d).length
+  lengths_rise = thirds_rise (λ (p : Part). p.end) (λ (p : Part). p.symbol) (λ (p : Part). p.length) (λ (p q : Part). option_cmp key_cmp p.whole q.whole) parts sorted same_ends
+
+  module _ (k past : ℕ) (below : k < length parts) (on : k < past) (bound : past ≤ length parts)
+      (same : (i : ℕ) → k ≤ i → i < past → IsSameSpan (part_at parts i) (part_at parts k)) (other : past < length parts → ¬ IsSameSpan (part_at parts past) (part_at parts k)) where
+    -- behind the group the same symbol is over longer spans
+    pub beyond : (i : ℕ) → past ≤ i → i < length parts → (part_at parts i).symbol ≡ (part_at parts k).symbol → (part_at parts k).length < (part_at parts i).length
+    beyond i le lt e =
+        let a = symbols_rise k past no_part (omega arith) (omega arith) in
+        let b = symbols_rise past i no_part le lt in
+        let s : (part_at parts past).symbol ≡ (part_at parts k).symbol = omega arith in
+        let c = lengths_rise k past no_part (omega arith) (omega arith) (sym s) in
+        let d = lengths_rise past i no_part le lt (s ∙ sym e) in
+        elim (cases_lt (part_at parts k).length (part_at parts i).length) [ inl l ↦ l | inr ge ↦ absurd (other (omega arith) (s, omega arith)) ]
+
+    abbrev pub group_at : Group
+    group_at = record { symbol = (part_at parts k).symbol; start = end - (part_at parts k).length; first = k; past = past }
+
+    fits : (part_at parts k).length ≤ end
+    fits = (ends (part_at parts k) (there parts k no_part below)).1
+
+    module _ (groups : List Group)
+        (are : (g : Group) → Contains groups g → IsGroup end parts g)
+        (all : (i : ℕ) → i < k → (n : ℕ) × (g : Group) × (slice_get groups n ≡ Some g) × (g.symbol ≡ (part_at parts i).symbol) × (g.start + (part_at parts i).length ≡ end))
+        (order : (i j : ℕ) (g h : Group) → i < j → slice_get groups i ≡ Some g → slice_get groups j ≡ Some h → g.symbol ≡ h.symbol → h.start < g.start)
+        (longer : (g : Group) (j : ℕ) → Contains groups g → k ≤ j → j < length parts → g.symbol ≡ (part_at parts j).symbol → end < g.start + (part_at parts j).length) where
+      new_group : IsGroup end parts (record { symbol = (part_at parts k).symbol; start = end - (part_at parts k).length; first = k; past = past })
+      new_group = record {
+        some = on;
+        within = bound;
+        each = λ i le lt. (let s = same i le lt in let l = s.1 in let f = fits in (s.0, omega arith));
+        all = λ i lt s l. (
+            elim (cases_lt i k) [
+              | inl before ↦
+                  let (n, g, at, gs, gl) = all i before in
+                  let x = longer g k (got_item groups n g (sym at)) (omega arith) below (gs ∙ s) in
+                  let f = fits in
+                  absurd (omega arith)
+              | inr ge ↦ elim (cases_lt i past) [ inl lt' ↦ (ge, lt') | inr ge' ↦ let b = beyond i ge' lt s in let f = fits in absurd (omega arith) ]
+            ]
+            );
+      }
+
+      pub more_are : (g : Group) → Contains (groups ++ record { symbol = (part_at parts k).symbol; start = end - (part_at parts k).length; first = k; past = past } ∷ []) g → IsGroup end parts g
+      more_are g h = elim (Contains-push_cases groups (record { symbol = (part_at parts k).symbol; start = end - (part_at parts k).length; first = k; past = past }) g h) [ inl a ↦ are g a | inr s ↦ subst (IsGroup end parts) s new_group ]
+
+      pub more_all : (i : ℕ) → i < past → (n : ℕ) × (g : Group) × (slice_get (groups ++ record { symbol = (part_at parts k).symbol; start = end - (part_at parts k).length; first = k; past = past } ∷ []) n ≡ Some g) × (g.symbol ≡ (part_at parts i).symbol) × (g.start + (part_at parts i).length ≡ end)
+      more_all i lt = elim (cases_lt i k) [
+        | inl before ↦ let (n, g, at, gs, gl) = all i before in (n, g, get_more groups _ n g at, gs, gl)
+        | inr ge ↦ let s = same i ge lt in let l = s.1 in let f = fits in (length groups, group_at, last_is groups _, sym s.0, omega arith)
+      ]
+
+      pub more_order : (i j : ℕ) (g h : Group) → i < j → slice_get (groups ++ record { symbol = (part_at parts k).symbol; start = end - (part_at parts k).length; first = k; past = past } ∷ []) i ≡ Some g →
+          slice_get (groups ++ record { symbol = (part_at parts k).symbol; start = end - (part_at parts k).length; first = k; past = past } ∷ []) j ≡ Some h → g.symbol ≡ h.symbol → h.start < g.start
+      more_order i j g h lt a b s = elim (pushed_at groups _ i g a) [
+        | inl x ↦ elim (pushed_at groups _ j h b) [
+          | inl y ↦ order i j g h lt x y s
+          | inr (at, same') ↦
+              let x' = longer g k (got_item groups i g (sym x)) (omega arith) below (s ∙ ap (λ (z : Group). z.symbol) (sym same')) in
+              let f = fits in
+              let e = ap (λ (z : Group). z.start) same' in
+              omega arith
+        ]
+        | inr (at, same') ↦ elim (pushed_at groups _ j h b) [
+          | inl y ↦ let (l, e) = got_at groups j h h (sym y) in absurd (omega arith)
+          | inr (at', _) ↦ absurd (omega arith)
+        ]
+      ]
+
+      pub more_longer : (g : Group) (j : ℕ) → Contains (groups ++ record { symbol = (part_at parts k).symbol; start = end - (part_at parts k).length; first = k; past = past } ∷ []) g → past ≤ j → j < length parts → g.symbol ≡ (part_at parts j).symbol → end < g.start + (part_at parts j).length
+      more_longer g j h le lt s = elim (Contains-push_cases groups (record { symbol = (part_at parts k).symbol; start = end - (part_at parts k).length; first = k; past = past }) g h) [
+        | inl a ↦ longer g j a (omega arith) lt s
+        | inr q ↦ let b = beyond j le lt (sym (ap (λ (z : Group). z.symbol) q ∙ s)) in let e = ap (λ (z : Group). z.start) q in let f = fits in omega arith
+      ]
+
+  -- the parts of a group are those of one symbol over one span
+  module _ (g : Group) (is : IsGroup end parts g) where
+    below : g.first < length parts
+    below = let a = is.some in let b = is.within in omega arith
+
+    pub first_of_group : part_at (between g.first g.past parts) 0 ≡ part_at parts g.first
+    first_of_group = first_between g.first g.past parts no_part is.some below
+
+    pub symbol_of_group : (part_at (between g.first g.past parts) 0).symbol ≡ g.symbol
+    symbol_of_group = ap (λ (p : Part). p.symbol) first_of_group ∙ (is.each g.first (omega arith) is.some).0
+
+    pub start_of_group : g.start + (part_at (between g.first g.past parts) 0).length ≡ end
+    start_of_group = ap (λ (p : Part). g.start + p.length) first_of_group ∙ (is.each g.first (omega arith) is.some).1
+
+    pub span_of_group : IsSpan parts (between g.first g.past parts)
+    span_of_group = record {
+      some = (let (n, lt, e) = inside (part_at parts g.first) g.first (omega arith) is.some (get_at parts g.first no_part below) in omega arith);
+      sorted = sorted_between part_cmp g.first g.past parts sorted;
+      exact = λ p. (out p, into p);
+    }
+      where
+        inside : (p : Part) (i : ℕ) → g.first ≤ i → i < g.past → slice_get parts i ≡ Some p → Contains (between g.first g.past parts) p
+        inside p i le lt e = let s = is.some in part_to parts g.first g.past (omega arith) is.within i p le lt e
+
+        out : (p : Part) → Contains (between g.first g.past parts) p → Contains parts p × (p.symbol ≡ (part_at (between g.first g.past parts) 0).symbol) × (p.length ≡ (part_at (between g.first g.past parts) 0).length)
+        out p h =
+            let s = is.some in
+            let (i, le, lt, e) = part_from parts g.first g.past (omega arith) is.within p h in
+            let (l, same) = got_at parts i p no_part (sym e) in
+            let (a, b) = is.each i le lt in
+            let c = ap (λ (z : Part). z.length) same in
+            let d = start_of_group in
+            (got_item parts i p (sym e), ap (λ (z : Part). z.symbol) (sym same) ∙ a ∙ sym symbol_of_group, omega arith)
+
+        into : (p : Part) → Contains parts p × (p.symbol ≡ (part_at (between g.first g.past parts) 0).symbol) × (p.length ≡ (part_at (between g.first g.past parts) 0).length) → Contains (between g.first g.past parts) p
+        into p (all, s, l) =
+            let (i, at) = found_at parts p all in
+            let (lt, same) = got_at parts i p no_part (sym at) in
+            let c = ap (λ (z : Part). z.length) same in
+            let d = start_of_group in
+            let (a, b) = is.all i lt (ap (λ (z : Part). z.symbol) same ∙ s ∙ symbol_of_group) (omega arith) in
+            inside p i a b at
+
+    pub group_starts : g.start ≤ end
+    group_starts = let (s, l) = is.each g.first (omega arith) is.some in omega arith

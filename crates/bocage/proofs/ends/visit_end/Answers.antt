@@ -1,0 +1,92 @@
+use Rattle.std.proofs.Common.{◌≡◌, ◌∙◌, ◌<◌, ◌↔◌, ◌==◌, Bool, false, true≢false, zero, suc, List, ℕ, Contains, length, map, sym, subst, arith}
+use Rattle.std.proofs.lemmas.Bool.{eqb-true}
+use Rattle.std.proofs.lemmas.Result.{on_ok_weaker}
+use Rattle.recognizer_model.specs.declared.Item.{Item}
+use Rattle.earley_sets.proofs.Membership.{Contains-none}
+use Rattle.bocage.specs.Ends.{IsKnownNode}
+use Rattle.bocage.specs.Hidden.{IsHiddenFrom, IsExpandedAt, RisesBy}
+use Rattle.bocage.proofs.Visiting.{none_of, none_visited}
+use Rattle.bocage.proofs.Counting.{rises_of, rises_by_of, rises_none_by}
+use Rattle.bocage.proofs.Expanding.{none_expanded, given_expanded}
+use Rattle.bocage.proofs.ends.visit_end.Goals.{then-whole, else-whole, else-is_empty-via-then-is_empty+else-not-whole, else-is_empty-via-else-is_empty}
+use Rattle.bocage.proofs.ends.visit_end.Given as given
+use Rattle.bocage.proofs.ends.visit_end.Goals as goal
+
+pub returns-then-not-whole-clause-visited : goal.returns-then-not-whole-clause-visited
+returns-then-not-whole-clause-visited g c =
+    none_visited c.args.w.now c.args.ranking c.args.recce.now c.requires.read c.args.end c.args.first c.args.found.now (map (λ r. r.now) c.args.table.now.items) c.as_slice.result.now c.requires.going
+    (eqb-true (length c.as_slice.result.now) 0 (sym c.is_empty.ensures ∙ c.if-is_empty.true)) (λ e. c.if-not-whole.true (e ∙ sym c.place.ensures.place))
+    (λ n. subst (λ (l : List ℕ). Contains l n ↔ ((n < c.args.first) × IsKnownNode c.args.recce.now c.args.end c.args.found.now.keys.keys n)) (sym c.as_slice.ensures.value) (c.in_ok-list_nodes.ensures n))
+
+pub least_origin-least-requires : goal.least_origin-least-requires
+least_origin-least-requires g c n h =
+    let (lt, known) = (c.in_ok-list_nodes.ensures n).0 (subst (λ (l : List ℕ). Contains l n) c.deref.ensures.value h) in
+    let few = c.requires.going.few in
+    omega arith
+
+pub visit_from-requires-clause-nodes : goal.visit_from-requires-clause-nodes
+visit_from-requires-clause-nodes g c = c.in_ok-list_nodes.ensures
+
+pub visit_from-requires-clause-least : goal.visit_from-requires-clause-least
+visit_from-requires-clause-least g c n key h at = c.least_origin-least.ensures.nodes n key (subst (λ (l : List ℕ). Contains l n) (sym c.deref.ensures.value) h) at
+
+pub visit_from-requires-clause-whole : goal.visit_from-requires-clause-whole
+visit_from-requires-clause-whole g c e =
+    let b = c.least_origin-least.ensures.bound in
+    elim c.if-whole.branch [
+      | then-whole w ↦ let z = w.lowest-is in omega arith
+      | else-whole w ↦ absurd (w.if-whole.false (e ∙ sym c.place.ensures.place))
+    ]
+
+pub returns-then-not-whole-clause-expanded : goal.returns-then-not-whole-clause-expanded
+returns-then-not-whole-clause-expanded g c =
+    rises_none_by (IsExpandedAt c.args.recce.now c.args.end) c.args.work.now.expanded
+    (none_expanded c.args.w.now c.args.ranking c.args.recce.now c.requires.read c.args.end c.args.first c.args.found.now (map (λ r. r.now) c.args.table.now.items) c.requires.going c.list_nodes.new.nodes.items c.in_ok-list_nodes.ensures
+    (λ e. c.if-not-whole.true (e ∙ sym c.place.ensures.place))
+    (λ n h. Contains-none n (subst (λ (l : List ℕ). Contains l n) (sym c.as_slice.ensures.value ∙ none_of c.as_slice.result.now (eqb-true (length c.as_slice.result.now) 0 (sym c.is_empty.ensures ∙ c.if-is_empty.true))) h)))
+
+positive : (b : Bool) (n : ℕ) → b ≡ (n == 0) → b ≡ false → 0 < n
+positive b zero e f = absurd (true≢false (sym e ∙ f))
+positive b (suc n) e f = omega arith
+
+pub returns-in_err-hidden-clause-counted : goal.returns-in_err-hidden-clause-counted
+returns-in_err-hidden-clause-counted g c =
+    rises_of (IsHiddenFrom c.args.recce.now c.args.end c.least_origin-least.result) (IsExpandedAt c.args.recce.now c.args.end) c.args.steps.now c.list_hidden.new.steps
+    (λ item h. (given_expanded c.args.w.now c.args.ranking c.args.recce.now c.requires.read c.args.end c.args.first c.args.found.now (map (λ r. r.now) c.args.table.now.items) c.requires.going c.deref.result.now
+    (λ n. subst (λ (l : List ℕ). Contains l n ↔ ((n < c.args.first) × IsKnownNode c.args.recce.now c.args.end c.args.found.now.keys.keys n)) (sym c.deref.ensures.value) (c.in_ok-list_nodes.ensures n))
+    c.if-whole.lowest c.least_origin-least.result c.least_origin-least.ensures.nodes c.least_origin-least.ensures.bound c.least_origin-least.ensures.met
+    (λ e. elim c.if-whole.branch [ then-whole w ↦ w.lowest-is | else-whole w ↦ absurd (w.if-whole.false (e ∙ sym c.place.ensures.place)) ])
+    (λ n. (
+      elim c.if-whole.branch [ then-whole w ↦ absurd (n (w.if-whole.true ∙ c.place.ensures.place)) | else-whole w ↦ w.lowest-is ],
+      elim c.else-is_empty.branch [
+        | else-is_empty-via-then-is_empty+else-not-whole w ↦ absurd (n (w.if-not-whole.false ∙ c.place.ensures.place))
+        | else-is_empty-via-else-is_empty w ↦ subst (λ (l : List ℕ). 0 < length l) (c.as_slice.ensures.value ∙ sym c.deref.ensures.value) (positive c.is_empty.result (length c.as_slice.result.now) c.is_empty.ensures w.if-is_empty.false)
+      ],
+    ))
+    item).0 h)
+    c.in_err-hidden.ensures.counted
+
+is_given : (g : given.Over) → (c : goal.After-drop-hidden g) → (item : Item) → IsHiddenFrom c.args.recce.now c.args.end c.least_origin-least.result item ↔ IsExpandedAt c.args.recce.now c.args.end item
+is_given g c =
+    given_expanded c.args.w.now c.args.ranking c.args.recce.now c.requires.read c.args.end c.args.first c.args.found.now (map (λ r. r.now) c.args.table.now.items) c.requires.going c.deref.result.now
+    (λ n. subst (λ (l : List ℕ). Contains l n ↔ ((n < c.args.first) × IsKnownNode c.args.recce.now c.args.end c.args.found.now.keys.keys n)) (sym c.deref.ensures.value) (c.in_ok-list_nodes.ensures n))
+    c.if-whole.lowest c.least_origin-least.result c.least_origin-least.ensures.nodes c.least_origin-least.ensures.bound c.least_origin-least.ensures.met
+    (λ e. elim c.if-whole.branch [ then-whole w ↦ w.lowest-is | else-whole w ↦ absurd (w.if-whole.false (e ∙ sym c.place.ensures.place)) ])
+    (λ n. (
+      elim c.if-whole.branch [ then-whole w ↦ absurd (n (w.if-whole.true ∙ c.place.ensures.place)) | else-whole w ↦ w.lowest-is ],
+      elim c.else-is_empty.branch [
+        | else-is_empty-via-then-is_empty+else-not-whole w ↦ absurd (n (w.if-not-whole.false ∙ c.place.ensures.place))
+        | else-is_empty-via-else-is_empty w ↦ subst (λ (l : List ℕ). 0 < length l) (c.as_slice.ensures.value ∙ sym c.deref.ensures.value) (positive c.is_empty.result (length c.as_slice.result.now) c.is_empty.ensures w.if-is_empty.false)
+      ],
+    ))
+
+pub returns-clause-expanded : goal.returns-clause-expanded
+returns-clause-expanded g c =
+    on_ok_weaker c.visit_from.result
+    (λ _. subst (λ n. RisesBy (IsExpandedAt c.args.recce.now c.args.end) c.args.work.now.expanded n) (sym c.visit_from.ensures.expanded)
+    (rises_by_of (IsHiddenFrom c.args.recce.now c.args.end c.least_origin-least.result) (IsExpandedAt c.args.recce.now c.args.end) c.args.work.now.expanded c.list_hidden.new.expanded (is_given g c) c.in_ok-hidden.ensures.expanded))
+    c.visit_from.ensures.grows
+
+pub returns-clause-counted : goal.returns-clause-counted
+returns-clause-counted g c =
+    rises_of (IsHiddenFrom c.args.recce.now c.args.end c.least_origin-least.result) (IsExpandedAt c.args.recce.now c.args.end) c.args.steps.now c.list_hidden.new.steps (λ item. (is_given g c item).0) c.in_ok-hidden.ensures.counted

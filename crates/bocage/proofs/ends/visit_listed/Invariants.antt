@@ -1,0 +1,11 @@
+use Rattle.std.proofs.Common.{◌≡◌, ℕ, Some, map, Contains, take, slice_get}
+use Rattle.recognizer_model.specs.declared.NodeKey.{NodeKey}
+use Rattle.bocage.specs.Ends.{Goes, HasRow}
+use Rattle.bocage.proofs.ends.visit_listed.Given as goal
+
+abbrev pub invariant-loop-node : goal.invariant-loop-node
+invariant-loop-node l = record {
+  goes : Goes l.known l.initial.found l.found (map (λ r. r.now) l.initial.table.items) (map (λ r. r.now) l.table.items);
+  have : (n : ℕ) (key : NodeKey) → Contains (take l.node-index l.nodes) n → slice_get l.initial.found.keys.keys n ≡ Some key →
+      HasRow l.known.written.now l.known.ranking l.known.recce.now l.found.keys.keys l.found.wholes.items (map (λ r. r.now) l.table.items) n key;
+}

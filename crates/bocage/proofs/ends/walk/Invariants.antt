@@ -1,0 +1,14 @@
+use Rattle.std.proofs.Common.{◌-◌, map}
+use Rattle.bocage.specs.Walk.{IsUsedIn, GrowsBy}
+use Rattle.bocage.specs.Ends.{AreVisited}
+use Rattle.bocage.specs.Hidden.{IsExpandedFrom, RisesWithin}
+use Rattle.recognizer_model.specs.Counts.{IsCountOf}
+use Rattle.bocage.proofs.ends.walk.Given as goal
+
+abbrev pub invariant-loop-back : goal.invariant-loop-back
+invariant-loop-back g l = record {
+  visited : AreVisited l.w l.ranking l.recce (l.place - l.back) l.found (map (λ r. r.now) l.table.items);
+  grows : GrowsBy (IsUsedIn l.recce) l.fn.found.keys.keys l.found.keys.keys;
+  counted : RisesWithin (IsExpandedFrom l.recce (l.place - l.back)) l.fn.steps l.steps;
+  expanded : IsCountOf (IsExpandedFrom l.recce (l.place - l.back)) l.work.expanded;
+}

@@ -1,9 +1,0 @@
-use Rattle.recognizer_model.specs.declared.Item.{Item}
-use Rattle.earley_sets.specs.Recognizer.{set_at}
-use Rattle.bocage.specs.declared.parts.Part.{Part}
-use Rattle.bocage.specs.Parts.{IsWholeOf}
-use Rattle.bocage.proofs.Gathering.{Gains, ByFirst}
-use Rattle.bocage.proofs.index.put_wholes.Given as goal
-
-abbrev pub invariant-loop-k : goal.invariant-loop-k
-invariant-loop-k l = Gains (ByFirst (λ (item : Item) (p : Part). IsWholeOf l.w l.ranking l.recce.flat l.end item p) (set_at l.recce l.end) l.k) l.initial.parts.items l.parts.items

@@ -1,0 +1,366 @@
+//! The walk over the places where nodes end, from the last to the first.
+ghost use Rattle.std.specs.Prelude.{◌≡◌, ◌≢◌, AllPairs, ℕ, ◌<◌, ◌≤◌, ◌+◌, ◌-◌, ◌↔◌, ◌⊎◌, [], length, map, IfOk, OnOk, IfSome, IsNone, Contains, slice_get, Some};
+ghost use Rattle.recognizer_model.specs.declared.NodeKey.{NodeKey as TheKey};
+ghost use Rattle.recognizer_model.specs.Counts.{IsCountOf};
+ghost use Rattle.earley_sets.specs.Recognizer.{IsRecognizer, place_of, set_at};
+ghost use Rattle.bocage.specs.Hidden.{AreHidden, IsExpandedIn, IsExpandedAt, RisesBy, RisesWithin};
+ghost use Rattle.bocage.specs.Walk.{Knows, IsUsedIn, IsRead, GrowsBy, top_key};
+ghost use Rattle.bocage.specs.Ends.{SetsRow, IsKnownNode, Visits, Goes, HasRow, IsReady, IsGoing, AreVisited};
+ghost use Rattle.bocage.specs.Walk.{AreGathered};
+
+use crate::ForestRefusal;
+use crate::gather::{list_hidden, list_parts};
+use crate::groups::{Group, list_groups};
+use crate::joins::{Join, list_joins};
+use crate::parts::Part;
+use crate::rows::{AlternativeRow, key_at};
+use crate::walk::{Found, Known, differ, put_key};
+use bumpalo::Bump;
+use earley_sets::Recce;
+use grammar_core::Written;
+use grammar_model::{Edge, Ranking};
+use indexmap::IndexSet;
+use recognizer_model::{Item, NodeKey};
+use slif_base::Steps;
+use std::alloc::Global;
+use std::sync::ledger::Ledger;
+
+/// What is used again for each place.
+#[derive(Drop)]
+pub struct Work {
+    pub edges: Vec<Edge>,
+    pub parts: Vec<Part>,
+    pub groups: Vec<Group>,
+    pub joins: Vec<Join>,
+    pub nodes: Vec<usize>,
+    /// how many hidden items were given at the places so far
+    pub expanded: u64,
+}
+
+impl Work {
+    pub fn new(alloc: Global) -> Work
+        ensures { result.expanded ≡ 0 }
+    {
+        Work {
+            edges: Vec::new(alloc),
+            parts: Vec::new(alloc),
+            groups: Vec::new(alloc),
+            joins: Vec::new(alloc),
+            nodes: Vec::new(alloc),
+            expanded: 0,
+        }
+    }
+}
+
+// Sets the alternatives of a node. Those before it that have none yet get none.
+fn set_row<'a>(
+    table: &mut Vec<&'a [AlternativeRow]>,
+    node: usize,
+    rows: &'a [AlternativeRow],
+) -> Result<(), ForestRefusal>
+    ensures { OnOk result (SetsRow (map (λ r. r.now) table.old.items) (map (λ r. r.now) table.new.items) node rows.now) }
+{
+    for k in table.as_slice().len()..node {
+        table.push(&[])?;
+    }
+    if node < table.as_slice().len() {
+        table[node] = rows;
+    } else {
+        table.push(rows)?;
+    }
+    Ok(())
+}
+
+// The number of a node, if it was met.
+fn find(keys: &IndexSet<NodeKey>, key: NodeKey) -> Option<usize>
+    ensures some { IfSome result (λ n. slice_get keys.now.keys n ≡ Some key) }
+    ensures none { IsNone result → ¬ Contains keys.now.keys key }
+{
+    keys.get_index_of(&key)
+}
+
+// Lists the node of an item, if it is one of the first.
+fn list_node(
+    keys: &IndexSet<NodeKey>,
+    first: usize,
+    key: NodeKey,
+    nodes: &mut Vec<usize>,
+) -> Result<(), ForestRefusal>
+    ensures { OnOk result ((n : ℕ) → Contains nodes.new.items n ↔ (Contains nodes.old.items n ⊎ ((n < first) × (slice_get keys.now.keys n ≡ Some key)))) }
+{
+    differ(keys);
+    if let Some(node) = find(keys, key) {
+        if node < first {
+            nodes.push(node)?;
+        }
+    }
+    Ok(())
+}
+
+// Lists those of the first nodes that end at a place and have no alternatives yet.
+fn list_nodes(
+    recce: &Recce<'_>,
+    end: u32,
+    keys: &IndexSet<NodeKey>,
+    first: usize,
+    nodes: &mut Vec<usize>,
+) -> Result<(), ForestRefusal>
+    requires { end ≤ place_of recce.now }
+    ensures { OnOk result ((n : ℕ) → Contains nodes.new.items n ↔ ((n < first) × IsKnownNode recce.now end keys.now.keys n)) }
+{
+    nodes.clear();
+    let set = recce.kept(end);
+    for k in 0..set.len() {
+        let item = set.at(k);
+        let key = NodeKey {
+            rule: item.rule,
+            dot: item.dot,
+            origin: item.origin,
+            end,
+        };
+        list_node(keys, first, key, nodes)?;
+    }
+    Ok(())
+}
+
+// The least origin of nodes, where it is lower than the one that is given.
+fn least_origin(keys: &IndexSet<NodeKey>, nodes: &[usize], least: u32) -> u32
+    requires { (n : ℕ) → Contains nodes.now n → n < length keys.now.keys }
+    ensures nodes { (n : ℕ) (key : TheKey) → Contains nodes.now n → slice_get keys.now.keys n ≡ Some key → result ≤ key.origin }
+    ensures bound { result ≤ least }
+    ensures met { (result ≡ least) ⊎ ((n : ℕ) × (key : TheKey) × Contains nodes.now n × (slice_get keys.now.keys n ≡ Some key) × (key.origin ≡ result)) }
+{
+    let mut lowest = least;
+    for node in nodes {
+        lowest = lowest.min(key_at(keys.as_slice(), *node).origin);
+    }
+    lowest
+}
+
+// Finds the alternatives of a node.
+fn visit<'a>(
+    known: &Known<'_>,
+    arena: &'a Bump,
+    node: usize,
+    found: &mut Found,
+    table: &mut Vec<&'a [AlternativeRow]>,
+) -> Result<(), ForestRefusal>
+    requires knows { Knows known.now }
+    requires node { IsReady known.now found.old.keys.keys node }
+    ensures { OnOk result (Visits known.now node found.old found.new (map (λ r. r.now) table.old.items) (map (λ r. r.now) table.new.items)) }
+{
+    let key = key_at(found.keys.as_slice(), node);
+    found.alternatives.truncate(0);
+    put_key(known, key, found)?;
+    let rows = arena.try_alloc_slice_copy(found.alternatives.as_slice())?;
+    set_row(table, node, rows)
+}
+
+// Finds the alternatives of nodes.
+fn visit_listed<'a>(
+    known: &Known<'_>,
+    arena: &'a Bump,
+    nodes: &[usize],
+    found: &mut Found,
+    table: &mut Vec<&'a [AlternativeRow]>,
+) -> Result<(), ForestRefusal>
+    requires knows { Knows known.now }
+    requires nodes { (n : ℕ) → Contains nodes.now n → IsReady known.now found.old.keys.keys n }
+    ensures goes { OnOk result (Goes known.now found.old found.new (map (λ r. r.now) table.old.items) (map (λ r. r.now) table.new.items)) }
+    ensures have { OnOk result ((n : ℕ) (key : TheKey) → Contains nodes.now n → slice_get found.old.keys.keys n ≡ Some key →
+        HasRow known.now.written.now known.now.ranking known.now.recce.now found.new.keys.keys found.new.wholes.items (map (λ r. r.now) table.new.items) n key) }
+{
+    for node in nodes {
+        visit(known, arena, *node, found, table)?;
+    }
+    Ok(())
+}
+
+// Finds the alternatives of a node, if it ends here.
+fn visit_here<'a>(
+    known: &Known<'_>,
+    arena: &'a Bump,
+    node: usize,
+    key: NodeKey,
+    found: &mut Found,
+    table: &mut Vec<&'a [AlternativeRow]>,
+) -> Result<(), ForestRefusal>
+    requires knows { Knows known.now }
+    requires node { slice_get found.old.keys.keys node ≡ Some key }
+    requires ready { key.end ≡ known.now.end → IsReady known.now found.old.keys.keys node }
+    ensures goes { OnOk result (Goes known.now found.old found.new (map (λ r. r.now) table.old.items) (map (λ r. r.now) table.new.items)) }
+    ensures has { OnOk result (key.end ≡ known.now.end →
+        HasRow known.now.written.now known.now.ranking known.now.recce.now found.new.keys.keys found.new.wholes.items (map (λ r. r.now) table.new.items) node key) }
+{
+    if key.end == known.end {
+        visit(known, arena, node, found, table)?;
+    }
+    Ok(())
+}
+
+// Finds the alternatives of the nodes that end here, from one number on, until no new one is met.
+fn visit_new<'a>(
+    known: &Known<'_>,
+    arena: &'a Bump,
+    first: usize,
+    found: &mut Found,
+    table: &mut Vec<&'a [AlternativeRow]>,
+) -> Result<(), ForestRefusal>
+    requires knows { Knows known.now }
+    requires first { first ≤ length found.old.keys.keys }
+    requires nodes { (n : ℕ) (key : TheKey) → first ≤ n → slice_get found.old.keys.keys n ≡ Some key → key.end ≡ known.now.end → IsReady known.now found.old.keys.keys n }
+    ensures goes { OnOk result (Goes known.now found.old found.new (map (λ r. r.now) table.old.items) (map (λ r. r.now) table.new.items)) }
+    ensures have { OnOk result ((n : ℕ) (key : TheKey) → first ≤ n → slice_get found.new.keys.keys n ≡ Some key → key.end ≡ known.now.end →
+        HasRow known.now.written.now known.now.ranking known.now.recce.now found.new.keys.keys found.new.wholes.items (map (λ r. r.now) table.new.items) n key) }
+{
+    for node in first..usize::MAX {
+        let Some(key) = found.keys.get_index(node).copied() else {
+            return Ok(());
+        };
+        visit_here(known, arena, node, key, found, table)?;
+    }
+    Err(ForestRefusal::NoMemory)
+}
+
+// Lists what may be the last part of a node that ends at a place and does not begin too early, and what stands before it.
+fn gather(
+    recce: &Recce<'_>,
+    w: &Written,
+    ranking: Ranking,
+    end: u32,
+    least: u32,
+    hidden: &[Item],
+    work: &mut Work,
+) -> Result<(), ForestRefusal>
+    requires read { IsRead w.now recce.now }
+    requires end { end ≤ place_of recce.now }
+    requires hidden { AreHidden recce.now end least hidden.now }
+    ensures gathered { OnOk result (AreGathered w.now ranking recce.now end least work.new.parts.items work.new.groups.items work.new.joins.items) }
+    ensures nodes { work.new.nodes ≡ work.old.nodes }
+    ensures expanded { work.new.expanded ≡ work.old.expanded }
+{
+    list_parts(
+        recce,
+        w,
+        ranking,
+        end,
+        least,
+        hidden,
+        &mut work.edges,
+        &mut work.parts,
+    )?;
+    list_groups(&work.parts, end, &mut work.groups)?;
+    list_joins(recce, least, &work.groups, &mut work.joins)
+}
+
+// Finds the alternatives of all nodes that end at a place: those of the first ones that do, and all that are met here. They begin at
+// `least` or behind it, if it is no greater than the origin of one of the first.
+fn visit_from<'a>(
+    recce: &Recce<'_>,
+    w: &Written,
+    ranking: Ranking,
+    arena: &'a Bump,
+    end: u32,
+    least: u32,
+    first: usize,
+    hidden: &[Item],
+    found: &mut Found,
+    table: &mut Vec<&'a [AlternativeRow]>,
+    work: &mut Work,
+) -> Result<(), ForestRefusal>
+    requires read { IsRead w.now recce.now }
+    requires end { end ≤ place_of recce.now }
+    requires hidden { AreHidden recce.now end least hidden.now }
+    requires going { IsGoing w.now ranking recce.now end first found.old (map (λ r. r.now) table.old.items) }
+    requires nodes { (n : ℕ) → Contains work.old.nodes.items n ↔ ((n < first) × IsKnownNode recce.now end found.old.keys.keys n) }
+    requires least { (n : ℕ) (key : TheKey) → Contains work.old.nodes.items n → slice_get found.old.keys.keys n ≡ Some key → least ≤ key.origin }
+    requires whole { end ≡ place_of recce.now → least ≡ 0 }
+    ensures visited { OnOk result (AreVisited w.now ranking recce.now end found.new (map (λ r. r.now) table.new.items)) }
+    ensures grows { OnOk result (GrowsBy (IsUsedIn recce.now) found.old.keys.keys found.new.keys.keys) }
+    ensures expanded { work.new.expanded ≡ work.old.expanded }
+{
+    gather(recce, w, ranking, end, least, hidden, work)?;
+    let known = Known {
+        recce: &*recce,
+        written: &*w,
+        ranking,
+        end,
+        least,
+        parts: &work.parts,
+        groups: &work.groups,
+        joins: &work.joins,
+    };
+    visit_listed(&known, arena, &work.nodes, found, table)?;
+    visit_new(&known, arena, first, found, table)?;
+    Ok(())
+}
+
+// Finds the alternatives of all nodes that end at a place.
+fn visit_end<'a, L: Ledger>(
+    alloc: Global,
+    recce: &Recce<'_>,
+    w: &Written,
+    ranking: Ranking,
+    arena: &'a Bump,
+    end: u32,
+    first: usize,
+    found: &mut Found,
+    table: &mut Vec<&'a [AlternativeRow]>,
+    work: &mut Work,
+    steps: &mut Steps<L>,
+) -> Result<(), ForestRefusal>
+    requires read { IsRead w.now recce.now }
+    requires end { end ≤ place_of recce.now }
+    requires going { IsGoing w.now ranking recce.now end first found.old (map (λ r. r.now) table.old.items) }
+    ensures visited { OnOk result (AreVisited w.now ranking recce.now end found.new (map (λ r. r.now) table.new.items)) }
+    ensures grows { OnOk result (GrowsBy (IsUsedIn recce.now) found.old.keys.keys found.new.keys.keys) }
+    ensures expanded { OnOk result (RisesBy (IsExpandedAt recce.now end) work.old.expanded work.new.expanded) }
+    ensures counted { RisesWithin (IsExpandedAt recce.now end) steps.old steps.new }
+{
+    list_nodes(recce, end, &found.keys, first, &mut work.nodes)?;
+    let whole = end == recce.place();
+    if work.nodes.as_slice().is_empty() && !whole {
+        return Ok(());
+    }
+    let lowest = if whole { 0 } else { end };
+    let least = least_origin(&found.keys, &work.nodes, lowest);
+    let hidden = list_hidden(alloc, recce, end, least, &mut work.expanded, steps)?;
+    visit_from(
+        recce, w, ranking, arena, end, least, first, &hidden, found, table, work,
+    )
+}
+
+/// Finds the alternatives of all nodes that are met from the first ones.
+pub fn walk<'a, L: Ledger>(
+    alloc: Global,
+    recce: &Recce<'_>,
+    w: &Written,
+    ranking: Ranking,
+    arena: &'a Bump,
+    found: &mut Found,
+    work: &mut Work,
+    steps: &mut Steps<L>,
+) -> Result<Vec<&'a [AlternativeRow]>, ForestRefusal>
+    requires read { IsRead w.now recce.now }
+    requires used { (key : TheKey) → Contains found.old.keys.keys key → IsUsedIn recce.now key × (key.end ≡ place_of recce.now) }
+    requires top { 0 < place_of recce.now → Contains found.old.keys.keys (top_key recce.now) }
+    requires start { work.old.expanded ≡ 0 }
+    ensures visited { IfOk result (λ table. AreVisited w.now ranking recce.now 0 found.new (map (λ r. r.now) table.items)) }
+    ensures grows { OnOk result (GrowsBy (IsUsedIn recce.now) found.old.keys.keys found.new.keys.keys) }
+    ensures expanded { OnOk result (IsCountOf (IsExpandedIn recce.now) work.new.expanded) }
+    ensures counted { RisesWithin (IsExpandedIn recce.now) steps.old steps.new }
+{
+    let mut table = Vec::new(alloc);
+    let place = recce.place();
+    visit_end(
+        alloc, recce, w, ranking, arena, place, 0, found, &mut table, work, steps,
+    )?;
+    for back in 0..place {
+        let first = found.keys.as_slice().len();
+        let end = place - 1 - back;
+        visit_end(
+            alloc, recce, w, ranking, arena, end, first, found, &mut table, work, steps,
+        )?;
+    }
+    Ok(table)
+}

@@ -1,0 +1,164 @@
+-- The items of a set that are not kept: what single steps lead to from whole items.
+use Rattle.std.proofs.Common.{◌≡◌, ◌≢◌, ◌↔◌, ◌⊎◌, inl, inr, ℕ, ◌+◌, ◌<◌, ◌≤◌, ◌++◌, List, [], ◌∷◌, length, take, get_or, Some, Contains, slice_get, refl, sym, ◌∙◌, ap, subst, arith, length-append, append-nil}
+use Rattle.std.specs.List.{AllPairs}
+use Rattle.std.proofs.lemmas.List.{take_more, get_or_append_left, get_or-append-add}
+use Rattle.std.proofs.lemmas.List.Elements.{Contains-append_left, Contains-append_right, Contains-append_cases, Contains-push, Contains-push_cases}
+use Rattle.grammar_model.specs.declared.Edge.{Edge as HeldEdge}
+use Rattle.grammar_model.specs.Derives.{Held}
+use Rattle.recognizer_model.specs.declared.Item.{Item}
+use Rattle.recognizer_model.specs.Flat.{FlatGrammar, lhs_of}
+use Rattle.recognizer_model.specs.FlatForm.{FlatEdges}
+use Rattle.recognizer_model.specs.Items.{IsWhole, advanced, InSet}
+use Rattle.recognizer_model.specs.Contexts.{IsTop}
+use Rattle.recognizer_model.specs.Leo.{InReduced, InExpanded, IsHidden}
+use Rattle.recognizer_model.specs.Counts.{IsListOf}
+use Rattle.recognizer_model.proofs.Leo.{origin_below, reduced_inside, expanded_inside, expands_to_all}
+use Rattle.recognizer_model.proofs.Over.{hidden_whole}
+use Rattle.item_rows.specs.Rows.{row_at}
+use Rattle.item_rows.specs.Kept.{IsItem, AreRows}
+use Rattle.leo_items.proofs.Chains.{leo_inside}
+use Rattle.earley_sets.specs.Closing.{Adds, Grows, IsReached, Seed}
+use Rattle.earley_sets.specs.Closing as closing
+use Rattle.earley_sets.specs.Scanning.{GoForward, AreReduced}
+use Rattle.earley_sets.specs.Loops.{IsClosedTo}
+use Rattle.earley_sets.specs.Hidden.{IsWholeFrom, IsSingleStep, IsStepped, Kept, Step, IsHiddenIn}
+use Rattle.earley_sets.proofs.Adding.{decide}
+use Rattle.earley_sets.proofs.Membership.{Contains-none}
+use Rattle.earley_sets.proofs.Growing.{Adds-begins, Adds-has}
+use Rattle.earley_sets.proofs.Loops.{closed_more}
+use Rattle.earley_sets.proofs.ByRows.{goes_forward, known, to_leo, from_leo}
+
+-- the whole items of a row
+module _ (g : FlatGrammar) (from : ℕ) where
+  abbrev pub AreWhole : List Item → List Item → Type 0
+  AreWhole row keys = (item : Item) → Contains keys item ↔ IsWholeFrom g row from item
+
+  pub whole_none : (keys : List Item) → keys ≡ [] → AreWhole [] keys
+  whole_none keys none item = (λ h. absurd (Contains-none item (subst (λ l. Contains l item) none h)), λ (c, w, le). absurd (Contains-none item c))
+
+  pub whole_add : (row old new : List Item) (k : ℕ) (d : Item) → k < length row → AreWhole (take k row) old → IsWhole g (get_or row k d) × (from ≤ (get_or row k d).origin) →
+      Adds old new (get_or row k d) → AreWhole (take (k + 1) row) new
+  whole_add row old new k d lt are is adds item = subst (λ l. Contains new item ↔ IsWholeFrom g l from item) (sym (take_more row k d lt)) (
+    λ h. elim ((Adds-has old new (get_or row k d) item adds).0 h) [
+      | inl o ↦ let (c, w, le) = (are item).0 o in (Contains-append_left (take k row) (get_or row k d ∷ []) item c, w, le)
+      | inr e ↦ subst (λ z. Contains (take k row ++ get_or row k d ∷ []) z × IsWhole g z × (from ≤ z.origin)) e (Contains-push (take k row) (get_or row k d), is.0, is.1)
+    ],
+    λ (c, w, le). (Adds-has old new (get_or row k d) item adds).1 (elim (Contains-push_cases (take k row) (get_or row k d) item c) [
+      | inl o ↦ inl ((are item).1 (o, w, le))
+      | inr e ↦ inr e
+    ]),
+  )
+
+  pub whole_skip : (row old : List Item) (k : ℕ) (d : Item) → k < length row → AreWhole (take k row) old → ¬ (IsWhole g (get_or row k d) × (from ≤ (get_or row k d).origin)) → AreWhole (take (k + 1) row) old
+  whole_skip row old k d lt are none item = subst (λ l. Contains old item ↔ IsWholeFrom g l from item) (sym (take_more row k d lt)) (
+    λ h. (let (c, w, le) = (are item).0 h in (Contains-append_left (take k row) (get_or row k d ∷ []) item c, w, le)),
+    λ (c, w, le). elim (Contains-push_cases (take k row) (get_or row k d) item c) [
+      | inl o ↦ (are item).1 (o, w, le)
+      | inr e ↦ absurd (none (subst (λ z. IsWhole g z × (from ≤ z.origin)) (sym e) (w, le)))
+    ],
+  )
+
+-- single steps
+module _ (g : FlatGrammar) (rows : List (List Item)) (are : AreRows g rows) (place from : ℕ) where
+  step_item : (item other : Item) → IsSingleStep g rows place from item other → IsItem g other
+  step_item item other (lt, (leo, l, same), le) =
+      subst (IsItem g) (sym same) (record { is_rule = (leo_inside g rows are l).0; within = let w = l.last in omega arith })
+
+  step_one : (item a b : Item) → IsSingleStep g rows place from item a → IsSingleStep g rows place from item b → a ≡ b
+  step_one item a b (lt, (x, l, e), le) (lt', (y, l', e'), le') = e ∙ (ap advanced (l'.only x l.there l.waits) ∙ sym e')
+
+  module _ (seeds keys : List Item) (k : ℕ) (inv : IsClosedTo g (IsSingleStep g rows place from) seeds keys k) (item : Item) (at : Some item ≡ slice_get keys k) where
+    pub step_added : (step : Item) (new : List Item) → IsSingleStep g rows place from item step → Adds keys new step → IsClosedTo g (IsSingleStep g rows place from) seeds new (k + 1)
+    step_added step new is adds =
+        closed_more g (IsSingleStep g rows place from) seeds keys k inv item (step ∷ []) new at (step_item item)
+        (λ other h. elim (Contains-push_cases [] step other h) [ inl none ↦ absurd (Contains-none other none) | inr e ↦ subst (IsSingleStep g rows place from item) e is ])
+        (λ other f. inr (subst (Contains (step ∷ [])) (step_one item step other is f) (Contains-push [] step)))
+        (record {
+          begins = Adds-begins keys new step adds;
+          has = λ other. (
+            λ h. elim ((Adds-has keys new step other adds).0 h) [ inl o ↦ inl o | inr e ↦ inr (subst (Contains (step ∷ [])) e (Contains-push [] step)) ],
+            λ h. (Adds-has keys new step other adds).1 (elim h [
+              | inl o ↦ inl o
+              | inr n ↦ elim (Contains-push_cases [] step other n) [ inl none ↦ absurd (Contains-none other none) | inr e ↦ inr e ]
+            ]),
+          );
+        })
+
+    pub none_added : ((step : Item) → ¬ IsSingleStep g rows place from item step) → IsClosedTo g (IsSingleStep g rows place from) seeds keys (k + 1)
+    none_added none =
+        closed_more g (IsSingleStep g rows place from) seeds keys k inv item [] keys at (step_item item) (λ other h. absurd (Contains-none other h)) (λ other f. absurd (none other f))
+        (record { begins = ([], sym (append-nil keys)); has = λ other. (λ h. inl h, λ h. elim h [ inl o ↦ o | inr n ↦ absurd (Contains-none other n) ]) })
+
+  pub stepped_whole : {item : Item} → IsStepped g rows place from item → IsWhole g item × (from ≤ item.origin)
+  stepped_whole (Kept (c, w, le)) = (w, le)
+  stepped_whole (Step {item = item} {other = other} s (lt, (leo, l, same), le)) = (subst (IsWhole g) (sym same) l.last, le)
+
+  -- a list of what is reached, of which the first are those of the row
+  module _ (kept more : List Item) (whole : AreWhole g from (row_at rows place) kept) (reached : (item : Item) → Contains (kept ++ more) item ↔ IsReached (IsSingleStep g rows place from) kept item)
+      (once : AllPairs (λ x y. x ≢ y) (kept ++ more)) where
+    to_stepped : (item : Item) → IsReached (IsSingleStep g rows place from) kept item → IsStepped g rows place from item
+    to_stepped item (Seed h) = Kept ((whole item).0 h)
+    to_stepped item (closing.Step {item = before} r f) = Step (to_stepped before r) f
+
+    from_stepped : {item : Item} → IsStepped g rows place from item → IsReached (IsSingleStep g rows place from) kept item
+    from_stepped {item} (Kept w) = Seed ((whole item).1 w)
+    from_stepped (Step s f) = closing.Step (from_stepped s) f
+
+    apart : (item : Item) → Contains kept item → Contains more item → ⊥
+    apart item (i, il, ie) (j, jl, je) =
+        let l = length-append kept more in
+        once i (length kept + j) item (omega arith) (omega arith) (get_or_append_left kept more item i il ∙ (ie ∙ (sym je ∙ sym (get_or-append-add kept more j item))))
+
+    more_once : AllPairs (λ x y. x ≢ y) more
+    more_once i j d lt below e =
+        let l = length-append kept more in
+        once (length kept + i) (length kept + j) d (omega arith) (omega arith) (get_or-append-add kept more i d ∙ (e ∙ sym (get_or-append-add kept more j d)))
+
+    pub hidden_listed : IsListOf (IsHiddenIn g rows place from) more
+    hidden_listed = record {
+      once = more_once;
+      exact = λ item. (
+        λ h. (
+            let s = to_stepped item ((reached item).0 (Contains-append_right kept more item h)) in
+            (s, λ c. apart item ((whole item).1 (c, (stepped_whole s).0, (stepped_whole s).1)) h)
+            ),
+        λ (s, none). elim (Contains-append_cases kept more item ((reached item).1 (from_stepped s))) [ inl k ↦ absurd (none ((whole item).0 k).0) | inr m ↦ m ],
+      );
+    }
+
+-- over reduced sets these are the hidden items
+module _ (g : FlatGrammar) (edges : List HeldEdge) (top : ℕ) (is_top : IsTop g top) (forward : GoForward edges) (rows : List (List Item)) (are : AreRows g rows) (sets : AreReduced g edges top rows (length rows))
+    (place from : ℕ) (here : place < length rows) where
+  in_expanded : {item : Item} → IsStepped g rows place from item → InExpanded g (FlatEdges g (Held edges)) top place item
+  in_expanded {item} (Kept (c, w, le)) = InExpanded.Kept ((sets place here item).0 c)
+  in_expanded (Step {item = before} s (lt, (leo, l, same), le)) =
+      subst (InExpanded g (FlatEdges g (Held edges)) top place) (sym same)
+      (InExpanded.Step (in_expanded s) (stepped_whole g rows are place from s).0 lt (to_leo g edges top is_top forward rows (length rows) sets before.origin (lhs_of g before.rule) leo (omega arith) l))
+
+  in_stepped : {j : ℕ} {item : Item} → InExpanded g (FlatEdges g (Held edges)) top j item → j ≡ place → IsWhole g item → from ≤ item.origin → IsStepped g rows place from item
+  in_stepped {item = item} (InExpanded.Kept k) e w le = Kept ((sets place here item).1 (subst (λ p. InReduced g (FlatEdges g (Held edges)) top p item) e k), w, le)
+  in_stepped (InExpanded.Step {whole = before} {item = leo} x whole lt l) e w le =
+      let b = origin_below g (FlatEdges g (Held edges)) top is_top (goes_forward g edges top is_top forward) l.inside in
+      Step (in_stepped x e whole (omega arith)) (omega arith, (leo, from_leo g edges top is_top forward rows (length rows) sets before.origin (lhs_of g before.rule) leo (omega arith) l, refl), le)
+
+  pub hidden_is : (item : Item) → IsHiddenIn g rows place from item ↔ (IsHidden g (FlatEdges g (Held edges)) top place item × (from ≤ item.origin))
+  hidden_is item = (
+    λ (s, none). ((in_expanded s, λ k. none ((sets place here item).1 k)), (stepped_whole g rows are place from s).1),
+    λ (h, le). (
+      in_stepped h.0 refl (hidden_whole g (FlatEdges g (Held edges)) top is_top (goes_forward g edges top is_top forward) h).0 le,
+      λ c. h.1 ((sets place here item).0 c),
+    ),
+  )
+
+  pub all_there : (items : List Item) → IsListOf (IsHiddenIn g rows place from) items → (item : Item) → IsWhole g item → from ≤ item.origin →
+      (Contains (row_at rows place) item ⊎ Contains items item) ↔ InSet g (FlatEdges g (Held edges)) top place item
+  all_there items lists item w le = (
+    λ h. elim h [
+      | inl c ↦ reduced_inside g (FlatEdges g (Held edges)) top is_top (goes_forward g edges top is_top forward) ((sets place here item).0 c)
+      | inr m ↦ expanded_inside g (FlatEdges g (Held edges)) top is_top (goes_forward g edges top is_top forward) (in_expanded ((lists.exact item).0 m).0)
+    ],
+    λ s. (
+        let x = (expands_to_all g (FlatEdges g (Held edges)) top is_top (goes_forward g edges top is_top forward) place (λ i y l. known g edges top is_top forward rows (length rows) sets i y (omega arith)) item).1 s in
+        elim (decide (row_at rows place) item) [ inl c ↦ inl c | inr none ↦ inr ((lists.exact item).1 (in_stepped x refl w le, none)) ]
+        ),
+  )

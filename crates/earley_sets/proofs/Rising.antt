@@ -1,0 +1,67 @@
+-- Numbers that rise by one for each of some different values.
+use Rattle.std.proofs.Common.{◌≡◌, ◌≢◌, inl, inr, ℕ, ◌+◌, ◌≤◌, ◌++◌, List, [], ◌∷◌, length, map, Contains, refl, sym, subst, arith, length-append}
+use Rattle.std.specs.Prelude.{AllPairs}
+use Rattle.std.proofs.lemmas.List.{length-map}
+use Rattle.finite_sets.proofs.Members.{Among, Once, among_from, contains_from, among_either, among_map_from, once_pairs, pairs_once, once_most}
+use Rattle.recognizer_model.specs.Counts.{IsCountOf}
+use Rattle.earley_sets.specs.Tried.{RisesBy}
+use Rattle.earley_sets.proofs.Membership.{Contains-none, Contains-cons_cases, Contains-map_from}
+
+once_append : {X : Type 0} (xs ys : List X) → Once xs → Once ys → ((x : X) → Among x xs → Among x ys → ⊥) → Once (xs ++ ys)
+once_append [] ys o p apart = p
+once_append (x ∷ xs) ys (fresh, o) p apart = (
+  λ m. elim (among_either x xs ys m) [ inl a ↦ fresh a | inr b ↦ apart x (inl refl) b ],
+  once_append xs ys o p (λ y a b. apart y (inr a) b),
+)
+
+-- values that differ do so after a function that keeps them apart
+once_map : {X Y : Type 0} (P : X → Type 0) (f : X → Y) (xs : List X) → ((x y : X) → P x → P y → f x ≡ f y → x ≡ y) → ((x : X) → Among x xs → P x) → Once xs → Once (map f xs)
+once_map P f [] apart are once = tt
+once_map P f (x ∷ xs) apart are (fresh, once) = (
+  λ m. (let (y, there, e) = among_map_from f (f x) xs m in fresh (subst (λ z. Among z xs) (apart y x (are y (inr there)) (are x (inl refl)) e) there)),
+  once_map P f xs apart (λ y m. are y (inr m)) once,
+)
+
+pub rises_none : {X : Type 0} (P : X → Type 0) (a b : ℕ) → b ≡ a → RisesBy P a b
+rises_none P a b e = record { values = []; once = λ i j d lt below. absurd (omega arith); are = λ x c. absurd (Contains-none x c); count = omega arith }
+
+pub rises_one : {X : Type 0} (P : X → Type 0) (x : X) (a b : ℕ) → P x → b ≡ a + 1 → RisesBy P a b
+rises_one P x a b p e = record {
+  values = x ∷ [];
+  once = λ i j d lt below. absurd (omega arith);
+  are = λ y c. elim (Contains-cons_cases x [] y c) [ inl s ↦ subst P s p | inr n ↦ absurd (Contains-none y n) ];
+  count = omega arith;
+}
+
+pub rises_over : {X Y : Type 0} {P : X → Type 0} {a b : ℕ} (Q : Y → Type 0) (f : X → Y) → ((x : X) → P x → Q (f x)) → ((x y : X) → P x → P y → f x ≡ f y → x ≡ y) → RisesBy P a b → RisesBy Q a b
+rises_over {P = P} Q f to apart r = record {
+  values = map f r.values;
+  once = once_pairs (map f r.values) (once_map P f r.values apart (λ x m. r.are x (contains_from r.values x m)) (pairs_once r.values r.once));
+  are = λ y c. (let (x, there, e) = Contains-map_from f r.values y c in subst Q (sym e) (to x (r.are x there)));
+  count = let l = length-map r.values f in let c = r.count in omega (arith, l, c);
+}
+
+pub rises_as : {X : Type 0} {P : X → Type 0} {a b : ℕ} (Q : X → Type 0) → ((x : X) → P x → Q x) → RisesBy P a b → RisesBy Q a b
+rises_as Q to r = record { values = r.values; once = r.once; are = λ x c. to x (r.are x c); count = r.count }
+
+pub rises_on : {X : Type 0} {P Q : X → Type 0} {a b c : ℕ} (R : X → Type 0) → ((x : X) → P x → R x) → ((x : X) → Q x → R x) → ((x : X) → P x → Q x → ⊥) → RisesBy P a b → RisesBy Q b c → RisesBy R a c
+rises_on {a = a} {b = b} {c = c} R left right apart r s = record {
+  values = r.values ++ s.values;
+  once = once_pairs (r.values ++ s.values) (once_append r.values s.values (pairs_once r.values r.once) (pairs_once s.values s.once)
+      (λ x m n. apart x (r.are x (contains_from r.values x m)) (s.are x (contains_from s.values x n))));
+  are = λ x h. elim (among_either x r.values s.values (among_from (r.values ++ s.values) x h)) [
+    | inl m ↦ left x (r.are x (contains_from r.values x m))
+    | inr n ↦ right x (s.are x (contains_from s.values x n))
+  ];
+  count = let l = length-append r.values s.values in let k = r.count in let m = s.count in omega (arith, l, k, m);
+}
+
+-- a rise of the same height
+pub rises_moved : {X : Type 0} {P : X → Type 0} {a b : ℕ} (c d : ℕ) → a + d ≡ b + c → RisesBy P a b → RisesBy P c d
+rises_moved c d e r = record { values = r.values; once = r.once; are = r.are; count = let k = r.count in omega (arith, k, e) }
+
+-- a number rises by no more than there are values
+pub different_are_few : {X : Type 0} (P : X → Type 0) (xs : List X) (n : ℕ) → AllPairs (λ x y. x ≢ y) xs → ((x : X) → Contains xs x → P x) → IsCountOf P n → length xs ≤ n
+different_are_few P xs n once are (ys, lists, count) =
+    let most = once_most xs ys (pairs_once xs once) (λ x m. among_from ys x ((lists.exact x).1 (are x (contains_from xs x m)))) in
+    omega (arith, most, count)

@@ -1,0 +1,156 @@
+-- The links that an item makes, and those that the edges to a place make.
+use Rattle.std.proofs.Common.{◌≡◌, ◌≢◌, inl, inr, ℕ, ◌+◌, ◌<◌, ◌≤◌, ◌++◌, List, [], ◌∷◌, length, map, take, slice_get, Some, None, Contains, ◌↔◌, refl, sym, ◌∙◌, ap, subst, arith, length-append, append-nil}
+use Rattle.std.specs.Prelude.{AllPairs}
+use Rattle.std.proofs.lemmas.List.{length-map}
+use Rattle.std.proofs.lemmas.List.Elements.{Contains-append_left, Contains-push}
+use Rattle.grammar_model.specs.declared.Edge.{Edge as HeldEdge}
+use Rattle.grammar_model.specs.Derives.{Held}
+use Rattle.recognizer_model.specs.declared.Item.{Item}
+use Rattle.recognizer_model.specs.declared.flat.FlatSymbol.TheVariants.{Terminal}
+use Rattle.recognizer_model.specs.Flat.{FlatGrammar, IsRule, lhs_of, rhs_of, IsNullable}
+use Rattle.recognizer_model.specs.FlatForm.{FlatEdges}
+use Rattle.recognizer_model.specs.Items.{after, IsWhole}
+use Rattle.recognizer_model.specs.Contexts.{IsTop}
+use Rattle.recognizer_model.specs.Counts.{IsListOf}
+use Rattle.recognizer_model.specs.Leo.{InReduced}
+use Rattle.recognizer_model.specs.Links.{Link, Predicts, Skips, Scans, Completes, Leaps, IsLink}
+use Rattle.leo_items.specs.declared.memo.Pair.{Pair}
+use Rattle.leo_items.specs.ByRows.{pair_of}
+use Rattle.earley_sets.specs.Kept.{IsItem}
+use Rattle.earley_sets.specs.Scanning.{GoForward, AreReduced}
+use Rattle.earley_sets.specs.Tried.{RisesBy, AwaitsEdge, MakesScan, MakesBegun, RisesByDone, MakesLink, MakesOne}
+use Rattle.earley_sets.proofs.ByRows.{to_none, to_leads}
+use Rattle.earley_sets.proofs.Cutting.{take_all, not_before, take_next}
+use Rattle.earley_sets.proofs.Following.{whole_from}
+use Rattle.earley_sets.proofs.Rising.{rises_none, rises_one, rises_as, rises_over, rises_on}
+
+some_same : {x y : ℕ} → Some x ≡ Some y → x ≡ y
+some_same e = cc
+
+terminal_same : {s t : ℕ} → Some (Terminal s) ≡ Some (Terminal t) → s ≡ t
+terminal_same e = cc
+
+-- the items of a list, each with another put in its place
+pub rises_listed : (P : Item → Type 0) (xs : List Item) → IsListOf P xs → (f : Item → Item) (old new : List Item) → new ≡ old ++ map f xs → RisesBy P (length old) (length new)
+rises_listed P xs lists f old new is = record {
+  values = xs;
+  once = lists.once;
+  are = λ x c. (lists.exact x).0 c;
+  count = ap length is ∙ (length-append old (map f xs) ∙ ap (λ n. length old + n) (length-map xs f));
+}
+
+module _ (g : FlatGrammar) (item : Item) (x a b : ℕ) (rules : RisesBy (λ (r : ℕ). IsRule g r × (lhs_of g r ≡ x)) a b) where
+  predicted : RisesBy (λ l. (r : ℕ) × IsRule g r × (lhs_of g r ≡ x) × (l ≡ Predicts item r)) a b
+  predicted = rises_over (λ l. (r : ℕ) × IsRule g r × (lhs_of g r ≡ x) × (l ≡ Predicts item r)) (Predicts item) (λ r (rule, l). (r, rule, l, refl)) (λ r s h i e. cc) rules
+
+  pub links_stay : RisesBy (MakesBegun g item x) a b
+  links_stay = rises_as (MakesBegun g item x) (λ l h. inl h) predicted
+
+  pub links_skip : (c : ℕ) → IsNullable g x → c ≡ b + 1 → RisesBy (MakesBegun g item x) a c
+  links_skip c n e =
+      rises_on (MakesBegun g item x) (λ l h. inl h) (λ l h. inr h) (λ l (r, rule, i, s) (n', t). absurd (let d : Predicts item r ≡ Skips item = sym s ∙ t in cc)) predicted
+      (rises_one (λ l. IsNullable g x × (l ≡ Skips item)) (Skips item) b c (n, refl) e)
+
+module _ (g : FlatGrammar) (rows : List (List Item)) (place : ℕ) (item : Item) where
+  pub links_begun : (x a b : ℕ) → after g item ≡ Some x → RisesBy (MakesBegun g item x) a b → RisesBy (MakesLink g rows place item) a b
+  links_begun x a b e r = rises_as (MakesLink g rows place item) to r
+    where
+      to : (l : Link) → MakesBegun g item x l → MakesLink g rows place item l
+      to l (inl (r, rule, i, s)) = subst (MakesLink g rows place item) (sym s) (refl, (x, e, rule, i))
+      to l (inr (n, s)) = subst (MakesLink g rows place item) (sym s) (refl, (x, e, n))
+
+  module _ (none : after g item ≡ None) (is : IsItem g item) (lt : item.origin < place) where
+    whole : IsWhole g item
+    whole = whole_from (rhs_of g item.rule) item.dot is.within none
+
+    done : (a b : ℕ) → RisesByDone g rows item.origin (lhs_of g item.rule) a b → RisesBy (MakesLink g rows place item) a b
+    done a b (inl (never, r)) = rises_over (MakesLink g rows place item) (Completes item) (λ w h. (refl, whole, lt, never, h)) (λ v w h i e. cc) r
+    done a b (inr ((topmost, leads), e)) = rises_one (MakesLink g rows place item) (Leaps item) a b (refl, whole, lt, (topmost, leads)) e
+
+    pub links_done : (pair : Pair) → pair ≡ pair_of g item → (a b : ℕ) → RisesByDone g rows pair.set pair.symbol a b → RisesBy (MakesLink g rows place item) a b
+    links_done pair same a b r = done a b (subst (λ (p : Pair). RisesByDone g rows p.set p.symbol a b) same r)
+
+  -- a link names the item that makes it
+  same_maker : (link : Link) (other : Item) → MakesLink g rows place item link → MakesLink g rows place other link → item ≡ other
+  same_maker (Predicts before r) other m n = sym m.0 ∙ n.0
+  same_maker (Skips before) other m n = sym m.0 ∙ n.0
+  same_maker (Scans before from) other m n = absurd m
+  same_maker (Completes done waiting) other m n = sym m.0 ∙ n.0
+  same_maker (Leaps done) other m n = sym m.0 ∙ n.0
+
+  never_scans : (link : Link) (before : Item) (from : ℕ) → link ≡ Scans before from → MakesLink g rows place item link → ⊥
+  never_scans link before from e m = subst (MakesLink g rows place item) e m
+
+module _ (g : FlatGrammar) (rows : List (List Item)) (place : ℕ) where
+  pub tried_none : (keys : List Item) (a b : ℕ) → b ≡ a → RisesBy (MakesOne g rows place (take 0 keys)) a b
+  tried_none keys a b e = rises_none (MakesOne g rows place (take 0 keys)) a b e
+
+  -- the links of one item more
+  pub tried_more : (keys new more : List Item) (k : ℕ) (item : Item) (a b c : ℕ) → AllPairs (λ x y. x ≢ y) keys → Some item ≡ slice_get keys k → new ≡ keys ++ more →
+      RisesBy (MakesOne g rows place (take k keys)) a b → RisesBy (MakesLink g rows place item) b c → RisesBy (MakesOne g rows place (take (k + 1) new)) a c
+  tried_more keys new more k item a b c once at is before now =
+      subst (λ l. RisesBy (MakesOne g rows place l) a c) (sym (ap (take (k + 1)) is ∙ take_next keys more k item at))
+      (rises_on (MakesOne g rows place (take k keys ++ item ∷ []))
+      (λ link (other, there, m). (other, Contains-append_left (take k keys) (item ∷ []) other there, m))
+      (λ link m. (item, Contains-push (take k keys) item, m))
+      (λ link (other, there, m) n. not_before keys k item once at (subst (Contains (take k keys)) (same_maker g rows place other link item m n) there)) before now)
+
+  pub tried_all : (keys : List Item) (k a b : ℕ) → length keys ≤ k → RisesBy (MakesOne g rows place (take k keys)) a b → RisesBy (MakesOne g rows place keys) a b
+  tried_all keys k a b le r = subst (λ l. RisesBy (MakesOne g rows place l) a b) (take_all k keys le) r
+
+  -- the links of no edge
+  pub scans_none : (edges : List HeldEdge) (a : ℕ) → RisesBy (MakesScan g rows place (take 0 edges)) a a
+  scans_none edges a = rises_none (MakesScan g rows place (take 0 edges)) a a refl
+
+  -- the links of one edge more
+  pub scans_more : (edges : List HeldEdge) (k : ℕ) (edge : HeldEdge) (a b c : ℕ) → AllPairs (λ x y. x ≢ y) edges → slice_get edges k ≡ Some edge → edge.to ≡ place →
+      RisesBy (MakesScan g rows place (take k edges)) a b → RisesBy (AwaitsEdge g rows edge) b c → RisesBy (MakesScan g rows place (take (k + 1) edges)) a c
+  scans_more edges k edge a b c once at ends before now =
+      subst (λ l. RisesBy (MakesScan g rows place l) a c) (sym (ap (take (k + 1)) (sym (append-nil edges)) ∙ take_next edges [] k edge (sym at)))
+      (rises_on (MakesScan g rows place (take k edges ++ edge ∷ []))
+      (λ link (other, there, ends, m). (other, Contains-append_left (take k edges) (edge ∷ []) other there, ends, m))
+      (λ link (item, m, e). (edge, Contains-push (take k edges) edge, ends, (item, m, e)))
+      (λ link (other, there, ends', (item', m', e')) (item, m, e).
+      not_before edges k edge once (sym at) (subst (Contains (take k edges)) (same_edge other item' item ends' m' m (sym e' ∙ e)) there))
+      before (rises_over (λ l. (item : Item) × AwaitsEdge g rows edge item × (l ≡ Scans item edge.from)) (λ item. Scans item edge.from) (λ item m. (item, m, refl)) (λ v w h i e. cc) now))
+    where
+      same_edge : (other : HeldEdge) (item' item : Item) → other.to ≡ place → AwaitsEdge g rows other item' → AwaitsEdge g rows edge item → Scans item' other.from ≡ Scans item edge.from → other ≡ edge
+      same_edge other item' item ends' (x', is', (there', waits')) (x, is, (there, waits)) e =
+          let items : item' ≡ item = cc in
+          let froms : other.from ≡ edge.from = cc in
+          let symbols : x' ≡ x = some_same (sym waits' ∙ (ap (after g) items ∙ waits)) in
+          let terminals : other.symbol ≡ edge.symbol = terminal_same (sym is' ∙ (ap (slice_get g.symbols) symbols ∙ is)) in
+          let tos : other.to ≡ edge.to = ends' ∙ sym ends in
+          λ i. record { symbol = terminals i; from = froms i; to = tos i }
+
+  pub scans_all : (edges : List HeldEdge) (k a b : ℕ) → length edges ≤ k → RisesBy (MakesScan g rows place (take k edges)) a b → RisesBy (MakesScan g rows place edges) a b
+  scans_all edges k a b le r = subst (λ l. RisesBy (MakesScan g rows place l) a b) (take_all k edges le) r
+
+  -- the links of those that end at the place, of all edges
+  pub scans_ending : (edges ending : List HeldEdge) (a b : ℕ) → ((e : HeldEdge) → Contains ending e ↔ (Contains edges e × (e.to ≡ place))) → RisesBy (MakesScan g rows place ending) a b → RisesBy (MakesScan g rows place edges) a b
+  scans_ending edges ending a b are r = rises_as (MakesScan g rows place edges) (λ link (edge, there, ends, m). (edge, ((are edge).0 there).0, ends, m)) r
+
+-- what was tried while a set was made are links of the set
+module _ (g : FlatGrammar) (edges : List HeldEdge) (top : ℕ) (is_top : IsTop g top) (forward : GoForward edges) (rows : List (List Item)) (place : ℕ) (are : AreReduced g edges top rows place) where
+  scan_link : (link : Link) → MakesScan g rows place edges link → IsLink g (FlatEdges g (Held edges)) top place link
+  scan_link link (edge, held, ends, (item, (x, is, (there, waits)), e)) =
+      let lt = forward edge held in
+      subst (IsLink g (FlatEdges g (Held edges)) top place) (sym e)
+      (x, (are edge.from (omega (arith, lt, ends)) item).0 there, waits, (edge.symbol, is, subst (λ k. Held edges edge.symbol edge.from k) ends held))
+
+  item_link : (item : Item) → InReduced g (FlatEdges g (Held edges)) top place item → (link : Link) → MakesLink g rows place item link → IsLink g (FlatEdges g (Held edges)) top place link
+  item_link item i (Predicts before r) (s, (x, e, rule, l)) = subst (λ b. IsLink g (FlatEdges g (Held edges)) top place (Predicts b r)) (sym s) (x, i, e, rule, l)
+  item_link item i (Skips before) (s, (x, e, n)) = subst (λ b. IsLink g (FlatEdges g (Held edges)) top place (Skips b)) (sym s) (x, i, e, n)
+  item_link item i (Scans before from) m = absurd m
+  item_link item i (Completes done waiting) (s, whole, lt, none, (there, waits)) =
+      subst (λ b. IsLink g (FlatEdges g (Held edges)) top place (Completes b waiting)) (sym s)
+      ((i, whole, lt), to_none g edges top is_top forward rows place are item.origin (lhs_of g item.rule) lt none, (are item.origin lt waiting).0 there, waits)
+  item_link item i (Leaps done) (s, whole, lt, (topmost, leads)) =
+      subst (λ b. IsLink g (FlatEdges g (Held edges)) top place (Leaps b)) (sym s) ((i, whole, lt), (topmost, to_leads g edges top is_top forward rows place are lt leads))
+
+  -- the edges' links and then those of all items
+  pub all_links : (keys : List Item) → ((item : Item) → Contains keys item ↔ InReduced g (FlatEdges g (Held edges)) top place item) → (a b c : ℕ) →
+      RisesBy (MakesScan g rows place edges) a b → RisesBy (MakesOne g rows place keys) b c → RisesBy (IsLink g (FlatEdges g (Held edges)) top place) a c
+  all_links keys exact a b c scans made =
+      rises_on (IsLink g (FlatEdges g (Held edges)) top place) scan_link (λ link (item, there, m). item_link item ((exact item).0 there) link m)
+      (λ link (edge, held, ends, (from, w, e)) (item, there, m). never_scans g rows place item link from edge.from e m) scans made

@@ -1,0 +1,7 @@
+use Rattle.recognizer_model.specs.Links.{IsLink}
+use Rattle.earley_sets.specs.Recognizer.{edges_of, top_of}
+use Rattle.earley_sets.proofs.Rising.{different_are_few}
+use Rattle.earley_sets.proofs.tries_are_few.Goals as goal
+
+pub returns : goal.returns
+returns c = λ r place links tried once are count. different_are_few (IsLink r.flat (edges_of r) (top_of r) place) tried links once are count

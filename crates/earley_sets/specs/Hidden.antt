@@ -1,0 +1,25 @@
+-- The items of a set that are not kept, by rows: single steps from whole items that are kept.
+use Rattle.std.specs.Prelude.{◌≡◌, ℕ, ◌<◌, ◌≤◌, List, Contains}
+use Rattle.recognizer_model.specs.declared.Item.{Item}
+use Rattle.recognizer_model.specs.Flat.{FlatGrammar, lhs_of}
+use Rattle.recognizer_model.specs.Items.{IsWhole, advanced}
+use Rattle.item_rows.specs.Rows.{row_at}
+use Rattle.leo_items.specs.ByRows.{IsLeoIn}
+
+-- a whole item of the row that begins at the place `from` or behind it
+abbrev pub IsWholeFrom : FlatGrammar → List Item → (from : ℕ) → Item → Type 0
+IsWholeFrom g row from item = Contains row item × IsWhole g item × (from ≤ item.origin)
+
+-- the single step of a whole item, if it begins at `from` or behind it
+abbrev pub IsSingleStep : FlatGrammar → List (List Item) → (place from : ℕ) → Item → Item → Type 0
+IsSingleStep g rows place from item other =
+    (item.origin < place) × ((leo : Item) × IsLeoIn g rows item.origin (lhs_of g item.rule) leo × (other ≡ advanced leo)) × (from ≤ other.origin)
+
+-- what single steps lead to from the whole items of a row
+pub data IsStepped (g : FlatGrammar) (rows : List (List Item)) (place from : ℕ) : Item → Type 0 where
+  Kept : {item : Item} → IsWholeFrom g (row_at rows place) from item → IsStepped g rows place from item
+  Step : {item other : Item} → IsStepped g rows place from item → IsSingleStep g rows place from item other → IsStepped g rows place from other
+
+-- of that, what is not in the row
+abbrev pub IsHiddenIn : FlatGrammar → List (List Item) → (place from : ℕ) → Item → Type 0
+IsHiddenIn g rows place from item = IsStepped g rows place from item × (¬ Contains (row_at rows place) item)

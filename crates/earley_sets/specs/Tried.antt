@@ -1,0 +1,51 @@
+-- The links that are tried while a set is made.
+use Rattle.std.specs.Prelude.{◌≡◌, ◌≢◌, ℕ, ◌+◌, ◌<◌, ◌⊎◌, List, length, Some, slice_get, Contains, AllPairs}
+use Rattle.grammar_model.specs.declared.Edge.{Edge as HeldEdge}
+use Rattle.recognizer_model.specs.declared.Item.{Item}
+use Rattle.recognizer_model.specs.Flat.{FlatGrammar, IsRule, lhs_of, IsNullable}
+use Rattle.recognizer_model.specs.declared.flat.FlatSymbol.TheVariants.{Terminal}
+use Rattle.recognizer_model.specs.Items.{after, IsWhole}
+use Rattle.recognizer_model.specs.Links.{Link, Predicts, Skips, Scans, Completes, Leaps}
+use Rattle.item_rows.specs.Rows.{row_at}
+use Rattle.leo_items.specs.ByRows.{IsNotLeoIn, LeadsIn}
+
+-- the number rises by one for each of some different values with the property
+pub record RisesBy {A : Type 0} (P : A → Type 0) (old new : ℕ) : Type 0 where
+  pub values : List A
+  pub once : AllPairs (λ x y. x ≢ y) values
+  pub are : (x : A) → Contains values x → P x
+  pub count : new ≡ old + length values
+
+-- an item of the row waits for the symbol
+abbrev pub IsWaiting : FlatGrammar → List Item → (symbol : ℕ) → Item → Type 0
+IsWaiting g items x item = Contains items item × (after g item ≡ Some x)
+
+-- an item waits for the terminal of an edge where that begins
+abbrev pub AwaitsEdge : FlatGrammar → List (List Item) → HeldEdge → Item → Type 0
+AwaitsEdge g rows edge item = (x : ℕ) × (slice_get g.symbols x ≡ Some (Terminal edge.symbol)) × IsWaiting g (row_at rows edge.from) x item
+
+-- the link that one of the edges to a place makes
+abbrev pub MakesScan : FlatGrammar → List (List Item) → (place : ℕ) → List HeldEdge → Link → Type 0
+MakesScan g rows place edges link =
+    (edge : HeldEdge) × Contains edges edge × (edge.to ≡ place) × ((item : Item) × AwaitsEdge g rows edge item × (link ≡ Scans item edge.from))
+
+-- the link that an item makes with the symbol that it waits for
+abbrev pub MakesBegun : FlatGrammar → Item → (symbol : ℕ) → Link → Type 0
+MakesBegun g item x link = ((r : ℕ) × IsRule g r × (lhs_of g r ≡ x) × (link ≡ Predicts item r)) ⊎ (IsNullable g x × (link ≡ Skips item))
+
+-- the number rises by one for each item that the completion of the symbol advances, or by one where it leaps
+abbrev pub RisesByDone : FlatGrammar → (rows : List (List Item)) → (i x : ℕ) → (old new : ℕ) → Type 0
+RisesByDone g rows i x old new = (IsNotLeoIn g rows i x × RisesBy (IsWaiting g (row_at rows i) x) old new) ⊎ (((topmost : Item) × LeadsIn g rows i x topmost) × (new ≡ old + 1))
+
+-- the links that an item of a set makes, by the rows of the places before
+abbrev pub MakesLink : FlatGrammar → (rows : List (List Item)) → (place : ℕ) → Item → Link → Type 0
+MakesLink g rows place item (Predicts before r) = (before ≡ item) × ((x : ℕ) × (after g item ≡ Some x) × IsRule g r × (lhs_of g r ≡ x))
+MakesLink g rows place item (Skips before) = (before ≡ item) × ((x : ℕ) × (after g item ≡ Some x) × IsNullable g x)
+MakesLink g rows place item (Scans before from) = ⊥
+MakesLink g rows place item (Completes whole waiting) = (whole ≡ item) × IsWhole g item × (item.origin < place) ×
+    IsNotLeoIn g rows item.origin (lhs_of g item.rule) × IsWaiting g (row_at rows item.origin) (lhs_of g item.rule) waiting
+MakesLink g rows place item (Leaps whole) = (whole ≡ item) × IsWhole g item × (item.origin < place) × ((topmost : Item) × LeadsIn g rows item.origin (lhs_of g item.rule) topmost)
+
+-- one of the items makes the link
+abbrev pub MakesOne : FlatGrammar → (rows : List (List Item)) → (place : ℕ) → List Item → Link → Type 0
+MakesOne g rows place items link = (item : Item) × Contains items item × MakesLink g rows place item link

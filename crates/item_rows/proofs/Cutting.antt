@@ -1,0 +1,142 @@
+-- Rows that are kept end to end.
+use Rattle.std.proofs.Common.{◌≡◌, ℕ, zero, suc, ◌+◌, ◌-◌, ◌<◌, ◌≤◌, ◌++◌, List, [], ◌∷◌, length, map, take, drop, get_or, refl, sym, ap, ◌∙◌, subst, arith, Result, Ok, Err, OnErr, length-append}
+use Rattle.std.specs.Prelude.{sum}
+use Rattle.std.proofs.lemmas.List.{drop-take, take-append-le, length-take-le, length-drop}
+use Rattle.std.proofs.lemmas.List.Sums.{sum_by-cons}
+use Rattle.std.proofs.Math.Seq.{take-length, drop-append_seam}
+use Rattle.recognizer_model.specs.declared.Item.{Item}
+use Rattle.item_rows.specs.Rows.{row_at, cut, AreEnds, last_end}
+
+-- take e after take n
+take_take : {A : Type 0} (e n : ℕ) (xs : List A) → e ≤ n → take e (take n xs) ≡ take e xs
+take_take zero n xs le = refl
+take_take (suc e) zero xs le = absurd (omega arith)
+take_take (suc e) (suc n) [] le = refl
+take_take (suc e) (suc n) (x ∷ xs) le = ap (λ l. x ∷ l) (take_take e n xs (omega arith))
+
+take_as : {A : Type 0} (e n : ℕ) (xs ys : List A) → e ≤ n → take n xs ≡ take n ys → take e xs ≡ take e ys
+take_as e n xs ys le h = sym (take_take e n xs le) ∙ (ap (take e) h ∙ take_take e n ys le)
+
+last_within : (s : ℕ) (ends : List ℕ) (n : ℕ) → AreEnds s ends n → last_end s ends ≤ n
+last_within s [] n h = h
+last_within s (e ∷ es) n (a, h) = last_within e es n h
+
+last_above : (s : ℕ) (ends : List ℕ) (n : ℕ) → AreEnds s ends n → s ≤ last_end s ends
+last_above s [] n h = omega arith
+last_above s (e ∷ es) n (a, h) = let c = last_above e es n h in omega arith
+
+-- another length that is not below the last end
+ends_other : (s : ℕ) (ends : List ℕ) (n m : ℕ) → AreEnds s ends n → last_end s ends ≤ m → AreEnds s ends m
+ends_other s [] n m h a = a
+ends_other s (e ∷ es) n m (c, h) a = (c, ends_other e es n m h a)
+
+ends_more : (s : ℕ) (ends : List ℕ) (e n m : ℕ) → AreEnds s ends n → last_end s ends ≤ e → e ≤ m → AreEnds s (ends ++ e ∷ []) m
+ends_more s [] e n m h a b = (a, b)
+ends_more s (f ∷ es) e n m (x, h) a b = (x, ends_more f es e n m h a b)
+
+-- the rows are told by what is below the last end
+cut_same : (s : ℕ) (ends : List ℕ) (xs ys : List Item) (n : ℕ) → AreEnds s ends n → take (last_end s ends) xs ≡ take (last_end s ends) ys → cut s ends xs ≡ cut s ends ys
+cut_same s [] xs ys n h a = refl
+cut_same s (e ∷ es) xs ys n (c, h) a =
+    let i = last_above e es n h in
+    ap (λ r. r ∷ cut e es xs) (ap (drop s) (take_as e (last_end e es) xs ys i a)) ∙ ap (λ l. drop s (take e ys) ∷ l) (cut_same e es xs ys n h a)
+
+cut_append : (s : ℕ) (ends : List ℕ) (e : ℕ) (xs : List Item) → cut s (ends ++ e ∷ []) xs ≡ cut s ends xs ++ drop (last_end s ends) (take e xs) ∷ []
+cut_append s [] e xs = refl
+cut_append s (f ∷ es) e xs = ap (λ l. drop s (take f xs) ∷ l) (cut_append f es e xs)
+
+take_prefix : {A : Type 0} (n : ℕ) (xs row : List A) → n ≤ length xs → take n (take n xs ++ row) ≡ take n xs
+take_prefix n xs row le = take-append-le n (take n xs) row (let l = length-take-le n xs le in omega arith) ∙ take_take n n xs (omega arith)
+
+part_new : {A : Type 0} (n e : ℕ) (xs row : List A) → n ≤ length xs → e ≡ length (take n xs ++ row) → drop n (take e (take n xs ++ row)) ≡ row
+part_new n e xs row le same =
+    ap (λ k. drop n (take k (take n xs ++ row))) same ∙ (ap (drop n) (take-length (take n xs ++ row))
+    ∙ (ap (λ k. drop k (take n xs ++ row)) (sym (length-take-le n xs le)) ∙ drop-append_seam (take n xs) row))
+
+pub cut_length : (s : ℕ) (ends : List ℕ) (xs : List Item) → length (cut s ends xs) ≡ length ends
+cut_length s [] xs = refl
+cut_length s (e ∷ es) xs = ap suc (cut_length e es xs)
+
+-- the items together are those up to the last end
+cut_sum : (s : ℕ) (ends : List ℕ) (xs : List Item) → AreEnds s ends (length xs) → s + sum (map length (cut s ends xs)) ≡ last_end s ends
+cut_sum s [] xs h = omega arith
+cut_sum s (e ∷ es) xs (a, h) =
+    let i = last_above e es (length xs) h in
+    let w = last_within e es (length xs) h in
+    let rest = cut_sum e es xs h in
+    let t = length-take-le e xs (omega arith) in
+    let here : length (drop s (take e xs)) ≡ e - s = length-drop s (take e xs) ∙ ap (λ n. n - s) t in
+    let all : sum (map length (cut s (e ∷ es) xs)) ≡ length (drop s (take e xs)) + sum (map length (cut e es xs)) = sum_by-cons (λ (n : ℕ). n) (length (drop s (take e xs))) (map length (cut e es xs)) in
+    omega arith
+
+pub all_cut : (ends : List ℕ) (xs : List Item) → AreEnds 0 ends (length xs) → sum (map length (cut 0 ends xs)) ≡ last_end 0 ends
+all_cut ends xs h = let s = cut_sum 0 ends xs h in omega arith
+
+drop_take : {A : Type 0} (s e : ℕ) (xs : List A) → s ≤ e → drop s (take e xs) ≡ take (e - s) (drop s xs)
+drop_take s e xs le = ap (λ k. drop s (take k xs)) (let same : e ≡ s + (e - s) = omega arith in same) ∙ drop-take s (e - s) xs
+
+pub record IsRowAt (s e : ℕ) (xs row : List Item) : Type 0 where
+  pub order : s ≤ e
+  pub bound : e ≤ length xs
+  pub items : take (e - s) (drop s xs) ≡ row
+
+pub cut_at : (s : ℕ) (ends : List ℕ) (xs : List Item) → AreEnds s ends (length xs) → (j : ℕ) → j < length ends →
+    IsRowAt (get_or (s ∷ ends) j 0) (get_or ends j 0) xs (row_at (cut s ends xs) j)
+cut_at s [] xs h j lt = absurd (omega arith)
+cut_at s (e ∷ es) xs (a, h) zero lt = record {
+  order = a;
+  bound = let c = last_above e es (length xs) h in let i = last_within e es (length xs) h in omega arith;
+  items = sym (drop_take s e xs a);
+}
+cut_at s (e ∷ es) xs (a, h) (suc j) lt = cut_at e es xs h j (omega arith)
+
+last_get : (s : ℕ) (ends : List ℕ) → get_or (s ∷ ends) (length ends) 0 ≡ last_end s ends
+last_get s [] = refl
+last_get s (e ∷ es) = last_get e es
+
+pub last_index : (s : ℕ) (ends : List ℕ) → (length ends ≡ 0 → ⊥) → get_or ends (length ends - 1) 0 ≡ last_end s ends
+last_index s [] some = absurd (some refl)
+last_index s (e ∷ es) some = ap (λ k. get_or (e ∷ es) k 0) (let same : suc (length es) - 1 ≡ length es = omega arith in same) ∙ last_get e es
+
+pub on_err : {T E P : Type 0} (r : Result T E) → P → OnErr r P
+on_err (Ok x) p = tt
+on_err (Err e) p = p
+
+-- a row is put behind the last end
+module _ (ends : List ℕ) (xs : List Item) (h : AreEnds 0 ends (length xs)) (last : ℕ) (is : last ≡ last_end 0 ends) where
+  pub put_within : last ≤ length xs
+  put_within = let w = last_within 0 ends (length xs) h in omega arith
+
+  pub put_view : (ys : List Item) (ends' : List ℕ) → ends' ≡ ends → take last ys ≡ take last xs → cut 0 ends' ys ≡ cut 0 ends xs
+  put_view ys ends' same a = ap (λ e. cut 0 e ys) same ∙ cut_same 0 ends ys xs (length xs) h (subst (λ z. take z ys ≡ take z xs) is a)
+
+  pub put_ends : (n : ℕ) (ends' : List ℕ) → ends' ≡ ends → last ≤ n → AreEnds 0 ends' n
+  put_ends n ends' same a = subst (λ e. AreEnds 0 e n) (sym same) (ends_other 0 ends (length xs) n h (omega arith))
+
+  module _ (row ys : List Item) (ends' : List ℕ) (put : ys ≡ take last xs ++ row) (n : ℕ) (n_is : n ≡ length row) (more : ends' ≡ ends ++ (last + n) ∷ []) where
+    long : last + n ≡ length (take last xs ++ row)
+    long = let l = length-append (take last xs) row in let k = length-take-le last xs put_within in omega arith
+
+    pub put_more_ends : AreEnds 0 ends' (length ys)
+    put_more_ends =
+        let i = long in
+        let p = ap (λ (l : List Item). length l) put in
+        subst (λ e. AreEnds 0 e (length ys)) (sym more) (ends_more 0 ends (last + n) (length xs) (length ys) h (omega arith) (omega arith))
+
+    pub put_more_view : cut 0 ends' ys ≡ cut 0 ends xs ++ row ∷ []
+    put_more_view =
+        let one : drop last (take (last + n) (take last xs ++ row)) ≡ row = part_new last (last + n) xs row put_within long in
+        let end : drop (last_end 0 ends) (take (last + n) (take last xs ++ row)) ≡ row = subst (λ z. drop z (take (last + n) (take last xs ++ row)) ≡ row) is one in
+        let tail : cut 0 ends (take last xs ++ row) ≡ cut 0 ends xs = put_view (take last xs ++ row) ends refl (take_prefix last xs row put_within) in
+        ap (λ e. cut 0 e ys) more ∙ (ap (cut 0 (ends ++ (last + n) ∷ [])) put ∙ (cut_append 0 ends (last + n) (take last xs ++ row)
+        ∙ (ap (λ r. cut 0 ends (take last xs ++ row) ++ r ∷ []) end ∙ ap (λ l. l ++ row ∷ []) tail)))
+
+-- the first row alone
+module _ (xs : List Item) where
+  pub first_ends : (s : ℕ) (ends : List ℕ) → AreEnds s ends (length xs) → AreEnds s (take 1 ends) (length xs)
+  first_ends s [] h = h
+  first_ends s (e ∷ es) (a, h) = let c = last_above e es (length xs) h in let i = last_within e es (length xs) h in (a, omega arith)
+
+  pub first_row : (s : ℕ) (ends : List ℕ) → 0 < length ends → cut s (take 1 ends) xs ≡ row_at (cut s ends xs) 0 ∷ []
+  first_row s [] some = absurd (omega arith)
+  first_row s (e ∷ es) some = refl

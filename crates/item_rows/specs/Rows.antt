@@ -1,0 +1,19 @@
+-- Rows that are kept end to end, told apart by the places where each ends.
+use Rattle.std.specs.Prelude.{ℕ, ◌≤◌, List, [], ◌∷◌, take, drop, slice_index_or}
+use Rattle.recognizer_model.specs.declared.Item.{Item}
+
+abbrev pub row_at : List (List Item) → ℕ → List Item
+row_at rows i = slice_index_or rows i []
+
+abbrev pub cut : ℕ → List ℕ → List Item → List (List Item)
+cut from [] items = []
+cut from (end ∷ ends) items = drop from (take end items) ∷ cut end ends items
+
+-- the ends rise, up to at most the length
+abbrev pub AreEnds : ℕ → List ℕ → (length : ℕ) → Type 0
+AreEnds from [] n = from ≤ n
+AreEnds from (end ∷ ends) n = (from ≤ end) × AreEnds end ends n
+
+abbrev pub last_end : ℕ → List ℕ → ℕ
+last_end from [] = from
+last_end from (end ∷ ends) = last_end end ends

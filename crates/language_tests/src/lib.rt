@@ -1,0 +1,13 @@
+//! Tests of the grammar language: its tokens, statements, faults, and what is built and prepared. There is nothing else here.
+#![tactic(auto)]
+
+#[cfg(test)]
+mod building;
+#[cfg(test)]
+mod preparing;
+#[cfg(test)]
+mod statements;
+#[cfg(test)]
+mod texts;
+#[cfg(test)]
+mod token_rows;

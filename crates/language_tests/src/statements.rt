@@ -1,0 +1,72 @@
+//! Statements of each form, and where others are refused.
+use dsl_reader::{StatementRefusal, parse};
+use dsl_tokens::tokens;
+use slif_base::chars_of;
+use std::test::Fail;
+
+// How many statements a text has, or where the first bad one begins.
+fn read(rt: &HostRuntime, text: &str) -> Result<usize, StatementRefusal> {
+    let Ok(chars) = chars_of(rt.alloc(), text.as_bytes()) else {
+        return Err(StatementRefusal::NoMemory);
+    };
+    let Ok(found) = tokens(rt.alloc(), &chars) else {
+        return Err(StatementRefusal::NoMemory);
+    };
+    let description = parse(rt.alloc(), &chars, &found)?;
+    Ok(description.statements.len())
+}
+
+const ACCEPTED: [(&str, usize); 15] = [
+    ("", 0),
+    ("; ;", 0),
+    (":start ::= <a  b>", 1),
+    (":default ::= action => ::first", 1),
+    ("lexeme default = latm => 1", 1),
+    (":lexeme ~ S priority => -1, latm => 0", 1),
+    (":discard ~ [\\s] ,", 1),
+    ("S ::=", 1),
+    ("S ::= action => [name,values] ,", 1),
+    ("S ::= [a]* separator => <c>", 1),
+    ("S ~ T+ proper => 1", 1),
+    (
+        "S ::= 'a' ('b' T) null-ranking => low | 'c' || T rank => 1",
+        1,
+    ),
+    ("S ~ 'a' | lexeme default", 1),
+    ("S ::= 'a'; T ::= 'b' U ~ 'c'", 3),
+    ("S ::= T lexeme default = :start ::= S", 3),
+];
+
+const REFUSED: [(&str, usize); 12] = [
+    ("S ::= 'a'*", 0),
+    ("S ::= 'a' ; 'b'", 12),
+    ("S ~ 'a' || 'b'", 0),
+    ("S ::= ()", 0),
+    ("S ::= (('a'))", 0),
+    ("S ::= 'a' | | 'b'", 0),
+    ("T ~ 'b' S ::= 'a' |", 8),
+    ("S ::= 'a'\n:start ::= 'b'", 10),
+    (":start ~ S", 0),
+    (":other ::= S", 0),
+    ("S ::= rank => => 1", 0),
+    ("lexeme default latm => 1", 0),
+];
+
+#[test]
+fn statements_of_each_form(rt: HostRuntime) -> Result<(), Fail> {
+    for &(text, count) in &ACCEPTED {
+        assert!(rt; read(&rt, text) == Ok(count), "{text}");
+    }
+    Ok(())
+}
+
+#[test]
+fn refused_at_their_places(rt: HostRuntime) -> Result<(), Fail> {
+    for &(text, at) in &REFUSED {
+        assert!(rt;
+            read(&rt, text) == Err(StatementRefusal::BadStatement { at }),
+            "{text}"
+        );
+    }
+    Ok(())
+}

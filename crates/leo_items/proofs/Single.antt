@@ -1,0 +1,68 @@
+-- Of the items of a set that wait for a symbol, the only one.
+use Rattle.std.proofs.Common.{◌≡◌, ◌≢◌, ℕ, zero, suc, ◌<◌, ◌≤◌, length, List, [], ◌∷◌, Some, None, Contains, slice_get, refl, sym, ◌∙◌, ap, subst, arith}
+use Rattle.std.specs.Prelude.{slice_index_or}
+use Rattle.std.specs.List.{AllPairs}
+use Rattle.recognizer_model.specs.declared.Item.{Item}
+use Rattle.recognizer_model.specs.Flat.{FlatGrammar, FlatRule, IsRule, no_rule}
+use Rattle.recognizer_model.specs.Items.{after, IsWhole, advanced}
+use Rattle.recognizer_model.specs.Counts.{IsListOf}
+use Rattle.leo_items.specs.Steps.{IsStep}
+
+pub one_there : (x y : Item) → Contains (x ∷ []) y → y ≡ x
+one_there x y (zero, lt, e) = sym e
+one_there x y (suc k, lt, e) = absurd (omega arith)
+
+-- a list of one value alone, each once, has it once
+pub only_one : (xs : List Item) (x : Item) → AllPairs (λ a b. a ≢ b) xs → Contains xs x → ((y : Item) → Contains xs y → y ≡ x) → xs ≡ x ∷ []
+only_one [] x once (k, lt, e) all = absurd (omega arith)
+only_one (a ∷ []) x once there all = ap (λ z. z ∷ []) (all a (0, omega arith, refl))
+only_one (a ∷ (b ∷ xs)) x once there all = absurd (once 0 1 a (omega arith) (omega arith) (all a (0, omega arith, refl) ∙ sym (all b (1, omega arith, refl))))
+
+module _ (g : FlatGrammar) (P : Item → Type 0) (x : ℕ) (waiting : List Item) (lists : IsListOf (λ item. P item × (after g item ≡ Some x)) waiting) where
+  pub record IsOnly (item : Item) : Type 0 where
+    pub inside : P item
+    pub waits : after g item ≡ Some x
+    pub last : IsWhole g (advanced item)
+    pub only : (other : Item) → P other → after g other ≡ Some x → other ≡ item
+
+  pub step_some : (step : Item) → IsStep g waiting (Some step) → (item : Item) × IsOnly item × (step ≡ advanced item)
+  step_some step (item, one, last, same) =
+      let (inside, waits) = (lists.exact item).0 (subst (λ l. Contains l item) (sym one) (0, omega arith, refl)) in (
+        item,
+        record {
+          inside = inside;
+          waits = waits;
+          last = last;
+          only = λ other p e. one_there item other (subst (λ l. Contains l other) one ((lists.exact other).1 (p, e)));
+        },
+        same,
+      )
+
+  pub step_none : IsStep g waiting None → (item : Item) → ¬ IsOnly item
+  step_none none item o =
+      none item (only_one waiting item lists.once ((lists.exact item).1 (o.inside, o.waits)) (λ y c. let (p, e) = (lists.exact y).0 c in o.only y p e)) o.last
+
+-- nothing is behind the end, and something is before it
+pub ends_there : (xs : List ℕ) (n : ℕ) → n ≤ length xs → slice_get xs n ≡ None → n ≡ length xs
+ends_there [] n le e = omega arith
+ends_there (y ∷ ys) zero le e = absurd (cc)
+ends_there (y ∷ ys) (suc n) le e = ap suc (ends_there ys n (omega arith) e)
+
+pub nothing_there : (xs : List ℕ) (n : ℕ) → n ≡ length xs → slice_get xs n ≡ None
+nothing_there [] n e = refl
+nothing_there (y ∷ ys) zero e = absurd (omega arith)
+nothing_there (y ∷ ys) (suc n) e = nothing_there ys n (omega arith)
+
+pub part_within : (xs : List ℕ) (k x : ℕ) → slice_get xs k ≡ Some x → k < length xs
+part_within [] k x e = absurd (cc)
+part_within (y ∷ ys) zero x e = omega arith
+part_within (y ∷ ys) (suc k) x e = let h = part_within ys k x e in omega arith
+
+-- a rule with a part is one of the grammar
+rule_there : (rules : List FlatRule) (r k x : ℕ) → slice_get (slice_index_or rules r no_rule).rhs k ≡ Some x → r < length rules
+rule_there [] r k x e = absurd (cc)
+rule_there (y ∷ ys) zero k x e = omega arith
+rule_there (y ∷ ys) (suc r) k x e = let h = rule_there ys r k x e in omega arith
+
+pub part_of_rule : (g : FlatGrammar) (item : Item) (x : ℕ) → after g item ≡ Some x → IsRule g item.rule
+part_of_rule g item x e = rule_there g.rules item.rule item.dot x e

@@ -1,0 +1,135 @@
+//! Where completions lead in the end, over the rows of the places so far.
+ghost use Rattle.std.specs.Prelude.{◌≡◌, ℕ, ◌<◌, ◌+◌, ◌++◌, ◌∷◌, [], length, Some, None, IfOk, OnOk, OnErr};
+ghost use Rattle.recognizer_model.specs.declared.Item.{Item as TheItem};
+ghost use Rattle.recognizer_model.specs.Flat.{IsRule};
+ghost use Rattle.item_rows.specs.Kept.{AreRows};
+ghost use Rattle.leo_items.specs.Memo.{noted};
+ghost use Rattle.leo_items.specs.ByRows.{IsStepIn, LeadsIn, IsMemo, NotesMore, AreNulled, pair_of};
+
+use crate::leo_of;
+use crate::memo::{Memo, Pair};
+use grammar_core::Flat;
+use item_rows::{Rows, waiting};
+use recognizer_model::Item;
+use slif_base::Steps;
+use std::alloc::AllocError;
+use std::sync::ledger::Ledger;
+
+/// The step of a set and a symbol.
+pub fn step_in(flat: &Flat, rows: &Rows, pair: Pair) -> Option<Item>
+    requires rows { AreRows flat.now rows.now }
+    requires set { pair.set < length rows.now }
+    ensures { IsStepIn flat.now rows.now pair.set pair.symbol result }
+{
+    let row = rows.row(pair.set as usize);
+    leo_of(flat, waiting(flat, row, pair.symbol))
+}
+
+/// The set and the symbol that a completed item leads over.
+pub fn pair_above(flat: &Flat, item: Item) -> Pair
+    requires { IsRule flat.now item.rule }
+    ensures { result ≡ pair_of flat.now item }
+{
+    Pair {
+        set: item.origin,
+        symbol: flat.lhs(item.rule),
+    }
+}
+
+// Goes on from a step to the topmost item, or to one that is noted.
+fn find(flat: &Flat, rows: &Rows, memo: &Memo, pair: Pair, step: Item) -> Item
+    requires rows { AreRows flat.now rows.now }
+    requires nulled { AreNulled flat.now rows.now }
+    requires memo { IsMemo flat.now rows.now memo.now }
+    requires set { pair.set < length rows.now }
+    requires step { IsStepIn flat.now rows.now pair.set pair.symbol (Some step) }
+    ensures { LeadsIn flat.now rows.now pair.set pair.symbol result }
+{
+    flat.known();
+    let mut top = step;
+    for _ in 0..usize::MAX {
+        let above = pair_above(flat, top);
+        if let Some(found) = memo.get(above) {
+            return found;
+        }
+        match step_in(flat, rows, above) {
+            Some(next) => top = next,
+            None => return top,
+        }
+    }
+    unreachable!()
+}
+
+// Makes a Leo item, and counts it.
+fn make_leo<L: Ledger>(
+    memo: &mut Memo,
+    pair: Pair,
+    top: Item,
+    steps: &mut Steps<L>,
+) -> Result<(), AllocError>
+    requires { noted memo.old pair ≡ None }
+    ensures ok { OnOk result ((memo.new ≡ memo.old ++ (pair, top) ∷ []) × (steps.new ≡ steps.old + 1)) }
+    ensures err { OnErr result ((memo.new ≡ memo.old) × (steps.new ≡ steps.old)) }
+{
+    memo.put(pair, top)?;
+    steps.tick();
+    Ok(())
+}
+
+// Notes the topmost item for a pair, and for those that it leads over.
+fn note<L: Ledger>(
+    flat: &Flat,
+    rows: &Rows,
+    memo: &mut Memo,
+    pair: Pair,
+    top: Item,
+    steps: &mut Steps<L>,
+) -> Result<(), AllocError>
+    requires rows { AreRows flat.now rows.now }
+    requires nulled { AreNulled flat.now rows.now }
+    requires memo { IsMemo flat.now rows.now memo.old }
+    requires set { pair.set < length rows.now }
+    requires leads { LeadsIn flat.now rows.now pair.set pair.symbol top }
+    ensures memo { NotesMore flat.now rows.now memo.old memo.new }
+    ensures counted { steps.new + length memo.old ≡ steps.old + length memo.new }
+{
+    flat.known();
+    let mut pair = pair;
+    for _ in 0..usize::MAX {
+        if memo.get(pair).is_some() {
+            return Ok(());
+        }
+        let Some(step) = step_in(flat, rows, pair) else {
+            return Ok(());
+        };
+        make_leo(memo, pair, top, steps)?;
+        pair = pair_above(flat, step);
+    }
+    unreachable!()
+}
+
+/// The topmost item of a pair with this step.
+pub fn topmost<L: Ledger>(
+    flat: &Flat,
+    rows: &Rows,
+    memo: &mut Memo,
+    pair: Pair,
+    step: Item,
+    steps: &mut Steps<L>,
+) -> Result<Item, AllocError>
+    requires rows { AreRows flat.now rows.now }
+    requires nulled { AreNulled flat.now rows.now }
+    requires memo { IsMemo flat.now rows.now memo.old }
+    requires set { pair.set < length rows.now }
+    requires step { IsStepIn flat.now rows.now pair.set pair.symbol (Some step) }
+    ensures leads { IfOk result (λ top. LeadsIn flat.now rows.now pair.set pair.symbol top) }
+    ensures memo { NotesMore flat.now rows.now memo.old memo.new }
+    ensures counted { steps.new + length memo.old ≡ steps.old + length memo.new }
+{
+    if let Some(top) = memo.get(pair) {
+        return Ok(top);
+    }
+    let top = find(flat, rows, memo, pair, step);
+    note(flat, rows, memo, pair, top, steps)?;
+    Ok(top)
+}

@@ -1,0 +1,91 @@
+-- The starts that are done in a row.
+use Rattle.std.proofs.Common.{◌≡◌, ◌↔◌, ◌⊎◌, inl, inr, ℕ, ◌+◌, ◌<◌, ◌++◌, List, [], ◌∷◌, length, take, get_or, Some, Contains, slice_get, refl, sym, ap, ◌∙◌, subst}
+use Rattle.std.specs.List.Sorted.{IsStrictlySortedBy}
+use Rattle.std.specs.Ordering.{nat_cmp}
+use Rattle.std.proofs.lemmas.List.{take_more}
+use Rattle.recognizer_model.specs.declared.thread.Thread.{Thread}
+use Rattle.recognizer_model.specs.Flat.{FlatGrammar}
+use Rattle.threads.proofs.Listing.{Contains-none, contains_next, contains_pushed}
+use Rattle.lexer.specs.Machines.{IsMatch}
+use Rattle.lexer.specs.Reading.{IsDoneIn}
+use Rattle.lexer.proofs.Sorted.{sorted_front, sorted_last, sorted_push, sorted_none}
+
+module _ (g : FlatGrammar) (old : List ℕ) where
+  abbrev pub DoneTo : List Thread → List ℕ → Type 0
+  DoneTo some done = (r : ℕ) → Contains done r ↔ (Contains old r ⊎ ((th : Thread) × Contains some th × IsMatch g th × (th.rule ≡ r)))
+
+  pub done_none : DoneTo [] old
+  done_none r = (λ h. inl h, λ h. elim h [ inl o ↦ o | inr (th, n, m, e) ↦ absurd (Contains-none th n) ])
+
+  module _ (row : List Thread) (i : ℕ) (d : Thread) (lt : i < length row) (mid : List ℕ) (h : DoneTo (take i row) mid) where
+    pub done_more : IsMatch g (get_or row i d) → (new : List ℕ) → new ≡ mid ++ (get_or row i d).rule ∷ [] → DoneTo (take (i + 1) row) new
+    done_more m new e r = (
+      λ c. elim ((contains_pushed mid new (get_or row i d).rule r e).0 c) [
+        | inl o ↦ elim ((h r).0 o) [ inl a ↦ inl a | inr (th, b, n, s) ↦ inr (th, (contains_next row i d th lt).1 (inl b), n, s) ]
+        | inr s ↦ inr (get_or row i d, (contains_next row i d (get_or row i d) lt).1 (inr refl), m, s)
+      ],
+      λ c. (contains_pushed mid new (get_or row i d).rule r e).1 (elim c [
+        | inl a ↦ inl ((h r).1 (inl a))
+        | inr (th, b, n, s) ↦ elim ((contains_next row i d th lt).0 b) [
+          | inl o ↦ inl ((h r).1 (inr (th, o, n, s)))
+          | inr same ↦ inr (ap (λ (z : Thread). z.rule) same ∙ s)
+        ]
+      ]),
+    )
+
+    pub done_skip : (IsMatch g (get_or row i d) → ⊥) → DoneTo (take (i + 1) row) mid
+    done_skip none r = (
+      λ c. elim ((h r).0 c) [ inl a ↦ inl a | inr (th, b, n, s) ↦ inr (th, (contains_next row i d th lt).1 (inl b), n, s) ],
+      λ c. elim c [
+        | inl a ↦ (h r).1 (inl a)
+        | inr (th, b, n, s) ↦ elim ((contains_next row i d th lt).0 b) [ inl o ↦ (h r).1 (inr (th, o, n, s)) | inr same ↦ absurd (none (subst (IsMatch g) (sym same) n)) ]
+      ],
+    )
+
+module _ (g : FlatGrammar) (done : List ℕ) where
+  abbrev pub IsDoneBy : ℕ → Type 0
+  IsDoneBy k = (r : ℕ) × (slice_get g.tops k ≡ Some r) × Contains done r
+
+  -- those of some candidates that are done, in their order
+  pub record MatchedTo (some matched : List ℕ) : Type 0 where
+    pub exact : (k : ℕ) → Contains matched k ↔ (Contains some k × IsDoneBy k)
+    pub order : IsStrictlySortedBy nat_cmp some → IsStrictlySortedBy nat_cmp matched
+
+  pub matched_none : (matched : List ℕ) → matched ≡ [] → MatchedTo [] matched
+  matched_none matched e = record {
+    exact = λ k. ((λ h. absurd (Contains-none k (subst (λ l. Contains l k) e h))), (λ (h, d). absurd (Contains-none k h)));
+    order = λ s. subst (IsStrictlySortedBy nat_cmp) (sym e) sorted_none;
+  }
+
+  module _ (candidates : List ℕ) (i : ℕ) (lt : i < length candidates) (mid : List ℕ) (h : MatchedTo (take i candidates) mid) where
+    front : IsStrictlySortedBy nat_cmp (take (i + 1) candidates) → IsStrictlySortedBy nat_cmp (take i candidates)
+    front s = sorted_front (take i candidates) (get_or candidates i 0) (subst (IsStrictlySortedBy nat_cmp) (take_more candidates i 0 lt) s)
+
+    pub matched_more : IsDoneBy (get_or candidates i 0) → (new : List ℕ) → new ≡ mid ++ get_or candidates i 0 ∷ [] → MatchedTo (take (i + 1) candidates) new
+    matched_more d new e = record {
+      exact = λ k. (
+        λ c. elim ((contains_pushed mid new (get_or candidates i 0) k e).0 c) [
+          | inl o ↦ (let (a, b) = (h.exact k).0 o in ((contains_next candidates i 0 k lt).1 (inl a), b))
+          | inr s ↦ ((contains_next candidates i 0 k lt).1 (inr s), subst IsDoneBy s d)
+        ],
+        λ (c, b). (contains_pushed mid new (get_or candidates i 0) k e).1 (elim ((contains_next candidates i 0 k lt).0 c) [ inl o ↦ inl ((h.exact k).1 (o, b)) | inr s ↦ inr s ]),
+      );
+      order = λ s. subst (IsStrictlySortedBy nat_cmp) (sym e) (sorted_push mid (get_or candidates i 0) (h.order (front s))
+          (λ x c. sorted_last (take i candidates) (get_or candidates i 0) x (subst (IsStrictlySortedBy nat_cmp) (take_more candidates i 0 lt) s) ((h.exact x).0 c).0));
+    }
+
+    pub matched_skip : (IsDoneBy (get_or candidates i 0) → ⊥) → MatchedTo (take (i + 1) candidates) mid
+    matched_skip none = record {
+      exact = λ k. (
+        λ c. (let (a, b) = (h.exact k).0 c in ((contains_next candidates i 0 k lt).1 (inl a), b)),
+        λ (c, b). elim ((contains_next candidates i 0 k lt).0 c) [ inl o ↦ (h.exact k).1 (o, b) | inr s ↦ absurd (none (subst IsDoneBy (sym s) b)) ],
+      );
+      order = λ s. h.order (front s);
+    }
+
+-- rules that are done in a row are those of starts that are
+pub done_in : (g : FlatGrammar) (row : List Thread) (done : List ℕ) → DoneTo g [] row done → (k : ℕ) → IsDoneBy g done k ↔ IsDoneIn g row k
+done_in g row done h k = (
+  λ (r, top, c). elim ((h r).0 c) [ inl n ↦ absurd (Contains-none r n) | inr (th, i, m, e) ↦ (th, i, m, top ∙ ap Some (sym e)) ],
+  λ (th, i, m, top). (th.rule, top, (h th.rule).1 (inr (th, i, m, refl))),
+)

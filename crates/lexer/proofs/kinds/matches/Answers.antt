@@ -1,0 +1,23 @@
+use Rattle.std.proofs.Common.{None, inl, inr, Contains, sym, subst, refl, arith}
+use Rattle.std.proofs.lemmas.List.Elements.{Contains-get_or}
+use Rattle.threads.proofs.Listing.{Contains-none, contains_next, take_all}
+use Rattle.lexer.specs.Machines.{IsMatch}
+use Rattle.lexer.proofs.kinds.matches.Goals as goal
+
+pub is_match-requires : goal.is_match-requires
+is_match-requires c = c.requires _ (Contains-get_or c.args.row.now c.loop-thread.thread-index (record { rule = 0; dot = 0; label = None }) (omega arith))
+
+pub loop-thread-init : goal.loop-thread-init
+loop-thread-init c = λ th h m. Contains-none th h
+
+pub loop-thread-preserved : goal.loop-thread-preserved
+loop-thread-preserved c = λ th h m. elim ((contains_next c.args.row.now c.loop-thread.thread-index (record { rule = 0; dot = 0; label = None }) th c.loop-thread-test.true).0 h) [
+  | inl o ↦ c.loop-thread.invariant th o m
+  | inr s ↦ let t = c.is_match.ensures.1 (subst (IsMatch c.args.flat.now) (sym s) m) in let f = c.if-is_match.false in absurd (cc)
+]
+
+pub returns-then-is_match : goal.returns-then-is_match
+returns-then-is_match c = ((λ t. (_, Contains-get_or c.args.row.now c.loop-thread.thread-index (record { rule = 0; dot = 0; label = None }) c.loop-thread-test.true, c.is_match.ensures.0 c.if-is_match.true)), (λ h. refl))
+
+pub returns : goal.returns
+returns c = ((λ f. absurd (cc)), (λ (th, h, m). absurd (c.loop-thread.invariant th (subst (λ l. Contains l th) (sym (take_all c.loop-thread.thread-index c.args.row.now c.loop-thread-test.false)) h) m)))

@@ -1,0 +1,67 @@
+-- States, which are rows of threads, and what is noted of steps from one to another.
+use Rattle.std.specs.Prelude.{◌≡◌, ◌≢◌, ℕ, ◌+◌, ◌*◌, ◌<◌, ◌↔◌, IsTrue, List, length, Some, Contains, slice_get, slice_index_or}
+use Rattle.std.specs.declared.vec.Vec.{Vec}
+use Rattle.std.specs.declared.alloc.Global.{Global}
+use Rattle.recognizer_model.specs.declared.thread.Label.{Label}
+use Rattle.recognizer_model.specs.declared.thread.Thread.{Thread}
+use Rattle.recognizer_model.specs.Flat.{FlatGrammar}
+use Rattle.recognizer_model.specs.Threads.{IsTopRule, Waiting}
+use Rattle.threads.specs.Lists.{list_at, IsGrown, AreThreads, AreParts}
+use Rattle.threads.specs.Steps.{IsReadBy, IsNext, IsBegin}
+use Rattle.lexer.specs.declared.kinds.Kind.{Kind}
+use Rattle.lexer.specs.declared.machine.Machine.{Machine}
+use Rattle.lexer.specs.Lexical.{LexicalForm}
+use Rattle.lexer.specs.Terminals.{AreTerminalsOf, row_at}
+
+-- the state that follows by a class stands in the state's row of the table
+abbrev pub IsNoted : List ℕ → (state class to : ℕ) → Type 0
+IsNoted next s c t = (slice_get next (s * 128 + c) ≡ Some t) × (t ≢ 4294967295)
+
+abbrev pub HasBegin : List (Vec ℕ Global × ℕ) → List ℕ → ℕ → Type 0
+HasBegin begins starts s = (v : Vec ℕ Global) × Contains begins (v, s) × (v.items ≡ starts)
+
+-- a start's rule is done, behind a character or more
+abbrev pub IsMatch : FlatGrammar → Thread → Type 0
+IsMatch g th = (th.dot ≡ 1) × ((l : Label) × (th.label ≡ Some l)) × IsTopRule g th.rule
+
+pub record IsKindOf (g : FlatGrammar) (row : List Thread) (kind : Kind) : Type 0 where
+  pub matches : IsTrue kind.matches ↔ ((th : Thread) × Contains row th × IsMatch g th)
+  pub goes : IsTrue kind.goes ↔ ((th : Thread) × Waiting g row th)
+
+pub record AreKinds (g : FlatGrammar) (rows : List (List Thread)) (kinds : List Kind) : Type 0 where
+  pub long : length kinds ≡ length rows
+  pub each : (s : ℕ) (d : Kind) → s < length kinds → IsKindOf g (list_at rows s) (slice_index_or kinds s d)
+
+abbrev pub form_of : Machine → LexicalForm
+form_of m = record { flat = m.flat.now; sets = m.classes.sets }
+
+-- one state leads to another by a class of characters
+abbrev pub IsStepBy : Machine → (state class to : ℕ) → Type 0
+IsStepBy m s c t = (set : List Thread) × IsNext m.flat.now m.parts (IsReadBy m.flat.now (row_at m.classes.rows c)) (list_at m.rows s) set (list_at m.rows t)
+
+-- one state leads to another by a character
+abbrev pub IsStepOver : Machine → (state character to : ℕ) → Type 0
+IsStepOver m s c t =
+    (terminals : List ℕ) × AreTerminalsOf m.classes.sets c terminals × ((set : List Thread) × IsNext m.flat.now m.parts (IsReadBy m.flat.now terminals) (list_at m.rows s) set (list_at m.rows t))
+
+-- what is noted of a step is so
+pub record IsNotedStep (m : Machine) (s c t : ℕ) : Type 0 where
+  pub from : s < length m.rows
+  pub by_class : c < length m.classes.rows
+  pub to : t < length m.rows
+  pub steps : IsStepBy m s c t
+
+-- whatever is noted is so
+pub record IsMachine (m : Machine) : Type 0 where
+  pub parts : AreParts m.flat.now m.parts
+  pub rows : (s : ℕ) → AreThreads m.flat.now (length m.parts) (list_at m.rows s)
+  pub kinds : AreKinds m.flat.now m.rows m.kinds.items
+  pub next : (s c t : ℕ) → c < 128 → IsNoted m.next.items s c t → IsNotedStep m s c t
+  pub begins : (starts : List ℕ) (s : ℕ) → HasBegin m.begins.entries starts s → (s < length m.rows) × ((set : List Thread) × IsBegin m.flat.now m.parts starts set (list_at m.rows s))
+
+-- what was there keeps its place
+pub record Goes (old new : Machine) : Type 0 where
+  pub is : IsMachine new
+  pub form : form_of new ≡ form_of old
+  pub parts : IsGrown old.parts new.parts
+  pub rows : IsGrown old.rows new.rows

@@ -1,0 +1,140 @@
+//! States that are made when they are first met.
+ghost use Rattle.std.specs.Prelude.{◌≡◌, ℕ, ◌<◌, List, length, IfOk, Contains};
+ghost use Rattle.recognizer_model.specs.declared.thread.Thread.{Thread as AThread};
+ghost use Rattle.threads.specs.Lists.{list_at, IsGrown};
+ghost use Rattle.threads.specs.Steps.{IsBegin};
+ghost use Rattle.lexer.specs.Lexical.{LexicalForm};
+ghost use Rattle.lexer.specs.Machines.{form_of, IsMachine, Goes, IsStepBy, IsStepOver};
+
+use crate::begins::{begin_of, note_begin};
+use crate::classes::Classes;
+use crate::kinds::{Kind, add_row};
+use crate::next::{STATES, known, note};
+use crate::table::Lexical;
+use grammar_core::Flat;
+use indexmap::IndexMap;
+use std::alloc::{AllocError, Global};
+use std::marker::Model;
+use threads::{Lists, first_row, next_row};
+
+// How many parts there are at most between two matches.
+const PARTS: usize = 16384;
+
+/// The rows that were met, as states, and what is known of steps from one to another.
+#[derive(Drop)]
+pub struct Machine<'g> {
+    pub flat: &'g Flat,
+    pub classes: Classes<'g>,
+    pub parts: Lists,
+    /// the threads of each state
+    pub rows: Lists,
+    pub kinds: Vec<Kind>,
+    pub next: Vec<u32>,
+    pub begins: IndexMap<Vec<u32>, usize>,
+}
+
+/// A machine with no states.
+pub fn new_machine<'g>(alloc: Global, l0: Lexical<'g>) -> Result<Machine<'g>, AllocError>
+    ensures form { IfOk result (λ m. form_of m ≡ l0.entry) }
+    ensures is { IfOk result IsMachine }
+{
+    let classes = Classes::new(alloc, l0.sets)?;
+    Ok(Machine {
+        flat: l0.flat,
+        classes,
+        parts: Lists::new(alloc),
+        rows: Lists::new(alloc),
+        kinds: Vec::new(alloc),
+        next: Vec::new(alloc),
+        begins: IndexMap::new(alloc),
+    })
+}
+
+fn is_full(machine: &Machine<'_>) -> bool {
+    machine.rows.count() >= STATES || machine.parts.count() >= PARTS
+}
+
+/// Forgets all states where there are too many.
+pub fn forget_if_full(machine: &mut Machine<'_>)
+    requires { IsMachine machine.old }
+    ensures form { form_of machine.new ≡ form_of machine.old }
+    ensures is { IsMachine machine.new }
+{
+    if is_full(machine) {
+        machine.begins.clear();
+        machine.next.clear();
+        machine.kinds.clear();
+        machine.rows.clear();
+        machine.parts.clear();
+    }
+}
+
+/// The state of no text, for some starts.
+pub fn begin(machine: &mut Machine<'_>, alloc: Global, starts: &[u32]) -> Result<usize, AllocError>
+    requires is { IsMachine machine.old }
+    requires starts { (k : ℕ) → Contains starts.now k → k < length machine.old.flat.now.tops }
+    ensures goes { Goes machine.old machine.new }
+    ensures there { IfOk result (λ s. s < length machine.new.rows) }
+    ensures begins { IfOk result (λ s. (set : List AThread) × IsBegin machine.new.flat.now machine.new.parts starts.now set (list_at machine.new.rows s)) }
+{
+    if let Some(state) = begin_of(&machine.begins, starts) {
+        return Ok(state);
+    }
+    let mut row = Vec::new(alloc);
+    first_row(alloc, machine.flat, &machine.parts, starts, &mut row)?;
+    let state = add_row(machine.flat, &mut machine.rows, &mut machine.kinds, row)?;
+    note_begin(alloc, &mut machine.begins, starts, state)?;
+    Ok(state)
+}
+
+// Makes the state that follows by a class.
+fn make(
+    machine: &mut Machine<'_>,
+    alloc: Global,
+    state: usize,
+    class: usize,
+) -> Result<usize, AllocError>
+    requires is { IsMachine machine.old }
+    requires state { state < length machine.old.rows }
+    requires class { class < length machine.old.classes.rows }
+    ensures goes { Goes machine.old machine.new }
+    ensures classes { machine.new.classes ≡ machine.old.classes }
+    ensures there { IfOk result (λ s. s < length machine.new.rows) }
+    ensures steps { IfOk result (IsStepBy machine.new state class) }
+{
+    let mut row = Vec::new(alloc);
+    next_row(
+        alloc,
+        machine.flat,
+        &mut machine.parts,
+        machine.rows.list(state),
+        machine.classes.terminals(class),
+        &mut row,
+    )?;
+    let to = add_row(machine.flat, &mut machine.rows, &mut machine.kinds, row)?;
+    note(&mut machine.next, state, class, to)?;
+    Ok(to)
+}
+
+/// The state that follows by a character.
+pub fn step(
+    machine: &mut Machine<'_>,
+    alloc: Global,
+    state: usize,
+    c: char,
+) -> Result<usize, AllocError>
+    requires is { IsMachine machine.old }
+    requires state { state < length machine.old.rows }
+    ensures goes { Goes machine.old machine.new }
+    ensures there { IfOk result (λ s. s < length machine.new.rows) }
+    ensures steps { IfOk result (IsStepOver machine.new state c) }
+{
+    let class = machine.classes.class(c)?;
+    match known(&machine.next, state, class) {
+        Some(to) => Ok(to),
+        None => {
+            let made = make(machine, alloc, state, class)?;
+            Ok(made)
+        }
+    }
+}

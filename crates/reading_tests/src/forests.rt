@@ -1,0 +1,385 @@
+//! Forests of small grammars: how many nodes, alternatives and derivations they have, and the order of their first choices, all
+//! counted by hand.
+ghost use Rattle.std.specs.Prelude.{◌≡◌, ◌+◌, ◌<◌, length};
+ghost use Rattle.grammar_model.specs.Checked.{IsChecked};
+ghost use Rattle.recognizer_model.specs.FlatForm.{IsFlatOf};
+
+use crate::grammars::{COMMAS, HIGH, LOW, Language, PIECES, SUM, flat_of, read_all, written_of};
+use bocage::{Alternatives, Forest, ForestRefusal, LastPart};
+use bumpalo::Bump;
+use earley_sets::Recce;
+use grammar_core::{Flat, FlatSource, RuleId, Written};
+use grammar_model::Ranking;
+use slif_base::Steps;
+use std::alloc::Global;
+use std::marker::Brand;
+use std::sync::ledger::{Blank, Ledger};
+use std::test::Fail;
+
+// A number of a written rule, and where its last part may begin.
+type Starts = (u32, &'static [u32]);
+
+// The size of a forest, and the rules of the start over the whole, in order.
+#[derive(Clone, Copy)]
+struct Size {
+    nodes: usize,
+    alternatives: usize,
+    derivations: u64,
+    rules: &'static [Starts],
+}
+
+// What is read, and its forest, if there is a derivation.
+#[derive(Clone, Copy)]
+struct Row {
+    language: Language,
+    tokens: &'static [u32],
+    ranking: Ranking,
+    size: Option<Size>,
+}
+
+// S -> P | Q with a higher rank, P -> x, Q -> x
+const RANKED: Language = Language {
+    names: &["S", "P", "Q", "x"],
+    lines: &[
+        (0, &[1], 0, false),
+        (0, &[2], 5, false),
+        (1, &[3], 0, false),
+        (2, &[3], 0, false),
+    ],
+    lists: &[],
+};
+
+const ROWS: &[Row] = &[
+    // Three operands. The whole: top, three sums, three fronts of two parts, three of one, three numbers.
+    Row {
+        language: SUM,
+        tokens: &[1, 2, 1, 2, 1],
+        ranking: Ranking::Rule,
+        size: Some(Size {
+            nodes: 13,
+            alternatives: 14,
+            derivations: 2,
+            rules: &[(0, &[4, 2])],
+        }),
+    },
+    // Four operands: top, six sums, six fronts of two parts, six of one, four numbers; sums have 10 alternatives.
+    Row {
+        language: SUM,
+        tokens: &[1, 2, 1, 2, 1, 2, 1],
+        ranking: Ranking::None,
+        size: Some(Size {
+            nodes: 23,
+            alternatives: 27,
+            derivations: 5,
+            rules: &[(0, &[6, 4, 2])],
+        }),
+    },
+    Row {
+        language: SUM,
+        tokens: &[1],
+        ranking: Ranking::Rule,
+        size: Some(Size {
+            nodes: 2,
+            alternatives: 2,
+            derivations: 1,
+            rules: &[(1, &[0])],
+        }),
+    },
+    Row {
+        language: SUM,
+        tokens: &[1, 2],
+        ranking: Ranking::Rule,
+        size: None,
+    },
+    Row {
+        language: SUM,
+        tokens: &[],
+        ranking: Ranking::Rule,
+        size: None,
+    },
+    // Nothing is read, and the start is nullable.
+    Row {
+        language: LOW,
+        tokens: &[],
+        ranking: Ranking::Rule,
+        size: Some(Size {
+            nodes: 0,
+            alternatives: 0,
+            derivations: 1,
+            rules: &[],
+        }),
+    },
+    Row {
+        language: LOW,
+        tokens: &[2],
+        ranking: Ranking::Rule,
+        size: Some(Size {
+            nodes: 5,
+            alternatives: 6,
+            derivations: 2,
+            rules: &[(0, &[0, 1])],
+        }),
+    },
+    Row {
+        language: HIGH,
+        tokens: &[2],
+        ranking: Ranking::None,
+        size: Some(Size {
+            nodes: 5,
+            alternatives: 6,
+            derivations: 2,
+            rules: &[(0, &[1, 0])],
+        }),
+    },
+    Row {
+        language: HIGH,
+        tokens: &[2, 2],
+        ranking: Ranking::Rule,
+        size: Some(Size {
+            nodes: 5,
+            alternatives: 5,
+            derivations: 1,
+            rules: &[(0, &[1])],
+        }),
+    },
+    Row {
+        language: RANKED,
+        tokens: &[3],
+        ranking: Ranking::Rule,
+        size: Some(Size {
+            nodes: 5,
+            alternatives: 5,
+            derivations: 2,
+            rules: &[(1, &[0]), (0, &[0])],
+        }),
+    },
+    Row {
+        language: RANKED,
+        tokens: &[3],
+        ranking: Ranking::None,
+        size: Some(Size {
+            nodes: 5,
+            alternatives: 5,
+            derivations: 2,
+            rules: &[(0, &[0]), (1, &[0])],
+        }),
+    },
+    Row {
+        language: COMMAS,
+        tokens: &[1, 2, 1],
+        ranking: Ranking::Rule,
+        size: Some(Size {
+            nodes: 6,
+            alternatives: 6,
+            derivations: 1,
+            rules: &[(0, &[0])],
+        }),
+    },
+    // A separator stands last.
+    Row {
+        language: COMMAS,
+        tokens: &[1, 2, 1, 2],
+        ranking: Ranking::Rule,
+        size: Some(Size {
+            nodes: 7,
+            alternatives: 7,
+            derivations: 1,
+            rules: &[(0, &[3])],
+        }),
+    },
+    // Three pieces of one, or two, of which one is of two.
+    Row {
+        language: PIECES,
+        tokens: &[2, 2, 2],
+        ranking: Ranking::Rule,
+        size: Some(Size {
+            nodes: 15,
+            alternatives: 16,
+            derivations: 3,
+            rules: &[(0, &[0])],
+        }),
+    },
+];
+
+// Each look at a node is one step.
+fn look_twice<L: Ledger>(forest: &Forest<'_>, steps: &mut Steps<L>) -> bool
+    requires { 0 < length forest.now.nodes }
+    ensures { steps.new ≡ steps.old + 2 }
+{
+    let first = forest.alternatives(0, steps).len();
+    let second = forest.alternatives(0, steps).len();
+    first == second && first > 0
+}
+
+// How many alternatives all nodes have.
+fn alternative_count<L: Ledger>(forest: &Forest<'_>, steps: &mut Steps<L>) -> usize {
+    let mut count: usize = 0;
+    for n in 0..forest.node_count() {
+        if let Ok(n) = u32::try_from(n) {
+            count = count.saturating_add(forest.alternatives(n, steps).len());
+        }
+    }
+    count
+}
+
+fn count_at(counts: &[u64], node: u32) -> u64 {
+    counts.get(node as usize).copied().unwrap_or(0)
+}
+
+// How many ways the last part of an alternative has, by those of the nodes.
+fn last_count(counts: &[u64], last: LastPart<'_>) -> u64 {
+    match last {
+        LastPart::Edge | LastPart::Nothing => 1,
+        LastPart::Wholes(nodes) => {
+            let mut sum: u64 = 0;
+            for node in nodes {
+                sum = sum.saturating_add(count_at(counts, *node));
+            }
+            sum
+        }
+    }
+}
+
+fn node_count(counts: &[u64], alternatives: &Alternatives<'_>) -> u64 {
+    let mut sum: u64 = 0;
+    for k in 0..alternatives.len() {
+        let front = match alternatives.front(k) {
+            Some(node) => count_at(counts, node),
+            None => 1,
+        };
+        let last = last_count(counts, alternatives.last(k));
+        sum = sum.saturating_add(front.saturating_mul(last));
+    }
+    sum
+}
+
+// How many derivations the nodes have, once each is counted behind those that it stands on.
+fn counts_of<L: Ledger>(
+    alloc: Global,
+    forest: &Forest<'_>,
+    steps: &mut Steps<L>,
+) -> Result<Vec<u64>, anyhow::Error> {
+    let mut counts = vec![in alloc; 0; forest.node_count()]?;
+    for _ in 0..forest.node_count() {
+        for n in 0..forest.node_count().min(counts.len()) {
+            if let Ok(node) = u32::try_from(n) {
+                counts[n] = node_count(&counts, &forest.alternatives(node, steps));
+            }
+        }
+    }
+    Ok(counts)
+}
+
+fn derivation_count<L: Ledger>(
+    alloc: Global,
+    forest: &Forest<'_>,
+    steps: &mut Steps<L>,
+) -> Result<u64, anyhow::Error> {
+    let counts = counts_of(alloc, forest, steps)?;
+    Ok(match forest.root() {
+        Some(root) => count_at(&counts, root),
+        None => 1,
+    })
+}
+
+// Whether a node is of this written rule, and its last part may begin at these places, in this order.
+fn has_starts<L: Ledger>(
+    forest: &Forest<'_>,
+    node: u32,
+    wanted: &Starts,
+    steps: &mut Steps<L>,
+) -> bool {
+    if node as usize >= forest.node_count() {
+        return false;
+    }
+    let rule = forest.key(node).rule;
+    let flat = forest.flat();
+    if rule as usize >= flat.rule_count()
+        || flat.origin_of(rule) != FlatSource::Written(RuleId(wanted.0))
+    {
+        return false;
+    }
+    let alternatives = forest.alternatives(node, steps);
+    let mut same = alternatives.len() == wanted.1.len();
+    for k in 0..alternatives.len().min(wanted.1.len()) {
+        same = same && alternatives.start(k) == wanted.1[k];
+    }
+    same
+}
+
+// Whether the rules of the start over the whole are these.
+fn has_rules<L: Ledger>(forest: &Forest<'_>, wanted: &[Starts], steps: &mut Steps<L>) -> bool {
+    let Some(root) = forest.root() else {
+        return wanted.is_empty();
+    };
+    if root as usize >= forest.node_count() {
+        return false;
+    }
+    let top = forest.alternatives(root, steps);
+    if top.len() != 1 || top.start(0) != 0 {
+        return false;
+    }
+    let LastPart::Wholes(nodes) = top.last(0) else {
+        return false;
+    };
+    let mut same = nodes.len() == wanted.len();
+    for k in 0..nodes.len().min(wanted.len()) {
+        same = has_starts(forest, nodes[k], &wanted[k], steps) && same;
+    }
+    same
+}
+
+fn has_size<L: Ledger>(
+    alloc: Global,
+    forest: &Forest<'_>,
+    size: &Size,
+    steps: &mut Steps<L>,
+) -> Result<bool, anyhow::Error> {
+    let same = forest.node_count() == size.nodes
+        && alternative_count(forest, steps) == size.alternatives
+        && derivation_count(alloc, forest, steps)? == size.derivations
+        && (forest.node_count() == 0 || look_twice(forest, steps));
+    Ok(has_rules(forest, size.rules, steps) && same)
+}
+
+// Whether what is read has the forest of a row.
+fn has_forest<L: Ledger>(
+    blank: Blank,
+    alloc: Global,
+    w: &Written,
+    flat: &Flat,
+    row: &Row,
+) -> Result<bool, anyhow::Error>
+    requires name { blank.name ≡ L.name }
+    requires parts { blank.parts ≡ L.parts }
+    requires some { 0 < blank.parts }
+    requires checked { IsChecked w.now }
+    requires flat { IsFlatOf flat.now w.now }
+    requires start { 0 < length flat.now.tops }
+{
+    let mut steps = Steps::<L>::of_blank(blank);
+    let mut recce = Recce::new(alloc, flat, 0)?;
+    read_all(&mut recce, row.tokens, &mut steps)?;
+    let arena = Bump::new(alloc);
+    match Forest::build(alloc, &arena, &recce, w, row.ranking, &mut steps) {
+        Ok(forest) => match row.size {
+            Some(size) => has_size(alloc, &forest, &size, &mut steps),
+            None => Ok(false),
+        },
+        Err(refusal) => Ok(refusal == ForestRefusal::NoParse && row.size.is_none()),
+    }
+}
+
+fn is_row(alloc: Global, row: &Row) -> Result<bool, anyhow::Error> {
+    let w = written_of(alloc, &row.language)?;
+    let flat = flat_of(alloc, &w)?;
+    has_forest::<Brand>(Blank::new(1), alloc, &w, &flat, row)
+}
+
+#[test]
+fn forests_have_the_sizes_of_the_rows(rt: HostRuntime) -> Result<(), Fail> {
+    for row in ROWS {
+        assert!(rt; is_row(rt.alloc(), row)?);
+    }
+    Ok(())
+}

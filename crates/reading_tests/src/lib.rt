@@ -1,0 +1,19 @@
+//! Tests of reading: longest matches, forests, derivations and progress reports. There is nothing else here.
+#![tactic(auto)]
+
+#[cfg(test)]
+mod derivations;
+#[cfg(test)]
+mod forests;
+#[cfg(test)]
+mod grammars;
+#[cfg(test)]
+mod lengths;
+#[cfg(test)]
+mod lexemes;
+#[cfg(test)]
+mod lines;
+#[cfg(test)]
+mod numbers;
+#[cfg(test)]
+mod reports;

@@ -1,0 +1,25 @@
+-- The four numbers of a reading: how many tokens it has, how many items its sets keep, how many nodes its forest has, and how many
+-- items that the sets leave out its forest brings back. They are told of the flat grammar that is listed.
+-- Sources: Leo 1991 (reduced sets); the Libmarpa manual (bocage).
+use Rattle.std.specs.Prelude.{◌≡◌, ℕ, List, Some, slice_get}
+use Rattle.grammar_model.specs.Derives.{Held}
+use Rattle.recognizer_model.specs.Flat.{FlatGrammar}
+use Rattle.recognizer_model.specs.FlatForm.{FlatEdges}
+use Rattle.recognizer_model.specs.Nodes.{IsStats}
+use Rattle.flat_rules.specs.Flattened.{IsFlattened}
+use Rattle.language_model.specs.Building.{Built}
+use Rattle.reading_model.specs.Reading.{Piece, edges_of, place_after}
+
+pub record Numbers : Type 0 where
+  pub tokens : ℕ
+  pub kept : ℕ
+  pub nodes : ℕ
+  pub expanded : ℕ
+
+-- the numbers of a reading in these pieces
+pub record HasNumbers (b : Built) (pieces : List Piece) (n : Numbers) : Type 0 where
+  pub flat : FlatGrammar
+  pub is : IsFlattened b.g1 flat
+  pub top : ℕ
+  pub top_is : slice_get flat.tops 0 ≡ Some top
+  pub numbers : IsStats flat (FlatEdges flat (Held (edges_of pieces))) top (place_after pieces) n.tokens n.kept n.nodes n.expanded

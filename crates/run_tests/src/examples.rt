@@ -1,0 +1,269 @@
+//! The examples, with what they give.
+use crate::runs::{Given, SUM, ends};
+use std::test::Fail;
+
+const SUM_GRAMMAR: &[u8] = br#"E ::= E '+' E | '1'
+"#;
+
+const SUM_INPUT: &[u8] = br#"1+1+1"#;
+
+const SUM_LINES: &[u8] =
+    br#"["E",0,["E",0,["E",1,["'1'","1"]],["'+'","+"],["E",1,["'1'","1"]]],["'+'","+"],["E",1,["'1'","1"]]]
+["E",0,["E",1,["'1'","1"]],["'+'","+"],["E",0,["E",1,["'1'","1"]],["'+'","+"],["E",1,["'1'","1"]]]]
+"#;
+
+const OPERATORS_GRAMMAR: &[u8] =
+    br#"# Expressions: the operators of each group bind tighter than those behind it
+lexeme default = latm => 1
+:default ::= action => ::array
+:start ::= expression
+expression ::=
+     number                           action => ::first
+   | ('(') expression (')')           assoc => group, action => ::first
+  || expression '^' expression        assoc => right
+  || '-' expression
+  || expression '*' expression
+   | expression '/' expression
+  || expression '+' expression
+   | expression '-' expression
+number ~ digits | digits '.' digits
+digits ~ [\d]+
+:discard ~ space
+space ~ [\s]+
+"#;
+
+const OPERATORS_INPUT: &[u8] = br#"-2^3^2 + 12 / (5-2-1) / 1.5
+"#;
+
+const OPERATORS_LINES: &[u8] =
+    br#"[["-",["2","^",["3","^","2"]]],"+",[["12","/",[["5","-","2"],"-","1"]],"/","1.5"]]
+"#;
+
+const INI_GRAMMAR: &[u8] = br#"# Settings: sections of keys and values, a line each, with comments
+lexeme default = latm => 1
+:default ::= action => ::array
+file ::= (<first lines>) sections action => ::first
+<first lines> ::= eol*
+sections ::= section+
+section ::= ('[') name (']') (ends) entries
+entries ::= entry*
+entry ::= name ('=') setting (ends)
+setting ::= value action => ::first
+setting ::=
+ends ::= eol+
+name ~ [\w.-]+
+value ~ bit+ separator => gap proper => 1
+bit ~ [^\s#]+
+gap ~ [ \t]+
+eol ~ [\n]
+:discard ~ gap
+:discard ~ comment
+comment ~ '#' <to the end>
+<to the end> ~ [^\n]*
+"#;
+
+const INI_INPUT: &[u8] = br#"# two servers
+
+[web]
+host = example.org
+motto = small and fast   # shown to all
+
+[mail.old]
+port = 25
+user =
+"#;
+
+const INI_LINES: &[u8] =
+    br#"[["web",[["host","example.org"],["motto","small and fast"]]],["mail.old",[["port","25"],["user",[]]]]]
+"#;
+
+const CSV_GRAMMAR: &[u8] = br#"# A table: lines of fields that are parted by commas
+lexeme default = latm => 1
+:default ::= action => ::array
+table ::= line+ separator => eol
+line ::= field+ separator => comma proper => 1
+:default ::= action => ::first
+field ::= bare | quoted
+bare ~ [^,"\n]+
+quoted ~ '"' inner '"'
+inner ~ character*
+character ~ [^"] | '""'
+comma ~ ','
+eol ~ [\n]
+"#;
+
+const CSV_INPUT: &[u8] = br#"name,born,place
+Ada,1815,"London, England"
+Grace,1906,"New ""Amsterdam"""
+"#;
+
+const CSV_LINES: &[u8] =
+    br#"[["name","born","place"],["Ada","1815","\"London, England\""],["Grace","1906","\"New \"\"Amsterdam\"\"\""]]
+"#;
+
+const ARROW_GRAMMAR: &[u8] = br#"# A sentence with three readings: the higher rank comes first
+lexeme default = latm => 1 action => [name,value]
+:default ::= action => [name,values]
+sentence ::= order rank => -1
+           | likes
+           | flight rank => 1
+order ::= verb object manner
+likes ::= subject verb object
+flight ::= subject verb manner
+subject ::= noun | noun noun
+object ::= noun | article noun
+manner ::= preposition object
+noun ~ 'time' | 'flies' | 'arrow'
+verb ~ 'time' | 'flies' | 'like'
+preposition ~ 'like'
+article ~ 'a' | 'an'
+:discard ~ space
+space ~ [\s]+
+"#;
+
+const ARROW_INPUT: &[u8] = br#"time flies like an arrow
+"#;
+
+const ARROW_LINES: &[u8] =
+    br#"["sentence",["flight",["subject",["noun","time"]],["verb","flies"],["manner",["preposition","like"],["object",["article","an"],["noun","arrow"]]]]]
+["sentence",["likes",["subject",["noun","time"],["noun","flies"]],["verb","like"],["object",["article","an"],["noun","arrow"]]]]
+["sentence",["order",["verb","time"],["object",["noun","flies"]],["manner",["preposition","like"],["object",["article","an"],["noun","arrow"]]]]]
+"#;
+
+const ARROW_FIRST: &[u8] =
+    br#"["sentence",["order",["verb","time"],["object",["noun","flies"]],["manner",["preposition","like"],["object",["article","an"],["noun","arrow"]]]]]
+"#;
+
+const LISP_GRAMMAR: &[u8] = br#"# Lisp: a list is its first element and the list of the others
+lexeme default = latm => 1
+:default ::= action => ::first
+program ::= datum* action => ::array
+datum ::= symbol | string | list | quoted
+        | number action => [name,values]
+list ::= ('(') others
+others ::= datum others action => ::array
+         | (')') action => ::array
+quoted ::= (quote) datum action => [name,values]
+symbol ~ [^\s()'";]+
+number ~ digits | [+-] digits
+:lexeme ~ number priority => 1
+digits ~ [\d]+
+string ~ ["] characters ["]
+characters ~ character*
+character ~ [^"\\] | '\' [^\n]
+quote ~ [']
+:discard ~ space
+space ~ [\s]+
+:discard ~ comment
+comment ~ ';' <to the end>
+<to the end> ~ [^\n]*
+"#;
+
+const LISP_INPUT: &[u8] = br#"; the square of a number
+(define (square x) (* x x))
+(print '(-2 a1) "a \"b\"") ; done
+"#;
+
+const LISP_LINES: &[u8] =
+    br#"[["define",[["square",["x",[]]],[["*",["x",["x",[]]]],[]]]],["print",[["quoted",[["datum","-2"],["a1",[]]]],["\"a \\\"b\\\"\"",[]]]]]
+"#;
+
+const JSON_GRAMMAR: &[u8] = br#"# JSON with comments
+lexeme default = latm => 1
+:default ::= action => ::first
+json ::= value
+value ::= object | array | string | number | word
+object ::= ('{') members ('}') action => [name,values]
+members ::= pair* action => ::array separator => comma proper => 1
+pair ::= string (':') value action => ::array
+array ::= ('[') elements (']') action => [name,values]
+elements ::= value* action => ::array separator => comma proper => 1
+word ::= 'true' | 'false' | 'null'
+string ~ quote chars quote
+quote ~ ["]
+chars ~ char*
+char ~ [^"\\\x{0}-\x{1F}] | '\' escape
+escape ~ ["\\/bfnrt] | 'u' hex hex hex hex
+hex ~ [0-9a-fA-F]
+number ~ int | int frac | int exp | int frac exp
+int ~ digits | '-' digits
+digits ~ [0-9]+
+frac ~ '.' digits
+exp ~ e digits | e [+-] digits
+e ~ [eE]
+comma ~ ','
+:discard ~ space
+space ~ [\s]+
+:discard ~ <hash comment>
+<hash comment> ~ '#' <comment text>
+<comment text> ~ [^\x{A}]*
+"#;
+
+const JSON_INPUT: &[u8] = br#"{"name": "Ada", "tags": ["x", 10, -2.5e3], # note
+ "ok": true, "none": null, "empty": {}}"#;
+
+const JSON_LINES: &[u8] =
+    br#"["object",[["\"name\"","\"Ada\""],["\"tags\"",["array",["\"x\"","10","-2.5e3"]]],["\"ok\"","true"],["\"none\"","null"],["\"empty\"",["object",[]]]]]
+"#;
+
+// Grammars, inputs, and the lines of all derivations.
+const EXAMPLES: [(&[u8], &[u8], &[u8]); 6] = [
+    (OPERATORS_GRAMMAR, OPERATORS_INPUT, OPERATORS_LINES),
+    (INI_GRAMMAR, INI_INPUT, INI_LINES),
+    (CSV_GRAMMAR, CSV_INPUT, CSV_LINES),
+    (ARROW_GRAMMAR, ARROW_INPUT, ARROW_LINES),
+    (LISP_GRAMMAR, LISP_INPUT, LISP_LINES),
+    (JSON_GRAMMAR, JSON_INPUT, JSON_LINES),
+];
+
+#[test]
+fn examples_give_their_values(rt: HostRuntime) -> Result<(), Fail> {
+    for (grammar, file, lines) in &EXAMPLES {
+        let given = Given {
+            words: &["run", "--grammar", "g.slif", "--input", "i.txt"],
+            grammar,
+            file,
+            ..SUM
+        };
+        assert!(rt; ends(rt.alloc(), &given, 0, lines, b"")?);
+    }
+    Ok(())
+}
+
+// The sum is shown as trees. Of the sentence the first reading by no rank is that of the first rule.
+#[test]
+fn examples_are_told_by_other_words(rt: HostRuntime) -> Result<(), Fail> {
+    let trees = Given {
+        words: &[
+            "run",
+            "--show",
+            "tree",
+            "--input",
+            "i.txt",
+            "--grammar",
+            "g.slif",
+        ],
+        grammar: SUM_GRAMMAR,
+        file: SUM_INPUT,
+        ..SUM
+    };
+    assert!(rt; ends(rt.alloc(), &trees, 0, SUM_LINES, b"")?);
+    let unranked = Given {
+        words: &[
+            "run",
+            "--grammar",
+            "g.slif",
+            "--input",
+            "i.txt",
+            "--rank",
+            "none",
+            "--first",
+            "1",
+        ],
+        grammar: ARROW_GRAMMAR,
+        file: ARROW_INPUT,
+        ..SUM
+    };
+    assert!(rt; ends(rt.alloc(), &unranked, 0, ARROW_FIRST, b"")?);
+    Ok(())
+}

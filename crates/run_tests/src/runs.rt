@@ -1,0 +1,244 @@
+//! Whole runs over forms in memory: what they are given, and how they end.
+ghost use Rattle.std.specs.Prelude.{◌≡◌, ◌<◌, IfOk};
+ghost use Rattle.valuator.specs.Told.{states};
+ghost use Rattle.value_lines.specs.Writing.{AreBothTellers};
+
+use slif_base::{MemFiles, MemSink, MemSource, Steps};
+use slif_cli::run;
+use std::alloc::{AllocError, Global};
+use std::marker::Brand;
+use std::sync::ledger::{Blank, Ledger};
+use valuator::{ArrayTeller, Teller, TreeTeller};
+
+/// What a run is given: its words, the texts of the files g.slif and i.txt, the input, and the calls that fail.
+#[derive(Clone, Copy)]
+pub struct Given<'a> {
+    pub words: &'a [&'a str],
+    pub grammar: &'a [u8],
+    pub file: &'a [u8],
+    pub input: &'a [u8],
+    pub files_fail: &'a [u64],
+    pub input_fails: &'a [u64],
+    pub out_fails: &'a [u64],
+    pub err_fails: &'a [u64],
+}
+
+// The words and the outside of a run.
+#[derive(Drop)]
+struct Scene {
+    words: Vec<String>,
+    files: MemFiles,
+    input: MemSource,
+    out: MemSink,
+    err: MemSink,
+}
+
+/// What a run does.
+#[derive(Drop)]
+pub struct Ended {
+    pub status: u8,
+    scene: Scene,
+}
+
+impl Ended {
+    /// What stands on the standard output.
+    pub fn out(&self) -> &[u8] {
+        self.scene.out.written()
+    }
+
+    /// What stands on the standard error.
+    pub fn err(&self) -> &[u8] {
+        self.scene.err.written()
+    }
+
+    /// How many names of files it asked for.
+    pub fn asked(&self) -> usize {
+        self.scene.files.asked().len()
+    }
+}
+
+pub const SUMS: &[u8] = b":default ::= action => ::array\nE ::= E '+' E | N\nN ~ [\\d]\n";
+
+/// The sum `1+2+3` has two derivations.
+pub const SUM: Given<'static> = Given {
+    words: &["run", "--grammar", "g.slif"],
+    grammar: SUMS,
+    file: b"1+",
+    input: b"1+2+3",
+    files_fail: &[],
+    input_fails: &[],
+    out_fails: &[],
+    err_fails: &[],
+};
+
+pub const SUM_LINES: &[u8] =
+    b"[[[\"1\"],\"+\",[\"2\"]],\"+\",[\"3\"]]\n[[\"1\"],\"+\",[[\"2\"],\"+\",[\"3\"]]]\n";
+
+/// The sum with the line of its numbers.
+pub const COUNTED: Given<'static> = Given {
+    words: &["run", "--grammar", "g.slif", "--stats"],
+    ..SUM
+};
+
+pub const COUNTED_LINES: &[u8] =
+    b"[[[\"1\"],\"+\",[\"2\"]],\"+\",[\"3\"]]\n[[\"1\"],\"+\",[[\"2\"],\"+\",[\"3\"]]]\nstats: tokens 5 kept 25 nodes 13 expanded 0\n";
+
+pub const TREES: Given<'static> = Given {
+    words: &["run", "--show", "tree", "--grammar", "g.slif"],
+    ..SUM
+};
+
+pub const TREE_LINES: &[u8] =
+    b"[\"E\",0,[\"E\",0,[\"E\",1,[\"N\",\"1\"]],[\"'+'\",\"+\"],[\"E\",1,[\"N\",\"2\"]]],[\"'+'\",\"+\"],[\"E\",1,[\"N\",\"3\"]]]\n[\"E\",0,[\"E\",1,[\"N\",\"1\"]],[\"'+'\",\"+\"],[\"E\",0,[\"E\",1,[\"N\",\"2\"]],[\"'+'\",\"+\"],[\"E\",1,[\"N\",\"3\"]]]]\n";
+
+/// A symbol that cannot be derived, and one that nothing leads to.
+pub const CHECKED: Given<'static> = Given {
+    words: &["check", "--grammar", "g.slif"],
+    grammar: b"S ::= 'a' | B\nB ::= 'b' B\nC ::=\n",
+    input: b"",
+    ..SUM
+};
+
+pub const CHECKED_LINES: &[u8] =
+    b"accepted: 4 rules, 2 lexemes, 0 discards\nS\nB unproductive inaccessible\nC nullable inaccessible\n";
+
+pub const OPERATORS: &[u8] =
+    b":default ::= action => ::array\nE ::= N\n   | ('(') E (')') assoc => group\n  || E '**' E assoc => right\n  || E '*' E\n  || E '+' E\nN ~ [\\d]\n";
+
+/// Behind an operator comes a bracket or a number.
+pub const EXPECTED: Given<'static> = Given {
+    words: &["expect", "--grammar", "g.slif"],
+    grammar: OPERATORS,
+    input: b"1+",
+    ..SUM
+};
+
+pub const EXPECTED_LINES: &[u8] = b"'('\nN\n";
+
+pub const REPORTED: Given<'static> = Given {
+    words: &["progress", "--at", "2", "--grammar", "g.slif"],
+    input: b"1+",
+    ..SUM
+};
+
+pub const REPORTED_LINES: &[u8] = b"0:0 @2-2 E\n0:2 @0-2 E\n1:0 @2-2 E\n";
+
+pub const WORKED: Given<'static> = Given {
+    words: &["work", "--size", "2"],
+    input: b"",
+    ..SUM
+};
+
+pub const WORKED_LINES: &[u8] = b"work 2: tokens 7 kept 55 nodes 17 expanded 2 values 1\n";
+
+pub fn words_of(alloc: Global, texts: &[&str]) -> Result<Vec<String>, AllocError> {
+    let mut words = Vec::new(alloc);
+    for text in texts {
+        words.push(String::from_str(alloc, text)?)?;
+    }
+    Ok(words)
+}
+
+// A file with its name.
+fn file_of(alloc: Global, name: &str, text: &[u8]) -> Result<(String, Vec<u8>), AllocError> {
+    Ok((String::from_str(alloc, name)?, text.to_vec(alloc)?))
+}
+
+// The files, which fail as it is given.
+fn files_of(alloc: Global, given: &Given<'_>) -> Result<MemFiles, AllocError> {
+    let mut held = Vec::new(alloc);
+    held.push(file_of(alloc, "g.slif", given.grammar)?)?;
+    held.push(file_of(alloc, "i.txt", given.file)?)?;
+    Ok(MemFiles::new(alloc, held, given.files_fail.to_vec(alloc)?))
+}
+
+// The input, of which two bytes are read at once.
+fn input_of(alloc: Global, given: &Given<'_>) -> Result<MemSource, AllocError> {
+    let fails = given.input_fails.to_vec(alloc)?;
+    Ok(MemSource::new(given.input.to_vec(alloc)?, 2, fails))
+}
+
+// A stream that takes ten bytes at once.
+fn sink_of(alloc: Global, fails: &[u64]) -> Result<MemSink, AllocError> {
+    Ok(MemSink::new(alloc, 10, fails.to_vec(alloc)?))
+}
+
+fn scene_of(alloc: Global, given: &Given<'_>) -> Result<Scene, AllocError> {
+    Ok(Scene {
+        words: words_of(alloc, given.words)?,
+        files: files_of(alloc, given)?,
+        input: input_of(alloc, given)?,
+        out: sink_of(alloc, given.out_fails)?,
+        err: sink_of(alloc, given.err_fails)?,
+    })
+}
+
+fn status_of<L: Ledger>(
+    blank: Blank,
+    alloc: Global,
+    scene: &mut Scene,
+    tellers: Vec<Box<dyn Teller>>,
+) -> u8
+    requires name { blank.name ≡ L.name }
+    requires parts { blank.parts ≡ L.parts }
+    requires some { 0 < blank.parts }
+    requires tellers { AreBothTellers (states tellers.items shows held) }
+{
+    let mut steps = Steps::<L>::of_blank(blank);
+    run(
+        alloc,
+        &scene.words,
+        &mut scene.files,
+        &mut scene.input,
+        &mut scene.out,
+        &mut scene.err,
+        tellers,
+        &mut steps,
+    )
+}
+
+/// Runs with these tellers.
+pub fn run_with(
+    alloc: Global,
+    given: &Given<'_>,
+    tellers: Vec<Box<dyn Teller>>,
+) -> Result<Ended, AllocError>
+    requires { AreBothTellers (states tellers.items shows held) }
+{
+    let mut scene = scene_of(alloc, given)?;
+    let status = status_of::<Brand>(Blank::new(1), alloc, &mut scene, tellers);
+    Ok(Ended { status, scene })
+}
+
+/// A teller of each kind.
+pub fn both_tellers(alloc: Global) -> Result<Vec<Box<dyn Teller>>, AllocError>
+    ensures { IfOk result (λ tellers. AreBothTellers (states tellers.items shows held)) }
+{
+    let array: Box<dyn Teller> = Box::new(alloc, ArrayTeller::new(alloc))?;
+    let tree: Box<dyn Teller> = Box::new(alloc, TreeTeller::new(alloc))?;
+    let mut tellers = Vec::new(alloc);
+    tellers.push(array)?;
+    tellers.push(tree)?;
+    Ok(tellers)
+}
+
+pub fn run_of(alloc: Global, given: &Given<'_>) -> Result<Ended, AllocError> {
+    run_with(alloc, given, both_tellers(alloc)?)
+}
+
+/// How many names of files a run asks for.
+pub fn asked(alloc: Global, given: &Given<'_>) -> Result<usize, AllocError> {
+    Ok(run_of(alloc, given)?.asked())
+}
+
+/// Whether a run ends so.
+pub fn ends(
+    alloc: Global,
+    given: &Given<'_>,
+    status: u8,
+    out: &[u8],
+    err: &[u8],
+) -> Result<bool, AllocError> {
+    let end = run_of(alloc, given)?;
+    Ok(end.status == status && end.out() == out && end.err() == err)
+}

@@ -1,0 +1,6 @@
+pub mod Listing
+pub mod Equal
+pub mod Closing
+pub mod Folding
+pub mod Goals
+pub mod Parts

@@ -1,0 +1,14 @@
+pub mod Text
+pub mod Building
+pub mod Plain
+pub mod Structural
+pub mod Lexical
+pub mod Accepted
+pub mod Shapes
+pub mod Lines
+pub mod Word
+pub mod Pieces
+pub mod Matching
+pub mod Reading
+pub mod Input
+pub mod Working
