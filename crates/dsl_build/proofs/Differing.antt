@@ -1,5 +1,5 @@
 -- Texts of which none stands twice.
-use Rattle.std.proofs.Common.{◌≡◌, ℕ, zero, suc, Bool, true, false, cond, List, [], ◌∷◌, ◌++◌, Some, refl, sym, ap, ◌∙◌, subst, map}
+use Rattle.std.proofs.Common.{◌≡◌, ℕ, zero, suc, Bool, true, false, cond, List, [], ◌∷◌, ◌++◌, Some, refl, sym, ap, ◌∙◌, subst, map, take}
 use Rattle.std.specs.Prelude.{filter, not, ◌||◌, bytes_eq, slice_get}
 use Rattle.std.proofs.lemmas.Bool.{true≢false}
 use Rattle.std.proofs.lemmas.Slice.Eq.{bytes_eq-Decides}
@@ -13,11 +13,11 @@ use Rattle.dsl_build.specs.Texts.{AllNew}
 abbrev pub Apart : List (List ℕ) → List (List ℕ) → Type 0
 Apart seen = AllByRecursion (λ t. is_one_of seen t ≡ false)
 
-neither : (a b : Bool) → (a || b) ≡ false → (a ≡ false) × (b ≡ false)
+pub neither : (a b : Bool) → (a || b) ≡ false → (a ≡ false) × (b ≡ false)
 neither true b e = absurd (true≢false e)
 neither false b e = (refl, e)
 
-both_false : (a b : Bool) → a ≡ false → b ≡ false → (a || b) ≡ false
+pub both_false : (a b : Bool) → a ≡ false → b ≡ false → (a || b) ≡ false
 both_false a b e f = ap (λ x. x || b) e ∙ f
 
 pub new_all : (seen xs : List (List ℕ)) → AllNew seen (new_texts seen xs)
@@ -37,7 +37,7 @@ new_tokens_all seen (t ∷ ts) = go (is_one_of seen t.content) refl (new_tokens_
     go true e here behind = here
     go false e here behind = (e, behind)
 
-not_seen : (seen names : List (List ℕ)) (i : ℕ) (t : List ℕ) → AllNew seen names → slice_get names i ≡ Some t → is_one_of seen t ≡ false
+pub not_seen : (seen names : List (List ℕ)) (i : ℕ) (t : List ℕ) → AllNew seen names → slice_get names i ≡ Some t → is_one_of seen t ≡ false
 not_seen seen [] i t new e = cc
 not_seen seen (n ∷ ns) zero t new e = let same : n ≡ t = cc in subst (λ x. is_one_of seen x ≡ false) same new.0
 not_seen seen (n ∷ ns) (suc i) t new e = (neither (bytes_eq n t) (is_one_of seen t) (not_seen (n ∷ seen) ns i t new.1 e)).1
@@ -119,3 +119,31 @@ starts_new d = joined_new (lexemes d) (discarded d) (lexemes_new d) (new_all [] 
 
 pub named_new : (d : List Statement) → AllNew [] (named_l0 d)
 named_new d = joined_new (texts_l0 d) (lexemes d) (new_tokens_all [] _) (lexemes_new d)
+
+-- A TEXT BEHIND OTHERS
+
+pub unseen : (seen xs : List (List ℕ)) (i : ℕ) (t : List ℕ) → AllNew seen xs → slice_get xs i ≡ Some t → is_one_of (take i xs) t ≡ false
+unseen seen [] i t new e = cc
+unseen seen (x ∷ xs) zero t new e = refl
+unseen seen (x ∷ xs) (suc i) t new e = both_false (bytes_eq x t) (is_one_of (take i xs) t) (neither (bytes_eq x t) (is_one_of seen t) (not_seen (x ∷ seen) xs i t new.1 e)).0 (unseen (x ∷ seen) xs i t new.1 e)
+
+not_seen_behind : (seen front xs : List (List ℕ)) (i : ℕ) (t : List ℕ) → AllNew seen (front ++ xs) → slice_get xs i ≡ Some t → is_one_of seen t ≡ false
+not_seen_behind seen [] xs i t new e = not_seen seen xs i t new e
+not_seen_behind seen (f ∷ fs) xs i t new e = (neither (bytes_eq f t) (is_one_of seen t) (not_seen_behind (f ∷ seen) fs xs i t new.1 e)).1
+
+pub unseen_behind : (seen front xs : List (List ℕ)) (i : ℕ) (t : List ℕ) → AllNew seen (front ++ xs) → slice_get xs i ≡ Some t → is_one_of (front ++ take i xs) t ≡ false
+unseen_behind seen [] xs i t new e = unseen seen xs i t new e
+unseen_behind seen (f ∷ fs) xs i t new e =
+    both_false (bytes_eq f t) (is_one_of (fs ++ take i xs) t) (neither (bytes_eq f t) (is_one_of seen t) (not_seen_behind (f ∷ seen) fs xs i t new.1 e)).0 (unseen_behind (f ∷ seen) fs xs i t new.1 e)
+
+pub front_new : (seen front xs : List (List ℕ)) → AllNew seen (front ++ xs) → AllNew seen front
+front_new seen [] xs new = tt
+front_new seen (f ∷ fs) xs new = (new.0, front_new (f ∷ seen) fs xs new.1)
+
+pub unseen_kept : (p : List ℕ → Bool) (xs : List (List ℕ)) (t : List ℕ) → is_one_of xs t ≡ false → is_one_of (filter p xs) t ≡ false
+unseen_kept p [] t e = refl
+unseen_kept p (x ∷ xs) t e = go (p x) (unseen_kept p xs t (neither (bytes_eq x t) (is_one_of xs t) e).1)
+  where
+    go : (b : Bool) → is_one_of (filter p xs) t ≡ false → is_one_of (cond b (x ∷ filter p xs) (filter p xs)) t ≡ false
+    go true rest = both_false (bytes_eq x t) (is_one_of (filter p xs) t) (neither (bytes_eq x t) (is_one_of xs t) e).0 rest
+    go false rest = rest

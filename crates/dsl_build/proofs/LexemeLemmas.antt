@@ -30,7 +30,7 @@ value_or name (Pair n value ∷ own) all = go (bytes_eq n.content name) (value_o
 abbrev SameSeen : List (List ℕ) → List Statement → Type 0
 SameSeen seen before = (t : List ℕ) → is_one_of seen t ≡ list_any (is_lexeme_of t) before
 
-abbrev names_of : List Statement → List (List ℕ)
+abbrev pub names_of : List Statement → List (List ℕ)
 names_of d = map (λ p. p.0) (flat_map lexeme_parts d)
 
 statements_new : (seen : List (List ℕ)) (before d : List Statement) → SameSeen seen before → repeated before d ≡ [] → AllNew seen (names_of d)

@@ -22,3 +22,12 @@ pub mod Known
 pub mod Ranging
 pub mod NumberedLemmas
 pub mod Terminals
+pub mod Spellings
+pub mod Contents
+pub mod Sizes
+pub mod Counting
+pub mod Smallness
+pub mod Readying
+pub mod Granting
+pub mod SetNames
+pub mod OwnLemmas

@@ -60,7 +60,7 @@ symbols_all d =
     all_pieces (λ t. is_one_of (symbols_g1 d) t ≡ true) structural_names d
     (all_in (symbols_g1 d) (flat_map structural_names d) (λ (t : List ℕ) (e : is_one_of (flat_map structural_names d) t ≡ true). among_texts (flat_map structural_names d) t ∙ e))
 
-structural_in : (names : List (List ℕ)) (s : Statement) → AllIn names (structural_names s) → is_of_level false s ≡ true → AllIn names (names_in s)
+pub structural_in : (names : List (List ℕ)) (s : Statement) → AllIn names (structural_names s) → is_of_level false s ≡ true → AllIn names (names_in s)
 structural_in names (Start at name) a e = tt
 structural_in names (Default at adverbs) a e = tt
 structural_in names (LexemeDefault at adverbs) a e = tt
@@ -105,7 +105,7 @@ all_take P zero xs a = tt
 all_take P (suc n) [] a = tt
 all_take P (suc n) (x ∷ xs) a = (a.0, all_take P n xs a.1)
 
-start_known : (d : List Statement) → AllIn (symbols_g1 d) (start_of d)
+pub start_known : (d : List Statement) → AllIn (symbols_g1 d) (start_of d)
 start_known d =
     let P = λ (t : List ℕ). is_one_of (symbols_g1 d) t ≡ true in
     all_take P 1 (flat_map start_names d ++ left_names false d)
@@ -153,7 +153,7 @@ pub rights_all : (xs : List Spelled) → map (λ (r : Bool × Spelled). r.1) (fi
 rights_all [] = refl
 rights_all (x ∷ xs) = ap (λ ys. x ∷ ys) (rights_all xs)
 
-lexical_in : (names : List (List ℕ)) (s : Statement) → AllIn names (contents (lexical_tokens s)) → is_of_level true s ≡ true → AllIn names (names_in s)
+pub lexical_in : (names : List (List ℕ)) (s : Statement) → AllIn names (contents (lexical_tokens s)) → is_of_level true s ≡ true → AllIn names (names_in s)
 lexical_in names (Start at name) a e = tt
 lexical_in names (Default at adverbs) a e = tt
 lexical_in names (LexemeDefault at adverbs) a e = tt
@@ -191,7 +191,7 @@ discarded_in d t e =
     (all_flat (λ u. is_one_of (named_l0 d) u ≡ true) discards_of d (all_weaker (λ s. AllIn (named_l0 d) (contents (lexical_tokens s))) (λ s. AllIn (named_l0 d) (discards_of s)) d (discards_in (named_l0 d)) (lexical_all d)))
     (sym (among_texts (flat_map discards_of d) t) ∙ e)
 
-lexeme_named : (d : List Statement) (t : List ℕ) → is_one_of (lexemes d) t ≡ true → is_one_of (named_l0 d) t ≡ true
+pub lexeme_named : (d : List Statement) (t : List ℕ) → is_one_of (lexemes d) t ≡ true → is_one_of (named_l0 d) t ≡ true
 lexeme_named d t e = in_joined (texts_l0 d) (lexemes d) t (ap (λ b. is_one_of (texts_l0 d) t || b) e ∙ or_true (is_one_of (texts_l0 d) t))
 
 pub front_true : (a b : Bool) → (a && b) ≡ true → a ≡ true
@@ -203,7 +203,7 @@ or_cases true b e = inl refl
 or_cases false b e = inr e
 
 -- a start is a lexeme or a discard
-start_named : (d : List Statement) (t : List ℕ) → is_one_of (start_texts d) t ≡ true → is_one_of (named_l0 d) t ≡ true
+pub start_named : (d : List Statement) (t : List ℕ) → is_one_of (start_texts d) t ≡ true → is_one_of (named_l0 d) t ≡ true
 start_named d t e =
     ⊎_elim (lexeme_named d t) (λ (h : is_one_of (filter (λ u. not (is_one_of (lexemes d) u)) (discarded d)) t ≡ true). discarded_in d t (front_true (is_one_of (discarded d) t) (not (is_one_of (lexemes d) t)) (sym (among_filtered (λ u. not (is_one_of (lexemes d) u)) (discarded d) t) ∙ h)))
     (or_cases (is_one_of (lexemes d) t) (is_one_of (filter (λ u. not (is_one_of (lexemes d) u)) (discarded d)) t) (sym (any_append (lexemes d) (filter (λ u. not (is_one_of (lexemes d) u)) (discarded d)) t) ∙ e))
@@ -240,7 +240,7 @@ pub names_long : (d : List Statement) → length (grammar_l0 d).names ≡ length
 names_long d =
     length-append (named_l0 d) (set_names (length (sets_l0 d))) ∙ ap (λ k. length (named_l0 d) + k) (length-map (count_from 0 (length (sets_l0 d))) (λ k. 58 ∷ decimal k) ∙ count_long 0 (length (sets_l0 d)))
 
-texts_long : (d : List Statement) → length (placed_tokens d) ≤ length (named_l0 d)
+pub texts_long : (d : List Statement) → length (placed_tokens d) ≤ length (named_l0 d)
 texts_long d =
     let e : length (named_l0 d) ≡ length (texts_l0 d) + length (filter (λ t. not (is_one_of (texts_l0 d) t)) (lexemes d)) = length-append (texts_l0 d) (filter (λ t. not (is_one_of (texts_l0 d) t)) (lexemes d)) in
     let f : length (texts_l0 d) ≡ length (placed_tokens d) = length-map (placed_tokens d) (λ t. t.content) in
@@ -278,10 +278,10 @@ numbered_long n (x ∷ xs) = ap suc (numbered_long (n + 1) xs)
 pub symbol_of_lexeme : (d : List Statement) (t : List ℕ) → is_one_of (lexemes d) t ≡ true → is_one_of (symbols_g1 d) t ≡ true
 symbol_of_lexeme d t e = front_true (is_one_of (symbols_g1 d) t) (not (is_one_of (left_names false d) t)) (sym (among_filtered (λ u. not (is_one_of (left_names false d) u)) (symbols_g1 d) t) ∙ e)
 
-start_of_lexeme : (d : List Statement) (t : List ℕ) → is_one_of (lexemes d) t ≡ true → is_one_of (start_texts d) t ≡ true
+pub start_of_lexeme : (d : List Statement) (t : List ℕ) → is_one_of (lexemes d) t ≡ true → is_one_of (start_texts d) t ≡ true
 start_of_lexeme d t e = in_joined (lexemes d) (discarded d) t (ap (λ b. b || is_one_of (discarded d) t) e)
 
-start_of_discard : (d : List Statement) (t : List ℕ) → is_one_of (discarded d) t ≡ true → is_one_of (start_texts d) t ≡ true
+pub start_of_discard : (d : List Statement) (t : List ℕ) → is_one_of (discarded d) t ≡ true → is_one_of (start_texts d) t ≡ true
 start_of_discard d t e = in_joined (lexemes d) (discarded d) t (ap (λ b. is_one_of (lexemes d) t || b) e ∙ or_true (is_one_of (lexemes d) t))
 
 tables_in_range : (d : List Statement) → Faultless d → AllByRecursion IsFew (placed_tokens d) → IsInRange (built_of d)

@@ -136,7 +136,7 @@ added_has number next (t ∷ ts) (suc i) u e q =
 
 -- THE KINDS OF PARTS
 
-abbrev IsPart : Spelled → Type 0
+abbrev pub IsPart : Spelled → Type 0
 IsPart t = (is_name t || is_quote_or_bracket t) ≡ true
 
 part_kind : (k : TokenKind) (c : List ℕ) (at : ℕ) → IsTrue (is_kind_of_part k) → IsPart (record { kind = k; content = c; at = at })
@@ -209,7 +209,7 @@ separator_parts place (Pair name value ∷ adverbs) e =
         (value_kind value.kind value.content value.at single, tt)
     go false is fits rest = rest
 
-rights_parts : (s : Statement) → IsTrue (is_statement s) → bad_of s ≡ [] → AllByRecursion (λ r. IsPart r.1) (right_of s)
+pub rights_parts : (s : Statement) → IsTrue (is_statement s) → bad_of s ≡ [] → AllByRecursion (λ r. IsPart r.1) (right_of s)
 rights_parts (Start at name) h bad = tt
 rights_parts (Default at adverbs) h bad = tt
 rights_parts (LexemeDefault at adverbs) h bad = tt

@@ -5,6 +5,7 @@ pub mod Found
 pub mod Lexical
 pub mod Meanings
 pub mod Ranges
+pub mod Ready
 pub mod Rules
 pub mod Tables
 pub mod Texts

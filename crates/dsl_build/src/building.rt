@@ -27,7 +27,9 @@ fn structural_of(
     statements: &[Statement],
     texts: &Texts<'_>,
 ) -> Result<Written, AllocError>
-    requires { AreTexts (map statement_of statements.now) texts.now }
+    requires described { IsDescription (map statement_of statements.now) }
+    requires faultless { faults_of (map statement_of statements.now) ≡ [] }
+    requires texts { AreTexts (map statement_of statements.now) texts.now }
     ensures { IfOk result (λ w. w ≡ grammar_g1 (map statement_of statements.now)) }
 {
     structural_grammar(alloc, statements, &texts.uses, &texts.starts.symbols)
@@ -38,7 +40,9 @@ fn lexical_of(
     statements: &[Statement],
     texts: &Texts<'_>,
 ) -> Result<Lexical, AllocError>
-    requires { AreTexts (map statement_of statements.now) texts.now }
+    requires described { IsDescription (map statement_of statements.now) }
+    requires faultless { faults_of (map statement_of statements.now) ≡ [] }
+    requires texts { AreTexts (map statement_of statements.now) texts.now }
     ensures sets { IfOk result (λ l. l.sets.items ≡ sets_l0 (map statement_of statements.now)) }
     ensures grammar { IfOk result (λ l. l.grammar ≡ grammar_l0 (map statement_of statements.now)) }
 {
@@ -56,6 +60,7 @@ fn rows_of(
     statements: &[Statement],
     texts: &Texts<'_>,
 ) -> Result<Vec<LexemeRow>, AllocError>
+    requires described { IsDescription (map statement_of statements.now) }
     requires faultless { faults_of (map statement_of statements.now) ≡ [] }
     requires texts { AreTexts (map statement_of statements.now) texts.now }
     ensures { IfOk result (λ rows. map row_of rows.items ≡ map (lexeme_row (map statement_of statements.now)) (lexemes (map statement_of statements.now))) }
@@ -74,7 +79,9 @@ fn discards_of(
     statements: &[Statement],
     texts: &Texts<'_>,
 ) -> Result<Vec<u32>, AllocError>
-    requires { AreTexts (map statement_of statements.now) texts.now }
+    requires described { IsDescription (map statement_of statements.now) }
+    requires faultless { faults_of (map statement_of statements.now) ≡ [] }
+    requires texts { AreTexts (map statement_of statements.now) texts.now }
     ensures { IfOk result (λ places. places.items ≡ map (place_in (start_texts (map statement_of statements.now))) (discarded (map statement_of statements.now))) }
 {
     places_of(alloc, &texts.starts.texts, &texts.starts.discards)
@@ -86,7 +93,9 @@ fn lexical_built(
     statements: &[Statement],
     texts: &Texts<'_>,
 ) -> Result<(Written, Vec<(SymbolId, CharSet)>), AllocError>
-    requires { AreTexts (map statement_of statements.now) texts.now }
+    requires described { IsDescription (map statement_of statements.now) }
+    requires faultless { faults_of (map statement_of statements.now) ≡ [] }
+    requires texts { AreTexts (map statement_of statements.now) texts.now }
     ensures grammar { IfOk result (λ l. l.0 ≡ grammar_l0 (map statement_of statements.now)) }
     ensures sets { IfOk result (λ l. l.1.items ≡ numbered_from (length (named_l0 (map statement_of statements.now))) (sets_l0 (map statement_of statements.now))) }
 {
@@ -108,6 +117,7 @@ fn tables_of(
     statements: &[Statement],
     texts: &Texts<'_>,
 ) -> Result<Tables, AllocError>
+    requires described { IsDescription (map statement_of statements.now) }
     requires faultless { faults_of (map statement_of statements.now) ≡ [] }
     requires texts { AreTexts (map statement_of statements.now) texts.now }
     ensures lexemes { IfOk result (λ t. map row_of t.lexemes.items ≡ (built_of (map statement_of statements.now)).lexemes) }
@@ -128,6 +138,7 @@ fn built_with(
     statements: &[Statement],
     texts: &Texts<'_>,
 ) -> Result<Built, AllocError>
+    requires described { IsDescription (map statement_of statements.now) }
     requires faultless { faults_of (map statement_of statements.now) ≡ [] }
     requires texts { AreTexts (map statement_of statements.now) texts.now }
     ensures { IfOk result (λ b. b ≡ built_of (map statement_of statements.now)) }
@@ -147,7 +158,8 @@ fn built_with(
 
 // The grammars and tables of statements.
 fn built(alloc: Global, statements: &[Statement]) -> Result<Built, AllocError>
-    requires { faults_of (map statement_of statements.now) ≡ [] }
+    requires described { IsDescription (map statement_of statements.now) }
+    requires faultless { faults_of (map statement_of statements.now) ≡ [] }
     ensures { IfOk result (λ b. b ≡ built_of (map statement_of statements.now)) }
 {
     let texts = texts_of(alloc, statements)?;

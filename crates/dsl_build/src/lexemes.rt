@@ -1,9 +1,11 @@
 //! What reading knows of lexemes.
-ghost use Rattle.std.specs.Prelude.{◌≡◌, ◌++◌, map, flat_map, option_copied, option_map, unwrap_or, bytes_eq, pos, codes, length, false, IfOk, OnOk};
+ghost use Rattle.std.specs.Prelude.{◌≡◌, ◌≤◌, ◌++◌, [], map, flat_map, option_copied, option_map, unwrap_or, bytes_eq, codes, length, false, true, All, IfOk, OnOk};
 ghost use Rattle.language_model.specs.Building as building;
-ghost use Rattle.language_model.specs.Building.{number_of, lexeme_default_adverbs};
+ghost use Rattle.language_model.specs.Building.{is_one_of, lexeme_default_adverbs};
 ghost use Rattle.dsl_statement.specs.Statements.{adverbs_of, statement_of};
-ghost use Rattle.dsl_build.specs.Tables.{row_of, row_from, lexeme_parts, adverbs_at, or_else};
+ghost use Rattle.dsl_build.specs.Tables.{row_of, row_from, priority_of, lexeme_parts, adverbs_at, or_else};
+ghost use Rattle.dsl_build.specs.Texts.{AllNew};
+ghost use Rattle.dsl_build.specs.Ready.{IsSmall};
 
 use crate::adverbs::value_of;
 use crate::built::LexemeRow;
@@ -22,6 +24,7 @@ struct OwnAdverbs<'a> {
 }
 
 fn push_own<'a>(own: &mut OwnAdverbs<'a>, s: &'a Statement) -> Result<(), AllocError>
+    requires { All (λ p. is_one_of own.old.names p.0 ≡ false) (lexeme_parts (statement_of s.now)) }
     ensures names { OnOk result (own.new.names ≡ own.old.names ++ map (λ p. p.0) (lexeme_parts (statement_of s.now))) }
     ensures adverbs { OnOk result (map (λ a. adverbs_of a.now) own.new.adverbs.items ≡ map (λ a. adverbs_of a.now) own.old.adverbs.items ++ map (λ p. p.1) (lexeme_parts (statement_of s.now))) }
 {
@@ -37,6 +40,7 @@ fn push_own<'a>(own: &mut OwnAdverbs<'a>, s: &'a Statement) -> Result<(), AllocE
 
 // The adverbs of all `:lexeme` statements.
 fn own_adverbs(alloc: Global, statements: &[Statement]) -> Result<OwnAdverbs<'_>, AllocError>
+    requires { AllNew [] (map (λ p. p.0) (flat_map lexeme_parts (map statement_of statements.now))) }
     ensures names { IfOk result (λ own. own.names ≡ map (λ p. p.0) (flat_map lexeme_parts (map statement_of statements.now))) }
     ensures adverbs { IfOk result (λ own. map (λ a. adverbs_of a.now) own.adverbs.items ≡ map (λ p. p.1) (flat_map lexeme_parts (map statement_of statements.now))) }
 {
@@ -60,12 +64,13 @@ fn adverbs_named<'a>(names: &Names, adverbs: &[&'a [Adverb]], name: &str) -> &'a
     }
 }
 
-fn priority_of(adverbs: &[Adverb]) -> Result<i32, AllocError>
-    ensures { IfOk result (λ n. n ≡ unwrap_or (option_map (λ t. number_of t.content) (building.value_of (codes "priority") (adverbs_of adverbs.now))) (pos 0)) }
+fn priority_of(adverbs: &[Adverb]) -> i32
+    requires { IsSmall (priority_of (adverbs_of adverbs.now)) }
+    ensures { result ≡ priority_of (adverbs_of adverbs.now) }
 {
     match value_of("priority", adverbs) {
         Some(value) => read_number(value.content.as_str()),
-        None => Ok(0),
+        None => 0,
     }
 }
 
@@ -89,15 +94,20 @@ fn lexeme_row(
     adverbs: &[Adverb],
     default: Option<&Spelled>,
     name: &str,
-) -> Result<LexemeRow, AllocError>
-    ensures { IfOk result (λ row. row_of row ≡ row_from symbols.now starts.now (adverbs_of adverbs.now) (option_copied default.entry) name.now) }
+) -> LexemeRow
+    requires symbol { is_one_of symbols.now name.now ≡ true }
+    requires start { is_one_of starts.now name.now ≡ true }
+    requires few { length symbols.now ≤ 16777215 }
+    requires few_starts { length starts.now ≤ 16777215 }
+    requires small { IsSmall (priority_of (adverbs_of adverbs.now)) }
+    ensures { row_of result ≡ row_from symbols.now starts.now (adverbs_of adverbs.now) (option_copied default.entry) name.now }
 {
-    Ok(LexemeRow {
-        symbol: symbol_of(symbols, name)?,
-        start: symbol_of(starts, name)?.0,
-        priority: priority_of(adverbs)?,
+    LexemeRow {
+        symbol: symbol_of(symbols, name),
+        start: symbol_of(starts, name).0,
+        priority: priority_of(adverbs),
         latm: latm_of(adverbs, default),
-    })
+    }
 }
 
 /// The rows of the lexemes, in order.
@@ -108,6 +118,12 @@ pub fn lexeme_rows(
     starts: &Names,
     lexemes: &Names,
 ) -> Result<Vec<LexemeRow>, AllocError>
+    requires once { AllNew [] (map (λ p. p.0) (flat_map lexeme_parts (map statement_of statements.now))) }
+    requires small { All (λ p. IsSmall (priority_of p.1)) (flat_map lexeme_parts (map statement_of statements.now)) }
+    requires symbols { All (λ t. is_one_of symbols.now t ≡ true) lexemes.now }
+    requires starts { All (λ t. is_one_of starts.now t ≡ true) lexemes.now }
+    requires few { length symbols.now ≤ 16777215 }
+    requires few_starts { length starts.now ≤ 16777215 }
     ensures { IfOk result (λ rows. map row_of rows.items ≡ map (λ name. row_from symbols.now starts.now
         (adverbs_at (map (λ p. p.0) (flat_map lexeme_parts (map statement_of statements.now))) (map (λ p. p.1) (flat_map lexeme_parts (map statement_of statements.now))) name)
         (building.value_of (codes "latm") (flat_map lexeme_default_adverbs (map statement_of statements.now))) name) lexemes.now) }
@@ -118,7 +134,7 @@ pub fn lexeme_rows(
     for place in 0..lexemes.len() {
         let name = lexemes.text(place);
         let adverbs = adverbs_named(&own.names, &own.adverbs, name);
-        rows.push(lexeme_row(symbols, starts, adverbs, default, name)?)?;
+        rows.push(lexeme_row(symbols, starts, adverbs, default, name))?;
     }
     Ok(rows)
 }

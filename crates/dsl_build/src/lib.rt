@@ -28,6 +28,7 @@ mod telling;
 mod texts;
 mod uses;
 mod values;
+mod writing;
 
 pub use building::build;
 pub use built::{Built, LexemeRow};

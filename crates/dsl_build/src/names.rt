@@ -1,5 +1,5 @@
 //! Texts in order of their first appearance, each once.
-ghost use Rattle.std.specs.Prelude.{◌≡◌, ◌<◌, [], ◌∷◌, ◌++◌, length, is_some, slice_get, Some, IfOk, IfSome, OnErr};
+ghost use Rattle.std.specs.Prelude.{◌≡◌, ◌<◌, [], ◌∷◌, ◌++◌, length, is_some, slice_get, Some, false, IfOk, IfSome, OnErr};
 ghost use Rattle.language_model.specs.Building.{is_one_of, place_in};
 ghost use Rattle.dsl_build.specs.Texts.{with_text};
 
@@ -78,11 +78,9 @@ impl Names {
 
     /// Puts a text that is not there behind the others.
     pub fn add_new(&mut self, name: &str) -> Result<(), AllocError>
+        requires { is_one_of self.old name.now ≡ false }
         ensures ok { IfOk result (λ _. self.new ≡ self.old ++ name.now ∷ []) }
     {
-        if self.has(name) {
-            return Err(AllocError);
-        }
         self.add(name)
     }
 }

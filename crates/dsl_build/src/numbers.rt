@@ -1,17 +1,14 @@
 //! What adverbs say of rules and lexemes.
-ghost use Rattle.std.specs.Prelude.{◌≡◌, ◌≤◌, ◌≤ℤ◌, pos, IfOk};
+ghost use Rattle.std.specs.Prelude.{◌≡◌, ◌≤◌, ◌≤ℤ◌, pos};
 ghost use Rattle.std.specs.Char.{digit_value};
 ghost use Rattle.language_model.specs.Building as building;
 ghost use Rattle.language_model.specs.Building.{digits_number};
 ghost use Rattle.dsl_statement.specs.Statements.{adverbs_of};
+ghost use Rattle.dsl_build.specs.Ready.{IsSmall};
 
 use crate::adverbs::value_of;
 use dsl_statement::Adverb;
 use grammar_model::Assoc;
-use std::alloc::AllocError;
-
-// The greatest rank and the greatest priority.
-const MOST: u32 = 1_000_000;
 
 fn digit_value(byte: u8) -> u32
     ensures value { result ≡ digit_value byte }
@@ -26,40 +23,40 @@ fn digit_value(byte: u8) -> u32
 }
 
 // The number that digits spell, which is at most a million.
-fn digits_number(digits: &[u8]) -> Result<i32, AllocError>
-    ensures value { IfOk result (λ n. n ≡ pos (digits_number digits.now)) }
-    ensures small { IfOk result (λ n. n ≤ℤ pos 1000000) }
-    ensures natural { IfOk result (λ n. pos 0 ≤ℤ n) }
+fn digits_number(digits: &[u8]) -> i32
+    requires { digits_number digits.now ≤ 1000000 }
+    ensures value { result ≡ pos (digits_number digits.now) }
+    ensures small { result ≤ℤ pos 1000000 }
+    ensures natural { pos 0 ≤ℤ result }
 {
     let mut number = 0u32;
     for digit in digits {
         number = 10 * number + digit_value(*digit);
-        if number > MOST {
-            return Err(AllocError);
-        }
     }
-    Ok(number as i32)
+    number as i32
 }
 
 /// The number of a token of digits, with a sign or without.
-pub fn read_number(text: &str) -> Result<i32, AllocError>
-    ensures { IfOk result (λ n. n ≡ building.number_of text.now) }
+pub fn read_number(text: &str) -> i32
+    requires { IsSmall (building.number_of text.now) }
+    ensures { result ≡ building.number_of text.now }
 {
     match text.as_bytes() {
-        [] => Ok(0),
-        [b'-', digits @ ..] => Ok(-digits_number(digits)?),
+        [] => 0,
+        [b'-', digits @ ..] => -digits_number(digits),
         [b'+', digits @ ..] => digits_number(digits),
         digits => digits_number(digits),
     }
 }
 
 /// The rank that adverbs tell.
-pub fn rank_of(adverbs: &[Adverb]) -> Result<i32, AllocError>
-    ensures { IfOk result (λ n. n ≡ building.rank_of (adverbs_of adverbs.now)) }
+pub fn rank_of(adverbs: &[Adverb]) -> i32
+    requires { IsSmall (building.rank_of (adverbs_of adverbs.now)) }
+    ensures { result ≡ building.rank_of (adverbs_of adverbs.now) }
 {
     match value_of("rank", adverbs) {
         Some(value) => read_number(value.content.as_str()),
-        None => Ok(0),
+        None => 0,
     }
 }
 

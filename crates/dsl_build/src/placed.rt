@@ -1,9 +1,10 @@
 //! The symbols of the lexical grammar other than character sets.
-ghost use Rattle.std.specs.Prelude.{◌≡◌, ◌++◌, [], map, flat_map, filter, not, ◌&&◌, ◌∷◌, if◌then◌else◌, IfOk, OnOk};
+ghost use Rattle.std.specs.Prelude.{◌≡◌, ◌++◌, [], map, flat_map, filter, not, ◌&&◌, ◌∷◌, if◌then◌else◌, false, IfOk, OnOk};
 ghost use Rattle.language_model.specs.Building as building;
 ghost use Rattle.language_model.specs.Building.{is_one_of, new_tokens};
 ghost use Rattle.dsl_build.specs.Uses.{used_of};
 ghost use Rattle.dsl_build.specs.Lexical.{is_placed, placed_part};
+ghost use Rattle.dsl_build.specs.Texts.{AllNew};
 
 use crate::names::Names;
 use crate::quotes::is_quote;
@@ -56,6 +57,7 @@ pub fn placed_tokens<'a>(alloc: Global, uses: &[Use<'a>]) -> Result<Placed<'a>, 
 }
 
 fn add_unless(names: &mut Names, others: &Names, text: &str) -> Result<(), AllocError>
+    requires { is_one_of names.old text.now ≡ false }
     ensures { OnOk result (names.new ≡ names.old ++ (if not (is_one_of others.now text.now) then text.now ∷ [] else [])) }
 {
     if !others.has(text) {
@@ -66,6 +68,7 @@ fn add_unless(names: &mut Names, others: &Names, text: &str) -> Result<(), Alloc
 
 /// The texts that are none of others.
 pub fn without(alloc: Global, texts: &Names, others: &Names) -> Result<Names, AllocError>
+    requires { AllNew [] texts.now }
     ensures { IfOk result (λ names. names ≡ filter (λ t. not (is_one_of others.now t)) texts.now) }
 {
     let mut names = Names::new(alloc);
@@ -77,6 +80,7 @@ pub fn without(alloc: Global, texts: &Names, others: &Names) -> Result<Names, Al
 
 /// Puts texts that are not there behind the others.
 pub fn append(names: &mut Names, more: &Names) -> Result<(), AllocError>
+    requires { AllNew [] (names.old ++ more.now) }
     ensures { OnOk result (names.new ≡ names.old ++ more.now) }
 {
     for place in 0..more.len() {

@@ -1,7 +1,9 @@
 //! Quoted texts.
-ghost use Rattle.std.specs.Prelude.{◌≡◌, ◌≤◌, ◌-◌, length, take, drop, IfOk};
+ghost use Rattle.std.specs.Prelude.{◌≡◌, ◌≤◌, ◌-◌, ◌==◌, if◌then◌else◌, length, IfOk, IsUtf8, chars};
+ghost use Rattle.std.specs.Str.{continuation_len};
 ghost use Rattle.language_model.specs.Classes as classes;
 ghost use Rattle.language_model.specs.Building as building;
+ghost use Rattle.dsl_build.specs.Ready.{between_quotes};
 
 use crate::descriptor::chars_of;
 use dsl_statement::{Spelled, TokenKind};
@@ -29,27 +31,68 @@ pub fn modifier_len(text: &[u8]) -> usize
     }
 }
 
-fn between_quotes(text: &[u8]) -> &[u8]
-    ensures { result.now ≡ take (length text.now - classes.modifier_len text.now - 2) (drop 1 text.now) }
+/// What stands between the quotes of a quoted text.
+pub fn between_quotes(text: &[u8]) -> &[u8]
+    ensures { result.now ≡ between_quotes text.now }
 {
     let rest = text.len() - modifier_len(text);
     if rest < 2 { &[] } else { &text[1..rest - 1] }
 }
 
+// How many bytes follow the first one of a character.
+fn continuation_len(first: u8) -> usize
+    ensures { result ≡ continuation_len first }
+{
+    match first {
+        0..=127 => 0,
+        128..=223 => 1,
+        224..=239 => 2,
+        _ => 3,
+    }
+}
+
+/// How many characters bytes spell.
+pub fn character_count(text: &[u8]) -> usize
+    ensures { result ≡ length (chars text.now) }
+{
+    let mut count = 0;
+    // so many bytes of the character that was begun are still to come
+    let mut rest = 0;
+    for byte in text {
+        rest = bytes_after(rest, *byte);
+        if rest == 0 {
+            count += 1;
+        }
+    }
+    count
+}
+
+// How many bytes of a character are to come behind a byte, where so many were before it.
+fn bytes_after(rest: usize, byte: u8) -> usize
+    ensures { result ≡ (if rest == 0 then continuation_len byte else rest - 1) }
+{
+    if rest == 0 {
+        continuation_len(byte)
+    } else {
+        rest - 1
+    }
+}
+
 // What stands between the quotes, which are characters of one byte.
-fn inner_text(text: &str) -> Result<&str, AllocError>
-    ensures { IfOk result (λ inner. inner.now ≡ take (length text.now - classes.modifier_len text.now - 2) (drop 1 text.now)) }
+fn inner_text(text: &str) -> &str
+    requires { IsUtf8 (between_quotes text.now) }
+    ensures { result.now ≡ between_quotes text.now }
 {
     match from_utf8(between_quotes(text.as_bytes())) {
-        Ok(inner) => Ok(inner),
-        Err(_) => Err(AllocError),
+        Ok(inner) => inner,
+        Err(_) => unreachable!(),
     }
 }
 
 /// The characters that a quoted text stands for.
 pub fn quoted(alloc: Global, text: &str) -> Result<Vec<char>, AllocError>
+    requires { IsUtf8 (between_quotes text.now) }
     ensures { IfOk result (λ characters. characters.items ≡ building.quoted text.now) }
 {
-    let inner = inner_text(text)?;
-    chars_of(alloc, inner)
+    chars_of(alloc, inner_text(text))
 }

@@ -1,46 +1,49 @@
 //! The rules of statements, with the numbers that names have.
-ghost use Rattle.std.specs.Prelude.{◌≡◌, ◌<◌, ◌++◌, ◌∷◌, [], map, flat_map, filter, length, IfOk, OnOk, option_map, codes, false};
+ghost use Rattle.std.specs.Prelude.{◌≡◌, ◌≤◌, ◌++◌, ◌∷◌, [], map, flat_map, filter, length, IfOk, OnOk, All, option_map, codes, false, true};
 ghost use Rattle.language_model.specs.Description.{Empty, Quantified};
 ghost use Rattle.language_model.specs.Building as building;
-ghost use Rattle.language_model.specs.Building.{place_in, numbers_in, rules_of_groups, rules_of, is_of_level, parts_of};
+ghost use Rattle.language_model.specs.Building.{is_one_of, place_in, numbers_in, rules_of_groups, rules_of, is_of_level, parts_of};
 ghost use Rattle.grammar_model.specs.Grammar.{Plain, Sequence};
+ghost use Rattle.grammar_core.specs.Written.{rule_of};
 ghost use Rattle.dsl_statement.specs.Statements.{adverbs_of, statement_of};
-ghost use Rattle.dsl_build.specs.Rules.{with_rules};
+ghost use Rattle.dsl_build.specs.Ready.{IsNamed, IsSmall, IsReady, IsReadyAlternative};
 
 use crate::adverbs::value_of;
 use crate::names::Names;
 use crate::numbers::{assoc_of, rank_of, says};
 use crate::parts;
 use dsl_statement::{Adverb, Alternative, Spelled, Statement};
-use grammar_core::{Assoc, Rule, SeqRule, SymbolId, Written};
+use grammar_core::{Assoc, Rule, SeqRule, SymbolId, WrittenRule};
 use std::alloc::{AllocError, Global};
 
-/// The number of the text.
-pub fn symbol_of(names: &Names, text: &str) -> Result<SymbolId, AllocError>
-    ensures { IfOk result (λ s. s ≡ place_in names.now text.now) }
+/// The number of the text, which is one of the names.
+pub fn symbol_of(names: &Names, text: &str) -> SymbolId
+    requires named { is_one_of names.now text.now ≡ true }
+    requires few { length names.now ≤ 16777215 }
+    ensures { result ≡ place_in names.now text.now }
 {
-    let Some(place) = names.position(text) else {
-        return Err(AllocError);
-    };
-    match u32::try_from(place) {
-        Ok(number) => Ok(SymbolId(number)),
-        Err(_) => Err(AllocError),
+    match names.position(text) {
+        Some(place) => SymbolId(place as u32),
+        None => unreachable!(),
     }
 }
 
-/// The number of the token's text.
-pub fn number_of(names: &Names, token: &Spelled) -> Result<SymbolId, AllocError>
-    ensures { IfOk result (λ s. s ≡ place_in names.now token.now.content) }
+fn number_of(names: &Names, token: &Spelled) -> SymbolId
+    requires named { IsNamed names.now token.now }
+    requires few { length names.now ≤ 16777215 }
+    ensures { result ≡ place_in names.now token.now.content }
 {
     symbol_of(names, token.content.as_str())
 }
 
 fn numbers_of(alloc: Global, names: &Names, parts: &[&Spelled]) -> Result<Vec<SymbolId>, AllocError>
+    requires named { All (λ t. IsNamed names.now t.now) parts.now }
+    requires few { length names.now ≤ 16777215 }
     ensures { IfOk result (λ numbers. numbers.items ≡ map (λ t. place_in names.now t.now.content) parts.now) }
 {
     let mut numbers = Vec::new(alloc);
     for part in parts {
-        numbers.push(number_of(names, part)?)?;
+        numbers.push(number_of(names, part))?;
     }
     Ok(numbers)
 }
@@ -50,38 +53,12 @@ fn right_side(
     names: &Names,
     alternative: &Alternative,
 ) -> Result<Vec<SymbolId>, AllocError>
+    requires named { All (IsNamed names.now) (parts_of alternative.now) }
+    requires few { length names.now ≤ 16777215 }
     ensures { IfOk result (λ numbers. numbers.items ≡ numbers_in names.now (parts_of alternative.now)) }
 {
     let parts = parts::parts_of(alloc, alternative)?;
     numbers_of(alloc, names, &parts)
-}
-
-fn count_of(count: usize) -> Result<u32, AllocError>
-    ensures { IfOk result (λ n. n ≡ count) }
-{
-    match u32::try_from(count) {
-        Ok(count) => Ok(count),
-        Err(_) => Err(AllocError),
-    }
-}
-
-/// Adds a plain rule.
-pub fn add_plain(w: &mut Written, rule: Rule) -> Result<(), AllocError>
-    ensures { OnOk result (w.new ≡ with_rules w.old (Plain rule ∷ [])) }
-{
-    match w.rule_new(rule) {
-        Ok(_) => Ok(()),
-        Err(_) => Err(AllocError),
-    }
-}
-
-fn add_sequence(w: &mut Written, rule: SeqRule) -> Result<(), AllocError>
-    ensures { OnOk result (w.new ≡ with_rules w.old (Sequence rule ∷ [])) }
-{
-    match w.sequence_new(rule) {
-        Ok(_) => Ok(()),
-        Err(_) => Err(AllocError),
-    }
 }
 
 fn plain_rule(
@@ -91,82 +68,91 @@ fn plain_rule(
     level: u32,
     groups: u32,
     alternative: &Alternative,
-) -> Result<Rule, AllocError>
-    ensures { IfOk result (λ r. Plain r ≡ building.plain_rule names.now left.now level groups alternative.now) }
+) -> Result<WrittenRule, AllocError>
+    requires left { IsNamed names.now left.now }
+    requires ready { IsReadyAlternative names.now alternative.now }
+    requires few { length names.now ≤ 16777215 }
+    ensures { IfOk result (λ r. rule_of r ≡ building.plain_rule names.now left.now level groups alternative.now) }
 {
     let adverbs = &alternative.adverbs;
-    Ok(Rule {
-        lhs: number_of(names, left)?,
+    Ok(WrittenRule::Plain(Rule {
+        lhs: number_of(names, left),
         rhs: right_side(alloc, names, alternative)?,
         level,
         groups,
         assoc: assoc_of(adverbs),
-        rank: rank_of(adverbs)?,
+        rank: rank_of(adverbs),
         null_high: says("null-ranking", "high", adverbs),
-    })
+    }))
 }
 
-fn add_group(
+fn push_group(
     alloc: Global,
-    w: &mut Written,
+    out: &mut Vec<WrittenRule>,
     names: &Names,
     left: &Spelled,
     level: u32,
     groups: u32,
     group: &[Alternative],
 ) -> Result<(), AllocError>
-    ensures { OnOk result (w.new ≡ with_rules w.old (map (building.plain_rule names.now left.now level groups) group.now)) }
+    requires left { IsNamed names.now left.now }
+    requires ready { All (IsReadyAlternative names.now) group.now }
+    requires few { length names.now ≤ 16777215 }
+    ensures { OnOk result (map rule_of out.new.items ≡ map rule_of out.old.items ++ map (building.plain_rule names.now left.now level groups) group.now) }
 {
     for alternative in group {
-        let rule = plain_rule(alloc, names, left, level, groups, alternative)?;
-        add_plain(w, rule)?;
+        out.push(plain_rule(alloc, names, left, level, groups, alternative)?)?;
     }
     Ok(())
 }
 
-fn add_groups(
+fn push_groups(
     alloc: Global,
-    w: &mut Written,
+    out: &mut Vec<WrittenRule>,
     names: &Names,
     left: &Spelled,
     groups: &[Vec<Alternative>],
 ) -> Result<(), AllocError>
-    ensures { OnOk result (w.new ≡ with_rules w.old (rules_of_groups names.now left.now (length groups.now) (map (λ g. g.items) groups.now))) }
+    requires left { IsNamed names.now left.now }
+    requires ready { All (λ g. All (IsReadyAlternative names.now) g.items) groups.now }
+    requires counted { length groups.now ≤ 4294967295 }
+    requires few { length names.now ≤ 16777215 }
+    ensures { OnOk result (map rule_of out.new.items ≡ map rule_of out.old.items ++ rules_of_groups names.now left.now (length groups.now) (map (λ g. g.items) groups.now)) }
 {
-    let count = count_of(groups.len())?;
+    let count = groups.len() as u32;
     let mut level = count;
     for group in groups {
         level -= 1;
-        add_group(alloc, w, names, left, level, count, group)?;
+        push_group(alloc, out, names, left, level, count, group)?;
     }
     Ok(())
 }
 
-fn empty_rule(
-    alloc: Global,
-    names: &Names,
-    left: &Spelled,
-    adverbs: &[Adverb],
-) -> Result<Rule, AllocError>
-    ensures { IfOk result (λ r. Plain r ∷ [] ≡ rules_of names.now (Empty left.now false (adverbs_of adverbs.now))) }
+fn empty_rule(alloc: Global, names: &Names, left: &Spelled, adverbs: &[Adverb]) -> WrittenRule
+    requires left { IsNamed names.now left.now }
+    requires small { IsSmall (building.rank_of (adverbs_of adverbs.now)) }
+    requires few { length names.now ≤ 16777215 }
+    ensures { rule_of result ∷ [] ≡ rules_of names.now (Empty left.now false (adverbs_of adverbs.now)) }
 {
-    Ok(Rule {
-        lhs: number_of(names, left)?,
+    WrittenRule::Plain(Rule {
+        lhs: number_of(names, left),
         rhs: Vec::new(alloc),
         level: 0,
         groups: 1,
         assoc: Assoc::Left,
-        rank: rank_of(adverbs)?,
+        rank: rank_of(adverbs),
         null_high: says("null-ranking", "high", adverbs),
     })
 }
 
-fn separator_of(names: &Names, adverbs: &[Adverb]) -> Result<Option<SymbolId>, AllocError>
-    ensures { IfOk result (λ s. s ≡ option_map (λ t. place_in names.now t.content) (building.value_of (codes "separator") (adverbs_of adverbs.now))) }
+fn separator_of(names: &Names, adverbs: &[Adverb]) -> Option<SymbolId>
+    requires named { All (IsNamed names.now) (building.separator_of (adverbs_of adverbs.now)) }
+    requires few { length names.now ≤ 16777215 }
+    ensures { result ≡ option_map (λ t. place_in names.now t.content) (building.value_of (codes "separator") (adverbs_of adverbs.now)) }
 {
     match value_of("separator", adverbs) {
-        Some(token) => Ok(Some(number_of(names, token)?)),
-        None => Ok(None),
+        Some(token) => Some(number_of(names, token)),
+        None => None,
     }
 }
 
@@ -176,41 +162,48 @@ fn sequence_rule(
     item: &Spelled,
     plus: bool,
     adverbs: &[Adverb],
-) -> Result<SeqRule, AllocError>
-    ensures { IfOk result (λ r. Sequence r ∷ [] ≡ rules_of names.now (Quantified left.now false item.now plus (adverbs_of adverbs.now))) }
+) -> WrittenRule
+    requires ready { IsReady names.now (Quantified left.now false item.now plus (adverbs_of adverbs.now)) }
+    requires few { length names.now ≤ 16777215 }
+    ensures { rule_of result ∷ [] ≡ rules_of names.now (Quantified left.now false item.now plus (adverbs_of adverbs.now)) }
 {
-    Ok(SeqRule {
-        lhs: number_of(names, left)?,
-        item: number_of(names, item)?,
+    WrittenRule::Sequence(SeqRule {
+        lhs: number_of(names, left),
+        item: number_of(names, item),
         plus,
-        separator: separator_of(names, adverbs)?,
+        separator: separator_of(names, adverbs),
         proper: says("proper", "1", adverbs),
-        rank: rank_of(adverbs)?,
+        rank: rank_of(adverbs),
         null_high: says("null-ranking", "high", adverbs),
     })
 }
 
-fn add_statement(
+fn push_statement(
     alloc: Global,
-    w: &mut Written,
+    out: &mut Vec<WrittenRule>,
     names: &Names,
     s: &Statement,
 ) -> Result<(), AllocError>
-    ensures { OnOk result (w.new ≡ with_rules w.old (rules_of names.now (statement_of s.now))) }
+    requires ready { IsReady names.now (statement_of s.now) }
+    requires few { length names.now ≤ 16777215 }
+    ensures { OnOk result (map rule_of out.new.items ≡ map rule_of out.old.items ++ rules_of names.now (statement_of s.now)) }
 {
     match s {
-        Statement::Empty { left, adverbs, .. } => add_plain(
-            w,
-            empty_rule(alloc, names, left, adverbs)?,
-        ),
+        Statement::Empty { left, adverbs, .. } => {
+            out.push(empty_rule(alloc, names, left, adverbs))?;
+            Ok(())
+        }
         Statement::Quantified {
             left,
             item,
             plus,
             adverbs,
             ..
-        } => add_sequence(w, sequence_rule(names, left, item, *plus, adverbs)?),
-        Statement::Rules { left, groups, .. } => add_groups(alloc, w, names, left, groups),
+        } => {
+            out.push(sequence_rule(names, left, item, *plus, adverbs))?;
+            Ok(())
+        }
+        Statement::Rules { left, groups, .. } => push_groups(alloc, out, names, left, groups),
         _ => Ok(()),
     }
 }
@@ -226,19 +219,21 @@ fn is_of_level(lexical: bool, s: &Statement) -> bool
     }
 }
 
-/// Adds the rules of one level, in order.
-pub fn add_rules(
+/// Puts the rules of one level, in order, behind the others.
+pub fn push_rules(
     alloc: Global,
-    w: &mut Written,
+    out: &mut Vec<WrittenRule>,
     names: &Names,
     lexical: bool,
     statements: &[Statement],
 ) -> Result<(), AllocError>
-    ensures { OnOk result (w.new ≡ with_rules w.old (flat_map (rules_of names.now) (filter (is_of_level lexical) (map statement_of statements.now)))) }
+    requires ready { All (λ s. is_of_level lexical (statement_of s) ≡ true → IsReady names.now (statement_of s)) statements.now }
+    requires few { length names.now ≤ 16777215 }
+    ensures { OnOk result (map rule_of out.new.items ≡ map rule_of out.old.items ++ flat_map (rules_of names.now) (filter (is_of_level lexical) (map statement_of statements.now))) }
 {
     for s in statements {
         if is_of_level(lexical, s) {
-            add_statement(alloc, w, names, s)?;
+            push_statement(alloc, out, names, s)?;
         }
     }
     Ok(())

@@ -12,7 +12,7 @@ use crate::checks::{Check, fault_in_statement};
 use crate::found::{Found, fault_at};
 use crate::names::Names;
 use crate::parts::parts_of;
-use crate::quotes::{is_quote, quoted};
+use crate::quotes::{between_quotes, character_count, is_quote};
 use dsl_statement::{Alternative, Spelled, Statement};
 use std::alloc::{AllocError, Global};
 
@@ -165,40 +165,32 @@ pub fn second_start(statements: &[Statement]) -> Option<Found<'_>>
     None
 }
 
-fn is_long_quote(alloc: Global, token: &Spelled) -> Result<bool, AllocError>
-    ensures { IfOk result (λ b. b ≡ (building.is_quote token.now && nat_lt 1000 (length (building.quoted token.now.content)))) }
+fn is_long_quote(token: &Spelled) -> bool
+    ensures { result ≡ (building.is_quote token.now && nat_lt 1000 (length (building.quoted token.now.content))) }
 {
-    if !is_quote(token) {
-        return Ok(false);
-    }
-    let characters = quoted(alloc, token.content.as_str())?;
-    Ok(characters.len() > MOST)
+    is_quote(token) && character_count(between_quotes(token.content.as_bytes())) > MOST
 }
 
-fn long_fault<'a>(
-    alloc: Global,
-    before: usize,
-    token: &'a Spelled,
-) -> Result<Option<Found<'a>>, AllocError>
-    ensures { IfOk result (λ found. option_map fault_of found ≡ first_of (long_fault before token.now)) }
+fn long_fault<'a>(before: usize, token: &'a Spelled) -> Option<Found<'a>>
+    ensures { option_map fault_of result ≡ first_of (long_fault before token.now) }
 {
-    if before == MOST || is_long_quote(alloc, token)? {
-        Ok(Some(fault_at(token)))
+    if before == MOST || is_long_quote(token) {
+        Some(fault_at(token))
     } else {
-        Ok(None)
+        None
     }
 }
 
-fn long_part<'a>(alloc: Global, parts: &[&'a Spelled]) -> Result<Option<Found<'a>>, AllocError>
-    ensures { IfOk result (λ found. option_map fault_of found ≡ first_of (long_parts 0 (map (λ t. t.now) parts.now))) }
+fn long_part<'a>(parts: &[&'a Spelled]) -> Option<Found<'a>>
+    ensures { option_map fault_of result ≡ first_of (long_parts 0 (map (λ t. t.now) parts.now)) }
 {
     for (i, part) in parts.iter().enumerate() {
-        let found = long_fault(alloc, i, part)?;
+        let found = long_fault(i, part);
         if found.is_some() {
-            return Ok(found);
+            return found;
         }
     }
-    Ok(None)
+    None
 }
 
 fn long_alternative(
@@ -208,7 +200,7 @@ fn long_alternative(
     ensures { IfOk result (λ found. option_map fault_of found ≡ first_of (long_parts 0 (building.parts_of alternative.now))) }
 {
     let parts = parts_of(alloc, alternative)?;
-    long_part(alloc, &parts)
+    Ok(long_part(&parts))
 }
 
 fn long_group(alloc: Global, group: &[Alternative]) -> Result<Option<Found<'_>>, AllocError>

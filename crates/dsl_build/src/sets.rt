@@ -1,18 +1,16 @@
 //! The character sets of quoted texts and classes, and the rules that are made of them.
-ghost use Rattle.std.specs.Prelude.{◌≡◌, ◌≤◌, ◌-◌, ◌++◌, map, nat_lt, chars, string_bytes, IfOk, OnOk};
+ghost use Rattle.std.specs.Prelude.{◌≡◌, ◌≤◌, ◌+◌, ◌++◌, map, nat_lt, chars, IfOk, OnOk};
 ghost use Rattle.language_model.specs.Classes.{class_of, class_of_char};
 ghost use Rattle.language_model.specs.Classes as classes;
 ghost use Rattle.language_model.specs.Building.{sets_of, count_from};
-ghost use Rattle.dsl_build.specs.Lexical.{set_name, class_sets};
-ghost use Rattle.dsl_build.specs.Rules.{with_names};
+ghost use Rattle.dsl_build.specs.Lexical.{class_sets};
+ghost use Rattle.dsl_build.specs.Ready.{IsReadable};
 
 use crate::quotes::{is_quote, modifier_len, quoted};
-use crate::structural::add_symbol;
 use crate::symbols::is_bracket;
 use char_class::{CharSet, ClassRefusal, read_class, set_of_char};
 use dsl_statement::Spelled;
-use grammar_core::{SymbolId, Written};
-use itoa::Buffer;
+use grammar_core::SymbolId;
 use std::alloc::{AllocError, Global};
 
 fn push_characters(
@@ -51,6 +49,7 @@ fn push_class(alloc: Global, sets: &mut Vec<CharSet>, text: &str) -> Result<(), 
 
 /// Puts the sets of the token behind the others.
 pub fn push_sets(alloc: Global, sets: &mut Vec<CharSet>, token: &Spelled) -> Result<(), AllocError>
+    requires { IsReadable token.now }
     ensures { OnOk result (sets.new.items ≡ sets.old.items ++ sets_of token.now) }
 {
     let text = token.content.as_str();
@@ -64,44 +63,14 @@ pub fn push_sets(alloc: Global, sets: &mut Vec<CharSet>, token: &Spelled) -> Res
     }
 }
 
-fn name_of_set(alloc: Global, number: usize) -> Result<String, AllocError>
-    ensures { IfOk result (λ name. string_bytes name ≡ set_name number) }
-{
-    let mut name = String::from_str(alloc, ":")?;
-    name.push_str(Buffer::new().format(number))?;
-    Ok(name)
-}
-
-/// Symbols of sets, named by their numbers.
-pub fn add_set_symbols(
-    alloc: Global,
-    w: &mut Written,
-    from: usize,
-    to: usize,
-) -> Result<(), AllocError>
-    requires { from ≤ to }
-    ensures { OnOk result (w.new ≡ with_names w.old (map set_name (count_from from (to - from)))) }
-{
-    for number in from..to {
-        let name = name_of_set(alloc, number)?;
-        add_symbol(w, name.as_str())?;
-    }
-    Ok(())
-}
-
 /// Numbers one after another.
 pub fn numbers_from(alloc: Global, from: usize, count: usize) -> Result<Vec<SymbolId>, AllocError>
+    requires { from + count ≤ 16777215 }
     ensures { IfOk result (λ numbers. numbers.items ≡ count_from from count) }
 {
     let mut numbers = Vec::new(alloc);
     for k in 0..count {
-        let Some(number) = from.checked_add(k) else {
-            return Err(AllocError);
-        };
-        match u32::try_from(number) {
-            Ok(number) => numbers.push(SymbolId(number))?,
-            Err(_) => return Err(AllocError),
-        }
+        numbers.push(SymbolId((from + k) as u32))?;
     }
     Ok(numbers)
 }

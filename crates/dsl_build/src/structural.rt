@@ -1,53 +1,17 @@
 //! The structural grammar.
-ghost use Rattle.std.specs.Prelude.{◌≡◌, ◌++◌, ◌∷◌, [], map, flat_map, filter, take, length, IfOk, OnOk, false, option_to_list};
-ghost use Rattle.language_model.specs.Building.{place_in, rules_of, is_of_level};
+ghost use Rattle.std.specs.Prelude.{◌≡◌, ◌≤◌, map, flat_map, filter, length, All, IfOk, false, true, option_to_list};
+ghost use Rattle.language_model.specs.Building.{is_one_of, place_in, rules_of, is_of_level};
 ghost use Rattle.dsl_statement.specs.Statements.{statement_of};
+ghost use Rattle.dsl_build.specs.Ready.{IsReady, IsWritable};
 ghost use Rattle.dsl_build.specs.Uses.{used_of, starts_asked};
 
 use crate::names::Names;
-use crate::rules::{add_rules, number_of};
+use crate::rules::{push_rules, symbol_of};
 use crate::uses::{Use, Which, first_asked};
+use crate::writing::written;
 use dsl_statement::{Spelled, Statement};
 use grammar_core::{SymbolId, Written};
 use std::alloc::{AllocError, Global};
-
-/// One more symbol, whose name no other has.
-pub fn add_symbol(w: &mut Written, name: &str) -> Result<(), AllocError>
-    ensures { OnOk result (w.new ≡ record { names = w.old.names ++ name.now ∷ []; rules = w.old.rules; starts = w.old.starts }) }
-{
-    let count = w.symbol_count();
-    match w.symbol_new(name) {
-        Ok(symbol) => {
-            if symbol.0 as usize == count {
-                Ok(())
-            } else {
-                Err(AllocError)
-            }
-        }
-        Err(_) => Err(AllocError),
-    }
-}
-
-/// A grammar of these symbols, with no rules.
-pub fn named(alloc: Global, names: &Names) -> Result<Written, AllocError>
-    ensures { IfOk result (λ w. w ≡ record { names = names.now; rules = []; starts = [] }) }
-{
-    let mut w = Written::new(alloc);
-    for place in 0..names.len() {
-        add_symbol(&mut w, names.text(place))?;
-    }
-    Ok(w)
-}
-
-/// One more start.
-pub fn add_start(w: &mut Written, symbol: SymbolId) -> Result<(), AllocError>
-    ensures { OnOk result (w.new ≡ record { names = w.old.names; rules = w.old.rules; starts = w.old.starts ++ symbol ∷ [] }) }
-{
-    match w.start_add(symbol) {
-        Ok(()) => Ok(()),
-        Err(_) => Err(AllocError),
-    }
-}
 
 fn start_of<'a>(uses: &[Use<'a>]) -> Option<&'a Spelled>
     ensures { map (λ t. t.now.content) (option_to_list result) ≡ starts_asked (map used_of uses.now) }
@@ -58,20 +22,20 @@ fn start_of<'a>(uses: &[Use<'a>]) -> Option<&'a Spelled>
     }
 }
 
-fn add_named_start(
-    w: &mut Written,
+fn starts_of(
+    alloc: Global,
     symbols: &Names,
     start: Option<&Spelled>,
-) -> Result<(), AllocError>
-    ensures { OnOk result (w.new ≡ record { names = w.old.names; rules = w.old.rules; starts = w.old.starts ++ map (λ t. place_in symbols.now t.now.content) (option_to_list start.entry) }) }
+) -> Result<Vec<SymbolId>, AllocError>
+    requires named { All (λ t. is_one_of symbols.now t ≡ true) (map (λ t. t.now.content) (option_to_list start)) }
+    requires few { length symbols.now ≤ 16777215 }
+    ensures { IfOk result (λ starts. starts.items ≡ map (place_in symbols.now) (map (λ t. t.now.content) (option_to_list start.entry))) }
 {
-    match start {
-        Some(name) => {
-            let number = number_of(symbols, name)?;
-            add_start(w, number)
-        }
-        None => Ok(()),
+    let mut starts = Vec::new(alloc);
+    if let Some(name) = start {
+        starts.push(symbol_of(symbols, name.content.as_str()))?;
     }
+    Ok(starts)
 }
 
 /// The grammar of the structural rules.
@@ -81,14 +45,21 @@ pub fn structural_grammar(
     uses: &[Use<'_>],
     symbols: &Names,
 ) -> Result<Written, AllocError>
+    requires ready { All (λ s. is_of_level false (statement_of s) ≡ true → IsReady symbols.now (statement_of s)) statements.now }
+    requires starts { All (λ t. is_one_of symbols.now t ≡ true) (starts_asked (map used_of uses.now)) }
+    requires writable { IsWritable (record {
+      names = symbols.now;
+      rules = flat_map (rules_of symbols.now) (filter (is_of_level false) (map statement_of statements.now));
+      starts = map (place_in symbols.now) (starts_asked (map used_of uses.now));
+    }) }
     ensures { IfOk result (λ w. w ≡ record {
       names = symbols.now;
       rules = flat_map (rules_of symbols.now) (filter (is_of_level false) (map statement_of statements.now));
       starts = map (place_in symbols.now) (starts_asked (map used_of uses.now));
     }) }
 {
-    let mut w = named(alloc, symbols)?;
-    add_rules(alloc, &mut w, symbols, false, statements)?;
-    add_named_start(&mut w, symbols, start_of(uses))?;
-    Ok(w)
+    let mut rules = Vec::new(alloc);
+    push_rules(alloc, &mut rules, symbols, false, statements)?;
+    let starts = starts_of(alloc, symbols, start_of(uses))?;
+    written(alloc, symbols, 0, rules, &starts)
 }

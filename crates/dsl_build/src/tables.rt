@@ -1,7 +1,7 @@
 //! What `lexeme default` says, the places of discards, the numbers of character sets, and what rules mean.
-ghost use Rattle.std.specs.Prelude.{◌≡◌, ◌≤◌, ◌-◌, length, map, flat_map, option_copied, option_map, IfOk};
+ghost use Rattle.std.specs.Prelude.{◌≡◌, ◌≤◌, ◌-◌, length, map, flat_map, option_copied, option_map, true, All, IfOk};
 ghost use Rattle.language_model.specs.Building as building;
-ghost use Rattle.language_model.specs.Building.{lexeme_default_adverbs, place_in, numbered_from};
+ghost use Rattle.language_model.specs.Building.{is_one_of, lexeme_default_adverbs, place_in, numbered_from};
 ghost use Rattle.grammar_model.specs.Values.{MakeUndefined};
 ghost use Rattle.value_text.specs.Meaning.{action_of, meaning_of};
 ghost use Rattle.dsl_statement.specs.Statements.{adverbs_of, statement_of};
@@ -51,11 +51,13 @@ pub fn lexeme_action(alloc: Global, statements: &[Statement]) -> Result<Option<A
 
 /// The places that texts have among others.
 pub fn places_of(alloc: Global, names: &Names, texts: &Names) -> Result<Vec<u32>, AllocError>
+    requires named { All (λ t. is_one_of names.now t ≡ true) texts.now }
+    requires few { length names.now ≤ 16777215 }
     ensures { IfOk result (λ places. places.items ≡ map (place_in names.now) texts.now) }
 {
     let mut places = Vec::new(alloc);
     for k in 0..texts.len() {
-        let symbol = symbol_of(names, texts.text(k))?;
+        let symbol = symbol_of(names, texts.text(k));
         places.push(symbol.0)?;
     }
     Ok(places)

@@ -4,6 +4,7 @@ ghost use Rattle.language_model.specs.Building.{is_one_of, new_tokens, new_texts
 ghost use Rattle.dsl_statement.specs.Statements.{statement_of};
 ghost use Rattle.dsl_build.specs.Built.{AreTexts, AreStarts};
 ghost use Rattle.dsl_build.specs.Lexical.{placed_part};
+ghost use Rattle.dsl_build.specs.Texts.{AllNew};
 ghost use Rattle.dsl_build.specs.Uses.{used_of, texts_asked};
 ghost use Rattle.dsl_build.specs.declared.uses.Which.TheVariants.{StructuralLeft};
 
@@ -38,6 +39,8 @@ pub struct Texts<'a> {
 
 // The first texts, and those of the second that are none of them.
 fn joined(alloc: Global, first: &Names, second: &Names) -> Result<Names, AllocError>
+    requires first { AllNew [] first.now }
+    requires second { AllNew [] second.now }
     ensures { IfOk result (λ names. names ≡ first.now ++ filter (λ t. not (is_one_of first.now t)) second.now) }
 {
     let others = without(alloc, second, first)?;
@@ -49,6 +52,7 @@ fn joined(alloc: Global, first: &Names, second: &Names) -> Result<Names, AllocEr
 
 // The symbols that no structural rule defines.
 fn lexemes_of(alloc: Global, uses: &[Use<'_>], symbols: &Names) -> Result<Names, AllocError>
+    requires { AllNew [] symbols.now }
     ensures { IfOk result (λ names. names ≡ filter (λ t. not (is_one_of (new_texts [] (flat_map (texts_asked StructuralLeft) (map used_of uses.now))) t)) symbols.now) }
 {
     let left = names_of(alloc, Which::StructuralLeft, uses)?;
@@ -71,6 +75,7 @@ fn starts_of(alloc: Global, uses: &[Use<'_>]) -> Result<Starts, AllocError>
 }
 
 fn placed_of<'a>(alloc: Global, uses: &[Use<'a>], lexemes: &Names) -> Result<Placed<'a>, AllocError>
+    requires { AllNew [] lexemes.now }
     ensures tokens { IfOk result (λ p. map (λ t. t.now) p.tokens.items ≡ new_tokens [] (flat_map placed_part (map used_of uses.now))) }
     ensures names { IfOk result (λ p. p.names ≡ map (λ t. t.content) (new_tokens [] (flat_map placed_part (map used_of uses.now)))
         ++ filter (λ t. not (is_one_of (map (λ u. u.content) (new_tokens [] (flat_map placed_part (map used_of uses.now)))) t)) lexemes.now) }

@@ -1,11 +1,17 @@
-use Rattle.std.proofs.Common.{sym, ◌∙◌, ap, map, take, Bor, List, ℕ, [], ◌∷◌, ◌++◌}
-use Rattle.std.specs.Prelude.{option_copied}
+use Rattle.std.proofs.Common.{◌≡◌, true, subst, arith, sym, ◌∙◌, ap, map, take, Bor, List, ℕ, [], ◌∷◌, ◌++◌}
+use Rattle.std.specs.Prelude.{option_copied, flat_map}
+use Rattle.std.proofs.lemmas.List.Elements.{recursion_from_All}
 use Rattle.std.proofs.lemmas.List.{map-append}
 use Rattle.language_model.specs.Description.{Adverb}
-use Rattle.language_model.specs.Building.{LexemeRow}
+use Rattle.language_model.specs.Building.{LexemeRow, is_one_of, place_in}
 use Rattle.dsl_statement.specs.declared.statement.Adverb.{Adverb as HeldAdverb}
-use Rattle.dsl_statement.specs.Statements.{adverbs_of}
-use Rattle.dsl_build.specs.Tables.{row_of, row_from, adverbs_at}
+use Rattle.dsl_statement.specs.Statements.{adverbs_of, statement_of}
+use Rattle.dsl_build.specs.Tables.{row_of, row_from, adverbs_at, lexeme_parts, priority_of}
+use Rattle.dsl_build.specs.Ready.{IsSmall}
+use Rattle.dsl_build.proofs.Alls.{all_map}
+use Rattle.dsl_build.proofs.Granting.{all_get}
+use Rattle.dsl_build.proofs.OwnLemmas.{index_all}
+use Rattle.dsl_build.proofs.Smallness.{small_pos}
 use Rattle.dsl_build.proofs.Lists.{take_get}
 use Rattle.dsl_build.proofs.lexemes.lexeme_rows.Goals as goal
 
@@ -15,13 +21,30 @@ loop-place-preserved c =
     let starts = c.args.starts.now in
     let default = option_copied c.default_value-default.result in
     let names = c.in_ok-own.own.names in
-    let row = c.in_ok-lexeme_row.field-0 in
+    let row = c.lexeme_row.result in
     let name = c.text-name.result.now in
     let before = take c.loop-place.place c.args.lexemes.now in
     let lists = λ (xs : List (Bor (List HeldAdverb))). map (λ (a : Bor (List HeldAdverb)). adverbs_of a.now) xs in
     let told = λ (n : List ℕ). row_from symbols starts (adverbs_at names (lists c.in_ok-own.own.adverbs.items) n) default n in
-    let found = c.in_ok-lexeme_row.ensures
+    let found = c.lexeme_row.ensures
     ∙ ap (λ (a : List Adverb). row_from symbols starts a default name) (c.adverbs_named-adverbs.ensures ∙ ap (λ (xs : List (Bor (List HeldAdverb))). adverbs_at names (lists xs) name) c.deref.ensures.value) in
     ap (map row_of) c.in_ok-push.ensures.items ∙ map-append row_of c.loop-place.rows.items (row ∷ []) ∙ ap (λ (rs : List LexemeRow). rs ++ row_of row ∷ []) c.loop-place.invariant
     ∙ ap (λ (r : LexemeRow). map told before ++ r ∷ []) found
     ∙ sym (ap (map told) (take_get c.args.lexemes.now c.loop-place.place name c.text-name.ensures) ∙ map-append told before (name ∷ []))
+
+pub lexeme_row-requires-clause-symbol : goal.lexeme_row-requires-clause-symbol
+lexeme_row-requires-clause-symbol c = all_get (λ t. is_one_of c.args.symbols.now t ≡ true) c.args.lexemes.now c.loop-place.place c.text-name.result.now c.requires.symbols c.text-name.ensures
+
+pub lexeme_row-requires-clause-start : goal.lexeme_row-requires-clause-start
+lexeme_row-requires-clause-start c = all_get (λ t. is_one_of c.args.starts.now t ≡ true) c.args.lexemes.now c.loop-place.place c.text-name.result.now c.requires.starts c.text-name.ensures
+
+pub lexeme_row-requires-clause-small : goal.lexeme_row-requires-clause-small
+lexeme_row-requires-clause-small c =
+    let names = c.in_ok-own.own.names in
+    let name = c.text-name.result.now in
+    let lists = λ (xs : List (Bor (List HeldAdverb))). map (λ (a : Bor (List HeldAdverb)). adverbs_of a.now) xs in
+    let parts = flat_map lexeme_parts (map statement_of c.args.statements.now) in
+    let P = λ (a : List Adverb). IsSmall (priority_of a) in
+    let found = c.adverbs_named-adverbs.ensures ∙ ap (λ (xs : List (Bor (List HeldAdverb))). adverbs_at names (lists xs) name) c.deref.ensures.value
+    ∙ ap (λ (ls : List (List Adverb)). adverbs_at names ls name) c.in_ok-own.ensures.adverbs in
+    subst P (sym found) (index_all P (small_pos 0 (omega arith)) (map (λ p. p.1) parts) (all_map P (λ (p : (List ℕ) × List Adverb). p.1) parts (recursion_from_All (λ (p : (List ℕ) × List Adverb). P p.1) parts c.requires.small)) (place_in names name))

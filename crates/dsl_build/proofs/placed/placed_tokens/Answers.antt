@@ -1,15 +1,26 @@
-use Rattle.std.proofs.Common.{[], ◌∷◌, ◌++◌, arith, sym, ◌∙◌, ap, map, Bor, cond, append-nil, Vec, Global}
-use Rattle.std.specs.Prelude.{flat_map}
+use Rattle.std.proofs.Common.{[], ◌∷◌, ◌++◌, arith, sym, ◌∙◌, ap, map, Bor, cond, append-nil, Vec, Global, ◌≡◌, Bool, true, false, refl}
+use Rattle.std.specs.Prelude.{flat_map, not, ◌&&◌}
+use Rattle.std.proofs.lemmas.Bool.{true≢false}
 use Rattle.std.proofs.lemmas.List.{map-append, take_all}
 use Rattle.std.proofs.lemmas.List.Folds.{flat_map-map}
 use Rattle.language_model.specs.Tokens.{Spelled}
-use Rattle.language_model.specs.Building.{new_tokens}
+use Rattle.language_model.specs.Building.{new_tokens, is_one_of}
 use Rattle.dsl_build.specs.declared.uses.Use.{Use}
 use Rattle.dsl_build.specs.Uses.{used_of}
-use Rattle.dsl_build.specs.Lexical.{placed_part}
+use Rattle.dsl_build.specs.Lexical.{placed_part, is_placed}
 use Rattle.dsl_build.proofs.PlacedLemmas.{placed_to, placed_on}
 use Rattle.dsl_build.proofs.placed.placed_tokens.Goals as goal
 use Rattle.dsl_build.proofs.placed.placed_tokens.Goals.{then-is_new+in_ok-add_new+in_ok-push, else-is_new}
+
+taken : (a b : Bool) → (a && not b) ≡ true → b ≡ false
+taken true false e = refl
+taken true true e = absurd (true≢false (sym e))
+taken false b e = absurd (true≢false (sym e))
+
+pub add_new-requires : goal.add_new-requires
+add_new-requires c =
+    let u = used_of c.used-item.result in
+    ap (λ t. is_one_of c.loop-used.names t) c.text_of.ensures ∙ taken (is_placed u) (is_one_of c.loop-used.names u.token.content) (sym c.is_new.ensures ∙ c.if-is_new.true)
 
 pub loop-used-preserved : goal.loop-used-preserved
 loop-used-preserved c =

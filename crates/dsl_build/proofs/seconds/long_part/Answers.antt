@@ -8,12 +8,12 @@ use Rattle.dsl_build.proofs.seconds.long_part.Goals as goal
 
 pub returns-then-is_some : goal.returns-then-is_some
 returns-then-is_some c =
-    scan_stops long_before c.args.parts.now c.loop-i.i c.index-parts-i.result c.in_ok-found.found (omega arith) c.index-parts-i.is c.loop-i.invariant
-    (c.in_ok-found.ensures ∙ ap first_of (long_known c.args.parts.now c.loop-i.i c.index-parts-i.result (omega arith))) (sym c.is_some.ensures ∙ c.if-is_some.true) ∙ ap first_of (sym (long_scan [] c.args.parts.now))
+    scan_stops long_before c.args.parts.now c.loop-i.i c.index-parts-i.result c.long_fault-found.result (omega arith) c.index-parts-i.is c.loop-i.invariant
+    (c.long_fault-found.ensures ∙ ap first_of (long_known c.args.parts.now c.loop-i.i c.index-parts-i.result (omega arith))) (sym c.is_some.ensures ∙ c.if-is_some.true) ∙ ap first_of (sym (long_scan [] c.args.parts.now))
 
 pub loop-i-preserved : goal.loop-i-preserved
-loop-i-preserved c = scan_goes_on long_before c.args.parts.now c.loop-i.i c.index-parts-i.result c.in_ok-found.found (omega arith) c.index-parts-i.is c.loop-i.invariant
-    (c.in_ok-found.ensures ∙ ap first_of (long_known c.args.parts.now c.loop-i.i c.index-parts-i.result (omega arith))) (sym c.is_some.ensures ∙ c.if-is_some.false)
+loop-i-preserved c = scan_goes_on long_before c.args.parts.now c.loop-i.i c.index-parts-i.result c.long_fault-found.result (omega arith) c.index-parts-i.is c.loop-i.invariant
+    (c.long_fault-found.ensures ∙ ap first_of (long_known c.args.parts.now c.loop-i.i c.index-parts-i.result (omega arith))) (sym c.is_some.ensures ∙ c.if-is_some.false)
 
 pub returns : goal.returns
 returns c = sym (no_first _ (ap (scan long_before []) (sym (take_all c.loop-i.i c.args.parts.now (omega arith))) ∙ c.loop-i.invariant)) ∙ ap first_of (sym (long_scan [] c.args.parts.now))

@@ -8,5 +8,5 @@ pub loop-k-preserved : goal.loop-k-preserved
 loop-k-preserved c =
     let number = place_in c.args.names.now in
     let before = take c.loop-k.k c.args.texts.now in
-    c.in_ok-push.ensures.items ∙ ap (λ ps. ps ++ c.symbol.inside.0 ∷ []) c.loop-k.invariant ∙ ap (λ n. map number before ++ n ∷ []) (c.symbol.view_is ∙ c.in_ok-symbol.ensures)
+    c.in_ok-push.ensures.items ∙ ap (λ ps. ps ++ c.symbol.inside.0 ∷ []) c.loop-k.invariant ∙ ap (λ n. map number before ++ n ∷ []) (c.symbol.view_is ∙ c.symbol_of-symbol.ensures)
     ∙ sym (ap (map number) (take_get c.args.texts.now c.loop-k.k c.text.result.now c.text.ensures) ∙ map-append number before (c.text.result.now ∷ []))

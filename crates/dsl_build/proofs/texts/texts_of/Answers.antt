@@ -1,4 +1,4 @@
-use Rattle.std.proofs.Common.{◌≡◌, ◌∙◌, ap, map, sym, [], ◌++◌, List, ℕ}
+use Rattle.std.proofs.Common.{◌≡◌, ◌∙◌, ap, map, sym, [], ◌++◌, List, ℕ, subst}
 use Rattle.std.specs.Prelude.{flat_map, filter, not}
 use Rattle.language_model.specs.Tokens.{Spelled}
 use Rattle.language_model.specs.Building.{new_texts, new_tokens, is_one_of, symbols_g1, lexemes, discarded, start_texts, placed_tokens, texts_l0}
@@ -7,9 +7,21 @@ use Rattle.dsl_build.specs.Lexical.{placed_part}
 use Rattle.dsl_build.specs.Uses.{Used, used_of, uses_of, texts_asked}
 use Rattle.dsl_build.specs.declared.uses.Use.{Use}
 use Rattle.dsl_build.specs.declared.uses.Which.TheVariants.{StructuralLeft, Structural, Discarded}
+use Rattle.dsl_build.specs.Texts.{AllNew}
+use Rattle.dsl_build.proofs.Differing.{lexemes_new}
 use Rattle.dsl_build.proofs.Bridges.{symbols_are}
 use Rattle.dsl_build.proofs.TextLemmas.{lexemes_are, discards_are, placed_are}
 use Rattle.dsl_build.proofs.texts.texts_of.Goals as goal
+
+pub placed_of-requires : goal.placed_of-requires
+placed_of-requires c =
+    let d = map statement_of c.args.statements.now in
+    let starts = c.in_ok-starts.starts in
+    let seen : map used_of c.deref.result.now ≡ flat_map uses_of d = ap (λ (xs : List Use). map used_of xs) c.deref.ensures.value ∙ c.in_ok-uses.ensures in
+    let symbols : starts.symbols ≡ symbols_g1 d = c.in_ok-starts.ensures.symbols ∙ ap (λ (us : List Used). new_texts [] (flat_map (texts_asked Structural) us)) seen ∙ sym (symbols_are d) in
+    let left = ap (λ (us : List Used). new_texts [] (flat_map (texts_asked StructuralLeft) us)) seen in
+    let lexical : starts.lexemes ≡ lexemes d = c.in_ok-starts.ensures.lexemes ∙ lexemes_are d starts.symbols (new_texts [] (flat_map (texts_asked StructuralLeft) (map used_of c.deref.result.now))) symbols left in
+    subst (λ (ns : List (List ℕ)). AllNew [] ns) (sym lexical) (lexemes_new d)
 
 pub returns : goal.returns
 returns c =

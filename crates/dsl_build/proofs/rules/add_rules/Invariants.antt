@@ -1,9 +1,0 @@
-use Rattle.std.proofs.Common.{◌≡◌, take, map}
-use Rattle.std.specs.Prelude.{flat_map, filter}
-use Rattle.language_model.specs.Building.{rules_of, is_of_level}
-use Rattle.dsl_statement.specs.Statements.{statement_of}
-use Rattle.dsl_build.specs.Rules.{with_rules}
-use Rattle.dsl_build.proofs.rules.add_rules.Given as goal
-
-abbrev pub invariant-loop-s : goal.invariant-loop-s
-invariant-loop-s l = l.w ≡ with_rules l.fn.w (flat_map (rules_of l.names) (filter (is_of_level l.lexical) (map statement_of (take l.s-index l.statements))))

@@ -1,0 +1,151 @@
+//! A grammar from its names, rules and starts.
+ghost use Rattle.std.specs.Prelude.{◌≡◌, ◌≤◌, ◌<◌, ◌+◌, ◌++◌, ◌∷◌, [], map, length, All, Err, Ok, IfOk, OnOk, MatchResult, None, false, string_bytes};
+ghost use Rattle.language_model.specs.Building.{is_one_of, count_from, set_names};
+ghost use Rattle.grammar_model.specs.Grammar.{Plain, Sequence};
+ghost use Rattle.grammar_core.specs.Written.{rule_of};
+ghost use Rattle.grammar_core.specs.Refusals.{Answers};
+ghost use Rattle.grammar_core.specs.declared.refusal.CoreRefusal.TheVariants.{NoMemory};
+ghost use Rattle.dsl_build.specs.Texts.{AllNew};
+ghost use Rattle.dsl_build.specs.Lexical.{set_name};
+ghost use Rattle.dsl_build.specs.Ready.{IsGood, IsWritable};
+ghost use Rattle.dsl_build.specs.Rules.{with_rules, with_names, with_starts};
+
+use crate::names::Names;
+use grammar_core::{CoreRefusal, Rule, SeqRule, SymbolId, Written, WrittenRule};
+use itoa::Buffer;
+use std::alloc::{AllocError, Global};
+
+// What a grammar answers to what it grants.
+fn granted<T: Copy>(answer: Result<T, CoreRefusal>) -> Result<T, AllocError>
+    requires { Answers None answer }
+    ensures { MatchResult result (λ x. answer ≡ Ok x) (λ _. answer ≡ Err NoMemory) }
+{
+    match answer {
+        Ok(x) => Ok(x),
+        Err(CoreRefusal::NoMemory) => Err(AllocError),
+        Err(CoreRefusal::BadSymbol) => unreachable!(),
+        Err(CoreRefusal::BadLevel) => unreachable!(),
+        Err(CoreRefusal::TooMany) => unreachable!(),
+    }
+}
+
+// One more symbol, whose name no other has.
+fn add_symbol(w: &mut Written, name: &str) -> Result<(), AllocError>
+    requires new { is_one_of w.old.names name.now ≡ false }
+    requires room { length w.old.names < 16777215 }
+    ensures { OnOk result (w.new ≡ with_names w.old (name.now ∷ [])) }
+{
+    granted(w.symbol_new(name))?;
+    Ok(())
+}
+
+// A grammar of these symbols, with no rules.
+fn named(alloc: Global, names: &Names) -> Result<Written, AllocError>
+    requires differ { AllNew [] names.now }
+    requires room { length names.now ≤ 16777215 }
+    ensures { IfOk result (λ w. w ≡ record { names = names.now; rules = []; starts = [] }) }
+{
+    let mut w = Written::new(alloc);
+    for place in 0..names.len() {
+        add_symbol(&mut w, names.text(place))?;
+    }
+    Ok(w)
+}
+
+fn name_of_set(alloc: Global, number: usize) -> Result<String, AllocError>
+    ensures { IfOk result (λ name. string_bytes name ≡ set_name number) }
+{
+    let mut name = String::from_str(alloc, ":")?;
+    name.push_str(Buffer::new().format(number))?;
+    Ok(name)
+}
+
+// Symbols of so many sets, named by their numbers.
+fn add_sets(alloc: Global, w: &mut Written, count: usize) -> Result<(), AllocError>
+    requires differ { AllNew [] (w.old.names ++ set_names count) }
+    requires room { length w.old.names + count ≤ 16777215 }
+    ensures { OnOk result (w.new ≡ with_names w.old (set_names count)) }
+{
+    for number in 0..count {
+        let name = name_of_set(alloc, number)?;
+        add_symbol(w, name.as_str())?;
+    }
+    Ok(())
+}
+
+fn add_plain(w: &mut Written, rule: Rule) -> Result<(), AllocError>
+    requires good { IsGood (length w.old.names) (Plain rule) }
+    requires room { length w.old.rules < 16777215 }
+    ensures { OnOk result (w.new ≡ with_rules w.old (Plain rule ∷ [])) }
+{
+    granted(w.rule_new(rule))?;
+    Ok(())
+}
+
+fn add_sequence(w: &mut Written, rule: SeqRule) -> Result<(), AllocError>
+    requires good { IsGood (length w.old.names) (Sequence rule) }
+    requires room { length w.old.rules < 16777215 }
+    ensures { OnOk result (w.new ≡ with_rules w.old (Sequence rule ∷ [])) }
+{
+    granted(w.sequence_new(rule))?;
+    Ok(())
+}
+
+fn add_rule(w: &mut Written, rule: WrittenRule) -> Result<(), AllocError>
+    requires good { IsGood (length w.old.names) (rule_of rule) }
+    requires room { length w.old.rules < 16777215 }
+    ensures { OnOk result (w.new ≡ with_rules w.old (rule_of rule ∷ [])) }
+{
+    match rule {
+        WrittenRule::Plain(rule) => add_plain(w, rule),
+        WrittenRule::Sequence(rule) => add_sequence(w, rule),
+    }
+}
+
+fn add_rules(w: &mut Written, rules: Vec<WrittenRule>) -> Result<(), AllocError>
+    requires good { All (IsGood (length w.old.names)) (map rule_of rules.items) }
+    requires room { length w.old.rules + length rules.items ≤ 16777215 }
+    ensures { OnOk result (w.new ≡ with_rules w.old (map rule_of rules.items)) }
+{
+    for rule in rules {
+        add_rule(w, rule)?;
+    }
+    Ok(())
+}
+
+fn add_start(w: &mut Written, symbol: SymbolId) -> Result<(), AllocError>
+    requires known { symbol < length w.old.names }
+    requires room { length w.old.starts < 16777215 }
+    ensures { OnOk result (w.new ≡ with_starts w.old (symbol ∷ [])) }
+{
+    granted(w.start_add(symbol))
+}
+
+fn add_starts(w: &mut Written, starts: &[SymbolId]) -> Result<(), AllocError>
+    requires known { All (λ s. s < length w.old.names) starts.now }
+    requires room { length w.old.starts + length starts.now ≤ 16777215 }
+    ensures { OnOk result (w.new ≡ with_starts w.old starts.now) }
+{
+    for symbol in starts {
+        add_start(w, *symbol)?;
+    }
+    Ok(())
+}
+
+/// The grammar with these names, symbols of so many sets behind them, and these rules and starts.
+pub fn written(
+    alloc: Global,
+    names: &Names,
+    sets: usize,
+    rules: Vec<WrittenRule>,
+    starts: &[SymbolId],
+) -> Result<Written, AllocError>
+    requires { IsWritable (record { names = names.now ++ set_names sets; rules = map rule_of rules.items; starts = starts.now }) }
+    ensures { IfOk result (λ w. w ≡ record { names = names.now ++ set_names sets; rules = map rule_of rules.items; starts = starts.now }) }
+{
+    let mut w = named(alloc, names)?;
+    add_sets(alloc, &mut w, sets)?;
+    add_rules(&mut w, rules)?;
+    add_starts(&mut w, starts)?;
+    Ok(w)
+}
