@@ -1,5 +1,5 @@
 //! The examples, with what they give.
-use crate::runs::{Given, SUM, ends};
+use run_scenes::{Given, SUM, ends};
 use std::test::Fail;
 
 const SUM_GRAMMAR: &[u8] = br#"E ::= E '+' E | '1'

@@ -1,5 +1,5 @@
 //! Words of the command line, and what they ask for.
-use crate::runs::words_of;
+use run_scenes::words_of;
 use command_line::{Job, RunAsked, read_words};
 use grammar_model::{Ranking, Show};
 use std::test::Fail;

@@ -1,5 +1,5 @@
 //! Words, grammars and inputs that are refused: the status and the line, and nothing on the standard output.
-use crate::runs::{
+use run_scenes::{
     CHECKED, EXPECTED, Given, OPERATORS, REPORTED, SUM, SUMS, TREES, WORKED, WORKED_LINES, asked,
     ends, run_of,
 };

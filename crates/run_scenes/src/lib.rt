@@ -1,4 +1,6 @@
-//! Whole runs over forms in memory: what they are given, and how they end.
+//! Whole runs over forms in memory, for tests: what they are given, and how they end.
+#![tactic(auto)]
+
 ghost use Rattle.std.specs.Prelude.{◌≡◌, ◌<◌, IfOk};
 ghost use Rattle.valuator.specs.Told.{states};
 ghost use Rattle.value_lines.specs.Writing.{AreBothTellers};

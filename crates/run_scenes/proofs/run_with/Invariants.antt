@@ -1,4 +1,4 @@
-use Rattle.run_tests.proofs.runs.run_with.Given as goal
+use Rattle.run_scenes.proofs.run_with.Given as goal
 
 abbrev pub ghosts-status_of : goal.ghosts-status_of
 ghosts-status_of g a = record { name = a.blank.name; parts = a.blank.parts }

@@ -1,0 +1,7 @@
+//! Tests of runs that are refused, and of runs whose outside fails. There is nothing else here.
+#![tactic(auto)]
+
+#[cfg(test)]
+mod faults;
+#[cfg(test)]
+mod refused;
