@@ -8,3 +8,5 @@ pub mod OneEnd
 pub mod Exists
 pub mod Inputs
 pub mod Utf8
+pub mod AnEnd
+pub mod Statuses

@@ -1,5 +1,5 @@
 //! Laws of what a run means, each shown by a contract alone.
-ghost use Rattle.run_model.specs.Laws.{HasOutcome, HasOneOutcome, HasOneEnd};
+ghost use Rattle.run_model.specs.Laws.{HasOutcome, HasOneOutcome, HasOneEnd, HasEnd, StatusesOccur};
 
 /// Whatever the words, the grammar and the input are, there is an outcome. It does nothing.
 pub fn has_outcome()
@@ -14,4 +14,14 @@ pub fn one_outcome()
 /// Where the outside tells all that the words need, a run may have one outcome at most. It does nothing.
 pub fn one_end()
     ensures { HasOneEnd }
+{}
+
+/// Where the outside holds the files that the words need, a run has an outcome. It does nothing.
+pub fn has_end()
+    ensures { HasEnd }
+{}
+
+/// Each status from 0 to 3 comes up. It does nothing.
+pub fn statuses_occur()
+    ensures { StatusesOccur }
 {}

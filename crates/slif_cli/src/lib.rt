@@ -18,5 +18,5 @@ mod top;
 mod values;
 mod working;
 
-pub use laws::{has_outcome, one_end, one_outcome};
+pub use laws::{has_end, has_outcome, one_end, one_outcome, statuses_occur};
 pub use top::run;
