@@ -18,4 +18,4 @@ pub mod Starts
 pub mod Exact
 pub mod Counting
 pub mod Expanding
-pub mod Heads
+pub mod Ruled

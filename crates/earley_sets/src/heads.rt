@@ -1,5 +1,5 @@
 //! The rules of each symbol, looked up.
-ghost use Rattle.std.specs.Prelude.{◌≡◌, ℕ, ◌<◌, ◌≤◌, ◌↔◌, IfOk};
+ghost use Rattle.std.specs.Prelude.{◌≡◌, ℕ, ◌<◌, ◌≤◌, ◌↔◌, slice_get, IfOk};
 ghost use Rattle.recognizer_model.specs.Flat.{IsRule, lhs_of};
 ghost use Rattle.earley_sets.specs.Heads.{AreHeads, HasRules};
 
@@ -34,6 +34,7 @@ fn find_rules(flat: &Flat, symbol: u32) -> Rules
 pub fn list_heads(alloc: Global, flat: &Flat) -> Result<Heads, AllocError>
     ensures { IfOk result (λ heads. AreHeads flat.now heads.rules.items) }
 {
+    flat.known();
     let mut rules = Vec::new(alloc);
     for symbol in 0..flat.symbol_count() {
         rules.push(find_rules(flat, symbol as u32))?;
@@ -41,13 +42,19 @@ pub fn list_heads(alloc: Global, flat: &Flat) -> Result<Heads, AllocError>
     Ok(Heads { rules })
 }
 
+fn rules_at(rules: &[Rules], place: usize) -> Option<Rules>
+    ensures { result ≡ slice_get rules.now place }
+{
+    rules.get(place).copied()
+}
+
 /// The rules of a symbol, which stand together.
 pub fn rules_of(flat: &Flat, heads: &Heads, symbol: u32) -> Rules
     requires { AreHeads flat.now heads.now.rules.items }
     ensures { HasRules flat.now symbol result }
 {
-    match heads.rules.get(symbol as usize) {
-        Some(rules) => *rules,
+    match rules_at(&heads.rules, symbol as usize) {
+        Some(rules) => rules,
         None => find_rules(flat, symbol),
     }
 }

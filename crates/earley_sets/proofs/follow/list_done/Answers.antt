@@ -13,12 +13,12 @@ use Rattle.earley_sets.proofs.follow.list_done.Goals as goal
 pub leo_of-requires : goal.leo_of-requires
 leo_of-requires g c item h = (c.args.pair.symbol, ((c.waiting_in-waiting.ensures.exact item).0 h).1)
 
-pub topmost-in-Some-requires-clause-step : goal.topmost-in-Some-requires-clause-step
-topmost-in-Some-requires-clause-step g c =
+pub topmost-requires-clause-step : goal.topmost-requires-clause-step
+topmost-requires-clause-step g c =
     step_by_row c.args.flat.now c.args.rows.now c.args.pair.set c.args.pair.symbol c.waiting_in-waiting.result.now (Some c.in-Some.step) c.waiting_in-waiting.ensures c.in-Some.ensures
 
-pub list_advanced-in-None-requires : goal.list_advanced-in-None-requires
-list_advanced-in-None-requires g c w h =
+pub list_advanced-requires : goal.list_advanced-requires
+list_advanced-requires g c w h =
     let (there, e) = (c.waiting_in-waiting.ensures.exact w).0 h in
     let is = (c.requires.rows c.args.pair.set).items w there in
     let lt = part_within (rhs_of c.args.flat.now w.rule) w.dot c.args.pair.symbol e in
