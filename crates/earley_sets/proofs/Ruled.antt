@@ -1,11 +1,8 @@
 -- The rules of each symbol, listed.
-use Rattle.std.proofs.Common.{◌≡◌, ◌⊎◌, inl, inr, ℕ, zero, suc, List, [], ◌∷◌, ◌++◌, length, Option, Some, None, slice_get, refl, sym, ◌∙◌, ap, subst, arith}
+use Rattle.std.proofs.Common.{◌≡◌, ◌⊎◌, inl, inr, ℕ, zero, suc, List, [], ◌∷◌, ◌++◌, length, Some, slice_get, refl, sym, ◌∙◌, ap, subst}
 use Rattle.recognizer_model.specs.Flat.{FlatGrammar}
 use Rattle.earley_sets.specs.declared.heads.Rules.{Rules}
 use Rattle.earley_sets.specs.Heads.{AreHeads, HasRules}
-
-pub no_heads : (g : FlatGrammar) → AreHeads g []
-no_heads g x rules e = absurd (cc)
 
 some_same : (a b : Rules) → Some a ≡ Some b → a ≡ b
 some_same a b e = cc

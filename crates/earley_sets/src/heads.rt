@@ -1,6 +1,5 @@
 //! The rules of each symbol, looked up.
-ghost use Rattle.std.specs.Prelude.{◌≡◌, ℕ, ◌<◌, ◌≤◌, ◌↔◌, slice_get, IfOk};
-ghost use Rattle.recognizer_model.specs.Flat.{IsRule, lhs_of};
+ghost use Rattle.std.specs.Prelude.{◌≡◌, slice_get, IfOk};
 ghost use Rattle.earley_sets.specs.Heads.{AreHeads, HasRules};
 
 use grammar_core::Flat;

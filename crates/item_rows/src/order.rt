@@ -46,11 +46,7 @@ fn row_key(flat: &Flat, item: Item) -> RowKey
 }
 
 // Lists the keys of items.
-fn list_keys(
-    flat: &Flat,
-    items: &[Item],
-    keys: &mut Vec<RowKey>,
-) -> Result<(), AllocFailed<RowKey>>
+fn list_keys(flat: &Flat, items: &[Item], keys: &mut Vec<RowKey>) -> Result<(), AllocFailed<RowKey>>
     ensures { OnOk result (keys.new.items ≡ map (key_of flat.now) items.now) }
 {
     keys.clear();

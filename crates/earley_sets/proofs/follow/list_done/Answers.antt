@@ -1,9 +1,7 @@
-use Rattle.std.proofs.Common.{◌≡◌, Option, Some, None, inl, inr, ap, arith, length, length-append, sym, subst, ◌∙◌}
-use Rattle.recognizer_model.specs.declared.Item.{Item}
+use Rattle.std.proofs.Common.{Some, None, inl, inr, ap, arith, length, length-append, ◌∙◌}
 use Rattle.recognizer_model.specs.Flat.{rhs_of}
 use Rattle.recognizer_model.specs.Items.{advanced}
 use Rattle.item_rows.specs.Rows.{row_at}
-use Rattle.leo_items.specs.ByRows.{IsStepIn}
 use Rattle.leo_items.proofs.Chains.{step_by_row}
 use Rattle.earley_sets.specs.Tried.{IsWaiting}
 use Rattle.earley_sets.proofs.Following.{done_none, done_leo, has_advanced, part_within}

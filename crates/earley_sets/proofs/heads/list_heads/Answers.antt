@@ -1,5 +1,5 @@
 use Rattle.std.proofs.Common.{ap, length, length-append, ◌∙◌, ◌∷◌, [], arith}
-use Rattle.earley_sets.proofs.Ruled.{no_heads, more_heads}
+use Rattle.earley_sets.proofs.Ruled.{more_heads}
 use Rattle.earley_sets.proofs.heads.list_heads.Goals as goal
 
 pub loop-symbol-preserved : goal.loop-symbol-preserved
