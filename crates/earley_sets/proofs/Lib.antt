@@ -18,3 +18,4 @@ pub mod Starts
 pub mod Exact
 pub mod Counting
 pub mod Expanding
+pub mod Ruled

@@ -5,5 +5,6 @@ pub mod Scanning
 pub mod Tried
 pub mod Recognizer
 pub mod Counted
+pub mod Heads
 pub mod Hidden
 pub mod Laws

@@ -11,15 +11,17 @@ ghost use Rattle.recognizer_model.specs.Leo.{InReduced};
 ghost use Rattle.recognizer_model.specs.Links.{IsLink};
 ghost use Rattle.leo_items.specs.ByRows.{IsMemo, NotesMore, AreNulled};
 ghost use Rattle.earley_sets.specs.Kept.{IsItem, AreItems, AreRows};
+ghost use Rattle.earley_sets.specs.Heads.{AreHeads};
 ghost use Rattle.earley_sets.specs.Closing.{Adds, BeginTogether, Follows, IsReached, Grows};
 ghost use Rattle.earley_sets.specs.Scanning.{IsScanned, IsScannedBy, IsSeed, GoForward, AreReduced};
 ghost use Rattle.earley_sets.specs.Tried.{RisesBy, AwaitsEdge, MakesScan, MakesOne};
 
 use crate::follow::{list_completed, list_next};
+use crate::heads::Heads;
 use grammar_core::{Flat, SymbolId, TokenEdges};
 use grammar_model::Edge as HeldEdge;
 use indexmap::IndexSet;
-use item_rows::Rows;
+use item_rows::{RowKey, Rows};
 use leo_items::Memo;
 use recognizer_model::Item;
 use slif_base::Steps;
@@ -68,6 +70,7 @@ fn item_at(set: &IndexSet<Item>, k: usize) -> Option<Item>
 // Adds whatever the items of the set lead to.
 fn close<L: Ledger>(
     flat: &Flat,
+    heads: &Heads,
     rows: &Rows,
     memo: &mut Memo,
     place: u32,
@@ -76,6 +79,7 @@ fn close<L: Ledger>(
     steps: &mut Steps<L>,
 ) -> Result<(), AllocError>
     requires items { AreItems flat.now set.old.keys }
+    requires heads { AreHeads flat.now heads.now.rules.items }
     requires rows { AreRows flat.now rows.now }
     requires nulled { AreNulled flat.now rows.now }
     requires memo { IsMemo flat.now rows.now memo.old }
@@ -92,7 +96,7 @@ fn close<L: Ledger>(
             return Ok(());
         };
         next.clear();
-        list_next(flat, rows, memo, place, set, item, next, steps)?;
+        list_next(flat, heads, rows, memo, place, set, item, next, steps)?;
         add_items(set, next, steps)?;
     }
     let _len = set.len();
@@ -176,6 +180,15 @@ fn list_seeds(
     list_scanned(flat, rows, edges, place, ending, next)
 }
 
+// Lets all items go. An empty set costs no more than a look.
+fn empty(set: &mut IndexSet<Item>)
+    ensures { set.new.keys ≡ [] }
+{
+    if !set.is_empty() {
+        set.clear();
+    }
+}
+
 // Begins a set anew with these items.
 fn refill<L: Ledger>(
     set: &mut IndexSet<Item>,
@@ -185,7 +198,7 @@ fn refill<L: Ledger>(
     ensures same { OnOk result ((item : Item) → Contains set.new.keys item ↔ Contains items.now item) }
     ensures counted { OnOk result (steps.new ≡ steps.old + length items.now) }
 {
-    set.clear();
+    empty(set);
     add_items(set, items, steps)
 }
 
@@ -194,12 +207,14 @@ fn refill<L: Ledger>(
 pub struct Work {
     pub set: IndexSet<Item>,
     pub next: Vec<Item>,
+    pub keys: Vec<RowKey>,
     pub ending: Vec<HeldEdge>,
 }
 
 /// Makes the reduced set of a place. Nothing is known of the set after an error.
 pub fn make_set<L: Ledger>(
     flat: &Flat,
+    heads: &Heads,
     top: u32,
     rows: &Rows,
     memo: &mut Memo,
@@ -208,6 +223,7 @@ pub fn make_set<L: Ledger>(
     work: &mut Work,
     steps: &mut Steps<L>,
 ) -> Result<(), AllocError>
+    requires heads { AreHeads flat.now heads.now.rules.items }
     requires top { IsTop flat.now top }
     requires sets { AreReduced flat.now edges.now top rows.now place }
     requires rows { AreRows flat.now rows.now }
@@ -233,6 +249,7 @@ pub fn make_set<L: Ledger>(
     refill(&mut work.set, &work.next, steps)?;
     close(
         flat,
+        heads,
         rows,
         memo,
         place,

@@ -6,13 +6,15 @@ ghost use Rattle.recognizer_model.specs.Items.{after, first_item, advanced as it
 ghost use Rattle.item_rows.specs.Rows.{row_at};
 ghost use Rattle.earley_sets.specs.Kept.{IsItem, AreRows};
 ghost use Rattle.leo_items.specs.ByRows.{IsMemo, NotesMore, AreNulled};
+ghost use Rattle.earley_sets.specs.Heads.{AreHeads};
 ghost use Rattle.earley_sets.specs.Closing.{IsPredicted, BeginTogether, IsBegun, IsAdvancedOver, IsDone, FollowsAnew};
 ghost use Rattle.earley_sets.specs.Tried.{RisesBy, IsWaiting, MakesBegun, RisesByDone, MakesLink};
 
+use crate::heads::{Heads, rules_of};
 use grammar_core::Flat;
 use indexmap::IndexSet;
-use item_rows::{Rows, waiting};
-use leo_items::{Memo, Pair, pair_above, step_in, topmost};
+use item_rows::{Rows, waiting_in};
+use leo_items::{Memo, Pair, leo_of, pair_above, topmost};
 use recognizer_model::Item;
 use slif_base::Steps;
 use std::alloc::{AllocError, AllocFailed};
@@ -87,17 +89,19 @@ fn have_begun(set: &IndexSet<Item>, first: u32, end: u32, place: u32) -> bool
 // Lists the first items of a symbol's rules, if they are not in the set.
 fn list_rules(
     flat: &Flat,
+    heads: &Heads,
     set: &IndexSet<Item>,
     place: u32,
     symbol: u32,
     next: &mut Vec<Item>,
 ) -> Result<(), AllocFailed<Item>>
-    requires { BeginTogether flat.now place set.now.keys }
+    requires heads { AreHeads flat.now heads.now.rules.items }
+    requires together { BeginTogether flat.now place set.now.keys }
     ensures listed { OnOk result ((other : Item) → Contains next.new.items other ↔
         (Contains next.old.items other ⊎ (IsPredicted flat.now place symbol other × (¬ Contains set.now.keys other)))) }
     ensures links { OnOk result (RisesBy (λ (r : ℕ). IsRule flat.now r × (lhs_of flat.now r ≡ symbol)) (length next.old.items) (length next.new.items)) }
 {
-    let rules = flat.rules_of(symbol);
+    let rules = rules_of(flat, heads, symbol);
     if have_begun(set, rules.start, rules.end, place) {
         return Ok(());
     }
@@ -107,12 +111,14 @@ fn list_rules(
 // Lists what follows from an item that waits for a symbol.
 fn list_begun(
     flat: &Flat,
+    heads: &Heads,
     set: &IndexSet<Item>,
     place: u32,
     item: Item,
     symbol: u32,
     next: &mut Vec<Item>,
 ) -> Result<(), AllocFailed<Item>>
+    requires heads { AreHeads flat.now heads.now.rules.items }
     requires together { BeginTogether flat.now place set.now.keys }
     requires item { item.dot + 1 < 2 ^ 32 }
     requires symbol { symbol < length flat.now.symbols }
@@ -120,7 +126,7 @@ fn list_begun(
         (Contains next.old.items other ⊎ IsBegun flat.now place set.now.keys item symbol other)) }
     ensures links { OnOk result (RisesBy (MakesBegun flat.now item symbol) (length next.old.items) (length next.new.items)) }
 {
-    list_rules(flat, set, place, symbol, next)?;
+    list_rules(flat, heads, set, place, symbol, next)?;
     if flat.nullable(symbol) {
         next.push(advanced(item))?;
     }
@@ -142,8 +148,7 @@ pub fn list_completed(
     ensures links { OnOk result (RisesBy (IsWaiting flat.now (row_at rows.now origin) symbol) (length next.old.items) (length next.new.items)) }
 {
     flat.known();
-    let waiting = waiting(flat, rows.row(origin as usize), symbol);
-    list_advanced(waiting, next)
+    list_advanced(waiting_in(flat, rows, origin, symbol), next)
 }
 
 // Lists what the completion of a symbol that began in an earlier set leads to.
@@ -165,9 +170,11 @@ fn list_done<L: Ledger>(
     ensures memo { NotesMore flat.now rows.now memo.old memo.new }
     ensures counted { steps.new + length memo.old ≡ steps.old + length memo.new }
 {
-    match step_in(flat, rows, pair) {
+    flat.known();
+    let waiting = waiting_in(flat, rows, pair.set, pair.symbol);
+    match leo_of(flat, waiting) {
         Some(step) => next.push(topmost(flat, rows, memo, pair, step, steps)?)?,
-        None => list_completed(flat, rows, pair.set, pair.symbol, next)?,
+        None => list_advanced(waiting, next)?,
     }
     Ok(())
 }
@@ -175,6 +182,7 @@ fn list_done<L: Ledger>(
 /// Lists what follows from an item in its set, but no first item that is there.
 pub fn list_next<L: Ledger>(
     flat: &Flat,
+    heads: &Heads,
     rows: &Rows,
     memo: &mut Memo,
     place: u32,
@@ -184,6 +192,7 @@ pub fn list_next<L: Ledger>(
     steps: &mut Steps<L>,
 ) -> Result<(), AllocError>
     requires item { IsItem flat.now item }
+    requires heads { AreHeads flat.now heads.now.rules.items }
     requires rows { AreRows flat.now rows.now }
     requires nulled { AreNulled flat.now rows.now }
     requires memo { IsMemo flat.now rows.now memo.old }
@@ -198,7 +207,7 @@ pub fn list_next<L: Ledger>(
     flat.known();
     match next_symbol(flat, item) {
         Some(x) => {
-            list_begun(flat, set, place, item, x, next)?;
+            list_begun(flat, heads, set, place, item, x, next)?;
             Ok(())
         }
         None => {

@@ -4,6 +4,7 @@
 mod close;
 mod expected;
 mod follow;
+mod heads;
 mod hidden;
 mod recce;
 

@@ -14,6 +14,7 @@ ghost use Rattle.leo_items.specs.ByRows.{IsMemo, NotesMore};
 ghost use Rattle.grammar_core.specs.Edges.{longest_edge};
 ghost use Rattle.item_rows.specs.Order.{IsRow};
 ghost use Rattle.earley_sets.specs.Kept.{AreItems, AreRows, IsRowOf};
+ghost use Rattle.earley_sets.specs.Heads.{AreHeads};
 ghost use Rattle.earley_sets.specs.Scanning.{GoForward, AreReduced};
 ghost use Rattle.earley_sets.specs.Tried.{RisesBy};
 ghost use Rattle.earley_sets.specs.Recognizer.{Recognizer, place_of, set_at, edges_of, top_of, made, new_edge, IsExpected, HasTree, IsRecognizer};
@@ -21,10 +22,11 @@ ghost use Rattle.earley_sets.specs.declared.recce.AlternativeRefusal.TheVariants
 
 use crate::close::{Work, make_set};
 use crate::expected::{expected, is_awaited};
+use crate::heads::{Heads, list_heads};
 use crate::hidden::list_hidden;
 use grammar_core::{EdgeRefusal, Flat, SymbolId, TokenEdges};
 use indexmap::IndexSet;
-use item_rows::{Rows, contains, sort, waiting};
+use item_rows::{RowKey, Rows, contains, list_sorted, waiting};
 use leo_items::Memo;
 use recognizer_model::Item;
 use slif_base::Steps;
@@ -34,19 +36,22 @@ use std::sync::ledger::{Blank, Ledger};
 use thiserror::Error;
 
 // Lists the items of a set in the order of a row.
-fn list_row(flat: &Flat, set: &IndexSet<Item>, row: &mut Vec<Item>) -> Result<(), AllocError>
+fn list_row(
+    flat: &Flat,
+    set: &IndexSet<Item>,
+    keys: &mut Vec<RowKey>,
+    row: &mut Vec<Item>,
+) -> Result<(), AllocError>
     ensures row { OnOk result (IsRow flat.now row.new.items) }
     ensures same { OnOk result ((item : Item) → Contains row.new.items item ↔ Contains set.now.keys item) }
 {
-    row.clear();
-    row.extend_from_slice(set.as_slice())?;
-    sort(flat, row);
-    Ok(())
+    list_sorted(flat, set.as_slice(), keys, row)
 }
 
 // Makes the set of the place behind the last row, as a row.
 fn make_row<L: Ledger>(
     flat: &Flat,
+    heads: &Heads,
     top: u32,
     rows: &mut Rows,
     memo: &mut Memo,
@@ -54,6 +59,7 @@ fn make_row<L: Ledger>(
     work: &mut Work,
     steps: &mut Steps<L>,
 ) -> Result<(), AllocError>
+    requires heads { AreHeads flat.now heads.now.rules.items }
     requires top { IsTop flat.now top }
     requires sets { AreReduced flat.now edges.now top rows.old (length rows.old) }
     requires rows { AreRows flat.now rows.old }
@@ -69,14 +75,15 @@ fn make_row<L: Ledger>(
         RisesBy (IsLink flat.now (FlatEdges flat.now (Held edges.now)) top (length rows.old)) (steps.old + length memo.new) (steps.new + length memo.old)) }
 {
     let place = rows.len() as u32;
-    make_set(flat, top, rows, memo, edges, place, work, steps)?;
-    list_row(flat, &work.set, &mut work.next)?;
+    make_set(flat, heads, top, rows, memo, edges, place, work, steps)?;
+    list_row(flat, &work.set, &mut work.keys, &mut work.next)?;
     rows.push(&work.next)
 }
 
 // The same. After an error the notes are as before.
 fn add_row<L: Ledger>(
     flat: &Flat,
+    heads: &Heads,
     top: u32,
     rows: &mut Rows,
     memo: &mut Memo,
@@ -84,6 +91,7 @@ fn add_row<L: Ledger>(
     work: &mut Work,
     steps: &mut Steps<L>,
 ) -> Result<(), AllocError>
+    requires heads { AreHeads flat.now heads.now.rules.items }
     requires top { IsTop flat.now top }
     requires sets { AreReduced flat.now edges.now top rows.old (length rows.old) }
     requires rows { AreRows flat.now rows.old }
@@ -99,7 +107,7 @@ fn add_row<L: Ledger>(
         RisesBy (IsLink flat.now (FlatEdges flat.now (Held edges.now)) top (length rows.old)) (steps.old + length memo.new) (steps.new + length memo.old)) }
 {
     let noted = memo.len();
-    match make_row(flat, top, rows, memo, edges, work, steps) {
+    match make_row(flat, heads, top, rows, memo, edges, work, steps) {
         Ok(()) => Ok(()),
         Err(error) => {
             memo.keep_first(noted);
@@ -112,6 +120,7 @@ fn add_row<L: Ledger>(
 fn add_first<L: Ledger>(
     blank: Blank,
     flat: &Flat,
+    heads: &Heads,
     top: u32,
     rows: &mut Rows,
     memo: &mut Memo,
@@ -121,6 +130,7 @@ fn add_first<L: Ledger>(
     requires name { blank.name ≡ L.name }
     requires parts { blank.parts ≡ L.parts }
     requires some { 0 < blank.parts }
+    requires heads { AreHeads flat.now heads.now.rules.items }
     requires top { IsTop flat.now top }
     requires rows { rows.old ≡ [] }
     requires memo { memo.old ≡ [] }
@@ -130,7 +140,7 @@ fn add_first<L: Ledger>(
     ensures memo { memo.new ≡ [] }
 {
     let mut steps = Steps::<L>::of_blank(blank);
-    add_row(flat, top, rows, memo, edges, work, &mut steps)
+    add_row(flat, heads, top, rows, memo, edges, work, &mut steps)
 }
 
 /// Why an alternative is not taken. Of several reasons the first in this order is told, but want of memory may come at any point.
@@ -154,6 +164,7 @@ pub enum AlternativeRefusal {
 #[derive(Drop)]
 pub struct Recce<'g> {
     flat: &'g Flat,
+    heads: Heads,
     start: usize,
     top: u32,
     edges: TokenEdges,
@@ -165,12 +176,13 @@ pub struct Recce<'g> {
 impl<'g> Model for Recce<'g> {
     ghost use Rattle.leo_items.specs.Memo.{pairs_of};
     ghost use Rattle.earley_sets.specs.Recognizer.{Recognizer, IsKept};
+    ghost use Rattle.earley_sets.specs.Heads.{AreHeads};
 
     ghost Value = { Recognizer };
 
     ghost view = { λ r. record { flat = r.flat.now; start = r.start; edges = r.edges; sets = r.rows; noted = pairs_of r.memo } };
 
-    ghost invariant = { λ r. IsKept (record { flat = r.flat.now; start = r.start; edges = r.edges; sets = r.rows; noted = pairs_of r.memo }) r.top r.memo };
+    ghost invariant = { λ r. IsKept (record { flat = r.flat.now; start = r.start; edges = r.edges; sets = r.rows; noted = pairs_of r.memo }) r.top r.memo × AreHeads r.flat.now r.heads.rules.items };
 }
 
 /// Items of a set: by the symbol after the dot, whole items last, then by rule, dot and origin.
@@ -227,17 +239,20 @@ impl<'g> Recce<'g> {
         ensures { IfOk result (λ r. (r.flat ≡ flat.now) × (r.start ≡ start) × (r.edges ≡ []) × (length r.sets ≡ 1) × (r.noted ≡ [])) }
     {
         let top = flat.top(start);
+        let heads = list_heads(alloc, flat)?;
         let edges = TokenEdges::new(alloc);
         let mut rows = Rows::new(alloc);
         let mut memo = Memo::new(alloc);
         let mut work = Work {
             set: IndexSet::new(alloc),
             next: Vec::new(alloc),
+            keys: Vec::new(alloc),
             ending: Vec::new(alloc),
         };
         add_first::<Brand>(
             Blank::new(1),
             flat,
+            &heads,
             top,
             &mut rows,
             &mut memo,
@@ -246,6 +261,7 @@ impl<'g> Recce<'g> {
         )?;
         Ok(Recce {
             flat,
+            heads,
             start,
             top,
             edges,
@@ -297,6 +313,7 @@ impl<'g> Recce<'g> {
     {
         add_row(
             self.flat,
+            &self.heads,
             self.top,
             &mut self.rows,
             &mut self.memo,

@@ -8,6 +8,8 @@ mod flattened;
 #[cfg(test)]
 mod grammars;
 #[cfg(test)]
+mod lengths;
+#[cfg(test)]
 mod sets;
 #[cfg(test)]
 mod written;

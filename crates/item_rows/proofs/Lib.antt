@@ -1,3 +1,4 @@
 pub mod Cutting
 pub mod Items
 pub mod Ordered
+pub mod Sorting

@@ -20,6 +20,9 @@ symbol_or_end g item = or_end (after g item)
 abbrev pub row_key : FlatGrammar → Item → RowKey
 row_key g item = record { symbol = symbol_or_end g item; rule = item.rule; dot = item.dot; origin = item.origin }
 
+abbrev pub item_of : RowKey → Item
+item_of k = record { rule = k.rule; dot = k.dot; origin = k.origin }
+
 abbrev pub key_cmp : RowKey → RowKey → Ordering
 key_cmp a b = ordering_then (nat_cmp a.symbol b.symbol) (ordering_then (nat_cmp a.rule b.rule) (ordering_then (nat_cmp a.dot b.dot) (nat_cmp a.origin b.origin)))
 

@@ -4,5 +4,5 @@
 mod order;
 mod rows;
 
-pub use order::{contains, sort, waiting};
+pub use order::{RowKey, contains, list_sorted, waiting, waiting_in};
 pub use rows::Rows;

@@ -9,7 +9,7 @@ ghost use Rattle.leo_items.specs.ByRows.{IsStepIn, LeadsIn, IsMemo, NotesMore, A
 use crate::leo_of;
 use crate::memo::{Memo, Pair};
 use grammar_core::Flat;
-use item_rows::{Rows, waiting};
+use item_rows::{Rows, waiting_in};
 use recognizer_model::Item;
 use slif_base::Steps;
 use std::alloc::AllocError;
@@ -21,8 +21,7 @@ pub fn step_in(flat: &Flat, rows: &Rows, pair: Pair) -> Option<Item>
     requires set { pair.set < length rows.now }
     ensures { IsStepIn flat.now rows.now pair.set pair.symbol result }
 {
-    let row = rows.row(pair.set as usize);
-    leo_of(flat, waiting(flat, row, pair.symbol))
+    leo_of(flat, waiting_in(flat, rows, pair.set, pair.symbol))
 }
 
 /// The set and the symbol that a completed item leads over.

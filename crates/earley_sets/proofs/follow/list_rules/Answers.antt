@@ -7,7 +7,7 @@ use Rattle.earley_sets.proofs.follow.list_rules.Goals as goal
 
 pub returns-then-have_begun-clause-listed : goal.returns-then-have_begun-clause-listed
 returns-then-have_begun-clause-listed c =
-    rules_there c.args.flat.now c.args.place c.args.symbol c.rules_of-rules.result.start c.rules_of-rules.result.end c.rules_of-rules.ensures c.args.set.now.keys c.args.next.now.items c.requires
+    rules_there c.args.flat.now c.args.place c.args.symbol c.rules_of-rules.result.start c.rules_of-rules.result.end c.rules_of-rules.ensures c.args.set.now.keys c.args.next.now.items c.requires.together
     (c.have_begun.ensures.0 (search rules))
 
 pub returns-then-have_begun-clause-links : goal.returns-then-have_begun-clause-links
@@ -16,7 +16,7 @@ returns-then-have_begun-clause-links c = rises_none (λ (r : ℕ). IsRule c.args
 pub returns-clause-listed : goal.returns-clause-listed
 returns-clause-listed c =
     on_ok_weaker c.list_predicted.result
-    (rules_begin c.args.flat.now c.args.place c.args.symbol c.rules_of-rules.result.start c.rules_of-rules.result.end c.rules_of-rules.ensures c.args.set.now.keys c.args.next.now.items c.requires c.list_predicted.new.next.items
+    (rules_begin c.args.flat.now c.args.place c.args.symbol c.rules_of-rules.result.start c.rules_of-rules.result.end c.rules_of-rules.ensures c.args.set.now.keys c.args.next.now.items c.requires.together c.list_predicted.new.next.items
     (λ begun. let h = c.have_begun.ensures.1 begun in search rules))
     c.list_predicted.ensures.listed
 

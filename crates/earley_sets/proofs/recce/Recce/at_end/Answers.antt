@@ -7,11 +7,11 @@ use Rattle.earley_sets.proofs.Recognizing.{whole_is_tree, recognizer}
 use Rattle.earley_sets.proofs.recce.Recce.at_end.Goals as goal
 
 pub contains-requires : goal.contains-requires
-contains-requires c = subst (IsInOrder c.self.inside.flat.now) (sym c.row.ensures) (c.self.invariant.rows (c.len-last.result - 1)).is_row.order
+contains-requires c = subst (IsInOrder c.self.inside.flat.now) (sym c.row.ensures) (c.self.invariant.0.rows (c.len-last.result - 1)).is_row.order
 
 pub returns : goal.returns
 returns c =
-    let law = whole_is_tree c.self.inside.flat.now c.self.inside.start c.self.inside.edges c.self.inside.rows c.self.inside.top c.self.inside.memo c.self.invariant in
+    let law = whole_is_tree c.self.inside.flat.now c.self.inside.start c.self.inside.edges c.self.inside.rows c.self.inside.top c.self.inside.memo c.self.invariant.0 in
     let there : Contains c.row.result.now (record { rule = c.self.inside.top; dot = 1; origin = 0 }) ↔ HasTree c.args.self.now =
     subst (λ (r : Recognizer). Contains c.row.result.now (record { rule = c.self.inside.top; dot = 1; origin = 0 }) ↔ HasTree r) c.self.view_is
     (subst (λ (l : List Item). Contains l (record { rule = c.self.inside.top; dot = 1; origin = 0 }) ↔ HasTree (recognizer c.self.inside.flat.now c.self.inside.start c.self.inside.edges c.self.inside.rows c.self.inside.memo))

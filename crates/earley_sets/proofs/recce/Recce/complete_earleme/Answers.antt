@@ -11,31 +11,34 @@ use Rattle.earley_sets.proofs.Recognizing.{kept_top, kept_sets, kept_begun, add_
 use Rattle.earley_sets.proofs.recce.Recce.complete_earleme.Goals as goal
 
 pub add_row-requires-clause-top : goal.add_row-requires-clause-top
-add_row-requires-clause-top g c = kept_top c.self.inside.flat.now c.self.inside.start c.self.inside.edges c.self.inside.rows c.self.inside.top c.self.inside.memo c.self.invariant
+add_row-requires-clause-top g c = kept_top c.self.inside.flat.now c.self.inside.start c.self.inside.edges c.self.inside.rows c.self.inside.top c.self.inside.memo c.self.invariant.0
 
 pub add_row-requires-clause-sets : goal.add_row-requires-clause-sets
-add_row-requires-clause-sets g c = kept_sets c.self.inside.flat.now c.self.inside.start c.self.inside.edges c.self.inside.rows c.self.inside.top c.self.inside.memo c.self.invariant
+add_row-requires-clause-sets g c = kept_sets c.self.inside.flat.now c.self.inside.start c.self.inside.edges c.self.inside.rows c.self.inside.top c.self.inside.memo c.self.invariant.0
 
 pub add_row-requires-clause-begun : goal.add_row-requires-clause-begun
-add_row-requires-clause-begun g c = kept_begun c.self.inside.flat.now c.self.inside.start c.self.inside.edges c.self.inside.rows c.self.inside.top c.self.inside.memo c.self.invariant
+add_row-requires-clause-begun g c = kept_begun c.self.inside.flat.now c.self.inside.start c.self.inside.edges c.self.inside.rows c.self.inside.top c.self.inside.memo c.self.invariant.0
 
 pub invariant_of-self : goal.invariant_of-self
 invariant_of-self g c =
     let v = ap (λ (r : Recognizer). length r.sets) c.self.view_is in
     let r = c.requires in
-    let s = c.self.invariant.is.some in
-    add_kept c.self.inside.flat.now c.self.inside.start c.self.inside.edges c.self.inside.rows c.add_row.new.rows c.self.inside.top c.self.inside.memo c.self.invariant c.add_row.result c.add_row.new.memo c.add_row.ensures.memo (omega arith) c.add_row.ensures.ok c.add_row.ensures.err
+    let s = c.self.invariant.0.is.some in
+    (add_kept c.self.inside.flat.now c.self.inside.start c.self.inside.edges c.self.inside.rows c.add_row.new.rows c.self.inside.top c.self.inside.memo c.self.invariant.0 c.add_row.result c.add_row.new.memo c.add_row.ensures.memo (omega arith) c.add_row.ensures.ok c.add_row.ensures.err, c.self.invariant.1)
 
 pub returns-clause-ok : goal.returns-clause-ok
 returns-clause-ok g c =
     subst (λ (r : Recognizer). OnOk c.add_row.result ((set : List Item) × (c.add_row.new.rows ≡ r.sets ++ set ∷ []) × IsListOf (InReduced r.flat (edges_of r) (top_of r) (length r.sets)) set)) c.self.view_is
-    (on_ok_weaker c.add_row.result (added_set c.self.inside.flat.now c.self.inside.start c.self.inside.edges c.self.inside.rows c.add_row.new.rows c.self.inside.top c.self.inside.memo c.self.invariant) c.add_row.ensures.ok)
+    (on_ok_weaker c.add_row.result (added_set c.self.inside.flat.now c.self.inside.start c.self.inside.edges c.self.inside.rows c.add_row.new.rows c.self.inside.top c.self.inside.memo c.self.invariant.0) c.add_row.ensures.ok)
 
 pub add_row-requires-clause-memo : goal.add_row-requires-clause-memo
-add_row-requires-clause-memo g c = c.self.invariant.memo
+add_row-requires-clause-memo g c = c.self.invariant.0.memo
 
 pub returns-clause-counted : goal.returns-clause-counted
 returns-clause-counted g c =
     subst (λ (r : Recognizer). OnOk c.add_row.result ((tried : List Link) × AllPairs (λ a b. a ≢ b) tried × ((l : Link) → Contains tried l → IsLink r.flat (edges_of r) (top_of r) (length r.sets) l) ×
     (c.add_row.new.steps + made r ≡ c.args.steps.now + length tried + length (pairs_of c.add_row.new.memo)))) c.self.view_is
-    (on_ok_weaker c.add_row.result (tried_links c.self.inside.flat.now c.self.inside.start c.self.inside.edges c.self.inside.rows c.add_row.new.rows c.self.inside.top c.self.inside.memo c.self.invariant c.add_row.new.memo c.args.steps.now c.add_row.new.steps) c.add_row.ensures.counted)
+    (on_ok_weaker c.add_row.result (tried_links c.self.inside.flat.now c.self.inside.start c.self.inside.edges c.self.inside.rows c.add_row.new.rows c.self.inside.top c.self.inside.memo c.self.invariant.0 c.add_row.new.memo c.args.steps.now c.add_row.new.steps) c.add_row.ensures.counted)
+
+pub add_row-requires-clause-heads : goal.add_row-requires-clause-heads
+add_row-requires-clause-heads g c = c.self.invariant.1

@@ -12,7 +12,7 @@ if_ok_weaker (Ok x) f p = f x p
 if_ok_weaker (Err e) f p = p
 
 pub expected-requires : goal.expected-requires
-expected-requires c = subst (IsRow c.self.inside.flat.now) (sym c.row.ensures) (c.self.invariant.rows (c.len-last.result - 1)).is_row
+expected-requires c = subst (IsRow c.self.inside.flat.now) (sym c.row.ensures) (c.self.invariant.0.rows (c.len-last.result - 1)).is_row
 
 pub returns-clause-exact : goal.returns-clause-exact
 returns-clause-exact c =
@@ -21,5 +21,5 @@ returns-clause-exact c =
     let law : (t : ℕ) → IsAwaitedTerminal c.self.inside.flat.now c.row.result.now (length c.self.inside.flat.now.symbols) t ↔ IsExpected c.args.self.now t =
     λ t. subst (λ (r : Recognizer). IsAwaitedTerminal c.self.inside.flat.now c.row.result.now (length c.self.inside.flat.now.symbols) t ↔ IsExpected r t) c.self.view_is
     (subst (λ (l : List Item). IsAwaitedTerminal c.self.inside.flat.now l (length c.self.inside.flat.now.symbols) t ↔ IsExpected (recognizer c.self.inside.flat.now c.self.inside.start c.self.inside.edges c.self.inside.rows c.self.inside.memo) t) (sym row_is)
-    (listed_expected c.self.inside.flat.now c.self.inside.start c.self.inside.edges c.self.inside.rows c.self.inside.top c.self.inside.memo c.self.invariant t)) in
+    (listed_expected c.self.inside.flat.now c.self.inside.start c.self.inside.edges c.self.inside.rows c.self.inside.top c.self.inside.memo c.self.invariant.0 t)) in
     if_ok_weaker c.expected.result (λ ts exact t. ((λ h. (law t).0 ((exact t).0 h)), (λ h. (exact t).1 ((law t).1 h)))) c.expected.ensures.exact

@@ -8,11 +8,11 @@ use Rattle.earley_sets.proofs.Recognizing.{awaited_expected, recognizer}
 use Rattle.earley_sets.proofs.recce.Recce.is_expected.Goals as goal
 
 pub is_awaited-requires : goal.is_awaited-requires
-is_awaited-requires c = subst (IsRow c.self.inside.flat.now) (sym c.row.ensures) (c.self.invariant.rows (c.len-last.result - 1)).is_row
+is_awaited-requires c = subst (IsRow c.self.inside.flat.now) (sym c.row.ensures) (c.self.invariant.0.rows (c.len-last.result - 1)).is_row
 
 pub returns-in-Some : goal.returns-in-Some
 returns-in-Some c =
-    let law = awaited_expected c.self.inside.flat.now c.self.inside.start c.self.inside.edges c.self.inside.rows c.self.inside.top c.self.inside.memo c.self.invariant c.in-Some.symbol c.args.t c.in-Some.ensures.some in
+    let law = awaited_expected c.self.inside.flat.now c.self.inside.start c.self.inside.edges c.self.inside.rows c.self.inside.top c.self.inside.memo c.self.invariant.0 c.in-Some.symbol c.args.t c.in-Some.ensures.some in
     let there : IsAwaited c.self.inside.flat.now c.row.result.now c.in-Some.symbol ↔ IsExpected c.args.self.now c.args.t =
     subst (λ (r : Recognizer). IsAwaited c.self.inside.flat.now c.row.result.now c.in-Some.symbol ↔ IsExpected r c.args.t) c.self.view_is
     (subst (λ (l : List Item). IsAwaited c.self.inside.flat.now l c.in-Some.symbol ↔ IsExpected (recognizer c.self.inside.flat.now c.self.inside.start c.self.inside.edges c.self.inside.rows c.self.inside.memo) c.args.t)

@@ -8,6 +8,8 @@ add_first-requires-clause-top c = top_is_top c.args.flat.now c.args.start c.top-
 
 pub invariant_of-result : goal.invariant_of-result
 invariant_of-result c =
-    let (kept, rows, indexed, exact) = c.in_ok-add_first.ensures.ok in
-    first_kept c.args.flat.now c.args.start c.new-edges.result c.add_first.new.rows c.top-top.result kept c.add_first.new.memo c.new-edges.ensures rows c.top-top.ensures.flat c.requires
-    (sym (got_at c.args.flat.now.tops c.args.start c.top-top.result 0 (sym c.top-top.ensures.value)).1) indexed exact c.add_first.ensures.memo
+    let (kept, rows, indexed, exact) = c.in_ok-add_first.ensures.ok in (
+      first_kept c.args.flat.now c.args.start c.new-edges.result c.add_first.new.rows c.top-top.result kept c.add_first.new.memo c.new-edges.ensures rows c.top-top.ensures.flat c.requires
+          (sym (got_at c.args.flat.now.tops c.args.start c.top-top.result 0 (sym c.top-top.ensures.value)).1) indexed exact c.add_first.ensures.memo,
+      c.in_ok-heads.ensures,
+    )

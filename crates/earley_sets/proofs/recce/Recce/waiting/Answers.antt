@@ -6,7 +6,7 @@ use Rattle.earley_sets.specs.Recognizer.{Recognizer, set_at}
 use Rattle.earley_sets.proofs.recce.Recce.waiting.Goals as goal
 
 pub waiting-requires : goal.waiting-requires
-waiting-requires c = subst (IsRow c.self.inside.flat.now) (sym c.row.ensures) (c.self.invariant.rows c.args.j).is_row
+waiting-requires c = subst (IsRow c.self.inside.flat.now) (sym c.row.ensures) (c.self.invariant.0.rows c.args.j).is_row
 
 pub returns : goal.returns
 returns c item =
