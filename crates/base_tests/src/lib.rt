@@ -8,8 +8,6 @@ mod outside;
 #[cfg(test)]
 mod plays;
 #[cfg(test)]
-mod read_values;
-#[cfg(test)]
 mod tellers;
 #[cfg(test)]
 mod values;

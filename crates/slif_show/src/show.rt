@@ -4,7 +4,7 @@ use crate::words::Form;
 use slif_base::{Sink, write_all};
 use std::alloc::Global;
 use tree_text::{
-    Part, ReadRefusal, first_difference, nodes_of, push_difference, push_dot, push_indented,
+    Difference, Part, ReadRefusal, first_difference, nodes_of, push_difference, push_dot, push_indented,
     push_json, push_svg, read_value,
 };
 
@@ -104,16 +104,23 @@ fn show_each<K: Sink>(
     Ok(())
 }
 
-fn show_first<K: Sink>(
+/// Writes all trees in one picture.
+fn show_all<K: Sink>(
     alloc: Global,
     form: Form,
     lines: &mut Lines<'_>,
     sink: &mut K,
 ) -> Result<(), Stop> {
-    let Some(parts) = lines.next_value(alloc)? else {
-        return Err(Stop::NoTree);
-    };
-    let nodes = nodes_of(alloc, &parts)?;
+    let mut all = Vec::new(alloc);
+    for _ in 0..u64::MAX {
+        let Some(parts) = lines.next_value(alloc)? else {
+            break;
+        };
+        for part in parts {
+            all.push(part)?;
+        }
+    }
+    let nodes = nodes_of(alloc, &all)?;
     let mut out = String::new(alloc);
     if let Form::Dot = form {
         push_dot(alloc, &nodes, &mut out)?;
@@ -139,11 +146,9 @@ fn show_difference<K: Sink>(
     let other = nodes_of(alloc, &other)?;
     let mut out = String::new(alloc);
     match first_difference(&one, &other) {
-        Some(at) => match (one.get(at), other.get(at)) {
-            (Some(a), Some(b)) => push_difference(a, b, &mut out)?,
-            _ => {}
-        },
-        None => out.push_str("the same\n")?,
+        Difference::Same => out.push_str("the same\n")?,
+        Difference::Within(at) => push_difference(&one, &other, at, &mut out)?,
+        Difference::Apart => out.push_str("nothing in common\n")?,
     }
     write_all(sink, out.as_bytes())?;
     Ok(())
@@ -157,7 +162,7 @@ pub fn show<K: Sink>(alloc: Global, form: Form, input: &[u8], sink: &mut K) -> R
     };
     match form {
         Form::Indent | Form::Json => show_each(alloc, form, &mut lines, sink),
-        Form::Dot | Form::Svg => show_first(alloc, form, &mut lines, sink),
+        Form::Dot | Form::Svg => show_all(alloc, form, &mut lines, sink),
         Form::Difference => show_difference(alloc, &mut lines, sink),
     }
 }

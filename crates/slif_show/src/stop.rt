@@ -11,8 +11,6 @@ pub enum Stop {
     NotValue { line: usize, column: usize },
     #[error("there are no two trees")]
     NoTwoTrees,
-    #[error("there is no tree")]
-    NoTree,
     #[error("read fault")]
     ReadFault,
     #[error("write fault")]
@@ -24,7 +22,7 @@ pub enum Stop {
 impl Stop {
     pub fn status(self) -> u8 {
         match self {
-            Stop::NotValue { .. } | Stop::NoTwoTrees | Stop::NoTree => 1,
+            Stop::NotValue { .. } | Stop::NoTwoTrees => 1,
             Stop::Usage => 2,
             Stop::ReadFault | Stop::WriteFault => 4,
             Stop::NoMemory => 5,

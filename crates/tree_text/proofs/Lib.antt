@@ -4,3 +4,4 @@ pub mod Numbers
 pub mod Quoted
 pub mod Reading
 pub mod Words
+pub mod Differences

@@ -1,85 +1,89 @@
 // Where two trees differ.
-use crate::{Label, Node};
-use std::alloc::AllocError;
-use std::fmt::Write;
+ghost use Rattle.std.specs.Prelude.{◌≡◌, ◌≤◌, ◌<◌, length, MatchBool, MatchOption};
+ghost use Rattle.tree_text.specs.Differences.{depth_at, AreSame, DifferFirst, IsAroundIn, IsInBoth, IsSmallest, AreApart, IsDifference};
 
-fn name_of<'p>(label: Label<'p>) -> Option<&'p str> {
-    match label {
-        Label::Rule { name, .. } | Label::Token { name, .. } | Label::Nulled { name } => Some(name),
-        _ => None,
-    }
+use crate::Node;
+use crate::looks::{has_same_face, looks_same};
+
+/// Where two trees first differ.
+#[derive(Clone, Copy, Debug, PartialEq, Eq)]
+pub enum Difference {
+    /// They are the same.
+    Same,
+    /// In the node of this place, the smallest that both have around the first node that is not the same.
+    Within(usize),
+    /// No node that both have is around that one.
+    Apart,
 }
 
-/// How many nodes at the front are the same in both trees.
-fn same_count(one: &[Node<'_>], other: &[Node<'_>]) -> usize {
-    let mut count = 0usize;
-    for (a, b) in one.iter().zip(other) {
-        if a.label != b.label || a.depth != b.depth {
-            break;
+/// The first place where two trees differ.
+fn first_place(one: &[Node<'_>], other: &[Node<'_>]) -> Option<usize>
+    ensures { MatchOption result (AreSame one.now other.now) (λ first. DifferFirst one.now other.now first × (first ≤ length one.now) × (first ≤ length other.now)) }
+{
+    let mut count = 0;
+    while count < one.len() && count < other.len() {
+        if !looks_same(&one[count], &other[count]) {
+            return Some(count);
         }
-        count = count.saturating_add(1);
+        count += 1;
     }
-    count
-}
-
-/// Whether two nodes have one name, or none, and as many tokens.
-fn is_over_same(one: &Node<'_>, other: &Node<'_>) -> bool {
-    one.depth == other.depth
-        && one.tokens == other.tokens
-        && name_of(one.label) == name_of(other.label)
-}
-
-/// The node above the first ones that differ.
-fn above_both(one: Option<&Node<'_>>, other: Option<&Node<'_>>) -> Option<usize> {
-    match (one, other) {
-        (Some(a), Some(b)) if b.depth < a.depth => b.above,
-        (Some(a), _) => a.above,
-        (None, Some(b)) => b.above,
-        (None, None) => None,
+    if count < one.len() || count < other.len() {
+        Some(count)
+    } else {
+        None
     }
 }
 
-/// The place of the deepest node of the first ones that differ which has the same name and the same tokens in both trees, and 0 if there
-/// is none.
-pub fn first_difference(one: &[Node<'_>], other: &[Node<'_>]) -> Option<usize> {
-    let count = same_count(one, other);
-    if count == one.len() && count == other.len() {
-        return None;
+fn is_in_both(one: &[Node<'_>], other: &[Node<'_>], i: usize) -> bool
+    ensures { MatchBool result (IsInBoth one.now other.now i) (¬ (IsInBoth one.now other.now i)) }
+{
+    if i >= one.len() || i >= other.len() {
+        return false;
     }
-    let mut at = count;
-    for _ in 0..=count {
-        match (one.get(at), other.get(at)) {
-            (Some(a), Some(b)) if is_over_same(a, b) => return Some(at),
-            (a, b) => at = above_both(a, b).unwrap_or(0),
+    has_same_face(&one[i], &other[i])
+}
+
+/// The depth of a node, and 0 where there is none.
+fn depth_of(nodes: &[Node<'_>], i: usize) -> usize
+    ensures { result ≡ depth_at nodes.now i }
+{
+    if i < nodes.len() { nodes[i].depth } else { 0 }
+}
+
+/// The smallest node of both trees around the first place where they differ.
+fn smallest_around(one: &[Node<'_>], other: &[Node<'_>], first: usize) -> Option<usize>
+    requires differ { DifferFirst one.now other.now first }
+    requires there { first ≤ length one.now }
+    ensures { MatchOption result (AreApart one.now other.now) (λ at. IsSmallest one.now other.now at) }
+{
+    if is_in_both(one, other, first) {
+        return Some(first);
+    }
+    // Nodes above the first place are less deep than all behind them.
+    let mut limit = depth_of(one, first).max(depth_of(other, first));
+    let mut left = first;
+    while left > 0 {
+        left -= 1;
+        let depth = depth_of(one, left);
+        if depth < limit {
+            if is_in_both(one, other, left) {
+                return Some(left);
+            }
+            limit = depth;
         }
     }
-    Some(0)
+    None
 }
 
-fn push_rule(label: Label<'_>, out: &mut String) -> Result<(), AllocError> {
-    match label {
-        Label::Rule { rule, .. } => write!(out, "rule {rule}"),
-        _ => out.push_str("no rule"),
+/// Where two trees first differ.
+pub fn first_difference(one: &[Node<'_>], other: &[Node<'_>]) -> Difference
+    ensures { IsDifference one.now other.now result }
+{
+    match first_place(one, other) {
+        Some(first) => match smallest_around(one, other, first) {
+            Some(at) => Difference::Within(at),
+            None => Difference::Apart,
+        },
+        None => Difference::Same,
     }
-}
-
-/// Appends what two nodes are: their name, their rules, and their tokens.
-pub fn push_difference(
-    one: &Node<'_>,
-    other: &Node<'_>,
-    out: &mut String,
-) -> Result<(), AllocError> {
-    out.push_str(name_of(one.label).unwrap_or("a list"))?;
-    out.push_str(": ")?;
-    push_rule(one.label, out)?;
-    out.push_str(" and ")?;
-    push_rule(other.label, out)?;
-    let before = one.before;
-    let tokens = one.tokens;
-    write!(out, ", tokens before it: {before}, tokens in it: {tokens}")?;
-    if other.tokens != tokens {
-        let others = other.tokens;
-        write!(out, " and {others}")?;
-    }
-    out.push('\n')
 }

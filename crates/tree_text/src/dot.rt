@@ -3,7 +3,7 @@ use crate::{Node, push_label};
 use std::alloc::{AllocError, Global};
 use std::fmt::Write;
 
-/// Appends a graph with a box for each node.
+/// Appends a graph with a box for each node of the trees.
 pub fn push_dot(alloc: Global, nodes: &[Node<'_>], out: &mut String) -> Result<(), AllocError> {
     out.push_str(
         "digraph tree {\n  ordering=out;\n  node [shape=box, fontname=\"monospace\"];\n  edge [arrowhead=none];\n",

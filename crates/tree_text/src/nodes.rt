@@ -83,6 +83,7 @@ struct Growing<'p> {
 }
 
 impl<'p> Growing<'p> {
+    /// Appends a node of this label under the one that is open.
     fn add(&mut self, label: Label<'p>) -> Result<(), AllocError> {
         let node = self.nodes.len();
         let above = self.under_open(node);
@@ -129,7 +130,7 @@ impl<'p> Growing<'p> {
     }
 }
 
-/// The nodes of a value of these parts. A list of a name, a number and more is a rule's node, one of a name and a text is a token's, and
+/// The nodes of the values of these parts, one after another. A list of a name, a number and more is a rule's node, one of a name and a text is a token's, and
 /// one of a name alone is a nulled symbol's; any other value is shown as it is.
 pub fn nodes_of(alloc: Global, parts: &[Part]) -> Result<Vec<Node<'_>>, AllocError> {
     let mut growing = Growing {

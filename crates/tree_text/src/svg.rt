@@ -3,12 +3,14 @@ use crate::{Node, push_label};
 use std::alloc::{AllocError, Global};
 use std::fmt::Write;
 
-// Sizes in pixels: of a character, around a label, between neighbours, at the picture's edge, of a box and of a row.
+// Sizes in pixels: of a character, around a label, between neighbours, between trees, at the picture's edge, of a box and of a row.
 const CHARACTER: usize = 9;
 
 const PADDING: usize = 14;
 
 const GAP: usize = 12;
+
+const BETWEEN: usize = 60;
 
 const MARGIN: usize = 10;
 
@@ -80,8 +82,7 @@ fn widen(nodes: &[Node<'_>], spots: &mut [Spot]) {
 }
 
 /// Takes the next room for a spot of this width below another one.
-fn take_room(above: Option<usize>, width: usize, spots: &mut [Spot]) -> usize {
-    let Some(above) = above else { return MARGIN };
+fn take_room(above: usize, width: usize, spots: &mut [Spot]) -> usize {
     let Some(spot) = spots.get_mut(above) else {
         return MARGIN;
     };
@@ -90,17 +91,26 @@ fn take_room(above: Option<usize>, width: usize, spots: &mut [Spot]) -> usize {
     left
 }
 
-/// Puts each spot to the right of the one before it, and what is below a spot under its middle.
-fn place(nodes: &[Node<'_>], spots: &mut [Spot]) {
+/// Puts each spot to the right of the one before it, and what is below a spot under its middle. Gives where the last tree ends.
+fn place(nodes: &[Node<'_>], spots: &mut [Spot]) -> usize {
+    let mut end = 0usize;
     for (i, node) in nodes.iter().enumerate() {
-        let Some(spot) = spots.get(i) else { return };
+        let Some(spot) = spots.get(i) else { return end };
         let width = spot.width;
-        let left = take_room(node.above, width, spots);
+        let left = match node.above {
+            Some(above) => take_room(above, width, spots),
+            None if end == 0 => MARGIN,
+            None => end.saturating_add(BETWEEN),
+        };
+        if node.above.is_none() {
+            end = left.saturating_add(width);
+        }
         if let Some(spot) = spots.get_mut(i) {
             spot.left = left;
             spot.next = left.saturating_add(width.saturating_sub(spot.below) / 2);
         }
     }
+    end
 }
 
 fn push_escaped(text: &str, out: &mut String) -> Result<(), AllocError> {
@@ -158,16 +168,12 @@ fn push_lines(nodes: &[Node<'_>], spots: &[Spot], out: &mut String) -> Result<()
     Ok(())
 }
 
-/// Appends a picture: a box for each node, in rows by depth, the leaves in their order.
+/// Appends a picture: a box for each node, in rows by depth, the leaves in their order, and one tree beside the other.
 pub fn push_svg(alloc: Global, nodes: &[Node<'_>], out: &mut String) -> Result<(), AllocError> {
     let mut spots = spots_of(alloc, nodes)?;
     widen(nodes, &mut spots);
-    place(nodes, &mut spots);
-    let mut width = 2 * MARGIN;
-    if let Some(root) = spots.first() {
-        width = width.saturating_add(root.width);
-    }
-    let mut height = 0;
+    let width = place(nodes, &mut spots).saturating_add(MARGIN);
+    let mut height = 0usize;
     for node in nodes {
         height = height.max(row_top(node).saturating_add(BOX + MARGIN));
     }
