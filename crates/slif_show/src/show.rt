@@ -4,8 +4,8 @@ use crate::words::Form;
 use slif_base::{Sink, write_all};
 use std::alloc::Global;
 use tree_text::{
-    Difference, Part, ReadRefusal, first_difference, nodes_of, push_difference, push_dot, push_indented,
-    push_json, push_svg, read_value,
+    Difference, Part, ReadRefusal, first_difference, nodes_of, push_difference, push_dot,
+    push_indented, push_json, push_svg, read_value,
 };
 
 /// What is left of the lines.

@@ -1,11 +1,11 @@
 -- Two trees, place by place, and the nodes around the first place where they differ.
-use Rattle.std.proofs.Common.{◌≡◌, ◌≢◌, ℕ, ◌<◌, ◌≤◌, ◌+◌, List, length, Option, Some, None, refl, sym, ap, ◌∙◌, arith, ◌⊎◌, inl, inr, subst, slice_get, get_or, Bool, true, false, MatchBool, max}
+use Rattle.std.proofs.Common.{◌≡◌, ◌≢◌, ℕ, ◌<◌, ◌≤◌, ◌+◌, List, length, Some, None, sym, ap, ◌∙◌, arith, ◌⊎◌, inl, inr, subst, slice_get, get_or, Bool, true, false, MatchBool, max}
 use Rattle.std.specs.Option.{option_map}
 use Rattle.std.proofs.lemmas.Bool.{cases_lt, cases_eq}
 use Rattle.std.proofs.lemmas.Option.{slice_get_past, slice_get-get_or}
 use Rattle.tree_text.specs.declared.nodes.Node.{Node}
-use Rattle.tree_text.specs.Looks.{Look, look_of, Face, face_of}
-use Rattle.tree_text.specs.Differences.{look_at, depth_in, depth_at, AreSame, DifferFirst, IsAround, IsAroundIn, face_at, IsInBoth, IsSmallest, AreApart}
+use Rattle.tree_text.specs.Looks.{look_of, Face, face_of}
+use Rattle.tree_text.specs.Differences.{look_at, depth_in, depth_at, DifferFirst, IsAround, IsAroundIn, face_at, IsInBoth, IsSmallest, AreApart}
 
 -- what stands at a place
 look_past : (nodes : List Node) (i : ℕ) → length nodes ≤ i → look_at nodes i ≡ None
@@ -54,14 +54,14 @@ limit_begin one other first limit e = record {
 pub limit_kept : (one other : List Node) (first left more limit : ℕ) → more ≡ left + 1 → Limits one other first more limit → limit ≤ depth_at one left → Limits one other first left limit
 limit_kept one other first left more limit e limits deep = record {
   up = λ d less.
-    let below = limits.up d less in
-    record {
-      behind = λ k low high. elim (cases_eq k left) [
-        | inl same ↦ subst (λ n. d < depth_at one n) (sym same) (omega arith)
-        | inr other ↦ below.behind k (omega arith) high
-      ];
-      end = below.end;
-    };
+      let below = limits.up d less in
+      record {
+        behind = λ k low high. elim (cases_eq k left) [
+          | inl same ↦ subst (λ n. d < depth_at one n) (sym same) (omega arith)
+          | inr other ↦ below.behind k (omega arith) high
+        ];
+        end = below.end;
+      };
   down = λ d below. limits.down d (record { behind = λ k low high. below.behind k (omega arith) high; end = below.end });
 }
 
@@ -69,14 +69,14 @@ limit_kept one other first left more limit e limits deep = record {
 pub limit_lower : (one other : List Node) (first left more limit : ℕ) → more ≡ left + 1 → more ≤ first → Limits one other first more limit → depth_at one left < limit → Limits one other first left (depth_at one left)
 limit_lower one other first left more limit e there limits less = record {
   up = λ d lower.
-    let below = limits.up d (omega arith) in
-    record {
-      behind = λ k low high. elim (cases_eq k left) [
-        | inl same ↦ subst (λ n. d < depth_at one n) (sym same) lower
-        | inr other ↦ below.behind k (omega arith) high
-      ];
-      end = below.end;
-    };
+      let below = limits.up d (omega arith) in
+      record {
+        behind = λ k low high. elim (cases_eq k left) [
+          | inl same ↦ subst (λ n. d < depth_at one n) (sym same) lower
+          | inr other ↦ below.behind k (omega arith) high
+        ];
+        end = below.end;
+      };
   down = λ d below. below.behind left (omega arith) (omega arith);
 }
 
@@ -110,9 +110,9 @@ below_around one other first i more e differ less around =
     elim around [
       | inl a ↦ record { behind = λ k low high. a.deeper k (omega arith) (omega arith); end = inl (a.deeper first less (omega arith)) }
       | inr a ↦ record {
-          behind = λ k low high. let deep = same_depth one other first k differ high in let b = a.deeper k (omega arith) (omega arith) in omega arith;
-          end = inr (let b = a.deeper first less (omega arith) in omega arith);
-        }
+        behind = λ k low high. let deep = same_depth one other first k differ high in let b = a.deeper k (omega arith) (omega arith) in omega arith;
+        end = inr (let b = a.deeper first less (omega arith) in omega arith);
+      }
     ]
 
 up_to_first : (one other : List Node) (i first : ℕ) → IsAroundIn one other i first → i ≤ first
@@ -181,4 +181,3 @@ pub faces_told : (one other : List Node) (i : ℕ) (told : Bool) (d e : Node) �
     MatchBool told (IsInBoth one other i) (¬ (IsInBoth one other i))
 faces_told one other i true d e a b same = in_both one other i (get_or one i d) (get_or other i e) (slice_get-get_or one i d a) (slice_get-get_or other i e b) same
 faces_told one other i false d e a b differ = not_in_both one other i (get_or one i d) (get_or other i e) (slice_get-get_or one i d a) (slice_get-get_or other i e b) differ
-

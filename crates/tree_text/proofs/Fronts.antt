@@ -1,10 +1,10 @@
 -- The part that a value begins with is told by the first byte of its text.
-use Rattle.std.proofs.Common.{◌≡◌, ◌≢◌, ℕ, ◌<◌, ◌≤◌, ◌^◌, List, [], ◌∷◌, ◌++◌, length, get_or, codes, refl, sym, ap, ◌∙◌, arith, append_assoc, length-append, subst, IsUtf8, chars}
+use Rattle.std.proofs.Common.{◌≡◌, ◌≢◌, ℕ, ◌<◌, List, [], ◌∷◌, ◌++◌, length, get_or, codes, refl, sym, ap, ◌∙◌, arith, append_assoc, length-append, subst, IsUtf8, chars}
 use Rattle.std.specs.List.{flat_map}
 use Rattle.std.specs.Int.{IsInRange}
 use Rattle.std.proofs.lemmas.Str.{encodes-chars}
-use Rattle.grammar_model.specs.Values.{Value, Undefined, Number, Text, ListOf}
-use Rattle.grammar_model.specs.Text.{escaped, text_of}
+use Rattle.grammar_model.specs.Values.{Undefined, Number, Text, ListOf}
+use Rattle.grammar_model.specs.Text.{escaped}
 use Rattle.tree_text.specs.Parts.{Part, Opens, Closes, Atom}
 use Rattle.tree_text.specs.Fronts.{NeverBegins, quoted, IsQuoted, IsNumber, HasNoNumber, BeginsWith, IsFrontOf, RefusesQuoted, RefusesFront}
 use Rattle.tree_text.specs.declared.part.ReadRefusal.{ReadRefusal}

@@ -1,6 +1,5 @@
 -- How far the text of a value is read: whatever values come next make one value of it, and whatever value has the text is made so.
-use Rattle.std.proofs.Common.{◌≡◌, ◌≢◌, ℕ, zero, suc, ◌+◌, ◌-◌, ◌<◌, ◌≤◌, ◌==◌, true, false, List, [], ◌∷◌, ◌++◌, length, get_or, codes, refl, sym, ap, ◌∙◌, arith, append_assoc, append-nil, subst, map}
-use Rattle.std.specs.Int.{IsInRange}
+use Rattle.std.proofs.Common.{◌≡◌, ◌≢◌, ℕ, ◌+◌, ◌<◌, ◌==◌, true, false, List, [], ◌∷◌, ◌++◌, length, get_or, refl, sym, ap, ◌∙◌, arith, append_assoc, append-nil, subst, map}
 use Rattle.grammar_model.specs.Values.{Value, Values, Undefined, Number, Text, ListOf, NoValue, MoreValues}
 use Rattle.grammar_model.specs.Text.{text_of, texts_of, texts_after}
 use Rattle.tree_text.specs.declared.read.Place.{Place}
@@ -11,7 +10,7 @@ use Rattle.std.proofs.lemmas.List.{map-append}
 use Rattle.tree_text.specs.declared.part.Part.{Part as PartCode}
 use Rattle.tree_text.specs.declared.part.Part.TheVariants.{Undefined as UndefinedCode, Number as NumberCode, Text as TextCode, Open as OpenCode, Close as CloseCode}
 use Rattle.tree_text.specs.Parts.{Part, part_of, Opens, Closes, Atom, parts_of, parts_of_all, IsHeld, AreHeld}
-use Rattle.tree_text.specs.Fronts.{NeverBegins, IsNumberEnd, IsAtom, CanFollow, BeginsWith, IsFrontOf, CanEnd, RefusesFront}
+use Rattle.tree_text.specs.Fronts.{NeverBegins, IsNumberEnd, IsAtom, BeginsWith, IsFrontOf, CanEnd, RefusesFront}
 use Rattle.tree_text.specs.Reading.{IsRead, IsNoText, RefusesText}
 use Rattle.tree_text.specs.declared.part.ReadRefusal.{ReadRefusal}
 use Rattle.tree_text.specs.declared.part.ReadRefusal.TheVariants.{NotValue, NoMemory}

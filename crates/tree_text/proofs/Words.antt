@@ -1,5 +1,5 @@
 -- A word at the front of a text, character by character.
-use Rattle.std.proofs.Common.{◌≡◌, ℕ, ◌<◌, List, [], ◌∷◌, ◌++◌, refl, sym, ap, ◌∙◌, Option, Some, None, MatchOption, arith, codes}
+use Rattle.std.proofs.Common.{◌≡◌, ℕ, ◌<◌, List, [], ◌∷◌, ◌++◌, sym, ap, ◌∙◌, Option, Some, None, MatchOption, arith, codes}
 use denote.Bor.{Bor}
 use Rattle.std.specs.Char.{encode_utf8}
 use Rattle.tree_text.specs.Fronts.{NeverBegins}

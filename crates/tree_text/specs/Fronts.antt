@@ -1,5 +1,5 @@
 -- What a text begins with: a character as it stands inside quotes, a number, or the part that a value begins with.
-use Rattle.std.specs.Prelude.{◌≡◌, ◌≢◌, ℕ, ◌<◌, ◌≤◌, ◌^◌, List, [], ◌∷◌, ◌++◌, slice_index, decimal, Bool, not, ◌==◌, ◌&&◌, ◌||◌}
+use Rattle.std.specs.Prelude.{◌≡◌, ◌≢◌, ℕ, ◌<◌, ◌^◌, List, [], ◌∷◌, ◌++◌, slice_index, decimal, Bool, not, ◌==◌, ◌&&◌, ◌||◌}
 use Rattle.std.specs.List.{flat_map}
 use Rattle.std.specs.Int.{IsInRange}
 use Rattle.tree_text.specs.Parts.{Part, Opens, Closes, Atom, IsHeld}

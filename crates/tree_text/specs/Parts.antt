@@ -1,5 +1,5 @@
 -- The parts of a value, in the order of its text: what is no list is one part, and a list's items stand between two parts of its own.
-use Rattle.std.specs.Prelude.{ℕ, ◌<◌, ◌^◌, List, [], ◌∷◌, ◌++◌, IsUtf8}
+use Rattle.std.specs.Prelude.{◌<◌, ◌^◌, List, [], ◌∷◌, ◌++◌, IsUtf8}
 use Rattle.std.specs.String.{string_bytes}
 use Rattle.tree_text.specs.declared.part.Part.{Part as PartCode}
 use Rattle.tree_text.specs.declared.part.Part.TheVariants.{Undefined as UndefinedCode, Number as NumberCode, Text as TextCode, Open as OpenCode, Close as CloseCode}

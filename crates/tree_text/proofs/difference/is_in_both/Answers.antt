@@ -1,5 +1,5 @@
-use Rattle.std.proofs.Common.{arith, inl, inr}
-use Rattle.tree_text.proofs.Differences.{faces_told, not_there}
+use Rattle.std.proofs.Common.{arith}
+use Rattle.tree_text.proofs.Differences.{faces_told}
 use Rattle.tree_text.proofs.difference.is_in_both.Goals as goal
 
 pub returns : goal.returns

@@ -1,4 +1,4 @@
-use Rattle.std.proofs.Common.{◌+◌, ◌-◌, ◌≡◌, ◌<◌, ◌≤◌, arith, sym, ◌∙◌}
+use Rattle.std.proofs.Common.{◌+◌, ◌-◌, ◌≡◌, ◌<◌, ◌≤◌, arith}
 use Rattle.tree_text.specs.Differences.{depth_at}
 use Rattle.tree_text.proofs.Differences.{limit_kept, limit_lower, none_deep, none_not, smallest_at}
 use Rattle.tree_text.proofs.difference.smallest_around.Goals as goal
