@@ -20,17 +20,19 @@ fn escapes_are_read(rt: HostRuntime) -> Result<(), Fail> {
 #[test]
 fn lists_are_read(rt: HostRuntime) -> Result<(), Fail> {
     let parts = read_value(rt.alloc(), "[18446744073709551615,undef,[]]")?;
-    assert!(rt; matches!(
-        parts.as_slice(),
-        [
-            Part::Open,
-            Part::Number(18_446_744_073_709_551_615),
-            Part::Undefined,
-            Part::Open,
-            Part::Close,
-            Part::Close,
-        ]
-    ));
+    assert!(rt;
+        matches!(
+            parts.as_slice(),
+            [
+                Part::Open,
+                Part::Number(18_446_744_073_709_551_615),
+                Part::Undefined,
+                Part::Open,
+                Part::Close,
+                Part::Close,
+            ]
+        )
+    );
     Ok(())
 }
 
