@@ -1,7 +1,7 @@
 #!/usr/bin/env python3
-"""Runs each example of docs/LANGUAGE.md with the built program, and compares what it writes.
+"""Runs each example of docs/LANGUAGE.md with the built programs, and compares what it writes.
 
-    bench/examples.py [--binary crates/slif/out/slif] [--page docs/LANGUAGE.md]
+    bench/examples.py [--binary crates/slif/out/slif] [--show crates/slif_show/out/slif_show] [--page docs/LANGUAGE.md]
 
 An indented block whose first line is a comment with a name, as `# sum.slif`, is a file of that name. A line of a block that begins with
 `$` is a command, and the lines below it are all that it writes, to standard output or standard error. The files are made in a folder of
@@ -70,12 +70,14 @@ def outputs_told(commands):
 def main():
     options = argparse.ArgumentParser()
     options.add_argument("--binary", default=str(ROOT / "crates/slif/out/slif"))
+    options.add_argument("--show", default=str(ROOT / "crates/slif_show/out/slif_show"))
     options.add_argument("--page", type=pathlib.Path, default=ROOT / "docs/LANGUAGE.md")
     options = options.parse_args()
     files, commands = read(options.page.read_text())
     failed = 0
     with tempfile.TemporaryDirectory() as folder, tempfile.TemporaryDirectory() as tools:
         os.symlink(pathlib.Path(options.binary).resolve(), pathlib.Path(tools) / "slif")
+        os.symlink(pathlib.Path(options.show).resolve(), pathlib.Path(tools) / "slif_show")
         os.symlink(ROOT / "examples", pathlib.Path(folder) / "examples")
         for name, text in files.items():
             (pathlib.Path(folder) / name).write_text(text)

@@ -1,0 +1,58 @@
+// Why the program ended early, and its status then.
+use slif_base::{ReadRefusal, WriteFault};
+use std::alloc::{AllocError, AllocFailed};
+use thiserror::Error;
+
+#[derive(Clone, Copy, Debug, PartialEq, Eq, Error)]
+pub enum Stop {
+    #[error("usage: slif_show [--json | --dot | --svg | --diff]")]
+    Usage,
+    #[error("line {line} column {column}: not a value")]
+    NotValue { line: usize, column: usize },
+    #[error("there are no two trees")]
+    NoTwoTrees,
+    #[error("read fault")]
+    ReadFault,
+    #[error("write fault")]
+    WriteFault,
+    #[error("out of memory")]
+    NoMemory,
+}
+
+impl Stop {
+    pub fn status(self) -> u8 {
+        match self {
+            Stop::NotValue { .. } | Stop::NoTwoTrees => 1,
+            Stop::Usage => 2,
+            Stop::ReadFault | Stop::WriteFault => 4,
+            Stop::NoMemory => 5,
+        }
+    }
+}
+
+impl From<AllocError> for Stop {
+    fn from(_error: AllocError) -> Stop {
+        Stop::NoMemory
+    }
+}
+
+impl<T: Drop> From<AllocFailed<T>> for Stop {
+    fn from(_error: AllocFailed<T>) -> Stop {
+        Stop::NoMemory
+    }
+}
+
+impl From<WriteFault> for Stop {
+    fn from(_fault: WriteFault) -> Stop {
+        Stop::WriteFault
+    }
+}
+
+impl From<ReadRefusal> for Stop {
+    fn from(refusal: ReadRefusal) -> Stop {
+        match refusal {
+            ReadRefusal::ReadFault => Stop::ReadFault,
+            ReadRefusal::TooLarge | ReadRefusal::NoMemory => Stop::NoMemory,
+        }
+    }
+}

@@ -1,0 +1,5 @@
+pub mod Parts
+pub mod Fronts
+pub mod Reading
+pub mod Looks
+pub mod Differences
