@@ -166,6 +166,7 @@ impl<'a> Forest<'a> {
             keys: IndexSet::new(alloc),
             alternatives: SmallVec::new(alloc),
             wholes: Vec::new(alloc),
+            lasts: Vec::new(alloc),
         };
         let mut work = Work::new(alloc);
         let root = begin(recce, &mut found.keys)?;
