@@ -19,7 +19,7 @@ use Rattle.bocage.specs.declared.rows.LastRow.TheVariants as row
 use Rattle.bocage.specs.declared.walk.Known.{Known}
 use Rattle.bocage.specs.declared.walk.Found.{Found}
 use Rattle.bocage.specs.Rows.{between, last_of, alternative_of, IsLastWithin}
-use Rattle.bocage.specs.Walk.{bare, seen, seen_by, GrowsBy, IsNew, AreListed, Lists, is_high, whole_keys, whole_keys_by, AreNumbers, AddsWholes}
+use Rattle.bocage.specs.Walk.{bare, seen, seen_by, GrowsBy, IsNew, AreNoted, AreListed, Lists, is_high, whole_keys, whole_keys_by, AreNumbers, AddsWholes}
 use Rattle.recognizer_model.specs.Flat.{FlatGrammar}
 use Rattle.bocage.specs.declared.parts.Part.{Part}
 
@@ -183,9 +183,9 @@ module _ (w : Grammar) (ranking : Ranking) (r : Recognizer) (high : Bool) (front
   }
 
 module _ (k : Known) (front : Item) (symbol : ℕ) where
-  pub lists_none : (D : ℕ → Type 0) (t : Found) → ((m : ℕ) → D m → Contains (set_at k.recce.now m) front → ⊥) → Lists k front symbol D t t
+  pub lists_none : (D : ℕ → Type 0) (t : Found) → ((m : ℕ) → D m → Contains (set_at k.recce.now m) front → ⊥) → AreNoted k t → Lists k front symbol D t t
   unfolding IsStrictlySortedBy
-  lists_none D t never = record {
+  lists_none D t never noted = record {
     rows = [];
     is = sym (append-nil t.alternatives.items);
     listed = record {
@@ -196,6 +196,7 @@ module _ (k : Known) (front : Item) (symbol : ℕ) where
     keys = grows_none (IsNew k) t.keys.keys;
     more = [];
     wholes = sym (append-nil t.wholes.items);
+    noted = noted;
   }
 
   pub lists_then : (D D' D'' : ℕ → Type 0) (old mid new : Found) → Lists k front symbol D old mid → Lists k front symbol D' mid new →
@@ -209,6 +210,7 @@ module _ (k : Known) (front : Item) (symbol : ℕ) where
     keys = grows_then (IsNew k) old.keys.keys mid.keys.keys new.keys.keys h.keys g.keys;
     more = h.more ++ g.more;
     wholes = g.wholes ∙ ap (λ l. l ++ g.more) h.wholes ∙ assoc old.wholes.items h.more g.more;
+    noted = g.noted;
   }
 
   pub lists_same : (D D' : ℕ → Type 0) (old new : Found) → Lists k front symbol D old new → ((m : ℕ) → Contains (set_at k.recce.now m) front → D m ↔ D' m) → Lists k front symbol D' old new
@@ -223,6 +225,7 @@ module _ (k : Known) (front : Item) (symbol : ℕ) where
     keys = h.keys;
     more = h.more;
     wholes = h.wholes;
+    noted = h.noted;
   }
 
 -- THE NODES OF WHOLE RULES
@@ -231,7 +234,7 @@ pub keys_both : (g : FlatGrammar) (ps qs : List Part) → whole_keys g (ps ++ qs
 keys_both g [] qs = refl
 keys_both g (p ∷ ps) qs = ap (λ l. whole_keys_by g p p.whole ++ l) (keys_both g ps qs) ∙ sym (assoc (whole_keys_by g p p.whole) (whole_keys g ps) (whole_keys g qs))
 
-numbers_more : (keys more : List NodeKey) (ns : List ℕ) (of : List NodeKey) → AreNumbers keys ns of → AreNumbers (keys ++ more) ns of
+pub numbers_more : (keys more : List NodeKey) (ns : List ℕ) (of : List NodeKey) → AreNumbers keys ns of → AreNumbers (keys ++ more) ns of
 numbers_more keys more [] [] h = refl
 numbers_more keys more [] (k ∷ ks) h = absurd (cc)
 numbers_more keys more (n ∷ ns) [] h = absurd (cc)

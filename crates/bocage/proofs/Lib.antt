@@ -9,6 +9,7 @@ pub mod Splits
 pub mod Growing
 pub mod Putting
 pub mod Wholes
+pub mod Noting
 pub mod Spans
 pub mod Joining
 pub mod Finishing

@@ -18,7 +18,7 @@ use Rattle.bocage.specs.declared.rows.LastRow.{LastRow}
 use Rattle.bocage.specs.declared.walk.Known.{Known}
 use Rattle.bocage.specs.declared.walk.Found.{Found}
 use Rattle.bocage.specs.Rows.{last_of, alternative_of, IsLastWithin}
-use Rattle.bocage.specs.Walk.{seen_by, GrowsBy, IsUsedIn, IsNew, node_of_item, node_after, IsFrontFound, Lists, IsNext, Knows}
+use Rattle.bocage.specs.Walk.{seen_by, GrowsBy, IsUsedIn, IsNew, AreNoted, node_of_item, node_after, IsFrontFound, Lists, IsNext, Knows}
 use Rattle.bocage.proofs.Growing.{node_seen}
 use Rattle.bocage.proofs.Splits.{waits_in, used_met}
 
@@ -55,9 +55,9 @@ module _ (k : Known) (knows : Knows k) (front : Item) (symbol m : ℕ) (le : m �
     -- the alternative goes last
     pub put_one : (D : ℕ → Type 0) (old new : Found) (o : Option ℕ) (last : LastRow) (more : List ℕ) → D m → ((n : ℕ) → D n → n ≡ m) →
         new.alternatives.items ≡ old.alternatives.items ++ record { start = m; front = o; last = last } ∷ [] → new.wholes.items ≡ old.wholes.items ++ more → GrowsBy (IsNew k) old.keys.keys new.keys.keys →
-        IsFrontFound new.keys.keys front m o → IsLast (seen_by k new.keys.keys) symbol m k.end (last_of new.wholes.items last) → IsLastWithin new.wholes.items last → Lists k front symbol D old new
+        IsFrontFound new.keys.keys front m o → IsLast (seen_by k new.keys.keys) symbol m k.end (last_of new.wholes.items last) → IsLastWithin new.wholes.items last → AreNoted k new → Lists k front symbol D old new
     unfolding IsStrictlySortedBy
-    put_one D old new o last more d one is wholes keys found is_last within = record {
+    put_one D old new o last more d one is wholes keys found is_last within noted = record {
       rows = record { start = m; front = o; last = last } ∷ [];
       is = is;
       listed = record {
@@ -75,4 +75,5 @@ module _ (k : Known) (knows : Knows k) (front : Item) (symbol m : ℕ) (le : m �
       keys = keys;
       more = more;
       wholes = wholes;
+      noted = noted;
     }

@@ -10,7 +10,7 @@ use Rattle.earley_sets.proofs.Membership.{Contains-none, got_at, got_item, found
 use Rattle.bocage.specs.declared.rows.AlternativeRow.{AlternativeRow}
 use Rattle.bocage.specs.declared.walk.Known.{Known}
 use Rattle.bocage.specs.declared.walk.Found.{Found}
-use Rattle.bocage.specs.Walk.{IsRead, Knows, IsUsedIn, IsNew, GrowsBy, ListsKey, node_of_item, top_key}
+use Rattle.bocage.specs.Walk.{IsRead, Knows, IsUsedIn, IsNew, AreNoted, GrowsBy, ListsKey, node_of_item, top_key}
 use Rattle.bocage.specs.Ends.{SetsRow, IsKnownNode, HasRow, Goes, Visits, IsReady, IsGoing, AreVisited}
 use Rattle.bocage.proofs.RowLemmas.{one_more_taken}
 use Rattle.bocage.proofs.Splits.{used_waits}
@@ -104,13 +104,14 @@ longer P (x ∷ xs) new (more, e, p) = subst (λ l. length (x ∷ xs) ≤ length
     go (y ∷ ys) = let l = go ys in omega arith
 
 module _ (k : Known) where
-  pub goes_none : (f : Found) (table : List (List AlternativeRow)) → Goes k f f table table
-  goes_none f table = record { keys = grows_none (IsNew k) f.keys.keys; keeps = λ n key at h. h }
+  pub goes_none : (f : Found) (table : List (List AlternativeRow)) → AreNoted k f → Goes k f f table table
+  goes_none f table noted = record { keys = grows_none (IsNew k) f.keys.keys; keeps = λ n key at h. h; noted = noted }
 
   pub goes_then : (old mid new : Found) (t u v : List (List AlternativeRow)) → Goes k old mid t u → Goes k mid new u v → Goes k old new t v
   goes_then old mid new t u v a b = record {
     keys = grows_then (IsNew k) old.keys.keys mid.keys.keys new.keys.keys a.keys b.keys;
     keeps = λ n key at h. b.keeps n key (still_at (IsNew k) old.keys.keys mid.keys.keys a.keys n key at) (a.keeps n key at h);
+    noted = b.noted;
   }
 
   -- a node that is still ready
@@ -127,7 +128,7 @@ module _ (k : Known) where
   pub one_visited : Knows k → (n : ℕ) (key : NodeKey) (old empty new : Found) (t u : List (List AlternativeRow)) → slice_get old.keys.keys n ≡ Some key → IsUsedIn k.recce.now key → key.end ≡ k.end →
       empty.keys ≡ old.keys → empty.wholes ≡ old.wholes → empty.alternatives.items ≡ [] → ListsKey k key empty new → SetsRow t u n new.alternatives.items → Visits k n old new t u
   one_visited knows n key old empty new t u at used end same_keys same_wholes none l sets = record {
-    goes = record { keys = grown; keeps = λ m other at' h. keeps m other at' h };
+    goes = record { keys = grown; keeps = λ m other at' h. keeps m other at' h; noted = l.lists.noted };
     has = λ other at'. (let one : Some key ≡ Some other = sym at ∙ at' in let e : key ≡ other = cc in subst (λ z. HasRow k.written.now k.ranking k.recce.now new.keys.keys new.wholes.items u n z) e here);
   }
     where

@@ -162,9 +162,12 @@ module _ (w : Grammar) (ranking : Ranking) (r : Recognizer) (read : IsRead w r) 
   root_by None (e, none) = e
   root_by (Some n) (lt, at, one) = (lt, node_in w ranking r read f table visited (Some n) (begun_by (Some n) (lt, at, one)) n (top_key r) (still_at (IsUsedIn r) first f.keys.keys grown n (top_key r) at))
 
-  pub forest_by : (root : Option ℕ) → IsBegun r first root → HasTree r → AllPairs (λ x y. x ≢ y) f.keys.keys →
-      IsForest (record { written = w; flat = r.flat; start = r.start; edges = r.edges; place = place_of r; ranking = ranking; nodes = nodes_of f.wholes.items f.keys.keys table; root = root }) × IsTable f.keys.keys table f.wholes.items
-  forest_by root begun has once = (forest_is w ranking r read f table visited root (begun_by root begun) has once (root_by root begun), table_is w ranking r read f table visited root (begun_by root begun))
+  -- with the keys in a list of their own
+  pub forest_by : (keys : List NodeKey) → keys ≡ f.keys.keys → (root : Option ℕ) → IsBegun r first root → HasTree r → AllPairs (λ x y. x ≢ y) f.keys.keys →
+      IsForest (record { written = w; flat = r.flat; start = r.start; edges = r.edges; place = place_of r; ranking = ranking; nodes = nodes_of f.wholes.items keys table; root = root }) × IsTable keys table f.wholes.items
+  forest_by keys is root begun has once =
+      subst (λ (l : List NodeKey). IsForest (record { written = w; flat = r.flat; start = r.start; edges = r.edges; place = place_of r; ranking = ranking; nodes = nodes_of f.wholes.items l table; root = root }) × IsTable l table f.wholes.items) (sym is)
+      (forest_is w ranking r read f table visited root (begun_by root begun) has once (root_by root begun), table_is w ranking r read f table visited root (begun_by root begun))
 
 -- the node of the whole has a number, if there is one
 pub begun_top : (r : Recognizer) (keys : List NodeKey) (root : Option ℕ) → IsBegun r keys root → 0 < place_of r → Contains keys (top_key r)

@@ -7,7 +7,6 @@ use Rattle.std.specs.Option.{option_cmp}
 use Rattle.std.specs.Cmp.{nat_cmp_is}
 use Rattle.std.specs.List.{AllByRecursion}
 use Rattle.std.specs.List.Sorted.{IsStrictlySortedBy}
-use Rattle.std.proofs.lemmas.List.{append-nil}
 use Rattle.std.proofs.lemmas.List.Elements.{at_from_Contains, Contains-append_right}
 use Rattle.grammar_model.specs.declared.Edge.{Edge as HeldEdge}
 use Rattle.grammar_model.specs.Trees.{Tree, Children, Leaf, Node}
@@ -28,7 +27,7 @@ use Rattle.bocage.specs.declared.rows.LastRow.TheVariants as row
 use Rattle.bocage.specs.declared.walk.Known.{Known}
 use Rattle.bocage.specs.Rows.{between, last_of, IsLastWithin}
 use Rattle.bocage.specs.Parts.{part_cmp, key_cmp, part_at, no_part, rule_key_of, IsPart, IsPartAt, IsWholeOf}
-use Rattle.bocage.specs.Walk.{seen_by, IsUsedIn, node_of_item, node_after, whole_keys, whole_keys_by, AreNumbers, IsLastFound, IsSpan, IsNew, IsNext, Knows, Lists, GrowsBy, IsFrontFound, FitsPart, HasRule}
+use Rattle.bocage.specs.Walk.{seen_by, IsUsedIn, node_of_item, node_after, whole_keys, whole_keys_by, AreNumbers, IsLastHeld, AreNoted, IsSpan, IsNew, IsNext, Knows, Lists, GrowsBy, IsFrontFound, FitsPart, HasRule}
 use Rattle.bocage.specs.declared.walk.Found.{Found}
 use Rattle.bocage.proofs.Putting.{found_front, whole_used, front_new, put_one}
 use Rattle.bocage.proofs.InOrder.{then_rest}
@@ -311,18 +310,11 @@ module _ (k : Known) (knows : Knows k) (front : Item) (parts : List Part) (span 
           }
 
   -- what the last part is
-  pub last_is : Contains (set_at k.recce.now m) front → (keys : List NodeKey) (old new : List ℕ) (last : LastRow) → IsLastFound k.recce.now.flat parts keys old new last →
-      IsLast (seen_by k keys) (part_at parts 0).symbol m k.end (last_of new last) × IsLastWithin new last × ((more : List ℕ) × (new ≡ old ++ more))
-  last_is at keys old new row.Edge (none, e) = (edge_over none, tt, ([], e ∙ sym (append-nil old)))
-  last_is at keys old new row.Nothing h = absurd h
-  last_is at keys old new (row.Wholes first' end') (key, whole, a, b, (ns, e, h)) =
-      let is : between first' end' new ≡ ns = (λ i. between (a i) (b i) (e i)) ∙ ap (λ n. between (length old) n (old ++ ns)) (ap (λ (l : List ℕ). length l) e) ∙ between_all old ns in
-      let l = length_both old ns in
-      let l' = ap (λ (z : List ℕ). length z) e in (
-        subst (λ z. AreWholes (seen_by k keys) (part_at parts 0).symbol m k.end z) (sym is) (are_wholes key whole keys at ns h),
-        (omega arith, omega arith),
-        (ns, e),
-      )
+  pub last_is : Contains (set_at k.recce.now m) front → (keys : List NodeKey) (wholes : List ℕ) (last : LastRow) → IsLastHeld k.recce.now.flat parts keys wholes last →
+      IsLast (seen_by k keys) (part_at parts 0).symbol m k.end (last_of wholes last) × IsLastWithin wholes last
+  last_is at keys wholes row.Edge none = (edge_over none, tt)
+  last_is at keys wholes row.Nothing h = absurd h
+  last_is at keys wholes (row.Wholes first' end') (key, whole, a, b, h) = (are_wholes key whole keys at (between first' end' wholes) h, (a, b))
 
   -- a tree over the span
   pub has_tree : (tree : Tree) × Derives k.recce.now.flat (edges_of k.recce.now) (part_at parts 0).symbol m k.end tree
@@ -366,16 +358,16 @@ module _ (k : Known) (knows : Knows k) (front : Item) (parts : List Part) (span 
           }
 
   -- the alternative of the parts
-  pub put_group : Contains (set_at k.recce.now m) front → (old new : Found) (mid : List NodeKey) (o : Option ℕ) (last : LastRow) →
-      new.alternatives.items ≡ old.alternatives.items ++ record { start = m; front = o; last = last } ∷ [] → IsFrontFound mid front m o →
+  pub put_group : Contains (set_at k.recce.now m) front → (old new : Found) (mid : List NodeKey) (o : Option ℕ) (last : LastRow) (more : List ℕ) →
+      new.alternatives.items ≡ old.alternatives.items ++ record { start = m; front = o; last = last } ∷ [] → new.wholes.items ≡ old.wholes.items ++ more → IsFrontFound mid front m o →
       GrowsBy (λ z. (0 < front.dot) × (z ≡ node_of_item front m)) old.keys.keys mid → GrowsBy (λ z. Contains (whole_keys k.recce.now.flat parts) z) mid new.keys.keys →
-      IsLastFound k.recce.now.flat parts new.keys.keys old.wholes.items new.wholes.items last →
+      IsLastHeld k.recce.now.flat parts new.keys.keys new.wholes.items last → AreNoted k new →
       Lists k front (part_at parts 0).symbol (λ n. n ≡ m) old new
-  put_group at old new mid o last is found one two found_last =
+  put_group at old new mid o last more is e found one two held noted =
       let (tree, derives) = has_tree in
-      let (a, b, (more, e)) = last_is at new.keys.keys old.wholes.items new.wholes.items last found_last in
+      let (a, b) = last_is at new.keys.keys new.wholes.items last held in
       put_one k knows front (part_at parts 0).symbol m (omega arith) at next tree derives (λ n. n ≡ m) old new o last more refl (λ n d. d) is e
       (grows_then (IsNew k) old.keys.keys mid new.keys.keys
       (grows_weaker (IsNew k) (λ z. (0 < front.dot) × (z ≡ node_of_item front m)) old.keys.keys mid (λ z (lt, q). subst (λ y. IsNew k y) (sym q) (front_new k knows front (part_at parts 0).symbol m (omega arith) at next tree derives lt)) one)
       (grows_weaker (IsNew k) (λ z. Contains (whole_keys k.recce.now.flat parts) z) mid new.keys.keys (wholes_new at) two))
-      (front_stays mid new.keys.keys (two).0 (two).1 front m o found) a b
+      (front_stays mid new.keys.keys (two).0 (two).1 front m o found) a b noted

@@ -11,7 +11,7 @@ use Rattle.bocage.specs.declared.rows.AlternativeRow.{AlternativeRow}
 use Rattle.bocage.specs.declared.walk.Known.{Known}
 use Rattle.bocage.specs.declared.walk.Found.{Found}
 use Rattle.bocage.specs.Rows.{alternative_of, AreWithin}
-use Rattle.bocage.specs.Walk.{seen, GrowsBy, IsNew, IsUsedIn, node_of_item, top_key}
+use Rattle.bocage.specs.Walk.{seen, AreNoted, GrowsBy, IsNew, IsUsedIn, node_of_item, top_key}
 
 -- one node gets these alternatives, and no other changes
 pub record SetsRow (old new : List (List AlternativeRow)) (n : ℕ) (rows : List AlternativeRow) : Type 0 where
@@ -34,6 +34,7 @@ pub record Goes (k : Known) (old new : Found) (before behind : List (List Altern
   pub keys : GrowsBy (IsNew k) old.keys.keys new.keys.keys
   pub keeps : (n : ℕ) (key : NodeKey) → slice_get old.keys.keys n ≡ Some key → HasRow k.written.now k.ranking k.recce.now old.keys.keys old.wholes.items before n key →
       HasRow k.written.now k.ranking k.recce.now new.keys.keys new.wholes.items behind n key
+  pub noted : AreNoted k new
 
 -- and this one gets them
 pub record Visits (k : Known) (n : ℕ) (old new : Found) (before behind : List (List AlternativeRow)) : Type 0 where

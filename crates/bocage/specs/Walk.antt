@@ -23,7 +23,7 @@ use Rattle.bocage.specs.declared.joins.Join.{Join}
 use Rattle.bocage.specs.Groups.{AreGroups}
 use Rattle.bocage.specs.Joins.{join_cmp, front_of_join, AreJoins}
 use Rattle.bocage.specs.Parts.{part_cmp, IsPartAt, part_at}
-use Rattle.bocage.specs.Rows.{alternative_of, IsLastWithin}
+use Rattle.bocage.specs.Rows.{between, alternative_of, IsLastWithin}
 
 -- a recognizer over the flat grammar of a checked one
 pub record IsRead (w : Grammar) (r : Recognizer) : Type 0 where
@@ -105,6 +105,29 @@ IsLastFound g parts keys old new row.Edge = ((part_at parts 0).whole ≡ None) �
 IsLastFound g parts keys old new row.Nothing = ⊥
 IsLastFound g parts keys old new (row.Wholes first end) = (key : RuleKey) × ((part_at parts 0).whole ≡ Some key) × (first ≡ length old) × (end ≡ length new) × AddsWholes keys (whole_keys g parts) old new
 
+-- the last part is that of parts over one span, with the numbers of its nodes
+abbrev pub IsLastHeld : FlatGrammar → List Part → (keys : List NodeKey) → (wholes : List ℕ) → LastRow → Type 0
+IsLastHeld g parts keys wholes row.Edge = (part_at parts 0).whole ≡ None
+IsLastHeld g parts keys wholes row.Nothing = ⊥
+IsLastHeld g parts keys wholes (row.Wholes first end) = (key : RuleKey) × ((part_at parts 0).whole ≡ Some key) × (first ≤ end) × (end ≤ length wholes) × AreNumbers keys (between first end wholes) (whole_keys g parts)
+
+abbrev pub parts_of_group : Known → Group → List Part
+parts_of_group k g = between g.first g.past k.parts.now
+
+-- what is noted of groups is their last part
+pub record AreNoted (k : Known) (f : Found) : Type 0 where
+  pub long : length f.lasts.items ≡ length k.groups.now
+  pub each : (n : ℕ) (g : Group) (last : LastRow) → slice_get k.groups.now n ≡ Some g → slice_get f.lasts.items n ≡ Some (Some last) → IsLastHeld k.recce.now.flat (parts_of_group k g) f.keys.keys f.wholes.items last
+
+-- the last part of a group, as it is noted
+pub record IsLastNoted (k : Known) (g : Group) (old new : Found) (last : LastRow) : Type 0 where
+  pub held : IsLastHeld k.recce.now.flat (parts_of_group k g) new.keys.keys new.wholes.items last
+  pub keys : GrowsBy (λ z. Contains (whole_keys k.recce.now.flat (parts_of_group k g)) z) old.keys.keys new.keys.keys
+  pub alternatives : new.alternatives ≡ old.alternatives
+  pub more : List ℕ
+  pub wholes : new.wholes.items ≡ old.wholes.items ++ more
+  pub noted : AreNoted k new
+
 abbrev pub seen_by : Known → List NodeKey → Forest
 seen_by k keys = seen k.written.now k.ranking k.recce.now keys
 
@@ -132,6 +155,7 @@ pub record Lists (k : Known) (front : Item) (symbol : ℕ) (D : ℕ → Type 0) 
   pub keys : GrowsBy (IsNew k) old.keys.keys new.keys.keys
   pub more : List ℕ
   pub wholes : new.wholes.items ≡ old.wholes.items ++ more
+  pub noted : AreNoted k new
 
 -- parts over one span: all of them that there are
 pub record IsSpan (all parts : List Part) : Type 0 where

@@ -6,14 +6,15 @@ ghost use Rattle.earley_sets.specs.Recognizer.{IsRecognizer, place_of, set_at};
 ghost use Rattle.bocage.specs.Hidden.{AreHidden, IsExpandedIn, IsExpandedAt, RisesBy, RisesWithin};
 ghost use Rattle.bocage.specs.Walk.{Knows, IsUsedIn, IsRead, GrowsBy, top_key};
 ghost use Rattle.bocage.specs.Ends.{SetsRow, IsKnownNode, Visits, Goes, HasRow, IsReady, IsGoing, AreVisited};
-ghost use Rattle.bocage.specs.Walk.{AreGathered};
+ghost use Rattle.bocage.specs.Walk.{AreGathered, AreNoted};
+ghost use Rattle.bocage.specs.declared.rows.LastRow.{LastRow as TheLastRow};
 
 use crate::ForestRefusal;
 use crate::gather::{list_hidden, list_parts};
 use crate::groups::{Group, list_groups};
 use crate::joins::{Join, list_joins};
 use crate::parts::Part;
-use crate::rows::{AlternativeRow, key_at};
+use crate::rows::{AlternativeRow, LastRow, key_at};
 use crate::walk::{Found, Known, differ, put_key};
 use bumpalo::Bump;
 use earley_sets::Recce;
@@ -147,6 +148,7 @@ fn visit<'a>(
 ) -> Result<(), ForestRefusal>
     requires knows { Knows known.now }
     requires node { IsReady known.now found.old.keys.keys node }
+    requires noted { AreNoted known.now found.old }
     ensures { OnOk result (Visits known.now node found.old found.new (map (λ r. r.now) table.old.items) (map (λ r. r.now) table.new.items)) }
 {
     let key = key_at(found.keys.as_slice(), node);
@@ -166,6 +168,7 @@ fn visit_listed<'a>(
 ) -> Result<(), ForestRefusal>
     requires knows { Knows known.now }
     requires nodes { (n : ℕ) → Contains nodes.now n → IsReady known.now found.old.keys.keys n }
+    requires noted { AreNoted known.now found.old }
     ensures goes { OnOk result (Goes known.now found.old found.new (map (λ r. r.now) table.old.items) (map (λ r. r.now) table.new.items)) }
     ensures have { OnOk result ((n : ℕ) (key : TheKey) → Contains nodes.now n → slice_get found.old.keys.keys n ≡ Some key →
         HasRow known.now.written.now known.now.ranking known.now.recce.now found.new.keys.keys found.new.wholes.items (map (λ r. r.now) table.new.items) n key) }
@@ -188,6 +191,7 @@ fn visit_here<'a>(
     requires knows { Knows known.now }
     requires node { slice_get found.old.keys.keys node ≡ Some key }
     requires ready { key.end ≡ known.now.end → IsReady known.now found.old.keys.keys node }
+    requires noted { AreNoted known.now found.old }
     ensures goes { OnOk result (Goes known.now found.old found.new (map (λ r. r.now) table.old.items) (map (λ r. r.now) table.new.items)) }
     ensures has { OnOk result (key.end ≡ known.now.end →
         HasRow known.now.written.now known.now.ranking known.now.recce.now found.new.keys.keys found.new.wholes.items (map (λ r. r.now) table.new.items) node key) }
@@ -208,6 +212,7 @@ fn visit_new<'a>(
 ) -> Result<(), ForestRefusal>
     requires knows { Knows known.now }
     requires first { first ≤ length found.old.keys.keys }
+    requires noted { AreNoted known.now found.old }
     requires nodes { (n : ℕ) (key : TheKey) → first ≤ n → slice_get found.old.keys.keys n ≡ Some key → key.end ≡ known.now.end → IsReady known.now found.old.keys.keys n }
     ensures goes { OnOk result (Goes known.now found.old found.new (map (λ r. r.now) table.old.items) (map (λ r. r.now) table.new.items)) }
     ensures have { OnOk result ((n : ℕ) (key : TheKey) → first ≤ n → slice_get found.new.keys.keys n ≡ Some key → key.end ≡ known.now.end →
@@ -220,6 +225,18 @@ fn visit_new<'a>(
         visit_here(known, arena, node, key, found, table)?;
     }
     Err(ForestRefusal::NoMemory)
+}
+
+// Notes nothing of so many groups.
+fn forget(groups: usize, lasts: &mut Vec<Option<LastRow>>) -> Result<(), ForestRefusal>
+    ensures long { OnOk result (length lasts.new.items ≡ groups) }
+    ensures none { OnOk result ((n : ℕ) (last : TheLastRow) → slice_get lasts.new.items n ≢ Some (Some last)) }
+{
+    lasts.clear();
+    for k in 0..groups {
+        lasts.push(None)?;
+    }
+    Ok(())
 }
 
 // Lists what may be the last part of a node that ends at a place and does not begin too early, and what stands before it.
@@ -290,6 +307,7 @@ fn visit_from<'a>(
         groups: &work.groups,
         joins: &work.joins,
     };
+    forget(work.groups.as_slice().len(), &mut found.lasts)?;
     visit_listed(&known, arena, &work.nodes, found, table)?;
     visit_new(&known, arena, first, found, table)?;
     Ok(())

@@ -95,7 +95,7 @@ pub struct Forest<'a> {
     recce: &'a Recce<'a>,
     written: &'a Written,
     ranking: Ranking,
-    keys: IndexSet<NodeKey>,
+    keys: Vec<NodeKey>,
     // the alternatives of each node
     table: Vec<&'a [AlternativeRow]>,
     wholes: Vec<u32>,
@@ -114,9 +114,9 @@ impl<'a> Model for Forest<'a> {
 
     ghost Value = { Forest };
 
-    ghost view = { λ f. record { written = f.written.now; flat = f.recce.now.flat; start = f.recce.now.start; edges = f.recce.now.edges; place = place_of f.recce.now; ranking = f.ranking; nodes = nodes_of f.wholes.items f.keys.keys (map (λ r. r.now) f.table.items); root = f.root } };
+    ghost view = { λ f. record { written = f.written.now; flat = f.recce.now.flat; start = f.recce.now.start; edges = f.recce.now.edges; place = place_of f.recce.now; ranking = f.ranking; nodes = nodes_of f.wholes.items f.keys.items (map (λ r. r.now) f.table.items); root = f.root } };
 
-    ghost invariant = { λ f. IsForest (record { written = f.written.now; flat = f.recce.now.flat; start = f.recce.now.start; edges = f.recce.now.edges; place = place_of f.recce.now; ranking = f.ranking; nodes = nodes_of f.wholes.items f.keys.keys (map (λ r. r.now) f.table.items); root = f.root }) × IsTable f.keys.keys (map (λ r. r.now) f.table.items) f.wholes.items × IsCountOf (IsExpandedIn f.recce.now) f.expanded };
+    ghost invariant = { λ f. IsForest (record { written = f.written.now; flat = f.recce.now.flat; start = f.recce.now.start; edges = f.recce.now.edges; place = place_of f.recce.now; ranking = f.ranking; nodes = nodes_of f.wholes.items f.keys.items (map (λ r. r.now) f.table.items); root = f.root }) × IsTable f.keys.items (map (λ r. r.now) f.table.items) f.wholes.items × IsCountOf (IsExpandedIn f.recce.now) f.expanded };
 }
 
 impl<'a> Forest<'a> {
@@ -166,6 +166,7 @@ impl<'a> Forest<'a> {
             keys: IndexSet::new(alloc),
             alternatives: SmallVec::new(alloc),
             wholes: Vec::new(alloc),
+            lasts: Vec::new(alloc),
         };
         let mut work = Work::new(alloc);
         let root = begin(recce, &mut found.keys)?;
@@ -173,11 +174,12 @@ impl<'a> Forest<'a> {
             alloc, recce, w, ranking, arena, &mut found, &mut work, steps,
         )?;
         differ(&found.keys);
+        let keys = Vec::from_slice(alloc, found.keys.as_slice())?;
         Ok(Forest {
             recce,
             written: w,
             ranking,
-            keys: found.keys,
+            keys,
             table,
             wholes: found.wholes,
             root,

@@ -1,12 +1,13 @@
 //! The alternatives of a node: each that is met gets a number, and what may be its last part is joined with its first parts.
-ghost use Rattle.std.specs.Prelude.{◌≡◌, ◌≢◌, AllPairs, ℕ, ◌<◌, ◌≤◌, ◌+◌, ◌-◌, ◌↔◌, [], ◌∷◌, length, map, IfOk, OnOk, IsTrue, IsFalse, Contains, slice_get, Some};
+ghost use Rattle.std.specs.Prelude.{◌≡◌, ◌≢◌, AllPairs, ℕ, ◌<◌, ◌≤◌, ◌+◌, ◌-◌, ◌↔◌, ◌⊎◌, [], ◌∷◌, length, map, IfOk, OnOk, IfSome, IsTrue, IsFalse, Contains, slice_get, Some};
 ghost use Rattle.recognizer_model.specs.Flat.{IsNullable, IsRule, rhs_of};
 ghost use Rattle.earley_sets.specs.Recognizer.{IsRecognizer, place_of, set_at};
 ghost use Rattle.bocage.specs.declared.parts.Part.{Part as ThePart};
+ghost use Rattle.bocage.specs.declared.rows.LastRow.{LastRow as TheLastRow};
 ghost use Rattle.bocage.specs.Parts.{part_at};
 ghost use Rattle.bocage.specs.Rows.{between};
 ghost use Rattle.bocage.specs.Joins.{front_of_join};
-ghost use Rattle.bocage.specs.Walk.{FitsPart, GrowsBy, whole_keys, AddsWholes, IsFrontFound, IsLastFound, node_of_item, Knows, Lists, IsGroupOf, AreJoinsOf, IsNext, IsNew, BeginsIn, MayBegin, ListsKey, IsBegun, is_high, IsUsedIn};
+ghost use Rattle.bocage.specs.Walk.{FitsPart, GrowsBy, whole_keys, AddsWholes, IsFrontFound, IsLastFound, node_of_item, Knows, Lists, AreNoted, IsLastNoted, AreJoinsOf, IsNext, IsNew, BeginsIn, MayBegin, ListsKey, IsBegun, is_high, IsUsedIn};
 
 use crate::ForestRefusal;
 use crate::groups::Group;
@@ -39,6 +40,8 @@ pub struct Found {
     pub keys: IndexSet<NodeKey>,
     pub alternatives: SmallVec<AlternativeRow, 4>,
     pub wholes: Vec<u32>,
+    /// what the last part is of each group of the place, once it was asked for
+    pub lasts: Vec<Option<LastRow>>,
 }
 
 // The number of a node, which becomes a new one if there is none of the key.
@@ -140,28 +143,67 @@ fn last_of(
     })
 }
 
-// Puts the alternative of parts over one span.
-fn put_alternative(
-    known: &Known<'_>,
-    front: Item,
-    group: Group,
-    found: &mut Found,
-) -> Result<(), ForestRefusal>
-    requires knows { Knows known.now }
-    requires group { IsGroupOf known.now group }
-    requires next { IsNext known.now front group.symbol }
-    requires there { Contains (set_at known.now.recce.now group.start) front }
-    ensures { OnOk result (Lists known.now front group.symbol (λ m. m ≡ group.start) found.old found.new) }
+// What is noted of a group.
+fn noted_last(lasts: &[Option<LastRow>], at: usize) -> Option<LastRow>
+    requires { at < length lasts.now }
+    ensures { IfSome result (λ last. slice_get lasts.now at ≡ Some (Some last)) }
 {
-    let start = group.start;
+    lasts[at]
+}
+
+// Notes the last part of a group.
+fn note_last(lasts: &mut Vec<Option<LastRow>>, at: usize, last: LastRow)
+    requires { at < length lasts.old.items }
+    ensures long { length lasts.new.items ≡ length lasts.old.items }
+    ensures each { (n : ℕ) (held : TheLastRow) → slice_get lasts.new.items n ≡ Some (Some held) → (slice_get lasts.old.items n ≡ Some (Some held)) ⊎ ((n ≡ at) × (held ≡ last)) }
+{
+    lasts[at] = Some(last);
+}
+
+// What the last part is, of the parts of a group. Their nodes are numbered once, for all alternatives.
+fn last_of_group(
+    known: &Known<'_>,
+    group: Group,
+    at: usize,
+    found: &mut Found,
+) -> Result<LastRow, ForestRefusal>
+    requires knows { Knows known.now }
+    requires group { slice_get known.now.groups.now at ≡ Some group }
+    requires noted { AreNoted known.now found.old }
+    ensures { IfOk result (λ last. IsLastNoted known.now group found.old found.new last) }
+{
+    if let Some(last) = noted_last(&found.lasts, at) {
+        return Ok(last);
+    }
     let parts = parts_between(known.parts, group.first, group.past);
-    let front = front_of(&mut found.keys, front, start)?;
     let last = last_of(
         known.recce.flat(),
         parts,
         &mut found.keys,
         &mut found.wholes,
     )?;
+    note_last(&mut found.lasts, at, last);
+    Ok(last)
+}
+
+// Puts the alternative of a group.
+fn put_alternative(
+    known: &Known<'_>,
+    front: Item,
+    group: Group,
+    at: usize,
+    found: &mut Found,
+) -> Result<(), ForestRefusal>
+    requires knows { Knows known.now }
+    requires group { slice_get known.now.groups.now at ≡ Some group }
+    requires noted { AreNoted known.now found.old }
+    requires next { IsNext known.now front group.symbol }
+    requires there { Contains (set_at known.now.recce.now group.start) front }
+    ensures { OnOk result (Lists known.now front group.symbol (λ m. m ≡ group.start) found.old found.new) }
+{
+    let start = group.start;
+    let front = front_of(&mut found.keys, front, start)?;
+    let last = last_of_group(known, group, at, found)?;
     found
         .alternatives
         .push(AlternativeRow { start, front, last })?;
@@ -178,11 +220,13 @@ fn put_alternatives(
 ) -> Result<(), ForestRefusal>
     requires knows { Knows known.now }
     requires joins { AreJoinsOf known.now front joins.now }
+    requires noted { AreNoted known.now found.old }
     requires next { IsNext known.now front symbol }
     ensures { OnOk result (Lists known.now front symbol (BeginsIn known.now joins.now) found.old found.new) }
 {
     for join in joins {
-        put_alternative(known, front, known.groups[join.group as usize], found)?;
+        let at = join.group as usize;
+        put_alternative(known, front, known.groups[at], at, found)?;
     }
     Ok(())
 }
@@ -196,6 +240,7 @@ fn put_nothing(
 ) -> Result<(), ForestRefusal>
     requires knows { Knows known.now }
     requires next { IsNext known.now front symbol }
+    requires noted { AreNoted known.now found.old }
     ensures { OnOk result (Lists known.now front symbol (λ m. (m ≡ known.now.end) × IsNullable known.now.recce.now.flat symbol) found.old found.new) }
 {
     if known.recce.flat().nullable(symbol) && known.recce.has(known.end, front) {
@@ -220,6 +265,7 @@ fn put_nothing_first(
     requires knows { Knows known.now }
     requires high { IsTrue (is_high known.now front) }
     requires joins { AreJoinsOf known.now front joins.now }
+    requires noted { AreNoted known.now found.old }
     requires next { IsNext known.now front symbol }
     ensures { OnOk result (Lists known.now front symbol (MayBegin known.now symbol) found.old found.new) }
 {
@@ -238,6 +284,7 @@ fn put_nothing_last(
     requires knows { Knows known.now }
     requires low { IsFalse (is_high known.now front) }
     requires joins { AreJoinsOf known.now front joins.now }
+    requires noted { AreNoted known.now found.old }
     requires next { IsNext known.now front symbol }
     ensures { OnOk result (Lists known.now front symbol (MayBegin known.now symbol) found.old found.new) }
 {
@@ -255,6 +302,7 @@ fn put_node(
     requires knows { Knows known.now }
     requires rule { IsRule known.now.recce.now.flat front.rule }
     requires next { IsNext known.now front symbol }
+    requires noted { AreNoted known.now found.old }
     ensures { OnOk result (Lists known.now front symbol (MayBegin known.now symbol) found.old found.new) }
 {
     let joins = joins_of(known.joins, front);
@@ -271,6 +319,7 @@ pub fn put_key(known: &Known<'_>, key: NodeKey, found: &mut Found) -> Result<(),
     requires used { IsUsedIn known.now.recce.now key }
     requires end { key.end ≡ known.now.end }
     requires least { known.now.least ≤ key.origin }
+    requires noted { AreNoted known.now found.old }
     ensures { OnOk result (ListsKey known.now key found.old found.new) }
 {
     let front = Item {

@@ -304,7 +304,7 @@ last_within choices last k (front, e) le before c e' =
 pub none_within : (choices : List Choice) (k : ℕ) → choices ≡ [] → (before : List Choice) (c : Choice) → choices ≡ before ++ c ∷ [] → c.goals ≤ k
 none_within choices k none before c e = absurd (no_more before c (sym e ∙ none))
 
-pub cut_before : (w n : Walk) (rest : List (List Step)) (k : ℕ) → IsKept w k → n.goals.items ≡ take k w.goals.items → StandsBefore w rest → StandsBefore (record w { goals = n.goals }) rest
+pub cut_before : (w n : Walk) (rest : List (List Step)) (k : ℕ) → IsKept w w.left k → n.goals.items ≡ take k w.goals.items → StandsBefore w rest → StandsBefore (record w { goals = n.goals }) rest
 cut_before w n rest k kept goals h =
     let F : Forest = w.forest.now in
     record {
@@ -323,21 +323,41 @@ cut_before w n rest k kept goals h =
       rest_is = h.rest_is;
     }
 
-pub cut_steps : (w n : Walk) (k : ℕ) → IsKept w k → n.goals.items ≡ take k w.goals.items → (m : ℕ) → HasSteps w m → HasSteps (record w { goals = n.goals }) m
+pub cut_steps : (w n : Walk) (k : ℕ) → IsKept w w.left k → n.goals.items ≡ take k w.goals.items → (m : ℕ) → HasSteps w m → HasSteps (record w { goals = n.goals }) m
 cut_steps w n k kept goals m h = record {
   left = h.left;
   left_is = subst (λ g. IsStack g w.left h.left) (sym goals) (linked_taken (λ (r : GoalRow). goal_of r.goal) (λ r. r.below) w.goals.items k w.left h.left kept.0 h.left_is);
   count = h.count;
 }
 
+-- the row of the topmost goal, and others that only that needs
+pub cut_first : (w n : Walk) (rest : List (List Step)) (goal : Goal) (behind k : ℕ) → IsKept w behind k → n.goals.items ≡ take k w.goals.items → n.choices.items ≡ w.choices.items →
+    IsFirst w rest goal behind → IsFirst (record w { goals = n.goals; choices = n.choices }) rest goal behind
+cut_first w n rest goal behind k kept goals choices h =
+    let F : Forest = w.forest.now in
+    let cut : AreChoices F n.goals.items w.choices.items h.trail = subst (λ g. AreChoices F g w.choices.items h.trail) (sym goals) (choices_cut F w.goals.items k w.choices.items h.trail kept.1 h.is.choices) in
+    record {
+      lists = h.lists;
+      all = h.all;
+      trail = h.trail;
+      is = record { forest = h.is.forest; choices = subst (λ c. AreChoices F n.goals.items c h.trail) (sym choices) cut; done = h.is.done };
+      others = h.others;
+      linked = subst (λ g. IsStack g behind h.others) (sym goals) (linked_taken (λ (r : GoalRow). goal_of r.goal) (λ r. r.below) w.goals.items k behind h.others kept.0 h.linked);
+      ready = h.ready;
+      backed = h.backed;
+      are_ready = h.are_ready;
+      rest_is = h.rest_is;
+    }
+
 -- ---- looks
 
 -- an option of the topmost goal was put in its place
-pub put_steps : (w n : Walk) (goal : Goal) (at behind : ℕ) (put : Put) → IsAbout w goal behind → n.counts.items ≡ w.counts.items → n.left ≡ put.top →
-    PutsOption w.forest.now goal w.goals.items n.goals.items at behind put → (k : ℕ) → HasSteps w k → HasSteps n (k + look goal)
-put_steps w n goal at behind put a counts left p k h =
+pub put_steps : (w n : Walk) (goal : Goal) (at behind k : ℕ) (put : Put) → IsAbout w goal behind → n.counts.items ≡ w.counts.items → n.left ≡ put.top → behind ≤ k →
+    PutsOption w.forest.now goal (take k w.goals.items) n.goals.items at behind put → (m : ℕ) → HasSteps w m → HasSteps n (m + look goal)
+put_steps w n goal at behind k put a counts left le p m h =
     let on = linked_top (λ (r : GoalRow). goal_of r.goal) (λ r. r.below) w.goals.items a.place a.row h.left a.row_is (subst (λ t. IsStack w.goals.items t h.left) a.left_is h.left_is) in
-    let linked : IsStack w.goals.items behind on.rest = subst (λ t. IsStack w.goals.items t on.rest) a.behind_is on.linked in
+    let linked : IsStack (take k w.goals.items) behind on.rest =
+    linked_taken (λ (r : GoalRow). goal_of r.goal) (λ r. r.below) w.goals.items k behind on.rest le (subst (λ t. IsStack w.goals.items t on.rest) a.behind_is on.linked) in
     let stands : h.left ≡ goal ∷ on.rest = on.both ∙ ap (λ g. g ∷ on.rest) a.goal_is in
     let all : units h.left ≡ unit goal + units on.rest = ap units stands in
     let own = option_units w.forest.now goal at p.option p.option_is in

@@ -137,8 +137,8 @@ pub record IsAbout (w : Walk) (goal : Goal) (behind : ℕ) : Type 0 where
   pub behind_is : row.below ≡ behind
 
 -- the rows below that place are all that is left or that a choice goes back to
-abbrev pub IsKept : Walk → ℕ → Type 0
-IsKept w k = (w.left ≤ k) × ((before : List Choice) (c : Choice) → w.choices.items ≡ before ++ c ∷ [] → c.goals ≤ k)
+abbrev pub IsKept : Walk → (left k : ℕ) → Type 0
+IsKept w left k = (left ≤ k) × ((before : List Choice) (c : Choice) → w.choices.items ≡ before ++ c ∷ [] → c.goals ≤ k)
 
 abbrev pub IsLast : List Choice → Choice → Type 0
 IsLast choices choice = (before : List Choice) × (choices ≡ before ++ choice ∷ [])

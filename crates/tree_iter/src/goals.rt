@@ -1,5 +1,5 @@
 //! What a walk through a forest has left to do: goals, in stacks that share what lies below.
-ghost use Rattle.std.specs.Prelude.{◌≡◌, ◌+◌, ◌<◌, ◌∷◌, [], length, slice_get, Some, IfOk, OnErr};
+ghost use Rattle.std.specs.Prelude.{◌≡◌, ◌+◌, ◌<◌, ◌≤◌, ◌∷◌, [], length, slice_get, vec_len, vec_capacity, Some, IfOk, OnErr};
 ghost use Rattle.forest_laws.specs.Goals.{IsGoal, options, alternative_goals, last_goals, whole_goals, root_goals};
 ghost use Rattle.forest_laws.specs.Lists.{last_symbol as symbol_of_last};
 ghost use Rattle.bocage.specs.Rows.{part_told};
@@ -47,6 +47,9 @@ pub struct Put {
     pub count: usize,
 }
 
+/// The most rows that an option is put in.
+pub const MOST_ROWS: usize = 2;
+
 pub fn goal_row<'f>(rows: &[GoalRow<'f>], k: usize) -> GoalRow<'f>
     requires { k < length rows.now }
     ensures { slice_get rows.now k ≡ Some result }
@@ -62,6 +65,9 @@ fn push_goal<'f>(
 ) -> Result<usize, NoMemory>
     ensures ok { IfOk result (λ top. Puts rows.old.items rows.new.items below top (goal_of goal.entry ∷ [])) }
     ensures err { OnErr result (rows.new.items ≡ rows.old.items) }
+    ensures full { OnErr result (vec_capacity rows.old ≤ vec_len rows.old) }
+    ensures capacity { vec_capacity rows.old ≤ vec_capacity rows.new }
+    ensures len { vec_len rows.new ≤ vec_len rows.old + 1 }
 {
     rows.push(GoalRow { goal, below })?;
     Ok(rows.as_slice().len())
@@ -106,6 +112,7 @@ fn put_alternative<'f>(
     requires at { at < length alternatives.now }
     ensures ok { IfOk result (λ top. Puts rows.old.items rows.new.items behind top (alternative_goals forest.now (node_at forest.now node) (alternative_at alternatives.now at))) }
     ensures err { OnErr result (Grows rows.old.items rows.new.items) }
+    ensures full { OnErr result (vec_capacity rows.old < vec_len rows.old + 2) }
 {
     let last = last_goal(
         last_symbol(forest, node),
@@ -132,6 +139,7 @@ fn put_whole<'f>(
     requires { node < length forest.now.nodes }
     ensures ok { IfOk result (λ top. Puts rows.old.items rows.new.items behind top (whole_goals forest.now start end node)) }
     ensures err { OnErr result (Grows rows.old.items rows.new.items) }
+    ensures full { OnErr result (vec_capacity rows.old < vec_len rows.old + 2) }
 {
     let key = forest.key(node);
     let rule = Goal::Write(FlatStep::Rule {
@@ -157,6 +165,7 @@ pub fn put_option<'f, L: Ledger>(
     requires at { at < length (options forest.now (fork_of fork)) }
     ensures ok { IfOk result (λ put. PutsOption forest.now (fork_of fork.entry) rows.old.items rows.new.items at behind put) }
     ensures err { OnErr result (Grows rows.old.items rows.new.items) }
+    ensures full { OnErr result (vec_capacity rows.old < vec_len rows.old + 2) }
     ensures looks { steps.new ≡ steps.old + look (fork_of fork.entry) }
 {
     match fork {

@@ -104,6 +104,14 @@ impl<'f> TreeIter<'f> {
         self.shown.as_slice().len()
     }
 
+    /// The steps of the current derivation, children before their rule.
+    pub fn current_steps(&self) -> &[TreeStep]
+        requires { IsSome self.now.current }
+        ensures { IfSome self.now.current (λ steps. map step_of result.now ≡ steps) }
+    {
+        self.shown.as_slice()
+    }
+
     /// Appends the steps of the current derivation, children before their rule. It takes no memory but for room in `out`.
     pub fn steps_of(&self, out: &mut Vec<TreeStep>) -> Result<(), NoMemory>
         requires { IsSome self.now.current }

@@ -8,7 +8,7 @@ ghost use Rattle.tree_iter.specs.Goals.{fork_of};
 ghost use Rattle.tree_iter.specs.Walk.{IsKept, HasSteps, Looks, AreFewLooks, LeavesSome, IsAbout, IsBack, Goes, StandsBefore, StandsBehind, Reaches, Turns, Remain, Advances, IsUnderWay, IsLast};
 ghost use Rattle.tree_iter.specs.declared.walk.Place.TheVariants.{Walking};
 
-use crate::goals::{Fork, Goal, GoalRow, goal_row, put_option, put_root};
+use crate::goals::{Fork, Goal, GoalRow, MOST_ROWS, goal_row, put_option, put_root};
 use crate::writing::{CountRow, FlatStep, write_step};
 use bocage::Forest;
 use grammar_core::TreeStep;
@@ -67,7 +67,8 @@ impl<'f> Walk<'f> {
         })
     }
 
-    // Chooses the first option of a fork, and keeps the choice where there is another.
+    // Chooses the first option of a fork, in place of the row of the fork unless a choice goes back to that, and keeps the choice where
+    // there is another option.
     fn choose<L: Ledger>(
         &mut self,
         fork: Fork<'f>,
@@ -79,10 +80,16 @@ impl<'f> Walk<'f> {
         ensures looks { OnOk result (Looks self.old self.new steps.old steps.new) }
         ensures forest { self.new.forest ≡ self.old.forest }
     {
+        self.goals.reserve(MOST_ROWS)?;
+        self.choices.reserve(1)?;
+        let kept = self.kept(behind);
+        self.goals.truncate(kept);
         let goals = self.goals.as_slice().len();
-        let put = put_option(&mut self.goals, self.forest, fork, 0, behind, steps)?;
+        let Ok(put) = put_option(&mut self.goals, self.forest, fork, 0, behind, steps) else {
+            unreachable!();
+        };
         if put.count > 1 {
-            self.choices.push(Choice {
+            let choice = Choice {
                 fork,
                 chosen: 0,
                 count: put.count,
@@ -90,7 +97,10 @@ impl<'f> Walk<'f> {
                 goals,
                 steps: self.steps.as_slice().len(),
                 counts: self.counts.as_slice().len(),
-            })?;
+            };
+            let Ok(()) = self.choices.push(choice) else {
+                unreachable!();
+            };
         }
         self.left = put.top;
         Ok(())
@@ -115,13 +125,13 @@ impl<'f> Walk<'f> {
         Ok(())
     }
 
-    // How many rows of goals are left, or may be gone back to.
-    fn kept(&self) -> usize
-        ensures { IsKept self.now result }
+    // How many rows of goals are needed where so many are left: for these, or because a choice goes back to them.
+    fn kept(&self, left: usize) -> usize
+        ensures { IsKept self.now left result }
     {
         match self.last_choice() {
-            Some(choice) if choice.goals > self.left => choice.goals,
-            _ => self.left,
+            Some(choice) if choice.goals > left => choice.goals,
+            _ => left,
         }
     }
 
@@ -131,7 +141,7 @@ impl<'f> Walk<'f> {
         ensures keeps { (n : ℕ) → HasSteps self.old n → HasSteps self.new n }
         ensures forest { self.new.forest ≡ self.old.forest }
     {
-        let kept = self.kept();
+        let kept = self.kept(self.left);
         self.goals.truncate(kept);
     }
 

@@ -71,18 +71,18 @@ module _ (b : Built) (checked : IsChecked b.g1) (ranges : IsInRange b) (cs : Lis
       steps_fit b pieces start (place_after pieces) (length spans) tree start_known (omega (arith, count)) (derived new same given tree are)
 
   -- what the iterator told of where it stands
-  told : (new : Iteration) (given : List Tree) (more : Given new given) (old list : List Step) → old ≡ [] → IfSome new.current (λ steps. list ≡ old ++ steps) → list ≡ steps_of more.0
-  told new given more old list none is = subst (λ o. IfSome o (λ steps. list ≡ old ++ steps)) more.2 is ∙ ap (λ xs. xs ++ steps_of more.0) none
+  told : (new : Iteration) (given : List Tree) (more : Given new given) (list : List Step) → IfSome new.current (λ steps. list ≡ steps) → list ≡ steps_of more.0
+  told new given more list is = subst (λ o. IfSome o (λ steps. list ≡ steps)) more.2 is
 
-  pub can_play : (new : Iteration) → new.forest ≡ f → (given : List Tree) (more : Given new given) (old list : List Step) → old ≡ [] → IfSome new.current (λ steps. list ≡ old ++ steps) → AreSteps b.g1 (length spans) list
-  can_play new same given more old list none is = subst (AreSteps b.g1 (length spans)) (sym (told new given more old list none is)) (steps_are new same given more.0 more.1)
+  pub can_play : (new : Iteration) → new.forest ≡ f → (given : List Tree) (more : Given new given) (list : List Step) → IfSome new.current (λ steps. list ≡ steps) → AreSteps b.g1 (length spans) list
+  can_play new same given more list is = subst (AreSteps b.g1 (length spans)) (sym (told new given more list is)) (steps_are new same given more.0 more.1)
 
-  pub the_line : (show : Show) (new : Iteration) (given : List Tree) (more : Given new given) (old list : List Step) → old ≡ [] → IfSome new.current (λ steps. list ≡ old ++ steps) → (w : Grammar) (m : Meaning) (before line : List ℕ) →
+  pub the_line : (show : Show) (new : Iteration) (given : List Tree) (more : Given new given) (list : List Step) → IfSome new.current (λ steps. list ≡ steps) → (w : Grammar) (m : Meaning) (before line : List ℕ) →
       w ≡ b.g1 → m ≡ b.meaning → before ≡ [] → ((t : Tree) → list ≡ steps_of t → line ≡ before ++ (text_of (value_of show w m (tokens_of cs spans) t) ++ 10 ∷ [])) → IsLineOf b show cs pieces new given line true
-  the_line show new given more old list none is w m before line same_w same_m empty each = (
+  the_line show new given more list is w m before line same_w same_m empty each = (
     more.0,
     more.1,
-    each more.0 (told new given more old list none is)
+    each more.0 (told new given more list is)
         ∙ ap (λ xs. xs ++ (text_of (value_of show w m (tokens_of cs spans) more.0) ++ 10 ∷ [])) empty
         ∙ ap (λ (g : Grammar). text_of (value_of show g m (tokens_of cs spans) more.0) ++ 10 ∷ []) same_w
         ∙ ap (λ (n : Meaning). text_of (value_of show b.g1 n (tokens_of cs spans) more.0) ++ 10 ∷ []) same_m

@@ -87,12 +87,10 @@ pub fn next_line<L: Ledger>(
     if !iter.next(steps)? {
         return Ok(false);
     }
-    let mut list = Vec::new(alloc);
-    iter.steps_of(&mut list)?;
     line.clear();
     append_line(
         alloc,
-        &list,
+        iter.current_steps(),
         prepared.meaning(),
         prepared.written(),
         spans,

@@ -19,6 +19,9 @@ put_key-requires-clause-end c = (ready_key c.args.known.now c.args.found.now.key
 pub put_key-requires-clause-least : goal.put_key-requires-clause-least
 put_key-requires-clause-least c = (ready_key c.args.known.now c.args.found.now.keys.keys c.args.node c.key_at-key.result c.requires.node (subst (λ (l : List NodeKey). slice_get l c.args.node ≡ Some c.key_at-key.result) c.as_slice.ensures.keys c.key_at-key.ensures)).2
 
+pub put_key-requires-clause-noted : goal.put_key-requires-clause-noted
+put_key-requires-clause-noted c = record { long = c.requires.noted.long; each = c.requires.noted.each }
+
 pub returns : goal.returns
 returns c =
     let at = subst (λ (l : List NodeKey). slice_get l c.args.node ≡ Some c.key_at-key.result) c.as_slice.ensures.keys c.key_at-key.ensures in

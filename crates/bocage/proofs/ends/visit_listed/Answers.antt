@@ -5,12 +5,15 @@ use Rattle.bocage.proofs.Visiting.{goes_none, still_ready, listed_more}
 use Rattle.bocage.proofs.ends.visit_listed.Goals as goal
 
 pub loop-node-init : goal.loop-node-init
-loop-node-init c = record { goes = goes_none c.args.known.now c.args.found.now (map (λ r. r.now) c.args.table.now.items); have = λ n key h e. absurd (Contains-none n h) }
+loop-node-init c = record { goes = goes_none c.args.known.now c.args.found.now (map (λ r. r.now) c.args.table.now.items) c.requires.noted; have = λ n key h e. absurd (Contains-none n h) }
 
 pub visit-requires-clause-node : goal.visit-requires-clause-node
 visit-requires-clause-node c =
     still_ready c.args.known.now c.args.found.now c.loop-node.found (map (λ r. r.now) c.args.table.now.items) (map (λ r. r.now) c.loop-node.table.items) c.loop-node.invariant.goes _
     (c.requires.nodes _ (there c.args.nodes.now c.loop-node.node-index 0 c.loop-node-test.true))
+
+pub visit-requires-clause-noted : goal.visit-requires-clause-noted
+visit-requires-clause-noted c = c.loop-node.invariant.goes.noted
 
 pub loop-node-preserved : goal.loop-node-preserved
 loop-node-preserved c =

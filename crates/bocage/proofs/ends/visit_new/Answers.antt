@@ -5,7 +5,7 @@ use Rattle.bocage.proofs.Visiting.{goes_none, goes_then, ready_at, longer, new_m
 use Rattle.bocage.proofs.ends.visit_new.Goals as goal
 
 pub loop-node-init : goal.loop-node-init
-loop-node-init c = record { few = c.requires.first; goes = goes_none c.args.known.now c.args.found.now (map (λ r. r.now) c.args.table.now.items); have = λ n key le lt at end. absurd (omega arith) }
+loop-node-init c = record { few = c.requires.first; goes = goes_none c.args.known.now c.args.found.now (map (λ r. r.now) c.args.table.now.items) c.requires.noted; have = λ n key le lt at end. absurd (omega arith) }
 
 pub visit_here-requires-clause-node : goal.visit_here-requires-clause-node
 visit_here-requires-clause-node c = sym (c.in-Some.ensures ∙ c.get_index.ensures.key)
@@ -14,6 +14,9 @@ pub visit_here-requires-clause-ready : goal.visit_here-requires-clause-ready
 visit_here-requires-clause-ready c end =
     ready_at c.args.known.now c.args.first c.args.found.now c.loop-node.found (map (λ r. r.now) c.args.table.now.items) (map (λ r. r.now) c.loop-node.table.items) c.loop-node.invariant.goes c.requires.nodes
     c.loop-node.node c.in-Some.key c.loop-node.auto.node (sym (c.in-Some.ensures ∙ c.get_index.ensures.key)) end
+
+pub visit_here-requires-clause-noted : goal.visit_here-requires-clause-noted
+visit_here-requires-clause-noted c = c.loop-node.invariant.goes.noted
 
 pub loop-node-preserved : goal.loop-node-preserved
 loop-node-preserved c =

@@ -11,17 +11,20 @@ use Rattle.bocage.proofs.Joining.{no_group, group_of_join, lists_next}
 use Rattle.bocage.proofs.walk.put_alternatives.Goals as goal
 
 pub loop-join-init : goal.loop-join-init
-loop-join-init c = lists_none c.args.known.now c.args.front c.args.symbol (BeginsIn c.args.known.now []) c.args.found.now (λ m (j, g, h, s, q) i. Contains-none j h)
+loop-join-init c = lists_none c.args.known.now c.args.front c.args.symbol (BeginsIn c.args.known.now []) c.args.found.now (λ m (j, g, h, s, q) i. Contains-none j h) c.requires.noted
 
-pub bounds-known-join : goal.bounds-known-join
-bounds-known-join c =
+pub bounds-known-at : goal.bounds-known-at
+bounds-known-at c =
     let (g, at, in_set, s) = group_of_join c.args.known.now c.requires.knows c.args.front c.args.symbol c.requires.next c.args.joins.now c.requires.joins (get_or c.args.joins.now c.loop-join.join-index no_join) (there c.args.joins.now c.loop-join.join-index no_join c.loop-join-test.true) in
     (got_at c.args.known.now.groups.now (get_or c.args.joins.now c.loop-join.join-index no_join).group g no_group (sym at)).0
 
 pub put_alternative-requires-clause-group : goal.put_alternative-requires-clause-group
 put_alternative-requires-clause-group c =
     let (g, at, in_set, s) = group_of_join c.args.known.now c.requires.knows c.args.front c.args.symbol c.requires.next c.args.joins.now c.requires.joins (get_or c.args.joins.now c.loop-join.join-index no_join) (there c.args.joins.now c.loop-join.join-index no_join c.loop-join-test.true) in
-    there c.args.known.now.groups.now (get_or c.args.joins.now c.loop-join.join-index no_join).group no_group (got_at c.args.known.now.groups.now (get_or c.args.joins.now c.loop-join.join-index no_join).group g no_group (sym at)).0
+    get_at c.args.known.now.groups.now (get_or c.args.joins.now c.loop-join.join-index no_join).group no_group (got_at c.args.known.now.groups.now (get_or c.args.joins.now c.loop-join.join-index no_join).group g no_group (sym at)).0
+
+pub put_alternative-requires-clause-noted : goal.put_alternative-requires-clause-noted
+put_alternative-requires-clause-noted c = c.loop-join.invariant.noted
 
 pub put_alternative-requires-clause-next : goal.put_alternative-requires-clause-next
 put_alternative-requires-clause-next c =

@@ -6,6 +6,9 @@ use Rattle.bocage.proofs.Growing.{lists_then}
 use Rattle.bocage.proofs.Joining.{may_begin, nothing_first}
 use Rattle.bocage.proofs.walk.put_nothing_first.Goals as goal
 
+pub put_alternatives-requires-clause-noted : goal.put_alternatives-requires-clause-noted
+put_alternatives-requires-clause-noted c = c.in_ok-put_nothing.ensures.noted
+
 pub returns : goal.returns
 returns c =
     let h : is_high c.args.known.now c.args.front ≡ true = search rules in

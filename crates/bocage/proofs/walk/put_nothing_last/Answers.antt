@@ -6,6 +6,9 @@ use Rattle.bocage.proofs.Growing.{lists_then}
 use Rattle.bocage.proofs.Joining.{may_begin, nothing_last}
 use Rattle.bocage.proofs.walk.put_nothing_last.Goals as goal
 
+pub put_nothing-requires-clause-noted : goal.put_nothing-requires-clause-noted
+put_nothing-requires-clause-noted c = c.in_ok-put_alternatives.ensures.noted
+
 pub returns : goal.returns
 returns c =
     let h : is_high c.args.known.now c.args.front ≡ false = search rules in

@@ -1,4 +1,4 @@
-use Rattle.std.proofs.Common.{ap, map, ◌∙◌}
+use Rattle.std.proofs.Common.{map}
 use Rattle.grammar_core.specs.Steps.{step_of}
 use Rattle.value_text.specs.Meaning.{meaning_of}
 use Rattle.value_lines.proofs.Meanings.{meaning_fits}
@@ -18,8 +18,8 @@ append_line-requires-clause-list g c =
     let given = c.requires.given.0 in
     let more = one_more c.in_ok-next.field-0 c.next.new.self given c.if-not-branch.false (c.in_ok-next.ensures.answer given c.requires.given.1) in
     let steps = can_play b c.known.ensures.accepted.checked.structural c.known.ensures.ranges c.args.chars.now c.args.spans.now c.args.iter.now.forest c.requires.forest.0 c.requires.forest.1
-    c.next.new.self c.in_ok-next.ensures.forest given more (map step_of c.new-list.result.items) (map step_of c.steps_of.new.out.items) (ap (map step_of) c.new-list.ensures.items) c.in_ok-steps_of.ensures.ok in
-    rw (c.written.ensures, c.deref.ensures.value) steps
+    c.next.new.self c.in_ok-next.ensures.forest given more (map step_of c.current_steps.result.now) c.current_steps.ensures in
+    rw c.written.ensures steps
 
 pub returns-clause-line : goal.returns-clause-line
 returns-clause-line g c =
@@ -27,6 +27,6 @@ returns-clause-line g c =
     let b = c.args.prepared.now in
     let more = one_more c.in_ok-next.field-0 c.next.new.self given c.if-not-branch.false (c.in_ok-next.ensures.answer given are) in
     the_line b c.known.ensures.accepted.checked.structural c.known.ensures.ranges c.args.chars.now c.args.spans.now c.args.iter.now.forest pieces of
-    show c.next.new.self given more (map step_of c.new-list.result.items) (map step_of c.steps_of.new.out.items) (ap (map step_of) c.new-list.ensures.items) c.in_ok-steps_of.ensures.ok
+    show c.next.new.self given more (map step_of c.current_steps.result.now) c.current_steps.ensures
     c.written.result.now (meaning_of c.meaning.result.now) c.clear.new.self.items c.append_line.new.line.items c.written.ensures c.meaning.ensures c.clear.ensures.items
-    (λ t is. c.in_ok-append_line.ensures.line show t alone (ap (map step_of) c.deref.ensures.value ∙ is))
+    (λ t is. c.in_ok-append_line.ensures.line show t alone is)

@@ -14,16 +14,16 @@ use Rattle.bocage.proofs.forest.Forest.stats.Goals as goal
 
 pub returns : goal.returns
 returns c =
-    let keys = keys_of_nodes c.self.inside.wholes.items c.self.inside.keys.keys (map (λ r. r.now) c.self.inside.table.items) c.self.invariant.1.long in
+    let keys = keys_of_nodes c.self.inside.wholes.items c.self.inside.keys.items (map (λ r. r.now) c.self.inside.table.items) c.self.invariant.1.long in
     subst (λ (f : Forest). IsStats f.flat (model.edges_of f) (model.top_of f) f.place c.from.result c.from-2.result (length c.as_slice.result.now) c.from-3.result) c.self.view_is
     (record {
       places = c.from.ensures ∙ c.place.ensures.place;
       kept_items = subst (λ n. IsCountOf {A = Placed} (λ p. (p.place ≤ place_of c.self.inside.recce.now) × InReduced c.self.inside.recce.now.flat (edges_of c.self.inside.recce.now) (top_of c.self.inside.recce.now) p.place p.item) n)
           (sym (c.from-2.ensures ∙ c.item_count.ensures)) (kept_counted c.self.inside.recce.now c.place.ensures.is);
       used_nodes = (
-        map (λ (n : ForestNode). n.key) (nodes_of c.self.inside.wholes.items c.self.inside.keys.keys (map (λ r. r.now) c.self.inside.table.items)),
+        map (λ (n : ForestNode). n.key) (nodes_of c.self.inside.wholes.items c.self.inside.keys.items (map (λ r. r.now) c.self.inside.table.items)),
         c.self.invariant.0.used,
-        ap (λ (l : List NodeKey). length l) (keys ∙ sym c.as_slice.ensures.keys),
+        ap (λ (l : List NodeKey). length l) (keys ∙ sym c.as_slice.ensures.value),
       );
       hidden_items = subst (λ n. IsCountOf (IsExpandedIn c.self.inside.recce.now) n) (sym c.from-3.ensures) c.self.invariant.2;
     })
