@@ -7,7 +7,7 @@ ghost use Rattle.dsl_faults.specs.Found.{fault_of, first_of};
 ghost use Rattle.dsl_faults.specs.Adverbs.{place_of, names_of, list_faults, big_faults, statement_faults};
 
 use crate::adverbs::{Place, is_allowed, value_of};
-use crate::found::{Found, fault_at};
+use crate::found::{Found, fault_at, first_at, first_found};
 use crate::values::{fits, is_big};
 use dsl_statement::{Adverb, Alternative, Statement};
 use std::alloc::{AllocError, Global};
@@ -46,13 +46,7 @@ fn unknown_adverb(
 fn unknown(alloc: Global, place: Place, adverbs: &[Adverb]) -> Result<Option<Found<'_>>, AllocError>
     ensures { IfOk result (λ found. option_map fault_of found ≡ first_of (list_faults Known (place_of place, adverbs_of adverbs.now))) }
 {
-    for adverb in adverbs {
-        let found = unknown_adverb(alloc, place, adverb)?;
-        if found.is_some() {
-            return Ok(found);
-        }
-    }
-    Ok(None)
+    first_found(adverbs, |adverb| unknown_adverb(alloc, place, adverb))
 }
 
 // Whether the adverb stands among those before it.
@@ -101,13 +95,7 @@ fn big_adverb(adverb: &Adverb) -> Option<Found<'_>>
 fn too_big(adverbs: &[Adverb]) -> Option<Found<'_>>
     ensures { option_map fault_of result ≡ first_of (big_faults (adverbs_of adverbs.now)) }
 {
-    for adverb in adverbs {
-        let found = big_adverb(adverb);
-        if found.is_some() {
-            return found;
-        }
-    }
-    None
+    first_at(adverbs, big_adverb)
 }
 
 fn fault_in_list(
@@ -133,13 +121,9 @@ fn fault_in_group(
 ) -> Result<Option<Found<'_>>, AllocError>
     ensures { IfOk result (λ found. option_map fault_of found ≡ first_of (flat_map (λ a. list_faults check (place_of place, a.adverbs)) group.now)) }
 {
-    for alternative in group {
-        let found = fault_in_list(alloc, check, place, &alternative.adverbs)?;
-        if found.is_some() {
-            return Ok(found);
-        }
-    }
-    Ok(None)
+    first_found(group, |alternative| {
+        fault_in_list(alloc, check, place, &alternative.adverbs)
+    })
 }
 
 fn fault_in_groups(
@@ -150,13 +134,7 @@ fn fault_in_groups(
 ) -> Result<Option<Found<'_>>, AllocError>
     ensures { IfOk result (λ found. option_map fault_of found ≡ first_of (flat_map (λ g. flat_map (λ a. list_faults check (place_of place, a.adverbs)) g.items) groups.now)) }
 {
-    for group in groups {
-        let found = fault_in_group(alloc, check, place, group)?;
-        if found.is_some() {
-            return Ok(found);
-        }
-    }
-    Ok(None)
+    first_found(groups, |group| fault_in_group(alloc, check, place, group))
 }
 
 fn place_of_alternatives(lexical: bool) -> Place
@@ -230,11 +208,5 @@ pub fn fault_in_all(
 ) -> Result<Option<Found<'_>>, AllocError>
     ensures { IfOk result (λ found. option_map fault_of found ≡ first_of (flat_map (statement_faults check) (map statement_of statements.now))) }
 {
-    for s in statements {
-        let found = fault_in_statement(alloc, check, s)?;
-        if found.is_some() {
-            return Ok(found);
-        }
-    }
-    Ok(None)
+    first_found(statements, |s| fault_in_statement(alloc, check, s))
 }

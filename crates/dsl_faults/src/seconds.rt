@@ -9,7 +9,7 @@ ghost use Rattle.dsl_faults.specs.declared.checks.Check.TheVariants.{Once};
 ghost use Rattle.dsl_faults.specs.Faults.{lexeme_fault, second_fault, with_lexeme, start_fault, is_start, long_fault};
 
 use crate::checks::{Check, fault_in_statement};
-use crate::found::{Found, fault_at};
+use crate::found::{Found, fault_at, first_at, first_found};
 use crate::names::Names;
 use crate::parts::parts_of;
 use crate::quotes::{between_quotes, character_count, is_quote};
@@ -42,13 +42,7 @@ pub fn not_a_lexeme<'a>(
 ) -> Option<Found<'a>>
     ensures { option_map fault_of result ≡ first_of (flat_map (lexeme_fault symbols.now left.now) (map statement_of statements.now)) }
 {
-    for s in statements {
-        let found = lexeme_fault(s, symbols, left);
-        if found.is_some() {
-            return found;
-        }
-    }
-    None
+    first_at(statements, |s| lexeme_fault(s, symbols, left))
 }
 
 fn second_fault<'a>(s: &'a Statement, seen: bool, lexemes: &Names) -> Option<Found<'a>>
@@ -206,25 +200,13 @@ fn long_alternative(
 fn long_group(alloc: Global, group: &[Alternative]) -> Result<Option<Found<'_>>, AllocError>
     ensures { IfOk result (λ found. option_map fault_of found ≡ first_of (flat_map (λ a. long_parts 0 (building.parts_of a)) group.now)) }
 {
-    for alternative in group {
-        let found = long_alternative(alloc, alternative)?;
-        if found.is_some() {
-            return Ok(found);
-        }
-    }
-    Ok(None)
+    first_found(group, |alternative| long_alternative(alloc, alternative))
 }
 
 fn long_groups(alloc: Global, groups: &[Vec<Alternative>]) -> Result<Option<Found<'_>>, AllocError>
     ensures { IfOk result (λ found. option_map fault_of found ≡ first_of (flat_map (λ g. flat_map (λ a. long_parts 0 (building.parts_of a)) g.items) groups.now)) }
 {
-    for group in groups {
-        let found = long_group(alloc, group)?;
-        if found.is_some() {
-            return Ok(found);
-        }
-    }
-    Ok(None)
+    first_found(groups, |group| long_group(alloc, group))
 }
 
 fn long_statement(alloc: Global, s: &Statement) -> Result<Option<Found<'_>>, AllocError>
@@ -240,11 +222,5 @@ fn long_statement(alloc: Global, s: &Statement) -> Result<Option<Found<'_>>, All
 pub fn too_long(alloc: Global, statements: &[Statement]) -> Result<Option<Found<'_>>, AllocError>
     ensures { IfOk result (λ found. option_map fault_of found ≡ first_of (too_long (map statement_of statements.now))) }
 {
-    for s in statements {
-        let found = long_statement(alloc, s)?;
-        if found.is_some() {
-            return Ok(found);
-        }
-    }
-    Ok(None)
+    first_found(statements, |s| long_statement(alloc, s))
 }

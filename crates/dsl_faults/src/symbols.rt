@@ -9,7 +9,7 @@ ghost use Rattle.dsl_faults.specs.Texts.{with_text};
 ghost use Rattle.dsl_faults.specs.Uses.{used_of, is_right, is_left, is_asked};
 ghost use Rattle.dsl_faults.specs.Faults.{is_undefined, is_bad_class, undefined_fault, class_fault, both_fault, left_part};
 
-use crate::found::{Found, fault_at};
+use crate::found::{Found, fault_at, first_at, first_found};
 use crate::names::Names;
 use crate::uses::{Role, Use, Which, is_asked, text_of};
 use char_class::{ClassRefusal, read_class};
@@ -69,16 +69,10 @@ fn undefined_use<'a>(used: &Use<'a>, structural: &Names, lexical: &Names) -> Opt
 }
 
 /// The first name that no rule defines, or in a lexical place no lexical rule. The tables have the left sides.
-pub fn undefined<'a>(uses: &[Use<'a>], structural: &Names, lexical: &Names) -> Option<Found<'a>>
+pub fn undefined<'a>(uses: &'a [Use<'a>], structural: &Names, lexical: &Names) -> Option<Found<'a>>
     ensures { option_map fault_of result ≡ first_of (flat_map (undefined_fault structural.now lexical.now) (map used_of uses.now)) }
 {
-    for used in uses {
-        let found = undefined_use(used, structural, lexical);
-        if found.is_some() {
-            return found;
-        }
-    }
-    None
+    first_at(uses, |used| undefined_use(used, structural, lexical))
 }
 
 fn is_bad_text(alloc: Global, text: &str) -> Result<bool, AllocError>
@@ -102,16 +96,10 @@ fn bad_class_use<'a>(alloc: Global, used: &Use<'a>) -> Result<Option<Found<'a>>,
 }
 
 /// The first class that cannot be read.
-pub fn bad_class<'a>(alloc: Global, uses: &[Use<'a>]) -> Result<Option<Found<'a>>, AllocError>
+pub fn bad_class<'a>(alloc: Global, uses: &'a [Use<'a>]) -> Result<Option<Found<'a>>, AllocError>
     ensures { IfOk result (λ found. option_map fault_of found ≡ first_of (flat_map class_fault (map used_of uses.now))) }
 {
-    for used in uses {
-        let found = bad_class_use(alloc, used)?;
-        if found.is_some() {
-            return Ok(found);
-        }
-    }
-    Ok(None)
+    first_found(uses, |used| bad_class_use(alloc, used))
 }
 
 fn is_of_other_level(used: &Use<'_>, structural: &Names, lexical: &Names) -> bool

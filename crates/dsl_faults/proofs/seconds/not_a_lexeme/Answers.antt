@@ -1,14 +1,12 @@
-use Rattle.std.proofs.Common.{arith, sym, ◌∙◌, ap}
+use Rattle.std.proofs.Common.{sym, ap, ◌∙◌, rules}
 use Rattle.std.proofs.lemmas.List.Folds.{flat_map-map}
 use Rattle.dsl_statement.specs.declared.statement.Statement.{Statement as HeldStatement}
 use Rattle.dsl_statement.specs.Statements.{statement_of}
 use Rattle.dsl_faults.specs.Found.{first_of}
 use Rattle.dsl_faults.specs.Faults.{lexeme_fault}
-use Rattle.dsl_faults.proofs.Firsts.{stops, none_at_all}
 use Rattle.dsl_faults.proofs.seconds.not_a_lexeme.Goals as goal
 
-pub returns-then-is_some : goal.returns-then-is_some
-returns-then-is_some c = let g = λ (s : HeldStatement). lexeme_fault c.args.symbols.now c.args.left.now (statement_of s) in stops g c.args.statements.now c.loop-s.s-index c.s-item.result c.lexeme_fault-found.result (omega arith) c.s-item.is c.loop-s.invariant c.lexeme_fault-found.ensures (sym c.is_some.ensures ∙ c.if-is_some.true) ∙ ap first_of (sym (flat_map-map (lexeme_fault c.args.symbols.now c.args.left.now) statement_of c.args.statements.now))
-
 pub returns : goal.returns
-returns c = let g = λ (s : HeldStatement). lexeme_fault c.args.symbols.now c.args.left.now (statement_of s) in sym (none_at_all g c.args.statements.now c.loop-s.s-index (omega arith) c.loop-s.invariant) ∙ ap first_of (sym (flat_map-map (lexeme_fault c.args.symbols.now c.args.left.now) statement_of c.args.statements.now))
+returns c =
+    c.first_at.ensures (λ (s : HeldStatement). lexeme_fault c.args.symbols.now c.args.left.now (statement_of s)) (λ x o e. search rules)
+    ∙ ap first_of (sym (flat_map-map (lexeme_fault c.args.symbols.now c.args.left.now) statement_of c.args.statements.now))
