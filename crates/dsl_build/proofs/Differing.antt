@@ -7,7 +7,7 @@ use Rattle.std.specs.List.{AllByRecursion}
 use Rattle.language_model.specs.Tokens.{Spelled}
 use Rattle.language_model.specs.Description.{Statement}
 use Rattle.language_model.specs.Building.{is_one_of, new_texts, new_tokens, symbols_g1, lexemes, discarded, start_texts, texts_l0, named_l0, left_names}
-use Rattle.dsl_build.specs.Texts.{AllNew}
+use Rattle.dsl_faults.specs.Texts.{AllNew}
 
 -- none of the texts is one of those seen
 abbrev pub Apart : List (List ℕ) → List (List ℕ) → Type 0

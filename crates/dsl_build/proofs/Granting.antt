@@ -15,7 +15,7 @@ use Rattle.grammar_core.specs.declared.refusal.CoreRefusal.TheVariants.{BadSymbo
 use Rattle.language_model.specs.Building.{is_one_of}
 use Rattle.dsl_build.specs.Rules.{with_names}
 use Rattle.dsl_build.specs.Ready.{IsGood}
-use Rattle.dsl_build.proofs.Keeping.{is_one_of_any}
+use Rattle.dsl_faults.proofs.Keeping.{is_one_of_any}
 
 room : (n : ℕ) → n < 16777215 → has_room n ≡ true
 room n lt = grind (arith, nat_tests)

@@ -10,7 +10,7 @@ use Rattle.grammar_core.specs.Written.{symbols_of, IsLevelled}
 use Rattle.language_model.specs.Tokens.{Spelled}
 use Rattle.language_model.specs.Description.{Alternative, Statement, Start, Default, LexemeDefault, Lexeme, Discard, Empty, Quantified, Rules}
 use Rattle.language_model.specs.Building.{is_one_of, place_in, numbers_in, parts_of, alternatives_of, separator_of, value_of, plain_rule, rules_of_groups, rules_of, is_of_level, right_sides, long_parts, too_long, at_most, fault_at, is_quote, quoted}
-use Rattle.dsl_build.proofs.Keeping.{bytes_eq_sym}
+use Rattle.dsl_faults.proofs.Keeping.{bytes_eq_sym}
 use Rattle.dsl_build.proofs.Faultless.{front_empty, back_empty, none_of}
 use Rattle.dsl_build.proofs.Alls.{all_front, all_back, all_join, all_mapped, all_weaker, all_empty}
 use Rattle.std.proofs.lemmas.Grind.{flat_map-append}

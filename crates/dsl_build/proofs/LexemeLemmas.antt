@@ -8,9 +8,9 @@ use Rattle.language_model.specs.Tokens.{Spelled}
 use Rattle.language_model.specs.Description.{Adverb, Comma, Pair, Statement, Start, Default, LexemeDefault, Lexeme, Discard, Empty, Quantified, Rules}
 use Rattle.language_model.specs.Building.{is_one_of, value_of, place_in, number_of, LexemeRow, lexeme_row, lexeme_adverbs, lexeme_default_adverbs, symbols_g1, start_texts, repeated, repeated_statement, repeated_in, pairs_of, adverb_lists, is_lexeme_of}
 use Rattle.dsl_build.specs.Tables.{lexeme_parts, adverbs_at, or_else, row_from}
-use Rattle.dsl_build.specs.Texts.{AllNew}
-use Rattle.dsl_build.proofs.Lists.{flat_flat, flat_same}
-use Rattle.dsl_build.proofs.Keeping.{bytes_eq_sym}
+use Rattle.dsl_faults.specs.Texts.{AllNew}
+use Rattle.dsl_faults.proofs.Lists.{flat_flat, flat_same}
+use Rattle.dsl_faults.proofs.Keeping.{bytes_eq_sym}
 use Rattle.dsl_build.proofs.Faultless.{front_empty, back_empty, none_of}
 
 -- THE VALUE OF AN ADVERB

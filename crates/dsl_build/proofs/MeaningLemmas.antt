@@ -11,7 +11,7 @@ use Rattle.dsl_statement.specs.declared.statement.Alternative.{Alternative as He
 use Rattle.dsl_statement.specs.declared.statement.Statement.{Statement as HeldStatement}
 use Rattle.dsl_statement.specs.Statements.{statement_of}
 use Rattle.dsl_build.specs.Meanings.{meaning_of_alternative, meanings_of, next_default}
-use Rattle.dsl_build.proofs.Lists.{map_flat}
+use Rattle.dsl_faults.proofs.Lists.{map_flat}
 
 pub alternatives_flat : (default : Action) (groups : List (Vec HeldAlternative Global)) →
     map (meaning_of_alternative default) (alternatives_of (map (λ g. g.items) groups)) ≡ flat_map (λ g. map (meaning_of_alternative default) g.items) groups

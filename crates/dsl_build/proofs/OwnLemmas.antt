@@ -10,7 +10,7 @@ use Rattle.language_model.specs.Building.{is_one_of}
 use Rattle.dsl_statement.specs.declared.statement.Statement.{Statement as HeldStatement}
 use Rattle.dsl_statement.specs.Statements.{statement_of}
 use Rattle.dsl_build.specs.Tables.{lexeme_parts}
-use Rattle.dsl_build.specs.Texts.{AllNew}
+use Rattle.dsl_faults.specs.Texts.{AllNew}
 use Rattle.dsl_build.proofs.Differing.{unseen_behind}
 use Rattle.dsl_build.proofs.LexemeLemmas.{names_of}
 

@@ -5,10 +5,10 @@ use Rattle.std.proofs.Math.Bool.{or-false}
 use Rattle.std.proofs.lemmas.List.Elements.{filter-append}
 use Rattle.language_model.specs.Tokens.{Spelled}
 use Rattle.language_model.specs.Building.{is_one_of, new_tokens}
-use Rattle.dsl_build.specs.declared.uses.Use.{Use}
-use Rattle.dsl_build.specs.Uses.{used_of}
+use Rattle.dsl_faults.specs.declared.uses.Use.{Use}
+use Rattle.dsl_faults.specs.Uses.{used_of}
 use Rattle.dsl_build.specs.Lexical.{is_placed, placed_part}
-use Rattle.dsl_build.proofs.Lists.{flat_more, take_get}
+use Rattle.dsl_faults.proofs.Lists.{flat_more, take_get}
 
 abbrev contents : List Spelled → List (List ℕ)
 contents ts = map (λ t. t.content) ts

@@ -14,9 +14,9 @@ use Rattle.language_model.specs.Description.{Statement, Start, Default, LexemeDe
 use Rattle.language_model.specs.Building.{Built, is_one_of, place_in, parts_of, alternatives_of, separator_of, rules_of, is_of_level, structural_names, symbols_g1, left_names, lexemes, start_names, start_of, lexical_tokens, placed_tokens, new_tokens, new_texts, texts_l0, named_l0, sets_l0, sets_of, set_names, added_rules, count_from, discards_of, discarded, start_texts, grammar_g1, grammar_l0, lexeme_row, built_of, numbered_from, is_quote_or_bracket}
 use Rattle.language_model.specs.Texts.{IsBuiltOf}
 use Rattle.dsl_build.specs.Ranges.{IsKnown, IsInRange}
-use Rattle.dsl_build.proofs.Lists.{map_flat}
-use Rattle.dsl_build.proofs.Keeping.{among_texts}
-use Rattle.dsl_build.proofs.Bridges.{among_filtered}
+use Rattle.dsl_faults.proofs.Lists.{map_flat}
+use Rattle.dsl_faults.proofs.Keeping.{among_texts}
+use Rattle.dsl_faults.proofs.Bridges.{among_filtered}
 use Rattle.dsl_build.proofs.Faultless.{Faultless, faultless}
 use Rattle.dsl_build.proofs.Alls.{all_join, all_map, all_weaker, all_flat, all_pieces}
 use Rattle.dsl_build.proofs.Few.{IsFew, few_placed}

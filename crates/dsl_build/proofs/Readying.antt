@@ -13,7 +13,7 @@ use Rattle.language_model.specs.Tokens.{Spelled}
 use Rattle.language_model.specs.Description.{Alternative, Adverb, Statement, Start, Default, LexemeDefault, Lexeme, Discard, Empty, Quantified, Rules, is_statement, is_name, is_kind_of_single, is_adverb, is_group, is_one, is_some as is_filled, tokens_of, pieces_of}
 use Rattle.language_model.specs.Texts.{IsDescription, spelled}
 use Rattle.language_model.specs.Building.{AdverbPlace, InOther, InAlternative, adverb_lists, is_one_of, place_in, parts_of, alternatives_of, separator_of, right_of, left_of, structural_names, lexical_tokens, placed_tokens, sets_l0, sets_of, set_names, count_from, symbols_g1, left_names, lexemes, named_l0, texts_l0, start_of, start_texts, discarded, rules_of, is_of_level, added_rules, grammar_g1, grammar_l0, is_quote, is_quote_or_bracket, rank_of, new_texts}
-use Rattle.dsl_build.specs.Texts.{AllNew}
+use Rattle.dsl_faults.specs.Texts.{AllNew}
 use Rattle.dsl_build.specs.Tables.{lexeme_parts, priority_of}
 use Rattle.dsl_build.specs.Lexical.{set_name}
 use Rattle.dsl_build.specs.Ready.{IsSmall, IsNamed, IsReady, IsReadyAlternative, IsReadable, IsWritable}

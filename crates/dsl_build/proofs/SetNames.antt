@@ -4,7 +4,7 @@ use Rattle.std.specs.Prelude.{slice_get, decimal}
 use Rattle.std.proofs.lemmas.List.{map-append, length-map}
 use Rattle.language_model.specs.Building.{count_from, set_names}
 use Rattle.dsl_build.specs.Lexical.{set_name}
-use Rattle.dsl_build.proofs.Lists.{count_more}
+use Rattle.dsl_faults.proofs.Lists.{count_more}
 use Rattle.dsl_build.proofs.Ranging.{count_long}
 
 counts_get : (a n k : ℕ) → k < n → slice_get (map set_name (count_from a n)) k ≡ Some (set_name (a + k))

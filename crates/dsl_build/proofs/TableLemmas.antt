@@ -9,7 +9,7 @@ use Rattle.language_model.specs.Description.{Adverb, Comma, Pair}
 use Rattle.language_model.specs.Building.{value_of, lexeme_default_adverbs}
 use Rattle.dsl_statement.specs.declared.statement.Statement.{Statement as HeldStatement}
 use Rattle.dsl_statement.specs.Statements.{statement_of}
-use Rattle.dsl_build.proofs.Lists.{flat_more}
+use Rattle.dsl_faults.proofs.Lists.{flat_more}
 
 value_behind : (name : List ℕ) (xs ys : List Adverb) → value_of name xs ≡ None → value_of name (xs ++ ys) ≡ value_of name ys
 value_behind name [] ys e = refl

@@ -17,17 +17,17 @@ use Rattle.language_model.specs.Building.{AdverbPlace, InLexicalQuantified, InQu
 use Rattle.language_model.specs.Texts.{IsDescription, IsBuiltOf, spelled}
 use Rattle.dsl_build.specs.Ranges.{HasSet, IsBareStart, TerminalsHaveSets}
 use Rattle.language_model.specs.Description.{pieces_of}
-use Rattle.dsl_build.proofs.Keeping.{among_texts}
-use Rattle.dsl_build.proofs.Bridges.{among_filtered, any_left}
+use Rattle.dsl_faults.proofs.Keeping.{among_texts}
+use Rattle.dsl_faults.proofs.Bridges.{among_filtered, any_left}
 use Rattle.dsl_build.proofs.Faultless.{Faultless, faultless, front_empty, back_empty, map_empty, none_of}
 use Rattle.dsl_build.proofs.Differing.{differ, named_new}
 use Rattle.dsl_build.proofs.Alls.{all_front, all_back, all_join, all_map, all_weaker, all_always, all_flat, all_pieces, all_filter, all_empty, all_at}
 use Rattle.dsl_build.proofs.Few.{and_front, and_back, bad_pair, bad_of, not_false, true_back, statements_are, all_tokens}
 use Rattle.dsl_build.proofs.Known.{AllIn, place_known}
-use Rattle.dsl_build.specs.Texts.{AllNew}
+use Rattle.dsl_faults.specs.Texts.{AllNew}
 use Rattle.std.proofs.Math.Bool.{or-false}
 use Rattle.dsl_build.proofs.Ranging.{or_true, all_in, any_append, one_in, symbols_all, lefts_in, tokens_as_texts, contents, or_cases, names_long, numbers_are, numbered_long, front_true, symbol_of_lexeme}
-use Rattle.dsl_build.proofs.Lists.{map_flat}
+use Rattle.dsl_faults.proofs.Lists.{map_flat}
 
 -- RULES WITH A LEFT SIDE
 

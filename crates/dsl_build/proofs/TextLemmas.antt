@@ -4,13 +4,13 @@ use Rattle.std.specs.Prelude.{flat_map, filter, not, ◌||◌}
 use Rattle.language_model.specs.Tokens.{Spelled}
 use Rattle.language_model.specs.Description.{Statement, Start, Default, LexemeDefault, Lexeme, Discard, Empty, Quantified, Rules}
 use Rattle.language_model.specs.Building.{is_one_of, new_texts, new_tokens, symbols_g1, lexemes, left_names, discards_of, discarded, start_names, start_of, lexical_tokens, placed_tokens, is_quote_or_bracket, separator_of, parts_of, alternatives_of}
-use Rattle.dsl_build.specs.declared.uses.Role.TheVariants as role
-use Rattle.dsl_build.specs.declared.uses.Which.TheVariants.{StructuralLeft, Discarded, Started}
-use Rattle.dsl_build.specs.Uses.{used, uses_of, texts_asked, starts_asked}
+use Rattle.dsl_faults.specs.declared.uses.Role.TheVariants as role
+use Rattle.dsl_faults.specs.declared.uses.Which.TheVariants.{StructuralLeft, Discarded, Started}
+use Rattle.dsl_faults.specs.Uses.{used, uses_of, texts_asked, starts_asked}
 use Rattle.dsl_build.specs.Lexical.{placed_part}
-use Rattle.dsl_build.proofs.Lists.{flat_flat, flat_same}
-use Rattle.dsl_build.proofs.Keeping.{among_texts}
-use Rattle.dsl_build.proofs.Bridges.{uses, nothing, structural_lefts}
+use Rattle.dsl_faults.proofs.Lists.{flat_flat, flat_same}
+use Rattle.dsl_faults.proofs.Keeping.{among_texts}
+use Rattle.dsl_faults.proofs.Bridges.{uses, nothing, structural_lefts}
 
 filter_same : {A : Type 0} (p q : A → Bool) (xs : List A) → ((x : A) → p x ≡ q x) → filter p xs ≡ filter q xs
 filter_same p q [] same = refl

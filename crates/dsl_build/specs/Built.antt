@@ -4,8 +4,8 @@ use Rattle.language_model.specs.Description.{Statement}
 use Rattle.language_model.specs.Building.{is_one_of, new_texts, symbols_g1, lexemes, discarded, start_texts, placed_tokens, named_l0}
 use Rattle.dsl_build.specs.declared.texts.Starts.{Starts}
 use Rattle.dsl_build.specs.declared.texts.Texts.{Texts}
-use Rattle.dsl_build.specs.declared.uses.Which.TheVariants.{StructuralLeft, Structural, Discarded}
-use Rattle.dsl_build.specs.Uses.{Used, used_of, uses_of, texts_asked}
+use Rattle.dsl_faults.specs.declared.uses.Which.TheVariants.{StructuralLeft, Structural, Discarded}
+use Rattle.dsl_faults.specs.Uses.{Used, used_of, uses_of, texts_asked}
 
 -- the texts are those of the uses
 pub record AreStarts (us : List Used) (s : Starts) : Type 0 where

@@ -5,7 +5,7 @@ use Rattle.language_model.specs.Classes.{Class}
 use Rattle.language_model.specs.Building.{is_quote_or_bracket, count_from, sets_of}
 use Rattle.grammar_model.specs.declared.Assoc.TheVariants.{Left}
 use Rattle.grammar_model.specs.Grammar.{WrittenRule, Plain}
-use Rattle.dsl_build.specs.Uses.{Used, is_left, is_right}
+use Rattle.dsl_faults.specs.Uses.{Used, is_left, is_right}
 
 abbrev pub is_placed : Used → Bool
 is_placed u = (is_left u && u.lexical) || (is_right u && (u.lexical || is_quote_or_bracket u.token))

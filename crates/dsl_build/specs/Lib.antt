@@ -1,12 +1,9 @@
-pub mod Adverbs
 pub mod Built
-pub mod Faults
-pub mod Found
 pub mod Lexical
 pub mod Meanings
 pub mod Ranges
 pub mod Ready
 pub mod Rules
 pub mod Tables
-pub mod Texts
-pub mod Uses
+pub use Rattle.dsl_faults.specs.Found
+pub use Rattle.dsl_faults.specs.Texts

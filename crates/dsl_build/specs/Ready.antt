@@ -1,13 +1,12 @@
 -- What a program asks of statements and tokens so that it can write their grammars: none of it fails in the description of a text that has no fault.
-use Rattle.std.specs.Prelude.{◌≡◌, ℕ, ◌-◌, ◌≤◌, ℤ, pos, neg_ℤ, ◌≤ℤ◌, true, List, [], length, take, drop, All, IsUtf8}
+use Rattle.std.specs.Prelude.{◌≡◌, ◌<◌, ℕ, ◌≤◌, ℤ, pos, neg_ℤ, ◌≤ℤ◌, true, List, [], length, All, IsUtf8}
 use Rattle.language_model.specs.Tokens.{Spelled}
-use Rattle.language_model.specs.Classes.{modifier_len}
 use Rattle.language_model.specs.Description.{Alternative, Statement, Empty, Quantified, Rules}
 use Rattle.language_model.specs.Building.{is_one_of, is_quote, parts_of, rank_of, separator_of}
 use Rattle.grammar_model.specs.Grammar.{WrittenRule, Grammar}
 use Rattle.grammar_core.specs.Written.{symbols_of, IsLevelled}
-use Rattle.dsl_build.specs.Texts.{AllNew}
-use Rattle.std.specs.Prelude.{◌<◌}
+use Rattle.dsl_faults.specs.Texts.{AllNew}
+use Rattle.dsl_faults.specs.Quotes.{between_quotes}
 
 -- from minus a million to a million
 abbrev pub IsSmall : ℤ → Type 0
@@ -26,10 +25,6 @@ IsReady names (Empty left lexical adverbs) = IsNamed names left × IsSmall (rank
 IsReady names (Quantified left lexical item plus adverbs) = IsNamed names left × IsNamed names item × All (IsNamed names) (separator_of adverbs) × IsSmall (rank_of adverbs)
 IsReady names (Rules left lexical groups) = IsNamed names left × (length groups ≤ 4294967295) × All (All (IsReadyAlternative names)) groups
 IsReady names _ = Unit {0}
-
--- what stands between the quotes of a quoted text
-abbrev pub between_quotes : List ℕ → List ℕ
-between_quotes text = take (length text - modifier_len text - 2) (drop 1 text)
 
 -- a quoted text has characters between its quotes
 abbrev pub IsReadable : Spelled → Type 0

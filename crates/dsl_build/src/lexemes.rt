@@ -4,15 +4,14 @@ ghost use Rattle.language_model.specs.Building as building;
 ghost use Rattle.language_model.specs.Building.{is_one_of, lexeme_default_adverbs};
 ghost use Rattle.dsl_statement.specs.Statements.{adverbs_of, statement_of};
 ghost use Rattle.dsl_build.specs.Tables.{row_of, row_from, priority_of, lexeme_parts, adverbs_at, or_else};
-ghost use Rattle.dsl_build.specs.Texts.{AllNew};
+ghost use Rattle.dsl_faults.specs.Texts.{AllNew};
 ghost use Rattle.dsl_build.specs.Ready.{IsSmall};
 
-use crate::adverbs::value_of;
 use crate::built::LexemeRow;
-use crate::names::Names;
 use crate::numbers::read_number;
 use crate::rules::symbol_of;
 use crate::tables::default_value;
+use dsl_faults::{Names, value_of};
 use dsl_statement::{Adverb, Spelled, Statement};
 use std::alloc::{AllocError, Global};
 

@@ -6,12 +6,12 @@ ghost use Rattle.dsl_statement.specs.Statements.{statement_of};
 ghost use Rattle.dsl_build.specs.Lexical.{added_rule, added_of};
 ghost use Rattle.dsl_build.specs.Ready.{IsReadable, IsReady, IsWritable};
 
-use crate::names::Names;
 use crate::placed::is_quote_or_bracket;
 use crate::rules::{push_rules, symbol_of};
 use crate::sets::{numbers_from, push_sets};
 use crate::writing::written;
 use char_class::CharSet;
+use dsl_faults::Names;
 use dsl_statement::{Spelled, Statement};
 use grammar_core::{Assoc, Rule, SymbolId, Written, WrittenRule};
 use std::alloc::{AllocError, Global};

@@ -7,8 +7,7 @@ ghost use Rattle.value_text.specs.Meaning.{action_of, rule_meaning_of};
 ghost use Rattle.dsl_statement.specs.Statements.{adverbs_of, element_of, statement_of};
 ghost use Rattle.dsl_build.specs.Meanings.{meaning_of_alternative, meanings_of, next_default};
 
-use crate::adverbs::value_of;
-use crate::descriptor::read_action;
+use dsl_faults::{read_action, value_of};
 use dsl_statement::{Adverb, Alternative, Element, Spelled, Statement};
 use std::alloc::{AllocError, Global};
 use value_text::{Action, Items, RuleMeaning};

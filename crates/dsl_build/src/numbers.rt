@@ -6,7 +6,7 @@ ghost use Rattle.language_model.specs.Building.{digits_number};
 ghost use Rattle.dsl_statement.specs.Statements.{adverbs_of};
 ghost use Rattle.dsl_build.specs.Ready.{IsSmall};
 
-use crate::adverbs::value_of;
+use dsl_faults::value_of;
 use dsl_statement::Adverb;
 use grammar_model::Assoc;
 

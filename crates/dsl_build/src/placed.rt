@@ -2,14 +2,11 @@
 ghost use Rattle.std.specs.Prelude.{◌≡◌, ◌++◌, [], map, flat_map, filter, not, ◌&&◌, ◌∷◌, if◌then◌else◌, false, IfOk, OnOk};
 ghost use Rattle.language_model.specs.Building as building;
 ghost use Rattle.language_model.specs.Building.{is_one_of, new_tokens};
-ghost use Rattle.dsl_build.specs.Uses.{used_of};
+ghost use Rattle.dsl_faults.specs.Uses.{used_of};
 ghost use Rattle.dsl_build.specs.Lexical.{is_placed, placed_part};
-ghost use Rattle.dsl_build.specs.Texts.{AllNew};
+ghost use Rattle.dsl_faults.specs.Texts.{AllNew};
 
-use crate::names::Names;
-use crate::quotes::is_quote;
-use crate::symbols::{is_bracket, is_left, is_right};
-use crate::uses::{Use, text_of};
+use dsl_faults::{Names, Use, is_bracket, is_left, is_quote, is_right, text_of};
 use dsl_statement::Spelled;
 use std::alloc::{AllocError, Global};
 

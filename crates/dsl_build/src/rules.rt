@@ -8,10 +8,8 @@ ghost use Rattle.grammar_core.specs.Written.{rule_of};
 ghost use Rattle.dsl_statement.specs.Statements.{adverbs_of, statement_of};
 ghost use Rattle.dsl_build.specs.Ready.{IsNamed, IsSmall, IsReady, IsReadyAlternative};
 
-use crate::adverbs::value_of;
-use crate::names::Names;
 use crate::numbers::{assoc_of, rank_of, says};
-use crate::parts;
+use dsl_faults::{Names, value_of};
 use dsl_statement::{Adverb, Alternative, Spelled, Statement};
 use grammar_core::{Assoc, Rule, SeqRule, SymbolId, WrittenRule};
 use std::alloc::{AllocError, Global};
@@ -57,7 +55,7 @@ fn right_side(
     requires few { length names.now ≤ 16777215 }
     ensures { IfOk result (λ numbers. numbers.items ≡ numbers_in names.now (parts_of alternative.now)) }
 {
-    let parts = parts::parts_of(alloc, alternative)?;
+    let parts = dsl_faults::parts_of(alloc, alternative)?;
     numbers_of(alloc, names, &parts)
 }
 

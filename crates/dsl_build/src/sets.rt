@@ -6,9 +6,9 @@ ghost use Rattle.language_model.specs.Building.{sets_of, count_from};
 ghost use Rattle.dsl_build.specs.Lexical.{class_sets};
 ghost use Rattle.dsl_build.specs.Ready.{IsReadable};
 
-use crate::quotes::{is_quote, modifier_len, quoted};
-use crate::symbols::is_bracket;
+use crate::quoted::quoted;
 use char_class::{CharSet, ClassRefusal, read_class, set_of_char};
+use dsl_faults::{is_bracket, is_quote, modifier_len};
 use dsl_statement::Spelled;
 use grammar_core::SymbolId;
 use std::alloc::{AllocError, Global};

@@ -3,12 +3,11 @@ ghost use Rattle.std.specs.Prelude.{◌≡◌, ◌≤◌, map, flat_map, filter,
 ghost use Rattle.language_model.specs.Building.{is_one_of, place_in, rules_of, is_of_level};
 ghost use Rattle.dsl_statement.specs.Statements.{statement_of};
 ghost use Rattle.dsl_build.specs.Ready.{IsReady, IsWritable};
-ghost use Rattle.dsl_build.specs.Uses.{used_of, starts_asked};
+ghost use Rattle.dsl_faults.specs.Uses.{used_of, starts_asked};
 
-use crate::names::Names;
 use crate::rules::{push_rules, symbol_of};
-use crate::uses::{Use, Which, first_asked};
 use crate::writing::written;
+use dsl_faults::{Names, Use, Which, first_asked};
 use dsl_statement::{Spelled, Statement};
 use grammar_core::{SymbolId, Written};
 use std::alloc::{AllocError, Global};

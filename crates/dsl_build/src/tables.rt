@@ -6,12 +6,10 @@ ghost use Rattle.grammar_model.specs.Values.{MakeUndefined};
 ghost use Rattle.value_text.specs.Meaning.{action_of, meaning_of};
 ghost use Rattle.dsl_statement.specs.Statements.{adverbs_of, statement_of};
 
-use crate::adverbs::value_of;
-use crate::descriptor::read_action;
 use crate::meanings::meanings;
-use crate::names::Names;
 use crate::rules::symbol_of;
 use char_class::CharSet;
+use dsl_faults::{Names, read_action, value_of};
 use dsl_statement::{Adverb, Spelled, Statement};
 use grammar_core::{SymbolId, Written};
 use std::alloc::{AllocError, Global};

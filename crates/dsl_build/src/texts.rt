@@ -4,13 +4,12 @@ ghost use Rattle.language_model.specs.Building.{is_one_of, new_tokens, new_texts
 ghost use Rattle.dsl_statement.specs.Statements.{statement_of};
 ghost use Rattle.dsl_build.specs.Built.{AreTexts, AreStarts};
 ghost use Rattle.dsl_build.specs.Lexical.{placed_part};
-ghost use Rattle.dsl_build.specs.Texts.{AllNew};
-ghost use Rattle.dsl_build.specs.Uses.{used_of, texts_asked};
-ghost use Rattle.dsl_build.specs.declared.uses.Which.TheVariants.{StructuralLeft};
+ghost use Rattle.dsl_faults.specs.Texts.{AllNew};
+ghost use Rattle.dsl_faults.specs.Uses.{used_of, texts_asked};
+ghost use Rattle.dsl_faults.specs.declared.uses.Which.TheVariants.{StructuralLeft};
 
-use crate::names::Names;
 use crate::placed::{Placed, append, placed_tokens, without};
-use crate::uses::{Use, Which, names_of, uses_of};
+use dsl_faults::{Names, Use, Which, names_of, uses_of};
 use dsl_statement::Statement;
 use std::alloc::{AllocError, Global};
 

@@ -5,12 +5,12 @@ ghost use Rattle.grammar_model.specs.Grammar.{Plain, Sequence};
 ghost use Rattle.grammar_core.specs.Written.{rule_of};
 ghost use Rattle.grammar_core.specs.Refusals.{Answers};
 ghost use Rattle.grammar_core.specs.declared.refusal.CoreRefusal.TheVariants.{NoMemory};
-ghost use Rattle.dsl_build.specs.Texts.{AllNew};
+ghost use Rattle.dsl_faults.specs.Texts.{AllNew};
 ghost use Rattle.dsl_build.specs.Lexical.{set_name};
 ghost use Rattle.dsl_build.specs.Ready.{IsGood, IsWritable};
 ghost use Rattle.dsl_build.specs.Rules.{with_rules, with_names, with_starts};
 
-use crate::names::Names;
+use dsl_faults::Names;
 use grammar_core::{CoreRefusal, Rule, SeqRule, SymbolId, Written, WrittenRule};
 use itoa::Buffer;
 use std::alloc::{AllocError, Global};

@@ -10,7 +10,7 @@ use Rattle.grammar_check.specs.declared.refusal.GrammarRefusal.TheVariants.{NoRu
 use Rattle.grammar_check.specs.Message as check
 use Rattle.grammar_check.specs.Told.{slots_with}
 use Rattle.dsl_build.specs.Found.{first_of, refused_fault}
-use Rattle.dsl_build.specs.declared.refusal.BuildRefusal.{BuildRefusal}
+use Rattle.dsl_faults.specs.declared.refusal.BuildRefusal.{BuildRefusal}
 use Rattle.language_model.specs.Description.{Statement}
 use Rattle.language_model.specs.Building.{Built, BuildFault, faults_of}
 use Rattle.language_model.specs.Texts.{IsText, HasDescription}

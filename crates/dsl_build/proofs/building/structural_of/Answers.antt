@@ -7,8 +7,8 @@ use Rattle.language_model.specs.Building.{grammar_g1, rules_of, is_of_level, is_
 use Rattle.dsl_statement.specs.declared.statement.Statement.{Statement as HeldStatement}
 use Rattle.dsl_statement.specs.Statements.{statement_of}
 use Rattle.dsl_build.specs.Ready.{IsReady, IsWritable}
-use Rattle.dsl_build.specs.Uses.{Used, used_of, uses_of, starts_asked}
-use Rattle.dsl_build.specs.declared.uses.Use.{Use}
+use Rattle.dsl_faults.specs.Uses.{Used, used_of, uses_of, starts_asked}
+use Rattle.dsl_faults.specs.declared.uses.Use.{Use}
 use Rattle.dsl_build.proofs.Faultless.{faultless}
 use Rattle.dsl_build.proofs.Granting.{held_all}
 use Rattle.dsl_build.proofs.Ranging.{start_known}

@@ -12,7 +12,7 @@ use Rattle.dsl_build.proofs.Alls.{all_map}
 use Rattle.dsl_build.proofs.Granting.{all_get}
 use Rattle.dsl_build.proofs.OwnLemmas.{index_all}
 use Rattle.dsl_build.proofs.Smallness.{small_pos}
-use Rattle.dsl_build.proofs.Lists.{take_get}
+use Rattle.dsl_faults.proofs.Lists.{take_get}
 use Rattle.dsl_build.proofs.lexemes.lexeme_rows.Goals as goal
 
 pub loop-place-preserved : goal.loop-place-preserved

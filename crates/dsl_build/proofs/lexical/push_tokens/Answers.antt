@@ -4,7 +4,7 @@ use Rattle.std.proofs.lemmas.List.{drop_all}
 use Rattle.grammar_core.specs.Written.{rule_of}
 use Rattle.language_model.specs.Tokens.{Spelled}
 use Rattle.language_model.specs.Building.{sets_of, added_rules}
-use Rattle.dsl_build.proofs.Lists.{flat_more}
+use Rattle.dsl_faults.proofs.Lists.{flat_more}
 use Rattle.dsl_build.proofs.LexicalLemmas.{rules_on, sets_all, sets_within}
 use Rattle.dsl_build.proofs.lexical.push_tokens.Goals as goal
 

@@ -1,7 +1,7 @@
 use Rattle.std.proofs.Common.{sym, ◌∙◌, ap, ◌∷◌, [], ◌++◌, map, take}
 use Rattle.std.proofs.lemmas.List.{map-append}
 use Rattle.language_model.specs.Building.{place_in}
-use Rattle.dsl_build.proofs.Lists.{take_get}
+use Rattle.dsl_faults.proofs.Lists.{take_get}
 use Rattle.dsl_build.proofs.lexical.starts_of.Goals as goal
 
 pub loop-place-preserved : goal.loop-place-preserved

@@ -1,5 +1,5 @@
 use Rattle.std.proofs.Common.{arith}
-use Rattle.dsl_build.proofs.Counting.{digits_front}
+use Rattle.dsl_faults.proofs.Counting.{digits_front}
 use Rattle.dsl_build.proofs.numbers.digits_number.Goals as goal
 
 pub overflow_mul-number : goal.overflow_mul-number

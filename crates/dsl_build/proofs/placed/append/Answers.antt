@@ -1,7 +1,7 @@
 use Rattle.std.proofs.Common.{[], ◌∷◌, ◌++◌, take, sym, ◌∙◌, ap, append_assoc}
 use Rattle.language_model.specs.Building.{is_one_of}
 use Rattle.dsl_build.proofs.Differing.{unseen_behind}
-use Rattle.dsl_build.proofs.Lists.{take_get}
+use Rattle.dsl_faults.proofs.Lists.{take_get}
 use Rattle.dsl_build.proofs.placed.append.Goals as goal
 
 pub loop-place-preserved : goal.loop-place-preserved

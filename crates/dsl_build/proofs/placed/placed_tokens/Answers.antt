@@ -5,8 +5,8 @@ use Rattle.std.proofs.lemmas.List.{map-append, take_all}
 use Rattle.std.proofs.lemmas.List.Folds.{flat_map-map}
 use Rattle.language_model.specs.Tokens.{Spelled}
 use Rattle.language_model.specs.Building.{new_tokens, is_one_of}
-use Rattle.dsl_build.specs.declared.uses.Use.{Use}
-use Rattle.dsl_build.specs.Uses.{used_of}
+use Rattle.dsl_faults.specs.declared.uses.Use.{Use}
+use Rattle.dsl_faults.specs.Uses.{used_of}
 use Rattle.dsl_build.specs.Lexical.{placed_part, is_placed}
 use Rattle.dsl_build.proofs.PlacedLemmas.{placed_to, placed_on}
 use Rattle.dsl_build.proofs.placed.placed_tokens.Goals as goal

@@ -6,7 +6,7 @@ use Rattle.language_model.specs.Tokens.{Spelled}
 use Rattle.language_model.specs.Building.{place_in, numbers_in, parts_of}
 use Rattle.dsl_build.specs.Ready.{IsNamed}
 use Rattle.dsl_build.proofs.Granting.{held_all}
-use Rattle.dsl_build.proofs.Lists.{map_map}
+use Rattle.dsl_faults.proofs.Lists.{map_map}
 use Rattle.dsl_build.proofs.rules.right_side.Goals as goal
 
 abbrev now : Bor Spelled → Spelled

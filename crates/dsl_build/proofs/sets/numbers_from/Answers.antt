@@ -1,5 +1,5 @@
 use Rattle.std.proofs.Common.{[], ◌∷◌, ◌++◌, ◌+◌, arith, sym, ◌∙◌, ap}
-use Rattle.dsl_build.proofs.Lists.{count_more}
+use Rattle.dsl_faults.proofs.Lists.{count_more}
 use Rattle.dsl_build.proofs.sets.numbers_from.Goals as goal
 
 pub loop-k-preserved : goal.loop-k-preserved

@@ -1,5 +1,5 @@
 use Rattle.std.proofs.Common.{◌≡◌, [], sym, subst, List, ℕ}
-use Rattle.dsl_build.specs.Texts.{AllNew}
+use Rattle.dsl_faults.specs.Texts.{AllNew}
 use Rattle.dsl_build.proofs.Differing.{new_all, filter_new}
 use Rattle.dsl_build.proofs.texts.starts_of.Goals as goal
 

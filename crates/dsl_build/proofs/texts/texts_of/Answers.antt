@@ -4,12 +4,12 @@ use Rattle.language_model.specs.Tokens.{Spelled}
 use Rattle.language_model.specs.Building.{new_texts, new_tokens, is_one_of, symbols_g1, lexemes, discarded, start_texts, placed_tokens, texts_l0}
 use Rattle.dsl_statement.specs.Statements.{statement_of}
 use Rattle.dsl_build.specs.Lexical.{placed_part}
-use Rattle.dsl_build.specs.Uses.{Used, used_of, uses_of, texts_asked}
-use Rattle.dsl_build.specs.declared.uses.Use.{Use}
-use Rattle.dsl_build.specs.declared.uses.Which.TheVariants.{StructuralLeft, Structural, Discarded}
-use Rattle.dsl_build.specs.Texts.{AllNew}
+use Rattle.dsl_faults.specs.Uses.{Used, used_of, uses_of, texts_asked}
+use Rattle.dsl_faults.specs.declared.uses.Use.{Use}
+use Rattle.dsl_faults.specs.declared.uses.Which.TheVariants.{StructuralLeft, Structural, Discarded}
+use Rattle.dsl_faults.specs.Texts.{AllNew}
 use Rattle.dsl_build.proofs.Differing.{lexemes_new}
-use Rattle.dsl_build.proofs.Bridges.{symbols_are}
+use Rattle.dsl_faults.proofs.Bridges.{symbols_are}
 use Rattle.dsl_build.proofs.TextLemmas.{lexemes_are, discards_are, placed_are}
 use Rattle.dsl_build.proofs.texts.texts_of.Goals as goal
 

@@ -2,7 +2,7 @@ use Rattle.std.proofs.Common.{sym, ◌∙◌, ap, List, ℕ, [], ◌∷◌, ◌+
 use Rattle.grammar_model.specs.Grammar.{Grammar}
 use Rattle.language_model.specs.Building.{is_one_of}
 use Rattle.dsl_build.proofs.Differing.{unseen}
-use Rattle.dsl_build.proofs.Lists.{take_get}
+use Rattle.dsl_faults.proofs.Lists.{take_get}
 use Rattle.dsl_build.proofs.writing.named.Goals as goal
 
 abbrev only : List (List ℕ) → Grammar

@@ -1,6 +1,0 @@
-use Rattle.std.proofs.Common.{◌≡◌, ◌++◌, map, take, Bor}
-use Rattle.language_model.specs.Tokens.{Spelled}
-use Rattle.dsl_build.proofs.parts.push_hidden.Given as goal
-
-abbrev pub invariant-loop-part : goal.invariant-loop-part
-invariant-loop-part l = map (λ (t : Bor Spelled). t.now) l.parts.items ≡ map (λ (t : Bor Spelled). t.now) l.fn.parts.items ++ take l.part-index l.hidden

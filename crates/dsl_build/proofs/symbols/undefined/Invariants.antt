@@ -1,8 +1,0 @@
-use Rattle.std.proofs.Common.{◌≡◌, [], take}
-use Rattle.std.specs.Prelude.{flat_map}
-use Rattle.dsl_build.specs.Uses.{used_of}
-use Rattle.dsl_build.specs.Faults.{undefined_fault}
-use Rattle.dsl_build.proofs.symbols.undefined.Given as goal
-
-abbrev pub invariant-loop-used : goal.invariant-loop-used
-invariant-loop-used l = flat_map (λ u. undefined_fault l.structural l.lexical (used_of u)) (take l.used-index l.uses) ≡ []

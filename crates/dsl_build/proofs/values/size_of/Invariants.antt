@@ -1,6 +1,0 @@
-use Rattle.std.proofs.Common.{◌≡◌, min, take}
-use Rattle.dsl_build.proofs.Digits.{spelled}
-use Rattle.dsl_build.proofs.values.size_of.Given as goal
-
-abbrev pub invariant-loop-b : goal.invariant-loop-b
-invariant-loop-b l = l.size ≡ min 1000001 (spelled (take l.b-index l.b-items))

@@ -1,0 +1,11 @@
+pub mod Bridges
+pub mod Firsts
+pub mod Keeping
+pub mod Lists
+pub mod Digits
+pub mod Pairs
+pub mod Repeats
+pub mod Scans
+pub mod SecondLemmas
+pub mod UseLemmas
+pub mod Counting

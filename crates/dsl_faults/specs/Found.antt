@@ -1,0 +1,31 @@
+-- What a program's faults and refusals mean.
+use Rattle.std.specs.Prelude.{◌≡◌, List, [], ◌∷◌, Option, Some, None, Result, IfSome, MatchResult, string_bytes}
+use Rattle.language_model.specs.Building as building
+use Rattle.language_model.specs.Building.{Fault, BuildFault}
+use Rattle.dsl_faults.specs.declared.found.Found.{Found}
+use Rattle.dsl_faults.specs.declared.refusal.BuildRefusal.{BuildRefusal}
+use Rattle.dsl_faults.specs.declared.refusal.BuildRefusal.TheVariants.{BadAdverb, RepeatedAdverb, LexemeNotDefined, InBoth, NotALexeme, BadClass, TwoStarts, NumberRange, TooLong, NoMemory}
+
+abbrev pub fault_of : Found → Fault
+fault_of f = record { at = f.at; name = f.name.now }
+
+abbrev pub first_of : {A : Type 0} → List A → Option A
+first_of [] = None
+first_of (x ∷ xs) = Some x
+
+-- the fault that a refusal tells, if it is not want of memory
+abbrev pub refused_fault : BuildRefusal → Option BuildFault
+refused_fault (BadAdverb at name) = Some (building.BadAdverb (record { at = at; name = string_bytes name }))
+refused_fault (RepeatedAdverb at name) = Some (building.RepeatedAdverb (record { at = at; name = string_bytes name }))
+refused_fault (LexemeNotDefined at name) = Some (building.LexemeNotDefined (record { at = at; name = string_bytes name }))
+refused_fault (InBoth at name) = Some (building.InBoth (record { at = at; name = string_bytes name }))
+refused_fault (NotALexeme at name) = Some (building.NotALexeme (record { at = at; name = string_bytes name }))
+refused_fault (BadClass at name) = Some (building.BadClass (record { at = at; name = string_bytes name }))
+refused_fault (TwoStarts at name) = Some (building.TwoStarts (record { at = at; name = string_bytes name }))
+refused_fault (NumberRange at name) = Some (building.NumberRange (record { at = at; name = string_bytes name }))
+refused_fault (TooLong at name) = Some (building.TooLong (record { at = at; name = string_bytes name }))
+refused_fault NoMemory = None
+
+-- Ok where there are no faults, else the first, want of memory aside
+abbrev pub Tells : {A : Type 0} → List BuildFault → Result A BuildRefusal → Type 0
+Tells faults result = MatchResult result (λ _. faults ≡ []) (λ r. IfSome (refused_fault r) (λ f. first_of faults ≡ Some f))

@@ -1,0 +1,6 @@
+pub mod Adverbs
+pub mod Faults
+pub mod Found
+pub mod Quotes
+pub mod Texts
+pub mod Uses

@@ -1,0 +1,212 @@
+//! The faults of adverbs.
+ghost use Rattle.std.specs.Prelude.{◌≡◌, IfOk, option_map, flat_map, map, [], ◌∷◌, if◌then◌else◌};
+ghost use Rattle.language_model.specs.Building.{pairs_of, repeated_in, InAlternative, InEmpty, InQuantified, InLexicalQuantified, InOther};
+ghost use Rattle.dsl_faults.specs.declared.checks.Check.TheVariants.{Known};
+ghost use Rattle.dsl_statement.specs.Statements.{adverb_of, adverbs_of, statement_of};
+ghost use Rattle.dsl_faults.specs.Found.{fault_of, first_of};
+ghost use Rattle.dsl_faults.specs.Adverbs.{place_of, names_of, list_faults, big_faults, statement_faults};
+
+use crate::adverbs::{Place, is_allowed, value_of};
+use crate::found::{Found, fault_at, first_at, first_found};
+use crate::values::{fits, is_big};
+use dsl_statement::{Adverb, Alternative, Statement};
+use std::alloc::{AllocError, Global};
+
+/// What is asked of a list of adverbs.
+#[derive(Clone, Copy, Debug)]
+pub enum Check {
+    /// that each may stand there, and has a value of its kind
+    Known,
+    /// that none stands twice
+    Once,
+    /// that no number is beyond a million
+    Small,
+}
+
+fn unknown_adverb(
+    alloc: Global,
+    place: Place,
+    adverb: &Adverb,
+) -> Result<Option<Found<'_>>, AllocError>
+    ensures { IfOk result (λ found. option_map fault_of found ≡ first_of (list_faults Known (place_of place, adverb_of adverb.now ∷ []))) }
+{
+    match adverb {
+        Adverb::Comma { .. } => Ok(None),
+        Adverb::Pair { name, value } => {
+            let text = name.content.as_str();
+            if is_allowed(place, text) && fits(alloc, text, value)? {
+                Ok(None)
+            } else {
+                Ok(Some(fault_at(name)))
+            }
+        }
+    }
+}
+
+fn unknown(alloc: Global, place: Place, adverbs: &[Adverb]) -> Result<Option<Found<'_>>, AllocError>
+    ensures { IfOk result (λ found. option_map fault_of found ≡ first_of (list_faults Known (place_of place, adverbs_of adverbs.now))) }
+{
+    first_found(adverbs, |adverb| unknown_adverb(alloc, place, adverb))
+}
+
+// Whether the adverb stands among those before it.
+fn repeated_adverb<'a>(before: &[Adverb], adverb: &'a Adverb) -> Option<Found<'a>>
+    ensures { option_map fault_of result ≡ first_of (repeated_in (names_of before.now) (pairs_of (adverb_of adverb.now ∷ []))) }
+{
+    match adverb {
+        Adverb::Comma { .. } => None,
+        Adverb::Pair { name, .. } => {
+            if value_of(name.content.as_str(), before).is_some() {
+                Some(fault_at(name))
+            } else {
+                None
+            }
+        }
+    }
+}
+
+fn repeated(adverbs: &[Adverb]) -> Option<Found<'_>>
+    ensures { option_map fault_of result ≡ first_of (repeated_in [] (pairs_of (adverbs_of adverbs.now))) }
+{
+    for (i, adverb) in adverbs.iter().enumerate() {
+        let found = repeated_adverb(&adverbs[..i], adverb);
+        if found.is_some() {
+            return found;
+        }
+    }
+    None
+}
+
+fn big_adverb(adverb: &Adverb) -> Option<Found<'_>>
+    ensures { option_map fault_of result ≡ first_of (big_faults (adverb_of adverb.now ∷ [])) }
+{
+    match adverb {
+        Adverb::Comma { .. } => None,
+        Adverb::Pair { name, value } => {
+            if is_big(name.content.as_str(), value) {
+                Some(fault_at(value))
+            } else {
+                None
+            }
+        }
+    }
+}
+
+fn too_big(adverbs: &[Adverb]) -> Option<Found<'_>>
+    ensures { option_map fault_of result ≡ first_of (big_faults (adverbs_of adverbs.now)) }
+{
+    first_at(adverbs, big_adverb)
+}
+
+fn fault_in_list(
+    alloc: Global,
+    check: Check,
+    place: Place,
+    adverbs: &[Adverb],
+) -> Result<Option<Found<'_>>, AllocError>
+    ensures { IfOk result (λ found. option_map fault_of found ≡ first_of (list_faults check (place_of place, adverbs_of adverbs.now))) }
+{
+    match check {
+        Check::Known => unknown(alloc, place, adverbs),
+        Check::Once => Ok(repeated(adverbs)),
+        Check::Small => Ok(too_big(adverbs)),
+    }
+}
+
+fn fault_in_group(
+    alloc: Global,
+    check: Check,
+    place: Place,
+    group: &[Alternative],
+) -> Result<Option<Found<'_>>, AllocError>
+    ensures { IfOk result (λ found. option_map fault_of found ≡ first_of (flat_map (λ a. list_faults check (place_of place, a.adverbs)) group.now)) }
+{
+    first_found(group, |alternative| {
+        fault_in_list(alloc, check, place, &alternative.adverbs)
+    })
+}
+
+fn fault_in_groups(
+    alloc: Global,
+    check: Check,
+    place: Place,
+    groups: &[Vec<Alternative>],
+) -> Result<Option<Found<'_>>, AllocError>
+    ensures { IfOk result (λ found. option_map fault_of found ≡ first_of (flat_map (λ g. flat_map (λ a. list_faults check (place_of place, a.adverbs)) g.items) groups.now)) }
+{
+    first_found(groups, |group| fault_in_group(alloc, check, place, group))
+}
+
+fn place_of_alternatives(lexical: bool) -> Place
+    ensures { place_of result ≡ (if lexical then InOther else InAlternative) }
+{
+    if lexical {
+        Place::Other
+    } else {
+        Place::Alternative
+    }
+}
+
+fn place_of_empty(lexical: bool) -> Place
+    ensures { place_of result ≡ (if lexical then InOther else InEmpty) }
+{
+    if lexical { Place::Other } else { Place::Empty }
+}
+
+fn place_of_quantified(lexical: bool) -> Place
+    ensures { place_of result ≡ (if lexical then InLexicalQuantified else InQuantified) }
+{
+    if lexical {
+        Place::LexicalQuantified
+    } else {
+        Place::Quantified
+    }
+}
+
+/// The first fault of the adverbs of a statement.
+pub fn fault_in_statement(
+    alloc: Global,
+    check: Check,
+    s: &Statement,
+) -> Result<Option<Found<'_>>, AllocError>
+    ensures { IfOk result (λ found. option_map fault_of found ≡ first_of (statement_faults check (statement_of s.now))) }
+{
+    match s {
+        Statement::Start { .. } => Ok(None),
+        Statement::Default { adverbs, .. } => fault_in_list(alloc, check, Place::Default, adverbs),
+        Statement::LexemeDefault { adverbs, .. } => fault_in_list(
+            alloc,
+            check,
+            Place::LexemeDefault,
+            adverbs,
+        ),
+        Statement::Lexeme { adverbs, .. } => fault_in_list(alloc, check, Place::Lexeme, adverbs),
+        Statement::Discard { adverbs, .. } => fault_in_list(alloc, check, Place::Other, adverbs),
+        Statement::Empty {
+            lexical,
+            adverbs,
+            ..
+        } => fault_in_list(alloc, check, place_of_empty(*lexical), adverbs),
+        Statement::Quantified {
+            lexical,
+            adverbs,
+            ..
+        } => fault_in_list(alloc, check, place_of_quantified(*lexical), adverbs),
+        Statement::Rules {
+            lexical,
+            groups,
+            ..
+        } => fault_in_groups(alloc, check, place_of_alternatives(*lexical), groups),
+    }
+}
+
+/// The first fault of the adverbs of all statements.
+pub fn fault_in_all(
+    alloc: Global,
+    check: Check,
+    statements: &[Statement],
+) -> Result<Option<Found<'_>>, AllocError>
+    ensures { IfOk result (λ found. option_map fault_of found ≡ first_of (flat_map (statement_faults check) (map statement_of statements.now))) }
+{
+    first_found(statements, |s| fault_in_statement(alloc, check, s))
+}

@@ -1,0 +1,56 @@
+//! Where a fault stands, and searches for the first.
+ghost use Rattle.std.specs.Prelude.{◌≡◌, List, Ok, IfOk, flat_map, option_map};
+ghost use Rattle.std.specs.Fn.{FnReturnsAt};
+ghost use Rattle.language_model.specs.Building.{Fault, fault_at};
+ghost use Rattle.dsl_faults.specs.Found.{fault_of, first_of};
+
+use dsl_statement::Spelled;
+use std::alloc::AllocError;
+
+/// A place and a name that a refusal tells.
+#[derive(Clone, Copy, Debug)]
+pub struct Found<'a> {
+    pub at: usize,
+    pub name: &'a str,
+}
+
+/// The place and the content of the token.
+pub fn fault_at(token: &Spelled) -> Found<'_>
+    ensures { fault_of result ≡ fault_at token.now }
+{
+    Found {
+        at: token.at,
+        name: token.content.as_str(),
+    }
+}
+
+/// What is found at the first of them at which something is.
+pub fn first_at<'a, T, F: Fn(&'a T) -> Option<Found<'a>>>(xs: &'a [T], find: F) -> Option<Found<'a>>
+    requires { F.IsAlwaysCallable find }
+    ensures { (each : T → List Fault) → ((x : _) (o : _) → FnReturnsAt F.Fn find x o → option_map fault_of o ≡ first_of (each x)) → option_map fault_of result ≡ first_of (flat_map each xs.now) }
+{
+    for x in xs {
+        let found = find(x);
+        if found.is_some() {
+            return found;
+        }
+    }
+    None
+}
+
+/// The same, where a search may want memory.
+pub fn first_found<'a, T, F: Fn(&'a T) -> Result<Option<Found<'a>>, AllocError>>(
+    xs: &'a [T],
+    find: F,
+) -> Result<Option<Found<'a>>, AllocError>
+    requires { F.IsAlwaysCallable find }
+    ensures { (each : T → List Fault) → ((x : _) (o : _) → FnReturnsAt F.Fn find x (Ok o) → option_map fault_of o ≡ first_of (each x)) → IfOk result (λ found. option_map fault_of found ≡ first_of (flat_map each xs.now)) }
+{
+    for x in xs {
+        let found = find(x)?;
+        if found.is_some() {
+            return Ok(found);
+        }
+    }
+    Ok(None)
+}

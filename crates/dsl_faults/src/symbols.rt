@@ -1,0 +1,151 @@
+//! The faults of the uses of symbols.
+ghost use Rattle.std.specs.Prelude.{◌≡◌, [], ◌∷◌, IfOk, OnOk, option_map, map, flat_map, if◌then◌else◌, not, is_ok, chars};
+ghost use Rattle.language_model.specs.Description as description;
+ghost use Rattle.language_model.specs.Building as building;
+ghost use Rattle.language_model.specs.Building.{is_one_of};
+ghost use Rattle.language_model.specs.Classes.{class_of};
+ghost use Rattle.dsl_faults.specs.Found.{fault_of, first_of};
+ghost use Rattle.dsl_faults.specs.Texts.{with_text};
+ghost use Rattle.dsl_faults.specs.Uses.{used_of, is_right, is_left, is_asked};
+ghost use Rattle.dsl_faults.specs.Faults.{is_undefined, is_bad_class, undefined_fault, class_fault, both_fault, left_part};
+
+use crate::found::{Found, fault_at, first_at, first_found};
+use crate::names::Names;
+use crate::uses::{Role, Use, Which, is_asked, text_of};
+use char_class::{ClassRefusal, read_class};
+use dsl_statement::{Spelled, TokenKind};
+use std::alloc::{AllocError, Global};
+
+/// Whether the token is a name.
+pub fn is_name(token: &Spelled) -> bool
+    ensures { result ≡ description.is_name token.now }
+{
+    matches!(token.kind, TokenKind::Word | TokenKind::Angle)
+}
+
+/// Whether the token is a class.
+pub fn is_bracket(token: &Spelled) -> bool
+    ensures { result ≡ building.is_bracket token.now }
+{
+    matches!(token.kind, TokenKind::Bracket)
+}
+
+/// Whether the use stands on a right side, or in a `:discard`.
+pub fn is_right(used: &Use<'_>) -> bool
+    ensures { result ≡ is_right (used_of used.now) }
+{
+    matches!(used.role, Role::Right | Role::Discard)
+}
+
+/// Whether the use is a left side.
+pub fn is_left(used: &Use<'_>) -> bool
+    ensures { result ≡ is_left (used_of used.now) }
+{
+    matches!(used.role, Role::Left)
+}
+
+fn fault_at_use<'a>(used: &Use<'a>) -> Found<'a>
+    ensures { fault_of result ≡ building.fault_at (used_of used.now).token }
+{
+    fault_at(used.token)
+}
+
+fn is_undefined(used: &Use<'_>, structural: &Names, lexical: &Names) -> bool
+    ensures { result ≡ is_undefined structural.now lexical.now (used_of used.now) }
+{
+    let text = text_of(used);
+    is_right(used)
+        && (is_name(used.token) && !(lexical.has(text) || (!used.lexical && structural.has(text))))
+}
+
+fn undefined_use<'a>(used: &Use<'a>, structural: &Names, lexical: &Names) -> Option<Found<'a>>
+    ensures { option_map fault_of result ≡ first_of (undefined_fault structural.now lexical.now (used_of used.now)) }
+{
+    if is_undefined(used, structural, lexical) {
+        Some(fault_at_use(used))
+    } else {
+        None
+    }
+}
+
+/// The first name that no rule defines, or in a lexical place no lexical rule. The tables have the left sides.
+pub fn undefined<'a>(uses: &'a [Use<'a>], structural: &Names, lexical: &Names) -> Option<Found<'a>>
+    ensures { option_map fault_of result ≡ first_of (flat_map (undefined_fault structural.now lexical.now) (map used_of uses.now)) }
+{
+    first_at(uses, |used| undefined_use(used, structural, lexical))
+}
+
+fn is_bad_text(alloc: Global, text: &str) -> Result<bool, AllocError>
+    ensures { IfOk result (λ b. b ≡ not (is_ok (class_of (chars text.now)))) }
+{
+    match read_class(alloc, text) {
+        Ok(_) => Ok(false),
+        Err(ClassRefusal::NoMemory) => Err(AllocError),
+        Err(_) => Ok(true),
+    }
+}
+
+fn bad_class_use<'a>(alloc: Global, used: &Use<'a>) -> Result<Option<Found<'a>>, AllocError>
+    ensures { IfOk result (λ found. option_map fault_of found ≡ first_of (class_fault (used_of used.now))) }
+{
+    if is_right(used) && is_bracket(used.token) && is_bad_text(alloc, text_of(used))? {
+        Ok(Some(fault_at_use(used)))
+    } else {
+        Ok(None)
+    }
+}
+
+/// The first class that cannot be read.
+pub fn bad_class<'a>(alloc: Global, uses: &'a [Use<'a>]) -> Result<Option<Found<'a>>, AllocError>
+    ensures { IfOk result (λ found. option_map fault_of found ≡ first_of (flat_map class_fault (map used_of uses.now))) }
+{
+    first_found(uses, |used| bad_class_use(alloc, used))
+}
+
+fn is_of_other_level(used: &Use<'_>, structural: &Names, lexical: &Names) -> bool
+    ensures { result ≡ is_one_of (if (used_of used.now).lexical then structural.now else lexical.now) (used_of used.now).token.content }
+{
+    let text = text_of(used);
+    if used.lexical {
+        structural.has(text)
+    } else {
+        lexical.has(text)
+    }
+}
+
+fn both_use<'a>(used: &Use<'a>, structural: &Names, lexical: &Names) -> Option<Found<'a>>
+    ensures { option_map fault_of result ≡ first_of (both_fault structural.now lexical.now (used_of used.now)) }
+{
+    if is_left(used) && is_of_other_level(used, structural, lexical) {
+        Some(fault_at_use(used))
+    } else {
+        None
+    }
+}
+
+// Puts the text of the use behind the others, if it is one that is asked for.
+fn keep(names: &mut Names, which: Which, used: &Use<'_>) -> Result<(), AllocError>
+    ensures { OnOk result (names.new ≡ (if is_asked which (used_of used.now) then with_text names.old (used_of used.now).token.content else names.old)) }
+{
+    if is_asked(which, used) {
+        names.add(text_of(used))?;
+    }
+    Ok(())
+}
+
+/// The first left side whose name is one of the other level before.
+pub fn in_both<'a>(alloc: Global, uses: &[Use<'a>]) -> Result<Option<Found<'a>>, AllocError>
+    ensures { IfOk result (λ found. option_map fault_of found ≡ first_of (building.in_both [] (flat_map left_part (map used_of uses.now)))) }
+{
+    let mut structural = Names::new(alloc);
+    let mut lexical = Names::new(alloc);
+    for used in uses {
+        let found = both_use(used, &structural, &lexical);
+        if found.is_some() {
+            return Ok(found);
+        }
+        keep(&mut structural, Which::StructuralLeft, used)?;
+        keep(&mut lexical, Which::LexicalLeft, used)?;
+    }
+    Ok(None)
+}

@@ -1,0 +1,219 @@
+//! The tokens of a description that name symbols.
+ghost use Rattle.std.specs.Prelude.{◌≡◌, ◌++◌, ◌∷◌, [], map, flat_map, option_map, OnOk, IfOk};
+ghost use Rattle.language_model.specs.Building.{parts_of, separator_of, new_texts};
+ghost use Rattle.dsl_statement.specs.Statements.{adverbs_of, statement_of};
+ghost use Rattle.dsl_faults.specs.Uses.{used, used_of, uses_of, is_asked, texts_asked};
+ghost use Rattle.dsl_faults.specs.Found.{first_of};
+ghost use Rattle.dsl_faults.specs.declared.uses.Role.TheVariants.{Right};
+
+use crate::adverbs::value_of;
+use crate::names::Names;
+use crate::parts;
+use dsl_statement::{Adverb, Alternative, Spelled, Statement};
+use std::alloc::{AllocError, Global};
+
+/// What a token stands as.
+#[derive(Clone, Copy, Debug, PartialEq, Eq)]
+pub enum Role {
+    /// the name of a `:start`
+    Start,
+    /// the left side of a rule
+    Left,
+    /// a part, an item or a separator of a rule
+    Right,
+    /// what `:discard` names
+    Discard,
+}
+
+/// A token that names a symbol, and whether it does in a lexical rule or in `:discard`.
+#[derive(Clone, Copy)]
+pub struct Use<'a> {
+    pub role: Role,
+    pub lexical: bool,
+    pub token: &'a Spelled,
+}
+
+fn push<'a>(
+    uses: &mut Vec<Use<'a>>,
+    role: Role,
+    lexical: bool,
+    token: &'a Spelled,
+) -> Result<(), AllocError>
+    ensures { OnOk result (map used_of uses.new.items ≡ map used_of uses.old.items ++ used role lexical token.now ∷ []) }
+{
+    uses.push(Use {
+        role,
+        lexical,
+        token,
+    })?;
+    Ok(())
+}
+
+fn push_parts<'a>(
+    uses: &mut Vec<Use<'a>>,
+    lexical: bool,
+    parts: &[&'a Spelled],
+) -> Result<(), AllocError>
+    ensures { OnOk result (map used_of uses.new.items ≡ map used_of uses.old.items ++ map (λ t. used Right lexical t.now) parts.now) }
+{
+    for part in parts {
+        push(uses, Role::Right, lexical, part)?;
+    }
+    Ok(())
+}
+
+fn push_alternative<'a>(
+    alloc: Global,
+    uses: &mut Vec<Use<'a>>,
+    lexical: bool,
+    alternative: &'a Alternative,
+) -> Result<(), AllocError>
+    ensures { OnOk result (map used_of uses.new.items ≡ map used_of uses.old.items ++ map (used Right lexical) (parts_of alternative.now)) }
+{
+    let parts = parts::parts_of(alloc, alternative)?;
+    push_parts(uses, lexical, &parts)
+}
+
+fn push_group<'a>(
+    alloc: Global,
+    uses: &mut Vec<Use<'a>>,
+    lexical: bool,
+    group: &'a [Alternative],
+) -> Result<(), AllocError>
+    ensures { OnOk result (map used_of uses.new.items ≡ map used_of uses.old.items ++ flat_map (λ a. map (used Right lexical) (parts_of a)) group.now) }
+{
+    for alternative in group {
+        push_alternative(alloc, uses, lexical, alternative)?;
+    }
+    Ok(())
+}
+
+fn push_groups<'a>(
+    alloc: Global,
+    uses: &mut Vec<Use<'a>>,
+    lexical: bool,
+    groups: &'a [Vec<Alternative>],
+) -> Result<(), AllocError>
+    ensures { OnOk result (map used_of uses.new.items ≡ map used_of uses.old.items ++ flat_map (λ g. flat_map (λ a. map (used Right lexical) (parts_of a)) g.items) groups.now) }
+{
+    for group in groups {
+        push_group(alloc, uses, lexical, group)?;
+    }
+    Ok(())
+}
+
+fn push_separator<'a>(
+    uses: &mut Vec<Use<'a>>,
+    lexical: bool,
+    adverbs: &'a [Adverb],
+) -> Result<(), AllocError>
+    ensures { OnOk result (map used_of uses.new.items ≡ map used_of uses.old.items ++ map (used Right lexical) (separator_of (adverbs_of adverbs.now))) }
+{
+    match value_of("separator", adverbs) {
+        Some(token) => push(uses, Role::Right, lexical, token),
+        None => Ok(()),
+    }
+}
+
+fn push_statement<'a>(
+    alloc: Global,
+    uses: &mut Vec<Use<'a>>,
+    s: &'a Statement,
+) -> Result<(), AllocError>
+    ensures { OnOk result (map used_of uses.new.items ≡ map used_of uses.old.items ++ uses_of (statement_of s.now)) }
+{
+    match s {
+        Statement::Start { name, .. } => push(uses, Role::Start, false, name),
+        Statement::Default { .. } => Ok(()),
+        Statement::LexemeDefault { .. } => Ok(()),
+        Statement::Lexeme { .. } => Ok(()),
+        Statement::Discard { item, .. } => push(uses, Role::Discard, true, item),
+        Statement::Empty { left, lexical, .. } => push(uses, Role::Left, *lexical, left),
+        Statement::Quantified {
+            left,
+            lexical,
+            item,
+            adverbs,
+            ..
+        } => {
+            push(uses, Role::Left, *lexical, left)?;
+            push(uses, Role::Right, *lexical, item)?;
+            push_separator(uses, *lexical, adverbs)
+        }
+        Statement::Rules {
+            left,
+            lexical,
+            groups,
+        } => {
+            push(uses, Role::Left, *lexical, left)?;
+            push_groups(alloc, uses, *lexical, groups)
+        }
+    }
+}
+
+/// The tokens that name symbols, in order.
+pub fn uses_of(alloc: Global, statements: &[Statement]) -> Result<Vec<Use<'_>>, AllocError>
+    ensures { IfOk result (λ uses. map used_of uses.items ≡ flat_map uses_of (map statement_of statements.now)) }
+{
+    let mut uses = Vec::new(alloc);
+    for s in statements {
+        push_statement(alloc, &mut uses, s)?;
+    }
+    Ok(uses)
+}
+
+/// Uses that are asked for.
+#[derive(Clone, Copy, Debug)]
+pub enum Which {
+    StructuralLeft,
+    LexicalLeft,
+    Structural,
+    Discarded,
+    Started,
+}
+
+/// Whether the use is one of them.
+pub fn is_asked(which: Which, used: &Use<'_>) -> bool
+    ensures { result ≡ is_asked which (used_of used.now) }
+{
+    match which {
+        Which::StructuralLeft => matches!(used.role, Role::Left) && !used.lexical,
+        Which::LexicalLeft => matches!(used.role, Role::Left) && used.lexical,
+        Which::Structural => !used.lexical,
+        Which::Discarded => matches!(used.role, Role::Discard),
+        Which::Started => matches!(used.role, Role::Start),
+    }
+}
+
+/// The text of the token.
+pub fn text_of<'a>(used: &Use<'a>) -> &'a str
+    ensures { result.now ≡ (used_of used.now).token.content }
+{
+    let token = used.token;
+    token.content.as_str()
+}
+
+/// The texts of the uses that are asked for, each once, in order of their first appearance.
+pub fn names_of(alloc: Global, which: Which, uses: &[Use<'_>]) -> Result<Names, AllocError>
+    ensures { IfOk result (λ names. names ≡ new_texts [] (flat_map (texts_asked which) (map used_of uses.now))) }
+{
+    let mut names = Names::new(alloc);
+    for used in uses {
+        if is_asked(which, used) {
+            names.add(text_of(used))?;
+        }
+    }
+    Ok(names)
+}
+
+/// The token of the first use that is asked for.
+pub fn first_asked<'a>(which: Which, uses: &[Use<'a>]) -> Option<&'a Spelled>
+    ensures { option_map (λ t. t.now.content) result ≡ first_of (flat_map (texts_asked which) (map used_of uses.now)) }
+{
+    for used in uses {
+        if is_asked(which, used) {
+            return Some(used.token);
+        }
+    }
+    None
+}
