@@ -8,3 +8,4 @@ pub mod OneEnd
 pub mod Exists
 pub mod Inputs
 pub mod Utf8
+pub mod Messages
