@@ -14,10 +14,8 @@ use Rattle.recognizer_model.specs.Counts.{IsListOf, IsCountOf}
 use Rattle.recognizer_model.specs.Links.{choices}
 use Rattle.recognizer_model.specs.Nodes.{IsExpanded}
 use Rattle.recognizer_model.proofs.FlatNamed.{index_get}
-use Rattle.leo_items.specs.declared.memo.Pair.{Pair}
 use Rattle.earley_sets.specs.Recognizer as held
 use Rattle.earley_sets.specs.Recognizer.{Recognizer, IsRecognizer, edges_of, top_of, place_of}
-use Rattle.earley_sets.specs.Counted as held_links
 use Rattle.earley_sets.specs.Counted.{TakesAtMost, IsLinkOf}
 use Rattle.forest_model.specs.Forest.{Forest, IsForest}
 use Rattle.forest_model.specs.Listing.{IsListing}
@@ -77,13 +75,13 @@ module _ (b : Built) (recce : Recognizer) (is : IsRecognizer recce) (pieces : Li
   links_held : (n : ℕ) → IsCountOf (IsPlacedLink recce.flat (edges_of recce) (top_of recce) (place_of recce)) n → IsCountOf (IsLinkOf recce) n
   links_held n count =
       counts_over (IsPlacedLink recce.flat (edges_of recce) (top_of recce) (place_of recce)) (IsLinkOf recce)
-      (λ (p : PlacedLink). let q : held_links.PlacedLink = record { place = p.place; link = p.link } in q) (λ (q : held_links.PlacedLink). let p : PlacedLink = record { place = q.place; link = q.link } in p)
+      (λ p. record { place = p.place; link = p.link }) (λ q. record { place = q.place; link = q.link })
       (λ p l. l) (λ q l. l) (λ p. refl) (λ q. refl) n count
 
   pairs_held : (n : ℕ) → IsCountOf (IsLeoPair recce.flat (edges_of recce) (top_of recce) (place_of recce)) n → IsCountOf (held.IsLeoPair recce) n
   pairs_held n count =
       counts_over (IsLeoPair recce.flat (edges_of recce) (top_of recce) (place_of recce)) (held.IsLeoPair recce)
-      (λ (p : PlacedSymbol). let q : Pair = record { set = p.place; symbol = p.symbol } in q) (λ (q : Pair). let p : PlacedSymbol = record { place = q.set; symbol = q.symbol } in p)
+      (λ p. record { set = p.place; symbol = p.symbol }) (λ q. record { place = q.set; symbol = q.symbol })
       (λ p l. l) (λ q l. l) (λ p. refl) (λ q. refl) n count
 
   pub within : (given : List Tree) (before read built after : ℕ) → TakesAtMost recce before read
