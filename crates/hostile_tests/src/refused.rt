@@ -45,7 +45,7 @@ fn other_words_are_refused(rt: HostRuntime) -> Result<(), Fail> {
 }
 
 // Texts that have no description, and faults of descriptions, in the order in which they are sought.
-const TEXT_ROWS: [(&[u8], &[u8]); 15] = [
+const TEXT_ROWS: [(&[u8], &[u8]); 17] = [
     (b"S ::= \xFF", b"slif: grammar: not UTF-8 at byte 6\n"),
     (
         b"S ::= 'a",
@@ -90,6 +90,14 @@ const TEXT_ROWS: [(&[u8], &[u8]); 15] = [
     (
         b"S ::= [z-a]",
         b"slif: grammar: bad class [z-a] at line 1 column 7\n",
+    ),
+    (
+        b"S ::= [a\n]",
+        b"slif: grammar: bad class [a\\n] at line 1 column 7\n",
+    ),
+    (
+        b"S ::= [\x1B\r\t\x7F\xC2\x85\xE2\x80\xA8\\q]",
+        b"slif: grammar: bad class [\\x{1b}\\r\\t\\x{7f}\\x{85}\\x{2028}\\q] at line 1 column 7\n",
     ),
     (
         b":start ::= S\n:start ::= S\nS ::= 'a'",
@@ -280,7 +288,12 @@ fn places_past_the_last_set_are_refused(rt: HostRuntime) -> Result<(), Fail> {
 }
 
 // A file of the grammar that has no such name is asked for alone; one of the input is asked for behind the grammar's.
-const NAME_ROWS: [(&[&str], &[u8], usize); 2] = [
+const NAME_ROWS: [(&[&str], &[u8], usize); 3] = [
+    (
+        &["expect", "--grammar", "h\n\x1B.slif"],
+        b"slif: cannot open h\\n\\x{1b}.slif\n",
+        1,
+    ),
     (
         &["expect", "--grammar", "h.slif", "--input", "j.txt"],
         b"slif: cannot open h.slif\n",

@@ -2,6 +2,8 @@
 ghost use Rattle.std.specs.Prelude.{◌≡◌, ◌<◌, length};
 ghost use Rattle.grammar_model.specs.Checked.{IsChecked};
 ghost use Rattle.recognizer_model.specs.FlatForm.{IsFlatOf};
+ghost use Rattle.recognizer_model.specs.Links.{choices};
+ghost use Rattle.reading_tests.specs.Sums.{left_first, right_first};
 
 use crate::grammars::{COMMAS, HIGH, LOW, Language, PIECES, SUM, flat_of, read_all, written_of};
 use bocage::Forest;
@@ -241,3 +243,9 @@ fn sums_have_as_many_as_is_known(rt: HostRuntime) -> Result<(), Fail> {
     }
     Ok(())
 }
+
+/// Each of the two derivations of a sum of three operands has 52 choices, so the calls that give them take at most 52 steps each. It
+/// does nothing.
+pub fn sums_have_few_choices()
+    ensures { (choices left_first ≡ 52) × (choices right_first ≡ 52) }
+{}

@@ -10,3 +10,4 @@ pub mod Inputs
 pub mod Utf8
 pub mod AnEnd
 pub mod Statuses
+pub mod Messages

@@ -9,4 +9,5 @@ pub mod Jobs
 pub mod Outcome
 pub mod Outside
 pub mod Runs
+pub mod Steps
 pub mod Laws

@@ -1,11 +1,13 @@
 -- What the jobs tell of an input that is read to its end, by its pieces.
 -- Sources: the Libmarpa manual (progress reports; bocage, order, tree, value) and the Marpa::R2 SLIF DSL manual (lexemes that are
 -- expected); the texts are our own.
-use Rattle.std.specs.Prelude.{◌≡◌, ℕ, ◌<◌, ◌≤◌, ◌++◌, if◌then◌else◌, Bool, List, [], ◌∷◌, map, codes, decimal}
+use Rattle.std.specs.Prelude.{◌≡◌, ℕ, ◌<◌, ◌≤◌, ◌==◌, ◌++◌, if◌then◌else◌, Bool, List, [], ◌∷◌, map, flat_map, codes, chars, encode_utf8, decimal}
 use Rattle.std.specs.List.{concat}
+use Rattle.std.specs.Str.Lossy.{utf8_lossy}
 use Rattle.grammar_model.specs.Grammar.{Grammar, rule_at, lhs_of}
 use Rattle.grammar_model.specs.Trees.{Tree}
 use Rattle.grammar_model.specs.Values.{name_of}
+use Rattle.grammar_model.specs.Text.{is_control, escaped}
 use Rattle.recognizer_model.specs.declared.ReportLine.{ReportLine}
 use Rattle.report_model.specs.Report.{IsReport}
 use Rattle.language_model.specs.Building.{Built}
@@ -23,9 +25,16 @@ pub record Outcome : Type 0 where
   pub line : List ℕ
   pub status : ℕ
 
--- a line of the standard error
+-- a character as it stands in a message: one that controls a terminal or ends a line is escaped, as in the text of a value
+abbrev pub in_line : ℕ → List ℕ
+in_line c =
+    if is_control c then escaped c else
+    (if c == 8232 then codes "\\x{2028}" else
+    (if c == 8233 then codes "\\x{2029}" else encode_utf8 c))
+
+-- a line of the standard error, and one line whatever names are in the text
 abbrev pub message : List ℕ → List ℕ
-message text = codes "slif: " ++ text ++ (10 ∷ [])
+message text = codes "slif: " ++ (flat_map in_line (chars (utf8_lossy text)) ++ 10 ∷ [])
 
 -- a refusal writes its line and nothing else
 abbrev pub refused : ℕ → List ℕ → Outcome

@@ -11,16 +11,19 @@ use Rattle.run_model.specs.Outcome.{Outcome, IsJobOutcome, IsCheckOutcome, IsWor
 use Rattle.run_model.specs.Outcome.IsOutcome.{NoJob, OfJob}
 use Rattle.run_model.specs.Outcome.IsGrammarOutcome.{GrammarRefused, GrammarAccepted}
 use Rattle.run_model.specs.Outside.{Stream, Disk}
-use Rattle.run_model.specs.Runs.{InputMayBe, AsksNames}
+use Rattle.run_model.specs.Runs.{InputMayBe, Supplied, AsksNames}
+use Rattle.run_model.specs.Steps.{RunsWithin}
 use Rattle.run_model.specs.Runs.MayOpen.{OfGrammar}
 use Rattle.run_model.specs.Runs.MayAsk.{ForNothing, ForGrammar}
 use Rattle.run_model.proofs.Accepted.{not_refused}
 use Rattle.slif_cli.specs.Stops.{LoadStops, MayHave, WorkStops}
+use Rattle.slif_cli.specs.Tasks.{WorksWithin}
 use Rattle.slif_cli.specs.declared.stop.Refusal.TheVariants.{Usage, Grammar as BadGrammar, Input as BadInput}
 use Rattle.slif_cli.specs.declared.stop.Stop.{Stop}
 use Rattle.slif_cli.specs.declared.stop.Stop.TheVariants.{Refused, OpenFault, ReadFault, WriteFault, NoMemory}
 use Rattle.slif_cli.proofs.GrammarLaws.{grammar_laws}
 use Rattle.slif_cli.proofs.Stopping.{nothing_appended}
+use Rattle.slif_cli.proofs.Within.{runs_within}
 
 -- NO JOB IS ASKED FOR
 
@@ -137,19 +140,22 @@ checked words name asks file left b held o is = (
   refl,
 )
 
+-- its steps are not told
+pub checks_within : (words : List (List ℕ)) (name : List ℕ) → Asks words (Check name) → (file : List ℕ → ToldFile) (left : Option (List ℕ)) (outcome : Outcome) (before after : ℕ)
+    → MayHave words file left outcome → RunsWithin words file left before after
+checks_within words name asks file left outcome before after (may, is) = runs_within words (Check name) asks file left before after may.grammar may.input may.supplied tt
+
 -- WORK
 
-pub worked : (words : List (List ℕ)) (size : ℕ) → Asks words (Work size) → (file : List ℕ → ToldFile) (left : Option (List ℕ)) (o : Outcome) → IsWorkOutcome size o → MayHave words file left o
-worked words size asks file left o is = (
-  record {
-    grammar = [];
-    input = [];
-    outcome = o;
-    supplied = record {
-      grammar_held = λ other others. subst (λ (j : Job). IfSome (grammar_file j) (λ n. MayHold (file n) [])) (asks_once words (Work size) other asks others) tt;
-      input_held = λ other others goes. subst (λ (j : Job). InputMayBe (input_from j) file left []) (asks_once words (Work size) other asks others) tt;
-    };
-    is_outcome = OfJob (Work size) asks is;
-  },
-  refl,
-)
+module _ (words : List (List ℕ)) (size : ℕ) (asks : Asks words (Work size)) (file : List ℕ → ToldFile) (left : Option (List ℕ)) where
+  supplied : Supplied words file left [] []
+  supplied = record {
+    grammar_held = λ other others. subst (λ (j : Job). IfSome (grammar_file j) (λ n. MayHold (file n) [])) (asks_once words (Work size) other asks others) tt;
+    input_held = λ other others goes. subst (λ (j : Job). InputMayBe (input_from j) file left []) (asks_once words (Work size) other asks others) tt;
+  }
+
+  pub worked : (o : Outcome) → IsWorkOutcome size o → MayHave words file left o
+  worked o is = (record { grammar = []; input = []; outcome = o; supplied = supplied; is_outcome = OfJob (Work size) asks is }, refl)
+
+  pub works_within : (before after : ℕ) → WorksWithin size before after → RunsWithin words file left before after
+  works_within before after within = runs_within words (Work size) asks file left before after [] [] supplied within

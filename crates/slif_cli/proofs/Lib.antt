@@ -12,3 +12,5 @@ pub mod TaskLemmas
 pub mod Derived
 pub mod Reported
 pub mod Own
+pub mod Within
+pub mod OneLine

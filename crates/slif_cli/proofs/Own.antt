@@ -1,5 +1,6 @@
 -- What job `work` comes to: its grammar is accepted, its input is read to its end, and it has one derivation.
-use Rattle.std.proofs.Common.{◌≡◌, ℕ, ◌+◌, ◌*◌, ◌≤◌, List, [], ◌∷◌, ◌++◌, replicate, length, take, refl, sym, ap, subst, ◌∙◌, length-append, arith, chars, IsUtf8, slice_index_or}
+use Rattle.std.proofs.Common.{◌≡◌, ℕ, ◌+◌, ◌*◌, ◌≤◌, List, [], ◌∷◌, ◌++◌, None, replicate, length, take, refl, sym, ap, subst, ◌∙◌, length-append, arith, chars, IsUtf8, slice_index_or}
+use Rattle.std.specs.List.{sum_by}
 use Rattle.std.proofs.lemmas.List.{length-replicate, take_all}
 use Rattle.std.proofs.lemmas.Str.{length-le-encodes, encodes-chars}
 use Rattle.grammar_model.specs.Grammar.{slot_of}
@@ -11,6 +12,13 @@ use Rattle.grammar_model.specs.Order.{rank_order}
 use Rattle.grammar_model.proofs.Sorting.{ranks_order}
 use Rattle.grammar_model.proofs.Total.{all_unique}
 use Rattle.grammar_core.specs.declared.steps.Span.{Span}
+use Rattle.recognizer_model.specs.Counts.{IsCountOf}
+use Rattle.recognizer_model.specs.Links.{choices}
+use Rattle.recognizer_model.specs.Nodes.{IsExpanded}
+use Rattle.earley_sets.specs.Recognizer.{Recognizer, IsRecognizer, edges_of as held_edges, top_of, place_of}
+use Rattle.earley_sets.specs.Counted.{TakesAtMost}
+use Rattle.scanless.specs.Reading.{HoldsPieces, IsReadingOf}
+use Rattle.scanless.specs.declared.reading.Ending.TheVariants.{End as AtEnd}
 use Rattle.language_model.specs.Building.{Built}
 use Rattle.reading_model.specs.Reading.{Piece, End, Stopped, IsReading, edges_of, place_after}
 use Rattle.reading_model.proofs.One.{reading_is_one}
@@ -23,6 +31,7 @@ use Rattle.run_model.specs.Numbers.{Numbers, HasNumbers}
 use Rattle.run_model.specs.Jobs.{work_grammar, work_input}
 use Rattle.run_model.specs.Telling.{work_line}
 use Rattle.run_model.specs.Outcome.{Outcome, IsWorkOutcome, done}
+use Rattle.run_model.specs.Steps.{GivesWithin}
 use Rattle.run_model.proofs.Accepted.{one_built, not_refused}
 use Rattle.work_laws.proofs.Working.{work_has_one}
 use Rattle.slif_cli.specs.Stops.{TellsText, TellsInput, IsBrokenText, IsStopText}
@@ -32,6 +41,7 @@ use Rattle.slif_cli.specs.declared.stop.Stop.{Stop}
 use Rattle.slif_cli.specs.declared.stop.Stop.TheVariants.{Refused, OpenFault, ReadFault, WriteFault, NoMemory}
 use Rattle.slif_cli.proofs.GrammarLaws.{grammar_laws}
 use Rattle.slif_cli.proofs.Derived.{listed, some_listing}
+use Rattle.slif_cli.proofs.Within.{within}
 
 pub work_length : (n : ℕ) → length (work_input n) ≡ 3 * n + 1
 work_length n =
@@ -136,4 +146,24 @@ module _ (size : ℕ) (sized : size ≤ 100000) where
               numbers = numbers;
               has = has_numbers;
               is = ap (λ l. done (l ∷ [])) (told ∙ ap (work_line size numbers) (one_counted n counted));
+            }
+
+        pub own_within : (recce : Recognizer) → IsRecognizer recce → (held_spans : List Span) → IsReadingOf b cs recce held_spans AtEnd → (before read built after : ℕ)
+            → ((n : ℕ) → IsCountOf (IsExpanded recce.flat (held_edges recce) (top_of recce) (place_of recce)) n → built ≤ read + n)
+            → ((trees : List Tree) → IsListing f trees → after ≤ built + sum_by choices (take 4294967295 trees))
+            → TakesAtMost recce before read → GivesWithin b (work_input size) RuleRanks None before after
+        own_within recce recognizes held_spans reading before read built after builds gives reads =
+            let (trees, l) = some_listing b RuleRanks cs spans f has forest in
+            let all = listed b RuleRanks cs spans f has trees l in
+            let (tree, one) = only has.pieces has.of.reading RuleRanks in
+            let same = same_list RuleRanks has.pieces trees (tree ∷ []) all one in
+            let few : take 4294967295 trees ≡ trees = ap (λ (ts : List Tree). take 4294967295 ts) same ∙ take_all 4294967295 (tree ∷ []) (omega arith) ∙ sym same in
+            let (pieces, ends) = reading_is_one b cs reading.pieces has.pieces End End reading.is_reading has.of.reading in
+            let holds : HoldsPieces b has.pieces recce = subst (λ (ps : List Piece). HoldsPieces b ps recce) pieces reading.holds in
+            record {
+              pieces = has.pieces;
+              read = record { text = own_text; reading = subst (λ (l : List ℕ). IsReading b l has.pieces End) is has.of.reading };
+              trees = trees;
+              all = all;
+              within = within b recce recognizes has.pieces holds trees before read built after reads builds (subst (λ (ts : List Tree). after ≤ built + sum_by choices ts) few (gives trees l));
             }

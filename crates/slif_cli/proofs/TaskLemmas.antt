@@ -18,15 +18,17 @@ use Rattle.run_model.specs.Outcome.IsOutcome.{OfJob}
 use Rattle.run_model.specs.Outcome.IsGrammarOutcome.{GrammarAccepted}
 use Rattle.run_model.specs.Inputs.{IsInputText, IsInputRefused, TooLong}
 use Rattle.run_model.specs.Outside.{Stream}
-use Rattle.run_model.specs.Runs.{MayOpen, InputMayBe, AsksNames, ReadsInput, GoesOn}
+use Rattle.run_model.specs.Runs.{MayOpen, InputMayBe, Supplied, AsksNames, ReadsInput, GoesOn}
+use Rattle.run_model.specs.Steps.{RunsWithin}
 use Rattle.run_model.specs.Runs.MayOpen.{OfInput}
 use Rattle.run_model.specs.Runs.MayAsk.{ForGrammar, ForInput}
-use Rattle.slif_cli.specs.Stops.{MayHave, MayRead, ReadStops, FileStops, SourceStops, TellsInput, StopsAt, WriteStops, names_from}
-use Rattle.slif_cli.specs.Tasks.{IsTaskJob, TellsReading}
+use Rattle.slif_cli.specs.Stops.{InputHolds, MayHave, MayRead, ReadStops, FileStops, SourceStops, TellsInput, StopsAt, WriteStops, names_from}
+use Rattle.slif_cli.specs.Tasks.{IsTaskJob, TellsReading, TaskWithin}
 use Rattle.slif_cli.specs.declared.stop.Refusal.TheVariants.{Usage, Grammar as BadGrammar, Input as BadInput}
 use Rattle.slif_cli.specs.declared.stop.Stop.{Stop}
 use Rattle.slif_cli.specs.declared.stop.Stop.TheVariants.{Refused, OpenFault, ReadFault, WriteFault, NoMemory}
 use Rattle.slif_cli.proofs.JobLemmas.{held_by_all}
+use Rattle.slif_cli.proofs.Within.{runs_within}
 use Rattle.slif_cli.proofs.Stopping.{nothing_appended}
 
 -- THE INPUT
@@ -103,6 +105,9 @@ same_may_be (FileNamed name) old new same left bytes may = subst (λ (told : Tol
 pub read_before : (P : List ℕ → Outcome → Type 0) (from : InputFrom) (old new : List ℕ → ToldFile) → SameFiles old new → (left : Option (List ℕ)) (o : Outcome) → MayRead P from new left o → MayRead P from old left o
 read_before P from old new same left o may = record { bytes = may.bytes; may_be = same_may_be from old new same left may.bytes may.may_be; holds = may.holds }
 
+pub held_before : (from : InputFrom) (old new : List ℕ → ToldFile) → SameFiles old new → (left : Option (List ℕ)) (P : List ℕ → Type 0) → InputHolds from new left P → InputHolds from old left P
+held_before from old new same left P holds = record { bytes = holds.bytes; may_be = same_may_be from old new same left holds.bytes holds.may_be; holds = holds.holds }
+
 pub rose_earlier : (old mid new : ℕ) → old ≤ mid → Rose mid new → Rose old new
 rose_earlier old mid new le rose = omega (arith, le, rose)
 
@@ -125,17 +130,24 @@ module _ (words : List (List ℕ)) (job : Job) (name : List ℕ) (from : Option 
     accepted = subst (λ (o : Option (List ℕ)). IfSome o (λ _. (c : Built) × Accepted held.bytes c)) (sym is_job.named) (b, held.holds);
   }
 
+  supplied : (bytes : List ℕ) → InputMayBe (input_named from) file left bytes → Supplied words file left held.bytes bytes
+  supplied bytes may_be = record {
+    grammar_held = held_by_all words job asks file left name is_job.named held.bytes held.may_hold;
+    input_held = λ other others goes. subst (λ (j : Job). InputMayBe (input_from j) file left bytes) (asks_once words job other asks others)
+        (subst (λ (f : InputFrom). InputMayBe f file left bytes) (sym is_job.input) may_be);
+  }
+
+  pub task_within : (before after : ℕ) → InputHolds (input_named from) file left (λ bytes. TaskWithin task b bytes before after) → RunsWithin words file left before after
+  task_within before after may =
+      runs_within words job asks file left before after held.bytes may.bytes (supplied may.bytes may.may_be) (is_job.within held.bytes may.bytes b before after held.holds may.holds)
+
   pub told : (o : Outcome) → MayRead (IsTaskOutcome task b) (input_named from) file left o → MayHave words file left o
   told o may = (
     record {
       grammar = held.bytes;
       input = may.bytes;
       outcome = o;
-      supplied = record {
-        grammar_held = held_by_all words job asks file left name is_job.named held.bytes held.may_hold;
-        input_held = λ other others goes. subst (λ (j : Job). InputMayBe (input_from j) file left may.bytes) (asks_once words job other asks others)
-            (subst (λ (f : InputFrom). InputMayBe f file left may.bytes) (sym is_job.input) may.may_be);
-      };
+      supplied = supplied may.bytes may.may_be;
       is_outcome = OfJob job asks (is_job.outcome held.bytes may.bytes o (GrammarAccepted b held.holds may.holds));
     },
     refl,
@@ -174,10 +186,10 @@ module _ (words : List (List ℕ)) (job : Job) (name : List ℕ) (from : Option 
 -- the jobs that tell of an input
 
 pub run_job : (asked : RunAsked) → IsTaskJob (Run asked) asked.grammar (input_named asked.input) (Values asked)
-run_job asked = record { named = refl; input = refl; outcome = λ text bytes o is. is }
+run_job asked = record { named = refl; input = refl; outcome = λ text bytes o is. is; within = λ text bytes b before after accepted gives. (b, accepted, gives) }
 
 pub expect_job : (name : List ℕ) (from : Option (List ℕ)) → IsTaskJob (Expect name from) name (input_named from) Expected
-expect_job name from = record { named = refl; input = refl; outcome = λ text bytes o is. is }
+expect_job name from = record { named = refl; input = refl; outcome = λ text bytes o is. is; within = λ text bytes b before after accepted gives. tt }
 
 pub progress_job : (name : List ℕ) (at : ℕ) (from : Option (List ℕ)) → IsTaskJob (Progress name at from) name (input_named from) (Report at)
-progress_job name at from = record { named = refl; input = refl; outcome = λ text bytes o is. is }
+progress_job name at from = record { named = refl; input = refl; outcome = λ text bytes o is. is; within = λ text bytes b before after accepted gives. tt }

@@ -1,5 +1,8 @@
 // The forest of a reading.
-ghost use Rattle.std.specs.Prelude.{◌≤◌, length, IfOk, IfErr};
+ghost use Rattle.std.specs.Prelude.{◌≤◌, ◌+◌, ℕ, length, IfOk, IfErr};
+ghost use Rattle.recognizer_model.specs.Counts.{IsCountOf};
+ghost use Rattle.recognizer_model.specs.Nodes.{IsExpanded};
+ghost use Rattle.earley_sets.specs.Recognizer.{edges_of, top_of, place_of};
 ghost use Rattle.scanless.specs.Reading.{IsReadingOf};
 ghost use Rattle.scanless.specs.declared.reading.Ending.TheVariants.{End};
 ghost use Rattle.slif_cli.specs.Stops.{TellsInput};
@@ -30,6 +33,7 @@ pub fn forest_of<'r, 'a, L: Ledger>(
     requires read { IsReadingOf prepared.now chars.now reading.now.recce reading.now.spans.items End }
     ensures forest { IfOk result (λ f. HasForest prepared.now ranking chars.now reading.now.spans.items f) }
     ensures stops { IfErr result (TellsInput (IsNoDerivation prepared.now ranking chars.now)) }
+    ensures counted { (n : ℕ) → IsCountOf (IsExpanded reading.now.recce.flat (edges_of reading.now.recce) (top_of reading.now.recce) (place_of reading.now.recce)) n → steps.new ≤ steps.old + n }
 {
     trees_are_derivations();
     prepared.known();

@@ -1,9 +1,11 @@
 // What is told of a stop on the standard error.
-ghost use Rattle.std.specs.Prelude.{◌≡◌, ◌≤◌, IfOk};
+ghost use Rattle.std.specs.Prelude.{◌≡◌, ◌≤◌, ◌<◌, ◌++◌, IfOk, OnOk, IsTrue, chars, flat_map};
+ghost use Rattle.grammar_model.specs.Text.{escaped, hex_digit, is_control};
 ghost use Rattle.run_model.specs.Outside.{stream};
 ghost use Rattle.run_model.specs.Runs.{fault_line};
 ghost use Rattle.run_model.specs.Runs.Fault.{CannotOpen};
 ghost use Rattle.run_model.specs.Outcome.{message};
+ghost use Rattle.run_model.specs.Telling.{in_line};
 ghost use Rattle.slif_cli.specs.Stops.{Reports, Tells, refusal_outcome};
 
 use crate::stop::{Refusal, Stop};
@@ -62,14 +64,70 @@ fn refusal_line(alloc: Global, refusal: &Refusal) -> Result<Vec<u8>, AllocError>
     }
 }
 
-// The text as a line.
+// The text as one line.
 fn message(alloc: Global, text: &[u8]) -> Result<Vec<u8>, AllocError>
     ensures { IfOk result (λ line. line.items ≡ message text.now) }
 {
+    let text = String::from_utf8_lossy(alloc, text)?;
     let mut line = Vec::from_slice(alloc, b"slif: ")?;
-    line.extend_from_slice(text)?;
-    line.extend_from_slice(b"\n")?;
+    append_in_line(&text, &mut line)?;
+    line.push(b'\n')?;
     Ok(line)
+}
+
+// Appends the characters of a text as they stand in a message.
+fn append_in_line(text: &str, line: &mut Vec<u8>) -> Result<(), AllocError>
+    ensures { OnOk result (line.new.items ≡ line.old.items ++ flat_map in_line (chars text.now)) }
+{
+    for c in text.chars() {
+        append_char(c, line)?;
+    }
+    Ok(())
+}
+
+fn append_char(c: char, line: &mut Vec<u8>) -> Result<(), AllocError>
+    ensures { OnOk result (line.new.items ≡ line.old.items ++ in_line c) }
+{
+    match c {
+        '\0'..='\x1f' | '\x7f'..='\u{9f}' => append_control(c, line),
+        '\u{2028}' => append_bytes(b"\\x{2028}", line),
+        '\u{2029}' => append_bytes(b"\\x{2029}", line),
+        _ => append_bytes(c.encode_utf8(&mut [0; 4]).as_bytes(), line),
+    }
+}
+
+// Appends a control character as it stands in the text of a value.
+fn append_control(c: char, line: &mut Vec<u8>) -> Result<(), AllocError>
+    requires { IsTrue (is_control c) }
+    ensures { OnOk result (line.new.items ≡ line.old.items ++ escaped c) }
+{
+    match c {
+        '\n' => append_bytes(b"\\n", line),
+        '\r' => append_bytes(b"\\r", line),
+        '\t' => append_bytes(b"\\t", line),
+        _ => {
+            let code = c as u8;
+            append_bytes(
+                &[b'\\', b'x', b'{', hex(code / 16), hex(code % 16), b'}'],
+                line,
+            )
+        }
+    }
+}
+
+fn append_bytes(bytes: &[u8], line: &mut Vec<u8>) -> Result<(), AllocError>
+    ensures { OnOk result (line.new.items ≡ line.old.items ++ bytes.now) }
+{
+    line.extend_from_slice(bytes)?;
+    Ok(())
+}
+
+// A digit in base 16.
+fn hex(n: u8) -> u8
+    requires { n < 16 }
+    ensures { result ≡ hex_digit n }
+{
+    if n < 10 { b'0' + n } else { b'a' + (n - 10) }
 }
 
 fn refusal_status(refusal: &Refusal) -> u8
@@ -95,9 +153,7 @@ fn tell<E: Sink>(err: &mut E, line: &[u8], status: u8) -> u8
 fn open_line(alloc: Global, name: &str) -> Result<Vec<u8>, AllocError>
     ensures { IfOk result (λ line. line.items ≡ fault_line (CannotOpen name.now)) }
 {
-    let mut line = Vec::new(alloc);
-    line.extend_from_slice(b"slif: cannot open ")?;
-    line.extend_from_slice(name.as_bytes())?;
-    line.extend_from_slice(b"\n")?;
-    Ok(line)
+    let mut text = Vec::from_slice(alloc, b"cannot open ")?;
+    text.extend_from_slice(name.as_bytes())?;
+    message(alloc, &text)
 }

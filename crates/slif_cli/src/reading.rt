@@ -2,6 +2,7 @@
 ghost use Rattle.std.specs.Prelude.{◌≡◌, ◌≤◌, ◌<◌, ◌++◌, ◌∷◌, [], All, length, map, codes, IfOk, IfErr, OnOk};
 ghost use Rattle.std.specs.List.{flat_map};
 ghost use Rattle.grammar_model.specs.Values.{name_of};
+ghost use Rattle.earley_sets.specs.Counted.{TakesAtMost};
 ghost use Rattle.run_model.specs.Inputs.{names_text, stop_text};
 ghost use Rattle.scanless.specs.Reading.{IsReadingOf};
 ghost use Rattle.scanless.specs.declared.reading.Ending.TheVariants.{End};
@@ -25,6 +26,7 @@ pub fn read_text<'p, 'a, L: Ledger>(
 ) -> Result<Reading<'p>, Stop<'a>>
     requires { length chars.now ≤ 16777216 }
     ensures read { IfOk result (λ r. IsReadingOf prepared.now chars.now r.recce r.spans.items End) }
+    ensures counted { IfOk result (λ r. TakesAtMost r.recce steps.old steps.new) }
     ensures stops { IfErr result (TellsInput (IsStopText prepared.now chars.now)) }
 {
     let reading = read_input(alloc, prepared, chars, steps)?;

@@ -10,8 +10,8 @@ ghost use Rattle.valuator.specs.Told.{states};
 ghost use Rattle.value_lines.specs.Writing.{AreBothTellers};
 ghost use Rattle.scanless.specs.Reading.{IsReadingOf};
 ghost use Rattle.scanless.specs.declared.reading.Ending.TheVariants.{End};
-ghost use Rattle.slif_cli.specs.Stops.{Does, MayRead, StopsAt, WriteStops, names_from};
-ghost use Rattle.slif_cli.specs.Tasks.{task_of, TellsReading};
+ghost use Rattle.slif_cli.specs.Stops.{Does, InputHolds, MayRead, StopsAt, WriteStops, names_from};
+ghost use Rattle.slif_cli.specs.Tasks.{task_of, TellsReading, TaskWithin, GoesOnWithin};
 
 use crate::expecting::write_expected;
 use crate::inputs::{input_chars, read_bytes};
@@ -45,6 +45,8 @@ pub fn tell_input<'a, F: Files, I: Source, O: Sink, L: Ledger>(
         (λ asked. Rose (F.fault_count files.old) (F.fault_count files.new) × (input_named (option_copied name.entry) ≡ FileNamed asked))
         (Rose (F.fault_count files.old) (F.fault_count files.new) ⊎ Rose (I.fault_count input.old) (I.fault_count input.new))
         (stream O.contents O.fault_count out.old) (stream O.contents O.fault_count out.new)) }
+    ensures counted { OnOk result (InputHolds (input_named (option_copied name.entry)) (F.told files.old) (I.left input.old)
+        (λ bytes. TaskWithin (task_of task.entry) prepared.now bytes steps.old steps.new)) }
     ensures later { F.fault_count files.old ≤ F.fault_count files.new }
     ensures input_later { I.fault_count input.old ≤ I.fault_count input.new }
     ensures out_later { O.fault_count out.old ≤ O.fault_count out.new }
@@ -73,6 +75,7 @@ fn tell_bytes<'a, O: Sink, L: Ledger>(
     ensures done { OnOk result (Does (IsTaskOutcome (task_of task.entry) prepared.now bytes.now) (O.contents out.old) (O.contents out.new)) }
     ensures stops { IfErr result (WriteStops (IsTaskOutcome (task_of task.entry) prepared.now bytes.now)
         (stream O.contents O.fault_count out.old) (stream O.contents O.fault_count out.new)) }
+    ensures counted { OnOk result (TaskWithin (task_of task.entry) prepared.now bytes.now steps.old steps.new) }
     ensures out_later { O.fault_count out.old ≤ O.fault_count out.new }
 {
     let chars = match input_chars(alloc, bytes) {
@@ -102,6 +105,7 @@ fn tell_reading<'a, O: Sink, L: Ledger>(
     ensures done { OnOk result (Does (TellsReading (task_of task.entry) prepared.now chars.now) (O.contents out.old) (O.contents out.new)) }
     ensures stops { IfErr result (WriteStops (TellsReading (task_of task.entry) prepared.now chars.now)
         (stream O.contents O.fault_count out.old) (stream O.contents O.fault_count out.new)) }
+    ensures counted { OnOk result (GoesOnWithin (task_of task.entry) prepared.now chars.now reading.now.recce steps.old steps.new) }
     ensures out_later { O.fault_count out.old ≤ O.fault_count out.new }
 {
     match task {

@@ -5,6 +5,7 @@ ghost use Rattle.words_model.specs.Words as asked_words;
 ghost use Rattle.words_model.specs.Words.{Asks, input_named, Check as AskedCheck};
 ghost use Rattle.run_model.specs.Outside.{Outside, Stream, stream, disk};
 ghost use Rattle.run_model.specs.Runs.{Runs, AsksNames, ReadsInput};
+ghost use Rattle.run_model.specs.Steps.{RunsWithin};
 ghost use Rattle.command_line.specs.Jobs.{job_of};
 ghost use Rattle.valuator.specs.Told.{states};
 ghost use Rattle.value_lines.specs.Writing.{AreBothTellers};
@@ -50,6 +51,7 @@ pub fn run<F: Files, I: Source, O: Sink, E: Sink, L: Ledger>(
           err = stream E.contents E.fault_count err.new;
         } in
         Runs (map string_bytes words.now) before after result }
+    ensures counted { result ≡ 0 → RunsWithin (map string_bytes words.now) (F.told files.old) (I.left input.old) steps.old steps.new }
     ensures asks { AsksNames (map string_bytes words.now) (F.told files.old) (F.asked files.old) (F.asked files.new) }
     ensures input { (input.new ≡ input.old) ⊎ ReadsInput (map string_bytes words.now) (F.told files.old) }
     ensures held { SameFiles (F.told files.old) (F.told files.new) }
@@ -76,6 +78,7 @@ fn work<'a, F: Files, I: Source, O: Sink, L: Ledger>(
         (disk F.told F.fault_count files.old) (disk F.told F.fault_count files.new)
         (stream I.left I.fault_count input.old) (stream I.left I.fault_count input.new)
         (stream O.contents O.fault_count out.old) (stream O.contents O.fault_count out.new)) }
+    ensures counted { OnOk result (RunsWithin (map string_bytes words.now) (F.told files.old) (I.left input.old) steps.old steps.new) }
     ensures asks { AsksNames (map string_bytes words.now) (F.told files.old) (F.asked files.old) (F.asked files.new) }
     ensures input { (input.new ≡ input.old) ⊎ ReadsInput (map string_bytes words.now) (F.told files.old) }
     ensures held { SameFiles (F.told files.old) (F.told files.new) }
@@ -104,6 +107,7 @@ fn do_job<'a, F: Files, I: Source, O: Sink, L: Ledger>(
         (disk F.told F.fault_count files.old) (disk F.told F.fault_count files.new)
         (stream I.left I.fault_count input.old) (stream I.left I.fault_count input.new)
         (stream O.contents O.fault_count out.old) (stream O.contents O.fault_count out.new)) }
+    ensures counted { OnOk result ((words : List (List ℕ)) → Asks words (job_of job.entry) → RunsWithin words (F.told files.old) (I.left input.old) steps.old steps.new) }
     ensures asks { (words : List (List ℕ)) → Asks words (job_of job.entry) → AsksNames words (F.told files.old) (F.asked files.old) (F.asked files.new) }
     ensures input { (input.new ≡ input.old) ⊎ ((words : List (List ℕ)) → Asks words (job_of job.entry) → ReadsInput words (F.told files.old)) }
     ensures held { SameFiles (F.told files.old) (F.told files.new) }
@@ -193,6 +197,8 @@ fn do_task<'a, F: Files, I: Source, O: Sink, L: Ledger>(
         (disk F.told F.fault_count files.old) (disk F.told F.fault_count files.new)
         (stream I.left I.fault_count input.old) (stream I.left I.fault_count input.new)
         (stream O.contents O.fault_count out.old) (stream O.contents O.fault_count out.new) stop) }
+    ensures counted { OnOk result ((job : asked_words.Job) → IsTaskJob job grammar.now (input_named (option_copied name.entry)) (task_of task.entry) →
+        (words : List (List ℕ)) → Asks words job → RunsWithin words (F.told files.old) (I.left input.old) steps.old steps.new) }
     ensures asks { (job : asked_words.Job) → IsTaskJob job grammar.now (input_named (option_copied name.entry)) (task_of task.entry) →
         (words : List (List ℕ)) → Asks words job → AsksNames words (F.told files.old) (F.asked files.old) (F.asked files.new) }
     ensures input { (input.new ≡ input.old) ⊎ ((job : asked_words.Job) → IsTaskJob job grammar.now (input_named (option_copied name.entry)) (task_of task.entry) →

@@ -12,7 +12,7 @@ ghost use Rattle.value_lines.specs.Writing.{AreBothTellers};
 ghost use Rattle.scanless.specs.Reading.{IsReadingOf};
 ghost use Rattle.scanless.specs.declared.reading.Ending.TheVariants.{End};
 ghost use Rattle.slif_cli.specs.Stops.{Does, WriteStops, LinesStop};
-ghost use Rattle.slif_cli.specs.Tasks.{TellsReading};
+ghost use Rattle.slif_cli.specs.Tasks.{TellsReading, GoesOnWithin};
 
 use crate::checking::write_lines;
 use crate::forests::forest_of;
@@ -44,8 +44,10 @@ pub fn write_values<'a, O: Sink, L: Ledger>(
     ensures done { OnOk result (Does (TellsReading (Values (asked_of asked.entry)) prepared.now chars.now) (O.contents out.old) (O.contents out.new)) }
     ensures stops { IfErr result (WriteStops (TellsReading (Values (asked_of asked.entry)) prepared.now chars.now)
         (stream O.contents O.fault_count out.old) (stream O.contents O.fault_count out.new)) }
+    ensures counted { OnOk result (GoesOnWithin (Values (asked_of asked.entry)) prepared.now chars.now reading.now.recce steps.old steps.new) }
     ensures out_later { O.fault_count out.old ≤ O.fault_count out.new }
 {
+    let _place = reading.recce.place();
     let arena = Bump::new(alloc);
     let forest = match forest_of(
         alloc,

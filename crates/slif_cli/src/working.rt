@@ -1,12 +1,16 @@
 // Job `work`, which has a grammar and an input of its own. None of them is refused.
-ghost use Rattle.std.specs.Prelude.{◌≡◌, ◌≤◌, ◌∷◌, [], length, chars as chars_in, IfOk, IfErr, OnOk};
+ghost use Rattle.std.specs.Prelude.{◌≡◌, ◌≤◌, ◌∷◌, [], ℕ, length, None, chars as chars_in, IfOk, IfErr, OnOk};
+ghost use Rattle.grammar_model.specs.declared.Ranking.TheVariants.{Rule as RuleRanks};
+ghost use Rattle.earley_sets.specs.Counted.{TakesAtMost};
 ghost use Rattle.run_model.specs.Jobs.{work_grammar, work_input};
 ghost use Rattle.run_model.specs.Refused.{Accepted};
 ghost use Rattle.run_model.specs.Outcome.{IsWorkOutcome, done};
+ghost use Rattle.run_model.specs.Steps.{GivesWithin};
 ghost use Rattle.run_model.specs.Outside.{stream};
 ghost use Rattle.scanless.specs.Reading.{IsReadingOf};
 ghost use Rattle.scanless.specs.declared.reading.Ending.TheVariants.{End};
 ghost use Rattle.slif_cli.specs.Stops.{Does, WriteStops};
+ghost use Rattle.slif_cli.specs.Tasks.{WorksWithin};
 
 use crate::checking::write_lines;
 use crate::forests::forest_of;
@@ -36,6 +40,7 @@ pub fn work_of_size<'a, O: Sink, L: Ledger>(
     ensures done { OnOk result (Does (IsWorkOutcome size) (O.contents out.old) (O.contents out.new)) }
     ensures stops { IfErr result (WriteStops (IsWorkOutcome size)
         (stream O.contents O.fault_count out.old) (stream O.contents O.fault_count out.new)) }
+    ensures counted { OnOk result (WorksWithin size steps.old steps.new) }
     ensures out_later { O.fault_count out.old ≤ O.fault_count out.new }
 {
     let line = line_of_size(alloc, size, steps)?;
@@ -48,7 +53,8 @@ fn line_of_size<L: Ledger>(
     steps: &mut Steps<L>,
 ) -> Result<Vec<u8>, NoMemory>
     requires { size ≤ 100000 }
-    ensures { IfOk result (λ line. IsWorkOutcome size (done (line.items ∷ []))) }
+    ensures line { IfOk result (λ line. IsWorkOutcome size (done (line.items ∷ []))) }
+    ensures counted { OnOk result (WorksWithin size steps.old steps.new) }
 {
     let prepared = own_grammar(alloc)?;
     let chars = own_chars(alloc, size)?;
@@ -107,7 +113,8 @@ fn own_reading<'p, L: Ledger>(
     requires size { size ≤ 100000 }
     requires grammar { Accepted work_grammar prepared.now }
     requires chars { chars.now ≡ chars_in (work_input size) }
-    ensures { IfOk result (λ r. IsReadingOf prepared.now chars.now r.recce r.spans.items End) }
+    ensures read { IfOk result (λ r. IsReadingOf prepared.now chars.now r.recce r.spans.items End) }
+    ensures counted { IfOk result (λ r. TakesAtMost r.recce steps.old steps.new) }
 {
     let _ = size;
     match read_text(alloc, prepared, chars, steps) {
@@ -128,8 +135,10 @@ fn line_of_reading<L: Ledger>(
     requires grammar { Accepted work_grammar prepared.now }
     requires chars { chars.now ≡ chars_in (work_input size) }
     requires read { IsReadingOf prepared.now chars.now reading.now.recce reading.now.spans.items End }
-    ensures { IfOk result (λ line. IsWorkOutcome size (done (line.items ∷ []))) }
+    ensures line { IfOk result (λ line. IsWorkOutcome size (done (line.items ∷ []))) }
+    ensures counted { OnOk result ((before : ℕ) → TakesAtMost reading.now.recce before steps.old → GivesWithin prepared.now (work_input size) RuleRanks None before steps.new) }
 {
+    let _place = reading.recce.place();
     let arena = Bump::new(alloc);
     let forest = match forest_of(
         alloc,

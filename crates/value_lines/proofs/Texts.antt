@@ -46,7 +46,7 @@ front_of_first : {X : Type 0} (first : Option ℕ) (xs rest : List X) → IsWith
 front_of_first None xs rest within = (rest, refl)
 front_of_first (Some m) xs rest within = front_of_take m xs rest within
 
-all_of_first : {X : Type 0} (first : Option ℕ) (xs : List X) → IsWithin first (length xs) → first_of first xs ≡ xs
+pub all_of_first : {X : Type 0} (first : Option ℕ) (xs : List X) → IsWithin first (length xs) → first_of first xs ≡ xs
 all_of_first None xs within = refl
 all_of_first (Some m) xs within = take_all m xs within
 

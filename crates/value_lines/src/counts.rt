@@ -1,6 +1,8 @@
 // How many derivations there are, and the lines of numbers.
-ghost use Rattle.std.specs.Prelude.{◌≡◌, List, length, take, string_bytes, IfOk};
+ghost use Rattle.std.specs.Prelude.{◌≡◌, ◌≤◌, ◌+◌, List, length, take, string_bytes, IfOk, OnOk};
+ghost use Rattle.std.specs.List.{sum_by};
 ghost use Rattle.grammar_model.specs.Trees.{Tree};
+ghost use Rattle.recognizer_model.specs.Links.{choices};
 ghost use Rattle.forest_model.specs.Listing.{IsListing};
 ghost use Rattle.run_model.specs.Telling as told;
 ghost use Rattle.value_lines.specs.Counts.{numbers_of};
@@ -18,7 +20,8 @@ pub fn count_derivations<L: Ledger>(
     forest: &Forest<'_>,
     steps: &mut Steps<L>,
 ) -> Result<u32, NoMemory>
-    ensures { IfOk result (λ n. (trees : List Tree) → IsListing forest.now trees → n ≡ length (take 4294967295 trees)) }
+    ensures count { IfOk result (λ n. (trees : List Tree) → IsListing forest.now trees → n ≡ length (take 4294967295 trees)) }
+    ensures counted { OnOk result ((trees : List Tree) → IsListing forest.now trees → steps.new ≤ steps.old + sum_by choices (take 4294967295 trees)) }
 {
     forest.known();
     let mut iter = TreeIter::new(alloc, forest)?;

@@ -10,7 +10,7 @@ ghost use Rattle.value_text.specs.Meaning.{meaning_of};
 ghost use Rattle.valuator.specs.Play.{AreSteps, AreSpans, IsMeaningOf, tokens_of};
 ghost use Rattle.valuator.specs.Told.{HoldsOne, states, line_of as line_held};
 ghost use Rattle.reading_model.specs.Reading.{Piece};
-ghost use Rattle.tree_iter.specs.Iteration.{AreGiven};
+ghost use Rattle.tree_iter.specs.Iteration.{AreGiven, AreFew};
 ghost use Rattle.value_lines.specs.Lines.{IsForestOf, IsLineOf};
 
 use grammar_core::{Span, TreeStep, Written};
@@ -80,6 +80,7 @@ pub fn next_line<L: Ledger>(
     requires tellers { (show : Show) × (states tellers.old.items shows held ≡ (show, []) ∷ []) }
     ensures line { IfOk result (λ more. (show : Show) (pieces : List Piece) (given : List Tree) → states tellers.old.items shows held ≡ (show, []) ∷ [] →
         IsForestOf prepared.now chars.now spans.now iter.old.forest pieces → AreGiven iter.old given → IsLineOf prepared.now show chars.now pieces iter.new given line.new.items more) }
+    ensures counted { IfOk result (λ more. (given : List Tree) → AreGiven iter.old given → AreFew iter.new given more steps.old steps.new) }
     ensures forest { iter.new.forest ≡ iter.old.forest }
     ensures tellers { OnOk result (states tellers.new.items shows held ≡ states tellers.old.items shows held) }
 {

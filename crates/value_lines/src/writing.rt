@@ -1,7 +1,12 @@
 // Writing the lines of the derivations of a reading.
-ghost use Rattle.std.specs.Prelude.{◌≡◌, ◌≤◌, ◌↔◌, ◌∷◌, [], List, IfErr, IfSome, IsTrue, OnOk};
+ghost use Rattle.std.specs.Prelude.{◌≡◌, ◌≤◌, ◌+◌, ◌↔◌, ◌∷◌, [], List, IfErr, IfSome, IsTrue, OnOk};
+ghost use Rattle.std.specs.List.{sum_by};
 ghost use Rattle.std.specs.Io.KnownBytes.{Appends};
+ghost use Rattle.grammar_model.specs.Trees.{Tree};
+ghost use Rattle.recognizer_model.specs.Links.{choices};
 ghost use Rattle.reading_model.specs.Reading.{Piece};
+ghost use Rattle.forest_model.specs.Listing.{IsListing};
+ghost use Rattle.run_model.specs.Listing.{first_of};
 ghost use Rattle.run_model.specs.Outside.{stream};
 ghost use Rattle.valuator.specs.Told.{states};
 ghost use Rattle.value_lines.specs.Lines.{IsForestOf};
@@ -28,8 +33,8 @@ pub enum WriteRefusal {
 }
 
 /// Writes the lines of so many of the first derivations of a reading's forest, or of all, in the declared order and each as one piece,
-/// as the teller of the kind asked for tells them. `spans` are those of the reading's tokens in `chars`. More than 2^64 - 1
-/// derivations count as too many for memory.
+/// as the teller of the kind asked for tells them. `spans` are those of the reading's tokens in `chars`. It looks at alternatives at most
+/// as often as the derivations have choices. More than 2^64 - 1 derivations count as too many for memory.
 pub fn write_derivations<O: Sink, L: Ledger>(
     alloc: Global,
     prepared: &Prepared,
@@ -47,6 +52,7 @@ pub fn write_derivations<O: Sink, L: Ledger>(
     ensures written { OnOk result (TextHas prepared.now show chars.now spans.now forest.now first (λ text. Appends (O.contents out.old) (O.contents out.new) text)) }
     ensures stops { IfErr result (λ refusal. TextHas prepared.now show chars.now spans.now forest.now first
         (λ text. TextStops (stream O.contents O.fault_count out.old) (stream O.contents O.fault_count out.new) refusal text)) }
+    ensures counted { OnOk result ((trees : List Tree) → IsListing forest.now trees → steps.new ≤ steps.old + sum_by choices (first_of first trees)) }
     ensures later { O.fault_count out.old ≤ O.fault_count out.new }
 {
     forest.known();

@@ -5,10 +5,11 @@ use Rattle.run_model.specs.Inputs.{IsInputRefused, IsInputText}
 use Rattle.run_model.specs.Outcome.{IsTaskOutcome}
 use Rattle.run_model.specs.Outside.{stream}
 use Rattle.slif_cli.specs.Stops.{TellsInput, IsBrokenText, IsStopText}
-use Rattle.slif_cli.specs.Tasks.{task_of, TellsReading}
+use Rattle.slif_cli.specs.Tasks.{task_of, TellsReading, TellsWithin}
 use Rattle.slif_cli.proofs.InputLemmas.{refused_broken, refused_stop}
 use Rattle.slif_cli.proofs.Stopping.{does_weaker, stops_weaker}
 use Rattle.slif_cli.proofs.TaskLemmas.{input_weaker, told_input, task_refuses, task_told}
+use Rattle.slif_cli.proofs.Within.{bytes_within}
 use Rattle.slif_cli.proofs.telling.tell_bytes.Goals as goal
 
 pub returns-in-Err-clause-stops : goal.returns-in-Err-clause-stops
@@ -58,3 +59,13 @@ returns-clause-stops g c =
     told_input b (IsTaskOutcome task b) (task_refuses task b) bytes (stream g.O.Sink.contents g.O.Sink.fault_count c.args.out.now) c.in-Err-read_text.stop
     (input_weaker (IsStopText b (chars bytes)) (IsInputRefused b bytes) (refused_stop b bytes c.requires.few c.in-Ok.ensures.utf8) c.in-Err-read_text.stop
     (subst (λ (cs : List ℕ). TellsInput (IsStopText b cs) c.in-Err-read_text.stop) c.in-Ok.ensures.ok c.in-Err-read_text.ensures.stops))
+
+pub returns-in-Ok-read_text-clause-counted : goal.returns-in-Ok-read_text-clause-counted
+returns-in-Ok-read_text-clause-counted g c =
+    let b = c.args.prepared.now in
+    let task = task_of c.args.task in
+    let text : IsInputText c.args.bytes.now = record { within = c.requires.few; utf8 = c.in-Ok.ensures.utf8 } in
+    on_ok_weaker c.tell_reading.result
+    (λ goes. bytes_within task b c.args.bytes.now text c.args.steps.now c.tell_reading.new.steps
+    (subst (λ (cs : List ℕ). TellsWithin task b cs c.args.steps.now c.tell_reading.new.steps) c.in-Ok.ensures.ok (goes c.args.steps.now c.in-Ok-read_text.ensures.counted)))
+    c.tell_reading.ensures.counted

@@ -43,3 +43,11 @@ returns-in-Err-clause-stops g c =
     let b = c.args.prepared.now in
     unread b (IsTaskOutcome (task_of c.args.task) b) (task_refuses (task_of c.args.task) b) (input_named (option_copied c.args.name)) (g.F.Files.told c.args.files.now) (g.I.Source.left c.args.input.now) _ _
     (stream g.O.Sink.contents g.O.Sink.fault_count c.args.out.now) c.in-Err.stop c.in-Err.ensures.stops
+
+pub returns-in-Ok-clause-counted : goal.returns-in-Ok-clause-counted
+returns-in-Ok-clause-counted g c =
+    let from = input_named (option_copied c.args.name) in
+    let file = g.F.Files.told c.args.files.now in
+    let left = g.I.Source.left c.args.input.now in
+    let may_be : InputMayBe from file left c.deref.result.now = subst (InputMayBe from file left) (sym c.deref.ensures.value) c.in-Ok.ensures.read in
+    on_ok_weaker c.tell_bytes.result (λ within. record { bytes = c.deref.result.now; may_be = may_be; holds = within }) c.tell_bytes.ensures.counted

@@ -11,7 +11,7 @@ use Rattle.run_model.specs.Runs.{MayOpen}
 use Rattle.command_line.specs.Jobs.{asked_of, job_of}
 use Rattle.command_line.specs.declared.job.Job.{Job}
 use Rattle.slif_cli.specs.Stops.{MayHave}
-use Rattle.slif_cli.proofs.JobLemmas.{asks_names, asks_nothing, worked}
+use Rattle.slif_cli.proofs.JobLemmas.{asks_names, asks_nothing, worked, works_within, checks_within}
 use Rattle.slif_cli.proofs.Stopping.{does_weaker, stops_weaker}
 use Rattle.slif_cli.proofs.TaskLemmas.{run_job, expect_job, progress_job}
 use Rattle.slif_cli.proofs.top.do_job.Goals as goal
@@ -129,3 +129,35 @@ returns-in-Work-clause-stops g c =
 pub returns-in-Work-clause-asks : goal.returns-in-Work-clause-asks
 returns-in-Work-clause-asks g c =
     rw c.in-Work.is (λ words asks. asks_nothing words (g.F.Files.told c.args.files.now) (g.I.Source.left c.args.input.now) (g.F.Files.asked c.args.files.now))
+
+pub returns-in-Run-clause-counted : goal.returns-in-Run-clause-counted
+returns-in-Run-clause-counted g c =
+    let asked = asked_of c.in-Run.asked in
+    rw c.in-Run.is (on_ok_weaker c.do_task.result (λ within. within (Run asked) (run_job asked)) c.do_task.ensures.counted)
+
+pub returns-in-Expect-clause-counted : goal.returns-in-Expect-clause-counted
+returns-in-Expect-clause-counted g c =
+    let name = c.in-Expect.grammar.now in
+    let from = option_copied c.in-Expect.name in
+    rw c.in-Expect.is (on_ok_weaker c.do_task-in-Expect.result (λ within. within (Expect name from) (expect_job name from)) c.do_task-in-Expect.ensures.counted)
+
+pub returns-in-Progress-clause-counted : goal.returns-in-Progress-clause-counted
+returns-in-Progress-clause-counted g c =
+    let name = c.in-Progress.grammar.now in
+    let at = c.in-Progress.at in
+    let from = option_copied c.in-Progress.name in
+    rw c.in-Progress.is (on_ok_weaker c.do_task-in-Progress.result (λ within. within (Progress name at from) (progress_job name at from)) c.do_task-in-Progress.ensures.counted)
+
+pub returns-in-Check-clause-counted : goal.returns-in-Check-clause-counted
+returns-in-Check-clause-counted g c =
+    let file = g.F.Files.told c.args.files.now in
+    let left = g.I.Source.left c.args.input.now in
+    rw c.in-Check.is (on_ok_weaker c.check_grammar.result
+    (λ does words asks. let d = does left words asks in checks_within words c.in-Check.grammar.now asks file left d.outcome c.args.steps.now c.args.steps.now d.is) c.check_grammar.ensures.done)
+
+pub returns-in-Work-clause-counted : goal.returns-in-Work-clause-counted
+returns-in-Work-clause-counted g c =
+    let size = c.in-Work.size in
+    let file = g.F.Files.told c.args.files.now in
+    let left = g.I.Source.left c.args.input.now in
+    rw c.in-Work.is (on_ok_weaker c.work_of_size.result (λ within words asks. works_within words size asks file left c.args.steps.now c.work_of_size.new.steps within) c.work_of_size.ensures.counted)

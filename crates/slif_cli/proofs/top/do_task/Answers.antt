@@ -8,10 +8,10 @@ use Rattle.run_model.specs.Outside.{stream, disk}
 use Rattle.run_model.specs.Outcome.{IsTaskOutcome}
 use Rattle.run_model.specs.Runs.{MayOpen}
 use Rattle.slif_cli.specs.Stops.{MayHave, MayRead}
-use Rattle.slif_cli.specs.Tasks.{task_of}
+use Rattle.slif_cli.specs.Tasks.{task_of, TaskWithin}
 use Rattle.slif_cli.proofs.JobLemmas.{load_stops, asks_names}
 use Rattle.slif_cli.proofs.Stopping.{does_weaker, stops_weaker}
-use Rattle.slif_cli.proofs.TaskLemmas.{told, read_before, rose_earlier, reads_input, opens_input, asks_both}
+use Rattle.slif_cli.proofs.TaskLemmas.{told, task_within, read_before, held_before, rose_earlier, reads_input, opens_input, asks_both}
 use Rattle.slif_cli.proofs.top.do_task.Goals as goal
 
 pub returns-in-Ok-clause-done : goal.returns-in-Ok-clause-done
@@ -69,3 +69,15 @@ returns-in-Err-clause-stops g c =
 pub returns-in-Err-clause-asks : goal.returns-in-Err-clause-asks
 returns-in-Err-clause-asks g c =
     λ job is_job words asks. asks_names words job asks (g.F.Files.told c.args.files.now) (g.I.Source.left c.args.input.now) c.args.grammar.now is_job.named _ _ c.in-Err.ensures.asks
+
+pub returns-in-Ok-clause-counted : goal.returns-in-Ok-clause-counted
+returns-in-Ok-clause-counted g c =
+    let file = g.F.Files.told c.args.files.now in
+    let left = g.I.Source.left c.args.input.now in
+    let b = c.in-Ok.prepared in
+    let from = option_copied c.args.name in
+    let task = task_of c.args.task in
+    on_ok_weaker c.tell_input.result
+    (λ within job is_job words asks. task_within words job c.args.grammar.now from task is_job asks file left b c.in-Ok.ensures.read c.args.steps.now c.tell_input.new.steps
+    (held_before (input_named from) file (g.F.Files.told c.load_grammar.new.files) c.in-Ok.ensures.held left (λ bytes. TaskWithin task b bytes c.args.steps.now c.tell_input.new.steps) within))
+    c.tell_input.ensures.counted

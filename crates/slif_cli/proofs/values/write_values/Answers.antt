@@ -10,6 +10,7 @@ use Rattle.grammar_core.specs.declared.steps.Span.{Span}
 use Rattle.slif_cli.specs.Stops.{WriteStops}
 use Rattle.slif_cli.specs.Tasks.{TellsReading, HasForest, IsNoDerivation, write_stop}
 use Rattle.slif_cli.proofs.Derived.{values_done, values_stop, stats_stop, told_refusal, no_values}
+use Rattle.slif_cli.proofs.Within.{lists_within}
 use Rattle.slif_cli.proofs.values.write_values.Goals as goal
 
 pub write_derivations-requires-clause-forest : goal.write_derivations-requires-clause-forest
@@ -69,3 +70,14 @@ returns-clause-stops g c =
     let numbers = has_numbers b cs c.deref.result.now c.in-Ok.forest has.pieces has.of c.known.ensures c.stats-stats.result c.stats-stats.ensures in
     subst (λ (r : WriteRefusal). WriteStops (TellsReading (Values asked) b cs) before after (write_stop r)) c.in-Err-NoMemory.field-0-is
     (values_stop asked b cs c.deref.result.now c.in-Ok.forest has (numbers_of c.stats-stats.result) numbers before after c.in-Err-NoMemory.field-0 c.in-Err-NoMemory.ensures.stops)
+
+pub returns-in-Ok-write_derivations-clause-counted : goal.returns-in-Ok-write_derivations-clause-counted
+returns-in-Ok-write_derivations-clause-counted g c =
+    let b = c.args.prepared.now in
+    let cs = c.args.chars.now in
+    let read = c.args.reading.now in
+    let has = subst (λ (spans : List Span). HasForest b c.args.asked.ranking cs spans c.in-Ok.forest) (sym c.deref.ensures.value) c.in-Ok.ensures.forest in
+    on_ok_weaker c.write_stats.result
+    (λ _ before reads. lists_within b (asked_of c.args.asked) cs c.deref.result.now c.in-Ok.forest has c.known.ensures read.recce read.spans.items c.place-place.ensures.is c.requires.read before _ _ _
+    c.forest_of.ensures.counted c.in-Ok-write_derivations.ensures.counted reads)
+    c.write_stats.ensures.written

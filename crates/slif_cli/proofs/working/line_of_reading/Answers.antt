@@ -3,7 +3,7 @@ use Rattle.grammar_model.specs.declared.Ranking.TheVariants.{Rule as RuleRanks}
 use Rattle.value_lines.specs.Counts.{numbers_of}
 use Rattle.value_lines.proofs.Counting.{has_numbers}
 use Rattle.slif_cli.specs.Tasks.{IsNoDerivation}
-use Rattle.slif_cli.proofs.Own.{input_memory, own_few, own_derived, own_told}
+use Rattle.slif_cli.proofs.Own.{input_memory, own_few, own_derived, own_told, own_within}
 use Rattle.slif_cli.proofs.working.line_of_reading.Goals as goal
 
 pub forest_of-requires-clause-few : goal.forest_of-requires-clause-few
@@ -14,12 +14,21 @@ no_memory-requires g c =
     input_memory (IsNoDerivation c.args.prepared.now RuleRanks c.args.chars.now)
     (own_derived c.args.size c.requires.size c.args.prepared.now c.requires.grammar c.args.chars.now c.requires.chars RuleRanks) c.in-Err.stop c.in-Err.ensures.stops
 
-pub returns : goal.returns
-returns g c =
+pub returns-clause-line : goal.returns-clause-line
+returns-clause-line g c =
     let b = c.args.prepared.now in
     let cs = c.args.chars.now in
     let spans = c.args.reading.now.spans.items in
     let has = c.in-Ok.ensures.forest in
     let numbers = has_numbers b cs spans c.in-Ok.forest has.pieces has.of c.known.ensures c.stats-stats.result c.stats-stats.ensures in
     own_told c.args.size c.requires.size b c.requires.grammar cs c.requires.chars spans c.in-Ok.forest has c.known.ensures (numbers_of c.stats-stats.result) numbers
-    c.in_ok-values.values c.in_ok-values.ensures c.in_ok-line.line.items c.in_ok-line.ensures
+    c.in_ok-values.values c.in_ok-values.ensures.count c.in_ok-line.line.items c.in_ok-line.ensures
+
+pub returns-clause-counted : goal.returns-clause-counted
+returns-clause-counted g c =
+    λ before reads.
+    let b = c.args.prepared.now in
+    let cs = c.args.chars.now in
+    let read = c.args.reading.now in
+    own_within c.args.size c.requires.size b c.requires.grammar cs c.requires.chars read.spans.items c.in-Ok.forest c.in-Ok.ensures.forest c.known.ensures
+    read.recce c.place-place.ensures.is read.spans.items c.requires.read before _ _ _ c.forest_of.ensures.counted c.in_ok-values.ensures.counted reads

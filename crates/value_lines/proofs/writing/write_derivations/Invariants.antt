@@ -3,6 +3,7 @@ use Rattle.reading_model.specs.Reading.{Piece}
 use Rattle.valuator.specs.Told.{states}
 use Rattle.value_lines.specs.Lines.{IsForestOf}
 use Rattle.value_lines.proofs.Texts.{HasWritten}
+use Rattle.value_lines.proofs.Counting.{HasCounted}
 use Rattle.value_lines.proofs.writing.write_derivations.Given as goal
 
 abbrev pub invariant-loop-k : goal.invariant-loop-k
@@ -11,5 +12,6 @@ invariant-loop-k g l = record {
   tellers : states l.tellers.items (λ t. (goal.Teller-dyn g (t.vtable, t.value)).shows t.value) (λ t. (goal.Teller-dyn g (t.vtable, t.value)).held t.value) ≡ (l.fn.show, []) ∷ [];
   written : (pieces : List Piece) → IsForestOf l.prepared l.chars l.spans l.fn.forest pieces →
       HasWritten l.prepared l.fn.show l.chars pieces l.iter l._k (g.O.Sink.contents l.fn.out) (g.O.Sink.contents l.out);
+  counted : HasCounted l.iter l._k l.fn.steps l.steps;
   later : g.O.Sink.fault_count l.fn.out ≤ g.O.Sink.fault_count l.out;
 }

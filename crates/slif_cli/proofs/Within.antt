@@ -1,0 +1,149 @@
+-- How many steps the parts of a run take.
+use Rattle.std.proofs.Common.{◌≡◌, ℕ, ◌+◌, ◌≤◌, List, [], ◌∷◌, Option, Some, None, inl, inr, ◌⊎◌, length, map, Contains, refl, sym, ap, subst, ◌∙◌, arith, chars, slice_get}
+use Rattle.std.specs.List.{sum_by}
+use Rattle.std.proofs.lemmas.List.{length-map}
+use Rattle.slif_base.specs.Told.{ToldFile, FileHolds}
+use Rattle.finite_sets.proofs.Members.{Among, Once, among_from, contains_from, among_map, among_map_from, once_pairs, pairs_once}
+use Rattle.grammar_model.specs.Trees.{Tree}
+use Rattle.grammar_model.specs.Derives.{Held}
+use Rattle.grammar_model.specs.declared.Edge.{Edge}
+use Rattle.grammar_model.specs.declared.Ranking.{Ranking}
+use Rattle.grammar_core.specs.declared.steps.Span.{Span}
+use Rattle.recognizer_model.specs.FlatForm.{FlatEdges}
+use Rattle.recognizer_model.specs.Counts.{IsListOf, IsCountOf}
+use Rattle.recognizer_model.specs.Links.{choices}
+use Rattle.recognizer_model.specs.Nodes.{IsExpanded}
+use Rattle.recognizer_model.proofs.FlatNamed.{index_get}
+use Rattle.earley_sets.specs.Recognizer as held
+use Rattle.earley_sets.specs.Recognizer.{Recognizer, IsRecognizer, edges_of, top_of, place_of}
+use Rattle.earley_sets.specs.Counted.{TakesAtMost, IsLinkOf}
+use Rattle.forest_model.specs.Forest.{Forest, IsForest}
+use Rattle.forest_model.specs.Listing.{IsListing}
+use Rattle.language_model.specs.Building.{Built}
+use Rattle.reading_model.specs.Reading as model
+use Rattle.reading_model.specs.Reading.{Piece, End, place_after}
+use Rattle.reading_model.proofs.One.{reading_is_one}
+use Rattle.scanless.specs.Reading.{HoldsPieces, IsReadingOf}
+use Rattle.scanless.specs.declared.reading.Ending.TheVariants.{End as AtEnd}
+use Rattle.words_model.specs.Words.{Job, RunAsked, InputFrom, Asks}
+use Rattle.words_model.proofs.Asked.{asks_once}
+use Rattle.run_model.specs.Inputs.{IsInputText}
+use Rattle.run_model.specs.Listing.{AreDerivations, first_of}
+use Rattle.run_model.specs.Jobs.{Task}
+use Rattle.run_model.specs.Jobs.Task.{Values, Expected, Report}
+use Rattle.run_model.specs.Outside.{Stream}
+use Rattle.run_model.specs.Runs.{Supplied}
+use Rattle.run_model.specs.Steps.{PlacedLink, IsPlacedLink, PlacedSymbol, IsLeoPair, IsWithinSteps, GivesWithin, DoesWithin, RunsWithin}
+use Rattle.slif_cli.specs.Stops.{InputHolds, MayHave, Does, Reports, refusal_outcome}
+use Rattle.slif_cli.specs.Tasks.{HasForest, TaskWithin, ListsWithin, TellsWithin}
+use Rattle.slif_cli.specs.declared.stop.Refusal.{Refusal}
+use Rattle.slif_cli.specs.declared.stop.Refusal.TheVariants.{Usage, Grammar as BadGrammar, Input as BadInput}
+use Rattle.slif_cli.specs.declared.stop.Stop.{Stop}
+use Rattle.slif_cli.specs.declared.stop.Stop.TheVariants.{Refused, OpenFault, ReadFault, WriteFault, NoMemory}
+use Rattle.slif_cli.proofs.Derived.{listed, some_listing}
+
+-- THE SAME COUNT OF OTHER VALUES
+
+module _ {X Y : Type 0} (P : X → Type 0) (Q : Y → Type 0) (f : X → Y) (g : Y → X) (to : (x : X) → P x → Q (f x)) (from : (y : Y) → Q y → P (g y)) (back : (x : X) → g (f x) ≡ x) (there : (y : Y) → f (g y) ≡ y) where
+  once_map : (xs : List X) → Once xs → Once (map f xs)
+  once_map [] once = tt
+  once_map (x ∷ xs) (fresh, once) = (
+    λ m. (let (y, among, e) = among_map_from f (f x) xs m in fresh (subst (λ z. Among z xs) (sym (back y) ∙ ap g e ∙ back x) among)),
+    once_map xs once,
+  )
+
+  counts_over : (n : ℕ) → IsCountOf P n → IsCountOf Q n
+  counts_over n (xs, is, count) = (
+    map f xs,
+    record {
+      once = once_pairs (map f xs) (once_map xs (pairs_once xs is.once));
+      exact = λ y. (
+        λ c. (let (x, among, e) = among_map_from f y xs (among_from (map f xs) y c) in subst Q e (to x ((is.exact x).0 (contains_from xs x among)))),
+        λ q. contains_from (map f xs) y (subst (λ z. Among z (map f xs)) (there y) (among_map f (g y) xs (among_from xs (g y) ((is.exact (g y)).1 (from y q))))),
+      );
+    },
+    length-map xs f ∙ count,
+  )
+
+-- A READING AND WHAT FOLLOWS IT
+
+module _ (b : Built) (recce : Recognizer) (is : IsRecognizer recce) (pieces : List Piece) (holds : HoldsPieces b pieces recce) where
+  -- what is so of the edges and the place of the pieces is so of those that are held
+  as_held : (P : List Edge → ℕ → Type 0) → P (model.edges_of pieces) (place_after pieces) → P recce.edges (place_of recce)
+  as_held P p = subst (λ (es : List Edge). P es (place_of recce)) (sym holds.edges) (subst (P (model.edges_of pieces)) (sym holds.place) p)
+
+  links_held : (n : ℕ) → IsCountOf (IsPlacedLink recce.flat (edges_of recce) (top_of recce) (place_of recce)) n → IsCountOf (IsLinkOf recce) n
+  links_held n count =
+      counts_over (IsPlacedLink recce.flat (edges_of recce) (top_of recce) (place_of recce)) (IsLinkOf recce)
+      (λ p. record { place = p.place; link = p.link }) (λ q. record { place = q.place; link = q.link })
+      (λ p l. l) (λ q l. l) (λ p. refl) (λ q. refl) n count
+
+  pairs_held : (n : ℕ) → IsCountOf (IsLeoPair recce.flat (edges_of recce) (top_of recce) (place_of recce)) n → IsCountOf (held.IsLeoPair recce) n
+  pairs_held n count =
+      counts_over (IsLeoPair recce.flat (edges_of recce) (top_of recce) (place_of recce)) (held.IsLeoPair recce)
+      (λ p. record { set = p.place; symbol = p.symbol }) (λ q. record { place = q.set; symbol = q.symbol })
+      (λ p l. l) (λ q l. l) (λ p. refl) (λ q. refl) n count
+
+  pub within : (given : List Tree) (before read built after : ℕ) → TakesAtMost recce before read
+      → ((n : ℕ) → IsCountOf (IsExpanded recce.flat (edges_of recce) (top_of recce) (place_of recce)) n → built ≤ read + n)
+      → after ≤ built + sum_by choices given → IsWithinSteps b pieces given before after
+  within given before read built after reads builds gives = record {
+    flat = recce.flat;
+    is = holds.flat;
+    top = top_of recce;
+    top_is = subst (λ n. slice_get recce.flat.tops n ≡ Some (top_of recce)) holds.start (index_get recce.flat.tops recce.start 0 is.start);
+    few = λ links pairs expanded l p e.
+        let links_are = as_held (λ es place. IsCountOf (IsPlacedLink recce.flat (FlatEdges recce.flat (Held es)) (top_of recce) place) links) l in
+        let pairs_are = as_held (λ es place. IsCountOf (IsLeoPair recce.flat (FlatEdges recce.flat (Held es)) (top_of recce) place) pairs) p in
+        let expanded_are = as_held (λ es place. IsCountOf (IsExpanded recce.flat (FlatEdges recce.flat (Held es)) (top_of recce) place) expanded) e in
+        let r = reads links pairs (links_held links links_are) (pairs_held pairs pairs_are) in
+        let m = builds expanded expanded_are in
+        omega (arith, r, m, gives);
+  }
+
+module _ (b : Built) (asked : RunAsked) (cs : List ℕ) (spans : List Span) (f : Forest) (has : HasForest b asked.ranking cs spans f) (forest : IsForest f) where
+  pub lists_within : (recce : Recognizer) (held_spans : List Span) → IsRecognizer recce → IsReadingOf b cs recce held_spans AtEnd → (before read built after : ℕ)
+      → ((n : ℕ) → IsCountOf (IsExpanded recce.flat (edges_of recce) (top_of recce) (place_of recce)) n → built ≤ read + n)
+      → ((trees : List Tree) → IsListing f trees → after ≤ built + sum_by choices (first_of asked.first trees))
+      → TakesAtMost recce before read → ListsWithin b asked cs before after
+  lists_within recce held_spans is reading before read built after builds gives reads =
+      let (trees, l) = some_listing b asked.ranking cs spans f has forest in
+      let (same, ends) = reading_is_one b cs reading.pieces has.pieces End End reading.is_reading has.of.reading in
+      let holds : HoldsPieces b has.pieces recce = subst (λ (ps : List Piece). HoldsPieces b ps recce) same reading.holds in
+      record {
+        pieces = has.pieces;
+        reading = has.of.reading;
+        trees = trees;
+        all = listed b asked.ranking cs spans f has trees l;
+        within = within b recce is has.pieces holds (first_of asked.first trees) before read built after reads builds (gives trees l);
+      }
+
+-- the characters are those of the bytes
+pub bytes_within : (task : Task) (b : Built) (bytes : List ℕ) → IsInputText bytes → (before after : ℕ) → TellsWithin task b (chars bytes) before after → TaskWithin task b bytes before after
+bytes_within (Values asked) b bytes text before after w = record { pieces = w.pieces; read = record { text = text; reading = w.reading }; trees = w.trees; all = w.all; within = w.within }
+bytes_within Expected b bytes text before after w = tt
+bytes_within (Report at) b bytes text before after w = tt
+
+-- THE RUN
+
+module _ (words : List (List ℕ)) (job : Job) (asks : Asks words job) (file : List ℕ → ToldFile) (left : Option (List ℕ)) (before after : ℕ) where
+  pub runs_within : (grammar input : List ℕ) → Supplied words file left grammar input → DoesWithin job grammar input before after → RunsWithin words file left before after
+  runs_within grammar input supplied does = record {
+    grammar = grammar;
+    input = input;
+    supplied = supplied;
+    does = λ other others. subst (λ (j : Job). DoesWithin j grammar input before after) (asks_once words job other asks others) does;
+  }
+
+-- what is told of a stop is no success
+pub not_done : (before after : Stream) (status : ℕ) (stop : Stop) → Reports before after status stop → status ≡ 0 → ⊥
+not_done before after status (Refused Usage) (inl told) e = let is = told.0 in omega (arith, is, e)
+not_done before after status (Refused (BadGrammar text)) (inl told) e = let is = told.0 in omega (arith, is, e)
+not_done before after status (Refused (BadInput text)) (inl told) e = let is = told.0 in omega (arith, is, e)
+not_done before after status (Refused refusal) (inr (inl told)) e = let is = told.0 in omega (arith, is, e)
+not_done before after status (Refused refusal) (inr (inr told)) e = let is = told.0 in omega (arith, is, e)
+not_done before after status (OpenFault name) (inl told) e = let is = told.0 in omega (arith, is, e)
+not_done before after status (OpenFault name) (inr told) e = let is = told.0 in omega (arith, is, e)
+not_done before after status ReadFault told e = let is = told.0 in omega (arith, is, e)
+not_done before after status WriteFault told e = let is = told.0 in omega (arith, is, e)
+not_done before after status NoMemory told e = let is = told.0 in omega (arith, is, e)
