@@ -44,11 +44,11 @@ module _ (laws : RunLaws) (words : List (List ℕ)) (file : List ℕ → ToldFil
   pub an_end : HoldsFiles words file → MayEnd words file left
   an_end holds = elim (asks_or_not words) [
     | inl some ↦ (
-      let g = some_grammar file (grammar_file some.0) (holds.grammar some.0 some.1) in
-      let i = some_input file (input_from some.0) left (λ name e. holds.input some.0 name some.1 e) in
-      let o = an_outcome laws words g.0 i.0 in
-      record { grammar = g.0; input = i.0; outcome = o.0; supplied = of_job some.0 some.1 g.0 i.0 g.1 i.1; is_outcome = o.1 })
+        let g = some_grammar file (grammar_file some.0) (holds.grammar some.0 some.1) in
+        let i = some_input file (input_from some.0) left (λ name e. holds.input some.0 name some.1 e) in
+        let o = an_outcome laws words g.0 i.0 in
+        record { grammar = g.0; input = i.0; outcome = o.0; supplied = of_job some.0 some.1 g.0 i.0 g.1 i.1; is_outcome = o.1 })
     | inr none ↦ (
-      let o = an_outcome laws words [] [] in
-      record { grammar = []; input = []; outcome = o.0; supplied = of_none (λ job asks. not_both words job asks none); is_outcome = o.1 })
+        let o = an_outcome laws words [] [] in
+        record { grammar = []; input = []; outcome = o.0; supplied = of_none (λ job asks. not_both words job asks none); is_outcome = o.1 })
   ]

@@ -1,7 +1,7 @@
 //! Words of the command line, and what they ask for.
-use run_scenes::words_of;
 use command_line::{Job, RunAsked, read_words};
 use grammar_model::{Ranking, Show};
+use run_scenes::words_of;
 use std::test::Fail;
 
 fn is_all_given(asked: &RunAsked<'_>) -> bool {
