@@ -106,14 +106,17 @@ fn is_named<F: Files>(
     is_file(&read_named(alloc, files, name, most), wanted)
 }
 
+fn are_named(alloc: Global, files: &mut MemFiles) -> bool {
+    is_named(alloc, files, "a", 5, Ok(b"hello".as_slice()))
+        && is_named(alloc, files, "b", 5, Err(FileRefusal::OpenFault))
+        && is_named(alloc, files, "a", 5, Err(FileRefusal::OpenFault))
+        && is_named(alloc, files, "a", 4, Err(FileRefusal::TooLarge))
+}
+
 #[test]
 fn reads_named(rt: HostRuntime) -> Result<(), Fail> {
-    let alloc = rt.alloc();
-    let mut files = files(alloc, &[5])?;
-    assert!(rt; is_named(alloc, &mut files, "a", 5, Ok(b"hello".as_slice())));
-    assert!(rt; is_named(alloc, &mut files, "b", 5, Err(FileRefusal::OpenFault)));
-    assert!(rt; is_named(alloc, &mut files, "a", 5, Err(FileRefusal::OpenFault)));
-    assert!(rt; is_named(alloc, &mut files, "a", 4, Err(FileRefusal::TooLarge)));
+    let mut files = files(rt.alloc(), &[5])?;
+    assert!(rt; are_named(rt.alloc(), &mut files));
     assert!(rt; files.faults() == 2 && files.asked().len() == 3);
     Ok(())
 }

@@ -82,7 +82,7 @@ pub const OPERANDS: [u32; 17] = [1, 2, 1, 2, 1, 2, 1, 2, 1, 2, 1, 2, 1, 2, 1, 2,
 const MOST_TREES: usize = 10_000;
 
 /// How derivations are told: by short texts, or by lines of values.
-#[derive(Clone, Copy, PartialEq, Eq)]
+#[derive(Clone, Copy)]
 pub enum Style {
     Short,
     Line,
@@ -202,7 +202,28 @@ fn text_now(
     Ok(text_of(alloc, w, &tree, style)?)
 }
 
-/// The texts of all derivations. At the end the iterator says again that there is none left.
+// Puts the texts of all derivations. At the end the iterator says again that there is none left.
+fn put_texts<L: Ledger>(
+    alloc: Global,
+    w: &Written,
+    iter: &mut TreeIter<'_>,
+    style: Style,
+    texts: &mut Vec<String>,
+    steps: &mut Steps<L>,
+) -> Result<(), anyhow::Error> {
+    for _ in 0..MOST_TREES {
+        if !iter.next(steps)? {
+            break;
+        }
+        texts.push(text_now(alloc, w, iter, style)?)?;
+    }
+    if iter.next(steps)? {
+        texts.push(String::from_str(alloc, "one more")?)?;
+    }
+    Ok(())
+}
+
+/// The texts of all derivations.
 pub fn texts_of<L: Ledger>(
     alloc: Global,
     w: &Written,
@@ -212,15 +233,7 @@ pub fn texts_of<L: Ledger>(
 ) -> Result<Vec<String>, anyhow::Error> {
     let mut iter = TreeIter::new(alloc, forest)?;
     let mut texts = Vec::new(alloc);
-    for _ in 0..MOST_TREES {
-        if !iter.next(steps)? {
-            break;
-        }
-        texts.push(text_now(alloc, w, &iter, style)?)?;
-    }
-    if iter.next(steps)? {
-        texts.push(String::from_str(alloc, "one more")?)?;
-    }
+    put_texts(alloc, w, &mut iter, style, &mut texts, steps)?;
     Ok(texts)
 }
 

@@ -97,12 +97,23 @@ pub fn have_lines<L: Ledger>(
     Ok(lines_of(alloc, &texts)?.as_slice() == wanted)
 }
 
-// All lines of the plain lister.
-fn lines_of_list(alloc: Global, list: &SlowList) -> Result<Vec<u8>, anyhow::Error> {
-    let mut lines = Vec::new(alloc);
+fn put_lines(list: &SlowList, lines: &mut Vec<u8>) -> Result<(), anyhow::Error> {
     for k in 0..list.len() {
-        list.append_line(k, &mut lines)?;
+        list.append_line(k, lines)?;
     }
+    Ok(())
+}
+
+// All lines of the plain lister.
+fn plain_lines(alloc: Global, w: &Written, input: &[u8]) -> Result<Vec<u8>, anyhow::Error>
+    requires simple { IsSimple w.now }
+    requires started { 0 < length w.now.starts }
+    requires bytes { All (λ b. b < 128) input.now }
+    requires short { length input.now ≤ 1000 }
+{
+    let list = list_simple(alloc, w, input)?;
+    let mut lines = Vec::new(alloc);
+    put_lines(&list, &mut lines)?;
     Ok(lines)
 }
 
@@ -113,7 +124,7 @@ fn has_same_lines(alloc: Global, input: &[u8], tokens: &[u32]) -> Result<bool, a
         bail!("no characters of one byte");
     }
     let w = sum_grammar(alloc)?;
-    let lines = lines_of_list(alloc, &list_simple(alloc, &w, input)?)?;
+    let lines = plain_lines(alloc, &w, input)?;
     is_so(
         alloc,
         &w,

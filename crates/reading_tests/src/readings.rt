@@ -100,7 +100,26 @@ fn reading_is_so<L: Ledger>(
     }
 }
 
+// Reads, and tells whether the reading is as it is told.
 fn reads<L: Ledger>(
+    alloc: Global,
+    w: &Written,
+    flat: &Flat,
+    input: &Input<'_>,
+    ranking: Ranking,
+    wanted: &Wanted<'_>,
+    steps: &mut Steps<L>,
+) -> Result<bool, anyhow::Error>
+    requires checked { IsChecked w.now }
+    requires flat { IsFlatOf flat.now w.now }
+    requires start { 0 < length flat.now.tops }
+{
+    let mut recce = Recce::new(alloc, flat, 0)?;
+    read(&mut recce, input, steps)?;
+    reading_is_so(alloc, w, &recce, ranking, wanted, steps)
+}
+
+fn reads_with<L: Ledger>(
     blank: Blank,
     alloc: Global,
     w: &Written,
@@ -117,9 +136,7 @@ fn reads<L: Ledger>(
     requires start { 0 < length flat.now.tops }
 {
     let mut steps = Steps::<L>::of_blank(blank);
-    let mut recce = Recce::new(alloc, flat, 0)?;
-    read(&mut recce, input, &mut steps)?;
-    reading_is_so(alloc, w, &recce, ranking, wanted, &mut steps)
+    reads(alloc, w, flat, input, ranking, wanted, &mut steps)
 }
 
 /// Whether what is read by a grammar is as it is told.
@@ -131,7 +148,7 @@ pub fn is_so(
     wanted: &Wanted<'_>,
 ) -> Result<bool, anyhow::Error> {
     let flat = flat_of(alloc, w)?;
-    reads::<Brand>(Blank::new(1), alloc, w, &flat, input, ranking, wanted)
+    reads_with::<Brand>(Blank::new(1), alloc, w, &flat, input, ranking, wanted)
 }
 
 /// Whether a row is as it is told.
