@@ -247,12 +247,7 @@ const NULLED_AT_THE_BEGINNING: [TreeStep; 4] = [
     },
 ];
 
-fn tree_line(
-    alloc: Global,
-    meaning: &Meaning,
-    w: &Written,
-    wanted: &[u8],
-) -> Result<bool, Fail>
+fn tree_line(alloc: Global, meaning: &Meaning, w: &Written, wanted: &[u8]) -> Result<bool, Fail>
     requires rules { w.now.rules ≡ begins_nulled }
     requires sound { IsWritten w.now }
     requires meaning { IsMeaningOf w.now (meaning_of meaning.now) }
@@ -279,7 +274,12 @@ fn tells_a_tree(alloc: Global, line: &[u8]) -> Result<bool, Fail> {
 
 #[test]
 fn trees_name_nulled_symbols(rt: HostRuntime) -> Result<(), Fail> {
-    assert!(rt; tells_a_tree(rt.alloc(), b"[\"S\",0,[\"B\"],[\"B\",1,[\"'a'\",\"a\"]]]\n".as_slice())?);
+    assert!(rt;
+        tells_a_tree(
+            rt.alloc(),
+            b"[\"S\",0,[\"B\"],[\"B\",1,[\"'a'\",\"a\"]]]\n".as_slice()
+        )?
+    );
     Ok(())
 }
 
@@ -419,7 +419,12 @@ fn tells_all_items(alloc: Global, line: &[u8]) -> Result<bool, Fail> {
 
 #[test]
 fn descriptors_tell_all_items(rt: HostRuntime) -> Result<(), Fail> {
-    assert!(rt; tells_all_items(rt.alloc(), b"[\"S\",1,1,0,1,[\"B\",1,1,0,1,[\"x\",1,1,\"x\"]],[\"C\",2,0,1,0]]\n".as_slice())?);
+    assert!(rt;
+        tells_all_items(
+            rt.alloc(),
+            b"[\"S\",1,1,0,1,[\"B\",1,1,0,1,[\"x\",1,1,\"x\"]],[\"C\",2,0,1,0]]\n".as_slice()
+        )?
+    );
     Ok(())
 }
 
@@ -485,12 +490,7 @@ const IN_BRACKETS: [TreeStep; 7] = [
     },
 ];
 
-fn brackets_line(
-    alloc: Global,
-    meaning: &Meaning,
-    w: &Written,
-    wanted: &[u8],
-) -> Result<bool, Fail>
+fn brackets_line(alloc: Global, meaning: &Meaning, w: &Written, wanted: &[u8]) -> Result<bool, Fail>
     requires rules { w.now.rules ≡ list_in_brackets }
     requires sound { IsWritten w.now }
     requires meaning { IsMeaningOf w.now (meaning_of meaning.now) }
@@ -557,12 +557,7 @@ fn holding(alloc: Global) -> Result<ArrayTeller, NoMemory>
     Ok(teller)
 }
 
-fn line_behind(
-    alloc: Global,
-    meaning: &Meaning,
-    w: &Written,
-    wanted: &[u8],
-) -> Result<bool, Fail>
+fn line_behind(alloc: Global, meaning: &Meaning, w: &Written, wanted: &[u8]) -> Result<bool, Fail>
     requires rules { w.now.rules ≡ one_part }
     requires sound { IsWritten w.now }
     requires meaning { IsMeaningOf w.now (meaning_of meaning.now) }
