@@ -1,4 +1,3 @@
-use Rattle.std.proofs.Common.{◌≡◌}
 use Rattle.std.proofs.lemmas.Option.{slice_get_within}
 use Rattle.base_tests.proofs.tellers.play_token.Goals as goal
 
