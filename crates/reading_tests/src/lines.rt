@@ -1,5 +1,5 @@
 //! The lines of sums, from the steps of the iterator and from the plain lister: they are the same.
-ghost use Rattle.std.specs.Prelude.{◌≡◌, ◌<◌, ◌≤◌, All, IfOk, false, length, pos};
+ghost use Rattle.std.specs.Prelude.{◌≡◌, ◌<◌, ◌≤◌, [], All, IfOk, OnOk, false, length, pos};
 ghost use Rattle.grammar_model.specs.Simple.{IsSimple};
 ghost use Rattle.grammar_model.specs.declared.Assoc.TheVariants.{Left as AtLeft};
 
@@ -32,12 +32,11 @@ fn rule(lhs: SymbolId, rhs: Vec<SymbolId>) -> Rule
     }
 }
 
-// E -> E '+' E | '1', with the symbols in the order of those of the sums that are read
-fn sum_grammar(alloc: Global) -> Result<Written, anyhow::Error>
-    ensures simple { IfOk result (λ w. IsSimple w) }
-    ensures started { IfOk result (λ w. 0 < length w.starts) }
+fn put_sum(alloc: Global, w: &mut Written) -> Result<(), anyhow::Error>
+    requires none { w.old.rules ≡ [] }
+    ensures simple { OnOk result (IsSimple w.new) }
+    ensures started { OnOk result (0 < length w.new.starts) }
 {
-    let mut w = Written::new(alloc);
     let e = w.symbol_new("E")?;
     let one = w.symbol_new("'1'")?;
     let plus = w.symbol_new("'+'")?;
@@ -47,6 +46,16 @@ fn sum_grammar(alloc: Global) -> Result<Written, anyhow::Error>
     w.rule_new(rule(e, vec![in alloc; e, plus, e]?))?;
     w.rule_new(rule(e, vec![in alloc; one]?))?;
     w.start_add(e)?;
+    Ok(())
+}
+
+// E -> E '+' E | '1', with the symbols in the order of those of the sums that are read
+fn sum_grammar(alloc: Global) -> Result<Written, anyhow::Error>
+    ensures simple { IfOk result (λ w. IsSimple w) }
+    ensures started { IfOk result (λ w. 0 < length w.starts) }
+{
+    let mut w = Written::new(alloc);
+    put_sum(alloc, &mut w)?;
     Ok(w)
 }
 
