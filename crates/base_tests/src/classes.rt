@@ -16,34 +16,42 @@ fn refusal(alloc: Global, class: &str) -> Option<ClassRefusal> {
     }
 }
 
+const MEMBERS: &[(&str, char, bool)] = &[
+    ("[a-c]", 'b', true),
+    ("[a-c]", '-', false),
+    ("[+-]", '-', true),
+    ("[\\w-.]", '-', true),
+    ("[\\w-.]", '.', true),
+    ("[\\w-.]", 'x', true),
+    ("[^a]:i", 'a', false),
+    ("[^a]:i", 'A', false),
+    ("[\\]]", ']', true),
+    ("[k]:i", '\u{212A}', true),
+    ("[\\x{3B1}-\\x{3C9}]", 'λ', true),
+    ("[]", 'a', false),
+    ("[^]", 'λ', true),
+];
+
+const REFUSALS: &[(&str, ClassRefusal)] = &[
+    ("[z-a]", ClassRefusal::BadRange),
+    ("[\\q]", ClassRefusal::BadEscape),
+    ("[[:cntrl:]]", ClassRefusal::BadPosix),
+    ("[a-\\d]", ClassRefusal::BadRange),
+    ("[[:alpha:]a\\x{110000}[:cntrl:]]", ClassRefusal::BadEscape),
+];
+
 #[test]
 fn members(rt: HostRuntime) {
-    let alloc = rt.alloc();
-    assert!(rt; has(alloc, "[a-c]", 'b') == Some(true));
-    assert!(rt; has(alloc, "[a-c]", '-') == Some(false));
-    assert!(rt; has(alloc, "[+-]", '-') == Some(true));
-    assert!(rt; has(alloc, "[\\w-.]", '-') == Some(true));
-    assert!(rt; has(alloc, "[\\w-.]", '.') == Some(true));
-    assert!(rt; has(alloc, "[\\w-.]", 'x') == Some(true));
-    assert!(rt; has(alloc, "[^a]:i", 'a') == Some(false));
-    assert!(rt; has(alloc, "[^a]:i", 'A') == Some(false));
-    assert!(rt; has(alloc, "[\\]]", ']') == Some(true));
-    assert!(rt; has(alloc, "[k]:i", '\u{212A}') == Some(true));
-    assert!(rt; has(alloc, "[\\x{3B1}-\\x{3C9}]", 'λ') == Some(true));
-    assert!(rt; has(alloc, "[]", 'a') == Some(false));
-    assert!(rt; has(alloc, "[^]", 'λ') == Some(true));
+    for (class, c, member) in MEMBERS {
+        assert!(rt; has(rt.alloc(), class, *c) == Some(*member), "{class}");
+    }
 }
 
 #[test]
 fn refusals(rt: HostRuntime) {
-    let alloc = rt.alloc();
-    assert!(rt; refusal(alloc, "[z-a]") == Some(ClassRefusal::BadRange));
-    assert!(rt; refusal(alloc, "[\\q]") == Some(ClassRefusal::BadEscape));
-    assert!(rt; refusal(alloc, "[[:cntrl:]]") == Some(ClassRefusal::BadPosix));
-    assert!(rt; refusal(alloc, "[a-\\d]") == Some(ClassRefusal::BadRange));
-    assert!(rt;
-        refusal(alloc, "[[:alpha:]a\\x{110000}[:cntrl:]]") == Some(ClassRefusal::BadEscape)
-    );
+    for (class, wanted) in REFUSALS {
+        assert!(rt; refusal(rt.alloc(), class) == Some(*wanted), "{class}");
+    }
 }
 
 #[test]

@@ -22,116 +22,150 @@ fn source(alloc: Global, give: usize, fails: &[u64]) -> Result<MemSource, AllocE
     Ok(MemSource::new(bytes, give, numbers(alloc, fails)?))
 }
 
+fn is_answer(read: &Result<Vec<u8>, ReadRefusal>, wanted: Result<&[u8], ReadRefusal>) -> bool {
+    match (read, wanted) {
+        (Ok(bytes), Ok(wanted)) => bytes.as_slice() == wanted,
+        (Err(refusal), Err(wanted)) => *refusal == wanted,
+        _ => false,
+    }
+}
+
+// Whether reading a source whole has this answer.
+fn is_read<S: Source>(
+    alloc: Global,
+    source: &mut S,
+    most: usize,
+    wanted: Result<&[u8], ReadRefusal>,
+) -> bool {
+    is_answer(&read_all(alloc, source, most), wanted)
+}
+
+// Whether reading "hello", some of whose reads fail, has this answer, and so many reads fail.
+fn reads(
+    alloc: Global,
+    fails: &[u64],
+    most: usize,
+    wanted: Result<&[u8], ReadRefusal>,
+    faults: u64,
+) -> Result<bool, AllocError> {
+    let mut source = source(alloc, 2, fails)?;
+    Ok(is_read(alloc, &mut source, most, wanted) && source.faults() == faults)
+}
+
 #[test]
 fn reads_all(rt: HostRuntime) -> Result<(), Fail> {
     let alloc = rt.alloc();
-    let mut whole = source(alloc, 2, &[])?;
-    assert_eq!(rt;
-        read_all(alloc, &mut whole, 5)?.as_slice(),
-        b"hello".as_slice()
-    );
-    let mut large = source(alloc, 2, &[])?;
-    assert!(rt; matches!(read_all(alloc, &mut large, 4), Err(ReadRefusal::TooLarge)));
-    let mut broken = source(alloc, 2, &[2])?;
-    assert!(rt; matches!(read_all(alloc, &mut broken, 5), Err(ReadRefusal::ReadFault)));
-    assert_eq!(rt; broken.faults(), 1);
+    assert!(rt; reads(alloc, &[], 5, Ok(b"hello".as_slice()), 0)?);
+    assert!(rt; reads(alloc, &[], 4, Err(ReadRefusal::TooLarge), 0)?);
+    assert!(rt; reads(alloc, &[2], 5, Err(ReadRefusal::ReadFault), 1)?);
     Ok(())
+}
+
+// Whether writing "hello" to a sink, some of whose writes fail, ends so, with these bytes written, and so many writes fail.
+fn writes(
+    alloc: Global,
+    fails: &[u64],
+    done: bool,
+    wanted: &[u8],
+    faults: u64,
+) -> Result<bool, AllocError> {
+    let mut sink = MemSink::new(alloc, 2, numbers(alloc, fails)?);
+    let is_done = write_all(&mut sink, b"hello").is_ok();
+    Ok(is_done == done && sink.written() == wanted && sink.faults() == faults)
 }
 
 #[test]
 fn writes_all(rt: HostRuntime) -> Result<(), Fail> {
-    let alloc = rt.alloc();
-    let mut whole = MemSink::new(alloc, 2, numbers(alloc, &[])?);
-    write_all(&mut whole, b"hello")?;
-    assert_eq!(rt; whole.written(), b"hello".as_slice());
-    let mut broken = MemSink::new(alloc, 2, numbers(alloc, &[2])?);
-    assert!(rt; write_all(&mut broken, b"hello").is_err());
-    assert_eq!(rt; broken.written(), b"he".as_slice());
-    assert_eq!(rt; broken.faults(), 1);
+    assert!(rt; writes(rt.alloc(), &[], true, b"hello", 0)?);
+    assert!(rt; writes(rt.alloc(), &[2], false, b"he", 1)?);
     Ok(())
+}
+
+fn files(alloc: Global, fails: &[u64]) -> Result<MemFiles, AllocError> {
+    let name = String::from_str(alloc, "a")?;
+    let held = vec![in alloc; (name, b"hello".to_vec(alloc)?)]?;
+    Ok(MemFiles::new(alloc, held, numbers(alloc, fails)?))
+}
+
+fn is_file(read: &Result<Vec<u8>, FileRefusal>, wanted: Result<&[u8], FileRefusal>) -> bool {
+    match (read, wanted) {
+        (Ok(bytes), Ok(wanted)) => bytes.as_slice() == wanted,
+        (Err(refusal), Err(wanted)) => *refusal == wanted,
+        _ => false,
+    }
+}
+
+// Whether reading a named file whole has this answer.
+fn is_named<F: Files>(
+    alloc: Global,
+    files: &mut F,
+    name: &str,
+    most: usize,
+    wanted: Result<&[u8], FileRefusal>,
+) -> bool {
+    is_file(&read_named(alloc, files, name, most), wanted)
+}
+
+fn are_named(alloc: Global, files: &mut MemFiles) -> bool {
+    is_named(alloc, files, "a", 5, Ok(b"hello".as_slice()))
+        && is_named(alloc, files, "b", 5, Err(FileRefusal::OpenFault))
+        && is_named(alloc, files, "a", 5, Err(FileRefusal::OpenFault))
+        && is_named(alloc, files, "a", 4, Err(FileRefusal::TooLarge))
 }
 
 #[test]
 fn reads_named(rt: HostRuntime) -> Result<(), Fail> {
-    let alloc = rt.alloc();
-    let name = String::from_str(alloc, "a")?;
-    let held = vec![in alloc; (name, b"hello".to_vec(alloc)?)]?;
-    let mut files = MemFiles::new(alloc, held, numbers(alloc, &[5])?);
-    assert_eq!(rt;
-        read_named(alloc, &mut files, "a", 5)?.as_slice(),
-        b"hello".as_slice()
-    );
-    assert!(rt;
-        matches!(
-            read_named(alloc, &mut files, "b", 5),
-            Err(FileRefusal::OpenFault)
-        )
-    );
-    assert!(rt;
-        matches!(
-            read_named(alloc, &mut files, "a", 5),
-            Err(FileRefusal::OpenFault)
-        )
-    );
-    assert!(rt;
-        matches!(
-            read_named(alloc, &mut files, "a", 4),
-            Err(FileRefusal::TooLarge)
-        )
-    );
-    assert_eq!(rt; files.faults(), 2);
-    assert_eq!(rt; files.asked().len(), 3);
+    let mut files = files(rt.alloc(), &[5])?;
+    assert!(rt; are_named(rt.alloc(), &mut files));
+    assert!(rt; files.faults() == 2 && files.asked().len() == 3);
     Ok(())
+}
+
+// Whether the current file is read on behind an open and a read that fail.
+fn reads_on(files: &mut MemFiles) -> Result<bool, Fail> {
+    files.open_file("a")?;
+    let mut piece = [0u8; 5];
+    if files.open_file("b").is_ok() || files.read_file(&mut piece).is_ok() {
+        return Ok(false);
+    }
+    Ok(files.read_file(&mut piece)? == 5 && piece.as_slice() == b"hello".as_slice())
 }
 
 #[test]
 fn reads_on_after_a_failed_open(rt: HostRuntime) -> Result<(), Fail> {
-    let alloc = rt.alloc();
-    let name = String::from_str(alloc, "a")?;
-    let held = vec![in alloc; (name, b"hello".to_vec(alloc)?)]?;
-    let mut files = MemFiles::new(alloc, held, numbers(alloc, &[3])?);
-    files.open_file("a")?;
-    assert!(rt; files.open_file("b").is_err());
-    let mut piece = [0u8; 5];
-    assert!(rt; files.read_file(&mut piece).is_err());
-    assert_eq!(rt; files.read_file(&mut piece)?, 5);
-    assert_eq!(rt; piece.as_slice(), b"hello".as_slice());
-    assert_eq!(rt; files.faults(), 2);
+    let mut files = files(rt.alloc(), &[3])?;
+    assert!(rt; reads_on(&mut files)? && files.faults() == 2);
     Ok(())
 }
 
-#[test]
-fn reads_and_writes_by_std(rt: HostRuntime) -> Result<(), Fail> {
-    let alloc = rt.alloc();
+fn reads_by_std(alloc: Global) -> bool {
     let mut input = StdSource::new(b"hello".as_slice());
-    assert_eq!(rt;
-        read_all(alloc, &mut input, 5)?.as_slice(),
-        b"hello".as_slice()
-    );
-    assert_eq!(rt; input.faults(), 0);
+    is_read(alloc, &mut input, 5, Ok(b"hello".as_slice())) && input.faults() == 0
+}
+
+fn writes_by_std() -> bool {
     let mut room = [0u8; 3];
     let mut out = StdSink::new(room.as_mut_slice());
-    assert!(rt; write_all(&mut out, b"hello").is_err());
-    assert_eq!(rt; out.faults(), 1);
-    Ok(())
+    write_all(&mut out, b"hello").is_err() && out.faults() == 1
+}
+
+#[test]
+fn reads_and_writes_by_std(rt: HostRuntime) {
+    assert!(rt; reads_by_std(rt.alloc()));
+    assert!(rt; writes_by_std());
+}
+
+fn are_read<F: Files>(alloc: Global, files: &mut F) -> bool {
+    is_named(alloc, files, "a", 5, Ok(b"hello".as_slice()))
+        && is_named(alloc, files, "b", 5, Err(FileRefusal::OpenFault))
+        && files.faults() == 1
 }
 
 #[test]
 fn reads_from_disk(rt: HostRuntime) -> Result<(), Fail> {
-    let alloc = rt.alloc();
     fs::write(&rt, "a", "hello")?;
-    let mut files = DiskFiles::new(&rt);
-    assert_eq!(rt;
-        read_named(alloc, &mut files, "a", 5)?.as_slice(),
-        b"hello".as_slice()
-    );
-    assert!(rt;
-        matches!(
-            read_named(alloc, &mut files, "b", 5),
-            Err(FileRefusal::OpenFault)
-        )
-    );
-    assert_eq!(rt; files.faults(), 1);
+    let read = are_read(rt.alloc(), &mut DiskFiles::new(&rt));
+    assert!(rt; read);
     Ok(())
 }
 

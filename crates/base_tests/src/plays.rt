@@ -4,7 +4,7 @@ ghost use Rattle.grammar_model.specs.Grammar.{Grammar};
 ghost use Rattle.grammar_core.specs.Steps.{step_of};
 ghost use Rattle.grammar_core.specs.Written.{IsWritten};
 ghost use Rattle.value_text.specs.Meaning.{meaning_of};
-ghost use Rattle.base_tests.specs.Rows.{plain_rule, list_rule, ends_nulled, IsPlainMeaning};
+ghost use Rattle.base_tests.specs.Rows.{plain_rule, list_rule, begins_nulled, ends_nulled, list_in_brackets, one_part, IsPlainMeaning};
 ghost use Rattle.valuator.specs.Told.{HoldsOne};
 ghost use Rattle.valuator.specs.Play.{AreSteps, IsMeaningOf, AreSpans};
 
@@ -130,6 +130,16 @@ fn line_of(
     Ok(line)
 }
 
+fn chars_told(alloc: Global, text: &[u8]) -> Result<Chars, Fail>
+    ensures { IfOk result (λ chars. length chars ≡ length text.now) }
+{
+    let chars = chars_of(alloc, text)?;
+    if chars.len() != text.len() {
+        return Err(Fail::new("the text is short"));
+    }
+    Ok(chars)
+}
+
 fn list_of_two(teller: &mut Box<dyn Teller>) -> Result<(), NoMemory>
     requires { length (held teller.old) ≡ 2 }
     ensures { OnOk result (length (held teller.new) ≡ 1) }
@@ -187,55 +197,88 @@ const ONE_EACH: [Span; 5] = [
     },
 ];
 
-// S ::= B B; B ::= 'a'; B is empty: the numbers 0 S, 1 B, 2 'a'. The first B is nulled.
-#[test]
-fn trees_name_nulled_symbols(rt: HostRuntime) -> Result<(), Fail> {
-    let alloc = rt.alloc();
+// S ::= B B; B ::= 'a'; B is empty: the numbers 0 S, 1 B, 2 'a'.
+fn nulled_at_the_beginning(alloc: Global) -> Result<Written, CoreRefusal>
+    ensures rules { IfOk result (λ w. w.rules ≡ begins_nulled) }
+    ensures sound { IfOk result (λ w. IsWritten w) }
+{
     let mut w = named(alloc, &["S", "B", "'a'"])?;
     add_rule(alloc, &mut w, 0, &[1, 1])?;
     add_rule(alloc, &mut w, 1, &[2])?;
     add_rule(alloc, &mut w, 1, &[])?;
-    let rules = vec![in alloc;
-        plain(alloc, Action::Undef, &[true, true])?,
-        plain(alloc, Action::Undef, &[true])?,
-        plain(alloc, Action::Undef, &[])?,
-    ]?;
-    let meaning = Meaning {
+    Ok(w)
+}
+
+fn none_made(alloc: Global) -> Result<Meaning, NoMemory>
+    ensures { IfOk result (λ m. (g : Grammar) → g.rules ≡ begins_nulled → IsMeaningOf g (meaning_of m)) }
+{
+    let both = plain(alloc, Action::Undef, &[true, true])?;
+    let one = plain(alloc, Action::Undef, &[true])?;
+    let none = plain(alloc, Action::Undef, &[])?;
+    let rules = vec![in alloc; both, one, none]?;
+    Ok(Meaning {
         rules: Items::new(rules),
         lexeme: None,
-    };
-    let chars = chars_of(alloc, b"a")?;
-    if chars.len() < 1 {
-        return Err(Fail::new("the text is short"));
-    }
-    let steps = [
-        TreeStep::Nulled {
-            symbol: SymbolId(1),
-            at: 0,
-        },
-        TreeStep::Token {
-            symbol: SymbolId(2),
-            from: 0,
-            to: 1,
-        },
-        TreeStep::Rule {
-            rule: RuleId(1),
-            children: 1,
-            from: 0,
-            to: 1,
-        },
-        TreeStep::Rule {
-            rule: RuleId(0),
-            children: 2,
-            from: 0,
-            to: 1,
-        },
-    ];
+    })
+}
+
+// The first B is nulled.
+const NULLED_AT_THE_BEGINNING: [TreeStep; 4] = [
+    TreeStep::Nulled {
+        symbol: SymbolId(1),
+        at: 0,
+    },
+    TreeStep::Token {
+        symbol: SymbolId(2),
+        from: 0,
+        to: 1,
+    },
+    TreeStep::Rule {
+        rule: RuleId(1),
+        children: 1,
+        from: 0,
+        to: 1,
+    },
+    TreeStep::Rule {
+        rule: RuleId(0),
+        children: 2,
+        from: 0,
+        to: 1,
+    },
+];
+
+fn tree_line(alloc: Global, meaning: &Meaning, w: &Written, wanted: &[u8]) -> Result<bool, Fail>
+    requires rules { w.now.rules ≡ begins_nulled }
+    requires sound { IsWritten w.now }
+    requires meaning { IsMeaningOf w.now (meaning_of meaning.now) }
+{
+    let chars = chars_told(alloc, b"a")?;
     let teller = Box::new(alloc, TreeTeller::new(alloc))?;
-    let line = line_of(alloc, &steps, &meaning, &w, &ONE_EACH[..1], &chars, teller)?;
-    assert_eq!(rt;
-        line.as_slice(),
-        b"[\"S\",0,[\"B\"],[\"B\",1,[\"'a'\",\"a\"]]]\n".as_slice()
+    let line = line_of(
+        alloc,
+        &NULLED_AT_THE_BEGINNING,
+        meaning,
+        w,
+        &ONE_EACH[..1],
+        &chars,
+        teller,
+    )?;
+    Ok(line.as_slice() == wanted)
+}
+
+fn tells_a_tree(alloc: Global, line: &[u8]) -> Result<bool, Fail> {
+    let w = nulled_at_the_beginning(alloc)?;
+    let meaning = none_made(alloc)?;
+    tree_line(alloc, &meaning, &w, line)
+}
+
+#[test]
+fn trees_name_nulled_symbols(rt: HostRuntime) -> Result<(), Fail> {
+    assert!(rt;
+        tells_a_tree(
+            rt.alloc(),
+            b"[\"S\",0,[\"B\"],[\"B\",1,[\"'a'\",\"a\"]]]\n".as_slice()
+        )?
     );
     Ok(())
 }
@@ -325,24 +368,24 @@ fn line_of_nulled(
     alloc: Global,
     meaning: &Meaning,
     w: &Written,
-    chars: &Chars,
-    teller: Box<dyn Teller>,
-) -> Result<Vec<u8>, NoMemory>
+    wanted: &[u8],
+) -> Result<bool, Fail>
     requires rules { w.now.rules ≡ ends_nulled }
     requires sound { IsWritten w.now }
     requires meaning { IsMeaningOf w.now (meaning_of meaning.now) }
-    requires chars { 2 ≤ length chars.now }
-    requires none { held teller ≡ [] }
 {
-    line_of(
+    let chars = chars_told(alloc, b" x")?;
+    let teller = Box::new(alloc, ArrayTeller::new(alloc))?;
+    let line = line_of(
         alloc,
         &NULLED_AT_THE_END,
         meaning,
         w,
         &ONE_EACH[1..2],
-        chars,
+        &chars,
         teller,
-    )
+    )?;
+    Ok(line.as_slice() == wanted)
 }
 
 pub fn play_nulled(
@@ -368,120 +411,179 @@ pub fn play_nulled(
     )
 }
 
-#[test]
-fn descriptors_tell_all_items(rt: HostRuntime) -> Result<(), Fail> {
-    let alloc = rt.alloc();
+fn tells_all_items(alloc: Global, line: &[u8]) -> Result<bool, Fail> {
     let w = nulled_at_the_end(alloc)?;
     let meaning = all_described(alloc)?;
-    let chars = chars_of(alloc, b" x")?;
-    if chars.len() < 2 {
-        return Err(Fail::new("the text is short"));
-    }
-    let teller = Box::new(alloc, ArrayTeller::new(alloc))?;
-    let line = line_of_nulled(alloc, &meaning, &w, &chars, teller)?;
-    assert_eq!(rt;
-        line.as_slice(),
-        b"[\"S\",1,1,0,1,[\"B\",1,1,0,1,[\"x\",1,1,\"x\"]],[\"C\",2,0,1,0]]\n".as_slice()
+    line_of_nulled(alloc, &meaning, &w, line)
+}
+
+#[test]
+fn descriptors_tell_all_items(rt: HostRuntime) -> Result<(), Fail> {
+    assert!(rt;
+        tells_all_items(
+            rt.alloc(),
+            b"[\"S\",1,1,0,1,[\"B\",1,1,0,1,[\"x\",1,1,\"x\"]],[\"C\",2,0,1,0]]\n".as_slice()
+        )?
     );
     Ok(())
 }
 
 // E ::= ('(') L (')'); L ::= N+ separator => comma: the numbers 0 E, 1 '(', 2 L, 3 ')', 4 N, 5 comma.
-#[test]
-fn hidden_parts_and_separators_are_not_shown(rt: HostRuntime) -> Result<(), Fail> {
-    let alloc = rt.alloc();
+fn in_brackets(alloc: Global) -> Result<Written, CoreRefusal>
+    ensures rules { IfOk result (λ w. w.rules ≡ list_in_brackets) }
+    ensures sound { IfOk result (λ w. IsWritten w) }
+{
     let mut w = named(alloc, &["E", "'('", "L", "')'", "N", "comma"])?;
     add_rule(alloc, &mut w, 0, &[1, 2, 3])?;
     add_list(&mut w, 2, 4, 5)?;
-    let rules = vec![in alloc;
-        plain(alloc, Action::Array, &[false, true, false])?,
-        separated(alloc, Action::Array),
-    ]?;
-    let meaning = Meaning {
+    Ok(w)
+}
+
+fn brackets_hidden(alloc: Global) -> Result<Meaning, NoMemory>
+    ensures { IfOk result (λ m. (g : Grammar) → g.rules ≡ list_in_brackets → IsMeaningOf g (meaning_of m)) }
+{
+    let inner = plain(alloc, Action::Array, &[false, true, false])?;
+    let rules = vec![in alloc; inner, separated(alloc, Action::Array)]?;
+    Ok(Meaning {
         rules: Items::new(rules),
         lexeme: None,
-    };
-    let chars = chars_of(alloc, b"(1,2)")?;
-    if chars.len() < 5 {
-        return Err(Fail::new("the text is short"));
-    }
-    let steps = [
-        TreeStep::Token {
-            symbol: SymbolId(1),
-            from: 0,
-            to: 1,
-        },
-        TreeStep::Token {
-            symbol: SymbolId(4),
-            from: 1,
-            to: 2,
-        },
-        TreeStep::Token {
-            symbol: SymbolId(5),
-            from: 2,
-            to: 3,
-        },
-        TreeStep::Token {
-            symbol: SymbolId(4),
-            from: 3,
-            to: 4,
-        },
-        TreeStep::Rule {
-            rule: RuleId(1),
-            children: 3,
-            from: 1,
-            to: 4,
-        },
-        TreeStep::Token {
-            symbol: SymbolId(3),
-            from: 4,
-            to: 5,
-        },
-        TreeStep::Rule {
-            rule: RuleId(0),
-            children: 3,
-            from: 0,
-            to: 5,
-        },
-    ];
+    })
+}
+
+const IN_BRACKETS: [TreeStep; 7] = [
+    TreeStep::Token {
+        symbol: SymbolId(1),
+        from: 0,
+        to: 1,
+    },
+    TreeStep::Token {
+        symbol: SymbolId(4),
+        from: 1,
+        to: 2,
+    },
+    TreeStep::Token {
+        symbol: SymbolId(5),
+        from: 2,
+        to: 3,
+    },
+    TreeStep::Token {
+        symbol: SymbolId(4),
+        from: 3,
+        to: 4,
+    },
+    TreeStep::Rule {
+        rule: RuleId(1),
+        children: 3,
+        from: 1,
+        to: 4,
+    },
+    TreeStep::Token {
+        symbol: SymbolId(3),
+        from: 4,
+        to: 5,
+    },
+    TreeStep::Rule {
+        rule: RuleId(0),
+        children: 3,
+        from: 0,
+        to: 5,
+    },
+];
+
+fn brackets_line(alloc: Global, meaning: &Meaning, w: &Written, wanted: &[u8]) -> Result<bool, Fail>
+    requires rules { w.now.rules ≡ list_in_brackets }
+    requires sound { IsWritten w.now }
+    requires meaning { IsMeaningOf w.now (meaning_of meaning.now) }
+{
+    let chars = chars_told(alloc, b"(1,2)")?;
     let teller = Box::new(alloc, ArrayTeller::new(alloc))?;
-    let line = line_of(alloc, &steps, &meaning, &w, &ONE_EACH, &chars, teller)?;
-    assert_eq!(rt; line.as_slice(), b"[[\"1\",\"2\"]]\n".as_slice());
+    let line = line_of(alloc, &IN_BRACKETS, meaning, w, &ONE_EACH, &chars, teller)?;
+    Ok(line.as_slice() == wanted)
+}
+
+fn tells_what_is_shown(alloc: Global, line: &[u8]) -> Result<bool, Fail> {
+    let w = in_brackets(alloc)?;
+    let meaning = brackets_hidden(alloc)?;
+    brackets_line(alloc, &meaning, &w, line)
+}
+
+#[test]
+fn hidden_parts_and_separators_are_not_shown(rt: HostRuntime) -> Result<(), Fail> {
+    assert!(rt; tells_what_is_shown(rt.alloc(), b"[[\"1\",\"2\"]]\n".as_slice())?);
     Ok(())
 }
 
-// S ::= 'a': the numbers 0 S, 1 'a'. The teller holds the text 7 before it is played to.
-#[test]
-fn values_held_before_stay_below(rt: HostRuntime) -> Result<(), Fail> {
-    let alloc = rt.alloc();
+// S ::= 'a': the numbers 0 S, 1 'a'.
+fn of_one_part(alloc: Global) -> Result<Written, CoreRefusal>
+    ensures rules { IfOk result (λ w. w.rules ≡ one_part) }
+    ensures sound { IfOk result (λ w. IsWritten w) }
+{
     let mut w = named(alloc, &["S", "'a'"])?;
     add_rule(alloc, &mut w, 0, &[1])?;
-    let rules = vec![in alloc; plain(alloc, Action::Array, &[true])?]?;
-    let meaning = Meaning {
+    Ok(w)
+}
+
+fn one_shown(alloc: Global) -> Result<Meaning, NoMemory>
+    ensures { IfOk result (λ m. (g : Grammar) → g.rules ≡ one_part → IsMeaningOf g (meaning_of m)) }
+{
+    let one = plain(alloc, Action::Array, &[true])?;
+    let rules = vec![in alloc; one]?;
+    Ok(Meaning {
         rules: Items::new(rules),
         lexeme: None,
-    };
-    let chars = chars_of(alloc, b"a")?;
-    if chars.len() < 1 {
-        return Err(Fail::new("the text is short"));
-    }
-    let steps = [
-        TreeStep::Token {
-            symbol: SymbolId(1),
-            from: 0,
-            to: 1,
-        },
-        TreeStep::Rule {
-            rule: RuleId(0),
-            children: 1,
-            from: 0,
-            to: 1,
-        },
-    ];
+    })
+}
+
+const OF_ONE_PART: [TreeStep; 2] = [
+    TreeStep::Token {
+        symbol: SymbolId(1),
+        from: 0,
+        to: 1,
+    },
+    TreeStep::Rule {
+        rule: RuleId(0),
+        children: 1,
+        from: 0,
+        to: 1,
+    },
+];
+
+// A teller that holds the text 7.
+fn holding(alloc: Global) -> Result<ArrayTeller, NoMemory>
+    ensures { IfOk result (λ teller. length teller ≡ 1) }
+{
     let mut teller = ArrayTeller::new(alloc);
     teller.token("x", "7", 0, 1, 0, None)?;
-    let teller = Box::new(alloc, teller)?;
-    let line = line_of_two(alloc, &steps, &meaning, &w, &ONE_EACH[..1], &chars, teller)?;
-    assert_eq!(rt; line.as_slice(), b"[\"7\",[\"a\"]]\n".as_slice());
+    Ok(teller)
+}
+
+fn line_behind(alloc: Global, meaning: &Meaning, w: &Written, wanted: &[u8]) -> Result<bool, Fail>
+    requires rules { w.now.rules ≡ one_part }
+    requires sound { IsWritten w.now }
+    requires meaning { IsMeaningOf w.now (meaning_of meaning.now) }
+{
+    let chars = chars_told(alloc, b"a")?;
+    let teller = Box::new(alloc, holding(alloc)?)?;
+    let line = line_of_two(
+        alloc,
+        &OF_ONE_PART,
+        meaning,
+        w,
+        &ONE_EACH[..1],
+        &chars,
+        teller,
+    )?;
+    Ok(line.as_slice() == wanted)
+}
+
+fn tells_both(alloc: Global, line: &[u8]) -> Result<bool, Fail> {
+    let w = of_one_part(alloc)?;
+    let meaning = one_shown(alloc)?;
+    line_behind(alloc, &meaning, &w, line)
+}
+
+#[test]
+fn values_held_before_stay_below(rt: HostRuntime) -> Result<(), Fail> {
+    assert!(rt; tells_both(rt.alloc(), b"[\"7\",[\"a\"]]\n".as_slice())?);
     Ok(())
 }

@@ -1,6 +1,12 @@
 //! Tellers: what they make of each call, and that one that refuses is let go.
+ghost use Rattle.std.specs.Prelude.{◌≡◌, ◌<◌, [], length};
+ghost use Rattle.grammar_core.specs.Written.{IsWritten};
+ghost use Rattle.value_text.specs.Meaning.{meaning_of};
+ghost use Rattle.valuator.specs.Play.{IsMeaningOf};
+ghost use Rattle.base_tests.specs.Rows.{ends_nulled};
+
 use crate::plays::{MADE, SEEN, all_described, described_by, nulled_at_the_end, play_nulled};
-use grammar_core::{RuleId, Span, TreeStep, Written};
+use grammar_core::{RuleId, Span, SymbolId, TreeStep, Written};
 use slif_base::chars_of;
 use std::alloc::Global;
 use std::cell::Cell;
@@ -9,69 +15,79 @@ use std::test::Fail;
 use valuator::{ArrayTeller, Show, Teller, TreeTeller, play};
 use value_text::{Action, Items, Meaning, NoMemory};
 
+fn tell_described(
+    teller: &mut ArrayTeller,
+    made: &Action,
+    seen: &Action,
+    out: &mut Vec<u8>,
+) -> Result<(), NoMemory>
+    requires { teller.old ≡ [] }
+{
+    teller.token("x", "x", 1, 1, 0, Some(seen))?;
+    teller.rule(RuleId(1), "B", 1, &[true], 1, 1, 0, 1, made)?;
+    teller.nulling("C", 2, 1, Some(made))?;
+    teller.rule(RuleId(0), "S", 2, &[true, true], 1, 1, 0, 1, made)?;
+    teller.finish(out)
+}
+
+// The line of a derivation of which all items are told.
+fn described_line(alloc: Global, made: &Action, seen: &Action) -> Result<Vec<u8>, NoMemory> {
+    let mut teller = ArrayTeller::new(alloc);
+    let mut out = Vec::new(alloc);
+    tell_described(&mut teller, made, seen, &mut out)?;
+    Ok(out)
+}
+
 #[test]
 fn descriptors_tell_all(rt: HostRuntime) -> Result<(), Fail> {
     let made = described_by(rt.alloc(), &MADE)?;
-    let lexeme = described_by(rt.alloc(), &SEEN)?;
-    let mut teller = ArrayTeller::new(rt.alloc());
-    teller.token("x", "x", 1, 1, 0, Some(&lexeme))?;
-    teller.rule(RuleId(1), "B", 1, &[true], 1, 1, 0, 1, &made)?;
-    teller.nulling("C", 2, 1, Some(&made))?;
-    teller.rule(RuleId(0), "S", 2, &[true, true], 1, 1, 0, 1, &made)?;
-    let mut out = Vec::new(rt.alloc());
-    teller.finish(&mut out)?;
+    let seen = described_by(rt.alloc(), &SEEN)?;
     assert_eq!(rt;
-        out.as_slice(),
+        described_line(rt.alloc(), &made, &seen)?.as_slice(),
         b"[\"S\",1,1,0,1,[\"B\",1,1,0,1,[\"x\",1,1,\"x\"]],[\"C\",2,0,1,0]]\n".as_slice()
     );
     Ok(())
 }
 
-#[test]
-fn separators_and_hidden_parts_are_left_out(rt: HostRuntime) -> Result<(), Fail> {
-    let mut teller = ArrayTeller::new(rt.alloc());
+fn tell_in_brackets(teller: &mut ArrayTeller, out: &mut Vec<u8>) -> Result<(), NoMemory>
+    requires { teller.old ≡ [] }
+{
+    let parts = [true, false, true];
+    let inner = [false, true, false];
     teller.token("'('", "(", 0, 1, 0, None)?;
     teller.token("N", "1", 1, 1, 1, None)?;
     teller.token("comma", ",", 2, 1, 2, None)?;
     teller.token("N", "2", 3, 1, 3, None)?;
-    teller.rule(
-        RuleId(1),
-        "L",
-        3,
-        &[true, false, true],
-        1,
-        3,
-        1,
-        3,
-        &Action::Array,
-    )?;
+    teller.rule(RuleId(1), "L", 3, &parts, 1, 3, 1, 3, &Action::Array)?;
     teller.token("')'", ")", 4, 1, 4, None)?;
-    teller.rule(
-        RuleId(0),
-        "E",
-        3,
-        &[false, true, false],
-        0,
-        5,
-        0,
-        5,
-        &Action::Array,
-    )?;
+    teller.rule(RuleId(0), "E", 3, &inner, 0, 5, 0, 5, &Action::Array)?;
+    teller.finish(out)
+}
+
+#[test]
+fn separators_and_hidden_parts_are_left_out(rt: HostRuntime) -> Result<(), Fail> {
+    let mut teller = ArrayTeller::new(rt.alloc());
     let mut out = Vec::new(rt.alloc());
-    teller.finish(&mut out)?;
+    tell_in_brackets(&mut teller, &mut out)?;
     assert_eq!(rt; out.as_slice(), b"[[\"1\",\"2\"]]\n".as_slice());
     Ok(())
+}
+
+fn tell_tree(teller: &mut TreeTeller, out: &mut Vec<u8>) -> Result<(), NoMemory>
+    requires { teller.old ≡ [] }
+{
+    teller.nulling("B", 0, 0, None)?;
+    teller.token("'a'", "a", 0, 1, 0, None)?;
+    teller.rule(RuleId(1), "B", 1, &[true], 0, 1, 0, 1, &Action::Undef)?;
+    teller.rule(RuleId(0), "S", 2, &[true, true], 0, 1, 0, 1, &Action::Undef)?;
+    teller.finish(out)
 }
 
 #[test]
 fn trees_name_their_rules(rt: HostRuntime) -> Result<(), Fail> {
     let mut teller = TreeTeller::new(rt.alloc());
-    teller.nulling("B", 0, 0, None)?;
-    teller.token("'a'", "a", 0, 1, 0, None)?;
-    teller.rule(RuleId(1), "B", 1, &[true], 0, 1, 0, 1, &Action::Undef)?;
-    teller.rule(RuleId(0), "S", 2, &[true, true], 0, 1, 0, 1, &Action::Undef)?;
     let mut out = Vec::new(rt.alloc());
-    teller.finish(&mut out)?;
+    tell_tree(&mut teller, &mut out)?;
     assert_eq!(rt;
         out.as_slice(),
         b"[\"S\",0,[\"B\"],[\"B\",1,[\"'a'\",\"a\"]]]\n".as_slice()
@@ -158,29 +174,42 @@ impl Teller for Counting {
     }
 }
 
-// Plays one token to tellers, and answers whether they were told.
-fn play_token(alloc: Global, tellers: &mut Vec<Box<dyn Teller>>) -> Result<bool, Fail> {
-    let mut w = Written::new(alloc);
-    let symbol = w.symbol_new("x")?;
-    let meaning = Meaning {
-        rules: Items::new(Vec::new(alloc)),
-        lexeme: None,
-    };
+const ONE: [Span; 1] = [Span {
+    start: 0,
+    length: 1,
+}];
+
+// Plays a token of a grammar without rules to tellers, and answers whether they were told.
+fn play_symbol(
+    alloc: Global,
+    w: &Written,
+    symbol: SymbolId,
+    tellers: &mut Vec<Box<dyn Teller>>,
+) -> Result<bool, Fail>
+    requires bare { w.now.rules ≡ [] }
+    requires known { symbol < length w.now.names }
+{
     let chars = chars_of(alloc, b"x")?;
     if chars.len() < 1 {
         return Err(Fail::new("the text is short"));
     }
-    let span = Span {
-        start: 0,
-        length: 1,
+    let meaning = Meaning {
+        rules: Items::new(Vec::new(alloc)),
+        lexeme: None,
     };
     let step = TreeStep::Token {
         symbol,
         from: 0,
         to: 1,
     };
-    let played = play(alloc, &[step], &meaning, &w, &[span], &chars, tellers);
-    Ok(played.is_ok())
+    Ok(play(alloc, &[step], &meaning, w, &ONE, &chars, tellers).is_ok())
+}
+
+// Plays one token to tellers, and answers whether they were told.
+fn play_token(alloc: Global, tellers: &mut Vec<Box<dyn Teller>>) -> Result<bool, Fail> {
+    let mut w = Written::new(alloc);
+    let symbol = w.symbol_new("x")?;
+    play_symbol(alloc, &w, symbol, tellers)
 }
 
 #[test]
@@ -208,22 +237,56 @@ fn counted(alloc: Global, most: u32, calls: &Rc<Cell<u32>>) -> Result<Vec<Box<dy
     Ok(tellers)
 }
 
-// Plays four steps to it: whether all were told, how many tellers are left, its calls, and who holds their count.
-fn play_counted(alloc: Global, most: u32) -> Result<(bool, usize, u32, usize), Fail> {
-    let w = nulled_at_the_end(alloc)?;
-    let meaning = all_described(alloc)?;
+// Plays four steps to tellers, and answers whether they were told.
+fn play_four(
+    alloc: Global,
+    w: &Written,
+    meaning: &Meaning,
+    tellers: &mut Vec<Box<dyn Teller>>,
+) -> Result<bool, Fail>
+    requires rules { w.now.rules ≡ ends_nulled }
+    requires sound { IsWritten w.now }
+    requires meaning { IsMeaningOf w.now (meaning_of meaning.now) }
+{
     let chars = chars_of(alloc, b" x")?;
+    Ok(chars.len() >= 2 && play_nulled(alloc, meaning, w, &chars, tellers).is_ok())
+}
+
+// Plays to a teller that counts: whether all were told, how many tellers are left, its calls, and who holds their count.
+fn play_counted(
+    alloc: Global,
+    w: &Written,
+    meaning: &Meaning,
+    most: u32,
+) -> Result<(bool, usize, u32, usize), Fail>
+    requires rules { w.now.rules ≡ ends_nulled }
+    requires sound { IsWritten w.now }
+    requires meaning { IsMeaningOf w.now (meaning_of meaning.now) }
+{
     let calls = Rc::new(alloc, Cell::new(0))?;
     let mut tellers = counted(alloc, most, &calls)?;
-    let told = chars.len() >= 2 && play_nulled(alloc, &meaning, &w, &chars, &mut tellers).is_ok();
+    let told = play_four(alloc, w, meaning, &mut tellers)?;
     Ok((told, tellers.len(), calls.get(), Rc::strong_count(&calls)))
+}
+
+// Whether a play ends with the first call that is refused, whichever it is.
+fn ends_refused(alloc: Global, w: &Written, meaning: &Meaning) -> Result<bool, Fail>
+    requires rules { w.now.rules ≡ ends_nulled }
+    requires sound { IsWritten w.now }
+    requires meaning { IsMeaningOf w.now (meaning_of meaning.now) }
+{
+    for most in 0..4 {
+        if play_counted(alloc, w, meaning, most)? != (false, 0, most + 1, 1) {
+            return Ok(false);
+        }
+    }
+    Ok(play_counted(alloc, w, meaning, 4)? == (true, 1, 4, 2))
 }
 
 #[test]
 fn each_refused_call_ends_the_play(rt: HostRuntime) -> Result<(), Fail> {
-    for most in 0..4 {
-        assert_eq!(rt; play_counted(rt.alloc(), most)?, (false, 0, most + 1, 1));
-    }
-    assert_eq!(rt; play_counted(rt.alloc(), 4)?, (true, 1, 4, 2));
+    let w = nulled_at_the_end(rt.alloc())?;
+    let meaning = all_described(rt.alloc())?;
+    assert!(rt; ends_refused(rt.alloc(), &w, &meaning)?);
     Ok(())
 }

@@ -1,5 +1,5 @@
 //! Values and their texts, and the texts of actions.
-ghost use Rattle.std.specs.Prelude.{◌<◌, length};
+ghost use Rattle.std.specs.Prelude.{◌<◌, length, IfOk};
 
 use std::alloc::Global;
 use std::test::Fail;
@@ -16,32 +16,39 @@ fn text_of(alloc: Global, pool: &Pool, id: ValueId) -> Result<Vec<u8>, NoMemory>
     Ok(out)
 }
 
+fn is_text(alloc: Global, pool: &Pool, id: ValueId, wanted: &[u8]) -> Result<bool, NoMemory>
+    requires { id < length pool.now }
+{
+    Ok(text_of(alloc, pool, id)?.as_slice() == wanted)
+}
+
 #[test]
 fn texts_are_escaped(rt: HostRuntime) -> Result<(), Fail> {
     let mut pool = Pool::new(rt.alloc());
     let id = pool.text("a\"$@\\\n\r\t\u{0}\u{9f}\u{e4}\u{1d11e}")?;
-    let out = text_of(rt.alloc(), &pool, id)?;
-    assert_eq!(rt;
-        out.as_slice(),
-        "\"a\\\"\\$\\@\\\\\\n\\r\\t\\x{00}\\x{9f}\u{e4}\u{1d11e}\"".as_bytes()
-    );
+    let wanted = "\"a\\\"\\$\\@\\\\\\n\\r\\t\\x{00}\\x{9f}\u{e4}\u{1d11e}\"";
+    assert!(rt; is_text(rt.alloc(), &pool, id, wanted.as_bytes())?);
     Ok(())
 }
 
-#[test]
-fn lists_have_commas(rt: HostRuntime) -> Result<(), Fail> {
-    let mut pool = Pool::new(rt.alloc());
+// A list of numbers and other values, in a pool that was used before.
+fn list(pool: &mut Pool) -> Result<ValueId, NoMemory>
+    ensures { IfOk result (λ id. id < length pool.new) }
+{
     pool.num(7)?;
     pool.clear();
     let number = pool.num(18_446_744_073_709_551_615)?;
     let none = pool.undef()?;
     let empty = pool.list(&[])?;
-    let id = pool.list(&[number, none, empty, number])?;
-    let out = text_of(rt.alloc(), &pool, id)?;
-    assert_eq!(rt;
-        out.as_slice(),
-        b"[18446744073709551615,undef,[],18446744073709551615]".as_slice()
-    );
+    pool.list(&[number, none, empty, number])
+}
+
+#[test]
+fn lists_have_commas(rt: HostRuntime) -> Result<(), Fail> {
+    let mut pool = Pool::new(rt.alloc());
+    let id = list(&mut pool)?;
+    let wanted = b"[18446744073709551615,undef,[],18446744073709551615]";
+    assert!(rt; is_text(rt.alloc(), &pool, id, wanted)?);
     Ok(())
 }
 
@@ -65,30 +72,27 @@ fn is_bad(alloc: Global, text: &str) -> bool {
     )
 }
 
-#[test]
-fn descriptors_tell_actions(rt: HostRuntime) -> Result<(), Fail> {
-    let Action::Items(items) = read_descriptor(rt.alloc(), "[ g1start ,value, symbol]")? else {
-        return Err(Fail::new("no items"));
-    };
-    let wanted = [DescItem::G1Start, DescItem::Values, DescItem::Symbol];
-    assert_eq!(rt; items.as_slice(), wanted.as_slice());
-    let Action::Items(none) = read_descriptor(rt.alloc(), "[ ]")? else {
-        return Err(Fail::new("no items"));
-    };
-    assert_eq!(rt; none.as_slice().len(), 0);
-    let Action::First = read_descriptor(rt.alloc(), "::first")? else {
-        return Err(Fail::new("another action"));
-    };
-    Ok(())
+// Whether the text tells these items.
+fn has_items(alloc: Global, text: &str, wanted: &[DescItem]) -> bool {
+    match read_descriptor(alloc, text) {
+        Ok(Action::Items(items)) => items.as_slice() == wanted,
+        _ => false,
+    }
 }
 
 #[test]
-fn other_texts_tell_no_action(rt: HostRuntime) -> Result<(), Fail> {
-    assert!(rt; is_bad(rt.alloc(), "[name,]"));
-    assert!(rt; is_bad(rt.alloc(), "[Name]"));
-    assert!(rt; is_bad(rt.alloc(), "name"));
-    assert!(rt; is_bad(rt.alloc(), "::last"));
-    assert!(rt; is_bad(rt.alloc(), "["));
-    assert!(rt; is_bad(rt.alloc(), ""));
-    Ok(())
+fn descriptors_tell_actions(rt: HostRuntime) {
+    let wanted = [DescItem::G1Start, DescItem::Values, DescItem::Symbol];
+    assert!(rt; has_items(rt.alloc(), "[ g1start ,value, symbol]", &wanted));
+    assert!(rt; has_items(rt.alloc(), "[ ]", &[]));
+    assert!(rt; matches!(read_descriptor(rt.alloc(), "::first"), Ok(Action::First)));
+}
+
+const OTHERS: &[&str] = &["[name,]", "[Name]", "name", "::last", "[", ""];
+
+#[test]
+fn other_texts_tell_no_action(rt: HostRuntime) {
+    for text in OTHERS {
+        assert!(rt; is_bad(rt.alloc(), text), "{text}");
+    }
 }

@@ -72,8 +72,68 @@ fn build<'r, L: Ledger>(
     Ok((forest.node_count(), took.as_micros()))
 }
 
+// What came of reading in so much time, and of building the forest, if it is to be built.
+fn outcome_of<L: Ledger>(
+    rt: &HostRuntime,
+    recce: &Recce<'_>,
+    w: &Written,
+    time: u128,
+    builds: bool,
+    steps: &mut Steps<L>,
+) -> Result<Outcome, anyhow::Error>
+    requires checked { IsChecked w.now }
+    requires flat { IsFlatOf recce.now.flat w.now }
+{
+    let forest = if builds {
+        Some(build(rt, recce, w, steps)?)
+    } else {
+        None
+    };
+    Ok(Outcome {
+        place: recce.place(),
+        items: item_count(recce),
+        at_end: recce.at_end(),
+        time,
+        forest,
+    })
+}
+
+// Reads the tokens, and tells how long it took.
+fn read_timed<L: Ledger>(
+    rt: &HostRuntime,
+    begun: Instant,
+    recce: &mut Recce<'_>,
+    word: Word,
+    count: u32,
+    steps: &mut Steps<L>,
+) -> Result<u128, anyhow::Error>
+    ensures { recce.new.flat ≡ recce.old.flat }
+{
+    read_all(recce, word, count, steps)?;
+    Ok(begun.elapsed(rt)?.as_micros())
+}
+
 // Reads the tokens, and may build the forest.
 fn run<L: Ledger>(
+    rt: &HostRuntime,
+    w: &Written,
+    flat: &Flat,
+    word: Word,
+    count: u32,
+    builds: bool,
+    steps: &mut Steps<L>,
+) -> Result<Outcome, anyhow::Error>
+    requires checked { IsChecked w.now }
+    requires flat { IsFlatOf flat.now w.now }
+    requires start { 0 < length flat.now.tops }
+{
+    let begun = Instant::now(rt)?;
+    let mut recce = Recce::new(rt.alloc(), flat, 0)?;
+    let time = read_timed(rt, begun, &mut recce, word, count, steps)?;
+    outcome_of(rt, &recce, w, time, builds, steps)
+}
+
+fn run_with<L: Ledger>(
     rt: &HostRuntime,
     blank: Blank,
     w: &Written,
@@ -90,22 +150,7 @@ fn run<L: Ledger>(
     requires start { 0 < length flat.now.tops }
 {
     let mut steps = Steps::<L>::of_blank(blank);
-    let begun = Instant::now(rt)?;
-    let mut recce = Recce::new(rt.alloc(), flat, 0)?;
-    read_all(&mut recce, word, count, &mut steps)?;
-    let took = begun.elapsed(rt)?;
-    let forest = if builds {
-        Some(build(rt, &recce, w, &mut steps)?)
-    } else {
-        None
-    };
-    Ok(Outcome {
-        place: recce.place(),
-        items: item_count(&recce),
-        at_end: recce.at_end(),
-        time: took.as_micros(),
-        forest,
-    })
+    run(rt, w, flat, word, count, builds, &mut steps)
 }
 
 fn print(rt: &HostRuntime, outcome: Outcome, timed: bool) -> Result<(), anyhow::Error> {
@@ -134,7 +179,7 @@ fn read_tokens(
     let written = written_of(rt.alloc(), &word.language())?;
     let flat = flat_of(rt.alloc(), &written)?;
     let count = word.tokens(count);
-    let outcome = run::<Brand>(rt, Blank::new(1), &written, &flat, word, count, builds)?;
+    let outcome = run_with::<Brand>(rt, Blank::new(1), &written, &flat, word, count, builds)?;
     print(rt, outcome, timed)
 }
 

@@ -1,88 +1,96 @@
 //! Derivations that are given one after another: as texts of trees, in order, told by hand, and as many as is known.
-ghost use Rattle.std.specs.Prelude.{◌≡◌, ◌<◌, length};
-ghost use Rattle.grammar_model.specs.Checked.{IsChecked};
-ghost use Rattle.recognizer_model.specs.FlatForm.{IsFlatOf};
+ghost use Rattle.std.specs.Prelude.{◌≡◌, IsSome};
 ghost use Rattle.recognizer_model.specs.Links.{choices};
 ghost use Rattle.reading_tests.specs.Sums.{left_first, right_first};
 
-use crate::grammars::{COMMAS, HIGH, LOW, Language, PIECES, SUM, flat_of, read_all, written_of};
+use crate::grammars::{COMMAS, HIGH, LOW, PIECES, SUM};
+use crate::lines::line_text;
+use crate::readings::{Input, Row, Wanted, is_row};
 use bocage::Forest;
-use bumpalo::Bump;
-use earley_sets::Recce;
-use grammar_core::{Flat, SymbolId, TreeStep, Written};
+use grammar_core::{SymbolId, TreeStep, Written};
 use grammar_model::Ranking;
 use slif_base::Steps;
 use std::alloc::{AllocError, Global};
-use std::marker::Brand;
-use std::sync::ledger::{Blank, Ledger};
+use std::sync::ledger::Ledger;
 use std::test::Fail;
 use tree_iter::TreeIter;
 
-// What is read, and its derivations in order: a token with its place, or with both its ends where it is longer, a nulled symbol
-// as `B@0`, a rule as `0(..)`.
-#[derive(Clone, Copy)]
-struct Row {
-    language: Language,
-    tokens: &'static [u32],
-    trees: &'static [&'static str],
-}
-
-const ROWS: &[Row] = &[
+// The texts of derivations: a token with its place, or with both its ends where it is longer, a nulled symbol as `B@0`, a rule as
+// `0(..)`.
+const ROWS: &[Row<'static>] = &[
     Row {
         language: SUM,
-        tokens: &[1],
-        trees: &["1(N0)"],
+        input: Input::Row(&[1]),
+        ranking: Ranking::Rule,
+        wanted: Wanted::Trees(&["1(N0)"]),
     },
     Row {
         language: SUM,
-        tokens: &[1, 2, 1, 2, 1],
-        trees: &[
+        input: Input::Row(&[1, 2, 1, 2, 1]),
+        ranking: Ranking::Rule,
+        wanted: Wanted::Trees(&[
             "0(0(1(N0) +1 1(N2)) +3 1(N4))",
             "0(1(N0) +1 0(1(N2) +3 1(N4)))",
-        ],
+        ]),
     },
     Row {
         language: LOW,
-        tokens: &[],
-        trees: &["S@0"],
+        input: Input::Row(&[]),
+        ranking: Ranking::Rule,
+        wanted: Wanted::Trees(&["S@0"]),
     },
     Row {
         language: LOW,
-        tokens: &[2],
-        trees: &["0(B@0 1(a0))", "0(1(a0) B@1)"],
+        input: Input::Row(&[2]),
+        ranking: Ranking::Rule,
+        wanted: Wanted::Trees(&["0(B@0 1(a0))", "0(1(a0) B@1)"]),
     },
     Row {
         language: HIGH,
-        tokens: &[2],
-        trees: &["0(1(a0) B@1)", "0(B@0 1(a0))"],
+        input: Input::Row(&[2]),
+        ranking: Ranking::Rule,
+        wanted: Wanted::Trees(&["0(1(a0) B@1)", "0(B@0 1(a0))"]),
     },
     Row {
         language: COMMAS,
-        tokens: &[1, 2, 1],
-        trees: &["0(x0 ,1 x2)"],
+        input: Input::Row(&[1, 2, 1]),
+        ranking: Ranking::Rule,
+        wanted: Wanted::Trees(&["0(x0 ,1 x2)"]),
     },
     Row {
         language: COMMAS,
-        tokens: &[1, 2, 1, 2],
-        trees: &["0(x0 ,1 x2 ,3)"],
+        input: Input::Row(&[1, 2, 1, 2]),
+        ranking: Ranking::Rule,
+        wanted: Wanted::Trees(&["0(x0 ,1 x2 ,3)"]),
     },
     Row {
         language: PIECES,
-        tokens: &[2, 2, 2],
-        trees: &[
+        input: Input::Row(&[2, 2, 2]),
+        ranking: Ranking::Rule,
+        wanted: Wanted::Trees(&[
             "0(1(a0) 1(a1) 1(a2))",
             "0(2(a0 a1) 1(a2))",
             "0(1(a0) 2(a1 a2))",
-        ],
+        ]),
     },
 ];
 
 // How many derivations a sum of 1, 2, 3 and more operands has: the numbers of Catalan.
-const SUMS: &[usize] = &[1, 1, 2, 5, 14, 42, 132, 429, 1430];
+const SUMS: [usize; 9] = [1, 1, 2, 5, 14, 42, 132, 429, 1430];
+
+/// A sum of nine operands, of which a beginning is a sum too.
+pub const OPERANDS: [u32; 17] = [1, 2, 1, 2, 1, 2, 1, 2, 1, 2, 1, 2, 1, 2, 1, 2, 1];
 
 const MOST_TREES: usize = 10_000;
 
-pub(crate) fn name_of(w: &Written, symbol: SymbolId) -> &str {
+/// How derivations are told: by short texts, or by lines of values.
+#[derive(Clone, Copy)]
+pub enum Style {
+    Short,
+    Line,
+}
+
+pub fn name_of(w: &Written, symbol: SymbolId) -> &str {
     if (symbol.0 as usize) < w.symbol_count() {
         w.name(symbol)
     } else {
@@ -90,54 +98,77 @@ pub(crate) fn name_of(w: &Written, symbol: SymbolId) -> &str {
     }
 }
 
-// Puts the text of a rule, which begins so, in place of those of its children.
-pub(crate) fn put_rule(
-    texts: &mut Vec<String>,
-    beginning: String,
-    children: u32,
+fn token_text(alloc: Global, name: &str, from: u32, to: u32) -> Result<String, AllocError> {
+    match to.saturating_sub(from) {
+        1 => format!(in alloc; "{}{}", name, from),
+        _ => format!(in alloc; "{}{}-{}", name, from, to),
+    }
+}
+
+// The text of a leaf, or how that of a rule begins.
+fn short_text(alloc: Global, w: &Written, step: &TreeStep) -> Result<String, AllocError> {
+    match step {
+        TreeStep::Token { symbol, from, to } => token_text(alloc, name_of(w, *symbol), *from, *to),
+        TreeStep::Nulled { symbol, at } => format!(in alloc; "{}@{}", name_of(w, *symbol), at),
+        TreeStep::Rule { rule, .. } => format!(in alloc; "{}(", rule.0),
+    }
+}
+
+fn put_children(
+    text: &mut String,
+    children: &[String],
     between: &str,
     end: &str,
 ) -> Result<(), AllocError> {
-    let first = texts.len().saturating_sub(children as usize);
-    let mut text = beginning;
-    for k in first..texts.len() {
-        if k > first {
+    for k in 0..children.len() {
+        if k > 0 {
             text.push_str(between)?;
         }
-        text.push_str(texts[k].as_str())?;
+        text.push_str(children[k].as_str())?;
     }
-    text.push_str(end)?;
-    texts.truncate(first);
-    texts.push(text)?;
+    text.push_str(end)
+}
+
+// The text of a rule, which begins so, over those of its children.
+fn rule_text(
+    alloc: Global,
+    beginning: &str,
+    children: &[String],
+    style: Style,
+) -> Result<String, AllocError> {
+    let (between, end) = match style {
+        Style::Short => (" ", ")"),
+        Style::Line => (",", "]"),
+    };
+    let mut text = String::from_str(alloc, beginning)?;
+    put_children(&mut text, children, between, end)?;
+    Ok(text)
+}
+
+// Puts the text of a step in place of those of its children.
+fn put_step(
+    alloc: Global,
+    w: &Written,
+    step: &TreeStep,
+    style: Style,
+    texts: &mut Vec<String>,
+) -> Result<(), AllocError> {
+    let text = match style {
+        Style::Short => short_text(alloc, w, step)?,
+        Style::Line => line_text(alloc, w, step)?,
+    };
+    if let TreeStep::Rule { children, .. } = step {
+        let first = texts.len().saturating_sub(*children as usize);
+        let whole = rule_text(alloc, text.as_str(), &texts[first..], style)?;
+        texts.truncate(first);
+        texts.push(whole)?;
+    } else {
+        texts.push(text)?;
+    }
     Ok(())
 }
 
-// The text of a tree, by its steps.
-fn text_of(alloc: Global, w: &Written, steps: &[TreeStep]) -> Result<String, AllocError> {
-    let mut texts = Vec::new(alloc);
-    for step in steps {
-        match step {
-            TreeStep::Token { symbol, from, to } => {
-                let name = name_of(w, *symbol);
-                let text = match to.saturating_sub(*from) {
-                    1 => format!(in alloc; "{}{}", name, from)?,
-                    _ => format!(in alloc; "{}{}-{}", name, from, to)?,
-                };
-                texts.push(text)?;
-            }
-            TreeStep::Nulled { symbol, at } => {
-                texts.push(format!(in alloc; "{}@{}", name_of(w, *symbol), at)?)?;
-            }
-            TreeStep::Rule { rule, children, .. } => {
-                let beginning = format!(in alloc; "{}(", rule.0)?;
-                put_rule(&mut texts, beginning, *children, " ", ")")?;
-            }
-        }
-    }
-    joined(alloc, &texts)
-}
-
-pub(crate) fn joined(alloc: Global, texts: &[String]) -> Result<String, AllocError> {
+fn joined(alloc: Global, texts: &[String]) -> Result<String, AllocError> {
     let mut whole = String::new(alloc);
     for text in texts {
         whole.push_str(text.as_str())?;
@@ -145,71 +176,67 @@ pub(crate) fn joined(alloc: Global, texts: &[String]) -> Result<String, AllocErr
     Ok(whole)
 }
 
-// The texts of all derivations. At the end the iterator says again that there is none left.
-pub(crate) fn texts_of<L: Ledger>(
+// The text of a tree, by its steps.
+fn text_of(
     alloc: Global,
     w: &Written,
-    forest: &Forest<'_>,
-    steps: &mut Steps<L>,
-) -> Result<Vec<String>, anyhow::Error> {
-    let mut iter = TreeIter::new(alloc, forest)?;
+    steps: &[TreeStep],
+    style: Style,
+) -> Result<String, AllocError> {
     let mut texts = Vec::new(alloc);
+    for step in steps {
+        put_step(alloc, w, step, style, &mut texts)?;
+    }
+    joined(alloc, &texts)
+}
+
+// The text of the derivation that stands.
+fn text_now(
+    alloc: Global,
+    w: &Written,
+    iter: &TreeIter<'_>,
+    style: Style,
+) -> Result<String, anyhow::Error>
+    requires { IsSome iter.now.current }
+{
+    let mut tree = Vec::with_capacity(alloc, iter.steps_needed())?;
+    iter.steps_of(&mut tree)?;
+    Ok(text_of(alloc, w, &tree, style)?)
+}
+
+// Puts the texts of all derivations. At the end the iterator says again that there is none left.
+fn put_texts<L: Ledger>(
+    alloc: Global,
+    w: &Written,
+    iter: &mut TreeIter<'_>,
+    style: Style,
+    texts: &mut Vec<String>,
+    steps: &mut Steps<L>,
+) -> Result<(), anyhow::Error> {
     for _ in 0..MOST_TREES {
         if !iter.next(steps)? {
             break;
         }
-        let mut tree = Vec::with_capacity(alloc, iter.steps_needed())?;
-        iter.steps_of(&mut tree)?;
-        texts.push(text_of(alloc, w, &tree)?)?;
+        texts.push(text_now(alloc, w, iter, style)?)?;
     }
     if iter.next(steps)? {
         texts.push(String::from_str(alloc, "one more")?)?;
     }
-    Ok(texts)
+    Ok(())
 }
 
-// The texts of all derivations of what is read.
-fn texts_read<L: Ledger>(
-    blank: Blank,
+/// The texts of all derivations.
+pub fn texts_of<L: Ledger>(
     alloc: Global,
     w: &Written,
-    flat: &Flat,
-    tokens: &[u32],
-) -> Result<Vec<String>, anyhow::Error>
-    requires name { blank.name ≡ L.name }
-    requires parts { blank.parts ≡ L.parts }
-    requires some { 0 < blank.parts }
-    requires checked { IsChecked w.now }
-    requires flat { IsFlatOf flat.now w.now }
-    requires start { 0 < length flat.now.tops }
-{
-    let mut steps = Steps::<L>::of_blank(blank);
-    let mut recce = Recce::new(alloc, flat, 0)?;
-    read_all(&mut recce, tokens, &mut steps)?;
-    let arena = Bump::new(alloc);
-    let forest = Forest::build(alloc, &arena, &recce, w, Ranking::Rule, &mut steps)?;
-    texts_of(alloc, w, &forest, &mut steps)
-}
-
-fn trees_of(
-    alloc: Global,
-    language: &Language,
-    tokens: &[u32],
+    forest: &Forest<'_>,
+    style: Style,
+    steps: &mut Steps<L>,
 ) -> Result<Vec<String>, anyhow::Error> {
-    let w = written_of(alloc, language)?;
-    let flat = flat_of(alloc, &w)?;
-    texts_read::<Brand>(Blank::new(1), alloc, &w, &flat, tokens)
-}
-
-// A sum of so many operands.
-fn sum_of(alloc: Global, operands: usize) -> Result<Vec<u32>, AllocError> {
-    let mut tokens = Vec::new(alloc);
-    tokens.push(1)?;
-    for _ in 1..operands {
-        tokens.push(2)?;
-        tokens.push(1)?;
-    }
-    Ok(tokens)
+    let mut iter = TreeIter::new(alloc, forest)?;
+    let mut texts = Vec::new(alloc);
+    put_texts(alloc, w, &mut iter, style, &mut texts, steps)?;
+    Ok(texts)
 }
 
 // Whether no two that follow each other are the same.
@@ -221,25 +248,56 @@ fn do_differ(texts: &[String]) -> bool {
     differ
 }
 
+fn are_texts(texts: &[String], wanted: &[&str]) -> bool {
+    let mut same = texts.len() == wanted.len();
+    for k in 0..texts.len().min(wanted.len()) {
+        same = same && texts[k].as_str() == wanted[k];
+    }
+    same
+}
+
+/// Whether the derivations have these texts, in this order.
+pub fn have_texts<L: Ledger>(
+    alloc: Global,
+    w: &Written,
+    forest: &Forest<'_>,
+    wanted: &[&str],
+    steps: &mut Steps<L>,
+) -> Result<bool, anyhow::Error> {
+    let texts = texts_of(alloc, w, forest, Style::Short, steps)?;
+    Ok(are_texts(&texts, wanted))
+}
+
+/// Whether there are so many derivations, and no two that follow each other have the same text.
+pub fn have_count<L: Ledger>(
+    alloc: Global,
+    w: &Written,
+    forest: &Forest<'_>,
+    count: usize,
+    steps: &mut Steps<L>,
+) -> Result<bool, anyhow::Error> {
+    let texts = texts_of(alloc, w, forest, Style::Short, steps)?;
+    Ok(texts.len() == count && do_differ(&texts))
+}
+
 #[test]
 fn derivations_come_in_order(rt: HostRuntime) -> Result<(), Fail> {
     for row in ROWS {
-        let texts = trees_of(rt.alloc(), &row.language, row.tokens)?;
-        assert_eq!(rt; texts.len(), row.trees.len());
-        for k in 0..texts.len().min(row.trees.len()) {
-            assert_eq!(rt; texts[k].as_str(), row.trees[k]);
-        }
+        assert!(rt; is_row(rt.alloc(), row)?);
     }
     Ok(())
 }
 
 #[test]
 fn sums_have_as_many_as_is_known(rt: HostRuntime) -> Result<(), Fail> {
-    for k in 0..SUMS.len() {
-        let tokens = sum_of(rt.alloc(), k + 1)?;
-        let texts = trees_of(rt.alloc(), &SUM, &tokens)?;
-        assert_eq!(rt; texts.len(), SUMS[k]);
-        assert!(rt; do_differ(&texts));
+    for k in 0..9 {
+        let row = Row {
+            language: SUM,
+            input: Input::Row(&OPERANDS[..2 * k + 1]),
+            ranking: Ranking::Rule,
+            wanted: Wanted::Count(SUMS[k]),
+        };
+        assert!(rt; is_row(rt.alloc(), &row)?);
     }
     Ok(())
 }

@@ -1,40 +1,27 @@
 //! Forests of small grammars: how many nodes, alternatives and derivations they have, and the order of their first choices, all
 //! counted by hand.
 ghost use Rattle.std.specs.Prelude.{◌≡◌, ◌+◌, ◌<◌, length};
-ghost use Rattle.grammar_model.specs.Checked.{IsChecked};
-ghost use Rattle.recognizer_model.specs.FlatForm.{IsFlatOf};
 
-use crate::grammars::{COMMAS, HIGH, LOW, Language, PIECES, SUM, flat_of, read_all, written_of};
-use bocage::{Alternatives, Forest, ForestRefusal, LastPart};
-use bumpalo::Bump;
-use earley_sets::Recce;
-use grammar_core::{Flat, FlatSource, RuleId, Written};
+use crate::grammars::{COMMAS, HIGH, LOW, Language, PIECES, SUM};
+use crate::readings::{Input, Row, Wanted, is_row};
+use bocage::{Alternatives, Forest, LastPart};
+use grammar_core::{FlatSource, RuleId};
 use grammar_model::Ranking;
 use slif_base::Steps;
 use std::alloc::Global;
-use std::marker::Brand;
-use std::sync::ledger::{Blank, Ledger};
+use std::sync::ledger::Ledger;
 use std::test::Fail;
 
-// A number of a written rule, and where its last part may begin.
-type Starts = (u32, &'static [u32]);
+/// A number of a written rule, and where its last part may begin.
+pub type Starts = (u32, &'static [u32]);
 
-// The size of a forest, and the rules of the start over the whole, in order.
+/// The size of a forest, and the rules of the start over the whole, in order.
 #[derive(Clone, Copy)]
-struct Size {
-    nodes: usize,
-    alternatives: usize,
-    derivations: u64,
-    rules: &'static [Starts],
-}
-
-// What is read, and its forest, if there is a derivation.
-#[derive(Clone, Copy)]
-struct Row {
-    language: Language,
-    tokens: &'static [u32],
-    ranking: Ranking,
-    size: Option<Size>,
+pub struct Size {
+    pub nodes: usize,
+    pub alternatives: usize,
+    pub derivations: u64,
+    pub rules: &'static [Starts],
 }
 
 // S -> P | Q with a higher rank, P -> x, Q -> x
@@ -49,13 +36,13 @@ const RANKED: Language = Language {
     lists: &[],
 };
 
-const ROWS: &[Row] = &[
+const ROWS: &[Row<'static>] = &[
     // Three operands. The whole: top, three sums, three fronts of two parts, three of one, three numbers.
     Row {
         language: SUM,
-        tokens: &[1, 2, 1, 2, 1],
+        input: Input::Row(&[1, 2, 1, 2, 1]),
         ranking: Ranking::Rule,
-        size: Some(Size {
+        wanted: Wanted::Forest(Size {
             nodes: 13,
             alternatives: 14,
             derivations: 2,
@@ -65,9 +52,9 @@ const ROWS: &[Row] = &[
     // Four operands: top, six sums, six fronts of two parts, six of one, four numbers; sums have 10 alternatives.
     Row {
         language: SUM,
-        tokens: &[1, 2, 1, 2, 1, 2, 1],
+        input: Input::Row(&[1, 2, 1, 2, 1, 2, 1]),
         ranking: Ranking::None,
-        size: Some(Size {
+        wanted: Wanted::Forest(Size {
             nodes: 23,
             alternatives: 27,
             derivations: 5,
@@ -76,9 +63,9 @@ const ROWS: &[Row] = &[
     },
     Row {
         language: SUM,
-        tokens: &[1],
+        input: Input::Row(&[1]),
         ranking: Ranking::Rule,
-        size: Some(Size {
+        wanted: Wanted::Forest(Size {
             nodes: 2,
             alternatives: 2,
             derivations: 1,
@@ -87,22 +74,22 @@ const ROWS: &[Row] = &[
     },
     Row {
         language: SUM,
-        tokens: &[1, 2],
+        input: Input::Row(&[1, 2]),
         ranking: Ranking::Rule,
-        size: None,
+        wanted: Wanted::NoParse,
     },
     Row {
         language: SUM,
-        tokens: &[],
+        input: Input::Row(&[]),
         ranking: Ranking::Rule,
-        size: None,
+        wanted: Wanted::NoParse,
     },
     // Nothing is read, and the start is nullable.
     Row {
         language: LOW,
-        tokens: &[],
+        input: Input::Row(&[]),
         ranking: Ranking::Rule,
-        size: Some(Size {
+        wanted: Wanted::Forest(Size {
             nodes: 0,
             alternatives: 0,
             derivations: 1,
@@ -111,9 +98,9 @@ const ROWS: &[Row] = &[
     },
     Row {
         language: LOW,
-        tokens: &[2],
+        input: Input::Row(&[2]),
         ranking: Ranking::Rule,
-        size: Some(Size {
+        wanted: Wanted::Forest(Size {
             nodes: 5,
             alternatives: 6,
             derivations: 2,
@@ -122,9 +109,9 @@ const ROWS: &[Row] = &[
     },
     Row {
         language: HIGH,
-        tokens: &[2],
+        input: Input::Row(&[2]),
         ranking: Ranking::None,
-        size: Some(Size {
+        wanted: Wanted::Forest(Size {
             nodes: 5,
             alternatives: 6,
             derivations: 2,
@@ -133,9 +120,9 @@ const ROWS: &[Row] = &[
     },
     Row {
         language: HIGH,
-        tokens: &[2, 2],
+        input: Input::Row(&[2, 2]),
         ranking: Ranking::Rule,
-        size: Some(Size {
+        wanted: Wanted::Forest(Size {
             nodes: 5,
             alternatives: 5,
             derivations: 1,
@@ -144,9 +131,9 @@ const ROWS: &[Row] = &[
     },
     Row {
         language: RANKED,
-        tokens: &[3],
+        input: Input::Row(&[3]),
         ranking: Ranking::Rule,
-        size: Some(Size {
+        wanted: Wanted::Forest(Size {
             nodes: 5,
             alternatives: 5,
             derivations: 2,
@@ -155,9 +142,9 @@ const ROWS: &[Row] = &[
     },
     Row {
         language: RANKED,
-        tokens: &[3],
+        input: Input::Row(&[3]),
         ranking: Ranking::None,
-        size: Some(Size {
+        wanted: Wanted::Forest(Size {
             nodes: 5,
             alternatives: 5,
             derivations: 2,
@@ -166,9 +153,9 @@ const ROWS: &[Row] = &[
     },
     Row {
         language: COMMAS,
-        tokens: &[1, 2, 1],
+        input: Input::Row(&[1, 2, 1]),
         ranking: Ranking::Rule,
-        size: Some(Size {
+        wanted: Wanted::Forest(Size {
             nodes: 6,
             alternatives: 6,
             derivations: 1,
@@ -178,9 +165,9 @@ const ROWS: &[Row] = &[
     // A separator stands last.
     Row {
         language: COMMAS,
-        tokens: &[1, 2, 1, 2],
+        input: Input::Row(&[1, 2, 1, 2]),
         ranking: Ranking::Rule,
-        size: Some(Size {
+        wanted: Wanted::Forest(Size {
             nodes: 7,
             alternatives: 7,
             derivations: 1,
@@ -190,9 +177,9 @@ const ROWS: &[Row] = &[
     // Three pieces of one, or two, of which one is of two.
     Row {
         language: PIECES,
-        tokens: &[2, 2, 2],
+        input: Input::Row(&[2, 2, 2]),
         ranking: Ranking::Rule,
-        size: Some(Size {
+        wanted: Wanted::Forest(Size {
             nodes: 15,
             alternatives: 16,
             derivations: 3,
@@ -329,7 +316,8 @@ fn has_rules<L: Ledger>(forest: &Forest<'_>, wanted: &[Starts], steps: &mut Step
     same
 }
 
-fn has_size<L: Ledger>(
+/// Whether a forest has this size, and these rules.
+pub fn has_size<L: Ledger>(
     alloc: Global,
     forest: &Forest<'_>,
     size: &Size,
@@ -340,40 +328,6 @@ fn has_size<L: Ledger>(
         && derivation_count(alloc, forest, steps)? == size.derivations
         && (forest.node_count() == 0 || look_twice(forest, steps));
     Ok(has_rules(forest, size.rules, steps) && same)
-}
-
-// Whether what is read has the forest of a row.
-fn has_forest<L: Ledger>(
-    blank: Blank,
-    alloc: Global,
-    w: &Written,
-    flat: &Flat,
-    row: &Row,
-) -> Result<bool, anyhow::Error>
-    requires name { blank.name ≡ L.name }
-    requires parts { blank.parts ≡ L.parts }
-    requires some { 0 < blank.parts }
-    requires checked { IsChecked w.now }
-    requires flat { IsFlatOf flat.now w.now }
-    requires start { 0 < length flat.now.tops }
-{
-    let mut steps = Steps::<L>::of_blank(blank);
-    let mut recce = Recce::new(alloc, flat, 0)?;
-    read_all(&mut recce, row.tokens, &mut steps)?;
-    let arena = Bump::new(alloc);
-    match Forest::build(alloc, &arena, &recce, w, row.ranking, &mut steps) {
-        Ok(forest) => match row.size {
-            Some(size) => has_size(alloc, &forest, &size, &mut steps),
-            None => Ok(false),
-        },
-        Err(refusal) => Ok(refusal == ForestRefusal::NoParse && row.size.is_none()),
-    }
-}
-
-fn is_row(alloc: Global, row: &Row) -> Result<bool, anyhow::Error> {
-    let w = written_of(alloc, &row.language)?;
-    let flat = flat_of(alloc, &w)?;
-    has_forest::<Brand>(Blank::new(1), alloc, &w, &flat, row)
 }
 
 #[test]

@@ -124,18 +124,24 @@ pub fn flat_of(alloc: Global, w: &Written) -> Result<Flat, anyhow::Error>
     }
 }
 
-// Reads a token that is one place long.
-fn read<L: Ledger>(
-    recce: &mut Recce<'_>,
-    token: u32,
-    steps: &mut Steps<L>,
-) -> Result<(), anyhow::Error>
+/// Takes a token that begins at the place.
+pub fn take(recce: &mut Recce<'_>, token: u32, length: u32) -> Result<(), anyhow::Error>
     ensures { recce.new.flat ≡ recce.old.flat }
 {
     if recce.place() >= MOST_PLACES {
         bail!("too many tokens");
     }
-    recce.alternative(SymbolId(token), 1)?;
+    recce.alternative(SymbolId(token), length)?;
+    Ok(())
+}
+
+/// Goes on to the next place.
+pub fn go_on<L: Ledger>(recce: &mut Recce<'_>, steps: &mut Steps<L>) -> Result<(), anyhow::Error>
+    ensures { recce.new.flat ≡ recce.old.flat }
+{
+    if recce.place() >= MOST_PLACES {
+        bail!("too many tokens");
+    }
     recce.complete_earleme(steps)?;
     Ok(())
 }
@@ -149,7 +155,8 @@ pub fn read_all<L: Ledger>(
     ensures { recce.new.flat ≡ recce.old.flat }
 {
     for token in tokens {
-        read(recce, *token, steps)?;
+        take(recce, *token, 1)?;
+        go_on(recce, steps)?;
     }
     Ok(())
 }

@@ -4,7 +4,7 @@ ghost use Rattle.std.specs.Prelude.{◌≡◌, ◌<◌, ℕ, length, Contains, I
 use crate::grammars::{Language, flat_of, written_of};
 use anyhow::bail;
 use char_class::{CharSet, ClassRefusal, read_class};
-use grammar_core::{CoreRefusal, SymbolId, Written};
+use grammar_core::{CoreRefusal, Flat, SymbolId, Written};
 use lexer::{Lexer, Lexical};
 use slif_base::chars_of;
 use std::alloc::{AllocError, Global};
@@ -109,27 +109,54 @@ const CASES: &[Case] = &[
     ("1!β 2", 1, &[1, 3], &[2, 3]),
 ];
 
+// Whether a lexer finds what the case tells.
+fn is_found(
+    alloc: Global,
+    lexer: &mut Lexer<'_>,
+    starts: usize,
+    case: &Case,
+) -> Result<bool, AllocError>
+    requires { starts ≡ length lexer.old.flat.tops }
+    ensures { lexer.new ≡ lexer.old }
+{
+    let (text, at, candidates, expected) = case;
+    let found = found(alloc, lexer, starts, text.as_bytes(), *at, candidates)?;
+    Ok(found.as_slice() == *expected)
+}
+
 // Whether one lexer finds all that.
+fn are_found(
+    alloc: Global,
+    lexer: &mut Lexer<'_>,
+    starts: usize,
+    cases: &[Case],
+) -> Result<bool, anyhow::Error>
+    requires { starts ≡ length lexer.old.flat.tops }
+{
+    for case in cases {
+        if !is_found(alloc, lexer, starts, case)? {
+            return Ok(false);
+        }
+    }
+    Ok(true)
+}
+
+fn lexes(
+    alloc: Global,
+    flat: &Flat,
+    sets: &[(SymbolId, CharSet)],
+    cases: &[Case],
+) -> Result<bool, anyhow::Error> {
+    let mut lexer = Lexer::new(alloc, Lexical { flat, sets })?;
+    are_found(alloc, &mut lexer, flat.start_count(), cases)
+}
+
 fn finds(alloc: Global, w: &Written, cases: &[Case]) -> Result<bool, anyhow::Error> {
     let flat = flat_of(alloc, w)?;
     let Ok(sets) = sets(alloc) else {
         bail!("a class is refused");
     };
-    let starts = flat.start_count();
-    let mut lexer = Lexer::new(
-        alloc,
-        Lexical {
-            flat: &flat,
-            sets: &sets,
-        },
-    )?;
-    for (text, at, candidates, expected) in cases {
-        let found = found(alloc, &mut lexer, starts, text.as_bytes(), *at, candidates)?;
-        if found.as_slice() != *expected {
-            return Ok(false);
-        }
-    }
-    Ok(true)
+    lexes(alloc, &flat, &sets, cases)
 }
 
 #[test]

@@ -16,4 +16,6 @@ mod lines;
 #[cfg(test)]
 mod numbers;
 #[cfg(test)]
+mod readings;
+#[cfg(test)]
 mod reports;

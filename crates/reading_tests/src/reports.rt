@@ -1,52 +1,45 @@
 //! Reports of small grammars at each place, which are worked by hand from Earley's sets.
-ghost use Rattle.std.specs.Prelude.{◌≡◌, ◌<◌, length};
 ghost use Rattle.recognizer_model.specs.FlatForm.{IsFlatOf};
 
-use crate::grammars::{COMMAS, LOW, Language, SUM, flat_of, read_all, written_of};
+use crate::grammars::{COMMAS, LOW, Language, SUM};
+use crate::readings::{Input, Row, Wanted, is_row};
 use earley_sets::Recce;
-use grammar_core::{Flat, Written};
+use grammar_core::Written;
+use grammar_model::Ranking;
 use progress::{ProgressRefusal, ReportLine, report};
-use slif_base::Steps;
 use std::alloc::Global;
-use std::marker::Brand;
-use std::sync::ledger::{Blank, Ledger};
 use std::test::Fail;
 
-// A rule, a dot and an origin.
-type Line = (u32, u32, u32);
+/// A rule, a dot and an origin.
+pub type Line = (u32, u32, u32);
 
-// A grammar, what is read, and the report of each place.
-#[derive(Clone, Copy)]
-struct Row {
-    language: Language,
-    tokens: &'static [u32],
-    reports: &'static [&'static [Line]],
-}
-
-const OF_SUM: Row = Row {
+const OF_SUM: Row<'static> = Row {
     language: SUM,
-    tokens: &[1, 2, 1],
-    reports: &[
+    input: Input::Row(&[1, 2, 1]),
+    ranking: Ranking::Rule,
+    wanted: Wanted::Reports(&[
         &[(0, 0, 0), (1, 0, 0)],
         &[(0, 1, 0), (1, 1, 0)],
         &[(0, 0, 2), (0, 2, 0), (1, 0, 2)],
         &[(0, 1, 0), (0, 1, 2), (0, 3, 0), (1, 1, 2)],
-    ],
+    ]),
 };
 
-const OF_LOW: Row = Row {
+const OF_LOW: Row<'static> = Row {
     language: LOW,
-    tokens: &[2],
-    reports: &[
+    input: Input::Row(&[2]),
+    ranking: Ranking::Rule,
+    wanted: Wanted::Reports(&[
         &[(0, 0, 0), (0, 1, 0), (0, 2, 0), (1, 0, 0)],
         &[(0, 1, 0), (0, 2, 0), (1, 0, 1), (1, 1, 0)],
-    ],
+    ]),
 };
 
-const OF_COMMAS: Row = Row {
+const OF_COMMAS: Row<'static> = Row {
     language: COMMAS,
-    tokens: &[1, 2, 1],
-    reports: &[&[(0, 0, 0)], &[(0, 1, 0)], &[(0, 2, 0)], &[(0, 1, 0)]],
+    input: Input::Row(&[1, 2, 1]),
+    ranking: Ranking::Rule,
+    wanted: Wanted::Reports(&[&[(0, 0, 0)], &[(0, 1, 0)], &[(0, 2, 0)], &[(0, 1, 0)]]),
 };
 
 // L is a list of x
@@ -56,10 +49,11 @@ const BARE: Language = Language {
     lists: &[(0, 1, None)],
 };
 
-const OF_BARE: Row = Row {
+const OF_BARE: Row<'static> = Row {
     language: BARE,
-    tokens: &[1, 1],
-    reports: &[&[(0, 0, 0)], &[(0, 1, 0)], &[(0, 1, 0)]],
+    input: Input::Row(&[1, 1]),
+    ranking: Ranking::Rule,
+    wanted: Wanted::Reports(&[&[(0, 0, 0)], &[(0, 1, 0)], &[(0, 1, 0)]]),
 };
 
 fn has_lines(lines: &[ReportLine], wanted: &[Line]) -> bool {
@@ -70,8 +64,8 @@ fn has_lines(lines: &[ReportLine], wanted: &[Line]) -> bool {
     same
 }
 
-// Whether the reports of all places are these, and the place behind them has none.
-fn has_reports(
+/// Whether the reports of all places are these, and the place behind them has none.
+pub fn has_reports(
     alloc: Global,
     w: &Written,
     recce: &Recce<'_>,
@@ -89,31 +83,6 @@ fn has_reports(
     }
     let behind = report(alloc, w, recce, end);
     Ok(end as usize == wanted.len() && matches!(behind, Err(ProgressRefusal::NoSuchSet)))
-}
-
-fn reads<L: Ledger>(
-    blank: Blank,
-    alloc: Global,
-    w: &Written,
-    flat: &Flat,
-    row: &Row,
-) -> Result<bool, anyhow::Error>
-    requires name { blank.name ≡ L.name }
-    requires parts { blank.parts ≡ L.parts }
-    requires some { 0 < blank.parts }
-    requires flat { IsFlatOf flat.now w.now }
-    requires start { 0 < length flat.now.tops }
-{
-    let mut steps = Steps::<L>::of_blank(blank);
-    let mut recce = Recce::new(alloc, flat, 0)?;
-    read_all(&mut recce, row.tokens, &mut steps)?;
-    has_reports(alloc, w, &recce, row.reports)
-}
-
-fn is_row(alloc: Global, row: &Row) -> Result<bool, anyhow::Error> {
-    let w = written_of(alloc, &row.language)?;
-    let flat = flat_of(alloc, &w)?;
-    reads::<Brand>(Blank::new(1), alloc, &w, &flat, row)
 }
 
 #[test]

@@ -1,4 +1,4 @@
 use Rattle.bench_drivers.proofs.read_tokens.Given as goal
 
-abbrev pub ghosts-run : goal.ghosts-run
-ghosts-run a = record { name = a.blank.name; parts = a.blank.parts }
+abbrev pub ghosts-run_with : goal.ghosts-run_with
+ghosts-run_with a = record { name = a.blank.name; parts = a.blank.parts }

@@ -1,4 +1,0 @@
-use Rattle.reading_tests.proofs.reports.is_row.Given as goal
-
-abbrev pub ghosts-reads : goal.ghosts-reads
-ghosts-reads a = record { name = a.blank.name; parts = a.blank.parts }
