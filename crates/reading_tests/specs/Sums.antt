@@ -1,6 +1,6 @@
 -- The two derivations of a sum of three operands, by the rules `E ::= E '+' E` and `E ::= N`.
 use Rattle.std.specs.Prelude.{ℕ, ◌+◌}
-use Rattle.grammar_model.specs.Trees.{Tree, Leaf, Node, NoChild, Child}
+use Rattle.grammar_model.specs.Trees.{Tree, Children, Leaf, Node, NoChild, Child}
 
 -- a number alone, where it stands
 abbrev pub operand : ℕ → Tree
