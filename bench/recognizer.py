@@ -1,18 +1,13 @@
 #!/usr/bin/env python3
-"""Times the recognizer on three grammars, and takes its greatest memory.
+"""Times the recognizer on seven grammars, and takes its greatest memory.
 
     bench/recognizer.py [--binary crates/bench_drivers/out/bench_drivers] [--rounds 5]
 
-Wanted are, with 1,000,000 tokens of a left recursion and of an unambiguous sum, at most 2 microseconds and 120 bytes a token, and
-with 400 operands of an ambiguous sum at most 100 nanoseconds for each try to add an item. The time is that of the fastest round, and
-the memory is that of the whole process, so that a few bytes a token are those of the program itself. The program has no way to ask its
-counter, so the numbers of items and of tries are sums over what each set has to hold; those of the items are compared.
-
-Measured, beside other work, on one processor of four:
-
-    left 1000000 tokens: 3000003 items, 0.245 us and 81.4 bytes a token
-    sum 1000000 tokens: 2000003 items, 0.218 us and 69.4 bytes a token
-    twice 400 operands: 241401 items, 10987803 tries, 10.8 ns a try
+Wanted are at most 45 bytes a token of a left recursion, 100 of a right recursion and of JSON, 40 of nested brackets; at most 0.4 microseconds a token of
+the left recursion and 1.0 of JSON; with 400 operands of an ambiguous sum at most 100 nanoseconds for each try to add an item; and at most 100 nanoseconds a
+place of one token that is 1,000,000 places long. The time is that of the fastest round, and the memory is that of the whole process, so that a few bytes a
+token are those of the program itself. The program has no way to ask its counter, so the numbers of items and of tries are sums over what each set has to
+hold; those of the items are compared where they are known.
 """
 import argparse, os, pathlib
 
@@ -21,8 +16,13 @@ OPERANDS = 400
 ITEMS = {
     "left": lambda n: 3 + 3 * n,
     "sum": lambda n: 3 + 3 * ((n + 1) // 2) + n // 2,
+    "right": lambda n: 3 + 5 * n,
+    "brackets": lambda n: 5 + 5 * n,
+    "long": lambda n: 4,
     "twice": lambda n: (3 * n * n + 7 * n + 2) // 2,
 }
+# How many tokens there are for a count.
+LENGTHS = {"json": lambda n: 14 * n + 1, "brackets": lambda n: 2 * n + 1}
 
 
 def tries_with(operands):
@@ -41,7 +41,7 @@ def run(binary, word, count):
     if status != 0:
         raise SystemExit(f"{word} {count}: status {os.waitstatus_to_exitcode(status)}")
     items = int(lines["items"])
-    if items != ITEMS[word](count):
+    if word in ITEMS and items != ITEMS[word](count):
         raise SystemExit(f"{word} {count}: {items} items, but {ITEMS[word](count)} are right")
     return int(lines["us"]), used.ru_maxrss * 1024, items
 
@@ -52,11 +52,14 @@ def main():
     options.add_argument("--binary", default=str(top / "crates/bench_drivers/out/bench_drivers"))
     options.add_argument("--rounds", type=int, default=5)
     options = options.parse_args()
-    for word in ["left", "sum"]:
-        for count in TOKENS:
+    for word, counts in [("left", TOKENS), ("right", TOKENS), ("sum", TOKENS), ("json", [20_000, 60_000]), ("brackets", [100_000, 500_000])]:
+        for count in counts:
             runs = [run(options.binary, word, count) for _ in range(options.rounds)]
             took, peak, items = min(runs)
-            print(f"{word} {count} tokens: {items} items, {took / count:.3f} us and {peak / count:.1f} bytes a token")
+            tokens = LENGTHS.get(word, lambda n: n)(count)
+            print(f"{word} {tokens} tokens: {items} items, {took / tokens:.3f} us and {peak / tokens:.1f} bytes a token")
+    took, peak, items = min(run(options.binary, "long", 1_000_000) for _ in range(options.rounds))
+    print(f"one token of 1000000 places: {items} items, {took / 1000:.1f} ns and {peak / 1_000_000:.1f} bytes a place")
     took, peak, items = min(run(options.binary, "twice", OPERANDS) for _ in range(options.rounds))
     tries = tries_with(OPERANDS)
     print(f"twice {OPERANDS} operands: {items} items, {tries} tries, {1000 * took / tries:.1f} ns a try, {peak} bytes")

@@ -1,4 +1,4 @@
-//! Drivers of single parts, for the clock. Reads so many tokens by one of five grammars, and prints the number of items of all sets;
+//! Drivers of single parts, for the clock. Reads so many tokens by one of seven grammars, and prints the number of items of all sets;
 //! or puts a list of so many numbers into a pool, and prints the length of its text. Several can be done in one run. With the
 //! word `time` behind them each prints how long it took; with the word `forest` the forest is built, too, and the number of its
 //! nodes and the time that this took are printed.
@@ -9,6 +9,8 @@
 //!     bench_drivers twice OPERANDS  E -> E '+' E | N
 //!     bench_drivers json OBJECTS    an array of objects
 //!     bench_drivers deep ARRAYS     arrays in arrays, by the same grammar
+//!     bench_drivers brackets DEPTH  B -> ( B ) | x
+//!     bench_drivers long PLACES     S -> a, with one token of so many places
 //!     bench_drivers values NUMBERS  a list in a pool
 #![tactic(auto)]
 
@@ -178,7 +180,7 @@ fn read_tokens(
     let word = Word::named(name)?;
     let written = written_of(rt.alloc(), &word.language())?;
     let flat = flat_of(rt.alloc(), &written)?;
-    let count = word.tokens(count);
+    let count = word.places(count);
     let outcome = run_with::<Brand>(rt, Blank::new(1), &written, &flat, word, count, builds)?;
     print(rt, outcome, timed)
 }

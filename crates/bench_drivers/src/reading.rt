@@ -34,6 +34,18 @@ const RIGHT: Language = Language {
     lines: &[(0, &[1, 0]), (0, &[1])],
 };
 
+// S -> a
+const ONE: Language = Language {
+    names: &["S", "a"],
+    lines: &[(0, &[1])],
+};
+
+// B -> ( B ) | x
+const BRACKETS: Language = Language {
+    names: &["B", "(", ")", "x"],
+    lines: &[(0, &[1, 0, 2]), (0, &[3])],
+};
+
 // Values, objects, members and elements of JSON.
 const JSON: Language = Language {
     names: &[
@@ -69,6 +81,15 @@ pub enum Word {
     Twice,
     Json,
     Deep,
+    Brackets,
+    Long,
+}
+
+// A token that begins at a place, and how many places long it is.
+#[derive(Clone, Copy)]
+struct Begun {
+    token: u32,
+    length: u32,
 }
 
 impl Word {
@@ -81,7 +102,9 @@ impl Word {
             "twice" => Ok(Word::Twice),
             "json" => Ok(Word::Json),
             "deep" => Ok(Word::Deep),
-            _ => bail!("left, right, sum, twice, json, deep or values is wanted"),
+            "brackets" => Ok(Word::Brackets),
+            "long" => Ok(Word::Long),
+            _ => bail!("left, right, sum, twice, json, deep, brackets, long or values is wanted"),
         }
     }
 
@@ -92,37 +115,56 @@ impl Word {
             Word::Sum => SUM,
             Word::Twice => TWICE,
             Word::Json | Word::Deep => JSON,
+            Word::Brackets => BRACKETS,
+            Word::Long => ONE,
         }
     }
 
-    /// How many tokens there are, for a count of tokens, of operands, of objects or of arrays.
-    pub fn tokens(self, count: u32) -> u32 {
+    /// How many places are gone over, for a count of tokens, of operands, of objects, of arrays, of brackets or of places.
+    pub fn places(self, count: u32) -> u32 {
         match self {
-            Word::Left | Word::Right | Word::Sum => count,
+            Word::Left | Word::Right | Word::Sum | Word::Long => count,
             Word::Twice => count.saturating_mul(2).saturating_sub(1),
             Word::Json => count.saturating_mul(14).saturating_add(1),
             Word::Deep => count.saturating_mul(2),
+            Word::Brackets => count.saturating_mul(2).saturating_add(1),
         }
     }
 
-    /// The token at a place, of so many.
-    pub fn token(self, k: u32, count: u32) -> u32 {
+    // The token at a place, of so many.
+    fn token(self, k: u32, count: u32) -> u32 {
         match self {
-            Word::Left | Word::Right => 1,
+            Word::Left | Word::Right | Word::Long => 1,
             Word::Sum | Word::Twice => 1 + k % 2,
             Word::Json if k == 0 => 10,
             Word::Json if k == count.saturating_sub(1) => 11,
             Word::Json => OBJECT[((k - 1) % 14) as usize],
             Word::Deep if k < count / 2 => 10,
             Word::Deep => 11,
+            Word::Brackets if k < count / 2 => 1,
+            Word::Brackets if k == count / 2 => 3,
+            Word::Brackets => 2,
+        }
+    }
+
+    // What begins at a place, of so many: a token of one place, or one of all places at the first of them.
+    fn begun(self, k: u32, count: u32) -> Option<Begun> {
+        let token = self.token(k, count);
+        match self {
+            Word::Long if k == 0 => Some(Begun {
+                token,
+                length: count,
+            }),
+            Word::Long => None,
+            _ => Some(Begun { token, length: 1 }),
         }
     }
 }
 
-/// Reads a token that is one place long.
-pub fn read<L: Ledger>(
+// Takes what begins at the place, and goes on to the next.
+fn read<L: Ledger>(
     recce: &mut Recce<'_>,
-    token: u32,
+    begun: Option<Begun>,
     steps: &mut Steps<L>,
 ) -> Result<(), anyhow::Error>
     ensures { recce.new.flat ≡ recce.old.flat }
@@ -130,12 +172,14 @@ pub fn read<L: Ledger>(
     if recce.place() >= MOST_PLACES {
         bail!("too many tokens");
     }
-    recce.alternative(SymbolId(token), 1)?;
+    if let Some(begun) = begun {
+        recce.alternative(SymbolId(begun.token), begun.length)?;
+    }
     recce.complete_earleme(steps)?;
     Ok(())
 }
 
-/// Reads so many tokens.
+/// Goes over so many places.
 pub fn read_all<L: Ledger>(
     recce: &mut Recce<'_>,
     word: Word,
@@ -145,7 +189,7 @@ pub fn read_all<L: Ledger>(
     ensures { recce.new.flat ≡ recce.old.flat }
 {
     for k in 0..count {
-        read(recce, word.token(k, count), steps)?;
+        read(recce, word.begun(k, count), steps)?;
     }
     Ok(())
 }
