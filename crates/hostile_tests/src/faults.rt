@@ -3,11 +3,11 @@ ghost use Rattle.std.specs.Prelude.{IfOk};
 ghost use Rattle.valuator.specs.Told.{states};
 ghost use Rattle.value_lines.specs.Writing.{AreBothTellers};
 
+use crate::runs::{ends, run_of};
 use grammar_core::RuleId;
 use run_scenes::{
     CHECKED, CHECKED_LINES, COUNTED, COUNTED_LINES, EXPECTED, EXPECTED_LINES, Ended, Given,
-    REPORTED, REPORTED_LINES, SUM, SUM_LINES, TREE_LINES, TREES, WORKED, WORKED_LINES, ends,
-    run_of, run_with,
+    REPORTED, REPORTED_LINES, SUM, SUM_LINES, TREE_LINES, TREES, WORKED, WORKED_LINES, run_with,
 };
 use std::alloc::{AllocError, Global};
 use std::cell::Cell;

@@ -5,3 +5,5 @@
 mod faults;
 #[cfg(test)]
 mod refused;
+#[cfg(test)]
+mod runs;

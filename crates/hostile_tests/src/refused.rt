@@ -1,7 +1,7 @@
 //! Words, grammars and inputs that are refused: the status and the line, and nothing on the standard output.
+use crate::runs::{asked, ends, run_of};
 use run_scenes::{
-    CHECKED, EXPECTED, Given, OPERATORS, REPORTED, SUM, SUMS, TREES, WORKED, WORKED_LINES, asked,
-    ends, run_of,
+    CHECKED, EXPECTED, Given, OPERATORS, REPORTED, SUM, SUMS, TREES, WORKED, WORKED_LINES,
 };
 use std::alloc::{AllocError, Global};
 use std::test::Fail;

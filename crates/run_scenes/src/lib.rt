@@ -1,7 +1,7 @@
 //! Whole runs over forms in memory, for tests: what they are given, and how they end.
 #![tactic(auto)]
 
-ghost use Rattle.std.specs.Prelude.{◌≡◌, ◌<◌, IfOk};
+ghost use Rattle.std.specs.Prelude.{◌≡◌, ◌<◌};
 ghost use Rattle.valuator.specs.Told.{states};
 ghost use Rattle.value_lines.specs.Writing.{AreBothTellers};
 
@@ -10,7 +10,7 @@ use slif_cli::run;
 use std::alloc::{AllocError, Global};
 use std::marker::Brand;
 use std::sync::ledger::{Blank, Ledger};
-use valuator::{ArrayTeller, Teller, TreeTeller};
+use valuator::Teller;
 
 /// What a run is given: its words, the texts of the files g.slif and i.txt, the input, and the calls that fail.
 #[derive(Clone, Copy)]
@@ -210,37 +210,4 @@ pub fn run_with(
     let mut scene = scene_of(alloc, given)?;
     let status = status_of::<Brand>(Blank::new(1), alloc, &mut scene, tellers);
     Ok(Ended { status, scene })
-}
-
-/// A teller of each kind.
-pub fn both_tellers(alloc: Global) -> Result<Vec<Box<dyn Teller>>, AllocError>
-    ensures { IfOk result (λ tellers. AreBothTellers (states tellers.items shows held)) }
-{
-    let array: Box<dyn Teller> = Box::new(alloc, ArrayTeller::new(alloc))?;
-    let tree: Box<dyn Teller> = Box::new(alloc, TreeTeller::new(alloc))?;
-    let mut tellers = Vec::new(alloc);
-    tellers.push(array)?;
-    tellers.push(tree)?;
-    Ok(tellers)
-}
-
-pub fn run_of(alloc: Global, given: &Given<'_>) -> Result<Ended, AllocError> {
-    run_with(alloc, given, both_tellers(alloc)?)
-}
-
-/// How many names of files a run asks for.
-pub fn asked(alloc: Global, given: &Given<'_>) -> Result<usize, AllocError> {
-    Ok(run_of(alloc, given)?.asked())
-}
-
-/// Whether a run ends so.
-pub fn ends(
-    alloc: Global,
-    given: &Given<'_>,
-    status: u8,
-    out: &[u8],
-    err: &[u8],
-) -> Result<bool, AllocError> {
-    let end = run_of(alloc, given)?;
-    Ok(end.status == status && end.out() == out && end.err() == err)
 }

@@ -1,5 +1,6 @@
 //! The examples, with what they give.
-use run_scenes::{Given, SUM, ends};
+use crate::runs::ends;
+use run_scenes::{Given, SUM};
 use std::test::Fail;
 
 const SUM_GRAMMAR: &[u8] = br#"E ::= E '+' E | '1'

@@ -4,6 +4,8 @@
 #[cfg(test)]
 mod examples;
 #[cfg(test)]
+mod runs;
+#[cfg(test)]
 mod told;
 #[cfg(test)]
 mod words;

@@ -1,8 +1,8 @@
 //! Runs that end well: what each job tells.
+use crate::runs::{ends, run_of};
 use run_scenes::{
     CHECKED, CHECKED_LINES, COUNTED, COUNTED_LINES, EXPECTED, EXPECTED_LINES, Given, OPERATORS,
-    REPORTED, REPORTED_LINES, SUM, SUM_LINES, SUMS, TREE_LINES, TREES, WORKED, WORKED_LINES, ends,
-    run_of,
+    REPORTED, REPORTED_LINES, SUM, SUM_LINES, SUMS, TREE_LINES, TREES, WORKED, WORKED_LINES,
 };
 use std::test::Fail;
 

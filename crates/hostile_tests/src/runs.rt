@@ -1,0 +1,41 @@
+//! Runs with a teller of each kind. A library may not hand out tellers of its own making, so each crate of tests has them here.
+ghost use Rattle.std.specs.Prelude.{IfOk};
+ghost use Rattle.valuator.specs.Told.{states};
+ghost use Rattle.value_lines.specs.Writing.{AreBothTellers};
+
+use run_scenes::{Ended, Given, run_with};
+use std::alloc::{AllocError, Global};
+use valuator::{ArrayTeller, Teller, TreeTeller};
+
+// A teller of each kind.
+fn both_tellers(alloc: Global) -> Result<Vec<Box<dyn Teller>>, AllocError>
+    ensures { IfOk result (λ tellers. AreBothTellers (states tellers.items shows held)) }
+{
+    let array: Box<dyn Teller> = Box::new(alloc, ArrayTeller::new(alloc))?;
+    let tree: Box<dyn Teller> = Box::new(alloc, TreeTeller::new(alloc))?;
+    let mut tellers = Vec::new(alloc);
+    tellers.push(array)?;
+    tellers.push(tree)?;
+    Ok(tellers)
+}
+
+pub fn run_of(alloc: Global, given: &Given<'_>) -> Result<Ended, AllocError> {
+    run_with(alloc, given, both_tellers(alloc)?)
+}
+
+/// How many names of files a run asks for.
+pub fn asked(alloc: Global, given: &Given<'_>) -> Result<usize, AllocError> {
+    Ok(run_of(alloc, given)?.asked())
+}
+
+/// Whether a run ends so.
+pub fn ends(
+    alloc: Global,
+    given: &Given<'_>,
+    status: u8,
+    out: &[u8],
+    err: &[u8],
+) -> Result<bool, AllocError> {
+    let end = run_of(alloc, given)?;
+    Ok(end.status == status && end.out() == out && end.err() == err)
+}
