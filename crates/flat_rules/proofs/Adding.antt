@@ -15,7 +15,8 @@ use Rattle.grammar_model.specs.Grammar.{WrittenRule}
 use Rattle.recognizer_model.specs.declared.flat.FlatSymbol.TheVariants.{Sequence, Top}
 use Rattle.recognizer_model.proofs.FlatNamed.{map_at, map_length, get_index}
 use Rattle.flat_rules.specs.Tables.{Numbering, number_in}
-use Rattle.flat_rules.specs.Added.{Adds, AreAll, most_rules, rule_by, part_in, longer_by, has_separator_rule}
+use Rattle.flat_rules.specs.Added.{Adds, AreAll, rule_by, part_in, longer_by, has_separator_rule}
+use Rattle.flat_model.specs.Flattened.{most_rules}
 use Rattle.flat_rules.proofs.FlatOf.{numbers_length, numbers_at}
 use Rattle.flat_rules.proofs.Rows.{numbers_next, append_none}
 

@@ -14,11 +14,12 @@ use Rattle.recognizer_model.specs.Flat.{FlatRule}
 use Rattle.recognizer_model.specs.declared.flat.FlatSymbol.{FlatSymbol}
 use Rattle.recognizer_model.specs.declared.flat.FlatSymbol.TheVariants.{Terminal, Slot, Sequence, Top}
 use Rattle.recognizer_model.specs.FlatForm.{IsUsedSlot, IsSymbolOf, NamedRule}
-use Rattle.flat_rules.specs.Flatten
-use Rattle.flat_rules.specs.Flatten.{Decided, levels_of}
+use Rattle.flat_model.specs.Flatten
+use Rattle.flat_model.specs.Flatten.{Decided, levels_of}
 use Rattle.flat_rules.specs.Tables.{Numbering, number_in, numbered_in, place_of, slot_at, same_slot, slots_of_terminals, slots_of_lefts, lists_to, AreNumbers}
-use Rattle.flat_rules.specs.Added.{from_symbols, AreAll, most_rules}
-use Rattle.flat_rules.specs.Flattened.{HasTooMany}
+use Rattle.flat_rules.specs.Added.{from_symbols, AreAll}
+use Rattle.flat_model.specs.Flattened.{most_rules}
+use Rattle.flat_model.specs.Flattened.{HasTooMany}
 use Rattle.flat_rules.specs.declared.refusal.FlatRefusal.{FlatRefusal}
 use Rattle.flat_rules.specs.declared.refusal.FlatRefusal.TheVariants.{TooManyRules}
 use Rattle.std.specs.Result.{IsErrAnd, IfErr}

@@ -8,8 +8,8 @@ use Rattle.recognizer_model.specs.declared.flat.FlatSymbol.{FlatSymbol}
 use Rattle.recognizer_model.specs.declared.flat.FlatSymbol.TheVariants.{Terminal}
 use Rattle.recognizer_model.specs.FlatForm.{NamedRule}
 use Rattle.recognizer_model.proofs.FlatNamed.{get_index, index_get, among_at, at_among}
-use Rattle.flat_rules.specs.Flatten
-use Rattle.flat_rules.specs.Flatten.{Decided}
+use Rattle.flat_model.specs.Flatten
+use Rattle.flat_model.specs.Flatten.{Decided}
 use Rattle.flat_rules.proofs.Symbols.{symbol_in}
 use Rattle.flat_rules.proofs.Rules.{rule_in}
 use Rattle.flat_rules.proofs.FlatOf.{no_named, rules_length}

@@ -10,8 +10,8 @@ use Rattle.grammar_core.specs.Written.{IsWritten}
 use Rattle.grammar_check.specs.Tested.{HasTests}
 use Rattle.recognizer_model.specs.FlatForm.{IsSymbolOf}
 use Rattle.recognizer_model.specs.declared.flat.FlatSymbol.TheVariants.{Terminal, Slot}
-use Rattle.flat_rules.specs.Flatten
-use Rattle.flat_rules.specs.Flatten.{Decided, levels_of}
+use Rattle.flat_model.specs.Flatten
+use Rattle.flat_model.specs.Flatten.{Decided, levels_of}
 use Rattle.flat_rules.specs.declared.numbering.SlotKey.{SlotKey}
 use Rattle.flat_rules.specs.Tables.{told_slot, slot_at, slots_of_terminals, slots_of_lefts}
 use Rattle.flat_rules.proofs.Once.{Once, once_pairs, among_filter_from}

@@ -15,8 +15,8 @@ use Rattle.recognizer_model.specs.declared.flat.FlatSource.TheVariants.{Top as O
 use Rattle.recognizer_model.specs.FlatForm.{IsSymbolOf, NamedRule, IsRuleOf, symbol_at, named, SpansNothing, IsFlatOf}
 use Rattle.recognizer_model.specs.Counts.{IsListOf}
 use Rattle.recognizer_model.proofs.FlatNamed.{get_index, index_get, map_at, map_length, among_at}
-use Rattle.flat_rules.specs.Flatten
-use Rattle.flat_rules.specs.Flatten.{Decided}
+use Rattle.flat_model.specs.Flatten
+use Rattle.flat_model.specs.Flatten.{Decided}
 use Rattle.flat_rules.proofs.Once.{listed}
 use Rattle.flat_rules.proofs.Symbols.{symbol_in, in_symbols, symbols_listed}
 use Rattle.flat_rules.proofs.Rules.{named_in}

@@ -6,13 +6,13 @@ use Rattle.grammar_model.specs.Checked.{IsChecked}
 use Rattle.recognizer_model.specs.Flat.{FlatGrammar, IsRule, lhs_of, rhs_of, part_of}
 use Rattle.recognizer_model.specs.FlatForm.{NamedRule, IsRuleOf, OfPlain, OfList, OfTrailing, OfItem, OfItems, OfSeparated, OfTop}
 use Rattle.recognizer_model.proofs.FlatNamed.{map_length}
-use Rattle.flat_rules.specs.Flatten
-use Rattle.flat_rules.specs.Flatten.{Decided}
+use Rattle.flat_model.specs.Flatten
+use Rattle.flat_model.specs.Flatten.{Decided}
 use Rattle.flat_rules.proofs.Symbols.{in_symbols}
 use Rattle.flat_rules.proofs.Numbered.{numbered_in}
 use Rattle.flat_rules.proofs.FlatOf.{is_flat_of}
 use Rattle.recognizer_model.specs.Invariant.{IsFlat, IsInRange}
-use Rattle.flat_rules.specs.Flatten.{AreFew, FlatGrammarsExist}
+use Rattle.flat_model.specs.Flatten.{AreFew, FlatGrammarsExist}
 use Rattle.flat_rules.proofs.Named.{name_of, is_rule, left_in, lhs_is, rhs_is, part_is, differ, part_in}
 use Rattle.flat_rules.proofs.Ranges.{no_rules, some, sources, tops, all_tops}
 use Rattle.flat_rules.proofs.Heights.{marks, terminals_span, lists_span, heights}

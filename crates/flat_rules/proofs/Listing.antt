@@ -16,8 +16,8 @@ use Rattle.grammar_model.proofs.Simple.{terminal_from, no_terminal_from, is_term
 use Rattle.grammar_model.proofs.Lists.{Among, contains_from}
 use Rattle.grammar_core.specs.Written.{IsWritten}
 use Rattle.recognizer_model.specs.FlatForm.{IsUsedSlot}
-use Rattle.flat_rules.specs.Flatten
-use Rattle.flat_rules.specs.Flatten.{Decided, levels_of}
+use Rattle.flat_model.specs.Flatten
+use Rattle.flat_model.specs.Flatten.{Decided, levels_of}
 use Rattle.flat_rules.specs.declared.numbering.SlotKey.{SlotKey}
 use Rattle.flat_rules.specs.Tables.{rules_with, is_sequence_rule, AreLive, told_slot, slot_at, same_slot, place_of, slots_of_terminals, slots_of_lefts}
 use Rattle.flat_rules.proofs.Once.{among_filter, among_filter_from, among_numbers, among_numbers_from}

@@ -8,8 +8,8 @@ use Rattle.grammar_model.specs.Analysis.{IsNullable, IsProductive, LeadsTo}
 use Rattle.grammar_model.specs.Cycles.{HasHeights}
 use Rattle.grammar_model.specs.Checked.{IsChecked, IsLeft, IsAloneAt, IsDuplicate, IsCountedNullable}
 use Rattle.grammar_model.proofs.Cycles.{no_cycle}
-use Rattle.flat_rules.specs.Flatten.{AreFew, flat_of}
-use Rattle.flat_rules.specs.Lists.{lists, ListsHaveFlatGrammar}
+use Rattle.flat_model.specs.Flatten.{AreFew, flat_of}
+use Rattle.flat_model.specs.Lists.{lists, ListsHaveFlatGrammar}
 use Rattle.flat_rules.proofs.ListsDecided.{at, nullable_is, productive_to, decided}
 use Rattle.flat_rules.proofs.Law.{flat_grammars_exist}
 

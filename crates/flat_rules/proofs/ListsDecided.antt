@@ -7,8 +7,8 @@ use Rattle.grammar_model.specs.Grammar
 use Rattle.grammar_model.specs.Analysis.{IsNullable, IsNullableIn, IsProductive, IsProductiveIn, IsAccessible, IsAccessibleIn, IsLive, IsStar}
 use Rattle.grammar_model.proofs.Total.{nullable_not_terminal}
 use Rattle.recognizer_model.specs.FlatForm.{IsUsedSlot}
-use Rattle.flat_rules.specs.Flatten.{Decided}
-use Rattle.flat_rules.specs.Lists.{lists}
+use Rattle.flat_model.specs.Flatten.{Decided}
+use Rattle.flat_model.specs.Lists.{lists}
 
 abbrev pub at : (symbol level : ℕ) → Grammar.Slot
 at s k = record { symbol = s; level = k }

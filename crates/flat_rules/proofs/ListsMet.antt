@@ -15,7 +15,7 @@ use Rattle.recognizer_model.specs.View.{grammar_view}
 use Rattle.recognizer_model.specs.Acceptable.{IsTerminal}
 use Rattle.recognizer_model.specs.FlatForm.{FlatEdges, IsFlatForm, FlatGrammarsAreFlatForms, AcceptableAreFlat, ListsExist}
 use Rattle.recognizer_model.specs.Laws.{AreTokens, IsSound, HasEarleyLaws, EarleyLawsHold}
-use Rattle.flat_rules.specs.Lists.{lists, flat_lists}
+use Rattle.flat_model.specs.Lists.{lists, flat_lists}
 use Rattle.flat_rules.proofs.ListsChecked.{checked, lists_have_flat_grammar}
 
 -- the symbols one after another

@@ -10,8 +10,8 @@ use Rattle.recognizer_model.specs.declared.flat.FlatSymbol.{FlatSymbol}
 use Rattle.recognizer_model.specs.declared.flat.FlatSymbol.TheVariants.{Top}
 use Rattle.recognizer_model.specs.FlatForm.{IsSymbolOf, NamedRule, IsRuleOf, SpansNothing}
 use Rattle.recognizer_model.proofs.FlatNamed.{get_index, index_get, among_at, at_among, one_place}
-use Rattle.flat_rules.specs.Flatten
-use Rattle.flat_rules.specs.Flatten.{Decided}
+use Rattle.flat_model.specs.Flatten
+use Rattle.flat_model.specs.Flatten.{Decided}
 use Rattle.flat_rules.proofs.Once.{once_pairs}
 use Rattle.flat_rules.proofs.Symbols.{symbol_in, in_symbols, once_symbols}
 use Rattle.flat_rules.proofs.Rules.{named_in}

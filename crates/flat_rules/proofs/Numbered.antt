@@ -8,8 +8,8 @@ use Rattle.recognizer_model.specs.Flat.{FlatGrammar}
 use Rattle.recognizer_model.specs.declared.flat.FlatSymbol.{FlatSymbol}
 use Rattle.recognizer_model.specs.declared.flat.FlatSymbol.TheVariants.{Terminal, Slot, Sequence, Top}
 use Rattle.recognizer_model.specs.FlatForm.{NamedRule, symbol_at, named}
-use Rattle.flat_rules.specs.Flatten
-use Rattle.flat_rules.specs.Flatten.{Decided, same_symbol, place_in}
+use Rattle.flat_model.specs.Flatten
+use Rattle.flat_model.specs.Flatten.{Decided, same_symbol, place_in}
 use Rattle.flat_rules.proofs.Symbols.{both, both_from}
 
 same_from : (x s : FlatSymbol) → same_symbol x s ≡ true → x ≡ s

@@ -11,8 +11,8 @@ use Rattle.recognizer_model.specs.declared.flat.FlatSymbol.TheVariants.{Terminal
 use Rattle.recognizer_model.specs.declared.flat.FlatSource.TheVariants.{Top as OfStart}
 use Rattle.recognizer_model.specs.FlatForm.{IsSymbolOf, Stands, AsTerminal, AsSlot, StandAll, NamedRule, IsRuleOf, OfPlain, OfList, OfTrailing, OfItem, OfItems, OfSeparated, OfTop, symbol_at}
 use Rattle.recognizer_model.proofs.FlatNamed.{map_length, stand_one}
-use Rattle.flat_rules.specs.Flatten
-use Rattle.flat_rules.specs.Flatten.{Decided}
+use Rattle.flat_model.specs.Flatten
+use Rattle.flat_model.specs.Flatten.{Decided}
 use Rattle.flat_rules.proofs.Symbols.{in_symbols}
 use Rattle.flat_rules.proofs.Numbered.{told_back}
 use Rattle.flat_rules.proofs.Parts.{parts_are}

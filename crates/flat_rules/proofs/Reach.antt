@@ -13,8 +13,8 @@ use Rattle.recognizer_model.specs.declared.flat.FlatSymbol.TheVariants.{Terminal
 use Rattle.recognizer_model.specs.declared.flat.FlatSource.TheVariants.{Written, Top as OfStart}
 use Rattle.recognizer_model.specs.FlatForm.{IsUsedSlot, IsSymbolOf, Stands, AsTerminal, AsSlot, StandAll, NamedRule, IsRuleOf, OfPlain, OfList, OfItem, OfSeparated, OfTop}
 use Rattle.recognizer_model.proofs.FlatNamed.{get_index, index_get, map_length, stand_one}
-use Rattle.flat_rules.specs.Flatten
-use Rattle.flat_rules.specs.Flatten.{Decided}
+use Rattle.flat_model.specs.Flatten
+use Rattle.flat_model.specs.Flatten.{Decided}
 use Rattle.flat_rules.proofs.Parts.{child_used, start_used}
 use Rattle.std.proofs.lemmas.Bool.{cases_lt}
 use Rattle.grammar_model.proofs.Productive.{nullable_by, item_first}

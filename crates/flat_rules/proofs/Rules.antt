@@ -15,8 +15,8 @@ use Rattle.recognizer_model.specs.declared.flat.FlatSource.{FlatSource}
 use Rattle.recognizer_model.specs.declared.flat.FlatSource.TheVariants.{Written, Top as OfStart}
 use Rattle.recognizer_model.specs.FlatForm.{IsUsedSlot, IsSymbolOf, Stands, AsTerminal, AsSlot, StandAll, NamedRule, IsRuleOf, OfPlain, OfList, OfTrailing, OfItem, OfItems, OfSeparated, OfTop}
 use Rattle.recognizer_model.proofs.FlatNamed.{index_get}
-use Rattle.flat_rules.specs.Flatten
-use Rattle.flat_rules.specs.Flatten.{Decided}
+use Rattle.flat_model.specs.Flatten
+use Rattle.flat_model.specs.Flatten.{Decided}
 use Rattle.flat_rules.proofs.Once.{Once, among_numbers, among_numbers_from}
 use Rattle.flat_rules.proofs.Symbols.{both, both_from, symbol_in}
 

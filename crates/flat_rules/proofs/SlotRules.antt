@@ -12,8 +12,8 @@ use Rattle.recognizer_model.specs.declared.flat.FlatSymbol.{FlatSymbol}
 use Rattle.recognizer_model.specs.declared.flat.FlatSymbol.TheVariants.{Slot, Sequence}
 use Rattle.recognizer_model.specs.declared.flat.FlatSource.TheVariants.{Written}
 use Rattle.recognizer_model.specs.FlatForm.{NamedRule}
-use Rattle.flat_rules.specs.Flatten
-use Rattle.flat_rules.specs.Flatten.{Decided}
+use Rattle.flat_model.specs.Flatten
+use Rattle.flat_model.specs.Flatten.{Decided}
 use Rattle.flat_rules.specs.Tables.{Numbering, number_in, numbered_in, place_of, slot_at, AreLive, is_sequence_rule}
 use Rattle.flat_rules.specs.Added.{rule_by, part_in, parts_in, plain_by, lists_by, from_rule, is_proper_rule, separator_counts, counts_separator}
 use Rattle.flat_rules.proofs.Deciding.{terminal_symbol, left_symbol}

@@ -11,8 +11,8 @@ use Rattle.grammar_model.proofs.Lists.{Among}
 use Rattle.recognizer_model.specs.declared.flat.FlatSymbol.{FlatSymbol}
 use Rattle.recognizer_model.specs.declared.flat.FlatSymbol.TheVariants.{Terminal, Slot, Sequence, Top}
 use Rattle.recognizer_model.proofs.FlatNamed.{among_at, get_index}
-use Rattle.flat_rules.specs.Flatten
-use Rattle.flat_rules.specs.Flatten.{Decided}
+use Rattle.flat_model.specs.Flatten
+use Rattle.flat_model.specs.Flatten.{Decided}
 use Rattle.flat_rules.specs.Tables.{Numbering, number_in, numbered_in, place_of, is_sequence_rule, rules_with, lists_to, rows_of, AreLefts, slots_of_terminals, slots_of_lefts}
 use Rattle.flat_rules.specs.Added.{rule_by, part_in, items_by, top_by, from_rule, from_rules, separator_counts, counts_separator}
 use Rattle.flat_rules.proofs.Once.{among_filter_from, among_numbers_from}

@@ -13,8 +13,8 @@ use Rattle.recognizer_model.specs.declared.flat.FlatSymbol.{FlatSymbol}
 use Rattle.recognizer_model.specs.declared.flat.FlatSymbol.TheVariants.{Terminal, Slot, Sequence, Top}
 use Rattle.recognizer_model.specs.FlatForm.{IsUsedSlot, IsSymbolOf}
 use Rattle.recognizer_model.specs.Counts.{IsListOf}
-use Rattle.flat_rules.specs.Flatten
-use Rattle.flat_rules.specs.Flatten.{Decided}
+use Rattle.flat_model.specs.Flatten
+use Rattle.flat_model.specs.Flatten.{Decided}
 use Rattle.flat_rules.proofs.Once.{Once, listed, once_append, once_map, once_flat_map, once_filter, among_filter, among_filter_from, among_numbers, among_numbers_from, once_numbers}
 
 -- ---- two tests

@@ -13,8 +13,8 @@ use Rattle.recognizer_model.specs.declared.flat.FlatSymbol.TheVariants.{Terminal
 use Rattle.recognizer_model.specs.declared.flat.FlatSource.TheVariants.{Written, Top as OfStart}
 use Rattle.recognizer_model.specs.FlatForm.{IsUsedSlot, IsSymbolOf, Stands, StandAll, NamedRule, IsRuleOf, OfPlain, OfList, OfTrailing, OfItem, OfItems, OfSeparated, OfTop}
 use Rattle.recognizer_model.proofs.FlatNamed.{stand_one, all_one, get_index}
-use Rattle.flat_rules.specs.Flatten
-use Rattle.flat_rules.specs.Flatten.{Decided}
+use Rattle.flat_model.specs.Flatten
+use Rattle.flat_model.specs.Flatten.{Decided}
 use Rattle.flat_rules.proofs.Once.{Once, once_append, once_flat_map, among_numbers, among_numbers_from, once_numbers}
 use Rattle.flat_rules.proofs.Symbols.{both, symbol_in, in_symbols, once_symbols, sequence_of}
 use Rattle.flat_rules.proofs.Rules.{if_among, once_if, index_of, stand, parts_stand, parts_length, from_live, live_from, plain_made, list_made, trailing_made, item_made, items_made, separated_made, slot_rule_in, longer_in, rule_in}

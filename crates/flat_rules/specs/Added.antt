@@ -7,16 +7,13 @@ use Rattle.recognizer_model.specs.Flat.{FlatRule}
 use Rattle.recognizer_model.specs.declared.flat.FlatSource.TheVariants.{Written, Top as OfStart}
 use Rattle.flat_rules.specs.declared.refusal.FlatRefusal.{FlatRefusal}
 use Rattle.flat_rules.specs.declared.refusal.FlatRefusal.TheVariants.{TooManyRules, NoMemory}
-use Rattle.flat_rules.specs.Flatten.{Decided, slot_rules, rules_of}
+use Rattle.flat_model.specs.Flatten.{Decided, slot_rules, rules_of}
 use Rattle.recognizer_model.specs.declared.flat.FlatSymbol.{FlatSymbol}
 use Rattle.std.specs.List.{flat_map}
 use Rattle.std.specs.declared.vec.Vec.{Vec}
 use Rattle.std.specs.declared.alloc.Global.{Global}
 use Rattle.flat_rules.specs.Tables.{Numbering, number_in, numbered_in, place_of}
 use Rattle.recognizer_model.specs.declared.flat.FlatSymbol.TheVariants.{Sequence, Top}
-
-abbrev pub most_rules : ℕ
-most_rules = 65536
 
 -- these were added, or there would be too many, want of memory aside
 abbrev pub Adds : {T : Type 0} → List FlatRule → List FlatRule → List FlatRule → Result T FlatRefusal → Type 0

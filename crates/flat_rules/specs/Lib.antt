@@ -1,5 +1,2 @@
-pub mod Flatten
-pub mod Lists
 pub mod Tables
 pub mod Added
-pub mod Flattened

@@ -12,7 +12,7 @@ use Rattle.recognizer_model.specs.declared.flat.FlatSymbol.{FlatSymbol}
 use Rattle.recognizer_model.specs.declared.flat.FlatSymbol.TheVariants.{Terminal, Slot, Sequence, Top}
 use Rattle.recognizer_model.specs.FlatForm.{NamedRule}
 use Rattle.flat_rules.specs.declared.numbering.SlotKey.{SlotKey}
-use Rattle.flat_rules.specs.Flatten.{Decided, levels_of, makes_list}
+use Rattle.flat_model.specs.Flatten.{Decided, levels_of, makes_list}
 
 -- RULES
 

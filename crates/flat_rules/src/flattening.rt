@@ -4,10 +4,11 @@ ghost use Rattle.grammar_model.specs.Grammar.{Plain, rule_at, lhs_of, slot_of};
 ghost use Rattle.grammar_model.specs.Simple.{numbers};
 ghost use Rattle.recognizer_model.specs.declared.flat.FlatSymbol.TheVariants.{Terminal, Slot, Sequence, Top};
 ghost use Rattle.flat_rules.specs.declared.refusal.FlatRefusal.TheVariants.{TooManyRules};
-ghost use Rattle.flat_rules.specs.Flatten.{Decided, symbol_for, is_marked, flat_of, symbols as symbols_of};
+ghost use Rattle.flat_model.specs.Flatten.{Decided, symbol_for, is_marked, flat_of, symbols as symbols_of};
 ghost use Rattle.flat_rules.specs.Tables.{rows_of, row_at, AreLefts, AreLive, AreNumbers, told_slot};
-ghost use Rattle.flat_rules.specs.Flattened.{IsFlattened, HasTooMany};
-ghost use Rattle.flat_rules.specs.Added.{Adds, AreAll, most_rules, from_rules, from_symbols, top_by};
+ghost use Rattle.flat_model.specs.Flattened.{IsFlattened, HasTooMany};
+ghost use Rattle.flat_rules.specs.Added.{Adds, AreAll, from_rules, from_symbols, top_by};
+ghost use Rattle.flat_model.specs.Flattened.{most_rules};
 
 use crate::FlatRefusal;
 use crate::lefts::{live_rules, rules_by_left};

@@ -8,8 +8,8 @@ mod numbering;
 mod pushing;
 mod refusal;
 
-ghost use Rattle.flat_rules.specs.Flatten.{FlatGrammarsExist};
-ghost use Rattle.flat_rules.specs.Lists.{ListsHaveFlatGrammar};
+ghost use Rattle.flat_model.specs.Flatten.{FlatGrammarsExist};
+ghost use Rattle.flat_model.specs.Lists.{ListsHaveFlatGrammar};
 
 pub use flattening::flatten;
 pub use refusal::FlatRefusal;

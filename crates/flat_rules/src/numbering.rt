@@ -4,7 +4,7 @@ ghost use Rattle.std.specs.List.{AllPairs};
 ghost use Rattle.grammar_model.specs.Grammar.{Slot, rule_at, level_of, slot_of};
 ghost use Rattle.grammar_model.specs.Simple.{is_terminal, numbers};
 ghost use Rattle.recognizer_model.specs.declared.flat.FlatSymbol.TheVariants.{Sequence, Top};
-ghost use Rattle.flat_rules.specs.Flatten.{Decided, makes_list};
+ghost use Rattle.flat_model.specs.Flatten.{Decided, makes_list};
 ghost use Rattle.flat_rules.specs.Tables.{rows_of, is_sequence_rule, AreLefts, AreLive, told_slot, slot_at, place_of, slots_of_terminals, slots_of_lefts, lists_to, number_in, AreNumbers};
 
 use crate::lefts::{is_used, left_of};

@@ -4,7 +4,7 @@ ghost use Rattle.std.specs.List.{flat_map};
 ghost use Rattle.grammar_model.specs.Grammar.{Plain, rule_at, lhs_of, level_of, slot_count, slot_of};
 ghost use Rattle.grammar_model.specs.Simple.{part_count};
 ghost use Rattle.recognizer_model.specs.declared.flat.FlatSymbol.TheVariants.{Sequence};
-ghost use Rattle.flat_rules.specs.Flatten.{Decided, is_live};
+ghost use Rattle.flat_model.specs.Flatten.{Decided, is_live};
 ghost use Rattle.flat_rules.specs.Tables.{Numbering, AreLive, AreNumbers, is_sequence_rule, number_in, numbered_in, place_of, slot_at, told_slot};
 ghost use Rattle.flat_rules.specs.Added.{Adds, rule_by, part_in, parts_in, plain_by, lists_by, longer_by, items_by, from_rule, has_separator_rule, is_proper_rule, counts_separator};
 

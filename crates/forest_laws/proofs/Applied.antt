@@ -12,7 +12,7 @@ use Rattle.recognizer_model.specs.FlatForm.{FlatEdges, tree_of}
 use Rattle.recognizer_model.specs.FlatDerives
 use Rattle.recognizer_model.specs.FlatDerives.{Spans, Token, Rule, More}
 use Rattle.recognizer_model.proofs.FlatFormLaw.{flat_form}
-use Rattle.flat_rules.specs.Lists.{lists, flat_lists}
+use Rattle.flat_model.specs.Lists.{lists, flat_lists}
 use Rattle.flat_rules.proofs.ListsChecked.{lists_have_flat_grammar}
 use Rattle.forest_model.specs.Forest.{IsDerived}
 use Rattle.forest_laws.specs.Laws.{with_nodes}

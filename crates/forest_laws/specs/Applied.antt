@@ -4,7 +4,7 @@ use Rattle.grammar_model.specs.declared.Edge.{Edge}
 use Rattle.grammar_model.specs.Trees.{Tree, Leaf, Node, NoChild, Child}
 use Rattle.grammar_model.specs.declared.Ranking.TheVariants.{None as NoRanks}
 use Rattle.grammar_model.specs.Order.{rank_order, Before}
-use Rattle.flat_rules.specs.Lists.{lists, flat_lists}
+use Rattle.flat_model.specs.Lists.{lists, flat_lists}
 use Rattle.forest_model.specs.Forest.{ForestNode, Forest, IsDerived, IsForest}
 use Rattle.forest_laws.specs.Lists.{Lists, trees_by}
 use Rattle.forest_laws.specs.Laws.{AreAllLists, with_nodes}
@@ -40,4 +40,4 @@ pub record ForestsApply : Type 0 where
   pub all : AreAllLists (with_nodes reading nodes root) lists
   pub has_two : Contains (trees_by (with_nodes reading nodes root) lists) two_lists
   pub has_one : Contains (trees_by (with_nodes reading nodes root) lists) one_list
-  pub before : Before (rank_order Rattle.flat_rules.specs.Lists.lists NoRanks) two_lists one_list
+  pub before : Before (rank_order Rattle.flat_model.specs.Lists.lists NoRanks) two_lists one_list

@@ -10,9 +10,9 @@ use Rattle.grammar_model.specs.Derives.{Held}
 use Rattle.recognizer_model.specs.Flat.{FlatGrammar}
 use Rattle.recognizer_model.specs.FlatForm.{IsRuleOf, named}
 use Rattle.recognizer_model.specs.Counts.{IsCountOf}
-use Rattle.flat_rules.specs.Flattened.{IsFlattened, HasTooMany}
-use Rattle.flat_rules.specs.Flatten.{flat_of}
-use Rattle.flat_rules.specs.Lists.{lists, flat_lists}
+use Rattle.flat_model.specs.Flattened.{IsFlattened, HasTooMany}
+use Rattle.flat_model.specs.Flatten.{flat_of}
+use Rattle.flat_model.specs.Lists.{lists, flat_lists}
 use Rattle.flat_rules.proofs.ListsChecked.{lists_have_flat_grammar}
 use Rattle.grammar_check.proofs.Uniqueness.{not_refused}
 use Rattle.grammar_laws.specs.Laws.{GoForward, Told}

@@ -3,7 +3,7 @@ use Rattle.std.proofs.Common.{arith, ◌≡◌, inl, inr, ℕ, suc, ◌+◌, ◌
 use Rattle.grammar_model.specs.Grammar.{Slot}
 use Rattle.recognizer_model.specs.FlatForm.{IsRuleOf}
 use Rattle.recognizer_model.specs.Counts.{IsListOf, IsCountOf}
-use Rattle.flat_rules.specs.Flatten.{named_rules}
+use Rattle.flat_model.specs.Flatten.{named_rules}
 use Rattle.flat_rules.proofs.Once.{listed}
 use Rattle.flat_rules.proofs.Rules.{named_in}
 use Rattle.flat_rules.proofs.Whole.{in_named, once_named}

@@ -13,10 +13,10 @@ use Rattle.recognizer_model.specs.FlatForm.{NamedRule, IsUsedSlot}
 use Rattle.recognizer_model.specs.declared.flat.FlatSymbol.{FlatSymbol}
 use Rattle.recognizer_model.specs.declared.flat.FlatSymbol.TheVariants.{Terminal, Slot, Sequence, Top}
 use Rattle.recognizer_model.specs.declared.flat.FlatSource.TheVariants.{Written}
-use Rattle.flat_rules.specs.Flatten
-use Rattle.flat_rules.specs.Flatten.{Decided, flat_of}
-use Rattle.flat_rules.specs.Flattened.{IsFlattened, HasTooMany}
-use Rattle.flat_rules.specs.Added.{most_rules}
+use Rattle.flat_model.specs.Flatten
+use Rattle.flat_model.specs.Flatten.{Decided, flat_of}
+use Rattle.flat_model.specs.Flattened.{IsFlattened, HasTooMany}
+use Rattle.flat_model.specs.Flattened.{most_rules}
 use Rattle.flat_rules.proofs.Listing.{same_test, filter_bound, filter_none, flat_bound}
 use Rattle.flat_rules.proofs.FlatOf.{is_flat_of}
 use Rattle.finite_sets.proofs.Deciding.{lt_or}

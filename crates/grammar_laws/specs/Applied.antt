@@ -13,8 +13,8 @@ use Rattle.recognizer_model.specs.Flat.{FlatGrammar}
 use Rattle.recognizer_model.specs.Items.{InSet}
 use Rattle.recognizer_model.specs.Counts.{IsListOf, IsCountOf}
 use Rattle.recognizer_model.specs.FlatForm.{FlatEdges, IsRuleOf}
-use Rattle.flat_rules.specs.Flattened.{IsFlattened}
-use Rattle.flat_rules.specs.Lists.{lists, flat_lists}
+use Rattle.flat_model.specs.Flattened.{IsFlattened}
+use Rattle.flat_model.specs.Lists.{lists, flat_lists}
 use Rattle.grammar_laws.specs.Laws.{Told}
 
 abbrev pub rule : List ℕ → WrittenRule

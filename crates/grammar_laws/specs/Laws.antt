@@ -15,8 +15,8 @@ use Rattle.recognizer_model.specs.Flat.{FlatGrammar}
 use Rattle.recognizer_model.specs.Items.{InSet}
 use Rattle.recognizer_model.specs.Counts.{IsListOf, IsCountOf}
 use Rattle.recognizer_model.specs.FlatForm.{FlatEdges, IsRuleOf}
-use Rattle.flat_rules.specs.Flatten.{Decided, named_rules}
-use Rattle.flat_rules.specs.Flattened.{IsFlattened, HasTooMany}
+use Rattle.flat_model.specs.Flatten.{Decided, named_rules}
+use Rattle.flat_model.specs.Flattened.{IsFlattened, HasTooMany}
 
 abbrev pub GoForward : Edges → Type 0
 GoForward edge = (symbol from to : ℕ) → edge symbol from to → from < to

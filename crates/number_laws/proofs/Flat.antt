@@ -6,8 +6,8 @@ use Rattle.recognizer_model.specs.Flat.{FlatGrammar}
 use Rattle.recognizer_model.specs.FlatForm.{IsSymbolOf, named}
 use Rattle.recognizer_model.specs.Invariant.{IsFlat}
 use Rattle.recognizer_model.proofs.FlatNamed.{map_length}
-use Rattle.flat_rules.specs.Flatten.{AreFew, flat_of}
-use Rattle.flat_rules.specs.Flattened.{IsFlattened, HasTooMany}
+use Rattle.flat_model.specs.Flatten.{AreFew, flat_of}
+use Rattle.flat_model.specs.Flattened.{IsFlattened, HasTooMany}
 use Rattle.flat_rules.proofs.FlatOf.{is_flat_of}
 use Rattle.flat_rules.proofs.Law.{flat_grammars_exist}
 use Rattle.grammar_laws.proofs.Flats.{rule_count_is_one}

@@ -5,7 +5,7 @@ use Rattle.recognizer_model.specs.Flat.{FlatGrammar}
 use Rattle.recognizer_model.specs.FlatForm.{FlatEdges}
 use Rattle.recognizer_model.specs.Leo.{InReduced}
 use Rattle.recognizer_model.specs.Nodes.{IsUsed, Placed, IsExpanded, IsStats}
-use Rattle.flat_rules.specs.Flattened.{IsFlattened}
+use Rattle.flat_model.specs.Flattened.{IsFlattened}
 use Rattle.language_model.specs.Building.{Built}
 use Rattle.reading_model.specs.Reading.{Piece, edges_of, place_after}
 use Rattle.reading_model.proofs.Counting.{one_count}

@@ -18,7 +18,7 @@ use Rattle.recognizer_model.specs.Invariant.{IsFlat, IsTopOf, IsAccessible, Oute
 use Rattle.recognizer_model.proofs.FlatNamed.{get_index, index_get, among_at, map_length}
 use Rattle.recognizer_model.proofs.FlatListed.{flat_list, written_all}
 use Rattle.recognizer_model.proofs.FlatFormLaw.{flat_form}
-use Rattle.flat_rules.specs.Flatten.{Decided, AreFew, flat_of, named_rules, number_of, numbered}
+use Rattle.flat_model.specs.Flatten.{Decided, AreFew, flat_of, named_rules, number_of, numbered}
 use Rattle.flat_rules.proofs.FlatOf.{append_length, numbers_length, rules_length, split, front, top_made, is_flat_of}
 use Rattle.flat_rules.proofs.Law.{flat_grammars_exist}
 use Rattle.flat_rules.proofs.Named.{differ, get_among}

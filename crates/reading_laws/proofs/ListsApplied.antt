@@ -3,7 +3,7 @@ use Rattle.std.proofs.Common.{arith, ◌≡◌, ℕ, zero, suc, ◌<◌, ◌≤�
 use Rattle.grammar_model.specs.declared.Ranking.TheVariants.{Rule as RuleRanks}
 use Rattle.grammar_model.specs.Grammar.{WrittenRule, Plain, Sequence, rule_at}
 use Rattle.recognizer_model.specs.FlatForm.{named}
-use Rattle.flat_rules.specs.Lists.{lists, flat_lists}
+use Rattle.flat_model.specs.Lists.{lists, flat_lists}
 use Rattle.flat_rules.proofs.ListsChecked.{lists_have_flat_grammar}
 use Rattle.reading_model.specs.Accepted.{HasFewRules}
 use Rattle.reading_model.specs.Reading.{edges_of}

@@ -5,7 +5,7 @@ use Rattle.grammar_model.specs.Grammar.{Plain, Grammar}
 use Rattle.language_model.specs.declared.class.ClassItem.TheVariants.{Span}
 use Rattle.language_model.specs.Building.{Built}
 use Rattle.reading_model.specs.Reading.{Piece, Ending, IsReading}
-use Rattle.flat_rules.specs.Lists.{lists}
+use Rattle.flat_model.specs.Lists.{lists}
 
 -- N ::= digit, with the numbers 0 N, 1 digit
 abbrev pub digits : Grammar

@@ -13,7 +13,7 @@ use Rattle.language_model.specs.Building.{Built}
 use Rattle.language_model.specs.Texts.{IsBuilt}
 use Rattle.reading_model.specs.Accepted.{HasFewRules, IsAccepted}
 use Rattle.reading_model.specs.Reading.{Piece, Token, Skipped, edges_of, place_after}
-use Rattle.flat_rules.specs.Lists.{lists}
+use Rattle.flat_model.specs.Lists.{lists}
 use Rattle.grammar_laws.specs.Laws.{GoForward}
 
 -- the right side of each plain rule has at most a thousand parts

@@ -1,19 +1,2 @@
-//! What a progress report is, and its laws: each is shown by a contract alone, and its function does nothing.
+//! What a progress report is. Nothing here computes for a program.
 #![tactic(auto)]
-
-ghost use Rattle.report_model.specs.Laws.{ReportIsOne, ReportsApply, ReportsExist};
-
-/// A place has no two reports, whatever flat form of the grammar is read by.
-pub fn report_is_one()
-    ensures { ReportIsOne }
-{}
-
-/// Each place has a report, over edges that go forward.
-pub fn reports_exist()
-    ensures { ReportsExist }
-{}
-
-/// The laws at a grammar of lists.
-pub fn reports_apply()
-    ensures { ReportsApply }
-{}

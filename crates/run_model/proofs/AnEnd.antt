@@ -1,7 +1,7 @@
 -- Held files leave a run an outcome.
 use Rattle.std.proofs.Common.{◌≡◌, ◌≢◌, ℕ, List, [], Option, Some, None, IfSome, refl, inl, inr, subst}
-use Rattle.slif_base.specs.Told.{ToldFile, MayHold, MayBe}
-use Rattle.slif_base.specs.Told.ToldFile.{Untold, Missing, Told}
+use Rattle.outside_model.specs.Told.{ToldFile, MayHold, MayBe}
+use Rattle.outside_model.specs.Told.ToldFile.{Untold, Missing, Told}
 use Rattle.language_model.specs.Building.{Built}
 use Rattle.words_model.specs.Words.{Job, InputFrom, Asks, grammar_file, input_from}
 use Rattle.words_model.specs.Words.InputFrom.{Nowhere, StandardInput, FileNamed}

@@ -1,7 +1,7 @@
 -- Told content leaves a run one outcome.
 use Rattle.std.proofs.Common.{◌≡◌, ◌≢◌, ℕ, List, Option, Some, None, IfSome, refl, sym, subst, ◌∙◌}
-use Rattle.slif_base.specs.Told.{ToldFile, MayHold}
-use Rattle.slif_base.specs.Told.ToldFile.{Untold, Missing, Told}
+use Rattle.outside_model.specs.Told.{ToldFile, MayHold}
+use Rattle.outside_model.specs.Told.ToldFile.{Untold, Missing, Told}
 use Rattle.language_model.specs.Building.{Built}
 use Rattle.words_model.specs.Words.{Job, InputFrom, Asks, grammar_file, input_from, input_named}
 use Rattle.words_model.specs.Words.InputFrom.{Nowhere, StandardInput, FileNamed}

@@ -1,7 +1,7 @@
 -- Laws of the definitions.
 use Rattle.std.specs.Prelude.{◌≡◌, ◌≢◌, ℕ, ◌<◌, List, [], ◌∷◌, length, Option, Some, IfSome, codes}
-use Rattle.slif_base.specs.Told.{ToldFile}
-use Rattle.slif_base.specs.Told.ToldFile.{Untold, Missing}
+use Rattle.outside_model.specs.Told.{ToldFile}
+use Rattle.outside_model.specs.Told.ToldFile.{Untold, Missing}
 use Rattle.words_model.specs.Words.{Job, Asks, grammar_file, input_from}
 use Rattle.words_model.specs.Words.InputFrom.{FileNamed}
 use Rattle.run_model.specs.Jobs.{work_grammar, work_input}

@@ -6,7 +6,7 @@ use Rattle.grammar_model.specs.Derives.{Held}
 use Rattle.recognizer_model.specs.Flat.{FlatGrammar}
 use Rattle.recognizer_model.specs.FlatForm.{FlatEdges}
 use Rattle.recognizer_model.specs.Nodes.{IsStats}
-use Rattle.flat_rules.specs.Flattened.{IsFlattened}
+use Rattle.flat_model.specs.Flattened.{IsFlattened}
 use Rattle.language_model.specs.Building.{Built}
 use Rattle.reading_model.specs.Reading.{Piece, edges_of, place_after}
 

@@ -1,9 +1,9 @@
 -- What a run does: it has the outcome of what it read, meets a fault of the outside, or finds no memory.
 use Rattle.std.specs.Prelude.{◌≡◌, ◌≢◌, ℕ, List, [], ◌∷◌, ◌++◌, ◌⊎◌, Option, Some, IfSome, option_to_list, ⊤, codes}
 use Rattle.std.specs.Io.KnownBytes.{Appends}
-use Rattle.slif_base.specs.Causes.{Rose}
+use Rattle.outside_model.specs.Causes.{Rose}
 use Rattle.language_model.specs.Building.{Built}
-use Rattle.slif_base.specs.Told.{ToldFile, MayBe, MayHold, AppendsPrefix, AddsNames}
+use Rattle.outside_model.specs.Told.{ToldFile, MayBe, MayHold, AppendsPrefix, AddsNames}
 use Rattle.words_model.specs.Words.{Job, InputFrom, Asks, grammar_file, input_from}
 use Rattle.words_model.specs.Words.InputFrom.{Nowhere, StandardInput, FileNamed}
 use Rattle.run_model.specs.Refused.{Accepted}

@@ -14,8 +14,8 @@ use Rattle.recognizer_model.specs.Leo.{IsLeo}
 use Rattle.recognizer_model.specs.Links.{Link, IsLink, choices}
 use Rattle.recognizer_model.specs.Nodes.{IsExpanded}
 use Rattle.recognizer_model.specs.Counts.{IsCountOf}
-use Rattle.flat_rules.specs.Flattened.{IsFlattened}
-use Rattle.slif_base.specs.Told.{ToldFile}
+use Rattle.flat_model.specs.Flattened.{IsFlattened}
+use Rattle.outside_model.specs.Told.{ToldFile}
 use Rattle.language_model.specs.Building.{Built}
 use Rattle.reading_model.specs.Reading.{Piece, edges_of, place_after}
 use Rattle.words_model.specs.Words.{Job, Asks}

@@ -1,7 +1,7 @@
 -- Why the bytes of a grammar say nothing: a fault, which is told in one line.
 use Rattle.std.specs.Prelude.{ℕ, ◌≤◌, ◌<◌, ◌++◌, List, length, take, chars, codes, decimal, IsUtf8}
 use Rattle.std.specs.Str.{IsValidUpTo}
-use Rattle.slif_base.specs.Characters.{line_after, column_after}
+use Rattle.outside_model.specs.Places.{line_after, column_after}
 use Rattle.language_model.specs.declared.token.Token.{Token}
 use Rattle.language_model.specs.Tokens.{IsBadPlace}
 use Rattle.language_model.specs.Description.{IsBadStatement}

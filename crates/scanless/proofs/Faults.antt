@@ -6,8 +6,8 @@ use Rattle.grammar_model.specs.Checked.{IsChecked}
 use Rattle.recognizer_model.specs.Flat.{FlatGrammar}
 use Rattle.recognizer_model.specs.FlatForm.{IsFlatOf, named}
 use Rattle.recognizer_model.proofs.FlatNamed.{map_length}
-use Rattle.flat_rules.specs.Flatten.{flat_of}
-use Rattle.flat_rules.specs.Flattened.{IsFlattened, HasTooMany}
+use Rattle.flat_model.specs.Flatten.{flat_of}
+use Rattle.flat_model.specs.Flattened.{IsFlattened, HasTooMany}
 use Rattle.flat_rules.proofs.FlatOf.{is_flat_of}
 use Rattle.language_model.specs.Building.{Built}
 use Rattle.grammar_check.specs.declared.refusal.GrammarRefusal.{GrammarRefusal}

@@ -4,7 +4,7 @@ use Rattle.std.proofs.lemmas.List.Elements.{Contains-append_cases}
 use Rattle.grammar_model.specs.declared.Edge.{Edge}
 use Rattle.language_model.specs.Building.{Built}
 use Rattle.reading_model.specs.Reading.{Piece, Token, Skipped, place_after, edges_from, edges_of, spans_from, Reads, Begin, Take, Skip}
-use Rattle.flat_rules.specs.Flattened.{IsFlattened}
+use Rattle.flat_model.specs.Flattened.{IsFlattened}
 use Rattle.earley_sets.specs.Recognizer.{Recognizer, place_of}
 use Rattle.earley_sets.proofs.Membership.{Contains-none, Contains-map_from}
 use Rattle.scanless.specs.Taking.{token_edges, Takes}

@@ -3,7 +3,7 @@ use Rattle.std.proofs.Common.{arith, ◌≡◌, ◌↔◌, ℕ, ◌+◌, ◌<◌
 use Rattle.std.specs.List.Sorted.{IsStrictlySortedBy}
 use Rattle.std.specs.Ordering.{nat_cmp}
 use Rattle.grammar_core.specs.declared.steps.Span.{Span}
-use Rattle.flat_rules.specs.Flattened.{IsFlattened}
+use Rattle.flat_model.specs.Flattened.{IsFlattened}
 use Rattle.language_model.specs.Building.{Built}
 use Rattle.reading_model.specs.Reading as model
 use Rattle.reading_model.specs.Reading.{Piece, Token, Skipped, IsLongest, IsKept, IsFound, AreFound, AreSorted, AreExpected, Reads, Begin, Take, Skip, IsReading, HasEnded, HasStopped}

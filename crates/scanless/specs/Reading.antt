@@ -1,7 +1,7 @@
 -- What reading a text gives: a recognizer that holds the edges of its tokens, the spans of the tokens, and how reading ends.
 use Rattle.std.specs.Prelude.{◌≡◌, ℕ, ◌<◌, ◌≤◌, ◌↔◌, List, length, map, Contains}
 use Rattle.grammar_core.specs.declared.steps.Span.{Span}
-use Rattle.flat_rules.specs.Flattened.{IsFlattened}
+use Rattle.flat_model.specs.Flattened.{IsFlattened}
 use Rattle.earley_sets.specs.Recognizer.{Recognizer, place_of}
 use Rattle.language_model.specs.Building.{Built}
 use Rattle.reading_model.specs.Reading as model

@@ -4,7 +4,7 @@ ghost use Rattle.grammar_model.specs.Grammar.{Grammar};
 ghost use Rattle.grammar_model.specs.Checked.{IsChecked};
 ghost use Rattle.grammar_check.specs.Message.{IsOf};
 ghost use Rattle.grammar_check.specs.Refused.{IsTold};
-ghost use Rattle.flat_rules.specs.Flattened.{IsFlattened};
+ghost use Rattle.flat_model.specs.Flattened.{IsFlattened};
 ghost use Rattle.reading_model.specs.Accepted.{HasFewRules};
 ghost use Rattle.scanless.specs.declared.parts.Fault.TheVariants.{NoMemory};
 ghost use Rattle.scanless.specs.Faults.{IsRefusedBy, IsOverfull, IsCheckedLexical, IsFlatLexical, IsLexicalOverfull, IsFault};

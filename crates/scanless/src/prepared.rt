@@ -5,7 +5,7 @@ ghost use Rattle.grammar_model.specs.Analysis.{IsNullable, IsProductive, IsAcces
 ghost use Rattle.grammar_model.specs.Checked.{IsChecked};
 ghost use Rattle.recognizer_model.specs.FlatForm.{IsFlatOf};
 ghost use Rattle.recognizer_model.specs.Invariant.{IsFlat};
-ghost use Rattle.flat_rules.specs.Flattened.{IsFlattened};
+ghost use Rattle.flat_model.specs.Flattened.{IsFlattened};
 ghost use Rattle.language_model.specs.Texts.{IsBuilt};
 ghost use Rattle.value_text.specs.Meaning.{meaning_of};
 ghost use Rattle.dsl_build.specs.Ranges.{IsInRange};

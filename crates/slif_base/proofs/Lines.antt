@@ -6,7 +6,7 @@ use Rattle.std.specs.Char.{encode_utf8}
 use Rattle.std.proofs.lemmas.Str.{chars_past_char, chars-nil}
 use Rattle.std.proofs.lemmas.List.{reverse-append, length-reverse}
 use Rattle.std.proofs.lemmas.List.Sums.{sum_by-append, count_by-le-length, take_while-cons}
-use Rattle.slif_base.specs.Characters.{line_after, column_after}
+use Rattle.outside_model.specs.Places.{line_after, column_after}
 
 pub line_break : (front : List ℕ) (c : ℕ) → c ≡ 10 → line_after (front ++ c ∷ []) ≡ line_after front + 1
 line_break front c e = ap (λ c. line_after (front ++ c ∷ [])) e ∙ omega (arith, sum_by-append (λ c. cond (c == 10) 1 0) front (10 ∷ []))

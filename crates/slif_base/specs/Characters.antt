@@ -1,5 +1,5 @@
--- The characters of a text: where each begins, which bytes are refused, and lines and columns.
-use Rattle.std.specs.Prelude.{ℕ, suc, ◌+◌, ◌==◌, not, List, [], ◌∷◌, length, count_by, take_while, reverse, IsUtf8}
+-- The characters of a text: where each begins, and which bytes are refused.
+use Rattle.std.specs.Prelude.{ℕ, ◌+◌, List, [], ◌∷◌, IsUtf8}
 use Rattle.std.specs.Char.{len_utf8}
 use Rattle.std.specs.Str.{IsValidUpTo}
 use Rattle.slif_base.specs.declared.chars.TextRefusal.{TextRefusal}
@@ -14,10 +14,3 @@ starts_from at (c ∷ cs) = at ∷ starts_from (at + len_utf8 c) cs
 abbrev pub RefusesText : List ℕ → TextRefusal → Type 0
 RefusesText bytes (NotUtf8 at) = ¬ (IsUtf8 bytes) × IsValidUpTo bytes at
 RefusesText bytes NoMemory = Unit {0}
-
--- the line and the column behind these characters, from 1; a line ends with LF
-abbrev pub line_after : List ℕ → ℕ
-line_after cs = suc (count_by (λ c. c == 10) cs)
-
-abbrev pub column_after : List ℕ → ℕ
-column_after cs = suc (length (take_while (λ c. not (c == 10)) (reverse cs)))

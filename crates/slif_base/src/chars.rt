@@ -1,7 +1,8 @@
 // The characters of a text.
 ghost use Rattle.std.specs.Prelude.{◌≡◌, ◌^◌, ◌<◌, ◌≤◌, length, take, slice_range, slice_index, encode_utf8_all, IsUtf8, IfOk, IfErr, OnOk};
 ghost use Rattle.std.specs.Str.{IsCharBoundary, chars};
-ghost use Rattle.slif_base.specs.Characters.{starts_from, RefusesText, line_after, column_after};
+ghost use Rattle.slif_base.specs.Characters.{starts_from, RefusesText};
+ghost use Rattle.outside_model.specs.Places.{line_after, column_after};
 
 use std::alloc::{AllocError, Global};
 use std::marker::Model;

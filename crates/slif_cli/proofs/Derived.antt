@@ -15,7 +15,7 @@ use Rattle.grammar_model.specs.All.{IsAll}
 use Rattle.grammar_core.specs.declared.steps.Span.{Span}
 use Rattle.recognizer_model.specs.declared.flat.FlatSymbol.TheVariants.{Top}
 use Rattle.recognizer_model.specs.Flat.{lhs_of}
-use Rattle.flat_rules.specs.Flattened.{IsFlattened}
+use Rattle.flat_model.specs.Flattened.{IsFlattened}
 use Rattle.recognizer_model.specs.FlatForm.{StandsFor, symbol_at, tree_of}
 use Rattle.recognizer_model.proofs.FlatNamed.{get_index, index_get}
 use Rattle.recognizer_model.proofs.FlatFormLaw.{flat_form}

@@ -1,7 +1,7 @@
 -- Lines of the standard error, one after the other.
 use Rattle.std.proofs.Common.{ℕ, ◌≤◌, List, [], sym, append-nil, arith}
-use Rattle.slif_base.specs.Causes.{Rose}
-use Rattle.slif_base.specs.Told.{AppendsPrefix}
+use Rattle.outside_model.specs.Causes.{Rose}
+use Rattle.outside_model.specs.Told.{AppendsPrefix}
 use Rattle.slif_base.proofs.Bytes.{appends_twice}
 use Rattle.run_model.specs.Outside.{Stream}
 use Rattle.slif_cli.specs.Stops.{Tells, Breaks}

@@ -20,8 +20,8 @@ use Rattle.number_laws.proofs.Exist.{numbers_exist}
 use Rattle.number_laws.proofs.One.{numbers_are_one}
 use Rattle.work_laws.proofs.Working.{work_has_one}
 use Rattle.report_model.specs.Report.{IsReport}
-use Rattle.report_model.proofs.One.{report_is_one}
-use Rattle.report_model.proofs.Existing.{reports_exist}
+use Rattle.report_laws.proofs.One.{report_is_one}
+use Rattle.report_laws.proofs.Existing.{reports_exist}
 use Rattle.recognizer_model.specs.declared.ReportLine.{ReportLine}
 use Rattle.reading_model.specs.Accepted.{IsAccepted}
 use Rattle.reading_model.specs.Reading.{Piece, edges_of}

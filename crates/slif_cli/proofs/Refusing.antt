@@ -16,7 +16,7 @@ use Rattle.language_model.specs.Building.{Built, BuildFault, faults_of}
 use Rattle.language_model.specs.Texts.{IsText, HasDescription}
 use Rattle.reading_model.specs.Accepted.{Structural, Lexical, TooManyRules, HasGrammarFault}
 use Rattle.run_model.specs.Texts.{BadToken, BadStatement, NotUtf8, TooLong, place_text, fault_text}
-use Rattle.slif_base.specs.Told.{ToldFile, MayHold, FileHolds}
+use Rattle.outside_model.specs.Told.{ToldFile, MayHold, FileHolds}
 use Rattle.slif_cli.specs.Stops.{TellsText, LoadStops, IsFaultText}
 use Rattle.slif_cli.specs.declared.stop.Refusal.TheVariants.{Usage, Grammar as BadGrammar, Input as BadInput}
 use Rattle.slif_cli.specs.declared.stop.Stop.{Stop}

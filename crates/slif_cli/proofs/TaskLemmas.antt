@@ -1,8 +1,8 @@
 -- What a job with an input comes to, by its words, its grammar and its input.
 use Rattle.std.proofs.Common.{◌≡◌, ℕ, ◌≤◌, List, [], ◌∷◌, ◌++◌, Option, inl, inr, ◌⊎◌, refl, sym, subst, Some, None, IfSome, append_assoc, ◌∙◌, ap, arith, chars}
 use Rattle.std.specs.Prelude.{option_to_list}
-use Rattle.slif_base.specs.Causes.{Rose}
-use Rattle.slif_base.specs.Told.{ToldFile, MayHold, FileHolds, AsksAmong, AddsNames, SameFiles}
+use Rattle.outside_model.specs.Causes.{Rose}
+use Rattle.outside_model.specs.Told.{ToldFile, MayHold, FileHolds, AsksAmong, AddsNames, SameFiles}
 use Rattle.slif_base.proofs.Bytes.{appends_none}
 use Rattle.language_model.specs.Building.{Built}
 use Rattle.words_model.specs.Words.{Job, RunAsked, InputFrom, Asks, input_from, input_named}

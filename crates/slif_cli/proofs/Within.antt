@@ -2,7 +2,7 @@
 use Rattle.std.proofs.Common.{◌≡◌, ℕ, ◌+◌, ◌≤◌, List, [], ◌∷◌, Option, Some, None, inl, inr, ◌⊎◌, length, map, Contains, refl, sym, ap, subst, ◌∙◌, arith, chars, slice_get}
 use Rattle.std.specs.List.{sum_by}
 use Rattle.std.proofs.lemmas.List.{length-map}
-use Rattle.slif_base.specs.Told.{ToldFile, FileHolds}
+use Rattle.outside_model.specs.Told.{ToldFile, FileHolds}
 use Rattle.finite_sets.proofs.Members.{Among, Once, among_from, contains_from, among_map, among_map_from, once_pairs, pairs_once}
 use Rattle.grammar_model.specs.Trees.{Tree}
 use Rattle.grammar_model.specs.Derives.{Held}

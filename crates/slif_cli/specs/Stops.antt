@@ -3,8 +3,8 @@ use Rattle.std.specs.Prelude.{◌≡◌, ℕ, List, [], ◌∷◌, ◌++◌, ◌
 use Rattle.std.specs.Str.{IsValidUpTo}
 use Rattle.std.specs.List.{concat}
 use Rattle.std.specs.Io.KnownBytes.{Appends}
-use Rattle.slif_base.specs.Causes.{Rose}
-use Rattle.slif_base.specs.Told.{ToldFile, Holds, FileHolds, AppendsPrefix}
+use Rattle.outside_model.specs.Causes.{Rose}
+use Rattle.outside_model.specs.Told.{ToldFile, Holds, FileHolds, AppendsPrefix}
 use Rattle.language_model.specs.declared.token.Token.{Token}
 use Rattle.language_model.specs.Tokens.{AreTokens, IsBadPlace, spelled_at}
 use Rattle.language_model.specs.Description.{Statement, Describes, IsBadStatement}

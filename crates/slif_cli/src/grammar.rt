@@ -1,6 +1,6 @@
 // The grammar, read from its file.
 ghost use Rattle.std.specs.Prelude.{◌≡◌, ◌≤◌, ◌<◌, ◌∷◌, [], IfOk, IfErr, OnOk, IsUtf8, chars as chars_in, length};
-ghost use Rattle.slif_base.specs.Told.{FileHolds, SameFiles, AsksAmong, AddsNames};
+ghost use Rattle.outside_model.specs.Told.{FileHolds, SameFiles, AsksAmong, AddsNames};
 ghost use Rattle.language_model.specs.Texts.{IsDescription, IsBuiltOf};
 ghost use Rattle.reading_model.specs.Accepted.{IsAccepted};
 ghost use Rattle.run_model.specs.Refused.{Accepted, IsRefused};

@@ -1,7 +1,7 @@
 // The input: its bytes, and its characters.
 ghost use Rattle.std.specs.Prelude.{◌≡◌, ◌≤◌, ◌⊎◌, ◌++◌, [], ◌∷◌, length, chars as chars_in, codes, decimal, option_copied, IsUtf8, IfOk, IfErr, OnOk};
-ghost use Rattle.slif_base.specs.Causes.{Rose};
-ghost use Rattle.slif_base.specs.Told.{MayBe, MayHold, SameFiles, AsksAmong};
+ghost use Rattle.outside_model.specs.Causes.{Rose};
+ghost use Rattle.outside_model.specs.Told.{MayBe, MayHold, SameFiles, AsksAmong};
 ghost use Rattle.words_model.specs.Words.{input_named};
 ghost use Rattle.words_model.specs.Words.InputFrom.{StandardInput};
 ghost use Rattle.run_model.specs.Runs.{InputMayBe};

@@ -1,6 +1,6 @@
 // What is told of a grammar that is refused.
 ghost use Rattle.std.specs.Prelude.{◌≡◌, ◌<◌, ◌++◌, length, take, chars, codes, decimal, false, IfOk};
-ghost use Rattle.slif_base.specs.Characters.{line_after, column_after};
+ghost use Rattle.outside_model.specs.Places.{line_after, column_after};
 ghost use Rattle.grammar_check.specs.Message.{IsOf, refusal_text};
 ghost use Rattle.dsl_build.specs.Found.{refused_fault};
 ghost use Rattle.language_model.specs.Building.{Built};

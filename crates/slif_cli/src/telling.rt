@@ -1,7 +1,7 @@
 // What is told of an input.
 ghost use Rattle.std.specs.Prelude.{◌≡◌, ◌≤◌, ◌⊎◌, length, option_copied, IfErr, OnOk};
-ghost use Rattle.slif_base.specs.Causes.{Rose};
-ghost use Rattle.slif_base.specs.Told.{SameFiles, AsksAmong};
+ghost use Rattle.outside_model.specs.Causes.{Rose};
+ghost use Rattle.outside_model.specs.Told.{SameFiles, AsksAmong};
 ghost use Rattle.words_model.specs.Words.{input_named};
 ghost use Rattle.words_model.specs.Words.InputFrom.{StandardInput, FileNamed};
 ghost use Rattle.run_model.specs.Outcome.{IsTaskOutcome};

@@ -1,6 +1,6 @@
 // The top call.
 ghost use Rattle.std.specs.Prelude.{◌≡◌, ◌≤◌, ◌⊎◌, ℕ, List, [], ◌∷◌, Option, map, string_bytes, option_copied, OnOk, IfErr};
-ghost use Rattle.slif_base.specs.Told.{SameFiles, AsksAmong};
+ghost use Rattle.outside_model.specs.Told.{SameFiles, AsksAmong};
 ghost use Rattle.words_model.specs.Words as asked_words;
 ghost use Rattle.words_model.specs.Words.{Asks, input_named, Check as AskedCheck};
 ghost use Rattle.run_model.specs.Outside.{Outside, Stream, stream, disk};

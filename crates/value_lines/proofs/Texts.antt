@@ -5,7 +5,7 @@ use Rattle.std.specs.List.{concat}
 use Rattle.std.specs.Io.KnownBytes.{Appends}
 use Rattle.std.proofs.lemmas.List.{take_at, take_all, map-append}
 use Rattle.std.proofs.lemmas.List.Folds.{concat-append}
-use Rattle.slif_base.specs.Told.{AppendsPrefix}
+use Rattle.outside_model.specs.Told.{AppendsPrefix}
 use Rattle.slif_base.proofs.Bytes.{appends_none, appends_twice}
 use Rattle.grammar_model.specs.Trees.{Tree}
 use Rattle.grammar_model.specs.declared.Show.{Show}

@@ -5,7 +5,7 @@ use Rattle.grammar_model.specs.declared.Show.{Show}
 use Rattle.grammar_core.specs.declared.steps.Span.{Span}
 use Rattle.language_model.specs.Building.{Built}
 use Rattle.reading_model.specs.Reading.{Piece, End, IsReading, edges_of, place_after, spans_from}
-use Rattle.flat_rules.specs.Flattened.{IsFlattened}
+use Rattle.flat_model.specs.Flattened.{IsFlattened}
 use Rattle.forest_model.specs.Forest.{Forest}
 use Rattle.forest_model.specs.Listing.{IsListing}
 use Rattle.scanless.specs.Reading.{span_of}

@@ -1,8 +1,8 @@
 -- Writing the lines of the first derivations of a forest.
 use Rattle.std.specs.Prelude.{◌≡◌, ℕ, List, [], ◌∷◌, ◌⊎◌, Option, map}
 use Rattle.std.specs.List.{concat}
-use Rattle.slif_base.specs.Causes.{Rose}
-use Rattle.slif_base.specs.Told.{AppendsPrefix}
+use Rattle.outside_model.specs.Causes.{Rose}
+use Rattle.outside_model.specs.Told.{AppendsPrefix}
 use Rattle.grammar_model.specs.Trees.{Tree}
 use Rattle.grammar_model.specs.Values.{Value}
 use Rattle.grammar_model.specs.declared.Show.{Show}

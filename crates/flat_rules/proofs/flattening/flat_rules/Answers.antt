@@ -3,7 +3,7 @@ use Rattle.grammar_model.specs.Grammar.{Grammar}
 use Rattle.grammar_model.specs.Simple.{numbers}
 use Rattle.recognizer_model.specs.Flat.{FlatRule}
 use Rattle.recognizer_model.specs.declared.flat.FlatSymbol.TheVariants.{Sequence, Top}
-use Rattle.flat_rules.specs.Flatten.{Decided, symbol_for, flat_of}
+use Rattle.flat_model.specs.Flatten.{Decided, symbol_for, flat_of}
 use Rattle.flat_rules.specs.Added.{Adds, from_symbols}
 use Rattle.flat_rules.proofs.Adding.{adds_two, all_err, all_ok}
 use Rattle.flat_rules.proofs.Agreeing.{numbered_agree, parts_named}

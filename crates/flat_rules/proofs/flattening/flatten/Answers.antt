@@ -3,8 +3,8 @@ use Rattle.grammar_core.specs.Written.{IsWritten}
 use Rattle.recognizer_model.specs.Flat.{FlatGrammar}
 use Rattle.recognizer_model.specs.Invariant.{IsFlat, IsArranged}
 use Rattle.recognizer_model.specs.FlatForm.{IsFlatOf}
-use Rattle.flat_rules.specs.Flatten.{Decided, flat_of, AreFew}
-use Rattle.flat_rules.specs.Added.{most_rules}
+use Rattle.flat_model.specs.Flatten.{Decided, flat_of, AreFew}
+use Rattle.flat_model.specs.Flattened.{most_rules}
 use Rattle.flat_rules.proofs.Agreeing.{err_too_many, few_enough}
 use Rattle.flat_rules.proofs.Deciding.{decided_of}
 use Rattle.flat_rules.proofs.Law.{flat_grammars_exist}

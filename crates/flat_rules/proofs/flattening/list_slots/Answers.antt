@@ -3,7 +3,7 @@ use Rattle.grammar_model.specs.Grammar.{Slot}
 use Rattle.grammar_core.specs.Written.{IsWritten}
 use Rattle.grammar_model.proofs.Lists.{Among}
 use Rattle.recognizer_model.proofs.FlatNamed.{get_index}
-use Rattle.flat_rules.specs.Flatten.{Decided, is_marked, symbol_for}
+use Rattle.flat_model.specs.Flatten.{Decided, is_marked, symbol_for}
 use Rattle.flat_rules.specs.Tables.{told_slot, rows_of, row_at}
 use Rattle.flat_rules.proofs.Adding.{take_step, take_all}
 use Rattle.flat_rules.proofs.Deciding.{decided_of, slots_known, map_twice}

@@ -1,5 +1,5 @@
 use Rattle.std.proofs.Common.{◌≡◌, ◌++◌, map, take}
-use Rattle.flat_rules.specs.Flatten.{Decided, symbol_for, is_marked}
+use Rattle.flat_model.specs.Flatten.{Decided, symbol_for, is_marked}
 use Rattle.flat_rules.proofs.flattening.list_slots.Given as goal
 
 abbrev pub invariant-loop-x : goal.invariant-loop-x

@@ -2,7 +2,7 @@ use Rattle.std.proofs.Common.{◌≡◌, map, length, sym, ◌∙◌, ap, refl, 
 use Rattle.grammar_model.specs.Grammar.{Grammar}
 use Rattle.grammar_model.specs.Simple.{numbers}
 use Rattle.recognizer_model.specs.declared.flat.FlatSymbol.TheVariants.{Top}
-use Rattle.flat_rules.specs.Flatten.{is_marked}
+use Rattle.flat_model.specs.Flatten.{is_marked}
 use Rattle.flat_rules.proofs.Adding.{numbers_step}
 use Rattle.flat_rules.proofs.Deciding.{map_twice}
 use Rattle.flat_rules.proofs.SymbolRules.{top_told}

@@ -1,7 +1,7 @@
 use Rattle.std.proofs.Common.{◌≡◌, ◌++◌, map}
 use Rattle.grammar_model.specs.Simple.{numbers}
 use Rattle.recognizer_model.specs.declared.flat.FlatSymbol.TheVariants.{Top}
-use Rattle.flat_rules.specs.Flatten.{Decided, is_marked}
+use Rattle.flat_model.specs.Flatten.{Decided, is_marked}
 use Rattle.flat_rules.proofs.flattening.list_tops.Given as goal
 
 abbrev pub invariant-loop-k : goal.invariant-loop-k

@@ -1,8 +1,8 @@
 use Rattle.std.proofs.Common.{◌≤◌, length, sym, ◌∙◌, ap, subst, arith}
 use Rattle.grammar_model.specs.Grammar.{Grammar}
 use Rattle.grammar_core.specs.Written.{IsWritten}
-use Rattle.flat_rules.specs.Flatten.{Decided}
-use Rattle.flat_rules.specs.Added.{most_rules}
+use Rattle.flat_model.specs.Flatten.{Decided}
+use Rattle.flat_model.specs.Flattened.{most_rules}
 use Rattle.flat_rules.proofs.Agreeing.{err_many, tops_as, tops_within, count_symbols}
 use Rattle.flat_rules.proofs.Deciding.{decided_of}
 use Rattle.flat_rules.proofs.flattening.parts_of.Goals as goal

@@ -5,7 +5,7 @@ use Rattle.recognizer_model.specs.Flat.{FlatRule}
 use Rattle.recognizer_model.specs.declared.flat.FlatSymbol.{FlatSymbol}
 use Rattle.recognizer_model.specs.declared.flat.FlatSymbol.TheVariants.{Sequence}
 use Rattle.recognizer_model.proofs.FlatNamed.{map_length}
-use Rattle.flat_rules.specs.Flatten.{Decided, rules_of}
+use Rattle.flat_model.specs.Flatten.{Decided, rules_of}
 use Rattle.flat_rules.specs.Tables.{numbered_in}
 use Rattle.flat_rules.specs.Added.{from_symbols, items_by, counts_separator}
 use Rattle.flat_rules.proofs.Adding.{adds_to, loop_stop, loop_next, loop_end, at_map}

@@ -1,6 +1,6 @@
 use Rattle.std.proofs.Common.{map, take, Ok}
 use Rattle.recognizer_model.specs.declared.flat.FlatSymbol.TheVariants.{Sequence}
-use Rattle.flat_rules.specs.Flatten.{Decided}
+use Rattle.flat_model.specs.Flatten.{Decided}
 use Rattle.flat_rules.specs.Added.{Adds, from_symbols}
 use Rattle.flat_rules.proofs.flattening.push_lists.Given as goal
 

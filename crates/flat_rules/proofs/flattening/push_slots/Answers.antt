@@ -5,7 +5,7 @@ use Rattle.grammar_model.proofs.Lists.{Among, among_from}
 use Rattle.recognizer_model.specs.Flat.{FlatRule}
 use Rattle.recognizer_model.specs.declared.flat.FlatSymbol.{FlatSymbol}
 use Rattle.recognizer_model.proofs.FlatNamed.{map_length}
-use Rattle.flat_rules.specs.Flatten.{Decided, rules_of, symbol_for}
+use Rattle.flat_model.specs.Flatten.{Decided, rules_of, symbol_for}
 use Rattle.flat_rules.specs.Tables.{numbered_in, told_slot}
 use Rattle.flat_rules.specs.Added.{from_rules}
 use Rattle.flat_rules.proofs.Adding.{adds_to, loop_stop, loop_next, loop_end, at_slot}

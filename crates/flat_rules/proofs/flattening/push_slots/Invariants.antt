@@ -1,5 +1,5 @@
 use Rattle.std.proofs.Common.{map, take, Ok}
-use Rattle.flat_rules.specs.Flatten.{Decided, symbol_for}
+use Rattle.flat_model.specs.Flatten.{Decided, symbol_for}
 use Rattle.flat_rules.specs.Added.{Adds, from_symbols}
 use Rattle.flat_rules.proofs.flattening.push_slots.Given as goal
 

@@ -1,7 +1,7 @@
 use Rattle.std.proofs.Common.{map, take, length, Ok}
 use Rattle.grammar_model.specs.Simple.{numbers}
 use Rattle.recognizer_model.specs.declared.flat.FlatSymbol.TheVariants.{Top}
-use Rattle.flat_rules.specs.Flatten.{Decided}
+use Rattle.flat_model.specs.Flatten.{Decided}
 use Rattle.flat_rules.specs.Added.{Adds, from_symbols}
 use Rattle.flat_rules.proofs.flattening.push_tops.Given as goal
 

@@ -4,7 +4,7 @@ use Rattle.grammar_model.specs.Grammar.{Grammar, rule_at, level_of}
 use Rattle.grammar_model.specs.Simple.{numbers}
 use Rattle.grammar_model.proofs.Lists.{Among, among_from, contains_from}
 use Rattle.grammar_core.specs.Written.{IsWritten}
-use Rattle.flat_rules.specs.Flatten.{levels_of}
+use Rattle.flat_model.specs.Flatten.{levels_of}
 use Rattle.flat_rules.specs.Tables.{told_slot, slot_at}
 use Rattle.flat_rules.proofs.Rows.{row_is, rows_length}
 use Rattle.flat_rules.proofs.Listing.{levels_are, flat_next, lefts_to, among_rule}

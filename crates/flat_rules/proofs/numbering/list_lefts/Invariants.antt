@@ -1,7 +1,7 @@
 use Rattle.std.proofs.Common.{◌≡◌, ◌++◌, map}
 use Rattle.std.specs.List.{flat_map}
 use Rattle.grammar_model.specs.Simple.{numbers}
-use Rattle.flat_rules.specs.Flatten.{Decided, levels_of}
+use Rattle.flat_model.specs.Flatten.{Decided, levels_of}
 use Rattle.flat_rules.specs.Tables.{told_slot, slot_at}
 use Rattle.flat_rules.proofs.numbering.list_lefts.Given as goal
 

@@ -1,7 +1,7 @@
 use Rattle.std.proofs.Common.{◌≡◌, ◌++◌, map}
 use Rattle.std.specs.Prelude.{filter}
 use Rattle.grammar_model.specs.Simple.{numbers}
-use Rattle.flat_rules.specs.Flatten.{Decided}
+use Rattle.flat_model.specs.Flatten.{Decided}
 use Rattle.flat_rules.specs.Tables.{told_slot, slot_at}
 use Rattle.flat_rules.proofs.numbering.list_levels.Given as goal
 

@@ -1,7 +1,7 @@
 use Rattle.std.proofs.Common.{map, ap, ◌∙◌, ◌++◌, subst, length, arith}
 use Rattle.std.proofs.lemmas.List.{length-map}
 use Rattle.grammar_core.specs.Written.{IsWritten}
-use Rattle.flat_rules.specs.Flatten.{Decided}
+use Rattle.flat_model.specs.Flatten.{Decided}
 use Rattle.flat_rules.specs.Tables.{told_slot, slots_of_lefts, slots_of_terminals}
 use Rattle.flat_rules.proofs.Deciding.{decided_of, keys_differ}
 use Rattle.flat_rules.proofs.numbering.symbols_of.Goals as goal

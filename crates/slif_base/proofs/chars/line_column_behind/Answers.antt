@@ -3,7 +3,7 @@ use Rattle.std.proofs.lemmas.Str.{IsUtf8-past_char, chars_past_char}
 use Rattle.std.proofs.lemmas.Bool.{ne_eqb}
 use Rattle.std.specs.Str.{chars}
 use Rattle.std.specs.Str.Iter.{chars_rest}
-use Rattle.slif_base.specs.Characters.{line_after, column_after}
+use Rattle.outside_model.specs.Places.{line_after, column_after}
 use Rattle.slif_base.proofs.Lines.{line_break, line_same, column_break, column_same, line_small, column_small, read_on, read_all}
 use Rattle.slif_base.proofs.chars.line_column_behind.Goals as goal
 

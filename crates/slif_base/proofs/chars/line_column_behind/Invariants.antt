@@ -1,7 +1,7 @@
 use Rattle.std.proofs.Common.{◌≡◌, ◌++◌, IsUtf8}
 use Rattle.std.specs.Str.{chars}
 use Rattle.std.specs.Str.Iter.{chars_rest}
-use Rattle.slif_base.specs.Characters.{line_after, column_after}
+use Rattle.outside_model.specs.Places.{line_after, column_after}
 use Rattle.slif_base.proofs.chars.line_column_behind.Given as goal
 
 abbrev pub invariant-loop-c : goal.invariant-loop-c

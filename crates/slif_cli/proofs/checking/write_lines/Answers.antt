@@ -1,6 +1,6 @@
 use Rattle.std.proofs.Common.{◌≡◌, List, ℕ, Some, slice_get, map, arith, subst}
 use Rattle.std.specs.Io.KnownBytes.{Appends}
-use Rattle.slif_base.specs.Told.{AppendsPrefix}
+use Rattle.outside_model.specs.Told.{AppendsPrefix}
 use Rattle.slif_cli.proofs.Lines.{one_more_written, front_of_text, mapped_item}
 use Rattle.slif_cli.proofs.checking.write_lines.Goals as goal
 

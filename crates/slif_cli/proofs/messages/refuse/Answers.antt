@@ -1,5 +1,5 @@
 use Rattle.std.proofs.Common.{inl, inr, subst}
-use Rattle.slif_base.specs.Told.{AppendsPrefix}
+use Rattle.outside_model.specs.Told.{AppendsPrefix}
 use Rattle.run_model.specs.Outside.{stream}
 use Rattle.slif_cli.proofs.ErrLines.{breaks}
 use Rattle.slif_cli.proofs.OneLine.{tells_write_fault}

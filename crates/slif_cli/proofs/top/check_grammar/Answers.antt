@@ -1,6 +1,6 @@
 use Rattle.std.proofs.Common.{refl, ◌⊎◌}
 use Rattle.std.proofs.lemmas.Result.{on_ok_weaker, MatchResult-weaker}
-use Rattle.slif_base.specs.Causes.{Rose}
+use Rattle.outside_model.specs.Causes.{Rose}
 use Rattle.words_model.specs.Words.Job.{Check}
 use Rattle.run_model.specs.Outside.{stream, disk}
 use Rattle.run_model.specs.Outcome.{IsCheckOutcome}

@@ -1,7 +1,7 @@
 use Rattle.std.proofs.Common.{refl, inl, inr, ◌⊎◌, subst}
 use Rattle.std.specs.Prelude.{option_copied}
 use Rattle.std.proofs.lemmas.Result.{on_ok_weaker, MatchResult-weaker}
-use Rattle.slif_base.specs.Causes.{Rose}
+use Rattle.outside_model.specs.Causes.{Rose}
 use Rattle.words_model.specs.Words.{Asks}
 use Rattle.words_model.specs.Words.Job.{Run, Check, Expect, Progress, Work}
 use Rattle.run_model.specs.Outcome.{IsWorkOutcome}

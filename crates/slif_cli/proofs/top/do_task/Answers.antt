@@ -1,7 +1,7 @@
 use Rattle.std.proofs.Common.{inr, inl, ◌⊎◌, ◌≡◌}
 use Rattle.std.specs.Prelude.{option_copied}
 use Rattle.std.proofs.lemmas.Result.{on_ok_weaker, MatchResult-weaker}
-use Rattle.slif_base.specs.Causes.{Rose}
+use Rattle.outside_model.specs.Causes.{Rose}
 use Rattle.words_model.specs.Words.{input_named}
 use Rattle.words_model.specs.Words.InputFrom.{FileNamed}
 use Rattle.run_model.specs.Outside.{stream, disk}

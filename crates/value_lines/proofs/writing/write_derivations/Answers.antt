@@ -1,6 +1,6 @@
 use Rattle.std.proofs.Common.{◌∙◌, sym, subst, arith}
 use Rattle.std.specs.Io.KnownBytes.{Appends}
-use Rattle.slif_base.specs.Told.{AppendsPrefix}
+use Rattle.outside_model.specs.Told.{AppendsPrefix}
 use Rattle.tree_iter.specs.Iteration.{AreFew}
 use Rattle.value_lines.specs.Lines.{IsForestOf, IsLineOf}
 use Rattle.value_lines.proofs.Texts.{IsWithin, so_many_is, within_next, within_less, none_written, front_written, enough_written, all_written, one_more_written, line_in_front}

@@ -1,5 +1,5 @@
 use Rattle.std.proofs.Common.{[], sym, subst}
-use Rattle.flat_rules.specs.Flattened.{IsFlattened}
+use Rattle.flat_model.specs.Flattened.{IsFlattened}
 use Rattle.scanless.specs.Reading.{HasRead}
 use Rattle.scanless.proofs.Steps.{has_begun}
 use Rattle.scanless.proofs.reading.Reader.new.Goals as goal

@@ -16,7 +16,7 @@ use Rattle.recognizer_model.specs.Items.{InSet, Start, Predict, Skip, Scan, Comp
 use Rattle.recognizer_model.specs.Report.{line_by, IsLine}
 use Rattle.recognizer_model.proofs.FlatNamed.{get_index, index_get, among_at, at_among, map_length}
 use Rattle.report_model.specs.Report.{line_cmp}
-use Rattle.report_model.specs.Laws.{ReportIsOne}
+use Rattle.report_laws.specs.Laws.{ReportIsOne}
 use Rattle.report_model.proofs.Order.{line_asym}
 
 map_get : {A B C : Type 0} (h : A → C) (k : B → C) (xs : List A) (ys : List B) (n : ℕ) (x : A) → map h xs ≡ map k ys → slice_get xs n ≡ Some x → (y : B) × (slice_get ys n ≡ Some y) × (h x ≡ k y)

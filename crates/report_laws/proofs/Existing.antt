@@ -14,13 +14,13 @@ use Rattle.recognizer_model.specs.Report.{line_of, IsLine}
 use Rattle.recognizer_model.proofs.FlatNamed.{index_get}
 use Rattle.finite_sets.proofs.Members.{Among, among_from, contains_from, among_flat_map, among_flat_map_from}
 use Rattle.finite_sets.proofs.Sorting.{sorted_listed}
-use Rattle.flat_rules.specs.Lists.{lists, flat_lists}
+use Rattle.flat_model.specs.Lists.{lists, flat_lists}
 use Rattle.flat_rules.proofs.ListsChecked.{lists_have_flat_grammar}
 use Rattle.grammar_laws.specs.Laws.{GoForward}
 use Rattle.grammar_laws.specs.Applied.{tokens}
 use Rattle.grammar_laws.proofs.ItemSets.{item_sets_exist}
 use Rattle.report_model.specs.Report.{line_cmp}
-use Rattle.report_model.specs.Laws.{ReportsExist, ReportsApply}
+use Rattle.report_laws.specs.Laws.{ReportsExist, ReportsApply}
 use Rattle.report_model.proofs.Order.{lines_total, line_three}
 
 -- ---- what an option holds

@@ -8,7 +8,7 @@ use Rattle.recognizer_model.specs.Flat.{FlatGrammar}
 use Rattle.recognizer_model.specs.FlatForm.{IsFlatOf}
 use Rattle.recognizer_model.specs.Invariant.{IsFlat}
 use Rattle.grammar_laws.specs.Laws.{GoForward}
-use Rattle.flat_rules.specs.Lists.{lists}
+use Rattle.flat_model.specs.Lists.{lists}
 use Rattle.grammar_laws.specs.Applied.{tokens}
 use Rattle.report_model.specs.Report.{IsReport}
 

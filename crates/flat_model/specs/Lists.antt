@@ -10,7 +10,7 @@ use Rattle.recognizer_model.specs.declared.flat.FlatSource.{FlatSource}
 use Rattle.recognizer_model.specs.declared.flat.FlatSource.TheVariants.{Written, Top as OfStart}
 use Rattle.recognizer_model.specs.FlatForm.{IsFlatOf}
 use Rattle.recognizer_model.specs.Invariant.{IsFlat, IsArranged}
-use Rattle.flat_rules.specs.Flatten.{Decided, flat_of}
+use Rattle.flat_model.specs.Flatten.{Decided, flat_of}
 
 -- an alternative of E
 abbrev pub alternative : List ℕ → ℕ → WrittenRule

@@ -1,10 +1,12 @@
 -- What flattening gives: the flat grammar, or that it has too many rules.
-use Rattle.std.specs.Prelude.{◌≡◌, ◌<◌, ◌≤◌, length}
+use Rattle.std.specs.Prelude.{◌≡◌, ℕ, ◌<◌, ◌≤◌, length}
 use Rattle.grammar_model.specs.Grammar.{Grammar}
 use Rattle.recognizer_model.specs.Flat.{FlatGrammar}
 use Rattle.recognizer_model.specs.FlatForm.{IsFlatOf}
-use Rattle.flat_rules.specs.Flatten.{Decided, flat_of}
-use Rattle.flat_rules.specs.Added.{most_rules}
+use Rattle.flat_model.specs.Flatten.{Decided, flat_of}
+
+abbrev pub most_rules : ℕ
+most_rules = 65536
 
 -- it is the flat grammar, whatever tells what a check decides, and has at most so many rules
 pub record IsFlattened (w : Grammar) (f : FlatGrammar) : Type 0 where

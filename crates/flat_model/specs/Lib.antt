@@ -1,0 +1,3 @@
+pub mod Flatten
+pub mod Flattened
+pub mod Lists

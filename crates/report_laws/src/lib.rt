@@ -1,0 +1,19 @@
+//! Laws of progress reports: each is shown by a contract alone, and its function does nothing.
+#![tactic(auto)]
+
+ghost use Rattle.report_laws.specs.Laws.{ReportIsOne, ReportsApply, ReportsExist};
+
+/// A place has no two reports, whatever flat form of the grammar is read by.
+pub fn report_is_one()
+    ensures { ReportIsOne }
+{}
+
+/// Each place has a report, over edges that go forward.
+pub fn reports_exist()
+    ensures { ReportsExist }
+{}
+
+/// The laws at a grammar of lists.
+pub fn reports_apply()
+    ensures { ReportsApply }
+{}

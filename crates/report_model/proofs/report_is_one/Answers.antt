@@ -1,5 +1,0 @@
-use Rattle.report_model.proofs.One.{report_is_one}
-use Rattle.report_model.proofs.report_is_one.Goals as goal
-
-pub returns : goal.returns
-returns c = report_is_one
