@@ -8,6 +8,7 @@ use Rattle.recognizer_model.specs.declared.flat.FlatSource.TheVariants.{Written,
 use Rattle.flat_rules.specs.declared.refusal.FlatRefusal.{FlatRefusal}
 use Rattle.flat_rules.specs.declared.refusal.FlatRefusal.TheVariants.{TooManyRules, NoMemory}
 use Rattle.flat_model.specs.Flatten.{Decided, slot_rules, rules_of}
+use Rattle.flat_model.specs.Flattened.{most_rules}
 use Rattle.recognizer_model.specs.declared.flat.FlatSymbol.{FlatSymbol}
 use Rattle.std.specs.List.{flat_map}
 use Rattle.std.specs.declared.vec.Vec.{Vec}
