@@ -52,7 +52,7 @@ module _ {X : Type 0} (rank : X → ℤ) where
   highest_of (y ∷ ys) x m = highest y ys
 
 mutual
-  all_alike : (w : Grammar) (g : FlatGrammar) (E : Edges) (t : Tree) → AreAllowed (allowed_by w NoRanks g E) t
+  pub all_alike : (w : Grammar) (g : FlatGrammar) (E : Edges) (t : Tree) → AreAllowed (allowed_by w NoRanks g E) t
   all_alike w g E (Leaf x p q) = tt
   all_alike w g E (Nulled x p) = tt
   all_alike w g E (Node r cs p q) = (tt, all_alike_in w g E cs)
@@ -62,7 +62,7 @@ mutual
   all_alike_in w g E (Child front last) = (all_alike_in w g E front, all_alike w g E last)
 
 mutual
-  all_ruled : (w : Grammar) (g : FlatGrammar) (E : Edges) (t : Tree) → AreAllowed (allowed_by w RuleRanks g E) t
+  pub all_ruled : (w : Grammar) (g : FlatGrammar) (E : Edges) (t : Tree) → AreAllowed (allowed_by w RuleRanks g E) t
   all_ruled w g E (Leaf x p q) = tt
   all_ruled w g E (Nulled x p) = tt
   all_ruled w g E (Node r cs p q) = (tt, all_ruled_in w g E cs)
