@@ -1,4 +1,4 @@
--- The shared packed forest of a reading. A node stands for all ways to derive the first parts of a flat rule over a span, one
+-- The shared packed forest of a reading. A node stands for all chosen ways to derive the first parts of a flat rule over a span, one
 -- part or more. Its alternatives say where the last of these parts may begin; each has the node of the parts before, and what the
 -- last part is: an edge, a symbol that spans nothing, or the nodes of whole rules. Each node is there once, whatever uses it.
 -- Source: the Libmarpa manual (the bocage, with its or-nodes and and-nodes).
@@ -17,6 +17,7 @@ use Rattle.recognizer_model.specs.Flat.{FlatGrammar, IsRule, lhs_of, rhs_of, par
 use Rattle.recognizer_model.specs.FlatForm.{IsFlatOf, FlatEdges, flat_order}
 use Rattle.recognizer_model.specs.FlatDerives.{Derives, Spans}
 use Rattle.recognizer_model.specs.Invariant.{IsFlat}
+use Rattle.recognizer_model.specs.Chosen.{Allowed, allowed_by}
 use Rattle.recognizer_model.specs.Nodes.{IsUsed}
 use Rattle.recognizer_model.specs.Counts.{IsListOf}
 
@@ -50,6 +51,10 @@ pub record Forest : Type 0 where
 
 abbrev pub edges_of : Forest → Edges
 edges_of f = FlatEdges f.flat (Held f.edges)
+
+-- which rules the ranking allows
+abbrev pub allowed_of : Forest → Allowed
+allowed_of f = allowed_by f.written f.ranking f.flat (edges_of f)
 
 -- the rule of the start's top
 abbrev pub top_of : Forest → ℕ
@@ -95,13 +100,13 @@ pub record IsWholeOver (f : Forest) (symbol p q rule : ℕ) : Type 0 where
   pub children : Children
   pub spans : Spans f.flat (edges_of f) rule (length (rhs_of f.flat rule)) p q children
 
--- the nodes of the rules of the symbol that derive the span, one or more, in the order of the rules
+-- the nodes of the allowed rules of the symbol that derive the span, one or more, in the order of the rules
 pub record AreWholes (f : Forest) (symbol p q : ℕ) (nodes : List ℕ) : Type 0 where
   pub spans : p < q
   pub some : 0 < length nodes
   pub rules : List ℕ
   pub sorted : IsStrictlySortedBy (rules_cmp f) rules
-  pub exact : (r : ℕ) → Contains rules r ↔ IsWholeOver f symbol p q r
+  pub exact : (r : ℕ) → Contains rules r ↔ (IsWholeOver f symbol p q r × allowed_of f r p q)
   pub all : length nodes ≡ length rules
   pub each : (i n r : ℕ) → slice_get nodes i ≡ Some n → slice_get rules i ≡ Some r → IsNode f n (whole_key f r p q)
 
@@ -149,6 +154,6 @@ IsRoot f (Some n) = (0 < f.place) × IsNode f n (whole_key f (top_of f) 0 f.plac
 
 pub record IsForest (f : Forest) : Type 0 where
   pub derived : IsDerived f
-  pub used : IsListOf (IsUsed f.flat (edges_of f) (top_of f) f.place) (map (λ n. n.key) f.nodes)
+  pub used : IsListOf (IsUsed f.flat (edges_of f) (allowed_of f) (top_of f) f.place) (map (λ n. n.key) f.nodes)
   pub alternatives : (n : ForestNode) → Contains f.nodes n → AreAlternatives f n.key n.alternatives
   pub root : IsRoot f f.root

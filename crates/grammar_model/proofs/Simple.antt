@@ -13,7 +13,7 @@ use Rattle.grammar_model.specs.Grammar.{Grammar, Slot, WrittenRule, Plain, Seque
 use Rattle.grammar_model.specs.Trees.{Tree, Children, Leaf, Nulled, Node, NoChild, Child, child_count}
 use Rattle.grammar_model.specs.Analysis.{IsNullableIn, IsStar}
 use Rattle.grammar_model.specs.Derives.{Edges, Derives, DerivesFront}
-use Rattle.grammar_model.specs.Order.{Ranking, NoRanks, RuleRanks, RuleOrder, rank_by, rank_order}
+use Rattle.grammar_model.specs.Order.{Ranking, NoRanks, RuleRanks, HighRanks, RuleOrder, rank_by, rank_order}
 use Rattle.grammar_model.specs.All.{IsAll}
 use Rattle.grammar_model.specs.Simple.{IsSimple, IsSimpleRule, Tested, is_terminal, fits, numbers, places, part_count, Below, simple_fronts, simple_leaves, fitting, simple_nodes, simple_trees}
 use Rattle.grammar_model.proofs.Sorting.{ranks_order}
@@ -155,6 +155,8 @@ unranked : (g : Grammar) (ranking : Ranking) (rule : WrittenRule) → IsSimpleRu
 unranked g NoRanks rule s = refl
 unranked g RuleRanks (Plain r) s = s.1
 unranked g RuleRanks (Sequence r) s = absurd s
+unranked g HighRanks (Plain r) s = s.1
+unranked g HighRanks (Sequence r) s = absurd s
 
 count_is : (g : Grammar) (rule : WrittenRule) (n : ℕ) → IsSimpleRule g rule → IsChildCount rule n ↔ (n ≡ part_count rule)
 count_is g (Plain r) n s = (λ h. h, λ h. h)

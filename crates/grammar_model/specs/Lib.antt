@@ -4,6 +4,7 @@ pub mod Analysis
 pub mod Derives
 pub mod Order
 pub mod All
+pub mod Chosen
 pub mod Simple
 pub mod Steps
 pub mod Cycles

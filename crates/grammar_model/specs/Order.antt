@@ -9,13 +9,14 @@ use Rattle.std.specs.declared.cmp.Ordering.TheVariants.{Less, Equal, Greater}
 use Rattle.std.specs.Cmp.{IsTotalOrder}
 use Rattle.std.specs.Ordering.{ordering_then, nat_cmp, int_cmp, bool_cmp}
 pub use Rattle.grammar_model.specs.declared.Ranking.{Ranking}
-pub use Rattle.grammar_model.specs.declared.Ranking.TheVariants.{None as NoRanks, Rule as RuleRanks}
+pub use Rattle.grammar_model.specs.declared.Ranking.TheVariants.{None as NoRanks, Rule as RuleRanks, High as HighRanks}
 use Rattle.grammar_model.specs.Grammar.{Grammar, WrittenRule, rule_at, rank_of, null_high_of, has_trailing}
 use Rattle.grammar_model.specs.Trees.{Tree, Children, Leaf, Nulled, Node, NoChild, Child, child_count, from_of}
 
 abbrev pub rank_by : Ranking → WrittenRule → ℤ
 rank_by NoRanks rule = pos 0
 rank_by RuleRanks rule = rank_of rule
+rank_by HighRanks rule = rank_of rule
 
 -- how rules compare, given the numbers of their nodes' children, and which rules put a nulled last child first
 pub record RuleOrder : Type 0 where

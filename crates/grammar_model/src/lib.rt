@@ -30,11 +30,15 @@ pub struct Edge {
     pub to: u32,
 }
 
-/// Whether ranks count in the order of derivations.
+/// Whether ranks count: in the order of derivations, and in which of them are given.
 #[derive(Clone, Copy, Debug, PartialEq, Eq)]
 pub enum Ranking {
+    /// They do not count.
     None,
+    /// They count in the order.
     Rule,
+    /// They count as under `Rule`, and only derivations are given whose nodes all have a rule of the best rank in their place.
+    High,
 }
 
 /// What is told of a derivation: the value that its actions make, or the tree itself.

@@ -56,7 +56,7 @@ source_written w (Sequence j) (Written i) h inner = refl
 source_written w (Sequence j) (OfStart l) h inner = absurd h
 source_written w (Top k) o h inner = absurd inner
 
-inner_stands : (w : Grammar) (s : FlatSymbol) (slot : Grammar.Slot) → FlatForm.StandsFor w s slot → IsInner (form s) → Forms.StandsFor (form s) slot
+pub inner_stands : (w : Grammar) (s : FlatSymbol) (slot : Grammar.Slot) → FlatForm.StandsFor w s slot → IsInner (form s) → Forms.StandsFor (form s) slot
 inner_stands w (Terminal t) slot st inner = st
 inner_stands w (Slot s k) slot st inner = st
 inner_stands w (Sequence i) slot st inner = absurd st
@@ -116,7 +116,7 @@ module _ (f : FlatGrammar) (w : Grammar) (flat : IsFlat f) (made : IsFlatOf f w)
   last_at r k m q t rule d = subst (λ z. Derives F E (child_slot z k) m q t) (laws.flat r (in_view f r rule)) d
 
   mutual
-    agree_tree : (t : Tree) (x p q : ℕ) → IsInner (form (symbol_at f x)) → Derives F E (slot_of x) p q t → tree_of w f t ≡ Forms.tree_of n t
+    pub agree_tree : (t : Tree) (x p q : ℕ) → IsInner (form (symbol_at f x)) → Derives F E (slot_of x) p q t → tree_of w f t ≡ Forms.tree_of n t
     agree_tree (Leaf y a b) x p q inner d =
         let l = view_leaf f w flat made checked edge y a b d.terminal d.held in
         ap (λ z. Leaf z a b) (subst (λ z. written_symbol w z ≡ Forms.written_symbol (form z)) (sym (form_terminal f w flat made checked (symbol_at f y) l.0 l.1)) refl)
@@ -172,18 +172,18 @@ module _ (f : FlatGrammar) (w : Grammar) (flat : IsFlat f) (made : IsFlatOf f w)
   -- ---- tops
 
   -- what a top's node has: its start's symbol alone
-  record TopNode (k r p q : ℕ) (cs : Children) : Type 0 where
-    child : Tree
-    symbol : ℕ
-    start : ℕ
-    is_child : cs ≡ Child NoChild child
-    is_part : slice_index (n.rhs r) 0 ≡ symbol
-    source : source_of f r ≡ OfStart k
-    in_range : symbol < length f.symbols
-    inner : IsInner (form (symbol_at f symbol))
-    at : slice_get w.starts k ≡ Some start
-    stands : FlatForm.StandsFor w (symbol_at f symbol) (slot_of start)
-    derives : Derives F E (slot_of symbol) p q child
+  pub record TopNode (k r p q : ℕ) (cs : Children) : Type 0 where
+    pub child : Tree
+    pub symbol : ℕ
+    pub start : ℕ
+    pub is_child : cs ≡ Child NoChild child
+    pub is_part : slice_index (n.rhs r) 0 ≡ symbol
+    pub source : source_of f r ≡ OfStart k
+    pub in_range : symbol < length f.symbols
+    pub inner : IsInner (form (symbol_at f symbol))
+    pub at : slice_get w.starts k ≡ Some start
+    pub stands : FlatForm.StandsFor w (symbol_at f symbol) (slot_of start)
+    pub derives : Derives F E (slot_of symbol) p q child
 
   record TopRight (k : ℕ) (name : NamedRule) : Type 0 where
     start : ℕ
@@ -242,7 +242,7 @@ module _ (f : FlatGrammar) (w : Grammar) (flat : IsFlat f) (made : IsFlatOf f w)
         stands = subst (λ z. FlatForm.StandsFor w z (slot_of t.start)) (sym symbol) st.0;
       }
 
-  top_node : (x k p q r : ℕ) (cs : Children) (a b : ℕ) → symbol_at f x ≡ Top k → Derives F E (slot_of x) p q (Node r cs a b) → IsRule f r × (n.lhs r ≡ x) × TopNode k r p q cs
+  pub top_node : (x k p q r : ℕ) (cs : Children) (a b : ℕ) → symbol_at f x ≡ Top k → Derives F E (slot_of x) p q (Node r cs a b) → IsRule f r × (n.lhs r ≡ x) × TopNode k r p q cs
   top_node x k p q r cs a b is d =
       let hp = has_parts x p q r cs a b d in
       let rule = is_real r d.in_range hp.2 in
@@ -269,7 +269,7 @@ module _ (f : FlatGrammar) (w : Grammar) (flat : IsFlat f) (made : IsFlatOf f w)
   one_start k {a = a} {b = b} e e' = let s : Some a ≡ Some b = sym e ∙ e' in cc
 
   -- a top's node stands for what its child does
-  top_tree : (k r p q : ℕ) (cs : Children) (a b : ℕ) (t : TopNode k r p q cs) → tree_of w f (Node r cs a b) ≡ tree_of w f t.child
+  pub top_tree : (k r p q : ℕ) (cs : Children) (a b : ℕ) (t : TopNode k r p q cs) → tree_of w f (Node r cs a b) ≡ tree_of w f t.child
   top_tree k r p q cs a b t =
       let st = inner_stands w (symbol_at f t.symbol) (slot_of t.start) t.stands t.inner in
       let other : is_list_node f t.child ≡ false = same_test t.symbol p q t.child t.derives ∙ FlatSound.not_list F w n E edge laws t.symbol p q (slot_of t.start) t.child t.derives st in
@@ -277,10 +277,10 @@ module _ (f : FlatGrammar) (w : Grammar) (flat : IsFlat f) (made : IsFlatOf f w)
       ∙ ap (λ c. node_by (OfStart k) (children_of w f c) a b) t.is_child
       ∙ ap (λ c. node_by (OfStart k) c a b) (cond-false _ (join NoChild (inside w f t.child)) (Child NoChild (tree_of w f t.child)) other)
 
-  top_told : (x k : ℕ) → x < length f.symbols → symbol_at f x ≡ Top k → slice_get f.symbols x ≡ Some (Top k)
+  pub top_told : (x k : ℕ) → x < length f.symbols → symbol_at f x ≡ Top k → slice_get f.symbols x ≡ Some (Top k)
   top_told x k lt is = index_get f.symbols x (Top 0) lt ∙ ap Some is
 
-  no_top_leaf : (x k p q y a b : ℕ) → symbol_at f x ≡ Top k → Derives F E (slot_of x) p q (Leaf y a b) → ⊥
+  pub no_top_leaf : (x k p q y a b : ℕ) → symbol_at f x ≡ Top k → Derives F E (slot_of x) p q (Leaf y a b) → ⊥
   no_top_leaf x k p q y a b is d =
       let (t, at, h) = d.held in
       let bad : Terminal t ≡ Top k = sym (at_symbol f w flat made checked y (Terminal t) at) ∙ ap (symbol_at f) d.symbol_is ∙ is in cc
@@ -304,6 +304,15 @@ module _ (f : FlatGrammar) (w : Grammar) (flat : IsFlat f) (made : IsFlatOf f w)
       let under = inner_sound t.symbol p q (slot_of t.start) t.child t.inner t.stands t.derives in
       subst (λ z. Derives w edge (slot_of start) p q z) (sym (top_tree k r p q cs a b t)) (subst (λ z. Derives w edge (slot_of z) p q (tree_of w f t.child)) (one_start k t.at at) under)
 
+  -- a top's symbol has one rule
+  pub only_top : (k r r' : ℕ) → IsRule f r → IsRule f r' → symbol_at f (lhs_of f r) ≡ Top k → symbol_at f (lhs_of f r') ≡ Top k → lhs_of f r' ≡ lhs_of f r → r' ≡ r
+  only_top k r r' rule rule' s s' same =
+      let in_tops = flat.all_tops (lhs_of f r) k (top_told (lhs_of f r) k (flat.in_range.left r rule) s) in
+      let at = index_get f.tops k 0 in_tops in
+      let top = flat.tops k (slice_index_or f.tops k 0) at in
+      let there : lhs_of f r ≡ lhs_of f (slice_index_or f.tops k 0) = flat.differ (lhs_of f r) (lhs_of f (slice_index_or f.tops k 0)) (Top k) (top_told (lhs_of f r) k (flat.in_range.left r rule) s) top.symbol in
+      top.is_top.alone r' rule' (same ∙ there) ∙ sym (top.is_top.alone r rule there)
+
   top_order : (x k p q : ℕ) (t u : Tree) → x < length f.symbols → symbol_at f x ≡ Top k → Derives F E (slot_of x) p q t → Derives F E (slot_of x) p q u →
       tree_cmp (flat_order w ranking f) t u ≡ tree_cmp (rank_order w ranking) (tree_of w f t) (tree_of w f u)
   top_order x k p q (Leaf y a b) u lt is d e = absurd (no_top_leaf x k p q y a b is d)
@@ -317,7 +326,7 @@ module _ (f : FlatGrammar) (w : Grammar) (flat : IsFlat f) (made : IsFlatOf f w)
       let (rule', left', u) = top_node x k p q r' ds a' b' is e in
       let l = sym (lhs_is f w flat made checked r rule) ∙ left in
       let l' = sym (lhs_is f w flat made checked r' rule') ∙ left' in
-      let one : r' ≡ r = only_top r r' rule rule' (ap (symbol_at f) l ∙ is) (ap (symbol_at f) l' ∙ is) (l' ∙ sym l) in
+      let one : r' ≡ r = only_top k r r' rule rule' (ap (symbol_at f) l ∙ is) (ap (symbol_at f) l' ∙ is) (l' ∙ sym l) in
       let symbols : u.symbol ≡ t.symbol = sym u.is_part ∙ ap (λ z. slice_index (n.rhs z) 0) one ∙ t.is_part in
       let ud : Derives F E (slot_of t.symbol) p q u.child = subst (λ z. Derives F E (slot_of z) p q u.child) symbols u.derives in
       let under = inner_order t.symbol p q (slot_of t.start) t.child u.child t.inner t.stands t.derives ud in
@@ -325,14 +334,6 @@ module _ (f : FlatGrammar) (w : Grammar) (flat : IsFlat f) (made : IsFlatOf f w)
     where
       high : Bool
       high = (flat_order w ranking f).null_high r
-
-      only_top : (r r' : ℕ) → IsRule f r → IsRule f r' → symbol_at f (lhs_of f r) ≡ Top k → symbol_at f (lhs_of f r') ≡ Top k → lhs_of f r' ≡ lhs_of f r → r' ≡ r
-      only_top r r' rule rule' s s' same =
-          let in_tops = flat.all_tops (lhs_of f r) k (top_told (lhs_of f r) k (flat.in_range.left r rule) s) in
-          let at = index_get f.tops k 0 in_tops in
-          let top = flat.tops k (slice_index_or f.tops k 0) at in
-          let there : lhs_of f r ≡ lhs_of f (slice_index_or f.tops k 0) = flat.differ (lhs_of f r) (lhs_of f (slice_index_or f.tops k 0)) (Top k) (top_told (lhs_of f r) k (flat.in_range.left r rule) s) top.symbol in
-          top.is_top.alone r' rule' (same ∙ there) ∙ sym (top.is_top.alone r rule there)
 
       spans : (v : Tree) (y : ℕ) → Derives F E (slot_of y) p q v → null_place high v ≡ 1
       spans (Leaf s c e') y h = refl
@@ -407,10 +408,10 @@ module _ (f : FlatGrammar) (w : Grammar) (flat : IsFlat f) (made : IsFlatOf f w)
 
   -- ---- all symbols
 
-  abbrev Standing : ℕ → Grammar.Slot → Type 0
+  abbrev pub Standing : ℕ → Grammar.Slot → Type 0
   Standing x slot = IsInner (form (symbol_at f x)) ⊎ ((k : ℕ) × (start : ℕ) × (symbol_at f x ≡ Top k) × (slice_get w.starts k ≡ Some start) × (slot ≡ slot_of start))
 
-  standing : (s : FlatSymbol) (x : ℕ) (slot : Grammar.Slot) → symbol_at f x ≡ s → FlatForm.StandsFor w s slot → Standing x slot
+  pub standing : (s : FlatSymbol) (x : ℕ) (slot : Grammar.Slot) → symbol_at f x ≡ s → FlatForm.StandsFor w s slot → Standing x slot
   standing (Terminal t) x slot e st = inl (subst (λ z. IsInner (form z)) (sym e) tt)
   standing (Slot s k) x slot e st = inl (subst (λ z. IsInner (form z)) (sym e) tt)
   standing (Sequence i) x slot e st = absurd st

@@ -6,6 +6,9 @@ use Rattle.recognizer_model.specs.FlatForm.{FlatEdges}
 use Rattle.recognizer_model.specs.Contexts.{IsTop, ItemsAreFound}
 use Rattle.recognizer_model.specs.Leo.{LeoIsKnown, KeepsWaiting, ExpandsToAll}
 use Rattle.recognizer_model.specs.Acceptable.{IsTerminal, MarksAreClosed, PartsAreProductive, NoTerminalHasRules, TerminalsSpan, AcceptableAreAwaited}
+use Rattle.grammar_model.specs.Grammar.{Grammar}
+use Rattle.grammar_model.specs.declared.Ranking.{Ranking}
+use Rattle.recognizer_model.specs.Chosen.{LeavesSome, allowed_by}
 use Rattle.recognizer_model.specs.Nodes.{UsedAreMet}
 use Rattle.recognizer_model.specs.View.{SameDerivations}
 
@@ -29,7 +32,7 @@ pub record EarleyLaws (g : FlatGrammar) (E : Edges) (top : ℕ) : Type 0 where
   pub expands : (place : ℕ) → LeoIsKnown g E top place → ExpandsToAll g E top place
   pub acceptable : AcceptableAreAwaited g E top
   pub same : SameDerivations g E
-  pub used : UsedAreMet g E top
+  pub used : (w : Grammar) (ranking : Ranking) → LeavesSome g E (allowed_by w ranking g E) → UsedAreMet g E (allowed_by w ranking g E) top
 
 -- the laws, over edges of flat symbols and over edges of written terminals
 pub record HasEarleyLaws (g : FlatGrammar) (edges : List Edge) (top : ℕ) : Type 0 where

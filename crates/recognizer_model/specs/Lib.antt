@@ -6,6 +6,7 @@ pub mod Contexts
 pub mod Leo
 pub mod Acceptable
 pub mod Counts
+pub mod Chosen
 pub mod Nodes
 pub mod Links
 pub mod Report

@@ -11,6 +11,7 @@ use Rattle.recognizer_model.proofs.Leo.{keeps_waiting, expands_to_all}
 use Rattle.recognizer_model.proofs.Paths.{acceptable_are_awaited}
 use Rattle.recognizer_model.proofs.Views.{symbol_viewed, symbol_back}
 use Rattle.grammar_model.specs.Grammar.{slot_of}
+use Rattle.recognizer_model.specs.Chosen.{allowed_by}
 use Rattle.recognizer_model.proofs.Nodes.{used_are_met}
 use Rattle.recognizer_model.proofs.earley_laws.Goals as goal
 
@@ -21,7 +22,7 @@ laws_over g E top sound only forward = record {
   expands = expands_to_all g E top sound.is_top forward;
   acceptable = acceptable_are_awaited g E top sound.is_top forward only sound.no_rules sound.marks sound.productive sound.spans;
   same = λ x p q t. ((λ d. symbol_viewed g sound.marks E only sound.no_rules sound.spans d), (λ d. symbol_back g sound.marks E only sound.no_rules sound.spans t (slot_of x) p q d));
-  used = used_are_met g E top sound.is_top only sound.no_rules;
+  used = λ w ranking leaves. used_are_met g E (allowed_by w ranking g E) top sound.is_top only sound.no_rules leaves;
 }
 
 pub returns : goal.returns
