@@ -57,13 +57,14 @@ pub fn number_from(least: u32, most: u32, value: &str) -> Option<u32>
     }
 }
 
-/// The ranking of that name: `none` or `rule`.
+/// The ranking of that name: `none`, `rule` or `high`.
 pub fn ranking_of(value: &str) -> Option<Ranking>
     ensures { result ≡ model.ranking_of value.now }
 {
     match value {
         "none" => Some(Ranking::None),
         "rule" => Some(Ranking::Rule),
+        "high" => Some(Ranking::High),
         _ => None,
     }
 }

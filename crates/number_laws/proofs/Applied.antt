@@ -1,7 +1,7 @@
 -- The numbers of one token, read by a chain of rules: what its sets keep, what its nodes are, and what is left out.
 use Rattle.std.proofs.Common.{arith, ◌≡◌, inl, inr, ℕ, zero, suc, ◌+◌, ◌*◌, ◌<◌, ◌≤◌, List, [], ◌∷◌, length, Some, slice_get, refl, sym, ◌∙◌, ap, subst, lit<}
 use Rattle.grammar_model.specs.declared.Edge.{Edge}
-use Rattle.grammar_model.specs.Trees.{Tree, Children, Leaf, Node, NoChild, Child}
+use Rattle.grammar_model.specs.Trees.{Tree, Children, Leaf, Nulled, Node, NoChild, Child}
 use Rattle.grammar_model.specs.Derives.{Edges, Held}
 use Rattle.recognizer_model.specs.declared.Item.{Item}
 use Rattle.recognizer_model.specs.declared.NodeKey.{NodeKey}
@@ -14,12 +14,13 @@ use Rattle.recognizer_model.specs.Items.{after, first_item, advanced, InSet}
 use Rattle.recognizer_model.specs.Contexts.{IsTop}
 use Rattle.recognizer_model.specs.Counts.{IsListOf}
 use Rattle.recognizer_model.specs.Leo.{IsLeo, IsNotLeo, LeadsTo, InReduced, InExpanded, IsHidden, GoesForward}
+use Rattle.recognizer_model.specs.Chosen.{AreAllowed, AreAllowedIn, LeavesSome}
 use Rattle.recognizer_model.specs.Nodes.{Has, All, Inside, IsUsed, IsMet, Whole, Before, Last, Placed, IsExpanded}
 use Rattle.recognizer_model.proofs.Leo.{reduced_inside, expanded_inside}
 use Rattle.recognizer_model.proofs.Nodes.{used_are_met}
 use Rattle.finite_sets.proofs.Members.{Among, among_from, contains_from, Once, once_pairs}
 use Rattle.grammar_laws.specs.Reduced.{chain, one_token}
-use Rattle.number_laws.specs.Applied.{NumbersApply}
+use Rattle.number_laws.specs.Applied.{any_rule, NumbersApply}
 
 abbrev E : Edges
 E = FlatEdges chain (Held one_token)
@@ -255,8 +256,21 @@ node_of r = record { rule = r; dot = 1; origin = 0; end = 1 }
 abbrev nodes : List NodeKey
 nodes = node_of 0 ∷ node_of 1 ∷ node_of 2 ∷ []
 
+mutual
+  any_tree : (t : Tree) → AreAllowed any_rule t
+  any_tree (Leaf x p q) = tt
+  any_tree (Nulled x p) = tt
+  any_tree (Node r cs p q) = (tt, any_front cs)
+
+  any_front : (cs : Children) → AreAllowedIn any_rule cs
+  any_front NoChild = tt
+  any_front (Child front last) = (any_front front, any_tree last)
+
+leaves : LeavesSome chain E any_rule
+leaves x p q t d = (t, d, any_tree t)
+
 abbrev Used : NodeKey → Type 0
-Used = IsUsed chain E 2 1
+Used = IsUsed chain E any_rule 2 1
 
 record IsOver (r p q : ℕ) : Type 0 where
   rule : r < 3
@@ -267,10 +281,10 @@ nothing_before : {r d p q : ℕ} {cs : Children} → Spans chain E r d p q cs �
 nothing_before Nothing e = refl
 nothing_before (More s a t) e = absurd (omega (arith, e))
 
-met_over : {r d p q : ℕ} → IsMet chain E 2 1 r d p q → 0 < d → IsOver r p q × (d ≡ 1)
+met_over : {r d p q : ℕ} → IsMet chain E any_rule 2 1 r d p q → 0 < d → IsOver r p q × (d ≡ 1)
 met_over (Whole some s) lt = (record { rule = lit< tt; origin = refl; end = refl }, refl)
 met_over (Before m s e t) lt = let above = (met_over m (omega arith)).1 in absurd (omega (arith, above, lt))
-met_over (Last {r' = r'} {p = p} {m = m} met s e rule lt' s') lt =
+met_over (Last {r' = r'} {p = p} {m = m} met s e rule lt' s' allowed) lt =
     let (over, one) = met_over met (omega arith) in
     let begin = nothing_before s (omega (arith, one)) in
     (record { rule = rule; origin = begin ∙ over.origin; end = over.end }, (left_is r' rule).1)
@@ -286,7 +300,7 @@ among_nodes (suc (suc (suc r))) lt = absurd (omega (arith, lt))
 
 to_nodes : (n : NodeKey) → Used n → Among n nodes
 to_nodes n u =
-    let (some, met) = (used_are_met chain E 2 is_top only no_rules 1 n).0 u in
+    let (some, met) = (used_are_met chain E any_rule 2 is_top only no_rules leaves 1 n).0 u in
     let (over, one) = met_over met some in
     subst (λ z. Among z nodes) (node_is n over one) (among_nodes n.rule over.rule)
 
@@ -303,7 +317,7 @@ derives : Derives chain E 3 0 1 tree
 derives = Rule {r = 2} (lit< tt) refl (lit< tt) (More Nothing refl (Rule {r = 1} (lit< tt) refl (lit< tt) (More Nothing refl (Rule {r = 0} (lit< tt) refl (lit< tt) (More Nothing refl (Token (0, refl, (0, lit< tt, refl))))))))
 
 use_of : (n : NodeKey) (t : Tree) → Has tree n.rule n.origin n.end (Child NoChild t) → n.dot ≡ 1 → Used n
-use_of n t has one = record { tree = tree; derives = derives; children = Child NoChild t; has = has; dot_is = one; some = omega (arith, one) }
+use_of n t has one = record { tree = tree; derives = derives; chosen = any_tree tree; children = Child NoChild t; has = has; dot_is = one; some = omega (arith, one) }
 
 from_nodes : (n : NodeKey) → Among n nodes → Used n
 from_nodes n (inl e) = subst Used e (use_of (node_of 0) (Leaf 0 0 1) (Inside (Inside All)) refl)
@@ -320,7 +334,7 @@ abbrev left_out : List Placed
 left_out = placed 1 1 ∷ []
 
 abbrev Expanded : Placed → Type 0
-Expanded = IsExpanded chain E 2 1
+Expanded = IsExpanded chain E any_rule 2 1
 
 hidden : IsHidden chain E 2 1 (item_at 1 1)
 hidden = (InExpanded.Step {whole = advanced (first_item 0 0)} {item = first_item 1 0} (InExpanded.Kept ended_a) refl (lit< tt) first_pair, λ k. not_kept k refl refl)
@@ -333,7 +347,7 @@ from_left p (inr m) = absurd m
 to_left : (p : Placed) → Expanded p → Among p left_out
 to_left p (h, (n, u, end, le)) =
     let here = at (expanded_inside chain E 2 is_top goes h.0) in
-    let (some, met) = (used_are_met chain E 2 is_top only no_rules 1 n).0 u in
+    let (some, met) = (used_are_met chain E any_rule 2 is_top only no_rules leaves 1 n).0 u in
     let over = (met_over met some).0 in
     let place : p.place ≡ 1 = sym end ∙ over.end in
     rule_by (λ r. placed 1 r ≡ p → Among p left_out) (λ e. absurd (kept_too e ended_a)) (λ e. inl e) (λ e. absurd (kept_too e ended_top)) p.item.rule here.rule

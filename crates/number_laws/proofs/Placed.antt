@@ -9,6 +9,7 @@ use Rattle.recognizer_model.specs.Items.{InSet}
 use Rattle.recognizer_model.specs.Contexts.{IsTop}
 use Rattle.recognizer_model.specs.Leo.{InReduced, GoesForward}
 use Rattle.recognizer_model.specs.Counts.{IsListOf}
+use Rattle.recognizer_model.specs.Chosen.{Allowed}
 use Rattle.recognizer_model.specs.Nodes.{IsUsed, Placed, IsExpanded}
 use Rattle.recognizer_model.proofs.Leo.{reduced_inside}
 use Rattle.finite_sets.specs.Decided.{IsDecided}
@@ -39,15 +40,15 @@ module _ (g : FlatGrammar) (E : Edges) (top : ℕ) (is_top : IsTop g top) (forwa
       list_of (λ p. (p.place ≤ place) × InReduced g E top p.place p.item) same_placed (λ p. both (at_most p.place place) (kept_decided g E top is_top forward edge sets p.place p.item)) (items_at (values (λ j. j) (suc place)))
       (λ p (le, k). in_items (values (λ j. j) (suc place)) p (among_values (λ j. j) (suc place) p.place (omega (arith, le))) (reduced_inside g E top is_top forward k))
 
-  module _ (place : ℕ) (used : List NodeKey) (are : IsListOf (IsUsed g E top place) used) where
-    expanded_decided : (p : Placed) → IsDecided (IsExpanded g E top place p)
+  module _ (allowed : Allowed) (place : ℕ) (used : List NodeKey) (are : IsListOf (IsUsed g E allowed top place) used) where
+    expanded_decided : (p : Placed) → IsDecided (IsExpanded g E allowed top place p)
     expanded_decided p =
         both (hidden_decided g E top is_top forward edge sets p.place p.item)
         (moved (λ (n, m, (e, le)). (n, (are.exact n).0 (contains_from used n m), e, le)) (λ (n, u, e, le). (n, among_from used n ((are.exact n).1 u), (e, le)))
         (some_among (λ n. (n.end ≡ p.place) × (n.origin ≤ p.item.origin)) used (λ n m. both (equal n.end p.place) (at_most n.origin p.item.origin))))
 
-    pub expanded_list : (xs : List Placed) × IsListOf (IsExpanded g E top place) xs
+    pub expanded_list : (xs : List Placed) × IsListOf (IsExpanded g E allowed top place) xs
     expanded_list =
-        list_of (IsExpanded g E top place) same_placed expanded_decided (items_at (map (λ n. n.end) used))
+        list_of (IsExpanded g E allowed top place) same_placed expanded_decided (items_at (map (λ n. n.end) used))
         (λ p (hidden, (n, u, e, le)). in_items (map (λ n. n.end) used) p (subst (λ k. Among k (map (λ (n : NodeKey). n.end) used)) e (among_map (λ (n : NodeKey). n.end) n used (among_from used n ((are.exact n).1 u))))
         (hidden_inside g E top is_top forward edge sets p.place p.item hidden))

@@ -8,8 +8,8 @@ use Rattle.run_model.specs.Numbers.{Numbers, HasNumbers}
 
 -- a reading has its numbers
 abbrev pub NumbersExist : Type 0
-NumbersExist = (b : Built) (pieces : List Piece) → IsBuilt b → IsAccepted b → (n : Numbers) × HasNumbers b pieces n
+NumbersExist = (b : Built) (ranking : Ranking) (pieces : List Piece) → IsBuilt b → IsAccepted b → (n : Numbers) × HasNumbers b ranking pieces n
 
 -- and only these
 abbrev pub NumbersAreOne : Type 0
-NumbersAreOne = (b : Built) (pieces : List Piece) (m n : Numbers) → HasNumbers b pieces m → HasNumbers b pieces n → m ≡ n
+NumbersAreOne = (b : Built) (ranking : Ranking) (pieces : List Piece) (m n : Numbers) → HasNumbers b ranking pieces m → HasNumbers b ranking pieces n → m ≡ n

@@ -7,8 +7,7 @@ use Rattle.grammar_model.specs.Grammar.{Grammar, slot_of}
 use Rattle.grammar_model.specs.Simple.{numbers}
 use Rattle.grammar_model.specs.Trees.{Tree}
 use Rattle.grammar_model.specs.Derives.{Held}
-use Rattle.grammar_model.specs.Order.{rank_order}
-use Rattle.grammar_model.specs.All.{IsAll}
+use Rattle.grammar_model.specs.Chosen.{AreChosen}
 use Rattle.grammar_model.specs.Checked.{IsChecked}
 use Rattle.grammar_model.proofs.Lists.{Among, among_from, contains_from, among_map_from, among_flat_map}
 use Rattle.recognizer_model.specs.Flat.{FlatGrammar, FlatRule, lhs_of, rhs_of, no_rule}
@@ -16,8 +15,8 @@ use Rattle.recognizer_model.specs.declared.flat.FlatSymbol.TheVariants.{Top}
 use Rattle.recognizer_model.specs.FlatForm.{NamedRule, IsRuleOf, OfPlain, OfList, OfTrailing, OfItem, OfItems, OfSeparated, OfTop, IsFlatOf, StandsFor, symbol_at, tree_of}
 use Rattle.recognizer_model.specs.Invariant.{IsFlat, IsTopOf, IsAccessible, Outermost, Below}
 use Rattle.recognizer_model.proofs.FlatNamed.{get_index, index_get, among_at, map_length}
-use Rattle.recognizer_model.proofs.FlatListed.{flat_list, written_all}
-use Rattle.recognizer_model.proofs.FlatFormLaw.{flat_form}
+use Rattle.recognizer_model.proofs.ChosenListed.{chosen_list}
+use Rattle.recognizer_model.proofs.FlatChosen.{written_chosen}
 use Rattle.flat_model.specs.Flatten.{Decided, AreFew, flat_of, named_rules, number_of, numbered}
 use Rattle.flat_rules.proofs.FlatOf.{append_length, numbers_length, rules_length, split, front, top_made, is_flat_of}
 use Rattle.flat_rules.proofs.Law.{flat_grammars_exist}
@@ -152,12 +151,12 @@ module _ (w : Grammar) (checked : IsChecked w) (few : HasFewRules w) (short : Ha
       subst (λ s. StandsFor w s (slot_of first)) (sym (get_index f.symbols (lhs_of f top) (Top 0) (Top 0) is_top.symbol).1)
       (first, index_get w.starts 0 0 checked.some_start, refl)
 
-  pub first_listed : (ranking : Ranking) (edges : List Edge) (p q : ℕ) → GoForward (Held edges) → (trees : List Tree) × IsAll w (Held edges) (rank_order w ranking) (slot_of first) p q trees
+  pub first_listed : (ranking : Ranking) (edges : List Edge) (p q : ℕ) → GoForward (Held edges) → (trees : List Tree) × AreChosen w (Held edges) ranking (slot_of first) p q trees
   first_listed ranking edges p q forward =
-      let l = flat_list f w flat ranking edges forward (slot_of (lhs_of f top)) p q in (
-        map (tree_of w f) l.0,
-        written_all f w flat ranking edges forward (flat_form f w flat made checked (Held edges) forward ranking) (lhs_of f top) p q (slot_of first) l.0
-            (flat.in_range.left top is_top.is_top.is_rule) stands l.1,
+      let (trees, sorted, each) = chosen_list f w flat edges forward ranking (lhs_of f top) p q in (
+        map (tree_of w f) trees,
+        written_chosen f w flat made checked (Held edges) forward ranking (lhs_of f top) p q (slot_of first) trees
+            (flat.in_range.left top is_top.is_top.is_rule) stands sorted each,
       )
 
 -- such a grammar has a flat form

@@ -1,4 +1,4 @@
--- That the derivations of what is read have a list, in the declared order. That they have one list only is a law of derivations.
+-- That the chosen derivations of what is read have a list, in the declared order. That they have one list only is a law of derivations.
 use Rattle.std.specs.Prelude.{◌≡◌, ℕ, ◌<◌, ◌≤◌, List, [], ◌∷◌, length, slice_index_or}
 use Rattle.grammar_model.specs.declared.Edge.{Edge}
 use Rattle.grammar_model.specs.declared.Ranking.{Ranking}
@@ -6,8 +6,7 @@ use Rattle.grammar_model.specs.declared.Ranking.TheVariants.{Rule as RuleRanks}
 use Rattle.grammar_model.specs.Grammar.{PlainRule, Plain, Grammar, rule_at, slot_of}
 use Rattle.grammar_model.specs.Trees.{Tree}
 use Rattle.grammar_model.specs.Derives.{Held}
-use Rattle.grammar_model.specs.Order.{rank_order}
-use Rattle.grammar_model.specs.All.{IsAll}
+use Rattle.grammar_model.specs.Chosen.{AreChosen}
 use Rattle.grammar_model.specs.Checked.{IsChecked}
 use Rattle.language_model.specs.Building.{Built}
 use Rattle.language_model.specs.Texts.{IsBuilt}
@@ -24,15 +23,15 @@ HasShortRules g = (i : ℕ) (rule : PlainRule) → i < length g.rules → rule_a
 abbrev pub BuiltAreShort : Type 0
 BuiltAreShort = (b : Built) → IsBuilt b → HasShortRules b.g1
 
--- the derivations of the first start of a grammar that is accepted have a list, over edges that go forward
+-- the chosen derivations of the first start of a grammar that is accepted have a list, over edges that go forward
 abbrev pub StartsAreListed : Type 0
 StartsAreListed = (g : Grammar) (ranking : Ranking) (edges : List Edge) (p q : ℕ) → IsChecked g → HasFewRules g → HasShortRules g → GoForward (Held edges) →
-    (trees : List Tree) × IsAll g (Held edges) (rank_order g ranking) (slot_of (slice_index_or g.starts 0 0)) p q trees
+    (trees : List Tree) × AreChosen g (Held edges) ranking (slot_of (slice_index_or g.starts 0 0)) p q trees
 
--- the derivations of any pieces have a list, in the declared order
+-- the chosen derivations of any pieces have a list, in the declared order
 abbrev pub DerivationsAreListed : Type 0
 DerivationsAreListed = (b : Built) (ranking : Ranking) (pieces : List Piece) → IsBuilt b → IsAccepted b →
-    (trees : List Tree) × IsAll b.g1 (Held (edges_of pieces)) (rank_order b.g1 ranking) (slot_of (slice_index_or b.g1.starts 0 0)) 0 (place_after pieces) trees
+    (trees : List Tree) × AreChosen b.g1 (Held (edges_of pieces)) ranking (slot_of (slice_index_or b.g1.starts 0 0)) 0 (place_after pieces) trees
 
 -- N, layout, a comma and N
 abbrev pub commas : List Piece
@@ -44,4 +43,4 @@ pub record ListingApplies : Type 0 where
   pub few : HasFewRules lists
   pub short : HasShortRules lists
   pub forward : GoForward (Held (edges_of commas))
-  pub listed : (trees : List Tree) × IsAll lists (Held (edges_of commas)) (rank_order lists RuleRanks) (slot_of 0) 0 3 trees
+  pub listed : (trees : List Tree) × AreChosen lists (Held (edges_of commas)) RuleRanks (slot_of 0) 0 3 trees

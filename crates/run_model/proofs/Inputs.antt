@@ -25,8 +25,8 @@ pub record ReadingLaws : Type 0 where
   pub expected : (b : Built) (pieces : List Piece) → IsBuilt b → IsAccepted b → (symbols : List ℕ) × AreExpected b pieces symbols
   pub one_expected : (b : Built) (pieces : List Piece) (xs ys : List ℕ) → AreExpected b pieces xs → AreExpected b pieces ys → xs ≡ ys
   pub derivations : (b : Built) (ranking : Ranking) (pieces : List Piece) → IsBuilt b → IsAccepted b → (trees : List Tree) × AreDerivations b ranking pieces trees
-  pub numbers : (b : Built) (pieces : List Piece) → IsBuilt b → IsAccepted b → (n : Numbers) × HasNumbers b pieces n
-  pub one_numbers : (b : Built) (pieces : List Piece) (m n : Numbers) → HasNumbers b pieces m → HasNumbers b pieces n → m ≡ n
+  pub numbers : (b : Built) (ranking : Ranking) (pieces : List Piece) → IsBuilt b → IsAccepted b → (n : Numbers) × HasNumbers b ranking pieces n
+  pub one_numbers : (b : Built) (ranking : Ranking) (pieces : List Piece) (m n : Numbers) → HasNumbers b ranking pieces m → HasNumbers b ranking pieces n → m ≡ n
   pub report : (b : Built) (pieces : List Piece) (at : ℕ) → IsBuilt b → IsAccepted b → (lines : List ReportLine) × IsReport b.g1 (edges_of pieces) 0 at lines
   pub one_report : (b : Built) (pieces : List Piece) (at : ℕ) (xs ys : List ReportLine) → IsReport b.g1 (edges_of pieces) 0 at xs → IsReport b.g1 (edges_of pieces) 0 at ys → xs ≡ ys
 

@@ -1,5 +1,6 @@
 -- An outcome is determined by the words, the grammar and the input.
 use Rattle.std.proofs.Common.{◌≡◌, ℕ, List, [], ◌∷◌, sym, ap, subst, ◌∙◌}
+use Rattle.grammar_model.specs.declared.Ranking.TheVariants.{Rule as RuleRanks}
 use Rattle.language_model.specs.Building.{Built}
 use Rattle.reading_model.specs.Reading.{Piece}
 use Rattle.words_model.specs.Words.{Job}
@@ -39,9 +40,9 @@ module _ (laws : RunLaws) where
       let built : q.built ≡ p.built = one_built laws.grammars work_grammar q.built p.built q.accepted p.accepted in
       let read : IsRead p.built (work_input size) q.pieces = subst (λ (b : Built). IsRead b (work_input size) q.pieces) built q.read in
       let pieces : q.pieces ≡ p.pieces = one_read laws.reading p.built (work_input size) q.pieces p.pieces read p.read in
-      let has : HasNumbers p.built p.pieces q.numbers =
-      subst (λ (ps : List Piece). HasNumbers p.built ps q.numbers) pieces (subst (λ (b : Built). HasNumbers b q.pieces q.numbers) built q.has) in
-      p.is ∙ ap (λ (n : Numbers). done (work_line size n 1 ∷ [])) (laws.reading.one_numbers p.built p.pieces p.numbers q.numbers p.has has) ∙ sym q.is
+      let has : HasNumbers p.built RuleRanks p.pieces q.numbers =
+      subst (λ (ps : List Piece). HasNumbers p.built RuleRanks ps q.numbers) pieces (subst (λ (b : Built). HasNumbers b RuleRanks q.pieces q.numbers) built q.has) in
+      p.is ∙ ap (λ (n : Numbers). done (work_line size n 1 ∷ [])) (laws.reading.one_numbers p.built RuleRanks p.pieces p.numbers q.numbers p.has has) ∙ sym q.is
 
   one_job_outcome : (job : Job) (grammar input : List ℕ) (a b : Outcome) → IsJobOutcome job grammar input a → IsJobOutcome job grammar input b → a ≡ b
   one_job_outcome (Run asked) grammar input a b p q = one_over_task (Values asked) grammar input a b p q

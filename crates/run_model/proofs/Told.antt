@@ -5,9 +5,7 @@ use Rattle.grammar_model.specs.Grammar.{slot_of}
 use Rattle.grammar_model.specs.Trees.{Tree}
 use Rattle.grammar_model.specs.Derives.{Held}
 use Rattle.grammar_model.specs.declared.Ranking.{Ranking}
-use Rattle.grammar_model.specs.Order.{rank_order}
-use Rattle.grammar_model.proofs.Sorting.{ranks_order}
-use Rattle.grammar_model.proofs.Total.{all_unique}
+use Rattle.grammar_model.proofs.ChosenOnce.{chosen_unique}
 use Rattle.recognizer_model.specs.declared.ReportLine.{ReportLine}
 use Rattle.language_model.specs.Building.{Built}
 use Rattle.language_model.specs.Texts.{IsBuilt}
@@ -34,7 +32,7 @@ module _ (laws : ReadingLaws) (b : Built) (pieces : List Piece) where
 
   same_trees : (ranking : Ranking) (ts us : List Tree) → AreDerivations b ranking pieces ts → AreDerivations b ranking pieces us → ts ≡ us
   same_trees ranking ts us p q =
-      all_unique b.g1 (Held (edges_of pieces)) (rank_order b.g1 ranking) (ranks_order b.g1 ranking) (slot_of (slice_index_or b.g1.starts 0 0)) 0 (place_after pieces) ts us p q
+      chosen_unique b.g1 (Held (edges_of pieces)) ranking (slot_of (slice_index_or b.g1.starts 0 0)) 0 (place_after pieces) ts us p q
 
   no_tree : (ranking : Ranking) (t : Tree) (ts : List Tree) → AreDerivations b ranking pieces [] → AreDerivations b ranking pieces (t ∷ ts) → ⊥
   no_tree ranking t ts p q = let e : [] ≡ t ∷ ts = same_trees ranking [] (t ∷ ts) p q in cc e
@@ -46,7 +44,7 @@ module _ (laws : ReadingLaws) (b : Built) (pieces : List Piece) where
   one_values asked cs x y (Derived t ts n all has is) (NoDerivation expected none are is') = absurd (no_tree asked.ranking t ts none all)
   one_values asked cs x y (Derived t ts n all has is) (Derived u us m all' has' is') =
       is ∙ ap (λ trees. done (value_lines b asked cs pieces trees ++ stats_lines asked.stats n)) (same_trees asked.ranking (t ∷ ts) (u ∷ us) all all')
-      ∙ ap (λ (k : Numbers). done (value_lines b asked cs pieces (u ∷ us) ++ stats_lines asked.stats k)) (laws.one_numbers b pieces n m has has') ∙ sym is'
+      ∙ ap (λ (k : Numbers). done (value_lines b asked cs pieces (u ∷ us) ++ stats_lines asked.stats k)) (laws.one_numbers b asked.ranking pieces n m has has') ∙ sym is'
 
   one_report : (at : ℕ) (x y : Outcome) → TellsReport b at pieces x → TellsReport b at pieces y → x ≡ y
   one_report at x y (NoSuchSet past is) (NoSuchSet past' is') = is ∙ sym is'
@@ -76,7 +74,7 @@ module _ (laws : ReadingLaws) (b : Built) (built : IsBuilt b) (accepted : IsAcce
       let (expected, e) = laws.expected b pieces built accepted in
       (refused 1 (no_derivation_text b.g1 expected), NoDerivation expected are e refl)
   of_trees asked cs (tree ∷ trees) are =
-      let (n, has) = laws.numbers b pieces built accepted in
+      let (n, has) = laws.numbers b asked.ranking pieces built accepted in
       (done (value_lines b asked cs pieces (tree ∷ trees) ++ stats_lines asked.stats n), Derived tree trees n are has refl)
 
   some_values : (asked : RunAsked) (cs : List ℕ) → (outcome : Outcome) × TellsValues asked b cs pieces outcome

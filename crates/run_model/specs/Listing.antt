@@ -1,13 +1,12 @@
--- What job `run` tells of an input that is read to its end: the derivations of its tokens from the start symbol, in the declared
--- order, each with the text of its value.
+-- What job `run` tells of an input that is read to its end: the chosen derivations of its tokens from the start symbol, in the
+-- declared order, each with the text of its value.
 -- Source: the Libmarpa manual (bocage, order, tree, value); the order is our own.
 use Rattle.std.specs.Prelude.{ℕ, ◌+◌, ◌++◌, List, [], ◌∷◌, map, take, Option, Some, None, slice_index_or, slice_range, encode_utf8_all}
 use Rattle.grammar_model.specs.Grammar.{slot_of}
 use Rattle.grammar_model.specs.Trees.{Tree}
 use Rattle.grammar_model.specs.Derives.{Held}
 use Rattle.grammar_model.specs.declared.Ranking.{Ranking}
-use Rattle.grammar_model.specs.Order.{rank_order}
-use Rattle.grammar_model.specs.All.{IsAll}
+use Rattle.grammar_model.specs.Chosen.{AreChosen}
 use Rattle.grammar_model.specs.declared.Show.{Show}
 use Rattle.grammar_model.specs.Values.{Token, value_of}
 use Rattle.grammar_model.specs.Text.{text_of}
@@ -21,9 +20,9 @@ token_at_span cs s = record { start = s.0; length = s.1; text = encode_utf8_all 
 abbrev pub tokens_in : List ℕ → List Piece → List Token
 tokens_in cs pieces = map (token_at_span cs) (spans_from 0 pieces)
 
--- all derivations of the tokens from the start symbol, in order
+-- the derivations of the tokens from the start symbol that the ranking chooses, in order
 abbrev pub AreDerivations : Built → Ranking → List Piece → List Tree → Type 0
-AreDerivations b ranking pieces trees = IsAll b.g1 (Held (edges_of pieces)) (rank_order b.g1 ranking) (slot_of (slice_index_or b.g1.starts 0 0)) 0 (place_after pieces) trees
+AreDerivations b ranking pieces trees = AreChosen b.g1 (Held (edges_of pieces)) ranking (slot_of (slice_index_or b.g1.starts 0 0)) 0 (place_after pieces) trees
 
 -- the line of a derivation
 abbrev pub line_of : Built → Show → List ℕ → List Piece → Tree → List ℕ

@@ -3,7 +3,9 @@
 -- Sources: Leo 1991 (reduced sets); the Libmarpa manual (bocage).
 use Rattle.std.specs.Prelude.{◌≡◌, ℕ, List, Some, slice_get}
 use Rattle.grammar_model.specs.Derives.{Held}
+use Rattle.grammar_model.specs.declared.Ranking.{Ranking}
 use Rattle.recognizer_model.specs.Flat.{FlatGrammar}
+use Rattle.recognizer_model.specs.Chosen.{allowed_by}
 use Rattle.recognizer_model.specs.FlatForm.{FlatEdges}
 use Rattle.recognizer_model.specs.Nodes.{IsStats}
 use Rattle.flat_model.specs.Flattened.{IsFlattened}
@@ -17,9 +19,9 @@ pub record Numbers : Type 0 where
   pub expanded : ℕ
 
 -- the numbers of a reading in these pieces
-pub record HasNumbers (b : Built) (pieces : List Piece) (n : Numbers) : Type 0 where
+pub record HasNumbers (b : Built) (ranking : Ranking) (pieces : List Piece) (n : Numbers) : Type 0 where
   pub flat : FlatGrammar
   pub is : IsFlattened b.g1 flat
   pub top : ℕ
   pub top_is : slice_get flat.tops 0 ≡ Some top
-  pub numbers : IsStats flat (FlatEdges flat (Held (edges_of pieces))) top (place_after pieces) n.tokens n.kept n.nodes n.expanded
+  pub numbers : IsStats flat (FlatEdges flat (Held (edges_of pieces))) (allowed_by b.g1 ranking flat (FlatEdges flat (Held (edges_of pieces)))) top (place_after pieces) n.tokens n.kept n.nodes n.expanded

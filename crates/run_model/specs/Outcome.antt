@@ -44,7 +44,7 @@ pub record IsWorkOutcome (size : ℕ) (outcome : Outcome) : Type 0 where
   pub tree : Tree
   pub one : AreDerivations built RuleRanks pieces (tree ∷ [])
   pub numbers : Numbers
-  pub has : HasNumbers built pieces numbers
+  pub has : HasNumbers built RuleRanks pieces numbers
   pub is : outcome ≡ done (work_line size numbers 1 ∷ [])
 
 abbrev pub IsJobOutcome : Job → (grammar input : List ℕ) → Outcome → Type 0

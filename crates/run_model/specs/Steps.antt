@@ -9,6 +9,7 @@ use Rattle.grammar_model.specs.declared.Ranking.{Ranking}
 use Rattle.grammar_model.specs.declared.Ranking.TheVariants.{Rule as RuleRanks}
 use Rattle.recognizer_model.specs.declared.Item.{Item}
 use Rattle.recognizer_model.specs.Flat.{FlatGrammar}
+use Rattle.recognizer_model.specs.Chosen.{allowed_by}
 use Rattle.recognizer_model.specs.FlatForm.{FlatEdges}
 use Rattle.recognizer_model.specs.Leo.{IsLeo}
 use Rattle.recognizer_model.specs.Links.{Link, IsLink, choices}
@@ -44,7 +45,7 @@ IsLeoPair g E top place p = (p.place ≤ place) × ((item : Item) × IsLeo g E t
 
 -- a reading in these pieces, and then the derivations: at most a step for each link of the sets behind the first, for each Leo pair, for
 -- each hidden item that the forest brings back, and for each choice of the derivations
-pub record IsWithinSteps (b : Built) (pieces : List Piece) (given : List Tree) (before after : ℕ) : Type 0 where
+pub record IsWithinSteps (b : Built) (ranking : Ranking) (pieces : List Piece) (given : List Tree) (before after : ℕ) : Type 0 where
   pub flat : FlatGrammar
   pub is : IsFlattened b.g1 flat
   pub top : ℕ
@@ -52,7 +53,7 @@ pub record IsWithinSteps (b : Built) (pieces : List Piece) (given : List Tree) (
   pub few : (links pairs expanded : ℕ) →
       IsCountOf (IsPlacedLink flat (FlatEdges flat (Held (edges_of pieces))) top (place_after pieces)) links →
       IsCountOf (IsLeoPair flat (FlatEdges flat (Held (edges_of pieces))) top (place_after pieces)) pairs →
-      IsCountOf (IsExpanded flat (FlatEdges flat (Held (edges_of pieces))) top (place_after pieces)) expanded →
+      IsCountOf (IsExpanded flat (FlatEdges flat (Held (edges_of pieces))) (allowed_by b.g1 ranking flat (FlatEdges flat (Held (edges_of pieces)))) top (place_after pieces)) expanded →
       after ≤ before + links + pairs + expanded + sum_by choices given
 
 -- the input is read to its end, and so many of the first of its derivations are given
@@ -61,7 +62,7 @@ pub record GivesWithin (b : Built) (input : List ℕ) (ranking : Ranking) (first
   pub read : IsRead b input pieces
   pub trees : List Tree
   pub all : AreDerivations b ranking pieces trees
-  pub within : IsWithinSteps b pieces (first_of first trees) before after
+  pub within : IsWithinSteps b ranking pieces (first_of first trees) before after
 
 -- the jobs that give derivations
 abbrev pub DoesWithin : Job → (grammar input : List ℕ) → (before after : ℕ) → Type 0

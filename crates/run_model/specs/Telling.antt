@@ -89,7 +89,7 @@ pub record TellsExpected (b : Built) (pieces : List Piece) (outcome : Outcome) :
 pub data TellsValues (asked : RunAsked) (b : Built) (cs : List ℕ) (pieces : List Piece) (outcome : Outcome) : Type 0 where
   NoDerivation : (expected : List ℕ) → AreDerivations b asked.ranking pieces [] → AreExpected b pieces expected → outcome ≡ refused 1 (no_derivation_text b.g1 expected) →
       TellsValues asked b cs pieces outcome
-  Derived : (tree : Tree) (trees : List Tree) (n : Numbers) → AreDerivations b asked.ranking pieces (tree ∷ trees) → HasNumbers b pieces n →
+  Derived : (tree : Tree) (trees : List Tree) (n : Numbers) → AreDerivations b asked.ranking pieces (tree ∷ trees) → HasNumbers b asked.ranking pieces n →
       outcome ≡ done (value_lines b asked cs pieces (tree ∷ trees) ++ stats_lines asked.stats n) → TellsValues asked b cs pieces outcome
 
 -- the report at a place; or it is past the last

@@ -5,7 +5,7 @@ use Rattle.std.specs.Prelude.{◌≡◌, ℕ, ◌==◌, Bool, true, false, not, 
 use Rattle.std.specs.Char.{is_ascii_digit}
 use Rattle.std.specs.List.{list_all, list_any, starts_with, before_first, after_first}
 use Rattle.grammar_model.specs.declared.Ranking.{Ranking}
-use Rattle.grammar_model.specs.declared.Ranking.TheVariants.{None as NoRanks, Rule as RuleRanks}
+use Rattle.grammar_model.specs.declared.Ranking.TheVariants.{None as NoRanks, Rule as RuleRanks, High as HighRanks}
 use Rattle.grammar_model.specs.declared.Show.{Show}
 use Rattle.grammar_model.specs.declared.Show.TheVariants.{Array as ShowArray, Tree as ShowTree}
 use Rattle.language_model.specs.Building.{digits_number, is_one_of}
@@ -153,7 +153,8 @@ abbrev pub ranking_of : List ℕ → Option Ranking
 ranking_of value =
     if bytes_eq value (codes "none") then Some NoRanks
     else (if bytes_eq value (codes "rule") then Some RuleRanks
-    else None)
+    else (if bytes_eq value (codes "high") then Some HighRanks
+    else None))
 
 abbrev pub show_of : List ℕ → Option Show
 show_of value =

@@ -1,12 +1,12 @@
 -- The job's own grammar is accepted, and its own input is read to its end and has one derivation.
-use Rattle.std.proofs.Common.{◌≡◌, ℕ, zero, suc, ◌+◌, ◌*◌, ◌<◌, [], ◌∷◌, length, chars, slice_index_or, Contains, sym, ◌∙◌, subst, arith, lit<}
+use Rattle.std.proofs.Common.{◌≡◌, ℕ, zero, suc, ◌+◌, ◌*◌, ◌<◌, pos, [], ◌∷◌, length, chars, slice_index_or, Contains, sym, ◌∙◌, refl, subst, arith, lit<}
 use Rattle.std.specs.List.Sorted.{IsStrictlySortedBy}
 use Rattle.grammar_model.specs.declared.Ranking.{Ranking}
-use Rattle.grammar_model.specs.Grammar.{slot_of}
+use Rattle.grammar_model.specs.Grammar.{slot_of, rule_at, rank_of}
 use Rattle.grammar_model.specs.Trees.{Tree}
 use Rattle.grammar_model.specs.Derives.{Held, Line, Derives}
-use Rattle.grammar_model.specs.Order.{rank_order}
-use Rattle.grammar_model.specs.All.{IsAll}
+use Rattle.grammar_model.specs.Chosen.{AreChosen}
+use Rattle.grammar_model.proofs.ChosenOnce.{alike_chosen}
 use Rattle.reading_model.specs.Reading.{End, HasEnded, IsReading, place_after, edges_of}
 use Rattle.run_model.specs.Jobs.{work_grammar, work_input}
 use Rattle.run_model.specs.Refused.{Accepted}
@@ -20,6 +20,14 @@ use Rattle.work_laws.proofs.Word.{word, word_length, word_stops, word_run}
 use Rattle.work_laws.proofs.Pieces.{ones, place_after_ones, edges_of_ones, line_edges}
 use Rattle.work_laws.proofs.Reading.{all_read}
 use Rattle.work_laws.proofs.Input.{input_chars, input_utf8, input_length, input_spelled}
+
+-- no rule of the grammar has a rank of its own
+no_ranks : (i : ℕ) → rank_of (rule_at work_g1 i) ≡ pos 0
+no_ranks 0 = refl
+no_ranks 1 = refl
+no_ranks 2 = refl
+no_ranks 3 = refl
+no_ranks (suc (suc (suc (suc i)))) = refl
 
 module _ (size : ℕ) where
   pub work_place : place_after (ones (word size)) ≡ 3 * size + 1
@@ -39,9 +47,9 @@ module _ (size : ℕ) where
   D = Derives work_g1 (Held (edges_of (ones (word size)))) (slot_of 0) 0 (place_after (ones (word size)))
 
   pub work_derivations : (ranking : Ranking) →
-      (t : Tree) × IsAll work_g1 (Held (edges_of (ones (word size)))) (rank_order work_g1 ranking) (slot_of (slice_index_or work_g1.starts 0 0)) 0 (place_after (ones (word size))) (t ∷ [])
+      (t : Tree) × AreChosen work_g1 (Held (edges_of (ones (word size)))) ranking (slot_of (slice_index_or work_g1.starts 0 0)) 0 (place_after (ones (word size))) (t ∷ [])
   unfolding IsStrictlySortedBy
-  work_derivations ranking = (t, record { sorted = (tt, tt); each = λ u. (to u, from u) })
+  work_derivations ranking = (t, record { sorted = (tt, tt); each = λ u. ((λ c. (to u c, alike_chosen work_g1 (Held (edges_of (ones (word size)))) (pos 0) no_ranks ranking (slot_of 0) u)), (λ (d, c). from u d)) })
     where
       t : Tree
       t = (word_run size).0
