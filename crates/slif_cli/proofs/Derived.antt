@@ -11,7 +11,7 @@ use Rattle.grammar_model.specs.Checked.{IsChecked}
 use Rattle.grammar_model.specs.declared.Edge.{Edge}
 use Rattle.grammar_model.specs.declared.Ranking.{Ranking}
 use Rattle.grammar_model.specs.Order.{rank_order, tree_cmp}
-use Rattle.grammar_model.specs.All.{IsAll}
+use Rattle.grammar_model.specs.Chosen.{AreChosen}
 use Rattle.grammar_core.specs.declared.steps.Span.{Span}
 use Rattle.recognizer_model.specs.declared.flat.FlatSymbol.TheVariants.{Top}
 use Rattle.recognizer_model.specs.Flat.{lhs_of}
@@ -19,6 +19,8 @@ use Rattle.flat_model.specs.Flattened.{IsFlattened}
 use Rattle.recognizer_model.specs.FlatForm.{StandsFor, symbol_at, tree_of}
 use Rattle.recognizer_model.proofs.FlatNamed.{get_index, index_get}
 use Rattle.recognizer_model.proofs.FlatFormLaw.{flat_form}
+use Rattle.recognizer_model.proofs.FlatChosen.{chosen_form}
+use Rattle.recognizer_model.proofs.Leaving.{leaves_some}
 use Rattle.earley_sets.specs.Laws.{TreesAreDerivations}
 use Rattle.earley_sets.specs.Recognizer.{Recognizer, IsRecognizer, HasTree, place_of}
 use Rattle.forest_model.specs.Forest.{Forest, IsForest, top_of}
@@ -42,7 +44,7 @@ use Rattle.value_lines.specs.declared.writing.WriteRefusal.{WriteRefusal}
 use Rattle.value_lines.specs.declared.writing.WriteRefusal.TheVariants.{WriteFault as WriteFailed, NoMemory as NoRoom}
 use Rattle.slif_base.proofs.Bytes.{appends_none}
 use Rattle.slif_cli.specs.Stops.{Does, WriteStops, LinesStop, TellsInput}
-use Rattle.slif_cli.specs.Tasks.{TellsReading, HasForest, IsNoDerivation, TellsEnd, write_stop}
+use Rattle.slif_cli.specs.Tasks.{TellsReading, IsChosenOf, HasForest, IsNoDerivation, TellsEnd, write_stop}
 use Rattle.slif_cli.specs.declared.stop.Refusal.TheVariants.{Usage, Grammar as BadGrammar, Input as BadInput}
 use Rattle.slif_cli.specs.declared.stop.Stop.{Stop}
 use Rattle.slif_cli.specs.declared.stop.Stop.TheVariants.{Refused, OpenFault, ReadFault, WriteFault, NoMemory}
@@ -69,30 +71,35 @@ module _ (f : Forest) (is : IsForest f) where
       subst (λ s. StandsFor f.written s (slot_of (slice_index_or f.written.starts f.start 0))) (sym e)
       (slice_index_or f.written.starts f.start 0, index_get f.written.starts f.start 0 (omega (arith, all, lt)), refl)
 
-  pub has_derivation : (t : Tree) × Derives f.written (Held f.edges) (slot_of (slice_index_or f.written.starts f.start 0)) 0 f.place t
+  -- some derivation is chosen
+  pub has_derivation : (t : Tree) × IsChosenOf f.written f.edges f.ranking f.start f.place t
   has_derivation =
-      let form = flat_form f.flat f.written is.derived.flat is.derived.flat_of is.derived.checked (Held f.edges) (reading.held_forward f is.derived) f.ranking in (
-        tree_of f.written f.flat is.derived.tree,
-        form.sound whole 0 f.place _ is.derived.tree (get_index f.flat.symbols whole (Top 0) (Top f.start) top_symbol).0 stands (reading.viewed f is.derived is.derived.derives),
+      let forward = reading.held_forward f is.derived in
+      let form = flat_form f.flat f.written is.derived.flat is.derived.flat_of is.derived.checked (Held f.edges) forward f.ranking in
+      let (tree, derives, allowed) = leaves_some f.flat f.written is.derived.flat f.edges forward f.ranking whole 0 f.place is.derived.tree is.derived.derives in
+      let view = reading.viewed f is.derived derives in (
+        tree_of f.written f.flat tree,
+        (form.sound whole 0 f.place _ tree (get_index f.flat.symbols whole (Top 0) (Top f.start) top_symbol).0 stands view,
+          (chosen_form f.flat f.written is.derived.flat is.derived.flat_of is.derived.checked (Held f.edges) forward f.ranking whole 0 f.place _ tree stands view).0 allowed),
       )
 
 -- equal parts
-derives_as : (w v : Grammar) (es gs : List Edge) (k p q : ℕ) (t : Tree) → w ≡ v → es ≡ gs → k ≡ 0 → p ≡ q
-    → Derives w (Held es) (slot_of (slice_index_or w.starts k 0)) 0 p t → Derives v (Held gs) (slot_of (slice_index_or v.starts 0 0)) 0 q t
-derives_as w v es gs k p q t same_w same_e same_k same_p d =
-    subst (λ (g : Grammar). Derives g (Held gs) (slot_of (slice_index_or g.starts 0 0)) 0 q t) same_w
-    (subst (λ (l : List Edge). Derives w (Held l) (slot_of (slice_index_or w.starts 0 0)) 0 q t) same_e
-    (subst (λ n. Derives w (Held es) (slot_of (slice_index_or w.starts n 0)) 0 q t) same_k
-    (subst (λ n. Derives w (Held es) (slot_of (slice_index_or w.starts k 0)) 0 n t) same_p d)))
+chosen_as : (w v : Grammar) (es gs : List Edge) (r s : Ranking) (k p q : ℕ) (t : Tree) → w ≡ v → es ≡ gs → r ≡ s → k ≡ 0 → p ≡ q → IsChosenOf w es r k p t → IsChosenOf v gs s 0 q t
+chosen_as w v es gs r s k p q t same_w same_e same_r same_k same_p d =
+    subst (λ (g : Grammar). IsChosenOf g gs s 0 q t) same_w
+    (subst (λ (l : List Edge). IsChosenOf w l s 0 q t) same_e
+    (subst (λ (x : Ranking). IsChosenOf w es x 0 q t) same_r
+    (subst (λ n. IsChosenOf w es r n q t) same_k
+    (subst (λ n. IsChosenOf w es r k n t) same_p d))))
 
 all_as : (w v : Grammar) (es gs : List Edge) (r s : Ranking) (k p q : ℕ) (ts : List Tree) → w ≡ v → es ≡ gs → r ≡ s → k ≡ 0 → p ≡ q
-    → IsAll w (Held es) (rank_order w r) (slot_of (slice_index_or w.starts k 0)) 0 p ts → IsAll v (Held gs) (rank_order v s) (slot_of (slice_index_or v.starts 0 0)) 0 q ts
+    → AreChosen w (Held es) r (slot_of (slice_index_or w.starts k 0)) 0 p ts → AreChosen v (Held gs) s (slot_of (slice_index_or v.starts 0 0)) 0 q ts
 all_as w v es gs r s k p q ts same_w same_e same_r same_k same_p d =
-    subst (λ (g : Grammar). IsAll g (Held gs) (rank_order g s) (slot_of (slice_index_or g.starts 0 0)) 0 q ts) same_w
-    (subst (λ (l : List Edge). IsAll w (Held l) (rank_order w s) (slot_of (slice_index_or w.starts 0 0)) 0 q ts) same_e
-    (subst (λ (x : Ranking). IsAll w (Held es) (rank_order w x) (slot_of (slice_index_or w.starts 0 0)) 0 q ts) same_r
-    (subst (λ n. IsAll w (Held es) (rank_order w r) (slot_of (slice_index_or w.starts n 0)) 0 q ts) same_k
-    (subst (λ n. IsAll w (Held es) (rank_order w r) (slot_of (slice_index_or w.starts k 0)) 0 n ts) same_p d))))
+    subst (λ (g : Grammar). AreChosen g (Held gs) s (slot_of (slice_index_or g.starts 0 0)) 0 q ts) same_w
+    (subst (λ (l : List Edge). AreChosen w (Held l) s (slot_of (slice_index_or w.starts 0 0)) 0 q ts) same_e
+    (subst (λ (x : Ranking). AreChosen w (Held es) x (slot_of (slice_index_or w.starts 0 0)) 0 q ts) same_r
+    (subst (λ n. AreChosen w (Held es) r (slot_of (slice_index_or w.starts n 0)) 0 q ts) same_k
+    (subst (λ n. AreChosen w (Held es) r (slot_of (slice_index_or w.starts k 0)) 0 n ts) same_p d))))
 
 -- WHERE THE FOREST IS BUILT
 
@@ -118,7 +125,7 @@ module _ (b : Built) (ranking : Ranking) (cs : List ℕ) (recce : Recognizer) (s
         };
         ranking_is = ranked;
         tree = some.0;
-        derives = derives_as f.written b.g1 f.edges (edges_of read.pieces) f.start f.place (place_after read.pieces) some.0 (written ∙ same) edges_are start_is place_is some.1;
+        chosen = chosen_as f.written b.g1 f.edges (edges_of read.pieces) f.ranking ranking f.start f.place (place_after read.pieces) some.0 (written ∙ same) edges_are ranked start_is place_is some.1;
       }
 
   -- no tree, no derivation
@@ -142,7 +149,7 @@ module _ (b : Built) (ranking : Ranking) (cs : List ℕ) (recce : Recognizer) (s
   no_derivation law checked is none text tells = record {
     pieces = read.pieces;
     reading = read.is_reading;
-    none = record { sorted = none_sorted; each = λ t. (λ among. absurd (no_element t among), λ d. absurd (none_derived law checked is none t d)) };
+    none = record { sorted = none_sorted; each = λ t. (λ among. absurd (no_element t among), λ (d, c). absurd (none_derived law checked is none t d)) };
     expected = tells.0;
     are = tells.1 read.pieces read.holds;
     told = tells.2;
@@ -162,7 +169,7 @@ module _ (b : Built) (ranking : Ranking) (cs : List ℕ) (spans : List Span) (f 
 
 -- JOB run
 
-module _ (asked : RunAsked) (b : Built) (cs : List ℕ) (spans : List Span) (f : Forest) (has : HasForest b asked.ranking cs spans f) (n : Numbers) (numbers : HasNumbers b has.pieces n) where
+module _ (asked : RunAsked) (b : Built) (cs : List ℕ) (spans : List Span) (f : Forest) (has : HasForest b asked.ranking cs spans f) (n : Numbers) (numbers : HasNumbers b asked.ranking has.pieces n) where
   abbrev Told : Outcome → Type 0
   Told = TellsReading (Values asked) b cs
 
@@ -173,7 +180,7 @@ module _ (asked : RunAsked) (b : Built) (cs : List ℕ) (spans : List Span) (f :
   value_told trees l = record { pieces = has.pieces; reading = has.of.reading; tells = by trees (listed b asked.ranking cs spans f has trees l) }
     where
       by : (ts : List Tree) → AreDerivations b asked.ranking has.pieces ts → TellsValues asked b cs has.pieces (done (values ts ++ stats_lines asked.stats n))
-      by [] all = absurd (no_element has.tree ((all.each has.tree).1 has.derives))
+      by [] all = absurd (no_element has.tree ((all.each has.tree).1 has.chosen))
       by (t ∷ ts) all = Derived t ts n all numbers refl
 
   -- the numbers were written behind the values

@@ -99,7 +99,7 @@ some_work : (size : ℕ) → size ≤ 100000 → (outcome : Outcome) × IsWorkOu
 some_work size most =
     let (b, accepted, (pieces, read, place, one)) = work_has_one size (omega (arith, most)) in
     let (tree, are) = one RuleRanks in
-    let (n, has) = numbers_exist b pieces (accepted.description, accepted.built) accepted.accepted in
+    let (n, has) = numbers_exist b RuleRanks pieces (accepted.description, accepted.built) accepted.accepted in
     (done (work_line size n 1 ∷ []), record { built = b; accepted = accepted; pieces = pieces; read = read; tree = tree; one = are; numbers = n; has = has; is = refl })
 
 pub run_laws : RunLaws

@@ -8,12 +8,11 @@ use Rattle.grammar_model.specs.Trees.{Tree}
 use Rattle.grammar_model.specs.Derives.{Held}
 use Rattle.grammar_model.specs.declared.Ranking.{Ranking}
 use Rattle.grammar_model.specs.declared.Ranking.TheVariants.{Rule as RuleRanks}
-use Rattle.grammar_model.specs.Order.{rank_order}
-use Rattle.grammar_model.proofs.Sorting.{ranks_order}
-use Rattle.grammar_model.proofs.Total.{all_unique}
+use Rattle.grammar_model.proofs.ChosenOnce.{chosen_unique}
 use Rattle.grammar_core.specs.declared.steps.Span.{Span}
 use Rattle.recognizer_model.specs.Counts.{IsCountOf}
 use Rattle.recognizer_model.specs.Links.{choices}
+use Rattle.recognizer_model.specs.Chosen.{allowed_by}
 use Rattle.recognizer_model.specs.Nodes.{IsExpanded}
 use Rattle.earley_sets.specs.Recognizer.{Recognizer, IsRecognizer, edges_of as held_edges, top_of, place_of}
 use Rattle.earley_sets.specs.Counted.{TakesAtMost}
@@ -116,7 +115,7 @@ module _ (size : ℕ) (sized : size ≤ 100000) where
 
       same_list : (ranking : Ranking) (pieces : List Piece) (ts us : List Tree) → AreDerivations b ranking pieces ts → AreDerivations b ranking pieces us → ts ≡ us
       same_list ranking pieces ts us p q =
-          all_unique b.g1 (Held (edges_of pieces)) (rank_order b.g1 ranking) (ranks_order b.g1 ranking) (slot_of (slice_index_or b.g1.starts 0 0)) 0 (place_after pieces) ts us p q
+          chosen_unique b.g1 (Held (edges_of pieces)) ranking (slot_of (slice_index_or b.g1.starts 0 0)) 0 (place_after pieces) ts us p q
 
       pub own_derived : (ranking : Ranking) (text : List ℕ) → IsNoDerivation b ranking cs text → ⊥
       own_derived ranking text none =
@@ -132,7 +131,7 @@ module _ (size : ℕ) (sized : size ≤ 100000) where
             let same = same_list RuleRanks has.pieces trees (tree ∷ []) (listed b RuleRanks cs spans f has trees l) one in
             counted trees l ∙ ap (λ (ts : List Tree). length (take 4294967295 ts)) same ∙ ap length (take_all 4294967295 (tree ∷ []) (omega arith))
 
-        pub own_told : (numbers : Numbers) → HasNumbers b has.pieces numbers → (n : ℕ) → ((trees : List Tree) → IsListing f trees → n ≡ length (take 4294967295 trees)) → (line : List ℕ) →
+        pub own_told : (numbers : Numbers) → HasNumbers b RuleRanks has.pieces numbers → (n : ℕ) → ((trees : List Tree) → IsListing f trees → n ≡ length (take 4294967295 trees)) → (line : List ℕ) →
             line ≡ work_line size numbers n → IsWorkOutcome size (done (line ∷ []))
         own_told numbers has_numbers n counted line told =
             let (tree, one) = only has.pieces has.of.reading RuleRanks in
@@ -149,7 +148,7 @@ module _ (size : ℕ) (sized : size ≤ 100000) where
             }
 
         pub own_within : (recce : Recognizer) → IsRecognizer recce → (held_spans : List Span) → IsReadingOf b cs recce held_spans AtEnd → (before read built after : ℕ)
-            → ((n : ℕ) → IsCountOf (IsExpanded recce.flat (held_edges recce) (top_of recce) (place_of recce)) n → built ≤ read + n)
+            → ((n : ℕ) → IsCountOf (IsExpanded recce.flat (held_edges recce) (allowed_by b.g1 RuleRanks recce.flat (held_edges recce)) (top_of recce) (place_of recce)) n → built ≤ read + n)
             → ((trees : List Tree) → IsListing f trees → after ≤ built + sum_by choices (take 4294967295 trees))
             → TakesAtMost recce before read → GivesWithin b (work_input size) RuleRanks None before after
         own_within recce recognizes held_spans reading before read built after builds gives reads =
@@ -165,5 +164,5 @@ module _ (size : ℕ) (sized : size ≤ 100000) where
               read = record { text = own_text; reading = subst (λ (l : List ℕ). IsReading b l has.pieces End) is has.of.reading };
               trees = trees;
               all = all;
-              within = within b recce recognizes has.pieces holds trees before read built after reads builds (subst (λ (ts : List Tree). after ≤ built + sum_by choices ts) few (gives trees l));
+              within = within b recce recognizes has.pieces holds RuleRanks trees before read built after reads builds (subst (λ (ts : List Tree). after ≤ built + sum_by choices ts) few (gives trees l));
             }

@@ -12,6 +12,7 @@ use Rattle.grammar_core.specs.declared.steps.Span.{Span}
 use Rattle.recognizer_model.specs.FlatForm.{FlatEdges}
 use Rattle.recognizer_model.specs.Counts.{IsListOf, IsCountOf}
 use Rattle.recognizer_model.specs.Links.{choices}
+use Rattle.recognizer_model.specs.Chosen.{allowed_by}
 use Rattle.recognizer_model.specs.Nodes.{IsExpanded}
 use Rattle.recognizer_model.proofs.FlatNamed.{index_get}
 use Rattle.earley_sets.specs.Recognizer as held
@@ -84,10 +85,10 @@ module _ (b : Built) (recce : Recognizer) (is : IsRecognizer recce) (pieces : Li
       (λ p. record { set = p.place; symbol = p.symbol }) (λ q. record { place = q.set; symbol = q.symbol })
       (λ p l. l) (λ q l. l) (λ p. refl) (λ q. refl) n count
 
-  pub within : (given : List Tree) (before read built after : ℕ) → TakesAtMost recce before read
-      → ((n : ℕ) → IsCountOf (IsExpanded recce.flat (edges_of recce) (top_of recce) (place_of recce)) n → built ≤ read + n)
-      → after ≤ built + sum_by choices given → IsWithinSteps b pieces given before after
-  within given before read built after reads builds gives = record {
+  pub within : (ranking : Ranking) (given : List Tree) (before read built after : ℕ) → TakesAtMost recce before read
+      → ((n : ℕ) → IsCountOf (IsExpanded recce.flat (edges_of recce) (allowed_by b.g1 ranking recce.flat (edges_of recce)) (top_of recce) (place_of recce)) n → built ≤ read + n)
+      → after ≤ built + sum_by choices given → IsWithinSteps b ranking pieces given before after
+  within ranking given before read built after reads builds gives = record {
     flat = recce.flat;
     is = holds.flat;
     top = top_of recce;
@@ -95,7 +96,7 @@ module _ (b : Built) (recce : Recognizer) (is : IsRecognizer recce) (pieces : Li
     few = λ links pairs expanded l p e.
         let links_are = as_held (λ es place. IsCountOf (IsPlacedLink recce.flat (FlatEdges recce.flat (Held es)) (top_of recce) place) links) l in
         let pairs_are = as_held (λ es place. IsCountOf (IsLeoPair recce.flat (FlatEdges recce.flat (Held es)) (top_of recce) place) pairs) p in
-        let expanded_are = as_held (λ es place. IsCountOf (IsExpanded recce.flat (FlatEdges recce.flat (Held es)) (top_of recce) place) expanded) e in
+        let expanded_are = as_held (λ es place. IsCountOf (IsExpanded recce.flat (FlatEdges recce.flat (Held es)) (allowed_by b.g1 ranking recce.flat (FlatEdges recce.flat (Held es))) (top_of recce) place) expanded) e in
         let r = reads links pairs (links_held links links_are) (pairs_held pairs pairs_are) in
         let m = builds expanded expanded_are in
         omega (arith, r, m, gives);
@@ -103,7 +104,7 @@ module _ (b : Built) (recce : Recognizer) (is : IsRecognizer recce) (pieces : Li
 
 module _ (b : Built) (asked : RunAsked) (cs : List ℕ) (spans : List Span) (f : Forest) (has : HasForest b asked.ranking cs spans f) (forest : IsForest f) where
   pub lists_within : (recce : Recognizer) (held_spans : List Span) → IsRecognizer recce → IsReadingOf b cs recce held_spans AtEnd → (before read built after : ℕ)
-      → ((n : ℕ) → IsCountOf (IsExpanded recce.flat (edges_of recce) (top_of recce) (place_of recce)) n → built ≤ read + n)
+      → ((n : ℕ) → IsCountOf (IsExpanded recce.flat (edges_of recce) (allowed_by b.g1 asked.ranking recce.flat (edges_of recce)) (top_of recce) (place_of recce)) n → built ≤ read + n)
       → ((trees : List Tree) → IsListing f trees → after ≤ built + sum_by choices (first_of asked.first trees))
       → TakesAtMost recce before read → ListsWithin b asked cs before after
   lists_within recce held_spans is reading before read built after builds gives reads =
@@ -115,7 +116,7 @@ module _ (b : Built) (asked : RunAsked) (cs : List ℕ) (spans : List Span) (f :
         reading = has.of.reading;
         trees = trees;
         all = listed b asked.ranking cs spans f has trees l;
-        within = within b recce is has.pieces holds (first_of asked.first trees) before read built after reads builds (gives trees l);
+        within = within b recce is has.pieces holds asked.ranking (first_of asked.first trees) before read built after reads builds (gives trees l);
       }
 
 -- the characters are those of the bytes

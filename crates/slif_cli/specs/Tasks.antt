@@ -1,9 +1,11 @@
 -- What is known where a task is told.
 use Rattle.std.specs.Prelude.{◌≡◌, ℕ, List, [], Some, ⊤, slice_index_or}
-use Rattle.grammar_model.specs.Grammar.{slot_of}
+use Rattle.grammar_model.specs.Grammar.{Grammar, slot_of}
 use Rattle.grammar_model.specs.Trees.{Tree}
 use Rattle.grammar_model.specs.Derives.{Held, Derives}
+use Rattle.grammar_model.specs.declared.Edge.{Edge}
 use Rattle.grammar_model.specs.declared.Ranking.{Ranking}
+use Rattle.grammar_model.specs.Chosen.{IsChosen}
 use Rattle.grammar_core.specs.declared.steps.Span.{Span}
 use Rattle.earley_sets.specs.Recognizer.{Recognizer}
 use Rattle.earley_sets.specs.Counted.{TakesAtMost}
@@ -56,13 +58,18 @@ HoldsSome b recce = (pieces : List Piece) × HoldsPieces b pieces recce
 abbrev pub TellsEnd : Built → Recognizer → List ℕ → Type 0
 TellsEnd b recce text = (expected : List ℕ) × ((pieces : List Piece) → HoldsPieces b pieces recce → AreExpected b pieces expected) × (text ≡ no_derivation_text b.g1 expected)
 
--- the forest of the characters' derivations, of which there is one
+-- a derivation of a start over all places that the ranking chooses
+abbrev pub IsChosenOf : Grammar → List Edge → Ranking → (start place : ℕ) → Tree → Type 0
+IsChosenOf g edges ranking start place t =
+    Derives g (Held edges) (slot_of (slice_index_or g.starts start 0)) 0 place t × IsChosen ranking g (Held edges) (slot_of (slice_index_or g.starts start 0)) t
+
+-- the forest of the characters' chosen derivations, of which there is one
 pub record HasForest (b : Built) (ranking : Ranking) (cs : List ℕ) (spans : List Span) (f : Forest) : Type 0 where
   pub pieces : List Piece
   pub of : IsForestOf b cs spans f pieces
   pub ranking_is : f.ranking ≡ ranking
   pub tree : Tree
-  pub derives : Derives b.g1 (Held (edges_of pieces)) (slot_of (slice_index_or b.g1.starts 0 0)) 0 (place_after pieces) tree
+  pub chosen : IsChosenOf b.g1 (edges_of pieces) ranking 0 (place_after pieces) tree
 
 -- STEPS
 
@@ -78,7 +85,7 @@ pub record ListsWithin (b : Built) (asked : words.RunAsked) (cs : List ℕ) (bef
   pub reading : IsReading b cs pieces End
   pub trees : List Tree
   pub all : AreDerivations b asked.ranking pieces trees
-  pub within : IsWithinSteps b pieces (first_of asked.first trees) before after
+  pub within : IsWithinSteps b asked.ranking pieces (first_of asked.first trees) before after
 
 abbrev pub TellsWithin : model.Task → Built → (cs : List ℕ) → (before after : ℕ) → Type 0
 TellsWithin (model.Values asked) b cs before after = ListsWithin b asked cs before after

@@ -3,14 +3,14 @@ use Rattle.std.proofs.Common.{◌≡◌, ℕ, ◌+◌, ◌≤◌, List, [], ◌�
 use Rattle.std.specs.List.{sum_by}
 use Rattle.std.proofs.lemmas.List.{take_all, take_at}
 use Rattle.std.proofs.lemmas.List.Sums.{sum_by_push}
-use Rattle.grammar_model.specs.Grammar.{slot_of}
+use Rattle.grammar_model.specs.Grammar.{Grammar, slot_of}
 use Rattle.grammar_model.specs.Trees.{Tree}
 use Rattle.grammar_model.specs.Derives.{Held}
 use Rattle.grammar_model.specs.declared.Edge.{Edge}
-use Rattle.grammar_model.specs.Order.{rank_order}
-use Rattle.grammar_model.proofs.Sorting.{ranks_order}
-use Rattle.grammar_model.proofs.Total.{all_unique}
+use Rattle.grammar_model.specs.declared.Ranking.{Ranking}
+use Rattle.grammar_model.proofs.ChosenOnce.{chosen_unique}
 use Rattle.grammar_core.specs.declared.steps.Span.{Span}
+use Rattle.recognizer_model.specs.Chosen.{allowed_by}
 use Rattle.recognizer_model.specs.FlatForm.{FlatEdges}
 use Rattle.recognizer_model.specs.Links.{choices}
 use Rattle.recognizer_model.specs.Nodes.{IsStats}
@@ -30,7 +30,7 @@ use Rattle.value_lines.proofs.Texts.{IsWithin, all_of_first}
 
 module _ (f : Forest) where
   one_list : (xs ys : List Tree) → IsListing f xs → IsListing f ys → xs ≡ ys
-  one_list xs ys p q = all_unique f.written (Held f.edges) (rank_order f.written f.ranking) (ranks_order f.written f.ranking) (slot_of (slice_index_or f.written.starts f.start 0)) 0 f.place xs ys p q
+  one_list xs ys p q = chosen_unique f.written (Held f.edges) f.ranking (slot_of (slice_index_or f.written.starts f.start 0)) 0 f.place xs ys p q
 
   -- those that were given are the first of all
   abbrev IsBounded : Option ℕ → (before after : ℕ) → Type 0
@@ -91,14 +91,15 @@ enough_counted f first it same count before after w is =
 -- NUMBERS
 
 -- the numbers of a forest are those of its reading
-pub has_numbers : (b : Built) (cs : List ℕ) (spans : List Span) (f : Forest) (pieces : List Piece) → IsForestOf b cs spans f pieces → IsForest f →
-    (s : Stats) → IsStats f.flat (forest.edges_of f) (top_of f) f.place s.tokens s.kept s.nodes s.expanded → HasNumbers b pieces (numbers_of s)
-has_numbers b cs spans f pieces of is s stats =
-    let lt = is.derived.start in record {
+pub has_numbers : (b : Built) (cs : List ℕ) (spans : List Span) (f : Forest) (pieces : List Piece) → IsForestOf b cs spans f pieces → (ranking : Ranking) → f.ranking ≡ ranking → IsForest f →
+    (s : Stats) → IsStats f.flat (forest.edges_of f) (forest.allowed_of f) (top_of f) f.place s.tokens s.kept s.nodes s.expanded → HasNumbers b ranking pieces (numbers_of s)
+has_numbers b cs spans f pieces of ranking ranked is s stats =
+    let lt = is.derived.start in
+    let told = λ (g : Grammar) (r : Ranking) (es : List Edge) (n : ℕ). IsStats f.flat (FlatEdges f.flat (Held es)) (allowed_by g r f.flat (FlatEdges f.flat (Held es))) (top_of f) n s.tokens s.kept s.nodes s.expanded in record {
       flat = f.flat;
       is = of.flat;
       top = top_of f;
       top_is = subst (λ n. slice_get f.flat.tops n ≡ Some (top_of f)) of.start (index_get f.flat.tops f.start 0 lt);
-      numbers = subst (λ (es : List Edge). IsStats f.flat (FlatEdges f.flat (Held es)) (top_of f) (place_after pieces) s.tokens s.kept s.nodes s.expanded) of.edges
-          (subst (λ n. IsStats f.flat (FlatEdges f.flat (Held f.edges)) (top_of f) n s.tokens s.kept s.nodes s.expanded) of.place stats);
+      numbers = subst (λ (g : Grammar). told g ranking (edges_of pieces) (place_after pieces)) of.written (subst (λ (r : Ranking). told f.written r (edges_of pieces) (place_after pieces)) ranked
+          (subst (λ (es : List Edge). told f.written f.ranking es (place_after pieces)) of.edges (subst (told f.written f.ranking f.edges) of.place stats)));
     }

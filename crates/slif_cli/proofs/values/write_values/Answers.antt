@@ -31,7 +31,7 @@ returns-in-Ok-write_derivations-clause-done g c =
     let b = c.args.prepared.now in
     let cs = c.args.chars.now in
     let has = subst (λ (spans : List Span). HasForest b c.args.asked.ranking cs spans c.in-Ok.forest) (sym c.deref.ensures.value) c.in-Ok.ensures.forest in
-    let numbers = has_numbers b cs c.deref.result.now c.in-Ok.forest has.pieces has.of c.known.ensures c.stats-stats.result c.stats-stats.ensures in
+    let numbers = has_numbers b cs c.deref.result.now c.in-Ok.forest has.pieces has.of c.args.asked.ranking has.ranking_is c.known.ensures c.stats-stats.result c.stats-stats.ensures in
     on_ok_weaker c.write_stats.result
     (values_done (asked_of c.args.asked) b cs c.deref.result.now c.in-Ok.forest has (numbers_of c.stats-stats.result) numbers _ _ _ c.in-Ok-write_derivations.ensures.written)
     c.write_stats.ensures.written
@@ -41,7 +41,7 @@ returns-in-Ok-write_derivations-clause-stops g c =
     let b = c.args.prepared.now in
     let cs = c.args.chars.now in
     let has = subst (λ (spans : List Span). HasForest b c.args.asked.ranking cs spans c.in-Ok.forest) (sym c.deref.ensures.value) c.in-Ok.ensures.forest in
-    let numbers = has_numbers b cs c.deref.result.now c.in-Ok.forest has.pieces has.of c.known.ensures c.stats-stats.result c.stats-stats.ensures in
+    let numbers = has_numbers b cs c.deref.result.now c.in-Ok.forest has.pieces has.of c.args.asked.ranking has.ranking_is c.known.ensures c.stats-stats.result c.stats-stats.ensures in
     MatchResult-weaker c.write_stats.result c.write_stats.ensures.stops (λ _ x. x)
     (λ stop stops. stats_stop (asked_of c.args.asked) b cs c.deref.result.now c.in-Ok.forest has (numbers_of c.stats-stats.result) numbers
     (stream g.O.Sink.contents g.O.Sink.fault_count c.args.out.now) (stream g.O.Sink.contents g.O.Sink.fault_count c.write_derivations.new.out)
@@ -55,7 +55,7 @@ returns-in-Err-WriteFault-clause-stops g c =
     let before = stream g.O.Sink.contents g.O.Sink.fault_count c.args.out.now in
     let after = stream g.O.Sink.contents g.O.Sink.fault_count c.write_derivations.new.out in
     let has = subst (λ (spans : List Span). HasForest b c.args.asked.ranking cs spans c.in-Ok.forest) (sym c.deref.ensures.value) c.in-Ok.ensures.forest in
-    let numbers = has_numbers b cs c.deref.result.now c.in-Ok.forest has.pieces has.of c.known.ensures c.stats-stats.result c.stats-stats.ensures in
+    let numbers = has_numbers b cs c.deref.result.now c.in-Ok.forest has.pieces has.of c.args.asked.ranking has.ranking_is c.known.ensures c.stats-stats.result c.stats-stats.ensures in
     subst (λ (r : WriteRefusal). WriteStops (TellsReading (Values asked) b cs) before after (write_stop r)) c.in-Err-WriteFault.field-0-is
     (values_stop asked b cs c.deref.result.now c.in-Ok.forest has (numbers_of c.stats-stats.result) numbers before after c.in-Err-WriteFault.field-0 c.in-Err-WriteFault.ensures.stops)
 
@@ -67,7 +67,7 @@ returns-clause-stops g c =
     let before = stream g.O.Sink.contents g.O.Sink.fault_count c.args.out.now in
     let after = stream g.O.Sink.contents g.O.Sink.fault_count c.write_derivations.new.out in
     let has = subst (λ (spans : List Span). HasForest b c.args.asked.ranking cs spans c.in-Ok.forest) (sym c.deref.ensures.value) c.in-Ok.ensures.forest in
-    let numbers = has_numbers b cs c.deref.result.now c.in-Ok.forest has.pieces has.of c.known.ensures c.stats-stats.result c.stats-stats.ensures in
+    let numbers = has_numbers b cs c.deref.result.now c.in-Ok.forest has.pieces has.of c.args.asked.ranking has.ranking_is c.known.ensures c.stats-stats.result c.stats-stats.ensures in
     subst (λ (r : WriteRefusal). WriteStops (TellsReading (Values asked) b cs) before after (write_stop r)) c.in-Err-NoMemory.field-0-is
     (values_stop asked b cs c.deref.result.now c.in-Ok.forest has (numbers_of c.stats-stats.result) numbers before after c.in-Err-NoMemory.field-0 c.in-Err-NoMemory.ensures.stops)
 

@@ -20,7 +20,7 @@ returns-clause-line g c =
     let cs = c.args.chars.now in
     let spans = c.args.reading.now.spans.items in
     let has = c.in-Ok.ensures.forest in
-    let numbers = has_numbers b cs spans c.in-Ok.forest has.pieces has.of c.known.ensures c.stats-stats.result c.stats-stats.ensures in
+    let numbers = has_numbers b cs spans c.in-Ok.forest has.pieces has.of RuleRanks has.ranking_is c.known.ensures c.stats-stats.result c.stats-stats.ensures in
     own_told c.args.size c.requires.size b c.requires.grammar cs c.requires.chars spans c.in-Ok.forest has c.known.ensures (numbers_of c.stats-stats.result) numbers
     c.in_ok-values.values c.in_ok-values.ensures.count c.in_ok-line.line.items c.in_ok-line.ensures
 
