@@ -109,7 +109,7 @@ forests_apply =
       forest = forest;
       lists = found;
       all = all;
-      has_two = (all.listing.each two_lists).1 (derived flat_two as_two);
-      has_one = (all.listing.each one_list).1 (derived flat_one as_one);
+      has_two = (all.listing.each two_lists).1 (derived flat_two as_two, tt);
+      has_one = (all.listing.each one_list).1 (derived flat_one as_one, tt);
       before = refl;
     }

@@ -1,23 +1,25 @@
--- What the nodes of a forest stand for is all that their keys say.
-use Rattle.std.proofs.Common.{◌≡◌, ℕ, zero, suc, ◌<◌, ◌≤◌, ◌-◌, Bool, true, false, List, [], ◌∷◌, map, length, inl, inr, Option, Some, None, refl, sym, ap, ◌∙◌, subst, arith, lit≤}
-use Rattle.std.specs.Prelude.{◌==◌, if◌then◌else◌, slice_get, slice_index_or, Contains}
+-- What the nodes of a forest stand for is all that their keys say: of the lists of the reading, what is of allowed rules.
+use Rattle.std.proofs.Common.{◌≡◌, ℕ, zero, suc, ◌<◌, ◌≤◌, ◌-◌, Bool, true, false, cond, List, [], ◌∷◌, map, length, inl, inr, Option, Some, None, refl, sym, ap, ◌∙◌, subst, arith, lit≤}
+use Rattle.std.specs.Prelude.{◌==◌, ◌↔◌, if◌then◌else◌, filter, slice_get, slice_index_or, Contains}
 use Rattle.std.specs.List.{flat_map}
 use Rattle.std.specs.List.Sorted.{IsStrictlySortedBy}
 use Rattle.std.specs.declared.cmp.Ordering.{Ordering}
-use Rattle.std.specs.Ordering.{ordering_then, nat_cmp}
+use Rattle.std.specs.Ordering.{ordering_then, ordering_reverse, nat_cmp}
+use Rattle.std.specs.Cmp.{on_total}
+use Rattle.std.proofs.lemmas.List.Kept.{IsStrictlySortedBy-filter}
 use Rattle.grammar_model.specs.Grammar.{Slot, slot_of, rule_at, child_slot}
 use Rattle.grammar_model.specs.Grammar
 use Rattle.grammar_model.specs.Trees.{Tree, Children, Leaf, Nulled, Node, NoChild, Child, child_count}
 use Rattle.grammar_model.specs.Derives.{Edges, Held, DerivesFront}
-use Rattle.grammar_model.specs.Order.{RuleOrder, IsRuleOrder}
+use Rattle.grammar_model.specs.Order.{RuleOrder, IsRuleOrder, tree_cmp}
 use Rattle.grammar_model.specs.All.{IsAll}
 use Rattle.grammar_model.proofs.Total.{all_unique, nullable_not_terminal}
-use Rattle.grammar_model.proofs.Lists.{Among, among_from, contains_from}
+use Rattle.grammar_model.proofs.Lists.{Among, among_from, contains_from, one_sorted}
 use Rattle.grammar_model.proofs.Compose.{GoForward, at_cmp, place_of}
 use Rattle.recognizer_model.specs.declared.NodeKey.{NodeKey}
 use Rattle.recognizer_model.specs.declared.flat.FlatSymbol.TheVariants.{Terminal, Top}
 use Rattle.recognizer_model.specs.Flat.{FlatGrammar, IsRule, lhs_of, rhs_of, IsNullable}
-use Rattle.recognizer_model.specs.FlatForm.{StandsFor, symbol_at, flat_order}
+use Rattle.recognizer_model.specs.FlatForm.{StandsFor, symbol_at, flat_order, tree_of}
 use Rattle.recognizer_model.specs.FlatDerives.{Spans, Token, Null, Rule, More}
 use Rattle.recognizer_model.specs.FlatDerives
 use Rattle.recognizer_model.specs.Acceptable.{OnlyTerminals}
@@ -25,16 +27,22 @@ use Rattle.recognizer_model.specs.Invariant.{IsFlat, IsTopOf}
 use Rattle.recognizer_model.specs.View.{grammar_view}
 use Rattle.recognizer_model.proofs.Views.{IsKindOf, kind_of, rule_viewed, in_view, nullable_viewed, terminal_viewed, symbol_viewed, parts_viewed, symbol_back, parts_back}
 use Rattle.recognizer_model.proofs.FlatNamed.{get_index}
-use Rattle.recognizer_model.proofs.FlatListed.{written_all}
-use Rattle.recognizer_model.proofs.FlatFormLaw.{flat_form}
-use Rattle.forest_model.specs.Forest.{Last, AnEdge, Nothing, Wholes, Alternative, ForestNode, Forest, edges_of, top_of, IsNode, start_place, starts_cmp, ranks_high, rules_cmp, whole_key, IsSplit, IsWholeOver, AreWholes, IsLast, IsFront, AreAlternatives, IsRoot, IsForest}
+use Rattle.recognizer_model.specs.Chosen.{AreAllowed}
+use Rattle.recognizer_model.proofs.FlatChosen.{written_chosen}
+use Rattle.recognizer_model.proofs.Nodes
+use Rattle.forest_model.specs.Forest.{Last, AnEdge, Nothing, Wholes, Alternative, ForestNode, Forest, edges_of, allowed_of, top_of, IsNode, start_place, starts_cmp, ranks_high, rules_cmp, whole_key, IsSplit, IsWholeOver, AreWholes, IsLast, IsFront, AreAlternatives, IsRoot, IsForest}
 use Rattle.forest_model.specs.Listing.{IsListing}
 use Rattle.forest_laws.specs.Lists.{Lists, last_symbol, rule_of, fronts_by, whole_by, lasts_by, alternative_by, AreLists, roots_by, trees_by}
 use Rattle.forest_laws.specs.Laws.{AreAllSpans, AreAllTrees, AreAllLists, ForestsHaveLists}
 use Rattle.forest_laws.proofs.Lists.{flat_map_map, flat_map_same, flat_map_both, only_one, get_among, get_first, append_nil}
+use Rattle.finite_sets.proofs.Deciding.{moved, true_test, test_true}
+use Rattle.finite_sets.proofs.Members.{values}
+use Rattle.forest_laws.proofs.Kept.{among_kept, kept_among, kept_flat, kept_map, flat_kept}
+use Rattle.forest_laws.proofs.Ordered.{sorted_by, within_values}
 use Rattle.forest_laws.proofs.Reading
 use Rattle.forest_laws.proofs.Reading.{D, rule_there}
-use Rattle.forest_laws.proofs.Fronts.{AllFronts, front_unique, one_front, behind, one_more, nodes_of, nodes_all}
+use Rattle.forest_laws.proofs.Allowing.{leaves, over_decided, allowed_decided, rule_test, tree_test, front_test, tree_is, front_is, is_tree, is_front}
+use Rattle.forest_laws.proofs.Fronts.{AllFronts, front_unique, one_front, behind, one_more, nodes_all}
 
 sorted_as : {X : Type 0} (R S : X → X → Ordering) → ((x y : X) → R x y ≡ S x y) → (xs : List X) → IsStrictlySortedBy R xs → IsStrictlySortedBy S xs
 sorted_as R S e xs s = let same : R ≡ S = λ i x y. e x y i in subst (λ c. IsStrictlySortedBy c xs) same s
@@ -102,8 +110,25 @@ module _ (f : Forest) (is : IsForest f) where
   abbrev pub spans : (r n p q : ℕ) → (cs : List Children) × All r n p q cs
   spans r n p q = Reading.spans f is.derived r n p q
 
+  -- of the lists of the reading, what is of allowed rules
+  abbrev pub kept : (x p q : ℕ) → List Tree
+  kept x p q = filter (tree_test f is.derived) (exact (slot_of x) p q).0
+
+  abbrev pub kept_spans : (r n p q : ℕ) → List Children
+  kept_spans r n p q = filter (front_test f is.derived) (spans r n p q).0
+
+  pub in_kept : (x p q : ℕ) (t : Tree) → Contains (kept x p q) t ↔ (D F E (slot_of x) p q t × AreAllowed (allowed_of f) t)
+  in_kept x p q t = (
+    λ c. (let (m, e) = kept_among (tree_test f is.derived) t (exact (slot_of x) p q).0 (among_from (kept x p q) t c) in
+        (((exact (slot_of x) p q).1.each t).0 (contains_from _ t m), tree_is f is.derived t e)),
+    λ (d, c). contains_from (kept x p q) t (among_kept (tree_test f is.derived) t (exact (slot_of x) p q).0 (among_from _ t (((exact (slot_of x) p q).1.each t).1 d)) (is_tree f is.derived t c)),
+  )
+
+  pub kept_sorted : (x p q : ℕ) → IsStrictlySortedBy (tree_cmp order) (kept x p q)
+  kept_sorted x p q = IsStrictlySortedBy-filter (tree_cmp order) (tree_test f is.derived) (exact (slot_of x) p q).0 (exact (slot_of x) p q).1.sorted
+
   abbrev pub key_list : NodeKey → List Children
-  key_list k = (spans k.rule k.dot k.origin k.end).0
+  key_list k = kept_spans k.rule k.dot k.origin k.end
 
   abbrev at : Option ForestNode → List Children
   at None = []
@@ -156,66 +181,100 @@ module _ (f : Forest) (is : IsForest f) where
   abbrev parts_count : ℕ → ℕ
   parts_count r = length (rhs_of g r)
 
-  wholes_all : (x p q : ℕ) (nodes : List ℕ) → AreWholes f x p q nodes → IsAll F E order (slot_of x) p q (flat_map (whole_by f lists p q) nodes)
-  wholes_all x p q nodes h =
-      subst (IsAll F E order (slot_of x) p q) (sym same)
-      (nodes_all F E forward order laws exact (slot_of x) p q h.spans inner parts_count (rules_cmp f) (λ r s. refl) h.rules h.sorted fitting enough)
+  -- all rules of a symbol that derive a span, of which some do
+  module _ (x p q : ℕ) (spanned : p < q) (rules : List ℕ) (sorted : IsStrictlySortedBy (rules_cmp f) rules) (exactly : (r : ℕ) → Contains rules r ↔ IsWholeOver f x p q r) (some : ℕ) (there : IsWholeOver f x p q some) where
+    over : (r : ℕ) → Among r rules → IsWholeOver f x p q r
+    over r m = (exactly r).0 (contains_from rules r m)
+
+    fits : (r : ℕ) → IsWholeOver f x p q r → Grammar.Fits (rule_at F r) (slot_of x)
+    fits r o = subst (λ z. Grammar.Fits z (slot_of x)) (sym (rule_viewed g r o.is_rule)) (o.left, lit≤ tt)
+
+    fitting : (r : ℕ) → Among r rules → (r < length F.rules) × Grammar.Fits (rule_at F r) (slot_of x) × Grammar.IsChildCount (rule_at F r) (parts_count r)
+    fitting r m =
+        let o = over r m in
+        (in_view g r o.is_rule, fits r o, subst (λ z. Grammar.IsChildCount z (parts_count r)) (sym (rule_viewed g r o.is_rule)) refl)
+
+    inner : Grammar.IsTerminal F x → ⊥
+    inner t = t some (in_view g some there.is_rule) (fits some there).0
+
+    no_children : (r : ℕ) (cs : Children) → child_count cs ≡ 0 → DerivesFront F E (rule_at F r) p q cs → ⊥
+    no_children r NoChild c d = let lt = spanned in omega arith
+    no_children r (Child front last) c d = omega arith
+
+    enough : (r : ℕ) (cs : Children) → r < length F.rules → Grammar.Fits (rule_at F r) (slot_of x) → Grammar.IsChildCount (rule_at F r) (child_count cs) → DerivesFront F E (rule_at F r) p q cs →
+        Among r rules × (child_count cs ≡ parts_count r)
+    enough r cs lt fit full d = go (kind_of g r lt)
+      where
+        go : IsKindOf g r → Among r rules × (child_count cs ≡ parts_count r)
+        go (inl rule) =
+            let e = rule_viewed g r rule in
+            let count : child_count cs ≡ parts_count r = subst (λ z. Grammar.IsChildCount z (child_count cs)) e full in
+            let s = subst (λ k. Spans g E r k p q cs) count (front_back cs r rule p q (omega (arith, count)) d) in
+            let left : lhs_of g r ≡ x = (subst (λ z. Grammar.Fits z (slot_of x)) e fit).0 in
+            (among_from rules r ((exactly r).1 (record { is_rule = rule; left = left; children = cs; spans = s })), count)
+        go (inr (y, m, e)) =
+            let count : child_count cs ≡ 0 = subst (λ z. Grammar.IsChildCount z (child_count cs)) e full in
+            absurd (no_children r cs count d)
+
+    abbrev each_rule : ℕ → List Tree
+    each_rule r = map (λ cs. Node r cs p q) (spans r (parts_count r) p q).0
+
+    abbrev each_kept : ℕ → List Tree
+    each_kept r = map (λ cs. Node r cs p q) (kept_spans r (parts_count r) p q)
+
+    all_rules : (exact (slot_of x) p q).0 ≡ flat_map each_rule rules
+    all_rules = all_unique F E order laws (slot_of x) p q _ _ (exact (slot_of x) p q).1
+        (nodes_all F E forward order laws exact (slot_of x) p q spanned inner parts_count (rules_cmp f) (λ r s. refl) rules sorted fitting enough)
+
+    by_rules : kept x p q ≡ flat_map each_kept (filter (λ r. rule_test f is.derived r p q) rules)
+    by_rules =
+        ap (filter (tree_test f is.derived)) all_rules
+        ∙ kept_flat (tree_test f is.derived) each_rule rules
+        ∙ flat_map_same (λ r. filter (tree_test f is.derived) (each_rule r)) (λ r. cond (rule_test f is.derived r p q) (each_kept r) []) rules
+        (λ r m. kept_map (tree_test f is.derived) (rule_test f is.derived r p q) (front_test f is.derived) (λ cs. Node r cs p q) (λ cs. refl) (spans r (parts_count r) p q).0)
+        ∙ flat_kept (λ r. rule_test f is.derived r p q) each_kept rules
+
+    allowed_rules : (best : List ℕ) → IsStrictlySortedBy (rules_cmp f) best → ((r : ℕ) → Contains best r ↔ (IsWholeOver f x p q r × allowed_of f r p q)) → filter (λ r. rule_test f is.derived r p q) rules ≡ best
+    allowed_rules best in_order is_best =
+        one_sorted (rules_cmp f) (λ r s a b. (let c = laws.total.antisymm (r, parts_count r) (s, parts_count s) ∙ ap ordering_reverse b in cc)) (filter (λ r. rule_test f is.derived r p q) rules) best
+        (IsStrictlySortedBy-filter (rules_cmp f) (λ r. rule_test f is.derived r p q) rules sorted) in_order
+        (λ r m. (let (k, e) = kept_among (λ r. rule_test f is.derived r p q) r rules m in among_from best r ((is_best r).1 (over r k, true_test (allowed_decided f is.derived r p q) e))))
+        (λ r m. (let (o, a) = (is_best r).0 (contains_from best r m) in among_kept (λ r. rule_test f is.derived r p q) r rules (among_from rules r ((exactly r).1 o)) (test_true (allowed_decided f is.derived r p q) a)))
+
+  rules_of : (x p q : ℕ) → (rules : List ℕ) × IsStrictlySortedBy (rules_cmp f) rules × ((r : ℕ) → Contains rules r ↔ IsWholeOver f x p q r)
+  rules_of x p q =
+      sorted_by (rules_cmp f) (on_total (λ (r : ℕ). (r, length (rhs_of g r))) laws.total) (λ r s e. laws.same_rule r (length (rhs_of g r)) s (length (rhs_of g s)) e)
+      (IsWholeOver f x p q) (values (λ i. i) (length g.rules))
+      (λ r. moved (λ (rule, (left, (cs, s))). record { is_rule = rule; left = left; children = cs; spans = s }) (λ o. (o.is_rule, (o.left, (o.children, o.spans)))) (over_decided f is.derived x p q r))
+      (λ r o. within_values (length g.rules) r o.is_rule)
+
+  wholes_kept : (x p q : ℕ) (nodes : List ℕ) → AreWholes f x p q nodes → flat_map (whole_by f lists p q) nodes ≡ kept x p q
+  wholes_kept x p q nodes h =
+      let some = h.some in
+      let all = h.all in
+      let (r, m) = get_first h.rules (omega arith) in
+      let there = ((h.exact r).0 (contains_from h.rules r m)).0 in
+      let (rules, sorted, exactly) = rules_of x p q in
+      same ∙ sym (by_rules x p q h.spans rules sorted exactly r there ∙ ap (flat_map (λ r. map (λ cs. Node r cs p q) (kept_spans r (parts_count r) p q))) (allowed_rules x p q h.spans rules sorted exactly r there h.rules h.sorted h.exact))
     where
-      over : (r : ℕ) → Among r h.rules → IsWholeOver f x p q r
-      over r m = (h.exact r).0 (contains_from h.rules r m)
-
-      fits : (r : ℕ) → Among r h.rules → Grammar.Fits (rule_at F r) (slot_of x)
-      fits r m = let o = over r m in subst (λ z. Grammar.Fits z (slot_of x)) (sym (rule_viewed g r o.is_rule)) (o.left, lit≤ tt)
-
-      fitting : (r : ℕ) → Among r h.rules → (r < length F.rules) × Grammar.Fits (rule_at F r) (slot_of x) × Grammar.IsChildCount (rule_at F r) (parts_count r)
-      fitting r m =
-          let o = over r m in
-          (in_view g r o.is_rule, fits r m, subst (λ z. Grammar.IsChildCount z (parts_count r)) (sym (rule_viewed g r o.is_rule)) refl)
-
-      inner : Grammar.IsTerminal F x → ⊥
-      inner t =
-          let some = h.some in
-          let all = h.all in
-          let (r, m) = get_first h.rules (omega arith) in
-          t r (in_view g r (over r m).is_rule) (fits r m).0
-
-      no_children : (r : ℕ) (cs : Children) → child_count cs ≡ 0 → DerivesFront F E (rule_at F r) p q cs → ⊥
-      no_children r NoChild c d = let lt = h.spans in omega arith
-      no_children r (Child front last) c d = omega arith
-
-      enough : (r : ℕ) (cs : Children) → r < length F.rules → Grammar.Fits (rule_at F r) (slot_of x) → Grammar.IsChildCount (rule_at F r) (child_count cs) → DerivesFront F E (rule_at F r) p q cs →
-          Among r h.rules × (child_count cs ≡ parts_count r)
-      enough r cs lt fit full d = go (kind_of g r lt)
-        where
-          go : IsKindOf g r → Among r h.rules × (child_count cs ≡ parts_count r)
-          go (inl rule) =
-              let e = rule_viewed g r rule in
-              let count : child_count cs ≡ parts_count r = subst (λ z. Grammar.IsChildCount z (child_count cs)) e full in
-              let s = subst (λ k. Spans g E r k p q cs) count (front_back cs r rule p q (omega (arith, count)) d) in
-              let left : lhs_of g r ≡ x = (subst (λ z. Grammar.Fits z (slot_of x)) e fit).0 in
-              (among_from h.rules r ((h.exact r).1 (record { is_rule = rule; left = left; children = cs; spans = s })), count)
-          go (inr (y, m, e)) =
-              let count : child_count cs ≡ 0 = subst (λ z. Grammar.IsChildCount z (child_count cs)) e full in
-              absurd (no_children r cs count d)
-
-      same : flat_map (whole_by f lists p q) nodes ≡ flat_map (nodes_of F E forward order laws exact (slot_of x) p q h.spans inner parts_count (rules_cmp f) (λ r s. refl) h.rules h.sorted fitting enough) h.rules
-      same = flat_map_both (whole_by f lists p q) _ nodes h.rules h.all
+      same : flat_map (whole_by f lists p q) nodes ≡ flat_map (λ r. map (λ cs. Node r cs p q) (kept_spans r (parts_count r) p q)) h.rules
+      same = flat_map_both (whole_by f lists p q) (λ r. map (λ cs. Node r cs p q) (kept_spans r (parts_count r) p q)) nodes h.rules h.all
           (λ i n r a b. (let k = h.each i n r a b in
           let u = node_rule n (whole_key f r p q) k in
           let v = node_list n (whole_key f r p q) k in
           λ j. map (λ cs. Node (u j) cs p q) (v j)))
 
-  last_all : (x p q : ℕ) (l : Last) → IsLast f x p q l → IsAll F E order (slot_of x) p q (lasts_by f lists x p q l)
-  last_all x p q AnEdge h = leaf_all x p q h
-  last_all x p q Nothing h = null_all x p q h.0 h.1
-  last_all x p q (Wholes nodes) h = wholes_all x p q nodes h
+  last_kept : (x p q : ℕ) (l : Last) → IsLast f x p q l → lasts_by f lists x p q l ≡ kept x p q
+  last_kept x p q AnEdge h = ap (filter (tree_test f is.derived)) (all_unique F E order laws (slot_of x) p q _ _ (leaf_all x p q h) (exact (slot_of x) p q).1)
+  last_kept x p q Nothing h = ap (filter (tree_test f is.derived)) (all_unique F E order laws (slot_of x) p q _ _ (null_all x p q h.0 h.1) (exact (slot_of x) p q).1)
+  last_kept x p q (Wholes nodes) h = wholes_kept x p q nodes h
 
   -- ---- a node
 
-  front_same : (r d p m : ℕ) (front : Option ℕ) → IsFront f r d p m front → fronts_by lists front ≡ (spans r d p m).0
+  front_same : (r d p m : ℕ) (front : Option ℕ) → IsFront f r d p m front → fronts_by lists front ≡ kept_spans r d p m
   front_same r d p m None h =
-      front_unique F E forward order laws (rule_at F r) (order.null_high r) d p m (NoChild ∷ []) (spans r d p m).0
-      (subst (λ k. All r k p m (NoChild ∷ [])) (sym h.0) (subst (λ z. All r 0 p z (NoChild ∷ [])) (sym h.1) (one_front F E forward order laws (rule_at F r) (order.null_high r) p))) (spans r d p m).1
+      ap (filter (front_test f is.derived)) (front_unique F E forward order laws (rule_at F r) (order.null_high r) d p m (NoChild ∷ []) (spans r d p m).0
+      (subst (λ k. All r k p m (NoChild ∷ [])) (sym h.0) (subst (λ z. All r 0 p z (NoChild ∷ [])) (sym h.1) (one_front F E forward order laws (rule_at F r) (order.null_high r) p))) (spans r d p m).1)
   front_same r d p m (Some n) h = node_list n (record { rule = r; dot = d; origin = p; end = m }) h.1
 
   module _ (key : NodeKey) (alternatives : List Alternative) (a : AreAlternatives f key alternatives) where
@@ -250,50 +309,62 @@ module _ (f : Forest) (is : IsForest f) where
         (sorted_as _ _ (same_start (ranks_high f key.rule) key.end) starts a.sorted)
         (λ m cs t d e h. among_from starts m ((a.exact m).1 (split_of m cs t d e h)))
 
-    key_is : key_list key ≡ flat_map (behind F E forward order laws exact (slot_of a.symbol) key.end (λ r. (before r).0)) starts
+    key_is : (spans key.rule key.dot key.origin key.end).0 ≡ flat_map (behind F E forward order laws exact (slot_of a.symbol) key.end (λ r. (before r).0)) starts
     key_is = front_unique F E forward order laws (rule_at F key.rule) (order.null_high key.rule) key.dot key.origin key.end _ _
         (spans key.rule key.dot key.origin key.end).1
         (subst (λ d. All key.rule d key.origin key.end (flat_map (behind F E forward order laws exact (slot_of a.symbol) key.end (λ r. (before r).0)) starts)) (sym a.dot_is) made)
 
-    last_is : (b : Alternative) → Contains alternatives b → IsAll F E order (slot_of a.symbol) b.start key.end (lasts_by f lists a.symbol b.start key.end b.last)
-    last_is b c = last_all a.symbol b.start key.end b.last (a.each b c).last
+    -- of a front with a last part the test is of both
+    behind_kept : (m : ℕ) → filter (front_test f is.derived) (behind F E forward order laws exact (slot_of a.symbol) key.end (λ r. (before r).0) m)
+        ≡ flat_map (λ cs. map (Child cs) (kept a.symbol m key.end)) (kept_spans key.rule a.dot key.origin m)
+    behind_kept m =
+        kept_flat (front_test f is.derived) (λ cs. map (Child cs) (exact (slot_of a.symbol) m key.end).0) (before m).0
+        ∙ flat_map_same (λ cs. filter (front_test f is.derived) (map (Child cs) (exact (slot_of a.symbol) m key.end).0)) (λ cs. cond (front_test f is.derived cs) (map (Child cs) (kept a.symbol m key.end)) []) (before m).0
+        (λ cs i. kept_map (front_test f is.derived) (front_test f is.derived cs) (tree_test f is.derived) (Child cs) (λ t. refl) (exact (slot_of a.symbol) m key.end).0)
+        ∙ flat_kept (front_test f is.derived) (λ cs. map (Child cs) (kept a.symbol m key.end)) (before m).0
+
+    last_is : (b : Alternative) → Contains alternatives b → lasts_by f lists a.symbol b.start key.end b.last ≡ kept a.symbol b.start key.end
+    last_is b c = last_kept a.symbol b.start key.end b.last (a.each b c).last
 
     alternative_is : (b : Alternative) → Among b alternatives →
-        behind F E forward order laws exact (slot_of a.symbol) key.end (λ r. (before r).0) b.start ≡ alternative_by f lists (last_symbol f key) key.end b
+        filter (front_test f is.derived) (behind F E forward order laws exact (slot_of a.symbol) key.end (λ r. (before r).0) b.start) ≡ alternative_by f lists (last_symbol f key) key.end b
     alternative_is b m =
         let c = contains_from alternatives b m in
         let x = front_same key.rule a.dot key.origin b.start b.front (a.each b c).front in
-        let y = all_unique F E order laws (slot_of a.symbol) b.start key.end _ _ (last_is b c) (exact (slot_of a.symbol) b.start key.end).1 in
-        let z : alternative_by f lists a.symbol key.end b ≡ flat_map (λ cs. map (Child cs) (exact (slot_of a.symbol) b.start key.end).0) (before b.start).0 =
+        let y = last_is b c in
+        let z : alternative_by f lists a.symbol key.end b ≡ flat_map (λ cs. map (Child cs) (kept a.symbol b.start key.end)) (kept_spans key.rule a.dot key.origin b.start) =
         λ i. flat_map (λ cs. map (Child cs) (y i)) (x i) in
-        sym z ∙ sym (ap (λ s. alternative_by f lists s key.end b) symbol_is)
+        behind_kept b.start ∙ sym z ∙ sym (ap (λ s. alternative_by f lists s key.end b) symbol_is)
 
     pub key_by : key_list key ≡ flat_map (alternative_by f lists (last_symbol f key) key.end) alternatives
-    key_by = key_is ∙ flat_map_map (λ (z : Alternative). z.start) (behind F E forward order laws exact (slot_of a.symbol) key.end (λ r. (before r).0)) alternatives
+    key_by = ap (filter (front_test f is.derived)) key_is
+        ∙ kept_flat (front_test f is.derived) (behind F E forward order laws exact (slot_of a.symbol) key.end (λ r. (before r).0)) starts
+        ∙ flat_map_map (λ (z : Alternative). z.start) (λ m. filter (front_test f is.derived) (behind F E forward order laws exact (slot_of a.symbol) key.end (λ r. (before r).0) m)) alternatives
         ∙ flat_map_same _ _ alternatives alternative_is
 
     pub key_all : AreAllSpans f key (key_list key)
     key_all =
         let all = (spans key.rule key.dot key.origin key.end).1 in
         record {
-          sorted = all.sorted;
+          sorted = IsStrictlySortedBy-filter _ (front_test f is.derived) (spans key.rule key.dot key.origin key.end).0 all.sorted;
           exact = λ cs. (
-            λ c. (let d = (all.each cs).0 (among_from _ cs c) in
+            λ c. (let (m, e) = kept_among (front_test f is.derived) cs (spans key.rule key.dot key.origin key.end).0 (among_from (key_list key) cs c) in
+                let d = (all.each cs).0 m in
                 let lt = part_is.0 in
                 let dot = a.dot_is in
                 let n = d.1 in
-                subst (λ k. Spans g E key.rule k key.origin key.end cs) d.1 (front_back cs key.rule is_rule key.origin key.end (omega arith) d.0)),
-            λ s. contains_from _ cs ((all.each cs).1 (front_viewed is_rule s)),
+                (subst (λ k. Spans g E key.rule k key.origin key.end cs) d.1 (front_back cs key.rule is_rule key.origin key.end (omega arith) d.0), front_is f is.derived cs e)),
+            λ (s, c). contains_from _ cs (among_kept (front_test f is.derived) cs (spans key.rule key.dot key.origin key.end).0 ((all.each cs).1 (front_viewed is_rule s)) (is_front f is.derived cs c)),
           );
         }
 
     pub last_trees : (b : Alternative) → Contains alternatives b → AreAllTrees f (last_symbol f key) b.start key.end (lasts_by f lists (last_symbol f key) b.start key.end b.last)
     last_trees b c = subst (λ s. AreAllTrees f s b.start key.end (lasts_by f lists s b.start key.end b.last)) (sym symbol_is)
-        (let all = last_is b c in
-        record {
-          sorted = all.sorted;
-          exact = λ t. (λ h. back a.symbol b.start key.end t ((all.each t).0 h), λ d. (all.each t).1 (viewed d));
-        })
+        (subst (AreAllTrees f a.symbol b.start key.end) (sym (last_is b c))
+        (record {
+          sorted = kept_sorted a.symbol b.start key.end;
+          exact = λ t. (λ h. (let (d, k) = (in_kept a.symbol b.start key.end t).0 h in (back a.symbol b.start key.end t d, k)), λ (d, k). (in_kept a.symbol b.start key.end t).1 (viewed d, k));
+        }))
 
   pub node_among : (n : ℕ) (node : ForestNode) → slice_get f.nodes n ≡ Some node → Contains f.nodes node
   node_among n node e = contains_from f.nodes node (get_among f.nodes n node e)
@@ -336,6 +407,11 @@ module _ (f : Forest) (is : IsForest f) where
       let e : r ≡ top = top_is.is_top.alone r rule (l ∙ same) in
       record { is_rule = subst (IsRule g) e rule; left = subst (λ z. lhs_of g z ≡ x) e l; children = cs; spans = subst (λ z. Spans g E z (length (rhs_of g z)) p q cs) e s }
 
+  top_allowed : 0 < f.place → allowed_of f top 0 f.place
+  top_allowed lt =
+      let (u, d, c) = leaves f is.derived whole_symbol 0 f.place is.derived.tree is.derived.derives in
+      Nodes.top_allowed g E (allowed_of f) top top_is.is_top only flat.no_rules d c refl lt
+
   root_wholes : (n : ℕ) → 0 < f.place → IsNode f n (whole_key f (top_of f) 0 f.place) → AreWholes f whole_symbol 0 f.place (n ∷ [])
   unfolding IsStrictlySortedBy
   root_wholes n lt node = record {
@@ -344,8 +420,8 @@ module _ (f : Forest) (is : IsForest f) where
     rules = top ∷ [];
     sorted = (tt, tt);
     exact = λ r. (
-      λ c. only_one (IsWholeOver f whole_symbol 0 f.place) top r (over_some is.derived.derives refl lt) c,
-      λ o. contains_from (top ∷ []) r (inl (sym (top_is.is_top.alone r o.is_rule o.left))),
+      λ c. only_one (λ r. IsWholeOver f whole_symbol 0 f.place r × allowed_of f r 0 f.place) top r (over_some is.derived.derives refl lt, top_allowed lt) c,
+      λ (o, c). contains_from (top ∷ []) r (inl (sym (top_is.is_top.alone r o.is_rule o.left))),
     );
     all = refl;
     each = one;
@@ -355,11 +431,11 @@ module _ (f : Forest) (is : IsForest f) where
       one zero m r a b = let a' : n ≡ m = cc in let b' : top_of f ≡ r = cc in subst (λ z. IsNode f z (whole_key f r 0 f.place)) a' (subst (λ z. IsNode f n (whole_key f z 0 f.place)) b' node)
       one (suc i) m r a b = cc
 
-  pub root_all : (root : Option ℕ) → IsRoot f root → IsAll F E order (slot_of whole_symbol) 0 f.place (roots_by f lists root)
-  root_all None h =
+  pub root_kept : (root : Option ℕ) → IsRoot f root → roots_by f lists root ≡ kept whole_symbol 0 f.place
+  root_kept None h =
       let e : 0 ≡ f.place = sym h in
-      null_all whole_symbol 0 f.place e (over_nothing is.derived.derives e)
-  root_all (Some n) h = subst (IsAll F E order (slot_of whole_symbol) 0 f.place) (append_nil (whole_by f lists 0 f.place n)) (wholes_all whole_symbol 0 f.place (n ∷ []) (root_wholes n h.0 h.1))
+      ap (filter (tree_test f is.derived)) (all_unique F E order laws (slot_of whole_symbol) 0 f.place _ _ (null_all whole_symbol 0 f.place e (over_nothing is.derived.derives e)) (exact (slot_of whole_symbol) 0 f.place).1)
+  root_kept (Some n) h = sym (append_nil (whole_by f lists 0 f.place n)) ∙ wholes_kept whole_symbol 0 f.place (n ∷ []) (root_wholes n h.0 h.1)
 
   stands : StandsFor f.written (symbol_at f.flat whole_symbol) (slot_of (slice_index_or f.written.starts f.start 0))
   stands =
@@ -377,8 +453,9 @@ module _ (f : Forest) (is : IsForest f) where
   pub listing : IsListing f (trees_by f lists)
   listing =
       let lt = (get_index f.flat.symbols whole_symbol (Top 0) (Top f.start) top_is.symbol).0 in
-      let form = flat_form f.flat f.written flat is.derived.flat_of is.derived.checked (Held f.edges) held_forward f.ranking in
-      written_all f.flat f.written flat f.ranking f.edges held_forward form whole_symbol 0 f.place (slot_of (slice_index_or f.written.starts f.start 0)) (roots_by f lists f.root) lt stands (root_all f.root is.root)
+      subst (λ l. IsListing f (map (tree_of f.written f.flat) l)) (sym (root_kept f.root is.root))
+      (written_chosen f.flat f.written flat is.derived.flat_of is.derived.checked (Held f.edges) held_forward f.ranking whole_symbol 0 f.place (slot_of (slice_index_or f.written.starts f.start 0)) (kept whole_symbol 0 f.place) lt stands
+      (kept_sorted whole_symbol 0 f.place) (in_kept whole_symbol 0 f.place))
 
   pub all_lists : AreAllLists f lists
   all_lists = record {

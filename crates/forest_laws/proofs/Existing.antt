@@ -1,13 +1,13 @@
 -- Each reading with a derivation has a forest: its trees are finitely many, and so are the nodes that stand in them.
 use Rattle.std.proofs.Common.{◌≡◌, ℕ, zero, suc, ◌<◌, ◌≤◌, List, [], ◌∷◌, map, length, ◌⊎◌, inl, inr, Option, Some, None, refl, sym, ap, ◌∙◌, subst, arith}
-use Rattle.std.specs.Prelude.{◌↔◌, slice_get, Contains}
+use Rattle.std.specs.Prelude.{◌↔◌, filter, slice_get, Contains}
 use Rattle.std.specs.List.{flat_map}
 use Rattle.std.specs.List.Sorted.{IsStrictlySortedBy}
 use Rattle.std.specs.declared.cmp.Ordering.{Ordering}
 use Rattle.std.specs.declared.cmp.Ordering.TheVariants.{Less, Equal, Greater}
 use Rattle.std.specs.Ordering.{ordering_reverse, nat_cmp}
 use Rattle.std.specs.Cmp.{IsTotalOrder, nat_cmp_total, then_total, on_total, back_total}
-use Rattle.grammar_model.specs.Trees.{Tree, Children}
+use Rattle.grammar_model.specs.Trees.{Tree, Children, Node}
 use Rattle.grammar_model.proofs.Chains.{both_Equal}
 use Rattle.grammar_model.proofs.Sorting.{nat_cmp-Equal}
 use Rattle.grammar_model.proofs.Lists.{Among, among_from, contains_from, among_flat_map, among_flat_map_from}
@@ -23,14 +23,18 @@ use Rattle.recognizer_model.specs.FlatDerives.{Derives, Spans, Token, Null, Rule
 use Rattle.recognizer_model.specs.FlatDerives
 use Rattle.recognizer_model.specs.Counts.{IsListOf}
 use Rattle.recognizer_model.specs.Contexts.{IsTop}
+use Rattle.recognizer_model.specs.Chosen.{AreAllowed}
 use Rattle.recognizer_model.specs.Nodes.{IsUsed, IsMet, Whole, Before, Last}
 use Rattle.recognizer_model.proofs.Nodes.{used_are_met}
 use Rattle.recognizer_model.proofs.FlatNamed.{get_index}
-use Rattle.forest_model.specs.Forest.{AnEdge, Nothing, Wholes, Alternative, ForestNode, Forest, edges_of, top_of, IsNode, start_place, starts_cmp, ranks_high, rules_cmp, whole_key, IsSplit, IsWholeOver, AreWholes, IsLast, IsFront, IsAlternative, AreAlternatives, IsDerived, IsRoot, IsForest}
+use Rattle.forest_model.specs.Forest.{AnEdge, Nothing, Wholes, Alternative, ForestNode, Forest, edges_of, allowed_of, top_of, IsNode, start_place, starts_cmp, ranks_high, rules_cmp, whole_key, IsSplit, IsWholeOver, AreWholes, IsLast, IsFront, IsAlternative, AreAlternatives, IsDerived, IsRoot, IsForest}
 use Rattle.forest_model.specs.Forest
 use Rattle.forest_laws.specs.Laws.{with_nodes, ForestsExist}
 use Rattle.forest_laws.proofs.Lists.{among_get}
 use Rattle.forest_laws.proofs.Reading.{laws, forward, only, rule_there, spans, trees_of, tree_in, in_trees, span_in, in_spans}
+use Rattle.forest_laws.proofs.Kept.{among_kept, kept_among}
+use Rattle.forest_laws.proofs.Ordered.{sorted_by, within_values}
+use Rattle.forest_laws.proofs.Allowing.{some_or_none, leaves, over_decided, allowed_decided, tree_test, tree_is, is_tree}
 use Rattle.forest_laws.proofs.Chosen.{chosen, Paired, paired_length, paired_get, paired_at, paired_map, paired_from}
 use Rattle.forest_laws.proofs.Used.{nodes_in, in_tree, from_tree, first_in}
 use Rattle.forest_laws.proofs.Moved.{alternatives_to}
@@ -41,33 +45,11 @@ same_key x y =
     (λ e. (ap (λ (u : NodeKey). u.rule) e, (ap (λ (u : NodeKey). u.dot) e, (ap (λ (u : NodeKey). u.origin) e, ap (λ (u : NodeKey). u.end) e))))
     (both (equal x.rule y.rule) (both (equal x.dot y.dot) (both (equal x.origin y.origin) (equal x.end y.end))))
 
--- an order that tells elements apart
-three_of : {X : Type 0} (cmp : X → X → Ordering) → IsTotalOrder cmp → ((x y : X) → cmp x y ≡ Equal → x ≡ y) → (x y : X) → (cmp x y ≡ Less) ⊎ ((x ≡ y) ⊎ (cmp y x ≡ Less))
-three_of {X} cmp total one x y = go (cmp x y) refl
-  where
-    go : (o : Ordering) → cmp x y ≡ o → (cmp x y ≡ Less) ⊎ ((x ≡ y) ⊎ (cmp y x ≡ Less))
-    go Less e = inl e
-    go Equal e = inr (inl (one x y e))
-    go Greater e = inr (inr (total.antisymm y x ∙ ap ordering_reverse e))
-
-sorted_by : {X : Type 0} (cmp : X → X → Ordering) → IsTotalOrder cmp → ((x y : X) → cmp x y ≡ Equal → x ≡ y) → (P : X → Type 0) (xs : List X) → ((x : X) → IsDecided (P x)) → ((x : X) → P x → Contains xs x) →
-    (ys : List X) × IsStrictlySortedBy cmp ys × ((x : X) → Contains ys x ↔ P x)
-sorted_by cmp total one P xs d within =
-    let (ys, (s, is, all)) = sorted_listed cmp (λ x. Unit {0}) (λ x y a b. three_of cmp total one x y) total.trans P xs (λ x m. tt) (λ x m. d x) in
-    (ys, s, λ x. (λ c. (is x (Members.among_from ys x c)).1, λ p. Members.contains_from ys x (all x (Members.among_from xs x (within x p)) p)))
-
 starts_total : (high : _) (end : ℕ) → IsTotalOrder (λ (m n : ℕ). starts_cmp high end m n)
 starts_total high end = then_total (on_total (λ (m : ℕ). start_place high m end) nat_cmp_total) (back_total nat_cmp_total)
 
 starts_one : (high : _) (end m n : ℕ) → starts_cmp high end m n ≡ Equal → m ≡ n
 starts_one high end m n e = sym (nat_cmp-Equal n m (both_Equal (nat_cmp (start_place high m end) (start_place high n end)) (nat_cmp n m) e).1)
-
-some_or_none : {X : Type 0} (xs : List X) → ((x : X) × Among x xs) ⊎ ((x : X) → Among x xs → ⊥)
-some_or_none [] = inr (λ x m. m)
-some_or_none (x ∷ xs) = inl (x, inl refl)
-
-within_values : (n x : ℕ) → x < n → Contains (values (λ i. i) n) x
-within_values n x lt = Members.contains_from (values (λ i. i) n) x (among_values (λ i. i) n x lt)
 
 map_get : {X Y : Type 0} (h : X → Y) (xs : List X) (n : ℕ) (x : X) → slice_get xs n ≡ Some x → slice_get (map h xs) n ≡ Some (h x)
 map_get h [] n x e = cc
@@ -82,10 +64,10 @@ module _ (f : Forest) (derived : IsDerived f) where
   top = top_of f
 
   abbrev Used : NodeKey → Type 0
-  Used = IsUsed f.flat (edges_of f) (top_of f) f.place
+  Used = IsUsed f.flat (edges_of f) (allowed_of f) (top_of f) f.place
 
   abbrev trees : List Tree
-  trees = trees_of f derived (lhs_of f.flat (top_of f)) 0 f.place
+  trees = filter (tree_test f derived) (trees_of f derived (lhs_of f.flat (top_of f)) 0 f.place)
 
   -- ---- the keys
 
@@ -104,10 +86,11 @@ module _ (f : Forest) (derived : IsDerived f) where
       used k m =
           let (t, i, n) = among_flat_map_from nodes_in k trees m in
           let s = from_tree t k n in
-          record { tree = t; derives = in_trees f derived (lhs_of g top) 0 f.place t i; children = s.children; has = s.has; dot_is = s.dot_is; some = s.some }
+          let (j, e) = kept_among (tree_test f derived) t (trees_of f derived (lhs_of g top) 0 f.place) i in
+          record { tree = t; derives = in_trees f derived (lhs_of g top) 0 f.place t j; chosen = tree_is f derived t e; children = s.children; has = s.has; dot_is = s.dot_is; some = s.some }
 
       found : (k : NodeKey) → Used k → Among k (flat_map nodes_in trees)
-      found k u = among_flat_map nodes_in u.tree k trees (tree_in f derived u.derives)
+      found k u = among_flat_map nodes_in u.tree k trees (among_kept (tree_test f derived) u.tree (trees_of f derived (lhs_of g top) 0 f.place) (tree_in f derived u.derives) (is_tree f derived u.tree u.chosen))
           (in_tree u.has k (first_in k.rule k.origin k.end u.children k refl refl refl u.dot_is u.some))
 
   abbrev keys : List NodeKey
@@ -131,16 +114,16 @@ module _ (f : Forest) (derived : IsDerived f) where
       go (x ∷ xs) zero lt = refl
       go (x ∷ xs) (suc k) lt = go xs k (omega arith)
 
-  met : (k : NodeKey) → Used k → (0 < k.dot) × IsMet g (edges_of f) top f.place k.rule k.dot k.origin k.end
-  met k u = (used_are_met g (edges_of f) top is_top (only f derived) derived.flat.no_rules f.place k).0 u
+  met : (k : NodeKey) → Used k → (0 < k.dot) × IsMet g (edges_of f) (allowed_of f) top f.place k.rule k.dot k.origin k.end
+  met k u = (used_are_met g (edges_of f) (allowed_of f) top is_top (only f derived) derived.flat.no_rules (leaves f derived) f.place k).0 u
 
-  use_of : (k : NodeKey) → 0 < k.dot → IsMet g (edges_of f) top f.place k.rule k.dot k.origin k.end → Used k
-  use_of k lt m = (used_are_met g (edges_of f) top is_top (only f derived) derived.flat.no_rules f.place k).1 (lt, m)
+  use_of : (k : NodeKey) → 0 < k.dot → IsMet g (edges_of f) (allowed_of f) top f.place k.rule k.dot k.origin k.end → Used k
+  use_of k lt m = (used_are_met g (edges_of f) (allowed_of f) top is_top (only f derived) derived.flat.no_rules (leaves f derived) f.place k).1 (lt, m)
 
-  met_spans : {r d p q : ℕ} → IsMet g (edges_of f) top f.place r d p q → (cs : Children) × Spans g (edges_of f) r d p q cs
+  met_spans : {r d p q : ℕ} → IsMet g (edges_of f) (allowed_of f) top f.place r d p q → (cs : Children) × Spans g (edges_of f) r d p q cs
   met_spans (Whole {cs = cs} lt s) = (cs, s)
   met_spans (Before {cs = cs} m s e d) = (cs, s)
-  met_spans (Last {cs' = cs} m s e rule lt s') = (cs, s')
+  met_spans (Last {cs' = cs} m s e rule lt s' a) = (cs, s')
 
   whole_spans : {x q : ℕ} {t : Tree} → Derives g (edges_of f) x 0 q t → x ≡ lhs_of g top → 0 < q → (cs : Children) × Spans g (edges_of f) top (length (rhs_of g top)) 0 q cs
   whole_spans (Token (t, is, e)) same lt = absurd (derived.flat.no_rules top is_top.is_rule (t, subst (λ z. slice_get g.symbols z ≡ Some (Terminal t)) same is))
@@ -164,23 +147,24 @@ module _ (f : Forest) (derived : IsDerived f) where
 
   -- ---- the nodes of whole rules
 
-  whole_decided : (x m q r : ℕ) → IsDecided (IsWholeOver bare x m q r)
-  whole_decided x m q r = go (less r (length g.rules)) (equal (lhs_of g r) x) (some_or_none (spans f derived r (length (rhs_of g r)) m q).0)
-    where
-      go : IsDecided (r < length g.rules) → IsDecided (lhs_of g r ≡ x) →
-          ((cs : Children) × Among cs (spans f derived r (length (rhs_of g r)) m q).0) ⊎ ((cs : Children) → Among cs (spans f derived r (length (rhs_of g r)) m q).0 → ⊥) → IsDecided (IsWholeOver bare x m q r)
-      go (inl rule) (inl left) (inl (cs, i)) = inl (record { is_rule = rule; left = left; children = cs; spans = in_spans f derived r (length (rhs_of g r)) m q cs rule (omega arith) i })
-      go (inr other) b c = inr (λ o. other o.is_rule)
-      go a (inr other) c = inr (λ o. other o.left)
-      go a b (inr none) = inr (λ o. none o.children (span_in f derived o.is_rule o.spans))
+  whole_decided : (x m q r : ℕ) → IsDecided (IsWholeOver bare x m q r × allowed_of bare r m q)
+  whole_decided x m q r =
+      both (moved (λ (rule, (left, (cs, s))). record { is_rule = rule; left = left; children = cs; spans = s }) (λ o. (o.is_rule, (o.left, (o.children, o.spans)))) (over_decided f derived x m q r))
+      (allowed_decided f derived r m q)
 
   rules_total : IsTotalOrder (λ (r s : ℕ). rules_cmp bare r s)
   rules_total = on_total (λ (r : ℕ). (r, length (rhs_of g r))) (laws f derived).total
 
-  rules_of : (x m q : ℕ) → (rules : List ℕ) × IsStrictlySortedBy (rules_cmp bare) rules × ((r : ℕ) → Contains rules r ↔ IsWholeOver bare x m q r)
+  rules_of : (x m q : ℕ) → (rules : List ℕ) × IsStrictlySortedBy (rules_cmp bare) rules × ((r : ℕ) → Contains rules r ↔ (IsWholeOver bare x m q r × allowed_of bare r m q))
   rules_of x m q =
       sorted_by (rules_cmp bare) rules_total (λ r s e. (laws f derived).same_rule r (length (rhs_of g r)) s (length (rhs_of g s)) e)
-      (IsWholeOver bare x m q) (values (λ i. i) (length g.rules)) (whole_decided x m q) (λ r o. within_values (length g.rules) r o.is_rule)
+      (λ r. IsWholeOver bare x m q r × allowed_of bare r m q) (values (λ i. i) (length g.rules)) (whole_decided x m q) (λ r (o, a). within_values (length g.rules) r o.is_rule)
+
+  -- of the rules that derive a span some are allowed
+  some_allowed : {x m q : ℕ} {t : Tree} → Derives g (edges_of f) x m q t → AreAllowed (allowed_of f) t → m < q → (r : ℕ) → IsWholeOver bare x m q r → (r' : ℕ) × IsWholeOver bare x m q r' × allowed_of bare r' m q
+  some_allowed (Token (t, is, e)) a lt r o = absurd (derived.flat.no_rules r o.is_rule (t, subst (λ z. slice_get g.symbols z ≡ Some (Terminal t)) (sym o.left) is))
+  some_allowed (Null n) a lt r o = absurd (omega arith)
+  some_allowed (Rule {r = r'} {cs = cs} rule l h s) a lt r o = (r', record { is_rule = rule; left = l; children = cs; spans = s }, a.0)
 
   abbrev IsLastPart : (x m q : ℕ) → Type 0
   IsLastPart x m q = edges_of f x m q ⊎ (((m ≡ q) × IsNullable g x) ⊎ ((m < q) × ((r : ℕ) × IsWholeOver bare x m q r)))
@@ -192,7 +176,7 @@ module _ (f : Forest) (derived : IsDerived f) where
 
   -- ---- the alternatives of a key
 
-  module _ (r d p q x : ℕ) (here : IsMet g (edges_of f) top f.place r (suc d) p q) (part : part_of g r d ≡ Some x) where
+  module _ (r d p q x : ℕ) (here : IsMet g (edges_of f) (allowed_of f) top f.place r (suc d) p q) (part : part_of g r d ≡ Some x) where
     abbrev Split : ℕ → Type 0
     Split m = IsSplit bare r d p x m q
 
@@ -231,7 +215,9 @@ module _ (f : Forest) (derived : IsDerived f) where
         let (rules, sorted, exact) = rules_of x m q in
         let (nodes, pairs) = chosen (λ rule n. IsNode bare n (whole_key bare rule m q)) rules (λ rule i. numbered rule ((exact rule).0 (contains_from rules rule i))) in
         let all = paired_length (λ rule n. IsNode bare n (whole_key bare rule m q)) rules nodes pairs in
-        let there = (exact r').1 over in (
+        let (u, d', a') = leaves f derived x m q (Node r' over.children m q) (Rule over.is_rule over.left lt over.spans) in
+        let (best, whole, allowed) = some_allowed d' a' lt r' over in
+        let there = (exact best).1 (whole, allowed) in (
           nodes,
           record {
             spans = lt;
@@ -244,8 +230,8 @@ module _ (f : Forest) (derived : IsDerived f) where
           },
         )
       where
-        numbered : (rule : ℕ) → IsWholeOver bare x m q rule → (n : ℕ) × IsNode bare n (whole_key bare rule m q)
-        numbered rule o = number (whole_key bare rule m q) (use_of (whole_key bare rule m q) (derived.flat.some rule o.is_rule) (Last here s.front (part ∙ ap Some (sym o.left)) o.is_rule lt o.spans))
+        numbered : (rule : ℕ) → IsWholeOver bare x m q rule × allowed_of bare rule m q → (n : ℕ) × IsNode bare n (whole_key bare rule m q)
+        numbered rule (o, a) = number (whole_key bare rule m q) (use_of (whole_key bare rule m q) (derived.flat.some rule o.is_rule) (Last here s.front (part ∙ ap Some (sym o.left)) o.is_rule lt o.spans a))
 
     last_for : (m : ℕ) → IsSplit bare r d p x m q → (last : Forest.Last) × IsLast bare x m q last
     last_for m s = go (last_part s.last)
@@ -287,7 +273,7 @@ module _ (f : Forest) (derived : IsDerived f) where
       let (cs, s) = met_spans here in
       let (d, x, e, part) = part_there s lt in
       subst (λ n. (alternatives : List Alternative) × AreAlternatives bare (record { rule = k.rule; dot = n; origin = k.origin; end = k.end }) alternatives) (sym e)
-      (alternatives_of k.rule d k.origin k.end x (subst (λ n. IsMet g (edges_of f) top f.place k.rule n k.origin k.end) e here) part)
+      (alternatives_of k.rule d k.origin k.end x (subst (λ n. IsMet g (edges_of f) (allowed_of f) top f.place k.rule n k.origin k.end) e here) part)
 
   -- ---- the forest
 

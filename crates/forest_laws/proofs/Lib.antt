@@ -1,6 +1,9 @@
 pub mod Lists
+pub mod Kept
 pub mod Fronts
 pub mod Reading
+pub mod Allowing
+pub mod Ordered
 pub mod Exact
 pub mod One
 pub mod Chosen

@@ -32,7 +32,7 @@ module _ (f : Forest) (nodes nodes' : List ForestNode) (root root' : Option ℕ)
       some = h.some;
       rules = h.rules;
       sorted = h.sorted;
-      exact = λ r. (λ c. whole_to symbol m q r ((h.exact r).0 c), λ o. (h.exact r).1 (whole_from symbol m q r o));
+      exact = λ r. (λ c. (let (o, a) = (h.exact r).0 c in (whole_to symbol m q r o, a)), λ (o, a). (h.exact r).1 (whole_from symbol m q r o, a));
       all = h.all;
       each = λ i n r a b. node_to n _ (h.each i n r a b);
     }

@@ -6,10 +6,13 @@ use Rattle.grammar_model.specs.Trees.{Tree, Children, Leaf, Nulled, Node, NoChil
 use Rattle.grammar_model.proofs.Lists.{Among, among_from, contains_from}
 use Rattle.recognizer_model.specs.declared.NodeKey.{NodeKey}
 use Rattle.recognizer_model.specs.FlatDerives.{Derives, Spans, Rule, More}
-use Rattle.forest_model.specs.Forest.{Last, AnEdge, Nothing, Wholes, Alternative, ForestNode, Forest, edges_of, IsNode, whole_key, IsSplit, IsLast, IsFront, AreAlternatives, IsForest}
+use Rattle.recognizer_model.specs.Chosen.{AreAllowed, AreAllowedIn}
+use Rattle.recognizer_model.proofs.Leaving.{front_some}
+use Rattle.forest_model.specs.Forest.{Last, AnEdge, Nothing, Wholes, Alternative, ForestNode, Forest, edges_of, allowed_of, IsNode, whole_key, IsSplit, IsLast, IsFront, AreAlternatives, IsForest}
 use Rattle.forest_laws.specs.Lists.{Lists, last_symbol, rule_of, fronts_by, whole_by, lasts_by, alternative_by, node_by, AreLists}
 use Rattle.forest_laws.specs.Laws.{ListsAreOne}
 use Rattle.forest_laws.proofs.Lists.{flat_map_same, among_get, get_there, get_among}
+use Rattle.forest_laws.proofs.Allowing.{leaves}
 use Rattle.forest_laws.proofs.Exact.{lists, key_list, equal, key_all, symbol_is, node_among}
 
 abbrev mutual
@@ -32,25 +35,33 @@ module _ (f : Forest) (is : IsForest f) (others : Lists) (are : AreLists f other
   Known k = (n : ℕ) (node : ForestNode) → slice_get f.nodes n ≡ Some node → 0 < k → ((cs : Children) → Among cs (key_list f is node.key) → suc (size cs) < k) → others n ≡ lists f is n
 
   module _ (k : ℕ) (known : Known k) (node : ForestNode) (a : AreAlternatives f node.key node.alternatives) (below : Below k node) where
-    member : (m : ℕ) (cs : Children) (t : Tree) → Spans f.flat (edges_of f) node.key.rule a.dot node.key.origin m cs → Derives f.flat (edges_of f) a.symbol m node.key.end t → size (Child cs t) < k
-    member m cs t s d =
+    member : (m : ℕ) (cs : Children) (t : Tree) → Spans f.flat (edges_of f) node.key.rule a.dot node.key.origin m cs × AreAllowedIn (allowed_of f) cs →
+        Derives f.flat (edges_of f) a.symbol m node.key.end t × AreAllowed (allowed_of f) t → size (Child cs t) < k
+    member m cs t (s, c) (d, c') =
         let whole = subst (λ n. Spans f.flat (edges_of f) node.key.rule n node.key.origin node.key.end (Child cs t)) (sym a.dot_is) (More s a.part d) in
-        below (Child cs t) (among_from _ (Child cs t) (((key_all f is node.key node.alternatives a).exact (Child cs t)).1 whole))
+        below (Child cs t) (among_from _ (Child cs t) (((key_all f is node.key node.alternatives a).exact (Child cs t)).1 (whole, (c, c'))))
 
     -- a node of the forest whose child lists stand within those of this node
-    within : (n : ℕ) (key : NodeKey) → IsNode f n key → 0 < k → ((cs : Children) → Spans f.flat (edges_of f) key.rule key.dot key.origin key.end cs → suc (size cs) < k) → others n ≡ lists f is n
+    within : (n : ℕ) (key : NodeKey) → IsNode f n key → 0 < k → ((cs : Children) → Spans f.flat (edges_of f) key.rule key.dot key.origin key.end cs × AreAllowedIn (allowed_of f) cs → suc (size cs) < k) → others n ≡ lists f is n
     within n key (inner, e, same) some smaller = known n inner e some
-        (λ cs m. smaller cs (subst (λ (z : NodeKey). Spans f.flat (edges_of f) z.rule z.dot z.origin z.end cs) same
+        (λ cs m. smaller cs (subst (λ (z : NodeKey). Spans f.flat (edges_of f) z.rule z.dot z.origin z.end cs × AreAllowedIn (allowed_of f) cs) same
         (((key_all f is inner.key inner.alternatives (is.alternatives inner (node_among f is n inner e))).exact cs).0 (contains_from _ cs m))))
 
     module _ (m : ℕ) (split : IsSplit f node.key.rule a.dot node.key.origin a.symbol m node.key.end) where
+      -- a front and a last part of allowed rules
+      front_there : (cs : Children) × (Spans f.flat (edges_of f) node.key.rule a.dot node.key.origin m cs × AreAllowedIn (allowed_of f) cs)
+      front_there = let (cs, s, c) = front_some f.flat (edges_of f) (allowed_of f) (leaves f is.derived) split.front in (cs, (s, c))
+
+      last_there : (t : Tree) × (Derives f.flat (edges_of f) a.symbol m node.key.end t × AreAllowed (allowed_of f) t)
+      last_there = let (t, d, c) = leaves f is.derived a.symbol m node.key.end split.tree split.last in (t, (d, c))
+
       some : 0 < k
-      some = let lt = member m split.children split.tree split.front split.last in omega arith
+      some = let lt = member m front_there.0 last_there.0 front_there.1 last_there.1 in omega arith
 
       front_one : (front : Option ℕ) → IsFront f node.key.rule a.dot node.key.origin m front → fronts_by others front ≡ fronts_by (lists f is) front
       front_one None h = refl
       front_one (Some n) h = within n (record { rule = node.key.rule; dot = a.dot; origin = node.key.origin; end = m }) h.1 some
-          (λ cs s. (let lt = member m cs split.tree s split.last in larger cs split.tree lt))
+          (λ cs s. (let lt = member m cs last_there.0 s last_there.1 in larger cs last_there.0 lt))
         where
           larger : (cs : Children) (t : Tree) → size (Child cs t) < k → suc (size cs) < k
           larger cs t lt = omega arith
@@ -68,9 +79,9 @@ module _ (f : Forest) (is : IsForest f) (others : Lists) (are : AreLists f other
           whole_one n i =
               let (j, e) = among_get nodes n i in
               let (r, e') = get_there nodes h.rules j n h.all e in
-              let over = (h.exact r).0 (contains_from h.rules r (get_among h.rules j r e')) in
+              let (over, allowed) = (h.exact r).0 (contains_from h.rules r (get_among h.rules j r e')) in
               within n (whole_key f r m node.key.end) (h.each j n r e e') some
-              (λ cs s. larger r cs split.children (member m split.children (Node r cs m node.key.end) split.front (Rule over.is_rule over.left h.spans s)))
+              (λ cs (s, c). larger r cs front_there.0 (member m front_there.0 (Node r cs m node.key.end) front_there.1 (Rule over.is_rule over.left h.spans s, (allowed, c))))
 
     alternative_one : (b : Alternative) → Among b node.alternatives → alternative_by f others (last_symbol f node.key) node.key.end b ≡ alternative_by f (lists f is) (last_symbol f node.key) node.key.end b
     alternative_one b i =

@@ -17,7 +17,7 @@ use Rattle.forest_laws.specs.Taken.{AreTaken, FrontsAreTaken}
 use Rattle.forest_laws.proofs.Lists.{append_nil}
 use Rattle.forest_laws.proofs.Reading
 use Rattle.forest_laws.proofs.Exact
-use Rattle.forest_laws.proofs.Exact.{root_all}
+use Rattle.forest_laws.proofs.Exact.{root_kept, in_kept}
 use Rattle.forest_laws.proofs.One.{only_one}
 use Rattle.forest_laws.proofs.Written.{steps_are_written}
 use Rattle.forest_laws.proofs.Few.{steps_are_few}
@@ -70,9 +70,8 @@ module _ (f : Forest) (lists : Lists) (is : IsForest f) (all : AreAllLists f lis
 
   derived : (t : Tree) → Among t (roots_by f lists f.root) → Derives f.flat (edges_of f) (lhs_of f.flat (top_of f)) 0 f.place t
   derived t m =
-      let known = root_all f is f.root is.root in
-      let here = subst (Among t) (roots_same f.root is.root) m in
-      Reading.back f is.derived (lhs_of f.flat (top_of f)) 0 f.place t ((known.each t).0 (contains_from (roots_by f (Exact.lists f is) f.root) t here))
+      let here = subst (Among t) (roots_same f.root is.root ∙ root_kept f is f.root is.root) m in
+      Reading.back f is.derived (lhs_of f.flat (top_of f)) 0 f.place t ((in_kept f is (lhs_of f.flat (top_of f)) 0 f.place t).0 (contains_from _ t here)).0
 
   pub taken_are : (taken rest : List (List Step)) → map steps_of (roots_by f lists f.root) ≡ taken ++ rest → AreTaken f taken rest
   taken_are taken rest e =

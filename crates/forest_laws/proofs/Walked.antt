@@ -12,11 +12,12 @@ use Rattle.recognizer_model.specs.FlatDerives.{Derives, Spans, More}
 use Rattle.recognizer_model.specs.FlatDerives
 use Rattle.recognizer_model.specs.Flat.{FlatGrammar, part_of}
 use Rattle.grammar_model.specs.Derives.{Edges}
-use Rattle.forest_model.specs.Forest.{Last, AnEdge, Nothing, Wholes, Alternative, ForestNode, Forest, edges_of, top_of, IsNode, IsSplit, IsFront, IsLast, IsRoot, IsForest}
+use Rattle.forest_model.specs.Forest.{Last, AnEdge, Nothing, Wholes, Alternative, ForestNode, Forest, edges_of, allowed_of, top_of, IsNode, IsSplit, IsFront, IsLast, IsRoot, IsForest}
 use Rattle.forest_laws.specs.Lists.{Lists, last_symbol, rule_of, fronts_by, whole_by, lasts_by, alternative_by, roots_by}
 use Rattle.forest_laws.specs.Laws.{AreAllLists}
 use Rattle.forest_laws.specs.Goals.{Goal, Parts, OneOf, Write, count_of, front_goals, last_goals, whole_goals, alternative_goals, node_options, options, IsGoal, AreGoals, root_goals, steps_from, Done, Wrote, Chose, written, later_steps, to_come, stands, GoalsAreChosen, WalksGoOn}
 use Rattle.forest_laws.specs.Walked.{IsWalked, ForestsAreWalked}
+use Rattle.forest_laws.proofs.Allowing.{leaves}
 use Rattle.forest_laws.proofs.Lists.{flat_map_map, flat_map_same, get_among, among_get, get_there, append_nil}
 
 -- ---- lists
@@ -146,7 +147,7 @@ module _ (f : Forest) (lists : Lists) (is : IsForest f) (all : AreAllLists f lis
   counted : (n : ℕ) → n < length f.nodes → (cs : Children) → Among cs (lists n) → child_count cs ≡ count_of (slice_get f.nodes n)
   counted n lt cs m =
       let (node, e) = there f.nodes n lt in
-      count_is (((all.nodes n node e).exact cs).0 (contains_from (lists n) cs m)) ∙ sym (ap count_of e)
+      count_is ((((all.nodes n node e).exact cs).0 (contains_from (lists n) cs m)).0) ∙ sym (ap count_of e)
 
   module _ (goals : List Goal) where
     abbrev after : List (List Step)
@@ -257,10 +258,10 @@ module _ (f : Forest) (lists : Lists) (is : IsForest f) (all : AreAllLists f lis
       go (x ∷ xs) (suc k) lt = go xs k (omega arith)
 
   -- the first parts of a used node are there
-  met_spans : {r d p q : ℕ} → IsMet f.flat (edges_of f) (top_of f) f.place r d p q → (cs : Children) × Spans f.flat (edges_of f) r d p q cs
+  met_spans : {r d p q : ℕ} → IsMet f.flat (edges_of f) (allowed_of f) (top_of f) f.place r d p q → (cs : Children) × Spans f.flat (edges_of f) r d p q cs
   met_spans (Whole {cs = cs} lt s) = (cs, s)
   met_spans (Before {cs = cs} m s e d) = (cs, s)
-  met_spans (MetLast {cs' = cs} m s e rule lt s') = (cs, s')
+  met_spans (MetLast {cs' = cs} m s e rule lt s' a) = (cs, s')
 
   split_there : {r d p q x : ℕ} {cs : Children} → Spans f.flat (edges_of f) r (suc d) p q cs → part_of f.flat r d ≡ Some x → (m : ℕ) × IsSplit f r d p x m q
   split_there {r} {d} {p} {q} {x} (More {m = m} {x = y} {cs = cs} {t = t} s e h) part =
@@ -276,7 +277,7 @@ module _ (f : Forest) (lists : Lists) (is : IsForest f) (all : AreAllLists f lis
       let here = get_among f.nodes n node e in
       let a = is.alternatives node (contains_from f.nodes node here) in
       let used = (is.used.exact node.key).0 (contains_from _ node.key (among_map (λ (z : ForestNode). z.key) node f.nodes here)) in
-      let met = ((used_are_met f.flat (edges_of f) (top_of f) is_top (λ x p q e. (e.0, e.1)) is.derived.flat.no_rules f.place node.key).0 used).1 in
+      let met = ((used_are_met f.flat (edges_of f) (allowed_of f) (top_of f) is_top (λ x p q e. (e.0, e.1)) is.derived.flat.no_rules (leaves f is.derived) f.place node.key).0 used).1 in
       let (cs, s) = met_spans met in
       let (m, split) = split_there (subst (λ d. Spans f.flat (edges_of f) node.key.rule d node.key.origin node.key.end cs) a.dot_is s) a.part in
       let c = (a.exact m).1 split in

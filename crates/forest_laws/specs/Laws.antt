@@ -6,19 +6,20 @@ use Rattle.grammar_model.specs.Order.{children_cmp, tree_cmp}
 use Rattle.recognizer_model.specs.declared.NodeKey.{NodeKey}
 use Rattle.recognizer_model.specs.FlatForm.{flat_order}
 use Rattle.recognizer_model.specs.FlatDerives.{Derives, Spans}
-use Rattle.forest_model.specs.Forest.{Alternative, ForestNode, Forest, edges_of, ranks_high, IsDerived, IsForest}
+use Rattle.recognizer_model.specs.Chosen.{AreAllowed, AreAllowedIn}
+use Rattle.forest_model.specs.Forest.{Alternative, ForestNode, Forest, edges_of, allowed_of, ranks_high, IsDerived, IsForest}
 use Rattle.forest_model.specs.Listing.{IsListing}
 use Rattle.forest_laws.specs.Lists.{Lists, AreLists, last_symbol, lasts_by, trees_by}
 
--- all child lists of the key, in order
+-- all child lists of the key that are of allowed rules, in order
 pub record AreAllSpans (f : Forest) (key : NodeKey) (lists : List Children) : Type 0 where
   pub sorted : IsStrictlySortedBy (children_cmp (flat_order f.written f.ranking f.flat) (ranks_high f key.rule)) lists
-  pub exact : (children : Children) → Contains lists children ↔ Spans f.flat (edges_of f) key.rule key.dot key.origin key.end children
+  pub exact : (children : Children) → Contains lists children ↔ (Spans f.flat (edges_of f) key.rule key.dot key.origin key.end children × AreAllowedIn (allowed_of f) children)
 
--- all trees of the symbol over the span, in order
+-- all trees of the symbol over the span that are of allowed rules, in order
 pub record AreAllTrees (f : Forest) (symbol start end : ℕ) (trees : List Tree) : Type 0 where
   pub sorted : IsStrictlySortedBy (tree_cmp (flat_order f.written f.ranking f.flat)) trees
-  pub exact : (tree : Tree) → Contains trees tree ↔ Derives f.flat (edges_of f) symbol start end tree
+  pub exact : (tree : Tree) → Contains trees tree ↔ (Derives f.flat (edges_of f) symbol start end tree × AreAllowed (allowed_of f) tree)
 
 -- lists that are what the nodes stand for, and all
 pub record AreAllLists (f : Forest) (lists : Lists) : Type 0 where

@@ -16,7 +16,7 @@ use Rattle.recognizer_model.specs.FlatDerives.{Derives, Token, Null, Rule, Spans
 use Rattle.recognizer_model.specs.FlatForm.{FlatEdges}
 use Rattle.recognizer_model.specs.Acceptable.{OnlyTerminals}
 use Rattle.recognizer_model.specs.Invariant.{IsFlat, LeadsOver}
-use Rattle.recognizer_model.specs.Chosen.{AreAllowed, AreAllowedIn, LeavesSome, flat_rank, IsBestRule, allowed_by}
+use Rattle.recognizer_model.specs.Chosen.{Allowed, AreAllowed, AreAllowedIn, LeavesSome, flat_rank, IsBestRule, allowed_by}
 use Rattle.recognizer_model.proofs.Views.{symbol_viewed, symbol_back}
 use Rattle.recognizer_model.proofs.FlatListed.{flat_list}
 
@@ -50,6 +50,14 @@ module _ {X : Type 0} (rank : X → ℤ) where
   pub highest_of : (xs : List X) (x : X) → Among x xs → Highest xs
   highest_of [] x m = absurd m
   highest_of (y ∷ ys) x m = highest y ys
+
+-- so have the first parts of a rule
+pub front_some : (g : FlatGrammar) (E : Edges) (allowed : Allowed) → LeavesSome g E allowed → {r d p q : ℕ} {cs : Children} → Spans g E r d p q cs → (ds : Children) × Spans g E r d p q ds × AreAllowedIn allowed ds
+front_some g E allowed leaves Nothing = (NoChild, Nothing, tt)
+front_some g E allowed leaves (More {m = m} {q = q} {x = x} {t = t} s e d) =
+    let (ds, s', c) = front_some g E allowed leaves s in
+    let (u, d', c') = leaves x m q t d in
+    (Child ds u, More s' e d', (c, c'))
 
 mutual
   pub all_alike : (w : Grammar) (g : FlatGrammar) (E : Edges) (t : Tree) → AreAllowed (allowed_by w NoRanks g E) t

@@ -1,12 +1,13 @@
 use Rattle.std.proofs.Common.{◌≡◌, ℕ, suc, ◌<◌, length, Some, refl, sym, ◌∙◌, ap, subst, arith}
 use Rattle.recognizer_model.specs.declared.NodeKey.{NodeKey}
-use Rattle.grammar_model.specs.Trees.{Tree, Node, Children, NoChild, Child, child_count, from_of}
+use Rattle.grammar_model.specs.Trees.{Tree, Node, Children, Child, child_count, from_of}
 use Rattle.recognizer_model.specs.Flat.{FlatGrammar, lhs_of, rhs_of}
 use Rattle.grammar_model.specs.Derives.{Edges}
 use Rattle.recognizer_model.specs.FlatDerives.{Derives, Token, Null, Rule, Spans, Nothing, More}
 use Rattle.recognizer_model.specs.Contexts.{IsTop}
 use Rattle.recognizer_model.specs.Acceptable.{IsTerminal, OnlyTerminals, NoTerminalHasRules}
 use Rattle.recognizer_model.specs.Chosen.{Allowed, AreAllowed, AreAllowedIn, LeavesSome}
+use Rattle.recognizer_model.proofs.Leaving.{front_some}
 use Rattle.recognizer_model.specs.Nodes.{Has, All, Fewer, Inside, IsUsed, IsMet, Whole, Before, Last, UsedAreMet}
 
 module _ (g : FlatGrammar) (E : Edges) (allowed : Allowed) (top : ℕ) (is_top : IsTop g top) (only : OnlyTerminals g E) (no_rules : NoTerminalHasRules g) where
@@ -18,6 +19,12 @@ module _ (g : FlatGrammar) (E : Edges) (allowed : Allowed) (top : ℕ) (is_top :
   count_is : {r d p q : ℕ} {cs : Children} → Spans g E r d p q cs → child_count cs ≡ d
   count_is Nothing = refl
   count_is (More s e t) = ap suc (count_is s)
+
+  -- the top's rule is allowed, since its symbol has no other
+  pub top_allowed : {x p q : ℕ} {t : Tree} → Derives g E x p q t → AreAllowed allowed t → x ≡ lhs_of g top → p < q → allowed top p q
+  top_allowed (Token {x = x} {p = p} {q = q} e) c same lt = absurd (no_rules top is_top.is_rule (subst (IsTerminal g) same (only x p q e)))
+  top_allowed (Null n) c same lt = absurd (omega arith)
+  top_allowed (Rule {p = p} {q = q} {r = r} rule l h s) c same lt = subst (λ k. allowed k p q) (is_top.alone r rule (l ∙ same)) c.0
 
   module _ (place : ℕ) where
     record IsBacked (r p q : ℕ) (cs : Children) : Type 0 where
@@ -59,19 +66,6 @@ module _ (g : FlatGrammar) (E : Edges) (allowed : Allowed) (top : ℕ) (is_top :
       has : Has tree r p q cs
 
     module _ (leaves : LeavesSome g E allowed) where
-      -- the top's rule is allowed, since its symbol has no other
-      top_allowed : {x p q : ℕ} {t : Tree} → Derives g E x p q t → AreAllowed allowed t → x ≡ lhs_of g top → p < q → allowed top p q
-      top_allowed (Token {x = x} {p = p} {q = q} e) c same lt = absurd (no_rules top is_top.is_rule (subst (IsTerminal g) same (only x p q e)))
-      top_allowed (Null n) c same lt = absurd (omega arith)
-      top_allowed (Rule {p = p} {q = q} {r = r} rule l h s) c same lt = subst (λ k. allowed k p q) (is_top.alone r rule (l ∙ same)) c.0
-
-      front_some : {r d p q : ℕ} {cs : Children} → Spans g E r d p q cs → (ds : Children) × Spans g E r d p q ds × AreAllowedIn allowed ds
-      front_some Nothing = (NoChild, Nothing, tt)
-      front_some (More {m = m} {q = q} {x = x} {t = t} s e d) =
-          let (ds, s', c) = front_some s in
-          let (u, d', c') = leaves x m q t d in
-          (Child ds u, More s' e d', (c, c'))
-
       -- whatever derives what was met, of allowed rules, stands in such a derivation of the whole
       in_tree : {r d p q : ℕ} → IsMet g E allowed top place r d p q → (cs : Children) → Spans g E r d p q cs → AreAllowedIn allowed cs → IsInTree r p q cs
       in_tree (Whole lt s') cs s c =
@@ -83,7 +77,7 @@ module _ (g : FlatGrammar) (E : Edges) (allowed : Allowed) (top : ℕ) (is_top :
           let k = in_tree met (Child cs u) (More s e d') (c, c') in
           record { tree = k.tree; derives = k.derives; chosen = k.chosen; has = subst (λ b. Has k.tree r p b cs) (from_is d') (Fewer k.has) }
       in_tree (Last {r' = r'} {m = m} {q = q} met s' e rule lt s'' is) cs s c =
-          let (ds, front, c') = front_some s' in
+          let (ds, front, c') = front_some g E allowed leaves s' in
           let k = in_tree met (Child ds (Node r' cs m q)) (More front e (Rule rule refl lt s)) (c', (is, c)) in
           record { tree = k.tree; derives = k.derives; chosen = k.chosen; has = Inside k.has }
 
@@ -101,7 +95,7 @@ module _ (g : FlatGrammar) (E : Edges) (allowed : Allowed) (top : ℕ) (is_top :
   met_used : LeavesSome g E allowed → (place : ℕ) (n : NodeKey) → (0 < n.dot) × IsMet g E allowed top place n.rule n.dot n.origin n.end → IsUsed g E allowed top place n
   met_used leaves place n (lt, m) =
       let (cs, s) = met_spans place m in
-      let (ds, s', c) = front_some place leaves s in
+      let (ds, s', c) = front_some g E allowed leaves s in
       let k = in_tree place leaves m ds s' c in
       record { tree = k.tree; derives = k.derives; chosen = k.chosen; children = ds; has = k.has; dot_is = sym (count_is s'); some = lt }
 
