@@ -15,7 +15,7 @@ _slif() {
             return
             ;;
         --rank)
-            mapfile -t COMPREPLY < <(compgen -W 'none rule' -- "$word")
+            mapfile -t COMPREPLY < <(compgen -W 'none rule high' -- "$word")
             return
             ;;
         --show)
