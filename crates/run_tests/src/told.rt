@@ -11,7 +11,7 @@ const RANKED: &[u8] =
     b":default ::= action => [name,values]\nS ::= P | Q rank => 5\nP ::= x\nQ ::= x\nx ~ 'x'\n";
 
 // Words, and the lines of the one input.
-const RANK_ROWS: [(&[&str], &[u8]); 4] = [
+const RANK_ROWS: [(&[&str], &[u8]); 6] = [
     (
         &["run", "--grammar", "g.slif"],
         b"[\"S\",[\"Q\",\"x\"]]\n[\"S\",[\"P\",\"x\"]]\n",
@@ -35,7 +35,25 @@ const RANK_ROWS: [(&[&str], &[u8]); 4] = [
         ],
         b"[\"S\",0,[\"P\",2,[\"x\",\"x\"]]]\n",
     ),
+    (
+        &["run", "--grammar", "g.slif", "--rank", "high", "--stats"],
+        b"[\"S\",[\"Q\",\"x\"]]\nstats: tokens 1 kept 8 nodes 3 expanded 2\n",
+    ),
+    (
+        &["run", "--grammar", "g.slif", "--rank", "rule", "--stats"],
+        b"[\"S\",[\"Q\",\"x\"]]\n[\"S\",[\"P\",\"x\"]]\nstats: tokens 1 kept 8 nodes 5 expanded 2\n",
+    ),
 ];
+
+// Ranks choose over one span alone, and not between two ways to divide a text.
+const DIVIDED: Given<'_> = Given {
+    words: &["run", "--grammar", "g.slif", "--rank", "high"],
+    grammar: b":default ::= action => [name,values]\nS ::= T T\nT ::= x rank => 1 | x x\nx ~ 'x'\n",
+    input: b"xxx",
+    ..SUM
+};
+const DIVIDED_LINES: &[u8] =
+    b"[\"S\",[\"T\",\"x\",\"x\"],[\"T\",\"x\"]]\n[\"S\",[\"T\",\"x\"],[\"T\",\"x\",\"x\"]]\n";
 
 #[test]
 fn derivations_are_told_by_rank(rt: HostRuntime) -> Result<(), Fail> {
@@ -48,6 +66,7 @@ fn derivations_are_told_by_rank(rt: HostRuntime) -> Result<(), Fail> {
         };
         assert!(rt; ends(rt.alloc(), &given, 0, lines, b"")?);
     }
+    assert!(rt; ends(rt.alloc(), &DIVIDED, 0, DIVIDED_LINES, b"")?);
     Ok(())
 }
 

@@ -97,7 +97,7 @@ const NOTHING: [&[&str]; 16] = [
     &["run", "--grammar=-"],
     &["run", "--grammar", "g", "--first", "0"],
     &["run", "--grammar", "g", "--first", "4294967296"],
-    &["run", "--grammar", "g", "--rank", "high"],
+    &["run", "--grammar", "g", "--rank", "best"],
     &["run", "--gram", "g"],
     &["check", "--grammar", "g", "--input", "i"],
     &["progress", "--grammar", "g", "--at", "16777217"],
