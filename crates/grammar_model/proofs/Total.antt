@@ -1,7 +1,5 @@
 -- Of two derivations of one slot and span that the order does not tell apart, each is the other.
 use Rattle.std.proofs.Common.{◌≡◌, ℕ, zero, suc, Bool, List, ◌⊎◌, inl, inr, refl, sym, ap, ◌∙◌, subst}
-use Rattle.std.specs.Prelude.{◌↔◌, Contains}
-use Rattle.std.specs.List.Sorted.{IsStrictlySortedBy}
 use Rattle.std.specs.declared.cmp.Ordering.{Ordering}
 use Rattle.std.specs.declared.cmp.Ordering.TheVariants.{Less, Equal, Greater}
 use Rattle.grammar_model.specs.Grammar.{Grammar, Slot, WrittenRule, rule_at, IsTerminal, child_slot}
@@ -76,13 +74,6 @@ module _ (g : Grammar) (edge : Edges) where
         compared slot p q t u d d' Less e = inr (inl e)
         compared slot p q t u d d' Equal e = inl (same_tree t u slot p q e d d')
         compared slot p q t u d d' Greater e = inr (inr ((trees_total order laws).antisymm u t ∙ ap ordering_reverse e))
-
-    pub chosen_unique : (P : Tree → Type 0) (slot : Slot) (p q : ℕ) (ts us : List Tree) → IsStrictlySortedBy (tree_cmp order) ts → IsStrictlySortedBy (tree_cmp order) us →
-        ((t : Tree) → Contains ts t ↔ (Derives g edge slot p q t × P t)) → ((t : Tree) → Contains us t ↔ (Derives g edge slot p q t × P t)) → ts ≡ us
-    chosen_unique P slot p q ts us a b each other =
-        one_sorted (tree_cmp order) (derivations_ordered slot p q).asymmetric ts us a b
-        (λ t m. among_from us t ((other t).1 ((each t).0 (contains_from ts t m))))
-        (λ t m. among_from ts t ((each t).1 ((other t).0 (contains_from us t m))))
 
     pub all_unique : (slot : Slot) (p q : ℕ) (ts us : List Tree) → IsAll g edge order slot p q ts → IsAll g edge order slot p q us → ts ≡ us
     all_unique slot p q ts us a b =

@@ -150,8 +150,11 @@ module _ (f : FlatGrammar) (w : Grammar) (flat : IsFlat f) (edges : List Edge) (
   chosen_list ranking x p q =
       let (trees, all) = flat_list f w flat ranking edges forward (slot_of x) p q in
       let derived = λ (t : Tree) (m : Among t trees). (all.each t).0 (contains_from trees t m) in
-      let k = kept (tree_cmp (flat_order w ranking f)) (AreAllowed (allowed_by w ranking f E)) trees (λ t m. allowed_told ranking (back x p q t (derived t m))) all.sorted in
-      (k.list, k.sorted, λ t. (
-        λ c. (let (m, a) = k.is t (among_from k.list t c) in (derived t m, a)),
-        λ (d, a). contains_from k.list t (k.all t (among_from trees t ((all.each t).1 d)) a),
-      ))
+      let k = kept (tree_cmp (flat_order w ranking f)) (AreAllowed (allowed_by w ranking f E)) trees (λ t m. allowed_told ranking (back x p q t (derived t m))) all.sorted in (
+        k.list,
+        k.sorted,
+        λ t. (
+          λ c. (let (m, a) = k.is t (among_from k.list t c) in (derived t m, a)),
+          λ (d, a). contains_from k.list t (k.all t (among_from trees t ((all.each t).1 d)) a),
+        ),
+      )

@@ -1,5 +1,5 @@
--- Laws of chosen derivations: flat derivations of allowed rules stand for those that the ranking chooses, and what has a derivation has
--- a chosen one.
+-- Laws of chosen derivations: flat derivations of allowed rules stand for those that the ranking chooses, what has a derivation has a
+-- chosen one, and the chosen ones have a list.
 use Rattle.std.specs.Prelude.{◌≡◌, ℕ, ◌<◌, ◌↔◌, List, [], length}
 use Rattle.grammar_model.specs.Grammar.{Grammar, Slot, slot_of}
 use Rattle.grammar_model.specs.Trees.{Tree}
@@ -39,3 +39,8 @@ abbrev pub ChosenLeaveSome : Type 0
 ChosenLeaveSome = (f : FlatGrammar) (w : Grammar) (edges : List Edge) (ranking : Ranking) → IsReading f w edges →
     (x : ℕ) (slot : Slot) (p q : ℕ) (chosen all : List Tree) → x < length f.symbols → StandsFor w (symbol_at f x) slot →
     AreChosen w (Held edges) ranking slot p q chosen → IsAll w (Held edges) (rank_order w ranking) slot p q all → (chosen ≡ []) ↔ (all ≡ [])
+
+-- the chosen derivations of each slot that counts have a list
+abbrev pub ChosenListsExist : Type 0
+ChosenListsExist = (f : FlatGrammar) (w : Grammar) (edges : List Edge) (ranking : Ranking) → IsReading f w edges →
+    (x : ℕ) (slot : Slot) (p q : ℕ) → x < length f.symbols → StandsFor w (symbol_at f x) slot → (trees : List Tree) × AreChosen w (Held edges) ranking slot p q trees

@@ -33,7 +33,7 @@ pub struct ReportLine {
 }
 
 ghost use Rattle.recognizer_model.specs.FlatForm.{FlatGrammarsAreFlatForms, AcceptableAreFlat, ListsExist};
-ghost use Rattle.recognizer_model.specs.ChosenLaws.{ChosenAreAllowed, AllowedLeaveSome, ChosenLeaveSome};
+ghost use Rattle.recognizer_model.specs.ChosenLaws.{ChosenAreAllowed, AllowedLeaveSome, ChosenLeaveSome, ChosenListsExist};
 ghost use Rattle.recognizer_model.specs.Laws.{EarleyLawsHold};
 ghost use Rattle.recognizer_model.specs.Once.{KeptInOneStep, KnownByLists};
 ghost use Rattle.recognizer_model.specs.Threads.{ThreadLawsHold};
@@ -71,6 +71,11 @@ pub fn allowed_leave_some()
 /// Where a checked grammar has a derivation, it has a chosen one.
 pub fn chosen_leave_some()
     ensures { ChosenLeaveSome }
+{}
+
+/// The chosen derivations of a checked grammar have a list, whatever the edges.
+pub fn chosen_lists_exist()
+    ensures { ChosenListsExist }
 {}
 
 /// The reduced set of a place follows in one step from the full sets.
