@@ -18,8 +18,9 @@ use Rattle.recognizer_model.specs.Chosen.{AreAllowed, AreAllowedIn, LeavesSome}
 use Rattle.recognizer_model.specs.Nodes.{Has, All, Inside, IsUsed, IsMet, Whole, Before, Last, Placed, IsExpanded}
 use Rattle.recognizer_model.proofs.Leo.{reduced_inside, expanded_inside}
 use Rattle.recognizer_model.proofs.Nodes.{used_are_met}
-use Rattle.finite_sets.proofs.Members.{Among, among_from, contains_from, Once, once_pairs}
+use Rattle.finite_sets.proofs.Members.{Among, Once}
 use Rattle.grammar_laws.specs.Reduced.{chain, one_token}
+use Rattle.number_laws.proofs.Lists.{list_is}
 use Rattle.number_laws.specs.Applied.{any_rule, NumbersApply}
 
 abbrev E : Edges
@@ -38,9 +39,6 @@ not_below number least (y ∷ ys) x (le, h) (inr m) = let more = not_below numbe
 once_rising : {X : Type 0} (number : X → ℕ) (least : ℕ) (xs : List X) → Rises number least xs → Once xs
 once_rising number least [] h = tt
 once_rising number least (x ∷ xs) (le, h) = ((λ m. let lt = not_below number (suc (number x)) xs x h m in absurd (omega (arith, lt))), once_rising number (suc (number x)) xs h)
-
-list_is : {X : Type 0} (P : X → Type 0) (xs : List X) → Once xs → ((x : X) → Among x xs → P x) → ((x : X) → P x → Among x xs) → IsListOf P xs
-list_is P xs once from to = record { once = once_pairs xs once; exact = λ x. ((λ c. from x (among_from xs x c)), (λ p. contains_from xs x (to x p))) }
 
 -- the parts of the rules
 parts : (P : (r position x : ℕ) → Type 0) → P 0 0 0 → P 1 0 1 → P 2 0 2 → (r position x : ℕ) → part_of chain r position ≡ Some x → P r position x

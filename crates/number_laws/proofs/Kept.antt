@@ -26,7 +26,7 @@ module _ (g : FlatGrammar) (E : Edges) (top : ℕ) (is_top : IsTop g top) (forwa
   abbrev pub In : ℕ → Item → Type 0
   In j item = InSet g E top j item
 
-  known : (place : ℕ) → LeoIsKnown g E top place
+  pub known : (place : ℕ) → LeoIsKnown g E top place
   known place = known_by_sets g E top place (λ i lt. let (items, is) = sets i in (items, is.exact))
 
   pub in_set : (j : ℕ) (item : Item) → In j item → Among item (sets j).0
@@ -43,17 +43,21 @@ module _ (g : FlatGrammar) (E : Edges) (top : ℕ) (is_top : IsTop g top) (forwa
   some_in j P d =
       moved (λ (item, m, p). (item, of_set j item m, p)) (λ (item, i, p). (item, in_set j item i, p)) (some_among P (sets j).0 (λ item m. d item))
 
-  -- where completions of a symbol lead
-  leads_decided : (i x : ℕ) (item : Item) → IsDecided (LeadsTo g E top i x item)
-  leads_decided i x item = by (known (suc i) i x (omega arith))
+  -- whether completions of a symbol lead anywhere, and where
+  pub leads_on : (i x : ℕ) → IsDecided ((topmost : Item) × LeadsTo g E top i x topmost)
+  leads_on i x = by (known (suc i) i x (omega arith))
     where
-      by : ((leo : Item) × IsLeo g E top i x leo) ⊎ IsNotLeo g E top i x → IsDecided (LeadsTo g E top i x item)
-      by (inr none) = inr (λ l. let (leo, is) = leo_of g E top is_top forward l in none leo is)
-      by (inl (leo, is)) =
-          let (topmost, leads) = leads_from g E top is_top forward is (leads_above g E top is_top forward (known (suc i)) is.inside (omega arith)) (known (suc leo.origin) leo.origin (lhs_of g leo.rule) (omega arith)) in
-          moved (λ e. subst (LeadsTo g E top i x) e leads) (λ l. leads_one g E top is_top forward leads l) (same_item topmost item)
+      by : ((leo : Item) × IsLeo g E top i x leo) ⊎ IsNotLeo g E top i x → IsDecided ((topmost : Item) × LeadsTo g E top i x topmost)
+      by (inr none) = inr (λ (topmost, l). let (leo, is) = leo_of g E top is_top forward l in none leo is)
+      by (inl (leo, is)) = inl (leads_from g E top is_top forward is (leads_above g E top is_top forward (known (suc i)) is.inside (omega arith)) (known (suc leo.origin) leo.origin (lhs_of g leo.rule) (omega arith)))
 
-  none_decided : (i x : ℕ) → IsDecided (IsNotLeo g E top i x)
+  leads_decided : (i x : ℕ) (item : Item) → IsDecided (LeadsTo g E top i x item)
+  leads_decided i x item = elim (leads_on i x) [
+    | inl (topmost, leads) ↦ moved (λ e. subst (LeadsTo g E top i x) e leads) (λ l. leads_one g E top is_top forward leads l) (same_item topmost item)
+    | inr none ↦ inr (λ l. none (item, l))
+  ]
+
+  pub none_decided : (i x : ℕ) → IsDecided (IsNotLeo g E top i x)
   none_decided i x = elim (known (suc i) i x (omega arith)) [ inl (leo, is) ↦ inr (λ none. none leo is) | inr none ↦ inl none ]
 
   -- ---- how an item is kept

@@ -1,8 +1,11 @@
 pub mod Lists
 pub mod Kept
+pub mod Linked
 pub mod Placed
 pub mod Used
 pub mod Flat
 pub mod One
 pub mod Exist
+pub mod Counted
 pub mod Applied
+pub mod RightRecursion

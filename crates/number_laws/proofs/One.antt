@@ -31,7 +31,7 @@ record IsTold (b : Built) (ranking : Ranking) (pieces : List Piece) (n : Numbers
   top_is : slice_get f.tops 0 ≡ Some top
   tells : Tells f (FlatEdges f (Held (edges_of pieces))) (allowed_by b.g1 ranking f (FlatEdges f (Held (edges_of pieces)))) top (place_after pieces) n
 
-same_top : (x y : ℕ) → Some x ≡ Some y → x ≡ y
+pub same_top : (x y : ℕ) → Some x ≡ Some y → x ≡ y
 same_top x y e = cc
 
 one_by : (b : Built) (ranking : Ranking) (pieces : List Piece) (m n : Numbers) (f : FlatGrammar) → IsTold b ranking pieces m f → IsTold b ranking pieces n f → m ≡ n
@@ -40,7 +40,7 @@ one_by b ranking pieces m n f x y =
     one_told f (FlatEdges f (Held (edges_of pieces))) (allowed_by b.g1 ranking f (FlatEdges f (Held (edges_of pieces)))) y.top (place_after pieces) m n
     (subst (λ t. Tells f (FlatEdges f (Held (edges_of pieces))) (allowed_by b.g1 ranking f (FlatEdges f (Held (edges_of pieces)))) t (place_after pieces) m) same x.tells) y.tells
 
-one_flat : (b : Built) (f g : FlatGrammar) → IsFlattened b.g1 f → IsFlattened b.g1 g → f ≡ g
+pub one_flat : (b : Built) (f g : FlatGrammar) → IsFlattened b.g1 f → IsFlattened b.g1 g → f ≡ g
 one_flat b f g x y = x.listed x.decided ∙ sym (y.listed x.decided)
 
 pub numbers_are_one : NumbersAreOne

@@ -1,2 +1,4 @@
 pub mod Laws
+pub mod Counts
+pub mod RightRecursion
 pub mod Applied

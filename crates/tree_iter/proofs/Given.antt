@@ -1,5 +1,5 @@
 -- The derivations that were given, when one more is.
-use Rattle.std.proofs.Common.{◌≡◌, ℕ, zero, suc, ◌+◌, ◌≤◌, List, [], ◌∷◌, ◌++◌, length, map, Bool, true, false, Some, refl, sym, ap, ◌∙◌, subst, append_assoc, length-append, arith}
+use Rattle.std.proofs.Common.{◌≡◌, ℕ, zero, suc, ◌+◌, ◌≤◌, List, [], ◌∷◌, ◌++◌, length, map, true, false, Some, refl, sym, ap, ◌∙◌, subst, append_assoc, length-append, arith}
 use Rattle.grammar_model.specs.Grammar.{slot_of}
 use Rattle.grammar_model.specs.Trees.{Tree}
 use Rattle.grammar_model.specs.Steps.{Step, steps_of}
@@ -15,10 +15,11 @@ use Rattle.forest_laws.specs.Written.{steps_written}
 use Rattle.forest_laws.proofs.Taken.{fronts_are_taken}
 use Rattle.tree_iter.specs.declared.walk.Walk.{Walk}
 use Rattle.tree_iter.specs.declared.walk.Place.{Place}
-use Rattle.tree_iter.specs.declared.walk.Place.TheVariants.{Walking, At, Between}
+use Rattle.tree_iter.specs.declared.walk.Place.TheVariants.{Walking, Between}
+use Rattle.tree_iter.specs.declared.iter.Current.{Current}
+use Rattle.tree_iter.specs.declared.iter.Current.TheVariants.{Nothing, Walked}
 use Rattle.tree_iter.specs.Iteration.{Iteration, AreGiven, IsAnswer, AreFew}
 use Rattle.grammar_core.specs.declared.steps.TreeStep.{TreeStep}
-use Rattle.grammar_core.specs.Steps.{step_of}
 use Rattle.tree_iter.specs.Walk.{AreFewLooks, Remain, Advances, Reaches, current_of, IsUnderWay}
 use Rattle.tree_iter.proofs.Linked.{get_behind}
 use Rattle.tree_iter.proofs.Trails.{same_ends}
@@ -101,12 +102,11 @@ all_given f lists is all taken rest e none given g l =
 
 -- ---- the iterator
 
-abbrev pub seen : Walk → ℕ → Bool → List TreeStep → Iteration
-seen w given stands shown = record { forest = w.forest.now; given = given; current = current_of stands shown }
+abbrev pub seen : Walk → ℕ → Current → List TreeStep → Iteration
+seen w given current copy = record { forest = w.forest.now; given = given; current = current_of current w.steps.items copy }
 
 pub is_forest : (w : Walk) (rest : List (List Step)) (place : Place) → Remain place w rest → IsForest w.forest.now
 is_forest w rest Walking h = h.is.forest
-is_forest w rest At h = h.behind.is.forest
 is_forest w rest Between h = h.is.forest
 
 -- one more was given
@@ -123,19 +123,19 @@ under_way_more w n given place forest u r =
       remain = r.behind;
     }
 
-pub answer_more : (w n : Walk) (given : ℕ) (place : Place) (stands : Bool) (old shown : List TreeStep) → n.forest ≡ w.forest → (u : IsUnderWay w given place) → Reaches n u.rest → shown ≡ n.steps.items →
-    (trees : List Tree) → AreGiven (seen w given stands old) trees → IsAnswer (seen n (given + 1) true shown) trees true
-answer_more w n given place stands old shown forest u r is trees g =
+pub answer_more : (w n : Walk) (given : ℕ) (place : Place) (current : Current) (old copy : List TreeStep) → n.forest ≡ w.forest → (u : IsUnderWay w given place) → Reaches n u.rest →
+    (trees : List Tree) → AreGiven (seen w given current old) trees → IsAnswer (seen n (given + 1) Walked copy) trees true
+answer_more w n given place current old copy forest u r trees g =
     let same : w.forest.now ≡ n.forest.now = ap (λ (x : _). x.now) (sym forest) in
     let next = next_is w.forest.now u.lists (is_forest w u.rest place u.remain) u.all u.taken r.later r.first (u.both ∙ ap (λ l. u.taken ++ l) r.rest_is) trees g.first (g.count ∙ sym u.count) in (
       next.tree,
       record { first = subst (λ f. AreFirst f (trees ++ next.tree ∷ [])) same next.are_first; count = length-append trees (next.tree ∷ []) ∙ ap (λ k. k + 1) g.count },
-      ap Some (ap (map step_of) is ∙ r.shows ∙ ap (λ (f : Forest). steps_written f.written f.flat [] r.first) (sym same) ∙ next.steps),
+      ap Some (r.shows ∙ ap (λ (f : Forest). steps_written f.written f.flat [] r.first) (sym same) ∙ next.steps),
     )
 
-pub few_more : (w n : Walk) (given : ℕ) (place : Place) (stands : Bool) (old shown : List TreeStep) → n.forest ≡ w.forest → (u : IsUnderWay w given place) → Reaches n u.rest → (before after : ℕ) → AreFewLooks n true before after →
-    (trees : List Tree) → AreGiven (seen w given stands old) trees → AreFew (seen n (given + 1) true shown) trees true before after
-few_more w n given place stands old shown forest u r before after few trees g = λ tree h.
+pub few_more : (w n : Walk) (given : ℕ) (place : Place) (current : Current) (old copy : List TreeStep) → n.forest ≡ w.forest → (u : IsUnderWay w given place) → Reaches n u.rest → (before after : ℕ) → AreFewLooks n true before after →
+    (trees : List Tree) → AreGiven (seen w given current old) trees → AreFew (seen n (given + 1) Walked copy) trees true before after
+few_more w n given place current old copy forest u r before after few trees g = λ tree h.
     let same : w.forest.now ≡ n.forest.now = ap (λ (x : _). x.now) (sym forest) in
     let next = next_is w.forest.now u.lists (is_forest w u.rest place u.remain) u.all u.taken r.later r.first (u.both ∙ ap (λ l. u.taken ++ l) r.rest_is) trees g.first (g.count ∙ sym u.count) in
     let held : AreFirst w.forest.now (trees ++ tree ∷ []) = subst (λ f. AreFirst f (trees ++ tree ∷ [])) (sym same) h.first in
@@ -161,17 +161,9 @@ under_way_on w n given place after forest u h =
 pub remain_none : (n : Walk) (after : Place) (rest : List (List Step)) → Advances after n rest false → Remain after n rest
 remain_none n after rest (at, behind, none) = subst (λ p. Remain p n rest) (sym at) behind
 
-pub remain_more : (n : Walk) (after : Place) (rest : List (List Step)) → Advances after n rest true → Remain after n rest
-remain_more n after rest (at, reached) = subst (λ p. Remain p n rest) (sym at) reached
-
-pub answer_none : (w n : Walk) (given : ℕ) (place after : Place) (stands : Bool) (old : List TreeStep) → n.forest ≡ w.forest → (u : IsUnderWay w given place) → Advances after n u.rest false →
-    (trees : List Tree) → AreGiven (seen w given stands old) trees → IsAnswer (seen n given false old) trees false
-answer_none w n given place after stands old forest u (at, behind, none) trees g =
+pub answer_none : (w n : Walk) (given : ℕ) (place after : Place) (current : Current) (old copy : List TreeStep) → n.forest ≡ w.forest → (u : IsUnderWay w given place) → Advances after n u.rest false →
+    (trees : List Tree) → AreGiven (seen w given current old) trees → IsAnswer (seen n given Nothing copy) trees false
+answer_none w n given place after current old copy forest u (at, behind, none) trees g =
     let same : w.forest.now ≡ n.forest.now = ap (λ (x : _). x.now) (sym forest) in
     subst (λ f. IsListing f trees) same
     (all_given w.forest.now u.lists (is_forest w u.rest place u.remain) u.all u.taken u.rest u.both none trees g.first (g.count ∙ sym u.count))
-
-pub seen_on : (w n : Walk) (given : ℕ) (stands : Bool) (shown : List TreeStep) → n.forest ≡ w.forest → seen n given stands shown ≡ seen w given stands shown
-seen_on w n given stands shown forest =
-    let same : n.forest.now ≡ w.forest.now = ap (λ (x : _). x.now) forest in
-    λ i. record { forest = same i; given = given; current = current_of stands shown }

@@ -13,7 +13,9 @@ use Rattle.tree_iter.specs.declared.goals.GoalRow.{GoalRow}
 use Rattle.tree_iter.specs.declared.walk.Choice.{Choice}
 use Rattle.tree_iter.specs.declared.walk.Walk.{Walk}
 use Rattle.tree_iter.specs.declared.walk.Place.{Place}
-use Rattle.tree_iter.specs.declared.walk.Place.TheVariants.{Walking, At, Between}
+use Rattle.tree_iter.specs.declared.walk.Place.TheVariants.{Walking, Between}
+use Rattle.tree_iter.specs.declared.iter.Current.{Current}
+use Rattle.tree_iter.specs.declared.iter.Current.TheVariants.{Nothing, Walked, Copied}
 use Rattle.tree_iter.specs.Writing.{AreDone}
 use Rattle.tree_iter.specs.Goals.{fork_of, goal_of, IsStack, IsReady, IsBacked, AreReady, units}
 
@@ -163,17 +165,17 @@ pub record IsBack (w : Walk) (choice : Choice) (rest : List (List Step)) : Type 
 -- what is still to come, by where the walk is
 abbrev pub Remain : Place → Walk → List (List Step) → Type 0
 Remain Walking w rest = StandsBefore w rest
-Remain At w rest = Reaches w rest
 Remain Between w rest = StandsBehind w rest
 
--- the steps that are shown, if any
-abbrev pub current_of : Bool → List TreeStep → Option (List Step)
-current_of true steps = Some (map step_of steps)
-current_of false steps = None
+-- the steps of the derivation that is stood at, if any
+abbrev pub current_of : Current → (walked copied : List TreeStep) → Option (List Step)
+current_of Nothing walked copied = None
+current_of Walked walked copied = Some (map step_of walked)
+current_of Copied walked copied = Some (map step_of copied)
 
 -- the walk is at one more derivation, or there is none
 abbrev pub Advances : Place → Walk → List (List Step) → Bool → Type 0
-Advances place w rest true = (place ≡ At) × Reaches w rest
+Advances place w rest true = Reaches w rest
 Advances place w rest false = (place ≡ Between) × StandsBehind w rest × (rest ≡ [])
 
 -- so many derivations were taken, and the others remain

@@ -2,6 +2,8 @@
 ghost use Rattle.std.specs.Prelude.{◌≡◌, ◌+◌, ◌<◌, ◌++◌, [], List, length, map, vec_len, vec_capacity, IfOk, OnOk, OnErr, IfSome, IsSome, IsTrue, IsFalse};
 ghost use Rattle.grammar_core.specs.Steps.{step_of};
 ghost use Rattle.grammar_model.specs.Trees.{Tree};
+ghost use Rattle.forest_model.specs.Listing.{IsListing};
+ghost use Rattle.tree_iter.specs.Walk.{current_of};
 ghost use Rattle.tree_iter.specs.Iteration.{AreGiven, IsAnswer, AreFew, between, begun};
 
 use crate::walk::{Place, Walk, advance};
@@ -13,6 +15,15 @@ use std::marker::Model;
 use std::sync::ledger::Ledger;
 use value_text::NoMemory;
 
+/// Where the steps of the derivation are that an iterator stands at, if it stands at one: still in the walk, or copied before that
+/// goes on.
+#[derive(Clone, Copy)]
+pub enum Current {
+    Nothing,
+    Walked,
+    Copied,
+}
+
 /// The derivations of a forest, one after another in the declared order. Two that follow each other share what they have in common at
 /// their beginning.
 #[derive(Drop)]
@@ -20,8 +31,8 @@ pub struct TreeIter<'f> {
     walk: Walk<'f>,
     place: Place,
     given: u64,
-    shown: Vec<TreeStep>,
-    stands: bool,
+    current: Current,
+    copy: Vec<TreeStep>,
 }
 
 impl<'f> Model for TreeIter<'f> {
@@ -30,7 +41,7 @@ impl<'f> Model for TreeIter<'f> {
 
     ghost Value = { Iteration };
 
-    ghost view = { λ i. record { forest = i.walk.forest.now; given = i.given; current = current_of i.stands i.shown.items } };
+    ghost view = { λ i. record { forest = i.walk.forest.now; given = i.given; current = current_of i.current i.walk.steps.items i.copy.items } };
 
     ghost invariant = { λ i. IsUnderWay i.walk i.given i.place };
 }
@@ -41,17 +52,33 @@ fn one_more(given: u64) -> Option<u64>
     given.checked_add(1)
 }
 
-// Shows these steps in place of others.
-fn show(shown: &mut Vec<TreeStep>, steps: &[TreeStep]) -> Result<(), NoMemory>
-    ensures ok { OnOk result (shown.new.items ≡ steps.now) }
-    ensures err { OnErr result (shown.new.items ≡ shown.old.items) }
+// Copies steps in place of others.
+fn replace(copy: &mut Vec<TreeStep>, steps: &[TreeStep]) -> Result<(), NoMemory>
+    ensures ok { OnOk result (copy.new.items ≡ steps.now) }
+    ensures err { OnErr result (copy.new.items ≡ copy.old.items) }
 {
-    shown.reserve(steps.len().saturating_sub(shown.len()))?;
-    shown.clear();
-    match shown.extend_from_slice(steps) {
+    copy.reserve(steps.len().saturating_sub(copy.len()))?;
+    copy.clear();
+    match copy.extend_from_slice(steps) {
         Ok(()) => Ok(()),
         Err(_) => unreachable!(),
     }
+}
+
+// Copies the current steps where the walk has them, so that it may go on.
+fn keep(
+    current: &mut Current,
+    copy: &mut Vec<TreeStep>,
+    walked: &[TreeStep],
+) -> Result<(), NoMemory>
+    ensures ok { OnOk result ((others : List TreeStep) → current_of current.new others copy.new.items ≡ current_of current.old walked.now copy.old.items) }
+    ensures err { OnErr result (current_of current.new walked.now copy.new.items ≡ current_of current.old walked.now copy.old.items) }
+{
+    if let Current::Walked = *current {
+        replace(copy, walked)?;
+        *current = Current::Copied;
+    }
+    Ok(())
 }
 
 impl<'f> TreeIter<'f> {
@@ -65,9 +92,19 @@ impl<'f> TreeIter<'f> {
             walk,
             place: Place::Walking,
             given: 0,
-            shown: Vec::new(alloc),
-            stands: false,
+            current: Current::Nothing,
+            copy: Vec::new(alloc),
         })
+    }
+
+    // Whether the derivations that were given are all, by there being no choice to go back to.
+    fn is_done(&self) -> bool
+        ensures { IsTrue result → (given : List Tree) → AreGiven self.now given → IsListing self.now.forest given }
+    {
+        match self.place {
+            Place::Walking => false,
+            Place::Between => self.walk.is_spent(),
+        }
     }
 
     /// Goes to the next derivation. Answers whether there is one; behind the last it stands at none. A call that runs out of memory
@@ -85,23 +122,19 @@ impl<'f> TreeIter<'f> {
         let Some(given) = one_more(self.given) else {
             return Err(NoMemory);
         };
-        if !advance(&mut self.walk, &mut self.place, steps)? {
-            self.stands = false;
+        if self.is_done() {
+            self.current = Current::Nothing;
             return Ok(false);
         }
-        show(&mut self.shown, &self.walk.steps)?;
+        keep(&mut self.current, &mut self.copy, &self.walk.steps)?;
+        if !advance(&mut self.walk, &mut self.place, steps)? {
+            self.current = Current::Nothing;
+            return Ok(false);
+        }
         self.place = Place::Between;
-        self.stands = true;
+        self.current = Current::Walked;
         self.given = given;
         Ok(true)
-    }
-
-    /// How many steps the current derivation has.
-    pub fn steps_needed(&self) -> usize
-        requires { IsSome self.now.current }
-        ensures { IfSome self.now.current (λ steps. result ≡ length steps) }
-    {
-        self.shown.as_slice().len()
     }
 
     /// The steps of the current derivation, children before their rule.
@@ -109,7 +142,19 @@ impl<'f> TreeIter<'f> {
         requires { IsSome self.now.current }
         ensures { IfSome self.now.current (λ steps. map step_of result.now ≡ steps) }
     {
-        self.shown.as_slice()
+        match self.current {
+            Current::Nothing => unreachable!(),
+            Current::Walked => self.walk.steps.as_slice(),
+            Current::Copied => self.copy.as_slice(),
+        }
+    }
+
+    /// How many steps the current derivation has.
+    pub fn steps_needed(&self) -> usize
+        requires { IsSome self.now.current }
+        ensures { IfSome self.now.current (λ steps. result ≡ length steps) }
+    {
+        self.current_steps().len()
     }
 
     /// Appends the steps of the current derivation, children before their rule. It takes no memory but for room in `out`.
@@ -119,7 +164,7 @@ impl<'f> TreeIter<'f> {
         ensures err { OnErr result (out.new.items ≡ out.old.items) }
         ensures full { OnErr result (IfSome self.now.current (λ steps. vec_capacity out.old < vec_len out.old + length steps)) }
     {
-        out.extend_from_slice(&self.shown)?;
+        out.extend_from_slice(self.current_steps())?;
         Ok(())
     }
 }

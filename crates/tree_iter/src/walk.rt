@@ -1,6 +1,6 @@
 //! A walk through a forest from one derivation to the next. It goes back to the last choice that has a later option, and on by first
 //! options from there, so that what the two derivations share at their beginning is not done again.
-ghost use Rattle.std.specs.Prelude.{◌≡◌, ℕ, true, ◌+◌, ◌<◌, [], List, IfOk, OnOk, OnErr, IfSome, IsNone};
+ghost use Rattle.std.specs.Prelude.{◌≡◌, ℕ, true, ◌+◌, ◌<◌, [], List, IfOk, OnOk, OnErr, IfSome, IsNone, IsTrue};
 ghost use Rattle.grammar_model.specs.Steps.{Step};
 ghost use Rattle.forest_laws.specs.Goals.{Write};
 ghost use Rattle.tree_iter.specs.Writing.{flat_step};
@@ -29,11 +29,10 @@ pub struct Choice<'f> {
     pub counts: usize,
 }
 
-/// Where a walk is: on the way to the next derivation, at it, or behind those that were given.
+/// Where a walk is: on the way to the next derivation, or behind those that were given.
 #[derive(Clone, Copy)]
 pub enum Place {
     Walking,
-    At,
     Between,
 }
 
@@ -226,6 +225,13 @@ impl<'f> Walk<'f> {
         Ok(())
     }
 
+    /// Whether there is no choice to go back to.
+    pub fn is_spent(&self) -> bool
+        ensures { IsTrue result → (rest : List (List Step)) → StandsBehind self.now rest → rest ≡ [] }
+    {
+        self.choices.as_slice().is_empty()
+    }
+
     // Goes back to the last choice that has a later option, and takes that. Answers whether there is one.
     fn go_back<L: Ledger>(&mut self, steps: &mut Steps<L>) -> Result<bool, NoMemory>
         requires { (rest : List (List Step)) × StandsBehind self.old rest }
@@ -259,7 +265,6 @@ pub fn advance<L: Ledger>(
     ensures forest { walk.new.forest ≡ walk.old.forest }
 {
     match *place {
-        Place::At => return Ok(true),
         Place::Walking => {}
         Place::Between => {
             if !walk.go_back(steps)? {
@@ -269,6 +274,5 @@ pub fn advance<L: Ledger>(
         }
     }
     walk.go_on(steps)?;
-    *place = Place::At;
     Ok(true)
 }

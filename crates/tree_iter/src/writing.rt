@@ -1,5 +1,5 @@
 //! Steps of flat derivations, written one after another as steps of what they stand for.
-ghost use Rattle.std.specs.Prelude.{◌≡◌, ◌+◌, ◌<◌, ◌∷◌, ◌++◌, [], ℕ, List, length, map, slice_get, Some, option_to_list, IfOk, OnOk, OnErr, false};
+ghost use Rattle.std.specs.Prelude.{◌≡◌, ◌+◌, ◌<◌, ◌∷◌, ◌++◌, [], ℕ, List, length, map, slice_get, vec_len, vec_capacity, Some, option_to_list, IfOk, OnOk, OnErr, false};
 ghost use Rattle.grammar_core.specs.Steps.{step_of};
 ghost use Rattle.grammar_model.specs.Grammar.{Grammar, lhs_of as written_lhs, rule_at};
 ghost use Rattle.grammar_model.specs.Steps.{Step, RuleStep};
@@ -37,7 +37,7 @@ pub enum FlatStep {
 #[derive(Clone, Copy)]
 pub struct CountRow {
     pub count: u32,
-    pub below: usize,
+    pub below: u32,
 }
 
 /// What a step does: it leaves a count, and may be written.
@@ -99,6 +99,16 @@ fn sum_of(a: u32, b: u32) -> Result<u32, NoMemory>
     }
 }
 
+// A place among rows, of which more than 2^32 - 1 count as too many for memory.
+fn place(n: usize) -> Result<u32, NoMemory>
+    ensures { IfOk result (λ place. place ≡ n) }
+{
+    match u32::try_from(n) {
+        Ok(place) => Ok(place),
+        Err(_) => Err(NoMemory),
+    }
+}
+
 // The sum of the newest so many counts, and what lies below them.
 fn newest(rows: &[CountRow], count: u32) -> Result<CountRow, NoMemory>
     requires { (counts : List ℕ) × IsCounted rows.now (length rows.now) counts }
@@ -110,12 +120,12 @@ fn newest(rows: &[CountRow], count: u32) -> Result<CountRow, NoMemory>
         if top > 0 {
             let row = row_at(rows, top - 1);
             sum = sum_of(sum, row.count)?;
-            top = row.below;
+            top = row.below as usize;
         }
     }
     Ok(CountRow {
         count: sum,
-        below: top,
+        below: place(top)?,
     })
 }
 
@@ -178,7 +188,7 @@ fn effect_of(
 {
     let row = CountRow {
         count: 1,
-        below: rows.len(),
+        below: place(rows.len())?,
     };
     match step {
         FlatStep::Token { symbol, from, to } => Ok(Effect {
@@ -205,6 +215,19 @@ fn effect_of(
     }
 }
 
+// Makes room for one more, and for a quarter of what there is, so that little is left over.
+fn make_room<T>(rows: &mut Vec<T>) -> Result<(), NoMemory>
+    ensures items { rows.new.items ≡ rows.old.items }
+    ensures room { OnOk result (vec_len rows.new < vec_capacity rows.new) }
+{
+    let len = rows.as_slice().len();
+    if len < rows.capacity() {
+        return Ok(());
+    }
+    rows.reserve_exact(len / 4 + 16)?;
+    Ok(())
+}
+
 // Puts what a step does behind the others.
 fn put_effect(
     counts: &mut Vec<CountRow>,
@@ -216,12 +239,15 @@ fn put_effect(
     ensures steps { OnOk result (steps.new.items ≡ steps.old.items ++ option_to_list step) }
     ensures err { OnErr result ((counts.new.items ≡ counts.old.items) × (steps.new.items ≡ steps.old.items)) }
 {
-    counts.push(row)?;
+    make_room(counts)?;
+    make_room(steps)?;
+    let Ok(()) = counts.push(row) else {
+        unreachable!();
+    };
     if let Some(step) = step {
-        if steps.push(step).is_err() {
-            counts.pop();
-            return Err(NoMemory);
-        }
+        let Ok(()) = steps.push(step) else {
+            unreachable!();
+        };
     }
     Ok(())
 }

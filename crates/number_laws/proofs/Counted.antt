@@ -1,0 +1,81 @@
+-- A reading by an accepted grammar has the counts that bound its steps, and no others.
+use Rattle.std.proofs.Common.{◌≡◌, ℕ, List, length, Some, slice_get, sym, ◌∙◌, subst}
+use Rattle.grammar_model.specs.Derives.{Held}
+use Rattle.recognizer_model.specs.declared.Item.{Item}
+use Rattle.grammar_model.specs.Grammar.{Grammar}
+use Rattle.grammar_model.specs.declared.Ranking.{Ranking}
+use Rattle.recognizer_model.specs.Flat.{FlatGrammar}
+use Rattle.recognizer_model.specs.Chosen.{allowed_by}
+use Rattle.recognizer_model.specs.FlatForm.{FlatEdges}
+use Rattle.recognizer_model.specs.Items.{InSet}
+use Rattle.recognizer_model.specs.Counts.{IsListOf, IsCountOf}
+use Rattle.recognizer_model.specs.Nodes.{IsExpanded}
+use Rattle.grammar_laws.proofs.ItemSets.{flat_forward, flat_decided, held_decided, item_sets_exist}
+use Rattle.language_model.specs.Building.{Built}
+use Rattle.reading_model.specs.Reading.{Piece, edges_of, place_after}
+use Rattle.reading_model.proofs.Counting.{one_count}
+use Rattle.reading_laws.proofs.Candidates.{pieces_forward}
+use Rattle.reading_laws.proofs.Short.{built_are_short}
+use Rattle.run_model.specs.Steps.{IsPlacedLink, IsLeoPair}
+use Rattle.number_laws.specs.Counts.{Counts, HasCounts, CountsExist, CountsAreOne, CountsBoundSteps}
+use Rattle.number_laws.proofs.Exist.{numbers_exist}
+use Rattle.number_laws.proofs.Flat.{is_flat}
+use Rattle.number_laws.proofs.Linked.{link_list, pair_list}
+use Rattle.number_laws.proofs.Lists.{count_of}
+use Rattle.number_laws.proofs.One.{same_top, one_flat}
+
+pub counts_exist : CountsExist
+counts_exist b ranking pieces built accepted =
+    let (n, h) = numbers_exist b ranking pieces built accepted in
+    let f = h.flat in
+    let edges = edges_of pieces in
+    let E = FlatEdges f (Held edges) in
+    let flat = is_flat b.g1 accepted.checked.structural accepted.structural (built_are_short b built) f h.is in
+    let is_top = (flat.tops 0 h.top h.top_is).is_top in
+    let goes = flat_forward f (Held edges) (pieces_forward pieces) in
+    let edge = flat_decided f (Held edges) (held_decided edges) in
+    let sets : (j : ℕ) → (items : List Item) × IsListOf (InSet f E h.top j) items = λ j. item_sets_exist f edges h.top j (pieces_forward pieces) in
+    let (links, links_are) = link_list f E h.top is_top goes edge sets (place_after pieces) in
+    let (pairs, pairs_are) = pair_list f E h.top is_top goes edge sets (place_after pieces) in (
+      record { links = length links; pairs = length pairs; expanded = n.expanded },
+      record {
+        flat = f;
+        is = h.is;
+        top = h.top;
+        top_is = h.top_is;
+        links = count_of (IsPlacedLink f E h.top (place_after pieces)) links links_are;
+        pairs = count_of (IsLeoPair f E h.top (place_after pieces)) pairs pairs_are;
+        expanded = h.numbers.hidden_items;
+      },
+    )
+
+-- the counts by a flat grammar, whose first top it is
+record IsCounted (w : Grammar) (ranking : Ranking) (pieces : List Piece) (n : Counts) (f : FlatGrammar) (top : ℕ) : Type 0 where
+  links : IsCountOf (IsPlacedLink f (FlatEdges f (Held (edges_of pieces))) top (place_after pieces)) n.links
+  pairs : IsCountOf (IsLeoPair f (FlatEdges f (Held (edges_of pieces))) top (place_after pieces)) n.pairs
+  expanded : IsCountOf (IsExpanded f (FlatEdges f (Held (edges_of pieces))) (allowed_by w ranking f (FlatEdges f (Held (edges_of pieces)))) top (place_after pieces)) n.expanded
+
+counted : (b : Built) (ranking : Ranking) (pieces : List Piece) (n : Counts) (h : HasCounts b ranking pieces n) → IsCounted b.g1 ranking pieces n h.flat h.top
+counted b ranking pieces n h = record { links = h.links; pairs = h.pairs; expanded = h.expanded }
+
+-- what holds of a flat grammar and its first top holds of the same grammar's
+moved_to : (P : FlatGrammar → ℕ → Type 0) (f g : FlatGrammar) (s t : ℕ) → f ≡ g → slice_get f.tops 0 ≡ Some s → slice_get g.tops 0 ≡ Some t → P f s → P g t
+moved_to P f g s t same s_is t_is p =
+    let top : s ≡ t = same_top s t (sym s_is ∙ (λ i. slice_get (same i).tops 0) ∙ t_is) in
+    subst (λ x. P g x) top (subst (λ f. P f s) same p)
+
+pub counts_are_one : CountsAreOne
+counts_are_one b ranking pieces m n x y =
+    let same = one_flat b x.flat y.flat x.is y.is in
+    let moved = moved_to (IsCounted b.g1 ranking pieces m) x.flat y.flat x.top y.top same x.top_is y.top_is (counted b ranking pieces m x) in
+    let E = FlatEdges y.flat (Held (edges_of pieces)) in
+    let links : m.links ≡ n.links = one_count (IsPlacedLink y.flat E y.top (place_after pieces)) m.links n.links moved.links y.links in
+    let pairs : m.pairs ≡ n.pairs = one_count (IsLeoPair y.flat E y.top (place_after pieces)) m.pairs n.pairs moved.pairs y.pairs in
+    let expanded : m.expanded ≡ n.expanded = one_count (IsExpanded y.flat E (allowed_by b.g1 ranking y.flat E) y.top (place_after pieces)) m.expanded n.expanded moved.expanded y.expanded in
+    λ i. record { links = links i; pairs = pairs i; expanded = expanded i }
+
+pub counts_bound_steps : CountsBoundSteps
+counts_bound_steps b ranking pieces n given before after x within =
+    let same = one_flat b x.flat within.flat x.is within.is in
+    let moved = moved_to (IsCounted b.g1 ranking pieces n) x.flat within.flat x.top within.top same x.top_is within.top_is (counted b ranking pieces n x) in
+    within.few n.links n.pairs n.expanded moved.links moved.pairs moved.expanded

@@ -1,0 +1,47 @@
+-- What the bound on the steps of a run counts: the links of the sets behind the first, the Leo pairs, and the hidden items that the forest
+-- brings back.
+use Rattle.std.specs.Prelude.{◌≡◌, ℕ, ◌+◌, ◌≤◌, List, Some, slice_get}
+use Rattle.std.specs.List.{sum_by}
+use Rattle.grammar_model.specs.Trees.{Tree}
+use Rattle.grammar_model.specs.Derives.{Held}
+use Rattle.grammar_model.specs.declared.Ranking.{Ranking}
+use Rattle.recognizer_model.specs.Flat.{FlatGrammar}
+use Rattle.recognizer_model.specs.Chosen.{allowed_by}
+use Rattle.recognizer_model.specs.FlatForm.{FlatEdges}
+use Rattle.recognizer_model.specs.Links.{choices}
+use Rattle.recognizer_model.specs.Nodes.{IsExpanded}
+use Rattle.recognizer_model.specs.Counts.{IsCountOf}
+use Rattle.flat_model.specs.Flattened.{IsFlattened}
+use Rattle.language_model.specs.Building.{Built}
+use Rattle.language_model.specs.Texts.{IsBuilt}
+use Rattle.reading_model.specs.Accepted.{IsAccepted}
+use Rattle.reading_model.specs.Reading.{Piece, edges_of, place_after}
+use Rattle.run_model.specs.Steps.{IsPlacedLink, IsLeoPair, IsWithinSteps}
+
+pub record Counts : Type 0 where
+  pub links : ℕ
+  pub pairs : ℕ
+  pub expanded : ℕ
+
+-- the counts of a reading in these pieces
+pub record HasCounts (b : Built) (ranking : Ranking) (pieces : List Piece) (n : Counts) : Type 0 where
+  pub flat : FlatGrammar
+  pub is : IsFlattened b.g1 flat
+  pub top : ℕ
+  pub top_is : slice_get flat.tops 0 ≡ Some top
+  pub links : IsCountOf (IsPlacedLink flat (FlatEdges flat (Held (edges_of pieces))) top (place_after pieces)) n.links
+  pub pairs : IsCountOf (IsLeoPair flat (FlatEdges flat (Held (edges_of pieces))) top (place_after pieces)) n.pairs
+  pub expanded : IsCountOf (IsExpanded flat (FlatEdges flat (Held (edges_of pieces))) (allowed_by b.g1 ranking flat (FlatEdges flat (Held (edges_of pieces)))) top (place_after pieces)) n.expanded
+
+-- a reading has its counts
+abbrev pub CountsExist : Type 0
+CountsExist = (b : Built) (ranking : Ranking) (pieces : List Piece) → IsBuilt b → IsAccepted b → (n : Counts) × HasCounts b ranking pieces n
+
+-- and only these
+abbrev pub CountsAreOne : Type 0
+CountsAreOne = (b : Built) (ranking : Ranking) (pieces : List Piece) (m n : Counts) → HasCounts b ranking pieces m → HasCounts b ranking pieces n → m ≡ n
+
+-- and they bound the steps
+abbrev pub CountsBoundSteps : Type 0
+CountsBoundSteps = (b : Built) (ranking : Ranking) (pieces : List Piece) (n : Counts) (given : List Tree) (before after : ℕ) → HasCounts b ranking pieces n → IsWithinSteps b ranking pieces given before after →
+    after ≤ before + n.links + n.pairs + n.expanded + sum_by choices given
