@@ -7,7 +7,7 @@ use Rattle.grammar_model.specs.Grammar
 use Rattle.grammar_model.specs.Simple.{is_terminal, numbers}
 use Rattle.grammar_model.proofs.Lists.{Among, among_left, among_map}
 use Rattle.grammar_core.specs.Written.{IsWritten}
-use Rattle.grammar_check.specs.Tested.{HasTests}
+use Rattle.slot_analysis.specs.Tested.{HasTests}
 use Rattle.recognizer_model.specs.FlatForm.{IsSymbolOf}
 use Rattle.recognizer_model.specs.declared.flat.FlatSymbol.TheVariants.{Terminal, Slot}
 use Rattle.flat_model.specs.Flatten

@@ -10,7 +10,7 @@ use Rattle.std.proofs.lemmas.List.Elements.{filter-append}
 use Rattle.grammar_model.specs.Grammar.{WrittenRule, Plain, Sequence, PlainRule, Grammar, rule_at, lhs_of, level_of, child_slot, slot_count, sequence_symbol, is_even}
 use Rattle.grammar_model.specs.Simple.{numbers}
 use Rattle.grammar_core.specs.Written.{IsWritten, IsLevelled, symbols_of}
-use Rattle.grammar_check.specs.Slots.{groups_of}
+use Rattle.slot_analysis.specs.Slots.{groups_of}
 use Rattle.recognizer_model.proofs.FlatNamed.{get_index}
 use Rattle.flat_rules.specs.Tables.{rows_of, row_at, HasAdded}
 

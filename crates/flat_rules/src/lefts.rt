@@ -2,7 +2,7 @@
 ghost use Rattle.std.specs.Prelude.{◌≡◌, ℕ, ◌<◌, ◌↔◌, [], true, false, length, slice_index_or, IsTrue, IfOk, OnOk};
 ghost use Rattle.grammar_model.specs.Grammar.{Slot, Plain, rule_at, lhs_of, child_slot, slot_count};
 ghost use Rattle.grammar_model.specs.Analysis.{IsLive, IsProductive};
-ghost use Rattle.grammar_check.specs.Slots.{needed_of};
+ghost use Rattle.slot_analysis.specs.Slots.{needed_of};
 ghost use Rattle.recognizer_model.specs.FlatForm.{IsUsedSlot};
 ghost use Rattle.flat_rules.specs.Tables.{rows_of, row_at, AreLefts, AreLive, HasAdded};
 

@@ -14,10 +14,10 @@ use Rattle.indexmap.specs.IndexSet.{insert_key}
 use Rattle.grammar_model.specs.Grammar.{Grammar, PlainRule, SequenceRule, Plain, Sequence, rule_at, no_rule, lhs_of}
 use Rattle.grammar_model.specs.Checked.{IsDuplicate, IsShared, SequencesAreAlone}
 use Rattle.grammar_core.specs.Written.{IsWritten}
-use Rattle.grammar_check.specs.Rows.{rows_of}
+use Rattle.slot_analysis.specs.Rows.{rows_of}
 use Rattle.grammar_check.specs.Shared.{IsSequenceAt, HasTwo, HasSequence, Marks, HasTexts}
-use Rattle.grammar_check.proofs.Search.{same_or_other, same_or_below}
-use Rattle.grammar_check.proofs.Known.{lhs_known}
+use Rattle.slot_analysis.proofs.Search.{same_or_other, same_or_below}
+use Rattle.slot_analysis.proofs.Known.{lhs_known}
 
 -- a mark more, where R holds
 pub mark_more : (marks : List Bool) (P Q : ℕ → Type 0) (x : ℕ) (c : Bool) (R : Type 0) → Marks marks P → x < length marks → (c ≡ true) ↔ R → ((y : ℕ) → (P y ⊎ ((y ≡ x) × R)) ↔ Q y) → Marks (slice_set marks x (slice_index_or marks x false || c)) Q

@@ -10,20 +10,20 @@ use Rattle.grammar_model.specs.Grammar.{WrittenRule, Plain, Sequence, Grammar, S
 use Rattle.grammar_model.specs.Analysis.{IsStar, IsNullableIn, IsNullable, EachNeeded, IsProductiveIn, IsProductive, IsAccessible, IsAlone, LeadsTo}
 use Rattle.grammar_model.specs.Cycles.{IsWalk, IsCycle, IsLeastCycle, HasHeights, slot_cmp, cycle_cmp}
 use Rattle.grammar_core.specs.Written.{IsWritten}
-use Rattle.grammar_check.specs.Rows.{row_at}
-use Rattle.grammar_check.specs.Slots.{number, end_of, IsNumbering, IsNumbered, needed_of}
-use Rattle.grammar_check.specs.Steps.{head_of}
-use Rattle.grammar_check.specs.Linked.{IsLinkTo, IsFloored}
+use Rattle.slot_analysis.specs.Rows.{row_at}
+use Rattle.slot_analysis.specs.Slots.{number, end_of, IsNumbering, IsNumbered, needed_of}
+use Rattle.slot_analysis.specs.Steps.{head_of}
+use Rattle.slot_analysis.specs.Linked.{IsLinkTo, IsFloored}
 use Rattle.grammar_check.specs.Links.{Step, Walks, AreFloors, AreRows, IsLeastPath}
 use Rattle.grammar_check.specs.Settled.{NoneBelow, Rises}
 use Rattle.grammar_check.specs.Message.{AreOf}
 use Rattle.grammar_check.specs.Told.{slot_with, slots_with, IsHomed, AreSlotsAt}
-use Rattle.grammar_check.proofs.Search.{same_or_other}
-use Rattle.grammar_check.proofs.Known.{lhs_known, head_numbered, child_numbered}
-use Rattle.grammar_check.proofs.Rounds.{item_first, bases_rise, one_symbol}
-use Rattle.grammar_check.proofs.Reaching.{numbered_small, same_slot}
-use Rattle.grammar_check.proofs.Beyond.{accessible_numbered}
-use Rattle.grammar_check.proofs.StepLemmas.{all_needed, needed_small, head_small}
+use Rattle.slot_analysis.proofs.Search.{same_or_other}
+use Rattle.slot_analysis.proofs.Known.{lhs_known, head_numbered, child_numbered}
+use Rattle.slot_analysis.proofs.Rounds.{item_first, bases_rise, one_symbol}
+use Rattle.slot_analysis.proofs.Reaching.{numbered_small, same_slot}
+use Rattle.slot_analysis.proofs.Beyond.{accessible_numbered}
+use Rattle.slot_analysis.proofs.StepLemmas.{all_needed, needed_small, head_small}
 use Rattle.grammar_check.proofs.Layering.{lt_or, step_known}
 use Rattle.grammar_check.proofs.Settling.{contained_or}
 

@@ -1,13 +1,5 @@
-pub mod Least
-pub mod Rows
-pub mod Slots
-pub mod Clauses
-pub mod Tables
-pub mod Steps
 pub mod Counted
-pub mod Tested
 pub mod Links
-pub mod Linked
 pub mod Settled
 pub mod Told
 pub mod Shared

@@ -4,13 +4,15 @@ ghost use Rattle.grammar_model.specs.Grammar.{Slot, slot_of};
 ghost use Rattle.grammar_model.specs.Analysis.{IsNullable, IsProductive, IsAccessible};
 ghost use Rattle.grammar_model.specs.Checked.{IsChecked};
 ghost use Rattle.grammar_check.specs.Message.{IsOf};
-ghost use Rattle.grammar_check.specs.Tested.{HasTests};
+ghost use Rattle.slot_analysis.specs.Tested.{HasTests};
 ghost use Rattle.grammar_check.specs.Refused.{IsTold};
 
 use crate::GrammarRefusal;
-use crate::analysis::Analysis;
+use crate::cyclic::least_cycle_of;
+use crate::refusals::{counted_nullable, start_without_rule, unproductive_start};
 use crate::shared::{duplicate_rule, shared_sequence};
 use grammar_core::{SymbolId, Written};
+use slot_analysis::Analysis;
 use std::alloc::Global;
 use std::marker::Model;
 
@@ -44,7 +46,7 @@ fn first_fault(alloc: Global, analysis: &Analysis<'_>) -> Result<(), GrammarRefu
     if w.start_count() == 0 {
         return Err(GrammarRefusal::NoStart);
     }
-    if let Some(symbol) = analysis.start_without_rule() {
+    if let Some(symbol) = start_without_rule(analysis) {
         return Err(GrammarRefusal::StartNotLhs { symbol });
     }
     if let Some(symbol) = shared_sequence(alloc, w)? {
@@ -53,13 +55,13 @@ fn first_fault(alloc: Global, analysis: &Analysis<'_>) -> Result<(), GrammarRefu
     if let Some(rule) = duplicate_rule(alloc, w)? {
         return Err(GrammarRefusal::Duplicate { rule });
     }
-    if let Some(rule) = analysis.counted_nullable() {
+    if let Some(rule) = counted_nullable(analysis) {
         return Err(GrammarRefusal::CountedNullable { rule });
     }
-    if let Some(symbol) = analysis.unproductive_start() {
+    if let Some(symbol) = unproductive_start(analysis) {
         return Err(GrammarRefusal::UnproductiveStart { symbol });
     }
-    if let Some(cycle) = analysis.cycle(alloc)? {
+    if let Some(cycle) = least_cycle_of(alloc, analysis)? {
         return Err(GrammarRefusal::Cyclic { cycle });
     }
     Ok(())

@@ -1,13 +1,13 @@
 //! The least cycle among slots.
 ghost use Rattle.std.specs.Prelude.{◌≡◌, ℕ, suc, ◌+◌, ◌-◌, ◌<◌, ◌≤◌, ◌^◌, map, length, slice_index, All, Contains, IfOk, OnOk, IfSome, IsNone, ◌↔◌, ◌⊎◌, ◌++◌, ◌∷◌, []};
-ghost use Rattle.grammar_check.specs.Least.{Clause};
-ghost use Rattle.grammar_check.specs.Rows.{rows_of, row_at};
-ghost use Rattle.grammar_check.specs.Steps.{HasMore};
+ghost use Rattle.slot_analysis.specs.Least.{Clause};
+ghost use Rattle.slot_analysis.specs.Rows.{rows_of, row_at};
+ghost use Rattle.slot_analysis.specs.Steps.{HasMore};
 ghost use Rattle.grammar_check.specs.Links.{Step, Walks, AreFloors, AreRows, IsLeastPath};
 ghost use Rattle.grammar_check.specs.Settled.{node_clause, use_clause, IsOfNodes, IsOfUses, NoneBelow, Rises};
 
-use crate::least::{Clause, is_found, least_set};
 use crate::shortest::cycle_through;
+use slot_analysis::{Clause, is_found, least_set};
 use std::alloc::{AllocError, Global};
 
 // The numbers past a bound that stand for those of a row.

@@ -1,22 +1,23 @@
 //! The least cycle of a grammar.
-ghost use Rattle.std.specs.Prelude.{true, false, ◌+◌, ◌<◌, ◌^◌, length, slice_index, IfOk, IfSome, IsNone};
+ghost use Rattle.std.specs.Prelude.{true, false, ◌≡◌, ◌+◌, ◌<◌, ◌^◌, length, map, slice_index, All, IfOk, IfSome, IsNone};
 ghost use Rattle.grammar_model.specs.Cycles.{IsLeastCycle, HasHeights};
-ghost use Rattle.grammar_check.specs.Slots.{IsNumbering};
-ghost use Rattle.grammar_check.specs.Clauses.{IsAnalysis};
-ghost use Rattle.grammar_check.specs.Steps.{IsReach};
+ghost use Rattle.slot_analysis.specs.Rows.{rows_of, row_at};
+ghost use Rattle.slot_analysis.specs.Slots.{IsNumbering};
+ghost use Rattle.slot_analysis.specs.Clauses.{IsAnalysis};
+ghost use Rattle.slot_analysis.specs.Steps.{IsReach};
 ghost use Rattle.grammar_check.specs.Message.{AreOf};
-ghost use Rattle.grammar_check.specs.Told.{slots_with};
+ghost use Rattle.grammar_check.specs.Told.{slots_with, IsPlaced, unpacked_pair};
 
 use crate::cycles::least_cycle;
-use crate::links::{Slots, floors_of, links_of};
 use crate::table::slots_at;
-use grammar_core::{SymbolId, Written};
+use grammar_core::SymbolId;
+use slot_analysis::{Analysis, Packed, Slots, floors_of, links_of};
 use std::alloc::{AllocError, Global};
 
-/// The least cycle, if there is one.
-pub fn cycle_of(
+// The least cycle of a packed grammar, if there is one.
+fn cycle_of(
     alloc: Global,
-    w: &Written,
+    w: &Packed<'_>,
     slots: &Slots<'_>,
 ) -> Result<Option<Vec<(SymbolId, u32)>>, AllocError>
     requires numbering { IsNumbering w.now slots.now.bases.now }
@@ -35,5 +36,53 @@ pub fn cycle_of(
         return Ok(None);
     };
     let cycle = slots_at(alloc, w, slots.bases, &path)?;
+    Ok(Some(cycle))
+}
+
+// The level of a place.
+fn level_at(rows: &[Vec<u32>], symbol: SymbolId, place: u32) -> u32
+    requires { place < length (row_at (rows_of rows.now) symbol) }
+    ensures { result ≡ slice_index (row_at (rows_of rows.now) symbol) place }
+{
+    rows[symbol.0 as usize][place as usize]
+}
+
+// The slots whose levels have these places.
+fn unpacked(
+    alloc: Global,
+    rows: &[Vec<u32>],
+    cycle: &[(SymbolId, u32)],
+) -> Result<Vec<(SymbolId, u32)>, AllocError>
+    requires { All (IsPlaced (rows_of rows.now)) cycle.now }
+    ensures { IfOk result (λ slots. slots.items ≡ map (unpacked_pair (rows_of rows.now)) cycle.now) }
+{
+    let mut slots = Vec::new(alloc);
+    for slot in cycle {
+        let (symbol, place) = *slot;
+        slots.push((symbol, level_at(rows, symbol, place)))?;
+    }
+    Ok(slots)
+}
+
+/// The least cycle, if there is one.
+pub fn least_cycle_of(
+    alloc: Global,
+    analysis: &Analysis<'_>,
+) -> Result<Option<Vec<(SymbolId, u32)>>, AllocError>
+    ensures some { IfOk result (λ r. IfSome r (λ cycle. IsLeastCycle analysis.now (slots_with cycle.items))) }
+    ensures known { IfOk result (λ r. IfSome r (λ cycle. AreOf analysis.now cycle.items)) }
+    ensures none { IfOk result (λ r. IsNone r → HasHeights analysis.now) }
+{
+    let slots = analysis.slots();
+    let written = analysis.written();
+    let _ = written.rule_count();
+    let packed = Packed {
+        written,
+        levels: slots.levels,
+    };
+    let Some(cycle) = cycle_of(alloc, &packed, &slots)? else {
+        return Ok(None);
+    };
+    let cycle = unpacked(alloc, slots.levels, &cycle)?;
     Ok(Some(cycle))
 }

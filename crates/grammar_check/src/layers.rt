@@ -1,10 +1,10 @@
 //! The least steps from each slot to one of them, found layer by layer.
 ghost use Rattle.std.specs.Prelude.{◌≡◌, ℕ, suc, ◌+◌, ◌-◌, ◌<◌, ◌≤◌, length, slice_index, All, Contains, IfOk, OnOk};
-ghost use Rattle.grammar_check.specs.Rows.{rows_of};
+ghost use Rattle.slot_analysis.specs.Rows.{rows_of};
 ghost use Rattle.grammar_check.specs.Links.{Tied, Step, Walks, AreFloors, AreRows, IsDown, Gains, StepsInto, AreLayers};
 
-use crate::least::{add, is_found};
 use indexmap::IndexSet;
+use slot_analysis::{add, is_found};
 use std::alloc::{AllocError, AllocFailed, Global};
 
 // The numbers from the floor of a number up to it, as far as they are not found yet.

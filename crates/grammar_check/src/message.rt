@@ -5,9 +5,9 @@ ghost use Rattle.grammar_model.specs.Values.{name_of};
 ghost use Rattle.grammar_check.specs.Message.{IsOf, cycle_text, refusal_text, AreOf};
 
 use crate::GrammarRefusal;
-use crate::slots::left_of;
 use grammar_core::{RuleId, SymbolId, Written};
 use itoa::Buffer;
+use slot_analysis::left_of;
 use std::alloc::{AllocError, Global};
 use value_text::NoMemory;
 

@@ -5,77 +5,75 @@ ghost use Rattle.grammar_model.specs.Analysis.{IsProductive};
 ghost use Rattle.grammar_model.specs.Checked.{IsLeft, IsFault, StartNotLhs, CountedNullable, UnproductiveStart, StartsAreLeft, StartsAreProductive, IsCountedNullable, ItemsSpan};
 ghost use Rattle.grammar_check.specs.Counted.{HasNullable};
 
-use crate::analysis::Analysis;
 use grammar_core::{RuleId, SeqRule, SymbolId, Written, WrittenRule};
+use slot_analysis::Analysis;
 
-impl<'a> Analysis<'a> {
-    /// The first start that is no left side.
-    pub fn start_without_rule(&self) -> Option<SymbolId>
-        ensures some { IfSome result (λ s. IsFault self.now (StartNotLhs s)) }
-        ensures none { IsNone result → StartsAreLeft self.now }
-    {
-        let w = self.written();
-        for k in 0..w.start_count() {
-            let s = start_at(w, k);
-            if !self.is_left(s) {
-                return Some(s);
-            }
-        }
-        None
-    }
-
-    /// The first start that has no tree.
-    pub fn unproductive_start(&self) -> Option<SymbolId>
-        ensures some { IfSome result (λ s. IsFault self.now (UnproductiveStart s)) }
-        ensures none { IsNone result → StartsAreProductive self.now }
-    {
-        let w = self.written();
-        for k in 0..w.start_count() {
-            let s = start_at(w, k);
-            if !self.productive(s) {
-                return Some(s);
-            }
-        }
-        None
-    }
-
-    // Whether the item or the separator is nullable.
-    fn has_nullable(&self, rule: &SeqRule) -> bool
-        requires item { rule.now.item < length self.now.names }
-        requires separator { IfSome rule.now.separator (λ s. s < length self.now.names) }
-        ensures { IsTrue result ↔ HasNullable self.now rule.now }
-    {
-        match rule.separator {
-            Some(s) => self.nullable(rule.item) || self.nullable(s),
-            None => self.nullable(rule.item),
+/// The first start that is no left side.
+pub fn start_without_rule(analysis: &Analysis<'_>) -> Option<SymbolId>
+    ensures some { IfSome result (λ s. IsFault analysis.now (StartNotLhs s)) }
+    ensures none { IsNone result → StartsAreLeft analysis.now }
+{
+    let w = analysis.written();
+    for k in 0..w.start_count() {
+        let s = start_at(w, k);
+        if !analysis.is_left(s) {
+            return Some(s);
         }
     }
+    None
+}
 
-    fn counts_nullable(&self, i: usize) -> bool
-        requires { i < length self.now.rules }
-        ensures { IsTrue result ↔ IsCountedNullable self.now i }
-    {
-        let w = self.written();
-        let _ = w.rule_count();
-        match w.written_rule(RuleId(i as u32)) {
-            WrittenRule::Plain(_) => false,
-            WrittenRule::Sequence(rule) => self.has_nullable(rule),
+/// The first start that has no tree.
+pub fn unproductive_start(analysis: &Analysis<'_>) -> Option<SymbolId>
+    ensures some { IfSome result (λ s. IsFault analysis.now (UnproductiveStart s)) }
+    ensures none { IsNone result → StartsAreProductive analysis.now }
+{
+    let w = analysis.written();
+    for k in 0..w.start_count() {
+        let s = start_at(w, k);
+        if !analysis.productive(s) {
+            return Some(s);
         }
     }
+    None
+}
 
-    /// The first sequence rule whose item or separator is nullable.
-    pub fn counted_nullable(&self) -> Option<RuleId>
-        ensures some { IfSome result (λ i. IsFault self.now (CountedNullable i)) }
-        ensures none { IsNone result → ItemsSpan self.now }
-    {
-        let count = self.written().rule_count();
-        for i in 0..count {
-            if self.counts_nullable(i) {
-                return Some(RuleId(i as u32));
-            }
-        }
-        None
+// Whether the item or the separator is nullable.
+fn has_nullable(analysis: &Analysis<'_>, rule: &SeqRule) -> bool
+    requires item { rule.now.item < length analysis.now.names }
+    requires separator { IfSome rule.now.separator (λ s. s < length analysis.now.names) }
+    ensures { IsTrue result ↔ HasNullable analysis.now rule.now }
+{
+    match rule.separator {
+        Some(s) => analysis.nullable(rule.item) || analysis.nullable(s),
+        None => analysis.nullable(rule.item),
     }
+}
+
+fn counts_nullable(analysis: &Analysis<'_>, i: usize) -> bool
+    requires { i < length analysis.now.rules }
+    ensures { IsTrue result ↔ IsCountedNullable analysis.now i }
+{
+    let w = analysis.written();
+    let _ = w.rule_count();
+    match w.written_rule(RuleId(i as u32)) {
+        WrittenRule::Plain(_) => false,
+        WrittenRule::Sequence(rule) => has_nullable(analysis, rule),
+    }
+}
+
+/// The first sequence rule whose item or separator is nullable.
+pub fn counted_nullable(analysis: &Analysis<'_>) -> Option<RuleId>
+    ensures some { IfSome result (λ i. IsFault analysis.now (CountedNullable i)) }
+    ensures none { IsNone result → ItemsSpan analysis.now }
+{
+    let count = analysis.written().rule_count();
+    for i in 0..count {
+        if counts_nullable(analysis, i) {
+            return Some(RuleId(i as u32));
+        }
+    }
+    None
 }
 
 fn start_at(w: &Written, k: usize) -> SymbolId

@@ -2,12 +2,12 @@
 ghost use Rattle.std.specs.Prelude.{true, false, ◌≡◌, ℕ, suc, ◌<◌, List, ◌∷◌, ◌||◌, length, slice_index_or, slice_set, Contains, IfOk, OnOk, IfSome, IsNone, IsTrue, ◌↔◌, ◌⊎◌};
 ghost use Rattle.grammar_model.specs.Grammar.{PlainRule, rule_at};
 ghost use Rattle.grammar_model.specs.Checked.{IsFault, SequenceLhs, Duplicate, SequencesAreAlone, RulesDiffer, IsDuplicate};
-ghost use Rattle.grammar_check.specs.Rows.{rows_of};
+ghost use Rattle.slot_analysis.specs.Rows.{rows_of};
 ghost use Rattle.grammar_check.specs.Shared.{IsSequenceAt, HasTwo, HasSequence, Marks, HasTexts};
 
-use crate::slots::left_of;
 use grammar_core::{Rule, RuleId, SymbolId, Written, WrittenRule};
 use indexmap::IndexSet;
+use slot_analysis::left_of;
 use std::alloc::{AllocError, AllocFailed, Global};
 
 fn is_sequence(w: &Written, i: usize) -> bool

@@ -1,6 +1,6 @@
 //! Shortest cycles through a slot.
 ghost use Rattle.std.specs.Prelude.{◌≡◌, ℕ, suc, ◌+◌, ◌-◌, ◌^◌, ◌<◌, ◌≤◌, length, slice_index, All, Contains, IsTrue, ◌↔◌, IfOk, IfSome, IsNone, MatchOption};
-ghost use Rattle.grammar_check.specs.Rows.{rows_of};
+ghost use Rattle.slot_analysis.specs.Rows.{rows_of};
 ghost use Rattle.grammar_check.specs.Links.{Tied, Step, Walks, AreFloors, AreRows, StepsInto, AreLayers, IsLeastNext, IsLeastPath};
 
 use crate::layers::layers_of;

@@ -1,13 +1,14 @@
 //! Slots by their numbers.
 ghost use Rattle.std.specs.Prelude.{◌≡◌, ℕ, ◌+◌, ◌<◌, ◌≤◌, length, slice_index, All, IfOk};
-ghost use Rattle.grammar_check.specs.Slots.{number, IsNumbering, IsNumbered};
+ghost use Rattle.slot_analysis.specs.Slots.{number, IsNumbering, IsNumbered};
 ghost use Rattle.grammar_check.specs.Told.{slot_with, IsHomed, AreSlotsAt};
 
-use grammar_core::{SymbolId, Written};
+use grammar_core::SymbolId;
+use slot_analysis::Packed;
 use std::alloc::{AllocError, Global};
 
 // The symbol of each number.
-fn homes_of(alloc: Global, w: &Written, bases: &[u32]) -> Result<Vec<u32>, AllocError>
+fn homes_of(alloc: Global, w: &Packed<'_>, bases: &[u32]) -> Result<Vec<u32>, AllocError>
     requires { IsNumbering w.now bases.now }
     ensures { IfOk result (λ homes. IsHomed w.now bases.now homes.items) }
 {
@@ -18,7 +19,7 @@ fn homes_of(alloc: Global, w: &Written, bases: &[u32]) -> Result<Vec<u32>, Alloc
     Ok(homes)
 }
 
-fn slot_at(w: &Written, bases: &[u32], homes: &[u32], x: u32) -> (SymbolId, u32)
+fn slot_at(w: &Packed<'_>, bases: &[u32], homes: &[u32], x: u32) -> (SymbolId, u32)
     requires numbering { IsNumbering w.now bases.now }
     requires homes { IsHomed w.now bases.now homes.now }
     requires known { x < slice_index bases.now (length w.now.names) }
@@ -33,7 +34,7 @@ fn slot_at(w: &Written, bases: &[u32], homes: &[u32], x: u32) -> (SymbolId, u32)
 /// The slots with these numbers.
 pub fn slots_at(
     alloc: Global,
-    w: &Written,
+    w: &Packed<'_>,
     bases: &[u32],
     path: &[u32],
 ) -> Result<Vec<(SymbolId, u32)>, AllocError>

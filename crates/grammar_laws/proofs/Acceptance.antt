@@ -10,7 +10,7 @@ use Rattle.grammar_model.specs.Acceptable.{Spells, IsAcceptable}
 use Rattle.grammar_model.proofs.Productive.{nullable_by}
 use Rattle.recognizer_model.proofs.Moved.{moved as moved_tree, moved_all, count-moved, tree_moved, front_moved}
 use Rattle.recognizer_model.proofs.Words.{line_forward, spells-append}
-use Rattle.grammar_check.proofs.Rounds.{item_first}
+use Rattle.slot_analysis.proofs.Rounds.{item_first}
 use Rattle.finite_sets.specs.Decided.{IsDecided}
 use Rattle.finite_sets.proofs.Deciding.{both, one_of, moved, equal, at_most, is_true}
 use Rattle.grammar_laws.specs.Laws.{GoForward, Told, AcceptableAreDecided, ToldAcceptableAreDecided}

@@ -9,7 +9,7 @@ use Rattle.grammar_model.specs.Trees.{Tree}
 use Rattle.grammar_model.specs.Derives.{Edges, Held, Derives}
 use Rattle.grammar_model.specs.Checked.{IsChecked, Refusal, Refuses}
 use Rattle.grammar_model.specs.Acceptable.{IsAcceptable}
-use Rattle.grammar_check.specs.Tested.{HasTests}
+use Rattle.slot_analysis.specs.Tested.{HasTests}
 use Rattle.recognizer_model.specs.declared.Item.{Item}
 use Rattle.recognizer_model.specs.Flat.{FlatGrammar}
 use Rattle.recognizer_model.specs.Items.{InSet}

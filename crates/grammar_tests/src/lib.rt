@@ -12,4 +12,6 @@ mod lengths;
 #[cfg(test)]
 mod sets;
 #[cfg(test)]
+mod vast_levels;
+#[cfg(test)]
 mod written;

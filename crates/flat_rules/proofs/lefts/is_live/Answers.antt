@@ -1,9 +1,9 @@
 use Rattle.std.proofs.Common.{arith, ◌<◌, subst, sym, ◌∙◌, inl, inr, refl, true≢false, ap}
 use Rattle.grammar_model.specs.Grammar.{Grammar, rule_at, child_slot}
 use Rattle.grammar_model.specs.Analysis.{IsProductive}
-use Rattle.grammar_check.specs.Slots.{needed_of}
-use Rattle.grammar_check.proofs.Search.{same_or_below}
-use Rattle.grammar_check.proofs.StepLemmas.{all_needed}
+use Rattle.slot_analysis.specs.Slots.{needed_of}
+use Rattle.slot_analysis.proofs.Search.{same_or_below}
+use Rattle.slot_analysis.proofs.StepLemmas.{all_needed}
 use Rattle.flat_rules.proofs.lefts.is_live.Goals as goal
 
 pub returns-then-not-is_child_productive : goal.returns-then-not-is_child_productive

@@ -2,12 +2,12 @@ use Rattle.std.proofs.Common.{arith, ◌≡◌, ◌⊎◌, ◌↔◌, inl, inr, 
 use Rattle.std.specs.Option.{IfSome, IsNone}
 use Rattle.std.specs.declared.vec.Vec.{Vec}
 use Rattle.std.specs.declared.alloc.Global.{Global}
-use Rattle.grammar_check.specs.Least.{Clause, AreBelow, IsLeastSet}
-use Rattle.grammar_check.specs.Rows.{rows_of}
+use Rattle.slot_analysis.specs.Least.{Clause, AreBelow, IsLeastSet}
+use Rattle.slot_analysis.specs.Rows.{rows_of}
 use Rattle.grammar_check.specs.Links.{Walks, AreRows, AreFloors, IsLeastPath}
 use Rattle.grammar_check.specs.Settled.{IsOfNodes, IsOfUses, NoneBelow, Rises}
-use Rattle.grammar_check.proofs.RowLemmas.{rows_length}
-use Rattle.grammar_check.proofs.Search.{same_or_below}
+use Rattle.slot_analysis.proofs.RowLemmas.{rows_length}
+use Rattle.slot_analysis.proofs.Search.{same_or_below}
 use Rattle.grammar_check.proofs.Settling.{settled_none, all_rise, all_settled, settling_below}
 use Rattle.grammar_check.proofs.cycles.least_cycle.Goals as goal
 use Rattle.grammar_check.proofs.cycles.least_cycle.Goals.{then-not-is_found+in_ok-path+in_default, else-not-is_found}

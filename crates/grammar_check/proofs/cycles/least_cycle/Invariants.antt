@@ -1,4 +1,4 @@
-use Rattle.grammar_check.specs.Rows.{rows_of}
+use Rattle.slot_analysis.specs.Rows.{rows_of}
 use Rattle.grammar_check.specs.Settled.{NoneBelow}
 use Rattle.grammar_check.proofs.cycles.least_cycle.Given as goal
 

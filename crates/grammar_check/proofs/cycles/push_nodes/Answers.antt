@@ -1,9 +1,9 @@
 use Rattle.std.proofs.Common.{arith, ◌≡◌, ℕ, ◌<◌, ◌+◌, ◌++◌, ◌∷◌, [], List, subst, sym, ap, ◌∙◌, All, map}
-use Rattle.grammar_check.specs.Rows.{rows_of, row_at}
+use Rattle.slot_analysis.specs.Rows.{rows_of, row_at}
 use Rattle.grammar_check.specs.Settled.{node_clause, IsOfNodes}
-use Rattle.grammar_check.proofs.RowLemmas.{row_is}
+use Rattle.slot_analysis.proofs.RowLemmas.{row_is}
 use Rattle.grammar_check.proofs.Gaining.{row_known}
-use Rattle.grammar_check.proofs.More.{more_none, more_by, more_pushed}
+use Rattle.slot_analysis.proofs.More.{more_none, more_by, more_pushed}
 use Rattle.grammar_check.proofs.Settling.{nodes_split}
 use Rattle.grammar_check.proofs.cycles.push_nodes.Goals as goal
 

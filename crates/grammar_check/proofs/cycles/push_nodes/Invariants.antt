@@ -1,5 +1,5 @@
-use Rattle.grammar_check.specs.Rows.{rows_of}
-use Rattle.grammar_check.specs.Steps.{HasMore}
+use Rattle.slot_analysis.specs.Rows.{rows_of}
+use Rattle.slot_analysis.specs.Steps.{HasMore}
 use Rattle.grammar_check.specs.Settled.{IsOfNodes}
 use Rattle.grammar_check.proofs.cycles.push_nodes.Given as goal
 

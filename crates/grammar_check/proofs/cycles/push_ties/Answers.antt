@@ -1,6 +1,6 @@
 use Rattle.std.proofs.Common.{arith, ◌≡◌, ◌+◌}
 use Rattle.grammar_check.specs.Settled.{use_clause, IsOfUses}
-use Rattle.grammar_check.proofs.More.{more_none, more_by, more_pushed}
+use Rattle.slot_analysis.proofs.More.{more_none, more_by, more_pushed}
 use Rattle.grammar_check.proofs.Settling.{uses_split}
 use Rattle.grammar_check.proofs.cycles.push_ties.Goals as goal
 

@@ -1,4 +1,4 @@
-use Rattle.grammar_check.specs.Steps.{HasMore}
+use Rattle.slot_analysis.specs.Steps.{HasMore}
 use Rattle.grammar_check.specs.Settled.{IsOfUses}
 use Rattle.grammar_check.proofs.cycles.push_ties.Given as goal
 

@@ -1,5 +1,5 @@
 use Rattle.std.proofs.Common.{arith, ◌≡◌, inl, inr, List, [], Contains, subst}
-use Rattle.grammar_check.specs.Least.{Clause}
+use Rattle.slot_analysis.specs.Least.{Clause}
 use Rattle.grammar_check.proofs.cycles.settling.Goals as goal
 
 none : (old : List Clause) (d : Clause) → old ≡ [] → Contains old d → ⊥

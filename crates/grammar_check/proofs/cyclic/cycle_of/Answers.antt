@@ -2,11 +2,11 @@ use Rattle.std.proofs.Common.{◌≡◌, ℕ, ◌<◌, List, All, Option, Some, 
 use Rattle.std.specs.Option.{IfSome, IsNone}
 use Rattle.std.specs.declared.vec.Vec.{Vec}
 use Rattle.std.specs.declared.alloc.Global.{Global}
-use Rattle.grammar_check.specs.Rows.{rows_of}
+use Rattle.slot_analysis.specs.Rows.{rows_of}
 use Rattle.grammar_check.specs.Links.{AreRows, AreFloors, IsLeastPath}
 use Rattle.grammar_check.specs.Settled.{NoneBelow, Rises}
 use Rattle.grammar_check.specs.Told.{AreSlotsAt}
-use Rattle.grammar_check.proofs.RowLemmas.{rows_length}
+use Rattle.slot_analysis.proofs.RowLemmas.{rows_length}
 use Rattle.grammar_check.proofs.SlotCycles.{floors_are, rows_are, path_known, cycle_told, slots_of_grammar, heights}
 use Rattle.grammar_check.proofs.cyclic.cycle_of.Goals as goal
 

@@ -1,6 +1,6 @@
 use Rattle.std.proofs.Common.{arith, ◌≡◌, ◌+◌, ap, ◌∙◌, slice_index, get_or}
 use Rattle.std.proofs.lemmas.List.{get_or_append_left}
-use Rattle.grammar_check.specs.Rows.{rows_of}
+use Rattle.slot_analysis.specs.Rows.{rows_of}
 use Rattle.grammar_check.specs.Links.{Step, StepsInto}
 use Rattle.grammar_check.proofs.Gaining.{gains_both, gains_same, into_more}
 use Rattle.grammar_check.proofs.layers.grow.Goals as goal

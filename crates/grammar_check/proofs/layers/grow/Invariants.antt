@@ -1,4 +1,4 @@
-use Rattle.grammar_check.specs.Rows.{rows_of}
+use Rattle.slot_analysis.specs.Rows.{rows_of}
 use Rattle.grammar_check.specs.Links.{IsDown, Gains, StepsInto}
 use Rattle.grammar_check.proofs.layers.grow.Given as goal
 

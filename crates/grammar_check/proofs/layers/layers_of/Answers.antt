@@ -1,5 +1,5 @@
 use Rattle.std.proofs.Common.{arith, ◌≡◌, ℕ, ◌+◌, List, [], ◌∷◌, ◌++◌, subst, sym, ap, ◌∙◌, slice_index, length, length-append}
-use Rattle.grammar_check.specs.Rows.{rows_of}
+use Rattle.slot_analysis.specs.Rows.{rows_of}
 use Rattle.grammar_check.specs.Links.{Step, StepsInto, Gains, AreLayers}
 use Rattle.grammar_check.proofs.Layering.{layers_first, turn_order, turn_closed, turn_more, all_known, step_known}
 use Rattle.grammar_check.proofs.layers.layers_of.Goals as goal

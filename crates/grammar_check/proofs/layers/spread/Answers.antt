@@ -1,8 +1,8 @@
 use Rattle.std.proofs.Common.{◌≡◌, ℕ, ◌<◌, List, All, Contains, subst, sym, ◌∙◌, length}
 use Rattle.std.specs.Result.{OnOk}
-use Rattle.grammar_check.specs.Rows.{rows_of, row_at}
+use Rattle.slot_analysis.specs.Rows.{rows_of, row_at}
 use Rattle.grammar_check.specs.Links.{Tied, Gains}
-use Rattle.grammar_check.proofs.RowLemmas.{row_is}
+use Rattle.slot_analysis.proofs.RowLemmas.{row_is}
 use Rattle.grammar_check.proofs.Gaining.{row_known}
 use Rattle.grammar_check.proofs.layers.spread.Goals as goal
 

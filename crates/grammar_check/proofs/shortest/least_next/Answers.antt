@@ -1,5 +1,5 @@
 use Rattle.std.proofs.Common.{arith, ◌≡◌, inl, inr, subst, sym, ap, ◌∙◌, slice_index, get_or, true≢false}
-use Rattle.grammar_check.specs.Rows.{rows_of}
+use Rattle.slot_analysis.specs.Rows.{rows_of}
 use Rattle.grammar_check.proofs.Choosing.{Chosen, chosen_more, chosen_next}
 use Rattle.grammar_check.proofs.shortest.least_next.Goals as goal
 use Rattle.grammar_check.proofs.shortest.least_next.Goals.{then-t-best+then-has_step, else-t-best, else-t-best-via-then-t-best+else-has_step, else-t-best-via-else-t-best}

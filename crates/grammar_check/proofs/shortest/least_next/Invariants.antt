@@ -1,4 +1,4 @@
-use Rattle.grammar_check.specs.Rows.{rows_of}
+use Rattle.slot_analysis.specs.Rows.{rows_of}
 use Rattle.grammar_check.proofs.Choosing.{Chosen}
 use Rattle.grammar_check.proofs.shortest.least_next.Given as goal
 

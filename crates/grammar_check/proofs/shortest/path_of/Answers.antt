@@ -1,5 +1,5 @@
 use Rattle.std.proofs.Common.{arith, ◌≡◌, ℕ, suc, ◌<◌, ◌≤◌, ◌+◌, ◌-◌, subst, sym, ap, slice_index, length, get_or}
-use Rattle.grammar_check.specs.Rows.{rows_of}
+use Rattle.slot_analysis.specs.Rows.{rows_of}
 use Rattle.grammar_check.specs.Links.{IsLeastPath}
 use Rattle.grammar_check.proofs.Choosing.{Partway, partway_some, partway_more, partway_end}
 use Rattle.grammar_check.proofs.shortest.path_of.Goals as goal

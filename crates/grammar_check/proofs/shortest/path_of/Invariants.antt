@@ -1,4 +1,4 @@
-use Rattle.grammar_check.specs.Rows.{rows_of}
+use Rattle.slot_analysis.specs.Rows.{rows_of}
 use Rattle.grammar_check.proofs.Choosing.{Partway}
 use Rattle.grammar_check.proofs.shortest.path_of.Given as goal
 

@@ -1,5 +1,5 @@
 use Rattle.std.proofs.Common.{◌≡◌, ◌<◌, ◌≤◌, ℕ, length, slice_index}
-use Rattle.grammar_check.specs.Slots.{end_of}
+use Rattle.slot_analysis.specs.Slots.{end_of}
 use Rattle.grammar_check.proofs.table.homes_of.Given as goal
 
 abbrev pub invariant-loop-s : goal.invariant-loop-s

@@ -1,5 +1,5 @@
 use Rattle.std.proofs.Common.{◌≡◌, ◌<◌, ℕ, length, slice_index, slice_index_or}
-use Rattle.grammar_check.specs.Slots.{number, IsNumbered}
+use Rattle.slot_analysis.specs.Slots.{number, IsNumbered}
 use Rattle.grammar_check.specs.Told.{slot_with}
 use Rattle.grammar_check.proofs.table.slots_at.Given as goal
 

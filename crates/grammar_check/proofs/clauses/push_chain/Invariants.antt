@@ -1,5 +1,0 @@
-use Rattle.grammar_check.specs.Slots.{HasChain}
-use Rattle.grammar_check.proofs.clauses.push_chain.Given as goal
-
-abbrev pub invariant-loop-next : goal.invariant-loop-next
-invariant-loop-next l = HasChain l.initial.clauses.items l.clauses.items l.from l.next

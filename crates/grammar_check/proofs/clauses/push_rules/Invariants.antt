@@ -1,6 +1,0 @@
-use Rattle.std.proofs.Common.{◌≡◌, map, ◌++◌, take}
-use Rattle.grammar_check.specs.Slots.{rule_clause}
-use Rattle.grammar_check.proofs.clauses.push_rules.Given as goal
-
-abbrev pub invariant-loop-i : goal.invariant-loop-i
-invariant-loop-i l = l.clauses.items ≡ l.initial.clauses.items ++ map (rule_clause l.separators l.bases) (take l.i l.w.rules)

@@ -1,5 +1,0 @@
-use Rattle.grammar_check.specs.Slots.{HasTerminals}
-use Rattle.grammar_check.proofs.clauses.push_terminals.Given as goal
-
-abbrev pub invariant-loop-s : goal.invariant-loop-s
-invariant-loop-s l = HasTerminals l.bases l.lefts l.s l.initial.clauses.items l.clauses.items

@@ -1,5 +1,0 @@
-use Rattle.grammar_check.specs.Steps.{HasMore, IsOfNexts}
-use Rattle.grammar_check.proofs.steps.push_nexts.Given as goal
-
-abbrev pub invariant-loop-s : goal.invariant-loop-s
-invariant-loop-s l = HasMore l.initial.clauses.items l.clauses.items (IsOfNexts l.bases l.total l.s)

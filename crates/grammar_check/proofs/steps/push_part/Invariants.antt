@@ -1,5 +1,0 @@
-use Rattle.grammar_check.specs.Steps.{HasMore, IsOfPart}
-use Rattle.grammar_check.proofs.steps.push_part.Given as goal
-
-abbrev pub invariant-loop-k : goal.invariant-loop-k
-invariant-loop-k l = HasMore l.initial.clauses.items l.clauses.items (IsOfPart l.w l.bases l.total l.i l.k)

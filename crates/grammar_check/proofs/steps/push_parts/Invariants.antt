@@ -1,5 +1,0 @@
-use Rattle.grammar_check.specs.Steps.{HasMore, IsOfParts}
-use Rattle.grammar_check.proofs.steps.push_parts.Given as goal
-
-abbrev pub invariant-loop-i : goal.invariant-loop-i
-invariant-loop-i l = HasMore l.initial.clauses.items l.clauses.items (IsOfParts l.w l.bases l.total l.i)

@@ -1,5 +1,0 @@
-use Rattle.grammar_check.specs.Steps.{HasMore, IsOfUse}
-use Rattle.grammar_check.proofs.steps.push_uses.Given as goal
-
-abbrev pub invariant-loop-x : goal.invariant-loop-x
-invariant-loop-x l = HasMore l.initial.clauses.items l.clauses.items (IsOfUse l.total l.x)

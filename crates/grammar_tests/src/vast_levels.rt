@@ -1,0 +1,76 @@
+//! The check of grammars whose rules name levels and groups by the thousand million.
+use crate::grammars::{add_rule, named};
+use grammar_check::{GrammarRefusal, check};
+use grammar_core::{Assoc, CoreRefusal, SymbolId, Written};
+use std::alloc::Global;
+use std::test::Fail;
+
+const GROUPS: u32 = 2_200_000_000;
+
+// The symbols S, E, F, n by their numbers.
+const S: u32 = 0;
+
+const E: u32 = 1;
+
+const F: u32 = 2;
+
+const N: u32 = 3;
+
+// A left side, its parts and their level.
+type Plain = (u32, &'static [u32], u32);
+
+// S ::= E F, and E and F end at the tightest and at the loosest level.
+const SUMS: &[Plain] = &[
+    (S, &[E, F], 0),
+    (E, &[E, N], 1_000_000_000),
+    (E, &[N], 2_199_999_999),
+    (F, &[F, N], 2_100_000_000),
+    (F, &[N], 0),
+];
+
+// E ::= E at one level, and an end at a tighter one.
+const LOOP: &[Plain] = &[
+    (S, &[E], 0),
+    (E, &[E], 2_000_000_000),
+    (E, &[N], 2_199_999_999),
+];
+
+fn grammar(alloc: Global, rules: &[Plain]) -> Result<Written, CoreRefusal> {
+    let mut w = named(alloc, &["S", "E", "F", "n"])?;
+    for (lhs, parts, level) in rules {
+        add_rule(alloc, &mut w, (*lhs, parts), *level, GROUPS, Assoc::Left)?;
+    }
+    w.start_add(SymbolId(S))?;
+    Ok(w)
+}
+
+#[test]
+fn vast_levels_need_few_slots(rt: HostRuntime) -> Result<(), Fail> {
+    let w = grammar(rt.alloc(), SUMS)?;
+    let Ok(c) = check(rt.alloc(), &w) else {
+        return Err(Fail::new("refused"));
+    };
+    let e = SymbolId(E);
+    let f = SymbolId(F);
+    assert!(rt; c.slot_productive(e, 1_500_000_000) && c.slot_productive(e, 2_199_999_999));
+    assert!(rt; !c.slot_productive(e, GROUPS) && c.slot_productive(SymbolId(N), GROUPS));
+    assert!(rt; c.slot_accessible(e, 0) && c.slot_accessible(e, 1_000_000_000));
+    assert!(rt; !c.slot_accessible(e, 1_000_000_001) && !c.slot_accessible(e, 2_199_999_999));
+    assert!(rt;
+        c.productive(f) && !c.slot_productive(f, 1) && !c.slot_accessible(f, 2_100_000_000)
+    );
+    Ok(())
+}
+
+#[test]
+fn a_cycle_at_a_vast_level(rt: HostRuntime) -> Result<(), Fail> {
+    let w = grammar(rt.alloc(), LOOP)?;
+    let Err(GrammarRefusal::Cyclic { cycle }) = check(rt.alloc(), &w) else {
+        return Err(Fail::new("no cycle is told"));
+    };
+    assert!(rt; cycle.len() == 2);
+    for (symbol, level) in &cycle {
+        assert!(rt; symbol.0 == E && *level == 2_000_000_000);
+    }
+    Ok(())
+}

@@ -1,0 +1,15 @@
+use Rattle.std.proofs.Common.{arith, ◌≡◌, ◌+◌, sym, ap, ◌∙◌, slice_index, length, refl, suc}
+use Rattle.slot_analysis.proofs.Linking.{filled_more}
+use Rattle.slot_analysis.proofs.links.floors_of.Goals as goal
+
+pub loop-s-preserved : goal.loop-s-preserved
+loop-s-preserved c =
+    let lt = c.loop-s-test.true in
+    let next = ap (slice_index c.args.bases.now) (let z : suc c.loop-s.s ≡ c.loop-s.s + 1 = omega arith in z) in
+    let size : length c.loop-s.floors.items ≡ slice_index c.args.bases.now c.loop-s.s = c.loop-s.invariant.sized in
+    let size' : length c.resize.new.self.items ≡ slice_index c.args.bases.now (c.loop-s.s + 1) = omega (arith, c.in_ok-resize.ensures.len) in
+    record {
+      sized = size';
+      floor = filled_more (slice_index c.args.bases.now) c.args.w.now c.args.bases.now c.loop-s.floors.items c.resize.new.self.items c.loop-s.s c.requires (omega (arith, lt, c.symbol_count-s-end.ensures.count)) size (size' ∙ sym next)
+          (λ k d a b. c.in_ok-resize.ensures.by_index.0 k d (omega (arith, a, next)) (omega (arith, b))) (λ k d a b. c.in_ok-resize.ensures.by_index.1 k d refl (omega (arith, a)) (omega (arith, b, next))) c.loop-s.invariant.floor;
+    }

@@ -1,0 +1,162 @@
+//! Steps between slots: from a slot to one that can stand in its tree with nothing beside it.
+ghost use Rattle.std.specs.Prelude.{true, false, ◌≡◌, ◌≢◌, ℕ, suc, ◌+◌, ◌-◌, ◌<◌, ◌≤◌, ◌^◌, length, slice_index, Contains, IfOk, OnOk, IsTrue, ◌↔◌};
+ghost use Rattle.grammar_model.specs.Grammar.{rule_at, child_slot, slot_of};
+ghost use Rattle.grammar_model.specs.Analysis.{IsNullable, IsProductive, IsAccessible};
+ghost use Rattle.slot_analysis.specs.Rows.{rows_of, row_at};
+ghost use Rattle.slot_analysis.specs.Slots.{number, end_of, IsNumbering, needed_of};
+ghost use Rattle.slot_analysis.specs.Clauses.{IsAnalysis};
+ghost use Rattle.slot_analysis.specs.Steps.{head_of, IsReach};
+ghost use Rattle.slot_analysis.specs.Linked.{HasPairs, IsLinkAt, IsLinkOf, IsLinkTo, IsFloored};
+
+use crate::clauses::{child_number, head_number};
+use crate::least::{add_to_row, empty_rows, is_found};
+use crate::packed::Packed;
+use indexmap::IndexSet;
+use std::alloc::{AllocError, AllocFailed, Global};
+
+/// A grammar's slots with what they can do.
+#[derive(Clone, Copy)]
+pub struct Slots<'a> {
+    pub levels: &'a [Vec<u32>],
+    pub bases: &'a [u32],
+    pub nullable: &'a IndexSet<u32>,
+    pub productive: &'a IndexSet<u32>,
+    pub reach: &'a IndexSet<u32>,
+}
+
+fn is_part_nullable(
+    w: &Packed<'_>,
+    bases: &[u32],
+    nullable: &IndexSet<u32>,
+    i: usize,
+    k: usize,
+) -> bool
+    requires rule { i < length w.now.rules }
+    requires numbering { IsNumbering w.now bases.now }
+    requires nullable { IsAnalysis true w.now bases.now nullable.now.keys }
+    requires part { k < needed_of (rule_at w.now i) }
+    ensures { IsTrue result ↔ IsNullable w.now (child_slot (rule_at w.now i) k) }
+{
+    let _ = w.rule_count();
+    is_found(nullable, child_number(w, bases, i, k))
+}
+
+// Whether the part can stand in a tree of a start.
+fn is_part_used(w: &Packed<'_>, slots: &Slots<'_>, i: usize, k: usize) -> bool
+    requires rule { i < length w.now.rules }
+    requires numbering { IsNumbering w.now slots.now.bases.now }
+    requires productive { IsAnalysis false w.now slots.now.bases.now slots.now.productive.now.keys }
+    requires reach { IsReach w.now slots.now.bases.now slots.now.reach.now.keys }
+    requires part { k < needed_of (rule_at w.now i) }
+    ensures { IsTrue result ↔ (IsAccessible w.now (child_slot (rule_at w.now i) k) × IsProductive w.now (child_slot (rule_at w.now i) k)) }
+{
+    let _ = w.rule_count();
+    let child = child_number(w, slots.bases, i, k);
+    is_found(slots.reach, child) && is_found(slots.productive, child)
+}
+
+// The first part that is not nullable, or how many parts there are.
+fn first_solid(w: &Packed<'_>, bases: &[u32], nullable: &IndexSet<u32>, i: usize) -> usize
+    requires rule { i < length w.now.rules }
+    requires numbering { IsNumbering w.now bases.now }
+    requires nullable { IsAnalysis true w.now bases.now nullable.now.keys }
+    ensures within { result ≤ needed_of (rule_at w.now i) }
+    ensures before { (j : ℕ) → j < result → IsNullable w.now (child_slot (rule_at w.now i) j) }
+    ensures at { result < needed_of (rule_at w.now i) → IsNullable w.now (child_slot (rule_at w.now i) result) → ⊥ }
+{
+    let _ = w.rule_count();
+    let count = w.needed_count(i);
+    for k in 0..count {
+        if !is_part_nullable(w, bases, nullable, i, k) {
+            return k;
+        }
+    }
+    count
+}
+
+// One past the last part that is not nullable, or 0.
+fn solid_end(w: &Packed<'_>, bases: &[u32], nullable: &IndexSet<u32>, i: usize) -> usize
+    requires rule { i < length w.now.rules }
+    requires numbering { IsNumbering w.now bases.now }
+    requires nullable { IsAnalysis true w.now bases.now nullable.now.keys }
+    ensures within { result ≤ needed_of (rule_at w.now i) }
+    ensures behind { (j : ℕ) → result ≤ j → j < needed_of (rule_at w.now i) → IsNullable w.now (child_slot (rule_at w.now i) j) }
+    ensures last { 0 < result → IsNullable w.now (child_slot (rule_at w.now i) (result - 1)) → ⊥ }
+{
+    let _ = w.rule_count();
+    let mut end = 0;
+    for k in 0..w.needed_count(i) {
+        if !is_part_nullable(w, bases, nullable, i, k) {
+            end = k + 1;
+        }
+    }
+    end
+}
+
+// Whether the parts that are not nullable are none but this one.
+fn lies_between(k: usize, first: usize, end: usize) -> bool
+    ensures { IsTrue result ↔ ((k ≤ first) × (end ≤ k + 1)) }
+{
+    k <= first && end.saturating_sub(1) <= k
+}
+
+// The steps of a rule.
+fn add_links(
+    w: &Packed<'_>,
+    slots: &Slots<'_>,
+    i: usize,
+    rows: &mut Vec<Vec<u32>>,
+) -> Result<(), AllocFailed<u32>>
+    requires rule { i < length w.now.rules }
+    requires numbering { IsNumbering w.now slots.now.bases.now }
+    requires nullable { IsAnalysis true w.now slots.now.bases.now slots.now.nullable.now.keys }
+    requires productive { IsAnalysis false w.now slots.now.bases.now slots.now.productive.now.keys }
+    requires reach { IsReach w.now slots.now.bases.now slots.now.reach.now.keys }
+    requires sized { length rows.old.items ≡ slice_index slots.now.bases.now (length w.now.names) }
+    ensures { OnOk result (HasPairs (rows_of rows.old.items) (rows_of rows.new.items) (IsLinkOf w.now slots.now.bases.now i (needed_of (rule_at w.now i)))) }
+{
+    let _ = w.rule_count();
+    let head = head_number(w, slots.bases, i);
+    let first = first_solid(w, slots.bases, slots.nullable, i);
+    let end = solid_end(w, slots.bases, slots.nullable, i);
+    for k in 0..w.needed_count(i) {
+        if lies_between(k, first, end) && is_part_used(w, slots, i, k) {
+            let child = child_number(w, slots.bases, i, k) as usize;
+            add_to_row(rows, child, head)?;
+        }
+    }
+    Ok(())
+}
+
+/// The rows of all steps: for each slot, the tightest slots from which there is one to it.
+pub fn links_of(
+    alloc: Global,
+    w: &Packed<'_>,
+    slots: &Slots<'_>,
+) -> Result<Vec<Vec<u32>>, AllocError>
+    requires numbering { IsNumbering w.now slots.now.bases.now }
+    requires nullable { IsAnalysis true w.now slots.now.bases.now slots.now.nullable.now.keys }
+    requires productive { IsAnalysis false w.now slots.now.bases.now slots.now.productive.now.keys }
+    requires reach { IsReach w.now slots.now.bases.now slots.now.reach.now.keys }
+    ensures length { IfOk result (λ rows. length rows.items ≡ slice_index slots.now.bases.now (length w.now.names)) }
+    ensures links { IfOk result (λ rows. (t h : ℕ) → Contains (row_at (rows_of rows.items) t) h ↔ IsLinkTo w.now slots.now.bases.now (length w.now.rules) t h) }
+{
+    let bound = slots.bases[w.symbol_count()] as usize;
+    let mut rows = empty_rows(alloc, bound)?;
+    for i in 0..w.rule_count() {
+        add_links(w, slots, i, &mut rows)?;
+    }
+    Ok(rows)
+}
+
+/// For each slot's number the first of its symbol.
+pub fn floors_of(alloc: Global, w: &Packed<'_>, bases: &[u32]) -> Result<Vec<u32>, AllocError>
+    requires { IsNumbering w.now bases.now }
+    ensures { IfOk result (λ floors. IsFloored w.now bases.now floors.items) }
+{
+    let mut floors = Vec::new(alloc);
+    for s in 0..w.symbol_count() {
+        floors.resize(bases[s + 1] as usize, bases[s])?;
+    }
+    Ok(floors)
+}
