@@ -1,9 +1,8 @@
 -- Of the items of a set that wait for a symbol, the only one.
 use Rattle.std.proofs.Common.{◌≡◌, ◌≢◌, ℕ, zero, suc, ◌<◌, ◌≤◌, length, List, [], ◌∷◌, Some, None, Contains, slice_get, refl, sym, ◌∙◌, ap, subst, arith}
-use Rattle.std.specs.Prelude.{slice_index_or}
 use Rattle.std.specs.List.{AllPairs}
 use Rattle.recognizer_model.specs.declared.Item.{Item}
-use Rattle.recognizer_model.specs.Flat.{FlatGrammar, FlatRule, IsRule, no_rule}
+use Rattle.recognizer_model.specs.Flat.{FlatGrammar}
 use Rattle.recognizer_model.specs.Items.{after, IsWhole, advanced}
 use Rattle.recognizer_model.specs.Counts.{IsListOf}
 use Rattle.leo_items.specs.Steps.{IsStep}
@@ -57,12 +56,3 @@ pub part_within : (xs : List ℕ) (k x : ℕ) → slice_get xs k ≡ Some x → 
 part_within [] k x e = absurd (cc)
 part_within (y ∷ ys) zero x e = omega arith
 part_within (y ∷ ys) (suc k) x e = let h = part_within ys k x e in omega arith
-
--- a rule with a part is one of the grammar
-rule_there : (rules : List FlatRule) (r k x : ℕ) → slice_get (slice_index_or rules r no_rule).rhs k ≡ Some x → r < length rules
-rule_there [] r k x e = absurd (cc)
-rule_there (y ∷ ys) zero k x e = omega arith
-rule_there (y ∷ ys) (suc r) k x e = let h = rule_there ys r k x e in omega arith
-
-pub part_of_rule : (g : FlatGrammar) (item : Item) (x : ℕ) → after g item ≡ Some x → IsRule g item.rule
-part_of_rule g item x e = rule_there g.rules item.rule item.dot x e

@@ -1,6 +1,5 @@
-use Rattle.std.proofs.Common.{arith}
-use Rattle.std.proofs.lemmas.List.Elements.{Contains-get_or}
+use Rattle.grammar_core.proofs.Placed.{at_found}
 use Rattle.earley_sets.proofs.follow.list_advanced.Goals as goal
 
 pub advanced-requires : goal.advanced-requires
-advanced-requires c = c.requires _ (Contains-get_or c.args.waiting.now c.loop-item.item-index (record { rule = 0; dot = 0; origin = 0 }) (omega arith))
+advanced-requires c = c.requires _ (at_found c.args.waiting.now c.loop-k.k c.at.result c.at.ensures)
