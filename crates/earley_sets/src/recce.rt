@@ -161,6 +161,7 @@ pub struct Recce<'g> {
 }
 
 impl<'g> Model for Recce<'g> {
+    ghost use Rattle.std.specs.Prelude.{◌≡◌};
     ghost use Rattle.leo_items.specs.Memo.{pairs_of};
     ghost use Rattle.earley_sets.specs.Recognizer.{Recognizer, IsKept};
     ghost use Rattle.earley_sets.specs.Heads.{AreHeads};

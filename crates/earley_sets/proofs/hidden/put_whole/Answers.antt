@@ -28,4 +28,4 @@ loop-k-preserved c = elim c.if-is_whole_from.branch [
 
 pub returns : goal.returns
 returns c item =
-    subst (λ l. Contains c.loop-k.set.keys item ↔ IsWholeFrom c.args.flat.now l c.args.from item) (take_all c.loop-k.k c.args.row.now c.loop-k-test.false) (c.loop-k.invariant item)
+    subst (λ l. Contains c.loop-k.set.keys item ↔ IsWholeFrom c.args.flat.now l c.args.from item) (take_all c.loop-k.k c.args.row.now (let n = c.len-k-end.ensures in let f = c.loop-k-test.false in omega arith)) (c.loop-k.invariant item)

@@ -17,4 +17,5 @@ invariant_of-self c = (
       (subst (λ (r : Recognizer). IsExpected r c.args.t) (sym c.self.view_is) (c.is_expected.ensures.0 (search rules)))
       c.push.result c.push.new.self c.push.ensures.ok c.push.ensures.err c.push.ensures.duplicate c.push.ensures.bad_length,
   c.self.invariant.1,
+  c.self.invariant.2,
 )

@@ -25,8 +25,8 @@ invariant_of-self g c =
     let r = c.requires in
     let s = c.self.invariant.0.is.some in
     let kept = add_kept c.self.inside.flat.now c.self.inside.start c.self.inside.edges c.self.inside.rows c.add_row.new.rows c.self.inside.top c.self.inside.memo c.self.invariant.0 c.add_row.result c.add_row.new.memo c.add_row.ensures.memo (omega arith) c.add_row.ensures.ok c.add_row.ensures.err in
-    let flat = flat_kept c.self.inside.flat.now c.self.inside.start c.self.inside.edges c.self.inside.rows c.add_row.new.rows c.self.inside.top c.self.inside.memo c.self.invariant.0 c.add_row.result c.add_row.new.memo c.self.invariant.1.1 c.add_row.ensures.ok c.add_row.ensures.err in
-    (kept, c.self.invariant.1.0, flat)
+    let flat = flat_kept c.self.inside.flat.now c.self.inside.start c.self.inside.edges c.self.inside.rows c.add_row.new.rows c.self.inside.top c.self.inside.memo c.self.invariant.0 c.add_row.result c.add_row.new.memo c.self.invariant.2 c.add_row.ensures.ok c.add_row.ensures.err in
+    (kept, c.self.invariant.1, flat)
 
 pub returns-clause-ok : goal.returns-clause-ok
 returns-clause-ok g c =
@@ -43,7 +43,7 @@ returns-clause-counted g c =
     (on_ok_weaker c.add_row.result (tried_links c.self.inside.flat.now c.self.inside.start c.self.inside.edges c.self.inside.rows c.add_row.new.rows c.self.inside.top c.self.inside.memo c.self.invariant.0 c.add_row.new.memo c.args.steps.now c.add_row.new.steps) c.add_row.ensures.counted)
 
 pub add_row-requires-clause-heads : goal.add_row-requires-clause-heads
-add_row-requires-clause-heads g c = c.self.invariant.1.0
+add_row-requires-clause-heads g c = c.self.invariant.1
 
 pub add_row-requires-clause-rows : goal.add_row-requires-clause-rows
-add_row-requires-clause-rows g c = record { flat = c.self.invariant.1.1; are = c.self.invariant.0.rows }
+add_row-requires-clause-rows g c = record { flat = c.self.invariant.2; are = c.self.invariant.0.rows }

@@ -11,7 +11,7 @@ if_ok_weaker (Ok x) f p = f x p
 if_ok_weaker (Err e) f p = p
 
 pub expected-requires-clause-flat : goal.expected-requires-clause-flat
-expected-requires-clause-flat c = c.self.invariant.1.1
+expected-requires-clause-flat c = c.self.invariant.2
 
 pub returns-clause-exact : goal.returns-clause-exact
 returns-clause-exact c =

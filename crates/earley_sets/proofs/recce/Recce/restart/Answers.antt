@@ -11,8 +11,8 @@ pub invariant_of-self : goal.invariant_of-self
 invariant_of-self c = (
   restarted c.self.inside.flat.now c.self.inside.start c.self.inside.edges c.self.inside.rows.sets c.self.inside.top c.self.inside.memo c.self.invariant.0 c.clear-2.new.self c.keep_first.new.self.sets c.clear.new.self c.clear-2.ensures
       (ap (λ (r : ItemRows). r.sets) c.keep_first.ensures) c.clear.ensures,
-  c.self.invariant.1.0,
-  ap (λ (r : ItemRows). r.flat) c.keep_first.ensures ∙ c.self.invariant.1.1,
+  c.self.invariant.1,
+  ap (λ (r : ItemRows). r.flat) c.keep_first.ensures ∙ c.self.invariant.2,
 )
 
 pub returns-clause-sets : goal.returns-clause-sets

@@ -9,4 +9,4 @@ use Rattle.earley_sets.proofs.recce.Recce.waiting.Goals as goal
 pub returns : goal.returns
 returns c item =
     subst (λ (r : Recognizer). Contains c.waiting.result item ↔ (Contains (set_at r c.args.j) item × (after r.flat item ≡ Some c.args.symbol))) c.self.view_is
-    ((waits_over c.self.inside.rows c.self.inside.flat.now (row_at c.self.inside.rows.sets c.args.j) c.waiting.result c.args.symbol c.self.invariant.1.1 c.waiting.ensures).exact item)
+    ((waits_over c.self.inside.rows c.self.inside.flat.now (row_at c.self.inside.rows.sets c.args.j) c.waiting.result c.args.symbol c.self.invariant.2 c.waiting.ensures).exact item)
