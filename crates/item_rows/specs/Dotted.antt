@@ -1,8 +1,8 @@
 -- Items packed into numbers: the number of a dotted rule in the order of rows, and an origin.
-use Rattle.std.specs.Prelude.{◌≡◌, ◌≢◌, ℕ, ◌+◌, ◌*◌, ◌/◌, ◌%◌, ◌<◌, ◌≤◌, ◌^◌, ◌↔◌, List, length, Some, slice_get, slice_index_or, Contains}
+use Rattle.std.specs.Prelude.{◌≡◌, ℕ, ◌+◌, ◌/◌, ◌%◌, ◌<◌, ◌≤◌, ◌^◌, ◌↔◌, List, length, Some, slice_get, slice_index_or, Contains}
 use Rattle.std.specs.List.{AllPairs}
 use Rattle.recognizer_model.specs.declared.Item.{Item}
-use Rattle.recognizer_model.specs.Flat.{FlatGrammar, IsRule, rhs_of}
+use Rattle.recognizer_model.specs.Flat.{FlatGrammar, rhs_of}
 use Rattle.recognizer_model.specs.Items.{after}
 use Rattle.item_rows.specs.Kept.{IsItem}
 use Rattle.item_rows.specs.declared.dotted.Span.{Span}

@@ -1,5 +1,5 @@
 use Rattle.std.proofs.Common.{◌∷◌, [], ◌∙◌, ap, List, length, length-append, arith}
-use Rattle.item_rows.proofs.Listed.{none_listed, listed_more}
+use Rattle.item_rows.proofs.Listed.{listed_more}
 use Rattle.item_rows.proofs.dotted.list_all.Goals as goal
 
 pub loop-rule-preserved : goal.loop-rule-preserved

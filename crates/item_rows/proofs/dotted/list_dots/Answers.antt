@@ -1,4 +1,4 @@
-use Rattle.item_rows.proofs.Listed.{no_dots, more_dots}
+use Rattle.item_rows.proofs.Listed.{no_dots}
 use Rattle.item_rows.proofs.dotted.list_dots.Goals as goal
 
 pub loop-dot-init : goal.loop-dot-init

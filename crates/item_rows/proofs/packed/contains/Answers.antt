@@ -1,6 +1,5 @@
-use Rattle.std.proofs.Common.{refl, ◌↔◌, sym, subst, Bool, Contains, map}
+use Rattle.std.proofs.Common.{refl, ◌↔◌, sym, subst, Contains}
 use Rattle.std.specs.Prelude.{IsTrue}
-use Rattle.item_rows.specs.Dotted.{unpacked}
 use Rattle.item_rows.proofs.Packing.{search_tells, packed_there, packed_absent}
 use Rattle.item_rows.proofs.packed.contains.Goals as goal
 

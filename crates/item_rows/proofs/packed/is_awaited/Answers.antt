@@ -1,7 +1,5 @@
-use Rattle.std.proofs.Common.{◌↔◌, ◌*◌, ◌<◌, ◌≤◌, ◌≡◌, ℕ, subst, length, map}
+use Rattle.std.proofs.Common.{◌↔◌, ◌*◌, ◌<◌, ◌≤◌, ℕ, subst, length}
 use Rattle.std.specs.Prelude.{IsTrue, slice_index}
-use Rattle.item_rows.specs.Kept.{IsAwaited}
-use Rattle.item_rows.specs.Dotted.{unpacked}
 use Rattle.item_rows.proofs.Packing.{one_awaited}
 use Rattle.item_rows.proofs.packed.is_awaited.Goals as goal
 

@@ -1,4 +1,4 @@
-use Rattle.std.proofs.Common.{◌/◌, ◌<◌, ◌⊎◌, inl, inr, List, ℕ, subst, length, Contains, arith}
+use Rattle.std.proofs.Common.{◌/◌, ◌<◌, inl, inr, List, ℕ, subst, length, Contains, arith}
 use Rattle.std.proofs.lemmas.List.Elements.{Contains-push_cases}
 use Rattle.item_rows.proofs.Packing.{pack_more}
 use Rattle.item_rows.proofs.packed.pack_all.Goals as goal

@@ -1,5 +1,4 @@
-use Rattle.std.proofs.Common.{◌↔◌, ◌-◌, ℕ, sym, ap, subst, List, length, IfOk, Result, Ok, Err}
-use Rattle.recognizer_model.specs.declared.Item.{Item}
+use Rattle.std.proofs.Common.{◌↔◌, ◌-◌, ℕ, sym, subst, length, IfOk, Result, Ok, Err}
 use Rattle.item_rows.specs.Rows.{row_at}
 use Rattle.earley_sets.specs.Kept.{IsAwaitedTerminal}
 use Rattle.earley_sets.specs.Recognizer.{Recognizer, IsExpected}

@@ -1,5 +1,4 @@
 use Rattle.std.proofs.Common.{◌≡◌, ◌↔◌, Some, subst, Contains}
-use Rattle.recognizer_model.specs.declared.Item.{Item}
 use Rattle.recognizer_model.specs.Items.{after}
 use Rattle.item_rows.specs.Rows.{row_at}
 use Rattle.item_rows.proofs.Viewing.{waits_over}

@@ -1,5 +1,4 @@
 use Rattle.std.proofs.Common.{◌∙◌, sym, ap, subst, refl, ℕ, List, ◌+◌, ◌++◌, ◌∷◌, [], length, map, take}
-use Rattle.std.proofs.lemmas.Result.{on_ok_weaker}
 use Rattle.item_rows.specs.Rows.{ItemRows, cut, last_end}
 use Rattle.item_rows.specs.Kept.{AreItems}
 use Rattle.item_rows.specs.Dotted.{unpacked}

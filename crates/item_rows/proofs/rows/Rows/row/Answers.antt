@@ -1,13 +1,7 @@
-use Rattle.std.proofs.Common.{◌≡◌, ◌↔◌, ◌<◌, ℕ, sym, subst, List, length, Some, Contains, map}
-use Rattle.std.specs.Prelude.{IsTrue}
+use Rattle.std.proofs.Common.{◌<◌, ℕ, sym, subst, List, length}
 use Rattle.recognizer_model.specs.declared.Item.{Item}
-use Rattle.recognizer_model.specs.Flat.{FlatGrammar}
-use Rattle.recognizer_model.specs.Items.{after}
-use Rattle.recognizer_model.specs.Counts.{IsListOf}
-use Rattle.item_rows.specs.Rows.{ItemRows, row_at}
-use Rattle.item_rows.specs.Kept.{IsAwaited}
 use Rattle.item_rows.specs.Dotted.{IsPackedRow}
-use Rattle.item_rows.proofs.Viewing.{in_ends, packed_here, seen_here}
+use Rattle.item_rows.proofs.Viewing.{in_ends, packed_here}
 use Rattle.item_rows.proofs.rows.Rows.row.Goals as goal
 
 pub row_between-packed-requires-clause-place : goal.row_between-packed-requires-clause-place
