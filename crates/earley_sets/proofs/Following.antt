@@ -1,5 +1,7 @@
-use Rattle.std.proofs.Common.{◌≡◌, ℕ, zero, suc, ◌<◌, ◌≤◌, ◌++◌, ◌↔◌, ◌⊎◌, inl, inr, List, [], ◌∷◌, length, map, slice_get, Some, None, Contains, refl, sym, ◌∙◌, ap, subst, arith}
+use Rattle.std.proofs.Common.{◌≡◌, ℕ, zero, suc, ◌+◌, ◌<◌, ◌≤◌, ◌++◌, append_assoc, take, ◌↔◌, ◌⊎◌, inl, inr, List, [], ◌∷◌, length, map, slice_get, Some, None, Contains, refl, sym, ◌∙◌, ap, subst, arith}
+use Rattle.std.proofs.lemmas.List.{take_more}
 use Rattle.std.proofs.lemmas.List.Elements.{Contains-append_left, Contains-append_right, Contains-push, Contains-push_cases, Contains-append_cases}
+use Rattle.grammar_core.proofs.Halving.{index_get}
 use Rattle.recognizer_model.specs.declared.Item.{Item}
 use Rattle.recognizer_model.specs.Flat.{FlatGrammar, IsRule, lhs_of, rhs_of, IsNullable}
 use Rattle.recognizer_model.specs.Items.{after, first_item, advanced}
@@ -11,6 +13,19 @@ use Rattle.leo_items.specs.ByRows.{IsNotLeoIn, LeadsIn, pair_of}
 use Rattle.leo_items.proofs.Chains.{has_leo, leads_one, leads_item}
 use Rattle.earley_sets.specs.Closing.{IsPredicted, BeginTogether, IsBegun, IsAdvancedOver, IsDone, Follows, Predicts, Skips, Completes, Leaps, FollowsAnew}
 use Rattle.earley_sets.proofs.Membership.{Contains-map, Contains-map_from}
+
+-- one more item with its dot advanced
+pub advanced_more : (row : List Item) (k : ℕ) (x : Item) → slice_get row k ≡ Some x → (first old new : List Item) (y : Item) → old ≡ first ++ map advanced (take k row) → new ≡ old ++ y ∷ [] → y ≡ advanced x →
+    new ≡ first ++ map advanced (take (k + 1) row)
+advanced_more row k x is first old new y before more same =
+    let (lt, at) = index_get row k x x is in
+    let next : take (k + 1) row ≡ take k row ++ x ∷ [] = take_more row k x lt ∙ ap (λ z. take k row ++ z ∷ []) at in
+    more ∙ (ap (λ l. l ++ y ∷ []) before ∙ (ap (λ z. (first ++ map advanced (take k row)) ++ z ∷ []) same
+    ∙ (append_assoc first (map advanced (take k row)) (advanced x ∷ []) ∙ ap (λ l. first ++ l) (sym (ap (map advanced) next ∙ map_append (take k row))))))
+  where
+    map_append : (xs : List Item) → map advanced (xs ++ x ∷ []) ≡ map advanced xs ++ advanced x ∷ []
+    map_append [] = refl
+    map_append (z ∷ xs) = ap (λ l. advanced z ∷ l) (map_append xs)
 
 -- the rules of a symbol, and a set in which they begin together
 module _ (g : FlatGrammar) (place x from to : ℕ) (listed : (r : ℕ) → ((from ≤ r) × (r < to)) ↔ (IsRule g r × (lhs_of g r ≡ x))) (set old : List Item) (together : BeginTogether g place set) where

@@ -14,6 +14,7 @@ use Rattle.recognizer_model.specs.Leo.{InReduced, InExpanded, IsHidden}
 use Rattle.recognizer_model.specs.Counts.{IsListOf}
 use Rattle.recognizer_model.proofs.Leo.{origin_below, reduced_inside, expanded_inside, expands_to_all}
 use Rattle.recognizer_model.proofs.Over.{hidden_whole}
+use Rattle.grammar_core.proofs.Halving.{index_get}
 use Rattle.item_rows.specs.Rows.{row_at}
 use Rattle.item_rows.specs.Kept.{IsItem, AreRows}
 use Rattle.leo_items.proofs.Chains.{leo_inside}
@@ -36,9 +37,9 @@ module _ (g : FlatGrammar) (from : ℕ) where
   pub whole_none : (keys : List Item) → keys ≡ [] → AreWhole [] keys
   whole_none keys none item = (λ h. absurd (Contains-none item (subst (λ l. Contains l item) none h)), λ (c, w, le). absurd (Contains-none item c))
 
-  pub whole_add : (row old new : List Item) (k : ℕ) (d : Item) → k < length row → AreWhole (take k row) old → IsWhole g (get_or row k d) × (from ≤ (get_or row k d).origin) →
+  add_got : (row old new : List Item) (k : ℕ) (d : Item) → k < length row → AreWhole (take k row) old → IsWhole g (get_or row k d) × (from ≤ (get_or row k d).origin) →
       Adds old new (get_or row k d) → AreWhole (take (k + 1) row) new
-  whole_add row old new k d lt are is adds item = subst (λ l. Contains new item ↔ IsWholeFrom g l from item) (sym (take_more row k d lt)) (
+  add_got row old new k d lt are is adds item = subst (λ l. Contains new item ↔ IsWholeFrom g l from item) (sym (take_more row k d lt)) (
     λ h. elim ((Adds-has old new (get_or row k d) item adds).0 h) [
       | inl o ↦ let (c, w, le) = (are item).0 o in (Contains-append_left (take k row) (get_or row k d ∷ []) item c, w, le)
       | inr e ↦ subst (λ z. Contains (take k row ++ get_or row k d ∷ []) z × IsWhole g z × (from ≤ z.origin)) e (Contains-push (take k row) (get_or row k d), is.0, is.1)
@@ -49,14 +50,23 @@ module _ (g : FlatGrammar) (from : ℕ) where
     ]),
   )
 
-  pub whole_skip : (row old : List Item) (k : ℕ) (d : Item) → k < length row → AreWhole (take k row) old → ¬ (IsWhole g (get_or row k d) × (from ≤ (get_or row k d).origin)) → AreWhole (take (k + 1) row) old
-  whole_skip row old k d lt are none item = subst (λ l. Contains old item ↔ IsWholeFrom g l from item) (sym (take_more row k d lt)) (
+  skip_got : (row old : List Item) (k : ℕ) (d : Item) → k < length row → AreWhole (take k row) old → ¬ (IsWhole g (get_or row k d) × (from ≤ (get_or row k d).origin)) → AreWhole (take (k + 1) row) old
+  skip_got row old k d lt are none item = subst (λ l. Contains old item ↔ IsWholeFrom g l from item) (sym (take_more row k d lt)) (
     λ h. (let (c, w, le) = (are item).0 h in (Contains-append_left (take k row) (get_or row k d ∷ []) item c, w, le)),
     λ (c, w, le). elim (Contains-push_cases (take k row) (get_or row k d) item c) [
       | inl o ↦ (are item).1 (o, w, le)
       | inr e ↦ absurd (none (subst (λ z. IsWhole g z × (from ≤ z.origin)) (sym e) (w, le)))
     ],
   )
+
+  module _ (row : List Item) (k : ℕ) (x : Item) (e : slice_get row k ≡ Some x) where
+    pub whole_add : (old new : List Item) → AreWhole (take k row) old → IsWhole g x × (from ≤ x.origin) → Adds old new x → AreWhole (take (k + 1) row) new
+    whole_add old new are is adds =
+        let (lt, same) = index_get row k x x e in
+        add_got row old new k x lt are (subst (λ z. IsWhole g z × (from ≤ z.origin)) (sym same) is) (subst (Adds old new) (sym same) adds)
+
+    pub whole_skip : (old : List Item) → AreWhole (take k row) old → ¬ (IsWhole g x × (from ≤ x.origin)) → AreWhole (take (k + 1) row) old
+    whole_skip old are none = let (lt, same) = index_get row k x x e in skip_got row old k x lt are (λ is. none (subst (λ z. IsWhole g z × (from ≤ z.origin)) same is))
 
 -- single steps
 module _ (g : FlatGrammar) (rows : List (List Item)) (are : AreRows g rows) (place from : ℕ) where

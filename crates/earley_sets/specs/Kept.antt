@@ -1,14 +1,9 @@
 -- What the items of a row wait for.
-use Rattle.std.specs.Prelude.{◌≡◌, ℕ, ◌<◌, ◌++◌, List, [], ◌∷◌, slice_get, Some, Contains, ◌⊎◌}
+use Rattle.std.specs.Prelude.{◌≡◌, ℕ, ◌<◌, ◌++◌, List, [], ◌∷◌, slice_get, Some, ◌⊎◌}
 use Rattle.recognizer_model.specs.declared.flat.FlatSymbol.TheVariants.{Terminal}
 use Rattle.recognizer_model.specs.declared.Item.{Item}
 use Rattle.recognizer_model.specs.Flat.{FlatGrammar}
-use Rattle.recognizer_model.specs.Items.{after}
-pub use Rattle.item_rows.specs.Kept.{IsItem, AreItems, IsRowOf, AreRows}
-
--- an item waits for the symbol
-abbrev pub IsAwaited : FlatGrammar → List Item → ℕ → Type 0
-IsAwaited g row x = (item : Item) × Contains row item × (after g item ≡ Some x)
+pub use Rattle.item_rows.specs.Kept.{IsItem, AreItems, IsAwaited, IsRowOf, AreRows, HasRows}
 
 -- an item waits for the terminal, by one of the first symbols
 abbrev pub IsAwaitedTerminal : FlatGrammar → List Item → (symbols t : ℕ) → Type 0

@@ -10,7 +10,7 @@ ghost use Rattle.recognizer_model.specs.Items.{first_item};
 ghost use Rattle.recognizer_model.specs.Leo.{InReduced};
 ghost use Rattle.recognizer_model.specs.Links.{IsLink};
 ghost use Rattle.leo_items.specs.ByRows.{IsMemo, NotesMore, AreNulled};
-ghost use Rattle.earley_sets.specs.Kept.{IsItem, AreItems, AreRows};
+ghost use Rattle.earley_sets.specs.Kept.{IsItem, AreItems, HasRows};
 ghost use Rattle.earley_sets.specs.Heads.{AreHeads};
 ghost use Rattle.earley_sets.specs.Closing.{Adds, BeginTogether, Follows, IsReached, Grows};
 ghost use Rattle.earley_sets.specs.Scanning.{IsScanned, IsScannedBy, IsSeed, GoForward, AreReduced};
@@ -21,7 +21,7 @@ use crate::heads::Heads;
 use grammar_core::{Flat, SymbolId, TokenEdges};
 use grammar_model::Edge as HeldEdge;
 use indexmap::IndexSet;
-use item_rows::{RowKey, Rows};
+use item_rows::Rows;
 use leo_items::Memo;
 use recognizer_model::Item;
 use slif_base::Steps;
@@ -71,7 +71,7 @@ fn item_at(set: &IndexSet<Item>, k: usize) -> Option<Item>
 fn close<L: Ledger>(
     flat: &Flat,
     heads: &Heads,
-    rows: &Rows,
+    rows: &Rows<'_>,
     memo: &mut Memo,
     place: u32,
     set: &mut IndexSet<Item>,
@@ -80,16 +80,16 @@ fn close<L: Ledger>(
 ) -> Result<(), AllocError>
     requires items { AreItems flat.now set.old.keys }
     requires heads { AreHeads flat.now heads.now.rules.items }
-    requires rows { AreRows flat.now rows.now }
-    requires nulled { AreNulled flat.now rows.now }
-    requires memo { IsMemo flat.now rows.now memo.old }
-    requires place { place ≤ length rows.now }
+    requires rows { HasRows flat.now rows.now }
+    requires nulled { AreNulled flat.now rows.now.sets }
+    requires memo { IsMemo flat.now rows.now.sets memo.old }
+    requires place { place ≤ length rows.now.sets }
     requires together { BeginTogether flat.now place set.old.keys }
     ensures items { OnOk result (AreItems flat.now set.new.keys) }
-    ensures memo { NotesMore flat.now rows.now memo.old memo.new }
+    ensures memo { NotesMore flat.now rows.now.sets memo.old memo.new }
     ensures closed { OnOk result ((item : Item) → Contains set.new.keys item ↔
-        IsReached (Follows flat.now rows.now place) set.old.keys item) }
-    ensures counted { OnOk result (RisesBy (MakesOne flat.now rows.now place set.new.keys) (steps.old + length memo.new) (steps.new + length memo.old)) }
+        IsReached (Follows flat.now rows.now.sets place) set.old.keys item) }
+    ensures counted { OnOk result (RisesBy (MakesOne flat.now rows.now.sets place set.new.keys) (steps.old + length memo.new) (steps.new + length memo.old)) }
 {
     for k in 0..usize::MAX {
         let Some(item) = item_at(set, k) else {
@@ -106,15 +106,15 @@ fn close<L: Ledger>(
 // Lists the items that an edge of a terminal advances.
 fn list_by_edge(
     flat: &Flat,
-    rows: &Rows,
+    rows: &Rows<'_>,
     edge: HeldEdge,
     next: &mut Vec<Item>,
 ) -> Result<(), AllocFailed<Item>>
-    requires rows { AreRows flat.now rows.now }
-    requires from { edge.from < length rows.now }
+    requires rows { HasRows flat.now rows.now }
+    requires from { edge.from < length rows.now.sets }
     ensures listed { OnOk result ((other : Item) → Contains next.new.items other ↔
-        (Contains next.old.items other ⊎ IsScannedBy flat.now rows.now edge other)) }
-    ensures links { OnOk result (RisesBy (AwaitsEdge flat.now rows.now edge) (length next.old.items) (length next.new.items)) }
+        (Contains next.old.items other ⊎ IsScannedBy flat.now rows.now.sets edge other)) }
+    ensures links { OnOk result (RisesBy (AwaitsEdge flat.now rows.now.sets edge) (length next.old.items) (length next.new.items)) }
 {
     flat.known();
     match flat.terminal(SymbolId(edge.symbol)) {
@@ -126,17 +126,17 @@ fn list_by_edge(
 // Lists the items that the edges to a place advance.
 fn list_scanned(
     flat: &Flat,
-    rows: &Rows,
+    rows: &Rows<'_>,
     edges: &TokenEdges,
     place: u32,
     ending: &mut Vec<HeldEdge>,
     next: &mut Vec<Item>,
 ) -> Result<(), AllocError>
-    requires rows { AreRows flat.now rows.now }
-    requires begun { (e : HeldEdge) → Contains edges.now e → e.from < length rows.now }
+    requires rows { HasRows flat.now rows.now }
+    requires begun { (e : HeldEdge) → Contains edges.now e → e.from < length rows.now.sets }
     ensures listed { OnOk result ((other : Item) → Contains next.new.items other ↔
-        (Contains next.old.items other ⊎ IsScanned flat.now rows.now place edges.now other)) }
-    ensures links { OnOk result (RisesBy (MakesScan flat.now rows.now place edges.now) (length next.old.items) (length next.new.items)) }
+        (Contains next.old.items other ⊎ IsScanned flat.now rows.now.sets place edges.now other)) }
+    ensures links { OnOk result (RisesBy (MakesScan flat.now rows.now.sets place edges.now) (length next.old.items) (length next.new.items)) }
 {
     edges.list_to(place, ending)?;
     for edge in &*ending {
@@ -165,16 +165,16 @@ fn list_first(top: u32, place: u32, next: &mut Vec<Item>) -> Result<(), AllocFai
 fn list_seeds(
     flat: &Flat,
     top: u32,
-    rows: &Rows,
+    rows: &Rows<'_>,
     edges: &TokenEdges,
     place: u32,
     ending: &mut Vec<HeldEdge>,
     next: &mut Vec<Item>,
 ) -> Result<(), AllocError>
-    requires rows { AreRows flat.now rows.now }
-    requires begun { (e : HeldEdge) → Contains edges.now e → e.from < length rows.now }
-    ensures listed { OnOk result ((item : Item) → Contains next.new.items item ↔ IsSeed flat.now rows.now top place edges.now item) }
-    ensures links { OnOk result (0 < place → RisesBy (MakesScan flat.now rows.now place edges.now) 0 (length next.new.items)) }
+    requires rows { HasRows flat.now rows.now }
+    requires begun { (e : HeldEdge) → Contains edges.now e → e.from < length rows.now.sets }
+    ensures listed { OnOk result ((item : Item) → Contains next.new.items item ↔ IsSeed flat.now rows.now.sets top place edges.now item) }
+    ensures links { OnOk result (0 < place → RisesBy (MakesScan flat.now rows.now.sets place edges.now) 0 (length next.new.items)) }
 {
     list_first(top, place, next)?;
     list_scanned(flat, rows, edges, place, ending, next)
@@ -207,7 +207,6 @@ fn refill<L: Ledger>(
 pub struct Work {
     pub set: IndexSet<Item>,
     pub next: Vec<Item>,
-    pub keys: Vec<RowKey>,
     pub ending: Vec<HeldEdge>,
 }
 
@@ -216,7 +215,7 @@ pub fn make_set<L: Ledger>(
     flat: &Flat,
     heads: &Heads,
     top: u32,
-    rows: &Rows,
+    rows: &Rows<'_>,
     memo: &mut Memo,
     edges: &TokenEdges,
     place: u32,
@@ -225,14 +224,14 @@ pub fn make_set<L: Ledger>(
 ) -> Result<(), AllocError>
     requires heads { AreHeads flat.now heads.now.rules.items }
     requires top { IsTop flat.now top }
-    requires sets { AreReduced flat.now edges.now top rows.now place }
-    requires rows { AreRows flat.now rows.now }
-    requires memo { IsMemo flat.now rows.now memo.old }
-    requires place { place ≡ length rows.now }
-    requires begun { (e : HeldEdge) → Contains edges.now e → e.from < length rows.now }
+    requires sets { AreReduced flat.now edges.now top rows.now.sets place }
+    requires rows { HasRows flat.now rows.now }
+    requires memo { IsMemo flat.now rows.now.sets memo.old }
+    requires place { place ≡ length rows.now.sets }
+    requires begun { (e : HeldEdge) → Contains edges.now e → e.from < length rows.now.sets }
     requires forward { GoForward edges.now }
     ensures items { OnOk result (AreItems flat.now work.new.set.keys) }
-    ensures memo { NotesMore flat.now rows.now memo.old memo.new }
+    ensures memo { NotesMore flat.now rows.now.sets memo.old memo.new }
     ensures exact { OnOk result ((item : Item) → Contains work.new.set.keys item ↔ InReduced flat.now (FlatEdges flat.now (Held edges.now)) top place item) }
     ensures counted { OnOk result (0 < place →
         RisesBy (IsLink flat.now (FlatEdges flat.now (Held edges.now)) top place) (steps.old + length memo.new) (steps.new + length memo.old)) }

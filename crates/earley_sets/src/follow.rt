@@ -4,7 +4,7 @@ ghost use Rattle.recognizer_model.specs.declared.Item.{Item};
 ghost use Rattle.recognizer_model.specs.Flat.{IsRule, lhs_of};
 ghost use Rattle.recognizer_model.specs.Items.{after, first_item, advanced as item_after};
 ghost use Rattle.item_rows.specs.Rows.{row_at};
-ghost use Rattle.earley_sets.specs.Kept.{IsItem, AreRows};
+ghost use Rattle.earley_sets.specs.Kept.{IsItem, HasRows};
 ghost use Rattle.leo_items.specs.ByRows.{IsMemo, NotesMore, AreNulled};
 ghost use Rattle.earley_sets.specs.Heads.{AreHeads};
 ghost use Rattle.earley_sets.specs.Closing.{IsPredicted, BeginTogether, IsBegun, IsAdvancedOver, IsDone, FollowsAnew};
@@ -13,7 +13,7 @@ ghost use Rattle.earley_sets.specs.Tried.{RisesBy, IsWaiting, MakesBegun, RisesB
 use crate::heads::{Heads, rules_of};
 use grammar_core::Flat;
 use indexmap::IndexSet;
-use item_rows::{Rows, waiting_in};
+use item_rows::{Row, Rows};
 use leo_items::{Memo, Pair, leo_of, pair_above, topmost};
 use recognizer_model::Item;
 use slif_base::Steps;
@@ -64,12 +64,12 @@ pub fn list_predicted(
 }
 
 /// Lists items with their dots advanced.
-pub fn list_advanced(waiting: &[Item], next: &mut Vec<Item>) -> Result<(), AllocFailed<Item>>
+pub fn list_advanced(waiting: &Row<'_>, next: &mut Vec<Item>) -> Result<(), AllocFailed<Item>>
     requires { (item : Item) → Contains waiting.now item → item.dot + 1 < 2 ^ 32 }
     ensures { OnOk result (next.new.items ≡ next.old.items ++ map item_after waiting.now) }
 {
-    for item in waiting {
-        next.push(advanced(*item))?;
+    for k in 0..waiting.len() {
+        next.push(advanced(waiting.at(k)))?;
     }
     Ok(())
 }
@@ -136,45 +136,46 @@ fn list_begun(
 // Lists the items that the completion of a symbol advances, of a set that is closed.
 pub fn list_completed(
     flat: &Flat,
-    rows: &Rows,
+    rows: &Rows<'_>,
     origin: u32,
     symbol: u32,
     next: &mut Vec<Item>,
 ) -> Result<(), AllocFailed<Item>>
-    requires rows { AreRows flat.now rows.now }
-    requires origin { origin < length rows.now }
+    requires rows { HasRows flat.now rows.now }
+    requires origin { origin < length rows.now.sets }
     ensures listed { OnOk result ((other : Item) → Contains next.new.items other ↔
-        (Contains next.old.items other ⊎ IsAdvancedOver flat.now (row_at rows.now origin) symbol other)) }
-    ensures links { OnOk result (RisesBy (IsWaiting flat.now (row_at rows.now origin) symbol) (length next.old.items) (length next.new.items)) }
+        (Contains next.old.items other ⊎ IsAdvancedOver flat.now (row_at rows.now.sets origin) symbol other)) }
+    ensures links { OnOk result (RisesBy (IsWaiting flat.now (row_at rows.now.sets origin) symbol) (length next.old.items) (length next.new.items)) }
 {
     flat.known();
-    list_advanced(waiting_in(flat, rows, origin, symbol), next)
+    let waiting = rows.waiting(origin as usize, symbol);
+    list_advanced(&waiting, next)
 }
 
 // Lists what the completion of a symbol that began in an earlier set leads to.
 fn list_done<L: Ledger>(
     flat: &Flat,
-    rows: &Rows,
+    rows: &Rows<'_>,
     memo: &mut Memo,
     pair: Pair,
     next: &mut Vec<Item>,
     steps: &mut Steps<L>,
 ) -> Result<(), AllocError>
-    requires rows { AreRows flat.now rows.now }
-    requires nulled { AreNulled flat.now rows.now }
-    requires memo { IsMemo flat.now rows.now memo.old }
-    requires set { pair.set < length rows.now }
+    requires rows { HasRows flat.now rows.now }
+    requires nulled { AreNulled flat.now rows.now.sets }
+    requires memo { IsMemo flat.now rows.now.sets memo.old }
+    requires set { pair.set < length rows.now.sets }
     ensures listed { OnOk result ((other : Item) → Contains next.new.items other ↔
-        (Contains next.old.items other ⊎ IsDone flat.now rows.now pair.set pair.symbol other)) }
-    ensures links { OnOk result (RisesByDone flat.now rows.now pair.set pair.symbol (length next.old.items) (length next.new.items)) }
-    ensures memo { NotesMore flat.now rows.now memo.old memo.new }
+        (Contains next.old.items other ⊎ IsDone flat.now rows.now.sets pair.set pair.symbol other)) }
+    ensures links { OnOk result (RisesByDone flat.now rows.now.sets pair.set pair.symbol (length next.old.items) (length next.new.items)) }
+    ensures memo { NotesMore flat.now rows.now.sets memo.old memo.new }
     ensures counted { steps.new + length memo.old ≡ steps.old + length memo.new }
 {
     flat.known();
-    let waiting = waiting_in(flat, rows, pair.set, pair.symbol);
-    match leo_of(flat, waiting) {
+    let waiting = rows.waiting(pair.set as usize, pair.symbol);
+    match leo_of(flat, &waiting) {
         Some(step) => next.push(topmost(flat, rows, memo, pair, step, steps)?)?,
-        None => list_advanced(waiting, next)?,
+        None => list_advanced(&waiting, next)?,
     }
     Ok(())
 }
@@ -183,7 +184,7 @@ fn list_done<L: Ledger>(
 pub fn list_next<L: Ledger>(
     flat: &Flat,
     heads: &Heads,
-    rows: &Rows,
+    rows: &Rows<'_>,
     memo: &mut Memo,
     place: u32,
     set: &IndexSet<Item>,
@@ -193,15 +194,15 @@ pub fn list_next<L: Ledger>(
 ) -> Result<(), AllocError>
     requires item { IsItem flat.now item }
     requires heads { AreHeads flat.now heads.now.rules.items }
-    requires rows { AreRows flat.now rows.now }
-    requires nulled { AreNulled flat.now rows.now }
-    requires memo { IsMemo flat.now rows.now memo.old }
-    requires place { place ≤ length rows.now }
+    requires rows { HasRows flat.now rows.now }
+    requires nulled { AreNulled flat.now rows.now.sets }
+    requires memo { IsMemo flat.now rows.now.sets memo.old }
+    requires place { place ≤ length rows.now.sets }
     requires together { BeginTogether flat.now place set.now.keys }
     ensures listed { OnOk result ((other : Item) → Contains next.new.items other ↔
-        (Contains next.old.items other ⊎ FollowsAnew flat.now rows.now place set.now.keys item other)) }
-    ensures links { OnOk result (RisesBy (MakesLink flat.now rows.now place item) (length next.old.items) (length next.new.items)) }
-    ensures memo { NotesMore flat.now rows.now memo.old memo.new }
+        (Contains next.old.items other ⊎ FollowsAnew flat.now rows.now.sets place set.now.keys item other)) }
+    ensures links { OnOk result (RisesBy (MakesLink flat.now rows.now.sets place item) (length next.old.items) (length next.new.items)) }
+    ensures memo { NotesMore flat.now rows.now.sets memo.old memo.new }
     ensures counted { steps.new + length memo.old ≡ steps.old + length memo.new }
 {
     flat.known();

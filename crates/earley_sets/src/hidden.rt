@@ -4,14 +4,14 @@ ghost use Rattle.recognizer_model.specs.declared.Item.{Item as TheItem};
 ghost use Rattle.recognizer_model.specs.Flat.{IsRule};
 ghost use Rattle.recognizer_model.specs.Items.{IsWhole};
 ghost use Rattle.recognizer_model.specs.Counts.{IsListOf};
-ghost use Rattle.item_rows.specs.Kept.{IsItem, AreItems, AreRows};
+ghost use Rattle.item_rows.specs.Kept.{IsItem, AreItems, HasRows};
 ghost use Rattle.item_rows.specs.Rows.{row_at};
 ghost use Rattle.earley_sets.specs.Closing.{IsReached};
 ghost use Rattle.earley_sets.specs.Hidden.{IsWholeFrom, IsSingleStep, IsHiddenIn};
 
 use grammar_core::Flat;
 use indexmap::IndexSet;
-use item_rows::Rows;
+use item_rows::{Row, Rows};
 use leo_items::{pair_above, step_in};
 use recognizer_model::Item;
 use std::alloc::{AllocError, AllocFailed, Global};
@@ -30,7 +30,7 @@ fn is_whole_from(flat: &Flat, item: Item, from: u32) -> bool
 // Puts the whole items of a row that begin at a place or behind it.
 fn put_whole(
     flat: &Flat,
-    row: &[Item],
+    row: &Row<'_>,
     from: u32,
     set: &mut IndexSet<Item>,
 ) -> Result<(), AllocFailed<Item>>
@@ -38,21 +38,22 @@ fn put_whole(
     requires none { set.old.keys ≡ [] }
     ensures { OnOk result ((item : TheItem) → Contains set.new.keys item ↔ IsWholeFrom flat.now row.now from item) }
 {
-    for item in row {
-        if is_whole_from(flat, *item, from) {
-            set.insert(*item)?;
+    for k in 0..row.len() {
+        let item = row.at(k);
+        if is_whole_from(flat, item, from) {
+            set.insert(item)?;
         }
     }
     Ok(())
 }
 
 // The single step that a whole item leads to, if it begins at a place or behind it.
-fn single_step(flat: &Flat, rows: &Rows, place: u32, from: u32, item: Item) -> Option<Item>
-    requires rows { AreRows flat.now rows.now }
-    requires place { place < length rows.now }
+fn single_step(flat: &Flat, rows: &Rows<'_>, place: u32, from: u32, item: Item) -> Option<Item>
+    requires rows { HasRows flat.now rows.now }
+    requires place { place < length rows.now.sets }
     requires rule { IsRule flat.now item.rule }
-    ensures some { IfSome result (λ step. IsSingleStep flat.now rows.now place from item step) }
-    ensures none { IsNone result → (step : TheItem) → ¬ IsSingleStep flat.now rows.now place from item step }
+    ensures some { IfSome result (λ step. IsSingleStep flat.now rows.now.sets place from item step) }
+    ensures none { IsNone result → (step : TheItem) → ¬ IsSingleStep flat.now rows.now.sets place from item step }
 {
     if item.origin >= place {
         return None;
@@ -68,16 +69,16 @@ fn single_step(flat: &Flat, rows: &Rows, place: u32, from: u32, item: Item) -> O
 // Adds whatever single steps lead to.
 fn add_steps(
     flat: &Flat,
-    rows: &Rows,
+    rows: &Rows<'_>,
     place: u32,
     from: u32,
     set: &mut IndexSet<Item>,
 ) -> Result<(), AllocFailed<Item>>
-    requires rows { AreRows flat.now rows.now }
-    requires place { place < length rows.now }
+    requires rows { HasRows flat.now rows.now }
+    requires place { place < length rows.now.sets }
     requires items { AreItems flat.now set.old.keys }
     ensures begins { OnOk result ((more : List TheItem) × (set.new.keys ≡ set.old.keys ++ more)) }
-    ensures closed { OnOk result ((item : TheItem) → Contains set.new.keys item ↔ IsReached (IsSingleStep flat.now rows.now place from) set.old.keys item) }
+    ensures closed { OnOk result ((item : TheItem) → Contains set.new.keys item ↔ IsReached (IsSingleStep flat.now rows.now.sets place from) set.old.keys item) }
 {
     for k in 0..usize::MAX {
         let Some(item) = set.get_index(k).copied() else {
@@ -105,16 +106,16 @@ fn list_behind(alloc: Global, items: &[Item], first: usize) -> Result<Vec<Item>,
 pub fn list_hidden(
     alloc: Global,
     flat: &Flat,
-    rows: &Rows,
+    rows: &Rows<'_>,
     place: u32,
     from: u32,
 ) -> Result<Vec<Item>, AllocError>
-    requires rows { AreRows flat.now rows.now }
-    requires place { place < length rows.now }
-    ensures { IfOk result (λ items. IsListOf (IsHiddenIn flat.now rows.now place from) items.items) }
+    requires rows { HasRows flat.now rows.now }
+    requires place { place < length rows.now.sets }
+    ensures { IfOk result (λ items. IsListOf (IsHiddenIn flat.now rows.now.sets place from) items.items) }
 {
     let mut set = IndexSet::new(alloc);
-    put_whole(flat, rows.row(place as usize), from, &mut set)?;
+    put_whole(flat, &rows.row(place as usize), from, &mut set)?;
     let kept = set.len();
     add_steps(flat, rows, place, from, &mut set)?;
     list_behind(alloc, set.as_slice(), kept)

@@ -12,8 +12,8 @@ ghost use Rattle.recognizer_model.specs.Leo.{InReduced, IsHidden};
 ghost use Rattle.recognizer_model.specs.Links.{Link, IsLink};
 ghost use Rattle.leo_items.specs.ByRows.{IsMemo, NotesMore};
 ghost use Rattle.grammar_core.specs.Edges.{longest_edge};
-ghost use Rattle.item_rows.specs.Order.{IsRow};
-ghost use Rattle.earley_sets.specs.Kept.{AreItems, AreRows, IsRowOf};
+ghost use Rattle.item_rows.specs.Rows.{with_row};
+ghost use Rattle.earley_sets.specs.Kept.{HasRows, IsRowOf};
 ghost use Rattle.earley_sets.specs.Heads.{AreHeads};
 ghost use Rattle.earley_sets.specs.Scanning.{GoForward, AreReduced};
 ghost use Rattle.earley_sets.specs.Tried.{RisesBy};
@@ -21,12 +21,12 @@ ghost use Rattle.earley_sets.specs.Recognizer.{Recognizer, place_of, set_at, edg
 ghost use Rattle.earley_sets.specs.declared.recce.AlternativeRefusal.TheVariants.{Unexpected, Duplicate, BadLength};
 
 use crate::close::{Work, make_set};
-use crate::expected::{expected, is_awaited};
+use crate::expected::expected;
 use crate::heads::{Heads, list_heads};
 use crate::hidden::list_hidden;
 use grammar_core::{EdgeRefusal, Flat, SymbolId, TokenEdges};
 use indexmap::IndexSet;
-use item_rows::{RowKey, Rows, contains, list_sorted, waiting};
+use item_rows::{Row, Rows};
 use leo_items::Memo;
 use recognizer_model::Item;
 use slif_base::Steps;
@@ -35,25 +35,12 @@ use std::marker::{Brand, Model};
 use std::sync::ledger::{Blank, Ledger};
 use thiserror::Error;
 
-// Lists the items of a set in the order of a row.
-fn list_row(
-    flat: &Flat,
-    set: &IndexSet<Item>,
-    keys: &mut Vec<RowKey>,
-    row: &mut Vec<Item>,
-) -> Result<(), AllocError>
-    ensures row { OnOk result (IsRow flat.now row.new.items) }
-    ensures same { OnOk result ((item : Item) → Contains row.new.items item ↔ Contains set.now.keys item) }
-{
-    list_sorted(flat, set.as_slice(), keys, row)
-}
-
 // Makes the set of the place behind the last row, as a row.
 fn make_row<L: Ledger>(
     flat: &Flat,
     heads: &Heads,
     top: u32,
-    rows: &mut Rows,
+    rows: &mut Rows<'_>,
     memo: &mut Memo,
     edges: &TokenEdges,
     work: &mut Work,
@@ -61,23 +48,22 @@ fn make_row<L: Ledger>(
 ) -> Result<(), AllocError>
     requires heads { AreHeads flat.now heads.now.rules.items }
     requires top { IsTop flat.now top }
-    requires sets { AreReduced flat.now edges.now top rows.old (length rows.old) }
-    requires rows { AreRows flat.now rows.old }
-    requires memo { IsMemo flat.now rows.old memo.old }
-    requires place { length rows.old ≤ 16777216 }
-    requires begun { (e : HeldEdge) → Contains edges.now e → e.from < length rows.old }
+    requires sets { AreReduced flat.now edges.now top rows.old.sets (length rows.old.sets) }
+    requires rows { HasRows flat.now rows.old }
+    requires memo { IsMemo flat.now rows.old.sets memo.old }
+    requires place { length rows.old.sets ≤ 16777216 }
+    requires begun { (e : HeldEdge) → Contains edges.now e → e.from < length rows.old.sets }
     requires forward { GoForward edges.now }
-    ensures ok { OnOk result ((row : List Item) × (rows.new ≡ rows.old ++ row ∷ []) × IsRowOf flat.now (length rows.old) row ×
-        IsListOf (InReduced flat.now (FlatEdges flat.now (Held edges.now)) top (length rows.old)) row) }
-    ensures memo { NotesMore flat.now rows.old memo.old memo.new }
+    ensures ok { OnOk result ((row : List Item) × (rows.new ≡ with_row rows.old row) × IsRowOf flat.now (length rows.old.sets) row ×
+        IsListOf (InReduced flat.now (FlatEdges flat.now (Held edges.now)) top (length rows.old.sets)) row) }
+    ensures memo { NotesMore flat.now rows.old.sets memo.old memo.new }
     ensures err { OnErr result (rows.new ≡ rows.old) }
-    ensures counted { OnOk result (0 < length rows.old →
-        RisesBy (IsLink flat.now (FlatEdges flat.now (Held edges.now)) top (length rows.old)) (steps.old + length memo.new) (steps.new + length memo.old)) }
+    ensures counted { OnOk result (0 < length rows.old.sets →
+        RisesBy (IsLink flat.now (FlatEdges flat.now (Held edges.now)) top (length rows.old.sets)) (steps.old + length memo.new) (steps.new + length memo.old)) }
 {
     let place = rows.len() as u32;
     make_set(flat, heads, top, rows, memo, edges, place, work, steps)?;
-    list_row(flat, &work.set, &mut work.keys, &mut work.next)?;
-    rows.push(&work.next)
+    rows.push(work.set.as_slice())
 }
 
 // The same. After an error the notes are as before.
@@ -85,7 +71,7 @@ fn add_row<L: Ledger>(
     flat: &Flat,
     heads: &Heads,
     top: u32,
-    rows: &mut Rows,
+    rows: &mut Rows<'_>,
     memo: &mut Memo,
     edges: &TokenEdges,
     work: &mut Work,
@@ -93,18 +79,18 @@ fn add_row<L: Ledger>(
 ) -> Result<(), AllocError>
     requires heads { AreHeads flat.now heads.now.rules.items }
     requires top { IsTop flat.now top }
-    requires sets { AreReduced flat.now edges.now top rows.old (length rows.old) }
-    requires rows { AreRows flat.now rows.old }
-    requires memo { IsMemo flat.now rows.old memo.old }
-    requires place { length rows.old ≤ 16777216 }
-    requires begun { (e : HeldEdge) → Contains edges.now e → e.from < length rows.old }
+    requires sets { AreReduced flat.now edges.now top rows.old.sets (length rows.old.sets) }
+    requires rows { HasRows flat.now rows.old }
+    requires memo { IsMemo flat.now rows.old.sets memo.old }
+    requires place { length rows.old.sets ≤ 16777216 }
+    requires begun { (e : HeldEdge) → Contains edges.now e → e.from < length rows.old.sets }
     requires forward { GoForward edges.now }
-    ensures ok { OnOk result ((row : List Item) × (rows.new ≡ rows.old ++ row ∷ []) × IsRowOf flat.now (length rows.old) row ×
-        IsListOf (InReduced flat.now (FlatEdges flat.now (Held edges.now)) top (length rows.old)) row) }
-    ensures memo { IsMemo flat.now rows.old memo.new }
+    ensures ok { OnOk result ((row : List Item) × (rows.new ≡ with_row rows.old row) × IsRowOf flat.now (length rows.old.sets) row ×
+        IsListOf (InReduced flat.now (FlatEdges flat.now (Held edges.now)) top (length rows.old.sets)) row) }
+    ensures memo { IsMemo flat.now rows.old.sets memo.new }
     ensures err { OnErr result ((rows.new ≡ rows.old) × (memo.new ≡ memo.old)) }
-    ensures counted { OnOk result (0 < length rows.old →
-        RisesBy (IsLink flat.now (FlatEdges flat.now (Held edges.now)) top (length rows.old)) (steps.old + length memo.new) (steps.new + length memo.old)) }
+    ensures counted { OnOk result (0 < length rows.old.sets →
+        RisesBy (IsLink flat.now (FlatEdges flat.now (Held edges.now)) top (length rows.old.sets)) (steps.old + length memo.new) (steps.new + length memo.old)) }
 {
     let noted = memo.len();
     match make_row(flat, heads, top, rows, memo, edges, work, steps) {
@@ -122,7 +108,7 @@ fn add_first<L: Ledger>(
     flat: &Flat,
     heads: &Heads,
     top: u32,
-    rows: &mut Rows,
+    rows: &mut Rows<'_>,
     memo: &mut Memo,
     edges: &TokenEdges,
     work: &mut Work,
@@ -132,10 +118,11 @@ fn add_first<L: Ledger>(
     requires some { 0 < blank.parts }
     requires heads { AreHeads flat.now heads.now.rules.items }
     requires top { IsTop flat.now top }
-    requires rows { rows.old ≡ [] }
+    requires rows { rows.old.sets ≡ [] }
+    requires flat { rows.old.flat ≡ flat.now }
     requires memo { memo.old ≡ [] }
     requires edges { edges.now ≡ [] }
-    ensures ok { OnOk result ((row : List Item) × (rows.new ≡ row ∷ []) × IsRowOf flat.now 0 row ×
+    ensures ok { OnOk result ((row : List Item) × (rows.new ≡ record { flat = flat.now; sets = row ∷ [] }) × IsRowOf flat.now 0 row ×
         IsListOf (InReduced flat.now (FlatEdges flat.now (Held edges.now)) top 0) row) }
     ensures memo { memo.new ≡ [] }
 {
@@ -168,27 +155,28 @@ pub struct Recce<'g> {
     start: usize,
     top: u32,
     edges: TokenEdges,
-    rows: Rows,
+    rows: Rows<'g>,
     memo: Memo,
     work: Work,
 }
 
 impl<'g> Model for Recce<'g> {
+    ghost use Rattle.std.specs.Prelude.{◌≡◌};
     ghost use Rattle.leo_items.specs.Memo.{pairs_of};
     ghost use Rattle.earley_sets.specs.Recognizer.{Recognizer, IsKept};
     ghost use Rattle.earley_sets.specs.Heads.{AreHeads};
 
     ghost Value = { Recognizer };
 
-    ghost view = { λ r. record { flat = r.flat.now; start = r.start; edges = r.edges; sets = r.rows; noted = pairs_of r.memo } };
+    ghost view = { λ r. record { flat = r.flat.now; start = r.start; edges = r.edges; sets = r.rows.sets; noted = pairs_of r.memo } };
 
-    ghost invariant = { λ r. IsKept (record { flat = r.flat.now; start = r.start; edges = r.edges; sets = r.rows; noted = pairs_of r.memo }) r.top r.memo × AreHeads r.flat.now r.heads.rules.items };
+    ghost invariant = { λ r. IsKept (record { flat = r.flat.now; start = r.start; edges = r.edges; sets = r.rows.sets; noted = pairs_of r.memo }) r.top r.memo × AreHeads r.flat.now r.heads.rules.items × (r.rows.flat ≡ r.flat.now) };
 }
 
 /// Items of a set: by the symbol after the dot, whole items last, then by rule, dot and origin.
 #[derive(Drop)]
 pub struct SetView<'r> {
-    items: &'r [Item],
+    row: Row<'r>,
 }
 
 impl<'r> Model for SetView<'r> {
@@ -197,14 +185,14 @@ impl<'r> Model for SetView<'r> {
 
     ghost Value = { List Item };
 
-    ghost view = { λ s. s.items.now };
+    ghost view = { λ s. s.row };
 }
 
 impl<'r> SetView<'r> {
     pub fn len(&self) -> usize
         ensures { result ≡ length self.now }
     {
-        self.items.len()
+        self.row.len()
     }
 
     /// An item, by its number.
@@ -212,7 +200,7 @@ impl<'r> SetView<'r> {
         requires { k < length self.now }
         ensures { slice_get self.now k ≡ Some result }
     {
-        item_at(self.items, k)
+        self.row.at(k)
     }
 }
 
@@ -225,13 +213,6 @@ fn count<L: Ledger>(items: &[Item], steps: &mut Steps<L>)
     }
 }
 
-fn item_at(items: &[Item], k: usize) -> Item
-    requires { k < length items.now }
-    ensures { slice_get items.now k ≡ Some result }
-{
-    items[k]
-}
-
 impl<'g> Recce<'g> {
     /// A recognizer at place 0, for a start by its place among the starts.
     pub fn new(alloc: Global, flat: &'g Flat, start: usize) -> Result<Recce<'g>, AllocError>
@@ -241,12 +222,11 @@ impl<'g> Recce<'g> {
         let top = flat.top(start);
         let heads = list_heads(alloc, flat)?;
         let edges = TokenEdges::new(alloc);
-        let mut rows = Rows::new(alloc);
+        let mut rows = Rows::new(alloc, flat)?;
         let mut memo = Memo::new(alloc);
         let mut work = Work {
             set: IndexSet::new(alloc),
             next: Vec::new(alloc),
-            keys: Vec::new(alloc),
             ending: Vec::new(alloc),
         };
         add_first::<Brand>(
@@ -329,7 +309,7 @@ impl<'g> Recce<'g> {
     {
         let last = self.rows.len() - 1;
         match self.flat.terminal(t) {
-            Some(symbol) => is_awaited(self.flat, self.rows.row(last), symbol),
+            Some(symbol) => self.rows.is_awaited(last, symbol),
             None => false,
         }
     }
@@ -340,7 +320,7 @@ impl<'g> Recce<'g> {
         ensures exact { IfOk result (λ ts. (t : ℕ) → Contains ts.items t ↔ IsExpected self.now t) }
     {
         let last = self.rows.len() - 1;
-        expected(alloc, self.flat, self.rows.row(last))
+        expected(alloc, self.flat, &self.rows, last)
     }
 
     /// Whether a tree of the start spans the edges up to the place.
@@ -353,7 +333,7 @@ impl<'g> Recce<'g> {
             dot: 1,
             origin: 0,
         };
-        contains(self.flat, self.rows.row(last), whole)
+        self.rows.contains(last, whole)
     }
 
     /// The set of a place, as far as it is kept.
@@ -362,7 +342,7 @@ impl<'g> Recce<'g> {
         ensures { result ≡ set_at self.now j }
     {
         SetView {
-            items: self.rows.row(j as usize),
+            row: self.rows.row(j as usize),
         }
     }
 
@@ -371,7 +351,7 @@ impl<'g> Recce<'g> {
         requires { j ≤ place_of self.now }
         ensures { IsTrue result ↔ Contains (set_at self.now j) item }
     {
-        contains(self.flat, self.rows.row(j as usize), item)
+        self.rows.contains(j as usize, item)
     }
 
     /// The items of a set that wait for a symbol.
@@ -380,7 +360,7 @@ impl<'g> Recce<'g> {
         ensures { (item : Item) → Contains result item ↔ (Contains (set_at self.now j) item × (after self.now.flat item ≡ Some symbol)) }
     {
         SetView {
-            items: waiting(self.flat, self.rows.row(j as usize), symbol),
+            row: self.rows.waiting(j as usize, symbol),
         }
     }
 

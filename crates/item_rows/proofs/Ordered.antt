@@ -1,25 +1,23 @@
 -- Items in order: those that wait for a symbol stand together, and an item is found by halving.
-use Rattle.std.proofs.Common.{◌≡◌, ◌≢◌, ◌⊎◌, inl, inr, ◌↔◌, ℕ, ◌+◌, ◌-◌, ◌<◌, ◌≤◌, false, length, take, drop, List, Option, Some, None, Contains, refl, sym, ◌∙◌, ap, subst, arith}
-use Rattle.std.specs.Prelude.{nat_lt, slice_index_or, Result, Ok, Err, is_ok, IsTrue}
+use Rattle.std.proofs.Common.{◌≡◌, ◌⊎◌, inl, inr, ◌↔◌, ℕ, ◌+◌, ◌<◌, ◌≤◌, false, length, List, Option, Some, None, Contains, refl, sym, ◌∙◌, ap, subst, arith}
+use Rattle.std.specs.Prelude.{nat_lt, slice_get, slice_index_or, Result, Ok, Err, IfSome, IsNone}
+use Rattle.std.specs.Result.{result_ok}
 use Rattle.std.specs.declared.cmp.Ordering.{Ordering}
 use Rattle.std.specs.declared.cmp.Ordering.TheVariants.{Less, Equal, Greater}
 use Rattle.std.specs.Ordering.{ordering_then, ordering_index, nat_cmp, is_lt}
 use Rattle.std.specs.Cmp.{IsTotalOrder, nat_cmp_is}
-use Rattle.std.specs.List.{AllPairs}
 use Rattle.std.specs.List.Sorted.{IsPartitionedBy, IsNonDecreasingBy, IsPartitionPoint, IsBinarySearchResult, IsSearchInRange}
 use Rattle.std.proofs.lemmas.Bool.{ltb-true, lt-ltb, cases_lt, true≢false}
 use Rattle.std.proofs.lemmas.Cmp.{then_total, on_total, nat_cmp_total}
 use Rattle.std.proofs.lemmas.Map.Lookups.{exact_unsigned}
-use Rattle.std.proofs.lemmas.List.{get_or-take, get_or-drop}
 use Rattle.std.proofs.lemmas.List.Sorted.{searchable_from_sorted, IsNonDecreasingBy-from_all_adjacent}
-use Rattle.grammar_core.proofs.Placed.{part_from, part_to, part_length, found_at, at_found}
-use Rattle.grammar_core.proofs.Halving.{index_get}
+use Rattle.grammar_core.proofs.Halving.{get_index}
 use Rattle.recognizer_model.specs.declared.Item.{Item}
 use Rattle.recognizer_model.specs.Flat.{FlatGrammar}
 use Rattle.recognizer_model.specs.Items.{after}
-use Rattle.recognizer_model.specs.Counts.{IsListOf}
 use Rattle.item_rows.specs.declared.order.RowKey.{RowKey}
 use Rattle.item_rows.specs.Order.{or_end, symbol_or_end, row_key, key_cmp, IsInOrder}
+use Rattle.item_rows.specs.Dotted.{no_item, dotted_at}
 
 pub key_total : IsTotalOrder key_cmp
 key_total =
@@ -69,58 +67,32 @@ module _ (g : FlatGrammar) (row : List Item) (order : IsInOrder g row) where
   pub below_parted : (x : ℕ) → IsPartitionedBy (λ w. nat_lt (symbol_or_end g w) x) row
   below_parted x i j d le lt e = let h = ltb-true _ _ e in let o = symbols_rise i j d le lt in lt-ltb _ _ (omega arith)
 
+  -- what waits for a symbol stands between what is below it and what is above it
   module _ (x : ℕ) (low : x < 4294967296) (start end : ℕ) (bs : start ≤ length row) (be : end ≤ length row)
       (b1 : (k : ℕ) (d : Item) → k < start → symbol_or_end g (slice_index_or row k d) < x) (a1 : (k : ℕ) (d : Item) → start ≤ k → k < length row → x ≤ symbol_or_end g (slice_index_or row k d))
       (b2 : (k : ℕ) (d : Item) → k < end → symbol_or_end g (slice_index_or row k d) < x + 1) (a2 : (k : ℕ) (d : Item) → end ≤ k → k < length row → x + 1 ≤ symbol_or_end g (slice_index_or row k d)) where
-    none : Item
-    none = record { rule = 0; dot = 0; origin = 0 }
-
     pub start_first : start ≤ end
     start_first = go (cases_lt end start)
       where
         go : (end < start) ⊎ (start ≤ end) → start ≤ end
         go (inr l) = l
-        go (inl l) = let p = b1 end none l in let q = a2 end none (omega arith) (omega arith) in absurd (omega arith)
+        go (inl l) = let p = b1 end no_item l in let q = a2 end no_item (omega arith) (omega arith) in absurd (omega arith)
 
-    part : List Item
-    part = take (end - start) (drop start row)
-
-    part_has : (w : Item) → Contains (take (end - start) (drop start row)) w ↔ (Contains row w × (after g w ≡ Some x))
-    part_has w = (there, back)
+    pub span_exact : (k : ℕ) → k < length row → ((start ≤ k) × (k < end)) ↔ (after g (dotted_at row k) ≡ Some x)
+    span_exact k lt = (
+      λ (from, to). (let p = a1 k no_item from lt in let q = b2 k no_item to in or_end_is (after g (dotted_at row k)) x low (omega arith)),
+      λ e. (let s : symbol_or_end g (dotted_at row k) ≡ x = ap or_end e in (first s, last s)),
+    )
       where
-        there : Contains (take (end - start) (drop start row)) w → Contains row w × (after g w ≡ Some x)
-        there h =
-            let (k, from, to, is) = part_from row start end start_first be w h in
-            let (lt, same) = index_get row k w w is in
-            let p = a1 k w from lt in
-            let q = b2 k w to in
-            let s = ap (symbol_or_end g) same in
-            (at_found row k w is, or_end_is (after g w) x low (omega arith))
+        first : symbol_or_end g (dotted_at row k) ≡ x → start ≤ k
+        first s = elim (cases_lt k start) [ inl l ↦ let p = b1 k no_item l in absurd (omega arith) | inr l ↦ l ]
 
-        back : Contains row w × (after g w ≡ Some x) → Contains (take (end - start) (drop start row)) w
-        back (c, e) =
-            let (k, is) = found_at row w c in
-            let (lt, same) = index_get row k w w is in
-            let s : symbol_or_end g (slice_index_or row k w) ≡ x = ap (symbol_or_end g) same ∙ ap or_end e in
-            part_to row start end start_first be k w (first k lt s) (last k lt s) is
-          where
-            first : (k : ℕ) → k < length row → symbol_or_end g (slice_index_or row k w) ≡ x → start ≤ k
-            first k lt s = elim (cases_lt k start) [ inl l ↦ let p = b1 k w l in absurd (omega arith) | inr l ↦ l ]
+        last : symbol_or_end g (dotted_at row k) ≡ x → k < end
+        last s = elim (cases_lt k end) [ inl l ↦ l | inr l ↦ let p = a2 k no_item l lt in absurd (omega arith) ]
 
-            last : (k : ℕ) → k < length row → symbol_or_end g (slice_index_or row k w) ≡ x → k < end
-            last k lt s = elim (cases_lt k end) [ inl l ↦ l | inr l ↦ let p = a2 k w l lt in absurd (omega arith) ]
-
-    part_once : AllPairs (λ a b. a ≢ b) row → AllPairs (λ a b. a ≢ b) (take (end - start) (drop start row))
-    part_once once i j d lt below e =
-        let l = part_length row start end start_first be in
-        once (start + i) (start + j) d (omega arith) (omega arith)
-        (sym (get_or-take (end - start) (drop start row) i d (omega arith) ∙ get_or-drop start row i d) ∙ (e ∙ (get_or-take (end - start) (drop start row) j d (omega arith) ∙ get_or-drop start row j d)))
-
-    pub part_lists : AllPairs (λ a b. a ≢ b) row → IsListOf (λ item. Contains row item × (after g item ≡ Some x)) (take (end - start) (drop start row))
-    part_lists once = record { once = part_once once; exact = part_has }
-
-  found_there : (item : Item) (k : ℕ) → k < length row → ((d : Item) → key_cmp (row_key g (slice_index_or row k d)) (row_key g item) ≡ Equal) → Contains row item
-  found_there item k lt same = (k, lt, same_key g _ _ (same item))
+  abbrev pub IsFound : Item → Option ℕ → Type 0
+  IsFound item (Some k) = slice_get row k ≡ Some item
+  IsFound item None = ¬ Contains row item
 
   not_there : (item : Item) (i : ℕ) → (IsNonDecreasingBy (λ y. ordering_index (key_cmp (row_key g y) (row_key g item))) row →
       IsPartitionPoint (λ y. key_cmp (row_key g y) (row_key g item) ≡ Less) (λ y. key_cmp (row_key g y) (row_key g item) ≡ Greater) row i) → ¬ Contains row item
@@ -133,10 +105,18 @@ module _ (g : FlatGrammar) (row : List Item) (order : IsInOrder g row) where
       ]
 
   -- what a search tells
+  pub found : (item : Item) (k : ℕ) → k < length row → ((d : Item) → key_cmp (row_key g (slice_index_or row k d)) (row_key g item) ≡ Equal) → slice_get row k ≡ Some item
+  found item k lt same = get_index row k item lt ∙ ap Some (same_key g _ _ (same item))
+
   pub searched : (item : Item) (key : RowKey) (r : Result ℕ ℕ) → key ≡ row_key g item → IsSearchInRange r (length row) → IsBinarySearchResult (λ y. key_cmp (row_key g y) key) row r →
-      IsTrue (is_ok r) ↔ Contains row item
-  searched item key (Ok k) e bound at = ((λ t. found_there item k bound (λ d. subst (λ z. key_cmp (row_key g (slice_index_or row k d)) z ≡ Equal) e (at d))), (λ c. refl))
-  searched item key (Err i) e bound at = (
-    λ t. absurd (cc),
-    λ c. absurd (not_there item i (subst (λ z. IsBinarySearchResult (λ y. key_cmp (row_key g y) z) row (Err i)) e at) c),
-  )
+      IsFound item (result_ok r)
+  searched item key (Ok k) e bound at = found item k bound (λ d. subst (λ z. key_cmp (row_key g (slice_index_or row k d)) z ≡ Equal) e (at d))
+  searched item key (Err i) e bound at = not_there item i (subst (λ z. IsBinarySearchResult (λ y. key_cmp (row_key g y) z) row (Err i)) e at)
+
+  pub found_some : (item : Item) (o : Option ℕ) → IsFound item o → IfSome o (λ k. slice_get row k ≡ Some item)
+  found_some item (Some k) h = h
+  found_some item None h = tt
+
+  pub found_none : (item : Item) (o : Option ℕ) → IsFound item o → IsNone o → ¬ Contains row item
+  found_none item None h e = h
+  found_none item (Some k) h e = absurd (cc)

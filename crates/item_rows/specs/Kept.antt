@@ -1,9 +1,9 @@
 -- Rows of the items of a grammar, one for each place so far.
-use Rattle.std.specs.Prelude.{ℕ, ◌≤◌, List, length, Contains}
+use Rattle.std.specs.Prelude.{◌≡◌, ℕ, ◌≤◌, List, length, Some, Contains}
 use Rattle.recognizer_model.specs.declared.Item.{Item}
 use Rattle.recognizer_model.specs.Flat.{FlatGrammar, IsRule, rhs_of}
-use Rattle.item_rows.specs.Order.{IsRow}
-use Rattle.item_rows.specs.Rows.{row_at}
+use Rattle.recognizer_model.specs.Items.{after}
+use Rattle.item_rows.specs.Rows.{ItemRows, row_at}
 
 pub record IsItem (g : FlatGrammar) (item : Item) : Type 0 where
   pub is_rule : IsRule g item.rule
@@ -12,11 +12,19 @@ pub record IsItem (g : FlatGrammar) (item : Item) : Type 0 where
 abbrev pub AreItems : FlatGrammar → List Item → Type 0
 AreItems g items = (item : Item) → Contains items item → IsItem g item
 
+-- an item waits for the symbol
+abbrev pub IsAwaited : FlatGrammar → List Item → ℕ → Type 0
+IsAwaited g row x = (item : Item) × Contains row item × (after g item ≡ Some x)
+
 -- the row of a place
 pub record IsRowOf (g : FlatGrammar) (place : ℕ) (row : List Item) : Type 0 where
   pub items : AreItems g row
   pub begun : (item : Item) → Contains row item → item.origin ≤ place
-  pub is_row : IsRow g row
 
 abbrev pub AreRows : FlatGrammar → List (List Item) → Type 0
 AreRows g rows = (i : ℕ) → IsRowOf g i (row_at rows i)
+
+-- rows over that grammar
+pub record HasRows (g : FlatGrammar) (rows : ItemRows) : Type 0 where
+  pub flat : rows.flat ≡ g
+  pub are : AreRows g rows.sets

@@ -1,8 +1,7 @@
 -- The order of a row: by the symbol after the dot, whole items last, then by rule, dot and origin.
-use Rattle.std.specs.Prelude.{◌≢◌, ℕ, List, Option, Some, None}
+use Rattle.std.specs.Prelude.{ℕ, List, Option, Some, None}
 use Rattle.std.specs.declared.cmp.Ordering.{Ordering}
 use Rattle.std.specs.Ordering.{ordering_then, nat_cmp}
-use Rattle.std.specs.List.{AllPairs}
 use Rattle.std.specs.List.Sorted.{IsSortedByKey}
 use Rattle.recognizer_model.specs.declared.Item.{Item}
 use Rattle.recognizer_model.specs.Flat.{FlatGrammar}
@@ -28,8 +27,3 @@ key_cmp a b = ordering_then (nat_cmp a.symbol b.symbol) (ordering_then (nat_cmp 
 
 abbrev pub IsInOrder : FlatGrammar → List Item → Type 0
 IsInOrder g row = IsSortedByKey (row_key g) key_cmp row
-
--- items in order, each once
-pub record IsRow (g : FlatGrammar) (row : List Item) : Type 0 where
-  pub order : IsInOrder g row
-  pub once : AllPairs (λ x y. x ≢ y) row

@@ -1,11 +1,24 @@
 -- Rows that are kept end to end, told apart by the places where each ends.
-use Rattle.std.specs.Prelude.{ℕ, ◌≤◌, List, [], ◌∷◌, take, drop, slice_index_or}
+use Rattle.std.specs.Prelude.{ℕ, ◌≤◌, ◌++◌, List, [], ◌∷◌, take, drop, slice_index_or}
 use Rattle.recognizer_model.specs.declared.Item.{Item}
+use Rattle.recognizer_model.specs.Flat.{FlatGrammar}
+
+-- rows of items of a flat grammar
+pub record ItemRows : Type 0 where
+  pub flat : FlatGrammar
+  pub sets : List (List Item)
 
 abbrev pub row_at : List (List Item) → ℕ → List Item
 row_at rows i = slice_index_or rows i []
 
-abbrev pub cut : ℕ → List ℕ → List Item → List (List Item)
+-- one row more
+abbrev pub with_row : ItemRows → List Item → ItemRows
+with_row rows row = record { flat = rows.flat; sets = rows.sets ++ row ∷ [] }
+
+abbrev pub packed_at : List (List ℕ) → ℕ → List ℕ
+packed_at rows i = slice_index_or rows i []
+
+abbrev pub cut : ℕ → List ℕ → List ℕ → List (List ℕ)
 cut from [] items = []
 cut from (end ∷ ends) items = drop from (take end items) ∷ cut end ends items
 

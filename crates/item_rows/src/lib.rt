@@ -1,8 +1,10 @@
 //! Sets of items, each a row in one order, so that the items that wait for a symbol stand together, and an item is found by halving.
 #![tactic(auto)]
 
+mod dotted;
 mod order;
+mod packed;
 mod rows;
 
-pub use order::{RowKey, contains, list_sorted, waiting, waiting_in};
+pub use packed::Row;
 pub use rows::Rows;

@@ -1,9 +1,9 @@
 -- Of the items of a set that wait for a symbol, the only one.
-use Rattle.std.proofs.Common.{◌≡◌, ◌≢◌, ℕ, zero, suc, ◌<◌, ◌≤◌, length, List, [], ◌∷◌, Some, None, Contains, slice_get, refl, sym, ◌∙◌, ap, subst, arith}
-use Rattle.std.specs.Prelude.{slice_index_or}
+use Rattle.std.proofs.Common.{◌≡◌, ◌≢◌, ℕ, zero, suc, ◌<◌, ◌≤◌, length, List, [], ◌∷◌, Option, Some, None, Contains, slice_get, refl, sym, ◌∙◌, ap, subst, arith}
+use Rattle.std.specs.Prelude.{IfSome, IsNone}
 use Rattle.std.specs.List.{AllPairs}
 use Rattle.recognizer_model.specs.declared.Item.{Item}
-use Rattle.recognizer_model.specs.Flat.{FlatGrammar, FlatRule, IsRule, no_rule}
+use Rattle.recognizer_model.specs.Flat.{FlatGrammar}
 use Rattle.recognizer_model.specs.Items.{after, IsWhole, advanced}
 use Rattle.recognizer_model.specs.Counts.{IsListOf}
 use Rattle.leo_items.specs.Steps.{IsStep}
@@ -17,6 +17,20 @@ pub only_one : (xs : List Item) (x : Item) → AllPairs (λ a b. a ≢ b) xs →
 only_one [] x once (k, lt, e) all = absurd (omega arith)
 only_one (a ∷ []) x once there all = ap (λ z. z ∷ []) (all a (0, omega arith, refl))
 only_one (a ∷ (b ∷ xs)) x once there all = absurd (once 0 1 a (omega arith) (omega arith) (all a (0, omega arith, refl) ∙ sym (all b (1, omega arith, refl))))
+
+pub only_item : (xs : List Item) (x : Item) → length xs ≡ 1 → slice_get xs 0 ≡ Some x → xs ≡ x ∷ []
+only_item [] x one e = absurd (omega arith)
+only_item (y ∷ []) x one e = let same : y ≡ x = cc in ap (λ z. z ∷ []) same
+only_item (y ∷ (z ∷ zs)) x one e = absurd (omega arith)
+
+first_same : (x y : Item) → x ∷ [] ≡ y ∷ [] → x ≡ y
+first_same x y e = cc
+
+-- the step of the only item
+pub step_is : (g : FlatGrammar) (waiting : List Item) (item : Item) (step : Option Item) → waiting ≡ item ∷ [] → IfSome step (λ s. IsWhole g (advanced item) × (s ≡ advanced item)) →
+    (IsNone step → ¬ IsWhole g (advanced item)) → IsStep g waiting step
+step_is g waiting item (Some s) one some none = (item, one, some.0, some.1)
+step_is g waiting item None one some none = λ other is. subst (λ z. ¬ IsWhole g (advanced z)) (first_same item other (sym one ∙ is)) (none refl)
 
 module _ (g : FlatGrammar) (P : Item → Type 0) (x : ℕ) (waiting : List Item) (lists : IsListOf (λ item. P item × (after g item ≡ Some x)) waiting) where
   pub record IsOnly (item : Item) : Type 0 where
@@ -57,12 +71,3 @@ pub part_within : (xs : List ℕ) (k x : ℕ) → slice_get xs k ≡ Some x → 
 part_within [] k x e = absurd (cc)
 part_within (y ∷ ys) zero x e = omega arith
 part_within (y ∷ ys) (suc k) x e = let h = part_within ys k x e in omega arith
-
--- a rule with a part is one of the grammar
-rule_there : (rules : List FlatRule) (r k x : ℕ) → slice_get (slice_index_or rules r no_rule).rhs k ≡ Some x → r < length rules
-rule_there [] r k x e = absurd (cc)
-rule_there (y ∷ ys) zero k x e = omega arith
-rule_there (y ∷ ys) (suc r) k x e = let h = rule_there ys r k x e in omega arith
-
-pub part_of_rule : (g : FlatGrammar) (item : Item) (x : ℕ) → after g item ≡ Some x → IsRule g item.rule
-part_of_rule g item x e = rule_there g.rules item.rule item.dot x e

@@ -2,26 +2,27 @@
 ghost use Rattle.std.specs.Prelude.{◌≡◌, ℕ, ◌<◌, ◌+◌, ◌++◌, ◌∷◌, [], length, Some, None, IfOk, OnOk, OnErr};
 ghost use Rattle.recognizer_model.specs.declared.Item.{Item as TheItem};
 ghost use Rattle.recognizer_model.specs.Flat.{IsRule};
-ghost use Rattle.item_rows.specs.Kept.{AreRows};
+ghost use Rattle.item_rows.specs.Kept.{HasRows};
 ghost use Rattle.leo_items.specs.Memo.{noted};
 ghost use Rattle.leo_items.specs.ByRows.{IsStepIn, LeadsIn, IsMemo, NotesMore, AreNulled, pair_of};
 
 use crate::leo_of;
 use crate::memo::{Memo, Pair};
 use grammar_core::Flat;
-use item_rows::{Rows, waiting_in};
+use item_rows::Rows;
 use recognizer_model::Item;
 use slif_base::Steps;
 use std::alloc::AllocError;
 use std::sync::ledger::Ledger;
 
 /// The step of a set and a symbol.
-pub fn step_in(flat: &Flat, rows: &Rows, pair: Pair) -> Option<Item>
-    requires rows { AreRows flat.now rows.now }
-    requires set { pair.set < length rows.now }
-    ensures { IsStepIn flat.now rows.now pair.set pair.symbol result }
+pub fn step_in(flat: &Flat, rows: &Rows<'_>, pair: Pair) -> Option<Item>
+    requires rows { HasRows flat.now rows.now }
+    requires set { pair.set < length rows.now.sets }
+    ensures { IsStepIn flat.now rows.now.sets pair.set pair.symbol result }
 {
-    leo_of(flat, waiting_in(flat, rows, pair.set, pair.symbol))
+    let waiting = rows.waiting(pair.set as usize, pair.symbol);
+    leo_of(flat, &waiting)
 }
 
 /// The set and the symbol that a completed item leads over.
@@ -36,13 +37,13 @@ pub fn pair_above(flat: &Flat, item: Item) -> Pair
 }
 
 // Goes on from a step to the topmost item, or to one that is noted.
-fn find(flat: &Flat, rows: &Rows, memo: &Memo, pair: Pair, step: Item) -> Item
-    requires rows { AreRows flat.now rows.now }
-    requires nulled { AreNulled flat.now rows.now }
-    requires memo { IsMemo flat.now rows.now memo.now }
-    requires set { pair.set < length rows.now }
-    requires step { IsStepIn flat.now rows.now pair.set pair.symbol (Some step) }
-    ensures { LeadsIn flat.now rows.now pair.set pair.symbol result }
+fn find(flat: &Flat, rows: &Rows<'_>, memo: &Memo, pair: Pair, step: Item) -> Item
+    requires rows { HasRows flat.now rows.now }
+    requires nulled { AreNulled flat.now rows.now.sets }
+    requires memo { IsMemo flat.now rows.now.sets memo.now }
+    requires set { pair.set < length rows.now.sets }
+    requires step { IsStepIn flat.now rows.now.sets pair.set pair.symbol (Some step) }
+    ensures { LeadsIn flat.now rows.now.sets pair.set pair.symbol result }
 {
     flat.known();
     let mut top = step;
@@ -78,18 +79,18 @@ fn make_leo<L: Ledger>(
 // Notes the topmost item for a pair, and for those that it leads over.
 fn note<L: Ledger>(
     flat: &Flat,
-    rows: &Rows,
+    rows: &Rows<'_>,
     memo: &mut Memo,
     pair: Pair,
     top: Item,
     steps: &mut Steps<L>,
 ) -> Result<(), AllocError>
-    requires rows { AreRows flat.now rows.now }
-    requires nulled { AreNulled flat.now rows.now }
-    requires memo { IsMemo flat.now rows.now memo.old }
-    requires set { pair.set < length rows.now }
-    requires leads { LeadsIn flat.now rows.now pair.set pair.symbol top }
-    ensures memo { NotesMore flat.now rows.now memo.old memo.new }
+    requires rows { HasRows flat.now rows.now }
+    requires nulled { AreNulled flat.now rows.now.sets }
+    requires memo { IsMemo flat.now rows.now.sets memo.old }
+    requires set { pair.set < length rows.now.sets }
+    requires leads { LeadsIn flat.now rows.now.sets pair.set pair.symbol top }
+    ensures memo { NotesMore flat.now rows.now.sets memo.old memo.new }
     ensures counted { steps.new + length memo.old ≡ steps.old + length memo.new }
 {
     flat.known();
@@ -110,19 +111,19 @@ fn note<L: Ledger>(
 /// The topmost item of a pair with this step.
 pub fn topmost<L: Ledger>(
     flat: &Flat,
-    rows: &Rows,
+    rows: &Rows<'_>,
     memo: &mut Memo,
     pair: Pair,
     step: Item,
     steps: &mut Steps<L>,
 ) -> Result<Item, AllocError>
-    requires rows { AreRows flat.now rows.now }
-    requires nulled { AreNulled flat.now rows.now }
-    requires memo { IsMemo flat.now rows.now memo.old }
-    requires set { pair.set < length rows.now }
-    requires step { IsStepIn flat.now rows.now pair.set pair.symbol (Some step) }
-    ensures leads { IfOk result (λ top. LeadsIn flat.now rows.now pair.set pair.symbol top) }
-    ensures memo { NotesMore flat.now rows.now memo.old memo.new }
+    requires rows { HasRows flat.now rows.now }
+    requires nulled { AreNulled flat.now rows.now.sets }
+    requires memo { IsMemo flat.now rows.now.sets memo.old }
+    requires set { pair.set < length rows.now.sets }
+    requires step { IsStepIn flat.now rows.now.sets pair.set pair.symbol (Some step) }
+    ensures leads { IfOk result (λ top. LeadsIn flat.now rows.now.sets pair.set pair.symbol top) }
+    ensures memo { NotesMore flat.now rows.now.sets memo.old memo.new }
     ensures counted { steps.new + length memo.old ≡ steps.old + length memo.new }
 {
     if let Some(top) = memo.get(pair) {

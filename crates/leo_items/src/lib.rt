@@ -11,6 +11,7 @@ ghost use Rattle.leo_items.specs.Steps.{IsStep, StepsAreLeo};
 
 pub use chain::{pair_above, step_in, topmost};
 use grammar_core::Flat;
+use item_rows::Row;
 pub use memo::{Memo, Pair};
 use recognizer_model::Item;
 
@@ -41,14 +42,14 @@ fn step_of(flat: &Flat, item: Item) -> Option<Item>
 }
 
 /// The step of a symbol, of the items of a set that wait for it.
-pub fn leo_of(flat: &Flat, waiting: &[Item]) -> Option<Item>
+pub fn leo_of(flat: &Flat, waiting: &Row<'_>) -> Option<Item>
     requires { (item : TheItem) → Contains waiting.now item → (x : ℕ) × (after flat.now item ≡ Some x) }
     ensures { IsStep flat.now waiting.now result }
 {
     if waiting.len() != 1 {
         return None;
     }
-    step_of(flat, waiting[0])
+    step_of(flat, waiting.at(0))
 }
 
 /// In each set, over any edges, the step of a symbol is that of its Leo item.

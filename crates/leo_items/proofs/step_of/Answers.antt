@@ -2,7 +2,8 @@ use Rattle.std.proofs.Common.{◌≡◌, suc, ◌∙◌, Some, None, sym, subst,
 use Rattle.recognizer_model.specs.declared.Item.{Item}
 use Rattle.recognizer_model.specs.Flat.{rhs_of}
 use Rattle.recognizer_model.specs.Items.{after, advanced}
-use Rattle.leo_items.proofs.Single.{part_within, part_of_rule, ends_there, nothing_there}
+use Rattle.item_rows.proofs.Listed.{part_of_rule}
+use Rattle.leo_items.proofs.Single.{part_within, ends_there, nothing_there}
 use Rattle.leo_items.proofs.step_of.Goals as goal
 
 pub advanced-step-requires : goal.advanced-step-requires

@@ -12,20 +12,20 @@ use Rattle.earley_sets.proofs.close.close.Goals as goal
 
 pub loop-k-init : goal.loop-k-init
 loop-k-init g c = record {
-  closed = closed_init c.args.flat.now (Follows c.args.flat.now c.args.rows.now c.args.place) c.args.set.now.keys c.requires.items;
+  closed = closed_init c.args.flat.now (Follows c.args.flat.now c.args.rows.now.sets c.args.place) c.args.set.now.keys c.requires.items;
   together = c.requires.together;
-  memo = no_more c.args.flat.now c.args.rows.now c.args.memo.now c.requires.memo;
-  counted = tried_none c.args.flat.now c.args.rows.now c.args.place c.args.set.now.keys (c.args.steps.now + length c.args.memo.now) (c.args.steps.now + length c.args.memo.now) refl;
+  memo = no_more c.args.flat.now c.args.rows.now.sets c.args.memo.now c.requires.memo;
+  counted = tried_none c.args.flat.now c.args.rows.now.sets c.args.place c.args.set.now.keys (c.args.steps.now + length c.args.memo.now) (c.args.steps.now + length c.args.memo.now) refl;
 }
 
 pub returns-in_default-clause-closed : goal.returns-in_default-clause-closed
 returns-in_default-clause-closed g c =
-    closed_done c.args.flat.now (Follows c.args.flat.now c.args.rows.now c.args.place) c.args.set.now.keys c.loop-k.set.keys c.loop-k.k c.loop-k.invariant.closed
+    closed_done c.args.flat.now (Follows c.args.flat.now c.args.rows.now.sets c.args.place) c.args.set.now.keys c.loop-k.set.keys c.loop-k.k c.loop-k.invariant.closed
     (got_none c.loop-k.set.keys c.loop-k.k c.in_default.ensures.item)
 
 pub returns-in_default-clause-counted : goal.returns-in_default-clause-counted
 returns-in_default-clause-counted g c =
-    tried_all c.args.flat.now c.args.rows.now c.args.place c.loop-k.set.keys c.loop-k.k (c.args.steps.now + length c.loop-k.memo) (c.loop-k.steps + length c.args.memo.now)
+    tried_all c.args.flat.now c.args.rows.now.sets c.args.place c.loop-k.set.keys c.loop-k.k (c.args.steps.now + length c.loop-k.memo) (c.loop-k.steps + length c.args.memo.now)
     (got_none c.loop-k.set.keys c.loop-k.k c.in_default.ensures.item) c.loop-k.invariant.counted
 
 pub list_next-requires-clause-item : goal.list_next-requires-clause-item
@@ -40,23 +40,23 @@ loop-k-preserved g c =
     let is = c.loop-k.invariant.closed.items c.in-Some.item (got_item c.loop-k.set.keys c.loop-k.k c.in-Some.item at) in
     let grows : Grows c.loop-k.set.keys c.add_items.new.set.keys c.list_next.new.next.items = subst (λ next. Grows c.loop-k.set.keys c.add_items.new.set.keys next) c.deref.ensures.value c.in_ok-add_items.ensures.grows in
     let (more, begins) = grows.begins in
-    let anew : (other : Item) → Contains c.list_next.new.next.items other ↔ (Contains [] other ⊎ FollowsAnew c.args.flat.now c.args.rows.now c.args.place c.loop-k.set.keys c.in-Some.item other) =
-    subst (λ (old : List Item). (other : Item) → Contains c.list_next.new.next.items other ↔ (Contains old other ⊎ FollowsAnew c.args.flat.now c.args.rows.now c.args.place c.loop-k.set.keys c.in-Some.item other)) c.clear.ensures.items c.in_ok-list_next.ensures.listed
+    let anew : (other : Item) → Contains c.list_next.new.next.items other ↔ (Contains [] other ⊎ FollowsAnew c.args.flat.now c.args.rows.now.sets c.args.place c.loop-k.set.keys c.in-Some.item other) =
+    subst (λ (old : List Item). (other : Item) → Contains c.list_next.new.next.items other ↔ (Contains old other ⊎ FollowsAnew c.args.flat.now c.args.rows.now.sets c.args.place c.loop-k.set.keys c.in-Some.item other)) c.clear.ensures.items c.in_ok-list_next.ensures.listed
     in
     let noted = c.list_next.ensures.counted in
     let counted = c.in_ok-add_items.ensures.counted in
     let listed = ap (λ (l : List Item). length l) c.deref.ensures.value in
     let empty = ap (λ (l : List Item). length l) c.clear.ensures.items in
     record {
-      closed = closed_more c.args.flat.now (Follows c.args.flat.now c.args.rows.now c.args.place) c.args.set.now.keys c.loop-k.set.keys c.loop-k.k c.loop-k.invariant.closed
+      closed = closed_more c.args.flat.now (Follows c.args.flat.now c.args.rows.now.sets c.args.place) c.args.set.now.keys c.loop-k.set.keys c.loop-k.k c.loop-k.invariant.closed
           c.in-Some.item c.list_next.new.next.items c.add_items.new.set.keys at
-          (follows_item c.args.flat.now c.args.rows.now c.args.place c.in-Some.item is c.requires.rows)
-          (anew_only c.args.flat.now c.args.rows.now c.args.place c.in-Some.item c.loop-k.set.keys c.list_next.new.next.items anew)
-          (anew_all c.args.flat.now c.args.rows.now c.args.place c.in-Some.item c.loop-k.set.keys c.list_next.new.next.items anew)
+          (follows_item c.args.flat.now c.args.rows.now.sets c.args.place c.in-Some.item is c.requires.rows.are)
+          (anew_only c.args.flat.now c.args.rows.now.sets c.args.place c.in-Some.item c.loop-k.set.keys c.list_next.new.next.items anew)
+          (anew_all c.args.flat.now c.args.rows.now.sets c.args.place c.in-Some.item c.loop-k.set.keys c.list_next.new.next.items anew)
           grows;
-      together = still_together c.args.flat.now c.args.rows.now c.args.place c.in-Some.item c.loop-k.set.keys c.list_next.new.next.items anew c.add_items.new.set.keys grows c.loop-k.invariant.together;
-      memo = more_on c.args.flat.now c.args.rows.now c.args.memo.now c.loop-k.memo c.list_next.new.memo c.loop-k.invariant.memo c.list_next.ensures.memo;
-      counted = tried_more c.args.flat.now c.args.rows.now c.args.place c.loop-k.set.keys c.add_items.new.set.keys more c.loop-k.k c.in-Some.item
+      together = still_together c.args.flat.now c.args.rows.now.sets c.args.place c.in-Some.item c.loop-k.set.keys c.list_next.new.next.items anew c.add_items.new.set.keys grows c.loop-k.invariant.together;
+      memo = more_on c.args.flat.now c.args.rows.now.sets c.args.memo.now c.loop-k.memo c.list_next.new.memo c.loop-k.invariant.memo c.list_next.ensures.memo;
+      counted = tried_more c.args.flat.now c.args.rows.now.sets c.args.place c.loop-k.set.keys c.add_items.new.set.keys more c.loop-k.k c.in-Some.item
           (c.args.steps.now + length c.list_next.new.memo) (c.list_next.new.steps + length c.args.memo.now) (c.add_items.new.steps + length c.args.memo.now)
           c.in-Some.ensures.once at begins
           (rises_moved (c.args.steps.now + length c.list_next.new.memo) (c.list_next.new.steps + length c.args.memo.now) (omega (arith, noted)) c.loop-k.invariant.counted)

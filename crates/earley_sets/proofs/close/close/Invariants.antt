@@ -7,8 +7,8 @@ use Rattle.earley_sets.proofs.close.close.Given as goal
 
 abbrev pub invariant-loop-k : goal.invariant-loop-k
 invariant-loop-k g l = record {
-  closed : IsClosedTo l.flat (Follows l.flat l.rows l.place) l.initial.set.keys l.set.keys l.k;
+  closed : IsClosedTo l.flat (Follows l.flat l.rows.sets l.place) l.initial.set.keys l.set.keys l.k;
   together : BeginTogether l.flat l.place l.set.keys;
-  memo : NotesMore l.flat l.rows l.initial.memo l.memo;
-  counted : RisesBy (MakesOne l.flat l.rows l.place (take l.k l.set.keys)) (l.initial.steps + length l.memo) (l.steps + length l.initial.memo);
+  memo : NotesMore l.flat l.rows.sets l.initial.memo l.memo;
+  counted : RisesBy (MakesOne l.flat l.rows.sets l.place (take l.k l.set.keys)) (l.initial.steps + length l.memo) (l.steps + length l.initial.memo);
 }

@@ -12,8 +12,8 @@ are_ending place held ending listed same exact e = subst (λ (l : List HeldEdge)
 
 pub loop-edge-init : goal.loop-edge-init
 loop-edge-init c = record {
-  listed = scanned_none c.args.flat.now c.args.rows.now c.args.place c.deref-edge-items.result.now c.args.next.now.items;
-  links = scans_none c.args.flat.now c.args.rows.now c.args.place c.deref-edge-items.result.now (length c.args.next.now.items);
+  listed = scanned_none c.args.flat.now c.args.rows.now.sets c.args.place c.deref-edge-items.result.now c.args.next.now.items;
+  links = scans_none c.args.flat.now c.args.rows.now.sets c.args.place c.deref-edge-items.result.now (length c.args.next.now.items);
 }
 
 pub list_by_edge-requires-clause-from : goal.list_by_edge-requires-clause-from
@@ -25,7 +25,7 @@ list_by_edge-requires-clause-from c =
 pub loop-edge-preserved : goal.loop-edge-preserved
 loop-edge-preserved c =
     let g = c.args.flat.now in
-    let rows = c.args.rows.now in
+    let rows = c.args.rows.now.sets in
     let place = c.args.place in
     let listed = c.deref-edge-items.result.now in
     let k = c.loop-edge.edge-index in
@@ -41,11 +41,11 @@ loop-edge-preserved c =
 pub returns-clause-listed : goal.returns-clause-listed
 returns-clause-listed c =
     let listed = c.deref-edge-items.result.now in
-    has_ending c.args.flat.now c.args.rows.now c.args.place c.args.edges.now listed c.args.next.now.items c.loop-edge.next.items (are_ending c.args.place c.args.edges.now c.list_to.new.edges.items c.deref-edge-items.result.now c.deref-edge-items.ensures.value c.in_ok-list_to.ensures.exact)
-    (scanned_all c.args.flat.now c.args.rows.now c.args.place listed c.args.next.now.items c.loop-edge.next.items c.loop-edge.edge-index c.loop-edge-test.false c.loop-edge.invariant.listed)
+    has_ending c.args.flat.now c.args.rows.now.sets c.args.place c.args.edges.now listed c.args.next.now.items c.loop-edge.next.items (are_ending c.args.place c.args.edges.now c.list_to.new.edges.items c.deref-edge-items.result.now c.deref-edge-items.ensures.value c.in_ok-list_to.ensures.exact)
+    (scanned_all c.args.flat.now c.args.rows.now.sets c.args.place listed c.args.next.now.items c.loop-edge.next.items c.loop-edge.edge-index c.loop-edge-test.false c.loop-edge.invariant.listed)
 
 pub returns-clause-links : goal.returns-clause-links
 returns-clause-links c =
     let listed = c.deref-edge-items.result.now in
-    scans_ending c.args.flat.now c.args.rows.now c.args.place c.args.edges.now listed (length c.args.next.now.items) (length c.loop-edge.next.items) (are_ending c.args.place c.args.edges.now c.list_to.new.edges.items c.deref-edge-items.result.now c.deref-edge-items.ensures.value c.in_ok-list_to.ensures.exact)
-    (scans_all c.args.flat.now c.args.rows.now c.args.place listed c.loop-edge.edge-index (length c.args.next.now.items) (length c.loop-edge.next.items) c.loop-edge-test.false c.loop-edge.invariant.links)
+    scans_ending c.args.flat.now c.args.rows.now.sets c.args.place c.args.edges.now listed (length c.args.next.now.items) (length c.loop-edge.next.items) (are_ending c.args.place c.args.edges.now c.list_to.new.edges.items c.deref-edge-items.result.now c.deref-edge-items.ensures.value c.in_ok-list_to.ensures.exact)
+    (scans_all c.args.flat.now c.args.rows.now.sets c.args.place listed c.loop-edge.edge-index (length c.args.next.now.items) (length c.loop-edge.next.items) c.loop-edge-test.false c.loop-edge.invariant.links)

@@ -13,7 +13,7 @@ use Rattle.earley_sets.proofs.close.make_set.Goals as goal
 
 pub close-requires-clause-items : goal.close-requires-clause-items
 close-requires-clause-items g c =
-    seeds_are_items c.args.flat.now c.args.edges.now c.args.top c.requires.top c.requires.forward c.args.rows.now c.args.place c.requires.sets c.refill.new.set.keys
+    seeds_are_items c.args.flat.now c.args.edges.now c.args.top c.requires.top c.requires.forward c.args.rows.now.sets c.args.place c.requires.sets c.refill.new.set.keys
     (λ item. (
       λ n. (c.in_ok-list_seeds.ensures.listed item).0 (subst (λ (l : List Item). Contains l item) c.deref.ensures.value ((c.in_ok-refill.ensures.same item).0 n)),
       λ n. (c.in_ok-refill.ensures.same item).1 (subst (λ (l : List Item). Contains l item) (sym c.deref.ensures.value) ((c.in_ok-list_seeds.ensures.listed item).1 n)),
@@ -21,7 +21,7 @@ close-requires-clause-items g c =
 
 pub close-requires-clause-together : goal.close-requires-clause-together
 close-requires-clause-together g c =
-    seeds_together c.args.flat.now c.args.rows.now c.args.top c.args.place c.args.edges.now c.requires.top c.refill.new.set.keys
+    seeds_together c.args.flat.now c.args.rows.now.sets c.args.top c.args.place c.args.edges.now c.requires.top c.refill.new.set.keys
     (λ item. (
       λ n. (c.in_ok-list_seeds.ensures.listed item).0 (subst (λ (l : List Item). Contains l item) c.deref.ensures.value ((c.in_ok-refill.ensures.same item).0 n)),
       λ n. (c.in_ok-refill.ensures.same item).1 (subst (λ (l : List Item). Contains l item) (sym c.deref.ensures.value) ((c.in_ok-list_seeds.ensures.listed item).1 n)),
@@ -30,7 +30,7 @@ close-requires-clause-together g c =
 pub returns-clause-exact : goal.returns-clause-exact
 returns-clause-exact g c =
     on_ok_weaker c.close.result
-    (closed_is_reduced c.args.flat.now c.args.edges.now c.args.top c.requires.top c.requires.forward c.args.rows.now c.args.place c.requires.sets c.refill.new.set.keys
+    (closed_is_reduced c.args.flat.now c.args.edges.now c.args.top c.requires.top c.requires.forward c.args.rows.now.sets c.args.place c.requires.sets c.refill.new.set.keys
     (λ item. (
       λ n. (c.in_ok-list_seeds.ensures.listed item).0 (subst (λ (l : List Item). Contains l item) c.deref.ensures.value ((c.in_ok-refill.ensures.same item).0 n)),
       λ n. (c.in_ok-refill.ensures.same item).1 (subst (λ (l : List Item). Contains l item) (sym c.deref.ensures.value) ((c.in_ok-list_seeds.ensures.listed item).1 n)),
@@ -42,10 +42,10 @@ returns-clause-counted g c =
     let counted = c.in_ok-refill.ensures.counted in
     let listed = ap (λ (l : List Item). length l) c.deref.ensures.value in
     on_ok_both c.close.result
-    (λ (h : (item : Item) → Contains c.close.new.set.keys item ↔ IsReached (Follows c.args.flat.now c.args.rows.now c.args.place) c.refill.new.set.keys item)
-    (r : RisesBy (MakesOne c.args.flat.now c.args.rows.now c.args.place c.close.new.set.keys) (c.refill.new.steps + length c.close.new.memo) (c.close.new.steps + length c.args.memo.now)) some.
-    all_links c.args.flat.now c.args.edges.now c.args.top c.requires.top c.requires.forward c.args.rows.now c.args.place c.requires.sets c.close.new.set.keys
-    (closed_is_reduced c.args.flat.now c.args.edges.now c.args.top c.requires.top c.requires.forward c.args.rows.now c.args.place c.requires.sets c.refill.new.set.keys
+    (λ (h : (item : Item) → Contains c.close.new.set.keys item ↔ IsReached (Follows c.args.flat.now c.args.rows.now.sets c.args.place) c.refill.new.set.keys item)
+    (r : RisesBy (MakesOne c.args.flat.now c.args.rows.now.sets c.args.place c.close.new.set.keys) (c.refill.new.steps + length c.close.new.memo) (c.close.new.steps + length c.args.memo.now)) some.
+    all_links c.args.flat.now c.args.edges.now c.args.top c.requires.top c.requires.forward c.args.rows.now.sets c.args.place c.requires.sets c.close.new.set.keys
+    (closed_is_reduced c.args.flat.now c.args.edges.now c.args.top c.requires.top c.requires.forward c.args.rows.now.sets c.args.place c.requires.sets c.refill.new.set.keys
     (λ item. (
       λ n. (c.in_ok-list_seeds.ensures.listed item).0 (subst (λ (l : List Item). Contains l item) c.deref.ensures.value ((c.in_ok-refill.ensures.same item).0 n)),
       λ n. (c.in_ok-refill.ensures.same item).1 (subst (λ (l : List Item). Contains l item) (sym c.deref.ensures.value) ((c.in_ok-list_seeds.ensures.listed item).1 n)),
@@ -55,4 +55,4 @@ returns-clause-counted g c =
     c.close.ensures.closed c.close.ensures.counted
 
 pub close-requires-clause-nulled : goal.close-requires-clause-nulled
-close-requires-clause-nulled g c = nulled_rows c.args.flat.now c.args.edges.now c.args.top c.requires.top c.requires.forward c.args.rows.now c.args.place c.requires.sets c.requires.place
+close-requires-clause-nulled g c = nulled_rows c.args.flat.now c.args.edges.now c.args.top c.requires.top c.requires.forward c.args.rows.now.sets c.args.place c.requires.sets c.requires.place

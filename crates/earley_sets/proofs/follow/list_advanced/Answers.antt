@@ -1,6 +1,10 @@
-use Rattle.std.proofs.Common.{arith}
-use Rattle.std.proofs.lemmas.List.Elements.{Contains-get_or}
+use Rattle.grammar_core.proofs.Placed.{at_found}
+use Rattle.earley_sets.proofs.Following.{advanced_more}
 use Rattle.earley_sets.proofs.follow.list_advanced.Goals as goal
 
 pub advanced-requires : goal.advanced-requires
-advanced-requires c = c.requires _ (Contains-get_or c.args.waiting.now c.loop-item.item-index (record { rule = 0; dot = 0; origin = 0 }) (omega arith))
+advanced-requires c = c.requires _ (at_found c.args.waiting.now c.loop-k.k c.at.result c.at.ensures)
+
+pub loop-k-preserved : goal.loop-k-preserved
+loop-k-preserved c =
+    advanced_more c.args.waiting.now c.loop-k.k c.at.result c.at.ensures c.args.next.now.items c.loop-k.next.items c.push.new.self.items c.advanced.result c.loop-k.invariant c.in_ok-push.ensures.items c.advanced.ensures

@@ -12,10 +12,10 @@ use Rattle.earley_sets.proofs.Hiding.{AreWhole, hidden_listed}
 use Rattle.earley_sets.proofs.hidden.list_hidden.Goals as goal
 
 pub put_whole-requires-clause-items : goal.put_whole-requires-clause-items
-put_whole-requires-clause-items c = subst (AreItems c.args.flat.now) (sym c.row.ensures) (c.requires.rows c.args.place).items
+put_whole-requires-clause-items c = subst (AreItems c.args.flat.now) (sym c.row.ensures) (c.requires.rows.are c.args.place).items
 
 pub add_steps-requires-clause-items : goal.add_steps-requires-clause-items
-add_steps-requires-clause-items c item h = (c.requires.rows c.args.place).items item (subst (λ (l : List Item). Contains l item) c.row.ensures ((c.in_ok-put_whole.ensures item).0 h).0)
+add_steps-requires-clause-items c item h = (c.requires.rows.are c.args.place).items item (subst (λ (l : List Item). Contains l item) c.row.ensures ((c.in_ok-put_whole.ensures item).0 h).0)
 
 pub returns : goal.returns
 returns c =
@@ -24,9 +24,9 @@ returns c =
     if_ok_weaker c.list_behind.result
     (λ v is.
     let same : v.items ≡ more = is ∙ (ap (λ (l : List Item). drop c.len-kept.result l) (c.as_slice.ensures.keys ∙ e) ∙ (ap (λ n. drop n (kept ++ more)) c.len-kept.ensures.len ∙ drop-append_seam kept more)) in
-    subst (λ (l : List Item). IsListOf (IsHiddenIn c.args.flat.now c.args.rows.now c.args.place c.args.from) l) (sym same)
-    (hidden_listed c.args.flat.now c.args.rows.now c.requires.rows c.args.place c.args.from kept more
+    subst (λ (l : List Item). IsListOf (IsHiddenIn c.args.flat.now c.args.rows.now.sets c.args.place c.args.from) l) (sym same)
+    (hidden_listed c.args.flat.now c.args.rows.now.sets c.requires.rows.are c.args.place c.args.from kept more
     (subst (λ (l : List Item). AreWhole c.args.flat.now c.args.from l kept) c.row.ensures c.in_ok-put_whole.ensures)
-    (λ item. subst (λ (l : List Item). Contains l item ↔ IsReached (IsSingleStep c.args.flat.now c.args.rows.now c.args.place c.args.from) kept item) e (c.in_ok-add_steps.ensures.closed item))
+    (λ item. subst (λ (l : List Item). Contains l item ↔ IsReached (IsSingleStep c.args.flat.now c.args.rows.now.sets c.args.place c.args.from) kept item) e (c.in_ok-add_steps.ensures.closed item))
     (subst (λ (l : List Item). AllPairs (λ x y. x ≢ y) l) e (all_differ c.add_steps.new.set.keys c.as_slice.ensures.unique))))
     c.list_behind.ensures

@@ -8,6 +8,6 @@ use Rattle.leo_items.proofs.chain.find.Given as goal
 
 abbrev pub invariant-loop : goal.invariant-loop
 invariant-loop l = record {
-  passed : (are : AreRows l.flat l.rows) → IsPassed l.flat l.rows are l.fn.pair.set l.fn.pair.symbol l.top;
+  passed : (are : AreRows l.flat l.rows.sets) → IsPassed l.flat l.rows.sets are l.fn.pair.set l.fn.pair.symbol l.top;
   short : (flat : IsFlat l.flat) → l.counter + far l.flat flat l.top.origin (lhs_of l.flat l.top.rule) ≤ 18446744069414584319;
 }

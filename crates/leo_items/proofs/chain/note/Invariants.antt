@@ -8,8 +8,8 @@ use Rattle.leo_items.proofs.chain.note.Given as goal
 
 abbrev pub invariant-loop : goal.invariant-loop
 invariant-loop g l = record {
-  memo : NotesMore l.flat l.rows l.initial.memo l.memo;
+  memo : NotesMore l.flat l.rows.sets l.initial.memo l.memo;
   counted : l.steps + length l.initial.memo ≡ l.initial.steps + length l.memo;
-  notable : (are : AreRows l.flat l.rows) → IsNotable l.flat l.rows are l.pair l.fn.top;
+  notable : (are : AreRows l.flat l.rows.sets) → IsNotable l.flat l.rows.sets are l.pair l.fn.top;
   short : (flat : IsFlat l.flat) → l.counter + far l.flat flat l.pair.set l.pair.symbol ≤ 18446744069414584319;
 }

@@ -7,28 +7,30 @@ use Rattle.std.specs.List.{AllPairs}
 use Rattle.recognizer_model.specs.Links.{Link, IsLink}
 use Rattle.leo_items.specs.Memo.{pairs_of}
 use Rattle.earley_sets.specs.Recognizer.{Recognizer, edges_of, top_of, made}
-use Rattle.earley_sets.proofs.Recognizing.{kept_top, kept_sets, kept_begun, add_kept, added_set, tried_links}
+use Rattle.earley_sets.proofs.Recognizing.{kept_top, kept_sets, kept_begun, add_kept, flat_kept, added_set, tried_links}
 use Rattle.earley_sets.proofs.recce.Recce.complete_earleme.Goals as goal
 
 pub add_row-requires-clause-top : goal.add_row-requires-clause-top
-add_row-requires-clause-top g c = kept_top c.self.inside.flat.now c.self.inside.start c.self.inside.edges c.self.inside.rows c.self.inside.top c.self.inside.memo c.self.invariant.0
+add_row-requires-clause-top g c = kept_top c.self.inside.flat.now c.self.inside.start c.self.inside.edges c.self.inside.rows.sets c.self.inside.top c.self.inside.memo c.self.invariant.0
 
 pub add_row-requires-clause-sets : goal.add_row-requires-clause-sets
-add_row-requires-clause-sets g c = kept_sets c.self.inside.flat.now c.self.inside.start c.self.inside.edges c.self.inside.rows c.self.inside.top c.self.inside.memo c.self.invariant.0
+add_row-requires-clause-sets g c = kept_sets c.self.inside.flat.now c.self.inside.start c.self.inside.edges c.self.inside.rows.sets c.self.inside.top c.self.inside.memo c.self.invariant.0
 
 pub add_row-requires-clause-begun : goal.add_row-requires-clause-begun
-add_row-requires-clause-begun g c = kept_begun c.self.inside.flat.now c.self.inside.start c.self.inside.edges c.self.inside.rows c.self.inside.top c.self.inside.memo c.self.invariant.0
+add_row-requires-clause-begun g c = kept_begun c.self.inside.flat.now c.self.inside.start c.self.inside.edges c.self.inside.rows.sets c.self.inside.top c.self.inside.memo c.self.invariant.0
 
 pub invariant_of-self : goal.invariant_of-self
 invariant_of-self g c =
     let v = ap (λ (r : Recognizer). length r.sets) c.self.view_is in
     let r = c.requires in
     let s = c.self.invariant.0.is.some in
-    (add_kept c.self.inside.flat.now c.self.inside.start c.self.inside.edges c.self.inside.rows c.add_row.new.rows c.self.inside.top c.self.inside.memo c.self.invariant.0 c.add_row.result c.add_row.new.memo c.add_row.ensures.memo (omega arith) c.add_row.ensures.ok c.add_row.ensures.err, c.self.invariant.1)
+    let kept = add_kept c.self.inside.flat.now c.self.inside.start c.self.inside.edges c.self.inside.rows c.add_row.new.rows c.self.inside.top c.self.inside.memo c.self.invariant.0 c.add_row.result c.add_row.new.memo c.add_row.ensures.memo (omega arith) c.add_row.ensures.ok c.add_row.ensures.err in
+    let flat = flat_kept c.self.inside.flat.now c.self.inside.start c.self.inside.edges c.self.inside.rows c.add_row.new.rows c.self.inside.top c.self.inside.memo c.self.invariant.0 c.add_row.result c.add_row.new.memo c.self.invariant.2 c.add_row.ensures.ok c.add_row.ensures.err in
+    (kept, c.self.invariant.1, flat)
 
 pub returns-clause-ok : goal.returns-clause-ok
 returns-clause-ok g c =
-    subst (λ (r : Recognizer). OnOk c.add_row.result ((set : List Item) × (c.add_row.new.rows ≡ r.sets ++ set ∷ []) × IsListOf (InReduced r.flat (edges_of r) (top_of r) (length r.sets)) set)) c.self.view_is
+    subst (λ (r : Recognizer). OnOk c.add_row.result ((set : List Item) × (c.add_row.new.rows.sets ≡ r.sets ++ set ∷ []) × IsListOf (InReduced r.flat (edges_of r) (top_of r) (length r.sets)) set)) c.self.view_is
     (on_ok_weaker c.add_row.result (added_set c.self.inside.flat.now c.self.inside.start c.self.inside.edges c.self.inside.rows c.add_row.new.rows c.self.inside.top c.self.inside.memo c.self.invariant.0) c.add_row.ensures.ok)
 
 pub add_row-requires-clause-memo : goal.add_row-requires-clause-memo
@@ -42,3 +44,6 @@ returns-clause-counted g c =
 
 pub add_row-requires-clause-heads : goal.add_row-requires-clause-heads
 add_row-requires-clause-heads g c = c.self.invariant.1
+
+pub add_row-requires-clause-rows : goal.add_row-requires-clause-rows
+add_row-requires-clause-rows g c = record { flat = c.self.invariant.2; are = c.self.invariant.0.rows }

@@ -1,6 +1,4 @@
-use Rattle.std.proofs.Common.{◌∙◌, ◌↔◌, ◌-◌, ℕ, sym, ap, subst, List, length, IfOk, Result, Ok, Err}
-use Rattle.recognizer_model.specs.declared.Item.{Item}
-use Rattle.item_rows.specs.Order.{IsRow}
+use Rattle.std.proofs.Common.{◌↔◌, ◌-◌, ℕ, sym, subst, length, IfOk, Result, Ok, Err}
 use Rattle.item_rows.specs.Rows.{row_at}
 use Rattle.earley_sets.specs.Kept.{IsAwaitedTerminal}
 use Rattle.earley_sets.specs.Recognizer.{Recognizer, IsExpected}
@@ -11,15 +9,13 @@ if_ok_weaker : {T E : Type 0} {P Q : T → Type 0} (r : Result T E) → ((x : T)
 if_ok_weaker (Ok x) f p = f x p
 if_ok_weaker (Err e) f p = p
 
-pub expected-requires : goal.expected-requires
-expected-requires c = subst (IsRow c.self.inside.flat.now) (sym c.row.ensures) (c.self.invariant.0.rows (c.len-last.result - 1)).is_row
+pub expected-requires-clause-flat : goal.expected-requires-clause-flat
+expected-requires-clause-flat c = c.self.invariant.2
 
 pub returns-clause-exact : goal.returns-clause-exact
 returns-clause-exact c =
-    let flat = c.self.inside.flat.now in
-    let row_is = c.row.ensures ∙ ap (λ n. row_at c.self.inside.rows (n - 1)) c.len-last.ensures in
-    let law : (t : ℕ) → IsAwaitedTerminal c.self.inside.flat.now c.row.result.now (length c.self.inside.flat.now.symbols) t ↔ IsExpected c.args.self.now t =
-    λ t. subst (λ (r : Recognizer). IsAwaitedTerminal c.self.inside.flat.now c.row.result.now (length c.self.inside.flat.now.symbols) t ↔ IsExpected r t) c.self.view_is
-    (subst (λ (l : List Item). IsAwaitedTerminal c.self.inside.flat.now l (length c.self.inside.flat.now.symbols) t ↔ IsExpected (recognizer c.self.inside.flat.now c.self.inside.start c.self.inside.edges c.self.inside.rows c.self.inside.memo) t) (sym row_is)
-    (listed_expected c.self.inside.flat.now c.self.inside.start c.self.inside.edges c.self.inside.rows c.self.inside.top c.self.inside.memo c.self.invariant.0 t)) in
+    let law : (t : ℕ) → IsAwaitedTerminal c.self.inside.flat.now (row_at c.self.inside.rows.sets (c.len-last.result - 1)) (length c.self.inside.flat.now.symbols) t ↔ IsExpected c.args.self.now t =
+    λ t. subst (λ (r : Recognizer). IsAwaitedTerminal c.self.inside.flat.now (row_at c.self.inside.rows.sets (c.len-last.result - 1)) (length c.self.inside.flat.now.symbols) t ↔ IsExpected r t) c.self.view_is
+    (subst (λ n. IsAwaitedTerminal c.self.inside.flat.now (row_at c.self.inside.rows.sets (n - 1)) (length c.self.inside.flat.now.symbols) t ↔ IsExpected (recognizer c.self.inside.flat.now c.self.inside.start c.self.inside.edges c.self.inside.rows.sets c.self.inside.memo) t) (sym c.len-last.ensures)
+    (listed_expected c.self.inside.flat.now c.self.inside.start c.self.inside.edges c.self.inside.rows.sets c.self.inside.top c.self.inside.memo c.self.invariant.0 t)) in
     if_ok_weaker c.expected.result (λ ts exact t. ((λ h. (law t).0 ((exact t).0 h)), (λ h. (exact t).1 ((law t).1 h)))) c.expected.ensures.exact

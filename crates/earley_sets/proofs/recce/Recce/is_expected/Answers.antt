@@ -1,20 +1,16 @@
-use Rattle.std.proofs.Common.{◌∙◌, ◌↔◌, ◌-◌, sym, ap, subst, List}
-use Rattle.recognizer_model.specs.declared.Item.{Item}
-use Rattle.item_rows.specs.Order.{IsRow}
+use Rattle.std.proofs.Common.{◌↔◌, ◌-◌, sym, subst}
+use Rattle.recognizer_model.specs.Flat.{FlatGrammar}
 use Rattle.item_rows.specs.Rows.{row_at}
 use Rattle.earley_sets.specs.Kept.{IsAwaited}
 use Rattle.earley_sets.specs.Recognizer.{Recognizer, IsExpected}
 use Rattle.earley_sets.proofs.Recognizing.{awaited_expected, recognizer}
 use Rattle.earley_sets.proofs.recce.Recce.is_expected.Goals as goal
 
-pub is_awaited-requires : goal.is_awaited-requires
-is_awaited-requires c = subst (IsRow c.self.inside.flat.now) (sym c.row.ensures) (c.self.invariant.0.rows (c.len-last.result - 1)).is_row
-
 pub returns-in-Some : goal.returns-in-Some
 returns-in-Some c =
-    let law = awaited_expected c.self.inside.flat.now c.self.inside.start c.self.inside.edges c.self.inside.rows c.self.inside.top c.self.inside.memo c.self.invariant.0 c.in-Some.symbol c.args.t c.in-Some.ensures.some in
-    let there : IsAwaited c.self.inside.flat.now c.row.result.now c.in-Some.symbol ↔ IsExpected c.args.self.now c.args.t =
-    subst (λ (r : Recognizer). IsAwaited c.self.inside.flat.now c.row.result.now c.in-Some.symbol ↔ IsExpected r c.args.t) c.self.view_is
-    (subst (λ (l : List Item). IsAwaited c.self.inside.flat.now l c.in-Some.symbol ↔ IsExpected (recognizer c.self.inside.flat.now c.self.inside.start c.self.inside.edges c.self.inside.rows c.self.inside.memo) c.args.t)
-    (sym (c.row.ensures ∙ ap (λ n. row_at c.self.inside.rows (n - 1)) c.len-last.ensures)) law) in
+    let law = awaited_expected c.self.inside.flat.now c.self.inside.start c.self.inside.edges c.self.inside.rows.sets c.self.inside.top c.self.inside.memo c.self.invariant.0 c.in-Some.symbol c.args.t c.in-Some.ensures.some in
+    let there : IsAwaited c.self.inside.rows.flat (row_at c.self.inside.rows.sets (c.len-last.result - 1)) c.in-Some.symbol ↔ IsExpected c.args.self.now c.args.t =
+    subst (λ (r : Recognizer). IsAwaited c.self.inside.rows.flat (row_at c.self.inside.rows.sets (c.len-last.result - 1)) c.in-Some.symbol ↔ IsExpected r c.args.t) c.self.view_is
+    (subst (λ (f : FlatGrammar). IsAwaited f (row_at c.self.inside.rows.sets (c.len-last.result - 1)) c.in-Some.symbol ↔ IsExpected (recognizer c.self.inside.flat.now c.self.inside.start c.self.inside.edges c.self.inside.rows.sets c.self.inside.memo) c.args.t) (sym c.self.invariant.2)
+    (subst (λ n. IsAwaited c.self.inside.flat.now (row_at c.self.inside.rows.sets (n - 1)) c.in-Some.symbol ↔ IsExpected (recognizer c.self.inside.flat.now c.self.inside.start c.self.inside.edges c.self.inside.rows.sets c.self.inside.memo) c.args.t) (sym c.len-last.ensures) law)) in
     ((λ t. there.0 (c.is_awaited.ensures.0 t)), (λ h. c.is_awaited.ensures.1 (there.1 h)))

@@ -1,14 +1,19 @@
 use Rattle.std.proofs.Common.{◌∙◌, ◌∷◌, [], ap}
+use Rattle.item_rows.specs.Rows.{ItemRows}
 use Rattle.earley_sets.specs.Recognizer.{Recognizer, set_at}
 use Rattle.earley_sets.proofs.Recognizing.{first_there, restarted}
 use Rattle.earley_sets.proofs.recce.Recce.restart.Goals as goal
 
 pub keep_first-requires : goal.keep_first-requires
-keep_first-requires c = first_there c.self.inside.flat.now c.self.inside.start c.self.inside.edges c.self.inside.rows c.self.inside.top c.self.inside.memo c.self.invariant.0
+keep_first-requires c = first_there c.self.inside.flat.now c.self.inside.start c.self.inside.edges c.self.inside.rows.sets c.self.inside.top c.self.inside.memo c.self.invariant.0
 
 pub invariant_of-self : goal.invariant_of-self
-invariant_of-self c =
-    (restarted c.self.inside.flat.now c.self.inside.start c.self.inside.edges c.self.inside.rows c.self.inside.top c.self.inside.memo c.self.invariant.0 c.clear-2.new.self c.keep_first.new.self c.clear.new.self c.clear-2.ensures c.keep_first.ensures c.clear.ensures, c.self.invariant.1)
+invariant_of-self c = (
+  restarted c.self.inside.flat.now c.self.inside.start c.self.inside.edges c.self.inside.rows.sets c.self.inside.top c.self.inside.memo c.self.invariant.0 c.clear-2.new.self c.keep_first.new.self.sets c.clear.new.self c.clear-2.ensures
+      (ap (λ (r : ItemRows). r.sets) c.keep_first.ensures) c.clear.ensures,
+  c.self.invariant.1,
+  ap (λ (r : ItemRows). r.flat) c.keep_first.ensures ∙ c.self.invariant.2,
+)
 
 pub returns-clause-sets : goal.returns-clause-sets
-returns-clause-sets c = c.keep_first.ensures ∙ ap (λ (r : Recognizer). set_at r 0 ∷ []) c.self.view_is
+returns-clause-sets c = ap (λ (r : ItemRows). r.sets) c.keep_first.ensures ∙ ap (λ (r : Recognizer). set_at r 0 ∷ []) c.self.view_is

@@ -1,0 +1,228 @@
+-- Rows of packed items.
+use Rattle.std.proofs.Common.{rules, ◌≡◌, ◌≢◌, ◌==◌, inl, inr, ◌↔◌, ℕ, zero, suc, ◌+◌, ◌-◌, ◌*◌, ◌/◌, ◌%◌, ◌<◌, ◌≤◌, ◌++◌, true, List, [], ◌∷◌, length, map, take, drop, get_or, Some, Contains, refl, sym, ◌∙◌, ap, subst, arith}
+use Rattle.std.specs.Prelude.{nat_lt, slice_index, slice_index_or, Result, Ok, Err, MatchResult, is_ok, IsTrue}
+use Rattle.std.specs.Ordering.{nat_cmp}
+use Rattle.std.specs.Cmp.{IsEquivalence}
+use Rattle.std.specs.Cmp.Rules.{comparing}
+use Rattle.std.specs.List.{AllPairs}
+use Rattle.std.specs.List.Sorted.{IsPermutation, IsSorted, IsStrictlyIncreasing, IsPartitionedBy, IsBinarySearchResult}
+use Rattle.std.proofs.lemmas.Bool.{eqb-true, eq-eqb, ltb-true, lt-ltb, cases_lt}
+use Rattle.std.proofs.lemmas.List.{get_or-map, get_or-take, get_or-drop, take_more}
+use Rattle.std.proofs.lemmas.List.Sorted.{searched, Contains-permutation, IsPermutation-sym, IsPermutation-map, IsNonDecreasingBy-from_sort}
+use Rattle.std.proofs.lemmas.List.Kept.{AllPairs-from_increasing}
+use Rattle.std.proofs.lemmas.Map.Keys.{IsDistinct-IsPermutation}
+use Rattle.std.proofs.lemmas.Map.Made.{AllPairs-from_IsDistinct, IsDistinct-from_AllPairs}
+use Rattle.grammar_core.proofs.Placed.{part_from, part_to, part_length, found_at, at_found}
+use Rattle.grammar_core.proofs.Halving.{index_get}
+use Rattle.recognizer_model.specs.declared.Item.{Item}
+use Rattle.recognizer_model.specs.Flat.{FlatGrammar}
+use Rattle.recognizer_model.specs.Items.{after}
+use Rattle.recognizer_model.specs.Counts.{IsListOf}
+use Rattle.item_rows.specs.declared.dotted.Span.{Span}
+use Rattle.item_rows.specs.Kept.{IsAwaited}
+use Rattle.item_rows.specs.Dotted.{unpacked, IsPacked, Rises, IsPackedRow, DifferInDots, IsSpan}
+use Rattle.item_rows.proofs.Items.{once_permuted}
+use Rattle.item_rows.proofs.Listed.{index_any}
+
+module _ {A B : Type 0} (f : A → B) where
+  pub map_length : (xs : List A) → length (map f xs) ≡ length xs
+  map_length [] = refl
+  map_length (x ∷ xs) = ap suc (map_length xs)
+
+  pub map_has : (xs : List A) (x : A) → Contains xs x → Contains (map f xs) (f x)
+  map_has xs x (k, lt, e) = (k, (let l = map_length xs in omega arith), get_or-map f xs k x (f x) lt ∙ ap f e)
+
+  pub map_from : (xs : List A) (y : B) → Contains (map f xs) y → (x : A) × Contains xs x × (f x ≡ y)
+  map_from [] y (k, lt, e) = absurd (omega arith)
+  map_from (x ∷ xs) y (zero, lt, e) = (x, (0, omega arith, refl), e)
+  map_from (x ∷ xs) y (suc k, lt, e) = let (z, (j, b, h), same) = map_from xs y (k, omega arith, e) in (z, (suc j, omega arith, h), same)
+
+-- one more number is packed
+pub pack_more : (rules items : List Item) (packed new : List ℕ) (k n : ℕ) (d : Item) → map (unpacked rules) packed ≡ take k items → new ≡ packed ++ n ∷ [] → unpacked rules n ≡ get_or items k d → k < length items →
+    map (unpacked rules) new ≡ take (k + 1) items
+pack_more rules items packed new k n d before is same lt =
+    ap (map (unpacked rules)) is ∙ (map_append packed (n ∷ []) ∙ (ap (λ l. l ++ unpacked rules n ∷ []) before ∙ (ap (λ x. take k items ++ x ∷ []) same ∙ sym (take_more items k d lt))))
+  where
+    map_append : (xs ys : List ℕ) → map (unpacked rules) (xs ++ ys) ≡ map (unpacked rules) xs ++ map (unpacked rules) ys
+    map_append [] ys = refl
+    map_append (x ∷ xs) ys = ap (λ l. unpacked rules x ∷ l) (map_append xs ys)
+
+-- numbers that rise
+module _ (row : List ℕ) (rises : Rises row) where
+  pub in_order : (i j : ℕ) → i ≤ j → j < length row → get_or row i 0 ≤ get_or row j 0
+  in_order i j le lt = elim (cases_lt i j) [
+    | inl l ↦ let r = rises i j 0 l lt in omega arith
+    | inr l ↦ let same : i ≡ j = omega arith in let e = ap (λ k. get_or row k 0) same in omega arith
+  ]
+
+  pub below_parted : (bound : ℕ) → IsPartitionedBy (λ n. nat_lt n bound) row
+  below_parted bound i j d le lt e =
+      let h = ltb-true _ _ e in
+      let o = in_order i j le lt in
+      let a = index_any row i d 0 (omega arith) in
+      let b = index_any row j d 0 lt in
+      lt-ltb _ _ (omega arith)
+
+  pub part_rises : (start end : ℕ) → start ≤ end → end ≤ length row → Rises (take (end - start) (drop start row))
+  part_rises start end le bound i j d lt below =
+      let l = part_length row start end le bound in
+      let r = rises (start + i) (start + j) d (omega arith) (omega arith) in
+      let a = get_or-take (end - start) (drop start row) i d (omega arith) ∙ get_or-drop start row i d in
+      let b = get_or-take (end - start) (drop start row) j d (omega arith) ∙ get_or-drop start row j d in
+      omega arith
+
+  -- a part of them, by two bounds
+  module _ (low high start end : ℕ) (le : low ≤ high) (bs : start ≤ length row) (be : end ≤ length row)
+      (b1 : (k : ℕ) → k < start → slice_index row k < low) (a1 : (k : ℕ) → start ≤ k → k < length row → low ≤ slice_index row k)
+      (b2 : (k : ℕ) → k < end → slice_index row k < high) (a2 : (k : ℕ) → end ≤ k → k < length row → high ≤ slice_index row k) where
+    pub part_order : start ≤ end
+    part_order = elim (cases_lt end start) [ inr l ↦ l | inl l ↦ let p = b1 end l in let q = a2 end (omega arith) (omega arith) in absurd (omega arith) ]
+
+    pub part_exact : (n : ℕ) → Contains (take (end - start) (drop start row)) n ↔ (Contains row n × (low ≤ n) × (n < high))
+    part_exact n = (there, back)
+      where
+        there : Contains (take (end - start) (drop start row)) n → Contains row n × (low ≤ n) × (n < high)
+        there h =
+            let (k, from, to, is) = part_from row start end part_order be n h in
+            let (lt, same) = index_get row k 0 n is in
+            let p = a1 k from lt in
+            let q = b2 k to in
+            (at_found row k n is, omega arith, omega arith)
+
+        back : Contains row n × (low ≤ n) × (n < high) → Contains (take (end - start) (drop start row)) n
+        back (c, from, to) =
+            let (k, is) = found_at row n c in
+            let (lt, same) = index_get row k 0 n is in
+            part_to row start end part_order be k n
+            (elim (cases_lt k start) [ inr l ↦ l | inl l ↦ let p = b1 k l in absurd (omega arith) ])
+            (elim (cases_lt k end) [ inl l ↦ l | inr l ↦ let p = a2 k l lt in absurd (omega arith) ]) is
+
+  pub search_tells : (n : ℕ) (r : Result ℕ ℕ) → IsBinarySearchResult (λ y. nat_cmp y n) row r → IsTrue (is_ok r) ↔ Contains row n
+  search_tells n r h = go r (searched row n r h in_order)
+    where
+      go : (r : Result ℕ ℕ) → MatchResult r (λ i. (i < length row) × (get_or row i 0 ≡ n)) (λ i. (i ≤ length row) × ((k : ℕ) → k < i → get_or row k 0 < n) × ((k : ℕ) → i ≤ k → k < length row → n < get_or row k 0)) →
+          IsTrue (is_ok r) ↔ Contains row n
+      go (Ok i) (lt, e) = ((λ _. (i, lt, index_any row i n 0 lt ∙ e)), (λ _. refl))
+      go (Err i) (le, below, above) = (
+        (λ t. absurd (cc)),
+        (λ (k, lt, e). (
+            let same : get_or row k 0 ≡ n = index_any row k 0 n lt ∙ e in
+            absurd (elim (cases_lt k i) [ inl l ↦ let b = below k l in omega arith | inr l ↦ let a = above k l lt in omega arith ]))),
+      )
+
+-- the packed items of a row that wait for a symbol
+module _ (rules : List Item) (g : FlatGrammar) (row : List ℕ) (is : IsPackedRow (length rules) row) (x : ℕ) (span : Span) (is_span : IsSpan g rules x span) where
+  waits : (n : ℕ) (item : Item) → Contains row n → unpacked rules n ≡ item → ((span.start ≤ n / 4294967296) × (n / 4294967296 < span.end)) ↔ (after g item ≡ Some x)
+  waits n item h e =
+      let (to, from) = is_span.exact (n / 4294967296) (is.within n h) in
+      let same : after g (unpacked rules n) ≡ after g item = ap (after g) e in
+      ((λ p. sym same ∙ to p), (λ w. from (same ∙ w)))
+
+  module _ (place : ℕ) (below : (k : ℕ) → k < place → slice_index row k < span.start * 4294967296) (above : (k : ℕ) → place ≤ k → k < length row → span.start * 4294967296 ≤ slice_index row k) where
+    pub one_awaited : ((place < length row) × (slice_index row place < span.end * 4294967296)) ↔ IsAwaited g (map (unpacked rules) row) x
+    one_awaited = (there, back)
+      where
+        there : (place < length row) × (slice_index row place < span.end * 4294967296) → IsAwaited g (map (unpacked rules) row) x
+        there (lt, high) =
+            let n = slice_index row place in
+            let low = above place (omega arith) lt in
+            let h : Contains row n = (place, lt, index_any row place n 0 lt) in
+            (unpacked rules n, map_has (unpacked rules) row n h, (waits n (unpacked rules n) h refl).0 (omega arith, omega arith))
+
+        back : IsAwaited g (map (unpacked rules) row) x → (place < length row) × (slice_index row place < span.end * 4294967296)
+        back (item, c, w) =
+            let (n, (k, lt, at), e) = map_from (unpacked rules) row item c in
+            let (from, to) = (waits n item (k, lt, at) e).1 w in
+            let same : slice_index row k ≡ n = index_any row k 0 n lt ∙ at in
+            let first : place ≤ k = elim (cases_lt k place) [ inr l ↦ l | inl l ↦ let b = below k l in absurd (omega arith) ] in
+            let o = in_order row is.rises place k first lt in
+            (omega arith, omega arith)
+
+module _ (rules : List Item) (differ : DifferInDots rules) where
+  pub unpack_one : (m n : ℕ) → m / 4294967296 < length rules → n / 4294967296 < length rules → unpacked rules m ≡ unpacked rules n → m ≡ n
+  unpack_one m n a b e =
+      let r = ap (λ (z : Item). z.rule) e in
+      let d = ap (λ (z : Item). z.dot) e in
+      let o : m % 4294967296 ≡ n % 4294967296 = ap (λ (z : Item). z.origin) e in
+      let q : m / 4294967296 ≡ n / 4294967296 = differ (m / 4294967296) (n / 4294967296) a b r d in
+      omega arith
+
+  pub once_unpacked : (row : List ℕ) → IsPackedRow (length rules) row → AllPairs (λ x y. x ≢ y) (map (unpacked rules) row)
+  once_unpacked row is i j d lt below e =
+      let l = map_length (unpacked rules) row in
+      let m = get_or row i 0 in
+      let n = get_or row j 0 in
+      let h : unpacked rules m ≡ unpacked rules n = sym (get_or-map (unpacked rules) row i 0 d (omega arith)) ∙ (e ∙ get_or-map (unpacked rules) row j 0 d (omega arith)) in
+      let same = unpack_one m n (is.within m (i, omega arith, index_any row i m 0 (omega arith))) (is.within n (j, omega arith, index_any row j n 0 (omega arith))) h in
+      let r = is.rises i j 0 lt (omega arith) in
+      absurd (omega arith)
+
+  module _ (g : FlatGrammar) (row : List ℕ) (is : IsPackedRow (length rules) row) (x : ℕ) (span : Span) (is_span : IsSpan g rules x span) where
+    module _ (part : List ℕ) (rises : Rises part) (exact : (n : ℕ) → Contains part n ↔ (Contains row n × (span.start ≤ n / 4294967296) × (n / 4294967296 < span.end))) where
+      pub part_packed : IsPackedRow (length rules) part
+      part_packed = record { rises = rises; within = λ n h. is.within n ((exact n).0 h).0 }
+
+      pub part_waits : IsListOf (λ item. Contains (map (unpacked rules) row) item × (after g item ≡ Some x)) (map (unpacked rules) part)
+      part_waits = record { once = once_unpacked part part_packed; exact = λ item. (there item, back item) }
+        where
+          there : (item : Item) → Contains (map (unpacked rules) part) item → Contains (map (unpacked rules) row) item × (after g item ≡ Some x)
+          there item c =
+              let (n, h, e) = map_from (unpacked rules) part item c in
+              let (in_row, from, to) = (exact n).0 h in
+              (subst (Contains (map (unpacked rules) row)) e (map_has (unpacked rules) row n in_row), (waits rules g row is x span is_span n item in_row e).0 (from, to))
+
+          back : (item : Item) → Contains (map (unpacked rules) row) item × (after g item ≡ Some x) → Contains (map (unpacked rules) part) item
+          back item (c, w) =
+              let (n, h, e) = map_from (unpacked rules) row item c in
+              let (from, to) = (waits rules g row is x span is_span n item h e).1 w in
+              subst (Contains (map (unpacked rules) part)) e (map_has (unpacked rules) part n ((exact n).1 (h, from, to)))
+
+  pub packed_there : (row : List ℕ) → IsPackedRow (length rules) row → (item : Item) (n : ℕ) → IsPacked rules n item → Contains row n ↔ Contains (map (unpacked rules) row) item
+  packed_there row is item n (lt, e) = (
+    λ h. subst (Contains (map (unpacked rules) row)) e (map_has (unpacked rules) row n h),
+    λ c. (let (m, h, same) = map_from (unpacked rules) row item c in subst (Contains row) (unpack_one m n (is.within m h) lt (same ∙ sym e)) h),
+  )
+
+pub packed_absent : (rules : List Item) (row : List ℕ) → IsPackedRow (length rules) row → (item : Item) → ((n : ℕ) → ¬ IsPacked rules n item) → ¬ Contains (map (unpacked rules) row) item
+packed_absent rules row is item none c = let (m, h, same) = map_from (unpacked rules) row item c in none m (is.within m h, same)
+
+-- a row is packed: its items are packed, and the numbers are sorted
+nat_eq-laws : IsEquivalence (λ (m n : ℕ). m == n)
+nat_eq-laws = search (comparing, rules)
+
+decides : (m n : ℕ) → ((m == n) ≡ true → m ≡ n) × (m ≡ n → (m == n) ≡ true)
+decides m n = (eqb-true m n, eq-eqb m n)
+
+module _ (rules : List Item) (items : List Item) (packed sorted : List ℕ) (is : map (unpacked rules) packed ≡ items) (within : (n : ℕ) → Contains packed n → n / 4294967296 < length rules)
+    (once : AllPairs (λ x y. x ≢ y) items) (moved : IsPermutation packed sorted) (order : IsSorted nat_cmp sorted) where
+  packed_once : AllPairs (λ m n. m ≢ n) packed
+  packed_once i j d lt below e =
+      let l = map_length (unpacked rules) packed in
+      let s = ap (λ (z : List Item). length z) is in
+      let u = unpacked rules d in
+      let at : (k : ℕ) → k < length packed → slice_index_or items k u ≡ unpacked rules (slice_index_or packed k d) = λ k b. ap (λ z. slice_index_or z k u) (sym is) ∙ get_or-map (unpacked rules) packed k d u b in
+      once i j u lt (omega arith) (at i (omega arith) ∙ (ap (unpacked rules) e ∙ sym (at j below)))
+
+  sorted_apart : AllPairs (λ m n. m ≢ n) sorted
+  sorted_apart = AllPairs-from_IsDistinct decides sorted (IsDistinct-IsPermutation (λ m n. m == n) nat_eq-laws.symm packed sorted moved (IsDistinct-from_AllPairs decides packed packed_once))
+
+  increasing : IsStrictlyIncreasing sorted
+  increasing k lt =
+      let up = IsNonDecreasingBy-from_sort (λ (n : ℕ). n) sorted order k (k + 1) 0 (omega arith) lt in
+      let apart : slice_index sorted k ≢ slice_index sorted (k + 1) = sorted_apart k (k + 1) 0 (omega arith) lt in
+      elim (cases_lt (slice_index sorted k) (slice_index sorted (k + 1))) [ inl l ↦ l | inr l ↦ absurd (apart (omega arith)) ]
+
+  pub sorted_row : IsPackedRow (length rules) sorted
+  sorted_row = record { rises = AllPairs-from_increasing sorted increasing; within = λ n h. within n (Contains-permutation sorted packed n (IsPermutation-sym packed sorted moved) h) }
+
+  permuted : IsPermutation items (map (unpacked rules) sorted)
+  permuted = subst (λ (l : List Item). IsPermutation l (map (unpacked rules) sorted)) is (IsPermutation-map (unpacked rules) packed sorted moved)
+
+  pub sorted_items : IsListOf (Contains items) (map (unpacked rules) sorted)
+  sorted_items = record {
+    once = once_permuted items (map (unpacked rules) sorted) permuted once;
+    exact = λ item. (
+      Contains-permutation (map (unpacked rules) sorted) items item (IsPermutation-sym items (map (unpacked rules) sorted) permuted),
+      Contains-permutation items (map (unpacked rules) sorted) item permuted,
+    );
+  }

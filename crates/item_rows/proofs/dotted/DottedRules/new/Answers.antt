@@ -1,0 +1,39 @@
+use Rattle.std.proofs.Common.{sym, ap, subst, length, arith, refl, Contains, List}
+use Rattle.std.specs.Prelude.{◌≢◌}
+use Rattle.std.specs.List.{AllPairs}
+use Rattle.recognizer_model.specs.declared.Item.{Item}
+use Rattle.item_rows.specs.Dotted.{AreNumbers, AreSpans}
+use Rattle.item_rows.proofs.Listed.{rules_differ, all_numbered, each_numbered}
+use Rattle.item_rows.proofs.dotted.DottedRules.new.Goals as goal
+
+abbrev OnceIn : List Item → Type 0
+OnceIn items = AllPairs (λ x y. x ≢ y) items
+
+pub list_numbers-requires-clause-all : goal.list_numbers-requires-clause-all
+list_numbers-requires-clause-all c item h =
+    subst (λ (l : List Item). Contains l item) (sym c.deref-4.ensures.value)
+    ((c.in_ok-list_sorted.ensures.same item).1 (subst (λ (l : List Item). Contains l item) (sym c.deref-2.ensures.value) (subst (λ (l : List Item). Contains l item) c.deref-3.ensures.value h)))
+
+pub invariant_of-result : goal.invariant_of-result
+invariant_of-result c =
+    let g = c.args.flat.now in
+    let listed = c.list_all.new.listed.items in
+    let firsts = c.list_all.new.firsts.items in
+    let rules = c.list_sorted.new.row.items in
+    let n = length c.args.flat.now.rules in
+    let same = λ (item : Item) (h : Contains c.list_sorted.new.row.items item). subst (λ (l : List Item). Contains l item) c.deref-2.ensures.value ((c.in_ok-list_sorted.ensures.same item).0 h) in
+    let once = subst (λ (l : List Item). OnceIn l → OnceIn c.list_sorted.new.row.items) c.deref-2.ensures.value c.in_ok-list_sorted.ensures.once in
+    let numbers = subst (λ (l : List Item). AreNumbers l c.list_sorted.new.row.items c.in_ok-numbers.numbers.items) c.deref-3.ensures.value
+    (subst (λ (r : List Item). AreNumbers c.deref-3.result.now r c.in_ok-numbers.numbers.items) c.deref-4.ensures.value c.in_ok-numbers.ensures) in
+    record {
+      few = (
+          let size = c.in_ok-list_sorted.ensures.length in
+          let a = ap (λ (l : List Item). length l) c.deref-2.ensures.value in
+          let b = ap (λ (l : List Item). length l) c.deref.ensures.value in
+          let counted = c.in_ok-_count.ensures in
+          omega arith);
+      differ = rules_differ g listed firsts n c.in_ok-list_all.ensures rules same once;
+      all = all_numbered g listed firsts n c.in_ok-list_all.ensures rules same once c.in_ok-numbers.numbers.items numbers refl;
+      each = each_numbered g listed firsts n c.in_ok-list_all.ensures rules same once c.in_ok-numbers.numbers.items numbers;
+      by_symbol = subst (λ (r : List Item). AreSpans c.args.flat.now r c.in_ok-spans.spans.items (length c.args.flat.now.symbols)) c.deref-5.ensures.value c.in_ok-spans.ensures;
+    }

@@ -1,0 +1,256 @@
+//! The dotted rules of a flat grammar, numbered in the order of rows, so that an item is a number and an origin.
+ghost use Rattle.std.specs.Prelude.{◌≡◌, ◌≢◌, ◌≤◌, ◌<◌, ◌/◌, ◌+◌, ◌^◌, ℕ, suc, [], length, Some, slice_get, Contains, IfOk, IfSome, IsNone, OnOk};
+ghost use Rattle.std.specs.List.{AllPairs};
+ghost use Rattle.recognizer_model.specs.declared.Item.{Item as TheItem};
+ghost use Rattle.recognizer_model.specs.Flat.{IsRule, rhs_of};
+ghost use Rattle.item_rows.specs.Order.{IsInOrder};
+ghost use Rattle.item_rows.specs.Kept.{IsItem};
+ghost use Rattle.item_rows.specs.Dotted.{AddsDots, AreListed, AreNumbers, IsSpan, AreSpans, IsTable, IsPacked, DifferInDots, unpacked};
+
+use crate::order::{below, list_sorted, number_of};
+use grammar_core::Flat;
+use recognizer_model::Item;
+use std::alloc::{AllocError, AllocFailed, Global};
+use std::marker::Model;
+
+// How many origins there may be.
+const ORIGINS: u64 = 4_294_967_296;
+
+/// The dotted rules that wait for a symbol: the number of the first, and where they end.
+#[derive(Clone, Copy)]
+pub struct Span {
+    pub start: u32,
+    pub end: u32,
+}
+
+/// The dotted rules of a flat grammar. Each is an item with the origin 0.
+#[derive(Drop)]
+pub struct DottedRules<'g> {
+    flat: &'g Flat,
+    // in the order of rows
+    rules: Vec<Item>,
+    // where those of each rule begin, rule by rule
+    firsts: Vec<u32>,
+    // the numbers of the dotted rules, rule by rule
+    numbers: Vec<u32>,
+    // by the symbols' numbers
+    spans: Vec<Span>,
+}
+
+impl<'g> Model for DottedRules<'g> {
+    ghost use Rattle.item_rows.specs.Dotted.{Dotted, IsTable};
+
+    ghost Value = { Dotted };
+
+    ghost view = { λ d. record { flat = d.flat.now; rules = d.rules.items } };
+
+    ghost invariant = { λ d. IsTable d.flat.now d.rules.items d.firsts.items d.numbers.items d.spans.items };
+}
+
+// How many items there are, if 32 bits can tell it.
+fn count(items: &[Item]) -> Result<u32, AllocError>
+    ensures { IfOk result (λ n. n ≡ length items.now) }
+{
+    let count = items.len();
+    if count < 4_294_967_296 {
+        Ok(count as u32)
+    } else {
+        Err(AllocError)
+    }
+}
+
+// Lists the dotted rules of a rule.
+fn list_dots(flat: &Flat, rule: u32, listed: &mut Vec<Item>) -> Result<(), AllocFailed<Item>>
+    requires { IsRule flat.now rule }
+    ensures { OnOk result (AddsDots rule (suc (length (rhs_of flat.now rule))) listed.old.items listed.new.items) }
+{
+    flat.known();
+    let length = flat.rhs(rule).len() as u32;
+    for dot in 0..length {
+        listed.push(Item {
+            rule,
+            dot,
+            origin: 0,
+        })?;
+    }
+    listed.push(Item {
+        rule,
+        dot: length,
+        origin: 0,
+    })?;
+    Ok(())
+}
+
+// Lists the dotted rules rule by rule, and where those of each rule begin.
+fn list_all(flat: &Flat, listed: &mut Vec<Item>, firsts: &mut Vec<u32>) -> Result<(), AllocError>
+    requires listed { listed.old.items ≡ [] }
+    requires firsts { firsts.old.items ≡ [] }
+    ensures { OnOk result (AreListed flat.now listed.new.items firsts.new.items (length flat.now.rules)) }
+{
+    flat.known();
+    for rule in 0..flat.rule_count() {
+        let first = count(listed.as_slice())?;
+        firsts.push(first)?;
+        list_dots(flat, rule as u32, listed)?;
+    }
+    Ok(())
+}
+
+// The numbers that dotted rules have in the order of rows.
+fn list_numbers(
+    alloc: Global,
+    flat: &Flat,
+    listed: &[Item],
+    rules: &[Item],
+) -> Result<Vec<u32>, AllocError>
+    requires order { IsInOrder flat.now rules.now }
+    requires few { length rules.now < 2 ^ 32 }
+    requires all { (item : TheItem) → Contains listed.now item → Contains rules.now item }
+    ensures { IfOk result (λ numbers. AreNumbers listed.now rules.now numbers.items) }
+{
+    let mut numbers = Vec::new(alloc);
+    for item in listed {
+        match number_of(flat, rules, *item) {
+            Some(number) => numbers.push(number as u32)?,
+            None => unreachable!(),
+        }
+    }
+    Ok(numbers)
+}
+
+// Looks for the dotted rules that wait for a symbol.
+fn find_span(flat: &Flat, rules: &[Item], symbol: u32) -> Span
+    requires order { IsInOrder flat.now rules.now }
+    requires few { length rules.now < 2 ^ 32 }
+    ensures { IsSpan flat.now rules.now symbol result }
+{
+    let symbol = symbol as u64;
+    let start = below(flat, rules, symbol);
+    let end = below(flat, rules, symbol + 1);
+    Span {
+        start: start as u32,
+        end: end as u32,
+    }
+}
+
+// Lists the spans of all symbols.
+fn list_spans(alloc: Global, flat: &Flat, rules: &[Item]) -> Result<Vec<Span>, AllocError>
+    requires order { IsInOrder flat.now rules.now }
+    requires few { length rules.now < 2 ^ 32 }
+    ensures { IfOk result (λ spans. AreSpans flat.now rules.now spans.items (length flat.now.symbols)) }
+{
+    flat.known();
+    let mut spans = Vec::new(alloc);
+    for symbol in 0..flat.symbol_count() {
+        spans.push(find_span(flat, rules, symbol as u32))?;
+    }
+    Ok(spans)
+}
+
+fn number_at(numbers: &[u32], place: usize) -> Option<u32>
+    ensures { result ≡ slice_get numbers.now place }
+{
+    numbers.get(place).copied()
+}
+
+fn item_at(items: &[Item], place: usize) -> Option<Item>
+    ensures { result ≡ slice_get items.now place }
+{
+    items.get(place).copied()
+}
+
+fn span_at(spans: &[Span], place: usize) -> Option<Span>
+    ensures { result ≡ slice_get spans.now place }
+{
+    spans.get(place).copied()
+}
+
+/// The item that is packed into a number.
+pub fn unpack(rules: &[Item], packed: u64) -> Item
+    requires { packed / 4294967296 < length rules.now }
+    ensures { result ≡ unpacked rules.now packed }
+{
+    let dotted = rules[(packed / ORIGINS) as usize];
+    Item {
+        rule: dotted.rule,
+        dot: dotted.dot,
+        origin: (packed % ORIGINS) as u32,
+    }
+}
+
+// The number that stands for a rule and a dot, if there is one.
+fn find_number(firsts: &[u32], numbers: &[u32], item: Item) -> Option<u32>
+    ensures { (first : ℕ) → slice_get firsts.now item.rule ≡ Some first → result ≡ slice_get numbers.now (first + item.dot) }
+{
+    let first = number_at(firsts, item.rule as usize)?;
+    number_at(numbers, first as usize + item.dot as usize)
+}
+
+// A dotted rule and the origin of an item in one number, if the dotted rule is that of the item.
+fn pack_with(rules: &[Item], number: u32, item: Item) -> Option<u64>
+    ensures some { IfSome result (λ n. IsPacked rules.now n item) }
+    ensures none { IsNone result → slice_get rules.now number ≢ Some (record { rule = item.rule; dot = item.dot; origin = 0 }) }
+{
+    let dotted = item_at(rules, number as usize)?;
+    if dotted.rule == item.rule && dotted.dot == item.dot {
+        Some(number as u64 * ORIGINS + item.origin as u64)
+    } else {
+        None
+    }
+}
+
+impl<'g> DottedRules<'g> {
+    pub fn new(alloc: Global, flat: &'g Flat) -> Result<DottedRules<'g>, AllocError>
+        ensures { IfOk result (λ d. d.flat ≡ flat.now) }
+    {
+        let mut listed = Vec::new(alloc);
+        let mut firsts = Vec::new(alloc);
+        list_all(flat, &mut listed, &mut firsts)?;
+        let _count = count(&listed)?;
+        let mut rules = Vec::new(alloc);
+        list_sorted(alloc, flat, &listed, &mut rules)?;
+        let numbers = list_numbers(alloc, flat, &listed, &rules)?;
+        let spans = list_spans(alloc, flat, &rules)?;
+        Ok(DottedRules {
+            flat,
+            rules,
+            firsts,
+            numbers,
+            spans,
+        })
+    }
+
+    /// States what is always so of dotted rules.
+    pub fn known(&self)
+        ensures { DifferInDots self.now.rules }
+    {
+        let _count = self.rules.len();
+    }
+
+    /// The dotted rules in the order of rows.
+    pub fn rules(&self) -> &[Item]
+        ensures { result.now ≡ self.now.rules }
+    {
+        &self.rules
+    }
+
+    /// The number that an item is packed into, if it is one of the grammar.
+    pub fn pack(&self, item: Item) -> Option<u64>
+        ensures some { IfSome result (λ n. IsPacked self.now.rules n item) }
+        ensures none { IsNone result → (¬ IsItem self.now.flat item) × ((n : ℕ) → ¬ IsPacked self.now.rules n item) }
+    {
+        let number = find_number(&self.firsts, &self.numbers, item)?;
+        pack_with(&self.rules, number, item)
+    }
+
+    /// The dotted rules that wait for a symbol.
+    pub fn span(&self, symbol: u32) -> Span
+        ensures { IsSpan self.now.flat self.now.rules symbol result }
+    {
+        self.flat.known();
+        match span_at(&self.spans, symbol as usize) {
+            Some(span) => span,
+            None => Span { start: 0, end: 0 },
+        }
+    }
+}
