@@ -1,5 +1,5 @@
 -- The codes that fold as one character does, found in the table of pairs.
-use Rattle.std.proofs.Common.{◌≡◌, ◌≢◌, ◌∙◌, sym, ap, refl, ℕ, zero, suc, ◌+◌, ◌-◌, ◌<◌, ◌≤◌, Bool, true, false, ◌&&◌, List, [], ◌∷◌, length, map, get_or, take, drop, Any, arith, eqb-true, eq-eqb, length-drop, length-take-le}
+use Rattle.std.proofs.Common.{◌≡◌, ◌≢◌, ◌∙◌, sym, ap, refl, ℕ, zero, suc, ◌+◌, ◌-◌, ◌<◌, ◌≤◌, Bool, true, false, ◌&&◌, List, [], ◌∷◌, length, map, get_or, take, drop, Any, arith, subst, eqb-true, eq-eqb, length-drop, length-take-le}
 use Rattle.std.proofs.Math.Bool.{or-false}
 use Rattle.std.proofs.lemmas.List.{get_or-take, get_or-drop, take-append-drop}
 use Rattle.std.specs.Prelude.{◌||◌, ◌==◌, nat_lt, nat_le}
@@ -110,6 +110,12 @@ alone code c h =
 
 itself : (code : ℕ) → some_item_has (Span code code ∷ []) code ≡ true
 itself code = let e = le-leb code code (omega arith) in or-false (nat_le code code && nat_le code code) ∙ both_true e e
+
+-- a class of one character has that one
+pub only_itself : (code c : ℕ) → some_item_has (Span code code ∷ []) c ≡ (code == c)
+only_itself code c =
+    equal_tests (some_item_has (Span code code ∷ []) c) (code == c)
+    (λ h. eq-eqb code c (sym (alone code c h))) (λ h. subst (λ x. some_item_has (Span code code ∷ []) x ≡ true) (eqb-true code c h) (itself code))
 
 to_folded : (code x : ℕ) → Any (λ (pair : ℕ × ℕ). leads code x pair ≡ true) fold_pairs → folded_has (Span code code ∷ []) x ≡ true
 to_folded code x (k, pair, within, is, passes) =

@@ -102,6 +102,21 @@ bits_next p bits k within so_far false is new new_is = (
   λ c ge. ap (λ n. bit_at n c) new_is ∙ so_far.1 c (omega arith),
 )
 
+-- a bit that is set, and the others
+pub bit_set : (bits code : ℕ) → code < 128 → (c : ℕ) → bit_at (bit_or bits (1 * 2 ^ code % 2 ^ 128)) c ≡ (if code == c then 1 else bit_at bits c)
+bit_set bits code within c = go (code == c) refl
+  where
+    go : (b : Bool) → (code == c) ≡ b → bit_at (bit_or bits (1 * 2 ^ code % 2 ^ 128)) c ≡ (if b then 1 else bit_at bits c)
+    go true e = subst (λ x. bit_at (bit_or bits (1 * 2 ^ code % 2 ^ 128)) x ≡ 1) (eqb-true code c e) (bit_at_set_same w128 bits code within)
+    go false e = bit_at_set_other w128 bits code within c (λ alike. let both = eq-eqb code c (sym alike) in cc)
+
+-- a bit that is set beside those of a test
+pub bit_more : (b here : Bool) (new old : ℕ) → old ≡ bit_of b → new ≡ (if here then 1 else old) → new ≡ bit_of (b || here)
+bit_more true true new old o n = n
+bit_more true false new old o n = n ∙ o
+bit_more false true new old o n = n
+bit_more false false new old o n = n ∙ o
+
 -- what a stored bit answers
 pub bit_answers : (k now : Class) (bits c : ℕ) → HasBits k bits → k ≡ now → c < 128 → ((bit_and (bits / 2 ^ c) 1 == 1) ≡ true) ↔ HasMember now c
 bit_answers k now bits c has same below =

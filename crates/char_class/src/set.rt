@@ -1,5 +1,5 @@
 //! A class that is ready to be asked.
-ghost use Rattle.std.specs.Prelude.{◌≡◌, ◌≤◌, ◌<◌, ◌↔◌, ℕ, length, chars, IsTrue, IfOk, not, ◌||◌, if◌then◌else◌};
+ghost use Rattle.std.specs.Prelude.{◌≡◌, ◌≤◌, ◌<◌, ◌↔◌, ◌==◌, ℕ, length, chars, IsTrue, IfOk, not, ◌||◌, if◌then◌else◌};
 ghost use Rattle.std.specs.Prelude.{map, nat_lt, true, false, [], ◌∷◌, ◌-◌, take, drop};
 ghost use Rattle.std.specs.List.Sorted.{IsPartitionedBy, IsPartitionPoint};
 ghost use Rattle.std.specs.Char.{IsScalar};
@@ -165,13 +165,37 @@ fn ascii_bits(negated: bool, items: &[ClassItem], folded: &[u32]) -> u128
     bits
 }
 
+// The bits with that of a code, if it is below 128.
+fn with_bit(bits: u128, code: u32) -> u128
+    ensures { (c : ℕ) → c < 128 → bit_at result c ≡ (if code == c then 1 else bit_at bits c) }
+{
+    if code < 128 { bits | 1 << code } else { bits }
+}
+
+// The bits of one character and of codes.
+fn char_bits(c: char, codes: &[u32]) -> u128
+    ensures { (x : ℕ) → x < 128 → bit_at result x ≡ bit_of (some_item_has (Span c c ∷ []) x || has_code codes.now x) }
+{
+    let mut bits = with_bit(0, c as u32);
+    for code in codes {
+        bits = with_bit(bits, *code);
+    }
+    bits
+}
+
 impl CharSet {
-    fn of_items(negated: bool, caseless: bool, items: Vec<ClassItem>, folded: Vec<u32>) -> CharSet
+    fn of_items(
+        negated: bool,
+        caseless: bool,
+        items: Vec<ClassItem>,
+        folded: Vec<u32>,
+        ascii: u128,
+    ) -> CharSet
         requires codes { HasCodes caseless items.items folded.items }
         requires sorted { Rises folded.items }
+        requires bits { (c : ℕ) → c < 128 → bit_at ascii c ≡ bit_of (if negated then not (some_item_has items.items c || has_code folded.items c) else (some_item_has items.items c || has_code folded.items c)) }
         ensures { result ≡ record { negated = negated; caseless = caseless; items = items.items } }
     {
-        let ascii = ascii_bits(negated, &items, &folded);
         CharSet {
             negated,
             caseless,
@@ -245,7 +269,8 @@ fn class_of(alloc: Global, text: &[char]) -> Result<CharSet, ClassRefusal>
     match items_of(alloc, &pieces) {
         Ok(items) => {
             let folded = codes_where(alloc, caseless, &items)?;
-            Ok(CharSet::of_items(negated, caseless, items, folded))
+            let ascii = ascii_bits(negated, &items, &folded);
+            Ok(CharSet::of_items(negated, caseless, items, folded, ascii))
         }
         Err(error) => Err(refusal_of(error)),
     }
@@ -276,5 +301,6 @@ pub fn set_of_char(alloc: Global, c: char, caseless: bool) -> Result<CharSet, Al
     } else {
         Vec::new(alloc)
     };
-    Ok(CharSet::of_items(false, caseless, items, folded))
+    let ascii = char_bits(c, &folded);
+    Ok(CharSet::of_items(false, caseless, items, folded, ascii))
 }
