@@ -3,9 +3,7 @@ use Rattle.std.proofs.Common.{◌≡◌, ℕ, zero, suc, ◌+◌, ◌≤◌, Lis
 use Rattle.grammar_model.specs.Grammar.{slot_of}
 use Rattle.grammar_model.specs.Trees.{Tree}
 use Rattle.grammar_model.specs.Steps.{Step, steps_of}
-use Rattle.grammar_model.specs.Order.{rank_order}
-use Rattle.grammar_model.proofs.Sorting.{ranks_order}
-use Rattle.grammar_model.proofs.Total.{all_unique}
+use Rattle.grammar_model.proofs.ChosenOnce.{chosen_unique}
 use Rattle.grammar_model.specs.Derives.{Held}
 use Rattle.std.specs.Prelude.{slice_get, slice_index_or}
 use Rattle.recognizer_model.specs.Links.{choices}
@@ -61,7 +59,7 @@ ended (suc n) (x ∷ xs) e =
     record { front = x ∷ r.front; last = r.last; is = ap (λ l. x ∷ l) r.is }
 
 listings_same : (f : Forest) (ts us : List Tree) → IsListing f ts → IsListing f us → ts ≡ us
-listings_same f ts us a b = all_unique f.written (Held f.edges) (rank_order f.written f.ranking) (ranks_order f.written f.ranking) (slot_of (slice_index_or f.written.starts f.start 0)) 0 f.place ts us a b
+listings_same f ts us a b = chosen_unique f.written (Held f.edges) f.ranking (slot_of (slice_index_or f.written.starts f.start 0)) 0 f.place ts us a b
 
 pub fronts_same : (f : Forest) (a b : List Tree) → AreFirst f a → AreFirst f b → length a ≡ length b → a ≡ b
 fronts_same f a b g h l = same_fronts a b g.rest h.rest (listings_same f (a ++ g.rest) (b ++ h.rest) g.listing h.listing) l
