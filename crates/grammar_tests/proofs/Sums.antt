@@ -155,18 +155,11 @@ rises r (suc (suc (suc s))) lt rule = absurd (omega arith)
 pub is_arranged : IsArranged sums
 is_arranged = record { terminals = ordered; rules = rises }
 
-abbrev rules_of : (a b d : List ℕ) → List FlatRule
-rules_of a b d = record { lhs = 2; rhs = a; source = Written 0 } ∷ record { lhs = 2; rhs = b; source = Written 1 } ∷ record { lhs = 3; rhs = d; source = OfStart 0 } ∷ []
-
 -- made part by part
-pub flat_of : (ss : List FlatSymbol) (ns : List Bool) (rs : List FlatRule) (ts a b d : List ℕ) → ss ≡ Terminal 1 ∷ Terminal 2 ∷ Slot 0 0 ∷ Top 0 ∷ [] → ns ≡ false ∷ false ∷ false ∷ false ∷ [] →
-    rs ≡ record { lhs = 2; rhs = a; source = Written 0 } ∷ record { lhs = 2; rhs = b; source = Written 1 } ∷ record { lhs = 3; rhs = d; source = OfStart 0 } ∷ [] → ts ≡ 2 ∷ [] → a ≡ 2 ∷ 0 ∷ 2 ∷ [] → b ≡ 1 ∷ [] → d ≡ 2 ∷ [] →
+pub flat_of : (ss : List FlatSymbol) (ns : List Bool) (rs : List FlatRule) (ts : List ℕ) → ss ≡ sums.symbols → ns ≡ sums.nullable → rs ≡ sums.rules → ts ≡ sums.tops →
     IsFlat (record { symbols = ss; nullable = ns; rules = rs; tops = ts })
-flat_of ss ns rs ts a b d hs hn hr ht ha hb hd =
+flat_of ss ns rs ts hs hn hr ht =
     subst (λ z. IsFlat (record { symbols = z; nullable = ns; rules = rs; tops = ts })) (sym hs)
     (subst (λ z. IsFlat (record { symbols = sums.symbols; nullable = z; rules = rs; tops = ts })) (sym hn)
     (subst (λ z. IsFlat (record { symbols = sums.symbols; nullable = sums.nullable; rules = z; tops = ts })) (sym hr)
-    (subst (λ z. IsFlat (record { symbols = sums.symbols; nullable = sums.nullable; rules = rules_of a b d; tops = z })) (sym ht)
-    (subst (λ z. IsFlat (record { symbols = sums.symbols; nullable = sums.nullable; rules = rules_of z b d; tops = sums.tops })) (sym ha)
-    (subst (λ z. IsFlat (record { symbols = sums.symbols; nullable = sums.nullable; rules = rules_of (2 ∷ 0 ∷ 2 ∷ []) z d; tops = sums.tops })) (sym hb)
-    (subst (λ z. IsFlat (record { symbols = sums.symbols; nullable = sums.nullable; rules = rules_of (2 ∷ 0 ∷ 2 ∷ []) (1 ∷ []) z; tops = sums.tops })) (sym hd) is_flat))))))
+    (subst (λ z. IsFlat (record { symbols = sums.symbols; nullable = sums.nullable; rules = sums.rules; tops = z })) (sym ht) is_flat)))

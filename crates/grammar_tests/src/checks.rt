@@ -1,6 +1,6 @@
 //! The check of grammars: what their symbols can do, and refusals with their texts.
-use crate::grammars::{add_list, add_rule, named};
-use grammar_check::{append_refusal, check};
+use crate::grammars::{add_list, add_names, add_rule};
+use grammar_check::{Checked, append_refusal, check};
 use grammar_core::{Assoc, CoreRefusal, SymbolId, Written};
 use std::alloc::Global;
 use std::test::Fail;
@@ -35,50 +35,98 @@ const ENDLESS: &[Plain] = &[(T, &[T, Y], 0), (X, &[], 0)];
 
 const STARTS: &[u32] = &[S, Y, T];
 
-// A grammar over the symbols S, T, X, Y.
-fn grammar(alloc: Global, rules: &[Plain], starts: &[u32]) -> Result<Written, CoreRefusal> {
-    let mut w = named(alloc, &["S", "T", "X", "Y"])?;
+// Whether S is a list of X, too.
+#[derive(Clone, Copy)]
+enum List {
+    No,
+    // with Y between
+    Star,
+    Plus,
+}
+
+// Adds the list.
+fn add_listed(w: &mut Written, list: List) -> Result<(), CoreRefusal> {
+    match list {
+        List::No => {}
+        List::Star => {
+            add_list(w, X, false, Some(SymbolId(Y)), false)?;
+        }
+        List::Plus => {
+            add_list(w, X, true, None, false)?;
+        }
+    }
+    Ok(())
+}
+
+// Adds the symbols S, T, X, Y, the rules, the starts and the list.
+fn add_all(
+    alloc: Global,
+    w: &mut Written,
+    rules: &[Plain],
+    starts: &[u32],
+    list: List,
+) -> Result<(), CoreRefusal> {
+    add_names(w, &["S", "T", "X", "Y"])?;
     for (lhs, parts, level) in rules {
-        add_rule(alloc, &mut w, (*lhs, parts), *level, 2, Assoc::Left)?;
+        add_rule(alloc, w, (*lhs, parts), *level, 2, Assoc::Left)?;
     }
     for start in starts {
         w.start_add(SymbolId(*start))?;
     }
-    Ok(w)
+    add_listed(w, list)
+}
+
+// Whether the slots of the first grammar can do what they should.
+fn has_levels(c: &Checked<'_>) -> bool {
+    if c.written().symbol_count() != 4 {
+        return false;
+    }
+    let known = c.productive(SymbolId(T))
+        && !c.productive(SymbolId(X))
+        && c.productive(SymbolId(Y));
+    let levels = c.slot_productive(SymbolId(T), 1) && !c.slot_productive(SymbolId(T), 2);
+    let met = c.accessible(SymbolId(Y)) && c.accessible(SymbolId(T)) && !c.accessible(SymbolId(X));
+    let met_levels = c.slot_accessible(SymbolId(T), 0) && !c.slot_accessible(SymbolId(T), 1);
+    known && levels && met && met_levels && !c.nullable(SymbolId(S))
+}
+
+// Whether the slots of the grammar with a star can do what they should.
+fn has_star(c: &Checked<'_>) -> bool {
+    if c.written().symbol_count() != 4 || c.written().rule_count() != 3 {
+        return false;
+    }
+    let nulled = c.nullable(SymbolId(S)) && c.nullable(SymbolId(T)) && !c.nullable(SymbolId(Y));
+    let levels = !c.slot_nullable(SymbolId(T), 1) && c.slot_productive(SymbolId(Y), 7);
+    nulled && levels && c.accessible(SymbolId(X)) && c.accessible(SymbolId(Y))
+}
+
+fn are_levels(alloc: Global) -> Result<bool, CoreRefusal> {
+    let mut w = Written::new(alloc);
+    add_all(alloc, &mut w, LEVELS, &STARTS[..1], List::No)?;
+    match check(alloc, &w) {
+        Ok(c) => Ok(has_levels(&c)),
+        Err(_) => Ok(false),
+    }
+}
+
+fn is_star(alloc: Global) -> Result<bool, CoreRefusal> {
+    let mut w = Written::new(alloc);
+    add_all(alloc, &mut w, NULLED, &STARTS[..1], List::Star)?;
+    match check(alloc, &w) {
+        Ok(c) => Ok(has_star(&c)),
+        Err(_) => Ok(false),
+    }
 }
 
 #[test]
 fn levels_and_dead_rules(rt: HostRuntime) -> Result<(), Fail> {
-    let w = grammar(rt.alloc(), LEVELS, &STARTS[..1])?;
-    assert!(rt; w.symbol_count() == 4);
-    let Ok(c) = check(rt.alloc(), &w) else {
-        return Err(Fail::new("refused"));
-    };
-    assert!(rt;
-        c.productive(SymbolId(T)) && !c.productive(SymbolId(X)) && c.productive(SymbolId(Y))
-    );
-    assert!(rt; c.slot_productive(SymbolId(T), 1) && !c.slot_productive(SymbolId(T), 2));
-    assert!(rt;
-        c.accessible(SymbolId(Y)) && c.accessible(SymbolId(T)) && !c.accessible(SymbolId(X))
-    );
-    assert!(rt; c.slot_accessible(SymbolId(T), 0) && !c.slot_accessible(SymbolId(T), 1));
-    assert!(rt; !c.nullable(SymbolId(S)));
+    assert!(rt; are_levels(rt.alloc())?);
     Ok(())
 }
 
-// S ::= X* with Y between
 #[test]
 fn stars_are_nullable(rt: HostRuntime) -> Result<(), Fail> {
-    let mut w = grammar(rt.alloc(), NULLED, &STARTS[..1])?;
-    add_list(&mut w, X, false, Some(SymbolId(Y)), false)?;
-    assert!(rt; w.symbol_count() == 4);
-    let Ok(c) = check(rt.alloc(), &w) else {
-        return Err(Fail::new("refused"));
-    };
-    assert!(rt; c.nullable(SymbolId(S)) && c.nullable(SymbolId(T)) && !c.nullable(SymbolId(Y)));
-    assert!(rt; !c.slot_nullable(SymbolId(T), 1) && c.slot_productive(SymbolId(Y), 7));
-    assert!(rt; c.accessible(SymbolId(X)) && c.accessible(SymbolId(Y)));
-    assert_eq!(rt; c.written().rule_count(), 3);
+    assert!(rt; is_star(rt.alloc())?);
     Ok(())
 }
 
@@ -176,56 +224,52 @@ const FAULTS: &[Case] = &[
 
 const UNPRODUCTIVE: Case = (ENDLESS, &[X, T], "start symbol T is unproductive");
 
-fn told(alloc: Global, w: &Written) -> Result<Vec<u8>, NoMemory> {
+// Whether this is told of a grammar.
+fn is_told(alloc: Global, w: &Written, text: &str) -> Result<bool, NoMemory> {
     let mut out = Vec::new(alloc);
     if let Err(refusal) = check(alloc, w) {
         append_refusal(w, &refusal, &mut out)?;
     }
-    Ok(out)
+    Ok(out.as_slice() == text.as_bytes())
 }
 
-// Whether this is told of the rules.
-fn tells(alloc: Global, case: &Case) -> Result<bool, Fail> {
-    let w = grammar(alloc, case.0, case.1)?;
-    Ok(told(alloc, &w)?.as_slice() == case.2.as_bytes())
+// Whether this is told of the rules with the list.
+fn tells(alloc: Global, case: &Case, list: List) -> Result<bool, Fail> {
+    let mut w = Written::new(alloc);
+    add_all(alloc, &mut w, case.0, case.1, list)?;
+    Ok(is_told(alloc, &w, case.2)?)
 }
 
-// The same, with S ::= X+
-fn tells_of_list(alloc: Global, case: &Case) -> Result<bool, Fail> {
-    let mut w = grammar(alloc, case.0, case.1)?;
-    add_list(&mut w, X, true, None, false)?;
-    Ok(told(alloc, &w)?.as_slice() == case.2.as_bytes())
+fn tell_all(alloc: Global, cases: &[Case], list: List) -> Result<bool, Fail> {
+    for case in cases {
+        if !tells(alloc, case, list)? {
+            return Ok(false);
+        }
+    }
+    Ok(true)
 }
 
 #[test]
 fn refusals_in_order(rt: HostRuntime) -> Result<(), Fail> {
-    for case in CASES {
-        assert!(rt; tells(rt.alloc(), case)?);
-    }
+    assert!(rt; tell_all(rt.alloc(), CASES, List::No)?);
     Ok(())
 }
 
 #[test]
 fn first_faults(rt: HostRuntime) -> Result<(), Fail> {
-    for case in FAULTS {
-        assert!(rt; tells_of_list(rt.alloc(), case)?);
-    }
-    assert!(rt; tells(rt.alloc(), &UNPRODUCTIVE)?);
+    let listed = tell_all(rt.alloc(), FAULTS, List::Plus)?;
+    assert!(rt; listed && tells(rt.alloc(), &UNPRODUCTIVE, List::No)?);
     Ok(())
 }
 
 #[test]
 fn least_cycles(rt: HostRuntime) -> Result<(), Fail> {
-    for case in CYCLES {
-        assert!(rt; tells(rt.alloc(), case)?);
-    }
+    assert!(rt; tell_all(rt.alloc(), CYCLES, List::No)?);
     Ok(())
 }
 
 #[test]
 fn sequences_are_checked(rt: HostRuntime) -> Result<(), Fail> {
-    for case in SEQUENCES {
-        assert!(rt; tells_of_list(rt.alloc(), case)?);
-    }
+    assert!(rt; tell_all(rt.alloc(), SEQUENCES, List::Plus)?);
     Ok(())
 }

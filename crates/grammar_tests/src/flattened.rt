@@ -1,5 +1,5 @@
 //! Flat rules of small grammars against lists written by hand.
-use crate::grammars::{Line, add_list, add_rule, flat_of, named};
+use crate::grammars::{Line, add_list, add_names, add_rule, flat_of};
 use grammar_core::{Assoc, CoreRefusal, Flat, SymbolId, Written};
 use std::alloc::Global;
 use std::test::Fail;
@@ -92,36 +92,38 @@ const OPERATOR_LINES: &[Line] = &[
     (11, &[6]),
 ];
 
-fn starting(alloc: Global, names: &[&str]) -> Result<Written, CoreRefusal> {
-    let mut w = named(alloc, names)?;
-    w.start_add(SymbolId(0))?;
-    Ok(w)
-}
+// A list of symbols 1: whether it has one at least, the separator, and whether that only stands between.
+type List = (bool, Option<SymbolId>, bool);
 
 // Symbol 0 has these alternatives.
-fn levelled(
+fn add_levels(
     alloc: Global,
+    w: &mut Written,
     names: &[&str],
     alternatives: &[Alternative],
     groups: u32,
-) -> Result<Written, CoreRefusal> {
-    let mut w = starting(alloc, names)?;
+) -> Result<(), CoreRefusal> {
+    add_names(w, names)?;
     for (parts, level, assoc) in alternatives {
-        add_rule(alloc, &mut w, (0, parts), *level, groups, *assoc)?;
+        add_rule(alloc, w, (0, parts), *level, groups, *assoc)?;
     }
-    Ok(w)
+    w.start_add(SymbolId(0))
 }
 
-// Symbol 0 is a list of symbols 1.
-fn list(
+// Symbol 0 is a list.
+fn add_listed(
     alloc: Global,
-    plus: bool,
-    separator: Option<SymbolId>,
-    proper: bool,
-) -> Result<Written, CoreRefusal> {
-    let mut w = starting(alloc, &["L", "N", ","])?;
-    add_list(&mut w, 1, plus, separator, proper)?;
-    Ok(w)
+    w: &mut Written,
+    list: List,
+    rules: &[Line],
+) -> Result<(), CoreRefusal> {
+    add_names(w, &["L", "N", ","])?;
+    w.start_add(SymbolId(0))?;
+    add_list(w, 1, list.0, list.1, list.2)?;
+    for line in rules {
+        add_rule(alloc, w, *line, 0, 1, Assoc::Left)?;
+    }
+    Ok(())
 }
 
 fn has_lines(flat: &Flat, lines: &[Line]) -> bool {
@@ -143,50 +145,71 @@ fn makes(alloc: Global, w: &Written, lines: &[Line]) -> Result<bool, anyhow::Err
     Ok(has_lines(&flat, lines))
 }
 
+// Whether the flat rules of the alternatives are these.
+fn levels_make(
+    alloc: Global,
+    names: &[&str],
+    alternatives: &[Alternative],
+    groups: u32,
+    lines: &[Line],
+) -> Result<bool, anyhow::Error> {
+    let mut w = Written::new(alloc);
+    add_levels(alloc, &mut w, names, alternatives, groups)?;
+    makes(alloc, &w, lines)
+}
+
+// Whether the flat rules of a list and of further rules are these.
+fn list_makes(
+    alloc: Global,
+    list: List,
+    rules: &[Line],
+    lines: &[Line],
+) -> Result<bool, anyhow::Error> {
+    let mut w = Written::new(alloc);
+    add_listed(alloc, &mut w, list, rules)?;
+    makes(alloc, &w, lines)
+}
+
+const STAR: List = (false, None, false);
+
+const SEPARATED: List = (true, Some(SymbolId(2)), false);
+
+const PROPER: List = (true, Some(SymbolId(2)), true);
+
 #[test]
 fn levels(rt: HostRuntime) -> Result<(), Fail> {
-    let w = levelled(rt.alloc(), &["E", "N", "(", ")", "**", "*", "+"], SUMS, 4)?;
-    assert!(rt; makes(rt.alloc(), &w, SUM_LINES)?);
+    let names = &["E", "N", "(", ")", "**", "*", "+"];
+    assert!(rt; levels_make(rt.alloc(), names, SUMS, 4, SUM_LINES)?);
     Ok(())
 }
 
 #[test]
 fn star(rt: HostRuntime) -> Result<(), Fail> {
-    let w = list(rt.alloc(), false, None, false)?;
-    assert!(rt; makes(rt.alloc(), &w, STAR_LINES)?);
+    assert!(rt; list_makes(rt.alloc(), STAR, &[], STAR_LINES)?);
     Ok(())
 }
 
 #[test]
 fn separated(rt: HostRuntime) -> Result<(), Fail> {
-    let w = list(rt.alloc(), true, Some(SymbolId(2)), false)?;
-    assert!(rt; makes(rt.alloc(), &w, LIST_LINES)?);
+    assert!(rt; list_makes(rt.alloc(), SEPARATED, &[], LIST_LINES)?);
     Ok(())
 }
 
 #[test]
 fn proper(rt: HostRuntime) -> Result<(), Fail> {
-    let w = list(rt.alloc(), true, Some(SymbolId(2)), true)?;
-    assert!(rt; makes(rt.alloc(), &w, PROPER_LINES)?);
+    assert!(rt; list_makes(rt.alloc(), PROPER, &[], PROPER_LINES)?);
     Ok(())
 }
 
 #[test]
 fn dead_separator(rt: HostRuntime) -> Result<(), Fail> {
-    let mut w = list(rt.alloc(), true, Some(SymbolId(2)), false)?;
-    add_rule(rt.alloc(), &mut w, ENDLESS, 0, 1, Assoc::Left)?;
-    assert!(rt; makes(rt.alloc(), &w, DEAD_LINES)?);
+    assert!(rt; list_makes(rt.alloc(), SEPARATED, &[ENDLESS], DEAD_LINES)?);
     Ok(())
 }
 
 #[test]
 fn five_groups(rt: HostRuntime) -> Result<(), Fail> {
-    let w = levelled(
-        rt.alloc(),
-        &["E", "N", ".", "-", "**", "*", "+"],
-        OPERATORS,
-        5,
-    )?;
-    assert!(rt; makes(rt.alloc(), &w, OPERATOR_LINES)?);
+    let names = &["E", "N", ".", "-", "**", "*", "+"];
+    assert!(rt; levels_make(rt.alloc(), names, OPERATORS, 5, OPERATOR_LINES)?);
     Ok(())
 }

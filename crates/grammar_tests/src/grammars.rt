@@ -17,13 +17,12 @@ pub struct Language {
     pub lines: &'static [Line],
 }
 
-/// A grammar without rules.
-pub fn named(alloc: Global, names: &[&str]) -> Result<Written, CoreRefusal> {
-    let mut w = Written::new(alloc);
+/// Adds symbols of these names.
+pub fn add_names(w: &mut Written, names: &[&str]) -> Result<(), CoreRefusal> {
     for name in names {
         w.symbol_new(name)?;
     }
-    Ok(w)
+    Ok(())
 }
 
 /// Adds a rule that stands at a level of so many.
@@ -66,13 +65,19 @@ pub fn add_list(
     })
 }
 
+// Adds the symbols, the rules and the start.
+fn add_all(alloc: Global, w: &mut Written, language: &Language) -> Result<(), CoreRefusal> {
+    add_names(w, language.names)?;
+    for line in language.lines {
+        add_rule(alloc, w, *line, 0, 1, Assoc::Left)?;
+    }
+    w.start_add(SymbolId(0))
+}
+
 /// The grammar of the rules.
 pub fn written_of(alloc: Global, language: &Language) -> Result<Written, CoreRefusal> {
-    let mut w = named(alloc, language.names)?;
-    for line in language.lines {
-        add_rule(alloc, &mut w, *line, 0, 1, Assoc::Left)?;
-    }
-    w.start_add(SymbolId(0))?;
+    let mut w = Written::new(alloc);
+    add_all(alloc, &mut w, language)?;
     Ok(w)
 }
 

@@ -25,83 +25,106 @@ where
     Ok(items)
 }
 
-fn alternative(alloc: Global, part: Spelled) -> Result<Alternative, AllocError> {
+fn elements(alloc: Global, part: &str, at: usize) -> Result<Vec<Element>, AllocError> {
+    one(alloc, Element::Bare(word(alloc, part, at)?))
+}
+
+fn alternative(alloc: Global, part: &str, at: usize) -> Result<Alternative, AllocError> {
     Ok(Alternative {
-        elements: one(alloc, Element::Bare(part))?,
+        elements: elements(alloc, part, at)?,
         adverbs: Vec::new(alloc),
     })
 }
 
-// A rule with one part, whose place is behind that of its left side.
-fn rule(
-    alloc: Global,
-    left: &str,
-    part: &str,
-    lexical: bool,
-    at: usize,
-) -> Result<Statement, AllocError> {
-    let part = word(alloc, part, at.saturating_add(6))?;
-    let group = one(alloc, alternative(alloc, part)?)?;
-    Ok(Statement::Rules {
-        left: word(alloc, left, at)?,
-        lexical,
-        groups: one(alloc, group)?,
-    })
+// One group of one alternative.
+fn groups(alloc: Global, part: &str, at: usize) -> Result<Vec<Vec<Alternative>>, AllocError> {
+    one(alloc, one(alloc, alternative(alloc, part, at)?)?)
 }
 
-fn described(
-    alloc: Global,
-    first: Statement,
-    second: Statement,
-) -> Result<Description, AllocError> {
-    let mut statements = one(alloc, first)?;
-    statements.push(second)?;
+// What one of two statements says, and where.
+#[derive(Clone, Copy)]
+enum Line {
+    // a left side and a part, which stands six places behind it, and whether the rule is lexical
+    Rule(&'static str, &'static str, bool, usize),
+    // a start, whose name stands eleven places behind it
+    Start(&'static str, usize),
+}
+
+fn statement(alloc: Global, line: Line) -> Result<Statement, AllocError> {
+    match line {
+        Line::Rule(left, part, lexical, at) => {
+            let groups = groups(alloc, part, at.saturating_add(6))?;
+            Ok(Statement::Rules {
+                left: word(alloc, left, at)?,
+                lexical,
+                groups,
+            })
+        }
+        Line::Start(name, at) => Ok(Statement::Start {
+            at,
+            name: word(alloc, name, at.saturating_add(11))?,
+        }),
+    }
+}
+
+fn described(alloc: Global, lines: &[Line]) -> Result<Description, AllocError> {
+    let mut statements = Vec::new(alloc);
+    for line in lines {
+        statements.push(statement(alloc, *line)?)?;
+    }
     Ok(Description { statements })
+}
+
+// Which fault is told.
+#[derive(Clone, Copy, PartialEq, Eq)]
+enum Fault {
+    NotDefined,
+    InBoth,
+    TwoStarts,
+}
+
+fn fault_of(refusal: &BuildRefusal) -> Option<(Fault, usize, &str)> {
+    match refusal {
+        BuildRefusal::LexemeNotDefined { at, name } => Some((Fault::NotDefined, *at, name)),
+        BuildRefusal::InBoth { at, name } => Some((Fault::InBoth, *at, name)),
+        BuildRefusal::TwoStarts { at, name } => Some((Fault::TwoStarts, *at, name)),
+        _ => None,
+    }
+}
+
+// Whether this is told of the statements.
+fn tells(alloc: Global, lines: &[Line], wanted: (Fault, usize, &str)) -> Result<bool, AllocError> {
+    let d = described(alloc, lines)?;
+    match check(alloc, &d) {
+        Ok(()) => Ok(false),
+        Err(refusal) => Ok(fault_of(&refusal) == Some(wanted)),
+    }
 }
 
 #[test]
 fn a_name_that_no_rule_defines(rt: HostRuntime) -> Result<(), AllocError> {
-    let alloc = rt.alloc();
-    let first = rule(alloc, "S", "A", false, 0)?;
-    let second = rule(alloc, "A", "x", true, 10)?;
-    match check(alloc, &described(alloc, first, second)?) {
-        Err(BuildRefusal::LexemeNotDefined { at, name }) => assert!(rt;
-            at == 16 && name.as_str() == "x"
-        ),
-        _ => panic!(rt; "another answer"),
-    }
+    let lines = &[
+        Line::Rule("S", "A", false, 0),
+        Line::Rule("A", "x", true, 10),
+    ];
+    assert!(rt; tells(rt.alloc(), lines, (Fault::NotDefined, 16, "x"))?);
     Ok(())
 }
 
 #[test]
 fn a_left_side_of_both_levels(rt: HostRuntime) -> Result<(), AllocError> {
-    let alloc = rt.alloc();
-    let first = rule(alloc, "A", "A", false, 0)?;
-    let second = rule(alloc, "A", "A", true, 10)?;
-    match check(alloc, &described(alloc, first, second)?) {
-        Err(BuildRefusal::InBoth { at, name }) => assert!(rt; at == 10 && name.as_str() == "A"),
-        _ => panic!(rt; "another answer"),
-    }
+    let lines = &[
+        Line::Rule("A", "A", false, 0),
+        Line::Rule("A", "A", true, 10),
+    ];
+    assert!(rt; tells(rt.alloc(), lines, (Fault::InBoth, 10, "A"))?);
     Ok(())
 }
 
 #[test]
 fn two_starts(rt: HostRuntime) -> Result<(), AllocError> {
-    let alloc = rt.alloc();
-    let first = Statement::Start {
-        at: 0,
-        name: word(alloc, "S", 11)?,
-    };
-    let second = Statement::Start {
-        at: 20,
-        name: word(alloc, "S", 31)?,
-    };
-    match check(alloc, &described(alloc, first, second)?) {
-        Err(BuildRefusal::TwoStarts { at, name }) => assert!(rt;
-            at == 20 && name.as_str() == ":start"
-        ),
-        _ => panic!(rt; "another answer"),
-    }
+    let lines = &[Line::Start("S", 0), Line::Start("S", 20)];
+    assert!(rt; tells(rt.alloc(), lines, (Fault::TwoStarts, 20, ":start"))?);
     Ok(())
 }
 
@@ -148,37 +171,23 @@ fn write_rules(out: &mut String, w: &Written) -> Result<(), AllocError> {
     Ok(())
 }
 
-fn names_of(alloc: Global, w: &Written) -> Result<String, AllocError> {
-    let mut out = String::new(alloc);
-    write_names(&mut out, w)?;
-    Ok(out)
-}
-
-fn rules_of(alloc: Global, w: &Written) -> Result<String, AllocError> {
-    let mut out = String::new(alloc);
-    write_rules(&mut out, w)?;
-    Ok(out)
-}
-
 // Each lexeme's symbol, start, priority and `latm`, and the discards.
-fn rows_of(alloc: Global, built: &Built) -> Result<String, AllocError> {
-    let mut out = String::new(alloc);
+fn write_rows(out: &mut String, built: &Built) -> Result<(), AllocError> {
     for row in &built.lexemes {
-        write_number(&mut out, row.symbol.0)?;
-        write_number(&mut out, row.start)?;
+        write_number(out, row.symbol.0)?;
+        write_number(out, row.start)?;
         out.push_str(Buffer::new().format(row.priority))?;
         out.push_str(if row.latm { " latm / " } else { " / " })?;
     }
     out.push_str("| ")?;
     for discard in &built.discards {
-        write_number(&mut out, *discard)?;
+        write_number(out, *discard)?;
     }
-    Ok(out)
+    Ok(())
 }
 
 // Each shown part of each rule is an `x`, and each hidden one a `-`; then the letter of the rule's action.
-fn meaning_of(alloc: Global, built: &Built) -> Result<String, AllocError> {
-    let mut out = String::new(alloc);
+fn write_meaning(out: &mut String, built: &Built) -> Result<(), AllocError> {
     for rule in built.meaning.rules.as_slice() {
         for shown in rule.shown.as_slice() {
             out.push_str(if *shown { "x" } else { "-" })?;
@@ -190,7 +199,29 @@ fn meaning_of(alloc: Global, built: &Built) -> Result<String, AllocError> {
             Action::Items(_) => "I ",
         })?;
     }
-    Ok(out)
+    Ok(())
+}
+
+// What is written of what is built.
+#[derive(Clone, Copy)]
+enum Part {
+    Names,
+    Rules,
+    LexicalNames,
+    LexicalRules,
+    Rows,
+    Meaning,
+}
+
+fn write_part(out: &mut String, built: &Built, part: Part) -> Result<(), AllocError> {
+    match part {
+        Part::Names => write_names(out, &built.g1),
+        Part::Rules => write_rules(out, &built.g1),
+        Part::LexicalNames => write_names(out, &built.l0),
+        Part::LexicalRules => write_rules(out, &built.l0),
+        Part::Rows => write_rows(out, built),
+        Part::Meaning => write_meaning(out, built),
+    }
 }
 
 struct Expected {
@@ -201,41 +232,21 @@ struct Expected {
     meaning: &'static str,
 }
 
-fn has_names(alloc: Global, w: &Written, expected: &str) -> Result<bool, AllocError> {
-    let names = names_of(alloc, w)?;
-    Ok(names.as_str() == expected)
-}
-
-fn has_rules(alloc: Global, w: &Written, expected: &str) -> Result<bool, AllocError> {
-    let rules = rules_of(alloc, w)?;
-    Ok(rules.as_str() == expected)
-}
-
-fn has_rows(alloc: Global, built: &Built, expected: &str) -> Result<bool, AllocError> {
-    let rows = rows_of(alloc, built)?;
-    Ok(rows.as_str() == expected)
-}
-
-fn has_meaning(alloc: Global, built: &Built, expected: &str) -> Result<bool, AllocError> {
-    let meaning = meaning_of(alloc, built)?;
-    Ok(meaning.as_str() == expected)
-}
-
-fn is_grammar(alloc: Global, w: &Written, names: &str, rules: &str) -> Result<bool, AllocError> {
-    Ok(has_names(alloc, w, names)? && has_rules(alloc, w, rules)?)
-}
-
-fn are_tables(alloc: Global, built: &Built, rows: &str, meaning: &str) -> Result<bool, AllocError> {
-    Ok(has_rows(alloc, built, rows)? && has_meaning(alloc, built, meaning)?)
+fn has(alloc: Global, built: &Built, part: Part, expected: &str) -> Result<bool, AllocError> {
+    let mut out = String::new(alloc);
+    write_part(&mut out, built, part)?;
+    Ok(out.as_str() == expected)
 }
 
 fn is_as(alloc: Global, built: &Built, expected: &Expected) -> Result<bool, AllocError> {
-    let [names, rules] = expected.g1;
-    let structural = is_grammar(alloc, &built.g1, names, rules)?;
-    let [names, rules] = expected.l0;
-    let lexical = is_grammar(alloc, &built.l0, names, rules)?;
-    let tables = are_tables(alloc, built, expected.rows, expected.meaning)?;
-    Ok(structural && lexical && tables)
+    Ok(
+        has(alloc, built, Part::Names, expected.g1[0])?
+            && has(alloc, built, Part::Rules, expected.g1[1])?
+            && has(alloc, built, Part::LexicalNames, expected.l0[0])?
+            && has(alloc, built, Part::LexicalRules, expected.l0[1])?
+            && has(alloc, built, Part::Rows, expected.rows)?
+            && has(alloc, built, Part::Meaning, expected.meaning)?,
+    )
 }
 
 fn is_built(alloc: Global, expected: &Expected) -> Result<bool, Fail> {
@@ -243,7 +254,7 @@ fn is_built(alloc: Global, expected: &Expected) -> Result<bool, Fail> {
     Ok(is_as(alloc, &built, expected)?)
 }
 
-const BUILT: [Expected; 5] = [
+const BUILT: &[Expected] = &[
     // Quoted texts and classes of structural rules are lexemes with rules of their own.
     Expected {
         text: "S ::= 'ab' [c] 'ab' ('d')",
@@ -294,8 +305,8 @@ const BUILT: [Expected; 5] = [
 
 #[test]
 fn built_as_written_by_hand(rt: HostRuntime) -> Result<(), Fail> {
-    for expected in &BUILT {
-        assert!(rt; is_built(rt.alloc(), expected)?, "{}", expected.text);
+    for expected in BUILT {
+        assert!(rt; is_built(rt.alloc(), expected)?);
     }
     Ok(())
 }

@@ -2,64 +2,85 @@
 use crate::texts::built;
 use grammar_check::GrammarRefusal;
 use grammar_core::SymbolId;
-use scanless::{PrepareRefusal, prepare};
+use scanless::{PrepareRefusal, Prepared, prepare};
+use std::alloc::Global;
 use std::test::Fail;
+
+// What is seen of a text's grammars.
+#[derive(Clone, Copy)]
+enum Seen {
+    // a list, a rule and a discard are kept
+    Kept,
+    // what a star and the symbol of a plain rule can do
+    Symbols,
+    // one flat rule, and no lexical grammar
+    NoLexemes,
+    // the structural grammar is cyclic, and has so many rules
+    Cyclic(usize),
+    // the lexical grammar has a start that is unproductive, and so many rules
+    Unproductive(usize),
+}
+
+fn are_kept(p: &Prepared) -> bool {
+    let counts = p.written().rule_count() == 2 && p.lexemes().len() == 1 && p.discard_count() == 1;
+    let tables = p.discards() == [1].as_slice() && p.sets().len() == 2;
+    counts && tables && p.meaning().rules.as_slice().len() == 2 && p.lexical().is_some()
+}
+
+fn are_told(p: &Prepared) -> bool {
+    if p.written().symbol_count() < 3 {
+        return false;
+    }
+    let (s, t) = (SymbolId(0), SymbolId(2));
+    let star = p.nullable(s) && p.productive(s) && p.accessible(s);
+    star && !p.nullable(t) && p.productive(t) && !p.accessible(t)
+}
+
+fn is_accepted(p: &Prepared, seen: Seen) -> bool {
+    match seen {
+        Seen::Kept => are_kept(p),
+        Seen::Symbols => are_told(p),
+        Seen::NoLexemes => p.lexical().is_none() && p.flat().rule_count() == 1,
+        _ => false,
+    }
+}
+
+fn is_refused(refusal: &PrepareRefusal, seen: Seen) -> bool {
+    match (refusal, seen) {
+        (PrepareRefusal::Grammar { w, refusal }, Seen::Cyclic(rules)) => {
+            w.rule_count() == rules && matches!(refusal, GrammarRefusal::Cyclic { .. })
+        }
+        (PrepareRefusal::Lexical { w, refusal }, Seen::Unproductive(rules)) => {
+            w.rule_count() == rules && matches!(refusal, GrammarRefusal::UnproductiveStart { .. })
+        }
+        _ => false,
+    }
+}
+
+// Whether this is seen of a text's grammars.
+fn is_so(alloc: Global, text: &str, seen: Seen) -> Result<bool, Fail> {
+    match prepare(alloc, built(alloc, text.as_bytes())?) {
+        Ok(p) => Ok(is_accepted(&p, seen)),
+        Err(refusal) => Ok(is_refused(&refusal, seen)),
+    }
+}
 
 #[test]
 fn accepted_grammars_are_kept(rt: HostRuntime) -> Result<(), Fail> {
-    let b = built(rt.alloc(), b"S ::= X* T ::= X X ~ 'a' :discard ~ B B ~ 'b'")?;
-    let Ok(p) = prepare(rt.alloc(), b) else {
-        return Err(Fail::new("refused"));
-    };
-    assert_eq!(rt;
-        (
-            p.written().rule_count(),
-            p.lexemes().len(),
-            p.discard_count()
-        ),
-        (2, 1, 1)
-    );
-    assert_eq!(rt;
-        (
-            p.discards(),
-            p.sets().len(),
-            p.meaning().rules.as_slice().len()
-        ),
-        ([1].as_slice(), 2, 2)
-    );
-    assert!(rt; p.lexical().is_some());
+    let text = "S ::= X* T ::= X X ~ 'a' :discard ~ B B ~ 'b'";
+    assert!(rt; is_so(rt.alloc(), text, Seen::Kept)?);
     Ok(())
 }
 
 #[test]
 fn symbols_are_told(rt: HostRuntime) -> Result<(), Fail> {
-    let b = built(rt.alloc(), b"S ::= X* T ::= X X ~ 'a'")?;
-    let Ok(p) = prepare(rt.alloc(), b) else {
-        return Err(Fail::new("refused"));
-    };
-    if p.written().symbol_count() < 3 {
-        return Err(Fail::new("a symbol is missing"));
-    }
-    let (s, t) = (SymbolId(0), SymbolId(2));
-    assert_eq!(rt;
-        (p.nullable(s), p.productive(s), p.accessible(s)),
-        (true, true, true)
-    );
-    assert_eq!(rt;
-        (p.nullable(t), p.productive(t), p.accessible(t)),
-        (false, true, false)
-    );
+    assert!(rt; is_so(rt.alloc(), "S ::= X* T ::= X X ~ 'a'", Seen::Symbols)?);
     Ok(())
 }
 
 #[test]
 fn a_grammar_without_lexemes_is_kept(rt: HostRuntime) -> Result<(), Fail> {
-    let b = built(rt.alloc(), b"S ::=")?;
-    let Ok(p) = prepare(rt.alloc(), b) else {
-        return Err(Fail::new("refused"));
-    };
-    assert!(rt; p.lexical().is_none());
-    assert_eq!(rt; p.flat().rule_count(), 1);
+    assert!(rt; is_so(rt.alloc(), "S ::=", Seen::NoLexemes)?);
     Ok(())
 }
 
@@ -67,23 +88,13 @@ fn a_grammar_without_lexemes_is_kept(rt: HostRuntime) -> Result<(), Fail> {
 #[test]
 fn structural_grammars_are_refused_first(rt: HostRuntime) -> Result<(), Fail> {
     for text in ["P ::= Q Q ::= P | 'b'", "P ::= Q Q ::= P | X X ~ X"] {
-        let b = built(rt.alloc(), text.as_bytes())?;
-        let Err(PrepareRefusal::Grammar { w, refusal }) = prepare(rt.alloc(), b) else {
-            return Err(Fail::new("not refused"));
-        };
-        assert!(rt; matches!(refusal, GrammarRefusal::Cyclic { .. }));
-        assert_eq!(rt; w.rule_count(), 3);
+        assert!(rt; is_so(rt.alloc(), text, Seen::Cyclic(3))?);
     }
     Ok(())
 }
 
 #[test]
 fn lexical_grammars_are_refused(rt: HostRuntime) -> Result<(), Fail> {
-    let b = built(rt.alloc(), b"S ::= X X ~ X")?;
-    let Err(PrepareRefusal::Lexical { w, refusal }) = prepare(rt.alloc(), b) else {
-        return Err(Fail::new("not refused"));
-    };
-    assert!(rt; matches!(refusal, GrammarRefusal::UnproductiveStart { .. }));
-    assert_eq!(rt; w.rule_count(), 1);
+    assert!(rt; is_so(rt.alloc(), "S ::= X X ~ X", Seen::Unproductive(1))?);
     Ok(())
 }

@@ -1,22 +1,23 @@
 //! Statements of each form, and where others are refused.
-use dsl_reader::{StatementRefusal, parse};
-use dsl_tokens::tokens;
-use slif_base::chars_of;
-use std::test::Fail;
+use crate::texts::parsed;
+use dsl_reader::StatementRefusal;
+use slif_base::{Chars, chars_of};
+use std::alloc::Global;
 
-// How many statements a text has, or where the first bad one begins.
-fn read(rt: &HostRuntime, text: &str) -> Result<usize, StatementRefusal> {
-    let Ok(chars) = chars_of(rt.alloc(), text.as_bytes()) else {
-        return Err(StatementRefusal::NoMemory);
-    };
-    let Ok(found) = tokens(rt.alloc(), &chars) else {
-        return Err(StatementRefusal::NoMemory);
-    };
-    let description = parse(rt.alloc(), &chars, &found)?;
+fn count(alloc: Global, chars: &Chars) -> Result<usize, StatementRefusal> {
+    let description = parsed(alloc, chars)?;
     Ok(description.statements.len())
 }
 
-const ACCEPTED: [(&str, usize); 15] = [
+// How many statements a text has, or where the first bad one begins.
+fn read(alloc: Global, text: &str) -> Result<usize, StatementRefusal> {
+    match chars_of(alloc, text.as_bytes()) {
+        Ok(chars) => count(alloc, &chars),
+        Err(_) => Err(StatementRefusal::NoMemory),
+    }
+}
+
+const ACCEPTED: &[(&str, usize)] = &[
     ("", 0),
     ("; ;", 0),
     (":start ::= <a  b>", 1),
@@ -37,7 +38,7 @@ const ACCEPTED: [(&str, usize); 15] = [
     ("S ::= T lexeme default = :start ::= S", 3),
 ];
 
-const REFUSED: [(&str, usize); 12] = [
+const REFUSED: &[(&str, usize)] = &[
     ("S ::= 'a'*", 0),
     ("S ::= 'a' ; 'b'", 12),
     ("S ~ 'a' || 'b'", 0),
@@ -53,20 +54,15 @@ const REFUSED: [(&str, usize); 12] = [
 ];
 
 #[test]
-fn statements_of_each_form(rt: HostRuntime) -> Result<(), Fail> {
-    for &(text, count) in &ACCEPTED {
-        assert!(rt; read(&rt, text) == Ok(count), "{text}");
+fn statements_of_each_form(rt: HostRuntime) {
+    for (text, count) in ACCEPTED {
+        assert!(rt; read(rt.alloc(), text) == Ok(*count));
     }
-    Ok(())
 }
 
 #[test]
-fn refused_at_their_places(rt: HostRuntime) -> Result<(), Fail> {
-    for &(text, at) in &REFUSED {
-        assert!(rt;
-            read(&rt, text) == Err(StatementRefusal::BadStatement { at }),
-            "{text}"
-        );
+fn refused_at_their_places(rt: HostRuntime) {
+    for (text, at) in REFUSED {
+        assert!(rt; read(rt.alloc(), text) == Err(StatementRefusal::BadStatement { at: *at }));
     }
-    Ok(())
 }
