@@ -7,5 +7,6 @@ pub mod Sharing
 pub mod Clearing
 pub mod Naming
 pub mod Uniqueness
+pub mod Linking
 pub mod SlotCycles
 pub mod Around

@@ -13,7 +13,7 @@ use Rattle.grammar_core.specs.Written.{IsWritten}
 use Rattle.slot_analysis.specs.Rows.{row_at}
 use Rattle.slot_analysis.specs.Slots.{number, end_of, IsNumbering, IsNumbered, needed_of}
 use Rattle.slot_analysis.specs.Steps.{head_of}
-use Rattle.slot_analysis.specs.Linked.{IsLinkTo, IsFloored}
+use Rattle.grammar_check.specs.Linked.{IsLinkTo, IsFloored}
 use Rattle.grammar_check.specs.Links.{Step, Walks, AreFloors, AreRows, IsLeastPath}
 use Rattle.grammar_check.specs.Settled.{NoneBelow, Rises}
 use Rattle.grammar_check.specs.Message.{AreOf}

@@ -1,5 +1,6 @@
 pub mod Counted
 pub mod Links
+pub mod Linked
 pub mod Settled
 pub mod Told
 pub mod Shared

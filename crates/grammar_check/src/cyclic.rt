@@ -9,9 +9,10 @@ ghost use Rattle.grammar_check.specs.Message.{AreOf};
 ghost use Rattle.grammar_check.specs.Told.{slots_with, IsPlaced, unpacked_pair};
 
 use crate::cycles::least_cycle;
+use crate::links::{floors_of, links_of};
 use crate::table::slots_at;
 use grammar_core::SymbolId;
-use slot_analysis::{Analysis, Packed, Slots, floors_of, links_of};
+use slot_analysis::{Analysis, Packed, Slots};
 use std::alloc::{AllocError, Global};
 
 // The least cycle of a packed grammar, if there is one.

@@ -6,6 +6,7 @@ mod cycles;
 mod cyclic;
 mod laws;
 mod layers;
+mod links;
 mod message;
 mod refusal;
 mod refusals;

@@ -14,6 +14,5 @@ pub mod Beyond
 pub mod More
 pub mod StepLemmas
 pub mod Reaching
-pub mod Linking
 pub mod Telling
 pub mod Asking

@@ -6,4 +6,3 @@ pub mod Clauses
 pub mod Steps
 pub mod Tables
 pub mod Tested
-pub mod Linked

@@ -14,7 +14,6 @@ ghost use Rattle.slot_analysis.specs.Tested.{HasTests};
 use crate::clauses::{analysis_of, lefts_of};
 use crate::least::is_found;
 use crate::levels::levels_of;
-use crate::links::Slots;
 use crate::packed::{Packed, is_level_at, place_at};
 use crate::slots::bases_of;
 use crate::steps::reach_of;
@@ -31,6 +30,16 @@ pub struct Tables {
     nullable: IndexSet<u32>,
     productive: IndexSet<u32>,
     reach: IndexSet<u32>,
+}
+
+/// The levels of a grammar, and the tables of its packed slots.
+#[derive(Clone, Copy)]
+pub struct Slots<'a> {
+    pub levels: &'a [Vec<u32>],
+    pub bases: &'a [u32],
+    pub nullable: &'a IndexSet<u32>,
+    pub productive: &'a IndexSet<u32>,
+    pub reach: &'a IndexSet<u32>,
 }
 
 /// A grammar, and which of its slots are nullable, productive and accessible.

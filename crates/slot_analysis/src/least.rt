@@ -178,6 +178,23 @@ fn close(
     Ok(())
 }
 
+// The search, from rows of where each number stands.
+fn search_rows(
+    alloc: Global,
+    clauses: &[Clause],
+    rows: &[Vec<u32>],
+) -> Result<IndexSet<u32>, AllocError>
+    requires below { AreBelow (length rows.now) clauses.now }
+    requires rows { HasPlaces clauses.now (rows_of rows.now) }
+    ensures { IfOk result (λ found. IsLeastSet clauses.now found.keys) }
+{
+    let mut places = vec![in alloc; 0usize; clauses.len()]?;
+    let mut found = IndexSet::new(alloc);
+    begin(clauses, &mut found, &mut places)?;
+    close(clauses, rows, &mut found, &mut places)?;
+    Ok(found)
+}
+
 /// The least set that the clauses make.
 pub fn least_set(
     alloc: Global,
@@ -191,9 +208,5 @@ pub fn least_set(
         return Err(AllocError);
     }
     let rows = occurrences(alloc, clauses, bound)?;
-    let mut places = vec![in alloc; 0usize; clauses.len()]?;
-    let mut found = IndexSet::new(alloc);
-    begin(clauses, &mut found, &mut places)?;
-    close(clauses, &rows, &mut found, &mut places)?;
-    Ok(found)
+    search_rows(alloc, clauses, &rows)
 }

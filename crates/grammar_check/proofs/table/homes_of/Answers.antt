@@ -1,5 +1,5 @@
 use Rattle.std.proofs.Common.{arith, ◌≡◌, ◌+◌, sym, ap, ◌∙◌, slice_index, length, refl, suc}
-use Rattle.slot_analysis.proofs.Linking.{filled_more}
+use Rattle.grammar_check.proofs.Linking.{filled_more}
 use Rattle.grammar_check.proofs.table.homes_of.Goals as goal
 
 pub loop-s-preserved : goal.loop-s-preserved

@@ -1,6 +1,6 @@
 use Rattle.std.proofs.Common.{arith, ◌≡◌, ◌+◌, sym, ap, ◌∙◌, slice_index, length, refl, suc}
-use Rattle.slot_analysis.proofs.Linking.{filled_more}
-use Rattle.slot_analysis.proofs.links.floors_of.Goals as goal
+use Rattle.grammar_check.proofs.Linking.{filled_more}
+use Rattle.grammar_check.proofs.links.floors_of.Goals as goal
 
 pub loop-s-preserved : goal.loop-s-preserved
 loop-s-preserved c =

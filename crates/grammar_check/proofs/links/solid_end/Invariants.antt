@@ -1,7 +1,7 @@
 use Rattle.std.proofs.Common.{ℕ, ◌<◌, ◌≤◌, ◌-◌}
 use Rattle.grammar_model.specs.Grammar.{rule_at, child_slot}
 use Rattle.grammar_model.specs.Analysis.{IsNullable}
-use Rattle.slot_analysis.proofs.links.solid_end.Given as goal
+use Rattle.grammar_check.proofs.links.solid_end.Given as goal
 
 abbrev pub invariant-loop-k : goal.invariant-loop-k
 invariant-loop-k l = record {

@@ -2,10 +2,10 @@ use Rattle.std.proofs.Common.{arith, ◌≡◌, ℕ, ◌+◌, inl, inr, subst, l
 use Rattle.grammar_model.specs.Grammar.{rule_at}
 use Rattle.slot_analysis.specs.Rows.{rows_of}
 use Rattle.slot_analysis.specs.Slots.{needed_of}
-use Rattle.slot_analysis.specs.Linked.{HasPairs, IsLinkOf, IsLinkTo}
+use Rattle.grammar_check.specs.Linked.{HasPairs, IsLinkOf, IsLinkTo}
 use Rattle.slot_analysis.proofs.Found.{Contains-none}
-use Rattle.slot_analysis.proofs.Linking.{pairs_both, links_more}
-use Rattle.slot_analysis.proofs.links.links_of.Goals as goal
+use Rattle.grammar_check.proofs.Linking.{pairs_both, links_more}
+use Rattle.grammar_check.proofs.links.links_of.Goals as goal
 
 pub loop-i-preserved : goal.loop-i-preserved
 loop-i-preserved c = pairs_both (rows_of c.in_ok-rows.rows.items) (rows_of c.loop-i.rows.items) (rows_of c.add_links.new.rows.items) (IsLinkTo c.args.w.now c.args.slots.now.bases.now c.loop-i.i) (IsLinkOf c.args.w.now c.args.slots.now.bases.now c.loop-i.i (needed_of (rule_at c.args.w.now c.loop-i.i))) (IsLinkTo c.args.w.now c.args.slots.now.bases.now (c.loop-i.i + 1))

@@ -6,23 +6,11 @@ ghost use Rattle.slot_analysis.specs.Rows.{rows_of, row_at};
 ghost use Rattle.slot_analysis.specs.Slots.{number, end_of, IsNumbering, needed_of};
 ghost use Rattle.slot_analysis.specs.Clauses.{IsAnalysis};
 ghost use Rattle.slot_analysis.specs.Steps.{head_of, IsReach};
-ghost use Rattle.slot_analysis.specs.Linked.{HasPairs, IsLinkAt, IsLinkOf, IsLinkTo, IsFloored};
+ghost use Rattle.grammar_check.specs.Linked.{HasPairs, IsLinkAt, IsLinkOf, IsLinkTo, IsFloored};
 
-use crate::clauses::{child_number, head_number};
-use crate::least::{add_to_row, empty_rows, is_found};
-use crate::packed::Packed;
 use indexmap::IndexSet;
+use slot_analysis::{Packed, Slots, add_to_row, child_number, empty_rows, head_number, is_found};
 use std::alloc::{AllocError, AllocFailed, Global};
-
-/// A grammar's slots with what they can do.
-#[derive(Clone, Copy)]
-pub struct Slots<'a> {
-    pub levels: &'a [Vec<u32>],
-    pub bases: &'a [u32],
-    pub nullable: &'a IndexSet<u32>,
-    pub productive: &'a IndexSet<u32>,
-    pub reach: &'a IndexSet<u32>,
-}
 
 fn is_part_nullable(
     w: &Packed<'_>,

@@ -4,11 +4,11 @@ use Rattle.std.specs.declared.alloc.Global.{Global}
 use Rattle.grammar_model.specs.Grammar.{rule_at}
 use Rattle.slot_analysis.specs.Rows.{rows_of}
 use Rattle.slot_analysis.specs.Slots.{needed_of}
-use Rattle.slot_analysis.specs.Linked.{HasPairs, IsLinkOf}
+use Rattle.grammar_check.specs.Linked.{HasPairs, IsLinkOf}
 use Rattle.slot_analysis.proofs.RowLemmas.{rows_length}
-use Rattle.slot_analysis.proofs.Linking.{part_below, alone_from, alone_to, pairs_added, pairs_both, pairs_same, link_more, link_skip}
-use Rattle.slot_analysis.proofs.links.add_links.Goals as goal
-use Rattle.slot_analysis.proofs.links.add_links.Goals.{then-lies_between+then-is_part_used+in_ok-add_to_row, else-lies_between, else-lies_between-via-then-lies_between+else-is_part_used, else-lies_between-via-else-lies_between}
+use Rattle.grammar_check.proofs.Linking.{part_below, alone_from, alone_to, pairs_added, pairs_both, pairs_same, link_more, link_skip}
+use Rattle.grammar_check.proofs.links.add_links.Goals as goal
+use Rattle.grammar_check.proofs.links.add_links.Goals.{then-lies_between+then-is_part_used+in_ok-add_to_row, else-lies_between, else-lies_between-via-then-lies_between+else-is_part_used, else-lies_between-via-else-lies_between}
 
 pub add_to_row-requires : goal.add_to_row-requires
 add_to_row-requires c =

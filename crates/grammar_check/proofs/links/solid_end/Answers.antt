@@ -2,8 +2,8 @@ use Rattle.std.proofs.Common.{arith, ◌≡◌, ◌-◌, inl, inr, subst, sym, �
 use Rattle.grammar_model.specs.Grammar.{rule_at, child_slot}
 use Rattle.grammar_model.specs.Analysis.{IsNullable}
 use Rattle.slot_analysis.proofs.Search.{same_or_below}
-use Rattle.slot_analysis.proofs.links.solid_end.Goals as goal
-use Rattle.slot_analysis.proofs.links.solid_end.Goals.{then-not-is_part_nullable, else-not-is_part_nullable}
+use Rattle.grammar_check.proofs.links.solid_end.Goals as goal
+use Rattle.grammar_check.proofs.links.solid_end.Goals.{then-not-is_part_nullable, else-not-is_part_nullable}
 
 pub loop-k-preserved : goal.loop-k-preserved
 loop-k-preserved c = elim c.if-not-is_part_nullable.branch [

@@ -7,7 +7,7 @@ use Rattle.grammar_core.specs.Written.{IsWritten}
 use Rattle.slot_analysis.specs.Rows.{row_at, HasAdded}
 use Rattle.slot_analysis.specs.Slots.{number, end_of, IsNumbering, IsNumbered, needed_of}
 use Rattle.slot_analysis.specs.Steps.{head_of}
-use Rattle.slot_analysis.specs.Linked.{HasPairs, IsLinkAt, IsLinkOf, IsLinkTo}
+use Rattle.grammar_check.specs.Linked.{HasPairs, IsLinkAt, IsLinkOf, IsLinkTo}
 use Rattle.slot_analysis.proofs.Search.{same_or_below}
 use Rattle.slot_analysis.proofs.Known.{child_numbered}
 use Rattle.slot_analysis.proofs.Rounds.{bases_rise}

@@ -1,7 +1,7 @@
 use Rattle.std.proofs.Common.{true≢false, sym, ◌∙◌}
 use Rattle.grammar_model.specs.Analysis.{IsAccessible, IsProductive}
-use Rattle.slot_analysis.proofs.Linking.{part_told}
-use Rattle.slot_analysis.proofs.links.is_part_used.Goals as goal
+use Rattle.grammar_check.proofs.Linking.{part_told}
+use Rattle.grammar_check.proofs.links.is_part_used.Goals as goal
 
 pub returns-then-is_found : goal.returns-then-is_found
 returns-then-is_found c =

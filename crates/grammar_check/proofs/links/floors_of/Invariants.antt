@@ -1,6 +1,6 @@
 use Rattle.std.proofs.Common.{◌≡◌, ◌<◌, ◌≤◌, ℕ, length, slice_index}
 use Rattle.slot_analysis.specs.Slots.{end_of}
-use Rattle.slot_analysis.proofs.links.floors_of.Given as goal
+use Rattle.grammar_check.proofs.links.floors_of.Given as goal
 
 abbrev pub invariant-loop-s : goal.invariant-loop-s
 invariant-loop-s l = record {
