@@ -1,12 +1,12 @@
 -- Ranks of parts: over one span those of a higher rank come first.
-use Rattle.std.proofs.Common.{◌≡◌, ℕ, ℤ, ◌≤ℤ◌, ◌<ℤ◌, ◌<◌, ◌↔◌, inl, inr, Bool, false, cond, Contains, List, Some, length, slice_get, refl, sym, ◌∙◌, ap, subst, arith}
+use Rattle.std.proofs.Common.{◌≡◌, ℕ, ℤ, ◌≤ℤ◌, ◌<ℤ◌, ◌↔◌, inl, inr, false, cond, Contains, List, Some, length, slice_get, refl, sym, ◌∙◌, ap, subst, arith}
 use Rattle.std.proofs.lemmas.Int.{ints}
 use Rattle.std.proofs.lemmas.Cmp.{int_ranked}
 use Rattle.std.proofs.lemmas.Map.Keys.{Less-from_sorted}
 use Rattle.std.specs.declared.cmp.Ordering.{Ordering}
 use Rattle.std.specs.declared.cmp.Ordering.TheVariants.{Less, Equal, Greater}
 use Rattle.std.specs.Int.Signed.{≤ℤ_refl}
-use Rattle.std.specs.Ordering.{ordering_then, nat_cmp, int_cmp}
+use Rattle.std.specs.Ordering.{ordering_then, int_cmp}
 use Rattle.std.specs.Option.{option_cmp}
 use Rattle.std.specs.List.Sorted.{IsStrictlySortedBy}
 use Rattle.grammar_model.specs.declared.Ranking.{Ranking}

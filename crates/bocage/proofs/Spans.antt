@@ -179,8 +179,7 @@ module _ (ranking : Ranking) (end : ℕ) (parts : List Part) (sorted : IsStrictl
             let (l, same) = got_at parts i p no_part (sym e) in
             let (a, b) = is.each i le lt in
             let c = ap (λ (z : Part). z.length) same in
-            let d = start_of_group in
-            (
+            let d = start_of_group in (
               got_item parts i p (sym e),
               ap (λ (z : Part). z.symbol) (sym same) ∙ a ∙ sym symbol_of_group,
               omega arith,

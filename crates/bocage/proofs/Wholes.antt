@@ -267,9 +267,9 @@ module _ (k : Known) (knows : Knows k) (front : Item) (parts : List Part) (span 
   allowed at lt p h r left whole =
       kept_allowed k.written.now k.recce.now.flat (edges_of k.recce.now) r m k.end p (part_at parts 0) k.ranking ((span.exact p).0 h).3
       (λ same other cs is left' spans. (
-          let all = rule_there at lt other cs is (left' ∙ left) spans in
-          subst (λ z. flat_rank k.written.now k.ranking k.recce.now.flat other ≤ℤ z) (sym same ∙ ap rank_in whole) (span.best (part_by other) all refl refl)
-          ))
+      let all = rule_there at lt other cs is (left' ∙ left) spans in
+      subst (λ z. flat_rank k.written.now k.ranking k.recce.now.flat other ≤ℤ z) (sym same ∙ ap rank_in whole) (span.best (part_by other) all refl refl)
+      ))
 
   module _ (key : RuleKey) (whole : (part_at parts 0).whole ≡ Some key) where
     first_tidy : IsTidy k (part_at parts 0).symbol m k.end (part_at parts 0).length (part_at parts 0)
@@ -315,7 +315,7 @@ module _ (k : Known) (knows : Knows k) (front : Item) (parts : List Part) (span 
           let own = ap rank_in first_tidy.whole in
           let high = span.best (part_by r) all refl refl in
           let kept = allowed_kept k.written.now k.recce.now.flat (edges_of k.recce.now) r m k.end (part_by r) (part_at parts 0) k.ranking best
-              (λ is. (let low = is first_tidy.rule cs first_tidy.is_rule (first_tidy.left ∙ sym h.left) spans in both_ways (flat_rank k.written.now k.ranking k.recce.now.flat r) (rank_in (part_at parts 0).whole) high (subst (λ z. z ≤ℤ flat_rank k.written.now k.ranking k.recce.now.flat r) (sym own) low))) in
+          (λ is. (let low = is first_tidy.rule cs first_tidy.is_rule (first_tidy.left ∙ sym h.left) spans in both_ways (flat_rank k.written.now k.ranking k.recce.now.flat r) (rank_in (part_at parts 0).whole) high (subst (λ z. z ≤ℤ flat_rank k.written.now k.ranking k.recce.now.flat r) (sym own) low))) in
           to_rules k (part_at parts 0).symbol m k.end (part_at parts 0).length sum keys parts (part_by r) (rule_key_of k.written.now k.ranking k.recce.now.flat r) ((span.exact (part_by r)).1 (all, refl, refl, kept)) refl
 
       pub are_wholes : Contains (set_at k.recce.now m) front → (ns : List ℕ) → AreNumbers keys ns (whole_keys k.recce.now.flat parts) → AreWholes (seen_by k keys) (part_at parts 0).symbol m k.end ns
