@@ -23,10 +23,10 @@ use Rattle.work_laws.proofs.Input.{input_chars, input_utf8, input_length, input_
 
 -- no rule of the grammar has a rank of its own
 no_ranks : (i : ℕ) → rank_of (rule_at work_g1 i) ≡ pos 0
-no_ranks 0 = refl
-no_ranks 1 = refl
-no_ranks 2 = refl
-no_ranks 3 = refl
+no_ranks zero = refl
+no_ranks (suc zero) = refl
+no_ranks (suc (suc zero)) = refl
+no_ranks (suc (suc (suc zero))) = refl
 no_ranks (suc (suc (suc (suc i)))) = refl
 
 module _ (size : ℕ) where
