@@ -18,7 +18,7 @@ mod values;
 
 pub use adverbs::value_of;
 pub use descriptor::read_action;
-pub use faults::check;
+pub use faults::{Named, check, check_named, named_of};
 pub use names::Names;
 pub use parts::parts_of;
 pub use quotes::{between_quotes, is_quote, modifier_len};
