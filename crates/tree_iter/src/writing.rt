@@ -99,7 +99,7 @@ fn sum_of(a: u32, b: u32) -> Result<u32, NoMemory>
     }
 }
 
-// A place among rows, of which more than 2^32 - 1 count as too many for memory.
+// A place among rows; more than 2^32 - 1 rows count as too many for memory.
 fn place(n: usize) -> Result<u32, NoMemory>
     ensures { IfOk result (λ place. place ≡ n) }
 {
