@@ -15,8 +15,7 @@ use std::marker::Model;
 use std::sync::ledger::Ledger;
 use value_text::NoMemory;
 
-/// Where the steps of the derivation are that an iterator stands at, if it stands at one: still in the walk, or copied before that
-/// goes on.
+/// Where the steps of the current derivation are, if there is one: in the walk, or copied before the walk went on.
 #[derive(Clone, Copy)]
 pub enum Current {
     Nothing,
@@ -109,8 +108,8 @@ impl<'f> TreeIter<'f> {
 
     /// Goes to the next derivation. Answers whether there is one; behind the last it stands at none. A call that runs out of memory
     /// leaves the iterator where it stands, and the next call goes on with what it has found; more than 2^64 - 1 derivations, or 2^32 - 1
-    /// flat steps of one, count as too many for memory. Only looks at alternatives raise `steps`: what a derivation shares with the one before it at its beginning is not
-    /// looked at again.
+    /// flat steps of one, count as too many for memory. Only looks at alternatives raise `steps`: what a derivation shares with the one
+    /// before it at its beginning is not looked at again.
     pub fn next<L: Ledger>(&mut self, steps: &mut Steps<L>) -> Result<bool, NoMemory>
         ensures answer { IfOk result (λ more. (given : List Tree) → AreGiven self.old given → IsAnswer self.new given more) }
         ensures stands { IfOk result (λ more. IsTrue more → IsSome self.new.current) }

@@ -99,7 +99,7 @@ fn sum_of(a: u32, b: u32) -> Result<u32, NoMemory>
     }
 }
 
-// A place among rows, of which more than 2^32 - 1 count as too many for memory.
+// A place among rows; more than 2^32 - 1 rows count as too many for memory.
 fn place(n: usize) -> Result<u32, NoMemory>
     ensures { IfOk result (λ place. place ≡ n) }
 {
@@ -215,7 +215,7 @@ fn effect_of(
     }
 }
 
-// Makes room for one more, and for a quarter of what there is, so that little is left over.
+// Makes room for one more, and for an eighth of what there is, so that little is left over.
 fn make_room<T>(rows: &mut Vec<T>) -> Result<(), NoMemory>
     ensures items { rows.new.items ≡ rows.old.items }
     ensures room { OnOk result (vec_len rows.new < vec_capacity rows.new) }
@@ -224,7 +224,7 @@ fn make_room<T>(rows: &mut Vec<T>) -> Result<(), NoMemory>
     if len < rows.capacity() {
         return Ok(());
     }
-    rows.reserve_exact(len / 4 + 16)?;
+    rows.reserve_exact(len / 8 + 16)?;
     Ok(())
 }
 
