@@ -52,6 +52,7 @@ const DIVIDED: Given<'_> = Given {
     input: b"xxx",
     ..SUM
 };
+
 const DIVIDED_LINES: &[u8] =
     b"[\"S\",[\"T\",\"x\",\"x\"],[\"T\",\"x\"]]\n[\"S\",[\"T\",\"x\"],[\"T\",\"x\",\"x\"]]\n";
 

@@ -79,8 +79,10 @@ module _ (f : Forest) (is : IsForest f) where
       let (tree, derives, allowed) = leaves_some f.flat f.written is.derived.flat f.edges forward f.ranking whole 0 f.place is.derived.tree is.derived.derives in
       let view = reading.viewed f is.derived derives in (
         tree_of f.written f.flat tree,
-        (form.sound whole 0 f.place _ tree (get_index f.flat.symbols whole (Top 0) (Top f.start) top_symbol).0 stands view,
-          (chosen_form f.flat f.written is.derived.flat is.derived.flat_of is.derived.checked (Held f.edges) forward f.ranking whole 0 f.place _ tree stands view).0 allowed),
+        (
+          form.sound whole 0 f.place _ tree (get_index f.flat.symbols whole (Top 0) (Top f.start) top_symbol).0 stands view,
+          (chosen_form f.flat f.written is.derived.flat is.derived.flat_of is.derived.checked (Held f.edges) forward f.ranking whole 0 f.place _ tree stands view).0 allowed,
+        ),
       )
 
 -- equal parts
