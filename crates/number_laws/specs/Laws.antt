@@ -1,5 +1,6 @@
 -- That a reading has its four numbers: whatever the pieces are that an accepted grammar reads, and whether they have a derivation or not.
 use Rattle.std.specs.Prelude.{◌≡◌, List}
+use Rattle.grammar_model.specs.declared.Ranking.{Ranking}
 use Rattle.language_model.specs.Building.{Built}
 use Rattle.language_model.specs.Texts.{IsBuilt}
 use Rattle.reading_model.specs.Accepted.{IsAccepted}
