@@ -1,5 +1,5 @@
 //! The check of grammars whose rules name levels and groups by the thousand million.
-use crate::grammars::{add_rule, named};
+use crate::grammars::{add_names, add_rule};
 use grammar_check::{GrammarRefusal, check};
 use grammar_core::{Assoc, CoreRefusal, SymbolId, Written};
 use std::alloc::Global;
@@ -35,12 +35,17 @@ const LOOP: &[Plain] = &[
     (E, &[N], 2_199_999_999),
 ];
 
-fn grammar(alloc: Global, rules: &[Plain]) -> Result<Written, CoreRefusal> {
-    let mut w = named(alloc, &["S", "E", "F", "n"])?;
+fn add_all(alloc: Global, w: &mut Written, rules: &[Plain]) -> Result<(), CoreRefusal> {
+    add_names(w, &["S", "E", "F", "n"])?;
     for (lhs, parts, level) in rules {
-        add_rule(alloc, &mut w, (*lhs, parts), *level, GROUPS, Assoc::Left)?;
+        add_rule(alloc, w, (*lhs, *parts), *level, GROUPS, Assoc::Left)?;
     }
-    w.start_add(SymbolId(S))?;
+    w.start_add(SymbolId(S))
+}
+
+fn grammar(alloc: Global, rules: &[Plain]) -> Result<Written, CoreRefusal> {
+    let mut w = Written::new(alloc);
+    add_all(alloc, &mut w, rules)?;
     Ok(w)
 }
 
