@@ -7,6 +7,7 @@ use Rattle.grammar_model.specs.declared.Ranking.{Ranking}
 use Rattle.recognizer_model.specs.declared.NodeKey.{NodeKey}
 use Rattle.recognizer_model.specs.Flat.{IsRule, lhs_of, rhs_of, part_of}
 use Rattle.recognizer_model.specs.FlatDerives.{Derives, Rule, Spans}
+use Rattle.recognizer_model.specs.Chosen.{Allowed, allowed_by}
 use Rattle.recognizer_model.specs.Nodes.{IsMet, Whole, Before, Last}
 use Rattle.earley_sets.specs.Recognizer.{Recognizer, IsRecognizer, place_of, edges_of, top_of}
 use Rattle.earley_sets.proofs.Membership.{Contains-map_from, get_at, got_at, got_item, found_at}
@@ -35,11 +36,11 @@ module _ (w : Grammar) (ranking : Ranking) (r : Recognizer) (read : IsRead w r) 
   front_there rule dot origin m (Some n) lt h = there_by n (record { rule = rule; dot = dot; origin = origin; end = m }) h.1
 
   last_there : (symbol m q rule : ℕ) (cs : Children) (l : model.Last) → IsLast (seen w ranking r keys) symbol m q l → IsRule r.flat rule → lhs_of r.flat rule ≡ symbol → m < q →
-      Spans r.flat (edges_of r) rule (length (rhs_of r.flat rule)) m q cs → Contains keys (record { rule = rule; dot = length (rhs_of r.flat rule); origin = m; end = q })
-  last_there symbol m q rule cs AnEdge (t, e, h) is left lt s = absurd (read.is.flat.no_rules rule is (t, ap (slice_get r.flat.symbols) left ∙ e))
-  last_there symbol m q rule cs Nothing (same, null) is left lt s = absurd (omega arith)
-  last_there symbol m q rule cs (Wholes ns) h is left lt s =
-      let held = (h.exact rule).1 (record { is_rule = is; left = left; children = cs; spans = s }) in
+      Spans r.flat (edges_of r) rule (length (rhs_of r.flat rule)) m q cs → allowed_by w ranking r.flat (edges_of r) rule m q → Contains keys (record { rule = rule; dot = length (rhs_of r.flat rule); origin = m; end = q })
+  last_there symbol m q rule cs AnEdge (t, e, h) is left lt s best = absurd (read.is.flat.no_rules rule is (t, ap (slice_get r.flat.symbols) left ∙ e))
+  last_there symbol m q rule cs Nothing (same, null) is left lt s best = absurd (omega arith)
+  last_there symbol m q rule cs (Wholes ns) h is left lt s best =
+      let held = (h.exact rule).1 (record { is_rule = is; left = left; children = cs; spans = s }, best) in
       let (i, at) = found_at h.rules rule held in
       let (below, e) = got_at h.rules i rule 0 (sym at) in
       let a = h.all in
@@ -67,10 +68,10 @@ module _ (w : Grammar) (ranking : Ranking) (r : Recognizer) (read : IsRead w r) 
       (front_there rule a.dot p alt.start alt.front (omega arith) h))
 
   -- what is met has its node
-  pub closed : {rule d p q : ℕ} → IsMet r.flat (edges_of r) (top_of r) (place_of r) rule d p q → 0 < d → end ≤ q → Contains keys (record { rule = rule; dot = d; origin = p; end = q })
+  pub closed : {rule d p q : ℕ} → IsMet r.flat (edges_of r) (allowed_by w ranking r.flat (edges_of r)) (top_of r) (place_of r) rule d p q → 0 < d → end ≤ q → Contains keys (record { rule = rule; dot = d; origin = p; end = q })
   closed (Whole lt s) some le = begun (top_key r) lt refl
   closed (Before met s e tr) some le = let f = derives_forward r read.is tr in before (closed met (omega arith) (omega arith)) (omega arith) s e tr some
-  closed (Last {r = rule} {r' = rule'} {d = d} {p = p} {m = m} {q = q} {cs = cs} {cs' = cs'} met s e is lt s') some le =
+  closed (Last {r = rule} {r' = rule'} {d = d} {p = p} {m = m} {q = q} {cs = cs} {cs' = cs'} met s e is lt s' best) some le =
       let (xs, a) = of_key (record { rule = rule; dot = suc d; origin = p; end = q }) (closed met (omega arith) le) le in
       let dot : a.dot ≡ d = (let z = a.dot_is in omega arith) in
       let one : Some a.symbol ≡ Some (lhs_of r.flat rule') = sym a.part ∙ ap (part_of r.flat rule) dot ∙ e in
@@ -83,15 +84,15 @@ module _ (w : Grammar) (ranking : Ranking) (r : Recognizer) (read : IsRead w r) 
       } in
       let (alt, i, same) = Contains-map_from (λ (z : Alternative). z.start) xs m ((a.exact m).1 split) in
       let h = (a.each alt i).last in
-      last_there a.symbol m q rule' cs' alt.last (subst (λ z. IsLast (seen w ranking r keys) a.symbol z q alt.last) (sym same) h) is (sym symbol) lt s'
+      last_there a.symbol m q rule' cs' alt.last (subst (λ z. IsLast (seen w ranking r keys) a.symbol z q alt.last) (sym same) h) is (sym symbol) lt s' best
 
   -- and so have the parts that a node asks for, wherever they end
-  pub asked : {rule d p m q x : ℕ} {cs : Children} {t : Tree} → IsMet r.flat (edges_of r) (top_of r) (place_of r) rule (suc d) p q → end ≤ q →
+  pub asked : {rule d p m q x : ℕ} {cs : Children} {t : Tree} → IsMet r.flat (edges_of r) (allowed_by w ranking r.flat (edges_of r)) (top_of r) (place_of r) rule (suc d) p q → end ≤ q →
       Spans r.flat (edges_of r) rule d p m cs → part_of r.flat rule d ≡ Some x → Derives r.flat (edges_of r) x m q t → 0 < d → Contains keys (record { rule = rule; dot = d; origin = p; end = m })
   asked met le s e tr some = before (closed met (omega arith) le) le s e tr some
 
 -- a node that ends at a place and begins no later than another, with one that ends behind it and asks for it
-pub record IsAsked (r : Recognizer) (from end : ℕ) : Type 0 where
+pub record IsAsked (allowed : Allowed) (r : Recognizer) (from end : ℕ) : Type 0 where
   pub rule : ℕ
   pub dot : ℕ
   pub origin : ℕ
@@ -102,22 +103,22 @@ pub record IsAsked (r : Recognizer) (from end : ℕ) : Type 0 where
   pub some : 0 < dot
   pub low : origin ≤ from
   pub behind : end < later
-  pub met : IsMet r.flat (edges_of r) (top_of r) (place_of r) rule (suc dot) origin later
+  pub met : IsMet r.flat (edges_of r) allowed (top_of r) (place_of r) rule (suc dot) origin later
   pub front : Spans r.flat (edges_of r) rule dot origin end children
   pub part : part_of r.flat rule dot ≡ Some symbol
   pub last : Derives r.flat (edges_of r) symbol end later tree
 
 -- of the nodes that end before the last place, one with the least origin was asked for by one that ends behind it
-pub least_asked : (r : Recognizer) → IsRecognizer r → {rule d p q : ℕ} → IsMet r.flat (edges_of r) (top_of r) (place_of r) rule d p q → 0 < d → (q ≡ place_of r) ⊎ IsAsked r p q
-least_asked r is (Whole lt s) some = inl refl
-least_asked r is (Before {r = rule} {d = d} {p = p} {m = m} {q = q} {x = x} {cs = cs} {t = t} met s e tr) some = elim (cases_lt m q) [
+pub least_asked : (allowed : Allowed) (r : Recognizer) → IsRecognizer r → {rule d p q : ℕ} → IsMet r.flat (edges_of r) allowed (top_of r) (place_of r) rule d p q → 0 < d → (q ≡ place_of r) ⊎ IsAsked allowed r p q
+least_asked allowed r is (Whole lt s) some = inl refl
+least_asked allowed r is (Before {r = rule} {d = d} {p = p} {m = m} {q = q} {x = x} {cs = cs} {t = t} met s e tr) some = elim (cases_lt m q) [
   | inl lt ↦ inr (record { rule = rule; dot = d; origin = p; later = q; symbol = x; children = cs; tree = t; some = some; low = omega arith; behind = lt; met = met; front = s; part = e; last = tr })
   | inr ge ↦
       let f = derives_forward r is tr in
       let same : q ≡ m = omega arith in
-      elim (least_asked r is met (omega arith)) [ inl a ↦ inl (sym same ∙ a) | inr a ↦ inr (subst (λ z. IsAsked r p z) same a) ]
+      elim (least_asked allowed r is met (omega arith)) [ inl a ↦ inl (sym same ∙ a) | inr a ↦ inr (subst (λ z. IsAsked allowed r p z) same a) ]
 ]
-least_asked r is (Last {p = p} {m = m} {q = q} met s e rule lt s') some = elim (least_asked r is met (omega arith)) [
+least_asked allowed r is (Last {p = p} {m = m} {q = q} met s e rule lt s' best) some = elim (least_asked allowed r is met (omega arith)) [
   | inl a ↦ inl a
   | inr a ↦
       let f = spans_forward r is s in

@@ -9,6 +9,7 @@ use Rattle.recognizer_model.specs.declared.Item.{Item}
 use Rattle.recognizer_model.specs.declared.NodeKey.{NodeKey}
 use Rattle.recognizer_model.specs.Counts.{IsCountOf}
 use Rattle.recognizer_model.specs.Leo.{InReduced}
+use Rattle.recognizer_model.specs.Chosen.{allowed_by}
 use Rattle.recognizer_model.specs.Nodes.{Before, Placed}
 use Rattle.recognizer_model.proofs.Over.{hidden_whole}
 use Rattle.earley_sets.specs.Recognizer.{Recognizer, IsRecognizer, place_of, set_at, edges_of, top_of}
@@ -28,24 +29,24 @@ use Rattle.bocage.proofs.Counting.{at_place, none_at_least, none_counted, at_lea
 module _ (w : Grammar) (ranking : Ranking) (r : Recognizer) (read : IsRead w r) (end first : ℕ) (f : Found) (table : List (List AlternativeRow)) (going : IsGoing w ranking r end first f table) (nodes : List ℕ)
     (listed : (n : ℕ) → Contains nodes n ↔ ((n < first) × IsKnownNode r end f.keys.keys n)) where
   -- where a used node ends before the last place, one of the listed nodes begins no later
-  pub reached : end ≢ place_of r → (key : NodeKey) → IsUsedIn r key → key.end ≡ end → (n : ℕ) × (k : NodeKey) × Contains nodes n × (slice_get f.keys.keys n ≡ Some k) × (k.origin ≤ key.origin)
+  pub reached : end ≢ place_of r → (key : NodeKey) → IsUsedIn w ranking r key → key.end ≡ end → (n : ℕ) × (k : NodeKey) × Contains nodes n × (slice_get f.keys.keys n ≡ Some k) × (k.origin ≤ key.origin)
   reached inner key used same =
-      let (some, met) = (used_met r read.is key).0 used in
-      elim (least_asked r read.is met some) [ inl e ↦ absurd (inner (sym same ∙ e)) | inr a ↦ go (subst (λ z. IsAsked r key.origin z) same a) ]
+      let (some, met) = (used_met w ranking r read key).0 used in
+      elim (least_asked (allowed_by w ranking r.flat (edges_of r)) r read.is met some) [ inl e ↦ absurd (inner (sym same ∙ e)) | inr a ↦ go (subst (λ z. IsAsked (allowed_by w ranking r.flat (edges_of r)) r key.origin z) same a) ]
     where
-      go : IsAsked r key.origin end → (n : ℕ) × (k : NodeKey) × Contains nodes n × (slice_get f.keys.keys n ≡ Some k) × (k.origin ≤ key.origin)
+      go : IsAsked (allowed_by w ranking r.flat (edges_of r)) r key.origin end → (n : ℕ) × (k : NodeKey) × Contains nodes n × (slice_get f.keys.keys n ≡ Some k) × (k.origin ≤ key.origin)
       go a =
           let b = a.behind in
           let item : Item = record { rule = a.rule; dot = a.dot; origin = a.origin } in
           let held = asked w ranking r read (suc end) f.keys.keys f.wholes.items table (λ n k at le. going.visited n k at (omega arith)) (λ k lt e. subst (λ z. Contains f.keys.keys z) (sym e) (going.top lt)) a.met (omega arith) a.front a.part a.last a.some in
           let (n, at) = found_at f.keys.keys (node_of_item item end) held in
           let lt : n < first = elim (cases_lt n first) [ inl lt ↦ lt | inr ge ↦ absurd (inner (going.begun n (node_of_item item end) at ge refl)) ] in
-          let is = (used_met r read.is (node_of_item item end)).1 (a.some, Before a.met a.front a.part a.last) in
-          let kept = used_waits r read.is (node_of_item item end) is (going.waits n (node_of_item item end) at (inl lt) (omega arith)) in
+          let is = (used_met w ranking r read (node_of_item item end)).1 (a.some, Before a.met a.front a.part a.last) in
+          let kept = used_waits w ranking r read (node_of_item item end) is (going.waits n (node_of_item item end) at (inl lt) (omega arith)) in
           (n, node_of_item item end, (listed n).1 (lt, (item, kept, at)), at, a.low)
 
   -- a listed node is used, and ends here
-  pub listed_used : (n : ℕ) (key : NodeKey) → Contains nodes n → slice_get f.keys.keys n ≡ Some key → IsUsedIn r key × (key.end ≡ end)
+  pub listed_used : (n : ℕ) (key : NodeKey) → Contains nodes n → slice_get f.keys.keys n ≡ Some key → IsUsedIn w ranking r key × (key.end ≡ end)
   listed_used n key h at =
       let (lt, (item, held, at')) = (listed n).0 h in
       let one : Some (node_of_item item end) ≡ Some key = sym at' ∙ at in
@@ -53,23 +54,23 @@ module _ (w : Grammar) (ranking : Ranking) (r : Recognizer) (read : IsRead w r) 
       (going.used key (got_item f.keys.keys n key (sym at)), sym (ap (λ (z : NodeKey). z.end) e))
 
   -- where no node is listed nothing is expanded
-  pub none_expanded : end ≢ place_of r → ((n : ℕ) → Contains nodes n → ⊥) → (item : Item) → IsExpandedAt r end item → ⊥
+  pub none_expanded : end ≢ place_of r → ((n : ℕ) → Contains nodes n → ⊥) → (item : Item) → IsExpandedAt w ranking r end item → ⊥
   none_expanded inner none item (hidden, (key, used, same, le)) = let (n, k, h, at, low) = reached inner key used same in none n h
 
   -- the least origin is that of one of the listed nodes
   pub least_met : (lowest least : ℕ) → end ≢ place_of r → lowest ≡ end → 0 < length nodes → least ≤ lowest →
       (least ≡ lowest) ⊎ ((n : ℕ) × (key : NodeKey) × Contains nodes n × (slice_get f.keys.keys n ≡ Some key) × (key.origin ≡ least)) →
-      (key : NodeKey) × IsUsedIn r key × (key.end ≡ end) × (key.origin ≤ least)
+      (key : NodeKey) × IsUsedIn w ranking r key × (key.end ≡ end) × (key.origin ≤ least)
   least_met lowest least inner is some le (inr (n, key, h, at, e)) = let (used, same) = listed_used n key h at in (key, used, same, omega arith)
   least_met lowest least inner is some le (inl e) =
       let h = there nodes 0 0 some in
       let (lt, (item, held, at)) = (listed (get_or nodes 0 0)).0 h in
       let (used, same) = listed_used (get_or nodes 0 0) (node_of_item item end) h at in
-      let low = (used_within r read.is (node_of_item item end) used).forward in
+      let low = (used_within w ranking r read (node_of_item item end) used).forward in
       (node_of_item item end, used, same, omega arith)
 
   module _ (least : ℕ) (low : (n : ℕ) (key : NodeKey) → Contains nodes n → slice_get f.keys.keys n ≡ Some key → least ≤ key.origin) (whole : end ≡ place_of r → least ≡ 0)
-      (met : end ≢ place_of r → (key : NodeKey) × IsUsedIn r key × (key.end ≡ end) × (key.origin ≤ least)) where
+      (met : end ≢ place_of r → (key : NodeKey) × IsUsedIn w ranking r key × (key.end ≡ end) × (key.origin ≤ least)) where
     -- at any place, or at the last one
     same_or_not : (end ≡ place_of r) ⊎ (end ≢ place_of r)
     same_or_not = elim (cases_lt end (place_of r)) [
@@ -77,7 +78,7 @@ module _ (w : Grammar) (ranking : Ranking) (r : Recognizer) (read : IsRead w r) 
       | inr ge ↦ elim (cases_lt (place_of r) end) [ inl gt ↦ inr (λ e. let q : end ≡ place_of r = e in absurd (omega arith)) | inr le ↦ inl (omega arith) ]
     ]
 
-    pub hidden_expanded : (item : Item) → IsHiddenFrom r end least item → IsExpandedAt r end item
+    pub hidden_expanded : (item : Item) → IsHiddenFrom r end least item → IsExpandedAt w ranking r end item
     hidden_expanded item (hidden, le) = (
       hidden,
       elim same_or_not [
@@ -88,7 +89,7 @@ module _ (w : Grammar) (ranking : Ranking) (r : Recognizer) (read : IsRead w r) 
       ],
     )
 
-    pub expanded_hidden : (item : Item) → IsExpandedAt r end item → IsHiddenFrom r end least item
+    pub expanded_hidden : (item : Item) → IsExpandedAt w ranking r end item → IsHiddenFrom r end least item
     expanded_hidden item (hidden, (key, used, same, le)) = (
       hidden,
       elim same_or_not [
@@ -100,65 +101,65 @@ module _ (w : Grammar) (ranking : Ranking) (r : Recognizer) (read : IsRead w r) 
   -- what was given for the place is what is expanded there
   pub given_expanded : (lowest least : ℕ) → ((n : ℕ) (key : NodeKey) → Contains nodes n → slice_get f.keys.keys n ≡ Some key → least ≤ key.origin) → least ≤ lowest →
       (least ≡ lowest) ⊎ ((n : ℕ) × (key : NodeKey) × Contains nodes n × (slice_get f.keys.keys n ≡ Some key) × (key.origin ≡ least)) →
-      (end ≡ place_of r → lowest ≡ 0) → (end ≢ place_of r → (lowest ≡ end) × (0 < length nodes)) → (item : Item) → IsHiddenFrom r end least item ↔ IsExpandedAt r end item
+      (end ≡ place_of r → lowest ≡ 0) → (end ≢ place_of r → (lowest ≡ end) × (0 < length nodes)) → (item : Item) → IsHiddenFrom r end least item ↔ IsExpandedAt w ranking r end item
   given_expanded lowest least low le met whole inner item =
       let whole' : end ≡ place_of r → least ≡ 0 = λ e. (let z = whole e in omega arith) in
-      let met' : end ≢ place_of r → (key : NodeKey) × IsUsedIn r key × (key.end ≡ end) × (key.origin ≤ least) = λ n. (let (is, some) = inner n in least_met lowest least n is some le met) in
+      let met' : end ≢ place_of r → (key : NodeKey) × IsUsedIn w ranking r key × (key.end ≡ end) × (key.origin ≤ least) = λ n. (let (is, some) = inner n in least_met lowest least n is some le met) in
       (hidden_expanded least low whole' met' item, expanded_hidden least low whole' met' item)
 
 -- one place more
-module _ (r : Recognizer) where
+module _ (w : Grammar) (ranking : Ranking) (r : Recognizer) where
   abbrev at_end : (end : ℕ) → Placed → Type 0
-  at_end end p = IsExpandedIn r p × (p.place ≡ end)
+  at_end end p = IsExpandedIn w ranking r p × (p.place ≡ end)
 
-  here : (end : ℕ) (item : Item) → IsExpandedAt r end item → at_end end (at_place end item)
+  here : (end : ℕ) (item : Item) → IsExpandedAt w ranking r end item → at_end end (at_place end item)
   here end item h = (h, refl)
 
-  out : (end : ℕ) (p : Placed) → at_end end p → (p.place ≡ end) × IsExpandedAt r end p.item
-  out end p (h, e) = (e, subst (λ (z : Placed). IsExpandedIn r z) (λ i. record { place = e i; item = p.item }) h)
+  out : (end : ℕ) (p : Placed) → at_end end p → (p.place ≡ end) × IsExpandedAt w ranking r end p.item
+  out end p (h, e) = (e, subst (λ (z : Placed). IsExpandedIn w ranking r z) (λ i. record { place = e i; item = p.item }) h)
 
-  apart : (end : ℕ) (p : Placed) → IsExpandedFrom r (suc end) p → at_end end p → ⊥
+  apart : (end : ℕ) (p : Placed) → IsExpandedFrom w ranking r (suc end) p → at_end end p → ⊥
   apart end p (h, le) (h', e) = absurd (omega arith)
 
-  later : (end : ℕ) (p : Placed) → IsExpandedFrom r (suc end) p → IsExpandedFrom r end p
+  later : (end : ℕ) (p : Placed) → IsExpandedFrom w ranking r (suc end) p → IsExpandedFrom w ranking r end p
   later end p (h, le) = (h, omega arith)
 
-  now : (end : ℕ) (p : Placed) → at_end end p → IsExpandedFrom r end p
+  now : (end : ℕ) (p : Placed) → at_end end p → IsExpandedFrom w ranking r end p
   now end p (h, e) = (h, omega arith)
 
-  parted : (end : ℕ) (p : Placed) → IsExpandedFrom r end p → IsExpandedFrom r (suc end) p ⊎ at_end end p
+  parted : (end : ℕ) (p : Placed) → IsExpandedFrom w ranking r end p → IsExpandedFrom w ranking r (suc end) p ⊎ at_end end p
   parted end p (h, le) = elim (cases_lt end p.place) [ inl lt ↦ inl (h, omega arith) | inr ge ↦ inr (h, omega arith) ]
 
-  pub within_more : (end k l m : ℕ) → RisesWithin (IsExpandedFrom r (suc end)) k l → RisesWithin (IsExpandedAt r end) l m → RisesWithin (IsExpandedFrom r end) k m
+  pub within_more : (end k l m : ℕ) → RisesWithin (IsExpandedFrom w ranking r (suc end)) k l → RisesWithin (IsExpandedAt w ranking r end) l m → RisesWithin (IsExpandedFrom w ranking r end) k m
   within_more end k l m (a, some, e) (b, more, e') = (
     a + b,
-    at_least_both (IsExpandedFrom r (suc end)) (at_end end) (IsExpandedFrom r end) (apart end) (later end) (now end) a b some (at_least_placed end (IsExpandedAt r end) (at_end end) (here end) b more),
+    at_least_both (IsExpandedFrom w ranking r (suc end)) (at_end end) (IsExpandedFrom w ranking r end) (apart end) (later end) (now end) a b some (at_least_placed end (IsExpandedAt w ranking r end) (at_end end) (here end) b more),
     omega arith,
   )
 
-  pub count_more : (end k l : ℕ) → IsCountOf (IsExpandedFrom r (suc end)) k → RisesBy (IsExpandedAt r end) k l → IsCountOf (IsExpandedFrom r end) l
+  pub count_more : (end k l : ℕ) → IsCountOf (IsExpandedFrom w ranking r (suc end)) k → RisesBy (IsExpandedAt w ranking r end) k l → IsCountOf (IsExpandedFrom w ranking r end) l
   count_more end k l some (n, more, e) =
-      subst (λ z. IsCountOf (IsExpandedFrom r end) z) (sym e)
-      (count_both (IsExpandedFrom r (suc end)) (at_end end) (IsExpandedFrom r end) (apart end) (later end) (now end) k n (parted end) some (count_placed end (IsExpandedAt r end) (at_end end) (here end) n (out end) more))
+      subst (λ z. IsCountOf (IsExpandedFrom w ranking r end) z) (sym e)
+      (count_both (IsExpandedFrom w ranking r (suc end)) (at_end end) (IsExpandedFrom w ranking r end) (apart end) (later end) (now end) k n (parted end) some (count_placed end (IsExpandedAt w ranking r end) (at_end end) (here end) n (out end) more))
 
   -- behind the last place nothing is expanded
-  pub none_behind : IsRecognizer r → IsCountOf (IsExpandedFrom r (suc (place_of r))) 0
-  none_behind is = none_counted (IsExpandedFrom r (suc (place_of r))) (λ p ((hidden, (key, used, same, low)), le). (let w = (used_within r is key used).inside in absurd (omega arith)))
+  pub none_behind : IsRead w r → IsCountOf (IsExpandedFrom w ranking r (suc (place_of r))) 0
+  none_behind read = none_counted (IsExpandedFrom w ranking r (suc (place_of r))) (λ p ((hidden, (key, used, same, low)), le). (let w = (used_within w ranking r read key used).inside in absurd (omega arith)))
 
-  pub none_within : (k : ℕ) → RisesWithin (IsExpandedFrom r (suc (place_of r))) k k
-  none_within k = (0, none_at_least (IsExpandedFrom r (suc (place_of r))), omega arith)
+  pub none_within : (k : ℕ) → RisesWithin (IsExpandedFrom w ranking r (suc (place_of r))) k k
+  none_within k = (0, none_at_least (IsExpandedFrom w ranking r (suc (place_of r))), omega arith)
 
-  pub within_first : (end k l : ℕ) → end ≡ place_of r → RisesWithin (IsExpandedAt r end) k l → RisesWithin (IsExpandedFrom r end) k l
-  within_first end k l e h = within_more end k k l (subst (λ p. RisesWithin (IsExpandedFrom r (suc p)) k k) (sym e) (none_within k)) h
+  pub within_first : (end k l : ℕ) → end ≡ place_of r → RisesWithin (IsExpandedAt w ranking r end) k l → RisesWithin (IsExpandedFrom w ranking r end) k l
+  within_first end k l e h = within_more end k k l (subst (λ p. RisesWithin (IsExpandedFrom w ranking r (suc p)) k k) (sym e) (none_within k)) h
 
-  pub count_first : IsRecognizer r → (end k l : ℕ) → end ≡ place_of r → k ≡ 0 → RisesBy (IsExpandedAt r end) k l → IsCountOf (IsExpandedFrom r end) l
-  count_first is end k l e z h = count_more end 0 l (subst (λ p. IsCountOf (IsExpandedFrom r (suc p)) 0) (sym e) (none_behind is)) (subst (λ m. RisesBy (IsExpandedAt r end) m l) z h)
+  pub count_first : IsRead w r → (end k l : ℕ) → end ≡ place_of r → k ≡ 0 → RisesBy (IsExpandedAt w ranking r end) k l → IsCountOf (IsExpandedFrom w ranking r end) l
+  count_first read end k l e z h = count_more end 0 l (subst (λ p. IsCountOf (IsExpandedFrom w ranking r (suc p)) 0) (sym e) (none_behind read)) (subst (λ m. RisesBy (IsExpandedAt w ranking r end) m l) z h)
 
-  pub within_all : (end k l : ℕ) → RisesWithin (IsExpandedFrom r end) k l → RisesWithin (IsExpandedIn r) k l
-  within_all end k l (n, some, e) = (n, at_least_of (IsExpandedFrom r end) (IsExpandedIn r) n (λ p h. h.0) some, e)
+  pub within_all : (end k l : ℕ) → RisesWithin (IsExpandedFrom w ranking r end) k l → RisesWithin (IsExpandedIn w ranking r) k l
+  within_all end k l (n, some, e) = (n, at_least_of (IsExpandedFrom w ranking r end) (IsExpandedIn w ranking r) n (λ p h. h.0) some, e)
 
-  pub count_all : (n : ℕ) → IsCountOf (IsExpandedFrom r 0) n → IsCountOf (IsExpandedIn r) n
-  count_all n all = count_of (IsExpandedFrom r 0) (IsExpandedIn r) n (λ p. ((λ h. h.0), (λ h. (h, omega arith)))) all
+  pub count_all : (n : ℕ) → IsCountOf (IsExpandedFrom w ranking r 0) n → IsCountOf (IsExpandedIn w ranking r) n
+  count_all n all = count_of (IsExpandedFrom w ranking r 0) (IsExpandedIn w ranking r) n (λ p. ((λ h. h.0), (λ h. (h, omega arith)))) all
 
 -- the kept items of the first places
 module _ (r : Recognizer) (is : IsRecognizer r) where

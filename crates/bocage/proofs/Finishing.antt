@@ -15,16 +15,16 @@ use Rattle.bocage.specs.declared.walk.Known.{Known}
 use Rattle.bocage.specs.Rows.{alternative_of}
 use Rattle.bocage.specs.Parts.{IsPart, rule_key_of}
 use Rattle.bocage.specs.Walk.{seen_by, IsUsedIn, front_of_key, IsNext, MayBegin, AreListed, Knows}
-use Rattle.bocage.proofs.Splits.{in_full, waits_in, used_within, derives_forward, spans_forward}
+use Rattle.bocage.proofs.Splits.{in_full, waits_in, used_within, derives_forward, spans_forward, read_of}
 
-pub next_of_key : (k : Known) → Knows k → (key : NodeKey) → IsUsedIn k.recce.now key → key.end ≡ k.end → k.least ≤ key.origin → (symbol : ℕ) → symbol ≡ get_or (rhs_of k.recce.now.flat key.rule) (key.dot - 1) 0 → IsNext k (front_of_key key) symbol
+pub next_of_key : (k : Known) → Knows k → (key : NodeKey) → IsUsedIn k.written.now k.ranking k.recce.now key → key.end ≡ k.end → k.least ≤ key.origin → (symbol : ℕ) → symbol ≡ get_or (rhs_of k.recce.now.flat key.rule) (key.dot - 1) 0 → IsNext k (front_of_key key) symbol
 next_of_key k knows key used end least symbol e =
-    let w = used_within k.recce.now knows.is key used in
+    let w = used_within k.written.now k.ranking k.recce.now (read_of k knows) key used in
     let some = w.some in
     let parts = w.parts in
     let d : suc (key.dot - 1) ≡ key.dot = omega arith in
     record {
-      used = subst (λ z. IsUsedIn k.recce.now z) (λ i. record { rule = key.rule; dot = sym d i; origin = key.origin; end = end i }) used;
+      used = subst (λ z. IsUsedIn k.written.now k.ranking k.recce.now z) (λ i. record { rule = key.rule; dot = sym d i; origin = key.origin; end = end i }) used;
       part = get_at (rhs_of k.recce.now.flat key.rule) (key.dot - 1) 0 (omega arith) ∙ ap Some (sym e);
       least = least;
     }
@@ -33,7 +33,7 @@ pub map_map : {X Y Z : Type 0} (f : X → Y) (g : Y → Z) (xs : List X) → map
 map_map f g [] = refl
 map_map f g (x ∷ xs) = ap (λ l. g (f x) ∷ l) (map_map f g xs)
 
-module _ (k : Known) (knows : Knows k) (key : NodeKey) (used : IsUsedIn k.recce.now key) (here : key.end ≡ k.end) (symbol : ℕ) (next : IsNext k (front_of_key key) symbol) where
+module _ (k : Known) (knows : Knows k) (key : NodeKey) (used : IsUsedIn k.written.now k.ranking k.recce.now key) (here : key.end ≡ k.end) (symbol : ℕ) (next : IsNext k (front_of_key key) symbol) where
   front_found : (m : ℕ) → m ≤ k.end → Contains (set_at k.recce.now m) (front_of_key key) ↔ IsFound k.recce.now.flat (edges_of k.recce.now) (top_of k.recce.now) m (front_of_key key)
   front_found m le = let e = knows.end in waits_in k.recce.now knows.is m (front_of_key key) symbol (omega arith) next.part
 
@@ -76,7 +76,7 @@ module _ (k : Known) (knows : Knows k) (key : NodeKey) (used : IsUsedIn k.recce.
 
   split_front : (F : List NodeKey) (m : ℕ) → IsSplit (seen_by k F) key.rule (key.dot - 1) key.origin symbol m k.end → Contains (set_at k.recce.now m) (front_of_key key)
   split_front F m h =
-      let w = used_within k.recce.now knows.is key used in
+      let w = used_within k.written.now k.ranking k.recce.now (read_of k knows) key used in
       let d = derives_forward k.recce.now knows.is h.last in
       (front_found m d).1 (record { is_rule = w.is_rule; may_stand = w.stands; children = h.children; spans = h.front })
 
@@ -94,7 +94,7 @@ module _ (k : Known) (knows : Knows k) (key : NodeKey) (used : IsUsedIn k.recce.
           inr (record { end = q; symbol = symbol; length = q - m; whole = None }, all, refl, omega arith)
       go same (Null null) = inl (same, null)
       go {q = q} same (Rule {r = rule} {cs = cs} is l lt s) =
-          let w = used_within k.recce.now knows.is key used in
+          let w = used_within k.written.now k.ranking k.recce.now (read_of k knows) key used in
           let f = (front_found m (omega arith)).0 (split_front F m h) in
           let found : IsFound k.recce.now.flat (edges_of k.recce.now) (top_of k.recce.now) q (record { rule = rule; dot = length (rhs_of k.recce.now.flat rule); origin = m }) =
           record { is_rule = is; may_stand = Next w.stands w.is_rule refl h.front (next.part ∙ ap Some (sym l)); children = cs; spans = s } in

@@ -91,7 +91,7 @@ module _ (w : Grammar) (ranking : Ranking) (r : Recognizer) (keys : List NodeKey
       some = h.some;
       rules = h.rules;
       sorted = h.sorted;
-      exact = λ x. ((λ i. (whole_more symbol m q x).0 ((h.exact x).0 i)), (λ i. (h.exact x).1 ((whole_more symbol m q x).1 i)));
+      exact = λ x. ((λ i. (let (over, best) = (h.exact x).0 i in ((whole_more symbol m q x).0 over, best))), (λ (over, best). (h.exact x).1 ((whole_more symbol m q x).1 over, best)));
       all = h.all;
       each = λ i n s a b. node_more n _ (h.each i n s a b);
     }

@@ -71,14 +71,14 @@ no_group = record { symbol = 0; start = 0; first = 0; past = 0 }
 
 -- the parts of a group
 module _ (k : Known) (knows : Knows k) (g : Group) (h : Contains k.groups.now g) where
-  pub group_span : IsSpan k.parts.now (between g.first g.past k.parts.now)
-  group_span = span_of_group k.end k.parts.now knows.gathered.sorted (part_ends k knows) g (knows.gathered.groups.are g h)
+  pub group_span : IsSpan k.ranking k.parts.now (between g.first g.past k.parts.now)
+  group_span = span_of_group k.ranking k.end k.parts.now knows.gathered.sorted knows.gathered.ranks (part_ends k knows) g (knows.gathered.groups.are g h)
 
   pub group_start : g.start + (part_at (between g.first g.past k.parts.now) 0).length ≡ k.end
-  group_start = start_of_group k.end k.parts.now knows.gathered.sorted (part_ends k knows) g (knows.gathered.groups.are g h)
+  group_start = start_of_group k.ranking k.end k.parts.now knows.gathered.sorted knows.gathered.ranks (part_ends k knows) g (knows.gathered.groups.are g h)
 
   pub group_symbol : (part_at (between g.first g.past k.parts.now) 0).symbol ≡ g.symbol
-  group_symbol = symbol_of_group k.end k.parts.now knows.gathered.sorted (part_ends k knows) g (knows.gathered.groups.are g h)
+  group_symbol = symbol_of_group k.ranking k.end k.parts.now knows.gathered.sorted knows.gathered.ranks (part_ends k knows) g (knows.gathered.groups.are g h)
 
 pub gathered_same : (w : Grammar) (ranking : Ranking) (r : Recognizer) (end least : ℕ) (ps ps' : List Part) (gs gs' : List Group) (js js' : List Join) → AreGathered w ranking r end least ps gs js → ps' ≡ ps → gs' ≡ gs → js' ≡ js → AreGathered w ranking r end least ps' gs' js'
 gathered_same w ranking r end least ps ps' gs gs' js js' h p g j =

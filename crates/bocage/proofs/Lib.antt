@@ -7,6 +7,7 @@ pub mod PartOrder
 pub mod JoinOrder
 pub mod Splits
 pub mod Growing
+pub mod Ranks
 pub mod Putting
 pub mod Wholes
 pub mod Noting

@@ -7,6 +7,7 @@ use Rattle.recognizer_model.specs.declared.Item.{Item}
 use Rattle.recognizer_model.specs.declared.NodeKey.{NodeKey}
 use Rattle.recognizer_model.specs.Flat.{FlatGrammar, IsRule, lhs_of, rhs_of}
 use Rattle.recognizer_model.specs.FlatDerives.{Derives, Spans, Nothing, More}
+use Rattle.recognizer_model.specs.Chosen.{allowed_by}
 use Rattle.recognizer_model.specs.Nodes.{Before, Last}
 use Rattle.recognizer_model.specs.Contexts.{IsFound}
 use Rattle.earley_sets.proofs.Following.{part_within}
@@ -20,7 +21,7 @@ use Rattle.bocage.specs.declared.walk.Found.{Found}
 use Rattle.bocage.specs.Rows.{last_of, alternative_of, IsLastWithin}
 use Rattle.bocage.specs.Walk.{seen_by, GrowsBy, IsUsedIn, IsNew, AreNoted, node_of_item, node_after, IsFrontFound, Lists, IsNext, Knows}
 use Rattle.bocage.proofs.Growing.{node_seen}
-use Rattle.bocage.proofs.Splits.{waits_in, used_met}
+use Rattle.bocage.proofs.Splits.{waits_in, used_met, read_of}
 
 pub spans_nothing : {g : FlatGrammar} {E : Edges} {r d p q : ℕ} {cs : Children} → Spans g E r d p q cs → d ≡ 0 → q ≡ p
 spans_nothing Nothing e = refl
@@ -36,21 +37,22 @@ module _ (k : Known) (knows : Knows k) (front : Item) (symbol m : ℕ) (le : m �
   front_is keys (Some n) (lt, h) = (lt, node_seen k.written.now k.ranking k.recce.now keys n (node_of_item front m) h)
 
   module _ (tree : Tree) (derives : Derives k.recce.now.flat (edges_of k.recce.now) symbol m k.end tree) where
-    pub front_used : 0 < front.dot → IsUsedIn k.recce.now (node_of_item front m)
+    pub front_used : 0 < front.dot → IsUsedIn k.written.now k.ranking k.recce.now (node_of_item front m)
     front_used lt =
-        let met = ((used_met k.recce.now knows.is (node_after front k.end)).0 next.used).1 in
-        (used_met k.recce.now knows.is (node_of_item front m)).1 (lt, Before met found_front.spans next.part derives)
+        let met = ((used_met k.written.now k.ranking k.recce.now (read_of k knows) (node_after front k.end)).0 next.used).1 in
+        (used_met k.written.now k.ranking k.recce.now (read_of k knows) (node_of_item front m)).1 (lt, Before met found_front.spans next.part derives)
 
     pub front_new : 0 < front.dot → IsNew k (node_of_item front m)
     front_new lt = record { used = front_used lt; before = le; least = λ e. next.least; waits = λ below. part_within (rhs_of k.recce.now.flat front.rule) front.dot symbol next.part }
 
     pub whole_used : (rule : ℕ) (cs : Children) → IsRule k.recce.now.flat rule → symbol ≡ lhs_of k.recce.now.flat rule → m < k.end → Spans k.recce.now.flat (edges_of k.recce.now) rule (length (rhs_of k.recce.now.flat rule)) m k.end cs →
-        IsUsedIn k.recce.now (record { rule = rule; dot = length (rhs_of k.recce.now.flat rule); origin = m; end = k.end })
-    whole_used rule cs is same lt s =
-        let met = ((used_met k.recce.now knows.is (node_after front k.end)).0 next.used).1 in
+        allowed_by k.written.now k.ranking k.recce.now.flat (edges_of k.recce.now) rule m k.end →
+        IsUsedIn k.written.now k.ranking k.recce.now (record { rule = rule; dot = length (rhs_of k.recce.now.flat rule); origin = m; end = k.end })
+    whole_used rule cs is same lt s best =
+        let met = ((used_met k.written.now k.ranking k.recce.now (read_of k knows) (node_after front k.end)).0 next.used).1 in
         let some = knows.is.flat.some rule is in
-        (used_met k.recce.now knows.is (record { rule = rule; dot = length (rhs_of k.recce.now.flat rule); origin = m; end = k.end })).1
-        (some, Last met found_front.spans (next.part ∙ ap Some same) is lt s)
+        (used_met k.written.now k.ranking k.recce.now (read_of k knows) (record { rule = rule; dot = length (rhs_of k.recce.now.flat rule); origin = m; end = k.end })).1
+        (some, Last met found_front.spans (next.part ∙ ap Some same) is lt s best)
 
     -- the alternative goes last
     pub put_one : (D : ℕ → Type 0) (old new : Found) (o : Option ℕ) (last : LastRow) (more : List ℕ) → D m → ((n : ℕ) → D n → n ≡ m) →

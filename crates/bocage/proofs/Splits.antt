@@ -7,10 +7,16 @@ use Rattle.recognizer_model.specs.declared.NodeKey.{NodeKey}
 use Rattle.recognizer_model.specs.Flat.{FlatGrammar, IsRule, lhs_of, rhs_of}
 use Rattle.recognizer_model.specs.FlatDerives.{Derives, Token, Null, Rule, Spans, Nothing, More}
 use Rattle.recognizer_model.specs.Contexts.{IsTop, IsFound, MayStand, AtStart, Next}
-use Rattle.recognizer_model.specs.Nodes.{IsUsed, IsMet, Whole, Before, Last}
+use Rattle.recognizer_model.specs.Chosen.{Allowed, allowed_by}
+use Rattle.recognizer_model.specs.Nodes.{IsMet, Whole, Before, Last}
 use Rattle.recognizer_model.proofs.Earley.{items_are_found}
 use Rattle.recognizer_model.proofs.Nodes.{used_are_met}
 use Rattle.earley_sets.specs.Kept.{IsItem}
+use Rattle.grammar_model.specs.declared.Ranking.{Ranking}
+use Rattle.grammar_model.specs.Grammar.{Grammar}
+use Rattle.bocage.specs.declared.walk.Known.{Known}
+use Rattle.bocage.specs.Walk.{IsRead, IsUsedIn, Knows}
+use Rattle.recognizer_model.proofs.Leaving.{leaves_some}
 use Rattle.earley_sets.specs.Recognizer.{Recognizer, IsRecognizer, place_of, set_at, edges_of, top_of}
 use Rattle.earley_sets.proofs.Following.{part_within}
 use Rattle.earley_sets.proofs.Membership.{get_at}
@@ -39,14 +45,11 @@ module _ (r : Recognizer) (is : IsRecognizer r) where
   pub found_item : (j : ℕ) (item : Item) → InSet r.flat (edges_of r) (top_of r) j item → IsItem r.flat item
   found_item j item h = let f = (in_full j item).0 h in record { is_rule = f.is_rule; within = spans_within f.spans }
 
-  pub used_met : (n : NodeKey) → IsUsed r.flat (edges_of r) (top_of r) (place_of r) n ↔ ((0 < n.dot) × IsMet r.flat (edges_of r) (top_of r) (place_of r) n.rule n.dot n.origin n.end)
-  used_met n = used_are_met r.flat (edges_of r) (top_of r) is_top (only r.flat r.edges is.flat is.forward) is.flat.no_rules (place_of r) n
-
   -- what is met may stand where it begins
-  pub met_stands : {rule d p q : ℕ} → IsMet r.flat (edges_of r) (top_of r) (place_of r) rule d p q → IsRule r.flat rule × MayStand r.flat (edges_of r) (top_of r) (lhs_of r.flat rule) p
+  pub met_stands : {allowed : Allowed} {rule d p q : ℕ} → IsMet r.flat (edges_of r) allowed (top_of r) (place_of r) rule d p q → IsRule r.flat rule × MayStand r.flat (edges_of r) (top_of r) (lhs_of r.flat rule) p
   met_stands (Whole lt s) = (is_top.is_rule, AtStart refl)
   met_stands (Before m s e t) = met_stands m
-  met_stands (Last m s e rule lt s') = let (rule', stands) = met_stands m in (rule, Next stands rule' refl s e)
+  met_stands (Last m s e rule lt s' best) = let (rule', stands) = met_stands m in (rule, Next stands rule' refl s e)
 
   mutual
     pub derives_forward : {x p q : ℕ} {t : Tree} → Derives r.flat (edges_of r) x p q t → p ≤ q
@@ -59,35 +62,46 @@ module _ (r : Recognizer) (is : IsRecognizer r) where
     spans_forward (More s e t) = let a = spans_forward s in let b = derives_forward t in omega arith
 
   -- what is met lies inside
-  met_within : {rule d p q : ℕ} → IsMet r.flat (edges_of r) (top_of r) (place_of r) rule d p q → (d ≤ length (rhs_of r.flat rule)) × (p ≤ q) × (q ≤ place_of r)
+  pub met_within : {allowed : Allowed} {rule d p q : ℕ} → IsMet r.flat (edges_of r) allowed (top_of r) (place_of r) rule d p q → (d ≤ length (rhs_of r.flat rule)) × (p ≤ q) × (q ≤ place_of r)
   met_within (Whole lt s) = (spans_within s, spans_forward s, omega arith)
   met_within (Before m s e t) = let w = met_within m in let b = derives_forward t in (spans_within s, spans_forward s, (let x = w.2 in omega arith))
-  met_within (Last m s e rule lt s') = let w = met_within m in (spans_within s', spans_forward s', w.2)
+  met_within (Last m s e rule lt s' best) = let w = met_within m in (spans_within s', spans_forward s', w.2)
 
-  pub record IsKeyWithin (n : NodeKey) : Type 0 where
-    pub some : 0 < n.dot
-    pub is_rule : IsRule r.flat n.rule
-    pub stands : MayStand r.flat (edges_of r) (top_of r) (lhs_of r.flat n.rule) n.origin
-    pub parts : n.dot ≤ length (rhs_of r.flat n.rule)
-    pub forward : n.origin ≤ n.end
-    pub inside : n.end ≤ place_of r
-
-  pub used_within : (n : NodeKey) → IsUsed r.flat (edges_of r) (top_of r) (place_of r) n → IsKeyWithin n
-  used_within n u =
-      let (lt, m) = (used_met n).0 u in
-      let w = met_within m in
-      let (rule, stands) = met_stands m in
-      record { some = lt; is_rule = rule; stands = stands; parts = w.0; forward = w.1; inside = w.2 }
-
-  met_spans : {rule d p q : ℕ} → IsMet r.flat (edges_of r) (top_of r) (place_of r) rule d p q → (cs : Children) × Spans r.flat (edges_of r) rule d p q cs
+  pub met_spans : {allowed : Allowed} {rule d p q : ℕ} → IsMet r.flat (edges_of r) allowed (top_of r) (place_of r) rule d p q → (cs : Children) × Spans r.flat (edges_of r) rule d p q cs
   met_spans (Whole {cs = cs} lt s) = (cs, s)
   met_spans (Before {cs = cs} m s e t) = (cs, s)
-  met_spans (Last {cs' = cs'} m s e rule lt s') = (cs', s')
+  met_spans (Last {cs' = cs'} m s e rule lt s' best) = (cs', s')
+
+-- where a used node lies
+pub record IsKeyWithin (r : Recognizer) (n : NodeKey) : Type 0 where
+  pub some : 0 < n.dot
+  pub is_rule : IsRule r.flat n.rule
+  pub stands : MayStand r.flat (edges_of r) (top_of r) (lhs_of r.flat n.rule) n.origin
+  pub parts : n.dot ≤ length (rhs_of r.flat n.rule)
+  pub forward : n.origin ≤ n.end
+  pub inside : n.end ≤ place_of r
+
+-- the reading of what is known
+abbrev pub read_of : (k : Known) → Knows k → IsRead k.written.now k.recce.now
+read_of k knows = record { checked = knows.checked; flat_of = knows.flat_of; is = knows.is }
+
+module _ (w : Grammar) (ranking : Ranking) (r : Recognizer) (read : IsRead w r) where
+  pub used_met : (n : NodeKey) → IsUsedIn w ranking r n ↔ ((0 < n.dot) × IsMet r.flat (edges_of r) (allowed_by w ranking r.flat (edges_of r)) (top_of r) (place_of r) n.rule n.dot n.origin n.end)
+  used_met n =
+      used_are_met r.flat (edges_of r) (allowed_by w ranking r.flat (edges_of r)) (top_of r) (is_top r read.is) (only r.flat r.edges read.is.flat read.is.forward) read.is.flat.no_rules (leaves_some r.flat w read.is.flat r.edges (λ s p q h. read.is.forward (record { symbol = s; from = p; to = q }) h) ranking)
+      (place_of r) n
+
+  pub used_within : (n : NodeKey) → IsUsedIn w ranking r n → IsKeyWithin r n
+  used_within n u =
+      let (lt, m) = (used_met n).0 u in
+      let inside = met_within r read.is m in
+      let (rule, stands) = met_stands r read.is m in
+      record { some = lt; is_rule = rule; stands = stands; parts = inside.0; forward = inside.1; inside = inside.2 }
 
   -- a used node that waits is one of a kept item
-  pub used_waits : (n : NodeKey) → IsUsed r.flat (edges_of r) (top_of r) (place_of r) n → n.dot < length (rhs_of r.flat n.rule) → Contains (set_at r n.end) (record { rule = n.rule; dot = n.dot; origin = n.origin })
+  pub used_waits : (n : NodeKey) → IsUsedIn w ranking r n → n.dot < length (rhs_of r.flat n.rule) → Contains (set_at r n.end) (record { rule = n.rule; dot = n.dot; origin = n.origin })
   used_waits n u lt =
       let m = ((used_met n).0 u).1 in
-      let w = used_within n u in
-      let (cs, s) = met_spans m in
-      (waits_in n.end (record { rule = n.rule; dot = n.dot; origin = n.origin }) _ w.inside (get_at (rhs_of r.flat n.rule) n.dot 0 lt)).1 (record { is_rule = w.is_rule; may_stand = w.stands; children = cs; spans = s })
+      let inside = used_within n u in
+      let (cs, s) = met_spans r read.is m in
+      (waits_in r read.is n.end (record { rule = n.rule; dot = n.dot; origin = n.origin }) _ inside.inside (get_at (rhs_of r.flat n.rule) n.dot 0 lt)).1 (record { is_rule = inside.is_rule; may_stand = inside.stands; children = cs; spans = s })

@@ -13,7 +13,7 @@ use Rattle.bocage.specs.declared.walk.Found.{Found}
 use Rattle.bocage.specs.Walk.{IsRead, Knows, IsUsedIn, IsNew, AreNoted, GrowsBy, ListsKey, node_of_item, top_key}
 use Rattle.bocage.specs.Ends.{SetsRow, IsKnownNode, HasRow, Goes, Visits, IsReady, IsGoing, AreVisited}
 use Rattle.bocage.proofs.RowLemmas.{one_more_taken}
-use Rattle.bocage.proofs.Splits.{used_waits}
+use Rattle.bocage.proofs.Splits.{used_waits, read_of}
 use Rattle.std.proofs.Math.ListN.{set}
 use Rattle.bocage.proofs.Spans.{last_is}
 use Rattle.bocage.proofs.Growing.{map_both, grows_none, grows_then, get_more}
@@ -118,14 +118,14 @@ module _ (k : Known) where
   pub still_ready : (old new : Found) (t u : List (List AlternativeRow)) → Goes k old new t u → (n : ℕ) → IsReady k old.keys.keys n → IsReady k new.keys.keys n
   still_ready old new t u g n h = record { key = h.key; at = still_at (IsNew k) old.keys.keys new.keys.keys g.keys n h.key h.at; used = h.used; end = h.end; least = h.least }
 
-  pub ready_key : (keys : List NodeKey) (n : ℕ) (key : NodeKey) → IsReady k keys n → slice_get keys n ≡ Some key → IsUsedIn k.recce.now key × (key.end ≡ k.end) × (k.least ≤ key.origin)
+  pub ready_key : (keys : List NodeKey) (n : ℕ) (key : NodeKey) → IsReady k keys n → slice_get keys n ≡ Some key → IsUsedIn k.written.now k.ranking k.recce.now key × (key.end ≡ k.end) × (k.least ≤ key.origin)
   ready_key keys n key h at =
       let one : Some h.key ≡ Some key = sym h.at ∙ at in
       let e : h.key ≡ key = cc in
-      subst (λ (z : NodeKey). IsUsedIn k.recce.now z × (z.end ≡ k.end) × (k.least ≤ z.origin)) e (h.used, h.end, h.least)
+      subst (λ (z : NodeKey). IsUsedIn k.written.now k.ranking k.recce.now z × (z.end ≡ k.end) × (k.least ≤ z.origin)) e (h.used, h.end, h.least)
 
   -- one node is visited
-  pub one_visited : Knows k → (n : ℕ) (key : NodeKey) (old empty new : Found) (t u : List (List AlternativeRow)) → slice_get old.keys.keys n ≡ Some key → IsUsedIn k.recce.now key → key.end ≡ k.end →
+  pub one_visited : Knows k → (n : ℕ) (key : NodeKey) (old empty new : Found) (t u : List (List AlternativeRow)) → slice_get old.keys.keys n ≡ Some key → IsUsedIn k.written.now k.ranking k.recce.now key → key.end ≡ k.end →
       empty.keys ≡ old.keys → empty.wholes ≡ old.wholes → empty.alternatives.items ≡ [] → ListsKey k key empty new → SetsRow t u n new.alternatives.items → Visits k n old new t u
   one_visited knows n key old empty new t u at used end same_keys same_wholes none l sets = record {
     goes = record { keys = grown; keeps = λ m other at' h. keeps m other at' h; noted = l.lists.noted };
@@ -247,7 +247,7 @@ module _ (k : Known) (knows : Knows k) (first : ℕ) (nodes : List ℕ) (old mid
             let at' = old_at n key at lt in
             let used = going.used key (got_item old.keys.keys n key (sym at')) in
             let waits = going.waits n key at' (inl lt) (omega arith) in
-            let held = used_waits k.recce.now knows.is key used waits in
+            let held = used_waits k.written.now k.ranking k.recce.now (read_of k knows) key used waits in
             let is : IsKnownNode k.recce.now k.end old.keys.keys n = (
               record { rule = key.rule; dot = key.dot; origin = key.origin },
               subst (λ z. Contains (set_at k.recce.now z) (record { rule = key.rule; dot = key.dot; origin = key.origin })) end held,
@@ -285,7 +285,7 @@ listed_ready k first old t nodes going listed least n h =
 
 module _ (w : Grammar) (ranking : Ranking) (r : Recognizer) where
   -- at the last place
-  pub going_first : (f : Found) (table : List (List AlternativeRow)) → ((key : NodeKey) → Contains f.keys.keys key → IsUsedIn r key × (key.end ≡ place_of r)) → (0 < place_of r → Contains f.keys.keys (top_key r)) → IsGoing w ranking r (place_of r) 0 f table
+  pub going_first : (f : Found) (table : List (List AlternativeRow)) → ((key : NodeKey) → Contains f.keys.keys key → IsUsedIn w ranking r key × (key.end ≡ place_of r)) → (0 < place_of r → Contains f.keys.keys (top_key r)) → IsGoing w ranking r (place_of r) 0 f table
   going_first f table h top = record {
     few = omega arith;
     visited = λ n key at lt. (let e = (h key (got_item f.keys.keys n key (sym at))).1 in absurd (omega arith));
@@ -317,7 +317,7 @@ module _ (w : Grammar) (ranking : Ranking) (r : Recognizer) where
           elim (cases_lt n first) [
             | inl lt ↦
                 let used = going.used key (got_item f.keys.keys n key (sym at)) in
-                let held = used_waits r read.is key used (going.waits n key at (inl lt) (omega arith)) in
+                let held = used_waits w ranking r read key used (going.waits n key at (inl lt) (omega arith)) in
                 let is : IsKnownNode r end f.keys.keys n = (
                   record { rule = key.rule; dot = key.dot; origin = key.origin },
                   subst (λ z. Contains (set_at r z) (record { rule = key.rule; dot = key.dot; origin = key.origin })) same held,

@@ -8,7 +8,8 @@ use Rattle.recognizer_model.specs.declared.NodeKey.{NodeKey}
 use Rattle.recognizer_model.specs.Flat.{FlatGrammar, lhs_of, rhs_of, part_of, IsNullable}
 use Rattle.recognizer_model.specs.FlatDerives.{Derives, Token, Null, Rule, Spans, More}
 use Rattle.recognizer_model.specs.FlatDerives as Flat
-use Rattle.recognizer_model.specs.Nodes.{IsUsed, IsMet, Whole}
+use Rattle.recognizer_model.specs.Chosen.{allowed_by}
+use Rattle.recognizer_model.specs.Nodes.{IsMet, Whole}
 use Rattle.recognizer_model.specs.Counts.{IsListOf}
 use Rattle.recognizer_model.proofs.Views.{symbol_back}
 use Rattle.earley_sets.specs.Recognizer.{Recognizer, HasTree, place_of, edges_of, top_of, start_symbol}
@@ -132,9 +133,9 @@ module _ (w : Grammar) (ranking : Ranking) (r : Recognizer) (read : IsRead w r) 
       tree = tree;
       derives = d;
     });
-    used = subst (λ l. IsListOf (IsUsed r.flat (edges_of r) (top_of r) (place_of r)) l) (sym keys_are) (record {
+    used = subst (λ l. IsListOf (IsUsedIn w ranking r) l) (sym keys_are) (record {
       once = once;
-      exact = λ key. (visited.used key, λ u. (let (lt, m) = (used_met r read.is key).0 u in closed w ranking r read 0 f.keys.keys f.wholes.items table visited.visited begun m lt (omega arith)));
+      exact = λ key. (visited.used key, λ u. (let (lt, m) = (used_met w ranking r read key).0 u in closed w ranking r read 0 f.keys.keys f.wholes.items table visited.visited begun m lt (omega arith)));
     });
     alternatives = λ node h. (
         let (n, at) = found_at (nodes_of f.wholes.items f.keys.keys table) node h in
@@ -153,14 +154,14 @@ module _ (w : Grammar) (ranking : Ranking) (r : Recognizer) (read : IsRead w r) 
 pub top_is : (r : Recognizer) (g : FlatGrammar) (s top : ℕ) → g ≡ r.flat → s ≡ r.start → slice_get g.tops s ≡ Some top → top ≡ top_of r
 top_is r g s top e f at = sym (got_at g.tops s top 0 (sym at)).1 ∙ (λ i. get_or (e i).tops (f i) 0)
 
-module _ (w : Grammar) (ranking : Ranking) (r : Recognizer) (read : IsRead w r) (f : Found) (table : List (List AlternativeRow)) (visited : AreVisited w ranking r 0 f table) (first : List NodeKey) (grown : GrowsBy (IsUsedIn r) first f.keys.keys) where
+module _ (w : Grammar) (ranking : Ranking) (r : Recognizer) (read : IsRead w r) (f : Found) (table : List (List AlternativeRow)) (visited : AreVisited w ranking r 0 f table) (first : List NodeKey) (grown : GrowsBy (IsUsedIn w ranking r) first f.keys.keys) where
   begun_by : (root : Option ℕ) → IsBegun r first root → (key : NodeKey) → 0 < place_of r → key ≡ top_key r → Contains f.keys.keys key
   begun_by None (e, none) key lt is = absurd (omega arith)
-  begun_by (Some n) (lt', at, one) key lt is = got_item f.keys.keys n key (sym (still_at (IsUsedIn r) first f.keys.keys grown n key (at ∙ ap Some (sym is))))
+  begun_by (Some n) (lt', at, one) key lt is = got_item f.keys.keys n key (sym (still_at (IsUsedIn w ranking r) first f.keys.keys grown n key (at ∙ ap Some (sym is))))
 
   root_by : (root : Option ℕ) (begun : IsBegun r first root) → IsRoot (forest w ranking r read f table visited root (begun_by root begun)) root
   root_by None (e, none) = e
-  root_by (Some n) (lt, at, one) = (lt, node_in w ranking r read f table visited (Some n) (begun_by (Some n) (lt, at, one)) n (top_key r) (still_at (IsUsedIn r) first f.keys.keys grown n (top_key r) at))
+  root_by (Some n) (lt, at, one) = (lt, node_in w ranking r read f table visited (Some n) (begun_by (Some n) (lt, at, one)) n (top_key r) (still_at (IsUsedIn w ranking r) first f.keys.keys grown n (top_key r) at))
 
   -- with the keys in a list of their own
   pub forest_by : (keys : List NodeKey) → keys ≡ f.keys.keys → (root : Option ℕ) → IsBegun r first root → HasTree r → AllPairs (λ x y. x ≢ y) f.keys.keys →
@@ -175,12 +176,12 @@ begun_top r keys None (e, none) lt = absurd (omega arith)
 begun_top r keys (Some n) (lt', at, one) lt = got_item keys n (top_key r) (sym at)
 
 -- the node of the whole is used, and ends at the last place
-pub top_used : (w : Grammar) (r : Recognizer) → IsRead w r → HasTree r → (keys : List NodeKey) (root : Option ℕ) → IsBegun r keys root → (key : NodeKey) → Contains keys key → IsUsedIn r key × (key.end ≡ place_of r)
-top_used w r read has keys None (e, none) key h = absurd (Contains-none key (subst (λ l. Contains l key) none h))
-top_used w r read has keys (Some n) (lt, at, one) key h =
+pub top_used : (w : Grammar) (ranking : Ranking) (r : Recognizer) → IsRead w r → HasTree r → (keys : List NodeKey) (root : Option ℕ) → IsBegun r keys root → (key : NodeKey) → Contains keys key → IsUsedIn w ranking r key × (key.end ≡ place_of r)
+top_used w ranking r read has keys None (e, none) key h = absurd (Contains-none key (subst (λ l. Contains l key) none h))
+top_used w ranking r read has keys (Some n) (lt, at, one) key h =
     let top = is_top r read.is in
     let some = read.is.flat.some (top_of r) top.is_rule in
-    (subst (λ z. IsUsedIn r z) (sym (one key h)) ((used_met r read.is (top_key r)).1 (some, whole)), ap (λ (z : NodeKey). z.end) (one key h))
+    (subst (λ z. IsUsedIn w ranking r z) (sym (one key h)) ((used_met w ranking r read (top_key r)).1 (some, whole)), ap (λ (z : NodeKey). z.end) (one key h))
   where
-    whole : IsMet r.flat (edges_of r) (top_of r) (place_of r) (top_of r) (length (rhs_of r.flat (top_of r))) 0 (place_of r)
+    whole : IsMet r.flat (edges_of r) (allowed_by w ranking r.flat (edges_of r)) (top_of r) (place_of r) (top_of r) (length (rhs_of r.flat (top_of r))) 0 (place_of r)
     whole = let (tree, d) = has_top w r read has in let (cs, s) = spans_top w r read tree d lt in Whole lt s

@@ -1,5 +1,6 @@
 -- Parts over one span: an edge, or the whole rules of a symbol.
-use Rattle.std.proofs.Common.{◌≡◌, ℕ, zero, suc, ◌<◌, ◌≤◌, ◌+◌, ◌-◌, ◌++◌, inl, inr, Contains, List, [], ◌∷◌, Option, Some, None, length, map, take, drop, slice_get, refl, sym, ◌∙◌, ap, subst, arith}
+use Rattle.std.proofs.Common.{◌≡◌, ℕ, zero, suc, ◌<◌, ◌≤◌, ◌+◌, ◌-◌, ◌++◌, inl, inr, Contains, List, [], ◌∷◌, Option, Some, None, length, map, take, drop, slice_get, refl, sym, ◌∙◌, ap, subst, arith, ℤ, ◌≤ℤ◌}
+use Rattle.std.proofs.lemmas.Int.{ints}
 use Rattle.std.specs.declared.cmp.Ordering.{Ordering}
 use Rattle.std.specs.declared.cmp.Ordering.TheVariants.{Less, Equal, Greater}
 use Rattle.std.specs.Ordering.{ordering_then, nat_cmp, int_cmp, bool_cmp}
@@ -27,13 +28,16 @@ use Rattle.bocage.specs.declared.rows.LastRow.TheVariants as row
 use Rattle.bocage.specs.declared.walk.Known.{Known}
 use Rattle.bocage.specs.Rows.{between, last_of, IsLastWithin}
 use Rattle.bocage.specs.Parts.{part_cmp, key_cmp, part_at, no_part, rule_key_of, IsPart, IsPartAt, IsWholeOf}
+use Rattle.recognizer_model.specs.Chosen.{flat_rank, allowed_by}
+use Rattle.bocage.specs.Groups.{rank_in}
+use Rattle.bocage.proofs.Ranks.{kept_allowed, allowed_kept}
 use Rattle.bocage.specs.Walk.{seen_by, IsUsedIn, node_of_item, node_after, whole_keys, whole_keys_by, AreNumbers, IsLastHeld, AreNoted, IsSpan, IsNew, IsNext, Knows, Lists, GrowsBy, IsFrontFound, FitsPart, HasRule}
 use Rattle.bocage.specs.declared.walk.Found.{Found}
 use Rattle.bocage.proofs.Putting.{found_front, whole_used, front_new, put_one}
 use Rattle.bocage.proofs.InOrder.{then_rest}
 use Rattle.bocage.proofs.RowLemmas.{there}
 use Rattle.bocage.proofs.Growing.{node_seen, get_more, grows_then, grows_weaker}
-use Rattle.bocage.proofs.Splits.{in_full, used_met, met_stands}
+use Rattle.bocage.proofs.Splits.{in_full, used_met, met_stands, read_of}
 
 -- the rules of parts
 abbrev pub rules_by : Option RuleKey → List ℕ
@@ -60,6 +64,9 @@ keys_compare k keys r s same =
     (ap (ordering_then (int_cmp (b.rank).0 (a.rank).0)) (sym (then_assoc (nat_cmp a.source b.source) (bool_cmp a.trailing b.trailing) (nat_cmp r s)))
     ∙ sym (then_assoc (int_cmp (b.rank).0 (a.rank).0) (ordering_then (nat_cmp a.source b.source) (bool_cmp a.trailing b.trailing)) (nat_cmp r s)))
     ∙ ap (λ o. ordering_then o (ordering_then (nat_cmp (b.length).0 (a.length).0) (ordering_then (ordering_then (int_cmp (b.rank).0 (a.rank).0) (ordering_then (nat_cmp a.source b.source) (bool_cmp a.trailing b.trailing))) (nat_cmp r s)))) e
+
+both_ways : (x y : ℤ) → x ≤ℤ y → y ≤ℤ x → x ≡ y
+both_ways x y a b = omega (arith, ints)
 
 -- a part over the span that is a rule of the symbol, whole at the end
 pub record IsTidy (k : Known) (symbol m end length' : ℕ) (p : Part) : Type 0 where
@@ -188,7 +195,7 @@ between_all xs ys =
     let e : length (xs ++ ys) - length xs ≡ length ys = omega arith in
     ap (λ n. take n (drop (length xs) (xs ++ ys))) e ∙ ap (take (length ys)) (drop_all xs ys) ∙ take_all ys
 
-module _ (k : Known) (knows : Knows k) (front : Item) (parts : List Part) (span : IsSpan k.parts.now parts) (m : ℕ) (sum : m + (part_at parts 0).length ≡ k.end)
+module _ (k : Known) (knows : Knows k) (front : Item) (parts : List Part) (span : IsSpan k.ranking k.parts.now parts) (m : ℕ) (sum : m + (part_at parts 0).length ≡ k.end)
     (next : IsNext k front (part_at parts 0).symbol) where
   first_there : Contains parts (part_at parts 0)
   first_there = there parts 0 no_part span.some
@@ -228,6 +235,42 @@ module _ (k : Known) (knows : Knows k) (front : Item) (parts : List Part) (span 
         length_is = l;
       }
 
+  -- the part of a rule that derives the span
+  abbrev part_by : ℕ → Part
+  part_by r = record { end = k.end; symbol = (part_at parts 0).symbol; length = (part_at parts 0).length; whole = Some (rule_key_of k.written.now k.ranking k.recce.now.flat r) }
+
+  rule_there : Contains (set_at k.recce.now m) front → m < k.end → (r : ℕ) (cs : Children) → IsRule k.recce.now.flat r → lhs_of k.recce.now.flat r ≡ (part_at parts 0).symbol →
+      Spans k.recce.now.flat (edges_of k.recce.now) r (length (rhs_of k.recce.now.flat r)) m k.end cs → Contains k.parts.now (part_by r)
+  rule_there at lt r cs is_rule left spans =
+      let met = ((used_met k.written.now k.ranking k.recce.now (read_of k knows) (node_after front k.end)).0 next.used).1 in
+      let (is, stands) = met_stands k.recce.now knows.is met in
+      let f = found_front k knows front (part_at parts 0).symbol m (omega arith) at next in
+      let found : IsFound k.recce.now.flat (edges_of k.recce.now) (top_of k.recce.now) k.end (record { rule = r; dot = length (rhs_of k.recce.now.flat r); origin = m }) =
+      record { is_rule = is_rule; may_stand = Next stands is refl f.spans (next.part ∙ ap Some (sym left)); children = cs; spans = spans } in
+      let there' = (in_full k.recce.now knows.is k.end (record { rule = r; dot = length (rhs_of k.recce.now.flat r); origin = m })).1 found in
+      let (first, end, bound) = part_is (part_at parts 0) first_there in
+      (knows.gathered.parts (part_by r)).1 (
+        inr (
+          k.end,
+          record { rule = r; dot = length (rhs_of k.recce.now.flat r); origin = m },
+          knows.end,
+          there',
+          record { dot = refl; end = refl; spans = lt; start = sum; symbol = sym left; whole = refl },
+        ),
+        refl,
+        bound,
+      )
+
+  -- the rule of a part is allowed
+  allowed : Contains (set_at k.recce.now m) front → m < k.end → (p : Part) → Contains parts p → (r : ℕ) → lhs_of k.recce.now.flat r ≡ (part_at parts 0).symbol → p.whole ≡ Some (rule_key_of k.written.now k.ranking k.recce.now.flat r) →
+      allowed_by k.written.now k.ranking k.recce.now.flat (edges_of k.recce.now) r m k.end
+  allowed at lt p h r left whole =
+      kept_allowed k.written.now k.recce.now.flat (edges_of k.recce.now) r m k.end p (part_at parts 0) k.ranking ((span.exact p).0 h).3
+      (λ same other cs is left' spans. (
+      let all = rule_there at lt other cs is (left' ∙ left) spans in
+      subst (λ z. flat_rank k.written.now k.ranking k.recce.now.flat other ≤ℤ z) (sym same ∙ ap rank_in whole) (span.best (part_by other) all refl refl)
+      ))
+
   module _ (key : RuleKey) (whole : (part_at parts 0).whole ≡ Some key) where
     first_tidy : IsTidy k (part_at parts 0).symbol m k.end (part_at parts 0).length (part_at parts 0)
     first_tidy = let (part, end, bound) = part_is (part_at parts 0) first_there in go end part
@@ -258,34 +301,22 @@ module _ (k : Known) (knows : Knows k) (front : Item) (parts : List Part) (span 
         go end (inr (place, item, le, h, is)) = let a = is.start in let b = is.end in let c = is.spans in omega arith
 
     module _ (keys : List NodeKey) where
-      rule_over : (r : ℕ) → Contains (rules_of parts) r → IsWholeOver (seen_by k keys) (part_at parts 0).symbol m k.end r
-      rule_over r h =
+      rule_over : Contains (set_at k.recce.now m) front → (r : ℕ) → Contains (rules_of parts) r → IsWholeOver (seen_by k keys) (part_at parts 0).symbol m k.end r × allowed_by k.written.now k.ranking k.recce.now.flat (edges_of k.recce.now) r m k.end
+      rule_over at r h =
           let (p, i, (t, e)) = from_rules k (part_at parts 0).symbol m k.end (part_at parts 0).length sum keys parts tidy r h in
           let (cs, spans) = tidy_spans p t in
-          subst (λ z. IsWholeOver (seen_by k keys) (part_at parts 0).symbol m k.end z) e (record { is_rule = t.is_rule; left = t.left; children = cs; spans = spans })
+          subst (λ z. IsWholeOver (seen_by k keys) (part_at parts 0).symbol m k.end z × allowed_by k.written.now k.ranking k.recce.now.flat (edges_of k.recce.now) z m k.end) e
+          (record { is_rule = t.is_rule; left = t.left; children = cs; spans = spans }, allowed at goes_on p i t.rule t.left t.whole)
 
-      over_rule : Contains (set_at k.recce.now m) front → (r : ℕ) → IsWholeOver (seen_by k keys) (part_at parts 0).symbol m k.end r → Contains (rules_of parts) r
-      over_rule at r h =
-          let met = ((used_met k.recce.now knows.is (node_after front k.end)).0 next.used).1 in
-          let (is, stands) = met_stands k.recce.now knows.is met in
-          let f = found_front k knows front (part_at parts 0).symbol m (omega arith) at next in
-          let found : IsFound k.recce.now.flat (edges_of k.recce.now) (top_of k.recce.now) k.end (record { rule = r; dot = length (rhs_of k.recce.now.flat r); origin = m }) =
-          record { is_rule = h.is_rule; may_stand = Next stands is refl f.spans (next.part ∙ ap Some (sym h.left)); children = h.children; spans = h.spans } in
-          let there' = (in_full k.recce.now knows.is k.end (record { rule = r; dot = length (rhs_of k.recce.now.flat r); origin = m })).1 found in
-          let (first, end, bound) = part_is (part_at parts 0) first_there in
-          let all : Contains k.parts.now (record { end = k.end; symbol = (part_at parts 0).symbol; length = (part_at parts 0).length; whole = Some (rule_key_of k.written.now k.ranking k.recce.now.flat r) }) =
-          (knows.gathered.parts _).1 (
-            inr (
-              k.end,
-              record { rule = r; dot = length (rhs_of k.recce.now.flat r); origin = m },
-              knows.end,
-              there',
-              record { dot = refl; end = refl; spans = goes_on; start = sum; symbol = sym h.left; whole = refl },
-            ),
-            refl,
-            bound,
-          ) in
-          to_rules k (part_at parts 0).symbol m k.end (part_at parts 0).length sum keys parts _ (rule_key_of k.written.now k.ranking k.recce.now.flat r) ((span.exact _).1 (all, refl, refl)) refl
+      over_rule : Contains (set_at k.recce.now m) front → (r : ℕ) → IsWholeOver (seen_by k keys) (part_at parts 0).symbol m k.end r × allowed_by k.written.now k.ranking k.recce.now.flat (edges_of k.recce.now) r m k.end → Contains (rules_of parts) r
+      over_rule at r (h, best) =
+          let all = rule_there at goes_on r h.children h.is_rule h.left h.spans in
+          let (cs, spans) = tidy_spans (part_at parts 0) first_tidy in
+          let own = ap rank_in first_tidy.whole in
+          let high = span.best (part_by r) all refl refl in
+          let kept = allowed_kept k.written.now k.recce.now.flat (edges_of k.recce.now) r m k.end (part_by r) (part_at parts 0) k.ranking best
+          (λ is. (let low = is first_tidy.rule cs first_tidy.is_rule (first_tidy.left ∙ sym h.left) spans in both_ways (flat_rank k.written.now k.ranking k.recce.now.flat r) (rank_in (part_at parts 0).whole) high (subst (λ z. z ≤ℤ flat_rank k.written.now k.ranking k.recce.now.flat r) (sym own) low))) in
+          to_rules k (part_at parts 0).symbol m k.end (part_at parts 0).length sum keys parts (part_by r) (rule_key_of k.written.now k.ranking k.recce.now.flat r) ((span.exact (part_by r)).1 (all, refl, refl, kept)) refl
 
       pub are_wholes : Contains (set_at k.recce.now m) front → (ns : List ℕ) → AreNumbers keys ns (whole_keys k.recce.now.flat parts) → AreWholes (seen_by k keys) (part_at parts 0).symbol m k.end ns
       are_wholes at ns h =
@@ -296,14 +327,14 @@ module _ (k : Known) (knows : Knows k) (front : Item) (parts : List Part) (span 
           let l3 = length_map (λ r. whole_key (seen_by k keys) r m k.end) (rules_of parts) in
           let l4 = ap (λ (z : List (Option NodeKey)). length z) h' in
           let (cs, derives) = tidy_spans (part_at parts 0) first_tidy in
-          let one = over_rule at first_tidy.rule (record { is_rule = first_tidy.is_rule; left = first_tidy.left; children = cs; spans = derives }) in
+          let one = over_rule at first_tidy.rule (record { is_rule = first_tidy.is_rule; left = first_tidy.left; children = cs; spans = derives }, allowed at goes_on (part_at parts 0) first_there first_tidy.rule first_tidy.left first_tidy.whole) in
           let (j, lt, _) = at_from_Contains (rules_of parts) first_tidy.rule one in
           record {
             spans = goes_on;
             some = omega arith;
             rules = rules_of parts;
             sorted = rules_sorted k (part_at parts 0).symbol m k.end (part_at parts 0).length sum keys parts tidy span.sorted;
-            exact = λ r. (rule_over r, over_rule at r);
+            exact = λ r. (rule_over at r, over_rule at r);
             all = omega arith;
             each = λ i n r a b. node_seen k.written.now k.ranking k.recce.now keys n (whole_key (seen_by k keys) r m k.end)
                 (number_at keys ns (λ z. whole_key (seen_by k keys) z m k.end) (rules_of parts) h' i n r a b);
@@ -347,11 +378,11 @@ module _ (k : Known) (knows : Knows k) (front : Item) (parts : List Part) (span 
           let f = g.2 in
           let from : m ≡ p.end - p.length = omega arith in
           let lt : m < k.end = omega arith in
-          let used = whole_used k knows front (part_at parts 0).symbol m (omega arith) at next tree derives t.rule s.children t.is_rule (sym t.left) lt s.spans in
+          let used = whole_used k knows front (part_at parts 0).symbol m (omega arith) at next tree derives t.rule s.children t.is_rule (sym t.left) lt s.spans (allowed at lt p i t.rule t.left t.whole) in
           let here : n.end ≡ k.end = ap (λ (z : NodeKey). z.end) q ∙ end in
           let origin : n.origin ≡ p.end - p.length = ap (λ (z : NodeKey). z.origin) q in
           record {
-            used = subst (λ z. IsUsedIn k.recce.now z) ((λ j. record { rule = rule j; dot = length (rhs_of k.recce.now.flat (rule j)); origin = from j; end = sym end j }) ∙ sym q) used;
+            used = subst (λ z. IsUsedIn k.written.now k.ranking k.recce.now z) ((λ j. record { rule = rule j; dot = length (rhs_of k.recce.now.flat (rule j)); origin = from j; end = sym end j }) ∙ sym q) used;
             before = omega arith;
             least = λ _. omega arith;
             waits = λ below. absurd (omega arith);

@@ -45,7 +45,7 @@ pub record Visits (k : Known) (n : ℕ) (old new : Found) (before behind : List 
 pub record IsReady (k : Known) (keys : List NodeKey) (n : ℕ) : Type 0 where
   pub key : NodeKey
   pub at : slice_get keys n ≡ Some key
-  pub used : IsUsedIn k.recce.now key
+  pub used : IsUsedIn k.written.now k.ranking k.recce.now key
   pub end : key.end ≡ k.end
   pub least : k.least ≤ key.origin
 
@@ -53,7 +53,7 @@ pub record IsReady (k : Known) (keys : List NodeKey) (n : ℕ) : Type 0 where
 pub record IsGoing (w : Grammar) (ranking : Ranking) (r : Recognizer) (end first : ℕ) (f : Found) (table : List (List AlternativeRow)) : Type 0 where
   pub few : first ≤ length f.keys.keys
   pub visited : (n : ℕ) (key : NodeKey) → slice_get f.keys.keys n ≡ Some key → end < key.end → HasRow w ranking r f.keys.keys f.wholes.items table n key
-  pub used : (key : NodeKey) → Contains f.keys.keys key → IsUsedIn r key
+  pub used : (key : NodeKey) → Contains f.keys.keys key → IsUsedIn w ranking r key
   pub waits : (n : ℕ) (key : NodeKey) → slice_get f.keys.keys n ≡ Some key → (n < first) ⊎ (key.end < end) → key.end ≤ end → key.dot < length (rhs_of r.flat key.rule)
   pub begun : (n : ℕ) (key : NodeKey) → slice_get f.keys.keys n ≡ Some key → first ≤ n → key.end ≡ end → end ≡ place_of r
   pub top : 0 < place_of r → Contains f.keys.keys (top_key r)
@@ -61,6 +61,6 @@ pub record IsGoing (w : Grammar) (ranking : Ranking) (r : Recognizer) (end first
 -- after the nodes that end at a place or behind it were visited: they have their alternatives, and those that end before it wait
 pub record AreVisited (w : Grammar) (ranking : Ranking) (r : Recognizer) (end : ℕ) (f : Found) (table : List (List AlternativeRow)) : Type 0 where
   pub visited : (n : ℕ) (key : NodeKey) → slice_get f.keys.keys n ≡ Some key → end ≤ key.end → HasRow w ranking r f.keys.keys f.wholes.items table n key
-  pub used : (key : NodeKey) → Contains f.keys.keys key → IsUsedIn r key
+  pub used : (key : NodeKey) → Contains f.keys.keys key → IsUsedIn w ranking r key
   pub waits : (n : ℕ) (key : NodeKey) → slice_get f.keys.keys n ≡ Some key → key.end < end → key.dot < length (rhs_of r.flat key.rule)
   pub top : 0 < place_of r → Contains f.keys.keys (top_key r)

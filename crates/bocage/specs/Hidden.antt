@@ -4,6 +4,9 @@ use Rattle.recognizer_model.specs.declared.Item.{Item}
 use Rattle.recognizer_model.specs.Counts.{IsListOf, IsCountOf}
 use Rattle.recognizer_model.specs.Items.{InSet, IsWhole}
 use Rattle.recognizer_model.specs.Leo.{IsHidden}
+use Rattle.grammar_model.specs.declared.Ranking.{Ranking}
+use Rattle.grammar_model.specs.Grammar.{Grammar}
+use Rattle.recognizer_model.specs.Chosen.{allowed_by}
 use Rattle.recognizer_model.specs.Nodes.{Placed, IsExpanded}
 use Rattle.earley_sets.specs.Recognizer.{Recognizer, place_of, set_at, edges_of, top_of}
 
@@ -16,16 +19,16 @@ pub record AreHidden (r : Recognizer) (end least : ℕ) (items : List Item) : Ty
   pub hidden : IsListOf (IsHiddenFrom r end least) items
   pub full : (item : Item) → IsWhole r.flat item → least ≤ item.origin → (Contains (set_at r end) item ⊎ Contains items item) ↔ InSet r.flat (edges_of r) (top_of r) end item
 
-abbrev pub IsExpandedIn : Recognizer → Placed → Type 0
-IsExpandedIn r p = IsExpanded r.flat (edges_of r) (top_of r) (place_of r) p
+abbrev pub IsExpandedIn : Grammar → Ranking → Recognizer → Placed → Type 0
+IsExpandedIn w ranking r p = IsExpanded r.flat (edges_of r) (allowed_by w ranking r.flat (edges_of r)) (top_of r) (place_of r) p
 
 -- an expanded item of one place
-abbrev pub IsExpandedAt : Recognizer → (end : ℕ) → Item → Type 0
-IsExpandedAt r end item = IsExpandedIn r (record { place = end; item = item })
+abbrev pub IsExpandedAt : Grammar → Ranking → Recognizer → (end : ℕ) → Item → Type 0
+IsExpandedAt w ranking r end item = IsExpandedIn w ranking r (record { place = end; item = item })
 
 -- an expanded item of a place or of one behind it
-abbrev pub IsExpandedFrom : Recognizer → (end : ℕ) → Placed → Type 0
-IsExpandedFrom r end p = IsExpandedIn r p × (end ≤ p.place)
+abbrev pub IsExpandedFrom : Grammar → Ranking → Recognizer → (end : ℕ) → Placed → Type 0
+IsExpandedFrom w ranking r end p = IsExpandedIn w ranking r p × (end ≤ p.place)
 
 -- so many different values have the property, or more
 abbrev pub AreAtLeast : {A : Type 0} → (A → Type 0) → ℕ → Type 0

@@ -1,5 +1,5 @@
 -- What is looked up at one place, and how what is found grows.
-use Rattle.std.specs.Prelude.{◌≡◌, ℕ, suc, ◌+◌, ◌-◌, ◌<◌, ◌≤◌, List, [], ◌∷◌, ◌++◌, length, map, Bool, Option, Some, None, Contains, ◌⊎◌, ◌↔◌, slice_get}
+use Rattle.std.specs.Prelude.{◌≡◌, ℕ, suc, ◌+◌, ◌-◌, ◌<◌, ◌≤◌, ◌≤ℤ◌, List, [], ◌∷◌, ◌++◌, length, map, Bool, Option, Some, None, Contains, ◌⊎◌, ◌↔◌, slice_get}
 use Rattle.std.specs.List.Sorted.{IsStrictlySortedBy}
 use Rattle.grammar_model.specs.declared.Ranking.{Ranking}
 use Rattle.grammar_model.specs.Grammar.{Grammar}
@@ -8,6 +8,7 @@ use Rattle.recognizer_model.specs.declared.Item.{Item}
 use Rattle.recognizer_model.specs.declared.NodeKey.{NodeKey}
 use Rattle.recognizer_model.specs.Flat.{FlatGrammar, IsRule, rhs_of, part_of, IsNullable}
 use Rattle.recognizer_model.specs.FlatForm.{IsFlatOf, flat_order}
+use Rattle.recognizer_model.specs.Chosen.{allowed_by}
 use Rattle.recognizer_model.specs.Nodes.{IsUsed}
 use Rattle.earley_sets.specs.Recognizer.{Recognizer, IsRecognizer, place_of, set_at, edges_of, top_of}
 use Rattle.forest_model.specs.Forest.{Forest, ForestNode, IsAlternative, starts_cmp}
@@ -20,7 +21,7 @@ use Rattle.bocage.specs.declared.walk.Known.{Known}
 use Rattle.bocage.specs.declared.walk.Found.{Found}
 use Rattle.bocage.specs.declared.groups.Group.{Group}
 use Rattle.bocage.specs.declared.joins.Join.{Join}
-use Rattle.bocage.specs.Groups.{AreGroups}
+use Rattle.bocage.specs.Groups.{rank_in, IsKept, RanksFall, AreGroups}
 use Rattle.bocage.specs.Joins.{join_cmp, front_of_join, AreJoins}
 use Rattle.bocage.specs.Parts.{part_cmp, IsPartAt, part_at}
 use Rattle.bocage.specs.Rows.{between, alternative_of, IsLastWithin}
@@ -35,7 +36,8 @@ pub record IsRead (w : Grammar) (r : Recognizer) : Type 0 where
 pub record AreGathered (w : Grammar) (ranking : Ranking) (r : Recognizer) (end least : ℕ) (all : List Part) (spans : List Group) (fronts : List Join) : Type 0 where
   pub parts : (p : Part) → Contains all p ↔ IsPartAt w ranking r end least p
   pub sorted : IsStrictlySortedBy part_cmp all
-  pub groups : AreGroups end all spans
+  pub ranks : RanksFall all
+  pub groups : AreGroups ranking end all spans
   pub joins : AreJoins r least spans fronts
 
 -- with all of this for one place
@@ -54,8 +56,8 @@ bare key = record { key = key; alternatives = [] }
 abbrev pub seen : Grammar → Ranking → Recognizer → List NodeKey → Forest
 seen w ranking r keys = record { written = w; flat = r.flat; start = r.start; edges = r.edges; place = place_of r; ranking = ranking; nodes = map bare keys; root = None }
 
-abbrev pub IsUsedIn : Recognizer → NodeKey → Type 0
-IsUsedIn r key = IsUsed r.flat (edges_of r) (top_of r) (place_of r) key
+abbrev pub IsUsedIn : Grammar → Ranking → Recognizer → NodeKey → Type 0
+IsUsedIn w ranking r key = IsUsed r.flat (edges_of r) (allowed_by w ranking r.flat (edges_of r)) (top_of r) (place_of r) key
 
 -- more keys stand behind the old ones, each with the property
 abbrev pub GrowsBy : (NodeKey → Type 0) → (old new : List NodeKey) → Type 0
@@ -133,7 +135,7 @@ seen_by k keys = seen k.written.now k.ranking k.recce.now keys
 
 -- a used node that may be met here: it ends here and does not begin too early, or waits for one more part
 pub record IsNew (k : Known) (key : NodeKey) : Type 0 where
-  pub used : IsUsedIn k.recce.now key
+  pub used : IsUsedIn k.written.now k.ranking k.recce.now key
   pub before : key.end ≤ k.end
   pub least : key.end ≡ k.end → k.least ≤ key.origin
   pub waits : key.end < k.end → key.dot < length (rhs_of k.recce.now.flat key.rule)
@@ -157,11 +159,12 @@ pub record Lists (k : Known) (front : Item) (symbol : ℕ) (D : ℕ → Type 0) 
   pub wholes : new.wholes.items ≡ old.wholes.items ++ more
   pub noted : AreNoted k new
 
--- parts over one span: all of them that there are
-pub record IsSpan (all parts : List Part) : Type 0 where
+-- parts over one span: all of them that there are and that the ranking keeps
+pub record IsSpan (ranking : Ranking) (all parts : List Part) : Type 0 where
   pub some : 0 < length parts
   pub sorted : IsStrictlySortedBy part_cmp parts
-  pub exact : (p : Part) → Contains parts p ↔ (Contains all p × (p.symbol ≡ (part_at parts 0).symbol) × (p.length ≡ (part_at parts 0).length))
+  pub exact : (p : Part) → Contains parts p ↔ (Contains all p × (p.symbol ≡ (part_at parts 0).symbol) × (p.length ≡ (part_at parts 0).length) × IsKept ranking p (part_at parts 0))
+  pub best : (p : Part) → Contains all p → p.symbol ≡ (part_at parts 0).symbol → p.length ≡ (part_at parts 0).length → rank_in p.whole ≤ℤ rank_in (part_at parts 0).whole
 
 abbrev pub IsGroupOf : Known → Group → Type 0
 IsGroupOf k g = Contains k.groups.now g
@@ -177,7 +180,7 @@ BeginsIn k joins m = (j : Join) × (g : Group) × Contains joins j × (slice_get
 
 -- the node of one part more is used and ends here, and the symbol is that part
 pub record IsNext (k : Known) (front : Item) (symbol : ℕ) : Type 0 where
-  pub used : IsUsedIn k.recce.now (node_after front k.end)
+  pub used : IsUsedIn k.written.now k.ranking k.recce.now (node_after front k.end)
   pub part : part_of k.recce.now.flat front.rule front.dot ≡ Some symbol
   pub least : k.least ≤ front.origin
 

@@ -266,7 +266,7 @@ fn gather(
         &mut work.edges,
         &mut work.parts,
     )?;
-    list_groups(&work.parts, end, &mut work.groups)?;
+    list_groups(ranking, &work.parts, end, &mut work.groups)?;
     list_joins(recce, least, &work.groups, &mut work.joins)
 }
 
@@ -293,7 +293,7 @@ fn visit_from<'a>(
     requires least { (n : ℕ) (key : TheKey) → Contains work.old.nodes.items n → slice_get found.old.keys.keys n ≡ Some key → least ≤ key.origin }
     requires whole { end ≡ place_of recce.now → least ≡ 0 }
     ensures visited { OnOk result (AreVisited w.now ranking recce.now end found.new (map (λ r. r.now) table.new.items)) }
-    ensures grows { OnOk result (GrowsBy (IsUsedIn recce.now) found.old.keys.keys found.new.keys.keys) }
+    ensures grows { OnOk result (GrowsBy (IsUsedIn w.now ranking recce.now) found.old.keys.keys found.new.keys.keys) }
     ensures expanded { work.new.expanded ≡ work.old.expanded }
 {
     gather(recce, w, ranking, end, least, hidden, work)?;
@@ -331,9 +331,9 @@ fn visit_end<'a, L: Ledger>(
     requires end { end ≤ place_of recce.now }
     requires going { IsGoing w.now ranking recce.now end first found.old (map (λ r. r.now) table.old.items) }
     ensures visited { OnOk result (AreVisited w.now ranking recce.now end found.new (map (λ r. r.now) table.new.items)) }
-    ensures grows { OnOk result (GrowsBy (IsUsedIn recce.now) found.old.keys.keys found.new.keys.keys) }
-    ensures expanded { OnOk result (RisesBy (IsExpandedAt recce.now end) work.old.expanded work.new.expanded) }
-    ensures counted { RisesWithin (IsExpandedAt recce.now end) steps.old steps.new }
+    ensures grows { OnOk result (GrowsBy (IsUsedIn w.now ranking recce.now) found.old.keys.keys found.new.keys.keys) }
+    ensures expanded { OnOk result (RisesBy (IsExpandedAt w.now ranking recce.now end) work.old.expanded work.new.expanded) }
+    ensures counted { RisesWithin (IsExpandedAt w.now ranking recce.now end) steps.old steps.new }
 {
     list_nodes(recce, end, &found.keys, first, &mut work.nodes)?;
     let whole = end == recce.place();
@@ -360,13 +360,13 @@ pub fn walk<'a, L: Ledger>(
     steps: &mut Steps<L>,
 ) -> Result<Vec<&'a [AlternativeRow]>, ForestRefusal>
     requires read { IsRead w.now recce.now }
-    requires used { (key : TheKey) → Contains found.old.keys.keys key → IsUsedIn recce.now key × (key.end ≡ place_of recce.now) }
+    requires used { (key : TheKey) → Contains found.old.keys.keys key → IsUsedIn w.now ranking recce.now key × (key.end ≡ place_of recce.now) }
     requires top { 0 < place_of recce.now → Contains found.old.keys.keys (top_key recce.now) }
     requires start { work.old.expanded ≡ 0 }
     ensures visited { IfOk result (λ table. AreVisited w.now ranking recce.now 0 found.new (map (λ r. r.now) table.items)) }
-    ensures grows { OnOk result (GrowsBy (IsUsedIn recce.now) found.old.keys.keys found.new.keys.keys) }
-    ensures expanded { OnOk result (IsCountOf (IsExpandedIn recce.now) work.new.expanded) }
-    ensures counted { RisesWithin (IsExpandedIn recce.now) steps.old steps.new }
+    ensures grows { OnOk result (GrowsBy (IsUsedIn w.now ranking recce.now) found.old.keys.keys found.new.keys.keys) }
+    ensures expanded { OnOk result (IsCountOf (IsExpandedIn w.now ranking recce.now) work.new.expanded) }
+    ensures counted { RisesWithin (IsExpandedIn w.now ranking recce.now) steps.old steps.new }
 {
     let mut table = Vec::new(alloc);
     let place = recce.place();

@@ -3,9 +3,10 @@ ghost use Rattle.std.specs.Prelude.{◌≡◌, ℕ, ◌+◌, ◌<◌, ◌≤◌,
 ghost use Rattle.grammar_model.specs.Checked.{IsChecked};
 ghost use Rattle.recognizer_model.specs.FlatForm.{IsFlatOf};
 ghost use Rattle.recognizer_model.specs.Counts.{IsCountOf};
+ghost use Rattle.recognizer_model.specs.Chosen.{allowed_by};
 ghost use Rattle.recognizer_model.specs.Nodes.{IsExpanded, IsStats};
 ghost use Rattle.earley_sets.specs.Recognizer.{HasTree, place_of, edges_of, top_of};
-ghost use Rattle.forest_model.specs.Forest.{IsForest, IsNode, edges_of as forest_edges, top_of as forest_top};
+ghost use Rattle.forest_model.specs.Forest.{IsForest, IsNode, allowed_of, edges_of as forest_edges, top_of as forest_top};
 ghost use Rattle.bocage.specs.Hidden.{IsExpandedIn, RisesWithin};
 ghost use Rattle.bocage.specs.Rows.{part_told};
 ghost use Rattle.bocage.specs.Readers.{alternative_at, node_at};
@@ -116,12 +117,13 @@ impl<'a> Model for Forest<'a> {
 
     ghost view = { λ f. record { written = f.written.now; flat = f.recce.now.flat; start = f.recce.now.start; edges = f.recce.now.edges; place = place_of f.recce.now; ranking = f.ranking; nodes = nodes_of f.wholes.items f.keys.items (map (λ r. r.now) f.table.items); root = f.root } };
 
-    ghost invariant = { λ f. IsForest (record { written = f.written.now; flat = f.recce.now.flat; start = f.recce.now.start; edges = f.recce.now.edges; place = place_of f.recce.now; ranking = f.ranking; nodes = nodes_of f.wholes.items f.keys.items (map (λ r. r.now) f.table.items); root = f.root }) × IsTable f.keys.items (map (λ r. r.now) f.table.items) f.wholes.items × IsCountOf (IsExpandedIn f.recce.now) f.expanded };
+    ghost invariant = { λ f. IsForest (record { written = f.written.now; flat = f.recce.now.flat; start = f.recce.now.start; edges = f.recce.now.edges; place = place_of f.recce.now; ranking = f.ranking; nodes = nodes_of f.wholes.items f.keys.items (map (λ r. r.now) f.table.items); root = f.root }) × IsTable f.keys.items (map (λ r. r.now) f.table.items) f.wholes.items × IsCountOf (IsExpandedIn f.written.now f.ranking f.recce.now) f.expanded };
 }
 
 impl<'a> Forest<'a> {
-    /// The forest of all derivations of the recognizer's start over the places so far. `w` is the grammar that the recognizer's flat
-    /// grammar was made from, and `ranking` says whether ranks of rules count. The arena holds the alternatives.
+    /// The forest of the chosen derivations of the recognizer's start over the places so far. `w` is the grammar that the recognizer's
+    /// flat grammar was made from, and `ranking` says whether ranks of rules count, and which derivations are chosen. The arena holds
+    /// the alternatives.
     pub fn build<L: Ledger>(
         alloc: Global,
         arena: &'a Bump,
@@ -135,7 +137,7 @@ impl<'a> Forest<'a> {
         ensures forest { IfOk result (λ f. IsForest f) }
         ensures reading { IfOk result (λ f. (f.written ≡ w.now) × (f.flat ≡ recce.now.flat) × (f.start ≡ recce.now.start) × (f.edges ≡ recce.now.edges) × (f.place ≡ place_of recce.now) × (f.ranking ≡ ranking)) }
         ensures no_parse { (result ≡ Err NoParse) ↔ (¬ HasTree recce.now) }
-        ensures counted { (n : ℕ) → IsCountOf (IsExpanded recce.now.flat (edges_of recce.now) (top_of recce.now) (place_of recce.now)) n → steps.new ≤ steps.old + n }
+        ensures counted { (n : ℕ) → IsCountOf (IsExpanded recce.now.flat (edges_of recce.now) (allowed_by w.now ranking recce.now.flat (edges_of recce.now)) (top_of recce.now) (place_of recce.now)) n → steps.new ≤ steps.old + n }
     {
         if !recce.at_end() {
             return Err(ForestRefusal::NoParse);
@@ -160,7 +162,7 @@ impl<'a> Forest<'a> {
         requires tree { HasTree recce.now }
         ensures reading { IfOk result (λ f. (f.written ≡ w.now) × (f.flat ≡ recce.now.flat) × (f.start ≡ recce.now.start) × (f.edges ≡ recce.now.edges) × (f.place ≡ place_of recce.now) × (f.ranking ≡ ranking)) }
         ensures forest { IfOk result (λ f. IsForest f) }
-        ensures counted { RisesWithin (IsExpandedIn recce.now) steps.old steps.new }
+        ensures counted { RisesWithin (IsExpandedIn w.now ranking recce.now) steps.old steps.new }
     {
         let mut found = Found {
             keys: IndexSet::new(alloc),
@@ -203,7 +205,7 @@ impl<'a> Forest<'a> {
 
     /// The numbers of the reading: its places, and its items and nodes.
     pub fn stats(&self) -> Stats
-        ensures { IsStats self.now.flat (forest_edges self.now) (forest_top self.now) self.now.place result.tokens result.kept result.nodes result.expanded }
+        ensures { IsStats self.now.flat (forest_edges self.now) (allowed_of self.now) (forest_top self.now) self.now.place result.tokens result.kept result.nodes result.expanded }
     {
         Stats {
             tokens: u128::from(self.recce.place()),

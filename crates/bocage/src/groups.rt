@@ -3,12 +3,13 @@ ghost use Rattle.std.specs.Prelude.{◌≡◌, ◌≢◌, ℕ, ◌<◌, ◌≤�
 ghost use Rattle.std.specs.List.Sorted.{IsStrictlySortedBy};
 ghost use Rattle.bocage.specs.declared.parts.Part.{Part as ThePart};
 ghost use Rattle.bocage.specs.Parts.{part_cmp, part_at};
-ghost use Rattle.bocage.specs.Groups.{IsSameSpan, AreGroups};
+ghost use Rattle.bocage.specs.Groups.{IsSameSpan, IsKept, RanksFall, AreGroups, rank_in};
 
 use crate::ForestRefusal;
 use crate::parts::Part;
+use grammar_model::Ranking;
 
-/// Parts of one symbol over one span: they stand from `first` up to `past`.
+/// Parts of one symbol over one span, those that the ranking keeps: they stand from `first` up to `past`.
 #[derive(Clone, Copy)]
 pub struct Group {
     pub symbol: u32,
@@ -25,7 +26,7 @@ fn is_same_span(part: Part, other: Part) -> bool
 }
 
 // Where those end that derive the same symbol over the same span as the part at a place.
-fn end_of_group(parts: &[Part], k: usize) -> usize
+fn end_of_span(parts: &[Part], k: usize) -> usize
     requires place { k < length parts.now }
     ensures order { k < result }
     ensures bound { result ≤ length parts.now }
@@ -40,21 +41,64 @@ fn end_of_group(parts: &[Part], k: usize) -> usize
     parts.len()
 }
 
+// The rank of a whole rule; an edge has none.
+fn rank(part: Part) -> i32
+    ensures { result ≡ rank_in part.whole }
+{
+    match part.whole {
+        Some(key) => key.rank.0,
+        None => 0,
+    }
+}
+
+// Whether the ranking keeps a part, where another is the first of those over the same span.
+fn is_kept(ranking: Ranking, part: Part, first: Part) -> bool
+    ensures { IsTrue result ↔ IsKept ranking part first }
+{
+    match ranking {
+        Ranking::None | Ranking::Rule => true,
+        Ranking::High => rank(part) == rank(first),
+    }
+}
+
+// Where those end that the ranking keeps, of the parts from one place up to another.
+fn end_of_kept(ranking: Ranking, parts: &[Part], k: usize, past: usize) -> usize
+    requires some { k < past }
+    requires bound { past ≤ length parts.now }
+    ensures order { k < result }
+    ensures bound { result ≤ past }
+    ensures kept { (i : ℕ) → k ≤ i → i < result → IsKept ranking (part_at parts.now i) (part_at parts.now k) }
+    ensures other { result < past → ¬ IsKept ranking (part_at parts.now result) (part_at parts.now k) }
+{
+    for end in k + 1..past {
+        if !is_kept(ranking, parts[end], parts[k]) {
+            return end;
+        }
+    }
+    past
+}
+
 /// Lists the groups of parts that end at a place and are in order.
-pub fn list_groups(parts: &[Part], end: u32, groups: &mut Vec<Group>) -> Result<(), ForestRefusal>
+pub fn list_groups(
+    ranking: Ranking,
+    parts: &[Part],
+    end: u32,
+    groups: &mut Vec<Group>,
+) -> Result<(), ForestRefusal>
     requires sorted { IsStrictlySortedBy part_cmp parts.now }
+    requires ranks { RanksFall parts.now }
     requires ends { (p : ThePart) → Contains parts.now p → (p.end ≡ end) × (p.length ≤ end) }
-    ensures { OnOk result (AreGroups end parts.now groups.new.items) }
+    ensures { OnOk result (AreGroups ranking end parts.now groups.new.items) }
 {
     groups.clear();
     let mut k = 0;
     while k < parts.len() {
-        let past = end_of_group(parts, k);
+        let past = end_of_span(parts, k);
         groups.push(Group {
             symbol: parts[k].symbol,
             start: end - parts[k].length,
             first: k,
-            past,
+            past: end_of_kept(ranking, parts, k, past),
         })?;
         k = past;
     }

@@ -1,4 +1,4 @@
-//! The shared packed forest of a reading: all derivations of the start, each way to derive the first parts of a rule over a span once.
+//! The shared packed forest of a reading: the chosen derivations of the start, each way to derive the first parts of a rule over a span once.
 #![tactic(auto)]
 
 mod ends;

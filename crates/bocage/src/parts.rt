@@ -52,8 +52,8 @@ fn rank(ranking: Ranking, rule: &WrittenRule) -> i32
 {
     match (ranking, rule) {
         (Ranking::None, _) => 0,
-        (Ranking::Rule, WrittenRule::Plain(r)) => r.rank,
-        (Ranking::Rule, WrittenRule::Sequence(r)) => r.rank,
+        (_, WrittenRule::Plain(r)) => r.rank,
+        (_, WrittenRule::Sequence(r)) => r.rank,
     }
 }
 

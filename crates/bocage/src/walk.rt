@@ -316,7 +316,7 @@ fn put_node(
 /// Puts the alternatives of a node by its key.
 pub fn put_key(known: &Known<'_>, key: NodeKey, found: &mut Found) -> Result<(), ForestRefusal>
     requires knows { Knows known.now }
-    requires used { IsUsedIn known.now.recce.now key }
+    requires used { IsUsedIn known.now.written.now known.now.ranking known.now.recce.now key }
     requires end { key.end ≡ known.now.end }
     requires least { known.now.least ≤ key.origin }
     requires noted { AreNoted known.now found.old }

@@ -40,7 +40,7 @@ visit_from-requires-clause-whole g c e =
 
 pub returns-then-not-whole-clause-expanded : goal.returns-then-not-whole-clause-expanded
 returns-then-not-whole-clause-expanded g c =
-    rises_none_by (IsExpandedAt c.args.recce.now c.args.end) c.args.work.now.expanded
+    rises_none_by (IsExpandedAt c.args.w.now c.args.ranking c.args.recce.now c.args.end) c.args.work.now.expanded
     (none_expanded c.args.w.now c.args.ranking c.args.recce.now c.requires.read c.args.end c.args.first c.args.found.now (map (λ r. r.now) c.args.table.now.items) c.requires.going c.list_nodes.new.nodes.items c.in_ok-list_nodes.ensures
     (λ e. c.if-not-whole.true (e ∙ sym c.place.ensures.place))
     (λ n h. Contains-none n (subst (λ (l : List ℕ). Contains l n) (sym c.as_slice.ensures.value ∙ none_of c.as_slice.result.now (eqb-true (length c.as_slice.result.now) 0 (sym c.is_empty.ensures ∙ c.if-is_empty.true))) h)))
@@ -51,7 +51,7 @@ positive b (suc n) e f = omega arith
 
 pub returns-in_err-hidden-clause-counted : goal.returns-in_err-hidden-clause-counted
 returns-in_err-hidden-clause-counted g c =
-    rises_of (IsHiddenFrom c.args.recce.now c.args.end c.least_origin-least.result) (IsExpandedAt c.args.recce.now c.args.end) c.args.steps.now c.list_hidden.new.steps
+    rises_of (IsHiddenFrom c.args.recce.now c.args.end c.least_origin-least.result) (IsExpandedAt c.args.w.now c.args.ranking c.args.recce.now c.args.end) c.args.steps.now c.list_hidden.new.steps
     (λ item h. (given_expanded c.args.w.now c.args.ranking c.args.recce.now c.requires.read c.args.end c.args.first c.args.found.now (map (λ r. r.now) c.args.table.now.items) c.requires.going c.deref.result.now
     (λ n. subst (λ (l : List ℕ). Contains l n ↔ ((n < c.args.first) × IsKnownNode c.args.recce.now c.args.end c.args.found.now.keys.keys n)) (sym c.deref.ensures.value) (c.in_ok-list_nodes.ensures n))
     c.if-whole.lowest c.least_origin-least.result c.least_origin-least.ensures.nodes c.least_origin-least.ensures.bound c.least_origin-least.ensures.met
@@ -66,7 +66,7 @@ returns-in_err-hidden-clause-counted g c =
     item).0 h)
     c.in_err-hidden.ensures.counted
 
-is_given : (g : given.Over) → (c : goal.After-drop-hidden g) → (item : Item) → IsHiddenFrom c.args.recce.now c.args.end c.least_origin-least.result item ↔ IsExpandedAt c.args.recce.now c.args.end item
+is_given : (g : given.Over) → (c : goal.After-drop-hidden g) → (item : Item) → IsHiddenFrom c.args.recce.now c.args.end c.least_origin-least.result item ↔ IsExpandedAt c.args.w.now c.args.ranking c.args.recce.now c.args.end item
 is_given g c =
     given_expanded c.args.w.now c.args.ranking c.args.recce.now c.requires.read c.args.end c.args.first c.args.found.now (map (λ r. r.now) c.args.table.now.items) c.requires.going c.deref.result.now
     (λ n. subst (λ (l : List ℕ). Contains l n ↔ ((n < c.args.first) × IsKnownNode c.args.recce.now c.args.end c.args.found.now.keys.keys n)) (sym c.deref.ensures.value) (c.in_ok-list_nodes.ensures n))
@@ -83,10 +83,10 @@ is_given g c =
 pub returns-clause-expanded : goal.returns-clause-expanded
 returns-clause-expanded g c =
     on_ok_weaker c.visit_from.result
-    (λ _. subst (λ n. RisesBy (IsExpandedAt c.args.recce.now c.args.end) c.args.work.now.expanded n) (sym c.visit_from.ensures.expanded)
-    (rises_by_of (IsHiddenFrom c.args.recce.now c.args.end c.least_origin-least.result) (IsExpandedAt c.args.recce.now c.args.end) c.args.work.now.expanded c.list_hidden.new.expanded (is_given g c) c.in_ok-hidden.ensures.expanded))
+    (λ _. subst (λ n. RisesBy (IsExpandedAt c.args.w.now c.args.ranking c.args.recce.now c.args.end) c.args.work.now.expanded n) (sym c.visit_from.ensures.expanded)
+    (rises_by_of (IsHiddenFrom c.args.recce.now c.args.end c.least_origin-least.result) (IsExpandedAt c.args.w.now c.args.ranking c.args.recce.now c.args.end) c.args.work.now.expanded c.list_hidden.new.expanded (is_given g c) c.in_ok-hidden.ensures.expanded))
     c.visit_from.ensures.grows
 
 pub returns-clause-counted : goal.returns-clause-counted
 returns-clause-counted g c =
-    rises_of (IsHiddenFrom c.args.recce.now c.args.end c.least_origin-least.result) (IsExpandedAt c.args.recce.now c.args.end) c.args.steps.now c.list_hidden.new.steps (λ item. (is_given g c item).0) c.in_ok-hidden.ensures.counted
+    rises_of (IsHiddenFrom c.args.recce.now c.args.end c.least_origin-least.result) (IsExpandedAt c.args.w.now c.args.ranking c.args.recce.now c.args.end) c.args.steps.now c.list_hidden.new.steps (λ item. (is_given g c item).0) c.in_ok-hidden.ensures.counted

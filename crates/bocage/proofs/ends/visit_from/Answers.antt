@@ -45,7 +45,7 @@ returns-clause-visited c =
 
 pub returns-clause-grows : goal.returns-clause-grows
 returns-clause-grows c =
-    grows_weaker (IsUsedIn c.args.recce.now) (IsNew (record { recce = c.args.recce; written = c.args.w; ranking = c.args.ranking; end = c.args.end; least = c.args.least; parts = c.deref.result; groups = c.deref-2.result; joins = c.deref-3.result })) c.args.found.now.keys.keys c.visit_new.new.found.keys.keys (λ key h. h.used)
+    grows_weaker (IsUsedIn c.args.w.now c.args.ranking c.args.recce.now) (IsNew (record { recce = c.args.recce; written = c.args.w; ranking = c.args.ranking; end = c.args.end; least = c.args.least; parts = c.deref.result; groups = c.deref-2.result; joins = c.deref-3.result })) c.args.found.now.keys.keys c.visit_new.new.found.keys.keys (λ key h. h.used)
     (goes_then (record { recce = c.args.recce; written = c.args.w; ranking = c.args.ranking; end = c.args.end; least = c.args.least; parts = c.deref.result; groups = c.deref-2.result; joins = c.deref-3.result }) (record { keys = c.args.found.now.keys; alternatives = c.args.found.now.alternatives; wholes = c.args.found.now.wholes; lasts = c.forget.new.lasts }) c.visit_listed.new.found c.visit_new.new.found (map (λ r. r.now) c.args.table.now.items) (map (λ r. r.now) c.visit_listed.new.table.items) (map (λ r. r.now) c.visit_new.new.table.items) c.in_ok-visit_listed.ensures.goes c.in_ok-visit_new.ensures.goes).keys
 
 pub visit_listed-requires-clause-noted : goal.visit_listed-requires-clause-noted

@@ -20,8 +20,8 @@ loop-back-init g c =
     record {
       visited = subst (λ p. AreVisited c.args.w.now c.args.ranking c.args.recce.now p c.visit_end.new.found (map (λ r. r.now) c.visit_end.new.table.items)) e c.in_ok-visit_end.ensures.visited;
       grows = c.in_ok-visit_end.ensures.grows;
-      counted = subst (λ p. RisesWithin (IsExpandedFrom c.args.recce.now p) c.args.steps.now c.visit_end.new.steps) e (within_first c.args.recce.now c.place-place.result c.args.steps.now c.visit_end.new.steps c.place-place.ensures.place c.in_ok-visit_end.ensures.counted);
-      expanded = subst (λ p. IsCountOf (IsExpandedFrom c.args.recce.now p) c.visit_end.new.work.expanded) e (count_first c.args.recce.now c.requires.read.is c.place-place.result c.args.work.now.expanded c.visit_end.new.work.expanded c.place-place.ensures.place c.requires.start c.in_ok-visit_end.ensures.expanded);
+      counted = subst (λ p. RisesWithin (IsExpandedFrom c.args.w.now c.args.ranking c.args.recce.now p) c.args.steps.now c.visit_end.new.steps) e (within_first c.args.w.now c.args.ranking c.args.recce.now c.place-place.result c.args.steps.now c.visit_end.new.steps c.place-place.ensures.place c.in_ok-visit_end.ensures.counted);
+      expanded = subst (λ p. IsCountOf (IsExpandedFrom c.args.w.now c.args.ranking c.args.recce.now p) c.visit_end.new.work.expanded) e (count_first c.args.w.now c.args.ranking c.args.recce.now c.requires.read c.place-place.result c.args.work.now.expanded c.visit_end.new.work.expanded c.place-place.ensures.place c.requires.start c.in_ok-visit_end.ensures.expanded);
     }
 
 pub visit_end-requires-in-loop-back-clause-going : goal.visit_end-requires-in-loop-back-clause-going
@@ -40,9 +40,9 @@ loop-back-preserved g c =
     let end = c.place-place.result - 1 - c.loop-back.back in
     record {
       visited = subst (λ p. AreVisited c.args.w.now c.args.ranking c.args.recce.now p c.visit_end-in-loop-back.new.found (map (λ r. r.now) c.visit_end-in-loop-back.new.table.items)) e c.in_ok-visit_end-2.ensures.visited;
-      grows = grows_then (IsUsedIn c.args.recce.now) c.args.found.now.keys.keys c.loop-back.found.keys.keys c.visit_end-in-loop-back.new.found.keys.keys c.loop-back.invariant.grows c.in_ok-visit_end-2.ensures.grows;
-      counted = subst (λ p. RisesWithin (IsExpandedFrom c.args.recce.now p) c.args.steps.now c.visit_end-in-loop-back.new.steps) e (within_more c.args.recce.now end c.args.steps.now c.loop-back.steps c.visit_end-in-loop-back.new.steps (subst (λ p. RisesWithin (IsExpandedFrom c.args.recce.now p) c.args.steps.now c.loop-back.steps) q c.loop-back.invariant.counted) c.in_ok-visit_end-2.ensures.counted);
-      expanded = subst (λ p. IsCountOf (IsExpandedFrom c.args.recce.now p) c.visit_end-in-loop-back.new.work.expanded) e (count_more c.args.recce.now end c.loop-back.work.expanded c.visit_end-in-loop-back.new.work.expanded (subst (λ p. IsCountOf (IsExpandedFrom c.args.recce.now p) c.loop-back.work.expanded) q c.loop-back.invariant.expanded) c.in_ok-visit_end-2.ensures.expanded);
+      grows = grows_then (IsUsedIn c.args.w.now c.args.ranking c.args.recce.now) c.args.found.now.keys.keys c.loop-back.found.keys.keys c.visit_end-in-loop-back.new.found.keys.keys c.loop-back.invariant.grows c.in_ok-visit_end-2.ensures.grows;
+      counted = subst (λ p. RisesWithin (IsExpandedFrom c.args.w.now c.args.ranking c.args.recce.now p) c.args.steps.now c.visit_end-in-loop-back.new.steps) e (within_more c.args.w.now c.args.ranking c.args.recce.now end c.args.steps.now c.loop-back.steps c.visit_end-in-loop-back.new.steps (subst (λ p. RisesWithin (IsExpandedFrom c.args.w.now c.args.ranking c.args.recce.now p) c.args.steps.now c.loop-back.steps) q c.loop-back.invariant.counted) c.in_ok-visit_end-2.ensures.counted);
+      expanded = subst (λ p. IsCountOf (IsExpandedFrom c.args.w.now c.args.ranking c.args.recce.now p) c.visit_end-in-loop-back.new.work.expanded) e (count_more c.args.w.now c.args.ranking c.args.recce.now end c.loop-back.work.expanded c.visit_end-in-loop-back.new.work.expanded (subst (λ p. IsCountOf (IsExpandedFrom c.args.w.now c.args.ranking c.args.recce.now p) c.loop-back.work.expanded) q c.loop-back.invariant.expanded) c.in_ok-visit_end-2.ensures.expanded);
     }
 
 pub returns-clause-visited : goal.returns-clause-visited
@@ -55,20 +55,20 @@ pub returns-clause-expanded : goal.returns-clause-expanded
 returns-clause-expanded g c =
     let f = c.loop-back-test.false in
     let e : c.place-place.result - c.loop-back.back ≡ 0 = omega arith in
-    count_all c.args.recce.now c.loop-back.work.expanded (subst (λ p. IsCountOf (IsExpandedFrom c.args.recce.now p) c.loop-back.work.expanded) e c.loop-back.invariant.expanded)
+    count_all c.args.w.now c.args.ranking c.args.recce.now c.loop-back.work.expanded (subst (λ p. IsCountOf (IsExpandedFrom c.args.w.now c.args.ranking c.args.recce.now p) c.loop-back.work.expanded) e c.loop-back.invariant.expanded)
 
 pub returns-clause-counted : goal.returns-clause-counted
-returns-clause-counted g c = within_all c.args.recce.now (c.place-place.result - c.loop-back.back) c.args.steps.now c.loop-back.steps c.loop-back.invariant.counted
+returns-clause-counted g c = within_all c.args.w.now c.args.ranking c.args.recce.now (c.place-place.result - c.loop-back.back) c.args.steps.now c.loop-back.steps c.loop-back.invariant.counted
 
 pub returns-in_err-visit_end-clause-counted : goal.returns-in_err-visit_end-clause-counted
 returns-in_err-visit_end-clause-counted g c =
-    within_all c.args.recce.now c.place-place.result c.args.steps.now c.visit_end.new.steps
-    (within_first c.args.recce.now c.place-place.result c.args.steps.now c.visit_end.new.steps c.place-place.ensures.place c.in_err-visit_end.ensures.counted)
+    within_all c.args.w.now c.args.ranking c.args.recce.now c.place-place.result c.args.steps.now c.visit_end.new.steps
+    (within_first c.args.w.now c.args.ranking c.args.recce.now c.place-place.result c.args.steps.now c.visit_end.new.steps c.place-place.ensures.place c.in_err-visit_end.ensures.counted)
 
 pub returns-in_err-visit_end-2-clause-counted : goal.returns-in_err-visit_end-2-clause-counted
 returns-in_err-visit_end-2-clause-counted g c =
     let t = c.loop-back-test.true in
     let q : c.place-place.result - c.loop-back.back ≡ suc (c.place-place.result - 1 - c.loop-back.back) = omega arith in
     let end = c.place-place.result - 1 - c.loop-back.back in
-    within_all c.args.recce.now end c.args.steps.now c.visit_end-in-loop-back.new.steps
-    (within_more c.args.recce.now end c.args.steps.now c.loop-back.steps c.visit_end-in-loop-back.new.steps (subst (λ p. RisesWithin (IsExpandedFrom c.args.recce.now p) c.args.steps.now c.loop-back.steps) q c.loop-back.invariant.counted) c.in_err-visit_end-2.ensures.counted)
+    within_all c.args.w.now c.args.ranking c.args.recce.now end c.args.steps.now c.visit_end-in-loop-back.new.steps
+    (within_more c.args.w.now c.args.ranking c.args.recce.now end c.args.steps.now c.loop-back.steps c.visit_end-in-loop-back.new.steps (subst (λ p. RisesWithin (IsExpandedFrom c.args.w.now c.args.ranking c.args.recce.now p) c.args.steps.now c.loop-back.steps) q c.loop-back.invariant.counted) c.in_err-visit_end-2.ensures.counted)

@@ -8,7 +8,7 @@ use Rattle.bocage.proofs.ends.walk.Given as goal
 abbrev pub invariant-loop-back : goal.invariant-loop-back
 invariant-loop-back g l = record {
   visited : AreVisited l.w l.ranking l.recce (l.place - l.back) l.found (map (λ r. r.now) l.table.items);
-  grows : GrowsBy (IsUsedIn l.recce) l.fn.found.keys.keys l.found.keys.keys;
-  counted : RisesWithin (IsExpandedFrom l.recce (l.place - l.back)) l.fn.steps l.steps;
-  expanded : IsCountOf (IsExpandedFrom l.recce (l.place - l.back)) l.work.expanded;
+  grows : GrowsBy (IsUsedIn l.w l.ranking l.recce) l.fn.found.keys.keys l.found.keys.keys;
+  counted : RisesWithin (IsExpandedFrom l.w l.ranking l.recce (l.place - l.back)) l.fn.steps l.steps;
+  expanded : IsCountOf (IsExpandedFrom l.w l.ranking l.recce (l.place - l.back)) l.work.expanded;
 }

@@ -12,15 +12,16 @@ overflow_sub-end c = (c.requires.ends _ (there c.args.parts.now c.loop-k.k no_pa
 
 pub loop-k-preserved : goal.loop-k-preserved
 loop-k-preserved c =
-    let e = c.end_of_group-past.ensures in
+    let e = c.end_of_span-past.ensures in
+    let f = c.end_of_kept.ensures in
     let i = c.loop-k.invariant in
     let grown = c.in_ok-push.ensures.items in
     record {
       within = e.bound;
-      are = λ g h. more_are c.args.end c.args.parts.now c.requires.sorted c.requires.ends c.loop-k.k c.end_of_group-past.result c.loop-k-test.true e.order e.bound e.same e.other c.loop-k.groups.items i.are i.all i.order i.longer g (subst (λ (l : List Group). Contains l g) grown h);
-      all = λ n lt. subst (λ (l : List Group). (m : ℕ) × (g : Group) × (slice_get l m ≡ Some g) × (g.symbol ≡ (part_at c.args.parts.now n).symbol) × (g.start + (part_at c.args.parts.now n).length ≡ c.args.end)) (sym grown) (more_all c.args.end c.args.parts.now c.requires.sorted c.requires.ends c.loop-k.k c.end_of_group-past.result c.loop-k-test.true e.order e.bound e.same e.other c.loop-k.groups.items i.are i.all i.order i.longer n lt);
-      order = λ m n g h lt a b. more_order c.args.end c.args.parts.now c.requires.sorted c.requires.ends c.loop-k.k c.end_of_group-past.result c.loop-k-test.true e.order e.bound e.same e.other c.loop-k.groups.items i.are i.all i.order i.longer m n g h lt (subst (λ (l : List Group). slice_get l m ≡ Some g) grown a) (subst (λ (l : List Group). slice_get l n ≡ Some h) grown b);
-      longer = λ g j h. more_longer c.args.end c.args.parts.now c.requires.sorted c.requires.ends c.loop-k.k c.end_of_group-past.result c.loop-k-test.true e.order e.bound e.same e.other c.loop-k.groups.items i.are i.all i.order i.longer g j (subst (λ (l : List Group). Contains l g) grown h);
+      are = λ g h. more_are c.args.ranking c.args.end c.args.parts.now c.requires.sorted c.requires.ranks c.requires.ends c.loop-k.k c.end_of_span-past.result c.loop-k-test.true e.order e.bound e.same e.other c.end_of_kept.result f.order f.bound f.kept f.other c.loop-k.groups.items i.are i.all i.order i.longer g (subst (λ (l : List Group). Contains l g) grown h);
+      all = λ n lt. subst (λ (l : List Group). (m : ℕ) × (g : Group) × (slice_get l m ≡ Some g) × (g.symbol ≡ (part_at c.args.parts.now n).symbol) × (g.start + (part_at c.args.parts.now n).length ≡ c.args.end)) (sym grown) (more_all c.args.ranking c.args.end c.args.parts.now c.requires.sorted c.requires.ranks c.requires.ends c.loop-k.k c.end_of_span-past.result c.loop-k-test.true e.order e.bound e.same e.other c.end_of_kept.result f.order f.bound f.kept f.other c.loop-k.groups.items i.are i.all i.order i.longer n lt);
+      order = λ m n g h lt a b. more_order c.args.ranking c.args.end c.args.parts.now c.requires.sorted c.requires.ranks c.requires.ends c.loop-k.k c.end_of_span-past.result c.loop-k-test.true e.order e.bound e.same e.other c.end_of_kept.result f.order f.bound f.kept f.other c.loop-k.groups.items i.are i.all i.order i.longer m n g h lt (subst (λ (l : List Group). slice_get l m ≡ Some g) grown a) (subst (λ (l : List Group). slice_get l n ≡ Some h) grown b);
+      longer = λ g j h. more_longer c.args.ranking c.args.end c.args.parts.now c.requires.sorted c.requires.ranks c.requires.ends c.loop-k.k c.end_of_span-past.result c.loop-k-test.true e.order e.bound e.same e.other c.end_of_kept.result f.order f.bound f.kept f.other c.loop-k.groups.items i.are i.all i.order i.longer g j (subst (λ (l : List Group). Contains l g) grown h);
     }
 
 pub returns : goal.returns

@@ -6,7 +6,7 @@ pub walk-requires-clause-read : goal.walk-requires-clause-read
 walk-requires-clause-read g c = record { checked = c.requires.checked; flat_of = c.requires.flat; is = c.in_ok-root.ensures.is }
 
 pub walk-requires-clause-used : goal.walk-requires-clause-used
-walk-requires-clause-used g c = top_used c.args.w.now c.args.recce.now (record { checked = c.requires.checked; flat_of = c.requires.flat; is = c.in_ok-root.ensures.is }) c.requires.tree c.begin.new.keys.keys c.in_ok-root.root c.in_ok-root.ensures.root
+walk-requires-clause-used g c = top_used c.args.w.now c.args.ranking c.args.recce.now (record { checked = c.requires.checked; flat_of = c.requires.flat; is = c.in_ok-root.ensures.is }) c.requires.tree c.begin.new.keys.keys c.in_ok-root.root c.in_ok-root.ensures.root
 
 pub walk-requires-clause-top : goal.walk-requires-clause-top
 walk-requires-clause-top g c = begun_top c.args.recce.now c.begin.new.keys.keys c.in_ok-root.root c.in_ok-root.ensures.root

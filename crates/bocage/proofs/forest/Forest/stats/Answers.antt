@@ -15,7 +15,7 @@ use Rattle.bocage.proofs.forest.Forest.stats.Goals as goal
 pub returns : goal.returns
 returns c =
     let keys = keys_of_nodes c.self.inside.wholes.items c.self.inside.keys.items (map (λ r. r.now) c.self.inside.table.items) c.self.invariant.1.long in
-    subst (λ (f : Forest). IsStats f.flat (model.edges_of f) (model.top_of f) f.place c.from.result c.from-2.result (length c.as_slice.result.now) c.from-3.result) c.self.view_is
+    subst (λ (f : Forest). IsStats f.flat (model.edges_of f) (model.allowed_of f) (model.top_of f) f.place c.from.result c.from-2.result (length c.as_slice.result.now) c.from-3.result) c.self.view_is
     (record {
       places = c.from.ensures ∙ c.place.ensures.place;
       kept_items = subst (λ n. IsCountOf {A = Placed} (λ p. (p.place ≤ place_of c.self.inside.recce.now) × InReduced c.self.inside.recce.now.flat (edges_of c.self.inside.recce.now) (top_of c.self.inside.recce.now) p.place p.item) n)
@@ -25,5 +25,5 @@ returns c =
         c.self.invariant.0.used,
         ap (λ (l : List NodeKey). length l) (keys ∙ sym c.as_slice.ensures.value),
       );
-      hidden_items = subst (λ n. IsCountOf (IsExpandedIn c.self.inside.recce.now) n) (sym c.from-3.ensures) c.self.invariant.2;
+      hidden_items = subst (λ n. IsCountOf (IsExpandedIn c.self.inside.written.now c.self.inside.ranking c.self.inside.recce.now) n) (sym c.from-3.ensures) c.self.invariant.2;
     })
