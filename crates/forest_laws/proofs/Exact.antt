@@ -20,12 +20,12 @@ use Rattle.recognizer_model.specs.declared.NodeKey.{NodeKey}
 use Rattle.recognizer_model.specs.declared.flat.FlatSymbol.TheVariants.{Terminal, Top}
 use Rattle.recognizer_model.specs.Flat.{FlatGrammar, IsRule, lhs_of, rhs_of, IsNullable}
 use Rattle.recognizer_model.specs.FlatForm.{StandsFor, symbol_at, flat_order, tree_of}
-use Rattle.recognizer_model.specs.FlatDerives.{Spans, Token, Null, Rule, More}
+use Rattle.recognizer_model.specs.FlatDerives.{Spans, Token, Null, Rule}
 use Rattle.recognizer_model.specs.FlatDerives
 use Rattle.recognizer_model.specs.Acceptable.{OnlyTerminals}
 use Rattle.recognizer_model.specs.Invariant.{IsFlat, IsTopOf}
 use Rattle.recognizer_model.specs.View.{grammar_view}
-use Rattle.recognizer_model.proofs.Views.{IsKindOf, kind_of, rule_viewed, in_view, nullable_viewed, terminal_viewed, symbol_viewed, parts_viewed, symbol_back, parts_back}
+use Rattle.recognizer_model.proofs.Views.{IsKindOf, kind_of, rule_viewed, in_view, nullable_viewed, terminal_viewed}
 use Rattle.recognizer_model.proofs.FlatNamed.{get_index}
 use Rattle.recognizer_model.specs.Chosen.{AreAllowed}
 use Rattle.recognizer_model.proofs.FlatChosen.{written_chosen}

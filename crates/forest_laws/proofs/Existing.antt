@@ -3,19 +3,17 @@ use Rattle.std.proofs.Common.{◌≡◌, ℕ, zero, suc, ◌<◌, ◌≤◌, Lis
 use Rattle.std.specs.Prelude.{◌↔◌, filter, slice_get, Contains}
 use Rattle.std.specs.List.{flat_map}
 use Rattle.std.specs.List.Sorted.{IsStrictlySortedBy}
-use Rattle.std.specs.declared.cmp.Ordering.{Ordering}
-use Rattle.std.specs.declared.cmp.Ordering.TheVariants.{Less, Equal, Greater}
-use Rattle.std.specs.Ordering.{ordering_reverse, nat_cmp}
+use Rattle.std.specs.declared.cmp.Ordering.TheVariants.{Equal}
+use Rattle.std.specs.Ordering.{nat_cmp}
 use Rattle.std.specs.Cmp.{IsTotalOrder, nat_cmp_total, then_total, on_total, back_total}
 use Rattle.grammar_model.specs.Trees.{Tree, Children, Node}
 use Rattle.grammar_model.proofs.Chains.{both_Equal}
 use Rattle.grammar_model.proofs.Sorting.{nat_cmp-Equal}
 use Rattle.grammar_model.proofs.Lists.{Among, among_from, contains_from, among_flat_map, among_flat_map_from}
 use Rattle.finite_sets.specs.Decided.{IsDecided}
-use Rattle.finite_sets.proofs.Deciding.{both, moved, equal, less}
+use Rattle.finite_sets.proofs.Deciding.{both, moved, equal}
 use Rattle.finite_sets.proofs.Members
-use Rattle.finite_sets.proofs.Members.{values, among_values, among_values_from, once_pairs, listed}
-use Rattle.finite_sets.proofs.Sorting.{sorted_listed}
+use Rattle.finite_sets.proofs.Members.{values, once_pairs, listed}
 use Rattle.recognizer_model.specs.declared.NodeKey.{NodeKey}
 use Rattle.recognizer_model.specs.declared.flat.FlatSymbol.TheVariants.{Terminal}
 use Rattle.recognizer_model.specs.Flat.{FlatGrammar, IsRule, lhs_of, rhs_of, part_of, IsNullable}

@@ -1,4 +1,4 @@
--- The law of walks: by what a forest's nodes stand for, the goals of the root stand for the steps of all flat derivations.
+-- The law of walks: by what a forest's nodes stand for, the goals of the root stand for the steps of the flat derivations.
 use Rattle.std.specs.Prelude.{◌≡◌, map}
 use Rattle.grammar_model.specs.Steps.{steps_of}
 use Rattle.forest_model.specs.Forest.{Forest, IsForest}

@@ -13,8 +13,8 @@ pub fn forests_exist()
     ensures { ForestsExist }
 {}
 
-/// The nodes of a forest stand for lists: of each node all child lists of its key, of each last part all its trees, and of the whole
-/// all derivations of the reading, in the declared order.
+/// The nodes of a forest stand for lists: of each node all child lists of its key that are of allowed rules, of each last part all such
+/// trees, and of the whole the chosen derivations of the reading, in the declared order.
 pub fn forests_have_lists()
     ensures { ForestsHaveLists }
 {}
@@ -29,7 +29,7 @@ pub fn forests_apply()
     ensures { ForestsApply }
 {}
 
-/// The root's goals stand for the steps of all flat derivations, in order; and what stands before a walk, which goes on from its last
+/// The root's goals stand for the steps of the flat derivations that the nodes stand for, in order; and what stands before a walk, which goes on from its last
 /// choice that has a later option, changes by nothing but the steps that it gives.
 pub fn forests_are_walked()
     ensures { ForestsAreWalked }

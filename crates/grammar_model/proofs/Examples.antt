@@ -1,17 +1,22 @@
 -- The definitions at grammars of a few rules.
-use Rattle.std.proofs.Common.{◌≡◌, ℕ, zero, suc, ◌<◌, Bool, true, false, List, [], ◌∷◌, ◌++◌, Option, Some, None, refl, arith, lit<, lit≤}
-use Rattle.std.specs.Prelude.{ℤ, pos, codes, Contains}
+use Rattle.std.proofs.Common.{◌≡◌, ℕ, zero, suc, ◌<◌, Bool, true, false, List, [], ◌∷◌, ◌++◌, ◌⊎◌, inl, inr, Option, Some, None, refl, sym, ap, ◌∙◌, subst, arith, lit<, lit≤, ◌≤ℤ◌}
+use Rattle.std.specs.Prelude.{ℤ, pos, codes, slice_get, Contains}
+use Rattle.std.specs.Int.Signed.{le_z_yes}
+use Rattle.std.specs.List.Sorted.{IsStrictlySortedBy}
 use Rattle.std.specs.Str.{chars}
 use Rattle.std.specs.Char.{encode_utf8}
 use Rattle.std.specs.Fmt.{digits}
 use Rattle.std.specs.declared.cmp.Ordering.TheVariants.{Greater}
-use Rattle.grammar_model.specs.Grammar.{Assoc, Left, Right, Group, SequenceRule, WrittenRule, Plain, Sequence, Grammar, Slot, slot_of, rule_at, child_slot, IsTerminal}
-use Rattle.grammar_model.specs.Trees.{Tree, Children, Leaf, Nulled, Node, NoChild, Child}
-use Rattle.grammar_model.specs.Derives.{Edges, Line, Derives}
-use Rattle.grammar_model.specs.declared.Ranking.TheVariants.{None as NoRanks, Rule as RuleRanks}
+use Rattle.grammar_model.specs.Grammar.{Assoc, Left, Right, Group, SequenceRule, WrittenRule, Plain, Sequence, Grammar, Slot, slot_of, rule_at, rank_of, lhs_of, child_slot, IsTerminal, IsChildCount}
+use Rattle.grammar_model.specs.Trees.{Tree, Children, Leaf, Nulled, Node, NoChild, Child, child_count}
+use Rattle.grammar_model.specs.Derives.{Edges, Line, Derives, DerivesFront}
+use Rattle.grammar_model.specs.declared.Ranking.TheVariants.{None as NoRanks, Rule as RuleRanks, High as HighRanks}
 use Rattle.grammar_model.specs.declared.DescItem.TheVariants.{Name as ItemName, Symbol as ItemSymbol, Start as ItemStart, Length as ItemLength, G1Start as ItemG1Start, G1Length as ItemG1Length, Values as ItemValues}
 use Rattle.grammar_model.specs.declared.Show.TheVariants.{Array as ShowArray, Tree as ShowTree}
 use Rattle.grammar_model.specs.Order.{rank_order, tree_cmp, Before}
+use Rattle.grammar_model.specs.All.{IsAll}
+use Rattle.grammar_model.specs.Chosen.{IsBest, AreBest, AreChosen}
+use Rattle.grammar_model.proofs.Lists.{Among, among_from, contains_from}
 use Rattle.grammar_model.specs.Values.{Text, value_of, Meaning, RuleMeaning, MakeArray, MakeItems, Token}
 use Rattle.grammar_model.specs.Text.{text_of}
 use Rattle.grammar_model.specs.Analysis.{IsNullable, IsNullableIn, IsProductive, IsAccessible}
@@ -139,6 +144,149 @@ rank_first = refl
 
 number_first : Before (rank_order ranked NoRanks) (by_rule 0 2) (by_rule 1 3)
 number_first = refl
+
+-- over one x it has two derivations, and under `high` that of the higher rank is chosen
+abbrev one_x : Edges
+one_x = Line (3 ∷ [])
+
+x_terminal : IsTerminal ranked 3
+x_terminal zero lt = grind arith
+x_terminal (suc zero) lt = grind arith
+x_terminal (suc (suc zero)) lt = grind arith
+x_terminal (suc (suc (suc zero))) lt = grind arith
+x_terminal (suc (suc (suc (suc i)))) lt = absurd (omega arith)
+
+-- each rule has one part
+data Unary (s : ℕ) : Tree → Type 0 where
+  ALeaf : s ≡ 3 → Unary s (Leaf 3 0 1)
+  ByRule : (i x : ℕ) (u : Tree) → lhs_of (rule_at ranked i) ≡ s → i < 4 → child_slot (rule_at ranked i) 0 ≡ slot_of x → Derives ranked one_x (slot_of x) 0 1 u → Unary s (Node i (Child NoChild u) 0 1)
+
+part_at : (i : ℕ) → i < 4 → (x : ℕ) × (child_slot (rule_at ranked i) 0 ≡ slot_of x) × ((n : ℕ) → IsChildCount (rule_at ranked i) n → n ≡ 1)
+part_at zero lt = (1, refl, λ n e. e)
+part_at (suc zero) lt = (2, refl, λ n e. e)
+part_at (suc (suc zero)) lt = (3, refl, λ n e. e)
+part_at (suc (suc (suc zero))) lt = (3, refl, λ n e. e)
+part_at (suc (suc (suc (suc i)))) lt = absurd (omega arith)
+
+unary : (t : Tree) (s : ℕ) → Derives ranked one_x (slot_of s) 0 1 t → Unary s t
+unary (Leaf y a b) s d =
+    let from : a ≡ 0 = d.from_is in
+    let to : b ≡ 1 = d.to_is in
+    let held : slice_get {X = ℕ} (3 ∷ []) 0 ≡ Some y = subst (λ k. slice_get {X = ℕ} (3 ∷ []) k ≡ Some y) from d.held.0 in
+    let is : 3 ≡ y = cc in
+    subst (Unary s) (λ i. Leaf (is i) (sym from i) (sym to i)) (ALeaf (sym d.symbol_is ∙ sym is))
+unary (Nulled y a) s d = let e = d.from_is in let e' = d.to_is in absurd (omega arith)
+unary (Node i cs a b) s d =
+    let (x, slot, one) = part_at i d.in_range in
+    go cs x slot (one (child_count cs) d.complete) d.front
+  where
+    go : (cs : Children) (x : ℕ) → child_slot (rule_at ranked i) 0 ≡ slot_of x → child_count cs ≡ 1 → DerivesFront ranked one_x (rule_at ranked i) 0 1 cs → Unary s (Node i cs a b)
+    go NoChild x slot c fr = absurd (omega arith)
+    go (Child (Child front v) u) x slot c fr = absurd (omega arith)
+    go (Child NoChild u) x slot c (m, e, fr) =
+        let under : Derives ranked one_x (slot_of x) 0 1 u = subst (λ z. Derives ranked one_x z 0 1 u) slot (subst (λ z. Derives ranked one_x (child_slot (rule_at ranked i) 0) z 1 u) (sym e) fr) in
+        subst (Unary s) (λ k. Node i (Child NoChild u) (sym d.from_is k) (sym d.to_is k)) (ByRule i x u d.fits.0 d.in_range slot under)
+
+-- of P and Q there is one derivation each
+abbrev one_part : ℕ → Tree
+one_part j = Node j (Child NoChild (Leaf 3 0 1)) 0 1
+
+x_alone : (u : Tree) → Unary 3 u → u ≡ Leaf 3 0 1
+x_alone u (ALeaf e) = refl
+x_alone u (ByRule i x v l lt slot d) = absurd (x_terminal i (omega (arith, lt)) l)
+
+p_alone : (u : Tree) → Unary 1 u → u ≡ one_part 2
+p_alone u (ALeaf e) = absurd (omega arith)
+p_alone u (ByRule zero x v l lt slot d) = absurd (omega arith)
+p_alone u (ByRule (suc zero) x v l lt slot d) = absurd (omega arith)
+p_alone u (ByRule (suc (suc zero)) x v l lt slot d) = let is : x ≡ 3 = sym (ap (λ (z : Slot). z.symbol) slot) in ap (λ w. Node 2 (Child NoChild w) 0 1) (x_alone v (unary v 3 (subst (λ z. Derives ranked one_x (slot_of z) 0 1 v) is d)))
+p_alone u (ByRule (suc (suc (suc zero))) x v l lt slot d) = absurd (omega arith)
+p_alone u (ByRule (suc (suc (suc (suc i)))) x v l lt slot d) = absurd (omega arith)
+
+q_alone : (u : Tree) → Unary 2 u → u ≡ one_part 3
+q_alone u (ALeaf e) = absurd (omega arith)
+q_alone u (ByRule zero x v l lt slot d) = absurd (omega arith)
+q_alone u (ByRule (suc zero) x v l lt slot d) = absurd (omega arith)
+q_alone u (ByRule (suc (suc zero)) x v l lt slot d) = absurd (omega arith)
+q_alone u (ByRule (suc (suc (suc zero))) x v l lt slot d) = let is : x ≡ 3 = sym (ap (λ (z : Slot). z.symbol) slot) in ap (λ w. Node 3 (Child NoChild w) 0 1) (x_alone v (unary v 3 (subst (λ z. Derives ranked one_x (slot_of z) 0 1 v) is d)))
+q_alone u (ByRule (suc (suc (suc (suc i)))) x v l lt slot d) = absurd (omega arith)
+
+two_derive : (t : Tree) → Unary 0 t → (t ≡ by_rule 0 2) ⊎ (t ≡ by_rule 1 3)
+two_derive t (ALeaf e) = absurd (omega arith)
+two_derive t (ByRule zero x v l lt slot d) = let is : x ≡ 1 = sym (ap (λ (z : Slot). z.symbol) slot) in inl (ap (λ w. Node 0 (Child NoChild w) 0 1) (p_alone v (unary v 1 (subst (λ z. Derives ranked one_x (slot_of z) 0 1 v) is d))))
+two_derive t (ByRule (suc zero) x v l lt slot d) = let is : x ≡ 2 = sym (ap (λ (z : Slot). z.symbol) slot) in inr (ap (λ w. Node 1 (Child NoChild w) 0 1) (q_alone v (unary v 2 (subst (λ z. Derives ranked one_x (slot_of z) 0 1 v) is d))))
+two_derive t (ByRule (suc (suc zero)) x v l lt slot d) = absurd (omega arith)
+two_derive t (ByRule (suc (suc (suc zero))) x v l lt slot d) = absurd (omega arith)
+two_derive t (ByRule (suc (suc (suc (suc i)))) x v l lt slot d) = absurd (omega arith)
+
+x_derives : Derives ranked one_x (slot_of 3) 0 1 (Leaf 3 0 1)
+x_derives = record { symbol_is = refl; from_is = refl; to_is = refl; terminal = x_terminal; held = (refl, refl) }
+
+by_low : Derives ranked one_x (slot_of 0) 0 1 (by_rule 0 2)
+by_low = record { from_is = refl; to_is = refl; spans = lit< tt; in_range = lit< tt; fits = (refl, lit≤ tt); complete = refl; front = (0, refl, under) }
+  where
+    under : Derives ranked one_x (slot_of 1) 0 1 (one_part 2)
+    under = record { from_is = refl; to_is = refl; spans = lit< tt; in_range = lit< tt; fits = (refl, lit≤ tt); complete = refl; front = (0, refl, x_derives) }
+
+by_high : Derives ranked one_x (slot_of 0) 0 1 (by_rule 1 3)
+by_high = record { from_is = refl; to_is = refl; spans = lit< tt; in_range = lit< tt; fits = (refl, lit≤ tt); complete = refl; front = (0, refl, under) }
+  where
+    under : Derives ranked one_x (slot_of 2) 0 1 (one_part 3)
+    under = record { from_is = refl; to_is = refl; spans = lit< tt; in_range = lit< tt; fits = (refl, lit≤ tt); complete = refl; front = (0, refl, x_derives) }
+
+both_listed : IsAll ranked one_x (rank_order ranked HighRanks) (slot_of 0) 0 1 (by_rule 1 3 ∷ by_rule 0 2 ∷ [])
+unfolding IsStrictlySortedBy
+both_listed = record {
+  sorted = ((refl, tt), (tt, tt));
+  each = λ t. ((λ c. in_list t (among_from (by_rule 1 3 ∷ by_rule 0 2 ∷ []) t c)), (λ d. contains_from (by_rule 1 3 ∷ by_rule 0 2 ∷ []) t (listed t (two_derive t (unary t 0 d)))));
+}
+  where
+    in_list : (t : Tree) → Among t (by_rule 1 3 ∷ by_rule 0 2 ∷ []) → Derives ranked one_x (slot_of 0) 0 1 t
+    in_list t (inl e) = subst (Derives ranked one_x (slot_of 0) 0 1) e by_high
+    in_list t (inr (inl e)) = subst (Derives ranked one_x (slot_of 0) 0 1) e by_low
+    in_list t (inr (inr b)) = absurd b
+
+    listed : (t : Tree) → (t ≡ by_rule 0 2) ⊎ (t ≡ by_rule 1 3) → Among t (by_rule 1 3 ∷ by_rule 0 2 ∷ [])
+    listed t (inl e) = inr (inl (sym e))
+    listed t (inr e) = inl (sym e)
+
+not_higher : pos 5 ≤ℤ pos 0 → ⊥
+not_higher h = h.le
+
+one_chosen : AreChosen ranked one_x HighRanks (slot_of 0) 0 1 (by_rule 1 3 ∷ [])
+unfolding IsStrictlySortedBy
+one_chosen = record {
+  sorted = (tt, tt);
+  each = λ t. ((λ c. in_list t (among_from (by_rule 1 3 ∷ []) t c)), (λ (d, c). contains_from (by_rule 1 3 ∷ []) t (listed t (two_derive t (unary t 0 d)) c)));
+}
+  where
+    highest : IsBest ranked one_x (slot_of 0) 0 1 1
+    highest other children d = go other d.in_range
+      where
+        go : (i : ℕ) → i < 4 → rank_of (rule_at ranked i) ≤ℤ pos 5
+        go zero lt = le_z_yes tt
+        go (suc zero) lt = le_z_yes tt
+        go (suc (suc zero)) lt = le_z_yes tt
+        go (suc (suc (suc zero))) lt = le_z_yes tt
+        go (suc (suc (suc (suc i)))) lt = absurd (omega arith)
+
+    alone : IsBest ranked one_x (slot_of 2) 0 1 3
+    alone other children d = go other d.in_range d.fits.0
+      where
+        go : (i : ℕ) → i < 4 → lhs_of (rule_at ranked i) ≡ 2 → rank_of (rule_at ranked i) ≤ℤ pos 0
+        go zero lt l = absurd (omega arith)
+        go (suc zero) lt l = absurd (omega arith)
+        go (suc (suc zero)) lt l = absurd (omega arith)
+        go (suc (suc (suc zero))) lt l = le_z_yes tt
+        go (suc (suc (suc (suc i)))) lt l = absurd (omega arith)
+
+    in_list : (t : Tree) → Among t (by_rule 1 3 ∷ []) → Derives ranked one_x (slot_of 0) 0 1 t × AreBest ranked one_x (slot_of 0) t
+    in_list t (inl e) = subst (λ z. Derives ranked one_x (slot_of 0) 0 1 z × AreBest ranked one_x (slot_of 0) z) e (by_high, (highest, (tt, (alone, (tt, tt)))))
+    in_list t (inr b) = absurd b
+
+    listed : (t : Tree) → (t ≡ by_rule 0 2) ⊎ (t ≡ by_rule 1 3) → AreBest ranked one_x (slot_of 0) t → Among t (by_rule 1 3 ∷ [])
+    listed t (inl e) c = let low = (subst (AreBest ranked one_x (slot_of 0)) e c).0 1 (Child NoChild (one_part 3)) by_high in absurd (not_higher low)
+    listed t (inr e) c = inl (sym e)
 
 -- L ::= N+ separator => comma, over 1,2, with a last separator
 abbrev list_rule : SequenceRule

@@ -12,3 +12,4 @@ pub mod Lister
 pub mod Cycles
 pub mod Characters
 pub mod Instances
+pub mod ChosenOnce

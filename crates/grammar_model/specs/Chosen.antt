@@ -1,14 +1,13 @@
--- Chosen derivations. Of the trees of one slot over one span some have the highest rank at their root: that is the best rank of the
--- slot over the span. Under `high` a derivation is chosen where each of its nodes has a rule of the best rank in its place; under the
--- other rankings every derivation is.
--- Source: the Marpa::R2 SLIF documentation (the ranking method high_rule_only). There ranks decide between all ways on from one place
--- of a parse, those that split the span differently among them; here they are compared only over one slot and one span, among all
--- its trees, and never decide between two splits.
-use Rattle.std.specs.Prelude.{ℕ, ⊤, ◌↔◌, ◌≤ℤ◌, List, Contains}
+-- Chosen derivations. The best rank of a slot over a span is the highest rank of a rule at the root of a tree of the slot over the
+-- span, whether that tree is chosen or not. Under `high` a derivation is chosen where each of its nodes has a rule of the best rank in
+-- its place; under the other rankings every derivation is chosen.
+-- Source: the Marpa::R2 SLIF documentation (the ranking method high_rule_only). There the choices of a choicepoint are compared, those
+-- that split its span differently among them; here ranks are compared only over one slot and one span, and never decide between splits.
+use Rattle.std.specs.Prelude.{◌≡◌, ℕ, ⊤, ◌↔◌, ◌≤ℤ◌, List, Contains}
 use Rattle.std.specs.List.Sorted.{IsStrictlySortedBy}
 use Rattle.grammar_model.specs.Grammar.{WrittenRule, Grammar, Slot, rule_at, rank_of, child_slot}
 use Rattle.grammar_model.specs.Trees.{Tree, Children, Leaf, Nulled, Node, NoChild, Child, child_count}
-use Rattle.grammar_model.specs.Derives.{Edges, Derives}
+use Rattle.grammar_model.specs.Derives.{Edges, Edge, Held, Derives}
 use Rattle.grammar_model.specs.Order.{Ranking, NoRanks, RuleRanks, HighRanks, rank_order, tree_cmp}
 
 -- no tree of the slot over the span has a rule of a higher rank at its root
@@ -37,3 +36,8 @@ IsChosen HighRanks g edge slot tree = AreBest g edge slot tree
 pub record AreChosen (g : Grammar) (edge : Edges) (ranking : Ranking) (slot : Slot) (p q : ℕ) (trees : List Tree) : Type 0 where
   pub sorted : IsStrictlySortedBy (tree_cmp (rank_order g ranking)) trees
   pub each : (t : Tree) → Contains trees t ↔ (Derives g edge slot p q t × IsChosen ranking g edge slot t)
+
+-- there is at most one such list
+abbrev pub ChosenListIsUnique : Type 0
+ChosenListIsUnique = (g : Grammar) (edges : List Edge) (ranking : Ranking) (slot : Slot) (p q : ℕ) (ts us : List Tree) →
+    AreChosen g (Held edges) ranking slot p q ts → AreChosen g (Held edges) ranking slot p q us → ts ≡ us

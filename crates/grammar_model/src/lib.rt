@@ -3,6 +3,7 @@
 #![tactic(auto)]
 
 ghost use Rattle.grammar_model.specs.All.{DerivationsAreOrdered, ListIsUnique};
+ghost use Rattle.grammar_model.specs.Chosen.{ChosenListIsUnique};
 ghost use Rattle.grammar_model.specs.Simple.{ListsAllOfSimple};
 ghost use Rattle.grammar_model.specs.Characters.{CharactersHaveOneList};
 ghost use Rattle.grammar_model.specs.Steps.{StepsMakeTheTree, StepsTellTheTree};
@@ -68,6 +69,11 @@ pub fn derivations_are_ordered()
 /// There is at most one list of all derivations of a slot over a span.
 pub fn list_is_unique()
     ensures { ListIsUnique }
+{}
+
+/// There is at most one list of the chosen derivations of a slot over a span.
+pub fn chosen_list_is_unique()
+    ensures { ChosenListIsUnique }
 {}
 
 /// The plain lister lists all derivations of a simple grammar.

@@ -1,6 +1,6 @@
 -- A flat derivation is of allowed rules exactly where what it stands for has rules of the best rank, if that is so of each rule of a
 -- slot, and the rules of lists are allowed.
-use Rattle.std.proofs.Common.{◌≡◌, ℕ, suc, ◌<◌, ◌≤◌, length, ◌⊎◌, inl, inr, refl, sym, ap, ◌∙◌, subst, arith}
+use Rattle.std.proofs.Common.{◌≡◌, ℕ, ◌<◌, ◌≤◌, length, inl, inr, sym, ap, ◌∙◌, subst, arith}
 use Rattle.std.specs.Prelude.{◌↔◌, slice_index}
 use Rattle.std.proofs.lemmas.Bool.{true≢false, cond-true, cond-false}
 use Rattle.grammar_model.specs.Grammar.{Grammar, Slot, slot_of, rule_at, child_slot}

@@ -1,38 +1,39 @@
 -- A flat derivation is of the rules that the ranking allows exactly where the ranking chooses what it stands for.
-use Rattle.std.proofs.Common.{◌≡◌, ℕ, ◌<◌, ℤ, ◌≤ℤ◌, List, length, map, inl, inr, Some, refl, sym, ap, ◌∙◌, subst, arith}
+use Rattle.std.proofs.Common.{◌≡◌, ℕ, ◌<◌, ℤ, ◌≤ℤ◌, List, [], ◌∷◌, length, map, inl, inr, Some, refl, sym, ap, ◌∙◌, subst, arith}
 use Rattle.std.specs.Prelude.{◌↔◌, slice_get, Contains}
 use Rattle.std.specs.List.Sorted.{IsStrictlySortedBy}
 use Rattle.std.proofs.lemmas.Int.{ints}
 use Rattle.grammar_model.specs.Grammar.{Grammar, slot_of, rule_at, rank_of}
 use Rattle.grammar_model.specs.Grammar
-use Rattle.grammar_model.specs.Trees.{Tree, Children, Leaf, Nulled, Node, NoChild, Child}
-use Rattle.grammar_model.specs.Derives.{Edges, Derives}
+use Rattle.grammar_model.specs.Trees.{Tree, Children, Leaf, Nulled, Node}
+use Rattle.grammar_model.specs.Derives.{Edges, Held, Derives}
+use Rattle.grammar_model.specs.declared.Edge.{Edge}
 use Rattle.grammar_model.specs.declared.Ranking.{Ranking}
 use Rattle.grammar_model.specs.declared.Ranking.TheVariants.{None as NoRanks, Rule as RuleRanks, High as HighRanks}
 use Rattle.grammar_model.specs.Order.{rank_order, tree_cmp}
+use Rattle.grammar_model.specs.All.{IsAll}
 use Rattle.grammar_model.specs.Chosen.{IsBest, AreBest, IsChosen, AreChosen}
 use Rattle.grammar_model.specs.Checked.{IsChecked}
 use Rattle.grammar_model.proofs.Compose.{GoForward}
 use Rattle.grammar_model.proofs.Lists.{Among, among_from, contains_from, among_map, among_map_from, sorted_map}
-use Rattle.recognizer_model.specs.Flat.{FlatGrammar, IsRule, lhs_of, rhs_of, source_of}
+use Rattle.recognizer_model.specs.Flat.{FlatGrammar, IsRule, lhs_of, rhs_of}
 use Rattle.recognizer_model.specs.declared.flat.FlatSymbol.TheVariants.{Top}
 use Rattle.recognizer_model.specs.FlatDerives.{Spans, Rule}
 use Rattle.recognizer_model.specs.FlatDerives
 use Rattle.recognizer_model.specs.Invariant.{IsFlat}
-use Rattle.recognizer_model.specs.FlatForm
-use Rattle.recognizer_model.specs.FlatForm.{IsFlatOf, StandsFor, symbol_at, source_number, tree_of, flat_order, FlatEdges}
+use Rattle.recognizer_model.specs.FlatForm.{IsFlatOf, StandsFor, symbol_at, tree_of, flat_order, FlatEdges}
 use Rattle.recognizer_model.specs.View.{grammar_view}
 use Rattle.recognizer_model.specs.Chosen.{AreAllowed, flat_rank, IsBestRule, allowed_by}
 use Rattle.recognizer_model.proofs.Forms
 use Rattle.recognizer_model.proofs.Forms.{FlatList, FlatNames, IsHead, IsInner}
 use Rattle.recognizer_model.proofs.FlatSound
-use Rattle.recognizer_model.proofs.FlatSound.{inner_list}
 use Rattle.recognizer_model.proofs.FlatWhole
 use Rattle.recognizer_model.proofs.FlatNamed.{form}
-use Rattle.recognizer_model.proofs.FlatJoin.{view, names, only, real, lhs_is, rhs_is, reads, has}
-use Rattle.recognizer_model.proofs.FlatFormLaw.{inner_stands, agree_tree, TopNode, top_node, top_tree, only_top, no_top_leaf, Standing, standing, flat_form}
+use Rattle.recognizer_model.proofs.FlatJoin.{view, names, only, lhs_is, rhs_is, reads, has}
+use Rattle.recognizer_model.proofs.FlatFormLaw.{inner_stands, agree_tree, top_node, top_tree, only_top, no_top_leaf, Standing, standing, flat_form}
 use Rattle.recognizer_model.proofs.FlatBest.{tree_best}
-use Rattle.recognizer_model.proofs.Leaving.{all_alike, all_ruled}
+use Rattle.recognizer_model.specs.ChosenLaws.{IsReading}
+use Rattle.recognizer_model.proofs.Leaving.{all_alike, all_ruled, leaves_some}
 use Rattle.recognizer_model.proofs.Views.{symbol_viewed, symbol_back, in_view}
 
 most_itself : {x y : ℤ} → x ≡ y → x ≤ℤ y
@@ -156,3 +157,29 @@ module _ (f : FlatGrammar) (w : Grammar) (flat : IsFlat f) (made : IsFlatOf f w)
     where
       known : (t : Tree) → Among t trees → Derives (grammar_view f) (FlatEdges f edge) (slot_of x) p q t × AreAllowed (allowed_by w ranking f (FlatEdges f edge)) t
       known t m = (each t).0 (contains_from trees t m)
+
+-- what has a derivation has a chosen one
+module _ (f : FlatGrammar) (w : Grammar) (edges : List Edge) (ranking : Ranking) (r : IsReading f w edges) (x : ℕ) (slot : Grammar.Slot) (p q : ℕ) (lt : x < length f.symbols) (st : StandsFor w (symbol_at f x) slot) where
+  some_chosen : (t : Tree) → Derives w (Held edges) slot p q t → (u : Tree) × Derives w (Held edges) slot p q u × IsChosen ranking w (Held edges) slot u
+  some_chosen t d =
+      let form = flat_form f w r.flat r.made r.checked (Held edges) r.forward ranking in
+      let (v, flat, same) = form.whole x p q slot t lt st d in
+      let (u, d', c) = leaves_some f w r.flat edges r.forward ranking x p q v (back f w r.flat r.made r.checked (Held edges) r.forward x p q v flat) in
+      let there = viewed f w r.flat r.made r.checked (Held edges) r.forward d' in
+      (tree_of w f u, form.sound x p q slot u lt st there, (chosen_form f w r.flat r.made r.checked (Held edges) r.forward ranking x p q slot u st there).0 c)
+
+  chosen_none : (chosen all : List Tree) → AreChosen w (Held edges) ranking slot p q chosen → IsAll w (Held edges) (rank_order w ranking) slot p q all → chosen ≡ [] → all ≡ []
+  chosen_none chosen [] are every none = refl
+  chosen_none chosen (t ∷ all) are every none =
+      let (u, d, c) = some_chosen t ((every.each t).0 (contains_from (t ∷ all) t (inl refl))) in
+      absurd (among_from [] u (subst (λ l. Contains l u) none ((are.each u).1 (d, c))))
+
+  all_none : (chosen all : List Tree) → AreChosen w (Held edges) ranking slot p q chosen → IsAll w (Held edges) (rank_order w ranking) slot p q all → all ≡ [] → chosen ≡ []
+  all_none [] all are every none = refl
+  all_none (t ∷ chosen) all are every none =
+      absurd (among_from [] t (subst (λ l. Contains l t) none ((every.each t).1 ((are.each t).0 (contains_from (t ∷ chosen) t (inl refl))).0)))
+
+pub chosen_some : (f : FlatGrammar) (w : Grammar) (edges : List Edge) (ranking : Ranking) → IsReading f w edges → (x : ℕ) (slot : Grammar.Slot) (p q : ℕ) (chosen all : List Tree) → x < length f.symbols → StandsFor w (symbol_at f x) slot →
+    AreChosen w (Held edges) ranking slot p q chosen → IsAll w (Held edges) (rank_order w ranking) slot p q all → (chosen ≡ []) ↔ (all ≡ [])
+chosen_some f w edges ranking r x slot p q chosen all lt st are every =
+    (chosen_none f w edges ranking r x slot p q lt st chosen all are every, all_none f w edges ranking r x slot p q lt st chosen all are every)

@@ -16,7 +16,7 @@ use Rattle.recognizer_model.specs.FlatDerives.{Derives, Token, Null, Rule, Spans
 use Rattle.recognizer_model.specs.FlatForm.{FlatEdges}
 use Rattle.recognizer_model.specs.Acceptable.{OnlyTerminals}
 use Rattle.recognizer_model.specs.Invariant.{IsFlat, LeadsOver}
-use Rattle.recognizer_model.specs.Chosen.{Allowed, AreAllowed, AreAllowedIn, LeavesSome, flat_rank, IsBestRule, allowed_by}
+use Rattle.recognizer_model.specs.Chosen.{Allowed, AreAllowed, AreAllowedIn, LeavesSome, flat_rank, allowed_by}
 use Rattle.recognizer_model.proofs.Views.{symbol_viewed, symbol_back}
 use Rattle.recognizer_model.proofs.FlatListed.{flat_list}
 

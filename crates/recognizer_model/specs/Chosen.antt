@@ -1,7 +1,7 @@
 -- Chosen derivations of a flat grammar: in the place of each node only some rules are allowed. A ranking allows those of the best
 -- rank, which are compared among the rules of one left side that derive one span. A flat rule has the rank of the written rule that
 -- it comes from; so all rules of a list have one rank, and a top has one rule.
--- Source: the Marpa::R2 SLIF documentation (the ranking method high_rule_only), with our own places of ranks.
+-- Source: the Marpa::R2 SLIF documentation (the ranking method high_rule_only); what is compared is our own.
 use Rattle.std.specs.Prelude.{◌≡◌, ℕ, ℤ, ⊤, ◌≤ℤ◌, length}
 use Rattle.grammar_model.specs.Grammar.{Grammar, rule_at}
 use Rattle.grammar_model.specs.Trees.{Tree, Children, Leaf, Nulled, Node, NoChild, Child}
@@ -13,7 +13,7 @@ use Rattle.recognizer_model.specs.Flat.{FlatGrammar, IsRule, lhs_of, rhs_of, sou
 use Rattle.recognizer_model.specs.FlatForm.{source_number}
 use Rattle.recognizer_model.specs.FlatDerives.{Derives, Spans}
 
--- which rules may derive which places as a whole
+-- which rules are allowed over which spans
 abbrev pub Allowed : Type 1
 Allowed = (rule from to : ℕ) → Type 0
 

@@ -15,4 +15,5 @@ pub mod View
 pub mod Invariant
 pub mod FlatForm
 pub mod Once
+pub mod ChosenLaws
 pub mod Threads

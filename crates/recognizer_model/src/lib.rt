@@ -33,6 +33,7 @@ pub struct ReportLine {
 }
 
 ghost use Rattle.recognizer_model.specs.FlatForm.{FlatGrammarsAreFlatForms, AcceptableAreFlat, ListsExist};
+ghost use Rattle.recognizer_model.specs.ChosenLaws.{ChosenAreAllowed, AllowedLeaveSome, ChosenLeaveSome, ChosenListsExist};
 ghost use Rattle.recognizer_model.specs.Laws.{EarleyLawsHold};
 ghost use Rattle.recognizer_model.specs.Once.{KeptInOneStep, KnownByLists};
 ghost use Rattle.recognizer_model.specs.Threads.{ThreadLawsHold};
@@ -55,6 +56,26 @@ pub fn acceptable_are_flat()
 /// The derivations of a checked grammar have a list, whatever the edges.
 pub fn lists_exist()
     ensures { ListsExist }
+{}
+
+/// A flat derivation is of the rules that a ranking allows exactly where the ranking chooses what it stands for.
+pub fn chosen_are_allowed()
+    ensures { ChosenAreAllowed }
+{}
+
+/// Whatever a flat grammar derives it derives by rules that the ranking allows.
+pub fn allowed_leave_some()
+    ensures { AllowedLeaveSome }
+{}
+
+/// Where a checked grammar has a derivation, it has a chosen one.
+pub fn chosen_leave_some()
+    ensures { ChosenLeaveSome }
+{}
+
+/// The chosen derivations of a checked grammar have a list, whatever the edges.
+pub fn chosen_lists_exist()
+    ensures { ChosenListsExist }
 {}
 
 /// The reduced set of a place follows in one step from the full sets.
