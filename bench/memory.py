@@ -19,16 +19,14 @@ options.add_argument("--tests", action="store_true")
 options = options.parse_args()
 
 SHIM = r"""
-#define _GNU_SOURCE
-#include <dlfcn.h>
 #include <errno.h>
 #include <stddef.h>
 #include <stdlib.h>
 #include <unistd.h>
 static long left = -1;
 static int refused(void) {
-    if (left < 0) { const char *said = getenv("REFUSE"); left = said ? atol(said) : 0; }
-    if (left > 0 && --left == 0) { (void)!write(9, "x", 1); errno = ENOMEM; return 1; }
+    if (left < 0) left = atol(getenv("REFUSE"));
+    if (left > 0 && --left == 0) { (void)!write(atoi(getenv("TOLD")), "x", 1); errno = ENOMEM; return 1; }
     return 0;
 }
 extern void *__libc_malloc(size_t), *__libc_calloc(size_t, size_t), *__libc_realloc(void *, size_t), *__libc_memalign(size_t, size_t);
@@ -73,8 +71,8 @@ def sweep(name, words, given, grammar, room, shim):
     while True:
         number += 1
         read, write = os.pipe()
-        answer = subprocess.run(["sh", "-c", f'exec "$@" 9>&{write}', "sh", options.binary, *words], input=given, capture_output=True, pass_fds=[write],
-                                env={"LD_PRELOAD": shim, "REFUSE": str(number)})
+        answer = subprocess.run([options.binary, *words], input=given, capture_output=True, pass_fds=[write],
+                                env={"LD_PRELOAD": shim, "REFUSE": str(number), "TOLD": str(write)})
         os.close(write)
         reached = os.read(read, 1)
         os.close(read)
