@@ -54,7 +54,7 @@ module _ (b : Built) (checked : IsChecked b.g1) (ranges : IsInRange b) (cs : Lis
   derived : (new : Iteration) → new.forest ≡ f → (given : List Tree) (tree : Tree) → AreGiven new (given ++ tree ∷ []) → Derives b.g1 (Held (edges_of pieces)) (slot_of start) 0 (place_after pieces) tree
   unfolding start
   derived new same given tree are =
-      let d = (are.first.listing.each tree).0 (last_in given are.first.rest tree) in
+      let d = ((are.first.listing.each tree).0 (last_in given are.first.rest tree)).0 in
       let of_f : Derives f.written (Held f.edges) (slot_of (slice_index_or f.written.starts f.start 0)) 0 f.place tree =
       subst (λ (g : Forest). Derives g.written (Held g.edges) (slot_of (slice_index_or g.written.starts g.start 0)) 0 g.place tree) same d in
       subst (λ n. Derives b.g1 (Held (edges_of pieces)) (slot_of (slice_index_or b.g1.starts n 0)) 0 (place_after pieces) tree) of.start
