@@ -1,5 +1,5 @@
 -- What a forest tells of the derivations of a reading.
-use Rattle.std.proofs.Common.{Bool, true, false, Result, ◌≡◌, ℕ, ◌≤◌, List, [], ◌∷◌, ◌++◌, Option, Some, length, refl, sym, ap, subst, ◌∙◌, arith, Contains, slice_get, slice_index_or}
+use Rattle.std.proofs.Common.{Bool, true, false, Result, ◌≡◌, ℕ, ◌+◌, ◌≤◌, List, [], ◌∷◌, ◌++◌, Option, Some, length, refl, sym, ap, subst, ◌∙◌, arith, Contains, slice_get, slice_index_or}
 use Rattle.std.specs.Prelude.{IfErr}
 use Rattle.std.specs.List.{concat}
 use Rattle.std.specs.List.Sorted.{IsStrictlySortedBy}
@@ -14,7 +14,10 @@ use Rattle.grammar_model.specs.Order.{rank_order, tree_cmp}
 use Rattle.grammar_model.specs.Chosen.{AreChosen}
 use Rattle.grammar_core.specs.declared.steps.Span.{Span}
 use Rattle.recognizer_model.specs.declared.flat.FlatSymbol.TheVariants.{Top}
+use Rattle.recognizer_model.specs.Chosen.{allowed_by}
+use Rattle.recognizer_model.specs.Counts.{IsCountOf}
 use Rattle.recognizer_model.specs.Flat.{lhs_of}
+use Rattle.recognizer_model.specs.Nodes.{IsExpanded}
 use Rattle.flat_model.specs.Flattened.{IsFlattened}
 use Rattle.recognizer_model.specs.FlatForm.{StandsFor, symbol_at, tree_of}
 use Rattle.recognizer_model.proofs.FlatNamed.{get_index, index_get}
@@ -22,7 +25,7 @@ use Rattle.recognizer_model.proofs.FlatFormLaw.{flat_form}
 use Rattle.recognizer_model.proofs.FlatChosen.{chosen_form}
 use Rattle.recognizer_model.proofs.Leaving.{leaves_some}
 use Rattle.earley_sets.specs.Laws.{TreesAreDerivations}
-use Rattle.earley_sets.specs.Recognizer.{Recognizer, IsRecognizer, HasTree, place_of}
+use Rattle.earley_sets.specs.Recognizer.{Recognizer, IsRecognizer, HasTree, place_of, edges_of as held_edges, top_of as held_top}
 use Rattle.forest_model.specs.Forest.{Forest, IsForest, top_of}
 use Rattle.forest_model.specs.Listing.{IsListing}
 use Rattle.forest_laws.specs.Lists.{trees_by}
@@ -156,6 +159,14 @@ module _ (b : Built) (ranking : Ranking) (cs : List ℕ) (recce : Recognizer) (s
     are = tells.1 read.pieces read.holds;
     told = tells.2;
   }
+
+-- the steps of a forest, by an equal grammar
+abbrev StepsWithin : Recognizer → Ranking → Grammar → (before after : ℕ) → Type 0
+StepsWithin recce ranking w before after =
+    (n : ℕ) → IsCountOf (IsExpanded recce.flat (held_edges recce) (allowed_by w ranking recce.flat (held_edges recce)) (held_top recce) (place_of recce)) n → after ≤ before + n
+
+pub steps_within : (recce : Recognizer) (ranking : Ranking) (w g : Grammar) (before after : ℕ) → w ≡ g → StepsWithin recce ranking w before after → StepsWithin recce ranking g before after
+steps_within recce ranking w g before after same within = subst (λ (x : Grammar). StepsWithin recce ranking x before after) same within
 
 -- WHAT IS TOLD OF THE DERIVATIONS
 

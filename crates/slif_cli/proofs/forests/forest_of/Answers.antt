@@ -1,5 +1,5 @@
 use Rattle.std.proofs.Common.{Err, ap}
-use Rattle.slif_cli.proofs.Derived.{has_forest, no_derivation}
+use Rattle.slif_cli.proofs.Derived.{has_forest, no_derivation, steps_within}
 use Rattle.slif_cli.proofs.forests.forest_of.Goals as goal
 
 pub returns-in-Ok-clause-forest : goal.returns-in-Ok-clause-forest
@@ -13,3 +13,15 @@ returns-in_ok-text-in-Err-NoParse-clause-stops g c =
     no_derivation c.args.prepared.now c.args.ranking c.args.chars.now c.args.reading.now.recce c.args.reading.now.spans.items c.requires.few c.requires.read
     c.trees_are_derivations.ensures c.flat-flat.ensures.checked c.place-place.ensures.is (c.in-Err-NoParse.ensures.no_parse.0 (ap Err c.in-Err-NoParse.field-0-is))
     c.in_ok-text-in-Err-NoParse.text.items c.in_ok-text-in-Err-NoParse.ensures
+
+pub returns-in-Ok-clause-counted : goal.returns-in-Ok-clause-counted
+returns-in-Ok-clause-counted g c = steps_within c.args.reading.now.recce c.args.ranking c.written.result.now c.args.prepared.now.g1 _ _ c.written.ensures c.build.ensures.counted
+
+pub returns-in_ok-text-in-Err-NoParse-clause-counted : goal.returns-in_ok-text-in-Err-NoParse-clause-counted
+returns-in_ok-text-in-Err-NoParse-clause-counted g c = steps_within c.args.reading.now.recce c.args.ranking c.written.result.now c.args.prepared.now.g1 _ _ c.written.ensures c.build.ensures.counted
+
+pub returns-in_err-text-in-Err-NoParse-clause-counted : goal.returns-in_err-text-in-Err-NoParse-clause-counted
+returns-in_err-text-in-Err-NoParse-clause-counted g c = steps_within c.args.reading.now.recce c.args.ranking c.written.result.now c.args.prepared.now.g1 _ _ c.written.ensures c.build.ensures.counted
+
+pub returns-in-Err-NoMemory-clause-counted : goal.returns-in-Err-NoMemory-clause-counted
+returns-in-Err-NoMemory-clause-counted g c = steps_within c.args.reading.now.recce c.args.ranking c.written.result.now c.args.prepared.now.g1 _ _ c.written.ensures c.build.ensures.counted
