@@ -108,6 +108,7 @@ impl Word {
         }
     }
 
+    /// The grammar that is read for the word.
     pub fn language(self) -> Language {
         match self {
             Word::Left => LEFT,

@@ -39,6 +39,7 @@ pub struct Work {
 }
 
 impl Work {
+    /// Nothing done yet.
     pub fn new(alloc: Global) -> Work
         ensures { result.expanded ≡ 0 }
     {

@@ -33,6 +33,7 @@ pub struct AlternativeRow {
     pub last: LastRow,
 }
 
+/// A row, by its number.
 pub fn alternative_row(rows: &[AlternativeRow], k: usize) -> AlternativeRow
     requires { k < length rows.now }
     ensures { result ≡ slice_index_or rows.now k no_alternative }

@@ -90,6 +90,7 @@ pub enum Style {
     Line,
 }
 
+/// The name of a symbol, or `?` where the grammar has none of that number.
 pub fn name_of(w: &Written, symbol: SymbolId) -> &str {
     if (symbol.0 as usize) < w.symbol_count() {
         w.name(symbol)

@@ -133,6 +133,7 @@ pub const WORKED: Given<'static> = Given {
 
 pub const WORKED_LINES: &[u8] = b"work 2: tokens 7 kept 55 nodes 17 expanded 2 values 1\n";
 
+/// The words of a command line.
 pub fn words_of(alloc: Global, texts: &[&str]) -> Result<Vec<String>, AllocError> {
     let mut words = Vec::new(alloc);
     for text in texts {

@@ -19,6 +19,7 @@ fn both_tellers(alloc: Global) -> Result<Vec<Box<dyn Teller>>, AllocError>
     Ok(tellers)
 }
 
+/// Runs what is given, with a teller of each kind.
 pub fn run_of(alloc: Global, given: &Given<'_>) -> Result<Ended, AllocError> {
     run_with(alloc, given, both_tellers(alloc)?)
 }
