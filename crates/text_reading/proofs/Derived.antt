@@ -1,5 +1,5 @@
 -- What a forest tells of the derivations of a reading.
-use Rattle.std.proofs.Common.{◌≡◌, ℕ, ◌≤◌, List, [], Option, Some, None, length, refl, sym, subst, ◌∙◌, arith, Contains, slice_get, slice_index_or}
+use Rattle.std.proofs.Common.{◌≡◌, ℕ, ◌+◌, ◌≤◌, List, [], Option, Some, None, length, refl, sym, subst, ◌∙◌, arith, Contains, slice_get, slice_index_or}
 use Rattle.std.specs.List.Sorted.{IsStrictlySortedBy}
 use Rattle.grammar_model.specs.Grammar.{Grammar, slot_of}
 use Rattle.grammar_model.specs.Trees.{Tree}
@@ -8,16 +8,21 @@ use Rattle.grammar_model.specs.Checked.{IsChecked}
 use Rattle.grammar_model.specs.declared.Edge.{Edge}
 use Rattle.grammar_model.specs.declared.Ranking.{Ranking}
 use Rattle.grammar_model.specs.Order.{rank_order, tree_cmp}
-use Rattle.grammar_model.specs.All.{IsAll}
+use Rattle.grammar_model.specs.Chosen.{AreChosen}
 use Rattle.grammar_core.specs.declared.steps.Span.{Span}
 use Rattle.recognizer_model.specs.declared.flat.FlatSymbol.TheVariants.{Top}
+use Rattle.recognizer_model.specs.Chosen.{allowed_by}
+use Rattle.recognizer_model.specs.Counts.{IsCountOf}
 use Rattle.recognizer_model.specs.Flat.{lhs_of}
+use Rattle.recognizer_model.specs.Nodes.{IsExpanded}
 use Rattle.flat_model.specs.Flattened.{IsFlattened}
 use Rattle.recognizer_model.specs.FlatForm.{StandsFor, symbol_at, tree_of}
 use Rattle.recognizer_model.proofs.FlatNamed.{get_index, index_get}
 use Rattle.recognizer_model.proofs.FlatFormLaw.{flat_form}
+use Rattle.recognizer_model.proofs.FlatChosen.{chosen_form}
+use Rattle.recognizer_model.proofs.Leaving.{leaves_some}
 use Rattle.earley_sets.specs.Laws.{TreesAreDerivations}
-use Rattle.earley_sets.specs.Recognizer.{Recognizer, IsRecognizer, HasTree, place_of}
+use Rattle.earley_sets.specs.Recognizer.{Recognizer, IsRecognizer, HasTree, place_of, edges_of as held_edges, top_of as held_top}
 use Rattle.forest_model.specs.Forest.{Forest, IsForest, top_of}
 use Rattle.forest_model.specs.Listing.{IsListing}
 use Rattle.forest_laws.specs.Lists.{trees_by}
@@ -31,7 +36,7 @@ use Rattle.run_model.specs.Listing.{AreDerivations}
 use Rattle.run_model.specs.Telling.{no_derivation_text}
 use Rattle.text_reading.specs.declared.refusal.Place.{Place}
 use Rattle.text_reading.specs.Refusals.{IsNoDerivation}
-use Rattle.text_reading.specs.Parts.{HasForest, AreExpectedOf}
+use Rattle.text_reading.specs.Parts.{IsChosenOf, HasForest, AreExpectedOf}
 
 no_element : {X : Type 0} (x : X) → Contains [] x → ⊥
 no_element x (k, lt, e) = omega (arith, lt)
@@ -53,30 +58,37 @@ module _ (f : Forest) (is : IsForest f) where
       subst (λ s. StandsFor f.written s (slot_of (slice_index_or f.written.starts f.start 0))) (sym e)
       (slice_index_or f.written.starts f.start 0, index_get f.written.starts f.start 0 (omega (arith, all, lt)), refl)
 
-  pub has_derivation : (t : Tree) × Derives f.written (Held f.edges) (slot_of (slice_index_or f.written.starts f.start 0)) 0 f.place t
+  -- some derivation is chosen
+  pub has_derivation : (t : Tree) × IsChosenOf f.written f.edges f.ranking f.start f.place t
   has_derivation =
-      let form = flat_form f.flat f.written is.derived.flat is.derived.flat_of is.derived.checked (Held f.edges) (reading.held_forward f is.derived) f.ranking in (
-        tree_of f.written f.flat is.derived.tree,
-        form.sound whole 0 f.place _ is.derived.tree (get_index f.flat.symbols whole (Top 0) (Top f.start) top_symbol).0 stands (reading.viewed f is.derived is.derived.derives),
+      let forward = reading.held_forward f is.derived in
+      let form = flat_form f.flat f.written is.derived.flat is.derived.flat_of is.derived.checked (Held f.edges) forward f.ranking in
+      let (tree, derives, allowed) = leaves_some f.flat f.written is.derived.flat f.edges forward f.ranking whole 0 f.place is.derived.tree is.derived.derives in
+      let view = reading.viewed f is.derived derives in (
+        tree_of f.written f.flat tree,
+        (
+          form.sound whole 0 f.place _ tree (get_index f.flat.symbols whole (Top 0) (Top f.start) top_symbol).0 stands view,
+          (chosen_form f.flat f.written is.derived.flat is.derived.flat_of is.derived.checked (Held f.edges) forward f.ranking whole 0 f.place _ tree stands view).0 allowed,
+        ),
       )
 
 -- equal parts
-derives_as : (w v : Grammar) (es gs : List Edge) (k p q : ℕ) (t : Tree) → w ≡ v → es ≡ gs → k ≡ 0 → p ≡ q
-    → Derives w (Held es) (slot_of (slice_index_or w.starts k 0)) 0 p t → Derives v (Held gs) (slot_of (slice_index_or v.starts 0 0)) 0 q t
-derives_as w v es gs k p q t same_w same_e same_k same_p d =
-    subst (λ (g : Grammar). Derives g (Held gs) (slot_of (slice_index_or g.starts 0 0)) 0 q t) same_w
-    (subst (λ (l : List Edge). Derives w (Held l) (slot_of (slice_index_or w.starts 0 0)) 0 q t) same_e
-    (subst (λ n. Derives w (Held es) (slot_of (slice_index_or w.starts n 0)) 0 q t) same_k
-    (subst (λ n. Derives w (Held es) (slot_of (slice_index_or w.starts k 0)) 0 n t) same_p d)))
+chosen_as : (w v : Grammar) (es gs : List Edge) (r s : Ranking) (k p q : ℕ) (t : Tree) → w ≡ v → es ≡ gs → r ≡ s → k ≡ 0 → p ≡ q → IsChosenOf w es r k p t → IsChosenOf v gs s 0 q t
+chosen_as w v es gs r s k p q t same_w same_e same_r same_k same_p d =
+    subst (λ (g : Grammar). IsChosenOf g gs s 0 q t) same_w
+    (subst (λ (l : List Edge). IsChosenOf w l s 0 q t) same_e
+    (subst (λ (x : Ranking). IsChosenOf w es x 0 q t) same_r
+    (subst (λ n. IsChosenOf w es r n q t) same_k
+    (subst (λ n. IsChosenOf w es r k n t) same_p d))))
 
 all_as : (w v : Grammar) (es gs : List Edge) (r s : Ranking) (k p q : ℕ) (ts : List Tree) → w ≡ v → es ≡ gs → r ≡ s → k ≡ 0 → p ≡ q
-    → IsAll w (Held es) (rank_order w r) (slot_of (slice_index_or w.starts k 0)) 0 p ts → IsAll v (Held gs) (rank_order v s) (slot_of (slice_index_or v.starts 0 0)) 0 q ts
+    → AreChosen w (Held es) r (slot_of (slice_index_or w.starts k 0)) 0 p ts → AreChosen v (Held gs) s (slot_of (slice_index_or v.starts 0 0)) 0 q ts
 all_as w v es gs r s k p q ts same_w same_e same_r same_k same_p d =
-    subst (λ (g : Grammar). IsAll g (Held gs) (rank_order g s) (slot_of (slice_index_or g.starts 0 0)) 0 q ts) same_w
-    (subst (λ (l : List Edge). IsAll w (Held l) (rank_order w s) (slot_of (slice_index_or w.starts 0 0)) 0 q ts) same_e
-    (subst (λ (x : Ranking). IsAll w (Held es) (rank_order w x) (slot_of (slice_index_or w.starts 0 0)) 0 q ts) same_r
-    (subst (λ n. IsAll w (Held es) (rank_order w r) (slot_of (slice_index_or w.starts n 0)) 0 q ts) same_k
-    (subst (λ n. IsAll w (Held es) (rank_order w r) (slot_of (slice_index_or w.starts k 0)) 0 n ts) same_p d))))
+    subst (λ (g : Grammar). AreChosen g (Held gs) s (slot_of (slice_index_or g.starts 0 0)) 0 q ts) same_w
+    (subst (λ (l : List Edge). AreChosen w (Held l) s (slot_of (slice_index_or w.starts 0 0)) 0 q ts) same_e
+    (subst (λ (x : Ranking). AreChosen w (Held es) x (slot_of (slice_index_or w.starts 0 0)) 0 q ts) same_r
+    (subst (λ n. AreChosen w (Held es) r (slot_of (slice_index_or w.starts n 0)) 0 q ts) same_k
+    (subst (λ n. AreChosen w (Held es) r (slot_of (slice_index_or w.starts k 0)) 0 n ts) same_p d))))
 
 -- WHERE THE FOREST IS BUILT
 
@@ -102,7 +114,7 @@ module _ (b : Built) (ranking : Ranking) (cs : List ℕ) (recce : Recognizer) (s
         };
         ranking_is = ranked;
         tree = some.0;
-        derives = derives_as f.written b.g1 f.edges (edges_of read.pieces) f.start f.place (place_after read.pieces) some.0 (written ∙ same) edges_are start_is place_is some.1;
+        chosen = chosen_as f.written b.g1 f.edges (edges_of read.pieces) f.ranking ranking f.start f.place (place_after read.pieces) some.0 (written ∙ same) edges_are ranked start_is place_is some.1;
       }
 
   -- no tree, no derivation
@@ -127,11 +139,19 @@ module _ (b : Built) (ranking : Ranking) (cs : List ℕ) (recce : Recognizer) (s
   no_derivation law checked is none text place expected are told where_is = record {
     pieces = read.pieces;
     reading = read.is_reading;
-    none = record { sorted = none_sorted; each = λ t. (λ among. absurd (no_element t among), λ d. absurd (none_derived law checked is none t d)) };
+    none = record { sorted = none_sorted; each = λ t. (λ among. absurd (no_element t among), λ (d, c). absurd (none_derived law checked is none t d)) };
     are = are read.pieces read.holds;
     told = told;
     place_is = where_is;
   }
+
+-- the steps of a forest, by an equal grammar
+abbrev StepsWithin : Recognizer → Ranking → Grammar → (before after : ℕ) → Type 0
+StepsWithin recce ranking w before after =
+    (n : ℕ) → IsCountOf (IsExpanded recce.flat (held_edges recce) (allowed_by w ranking recce.flat (held_edges recce)) (held_top recce) (place_of recce)) n → after ≤ before + n
+
+pub steps_within : (recce : Recognizer) (ranking : Ranking) (w g : Grammar) (before after : ℕ) → w ≡ g → StepsWithin recce ranking w before after → StepsWithin recce ranking g before after
+steps_within recce ranking w g before after same within = subst (λ (x : Grammar). StepsWithin recce ranking x before after) same within
 
 -- WHAT THE FOREST LISTS
 

@@ -1,10 +1,12 @@
 -- What is known where a part of the way from bytes to what is read stops.
 use Rattle.std.specs.Prelude.{◌≡◌, ℕ, List, [], ◌∷◌, ◌++◌, Option, Some, None, map, codes, decimal, IsUtf8, slice_index_or}
 use Rattle.std.specs.Str.{IsValidUpTo}
-use Rattle.grammar_model.specs.Grammar.{slot_of}
+use Rattle.grammar_model.specs.Grammar.{Grammar, slot_of}
 use Rattle.grammar_model.specs.Trees.{Tree}
 use Rattle.grammar_model.specs.Derives.{Held, Derives}
+use Rattle.grammar_model.specs.declared.Edge.{Edge}
 use Rattle.grammar_model.specs.declared.Ranking.{Ranking}
+use Rattle.grammar_model.specs.Chosen.{IsChosen}
 use Rattle.grammar_core.specs.declared.steps.Span.{Span}
 use Rattle.earley_sets.specs.Recognizer.{Recognizer}
 use Rattle.language_model.specs.declared.token.Token.{Token}
@@ -84,10 +86,15 @@ HoldsSome b recce = (pieces : List Piece) × HoldsPieces b pieces recce
 abbrev pub AreExpectedOf : Built → Recognizer → List ℕ → Type 0
 AreExpectedOf b recce expected = (pieces : List Piece) → HoldsPieces b pieces recce → AreExpected b pieces expected
 
--- the forest of the characters' derivations, of which there is one
+-- a derivation of a start over all places that the ranking chooses
+abbrev pub IsChosenOf : Grammar → List Edge → Ranking → (start place : ℕ) → Tree → Type 0
+IsChosenOf g edges ranking start place t =
+    Derives g (Held edges) (slot_of (slice_index_or g.starts start 0)) 0 place t × IsChosen ranking g (Held edges) (slot_of (slice_index_or g.starts start 0)) t
+
+-- the forest of the characters' chosen derivations, of which there is one
 pub record HasForest (b : Built) (ranking : Ranking) (cs : List ℕ) (spans : List Span) (f : Forest) : Type 0 where
   pub pieces : List Piece
   pub of : IsForestOf b cs spans f pieces
   pub ranking_is : f.ranking ≡ ranking
   pub tree : Tree
-  pub derives : Derives b.g1 (Held (edges_of pieces)) (slot_of (slice_index_or b.g1.starts 0 0)) 0 (place_after pieces) tree
+  pub chosen : IsChosenOf b.g1 (edges_of pieces) ranking 0 (place_after pieces) tree
