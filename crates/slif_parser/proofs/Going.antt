@@ -1,6 +1,6 @@
 -- What holds of the derivations that an iterator gives, one after another.
-use Rattle.std.proofs.Common.{◌≡◌, ℕ, List, [], ◌∷◌, ◌++◌, Bool, true, false, Result, Ok, Err, length, refl, sym, ap, subst}
-use Rattle.std.specs.Prelude.{IfOk, OnErr, IfSome, IsFalse}
+use Rattle.std.proofs.Common.{◌≡◌, ℕ, ◌<◌, List, [], ◌∷◌, ◌++◌, Bool, true, false, Result, Ok, Err, length, refl, sym, ap, subst, arith}
+use Rattle.std.specs.Prelude.{IfOk, OnErr, IfSome, IsFalse, IsTrue}
 use Rattle.grammar_model.specs.Trees.{Tree}
 use Rattle.grammar_model.specs.Checked.{IsChecked}
 use Rattle.grammar_model.specs.Steps.{steps_of}
@@ -72,6 +72,18 @@ module _ (b : Built) (cs : List ℕ) (spans : List Span) (it : Iteration) (way :
   next_of : (given : List Tree) (more : Bool) → IsAnswer it given more → IsNext seen given more
   next_of given true answer = answer
   next_of given false answer = all_of given answer
+
+  -- the list of all is not empty
+  some_listed : IsListing it.forest [] → ⊥
+  some_listed l =
+      let all = listed b it.forest.ranking cs spans it.forest way.has [] l in
+      let (k, lt, e) = (all.each way.has.tree).1 way.has.chosen in
+      omega (arith, lt)
+
+  pub first_told : {E : Type 0} (r : Result Bool E) (old : Iteration) → AreGiven old [] → IfOk r (λ more. (given : List Tree) → AreGiven old given → IsAnswer it given more) → IfOk r IsTrue
+  first_told (Ok true) old none answer = refl
+  first_told (Ok false) old none answer = absurd (some_listed (answer [] none))
+  first_told (Err e) old none answer = answer
 
   pub next_told : {E : Type 0} (r : Result Bool E) (old : Iteration) → IfOk r (λ more. (given : List Tree) → AreGiven old given → IsAnswer it given more) →
       IfOk r (λ more. (given : List Tree) → AreGiven old given → IsNext seen given more)

@@ -1,5 +1,5 @@
 //! The derivations of an input, one after another.
-ghost use Rattle.std.specs.Prelude.{◌≡◌, ◌<◌, [], List, length, map, IfOk, IfErr, OnErr, IfSome, IsSome, IsFalse};
+ghost use Rattle.std.specs.Prelude.{◌≡◌, ◌<◌, [], List, length, map, IfOk, IfErr, OnErr, IfSome, IsSome, IsFalse, IsTrue};
 ghost use Rattle.grammar_model.specs.Trees.{Tree};
 ghost use Rattle.grammar_core.specs.Steps.{step_of};
 ghost use Rattle.tree_iter.specs.Iteration.{AreGiven, IsAnswer, between, begun};
@@ -75,6 +75,7 @@ impl<'f> Derivations<'f> {
     /// goes on. More than 2^64 - 1 derivations count as too many for memory.
     pub fn next(&mut self) -> Result<bool, NoMemory>
         ensures answer { IfOk result (λ more. (given : List Tree) → AreGiven self.old.iteration given → IsNext self.new given more) }
+        ensures first { AreGiven self.old.iteration [] → IfOk result IsTrue }
         ensures end { IfOk result (λ more. IsFalse more → self.new.iteration ≡ between self.old.iteration) }
         ensures read { self.new.read ≡ self.old.read }
         ensures forest { self.new.iteration.forest ≡ self.old.iteration.forest }

@@ -1,5 +1,6 @@
 -- What is told of a refused grammar is the text of the definition, with the place of its fault.
-use Rattle.std.proofs.Common.{◌≡◌, ◌∙◌, ℕ, ◌≤◌, ◌<◌, Bool, List, [], ◌∷◌, ◌++◌, Option, length, Some, None, IfSome, refl, sym, ap, subst, map, option_map, chars, codes}
+use Rattle.std.proofs.Common.{◌≡◌, ◌∙◌, ℕ, ◌≤◌, ◌<◌, Bool, List, [], ◌∷◌, ◌++◌, Option, Result, Ok, Err, length, Some, None, IfSome, refl, sym, ap, subst, map, option_map, chars, codes}
+use Rattle.std.specs.Prelude.{IfErr}
 use Rattle.std.specs.List.{flat_map}
 use Rattle.grammar_model.specs.Grammar.{Grammar}
 use Rattle.grammar_model.specs.Values.{name_of}
@@ -106,6 +107,10 @@ pub tells_weaker : (P Q : List ℕ → Option Place → Type 0) → ((t : List �
 tells_weaker P Q f (told.Grammar text place) tells = f text.items place tells
 tells_weaker P Q f (told.Input text place expected) tells = tells
 tells_weaker P Q f told.NoMemory tells = tells
+
+pub if_refused : {T : Type 0} (P Q : List ℕ → Option Place → Type 0) → ((t : List ℕ) (p : Option Place) → P t p → Q t p) → (r : Result T Refusal) → IfErr r (TellsGrammar P) → IfErr r (TellsGrammar Q)
+if_refused P Q f (Ok x) tells = tells
+if_refused P Q f (Err refusal) tells = tells_weaker P Q f refusal tells
 
 -- STEPS
 

@@ -1,16 +1,16 @@
 // The grammars of a text.
-ghost use Rattle.std.specs.Prelude.{◌≡◌, ◌≤◌, ◌<◌, IfOk, IfErr, OnOk, IsUtf8, chars as chars_in, length};
-ghost use Rattle.language_model.specs.Texts.{IsDescription, IsBuiltOf};
+ghost use Rattle.std.specs.Prelude.{◌≡◌, ◌≤◌, ◌<◌, IfOk, IfErr, OnOk, None, IsUtf8, chars as chars_in, length};
+ghost use Rattle.language_model.specs.Texts.{IsDescription, IsBuilt, IsBuiltOf};
 ghost use Rattle.reading_model.specs.Accepted.{IsAccepted};
 ghost use Rattle.run_model.specs.Refused.{Accepted};
 ghost use Rattle.text_reading.specs.Refusals.{TellsGrammar, IsRefusedAt};
-ghost use Rattle.text_reading.specs.Parts.{IsDescriptionOf, IsBadText, IsBadDescription};
+ghost use Rattle.text_reading.specs.Parts.{IsDescriptionOf, IsBadText, IsBadDescription, IsGrammarText};
 
 use crate::Refusal;
 use crate::phrases::{
     description_place, description_text, grammars_text, not_utf8_text, phrase, place_in,
 };
-use dsl_build::build;
+use dsl_build::{Built, build};
 use dsl_reader::{StatementRefusal, parse};
 use dsl_statement::Description;
 use dsl_tokens::{TokenRefusal, tokens};
@@ -106,16 +106,42 @@ fn accept(alloc: Global, chars: &Chars, description: &Description) -> Result<Pre
     ensures accepted { IfOk result IsAccepted }
     ensures refused { IfErr result (TellsGrammar (IsBadDescription chars.now description.now)) }
 {
-    let built = match build(alloc, description) {
-        Ok(built) => built,
+    match build_description(alloc, chars, description) {
+        Ok(built) => prepare_built(alloc, built),
+        Err(refusal) => Err(refusal),
+    }
+}
+
+// What a description is built to.
+fn build_description(
+    alloc: Global,
+    chars: &Chars,
+    description: &Description,
+) -> Result<Built, Refusal>
+    requires small { length chars.now < 4294967295 }
+    requires read { IsDescription description.now }
+    ensures built { IfOk result (λ b. IsBuiltOf description.now b) }
+    ensures refused { IfErr result (TellsGrammar (IsBadDescription chars.now description.now)) }
+{
+    match build(alloc, description) {
+        Ok(built) => Ok(built),
         Err(refusal) => {
             let text = description_text(alloc, chars, &refusal)?;
-            return Err(Refusal::Grammar {
+            Err(Refusal::Grammar {
                 text,
                 place: description_place(chars, &refusal),
-            });
+            })
         }
-    };
+    }
+}
+
+// The grammars that were built, where they are accepted.
+fn prepare_built(alloc: Global, built: Built) -> Result<Prepared, Refusal>
+    requires { IsBuilt built }
+    ensures same { IfOk result (λ p. p ≡ built) }
+    ensures accepted { OnOk result (IsAccepted built) }
+    ensures refused { IfErr result (TellsGrammar (λ text place. IsGrammarText built text × (place ≡ None))) }
+{
     match prepare(alloc, built) {
         Ok(prepared) => Ok(prepared),
         Err(refusal) => {
