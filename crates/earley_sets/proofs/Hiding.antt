@@ -22,7 +22,7 @@ use Rattle.earley_sets.specs.Closing.{Adds, Grows, IsReached, Seed}
 use Rattle.earley_sets.specs.Closing as closing
 use Rattle.earley_sets.specs.Scanning.{GoForward, AreReduced}
 use Rattle.earley_sets.specs.Loops.{IsClosedTo}
-use Rattle.earley_sets.specs.Hidden.{IsWholeFrom, IsSingleStep, IsStepped, Kept, Step, IsHiddenIn}
+use Rattle.earley_sets.specs.Hidden.{IsWholeFrom, IsSingleStep, NoneLeadsOn, IsStepped, Kept, Step, IsHiddenIn}
 use Rattle.earley_sets.proofs.Adding.{decide}
 use Rattle.earley_sets.proofs.Membership.{Contains-none}
 use Rattle.earley_sets.proofs.Growing.{Adds-begins, Adds-has}
@@ -135,6 +135,27 @@ module _ (g : FlatGrammar) (rows : List (List Item)) (are : AreRows g rows) (pla
         λ (s, none). elim (Contains-append_cases kept more item ((reached item).1 (from_stepped s))) [ inl k ↦ absurd (none ((whole item).0 k).0) | inr m ↦ m ],
       );
     }
+
+-- where no single step leads on from a whole item of the row, nothing is hidden
+module _ (g : FlatGrammar) (rows : List (List Item)) (place from : ℕ) where
+  pub none_more : (row : List Item) (k : ℕ) (x : Item) → slice_get row k ≡ Some x → NoneLeadsOn g rows place from (take k row) →
+      (IsWhole g x → from ≤ x.origin → (step : Item) → ¬ IsSingleStep g rows place from x step) → NoneLeadsOn g rows place from (take (k + 1) row)
+  none_more row k x e none here item step (h, w, le) s =
+      let (lt, same) = index_get row k x x e in
+      elim (Contains-push_cases (take k row) (get_or row k x) item (subst (λ l. Contains l item) (take_more row k x lt) h)) [
+        | inl o ↦ none item step (o, w, le) s
+        | inr is ↦ subst (λ z. IsWhole g z → from ≤ z.origin → (step : Item) → ¬ IsSingleStep g rows place from z step) (sym same ∙ is) here w le step s
+      ]
+
+  pub none_hidden : NoneLeadsOn g rows place from (row_at rows place) → IsListOf (IsHiddenIn g rows place from) []
+  none_hidden none = record {
+    once = λ i j d lt below e. absurd (omega arith);
+    exact = λ item. (λ h. absurd (Contains-none item h), λ (s, out). absurd (out (kept s).0));
+  }
+    where
+      kept : {item : Item} → IsStepped g rows place from item → IsWholeFrom g (row_at rows place) from item
+      kept (Kept w) = w
+      kept (Step {item = before} {other = other} s f) = absurd (none before other (kept s) f)
 
 -- over reduced sets these are the hidden items
 module _ (g : FlatGrammar) (edges : List HeldEdge) (top : ℕ) (is_top : IsTop g top) (forward : GoForward edges) (rows : List (List Item)) (are : AreRows g rows) (sets : AreReduced g edges top rows (length rows))

@@ -7,7 +7,7 @@ ghost use Rattle.recognizer_model.specs.Counts.{IsListOf};
 ghost use Rattle.item_rows.specs.Kept.{IsItem, AreItems, HasRows};
 ghost use Rattle.item_rows.specs.Rows.{row_at};
 ghost use Rattle.earley_sets.specs.Closing.{IsReached};
-ghost use Rattle.earley_sets.specs.Hidden.{IsWholeFrom, IsSingleStep, IsHiddenIn};
+ghost use Rattle.earley_sets.specs.Hidden.{IsWholeFrom, IsSingleStep, NoneLeadsOn, IsHiddenIn};
 
 use grammar_core::Flat;
 use indexmap::IndexSet;
@@ -66,6 +66,31 @@ fn single_step(flat: &Flat, rows: &Rows<'_>, place: u32, from: u32, item: Item) 
     }
 }
 
+// Whether a single step leads on from an item, if it is whole and begins at a place or behind it.
+fn leads_on(flat: &Flat, rows: &Rows<'_>, place: u32, from: u32, item: Item) -> bool
+    requires rows { HasRows flat.now rows.now }
+    requires place { place < length rows.now.sets }
+    requires item { IsItem flat.now item }
+    ensures { ¬ IsTrue result → IsWhole flat.now item → from ≤ item.origin → (step : TheItem) → ¬ IsSingleStep flat.now rows.now.sets place from item step }
+{
+    is_whole_from(flat, item, from) && single_step(flat, rows, place, from, item).is_some()
+}
+
+// Whether single steps lead on from an item of a row.
+fn some_leads_on(flat: &Flat, rows: &Rows<'_>, place: u32, from: u32) -> bool
+    requires rows { HasRows flat.now rows.now }
+    requires place { place < length rows.now.sets }
+    ensures { ¬ IsTrue result → NoneLeadsOn flat.now rows.now.sets place from (row_at rows.now.sets place) }
+{
+    let row = rows.row(place as usize);
+    for k in 0..row.len() {
+        if leads_on(flat, rows, place, from, row.at(k)) {
+            return true;
+        }
+    }
+    false
+}
+
 // Adds whatever single steps lead to.
 fn add_steps(
     flat: &Flat,
@@ -114,6 +139,9 @@ pub fn list_hidden(
     requires place { place < length rows.now.sets }
     ensures { IfOk result (λ items. IsListOf (IsHiddenIn flat.now rows.now.sets place from) items.items) }
 {
+    if !some_leads_on(flat, rows, place, from) {
+        return Ok(Vec::new(alloc));
+    }
     let mut set = IndexSet::new(alloc);
     put_whole(flat, &rows.row(place as usize), from, &mut set)?;
     let kept = set.len();

@@ -1,4 +1,4 @@
-use Rattle.std.proofs.Common.{◌≡◌, ◌≢◌, ◌↔◌, ◌∙◌, ◌++◌, List, drop, Contains, sym, ap, subst}
+use Rattle.std.proofs.Common.{◌≡◌, ◌≢◌, ◌↔◌, ◌∙◌, ◌++◌, List, drop, Contains, true≢false, sym, ap, subst}
 use Rattle.std.specs.List.{AllPairs}
 use Rattle.std.proofs.Math.Seq.{drop-append_seam}
 use Rattle.recognizer_model.specs.declared.Item.{Item}
@@ -8,8 +8,13 @@ use Rattle.earley_sets.specs.Closing.{IsReached}
 use Rattle.earley_sets.specs.Hidden.{IsSingleStep, IsHiddenIn}
 use Rattle.earley_sets.proofs.Adding.{all_differ}
 use Rattle.earley_sets.proofs.Cutting.{if_ok_weaker}
-use Rattle.earley_sets.proofs.Hiding.{AreWhole, hidden_listed}
+use Rattle.earley_sets.proofs.Hiding.{AreWhole, hidden_listed, none_hidden}
 use Rattle.earley_sets.proofs.hidden.list_hidden.Goals as goal
+
+pub returns-then-not-some_leads_on : goal.returns-then-not-some_leads_on
+returns-then-not-some_leads_on c =
+    subst (λ (l : List Item). IsListOf (IsHiddenIn c.args.flat.now c.args.rows.now.sets c.args.place c.args.from) l) (sym c.new.ensures.items)
+    (none_hidden c.args.flat.now c.args.rows.now.sets c.args.place c.args.from (c.some_leads_on.ensures (λ t. true≢false (sym t ∙ c.if-not-some_leads_on.true))))
 
 pub put_whole-requires-clause-items : goal.put_whole-requires-clause-items
 put_whole-requires-clause-items c = subst (AreItems c.args.flat.now) (sym c.row.ensures) (c.requires.rows.are c.args.place).items
