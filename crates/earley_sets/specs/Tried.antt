@@ -8,7 +8,7 @@ use Rattle.recognizer_model.specs.Items.{after, IsWhole}
 use Rattle.recognizer_model.specs.Links.{Link, Predicts, Skips, Scans, Completes, Leaps}
 use Rattle.item_rows.specs.Rows.{row_at}
 use Rattle.leo_items.specs.ByRows.{IsNotLeoIn, LeadsIn}
-use Rattle.earley_sets.specs.Begun.{IsBegun}
+use Rattle.earley_sets.specs.Begun.{AreAwaited}
 
 -- the number rises by one for each of some different values with the property
 pub record RisesBy {A : Type 0} (P : A → Type 0) (old new : ℕ) : Type 0 where
@@ -51,6 +51,10 @@ MakesLink g rows place item (Leaps whole) = (whole ≡ item) × IsWhole g item �
 abbrev pub MakesOne : FlatGrammar → (rows : List (List Item)) → (place : ℕ) → List Item → Link → Type 0
 MakesOne g rows place items link = (item : Item) × Contains items item × MakesLink g rows place item link
 
+-- an edge to the place makes the link, or an item of the kernel
+abbrev pub MakesKernel : FlatGrammar → (rows : List (List Item)) → (place : ℕ) → List HeldEdge → List Item → Link → Type 0
+MakesKernel g rows place edges items link = MakesScan g rows place edges link ⊎ MakesOne g rows place items link
+
 -- the links that an item makes that begins
 abbrev pub MakesLater : FlatGrammar → Item → Link → Type 0
 MakesLater g item (Predicts before r) = (before ≡ item) × ((x : ℕ) × (after g item ≡ Some x) × IsRule g r × (lhs_of g r ≡ x))
@@ -69,10 +73,6 @@ IsRuleOf g symbols r = IsRule g r × Contains symbols (lhs_of g r)
 abbrev pub TriesBegun : FlatGrammar → (symbols : List ℕ) → List Item → (old new : ℕ) → Type 0
 TriesBegun g symbols items old new = (mid : ℕ) × RisesBy (IsRuleOf g symbols) old mid × RisesBy (MakesOneLater g items) mid new
 
--- the same links at a place: those of one item for each symbol that is waited for, and those of what begins there
-abbrev pub MakesBegun : FlatGrammar → (place : ℕ) → List Item → Link → Type 0
-MakesBegun g place items (Predicts before r) = (Contains items before ⊎ IsBegun g place items before) × ((x : ℕ) × (after g before ≡ Some x) × IsRule g r × (lhs_of g r ≡ x))
-MakesBegun g place items (Skips before) = IsBegun g place items before × ((x : ℕ) × (after g before ≡ Some x) × IsNullable g x)
-MakesBegun g place items (Scans before from) = ⊥
-MakesBegun g place items (Completes whole waiting) = ⊥
-MakesBegun g place items (Leaps whole) = ⊥
+-- no step is needed where the list is there; else the tries that it takes to make it
+abbrev pub TriesList : FlatGrammar → List Item → (list : List Item) → (old new : ℕ) → Type 0
+TriesList g items list old new = (new ≡ old) ⊎ ((symbols : List ℕ) × AreAwaited g items symbols × TriesBegun g symbols list old new)

@@ -3,16 +3,13 @@ ghost use Rattle.std.specs.Prelude.{◌≡◌, ◌≢◌, ℕ, ◌<◌, ◌≤�
 ghost use Rattle.std.specs.List.{AllPairs};
 ghost use Rattle.recognizer_model.specs.declared.Item.{Item};
 ghost use Rattle.grammar_model.specs.declared.Edge.{Edge as HeldEdge};
-ghost use Rattle.grammar_model.specs.Derives.{Held};
 ghost use Rattle.recognizer_model.specs.Contexts.{IsTop};
-ghost use Rattle.recognizer_model.specs.FlatForm.{FlatEdges};
 ghost use Rattle.recognizer_model.specs.Items.{first_item};
-ghost use Rattle.recognizer_model.specs.Links.{IsLink};
 ghost use Rattle.leo_items.specs.ByRows.{IsMemo, NotesMore, AreNulled};
 ghost use Rattle.earley_sets.specs.Kept.{IsItem, AreItems, HasRows};
 ghost use Rattle.earley_sets.specs.Closing.{Adds, GoesOn, IsReached, Grows};
 ghost use Rattle.earley_sets.specs.Scanning.{IsScanned, IsScannedBy, IsSeed, IsKernel, GoForward, AreReduced};
-ghost use Rattle.earley_sets.specs.Tried.{RisesBy, AwaitsEdge, MakesScan, MakesOne};
+ghost use Rattle.earley_sets.specs.Tried.{RisesBy, AwaitsEdge, MakesScan, MakesOne, MakesKernel};
 
 use crate::follow::{list_completed, list_next};
 use grammar_core::{Flat, SymbolId, TokenEdges};
@@ -226,7 +223,7 @@ pub fn make_kernel<L: Ledger>(
     ensures memo { NotesMore flat.now rows.now.sets memo.old memo.new }
     ensures kernel { OnOk result (IsKernel flat.now rows.now.sets top place edges.now work.new.set.keys) }
     ensures counted { OnOk result (0 < place →
-        RisesBy (IsLink flat.now (FlatEdges flat.now (Held edges.now)) top place) (steps.old + length memo.new) (steps.new + length memo.old)) }
+        RisesBy (MakesKernel flat.now rows.now.sets place edges.now work.new.set.keys) (steps.old + length memo.new) (steps.new + length memo.old)) }
 {
     list_seeds(
         flat,

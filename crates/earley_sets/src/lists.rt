@@ -1,11 +1,11 @@
 //! Lists of what begins, which sets share. Each is made once, and found again by the symbols that are awaited.
-ghost use Rattle.std.specs.Prelude.{◌≡◌, ◌≢◌, ℕ, ◌<◌, ◌⊎◌, List, length, IfSome, IfOk, OnOk, Contains};
+ghost use Rattle.std.specs.Prelude.{◌≡◌, ◌≢◌, ℕ, ◌<◌, ◌⊎◌, List, [], length, IfSome, IfOk, Contains};
 ghost use Rattle.std.specs.List.{AllPairs};
 ghost use Rattle.item_rows.specs.Rows.{shared_at};
 ghost use Rattle.item_rows.specs.Kept.{AreItems, IsAwaited};
 ghost use Rattle.earley_sets.specs.Heads.{AreHeads};
 ghost use Rattle.earley_sets.specs.Begun.{AreBegun, IsNoted, AreLists, KeepsSets};
-ghost use Rattle.earley_sets.specs.Tried.{RisesBy, TriesBegun, MakesBegun};
+ghost use Rattle.earley_sets.specs.Tried.{TriesBegun, TriesList};
 
 use crate::awaited::list_awaited;
 use crate::begun::fill_begun;
@@ -106,7 +106,7 @@ pub fn find_list<L: Ledger>(
     ensures lists { AreLists flat.now rows.new.shared lists.new.numbers.entries }
     ensures there { IfOk result (λ number. number < length rows.new.shared) }
     ensures begun { IfOk result (λ number. AreBegun flat.now (IsAwaited flat.now items.now) (shared_at rows.new.shared number)) }
-    ensures counted { OnOk result (RisesBy (MakesBegun flat.now (length rows.old.sets) items.now) steps.old steps.new) }
+    ensures tried { IfOk result (λ number. TriesList flat.now items.now (shared_at rows.new.shared number) steps.old steps.new) }
 {
     list_awaited(flat, heads, items, &mut lists.symbols)?;
     if lists.symbols.is_empty() {
