@@ -23,8 +23,8 @@ IsBegunAt list place item = (item.origin ≡ place) × Contains list (record ite
 abbrev pub with_row : ItemRows → List Item → ItemRows
 with_row rows row = record rows { sets = rows.sets ++ row ∷ [] }
 
-abbrev pub packed_at : List (List ℕ) → ℕ → List ℕ
-packed_at rows i = slice_index_or rows i []
+abbrev pub list_at : {A : Type 0} → List (List A) → ℕ → List A
+list_at lists i = slice_index_or lists i []
 
 abbrev pub cut : {A : Type 0} → ℕ → List ℕ → List A → List (List A)
 cut from [] items = []

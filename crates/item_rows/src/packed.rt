@@ -8,6 +8,7 @@ ghost use Rattle.item_rows.specs.Kept.{AreItems, IsAwaited};
 ghost use Rattle.item_rows.specs.Dotted.{unpacked, IsPackedRow, AreDotted, IsRowOfParts, row_items, Rises};
 
 use crate::dotted::{DottedRules, Span, begin, unpack};
+use crate::parts::between;
 use recognizer_model::Item;
 use std::alloc::{AllocError, AllocFailed};
 use std::marker::Model;
@@ -133,14 +134,6 @@ fn count_before(begun: &[u32], bound: u32) -> usize
     ensures above { (k : ℕ) → result ≤ k → k < length begun.now → bound ≤ slice_index begun.now k }
 {
     begun.partition_point(|k| *k < bound)
-}
-
-fn between<T>(items: &[T], start: usize, end: usize) -> &[T]
-    requires order { start ≤ end }
-    requires bound { end ≤ length items.now }
-    ensures { result.now ≡ take (end - start) (drop start items.now) }
-{
-    &items[start..end]
 }
 
 // The packed items whose dotted rules are of a span.

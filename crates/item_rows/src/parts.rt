@@ -1,6 +1,6 @@
 //! Lists that are kept end to end.
 ghost use Rattle.std.specs.Prelude.{◌≡◌, ℕ, List, ◌<◌, ◌≤◌, ◌-◌, ◌+◌, ◌++◌, ◌∷◌, [], length, map, sum, take, drop, slice_index_or, IfOk, OnOk, OnErr};
-ghost use Rattle.item_rows.specs.Rows.{AreEnds, last_end, cut};
+ghost use Rattle.item_rows.specs.Rows.{list_at, last_end};
 
 use std::alloc::{AllocError, Global};
 use std::marker::Model;
@@ -42,7 +42,7 @@ impl<T: Copy> Parts<T> {
     /// A list, by its number.
     pub fn at(&self, j: usize) -> &[T]
         requires { j < length self.now }
-        ensures { result.now ≡ slice_index_or self.now j [] }
+        ensures { result.now ≡ list_at self.now j }
     {
         let start = end_before(&self.ends, j);
         let end = end_of(&self.ends, j);
@@ -116,7 +116,8 @@ fn last(ends: &[u32]) -> u32
     if count == 0 { 0 } else { ends[count - 1] }
 }
 
-fn between<T>(items: &[T], start: usize, end: usize) -> &[T]
+/// The items from one place up to another.
+pub fn between<T>(items: &[T], start: usize, end: usize) -> &[T]
     requires order { start ≤ end }
     requires bound { end ≤ length items.now }
     ensures { result.now ≡ take (end - start) (drop start items.now) }

@@ -9,7 +9,7 @@ ghost use Rattle.item_rows.specs.Held.{shared_by};
 ghost use Rattle.item_rows.specs.Kept.{AreItems, IsAwaited};
 
 use crate::dotted::DottedRules;
-use crate::packed::{KeptRow, Row, contains, is_awaited, list_dotted, pack_row, row_of, waiting};
+use crate::packed::{Row, contains, is_awaited, list_dotted, pack_row, row_of, waiting};
 use crate::parts::Parts;
 use grammar_core::Flat;
 use recognizer_model::Item;
