@@ -78,6 +78,17 @@ pub row_between : {A : Type 0} (ends : List ℕ) (xs : List A) → AreEnds 0 end
 row_between ends xs h j lt start end s e =
     subst (λ z. IsRowAt z end xs (list_at (cut 0 ends xs) j)) (sym s) (subst (λ z. IsRowAt (get_or (0 ∷ ends) j 0) z xs (list_at (cut 0 ends xs) j)) (sym e) (cut_at 0 ends xs h j lt))
 
+-- the same of lists that are equal to these
+module _ {A : Type 0} (ends : List ℕ) (xs : List A) (h : AreEnds 0 ends (length xs)) (lists : List (List A)) (is : cut 0 ends xs ≡ lists) (j : ℕ) (lt : j < length lists) where
+  pub in_ends : (ends' : List ℕ) → ends' ≡ ends → j < length ends'
+  in_ends ends' e = let l = cut_length 0 ends xs in let v = ap (λ (z : List (List A)). length z) is in let d = ap (λ (z : List ℕ). length z) e in omega arith
+
+  pub row_here : (first second : List ℕ) (xs' : List A) → first ≡ ends → second ≡ ends → xs' ≡ xs → (start end : ℕ) → start ≡ get_or (0 ∷ first) j 0 → end ≡ get_or second j 0 → IsRowAt start end xs' (list_at lists j)
+  row_here first second xs' f s x start end a b =
+      subst (λ l. IsRowAt start end xs' (list_at l j)) is
+      (subst (λ z. IsRowAt start end z (list_at (cut 0 ends xs) j)) (sym x)
+      (row_between ends xs h j (in_ends ends refl) start end (a ∙ ap (λ l. get_or (0 ∷ l) j 0) f) (b ∙ ap (λ l. get_or l j 0) s)))
+
 last_get : (s : ℕ) (ends : List ℕ) → get_or (s ∷ ends) (length ends) 0 ≡ last_end s ends
 last_get s [] = refl
 last_get s (e ∷ es) = last_get e es

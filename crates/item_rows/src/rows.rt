@@ -172,7 +172,7 @@ impl<'g> Rows<'g> {
 // The list that a row shares.
 fn list_of<'r>(lists: &'r Parts<u32>, begun: &[u32], j: usize) -> &'r [u32]
     requires place { j < length begun.now }
-    requires known { slice_index_or begun.now j 0 < length lists.now }
+    requires known { (k : ℕ) → k ≤ j → slice_index_or begun.now k 0 < length lists.now }
     ensures { result.now ≡ shared_by lists.now begun.now j }
 {
     lists.at(begun[j] as usize)
