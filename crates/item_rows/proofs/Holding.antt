@@ -63,6 +63,27 @@ module _ (rules : List Item) (lists : List (List ℕ)) (begun : List ℕ) where
       (λ j lt. subst (λ q. shared_by lists' begun' q ≡ shared_by lists begun q) (let e : p + suc j ≡ suc p + j = omega arith in e) (same (suc j) (omega arith))) in
       λ i. row_items rules p k (z i) ∷ rest i
 
+-- a row of different items, and of a list that begins at its place
+module _ (rules : List Item) (differ : DifferInDots rules) (zero : (k : ℕ) → k < length rules → (dotted_at rules k).origin ≡ 0)
+    (items : List Item) (packed : List ℕ) (is : IsPackedRow (length rules) packed) (same : IsListOf (Contains items) (map (unpacked rules) packed))
+    (place : ℕ) (list : List ℕ) (dotted : AreDotted (length rules) list) (shared : List Item) (shared_is : map (dotted_at rules) list ≡ shared)
+    (apart : (item : Item) → Contains items item → ¬ IsBegunAt shared place item) where
+  told : (item : Item) → Contains (map (begun_at rules place) list) item ↔ IsBegunAt shared place item
+  told item = subst (λ l. Contains (map (begun_at rules place) list) item ↔ IsBegunAt l place item) shared_is (begun_told rules differ place zero list dotted item)
+
+  pushed_row : IsRowOfParts rules place packed list
+  pushed_row = record {
+    first = is;
+    second = dotted;
+    apart = λ n k a b e. apart (unpacked rules n) ((same.exact (unpacked rules n)).0 (map_has (unpacked rules) packed n a))
+        ((told (unpacked rules n)).0 (subst (Contains (map (begun_at rules place) list)) (sym e) (map_has (begun_at rules place) list k b)));
+  }
+
+  pushed_items : IsListOf (λ item. Contains items item ⊎ IsBegunAt shared place item) (row_items rules place packed list)
+  pushed_items =
+      join_lists (Contains items) (IsBegunAt shared place) (map (unpacked rules) packed) (map (begun_at rules place) list) same
+      (record { once = once_begun rules differ place list dotted; exact = told }) apart
+
 abbrev pub rows_over : FlatGrammar → (sets shared : List (List Item)) → ItemRows
 rows_over g sets shared = record { flat = g; sets = sets; shared = shared }
 
@@ -224,6 +245,22 @@ module _ (g : FlatGrammar) (rules : List Item) (lists : List (List ℕ)) (begun 
       pub seen_more : seen g rules lists begun' (kernels ++ packed ∷ []) ≡ with_row r (row_items rules (length kernels) packed (list_at lists number))
       seen_more = seen_as same_flat (rows_new ∙ ap (λ (s : List (List Item)). s ++ row_items rules (length kernels) packed (list_at lists number) ∷ []) same_sets) same_shared
 
+    -- the row that is put last
+    module _ (differ : DifferInDots rules) (zero : (k : ℕ) → k < length rules → (dotted_at rules k).origin ≡ 0) (items : List Item) (packed : List ℕ) (is_row : IsPackedRow (length rules) packed)
+        (same : IsListOf (Contains items) (map (unpacked rules) packed)) (number : ℕ) (lt : number < length r.shared) (apart : (item : Item) → Contains items item → ¬ IsBegunAt (shared_at r.shared number) (length r.sets) item) where
+      dotted : AreDotted (length rules) (list_at lists number)
+      dotted = held.dotted (list_at lists number) (number, in_lists number lt, index_any lists number (list_at lists number) [] (in_lists number lt))
+
+      pub row_pushed : IsRowOfParts rules (length kernels) packed (list_at lists number)
+      row_pushed =
+          subst (λ k. IsRowOfParts rules k packed (list_at lists number)) sets_length
+          (pushed_row rules differ zero items packed is_row same (length r.sets) (list_at lists number) dotted (shared_at r.shared number) (list_seen number lt) apart)
+
+      pub items_pushed : IsListOf (λ item. Contains items item ⊎ IsBegunAt (shared_at r.shared number) (length r.sets) item) (row_items rules (length kernels) packed (list_at lists number))
+      items_pushed =
+          subst (λ k. IsListOf (λ item. Contains items item ⊎ IsBegunAt (shared_at r.shared number) (length r.sets) item) (row_items rules k packed (list_at lists number))) sets_length
+          (pushed_items rules differ zero items packed is_row same (length r.sets) (list_at lists number) dotted (shared_at r.shared number) (list_seen number lt) apart)
+
     -- the first row alone
     module _ (some : 0 < length r.sets) where
       there : 0 < length kernels
@@ -258,27 +295,6 @@ module _ (g : FlatGrammar) (rules : List Item) (lists : List (List ℕ)) (begun 
 
       pub seen_first : seen g rules lists begun (take 1 kernels) ≡ record r { sets = row_at r.sets 0 ∷ [] }
       seen_first = seen_as same_flat rows_first same_shared
-
--- a row of different items, and of a list that begins at its place
-module _ (rules : List Item) (differ : DifferInDots rules) (zero : (k : ℕ) → k < length rules → (dotted_at rules k).origin ≡ 0)
-    (items : List Item) (packed : List ℕ) (is : IsPackedRow (length rules) packed) (same : IsListOf (Contains items) (map (unpacked rules) packed))
-    (place : ℕ) (list : List ℕ) (dotted : AreDotted (length rules) list) (shared : List Item) (shared_is : map (dotted_at rules) list ≡ shared)
-    (apart : (item : Item) → Contains items item → ¬ IsBegunAt shared place item) where
-  told : (item : Item) → Contains (map (begun_at rules place) list) item ↔ IsBegunAt shared place item
-  told item = subst (λ l. Contains (map (begun_at rules place) list) item ↔ IsBegunAt l place item) shared_is (begun_told rules differ place zero list dotted item)
-
-  pub pushed_row : IsRowOfParts rules place packed list
-  pushed_row = record {
-    first = is;
-    second = dotted;
-    apart = λ n k a b e. apart (unpacked rules n) ((same.exact (unpacked rules n)).0 (map_has (unpacked rules) packed n a))
-        ((told (unpacked rules n)).0 (subst (Contains (map (begun_at rules place) list)) (sym e) (map_has (begun_at rules place) list k b)));
-  }
-
-  pub pushed_items : IsListOf (λ item. Contains items item ⊎ IsBegunAt shared place item) (row_items rules place packed list)
-  pushed_items =
-      join_lists (Contains items) (IsBegunAt shared place) (map (unpacked rules) packed) (map (begun_at rules place) list) same
-      (record { once = once_begun rules differ place list dotted; exact = told }) apart
 
 -- no rows, and the empty list alone
 module _ (rules : List Item) where

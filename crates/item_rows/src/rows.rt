@@ -135,6 +135,7 @@ impl<'g> Rows<'g> {
         ensures ok { OnOk result ((list : List TheItem) × (self.new ≡ record self.old { shared = self.old.shared ++ list ∷ [] }) × IsListOf (Contains items.now) list) }
         ensures err { OnErr result (self.new ≡ self.old) }
     {
+        self.dotted.known();
         let number = self.lists.len();
         if number >= 4_294_967_296 {
             return Err(AllocError);
@@ -155,6 +156,7 @@ impl<'g> Rows<'g> {
             IsListOf (λ item. Contains items.now item ⊎ IsBegunAt (shared_at self.old.shared begun) (length self.old.sets) item) row) }
         ensures err { OnErr result (self.new ≡ self.old) }
     {
+        self.dotted.known();
         let place = self.kernels.len();
         if place >= 4_294_967_296 {
             return Err(AllocError);
