@@ -55,6 +55,10 @@ no_lists g lists notes one none = record {
   noted = λ symbols number (v, (k, lt, e), same). (let l = ap length none in absurd (omega (arith, l, lt)));
 }
 
+pub none_there : {A : Type 0} (xs : List A) → length xs ≡ 0 → xs ≡ []
+none_there [] e = refl
+none_there (x ∷ xs) e = absurd (omega (arith, e))
+
 got_first : (lists : List (List Item)) → slice_get lists 0 ≡ Some [] → (0 < length lists) × (shared_at lists 0 ≡ [])
 got_first [] e = absurd (cc)
 got_first (x ∷ xs) e = (omega arith, cc)

@@ -58,6 +58,12 @@ fn note(
     Ok(())
 }
 
+fn copy(symbols: &Vec<u32>) -> Result<Vec<u32>, AllocError>
+    ensures { IfOk result (λ copy. copy.items ≡ symbols.now.items) }
+{
+    symbols.clone()
+}
+
 // Makes the list of what begins where the symbols are awaited.
 fn make_list<L: Ledger>(
     flat: &Flat,
@@ -85,7 +91,8 @@ fn make_list<L: Ledger>(
         steps,
     )?;
     let number = rows.share(lists.set.as_slice())?;
-    note(&mut lists.numbers, lists.symbols.clone()?, number)?;
+    let symbols = copy(&lists.symbols)?;
+    note(&mut lists.numbers, symbols, number)?;
     Ok(number)
 }
 

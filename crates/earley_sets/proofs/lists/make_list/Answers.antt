@@ -23,20 +23,20 @@ share-requires-clause-once g c = subst (λ (l : List Item). AllPairs (λ x y. x 
 pub share-requires-clause-zero : goal.share-requires-clause-zero
 share-requires-clause-zero g c item h = (begins_item ((c.in_ok-fill_begun.ensures.begun item).0 (subst (λ (l : List Item). Contains l item) c.as_slice.ensures.keys h))).1
 
-pub returns-in_err-clone-clause-lists : goal.returns-in_err-clone-clause-lists
-returns-in_err-clone-clause-lists g c = shared_more c.args.flat.now c.args.rows.now c.share.new.self c.as_slice.result.now c.in_ok-number.ensures.ok c.args.lists.now.numbers.entries c.requires.lists
+pub returns-in_err-symbols-clause-lists : goal.returns-in_err-symbols-clause-lists
+returns-in_err-symbols-clause-lists g c = shared_more c.args.flat.now c.args.rows.now c.share.new.self c.as_slice.result.now c.in_ok-number.ensures.ok c.args.lists.now.numbers.entries c.requires.lists
 
 pub returns-in_err-note-clause-lists : goal.returns-in_err-note-clause-lists
 returns-in_err-note-clause-lists g c =
-    shared_noted c.args.flat.now c.args.rows.now c.share.new.self c.as_slice.result.now c.in_ok-number.ensures.ok c.in_ok-number.number c.in_ok-number.ensures.number c.args.lists.now.numbers.entries c.note.new.numbers.entries c.requires.lists c.args.lists.now.symbols.items c.in_ok-clone.field-0.items
+    shared_noted c.args.flat.now c.args.rows.now c.share.new.self c.as_slice.result.now c.in_ok-number.ensures.ok c.in_ok-number.number c.in_ok-number.ensures.number c.args.lists.now.numbers.entries c.note.new.numbers.entries c.requires.lists c.args.lists.now.symbols.items c.in_ok-symbols.symbols.items
     (subst (λ l. AreBegun c.args.flat.now (Contains l) c.as_slice.result.now) c.deref.ensures.value (subst (λ (l : List Item). AreBegun c.args.flat.now (Contains c.deref.result.now) l) (sym c.as_slice.ensures.keys) c.in_ok-fill_begun.ensures.begun))
-    ? c.note.ensures
+    c.in_ok-symbols.ensures c.note.ensures
 
 pub returns-clause-lists : goal.returns-clause-lists
 returns-clause-lists g c =
-    shared_noted c.args.flat.now c.args.rows.now c.share.new.self c.as_slice.result.now c.in_ok-number.ensures.ok c.in_ok-number.number c.in_ok-number.ensures.number c.args.lists.now.numbers.entries c.note.new.numbers.entries c.requires.lists c.args.lists.now.symbols.items c.in_ok-clone.field-0.items
+    shared_noted c.args.flat.now c.args.rows.now c.share.new.self c.as_slice.result.now c.in_ok-number.ensures.ok c.in_ok-number.number c.in_ok-number.ensures.number c.args.lists.now.numbers.entries c.note.new.numbers.entries c.requires.lists c.args.lists.now.symbols.items c.in_ok-symbols.symbols.items
     (subst (λ l. AreBegun c.args.flat.now (Contains l) c.as_slice.result.now) c.deref.ensures.value (subst (λ (l : List Item). AreBegun c.args.flat.now (Contains c.deref.result.now) l) (sym c.as_slice.ensures.keys) c.in_ok-fill_begun.ensures.begun))
-    ? c.note.ensures
+    c.in_ok-symbols.ensures c.note.ensures
 
 pub returns-clause-begun : goal.returns-clause-begun
 returns-clause-begun g c =
