@@ -42,8 +42,8 @@ lists_noted g lists old new symbols number are lt begun split = record {
   noted = λ list n h. elim (split list n h) [
     | inl o ↦ are.noted list n o
     | inr (same, e) ↦ (
-        (omega (arith, lt, e)),
-        subst (λ l. AreBegun g (Contains l) (shared_at lists n)) (sym same) (subst (λ k. AreBegun g (Contains symbols) (shared_at lists k)) (sym e) begun),
+      (omega (arith, lt, e)),
+      subst (λ l. AreBegun g (Contains l) (shared_at lists n)) (sym same) (subst (λ k. AreBegun g (Contains symbols) (shared_at lists k)) (sym e) begun),
     )
   ];
 }

@@ -142,9 +142,7 @@ fn add_first<L: Ledger>(
     ensures memo { memo.new ≡ [] }
 {
     let mut steps = Steps::<L>::of_blank(blank);
-    add_row(
-        flat, heads, top, rows, lists, memo, edges, work, &mut steps,
-    )
+    add_row(flat, heads, top, rows, lists, memo, edges, work, &mut steps)
 }
 
 /// Why an alternative is not taken. Of several reasons the first in this order is told, but want of memory may come at any point.

@@ -21,8 +21,8 @@ returns-clause-kernel g c =
     (λ h. record {
       seeds = c.refill.new.set.keys;
       are = λ item. (
-          λ n. (c.in_ok-list_seeds.ensures.listed item).0 (subst (λ (l : List Item). Contains l item) c.deref.ensures.value ((c.in_ok-refill.ensures.same item).0 n)),
-          λ n. (c.in_ok-refill.ensures.same item).1 (subst (λ (l : List Item). Contains l item) (sym c.deref.ensures.value) ((c.in_ok-list_seeds.ensures.listed item).1 n)),
+        λ n. (c.in_ok-list_seeds.ensures.listed item).0 (subst (λ (l : List Item). Contains l item) c.deref.ensures.value ((c.in_ok-refill.ensures.same item).0 n)),
+        λ n. (c.in_ok-refill.ensures.same item).1 (subst (λ (l : List Item). Contains l item) (sym c.deref.ensures.value) ((c.in_ok-list_seeds.ensures.listed item).1 n)),
       );
       exact = h;
     })

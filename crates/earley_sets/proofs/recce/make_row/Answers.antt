@@ -46,8 +46,7 @@ returns-clause-ok g c =
     c.as_slice-kernel.result.now (subst (IsKernel c.args.flat.now c.args.rows.now.sets c.args.top c.len-place.result c.args.edges.now) (sym c.as_slice-kernel.ensures.keys) c.in_ok-make_kernel.ensures.kernel)
     (shared_at c.find_list.new.rows.shared c.in_ok-begun.begun) c.in_ok-begun.ensures.begun row
     (subst (λ n. IsListOf (λ item. Contains c.as_slice-kernel.result.now item ⊎ IsBegunAt (shared_at c.find_list.new.rows.shared c.in_ok-begun.begun) n item) row)
-    (sym (c.len-place.ensures ∙ sym (ap (λ (l : List (List Item)). length l) c.find_list.ensures.kept.sets))) lists) in
-    (
+    (sym (c.len-place.ensures ∙ sym (ap (λ (l : List (List Item)). length l) c.find_list.ensures.kept.sets))) lists) in (
       row,
       ap (λ (r : ItemRows). r.sets) same ∙ ap (λ (l : List (List Item)). l ++ row ∷ []) c.find_list.ensures.kept.sets,
       subst (λ n. IsRowOf c.args.flat.now n row) c.len-place.ensures made.0,
