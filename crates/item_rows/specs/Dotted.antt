@@ -1,5 +1,5 @@
 -- Items packed into numbers: the number of a dotted rule in the order of rows, and an origin.
-use Rattle.std.specs.Prelude.{◌≡◌, ℕ, ◌+◌, ◌/◌, ◌%◌, ◌<◌, ◌≤◌, ◌^◌, ◌↔◌, List, length, Some, slice_get, slice_index_or, Contains}
+use Rattle.std.specs.Prelude.{◌≡◌, ◌≢◌, ℕ, ◌+◌, ◌/◌, ◌%◌, ◌++◌, ◌<◌, ◌≤◌, ◌^◌, ◌↔◌, List, length, map, Some, slice_get, slice_index_or, Contains}
 use Rattle.std.specs.List.{AllPairs}
 use Rattle.recognizer_model.specs.declared.Item.{Item}
 use Rattle.recognizer_model.specs.Flat.{FlatGrammar, rhs_of}
@@ -33,8 +33,24 @@ pub record IsPackedRow (count : ℕ) (row : List ℕ) : Type 0 where
   pub rises : Rises row
   pub within : (n : ℕ) → Contains row n → n / 4294967296 < count
 
-abbrev pub ArePackedRows : (count : ℕ) → List (List ℕ) → Type 0
-ArePackedRows count rows = (row : List ℕ) → Contains rows row → IsPackedRow count row
+-- numbers of dotted rules in order, each once, of so many
+pub record AreDotted (count : ℕ) (numbers : List ℕ) : Type 0 where
+  pub rises : Rises numbers
+  pub within : (k : ℕ) → Contains numbers k → k < count
+
+-- the dotted rule of that number, begun at the place
+abbrev pub begun_at : List Item → (place : ℕ) → ℕ → Item
+begun_at rules place k = record (dotted_at rules k) { origin = place }
+
+-- the items that are packed, and the dotted rules that begin at the place
+abbrev pub row_items : List Item → (place : ℕ) → (packed begun : List ℕ) → List Item
+row_items rules place packed begun = map (unpacked rules) packed ++ map (begun_at rules place) begun
+
+-- no item stands in both parts
+pub record IsRowOfParts (rules : List Item) (place : ℕ) (packed begun : List ℕ) : Type 0 where
+  pub first : IsPackedRow (length rules) packed
+  pub second : AreDotted (length rules) begun
+  pub apart : (n k : ℕ) → Contains packed n → Contains begun k → unpacked rules n ≢ begun_at rules place k
 
 -- dotted rules with different numbers are different
 abbrev pub DifferInDots : List Item → Type 0

@@ -5,7 +5,7 @@ ghost use Rattle.recognizer_model.specs.declared.Item.{Item as TheItem};
 ghost use Rattle.recognizer_model.specs.Flat.{IsRule, rhs_of};
 ghost use Rattle.item_rows.specs.Order.{IsInOrder};
 ghost use Rattle.item_rows.specs.Kept.{IsItem};
-ghost use Rattle.item_rows.specs.Dotted.{AddsDots, AreListed, AreNumbers, IsSpan, AreSpans, IsTable, IsPacked, DifferInDots, unpacked};
+ghost use Rattle.item_rows.specs.Dotted.{AddsDots, AreListed, AreNumbers, IsSpan, AreSpans, IsTable, IsPacked, DifferInDots, dotted_at, begun_at, unpacked};
 
 use crate::order::{below, list_sorted, number_of};
 use grammar_core::Flat;
@@ -178,6 +178,19 @@ pub fn unpack(rules: &[Item], packed: u64) -> Item
     }
 }
 
+/// The item with the dotted rule of that number that begins at a place.
+pub fn begin(rules: &[Item], number: u32, place: u32) -> Item
+    requires { number < length rules.now }
+    ensures { result ≡ begun_at rules.now place number }
+{
+    let dotted = rules[number as usize];
+    Item {
+        rule: dotted.rule,
+        dot: dotted.dot,
+        origin: place,
+    }
+}
+
 // The number that stands for a rule and a dot, if there is one.
 fn find_number(firsts: &[u32], numbers: &[u32], item: Item) -> Option<u32>
     ensures { (first : ℕ) → slice_get firsts.now item.rule ≡ Some first → result ≡ slice_get numbers.now (first + item.dot) }
@@ -222,7 +235,9 @@ impl<'g> DottedRules<'g> {
 
     /// States what is always so of dotted rules.
     pub fn known(&self)
-        ensures { DifferInDots self.now.rules }
+        ensures differ { DifferInDots self.now.rules }
+        ensures few { length self.now.rules < 2 ^ 32 }
+        ensures zero { (k : ℕ) → k < length self.now.rules → (dotted_at self.now.rules k).origin ≡ 0 }
     {
         let _count = self.rules.len();
     }
