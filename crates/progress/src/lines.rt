@@ -8,7 +8,8 @@ ghost use Rattle.recognizer_model.specs.Flat.{IsRule};
 ghost use Rattle.recognizer_model.specs.Items.{InSet};
 ghost use Rattle.recognizer_model.specs.FlatForm.{IsFlatOf};
 ghost use Rattle.recognizer_model.specs.Report.{IsLine, line_of as line_of_item, written_dot as dot_by};
-ghost use Rattle.report_model.specs.Report.{IsReport, line_cmp};
+ghost use Rattle.report_model.specs.Report.{line_cmp};
+ghost use Rattle.report_model.specs.FlatReport.{IsFlatReport};
 ghost use Rattle.earley_sets.specs.Recognizer.{IsRecognizer, edges_of, place_of, top_of};
 ghost use Rattle.progress.specs.declared.refusal.ProgressRefusal.TheVariants.{NoSuchSet};
 
@@ -114,7 +115,7 @@ pub fn report(
     j: u32,
 ) -> Result<Vec<ReportLine>, ProgressRefusal>
     requires { IsFlatOf recce.now.flat w.now }
-    ensures report { IfOk result (λ lines. IsReport w.now recce.now.edges recce.now.start j lines.items) }
+    ensures report { IfOk result (λ lines. IsFlatReport w.now recce.now.flat recce.now.edges recce.now.start j lines.items) }
     ensures no_such_set { (result ≡ Err NoSuchSet) ↔ (place_of recce.now < j) }
 {
     if j > recce.place() {

@@ -20,6 +20,7 @@ use Rattle.grammar_laws.specs.Laws.{GoForward}
 use Rattle.grammar_laws.specs.Applied.{tokens}
 use Rattle.grammar_laws.proofs.ItemSets.{item_sets_exist}
 use Rattle.report_model.specs.Report.{line_cmp}
+use Rattle.report_laws.proofs.Flat.{report_of_flat}
 use Rattle.report_laws.specs.Laws.{ReportsExist, ReportsApply}
 use Rattle.report_model.proofs.Order.{lines_total, line_three}
 
@@ -59,11 +60,12 @@ placed w f edges top place forward =
     )
 
 pub reports_exist : ReportsExist
-reports_exist w f edges start place is_flat form forward lt =
+reports_exist w f edges start place is_flat form checked forward lt =
     let top = slice_index_or f.tops start 0 in
     let count = form.tops_all in
+    let top_is = index_get f.tops start 0 (omega (arith, lt, count)) in
     let (lines, s, exact) = placed w f edges top place forward in
-    (lines, record { flat = f; is_flat = is_flat; form = form; top = top; top_is = index_get f.tops start 0 (omega (arith, lt, count)); sorted = s; exact = exact })
+    (lines, report_of_flat w f edges start place lines is_flat form checked forward (record { top = top; top_is = top_is; sorted = s; exact = exact }))
 
 -- ---- a list of two, behind its first item and the separator
 
@@ -99,6 +101,6 @@ pub reports_apply : ReportsApply
 reports_apply =
     let (lines, s, exact) = placed lists flat_lists tokens 13 2 forward in (
       lines,
-      record { flat = flat_lists; is_flat = lists_have_flat_grammar.flat; form = lists_have_flat_grammar.made; top = 13; top_is = refl; sorted = s; exact = exact },
+      report_of_flat lists flat_lists tokens 0 2 lines lists_have_flat_grammar.flat lists_have_flat_grammar.made lists_have_flat_grammar.checked forward (record { top = 13; top_is = refl; sorted = s; exact = exact }),
       (exact (record { rule = 1; dot = 2; origin = 0 })).1 (record { rule = 2; dot = 2; origin = 0 }, separated, refl),
     )

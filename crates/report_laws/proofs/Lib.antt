@@ -1,2 +1,6 @@
+mod Rounds
+mod FromItems
+mod ToItems
+pub mod Flat
 pub mod One
 pub mod Existing

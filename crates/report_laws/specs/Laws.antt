@@ -1,8 +1,9 @@
--- Laws of reports: each place of a recognizer has exactly one.
-use Rattle.std.specs.Prelude.{◌≡◌, ℕ, ◌<◌, List, length, Contains}
+-- Laws of reports: each place of a recognizer has exactly one, and it tells the item set of the place.
+use Rattle.std.specs.Prelude.{◌≡◌, ℕ, ◌<◌, ◌↔◌, List, length, Contains}
 use Rattle.grammar_model.specs.Grammar.{Grammar}
 use Rattle.grammar_model.specs.Derives.{Held}
 use Rattle.grammar_model.specs.declared.Edge.{Edge}
+use Rattle.grammar_model.specs.Checked.{IsChecked}
 use Rattle.recognizer_model.specs.declared.ReportLine.{ReportLine}
 use Rattle.recognizer_model.specs.Flat.{FlatGrammar}
 use Rattle.recognizer_model.specs.FlatForm.{IsFlatOf}
@@ -11,15 +12,19 @@ use Rattle.grammar_laws.specs.Laws.{GoForward}
 use Rattle.flat_model.specs.Lists.{lists}
 use Rattle.grammar_laws.specs.Applied.{tokens}
 use Rattle.report_model.specs.Report.{IsReport}
+use Rattle.report_model.specs.FlatReport.{IsFlatReport}
 
--- however the symbols and rules of the flat grammar are numbered
 abbrev pub ReportIsOne : Type 0
-ReportIsOne = (w : Grammar) (edges : List Edge) (start place : ℕ) (xs ys : List ReportLine) → IsReport w edges start place xs → IsReport w edges start place ys → xs ≡ ys
+ReportIsOne = (g : Grammar) (edges : List Edge) (start place : ℕ) (xs ys : List ReportLine) → IsReport g edges start place xs → IsReport g edges start place ys → xs ≡ ys
 
--- a grammar that has a flat form has reports, over edges that go forward
+-- of a checked grammar, over edges that go forward, by any flat form
+abbrev pub ReportsAreFlat : Type 0
+ReportsAreFlat = (g : Grammar) (f : FlatGrammar) (edges : List Edge) (start place : ℕ) (lines : List ReportLine) → IsFlat f → IsFlatOf f g → IsChecked g → GoForward (Held edges) → start < length g.starts →
+    IsReport g edges start place lines ↔ IsFlatReport g f edges start place lines
+
 abbrev pub ReportsExist : Type 0
-ReportsExist = (w : Grammar) (f : FlatGrammar) (edges : List Edge) (start place : ℕ) → IsFlat f → IsFlatOf f w → GoForward (Held edges) → start < length w.starts →
-    (lines : List ReportLine) × IsReport w edges start place lines
+ReportsExist = (g : Grammar) (f : FlatGrammar) (edges : List Edge) (start place : ℕ) → IsFlat f → IsFlatOf f g → IsChecked g → GoForward (Held edges) → start < length g.starts →
+    (lines : List ReportLine) × IsReport g edges start place lines
 
 -- a grammar of lists, behind an item and a separator: the line of the list says so
 abbrev pub ReportsApply : Type 0

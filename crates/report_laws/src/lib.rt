@@ -1,11 +1,16 @@
 //! Laws of progress reports: each is shown by a contract alone, and its function does nothing.
 #![tactic(auto)]
 
-ghost use Rattle.report_laws.specs.Laws.{ReportIsOne, ReportsApply, ReportsExist};
+ghost use Rattle.report_laws.specs.Laws.{ReportIsOne, ReportsApply, ReportsAreFlat, ReportsExist};
 
-/// A place has no two reports, whatever flat form of the grammar is read by.
+/// A place has no two reports.
 pub fn report_is_one()
     ensures { ReportIsOne }
+{}
+
+/// The report of a place tells its full item set, whatever flat form of the grammar is read by.
+pub fn reports_are_flat()
+    ensures { ReportsAreFlat }
 {}
 
 /// Each place has a report, over edges that go forward.

@@ -79,7 +79,7 @@ some_report : (b : Built) (pieces : List Piece) (at : ℕ) → IsBuilt b → IsA
 some_report b pieces at built accepted =
     let checked = accepted.checked.structural in
     let (flat, is_flat, form) = flat_form_exists b.g1 checked accepted.structural (built_are_short b built) in
-    reports_exist b.g1 flat (edges_of pieces) 0 at is_flat form (pieces_forward pieces) checked.some_start
+    reports_exist b.g1 flat (edges_of pieces) 0 at is_flat form checked (pieces_forward pieces) checked.some_start
 
 pub reading_laws : ReadingLaws
 reading_laws = record {

@@ -31,6 +31,8 @@ pub fn write_report<'a, O: Sink>(
         (stream O.contents O.fault_count out.old) (stream O.contents O.fault_count out.new)) }
     ensures out_later { O.fault_count out.old ≤ O.fault_count out.new }
 {
+    prepared.known();
+    let last = reading.recce.place();
     let _ = chars;
     match report(alloc, prepared.written(), &reading.recce, at) {
         Ok(items) => {
@@ -38,7 +40,7 @@ pub fn write_report<'a, O: Sink>(
             write_lines(&lines, out)
         }
         Err(ProgressRefusal::NoSuchSet) => {
-            let text = no_set(alloc, at, reading.recce.place())?;
+            let text = no_set(alloc, at, last)?;
             Err(Stop::Refused(Refusal::Input { text }))
         }
         Err(ProgressRefusal::NoMemory) => Err(Stop::NoMemory),

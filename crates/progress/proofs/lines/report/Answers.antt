@@ -15,9 +15,6 @@ pub returns-clause-report : goal.returns-clause-report
 returns-clause-report c =
     let told = lines_told c.args.w.now c.args.recce.now c.args.j c.flat.result.now c.flat.ensures c.in_ok-items.items.items c.deref.result.now c.deref.ensures.value c.in_ok-lines.lines.items c.in_ok-items.ensures c.in_ok-lines.ensures in
     record {
-      flat = c.args.recce.now.flat;
-      is_flat = c.place.ensures.is.flat;
-      form = c.requires;
       top = top_of c.args.recce.now;
       top_is = get_at c.args.recce.now.flat.tops c.args.recce.now.start 0 c.place.ensures.is.start;
       sorted = c.in_ok-sort.ensures.sorted;
