@@ -1,4 +1,4 @@
-use Rattle.std.proofs.Common.{◌≡◌, sym, subst, List, length, Some, Contains}
+use Rattle.std.proofs.Common.{◌≡◌, sym, subst, List, length, Contains}
 use Rattle.recognizer_model.specs.declared.Item.{Item}
 use Rattle.recognizer_model.specs.Flat.{rhs_of}
 use Rattle.recognizer_model.specs.Items.{IsWhole}
