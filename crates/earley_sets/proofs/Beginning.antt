@@ -1,13 +1,11 @@
 -- The rules of a symbol begin together.
-use Rattle.std.proofs.Common.{◌≡◌, ℕ, ◌<◌, ◌≤◌, ◌↔◌, ◌⊎◌, inl, inr, List, [], Contains, Some, None, length, refl, sym, ◌∙◌, ap, subst, arith}
+use Rattle.std.proofs.Common.{◌≡◌, ℕ, ◌<◌, ◌≤◌, ◌↔◌, ◌⊎◌, inl, inr, List, [], Contains, Some, None, refl, sym, ◌∙◌, ap, subst, arith}
 use Rattle.recognizer_model.specs.declared.Item.{Item}
 use Rattle.recognizer_model.specs.Flat.{FlatGrammar, IsRule, lhs_of, IsNullable}
 use Rattle.recognizer_model.specs.Items.{after, first_item, advanced}
 use Rattle.item_rows.specs.Kept.{IsItem}
 use Rattle.earley_sets.specs.Closing.{IsSkipped, Follows, Predicts, Skips, Completes, Leaps, Grows}
 use Rattle.earley_sets.specs.Begun.{IsPredicted, IsFirst, BeginTogether}
-use Rattle.earley_sets.proofs.Following.{leads_later}
-use Rattle.earley_sets.proofs.Membership.{Contains-none}
 
 -- the rules of a symbol, listed
 module _ (g : FlatGrammar) (x from to : ℕ) (are : (r : ℕ) → ((from ≤ r) × (r < to)) ↔ (IsRule g r × (lhs_of g r ≡ x))) where

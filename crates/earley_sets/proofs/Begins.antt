@@ -2,10 +2,10 @@
 use Rattle.std.proofs.Common.{◌≡◌, ◌≢◌, ℕ, ◌<◌, ◌≤◌, ◌↔◌, ◌⊎◌, inl, inr, List, [], Some, Contains, refl, sym, ◌∙◌, ap, subst, arith}
 use Rattle.grammar_model.specs.declared.Edge.{Edge as HeldEdge}
 use Rattle.recognizer_model.specs.declared.Item.{Item}
-use Rattle.recognizer_model.specs.Flat.{FlatGrammar, IsRule, lhs_of, rhs_of}
-use Rattle.recognizer_model.specs.Items.{after, first_item, advanced}
+use Rattle.recognizer_model.specs.Flat.{FlatGrammar, lhs_of, rhs_of}
+use Rattle.recognizer_model.specs.Items.{first_item, advanced}
 use Rattle.recognizer_model.specs.Contexts.{IsTop}
-use Rattle.item_rows.specs.Rows.{row_at, IsBegunAt}
+use Rattle.item_rows.specs.Rows.{IsBegunAt}
 use Rattle.item_rows.specs.Kept.{IsItem, IsAwaited, AreRows}
 use Rattle.leo_items.specs.ByRows.{LeadsIn}
 use Rattle.leo_items.proofs.Chains.{leo_inside}

@@ -3,8 +3,8 @@ use Rattle.std.proofs.lemmas.List.{take_more}
 use Rattle.std.proofs.lemmas.List.Elements.{Contains-append_left, Contains-append_right, Contains-push, Contains-push_cases, Contains-append_cases}
 use Rattle.grammar_core.proofs.Halving.{index_get}
 use Rattle.recognizer_model.specs.declared.Item.{Item}
-use Rattle.recognizer_model.specs.Flat.{FlatGrammar, IsRule, lhs_of, rhs_of, IsNullable}
-use Rattle.recognizer_model.specs.Items.{after, first_item, advanced}
+use Rattle.recognizer_model.specs.Flat.{FlatGrammar, lhs_of, rhs_of, IsNullable}
+use Rattle.recognizer_model.specs.Items.{after, advanced}
 use Rattle.recognizer_model.specs.Counts.{IsListOf}
 use Rattle.item_rows.specs.Rows.{row_at}
 use Rattle.earley_sets.specs.Kept.{IsItem, AreRows}

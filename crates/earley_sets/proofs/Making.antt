@@ -1,13 +1,13 @@
 -- The tries that it takes to make a list, as links of the set that the list is made for.
-use Rattle.std.proofs.Common.{◌≡◌, ◌≢◌, ◌⊎◌, inl, inr, ℕ, ◌+◌, ◌<◌, ◌↔◌, List, [], Some, Contains, refl, sym, ◌∙◌, ap, subst, arith}
+use Rattle.std.proofs.Common.{◌≡◌, ◌⊎◌, inl, inr, ℕ, ◌+◌, List, Some, Contains, refl, sym, ◌∙◌, ap, subst, arith}
 use Rattle.recognizer_model.specs.declared.Item.{Item}
 use Rattle.recognizer_model.specs.Flat.{FlatGrammar, IsRule, lhs_of, IsNullable}
 use Rattle.recognizer_model.specs.Items.{after}
 use Rattle.recognizer_model.specs.Links.{Link, Predicts, Skips, Scans, Completes, Leaps}
 use Rattle.item_rows.specs.Kept.{IsAwaited}
-use Rattle.earley_sets.specs.Begun.{HasRule, AreAwaited, Begins, AreBegun, IsBegun}
-use Rattle.earley_sets.specs.Tried.{RisesBy, MakesLater, MakesOneLater, IsRuleOf, TriesBegun, TriesList}
-use Rattle.earley_sets.proofs.Begins.{begins_item, begun_awaited}
+use Rattle.earley_sets.specs.Begun.{AreAwaited, Begins, AreBegun, IsBegun}
+use Rattle.earley_sets.specs.Tried.{RisesBy, MakesOneLater, IsRuleOf, TriesBegun, TriesList}
+use Rattle.earley_sets.proofs.Begins.{begins_item}
 use Rattle.earley_sets.proofs.Rising.{rises_none, rises_over, rises_on, rises_moved, rises_chosen}
 
 -- a link with its items at a place

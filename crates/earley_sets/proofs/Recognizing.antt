@@ -6,7 +6,7 @@ use Rattle.std.proofs.lemmas.List.{get_or_append_left, get_or-append-add, get_or
 use Rattle.std.proofs.lemmas.List.Quantifiers.{all_pairs_push}
 use Rattle.std.proofs.lemmas.Map.Entries.{length-keys_of}
 use Rattle.grammar_model.specs.declared.Edge.{Edge as HeldEdge}
-use Rattle.grammar_model.specs.Derives.{Edges, Held}
+use Rattle.grammar_model.specs.Derives.{Held}
 use Rattle.recognizer_model.specs.declared.Item.{Item}
 use Rattle.recognizer_model.specs.declared.flat.FlatSymbol.TheVariants.{Terminal}
 use Rattle.std.proofs.lemmas.List.Elements.{Contains-append_left, Contains-push_cases}
@@ -32,14 +32,14 @@ use Rattle.recognizer_model.specs.Counts.{IsListOf}
 use Rattle.recognizer_model.specs.Links.{Link, IsLink}
 use Rattle.recognizer_model.specs.Invariant.{IsFlat}
 use Rattle.item_rows.specs.Rows.{ItemRows, row_at}
-use Rattle.earley_sets.specs.Kept.{AreItems, AreRows, IsRowOf, IsAwaited, IsAwaitedTerminal}
-use Rattle.recognizer_model.proofs.Leo.{origin_below, reduced_inside, keeps_waiting}
+use Rattle.earley_sets.specs.Kept.{AreRows, IsRowOf, IsAwaited, IsAwaitedTerminal}
+use Rattle.recognizer_model.proofs.Leo.{reduced_inside, keeps_waiting}
 use Rattle.recognizer_model.proofs.Over.{AgreeTo, agree_back, same_leo, same_reduced, top_kept}
 use Rattle.leo_items.specs.declared.memo.Pair.{Pair}
 use Rattle.leo_items.specs.Memo.{Note, pairs_of}
 use Rattle.leo_items.specs.ByRows.{IsMemo}
 use Rattle.leo_items.proofs.Chains.{memo_stays, memo_none, memo_pairs}
-use Rattle.earley_sets.proofs.ByRows.{goes_forward, known, to_leo}
+use Rattle.earley_sets.proofs.ByRows.{known, to_leo}
 use Rattle.earley_sets.specs.Scanning.{GoForward, AreReduced}
 use Rattle.earley_sets.specs.Recognizer.{Recognizer, IsKept, place_of, edges_of, top_of, made, start_symbol, IsExpected, HasTree}
 use Rattle.earley_sets.specs.Tried.{RisesBy}

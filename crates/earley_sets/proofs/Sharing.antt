@@ -1,12 +1,12 @@
 -- The lists that were made, and one more.
-use Rattle.std.proofs.Common.{◌≡◌, ◌⊎◌, ◌↔◌, inl, inr, ℕ, zero, suc, ◌+◌, ◌<◌, ◌++◌, List, [], ◌∷◌, length, Some, slice_get, Contains, refl, sym, ◌∙◌, ap, subst, arith, length-append}
+use Rattle.std.proofs.Common.{◌≡◌, ◌⊎◌, inl, inr, ℕ, zero, suc, ◌+◌, ◌<◌, ◌++◌, List, [], ◌∷◌, length, Some, slice_get, Contains, refl, sym, ◌∙◌, ap, subst, arith, length-append}
 use Rattle.std.proofs.lemmas.List.{get_or_append_left, get_or-append-add}
 use Rattle.recognizer_model.specs.declared.Item.{Item}
 use Rattle.recognizer_model.specs.Flat.{FlatGrammar}
 use Rattle.recognizer_model.specs.Counts.{IsListOf}
 use Rattle.item_rows.specs.Rows.{ItemRows, shared_at}
-use Rattle.earley_sets.specs.Begun.{AreBegun, IsNoted, AreLists, KeepsSets}
-use Rattle.earley_sets.specs.Tried.{RisesBy, MakesOneLater, TriesBegun}
+use Rattle.earley_sets.specs.Begun.{AreBegun, IsNoted, AreLists}
+use Rattle.earley_sets.specs.Tried.{MakesOneLater, TriesBegun}
 use Rattle.earley_sets.proofs.Noting.{Entries}
 use Rattle.earley_sets.proofs.Rising.{rises_as}
 

@@ -1,5 +1,5 @@
 -- The first items of some symbols' rules, listed symbol by symbol.
-use Rattle.std.proofs.Common.{◌≡◌, ◌≢◌, ◌↔◌, ◌⊎◌, inl, inr, ℕ, ◌+◌, ◌<◌, ◌≤◌, ◌++◌, List, [], ◌∷◌, take, length, slice_get, Some, Contains, refl, sym, ◌∙◌, ap, subst, append-nil}
+use Rattle.std.proofs.Common.{◌≡◌, ◌≢◌, ◌↔◌, ◌⊎◌, inl, inr, ℕ, ◌+◌, ◌≤◌, ◌++◌, List, [], ◌∷◌, take, length, slice_get, Some, Contains, sym, ◌∙◌, ap, subst, append-nil}
 use Rattle.std.specs.Prelude.{AllPairs}
 use Rattle.std.proofs.lemmas.List.Elements.{Contains-append_left, Contains-push, Contains-push_cases}
 use Rattle.recognizer_model.specs.declared.Item.{Item}
@@ -8,7 +8,7 @@ use Rattle.earley_sets.specs.Begun.{IsPredicted, IsFirst}
 use Rattle.earley_sets.specs.Tried.{RisesBy, IsRuleOf}
 use Rattle.earley_sets.proofs.Cutting.{take_all, take_next, not_before}
 use Rattle.earley_sets.proofs.Membership.{Contains-none}
-use Rattle.earley_sets.proofs.Rising.{rises_none, rises_as, rises_on}
+use Rattle.earley_sets.proofs.Rising.{rises_none, rises_on}
 
 module _ (g : FlatGrammar) (symbols : List ℕ) where
   abbrev pub FirstsTo : List Item → ℕ → Type 0

@@ -1,7 +1,6 @@
 -- Rows as they are held.
 use Rattle.std.proofs.Common.{◌≡◌, ◌⊎◌, inl, inr, ◌↔◌, ℕ, zero, suc, ◌+◌, ◌<◌, ◌≤◌, ◌^◌, ◌++◌, List, [], ◌∷◌, length, map, take, get_or, Contains, refl, sym, ◌∙◌, ap, subst, arith, length-append}
 use Rattle.std.specs.Prelude.{sum, slice_index_or}
-use Rattle.std.specs.List.{AllPairs}
 use Rattle.std.proofs.lemmas.Bool.{cases_lt}
 use Rattle.std.proofs.lemmas.List.{get_or-map, get_or-take, map-append, length-take-le}
 use Rattle.std.proofs.Math.ListN.{get_or-append}
@@ -16,7 +15,7 @@ use Rattle.item_rows.specs.Dotted.{dotted_at, unpacked, begun_at, DifferInDots, 
 use Rattle.item_rows.specs.Held.{shared_by, rows_from, lists_from, AreHeld}
 use Rattle.item_rows.proofs.Listed.{index_any}
 use Rattle.item_rows.proofs.Packing.{map_length, map_has}
-use Rattle.item_rows.proofs.Joined.{once_begun, begun_told, join_lists, list_as}
+use Rattle.item_rows.proofs.Joined.{once_begun, begun_told, join_lists}
 
 module _ {A : Type 0} (xs : List (List A)) (x : List A) where
   old_at : (k : ℕ) → k < length xs → list_at (xs ++ x ∷ []) k ≡ list_at xs k

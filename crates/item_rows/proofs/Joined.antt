@@ -8,15 +8,14 @@ use Rattle.std.proofs.Math.ListN.{get_or-append}
 use Rattle.std.proofs.lemmas.List.Elements.{Contains-append_left, Contains-append_right, Contains-append_cases}
 use Rattle.grammar_core.proofs.Halving.{get_index}
 use Rattle.recognizer_model.specs.declared.Item.{Item}
-use Rattle.recognizer_model.specs.Flat.{FlatGrammar}
-use Rattle.recognizer_model.specs.Items.{after}
+use Rattle.recognizer_model.specs.Flat.{FlatGrammar, part_of}
 use Rattle.recognizer_model.specs.Counts.{IsListOf}
 use Rattle.item_rows.specs.declared.dotted.Span.{Span}
 use Rattle.item_rows.specs.Rows.{IsBegunAt}
 use Rattle.item_rows.specs.Kept.{IsAwaited}
-use Rattle.item_rows.specs.Dotted.{dotted_at, unpacked, begun_at, row_items, IsPacked, Rises, IsPackedRow, AreDotted, IsRowOfParts, DifferInDots, IsSpan}
+use Rattle.item_rows.specs.Dotted.{dotted_at, unpacked, begun_at, row_items, IsPacked, Rises, IsPackedRow, AreDotted, IsRowOfParts, DifferInDots, IsSpanOf, IsSpan, AreWithin}
 use Rattle.item_rows.proofs.Listed.{index_any}
-use Rattle.item_rows.proofs.Packing.{map_length, map_has, map_from, part_waits, part_packed, packed_there, packed_absent, waits}
+use Rattle.item_rows.proofs.Packing.{map_length, map_has, map_from, part_of_kind, packed_there, packed_absent, of_kind}
 
 -- two lists of different values
 module _ {A : Type 0} where
@@ -80,18 +79,11 @@ module _ (rules : List Item) (place : ℕ) (packed begun : List ℕ) where
       ∙ ap Some (get_or-append_right (map (unpacked rules) packed) (map (begun_at rules place) begun) (length packed) k u l le ∙ get_or-map (begun_at rules place) begun (k - length packed) d u (omega arith))
 
 -- dotted rules of the span, begun at a place
-module _ (rules : List Item) (place : ℕ) (g : FlatGrammar) (begun : List ℕ) (is : AreDotted (length rules) begun) (x : ℕ) (span : Span) (is_span : IsSpan g rules x span) where
-  begun_waits : (k : ℕ) (item : Item) → Contains begun k → begun_at rules place k ≡ item → ((span.start ≤ k) × (k < span.end)) ↔ (after g item ≡ Some x)
-  begun_waits k item h e =
+module _ (rules : List Item) (place : ℕ) (begun : List ℕ) (is : AreDotted (length rules) begun) (Kind : (rule dot : ℕ) → Type 0) (span : Span) (is_span : IsSpanOf Kind rules span) where
+  begun_kind : (k : ℕ) (item : Item) → Contains begun k → begun_at rules place k ≡ item → ((span.start ≤ k) × (k < span.end)) ↔ Kind item.rule item.dot
+  begun_kind k item h e =
       let (to, from) = is_span.exact k (is.within k h) in
-      let same : after g (dotted_at rules k) ≡ after g item = ap (after g) e in
-      ((λ p. sym same ∙ to p), (λ w. from (same ∙ w)))
-
-  pub begun_awaited : ((k : ℕ) × Contains begun k × (span.start ≤ k) × (k < span.end)) ↔ IsAwaited g (map (begun_at rules place) begun) x
-  begun_awaited = (
-    λ (k, h, from, to). (begun_at rules place k, map_has (begun_at rules place) begun k h, (begun_waits k (begun_at rules place k) h refl).0 (from, to)),
-    λ (item, c, w). (let (k, h, e) = map_from (begun_at rules place) begun item c in let (from, to) = (begun_waits k item h e).1 w in (k, h, from, to)),
-  )
+      ((λ p. subst (λ (z : Item). Kind z.rule z.dot) e (to p)), (λ w. from (subst (λ (z : Item). Kind z.rule z.dot) (sym e) w)))
 
 -- dotted rules that begin at a place
 module _ (rules : List Item) (differ : DifferInDots rules) (place : ℕ) where
@@ -136,33 +128,42 @@ module _ (rules : List Item) (differ : DifferInDots rules) (place : ℕ) where
         subst (Contains (map (begun_at rules place) begun)) e (map_has (begun_at rules place) begun k h)),
   )
 
-  module _ (g : FlatGrammar) (begun : List ℕ) (is : AreDotted (length rules) begun) (x : ℕ) (span : Span) (is_span : IsSpan g rules x span) where
+  module _ (begun : List ℕ) (is : AreDotted (length rules) begun) (Kind : (rule dot : ℕ) → Type 0) (span : Span) (is_span : IsSpanOf Kind rules span) where
     module _ (part : List ℕ) (rises : Rises part) (exact : (k : ℕ) → Contains part k ↔ (Contains begun k × (span.start ≤ k) × (k < span.end))) where
       pub part_dotted : AreDotted (length rules) part
       part_dotted = record { rises = rises; within = λ k h. is.within k ((exact k).0 h).0 }
 
-      pub part_begun : IsListOf (λ item. Contains (map (begun_at rules place) begun) item × (after g item ≡ Some x)) (map (begun_at rules place) part)
+      pub part_begun : IsListOf (λ item. Contains (map (begun_at rules place) begun) item × Kind item.rule item.dot) (map (begun_at rules place) part)
       part_begun = record { once = once_begun part part_dotted; exact = λ item. (there item, back item) }
         where
-          there : (item : Item) → Contains (map (begun_at rules place) part) item → Contains (map (begun_at rules place) begun) item × (after g item ≡ Some x)
+          there : (item : Item) → Contains (map (begun_at rules place) part) item → Contains (map (begun_at rules place) begun) item × Kind item.rule item.dot
           there item c =
               let (k, h, e) = map_from (begun_at rules place) part item c in
               let (in_row, from, to) = (exact k).0 h in
-              (subst (Contains (map (begun_at rules place) begun)) e (map_has (begun_at rules place) begun k in_row), (begun_waits rules place g begun is x span is_span k item in_row e).0 (from, to))
+              (subst (Contains (map (begun_at rules place) begun)) e (map_has (begun_at rules place) begun k in_row), (begun_kind rules place begun is Kind span is_span k item in_row e).0 (from, to))
 
-          back : (item : Item) → Contains (map (begun_at rules place) begun) item × (after g item ≡ Some x) → Contains (map (begun_at rules place) part) item
+          back : (item : Item) → Contains (map (begun_at rules place) begun) item × Kind item.rule item.dot → Contains (map (begun_at rules place) part) item
           back item (c, w) =
               let (k, h, e) = map_from (begun_at rules place) begun item c in
-              let (from, to) = (begun_waits rules place g begun is x span is_span k item h e).1 w in
+              let (from, to) = (begun_kind rules place begun is Kind span is_span k item h e).1 w in
               subst (Contains (map (begun_at rules place) part)) e (map_has (begun_at rules place) part k ((exact k).1 (h, from, to)))
 
--- packed items with a dotted rule of the span
-pub packed_awaited : (rules : List Item) (g : FlatGrammar) (row : List ℕ) → IsPackedRow (length rules) row → (x : ℕ) (span : Span) → IsSpan g rules x span →
-    ((n : ℕ) × Contains row n × (span.start ≤ n / 4294967296) × (n / 4294967296 < span.end)) ↔ IsAwaited g (map (unpacked rules) row) x
-packed_awaited rules g row is x span is_span = (
-  λ (n, h, from, to). (unpacked rules n, map_has (unpacked rules) row n h, (waits rules g row is x span is_span n (unpacked rules n) h refl).0 (from, to)),
-  λ (item, c, w). (let (n, h, e) = map_from (unpacked rules) row item c in let (from, to) = (waits rules g row is x span is_span n item h e).1 w in (n, h, from, to)),
-)
+-- whether one waits for a symbol
+module _ (rules : List Item) (g : FlatGrammar) (x : ℕ) (span : Span) (is_span : IsSpan g rules x span) where
+  abbrev Waits : (rule dot : ℕ) → Type 0
+  Waits rule dot = part_of g rule dot ≡ Some x
+
+  pub packed_awaited : (row : List ℕ) → IsPackedRow (length rules) row → ((n : ℕ) × Contains row n × (span.start ≤ n / 4294967296) × (n / 4294967296 < span.end)) ↔ IsAwaited g (map (unpacked rules) row) x
+  packed_awaited row is = (
+    λ (n, h, from, to). (unpacked rules n, map_has (unpacked rules) row n h, (of_kind rules row is Waits span is_span n (unpacked rules n) h refl).0 (from, to)),
+    λ (item, c, w). (let (n, h, e) = map_from (unpacked rules) row item c in let (from, to) = (of_kind rules row is Waits span is_span n item h e).1 w in (n, h, from, to)),
+  )
+
+  pub begun_awaited : (place : ℕ) (begun : List ℕ) → AreDotted (length rules) begun → ((k : ℕ) × Contains begun k × (span.start ≤ k) × (k < span.end)) ↔ IsAwaited g (map (begun_at rules place) begun) x
+  begun_awaited place begun is = (
+    λ (k, h, from, to). (begun_at rules place k, map_has (begun_at rules place) begun k h, (begun_kind rules place begun is Waits span is_span k (begun_at rules place k) h refl).0 (from, to)),
+    λ (item, c, w). (let (k, h, e) = map_from (begun_at rules place) begun item c in let (from, to) = (begun_kind rules place begun is Waits span is_span k item h e).1 w in (k, h, from, to)),
+  )
 
 -- a row of two parts
 module _ (rules : List Item) (place : ℕ) (packed begun : List ℕ) (is : IsRowOfParts rules place packed begun) where
@@ -172,42 +173,41 @@ module _ (rules : List Item) (place : ℕ) (packed begun : List ℕ) (is : IsRow
       let (k, hk, ek) = map_from (begun_at rules place) begun item b in
       is.apart n k hn hk (en ∙ sym ek)
 
+  module _ (differ : DifferInDots rules) (Kind : (rule dot : ℕ) → Type 0) (span : Span) (is_span : IsSpanOf Kind rules span) (own others : List ℕ) (within : AreWithin packed begun span own others) where
+    pub row_of_kind : IsListOf (λ item. Contains (row_items rules place packed begun) item × Kind item.rule item.dot) (row_items rules place own others)
+    row_of_kind =
+        list_as (λ item. (Contains (map (unpacked rules) packed) item × Kind item.rule item.dot) ⊎ (Contains (map (begun_at rules place) begun) item × Kind item.rule item.dot))
+        (λ item. Contains (row_items rules place packed begun) item × Kind item.rule item.dot) (row_items rules place own others)
+        (λ item. (
+          λ s. elim s [
+            | inl (c, w) ↦ (Contains-append_left (map (unpacked rules) packed) (map (begun_at rules place) begun) item c, w)
+            | inr (c, w) ↦ (Contains-append_right (map (unpacked rules) packed) (map (begun_at rules place) begun) item c, w)
+          ],
+          λ (c, w). elim (Contains-append_cases (map (unpacked rules) packed) (map (begun_at rules place) begun) item c) [ inl a ↦ inl (a, w) | inr b ↦ inr (b, w) ],
+        ))
+        (join_lists (λ item. Contains (map (unpacked rules) packed) item × Kind item.rule item.dot) (λ item. Contains (map (begun_at rules place) begun) item × Kind item.rule item.dot)
+        (map (unpacked rules) own) (map (begun_at rules place) others) (part_of_kind rules differ packed is.first Kind span is_span own within.own_rises within.own_exact)
+        (part_begun rules differ place begun is.second Kind span is_span others within.others_rise within.others_exact) (λ item (a, _) (b, _). parts_apart item a b))
+
+  pub parts_within : (span : Span) (own others : List ℕ) → AreWithin packed begun span own others → IsRowOfParts rules place own others
+  parts_within span own others within = record {
+    first = record { rises = within.own_rises; within = λ n h. is.first.within n ((within.own_exact n).0 h).0 };
+    second = record { rises = within.others_rise; within = λ k h. is.second.within k ((within.others_exact k).0 h).0 };
+    apart = λ n k a b. is.apart n k ((within.own_exact n).0 a).0 ((within.others_exact k).0 b).0;
+  }
+
   module _ (g : FlatGrammar) (x : ℕ) (span : Span) (is_span : IsSpan g rules x span) where
-    module _ (differ : DifferInDots rules) (own : List ℕ) (own_rises : Rises own) (own_exact : (n : ℕ) → Contains own n ↔ (Contains packed n × (span.start ≤ n / 4294967296) × (n / 4294967296 < span.end)))
-        (others : List ℕ) (others_rise : Rises others) (others_exact : (k : ℕ) → Contains others k ↔ (Contains begun k × (span.start ≤ k) × (k < span.end))) where
-      pub waiting_parts : IsRowOfParts rules place own others
-      waiting_parts = record {
-        first = part_packed rules differ g packed is.first x span is_span own own_rises own_exact;
-        second = part_dotted rules differ place g begun is.second x span is_span others others_rise others_exact;
-        apart = λ n k a b. is.apart n k ((own_exact n).0 a).0 ((others_exact k).0 b).0;
-      }
-
-      pub waiting_row : IsListOf (λ item. Contains (row_items rules place packed begun) item × (after g item ≡ Some x)) (row_items rules place own others)
-      waiting_row =
-          list_as (λ item. (Contains (map (unpacked rules) packed) item × (after g item ≡ Some x)) ⊎ (Contains (map (begun_at rules place) begun) item × (after g item ≡ Some x)))
-          (λ item. Contains (row_items rules place packed begun) item × (after g item ≡ Some x)) (row_items rules place own others)
-          (λ item. (
-            λ s. elim s [
-              | inl (c, w) ↦ (Contains-append_left (map (unpacked rules) packed) (map (begun_at rules place) begun) item c, w)
-              | inr (c, w) ↦ (Contains-append_right (map (unpacked rules) packed) (map (begun_at rules place) begun) item c, w)
-            ],
-            λ (c, w). elim (Contains-append_cases (map (unpacked rules) packed) (map (begun_at rules place) begun) item c) [ inl a ↦ inl (a, w) | inr b ↦ inr (b, w) ],
-          ))
-          (join_lists (λ item. Contains (map (unpacked rules) packed) item × (after g item ≡ Some x)) (λ item. Contains (map (begun_at rules place) begun) item × (after g item ≡ Some x))
-          (map (unpacked rules) own) (map (begun_at rules place) others) (part_waits rules differ g packed is.first x span is_span own own_rises own_exact)
-          (part_begun rules differ place g begun is.second x span is_span others others_rise others_exact) (λ item (a, _) (b, _). parts_apart item a b))
-
     pub awaited_first : ((n : ℕ) × Contains packed n × (span.start ≤ n / 4294967296) × (n / 4294967296 < span.end)) → IsAwaited g (row_items rules place packed begun) x
-    awaited_first h = let (item, c, w) = (packed_awaited rules g packed is.first x span is_span).0 h in (item, Contains-append_left (map (unpacked rules) packed) (map (begun_at rules place) begun) item c, w)
+    awaited_first h = let (item, c, w) = (packed_awaited rules g x span is_span packed is.first).0 h in (item, Contains-append_left (map (unpacked rules) packed) (map (begun_at rules place) begun) item c, w)
 
     pub awaited_second : ((k : ℕ) × Contains begun k × (span.start ≤ k) × (k < span.end)) → IsAwaited g (row_items rules place packed begun) x
-    awaited_second h = let (item, c, w) = (begun_awaited rules place g begun is.second x span is_span).0 h in (item, Contains-append_right (map (unpacked rules) packed) (map (begun_at rules place) begun) item c, w)
+    awaited_second h = let (item, c, w) = (begun_awaited rules g x span is_span place begun is.second).0 h in (item, Contains-append_right (map (unpacked rules) packed) (map (begun_at rules place) begun) item c, w)
 
     pub awaited_either : IsAwaited g (row_items rules place packed begun) x →
         ((n : ℕ) × Contains packed n × (span.start ≤ n / 4294967296) × (n / 4294967296 < span.end)) ⊎ ((k : ℕ) × Contains begun k × (span.start ≤ k) × (k < span.end))
     awaited_either (item, c, w) = elim (Contains-append_cases (map (unpacked rules) packed) (map (begun_at rules place) begun) item c) [
-      | inl a ↦ inl ((packed_awaited rules g packed is.first x span is_span).1 (item, a, w))
-      | inr b ↦ inr ((begun_awaited rules place g begun is.second x span is_span).1 (item, b, w))
+      | inl a ↦ inl ((packed_awaited rules g x span is_span packed is.first).1 (item, a, w))
+      | inr b ↦ inr ((begun_awaited rules g x span is_span place begun is.second).1 (item, b, w))
     ]
 
   module _ (differ : DifferInDots rules) (item : Item) (n : ℕ) (number : IsPacked rules n item) where

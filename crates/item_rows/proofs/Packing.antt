@@ -1,5 +1,5 @@
 -- Rows of packed items.
-use Rattle.std.proofs.Common.{rules, ◌≡◌, ◌≢◌, ◌==◌, inl, inr, ◌↔◌, ℕ, zero, suc, ◌+◌, ◌-◌, ◌*◌, ◌/◌, ◌%◌, ◌<◌, ◌≤◌, ◌++◌, true, List, [], ◌∷◌, length, map, take, drop, get_or, Some, Contains, refl, sym, ◌∙◌, ap, subst, arith}
+use Rattle.std.proofs.Common.{rules, ◌≡◌, ◌≢◌, ◌==◌, inl, inr, ◌↔◌, ℕ, zero, suc, ◌+◌, ◌-◌, ◌/◌, ◌%◌, ◌<◌, ◌≤◌, ◌++◌, true, List, [], ◌∷◌, length, map, take, drop, get_or, Contains, refl, sym, ◌∙◌, ap, subst, arith}
 use Rattle.std.specs.Prelude.{nat_lt, slice_index, slice_index_or, Result, Ok, Err, MatchResult, is_ok, IsTrue}
 use Rattle.std.specs.Ordering.{nat_cmp}
 use Rattle.std.specs.Cmp.{IsEquivalence}
@@ -15,11 +15,9 @@ use Rattle.std.proofs.lemmas.Map.Made.{AllPairs-from_IsDistinct, IsDistinct-from
 use Rattle.grammar_core.proofs.Placed.{part_from, part_to, part_length, found_at, at_found}
 use Rattle.grammar_core.proofs.Halving.{index_get}
 use Rattle.recognizer_model.specs.declared.Item.{Item}
-use Rattle.recognizer_model.specs.Flat.{FlatGrammar}
-use Rattle.recognizer_model.specs.Items.{after}
 use Rattle.recognizer_model.specs.Counts.{IsListOf}
 use Rattle.item_rows.specs.declared.dotted.Span.{Span}
-use Rattle.item_rows.specs.Dotted.{unpacked, IsPacked, Rises, IsPackedRow, DifferInDots, IsSpan}
+use Rattle.item_rows.specs.Dotted.{unpacked, IsPacked, Rises, IsPackedRow, DifferInDots, IsSpanOf}
 use Rattle.item_rows.proofs.Items.{once_permuted}
 use Rattle.item_rows.proofs.Listed.{index_any}
 
@@ -121,13 +119,12 @@ module _ (row : List ℕ) (rises : Rises row) where
             absurd (elim (cases_lt k i) [ inl l ↦ let b = below k l in omega arith | inr l ↦ let a = above k l lt in omega arith ]))),
       )
 
--- the packed items of a row that wait for a symbol
-module _ (rules : List Item) (g : FlatGrammar) (row : List ℕ) (is : IsPackedRow (length rules) row) (x : ℕ) (span : Span) (is_span : IsSpan g rules x span) where
-  pub waits : (n : ℕ) (item : Item) → Contains row n → unpacked rules n ≡ item → ((span.start ≤ n / 4294967296) × (n / 4294967296 < span.end)) ↔ (after g item ≡ Some x)
-  waits n item h e =
+-- the packed items of a row with dotted rules of a span
+module _ (rules : List Item) (row : List ℕ) (is : IsPackedRow (length rules) row) (Kind : (rule dot : ℕ) → Type 0) (span : Span) (is_span : IsSpanOf Kind rules span) where
+  pub of_kind : (n : ℕ) (item : Item) → Contains row n → unpacked rules n ≡ item → ((span.start ≤ n / 4294967296) × (n / 4294967296 < span.end)) ↔ Kind item.rule item.dot
+  of_kind n item h e =
       let (to, from) = is_span.exact (n / 4294967296) (is.within n h) in
-      let same : after g (unpacked rules n) ≡ after g item = ap (after g) e in
-      ((λ p. sym same ∙ to p), (λ w. from (same ∙ w)))
+      ((λ p. subst (λ (z : Item). Kind z.rule z.dot) e (to p)), (λ w. from (subst (λ (z : Item). Kind z.rule z.dot) (sym e) w)))
 
 module _ (rules : List Item) (differ : DifferInDots rules) where
   pub unpack_one : (m n : ℕ) → m / 4294967296 < length rules → n / 4294967296 < length rules → unpacked rules m ≡ unpacked rules n → m ≡ n
@@ -148,24 +145,24 @@ module _ (rules : List Item) (differ : DifferInDots rules) where
       let r = is.rises i j 0 lt (omega arith) in
       absurd (omega arith)
 
-  module _ (g : FlatGrammar) (row : List ℕ) (is : IsPackedRow (length rules) row) (x : ℕ) (span : Span) (is_span : IsSpan g rules x span) where
+  module _ (row : List ℕ) (is : IsPackedRow (length rules) row) (Kind : (rule dot : ℕ) → Type 0) (span : Span) (is_span : IsSpanOf Kind rules span) where
     module _ (part : List ℕ) (rises : Rises part) (exact : (n : ℕ) → Contains part n ↔ (Contains row n × (span.start ≤ n / 4294967296) × (n / 4294967296 < span.end))) where
       pub part_packed : IsPackedRow (length rules) part
       part_packed = record { rises = rises; within = λ n h. is.within n ((exact n).0 h).0 }
 
-      pub part_waits : IsListOf (λ item. Contains (map (unpacked rules) row) item × (after g item ≡ Some x)) (map (unpacked rules) part)
-      part_waits = record { once = once_unpacked part part_packed; exact = λ item. (there item, back item) }
+      pub part_of_kind : IsListOf (λ item. Contains (map (unpacked rules) row) item × Kind item.rule item.dot) (map (unpacked rules) part)
+      part_of_kind = record { once = once_unpacked part part_packed; exact = λ item. (there item, back item) }
         where
-          there : (item : Item) → Contains (map (unpacked rules) part) item → Contains (map (unpacked rules) row) item × (after g item ≡ Some x)
+          there : (item : Item) → Contains (map (unpacked rules) part) item → Contains (map (unpacked rules) row) item × Kind item.rule item.dot
           there item c =
               let (n, h, e) = map_from (unpacked rules) part item c in
               let (in_row, from, to) = (exact n).0 h in
-              (subst (Contains (map (unpacked rules) row)) e (map_has (unpacked rules) row n in_row), (waits rules g row is x span is_span n item in_row e).0 (from, to))
+              (subst (Contains (map (unpacked rules) row)) e (map_has (unpacked rules) row n in_row), (of_kind rules row is Kind span is_span n item in_row e).0 (from, to))
 
-          back : (item : Item) → Contains (map (unpacked rules) row) item × (after g item ≡ Some x) → Contains (map (unpacked rules) part) item
+          back : (item : Item) → Contains (map (unpacked rules) row) item × Kind item.rule item.dot → Contains (map (unpacked rules) part) item
           back item (c, w) =
               let (n, h, e) = map_from (unpacked rules) row item c in
-              let (from, to) = (waits rules g row is x span is_span n item h e).1 w in
+              let (from, to) = (of_kind rules row is Kind span is_span n item h e).1 w in
               subst (Contains (map (unpacked rules) part)) e (map_has (unpacked rules) part n ((exact n).1 (h, from, to)))
 
   pub packed_there : (row : List ℕ) → IsPackedRow (length rules) row → (item : Item) (n : ℕ) → IsPacked rules n item → Contains row n ↔ Contains (map (unpacked rules) row) item

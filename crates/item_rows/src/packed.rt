@@ -1,11 +1,11 @@
 //! Rows of two parts: packed items, and the numbers of dotted rules that begin at the row's place.
-ghost use Rattle.std.specs.Prelude.{◌≡◌, ◌≢◌, ℕ, ◌<◌, ◌≤◌, ◌-◌, ◌*◌, ◌/◌, ◌↔◌, [], length, map, take, drop, slice_index, slice_get, Some, IsTrue, OnOk, Contains};
+ghost use Rattle.std.specs.Prelude.{◌≡◌, ◌≢◌, ℕ, List, ◌<◌, ◌≤◌, ◌-◌, ◌*◌, ◌/◌, ◌↔◌, [], length, map, take, drop, slice_index, slice_get, Some, IsTrue, OnOk, Contains};
 ghost use Rattle.std.specs.List.{AllPairs};
 ghost use Rattle.recognizer_model.specs.declared.Item.{Item as TheItem};
 ghost use Rattle.recognizer_model.specs.Counts.{IsListOf};
-ghost use Rattle.recognizer_model.specs.Items.{after};
+ghost use Rattle.recognizer_model.specs.Items.{after, IsWhole};
 ghost use Rattle.item_rows.specs.Kept.{AreItems, IsAwaited};
-ghost use Rattle.item_rows.specs.Dotted.{unpacked, IsPackedRow, AreDotted, IsRowOfParts, row_items, Rises};
+ghost use Rattle.item_rows.specs.Dotted.{unpacked, IsPackedRow, AreDotted, IsRowOfParts, AreWithin, row_items, Rises};
 
 use crate::dotted::{DottedRules, Span, begin, unpack};
 use crate::parts::between;
@@ -169,6 +169,23 @@ fn first_of(number: u32) -> u64
     number as u64 * 4_294_967_296
 }
 
+// The items of a row whose dotted rules are of a span.
+fn narrowed<'r>(
+    dotted: &'r DottedRules<'_>,
+    packed: &'r [u64],
+    begun: &'r [u32],
+    place: u32,
+    span: Span,
+) -> Row<'r>
+    requires row { IsRowOfParts dotted.now.rules place packed.now begun.now }
+    requires order { span.start ≤ span.end }
+    ensures { (own others : List ℕ) × AreWithin packed.now begun.now span own others × (result ≡ row_items dotted.now.rules place own others) }
+{
+    let own = within_span(packed, span);
+    let others = dotted_within(begun, span);
+    row_of(dotted.rules(), own, others, place)
+}
+
 /// The items of a row that wait for a symbol.
 pub fn waiting<'r>(
     dotted: &'r DottedRules<'_>,
@@ -181,10 +198,21 @@ pub fn waiting<'r>(
     ensures { IsListOf (λ item. Contains (row_items dotted.now.rules place packed.now begun.now) item × (after dotted.now.flat item ≡ Some symbol)) result }
 {
     dotted.known();
-    let span = dotted.span(symbol);
-    let own = within_span(packed, span);
-    let others = dotted_within(begun, span);
-    row_of(dotted.rules(), own, others, place)
+    narrowed(dotted, packed, begun, place, dotted.span(symbol))
+}
+
+/// The items of a row with the dot at the end.
+pub fn whole<'r>(
+    dotted: &'r DottedRules<'_>,
+    packed: &'r [u64],
+    begun: &'r [u32],
+    place: u32,
+) -> Row<'r>
+    requires { IsRowOfParts dotted.now.rules place packed.now begun.now }
+    ensures { IsListOf (λ item. Contains (row_items dotted.now.rules place packed.now begun.now) item × IsWhole dotted.now.flat item) result }
+{
+    dotted.known();
+    narrowed(dotted, packed, begun, place, dotted.whole())
 }
 
 fn is_there(packed: &[u64], place: usize, end: u64) -> bool

@@ -1,5 +1,4 @@
-use Rattle.std.proofs.Common.{sym, arith, subst, ◌∙◌}
-use Rattle.earley_sets.specs.Begun.{HasRule}
+use Rattle.std.proofs.Common.{sym, arith, ◌∙◌}
 use Rattle.earley_sets.proofs.Symbols.{some_same}
 use Rattle.earley_sets.proofs.awaited.awaited.Goals as goal
 

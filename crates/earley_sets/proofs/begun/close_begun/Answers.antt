@@ -1,4 +1,4 @@
-use Rattle.std.proofs.Common.{arith, ◌+◌, inl, inr, refl, sym, ap, subst, length, List, [], Contains}
+use Rattle.std.proofs.Common.{arith, inl, inr, refl, ap, subst, length, List, []}
 use Rattle.recognizer_model.specs.declared.Item.{Item}
 use Rattle.earley_sets.specs.Closing.{Follows, Grows}
 use Rattle.earley_sets.specs.Tried.{MakesLater}

@@ -1,4 +1,4 @@
-use Rattle.std.proofs.Common.{◌↔◌, ◌+◌, arith, ap, sym, subst, length, List, Contains}
+use Rattle.std.proofs.Common.{arith, ap, sym, subst, length, List, Contains}
 use Rattle.recognizer_model.specs.declared.Item.{Item}
 use Rattle.earley_sets.proofs.Begins.{closed_begins}
 use Rattle.earley_sets.proofs.Beginning.{firsts_together, first_is_item}

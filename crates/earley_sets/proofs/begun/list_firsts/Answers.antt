@@ -1,4 +1,4 @@
-use Rattle.std.proofs.Common.{ℕ, sym}
+use Rattle.std.proofs.Common.{sym}
 use Rattle.earley_sets.proofs.Membership.{get_at}
 use Rattle.earley_sets.proofs.Starting.{firsts_none, rules_none, firsts_more, rules_more, firsts_all, rules_all}
 use Rattle.earley_sets.proofs.begun.list_firsts.Goals as goal

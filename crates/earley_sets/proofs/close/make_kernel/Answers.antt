@@ -1,4 +1,4 @@
-use Rattle.std.proofs.Common.{arith, ◌↔◌, ◌+◌, sym, ap, subst, length, List, Contains}
+use Rattle.std.proofs.Common.{arith, ◌+◌, sym, ap, subst, length, List, Contains}
 use Rattle.std.proofs.lemmas.Result.{on_ok_weaker}
 use Rattle.recognizer_model.specs.declared.Item.{Item}
 use Rattle.earley_sets.proofs.Nulling.{nulled_rows}

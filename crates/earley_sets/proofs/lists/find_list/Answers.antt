@@ -1,5 +1,4 @@
-use Rattle.std.proofs.Common.{rules, sym, subst, List}
-use Rattle.recognizer_model.specs.declared.Item.{Item}
+use Rattle.std.proofs.Common.{rules, sym, subst}
 use Rattle.item_rows.specs.Rows.{shared_at}
 use Rattle.item_rows.specs.Kept.{IsAwaited}
 use Rattle.earley_sets.specs.Begun.{AreBegun, IsNoted}

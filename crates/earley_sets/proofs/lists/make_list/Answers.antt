@@ -1,12 +1,10 @@
-use Rattle.std.proofs.Common.{◌≡◌, ◌∙◌, ℕ, ◌<◌, ◌++◌, ◌∷◌, [], List, length, sym, ap, subst, Contains}
+use Rattle.std.proofs.Common.{List, sym, subst, Contains}
 use Rattle.recognizer_model.specs.declared.Item.{Item}
 use Rattle.recognizer_model.specs.Flat.{FlatGrammar}
-use Rattle.recognizer_model.specs.Counts.{IsListOf}
 use Rattle.std.specs.List.{AllPairs}
 use Rattle.std.specs.Prelude.{◌≢◌}
-use Rattle.item_rows.specs.Rows.{ItemRows, shared_at}
 use Rattle.item_rows.specs.Kept.{IsItem}
-use Rattle.earley_sets.specs.Begun.{AreBegun, AreLists}
+use Rattle.earley_sets.specs.Begun.{AreBegun}
 use Rattle.earley_sets.specs.Tried.{TriesBegun}
 use Rattle.earley_sets.proofs.Adding.{all_differ}
 use Rattle.earley_sets.proofs.Begins.{begins_item}

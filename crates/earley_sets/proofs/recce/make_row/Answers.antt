@@ -1,4 +1,4 @@
-use Rattle.std.proofs.Common.{arith, ◌↔◌, ◌⊎◌, ◌+◌, ◌∙◌, ◌++◌, ◌∷◌, [], sym, ap, subst, length, List, Contains}
+use Rattle.std.proofs.Common.{arith, ◌⊎◌, ◌+◌, ◌∙◌, ◌++◌, ◌∷◌, [], sym, ap, subst, length, List, Contains}
 use Rattle.std.specs.List.{AllPairs}
 use Rattle.std.specs.Prelude.{◌≢◌}
 use Rattle.std.proofs.lemmas.Result.{on_ok_weaker}
