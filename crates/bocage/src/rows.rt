@@ -1,6 +1,7 @@
 //! Alternatives, and the nodes of whole rules that they have.
 ghost use Rattle.std.specs.Prelude.{◌≡◌, ◌<◌, ◌≤◌, length, slice_index_or, slice_get, map, Some, IfOk};
-ghost use Rattle.bocage.specs.Rows.{between, part_told, last_of, IsLastWithin, no_alternative};
+ghost use Rattle.forest_parts.specs.Lists.{between};
+ghost use Rattle.bocage.specs.Rows.{part_told, last_of, IsLastWithin, no_alternative};
 
 use crate::ForestRefusal;
 use recognizer_model::NodeKey;
