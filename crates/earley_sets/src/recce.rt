@@ -385,6 +385,16 @@ impl<'g> Recce<'g> {
         }
     }
 
+    /// The whole items of a set, as far as they are kept.
+    pub fn whole(&self, j: u32) -> SetView<'_>
+        requires { j ≤ place_of self.now }
+        ensures { IsListOf (λ item. Contains (set_at self.now j) item × IsWhole self.now.flat item) result }
+    {
+        SetView {
+            row: self.rows.whole(j as usize),
+        }
+    }
+
     /// How many items are kept.
     pub fn item_count(&self) -> u64
         ensures { result ≡ sum (map length self.now.sets) }

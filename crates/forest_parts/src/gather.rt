@@ -127,7 +127,7 @@ fn put_kept(
     ensures { OnOk result ((p : ThePart) → Contains parts.new.items p ↔
         (Contains parts.old.items p ⊎ ((item : TheItem) × Contains (set_at recce.now end) item × ((least ≤ item.origin) × IsWholeOf w.now ranking recce.now.flat end item p)))) }
 {
-    let set = recce.kept(end);
+    let set = recce.whole(end);
     for k in 0..set.len() {
         put_whole(recce, w, ranking, end, least, set.at(k), parts)?;
     }
