@@ -26,7 +26,7 @@ LENGTHS = {"json": lambda n: 14 * n + 1, "brackets": lambda n: 2 * n + 1}
 
 
 def tries_with(operands):
-    return (operands**3 + 12 * operands**2 + 17 * operands + 18) // 6
+    return (operands + 1) * (operands + 2) * (operands + 3) // 6 + 2
 
 
 def run(binary, word, count):
