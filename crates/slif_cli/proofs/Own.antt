@@ -39,7 +39,7 @@ use Rattle.slif_cli.specs.declared.stop.Refusal.TheVariants.{Usage, Grammar as B
 use Rattle.slif_cli.specs.declared.stop.Stop.{Stop}
 use Rattle.slif_cli.specs.declared.stop.Stop.TheVariants.{Refused, OpenFault, ReadFault, WriteFault, NoMemory}
 use Rattle.slif_cli.proofs.GrammarLaws.{grammar_laws}
-use Rattle.slif_cli.proofs.Derived.{listed, some_listing}
+use Rattle.text_reading.proofs.Derived.{listed, some_listing}
 use Rattle.slif_cli.proofs.Within.{within}
 
 pub work_length : (n : ℕ) → length (work_input n) ≡ 3 * n + 1

@@ -41,7 +41,7 @@ use Rattle.slif_cli.specs.declared.stop.Refusal.{Refusal}
 use Rattle.slif_cli.specs.declared.stop.Refusal.TheVariants.{Usage, Grammar as BadGrammar, Input as BadInput}
 use Rattle.slif_cli.specs.declared.stop.Stop.{Stop}
 use Rattle.slif_cli.specs.declared.stop.Stop.TheVariants.{Refused, OpenFault, ReadFault, WriteFault, NoMemory}
-use Rattle.slif_cli.proofs.Derived.{listed, some_listing}
+use Rattle.text_reading.proofs.Derived.{listed, some_listing}
 
 -- THE SAME COUNT OF OTHER VALUES
 
