@@ -1,7 +1,8 @@
 #!/usr/bin/env python3
 """Runs each example of docs/LANGUAGE.md and docs/LIBRARY.md with the built programs, and compares what it writes.
 
-    bench/examples.py [--binary crates/slif/out/slif] [--show crates/slif_show/out/slif_show] [--page docs/LANGUAGE.md --page docs/LIBRARY.md]
+    bench/examples.py [--binary crates/slif/out/slif] [--show crates/slif_show/out/slif_show] [--calculator crates/calculator/out/calculator]
+                      [--page docs/LANGUAGE.md --page docs/LIBRARY.md]
 
 An indented block whose first line is a comment with a name, as `# sum.slif`, is a file of that name. A line of a block that begins with
 `$` is a command, and the lines below it are all that it writes, to standard output or standard error. The files of a page are made in a folder of
@@ -71,8 +72,8 @@ def failures_of(files, commands, options):
     """How many commands of a page write other than it says."""
     failed = 0
     with tempfile.TemporaryDirectory() as folder, tempfile.TemporaryDirectory() as tools:
-        os.symlink(pathlib.Path(options.binary).resolve(), pathlib.Path(tools) / "slif")
-        os.symlink(pathlib.Path(options.show).resolve(), pathlib.Path(tools) / "slif_show")
+        for name, path in (("slif", options.binary), ("slif_show", options.show), ("calculator", options.calculator)):
+            os.symlink(pathlib.Path(path).resolve(), pathlib.Path(tools) / name)
         os.symlink(ROOT / "examples", pathlib.Path(folder) / "examples")
         for name, text in files.items():
             (pathlib.Path(folder) / name).write_text(text)
@@ -88,6 +89,7 @@ def main():
     options = argparse.ArgumentParser()
     options.add_argument("--binary", default=str(ROOT / "crates/slif/out/slif"))
     options.add_argument("--show", default=str(ROOT / "crates/slif_show/out/slif_show"))
+    options.add_argument("--calculator", default=str(ROOT / "crates/calculator/out/calculator"))
     options.add_argument("--page", type=pathlib.Path, action="append")
     options = options.parse_args()
     grammars, told, failed = 0, [], 0

@@ -1,4 +1,4 @@
-//! Computes the arithmetic of each line of the standard input: an example of a program that reads by a grammar of its own.
+//! A calculator: it writes the value of each line of the standard input, or why it has none. It shows how a program reads by a grammar of its own.
 #![tactic(auto)]
 
 mod arithmetic;
@@ -7,8 +7,9 @@ mod function;
 
 use crate::arithmetic::Arithmetic;
 use crate::error::CalculationError;
-use slif_parser::{Grammar, Ranking};
+use slif_parser::{Forest, Grammar, Ranking, Reading};
 use std::alloc::Global;
+use std::io;
 
 const GRAMMAR: &str = "lexeme default = latm => 1
 Sum ::= Number
@@ -25,22 +26,19 @@ Name ~ [a-z]+
 spaces ~ [\\s]+
 ";
 
-const EXPRESSIONS: [&str; 9] = [
-    "2 * (3 + sqrt(16)) - 1",
-    "-7 / 2",
-    "abs(-3) - 5",
-    "7 / (2 - 2)",
-    "sqrt(15)",
-    "log(8)",
-    "9223372036854775807 + 1",
-    "2 * * 3",
-    "2 * (3",
-];
+/// The value of an expression.
+fn value_of(alloc: Global, grammar: &Grammar, expression: &str) -> Result<i64, CalculationError> {
+    let reading = grammar.read(alloc, expression.as_bytes())?;
+    value_of_reading(alloc, &reading)
+}
 
-/// The value of the one derivation that an expression has.
-fn compute(alloc: Global, grammar: &Grammar, text: &str) -> Result<i64, CalculationError> {
-    let reading = grammar.read(alloc, text.as_bytes())?;
+fn value_of_reading(alloc: Global, reading: &Reading<'_>) -> Result<i64, CalculationError> {
     let forest = reading.forest(alloc, Ranking::Rule)?;
+    first_value(alloc, &forest)
+}
+
+/// The value of the first derivation. There is one, and the grammar gives no more.
+fn first_value(alloc: Global, forest: &Forest<'_>) -> Result<i64, CalculationError> {
     let mut derivations = forest.derivations(alloc)?;
     if !derivations.next()? {
         unreachable!();
@@ -48,14 +46,19 @@ fn compute(alloc: Global, grammar: &Grammar, text: &str) -> Result<i64, Calculat
     derivations.fold(alloc, &mut Arithmetic)?.number()
 }
 
+/// Writes the value of an expression, or why it has none.
+fn tell(rt: &HostRuntime, grammar: &Grammar, expression: &str) -> io::Result<()> {
+    match value_of(rt.alloc(), grammar, expression) {
+        Ok(value) => println!(rt; "{expression} = {value}"),
+        Err(error) => println!(rt; "{expression}: {error}"),
+    }
+}
+
 fn main(rt: HostRuntime) -> Result<(), anyhow::Error> {
-    let alloc = rt.alloc();
-    let grammar = Grammar::from_text(alloc, GRAMMAR.as_bytes())?;
-    for text in EXPRESSIONS {
-        match compute(alloc, &grammar, text) {
-            Ok(value) => println!(rt; "{text} = {value}")?,
-            Err(error) => println!(rt; "{text}: {error}")?,
-        }
+    let grammar = Grammar::from_text(rt.alloc(), GRAMMAR.as_bytes())?;
+    let input = io::read_to_string(rt.alloc(), rt.reader())?;
+    for expression in input.lines() {
+        tell(&rt, &grammar, expression)?;
     }
     Ok(())
 }

@@ -1,40 +1,13 @@
 -- What a forest tells of the derivations of a reading.
-use Rattle.std.proofs.Common.{Bool, true, false, Result, ◌≡◌, ℕ, ◌+◌, ◌≤◌, List, [], ◌∷◌, ◌++◌, Option, Some, length, refl, sym, ap, subst, ◌∙◌, arith, Contains, slice_get, slice_index_or}
+use Rattle.std.proofs.Common.{Bool, true, false, Result, ◌≡◌, ℕ, ◌≤◌, List, [], ◌∷◌, ◌++◌, Option, refl, ap, subst, arith, Contains}
 use Rattle.std.specs.Prelude.{IfErr}
 use Rattle.std.specs.List.{concat}
-use Rattle.std.specs.List.Sorted.{IsStrictlySortedBy}
 use Rattle.std.specs.Io.KnownBytes.{Appends}
-use Rattle.grammar_model.specs.Grammar.{Grammar, slot_of}
 use Rattle.grammar_model.specs.Trees.{Tree}
-use Rattle.grammar_model.specs.Derives.{Held, Derives}
-use Rattle.grammar_model.specs.Checked.{IsChecked}
-use Rattle.grammar_model.specs.declared.Edge.{Edge}
-use Rattle.grammar_model.specs.declared.Ranking.{Ranking}
-use Rattle.grammar_model.specs.Order.{rank_order, tree_cmp}
-use Rattle.grammar_model.specs.Chosen.{AreChosen}
 use Rattle.grammar_core.specs.declared.steps.Span.{Span}
-use Rattle.recognizer_model.specs.declared.flat.FlatSymbol.TheVariants.{Top}
-use Rattle.recognizer_model.specs.Chosen.{allowed_by}
-use Rattle.recognizer_model.specs.Counts.{IsCountOf}
-use Rattle.recognizer_model.specs.Flat.{lhs_of}
-use Rattle.recognizer_model.specs.Nodes.{IsExpanded}
-use Rattle.flat_model.specs.Flattened.{IsFlattened}
-use Rattle.recognizer_model.specs.FlatForm.{StandsFor, symbol_at, tree_of}
-use Rattle.recognizer_model.proofs.FlatNamed.{get_index, index_get}
-use Rattle.recognizer_model.proofs.FlatFormLaw.{flat_form}
-use Rattle.recognizer_model.proofs.FlatChosen.{chosen_form}
-use Rattle.recognizer_model.proofs.Leaving.{leaves_some}
-use Rattle.earley_sets.specs.Laws.{TreesAreDerivations}
-use Rattle.earley_sets.specs.Recognizer.{Recognizer, IsRecognizer, HasTree, place_of, edges_of as held_edges, top_of as held_top}
-use Rattle.forest_model.specs.Forest.{Forest, IsForest, top_of}
+use Rattle.forest_model.specs.Forest.{Forest}
 use Rattle.forest_model.specs.Listing.{IsListing}
-use Rattle.forest_laws.specs.Lists.{trees_by}
-use Rattle.forest_laws.proofs.Exact.{forests_have_lists}
-use Rattle.forest_laws.proofs.Reading as reading
 use Rattle.language_model.specs.Building.{Built}
-use Rattle.reading_model.specs.Reading.{edges_of, place_after}
-use Rattle.scanless.specs.Reading.{IsReadingOf}
-use Rattle.scanless.specs.declared.reading.Ending.TheVariants.{End as AtEnd}
 use Rattle.words_model.specs.Words.{RunAsked}
 use Rattle.run_model.specs.Listing.{AreDerivations}
 use Rattle.run_model.specs.Numbers.{Numbers, HasNumbers}
@@ -47,7 +20,7 @@ use Rattle.value_lines.specs.declared.writing.WriteRefusal.{WriteRefusal}
 use Rattle.value_lines.specs.declared.writing.WriteRefusal.TheVariants.{WriteFault as WriteFailed, NoMemory as NoRoom}
 use Rattle.slif_base.proofs.Bytes.{appends_none}
 use Rattle.slif_cli.specs.Stops.{Does, WriteStops, LinesStop, TellsInput}
-use Rattle.text_reading.proofs.Derived.{listed, some_listing}
+use Rattle.text_reading.proofs.Derived.{listed}
 use Rattle.slif_cli.specs.Tasks.{TellsReading, HasForest, IsNoDerivation, write_stop}
 use Rattle.slif_cli.specs.declared.stop.Refusal.TheVariants.{Usage, Grammar as BadGrammar, Input as BadInput}
 use Rattle.slif_cli.specs.declared.stop.Stop.{Stop}

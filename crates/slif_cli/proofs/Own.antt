@@ -29,7 +29,7 @@ use Rattle.run_model.specs.Listing.{AreDerivations}
 use Rattle.run_model.specs.Numbers.{Numbers, HasNumbers}
 use Rattle.run_model.specs.Jobs.{work_grammar, work_input}
 use Rattle.run_model.specs.Telling.{work_line}
-use Rattle.run_model.specs.Outcome.{Outcome, IsWorkOutcome, done}
+use Rattle.run_model.specs.Outcome.{IsWorkOutcome, done}
 use Rattle.run_model.specs.Steps.{GivesWithin}
 use Rattle.run_model.proofs.Accepted.{one_built, not_refused}
 use Rattle.work_laws.proofs.Working.{work_has_one}

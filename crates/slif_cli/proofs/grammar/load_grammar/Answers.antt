@@ -1,7 +1,6 @@
 use Rattle.std.proofs.Common.{Err, ap, subst, sym}
 use Rattle.std.proofs.lemmas.Result.{MatchResult-weaker}
 use Rattle.outside_model.specs.Told.{MayHold}
-use Rattle.slif_cli.specs.Stops.{LoadStops}
 use Rattle.slif_cli.proofs.Refusing.{load_text, too_long_text}
 use Rattle.slif_cli.proofs.grammar.load_grammar.Goals as goal
 
