@@ -69,7 +69,8 @@ pub fn read_bytes<'g, L: Ledger>(
 }
 
 impl<'g> Reading<'g> {
-    /// The forest of the derivations of the tokens from the start symbol. `ranking` says whether ranks of rules count in their order.
+    /// The forest of the derivations of the tokens from the start symbol. `ranking` says whether ranks of rules count in their order, and
+    /// which derivations are chosen.
     pub fn forest(&self, alloc: Global, ranking: Ranking) -> Result<Forest<'_>, ParseError>
         ensures forest { IfOk result (IsForestAs self.now ranking) }
         ensures refused { IfErr result (TellsInput (IsNoDerivation self.now.grammar ranking self.now.characters)) }
