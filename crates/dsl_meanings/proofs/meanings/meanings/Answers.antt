@@ -1,7 +1,7 @@
 use Rattle.std.proofs.Common.{arith, map}
 use Rattle.value_text.specs.Meaning.{action_of, rule_meaning_of}
-use Rattle.dsl_build.proofs.MeaningLemmas.{meanings_on, meanings_end}
-use Rattle.dsl_build.proofs.meanings.meanings.Goals as goal
+use Rattle.dsl_meanings.proofs.MeaningLemmas.{meanings_on, meanings_end}
+use Rattle.dsl_meanings.proofs.meanings.meanings.Goals as goal
 
 pub loop-s-preserved : goal.loop-s-preserved
 loop-s-preserved c =

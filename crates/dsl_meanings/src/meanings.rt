@@ -4,11 +4,11 @@ ghost use Rattle.language_model.specs.Building as building;
 ghost use Rattle.language_model.specs.Building.{meaning_of_plain, meaning_of_quantified, shown_of_element, meanings};
 ghost use Rattle.grammar_model.specs.Values.{MakeUndefined};
 ghost use Rattle.value_text.specs.Meaning.{action_of, rule_meaning_of};
-ghost use Rattle.dsl_statement.specs.Statements.{adverbs_of, element_of, statement_of};
-ghost use Rattle.dsl_build.specs.Meanings.{meaning_of_alternative, meanings_of, next_default};
+ghost use Rattle.dsl_statement.specs.Statements.{adverbs_of, element_of, is_lexical, statement_of};
+ghost use Rattle.dsl_meanings.specs.Meanings.{meaning_of_alternative, meanings_of, next_default};
 
 use dsl_faults::{read_action, value_of};
-use dsl_statement::{Adverb, Alternative, Element, Spelled, Statement};
+use dsl_statement::{Adverb, Alternative, Element, Level, Spelled, Statement};
 use std::alloc::{AllocError, Global};
 use value_text::{Action, Items, RuleMeaning};
 
@@ -154,15 +154,14 @@ fn push_rules(
     alloc: Global,
     out: &mut Vec<RuleMeaning>,
     default: &Action,
-    lexical: bool,
+    level: Level,
     groups: &[Vec<Alternative>],
 ) -> Result<(), AllocError>
-    ensures { OnOk result (map rule_meaning_of out.new.items ≡ map rule_meaning_of out.old.items ++ (if lexical then [] else flat_map (λ g. map (meaning_of_alternative (action_of default.now)) g.items) groups.now)) }
+    ensures { OnOk result (map rule_meaning_of out.new.items ≡ map rule_meaning_of out.old.items ++ (if is_lexical level then [] else flat_map (λ g. map (meaning_of_alternative (action_of default.now)) g.items) groups.now)) }
 {
-    if lexical {
-        Ok(())
-    } else {
-        push_groups(alloc, out, default, groups)
+    match level {
+        Level::Structural => push_groups(alloc, out, default, groups),
+        Level::Lexical => Ok(()),
     }
 }
 
@@ -176,7 +175,7 @@ fn push_statement(
 {
     match s {
         Statement::Empty {
-            lexical: false,
+            level: Level::Structural,
             adverbs,
             ..
         } => {
@@ -184,18 +183,14 @@ fn push_statement(
             Ok(())
         }
         Statement::Quantified {
-            lexical: false,
+            level: Level::Structural,
             adverbs,
             ..
         } => {
             out.push(meaning_of_quantified(alloc, default, adverbs)?)?;
             Ok(())
         }
-        Statement::Rules {
-            lexical,
-            groups,
-            ..
-        } => push_rules(alloc, out, default, *lexical, groups),
+        Statement::Rules { level, groups, .. } => push_rules(alloc, out, default, *level, groups),
         _ => Ok(()),
     }
 }

@@ -5,7 +5,7 @@ use Rattle.std.proofs.lemmas.List.Folds.{flat_map-map}
 use Rattle.language_model.specs.Building.{shown_of_element}
 use Rattle.dsl_statement.specs.declared.statement.Element.{Element as HeldElement}
 use Rattle.dsl_statement.specs.Statements.{element_of}
-use Rattle.dsl_build.proofs.meanings.shown_of.Goals as goal
+use Rattle.dsl_meanings.proofs.meanings.shown_of.Goals as goal
 
 pub returns : goal.returns
 returns c =

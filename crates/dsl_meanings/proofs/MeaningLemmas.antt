@@ -10,7 +10,7 @@ use Rattle.language_model.specs.Building.{meanings, alternatives_of}
 use Rattle.dsl_statement.specs.declared.statement.Alternative.{Alternative as HeldAlternative}
 use Rattle.dsl_statement.specs.declared.statement.Statement.{Statement as HeldStatement}
 use Rattle.dsl_statement.specs.Statements.{statement_of}
-use Rattle.dsl_build.specs.Meanings.{meaning_of_alternative, meanings_of, next_default}
+use Rattle.dsl_meanings.specs.Meanings.{meaning_of_alternative, meanings_of, next_default}
 use Rattle.dsl_faults.proofs.Lists.{map_flat}
 
 pub alternatives_flat : (default : Action) (groups : List (Vec HeldAlternative Global)) →

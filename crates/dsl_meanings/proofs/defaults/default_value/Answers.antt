@@ -1,7 +1,7 @@
 use Rattle.std.proofs.Common.{arith, sym, ◌∙◌, ap}
 use Rattle.language_model.specs.Building.{value_of}
-use Rattle.dsl_build.proofs.TableLemmas.{default_on, default_here, default_nowhere}
-use Rattle.dsl_build.proofs.tables.default_value.Goals as goal
+use Rattle.dsl_meanings.proofs.DefaultLemmas.{default_on, default_here, default_nowhere}
+use Rattle.dsl_meanings.proofs.defaults.default_value.Goals as goal
 
 pub returns-then-is_some : goal.returns-then-is_some
 returns-then-is_some c =
