@@ -1,7 +1,7 @@
 use Rattle.std.proofs.Common.{◌≡◌, ◌⊎◌, inl, inr, Contains, get_or, sym, subst, arith}
 use Rattle.threads.proofs.Listing.{take_all}
 use Rattle.lexer.proofs.Listing.{contains_next, get_or-default}
-use Rattle.reading_tests.proofs.lexemes.are_starts.Goals as goal
+use Rattle.grammar_tests.proofs.lexemes.are_starts.Goals as goal
 
 pub loop-candidate-preserved : goal.loop-candidate-preserved
 loop-candidate-preserved c k h =

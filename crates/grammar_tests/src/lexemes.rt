@@ -16,16 +16,15 @@ const LEXICAL: Language = Language {
         "number", "word", "spaces", "greek", "digit", "letter", "space", "alpha",
     ],
     lines: &[
-        (0, &[4], 0, false),
-        (0, &[0, 4], 0, false),
-        (1, &[5], 0, false),
-        (1, &[1, 5], 0, false),
-        (2, &[], 0, false),
-        (2, &[2, 6], 0, false),
-        (3, &[7], 0, false),
-        (3, &[3, 7], 0, false),
+        (0, &[4]),
+        (0, &[0, 4]),
+        (1, &[5]),
+        (1, &[1, 5]),
+        (2, &[]),
+        (2, &[2, 6]),
+        (3, &[7]),
+        (3, &[3, 7]),
     ],
-    lists: &[],
 };
 
 const STARTS: u32 = 4;
