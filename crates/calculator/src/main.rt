@@ -1,4 +1,4 @@
-//! A calculator: it writes the value of each line of the standard input, or why it has none. It shows how a program reads by a grammar of its own.
+//! A calculator: it writes the value of each of its words, or why it has none. It shows how a program reads by a grammar of its own.
 #![tactic(auto)]
 
 mod arithmetic;
@@ -9,7 +9,7 @@ use crate::arithmetic::Arithmetic;
 use crate::error::CalculationError;
 use slif_parser::{Forest, Grammar, Ranking, Reading};
 use std::alloc::Global;
-use std::io;
+use std::{env, io};
 
 const GRAMMAR: &str = "lexeme default = latm => 1
 Sum ::= Number
@@ -56,9 +56,8 @@ fn tell(rt: &HostRuntime, grammar: &Grammar, expression: &str) -> io::Result<()>
 
 fn main(rt: HostRuntime) -> Result<(), anyhow::Error> {
     let grammar = Grammar::from_text(rt.alloc(), GRAMMAR.as_bytes())?;
-    let input = io::read_to_string(rt.alloc(), rt.reader())?;
-    for expression in input.lines() {
-        tell(&rt, &grammar, expression)?;
+    for expression in env::args(&rt)?.skip(1) {
+        tell(&rt, &grammar, &expression)?;
     }
     Ok(())
 }
