@@ -1,10 +1,11 @@
 #!/usr/bin/env python3
-"""Runs each example of docs/LANGUAGE.md with the built programs, and compares what it writes.
+"""Runs each example of docs/LANGUAGE.md and docs/LIBRARY.md with the built programs, and compares what it writes.
 
-    bench/examples.py [--binary crates/slif/out/slif] [--show crates/slif_show/out/slif_show] [--page docs/LANGUAGE.md]
+    bench/examples.py [--binary crates/slif/out/slif] [--show crates/slif_show/out/slif_show] [--calculator crates/calculator/out/calculator]
+                      [--page docs/LANGUAGE.md --page docs/LIBRARY.md]
 
 An indented block whose first line is a comment with a name, as `# sum.slif`, is a file of that name. A line of a block that begins with
-`$` is a command, and the lines below it are all that it writes, to standard output or standard error. The files are made in a folder of
+`$` is a command, and the lines below it are all that it writes, to standard output or standard error. The files of a page are made in a folder of
 their own, where the folder examples/ is that of the repository. Of each examples/NAME.out there has to be a command that names
 examples/NAME.slif and writes just that.
 """
@@ -67,17 +68,12 @@ def outputs_told(commands):
     return told
 
 
-def main():
-    options = argparse.ArgumentParser()
-    options.add_argument("--binary", default=str(ROOT / "crates/slif/out/slif"))
-    options.add_argument("--show", default=str(ROOT / "crates/slif_show/out/slif_show"))
-    options.add_argument("--page", type=pathlib.Path, default=ROOT / "docs/LANGUAGE.md")
-    options = options.parse_args()
-    files, commands = read(options.page.read_text())
+def failures_of(files, commands, options):
+    """How many commands of a page write other than it says."""
     failed = 0
     with tempfile.TemporaryDirectory() as folder, tempfile.TemporaryDirectory() as tools:
-        os.symlink(pathlib.Path(options.binary).resolve(), pathlib.Path(tools) / "slif")
-        os.symlink(pathlib.Path(options.show).resolve(), pathlib.Path(tools) / "slif_show")
+        for name, path in (("slif", options.binary), ("slif_show", options.show), ("calculator", options.calculator)):
+            os.symlink(pathlib.Path(path).resolve(), pathlib.Path(tools) / name)
         os.symlink(ROOT / "examples", pathlib.Path(folder) / "examples")
         for name, text in files.items():
             (pathlib.Path(folder) / name).write_text(text)
@@ -86,11 +82,28 @@ def main():
             if got != wanted:
                 failed += 1
                 print(f"line {number}: {command}\n  wanted {wanted!r}\n  got    {got!r}")
-    for name, is_told in outputs_told(commands):
+    return failed
+
+
+def main():
+    options = argparse.ArgumentParser()
+    options.add_argument("--binary", default=str(ROOT / "crates/slif/out/slif"))
+    options.add_argument("--show", default=str(ROOT / "crates/slif_show/out/slif_show"))
+    options.add_argument("--calculator", default=str(ROOT / "crates/calculator/out/calculator"))
+    options.add_argument("--page", type=pathlib.Path, action="append")
+    options = options.parse_args()
+    grammars, told, failed = 0, [], 0
+    for page in options.page or [ROOT / "docs/LANGUAGE.md", ROOT / "docs/LIBRARY.md"]:
+        files, commands = read(page.read_text())
+        wrong = failures_of(files, commands, options)
+        if wrong:
+            print(f"{page.name}: {wrong} failed")
+        grammars, told, failed = grammars + len(files), told + commands, failed + wrong
+    for name, is_told in outputs_told(told):
         if not is_told:
             failed += 1
-            print(f"examples/{name}: no command of the page writes this")
-    print(f"{len(files)} grammars, {len(commands)} commands, {failed} failed")
+            print(f"examples/{name}: no command of a page writes this")
+    print(f"{grammars} grammars, {len(told)} commands, {failed} failed")
     return 1 if failed else 0
 
 

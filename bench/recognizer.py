@@ -1,32 +1,42 @@
 #!/usr/bin/env python3
-"""Times the recognizer on seven grammars, and takes its greatest memory.
+"""Times the recognizer on eight grammars, and takes its greatest memory.
 
     bench/recognizer.py [--binary crates/bench_drivers/out/bench_drivers] [--rounds 5]
 
 Wanted are at most 45 bytes a token of a left recursion, 100 of a right recursion and of JSON, 40 of nested brackets; at most 0.4 microseconds a token of
 the left recursion and 1.0 of JSON; with 400 operands of an ambiguous sum at most 100 nanoseconds for each try to add an item; and at most 100 nanoseconds a
-place of one token that is 1,000,000 places long. The time is that of the fastest round, and the memory is that of the whole process, so that a few bytes a
-token are those of the program itself. The program has no way to ask its counter, so the numbers of items and of tries are sums over what each set has to
-hold; those of the items are compared where they are known.
+place of one token that is 1,000,000 places long. Of the operator table, of five groups, nothing is wanted: behind a token of it some ten items are kept, of
+eight bytes each. The time is that of the fastest round, and the memory is that of the whole process, so that a few bytes a token are those of the program
+itself. The program has no way to ask its counter, so the numbers of items and of tries are sums over what each set has to hold; those of the items are
+compared where they are known.
 """
 import argparse, os, pathlib
 
 TOKENS = [250_000, 500_000, 1_000_000]
+COUNTS = {
+    "left": TOKENS,
+    "right": TOKENS,
+    "sum": TOKENS,
+    "json": [20_000, 60_000],
+    "brackets": [100_000, 500_000],
+    "operators": [20_000, 60_000],
+}
 OPERANDS = 400
 ITEMS = {
     "left": lambda n: 3 + 3 * n,
     "sum": lambda n: 3 + 3 * ((n + 1) // 2) + n // 2,
     "right": lambda n: 3 + 5 * n,
     "brackets": lambda n: 5 + 5 * n,
+    "operators": lambda n: 29 + 146 * n,
     "long": lambda n: 4,
     "twice": lambda n: (3 * n * n + 7 * n + 2) // 2,
 }
 # How many tokens there are for a count.
-LENGTHS = {"json": lambda n: 14 * n + 1, "brackets": lambda n: 2 * n + 1}
+LENGTHS = {"json": lambda n: 14 * n + 1, "brackets": lambda n: 2 * n + 1, "operators": lambda n: 15 * n + 1}
 
 
 def tries_with(operands):
-    return (operands**3 + 12 * operands**2 + 17 * operands + 18) // 6
+    return (operands + 1) * (operands + 2) * (operands + 3) // 6 + 2
 
 
 def run(binary, word, count):
@@ -52,7 +62,7 @@ def main():
     options.add_argument("--binary", default=str(top / "crates/bench_drivers/out/bench_drivers"))
     options.add_argument("--rounds", type=int, default=5)
     options = options.parse_args()
-    for word, counts in [("left", TOKENS), ("right", TOKENS), ("sum", TOKENS), ("json", [20_000, 60_000]), ("brackets", [100_000, 500_000])]:
+    for word, counts in COUNTS.items():
         for count in counts:
             runs = [run(options.binary, word, count) for _ in range(options.rounds)]
             took, peak, items = min(runs)

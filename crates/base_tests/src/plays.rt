@@ -283,7 +283,7 @@ fn trees_name_nulled_symbols(rt: HostRuntime) -> Result<(), Fail> {
     Ok(())
 }
 
-// S ::= B C; B ::= x; C is empty: the numbers 0 S, 1 B, 2 C, 3 x.
+/// S ::= B C; B ::= x; C is empty: the numbers 0 S, 1 B, 2 C, 3 x.
 pub fn nulled_at_the_end(alloc: Global) -> Result<Written, CoreRefusal>
     ensures rules { IfOk result (λ w. w.rules ≡ ends_nulled) }
     ensures sound { IfOk result (λ w. IsWritten w) }
@@ -313,6 +313,7 @@ pub const SEEN: [DescItem; 4] = [
     DescItem::Values,
 ];
 
+/// An action that shows these items.
 pub fn described_by(alloc: Global, items: &[DescItem]) -> Result<Action, NoMemory> {
     Ok(Action::Items(Items::new(items.to_vec(alloc)?)))
 }
@@ -324,7 +325,7 @@ fn described(alloc: Global, shown: &[bool]) -> Result<RuleMeaning, NoMemory>
     plain(alloc, described_by(alloc, &MADE)?, shown)
 }
 
-// All items of the rules, and of lexemes those that they have.
+/// All items of the rules, and of lexemes those that they have.
 pub fn all_described(alloc: Global) -> Result<Meaning, NoMemory>
     ensures { IfOk result (λ m. (g : Grammar) → g.rules ≡ ends_nulled → IsMeaningOf g (meaning_of m)) }
 {
@@ -388,6 +389,7 @@ fn line_of_nulled(
     Ok(line.as_slice() == wanted)
 }
 
+/// Plays the derivation of `nulled_at_the_end`, in which the last symbol is nulled.
 pub fn play_nulled(
     alloc: Global,
     meaning: &Meaning,

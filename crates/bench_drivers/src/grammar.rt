@@ -12,21 +12,49 @@ use std::alloc::Global;
 /// A left side and its parts, by the numbers of symbols.
 pub type Line = (u32, &'static [u32]);
 
-/// The names of the symbols, of which the first is the start, and the rules.
+/// The group of an operator, the loosest being 0, of so many, and how it associates.
+#[derive(Clone, Copy)]
+pub struct Group {
+    pub level: u32,
+    pub groups: u32,
+    pub assoc: Assoc,
+}
+
+/// The one group of rules that are no operators.
+const ALONE: Group = Group {
+    level: 0,
+    groups: 1,
+    assoc: Assoc::Left,
+};
+
+/// The names of the symbols, of which the first is the start, the rules, and the groups of the rules where they are operators.
 #[derive(Clone, Copy)]
 pub struct Language {
     pub names: &'static [&'static str],
     pub lines: &'static [Line],
+    pub groups: &'static [Group],
 }
 
-fn add_line(alloc: Global, w: &mut Written, line: &Line) -> Result<RuleId, CoreRefusal> {
+impl Language {
+    // The group of a rule.
+    fn group(&self, k: usize) -> Group {
+        self.groups.get(k).copied().unwrap_or(ALONE)
+    }
+}
+
+fn add_line(
+    alloc: Global,
+    w: &mut Written,
+    line: &Line,
+    group: Group,
+) -> Result<RuleId, CoreRefusal> {
     let rhs = line.1.iter().map(|part| SymbolId(*part)).collect(alloc)?;
     w.rule_new(Rule {
         lhs: SymbolId(line.0),
         rhs,
-        level: 0,
-        groups: 1,
-        assoc: Assoc::Left,
+        level: group.level,
+        groups: group.groups,
+        assoc: group.assoc,
         rank: 0,
         null_high: false,
     })
@@ -38,8 +66,8 @@ pub fn written_of(alloc: Global, language: &Language) -> Result<Written, CoreRef
     for name in language.names {
         w.symbol_new(name)?;
     }
-    for line in language.lines {
-        add_line(alloc, &mut w, line)?;
+    for k in 0..language.lines.len() {
+        add_line(alloc, &mut w, &language.lines[k], language.group(k))?;
     }
     w.start_add(SymbolId(0))?;
     Ok(w)

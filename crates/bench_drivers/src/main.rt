@@ -1,4 +1,4 @@
-//! Drivers of single parts, for the clock. Reads so many tokens by one of seven grammars, and prints the number of items of all sets;
+//! Drivers of single parts, for the clock. Reads so many tokens by one of eight grammars, and prints the number of items of all sets;
 //! or puts a list of so many numbers into a pool, and prints the length of its text. Several can be done in one run. With the
 //! word `time` behind them each prints how long it took; with the word `forest` the forest is built, too, and the number of its
 //! nodes and the time that this took are printed.
@@ -10,6 +10,7 @@
 //!     bench_drivers json OBJECTS    an array of objects
 //!     bench_drivers deep ARRAYS     arrays in arrays, by the same grammar
 //!     bench_drivers brackets DEPTH  B -> ( B ) | x
+//!     bench_drivers operators ROUNDS  the operator table, fifteen tokens a round
 //!     bench_drivers long PLACES     S -> a, with one token of so many places
 //!     bench_drivers values NUMBERS  a list in a pool
 #![tactic(auto)]

@@ -1,10 +1,10 @@
 //! The tokens of a run, and reading them.
 ghost use Rattle.std.specs.Prelude.{◌≡◌};
 
-use crate::grammar::Language;
+use crate::grammar::{Group, Language};
 use anyhow::bail;
 use earley_sets::Recce;
-use grammar_core::SymbolId;
+use grammar_core::{Assoc, SymbolId};
 use slif_base::Steps;
 use std::sync::ledger::Ledger;
 
@@ -14,36 +14,42 @@ const MOST_PLACES: u32 = 16_777_216;
 const LEFT: Language = Language {
     names: &["S", "a"],
     lines: &[(0, &[0, 1]), (0, &[1])],
+    groups: &[],
 };
 
 // E -> E '+' N | N
 const SUM: Language = Language {
     names: &["E", "N", "+"],
     lines: &[(0, &[0, 2, 1]), (0, &[1])],
+    groups: &[],
 };
 
 /// E -> E '+' E | N
 pub const TWICE: Language = Language {
     names: &["E", "N", "+"],
     lines: &[(0, &[0, 2, 0]), (0, &[1])],
+    groups: &[],
 };
 
 // S -> a S | a
 const RIGHT: Language = Language {
     names: &["S", "a"],
     lines: &[(0, &[1, 0]), (0, &[1])],
+    groups: &[],
 };
 
 // S -> a
 const ONE: Language = Language {
     names: &["S", "a"],
     lines: &[(0, &[1])],
+    groups: &[],
 };
 
 // B -> ( B ) | x
 const BRACKETS: Language = Language {
     names: &["B", "(", ")", "x"],
     lines: &[(0, &[1, 0, 2]), (0, &[3])],
+    groups: &[],
 };
 
 // Values, objects, members and elements of JSON.
@@ -67,10 +73,61 @@ const JSON: Language = Language {
         (5, &[5, 12, 0]),
         (5, &[0]),
     ],
+    groups: &[],
 };
 
 // { "" : [ 0 , "" ] , "" : 0 } ,
 const OBJECT: &[u32] = &[8, 6, 13, 10, 7, 12, 6, 11, 12, 6, 13, 7, 9, 12];
+
+// The tightest group, whose brackets hold the loosest.
+const HELD: Group = Group {
+    level: 4,
+    groups: 5,
+    assoc: Assoc::Group,
+};
+
+const POWER: Group = Group {
+    level: 3,
+    groups: 5,
+    assoc: Assoc::Right,
+};
+
+const SIGN: Group = Group {
+    level: 2,
+    groups: 5,
+    assoc: Assoc::Left,
+};
+
+const FACTOR: Group = Group {
+    level: 1,
+    groups: 5,
+    assoc: Assoc::Left,
+};
+
+const TERM: Group = Group {
+    level: 0,
+    groups: 5,
+    assoc: Assoc::Left,
+};
+
+// The operator table of `examples/operators.slif`.
+const OPERATORS: Language = Language {
+    names: &["E", "n", "(", ")", "^", "-", "*", "/", "+"],
+    lines: &[
+        (0, &[1]),
+        (0, &[2, 0, 3]),
+        (0, &[0, 4, 0]),
+        (0, &[5, 0]),
+        (0, &[0, 6, 0]),
+        (0, &[0, 7, 0]),
+        (0, &[0, 8, 0]),
+        (0, &[0, 5, 0]),
+    ],
+    groups: &[HELD, HELD, POWER, SIGN, FACTOR, FACTOR, TERM, TERM],
+};
+
+// n + n * - n ^ n - ( n / n ) +
+const TERMS: &[u32] = &[1, 8, 1, 6, 5, 1, 4, 1, 5, 2, 1, 7, 1, 3, 8];
 
 /// What is read.
 #[derive(Clone, Copy)]
@@ -82,6 +139,7 @@ pub enum Word {
     Json,
     Deep,
     Brackets,
+    Operators,
     Long,
 }
 
@@ -103,11 +161,17 @@ impl Word {
             "json" => Ok(Word::Json),
             "deep" => Ok(Word::Deep),
             "brackets" => Ok(Word::Brackets),
+            "operators" => Ok(Word::Operators),
             "long" => Ok(Word::Long),
-            _ => bail!("left, right, sum, twice, json, deep, brackets, long or values is wanted"),
+            _ => {
+                bail!(
+                    "left, right, sum, twice, json, deep, brackets, operators, long or values is wanted"
+                )
+            }
         }
     }
 
+    /// The grammar that is read for the word.
     pub fn language(self) -> Language {
         match self {
             Word::Left => LEFT,
@@ -116,17 +180,19 @@ impl Word {
             Word::Twice => TWICE,
             Word::Json | Word::Deep => JSON,
             Word::Brackets => BRACKETS,
+            Word::Operators => OPERATORS,
             Word::Long => ONE,
         }
     }
 
-    /// How many places are gone over, for a count of tokens, of operands, of objects, of arrays, of brackets or of places.
+    /// How many places are gone over, for a count of tokens, of operands, of objects, of arrays, of brackets, of rounds of operators or of places.
     pub fn places(self, count: u32) -> u32 {
         match self {
             Word::Left | Word::Right | Word::Sum | Word::Long => count,
             Word::Twice => count.saturating_mul(2).saturating_sub(1),
             Word::Json => count.saturating_mul(14).saturating_add(1),
             Word::Deep => count.saturating_mul(2),
+            Word::Operators => count.saturating_mul(15).saturating_add(1),
             Word::Brackets => count.saturating_mul(2).saturating_add(1),
         }
     }
@@ -144,6 +210,7 @@ impl Word {
             Word::Brackets if k < count / 2 => 1,
             Word::Brackets if k == count / 2 => 3,
             Word::Brackets => 2,
+            Word::Operators => TERMS[(k % 15) as usize],
         }
     }
 

@@ -6,7 +6,7 @@ use Rattle.recognizer_model.specs.declared.Item.{Item}
 use Rattle.recognizer_model.specs.Counts.{IsCountOf}
 use Rattle.recognizer_model.specs.Nodes.{Placed}
 use Rattle.earley_sets.proofs.Membership.{Contains-none, Contains-map, Contains-map_from}
-use Rattle.bocage.specs.Hidden.{AreAtLeast, RisesWithin, RisesBy}
+use Rattle.forest_parts.specs.Hidden.{AreAtLeast, RisesWithin, RisesBy}
 
 once_both : {X : Type 0} (xs ys : List X) → Once xs → Once ys → ((x : X) → Among x xs → Among x ys → ⊥) → Once (xs ++ ys)
 once_both [] ys a b apart = b

@@ -14,13 +14,14 @@ use Rattle.recognizer_model.specs.Nodes.{Before, Placed}
 use Rattle.recognizer_model.proofs.Over.{hidden_whole}
 use Rattle.earley_sets.specs.Recognizer.{Recognizer, IsRecognizer, place_of, set_at, edges_of, top_of}
 use Rattle.earley_sets.proofs.Membership.{got_item, found_at}
+use Rattle.forest_parts.specs.Hidden.{IsHiddenFrom, RisesWithin, RisesBy}
+use Rattle.forest_parts.proofs.Sets.{at_top, goes}
+use Rattle.forest_parts.proofs.RowLemmas.{there, one_more_taken}
 use Rattle.bocage.specs.declared.rows.AlternativeRow.{AlternativeRow}
 use Rattle.bocage.specs.declared.walk.Found.{Found}
 use Rattle.bocage.specs.Walk.{IsRead, IsUsedIn, node_of_item, top_key}
 use Rattle.bocage.specs.Ends.{IsKnownNode, IsGoing}
-use Rattle.bocage.specs.Hidden.{IsHiddenFrom, IsExpandedIn, IsExpandedAt, IsExpandedFrom, RisesWithin, RisesBy}
-use Rattle.bocage.proofs.Sets.{at_top, goes}
-use Rattle.bocage.proofs.RowLemmas.{there, one_more_taken}
+use Rattle.bocage.specs.Expanded.{IsExpandedIn, IsExpandedAt, IsExpandedFrom}
 use Rattle.bocage.proofs.Splits.{used_met, used_within, used_waits}
 use Rattle.bocage.proofs.Growing.{map_both}
 use Rattle.bocage.proofs.Asking.{IsAsked, asked, least_asked}

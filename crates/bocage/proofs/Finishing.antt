@@ -10,12 +10,13 @@ use Rattle.recognizer_model.specs.Contexts.{IsFound, Next}
 use Rattle.earley_sets.specs.Recognizer.{set_at, edges_of, top_of}
 use Rattle.earley_sets.proofs.Membership.{Contains-map_from, get_at}
 use Rattle.forest_model.specs.Forest.{Alternative, IsSplit, IsAlternative, AreAlternatives, starts_cmp, ranks_high}
+use Rattle.forest_parts.specs.Parts.{IsPart, rule_key_of}
+use Rattle.forest_parts.proofs.Sets.{in_full}
 use Rattle.bocage.specs.declared.rows.AlternativeRow.{AlternativeRow}
 use Rattle.bocage.specs.declared.walk.Known.{Known}
 use Rattle.bocage.specs.Rows.{alternative_of}
-use Rattle.bocage.specs.Parts.{IsPart, rule_key_of}
 use Rattle.bocage.specs.Walk.{seen_by, IsUsedIn, front_of_key, IsNext, MayBegin, AreListed, Knows}
-use Rattle.bocage.proofs.Splits.{in_full, waits_in, used_within, derives_forward, spans_forward, read_of}
+use Rattle.bocage.proofs.Splits.{waits_in, used_within, derives_forward, spans_forward, read_of}
 
 pub next_of_key : (k : Known) → Knows k → (key : NodeKey) → IsUsedIn k.written.now k.ranking k.recce.now key → key.end ≡ k.end → k.least ≤ key.origin → (symbol : ℕ) → symbol ≡ get_or (rhs_of k.recce.now.flat key.rule) (key.dot - 1) 0 → IsNext k (front_of_key key) symbol
 next_of_key k knows key used end least symbol e =

@@ -13,15 +13,16 @@ use Rattle.recognizer_model.specs.declared.NodeKey.{NodeKey}
 use Rattle.earley_sets.specs.Recognizer.{Recognizer, set_at}
 use Rattle.earley_sets.proofs.Membership.{Contains-none, Contains-first, Contains-rest}
 use Rattle.forest_model.specs.Forest.{Forest, ForestNode, Last, AnEdge, Nothing, Wholes, Alternative, IsNode, IsFront, IsLast, IsWholeOver, IsAlternative, starts_cmp}
+use Rattle.forest_parts.specs.Lists.{between}
 use Rattle.bocage.specs.declared.rows.AlternativeRow.{AlternativeRow}
 use Rattle.bocage.specs.declared.rows.LastRow.{LastRow}
 use Rattle.bocage.specs.declared.rows.LastRow.TheVariants as row
 use Rattle.bocage.specs.declared.walk.Known.{Known}
 use Rattle.bocage.specs.declared.walk.Found.{Found}
-use Rattle.bocage.specs.Rows.{between, last_of, alternative_of, IsLastWithin}
+use Rattle.bocage.specs.Rows.{last_of, alternative_of, IsLastWithin}
 use Rattle.bocage.specs.Walk.{bare, seen, seen_by, GrowsBy, IsNew, AreNoted, AreListed, Lists, is_high, whole_keys, whole_keys_by, AreNumbers, AddsWholes}
 use Rattle.recognizer_model.specs.Flat.{FlatGrammar}
-use Rattle.bocage.specs.declared.parts.Part.{Part}
+use Rattle.forest_parts.specs.declared.parts.Part.{Part}
 
 pub assoc : {X : Type 0} (xs ys zs : List X) → (xs ++ ys) ++ zs ≡ xs ++ (ys ++ zs)
 assoc [] ys zs = refl
@@ -51,11 +52,6 @@ pub get_map : {X Y : Type 0} (f : X → Y) (xs : List X) (n : ℕ) (x : X) → s
 get_map f [] n x e = absurd (cc)
 get_map f (y ∷ ys) zero x e = let s : y ≡ x = cc in ap (λ z. Some (f z)) s
 get_map f (y ∷ ys) (suc n) x e = get_map f ys n x e
-
-pub get_more : {X : Type 0} (xs ys : List X) (n : ℕ) (x : X) → slice_get xs n ≡ Some x → slice_get (xs ++ ys) n ≡ Some x
-get_more [] ys n x e = absurd (cc)
-get_more (z ∷ zs) ys zero x e = e
-get_more (z ∷ zs) ys (suc n) x e = get_more zs ys n x e
 
 pub get_mapped : {X Y : Type 0} (f : X → Y) (xs : List X) (n : ℕ) (y : Y) → slice_get (map f xs) n ≡ Some y → (x : X) × (slice_get xs n ≡ Some x) × (f x ≡ y)
 get_mapped f [] n y e = absurd (cc)

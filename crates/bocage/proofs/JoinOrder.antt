@@ -7,7 +7,7 @@ use Rattle.std.proofs.lemmas.Bool.{and_parts, eqb-true}
 use Rattle.recognizer_model.specs.declared.Item.{Item}
 use Rattle.recognizer_model.specs.Items.{after}
 use Rattle.earley_sets.specs.Recognizer.{Recognizer, set_at}
-use Rattle.bocage.specs.declared.groups.Group.{Group}
+use Rattle.forest_parts.specs.declared.groups.Group.{Group}
 use Rattle.bocage.specs.declared.joins.Join.{Join}
 use Rattle.bocage.specs.Joins.{join_cmp, front_of_join, IsJoinOf}
 

@@ -10,21 +10,22 @@ use Rattle.recognizer_model.specs.Items.{after}
 use Rattle.earley_sets.specs.Recognizer.{Recognizer, set_at}
 use Rattle.earley_sets.proofs.Membership.{Contains-none, Contains-first, Contains-rest, Contains-cons_cases, got_at, got_item, get_at}
 use Rattle.forest_model.specs.Forest.{starts_cmp, start_place}
-use Rattle.bocage.specs.declared.parts.Part.{Part}
-use Rattle.bocage.specs.declared.groups.Group.{Group}
+use Rattle.forest_parts.specs.declared.parts.Part.{Part}
+use Rattle.forest_parts.specs.declared.groups.Group.{Group}
+use Rattle.forest_parts.specs.Parts.{part_at, no_part, IsPart}
+use Rattle.forest_parts.specs.Lists.{between}
+use Rattle.forest_parts.proofs.Spans.{span_of_group, start_of_group, symbol_of_group}
 use Rattle.bocage.specs.declared.joins.Join.{Join}
 use Rattle.bocage.specs.declared.walk.Known.{Known}
 use Rattle.bocage.specs.declared.walk.Found.{Found}
-use Rattle.bocage.specs.Parts.{part_at, no_part, IsPart}
 use Rattle.bocage.specs.Joins.{front_of_join}
-use Rattle.bocage.specs.Rows.{between}
-use Rattle.bocage.proofs.Spans.{span_of_group, start_of_group, symbol_of_group}
 use Rattle.grammar_model.specs.declared.Ranking.{Ranking}
 use Rattle.grammar_model.specs.Grammar.{Grammar}
-use Rattle.bocage.specs.Walk.{AreGathered, IsSpan, AreJoinsOf, IsNext, BeginsIn, MayBegin, Lists, Knows, is_high}
-use Rattle.bocage.proofs.InOrder.{rest_less}
+use Rattle.forest_parts.specs.Groups.{IsSpan}
+use Rattle.forest_parts.proofs.InOrder.{rest_less}
+use Rattle.forest_parts.proofs.RowLemmas.{there}
+use Rattle.bocage.specs.Walk.{AreGathered, AreJoinsOf, IsNext, BeginsIn, MayBegin, Lists, Knows, is_high}
 use Rattle.bocage.proofs.JoinOrder.{no_join}
-use Rattle.bocage.proofs.RowLemmas.{there}
 use Rattle.bocage.proofs.Growing.{lists_then}
 
 not_same : (m n : ℕ) → m < n → (m == n) ≡ false

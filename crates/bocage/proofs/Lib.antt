@@ -1,17 +1,9 @@
-pub mod Sets
-pub mod RowLemmas
-pub mod InOrder
-pub mod Sources
-pub mod Gathering
-pub mod PartOrder
 pub mod JoinOrder
 pub mod Splits
 pub mod Growing
-pub mod Ranks
 pub mod Putting
 pub mod Wholes
 pub mod Noting
-pub mod Spans
 pub mod Joining
 pub mod Finishing
 pub mod Moving

@@ -6,11 +6,12 @@ use Rattle.recognizer_model.specs.declared.NodeKey.{NodeKey}
 use Rattle.earley_sets.specs.Recognizer.{Recognizer, place_of}
 use Rattle.earley_sets.proofs.Membership.{Contains-first, Contains-rest}
 use Rattle.forest_model.specs.Forest.{Forest, ForestNode, Alternative, IsNode, IsFront, IsLast, Last, AnEdge, Nothing, Wholes, IsWholeOver, IsSplit, AreAlternatives}
+use Rattle.forest_parts.proofs.RowLemmas.{get_more}
 use Rattle.bocage.specs.declared.rows.AlternativeRow.{AlternativeRow}
 use Rattle.bocage.specs.Rows.{alternative_of, IsLastWithin}
 use Rattle.bocage.specs.Walk.{bare, seen}
 use Rattle.bocage.specs.Ends.{HasRow}
-use Rattle.bocage.proofs.Growing.{alternative_same, within_more, map_both, get_more}
+use Rattle.bocage.proofs.Growing.{alternative_same, within_more, map_both}
 
 module _ (w : Grammar) (ranking : Ranking) (r : Recognizer) (nodes nodes' : List ForestNode) (root root' : Option ℕ) where
   abbrev pub before : Forest

@@ -4,13 +4,13 @@ use Rattle.std.proofs.Math.ListN.{set}
 use Rattle.std.proofs.lemmas.List.{append-nil}
 use Rattle.recognizer_model.specs.declared.NodeKey.{NodeKey}
 use Rattle.recognizer_model.specs.Flat.{FlatGrammar}
-use Rattle.bocage.specs.declared.groups.Group.{Group}
-use Rattle.bocage.specs.declared.parts.Part.{Part}
+use Rattle.forest_parts.specs.declared.groups.Group.{Group}
+use Rattle.forest_parts.specs.declared.parts.Part.{Part}
+use Rattle.forest_parts.specs.Lists.{between}
 use Rattle.bocage.specs.declared.rows.LastRow.{LastRow}
 use Rattle.bocage.specs.declared.rows.LastRow.TheVariants as row
 use Rattle.bocage.specs.declared.walk.Known.{Known}
 use Rattle.bocage.specs.declared.walk.Found.{Found}
-use Rattle.bocage.specs.Rows.{between}
 use Rattle.bocage.specs.Walk.{GrowsBy, whole_keys, AreNumbers, IsLastFound, IsLastHeld, parts_of_group, AreNoted, IsLastNoted}
 use Rattle.bocage.proofs.Growing.{grows_none, numbers_more, between_more, length_more}
 use Rattle.bocage.proofs.Wholes.{length_both, between_all}

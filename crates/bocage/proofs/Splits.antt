@@ -1,53 +1,36 @@
 -- What the sets of a recognizer say of derivations.
 use Rattle.std.proofs.Common.{◌≡◌, ℕ, ◌<◌, ◌≤◌, ◌↔◌, Contains, Some, length, refl, arith}
 use Rattle.grammar_model.specs.Trees.{Tree, Children}
-use Rattle.grammar_model.specs.Derives.{Edges}
 use Rattle.recognizer_model.specs.declared.Item.{Item}
 use Rattle.recognizer_model.specs.declared.NodeKey.{NodeKey}
-use Rattle.recognizer_model.specs.Flat.{FlatGrammar, IsRule, lhs_of, rhs_of}
+use Rattle.recognizer_model.specs.Flat.{IsRule, lhs_of, rhs_of}
 use Rattle.recognizer_model.specs.FlatDerives.{Derives, Token, Null, Rule, Spans, Nothing, More}
-use Rattle.recognizer_model.specs.Contexts.{IsTop, IsFound, MayStand, AtStart, Next}
+use Rattle.recognizer_model.specs.Contexts.{IsFound, MayStand, AtStart, Next}
 use Rattle.recognizer_model.specs.Chosen.{Allowed, allowed_by}
 use Rattle.recognizer_model.specs.Nodes.{IsMet, Whole, Before, Last}
-use Rattle.recognizer_model.proofs.Earley.{items_are_found}
 use Rattle.recognizer_model.proofs.Nodes.{used_are_met}
-use Rattle.earley_sets.specs.Kept.{IsItem}
 use Rattle.grammar_model.specs.declared.Ranking.{Ranking}
 use Rattle.grammar_model.specs.Grammar.{Grammar}
 use Rattle.bocage.specs.declared.walk.Known.{Known}
 use Rattle.bocage.specs.Walk.{IsRead, IsUsedIn, Knows}
 use Rattle.recognizer_model.proofs.Leaving.{leaves_some}
 use Rattle.earley_sets.specs.Recognizer.{Recognizer, IsRecognizer, place_of, set_at, edges_of, top_of}
-use Rattle.earley_sets.proofs.Following.{part_within}
 use Rattle.earley_sets.proofs.Membership.{get_at}
-use Rattle.earley_sets.proofs.Recognizing.{top_is_top, only}
-use Rattle.bocage.proofs.Sets.{waits_exact}
-use Rattle.recognizer_model.specs.Items.{InSet, after}
-
-spans_within : {g : FlatGrammar} {E : Edges} {r d p q : ℕ} {cs : Children} → Spans g E r d p q cs → d ≤ length (rhs_of g r)
-spans_within Nothing = omega arith
-spans_within {g = g} {r = r} (More {d = d} {x = x} s e t) = let l = part_within (rhs_of g r) d x e in omega arith
+use Rattle.earley_sets.proofs.Recognizing.{only}
+use Rattle.forest_parts.proofs.Sets.{at_top, waits_exact, spans_within, in_full}
+use Rattle.recognizer_model.specs.Items.{after}
 
 module _ (r : Recognizer) (is : IsRecognizer r) where
-  pub is_top : IsTop r.flat (top_of r)
-  is_top = top_is_top r.flat r.start (top_of r) is.flat is.start refl
-
-  pub in_full : (j : ℕ) (item : Item) → InSet r.flat (edges_of r) (top_of r) j item ↔ IsFound r.flat (edges_of r) (top_of r) j item
-  in_full j item = items_are_found r.flat (edges_of r) (top_of r) is_top j item
-
   -- an item that waits is kept exactly where it was found
   pub waits_in : (j : ℕ) (item : Item) (x : ℕ) → j ≤ place_of r → after r.flat item ≡ Some x → Contains (set_at r j) item ↔ IsFound r.flat (edges_of r) (top_of r) j item
   waits_in j item x le e =
       let a = waits_exact r is j item x le e in
-      let b = in_full j item in
+      let b = in_full r is j item in
       ((λ h. b.0 (a.0 h)), (λ f. a.1 (b.1 f)))
-
-  pub found_item : (j : ℕ) (item : Item) → InSet r.flat (edges_of r) (top_of r) j item → IsItem r.flat item
-  found_item j item h = let f = (in_full j item).0 h in record { is_rule = f.is_rule; within = spans_within f.spans }
 
   -- what is met may stand where it begins
   pub met_stands : {allowed : Allowed} {rule d p q : ℕ} → IsMet r.flat (edges_of r) allowed (top_of r) (place_of r) rule d p q → IsRule r.flat rule × MayStand r.flat (edges_of r) (top_of r) (lhs_of r.flat rule) p
-  met_stands (Whole lt s) = (is_top.is_rule, AtStart refl)
+  met_stands (Whole lt s) = ((at_top r is).is_rule, AtStart refl)
   met_stands (Before m s e t) = met_stands m
   met_stands (Last m s e rule lt s' best) = let (rule', stands) = met_stands m in (rule, Next stands rule' refl s e)
 
@@ -88,7 +71,7 @@ read_of k knows = record { checked = knows.checked; flat_of = knows.flat_of; is 
 module _ (w : Grammar) (ranking : Ranking) (r : Recognizer) (read : IsRead w r) where
   pub used_met : (n : NodeKey) → IsUsedIn w ranking r n ↔ ((0 < n.dot) × IsMet r.flat (edges_of r) (allowed_by w ranking r.flat (edges_of r)) (top_of r) (place_of r) n.rule n.dot n.origin n.end)
   used_met n =
-      used_are_met r.flat (edges_of r) (allowed_by w ranking r.flat (edges_of r)) (top_of r) (is_top r read.is) (only r.flat r.edges read.is.flat read.is.forward) read.is.flat.no_rules (leaves_some r.flat w read.is.flat r.edges (λ s p q h. read.is.forward (record { symbol = s; from = p; to = q }) h) ranking)
+      used_are_met r.flat (edges_of r) (allowed_by w ranking r.flat (edges_of r)) (top_of r) (at_top r read.is) (only r.flat r.edges read.is.flat read.is.forward) read.is.flat.no_rules (leaves_some r.flat w read.is.flat r.edges (λ s p q h. read.is.forward (record { symbol = s; from = p; to = q }) h) ranking)
       (place_of r) n
 
   pub used_within : (n : NodeKey) → IsUsedIn w ranking r n → IsKeyWithin r n

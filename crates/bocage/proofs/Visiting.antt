@@ -7,16 +7,16 @@ use Rattle.grammar_model.specs.Grammar.{Grammar}
 use Rattle.recognizer_model.specs.declared.NodeKey.{NodeKey}
 use Rattle.earley_sets.specs.Recognizer.{Recognizer, place_of, set_at}
 use Rattle.earley_sets.proofs.Membership.{Contains-none, got_at, got_item, found_at}
+use Rattle.forest_parts.proofs.RowLemmas.{one_more_taken, get_more}
 use Rattle.bocage.specs.declared.rows.AlternativeRow.{AlternativeRow}
 use Rattle.bocage.specs.declared.walk.Known.{Known}
 use Rattle.bocage.specs.declared.walk.Found.{Found}
 use Rattle.bocage.specs.Walk.{IsRead, Knows, IsUsedIn, IsNew, AreNoted, GrowsBy, ListsKey, node_of_item, top_key}
 use Rattle.bocage.specs.Ends.{SetsRow, IsKnownNode, HasRow, Goes, Visits, IsReady, IsGoing, AreVisited}
-use Rattle.bocage.proofs.RowLemmas.{one_more_taken}
 use Rattle.bocage.proofs.Splits.{used_waits, read_of}
 use Rattle.std.proofs.Math.ListN.{set}
-use Rattle.bocage.proofs.Spans.{last_is}
-use Rattle.bocage.proofs.Growing.{map_both, grows_none, grows_then, get_more}
+use Rattle.forest_parts.proofs.Spans.{last_is}
+use Rattle.bocage.proofs.Growing.{map_both, grows_none, grows_then}
 use Rattle.bocage.proofs.Finishing.{key_law}
 use Rattle.bocage.proofs.Moving.{row_stays, past_end}
 

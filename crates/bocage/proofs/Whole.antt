@@ -18,11 +18,12 @@ use Rattle.earley_sets.proofs.Membership.{Contains-none, get_at, got_at, got_ite
 use Rattle.forest_model.specs.Forest.{Forest, ForestNode, IsNode, AreAlternatives, IsForest, IsRoot}
 use Rattle.bocage.specs.declared.rows.AlternativeRow.{AlternativeRow}
 use Rattle.grammar_model.specs.declared.Ranking.{Ranking}
+use Rattle.forest_parts.proofs.Sets.{at_top}
 use Rattle.bocage.specs.declared.walk.Found.{Found}
 use Rattle.bocage.specs.Rows.{alternative_of, nodes_of, IsTable, AreWithin}
 use Rattle.bocage.specs.Walk.{bare, IsRead, IsUsedIn, GrowsBy, IsBegun, top_key}
 use Rattle.bocage.specs.Ends.{HasRow, AreVisited}
-use Rattle.bocage.proofs.Splits.{is_top, used_met}
+use Rattle.bocage.proofs.Splits.{used_met}
 use Rattle.bocage.proofs.Growing.{seen_node}
 use Rattle.bocage.proofs.Moving.{alternatives_moved}
 use Rattle.bocage.proofs.Visiting.{still_at}
@@ -32,7 +33,7 @@ use Rattle.bocage.proofs.Telling.{get_node, got_node, keys_of_nodes}
 -- a tree of the start is one of its top
 pub has_top : (w : Grammar) (r : Recognizer) → IsRead w r → HasTree r → (tree : Tree) × Derives r.flat (edges_of r) (lhs_of r.flat (top_of r)) 0 (place_of r) tree
 has_top w r read (t, d) = elim (cases_lt 0 (place_of r)) [
-  | inl lt ↦ (Node (top_of r) (Child NoChild t) 0 (place_of r), Rule (is_top r read.is).is_rule refl lt (subst (λ n. Spans r.flat (edges_of r) (top_of r) n 0 (place_of r) (Child NoChild t)) (sym one) (More Flat.Nothing part over)))
+  | inl lt ↦ (Node (top_of r) (Child NoChild t) 0 (place_of r), Rule (at_top r read.is).is_rule refl lt (subst (λ n. Spans r.flat (edges_of r) (top_of r) n 0 (place_of r) (Child NoChild t)) (sym one) (More Flat.Nothing part over)))
   | inr le ↦ (Nulled (lhs_of r.flat (top_of r)) 0, (let e : 0 ≡ place_of r = omega arith in subst (λ q. Derives r.flat (edges_of r) (lhs_of r.flat (top_of r)) 0 q (Nulled (lhs_of r.flat (top_of r)) 0)) e (Null (marked le))))
 ]
   where
@@ -54,7 +55,7 @@ has_top w r read (t, d) = elim (cases_lt 0 (place_of r)) [
     nothing (Rule is l lt s) le = absurd (omega arith)
 
     marked : place_of r ≤ 0 → IsNullable r.flat (lhs_of r.flat (top_of r))
-    marked le = read.is.flat.marks (top_of r) (is_top r read.is).is_rule (λ position x e. (
+    marked le = read.is.flat.marks (top_of r) (at_top r read.is).is_rule (λ position x e. (
         let (lt, same) = got_at (rhs_of r.flat (top_of r)) position x 0 (sym e) in
         let o = one in
         let first : position ≡ 0 = omega arith in
@@ -70,10 +71,10 @@ spans_top w r read tree d lt = go refl d refl refl
   where
     go : {x p q : ℕ} {t : Tree} → x ≡ lhs_of r.flat (top_of r) → Derives r.flat (edges_of r) x p q t → p ≡ 0 → q ≡ place_of r →
         (cs : Children) × Spans r.flat (edges_of r) (top_of r) (length (rhs_of r.flat (top_of r))) 0 (place_of r) cs
-    go e (Token (t, is, h)) o w' = absurd (read.is.flat.no_rules (top_of r) (is_top r read.is).is_rule (t, ap (slice_get r.flat.symbols) (sym e) ∙ is))
+    go e (Token (t, is, h)) o w' = absurd (read.is.flat.no_rules (top_of r) (at_top r read.is).is_rule (t, ap (slice_get r.flat.symbols) (sym e) ∙ is))
     go e (Null n) o w' = absurd (omega arith)
     go e (Rule {p = p} {q = q} {r = rule} {cs = cs} is l lt' s) o w' =
-        let same : rule ≡ top_of r = (is_top r read.is).alone rule is (l ∙ e) in (
+        let same : rule ≡ top_of r = (at_top r read.is).alone rule is (l ∙ e) in (
           cs,
           subst (λ z. Spans r.flat (edges_of r) z (length (rhs_of r.flat z)) 0 (place_of r) cs) same
               (subst (λ z. Spans r.flat (edges_of r) rule (length (rhs_of r.flat rule)) z (place_of r) cs) o
@@ -179,7 +180,7 @@ begun_top r keys (Some n) (lt', at, one) lt = got_item keys n (top_key r) (sym a
 pub top_used : (w : Grammar) (ranking : Ranking) (r : Recognizer) → IsRead w r → HasTree r → (keys : List NodeKey) (root : Option ℕ) → IsBegun r keys root → (key : NodeKey) → Contains keys key → IsUsedIn w ranking r key × (key.end ≡ place_of r)
 top_used w ranking r read has keys None (e, none) key h = absurd (Contains-none key (subst (λ l. Contains l key) none h))
 top_used w ranking r read has keys (Some n) (lt, at, one) key h =
-    let top = is_top r read.is in
+    let top = at_top r read.is in
     let some = read.is.flat.some (top_of r) top.is_rule in
     (subst (λ z. IsUsedIn w ranking r z) (sym (one key h)) ((used_met w ranking r read (top_key r)).1 (some, whole)), ap (λ (z : NodeKey). z.end) (one key h))
   where

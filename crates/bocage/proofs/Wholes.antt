@@ -21,23 +21,25 @@ use Rattle.earley_sets.specs.Recognizer.{set_at, edges_of, top_of}
 use Rattle.recognizer_model.specs.Items.{InSet}
 use Rattle.earley_sets.proofs.Membership.{Contains-none, Contains-first, Contains-rest, Contains-cons_cases}
 use Rattle.forest_model.specs.Forest.{AreWholes, IsWholeOver, IsLast, whole_key, rules_cmp}
-use Rattle.bocage.specs.declared.parts.RuleKey.{RuleKey}
-use Rattle.bocage.specs.declared.parts.Part.{Part}
+use Rattle.forest_parts.specs.declared.parts.RuleKey.{RuleKey}
+use Rattle.forest_parts.specs.declared.parts.Part.{Part}
+use Rattle.forest_parts.specs.Lists.{between}
+use Rattle.forest_parts.specs.Parts.{part_cmp, key_cmp, part_at, no_part, rule_key_of, IsPart, IsPartAt, IsWholeOf}
 use Rattle.bocage.specs.declared.rows.LastRow.{LastRow}
 use Rattle.bocage.specs.declared.rows.LastRow.TheVariants as row
 use Rattle.bocage.specs.declared.walk.Known.{Known}
-use Rattle.bocage.specs.Rows.{between, last_of, IsLastWithin}
-use Rattle.bocage.specs.Parts.{part_cmp, key_cmp, part_at, no_part, rule_key_of, IsPart, IsPartAt, IsWholeOf}
+use Rattle.bocage.specs.Rows.{last_of, IsLastWithin}
 use Rattle.recognizer_model.specs.Chosen.{flat_rank, allowed_by}
-use Rattle.bocage.specs.Groups.{rank_in}
-use Rattle.bocage.proofs.Ranks.{kept_allowed, allowed_kept}
-use Rattle.bocage.specs.Walk.{seen_by, IsUsedIn, node_of_item, node_after, whole_keys, whole_keys_by, AreNumbers, IsLastHeld, AreNoted, IsSpan, IsNew, IsNext, Knows, Lists, GrowsBy, IsFrontFound, FitsPart, HasRule}
+use Rattle.forest_parts.specs.Groups.{rank_in, IsSpan}
+use Rattle.forest_parts.proofs.Ranks.{kept_allowed, allowed_kept}
+use Rattle.forest_parts.proofs.InOrder.{then_rest}
+use Rattle.forest_parts.proofs.RowLemmas.{there, get_more}
+use Rattle.forest_parts.proofs.Sets.{in_full}
+use Rattle.bocage.specs.Walk.{seen_by, IsUsedIn, node_of_item, node_after, whole_keys, whole_keys_by, AreNumbers, IsLastHeld, AreNoted, IsNew, IsNext, Knows, Lists, GrowsBy, IsFrontFound, FitsPart, HasRule}
 use Rattle.bocage.specs.declared.walk.Found.{Found}
 use Rattle.bocage.proofs.Putting.{found_front, whole_used, front_new, put_one}
-use Rattle.bocage.proofs.InOrder.{then_rest}
-use Rattle.bocage.proofs.RowLemmas.{there}
-use Rattle.bocage.proofs.Growing.{node_seen, get_more, grows_then, grows_weaker}
-use Rattle.bocage.proofs.Splits.{in_full, used_met, met_stands, read_of}
+use Rattle.bocage.proofs.Growing.{node_seen, grows_then, grows_weaker}
+use Rattle.bocage.proofs.Splits.{used_met, met_stands, read_of}
 
 -- the rules of parts
 abbrev pub rules_by : Option RuleKey → List ℕ

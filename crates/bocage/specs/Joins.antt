@@ -6,7 +6,7 @@ use Rattle.std.specs.Ordering.{ordering_then, nat_cmp}
 use Rattle.recognizer_model.specs.declared.Item.{Item}
 use Rattle.recognizer_model.specs.Items.{after}
 use Rattle.earley_sets.specs.Recognizer.{Recognizer, set_at}
-use Rattle.bocage.specs.declared.groups.Group.{Group}
+use Rattle.forest_parts.specs.declared.groups.Group.{Group}
 use Rattle.bocage.specs.declared.joins.Join.{Join}
 
 abbrev pub join_cmp : Join → Join → Ordering

@@ -1,5 +1,5 @@
 -- Nodes and alternatives as they are kept.
-use Rattle.std.specs.Prelude.{◌≡◌, ℕ, ◌<◌, ◌≤◌, ◌-◌, List, [], ◌∷◌, Some, None, length, map, take, drop, slice_get, Contains}
+use Rattle.std.specs.Prelude.{◌≡◌, ℕ, ◌<◌, ◌≤◌, List, [], ◌∷◌, Some, None, length, map, slice_get, Contains}
 use Rattle.forest_model.specs.Forest.{Last, AnEdge, Nothing, Wholes, Alternative, ForestNode}
 use Rattle.bocage.specs.declared.rows.LastRow.{LastRow}
 use Rattle.bocage.specs.declared.rows.LastRow.TheVariants as row
@@ -7,10 +7,6 @@ use Rattle.bocage.specs.declared.rows.AlternativeRow.{AlternativeRow}
 use Rattle.recognizer_model.specs.declared.NodeKey.{NodeKey}
 use Rattle.bocage.specs.declared.rows.LastPart.{LastPart}
 use Rattle.bocage.specs.declared.rows.LastPart.TheVariants as part
-
--- those from one place up to another
-abbrev pub between : {A : Type 0} → (first end : ℕ) → List A → List A
-between first end xs = take (end - first) (drop first xs)
 
 abbrev pub last_of : List ℕ → LastRow → Last
 last_of wholes row.Edge = AnEdge

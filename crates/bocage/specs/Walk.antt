@@ -1,5 +1,5 @@
 -- What is looked up at one place, and how what is found grows.
-use Rattle.std.specs.Prelude.{◌≡◌, ℕ, suc, ◌+◌, ◌-◌, ◌<◌, ◌≤◌, ◌≤ℤ◌, List, [], ◌∷◌, ◌++◌, length, map, Bool, Option, Some, None, Contains, ◌⊎◌, ◌↔◌, slice_get}
+use Rattle.std.specs.Prelude.{◌≡◌, ℕ, suc, ◌+◌, ◌-◌, ◌<◌, ◌≤◌, List, [], ◌∷◌, ◌++◌, length, map, Bool, Option, Some, None, Contains, ◌⊎◌, ◌↔◌, slice_get}
 use Rattle.std.specs.List.Sorted.{IsStrictlySortedBy}
 use Rattle.grammar_model.specs.declared.Ranking.{Ranking}
 use Rattle.grammar_model.specs.Grammar.{Grammar}
@@ -12,19 +12,20 @@ use Rattle.recognizer_model.specs.Chosen.{allowed_by}
 use Rattle.recognizer_model.specs.Nodes.{IsUsed}
 use Rattle.earley_sets.specs.Recognizer.{Recognizer, IsRecognizer, place_of, set_at, edges_of, top_of}
 use Rattle.forest_model.specs.Forest.{Forest, ForestNode, IsAlternative, starts_cmp}
-use Rattle.bocage.specs.declared.parts.Part.{Part}
-use Rattle.bocage.specs.declared.parts.RuleKey.{RuleKey}
+use Rattle.forest_parts.specs.declared.parts.Part.{Part}
+use Rattle.forest_parts.specs.declared.parts.RuleKey.{RuleKey}
+use Rattle.forest_parts.specs.declared.groups.Group.{Group}
+use Rattle.forest_parts.specs.Groups.{RanksFall, AreGroups}
+use Rattle.forest_parts.specs.Parts.{part_cmp, IsPartAt, part_at}
+use Rattle.forest_parts.specs.Lists.{between}
 use Rattle.bocage.specs.declared.rows.AlternativeRow.{AlternativeRow}
 use Rattle.bocage.specs.declared.rows.LastRow.{LastRow}
 use Rattle.bocage.specs.declared.rows.LastRow.TheVariants as row
 use Rattle.bocage.specs.declared.walk.Known.{Known}
 use Rattle.bocage.specs.declared.walk.Found.{Found}
-use Rattle.bocage.specs.declared.groups.Group.{Group}
 use Rattle.bocage.specs.declared.joins.Join.{Join}
-use Rattle.bocage.specs.Groups.{rank_in, IsKept, RanksFall, AreGroups}
 use Rattle.bocage.specs.Joins.{join_cmp, front_of_join, AreJoins}
-use Rattle.bocage.specs.Parts.{part_cmp, IsPartAt, part_at}
-use Rattle.bocage.specs.Rows.{between, alternative_of, IsLastWithin}
+use Rattle.bocage.specs.Rows.{alternative_of, IsLastWithin}
 
 -- a recognizer over the flat grammar of a checked one
 pub record IsRead (w : Grammar) (r : Recognizer) : Type 0 where
@@ -158,13 +159,6 @@ pub record Lists (k : Known) (front : Item) (symbol : ℕ) (D : ℕ → Type 0) 
   pub more : List ℕ
   pub wholes : new.wholes.items ≡ old.wholes.items ++ more
   pub noted : AreNoted k new
-
--- parts over one span: all of them that there are and that the ranking keeps
-pub record IsSpan (ranking : Ranking) (all parts : List Part) : Type 0 where
-  pub some : 0 < length parts
-  pub sorted : IsStrictlySortedBy part_cmp parts
-  pub exact : (p : Part) → Contains parts p ↔ (Contains all p × (p.symbol ≡ (part_at parts 0).symbol) × (p.length ≡ (part_at parts 0).length) × IsKept ranking p (part_at parts 0))
-  pub best : (p : Part) → Contains all p → p.symbol ≡ (part_at parts 0).symbol → p.length ≡ (part_at parts 0).length → rank_in p.whole ≤ℤ rank_in (part_at parts 0).whole
 
 abbrev pub IsGroupOf : Known → Group → Type 0
 IsGroupOf k g = Contains k.groups.now g

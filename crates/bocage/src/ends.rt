@@ -3,21 +3,20 @@ ghost use Rattle.std.specs.Prelude.{◌≡◌, ◌≢◌, AllPairs, ℕ, ◌<◌
 ghost use Rattle.recognizer_model.specs.declared.NodeKey.{NodeKey as TheKey};
 ghost use Rattle.recognizer_model.specs.Counts.{IsCountOf};
 ghost use Rattle.earley_sets.specs.Recognizer.{IsRecognizer, place_of, set_at};
-ghost use Rattle.bocage.specs.Hidden.{AreHidden, IsExpandedIn, IsExpandedAt, RisesBy, RisesWithin};
+ghost use Rattle.forest_parts.specs.Hidden.{AreHidden, RisesBy, RisesWithin};
+ghost use Rattle.bocage.specs.Expanded.{IsExpandedIn, IsExpandedAt};
 ghost use Rattle.bocage.specs.Walk.{Knows, IsUsedIn, IsRead, GrowsBy, top_key};
 ghost use Rattle.bocage.specs.Ends.{SetsRow, IsKnownNode, Visits, Goes, HasRow, IsReady, IsGoing, AreVisited};
 ghost use Rattle.bocage.specs.Walk.{AreGathered, AreNoted};
 ghost use Rattle.bocage.specs.declared.rows.LastRow.{LastRow as TheLastRow};
 
 use crate::ForestRefusal;
-use crate::gather::{list_hidden, list_parts};
-use crate::groups::{Group, list_groups};
 use crate::joins::{Join, list_joins};
-use crate::parts::Part;
 use crate::rows::{AlternativeRow, LastRow, key_at};
 use crate::walk::{Found, Known, differ, put_key};
 use bumpalo::Bump;
 use earley_sets::Recce;
+use forest_parts::{Group, Part, list_groups, list_hidden, list_parts};
 use grammar_core::Written;
 use grammar_model::{Edge, Ranking};
 use indexmap::IndexSet;
@@ -39,6 +38,7 @@ pub struct Work {
 }
 
 impl Work {
+    /// Nothing done yet.
     pub fn new(alloc: Global) -> Work
         ensures { result.expanded ≡ 0 }
     {

@@ -7,7 +7,8 @@ ghost use Rattle.recognizer_model.specs.Chosen.{allowed_by};
 ghost use Rattle.recognizer_model.specs.Nodes.{IsExpanded, IsStats};
 ghost use Rattle.earley_sets.specs.Recognizer.{HasTree, place_of, edges_of, top_of};
 ghost use Rattle.forest_model.specs.Forest.{IsForest, IsNode, allowed_of, edges_of as forest_edges, top_of as forest_top};
-ghost use Rattle.bocage.specs.Hidden.{IsExpandedIn, RisesWithin};
+ghost use Rattle.forest_parts.specs.Hidden.{RisesWithin};
+ghost use Rattle.bocage.specs.Expanded.{IsExpandedIn};
 ghost use Rattle.bocage.specs.Rows.{part_told};
 ghost use Rattle.bocage.specs.Readers.{alternative_at, node_at};
 ghost use Rattle.bocage.specs.declared.refusal.ForestRefusal.TheVariants.{NoParse};
@@ -111,7 +112,7 @@ impl<'a> Model for Forest<'a> {
     ghost use Rattle.forest_model.specs.Forest.{Forest, IsForest};
     ghost use Rattle.recognizer_model.specs.Counts.{IsCountOf};
     ghost use Rattle.bocage.specs.Rows.{nodes_of, IsTable};
-    ghost use Rattle.bocage.specs.Hidden.{IsExpandedIn};
+    ghost use Rattle.bocage.specs.Expanded.{IsExpandedIn};
 
     ghost Value = { Forest };
 

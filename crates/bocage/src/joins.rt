@@ -2,15 +2,15 @@
 ghost use Rattle.std.specs.Prelude.{◌≡◌, ℕ, ◌<◌, ◌≤◌, ◌↔◌, ◌⊎◌, ◌^◌, length, OnOk, IfOk, Contains, Some, slice_get};
 ghost use Rattle.std.specs.List.Sorted.{IsStrictlySortedBy};
 ghost use Rattle.earley_sets.specs.Recognizer.{place_of, set_at};
-ghost use Rattle.bocage.specs.Rows.{between};
-ghost use Rattle.bocage.specs.declared.groups.Group.{Group as TheGroup};
+ghost use Rattle.forest_parts.specs.Lists.{between};
+ghost use Rattle.forest_parts.specs.declared.groups.Group.{Group as TheGroup};
 ghost use Rattle.bocage.specs.declared.joins.Join.{Join as TheJoin};
 ghost use Rattle.bocage.specs.Joins.{join_cmp, front_of_join, IsJoinOf, AreJoins};
 
 use crate::ForestRefusal;
-use crate::groups::Group;
 use crate::rows::number;
 use earley_sets::Recce;
+use forest_parts::Group;
 use recognizer_model::Item;
 
 /// An item that waits where a group begins, for its symbol.

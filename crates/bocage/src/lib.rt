@@ -3,10 +3,7 @@
 
 mod ends;
 mod forest;
-mod gather;
-mod groups;
 mod joins;
-mod parts;
 mod refusal;
 mod rows;
 mod walk;

@@ -1,6 +1,7 @@
 //! Alternatives, and the nodes of whole rules that they have.
 ghost use Rattle.std.specs.Prelude.{◌≡◌, ◌<◌, ◌≤◌, length, slice_index_or, slice_get, map, Some, IfOk};
-ghost use Rattle.bocage.specs.Rows.{between, part_told, last_of, IsLastWithin, no_alternative};
+ghost use Rattle.forest_parts.specs.Lists.{between};
+ghost use Rattle.bocage.specs.Rows.{part_told, last_of, IsLastWithin, no_alternative};
 
 use crate::ForestRefusal;
 use recognizer_model::NodeKey;
@@ -33,6 +34,7 @@ pub struct AlternativeRow {
     pub last: LastRow,
 }
 
+/// A row, by its number.
 pub fn alternative_row(rows: &[AlternativeRow], k: usize) -> AlternativeRow
     requires { k < length rows.now }
     ensures { result ≡ slice_index_or rows.now k no_alternative }

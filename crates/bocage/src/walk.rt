@@ -2,19 +2,16 @@
 ghost use Rattle.std.specs.Prelude.{◌≡◌, ◌≢◌, AllPairs, ℕ, ◌<◌, ◌≤◌, ◌+◌, ◌-◌, ◌↔◌, ◌⊎◌, [], ◌∷◌, length, map, IfOk, OnOk, IfSome, IsTrue, IsFalse, Contains, slice_get, Some};
 ghost use Rattle.recognizer_model.specs.Flat.{IsNullable, IsRule, rhs_of};
 ghost use Rattle.earley_sets.specs.Recognizer.{IsRecognizer, place_of, set_at};
-ghost use Rattle.bocage.specs.declared.parts.Part.{Part as ThePart};
+ghost use Rattle.forest_parts.specs.declared.parts.Part.{Part as ThePart};
 ghost use Rattle.bocage.specs.declared.rows.LastRow.{LastRow as TheLastRow};
-ghost use Rattle.bocage.specs.Parts.{part_at};
-ghost use Rattle.bocage.specs.Rows.{between};
 ghost use Rattle.bocage.specs.Joins.{front_of_join};
 ghost use Rattle.bocage.specs.Walk.{FitsPart, GrowsBy, whole_keys, AddsWholes, IsFrontFound, IsLastFound, node_of_item, Knows, Lists, AreNoted, IsLastNoted, AreJoinsOf, IsNext, IsNew, BeginsIn, MayBegin, ListsKey, IsBegun, is_high, IsUsedIn};
 
 use crate::ForestRefusal;
-use crate::groups::Group;
 use crate::joins::{Join, joins_of};
-use crate::parts::{Part, is_null_high, parts_between};
 use crate::rows::{AlternativeRow, LastRow, number};
 use earley_sets::Recce;
+use forest_parts::{Group, Part, is_null_high, parts_between};
 use grammar_core::{Flat, Written};
 use grammar_model::Ranking;
 use indexmap::IndexSet;

@@ -91,6 +91,7 @@ fn posix_property(name: &[char]) -> Option<Property>
     }
 }
 
+/// The characters of a POSIX class, by its name.
 pub fn posix_piece(name: &[char]) -> Piece
     ensures { result ≡ posix_piece name.now }
 {

@@ -77,6 +77,7 @@ fn item_at(pieces: &[Piece]) -> (Result<ClassItem, ClassFault>, usize)
     (item_of(pieces[0]), 1)
 }
 
+/// The items that the pieces of a class make: characters, ranges and properties.
 pub fn items_of(alloc: Global, pieces: &[Piece]) -> Result<Vec<ClassItem>, ItemsError>
     ensures { Gives (λ items. items.items) result (items_of pieces.now) }
 {

@@ -45,6 +45,7 @@ fn item_has(item: ClassItem, c: char) -> bool
     }
 }
 
+/// Whether a character is in one of the items.
 pub fn some_item_has(items: &[ClassItem], c: char) -> bool
     ensures { result ≡ some_item_has items.now c }
 {

@@ -41,6 +41,7 @@ fn piece_at(text: &[char]) -> (Piece, usize)
     }
 }
 
+/// The pieces of the text between the brackets of a class.
 pub fn pieces_of(alloc: Global, text: &[char]) -> Result<Vec<Piece>, AllocError>
     ensures { IfOk result (λ pieces. pieces.items ≡ pieces_of text.now) }
 {

@@ -1,16 +1,16 @@
 -- What the contents of tokens are.
-use Rattle.std.proofs.Common.{◌≡◌, ℕ, zero, suc, ◌+◌, ◌-◌, ◌*◌, ◌<◌, ◌≤◌, ◌==◌, Bool, true, false, cond, List, [], ◌∷◌, ◌++◌, refl, sym, ap, ◌∙◌, subst, map, length, take, drop, arith, length-append, append_assoc, ⊎_elim}
-use Rattle.std.specs.Prelude.{◌&&◌, ◌||◌, codes, decimal, encode_utf8_all, nat_lt, nat_eq, IsTrue, chars, filter, Result, Ok, Err}
-use Rattle.std.specs.List.{ends_with, list_all, slice_range}
+use Rattle.std.proofs.Common.{◌≡◌, ℕ, zero, suc, ◌+◌, ◌-◌, ◌<◌, ◌≤◌, Bool, true, false, cond, List, [], ◌∷◌, ◌++◌, refl, sym, ap, ◌∙◌, subst, map, length, take, drop, arith, length-append, append_assoc}
+use Rattle.std.specs.Prelude.{◌&&◌, ◌||◌, codes, encode_utf8_all, nat_lt, nat_eq, chars, Result, Ok, Err}
+use Rattle.std.specs.List.{ends_with, list_all}
 use Rattle.std.specs.Str.{IsUtf8}
-use Rattle.std.specs.Char.{encode_utf8, is_ascii_digit}
+use Rattle.std.specs.Char.{encode_utf8}
 use Rattle.std.proofs.Math.Utf8.{scalars, scalar}
 use Rattle.std.proofs.Math.Seq.{take-append_seam}
 use Rattle.std.proofs.lemmas.List.{length-map}
 use Rattle.std.proofs.lemmas.Bool.{true≢false}
 use Rattle.std.proofs.lemmas.Bool.Decides.{Decides-eqb}
 use Rattle.std.proofs.lemmas.Slice.Eq.{ends_is}
-use Rattle.std.proofs.lemmas.Str.{encodes-append, chars-encodes, encode_ascii, char_from_byte, length-le-encodes}
+use Rattle.std.proofs.lemmas.Str.{encodes-append, chars-encodes, char_from_byte, length-le-encodes}
 use Rattle.unicode.specs.Binary.{is_white_space}
 use Rattle.ucd_table.specs.Rows.{in_ranges}
 use Rattle.ucd_props.specs.Ranges.{white_space_ranges}
@@ -19,7 +19,7 @@ use Rattle.language_model.specs.declared.token.TokenKind.{TokenKind}
 use Rattle.language_model.specs.declared.token.TokenKind.TheVariants.{Word, Angle, Quote, Bracket, Pseudo, Reserved, Signed, Mark}
 use Rattle.language_model.specs.declared.class.ClassFault.{ClassFault}
 use Rattle.language_model.specs.Classes.{Class, class_of, class_of_char, modifier_len}
-use Rattle.language_model.specs.Tokens.{Spelled, IsSpelling, IsModifier, content_of, spaced, is_word}
+use Rattle.language_model.specs.Tokens.{IsSpelling, IsModifier, content_of, spaced, is_word}
 use Rattle.language_model.specs.Building.{quoted, sets_of}
 
 -- THE LAST CHARACTER

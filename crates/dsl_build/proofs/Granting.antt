@@ -1,8 +1,7 @@
 -- What a grammar grants.
-use Rattle.std.proofs.Common.{◌≡◌, ℕ, zero, suc, subst, get_or, ◌+◌, ◌<◌, ◌≤◌, Bool, true, false, cond, List, [], ◌∷◌, ◌++◌, Some, None, refl, sym, ap, ◌∙◌, length, map}
-use Rattle.std.specs.Prelude.{◌&&◌, ◌||◌, nat_lt, nat_le, All, slice_get, Result, Ok, Err}
-use Rattle.std.specs.List.{AllByRecursion, list_all, list_any}
-use Rattle.std.specs.Str.{bytes_eq}
+use Rattle.std.proofs.Common.{◌≡◌, ℕ, zero, suc, subst, get_or, ◌<◌, ◌≤◌, Bool, true, false, cond, List, [], ◌∷◌, ◌++◌, Some, None, refl, sym, ap, ◌∙◌, length, map}
+use Rattle.std.specs.Prelude.{◌&&◌, ◌||◌, nat_lt, nat_le, All, slice_get}
+use Rattle.std.specs.List.{AllByRecursion, list_all}
 use Rattle.std.proofs.lemmas.List.Elements.{recursion_from_All, All-from_recursion, All-get_or}
 use Rattle.dsl_build.proofs.Alls.{all_mapped}
 use Rattle.std.proofs.lemmas.Bool.Decides.{nat_tests}
@@ -10,7 +9,6 @@ use Rattle.std.proofs.Common.{arith}
 use Rattle.grammar_model.specs.Grammar.{WrittenRule, Plain, Sequence, Grammar}
 use Rattle.grammar_core.specs.Written.{symbols_of, IsLevelled, has_name, has_room, with_name}
 use Rattle.grammar_core.specs.Refusals.{name_refusal, rule_refusal, start_refusal, knows, is_levelled, is_short}
-use Rattle.grammar_core.specs.declared.refusal.CoreRefusal.{CoreRefusal}
 use Rattle.grammar_core.specs.declared.refusal.CoreRefusal.TheVariants.{BadSymbol, BadLevel, TooMany}
 use Rattle.language_model.specs.Building.{is_one_of}
 use Rattle.dsl_build.specs.Rules.{with_names}

@@ -1,7 +1,5 @@
 pub mod LexicalLemmas
-pub mod MeaningLemmas
 pub mod PlacedLemmas
-pub mod TableLemmas
 pub mod TextLemmas
 pub mod LexemeLemmas
 pub mod Faultless

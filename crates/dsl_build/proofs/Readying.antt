@@ -1,10 +1,10 @@
 -- What a program asks of the description of a text that has no fault is so.
-use Rattle.std.proofs.Common.{◌≡◌, ℕ, zero, suc, ◌+◌, ◌-◌, ◌*◌, ◌^◌, ◌<◌, ◌≤◌, ◌==◌, Bool, true, false, cond, List, [], ◌∷◌, ◌++◌, Option, Some, None, refl, sym, ap, ◌∙◌, subst, map, length, take, arith, length-append}
-use Rattle.std.specs.Prelude.{flat_map, filter, not, ◌&&◌, ◌||◌, bytes_eq, codes, option_to_list, IsTrue, decimal, All, pos, encode_utf8_all}
+use Rattle.std.proofs.Common.{◌≡◌, ℕ, zero, suc, ◌+◌, ◌^◌, ◌<◌, ◌≤◌, Bool, true, false, cond, List, [], ◌∷◌, refl, sym, ap, subst, map, length, take, arith, length-append}
+use Rattle.std.specs.Prelude.{flat_map, filter, not, ◌&&◌, ◌||◌, bytes_eq, IsTrue, decimal, All}
 use Rattle.std.specs.List.{AllByRecursion, list_all}
 use Rattle.std.proofs.lemmas.Bool.{true≢false}
-use Rattle.std.proofs.lemmas.List.{length-map, length-take-le}
-use Rattle.std.proofs.lemmas.List.Elements.{All-from_recursion, recursion_from_All}
+use Rattle.std.proofs.lemmas.List.{length-map}
+use Rattle.std.proofs.lemmas.List.Elements.{All-from_recursion}
 use Rattle.std.proofs.lemmas.Slice.Eq.{bytes_eq-Decides}
 use Rattle.std.proofs.lemmas.Fmt.{decimal_injective}
 use Rattle.language_model.specs.declared.token.TokenKind.{TokenKind}
@@ -12,19 +12,19 @@ use Rattle.language_model.specs.declared.token.TokenKind.TheVariants.{Word, Angl
 use Rattle.language_model.specs.Tokens.{Spelled}
 use Rattle.language_model.specs.Description.{Alternative, Adverb, Statement, Start, Default, LexemeDefault, Lexeme, Discard, Empty, Quantified, Rules, is_statement, is_name, is_kind_of_single, is_adverb, is_group, is_one, is_some as is_filled, tokens_of, pieces_of}
 use Rattle.language_model.specs.Texts.{IsDescription, spelled}
-use Rattle.language_model.specs.Building.{AdverbPlace, InOther, InAlternative, adverb_lists, is_one_of, place_in, parts_of, alternatives_of, separator_of, right_of, left_of, structural_names, lexical_tokens, placed_tokens, sets_l0, sets_of, set_names, count_from, symbols_g1, left_names, lexemes, named_l0, texts_l0, start_of, start_texts, discarded, rules_of, is_of_level, added_rules, grammar_g1, grammar_l0, is_quote, is_quote_or_bracket, rank_of, new_texts}
+use Rattle.language_model.specs.Building.{AdverbPlace, InOther, InAlternative, adverb_lists, is_one_of, place_in, parts_of, alternatives_of, separator_of, right_of, structural_names, lexical_tokens, placed_tokens, sets_l0, set_names, count_from, symbols_g1, left_names, lexemes, named_l0, texts_l0, start_of, start_texts, discarded, rules_of, is_of_level, added_rules, grammar_g1, grammar_l0, is_quote_or_bracket, rank_of, new_texts}
 use Rattle.dsl_faults.specs.Texts.{AllNew}
 use Rattle.dsl_build.specs.Tables.{lexeme_parts, priority_of}
 use Rattle.dsl_build.specs.Lexical.{set_name}
 use Rattle.dsl_build.specs.Ready.{IsSmall, IsNamed, IsReady, IsReadyAlternative, IsReadable, IsWritable}
 use Rattle.dsl_build.proofs.Faultless.{Faultless}
-use Rattle.dsl_build.proofs.Alls.{all_front, all_back, all_join, all_map, all_mapped, all_weaker, all_flat, all_pieces, all_filter, all_empty}
-use Rattle.dsl_build.proofs.Few.{bad_of, and_front, and_back, statements_are, all_tokens, few_placed}
+use Rattle.dsl_build.proofs.Alls.{all_join, all_map, all_mapped, all_weaker, all_flat, all_pieces, all_filter, all_empty}
+use Rattle.dsl_build.proofs.Few.{bad_of, and_front, statements_are, all_tokens, few_placed}
 use Rattle.dsl_build.proofs.Known.{AllIn, names_in}
-use Rattle.dsl_build.proofs.Differing.{new_all, symbols_new, named_new, append_new, apart_nothing, Apart}
-use Rattle.dsl_build.proofs.Ranging.{structural_in, lexical_in, symbols_all, lexical_all, start_known, start_named, start_of_lexeme, start_of_discard, symbol_of_lexeme, names_long, texts_long, g1_known, l0_known, all_in, contents, rights_all}
+use Rattle.dsl_build.proofs.Differing.{symbols_new, named_new, append_new, apart_nothing, Apart}
+use Rattle.dsl_build.proofs.Ranging.{structural_in, lexical_in, symbols_all, lexical_all, start_named, start_of_lexeme, start_of_discard, symbol_of_lexeme, names_long, g1_known, l0_known, all_in, contents}
 use Rattle.dsl_build.proofs.Terminals.{rights_parts, IsPart}
-use Rattle.dsl_build.proofs.Spellings.{IsSpelt, Spelt, PrintedSpelt, PairsSpelt, description_spelt, right_spelt, left_spelt, values_spelt}
+use Rattle.dsl_build.proofs.Spellings.{IsSpelt, Spelt, PrintedSpelt, description_spelt, right_spelt, left_spelt, values_spelt}
 use Rattle.dsl_build.proofs.Contents.{NoColon, IsQuoted, named_other, is_quoted, quoted_utf8}
 use Rattle.dsl_build.proofs.Sizes.{weights_printed, weights_statements, description_weight, groups_count, modest}
 use Rattle.dsl_build.proofs.Smallness.{TellsSmall, statement_small, big_of}

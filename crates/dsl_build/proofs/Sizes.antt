@@ -1,9 +1,9 @@
 -- How much there is in the description of a text.
-use Rattle.std.proofs.Common.{◌≡◌, ℕ, zero, suc, ◌+◌, ◌-◌, ◌*◌, ◌<◌, ◌≤◌, ◌==◌, Bool, true, false, cond, List, [], ◌∷◌, ◌++◌, Option, Some, None, refl, sym, ap, ◌∙◌, subst, map, length, take, drop, arith, length-append}
+use Rattle.std.proofs.Common.{◌≡◌, ℕ, suc, ◌+◌, ◌-◌, ◌*◌, ◌≤◌, Bool, true, false, cond, List, [], ◌∷◌, ◌++◌, Some, refl, ap, ◌∙◌, map, length, drop, arith, length-append}
 use Rattle.std.proofs.lemmas.Grind.{flat_map-append}
 use Rattle.grammar_model.specs.Grammar.{Plain}
 use Rattle.grammar_model.specs.declared.Assoc.TheVariants.{Left}
-use Rattle.std.specs.Prelude.{not, pos, flat_map, filter, ◌&&◌, ◌||◌, bytes_eq, codes, option_to_list, option_map, chars, IsUtf8, encode_utf8_all}
+use Rattle.std.specs.Prelude.{not, pos, flat_map, filter, ◌||◌, bytes_eq, codes, option_to_list, chars, encode_utf8_all}
 use Rattle.std.specs.List.{slice_range}
 use Rattle.std.proofs.Math.Utf8.{scalars}
 use Rattle.std.proofs.lemmas.Str.{scalars-chars, length-le-encodes, encodes-chars}
@@ -12,10 +12,9 @@ use Rattle.std.proofs.lemmas.List.{length-take-le, length-drop}
 use Rattle.language_model.specs.declared.token.TokenKind.{TokenKind}
 use Rattle.language_model.specs.declared.token.Token.{Token}
 use Rattle.language_model.specs.Tokens.{Spelled, LeadTo, IsLongest, spelled_at, content_of}
-use Rattle.language_model.specs.Layout.{after_layout, layout_len}
-use Rattle.language_model.specs.Description.{Element, Bare, Hidden, Adverb, Comma, Pair, Alternative, Statement, Start, Default, LexemeDefault, Lexeme, Discard, Empty, Quantified, Rules, Printed, kept, mark, joined, tokens_of_element, tokens_of_adverb, tokens_of_adverbs, tokens_of_alternative, tokens_of_groups, tokens_of, is_mark, begins_piece, onto_first, cut, is_some, pieces_of, Together, PrintedAs, Spells}
+use Rattle.language_model.specs.Description.{Element, Bare, Hidden, Adverb, Comma, Pair, Alternative, Statement, Start, Default, LexemeDefault, Lexeme, Discard, Empty, Quantified, Rules, Printed, kept, mark, joined, tokens_of_element, tokens_of_adverbs, tokens_of_alternative, tokens_of_groups, tokens_of, is_mark, begins_piece, onto_first, cut, is_some, pieces_of, Together, PrintedAs, Spells}
 use Rattle.language_model.specs.Texts.{IsDescription, spelled}
-use Rattle.language_model.specs.Building.{pairs_of, value_of, separator_of, parts_of, parts_of_element, alternatives_of, right_of, left_of, sets_of, structural_names, lexical_tokens, is_quote_or_bracket, rules_of, rules_of_groups, plain_rule, discards_of, start_names, is_one_of, new_texts, new_tokens, symbols_g1, is_of_level, left_names, lexemes, placed_tokens, sets_l0, texts_l0, named_l0, discarded, start_texts, count_from, added_rules}
+use Rattle.language_model.specs.Building.{value_of, separator_of, parts_of, parts_of_element, alternatives_of, sets_of, structural_names, lexical_tokens, is_quote_or_bracket, rules_of, rules_of_groups, plain_rule, discards_of, is_one_of, new_texts, new_tokens, symbols_g1, is_of_level, left_names, lexemes, placed_tokens, sets_l0, texts_l0, named_l0, discarded, start_texts, count_from, added_rules}
 use Rattle.dsl_build.proofs.Spellings.{scalars_drop, scalars_take}
 use Rattle.dsl_build.proofs.Contents.{sets_few}
 

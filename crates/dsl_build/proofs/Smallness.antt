@@ -1,8 +1,8 @@
 -- Ranks and priorities are small where a description has no fault.
-use Rattle.std.proofs.Common.{◌≡◌, ℕ, zero, suc, ◌+◌, ◌*◌, ◌<◌, ◌≤◌, ◌==◌, Bool, true, false, cond, List, [], ◌∷◌, ◌++◌, Option, Some, None, refl, sym, ap, ◌∙◌, subst, map, length, arith, ltb-false, pos, neg_ℤ, ◌≤ℤ◌, ◌⊎◌, inl, inr, ⊎_elim}
-use Rattle.std.specs.Prelude.{flat_map, filter, not, ◌&&◌, ◌||◌, bytes_eq, codes, nat_lt, option_map, unwrap_or, encode_utf8_all, IsTrue, ℤ}
+use Rattle.std.proofs.Common.{◌≡◌, ℕ, ◌<◌, ◌≤◌, ◌==◌, Bool, true, false, cond, List, [], ◌∷◌, ◌++◌, Some, refl, sym, ap, ◌∙◌, subst, arith, ltb-false, pos, neg_ℤ, ◌⊎◌, inl, inr, ⊎_elim}
+use Rattle.std.specs.Prelude.{flat_map, filter, not, ◌&&◌, bytes_eq, codes, nat_lt, option_map, unwrap_or, encode_utf8_all, ℤ}
 use Rattle.std.specs.List.{AllByRecursion, list_all}
-use Rattle.std.specs.Char.{is_ascii_digit, encode_utf8}
+use Rattle.std.specs.Char.{is_ascii_digit}
 use Rattle.std.proofs.lemmas.Int.{ints}
 use Rattle.std.proofs.lemmas.Bool.{true≢false, eqb-true}
 use Rattle.std.proofs.lemmas.Bool.Decides.{nat_tests}

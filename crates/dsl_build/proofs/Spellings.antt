@@ -1,6 +1,6 @@
 -- What the tokens of a description spell.
-use Rattle.std.proofs.Common.{◌≡◌, ℕ, zero, suc, ◌+◌, ◌-◌, Bool, true, false, cond, List, [], ◌∷◌, ◌++◌, Some, None, refl, sym, subst, map, take, drop}
-use Rattle.std.specs.Prelude.{flat_map, filter, ◌&&◌, bytes_eq, codes, option_to_list, encode_utf8_all}
+use Rattle.std.proofs.Common.{◌≡◌, ℕ, zero, suc, ◌-◌, Bool, true, false, cond, List, [], ◌∷◌, ◌++◌, Some, refl, sym, subst, map, take, drop}
+use Rattle.std.specs.Prelude.{flat_map, ◌&&◌, bytes_eq, codes, option_to_list, encode_utf8_all}
 use Rattle.std.specs.List.{AllByRecursion, slice_range}
 use Rattle.std.proofs.Math.Utf8.{scalars, scalar}
 use Rattle.std.proofs.lemmas.Str.{scalars-chars}
@@ -8,7 +8,7 @@ use Rattle.std.specs.Str.{chars}
 use Rattle.language_model.specs.declared.token.Token.{Token}
 use Rattle.language_model.specs.declared.token.TokenKind.{TokenKind}
 use Rattle.language_model.specs.Tokens.{Spelled, LeadTo, IsSpelling, content_of, spelled_at}
-use Rattle.language_model.specs.Description.{Element, Bare, Hidden, Adverb, Comma, Pair, Alternative, Statement, Start, Default, LexemeDefault, Lexeme, Discard, Empty, Quantified, Rules, Printed, kept, mark, joined, tokens_of_element, tokens_of_adverb, tokens_of_adverbs, tokens_of_alternative, tokens_of_groups, tokens_of, is_mark, begins_piece, onto_first, cut, is_some, pieces_of, Together, PrintedAs, Spells}
+use Rattle.language_model.specs.Description.{Element, Bare, Hidden, Adverb, Comma, Pair, Alternative, Statement, Start, Default, LexemeDefault, Lexeme, Discard, Empty, Quantified, Rules, Printed, kept, mark, joined, tokens_of_element, tokens_of_adverbs, tokens_of_alternative, tokens_of_groups, tokens_of, is_mark, begins_piece, onto_first, cut, is_some, pieces_of, Together, PrintedAs, Spells}
 use Rattle.language_model.specs.Texts.{IsDescription, spelled}
 use Rattle.language_model.specs.Building.{AdverbPlace, InOther, InAlternative, adverb_lists, pairs_of, value_of, separator_of, parts_of, parts_of_element, alternatives_of, right_of, left_of}
 use Rattle.dsl_build.proofs.Alls.{all_front, all_back, all_join, all_map, all_mapped, all_weaker, all_flat, all_filter}

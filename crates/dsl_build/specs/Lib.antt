@@ -1,6 +1,5 @@
 pub mod Built
 pub mod Lexical
-pub mod Meanings
 pub mod Ranges
 pub mod Ready
 pub mod Rules

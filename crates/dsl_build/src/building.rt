@@ -1,9 +1,11 @@
 //! The grammars and tables of a description.
-ghost use Rattle.std.specs.Prelude.{◌≡◌, [], IfOk, length, map};
+ghost use Rattle.std.specs.Prelude.{◌≡◌, [], IfOk, flat_map, length, map};
 ghost use Rattle.language_model.specs.Building.{faults_of, built_of, grammar_g1, grammar_l0, sets_l0, lexeme_row, lexemes, place_in, start_texts, discarded, numbered_from, named_l0};
 ghost use Rattle.language_model.specs.Texts.{IsDescription};
 ghost use Rattle.dsl_statement.specs.Statements.{statement_of};
 ghost use Rattle.dsl_faults.specs.Found.{Tells};
+ghost use Rattle.dsl_faults.specs.Named.{AreTables};
+ghost use Rattle.dsl_faults.specs.Uses.{used_of, uses_of};
 ghost use Rattle.dsl_build.specs.Built.{AreTexts};
 ghost use Rattle.dsl_build.specs.Tables.{row_of};
 ghost use Rattle.value_text.specs.Meaning.{meaning_of};
@@ -12,10 +14,11 @@ use crate::built::{Built, LexemeRow};
 use crate::lexemes::lexeme_rows;
 use crate::lexical::{Lexical, lexical_grammar};
 use crate::structural::structural_grammar;
-use crate::tables::{meaning, numbered, places_of};
+use crate::tables::{numbered, places_of};
 use crate::texts::{Texts, texts_of};
 use char_class::CharSet;
-use dsl_faults::{BuildRefusal, check};
+use dsl_faults::{BuildRefusal, Named, check_named, named_of};
+use dsl_meanings::meaning;
 use dsl_statement::{Description, Statement};
 use grammar_core::{SymbolId, Written};
 use std::alloc::{AllocError, Global};
@@ -155,13 +158,15 @@ fn built_with(
     })
 }
 
-// The grammars and tables of statements.
-fn built(alloc: Global, statements: &[Statement]) -> Result<Built, AllocError>
+// The grammars and tables of statements with these names.
+fn built(alloc: Global, statements: &[Statement], named: Named<'_>) -> Result<Built, AllocError>
     requires described { IsDescription (map statement_of statements.now) }
     requires faultless { faults_of (map statement_of statements.now) ≡ [] }
+    requires uses { map used_of named.uses.items ≡ flat_map uses_of (map statement_of statements.now) }
+    requires tables { AreTables named }
     ensures { IfOk result (λ b. b ≡ built_of (map statement_of statements.now)) }
 {
-    let texts = texts_of(alloc, statements)?;
+    let texts = texts_of(alloc, named)?;
     built_with(alloc, statements, &texts)
 }
 
@@ -171,6 +176,8 @@ pub fn build(alloc: Global, d: &Description) -> Result<Built, BuildRefusal>
     ensures built { IfOk result (λ b. b ≡ built_of d.now) }
     ensures faults { Tells (faults_of d.now) result }
 {
-    check(alloc, d)?;
-    Ok(built(alloc, &d.statements)?)
+    let statements = &d.statements;
+    let named = named_of(alloc, statements)?;
+    check_named(alloc, statements, &named)?;
+    Ok(built(alloc, statements, named)?)
 }

@@ -10,8 +10,8 @@ ghost use Rattle.dsl_build.specs.Ready.{IsSmall};
 use crate::built::LexemeRow;
 use crate::numbers::read_number;
 use crate::rules::symbol_of;
-use crate::tables::default_value;
 use dsl_faults::{Names, value_of};
+use dsl_meanings::default_value;
 use dsl_statement::{Adverb, Spelled, Statement};
 use std::alloc::{AllocError, Global};
 

@@ -12,7 +12,7 @@ use crate::sets::{numbers_from, push_sets};
 use crate::writing::written;
 use char_class::CharSet;
 use dsl_faults::Names;
-use dsl_statement::{Spelled, Statement};
+use dsl_statement::{Level, Spelled, Statement};
 use grammar_core::{Assoc, Rule, SymbolId, Written, WrittenRule};
 use std::alloc::{AllocError, Global};
 
@@ -129,7 +129,7 @@ pub fn lexical_grammar(
     }) }
 {
     let mut rules = Vec::new(alloc);
-    push_rules(alloc, &mut rules, names, true, statements)?;
+    push_rules(alloc, &mut rules, names, Level::Lexical, statements)?;
     let sets = push_tokens(alloc, &mut rules, names.len(), tokens)?;
     let starts = starts_of(alloc, names, starts)?;
     Ok(Lexical {

@@ -6,7 +6,6 @@ mod built;
 mod laws;
 mod lexemes;
 mod lexical;
-mod meanings;
 mod numbers;
 mod placed;
 mod quoted;

@@ -27,8 +27,8 @@ pub fn is_quote_or_bracket(token: &Spelled) -> bool
 fn is_placed(used: &Use<'_>) -> bool
     ensures { result ≡ is_placed (used_of used.now) }
 {
-    (is_left(used) && used.lexical)
-        || (is_right(used) && (used.lexical || is_quote_or_bracket(used.token)))
+    let lexical = used.level.is_lexical();
+    (is_left(used) && lexical) || (is_right(used) && (lexical || is_quote_or_bracket(used.token)))
 }
 
 fn is_new(used: &Use<'_>, names: &Names) -> bool

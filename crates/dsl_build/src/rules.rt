@@ -5,12 +5,12 @@ ghost use Rattle.language_model.specs.Building as building;
 ghost use Rattle.language_model.specs.Building.{is_one_of, place_in, numbers_in, rules_of_groups, rules_of, is_of_level, parts_of};
 ghost use Rattle.grammar_model.specs.Grammar.{Plain, Sequence};
 ghost use Rattle.grammar_core.specs.Written.{rule_of};
-ghost use Rattle.dsl_statement.specs.Statements.{adverbs_of, statement_of};
+ghost use Rattle.dsl_statement.specs.Statements.{adverbs_of, is_lexical, statement_of};
 ghost use Rattle.dsl_build.specs.Ready.{IsNamed, IsSmall, IsReady, IsReadyAlternative};
 
 use crate::numbers::{assoc_of, rank_of, says};
 use dsl_faults::{Names, value_of};
-use dsl_statement::{Adverb, Alternative, Spelled, Statement};
+use dsl_statement::{Adverb, Alternative, Level, Spelled, Statement};
 use grammar_core::{Assoc, Rule, SeqRule, SymbolId, WrittenRule};
 use std::alloc::{AllocError, Global};
 
@@ -206,13 +206,13 @@ fn push_statement(
     }
 }
 
-fn is_of_level(lexical: bool, s: &Statement) -> bool
-    ensures { result ≡ is_of_level lexical (statement_of s.now) }
+fn is_of_level(level: Level, s: &Statement) -> bool
+    ensures { result ≡ is_of_level (is_lexical level) (statement_of s.now) }
 {
     match s {
-        Statement::Empty { lexical: own, .. } => *own == lexical,
-        Statement::Quantified { lexical: own, .. } => *own == lexical,
-        Statement::Rules { lexical: own, .. } => *own == lexical,
+        Statement::Empty { level: own, .. } => own.is_lexical() == level.is_lexical(),
+        Statement::Quantified { level: own, .. } => own.is_lexical() == level.is_lexical(),
+        Statement::Rules { level: own, .. } => own.is_lexical() == level.is_lexical(),
         _ => false,
     }
 }
@@ -222,15 +222,15 @@ pub fn push_rules(
     alloc: Global,
     out: &mut Vec<WrittenRule>,
     names: &Names,
-    lexical: bool,
+    level: Level,
     statements: &[Statement],
 ) -> Result<(), AllocError>
-    requires ready { All (λ s. is_of_level lexical (statement_of s) ≡ true → IsReady names.now (statement_of s)) statements.now }
+    requires ready { All (λ s. is_of_level (is_lexical level) (statement_of s) ≡ true → IsReady names.now (statement_of s)) statements.now }
     requires few { length names.now ≤ 16777215 }
-    ensures { OnOk result (map rule_of out.new.items ≡ map rule_of out.old.items ++ flat_map (rules_of names.now) (filter (is_of_level lexical) (map statement_of statements.now))) }
+    ensures { OnOk result (map rule_of out.new.items ≡ map rule_of out.old.items ++ flat_map (rules_of names.now) (filter (is_of_level (is_lexical level)) (map statement_of statements.now))) }
 {
     for s in statements {
-        if is_of_level(lexical, s) {
+        if is_of_level(level, s) {
             push_statement(alloc, out, names, s)?;
         }
     }

@@ -8,7 +8,7 @@ ghost use Rattle.dsl_faults.specs.Uses.{used_of, starts_asked};
 use crate::rules::{push_rules, symbol_of};
 use crate::writing::written;
 use dsl_faults::{Names, Use, Which, first_asked};
-use dsl_statement::{Spelled, Statement};
+use dsl_statement::{Level, Spelled, Statement};
 use grammar_core::{SymbolId, Written};
 use std::alloc::{AllocError, Global};
 
@@ -58,7 +58,7 @@ pub fn structural_grammar(
     }) }
 {
     let mut rules = Vec::new(alloc);
-    push_rules(alloc, &mut rules, symbols, false, statements)?;
+    push_rules(alloc, &mut rules, symbols, Level::Structural, statements)?;
     let starts = starts_of(alloc, symbols, start_of(uses))?;
     written(alloc, symbols, 0, rules, &starts)
 }

@@ -1,16 +1,16 @@
 //! The texts that name the symbols and the starts of both grammars.
-ghost use Rattle.std.specs.Prelude.{◌≡◌, ◌++◌, [], filter, flat_map, not, map, IfOk};
+ghost use Rattle.std.specs.Prelude.{◌≡◌, ◌++◌, List, [], filter, flat_map, not, map, IfOk};
 ghost use Rattle.language_model.specs.Building.{is_one_of, new_tokens, new_texts};
-ghost use Rattle.dsl_statement.specs.Statements.{statement_of};
+ghost use Rattle.language_model.specs.Description.{Statement};
 ghost use Rattle.dsl_build.specs.Built.{AreTexts, AreStarts};
 ghost use Rattle.dsl_build.specs.Lexical.{placed_part};
 ghost use Rattle.dsl_faults.specs.Texts.{AllNew};
-ghost use Rattle.dsl_faults.specs.Uses.{used_of, texts_asked};
-ghost use Rattle.dsl_faults.specs.declared.uses.Which.TheVariants.{StructuralLeft};
+ghost use Rattle.dsl_faults.specs.Named.{AreTables};
+ghost use Rattle.dsl_faults.specs.Uses.{used_of, uses_of, texts_asked};
+ghost use Rattle.dsl_faults.specs.declared.uses.Which.TheVariants.{StructuralLeft, Structural};
 
 use crate::placed::{Placed, append, placed_tokens, without};
-use dsl_faults::{Names, Use, Which, names_of, uses_of};
-use dsl_statement::Statement;
+use dsl_faults::{Named, Names, Use, Which, names_of};
 use std::alloc::{AllocError, Global};
 
 /// The texts of structural symbols, and of the starts of the lexical grammar.
@@ -49,20 +49,17 @@ fn joined(alloc: Global, first: &Names, second: &Names) -> Result<Names, AllocEr
     Ok(names)
 }
 
-// The symbols that no structural rule defines.
-fn lexemes_of(alloc: Global, uses: &[Use<'_>], symbols: &Names) -> Result<Names, AllocError>
-    requires { AllNew [] symbols.now }
-    ensures { IfOk result (λ names. names ≡ filter (λ t. not (is_one_of (new_texts [] (flat_map (texts_asked StructuralLeft) (map used_of uses.now))) t)) symbols.now) }
-{
-    let left = names_of(alloc, Which::StructuralLeft, uses)?;
-    without(alloc, symbols, &left)
-}
-
-fn starts_of(alloc: Global, uses: &[Use<'_>]) -> Result<Starts, AllocError>
+fn starts_of(
+    alloc: Global,
+    uses: &[Use<'_>],
+    symbols: Names,
+    left: &Names,
+) -> Result<Starts, AllocError>
+    requires symbols { symbols ≡ new_texts [] (flat_map (texts_asked Structural) (map used_of uses.now)) }
+    requires left { left.now ≡ new_texts [] (flat_map (texts_asked StructuralLeft) (map used_of uses.now)) }
     ensures { IfOk result (λ starts. AreStarts (map used_of uses.now) starts) }
 {
-    let symbols = names_of(alloc, Which::Structural, uses)?;
-    let lexemes = lexemes_of(alloc, uses, &symbols)?;
+    let lexemes = without(alloc, &symbols, left)?;
     let discards = names_of(alloc, Which::Discarded, uses)?;
     let texts = joined(alloc, &lexemes, &discards)?;
     Ok(Starts {
@@ -86,12 +83,18 @@ fn placed_of<'a>(alloc: Global, uses: &[Use<'a>], lexemes: &Names) -> Result<Pla
     })
 }
 
-/// The texts of a description.
-pub fn texts_of(alloc: Global, statements: &[Statement]) -> Result<Texts<'_>, AllocError>
-    ensures { IfOk result (λ texts. AreTexts (map statement_of statements.now) texts) }
+/// The texts of a description with these names.
+pub fn texts_of<'a>(alloc: Global, named: Named<'a>) -> Result<Texts<'a>, AllocError>
+    requires { AreTables named }
+    ensures { IfOk result (λ texts. (d : List Statement) → map used_of named.entry.uses.items ≡ flat_map uses_of d → AreTexts d texts) }
 {
-    let uses = uses_of(alloc, statements)?;
-    let starts = starts_of(alloc, &uses)?;
+    let Named {
+        uses,
+        symbols,
+        structural,
+        ..
+    } = named;
+    let starts = starts_of(alloc, &uses, symbols, &structural)?;
     let placed = placed_of(alloc, &uses, &starts.lexemes)?;
     Ok(Texts {
         uses,

@@ -52,12 +52,13 @@ fn named(alloc: Global, names: &Names) -> Result<Written, AllocError>
     Ok(w)
 }
 
-fn name_of_set(alloc: Global, number: usize) -> Result<String, AllocError>
-    ensures { IfOk result (λ name. string_bytes name ≡ set_name number) }
+// Puts the name of a set into a text, in the place of what it had.
+fn write_set_name(name: &mut String, number: usize) -> Result<(), AllocError>
+    ensures { OnOk result (string_bytes name.new ≡ set_name number) }
 {
-    let mut name = String::from_str(alloc, ":")?;
-    name.push_str(Buffer::new().format(number))?;
-    Ok(name)
+    name.clear();
+    name.push_str(":")?;
+    name.push_str(Buffer::new().format(number))
 }
 
 // Symbols of so many sets, named by their numbers.
@@ -66,8 +67,9 @@ fn add_sets(alloc: Global, w: &mut Written, count: usize) -> Result<(), AllocErr
     requires room { length w.old.names + count ≤ 16777215 }
     ensures { OnOk result (w.new ≡ with_names w.old (set_names count)) }
 {
+    let mut name = String::new(alloc);
     for number in 0..count {
-        let name = name_of_set(alloc, number)?;
+        write_set_name(&mut name, number)?;
         add_symbol(w, name.as_str())?;
     }
     Ok(())

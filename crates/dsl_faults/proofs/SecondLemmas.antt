@@ -82,9 +82,9 @@ named_any names (Start at n ∷ ss) t = named_any names ss t
 named_any names (Default at adverbs ∷ ss) t = named_any names ss t
 named_any names (LexemeDefault at adverbs ∷ ss) t = named_any names ss t
 named_any names (Discard at item adverbs ∷ ss) t = named_any names ss t
-named_any names (Empty left lexical adverbs ∷ ss) t = named_any names ss t
-named_any names (Quantified left lexical item plus adverbs ∷ ss) t = named_any names ss t
-named_any names (Rules left lexical groups ∷ ss) t = named_any names ss t
+named_any names (Empty left level adverbs ∷ ss) t = named_any names ss t
+named_any names (Quantified left level item plus adverbs ∷ ss) t = named_any names ss t
+named_any names (Rules left level groups ∷ ss) t = named_any names ss t
 
 second_known : (seen : Bool) (lexemes : List (List ℕ)) (ss : List HeldStatement) (s : HeldStatement) → seen ≡ list_any (λ x. is_lexeme_default (statement_of x)) ss → lexemes ≡ lexeme_names ss →
     second_fault seen lexemes (statement_of s) ≡ repeated_statement (map statement_of (turned [] ss)) (statement_of s)
@@ -94,9 +94,9 @@ second_known seen lexemes ss (Lexeme at n adverbs) e f =
 second_known seen lexemes ss (Start at n) e f = refl
 second_known seen lexemes ss (Default at adverbs) e f = refl
 second_known seen lexemes ss (Discard at item adverbs) e f = refl
-second_known seen lexemes ss (Empty left lexical adverbs) e f = refl
-second_known seen lexemes ss (Quantified left lexical item plus adverbs) e f = refl
-second_known seen lexemes ss (Rules left lexical groups) e f = refl
+second_known seen lexemes ss (Empty left level adverbs) e f = refl
+second_known seen lexemes ss (Quantified left level item plus adverbs) e f = refl
+second_known seen lexemes ss (Rules left level groups) e f = refl
 
 pub repeated_known : (seen : Bool) (lexemes : List (List ℕ)) (ss : List HeldStatement) (s : HeldStatement) → seen ≡ list_any (λ x. is_lexeme_default (statement_of x)) ss → lexemes ≡ lexeme_names ss →
     second_fault seen lexemes (statement_of s) ++ statement_faults Once (statement_of s) ≡ repeated_before (turned [] ss) s

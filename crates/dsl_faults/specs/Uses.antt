@@ -3,6 +3,7 @@ use Rattle.std.specs.Prelude.{ℕ, Bool, false, true, List, [], ◌∷◌, ◌++
 use Rattle.language_model.specs.Tokens.{Spelled}
 use Rattle.language_model.specs.Description.{Statement, Start, Discard}
 use Rattle.language_model.specs.Building.{left_of, right_of}
+use Rattle.dsl_statement.specs.Statements.{is_lexical}
 use Rattle.dsl_faults.specs.declared.uses.Role.{Role}
 use Rattle.dsl_faults.specs.declared.uses.Role.TheVariants as role
 use Rattle.dsl_faults.specs.declared.uses.Use.{Use}
@@ -15,7 +16,7 @@ pub record Used : Type 0 where
   pub token : Spelled
 
 abbrev pub used_of : Use → Used
-used_of u = record { role = u.role; lexical = u.lexical; token = u.token.now }
+used_of u = record { role = u.role; lexical = is_lexical u.level; token = u.token.now }
 
 abbrev pub used : Role → Bool → Spelled → Used
 used r lexical token = record { role = r; lexical = lexical; token = token }

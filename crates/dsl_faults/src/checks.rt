@@ -2,14 +2,14 @@
 ghost use Rattle.std.specs.Prelude.{◌≡◌, IfOk, option_map, flat_map, map, [], ◌∷◌, if◌then◌else◌};
 ghost use Rattle.language_model.specs.Building.{pairs_of, repeated_in, InAlternative, InEmpty, InQuantified, InLexicalQuantified, InOther};
 ghost use Rattle.dsl_faults.specs.declared.checks.Check.TheVariants.{Known};
-ghost use Rattle.dsl_statement.specs.Statements.{adverb_of, adverbs_of, statement_of};
+ghost use Rattle.dsl_statement.specs.Statements.{adverb_of, adverbs_of, is_lexical, statement_of};
 ghost use Rattle.dsl_faults.specs.Found.{fault_of, first_of};
 ghost use Rattle.dsl_faults.specs.Adverbs.{place_of, names_of, list_faults, big_faults, statement_faults};
 
 use crate::adverbs::{Place, is_allowed, value_of};
 use crate::found::{Found, fault_at, first_at, first_found};
 use crate::values::{fits, is_big};
-use dsl_statement::{Adverb, Alternative, Statement};
+use dsl_statement::{Adverb, Alternative, Level, Statement};
 use std::alloc::{AllocError, Global};
 
 /// What is asked of a list of adverbs.
@@ -83,11 +83,7 @@ fn big_adverb(adverb: &Adverb) -> Option<Found<'_>>
     match adverb {
         Adverb::Comma { .. } => None,
         Adverb::Pair { name, value } => {
-            if is_big(name.content.as_str(), value) {
-                Some(fault_at(value))
-            } else {
-                None
-            }
+            is_big(name.content.as_str(), value).then_some(fault_at(value))
         }
     }
 }
@@ -137,29 +133,30 @@ fn fault_in_groups(
     first_found(groups, |group| fault_in_group(alloc, check, place, group))
 }
 
-fn place_of_alternatives(lexical: bool) -> Place
-    ensures { place_of result ≡ (if lexical then InOther else InAlternative) }
+fn place_of_alternatives(level: Level) -> Place
+    ensures { place_of result ≡ (if is_lexical level then InOther else InAlternative) }
 {
-    if lexical {
-        Place::Other
-    } else {
-        Place::Alternative
+    match level {
+        Level::Structural => Place::Alternative,
+        Level::Lexical => Place::Other,
     }
 }
 
-fn place_of_empty(lexical: bool) -> Place
-    ensures { place_of result ≡ (if lexical then InOther else InEmpty) }
+fn place_of_empty(level: Level) -> Place
+    ensures { place_of result ≡ (if is_lexical level then InOther else InEmpty) }
 {
-    if lexical { Place::Other } else { Place::Empty }
+    match level {
+        Level::Structural => Place::Empty,
+        Level::Lexical => Place::Other,
+    }
 }
 
-fn place_of_quantified(lexical: bool) -> Place
-    ensures { place_of result ≡ (if lexical then InLexicalQuantified else InQuantified) }
+fn place_of_quantified(level: Level) -> Place
+    ensures { place_of result ≡ (if is_lexical level then InLexicalQuantified else InQuantified) }
 {
-    if lexical {
-        Place::LexicalQuantified
-    } else {
-        Place::Quantified
+    match level {
+        Level::Structural => Place::Quantified,
+        Level::Lexical => Place::LexicalQuantified,
     }
 }
 
@@ -182,21 +179,24 @@ pub fn fault_in_statement(
         ),
         Statement::Lexeme { adverbs, .. } => fault_in_list(alloc, check, Place::Lexeme, adverbs),
         Statement::Discard { adverbs, .. } => fault_in_list(alloc, check, Place::Other, adverbs),
-        Statement::Empty {
-            lexical,
+        Statement::Empty { level, adverbs, .. } => fault_in_list(
+            alloc,
+            check,
+            place_of_empty(*level),
             adverbs,
-            ..
-        } => fault_in_list(alloc, check, place_of_empty(*lexical), adverbs),
-        Statement::Quantified {
-            lexical,
+        ),
+        Statement::Quantified { level, adverbs, .. } => fault_in_list(
+            alloc,
+            check,
+            place_of_quantified(*level),
             adverbs,
-            ..
-        } => fault_in_list(alloc, check, place_of_quantified(*lexical), adverbs),
-        Statement::Rules {
-            lexical,
+        ),
+        Statement::Rules { level, groups, .. } => fault_in_groups(
+            alloc,
+            check,
+            place_of_alternatives(*level),
             groups,
-            ..
-        } => fault_in_groups(alloc, check, place_of_alternatives(*lexical), groups),
+        ),
     }
 }
 

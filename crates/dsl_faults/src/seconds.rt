@@ -24,11 +24,8 @@ fn lexeme_fault<'a>(s: &'a Statement, symbols: &Names, left: &Names) -> Option<F
     match s {
         Statement::Lexeme { name, .. } => {
             let text = name.content.as_str();
-            if symbols.has(text) && !left.has(text) {
-                None
-            } else {
-                Some(fault_at(name))
-            }
+            let known = symbols.has(text) && !left.has(text);
+            (!known).then_some(fault_at(name))
         }
         _ => None,
     }
@@ -49,26 +46,14 @@ fn second_fault<'a>(s: &'a Statement, seen: bool, lexemes: &Names) -> Option<Fou
     ensures { option_map fault_of result ≡ first_of (second_fault seen lexemes.now (statement_of s.now)) }
 {
     match s {
-        Statement::LexemeDefault { at, .. } => {
-            if seen {
-                Some(Found {
-                    at: *at,
-                    name: "lexeme default",
-                })
-            } else {
-                None
-            }
-        }
-        Statement::Lexeme { at, name, .. } => {
-            if lexemes.has(name.content.as_str()) {
-                Some(Found {
-                    at: *at,
-                    name: ":lexeme",
-                })
-            } else {
-                None
-            }
-        }
+        Statement::LexemeDefault { at, .. } => seen.then_some(Found {
+            at: *at,
+            name: "lexeme default",
+        }),
+        Statement::Lexeme { at, name, .. } => lexemes.has(name.content.as_str()).then_some(Found {
+            at: *at,
+            name: ":lexeme",
+        }),
         _ => None,
     }
 }
@@ -124,16 +109,10 @@ fn start_fault(s: &Statement, seen: bool) -> Option<Found<'_>>
     ensures { option_map fault_of result ≡ first_of (start_fault seen (statement_of s.now)) }
 {
     match s {
-        Statement::Start { at, .. } => {
-            if seen {
-                Some(Found {
-                    at: *at,
-                    name: ":start",
-                })
-            } else {
-                None
-            }
-        }
+        Statement::Start { at, .. } => seen.then_some(Found {
+            at: *at,
+            name: ":start",
+        }),
         _ => None,
     }
 }
@@ -168,11 +147,8 @@ fn is_long_quote(token: &Spelled) -> bool
 fn long_fault<'a>(before: usize, token: &'a Spelled) -> Option<Found<'a>>
     ensures { option_map fault_of result ≡ first_of (long_fault before token.now) }
 {
-    if before == MOST || is_long_quote(token) {
-        Some(fault_at(token))
-    } else {
-        None
-    }
+    let long = before == MOST || is_long_quote(token);
+    long.then_some(fault_at(token))
 }
 
 fn long_part<'a>(parts: &[&'a Spelled]) -> Option<Found<'a>>

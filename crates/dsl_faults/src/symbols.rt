@@ -13,7 +13,7 @@ use crate::found::{Found, fault_at, first_at, first_found};
 use crate::names::Names;
 use crate::uses::{Role, Use, Which, is_asked, text_of};
 use char_class::{ClassRefusal, read_class};
-use dsl_statement::{Spelled, TokenKind};
+use dsl_statement::{Level, Spelled, TokenKind};
 use std::alloc::{AllocError, Global};
 
 /// Whether the token is a name.
@@ -55,17 +55,14 @@ fn is_undefined(used: &Use<'_>, structural: &Names, lexical: &Names) -> bool
 {
     let text = text_of(used);
     is_right(used)
-        && (is_name(used.token) && !(lexical.has(text) || (!used.lexical && structural.has(text))))
+        && (is_name(used.token)
+            && !(lexical.has(text) || (!used.level.is_lexical() && structural.has(text))))
 }
 
 fn undefined_use<'a>(used: &Use<'a>, structural: &Names, lexical: &Names) -> Option<Found<'a>>
     ensures { option_map fault_of result ≡ first_of (undefined_fault structural.now lexical.now (used_of used.now)) }
 {
-    if is_undefined(used, structural, lexical) {
-        Some(fault_at_use(used))
-    } else {
-        None
-    }
+    is_undefined(used, structural, lexical).then_some(fault_at_use(used))
 }
 
 /// The first name that no rule defines, or in a lexical place no lexical rule. The tables have the left sides.
@@ -106,21 +103,17 @@ fn is_of_other_level(used: &Use<'_>, structural: &Names, lexical: &Names) -> boo
     ensures { result ≡ is_one_of (if (used_of used.now).lexical then structural.now else lexical.now) (used_of used.now).token.content }
 {
     let text = text_of(used);
-    if used.lexical {
-        structural.has(text)
-    } else {
-        lexical.has(text)
+    match used.level {
+        Level::Structural => lexical.has(text),
+        Level::Lexical => structural.has(text),
     }
 }
 
 fn both_use<'a>(used: &Use<'a>, structural: &Names, lexical: &Names) -> Option<Found<'a>>
     ensures { option_map fault_of result ≡ first_of (both_fault structural.now lexical.now (used_of used.now)) }
 {
-    if is_left(used) && is_of_other_level(used, structural, lexical) {
-        Some(fault_at_use(used))
-    } else {
-        None
-    }
+    let both = is_left(used) && is_of_other_level(used, structural, lexical);
+    both.then_some(fault_at_use(used))
 }
 
 // Puts the text of the use behind the others, if it is one that is asked for.

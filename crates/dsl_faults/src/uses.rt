@@ -1,7 +1,7 @@
 //! The tokens of a description that name symbols.
 ghost use Rattle.std.specs.Prelude.{◌≡◌, ◌++◌, ◌∷◌, [], map, flat_map, option_map, OnOk, IfOk};
 ghost use Rattle.language_model.specs.Building.{parts_of, separator_of, new_texts};
-ghost use Rattle.dsl_statement.specs.Statements.{adverbs_of, statement_of};
+ghost use Rattle.dsl_statement.specs.Statements.{adverbs_of, is_lexical, statement_of};
 ghost use Rattle.dsl_faults.specs.Uses.{used, used_of, uses_of, is_asked, texts_asked};
 ghost use Rattle.dsl_faults.specs.Found.{first_of};
 ghost use Rattle.dsl_faults.specs.declared.uses.Role.TheVariants.{Right};
@@ -9,7 +9,7 @@ ghost use Rattle.dsl_faults.specs.declared.uses.Role.TheVariants.{Right};
 use crate::adverbs::value_of;
 use crate::names::Names;
 use crate::parts;
-use dsl_statement::{Adverb, Alternative, Spelled, Statement};
+use dsl_statement::{Adverb, Alternative, Level, Spelled, Statement};
 use std::alloc::{AllocError, Global};
 
 /// What a token stands as.
@@ -25,39 +25,35 @@ pub enum Role {
     Discard,
 }
 
-/// A token that names a symbol, and whether it does in a lexical rule or in `:discard`.
+/// A token that names a symbol, and the level of the rule that it stands in. `:discard` is lexical.
 #[derive(Clone, Copy)]
 pub struct Use<'a> {
     pub role: Role,
-    pub lexical: bool,
+    pub level: Level,
     pub token: &'a Spelled,
 }
 
 fn push<'a>(
     uses: &mut Vec<Use<'a>>,
     role: Role,
-    lexical: bool,
+    level: Level,
     token: &'a Spelled,
 ) -> Result<(), AllocError>
-    ensures { OnOk result (map used_of uses.new.items ≡ map used_of uses.old.items ++ used role lexical token.now ∷ []) }
+    ensures { OnOk result (map used_of uses.new.items ≡ map used_of uses.old.items ++ used role (is_lexical level) token.now ∷ []) }
 {
-    uses.push(Use {
-        role,
-        lexical,
-        token,
-    })?;
+    uses.push(Use { role, level, token })?;
     Ok(())
 }
 
 fn push_parts<'a>(
     uses: &mut Vec<Use<'a>>,
-    lexical: bool,
+    level: Level,
     parts: &[&'a Spelled],
 ) -> Result<(), AllocError>
-    ensures { OnOk result (map used_of uses.new.items ≡ map used_of uses.old.items ++ map (λ t. used Right lexical t.now) parts.now) }
+    ensures { OnOk result (map used_of uses.new.items ≡ map used_of uses.old.items ++ map (λ t. used Right (is_lexical level) t.now) parts.now) }
 {
     for part in parts {
-        push(uses, Role::Right, lexical, part)?;
+        push(uses, Role::Right, level, part)?;
     }
     Ok(())
 }
@@ -65,25 +61,25 @@ fn push_parts<'a>(
 fn push_alternative<'a>(
     alloc: Global,
     uses: &mut Vec<Use<'a>>,
-    lexical: bool,
+    level: Level,
     alternative: &'a Alternative,
 ) -> Result<(), AllocError>
-    ensures { OnOk result (map used_of uses.new.items ≡ map used_of uses.old.items ++ map (used Right lexical) (parts_of alternative.now)) }
+    ensures { OnOk result (map used_of uses.new.items ≡ map used_of uses.old.items ++ map (used Right (is_lexical level)) (parts_of alternative.now)) }
 {
     let parts = parts::parts_of(alloc, alternative)?;
-    push_parts(uses, lexical, &parts)
+    push_parts(uses, level, &parts)
 }
 
 fn push_group<'a>(
     alloc: Global,
     uses: &mut Vec<Use<'a>>,
-    lexical: bool,
+    level: Level,
     group: &'a [Alternative],
 ) -> Result<(), AllocError>
-    ensures { OnOk result (map used_of uses.new.items ≡ map used_of uses.old.items ++ flat_map (λ a. map (used Right lexical) (parts_of a)) group.now) }
+    ensures { OnOk result (map used_of uses.new.items ≡ map used_of uses.old.items ++ flat_map (λ a. map (used Right (is_lexical level)) (parts_of a)) group.now) }
 {
     for alternative in group {
-        push_alternative(alloc, uses, lexical, alternative)?;
+        push_alternative(alloc, uses, level, alternative)?;
     }
     Ok(())
 }
@@ -91,26 +87,26 @@ fn push_group<'a>(
 fn push_groups<'a>(
     alloc: Global,
     uses: &mut Vec<Use<'a>>,
-    lexical: bool,
+    level: Level,
     groups: &'a [Vec<Alternative>],
 ) -> Result<(), AllocError>
-    ensures { OnOk result (map used_of uses.new.items ≡ map used_of uses.old.items ++ flat_map (λ g. flat_map (λ a. map (used Right lexical) (parts_of a)) g.items) groups.now) }
+    ensures { OnOk result (map used_of uses.new.items ≡ map used_of uses.old.items ++ flat_map (λ g. flat_map (λ a. map (used Right (is_lexical level)) (parts_of a)) g.items) groups.now) }
 {
     for group in groups {
-        push_group(alloc, uses, lexical, group)?;
+        push_group(alloc, uses, level, group)?;
     }
     Ok(())
 }
 
 fn push_separator<'a>(
     uses: &mut Vec<Use<'a>>,
-    lexical: bool,
+    level: Level,
     adverbs: &'a [Adverb],
 ) -> Result<(), AllocError>
-    ensures { OnOk result (map used_of uses.new.items ≡ map used_of uses.old.items ++ map (used Right lexical) (separator_of (adverbs_of adverbs.now))) }
+    ensures { OnOk result (map used_of uses.new.items ≡ map used_of uses.old.items ++ map (used Right (is_lexical level)) (separator_of (adverbs_of adverbs.now))) }
 {
     match value_of("separator", adverbs) {
-        Some(token) => push(uses, Role::Right, lexical, token),
+        Some(token) => push(uses, Role::Right, level, token),
         None => Ok(()),
     }
 }
@@ -123,30 +119,30 @@ fn push_statement<'a>(
     ensures { OnOk result (map used_of uses.new.items ≡ map used_of uses.old.items ++ uses_of (statement_of s.now)) }
 {
     match s {
-        Statement::Start { name, .. } => push(uses, Role::Start, false, name),
+        Statement::Start { name, .. } => push(uses, Role::Start, Level::Structural, name),
         Statement::Default { .. } => Ok(()),
         Statement::LexemeDefault { .. } => Ok(()),
         Statement::Lexeme { .. } => Ok(()),
-        Statement::Discard { item, .. } => push(uses, Role::Discard, true, item),
-        Statement::Empty { left, lexical, .. } => push(uses, Role::Left, *lexical, left),
+        Statement::Discard { item, .. } => push(uses, Role::Discard, Level::Lexical, item),
+        Statement::Empty { left, level, .. } => push(uses, Role::Left, *level, left),
         Statement::Quantified {
             left,
-            lexical,
+            level,
             item,
             adverbs,
             ..
         } => {
-            push(uses, Role::Left, *lexical, left)?;
-            push(uses, Role::Right, *lexical, item)?;
-            push_separator(uses, *lexical, adverbs)
+            push(uses, Role::Left, *level, left)?;
+            push(uses, Role::Right, *level, item)?;
+            push_separator(uses, *level, adverbs)
         }
         Statement::Rules {
             left,
-            lexical,
+            level,
             groups,
         } => {
-            push(uses, Role::Left, *lexical, left)?;
-            push_groups(alloc, uses, *lexical, groups)
+            push(uses, Role::Left, *level, left)?;
+            push_groups(alloc, uses, *level, groups)
         }
     }
 }
@@ -177,9 +173,9 @@ pub fn is_asked(which: Which, used: &Use<'_>) -> bool
     ensures { result ≡ is_asked which (used_of used.now) }
 {
     match which {
-        Which::StructuralLeft => matches!(used.role, Role::Left) && !used.lexical,
-        Which::LexicalLeft => matches!(used.role, Role::Left) && used.lexical,
-        Which::Structural => !used.lexical,
+        Which::StructuralLeft => matches!(used.role, Role::Left) && !used.level.is_lexical(),
+        Which::LexicalLeft => matches!(used.role, Role::Left) && used.level.is_lexical(),
+        Which::Structural => !used.level.is_lexical(),
         Which::Discarded => matches!(used.role, Role::Discard),
         Which::Started => matches!(used.role, Role::Start),
     }

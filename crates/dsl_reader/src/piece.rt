@@ -42,6 +42,7 @@ pub fn piece_of<'t>(chars: &'t Chars, tokens: &'t [Token]) -> Piece<'t>
 }
 
 impl<'t> Piece<'t> {
+    /// How many tokens there are.
     pub fn len(&self) -> usize
         ensures { result ≡ length self.now }
     {
@@ -99,36 +100,42 @@ impl<'t> Piece<'t> {
         }
     }
 
+    /// Whether the token at a place is this mark.
     pub fn is_mark(&self, i: usize, content: &str) -> bool
         ensures { result ≡ first_is (is_mark content.now) (drop i self.now) }
     {
         i < self.tokens.len() && is_mark_token(self.chars, self.tokens[i], content)
     }
 
+    /// Whether the token at a place is this word.
     pub fn is_word(&self, i: usize, content: &str) -> bool
         ensures { result ≡ first_is (is_word_of content.now) (drop i self.now) }
     {
         i < self.tokens.len() && is_word_token(self.chars, self.tokens[i], content)
     }
 
+    /// Whether the token at a place is this name behind a colon.
     pub fn is_pseudo_of(&self, i: usize, content: &str) -> bool
         ensures { result ≡ first_is (is_pseudo_of content.now) (drop i self.now) }
     {
         i < self.tokens.len() && is_pseudo_token(self.chars, self.tokens[i], content)
     }
 
+    /// Whether the token at a place is a name behind a colon, as `:start`.
     pub fn is_pseudo(&self, i: usize) -> bool
         ensures { result ≡ first_is is_pseudo (drop i self.now) }
     {
         matches!(self.kind(i), Some(TokenKind::Pseudo))
     }
 
+    /// Whether the token at a place names a symbol.
     pub fn is_name(&self, i: usize) -> bool
         ensures { result ≡ first_is is_name (drop i self.now) }
     {
         matches!(self.kind(i), Some(TokenKind::Word | TokenKind::Angle))
     }
 
+    /// Whether the token at a place can be a part of a right side.
     pub fn is_part(&self, i: usize) -> bool
         ensures { result ≡ first_is is_part (drop i self.now) }
     {
@@ -147,6 +154,7 @@ impl<'t> Piece<'t> {
         )
     }
 
+    /// Whether the token at a place can be the value of an adverb.
     pub fn is_value(&self, i: usize) -> bool
         ensures { result ≡ first_is is_value (drop i self.now) }
     {
@@ -156,6 +164,7 @@ impl<'t> Piece<'t> {
         }
     }
 
+    /// Whether the token at a place can be the name of an adverb.
     pub fn is_adverb_name(&self, i: usize) -> bool
         ensures { result ≡ first_is is_adverb_name (drop i self.now) }
     {
@@ -206,6 +215,7 @@ impl<'t> Piece<'t> {
         self.front(to).behind(from)
     }
 
+    /// The name at a place, with where it stands.
     pub fn name(&self, alloc: Global, i: usize) -> Result<Option<Spelled>, AllocError>
         ensures { IfOk result (λ r. r ≡ first_such is_name (drop i self.now)) }
     {
@@ -216,6 +226,7 @@ impl<'t> Piece<'t> {
         }
     }
 
+    /// The single character class or name at a place, with where it stands.
     pub fn single(&self, alloc: Global, i: usize) -> Result<Option<Spelled>, AllocError>
         ensures { IfOk result (λ r. r ≡ first_such is_single (drop i self.now)) }
     {

@@ -1,12 +1,14 @@
 //! Reading statements.
-ghost use Rattle.std.specs.Prelude.{◌≡◌, IfOk, option_map};
-ghost use Rattle.dsl_statement.specs.Statements.{statement_of as statement_seen};
+ghost use Rattle.std.specs.Prelude.{◌≡◌, IfOk, codes, drop, option_map};
+ghost use Rattle.language_model.specs.Description.{is_mark};
+ghost use Rattle.dsl_statement.specs.Statements.{is_lexical, statement_of as statement_seen};
+ghost use Rattle.dsl_reader.specs.Pieces.{first_is};
 ghost use Rattle.dsl_reader.specs.Forms.{start_of, default_of, lexeme_default_of, lexeme_of, discard_of, pseudo_of, quantified_of, rules_of, right_of, rule_of, statement_in};
 
 use crate::adverbs::read_adverbs;
 use crate::alternatives::read_groups;
 use crate::piece::Piece;
-use dsl_statement::{Spelled, Statement};
+use dsl_statement::{Level, Spelled, Statement};
 use std::alloc::{AllocError, Global};
 
 /// A statement, or none where the tokens are none.
@@ -106,8 +108,8 @@ fn read_pseudo(alloc: Global, piece: &Piece<'_>) -> Found
 }
 
 #[tactic(auto, unfolding(crate::specs::Forms::quantified_of))]
-fn read_quantified(alloc: Global, left: Spelled, lexical: bool, piece: &Piece<'_>) -> Found
-    ensures { IfOk result (λ r. option_map statement_seen r ≡ quantified_of left lexical piece.now) }
+fn read_quantified(alloc: Global, left: Spelled, level: Level, piece: &Piece<'_>) -> Found
+    ensures { IfOk result (λ r. option_map statement_seen r ≡ quantified_of left (is_lexical level) piece.now) }
 {
     let Some(item) = piece.single(alloc, 2)? else {
         return Ok(None);
@@ -117,7 +119,7 @@ fn read_quantified(alloc: Global, left: Spelled, lexical: bool, piece: &Piece<'_
     };
     Ok(Some(Statement::Quantified {
         left,
-        lexical,
+        level,
         item,
         plus: piece.is_mark(3, "+"),
         adverbs,
@@ -125,25 +127,25 @@ fn read_quantified(alloc: Global, left: Spelled, lexical: bool, piece: &Piece<'_
 }
 
 #[tactic(auto, unfolding(crate::specs::Forms::rules_of))]
-fn read_rules(alloc: Global, left: Spelled, lexical: bool, piece: &Piece<'_>) -> Found
-    ensures { IfOk result (λ r. option_map statement_seen r ≡ rules_of left lexical piece.now) }
+fn read_rules(alloc: Global, left: Spelled, level: Level, piece: &Piece<'_>) -> Found
+    ensures { IfOk result (λ r. option_map statement_seen r ≡ rules_of left (is_lexical level) piece.now) }
 {
     let Some(groups) = read_groups(alloc, &piece.behind(2))? else {
         return Ok(None);
     };
-    if lexical && groups.len() != 1 {
+    if level.is_lexical() && groups.len() != 1 {
         return Ok(None);
     }
     Ok(Some(Statement::Rules {
         left,
-        lexical,
+        level,
         groups,
     }))
 }
 
 #[tactic(auto, unfolding(crate::specs::Forms::right_of))]
-fn read_right(alloc: Global, left: Spelled, lexical: bool, piece: &Piece<'_>) -> Found
-    ensures { IfOk result (λ r. option_map statement_seen r ≡ right_of left lexical piece.now) }
+fn read_right(alloc: Global, left: Spelled, level: Level, piece: &Piece<'_>) -> Found
+    ensures { IfOk result (λ r. option_map statement_seen r ≡ right_of left (is_lexical level) piece.now) }
 {
     if piece.ends_elements(2) {
         let Some(adverbs) = read_adverbs(alloc, &piece.behind(2))? else {
@@ -151,14 +153,25 @@ fn read_right(alloc: Global, left: Spelled, lexical: bool, piece: &Piece<'_>) ->
         };
         return Ok(Some(Statement::Empty {
             left,
-            lexical,
+            level,
             adverbs,
         }));
     }
     if piece.is_mark(3, "*") || piece.is_mark(3, "+") {
-        read_quantified(alloc, left, lexical, piece)
+        read_quantified(alloc, left, level, piece)
     } else {
-        read_rules(alloc, left, lexical, piece)
+        read_rules(alloc, left, level, piece)
+    }
+}
+
+// The level that the operator behind the left side tells.
+fn level_of(piece: &Piece<'_>) -> Level
+    ensures { is_lexical result ≡ first_is (is_mark (codes "~")) (drop 1 piece.now) }
+{
+    if piece.is_mark(1, "~") {
+        Level::Lexical
+    } else {
+        Level::Structural
     }
 }
 
@@ -169,7 +182,7 @@ fn read_rule(alloc: Global, piece: &Piece<'_>) -> Found
     let Some(left) = piece.name(alloc, 0)? else {
         return Ok(None);
     };
-    read_right(alloc, left, piece.is_mark(1, "~"), piece)
+    read_right(alloc, left, level_of(piece), piece)
 }
 
 /// The statement that the tokens are, all of them.

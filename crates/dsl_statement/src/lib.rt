@@ -4,4 +4,4 @@
 mod statement;
 
 pub use language_model::TokenKind;
-pub use statement::{Adverb, Alternative, Description, Element, Spelled, Statement};
+pub use statement::{Adverb, Alternative, Description, Element, Level, Spelled, Statement};

@@ -53,6 +53,27 @@ impl Model for Alternative {
     ghost view = { λ a. record { elements = map element_of a.elements.items; adverbs = adverbs_of a.adverbs.items } };
 }
 
+/// The two levels of a grammar: the rules of phrases, and those of the lexemes that phrases are made of.
+#[derive(Clone, Copy, Debug)]
+pub enum Level {
+    /// of a rule with `::=`
+    Structural,
+    /// of a rule with `~`
+    Lexical,
+}
+
+impl Level {
+    ghost use Rattle.std.specs.Prelude.{◌≡◌};
+    ghost use Rattle.dsl_statement.specs.Statements.{is_lexical};
+
+    /// Whether it is the lexical one.
+    pub fn is_lexical(self) -> bool
+        ensures { result ≡ is_lexical self }
+    {
+        matches!(self, Level::Lexical)
+    }
+}
+
 /// A statement. `at` is the place of its first token, where that is no part of it.
 #[derive(Debug, Drop)]
 pub enum Statement {
@@ -86,13 +107,13 @@ pub enum Statement {
     /// A rule with no parts on its right side.
     Empty {
         left: Spelled,
-        lexical: bool,
+        level: Level,
         adverbs: Vec<Adverb>,
     },
     /// A rule for one or more items if `plus`, else for none or more.
     Quantified {
         left: Spelled,
-        lexical: bool,
+        level: Level,
         item: Spelled,
         plus: bool,
         adverbs: Vec<Adverb>,
@@ -100,7 +121,7 @@ pub enum Statement {
     /// A rule for each alternative. The first group is the tightest.
     Rules {
         left: Spelled,
-        lexical: bool,
+        level: Level,
         groups: Vec<Vec<Alternative>>,
     },
 }

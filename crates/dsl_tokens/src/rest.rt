@@ -36,12 +36,14 @@ pub fn rest_of(chars: &Chars, from: usize) -> Rest<'_>
 }
 
 impl<'t> Rest<'t> {
+    /// How many characters there are.
     pub fn len(&self) -> usize
         ensures { result ≡ length self.now }
     {
         self.end - self.from
     }
 
+    /// A character, by its place.
     pub fn at(&self, i: usize) -> char
         requires { i < length self.now }
         ensures { result ≡ slice_index self.now i }
@@ -65,6 +67,7 @@ impl<'t> Rest<'t> {
         if i < self.len() { self.at(i) } else { '\0' }
     }
 
+    /// Whether the text begins with these characters.
     pub fn starts_with(&self, front: &[char]) -> bool
         ensures { result ≡ starts_with nat_eq self.now front.now }
     {

@@ -38,6 +38,7 @@ pub fn has_word(text: &Rest<'_>, count: usize) -> bool
     false
 }
 
+/// How many characters of a word the text begins with.
 pub fn word_len(text: &Rest<'_>) -> usize
     ensures value { result ≡ prefix_len is_word text.now }
     ensures within { result ≤ length text.now }
@@ -49,6 +50,7 @@ pub fn word_len(text: &Rest<'_>) -> usize
     len
 }
 
+/// How many digits the text begins with.
 pub fn digits_len(text: &Rest<'_>) -> usize
     ensures value { result ≡ prefix_len is_ascii_digit text.now }
     ensures within { result ≤ length text.now }
@@ -60,6 +62,7 @@ pub fn digits_len(text: &Rest<'_>) -> usize
     len
 }
 
+/// How many characters that may stand between angle brackets the text begins with.
 pub fn angle_len(text: &Rest<'_>) -> usize
     ensures value { result ≡ prefix_len is_angle_character text.now }
     ensures within { result ≤ length text.now }
@@ -71,6 +74,7 @@ pub fn angle_len(text: &Rest<'_>) -> usize
     len
 }
 
+/// How many characters that may stand between quotes the text begins with.
 pub fn quote_len(text: &Rest<'_>) -> usize
     ensures value { result ≡ prefix_len is_quotable text.now }
     ensures within { result ≤ length text.now }

@@ -1,17 +1,17 @@
-use Rattle.std.proofs.Common.{◌≡◌, ℕ, zero, suc, ◌+◌, ◌<◌, ◌≤◌, ◌++◌, append_assoc, take, ◌↔◌, ◌⊎◌, inl, inr, List, [], ◌∷◌, length, map, slice_get, Some, None, Contains, refl, sym, ◌∙◌, ap, subst, arith}
+use Rattle.std.proofs.Common.{◌≡◌, ◌≢◌, ℕ, zero, suc, ◌+◌, ◌<◌, ◌≤◌, ◌++◌, append_assoc, take, ◌↔◌, ◌⊎◌, inl, inr, List, [], ◌∷◌, length, map, slice_get, Some, None, Contains, refl, sym, ◌∙◌, ap, subst, arith}
 use Rattle.std.proofs.lemmas.List.{take_more}
 use Rattle.std.proofs.lemmas.List.Elements.{Contains-append_left, Contains-append_right, Contains-push, Contains-push_cases, Contains-append_cases}
 use Rattle.grammar_core.proofs.Halving.{index_get}
 use Rattle.recognizer_model.specs.declared.Item.{Item}
-use Rattle.recognizer_model.specs.Flat.{FlatGrammar, IsRule, lhs_of, rhs_of, IsNullable}
-use Rattle.recognizer_model.specs.Items.{after, first_item, advanced}
+use Rattle.recognizer_model.specs.Flat.{FlatGrammar, lhs_of, rhs_of, IsNullable}
+use Rattle.recognizer_model.specs.Items.{after, advanced}
 use Rattle.recognizer_model.specs.Counts.{IsListOf}
 use Rattle.item_rows.specs.Rows.{row_at}
 use Rattle.earley_sets.specs.Kept.{IsItem, AreRows}
 use Rattle.leo_items.specs.declared.memo.Pair.{Pair}
 use Rattle.leo_items.specs.ByRows.{IsNotLeoIn, LeadsIn, pair_of}
 use Rattle.leo_items.proofs.Chains.{has_leo, leads_one, leads_item}
-use Rattle.earley_sets.specs.Closing.{IsPredicted, BeginTogether, IsBegun, IsAdvancedOver, IsDone, Follows, Predicts, Skips, Completes, Leaps, FollowsAnew}
+use Rattle.earley_sets.specs.Closing.{IsAdvancedOver, IsSkipped, IsDone, Follows, Predicts, Skips, Completes, Leaps, GoesOn}
 use Rattle.earley_sets.proofs.Membership.{Contains-map, Contains-map_from}
 
 -- one more item with its dot advanced
@@ -27,61 +27,16 @@ advanced_more row k x is first old new y before more same =
     map_append [] = refl
     map_append (z ∷ xs) = ap (λ l. advanced z ∷ l) (map_append xs)
 
--- the rules of a symbol, and a set in which they begin together
-module _ (g : FlatGrammar) (place x from to : ℕ) (listed : (r : ℕ) → ((from ≤ r) × (r < to)) ↔ (IsRule g r × (lhs_of g r ≡ x))) (set old : List Item) (together : BeginTogether g place set) where
-  first_rule : (r : ℕ) → from ≤ r → r < to → IsRule g from × (lhs_of g from ≡ x)
-  first_rule r lo hi = (listed from).0 (omega arith, omega (arith, lo, hi))
-
-  all_there : (to ≤ from) ⊎ Contains set (first_item from place) → (r : ℕ) → IsRule g r → lhs_of g r ≡ x → Contains set (first_item r place)
-  all_there (inl le) r rule l = let (lo, hi) = (listed r).1 (rule, l) in absurd (omega (arith, le, lo, hi))
-  all_there (inr c) r rule l = let (lo, hi) = (listed r).1 (rule, l) in let (rule', l') = first_rule r lo hi in together from r rule' rule (l' ∙ sym l) c
-
-  none_there : (¬ ((to ≤ from) ⊎ Contains set (first_item from place))) → (r : ℕ) → from ≤ r → r < to → ¬ Contains set (first_item r place)
-  none_there none r lo hi c =
-      let (rule, l) = (listed r).0 (lo, hi) in
-      let (rule', l') = first_rule r lo hi in
-      none (inr (together r from rule rule' (l ∙ sym l') c))
-
-  pub rules_there : (to ≤ from) ⊎ Contains set (first_item from place) → (other : Item) → Contains old other ↔ (Contains old other ⊎ (IsPredicted g place x other × (¬ Contains set other)))
-  rules_there begun other = (
-    λ o. inl o,
-    λ h. elim h [ inl o ↦ o | inr ((r, rule, l, e), fresh) ↦ absurd (fresh (subst (Contains set) (sym e) (all_there begun r rule l))) ],
+-- an item skipped over the symbol that it waits for
+module _ (g : FlatGrammar) (item : Item) (x : ℕ) (old : List Item) where
+  pub has_skipped : (new : List Item) → new ≡ old ++ advanced item ∷ [] → IsNullable g x → (other : Item) → Contains new other ↔ (Contains old other ⊎ IsSkipped g item x other)
+  has_skipped new e n other = subst (λ l. Contains l other ↔ (Contains old other ⊎ IsSkipped g item x other)) (sym e) (
+    λ h. elim (Contains-push_cases old (advanced item) other h) [ inl o ↦ inl o | inr same ↦ inr (n, sym same) ],
+    λ h. elim h [ inl o ↦ Contains-append_left old (advanced item ∷ []) other o | inr (n', same) ↦ subst (Contains (old ++ advanced item ∷ [])) (sym same) (Contains-push old (advanced item)) ],
   )
 
-  pub rules_begin : (new : List Item) → (¬ ((to ≤ from) ⊎ Contains set (first_item from place))) →
-      ((other : Item) → Contains new other ↔ (Contains old other ⊎ ((r : ℕ) × (from ≤ r) × (r < to) × (other ≡ first_item r place)))) →
-      (other : Item) → Contains new other ↔ (Contains old other ⊎ (IsPredicted g place x other × (¬ Contains set other)))
-  rules_begin new none added other = (
-    λ n. elim ((added other).0 n) [
-      | inl o ↦ inl o
-      | inr (r, lo, hi, e) ↦ let (rule, l) = (listed r).0 (lo, hi) in inr ((r, rule, l, e), λ c. none_there none r lo hi (subst (Contains set) e c))
-    ],
-    λ n. (added other).1 (elim n [ inl o ↦ inl o | inr ((r, rule, l, e), fresh) ↦ let (lo, hi) = (listed r).1 (rule, l) in inr (r, lo, hi, e) ]),
-  )
-
--- the item's advance behind the rules
-module _ (g : FlatGrammar) (place : ℕ) (set : List Item) (item : Item) (x : ℕ) (old mid : List Item) (begun : (other : Item) → Contains mid other ↔ (Contains old other ⊎ (IsPredicted g place x other × (¬ Contains set other)))) where
-  from_begun : (other : Item) → Contains mid other → Contains old other ⊎ IsBegun g place set item x other
-  from_begun other h = elim ((begun other).0 h) [ inl o ↦ inl o | inr p ↦ inr (inl p) ]
-
-  pub begun_skips : (new : List Item) → new ≡ mid ++ advanced item ∷ [] → IsNullable g x → (other : Item) → Contains new other ↔ (Contains old other ⊎ IsBegun g place set item x other)
-  begun_skips new e n other = subst (λ l. Contains l other ↔ (Contains old other ⊎ IsBegun g place set item x other)) (sym e) (there, back)
-    where
-      there : Contains (mid ++ advanced item ∷ []) other → Contains old other ⊎ IsBegun g place set item x other
-      there h = elim (Contains-push_cases mid (advanced item) other h) [ inl p ↦ from_begun other p | inr same ↦ inr (inr (n, sym same)) ]
-
-      back : Contains old other ⊎ IsBegun g place set item x other → Contains (mid ++ advanced item ∷ []) other
-      back (inl o) = Contains-append_left mid (advanced item ∷ []) other ((begun other).1 (inl o))
-      back (inr (inl p)) = Contains-append_left mid (advanced item ∷ []) other ((begun other).1 (inr p))
-      back (inr (inr (n', same))) = subst (Contains (mid ++ advanced item ∷ [])) (sym same) (Contains-push mid (advanced item))
-
-  pub begun_stays : (¬ IsNullable g x) → (other : Item) → Contains mid other ↔ (Contains old other ⊎ IsBegun g place set item x other)
-  begun_stays none other = (from_begun other, back)
-    where
-      back : Contains old other ⊎ IsBegun g place set item x other → Contains mid other
-      back (inl o) = (begun other).1 (inl o)
-      back (inr (inl p)) = (begun other).1 (inr p)
-      back (inr (inr (n, same))) = absurd (none n)
+  pub none_skipped : (¬ IsNullable g x) → (other : Item) → Contains old other ↔ (Contains old other ⊎ IsSkipped g item x other)
+  none_skipped none other = (λ o. inl o, λ h. elim h [ inl o ↦ o | inr (n, same) ↦ absurd (none n) ])
 
 -- the items that wait for a symbol, with their dots advanced
 module _ (g : FlatGrammar) (items part : List Item) (x : ℕ) (lists : IsListOf (λ item. Contains items item × (after g item ≡ Some x)) part) (old new : List Item) (is : new ≡ old ++ map advanced part) where
@@ -137,23 +92,22 @@ pub leads_later : {g : FlatGrammar} {rows : List (List Item)} {i x : ℕ} {t : I
 leads_later (LeadsIn.Last leo none) e = omega (arith, e)
 leads_later (LeadsIn.On leo more) e = leads_later more e
 
-module _ (g : FlatGrammar) (rows : List (List Item)) (place : ℕ) (set : List Item) (item : Item) where
+module _ (g : FlatGrammar) (rows : List (List Item)) (place : ℕ) (item : Item) where
   module _ (x : ℕ) (e : after g item ≡ Some x) where
-    begun_follows : (other : Item) → IsBegun g place set item x other → FollowsAnew g rows place set item other
-    begun_follows other (inl ((r, rule, l, same), fresh)) = (subst (Follows g rows place item) (sym same) (Predicts e rule l), λ start. fresh)
-    begun_follows other (inr (n, same)) = (subst (Follows g rows place item) (sym same) (Skips e n), λ start. absurd (let d = ap (λ (t : Item). t.dot) same in omega (arith, d, start)))
+    skipped_on : (other : Item) → IsSkipped g item x other → GoesOn g rows place item other
+    skipped_on other (n, same) = (subst (Follows g rows place item) (sym same) (Skips e n), λ start. (let d = ap (λ (t : Item). t.dot) same in omega (arith, d, start)))
 
-    follows_begun : (other : Item) → Follows g rows place item other → (other.dot ≡ 0 → ¬ Contains set other) → IsBegun g place set item x other
-    follows_begun other (Predicts {x = y} {r = r} e' rule l) anew = let s : y ≡ x = cc in inl ((r, rule, l ∙ s, refl), anew refl)
-    follows_begun other (Skips {x = y} e' n) anew = let s : y ≡ x = cc in inr (subst (IsNullable g) s n, refl)
-    follows_begun other (Completes whole lt none w e') anew = let n = whole_past (rhs_of g item.rule) item.dot whole in absurd (cc)
-    follows_begun other (Leaps whole lt leads) anew = let n = whole_past (rhs_of g item.rule) item.dot whole in absurd (cc)
+    on_skipped : (other : Item) → Follows g rows place item other → other.dot ≢ 0 → IsSkipped g item x other
+    on_skipped other (Predicts {x = y} {r = r} e' rule l) behind = absurd (behind refl)
+    on_skipped other (Skips {x = y} e' n) behind = let s : y ≡ x = cc in (subst (IsNullable g) s n, refl)
+    on_skipped other (Completes whole lt none w e') behind = let n = whole_past (rhs_of g item.rule) item.dot whole in absurd (cc)
+    on_skipped other (Leaps whole lt leads) behind = let n = whole_past (rhs_of g item.rule) item.dot whole in absurd (cc)
 
-    pub has_begun : (old new : List Item) → ((other : Item) → Contains new other ↔ (Contains old other ⊎ IsBegun g place set item x other)) →
-        (other : Item) → Contains new other ↔ (Contains old other ⊎ FollowsAnew g rows place set item other)
-    has_begun old new h other = (
-      λ n. elim ((h other).0 n) [ inl o ↦ inl o | inr f ↦ inr (begun_follows other f) ],
-      λ n. (h other).1 (elim n [ inl o ↦ inl o | inr (f, anew) ↦ inr (follows_begun other f anew) ]),
+    pub goes_skipped : (old new : List Item) → ((other : Item) → Contains new other ↔ (Contains old other ⊎ IsSkipped g item x other)) →
+        (other : Item) → Contains new other ↔ (Contains old other ⊎ GoesOn g rows place item other)
+    goes_skipped old new h other = (
+      λ n. elim ((h other).0 n) [ inl o ↦ inl o | inr f ↦ inr (skipped_on other f) ],
+      λ n. (h other).1 (elim n [ inl o ↦ inl o | inr (f, behind) ↦ inr (on_skipped other f behind) ]),
     )
 
   module _ (e : after g item ≡ None) where
@@ -163,23 +117,23 @@ module _ (g : FlatGrammar) (rows : List (List Item)) (place : ℕ) (set : List I
     done_from other (Completes {waiting = w} whole lt none i e') = (lt, inl (none, (w, i, e', refl)))
     done_from other (Leaps whole lt leads) = (lt, inr leads)
 
-    pub has_done : (old new : List Item) → IsItem g item → item.origin < place → (pair : Pair) → pair ≡ pair_of g item →
+    pub goes_done : (old new : List Item) → IsItem g item → item.origin < place → (pair : Pair) → pair ≡ pair_of g item →
         ((other : Item) → Contains new other ↔ (Contains old other ⊎ IsDone g rows pair.set pair.symbol other)) →
-        (other : Item) → Contains new other ↔ (Contains old other ⊎ FollowsAnew g rows place set item other)
-    has_done old new is lt pair same h other = (
+        (other : Item) → Contains new other ↔ (Contains old other ⊎ GoesOn g rows place item other)
+    goes_done old new is lt pair same h other = (
       λ n. elim ((h other).0 n) [ inl o ↦ inl o | inr d ↦ inr (follows (subst (λ (p : Pair). IsDone g rows p.set p.symbol other) same d)) ],
-      λ n. (h other).1 (elim n [ inl o ↦ inl o | inr (f, anew) ↦ inr (subst (λ (p : Pair). IsDone g rows p.set p.symbol other) (sym same) (done_from other f).1) ]),
+      λ n. (h other).1 (elim n [ inl o ↦ inl o | inr (f, behind) ↦ inr (subst (λ (p : Pair). IsDone g rows p.set p.symbol other) (sym same) (done_from other f).1) ]),
     )
       where
-        follows : IsDone g rows item.origin (lhs_of g item.rule) other → FollowsAnew g rows place set item other
+        follows : IsDone g rows item.origin (lhs_of g item.rule) other → GoesOn g rows place item other
         follows (inl (none, (w, i, e', s))) = (
           subst (Follows g rows place item) (sym s) (Completes (whole_from (rhs_of g item.rule) item.dot is.within e) lt none i e'),
-          λ start. absurd (let d = ap (λ (t : Item). t.dot) s in omega (arith, d, start)),
+          λ start. (let d = ap (λ (t : Item). t.dot) s in omega (arith, d, start)),
         )
-        follows (inr leads) = (Leaps (whole_from (rhs_of g item.rule) item.dot is.within e) lt leads, λ start. absurd (leads_later leads start))
+        follows (inr leads) = (Leaps (whole_from (rhs_of g item.rule) item.dot is.within e) lt leads, λ start. leads_later leads start)
 
-    pub has_nothing : (old : List Item) → place ≤ item.origin → (other : Item) → Contains old other ↔ (Contains old other ⊎ FollowsAnew g rows place set item other)
-    has_nothing old le other = (λ o. inl o, λ h. elim h [ inl o ↦ o | inr (f, anew) ↦ let (lt, c) = done_from other f in absurd (omega arith) ])
+    pub goes_nowhere : (old : List Item) → place ≤ item.origin → (other : Item) → Contains old other ↔ (Contains old other ⊎ GoesOn g rows place item other)
+    goes_nowhere old le other = (λ o. inl o, λ h. elim h [ inl o ↦ o | inr (f, behind) ↦ let (lt, c) = done_from other f in absurd (omega arith) ])
 
 pub part_within : (xs : List ℕ) (k x : ℕ) → slice_get xs k ≡ Some x → k < length xs
 part_within [] k x e = absurd (cc)

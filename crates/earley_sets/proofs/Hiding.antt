@@ -22,51 +22,61 @@ use Rattle.earley_sets.specs.Closing.{Adds, Grows, IsReached, Seed}
 use Rattle.earley_sets.specs.Closing as closing
 use Rattle.earley_sets.specs.Scanning.{GoForward, AreReduced}
 use Rattle.earley_sets.specs.Loops.{IsClosedTo}
-use Rattle.earley_sets.specs.Hidden.{IsWholeFrom, IsSingleStep, IsStepped, Kept, Step, IsHiddenIn}
+use Rattle.earley_sets.specs.Hidden.{IsWholeFrom, IsFrom, IsSingleStep, NoneLeadsOn, IsStepped, Kept, Step, IsHiddenIn}
 use Rattle.earley_sets.proofs.Adding.{decide}
 use Rattle.earley_sets.proofs.Membership.{Contains-none}
 use Rattle.earley_sets.proofs.Growing.{Adds-begins, Adds-has}
 use Rattle.earley_sets.proofs.Loops.{closed_more}
 use Rattle.earley_sets.proofs.ByRows.{goes_forward, known, to_leo, from_leo}
 
--- the whole items of a row
-module _ (g : FlatGrammar) (from : ℕ) where
-  abbrev pub AreWhole : List Item → List Item → Type 0
-  AreWhole row keys = (item : Item) → Contains keys item ↔ IsWholeFrom g row from item
+-- the items that begin at a place or behind it
+module _ (from : ℕ) where
+  abbrev pub AreFrom : List Item → List Item → Type 0
+  AreFrom items keys = (item : Item) → Contains keys item ↔ IsFrom items from item
 
-  pub whole_none : (keys : List Item) → keys ≡ [] → AreWhole [] keys
-  whole_none keys none item = (λ h. absurd (Contains-none item (subst (λ l. Contains l item) none h)), λ (c, w, le). absurd (Contains-none item c))
+  pub from_none : (keys : List Item) → keys ≡ [] → AreFrom [] keys
+  from_none keys none item = (λ h. absurd (Contains-none item (subst (λ l. Contains l item) none h)), λ (c, le). absurd (Contains-none item c))
 
-  add_got : (row old new : List Item) (k : ℕ) (d : Item) → k < length row → AreWhole (take k row) old → IsWhole g (get_or row k d) × (from ≤ (get_or row k d).origin) →
-      Adds old new (get_or row k d) → AreWhole (take (k + 1) row) new
-  add_got row old new k d lt are is adds item = subst (λ l. Contains new item ↔ IsWholeFrom g l from item) (sym (take_more row k d lt)) (
-    λ h. elim ((Adds-has old new (get_or row k d) item adds).0 h) [
-      | inl o ↦ let (c, w, le) = (are item).0 o in (Contains-append_left (take k row) (get_or row k d ∷ []) item c, w, le)
-      | inr e ↦ subst (λ z. Contains (take k row ++ get_or row k d ∷ []) z × IsWhole g z × (from ≤ z.origin)) e (Contains-push (take k row) (get_or row k d), is.0, is.1)
+  add_got : (items old new : List Item) (k : ℕ) (d : Item) → k < length items → AreFrom (take k items) old → from ≤ (get_or items k d).origin → Adds old new (get_or items k d) → AreFrom (take (k + 1) items) new
+  add_got items old new k d lt are is adds item = subst (λ l. Contains new item ↔ IsFrom l from item) (sym (take_more items k d lt)) (
+    λ h. elim ((Adds-has old new (get_or items k d) item adds).0 h) [
+      | inl o ↦ let (c, le) = (are item).0 o in (Contains-append_left (take k items) (get_or items k d ∷ []) item c, le)
+      | inr e ↦ subst (λ z. Contains (take k items ++ get_or items k d ∷ []) z × (from ≤ z.origin)) e (Contains-push (take k items) (get_or items k d), is)
     ],
-    λ (c, w, le). (Adds-has old new (get_or row k d) item adds).1 (elim (Contains-push_cases (take k row) (get_or row k d) item c) [
-      | inl o ↦ inl ((are item).1 (o, w, le))
+    λ (c, le). (Adds-has old new (get_or items k d) item adds).1 (elim (Contains-push_cases (take k items) (get_or items k d) item c) [
+      | inl o ↦ inl ((are item).1 (o, le))
       | inr e ↦ inr e
     ]),
   )
 
-  skip_got : (row old : List Item) (k : ℕ) (d : Item) → k < length row → AreWhole (take k row) old → ¬ (IsWhole g (get_or row k d) × (from ≤ (get_or row k d).origin)) → AreWhole (take (k + 1) row) old
-  skip_got row old k d lt are none item = subst (λ l. Contains old item ↔ IsWholeFrom g l from item) (sym (take_more row k d lt)) (
-    λ h. (let (c, w, le) = (are item).0 h in (Contains-append_left (take k row) (get_or row k d ∷ []) item c, w, le)),
-    λ (c, w, le). elim (Contains-push_cases (take k row) (get_or row k d) item c) [
-      | inl o ↦ (are item).1 (o, w, le)
-      | inr e ↦ absurd (none (subst (λ z. IsWhole g z × (from ≤ z.origin)) (sym e) (w, le)))
+  skip_got : (items old : List Item) (k : ℕ) (d : Item) → k < length items → AreFrom (take k items) old → ¬ (from ≤ (get_or items k d).origin) → AreFrom (take (k + 1) items) old
+  skip_got items old k d lt are none item = subst (λ l. Contains old item ↔ IsFrom l from item) (sym (take_more items k d lt)) (
+    λ h. (let (c, le) = (are item).0 h in (Contains-append_left (take k items) (get_or items k d ∷ []) item c, le)),
+    λ (c, le). elim (Contains-push_cases (take k items) (get_or items k d) item c) [
+      | inl o ↦ (are item).1 (o, le)
+      | inr e ↦ absurd (none (subst (λ z. from ≤ z.origin) (sym e) le))
     ],
   )
 
-  module _ (row : List Item) (k : ℕ) (x : Item) (e : slice_get row k ≡ Some x) where
-    pub whole_add : (old new : List Item) → AreWhole (take k row) old → IsWhole g x × (from ≤ x.origin) → Adds old new x → AreWhole (take (k + 1) row) new
-    whole_add old new are is adds =
-        let (lt, same) = index_get row k x x e in
-        add_got row old new k x lt are (subst (λ z. IsWhole g z × (from ≤ z.origin)) (sym same) is) (subst (Adds old new) (sym same) adds)
+  module _ (items : List Item) (k : ℕ) (x : Item) (e : slice_get items k ≡ Some x) where
+    pub from_add : (old new : List Item) → AreFrom (take k items) old → from ≤ x.origin → Adds old new x → AreFrom (take (k + 1) items) new
+    from_add old new are is adds =
+        let (lt, same) = index_get items k x x e in
+        add_got items old new k x lt are (subst (λ z. from ≤ z.origin) (sym same) is) (subst (Adds old new) (sym same) adds)
 
-    pub whole_skip : (old : List Item) → AreWhole (take k row) old → ¬ (IsWhole g x × (from ≤ x.origin)) → AreWhole (take (k + 1) row) old
-    whole_skip old are none = let (lt, same) = index_get row k x x e in skip_got row old k x lt are (λ is. none (subst (λ z. IsWhole g z × (from ≤ z.origin)) same is))
+    pub from_skip : (old : List Item) → AreFrom (take k items) old → ¬ (from ≤ x.origin) → AreFrom (take (k + 1) items) old
+    from_skip old are none = let (lt, same) = index_get items k x x e in skip_got items old k x lt are (λ is. none (subst (λ z. from ≤ z.origin) same is))
+
+-- of the whole items of a row
+module _ (g : FlatGrammar) (from : ℕ) where
+  abbrev pub AreWhole : List Item → List Item → Type 0
+  AreWhole row keys = (item : Item) → Contains keys item ↔ IsWholeFrom g row from item
+
+  pub whole_from : (row items keys : List Item) → IsListOf (λ item. Contains row item × IsWhole g item) items → AreFrom from items keys → AreWhole row keys
+  whole_from row items keys lists are item = (
+    λ h. (let (c, le) = (are item).0 h in let (r, w) = (lists.exact item).0 c in (r, w, le)),
+    λ (r, w, le). (are item).1 ((lists.exact item).1 (r, w), le),
+  )
 
 -- single steps
 module _ (g : FlatGrammar) (rows : List (List Item)) (are : AreRows g rows) (place from : ℕ) where
@@ -135,6 +145,27 @@ module _ (g : FlatGrammar) (rows : List (List Item)) (are : AreRows g rows) (pla
         λ (s, none). elim (Contains-append_cases kept more item ((reached item).1 (from_stepped s))) [ inl k ↦ absurd (none ((whole item).0 k).0) | inr m ↦ m ],
       );
     }
+
+-- where no single step leads on from a whole item of the row, nothing is hidden
+module _ (g : FlatGrammar) (rows : List (List Item)) (place from : ℕ) where
+  pub none_more : (items : List Item) (k : ℕ) (x : Item) → slice_get items k ≡ Some x → NoneLeadsOn g rows place from (take k items) → (from ≤ x.origin → (step : Item) → ¬ IsSingleStep g rows place from x step) →
+      NoneLeadsOn g rows place from (take (k + 1) items)
+  none_more items k x e none here item step (h, le) s =
+      let (lt, same) = index_get items k x x e in
+      elim (Contains-push_cases (take k items) (get_or items k x) item (subst (λ l. Contains l item) (take_more items k x lt) h)) [
+        | inl o ↦ none item step (o, le) s
+        | inr is ↦ subst (λ z. from ≤ z.origin → (step : Item) → ¬ IsSingleStep g rows place from z step) (sym same ∙ is) here le step s
+      ]
+
+  pub none_hidden : (items : List Item) → IsListOf (λ item. Contains (row_at rows place) item × IsWhole g item) items → NoneLeadsOn g rows place from items → IsListOf (IsHiddenIn g rows place from) []
+  none_hidden items lists none = record {
+    once = λ i j d lt below e. absurd (omega arith);
+    exact = λ item. (λ h. absurd (Contains-none item h), λ (s, out). absurd (out (kept s).0));
+  }
+    where
+      kept : {item : Item} → IsStepped g rows place from item → IsWholeFrom g (row_at rows place) from item
+      kept (Kept w) = w
+      kept (Step {item = before} {other = other} s f) = let (r, w, le) = kept s in absurd (none before other ((lists.exact before).1 (r, w), le) f)
 
 -- over reduced sets these are the hidden items
 module _ (g : FlatGrammar) (edges : List HeldEdge) (top : ℕ) (is_top : IsTop g top) (forward : GoForward edges) (rows : List (List Item)) (are : AreRows g rows) (sets : AreReduced g edges top rows (length rows))

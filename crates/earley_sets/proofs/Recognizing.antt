@@ -6,7 +6,7 @@ use Rattle.std.proofs.lemmas.List.{get_or_append_left, get_or-append-add, get_or
 use Rattle.std.proofs.lemmas.List.Quantifiers.{all_pairs_push}
 use Rattle.std.proofs.lemmas.Map.Entries.{length-keys_of}
 use Rattle.grammar_model.specs.declared.Edge.{Edge as HeldEdge}
-use Rattle.grammar_model.specs.Derives.{Edges, Held}
+use Rattle.grammar_model.specs.Derives.{Held}
 use Rattle.recognizer_model.specs.declared.Item.{Item}
 use Rattle.recognizer_model.specs.declared.flat.FlatSymbol.TheVariants.{Terminal}
 use Rattle.std.proofs.lemmas.List.Elements.{Contains-append_left, Contains-push_cases}
@@ -31,15 +31,15 @@ use Rattle.recognizer_model.specs.Contexts.{IsTop, IsFound, AtStart}
 use Rattle.recognizer_model.specs.Counts.{IsListOf}
 use Rattle.recognizer_model.specs.Links.{Link, IsLink}
 use Rattle.recognizer_model.specs.Invariant.{IsFlat}
-use Rattle.item_rows.specs.Rows.{ItemRows, row_at, with_row}
-use Rattle.earley_sets.specs.Kept.{AreItems, AreRows, IsRowOf, IsAwaited, IsAwaitedTerminal}
-use Rattle.recognizer_model.proofs.Leo.{origin_below, reduced_inside, keeps_waiting}
+use Rattle.item_rows.specs.Rows.{ItemRows, row_at}
+use Rattle.earley_sets.specs.Kept.{AreRows, IsRowOf, IsAwaited, IsAwaitedTerminal}
+use Rattle.recognizer_model.proofs.Leo.{reduced_inside, keeps_waiting}
 use Rattle.recognizer_model.proofs.Over.{AgreeTo, agree_back, same_leo, same_reduced, top_kept}
 use Rattle.leo_items.specs.declared.memo.Pair.{Pair}
 use Rattle.leo_items.specs.Memo.{Note, pairs_of}
 use Rattle.leo_items.specs.ByRows.{IsMemo}
 use Rattle.leo_items.proofs.Chains.{memo_stays, memo_none, memo_pairs}
-use Rattle.earley_sets.proofs.ByRows.{goes_forward, known, to_leo}
+use Rattle.earley_sets.proofs.ByRows.{known, to_leo}
 use Rattle.earley_sets.specs.Scanning.{GoForward, AreReduced}
 use Rattle.earley_sets.specs.Recognizer.{Recognizer, IsKept, place_of, edges_of, top_of, made, start_symbol, IsExpected, HasTree}
 use Rattle.earley_sets.specs.Tried.{RisesBy}
@@ -157,23 +157,15 @@ first_kept g start edges rows top row notes none one flat lt e is_row exact empt
 
 module _ (g : FlatGrammar) (start : ℕ) (edges : List HeldEdge) (old new : ItemRows) (top : ℕ) (notes : List Note) (k : IsKept (recognizer g start edges old.sets notes) top notes) where
   abbrev pub Added : Type 0
-  Added = (row : List Item) × (new ≡ with_row old row) × IsRowOf g (length old.sets) row × IsListOf (InReduced g (FlatEdges g (Held edges)) top (length old.sets)) row
+  Added = (row : List Item) × (new.sets ≡ old.sets ++ row ∷ []) × IsRowOf g (length old.sets) row × IsListOf (InReduced g (FlatEdges g (Held edges)) top (length old.sets)) row
 
-  sets_are : {rows : ItemRows} → new ≡ rows → new.sets ≡ rows.sets
-  sets_are e = ap (λ (z : ItemRows). z.sets) e
-
-  -- after a try to add a set
-  pub flat_kept : {T E : Type 0} (r : Result T E) (more : List Note) → old.flat ≡ g → OnOk r Added → OnErr r ((new ≡ old) × (more ≡ notes)) → new.flat ≡ g
-  flat_kept (Ok x) more same (row, e, is_row, exact) err = ap (λ (z : ItemRows). z.flat) e ∙ same
-  flat_kept (Err x) more same ok (e, before) = ap (λ (z : ItemRows). z.flat) e ∙ same
-
-  pub add_kept : {T E : Type 0} (r : Result T E) (more : List Note) → IsMemo g old.sets more → length old.sets ≤ 16777216 → OnOk r Added → OnErr r ((new ≡ old) × (more ≡ notes)) → IsKept (recognizer g start edges new.sets more) top more
-  add_kept (Ok x) more memo small (row, e, is_row, exact) err = subst (λ z. IsKept (recognizer g start edges z more) top more) (sym (sets_are e)) (one_more g start edges old.sets top notes k row more memo small is_row exact)
-  add_kept (Err x) more memo small ok (same, before) = subst (λ z. IsKept (recognizer g start edges z more) top more) (sym (sets_are same)) (subst (λ z. IsKept (recognizer g start edges old.sets z) top z) (sym before) k)
+  pub add_kept : {T E : Type 0} (r : Result T E) (more : List Note) → IsMemo g old.sets more → length old.sets ≤ 16777216 → OnOk r Added → OnErr r ((new.sets ≡ old.sets) × (more ≡ notes)) → IsKept (recognizer g start edges new.sets more) top more
+  add_kept (Ok x) more memo small (row, e, is_row, exact) err = subst (λ z. IsKept (recognizer g start edges z more) top more) (sym e) (one_more g start edges old.sets top notes k row more memo small is_row exact)
+  add_kept (Err x) more memo small ok (same, before) = subst (λ z. IsKept (recognizer g start edges z more) top more) (sym same) (subst (λ z. IsKept (recognizer g start edges old.sets z) top z) (sym before) k)
 
   pub added_set : Added → (set : List Item) × (new.sets ≡ old.sets ++ set ∷ []) ×
       IsListOf (InReduced g (edges_of (recognizer g start edges old.sets notes)) (top_of (recognizer g start edges old.sets notes)) (length old.sets)) set
-  added_set (row, e, is_row, exact) = (row, sets_are e, subst (λ t. IsListOf (InReduced g (FlatEdges g (Held edges)) t (length old.sets)) row) k.top_is exact)
+  added_set (row, e, is_row, exact) = (row, e, subst (λ t. IsListOf (InReduced g (FlatEdges g (Held edges)) t (length old.sets)) row) k.top_is exact)
 
   -- what was tried is links of the set of the next place
   pub tried_links : (more : List Note) (a b : ℕ) → (0 < length old.sets → RisesBy (IsLink g (FlatEdges g (Held edges)) top (length old.sets)) (a + length more) (b + length notes)) →
@@ -186,18 +178,6 @@ module _ (g : FlatGrammar) (start : ℕ) (edges : List HeldEdge) (old new : Item
       let before = length-keys_of notes in
       let now = length-keys_of more in
       (r.values, r.once, (λ l c. subst (λ t. IsLink g (FlatEdges g (Held edges)) t (length old.sets) l) k.top_is (r.are l c)), omega (arith, count, before, now))
-
--- a row of a closed set
-pub row_made : (g : FlatGrammar) (edges : List HeldEdge) (top : ℕ) → IsTop g top → GoForward edges → (place : ℕ) (keys row : List Item) → IsListOf (Contains keys) row →
-    AreItems g keys → ((item : Item) → Contains keys item ↔ InReduced g (FlatEdges g (Held edges)) top place item) →
-    IsRowOf g place row × IsListOf (InReduced g (FlatEdges g (Held edges)) top place) row
-row_made g edges top is_top forward place keys row lists items exact = (
-  record {
-    items = λ item h. items item ((lists.exact item).0 h);
-    begun = λ item h. origin_below g (FlatEdges g (Held edges)) top is_top (goes_forward g edges top is_top forward) (reduced_inside g (FlatEdges g (Held edges)) top is_top (goes_forward g edges top is_top forward) ((exact item).0 ((lists.exact item).0 h)));
-  },
-  record { once = lists.once; exact = λ item. ((λ h. (exact item).0 ((lists.exact item).0 h)), (λ i. (lists.exact item).1 ((exact item).1 i))) },
-)
 
 -- the edges of flat symbols
 module _ (g : FlatGrammar) (edges : List HeldEdge) (flat : IsFlat g) (forward : GoForward edges) where

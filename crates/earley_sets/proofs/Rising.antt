@@ -41,6 +41,32 @@ rises_over {P = P} Q f to apart r = record {
   count = let l = length-map r.values f in let c = r.count in omega (arith, l, c);
 }
 
+-- for each of some different values another, which tells it from the others
+module _ {X Y : Type 0} (P : X → Type 0) (Q : X → Y → Type 0) (choose : (x : X) → P x → (y : Y) × Q x y) (apart : (x z : X) (y : Y) → Q x y → Q z y → x ≡ z) where
+  abbrev IsChosen : List X → Y → Type 0
+  IsChosen xs y = (x : X) × Among x xs × Q x y
+
+  chosen : (xs : List X) → ((x : X) → Among x xs → P x) → Once xs → (ys : List Y) × Once ys × (length ys ≡ length xs) × ((y : Y) → Among y ys → IsChosen xs y)
+  chosen [] are once = ([], tt, refl, λ y m. absurd m)
+  chosen (x ∷ xs) are (fresh, once) =
+      let (ys, rest, n, from) = chosen xs (λ z m. are z (inr m)) once in
+      let (y, q) = choose x (are x (inl refl)) in (
+        y ∷ ys,
+        (λ m. (let (z, there, q') = from y m in fresh (subst (λ w. Among w xs) (apart z x y q' q) there)), rest),
+        omega (arith, n),
+        λ w m. elim m [ inl e ↦ (x, inl refl, subst (Q x) e q) | inr there ↦ let (z, a, q') = from w there in (z, inr a, q') ],
+      )
+
+  pub rises_chosen : {a b : ℕ} → RisesBy P a b → RisesBy (λ y. (x : X) × P x × Q x y) a b
+  rises_chosen r =
+      let (ys, once, n, from) = chosen r.values (λ x m. r.are x (contains_from r.values x m)) (pairs_once r.values r.once) in
+      record {
+        values = ys;
+        once = once_pairs ys once;
+        are = λ y c. (let (x, there, q) = from y (among_from ys y c) in (x, r.are x (contains_from r.values x there), q));
+        count = let c = r.count in omega (arith, n, c);
+      }
+
 pub rises_as : {X : Type 0} {P : X → Type 0} {a b : ℕ} (Q : X → Type 0) → ((x : X) → P x → Q x) → RisesBy P a b → RisesBy Q a b
 rises_as Q to r = record { values = r.values; once = r.once; are = λ x c. to x (r.are x c); count = r.count }
 

@@ -11,7 +11,7 @@ use Rattle.recognizer_model.specs.Items.{first_item, advanced, InSet}
 use Rattle.recognizer_model.specs.Contexts.{IsTop}
 use Rattle.item_rows.specs.Rows.{row_at}
 use Rattle.earley_sets.specs.Kept.{IsItem, AreItems}
-use Rattle.earley_sets.specs.Closing.{IsAdvancedOver, Follows, Predicts, Skips, Completes, Leaps, IsReached, Seed, Step}
+use Rattle.earley_sets.specs.Closing.{IsAdvancedOver, Follows, GoesOn, Predicts, Skips, Completes, Leaps, IsReached, Seed, Step}
 use Rattle.earley_sets.specs.Scanning.{IsScannedBy, IsScanned, IsSeed, GoForward, AreReduced}
 use Rattle.recognizer_model.specs.Leo.{InReduced}
 use Rattle.recognizer_model.proofs.Leo.{reduced_inside}
@@ -105,8 +105,16 @@ module _ (g : FlatGrammar) (edges : List HeldEdge) (top : ℕ) (is_top : IsTop g
   inside_reached (InReduced.Leap {whole = whole} c at_end lt leads) o =
       let below : whole.origin < place = omega arith in Step (inside_reached c o) (Leaps at_end below (from_leads g edges top is_top forward rows place are below leads))
 
-  pub closed_is_reduced : (keys : List Item) → ((item : Item) → Contains keys item ↔ IsReached (Follows g rows place) seeds item) → (item : Item) → Contains keys item ↔ InReduced g (FlatEdges g (Held edges)) top place item
-  closed_is_reduced keys h item = (λ n. reached_inside item ((h item).0 n), λ i. (h item).1 (inside_reached i refl))
+  -- a kernel is inside
+  kernel_reached : (item : Item) → IsReached (GoesOn g rows place) seeds item → InReduced g (FlatEdges g (Held edges)) top place item
+  kernel_reached item (Seed h) = reached_inside item (Seed h)
+  kernel_reached item (Step {item = before} r (f, behind)) = step_inside before item (kernel_reached before r) f
+
+  pub kernel_inside : (keys : List Item) → ((item : Item) → Contains keys item ↔ IsReached (GoesOn g rows place) seeds item) → (item : Item) → Contains keys item → InReduced g (FlatEdges g (Held edges)) top place item
+  kernel_inside keys h item k = kernel_reached item ((h item).0 k)
+
+  pub reached_is_reduced : (item : Item) → IsReached (Follows g rows place) seeds item ↔ InReduced g (FlatEdges g (Held edges)) top place item
+  reached_is_reduced item = (reached_inside item, λ i. inside_reached i refl)
 
   -- the items of a set are such
   set_items : {j : ℕ} {item : Item} → InSet g (FlatEdges g (Held edges)) top j item → IsItem g item
@@ -116,5 +124,8 @@ module _ (g : FlatGrammar) (edges : List HeldEdge) (top : ℕ) (is_top : IsTop g
   set_items (InSet.Scan {x = x} {item = w} i e s) = let k = set_items i in record { is_rule = k.is_rule; within = part_within (rhs_of g w.rule) w.dot x e }
   set_items (InSet.Complete {whole = whole} {item = w} c at_end lt i e) = let k = set_items i in record { is_rule = k.is_rule; within = part_within (rhs_of g w.rule) w.dot (lhs_of g whole.rule) e }
 
+  pub reduced_items : {item : Item} → InReduced g (FlatEdges g (Held edges)) top place item → IsItem g item
+  reduced_items i = set_items (reduced_inside g (FlatEdges g (Held edges)) top is_top (goes_forward g edges top is_top forward) i)
+
   pub seeds_are_items : AreItems g seeds
-  seeds_are_items item h = set_items (reduced_inside g (FlatEdges g (Held edges)) top is_top (goes_forward g edges top is_top forward) (reached_inside item (Seed h)))
+  seeds_are_items item h = reduced_items (reached_inside item (Seed h))

@@ -18,7 +18,7 @@ use Rattle.leo_items.specs.declared.memo.Pair.{Pair}
 use Rattle.leo_items.specs.ByRows.{pair_of}
 use Rattle.earley_sets.specs.Kept.{IsItem}
 use Rattle.earley_sets.specs.Scanning.{GoForward, AreReduced}
-use Rattle.earley_sets.specs.Tried.{RisesBy, AwaitsEdge, MakesScan, MakesBegun, RisesByDone, MakesLink, MakesOne}
+use Rattle.earley_sets.specs.Tried.{RisesBy, AwaitsEdge, MakesScan, MakesSkip, RisesByDone, MakesLink, MakesOne, MakesKernel, MakesLater}
 use Rattle.earley_sets.proofs.ByRows.{to_none, to_leads}
 use Rattle.earley_sets.proofs.Cutting.{take_all, not_before, take_next}
 use Rattle.earley_sets.proofs.Following.{whole_from}
@@ -39,25 +39,32 @@ rises_listed P xs lists f old new is = record {
   count = ap length is ∙ (length-append old (map f xs) ∙ ap (λ n. length old + n) (length-map xs f));
 }
 
-module _ (g : FlatGrammar) (item : Item) (x a b : ℕ) (rules : RisesBy (λ (r : ℕ). IsRule g r × (lhs_of g r ≡ x)) a b) where
-  predicted : RisesBy (λ l. (r : ℕ) × IsRule g r × (lhs_of g r ≡ x) × (l ≡ Predicts item r)) a b
-  predicted = rises_over (λ l. (r : ℕ) × IsRule g r × (lhs_of g r ≡ x) × (l ≡ Predicts item r)) (Predicts item) (λ r (rule, l). (r, rule, l, refl)) (λ r s h i e. cc) rules
+-- the link of a symbol that is skipped over
+pub rises_skipped : (g : FlatGrammar) (item : Item) (x a b : ℕ) → IsNullable g x → b ≡ a + 1 → RisesBy (MakesSkip g item x) a b
+rises_skipped g item x a b n e = rises_one (MakesSkip g item x) (Skips item) a b (n, refl) e
 
-  pub links_stay : RisesBy (MakesBegun g item x) a b
-  links_stay = rises_as (MakesBegun g item x) (λ l h. inl h) predicted
+pub rises_unskipped : (g : FlatGrammar) (item : Item) (x a : ℕ) → RisesBy (MakesSkip g item x) a a
+rises_unskipped g item x a = rises_none (MakesSkip g item x) a a refl
 
-  pub links_skip : (c : ℕ) → IsNullable g x → c ≡ b + 1 → RisesBy (MakesBegun g item x) a c
-  links_skip c n e =
-      rises_on (MakesBegun g item x) (λ l h. inl h) (λ l h. inr h) (λ l (r, rule, i, s) (n', t). absurd (let d : Predicts item r ≡ Skips item = sym s ∙ t in cc)) predicted
-      (rises_one (λ l. IsNullable g x × (l ≡ Skips item)) (Skips item) b c (n, refl) e)
+module _ (g : FlatGrammar) (item : Item) where
+  pub later_none : (a b : ℕ) → b ≡ a → RisesBy (MakesLater g item) a b
+  later_none a b e = rises_none (MakesLater g item) a b e
+
+  module _ (x a b c : ℕ) (waits : after g item ≡ Some x) where
+    predicted : RisesBy (λ (r : ℕ). IsRule g r × (lhs_of g r ≡ x)) a b → RisesBy (λ l. (r : ℕ) × IsRule g r × (lhs_of g r ≡ x) × (l ≡ Predicts item r)) a b
+    predicted rules = rises_over (λ l. (r : ℕ) × IsRule g r × (lhs_of g r ≡ x) × (l ≡ Predicts item r)) (Predicts item) (λ r (rule, l). (r, rule, l, refl)) (λ r s h i e. cc) rules
+
+    -- the links of the rules of the symbol, and then that of skipping over it
+    pub links_later : RisesBy (λ (r : ℕ). IsRule g r × (lhs_of g r ≡ x)) a b → RisesBy (MakesSkip g item x) b c → RisesBy (MakesLater g item) a c
+    links_later rules skip =
+        rises_on (MakesLater g item)
+        (λ l (r, rule, i, s). subst (MakesLater g item) (sym s) (refl, (x, waits, rule, i)))
+        (λ l (n, s). subst (MakesLater g item) (sym s) (refl, (x, waits, n)))
+        (λ l (r, rule, i, s) (n', t). absurd (let d : Predicts item r ≡ Skips item = sym s ∙ t in cc)) (predicted rules) skip
 
 module _ (g : FlatGrammar) (rows : List (List Item)) (place : ℕ) (item : Item) where
-  pub links_begun : (x a b : ℕ) → after g item ≡ Some x → RisesBy (MakesBegun g item x) a b → RisesBy (MakesLink g rows place item) a b
-  links_begun x a b e r = rises_as (MakesLink g rows place item) to r
-    where
-      to : (l : Link) → MakesBegun g item x l → MakesLink g rows place item l
-      to l (inl (r, rule, i, s)) = subst (MakesLink g rows place item) (sym s) (refl, (x, e, rule, i))
-      to l (inr (n, s)) = subst (MakesLink g rows place item) (sym s) (refl, (x, e, n))
+  pub links_skipped : (x a b : ℕ) → after g item ≡ Some x → RisesBy (MakesSkip g item x) a b → RisesBy (MakesLink g rows place item) a b
+  links_skipped x a b e r = rises_as (MakesLink g rows place item) (λ l (n, s). subst (MakesLink g rows place item) (sym s) (refl, (x, e, n))) r
 
   module _ (none : after g item ≡ None) (is : IsItem g item) (lt : item.origin < place) where
     whole : IsWhole g item
@@ -71,8 +78,8 @@ module _ (g : FlatGrammar) (rows : List (List Item)) (place : ℕ) (item : Item)
     links_done pair same a b r = done a b (subst (λ (p : Pair). RisesByDone g rows p.set p.symbol a b) same r)
 
   -- a link names the item that makes it
-  same_maker : (link : Link) (other : Item) → MakesLink g rows place item link → MakesLink g rows place other link → item ≡ other
-  same_maker (Predicts before r) other m n = sym m.0 ∙ n.0
+  pub same_maker : (link : Link) (other : Item) → MakesLink g rows place item link → MakesLink g rows place other link → item ≡ other
+  same_maker (Predicts before r) other m n = absurd m
   same_maker (Skips before) other m n = sym m.0 ∙ n.0
   same_maker (Scans before from) other m n = absurd m
   same_maker (Completes done waiting) other m n = sym m.0 ∙ n.0
@@ -81,23 +88,36 @@ module _ (g : FlatGrammar) (rows : List (List Item)) (place : ℕ) (item : Item)
   never_scans : (link : Link) (before : Item) (from : ℕ) → link ≡ Scans before from → MakesLink g rows place item link → ⊥
   never_scans link before from e m = subst (MakesLink g rows place item) e m
 
-module _ (g : FlatGrammar) (rows : List (List Item)) (place : ℕ) where
-  pub tried_none : (keys : List Item) (a b : ℕ) → b ≡ a → RisesBy (MakesOne g rows place (take 0 keys)) a b
-  tried_none keys a b e = rises_none (MakesOne g rows place (take 0 keys)) a b e
+-- an item that begins makes no link of another
+pub same_later : (g : FlatGrammar) (item : Item) (link : Link) (other : Item) → MakesLater g item link → MakesLater g other link → item ≡ other
+same_later g item (Predicts before r) other m n = sym m.0 ∙ n.0
+same_later g item (Skips before) other m n = sym m.0 ∙ n.0
+same_later g item (Scans before from) other m n = absurd m
+same_later g item (Completes done waiting) other m n = absurd m
+same_later g item (Leaps done) other m n = absurd m
+
+-- the links of items, one after another
+module _ (M : Item → Link → Type 0) (same : (item : Item) (link : Link) (other : Item) → M item link → M other link → item ≡ other) where
+  abbrev pub MakesAny : List Item → Link → Type 0
+  MakesAny items link = (item : Item) × Contains items item × M item link
+
+  pub tried_none : (keys : List Item) (a b : ℕ) → b ≡ a → RisesBy (MakesAny (take 0 keys)) a b
+  tried_none keys a b e = rises_none (MakesAny (take 0 keys)) a b e
 
   -- the links of one item more
   pub tried_more : (keys new more : List Item) (k : ℕ) (item : Item) (a b c : ℕ) → AllPairs (λ x y. x ≢ y) keys → Some item ≡ slice_get keys k → new ≡ keys ++ more →
-      RisesBy (MakesOne g rows place (take k keys)) a b → RisesBy (MakesLink g rows place item) b c → RisesBy (MakesOne g rows place (take (k + 1) new)) a c
+      RisesBy (MakesAny (take k keys)) a b → RisesBy (M item) b c → RisesBy (MakesAny (take (k + 1) new)) a c
   tried_more keys new more k item a b c once at is before now =
-      subst (λ l. RisesBy (MakesOne g rows place l) a c) (sym (ap (take (k + 1)) is ∙ take_next keys more k item at))
-      (rises_on (MakesOne g rows place (take k keys ++ item ∷ []))
+      subst (λ l. RisesBy (MakesAny l) a c) (sym (ap (take (k + 1)) is ∙ take_next keys more k item at))
+      (rises_on (MakesAny (take k keys ++ item ∷ []))
       (λ link (other, there, m). (other, Contains-append_left (take k keys) (item ∷ []) other there, m))
       (λ link m. (item, Contains-push (take k keys) item, m))
-      (λ link (other, there, m) n. not_before keys k item once at (subst (Contains (take k keys)) (same_maker g rows place other link item m n) there)) before now)
+      (λ link (other, there, m) n. not_before keys k item once at (subst (Contains (take k keys)) (same other link item m n) there)) before now)
 
-  pub tried_all : (keys : List Item) (k a b : ℕ) → length keys ≤ k → RisesBy (MakesOne g rows place (take k keys)) a b → RisesBy (MakesOne g rows place keys) a b
-  tried_all keys k a b le r = subst (λ l. RisesBy (MakesOne g rows place l) a b) (take_all k keys le) r
+  pub tried_all : (keys : List Item) (k a b : ℕ) → length keys ≤ k → RisesBy (MakesAny (take k keys)) a b → RisesBy (MakesAny keys) a b
+  tried_all keys k a b le r = subst (λ l. RisesBy (MakesAny l) a b) (take_all k keys le) r
 
+module _ (g : FlatGrammar) (rows : List (List Item)) (place : ℕ) where
   -- the links of no edge
   pub scans_none : (edges : List HeldEdge) (a : ℕ) → RisesBy (MakesScan g rows place (take 0 edges)) a a
   scans_none edges a = rises_none (MakesScan g rows place (take 0 edges)) a a refl
@@ -139,7 +159,7 @@ module _ (g : FlatGrammar) (edges : List HeldEdge) (top : ℕ) (is_top : IsTop g
       (x, (are edge.from (omega (arith, lt, ends)) item).0 there, waits, (edge.symbol, is, subst (λ k. Held edges edge.symbol edge.from k) ends held))
 
   item_link : (item : Item) → InReduced g (FlatEdges g (Held edges)) top place item → (link : Link) → MakesLink g rows place item link → IsLink g (FlatEdges g (Held edges)) top place link
-  item_link item i (Predicts before r) (s, (x, e, rule, l)) = subst (λ b. IsLink g (FlatEdges g (Held edges)) top place (Predicts b r)) (sym s) (x, i, e, rule, l)
+  item_link item i (Predicts before r) m = absurd m
   item_link item i (Skips before) (s, (x, e, n)) = subst (λ b. IsLink g (FlatEdges g (Held edges)) top place (Skips b)) (sym s) (x, i, e, n)
   item_link item i (Scans before from) m = absurd m
   item_link item i (Completes done waiting) (s, whole, lt, none, (there, waits)) =
@@ -148,9 +168,11 @@ module _ (g : FlatGrammar) (edges : List HeldEdge) (top : ℕ) (is_top : IsTop g
   item_link item i (Leaps done) (s, whole, lt, (topmost, leads)) =
       subst (λ b. IsLink g (FlatEdges g (Held edges)) top place (Leaps b)) (sym s) ((i, whole, lt), (topmost, to_leads g edges top is_top forward rows place are lt leads))
 
-  -- the edges' links and then those of all items
-  pub all_links : (keys : List Item) → ((item : Item) → Contains keys item ↔ InReduced g (FlatEdges g (Held edges)) top place item) → (a b c : ℕ) →
-      RisesBy (MakesScan g rows place edges) a b → RisesBy (MakesOne g rows place keys) b c → RisesBy (IsLink g (FlatEdges g (Held edges)) top place) a c
-  all_links keys exact a b c scans made =
-      rises_on (IsLink g (FlatEdges g (Held edges)) top place) scan_link (λ link (item, there, m). item_link item ((exact item).0 there) link m)
-      (λ link (edge, held, ends, (from, w, e)) (item, there, m). never_scans g rows place item link from edge.from e m) scans made
+  pub kernel_link : (keys : List Item) → ((item : Item) → Contains keys item → InReduced g (FlatEdges g (Held edges)) top place item) → (link : Link) → MakesKernel g rows place edges keys link → IsLink g (FlatEdges g (Held edges)) top place link
+  kernel_link keys inside link (inl scan) = scan_link link scan
+  kernel_link keys inside link (inr (item, there, m)) = item_link item (inside item there) link m
+
+-- the edges' links and then those of all items
+pub all_links : (g : FlatGrammar) (edges : List HeldEdge) (rows : List (List Item)) (place : ℕ) (keys : List Item) (a b c : ℕ) → RisesBy (MakesScan g rows place edges) a b → RisesBy (MakesOne g rows place keys) b c → RisesBy (MakesKernel g rows place edges keys) a c
+all_links g edges rows place keys a b c scans made =
+    rises_on (MakesKernel g rows place edges keys) (λ link m. inl m) (λ link m. inr m) (λ link (edge, held, ends, (from, w, e)) (item, there, m). never_scans g rows place item link from edge.from e m) scans made

@@ -1,25 +1,17 @@
-use Rattle.std.specs.Prelude.{◌≡◌, ℕ, ◌<◌, ◌++◌, ◌∷◌, [], List, Some, Contains, ◌↔◌, ◌⊎◌}
+use Rattle.std.specs.Prelude.{◌≡◌, ◌≢◌, ℕ, ◌<◌, ◌++◌, ◌∷◌, [], List, Some, Contains, ◌↔◌, ◌⊎◌}
 use Rattle.recognizer_model.specs.declared.Item.{Item}
 use Rattle.recognizer_model.specs.Flat.{FlatGrammar, IsRule, lhs_of, IsNullable}
 use Rattle.recognizer_model.specs.Items.{after, IsWhole, first_item, advanced}
 use Rattle.item_rows.specs.Rows.{row_at}
 use Rattle.leo_items.specs.ByRows.{IsNotLeoIn, LeadsIn}
 
--- a rule of the symbol begins at the place
-abbrev pub IsPredicted : FlatGrammar → (place symbol : ℕ) → Item → Type 0
-IsPredicted g place x other = (r : ℕ) × IsRule g r × (lhs_of g r ≡ x) × (other ≡ first_item r place)
-
--- where one rule of a symbol has begun at the place, all have
-abbrev pub BeginTogether : FlatGrammar → (place : ℕ) → (set : List Item) → Type 0
-BeginTogether g place set = (r s : ℕ) → IsRule g r → IsRule g s → lhs_of g r ≡ lhs_of g s → Contains set (first_item r place) → Contains set (first_item s place)
-
--- what an item before that symbol leads to, without the rules that have begun in the set
-abbrev pub IsBegun : FlatGrammar → (place : ℕ) → (set : List Item) → Item → (symbol : ℕ) → Item → Type 0
-IsBegun g place set item x other = (IsPredicted g place x other × (¬ Contains set other)) ⊎ (IsNullable g x × (other ≡ advanced item))
-
 -- an item that waits for the symbol, with its dot advanced
 abbrev pub IsAdvancedOver : FlatGrammar → List Item → (symbol : ℕ) → Item → Type 0
 IsAdvancedOver g items x other = (w : Item) × Contains items w × (after g w ≡ Some x) × (other ≡ advanced w)
+
+-- an item that waits for the symbol, skipped over it
+abbrev pub IsSkipped : FlatGrammar → Item → (symbol : ℕ) → Item → Type 0
+IsSkipped g item x other = IsNullable g x × (other ≡ advanced item)
 
 -- what the completion of a symbol that began in an earlier set leads to
 abbrev pub IsDone : FlatGrammar → (rows : List (List Item)) → (i x : ℕ) → Item → Type 0
@@ -33,9 +25,9 @@ pub data Follows (g : FlatGrammar) (rows : List (List Item)) (place : ℕ) (item
       Contains (row_at rows item.origin) waiting → after g waiting ≡ Some (lhs_of g item.rule) → Follows g rows place item (advanced waiting)
   Leaps : {topmost : Item} → IsWhole g item → item.origin < place → LeadsIn g rows item.origin (lhs_of g item.rule) topmost → Follows g rows place item topmost
 
--- what follows from an item, without the rules that have begun in the set
-abbrev pub FollowsAnew : FlatGrammar → (rows : List (List Item)) → (place : ℕ) → (set : List Item) → Item → Item → Type 0
-FollowsAnew g rows place set item other = Follows g rows place item other × (other.dot ≡ 0 → ¬ Contains set other)
+-- what follows from an item, without the rules that begin
+abbrev pub GoesOn : FlatGrammar → (rows : List (List Item)) → (place : ℕ) → Item → Item → Type 0
+GoesOn g rows place item other = Follows g rows place item other × (other.dot ≢ 0)
 
 -- what some items lead to
 pub data IsReached (F : Item → Item → Type 0) (seeds : List Item) : Item → Type 0 where

@@ -15,6 +15,14 @@ abbrev pub IsSingleStep : FlatGrammar → List (List Item) → (place from : ℕ
 IsSingleStep g rows place from item other =
     (item.origin < place) × ((leo : Item) × IsLeoIn g rows item.origin (lhs_of g item.rule) leo × (other ≡ advanced leo)) × (from ≤ other.origin)
 
+-- an item of a list that begins at `from` or behind it
+abbrev pub IsFrom : List Item → (from : ℕ) → Item → Type 0
+IsFrom items from item = Contains items item × (from ≤ item.origin)
+
+-- no single step leads on from those
+abbrev pub NoneLeadsOn : FlatGrammar → List (List Item) → (place from : ℕ) → List Item → Type 0
+NoneLeadsOn g rows place from items = (item step : Item) → IsFrom items from item → ¬ IsSingleStep g rows place from item step
+
 -- what single steps lead to from the whole items of a row
 pub data IsStepped (g : FlatGrammar) (rows : List (List Item)) (place from : ℕ) : Item → Type 0 where
   Kept : {item : Item} → IsWholeFrom g (row_at rows place) from item → IsStepped g rows place from item

@@ -1,5 +1,6 @@
 pub mod Kept
 pub mod Closing
+pub mod Begun
 pub mod Loops
 pub mod Scanning
 pub mod Tried

@@ -8,6 +8,7 @@ use Rattle.recognizer_model.specs.FlatForm.{FlatEdges}
 use Rattle.recognizer_model.specs.Items.{after, first_item, advanced}
 use Rattle.recognizer_model.specs.Leo.{InReduced}
 use Rattle.item_rows.specs.Rows.{row_at}
+use Rattle.earley_sets.specs.Closing.{GoesOn, IsReached}
 
 -- an edge of a terminal leads from an item that waits for it
 pub record IsScannedBy (g : FlatGrammar) (rows : List (List Item)) (edge : HeldEdge) (other : Item) : Type 0 where
@@ -25,6 +26,12 @@ IsScanned g rows place edges other = (edge : HeldEdge) × Contains edges edge ×
 -- what a set begins with
 abbrev pub IsSeed : FlatGrammar → List (List Item) → (top place : ℕ) → List HeldEdge → Item → Type 0
 IsSeed g rows top place edges item = ((place ≡ 0) × (item ≡ first_item top 0)) ⊎ IsScanned g rows place edges item
+
+-- a kernel: what a set begins with, and what goes on from that
+pub record IsKernel (g : FlatGrammar) (rows : List (List Item)) (top place : ℕ) (edges : List HeldEdge) (items : List Item) : Type 0 where
+  pub seeds : List Item
+  pub are : (item : Item) → Contains seeds item ↔ IsSeed g rows top place edges item
+  pub exact : (item : Item) → Contains items item ↔ IsReached (GoesOn g rows place) seeds item
 
 abbrev pub GoForward : List HeldEdge → Type 0
 GoForward edges = (e : HeldEdge) → Contains edges e → e.from < e.to

@@ -8,6 +8,7 @@ use Rattle.recognizer_model.specs.Items.{after, IsWhole}
 use Rattle.recognizer_model.specs.Links.{Link, Predicts, Skips, Scans, Completes, Leaps}
 use Rattle.item_rows.specs.Rows.{row_at}
 use Rattle.leo_items.specs.ByRows.{IsNotLeoIn, LeadsIn}
+use Rattle.earley_sets.specs.Begun.{AreAwaited}
 
 -- the number rises by one for each of some different values with the property
 pub record RisesBy {A : Type 0} (P : A → Type 0) (old new : ℕ) : Type 0 where
@@ -29,17 +30,17 @@ abbrev pub MakesScan : FlatGrammar → List (List Item) → (place : ℕ) → Li
 MakesScan g rows place edges link =
     (edge : HeldEdge) × Contains edges edge × (edge.to ≡ place) × ((item : Item) × AwaitsEdge g rows edge item × (link ≡ Scans item edge.from))
 
--- the link that an item makes with the symbol that it waits for
-abbrev pub MakesBegun : FlatGrammar → Item → (symbol : ℕ) → Link → Type 0
-MakesBegun g item x link = ((r : ℕ) × IsRule g r × (lhs_of g r ≡ x) × (link ≡ Predicts item r)) ⊎ (IsNullable g x × (link ≡ Skips item))
+-- the link of an item that waits for the symbol with what skipping makes of it
+abbrev pub MakesSkip : FlatGrammar → Item → (symbol : ℕ) → Link → Type 0
+MakesSkip g item x link = IsNullable g x × (link ≡ Skips item)
 
 -- the number rises by one for each item that the completion of the symbol advances, or by one where it leaps
 abbrev pub RisesByDone : FlatGrammar → (rows : List (List Item)) → (i x : ℕ) → (old new : ℕ) → Type 0
 RisesByDone g rows i x old new = (IsNotLeoIn g rows i x × RisesBy (IsWaiting g (row_at rows i) x) old new) ⊎ (((topmost : Item) × LeadsIn g rows i x topmost) × (new ≡ old + 1))
 
--- the links that an item of a set makes, by the rows of the places before
+-- the links that an item of a set makes with what goes on from it, by the rows of the places before
 abbrev pub MakesLink : FlatGrammar → (rows : List (List Item)) → (place : ℕ) → Item → Link → Type 0
-MakesLink g rows place item (Predicts before r) = (before ≡ item) × ((x : ℕ) × (after g item ≡ Some x) × IsRule g r × (lhs_of g r ≡ x))
+MakesLink g rows place item (Predicts before r) = ⊥
 MakesLink g rows place item (Skips before) = (before ≡ item) × ((x : ℕ) × (after g item ≡ Some x) × IsNullable g x)
 MakesLink g rows place item (Scans before from) = ⊥
 MakesLink g rows place item (Completes whole waiting) = (whole ≡ item) × IsWhole g item × (item.origin < place) ×
@@ -49,3 +50,29 @@ MakesLink g rows place item (Leaps whole) = (whole ≡ item) × IsWhole g item �
 -- one of the items makes the link
 abbrev pub MakesOne : FlatGrammar → (rows : List (List Item)) → (place : ℕ) → List Item → Link → Type 0
 MakesOne g rows place items link = (item : Item) × Contains items item × MakesLink g rows place item link
+
+-- an edge to the place makes the link, or an item of the kernel
+abbrev pub MakesKernel : FlatGrammar → (rows : List (List Item)) → (place : ℕ) → List HeldEdge → List Item → Link → Type 0
+MakesKernel g rows place edges items link = MakesScan g rows place edges link ⊎ MakesOne g rows place items link
+
+-- the links that an item makes that begins
+abbrev pub MakesLater : FlatGrammar → Item → Link → Type 0
+MakesLater g item (Predicts before r) = (before ≡ item) × ((x : ℕ) × (after g item ≡ Some x) × IsRule g r × (lhs_of g r ≡ x))
+MakesLater g item (Skips before) = (before ≡ item) × ((x : ℕ) × (after g item ≡ Some x) × IsNullable g x)
+MakesLater g item (Scans before from) = ⊥
+MakesLater g item (Completes whole waiting) = ⊥
+MakesLater g item (Leaps whole) = ⊥
+
+abbrev pub MakesOneLater : FlatGrammar → List Item → Link → Type 0
+MakesOneLater g items link = (item : Item) × Contains items item × MakesLater g item link
+
+abbrev pub IsRuleOf : FlatGrammar → (symbols : List ℕ) → ℕ → Type 0
+IsRuleOf g symbols r = IsRule g r × Contains symbols (lhs_of g r)
+
+-- the number rises by one for each rule of the symbols, and then by one for each link of the items that begin
+abbrev pub TriesBegun : FlatGrammar → (symbols : List ℕ) → List Item → (old new : ℕ) → Type 0
+TriesBegun g symbols items old new = (mid : ℕ) × RisesBy (IsRuleOf g symbols) old mid × RisesBy (MakesOneLater g items) mid new
+
+-- no step is needed where the list is there; else the tries that it takes to make it
+abbrev pub TriesList : FlatGrammar → List Item → (list : List Item) → (old new : ℕ) → Type 0
+TriesList g items list old new = (new ≡ old) ⊎ ((symbols : List ℕ) × AreAwaited g items symbols × TriesBegun g symbols list old new)

@@ -3,21 +3,15 @@ ghost use Rattle.std.specs.Prelude.{◌≡◌, ◌≢◌, ℕ, ◌<◌, ◌≤�
 ghost use Rattle.std.specs.List.{AllPairs};
 ghost use Rattle.recognizer_model.specs.declared.Item.{Item};
 ghost use Rattle.grammar_model.specs.declared.Edge.{Edge as HeldEdge};
-ghost use Rattle.grammar_model.specs.Derives.{Held};
 ghost use Rattle.recognizer_model.specs.Contexts.{IsTop};
-ghost use Rattle.recognizer_model.specs.FlatForm.{FlatEdges};
 ghost use Rattle.recognizer_model.specs.Items.{first_item};
-ghost use Rattle.recognizer_model.specs.Leo.{InReduced};
-ghost use Rattle.recognizer_model.specs.Links.{IsLink};
 ghost use Rattle.leo_items.specs.ByRows.{IsMemo, NotesMore, AreNulled};
 ghost use Rattle.earley_sets.specs.Kept.{IsItem, AreItems, HasRows};
-ghost use Rattle.earley_sets.specs.Heads.{AreHeads};
-ghost use Rattle.earley_sets.specs.Closing.{Adds, BeginTogether, Follows, IsReached, Grows};
-ghost use Rattle.earley_sets.specs.Scanning.{IsScanned, IsScannedBy, IsSeed, GoForward, AreReduced};
-ghost use Rattle.earley_sets.specs.Tried.{RisesBy, AwaitsEdge, MakesScan, MakesOne};
+ghost use Rattle.earley_sets.specs.Closing.{Adds, GoesOn, IsReached, Grows};
+ghost use Rattle.earley_sets.specs.Scanning.{IsScanned, IsScannedBy, IsSeed, IsKernel, GoForward, AreReduced};
+ghost use Rattle.earley_sets.specs.Tried.{RisesBy, AwaitsEdge, MakesScan, MakesOne, MakesKernel};
 
 use crate::follow::{list_completed, list_next};
-use crate::heads::Heads;
 use grammar_core::{Flat, SymbolId, TokenEdges};
 use grammar_model::Edge as HeldEdge;
 use indexmap::IndexSet;
@@ -42,8 +36,8 @@ pub fn add_item<L: Ledger>(
     Ok(())
 }
 
-// Adds the items that are not there yet.
-fn add_items<L: Ledger>(
+/// Adds the items that are not there yet.
+pub fn add_items<L: Ledger>(
     set: &mut IndexSet<Item>,
     items: &[Item],
     steps: &mut Steps<L>,
@@ -57,8 +51,8 @@ fn add_items<L: Ledger>(
     Ok(())
 }
 
-// The item of that number, in a set that has each item once.
-fn item_at(set: &IndexSet<Item>, k: usize) -> Option<Item>
+/// The item of that number, in a set that has each item once.
+pub fn item_at(set: &IndexSet<Item>, k: usize) -> Option<Item>
     ensures item { result ≡ slice_get set.now.keys k }
     ensures once { AllPairs (λ x y. x ≢ y) set.now.keys }
     ensures small { length set.now.keys < 2 ^ 63 }
@@ -67,10 +61,9 @@ fn item_at(set: &IndexSet<Item>, k: usize) -> Option<Item>
     set.get_index(k).copied()
 }
 
-// Adds whatever the items of the set lead to.
+// Adds whatever goes on from the items of the set.
 fn close<L: Ledger>(
     flat: &Flat,
-    heads: &Heads,
     rows: &Rows<'_>,
     memo: &mut Memo,
     place: u32,
@@ -79,16 +72,14 @@ fn close<L: Ledger>(
     steps: &mut Steps<L>,
 ) -> Result<(), AllocError>
     requires items { AreItems flat.now set.old.keys }
-    requires heads { AreHeads flat.now heads.now.rules.items }
     requires rows { HasRows flat.now rows.now }
     requires nulled { AreNulled flat.now rows.now.sets }
     requires memo { IsMemo flat.now rows.now.sets memo.old }
     requires place { place ≤ length rows.now.sets }
-    requires together { BeginTogether flat.now place set.old.keys }
     ensures items { OnOk result (AreItems flat.now set.new.keys) }
     ensures memo { NotesMore flat.now rows.now.sets memo.old memo.new }
     ensures closed { OnOk result ((item : Item) → Contains set.new.keys item ↔
-        IsReached (Follows flat.now rows.now.sets place) set.old.keys item) }
+        IsReached (GoesOn flat.now rows.now.sets place) set.old.keys item) }
     ensures counted { OnOk result (RisesBy (MakesOne flat.now rows.now.sets place set.new.keys) (steps.old + length memo.new) (steps.new + length memo.old)) }
 {
     for k in 0..usize::MAX {
@@ -96,7 +87,7 @@ fn close<L: Ledger>(
             return Ok(());
         };
         next.clear();
-        list_next(flat, heads, rows, memo, place, set, item, next, steps)?;
+        list_next(flat, rows, memo, place, item, next, steps)?;
         add_items(set, next, steps)?;
     }
     let _len = set.len();
@@ -189,8 +180,8 @@ fn empty(set: &mut IndexSet<Item>)
     }
 }
 
-// Begins a set anew with these items.
-fn refill<L: Ledger>(
+/// Begins a set anew with these items.
+pub fn refill<L: Ledger>(
     set: &mut IndexSet<Item>,
     items: &[Item],
     steps: &mut Steps<L>,
@@ -210,10 +201,9 @@ pub struct Work {
     pub ending: Vec<HeldEdge>,
 }
 
-/// Makes the reduced set of a place. Nothing is known of the set after an error.
-pub fn make_set<L: Ledger>(
+/// Makes the kernel of the set of a place. Nothing is known of the set after an error.
+pub fn make_kernel<L: Ledger>(
     flat: &Flat,
-    heads: &Heads,
     top: u32,
     rows: &Rows<'_>,
     memo: &mut Memo,
@@ -222,7 +212,6 @@ pub fn make_set<L: Ledger>(
     work: &mut Work,
     steps: &mut Steps<L>,
 ) -> Result<(), AllocError>
-    requires heads { AreHeads flat.now heads.now.rules.items }
     requires top { IsTop flat.now top }
     requires sets { AreReduced flat.now edges.now top rows.now.sets place }
     requires rows { HasRows flat.now rows.now }
@@ -232,9 +221,9 @@ pub fn make_set<L: Ledger>(
     requires forward { GoForward edges.now }
     ensures items { OnOk result (AreItems flat.now work.new.set.keys) }
     ensures memo { NotesMore flat.now rows.now.sets memo.old memo.new }
-    ensures exact { OnOk result ((item : Item) → Contains work.new.set.keys item ↔ InReduced flat.now (FlatEdges flat.now (Held edges.now)) top place item) }
+    ensures kernel { OnOk result (IsKernel flat.now rows.now.sets top place edges.now work.new.set.keys) }
     ensures counted { OnOk result (0 < place →
-        RisesBy (IsLink flat.now (FlatEdges flat.now (Held edges.now)) top place) (steps.old + length memo.new) (steps.new + length memo.old)) }
+        RisesBy (MakesKernel flat.now rows.now.sets place edges.now work.new.set.keys) (steps.old + length memo.new) (steps.new + length memo.old)) }
 {
     list_seeds(
         flat,
@@ -248,7 +237,6 @@ pub fn make_set<L: Ledger>(
     refill(&mut work.set, &work.next, steps)?;
     close(
         flat,
-        heads,
         rows,
         memo,
         place,

@@ -1,18 +1,14 @@
-//! What follows from an item in its set.
-ghost use Rattle.std.specs.Prelude.{◌≡◌, ℕ, ◌<◌, ◌≤◌, ◌+◌, ◌^◌, ◌++◌, ◌⊎◌, ◌↔◌, length, map, IsTrue, IfSome, OnOk, Contains};
+//! What goes on from an item in its set, and what its completion leads to.
+ghost use Rattle.std.specs.Prelude.{◌≡◌, ℕ, ◌<◌, ◌≤◌, ◌+◌, ◌^◌, ◌++◌, ◌⊎◌, ◌↔◌, length, map, IfSome, OnOk, Contains};
 ghost use Rattle.recognizer_model.specs.declared.Item.{Item};
-ghost use Rattle.recognizer_model.specs.Flat.{IsRule, lhs_of};
-ghost use Rattle.recognizer_model.specs.Items.{after, first_item, advanced as item_after};
+ghost use Rattle.recognizer_model.specs.Items.{after, advanced as item_after};
 ghost use Rattle.item_rows.specs.Rows.{row_at};
 ghost use Rattle.earley_sets.specs.Kept.{IsItem, HasRows};
 ghost use Rattle.leo_items.specs.ByRows.{IsMemo, NotesMore, AreNulled};
-ghost use Rattle.earley_sets.specs.Heads.{AreHeads};
-ghost use Rattle.earley_sets.specs.Closing.{IsPredicted, BeginTogether, IsBegun, IsAdvancedOver, IsDone, FollowsAnew};
-ghost use Rattle.earley_sets.specs.Tried.{RisesBy, IsWaiting, MakesBegun, RisesByDone, MakesLink};
+ghost use Rattle.earley_sets.specs.Closing.{IsAdvancedOver, IsSkipped, IsDone, GoesOn};
+ghost use Rattle.earley_sets.specs.Tried.{RisesBy, IsWaiting, MakesSkip, RisesByDone, MakesLink};
 
-use crate::heads::{Heads, rules_of};
 use grammar_core::Flat;
-use indexmap::IndexSet;
 use item_rows::{Row, Rows};
 use leo_items::{Memo, Pair, leo_of, pair_above, topmost};
 use recognizer_model::Item;
@@ -42,27 +38,6 @@ pub fn advanced(item: Item) -> Item
     }
 }
 
-/// Lists the first items of the rules from the first one up to the end.
-pub fn list_predicted(
-    first: u32,
-    end: u32,
-    place: u32,
-    next: &mut Vec<Item>,
-) -> Result<(), AllocFailed<Item>>
-    ensures listed { OnOk result ((other : Item) → Contains next.new.items other ↔
-        (Contains next.old.items other ⊎ ((r : ℕ) × (first ≤ r) × (r < end) × (other ≡ first_item r place)))) }
-    ensures links { OnOk result (RisesBy (λ (r : ℕ). (first ≤ r) × (r < end)) (length next.old.items) (length next.new.items)) }
-{
-    for rule in first..end {
-        next.push(Item {
-            rule,
-            dot: 0,
-            origin: place,
-        })?;
-    }
-    Ok(())
-}
-
 /// Lists items with their dots advanced.
 pub fn list_advanced(waiting: &Row<'_>, next: &mut Vec<Item>) -> Result<(), AllocFailed<Item>>
     requires { (item : Item) → Contains waiting.now item → item.dot + 1 < 2 ^ 32 }
@@ -74,66 +49,26 @@ pub fn list_advanced(waiting: &Row<'_>, next: &mut Vec<Item>) -> Result<(), Allo
     Ok(())
 }
 
-// Whether the first of some rules has begun in the set, or there is none.
-fn have_begun(set: &IndexSet<Item>, first: u32, end: u32, place: u32) -> bool
-    ensures { IsTrue result ↔ ((end ≤ first) ⊎ Contains set.now.keys (first_item first place)) }
-{
-    end <= first
-        || set.contains(&Item {
-            rule: first,
-            dot: 0,
-            origin: place,
-        })
-}
-
-// Lists the first items of a symbol's rules, if they are not in the set.
-fn list_rules(
+/// Lists an item that waits for a symbol, with its dot advanced, if the symbol is nullable.
+pub fn list_skipped(
     flat: &Flat,
-    heads: &Heads,
-    set: &IndexSet<Item>,
-    place: u32,
-    symbol: u32,
-    next: &mut Vec<Item>,
-) -> Result<(), AllocFailed<Item>>
-    requires heads { AreHeads flat.now heads.now.rules.items }
-    requires together { BeginTogether flat.now place set.now.keys }
-    ensures listed { OnOk result ((other : Item) → Contains next.new.items other ↔
-        (Contains next.old.items other ⊎ (IsPredicted flat.now place symbol other × (¬ Contains set.now.keys other)))) }
-    ensures links { OnOk result (RisesBy (λ (r : ℕ). IsRule flat.now r × (lhs_of flat.now r ≡ symbol)) (length next.old.items) (length next.new.items)) }
-{
-    let rules = rules_of(flat, heads, symbol);
-    if have_begun(set, rules.start, rules.end, place) {
-        return Ok(());
-    }
-    list_predicted(rules.start, rules.end, place, next)
-}
-
-// Lists what follows from an item that waits for a symbol.
-fn list_begun(
-    flat: &Flat,
-    heads: &Heads,
-    set: &IndexSet<Item>,
-    place: u32,
     item: Item,
     symbol: u32,
     next: &mut Vec<Item>,
 ) -> Result<(), AllocFailed<Item>>
-    requires heads { AreHeads flat.now heads.now.rules.items }
-    requires together { BeginTogether flat.now place set.now.keys }
     requires item { item.dot + 1 < 2 ^ 32 }
     requires symbol { symbol < length flat.now.symbols }
     ensures listed { OnOk result ((other : Item) → Contains next.new.items other ↔
-        (Contains next.old.items other ⊎ IsBegun flat.now place set.now.keys item symbol other)) }
-    ensures links { OnOk result (RisesBy (MakesBegun flat.now item symbol) (length next.old.items) (length next.new.items)) }
+        (Contains next.old.items other ⊎ IsSkipped flat.now item symbol other)) }
+    ensures links { OnOk result (RisesBy (MakesSkip flat.now item symbol) (length next.old.items) (length next.new.items)) }
 {
-    list_rules(flat, heads, set, place, symbol, next)?;
     if flat.nullable(symbol) {
         next.push(advanced(item))?;
     }
     Ok(())
 }
 
-// Lists the items that the completion of a symbol advances, of a set that is closed.
+/// Lists the items that the completion of a symbol advances, of a set that is closed.
 pub fn list_completed(
     flat: &Flat,
     rows: &Rows<'_>,
@@ -180,27 +115,23 @@ fn list_done<L: Ledger>(
     Ok(())
 }
 
-/// Lists what follows from an item in its set, but no first item that is there.
+/// Lists what goes on from an item in its set: what follows, but the rules that begin.
 pub fn list_next<L: Ledger>(
     flat: &Flat,
-    heads: &Heads,
     rows: &Rows<'_>,
     memo: &mut Memo,
     place: u32,
-    set: &IndexSet<Item>,
     item: Item,
     next: &mut Vec<Item>,
     steps: &mut Steps<L>,
 ) -> Result<(), AllocError>
     requires item { IsItem flat.now item }
-    requires heads { AreHeads flat.now heads.now.rules.items }
     requires rows { HasRows flat.now rows.now }
     requires nulled { AreNulled flat.now rows.now.sets }
     requires memo { IsMemo flat.now rows.now.sets memo.old }
     requires place { place ≤ length rows.now.sets }
-    requires together { BeginTogether flat.now place set.now.keys }
     ensures listed { OnOk result ((other : Item) → Contains next.new.items other ↔
-        (Contains next.old.items other ⊎ FollowsAnew flat.now rows.now.sets place set.now.keys item other)) }
+        (Contains next.old.items other ⊎ GoesOn flat.now rows.now.sets place item other)) }
     ensures links { OnOk result (RisesBy (MakesLink flat.now rows.now.sets place item) (length next.old.items) (length next.new.items)) }
     ensures memo { NotesMore flat.now rows.now.sets memo.old memo.new }
     ensures counted { steps.new + length memo.old ≡ steps.old + length memo.new }
@@ -208,7 +139,7 @@ pub fn list_next<L: Ledger>(
     flat.known();
     match next_symbol(flat, item) {
         Some(x) => {
-            list_begun(flat, heads, set, place, item, x, next)?;
+            list_skipped(flat, item, x, next)?;
             Ok(())
         }
         None => {

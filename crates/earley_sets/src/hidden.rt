@@ -2,12 +2,10 @@
 ghost use Rattle.std.specs.Prelude.{◌≡◌, ℕ, ◌<◌, ◌≤◌, ◌+◌, ◌-◌, ◌++◌, ◌↔◌, List, length, drop, Some, None, Option, IfSome, IsNone, IsTrue, IfOk, OnOk, Contains, []};
 ghost use Rattle.recognizer_model.specs.declared.Item.{Item as TheItem};
 ghost use Rattle.recognizer_model.specs.Flat.{IsRule};
-ghost use Rattle.recognizer_model.specs.Items.{IsWhole};
 ghost use Rattle.recognizer_model.specs.Counts.{IsListOf};
-ghost use Rattle.item_rows.specs.Kept.{IsItem, AreItems, HasRows};
-ghost use Rattle.item_rows.specs.Rows.{row_at};
+ghost use Rattle.item_rows.specs.Kept.{AreItems, HasRows};
 ghost use Rattle.earley_sets.specs.Closing.{IsReached};
-ghost use Rattle.earley_sets.specs.Hidden.{IsWholeFrom, IsSingleStep, IsHiddenIn};
+ghost use Rattle.earley_sets.specs.Hidden.{IsFrom, IsSingleStep, NoneLeadsOn, IsHiddenIn};
 
 use grammar_core::Flat;
 use indexmap::IndexSet;
@@ -16,31 +14,14 @@ use leo_items::{pair_above, step_in};
 use recognizer_model::Item;
 use std::alloc::{AllocError, AllocFailed, Global};
 
-// Whether an item is whole, and begins at a place or behind it.
-fn is_whole_from(flat: &Flat, item: Item, from: u32) -> bool
-    requires { IsItem flat.now item }
-    ensures { IsTrue result ↔ (IsWhole flat.now item × (from ≤ item.origin)) }
+// Puts the items that begin at a place or behind it.
+fn put_from(items: &Row<'_>, from: u32, set: &mut IndexSet<Item>) -> Result<(), AllocFailed<Item>>
+    requires { set.old.keys ≡ [] }
+    ensures { OnOk result ((item : TheItem) → Contains set.new.keys item ↔ IsFrom items.now from item) }
 {
-    match flat.part(item.rule, item.dot) {
-        None => from <= item.origin,
-        Some(_) => false,
-    }
-}
-
-// Puts the whole items of a row that begin at a place or behind it.
-fn put_whole(
-    flat: &Flat,
-    row: &Row<'_>,
-    from: u32,
-    set: &mut IndexSet<Item>,
-) -> Result<(), AllocFailed<Item>>
-    requires items { AreItems flat.now row.now }
-    requires none { set.old.keys ≡ [] }
-    ensures { OnOk result ((item : TheItem) → Contains set.new.keys item ↔ IsWholeFrom flat.now row.now from item) }
-{
-    for k in 0..row.len() {
-        let item = row.at(k);
-        if is_whole_from(flat, item, from) {
+    for k in 0..items.len() {
+        let item = items.at(k);
+        if from <= item.origin {
             set.insert(item)?;
         }
     }
@@ -64,6 +45,31 @@ fn single_step(flat: &Flat, rows: &Rows<'_>, place: u32, from: u32, item: Item) 
     } else {
         None
     }
+}
+
+// Whether a single step leads on from an item, if it begins at a place or behind it.
+fn leads_on(flat: &Flat, rows: &Rows<'_>, place: u32, from: u32, item: Item) -> bool
+    requires rows { HasRows flat.now rows.now }
+    requires place { place < length rows.now.sets }
+    requires rule { IsRule flat.now item.rule }
+    ensures { ¬ IsTrue result → from ≤ item.origin → (step : TheItem) → ¬ IsSingleStep flat.now rows.now.sets place from item step }
+{
+    from <= item.origin && single_step(flat, rows, place, from, item).is_some()
+}
+
+// Whether single steps lead on from one of the items that begin at a place or behind it.
+fn some_leads_on(flat: &Flat, rows: &Rows<'_>, items: &Row<'_>, place: u32, from: u32) -> bool
+    requires rows { HasRows flat.now rows.now }
+    requires place { place < length rows.now.sets }
+    requires items { AreItems flat.now items.now }
+    ensures { ¬ IsTrue result → NoneLeadsOn flat.now rows.now.sets place from items.now }
+{
+    for k in 0..items.len() {
+        if leads_on(flat, rows, place, from, items.at(k)) {
+            return true;
+        }
+    }
+    false
 }
 
 // Adds whatever single steps lead to.
@@ -114,8 +120,12 @@ pub fn list_hidden(
     requires place { place < length rows.now.sets }
     ensures { IfOk result (λ items. IsListOf (IsHiddenIn flat.now rows.now.sets place from) items.items) }
 {
+    let whole = rows.whole(place as usize);
+    if !some_leads_on(flat, rows, &whole, place, from) {
+        return Ok(Vec::new(alloc));
+    }
     let mut set = IndexSet::new(alloc);
-    put_whole(flat, &rows.row(place as usize), from, &mut set)?;
+    put_from(&whole, from, &mut set)?;
     let kept = set.len();
     add_steps(flat, rows, place, from, &mut set)?;
     list_behind(alloc, set.as_slice(), kept)

@@ -1,11 +1,14 @@
 //! A recognizer with Leo's reduced Earley sets over any flat grammar, which tells exactly the terminals that some continuation takes.
 #![tactic(auto)]
 
+mod awaited;
+mod begun;
 mod close;
 mod expected;
 mod follow;
 mod heads;
 mod hidden;
+mod lists;
 mod recce;
 
 ghost use Rattle.earley_sets.specs.Laws.{ExpectedAreAcceptable, TreesAreDerivations, TriesAreFew};

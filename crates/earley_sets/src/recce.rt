@@ -12,18 +12,19 @@ ghost use Rattle.recognizer_model.specs.Leo.{InReduced, IsHidden};
 ghost use Rattle.recognizer_model.specs.Links.{Link, IsLink};
 ghost use Rattle.leo_items.specs.ByRows.{IsMemo, NotesMore};
 ghost use Rattle.grammar_core.specs.Edges.{longest_edge};
-ghost use Rattle.item_rows.specs.Rows.{with_row};
 ghost use Rattle.earley_sets.specs.Kept.{HasRows, IsRowOf};
 ghost use Rattle.earley_sets.specs.Heads.{AreHeads};
+ghost use Rattle.earley_sets.specs.Begun.{AreLists};
 ghost use Rattle.earley_sets.specs.Scanning.{GoForward, AreReduced};
 ghost use Rattle.earley_sets.specs.Tried.{RisesBy};
 ghost use Rattle.earley_sets.specs.Recognizer.{Recognizer, place_of, set_at, edges_of, top_of, made, new_edge, IsExpected, HasTree, IsRecognizer};
 ghost use Rattle.earley_sets.specs.declared.recce.AlternativeRefusal.TheVariants.{Unexpected, Duplicate, BadLength};
 
-use crate::close::{Work, make_set};
+use crate::close::{Work, make_kernel};
 use crate::expected::expected;
 use crate::heads::{Heads, list_heads};
 use crate::hidden::list_hidden;
+use crate::lists::{Lists, find_list, new_lists};
 use grammar_core::{EdgeRefusal, Flat, SymbolId, TokenEdges};
 use indexmap::IndexSet;
 use item_rows::{Row, Rows};
@@ -41,6 +42,7 @@ fn make_row<L: Ledger>(
     heads: &Heads,
     top: u32,
     rows: &mut Rows<'_>,
+    lists: &mut Lists,
     memo: &mut Memo,
     edges: &TokenEdges,
     work: &mut Work,
@@ -50,20 +52,25 @@ fn make_row<L: Ledger>(
     requires top { IsTop flat.now top }
     requires sets { AreReduced flat.now edges.now top rows.old.sets (length rows.old.sets) }
     requires rows { HasRows flat.now rows.old }
+    requires lists { AreLists flat.now rows.old.shared lists.old.numbers.entries }
     requires memo { IsMemo flat.now rows.old.sets memo.old }
     requires place { length rows.old.sets ≤ 16777216 }
     requires begun { (e : HeldEdge) → Contains edges.now e → e.from < length rows.old.sets }
     requires forward { GoForward edges.now }
-    ensures ok { OnOk result ((row : List Item) × (rows.new ≡ with_row rows.old row) × IsRowOf flat.now (length rows.old.sets) row ×
+    ensures lists { AreLists flat.now rows.new.shared lists.new.numbers.entries }
+    ensures flat { rows.new.flat ≡ flat.now }
+    ensures ok { OnOk result ((row : List Item) × (rows.new.sets ≡ rows.old.sets ++ row ∷ []) × IsRowOf flat.now (length rows.old.sets) row ×
         IsListOf (InReduced flat.now (FlatEdges flat.now (Held edges.now)) top (length rows.old.sets)) row) }
     ensures memo { NotesMore flat.now rows.old.sets memo.old memo.new }
-    ensures err { OnErr result (rows.new ≡ rows.old) }
+    ensures err { OnErr result (rows.new.sets ≡ rows.old.sets) }
     ensures counted { OnOk result (0 < length rows.old.sets →
         RisesBy (IsLink flat.now (FlatEdges flat.now (Held edges.now)) top (length rows.old.sets)) (steps.old + length memo.new) (steps.new + length memo.old)) }
 {
     let place = rows.len() as u32;
-    make_set(flat, heads, top, rows, memo, edges, place, work, steps)?;
-    rows.push(work.set.as_slice())
+    make_kernel(flat, top, rows, memo, edges, place, work, steps)?;
+    let kernel = work.set.as_slice();
+    let begun = find_list(flat, heads, rows, lists, kernel, steps)?;
+    rows.push(kernel, begun)
 }
 
 // The same. After an error the notes are as before.
@@ -72,6 +79,7 @@ fn add_row<L: Ledger>(
     heads: &Heads,
     top: u32,
     rows: &mut Rows<'_>,
+    lists: &mut Lists,
     memo: &mut Memo,
     edges: &TokenEdges,
     work: &mut Work,
@@ -81,19 +89,22 @@ fn add_row<L: Ledger>(
     requires top { IsTop flat.now top }
     requires sets { AreReduced flat.now edges.now top rows.old.sets (length rows.old.sets) }
     requires rows { HasRows flat.now rows.old }
+    requires lists { AreLists flat.now rows.old.shared lists.old.numbers.entries }
     requires memo { IsMemo flat.now rows.old.sets memo.old }
     requires place { length rows.old.sets ≤ 16777216 }
     requires begun { (e : HeldEdge) → Contains edges.now e → e.from < length rows.old.sets }
     requires forward { GoForward edges.now }
-    ensures ok { OnOk result ((row : List Item) × (rows.new ≡ with_row rows.old row) × IsRowOf flat.now (length rows.old.sets) row ×
+    ensures lists { AreLists flat.now rows.new.shared lists.new.numbers.entries }
+    ensures flat { rows.new.flat ≡ flat.now }
+    ensures ok { OnOk result ((row : List Item) × (rows.new.sets ≡ rows.old.sets ++ row ∷ []) × IsRowOf flat.now (length rows.old.sets) row ×
         IsListOf (InReduced flat.now (FlatEdges flat.now (Held edges.now)) top (length rows.old.sets)) row) }
     ensures memo { IsMemo flat.now rows.old.sets memo.new }
-    ensures err { OnErr result ((rows.new ≡ rows.old) × (memo.new ≡ memo.old)) }
+    ensures err { OnErr result ((rows.new.sets ≡ rows.old.sets) × (memo.new ≡ memo.old)) }
     ensures counted { OnOk result (0 < length rows.old.sets →
         RisesBy (IsLink flat.now (FlatEdges flat.now (Held edges.now)) top (length rows.old.sets)) (steps.old + length memo.new) (steps.new + length memo.old)) }
 {
     let noted = memo.len();
-    match make_row(flat, heads, top, rows, memo, edges, work, steps) {
+    match make_row(flat, heads, top, rows, lists, memo, edges, work, steps) {
         Ok(()) => Ok(()),
         Err(error) => {
             memo.keep_first(noted);
@@ -109,6 +120,7 @@ fn add_first<L: Ledger>(
     heads: &Heads,
     top: u32,
     rows: &mut Rows<'_>,
+    lists: &mut Lists,
     memo: &mut Memo,
     edges: &TokenEdges,
     work: &mut Work,
@@ -120,14 +132,17 @@ fn add_first<L: Ledger>(
     requires top { IsTop flat.now top }
     requires rows { rows.old.sets ≡ [] }
     requires flat { rows.old.flat ≡ flat.now }
+    requires lists { AreLists flat.now rows.old.shared lists.old.numbers.entries }
     requires memo { memo.old ≡ [] }
     requires edges { edges.now ≡ [] }
-    ensures ok { OnOk result ((row : List Item) × (rows.new ≡ record { flat = flat.now; sets = row ∷ [] }) × IsRowOf flat.now 0 row ×
+    ensures lists { AreLists flat.now rows.new.shared lists.new.numbers.entries }
+    ensures flat { rows.new.flat ≡ flat.now }
+    ensures ok { OnOk result ((row : List Item) × (rows.new.sets ≡ row ∷ []) × IsRowOf flat.now 0 row ×
         IsListOf (InReduced flat.now (FlatEdges flat.now (Held edges.now)) top 0) row) }
     ensures memo { memo.new ≡ [] }
 {
     let mut steps = Steps::<L>::of_blank(blank);
-    add_row(flat, heads, top, rows, memo, edges, work, &mut steps)
+    add_row(flat, heads, top, rows, lists, memo, edges, work, &mut steps)
 }
 
 /// Why an alternative is not taken. Of several reasons the first in this order is told, but want of memory may come at any point.
@@ -156,6 +171,7 @@ pub struct Recce<'g> {
     top: u32,
     edges: TokenEdges,
     rows: Rows<'g>,
+    lists: Lists,
     memo: Memo,
     work: Work,
 }
@@ -165,15 +181,16 @@ impl<'g> Model for Recce<'g> {
     ghost use Rattle.leo_items.specs.Memo.{pairs_of};
     ghost use Rattle.earley_sets.specs.Recognizer.{Recognizer, IsKept};
     ghost use Rattle.earley_sets.specs.Heads.{AreHeads};
+    ghost use Rattle.earley_sets.specs.Begun.{AreLists};
 
     ghost Value = { Recognizer };
 
     ghost view = { λ r. record { flat = r.flat.now; start = r.start; edges = r.edges; sets = r.rows.sets; noted = pairs_of r.memo } };
 
-    ghost invariant = { λ r. IsKept (record { flat = r.flat.now; start = r.start; edges = r.edges; sets = r.rows.sets; noted = pairs_of r.memo }) r.top r.memo × AreHeads r.flat.now r.heads.rules.items × (r.rows.flat ≡ r.flat.now) };
+    ghost invariant = { λ r. IsKept (record { flat = r.flat.now; start = r.start; edges = r.edges; sets = r.rows.sets; noted = pairs_of r.memo }) r.top r.memo × AreHeads r.flat.now r.heads.rules.items × (r.rows.flat ≡ r.flat.now) × AreLists r.flat.now r.rows.shared r.lists.numbers.entries };
 }
 
-/// Items of a set: by the symbol after the dot, whole items last, then by rule, dot and origin.
+/// Items of a set: those that begin at an earlier place, and then the others; each part by the symbol after the dot, whole items last, then by rule, dot and origin.
 #[derive(Drop)]
 pub struct SetView<'r> {
     row: Row<'r>,
@@ -223,6 +240,7 @@ impl<'g> Recce<'g> {
         let heads = list_heads(alloc, flat)?;
         let edges = TokenEdges::new(alloc);
         let mut rows = Rows::new(alloc, flat)?;
+        let mut lists = new_lists(alloc);
         let mut memo = Memo::new(alloc);
         let mut work = Work {
             set: IndexSet::new(alloc),
@@ -235,6 +253,7 @@ impl<'g> Recce<'g> {
             &heads,
             top,
             &mut rows,
+            &mut lists,
             &mut memo,
             &edges,
             &mut work,
@@ -246,6 +265,7 @@ impl<'g> Recce<'g> {
             top,
             edges,
             rows,
+            lists,
             memo,
             work,
         })
@@ -296,6 +316,7 @@ impl<'g> Recce<'g> {
             &self.heads,
             self.top,
             &mut self.rows,
+            &mut self.lists,
             &mut self.memo,
             &self.edges,
             &mut self.work,
@@ -361,6 +382,16 @@ impl<'g> Recce<'g> {
     {
         SetView {
             row: self.rows.waiting(j as usize, symbol),
+        }
+    }
+
+    /// The whole items of a set, as far as they are kept.
+    pub fn whole(&self, j: u32) -> SetView<'_>
+        requires { j ≤ place_of self.now }
+        ensures { IsListOf (λ item. Contains (set_at self.now j) item × IsWhole self.now.flat item) result }
+    {
+        SetView {
+            row: self.rows.whole(j as usize),
         }
     }
 

@@ -1,8 +1,8 @@
 -- Edges held by their places: what stands at a number, and how a part of the list is cut out.
 use Rattle.std.proofs.Common.{◌≡◌, ◌≢◌, ℕ, zero, suc, ◌+◌, ◌-◌, ◌<◌, ◌≤◌, ◌++◌, ◌↔◌, List, [], ◌∷◌, length, take, drop, get_or, Some, Contains, refl, sym, ap, ◌∙◌, subst, ⊎_elim, ◌⊎◌, inl, inr, arith, length-append, length-take, length-drop}
-use Rattle.std.specs.Prelude.{nat_lt, nat_le, slice_get, slice_index, slice_index_or, AllPairs}
+use Rattle.std.specs.Prelude.{nat_lt, slice_get, slice_index, slice_index_or, AllPairs}
 use Rattle.std.specs.List.Sorted.{IsPartitionedBy}
-use Rattle.std.proofs.lemmas.Bool.{ltb-true, leb-true, lt-ltb, le-leb, cases_lt}
+use Rattle.std.proofs.lemmas.Bool.{ltb-true, lt-ltb, cases_lt}
 use Rattle.std.proofs.lemmas.List.{get_or-take, get_or-drop, get_or_append_left, get_or-append-add}
 use Rattle.std.proofs.lemmas.List.Elements.{Contains-append_left, Contains-push, Contains-push_cases}
 use Rattle.std.proofs.lemmas.List.Quantifiers.{all_pairs_push}
@@ -83,14 +83,6 @@ module _ (places : List ℕ) (ordered : AreOrdered places) (at : ℕ) where
       let a = at_any i d (omega arith) in
       let b = at_any j d lt in
       lt-ltb _ _ (omega arith)
-
-  pub up_to_partitioned : IsPartitionedBy (λ p. nat_le p at) places
-  up_to_partitioned i j d le lt e =
-      let h = leb-true _ _ e in
-      let o = ordered i j le lt in
-      let a = at_any i d (omega arith) in
-      let b = at_any j d lt in
-      le-leb _ _ (omega arith)
 
   pub ordered_more : ((p : ℕ) → Contains places p → p ≤ at) → AreOrdered (places ++ at ∷ [])
   ordered_more last i j le lt = go (cases_lt j (length places))

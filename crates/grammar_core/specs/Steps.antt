@@ -1,5 +1,4 @@
 -- The steps that a program holds, as steps of the definitions.
-use Rattle.std.specs.Prelude.{ℕ}
 use Rattle.grammar_core.specs.declared.steps.TreeStep.{TreeStep}
 use Rattle.grammar_core.specs.declared.steps.TreeStep.TheVariants.{Token, Nulled, Rule}
 use Rattle.grammar_model.specs.Steps.{Step, TokenStep, NulledStep, RuleStep}

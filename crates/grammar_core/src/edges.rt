@@ -99,8 +99,8 @@ impl TokenEdges {
         ensures exact { (e : Edge) → Contains result.now e ↔ Contains self.now (placed at e) }
         ensures once { AllPairs (λ a b. a ≢ b) result.now }
     {
-        let start = before(&self.places, at);
-        let end = up_to(&self.places, at);
+        let start = below(&self.places, at as u64);
+        let end = below(&self.places, at as u64 + 1);
         part(&self.edges, start, end)
     }
 
@@ -207,24 +207,28 @@ fn list_short(
     Ok(())
 }
 
-// How many of the places, which are in order, are lower.
-fn before(places: &[u32], at: u32) -> usize
-    requires { AreOrdered places.now }
-    ensures bound { result ≤ length places.now }
-    ensures below { (k : ℕ) → k < result → slice_index places.now k < at }
-    ensures above { (k : ℕ) → result ≤ k → k < length places.now → at ≤ slice_index places.now k }
+// Whether the places before that one are below a bound, and those from there on are not.
+fn parts_at(places: &[u32], k: usize, bound: u64) -> bool
+    requires { k ≤ length places.now }
+    ensures before { IsTrue result → 0 < k → slice_index places.now (k - 1) < bound }
+    ensures behind { IsTrue result → k < length places.now → bound ≤ slice_index places.now k }
 {
-    places.partition_point(|place| *place < at)
+    (k == 0 || (places[k - 1] as u64) < bound) && (k == places.len() || bound <= places[k] as u64)
 }
 
-// How many of the places, which are in order, are no higher.
-fn up_to(places: &[u32], at: u32) -> usize
+// How many of the places, which are in order, are below a bound: as many as it says, where each place has one edge.
+fn below(places: &[u32], bound: u64) -> usize
     requires { AreOrdered places.now }
     ensures bound { result ≤ length places.now }
-    ensures below { (k : ℕ) → k < result → slice_index places.now k ≤ at }
-    ensures above { (k : ℕ) → result ≤ k → k < length places.now → at < slice_index places.now k }
+    ensures below { (k : ℕ) → k < result → slice_index places.now k < bound }
+    ensures above { (k : ℕ) → result ≤ k → k < length places.now → bound ≤ slice_index places.now k }
 {
-    places.partition_point(|place| *place <= at)
+    let guess = places.len().min(bound as usize);
+    if parts_at(places, guess, bound) {
+        guess
+    } else {
+        places.partition_point(|place| (*place as u64) < bound)
+    }
 }
 
 fn part(edges: &[Edge], start: usize, end: usize) -> &[Edge]

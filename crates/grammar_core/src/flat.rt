@@ -65,6 +65,7 @@ impl Flat {
         }
     }
 
+    /// How many symbols there are.
     pub fn symbol_count(&self) -> usize
         ensures { result ≡ length self.now.symbols }
     {
@@ -87,6 +88,7 @@ impl Flat {
         self.symbols[x as usize]
     }
 
+    /// How many rules there are.
     pub fn rule_count(&self) -> usize
         ensures { result ≡ length self.now.rules }
     {

@@ -10,6 +10,8 @@ mod grammars;
 #[cfg(test)]
 mod lengths;
 #[cfg(test)]
+mod lexemes;
+#[cfg(test)]
 mod readings;
 #[cfg(test)]
 mod sets;

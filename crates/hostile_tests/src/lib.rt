@@ -2,8 +2,12 @@
 #![tactic(auto)]
 
 #[cfg(test)]
+mod devices;
+#[cfg(test)]
 mod faults;
 #[cfg(test)]
 mod refused;
 #[cfg(test)]
 mod runs;
+#[cfg(test)]
+mod tellers;

@@ -1,5 +1,6 @@
 //! Words, grammars and inputs that are refused: the status and the line, and nothing on the standard output.
-use crate::runs::{asked, ends, run_of};
+use crate::devices::{Case, is_so, line_breaks};
+use crate::runs::{asked, ends};
 use run_scenes::{
     CHECKED, EXPECTED, Given, OPERATORS, REPORTED, SUM, SUMS, TREES, WORKED, WORKED_LINES,
 };
@@ -23,17 +24,30 @@ const WRONG_WORDS: [&[&str]; 12] = [
     &["work", "--size", "2", "--stats"],
 ];
 
+// Whether a run is refused so, and each call that fails ends it as it should.
+fn is_refused(
+    alloc: Global,
+    given: &Given<'_>,
+    status: u8,
+    line: &[u8],
+    files: u8,
+    input: u8,
+) -> Result<bool, AllocError> {
+    let case = Case {
+        given: *given,
+        status,
+        out: b"",
+        err: line,
+        files,
+        input,
+    };
+    is_so(alloc, &case)
+}
+
 // Neither a file nor the input is touched.
 fn is_refused_at_once(alloc: Global, words: &[&str]) -> Result<bool, AllocError> {
-    let given = Given {
-        words,
-        files_fail: &[1],
-        input_fails: &[1],
-        ..SUM
-    };
-    let end = run_of(alloc, &given)?;
-    let told = end.out().is_empty() && end.err() == USAGE;
-    Ok(end.status == 2 && told && end.asked() == 0)
+    let given = Given { words, ..SUM };
+    is_refused(alloc, &given, 2, USAGE, 0, 0)
 }
 
 #[test]
@@ -146,15 +160,28 @@ const CHECK_ROWS: [(&[u8], &[u8]); 8] = [
     ),
 ];
 
-// Two jobs refuse a grammar alike, and the input is left alone.
+// All jobs refuse a grammar alike, and the input is left alone. An empty file is read once.
 fn refuse(alloc: Global, grammar: &[u8], line: &[u8]) -> Result<bool, AllocError> {
-    let check = Given { grammar, ..CHECKED };
-    let run = Given {
-        grammar,
-        input_fails: &[1],
-        ..SUM
-    };
-    Ok(ends(alloc, &check, 3, b"", line)? && ends(alloc, &run, 3, b"", line)?)
+    let files = if grammar.is_empty() { 2 } else { 3 };
+    for job in &[CHECKED, SUM, EXPECTED, REPORTED] {
+        let given = Given { grammar, ..*job };
+        if !is_refused(alloc, &given, 3, line, files, 0)? {
+            return Ok(false);
+        }
+    }
+    Ok(true)
+}
+
+// A literal of 1,001 characters.
+fn refuse_long(alloc: Global) -> Result<bool, AllocError> {
+    let mut grammar = [b'x'; 1009];
+    grammar[..7].copy_from_slice(b"S ::= '");
+    grammar[1008] = b'\'';
+    refuse(
+        alloc,
+        &grammar,
+        b"slif: grammar: too long at line 1 column 7\n",
+    )
 }
 
 #[test]
@@ -165,125 +192,170 @@ fn bad_grammars_are_refused(rt: HostRuntime) -> Result<(), Fail> {
     for (grammar, line) in &CHECK_ROWS {
         assert!(rt; refuse(rt.alloc(), grammar, line)?);
     }
-    let mut grammar = Vec::from_slice(rt.alloc(), b"S ::= '")?;
-    for _ in 0..1001 {
-        grammar.push(b'x')?;
-    }
-    grammar.push(b'\'')?;
-    let line = b"slif: grammar: too long at line 1 column 7\n";
-    assert!(rt; refuse(rt.alloc(), &grammar, line)?);
+    assert!(rt; refuse_long(rt.alloc())?);
     Ok(())
 }
 
-// Grammars, inputs that are not read to their end, and the line of each.
-const STOP_ROWS: [(&[u8], &[u8], &[u8]); 7] = [
+// Grammars, inputs that are not read to their end, how many reads an input takes, and the line of each.
+const STOP_ROWS: [(&[u8], &[u8], u8, &[u8]); 7] = [
     (
         SUMS,
         b"x",
+        2,
         b"slif: input stopped at line 1 column 1; found: none; expected: N\n",
     ),
     (
         OPERATORS,
         b"1+*2",
+        3,
         b"slif: input stopped at line 1 column 3; found: '*'; expected: '(', N\n",
     ),
     (
         b"S ::= '=' '=' | 'a' '=='\n",
         b"==",
+        2,
         b"slif: input stopped at line 1 column 1; found: '=='; expected: '=', 'a'\n",
     ),
     (
         b"S ::= 'a' 'b'\n:discard ~ [\\s]\n",
         b"a\n\xC3\xA9",
+        3,
         b"slif: input stopped at line 2 column 1; found: none; expected: 'b'\n",
     ),
     (
         b"S ::= 'a'\n",
         b"aa",
+        2,
         b"slif: input stopped at line 1 column 2; found: 'a'; expected: none\n",
     ),
     (
         SUMS,
         b"1+2+3+4\xFF",
+        5,
         b"slif: input is not UTF-8 at byte 7\n",
     ),
-    (SUMS, b"\x80", b"slif: input is not UTF-8 at byte 0\n"),
+    (SUMS, b"\x80", 2, b"slif: input is not UTF-8 at byte 0\n"),
 ];
+
+// Whether jobs refuse an input alike.
+fn stop(
+    alloc: Global,
+    jobs: &[Given<'static>],
+    grammar: &[u8],
+    input: &[u8],
+    reads: u8,
+    line: &[u8],
+) -> Result<bool, AllocError> {
+    for job in jobs {
+        let given = Given {
+            grammar,
+            input,
+            ..*job
+        };
+        if !is_refused(alloc, &given, 1, line, 3, reads)? {
+            return Ok(false);
+        }
+    }
+    Ok(true)
+}
 
 #[test]
 fn inputs_are_refused_alike_by_all_jobs(rt: HostRuntime) -> Result<(), Fail> {
-    for (grammar, input, line) in &STOP_ROWS {
-        for job in &[SUM, TREES, EXPECTED, REPORTED] {
-            let given = Given {
-                grammar,
-                input,
-                ..*job
-            };
-            assert!(rt; ends(rt.alloc(), &given, 1, b"", line)?);
-        }
+    let jobs = &[SUM, TREES, EXPECTED, REPORTED];
+    for (grammar, input, reads, line) in &STOP_ROWS {
+        assert!(rt; stop(rt.alloc(), jobs, grammar, input, *reads, line)?);
     }
     Ok(())
 }
 
-// Grammars, inputs that end without a derivation, and what is expected behind them.
-const END_ROWS: [(&[u8], &[u8], &[u8]); 5] = [
+// Jobs whose input is a file that is not read to its end.
+const FILED: [Given<'static>; 3] = [
+    Given {
+        words: &["run", "--grammar", "g.slif", "--input", "i.txt"],
+        file: b"x",
+        ..SUM
+    },
+    Given {
+        words: &["expect", "--grammar", "g.slif", "--input", "i.txt"],
+        file: b"x",
+        ..SUM
+    },
+    Given {
+        words: &["progress", "--at=0", "--grammar=g.slif", "--input=i.txt"],
+        file: b"x",
+        ..SUM
+    },
+];
+
+#[test]
+fn inputs_of_files_are_refused_alike(rt: HostRuntime) -> Result<(), Fail> {
+    let line = b"slif: input stopped at line 1 column 1; found: none; expected: N\n";
+    for given in &FILED {
+        assert!(rt; is_refused(rt.alloc(), given, 1, line, 6, 0)?);
+    }
+    Ok(())
+}
+
+// Grammars, inputs that end without a derivation, how many reads an input takes, and what is expected behind it.
+const END_ROWS: [(&[u8], &[u8], u8, &[u8]); 5] = [
     (
         SUMS,
         b"",
+        1,
         b"slif: input ended without a derivation; expected: N\n",
     ),
     (
         SUMS,
         b"1+",
+        2,
         b"slif: input ended without a derivation; expected: N\n",
     ),
     (
         OPERATORS,
         b"1+",
+        2,
         b"slif: input ended without a derivation; expected: '(', N\n",
     ),
     (
         b"L ::= N+ separator => comma proper => 1\nN ~ [\\d]\ncomma ~ ','\n",
         b"1,2,",
+        3,
         b"slif: input ended without a derivation; expected: N\n",
     ),
     (
         b"S ::= '=' '=' | 'a' '=='\nlexeme default = latm => 1\n",
         b"=",
+        2,
         b"slif: input ended without a derivation; expected: '='\n",
     ),
 ];
 
 #[test]
 fn inputs_without_a_derivation_are_refused(rt: HostRuntime) -> Result<(), Fail> {
-    for (grammar, input, line) in &END_ROWS {
-        for job in &[SUM, TREES] {
-            let given = Given {
-                grammar,
-                input,
-                ..*job
-            };
-            assert!(rt; ends(rt.alloc(), &given, 1, b"", line)?);
-        }
+    let jobs = &[SUM, TREES];
+    for (grammar, input, reads, line) in &END_ROWS {
+        assert!(rt; stop(rt.alloc(), jobs, grammar, input, *reads, line)?);
     }
     Ok(())
 }
 
+const PAST: Given<'static> = Given {
+    words: &["progress", "--at", "3", "--grammar", "g.slif"],
+    ..REPORTED
+};
+
+const PAST_EMPTY: Given<'static> = Given {
+    words: &["progress", "--at", "1", "--grammar", "g.slif"],
+    input: b"",
+    ..REPORTED
+};
+
 #[test]
 fn places_past_the_last_set_are_refused(rt: HostRuntime) -> Result<(), Fail> {
-    let past = Given {
-        words: &["progress", "--at", "3", "--grammar", "g.slif"],
-        ..REPORTED
-    };
     let line = b"slif: no set 3; the last is 2\n";
-    assert!(rt; ends(rt.alloc(), &past, 1, b"", line)?);
-    let empty = Given {
-        words: &["progress", "--at", "1", "--grammar", "g.slif"],
-        input: b"",
-        ..REPORTED
-    };
+    assert!(rt; is_refused(rt.alloc(), &PAST, 1, line, 3, 2)?);
     let line = b"slif: no set 1; the last is 0\n";
-    assert!(rt; ends(rt.alloc(), &empty, 1, b"", line)?);
+    assert!(rt; is_refused(rt.alloc(), &PAST_EMPTY, 1, line, 3, 1)?);
     Ok(())
 }
 
@@ -306,12 +378,21 @@ const NAME_ROWS: [(&[&str], &[u8], usize); 3] = [
     ),
 ];
 
+// Whether a run asks for so many names and tells that it cannot open the last of them.
+fn is_not_opened(
+    alloc: Global,
+    words: &[&str],
+    line: &[u8],
+    names: usize,
+) -> Result<bool, AllocError> {
+    let given = Given { words, ..EXPECTED };
+    Ok(line_breaks(alloc, &given, line)? && asked(alloc, &given)? == names)
+}
+
 #[test]
 fn names_of_no_file_are_told(rt: HostRuntime) -> Result<(), Fail> {
     for (words, line, names) in &NAME_ROWS {
-        let given = Given { words, ..EXPECTED };
-        assert!(rt; ends(rt.alloc(), &given, 4, b"", line)?);
-        assert_eq!(rt; asked(rt.alloc(), &given)?, *names);
+        assert!(rt; is_not_opened(rt.alloc(), words, line, *names)?);
     }
     assert!(rt; ends(rt.alloc(), &WORKED, 0, WORKED_LINES, b"")?);
     Ok(())

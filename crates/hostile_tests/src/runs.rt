@@ -36,6 +36,5 @@ pub fn ends(
     out: &[u8],
     err: &[u8],
 ) -> Result<bool, AllocError> {
-    let end = run_of(alloc, given)?;
-    Ok(end.status == status && end.out() == out && end.err() == err)
+    Ok(run_of(alloc, given)?.is(status, out, err))
 }

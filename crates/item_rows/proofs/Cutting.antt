@@ -1,10 +1,8 @@
 -- Rows that are kept end to end.
-use Rattle.std.proofs.Common.{◌≡◌, ℕ, zero, suc, ◌+◌, ◌-◌, ◌<◌, ◌≤◌, ◌++◌, List, [], ◌∷◌, length, map, take, drop, get_or, refl, sym, ap, ◌∙◌, subst, arith, Result, Ok, Err, OnErr, length-append}
-use Rattle.std.specs.Prelude.{sum}
-use Rattle.std.proofs.lemmas.List.{drop-take, take-append-le, length-take-le, length-drop}
-use Rattle.std.proofs.lemmas.List.Sums.{sum_by-cons}
+use Rattle.std.proofs.Common.{◌≡◌, ℕ, zero, suc, ◌+◌, ◌-◌, ◌<◌, ◌≤◌, ◌++◌, List, [], ◌∷◌, length, take, drop, get_or, refl, sym, ap, ◌∙◌, subst, arith, Result, Ok, Err, OnErr, length-append}
+use Rattle.std.proofs.lemmas.List.{drop-take, take-append-le, length-take-le}
 use Rattle.std.proofs.Math.Seq.{take-length, drop-append_seam}
-use Rattle.item_rows.specs.Rows.{packed_at, cut, AreEnds, last_end}
+use Rattle.item_rows.specs.Rows.{list_at, cut, AreEnds, last_end}
 
 -- take e after take n
 take_take : {A : Type 0} (e n : ℕ) (xs : List A) → e ≤ n → take e (take n xs) ≡ take e xs
@@ -34,13 +32,13 @@ ends_more s [] e n m h a b = (a, b)
 ends_more s (f ∷ es) e n m (x, h) a b = (x, ends_more f es e n m h a b)
 
 -- the rows are told by what is below the last end
-cut_same : (s : ℕ) (ends : List ℕ) (xs ys : List ℕ) (n : ℕ) → AreEnds s ends n → take (last_end s ends) xs ≡ take (last_end s ends) ys → cut s ends xs ≡ cut s ends ys
+cut_same : {A : Type 0} (s : ℕ) (ends : List ℕ) (xs ys : List A) (n : ℕ) → AreEnds s ends n → take (last_end s ends) xs ≡ take (last_end s ends) ys → cut s ends xs ≡ cut s ends ys
 cut_same s [] xs ys n h a = refl
 cut_same s (e ∷ es) xs ys n (c, h) a =
     let i = last_above e es n h in
     ap (λ r. r ∷ cut e es xs) (ap (drop s) (take_as e (last_end e es) xs ys i a)) ∙ ap (λ l. drop s (take e ys) ∷ l) (cut_same e es xs ys n h a)
 
-cut_append : (s : ℕ) (ends : List ℕ) (e : ℕ) (xs : List ℕ) → cut s (ends ++ e ∷ []) xs ≡ cut s ends xs ++ drop (last_end s ends) (take e xs) ∷ []
+cut_append : {A : Type 0} (s : ℕ) (ends : List ℕ) (e : ℕ) (xs : List A) → cut s (ends ++ e ∷ []) xs ≡ cut s ends xs ++ drop (last_end s ends) (take e xs) ∷ []
 cut_append s [] e xs = refl
 cut_append s (f ∷ es) e xs = ap (λ l. drop s (take f xs) ∷ l) (cut_append f es e xs)
 
@@ -52,35 +50,20 @@ part_new n e xs row le same =
     ap (λ k. drop n (take k (take n xs ++ row))) same ∙ (ap (drop n) (take-length (take n xs ++ row))
     ∙ (ap (λ k. drop k (take n xs ++ row)) (sym (length-take-le n xs le)) ∙ drop-append_seam (take n xs) row))
 
-pub cut_length : (s : ℕ) (ends : List ℕ) (xs : List ℕ) → length (cut s ends xs) ≡ length ends
+pub cut_length : {A : Type 0} (s : ℕ) (ends : List ℕ) (xs : List A) → length (cut s ends xs) ≡ length ends
 cut_length s [] xs = refl
 cut_length s (e ∷ es) xs = ap suc (cut_length e es xs)
-
--- the items together are those up to the last end
-cut_sum : (s : ℕ) (ends : List ℕ) (xs : List ℕ) → AreEnds s ends (length xs) → s + sum (map length (cut s ends xs)) ≡ last_end s ends
-cut_sum s [] xs h = omega arith
-cut_sum s (e ∷ es) xs (a, h) =
-    let i = last_above e es (length xs) h in
-    let w = last_within e es (length xs) h in
-    let rest = cut_sum e es xs h in
-    let t = length-take-le e xs (omega arith) in
-    let here : length (drop s (take e xs)) ≡ e - s = length-drop s (take e xs) ∙ ap (λ n. n - s) t in
-    let all : sum (map length (cut s (e ∷ es) xs)) ≡ length (drop s (take e xs)) + sum (map length (cut e es xs)) = sum_by-cons (λ (n : ℕ). n) (length (drop s (take e xs))) (map length (cut e es xs)) in
-    omega arith
-
-pub all_cut : (ends : List ℕ) (xs : List ℕ) → AreEnds 0 ends (length xs) → sum (map length (cut 0 ends xs)) ≡ last_end 0 ends
-all_cut ends xs h = let s = cut_sum 0 ends xs h in omega arith
 
 drop_take : {A : Type 0} (s e : ℕ) (xs : List A) → s ≤ e → drop s (take e xs) ≡ take (e - s) (drop s xs)
 drop_take s e xs le = ap (λ k. drop s (take k xs)) (let same : e ≡ s + (e - s) = omega arith in same) ∙ drop-take s (e - s) xs
 
-pub record IsRowAt (s e : ℕ) (xs row : List ℕ) : Type 0 where
+pub record IsRowAt {A : Type 0} (s e : ℕ) (xs row : List A) : Type 0 where
   pub order : s ≤ e
   pub bound : e ≤ length xs
   pub items : take (e - s) (drop s xs) ≡ row
 
-pub cut_at : (s : ℕ) (ends : List ℕ) (xs : List ℕ) → AreEnds s ends (length xs) → (j : ℕ) → j < length ends →
-    IsRowAt (get_or (s ∷ ends) j 0) (get_or ends j 0) xs (packed_at (cut s ends xs) j)
+pub cut_at : {A : Type 0} (s : ℕ) (ends : List ℕ) (xs : List A) → AreEnds s ends (length xs) → (j : ℕ) → j < length ends →
+    IsRowAt (get_or (s ∷ ends) j 0) (get_or ends j 0) xs (list_at (cut s ends xs) j)
 cut_at s [] xs h j lt = absurd (omega arith)
 cut_at s (e ∷ es) xs (a, h) zero lt = record {
   order = a;
@@ -89,9 +72,20 @@ cut_at s (e ∷ es) xs (a, h) zero lt = record {
 }
 cut_at s (e ∷ es) xs (a, h) (suc j) lt = cut_at e es xs h j (omega arith)
 
-pub row_between : (ends xs : List ℕ) → AreEnds 0 ends (length xs) → (j : ℕ) → j < length ends → (start end : ℕ) → start ≡ get_or (0 ∷ ends) j 0 → end ≡ get_or ends j 0 → IsRowAt start end xs (packed_at (cut 0 ends xs) j)
+pub row_between : {A : Type 0} (ends : List ℕ) (xs : List A) → AreEnds 0 ends (length xs) → (j : ℕ) → j < length ends → (start end : ℕ) → start ≡ get_or (0 ∷ ends) j 0 → end ≡ get_or ends j 0 → IsRowAt start end xs (list_at (cut 0 ends xs) j)
 row_between ends xs h j lt start end s e =
-    subst (λ z. IsRowAt z end xs (packed_at (cut 0 ends xs) j)) (sym s) (subst (λ z. IsRowAt (get_or (0 ∷ ends) j 0) z xs (packed_at (cut 0 ends xs) j)) (sym e) (cut_at 0 ends xs h j lt))
+    subst (λ z. IsRowAt z end xs (list_at (cut 0 ends xs) j)) (sym s) (subst (λ z. IsRowAt (get_or (0 ∷ ends) j 0) z xs (list_at (cut 0 ends xs) j)) (sym e) (cut_at 0 ends xs h j lt))
+
+-- the same of lists that are equal to these
+module _ {A : Type 0} (ends : List ℕ) (xs : List A) (h : AreEnds 0 ends (length xs)) (lists : List (List A)) (is : cut 0 ends xs ≡ lists) (j : ℕ) (lt : j < length lists) where
+  pub in_ends : (ends' : List ℕ) → ends' ≡ ends → j < length ends'
+  in_ends ends' e = let l = cut_length 0 ends xs in let v = ap (λ (z : List (List A)). length z) is in let d = ap (λ (z : List ℕ). length z) e in omega arith
+
+  pub row_here : (first second : List ℕ) (xs' : List A) → first ≡ ends → second ≡ ends → xs' ≡ xs → (start end : ℕ) → start ≡ get_or (0 ∷ first) j 0 → end ≡ get_or second j 0 → IsRowAt start end xs' (list_at lists j)
+  row_here first second xs' f s x start end a b =
+      subst (λ l. IsRowAt start end xs' (list_at l j)) is
+      (subst (λ z. IsRowAt start end z (list_at (cut 0 ends xs) j)) (sym x)
+      (row_between ends xs h j (in_ends ends refl) start end (a ∙ ap (λ l. get_or (0 ∷ l) j 0) f) (b ∙ ap (λ l. get_or l j 0) s)))
 
 last_get : (s : ℕ) (ends : List ℕ) → get_or (s ∷ ends) (length ends) 0 ≡ last_end s ends
 last_get s [] = refl
@@ -106,24 +100,24 @@ on_err (Ok x) p = tt
 on_err (Err e) p = p
 
 -- a row is put behind the last end
-module _ (ends : List ℕ) (xs : List ℕ) (h : AreEnds 0 ends (length xs)) (last : ℕ) (is : last ≡ last_end 0 ends) where
+module _ {A : Type 0} (ends : List ℕ) (xs : List A) (h : AreEnds 0 ends (length xs)) (last : ℕ) (is : last ≡ last_end 0 ends) where
   pub put_within : last ≤ length xs
   put_within = let w = last_within 0 ends (length xs) h in omega arith
 
-  pub put_view : (ys : List ℕ) (ends' : List ℕ) → ends' ≡ ends → take last ys ≡ take last xs → cut 0 ends' ys ≡ cut 0 ends xs
+  pub put_view : (ys : List A) (ends' : List ℕ) → ends' ≡ ends → take last ys ≡ take last xs → cut 0 ends' ys ≡ cut 0 ends xs
   put_view ys ends' same a = ap (λ e. cut 0 e ys) same ∙ cut_same 0 ends ys xs (length xs) h (subst (λ z. take z ys ≡ take z xs) is a)
 
   pub put_ends : (n : ℕ) (ends' : List ℕ) → ends' ≡ ends → last ≤ n → AreEnds 0 ends' n
   put_ends n ends' same a = subst (λ e. AreEnds 0 e n) (sym same) (ends_other 0 ends (length xs) n h (omega arith))
 
-  module _ (row ys : List ℕ) (ends' : List ℕ) (put : ys ≡ take last xs ++ row) (n : ℕ) (n_is : n ≡ length row) (more : ends' ≡ ends ++ (last + n) ∷ []) where
+  module _ (row ys : List A) (ends' : List ℕ) (put : ys ≡ take last xs ++ row) (n : ℕ) (n_is : n ≡ length row) (more : ends' ≡ ends ++ (last + n) ∷ []) where
     long : last + n ≡ length (take last xs ++ row)
     long = let l = length-append (take last xs) row in let k = length-take-le last xs put_within in omega arith
 
     pub put_more_ends : AreEnds 0 ends' (length ys)
     put_more_ends =
         let i = long in
-        let p = ap (λ (l : List ℕ). length l) put in
+        let p = ap (λ (l : List A). length l) put in
         subst (λ e. AreEnds 0 e (length ys)) (sym more) (ends_more 0 ends (last + n) (length xs) (length ys) h (omega arith) (omega arith))
 
     pub put_more_view : cut 0 ends' ys ≡ cut 0 ends xs ++ row ∷ []
@@ -135,11 +129,11 @@ module _ (ends : List ℕ) (xs : List ℕ) (h : AreEnds 0 ends (length xs)) (las
         ∙ (ap (λ r. cut 0 ends (take last xs ++ row) ++ r ∷ []) end ∙ ap (λ l. l ++ row ∷ []) tail)))
 
 -- the first row alone
-module _ (xs : List ℕ) where
+module _ {A : Type 0} (xs : List A) where
   pub first_ends : (s : ℕ) (ends : List ℕ) → AreEnds s ends (length xs) → AreEnds s (take 1 ends) (length xs)
   first_ends s [] h = h
   first_ends s (e ∷ es) (a, h) = let c = last_above e es (length xs) h in let i = last_within e es (length xs) h in (a, omega arith)
 
-  pub first_row : (s : ℕ) (ends : List ℕ) → 0 < length ends → cut s (take 1 ends) xs ≡ packed_at (cut s ends xs) 0 ∷ []
-  first_row s [] some = absurd (omega arith)
-  first_row s (e ∷ es) some = refl
+  pub first_cut : (s : ℕ) (ends : List ℕ) → cut s (take 1 ends) xs ≡ take 1 (cut s ends xs)
+  first_cut s [] = refl
+  first_cut s (e ∷ es) = refl

@@ -1,5 +1,7 @@
 pub mod Cutting
+pub mod Holding
 pub mod Items
+pub mod Joined
 pub mod Listed
 pub mod Ordered
 pub mod Packing

@@ -3,6 +3,7 @@ use Rattle.std.proofs.Common.{◌≡◌, ◌≢◌, ◌⊎◌, inl, inr, ℕ, ze
 use Rattle.std.specs.Prelude.{slice_index_or}
 use Rattle.std.specs.List.{AllPairs}
 use Rattle.std.proofs.lemmas.Bool.{cases_lt}
+use Rattle.std.proofs.lemmas.Option.{slice_get_past}
 use Rattle.grammar_core.proofs.Halving.{index_get, get_index}
 use Rattle.recognizer_model.specs.declared.Item.{Item}
 use Rattle.recognizer_model.specs.Flat.{FlatGrammar, FlatRule, no_rule, IsRule, rhs_of}
@@ -10,7 +11,8 @@ use Rattle.recognizer_model.specs.Items.{after}
 use Rattle.recognizer_model.specs.Invariant.{IsFlat}
 use Rattle.item_rows.specs.declared.dotted.Span.{Span}
 use Rattle.item_rows.specs.Kept.{IsItem}
-use Rattle.item_rows.specs.Dotted.{no_item, dotted_at, DifferInDots, AddsDots, IsListedAt, AreListed, AreNumbers, IsNumbered, IsSpan, AreSpans}
+use Rattle.item_rows.specs.Order.{or_end, symbol_or_end}
+use Rattle.item_rows.specs.Dotted.{no_item, dotted_at, DifferInDots, AddsDots, IsListedAt, AreListed, AreNumbers, IsNumbered, IsSpan, IsWholeSpan, AreSpans}
 
 module _ {A : Type 0} where
   pub get_more : (xs ys : List A) (k : ℕ) (x : A) → slice_get xs k ≡ Some x → slice_get (xs ++ ys) k ≡ Some x
@@ -92,8 +94,8 @@ module _ (g : FlatGrammar) (listed : List Item) (firsts : List ℕ) (n : ℕ) (a
     is = adds.dots d lt ∙ ap Some (λ i. record { rule = sym r i; dot = sym e i; origin = 0 });
   }
 
-  told : (k : ℕ) (item : Item) → slice_get new k ≡ Some item → (k < length listed) ⊎ (length listed ≤ k) → IsListedAt new (firsts ++ first ∷ []) item k × (item.origin ≡ 0)
-  told k item e (inl lt) = let (at, o) = are.told k item (sym (adds.before k lt) ∙ e) in (lifted item k at, o)
+  told : (k : ℕ) (item : Item) → slice_get new k ≡ Some item → (k < length listed) ⊎ (length listed ≤ k) → IsListedAt new (firsts ++ first ∷ []) item k × (item.origin ≡ 0) × (item.dot ≤ length (rhs_of g item.rule))
+  told k item e (inl lt) = let (at, o, w) = are.told k item (sym (adds.before k lt) ∙ e) in (lifted item k at, o, w)
   told k item e (inr le) =
       let s = adds.size in
       let w = within new k item e in
@@ -103,6 +105,7 @@ module _ (g : FlatGrammar) (listed : List Item) (firsts : List ℕ) (n : ℕ) (a
       let is : dotted d ≡ item = some_same _ _ (sym (adds.dots d lt) ∙ (ap (slice_get new) place ∙ e)) in (
         subst (IsListedAt new (firsts ++ first ∷ []) item) place (newest item d lt (sym (ap (λ (z : Item). z.rule) is)) (sym (ap (λ (z : Item). z.dot) is))),
         sym (ap (λ (z : Item). z.origin) is),
+        subst (λ (z : Item). z.dot ≤ length (rhs_of g z.rule)) is (let short : d ≤ length (rhs_of g n) = omega arith in short),
       )
 
   there : (item : Item) → (item.rule < n) ⊎ (n ≤ item.rule) → item.rule < n + 1 → item.dot ≤ length (rhs_of g item.rule) → (k : ℕ) × IsListedAt new (firsts ++ first ∷ []) item k
@@ -122,8 +125,8 @@ module _ (g : FlatGrammar) (listed : List Item) (firsts : List ℕ) (n : ℕ) (a
   pub listed_once : AllPairs (λ x y. x ≢ y) listed
   listed_once i j d lt below e =
       let x = slice_index_or listed i d in
-      let (a, _) = are.told i x (get_index listed i d (omega arith)) in
-      let (b, _) = are.told j x (get_index listed j d below ∙ ap Some (sym e)) in
+      let (a, _, _) = are.told i x (get_index listed i d (omega arith)) in
+      let (b, _, _) = are.told j x (get_index listed j d below ∙ ap Some (sym e)) in
       let same : a.first ≡ b.first = some_same _ _ (sym a.begins ∙ b.begins) in
       let p = a.at in
       let q = b.at in
@@ -134,6 +137,11 @@ module _ (g : FlatGrammar) (listed : List Item) (firsts : List ℕ) (n : ℕ) (a
     begins_at_first k lt =
         let (j, below, e) = same (dotted_at rules k) (k, lt, index_any rules k (dotted_at rules k) no_item lt) in
         (are.told j (dotted_at rules k) (get_index listed j (dotted_at rules k) below ∙ ap Some e)).1
+
+    pub dots_within : (k : ℕ) → k < length rules → (dotted_at rules k).dot ≤ length (rhs_of g (dotted_at rules k).rule)
+    dots_within k lt =
+        let (j, below, e) = same (dotted_at rules k) (k, lt, index_any rules k (dotted_at rules k) no_item lt) in
+        (are.told j (dotted_at rules k) (get_index listed j (dotted_at rules k) below ∙ ap Some e)).2
 
     pub rules_differ : DifferInDots rules
     rules_differ j k a b r d =
@@ -205,3 +213,31 @@ no_span g rules spans x flat are none = record {
         absurd (omega arith)),
   );
 }
+
+-- the dotted rules that wait for nothing have the dot at the end
+module _ (g : FlatGrammar) (flat : IsFlat g) where
+  past_parts : (item : Item) → 4294967296 ≤ symbol_or_end g item → length (rhs_of g item.rule) ≤ item.dot
+  past_parts item le = go (after g item) refl le
+    where
+      go : (o : Option ℕ) → after g item ≡ o → 4294967296 ≤ or_end o → length (rhs_of g item.rule) ≤ item.dot
+      go None e le = get_none (rhs_of g item.rule) item.dot e
+      go (Some x) e le = let inside = flat.in_range.parts item.rule item.dot x (part_of_rule g item x e) e in let few = flat.in_range.symbols in absurd (omega arith)
+
+  pub whole_span : (rules : List Item) → ((k : ℕ) → k < length rules → (dotted_at rules k).dot ≤ length (rhs_of g (dotted_at rules k).rule)) → (start : ℕ) → start ≤ length rules →
+      ((k : ℕ) (d : Item) → k < start → symbol_or_end g (slice_index_or rules k d) < 4294967296) → ((k : ℕ) (d : Item) → start ≤ k → k < length rules → 4294967296 ≤ symbol_or_end g (slice_index_or rules k d)) →
+      IsWholeSpan g rules (record { start = start; end = length rules })
+  whole_span rules dots start le below above = record {
+    order = le;
+    exact = λ k lt. (
+      λ (from, to). (let past = past_parts (dotted_at rules k) (above k no_item from lt) in let w = dots k lt in omega arith),
+      λ e. (first k lt e (cases_lt k start), lt),
+    );
+  }
+    where
+      first : (k : ℕ) → k < length rules → (dotted_at rules k).dot ≡ length (rhs_of g (dotted_at rules k).rule) → (k < start) ⊎ (start ≤ k) → start ≤ k
+      first k lt e (inr from) = from
+      first k lt e (inl to) =
+          let b = below k no_item to in
+          let none : after g (dotted_at rules k) ≡ None = slice_get_past (rhs_of g (dotted_at rules k).rule) (dotted_at rules k).dot (omega arith) in
+          let s : symbol_or_end g (dotted_at rules k) ≡ 4294967296 = ap or_end none in
+          absurd (omega arith)

@@ -1,5 +1,5 @@
 -- Rows of packed items.
-use Rattle.std.proofs.Common.{rules, ◌≡◌, ◌≢◌, ◌==◌, inl, inr, ◌↔◌, ℕ, zero, suc, ◌+◌, ◌-◌, ◌*◌, ◌/◌, ◌%◌, ◌<◌, ◌≤◌, ◌++◌, true, List, [], ◌∷◌, length, map, take, drop, get_or, Some, Contains, refl, sym, ◌∙◌, ap, subst, arith}
+use Rattle.std.proofs.Common.{rules, ◌≡◌, ◌≢◌, ◌==◌, inl, inr, ◌↔◌, ℕ, zero, suc, ◌+◌, ◌-◌, ◌/◌, ◌%◌, ◌<◌, ◌≤◌, ◌++◌, true, List, [], ◌∷◌, length, map, take, drop, get_or, Contains, refl, sym, ◌∙◌, ap, subst, arith}
 use Rattle.std.specs.Prelude.{nat_lt, slice_index, slice_index_or, Result, Ok, Err, MatchResult, is_ok, IsTrue}
 use Rattle.std.specs.Ordering.{nat_cmp}
 use Rattle.std.specs.Cmp.{IsEquivalence}
@@ -15,12 +15,9 @@ use Rattle.std.proofs.lemmas.Map.Made.{AllPairs-from_IsDistinct, IsDistinct-from
 use Rattle.grammar_core.proofs.Placed.{part_from, part_to, part_length, found_at, at_found}
 use Rattle.grammar_core.proofs.Halving.{index_get}
 use Rattle.recognizer_model.specs.declared.Item.{Item}
-use Rattle.recognizer_model.specs.Flat.{FlatGrammar}
-use Rattle.recognizer_model.specs.Items.{after}
 use Rattle.recognizer_model.specs.Counts.{IsListOf}
 use Rattle.item_rows.specs.declared.dotted.Span.{Span}
-use Rattle.item_rows.specs.Kept.{IsAwaited}
-use Rattle.item_rows.specs.Dotted.{unpacked, IsPacked, Rises, IsPackedRow, DifferInDots, IsSpan}
+use Rattle.item_rows.specs.Dotted.{unpacked, IsPacked, Rises, IsPackedRow, DifferInDots, IsSpanOf}
 use Rattle.item_rows.proofs.Items.{once_permuted}
 use Rattle.item_rows.proofs.Listed.{index_any}
 
@@ -97,6 +94,18 @@ module _ (row : List ℕ) (rises : Rises row) where
             (elim (cases_lt k start) [ inr l ↦ l | inl l ↦ let p = b1 k l in absurd (omega arith) ])
             (elim (cases_lt k end) [ inl l ↦ l | inr l ↦ let p = a2 k l lt in absurd (omega arith) ]) is
 
+  -- the first that is not below a bound tells whether one is within two
+  pub one_within : (low high place : ℕ) → ((k : ℕ) → k < place → slice_index row k < low) → ((k : ℕ) → place ≤ k → k < length row → low ≤ slice_index row k) →
+      ((place < length row) × (slice_index row place < high)) ↔ ((n : ℕ) × Contains row n × (low ≤ n) × (n < high))
+  one_within low high place below above = (
+    λ (lt, top). (slice_index row place, (place, lt, index_any row place (slice_index row place) 0 lt), above place (omega arith) lt, top),
+    λ (n, (k, lt, at), from, to). (
+        let same : get_or row k 0 ≡ n = index_any row k 0 n lt ∙ at in
+        let first : place ≤ k = elim (cases_lt k place) [ inr l ↦ l | inl l ↦ let b = below k l in absurd (omega arith) ] in
+        let o = in_order place k first lt in
+        (omega arith, omega arith)),
+  )
+
   pub search_tells : (n : ℕ) (r : Result ℕ ℕ) → IsBinarySearchResult (λ y. nat_cmp y n) row r → IsTrue (is_ok r) ↔ Contains row n
   search_tells n r h = go r (searched row n r h in_order)
     where
@@ -110,33 +119,12 @@ module _ (row : List ℕ) (rises : Rises row) where
             absurd (elim (cases_lt k i) [ inl l ↦ let b = below k l in omega arith | inr l ↦ let a = above k l lt in omega arith ]))),
       )
 
--- the packed items of a row that wait for a symbol
-module _ (rules : List Item) (g : FlatGrammar) (row : List ℕ) (is : IsPackedRow (length rules) row) (x : ℕ) (span : Span) (is_span : IsSpan g rules x span) where
-  waits : (n : ℕ) (item : Item) → Contains row n → unpacked rules n ≡ item → ((span.start ≤ n / 4294967296) × (n / 4294967296 < span.end)) ↔ (after g item ≡ Some x)
-  waits n item h e =
+-- the packed items of a row with dotted rules of a span
+module _ (rules : List Item) (row : List ℕ) (is : IsPackedRow (length rules) row) (Kind : (rule dot : ℕ) → Type 0) (span : Span) (is_span : IsSpanOf Kind rules span) where
+  pub of_kind : (n : ℕ) (item : Item) → Contains row n → unpacked rules n ≡ item → ((span.start ≤ n / 4294967296) × (n / 4294967296 < span.end)) ↔ Kind item.rule item.dot
+  of_kind n item h e =
       let (to, from) = is_span.exact (n / 4294967296) (is.within n h) in
-      let same : after g (unpacked rules n) ≡ after g item = ap (after g) e in
-      ((λ p. sym same ∙ to p), (λ w. from (same ∙ w)))
-
-  module _ (place : ℕ) (below : (k : ℕ) → k < place → slice_index row k < span.start * 4294967296) (above : (k : ℕ) → place ≤ k → k < length row → span.start * 4294967296 ≤ slice_index row k) where
-    pub one_awaited : ((place < length row) × (slice_index row place < span.end * 4294967296)) ↔ IsAwaited g (map (unpacked rules) row) x
-    one_awaited = (there, back)
-      where
-        there : (place < length row) × (slice_index row place < span.end * 4294967296) → IsAwaited g (map (unpacked rules) row) x
-        there (lt, high) =
-            let n = slice_index row place in
-            let low = above place (omega arith) lt in
-            let h : Contains row n = (place, lt, index_any row place n 0 lt) in
-            (unpacked rules n, map_has (unpacked rules) row n h, (waits n (unpacked rules n) h refl).0 (omega arith, omega arith))
-
-        back : IsAwaited g (map (unpacked rules) row) x → (place < length row) × (slice_index row place < span.end * 4294967296)
-        back (item, c, w) =
-            let (n, (k, lt, at), e) = map_from (unpacked rules) row item c in
-            let (from, to) = (waits n item (k, lt, at) e).1 w in
-            let same : slice_index row k ≡ n = index_any row k 0 n lt ∙ at in
-            let first : place ≤ k = elim (cases_lt k place) [ inr l ↦ l | inl l ↦ let b = below k l in absurd (omega arith) ] in
-            let o = in_order row is.rises place k first lt in
-            (omega arith, omega arith)
+      ((λ p. subst (λ (z : Item). Kind z.rule z.dot) e (to p)), (λ w. from (subst (λ (z : Item). Kind z.rule z.dot) (sym e) w)))
 
 module _ (rules : List Item) (differ : DifferInDots rules) where
   pub unpack_one : (m n : ℕ) → m / 4294967296 < length rules → n / 4294967296 < length rules → unpacked rules m ≡ unpacked rules n → m ≡ n
@@ -157,24 +145,24 @@ module _ (rules : List Item) (differ : DifferInDots rules) where
       let r = is.rises i j 0 lt (omega arith) in
       absurd (omega arith)
 
-  module _ (g : FlatGrammar) (row : List ℕ) (is : IsPackedRow (length rules) row) (x : ℕ) (span : Span) (is_span : IsSpan g rules x span) where
+  module _ (row : List ℕ) (is : IsPackedRow (length rules) row) (Kind : (rule dot : ℕ) → Type 0) (span : Span) (is_span : IsSpanOf Kind rules span) where
     module _ (part : List ℕ) (rises : Rises part) (exact : (n : ℕ) → Contains part n ↔ (Contains row n × (span.start ≤ n / 4294967296) × (n / 4294967296 < span.end))) where
       pub part_packed : IsPackedRow (length rules) part
       part_packed = record { rises = rises; within = λ n h. is.within n ((exact n).0 h).0 }
 
-      pub part_waits : IsListOf (λ item. Contains (map (unpacked rules) row) item × (after g item ≡ Some x)) (map (unpacked rules) part)
-      part_waits = record { once = once_unpacked part part_packed; exact = λ item. (there item, back item) }
+      pub part_of_kind : IsListOf (λ item. Contains (map (unpacked rules) row) item × Kind item.rule item.dot) (map (unpacked rules) part)
+      part_of_kind = record { once = once_unpacked part part_packed; exact = λ item. (there item, back item) }
         where
-          there : (item : Item) → Contains (map (unpacked rules) part) item → Contains (map (unpacked rules) row) item × (after g item ≡ Some x)
+          there : (item : Item) → Contains (map (unpacked rules) part) item → Contains (map (unpacked rules) row) item × Kind item.rule item.dot
           there item c =
               let (n, h, e) = map_from (unpacked rules) part item c in
               let (in_row, from, to) = (exact n).0 h in
-              (subst (Contains (map (unpacked rules) row)) e (map_has (unpacked rules) row n in_row), (waits rules g row is x span is_span n item in_row e).0 (from, to))
+              (subst (Contains (map (unpacked rules) row)) e (map_has (unpacked rules) row n in_row), (of_kind rules row is Kind span is_span n item in_row e).0 (from, to))
 
-          back : (item : Item) → Contains (map (unpacked rules) row) item × (after g item ≡ Some x) → Contains (map (unpacked rules) part) item
+          back : (item : Item) → Contains (map (unpacked rules) row) item × Kind item.rule item.dot → Contains (map (unpacked rules) part) item
           back item (c, w) =
               let (n, h, e) = map_from (unpacked rules) row item c in
-              let (from, to) = (waits rules g row is x span is_span n item h e).1 w in
+              let (from, to) = (of_kind rules row is Kind span is_span n item h e).1 w in
               subst (Contains (map (unpacked rules) part)) e (map_has (unpacked rules) part n ((exact n).1 (h, from, to)))
 
   pub packed_there : (row : List ℕ) → IsPackedRow (length rules) row → (item : Item) (n : ℕ) → IsPacked rules n item → Contains row n ↔ Contains (map (unpacked rules) row) item

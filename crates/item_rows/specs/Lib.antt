@@ -2,3 +2,4 @@ pub mod Rows
 pub mod Order
 pub mod Kept
 pub mod Dotted
+pub mod Held

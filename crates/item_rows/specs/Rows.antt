@@ -1,24 +1,32 @@
--- Rows that are kept end to end, told apart by the places where each ends.
-use Rattle.std.specs.Prelude.{ℕ, ◌≤◌, ◌++◌, List, [], ◌∷◌, take, drop, slice_index_or}
+-- Rows that are kept end to end, told apart by the places where each ends; and lists that several rows share.
+use Rattle.std.specs.Prelude.{◌≡◌, ℕ, ◌≤◌, ◌++◌, List, [], ◌∷◌, take, drop, slice_index_or, Contains}
 use Rattle.recognizer_model.specs.declared.Item.{Item}
 use Rattle.recognizer_model.specs.Flat.{FlatGrammar}
 
--- rows of items of a flat grammar
+-- rows of items of a flat grammar, and the lists that they share
 pub record ItemRows : Type 0 where
   pub flat : FlatGrammar
   pub sets : List (List Item)
+  pub shared : List (List Item)
 
 abbrev pub row_at : List (List Item) → ℕ → List Item
 row_at rows i = slice_index_or rows i []
 
+abbrev pub shared_at : List (List Item) → ℕ → List Item
+shared_at lists i = slice_index_or lists i []
+
+-- an item of the list, begun at the place
+abbrev pub IsBegunAt : List Item → ℕ → Item → Type 0
+IsBegunAt list place item = (item.origin ≡ place) × Contains list (record item { origin = 0 })
+
 -- one row more
 abbrev pub with_row : ItemRows → List Item → ItemRows
-with_row rows row = record { flat = rows.flat; sets = rows.sets ++ row ∷ [] }
+with_row rows row = record rows { sets = rows.sets ++ row ∷ [] }
 
-abbrev pub packed_at : List (List ℕ) → ℕ → List ℕ
-packed_at rows i = slice_index_or rows i []
+abbrev pub list_at : {A : Type 0} → List (List A) → ℕ → List A
+list_at lists i = slice_index_or lists i []
 
-abbrev pub cut : ℕ → List ℕ → List ℕ → List (List ℕ)
+abbrev pub cut : {A : Type 0} → ℕ → List ℕ → List A → List (List A)
 cut from [] items = []
 cut from (end ∷ ends) items = drop from (take end items) ∷ cut end ends items
 

@@ -5,9 +5,9 @@ ghost use Rattle.recognizer_model.specs.declared.Item.{Item as TheItem};
 ghost use Rattle.recognizer_model.specs.Flat.{IsRule, rhs_of};
 ghost use Rattle.item_rows.specs.Order.{IsInOrder};
 ghost use Rattle.item_rows.specs.Kept.{IsItem};
-ghost use Rattle.item_rows.specs.Dotted.{AddsDots, AreListed, AreNumbers, IsSpan, AreSpans, IsTable, IsPacked, DifferInDots, unpacked};
+ghost use Rattle.item_rows.specs.Dotted.{AddsDots, AreListed, AreNumbers, IsSpan, IsWholeSpan, AreSpans, IsTable, IsPacked, DifferInDots, dotted_at, begun_at, unpacked};
 
-use crate::order::{below, list_sorted, number_of};
+use crate::order::{PAST_SYMBOLS, below, list_sorted, number_of};
 use grammar_core::Flat;
 use recognizer_model::Item;
 use std::alloc::{AllocError, AllocFailed, Global};
@@ -35,6 +35,8 @@ pub struct DottedRules<'g> {
     numbers: Vec<u32>,
     // by the symbols' numbers
     spans: Vec<Span>,
+    // those with the dot at the end
+    whole: Span,
 }
 
 impl<'g> Model for DottedRules<'g> {
@@ -44,7 +46,7 @@ impl<'g> Model for DottedRules<'g> {
 
     ghost view = { λ d. record { flat = d.flat.now; rules = d.rules.items } };
 
-    ghost invariant = { λ d. IsTable d.flat.now d.rules.items d.firsts.items d.numbers.items d.spans.items };
+    ghost invariant = { λ d. IsTable d.flat.now d.rules.items d.firsts.items d.numbers.items d.spans.items d.whole };
 }
 
 // How many items there are, if 32 bits can tell it.
@@ -147,6 +149,21 @@ fn list_spans(alloc: Global, flat: &Flat, rules: &[Item]) -> Result<Vec<Span>, A
     Ok(spans)
 }
 
+// Looks for the dotted rules with the dot at the end, which stand last.
+fn find_whole(flat: &Flat, rules: &[Item]) -> Span
+    requires order { IsInOrder flat.now rules.now }
+    requires few { length rules.now < 2 ^ 32 }
+    requires dots { (k : ℕ) → k < length rules.now → (dotted_at rules.now k).dot ≤ length (rhs_of flat.now (dotted_at rules.now k).rule) }
+    ensures { IsWholeSpan flat.now rules.now result }
+{
+    flat.known();
+    let start = below(flat, rules, PAST_SYMBOLS);
+    Span {
+        start: start as u32,
+        end: rules.len() as u32,
+    }
+}
+
 fn number_at(numbers: &[u32], place: usize) -> Option<u32>
     ensures { result ≡ slice_get numbers.now place }
 {
@@ -175,6 +192,19 @@ pub fn unpack(rules: &[Item], packed: u64) -> Item
         rule: dotted.rule,
         dot: dotted.dot,
         origin: (packed % ORIGINS) as u32,
+    }
+}
+
+/// The item with the dotted rule of that number that begins at a place.
+pub fn begin(rules: &[Item], number: u32, place: u32) -> Item
+    requires { number < length rules.now }
+    ensures { result ≡ begun_at rules.now place number }
+{
+    let dotted = rules[number as usize];
+    Item {
+        rule: dotted.rule,
+        dot: dotted.dot,
+        origin: place,
     }
 }
 
@@ -211,18 +241,22 @@ impl<'g> DottedRules<'g> {
         list_sorted(alloc, flat, &listed, &mut rules)?;
         let numbers = list_numbers(alloc, flat, &listed, &rules)?;
         let spans = list_spans(alloc, flat, &rules)?;
+        let whole = find_whole(flat, &rules);
         Ok(DottedRules {
             flat,
             rules,
             firsts,
             numbers,
             spans,
+            whole,
         })
     }
 
     /// States what is always so of dotted rules.
     pub fn known(&self)
-        ensures { DifferInDots self.now.rules }
+        ensures differ { DifferInDots self.now.rules }
+        ensures few { length self.now.rules < 2 ^ 32 }
+        ensures zero { (k : ℕ) → k < length self.now.rules → (dotted_at self.now.rules k).origin ≡ 0 }
     {
         let _count = self.rules.len();
     }
@@ -252,5 +286,12 @@ impl<'g> DottedRules<'g> {
             Some(span) => span,
             None => Span { start: 0, end: 0 },
         }
+    }
+
+    /// The dotted rules with the dot at the end.
+    pub fn whole(&self) -> Span
+        ensures { IsWholeSpan self.now.flat self.now.rules result }
+    {
+        self.whole
     }
 }

@@ -4,6 +4,7 @@
 mod dotted;
 mod order;
 mod packed;
+mod parts;
 mod rows;
 
 pub use packed::Row;

@@ -8,8 +8,8 @@ use grammar_core::Flat;
 use recognizer_model::Item;
 use std::alloc::{AllocError, AllocFailed, Global};
 
-// What whole items have in place of a symbol.
-const PAST_SYMBOLS: u64 = 4_294_967_296;
+/// What whole items have in place of a symbol.
+pub const PAST_SYMBOLS: u64 = 4_294_967_296;
 
 /// What rows are sorted by.
 #[derive(Clone, Copy, PartialEq, Eq, PartialOrd, Ord)]

@@ -1,41 +1,44 @@
-//! Rows of packed items.
-ghost use Rattle.std.specs.Prelude.{◌≡◌, ◌≢◌, ℕ, ◌<◌, ◌≤◌, ◌-◌, ◌*◌, ◌/◌, ◌↔◌, [], length, map, take, drop, slice_index, slice_get, Some, IsTrue, OnOk, Contains};
+//! Rows of two parts: packed items, and the numbers of dotted rules that begin at the row's place.
+ghost use Rattle.std.specs.Prelude.{◌≡◌, ◌≢◌, ℕ, List, ◌<◌, ◌≤◌, ◌-◌, ◌*◌, ◌/◌, ◌↔◌, [], length, map, take, drop, slice_index, slice_get, Some, IsTrue, OnOk, Contains};
 ghost use Rattle.std.specs.List.{AllPairs};
 ghost use Rattle.recognizer_model.specs.declared.Item.{Item as TheItem};
 ghost use Rattle.recognizer_model.specs.Counts.{IsListOf};
-ghost use Rattle.recognizer_model.specs.Items.{after};
+ghost use Rattle.recognizer_model.specs.Items.{after, IsWhole};
 ghost use Rattle.item_rows.specs.Kept.{AreItems, IsAwaited};
-ghost use Rattle.item_rows.specs.Dotted.{unpacked, IsPackedRow, Rises};
+ghost use Rattle.item_rows.specs.Dotted.{unpacked, IsPackedRow, AreDotted, IsRowOfParts, AreWithin, row_items, Rises};
 
-use crate::dotted::{DottedRules, Span, unpack};
+use crate::dotted::{DottedRules, Span, begin, unpack};
+use crate::parts::between;
 use recognizer_model::Item;
 use std::alloc::{AllocError, AllocFailed};
 use std::marker::Model;
 
-/// Items: by the symbol after the dot, whole items last, then by rule, dot and origin.
+/// Items in two parts, those that rows share behind the others; each part by the symbol after the dot, whole items last, then by rule, dot and origin.
 #[derive(Drop)]
 pub struct Row<'r> {
     rules: &'r [Item],
     packed: &'r [u64],
+    begun: &'r [u32],
+    place: u32,
 }
 
 impl<'r> Model for Row<'r> {
-    ghost use Rattle.std.specs.Prelude.{List, map, length};
+    ghost use Rattle.std.specs.Prelude.{List};
     ghost use Rattle.recognizer_model.specs.declared.Item.{Item};
-    ghost use Rattle.item_rows.specs.Dotted.{unpacked, IsPackedRow};
+    ghost use Rattle.item_rows.specs.Dotted.{row_items, IsRowOfParts};
 
     ghost Value = { List Item };
 
-    ghost view = { λ r. map (unpacked r.rules.now) r.packed.now };
+    ghost view = { λ r. row_items r.rules.now r.place r.packed.now r.begun.now };
 
-    ghost invariant = { λ r. IsPackedRow (length r.rules.now) r.packed.now };
+    ghost invariant = { λ r. IsRowOfParts r.rules.now r.place r.packed.now r.begun.now };
 }
 
 impl<'r> Row<'r> {
     pub fn len(&self) -> usize
         ensures { result ≡ length self.now }
     {
-        self.packed.len()
+        self.packed.len() + self.begun.len()
     }
 
     /// An item, by its number.
@@ -43,16 +46,26 @@ impl<'r> Row<'r> {
         requires { k < length self.now }
         ensures { slice_get self.now k ≡ Some result }
     {
-        unpack(self.rules, self.packed[k])
+        let own = self.packed.len();
+        if k < own {
+            unpack(self.rules, self.packed[k])
+        } else {
+            begin(self.rules, self.begun[k - own], self.place)
+        }
     }
 }
 
-/// A row of packed items.
-pub fn row_of<'r>(rules: &'r [Item], packed: &'r [u64]) -> Row<'r>
-    requires { IsPackedRow (length rules.now) packed.now }
-    ensures { result ≡ map (unpacked rules.now) packed.now }
+/// A row of two parts.
+pub fn row_of<'r>(rules: &'r [Item], packed: &'r [u64], begun: &'r [u32], place: u32) -> Row<'r>
+    requires { IsRowOfParts rules.now place packed.now begun.now }
+    ensures { result ≡ row_items rules.now place packed.now begun.now }
 {
-    Row { rules, packed }
+    Row {
+        rules,
+        packed,
+        begun,
+        place,
+    }
 }
 
 // Packs items, in place of what it held.
@@ -75,7 +88,7 @@ fn pack_all(
     Ok(())
 }
 
-/// Packs different items as a row, in place of what it held.
+/// Packs different items in the order of a row, in place of what it held.
 pub fn pack_row(
     dotted: &DottedRules<'_>,
     items: &[Item],
@@ -91,6 +104,18 @@ pub fn pack_row(
     Ok(())
 }
 
+/// Lists the numbers of the dotted rules of packed items, in place of what it held.
+pub fn list_dotted(packed: &[u64], numbers: &mut Vec<u32>) -> Result<(), AllocFailed<u32>>
+    requires { (n : ℕ) → Contains packed.now n → n / 4294967296 < 4294967296 }
+    ensures { OnOk result (numbers.new.items ≡ map (λ n. n / 4294967296) packed.now) }
+{
+    numbers.clear();
+    for n in packed {
+        numbers.push((*n / 4_294_967_296) as u32)?;
+    }
+    Ok(())
+}
+
 // How many numbers are below a bound.
 fn count_below(packed: &[u64], bound: u64) -> usize
     requires { Rises packed.now }
@@ -101,12 +126,14 @@ fn count_below(packed: &[u64], bound: u64) -> usize
     packed.partition_point(|n| *n < bound)
 }
 
-fn between(packed: &[u64], start: usize, end: usize) -> &[u64]
-    requires order { start ≤ end }
-    requires bound { end ≤ length packed.now }
-    ensures { result.now ≡ take (end - start) (drop start packed.now) }
+// The same of dotted rules.
+fn count_before(begun: &[u32], bound: u32) -> usize
+    requires { Rises begun.now }
+    ensures bound { result ≤ length begun.now }
+    ensures below { (k : ℕ) → k < result → slice_index begun.now k < bound }
+    ensures above { (k : ℕ) → result ≤ k → k < length begun.now → bound ≤ slice_index begun.now k }
 {
-    &packed[start..end]
+    begun.partition_point(|k| *k < bound)
 }
 
 // The packed items whose dotted rules are of a span.
@@ -123,6 +150,18 @@ fn within_span(packed: &[u64], span: Span) -> &[u64]
     between(packed, start, end)
 }
 
+// The dotted rules of a span.
+fn dotted_within(begun: &[u32], span: Span) -> &[u32]
+    requires row { Rises begun.now }
+    requires order { span.start ≤ span.end }
+    ensures rises { Rises result.now }
+    ensures exact { (k : ℕ) → Contains result.now k ↔ (Contains begun.now k × (span.start ≤ k) × (k < span.end)) }
+{
+    let start = count_before(begun, span.start);
+    let end = count_before(begun, span.end);
+    between(begun, start, end)
+}
+
 // The least number that an item with a dotted rule is packed into.
 fn first_of(number: u32) -> u64
     ensures { result ≡ number * 4294967296 }
@@ -130,15 +169,50 @@ fn first_of(number: u32) -> u64
     number as u64 * 4_294_967_296
 }
 
+// The items of a row whose dotted rules are of a span.
+fn narrowed<'r>(
+    dotted: &'r DottedRules<'_>,
+    packed: &'r [u64],
+    begun: &'r [u32],
+    place: u32,
+    span: Span,
+) -> Row<'r>
+    requires row { IsRowOfParts dotted.now.rules place packed.now begun.now }
+    requires order { span.start ≤ span.end }
+    ensures { (own others : List ℕ) × AreWithin packed.now begun.now span own others × (result ≡ row_items dotted.now.rules place own others) }
+{
+    let own = within_span(packed, span);
+    let others = dotted_within(begun, span);
+    row_of(dotted.rules(), own, others, place)
+}
+
 /// The items of a row that wait for a symbol.
-pub fn waiting<'r>(dotted: &'r DottedRules<'_>, packed: &'r [u64], symbol: u32) -> Row<'r>
-    requires { IsPackedRow (length dotted.now.rules) packed.now }
-    ensures { IsListOf (λ item. Contains (map (unpacked dotted.now.rules) packed.now) item × (after dotted.now.flat item ≡ Some symbol)) result }
+pub fn waiting<'r>(
+    dotted: &'r DottedRules<'_>,
+    packed: &'r [u64],
+    begun: &'r [u32],
+    place: u32,
+    symbol: u32,
+) -> Row<'r>
+    requires { IsRowOfParts dotted.now.rules place packed.now begun.now }
+    ensures { IsListOf (λ item. Contains (row_items dotted.now.rules place packed.now begun.now) item × (after dotted.now.flat item ≡ Some symbol)) result }
 {
     dotted.known();
-    let span = dotted.span(symbol);
-    let part = within_span(packed, span);
-    row_of(dotted.rules(), part)
+    narrowed(dotted, packed, begun, place, dotted.span(symbol))
+}
+
+/// The items of a row with the dot at the end.
+pub fn whole<'r>(
+    dotted: &'r DottedRules<'_>,
+    packed: &'r [u64],
+    begun: &'r [u32],
+    place: u32,
+) -> Row<'r>
+    requires { IsRowOfParts dotted.now.rules place packed.now begun.now }
+    ensures { IsListOf (λ item. Contains (row_items dotted.now.rules place packed.now begun.now) item × IsWhole dotted.now.flat item) result }
+{
+    dotted.known();
+    narrowed(dotted, packed, begun, place, dotted.whole())
 }
 
 fn is_there(packed: &[u64], place: usize, end: u64) -> bool
@@ -147,26 +221,80 @@ fn is_there(packed: &[u64], place: usize, end: u64) -> bool
     place < packed.len() && packed[place] < end
 }
 
-/// Whether an item of a row waits for a symbol.
-pub fn is_awaited(dotted: &DottedRules<'_>, packed: &[u64], symbol: u32) -> bool
-    requires { IsPackedRow (length dotted.now.rules) packed.now }
-    ensures { IsTrue result ↔ IsAwaited dotted.now.flat (map (unpacked dotted.now.rules) packed.now) symbol }
+// Whether a packed item has a dotted rule of a span.
+fn is_packed_within(packed: &[u64], span: Span) -> bool
+    requires row { Rises packed.now }
+    requires order { span.start ≤ span.end }
+    ensures { IsTrue result ↔ ((n : ℕ) × Contains packed.now n × (span.start ≤ n / 4294967296) × (n / 4294967296 < span.end)) }
 {
-    let span = dotted.span(symbol);
     let low = first_of(span.start);
     let high = first_of(span.end);
     let place = count_below(packed, low);
     is_there(packed, place, high)
 }
 
+fn is_dotted_there(begun: &[u32], place: usize, end: u32) -> bool
+    ensures { IsTrue result ↔ ((place < length begun.now) × (slice_index begun.now place < end)) }
+{
+    place < begun.len() && begun[place] < end
+}
+
+// Whether a dotted rule is of a span.
+fn is_dotted_within(begun: &[u32], span: Span) -> bool
+    requires row { Rises begun.now }
+    requires order { span.start ≤ span.end }
+    ensures { IsTrue result ↔ ((k : ℕ) × Contains begun.now k × (span.start ≤ k) × (k < span.end)) }
+{
+    let place = count_before(begun, span.start);
+    is_dotted_there(begun, place, span.end)
+}
+
+/// Whether an item of a row waits for a symbol.
+pub fn is_awaited(
+    dotted: &DottedRules<'_>,
+    packed: &[u64],
+    begun: &[u32],
+    place: u32,
+    symbol: u32,
+) -> bool
+    requires { IsRowOfParts dotted.now.rules place packed.now begun.now }
+    ensures { IsTrue result ↔ IsAwaited dotted.now.flat (row_items dotted.now.rules place packed.now begun.now) symbol }
+{
+    let span = dotted.span(symbol);
+    is_packed_within(packed, span) || is_dotted_within(begun, span)
+}
+
+fn has_packed(packed: &[u64], number: u64) -> bool
+    requires { Rises packed.now }
+    ensures { IsTrue result ↔ Contains packed.now number }
+{
+    packed.binary_search(&number).is_ok()
+}
+
+fn has_dotted(begun: &[u32], number: u32) -> bool
+    requires { Rises begun.now }
+    ensures { IsTrue result ↔ Contains begun.now number }
+{
+    begun.binary_search(&number).is_ok()
+}
+
 /// Whether an item is in a row.
-pub fn contains(dotted: &DottedRules<'_>, packed: &[u64], item: Item) -> bool
-    requires { IsPackedRow (length dotted.now.rules) packed.now }
-    ensures { IsTrue result ↔ Contains (map (unpacked dotted.now.rules) packed.now) item }
+pub fn contains(
+    dotted: &DottedRules<'_>,
+    packed: &[u64],
+    begun: &[u32],
+    place: u32,
+    item: Item,
+) -> bool
+    requires { IsRowOfParts dotted.now.rules place packed.now begun.now }
+    ensures { IsTrue result ↔ Contains (row_items dotted.now.rules place packed.now begun.now) item }
 {
     dotted.known();
     match dotted.pack(item) {
-        Some(number) => packed.binary_search(&number).is_ok(),
+        Some(number) => {
+            has_packed(packed, number)
+                || item.origin == place && has_dotted(begun, (number / 4_294_967_296) as u32)
+        }
         None => false,
     }
 }

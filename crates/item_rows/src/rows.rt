@@ -1,64 +1,78 @@
-//! Rows of items, kept end to end.
-ghost use Rattle.std.specs.Prelude.{◌≡◌, ◌≢◌, ℕ, List, ◌<◌, ◌≤◌, ◌↔◌, ◌-◌, ◌++◌, ◌∷◌, [], length, map, sum, take, drop, slice_index_or, ◌+◌, ◌^◌, Some, Contains, IsTrue, IfOk, OnOk, OnErr};
+//! Rows of items, and the lists that they share.
+ghost use Rattle.std.specs.Prelude.{◌≡◌, ◌≢◌, ℕ, List, ◌<◌, ◌≤◌, ◌↔◌, ◌⊎◌, ◌++◌, ◌∷◌, [], length, map, sum, take, slice_index_or, ◌+◌, ◌^◌, Some, Contains, IsTrue, IfOk, OnOk, OnErr};
 ghost use Rattle.std.specs.List.{AllPairs};
 ghost use Rattle.recognizer_model.specs.declared.Item.{Item as TheItem};
 ghost use Rattle.recognizer_model.specs.Counts.{IsListOf};
-ghost use Rattle.recognizer_model.specs.Items.{after};
-ghost use Rattle.item_rows.specs.Rows.{row_at, with_row, packed_at, cut, AreEnds, last_end};
+ghost use Rattle.recognizer_model.specs.Items.{after, IsWhole};
+ghost use Rattle.item_rows.specs.Rows.{row_at, shared_at, with_row, IsBegunAt};
+ghost use Rattle.item_rows.specs.Held.{shared_by};
 ghost use Rattle.item_rows.specs.Kept.{AreItems, IsAwaited};
 
 use crate::dotted::DottedRules;
-use crate::packed::{Row, contains, is_awaited, pack_row, row_of, waiting};
+use crate::packed::{Row, contains, is_awaited, list_dotted, pack_row, row_of, waiting, whole};
+use crate::parts::Parts;
 use grammar_core::Flat;
 use recognizer_model::Item;
 use std::alloc::{AllocError, Global};
 use std::marker::Model;
 
-/// Rows of items of a flat grammar.
+/// Rows of items of a flat grammar. A row is a list of its own and one that rows share.
 #[derive(Drop)]
 pub struct Rows<'g> {
     dotted: DottedRules<'g>,
-    items: Vec<u64>,
-    ends: Vec<u32>,
-    // the row that is put last
+    // the packed items that are a row's own, row by row
+    kernels: Parts<u64>,
+    // the number of the list that a row shares, row by row
+    begun: Vec<u32>,
+    // the lists that rows share
+    lists: Parts<u32>,
+    // how many items the rows have together
+    count: usize,
+    // what is put last
     next: Vec<u64>,
+    numbers: Vec<u32>,
 }
 
 impl<'g> Model for Rows<'g> {
-    ghost use Rattle.std.specs.Prelude.{length, map};
-    ghost use Rattle.item_rows.specs.Rows.{ItemRows, cut, AreEnds};
-    ghost use Rattle.item_rows.specs.Dotted.{unpacked, ArePackedRows};
+    ghost use Rattle.item_rows.specs.Rows.{ItemRows};
+    ghost use Rattle.item_rows.specs.Held.{rows_from, lists_from, AreHeld};
 
     ghost Value = { ItemRows };
 
-    ghost view = { λ r. record { flat = r.dotted.flat; sets = map (map (unpacked r.dotted.rules)) (cut 0 r.ends.items r.items.items) } };
+    ghost view = { λ r. record { flat = r.dotted.flat; sets = rows_from r.dotted.rules r.lists r.begun.items 0 r.kernels; shared = lists_from r.dotted.rules r.lists } };
 
-    ghost invariant = { λ r. AreEnds 0 r.ends.items (length r.items.items) × ArePackedRows (length r.dotted.rules) (cut 0 r.ends.items r.items.items) };
+    ghost invariant = { λ r. AreHeld r.dotted.rules r.lists r.begun.items r.kernels r.count };
 }
 
 impl<'g> Rows<'g> {
     pub fn new(alloc: Global, flat: &'g Flat) -> Result<Rows<'g>, AllocError>
-        ensures { IfOk result (λ r. (r.flat ≡ flat.now) × (r.sets ≡ [])) }
+        ensures { IfOk result (λ r. (r.flat ≡ flat.now) × (r.sets ≡ []) × (r.shared ≡ [] ∷ [])) }
     {
+        let dotted = DottedRules::new(alloc, flat)?;
+        let mut lists = Parts::new(alloc);
+        lists.push(&[])?;
         Ok(Rows {
-            dotted: DottedRules::new(alloc, flat)?,
-            items: Vec::new(alloc),
-            ends: Vec::new(alloc),
+            dotted,
+            kernels: Parts::new(alloc),
+            begun: Vec::new(alloc),
+            lists,
+            count: 0,
             next: Vec::new(alloc),
+            numbers: Vec::new(alloc),
         })
     }
 
     pub fn len(&self) -> usize
         ensures { result ≡ length self.now.sets }
     {
-        count(&self.ends)
+        self.kernels.len()
     }
 
     /// How many items the rows have together.
     pub fn item_count(&self) -> usize
         ensures { result ≡ sum (map length self.now.sets) }
     {
-        last(&self.ends) as usize
+        self.count
     }
 
     /// A row, by its number.
@@ -66,8 +80,9 @@ impl<'g> Rows<'g> {
         requires { j < length self.now.sets }
         ensures { result ≡ row_at self.now.sets j }
     {
-        let packed = row_between(&self.items, &self.ends, j);
-        row_of(self.dotted.rules(), packed)
+        let packed = self.kernels.at(j);
+        let begun = list_of(&self.lists, &self.begun, j);
+        row_of(self.dotted.rules(), packed, begun, j as u32)
     }
 
     /// The items of a row that wait for a symbol.
@@ -75,8 +90,19 @@ impl<'g> Rows<'g> {
         requires { j < length self.now.sets }
         ensures { IsListOf (λ item. Contains (row_at self.now.sets j) item × (after self.now.flat item ≡ Some symbol)) result }
     {
-        let packed = row_between(&self.items, &self.ends, j);
-        waiting(&self.dotted, packed, symbol)
+        let packed = self.kernels.at(j);
+        let begun = list_of(&self.lists, &self.begun, j);
+        waiting(&self.dotted, packed, begun, j as u32, symbol)
+    }
+
+    /// The items of a row with the dot at the end.
+    pub fn whole(&self, j: usize) -> Row<'_>
+        requires { j < length self.now.sets }
+        ensures { IsListOf (λ item. Contains (row_at self.now.sets j) item × IsWhole self.now.flat item) result }
+    {
+        let packed = self.kernels.at(j);
+        let begun = list_of(&self.lists, &self.begun, j);
+        whole(&self.dotted, packed, begun, j as u32)
     }
 
     /// Whether an item of a row waits for a symbol.
@@ -84,8 +110,9 @@ impl<'g> Rows<'g> {
         requires { j < length self.now.sets }
         ensures { IsTrue result ↔ IsAwaited self.now.flat (row_at self.now.sets j) symbol }
     {
-        let packed = row_between(&self.items, &self.ends, j);
-        is_awaited(&self.dotted, packed, symbol)
+        let packed = self.kernels.at(j);
+        let begun = list_of(&self.lists, &self.begun, j);
+        is_awaited(&self.dotted, packed, begun, j as u32, symbol)
     }
 
     /// Whether an item is in a row.
@@ -93,102 +120,93 @@ impl<'g> Rows<'g> {
         requires { j < length self.now.sets }
         ensures { IsTrue result ↔ Contains (row_at self.now.sets j) item }
     {
-        let packed = row_between(&self.items, &self.ends, j);
-        contains(&self.dotted, packed, item)
+        let packed = self.kernels.at(j);
+        let begun = list_of(&self.lists, &self.begun, j);
+        contains(&self.dotted, packed, begun, j as u32, item)
     }
 
-    /// Keeps the first row alone.
+    /// Keeps the first row alone, and the lists that rows share.
     pub fn keep_first(&mut self)
         requires { 0 < length self.old.sets }
-        ensures { self.new ≡ record { flat = self.old.flat; sets = row_at self.old.sets 0 ∷ [] } }
+        ensures { self.new ≡ record self.old { sets = row_at self.old.sets 0 ∷ [] } }
     {
-        self.ends.truncate(1);
+        let own = self.kernels.at(0).len();
+        let count = own + list_of(&self.lists, &self.begun, 0).len();
+        self.kernels.keep_first();
+        self.count = count;
     }
 
-    /// One more row, of different items.
-    pub fn push(&mut self, items: &[Item]) -> Result<(), AllocError>
+    /// Makes a list that rows can share, and tells its number. Its items begin at the place of each row that shares it.
+    pub fn share(&mut self, items: &[Item]) -> Result<u32, AllocError>
         requires items { AreItems self.old.flat items.now }
         requires once { AllPairs (λ x y. x ≢ y) items.now }
-        ensures ok { OnOk result ((row : List TheItem) × (self.new ≡ with_row self.old row) × IsListOf (Contains items.now) row) }
+        requires zero { (item : TheItem) → Contains items.now item → item.origin ≡ 0 }
+        ensures number { IfOk result (λ k. k ≡ length self.old.shared) }
+        ensures ok { OnOk result ((list : List TheItem) × (self.new ≡ record self.old { shared = self.old.shared ++ list ∷ [] }) × IsListOf (Contains items.now) list) }
         ensures err { OnErr result (self.new ≡ self.old) }
     {
+        self.dotted.known();
+        let number = self.lists.len();
+        if number >= 4_294_967_296 {
+            return Err(AllocError);
+        }
         pack_row(&self.dotted, items, &mut self.next)?;
-        let last = last(&self.ends);
-        let end = end_behind(last, self.next.as_slice())?;
-        put_items(&mut self.items, last as usize, &self.next)?;
-        self.ends.push(end)?;
+        list_dotted(&self.next, &mut self.numbers)?;
+        self.lists.push(&self.numbers)?;
+        Ok(number as u32)
+    }
+
+    /// One more row, of different items, and of those of a list that is shared. The list 0 is empty.
+    pub fn push(&mut self, items: &[Item], begun: u32) -> Result<(), AllocError>
+        requires items { AreItems self.old.flat items.now }
+        requires once { AllPairs (λ x y. x ≢ y) items.now }
+        requires begun { begun < length self.old.shared }
+        requires apart { (item : TheItem) → Contains items.now item → ¬ IsBegunAt (shared_at self.old.shared begun) (length self.old.sets) item }
+        ensures ok { OnOk result ((row : List TheItem) × (self.new ≡ with_row self.old row) ×
+            IsListOf (λ item. Contains items.now item ⊎ IsBegunAt (shared_at self.old.shared begun) (length self.old.sets) item) row) }
+        ensures err { OnErr result (self.new ≡ self.old) }
+    {
+        self.dotted.known();
+        let place = self.kernels.len();
+        if place >= 4_294_967_296 {
+            return Err(AllocError);
+        }
+        pack_row(&self.dotted, items, &mut self.next)?;
+        let size = self.next.len() + self.lists.at(begun as usize).len();
+        let count = add(self.count, size)?;
+        put_number(&mut self.begun, place, begun)?;
+        self.kernels.push(&self.next)?;
+        self.count = count;
         Ok(())
     }
 }
 
-// Puts a row behind the first items.
-fn put_items(items: &mut Vec<u64>, first: usize, row: &[u64]) -> Result<(), AllocError>
-    requires { first ≤ length items.old.items }
-    ensures ok { OnOk result (items.new.items ≡ take first items.old.items ++ row.now) }
-    ensures long { first ≤ length items.new.items }
-    ensures same { take first items.new.items ≡ take first items.old.items }
+// The list that a row shares.
+fn list_of<'r>(lists: &'r Parts<u32>, begun: &[u32], j: usize) -> &'r [u32]
+    requires place { j < length begun.now }
+    requires known { (k : ℕ) → k ≤ j → slice_index_or begun.now k 0 < length lists.now }
+    ensures { result.now ≡ shared_by lists.now begun.now j }
 {
-    items.truncate(first);
-    items.extend_from_slice(row)?;
-    Ok(())
+    lists.at(begun[j] as usize)
 }
 
-// Where a row ends that stands behind the last one.
-fn end_behind(last: u32, row: &[u64]) -> Result<u32, AllocError>
-    ensures { IfOk result (λ end. end ≡ last + length row.now) }
+fn add(count: usize, more: usize) -> Result<usize, AllocError>
+    ensures { IfOk result (λ sum. sum ≡ count + more) }
 {
-    let end = last as usize + row.len();
-    if end < 4_294_967_296 {
-        Ok(end as u32)
-    } else {
-        Err(AllocError)
+    match count.checked_add(more) {
+        Some(sum) => Ok(sum),
+        None => Err(AllocError),
     }
 }
 
-fn count(ends: &[u32]) -> usize
-    ensures { result ≡ length ends.now }
+// Puts the number of a list behind the first numbers.
+fn put_number(numbers: &mut Vec<u32>, first: usize, number: u32) -> Result<(), AllocError>
+    requires { first ≤ length numbers.old.items }
+    ensures ok { OnOk result (numbers.new.items ≡ take first numbers.old.items ++ number ∷ []) }
+    ensures long { first ≤ length numbers.new.items }
+    ensures same { take first numbers.new.items ≡ take first numbers.old.items }
 {
-    ends.len()
-}
-
-// Where a row begins.
-fn end_before(ends: &[u32], j: usize) -> u32
-    requires { j < length ends.now }
-    ensures { result ≡ slice_index_or (0 ∷ ends.now) j 0 }
-{
-    if j == 0 { 0 } else { ends[j - 1] }
-}
-
-fn end_of(ends: &[u32], j: usize) -> u32
-    requires { j < length ends.now }
-    ensures { result ≡ slice_index_or ends.now j 0 }
-{
-    ends[j]
-}
-
-// Where the last row ends.
-fn last(ends: &[u32]) -> u32
-    ensures { result ≡ last_end 0 ends.now }
-{
-    let count = ends.len();
-    if count == 0 { 0 } else { ends[count - 1] }
-}
-
-fn items_between(items: &[u64], start: usize, end: usize) -> &[u64]
-    requires order { start ≤ end }
-    requires bound { end ≤ length items.now }
-    ensures { result.now ≡ take (end - start) (drop start items.now) }
-{
-    &items[start..end]
-}
-
-// A row, by its number.
-fn row_between<'r>(items: &'r [u64], ends: &[u32], j: usize) -> &'r [u64]
-    requires ends { AreEnds 0 ends.now (length items.now) }
-    requires place { j < length ends.now }
-    ensures { result.now ≡ packed_at (cut 0 ends.now items.now) j }
-{
-    let start = end_before(ends, j);
-    let end = end_of(ends, j);
-    items_between(items, start as usize, end as usize)
+    numbers.truncate(first);
+    numbers.push(number)?;
+    Ok(())
 }

@@ -1,7 +1,7 @@
 //! Refusals of small descriptions, and what is built of small texts.
 use crate::texts::built;
 use dsl_build::{BuildRefusal, Built, check};
-use dsl_statement::{Alternative, Description, Element, Spelled, Statement, TokenKind};
+use dsl_statement::{Alternative, Description, Element, Level, Spelled, Statement, TokenKind};
 use grammar_core::{RuleId, SymbolId, Written, WrittenRule};
 use itoa::Buffer;
 use std::alloc::{AllocError, Global};
@@ -44,19 +44,19 @@ fn groups(alloc: Global, part: &str, at: usize) -> Result<Vec<Vec<Alternative>>,
 // What one of two statements says, and where.
 #[derive(Clone, Copy)]
 enum Line {
-    // a left side and a part, which stands six places behind it, and whether the rule is lexical
-    Rule(&'static str, &'static str, bool, usize),
+    // a left side and a part, which stands six places behind it, and the level of the rule
+    Rule(&'static str, &'static str, Level, usize),
     // a start, whose name stands eleven places behind it
     Start(&'static str, usize),
 }
 
 fn statement(alloc: Global, line: Line) -> Result<Statement, AllocError> {
     match line {
-        Line::Rule(left, part, lexical, at) => {
+        Line::Rule(left, part, level, at) => {
             let groups = groups(alloc, part, at.saturating_add(6))?;
             Ok(Statement::Rules {
                 left: word(alloc, left, at)?,
-                lexical,
+                level,
                 groups,
             })
         }
@@ -104,8 +104,8 @@ fn tells(alloc: Global, lines: &[Line], wanted: (Fault, usize, &str)) -> Result<
 #[test]
 fn a_name_that_no_rule_defines(rt: HostRuntime) -> Result<(), AllocError> {
     let lines = &[
-        Line::Rule("S", "A", false, 0),
-        Line::Rule("A", "x", true, 10),
+        Line::Rule("S", "A", Level::Structural, 0),
+        Line::Rule("A", "x", Level::Lexical, 10),
     ];
     assert!(rt; tells(rt.alloc(), lines, (Fault::NotDefined, 16, "x"))?);
     Ok(())
@@ -114,8 +114,8 @@ fn a_name_that_no_rule_defines(rt: HostRuntime) -> Result<(), AllocError> {
 #[test]
 fn a_left_side_of_both_levels(rt: HostRuntime) -> Result<(), AllocError> {
     let lines = &[
-        Line::Rule("A", "A", false, 0),
-        Line::Rule("A", "A", true, 10),
+        Line::Rule("A", "A", Level::Structural, 0),
+        Line::Rule("A", "A", Level::Lexical, 10),
     ];
     assert!(rt; tells(rt.alloc(), lines, (Fault::InBoth, 10, "A"))?);
     Ok(())

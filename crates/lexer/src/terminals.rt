@@ -26,6 +26,7 @@ impl Model for TerminalRows {
 }
 
 impl TerminalRows {
+    /// No rows.
     pub fn new(alloc: Global) -> TerminalRows
         ensures { result ≡ [] }
     {
@@ -35,6 +36,7 @@ impl TerminalRows {
         }
     }
 
+    /// How many rows there are.
     pub fn len(&self) -> usize
         ensures { result ≡ length self.now }
     {

@@ -117,7 +117,7 @@ fn front_told(told: &[Told], k: usize) -> Result<&[ValueId], AllocError>
     }
 }
 
-// The value of the tree that a cell stands for.
+/// The value of the tree that a cell stands for.
 pub fn value_told(told: &[Told], k: usize) -> Result<ValueId, AllocError>
     ensures { IfOk result (λ id. IsValueTold told.now k id) }
 {
@@ -159,7 +159,7 @@ fn told_of(
     }
 }
 
-// Appends the text of a value and a line feed.
+/// Appends the text of a value and a line feed.
 pub fn append_value_line(
     alloc: Global,
     pool: &Pool,
@@ -179,7 +179,7 @@ pub fn append_value_line(
     Ok(())
 }
 
-// What the cells of a list stand for.
+/// What the cells of a list stand for.
 pub fn tell_cells(
     alloc: Global,
     list: &Derivations,

@@ -5,7 +5,7 @@ ghost use Rattle.reading_tests.specs.Sums.{left_first, right_first};
 
 use crate::grammars::{COMMAS, HIGH, LOW, PIECES, SUM};
 use crate::lines::line_text;
-use crate::readings::{Input, Row, Wanted, is_row};
+use crate::readings::{Input, Row, Wanted, are_rows, is_row};
 use bocage::Forest;
 use grammar_core::{SymbolId, TreeStep, Written};
 use grammar_model::Ranking;
@@ -18,61 +18,56 @@ use tree_iter::TreeIter;
 // The texts of derivations: a token with its place, or with both its ends where it is longer, a nulled symbol as `B@0`, a rule as
 // `0(..)`.
 const ROWS: &[Row<'static>] = &[
-    Row {
-        language: SUM,
-        input: Input::Row(&[1]),
-        ranking: Ranking::Rule,
-        wanted: Wanted::Trees(&["1(N0)"]),
-    },
-    Row {
-        language: SUM,
-        input: Input::Row(&[1, 2, 1, 2, 1]),
-        ranking: Ranking::Rule,
-        wanted: Wanted::Trees(&[
+    (
+        SUM,
+        Input::Row(&[1]),
+        Ranking::Rule,
+        Wanted::Trees(&["1(N0)"]),
+    ),
+    (
+        SUM,
+        Input::Row(&[1, 2, 1, 2, 1]),
+        Ranking::Rule,
+        Wanted::Trees(&[
             "0(0(1(N0) +1 1(N2)) +3 1(N4))",
             "0(1(N0) +1 0(1(N2) +3 1(N4)))",
         ]),
-    },
-    Row {
-        language: LOW,
-        input: Input::Row(&[]),
-        ranking: Ranking::Rule,
-        wanted: Wanted::Trees(&["S@0"]),
-    },
-    Row {
-        language: LOW,
-        input: Input::Row(&[2]),
-        ranking: Ranking::Rule,
-        wanted: Wanted::Trees(&["0(B@0 1(a0))", "0(1(a0) B@1)"]),
-    },
-    Row {
-        language: HIGH,
-        input: Input::Row(&[2]),
-        ranking: Ranking::Rule,
-        wanted: Wanted::Trees(&["0(1(a0) B@1)", "0(B@0 1(a0))"]),
-    },
-    Row {
-        language: COMMAS,
-        input: Input::Row(&[1, 2, 1]),
-        ranking: Ranking::Rule,
-        wanted: Wanted::Trees(&["0(x0 ,1 x2)"]),
-    },
-    Row {
-        language: COMMAS,
-        input: Input::Row(&[1, 2, 1, 2]),
-        ranking: Ranking::Rule,
-        wanted: Wanted::Trees(&["0(x0 ,1 x2 ,3)"]),
-    },
-    Row {
-        language: PIECES,
-        input: Input::Row(&[2, 2, 2]),
-        ranking: Ranking::Rule,
-        wanted: Wanted::Trees(&[
+    ),
+    (LOW, Input::Row(&[]), Ranking::Rule, Wanted::Trees(&["S@0"])),
+    (
+        LOW,
+        Input::Row(&[2]),
+        Ranking::Rule,
+        Wanted::Trees(&["0(B@0 1(a0))", "0(1(a0) B@1)"]),
+    ),
+    (
+        HIGH,
+        Input::Row(&[2]),
+        Ranking::Rule,
+        Wanted::Trees(&["0(1(a0) B@1)", "0(B@0 1(a0))"]),
+    ),
+    (
+        COMMAS,
+        Input::Row(&[1, 2, 1]),
+        Ranking::Rule,
+        Wanted::Trees(&["0(x0 ,1 x2)"]),
+    ),
+    (
+        COMMAS,
+        Input::Row(&[1, 2, 1, 2]),
+        Ranking::Rule,
+        Wanted::Trees(&["0(x0 ,1 x2 ,3)"]),
+    ),
+    (
+        PIECES,
+        Input::Row(&[2, 2, 2]),
+        Ranking::Rule,
+        Wanted::Trees(&[
             "0(1(a0) 1(a1) 1(a2))",
             "0(2(a0 a1) 1(a2))",
             "0(1(a0) 2(a1 a2))",
         ]),
-    },
+    ),
 ];
 
 // How many derivations a sum of 1, 2, 3 and more operands has: the numbers of Catalan.
@@ -90,6 +85,7 @@ pub enum Style {
     Line,
 }
 
+/// The name of a symbol, or `?` where the grammar has none of that number.
 pub fn name_of(w: &Written, symbol: SymbolId) -> &str {
     if (symbol.0 as usize) < w.symbol_count() {
         w.name(symbol)
@@ -282,21 +278,19 @@ pub fn have_count<L: Ledger>(
 
 #[test]
 fn derivations_come_in_order(rt: HostRuntime) -> Result<(), Fail> {
-    for row in ROWS {
-        assert!(rt; is_row(rt.alloc(), row)?);
-    }
+    assert!(rt; are_rows(rt.alloc(), ROWS)?);
     Ok(())
 }
 
 #[test]
 fn sums_have_as_many_as_is_known(rt: HostRuntime) -> Result<(), Fail> {
     for k in 0..9 {
-        let row = Row {
-            language: SUM,
-            input: Input::Row(&OPERANDS[..2 * k + 1]),
-            ranking: Ranking::Rule,
-            wanted: Wanted::Count(SUMS[k]),
-        };
+        let row = (
+            SUM,
+            Input::Row(&OPERANDS[..2 * k + 1]),
+            Ranking::Rule,
+            Wanted::Count(SUMS[k]),
+        );
         assert!(rt; is_row(rt.alloc(), &row)?);
     }
     Ok(())

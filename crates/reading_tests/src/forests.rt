@@ -3,7 +3,7 @@
 ghost use Rattle.std.specs.Prelude.{◌≡◌, ◌+◌, ◌<◌, length};
 
 use crate::grammars::{COMMAS, HIGH, LOW, Language, PIECES, SUM};
-use crate::readings::{Input, Row, Wanted, is_row};
+use crate::readings::{Input, Row, Wanted, are_rows};
 use bocage::{Alternatives, Forest, LastPart};
 use grammar_core::{FlatSource, RuleId};
 use grammar_model::Ranking;
@@ -15,17 +15,8 @@ use std::test::Fail;
 /// A number of a written rule, and where its last part may begin.
 pub type Starts = (u32, &'static [u32]);
 
-/// The size of a forest, and the rules of the start over the whole, in order.
-#[derive(Clone, Copy)]
-pub struct Size {
-    pub nodes: usize,
-    pub alternatives: usize,
-    pub derivations: u64,
-    pub rules: &'static [Starts],
-}
-
-// S -> P | Q with a higher rank, P -> x, Q -> x
-const RANKED: Language = Language {
+/// S -> P | Q with a higher rank, P -> x, Q -> x
+pub const RANKED: Language = Language {
     names: &["S", "P", "Q", "x"],
     lines: &[
         (0, &[1], 0, false),
@@ -38,154 +29,84 @@ const RANKED: Language = Language {
 
 const ROWS: &[Row<'static>] = &[
     // Three operands. The whole: top, three sums, three fronts of two parts, three of one, three numbers.
-    Row {
-        language: SUM,
-        input: Input::Row(&[1, 2, 1, 2, 1]),
-        ranking: Ranking::Rule,
-        wanted: Wanted::Forest(Size {
-            nodes: 13,
-            alternatives: 14,
-            derivations: 2,
-            rules: &[(0, &[4, 2])],
-        }),
-    },
+    (
+        SUM,
+        Input::Row(&[1, 2, 1, 2, 1]),
+        Ranking::Rule,
+        Wanted::Forest(13, 14, 2, &[(0, &[4, 2])]),
+    ),
     // Four operands: top, six sums, six fronts of two parts, six of one, four numbers; sums have 10 alternatives.
-    Row {
-        language: SUM,
-        input: Input::Row(&[1, 2, 1, 2, 1, 2, 1]),
-        ranking: Ranking::None,
-        wanted: Wanted::Forest(Size {
-            nodes: 23,
-            alternatives: 27,
-            derivations: 5,
-            rules: &[(0, &[6, 4, 2])],
-        }),
-    },
-    Row {
-        language: SUM,
-        input: Input::Row(&[1]),
-        ranking: Ranking::Rule,
-        wanted: Wanted::Forest(Size {
-            nodes: 2,
-            alternatives: 2,
-            derivations: 1,
-            rules: &[(1, &[0])],
-        }),
-    },
-    Row {
-        language: SUM,
-        input: Input::Row(&[1, 2]),
-        ranking: Ranking::Rule,
-        wanted: Wanted::NoParse,
-    },
-    Row {
-        language: SUM,
-        input: Input::Row(&[]),
-        ranking: Ranking::Rule,
-        wanted: Wanted::NoParse,
-    },
+    (
+        SUM,
+        Input::Row(&[1, 2, 1, 2, 1, 2, 1]),
+        Ranking::None,
+        Wanted::Forest(23, 27, 5, &[(0, &[6, 4, 2])]),
+    ),
+    (
+        SUM,
+        Input::Row(&[1]),
+        Ranking::Rule,
+        Wanted::Forest(2, 2, 1, &[(1, &[0])]),
+    ),
+    (SUM, Input::Row(&[1, 2]), Ranking::Rule, Wanted::NoParse),
+    (SUM, Input::Row(&[]), Ranking::Rule, Wanted::NoParse),
     // Nothing is read, and the start is nullable.
-    Row {
-        language: LOW,
-        input: Input::Row(&[]),
-        ranking: Ranking::Rule,
-        wanted: Wanted::Forest(Size {
-            nodes: 0,
-            alternatives: 0,
-            derivations: 1,
-            rules: &[],
-        }),
-    },
-    Row {
-        language: LOW,
-        input: Input::Row(&[2]),
-        ranking: Ranking::Rule,
-        wanted: Wanted::Forest(Size {
-            nodes: 5,
-            alternatives: 6,
-            derivations: 2,
-            rules: &[(0, &[0, 1])],
-        }),
-    },
-    Row {
-        language: HIGH,
-        input: Input::Row(&[2]),
-        ranking: Ranking::None,
-        wanted: Wanted::Forest(Size {
-            nodes: 5,
-            alternatives: 6,
-            derivations: 2,
-            rules: &[(0, &[1, 0])],
-        }),
-    },
-    Row {
-        language: HIGH,
-        input: Input::Row(&[2, 2]),
-        ranking: Ranking::Rule,
-        wanted: Wanted::Forest(Size {
-            nodes: 5,
-            alternatives: 5,
-            derivations: 1,
-            rules: &[(0, &[1])],
-        }),
-    },
-    Row {
-        language: RANKED,
-        input: Input::Row(&[3]),
-        ranking: Ranking::Rule,
-        wanted: Wanted::Forest(Size {
-            nodes: 5,
-            alternatives: 5,
-            derivations: 2,
-            rules: &[(1, &[0]), (0, &[0])],
-        }),
-    },
-    Row {
-        language: RANKED,
-        input: Input::Row(&[3]),
-        ranking: Ranking::None,
-        wanted: Wanted::Forest(Size {
-            nodes: 5,
-            alternatives: 5,
-            derivations: 2,
-            rules: &[(0, &[0]), (1, &[0])],
-        }),
-    },
-    Row {
-        language: COMMAS,
-        input: Input::Row(&[1, 2, 1]),
-        ranking: Ranking::Rule,
-        wanted: Wanted::Forest(Size {
-            nodes: 6,
-            alternatives: 6,
-            derivations: 1,
-            rules: &[(0, &[0])],
-        }),
-    },
+    (
+        LOW,
+        Input::Row(&[]),
+        Ranking::Rule,
+        Wanted::Forest(0, 0, 1, &[]),
+    ),
+    (
+        LOW,
+        Input::Row(&[2]),
+        Ranking::Rule,
+        Wanted::Forest(5, 6, 2, &[(0, &[0, 1])]),
+    ),
+    (
+        HIGH,
+        Input::Row(&[2]),
+        Ranking::None,
+        Wanted::Forest(5, 6, 2, &[(0, &[1, 0])]),
+    ),
+    (
+        HIGH,
+        Input::Row(&[2, 2]),
+        Ranking::Rule,
+        Wanted::Forest(5, 5, 1, &[(0, &[1])]),
+    ),
+    (
+        RANKED,
+        Input::Row(&[3]),
+        Ranking::Rule,
+        Wanted::Forest(5, 5, 2, &[(1, &[0]), (0, &[0])]),
+    ),
+    (
+        RANKED,
+        Input::Row(&[3]),
+        Ranking::None,
+        Wanted::Forest(5, 5, 2, &[(0, &[0]), (1, &[0])]),
+    ),
+    (
+        COMMAS,
+        Input::Row(&[1, 2, 1]),
+        Ranking::Rule,
+        Wanted::Forest(6, 6, 1, &[(0, &[0])]),
+    ),
     // A separator stands last.
-    Row {
-        language: COMMAS,
-        input: Input::Row(&[1, 2, 1, 2]),
-        ranking: Ranking::Rule,
-        wanted: Wanted::Forest(Size {
-            nodes: 7,
-            alternatives: 7,
-            derivations: 1,
-            rules: &[(0, &[3])],
-        }),
-    },
+    (
+        COMMAS,
+        Input::Row(&[1, 2, 1, 2]),
+        Ranking::Rule,
+        Wanted::Forest(7, 7, 1, &[(0, &[3])]),
+    ),
     // Three pieces of one, or two, of which one is of two.
-    Row {
-        language: PIECES,
-        input: Input::Row(&[2, 2, 2]),
-        ranking: Ranking::Rule,
-        wanted: Wanted::Forest(Size {
-            nodes: 15,
-            alternatives: 16,
-            derivations: 3,
-            rules: &[(0, &[0])],
-        }),
-    },
+    (
+        PIECES,
+        Input::Row(&[2, 2, 2]),
+        Ranking::Rule,
+        Wanted::Forest(15, 16, 3, &[(0, &[0])]),
+    ),
 ];
 
 // Each look at a node is one step.
@@ -316,24 +237,23 @@ fn has_rules<L: Ledger>(forest: &Forest<'_>, wanted: &[Starts], steps: &mut Step
     same
 }
 
-/// Whether a forest has this size, and these rules.
+/// Whether a forest has so many nodes, alternatives and derivations, and these rules.
 pub fn has_size<L: Ledger>(
     alloc: Global,
     forest: &Forest<'_>,
-    size: &Size,
+    counts: (usize, usize, u64),
+    rules: &[Starts],
     steps: &mut Steps<L>,
 ) -> Result<bool, anyhow::Error> {
-    let same = forest.node_count() == size.nodes
-        && alternative_count(forest, steps) == size.alternatives
-        && derivation_count(alloc, forest, steps)? == size.derivations
+    let same = forest.node_count() == counts.0
+        && alternative_count(forest, steps) == counts.1
+        && derivation_count(alloc, forest, steps)? == counts.2
         && (forest.node_count() == 0 || look_twice(forest, steps));
-    Ok(has_rules(forest, size.rules, steps) && same)
+    Ok(has_rules(forest, rules, steps) && same)
 }
 
 #[test]
 fn forests_have_the_sizes_of_the_rows(rt: HostRuntime) -> Result<(), Fail> {
-    for row in ROWS {
-        assert!(rt; is_row(rt.alloc(), row)?);
-    }
+    assert!(rt; are_rows(rt.alloc(), ROWS)?);
     Ok(())
 }

@@ -2,7 +2,7 @@
 ghost use Rattle.std.specs.Prelude.{◌≡◌};
 
 use crate::grammars::{Language, go_on, take};
-use crate::readings::{Input, Row, Wanted, is_row};
+use crate::readings::{Input, Row, Wanted, are_rows};
 use earley_sets::Recce;
 use grammar_model::Ranking;
 use slif_base::Steps;
@@ -27,19 +27,19 @@ const PAIR: Language = Language {
 };
 
 const ROWS: &[Row<'static>] = &[
-    Row {
-        language: SHORT_CUT,
-        input: Input::Spans(&[(1, 0, 2), (3, 0, 3), (2, 2, 1)], 3),
-        ranking: Ranking::Rule,
-        wanted: Wanted::Trees(&["0(a0-2 b2)", "1(c0-3)"]),
-    },
+    (
+        SHORT_CUT,
+        Input::Spans(&[(1, 0, 2), (3, 0, 3), (2, 2, 1)], 3),
+        Ranking::Rule,
+        Wanted::Trees(&["0(a0-2 b2)", "1(c0-3)"]),
+    ),
     // The later start of the last part comes first.
-    Row {
-        language: PAIR,
-        input: Input::Spans(&[(2, 0, 1), (2, 0, 2), (2, 1, 2), (2, 2, 1)], 3),
-        ranking: Ranking::Rule,
-        wanted: Wanted::Trees(&["0(1(x0-2) x2)", "0(1(x0) x1-3)"]),
-    },
+    (
+        PAIR,
+        Input::Spans(&[(2, 0, 1), (2, 0, 2), (2, 1, 2), (2, 2, 1)], 3),
+        Ranking::Rule,
+        Wanted::Trees(&["0(1(x0-2) x2)", "0(1(x0) x1-3)"]),
+    ),
 ];
 
 // Takes the tokens that begin at the place.
@@ -72,8 +72,6 @@ pub fn read_to<L: Ledger>(
 
 #[test]
 fn derivations_over_lengths_come_in_order(rt: HostRuntime) -> Result<(), Fail> {
-    for row in ROWS {
-        assert!(rt; is_row(rt.alloc(), row)?);
-    }
+    assert!(rt; are_rows(rt.alloc(), ROWS)?);
     Ok(())
 }

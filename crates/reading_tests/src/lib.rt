@@ -1,4 +1,4 @@
-//! Tests of reading: longest matches, forests, derivations and progress reports. There is nothing else here.
+//! Tests of reading: forests, derivations and progress reports. There is nothing else here.
 #![tactic(auto)]
 
 #[cfg(test)]
@@ -11,8 +11,6 @@ mod forests;
 mod grammars;
 #[cfg(test)]
 mod lengths;
-#[cfg(test)]
-mod lexemes;
 #[cfg(test)]
 mod lines;
 #[cfg(test)]

@@ -4,7 +4,7 @@ ghost use Rattle.grammar_model.specs.Checked.{IsChecked};
 ghost use Rattle.recognizer_model.specs.FlatForm.{IsFlatOf};
 
 use crate::derivations::{have_count, have_texts};
-use crate::forests::{Size, has_size};
+use crate::forests::{Starts, has_size};
 use crate::grammars::{Language, flat_of, read_all, written_of};
 use crate::lengths::{Token, read_to};
 use crate::lines::have_lines;
@@ -30,22 +30,18 @@ pub enum Input<'a> {
 #[derive(Clone, Copy)]
 pub enum Wanted<'a> {
     NoParse,
-    Forest(Size),
-    Numbers(Stats),
+    /// how many nodes, alternatives and derivations a forest has, and the rules of the start over the whole, in order
+    Forest(usize, usize, u64, &'a [Starts]),
+    /// the places, the kept items, the nodes and the hidden items
+    Numbers([u128; 4]),
     Trees(&'a [&'a str]),
     Count(usize),
     Lines(&'a [u8]),
     Reports(&'a [&'a [Line]]),
 }
 
-/// What is read by a grammar, and what the reading has.
-#[derive(Clone, Copy)]
-pub struct Row<'a> {
-    pub language: Language,
-    pub input: Input<'a>,
-    pub ranking: Ranking,
-    pub wanted: Wanted<'a>,
-}
+/// A grammar, what is read by it, the ranking, and what the reading has.
+pub type Row<'a> = (Language, Input<'a>, Ranking, Wanted<'a>);
 
 fn read<L: Ledger>(
     recce: &mut Recce<'_>,
@@ -60,6 +56,10 @@ fn read<L: Ledger>(
     }
 }
 
+fn numbers_of(stats: &Stats) -> [u128; 4] {
+    [stats.tokens, stats.kept, stats.nodes, stats.expanded]
+}
+
 // Whether a forest is as it is told.
 fn forest_is_so<L: Ledger>(
     alloc: Global,
@@ -69,8 +69,11 @@ fn forest_is_so<L: Ledger>(
     steps: &mut Steps<L>,
 ) -> Result<bool, anyhow::Error> {
     match wanted {
-        Wanted::Forest(size) => has_size(alloc, forest, size, steps),
-        Wanted::Numbers(stats) => Ok(forest.stats() == *stats),
+        Wanted::Forest(nodes, alternatives, derivations, rules) => {
+            let counts = (*nodes, *alternatives, *derivations);
+            has_size(alloc, forest, counts, rules, steps)
+        }
+        Wanted::Numbers(numbers) => Ok(numbers_of(&forest.stats()) == *numbers),
         Wanted::Trees(trees) => have_texts(alloc, w, forest, trees, steps),
         Wanted::Count(count) => have_count(alloc, w, forest, *count, steps),
         Wanted::Lines(lines) => have_lines(alloc, w, forest, lines, steps),
@@ -153,6 +156,17 @@ pub fn is_so(
 
 /// Whether a row is as it is told.
 pub fn is_row(alloc: Global, row: &Row<'_>) -> Result<bool, anyhow::Error> {
-    let w = written_of(alloc, &row.language)?;
-    is_so(alloc, &w, &row.input, row.ranking, &row.wanted)
+    let (language, input, ranking, wanted) = row;
+    let w = written_of(alloc, language)?;
+    is_so(alloc, &w, input, *ranking, wanted)
+}
+
+/// Whether all rows are as they are told.
+pub fn are_rows(alloc: Global, rows: &[Row<'_>]) -> Result<bool, anyhow::Error> {
+    for row in rows {
+        if !is_row(alloc, row)? {
+            return Ok(false);
+        }
+    }
+    Ok(true)
 }

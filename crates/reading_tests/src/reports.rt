@@ -13,34 +13,34 @@ use std::test::Fail;
 /// A rule, a dot and an origin.
 pub type Line = (u32, u32, u32);
 
-const OF_SUM: Row<'static> = Row {
-    language: SUM,
-    input: Input::Row(&[1, 2, 1]),
-    ranking: Ranking::Rule,
-    wanted: Wanted::Reports(&[
+const OF_SUM: Row<'static> = (
+    SUM,
+    Input::Row(&[1, 2, 1]),
+    Ranking::Rule,
+    Wanted::Reports(&[
         &[(0, 0, 0), (1, 0, 0)],
         &[(0, 1, 0), (1, 1, 0)],
         &[(0, 0, 2), (0, 2, 0), (1, 0, 2)],
         &[(0, 1, 0), (0, 1, 2), (0, 3, 0), (1, 1, 2)],
     ]),
-};
+);
 
-const OF_LOW: Row<'static> = Row {
-    language: LOW,
-    input: Input::Row(&[2]),
-    ranking: Ranking::Rule,
-    wanted: Wanted::Reports(&[
+const OF_LOW: Row<'static> = (
+    LOW,
+    Input::Row(&[2]),
+    Ranking::Rule,
+    Wanted::Reports(&[
         &[(0, 0, 0), (0, 1, 0), (0, 2, 0), (1, 0, 0)],
         &[(0, 1, 0), (0, 2, 0), (1, 0, 1), (1, 1, 0)],
     ]),
-};
+);
 
-const OF_COMMAS: Row<'static> = Row {
-    language: COMMAS,
-    input: Input::Row(&[1, 2, 1]),
-    ranking: Ranking::Rule,
-    wanted: Wanted::Reports(&[&[(0, 0, 0)], &[(0, 1, 0)], &[(0, 2, 0)], &[(0, 1, 0)]]),
-};
+const OF_COMMAS: Row<'static> = (
+    COMMAS,
+    Input::Row(&[1, 2, 1]),
+    Ranking::Rule,
+    Wanted::Reports(&[&[(0, 0, 0)], &[(0, 1, 0)], &[(0, 2, 0)], &[(0, 1, 0)]]),
+);
 
 // L is a list of x
 const BARE: Language = Language {
@@ -49,12 +49,12 @@ const BARE: Language = Language {
     lists: &[(0, 1, None)],
 };
 
-const OF_BARE: Row<'static> = Row {
-    language: BARE,
-    input: Input::Row(&[1, 1]),
-    ranking: Ranking::Rule,
-    wanted: Wanted::Reports(&[&[(0, 0, 0)], &[(0, 1, 0)], &[(0, 1, 0)]]),
-};
+const OF_BARE: Row<'static> = (
+    BARE,
+    Input::Row(&[1, 1]),
+    Ranking::Rule,
+    Wanted::Reports(&[&[(0, 0, 0)], &[(0, 1, 0)], &[(0, 1, 0)]]),
+);
 
 fn has_lines(lines: &[ReportLine], wanted: &[Line]) -> bool {
     let mut same = lines.len() == wanted.len();

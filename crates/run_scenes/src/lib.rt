@@ -25,6 +25,29 @@ pub struct Given<'a> {
     pub err_fails: &'a [u64],
 }
 
+/// The parts of the outside, each with calls that may fail.
+#[derive(Clone, Copy)]
+pub enum Device {
+    Files,
+    Input,
+    Out,
+    Err,
+}
+
+impl<'a> Given<'a> {
+    /// The same, where these calls of a device fail and no other of its calls does.
+    pub fn failing(self, device: Device, calls: &'a [u64]) -> Given<'a> {
+        let mut given = self;
+        match device {
+            Device::Files => given.files_fail = calls,
+            Device::Input => given.input_fails = calls,
+            Device::Out => given.out_fails = calls,
+            Device::Err => given.err_fails = calls,
+        }
+        given
+    }
+}
+
 // The words and the outside of a run.
 #[derive(Drop)]
 struct Scene {
@@ -51,6 +74,11 @@ impl Ended {
     /// What stands on the standard error.
     pub fn err(&self) -> &[u8] {
         self.scene.err.written()
+    }
+
+    /// Whether it ended so.
+    pub fn is(&self, status: u8, out: &[u8], err: &[u8]) -> bool {
+        self.status == status && self.out() == out && self.err() == err
     }
 
     /// How many names of files it asked for.
@@ -133,6 +161,7 @@ pub const WORKED: Given<'static> = Given {
 
 pub const WORKED_LINES: &[u8] = b"work 2: tokens 7 kept 55 nodes 17 expanded 2 values 1\n";
 
+/// The words of a command line.
 pub fn words_of(alloc: Global, texts: &[&str]) -> Result<Vec<String>, AllocError> {
     let mut words = Vec::new(alloc);
     for text in texts {

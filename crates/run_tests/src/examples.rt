@@ -1,6 +1,7 @@
 //! The examples, with what they give.
-use crate::runs::ends;
+use crate::runs::{Told, all_tell, tells};
 use run_scenes::{Given, SUM};
+use std::alloc::{AllocError, Global};
 use std::test::Fail;
 
 const SUM_GRAMMAR: &[u8] = br#"E ::= E '+' E | '1'
@@ -217,54 +218,67 @@ const EXAMPLES: [(&[u8], &[u8], &[u8]); 6] = [
     (JSON_GRAMMAR, JSON_INPUT, JSON_LINES),
 ];
 
+// Whether the example gives these lines.
+fn gives(alloc: Global, grammar: &[u8], file: &[u8], lines: &[u8]) -> Result<bool, AllocError> {
+    let given = Given {
+        words: &["run", "--grammar", "g.slif", "--input", "i.txt"],
+        grammar,
+        file,
+        ..SUM
+    };
+    tells(alloc, &given, lines)
+}
+
 #[test]
 fn examples_give_their_values(rt: HostRuntime) -> Result<(), Fail> {
     for (grammar, file, lines) in &EXAMPLES {
-        let given = Given {
-            words: &["run", "--grammar", "g.slif", "--input", "i.txt"],
-            grammar,
-            file,
-            ..SUM
-        };
-        assert!(rt; ends(rt.alloc(), &given, 0, lines, b"")?);
+        assert!(rt; gives(rt.alloc(), grammar, file, lines)?);
     }
     Ok(())
 }
 
 // The sum is shown as trees. Of the sentence the first reading by no rank is that of the first rule.
+const OTHER_WORDS: [Told<'static>; 2] = [
+    (
+        Given {
+            words: &[
+                "run",
+                "--show",
+                "tree",
+                "--input",
+                "i.txt",
+                "--grammar",
+                "g.slif",
+            ],
+            grammar: SUM_GRAMMAR,
+            file: SUM_INPUT,
+            ..SUM
+        },
+        SUM_LINES,
+    ),
+    (
+        Given {
+            words: &[
+                "run",
+                "--grammar",
+                "g.slif",
+                "--input",
+                "i.txt",
+                "--rank",
+                "none",
+                "--first",
+                "1",
+            ],
+            grammar: ARROW_GRAMMAR,
+            file: ARROW_INPUT,
+            ..SUM
+        },
+        ARROW_FIRST,
+    ),
+];
+
 #[test]
 fn examples_are_told_by_other_words(rt: HostRuntime) -> Result<(), Fail> {
-    let trees = Given {
-        words: &[
-            "run",
-            "--show",
-            "tree",
-            "--input",
-            "i.txt",
-            "--grammar",
-            "g.slif",
-        ],
-        grammar: SUM_GRAMMAR,
-        file: SUM_INPUT,
-        ..SUM
-    };
-    assert!(rt; ends(rt.alloc(), &trees, 0, SUM_LINES, b"")?);
-    let unranked = Given {
-        words: &[
-            "run",
-            "--grammar",
-            "g.slif",
-            "--input",
-            "i.txt",
-            "--rank",
-            "none",
-            "--first",
-            "1",
-        ],
-        grammar: ARROW_GRAMMAR,
-        file: ARROW_INPUT,
-        ..SUM
-    };
-    assert!(rt; ends(rt.alloc(), &unranked, 0, ARROW_FIRST, b"")?);
+    assert!(rt; all_tell(rt.alloc(), &OTHER_WORDS)?);
     Ok(())
 }

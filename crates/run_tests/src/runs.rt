@@ -19,18 +19,44 @@ fn both_tellers(alloc: Global) -> Result<Vec<Box<dyn Teller>>, AllocError>
     Ok(tellers)
 }
 
+/// Runs what is given, with a teller of each kind.
 pub fn run_of(alloc: Global, given: &Given<'_>) -> Result<Ended, AllocError> {
     run_with(alloc, given, both_tellers(alloc)?)
 }
 
-/// Whether a run ends so.
-pub fn ends(
+/// A run that ends well, and what it tells.
+pub type Told<'a> = (Given<'a>, &'a [u8]);
+
+/// Whether a run ends well and tells these lines.
+pub fn tells(alloc: Global, given: &Given<'_>, lines: &[u8]) -> Result<bool, AllocError> {
+    Ok(run_of(alloc, given)?.is(0, lines, b""))
+}
+
+/// Whether each run ends well and tells its lines.
+pub fn all_tell(alloc: Global, rows: &[Told<'_>]) -> Result<bool, AllocError> {
+    for (given, lines) in rows {
+        if !tells(alloc, given, lines)? {
+            return Ok(false);
+        }
+    }
+    Ok(true)
+}
+
+/// Whether a job tells the lines of each grammar and input.
+pub fn all_told(
     alloc: Global,
-    given: &Given<'_>,
-    status: u8,
-    out: &[u8],
-    err: &[u8],
+    job: &Given<'_>,
+    rows: &[(&[u8], &[u8], &[u8])],
 ) -> Result<bool, AllocError> {
-    let end = run_of(alloc, given)?;
-    Ok(end.status == status && end.out() == out && end.err() == err)
+    for (grammar, input, lines) in rows {
+        let given = Given {
+            grammar,
+            input,
+            ..*job
+        };
+        if !tells(alloc, &given, lines)? {
+            return Ok(false);
+        }
+    }
+    Ok(true)
 }

@@ -2,6 +2,7 @@
 use command_line::{Job, RunAsked, read_words};
 use grammar_model::{Ranking, Show};
 use run_scenes::words_of;
+use std::alloc::{AllocError, Global};
 use std::test::Fail;
 
 fn is_all_given(asked: &RunAsked<'_>) -> bool {
@@ -22,11 +23,53 @@ fn is_all_left_out(asked: &RunAsked<'_>) -> bool {
         && !asked.stats
 }
 
-#[test]
-fn options_stand_in_any_order_and_spelling(rt: HostRuntime) -> Result<(), Fail> {
-    let alloc = rt.alloc();
-    let words = words_of(
-        alloc,
+// What words ask for.
+#[derive(Clone, Copy)]
+enum Asked {
+    AllGiven,
+    AllLeftOut,
+    Check,
+    Expect,
+    Progress,
+    Work,
+    Nothing,
+}
+
+fn is_asked(job: Option<Job<'_>>, wanted: Asked) -> bool {
+    match (job, wanted) {
+        (Some(Job::Run(asked)), Asked::AllGiven) => is_all_given(&asked),
+        (Some(Job::Run(asked)), Asked::AllLeftOut) => is_all_left_out(&asked),
+        (Some(Job::Check { grammar }), Asked::Check) => grammar == "g",
+        (Some(Job::Expect { grammar, input }), Asked::Expect) => {
+            grammar == "--" && input == Some("-x")
+        }
+        (Some(Job::Progress { grammar, at, input }), Asked::Progress) => {
+            grammar == "g" && at == 16_777_216 && input.is_none()
+        }
+        (Some(Job::Work { size }), Asked::Work) => size == 100_000,
+        (None, Asked::Nothing) => true,
+        _ => false,
+    }
+}
+
+// Whether words ask for this.
+fn asks(alloc: Global, texts: &[&str], wanted: Asked) -> Result<bool, AllocError> {
+    let words = words_of(alloc, texts)?;
+    Ok(is_asked(read_words(alloc, &words)?, wanted))
+}
+
+// Whether all words ask for this.
+fn all_ask(alloc: Global, rows: &[(&[&str], Asked)]) -> Result<bool, AllocError> {
+    for (texts, wanted) in rows {
+        if !asks(alloc, texts, *wanted)? {
+            return Ok(false);
+        }
+    }
+    Ok(true)
+}
+
+const OPTIONS: [(&[&str], Asked); 2] = [
+    (
         &[
             "--first=07",
             "--rank",
@@ -38,50 +81,30 @@ fn options_stand_in_any_order_and_spelling(rt: HostRuntime) -> Result<(), Fail> 
             "--input",
             "i.txt",
         ],
-    )?;
-    let all = match read_words(alloc, &words)? {
-        Some(Job::Run(asked)) => is_all_given(&asked),
-        _ => false,
-    };
-    assert!(rt; all);
-    let words = words_of(alloc, &["--grammar", "g.slif", "--", "run"])?;
-    let none = match read_words(alloc, &words)? {
-        Some(Job::Run(asked)) => is_all_left_out(&asked),
-        _ => false,
-    };
-    assert!(rt; none);
+        Asked::AllGiven,
+    ),
+    (&["--grammar", "g.slif", "--", "run"], Asked::AllLeftOut),
+];
+
+#[test]
+fn options_stand_in_any_order_and_spelling(rt: HostRuntime) -> Result<(), Fail> {
+    assert!(rt; all_ask(rt.alloc(), &OPTIONS)?);
     Ok(())
 }
 
+const JOBS: [(&[&str], Asked); 4] = [
+    (&["check", "--grammar", "g"], Asked::Check),
+    (&["expect", "--input=-x", "--grammar=--"], Asked::Expect),
+    (
+        &["progress", "--at", "16777216", "--grammar", "g"],
+        Asked::Progress,
+    ),
+    (&["work", "--size=0000100000"], Asked::Work),
+];
+
 #[test]
 fn each_job_is_read(rt: HostRuntime) -> Result<(), Fail> {
-    let alloc = rt.alloc();
-    let words = words_of(alloc, &["check", "--grammar", "g"])?;
-    let check = match read_words(alloc, &words)? {
-        Some(Job::Check { grammar }) => grammar == "g",
-        _ => false,
-    };
-    assert!(rt; check);
-    let words = words_of(alloc, &["expect", "--input=-x", "--grammar=--"])?;
-    let expect = match read_words(alloc, &words)? {
-        Some(Job::Expect { grammar, input }) => grammar == "--" && input == Some("-x"),
-        _ => false,
-    };
-    assert!(rt; expect);
-    let words = words_of(alloc, &["progress", "--at", "16777216", "--grammar", "g"])?;
-    let progress = match read_words(alloc, &words)? {
-        Some(Job::Progress { grammar, at, input }) => {
-            grammar == "g" && at == 16_777_216 && input.is_none()
-        }
-        _ => false,
-    };
-    assert!(rt; progress);
-    let words = words_of(alloc, &["work", "--size=0000100000"])?;
-    let work = match read_words(alloc, &words)? {
-        Some(Job::Work { size }) => size == 100_000,
-        _ => false,
-    };
-    assert!(rt; work);
+    assert!(rt; all_ask(rt.alloc(), &JOBS)?);
     Ok(())
 }
 
@@ -107,8 +130,7 @@ const NOTHING: [&[&str]; 16] = [
 #[test]
 fn other_words_ask_for_nothing(rt: HostRuntime) -> Result<(), Fail> {
     for texts in &NOTHING {
-        let words = words_of(rt.alloc(), texts)?;
-        assert!(rt; read_words(rt.alloc(), &words)?.is_none());
+        assert!(rt; asks(rt.alloc(), texts, Asked::Nothing)?);
     }
     Ok(())
 }

@@ -28,6 +28,7 @@ pub struct Work<'p> {
 }
 
 impl<'p> Work<'p> {
+    /// A lexer of its own for the grammar, with nothing tried yet.
     pub fn new(alloc: Global, p: &'p Prepared) -> Result<Work<'p>, AllocError>
         ensures { IfOk result (λ work. IsLexerOf p.now work.lexer) }
     {

@@ -171,6 +171,7 @@ impl Prepared {
         self.built.l0.start_count()
     }
 
+    /// How many discards there are.
     pub fn discard_count(&self) -> usize
         ensures { result ≡ length self.now.discards }
     {

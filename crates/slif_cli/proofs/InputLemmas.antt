@@ -1,73 +1,10 @@
--- What pieces of a reading name, and what is told of an input.
-use Rattle.std.proofs.Common.{Vec, Global, ◌≡◌, ℕ, ◌<◌, ◌≤◌, ◌++◌, [], ◌∷◌, List, length, map, All, Contains, refl, sym, ap, subst, ◌∙◌, chars, codes, decimal, IsUtf8, drop, take, get_or, append_assoc, arith, ◌-◌}
-use Rattle.std.proofs.lemmas.List.{take_all}
-use Rattle.std.specs.List.{flat_map}
+-- What is told of an input that is refused, and the names of symbols.
+use Rattle.std.proofs.Common.{◌≡◌, ℕ, ◌≤◌, ◌++◌, [], ◌∷◌, List, length, map, ap, ◌∙◌, chars, IsUtf8}
 use Rattle.grammar_model.specs.Grammar.{Grammar}
-use Rattle.std.proofs.lemmas.List.Elements.{All-weaker, All-contains_itself, All-contains}
-use Rattle.grammar_core.specs.declared.steps.Span.{Span}
 use Rattle.grammar_model.specs.Values.{name_of}
-use Rattle.language_model.specs.Building.{Built, LexemeRow}
-use Rattle.dsl_build.specs.Ranges.{IsInRange}
-use Rattle.slif_base.specs.Characters.{RefusesText}
-use Rattle.slif_base.specs.declared.chars.TextRefusal.{TextRefusal}
-use Rattle.slif_base.specs.declared.chars.TextRefusal.TheVariants.{NotUtf8 as BrokenText}
-use Rattle.reading_model.specs.Reading.{Piece, Stopped, IsReading, HasStopped, AreFound, AreExpected}
-use Rattle.earley_sets.specs.Recognizer.{Recognizer}
-use Rattle.scanless.specs.Reading.{IsReadingOf, ending_of}
-use Rattle.scanless.specs.declared.reading.Ending.{Ending as HeldEnding}
-use Rattle.scanless.specs.declared.reading.Ending.TheVariants.{Stopped as Stops}
-use Rattle.run_model.specs.Inputs.{IsInputRefused, NotUtf8, ReadingStops, stop_text, names_text}
+use Rattle.language_model.specs.Building.{Built}
+use Rattle.run_model.specs.Inputs.{IsInputRefused, NotUtf8, ReadingStops}
 use Rattle.slif_cli.specs.Stops.{IsBrokenText, IsStopText}
-
--- SYMBOLS
-
-module _ (b : Built) (ranges : IsInRange b) where
-  abbrev Known : ℕ → Type 0
-  Known s = s < length b.g1.names
-
-  row_known : (l : LexemeRow) → Contains b.lexemes l → Known l.symbol
-  row_known l among = All-contains (λ (r : LexemeRow). r.symbol < length b.g1.names) b.lexemes l ranges.symbols among
-
-  all_known : (symbols : List ℕ) → ((s : ℕ) → Contains symbols s → Known s) → All Known symbols
-  all_known symbols each = All-weaker (Contains symbols) Known each symbols (All-contains_itself symbols)
-
-  pub expected_known : (pieces : List Piece) (symbols : List ℕ) → AreExpected b pieces symbols → All Known symbols
-  expected_known pieces symbols are =
-      all_known symbols (λ s among. let (l, lexeme, is, next) = (are.exact s).0 among in subst Known is (row_known l lexeme))
-
-  found_known : (text : List ℕ) (pieces : List Piece) (at : ℕ) (symbols : List ℕ) → AreFound b text pieces at symbols → All Known symbols
-  found_known text pieces at symbols are =
-      all_known symbols (λ s among. let f = (are.exact s).0 among in subst Known f.symbol_is (row_known f.row f.lexeme))
-
-  pub stopped_known : (text : List ℕ) (pieces : List Piece) (at : ℕ) (found expected : List ℕ) → IsReading b text pieces (Stopped at found expected) → All Known found × All Known expected
-  stopped_known text pieces at found expected (HasStopped reads below stuck are_found are_expected) =
-      (found_known text pieces at found are_found, expected_known pieces expected are_expected)
-
-  pub stops_known : (text : List ℕ) (recce : Recognizer) (spans : List Span) (ending : HeldEnding) (at : ℕ) (found expected : Vec ℕ Global) → ending ≡ Stops at found expected → IsReadingOf b text recce spans ending →
-      All Known found.items × All Known expected.items
-  stops_known text recce spans ending at found expected is read =
-      stopped_known text read.pieces at found.items expected.items (subst (λ (e : HeldEnding). IsReading b text read.pieces (ending_of e)) is read.is_reading)
-
-  pub known_in : (w : Grammar) (xs ys : List ℕ) → w ≡ b.g1 → xs ≡ ys → All Known ys → All (λ s. s < length w.names) xs
-  known_in w xs ys same is all = subst (λ (g : Grammar). All (λ s. s < length g.names) xs) (sym same) (subst (All Known) (sym is) all)
-
-pub stop_told : (b : Built) (text : List ℕ) (recce : Recognizer) (spans : List Span) (ending : HeldEnding) (at : ℕ) (found expected : Vec ℕ Global) → ending ≡ Stops at found expected → IsReadingOf b text recce spans ending →
-    (w : Grammar) (xs ys : List ℕ) → w ≡ b.g1 → xs ≡ found.items → ys ≡ expected.items → (t : List ℕ) → t ≡ stop_text w text at xs ys → IsStopText b text t
-stop_told b text recce spans ending at found expected is read w xs ys same is_found is_expected t told = record {
-  pieces = read.pieces;
-  at = at;
-  found = found.items;
-  expected = expected.items;
-  reading = subst (λ (e : HeldEnding). IsReading b text read.pieces (ending_of e)) is read.is_reading;
-  told = told ∙ cc (same, is_found, is_expected);
-}
-
--- AN INPUT THAT IS REFUSED
-
-pub broken_input : (bytes text : List ℕ) (e : TextRefusal) (at : ℕ) → e ≡ BrokenText at → RefusesText bytes e → text ≡ codes "input is not UTF-8 at byte " ++ decimal at → IsBrokenText bytes text
-broken_input bytes text e at is refuses told =
-    let broken = subst (RefusesText bytes) is refuses in
-    record { at = at; broken = broken.0; front = broken.1; told = told }
 
 module _ (b : Built) (bytes : List ℕ) (within : length bytes ≤ 16777216) where
   pub refused_broken : (text : List ℕ) → IsBrokenText bytes text → IsInputRefused b bytes text
@@ -75,21 +12,6 @@ module _ (b : Built) (bytes : List ℕ) (within : length bytes ≤ 16777216) whe
 
   pub refused_stop : IsUtf8 bytes → (text : List ℕ) → IsStopText b (chars bytes) text → IsInputRefused b bytes text
   refused_stop utf8 text stop = ReadingStops stop.pieces stop.at stop.found stop.expected (record { within = within; utf8 = utf8 }) stop.reading stop.told
-
--- NAMES
-
-flat_named : (g : Grammar) (symbols : List ℕ) → flat_map (λ n. codes ", " ++ n) (map (name_of g) symbols) ≡ flat_map (λ s. codes ", " ++ name_of g s) symbols
-flat_named g [] = refl
-flat_named g (s ∷ ss) = ap (λ rest. (codes ", " ++ name_of g s) ++ rest) (flat_named g ss)
-
-pub names_after : (g : Grammar) (symbols : List ℕ) (first : ℕ) (text middle new : List ℕ) → 0 < length symbols → first ≡ get_or symbols 0 first → middle ≡ text ++ name_of g first →
-    new ≡ middle ++ flat_map (λ s. codes ", " ++ name_of g s) (take (length symbols - 1) (drop 1 symbols)) → new ≡ text ++ names_text g symbols
-names_after g [] first text middle new some is at e = absurd (omega (arith, some))
-names_after g (s ∷ ss) first text middle new some is at e =
-    e ∙ ap (λ rest. middle ++ flat_map (λ s. codes ", " ++ name_of g s) rest) (take_all (length (s ∷ ss) - 1) ss (omega arith))
-    ∙ ap (λ l. l ++ flat_map (λ s. codes ", " ++ name_of g s) ss) (at ∙ ap (λ k. text ++ name_of g k) is)
-    ∙ append_assoc text (name_of g s) (flat_map (λ s. codes ", " ++ name_of g s) ss)
-    ∙ ap (λ rest. text ++ (name_of g s ++ rest)) (sym (flat_named g ss))
 
 pub names_as : (b : Built) (w : Grammar) (xs ys : List ℕ) (lines : List (List ℕ)) → w ≡ b.g1 → xs ≡ ys → lines ≡ map (λ s. name_of w s ++ 10 ∷ []) xs → lines ≡ map (λ s. name_of b.g1 s ++ 10 ∷ []) ys
 names_as b w xs ys lines same is e = e ∙ ap (λ (g : Grammar). map (λ s. name_of g s ++ 10 ∷ []) xs) same ∙ ap (map (λ s. name_of b.g1 s ++ 10 ∷ [])) is

@@ -1,5 +1,5 @@
 -- What the words, the files and the input come to.
-use Rattle.std.proofs.Common.{◌≡◌, ℕ, List, [], ◌∷◌, ◌++◌, Option, inl, inr, ◌⊎◌, refl, subst, Some, None, IfSome, false, ◌∙◌, ap, sym, append-nil}
+use Rattle.std.proofs.Common.{◌≡◌, ℕ, List, [], ◌∷◌, ◌++◌, Option, inl, inr, ◌⊎◌, refl, subst, Some, None, IfSome, ◌∙◌, ap, sym, append-nil}
 use Rattle.outside_model.specs.Told.{ToldFile, MayHold, FileHolds, AsksAmong, AddsNames}
 use Rattle.slif_base.proofs.Bytes.{appends_none}
 use Rattle.language_model.specs.Building.{Built}

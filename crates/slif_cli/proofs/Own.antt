@@ -29,7 +29,7 @@ use Rattle.run_model.specs.Listing.{AreDerivations}
 use Rattle.run_model.specs.Numbers.{Numbers, HasNumbers}
 use Rattle.run_model.specs.Jobs.{work_grammar, work_input}
 use Rattle.run_model.specs.Telling.{work_line}
-use Rattle.run_model.specs.Outcome.{Outcome, IsWorkOutcome, done}
+use Rattle.run_model.specs.Outcome.{IsWorkOutcome, done}
 use Rattle.run_model.specs.Steps.{GivesWithin}
 use Rattle.run_model.proofs.Accepted.{one_built, not_refused}
 use Rattle.work_laws.proofs.Working.{work_has_one}
@@ -39,7 +39,7 @@ use Rattle.slif_cli.specs.declared.stop.Refusal.TheVariants.{Usage, Grammar as B
 use Rattle.slif_cli.specs.declared.stop.Stop.{Stop}
 use Rattle.slif_cli.specs.declared.stop.Stop.TheVariants.{Refused, OpenFault, ReadFault, WriteFault, NoMemory}
 use Rattle.slif_cli.proofs.GrammarLaws.{grammar_laws}
-use Rattle.slif_cli.proofs.Derived.{listed, some_listing}
+use Rattle.text_reading.proofs.Derived.{listed, some_listing}
 use Rattle.slif_cli.proofs.Within.{within}
 
 pub work_length : (n : ℕ) → length (work_input n) ≡ 3 * n + 1

@@ -1,8 +1,8 @@
 -- How many steps the parts of a run take.
-use Rattle.std.proofs.Common.{◌≡◌, ℕ, ◌+◌, ◌≤◌, List, [], ◌∷◌, Option, Some, None, inl, inr, ◌⊎◌, length, map, Contains, refl, sym, ap, subst, ◌∙◌, arith, chars, slice_get}
+use Rattle.std.proofs.Common.{◌≡◌, ℕ, ◌+◌, ◌≤◌, List, [], ◌∷◌, Option, Some, inl, inr, map, refl, sym, ap, subst, ◌∙◌, arith, chars, slice_get}
 use Rattle.std.specs.List.{sum_by}
 use Rattle.std.proofs.lemmas.List.{length-map}
-use Rattle.outside_model.specs.Told.{ToldFile, FileHolds}
+use Rattle.outside_model.specs.Told.{ToldFile}
 use Rattle.finite_sets.proofs.Members.{Among, Once, among_from, contains_from, among_map, among_map_from, once_pairs, pairs_once}
 use Rattle.grammar_model.specs.Trees.{Tree}
 use Rattle.grammar_model.specs.Derives.{Held}
@@ -10,7 +10,7 @@ use Rattle.grammar_model.specs.declared.Edge.{Edge}
 use Rattle.grammar_model.specs.declared.Ranking.{Ranking}
 use Rattle.grammar_core.specs.declared.steps.Span.{Span}
 use Rattle.recognizer_model.specs.FlatForm.{FlatEdges}
-use Rattle.recognizer_model.specs.Counts.{IsListOf, IsCountOf}
+use Rattle.recognizer_model.specs.Counts.{IsCountOf}
 use Rattle.recognizer_model.specs.Links.{choices}
 use Rattle.recognizer_model.specs.Chosen.{allowed_by}
 use Rattle.recognizer_model.specs.Nodes.{IsExpanded}
@@ -26,22 +26,21 @@ use Rattle.reading_model.specs.Reading.{Piece, End, place_after}
 use Rattle.reading_model.proofs.One.{reading_is_one}
 use Rattle.scanless.specs.Reading.{HoldsPieces, IsReadingOf}
 use Rattle.scanless.specs.declared.reading.Ending.TheVariants.{End as AtEnd}
-use Rattle.words_model.specs.Words.{Job, RunAsked, InputFrom, Asks}
+use Rattle.words_model.specs.Words.{Job, RunAsked, Asks}
 use Rattle.words_model.proofs.Asked.{asks_once}
 use Rattle.run_model.specs.Inputs.{IsInputText}
-use Rattle.run_model.specs.Listing.{AreDerivations, first_of}
+use Rattle.run_model.specs.Listing.{first_of}
 use Rattle.run_model.specs.Jobs.{Task}
 use Rattle.run_model.specs.Jobs.Task.{Values, Expected, Report}
 use Rattle.run_model.specs.Outside.{Stream}
 use Rattle.run_model.specs.Runs.{Supplied}
-use Rattle.run_model.specs.Steps.{PlacedLink, IsPlacedLink, PlacedSymbol, IsLeoPair, IsWithinSteps, GivesWithin, DoesWithin, RunsWithin}
-use Rattle.slif_cli.specs.Stops.{InputHolds, MayHave, Does, Reports, refusal_outcome}
+use Rattle.run_model.specs.Steps.{IsPlacedLink, IsLeoPair, IsWithinSteps, DoesWithin, RunsWithin}
+use Rattle.slif_cli.specs.Stops.{Reports}
 use Rattle.slif_cli.specs.Tasks.{HasForest, TaskWithin, ListsWithin, TellsWithin}
-use Rattle.slif_cli.specs.declared.stop.Refusal.{Refusal}
 use Rattle.slif_cli.specs.declared.stop.Refusal.TheVariants.{Usage, Grammar as BadGrammar, Input as BadInput}
 use Rattle.slif_cli.specs.declared.stop.Stop.{Stop}
 use Rattle.slif_cli.specs.declared.stop.Stop.TheVariants.{Refused, OpenFault, ReadFault, WriteFault, NoMemory}
-use Rattle.slif_cli.proofs.Derived.{listed, some_listing}
+use Rattle.text_reading.proofs.Derived.{listed, some_listing}
 
 -- THE SAME COUNT OF OTHER VALUES
 

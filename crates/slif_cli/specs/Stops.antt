@@ -1,21 +1,15 @@
 -- What is known where a part of the work stops.
-use Rattle.std.specs.Prelude.{◌≡◌, ℕ, List, [], ◌∷◌, ◌++◌, ◌⊎◌, Option, Some, None, ⊤, ◌<◌, length, map, codes, decimal, IsUtf8}
+use Rattle.std.specs.Prelude.{◌≡◌, ℕ, List, [], ◌∷◌, ◌++◌, ◌⊎◌, Option, ⊤, ◌<◌, length, codes, decimal, IsUtf8}
 use Rattle.std.specs.Str.{IsValidUpTo}
 use Rattle.std.specs.List.{concat}
 use Rattle.std.specs.Io.KnownBytes.{Appends}
 use Rattle.outside_model.specs.Causes.{Rose}
 use Rattle.outside_model.specs.Told.{ToldFile, Holds, FileHolds, AppendsPrefix}
-use Rattle.language_model.specs.declared.token.Token.{Token}
-use Rattle.language_model.specs.Tokens.{AreTokens, IsBadPlace, spelled_at}
-use Rattle.language_model.specs.Description.{Statement, Describes, IsBadStatement}
-use Rattle.language_model.specs.Building.{Built, BuildFault, faults_of}
-use Rattle.language_model.specs.Texts.{IsBuiltOf}
-use Rattle.reading_model.specs.Accepted.{GrammarFault, HasGrammarFault}
+use Rattle.language_model.specs.Building.{Built}
 use Rattle.reading_model.specs.Reading.{Piece, Stopped, IsReading}
 use Rattle.words_model.specs.Words.{Job, InputFrom, Asks}
 use Rattle.words_model.specs.Words.InputFrom.{Nowhere, StandardInput, FileNamed}
-use Rattle.run_model.specs.Texts.{place_text}
-use Rattle.run_model.specs.Refused.{IsRefused, build_text, grammar_text}
+use Rattle.run_model.specs.Refused.{IsRefused}
 use Rattle.run_model.specs.Checking as checks
 use Rattle.run_model.specs.Inputs.{stop_text}
 use Rattle.run_model.specs.Outcome.{Outcome, usage, refused}
@@ -57,34 +51,6 @@ LoadStops name told before after (OpenFault asked) = Rose before after × (asked
 LoadStops name told before after ReadFault = Rose before after
 LoadStops name told before after WriteFault = ⊥
 LoadStops name told before after NoMemory = ⊤
-
--- the characters have this description
-pub record IsDescriptionOf (d : List Statement) (cs : List ℕ) : Type 0 where
-  pub tokens : List Token
-  pub are : AreTokens cs tokens
-  pub described : Describes d (map (spelled_at cs) tokens)
-
--- why characters have no description, as it is told
-pub data IsBadText (cs text : List ℕ) : Type 0 where
-  OfTokens : (at : ℕ) → IsBadPlace cs at → text ≡ codes "grammar: bad token at " ++ place_text cs at → IsBadText cs text
-  OfStatements : (at : ℕ) (tokens : List Token) → AreTokens cs tokens → IsBadStatement (map (spelled_at cs) tokens) at →
-      text ≡ codes "grammar: bad statement at " ++ place_text cs at → IsBadText cs text
-
--- why grammars are not accepted, as it is told
-pub record IsGrammarText (b : Built) (text : List ℕ) : Type 0 where
-  pub fault : GrammarFault
-  pub has : HasGrammarFault b fault
-  pub told : text ≡ grammar_text b fault
-
--- what is told of a fault of the description, where there is one
-abbrev pub IsFaultText : List ℕ → Option BuildFault → List ℕ → Type 0
-IsFaultText cs None text = ⊥
-IsFaultText cs (Some fault) text = text ≡ codes "grammar: " ++ build_text cs fault
-
--- why a description of these characters is not accepted, as it is told
-pub data IsBadDescription (cs : List ℕ) (d : List Statement) (text : List ℕ) : Type 0 where
-  OfBuilding : (fault : BuildFault) (others : List BuildFault) → faults_of d ≡ fault ∷ others → text ≡ codes "grammar: " ++ build_text cs fault → IsBadDescription cs d text
-  OfGrammars : (b : Built) → IsBuiltOf d b → IsGrammarText b text → IsBadDescription cs d text
 
 -- THE INPUT
 

@@ -1,18 +1,11 @@
 -- What is known where a task is told.
-use Rattle.std.specs.Prelude.{◌≡◌, ℕ, List, [], Some, ⊤, slice_index_or}
-use Rattle.grammar_model.specs.Grammar.{Grammar, slot_of}
+use Rattle.std.specs.Prelude.{◌≡◌, ℕ, List, [], Some, ⊤}
 use Rattle.grammar_model.specs.Trees.{Tree}
-use Rattle.grammar_model.specs.Derives.{Held, Derives}
-use Rattle.grammar_model.specs.declared.Edge.{Edge}
 use Rattle.grammar_model.specs.declared.Ranking.{Ranking}
-use Rattle.grammar_model.specs.Chosen.{IsChosen}
-use Rattle.grammar_core.specs.declared.steps.Span.{Span}
 use Rattle.earley_sets.specs.Recognizer.{Recognizer}
 use Rattle.earley_sets.specs.Counted.{TakesAtMost}
-use Rattle.forest_model.specs.Forest.{Forest}
 use Rattle.language_model.specs.Building.{Built}
-use Rattle.reading_model.specs.Reading.{Piece, End, IsReading, AreExpected, edges_of, place_after}
-use Rattle.scanless.specs.Reading.{HoldsPieces}
+use Rattle.reading_model.specs.Reading.{Piece, End, IsReading, AreExpected}
 use Rattle.words_model.specs.Words as words
 use Rattle.words_model.specs.Words.{InputFrom, grammar_file, input_from}
 use Rattle.run_model.specs.Jobs as model
@@ -21,7 +14,7 @@ use Rattle.run_model.specs.Listing.{AreDerivations, first_of}
 use Rattle.run_model.specs.Telling.{Outcome, Tells, no_derivation_text}
 use Rattle.run_model.specs.Outcome.{IsJobOutcome, IsGrammarOutcome, IsTaskOutcome}
 use Rattle.run_model.specs.Steps.{IsWithinSteps, GivesWithin, DoesWithin}
-use Rattle.value_lines.specs.Lines.{IsForestOf}
+pub use Rattle.text_reading.specs.Parts.{HasForest}
 use Rattle.command_line.specs.Jobs.{asked_of}
 use Rattle.value_lines.specs.declared.writing.WriteRefusal.{WriteRefusal}
 use Rattle.value_lines.specs.declared.writing.WriteRefusal.TheVariants.{WriteFault, NoMemory}
@@ -49,27 +42,6 @@ pub record IsNoDerivation (b : Built) (ranking : Ranking) (cs text : List ℕ) :
   pub expected : List ℕ
   pub are : AreExpected b pieces expected
   pub told : text ≡ no_derivation_text b.g1 expected
-
--- the recognizer holds some pieces
-abbrev pub HoldsSome : Built → Recognizer → Type 0
-HoldsSome b recce = (pieces : List Piece) × HoldsPieces b pieces recce
-
--- the text tells what is expected behind the pieces that the recognizer holds
-abbrev pub TellsEnd : Built → Recognizer → List ℕ → Type 0
-TellsEnd b recce text = (expected : List ℕ) × ((pieces : List Piece) → HoldsPieces b pieces recce → AreExpected b pieces expected) × (text ≡ no_derivation_text b.g1 expected)
-
--- a derivation of a start over all places that the ranking chooses
-abbrev pub IsChosenOf : Grammar → List Edge → Ranking → (start place : ℕ) → Tree → Type 0
-IsChosenOf g edges ranking start place t =
-    Derives g (Held edges) (slot_of (slice_index_or g.starts start 0)) 0 place t × IsChosen ranking g (Held edges) (slot_of (slice_index_or g.starts start 0)) t
-
--- the forest of the characters' chosen derivations, of which there is one
-pub record HasForest (b : Built) (ranking : Ranking) (cs : List ℕ) (spans : List Span) (f : Forest) : Type 0 where
-  pub pieces : List Piece
-  pub of : IsForestOf b cs spans f pieces
-  pub ranking_is : f.ranking ≡ ranking
-  pub tree : Tree
-  pub chosen : IsChosenOf b.g1 (edges_of pieces) ranking 0 (place_after pieces) tree
 
 -- STEPS
 

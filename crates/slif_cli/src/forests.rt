@@ -7,17 +7,15 @@ ghost use Rattle.earley_sets.specs.Recognizer.{edges_of, top_of, place_of};
 ghost use Rattle.scanless.specs.Reading.{IsReadingOf};
 ghost use Rattle.scanless.specs.declared.reading.Ending.TheVariants.{End};
 ghost use Rattle.slif_cli.specs.Stops.{TellsInput};
-ghost use Rattle.slif_cli.specs.Tasks.{HasForest, HoldsSome, IsNoDerivation, TellsEnd};
+ghost use Rattle.slif_cli.specs.Tasks.{HasForest, IsNoDerivation};
 
-use crate::reading::append_names;
-use crate::stop::{Refusal, Stop};
-use bocage::{Forest, ForestRefusal};
+use crate::stop::{Stop, stop_of};
+use bocage::Forest;
 use bumpalo::Bump;
-use earley_sets::trees_are_derivations;
 use grammar_model::Ranking;
-use scanless::{Prepared, Reading, expected_lexemes};
+use scanless::{Prepared, Reading};
 use slif_base::{Chars, Steps};
-use std::alloc::{AllocError, Global};
+use std::alloc::Global;
 use std::sync::ledger::Ledger;
 
 /// The forest of the derivations, in the arena; or the input ended without one.
@@ -36,40 +34,8 @@ pub fn forest_of<'r, 'a, L: Ledger>(
     ensures stops { IfErr result (TellsInput (IsNoDerivation prepared.now ranking chars.now)) }
     ensures counted { (n : ℕ) → IsCountOf (IsExpanded reading.now.recce.flat (edges_of reading.now.recce) (allowed_by prepared.now.g1 ranking reading.now.recce.flat (edges_of reading.now.recce)) (top_of reading.now.recce) (place_of reading.now.recce)) n → steps.new ≤ steps.old + n }
 {
-    trees_are_derivations();
-    prepared.known();
-    let _flat = prepared.flat();
-    let _place = reading.recce.place();
-    let _ = chars;
-    match Forest::build(
-        alloc,
-        arena,
-        &reading.recce,
-        prepared.written(),
-        ranking,
-        steps,
-    ) {
+    match text_reading::forest_of(alloc, arena, prepared, ranking, chars, reading, steps) {
         Ok(forest) => Ok(forest),
-        Err(ForestRefusal::NoParse) => {
-            let text = no_derivation_text(alloc, prepared, reading)?;
-            Err(Stop::Refused(Refusal::Input { text }))
-        }
-        Err(ForestRefusal::NoMemory) => Err(Stop::NoMemory),
+        Err(refusal) => Err(stop_of(refusal)),
     }
-}
-
-// What is told where there is no derivation.
-fn no_derivation_text(
-    alloc: Global,
-    prepared: &Prepared,
-    reading: &Reading<'_>,
-) -> Result<Vec<u8>, AllocError>
-    requires { HoldsSome prepared.now reading.now.recce }
-    ensures { IfOk result (λ text. TellsEnd prepared.now reading.now.recce text.items) }
-{
-    prepared.known();
-    let symbols = expected_lexemes(alloc, prepared, &reading.recce)?;
-    let mut text = Vec::from_slice(alloc, b"input ended without a derivation; expected: ")?;
-    append_names(prepared.written(), &symbols, &mut text)?;
-    Ok(text)
 }

@@ -1,5 +1,5 @@
 // The input: its bytes, and its characters.
-ghost use Rattle.std.specs.Prelude.{◌≡◌, ◌≤◌, ◌⊎◌, ◌++◌, [], ◌∷◌, length, chars as chars_in, codes, decimal, option_copied, IsUtf8, IfOk, IfErr, OnOk};
+ghost use Rattle.std.specs.Prelude.{◌≡◌, ◌≤◌, ◌⊎◌, [], ◌∷◌, length, chars as chars_in, codes, option_copied, IsUtf8, IfOk, IfErr, OnOk};
 ghost use Rattle.outside_model.specs.Causes.{Rose};
 ghost use Rattle.outside_model.specs.Told.{MayBe, MayHold, SameFiles, AsksAmong};
 ghost use Rattle.words_model.specs.Words.{input_named};
@@ -7,10 +7,8 @@ ghost use Rattle.words_model.specs.Words.InputFrom.{StandardInput};
 ghost use Rattle.run_model.specs.Runs.{InputMayBe};
 ghost use Rattle.slif_cli.specs.Stops.{ReadStops, FileStops, SourceStops, TellsInput, IsBrokenText, names_from};
 
-use crate::stop::{Refusal, Stop};
-use slif_base::{
-    Chars, FileRefusal, Files, ReadRefusal, Source, TextRefusal, chars_of, read_all, read_named,
-};
+use crate::stop::{Refusal, Stop, stop_of};
+use slif_base::{Chars, FileRefusal, Files, ReadRefusal, Source, read_all, read_named};
 use std::alloc::{AllocError, Global};
 
 const LIMIT: usize = 16_777_216;
@@ -89,19 +87,8 @@ pub fn input_chars<'a>(alloc: Global, bytes: &[u8]) -> Result<Chars, Stop<'a>>
     ensures ok { IfOk result (λ chars. chars ≡ chars_in bytes.now) }
     ensures stops { IfErr result (TellsInput (IsBrokenText bytes.now)) }
 {
-    match chars_of(alloc, bytes) {
+    match text_reading::input_chars(alloc, bytes) {
         Ok(chars) => Ok(chars),
-        Err(TextRefusal::NotUtf8 { at }) => {
-            let text = not_utf8_text(alloc, at)?;
-            Err(Stop::Refused(Refusal::Input { text }))
-        }
-        Err(TextRefusal::NoMemory) => Err(Stop::NoMemory),
+        Err(refusal) => Err(stop_of(refusal)),
     }
-}
-
-fn not_utf8_text(alloc: Global, at: usize) -> Result<Vec<u8>, AllocError>
-    ensures { IfOk result (λ text. text.items ≡ codes "input is not UTF-8 at byte " ++ decimal at) }
-{
-    let text = format!(in alloc; "input is not UTF-8 at byte {at}")?;
-    Ok(text.into_bytes())
 }

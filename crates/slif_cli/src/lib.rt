@@ -9,7 +9,6 @@ mod inputs;
 mod laws;
 mod messages;
 mod reading;
-mod refusals;
 mod reporting;
 mod stop;
 mod task;

@@ -1,16 +1,15 @@
 // What is told of a stop on the standard error.
-ghost use Rattle.std.specs.Prelude.{◌≡◌, ◌≤◌, ◌<◌, ◌++◌, IfOk, OnOk, IsTrue, chars, flat_map};
-ghost use Rattle.grammar_model.specs.Text.{escaped, hex_digit, is_control};
+ghost use Rattle.std.specs.Prelude.{◌≡◌, ◌≤◌, IfOk};
 ghost use Rattle.run_model.specs.Outside.{stream};
 ghost use Rattle.run_model.specs.Runs.{fault_line};
 ghost use Rattle.run_model.specs.Runs.Fault.{CannotOpen};
 ghost use Rattle.run_model.specs.Outcome.{message};
-ghost use Rattle.run_model.specs.Telling.{in_line};
 ghost use Rattle.slif_cli.specs.Stops.{Reports, Tells, refusal_outcome};
 
 use crate::stop::{Refusal, Stop};
 use slif_base::{Sink, write_all};
 use std::alloc::{AllocError, Global};
+use text_reading::append_in_line;
 
 const FAULT: u8 = 4;
 
@@ -69,65 +68,10 @@ fn message(alloc: Global, text: &[u8]) -> Result<Vec<u8>, AllocError>
     ensures { IfOk result (λ line. line.items ≡ message text.now) }
 {
     let text = String::from_utf8_lossy(alloc, text)?;
-    let mut line = Vec::from_slice(alloc, b"slif: ")?;
+    let mut line = String::from_str(alloc, "slif: ")?;
     append_in_line(&text, &mut line)?;
-    line.push(b'\n')?;
-    Ok(line)
-}
-
-// Appends the characters of a text as they stand in a message.
-fn append_in_line(text: &str, line: &mut Vec<u8>) -> Result<(), AllocError>
-    ensures { OnOk result (line.new.items ≡ line.old.items ++ flat_map in_line (chars text.now)) }
-{
-    for c in text.chars() {
-        append_char(c, line)?;
-    }
-    Ok(())
-}
-
-fn append_char(c: char, line: &mut Vec<u8>) -> Result<(), AllocError>
-    ensures { OnOk result (line.new.items ≡ line.old.items ++ in_line c) }
-{
-    match c {
-        '\0'..='\x1f' | '\x7f'..='\u{9f}' => append_control(c, line),
-        '\u{2028}' => append_bytes(b"\\x{2028}", line),
-        '\u{2029}' => append_bytes(b"\\x{2029}", line),
-        _ => append_bytes(c.encode_utf8(&mut [0; 4]).as_bytes(), line),
-    }
-}
-
-// Appends a control character as it stands in the text of a value.
-fn append_control(c: char, line: &mut Vec<u8>) -> Result<(), AllocError>
-    requires { IsTrue (is_control c) }
-    ensures { OnOk result (line.new.items ≡ line.old.items ++ escaped c) }
-{
-    match c {
-        '\n' => append_bytes(b"\\n", line),
-        '\r' => append_bytes(b"\\r", line),
-        '\t' => append_bytes(b"\\t", line),
-        _ => {
-            let code = c as u8;
-            append_bytes(
-                &[b'\\', b'x', b'{', hex(code / 16), hex(code % 16), b'}'],
-                line,
-            )
-        }
-    }
-}
-
-fn append_bytes(bytes: &[u8], line: &mut Vec<u8>) -> Result<(), AllocError>
-    ensures { OnOk result (line.new.items ≡ line.old.items ++ bytes.now) }
-{
-    line.extend_from_slice(bytes)?;
-    Ok(())
-}
-
-// A digit in base 16.
-fn hex(n: u8) -> u8
-    requires { n < 16 }
-    ensures { result ≡ hex_digit n }
-{
-    if n < 10 { b'0' + n } else { b'a' + (n - 10) }
+    line.push('\n')?;
+    Ok(line.into_bytes())
 }
 
 fn refusal_status(refusal: &Refusal) -> u8

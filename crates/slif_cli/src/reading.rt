@@ -1,21 +1,17 @@
-// The input, read to its end.
-ghost use Rattle.std.specs.Prelude.{◌≡◌, ◌≤◌, ◌<◌, ◌++◌, ◌∷◌, [], All, length, map, codes, IfOk, IfErr, OnOk};
-ghost use Rattle.std.specs.List.{flat_map};
+// The input, read to its end, and the names of symbols.
+ghost use Rattle.std.specs.Prelude.{◌≡◌, ◌≤◌, ◌<◌, ◌++◌, ◌∷◌, [], All, length, map, IfOk, IfErr};
 ghost use Rattle.grammar_model.specs.Values.{name_of};
 ghost use Rattle.earley_sets.specs.Counted.{TakesAtMost};
-ghost use Rattle.run_model.specs.Inputs.{names_text, stop_text};
 ghost use Rattle.scanless.specs.Reading.{IsReadingOf};
 ghost use Rattle.scanless.specs.declared.reading.Ending.TheVariants.{End};
 ghost use Rattle.slif_cli.specs.Stops.{TellsInput, IsStopText};
 
-use crate::refusals::phrase;
-use crate::stop::{Refusal, Stop};
+use crate::stop::{Stop, stop_of};
 use grammar_core::{SymbolId, Written};
-use scanless::{Ending, Prepared, Reading, read_input};
+use scanless::{Prepared, Reading};
 use slif_base::{Chars, Steps};
 use std::alloc::{AllocError, Global};
 use std::sync::ledger::Ledger;
-use value_text::NoMemory;
 
 /// Reads a text to its end.
 pub fn read_text<'p, 'a, L: Ledger>(
@@ -29,97 +25,10 @@ pub fn read_text<'p, 'a, L: Ledger>(
     ensures counted { IfOk result (λ r. TakesAtMost r.recce steps.old steps.new) }
     ensures stops { IfErr result (TellsInput (IsStopText prepared.now chars.now)) }
 {
-    let reading = read_input(alloc, prepared, chars, steps)?;
-    match ended(alloc, prepared, chars, &reading) {
-        Ok(()) => Ok(reading),
-        Err(stop) => Err(stop),
+    match text_reading::read_text(alloc, prepared, chars, steps) {
+        Ok(reading) => Ok(reading),
+        Err(refusal) => Err(stop_of(refusal)),
     }
-}
-
-// Whether a reading has come to the end.
-fn ended<'a>(
-    alloc: Global,
-    prepared: &Prepared,
-    chars: &Chars,
-    reading: &Reading<'_>,
-) -> Result<(), Stop<'a>>
-    requires few { length chars.now ≤ 16777216 }
-    requires read { IsReadingOf prepared.now chars.now reading.now.recce reading.now.spans.items reading.now.ending }
-    ensures end { OnOk result (reading.now.ending ≡ End) }
-    ensures stops { IfErr result (TellsInput (IsStopText prepared.now chars.now)) }
-{
-    prepared.known();
-    match &reading.ending {
-        Ending::End => Ok(()),
-        Ending::Stopped {
-            at,
-            found,
-            expected,
-        } => {
-            let text = stopped_text(alloc, prepared.written(), chars, *at, found, expected)?;
-            Err(Stop::Refused(Refusal::Input { text }))
-        }
-    }
-}
-
-fn stopped_text(
-    alloc: Global,
-    w: &Written,
-    chars: &Chars,
-    at: usize,
-    found: &[SymbolId],
-    expected: &[SymbolId],
-) -> Result<Vec<u8>, NoMemory>
-    requires few { length chars.now ≤ 16777216 }
-    requires found { All (λ s. s < length w.now.names) found.now }
-    requires expected { All (λ s. s < length w.now.names) expected.now }
-    ensures { IfOk result (λ text. text.items ≡ stop_text w.now chars.now at found.now expected.now) }
-{
-    let mut text = phrase(alloc, b"input stopped", "", b"", chars, at)?;
-    text.extend_from_slice(b"; found: ")?;
-    append_names(w, found, &mut text)?;
-    text.extend_from_slice(b"; expected: ")?;
-    append_names(w, expected, &mut text)?;
-    Ok(text)
-}
-
-/// Appends the names of symbols, parted by commas.
-pub fn append_names(w: &Written, symbols: &[SymbolId], text: &mut Vec<u8>) -> Result<(), AllocError>
-    requires { All (λ s. s < length w.now.names) symbols.now }
-    ensures { OnOk result (text.new.items ≡ text.old.items ++ names_text w.now symbols.now) }
-{
-    if symbols.is_empty() {
-        text.extend_from_slice(b"none")?;
-        return Ok(());
-    }
-    append_name(w, symbols[0], text)?;
-    append_others(w, &symbols[1..], text)
-}
-
-fn append_name(w: &Written, symbol: SymbolId, text: &mut Vec<u8>) -> Result<(), AllocError>
-    requires { symbol < length w.now.names }
-    ensures { OnOk result (text.new.items ≡ text.old.items ++ name_of w.now symbol) }
-{
-    text.extend_from_slice(w.name(symbol).as_bytes())?;
-    Ok(())
-}
-
-fn append_next(w: &Written, symbol: SymbolId, text: &mut Vec<u8>) -> Result<(), AllocError>
-    requires { symbol < length w.now.names }
-    ensures { OnOk result (text.new.items ≡ text.old.items ++ (codes ", " ++ name_of w.now symbol)) }
-{
-    text.extend_from_slice(b", ")?;
-    append_name(w, symbol, text)
-}
-
-fn append_others(w: &Written, symbols: &[SymbolId], text: &mut Vec<u8>) -> Result<(), AllocError>
-    requires { All (λ s. s < length w.now.names) symbols.now }
-    ensures { OnOk result (text.new.items ≡ text.old.items ++ flat_map (λ s. codes ", " ++ name_of w.now s) symbols.now) }
-{
-    for symbol in symbols {
-        append_next(w, *symbol, text)?;
-    }
-    Ok(())
 }
 
 /// The names of symbols, one a line.

@@ -1,4 +1,8 @@
 // The lines of the input, shown one after another.
+ghost use Rattle.std.specs.Prelude.{map, IfOk};
+ghost use Rattle.tree_text.specs.Parts.{part_of};
+ghost use Rattle.tree_text.specs.Reading.{IsRead};
+
 use crate::stop::Stop;
 use crate::words::Form;
 use slif_base::{Sink, write_all};
@@ -66,7 +70,10 @@ fn column_behind(line: &[u8], len: usize) -> usize {
     }
 }
 
-fn value_of(alloc: Global, line: usize, text: &str) -> Result<Vec<Part>, Stop> {
+/// The parts of the value whose text a line is.
+fn value_of(alloc: Global, line: usize, text: &str) -> Result<Vec<Part>, Stop>
+    ensures { IfOk result (λ parts. IsRead text.now (map part_of parts.items)) }
+{
     match read_value(alloc, text) {
         Ok(parts) => Ok(parts),
         Err(ReadRefusal::NotValue { left }) => Err(Stop::NotValue {

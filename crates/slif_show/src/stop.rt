@@ -20,6 +20,7 @@ pub enum Stop {
 }
 
 impl Stop {
+    /// The status that the program ends with.
     pub fn status(self) -> u8 {
         match self {
             Stop::NotValue { .. } | Stop::NoTwoTrees => 1,

@@ -40,6 +40,7 @@ fn words_of(rt: &HostRuntime) -> io::Result<Vec<String>> {
     Ok(words)
 }
 
+/// The form that the words of the command line ask for.
 pub fn form_of(rt: &HostRuntime) -> Result<Form, Stop> {
     match words_of(rt) {
         Ok(words) => form_of_words(&words).ok_or(Stop::Usage),

@@ -25,6 +25,7 @@ impl Model for Lists {
 }
 
 impl Lists {
+    /// No lists.
     pub fn new(alloc: Global) -> Lists
         ensures { result ≡ [] }
     {
@@ -33,6 +34,7 @@ impl Lists {
         }
     }
 
+    /// How many lists there are.
     pub fn count(&self) -> usize
         ensures { result ≡ length self.now }
     {

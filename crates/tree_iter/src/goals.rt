@@ -50,6 +50,7 @@ pub struct Put {
 /// The most rows that an option is put in.
 pub const MOST_ROWS: usize = 2;
 
+/// A row, by its number.
 pub fn goal_row<'f>(rows: &[GoalRow<'f>], k: usize) -> GoalRow<'f>
     requires { k < length rows.now }
     ensures { slice_get rows.now k ≡ Some result }

@@ -1,9 +1,9 @@
 use Rattle.std.proofs.Common.{List, Contains, sym, subst, arith}
 use Rattle.std.proofs.lemmas.Result.{on_ok_weaker}
-use Rattle.bocage.specs.declared.parts.Part.{Part}
-use Rattle.bocage.specs.declared.groups.Group.{Group}
-use Rattle.bocage.specs.Groups.{RanksFall, AreGroups}
-use Rattle.bocage.proofs.Ranks.{ranks_fall}
+use Rattle.forest_parts.specs.declared.parts.Part.{Part}
+use Rattle.forest_parts.specs.declared.groups.Group.{Group}
+use Rattle.forest_parts.specs.Groups.{RanksFall, AreGroups}
+use Rattle.forest_parts.proofs.Ranks.{ranks_fall}
 use Rattle.bocage.specs.Joins.{AreJoins}
 use Rattle.bocage.proofs.ends.gather.Goals as goal
 
@@ -15,7 +15,7 @@ list_groups-requires-clause-ends c p h =
 pub list_groups-requires-clause-ranks : goal.list_groups-requires-clause-ranks
 list_groups-requires-clause-ranks c =
     subst (λ (l : List Part). RanksFall l) (sym c.deref.ensures.value)
-    (ranks_fall c.args.w.now c.args.ranking c.args.recce.now c.requires.read c.args.end c.args.least c.list_parts.new.parts.items c.in_ok-list_parts.ensures.exact c.in_ok-list_parts.ensures.sorted)
+    (ranks_fall c.args.w.now c.args.ranking c.args.recce.now c.requires.read.is c.args.end c.args.least c.list_parts.new.parts.items c.in_ok-list_parts.ensures.exact c.in_ok-list_parts.ensures.sorted)
 
 pub list_joins-requires : goal.list_joins-requires
 list_joins-requires c x h =
@@ -31,7 +31,7 @@ returns-clause-gathered c =
     (λ joins. record {
       parts = c.in_ok-list_parts.ensures.exact;
       sorted = c.in_ok-list_parts.ensures.sorted;
-      ranks = ranks_fall c.args.w.now c.args.ranking c.args.recce.now c.requires.read c.args.end c.args.least c.list_parts.new.parts.items c.in_ok-list_parts.ensures.exact c.in_ok-list_parts.ensures.sorted;
+      ranks = ranks_fall c.args.w.now c.args.ranking c.args.recce.now c.requires.read.is c.args.end c.args.least c.list_parts.new.parts.items c.in_ok-list_parts.ensures.exact c.in_ok-list_parts.ensures.sorted;
       groups = subst (λ (l : List Part). AreGroups c.args.ranking c.args.end l c.list_groups.new.groups.items) c.deref.ensures.value c.in_ok-list_groups.ensures;
       joins = subst (λ (l : List Group). AreJoins c.args.recce.now c.args.least l c.list_joins.new.joins.items) c.deref-2.ensures.value joins;
     })

@@ -3,7 +3,7 @@ use Rattle.std.proofs.lemmas.Bool.{cases_lt}
 use Rattle.std.proofs.lemmas.List.Elements.{Contains-push_cases}
 use Rattle.earley_sets.proofs.Membership.{Contains-none}
 use Rattle.recognizer_model.specs.declared.NodeKey.{NodeKey}
-use Rattle.bocage.proofs.RowLemmas.{there, one_more_taken, taken_whole}
+use Rattle.forest_parts.proofs.RowLemmas.{there, one_more_taken, taken_whole}
 use Rattle.bocage.proofs.ends.least_origin.Goals as goal
 
 pub loop-node-init : goal.loop-node-init

@@ -1,6 +1,6 @@
 use Rattle.std.proofs.Common.{rules, ◌≡◌, ◌<◌, ℕ, Some, slice_get, sym, ap, ◌∙◌, arith}
+use Rattle.forest_parts.proofs.Gathering.{gains_none, gains_push}
 use Rattle.bocage.proofs.NodeKeys.{one_number}
-use Rattle.bocage.proofs.Gathering.{gains_none, gains_push}
 use Rattle.earley_sets.proofs.Membership.{got_item}
 use Rattle.bocage.proofs.ends.list_node.Goals as goal
 

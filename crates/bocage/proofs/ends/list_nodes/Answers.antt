@@ -2,8 +2,8 @@ use Rattle.std.proofs.Common.{◌≡◌, ◌∙◌, ◌<◌, ◌≤◌, ℕ, Lis
 use Rattle.recognizer_model.specs.declared.Item.{Item}
 use Rattle.earley_sets.specs.Recognizer.{set_at}
 use Rattle.earley_sets.proofs.Membership.{Contains-none}
+use Rattle.forest_parts.proofs.Gathering.{Gains, ByFirst, first_none, first_more, first_all}
 use Rattle.bocage.specs.Walk.{node_of_item}
-use Rattle.bocage.proofs.Gathering.{Gains, ByFirst, first_none, first_more, first_all}
 use Rattle.bocage.proofs.ends.list_nodes.Goals as goal
 
 pub loop-k-init : goal.loop-k-init

@@ -1,8 +1,8 @@
 use Rattle.std.proofs.Common.{◌≡◌, ℕ, ◌<◌, [], Some, slice_get}
 use Rattle.recognizer_model.specs.declared.Item.{Item}
 use Rattle.earley_sets.specs.Recognizer.{set_at}
+use Rattle.forest_parts.proofs.Gathering.{Gains, ByFirst}
 use Rattle.bocage.specs.Walk.{node_of_item}
-use Rattle.bocage.proofs.Gathering.{Gains, ByFirst}
 use Rattle.bocage.proofs.ends.list_nodes.Given as goal
 
 abbrev pub invariant-loop-k : goal.invariant-loop-k

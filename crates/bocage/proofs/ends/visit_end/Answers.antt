@@ -3,8 +3,9 @@ use Rattle.std.proofs.lemmas.Bool.{eqb-true}
 use Rattle.std.proofs.lemmas.Result.{on_ok_weaker}
 use Rattle.recognizer_model.specs.declared.Item.{Item}
 use Rattle.earley_sets.proofs.Membership.{Contains-none}
+use Rattle.forest_parts.specs.Hidden.{IsHiddenFrom, RisesBy}
 use Rattle.bocage.specs.Ends.{IsKnownNode}
-use Rattle.bocage.specs.Hidden.{IsHiddenFrom, IsExpandedAt, RisesBy}
+use Rattle.bocage.specs.Expanded.{IsExpandedAt}
 use Rattle.bocage.proofs.Visiting.{none_of, none_visited}
 use Rattle.bocage.proofs.Counting.{rises_of, rises_by_of, rises_none_by}
 use Rattle.bocage.proofs.Expanding.{none_expanded, given_expanded}

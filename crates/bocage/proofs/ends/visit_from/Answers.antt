@@ -1,5 +1,5 @@
 use Rattle.std.proofs.Common.{◌∙◌, ◌<◌, ◌↔◌, ℕ, List, Contains, length, map, sym, ap, subst}
-use Rattle.bocage.specs.declared.groups.Group.{Group}
+use Rattle.forest_parts.specs.declared.groups.Group.{Group}
 use Rattle.bocage.specs.Walk.{IsUsedIn, IsNew}
 use Rattle.bocage.specs.Ends.{IsKnownNode}
 use Rattle.bocage.proofs.Growing.{grows_weaker}

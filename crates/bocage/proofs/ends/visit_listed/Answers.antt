@@ -1,6 +1,6 @@
 use Rattle.std.proofs.Common.{List, ℕ, Contains, map, sym, subst}
 use Rattle.earley_sets.proofs.Membership.{Contains-none}
-use Rattle.bocage.proofs.RowLemmas.{there, taken_whole}
+use Rattle.forest_parts.proofs.RowLemmas.{there, taken_whole}
 use Rattle.bocage.proofs.Visiting.{goes_none, still_ready, listed_more}
 use Rattle.bocage.proofs.ends.visit_listed.Goals as goal
 

@@ -2,8 +2,9 @@ use Rattle.std.proofs.Common.{◌≡◌, ◌-◌, ◌+◌, suc, List, length, ma
 use Rattle.recognizer_model.specs.declared.NodeKey.{NodeKey}
 use Rattle.bocage.specs.Walk.{IsUsedIn}
 use Rattle.recognizer_model.specs.Counts.{IsCountOf}
+use Rattle.forest_parts.specs.Hidden.{RisesWithin}
 use Rattle.bocage.specs.Ends.{IsGoing, AreVisited}
-use Rattle.bocage.specs.Hidden.{IsExpandedFrom, RisesWithin}
+use Rattle.bocage.specs.Expanded.{IsExpandedFrom}
 use Rattle.bocage.proofs.Expanding.{within_first, within_more, within_all, count_first, count_more, count_all}
 use Rattle.bocage.proofs.Growing.{grows_then}
 use Rattle.bocage.proofs.Visiting.{going_first, going_next}

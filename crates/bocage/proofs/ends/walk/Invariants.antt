@@ -1,7 +1,8 @@
 use Rattle.std.proofs.Common.{◌-◌, map}
+use Rattle.forest_parts.specs.Hidden.{RisesWithin}
 use Rattle.bocage.specs.Walk.{IsUsedIn, GrowsBy}
 use Rattle.bocage.specs.Ends.{AreVisited}
-use Rattle.bocage.specs.Hidden.{IsExpandedFrom, RisesWithin}
+use Rattle.bocage.specs.Expanded.{IsExpandedFrom}
 use Rattle.recognizer_model.specs.Counts.{IsCountOf}
 use Rattle.bocage.proofs.ends.walk.Given as goal
 

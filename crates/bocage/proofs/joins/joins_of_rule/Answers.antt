@@ -6,8 +6,8 @@ use Rattle.std.proofs.lemmas.Bool.{ltb-true, ltb-false, leb-true, leb-false}
 use Rattle.bocage.specs.declared.joins.Join.{Join}
 use Rattle.bocage.specs.Joins.{join_cmp}
 use Rattle.std.specs.Ordering.{nat_cmp}
+use Rattle.forest_parts.proofs.InOrder.{below_parted, up_to_parted, start_first, part_has, sorted_between, firsts_rise}
 use Rattle.bocage.proofs.JoinOrder.{no_join}
-use Rattle.bocage.proofs.InOrder.{below_parted, up_to_parted, start_first, part_has, sorted_between, firsts_rise}
 use Rattle.bocage.proofs.joins.joins_of_rule.Goals.{After-partition_point-past}
 use Rattle.bocage.proofs.joins.joins_of_rule.Goals as goal
 

@@ -1,11 +1,11 @@
 use Rattle.std.proofs.Common.{◌≡◌, ◌∙◌, ℕ, List, [], Some, inl, inr, get_or, slice_get, sym, subst, arith}
 use Rattle.earley_sets.proofs.Membership.{Contains-none, got_at, get_at}
-use Rattle.bocage.specs.declared.groups.Group.{Group}
+use Rattle.forest_parts.specs.declared.groups.Group.{Group}
+use Rattle.forest_parts.proofs.RowLemmas.{there}
+use Rattle.forest_parts.proofs.Gathering.{Gains, ByBelow, gains_same, below_none, below_more}
 use Rattle.bocage.specs.declared.joins.Join.{Join}
 use Rattle.bocage.specs.Joins.{IsJoinOf}
-use Rattle.bocage.proofs.RowLemmas.{there}
 use Rattle.bocage.proofs.Joining.{no_group}
-use Rattle.bocage.proofs.Gathering.{Gains, ByBelow, gains_same, below_none, below_more}
 use Rattle.bocage.proofs.joins.list_joins.Goals as goal
 
 pub loop-k-init : goal.loop-k-init

@@ -1,8 +1,8 @@
 use Rattle.std.proofs.Common.{◌≡◌, ℕ, [], Some, slice_get}
-use Rattle.bocage.specs.declared.groups.Group.{Group}
+use Rattle.forest_parts.specs.declared.groups.Group.{Group}
+use Rattle.forest_parts.proofs.Gathering.{Gains, ByBelow}
 use Rattle.bocage.specs.declared.joins.Join.{Join}
 use Rattle.bocage.specs.Joins.{IsJoinOf}
-use Rattle.bocage.proofs.Gathering.{Gains, ByBelow}
 use Rattle.bocage.proofs.joins.list_joins.Given as goal
 
 abbrev pub invariant-loop-k : goal.invariant-loop-k

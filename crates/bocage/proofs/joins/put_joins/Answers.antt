@@ -1,9 +1,9 @@
 use Rattle.std.proofs.Common.{◌≡◌, ◌≤◌, Contains, length, subst}
 use Rattle.recognizer_model.specs.declared.Item.{Item}
+use Rattle.forest_parts.proofs.Gathering.{gains_same, first_none, first_more, first_all}
 use Rattle.bocage.specs.declared.joins.Join.{Join}
 use Rattle.bocage.specs.Joins.{front_of_join, IsJoinOf}
 use Rattle.bocage.proofs.JoinOrder.{joins_are}
-use Rattle.bocage.proofs.Gathering.{gains_same, first_none, first_more, first_all}
 use Rattle.bocage.proofs.joins.put_joins.Goals as goal
 
 pub loop-k-init : goal.loop-k-init

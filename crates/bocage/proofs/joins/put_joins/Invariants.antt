@@ -1,8 +1,8 @@
 use Rattle.std.proofs.Common.{◌≡◌, ◌≤◌}
 use Rattle.recognizer_model.specs.declared.Item.{Item}
+use Rattle.forest_parts.proofs.Gathering.{Gains, ByFirst}
 use Rattle.bocage.specs.declared.joins.Join.{Join}
 use Rattle.bocage.specs.Joins.{front_of_join}
-use Rattle.bocage.proofs.Gathering.{Gains, ByFirst}
 use Rattle.bocage.proofs.joins.put_joins.Given as goal
 
 abbrev pub invariant-loop-k : goal.invariant-loop-k

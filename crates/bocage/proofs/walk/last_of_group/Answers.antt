@@ -2,7 +2,7 @@ use Rattle.std.proofs.Common.{◌≡◌, ◌<◌, List, Option, Some, Contains, 
 use Rattle.recognizer_model.specs.declared.NodeKey.{NodeKey}
 use Rattle.recognizer_model.specs.Flat.{FlatGrammar}
 use Rattle.earley_sets.proofs.Membership.{got_at, got_item}
-use Rattle.bocage.specs.declared.parts.Part.{Part}
+use Rattle.forest_parts.specs.declared.parts.Part.{Part}
 use Rattle.bocage.specs.declared.rows.LastRow.{LastRow}
 use Rattle.bocage.specs.Walk.{FitsPart, whole_keys, GrowsBy, IsLastFound}
 use Rattle.bocage.proofs.Joining.{group_span}

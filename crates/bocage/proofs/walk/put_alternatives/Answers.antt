@@ -1,10 +1,10 @@
 use Rattle.std.proofs.Common.{◌∙◌, List, [], get_or, Contains, sym, ap, subst}
 use Rattle.earley_sets.specs.Recognizer.{set_at}
 use Rattle.earley_sets.proofs.Membership.{Contains-none, got_at, get_at}
+use Rattle.forest_parts.specs.declared.groups.Group.{Group}
+use Rattle.forest_parts.proofs.RowLemmas.{there, taken_whole}
 use Rattle.bocage.specs.declared.joins.Join.{Join}
-use Rattle.bocage.specs.declared.groups.Group.{Group}
 use Rattle.bocage.specs.Walk.{Lists, BeginsIn, IsNext}
-use Rattle.bocage.proofs.RowLemmas.{there, taken_whole}
 use Rattle.bocage.proofs.JoinOrder.{no_join}
 use Rattle.bocage.proofs.Growing.{lists_none}
 use Rattle.bocage.proofs.Joining.{no_group, group_of_join, lists_next}

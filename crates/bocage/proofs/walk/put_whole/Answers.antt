@@ -1,7 +1,7 @@
 use Rattle.std.proofs.Common.{◌≡◌, ◌∙◌, ◌-◌, ◌++◌, ℕ, List, [], Option, Some, length, Contains, sym, ap, subst}
 use Rattle.recognizer_model.specs.declared.NodeKey.{NodeKey}
 use Rattle.earley_sets.proofs.Membership.{Contains-first}
-use Rattle.bocage.specs.declared.parts.RuleKey.{RuleKey}
+use Rattle.forest_parts.specs.declared.parts.RuleKey.{RuleKey}
 use Rattle.bocage.specs.Walk.{whole_keys_by}
 use Rattle.bocage.proofs.Growing.{grows_weaker}
 use Rattle.bocage.proofs.walk.put_whole.Goals as goal

@@ -1,10 +1,10 @@
 use Rattle.std.proofs.Common.{◌≡◌, ◌∙◌, ◌+◌, ◌++◌, ◌∷◌, List, [], take, get_or, Contains, sym, ap, subst}
 use Rattle.std.proofs.lemmas.List.Elements.{Contains-append_left, Contains-append_right}
 use Rattle.recognizer_model.specs.declared.NodeKey.{NodeKey}
-use Rattle.bocage.specs.declared.parts.Part.{Part}
-use Rattle.bocage.specs.Parts.{no_part}
+use Rattle.forest_parts.specs.declared.parts.Part.{Part}
+use Rattle.forest_parts.specs.Parts.{no_part}
+use Rattle.forest_parts.proofs.RowLemmas.{there, one_more_taken, taken_whole}
 use Rattle.bocage.specs.Walk.{whole_keys, AddsWholes, GrowsBy}
-use Rattle.bocage.proofs.RowLemmas.{there, one_more_taken, taken_whole}
 use Rattle.bocage.proofs.Growing.{grows_none, grows_then, grows_weaker, wholes_none, wholes_then, keys_both}
 use Rattle.bocage.proofs.walk.put_wholes.Goals as goal
 

@@ -1,4 +1,4 @@
-use Rattle.std.proofs.Common.{◌≡◌, ◌≤◌, ◌∙◌, ap, map, subst, sym, List, ℕ, true, length, arith}
+use Rattle.std.proofs.Common.{◌≡◌, ap, map, subst, sym, List, ℕ, true, length, arith}
 use Rattle.std.specs.Prelude.{All}
 use Rattle.std.proofs.lemmas.List.Elements.{All-from_recursion}
 use Rattle.language_model.specs.Building.{is_one_of, discarded, start_texts}

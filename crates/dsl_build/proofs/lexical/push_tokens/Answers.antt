@@ -1,4 +1,4 @@
-use Rattle.std.proofs.Common.{◌≡◌, ◌≤◌, ◌+◌, ◌++◌, arith, sym, ◌∙◌, ap, Bor, map, length, length-append, take, append-nil}
+use Rattle.std.proofs.Common.{◌+◌, ◌++◌, arith, sym, ◌∙◌, ap, Bor, map, length, length-append, take, append-nil}
 use Rattle.std.specs.Prelude.{flat_map}
 use Rattle.std.proofs.lemmas.List.{drop_all}
 use Rattle.grammar_core.specs.Written.{rule_of}

@@ -1,4 +1,4 @@
-use Rattle.std.proofs.Common.{◌≡◌, [], sym, subst, List, ℕ}
+use Rattle.std.proofs.Common.{[], sym, subst, List, ℕ}
 use Rattle.dsl_faults.specs.Texts.{AllNew}
 use Rattle.dsl_build.proofs.Differing.{new_tokens_all}
 use Rattle.dsl_build.proofs.texts.placed_of.Goals as goal

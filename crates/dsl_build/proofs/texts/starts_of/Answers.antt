@@ -1,14 +1,24 @@
-use Rattle.std.proofs.Common.{◌≡◌, [], sym, subst, List, ℕ}
+use Rattle.std.proofs.Common.{◌∙◌, [], ap, sym, subst, List, ℕ}
+use Rattle.std.specs.Prelude.{filter, not}
+use Rattle.language_model.specs.Building.{is_one_of}
 use Rattle.dsl_faults.specs.Texts.{AllNew}
 use Rattle.dsl_build.proofs.Differing.{new_all, filter_new}
 use Rattle.dsl_build.proofs.texts.starts_of.Goals as goal
 
-pub lexemes_of-requires : goal.lexemes_of-requires
-lexemes_of-requires c = subst (λ (ns : List (List ℕ)). AllNew [] ns) (sym c.in_ok-symbols.ensures) (new_all [] _)
+pub without-requires : goal.without-requires
+without-requires c = subst (λ (ns : List (List ℕ)). AllNew [] ns) (sym c.requires.symbols) (new_all [] _)
 
 pub joined-requires-clause-first : goal.joined-requires-clause-first
 joined-requires-clause-first c =
-    subst (λ (ns : List (List ℕ)). AllNew [] ns) (sym c.in_ok-lexemes.ensures) (filter_new _ [] c.in_ok-symbols.symbols (subst (λ (ns : List (List ℕ)). AllNew [] ns) (sym c.in_ok-symbols.ensures) (new_all [] _)))
+    subst (λ (ns : List (List ℕ)). AllNew [] ns) (sym c.in_ok-lexemes.ensures) (filter_new _ [] c.args.symbols (subst (λ (ns : List (List ℕ)). AllNew [] ns) (sym c.requires.symbols) (new_all [] _)))
 
 pub joined-requires-clause-second : goal.joined-requires-clause-second
 joined-requires-clause-second c = subst (λ (ns : List (List ℕ)). AllNew [] ns) (sym c.in_ok-discards.ensures) (new_all [] _)
+
+pub returns : goal.returns
+returns c = record {
+  symbols = c.requires.symbols;
+  lexemes = c.in_ok-lexemes.ensures ∙ ap (λ (ns : List (List ℕ)). filter (λ t. not (is_one_of ns t)) c.args.symbols) c.requires.left;
+  discards = c.in_ok-discards.ensures;
+  texts = c.in_ok-texts.ensures;
+}

@@ -2,32 +2,31 @@ use Rattle.std.proofs.Common.{◌≡◌, ◌∙◌, ap, map, sym, [], ◌++◌, 
 use Rattle.std.specs.Prelude.{flat_map, filter, not}
 use Rattle.language_model.specs.Tokens.{Spelled}
 use Rattle.language_model.specs.Building.{new_texts, new_tokens, is_one_of, symbols_g1, lexemes, discarded, start_texts, placed_tokens, texts_l0}
-use Rattle.dsl_statement.specs.Statements.{statement_of}
+use Rattle.language_model.specs.Description.{Statement}
 use Rattle.dsl_build.specs.Lexical.{placed_part}
 use Rattle.dsl_faults.specs.Uses.{Used, used_of, uses_of, texts_asked}
 use Rattle.dsl_faults.specs.declared.uses.Use.{Use}
 use Rattle.dsl_faults.specs.declared.uses.Which.TheVariants.{StructuralLeft, Structural, Discarded}
 use Rattle.dsl_faults.specs.Texts.{AllNew}
-use Rattle.dsl_build.proofs.Differing.{lexemes_new}
+use Rattle.dsl_build.proofs.Differing.{new_all, filter_new}
 use Rattle.dsl_faults.proofs.Bridges.{symbols_are}
 use Rattle.dsl_build.proofs.TextLemmas.{lexemes_are, discards_are, placed_are}
 use Rattle.dsl_build.proofs.texts.texts_of.Goals as goal
 
+pub starts_of-requires-clause-symbols : goal.starts_of-requires-clause-symbols
+starts_of-requires-clause-symbols c = c.requires.symbols ∙ ap (λ (xs : List Use). new_texts [] (flat_map (texts_asked Structural) (map used_of xs))) (sym c.deref.ensures.value)
+
+pub starts_of-requires-clause-left : goal.starts_of-requires-clause-left
+starts_of-requires-clause-left c = c.requires.structural ∙ ap (λ (xs : List Use). new_texts [] (flat_map (texts_asked StructuralLeft) (map used_of xs))) (sym c.deref.ensures.value)
+
 pub placed_of-requires : goal.placed_of-requires
 placed_of-requires c =
-    let d = map statement_of c.args.statements.now in
     let starts = c.in_ok-starts.starts in
-    let seen : map used_of c.deref.result.now ≡ flat_map uses_of d = ap (λ (xs : List Use). map used_of xs) c.deref.ensures.value ∙ c.in_ok-uses.ensures in
-    let symbols : starts.symbols ≡ symbols_g1 d = c.in_ok-starts.ensures.symbols ∙ ap (λ (us : List Used). new_texts [] (flat_map (texts_asked Structural) us)) seen ∙ sym (symbols_are d) in
-    let left = ap (λ (us : List Used). new_texts [] (flat_map (texts_asked StructuralLeft) us)) seen in
-    let lexical : starts.lexemes ≡ lexemes d = c.in_ok-starts.ensures.lexemes ∙ lexemes_are d starts.symbols (new_texts [] (flat_map (texts_asked StructuralLeft) (map used_of c.deref.result.now))) symbols left in
-    subst (λ (ns : List (List ℕ)). AllNew [] ns) (sym lexical) (lexemes_new d)
+    subst (λ (ns : List (List ℕ)). AllNew [] ns) (sym c.in_ok-starts.ensures.lexemes) (filter_new _ [] starts.symbols (subst (λ (ns : List (List ℕ)). AllNew [] ns) (sym c.in_ok-starts.ensures.symbols) (new_all [] _)))
 
 pub returns : goal.returns
-returns c =
-    let d = map statement_of c.args.statements.now in
+returns c = λ (d : List Statement) used.
     let starts = c.in_ok-starts.starts in
-    let used : map used_of c.in_ok-uses.uses.items ≡ flat_map uses_of d = c.in_ok-uses.ensures in
     let seen : map used_of c.deref.result.now ≡ flat_map uses_of d = ap (λ (xs : List Use). map used_of xs) c.deref.ensures.value ∙ used in
     let again : map used_of c.deref-2.result.now ≡ flat_map uses_of d = ap (λ (xs : List Use). map used_of xs) c.deref-2.ensures.value ∙ used in
     let symbols : starts.symbols ≡ symbols_g1 d = c.in_ok-starts.ensures.symbols ∙ ap (λ (us : List Used). new_texts [] (flat_map (texts_asked Structural) us)) seen ∙ sym (symbols_are d) in

@@ -1,4 +1,4 @@
-use Rattle.std.proofs.Common.{◌≡◌, ◌+◌, ◌<◌, ◌++◌, ◌∷◌, [], arith, sym, ◌∙◌, ap, subst, length, take, List, ℕ, false, append_assoc, length-append}
+use Rattle.std.proofs.Common.{◌≡◌, ◌++◌, ◌∷◌, [], arith, sym, ◌∙◌, ap, length, take, List, ℕ, false, append_assoc, length-append}
 use Rattle.grammar_model.specs.Grammar.{Grammar}
 use Rattle.language_model.specs.Building.{is_one_of, set_names}
 use Rattle.dsl_build.specs.Lexical.{set_name}
@@ -12,7 +12,7 @@ add_symbol-requires-clause-new c =
     let front = c.args.w.now.names in
     let k = c.loop-number.number in
     let free : is_one_of (front ++ take k (set_names c.args.count)) (set_name k) ≡ false = unseen_behind [] front (set_names c.args.count) k (set_name k) c.requires.differ (sets_get c.args.count k (omega arith)) in
-    let text : c.as_str.result.now ≡ set_name k = c.as_str.ensures.value ∙ c.in_ok-name.ensures in
+    let text : c.as_str.result.now ≡ set_name k = c.as_str.ensures.value ∙ c.in_ok-write_set_name.ensures in
     ap (λ (w : Grammar). is_one_of w.names c.as_str.result.now) c.loop-number.invariant ∙ ap (λ t. is_one_of (front ++ set_names k) t) text ∙ ap (λ ns. is_one_of (front ++ ns) (set_name k)) (sym (sets_take c.args.count k (omega arith))) ∙ free
 
 pub add_symbol-requires-clause-room : goal.add_symbol-requires-clause-room
@@ -28,7 +28,7 @@ pub loop-number-preserved : goal.loop-number-preserved
 loop-number-preserved c =
     let front = c.args.w.now.names in
     let k = c.loop-number.number in
-    let text : c.as_str.result.now ≡ set_name k = c.as_str.ensures.value ∙ c.in_ok-name.ensures in
+    let text : c.as_str.result.now ≡ set_name k = c.as_str.ensures.value ∙ c.in_ok-write_set_name.ensures in
     c.in_ok-add_symbol.ensures ∙ ap (λ (w : Grammar). with_names w (c.as_str.result.now ∷ [])) c.loop-number.invariant
     ∙ ap (λ t. with_names (with_names c.args.w.now (set_names k)) (t ∷ [])) text
     ∙ ap (λ (ns : List (List ℕ)). record { names = ns; rules = c.args.w.now.rules; starts = c.args.w.now.starts }) (append_assoc front (set_names k) (set_name k ∷ []) ∙ ap (λ ns. front ++ ns) (sym (sets_more k)))

@@ -1,4 +1,4 @@
-use Rattle.std.proofs.Common.{◌≡◌, ◌∙◌, subst, Result}
+use Rattle.std.proofs.Common.{◌≡◌, ◌∙◌, subst}
 use Rattle.std.specs.Prelude.{IfOk}
 use Rattle.grammar_core.specs.Written.{with_name}
 use Rattle.dsl_build.proofs.Granting.{named_more}

@@ -1,9 +1,10 @@
 use Rattle.std.proofs.Common.{◌≡◌, ◌++◌, map, take}
 use Rattle.std.specs.Prelude.{flat_map}
 use Rattle.language_model.specs.Building.{parts_of}
+use Rattle.dsl_statement.specs.Statements.{is_lexical}
 use Rattle.dsl_faults.specs.Uses.{used, used_of}
 use Rattle.dsl_faults.specs.declared.uses.Role.TheVariants.{Right}
 use Rattle.dsl_faults.proofs.uses.push_groups.Given as goal
 
 abbrev pub invariant-loop-group : goal.invariant-loop-group
-invariant-loop-group l = map used_of l.uses.items ≡ map used_of l.fn.uses.items ++ flat_map (λ g. flat_map (λ a. map (used Right l.lexical) (parts_of a)) g.items) (take l.group-index l.groups)
+invariant-loop-group l = map used_of l.uses.items ≡ map used_of l.fn.uses.items ++ flat_map (λ g. flat_map (λ a. map (used Right (is_lexical l.level)) (parts_of a)) g.items) (take l.group-index l.groups)

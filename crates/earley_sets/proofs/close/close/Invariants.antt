@@ -1,14 +1,13 @@
 use Rattle.std.proofs.Common.{◌+◌, length, take}
 use Rattle.leo_items.specs.ByRows.{NotesMore}
-use Rattle.earley_sets.specs.Closing.{BeginTogether, Follows}
+use Rattle.earley_sets.specs.Closing.{GoesOn}
 use Rattle.earley_sets.specs.Loops.{IsClosedTo}
 use Rattle.earley_sets.specs.Tried.{RisesBy, MakesOne}
 use Rattle.earley_sets.proofs.close.close.Given as goal
 
 abbrev pub invariant-loop-k : goal.invariant-loop-k
 invariant-loop-k g l = record {
-  closed : IsClosedTo l.flat (Follows l.flat l.rows.sets l.place) l.initial.set.keys l.set.keys l.k;
-  together : BeginTogether l.flat l.place l.set.keys;
+  closed : IsClosedTo l.flat (GoesOn l.flat l.rows.sets l.place) l.initial.set.keys l.set.keys l.k;
   memo : NotesMore l.flat l.rows.sets l.initial.memo l.memo;
   counted : RisesBy (MakesOne l.flat l.rows.sets l.place (take l.k l.set.keys)) (l.initial.steps + length l.memo) (l.steps + length l.initial.memo);
 }

@@ -2,34 +2,34 @@ use Rattle.std.proofs.Common.{◌<◌, refl, sym, subst, arith, length}
 use Rattle.std.proofs.lemmas.Result.{on_ok_weaker}
 use Rattle.leo_items.specs.declared.memo.Pair.{Pair}
 use Rattle.earley_sets.specs.Tried.{MakesLink}
-use Rattle.earley_sets.proofs.Following.{has_begun, has_done, has_nothing}
+use Rattle.earley_sets.proofs.Following.{goes_skipped, goes_done, goes_nowhere}
 use Rattle.earley_sets.proofs.Rising.{rises_none}
-use Rattle.earley_sets.proofs.Trying.{links_begun, links_done}
+use Rattle.earley_sets.proofs.Trying.{links_skipped, links_done}
 use Rattle.earley_sets.proofs.follow.list_next.Goals as goal
 
-pub list_begun-requires-clause-symbol : goal.list_begun-requires-clause-symbol
-list_begun-requires-clause-symbol g c = c.known.ensures.flat.in_range.parts c.args.item.rule c.args.item.dot c.in-Some.x c.requires.item.is_rule (sym c.in-Some.ensures.value)
+pub list_skipped-requires-clause-symbol : goal.list_skipped-requires-clause-symbol
+list_skipped-requires-clause-symbol g c = c.known.ensures.flat.in_range.parts c.args.item.rule c.args.item.dot c.in-Some.x c.requires.item.is_rule (sym c.in-Some.ensures.value)
 
 pub list_done-requires-clause-set : goal.list_done-requires-clause-set
 list_done-requires-clause-set g c = subst (λ (p : Pair). p.set < length c.args.rows.now.sets) (sym c.pair_above.ensures) (let lt = c.if-item-place.true in let le = c.requires.place in omega arith)
 
-pub returns-in_ok-list_begun-in-Some-clause-listed : goal.returns-in_ok-list_begun-in-Some-clause-listed
-returns-in_ok-list_begun-in-Some-clause-listed g c =
-    has_begun c.args.flat.now c.args.rows.now.sets c.args.place c.args.set.now.keys c.args.item c.in-Some.x (sym c.in-Some.ensures.value) c.args.next.now.items c.list_begun.new.next.items c.in_ok-list_begun-in-Some.ensures.listed
+pub returns-in_ok-list_skipped-in-Some-clause-listed : goal.returns-in_ok-list_skipped-in-Some-clause-listed
+returns-in_ok-list_skipped-in-Some-clause-listed g c =
+    goes_skipped c.args.flat.now c.args.rows.now.sets c.args.place c.args.item c.in-Some.x (sym c.in-Some.ensures.value) c.args.next.now.items c.list_skipped.new.next.items c.in_ok-list_skipped-in-Some.ensures.listed
 
 pub returns-then-item-place-clause-listed : goal.returns-then-item-place-clause-listed
 returns-then-item-place-clause-listed g c =
     on_ok_weaker c.list_done.result
-    (has_done c.args.flat.now c.args.rows.now.sets c.args.place c.args.set.now.keys c.args.item (sym c.in-None.ensures.value) c.args.next.now.items c.list_done.new.next.items c.requires.item c.if-item-place.true c.pair_above.result c.pair_above.ensures)
+    (goes_done c.args.flat.now c.args.rows.now.sets c.args.place c.args.item (sym c.in-None.ensures.value) c.args.next.now.items c.list_done.new.next.items c.requires.item c.if-item-place.true c.pair_above.result c.pair_above.ensures)
     c.list_done.ensures.listed
 
 pub returns-else-item-place-clause-listed : goal.returns-else-item-place-clause-listed
 returns-else-item-place-clause-listed g c =
-    has_nothing c.args.flat.now c.args.rows.now.sets c.args.place c.args.set.now.keys c.args.item (sym c.in-None.ensures.value) c.args.next.now.items c.if-item-place.false
+    goes_nowhere c.args.flat.now c.args.rows.now.sets c.args.place c.args.item (sym c.in-None.ensures.value) c.args.next.now.items c.if-item-place.false
 
-pub returns-in_ok-list_begun-in-Some-clause-links : goal.returns-in_ok-list_begun-in-Some-clause-links
-returns-in_ok-list_begun-in-Some-clause-links g c =
-    links_begun c.args.flat.now c.args.rows.now.sets c.args.place c.args.item c.in-Some.x (length c.args.next.now.items) (length c.list_begun.new.next.items) (sym c.in-Some.ensures.value) c.in_ok-list_begun-in-Some.ensures.links
+pub returns-in_ok-list_skipped-in-Some-clause-links : goal.returns-in_ok-list_skipped-in-Some-clause-links
+returns-in_ok-list_skipped-in-Some-clause-links g c =
+    links_skipped c.args.flat.now c.args.rows.now.sets c.args.place c.args.item c.in-Some.x (length c.args.next.now.items) (length c.list_skipped.new.next.items) (sym c.in-Some.ensures.value) c.in_ok-list_skipped-in-Some.ensures.links
 
 pub returns-then-item-place-clause-links : goal.returns-then-item-place-clause-links
 returns-then-item-place-clause-links g c =

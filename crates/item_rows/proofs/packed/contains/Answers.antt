@@ -1,18 +1,28 @@
-use Rattle.std.proofs.Common.{refl, ◌↔◌, sym, subst, Contains}
-use Rattle.std.specs.Prelude.{IsTrue}
-use Rattle.item_rows.proofs.Packing.{search_tells, packed_there, packed_absent}
+use Rattle.std.proofs.Common.{refl, inl, inr, arith}
+use Rattle.std.proofs.lemmas.Bool.{eqb-true}
+use Rattle.item_rows.proofs.Joined.{contains_second, contains_either, contains_none}
 use Rattle.item_rows.proofs.packed.contains.Goals as goal
 
-pub returns-in-Some : goal.returns-in-Some
-returns-in-Some c =
-    let there = packed_there c.args.dotted.now.rules c.known.ensures c.args.packed.now c.requires c.args.item c.in-Some.number c.in-Some.ensures.some in
-    let told =
-    subst (λ b. IsTrue b ↔ Contains c.args.packed.now c.in-Some.number) (sym c.is_ok.ensures.value)
-    (search_tells c.args.packed.now c.requires.rises c.in-Some.number c.binary_search.result c.binary_search.ensures.position) in
-    ((λ t. there.0 (told.0 t)), (λ h. told.1 (there.1 h)))
+pub returns-then-item-place : goal.returns-then-item-place
+returns-then-item-place c = (
+  λ t. contains_second c.args.dotted.now.rules c.args.place c.args.packed.now c.args.begun.now c.requires c.known.ensures.differ c.args.item c.in-Some.number c.in-Some.ensures.some c.if-item-place.true (c.has_dotted.ensures.0 t),
+  λ h. elim (contains_either c.args.dotted.now.rules c.args.place c.args.packed.now c.args.begun.now c.requires c.known.ensures.differ c.args.item c.in-Some.number c.in-Some.ensures.some h) [
+    | inl a ↦ let t = c.has_packed.ensures.1 a in let f = c.if-has_packed.false in absurd (cc)
+    | inr (o, b) ↦ c.has_dotted.ensures.1 b
+  ],
+)
+
+pub returns-else-item-place : goal.returns-else-item-place
+returns-else-item-place c = (
+  λ t. absurd (c.if-item-place.false (eqb-true _ _ t)),
+  λ h. elim (contains_either c.args.dotted.now.rules c.args.place c.args.packed.now c.args.begun.now c.requires c.known.ensures.differ c.args.item c.in-Some.number c.in-Some.ensures.some h) [
+    | inl a ↦ let t = c.has_packed.ensures.1 a in let f = c.if-has_packed.false in absurd (cc)
+    | inr (o, b) ↦ absurd (c.if-item-place.false o)
+  ],
+)
 
 pub returns-in-None : goal.returns-in-None
 returns-in-None c = (
-  (λ t. absurd (cc)),
-  (λ h. absurd (packed_absent c.args.dotted.now.rules c.args.packed.now c.requires c.args.item (c.in-None.ensures.none refl).1 h)),
+  λ t. absurd (cc),
+  λ h. absurd (contains_none c.args.dotted.now.rules c.args.place c.args.packed.now c.args.begun.now c.requires (omega arith) c.args.item (c.in-None.ensures.none refl).1 h),
 )

@@ -1,13 +1,14 @@
-use Rattle.std.proofs.Common.{◌≡◌, ◌∙◌, sym, ap, subst, List, Some, Contains, map}
+use Rattle.std.proofs.Common.{◌≡◌, sym, subst, List, Some, Contains}
 use Rattle.recognizer_model.specs.declared.Item.{Item}
+use Rattle.recognizer_model.specs.Flat.{part_of}
 use Rattle.recognizer_model.specs.Items.{after}
 use Rattle.recognizer_model.specs.Counts.{IsListOf}
-use Rattle.item_rows.specs.Dotted.{unpacked}
-use Rattle.item_rows.proofs.Packing.{part_waits}
+use Rattle.item_rows.specs.Dotted.{row_items}
+use Rattle.item_rows.proofs.Joined.{row_of_kind}
 use Rattle.item_rows.proofs.packed.waiting.Goals as goal
 
 pub returns : goal.returns
 returns c =
-    subst (λ (l : List Item). IsListOf (λ item. Contains (map (unpacked c.args.dotted.now.rules) c.args.packed.now) item × (after c.args.dotted.now.flat item ≡ Some c.args.symbol)) l)
-    (sym (c.row_of.ensures ∙ ap (λ (l : List Item). map (unpacked l) c.within_span-part.result.now) c.rules.ensures))
-    (part_waits c.args.dotted.now.rules c.known.ensures c.args.dotted.now.flat c.args.packed.now c.requires c.args.symbol c.span-span.result c.span-span.ensures c.within_span-part.result.now c.within_span-part.ensures.rises c.within_span-part.ensures.exact)
+    let (own, others, within, is) = c.narrowed.ensures in
+    subst (λ (l : List Item). IsListOf (λ item. Contains (row_items c.args.dotted.now.rules c.args.place c.args.packed.now c.args.begun.now) item × (after c.args.dotted.now.flat item ≡ Some c.args.symbol)) l) (sym is)
+    (row_of_kind c.args.dotted.now.rules c.args.place c.args.packed.now c.args.begun.now c.requires c.known.ensures.differ (λ rule dot. part_of c.args.dotted.now.flat rule dot ≡ Some c.args.symbol) c.span.result c.span.ensures own others within)

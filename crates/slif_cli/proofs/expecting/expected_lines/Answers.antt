@@ -1,6 +1,7 @@
 use Rattle.std.proofs.Common.{ap}
 use Rattle.run_model.specs.Telling.{done}
-use Rattle.slif_cli.proofs.InputLemmas.{expected_known, known_in, names_as}
+use Rattle.text_reading.proofs.InputLemmas.{expected_known, known_in}
+use Rattle.slif_cli.proofs.InputLemmas.{names_as}
 use Rattle.slif_cli.proofs.expecting.expected_lines.Goals as goal
 
 pub name_lines-requires : goal.name_lines-requires

@@ -1,7 +1,6 @@
 use Rattle.std.proofs.Common.{Err, ap, subst, sym}
 use Rattle.std.proofs.lemmas.Result.{MatchResult-weaker}
 use Rattle.outside_model.specs.Told.{MayHold}
-use Rattle.slif_cli.specs.Stops.{LoadStops}
 use Rattle.slif_cli.proofs.Refusing.{load_text, too_long_text}
 use Rattle.slif_cli.proofs.grammar.load_grammar.Goals as goal
 
@@ -15,5 +14,4 @@ returns-in-Ok-clause-stops g c =
 pub returns-in_ok-text-in-Err-TooLarge-clause-stops : goal.returns-in_ok-text-in-Err-TooLarge-clause-stops
 returns-in_ok-text-in-Err-TooLarge-clause-stops g c =
     let told = g.F.Files.told c.args.files.now c.args.name.now in
-    subst (LoadStops c.args.name.now told (g.F.Files.fault_count c.args.files.now) (g.F.Files.fault_count c.read_named.new.files)) (sym c.refused.ensures)
-    (too_long_text told c.in_ok-text-in-Err-TooLarge.text.items (c.in-Err-TooLarge.ensures.large (ap Err c.in-Err-TooLarge.field-0-is)) c.in_ok-text-in-Err-TooLarge.ensures.items)
+    too_long_text told c.in_ok-text-in-Err-TooLarge.text.items (c.in-Err-TooLarge.ensures.large (ap Err c.in-Err-TooLarge.field-0-is)) c.in_ok-text-in-Err-TooLarge.ensures.items

@@ -3,7 +3,7 @@ use Rattle.std.specs.Prelude.{option_copied}
 use Rattle.std.proofs.lemmas.Result.{on_ok_weaker, MatchResult-weaker}
 use Rattle.outside_model.specs.Causes.{Rose}
 use Rattle.words_model.specs.Words.{Asks}
-use Rattle.words_model.specs.Words.Job.{Run, Check, Expect, Progress, Work}
+use Rattle.words_model.specs.Words.Job.{Run, Check, Expect, Progress}
 use Rattle.run_model.specs.Outcome.{IsWorkOutcome}
 use Rattle.run_model.proofs.Sized.{asked_size}
 use Rattle.run_model.specs.Outside.{stream}

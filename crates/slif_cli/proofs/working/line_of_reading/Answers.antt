@@ -1,4 +1,3 @@
-use Rattle.std.proofs.Common.{refl}
 use Rattle.grammar_model.specs.declared.Ranking.TheVariants.{Rule as RuleRanks}
 use Rattle.value_lines.specs.Counts.{numbers_of}
 use Rattle.value_lines.proofs.Counting.{has_numbers}

@@ -1,9 +1,9 @@
 use Rattle.std.proofs.Common.{◌<◌, length, sym, subst, arith, List, ap, get_or}
 use Rattle.std.proofs.lemmas.List.{length-map}
 use Rattle.forest_model.specs.Forest.{Alternative}
+use Rattle.forest_parts.proofs.RowLemmas.{there}
 use Rattle.bocage.specs.declared.rows.AlternativeRow.{AlternativeRow}
 use Rattle.bocage.specs.Rows.{alternative_of, no_alternative, IsLastWithin}
-use Rattle.bocage.proofs.RowLemmas.{there}
 use Rattle.bocage.proofs.forest.Alternatives.last.Goals as goal
 
 pub last_part-requires : goal.last_part-requires

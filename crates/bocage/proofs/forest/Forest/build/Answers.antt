@@ -1,4 +1,4 @@
-use Rattle.bocage.specs.Hidden.{IsExpandedIn}
+use Rattle.bocage.specs.Expanded.{IsExpandedIn}
 use Rattle.bocage.proofs.Counting.{rises_most}
 use Rattle.bocage.proofs.forest.Forest.build.Goals as goal
 

@@ -7,7 +7,7 @@ use Rattle.earley_sets.specs.Recognizer.{place_of, edges_of, top_of}
 use Rattle.forest_model.specs.Forest.{Forest, ForestNode}
 use Rattle.forest_model.specs.Forest as model
 use Rattle.bocage.specs.Rows.{nodes_of}
-use Rattle.bocage.specs.Hidden.{IsExpandedIn}
+use Rattle.bocage.specs.Expanded.{IsExpandedIn}
 use Rattle.bocage.proofs.Telling.{keys_of_nodes}
 use Rattle.bocage.proofs.Expanding.{kept_counted}
 use Rattle.bocage.proofs.forest.Forest.stats.Goals as goal

@@ -18,4 +18,5 @@ invariant_of-self c = (
       c.push.result c.push.new.self c.push.ensures.ok c.push.ensures.err c.push.ensures.duplicate c.push.ensures.bad_length,
   c.self.invariant.1,
   c.self.invariant.2,
+  c.self.invariant.3,
 )

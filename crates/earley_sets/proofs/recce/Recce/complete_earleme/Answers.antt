@@ -7,7 +7,7 @@ use Rattle.std.specs.List.{AllPairs}
 use Rattle.recognizer_model.specs.Links.{Link, IsLink}
 use Rattle.leo_items.specs.Memo.{pairs_of}
 use Rattle.earley_sets.specs.Recognizer.{Recognizer, edges_of, top_of, made}
-use Rattle.earley_sets.proofs.Recognizing.{kept_top, kept_sets, kept_begun, add_kept, flat_kept, added_set, tried_links}
+use Rattle.earley_sets.proofs.Recognizing.{kept_top, kept_sets, kept_begun, add_kept, added_set, tried_links}
 use Rattle.earley_sets.proofs.recce.Recce.complete_earleme.Goals as goal
 
 pub add_row-requires-clause-top : goal.add_row-requires-clause-top
@@ -25,8 +25,7 @@ invariant_of-self g c =
     let r = c.requires in
     let s = c.self.invariant.0.is.some in
     let kept = add_kept c.self.inside.flat.now c.self.inside.start c.self.inside.edges c.self.inside.rows c.add_row.new.rows c.self.inside.top c.self.inside.memo c.self.invariant.0 c.add_row.result c.add_row.new.memo c.add_row.ensures.memo (omega arith) c.add_row.ensures.ok c.add_row.ensures.err in
-    let flat = flat_kept c.self.inside.flat.now c.self.inside.start c.self.inside.edges c.self.inside.rows c.add_row.new.rows c.self.inside.top c.self.inside.memo c.self.invariant.0 c.add_row.result c.add_row.new.memo c.self.invariant.2 c.add_row.ensures.ok c.add_row.ensures.err in
-    (kept, c.self.invariant.1, flat)
+    (kept, c.self.invariant.1, c.add_row.ensures.flat, c.add_row.ensures.lists)
 
 pub returns-clause-ok : goal.returns-clause-ok
 returns-clause-ok g c =
@@ -47,3 +46,6 @@ add_row-requires-clause-heads g c = c.self.invariant.1
 
 pub add_row-requires-clause-rows : goal.add_row-requires-clause-rows
 add_row-requires-clause-rows g c = record { flat = c.self.invariant.2; are = c.self.invariant.0.rows }
+
+pub add_row-requires-clause-lists : goal.add_row-requires-clause-lists
+add_row-requires-clause-lists g c = c.self.invariant.3

@@ -1,5 +1,7 @@
-use Rattle.std.proofs.Common.{◌∙◌, ◌∷◌, [], ap}
+use Rattle.std.proofs.Common.{◌∙◌, ◌∷◌, [], List, ap, sym, subst}
+use Rattle.recognizer_model.specs.declared.Item.{Item}
 use Rattle.item_rows.specs.Rows.{ItemRows}
+use Rattle.earley_sets.specs.Begun.{AreLists}
 use Rattle.earley_sets.specs.Recognizer.{Recognizer, set_at}
 use Rattle.earley_sets.proofs.Recognizing.{first_there, restarted}
 use Rattle.earley_sets.proofs.recce.Recce.restart.Goals as goal
@@ -13,6 +15,7 @@ invariant_of-self c = (
       (ap (λ (r : ItemRows). r.sets) c.keep_first.ensures) c.clear.ensures,
   c.self.invariant.1,
   ap (λ (r : ItemRows). r.flat) c.keep_first.ensures ∙ c.self.invariant.2,
+  subst (λ (l : List (List Item)). AreLists c.self.inside.flat.now l c.self.inside.lists.numbers.entries) (sym (ap (λ (r : ItemRows). r.shared) c.keep_first.ensures)) c.self.invariant.3,
 )
 
 pub returns-clause-sets : goal.returns-clause-sets

@@ -1,4 +1,4 @@
-use Rattle.std.proofs.Common.{◌≡◌, length, sym, ap, ◌∙◌, List, arith}
+use Rattle.std.proofs.Common.{length, ap, List, arith}
 use Rattle.grammar_model.specs.declared.Edge.{Edge as HeldEdge}
 use Rattle.grammar_core.specs.declared.edges.Edge.{Edge}
 use Rattle.grammar_core.proofs.Placed.{placed_length}

@@ -1,14 +1,11 @@
-use Rattle.std.proofs.Common.{rules, of_calls, ◌≡◌, ◌<◌, ◌≤◌, true, false, length, sym, ap, ◌∙◌, subst, arith, slice_index_or}
-use Rattle.std.specs.Prelude.{nat_lt, nat_le, slice_get, Some}
+use Rattle.std.proofs.Common.{rules, of_calls, ◌≡◌, ◌≤◌, true, false, length, sym, ap, ◌∙◌, subst, arith}
 use Rattle.std.specs.List.Sorted.{IsPartitionPoint, IsPartitionedBy}
 use Rattle.std.proofs.lemmas.Fn.{always_returns_same}
-use Rattle.std.proofs.lemmas.Bool.{ltb-true, ltb-false, leb-true, leb-false}
-use Rattle.recognizer_model.specs.Flat.{FlatRule, FlatGrammar, no_rule, lhs_of, IsRule}
-use Rattle.recognizer_model.specs.declared.flat.FlatSymbol.{FlatSymbol}
-use Rattle.recognizer_model.specs.declared.flat.FlatSymbol.TheVariants.{Terminal, Top}
+use Rattle.recognizer_model.specs.Flat.{FlatGrammar}
+use Rattle.recognizer_model.specs.declared.flat.FlatSymbol.TheVariants.{Top}
 use Rattle.recognizer_model.specs.Invariant.{IsFlat, IsArranged}
 use Rattle.grammar_core.specs.Flat.{terminal_below}
-use Rattle.grammar_core.proofs.Halving.{below_partitioned, up_to_partitioned, terminals_partitioned, only_there, index_get}
+use Rattle.grammar_core.proofs.Halving.{terminals_partitioned, index_get}
 use Rattle.grammar_core.proofs.flat.Flat.terminals_below.Goals as goal
 
 pub returns : goal.returns

@@ -1,19 +1,18 @@
-use Rattle.std.proofs.Common.{◌∙◌, sym, ap, subst, ℕ, List, length}
-use Rattle.item_rows.specs.Rows.{cut, AreEnds}
-use Rattle.item_rows.specs.Dotted.{ArePackedRows}
-use Rattle.item_rows.proofs.Cutting.{first_ends}
-use Rattle.item_rows.proofs.Viewing.{seen, in_ends, packed_first, seen_first}
+use Rattle.std.proofs.Common.{◌+◌, ◌∙◌, sym, ap, subst, ℕ, List, length}
+use Rattle.recognizer_model.specs.declared.Item.{Item}
+use Rattle.item_rows.specs.Held.{AreHeld}
+use Rattle.item_rows.proofs.Joined.{row_length}
+use Rattle.item_rows.proofs.Holding.{seen, items_here, held_first, seen_first}
 use Rattle.item_rows.proofs.rows.Rows.keep_first.Goals as goal
 
 pub invariant_of-self : goal.invariant_of-self
-invariant_of-self c = (
-  subst (λ (l : List ℕ). AreEnds 0 l (length c.self.inside.items.items)) (sym c.truncate.ensures.items) (first_ends c.self.inside.items.items 0 c.self.inside.ends.items c.self.invariant.0),
-  subst (λ (l : List ℕ). ArePackedRows (length c.self.inside.dotted.rules) (cut 0 l c.self.inside.items.items)) (sym c.truncate.ensures.items)
-      (packed_first (length c.self.inside.dotted.rules) c.self.inside.ends.items c.self.inside.items.items
-      (in_ends c.self.inside.dotted.flat c.self.inside.dotted.rules c.self.inside.ends.items c.self.inside.items.items c.args.self.now c.self.view_is 0 c.requires) c.self.invariant.1),
-)
+invariant_of-self c =
+    subst (λ (k : List (List ℕ)). AreHeld c.self.inside.dotted.rules c.self.inside.lists c.self.inside.begun.items k (length c.at-own.result.now + length c.list_of.result.now)) (sym c.keep_first.ensures)
+    (held_first c.self.inside.dotted.flat c.self.inside.dotted.rules c.self.inside.lists c.self.inside.begun.items c.self.inside.kernels c.args.self.now c.self.view_is c.self.inside.count c.self.invariant c.requires (length c.at-own.result.now + length c.list_of.result.now)
+    (sym (row_length c.self.inside.dotted.rules 0 c.at-own.result.now c.list_of.result.now)
+    ∙ ap (λ (l : List Item). length l) (items_here c.self.inside.dotted.flat c.self.inside.dotted.rules c.self.inside.lists c.self.inside.begun.items c.self.inside.kernels c.args.self.now c.self.view_is c.self.inside.count c.self.invariant 0 c.requires c.deref.result.now c.deref.ensures.value c.at-own.result.now c.list_of.result.now c.at-own.ensures c.list_of.ensures)))
 
 pub returns : goal.returns
 returns c =
-    ap (λ (l : List ℕ). seen c.self.inside.dotted.flat c.self.inside.dotted.rules l c.self.inside.items.items) c.truncate.ensures.items
-    ∙ seen_first c.self.inside.dotted.flat c.self.inside.dotted.rules c.self.inside.ends.items c.self.inside.items.items c.args.self.now c.self.view_is c.requires
+    ap (λ (k : List (List ℕ)). seen c.self.inside.dotted.flat c.self.inside.dotted.rules c.self.inside.lists c.self.inside.begun.items k) c.keep_first.ensures
+    ∙ seen_first c.self.inside.dotted.flat c.self.inside.dotted.rules c.self.inside.lists c.self.inside.begun.items c.self.inside.kernels c.args.self.now c.self.view_is c.self.inside.count c.self.invariant c.requires

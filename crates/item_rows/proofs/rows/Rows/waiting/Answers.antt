@@ -1,23 +1,33 @@
-use Rattle.std.proofs.Common.{◌≡◌, ◌<◌, ℕ, sym, subst, List, length, Some, Contains}
+use Rattle.std.proofs.Common.{◌≡◌, subst, List, Some, Contains, arith}
 use Rattle.recognizer_model.specs.declared.Item.{Item}
+use Rattle.recognizer_model.specs.Flat.{FlatGrammar}
 use Rattle.recognizer_model.specs.Items.{after}
 use Rattle.recognizer_model.specs.Counts.{IsListOf}
-use Rattle.item_rows.specs.Rows.{ItemRows, row_at}
-use Rattle.item_rows.proofs.Viewing.{in_ends, packed_here, seen_here}
+use Rattle.item_rows.specs.Rows.{row_at}
+use Rattle.item_rows.proofs.Holding.{same_flat, in_kernels, in_begun, numbers_below, fits, parts_here, items_here}
 use Rattle.item_rows.proofs.rows.Rows.waiting.Goals as goal
 
-pub row_between-packed-requires-clause-place : goal.row_between-packed-requires-clause-place
-row_between-packed-requires-clause-place c =
-    subst (λ (l : List ℕ). c.args.j < length l) (sym c.deref-2.ensures.value)
-    (in_ends c.self.inside.dotted.flat c.self.inside.dotted.rules c.self.inside.ends.items c.self.inside.items.items c.args.self.now c.self.view_is c.args.j c.requires)
+pub at-packed-requires : goal.at-packed-requires
+at-packed-requires c = in_kernels c.self.inside.dotted.flat c.self.inside.dotted.rules c.self.inside.lists c.self.inside.begun.items c.self.inside.kernels c.args.self.now c.self.view_is c.args.j c.requires
+
+pub list_of-begun-requires-clause-place : goal.list_of-begun-requires-clause-place
+list_of-begun-requires-clause-place c = in_begun c.self.inside.dotted.flat c.self.inside.dotted.rules c.self.inside.lists c.self.inside.begun.items c.self.inside.kernels c.args.self.now c.self.view_is c.self.inside.count c.self.invariant c.args.j c.requires c.deref.result.now c.deref.ensures.value
+
+pub list_of-begun-requires-clause-known : goal.list_of-begun-requires-clause-known
+list_of-begun-requires-clause-known c = numbers_below c.self.inside.dotted.flat c.self.inside.dotted.rules c.self.inside.lists c.self.inside.begun.items c.self.inside.kernels c.args.self.now c.self.view_is c.self.inside.count c.self.invariant c.args.j c.requires c.deref.result.now c.deref.ensures.value
+
+pub overflow_cast-j : goal.overflow_cast-j
+overflow_cast-j c = let f = fits c.self.inside.dotted.flat c.self.inside.dotted.rules c.self.inside.lists c.self.inside.begun.items c.self.inside.kernels c.args.self.now c.self.view_is c.self.inside.count c.self.invariant c.args.j c.requires in omega arith
 
 pub waiting-requires : goal.waiting-requires
 waiting-requires c =
-    packed_here c.self.inside.dotted.flat c.self.inside.dotted.rules c.self.inside.ends.items c.self.inside.items.items c.args.self.now c.self.view_is c.args.j c.requires c.deref-2.result.now c.deref.result.now c.row_between-packed.result.now
-    c.deref-2.ensures.value c.deref.ensures.value c.row_between-packed.ensures c.self.invariant.1
+    parts_here c.self.inside.dotted.flat c.self.inside.dotted.rules c.self.inside.lists c.self.inside.begun.items c.self.inside.kernels c.args.self.now c.self.view_is c.self.inside.count c.self.invariant c.args.j c.requires c.deref.result.now c.deref.ensures.value
+    c.at-packed.result.now c.list_of-begun.result.now c.at-packed.ensures c.list_of-begun.ensures
 
 pub returns : goal.returns
 returns c =
-    subst (λ (r : ItemRows). IsListOf (λ item. Contains (row_at c.args.self.now.sets c.args.j) item × (after r.flat item ≡ Some c.args.symbol)) c.waiting.result) c.self.view_is
-    (subst (λ (l : List Item). IsListOf (λ item. Contains l item × (after c.self.inside.dotted.flat item ≡ Some c.args.symbol)) c.waiting.result) (seen_here c.self.inside.dotted.flat c.self.inside.dotted.rules c.self.inside.ends.items c.self.inside.items.items c.args.self.now c.self.view_is c.args.j c.requires c.deref-2.result.now c.deref.result.now c.row_between-packed.result.now
-    c.deref-2.ensures.value c.deref.ensures.value c.row_between-packed.ensures) c.waiting.ensures)
+    subst (λ (f : FlatGrammar). IsListOf (λ item. Contains (row_at c.args.self.now.sets c.args.j) item × (after f item ≡ Some c.args.symbol)) c.waiting.result)
+    (same_flat c.self.inside.dotted.flat c.self.inside.dotted.rules c.self.inside.lists c.self.inside.begun.items c.self.inside.kernels c.args.self.now c.self.view_is)
+    (subst (λ (l : List Item). IsListOf (λ item. Contains l item × (after c.self.inside.dotted.flat item ≡ Some c.args.symbol)) c.waiting.result)
+    (items_here c.self.inside.dotted.flat c.self.inside.dotted.rules c.self.inside.lists c.self.inside.begun.items c.self.inside.kernels c.args.self.now c.self.view_is c.self.inside.count c.self.invariant c.args.j c.requires c.deref.result.now c.deref.ensures.value
+    c.at-packed.result.now c.list_of-begun.result.now c.at-packed.ensures c.list_of-begun.ensures) c.waiting.ensures)

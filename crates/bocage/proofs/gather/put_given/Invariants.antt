@@ -1,9 +1,0 @@
-use Rattle.std.proofs.Common.{◌≤◌}
-use Rattle.recognizer_model.specs.declared.Item.{Item}
-use Rattle.bocage.specs.declared.parts.Part.{Part}
-use Rattle.bocage.specs.Parts.{IsWholeOf}
-use Rattle.bocage.proofs.Gathering.{Gains, ByFirst}
-use Rattle.bocage.proofs.gather.put_given.Given as goal
-
-abbrev pub invariant-loop-item : goal.invariant-loop-item
-invariant-loop-item l = Gains (ByFirst (λ (item : Item) (p : Part). (l.least ≤ item.origin) × IsWholeOf l.w l.ranking l.recce.flat l.end item p) l.given l.item-index) l.initial.parts.items l.parts.items

@@ -1,5 +1,0 @@
-use Rattle.bocage.proofs.Sources.{even_mod}
-use Rattle.bocage.proofs.parts.is_even.Goals as goal
-
-pub returns : goal.returns
-returns c = even_mod c.args.count

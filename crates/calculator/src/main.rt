@@ -1,0 +1,64 @@
+//! A calculator: it writes the value of each line of the standard input, or why it has none. It shows how a program reads by a grammar of its own.
+#![tactic(auto)]
+
+mod arithmetic;
+mod error;
+mod function;
+
+use crate::arithmetic::Arithmetic;
+use crate::error::CalculationError;
+use slif_parser::{Forest, Grammar, Ranking, Reading};
+use std::alloc::Global;
+use std::io;
+
+const GRAMMAR: &str = "lexeme default = latm => 1
+Sum ::= Number
+    | ('(') Sum (')') assoc => group
+    | Name ('(') Sum (')') assoc => group
+   || '-' Sum
+   || Sum '*' Sum
+    | Sum '/' Sum
+   || Sum '+' Sum
+    | Sum '-' Sum
+Number ~ [0-9]+
+Name ~ [a-z]+
+:discard ~ spaces
+spaces ~ [\\s]+
+";
+
+/// The value of an expression.
+fn value_of(alloc: Global, grammar: &Grammar, expression: &str) -> Result<i64, CalculationError> {
+    let reading = grammar.read(alloc, expression.as_bytes())?;
+    value_of_reading(alloc, &reading)
+}
+
+fn value_of_reading(alloc: Global, reading: &Reading<'_>) -> Result<i64, CalculationError> {
+    let forest = reading.forest(alloc, Ranking::Rule)?;
+    first_value(alloc, &forest)
+}
+
+/// The value of the first derivation. There is one, and the grammar gives no more.
+fn first_value(alloc: Global, forest: &Forest<'_>) -> Result<i64, CalculationError> {
+    let mut derivations = forest.derivations(alloc)?;
+    if !derivations.next()? {
+        unreachable!();
+    }
+    derivations.fold(alloc, &mut Arithmetic)?.number()
+}
+
+/// Writes the value of an expression, or why it has none.
+fn tell(rt: &HostRuntime, grammar: &Grammar, expression: &str) -> io::Result<()> {
+    match value_of(rt.alloc(), grammar, expression) {
+        Ok(value) => println!(rt; "{expression} = {value}"),
+        Err(error) => println!(rt; "{expression}: {error}"),
+    }
+}
+
+fn main(rt: HostRuntime) -> Result<(), anyhow::Error> {
+    let grammar = Grammar::from_text(rt.alloc(), GRAMMAR.as_bytes())?;
+    let input = io::read_to_string(rt.alloc(), rt.reader())?;
+    for expression in input.lines() {
+        tell(&rt, &grammar, expression)?;
+    }
+    Ok(())
+}

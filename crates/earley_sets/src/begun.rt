@@ -1,0 +1,177 @@
+//! What begins where some symbols are awaited.
+ghost use Rattle.std.specs.Prelude.{◌≡◌, ◌≢◌, ℕ, ◌<◌, ◌≤◌, ◌⊎◌, ◌↔◌, [], length, IsTrue, OnOk, Contains};
+ghost use Rattle.std.specs.List.{AllPairs};
+ghost use Rattle.recognizer_model.specs.declared.Item.{Item};
+ghost use Rattle.recognizer_model.specs.Flat.{IsRule, lhs_of};
+ghost use Rattle.recognizer_model.specs.Items.{first_item};
+ghost use Rattle.item_rows.specs.Kept.{IsItem, AreItems};
+ghost use Rattle.earley_sets.specs.Heads.{AreHeads};
+ghost use Rattle.earley_sets.specs.Closing.{Follows, IsReached};
+ghost use Rattle.earley_sets.specs.Begun.{IsPredicted, IsFirst, BeginTogether, AreBegun};
+ghost use Rattle.earley_sets.specs.Tried.{RisesBy, MakesLater, MakesOneLater, IsRuleOf, TriesBegun};
+
+use crate::close::{add_items, item_at, refill};
+use crate::follow::{list_skipped, next_symbol};
+use crate::heads::{Heads, rules_of};
+use grammar_core::Flat;
+use indexmap::IndexSet;
+use recognizer_model::Item;
+use slif_base::Steps;
+use std::alloc::{AllocError, AllocFailed};
+use std::sync::ledger::Ledger;
+
+// Lists the first items of the rules from the first one up to the end.
+fn list_predicted(first: u32, end: u32, next: &mut Vec<Item>) -> Result<(), AllocFailed<Item>>
+    ensures listed { OnOk result ((other : Item) → Contains next.new.items other ↔
+        (Contains next.old.items other ⊎ ((r : ℕ) × (first ≤ r) × (r < end) × (other ≡ first_item r 0)))) }
+    ensures links { OnOk result (RisesBy (λ (r : ℕ). (first ≤ r) × (r < end)) (length next.old.items) (length next.new.items)) }
+{
+    for rule in first..end {
+        next.push(Item {
+            rule,
+            dot: 0,
+            origin: 0,
+        })?;
+    }
+    Ok(())
+}
+
+// Lists the first items of a symbol's rules.
+fn list_rules(
+    flat: &Flat,
+    heads: &Heads,
+    symbol: u32,
+    next: &mut Vec<Item>,
+) -> Result<(), AllocFailed<Item>>
+    requires { AreHeads flat.now heads.now.rules.items }
+    ensures listed { OnOk result ((other : Item) → Contains next.new.items other ↔ (Contains next.old.items other ⊎ IsPredicted flat.now symbol other)) }
+    ensures links { OnOk result (RisesBy (λ (r : ℕ). IsRule flat.now r × (lhs_of flat.now r ≡ symbol)) (length next.old.items) (length next.new.items)) }
+{
+    let rules = rules_of(flat, heads, symbol);
+    list_predicted(rules.start, rules.end, next)
+}
+
+// Whether the rules of a symbol have begun in the set.
+fn have_begun(flat: &Flat, heads: &Heads, set: &IndexSet<Item>, symbol: u32) -> bool
+    requires heads { AreHeads flat.now heads.now.rules.items }
+    requires together { BeginTogether flat.now set.now.keys }
+    ensures { IsTrue result → (other : Item) → IsPredicted flat.now symbol other → Contains set.now.keys other }
+{
+    let rules = rules_of(flat, heads, symbol);
+    set.contains(&Item {
+        rule: rules.start,
+        dot: 0,
+        origin: 0,
+    })
+}
+
+// Lists the first items of a symbol's rules, if they are not in the set.
+fn list_unbegun(
+    flat: &Flat,
+    heads: &Heads,
+    set: &IndexSet<Item>,
+    symbol: u32,
+    next: &mut Vec<Item>,
+) -> Result<(), AllocFailed<Item>>
+    requires heads { AreHeads flat.now heads.now.rules.items }
+    requires together { BeginTogether flat.now set.now.keys }
+    requires empty { next.old.items ≡ [] }
+    ensures only { OnOk result ((other : Item) → Contains next.new.items other → IsPredicted flat.now symbol other) }
+    ensures all { OnOk result ((other : Item) → IsPredicted flat.now symbol other → Contains set.now.keys other ⊎ Contains next.new.items other) }
+    ensures links { OnOk result (RisesBy (λ (r : ℕ). IsRule flat.now r × (lhs_of flat.now r ≡ symbol)) 0 (length next.new.items)) }
+{
+    if have_begun(flat, heads, set, symbol) {
+        return Ok(());
+    }
+    list_rules(flat, heads, symbol, next)
+}
+
+// Lists what follows from an item that begins, if it is not in the set.
+fn list_later(
+    flat: &Flat,
+    heads: &Heads,
+    set: &IndexSet<Item>,
+    item: Item,
+    next: &mut Vec<Item>,
+) -> Result<(), AllocFailed<Item>>
+    requires item { IsItem flat.now item }
+    requires origin { item.origin ≡ 0 }
+    requires heads { AreHeads flat.now heads.now.rules.items }
+    requires together { BeginTogether flat.now set.now.keys }
+    ensures only { OnOk result ((other : Item) → Contains next.new.items other → Follows flat.now [] 0 item other) }
+    ensures all { OnOk result ((other : Item) → Follows flat.now [] 0 item other → Contains set.now.keys other ⊎ Contains next.new.items other) }
+    ensures links { OnOk result (RisesBy (MakesLater flat.now item) 0 (length next.new.items)) }
+{
+    flat.known();
+    next.clear();
+    if let Some(symbol) = next_symbol(flat, item) {
+        list_unbegun(flat, heads, set, symbol, next)?;
+        list_skipped(flat, item, symbol, next)?;
+    }
+    Ok(())
+}
+
+// Adds whatever follows from the items of the set.
+fn close_begun<L: Ledger>(
+    flat: &Flat,
+    heads: &Heads,
+    set: &mut IndexSet<Item>,
+    next: &mut Vec<Item>,
+    steps: &mut Steps<L>,
+) -> Result<(), AllocFailed<Item>>
+    requires heads { AreHeads flat.now heads.now.rules.items }
+    requires items { AreItems flat.now set.old.keys }
+    requires origins { (item : Item) → Contains set.old.keys item → item.origin ≡ 0 }
+    requires together { BeginTogether flat.now set.old.keys }
+    ensures closed { OnOk result ((item : Item) → Contains set.new.keys item ↔ IsReached (Follows flat.now [] 0) set.old.keys item) }
+    ensures counted { OnOk result (RisesBy (MakesOneLater flat.now set.new.keys) steps.old steps.new) }
+{
+    for k in 0..usize::MAX {
+        let Some(item) = item_at(set, k) else {
+            return Ok(());
+        };
+        list_later(flat, heads, set, item, next)?;
+        add_items(set, next, steps)?;
+    }
+    let _len = set.len();
+    Ok(())
+}
+
+// Lists the first items of the symbols' rules, in place of what it held.
+fn list_firsts(
+    flat: &Flat,
+    heads: &Heads,
+    symbols: &[u32],
+    next: &mut Vec<Item>,
+) -> Result<(), AllocFailed<Item>>
+    requires heads { AreHeads flat.now heads.now.rules.items }
+    requires once { AllPairs (λ x y. x ≢ y) symbols.now }
+    ensures listed { OnOk result ((item : Item) → Contains next.new.items item ↔ IsFirst flat.now symbols.now item) }
+    ensures tried { OnOk result (RisesBy (IsRuleOf flat.now symbols.now) 0 (length next.new.items)) }
+{
+    next.clear();
+    for symbol in symbols {
+        list_rules(flat, heads, *symbol, next)?;
+    }
+    Ok(())
+}
+
+/// Lists what begins where some symbols are awaited, in place of what the set held. Each try to add an item is a step.
+pub fn fill_begun<L: Ledger>(
+    flat: &Flat,
+    heads: &Heads,
+    symbols: &[u32],
+    set: &mut IndexSet<Item>,
+    next: &mut Vec<Item>,
+    steps: &mut Steps<L>,
+) -> Result<(), AllocError>
+    requires heads { AreHeads flat.now heads.now.rules.items }
+    requires once { AllPairs (λ x y. x ≢ y) symbols.now }
+    ensures begun { OnOk result (AreBegun flat.now (Contains symbols.now) set.new.keys) }
+    ensures tried { OnOk result (TriesBegun flat.now symbols.now set.new.keys steps.old steps.new) }
+{
+    list_firsts(flat, heads, symbols, next)?;
+    refill(set, next, steps)?;
+    close_begun(flat, heads, set, next, steps)?;
+    Ok(())
+}

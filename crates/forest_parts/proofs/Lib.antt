@@ -1,0 +1,8 @@
+pub mod Sets
+pub mod RowLemmas
+pub mod InOrder
+pub mod Sources
+pub mod Gathering
+pub mod PartOrder
+pub mod Ranks
+pub mod Spans

@@ -1,0 +1,4 @@
+pub mod Lists
+pub mod Hidden
+pub mod Parts
+pub mod Groups

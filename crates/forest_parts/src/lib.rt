@@ -1,0 +1,10 @@
+//! What may be the last part of a node that ends at a place: the edges and whole rules that end there, in the declared order, in groups of one symbol over one span.
+#![tactic(auto)]
+
+mod gather;
+mod groups;
+mod parts;
+
+pub use gather::{list_hidden, list_parts};
+pub use groups::{Group, list_groups};
+pub use parts::{Part, RuleKey, is_null_high, parts_between};

@@ -1,0 +1,4 @@
+pub mod Errors
+pub mod Messages
+pub mod Views
+pub mod Readings

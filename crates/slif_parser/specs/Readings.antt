@@ -1,0 +1,60 @@
+-- What is known of an input that is read, of its forest, and of its derivations. The derivations are those of the run.
+use Rattle.std.specs.Prelude.{◌≡◌, ℕ, Bool, true, false, List, [], ◌∷◌, ◌++◌, Some, IfSome, Result, map, chars}
+use Rattle.grammar_model.specs.Trees.{Tree}
+use Rattle.grammar_model.specs.Steps.{steps_of}
+use Rattle.grammar_model.specs.Values.{Token}
+use Rattle.grammar_model.specs.declared.Ranking.{Ranking}
+use Rattle.language_model.specs.Building.{Built}
+use Rattle.reading_model.specs.Reading.{Piece, End, IsReading, spans_from}
+use Rattle.run_model.specs.Inputs.{IsRead}
+use Rattle.run_model.specs.Listing.{AreDerivations}
+use Rattle.scanless.specs.Reading.{span_of}
+use Rattle.tree_iter.specs.Iteration.{AreGiven, begun}
+use Rattle.text_reading.specs.Parts.{HasForest}
+use Rattle.valuator.specs.Play.{tokens_of}
+use Rattle.tree_fold.specs.Values.{HasValue, Fails}
+use Rattle.slif_parser.specs.Views.{Read, ForestOf, DerivationsOf}
+
+-- the bytes are read to their end in these pieces, and this is seen of it
+pub record IsReadAs (b : Built) (bytes : List ℕ) (r : Read) : Type 0 where
+  pub grammar_is : r.grammar ≡ b
+  pub characters_are : r.characters ≡ chars bytes
+  pub pieces : List Piece
+  pub is : IsRead b bytes pieces
+  pub spans_are : map span_of r.spans ≡ spans_from 0 pieces
+
+-- the forest of the derivations, of which there is one
+pub record IsForestAs (r : Read) (ranking : Ranking) (f : ForestOf) : Type 0 where
+  pub read_is : f.read ≡ r
+  pub has : HasForest r.grammar ranking r.characters r.spans f.forest
+
+-- no derivation was given yet
+pub record IsBegun (f : ForestOf) (d : DerivationsOf) : Type 0 where
+  pub read_is : d.read ≡ f.read
+  pub is : d.iteration ≡ begun f.forest
+  pub none : AreGiven d.iteration []
+
+-- the list is that of all derivations, in the declared order
+pub record AreAll (d : DerivationsOf) (trees : List Tree) : Type 0 where
+  pub pieces : List Piece
+  pub reading : IsReading d.read.grammar d.read.characters pieces End
+  pub all : AreDerivations d.read.grammar d.iteration.forest.ranking pieces trees
+
+-- these are the first of them
+abbrev pub IsFrontOfAll : DerivationsOf → List Tree → Type 0
+IsFrontOfAll d given = (rest : List Tree) × AreAll d (given ++ rest)
+
+-- behind those given before, one more is given, at which it then stands; or those were all
+abbrev pub IsNext : (new : DerivationsOf) → (given : List Tree) → Bool → Type 0
+IsNext new given true = (tree : Tree) × AreGiven new.iteration (given ++ tree ∷ []) × (new.iteration.current ≡ Some (steps_of tree))
+IsNext new given false = AreAll new given
+
+-- THE VALUE OF THE CURRENT DERIVATION
+
+module _ {V E : Type 0} (token_gives : List ℕ → Token → Result V E → Type 0) (nulled_gives : List ℕ → Result V E → Type 0)
+    (rule_gives : ℕ → List ℕ → List V → Result V E → Type 0) (d : DerivationsOf) where
+  abbrev pub ValueBy : V → Type 0
+  ValueBy v = (t : Tree) → d.iteration.current ≡ Some (steps_of t) → HasValue token_gives nulled_gives rule_gives d.read.grammar.g1 (tokens_of d.read.characters d.read.spans) t v
+
+  abbrev pub FailsBy : E → Type 0
+  FailsBy e = IfSome d.iteration.current (λ steps. Fails token_gives nulled_gives rule_gives d.read.grammar.g1 (tokens_of d.read.characters d.read.spans) steps e)

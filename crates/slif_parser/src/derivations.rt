@@ -1,0 +1,124 @@
+//! The derivations of an input, one after another.
+ghost use Rattle.std.specs.Prelude.{◌≡◌, ◌<◌, [], List, length, map, IfOk, IfErr, OnErr, IfSome, IsSome, IsFalse, IsTrue};
+ghost use Rattle.grammar_model.specs.Trees.{Tree};
+ghost use Rattle.grammar_core.specs.Steps.{step_of};
+ghost use Rattle.tree_iter.specs.Iteration.{AreGiven, IsAnswer, between, begun};
+ghost use Rattle.text_reading.specs.Parts.{HasForest};
+ghost use Rattle.tree_fold.specs.Failing.{IsFailure};
+ghost use Rattle.slif_parser.specs.Readings.{IsNext, IsFrontOfAll, ValueBy, FailsBy};
+
+use crate::{FoldError, NoMemory, Semantics, Span, TreeStep};
+use scanless::Prepared;
+use slif_base::{Chars, Steps};
+use std::alloc::Global;
+use std::marker::{Brand, Model};
+use std::sync::ledger::{Blank, Ledger};
+use tree_fold::fold_steps;
+use tree_iter::TreeIter;
+
+/// The derivations of an input, one after another in the declared order, each once. It stands before the first, at one, or behind the last.
+#[derive(Drop)]
+pub struct Derivations<'f> {
+    prepared: &'f Prepared,
+    chars: &'f Chars,
+    spans: &'f [Span],
+    iter: TreeIter<'f>,
+}
+
+impl<'f> Model for Derivations<'f> {
+    ghost use Rattle.slif_parser.specs.Views.{DerivationsOf, IsUnderWay};
+
+    ghost Value = { DerivationsOf };
+
+    ghost view = { λ d. record { read = record { grammar = d.prepared.now; characters = d.chars.now; spans = d.spans.now }; iteration = d.iter } };
+
+    ghost invariant = { λ d. IsUnderWay d.prepared.now d.chars.now d.spans.now d.iter };
+}
+
+// Goes on, on a counter of its own.
+fn next_with<L: Ledger>(blank: Blank, iter: &mut TreeIter<'_>) -> Result<bool, NoMemory>
+    requires name { blank.name ≡ L.name }
+    requires parts { blank.parts ≡ L.parts }
+    requires some { 0 < blank.parts }
+    ensures answer { IfOk result (λ more. (given : List Tree) → AreGiven iter.old given → IsAnswer iter.new given more) }
+    ensures end { IfOk result (λ more. IsFalse more → iter.new ≡ between iter.old) }
+    ensures forest { iter.new.forest ≡ iter.old.forest }
+    ensures err { OnErr result (iter.new ≡ iter.old) }
+{
+    let mut steps = Steps::<L>::of_blank(blank);
+    iter.next(&mut steps)
+}
+
+impl<'f> Derivations<'f> {
+    /// Those of a forest.
+    pub(crate) fn of(
+        alloc: Global,
+        prepared: &'f Prepared,
+        chars: &'f Chars,
+        spans: &'f [Span],
+        forest: &'f bocage::Forest<'f>,
+    ) -> Result<Derivations<'f>, NoMemory>
+        requires { HasForest prepared.now forest.now.ranking chars.now spans.now forest.now }
+        ensures view { IfOk result (λ d. d ≡ record { read = record { grammar = prepared.now; characters = chars.now; spans = spans.now }; iteration = begun forest.now }) }
+        ensures none { IfOk result (λ d. AreGiven d.iteration []) }
+    {
+        let iter = TreeIter::new(alloc, forest)?;
+        Ok(Derivations {
+            prepared,
+            chars,
+            spans,
+            iter,
+        })
+    }
+
+    /// Goes to the next derivation, and answers whether there is one. A call that runs out of memory leaves all as it was, and the next call
+    /// goes on. More than 2^64 - 1 derivations count as too many for memory.
+    pub fn next(&mut self) -> Result<bool, NoMemory>
+        ensures answer { IfOk result (λ more. (given : List Tree) → AreGiven self.old.iteration given → IsNext self.new given more) }
+        ensures first { AreGiven self.old.iteration [] → IfOk result IsTrue }
+        ensures end { IfOk result (λ more. IsFalse more → self.new.iteration ≡ between self.old.iteration) }
+        ensures read { self.new.read ≡ self.old.read }
+        ensures forest { self.new.iteration.forest ≡ self.old.iteration.forest }
+        ensures err { OnErr result (self.new ≡ self.old) }
+    {
+        self.prepared.known();
+        next_with::<Brand>(Blank::new(1), &mut self.iter)
+    }
+
+    /// States that those given are the first of all derivations.
+    pub fn known(&self)
+        ensures { (given : List Tree) → AreGiven self.now.iteration given → IsFrontOfAll self.now given }
+    {
+        let _ = &self.iter;
+    }
+
+    /// The steps of the current derivation, children before their rule.
+    pub fn steps(&self) -> &[TreeStep]
+        requires { IsSome self.now.iteration.current }
+        ensures { IfSome self.now.iteration.current (λ steps. map step_of result.now ≡ steps) }
+    {
+        self.iter.current_steps()
+    }
+
+    /// The value of the current derivation by a semantics of the caller's own, which is asked for its parts from the left, children before
+    /// their rule. Values wait on one stack.
+    pub fn fold<S: Semantics>(
+        &self,
+        alloc: Global,
+        semantics: &mut S,
+    ) -> Result<S::Value, FoldError<S::Error>>
+        requires { IsSome self.now.iteration.current }
+        ensures value { IfOk result (ValueBy S.token_gives S.nulled_gives S.rule_gives self.now) }
+        ensures failure { IfErr result (IsFailure (FailsBy S.token_gives S.nulled_gives S.rule_gives self.now)) }
+    {
+        self.prepared.known();
+        fold_steps(
+            alloc,
+            self.prepared.written(),
+            self.chars,
+            self.spans,
+            self.iter.current_steps(),
+            semantics,
+        )
+    }
+}

@@ -1,0 +1,66 @@
+//! A grammar, ready to read with.
+ghost use Rattle.std.specs.Prelude.{◌≡◌, ◌≤◌, ◌↔◌, length, IfOk, IfErr, IfSome, IsNone};
+ghost use Rattle.grammar_model.specs.Values.{name_of};
+ghost use Rattle.run_model.specs.Refused.{Accepted};
+ghost use Rattle.text_reading.specs.Refusals.{IsRefusedAt, IsInputRefusedAt};
+ghost use Rattle.slif_parser.specs.Errors.{TellsGrammar, TellsInput};
+ghost use Rattle.slif_parser.specs.Readings.{IsReadAs};
+
+use crate::error::error_of;
+use crate::reading::read_bytes;
+use crate::{ParseError, Reading, SymbolId};
+use scanless::Prepared;
+use std::alloc::Global;
+use std::marker::{Brand, Model};
+use std::sync::ledger::Blank;
+use text_reading::grammar_of;
+
+/// A grammar that is accepted. It is seen as what its text is built to: both grammars, with the tables of lexemes and meanings.
+#[derive(Drop)]
+pub struct Grammar {
+    prepared: Prepared,
+}
+
+impl Model for Grammar {
+    ghost use Rattle.language_model.specs.Building.{Built};
+
+    ghost Value = { Built };
+
+    ghost view = { λ g. g.prepared };
+}
+
+impl Grammar {
+    /// The grammar of a text, in UTF-8.
+    pub fn from_text(alloc: Global, text: &[u8]) -> Result<Grammar, ParseError>
+        ensures accepted { IfOk result (Accepted text.now) }
+        ensures refused { IfErr result (TellsGrammar (IsRefusedAt text.now)) }
+    {
+        match grammar_of(alloc, text) {
+            Ok(prepared) => Ok(Grammar { prepared }),
+            Err(refusal) => Err(error_of(alloc, refusal)),
+        }
+    }
+
+    /// A symbol's name, where there is such a symbol.
+    pub fn name(&self, symbol: SymbolId) -> Option<&str>
+        ensures name { IfSome result (λ name. name.now ≡ name_of self.now.g1 symbol) }
+        ensures none { IsNone result ↔ (length self.now.g1.names ≤ symbol) }
+    {
+        let written = self.prepared.written();
+        if symbol.0 as usize >= written.symbol_count() {
+            return None;
+        }
+        Some(written.name(symbol))
+    }
+
+    /// Reads an input, in UTF-8, to its end.
+    pub fn read(&self, alloc: Global, input: &[u8]) -> Result<Reading<'_>, ParseError>
+        ensures read { IfOk result (IsReadAs self.now input.now) }
+        ensures refused { IfErr result (TellsInput (IsInputRefusedAt self.now input.now)) }
+    {
+        match read_bytes::<Brand>(Blank::new(1), alloc, &self.prepared, input) {
+            Ok(reading) => Ok(reading),
+            Err(refusal) => Err(error_of(alloc, refusal)),
+        }
+    }
+}

@@ -1,0 +1,20 @@
+//! Parsing by a grammar of the grammar language: a grammar from its text, an input read by it, its derivations one after another, and
+//! values made of them by a semantics of the caller's own. It stands for all that lies below; nothing else is needed.
+#![tactic(auto)]
+
+mod derivations;
+mod error;
+mod forest;
+mod grammar;
+mod reading;
+
+pub use derivations::Derivations;
+pub use error::ParseError;
+pub use forest::Forest;
+pub use grammar::Grammar;
+pub use grammar_core::{RuleId, Span, SymbolId, TreeStep};
+pub use grammar_model::Ranking;
+pub use reading::Reading;
+pub use text_reading::Place;
+pub use tree_fold::{FoldError, Semantics, Token};
+pub use value_text::NoMemory;

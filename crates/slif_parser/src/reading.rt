@@ -1,0 +1,83 @@
+//! An input that is read to its end.
+ghost use Rattle.std.specs.Prelude.{◌≡◌, ◌<◌, IfOk, IfErr};
+ghost use Rattle.text_reading.specs.Refusals.{IsInputRefusedAt, IsNoDerivation, TellsInput as TellsRefusal};
+ghost use Rattle.slif_parser.specs.Errors.{TellsInput};
+ghost use Rattle.slif_parser.specs.Readings.{IsReadAs, IsForestAs};
+
+use crate::error::error_of;
+use crate::forest::forest_with;
+use crate::{Forest, ParseError, Ranking};
+use bumpalo::Bump;
+use scanless::Prepared;
+use slif_base::{Chars, Steps};
+use std::alloc::Global;
+use std::marker::{Brand, Model};
+use std::sync::ledger::{Blank, Ledger};
+use text_reading::{Refusal, input_chars, input_too_long, read_text};
+
+const LIMIT: usize = 16_777_216;
+
+/// An input that is read to its end. It is seen as the grammar, the characters, and the spans of the tokens.
+#[derive(Drop)]
+pub struct Reading<'g> {
+    pub(crate) prepared: &'g Prepared,
+    pub(crate) chars: Chars,
+    pub(crate) tokens: scanless::Reading<'g>,
+    pub(crate) arena: Bump,
+}
+
+impl<'g> Model for Reading<'g> {
+    ghost use Rattle.slif_parser.specs.Views.{Read, IsHeld};
+
+    ghost Value = { Read };
+
+    ghost view = { λ r. record { grammar = r.prepared.now; characters = r.chars; spans = r.tokens.spans.items } };
+
+    ghost invariant = { λ r. IsHeld r.prepared.now r.chars r.tokens.recce r.tokens.spans.items };
+}
+
+/// Reads the bytes of an input, on a counter of its own.
+pub fn read_bytes<'g, L: Ledger>(
+    blank: Blank,
+    alloc: Global,
+    prepared: &'g Prepared,
+    input: &[u8],
+) -> Result<Reading<'g>, Refusal>
+    requires name { blank.name ≡ L.name }
+    requires parts { blank.parts ≡ L.parts }
+    requires some { 0 < blank.parts }
+    ensures read { IfOk result (IsReadAs prepared.now input.now) }
+    ensures refused { IfErr result (TellsRefusal (IsInputRefusedAt prepared.now input.now)) }
+{
+    if input.len() > LIMIT {
+        return Err(input_too_long(alloc));
+    }
+    let chars = match input_chars(alloc, input) {
+        Ok(chars) => chars,
+        Err(refusal) => return Err(refusal),
+    };
+    let mut steps = Steps::<L>::of_blank(blank);
+    match read_text(alloc, prepared, &chars, &mut steps) {
+        Ok(tokens) => Ok(Reading {
+            prepared,
+            chars,
+            tokens,
+            arena: Bump::new(alloc),
+        }),
+        Err(refusal) => Err(refusal),
+    }
+}
+
+impl<'g> Reading<'g> {
+    /// The forest of the derivations of the tokens from the start symbol. `ranking` says whether ranks of rules count in their order, and
+    /// which derivations are chosen.
+    pub fn forest(&self, alloc: Global, ranking: Ranking) -> Result<Forest<'_>, ParseError>
+        ensures forest { IfOk result (IsForestAs self.now ranking) }
+        ensures refused { IfErr result (TellsInput (IsNoDerivation self.now.grammar ranking self.now.characters)) }
+    {
+        match forest_with::<Brand>(Blank::new(1), alloc, self, ranking) {
+            Ok(forest) => Ok(forest),
+            Err(refusal) => Err(error_of(alloc, refusal)),
+        }
+    }
+}

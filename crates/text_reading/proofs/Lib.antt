@@ -1,0 +1,4 @@
+mod Refusing
+pub mod InputLemmas
+pub mod Derived
+mod OneLine

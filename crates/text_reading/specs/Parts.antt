@@ -1,0 +1,100 @@
+-- What is known where a part of the way from bytes to what is read stops.
+use Rattle.std.specs.Prelude.{◌≡◌, ℕ, List, [], ◌∷◌, ◌++◌, Option, Some, None, map, codes, decimal, IsUtf8, slice_index_or}
+use Rattle.std.specs.Str.{IsValidUpTo}
+use Rattle.grammar_model.specs.Grammar.{Grammar, slot_of}
+use Rattle.grammar_model.specs.Trees.{Tree}
+use Rattle.grammar_model.specs.Derives.{Held, Derives}
+use Rattle.grammar_model.specs.declared.Edge.{Edge}
+use Rattle.grammar_model.specs.declared.Ranking.{Ranking}
+use Rattle.grammar_model.specs.Chosen.{IsChosen}
+use Rattle.grammar_core.specs.declared.steps.Span.{Span}
+use Rattle.earley_sets.specs.Recognizer.{Recognizer}
+use Rattle.language_model.specs.declared.token.Token.{Token}
+use Rattle.language_model.specs.Tokens.{AreTokens, IsBadPlace, spelled_at}
+use Rattle.language_model.specs.Description.{Statement, Describes, IsBadStatement}
+use Rattle.language_model.specs.Building.{Built, BuildFault, faults_of}
+use Rattle.language_model.specs.Texts.{IsBuiltOf}
+use Rattle.reading_model.specs.Accepted.{GrammarFault, HasGrammarFault}
+use Rattle.reading_model.specs.Reading.{Piece, Stopped, IsReading, AreExpected, edges_of, place_after}
+use Rattle.forest_model.specs.Forest.{Forest}
+use Rattle.run_model.specs.Texts.{place_text}
+use Rattle.run_model.specs.Refused.{build_text, grammar_text}
+use Rattle.run_model.specs.Inputs.{stop_text}
+use Rattle.scanless.specs.Reading.{HoldsPieces}
+use Rattle.value_lines.specs.Lines.{IsForestOf}
+use Rattle.text_reading.specs.declared.refusal.Place.{Place}
+use Rattle.text_reading.specs.Refusals.{place_in, fault_at}
+
+-- THE GRAMMAR
+
+-- the characters have this description
+pub record IsDescriptionOf (d : List Statement) (cs : List ℕ) : Type 0 where
+  pub tokens : List Token
+  pub are : AreTokens cs tokens
+  pub described : Describes d (map (spelled_at cs) tokens)
+
+-- why characters have no description, as it is told
+pub data IsBadText (cs text : List ℕ) (place : Option Place) : Type 0 where
+  OfTokens : (at : ℕ) → IsBadPlace cs at → text ≡ codes "grammar: bad token at " ++ place_text cs at → place ≡ Some (place_in cs at) → IsBadText cs text place
+  OfStatements : (at : ℕ) (tokens : List Token) → AreTokens cs tokens → IsBadStatement (map (spelled_at cs) tokens) at →
+      text ≡ codes "grammar: bad statement at " ++ place_text cs at → place ≡ Some (place_in cs at) → IsBadText cs text place
+
+-- why grammars are not accepted, as it is told
+pub record IsGrammarText (b : Built) (text : List ℕ) : Type 0 where
+  pub fault : GrammarFault
+  pub has : HasGrammarFault b fault
+  pub told : text ≡ grammar_text b fault
+
+-- what is told of a fault of the description, where there is one
+abbrev pub IsFaultText : List ℕ → Option BuildFault → List ℕ → Type 0
+IsFaultText cs None text = ⊥
+IsFaultText cs (Some fault) text = text ≡ codes "grammar: " ++ build_text cs fault
+
+-- why a description of these characters is not accepted, as it is told
+pub data IsBadDescription (cs : List ℕ) (d : List Statement) (text : List ℕ) (place : Option Place) : Type 0 where
+  OfBuilding : (fault : BuildFault) (others : List BuildFault) → faults_of d ≡ fault ∷ others → text ≡ codes "grammar: " ++ build_text cs fault →
+      place ≡ Some (place_in cs (fault_at fault)) → IsBadDescription cs d text place
+  OfGrammars : (b : Built) → IsBuiltOf d b → IsGrammarText b text → place ≡ None → IsBadDescription cs d text place
+
+-- THE INPUT
+
+-- the text tells where the bytes are not UTF-8
+pub record IsBrokenText (bytes text : List ℕ) (place : Option Place) (expected : List ℕ) : Type 0 where
+  pub at : ℕ
+  pub broken : ¬ (IsUtf8 bytes)
+  pub front : IsValidUpTo bytes at
+  pub told : text ≡ codes "input is not UTF-8 at byte " ++ decimal at
+  pub place_is : place ≡ None
+  pub expected_is : expected ≡ []
+
+-- the text tells where reading these characters stops
+pub record IsStopText (b : Built) (cs text : List ℕ) (place : Option Place) (expected : List ℕ) : Type 0 where
+  pub pieces : List Piece
+  pub at : ℕ
+  pub found : List ℕ
+  pub reading : IsReading b cs pieces (Stopped at found expected)
+  pub told : text ≡ stop_text b.g1 cs at found expected
+  pub place_is : place ≡ Some (place_in cs at)
+
+-- DERIVATIONS
+
+-- the recognizer holds some pieces
+abbrev pub HoldsSome : Built → Recognizer → Type 0
+HoldsSome b recce = (pieces : List Piece) × HoldsPieces b pieces recce
+
+-- these are the lexemes that are expected behind the pieces that the recognizer holds
+abbrev pub AreExpectedOf : Built → Recognizer → List ℕ → Type 0
+AreExpectedOf b recce expected = (pieces : List Piece) → HoldsPieces b pieces recce → AreExpected b pieces expected
+
+-- a derivation of a start over all places that the ranking chooses
+abbrev pub IsChosenOf : Grammar → List Edge → Ranking → (start place : ℕ) → Tree → Type 0
+IsChosenOf g edges ranking start place t =
+    Derives g (Held edges) (slot_of (slice_index_or g.starts start 0)) 0 place t × IsChosen ranking g (Held edges) (slot_of (slice_index_or g.starts start 0)) t
+
+-- the forest of the characters' chosen derivations, of which there is one
+pub record HasForest (b : Built) (ranking : Ranking) (cs : List ℕ) (spans : List Span) (f : Forest) : Type 0 where
+  pub pieces : List Piece
+  pub of : IsForestOf b cs spans f pieces
+  pub ranking_is : f.ranking ≡ ranking
+  pub tree : Tree
+  pub chosen : IsChosenOf b.g1 (edges_of pieces) ranking 0 (place_after pieces) tree

@@ -1,0 +1,77 @@
+// The forest of a reading.
+ghost use Rattle.std.specs.Prelude.{◌≡◌, ◌≤◌, ◌+◌, ℕ, None, length, IfOk, IfErr};
+ghost use Rattle.recognizer_model.specs.Counts.{IsCountOf};
+ghost use Rattle.recognizer_model.specs.Chosen.{allowed_by};
+ghost use Rattle.recognizer_model.specs.Nodes.{IsExpanded};
+ghost use Rattle.earley_sets.specs.Recognizer.{edges_of, top_of, place_of};
+ghost use Rattle.scanless.specs.Reading.{IsReadingOf};
+ghost use Rattle.scanless.specs.declared.reading.Ending.TheVariants.{End};
+ghost use Rattle.run_model.specs.Telling.{no_derivation_text};
+ghost use Rattle.text_reading.specs.Refusals.{TellsInput, IsNoDerivation};
+ghost use Rattle.text_reading.specs.Parts.{HasForest, HoldsSome, AreExpectedOf};
+
+use crate::Refusal;
+use crate::inputs::append_names;
+use bocage::{Forest, ForestRefusal};
+use bumpalo::Bump;
+use earley_sets::trees_are_derivations;
+use grammar_model::Ranking;
+use scanless::{Prepared, Reading, expected_lexemes};
+use slif_base::{Chars, Steps};
+use std::alloc::{AllocError, Global};
+use std::sync::ledger::Ledger;
+
+/// The forest of the derivations, in the arena; or the input ended without one.
+pub fn forest_of<'r, L: Ledger>(
+    alloc: Global,
+    arena: &'r Bump,
+    prepared: &'r Prepared,
+    ranking: Ranking,
+    chars: &Chars,
+    reading: &'r Reading<'r>,
+    steps: &mut Steps<L>,
+) -> Result<Forest<'r>, Refusal>
+    requires few { length chars.now ≤ 16777216 }
+    requires read { IsReadingOf prepared.now chars.now reading.now.recce reading.now.spans.items End }
+    ensures forest { IfOk result (λ f. HasForest prepared.now ranking chars.now reading.now.spans.items f) }
+    ensures refused { IfErr result (TellsInput (IsNoDerivation prepared.now ranking chars.now)) }
+    ensures counted { (n : ℕ) → IsCountOf (IsExpanded reading.now.recce.flat (edges_of reading.now.recce) (allowed_by prepared.now.g1 ranking reading.now.recce.flat (edges_of reading.now.recce)) (top_of reading.now.recce) (place_of reading.now.recce)) n → steps.new ≤ steps.old + n }
+{
+    trees_are_derivations();
+    prepared.known();
+    let _flat = prepared.flat();
+    let _place = reading.recce.place();
+    let _ = chars;
+    match Forest::build(
+        alloc,
+        arena,
+        &reading.recce,
+        prepared.written(),
+        ranking,
+        steps,
+    ) {
+        Ok(forest) => Ok(forest),
+        Err(ForestRefusal::NoParse) => Err(no_derivation(alloc, prepared, reading)?),
+        Err(ForestRefusal::NoMemory) => Err(Refusal::NoMemory),
+    }
+}
+
+// The refusal where there is no derivation.
+fn no_derivation(
+    alloc: Global,
+    prepared: &Prepared,
+    reading: &Reading<'_>,
+) -> Result<Refusal, AllocError>
+    requires { HoldsSome prepared.now reading.now.recce }
+    ensures { IfOk result (TellsInput (λ text place expected. AreExpectedOf prepared.now reading.now.recce expected × (text ≡ no_derivation_text prepared.now.g1 expected) × (place ≡ None))) }
+{
+    prepared.known();
+    let expected = expected_lexemes(alloc, prepared, &reading.recce)?;
+    let mut text = Vec::from_slice(alloc, b"input ended without a derivation; expected: ")?;
+    append_names(prepared.written(), &expected, &mut text)?;
+    Ok(Refusal::Input {
+        text,
+        place: None,
+        expected,
+    })
+}

@@ -1,0 +1,152 @@
+// The grammars of a text.
+ghost use Rattle.std.specs.Prelude.{◌≡◌, ◌≤◌, ◌<◌, IfOk, IfErr, OnOk, None, IsUtf8, chars as chars_in, length};
+ghost use Rattle.language_model.specs.Texts.{IsDescription, IsBuilt, IsBuiltOf};
+ghost use Rattle.reading_model.specs.Accepted.{IsAccepted};
+ghost use Rattle.run_model.specs.Refused.{Accepted};
+ghost use Rattle.text_reading.specs.Refusals.{TellsGrammar, IsRefusedAt};
+ghost use Rattle.text_reading.specs.Parts.{IsDescriptionOf, IsBadText, IsBadDescription, IsGrammarText};
+
+use crate::Refusal;
+use crate::phrases::{
+    description_place, description_text, grammars_text, not_utf8_text, phrase, place_in,
+};
+use dsl_build::{Built, build};
+use dsl_reader::{StatementRefusal, parse};
+use dsl_statement::Description;
+use dsl_tokens::{TokenRefusal, tokens};
+use scanless::{Prepared, prepare};
+use slif_base::{Chars, TextRefusal, chars_of};
+use std::alloc::Global;
+
+const LIMIT: usize = 1_048_576;
+
+/// The grammars of a text, whatever its length.
+pub fn grammar_of(alloc: Global, bytes: &[u8]) -> Result<Prepared, Refusal>
+    ensures read { IfOk result (Accepted bytes.now) }
+    ensures refused { IfErr result (TellsGrammar (IsRefusedAt bytes.now)) }
+{
+    if bytes.len() > LIMIT {
+        let text = Vec::from_slice(alloc, b"grammar: longer than 1048576 bytes")?;
+        return Err(Refusal::Grammar { text, place: None });
+    }
+    read_grammar(alloc, bytes)
+}
+
+/// The grammars of a text that is not too long.
+pub fn read_grammar(alloc: Global, bytes: &[u8]) -> Result<Prepared, Refusal>
+    requires { length bytes.now ≤ 1048576 }
+    ensures read { IfOk result (Accepted bytes.now) }
+    ensures refused { IfErr result (TellsGrammar (IsRefusedAt bytes.now)) }
+{
+    let chars = match characters(alloc, bytes) {
+        Ok(chars) => chars,
+        Err(refusal) => return Err(refusal),
+    };
+    let description = match describe(alloc, &chars) {
+        Ok(description) => description,
+        Err(refusal) => return Err(refusal),
+    };
+    match accept(alloc, &chars, &description) {
+        Ok(prepared) => Ok(prepared),
+        Err(refusal) => Err(refusal),
+    }
+}
+
+fn characters(alloc: Global, bytes: &[u8]) -> Result<Chars, Refusal>
+    requires { length bytes.now ≤ 1048576 }
+    ensures utf8 { OnOk result (IsUtf8 bytes.now) }
+    ensures ok { IfOk result (λ chars. chars ≡ chars_in bytes.now) }
+    ensures refused { IfErr result (TellsGrammar (IsRefusedAt bytes.now)) }
+{
+    match chars_of(alloc, bytes) {
+        Ok(chars) => Ok(chars),
+        Err(TextRefusal::NotUtf8 { at }) => {
+            let text = not_utf8_text(alloc, at)?;
+            Err(Refusal::Grammar { text, place: None })
+        }
+        Err(TextRefusal::NoMemory) => Err(Refusal::NoMemory),
+    }
+}
+
+/// The description of a text.
+fn describe(alloc: Global, chars: &Chars) -> Result<Description, Refusal>
+    requires { length chars.now < 4294967295 }
+    ensures described { IfOk result (λ d. IsDescriptionOf d chars.now) }
+    ensures refused { IfErr result (TellsGrammar (IsBadText chars.now)) }
+{
+    let tokens = match tokens(alloc, chars) {
+        Ok(tokens) => tokens,
+        Err(TokenRefusal::BadToken { at }) => {
+            let text = phrase(alloc, b"grammar: bad token", "", b"", chars, at)?;
+            return Err(Refusal::Grammar {
+                text,
+                place: Some(place_in(chars, at)),
+            });
+        }
+        Err(TokenRefusal::NoMemory) => return Err(Refusal::NoMemory),
+    };
+    match parse(alloc, chars, &tokens) {
+        Ok(description) => Ok(description),
+        Err(StatementRefusal::BadStatement { at }) => {
+            let text = phrase(alloc, b"grammar: bad statement", "", b"", chars, at)?;
+            Err(Refusal::Grammar {
+                text,
+                place: Some(place_in(chars, at)),
+            })
+        }
+        Err(StatementRefusal::NoMemory) => Err(Refusal::NoMemory),
+    }
+}
+
+/// The grammars of a description.
+fn accept(alloc: Global, chars: &Chars, description: &Description) -> Result<Prepared, Refusal>
+    requires small { length chars.now < 4294967295 }
+    requires read { IsDescription description.now }
+    ensures built { IfOk result (λ p. IsBuiltOf description.now p) }
+    ensures accepted { IfOk result IsAccepted }
+    ensures refused { IfErr result (TellsGrammar (IsBadDescription chars.now description.now)) }
+{
+    match build_description(alloc, chars, description) {
+        Ok(built) => prepare_built(alloc, built),
+        Err(refusal) => Err(refusal),
+    }
+}
+
+// What a description is built to.
+fn build_description(
+    alloc: Global,
+    chars: &Chars,
+    description: &Description,
+) -> Result<Built, Refusal>
+    requires small { length chars.now < 4294967295 }
+    requires read { IsDescription description.now }
+    ensures built { IfOk result (λ b. IsBuiltOf description.now b) }
+    ensures refused { IfErr result (TellsGrammar (IsBadDescription chars.now description.now)) }
+{
+    match build(alloc, description) {
+        Ok(built) => Ok(built),
+        Err(refusal) => {
+            let text = description_text(alloc, chars, &refusal)?;
+            Err(Refusal::Grammar {
+                text,
+                place: description_place(chars, &refusal),
+            })
+        }
+    }
+}
+
+// The grammars that were built, where they are accepted.
+fn prepare_built(alloc: Global, built: Built) -> Result<Prepared, Refusal>
+    requires { IsBuilt built }
+    ensures same { IfOk result (λ p. p ≡ built) }
+    ensures accepted { OnOk result (IsAccepted built) }
+    ensures refused { IfErr result (TellsGrammar (λ text place. IsGrammarText built text × (place ≡ None))) }
+{
+    match prepare(alloc, built) {
+        Ok(prepared) => Ok(prepared),
+        Err(refusal) => {
+            let text = grammars_text(alloc, &refusal)?;
+            Err(Refusal::Grammar { text, place: None })
+        }
+    }
+}

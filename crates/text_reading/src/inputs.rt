@@ -1,0 +1,167 @@
+// The input: its characters, read to their end.
+ghost use Rattle.std.specs.Prelude.{◌≡◌, ◌≤◌, ◌<◌, ◌++◌, ℕ, List, All, IsUtf8, length, chars as chars_in, codes, decimal, IfOk, IfErr, OnOk};
+ghost use Rattle.std.specs.List.{flat_map};
+ghost use Rattle.grammar_model.specs.Values.{name_of};
+ghost use Rattle.language_model.specs.Building.{Built};
+ghost use Rattle.earley_sets.specs.Counted.{TakesAtMost};
+ghost use Rattle.run_model.specs.Inputs.{names_text, stop_text};
+ghost use Rattle.scanless.specs.Reading.{IsReadingOf};
+ghost use Rattle.scanless.specs.declared.reading.Ending.TheVariants.{End};
+ghost use Rattle.text_reading.specs.Refusals.{TellsInput, IsInputRefusedAt};
+ghost use Rattle.text_reading.specs.Parts.{IsBrokenText, IsStopText};
+
+use crate::Refusal;
+use crate::phrases::{phrase, place_in};
+use grammar_core::{SymbolId, Written};
+use scanless::{Ending, Prepared, Reading, read_input};
+use slif_base::{Chars, Steps, TextRefusal, chars_of};
+use std::alloc::{AllocError, Global};
+use std::sync::ledger::Ledger;
+use value_text::NoMemory;
+
+/// The refusal of an input that is longer than 16,777,216 bytes.
+pub fn input_too_long(alloc: Global) -> Refusal
+    ensures { (bytes : List ℕ) (b : Built) → 16777216 < length bytes → TellsInput (IsInputRefusedAt b bytes) result }
+{
+    match Vec::from_slice(alloc, b"input is longer than 16777216 bytes") {
+        Ok(text) => Refusal::Input {
+            text,
+            place: None,
+            expected: Vec::new(alloc),
+        },
+        Err(_) => Refusal::NoMemory,
+    }
+}
+
+/// The characters of an input.
+pub fn input_chars(alloc: Global, bytes: &[u8]) -> Result<Chars, Refusal>
+    ensures utf8 { OnOk result (IsUtf8 bytes.now) }
+    ensures ok { IfOk result (λ chars. chars ≡ chars_in bytes.now) }
+    ensures refused { IfErr result (TellsInput (IsBrokenText bytes.now)) }
+{
+    match chars_of(alloc, bytes) {
+        Ok(chars) => Ok(chars),
+        Err(TextRefusal::NotUtf8 { at }) => Err(Refusal::Input {
+            text: not_utf8_text(alloc, at)?,
+            place: None,
+            expected: Vec::new(alloc),
+        }),
+        Err(TextRefusal::NoMemory) => Err(Refusal::NoMemory),
+    }
+}
+
+fn not_utf8_text(alloc: Global, at: usize) -> Result<Vec<u8>, AllocError>
+    ensures { IfOk result (λ text. text.items ≡ codes "input is not UTF-8 at byte " ++ decimal at) }
+{
+    let text = format!(in alloc; "input is not UTF-8 at byte {at}")?;
+    Ok(text.into_bytes())
+}
+
+/// Reads a text to its end.
+pub fn read_text<'p, L: Ledger>(
+    alloc: Global,
+    prepared: &'p Prepared,
+    chars: &Chars,
+    steps: &mut Steps<L>,
+) -> Result<Reading<'p>, Refusal>
+    requires { length chars.now ≤ 16777216 }
+    ensures read { IfOk result (λ r. IsReadingOf prepared.now chars.now r.recce r.spans.items End) }
+    ensures counted { IfOk result (λ r. TakesAtMost r.recce steps.old steps.new) }
+    ensures refused { IfErr result (TellsInput (IsStopText prepared.now chars.now)) }
+{
+    let reading = read_input(alloc, prepared, chars, steps)?;
+    match ended(alloc, prepared, chars, &reading) {
+        Ok(()) => Ok(reading),
+        Err(refusal) => Err(refusal),
+    }
+}
+
+// Whether a reading has come to the end.
+fn ended(
+    alloc: Global,
+    prepared: &Prepared,
+    chars: &Chars,
+    reading: &Reading<'_>,
+) -> Result<(), Refusal>
+    requires few { length chars.now ≤ 16777216 }
+    requires read { IsReadingOf prepared.now chars.now reading.now.recce reading.now.spans.items reading.now.ending }
+    ensures end { OnOk result (reading.now.ending ≡ End) }
+    ensures refused { IfErr result (TellsInput (IsStopText prepared.now chars.now)) }
+{
+    prepared.known();
+    match &reading.ending {
+        Ending::End => Ok(()),
+        Ending::Stopped {
+            at,
+            found,
+            expected,
+        } => {
+            let text = stopped_text(alloc, prepared.written(), chars, *at, found, expected)?;
+            Err(Refusal::Input {
+                text,
+                place: Some(place_in(chars, *at)),
+                expected: Vec::from_slice(alloc, expected)?,
+            })
+        }
+    }
+}
+
+fn stopped_text(
+    alloc: Global,
+    w: &Written,
+    chars: &Chars,
+    at: usize,
+    found: &[SymbolId],
+    expected: &[SymbolId],
+) -> Result<Vec<u8>, NoMemory>
+    requires few { length chars.now ≤ 16777216 }
+    requires found { All (λ s. s < length w.now.names) found.now }
+    requires expected { All (λ s. s < length w.now.names) expected.now }
+    ensures { IfOk result (λ text. text.items ≡ stop_text w.now chars.now at found.now expected.now) }
+{
+    let mut text = phrase(alloc, b"input stopped", "", b"", chars, at)?;
+    text.extend_from_slice(b"; found: ")?;
+    append_names(w, found, &mut text)?;
+    text.extend_from_slice(b"; expected: ")?;
+    append_names(w, expected, &mut text)?;
+    Ok(text)
+}
+
+/// Appends the names of symbols, parted by commas.
+pub fn append_names(w: &Written, symbols: &[SymbolId], text: &mut Vec<u8>) -> Result<(), AllocError>
+    requires { All (λ s. s < length w.now.names) symbols.now }
+    ensures { OnOk result (text.new.items ≡ text.old.items ++ names_text w.now symbols.now) }
+{
+    if symbols.is_empty() {
+        text.extend_from_slice(b"none")?;
+        return Ok(());
+    }
+    append_name(w, symbols[0], text)?;
+    append_others(w, &symbols[1..], text)
+}
+
+fn append_name(w: &Written, symbol: SymbolId, text: &mut Vec<u8>) -> Result<(), AllocError>
+    requires { symbol < length w.now.names }
+    ensures { OnOk result (text.new.items ≡ text.old.items ++ name_of w.now symbol) }
+{
+    text.extend_from_slice(w.name(symbol).as_bytes())?;
+    Ok(())
+}
+
+fn append_next(w: &Written, symbol: SymbolId, text: &mut Vec<u8>) -> Result<(), AllocError>
+    requires { symbol < length w.now.names }
+    ensures { OnOk result (text.new.items ≡ text.old.items ++ (codes ", " ++ name_of w.now symbol)) }
+{
+    text.extend_from_slice(b", ")?;
+    append_name(w, symbol, text)
+}
+
+fn append_others(w: &Written, symbols: &[SymbolId], text: &mut Vec<u8>) -> Result<(), AllocError>
+    requires { All (λ s. s < length w.now.names) symbols.now }
+    ensures { OnOk result (text.new.items ≡ text.old.items ++ flat_map (λ s. codes ", " ++ name_of w.now s) symbols.now) }
+{
+    for symbol in symbols {
+        append_next(w, *symbol, text)?;
+    }
+    Ok(())
+}

@@ -1,0 +1,15 @@
+//! From the bytes of a grammar and of an input to what is read of them, or to the refusal that tells why not.
+#![tactic(auto)]
+
+mod forests;
+mod grammar;
+mod inputs;
+mod lines;
+mod phrases;
+mod refusal;
+
+pub use forests::forest_of;
+pub use grammar::{grammar_of, read_grammar};
+pub use inputs::{append_names, input_chars, input_too_long, read_text};
+pub use lines::append_in_line;
+pub use refusal::{Place, Refusal};
