@@ -4,3 +4,4 @@ mod ToItems
 pub mod Flat
 pub mod One
 pub mod Existing
+mod Seen

@@ -1,7 +1,7 @@
 //! Laws of progress reports: each is shown by a contract alone, and its function does nothing.
 #![tactic(auto)]
 
-ghost use Rattle.report_laws.specs.Laws.{ReportIsOne, ReportsApply, ReportsAreFlat, ReportsExist};
+ghost use Rattle.report_laws.specs.Laws.{DerivationsAreSeen, ReportIsOne, ReportsApply, ReportsAreFlat, ReportsExist};
 
 /// A place has no two reports.
 pub fn report_is_one()
@@ -11,6 +11,11 @@ pub fn report_is_one()
 /// The report of a place tells its full item set, whatever flat form of the grammar is read by.
 pub fn reports_are_flat()
     ensures { ReportsAreFlat }
+{}
+
+/// Where a derivation of the start comes by, the report says so.
+pub fn derivations_are_seen()
+    ensures { DerivationsAreSeen }
 {}
 
 /// Each place has a report, over edges that go forward.
