@@ -14,6 +14,7 @@ use Rattle.earley_sets.specs.Recognizer.{Recognizer, set_at}
 use Rattle.earley_sets.proofs.Membership.{Contains-none, Contains-first, Contains-rest}
 use Rattle.forest_model.specs.Forest.{Forest, ForestNode, Last, AnEdge, Nothing, Wholes, Alternative, IsNode, IsFront, IsLast, IsWholeOver, IsAlternative, starts_cmp}
 use Rattle.forest_parts.specs.Lists.{between}
+use Rattle.forest_parts.proofs.RowLemmas.{get_more}
 use Rattle.bocage.specs.declared.rows.AlternativeRow.{AlternativeRow}
 use Rattle.bocage.specs.declared.rows.LastRow.{LastRow}
 use Rattle.bocage.specs.declared.rows.LastRow.TheVariants as row

@@ -1,6 +1,7 @@
 -- Nodes and alternatives as they are kept.
 use Rattle.std.specs.Prelude.{◌≡◌, ℕ, ◌<◌, ◌≤◌, List, [], ◌∷◌, Some, None, length, map, slice_get, Contains}
 use Rattle.forest_model.specs.Forest.{Last, AnEdge, Nothing, Wholes, Alternative, ForestNode}
+use Rattle.forest_parts.specs.Lists.{between}
 use Rattle.bocage.specs.declared.rows.LastRow.{LastRow}
 use Rattle.bocage.specs.declared.rows.LastRow.TheVariants as row
 use Rattle.bocage.specs.declared.rows.AlternativeRow.{AlternativeRow}
