@@ -219,7 +219,12 @@ const EXAMPLES: [(&[u8], &[u8], &[u8]); 6] = [
 ];
 
 // Whether the example gives these lines.
-fn gives(alloc: Global, grammar: &[u8], file: &[u8], lines: &[u8]) -> Result<bool, AllocError> {
+fn gives<'x>(
+    alloc: Global,
+    grammar: &'x [u8],
+    file: &'x [u8],
+    lines: &[u8],
+) -> Result<bool, AllocError> {
     let given = Given {
         words: &["run", "--grammar", "g.slif", "--input", "i.txt"],
         grammar,
