@@ -80,15 +80,19 @@ fn find(keys: &IndexSet<NodeKey>, key: NodeKey) -> Option<usize>
     keys.get_index_of(&key)
 }
 
-// Lists the node of an item, if it is one of the first.
+// Lists the node of an item, if it is one of the first. What begins is no node.
 fn list_node(
     keys: &IndexSet<NodeKey>,
     first: usize,
     key: NodeKey,
     nodes: &mut Vec<usize>,
 ) -> Result<(), ForestRefusal>
+    requires { Contains keys.now.keys key → 0 < key.dot }
     ensures { OnOk result ((n : ℕ) → Contains nodes.new.items n ↔ (Contains nodes.old.items n ⊎ ((n < first) × (slice_get keys.now.keys n ≡ Some key)))) }
 {
+    if key.dot == 0 {
+        return Ok(());
+    }
     differ(keys);
     if let Some(node) = find(keys, key) {
         if node < first {
@@ -106,7 +110,8 @@ fn list_nodes(
     first: usize,
     nodes: &mut Vec<usize>,
 ) -> Result<(), ForestRefusal>
-    requires { end ≤ place_of recce.now }
+    requires end { end ≤ place_of recce.now }
+    requires begun { (key : TheKey) → Contains keys.now.keys key → 0 < key.dot }
     ensures { OnOk result ((n : ℕ) → Contains nodes.new.items n ↔ ((n < first) × IsKnownNode recce.now end keys.now.keys n)) }
 {
     nodes.clear();

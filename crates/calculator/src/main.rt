@@ -29,7 +29,9 @@ spaces ~ [\\s]+
 /// The value of an expression.
 fn value_of(alloc: Global, grammar: &Grammar, expression: &str) -> Result<i64, CalculationError> {
     let reading = grammar.read(alloc, expression.as_bytes())?;
-    value_of_reading(alloc, &reading)
+    let value = value_of_reading(alloc, &reading);
+    drop(reading);
+    value
 }
 
 fn value_of_reading(alloc: Global, reading: &Reading<'_>) -> Result<i64, CalculationError> {
@@ -54,10 +56,16 @@ fn tell(rt: &HostRuntime, grammar: &Grammar, expression: &str) -> io::Result<()>
     }
 }
 
-fn main(rt: HostRuntime) -> Result<(), anyhow::Error> {
-    let grammar = Grammar::from_text(rt.alloc(), GRAMMAR.as_bytes())?;
-    for expression in env::args(&rt)?.skip(1) {
-        tell(&rt, &grammar, &expression)?;
+fn tell_all(rt: &HostRuntime, grammar: &Grammar) -> io::Result<()> {
+    for expression in env::args(rt)?.skip(1) {
+        tell(rt, grammar, &expression)?;
     }
     Ok(())
+}
+
+fn main(rt: HostRuntime) -> Result<(), anyhow::Error> {
+    let grammar = Grammar::from_text(rt.alloc(), GRAMMAR.as_bytes())?;
+    let told = tell_all(&rt, &grammar);
+    drop(grammar);
+    Ok(told?)
 }

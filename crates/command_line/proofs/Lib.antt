@@ -4,3 +4,4 @@ mod Rows
 mod Looks
 mod Walked
 mod Agreed
+mod Named

@@ -1,23 +1,38 @@
 -- What a job stands for.
+use Rattle.std.specs.Prelude.{ℕ, List, map}
 use Rattle.std.specs.Option.{option_copied}
+use Rattle.std.specs.Borrow.{Bor}
 use Rattle.words_model.specs.Words as model
-use Rattle.command_line.specs.declared.job.RunAsked.{RunAsked}
+use Rattle.command_line.specs.declared.job.ValuesAsked.{ValuesAsked}
+use Rattle.command_line.specs.declared.job.Telling.{Telling}
+use Rattle.command_line.specs.declared.job.Telling.TheVariants.{Values, Expected, Report}
+use Rattle.command_line.specs.declared.job.Task.{Task}
+use Rattle.command_line.specs.declared.job.Task.TheVariants.{Check, Tell, Work}
+use Rattle.command_line.specs.declared.job.InputFrom.{InputFrom}
+use Rattle.command_line.specs.declared.job.InputFrom.TheVariants.{Nowhere, StandardInput, FileNamed}
 use Rattle.command_line.specs.declared.job.Job.{Job}
-use Rattle.command_line.specs.declared.job.Job.TheVariants.{Run, Check, Expect, Progress, Work}
 
-abbrev pub asked_of : RunAsked → model.RunAsked
-asked_of asked = record {
-  grammar = asked.grammar.now;
-  input = option_copied asked.input;
-  show = asked.show;
-  ranking = asked.ranking;
-  first = asked.first;
-  stats = asked.stats;
-}
+abbrev pub asked_of : ValuesAsked → model.ValuesAsked
+asked_of asked = record { show = asked.show; ranking = asked.ranking; first = asked.first; stats = asked.stats }
+
+abbrev pub telling_of : Telling → model.Telling
+telling_of (Values asked) = model.Values (asked_of asked)
+telling_of Expected = model.Expected
+telling_of (Report at) = model.Report at
+
+abbrev pub task_of : Task → model.Task
+task_of Check = model.Check
+task_of (Tell what) = model.Tell (telling_of what)
+task_of (Work size) = model.Work size
+
+abbrev pub input_of : InputFrom → model.InputFrom
+input_of Nowhere = model.Nowhere
+input_of StandardInput = model.StandardInput
+input_of (FileNamed name) = model.FileNamed name.now
 
 abbrev pub job_of : Job → model.Job
-job_of (Run asked) = model.Run (asked_of asked)
-job_of (Check grammar) = model.Check grammar.now
-job_of (Expect grammar input) = model.Expect grammar.now (option_copied input)
-job_of (Progress grammar at input) = model.Progress grammar.now at (option_copied input)
-job_of (Work size) = model.Work size
+job_of job = record { grammar = option_copied job.grammar; input = input_of job.input; task = task_of job.task }
+
+-- the names of options
+abbrev pub names_of : List (Bor (List ℕ)) → List (List ℕ)
+names_of = map (λ name. name.now)

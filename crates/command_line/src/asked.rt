@@ -1,16 +1,29 @@
 // The job that matches ask for.
-ghost use Rattle.std.specs.Prelude.{◌≡◌, not, is_some, option_map, option_copied, None, codes};
-ghost use Rattle.std.specs.List.{list_all};
+ghost use Rattle.std.specs.Prelude.{◌≡◌, not, ◌||◌, is_some, option_map, option_copied, None, codes, bytes_eq};
+ghost use Rattle.std.specs.List.{list_all, list_any};
 ghost use Rattle.clap.specs.Words.{found_of, first_value};
+ghost use Rattle.language_model.specs.Building.{is_one_of};
 ghost use Rattle.words_model.specs.Words as model;
 ghost use Rattle.words_model.specs.Words.{stats, read_or};
-ghost use Rattle.command_line.specs.Jobs.{job_of};
+ghost use Rattle.command_line.specs.Jobs.{task_of, input_of, job_of, names_of};
 ghost use Rattle.command_line.specs.Given.{given_in};
 
-use crate::job::{Job, RunAsked};
+use crate::job::{InputFrom, Job, Task, Telling, ValuesAsked};
 use crate::value::{file_name, number_from, ranking_of, show_of};
 use clap::ArgMatches;
 use grammar_model::{Ranking, Show};
+
+fn stands_in(names: &[&str], name: &str) -> bool
+    ensures { result ≡ list_any (λ other. bytes_eq other.now name.now) names.now }
+{
+    names.iter().any(|other| *other == name)
+}
+
+fn is_among(names: &[&str], name: &str) -> bool
+    ensures { result ≡ is_one_of (names_of names.now) name.now }
+{
+    stands_in(names, name)
+}
 
 fn has_stats(matches: &ArgMatches<'_>) -> bool
     ensures { result ≡ is_some (given_in (found_of matches.now) stats) }
@@ -18,33 +31,67 @@ fn has_stats(matches: &ArgMatches<'_>) -> bool
     matches.get_str("stats") == Some("true")
 }
 
-// Whether none of these options is given.
-fn lacks(matches: &ArgMatches<'_>, options: &[&str]) -> bool
-    ensures { result ≡ list_all (λ option. not (is_some (first_value (found_of matches.now) option.now))) options.now }
-{
-    options.iter().all(|option| lacks_option(matches, *option))
-}
-
-fn lacks_option(matches: &ArgMatches<'_>, option: &str) -> bool
+fn lacks(matches: &ArgMatches<'_>, option: &str) -> bool
     ensures { result ≡ not (is_some (first_value (found_of matches.now) option.now)) }
 {
     matches.get_str(option).is_none()
 }
 
-fn grammar_given<'a>(matches: &ArgMatches<'a>) -> Option<&'a str>
-    ensures { option_copied result ≡ model.grammar_given (given_in (found_of matches.now)) }
+// Whether each of these options with values is among the options of a job, or not given.
+fn allows(matches: &ArgMatches<'_>, options: &[&str], all: &[&str]) -> bool
+    ensures { result ≡ list_all (λ option. is_one_of (names_of options.now) option.now || not (is_some (first_value (found_of matches.now) option.now))) all.now }
 {
-    file_name(matches.get_str("grammar")?)
+    all.iter().all(|option| is_among(options, *option) || lacks(matches, *option))
 }
 
-// The input's file if there is one; None where its name has no meaning.
-fn input_given<'a>(matches: &ArgMatches<'a>) -> Option<Option<&'a str>>
-    ensures { option_map option_copied result ≡ model.input_given (given_in (found_of matches.now)) }
+// Whether no option is given but these.
+fn gives_only(matches: &ArgMatches<'_>, options: &[&str]) -> bool
+    ensures { result ≡ model.gives_only (names_of options.now) (given_in (found_of matches.now)) }
 {
-    match matches.get_str("input") {
-        None => Some(None),
-        Some(value) => Some(Some(file_name(value)?)),
+    (is_among(options, "stats") || !has_stats(matches))
+        && allows(
+            matches,
+            options,
+            &["grammar", "input", "first", "rank", "show", "at", "size"],
+        )
+}
+
+// The grammar's file, of a job that has the option; None where its name has no meaning.
+fn grammar_given<'a>(matches: &ArgMatches<'a>, options: &[&str]) -> Option<Option<&'a str>>
+    ensures { option_map option_copied result ≡ model.grammar_given (names_of options.now) (given_in (found_of matches.now)) }
+{
+    if !is_among(options, "grammar") {
+        return Some(None);
     }
+    let name = file_name(matches.get_str("grammar")?)?;
+    Some(Some(name))
+}
+
+// Where the input is; None where the name of its file has no meaning.
+fn input_given<'a>(matches: &ArgMatches<'a>, options: &[&str]) -> Option<InputFrom<'a>>
+    ensures { option_map input_of result ≡ model.input_given (names_of options.now) (given_in (found_of matches.now)) }
+{
+    if !is_among(options, "input") {
+        return Some(InputFrom::Nowhere);
+    }
+    match matches.get_str("input") {
+        None => Some(InputFrom::StandardInput),
+        Some(value) => Some(InputFrom::FileNamed(file_name(value)?)),
+    }
+}
+
+// The job of a task that has these options.
+fn job_with<'a>(matches: &ArgMatches<'a>, options: &[&str], task: Option<Task>) -> Option<Job<'a>>
+    ensures { option_map job_of result ≡ model.job_with (names_of options.now) (option_map task_of task) (given_in (found_of matches.now)) }
+{
+    if !gives_only(matches, options) {
+        return None;
+    }
+    Some(Job {
+        grammar: grammar_given(matches, options)?,
+        input: input_given(matches, options)?,
+        task: task?,
+    })
 }
 
 fn show_given(matches: &ArgMatches<'_>) -> Option<Show>
@@ -74,80 +121,57 @@ fn first_given(matches: &ArgMatches<'_>) -> Option<Option<u32>>
     }
 }
 
-fn run_asked<'a>(matches: &ArgMatches<'a>) -> Option<Job<'a>>
-    ensures { option_map job_of result ≡ model.run_asked (given_in (found_of matches.now)) }
+fn values_asked(matches: &ArgMatches<'_>) -> Option<Task>
+    ensures { option_map task_of result ≡ model.values_asked (given_in (found_of matches.now)) }
 {
-    if !lacks(matches, &["at", "size"]) {
-        return None;
-    }
-    Some(Job::Run(RunAsked {
-        grammar: grammar_given(matches)?,
-        input: input_given(matches)?,
+    Some(Task::Tell(Telling::Values(ValuesAsked {
         show: show_given(matches)?,
         ranking: ranking_given(matches)?,
         first: first_given(matches)?,
         stats: has_stats(matches),
-    }))
+    })))
 }
 
-fn check_asked<'a>(matches: &ArgMatches<'a>) -> Option<Job<'a>>
-    ensures { option_map job_of result ≡ model.check_asked (given_in (found_of matches.now)) }
+fn report_asked(matches: &ArgMatches<'_>) -> Option<Task>
+    ensures { option_map task_of result ≡ model.report_asked (given_in (found_of matches.now)) }
 {
-    if has_stats(matches) || !lacks(matches, &["input", "first", "rank", "show", "at", "size"]) {
-        return None;
-    }
-    let grammar = grammar_given(matches)?;
-    Some(Job::Check { grammar })
-}
-
-fn expect_asked<'a>(matches: &ArgMatches<'a>) -> Option<Job<'a>>
-    ensures { option_map job_of result ≡ model.expect_asked (given_in (found_of matches.now)) }
-{
-    if has_stats(matches) || !lacks(matches, &["first", "rank", "show", "at", "size"]) {
-        return None;
-    }
-    let grammar = grammar_given(matches)?;
-    let input = input_given(matches)?;
-    Some(Job::Expect { grammar, input })
-}
-
-fn progress_asked<'a>(matches: &ArgMatches<'a>) -> Option<Job<'a>>
-    ensures { option_map job_of result ≡ model.progress_asked (given_in (found_of matches.now)) }
-{
-    if has_stats(matches) || !lacks(matches, &["first", "rank", "show", "size"]) {
-        return None;
-    }
-    let grammar = grammar_given(matches)?;
     let at = number_from(0, 16_777_216, matches.get_str("at")?)?;
-    let input = input_given(matches)?;
-    Some(Job::Progress { grammar, at, input })
+    Some(Task::Tell(Telling::Report { at }))
 }
 
-fn work_asked<'a>(matches: &ArgMatches<'a>) -> Option<Job<'a>>
-    ensures { option_map job_of result ≡ model.work_asked (given_in (found_of matches.now)) }
+fn work_asked(matches: &ArgMatches<'_>) -> Option<Task>
+    ensures { option_map task_of result ≡ model.work_asked (given_in (found_of matches.now)) }
 {
-    if has_stats(matches)
-        || !lacks(
-            matches,
-            &["grammar", "input", "first", "rank", "show", "at"],
-        )
-    {
-        return None;
-    }
     let size = number_from(1, 100_000, matches.get_str("size")?)?;
-    Some(Job::Work { size })
+    Some(Task::Work { size })
+}
+
+// The table of jobs: the options that each may have, and its task.
+fn job_named<'a>(matches: &ArgMatches<'a>, name: &str) -> Option<Job<'a>>
+    ensures { option_map job_of result ≡ model.job_named name.now (given_in (found_of matches.now)) }
+{
+    match name {
+        "run" => job_with(
+            matches,
+            &["grammar", "input", "first", "rank", "show", "stats"],
+            values_asked(matches),
+        ),
+        "check" => job_with(matches, &["grammar"], Some(Task::Check)),
+        "expect" => job_with(
+            matches,
+            &["grammar", "input"],
+            Some(Task::Tell(Telling::Expected)),
+        ),
+        "progress" => job_with(matches, &["grammar", "input", "at"], report_asked(matches)),
+        "work" => job_with(matches, &["size"], work_asked(matches)),
+        _ => None,
+    }
 }
 
 /// The job that is asked for, where the values of its options have a meaning.
 pub fn job_given<'a>(matches: &ArgMatches<'a>) -> Option<Job<'a>>
     ensures { option_map job_of result ≡ model.job_given (given_in (found_of matches.now)) }
 {
-    match matches.get_str("JOB")? {
-        "run" => run_asked(matches),
-        "check" => check_asked(matches),
-        "expect" => expect_asked(matches),
-        "progress" => progress_asked(matches),
-        "work" => work_asked(matches),
-        _ => None,
-    }
+    let name = matches.get_str("JOB")?;
+    job_named(matches, name)
 }

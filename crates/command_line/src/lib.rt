@@ -7,5 +7,5 @@ mod job;
 mod value;
 mod words;
 
-pub use job::{Job, RunAsked};
+pub use job::{InputFrom, Job, Task, Telling, ValuesAsked};
 pub use words::read_words;

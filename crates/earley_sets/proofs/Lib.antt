@@ -16,11 +16,11 @@ pub mod Scanning
 pub mod Rising
 pub mod Trying
 pub mod Making
+pub mod Marked
 pub mod Splitting
 pub mod Nulling
 pub mod Hiding
 pub mod Recognizing
-pub mod Awaiting
 pub mod Starts
 pub mod Exact
 pub mod Counting

@@ -21,13 +21,12 @@ ghost use Rattle.earley_sets.specs.Recognizer.{Recognizer, place_of, set_at, edg
 ghost use Rattle.earley_sets.specs.declared.recce.AlternativeRefusal.TheVariants.{Unexpected, Duplicate, BadLength};
 
 use crate::close::{Work, make_kernel};
-use crate::expected::expected;
 use crate::heads::{Heads, list_heads};
 use crate::hidden::list_hidden;
 use crate::lists::{Lists, find_list, new_lists};
 use grammar_core::{EdgeRefusal, Flat, SymbolId, TokenEdges};
 use indexmap::IndexSet;
-use item_rows::{Row, Rows};
+use item_rows::{Marks, Row, Rows, is_marked, list_expected, mark_row, new_marks, take_marks};
 use leo_items::Memo;
 use recognizer_model::Item;
 use slif_base::Steps;
@@ -173,6 +172,7 @@ pub struct Recce<'g> {
     rows: Rows<'g>,
     lists: Lists,
     memo: Memo,
+    marks: Marks,
     work: Work,
 }
 
@@ -182,12 +182,13 @@ impl<'g> Model for Recce<'g> {
     ghost use Rattle.earley_sets.specs.Recognizer.{Recognizer, IsKept};
     ghost use Rattle.earley_sets.specs.Heads.{AreHeads};
     ghost use Rattle.earley_sets.specs.Begun.{AreLists};
+    ghost use Rattle.earley_sets.specs.Kept.{AreLastMarks};
 
     ghost Value = { Recognizer };
 
     ghost view = { λ r. record { flat = r.flat.now; start = r.start; edges = r.edges; sets = r.rows.sets; noted = pairs_of r.memo } };
 
-    ghost invariant = { λ r. IsKept (record { flat = r.flat.now; start = r.start; edges = r.edges; sets = r.rows.sets; noted = pairs_of r.memo }) r.top r.memo × AreHeads r.flat.now r.heads.rules.items × (r.rows.flat ≡ r.flat.now) × AreLists r.flat.now r.rows.shared r.lists.numbers.entries };
+    ghost invariant = { λ r. IsKept (record { flat = r.flat.now; start = r.start; edges = r.edges; sets = r.rows.sets; noted = pairs_of r.memo }) r.top r.memo × AreHeads r.flat.now r.heads.rules.items × (r.rows.flat ≡ r.flat.now) × AreLists r.flat.now r.rows.shared r.lists.numbers.entries × AreLastMarks r.flat.now r.rows.sets r.marks.rows.items };
 }
 
 /// Items of a set: those that begin at an earlier place, and then the others; each part by the symbol after the dot, whole items last, then by rule, dot and origin.
@@ -242,6 +243,7 @@ impl<'g> Recce<'g> {
         let mut rows = Rows::new(alloc, flat)?;
         let mut lists = new_lists(alloc);
         let mut memo = Memo::new(alloc);
+        let mut marks = new_marks(alloc, flat)?;
         let mut work = Work {
             set: IndexSet::new(alloc),
             next: Vec::new(alloc),
@@ -258,6 +260,7 @@ impl<'g> Recce<'g> {
             &edges,
             &mut work,
         )?;
+        mark_row(flat, &rows, 0, &mut marks);
         Ok(Recce {
             flat,
             heads,
@@ -267,6 +270,7 @@ impl<'g> Recce<'g> {
             rows,
             lists,
             memo,
+            marks,
             work,
         })
     }
@@ -321,7 +325,10 @@ impl<'g> Recce<'g> {
             &self.edges,
             &mut self.work,
             steps,
-        )
+        )?;
+        let last = self.rows.len() - 1;
+        mark_row(self.flat, &self.rows, last, &mut self.marks);
+        Ok(())
     }
 
     /// Whether a terminal is acceptable at the place.
@@ -329,10 +336,7 @@ impl<'g> Recce<'g> {
         ensures { IsTrue result ↔ IsExpected self.now t }
     {
         let last = self.rows.len() - 1;
-        match self.flat.terminal(t) {
-            Some(symbol) => self.rows.is_awaited(last, symbol),
-            None => false,
-        }
+        is_marked(self.flat, &self.rows, last, &self.marks, t)
     }
 
     /// The terminals that are acceptable at the place, in the order of their numbers.
@@ -341,7 +345,7 @@ impl<'g> Recce<'g> {
         ensures exact { IfOk result (λ ts. (t : ℕ) → Contains ts.items t ↔ IsExpected self.now t) }
     {
         let last = self.rows.len() - 1;
-        expected(alloc, self.flat, &self.rows, last)
+        list_expected(alloc, self.flat, &self.rows, last)
     }
 
     /// Whether a tree of the start spans the edges up to the place.
@@ -432,6 +436,8 @@ impl<'g> Recce<'g> {
         self.rows.keep_first();
         self.memo.clear();
         self.edges.clear();
+        take_marks(&mut self.marks);
+        mark_row(self.flat, &self.rows, 0, &mut self.marks);
     }
 
     /// Takes a terminal that begins at the place and is so many places long.

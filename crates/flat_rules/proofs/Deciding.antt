@@ -1,21 +1,23 @@
 -- What a check tells by tests is what it decides; and the slots that are numbered, each once.
 use Rattle.std.proofs.Common.{◌≡◌, ◌≢◌, ℕ, zero, suc, ◌+◌, ◌<◌, ◌≤◌, Bool, true, false, List, [], ◌∷◌, ◌++◌, length, map, inl, inr, refl, sym, ap, ◌∙◌, subst, arith}
-use Rattle.std.specs.Prelude.{◌&&◌, filter, not, slice_index_or}
+use Rattle.std.specs.Prelude.{◌&&◌, ◌^◌, filter, not, slice_index_or}
 use Rattle.std.specs.List.{AllPairs, flat_map}
 use Rattle.grammar_model.specs.Grammar.{WrittenRule, Grammar, rule_at, no_rule, slot_of, level_of}
 use Rattle.grammar_model.specs.Grammar
 use Rattle.grammar_model.specs.Simple.{is_terminal, numbers}
-use Rattle.grammar_model.proofs.Lists.{Among, among_left, among_map}
+use Rattle.grammar_model.proofs.Lists.{Among, among_left, among_map, among_either, among_map_from, among_flat_map_from}
 use Rattle.grammar_core.specs.Written.{IsWritten}
 use Rattle.slot_analysis.specs.Tested.{HasTests}
-use Rattle.recognizer_model.specs.FlatForm.{IsSymbolOf}
+use Rattle.slot_analysis.specs.Few.{FewAreAccessible}
+use Rattle.recognizer_model.specs.FlatForm.{IsUsedSlot}
+use Rattle.recognizer_model.proofs.FlatNamed.{among_at}
 use Rattle.recognizer_model.specs.declared.flat.FlatSymbol.TheVariants.{Terminal, Slot}
 use Rattle.flat_model.specs.Flatten
 use Rattle.flat_model.specs.Flatten.{Decided, levels_of}
 use Rattle.flat_rules.specs.declared.numbering.SlotKey.{SlotKey}
 use Rattle.flat_rules.specs.Tables.{told_slot, slot_at, slots_of_terminals, slots_of_lefts}
 use Rattle.flat_rules.proofs.Once.{Once, once_pairs, among_filter_from}
-use Rattle.flat_rules.proofs.Symbols.{both, both_from, false_of_not, once_symbols, symbol_in}
+use Rattle.flat_rules.proofs.Symbols.{both, both_from, false_of_not, once_symbols}
 use Rattle.flat_rules.proofs.FlatOf.{append_all}
 use Rattle.flat_rules.proofs.Listing.{used_known, productive_rule}
 
@@ -110,17 +112,27 @@ module _ (w : Grammar) (d : Decided w) where
   once_slots_in =
       once_unmap (Flatten.symbol_for w d) slots_in (once_left (map (Flatten.symbol_for w d) slots_in) (Flatten.lists w d ++ Flatten.tops w d) (subst Once symbols_split (once_symbols w d)))
 
--- a slot that is numbered is one that counts, of a known symbol
-pub slots_known : (w : Grammar) (d : Decided w) → IsWritten w → (slot : Grammar.Slot) → Among slot (slots_of_terminals w d ++ slots_of_lefts w d) → slot.symbol < length w.names
-slots_known w d written slot m = go (is_terminal w slot.symbol) refl
-  where
-    there : Among (Flatten.symbol_for w d slot) (Flatten.symbols w d)
-    there = subst (Among (Flatten.symbol_for w d slot)) (sym (symbols_split w d))
-        (among_left (Flatten.symbol_for w d slot) (map (Flatten.symbol_for w d) (slots_in w d)) (Flatten.lists w d ++ Flatten.tops w d) (among_map (Flatten.symbol_for w d) slot (slots_in w d) m))
+-- a slot that is numbered is one that counts
+slots_used : (w : Grammar) (d : Decided w) (slot : Grammar.Slot) → Among slot (slots_of_terminals w d ++ slots_of_lefts w d) → IsUsedSlot w slot
+slots_used w d slot m = elim (among_either slot (slots_of_terminals w d) (slots_of_lefts w d) m) [
+  | inl a ↦
+      let p : ℕ → Bool = λ s. is_terminal w s && d.used (slot_of s) in
+      let (s, b, e) = among_map_from slot_of slot (filter p (numbers d.symbols)) a in
+      subst (IsUsedSlot w) e ((d.used_is (slot_of s)).0 (both_from (is_terminal w s) (d.used (slot_of s)) (among_filter_from p s (numbers d.symbols) b).1).1)
+  | inr a ↦
+      let (s, there, b) = among_flat_map_from (λ s. map (slot_at s) (levels_of w d s)) slot (numbers d.symbols) a in
+      let (k, here, e) = among_map_from (slot_at s) slot (levels_of w d s) b in
+      let p : ℕ → Bool = λ k. not (is_terminal w s) && d.used (slot_at s k) in
+      subst (IsUsedSlot w) e ((d.used_is (slot_at s k)).0 (both_from (not (is_terminal w s)) (d.used (slot_at s k)) (among_filter_from p k (numbers d.levels) here).1).1)
+]
 
-    go : (b : Bool) → is_terminal w slot.symbol ≡ b → slot.symbol < length w.names
-    go true e = let symbol : IsSymbolOf w (Terminal slot.symbol) = subst (IsSymbolOf w) (terminal_symbol w d slot.symbol slot.level e) (symbol_in w d (Flatten.symbol_for w d slot) there) in used_known w written (slot_of slot.symbol) symbol.1
-    go false e = let symbol : IsSymbolOf w (Slot slot.symbol slot.level) = subst (IsSymbolOf w) (left_symbol w d slot.symbol slot.level e) (symbol_in w d (Flatten.symbol_for w d slot) there) in used_known w written slot symbol.1
+-- and of a known symbol
+pub slots_known : (w : Grammar) (d : Decided w) → IsWritten w → (slot : Grammar.Slot) → Among slot (slots_of_terminals w d ++ slots_of_lefts w d) → slot.symbol < length w.names
+slots_known w d written slot m = used_known w written slot (slots_used w d slot m)
+
+pub slots_few : (w : Grammar) (d : Decided w) → FewAreAccessible w → length (slots_of_terminals w d ++ slots_of_lefts w d) < 2 ^ 31
+slots_few w d few =
+    few (slots_in w d) (once_pairs (slots_in w d) (once_slots_in w d)) (λ k e lt. (slots_used w d (slice_index_or (slots_in w d) k e) (among_at (slots_in w d) k e lt)).0)
 
 pub keys_differ : (w : Grammar) (d : Decided w) (keys : List SlotKey) → map told_slot keys ≡ slots_of_terminals w d ++ slots_of_lefts w d → AllPairs (λ x y. x ≢ y) keys
 keys_differ w d keys e = once_pairs keys (once_unmap told_slot keys (subst Once (sym e) (once_slots_in w d)))

@@ -14,9 +14,6 @@ use indexmap::IndexSet;
 use std::alloc::{AllocError, AllocFailed, Global};
 use std::marker::Model;
 
-// So that with 16,777,215 lists and as many tops the numbers of symbols fit.
-const MOST_SLOTS: usize = 4_000_000_000;
-
 /// A symbol with a least level.
 #[derive(Clone, Copy, PartialEq, Eq, Hash)]
 pub struct SlotKey {
@@ -205,6 +202,7 @@ pub fn symbols_of(
     ensures { IfOk result (λ symbols. AreNumbers c.now symbols) }
 {
     c.tested();
+    c.few_accessible();
     let _ = c.written().rule_count();
     let mut keys = Vec::new(alloc);
     list_terminals(c, rows, &mut keys)?;
@@ -212,9 +210,6 @@ pub fn symbols_of(
     let mut lists = Vec::new(alloc);
     let mut before = Vec::new(alloc);
     list_lists(c, live, &mut lists, &mut before)?;
-    if keys.len() > MOST_SLOTS {
-        return Err(AllocError);
-    }
     let slots = set_of(alloc, &keys)?;
     Ok(Symbols {
         slots,

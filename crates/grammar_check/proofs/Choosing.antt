@@ -2,7 +2,7 @@
 use Rattle.std.proofs.Common.{arith, ◌≡◌, ◌⊎◌, inl, inr, ℕ, suc, ◌+◌, ◌-◌, ◌<◌, ◌≤◌, List, [], ◌∷◌, ◌++◌, length, slice_index, sym, ◌∙◌, ap, subst, length-append}
 use Rattle.std.proofs.lemmas.List.{get_or_append_left, get_or_push}
 use Rattle.grammar_check.specs.Links.{Step, Walks, StepsInto, AreLayers, IsLeastNext, IsLeastPath}
-use Rattle.slot_analysis.proofs.Search.{same_or_below}
+use Rattle.horn_clauses.proofs.Search.{same_or_below}
 use Rattle.grammar_check.proofs.Layering.{lt_or, locate}
 
 pub record Chosen (rows : List (List ℕ)) (floors keys : List ℕ) (from to x best : ℕ) : Type 0 where

@@ -8,7 +8,7 @@ use Rattle.grammar_model.specs.Grammar.{Grammar, PlainRule, SequenceRule, Plain,
 use Rattle.grammar_model.specs.Analysis.{IsNullable}
 use Rattle.grammar_model.specs.Checked.{IsCountedNullable}
 use Rattle.grammar_check.specs.Counted.{HasNullable}
-use Rattle.slot_analysis.proofs.Search.{same_or_below}
+use Rattle.horn_clauses.proofs.Search.{same_or_below}
 
 -- one start more of which something holds
 pub starts_more : (P : ℕ → Type 0) (starts : List ℕ) (k s : ℕ) → slice_get starts k ≡ Some s → P s → ((j t : ℕ) → j < k → slice_get starts j ≡ Some t → P t) → (j t : ℕ) → j < k + 1 → slice_get starts j ≡ Some t → P t

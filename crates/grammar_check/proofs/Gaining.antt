@@ -1,12 +1,12 @@
 -- Numbers that are added to a set.
 use Rattle.std.proofs.Common.{arith, ◌≡◌, ◌⊎◌, ◌↔◌, inl, inr, ℕ, ◌+◌, ◌-◌, ◌<◌, ◌≤◌, List, [], ◌∷◌, ◌++◌, length, All, Contains, get_or, slice_index, sym, ◌∙◌, ap, subst, append-nil, append_assoc}
 use Rattle.std.proofs.lemmas.List.Elements.{Contains-get_or, Contains-append_left, Contains-append_cases, Contains-push, Contains-push_cases}
-use Rattle.slot_analysis.specs.Least.{Adds}
-use Rattle.slot_analysis.specs.Rows.{row_at}
+use Rattle.horn_clauses.specs.Least.{Adds}
+use Rattle.horn_clauses.specs.Rows.{row_at}
 use Rattle.grammar_check.specs.Links.{Tied, Step, StepsInto, AreRows, IsDown, Gains}
 use Rattle.grammar_check.specs.Links.{AreFloors}
-use Rattle.slot_analysis.proofs.Found.{Contains-none}
-use Rattle.slot_analysis.proofs.Search.{same_or_below}
+use Rattle.horn_clauses.proofs.Found.{Contains-none}
+use Rattle.horn_clauses.proofs.Search.{same_or_below}
 use Rattle.std.proofs.lemmas.List.{get_or_default}
 
 pub gains_none : (old : List ℕ) (P : ℕ → Type 0) → ((x : ℕ) → P x → ⊥) → Gains old old P

@@ -3,7 +3,7 @@ use Rattle.std.proofs.Common.{arith, ◌≡◌, ◌⊎◌, inl, inr, ℕ, zero, 
 use Rattle.std.proofs.lemmas.List.{get_or_append_left, get_or-append_right, get_or_push, get_or_default}
 use Rattle.std.proofs.lemmas.List.Elements.{Contains-get_or}
 use Rattle.grammar_check.specs.Links.{Step, Walks, Gains, StepsInto, AreRows, AreLayers}
-use Rattle.slot_analysis.proofs.Found.{Contains-none}
+use Rattle.horn_clauses.proofs.Found.{Contains-none}
 use Rattle.grammar_check.proofs.Gaining.{gains_cases}
 
 pub lt_or : (a b : ℕ) → (a < b) ⊎ (b ≤ a)

@@ -4,11 +4,11 @@ use Rattle.std.specs.Bool.{IsTrue}
 use Rattle.grammar_model.specs.Grammar.{Grammar, Slot, rule_at, child_slot}
 use Rattle.grammar_model.specs.Analysis.{IsNullable, IsProductive, IsAccessible}
 use Rattle.grammar_core.specs.Written.{IsWritten}
-use Rattle.slot_analysis.specs.Rows.{row_at, HasAdded}
+use Rattle.horn_clauses.specs.Rows.{row_at, HasAdded}
 use Rattle.slot_analysis.specs.Slots.{number, end_of, IsNumbering, IsNumbered, needed_of}
 use Rattle.slot_analysis.specs.Steps.{head_of}
 use Rattle.grammar_check.specs.Linked.{HasPairs, IsLinkAt, IsLinkOf, IsLinkTo}
-use Rattle.slot_analysis.proofs.Search.{same_or_below}
+use Rattle.horn_clauses.proofs.Search.{same_or_below}
 use Rattle.slot_analysis.proofs.Known.{child_numbered}
 use Rattle.slot_analysis.proofs.Rounds.{bases_rise}
 use Rattle.slot_analysis.proofs.Reaching.{numbered_small}

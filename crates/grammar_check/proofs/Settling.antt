@@ -4,14 +4,14 @@ use Rattle.std.proofs.lemmas.Bool.{eqb-true, eqb-false}
 use Rattle.std.proofs.lemmas.List.{get_or-take, length-take-le, get_or-map, length-map}
 use Rattle.std.proofs.lemmas.List.Elements.{Contains-get_or}
 use Rattle.indexmap.proofs.IndexTableLemmas.Probe.{OneToOne, pigeonhole}
-use Rattle.slot_analysis.specs.Least.{Clause, clause_at, IsLeastSet, AreBelow}
-use Rattle.slot_analysis.specs.Rows.{row_at}
+use Rattle.horn_clauses.specs.Least.{Clause, clause_at, IsLeastSet, AreBelow}
+use Rattle.horn_clauses.specs.Rows.{row_at}
 use Rattle.grammar_check.specs.Links.{Tied, Step, Walks, AreFloors, AreRows}
 use Rattle.grammar_check.specs.Settled.{node_clause, use_clause, IsOfNodes, IsOfUses, Rises}
-use Rattle.slot_analysis.proofs.Found.{Contains-none}
+use Rattle.horn_clauses.proofs.Found.{Contains-none}
 use Rattle.grammar_check.proofs.Layering.{lt_or, contains_at, at_contained, step_known}
 use Rattle.slot_analysis.proofs.Rounds.{closed_by}
-use Rattle.slot_analysis.proofs.Search.{same_or_below}
+use Rattle.horn_clauses.proofs.Search.{same_or_below}
 
 -- where a number stands first
 abbrev pub place : List ℕ → ℕ → ℕ

@@ -14,9 +14,9 @@ use Rattle.indexmap.specs.IndexSet.{insert_key}
 use Rattle.grammar_model.specs.Grammar.{Grammar, PlainRule, SequenceRule, Plain, Sequence, rule_at, no_rule, lhs_of}
 use Rattle.grammar_model.specs.Checked.{IsDuplicate, IsShared, SequencesAreAlone}
 use Rattle.grammar_core.specs.Written.{IsWritten}
-use Rattle.slot_analysis.specs.Rows.{rows_of}
+use Rattle.grammar_check.specs.Shared.{rows_of}
 use Rattle.grammar_check.specs.Shared.{IsSequenceAt, HasTwo, HasSequence, Marks, HasTexts}
-use Rattle.slot_analysis.proofs.Search.{same_or_other, same_or_below}
+use Rattle.horn_clauses.proofs.Search.{same_or_other, same_or_below}
 use Rattle.slot_analysis.proofs.Known.{lhs_known}
 
 -- a mark more, where R holds

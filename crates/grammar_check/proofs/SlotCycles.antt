@@ -10,7 +10,7 @@ use Rattle.grammar_model.specs.Grammar.{WrittenRule, Plain, Sequence, Grammar, S
 use Rattle.grammar_model.specs.Analysis.{IsStar, IsNullableIn, IsNullable, EachNeeded, IsProductiveIn, IsProductive, IsAccessible, IsAlone, LeadsTo}
 use Rattle.grammar_model.specs.Cycles.{IsWalk, IsCycle, IsLeastCycle, HasHeights, slot_cmp, cycle_cmp}
 use Rattle.grammar_core.specs.Written.{IsWritten}
-use Rattle.slot_analysis.specs.Rows.{row_at}
+use Rattle.horn_clauses.specs.Rows.{row_at}
 use Rattle.slot_analysis.specs.Slots.{number, end_of, IsNumbering, IsNumbered, needed_of}
 use Rattle.slot_analysis.specs.Steps.{head_of}
 use Rattle.grammar_check.specs.Linked.{IsLinkTo, IsFloored}
@@ -18,7 +18,7 @@ use Rattle.grammar_check.specs.Links.{Step, Walks, AreFloors, AreRows, IsLeastPa
 use Rattle.grammar_check.specs.Settled.{NoneBelow, Rises}
 use Rattle.grammar_check.specs.Message.{AreOf}
 use Rattle.grammar_check.specs.Told.{slot_with, slots_with, IsHomed, AreSlotsAt}
-use Rattle.slot_analysis.proofs.Search.{same_or_other}
+use Rattle.horn_clauses.proofs.Search.{same_or_other}
 use Rattle.slot_analysis.proofs.Known.{lhs_known, head_numbered, child_numbered}
 use Rattle.slot_analysis.proofs.Rounds.{item_first, bases_rise, one_symbol}
 use Rattle.slot_analysis.proofs.Reaching.{numbered_small, same_slot}

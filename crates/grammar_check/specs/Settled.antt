@@ -2,8 +2,8 @@
 -- leads to it: all from which there is a step to it are settled. Past the numbers stand as many again, each for all that
 -- are tied to a number.
 use Rattle.std.specs.Prelude.{◌≡◌, ℕ, suc, ◌+◌, ◌-◌, ◌<◌, nat_lt, if◌then◌else◌, List, [], ◌∷◌, length, map, slice_index}
-use Rattle.slot_analysis.specs.Least.{Clause}
-use Rattle.slot_analysis.specs.Rows.{row_at}
+use Rattle.horn_clauses.specs.Least.{Clause}
+use Rattle.horn_clauses.specs.Rows.{row_at}
 use Rattle.grammar_check.specs.Links.{Step, Walks}
 
 abbrev pub node_clause : List (List ℕ) → (total y : ℕ) → Clause

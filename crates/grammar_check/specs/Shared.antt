@@ -1,6 +1,11 @@
 -- Which symbols are left sides of several rules and of sequences, and what plain rules say.
-use Rattle.std.specs.Prelude.{◌≡◌, ℕ, ◌<◌, Bool, true, false, List, ◌∷◌, slice_index_or, Contains, ◌↔◌}
+use Rattle.std.specs.Prelude.{◌≡◌, ℕ, ◌<◌, Bool, true, false, List, ◌∷◌, map, slice_index_or, Contains, ◌↔◌}
+use Rattle.std.specs.declared.vec.Vec.{Vec}
+use Rattle.std.specs.declared.alloc.Global.{Global}
 use Rattle.grammar_model.specs.Grammar.{Grammar, PlainRule, SequenceRule, Plain, Sequence, rule_at, lhs_of}
+
+abbrev pub rows_of : List (Vec ℕ Global) → List (List ℕ)
+rows_of rows = map (λ row. row.items) rows
 
 abbrev pub IsSequenceAt : Grammar → ℕ → Type 0
 IsSequenceAt g i = (r : SequenceRule) × (rule_at g i ≡ Sequence r)

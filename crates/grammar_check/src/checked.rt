@@ -4,6 +4,7 @@ ghost use Rattle.grammar_model.specs.Grammar.{Slot, slot_of};
 ghost use Rattle.grammar_model.specs.Analysis.{IsNullable, IsProductive, IsAccessible};
 ghost use Rattle.grammar_model.specs.Checked.{IsChecked};
 ghost use Rattle.grammar_check.specs.Message.{IsOf};
+ghost use Rattle.slot_analysis.specs.Few.{FewAreAccessible};
 ghost use Rattle.slot_analysis.specs.Tested.{HasTests};
 ghost use Rattle.grammar_check.specs.Refused.{IsTold};
 
@@ -92,6 +93,13 @@ impl<'a> Checked<'a> {
         ensures { HasTests self.now }
     {
         self.analysis.tested();
+    }
+
+    /// States that few slots are accessible.
+    pub fn few_accessible(&self)
+        ensures { FewAreAccessible self.now }
+    {
+        self.analysis.few_accessible();
     }
 
     /// The grammar.

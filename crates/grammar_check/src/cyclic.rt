@@ -1,7 +1,7 @@
 //! The least cycle of a grammar.
 ghost use Rattle.std.specs.Prelude.{true, false, ◌≡◌, ◌+◌, ◌<◌, ◌^◌, length, map, slice_index, All, IfOk, IfSome, IsNone};
 ghost use Rattle.grammar_model.specs.Cycles.{IsLeastCycle, HasHeights};
-ghost use Rattle.slot_analysis.specs.Rows.{rows_of, row_at};
+ghost use Rattle.horn_clauses.specs.Rows.{row_at};
 ghost use Rattle.slot_analysis.specs.Slots.{IsNumbering};
 ghost use Rattle.slot_analysis.specs.Clauses.{IsAnalysis};
 ghost use Rattle.slot_analysis.specs.Steps.{IsReach};
@@ -12,6 +12,7 @@ use crate::cycles::least_cycle;
 use crate::links::{floors_of, links_of};
 use crate::table::slots_at;
 use grammar_core::SymbolId;
+use horn_clauses::Rows;
 use slot_analysis::{Analysis, Packed, Slots};
 use std::alloc::{AllocError, Global};
 
@@ -22,9 +23,9 @@ fn cycle_of(
     slots: &Slots<'_>,
 ) -> Result<Option<Vec<(SymbolId, u32)>>, AllocError>
     requires numbering { IsNumbering w.now slots.now.bases.now }
-    requires nullable { IsAnalysis true w.now slots.now.bases.now slots.now.nullable.now.keys }
-    requires productive { IsAnalysis false w.now slots.now.bases.now slots.now.productive.now.keys }
-    requires reach { IsReach w.now slots.now.bases.now slots.now.reach.now.keys }
+    requires nullable { IsAnalysis true w.now slots.now.bases.now slots.now.nullable.now }
+    requires productive { IsAnalysis false w.now slots.now.bases.now slots.now.productive.now }
+    requires reach { IsReach w.now slots.now.bases.now slots.now.reach.now }
     requires small { slice_index slots.now.bases.now (length w.now.names) + slice_index slots.now.bases.now (length w.now.names) < 2 ^ 32 }
     ensures some { IfOk result (λ r. IfSome r (λ cycle. IsLeastCycle w.now (slots_with cycle.items))) }
     ensures known { IfOk result (λ r. IfSome r (λ cycle. AreOf w.now cycle.items)) }
@@ -41,21 +42,21 @@ fn cycle_of(
 }
 
 // The level of a place.
-fn level_at(rows: &[Vec<u32>], symbol: SymbolId, place: u32) -> u32
-    requires { place < length (row_at (rows_of rows.now) symbol) }
-    ensures { result ≡ slice_index (row_at (rows_of rows.now) symbol) place }
+fn level_at(rows: &Rows, symbol: SymbolId, place: u32) -> u32
+    requires { place < length (row_at rows.now symbol) }
+    ensures { result ≡ slice_index (row_at rows.now symbol) place }
 {
-    rows[symbol.0 as usize][place as usize]
+    rows.row(symbol.0 as usize)[place as usize]
 }
 
 // The slots whose levels have these places.
 fn unpacked(
     alloc: Global,
-    rows: &[Vec<u32>],
+    rows: &Rows,
     cycle: &[(SymbolId, u32)],
 ) -> Result<Vec<(SymbolId, u32)>, AllocError>
-    requires { All (IsPlaced (rows_of rows.now)) cycle.now }
-    ensures { IfOk result (λ slots. slots.items ≡ map (unpacked_pair (rows_of rows.now)) cycle.now) }
+    requires { All (IsPlaced rows.now) cycle.now }
+    ensures { IfOk result (λ slots. slots.items ≡ map (unpacked_pair rows.now) cycle.now) }
 {
     let mut slots = Vec::new(alloc);
     for slot in cycle {

@@ -2,52 +2,46 @@
 ghost use Rattle.std.specs.Prelude.{true, false, ◌≡◌, ◌≢◌, ℕ, suc, ◌+◌, ◌-◌, ◌<◌, ◌≤◌, ◌^◌, length, slice_index, Contains, IfOk, OnOk, IsTrue, ◌↔◌};
 ghost use Rattle.grammar_model.specs.Grammar.{rule_at, child_slot, slot_of};
 ghost use Rattle.grammar_model.specs.Analysis.{IsNullable, IsProductive, IsAccessible};
-ghost use Rattle.slot_analysis.specs.Rows.{rows_of, row_at};
+ghost use Rattle.horn_clauses.specs.Rows.{row_at};
 ghost use Rattle.slot_analysis.specs.Slots.{number, end_of, IsNumbering, needed_of};
 ghost use Rattle.slot_analysis.specs.Clauses.{IsAnalysis};
 ghost use Rattle.slot_analysis.specs.Steps.{head_of, IsReach};
 ghost use Rattle.grammar_check.specs.Linked.{HasPairs, IsLinkAt, IsLinkOf, IsLinkTo, IsFloored};
 
-use indexmap::IndexSet;
-use slot_analysis::{Packed, Slots, add_to_row, child_number, empty_rows, head_number, is_found};
-use std::alloc::{AllocError, AllocFailed, Global};
+use horn_clauses::{Gathered, NumberSet, Rows};
+use slot_analysis::{Packed, Slots, child_number, head_number};
+use std::alloc::{AllocError, Global};
 
-fn is_part_nullable(
-    w: &Packed<'_>,
-    bases: &[u32],
-    nullable: &IndexSet<u32>,
-    i: usize,
-    k: usize,
-) -> bool
+fn is_part_nullable(w: &Packed<'_>, bases: &[u32], nullable: &NumberSet, i: usize, k: usize) -> bool
     requires rule { i < length w.now.rules }
     requires numbering { IsNumbering w.now bases.now }
-    requires nullable { IsAnalysis true w.now bases.now nullable.now.keys }
+    requires nullable { IsAnalysis true w.now bases.now nullable.now }
     requires part { k < needed_of (rule_at w.now i) }
     ensures { IsTrue result ↔ IsNullable w.now (child_slot (rule_at w.now i) k) }
 {
     let _ = w.rule_count();
-    is_found(nullable, child_number(w, bases, i, k))
+    nullable.has(child_number(w, bases, i, k))
 }
 
 // Whether the part can stand in a tree of a start.
 fn is_part_used(w: &Packed<'_>, slots: &Slots<'_>, i: usize, k: usize) -> bool
     requires rule { i < length w.now.rules }
     requires numbering { IsNumbering w.now slots.now.bases.now }
-    requires productive { IsAnalysis false w.now slots.now.bases.now slots.now.productive.now.keys }
-    requires reach { IsReach w.now slots.now.bases.now slots.now.reach.now.keys }
+    requires productive { IsAnalysis false w.now slots.now.bases.now slots.now.productive.now }
+    requires reach { IsReach w.now slots.now.bases.now slots.now.reach.now }
     requires part { k < needed_of (rule_at w.now i) }
     ensures { IsTrue result ↔ (IsAccessible w.now (child_slot (rule_at w.now i) k) × IsProductive w.now (child_slot (rule_at w.now i) k)) }
 {
     let _ = w.rule_count();
     let child = child_number(w, slots.bases, i, k);
-    is_found(slots.reach, child) && is_found(slots.productive, child)
+    slots.reach.has(child) && slots.productive.has(child)
 }
 
 // The first part that is not nullable, or how many parts there are.
-fn first_solid(w: &Packed<'_>, bases: &[u32], nullable: &IndexSet<u32>, i: usize) -> usize
+fn first_solid(w: &Packed<'_>, bases: &[u32], nullable: &NumberSet, i: usize) -> usize
     requires rule { i < length w.now.rules }
     requires numbering { IsNumbering w.now bases.now }
-    requires nullable { IsAnalysis true w.now bases.now nullable.now.keys }
+    requires nullable { IsAnalysis true w.now bases.now nullable.now }
     ensures within { result ≤ needed_of (rule_at w.now i) }
     ensures before { (j : ℕ) → j < result → IsNullable w.now (child_slot (rule_at w.now i) j) }
     ensures at { result < needed_of (rule_at w.now i) → IsNullable w.now (child_slot (rule_at w.now i) result) → ⊥ }
@@ -63,10 +57,10 @@ fn first_solid(w: &Packed<'_>, bases: &[u32], nullable: &IndexSet<u32>, i: usize
 }
 
 // One past the last part that is not nullable, or 0.
-fn solid_end(w: &Packed<'_>, bases: &[u32], nullable: &IndexSet<u32>, i: usize) -> usize
+fn solid_end(w: &Packed<'_>, bases: &[u32], nullable: &NumberSet, i: usize) -> usize
     requires rule { i < length w.now.rules }
     requires numbering { IsNumbering w.now bases.now }
-    requires nullable { IsAnalysis true w.now bases.now nullable.now.keys }
+    requires nullable { IsAnalysis true w.now bases.now nullable.now }
     ensures within { result ≤ needed_of (rule_at w.now i) }
     ensures behind { (j : ℕ) → result ≤ j → j < needed_of (rule_at w.now i) → IsNullable w.now (child_slot (rule_at w.now i) j) }
     ensures last { 0 < result → IsNullable w.now (child_slot (rule_at w.now i) (result - 1)) → ⊥ }
@@ -93,15 +87,15 @@ fn add_links(
     w: &Packed<'_>,
     slots: &Slots<'_>,
     i: usize,
-    rows: &mut Vec<Vec<u32>>,
-) -> Result<(), AllocFailed<u32>>
+    rows: &mut Gathered,
+) -> Result<(), AllocError>
     requires rule { i < length w.now.rules }
     requires numbering { IsNumbering w.now slots.now.bases.now }
-    requires nullable { IsAnalysis true w.now slots.now.bases.now slots.now.nullable.now.keys }
-    requires productive { IsAnalysis false w.now slots.now.bases.now slots.now.productive.now.keys }
-    requires reach { IsReach w.now slots.now.bases.now slots.now.reach.now.keys }
-    requires sized { length rows.old.items ≡ slice_index slots.now.bases.now (length w.now.names) }
-    ensures { OnOk result (HasPairs (rows_of rows.old.items) (rows_of rows.new.items) (IsLinkOf w.now slots.now.bases.now i (needed_of (rule_at w.now i)))) }
+    requires nullable { IsAnalysis true w.now slots.now.bases.now slots.now.nullable.now }
+    requires productive { IsAnalysis false w.now slots.now.bases.now slots.now.productive.now }
+    requires reach { IsReach w.now slots.now.bases.now slots.now.reach.now }
+    requires sized { length rows.old ≡ slice_index slots.now.bases.now (length w.now.names) }
+    ensures { OnOk result (HasPairs rows.old rows.new (IsLinkOf w.now slots.now.bases.now i (needed_of (rule_at w.now i)))) }
 {
     let _ = w.rule_count();
     let head = head_number(w, slots.bases, i);
@@ -109,32 +103,28 @@ fn add_links(
     let end = solid_end(w, slots.bases, slots.nullable, i);
     for k in 0..w.needed_count(i) {
         if lies_between(k, first, end) && is_part_used(w, slots, i, k) {
-            let child = child_number(w, slots.bases, i, k) as usize;
-            add_to_row(rows, child, head)?;
+            let child = child_number(w, slots.bases, i, k);
+            rows.add(child, head)?;
         }
     }
     Ok(())
 }
 
 /// The rows of all steps: for each slot, the tightest slots from which there is one to it.
-pub fn links_of(
-    alloc: Global,
-    w: &Packed<'_>,
-    slots: &Slots<'_>,
-) -> Result<Vec<Vec<u32>>, AllocError>
+pub fn links_of(alloc: Global, w: &Packed<'_>, slots: &Slots<'_>) -> Result<Rows, AllocError>
     requires numbering { IsNumbering w.now slots.now.bases.now }
-    requires nullable { IsAnalysis true w.now slots.now.bases.now slots.now.nullable.now.keys }
-    requires productive { IsAnalysis false w.now slots.now.bases.now slots.now.productive.now.keys }
-    requires reach { IsReach w.now slots.now.bases.now slots.now.reach.now.keys }
-    ensures length { IfOk result (λ rows. length rows.items ≡ slice_index slots.now.bases.now (length w.now.names)) }
-    ensures links { IfOk result (λ rows. (t h : ℕ) → Contains (row_at (rows_of rows.items) t) h ↔ IsLinkTo w.now slots.now.bases.now (length w.now.rules) t h) }
+    requires nullable { IsAnalysis true w.now slots.now.bases.now slots.now.nullable.now }
+    requires productive { IsAnalysis false w.now slots.now.bases.now slots.now.productive.now }
+    requires reach { IsReach w.now slots.now.bases.now slots.now.reach.now }
+    ensures length { IfOk result (λ rows. length rows ≡ slice_index slots.now.bases.now (length w.now.names)) }
+    ensures links { IfOk result (λ rows. (t h : ℕ) → Contains (row_at rows t) h ↔ IsLinkTo w.now slots.now.bases.now (length w.now.rules) t h) }
 {
     let bound = slots.bases[w.symbol_count()] as usize;
-    let mut rows = empty_rows(alloc, bound)?;
+    let mut links = Gathered::new(alloc, bound);
     for i in 0..w.rule_count() {
-        add_links(w, slots, i, &mut rows)?;
+        add_links(w, slots, i, &mut links)?;
     }
-    Ok(rows)
+    links.rows(alloc)
 }
 
 /// For each slot's number the first of its symbol.

@@ -2,8 +2,7 @@
 ghost use Rattle.std.specs.Prelude.{true, false, ◌≡◌, ℕ, suc, ◌<◌, List, ◌∷◌, ◌||◌, length, slice_index_or, slice_set, Contains, IfOk, OnOk, IfSome, IsNone, IsTrue, ◌↔◌, ◌⊎◌};
 ghost use Rattle.grammar_model.specs.Grammar.{PlainRule, rule_at};
 ghost use Rattle.grammar_model.specs.Checked.{IsFault, SequenceLhs, Duplicate, SequencesAreAlone, RulesDiffer, IsDuplicate};
-ghost use Rattle.slot_analysis.specs.Rows.{rows_of};
-ghost use Rattle.grammar_check.specs.Shared.{IsSequenceAt, HasTwo, HasSequence, Marks, HasTexts};
+ghost use Rattle.grammar_check.specs.Shared.{rows_of, IsSequenceAt, HasTwo, HasSequence, Marks, HasTexts};
 
 use grammar_core::{Rule, RuleId, SymbolId, Written, WrittenRule};
 use indexmap::IndexSet;

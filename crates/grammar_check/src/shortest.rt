@@ -1,10 +1,9 @@
 //! Shortest cycles through a slot.
 ghost use Rattle.std.specs.Prelude.{◌≡◌, ℕ, suc, ◌+◌, ◌-◌, ◌^◌, ◌<◌, ◌≤◌, length, slice_index, All, Contains, IsTrue, ◌↔◌, IfOk, IfSome, IsNone, MatchOption};
-ghost use Rattle.slot_analysis.specs.Rows.{rows_of};
 ghost use Rattle.grammar_check.specs.Links.{Tied, Step, Walks, AreFloors, AreRows, StepsInto, AreLayers, IsLeastNext, IsLeastPath};
 
 use crate::layers::layers_of;
-use indexmap::IndexSet;
+use horn_clauses::{NumberSet, Rows};
 use std::alloc::{AllocError, Global};
 
 // Whether one of the numbers is tied to one of a row.
@@ -21,29 +20,22 @@ fn has_tied(row: &[u32], floors: &[u32], x: u32) -> bool
     false
 }
 
-fn has_step(rows: &[Vec<u32>], floors: &[u32], x: u32, t: u32) -> bool
+fn has_step(rows: &Rows, floors: &[u32], x: u32, t: u32) -> bool
     requires known { t < length rows.now }
-    requires rows { AreRows (length floors.now) (rows_of rows.now) }
-    ensures { IsTrue result ↔ Step (rows_of rows.now) floors.now x t }
+    requires rows { AreRows (length floors.now) rows.now }
+    ensures { IsTrue result ↔ Step rows.now floors.now x t }
 {
-    has_tied(&rows[t as usize], floors, x)
+    has_tied(rows.row(t as usize), floors, x)
 }
 
 // The least number at some places to which there is a step.
-fn least_next(
-    rows: &[Vec<u32>],
-    floors: &[u32],
-    found: &IndexSet<u32>,
-    x: u32,
-    from: usize,
-    to: usize,
-) -> u32
-    requires within { to ≤ length found.now.keys }
+fn least_next(rows: &Rows, floors: &[u32], found: &NumberSet, x: u32, from: usize, to: usize) -> u32
+    requires within { to ≤ length found.now }
     requires few { length rows.now < 2 ^ 32 }
-    requires known { All (λ t. t < length rows.now) found.now.keys }
-    requires rows { AreRows (length floors.now) (rows_of rows.now) }
-    requires some { StepsInto (rows_of rows.now) floors.now found.now.keys from to x }
-    ensures { IsLeastNext (rows_of rows.now) floors.now found.now.keys from to x result }
+    requires known { All (λ t. t < length rows.now) found.now }
+    requires rows { AreRows (length floors.now) rows.now }
+    requires some { StepsInto rows.now floors.now found.now from to x }
+    ensures { IsLeastNext rows.now floors.now found.now from to x result }
 {
     let mut best = u32::MAX;
     for j in from..to {
@@ -58,20 +50,20 @@ fn least_next(
 // A shortest walk from the number that the layers are of back to it.
 fn path_of(
     alloc: Global,
-    rows: &[Vec<u32>],
+    rows: &Rows,
     floors: &[u32],
-    found: &IndexSet<u32>,
+    found: &NumberSet,
     starts: &[usize],
     to: u32,
     layer: usize,
 ) -> Result<Vec<u32>, AllocError>
     requires few { length rows.now < 2 ^ 32 }
-    requires known { All (λ t. t < length rows.now) found.now.keys }
-    requires rows { AreRows (length floors.now) (rows_of rows.now) }
-    requires layers { AreLayers (rows_of rows.now) floors.now to found.now.keys starts.now }
+    requires known { All (λ t. t < length rows.now) found.now }
+    requires rows { AreRows (length floors.now) rows.now }
+    requires layers { AreLayers rows.now floors.now to found.now starts.now }
     requires layer { suc layer < length starts.now }
-    requires here { (j : ℕ) × (slice_index starts.now layer ≤ j) × (j < slice_index starts.now (suc layer)) × (slice_index found.now.keys j ≡ to) }
-    ensures { IfOk result (λ path. IsLeastPath (rows_of rows.now) floors.now to (suc layer) path.items) }
+    requires here { (j : ℕ) × (slice_index starts.now layer ≤ j) × (j < slice_index starts.now (suc layer)) × (slice_index found.now j ≡ to) }
+    ensures { IfOk result (λ path. IsLeastPath rows.now floors.now to (suc layer) path.items) }
 {
     let mut path = vec![in alloc; to]?;
     let mut x = to;
@@ -86,9 +78,9 @@ fn path_of(
     Ok(path)
 }
 
-fn place_of(found: &IndexSet<u32>, x: u32) -> Option<usize>
-    ensures some { IfSome result (λ j. (j < length found.now.keys) × (slice_index found.now.keys j ≡ x)) }
-    ensures none { IsNone result → Contains found.now.keys x → ⊥ }
+fn place_of(found: &NumberSet, x: u32) -> Option<usize>
+    ensures some { IfSome result (λ j. (j < length found.now) × (slice_index found.now j ≡ x)) }
+    ensures none { IsNone result → Contains found.now x → ⊥ }
 {
     for j in 0..found.len() {
         if found.as_slice()[j] == x {
@@ -118,17 +110,17 @@ fn layer_of(starts: &[usize], j: usize) -> usize
 /// The least of the shortest cycles from a number, if it is on one.
 pub fn cycle_through(
     alloc: Global,
-    rows: &[Vec<u32>],
+    rows: &Rows,
     floors: &[u32],
     to: u32,
 ) -> Result<Option<Vec<u32>>, AllocError>
     requires known { to < length rows.now }
     requires sized { length rows.now ≡ length floors.now }
     requires few { length rows.now < 2 ^ 32 }
-    requires rows { AreRows (length floors.now) (rows_of rows.now) }
+    requires rows { AreRows (length floors.now) rows.now }
     requires floors { AreFloors floors.now }
-    ensures some { IfOk result (λ r. IfSome r (λ path. (n : ℕ) × IsLeastPath (rows_of rows.now) floors.now to n path.items)) }
-    ensures none { IfOk result (λ r. IsNone r → (m : ℕ) → Walks (rows_of rows.now) floors.now to (suc m) to → ⊥) }
+    ensures some { IfOk result (λ r. IfSome r (λ path. (n : ℕ) × IsLeastPath rows.now floors.now to n path.items)) }
+    ensures none { IfOk result (λ r. IsNone r → (m : ℕ) → Walks rows.now floors.now to (suc m) to → ⊥) }
 {
     let (found, starts) = layers_of(alloc, rows, floors, to)?;
     let Some(place) = place_of(&found, to) else {

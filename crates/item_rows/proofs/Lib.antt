@@ -1,8 +1,10 @@
+pub mod Awaiting
 pub mod Cutting
 pub mod Holding
 pub mod Items
 pub mod Joined
 pub mod Listed
+pub mod Marking
 pub mod Ordered
 pub mod Packing
 pub mod Sorting

@@ -3,7 +3,7 @@ use Rattle.std.specs.Prelude.{◌≡◌, ◌≢◌, ℕ, ◌+◌, ◌/◌, ◌%�
 use Rattle.std.specs.List.{AllPairs}
 use Rattle.recognizer_model.specs.declared.Item.{Item}
 use Rattle.recognizer_model.specs.Flat.{FlatGrammar, rhs_of, part_of}
-use Rattle.item_rows.specs.Kept.{IsItem}
+use Rattle.item_rows.specs.Kept.{IsItem, StandsForTerminal}
 use Rattle.item_rows.specs.declared.dotted.Span.{Span}
 
 -- the dotted rules of a flat grammar, in the order of rows
@@ -68,6 +68,10 @@ IsSpan g rules symbol span = IsSpanOf (λ rule dot. part_of g rule dot ≡ Some 
 abbrev pub IsWholeSpan : FlatGrammar → List Item → Span → Type 0
 IsWholeSpan g rules span = IsSpanOf (λ rule dot. dot ≡ length (rhs_of g rule)) rules span
 
+-- exactly those that wait for terminals
+abbrev pub IsTerminalSpan : FlatGrammar → List Item → Span → Type 0
+IsTerminalSpan g rules span = IsSpanOf (λ rule dot. (x : ℕ) × (part_of g rule dot ≡ Some x) × StandsForTerminal g x) rules span
+
 -- the dotted rules of a span in each part of a row
 pub record AreWithin (packed begun : List ℕ) (span : Span) (own others : List ℕ) : Type 0 where
   pub own_rises : Rises own
@@ -110,10 +114,11 @@ pub record IsNumbered (rules : List Item) (firsts numbers : List ℕ) (item : It
   pub is : slice_get rules number ≡ Some (record item { origin = 0 })
 
 -- the tables of the dotted rules of a grammar
-pub record IsTable (g : FlatGrammar) (rules : List Item) (firsts numbers : List ℕ) (spans : List Span) (whole : Span) : Type 0 where
+pub record IsTable (g : FlatGrammar) (rules : List Item) (firsts numbers : List ℕ) (spans : List Span) (whole scanned : Span) : Type 0 where
   pub few : length rules < 2 ^ 32
   pub differ : DifferInDots rules
   pub all : (item : Item) → IsItem g item → IsNumbered rules firsts numbers item
   pub each : (k : ℕ) → k < length rules → IsNumbered rules firsts numbers (dotted_at rules k)
   pub by_symbol : AreSpans g rules spans (length g.symbols)
   pub at_end : IsWholeSpan g rules whole
+  pub first : IsTerminalSpan g rules scanned

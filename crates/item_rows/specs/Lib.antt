@@ -3,3 +3,4 @@ pub mod Order
 pub mod Kept
 pub mod Dotted
 pub mod Held
+pub mod Marks

@@ -1,14 +1,14 @@
 //! The dotted rules of a flat grammar, numbered in the order of rows, so that an item is a number and an origin.
-ghost use Rattle.std.specs.Prelude.{◌≡◌, ◌≢◌, ◌≤◌, ◌<◌, ◌/◌, ◌+◌, ◌^◌, ℕ, suc, [], length, Some, slice_get, Contains, IfOk, IfSome, IsNone, OnOk};
+ghost use Rattle.std.specs.Prelude.{◌≡◌, ◌≢◌, ◌≤◌, ◌<◌, ◌/◌, ◌+◌, ◌^◌, ℕ, suc, [], length, Some, slice_get, Contains, IfOk, IfSome, IsNone, IsTrue, ◌↔◌, OnOk};
 ghost use Rattle.std.specs.List.{AllPairs};
 ghost use Rattle.recognizer_model.specs.declared.Item.{Item as TheItem};
 ghost use Rattle.recognizer_model.specs.Flat.{IsRule, rhs_of};
 ghost use Rattle.item_rows.specs.Order.{IsInOrder};
-ghost use Rattle.item_rows.specs.Kept.{IsItem};
-ghost use Rattle.item_rows.specs.Dotted.{AddsDots, AreListed, AreNumbers, IsSpan, IsWholeSpan, AreSpans, IsTable, IsPacked, DifferInDots, dotted_at, begun_at, unpacked};
+ghost use Rattle.item_rows.specs.Kept.{IsItem, StandsForTerminal};
+ghost use Rattle.item_rows.specs.Dotted.{AddsDots, AreListed, AreNumbers, IsSpan, IsWholeSpan, IsTerminalSpan, AreSpans, IsTable, IsPacked, DifferInDots, dotted_at, begun_at, unpacked};
 
 use crate::order::{PAST_SYMBOLS, below, list_sorted, number_of};
-use grammar_core::Flat;
+use grammar_core::{Flat, FlatSymbol};
 use recognizer_model::Item;
 use std::alloc::{AllocError, AllocFailed, Global};
 use std::marker::Model;
@@ -37,6 +37,8 @@ pub struct DottedRules<'g> {
     spans: Vec<Span>,
     // those with the dot at the end
     whole: Span,
+    // those that wait for terminals
+    scanned: Span,
 }
 
 impl<'g> Model for DottedRules<'g> {
@@ -46,7 +48,7 @@ impl<'g> Model for DottedRules<'g> {
 
     ghost view = { λ d. record { flat = d.flat.now; rules = d.rules.items } };
 
-    ghost invariant = { λ d. IsTable d.flat.now d.rules.items d.firsts.items d.numbers.items d.spans.items d.whole };
+    ghost invariant = { λ d. IsTable d.flat.now d.rules.items d.firsts.items d.numbers.items d.spans.items d.whole d.scanned };
 }
 
 // How many items there are, if 32 bits can tell it.
@@ -164,6 +166,44 @@ fn find_whole(flat: &Flat, rules: &[Item]) -> Span
     }
 }
 
+fn is_terminal(flat: &Flat, symbol: u32) -> bool
+    requires { symbol < length flat.now.symbols }
+    ensures { IsTrue result ↔ StandsForTerminal flat.now symbol }
+{
+    match flat.symbol(symbol) {
+        FlatSymbol::Terminal(_) => true,
+        _ => false,
+    }
+}
+
+// How many symbols stand for terminals. They stand first.
+fn terminal_count(flat: &Flat) -> usize
+    ensures exact { (x : ℕ) → x < result ↔ StandsForTerminal flat.now x }
+    ensures few { result < 2 ^ 32 }
+{
+    flat.known();
+    for symbol in 0..flat.symbol_count() {
+        if !is_terminal(flat, symbol as u32) {
+            return symbol;
+        }
+    }
+    flat.symbol_count()
+}
+
+// Looks for the dotted rules that wait for terminals, which stand first.
+fn find_scanned(flat: &Flat, rules: &[Item]) -> Span
+    requires order { IsInOrder flat.now rules.now }
+    requires few { length rules.now < 2 ^ 32 }
+    ensures { IsTerminalSpan flat.now rules.now result }
+{
+    let count = terminal_count(flat);
+    let end = below(flat, rules, count as u64);
+    Span {
+        start: 0,
+        end: end as u32,
+    }
+}
+
 fn number_at(numbers: &[u32], place: usize) -> Option<u32>
     ensures { result ≡ slice_get numbers.now place }
 {
@@ -242,6 +282,7 @@ impl<'g> DottedRules<'g> {
         let numbers = list_numbers(alloc, flat, &listed, &rules)?;
         let spans = list_spans(alloc, flat, &rules)?;
         let whole = find_whole(flat, &rules);
+        let scanned = find_scanned(flat, &rules);
         Ok(DottedRules {
             flat,
             rules,
@@ -249,6 +290,7 @@ impl<'g> DottedRules<'g> {
             numbers,
             spans,
             whole,
+            scanned,
         })
     }
 
@@ -293,5 +335,12 @@ impl<'g> DottedRules<'g> {
         ensures { IsWholeSpan self.now.flat self.now.rules result }
     {
         self.whole
+    }
+
+    /// The dotted rules that wait for terminals.
+    pub fn scanned(&self) -> Span
+        ensures { IsTerminalSpan self.now.flat self.now.rules result }
+    {
+        self.scanned
     }
 }

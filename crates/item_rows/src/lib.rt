@@ -2,10 +2,14 @@
 #![tactic(auto)]
 
 mod dotted;
+mod expected;
+mod marks;
 mod order;
 mod packed;
 mod parts;
 mod rows;
 
+pub use expected::list_expected;
+pub use marks::{Marks, is_marked, mark_row, new_marks, take_marks};
 pub use packed::Row;
 pub use rows::Rows;

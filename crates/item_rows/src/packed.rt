@@ -4,7 +4,7 @@ ghost use Rattle.std.specs.List.{AllPairs};
 ghost use Rattle.recognizer_model.specs.declared.Item.{Item as TheItem};
 ghost use Rattle.recognizer_model.specs.Counts.{IsListOf};
 ghost use Rattle.recognizer_model.specs.Items.{after, IsWhole};
-ghost use Rattle.item_rows.specs.Kept.{AreItems, IsAwaited};
+ghost use Rattle.item_rows.specs.Kept.{AreItems, IsAwaited, WaitsForTerminal};
 ghost use Rattle.item_rows.specs.Dotted.{unpacked, IsPackedRow, AreDotted, IsRowOfParts, AreWithin, row_items, Rises};
 
 use crate::dotted::{DottedRules, Span, begin, unpack};
@@ -213,6 +213,20 @@ pub fn whole<'r>(
 {
     dotted.known();
     narrowed(dotted, packed, begun, place, dotted.whole())
+}
+
+/// The items of a row that wait for terminals.
+pub fn scanned<'r>(
+    dotted: &'r DottedRules<'_>,
+    packed: &'r [u64],
+    begun: &'r [u32],
+    place: u32,
+) -> Row<'r>
+    requires { IsRowOfParts dotted.now.rules place packed.now begun.now }
+    ensures { IsListOf (λ item. Contains (row_items dotted.now.rules place packed.now begun.now) item × WaitsForTerminal dotted.now.flat item) result }
+{
+    dotted.known();
+    narrowed(dotted, packed, begun, place, dotted.scanned())
 }
 
 fn is_there(packed: &[u64], place: usize, end: u64) -> bool

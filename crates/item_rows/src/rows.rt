@@ -6,10 +6,12 @@ ghost use Rattle.recognizer_model.specs.Counts.{IsListOf};
 ghost use Rattle.recognizer_model.specs.Items.{after, IsWhole};
 ghost use Rattle.item_rows.specs.Rows.{row_at, shared_at, with_row, IsBegunAt};
 ghost use Rattle.item_rows.specs.Held.{shared_by};
-ghost use Rattle.item_rows.specs.Kept.{AreItems, IsAwaited};
+ghost use Rattle.item_rows.specs.Kept.{AreItems, IsAwaited, WaitsForTerminal};
 
 use crate::dotted::DottedRules;
-use crate::packed::{Row, contains, is_awaited, list_dotted, pack_row, row_of, waiting, whole};
+use crate::packed::{
+    Row, contains, is_awaited, list_dotted, pack_row, row_of, scanned, waiting, whole,
+};
 use crate::parts::Parts;
 use grammar_core::Flat;
 use recognizer_model::Item;
@@ -103,6 +105,16 @@ impl<'g> Rows<'g> {
         let packed = self.kernels.at(j);
         let begun = list_of(&self.lists, &self.begun, j);
         whole(&self.dotted, packed, begun, j as u32)
+    }
+
+    /// The items of a row that wait for terminals.
+    pub fn scanned(&self, j: usize) -> Row<'_>
+        requires { j < length self.now.sets }
+        ensures { IsListOf (λ item. Contains (row_at self.now.sets j) item × WaitsForTerminal self.now.flat item) result }
+    {
+        let packed = self.kernels.at(j);
+        let begun = list_of(&self.lists, &self.begun, j);
+        scanned(&self.dotted, packed, begun, j as u32)
     }
 
     /// Whether an item of a row waits for a symbol.

@@ -12,6 +12,7 @@ ghost use Rattle.lexer.specs.Reading.{IsDoneIn, IsBestRow};
 
 use crate::kinds::{Kind, is_match};
 use crate::machine::{Machine, begin, forget_if_full, new_machine, step};
+use crate::next::STATES;
 use crate::table::Lexical;
 use grammar_core::Flat;
 use slif_base::Chars;
@@ -196,7 +197,14 @@ impl<'g> Lexer<'g> {
     pub fn new(alloc: Global, l0: Lexical<'g>) -> Result<Lexer<'g>, AllocError>
         ensures { IfOk result (λ l. l ≡ l0.entry) }
     {
-        let machine = new_machine(alloc, l0)?;
+        Lexer::with_limit(alloc, l0, STATES)
+    }
+
+    /// A lexer with no states yet, which keeps at most so many from one call to the next. What it answers does not depend on the limit.
+    pub fn with_limit(alloc: Global, l0: Lexical<'g>, limit: usize) -> Result<Lexer<'g>, AllocError>
+        ensures { IfOk result (λ l. l ≡ l0.entry) }
+    {
+        let machine = new_machine(alloc, l0, limit)?;
         Ok(Lexer { machine })
     }
 

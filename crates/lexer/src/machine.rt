@@ -9,7 +9,7 @@ ghost use Rattle.lexer.specs.Machines.{form_of, IsMachine, Goes, IsStepBy, IsSte
 use crate::begins::{begin_of, note_begin};
 use crate::classes::Classes;
 use crate::kinds::{Kind, add_row};
-use crate::next::{STATES, known, note};
+use crate::next::{known, note};
 use crate::table::Lexical;
 use grammar_core::Flat;
 use indexmap::IndexMap;
@@ -31,10 +31,16 @@ pub struct Machine<'g> {
     pub kinds: Vec<Kind>,
     pub next: Vec<u32>,
     pub begins: IndexMap<Vec<u32>, usize>,
+    /// how many states are noted at most
+    pub limit: usize,
 }
 
-/// A machine with no states.
-pub fn new_machine<'g>(alloc: Global, l0: Lexical<'g>) -> Result<Machine<'g>, AllocError>
+/// A machine with no states, which notes at most so many.
+pub fn new_machine<'g>(
+    alloc: Global,
+    l0: Lexical<'g>,
+    limit: usize,
+) -> Result<Machine<'g>, AllocError>
     ensures form { IfOk result (λ m. form_of m ≡ l0.entry) }
     ensures is { IfOk result IsMachine }
 {
@@ -47,11 +53,12 @@ pub fn new_machine<'g>(alloc: Global, l0: Lexical<'g>) -> Result<Machine<'g>, Al
         kinds: Vec::new(alloc),
         next: Vec::new(alloc),
         begins: IndexMap::new(alloc),
+        limit,
     })
 }
 
 fn is_full(machine: &Machine<'_>) -> bool {
-    machine.rows.count() >= STATES || machine.parts.count() >= PARTS
+    machine.rows.count() >= machine.limit || machine.parts.count() >= PARTS
 }
 
 /// Forgets all states where there are too many.
@@ -112,7 +119,7 @@ fn make(
         &mut row,
     )?;
     let to = add_row(machine.flat, &mut machine.rows, &mut machine.kinds, row)?;
-    note(&mut machine.next, state, class, to)?;
+    note(&mut machine.next, machine.limit, state, class, to)?;
     Ok(to)
 }
 

@@ -47,11 +47,17 @@ fn lengthen(next: &mut Vec<u32>, place: usize) -> Result<(), AllocError>
     Ok(())
 }
 
-/// Notes what follows from a state by a class, unless there are too many.
-pub fn note(next: &mut Vec<u32>, state: usize, class: usize, to: usize) -> Result<(), AllocError>
+/// Notes what follows from a state by a class, unless there are so many states or too many.
+pub fn note(
+    next: &mut Vec<u32>,
+    limit: usize,
+    state: usize,
+    class: usize,
+    to: usize,
+) -> Result<(), AllocError>
     ensures { (s c t : ℕ) → c < 128 → IsNoted next.new.items s c t → IsNoted next.old.items s c t ⊎ ((s ≡ state) × (c ≡ class) × (t ≡ to)) }
 {
-    if state >= STATES || class >= CLASSES || to >= STATES {
+    if state >= STATES || class >= CLASSES || to >= STATES || to >= limit {
         return Ok(());
     }
     let place = state * CLASSES + class;

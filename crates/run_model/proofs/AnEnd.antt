@@ -2,8 +2,7 @@
 use Rattle.std.proofs.Common.{◌≡◌, ◌≢◌, ℕ, List, [], Option, Some, None, IfSome, refl, inl, inr, subst}
 use Rattle.outside_model.specs.Told.{ToldFile, MayHold, MayBe}
 use Rattle.outside_model.specs.Told.ToldFile.{Untold, Missing, Told}
-use Rattle.language_model.specs.Building.{Built}
-use Rattle.words_model.specs.Words.{Job, InputFrom, Asks, grammar_file, input_from}
+use Rattle.words_model.specs.Words.{Job, InputFrom, Asks}
 use Rattle.words_model.specs.Words.InputFrom.{Nowhere, StandardInput, FileNamed}
 use Rattle.words_model.proofs.Asked.{asks_or_not, asks_once, not_both}
 use Rattle.run_model.specs.Runs.{Supplied, MayEnd, InputMayBe}
@@ -34,18 +33,19 @@ module _ (laws : RunLaws) (words : List (List ℕ)) (file : List ℕ → ToldFil
   of_none : ((job : Job) → Asks words job → ⊥) → Supplied words file left [] []
   of_none none = record { grammar_held = λ job asks. absurd (none job asks); input_held = λ job asks goes. absurd (none job asks) }
 
-  of_job : (job : Job) → Asks words job → (grammar input : List ℕ) → IfSome (grammar_file job) (λ name. MayHold (file name) grammar)
-      → InputMayBe (input_from job) file left input → Supplied words file left grammar input
+  of_job : (job : Job) → Asks words job → (grammar input : List ℕ) → IfSome job.grammar (λ name. MayHold (file name) grammar)
+      → InputMayBe job.input file left input → Supplied words file left grammar input
   of_job job asks grammar input held given = record {
-    grammar_held = λ other asks'. subst (λ (j : Job). IfSome (grammar_file j) (λ name. MayHold (file name) grammar)) (asks_once words job other asks asks') held;
-    input_held = λ other asks' goes. subst (λ (j : Job). InputMayBe (input_from j) file left input) (asks_once words job other asks asks') given;
+    grammar_held = λ other asks'. subst (λ (j : Job). IfSome j.grammar (λ name. MayHold (file name) grammar)) (asks_once words job other asks asks') held;
+    input_held = λ other asks' goes. subst (λ (j : Job). InputMayBe j.input file left input) (asks_once words job other asks asks') given;
   }
 
   pub an_end : HoldsFiles words file → MayEnd words file left
   an_end holds = elim (asks_or_not words) [
     | inl some ↦ (
-        let g = some_grammar file (grammar_file some.0) (holds.grammar some.0 some.1) in
-        let i = some_input file (input_from some.0) left (λ name e. holds.input some.0 name some.1 e) in
+        let job = some.0 in
+        let g = some_grammar file job.grammar (holds.grammar some.0 some.1) in
+        let i = some_input file job.input left (λ name e. holds.input some.0 name some.1 e) in
         let o = an_outcome laws words g.0 i.0 in
         record { grammar = g.0; input = i.0; outcome = o.0; supplied = of_job some.0 some.1 g.0 i.0 g.1 i.1; is_outcome = o.1 })
     | inr none ↦ (

@@ -1,21 +1,20 @@
 -- An outcome exists, whatever the words, the grammar and the input are.
-use Rattle.std.proofs.Common.{ℕ, List, refl, inl, inr}
+use Rattle.std.proofs.Common.{ℕ, List, Option, refl, inl, inr}
 use Rattle.language_model.specs.Building.{Built}
 use Rattle.language_model.specs.Texts.{IsBuilt}
-use Rattle.words_model.specs.Words.{Job, Asks}
-use Rattle.words_model.specs.Words.Job.{Run, Check, Expect, Progress, Work}
+use Rattle.words_model.specs.Words.{Task, InputFrom}
+use Rattle.words_model.specs.Words.Task.{Check, Tell, Work}
+use Rattle.words_model.specs.Laws.{IsFitted}
 use Rattle.words_model.proofs.Asked.{asks_or_not}
+use Rattle.words_model.proofs.Fitted.{jobs_are_fitted}
 use Rattle.run_model.specs.Refused.{Accepted}
-use Rattle.run_model.specs.Jobs.{Task}
-use Rattle.run_model.specs.Jobs.Task.{Values, Expected, Report}
-use Rattle.run_model.specs.Outcome.{Outcome, IsOutcome, IsJobOutcome, IsGrammarOutcome, IsTaskOutcome, IsCheckOutcome, usage, refused}
+use Rattle.run_model.specs.Outcome.{Outcome, IsOutcome, IsGrammarOutcome, IsTaskOutcome, IsCheckOutcome, IsInputOutcome, usage, refused}
 use Rattle.run_model.specs.Outcome.IsOutcome.{NoJob, OfJob}
 use Rattle.run_model.specs.Outcome.IsGrammarOutcome.{GrammarRefused, GrammarAccepted}
 use Rattle.run_model.proofs.Texts.{RunLaws}
-use Rattle.run_model.proofs.Sized.{asked_size}
 use Rattle.run_model.proofs.Accepted.{judged}
 use Rattle.run_model.proofs.Checked.{check_outcome}
-use Rattle.run_model.proofs.Told.{some_task}
+use Rattle.run_model.proofs.Told.{some_of_input}
 
 module _ (laws : RunLaws) where
   over_grammar : (IsOver : Built → Outcome → Type 0) (grammar : List ℕ) → ((b : Built) → Accepted grammar b → (outcome : Outcome) × IsOver b outcome)
@@ -25,20 +24,15 @@ module _ (laws : RunLaws) where
     | inr refusal ↦ (refused 3 refusal.0, GrammarRefused refusal.0 refusal.1 refl)
   ]
 
-  task_outcome : (task : Task) (grammar input : List ℕ) → (outcome : Outcome) × IsGrammarOutcome grammar (λ b. IsTaskOutcome task b input) outcome
-  task_outcome task grammar input =
-      over_grammar (λ b. IsTaskOutcome task b input) grammar
-      (λ b accepted. let built : IsBuilt b = (accepted.description, accepted.built) in some_task laws.reading b built accepted.accepted task input)
-
-  job_outcome : (words : List (List ℕ)) (job : Job) → Asks words job → (grammar input : List ℕ) → (outcome : Outcome) × IsJobOutcome job grammar input outcome
-  job_outcome words (Run asked) asks grammar input = task_outcome (Values asked) grammar input
-  job_outcome words (Check name) asks grammar input = over_grammar IsCheckOutcome grammar (λ b accepted. check_outcome laws b)
-  job_outcome words (Expect name from) asks grammar input = task_outcome Expected grammar input
-  job_outcome words (Progress name at from) asks grammar input = task_outcome (Report at) grammar input
-  job_outcome words (Work size) asks grammar input = laws.work size (asked_size words size asks)
+  task_outcome : (task : Task) (file : Option (List ℕ)) (from : InputFrom) → IsFitted task file from → (grammar input : List ℕ) → (outcome : Outcome) × IsTaskOutcome task grammar input outcome
+  task_outcome Check file from fitted grammar input = over_grammar IsCheckOutcome grammar (λ b accepted. check_outcome laws b)
+  task_outcome (Tell what) file from fitted grammar input =
+      over_grammar (λ b. IsInputOutcome what b input) grammar
+      (λ b accepted. let built : IsBuilt b = (accepted.description, accepted.built) in some_of_input laws.reading b built accepted.accepted what input)
+  task_outcome (Work size) file from fitted grammar input = laws.work size fitted.2
 
   pub an_outcome : (words : List (List ℕ)) (grammar input : List ℕ) → (outcome : Outcome) × IsOutcome words grammar input outcome
   an_outcome words grammar input = elim (asks_or_not words) [
-    | inl some ↦ (let o = job_outcome words some.0 some.1 grammar input in (o.0, OfJob some.0 some.1 o.1))
+    | inl some ↦ (let job = some.0 in let o = task_outcome job.task job.grammar job.input (jobs_are_fitted words job some.1) grammar input in (o.0, OfJob some.0 some.1 o.1))
     | inr none ↦ (usage, NoJob none refl)
   ]

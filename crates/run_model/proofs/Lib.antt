@@ -1,7 +1,6 @@
 pub mod Texts
 pub mod Accepted
 pub mod Checked
-pub mod Sized
 pub mod Told
 pub mod Outcomes
 pub mod OneEnd

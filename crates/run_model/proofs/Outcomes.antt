@@ -3,23 +3,22 @@ use Rattle.std.proofs.Common.{◌≡◌, ℕ, List, [], ◌∷◌, sym, ap, subs
 use Rattle.grammar_model.specs.declared.Ranking.TheVariants.{Rule as RuleRanks}
 use Rattle.language_model.specs.Building.{Built}
 use Rattle.reading_model.specs.Reading.{Piece}
-use Rattle.words_model.specs.Words.{Job}
-use Rattle.words_model.specs.Words.Job.{Run, Check, Expect, Progress, Work}
+use Rattle.words_model.specs.Words.{Task, Job}
+use Rattle.words_model.specs.Words.Task.{Check, Tell, Work}
 use Rattle.words_model.proofs.Asked.{asks_once, not_both}
 use Rattle.run_model.specs.Refused.{Accepted}
 use Rattle.run_model.specs.Inputs.{IsRead}
 use Rattle.run_model.specs.Numbers.{Numbers, HasNumbers}
-use Rattle.run_model.specs.Jobs.{Task, work_grammar, work_input}
-use Rattle.run_model.specs.Jobs.Task.{Values, Expected, Report}
+use Rattle.run_model.specs.Jobs.{work_grammar, work_input}
 use Rattle.run_model.specs.Telling.{work_line}
-use Rattle.run_model.specs.Outcome.{Outcome, IsOutcome, IsJobOutcome, IsGrammarOutcome, IsTaskOutcome, IsCheckOutcome, IsWorkOutcome, done, refused}
+use Rattle.run_model.specs.Outcome.{Outcome, IsOutcome, IsGrammarOutcome, IsTaskOutcome, IsInputOutcome, IsCheckOutcome, IsWorkOutcome, done, refused}
 use Rattle.run_model.specs.Outcome.IsOutcome.{NoJob, OfJob}
 use Rattle.run_model.specs.Outcome.IsGrammarOutcome.{GrammarRefused, GrammarAccepted}
 use Rattle.run_model.proofs.Texts.{RunLaws}
 use Rattle.run_model.proofs.Inputs.{one_read}
 use Rattle.run_model.proofs.Accepted.{one_built, one_refused, not_refused}
 use Rattle.run_model.proofs.Checked.{one_check}
-use Rattle.run_model.proofs.Told.{one_task}
+use Rattle.run_model.proofs.Told.{one_of_input}
 
 module _ (laws : RunLaws) where
   -- two outcomes that come of a grammar are one, where those over what was built of it are
@@ -31,10 +30,6 @@ module _ (laws : RunLaws) where
   one_over P Q grammar x y one (GrammarAccepted c accepted over) (GrammarAccepted d accepted' over') =
       one c accepted over (subst (λ (k : Built). Q k y) (sym (one_built laws.grammars grammar c d accepted accepted')) over')
 
-  one_over_task : (task : Task) (grammar input : List ℕ) (x y : Outcome) → IsGrammarOutcome grammar (λ b. IsTaskOutcome task b input) x → IsGrammarOutcome grammar (λ b. IsTaskOutcome task b input) y → x ≡ y
-  one_over_task task grammar input x y p q =
-      one_over (λ b. IsTaskOutcome task b input) (λ b. IsTaskOutcome task b input) grammar x y (λ b accepted. one_task laws.reading task b input x y) p q
-
   pub one_work : (size : ℕ) (x y : Outcome) → IsWorkOutcome size x → IsWorkOutcome size y → x ≡ y
   one_work size x y p q =
       let built : q.built ≡ p.built = one_built laws.grammars work_grammar q.built p.built q.accepted p.accepted in
@@ -44,16 +39,15 @@ module _ (laws : RunLaws) where
       subst (λ (ps : List Piece). HasNumbers p.built RuleRanks ps q.numbers) pieces (subst (λ (b : Built). HasNumbers b RuleRanks q.pieces q.numbers) built q.has) in
       p.is ∙ ap (λ (n : Numbers). done (work_line size n 1 ∷ [])) (laws.reading.one_numbers p.built RuleRanks p.pieces p.numbers q.numbers p.has has) ∙ sym q.is
 
-  one_job_outcome : (job : Job) (grammar input : List ℕ) (a b : Outcome) → IsJobOutcome job grammar input a → IsJobOutcome job grammar input b → a ≡ b
-  one_job_outcome (Run asked) grammar input a b p q = one_over_task (Values asked) grammar input a b p q
-  one_job_outcome (Check name) grammar input a b p q = one_over IsCheckOutcome IsCheckOutcome grammar a b (λ c accepted. one_check c a b) p q
-  one_job_outcome (Expect name from) grammar input a b p q = one_over_task Expected grammar input a b p q
-  one_job_outcome (Progress name at from) grammar input a b p q = one_over_task (Report at) grammar input a b p q
-  one_job_outcome (Work size) grammar input a b p q = one_work size a b p q
+  one_task : (task : Task) (grammar input : List ℕ) (x y : Outcome) → IsTaskOutcome task grammar input x → IsTaskOutcome task grammar input y → x ≡ y
+  one_task Check grammar input x y p q = one_over IsCheckOutcome IsCheckOutcome grammar x y (λ b accepted. one_check b x y) p q
+  one_task (Tell what) grammar input x y p q =
+      one_over (λ b. IsInputOutcome what b input) (λ b. IsInputOutcome what b input) grammar x y (λ b accepted. one_of_input laws.reading what b input x y) p q
+  one_task (Work size) grammar input x y p q = one_work size x y p q
 
   pub one_of_all : (words : List (List ℕ)) (grammar input : List ℕ) (a b : Outcome) → IsOutcome words grammar input a → IsOutcome words grammar input b → a ≡ b
   one_of_all words grammar input a b (NoJob none is) (NoJob none' is') = is ∙ sym is'
   one_of_all words grammar input a b (NoJob none is) (OfJob job asks of) = absurd (not_both words job asks none)
   one_of_all words grammar input a b (OfJob job asks of) (NoJob none is) = absurd (not_both words job asks none)
   one_of_all words grammar input a b (OfJob job asks of) (OfJob job' asks' of') =
-      one_job_outcome job grammar input a b of (subst (λ (j : Job). IsJobOutcome j grammar input b) (sym (asks_once words job job' asks asks')) of')
+      one_task job.task grammar input a b of (subst (λ (j : Job). IsTaskOutcome j.task grammar input b) (sym (asks_once words job job' asks asks')) of')

@@ -1,5 +1,5 @@
--- What a task tells of the pieces of its input exists, and is one.
-use Rattle.std.proofs.Common.{◌≡◌, ℕ, List, [], ◌∷◌, ◌++◌, Bool, true, false, refl, sym, ap, subst, ◌∙◌, arith, inl, inr, map, chars, slice_index_or, nat_le, leb-true}
+-- What is told of the pieces of an input exists, is one, and has a plain status.
+use Rattle.std.proofs.Common.{◌≡◌, ◌≢◌, ℕ, List, [], ◌∷◌, ◌++◌, Bool, true, false, refl, sym, ap, subst, ◌∙◌, arith, inl, inr, map, chars, slice_index_or, nat_le, leb-true}
 use Rattle.std.proofs.lemmas.Bool.{leb-false}
 use Rattle.grammar_model.specs.Grammar.{slot_of}
 use Rattle.grammar_model.specs.Trees.{Tree}
@@ -11,16 +11,15 @@ use Rattle.language_model.specs.Building.{Built}
 use Rattle.language_model.specs.Texts.{IsBuilt}
 use Rattle.reading_model.specs.Accepted.{IsAccepted}
 use Rattle.reading_model.specs.Reading.{Piece, edges_of, place_after}
-use Rattle.words_model.specs.Words.{RunAsked}
+use Rattle.words_model.specs.Words.{ValuesAsked, Telling}
+use Rattle.words_model.specs.Words.Telling.{Values, Expected, Report}
 use Rattle.run_model.specs.Listing.{AreDerivations}
 use Rattle.run_model.specs.Numbers.{Numbers}
-use Rattle.run_model.specs.Jobs.{Task}
-use Rattle.run_model.specs.Jobs.Task.{Values, Expected, Report}
 use Rattle.run_model.specs.Telling.{Outcome, refused, done, name_line, report_line, value_lines, stats_lines, no_derivation_text, no_set_text, TellsExpected, TellsValues, TellsReport, Tells}
 use Rattle.run_model.specs.Telling.TellsValues.{NoDerivation, Derived}
 use Rattle.run_model.specs.Telling.TellsReport.{NoSuchSet, Reported}
-use Rattle.run_model.specs.Outcome.{IsTaskOutcome}
-use Rattle.run_model.specs.Outcome.IsTaskOutcome.{InputRefused, InputRead}
+use Rattle.run_model.specs.Outcome.{IsInputOutcome}
+use Rattle.run_model.specs.Outcome.IsInputOutcome.{InputRefused, InputRead}
 use Rattle.run_model.proofs.Inputs.{ReadingLaws, read_or, one_read, not_both, one_refused}
 
 -- ONE OF EACH
@@ -37,7 +36,7 @@ module _ (laws : ReadingLaws) (b : Built) (pieces : List Piece) where
   no_tree : (ranking : Ranking) (t : Tree) (ts : List Tree) → AreDerivations b ranking pieces [] → AreDerivations b ranking pieces (t ∷ ts) → ⊥
   no_tree ranking t ts p q = let e : [] ≡ t ∷ ts = same_trees ranking [] (t ∷ ts) p q in cc e
 
-  one_values : (asked : RunAsked) (cs : List ℕ) (x y : Outcome) → TellsValues asked b cs pieces x → TellsValues asked b cs pieces y → x ≡ y
+  one_values : (asked : ValuesAsked) (cs : List ℕ) (x y : Outcome) → TellsValues asked b cs pieces x → TellsValues asked b cs pieces y → x ≡ y
   one_values asked cs x y (NoDerivation expected none are is) (NoDerivation expected' none' are' is') =
       is ∙ ap (λ symbols. refused 1 (no_derivation_text b.g1 symbols)) (laws.one_expected b pieces expected expected' are are') ∙ sym is'
   one_values asked cs x y (NoDerivation expected none are is) (Derived t ts n all has is') = absurd (no_tree asked.ranking t ts none all)
@@ -53,23 +52,23 @@ module _ (laws : ReadingLaws) (b : Built) (pieces : List Piece) where
   one_report at x y (Reported lines within are is) (Reported lines' within' are' is') =
       is ∙ ap (λ (ls : List ReportLine). done (map (report_line b.g1 at) ls)) (laws.one_report b pieces at lines lines' are are') ∙ sym is'
 
-  pub one_told : (task : Task) (cs : List ℕ) (x y : Outcome) → Tells task b cs pieces x → Tells task b cs pieces y → x ≡ y
+  pub one_told : (what : Telling) (cs : List ℕ) (x y : Outcome) → Tells what b cs pieces x → Tells what b cs pieces y → x ≡ y
   one_told (Values asked) cs x y p q = one_values asked cs x y p q
   one_told Expected cs x y p q = one_expected x y p q
   one_told (Report at) cs x y p q = one_report at x y p q
 
-module _ (laws : ReadingLaws) (task : Task) (b : Built) (input : List ℕ) where
-  pub one_task : (x y : Outcome) → IsTaskOutcome task b input x → IsTaskOutcome task b input y → x ≡ y
-  one_task x y (InputRefused text is of) (InputRefused other is' of') = of ∙ ap (refused 1) (one_refused laws b input text other is is') ∙ sym of'
-  one_task x y (InputRefused text is of) (InputRead pieces read tells) = absurd (not_both laws b input pieces text read is)
-  one_task x y (InputRead pieces read tells) (InputRefused text is of) = absurd (not_both laws b input pieces text read is)
-  one_task x y (InputRead pieces read tells) (InputRead others read' tells') =
-      one_told laws b pieces task (chars input) x y tells (subst (λ (ps : List Piece). Tells task b (chars input) ps y) (one_read laws b input others pieces read' read) tells')
+module _ (laws : ReadingLaws) (what : Telling) (b : Built) (input : List ℕ) where
+  pub one_of_input : (x y : Outcome) → IsInputOutcome what b input x → IsInputOutcome what b input y → x ≡ y
+  one_of_input x y (InputRefused text is of) (InputRefused other is' of') = of ∙ ap (refused 1) (one_refused laws b input text other is is') ∙ sym of'
+  one_of_input x y (InputRefused text is of) (InputRead pieces read tells) = absurd (not_both laws b input pieces text read is)
+  one_of_input x y (InputRead pieces read tells) (InputRefused text is of) = absurd (not_both laws b input pieces text read is)
+  one_of_input x y (InputRead pieces read tells) (InputRead others read' tells') =
+      one_told laws b pieces what (chars input) x y tells (subst (λ (ps : List Piece). Tells what b (chars input) ps y) (one_read laws b input others pieces read' read) tells')
 
 -- SOME OF ALL
 
 module _ (laws : ReadingLaws) (b : Built) (built : IsBuilt b) (accepted : IsAccepted b) (pieces : List Piece) where
-  of_trees : (asked : RunAsked) (cs : List ℕ) (trees : List Tree) → AreDerivations b asked.ranking pieces trees → (outcome : Outcome) × TellsValues asked b cs pieces outcome
+  of_trees : (asked : ValuesAsked) (cs : List ℕ) (trees : List Tree) → AreDerivations b asked.ranking pieces trees → (outcome : Outcome) × TellsValues asked b cs pieces outcome
   of_trees asked cs [] are =
       let (expected, e) = laws.expected b pieces built accepted in
       (refused 1 (no_derivation_text b.g1 expected), NoDerivation expected are e refl)
@@ -77,7 +76,7 @@ module _ (laws : ReadingLaws) (b : Built) (built : IsBuilt b) (accepted : IsAcce
       let (n, has) = laws.numbers b asked.ranking pieces built accepted in
       (done (value_lines b asked cs pieces (tree ∷ trees) ++ stats_lines asked.stats n), Derived tree trees n are has refl)
 
-  some_values : (asked : RunAsked) (cs : List ℕ) → (outcome : Outcome) × TellsValues asked b cs pieces outcome
+  some_values : (asked : ValuesAsked) (cs : List ℕ) → (outcome : Outcome) × TellsValues asked b cs pieces outcome
   some_values asked cs = let (trees, are) = laws.derivations b asked.ranking pieces built accepted in of_trees asked cs trees are
 
   some_report : (at : ℕ) → (outcome : Outcome) × TellsReport b at pieces outcome
@@ -87,15 +86,38 @@ module _ (laws : ReadingLaws) (b : Built) (built : IsBuilt b) (accepted : IsAcce
       by true e = let (lines, are) = laws.report b pieces at built accepted in (done (map (report_line b.g1 at) lines), Reported lines (leb-true _ _ e) are refl)
       by false e = (refused 1 (no_set_text at (place_after pieces)), NoSuchSet (leb-false _ _ e) refl)
 
-  pub some_told : (task : Task) (cs : List ℕ) → (outcome : Outcome) × Tells task b cs pieces outcome
+  pub some_told : (what : Telling) (cs : List ℕ) → (outcome : Outcome) × Tells what b cs pieces outcome
   some_told (Values asked) cs = some_values asked cs
   some_told Expected cs =
       let (expected, are) = laws.expected b pieces built accepted in
       (done (map (name_line b.g1) expected), record { expected = expected; are = are; is = refl })
   some_told (Report at) cs = some_report at
 
-pub some_task : (laws : ReadingLaws) (b : Built) → IsBuilt b → IsAccepted b → (task : Task) (input : List ℕ) → (outcome : Outcome) × IsTaskOutcome task b input outcome
-some_task laws b built accepted task input = elim (read_or laws b built accepted input) [
-  | inl (pieces, read) ↦ (let (outcome, tells) = some_told laws b built accepted pieces task (chars input) in (outcome, InputRead pieces read tells))
+pub some_of_input : (laws : ReadingLaws) (b : Built) → IsBuilt b → IsAccepted b → (what : Telling) (input : List ℕ) → (outcome : Outcome) × IsInputOutcome what b input outcome
+some_of_input laws b built accepted what input = elim (read_or laws b built accepted input) [
+  | inl (pieces, read) ↦ (let (outcome, tells) = some_told laws b built accepted pieces what (chars input) in (outcome, InputRead pieces read tells))
   | inr (text, is) ↦ (refused 1 text, InputRefused text is refl)
 ]
+
+-- THE STATUS
+
+-- an outcome has neither the status of a fault nor that of want of memory
+pub record IsPlain (outcome : Outcome) : Type 0 where
+  pub no_fault : outcome.status ≢ 4
+  pub no_memory : outcome.status ≢ 5
+
+pub plain_at : (outcome same : Outcome) → outcome ≡ same → same.status ≢ 4 → same.status ≢ 5 → IsPlain outcome
+plain_at outcome same is fault memory = subst IsPlain (sym is) (record { no_fault = fault; no_memory = memory })
+
+plain_values : (asked : ValuesAsked) (b : Built) (cs : List ℕ) (pieces : List Piece) (outcome : Outcome) → TellsValues asked b cs pieces outcome → IsPlain outcome
+plain_values asked b cs pieces outcome (NoDerivation expected none are is) = plain_at outcome _ is (λ e. omega arith) (λ e. omega arith)
+plain_values asked b cs pieces outcome (Derived tree trees n are has is) = plain_at outcome _ is (λ e. omega arith) (λ e. omega arith)
+
+plain_report : (b : Built) (at : ℕ) (pieces : List Piece) (outcome : Outcome) → TellsReport b at pieces outcome → IsPlain outcome
+plain_report b at pieces outcome (NoSuchSet past is) = plain_at outcome _ is (λ e. omega arith) (λ e. omega arith)
+plain_report b at pieces outcome (Reported lines within are is) = plain_at outcome _ is (λ e. omega arith) (λ e. omega arith)
+
+pub plain_told : (what : Telling) (b : Built) (cs : List ℕ) (pieces : List Piece) (outcome : Outcome) → Tells what b cs pieces outcome → IsPlain outcome
+plain_told (Values asked) b cs pieces outcome told = plain_values asked b cs pieces outcome told
+plain_told Expected b cs pieces outcome told = plain_at outcome _ told.is (λ e. omega arith) (λ e. omega arith)
+plain_told (Report at) b cs pieces outcome told = plain_report b at pieces outcome told

@@ -2,7 +2,7 @@
 use Rattle.std.specs.Prelude.{◌≡◌, ◌≢◌, ℕ, ◌<◌, List, [], ◌∷◌, length, Option, Some, IfSome, codes}
 use Rattle.outside_model.specs.Told.{ToldFile}
 use Rattle.outside_model.specs.Told.ToldFile.{Untold, Missing}
-use Rattle.words_model.specs.Words.{Job, Asks, grammar_file, input_from}
+use Rattle.words_model.specs.Words.{Job, Asks}
 use Rattle.words_model.specs.Words.InputFrom.{FileNamed}
 use Rattle.run_model.specs.Jobs.{work_grammar, work_input}
 use Rattle.run_model.specs.Outcome.{Outcome, IsOutcome, refused, usage}
@@ -18,8 +18,8 @@ HasOneOutcome = (words : List (List ℕ)) (grammar input : List ℕ) (a b : Outc
 
 -- all the files that the words need are told
 pub record TellsFiles (words : List (List ℕ)) (file : List ℕ → ToldFile) : Type 0 where
-  pub grammar : (job : Job) → Asks words job → IfSome (grammar_file job) (λ name. file name ≢ Untold)
-  pub input : (job : Job) (name : List ℕ) → Asks words job → input_from job ≡ FileNamed name → file name ≢ Untold
+  pub grammar : (job : Job) → Asks words job → IfSome job.grammar (λ name. file name ≢ Untold)
+  pub input : (job : Job) (name : List ℕ) → Asks words job → job.input ≡ FileNamed name → file name ≢ Untold
 
 -- where the outside tells all that the words need, a run may have one outcome at most
 abbrev pub HasOneEnd : Type 0
@@ -27,8 +27,8 @@ HasOneEnd = (words : List (List ℕ)) (file : List ℕ → ToldFile) (input : Li
 
 -- the files that the words need are there, or nothing is told of them
 pub record HoldsFiles (words : List (List ℕ)) (file : List ℕ → ToldFile) : Type 0 where
-  pub grammar : (job : Job) → Asks words job → IfSome (grammar_file job) (λ name. file name ≢ Missing)
-  pub input : (job : Job) (name : List ℕ) → Asks words job → input_from job ≡ FileNamed name → file name ≢ Missing
+  pub grammar : (job : Job) → Asks words job → IfSome job.grammar (λ name. file name ≢ Missing)
+  pub input : (job : Job) (name : List ℕ) → Asks words job → job.input ≡ FileNamed name → file name ≢ Missing
 
 -- where the outside holds what the words need, a run has an outcome
 abbrev pub HasEnd : Type 0

@@ -4,15 +4,14 @@ use Rattle.grammar_model.specs.Trees.{Tree}
 use Rattle.grammar_model.specs.declared.Ranking.TheVariants.{Rule as RuleRanks}
 use Rattle.language_model.specs.Building.{Built}
 use Rattle.reading_model.specs.Reading.{Piece}
-use Rattle.words_model.specs.Words.{Job, Asks, AskNothing}
-use Rattle.words_model.specs.Words.Job.{Run, Check, Expect, Progress, Work}
+use Rattle.words_model.specs.Words.{Telling, Task, Job, Asks, AskNothing}
+use Rattle.words_model.specs.Words.Task.{Check, Tell, Work}
 use Rattle.run_model.specs.Refused.{Accepted, IsRefused}
 use Rattle.run_model.specs.Checking.{AreCheckLines}
 use Rattle.run_model.specs.Inputs.{IsRead, IsInputRefused}
 use Rattle.run_model.specs.Listing.{AreDerivations}
 use Rattle.run_model.specs.Numbers.{Numbers, HasNumbers}
-use Rattle.run_model.specs.Jobs.{Task, work_grammar, work_input}
-use Rattle.run_model.specs.Jobs.Task.{Values, Expected, Report}
+use Rattle.run_model.specs.Jobs.{work_grammar, work_input}
 use Rattle.run_model.specs.Telling.{work_line}
 pub use Rattle.run_model.specs.Telling.{Outcome, message, refused, done, Tells}
 
@@ -25,12 +24,12 @@ pub record IsCheckOutcome (b : Built) (outcome : Outcome) : Type 0 where
   pub are : AreCheckLines b lines
   pub is : outcome ≡ done lines
 
--- the outcome of a task over accepted grammars, by cases in order: the input is refused, or the task tells of its pieces
-pub data IsTaskOutcome (task : Task) (b : Built) (input : List ℕ) (outcome : Outcome) : Type 0 where
-  InputRefused : (text : List ℕ) → IsInputRefused b input text → outcome ≡ refused 1 text → IsTaskOutcome task b input outcome
-  InputRead : (pieces : List Piece) → IsRead b input pieces → Tells task b (chars input) pieces outcome → IsTaskOutcome task b input outcome
+-- the outcome of what is told of an input over accepted grammars, by cases in order: the input is refused, or its pieces are told of
+pub data IsInputOutcome (what : Telling) (b : Built) (input : List ℕ) (outcome : Outcome) : Type 0 where
+  InputRefused : (text : List ℕ) → IsInputRefused b input text → outcome ≡ refused 1 text → IsInputOutcome what b input outcome
+  InputRead : (pieces : List Piece) → IsRead b input pieces → Tells what b (chars input) pieces outcome → IsInputOutcome what b input outcome
 
--- the outcome of a job that has a grammar, by cases in order: the grammar is refused, or this comes of it
+-- the outcome of a task that has a grammar, by cases in order: the grammar is refused, or this comes of it
 pub data IsGrammarOutcome (grammar : List ℕ) (IsOver : Built → Outcome → Type 0) (outcome : Outcome) : Type 0 where
   GrammarRefused : (text : List ℕ) → IsRefused grammar text → outcome ≡ refused 3 text → IsGrammarOutcome grammar IsOver outcome
   GrammarAccepted : (b : Built) → Accepted grammar b → IsOver b outcome → IsGrammarOutcome grammar IsOver outcome
@@ -47,14 +46,12 @@ pub record IsWorkOutcome (size : ℕ) (outcome : Outcome) : Type 0 where
   pub has : HasNumbers built RuleRanks pieces numbers
   pub is : outcome ≡ done (work_line size numbers 1 ∷ [])
 
-abbrev pub IsJobOutcome : Job → (grammar input : List ℕ) → Outcome → Type 0
-IsJobOutcome (Run asked) grammar input outcome = IsGrammarOutcome grammar (λ b. IsTaskOutcome (Values asked) b input) outcome
-IsJobOutcome (Check name) grammar input outcome = IsGrammarOutcome grammar IsCheckOutcome outcome
-IsJobOutcome (Expect name from) grammar input outcome = IsGrammarOutcome grammar (λ b. IsTaskOutcome Expected b input) outcome
-IsJobOutcome (Progress name at from) grammar input outcome = IsGrammarOutcome grammar (λ b. IsTaskOutcome (Report at) b input) outcome
-IsJobOutcome (Work size) grammar input outcome = IsWorkOutcome size outcome
+abbrev pub IsTaskOutcome : Task → (grammar input : List ℕ) → Outcome → Type 0
+IsTaskOutcome Check grammar input outcome = IsGrammarOutcome grammar IsCheckOutcome outcome
+IsTaskOutcome (Tell what) grammar input outcome = IsGrammarOutcome grammar (λ b. IsInputOutcome what b input) outcome
+IsTaskOutcome (Work size) grammar input outcome = IsWorkOutcome size outcome
 
 -- the outcome of the words, the grammar and the input, by cases in order
 pub data IsOutcome (words : List (List ℕ)) (grammar input : List ℕ) (outcome : Outcome) : Type 0 where
   NoJob : AskNothing words → outcome ≡ usage → IsOutcome words grammar input outcome
-  OfJob : (job : Job) → Asks words job → IsJobOutcome job grammar input outcome → IsOutcome words grammar input outcome
+  OfJob : (job : Job) → Asks words job → IsTaskOutcome job.task grammar input outcome → IsOutcome words grammar input outcome

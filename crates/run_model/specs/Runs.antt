@@ -4,7 +4,7 @@ use Rattle.std.specs.Io.KnownBytes.{Appends}
 use Rattle.outside_model.specs.Causes.{Rose}
 use Rattle.language_model.specs.Building.{Built}
 use Rattle.outside_model.specs.Told.{ToldFile, MayBe, MayHold, AppendsPrefix, AddsNames}
-use Rattle.words_model.specs.Words.{Job, InputFrom, Asks, grammar_file, input_from}
+use Rattle.words_model.specs.Words.{Job, InputFrom, Asks}
 use Rattle.words_model.specs.Words.InputFrom.{Nowhere, StandardInput, FileNamed}
 use Rattle.run_model.specs.Refused.{Accepted}
 use Rattle.run_model.specs.Outcome.{Outcome, IsOutcome, message}
@@ -18,8 +18,8 @@ InputMayBe (FileNamed name) file left bytes = MayHold (file name) bytes
 
 -- the bytes that a job needs are those that the outside holds, as far as it tells them
 pub record Supplied (words : List (List ℕ)) (file : List ℕ → ToldFile) (left : Option (List ℕ)) (grammar input : List ℕ) : Type 0 where
-  pub grammar_held : (job : Job) → Asks words job → IfSome (grammar_file job) (λ name. MayHold (file name) grammar)
-  pub input_held : (job : Job) → Asks words job → IfSome (grammar_file job) (λ _. (b : Built) × Accepted grammar b) → InputMayBe (input_from job) file left input
+  pub grammar_held : (job : Job) → Asks words job → IfSome job.grammar (λ name. MayHold (file name) grammar)
+  pub input_held : (job : Job) → Asks words job → IfSome job.grammar (λ _. (b : Built) × Accepted grammar b) → InputMayBe job.input file left input
 
 -- an outcome that a run may have over these files and this input
 pub record MayEnd (words : List (List ℕ)) (file : List ℕ → ToldFile) (left : Option (List ℕ)) : Type 0 where
@@ -44,13 +44,13 @@ pub record Answers (words : List (List ℕ)) (before after : Outside) (status : 
 -- the job goes on to its input: it needs no grammar, or accepts bytes that may be those of its grammar's file
 pub record GoesOn (job : Job) (file : List ℕ → ToldFile) : Type 0 where
   pub grammar : List ℕ
-  pub held : IfSome (grammar_file job) (λ name. MayHold (file name) grammar)
-  pub accepted : IfSome (grammar_file job) (λ _. (b : Built) × Accepted grammar b)
+  pub held : IfSome job.grammar (λ name. MayHold (file name) grammar)
+  pub accepted : IfSome job.grammar (λ _. (b : Built) × Accepted grammar b)
 
 -- the words have the run open the file: that of the job's grammar, or that of its input where the job goes on to it
 pub data MayOpen (words : List (List ℕ)) (file : List ℕ → ToldFile) (name : List ℕ) : Type 0 where
-  OfGrammar : (job : Job) → Asks words job → grammar_file job ≡ Some name → MayOpen words file name
-  OfInput : (job : Job) → Asks words job → input_from job ≡ FileNamed name → GoesOn job file → MayOpen words file name
+  OfGrammar : (job : Job) → Asks words job → job.grammar ≡ Some name → MayOpen words file name
+  OfInput : (job : Job) → Asks words job → job.input ≡ FileNamed name → GoesOn job file → MayOpen words file name
 
 pub data Fault : Type 0 where
   CannotOpen : (name : List ℕ) → Fault
@@ -116,8 +116,8 @@ pub record Runs (words : List (List ℕ)) (before after : Outside) (status : ℕ
 -- where the job goes on to its input
 pub data MayAsk (words : List (List ℕ)) (file : List ℕ → ToldFile) (names : List (List ℕ)) : Type 0 where
   ForNothing : names ≡ [] → MayAsk words file names
-  ForGrammar : (job : Job) (name : List ℕ) → Asks words job → grammar_file job ≡ Some name → names ≡ name ∷ [] → MayAsk words file names
-  ForInput : (job : Job) (name : List ℕ) → Asks words job → input_from job ≡ FileNamed name → GoesOn job file → names ≡ option_to_list (grammar_file job) ++ name ∷ [] → MayAsk words file names
+  ForGrammar : (job : Job) (name : List ℕ) → Asks words job → job.grammar ≡ Some name → names ≡ name ∷ [] → MayAsk words file names
+  ForInput : (job : Job) (name : List ℕ) → Asks words job → job.input ≡ FileNamed name → GoesOn job file → names ≡ option_to_list job.grammar ++ name ∷ [] → MayAsk words file names
 
 -- the told names grow by those that the run asks for
 pub record AsksNames (words : List (List ℕ)) (file : List ℕ → ToldFile) (old new : Option (List (List ℕ))) : Type 0 where
@@ -129,5 +129,5 @@ pub record AsksNames (words : List (List ℕ)) (file : List ℕ → ToldFile) (o
 pub record ReadsInput (words : List (List ℕ)) (file : List ℕ → ToldFile) : Type 0 where
   pub job : Job
   pub asks : Asks words job
-  pub standard : input_from job ≡ StandardInput
+  pub standard : job.input ≡ StandardInput
   pub goes_on : GoesOn job file

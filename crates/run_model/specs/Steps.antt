@@ -1,7 +1,7 @@
 -- How many steps a run may take. A step is a try to add an item to a set, a Leo pair that is noted, a hidden item that is brought back,
 -- or a look at the alternatives of a forest's node.
 -- Sources: Leo 1991 (linear work on right recursion); the Libmarpa manual (bocage, tree).
-use Rattle.std.specs.Prelude.{◌≡◌, ℕ, ◌+◌, ◌<◌, ◌≤◌, List, Option, Some, None, ⊤, slice_get}
+use Rattle.std.specs.Prelude.{◌≡◌, ℕ, ◌+◌, ◌<◌, ◌≤◌, List, Option, Some, None, IfSome, ⊤, slice_get}
 use Rattle.std.specs.List.{sum_by}
 use Rattle.grammar_model.specs.Trees.{Tree}
 use Rattle.grammar_model.specs.Derives.{Edges, Held}
@@ -19,8 +19,8 @@ use Rattle.flat_model.specs.Flattened.{IsFlattened}
 use Rattle.outside_model.specs.Told.{ToldFile}
 use Rattle.language_model.specs.Building.{Built}
 use Rattle.reading_model.specs.Reading.{Piece, edges_of, place_after}
-use Rattle.words_model.specs.Words.{Job, Asks}
-use Rattle.words_model.specs.Words.Job.{Run, Check, Expect, Progress, Work}
+use Rattle.words_model.specs.Words.{Telling, Task, Job, Asks, values_of}
+use Rattle.words_model.specs.Words.Task.{Check, Tell, Work}
 use Rattle.run_model.specs.Refused.{Accepted}
 use Rattle.run_model.specs.Inputs.{IsRead}
 use Rattle.run_model.specs.Listing.{AreDerivations, first_of}
@@ -64,12 +64,13 @@ pub record GivesWithin (b : Built) (input : List ℕ) (ranking : Ranking) (first
   pub all : AreDerivations b ranking pieces trees
   pub within : IsWithinSteps b ranking pieces (first_of first trees) before after
 
--- the jobs that give derivations
-abbrev pub DoesWithin : Job → (grammar input : List ℕ) → (before after : ℕ) → Type 0
-DoesWithin (Run asked) grammar input before after = (b : Built) × Accepted grammar b × GivesWithin b input asked.ranking asked.first before after
-DoesWithin (Check name) grammar input before after = ⊤
-DoesWithin (Expect name from) grammar input before after = ⊤
-DoesWithin (Progress name at from) grammar input before after = ⊤
+-- what gives derivations is within its bound
+abbrev pub InputWithin : Telling → Built → (input : List ℕ) → (before after : ℕ) → Type 0
+InputWithin what b input before after = IfSome (values_of what) (λ asked. GivesWithin b input asked.ranking asked.first before after)
+
+abbrev pub DoesWithin : Task → (grammar input : List ℕ) → (before after : ℕ) → Type 0
+DoesWithin Check grammar input before after = ⊤
+DoesWithin (Tell what) grammar input before after = (b : Built) × Accepted grammar b × InputWithin what b input before after
 DoesWithin (Work size) grammar input before after = (b : Built) × Accepted work_grammar b × GivesWithin b (work_input size) RuleRanks None before after
 
 -- a run by the words over these files and this input
@@ -77,4 +78,4 @@ pub record RunsWithin (words : List (List ℕ)) (file : List ℕ → ToldFile) (
   pub grammar : List ℕ
   pub input : List ℕ
   pub supplied : Supplied words file left grammar input
-  pub does : (job : Job) → Asks words job → DoesWithin job grammar input before after
+  pub does : (job : Job) → Asks words job → DoesWithin job.task grammar input before after

@@ -12,12 +12,11 @@ use Rattle.recognizer_model.specs.declared.ReportLine.{ReportLine}
 use Rattle.report_model.specs.Report.{IsReport}
 use Rattle.language_model.specs.Building.{Built}
 use Rattle.reading_model.specs.Reading.{Piece, AreExpected, edges_of, place_after}
-use Rattle.words_model.specs.Words.{RunAsked}
+use Rattle.words_model.specs.Words.{ValuesAsked, Telling}
+use Rattle.words_model.specs.Words.Telling.{Values, Expected, Report}
 use Rattle.run_model.specs.Inputs.{names_text}
 use Rattle.run_model.specs.Listing.{AreDerivations, line_of, first_of}
 use Rattle.run_model.specs.Numbers.{Numbers, HasNumbers}
-use Rattle.run_model.specs.Jobs.{Task}
-use Rattle.run_model.specs.Jobs.Task.{Values, Expected, Report}
 
 -- the text for the standard output, the line for the standard error, and the status
 pub record Outcome : Type 0 where
@@ -49,7 +48,7 @@ done lines = record { out = concat lines; line = []; status = 0 }
 abbrev pub name_line : Grammar → ℕ → List ℕ
 name_line g symbol = name_of g symbol ++ 10 ∷ []
 
-abbrev pub value_lines : Built → RunAsked → List ℕ → List Piece → List Tree → List (List ℕ)
+abbrev pub value_lines : Built → ValuesAsked → List ℕ → List Piece → List Tree → List (List ℕ)
 value_lines b asked cs pieces trees = map (line_of b asked.show cs pieces) (first_of asked.first trees)
 
 abbrev pub numbers_text : Numbers → List ℕ
@@ -86,7 +85,7 @@ pub record TellsExpected (b : Built) (pieces : List Piece) (outcome : Outcome) :
   pub is : outcome ≡ done (map (name_line b.g1) expected)
 
 -- the values of the derivations, which are in order, and the numbers behind them; or there is no derivation
-pub data TellsValues (asked : RunAsked) (b : Built) (cs : List ℕ) (pieces : List Piece) (outcome : Outcome) : Type 0 where
+pub data TellsValues (asked : ValuesAsked) (b : Built) (cs : List ℕ) (pieces : List Piece) (outcome : Outcome) : Type 0 where
   NoDerivation : (expected : List ℕ) → AreDerivations b asked.ranking pieces [] → AreExpected b pieces expected → outcome ≡ refused 1 (no_derivation_text b.g1 expected) →
       TellsValues asked b cs pieces outcome
   Derived : (tree : Tree) (trees : List Tree) (n : Numbers) → AreDerivations b asked.ranking pieces (tree ∷ trees) → HasNumbers b asked.ranking pieces n →
@@ -98,8 +97,8 @@ pub data TellsReport (b : Built) (at : ℕ) (pieces : List Piece) (outcome : Out
   Reported : (lines : List ReportLine) → at ≤ place_after pieces → IsReport b.g1 (edges_of pieces) 0 at lines → outcome ≡ done (map (report_line b.g1 at) lines) →
       TellsReport b at pieces outcome
 
--- what the task tells of these characters, which were read in these pieces
-abbrev pub Tells : Task → Built → (cs : List ℕ) → List Piece → Outcome → Type 0
+-- what is told of these characters, which were read in these pieces
+abbrev pub Tells : Telling → Built → (cs : List ℕ) → List Piece → Outcome → Type 0
 Tells (Values asked) b cs pieces outcome = TellsValues asked b cs pieces outcome
 Tells Expected b cs pieces outcome = TellsExpected b pieces outcome
 Tells (Report at) b cs pieces outcome = TellsReport b at pieces outcome

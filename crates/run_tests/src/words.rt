@@ -1,23 +1,19 @@
 //! Words of the command line, and what they ask for.
-use command_line::{Job, RunAsked, read_words};
+use command_line::{InputFrom, Job, Task, Telling, ValuesAsked, read_words};
 use grammar_model::{Ranking, Show};
 use run_scenes::words_of;
 use std::alloc::{AllocError, Global};
 use std::test::Fail;
 
-fn is_all_given(asked: &RunAsked<'_>) -> bool {
-    asked.grammar == "g.slif"
-        && asked.input == Some("i.txt")
-        && asked.show == Show::Tree
+fn is_all_given(asked: ValuesAsked) -> bool {
+    asked.show == Show::Tree
         && asked.ranking == Ranking::None
         && asked.first == Some(7)
         && asked.stats
 }
 
-fn is_all_left_out(asked: &RunAsked<'_>) -> bool {
-    asked.grammar == "g.slif"
-        && asked.input.is_none()
-        && asked.show == Show::Array
+fn is_all_left_out(asked: ValuesAsked) -> bool {
+    asked.show == Show::Array
         && asked.ranking == Ranking::Rule
         && asked.first.is_none()
         && !asked.stats
@@ -35,20 +31,47 @@ enum Asked {
     Nothing,
 }
 
-fn is_asked(job: Option<Job<'_>>, wanted: Asked) -> bool {
-    match (job, wanted) {
-        (Some(Job::Run(asked)), Asked::AllGiven) => is_all_given(&asked),
-        (Some(Job::Run(asked)), Asked::AllLeftOut) => is_all_left_out(&asked),
-        (Some(Job::Check { grammar }), Asked::Check) => grammar == "g",
-        (Some(Job::Expect { grammar, input }), Asked::Expect) => {
-            grammar == "--" && input == Some("-x")
-        }
-        (Some(Job::Progress { grammar, at, input }), Asked::Progress) => {
-            grammar == "g" && at == 16_777_216 && input.is_none()
-        }
-        (Some(Job::Work { size }), Asked::Work) => size == 100_000,
-        (None, Asked::Nothing) => true,
+// Whether the task is the one that is wanted.
+fn is_task(task: Task, wanted: Asked) -> bool {
+    match (task, wanted) {
+        (Task::Tell(Telling::Values(asked)), Asked::AllGiven) => is_all_given(asked),
+        (Task::Tell(Telling::Values(asked)), Asked::AllLeftOut) => is_all_left_out(asked),
+        (Task::Check, Asked::Check) => true,
+        (Task::Tell(Telling::Expected), Asked::Expect) => true,
+        (Task::Tell(Telling::Report { at }), Asked::Progress) => at == 16_777_216,
+        (Task::Work { size }, Asked::Work) => size == 100_000,
         _ => false,
+    }
+}
+
+fn grammar_wanted(wanted: Asked) -> Option<&'static str> {
+    match wanted {
+        Asked::AllGiven | Asked::AllLeftOut => Some("g.slif"),
+        Asked::Check | Asked::Progress => Some("g"),
+        Asked::Expect => Some("--"),
+        Asked::Work | Asked::Nothing => None,
+    }
+}
+
+// Whether the input is where it is wanted.
+fn is_input(input: InputFrom<'_>, wanted: Asked) -> bool {
+    match (input, wanted) {
+        (InputFrom::FileNamed(name), Asked::AllGiven) => name == "i.txt",
+        (InputFrom::FileNamed(name), Asked::Expect) => name == "-x",
+        (InputFrom::StandardInput, Asked::AllLeftOut | Asked::Progress) => true,
+        (InputFrom::Nowhere, Asked::Check | Asked::Work) => true,
+        _ => false,
+    }
+}
+
+fn is_asked(job: Option<Job<'_>>, wanted: Asked) -> bool {
+    match job {
+        Some(job) => {
+            job.grammar == grammar_wanted(wanted)
+                && is_input(job.input, wanted)
+                && is_task(job.task, wanted)
+        }
+        None => matches!(wanted, Asked::Nothing),
     }
 }
 

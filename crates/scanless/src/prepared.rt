@@ -46,6 +46,18 @@ impl Model for Prepared {
     ghost invariant = { λ p. IsPrepared p.built p.flat p.lexical p.abilities.items };
 }
 
+fn structural_grammar(built: Built) -> Written
+    ensures { result ≡ built.g1 }
+{
+    built.g1
+}
+
+fn lexical_grammar(built: Built) -> Written
+    ensures { result ≡ built.l0 }
+{
+    built.l0
+}
+
 /// The refusal of a fault, with the grammar that was checked.
 fn refusal_of(built: Built, fault: Fault) -> PrepareRefusal
     requires { IsFault built fault }
@@ -56,14 +68,14 @@ fn refusal_of(built: Built, fault: Fault) -> PrepareRefusal
             lexical: false,
             refusal,
         } => PrepareRefusal::Grammar {
-            w: built.g1,
+            w: structural_grammar(built),
             refusal,
         },
         Fault::Refused {
             lexical: true,
             refusal,
         } => PrepareRefusal::Lexical {
-            w: built.l0,
+            w: lexical_grammar(built),
             refusal,
         },
         Fault::TooManyRules { lexical } => PrepareRefusal::TooManyRules { lexical },

@@ -142,6 +142,27 @@ impl<'p> Reader<'p> {
         }
     }
 
+    // Reads on to the end, or to where nothing can be taken, and tells how reading ends.
+    fn read<L: Ledger>(
+        &mut self,
+        alloc: Global,
+        p: &Prepared,
+        chars: &Chars,
+        steps: &mut Steps<L>,
+    ) -> Result<Ending, AllocError>
+        requires reader { IsReader p.now chars.now self.old }
+        requires few { length chars.now ≤ 16777216 }
+        ensures ends { IfOk result (λ ending. IsReadingOf p.now chars.now self.new.recce self.new.spans.items ending) }
+        ensures counted { OnOk result ((before : ℕ) → CountsFrom self.old.recce before steps.old → CountsFrom self.new.recce before steps.new) }
+    {
+        while self.at < chars.len() {
+            if let Some(ending) = self.next(alloc, p, chars, steps)? {
+                return Ok(ending);
+            }
+        }
+        Ok(Ending::End)
+    }
+
     fn ended(self, ending: Ending) -> Reading<'p>
         ensures same { (result.recce ≡ self.entry.recce) × (result.spans.items ≡ self.entry.spans.items) × (result.ending ≡ ending) }
         ensures counted { (before after : ℕ) → CountsFrom self.entry.recce before after → TakesAtMost result.recce before after }
@@ -167,10 +188,6 @@ pub fn read_input<'p, L: Ledger>(
     ensures counted { IfOk result (λ r. TakesAtMost r.recce steps.old steps.new) }
 {
     let mut reader = Reader::new(alloc, p)?;
-    while reader.at < chars.len() {
-        if let Some(ending) = reader.next(alloc, p, chars, steps)? {
-            return Ok(reader.ended(ending));
-        }
-    }
-    Ok(reader.ended(Ending::End))
+    let ending = reader.read(alloc, p, chars, steps)?;
+    Ok(reader.ended(ending))
 }

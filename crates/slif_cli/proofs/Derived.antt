@@ -8,32 +8,33 @@ use Rattle.grammar_core.specs.declared.steps.Span.{Span}
 use Rattle.forest_model.specs.Forest.{Forest}
 use Rattle.forest_model.specs.Listing.{IsListing}
 use Rattle.language_model.specs.Building.{Built}
-use Rattle.words_model.specs.Words.{RunAsked}
+use Rattle.words_model.specs.Words.{ValuesAsked}
 use Rattle.run_model.specs.Listing.{AreDerivations}
 use Rattle.run_model.specs.Numbers.{Numbers, HasNumbers}
-use Rattle.run_model.specs.Jobs.Task.{Values}
+use Rattle.words_model.specs.Words.Telling.{Values}
 use Rattle.run_model.specs.Telling.{Outcome, TellsValues, value_lines, stats_line, stats_lines, done, refused}
 use Rattle.run_model.specs.Telling.TellsValues.{NoDerivation, Derived}
 use Rattle.run_model.specs.Outside.{Stream}
 use Rattle.value_lines.specs.Writing.{TextHas, TextStops}
 use Rattle.value_lines.specs.declared.writing.WriteRefusal.{WriteRefusal}
 use Rattle.value_lines.specs.declared.writing.WriteRefusal.TheVariants.{WriteFault as WriteFailed, NoMemory as NoRoom}
-use Rattle.slif_base.proofs.Bytes.{appends_none}
-use Rattle.slif_cli.specs.Stops.{Does, WriteStops, LinesStop, TellsInput}
+use Rattle.text_reading.specs.declared.refusal.Place.{Place}
+use Rattle.text_reading.specs.Refusals.{IsNoDerivation}
 use Rattle.text_reading.proofs.Derived.{listed}
-use Rattle.slif_cli.specs.Tasks.{TellsReading, HasForest, IsNoDerivation, write_stop}
-use Rattle.slif_cli.specs.declared.stop.Refusal.TheVariants.{Usage, Grammar as BadGrammar, Input as BadInput}
+use Rattle.slif_cli.specs.Refusals.{write_stop}
+use Rattle.slif_cli.specs.Stops.{Does, WriteStops, LinesStop}
+use Rattle.slif_cli.specs.Tasks.{TellsReading, HasForest}
 use Rattle.slif_cli.specs.declared.stop.Stop.{Stop}
-use Rattle.slif_cli.specs.declared.stop.Stop.TheVariants.{Refused, OpenFault, ReadFault, WriteFault, NoMemory}
+use Rattle.slif_cli.specs.declared.stop.Stop.TheVariants.{WriteFault, NoMemory}
 use Rattle.slif_cli.proofs.Lines.{appends_both, front_of_both, stops_behind}
-use Rattle.slif_cli.proofs.Stopping.{lines_done, lines_stop, nothing_appended}
+use Rattle.slif_cli.proofs.Stopping.{lines_done, lines_stop}
 
 no_element : {X : Type 0} (x : X) → Contains [] x → ⊥
 no_element x (k, lt, e) = omega (arith, lt)
 
 -- JOB run
 
-module _ (asked : RunAsked) (b : Built) (cs : List ℕ) (spans : List Span) (f : Forest) (has : HasForest b asked.ranking cs spans f) (n : Numbers) (numbers : HasNumbers b asked.ranking has.pieces n) where
+module _ (asked : ValuesAsked) (b : Built) (cs : List ℕ) (spans : List Span) (f : Forest) (has : HasForest b asked.ranking cs spans f) (n : Numbers) (numbers : HasNumbers b asked.ranking has.pieces n) where
   abbrev Told : Outcome → Type 0
   Told = TellsReading (Values asked) b cs
 
@@ -76,14 +77,5 @@ asked_stops false n is line e before after r stops = absurd (cc is)
 
 -- NO DERIVATION
 
-pub told_refusal : (Q : List ℕ → Type 0) (P : Outcome → Type 0) → ((text : List ℕ) → Q text → P (refused 1 text)) → (out : Stream) (stop : Stop) → TellsInput Q stop → WriteStops P out out stop
-told_refusal Q P f out (Refused Usage) stops = absurd stops
-told_refusal Q P f out (Refused (BadGrammar text)) stops = absurd stops
-told_refusal Q P f out (Refused (BadInput text)) stops = (f text.items stops, appends_none out.bytes)
-told_refusal Q P f out (OpenFault asked) stops = absurd stops
-told_refusal Q P f out ReadFault stops = absurd stops
-told_refusal Q P f out WriteFault stops = absurd stops
-told_refusal Q P f out NoMemory stops = nothing_appended P out.bytes
-
-pub no_values : (asked : RunAsked) (b : Built) (cs text : List ℕ) → IsNoDerivation b asked.ranking cs text → TellsReading (Values asked) b cs (refused 1 text)
-no_values asked b cs text is = record { pieces = is.pieces; reading = is.reading; tells = NoDerivation is.expected is.none is.are (ap (refused 1) is.told) }
+pub no_values : (asked : ValuesAsked) (b : Built) (cs text : List ℕ) (place : Option Place) (expected : List ℕ) → IsNoDerivation b asked.ranking cs text place expected → TellsReading (Values asked) b cs (refused 1 text)
+no_values asked b cs text place expected is = record { pieces = is.pieces; reading = is.reading; tells = NoDerivation expected is.none is.are (ap (refused 1) is.told) }

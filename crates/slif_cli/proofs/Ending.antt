@@ -5,24 +5,19 @@ use Rattle.outside_model.specs.Causes.{Rose}
 use Rattle.outside_model.specs.Told.{AppendsPrefix}
 use Rattle.slif_base.proofs.Bytes.{appends_none}
 use Rattle.language_model.specs.Building.{Built}
-use Rattle.reading_model.specs.Reading.{Piece}
-use Rattle.words_model.specs.Words.{Job, RunAsked}
-use Rattle.words_model.specs.Words.Job.{Run, Check, Expect, Progress, Work}
-use Rattle.run_model.specs.Jobs.{Task}
-use Rattle.run_model.specs.Jobs.Task.{Values, Expected, Report}
-use Rattle.run_model.specs.Telling.{TellsValues, TellsReport, Tells as ToldBy}
-use Rattle.run_model.specs.Telling.TellsValues.{NoDerivation, Derived}
-use Rattle.run_model.specs.Telling.TellsReport.{NoSuchSet, Reported}
-use Rattle.run_model.specs.Outcome.{Outcome, IsOutcome, IsJobOutcome, IsGrammarOutcome, IsTaskOutcome, IsCheckOutcome, usage, done, refused}
+use Rattle.words_model.specs.Words.{Telling, Task}
+use Rattle.words_model.specs.Words.Task.{Check, Tell, Work}
+use Rattle.run_model.specs.Outcome.{Outcome, IsOutcome, IsGrammarOutcome, IsTaskOutcome, IsInputOutcome, IsCheckOutcome, usage, done, refused}
 use Rattle.run_model.specs.Outcome.IsOutcome.{NoJob, OfJob}
 use Rattle.run_model.specs.Outcome.IsGrammarOutcome.{GrammarRefused, GrammarAccepted}
-use Rattle.run_model.specs.Outcome.IsTaskOutcome.{InputRefused, InputRead}
+use Rattle.run_model.specs.Outcome.IsInputOutcome.{InputRefused, InputRead}
 use Rattle.run_model.specs.Outside.{Outside}
 use Rattle.run_model.specs.Runs.{Answers, Fault, fault_line, memory_line, HasCauseOf, ErrAtFault, Faults, RunsOut, IsQuiet, IsFrontOf, Runs}
 use Rattle.run_model.specs.Runs.IsFrontOf.{Nothing, Front}
 use Rattle.run_model.specs.Runs.Fault.{CannotOpen, CannotRead, CannotWrite}
 use Rattle.run_model.specs.Runs.OutAtFault.{OutEmpty, OutBroken}
 use Rattle.run_model.specs.Runs.ErrAtFault.{ErrWhole, ErrBroken}
+use Rattle.run_model.proofs.Told.{IsPlain, plain_at, plain_told}
 use Rattle.slif_cli.specs.Stops.{Does, MayHave, IsFront, WorkStops, Tells, Reports, refusal_outcome}
 use Rattle.slif_cli.specs.Stops.IsFront.{Nothing as NothingYet, Front as FrontYet}
 use Rattle.slif_cli.specs.Stops.Tells.{Whole, Part}
@@ -37,48 +32,22 @@ data Ends (words : List (List ℕ)) (before after : Outside) (status : ℕ) : Ty
   Faulted : status ≡ 4 → Faults words before after → Ends words before after status
   RanOut : status ≡ 5 → RunsOut words before after → Ends words before after status
 
--- an outcome has neither the status of a fault nor that of want of memory
-record IsPlain (outcome : Outcome) : Type 0 where
-  no_fault : outcome.status ≢ 4
-  no_memory : outcome.status ≢ 5
-
-plain_at : (outcome same : Outcome) → outcome ≡ same → same.status ≢ 4 → same.status ≢ 5 → IsPlain outcome
-plain_at outcome same is fault memory = subst IsPlain (sym is) (record { no_fault = fault; no_memory = memory })
-
-plain_values : (asked : RunAsked) (b : Built) (cs : List ℕ) (pieces : List Piece) (outcome : Outcome) → TellsValues asked b cs pieces outcome → IsPlain outcome
-plain_values asked b cs pieces outcome (NoDerivation expected none are is) = plain_at outcome _ is (λ e. omega arith) (λ e. omega arith)
-plain_values asked b cs pieces outcome (Derived tree trees n are has is) = plain_at outcome _ is (λ e. omega arith) (λ e. omega arith)
-
-plain_report : (b : Built) (at : ℕ) (pieces : List Piece) (outcome : Outcome) → TellsReport b at pieces outcome → IsPlain outcome
-plain_report b at pieces outcome (NoSuchSet past is) = plain_at outcome _ is (λ e. omega arith) (λ e. omega arith)
-plain_report b at pieces outcome (Reported lines within are is) = plain_at outcome _ is (λ e. omega arith) (λ e. omega arith)
-
-plain_told : (task : Task) (b : Built) (cs : List ℕ) (pieces : List Piece) (outcome : Outcome) → ToldBy task b cs pieces outcome → IsPlain outcome
-plain_told (Values asked) b cs pieces outcome told = plain_values asked b cs pieces outcome told
-plain_told Expected b cs pieces outcome told = plain_at outcome _ told.is (λ e. omega arith) (λ e. omega arith)
-plain_told (Report at) b cs pieces outcome told = plain_report b at pieces outcome told
-
-plain_task : (task : Task) (b : Built) (input : List ℕ) (outcome : Outcome) → IsTaskOutcome task b input outcome → IsPlain outcome
-plain_task task b input outcome (InputRefused text is of) = plain_at outcome (refused 1 text) of (λ e. omega arith) (λ e. omega arith)
-plain_task task b input outcome (InputRead pieces read told) = plain_told task b _ pieces outcome told
+plain_input : (what : Telling) (b : Built) (input : List ℕ) (outcome : Outcome) → IsInputOutcome what b input outcome → IsPlain outcome
+plain_input what b input outcome (InputRefused text is of) = plain_at outcome (refused 1 text) of (λ e. omega arith) (λ e. omega arith)
+plain_input what b input outcome (InputRead pieces read told) = plain_told what b _ pieces outcome told
 
 plain_over : (IsOver : Built → Outcome → Type 0) (grammar : List ℕ) (outcome : Outcome) → ((b : Built) → IsOver b outcome → IsPlain outcome) → IsGrammarOutcome grammar IsOver outcome → IsPlain outcome
 plain_over IsOver grammar outcome each (GrammarRefused text refused_text is) = plain_at outcome (refused 3 text) is (λ e. omega arith) (λ e. omega arith)
 plain_over IsOver grammar outcome each (GrammarAccepted b accepted over) = each b over
 
-plain_of_task : (task : Task) (grammar input : List ℕ) (outcome : Outcome) → IsGrammarOutcome grammar (λ b. IsTaskOutcome task b input) outcome → IsPlain outcome
-plain_of_task task grammar input outcome of = plain_over (λ b. IsTaskOutcome task b input) grammar outcome (λ b over. plain_task task b input outcome over) of
-
-plain_job : (job : Job) (grammar input : List ℕ) (outcome : Outcome) → IsJobOutcome job grammar input outcome → IsPlain outcome
-plain_job (Run asked) grammar input outcome of = plain_of_task (Values asked) grammar input outcome of
-plain_job (Check name) grammar input outcome of = plain_over IsCheckOutcome grammar outcome (λ b over. plain_at outcome (done over.lines) over.is (λ e. omega arith) (λ e. omega arith)) of
-plain_job (Expect name from) grammar input outcome of = plain_of_task Expected grammar input outcome of
-plain_job (Progress name at from) grammar input outcome of = plain_of_task (Report at) grammar input outcome of
-plain_job (Work size) grammar input outcome of = plain_at outcome _ of.is (λ e. omega arith) (λ e. omega arith)
+plain_task : (task : Task) (grammar input : List ℕ) (outcome : Outcome) → IsTaskOutcome task grammar input outcome → IsPlain outcome
+plain_task Check grammar input outcome of = plain_over IsCheckOutcome grammar outcome (λ b over. plain_at outcome (done over.lines) over.is (λ e. omega arith) (λ e. omega arith)) of
+plain_task (Tell what) grammar input outcome of = plain_over (λ b. IsInputOutcome what b input) grammar outcome (λ b over. plain_input what b input outcome over) of
+plain_task (Work size) grammar input outcome of = plain_at outcome _ of.is (λ e. omega arith) (λ e. omega arith)
 
 plain : (words : List (List ℕ)) (grammar input : List ℕ) (outcome : Outcome) → IsOutcome words grammar input outcome → IsPlain outcome
 plain words grammar input outcome (NoJob none is) = plain_at outcome usage is (λ e. omega arith) (λ e. omega arith)
-plain words grammar input outcome (OfJob job asks of) = plain_job job grammar input outcome of
+plain words grammar input outcome (OfJob job asks of) = plain_task job.task grammar input outcome of
 
 module _ (words : List (List ℕ)) (before after : Outside) where
   err_told : (line : List ℕ) → Tells before.err after.err line → ErrAtFault words before after line

@@ -1,17 +1,18 @@
 -- What is told of an input that is refused, and the names of symbols.
-use Rattle.std.proofs.Common.{◌≡◌, ℕ, ◌≤◌, ◌++◌, [], ◌∷◌, List, length, map, ap, ◌∙◌, chars, IsUtf8}
+use Rattle.std.proofs.Common.{◌≡◌, ℕ, ◌≤◌, ◌++◌, [], ◌∷◌, List, Option, length, map, ap, ◌∙◌, chars, IsUtf8}
 use Rattle.grammar_model.specs.Grammar.{Grammar}
 use Rattle.grammar_model.specs.Values.{name_of}
 use Rattle.language_model.specs.Building.{Built}
 use Rattle.run_model.specs.Inputs.{IsInputRefused, NotUtf8, ReadingStops}
-use Rattle.slif_cli.specs.Stops.{IsBrokenText, IsStopText}
+use Rattle.text_reading.specs.declared.refusal.Place.{Place}
+use Rattle.text_reading.specs.Parts.{IsBrokenText, IsStopText}
 
 module _ (b : Built) (bytes : List ℕ) (within : length bytes ≤ 16777216) where
-  pub refused_broken : (text : List ℕ) → IsBrokenText bytes text → IsInputRefused b bytes text
-  refused_broken text broken = NotUtf8 broken.at (record { within = within; broken = broken.broken; front = broken.front }) broken.told
+  pub refused_broken : (text : List ℕ) (place : Option Place) (expected : List ℕ) → IsBrokenText bytes text place expected → IsInputRefused b bytes text
+  refused_broken text place expected broken = NotUtf8 broken.at (record { within = within; broken = broken.broken; front = broken.front }) broken.told
 
-  pub refused_stop : IsUtf8 bytes → (text : List ℕ) → IsStopText b (chars bytes) text → IsInputRefused b bytes text
-  refused_stop utf8 text stop = ReadingStops stop.pieces stop.at stop.found stop.expected (record { within = within; utf8 = utf8 }) stop.reading stop.told
+  pub refused_stop : IsUtf8 bytes → (text : List ℕ) (place : Option Place) (expected : List ℕ) → IsStopText b (chars bytes) text place expected → IsInputRefused b bytes text
+  refused_stop utf8 text place expected stop = ReadingStops stop.pieces stop.at stop.found expected (record { within = within; utf8 = utf8 }) stop.reading stop.told
 
 pub names_as : (b : Built) (w : Grammar) (xs ys : List ℕ) (lines : List (List ℕ)) → w ≡ b.g1 → xs ≡ ys → lines ≡ map (λ s. name_of w s ++ 10 ∷ []) xs → lines ≡ map (λ s. name_of b.g1 s ++ 10 ∷ []) ys
 names_as b w xs ys lines same is e = e ∙ ap (λ (g : Grammar). map (λ s. name_of g s ++ 10 ∷ []) xs) same ∙ ap (map (λ s. name_of b.g1 s ++ 10 ∷ [])) is

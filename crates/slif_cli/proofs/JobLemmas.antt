@@ -1,29 +1,41 @@
 -- What the words, the files and the input come to.
-use Rattle.std.proofs.Common.{◌≡◌, ℕ, List, [], ◌∷◌, ◌++◌, Option, inl, inr, ◌⊎◌, refl, subst, Some, None, IfSome, ◌∙◌, ap, sym, append-nil}
+use Rattle.std.proofs.Common.{◌≡◌, ℕ, List, [], ◌∷◌, ◌++◌, Option, inl, inr, ◌⊎◌, refl, subst, Some, None, IfSome, false, ◌∙◌, ap, sym, append-nil}
+use Rattle.std.specs.Prelude.{IsTrue, is_some, option_copied}
+use Rattle.std.specs.Borrow.{Bor}
+use Rattle.std.specs.Io.KnownBytes.{Appends}
+use Rattle.outside_model.specs.Causes.{Rose}
 use Rattle.outside_model.specs.Told.{ToldFile, MayHold, FileHolds, AsksAmong, AddsNames}
 use Rattle.slif_base.proofs.Bytes.{appends_none}
 use Rattle.language_model.specs.Building.{Built}
-use Rattle.words_model.specs.Words.{Job, Asks, AskNothing, grammar_file, input_from}
-use Rattle.words_model.specs.Words.Job.{Run, Check, Expect, Progress, Work}
+use Rattle.words_model.specs.Words.{Task, InputFrom, Nowhere, Job, Asks, AskNothing}
+use Rattle.words_model.specs.Words.Task.{Check, Tell, Work}
+use Rattle.words_model.specs.Laws.{IsFitted}
+use Rattle.words_model.proofs.Fitted.{jobs_are_fitted}
 use Rattle.words_model.proofs.Asked.{asks_once, not_both}
 use Rattle.run_model.specs.Refused.{Accepted, IsRefused}
-use Rattle.run_model.specs.Outcome.{Outcome, IsJobOutcome, IsCheckOutcome, IsWorkOutcome, usage, refused}
+use Rattle.run_model.specs.Outcome.{Outcome, IsTaskOutcome, IsCheckOutcome, IsWorkOutcome, usage, refused}
 use Rattle.run_model.specs.Outcome.IsOutcome.{NoJob, OfJob}
 use Rattle.run_model.specs.Outcome.IsGrammarOutcome.{GrammarRefused, GrammarAccepted}
 use Rattle.run_model.specs.Outside.{Stream, Disk}
 use Rattle.run_model.specs.Runs.{InputMayBe, Supplied, AsksNames}
-use Rattle.run_model.specs.Steps.{RunsWithin}
+use Rattle.run_model.specs.Steps.{DoesWithin, RunsWithin}
 use Rattle.run_model.specs.Runs.MayOpen.{OfGrammar}
 use Rattle.run_model.specs.Runs.MayAsk.{ForNothing, ForGrammar}
 use Rattle.run_model.proofs.Accepted.{not_refused}
-use Rattle.slif_cli.specs.Stops.{LoadStops, MayHave, WorkStops}
-use Rattle.slif_cli.specs.Tasks.{WorksWithin}
-use Rattle.slif_cli.specs.declared.stop.Refusal.TheVariants.{Usage, Grammar as BadGrammar, Input as BadInput}
+use Rattle.slif_cli.specs.Stops.{LoadStops, MayHave, WorkStops, refusal_outcome}
+use Rattle.slif_cli.specs.Tasks.{WorksWithin, IsCheckJob}
 use Rattle.slif_cli.specs.declared.stop.Stop.{Stop}
-use Rattle.slif_cli.specs.declared.stop.Stop.TheVariants.{Refused, OpenFault, ReadFault, WriteFault, NoMemory}
 use Rattle.slif_cli.proofs.GrammarLaws.{grammar_laws}
-use Rattle.slif_cli.proofs.Stopping.{nothing_appended}
+use Rattle.slif_cli.proofs.Stopping.{stops_as, of_grammar, nothing_appended}
 use Rattle.slif_cli.proofs.Within.{runs_within}
+
+-- what is so of a job that is asked for, by its task
+pub fitted_as : (words : List (List ℕ)) (job : Job) → Asks words job → (task : Task) → job.task ≡ task → IsFitted task job.grammar job.input
+fitted_as words job asks task is = subst (λ (t : Task). IsFitted t job.grammar job.input) is (jobs_are_fitted words job asks)
+
+pub copied_some : (name : Option (Bor (List ℕ))) → IsTrue (is_some (option_copied name)) → IsTrue (is_some name)
+copied_some None some = some
+copied_some (Some name) some = some
 
 -- NO JOB IS ASKED FOR
 
@@ -52,35 +64,34 @@ module _ (words : List (List ℕ)) (file : List ℕ → ToldFile) (left : Option
 
 -- A JOB WITH A GRAMMAR
 
--- the grammar of a job that has one may be refused
-pub refused_of : (job : Job) (name : List ℕ) → grammar_file job ≡ Some name → (text input told : List ℕ) → IsRefused text told → IsJobOutcome job text input (refused 3 told)
-refused_of (Run asked) name named text input told is = GrammarRefused told is refl
-refused_of (Check file) name named text input told is = GrammarRefused told is refl
-refused_of (Expect file from) name named text input told is = GrammarRefused told is refl
-refused_of (Progress file at from) name named text input told is = GrammarRefused told is refl
-refused_of (Work size) name named text input told is = absurd (cc named)
+-- the grammar of a task that has one may be refused
+refused_of : (task : Task) (file : Option (List ℕ)) (from : InputFrom) → IsFitted task file from → (name : List ℕ) → file ≡ Some name → (text input told : List ℕ) → IsRefused text told
+    → IsTaskOutcome task text input (refused 3 told)
+refused_of Check file from fitted name named text input told is = GrammarRefused told is refl
+refused_of (Tell what) file from fitted name named text input told is = GrammarRefused told is refl
+refused_of (Work size) file from fitted name named text input told is = let bad : None ≡ Some name = sym fitted.0 ∙ named in absurd (cc bad)
 
 -- no job goes on to its input with the text
 abbrev GoesOnWithNone : List ℕ → Type 0
 GoesOnWithNone text = (b : Built) → Accepted text b → ⊥
 
 module _ (words : List (List ℕ)) (job : Job) (asks : Asks words job) (file : List ℕ → ToldFile) (left : Option (List ℕ))
-    (name : List ℕ) (named : grammar_file job ≡ Some name) where
-  pub held_by_all : (grammar : List ℕ) → MayHold (file name) grammar → (other : Job) → Asks words other → IfSome (grammar_file other) (λ n. MayHold (file n) grammar)
+    (name : List ℕ) (named : job.grammar ≡ Some name) where
+  pub held_by_all : (grammar : List ℕ) → MayHold (file name) grammar → (other : Job) → Asks words other → IfSome other.grammar (λ n. MayHold (file n) grammar)
   held_by_all grammar held other others =
-      let here : IfSome (grammar_file job) (λ n. MayHold (file n) grammar) = subst (λ (o : Option (List ℕ)). IfSome o (λ n. MayHold (file n) grammar)) (sym named) held in
-      subst (λ (j : Job). IfSome (grammar_file j) (λ n. MayHold (file n) grammar)) (asks_once words job other asks others) here
+      let here : IfSome job.grammar (λ n. MayHold (file n) grammar) = subst (λ (o : Option (List ℕ)). IfSome o (λ n. MayHold (file n) grammar)) (sym named) held in
+      subst (λ (j : Job). IfSome j.grammar (λ n. MayHold (file n) grammar)) (asks_once words job other asks others) here
 
   -- no job of the words goes on with a text that none goes on with
-  goes_on_with_none : {text : List ℕ} → GoesOnWithNone text → (other : Job) → Asks words other → IfSome (grammar_file other) (λ _. (b : Built) × Accepted text b) → ⊥
+  goes_on_with_none : {text : List ℕ} → GoesOnWithNone text → (other : Job) → Asks words other → IfSome other.grammar (λ _. (b : Built) × Accepted text b) → ⊥
   goes_on_with_none {text} none other others goes =
-      let here : IfSome (grammar_file job) (λ _. (b : Built) × Accepted text b) =
-      subst (λ (j : Job). IfSome (grammar_file j) (λ _. (b : Built) × Accepted text b)) (asks_once words other job others asks) goes in
+      let here : IfSome job.grammar (λ _. (b : Built) × Accepted text b) =
+      subst (λ (j : Job). IfSome j.grammar (λ _. (b : Built) × Accepted text b)) (asks_once words other job others asks) goes in
       let some : (b : Built) × Accepted text b = subst (λ (o : Option (List ℕ)). IfSome o (λ _. (b : Built) × Accepted text b)) named here in
       none some.0 some.1
 
   -- an outcome that asks for no input
-  without_input : (text : List ℕ) → MayHold (file name) text → GoesOnWithNone text → (o : Outcome) → IsJobOutcome job text [] o → MayHave words file left o
+  without_input : (text : List ℕ) → MayHold (file name) text → GoesOnWithNone text → (o : Outcome) → IsTaskOutcome job.task text [] o → MayHave words file left o
   without_input text held none o is = (
     record {
       grammar = text;
@@ -97,18 +108,17 @@ module _ (words : List (List ℕ)) (job : Job) (asks : Asks words job) (file : L
 
   refused_grammar : (told : List ℕ) → FileHolds (file name) (λ text. IsRefused text told) → MayHave words file left (refused 3 told)
   refused_grammar told held =
-      without_input held.bytes held.may_hold (λ b goes. not_refused grammar_laws held.bytes b told goes held.holds) (refused 3 told) (refused_of job name named held.bytes [] told held.holds)
+      without_input held.bytes held.may_hold (λ b goes. not_refused grammar_laws held.bytes b told goes held.holds) (refused 3 told) (refused_of job.task job.grammar job.input (jobs_are_fitted words job asks) name named held.bytes [] told held.holds)
 
   pub load_stops : (faults : ℕ) (files_after : Disk) (input_faults : ℕ) (out : Stream) (stop : Stop)
-      → LoadStops name (file name) faults files_after.faults stop
+      → LoadStops name (file name) (Rose faults files_after.faults) stop
       → WorkStops words (record { file = file; faults = faults }) files_after (record { bytes = left; faults = input_faults }) (record { bytes = left; faults = input_faults }) out out stop
-  load_stops faults files_after input_faults out (Refused Usage) stops = absurd stops
-  load_stops faults files_after input_faults out (Refused (BadGrammar text)) stops = (refused_grammar text.items stops, appends_none out.bytes)
-  load_stops faults files_after input_faults out (Refused (BadInput text)) stops = absurd stops
-  load_stops faults files_after input_faults out (OpenFault asked) stops = ((stops.0, OfGrammar job asks (named ∙ ap (λ (n : List ℕ). Some n) (sym stops.1))), appends_none out.bytes)
-  load_stops faults files_after input_faults out ReadFault stops = (inl stops, appends_none out.bytes)
-  load_stops faults files_after input_faults out WriteFault stops = absurd stops
-  load_stops faults files_after input_faults out NoMemory stops = nothing_appended (MayHave words file left) out.bytes
+  load_stops faults files_after input_faults out stop stops =
+      stops_as
+      (of_grammar _ (λ r. MayHave words file left (refusal_outcome r) × Appends out.bytes out.bytes []) (λ text told. (refused_grammar text.items told, appends_none out.bytes)))
+      (λ asked x. ((x.0, OfGrammar job asks (named ∙ ap (λ (n : List ℕ). Some n) (sym x.1))), appends_none out.bytes))
+      (λ x. (inl x, appends_none out.bytes)) (λ x. absurd x) (λ x. nothing_appended (MayHave words file left) out.bytes)
+      stop stops
 
   front_of_one : (asked rest : List (List ℕ)) (one : List ℕ) → one ∷ [] ≡ asked ++ rest → (asked ≡ []) ⊎ (asked ≡ one ∷ [])
   front_of_one [] rest one e = inl refl
@@ -124,38 +134,48 @@ module _ (words : List (List ℕ)) (job : Job) (asks : Asks words job) (file : L
 
 -- CHECK
 
-pub checked : (words : List (List ℕ)) (name : List ℕ) → Asks words (Check name) → (file : List ℕ → ToldFile) (left : Option (List ℕ)) (b : Built)
-    → FileHolds (file name) (λ bytes. Accepted bytes b) → (o : Outcome) → IsCheckOutcome b o → MayHave words file left o
-checked words name asks file left b held o is = (
-  record {
-    grammar = held.bytes;
-    input = [];
-    outcome = o;
-    supplied = record {
-      grammar_held = held_by_all words (Check name) asks file left name refl held.bytes held.may_hold;
-      input_held = λ other others goes. subst (λ (j : Job). InputMayBe (input_from j) file left []) (asks_once words (Check name) other asks others) tt;
-    };
-    is_outcome = OfJob (Check name) asks (GrammarAccepted b held.holds is);
-  },
-  refl,
-)
+module _ (words : List (List ℕ)) (job : Job) (name : List ℕ) (is_job : IsCheckJob job name) (asks : Asks words job) (file : List ℕ → ToldFile) (left : Option (List ℕ)) where
+  no_input : job.input ≡ Nowhere
+  no_input = (fitted_as words job asks Check is_job.task).1
 
--- its steps are not told
-pub checks_within : (words : List (List ℕ)) (name : List ℕ) → Asks words (Check name) → (file : List ℕ → ToldFile) (left : Option (List ℕ)) (outcome : Outcome) (before after : ℕ)
-    → MayHave words file left outcome → RunsWithin words file left before after
-checks_within words name asks file left outcome before after (may, is) = runs_within words (Check name) asks file left before after may.grammar may.input may.supplied tt
+  pub checked : (b : Built) → FileHolds (file name) (λ bytes. Accepted bytes b) → (o : Outcome) → IsCheckOutcome b o → MayHave words file left o
+  checked b held o is = (
+    record {
+      grammar = held.bytes;
+      input = [];
+      outcome = o;
+      supplied = record {
+        grammar_held = held_by_all words job asks file left name is_job.named held.bytes held.may_hold;
+        input_held = λ other others goes. subst (λ (j : Job). InputMayBe j.input file left []) (asks_once words job other asks others)
+            (subst (λ (f : InputFrom). InputMayBe f file left []) (sym no_input) tt);
+      };
+      is_outcome = OfJob job asks (subst (λ (t : Task). IsTaskOutcome t held.bytes [] o) (sym is_job.task) (GrammarAccepted b held.holds is));
+    },
+    refl,
+  )
+
+  -- its steps are not told
+  pub checks_within : (outcome : Outcome) (before after : ℕ) → MayHave words file left outcome → RunsWithin words file left before after
+  checks_within outcome before after (may, is) =
+      runs_within words job asks file left before after may.grammar may.input may.supplied (subst (λ (t : Task). DoesWithin t may.grammar may.input before after) (sym is_job.task) tt)
 
 -- WORK
 
-module _ (words : List (List ℕ)) (size : ℕ) (asks : Asks words (Work size)) (file : List ℕ → ToldFile) (left : Option (List ℕ)) where
+module _ (words : List (List ℕ)) (job : Job) (size : ℕ) (is_job : job.task ≡ Work size) (asks : Asks words job) (file : List ℕ → ToldFile) (left : Option (List ℕ)) where
+  fitted : IsFitted (Work size) job.grammar job.input
+  fitted = fitted_as words job asks (Work size) is_job
+
   supplied : Supplied words file left [] []
   supplied = record {
-    grammar_held = λ other others. subst (λ (j : Job). IfSome (grammar_file j) (λ n. MayHold (file n) [])) (asks_once words (Work size) other asks others) tt;
-    input_held = λ other others goes. subst (λ (j : Job). InputMayBe (input_from j) file left []) (asks_once words (Work size) other asks others) tt;
+    grammar_held = λ other others. subst (λ (j : Job). IfSome j.grammar (λ n. MayHold (file n) [])) (asks_once words job other asks others)
+        (subst (λ (o : Option (List ℕ)). IfSome o (λ n. MayHold (file n) [])) (sym fitted.0) tt);
+    input_held = λ other others goes. subst (λ (j : Job). InputMayBe j.input file left []) (asks_once words job other asks others)
+        (subst (λ (f : InputFrom). InputMayBe f file left []) (sym fitted.1) tt);
   }
 
   pub worked : (o : Outcome) → IsWorkOutcome size o → MayHave words file left o
-  worked o is = (record { grammar = []; input = []; outcome = o; supplied = supplied; is_outcome = OfJob (Work size) asks is }, refl)
+  worked o is = (record { grammar = []; input = []; outcome = o; supplied = supplied; is_outcome = OfJob job asks (subst (λ (t : Task). IsTaskOutcome t [] [] o) (sym is_job) is) }, refl)
 
   pub works_within : (before after : ℕ) → WorksWithin size before after → RunsWithin words file left before after
-  works_within before after within = runs_within words (Work size) asks file left before after [] [] supplied within
+  works_within before after within =
+      runs_within words job asks file left before after [] [] supplied (subst (λ (t : Task). DoesWithin t [] [] before after) (sym is_job) within)

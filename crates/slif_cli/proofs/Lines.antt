@@ -8,7 +8,7 @@ use Rattle.slif_base.proofs.Bytes.{appends_twice}
 use Rattle.run_model.specs.Outside.{Stream}
 use Rattle.slif_cli.specs.Stops.{LinesStop}
 use Rattle.slif_cli.specs.declared.stop.Stop.{Stop}
-use Rattle.slif_cli.specs.declared.stop.Stop.TheVariants.{Refused, OpenFault, ReadFault, WriteFault, NoMemory}
+use Rattle.slif_cli.proofs.Stopping.{stops_as}
 
 -- the text of one line more
 pub one_line_more : (lines : List (List ℕ)) (k : ℕ) (line : List ℕ) → slice_get lines k ≡ Some line → concat (take (suc k) lines) ≡ concat (take k lines) ++ line
@@ -93,8 +93,5 @@ module _ (xs ys : List (List ℕ)) where
 
   -- the lines behind those that were written are not all written
   pub stops_behind : (before middle after : Stream) (stop : Stop) → Appends before.bytes middle.bytes (concat xs) → before.faults ≤ middle.faults → LinesStop ys middle after stop → LinesStop (xs ++ ys) before after stop
-  stops_behind before middle after (Refused refusal) first later stops = stops
-  stops_behind before middle after (OpenFault name) first later stops = stops
-  stops_behind before middle after ReadFault first later stops = stops
-  stops_behind before middle after WriteFault first later stops = (let rose = stops.0 in omega (arith, later, rose), front_behind before.bytes middle.bytes after.bytes first stops.1)
-  stops_behind before middle after NoMemory first later stops = front_behind before.bytes middle.bytes after.bytes first stops
+  stops_behind before middle after stop first later stops =
+      stops_as (λ r x. x) (λ n x. x) (λ x. x) (λ x. (let rose = x.0 in omega (arith, later, rose), front_behind before.bytes middle.bytes after.bytes first x.1)) (front_behind before.bytes middle.bytes after.bytes first) stop stops

@@ -1,15 +1,11 @@
 -- Messages without a name.
-use Rattle.std.proofs.Common.{◌≡◌, refl, sym, subst}
+use Rattle.std.proofs.Common.{refl, sym, subst}
 use Rattle.std.specs.Prelude.{codes}
-use Rattle.run_model.specs.Outcome.{usage}
 use Rattle.run_model.specs.Outside.{Stream}
 use Rattle.run_model.specs.Runs.{fault_line, memory_line}
 use Rattle.run_model.specs.Runs.Fault.{CannotRead, CannotWrite}
 use Rattle.run_model.proofs.Messages.{plain_message}
 use Rattle.slif_cli.specs.Stops.{Tells}
-
-pub usage_is : usage.line ≡ codes "slif: usage: slif JOB [options]; jobs: run, check, expect, progress, work\n"
-usage_is = plain_message (codes "usage: slif JOB [options]; jobs: run, check, expect, progress, work") refl
 
 module _ (before after : Stream) where
   pub tells_memory : Tells before after (codes "slif: out of memory\n") → Tells before after memory_line

@@ -1,5 +1,5 @@
 -- What job `work` comes to: its grammar is accepted, its input is read to its end, and it has one derivation.
-use Rattle.std.proofs.Common.{◌≡◌, ℕ, ◌+◌, ◌*◌, ◌≤◌, List, [], ◌∷◌, ◌++◌, None, replicate, length, take, refl, sym, ap, subst, ◌∙◌, length-append, arith, chars, IsUtf8, slice_index_or}
+use Rattle.std.proofs.Common.{◌≡◌, ℕ, ◌+◌, ◌*◌, ◌≤◌, List, [], ◌∷◌, ◌++◌, Option, None, replicate, length, take, refl, sym, ap, subst, ◌∙◌, length-append, arith, chars, IsUtf8, slice_index_or}
 use Rattle.std.specs.List.{sum_by}
 use Rattle.std.proofs.lemmas.List.{length-replicate, take_all}
 use Rattle.std.proofs.lemmas.Str.{length-le-encodes, encodes-chars}
@@ -23,7 +23,7 @@ use Rattle.reading_model.specs.Reading.{Piece, End, Stopped, IsReading, edges_of
 use Rattle.reading_model.proofs.One.{reading_is_one}
 use Rattle.forest_model.specs.Forest.{Forest, IsForest}
 use Rattle.forest_model.specs.Listing.{IsListing}
-use Rattle.run_model.specs.Refused.{Accepted, IsRefused}
+use Rattle.run_model.specs.Refused.{Accepted}
 use Rattle.run_model.specs.Inputs.{IsInputText, IsRead}
 use Rattle.run_model.specs.Listing.{AreDerivations}
 use Rattle.run_model.specs.Numbers.{Numbers, HasNumbers}
@@ -33,11 +33,11 @@ use Rattle.run_model.specs.Outcome.{IsWorkOutcome, done}
 use Rattle.run_model.specs.Steps.{GivesWithin}
 use Rattle.run_model.proofs.Accepted.{one_built, not_refused}
 use Rattle.work_laws.proofs.Working.{work_has_one}
-use Rattle.slif_cli.specs.Stops.{TellsText, TellsInput, IsBrokenText, IsStopText}
-use Rattle.slif_cli.specs.Tasks.{HasForest, IsNoDerivation}
-use Rattle.slif_cli.specs.declared.stop.Refusal.TheVariants.{Usage, Grammar as BadGrammar, Input as BadInput}
-use Rattle.slif_cli.specs.declared.stop.Stop.{Stop}
-use Rattle.slif_cli.specs.declared.stop.Stop.TheVariants.{Refused, OpenFault, ReadFault, WriteFault, NoMemory}
+use Rattle.text_reading.specs.Refusals.{TellsGrammar, TellsInput, IsRefusedAt, IsNoDerivation}
+use Rattle.text_reading.specs.Parts.{IsBrokenText, IsStopText, HasForest}
+use Rattle.text_reading.specs.declared.refusal.Place.{Place}
+use Rattle.text_reading.specs.declared.refusal.Refusal.{Refusal}
+use Rattle.text_reading.specs.declared.refusal.Refusal.TheVariants.{Grammar, Input, NoMemory}
 use Rattle.slif_cli.proofs.GrammarLaws.{grammar_laws}
 use Rattle.text_reading.proofs.Derived.{listed, some_listing}
 use Rattle.slif_cli.proofs.Within.{within}
@@ -53,28 +53,20 @@ work_length n =
 
 -- WHERE NOTHING IS REFUSED, only memory is wanting
 
-pub text_memory : (P : List ℕ → Type 0) → ((text : List ℕ) → P text → ⊥) → (stop : Stop) → TellsText P stop → stop ≡ NoMemory
-text_memory P none (Refused Usage) tells = absurd tells
-text_memory P none (Refused (BadGrammar text)) tells = absurd (none text.items tells)
-text_memory P none (Refused (BadInput text)) tells = absurd tells
-text_memory P none (OpenFault name) tells = absurd tells
-text_memory P none ReadFault tells = absurd tells
-text_memory P none WriteFault tells = absurd tells
-text_memory P none NoMemory tells = refl
+pub grammar_memory : (P : List ℕ → Option Place → Type 0) → ((text : List ℕ) (place : Option Place) → P text place → ⊥) → (refusal : Refusal) → TellsGrammar P refusal → refusal ≡ NoMemory
+grammar_memory P none (Grammar text place) tells = absurd (none text.items place tells)
+grammar_memory P none (Input text place expected) tells = absurd tells
+grammar_memory P none NoMemory tells = refl
 
-pub input_memory : (P : List ℕ → Type 0) → ((text : List ℕ) → P text → ⊥) → (stop : Stop) → TellsInput P stop → stop ≡ NoMemory
-input_memory P none (Refused Usage) tells = absurd tells
-input_memory P none (Refused (BadGrammar text)) tells = absurd tells
-input_memory P none (Refused (BadInput text)) tells = absurd (none text.items tells)
-input_memory P none (OpenFault name) tells = absurd tells
-input_memory P none ReadFault tells = absurd tells
-input_memory P none WriteFault tells = absurd tells
+pub input_memory : (P : List ℕ → Option Place → List ℕ → Type 0) → ((text : List ℕ) (place : Option Place) (expected : List ℕ) → P text place expected → ⊥) → (refusal : Refusal) → TellsInput P refusal → refusal ≡ NoMemory
+input_memory P none (Grammar text place) tells = absurd tells
+input_memory P none (Input text place expected) tells = absurd (none text.items place expected.items tells)
 input_memory P none NoMemory tells = refl
 
 -- THE GRAMMAR
 
-pub own_accepted : (text : List ℕ) → IsRefused work_grammar text → ⊥
-own_accepted text refused = let law = work_has_one 1 (omega arith) in not_refused grammar_laws work_grammar law.0 text law.1 refused
+pub own_accepted : (text : List ℕ) (place : Option Place) → IsRefusedAt work_grammar text place → ⊥
+own_accepted text place at = let law = work_has_one 1 (omega arith) in not_refused grammar_laws work_grammar law.0 text law.1 at.refused
 
 -- THE INPUT
 
@@ -86,8 +78,8 @@ module _ (size : ℕ) (sized : size ≤ 100000) where
   own_text : IsInputText (work_input size)
   own_text = let law = work_has_one size (omega (arith, sized)) in law.2.1.text
 
-  pub own_utf8 : (bytes : List ℕ) → bytes ≡ work_input size → (text : List ℕ) → IsBrokenText bytes text → ⊥
-  own_utf8 bytes is text broken = broken.broken (subst IsUtf8 (sym is) own_text.utf8)
+  pub own_utf8 : (bytes : List ℕ) → bytes ≡ work_input size → (text : List ℕ) (place : Option Place) (expected : List ℕ) → IsBrokenText bytes text place expected → ⊥
+  own_utf8 bytes is text place expected broken = broken.broken (subst IsUtf8 (sym is) own_text.utf8)
 
   pub own_few : (cs : List ℕ) → cs ≡ chars (work_input size) → length cs ≤ 16777216
   own_few cs is =
@@ -104,8 +96,8 @@ module _ (size : ℕ) (sized : size ≤ 100000) where
       own_reading : IsReading b cs own.0 End
       own_reading = subst (λ (l : List ℕ). IsReading b l own.0 End) (sym is) own.1.0.reading
 
-      pub own_read : (text : List ℕ) → IsStopText b cs text → ⊥
-      own_read text stop = let (same, ends) = reading_is_one b cs own.0 stop.pieces End (Stopped stop.at stop.found stop.expected) own_reading stop.reading in absurd (cc ends)
+      pub own_read : (text : List ℕ) (place : Option Place) (expected : List ℕ) → IsStopText b cs text place expected → ⊥
+      own_read text place expected stop = let (same, ends) = reading_is_one b cs own.0 stop.pieces End (Stopped stop.at stop.found expected) own_reading stop.reading in absurd (cc ends)
 
       -- the one derivation
       only : (pieces : List Piece) → IsReading b cs pieces End → (ranking : Ranking) → (tree : Tree) × AreDerivations b ranking pieces (tree ∷ [])
@@ -117,8 +109,8 @@ module _ (size : ℕ) (sized : size ≤ 100000) where
       same_list ranking pieces ts us p q =
           chosen_unique b.g1 (Held (edges_of pieces)) ranking (slot_of (slice_index_or b.g1.starts 0 0)) 0 (place_after pieces) ts us p q
 
-      pub own_derived : (ranking : Ranking) (text : List ℕ) → IsNoDerivation b ranking cs text → ⊥
-      own_derived ranking text none =
+      pub own_derived : (ranking : Ranking) (text : List ℕ) (place : Option Place) (expected : List ℕ) → IsNoDerivation b ranking cs text place expected → ⊥
+      own_derived ranking text place expected none =
           let (tree, one) = only none.pieces none.reading ranking in
           let e : [] ≡ tree ∷ [] = same_list ranking none.pieces [] (tree ∷ []) none.none one in
           absurd (cc e)

@@ -18,7 +18,7 @@ use Rattle.reading_laws.proofs.Candidates.{pieces_forward}
 use Rattle.scanless.specs.Reading.{IsReadingOf}
 use Rattle.scanless.specs.declared.reading.Ending.TheVariants.{End as AtEnd}
 use Rattle.grammar_core.specs.declared.steps.Span.{Span}
-use Rattle.run_model.specs.Jobs.Task.{Report}
+use Rattle.words_model.specs.Words.Telling.{Report}
 use Rattle.run_model.specs.Telling.{report_line, no_set_text, done, refused}
 use Rattle.run_model.specs.Telling.TellsReport.{NoSuchSet, Reported}
 use Rattle.slif_cli.specs.Tasks.{TellsReading}

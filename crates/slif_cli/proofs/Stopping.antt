@@ -1,5 +1,5 @@
 -- What is known of a stop, and what follows from it.
-use Rattle.std.proofs.Common.{◌≡◌, ℕ, List, [], Option, Result, Ok, Err, refl, sym, subst}
+use Rattle.std.proofs.Common.{◌≡◌, ℕ, List, [], Option, Result, Ok, Err, Vec, Global, refl, sym, subst}
 use Rattle.std.specs.Prelude.{IsErrAnd, IfErr}
 use Rattle.std.specs.List.{concat}
 use Rattle.std.specs.Io.KnownBytes.{Appends}
@@ -7,20 +7,36 @@ use Rattle.outside_model.specs.Told.{AppendsPrefix}
 use Rattle.slif_base.proofs.Bytes.{appends_none}
 use Rattle.run_model.specs.Outcome.{Outcome, done}
 use Rattle.run_model.specs.Outside.{Stream}
-use Rattle.slif_cli.specs.Stops.{TellsText, IsFront, AppendsFront, Does, StopsAt, WriteStops, LinesStop}
+use Rattle.slif_cli.specs.Stops.{StopsBy, OfGrammar, OfInput, IsFront, AppendsFront, Does, StopsAt, WriteStops, LinesStop, refusal_outcome}
 use Rattle.slif_cli.specs.Stops.IsFront.{Nothing, Front}
+use Rattle.slif_cli.specs.declared.stop.Refusal.{Refusal}
 use Rattle.slif_cli.specs.declared.stop.Refusal.TheVariants.{Usage, Grammar as BadGrammar, Input as BadInput}
 use Rattle.slif_cli.specs.declared.stop.Stop.{Stop}
 use Rattle.slif_cli.specs.declared.stop.Stop.TheVariants.{Refused, OpenFault, ReadFault, WriteFault, NoMemory}
 
-pub told_weaker : (P Q : List ℕ → Type 0) → ((t : List ℕ) → P t → Q t) → (stop : Stop) → TellsText P stop → TellsText Q stop
-told_weaker P Q f (Refused Usage) told = told
-told_weaker P Q f (Refused (BadGrammar text)) told = f text.items told
-told_weaker P Q f (Refused (BadInput text)) told = told
-told_weaker P Q f (OpenFault name) told = told
-told_weaker P Q f ReadFault told = told
-told_weaker P Q f WriteFault told = told
-told_weaker P Q f NoMemory told = told
+-- what is so of a stop, of which more is so
+module _ {R S : Refusal → Type 0} {U V : List ℕ → Type 0} {A B C D E F : Type 0} where
+  pub stops_as : ((r : Refusal) → R r → S r) → ((n : List ℕ) → U n → V n) → (A → B) → (C → D) → (E → F) → (stop : Stop) → StopsBy R U A C E stop → StopsBy S V B D F stop
+  stops_as refused unopened unread unwritten no_room (Refused refusal) stops = refused refusal stops
+  stops_as refused unopened unread unwritten no_room (OpenFault name) stops = unopened name.now stops
+  stops_as refused unopened unread unwritten no_room ReadFault stops = unread stops
+  stops_as refused unopened unread unwritten no_room WriteFault stops = unwritten stops
+  stops_as refused unopened unread unwritten no_room NoMemory stops = no_room stops
+
+pub of_grammar : (P : List ℕ → Type 0) (Q : Refusal → Type 0) → ((text : Vec ℕ Global) → P text.items → Q (BadGrammar text)) → (r : Refusal) → OfGrammar P r → Q r
+of_grammar P Q f Usage of = absurd of
+of_grammar P Q f (BadGrammar text) of = f text of
+of_grammar P Q f (BadInput text) of = absurd of
+
+pub of_input : (P : List ℕ → Type 0) (Q : Refusal → Type 0) → ((text : Vec ℕ Global) → P text.items → Q (BadInput text)) → (r : Refusal) → OfInput P r → Q r
+of_input P Q f Usage of = absurd of
+of_input P Q f (BadGrammar text) of = absurd of
+of_input P Q f (BadInput text) of = f text of
+
+-- an error that came through a `?`
+pub passed_on : {T X : Type 0} (P : X → Type 0) (r : Result T X) (e : X) → IsErrAnd r (λ x. x ≡ e) → P e → IfErr r P
+passed_on P (Ok x) e is holds = tt
+passed_on P (Err x) e is holds = subst P (sym is) holds
 
 module _ (P Q : Outcome → Type 0) (f : (o : Outcome) → P o → Q o) where
   front_weaker : (text : List ℕ) → IsFront P text → IsFront Q text
@@ -35,19 +51,16 @@ module _ (P Q : Outcome → Type 0) (f : (o : Outcome) → P o → Q o) where
 
   pub stops_weaker : (U V : List ℕ → Type 0) (R S : Type 0) → ((n : List ℕ) → U n → V n) → (R → S) → (before after : Stream) (stop : Stop)
       → StopsAt P U R before after stop → StopsAt Q V S before after stop
-  stops_weaker U V R S g h before after (Refused refusal) stops = (f _ stops.0, stops.1)
-  stops_weaker U V R S g h before after (OpenFault name) stops = (g _ stops.0, stops.1)
-  stops_weaker U V R S g h before after ReadFault stops = (h stops.0, stops.1)
-  stops_weaker U V R S g h before after WriteFault stops = (stops.0, appends_weaker before.bytes after.bytes stops.1)
-  stops_weaker U V R S g h before after NoMemory stops = appends_weaker before.bytes after.bytes stops
+  stops_weaker U V R S g h before after =
+      stops_as (λ r x. (f (refusal_outcome r) x.0, x.1)) (λ n x. (g n x.0, x.1)) (λ x. (h x.0, x.1)) (λ x. (x.0, appends_weaker before.bytes after.bytes x.1))
+      (appends_weaker before.bytes after.bytes)
 
 pub nothing_appended : (P : Outcome → Type 0) (before : Option (List ℕ)) → AppendsFront P before before
 nothing_appended P before = record { text = []; front = Nothing refl; appends = appends_none before }
 
 -- a call that found no memory, and nothing was written
 pub memory_stops : {T : Type 0} (P : Outcome → Type 0) (before : Stream) (r : Result T Stop) → IsErrAnd r (λ stop. stop ≡ NoMemory) → IfErr r (WriteStops P before before)
-memory_stops P before (Ok x) h = tt
-memory_stops P before (Err e) h = subst (WriteStops P before before) (sym h) (nothing_appended P before.bytes)
+memory_stops P before r is = passed_on (WriteStops P before before) r NoMemory is (nothing_appended P before.bytes)
 
 -- LINES
 
@@ -59,8 +72,5 @@ module _ (P : Outcome → Type 0) (lines : List (List ℕ)) (is : P (done lines)
   part_done before after part = record { text = part.bytes; front = Front (done lines) is part.rest part.split; appends = part.appends }
 
   pub lines_stop : (before after : Stream) (stop : Stop) → LinesStop lines before after stop → WriteStops P before after stop
-  lines_stop before after (Refused refusal) stops = absurd stops
-  lines_stop before after (OpenFault name) stops = absurd stops
-  lines_stop before after ReadFault stops = absurd stops
-  lines_stop before after WriteFault stops = (stops.0, part_done before.bytes after.bytes stops.1)
-  lines_stop before after NoMemory stops = part_done before.bytes after.bytes stops
+  lines_stop before after =
+      stops_as (λ r x. absurd x) (λ n x. absurd x) (λ x. absurd x) (λ x. (x.0, part_done before.bytes after.bytes x.1)) (part_done before.bytes after.bytes)

@@ -1,5 +1,5 @@
 -- How many steps the parts of a run take.
-use Rattle.std.proofs.Common.{◌≡◌, ℕ, ◌+◌, ◌≤◌, List, [], ◌∷◌, Option, Some, inl, inr, map, refl, sym, ap, subst, ◌∙◌, arith, chars, slice_get}
+use Rattle.std.proofs.Common.{◌≡◌, ℕ, ◌+◌, ◌≤◌, List, [], ◌∷◌, Option, Some, None, IfSome, inl, inr, map, refl, sym, ap, subst, ◌∙◌, arith, chars, slice_get}
 use Rattle.std.specs.List.{sum_by}
 use Rattle.std.proofs.lemmas.List.{length-map}
 use Rattle.outside_model.specs.Told.{ToldFile}
@@ -26,17 +26,15 @@ use Rattle.reading_model.specs.Reading.{Piece, End, place_after}
 use Rattle.reading_model.proofs.One.{reading_is_one}
 use Rattle.scanless.specs.Reading.{HoldsPieces, IsReadingOf}
 use Rattle.scanless.specs.declared.reading.Ending.TheVariants.{End as AtEnd}
-use Rattle.words_model.specs.Words.{Job, RunAsked, Asks}
+use Rattle.words_model.specs.Words.{Telling, Job, ValuesAsked, Asks, values_of}
 use Rattle.words_model.proofs.Asked.{asks_once}
 use Rattle.run_model.specs.Inputs.{IsInputText}
 use Rattle.run_model.specs.Listing.{first_of}
-use Rattle.run_model.specs.Jobs.{Task}
-use Rattle.run_model.specs.Jobs.Task.{Values, Expected, Report}
 use Rattle.run_model.specs.Outside.{Stream}
 use Rattle.run_model.specs.Runs.{Supplied}
-use Rattle.run_model.specs.Steps.{IsPlacedLink, IsLeoPair, IsWithinSteps, DoesWithin, RunsWithin}
+use Rattle.run_model.specs.Steps.{IsPlacedLink, IsLeoPair, IsWithinSteps, GivesWithin, DoesWithin, RunsWithin, InputWithin}
 use Rattle.slif_cli.specs.Stops.{Reports}
-use Rattle.slif_cli.specs.Tasks.{HasForest, TaskWithin, ListsWithin, TellsWithin}
+use Rattle.slif_cli.specs.Tasks.{HasForest, ListsWithin, TellsWithin}
 use Rattle.slif_cli.specs.declared.stop.Refusal.TheVariants.{Usage, Grammar as BadGrammar, Input as BadInput}
 use Rattle.slif_cli.specs.declared.stop.Stop.{Stop}
 use Rattle.slif_cli.specs.declared.stop.Stop.TheVariants.{Refused, OpenFault, ReadFault, WriteFault, NoMemory}
@@ -101,7 +99,7 @@ module _ (b : Built) (recce : Recognizer) (is : IsRecognizer recce) (pieces : Li
         omega (arith, r, m, gives);
   }
 
-module _ (b : Built) (asked : RunAsked) (cs : List ℕ) (spans : List Span) (f : Forest) (has : HasForest b asked.ranking cs spans f) (forest : IsForest f) where
+module _ (b : Built) (asked : ValuesAsked) (cs : List ℕ) (spans : List Span) (f : Forest) (has : HasForest b asked.ranking cs spans f) (forest : IsForest f) where
   pub lists_within : (recce : Recognizer) (held_spans : List Span) → IsRecognizer recce → IsReadingOf b cs recce held_spans AtEnd → (before read built after : ℕ)
       → ((n : ℕ) → IsCountOf (IsExpanded recce.flat (edges_of recce) (allowed_by b.g1 asked.ranking recce.flat (edges_of recce)) (top_of recce) (place_of recce)) n → built ≤ read + n)
       → ((trees : List Tree) → IsListing f trees → after ≤ built + sum_by choices (first_of asked.first trees))
@@ -119,20 +117,22 @@ module _ (b : Built) (asked : RunAsked) (cs : List ℕ) (spans : List Span) (f :
       }
 
 -- the characters are those of the bytes
-pub bytes_within : (task : Task) (b : Built) (bytes : List ℕ) → IsInputText bytes → (before after : ℕ) → TellsWithin task b (chars bytes) before after → TaskWithin task b bytes before after
-bytes_within (Values asked) b bytes text before after w = record { pieces = w.pieces; read = record { text = text; reading = w.reading }; trees = w.trees; all = w.all; within = w.within }
-bytes_within Expected b bytes text before after w = tt
-bytes_within (Report at) b bytes text before after w = tt
+pub bytes_within : (what : Telling) (b : Built) (bytes : List ℕ) → IsInputText bytes → (before after : ℕ) → TellsWithin what b (chars bytes) before after → InputWithin what b bytes before after
+bytes_within what b bytes text before after w = by (values_of what) w
+  where
+    by : (values : Option ValuesAsked) → IfSome values (λ asked. ListsWithin b asked (chars bytes) before after) → IfSome values (λ asked. GivesWithin b bytes asked.ranking asked.first before after)
+    by None w = tt
+    by (Some asked) w = record { pieces = w.pieces; read = record { text = text; reading = w.reading }; trees = w.trees; all = w.all; within = w.within }
 
 -- THE RUN
 
 module _ (words : List (List ℕ)) (job : Job) (asks : Asks words job) (file : List ℕ → ToldFile) (left : Option (List ℕ)) (before after : ℕ) where
-  pub runs_within : (grammar input : List ℕ) → Supplied words file left grammar input → DoesWithin job grammar input before after → RunsWithin words file left before after
+  pub runs_within : (grammar input : List ℕ) → Supplied words file left grammar input → DoesWithin job.task grammar input before after → RunsWithin words file left before after
   runs_within grammar input supplied does = record {
     grammar = grammar;
     input = input;
     supplied = supplied;
-    does = λ other others. subst (λ (j : Job). DoesWithin j grammar input before after) (asks_once words job other asks others) does;
+    does = λ other others. subst (λ (j : Job). DoesWithin j.task grammar input before after) (asks_once words job other asks others) does;
   }
 
 -- what is told of a stop is no success

@@ -1,11 +1,19 @@
--- How the work stops for a text that is refused.
+-- How the work stops for what a layer below refuses.
 use Rattle.text_reading.specs.declared.refusal.Refusal as text
 use Rattle.text_reading.specs.declared.refusal.Refusal.TheVariants as refusal
+use Rattle.value_lines.specs.declared.writing.WriteRefusal as lines
+use Rattle.value_lines.specs.declared.writing.WriteRefusal.TheVariants as unwritten
 use Rattle.slif_cli.specs.declared.stop.Refusal.TheVariants.{Grammar as BadGrammar, Input as BadInput}
 use Rattle.slif_cli.specs.declared.stop.Stop.{Stop}
-use Rattle.slif_cli.specs.declared.stop.Stop.TheVariants.{Refused, NoMemory}
+use Rattle.slif_cli.specs.declared.stop.Stop.TheVariants.{Refused, WriteFault, NoMemory}
 
+-- a text that is refused
 abbrev pub stop_for : text.Refusal → Stop
 stop_for (refusal.Grammar text place) = Refused (BadGrammar text)
 stop_for (refusal.Input text place expected) = Refused (BadInput text)
 stop_for refusal.NoMemory = NoMemory
+
+-- values that were not all written
+abbrev pub write_stop : lines.WriteRefusal → Stop
+write_stop unwritten.WriteFault = WriteFault
+write_stop unwritten.NoMemory = NoMemory

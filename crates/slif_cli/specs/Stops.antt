@@ -1,17 +1,13 @@
 -- What is known where a part of the work stops.
-use Rattle.std.specs.Prelude.{◌≡◌, ℕ, List, [], ◌∷◌, ◌++◌, ◌⊎◌, Option, ⊤, ◌<◌, length, codes, decimal, IsUtf8}
-use Rattle.std.specs.Str.{IsValidUpTo}
+use Rattle.std.specs.Prelude.{◌≡◌, ℕ, List, [], ◌∷◌, ◌++◌, ◌⊎◌, Option, ⊤, ◌<◌, length, codes}
 use Rattle.std.specs.List.{concat}
 use Rattle.std.specs.Io.KnownBytes.{Appends}
 use Rattle.outside_model.specs.Causes.{Rose}
 use Rattle.outside_model.specs.Told.{ToldFile, Holds, FileHolds, AppendsPrefix}
-use Rattle.language_model.specs.Building.{Built}
-use Rattle.reading_model.specs.Reading.{Piece, Stopped, IsReading}
 use Rattle.words_model.specs.Words.{Job, InputFrom, Asks}
 use Rattle.words_model.specs.Words.InputFrom.{Nowhere, StandardInput, FileNamed}
 use Rattle.run_model.specs.Refused.{IsRefused}
 use Rattle.run_model.specs.Checking as checks
-use Rattle.run_model.specs.Inputs.{stop_text}
 use Rattle.run_model.specs.Outcome.{Outcome, usage, refused}
 use Rattle.run_model.specs.Outside.{Stream, Disk}
 use Rattle.run_model.specs.Runs.{MayEnd, MayOpen, InputMayBe, fault_line, memory_line}
@@ -30,27 +26,30 @@ refusal_outcome Usage = usage
 refusal_outcome (BadGrammar text) = refused 3 text.items
 refusal_outcome (BadInput text) = refused 1 text.items
 
--- THE GRAMMAR
+-- what is so of a stop, by its kind: of what is refused, of the name of a file that was not opened, where something was not read or not
+-- written, and where there is no memory
+abbrev pub StopsBy : (Refuses : Refusal → Type 0) (Unopened : List ℕ → Type 0) (Unread Unwritten NoRoom : Type 0) → Stop → Type 0
+StopsBy Refuses Unopened Unread Unwritten NoRoom (Refused refusal) = Refuses refusal
+StopsBy Refuses Unopened Unread Unwritten NoRoom (OpenFault name) = Unopened name.now
+StopsBy Refuses Unopened Unread Unwritten NoRoom ReadFault = Unread
+StopsBy Refuses Unopened Unread Unwritten NoRoom WriteFault = Unwritten
+StopsBy Refuses Unopened Unread Unwritten NoRoom NoMemory = NoRoom
 
--- a text of which P holds is told, or there is no memory
-abbrev pub TellsText : (List ℕ → Type 0) → Stop → Type 0
-TellsText P (Refused Usage) = ⊥
-TellsText P (Refused (BadGrammar text)) = P text.items
-TellsText P (Refused (BadInput text)) = ⊥
-TellsText P (OpenFault name) = ⊥
-TellsText P ReadFault = ⊥
-TellsText P WriteFault = ⊥
-TellsText P NoMemory = ⊤
+-- a grammar is refused with a text of which P holds
+abbrev pub OfGrammar : (List ℕ → Type 0) → Refusal → Type 0
+OfGrammar P Usage = ⊥
+OfGrammar P (BadGrammar text) = P text.items
+OfGrammar P (BadInput text) = ⊥
+
+-- an input is
+abbrev pub OfInput : (List ℕ → Type 0) → Refusal → Type 0
+OfInput P Usage = ⊥
+OfInput P (BadGrammar text) = ⊥
+OfInput P (BadInput text) = P text.items
 
 -- where the grammar was not read from the file of the name
-abbrev pub LoadStops : List ℕ → ToldFile → ℕ → ℕ → Stop → Type 0
-LoadStops name told before after (Refused Usage) = ⊥
-LoadStops name told before after (Refused (BadGrammar text)) = FileHolds told (λ bytes. IsRefused bytes text.items)
-LoadStops name told before after (Refused (BadInput text)) = ⊥
-LoadStops name told before after (OpenFault asked) = Rose before after × (asked.now ≡ name)
-LoadStops name told before after ReadFault = Rose before after
-LoadStops name told before after WriteFault = ⊥
-LoadStops name told before after NoMemory = ⊤
+abbrev pub LoadStops : List ℕ → ToldFile → (Files : Type 0) → Stop → Type 0
+LoadStops name told Files = StopsBy (OfGrammar (λ text. FileHolds told (λ bytes. IsRefused bytes text))) (λ asked. Files × (asked ≡ name)) Files ⊥ ⊤
 
 -- THE INPUT
 
@@ -68,60 +67,21 @@ names_from (FileNamed name) = name ∷ []
 
 -- where the bytes of the input were not read
 abbrev pub ReadStops : (from : InputFrom) → (List ℕ → ToldFile) → Option (List ℕ) → (Files Input : Type 0) → Stop → Type 0
-ReadStops from file left Files Input (Refused Usage) = ⊥
-ReadStops from file left Files Input (Refused (BadGrammar text)) = ⊥
-ReadStops from file left Files Input (Refused (BadInput text)) =
-    (text.items ≡ codes "input is longer than 16777216 bytes") × InputHolds from file left (λ bytes. 16777216 < length bytes)
-ReadStops from file left Files Input (OpenFault name) = Files × (from ≡ FileNamed name.now)
-ReadStops from file left Files Input ReadFault = Files ⊎ Input
-ReadStops from file left Files Input WriteFault = ⊥
-ReadStops from file left Files Input NoMemory = ⊤
+ReadStops from file left Files Input =
+    StopsBy (OfInput (λ text. (text ≡ codes "input is longer than 16777216 bytes") × InputHolds from file left (λ bytes. 16777216 < length bytes)))
+    (λ asked. Files × (from ≡ FileNamed asked)) (Files ⊎ Input) ⊥ ⊤
 
 -- where those of a file were not read
 abbrev pub FileStops : List ℕ → ToldFile → (Files : Type 0) → Stop → Type 0
-FileStops name told Files (Refused Usage) = ⊥
-FileStops name told Files (Refused (BadGrammar text)) = ⊥
-FileStops name told Files (Refused (BadInput text)) = (text.items ≡ codes "input is longer than 16777216 bytes") × FileHolds told (λ bytes. 16777216 < length bytes)
-FileStops name told Files (OpenFault asked) = Files × (asked.now ≡ name)
-FileStops name told Files ReadFault = Files
-FileStops name told Files WriteFault = ⊥
-FileStops name told Files NoMemory = ⊤
+FileStops name told Files =
+    StopsBy (OfInput (λ text. (text ≡ codes "input is longer than 16777216 bytes") × FileHolds told (λ bytes. 16777216 < length bytes)))
+    (λ asked. Files × (asked ≡ name)) Files ⊥ ⊤
 
 -- where those of the standard input were not read
 abbrev pub SourceStops : Option (List ℕ) → (Input : Type 0) → Stop → Type 0
-SourceStops left Input (Refused Usage) = ⊥
-SourceStops left Input (Refused (BadGrammar text)) = ⊥
-SourceStops left Input (Refused (BadInput text)) = (text.items ≡ codes "input is longer than 16777216 bytes") × Holds left (λ bytes. 16777216 < length bytes)
-SourceStops left Input (OpenFault name) = ⊥
-SourceStops left Input ReadFault = Input
-SourceStops left Input WriteFault = ⊥
-SourceStops left Input NoMemory = ⊤
-
--- a text of which P holds is told of the input, or there is no memory
-abbrev pub TellsInput : (List ℕ → Type 0) → Stop → Type 0
-TellsInput P (Refused Usage) = ⊥
-TellsInput P (Refused (BadGrammar text)) = ⊥
-TellsInput P (Refused (BadInput text)) = P text.items
-TellsInput P (OpenFault name) = ⊥
-TellsInput P ReadFault = ⊥
-TellsInput P WriteFault = ⊥
-TellsInput P NoMemory = ⊤
-
--- the text tells where the bytes are not UTF-8
-pub record IsBrokenText (bytes text : List ℕ) : Type 0 where
-  pub at : ℕ
-  pub broken : ¬ (IsUtf8 bytes)
-  pub front : IsValidUpTo bytes at
-  pub told : text ≡ codes "input is not UTF-8 at byte " ++ decimal at
-
--- the text tells where reading these characters stops
-pub record IsStopText (b : Built) (cs text : List ℕ) : Type 0 where
-  pub pieces : List Piece
-  pub at : ℕ
-  pub found : List ℕ
-  pub expected : List ℕ
-  pub reading : IsReading b cs pieces (Stopped at found expected)
-  pub told : text ≡ stop_text b.g1 cs at found expected
+SourceStops left Input =
+    StopsBy (OfInput (λ text. (text ≡ codes "input is longer than 16777216 bytes") × Holds left (λ bytes. 16777216 < length bytes)))
+    (λ name. ⊥) Input ⊥ ⊤
 
 -- an outcome over what may be the input
 abbrev pub MayRead : (List ℕ → Outcome → Type 0) → (from : InputFrom) → (List ℕ → ToldFile) → Option (List ℕ) → Outcome → Type 0
@@ -149,11 +109,9 @@ pub record Does (P : Outcome → Type 0) (before after : Option (List ℕ)) : Ty
 
 -- where the work stopped: a name may be that of a file that was not opened, and something may not have been read
 abbrev pub StopsAt : (P : Outcome → Type 0) (Unopened : List ℕ → Type 0) (Unread : Type 0) → Stream → Stream → Stop → Type 0
-StopsAt P Unopened Unread before after (Refused refusal) = P (refusal_outcome refusal) × Appends before.bytes after.bytes []
-StopsAt P Unopened Unread before after (OpenFault name) = Unopened name.now × Appends before.bytes after.bytes []
-StopsAt P Unopened Unread before after ReadFault = Unread × Appends before.bytes after.bytes []
-StopsAt P Unopened Unread before after WriteFault = Rose before.faults after.faults × AppendsFront P before.bytes after.bytes
-StopsAt P Unopened Unread before after NoMemory = AppendsFront P before.bytes after.bytes
+StopsAt P Unopened Unread before after =
+    StopsBy (λ refusal. P (refusal_outcome refusal) × Appends before.bytes after.bytes []) (λ name. Unopened name × Appends before.bytes after.bytes [])
+    (Unread × Appends before.bytes after.bytes []) (Rose before.faults after.faults × AppendsFront P before.bytes after.bytes) (AppendsFront P before.bytes after.bytes)
 
 -- where only writing and memory may have failed
 abbrev pub WriteStops : (P : Outcome → Type 0) → Stream → Stream → Stop → Type 0
@@ -161,11 +119,9 @@ WriteStops P before after stop = StopsAt P (λ name. ⊥) ⊥ before after stop
 
 -- lines were not all written: a front of their text was
 abbrev pub LinesStop : List (List ℕ) → Stream → Stream → Stop → Type 0
-LinesStop lines before after (Refused refusal) = ⊥
-LinesStop lines before after (OpenFault name) = ⊥
-LinesStop lines before after ReadFault = ⊥
-LinesStop lines before after WriteFault = Rose before.faults after.faults × AppendsPrefix before.bytes after.bytes (concat lines)
-LinesStop lines before after NoMemory = AppendsPrefix before.bytes after.bytes (concat lines)
+LinesStop lines before after =
+    StopsBy (λ refusal. ⊥) (λ name. ⊥) ⊥ (Rose before.faults after.faults × AppendsPrefix before.bytes after.bytes (concat lines))
+    (AppendsPrefix before.bytes after.bytes (concat lines))
 
 -- an outcome that a run by the words may have
 abbrev pub MayHave : List (List ℕ) → (List ℕ → ToldFile) → Option (List ℕ) → Outcome → Type 0

@@ -3,15 +3,12 @@
 
 mod checking;
 mod expecting;
-mod forests;
 mod grammar;
 mod inputs;
 mod laws;
 mod messages;
-mod reading;
 mod reporting;
 mod stop;
-mod task;
 mod telling;
 mod top;
 mod values;

@@ -15,6 +15,8 @@ const FAULT: u8 = 4;
 
 const OUT_OF_MEMORY: u8 = 5;
 
+const USAGE: &[u8] = b"usage: slif JOB [options]; jobs: run, check, expect, progress, work";
+
 /// Writes the line of a stop, and answers the status.
 pub fn report<E: Sink>(alloc: Global, stop: Stop<'_>, err: &mut E) -> u8
     ensures { Reports (stream E.contents E.fault_count err.old) (stream E.contents E.fault_count err.new) result stop.entry }
@@ -55,10 +57,7 @@ fn refusal_line(alloc: Global, refusal: &Refusal) -> Result<Vec<u8>, AllocError>
     ensures { IfOk result (λ line. line.items ≡ (refusal_outcome refusal.now).line) }
 {
     match refusal {
-        Refusal::Usage => Vec::from_slice(
-            alloc,
-            b"slif: usage: slif JOB [options]; jobs: run, check, expect, progress, work\n",
-        ),
+        Refusal::Usage => message(alloc, USAGE),
         Refusal::Grammar { text } | Refusal::Input { text } => message(alloc, text),
     }
 }

@@ -2,7 +2,7 @@
 ghost use Rattle.std.specs.Prelude.{◌≡◌, ◌≤◌, ◌<◌, All, map, length, IfOk, IfErr, OnOk};
 ghost use Rattle.run_model.specs.Telling.{report_line, no_set_text};
 ghost use Rattle.run_model.specs.Outside.{stream};
-ghost use Rattle.run_model.specs.Jobs.Task.{Report};
+ghost use Rattle.words_model.specs.Words.Telling.{Report};
 ghost use Rattle.scanless.specs.Reading.{IsReadingOf};
 ghost use Rattle.scanless.specs.declared.reading.Ending.TheVariants.{End};
 ghost use Rattle.slif_cli.specs.Stops.{Does, WriteStops};

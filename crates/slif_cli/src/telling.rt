@@ -1,70 +1,70 @@
 // What is told of an input.
-ghost use Rattle.std.specs.Prelude.{◌≡◌, ◌≤◌, ◌⊎◌, length, option_copied, IfErr, OnOk};
+ghost use Rattle.std.specs.Prelude.{◌≡◌, ◌≢◌, ◌≤◌, ◌⊎◌, length, IfErr, OnOk};
 ghost use Rattle.outside_model.specs.Causes.{Rose};
 ghost use Rattle.outside_model.specs.Told.{SameFiles, AsksAmong};
-ghost use Rattle.words_model.specs.Words.{input_named};
-ghost use Rattle.words_model.specs.Words.InputFrom.{StandardInput, FileNamed};
-ghost use Rattle.run_model.specs.Outcome.{IsTaskOutcome};
+ghost use Rattle.words_model.specs.Words.InputFrom.{Nowhere, StandardInput, FileNamed};
+ghost use Rattle.run_model.specs.Outcome.{IsInputOutcome};
+ghost use Rattle.run_model.specs.Steps.{InputWithin};
+ghost use Rattle.command_line.specs.Jobs.{telling_of, input_of};
 ghost use Rattle.run_model.specs.Outside.{stream};
 ghost use Rattle.valuator.specs.Told.{states};
 ghost use Rattle.value_lines.specs.Writing.{AreBothTellers};
 ghost use Rattle.scanless.specs.Reading.{IsReadingOf};
 ghost use Rattle.scanless.specs.declared.reading.Ending.TheVariants.{End};
 ghost use Rattle.slif_cli.specs.Stops.{Does, InputHolds, MayRead, StopsAt, WriteStops, names_from};
-ghost use Rattle.slif_cli.specs.Tasks.{task_of, TellsReading, TaskWithin, GoesOnWithin};
+ghost use Rattle.slif_cli.specs.Tasks.{TellsReading, GoesOnWithin};
 
 use crate::expecting::write_expected;
-use crate::inputs::{input_chars, read_bytes};
-use crate::reading::read_text;
+use crate::inputs::read_bytes;
 use crate::reporting::write_report;
 use crate::stop::Stop;
-use crate::task::Task;
 use crate::values::write_values;
+use command_line::{InputFrom, Telling};
 use scanless::{Prepared, Reading};
 use slif_base::{Chars, Files, Sink, Source, Steps};
 use std::alloc::Global;
 use std::sync::ledger::Ledger;
+use text_reading::{input_chars, read_text};
 use valuator::Teller;
 
 /// Reads the input and writes what is told of it.
 pub fn tell_input<'a, F: Files, I: Source, O: Sink, L: Ledger>(
     alloc: Global,
     prepared: &Prepared,
-    task: Task<'_>,
-    name: Option<&'a str>,
+    what: Telling,
+    from: InputFrom<'a>,
     files: &mut F,
     input: &mut I,
     out: &mut O,
     tellers: Vec<Box<dyn Teller>>,
     steps: &mut Steps<L>,
 ) -> Result<(), Stop<'a>>
+    requires somewhere { input_of from ≢ Nowhere }
     requires tellers { AreBothTellers (states tellers.items shows held) }
-    ensures done { OnOk result (Does (MayRead (IsTaskOutcome (task_of task.entry) prepared.now) (input_named (option_copied name.entry)) (F.told files.old) (I.left input.old))
+    ensures done { OnOk result (Does (MayRead (IsInputOutcome (telling_of what) prepared.now) (input_of from.entry) (F.told files.old) (I.left input.old))
         (O.contents out.old) (O.contents out.new)) }
-    ensures stops { IfErr result (StopsAt (MayRead (IsTaskOutcome (task_of task.entry) prepared.now) (input_named (option_copied name.entry)) (F.told files.old) (I.left input.old))
-        (λ asked. Rose (F.fault_count files.old) (F.fault_count files.new) × (input_named (option_copied name.entry) ≡ FileNamed asked))
+    ensures stops { IfErr result (StopsAt (MayRead (IsInputOutcome (telling_of what) prepared.now) (input_of from.entry) (F.told files.old) (I.left input.old))
+        (λ asked. Rose (F.fault_count files.old) (F.fault_count files.new) × (input_of from.entry ≡ FileNamed asked))
         (Rose (F.fault_count files.old) (F.fault_count files.new) ⊎ Rose (I.fault_count input.old) (I.fault_count input.new))
         (stream O.contents O.fault_count out.old) (stream O.contents O.fault_count out.new)) }
-    ensures counted { OnOk result (InputHolds (input_named (option_copied name.entry)) (F.told files.old) (I.left input.old)
-        (λ bytes. TaskWithin (task_of task.entry) prepared.now bytes steps.old steps.new)) }
+    ensures counted { OnOk result (InputHolds (input_of from.entry) (F.told files.old) (I.left input.old)
+        (λ bytes. InputWithin (telling_of what) prepared.now bytes steps.old steps.new)) }
     ensures later { F.fault_count files.old ≤ F.fault_count files.new }
     ensures input_later { I.fault_count input.old ≤ I.fault_count input.new }
     ensures out_later { O.fault_count out.old ≤ O.fault_count out.new }
     ensures held { SameFiles (F.told files.old) (F.told files.new) }
-    ensures asks { AsksAmong (F.asked files.old) (F.asked files.new) (names_from (input_named (option_copied name.entry))) }
-    ensures input { (input.new ≡ input.old) ⊎ (input_named (option_copied name.entry) ≡ StandardInput) }
+    ensures asks { AsksAmong (F.asked files.old) (F.asked files.new) (names_from (input_of from.entry)) }
+    ensures input { (input.new ≡ input.old) ⊎ (input_of from.entry ≡ StandardInput) }
 {
-    match read_bytes(alloc, name, files, input) {
-        Ok(bytes) => tell_bytes(alloc, prepared, task, &bytes, out, tellers, steps),
-        Err(stop) => Err(stop),
-    }
+    let bytes = read_bytes(alloc, from, files, input)?;
+    tell_bytes(alloc, prepared, what, &bytes, out, tellers, steps)
 }
 
 // Writes what is told of the bytes of an input.
 fn tell_bytes<'a, O: Sink, L: Ledger>(
     alloc: Global,
     prepared: &Prepared,
-    task: Task<'_>,
+    what: Telling,
     bytes: &[u8],
     out: &mut O,
     tellers: Vec<Box<dyn Teller>>,
@@ -72,27 +72,22 @@ fn tell_bytes<'a, O: Sink, L: Ledger>(
 ) -> Result<(), Stop<'a>>
     requires few { length bytes.now ≤ 16777216 }
     requires tellers { AreBothTellers (states tellers.items shows held) }
-    ensures done { OnOk result (Does (IsTaskOutcome (task_of task.entry) prepared.now bytes.now) (O.contents out.old) (O.contents out.new)) }
-    ensures stops { IfErr result (WriteStops (IsTaskOutcome (task_of task.entry) prepared.now bytes.now)
+    ensures done { OnOk result (Does (IsInputOutcome (telling_of what) prepared.now bytes.now) (O.contents out.old) (O.contents out.new)) }
+    ensures stops { IfErr result (WriteStops (IsInputOutcome (telling_of what) prepared.now bytes.now)
         (stream O.contents O.fault_count out.old) (stream O.contents O.fault_count out.new)) }
-    ensures counted { OnOk result (TaskWithin (task_of task.entry) prepared.now bytes.now steps.old steps.new) }
+    ensures counted { OnOk result (InputWithin (telling_of what) prepared.now bytes.now steps.old steps.new) }
     ensures out_later { O.fault_count out.old ≤ O.fault_count out.new }
 {
-    let chars = match input_chars(alloc, bytes) {
-        Ok(chars) => chars,
-        Err(stop) => return Err(stop),
-    };
-    match read_text(alloc, prepared, &chars, steps) {
-        Ok(reading) => tell_reading(alloc, prepared, task, &chars, &reading, out, tellers, steps),
-        Err(stop) => Err(stop),
-    }
+    let chars = input_chars(alloc, bytes)?;
+    let reading = read_text(alloc, prepared, &chars, steps)?;
+    tell_reading(alloc, prepared, what, &chars, &reading, out, tellers, steps)
 }
 
 // Writes what is told of characters that are read to their end.
 fn tell_reading<'a, O: Sink, L: Ledger>(
     alloc: Global,
     prepared: &Prepared,
-    task: Task<'_>,
+    what: Telling,
     chars: &Chars,
     reading: &Reading<'_>,
     out: &mut O,
@@ -102,17 +97,17 @@ fn tell_reading<'a, O: Sink, L: Ledger>(
     requires few { length chars.now ≤ 16777216 }
     requires read { IsReadingOf prepared.now chars.now reading.now.recce reading.now.spans.items End }
     requires tellers { AreBothTellers (states tellers.items shows held) }
-    ensures done { OnOk result (Does (TellsReading (task_of task.entry) prepared.now chars.now) (O.contents out.old) (O.contents out.new)) }
-    ensures stops { IfErr result (WriteStops (TellsReading (task_of task.entry) prepared.now chars.now)
+    ensures done { OnOk result (Does (TellsReading (telling_of what) prepared.now chars.now) (O.contents out.old) (O.contents out.new)) }
+    ensures stops { IfErr result (WriteStops (TellsReading (telling_of what) prepared.now chars.now)
         (stream O.contents O.fault_count out.old) (stream O.contents O.fault_count out.new)) }
-    ensures counted { OnOk result (GoesOnWithin (task_of task.entry) prepared.now chars.now reading.now.recce steps.old steps.new) }
+    ensures counted { OnOk result (GoesOnWithin (telling_of what) prepared.now chars.now reading.now.recce steps.old steps.new) }
     ensures out_later { O.fault_count out.old ≤ O.fault_count out.new }
 {
-    match task {
-        Task::Values(asked) => write_values(
+    match what {
+        Telling::Values(asked) => write_values(
             alloc, prepared, asked, chars, reading, out, tellers, steps,
         ),
-        Task::Expected => write_expected(alloc, prepared, chars, reading, out),
-        Task::Report { at } => write_report(alloc, prepared, at, chars, reading, out),
+        Telling::Expected => write_expected(alloc, prepared, chars, reading, out),
+        Telling::Report { at } => write_report(alloc, prepared, at, chars, reading, out),
     }
 }

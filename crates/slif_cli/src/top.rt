@@ -1,25 +1,24 @@
 // The top call.
-ghost use Rattle.std.specs.Prelude.{◌≡◌, ◌≤◌, ◌⊎◌, ℕ, List, [], ◌∷◌, Option, map, string_bytes, option_copied, OnOk, IfErr};
+ghost use Rattle.std.specs.Prelude.{◌≡◌, ◌≤◌, ◌≢◌, ◌⊎◌, ℕ, List, [], ◌∷◌, Option, Some, IsTrue, is_some, map, string_bytes, option_copied, OnOk, IfErr};
 ghost use Rattle.outside_model.specs.Told.{SameFiles, AsksAmong};
 ghost use Rattle.words_model.specs.Words as asked_words;
-ghost use Rattle.words_model.specs.Words.{Asks, input_named, Check as AskedCheck};
+ghost use Rattle.words_model.specs.Words.{Asks, Nowhere};
 ghost use Rattle.run_model.specs.Outside.{Outside, Stream, stream, disk};
 ghost use Rattle.run_model.specs.Runs.{Runs, AsksNames, ReadsInput};
 ghost use Rattle.run_model.specs.Steps.{RunsWithin};
-ghost use Rattle.command_line.specs.Jobs.{job_of};
+ghost use Rattle.command_line.specs.Jobs.{job_of, telling_of, input_of};
 ghost use Rattle.valuator.specs.Told.{states};
 ghost use Rattle.value_lines.specs.Writing.{AreBothTellers};
 ghost use Rattle.slif_cli.specs.Stops.{Does, MayHave, WorkStops, DoesJob, JobStops};
-ghost use Rattle.slif_cli.specs.Tasks.{task_of, IsTaskJob};
+ghost use Rattle.slif_cli.specs.Tasks.{IsCheckJob, IsTellJob};
 
 use crate::checking::write_check;
 use crate::grammar::load_grammar;
 use crate::messages::report;
 use crate::stop::{Refusal, Stop};
-use crate::task::Task;
 use crate::telling::tell_input;
 use crate::working::work_of_size;
-use command_line::{Job, read_words};
+use command_line::{InputFrom, Job, Task, Telling, read_words};
 use slif_base::{Files, Sink, Source, Steps};
 use std::alloc::Global;
 use std::sync::ledger::Ledger;
@@ -88,10 +87,10 @@ fn work<'a, F: Files, I: Source, O: Sink, L: Ledger>(
         Ok(None) => return Err(Stop::Refused(Refusal::Usage)),
         Err(_) => return Err(Stop::NoMemory),
     };
-    do_job(alloc, job, files, input, out, tellers, steps)
+    do_task(alloc, job, files, input, out, tellers, steps)
 }
 
-fn do_job<'a, F: Files, I: Source, O: Sink, L: Ledger>(
+fn do_task<'a, F: Files, I: Source, O: Sink, L: Ledger>(
     alloc: Global,
     job: Job<'a>,
     files: &mut F,
@@ -112,49 +111,26 @@ fn do_job<'a, F: Files, I: Source, O: Sink, L: Ledger>(
     ensures input { (input.new ≡ input.old) ⊎ ((words : List (List ℕ)) → Asks words (job_of job.entry) → ReadsInput words (F.told files.old)) }
     ensures held { SameFiles (F.told files.old) (F.told files.new) }
 {
-    match job {
-        Job::Run(asked) => do_task(
-            alloc,
-            asked.grammar,
-            asked.input,
-            Task::Values(asked),
-            files,
-            input,
-            out,
-            tellers,
-            steps,
-        ),
-        Job::Check { grammar } => check_grammar(alloc, grammar, files, out),
-        Job::Expect {
-            grammar,
-            input: name,
-        } => do_task(
-            alloc,
-            grammar,
-            name,
-            Task::Expected,
-            files,
-            input,
-            out,
-            tellers,
-            steps,
-        ),
-        Job::Progress {
-            grammar,
-            at,
-            input: name,
-        } => do_task(
-            alloc,
-            grammar,
-            name,
-            Task::Report { at },
-            files,
-            input,
-            out,
-            tellers,
-            steps,
-        ),
-        Job::Work { size } => work_of_size(alloc, size, out, steps),
+    match job.task {
+        Task::Check => check_grammar(alloc, grammar_file(job.grammar), files, out),
+        Task::Tell(what) => {
+            let grammar = grammar_file(job.grammar);
+            tell_by(
+                alloc, grammar, what, job.input, files, input, out, tellers, steps,
+            )
+        }
+        Task::Work { size } => work_of_size(alloc, size, out, steps),
+    }
+}
+
+// The file of the grammar, which there is.
+fn grammar_file<'a>(name: Option<&'a str>) -> &'a str
+    requires { IsTrue (is_some name) }
+    ensures { option_copied name.entry ≡ Some result.now }
+{
+    match name {
+        Some(name) => name,
+        None => unreachable!(),
     }
 }
 
@@ -165,50 +141,48 @@ fn check_grammar<'a, F: Files, O: Sink>(
     files: &mut F,
     out: &mut O,
 ) -> Result<(), Stop<'a>>
-    ensures done { OnOk result ((left : Option (List ℕ)) → DoesJob (AskedCheck name.now) (F.told files.old) left (O.contents out.old) (O.contents out.new)) }
-    ensures stops { IfErr result (λ stop. (input : Stream) → JobStops (AskedCheck name.now)
+    ensures done { OnOk result ((job : asked_words.Job) → IsCheckJob job name.now → (left : Option (List ℕ)) →
+        DoesJob job (F.told files.old) left (O.contents out.old) (O.contents out.new)) }
+    ensures stops { IfErr result (λ stop. (job : asked_words.Job) → IsCheckJob job name.now → (input : Stream) → JobStops job
         (disk F.told F.fault_count files.old) (disk F.told F.fault_count files.new) input input
         (stream O.contents O.fault_count out.old) (stream O.contents O.fault_count out.new) stop) }
     ensures asks { AsksAmong (F.asked files.old) (F.asked files.new) (name.now ∷ []) }
     ensures held { SameFiles (F.told files.old) (F.told files.new) }
 {
-    match load_grammar(alloc, name, files) {
-        Ok(prepared) => write_check(alloc, &prepared, out),
-        Err(stop) => Err(stop),
-    }
+    let prepared = load_grammar(alloc, name, files)?;
+    write_check(alloc, &prepared, out)
 }
 
 // Reads the grammar of that name and the input, and writes what is told of the input.
-fn do_task<'a, F: Files, I: Source, O: Sink, L: Ledger>(
+fn tell_by<'a, F: Files, I: Source, O: Sink, L: Ledger>(
     alloc: Global,
     grammar: &'a str,
-    name: Option<&'a str>,
-    task: Task<'_>,
+    what: Telling,
+    from: InputFrom<'a>,
     files: &mut F,
     input: &mut I,
     out: &mut O,
     tellers: Vec<Box<dyn Teller>>,
     steps: &mut Steps<L>,
 ) -> Result<(), Stop<'a>>
+    requires somewhere { input_of from ≢ Nowhere }
     requires tellers { AreBothTellers (states tellers.items shows held) }
-    ensures done { OnOk result ((job : asked_words.Job) → IsTaskJob job grammar.now (input_named (option_copied name.entry)) (task_of task.entry) →
+    ensures done { OnOk result ((job : asked_words.Job) → IsTellJob job grammar.now (input_of from.entry) (telling_of what) →
         DoesJob job (F.told files.old) (I.left input.old) (O.contents out.old) (O.contents out.new)) }
-    ensures stops { IfErr result (λ stop. (job : asked_words.Job) → IsTaskJob job grammar.now (input_named (option_copied name.entry)) (task_of task.entry) → JobStops job
+    ensures stops { IfErr result (λ stop. (job : asked_words.Job) → IsTellJob job grammar.now (input_of from.entry) (telling_of what) → JobStops job
         (disk F.told F.fault_count files.old) (disk F.told F.fault_count files.new)
         (stream I.left I.fault_count input.old) (stream I.left I.fault_count input.new)
         (stream O.contents O.fault_count out.old) (stream O.contents O.fault_count out.new) stop) }
-    ensures counted { OnOk result ((job : asked_words.Job) → IsTaskJob job grammar.now (input_named (option_copied name.entry)) (task_of task.entry) →
+    ensures counted { OnOk result ((job : asked_words.Job) → IsTellJob job grammar.now (input_of from.entry) (telling_of what) →
         (words : List (List ℕ)) → Asks words job → RunsWithin words (F.told files.old) (I.left input.old) steps.old steps.new) }
-    ensures asks { (job : asked_words.Job) → IsTaskJob job grammar.now (input_named (option_copied name.entry)) (task_of task.entry) →
+    ensures asks { (job : asked_words.Job) → IsTellJob job grammar.now (input_of from.entry) (telling_of what) →
         (words : List (List ℕ)) → Asks words job → AsksNames words (F.told files.old) (F.asked files.old) (F.asked files.new) }
-    ensures input { (input.new ≡ input.old) ⊎ ((job : asked_words.Job) → IsTaskJob job grammar.now (input_named (option_copied name.entry)) (task_of task.entry) →
+    ensures input { (input.new ≡ input.old) ⊎ ((job : asked_words.Job) → IsTellJob job grammar.now (input_of from.entry) (telling_of what) →
         (words : List (List ℕ)) → Asks words job → ReadsInput words (F.told files.old)) }
     ensures held { SameFiles (F.told files.old) (F.told files.new) }
 {
-    match load_grammar(alloc, grammar, files) {
-        Ok(prepared) => tell_input(
-            alloc, &prepared, task, name, files, input, out, tellers, steps,
-        ),
-        Err(stop) => Err(stop),
-    }
+    let prepared = load_grammar(alloc, grammar, files)?;
+    tell_input(
+        alloc, &prepared, what, from, files, input, out, tellers, steps,
+    )
 }

@@ -3,7 +3,7 @@ ghost use Rattle.std.specs.Prelude.{◌≤◌, length, IfErr, OnOk};
 ghost use Rattle.std.specs.List.{concat};
 ghost use Rattle.std.specs.Io.KnownBytes.{Appends};
 ghost use Rattle.run_model.specs.Outside.{stream};
-ghost use Rattle.run_model.specs.Jobs.Task.{Values};
+ghost use Rattle.words_model.specs.Words.Telling.{Values};
 ghost use Rattle.run_model.specs.Telling.{stats_lines};
 ghost use Rattle.command_line.specs.Jobs.{asked_of};
 ghost use Rattle.valuator.specs.Told.{states};
@@ -15,23 +15,23 @@ ghost use Rattle.slif_cli.specs.Stops.{Does, WriteStops, LinesStop};
 ghost use Rattle.slif_cli.specs.Tasks.{TellsReading, GoesOnWithin};
 
 use crate::checking::write_lines;
-use crate::forests::forest_of;
 use crate::stop::Stop;
 use bocage::Stats;
 use bumpalo::Bump;
-use command_line::RunAsked;
+use command_line::ValuesAsked;
 use scanless::{Prepared, Reading};
 use slif_base::{Chars, Sink, Steps};
 use std::alloc::Global;
 use std::sync::ledger::Ledger;
+use text_reading::forest_of;
 use valuator::Teller;
-use value_lines::{WriteRefusal, stats_line, write_derivations};
+use value_lines::{stats_line, write_derivations};
 
 /// Writes the values that are asked for, one a line, and behind them the line of the numbers, where it is asked for.
 pub fn write_values<'a, O: Sink, L: Ledger>(
     alloc: Global,
     prepared: &Prepared,
-    asked: RunAsked<'_>,
+    asked: ValuesAsked,
     chars: &Chars,
     reading: &Reading<'_>,
     out: &mut O,
@@ -41,15 +41,15 @@ pub fn write_values<'a, O: Sink, L: Ledger>(
     requires few { length chars.now ≤ 16777216 }
     requires read { IsReadingOf prepared.now chars.now reading.now.recce reading.now.spans.items End }
     requires tellers { AreBothTellers (states tellers.items shows held) }
-    ensures done { OnOk result (Does (TellsReading (Values (asked_of asked.entry)) prepared.now chars.now) (O.contents out.old) (O.contents out.new)) }
-    ensures stops { IfErr result (WriteStops (TellsReading (Values (asked_of asked.entry)) prepared.now chars.now)
+    ensures done { OnOk result (Does (TellsReading (Values (asked_of asked)) prepared.now chars.now) (O.contents out.old) (O.contents out.new)) }
+    ensures stops { IfErr result (WriteStops (TellsReading (Values (asked_of asked)) prepared.now chars.now)
         (stream O.contents O.fault_count out.old) (stream O.contents O.fault_count out.new)) }
-    ensures counted { OnOk result (GoesOnWithin (Values (asked_of asked.entry)) prepared.now chars.now reading.now.recce steps.old steps.new) }
+    ensures counted { OnOk result (GoesOnWithin (Values (asked_of asked)) prepared.now chars.now reading.now.recce steps.old steps.new) }
     ensures out_later { O.fault_count out.old ≤ O.fault_count out.new }
 {
     let _place = reading.recce.place();
     let arena = Bump::new(alloc);
-    let forest = match forest_of(
+    let forest = forest_of(
         alloc,
         &arena,
         prepared,
@@ -57,13 +57,10 @@ pub fn write_values<'a, O: Sink, L: Ledger>(
         chars,
         reading,
         steps,
-    ) {
-        Ok(forest) => forest,
-        Err(stop) => return Err(stop),
-    };
+    )?;
     forest.known();
     let stats = forest.stats();
-    match write_derivations(
+    write_derivations(
         alloc,
         prepared,
         chars,
@@ -74,11 +71,8 @@ pub fn write_values<'a, O: Sink, L: Ledger>(
         tellers,
         out,
         steps,
-    ) {
-        Ok(()) => write_stats(alloc, asked.stats, &stats, out),
-        Err(WriteRefusal::WriteFault) => Err(Stop::WriteFault),
-        Err(WriteRefusal::NoMemory) => Err(Stop::NoMemory),
-    }
+    )?;
+    write_stats(alloc, asked.stats, &stats, out)
 }
 
 // Writes the line of the numbers, where it is asked for.

@@ -13,10 +13,6 @@ ghost use Rattle.slif_cli.specs.Stops.{Does, WriteStops};
 ghost use Rattle.slif_cli.specs.Tasks.{WorksWithin};
 
 use crate::checking::write_lines;
-use crate::forests::forest_of;
-use crate::grammar::read_grammar;
-use crate::inputs::input_chars;
-use crate::reading::read_text;
 use crate::stop::Stop;
 use bumpalo::Bump;
 use grammar_model::Ranking;
@@ -24,8 +20,8 @@ use scanless::{Prepared, Reading};
 use slif_base::{Chars, Sink, Steps};
 use std::alloc::{AllocError, Global};
 use std::sync::ledger::Ledger;
+use text_reading::{Refusal, forest_of, input_chars, read_grammar, read_text};
 use value_lines::{count_derivations, work_line};
-use value_text::NoMemory;
 
 const GRAMMAR: &[u8] = b"L ::= I L | I\nI ::= 'a' | '(' L ')'\n";
 
@@ -51,44 +47,74 @@ fn line_of_size<L: Ledger>(
     alloc: Global,
     size: u32,
     steps: &mut Steps<L>,
-) -> Result<Vec<u8>, NoMemory>
+) -> Result<Vec<u8>, AllocError>
     requires { size ≤ 100000 }
     ensures line { IfOk result (λ line. IsWorkOutcome size (done (line.items ∷ []))) }
     ensures counted { OnOk result (WorksWithin size steps.old steps.new) }
 {
     let prepared = own_grammar(alloc)?;
+    line_by(alloc, size, &prepared, steps)
+}
+
+fn line_by<L: Ledger>(
+    alloc: Global,
+    size: u32,
+    prepared: &Prepared,
+    steps: &mut Steps<L>,
+) -> Result<Vec<u8>, AllocError>
+    requires size { size ≤ 100000 }
+    requires grammar { Accepted work_grammar prepared.now }
+    ensures line { IfOk result (λ line. IsWorkOutcome size (done (line.items ∷ []))) }
+    ensures counted { OnOk result (WorksWithin size steps.old steps.new) }
+{
     let chars = own_chars(alloc, size)?;
-    let reading = own_reading(alloc, size, &prepared, &chars, steps)?;
-    line_of_reading(alloc, size, &prepared, &chars, &reading, steps)
+    line_of_chars(alloc, size, prepared, &chars, steps)
+}
+
+fn line_of_chars<L: Ledger>(
+    alloc: Global,
+    size: u32,
+    prepared: &Prepared,
+    chars: &Chars,
+    steps: &mut Steps<L>,
+) -> Result<Vec<u8>, AllocError>
+    requires size { size ≤ 100000 }
+    requires grammar { Accepted work_grammar prepared.now }
+    requires chars { chars.now ≡ chars_in (work_input size) }
+    ensures line { IfOk result (λ line. IsWorkOutcome size (done (line.items ∷ []))) }
+    ensures counted { OnOk result (WorksWithin size steps.old steps.new) }
+{
+    let reading = own_reading(alloc, size, prepared, chars, steps)?;
+    line_of_reading(alloc, size, prepared, chars, &reading, steps)
 }
 
 // What stops job `work`.
-fn no_memory(stop: Stop<'_>) -> NoMemory
-    requires { stop ≡ Stop.NoMemory }
+fn no_memory(refusal: Refusal) -> AllocError
+    requires { refusal ≡ Refusal.NoMemory }
 {
-    match stop {
-        Stop::NoMemory => NoMemory,
+    match refusal {
+        Refusal::NoMemory => AllocError,
         _ => unreachable!(),
     }
 }
 
-fn own_grammar(alloc: Global) -> Result<Prepared, NoMemory>
+fn own_grammar(alloc: Global) -> Result<Prepared, AllocError>
     ensures { IfOk result (Accepted work_grammar) }
 {
     match read_grammar(alloc, GRAMMAR) {
         Ok(prepared) => Ok(prepared),
-        Err(stop) => Err(no_memory(stop)),
+        Err(refusal) => Err(no_memory(refusal)),
     }
 }
 
-fn own_chars(alloc: Global, size: u32) -> Result<Chars, NoMemory>
+fn own_chars(alloc: Global, size: u32) -> Result<Chars, AllocError>
     requires { size ≤ 100000 }
     ensures { IfOk result (λ chars. chars ≡ chars_in (work_input size)) }
 {
     let bytes = work_bytes(alloc, size as usize)?;
     match input_chars(alloc, &bytes) {
         Ok(chars) => Ok(chars),
-        Err(stop) => Err(no_memory(stop)),
+        Err(refusal) => Err(no_memory(refusal)),
     }
 }
 
@@ -109,7 +135,7 @@ fn own_reading<'p, L: Ledger>(
     prepared: &'p Prepared,
     chars: &Chars,
     steps: &mut Steps<L>,
-) -> Result<Reading<'p>, NoMemory>
+) -> Result<Reading<'p>, AllocError>
     requires size { size ≤ 100000 }
     requires grammar { Accepted work_grammar prepared.now }
     requires chars { chars.now ≡ chars_in (work_input size) }
@@ -119,7 +145,7 @@ fn own_reading<'p, L: Ledger>(
     let _ = size;
     match read_text(alloc, prepared, chars, steps) {
         Ok(reading) => Ok(reading),
-        Err(stop) => Err(no_memory(stop)),
+        Err(refusal) => Err(no_memory(refusal)),
     }
 }
 
@@ -130,7 +156,7 @@ fn line_of_reading<L: Ledger>(
     chars: &Chars,
     reading: &Reading<'_>,
     steps: &mut Steps<L>,
-) -> Result<Vec<u8>, NoMemory>
+) -> Result<Vec<u8>, AllocError>
     requires size { size ≤ 100000 }
     requires grammar { Accepted work_grammar prepared.now }
     requires chars { chars.now ≡ chars_in (work_input size) }
@@ -150,11 +176,12 @@ fn line_of_reading<L: Ledger>(
         steps,
     ) {
         Ok(forest) => forest,
-        Err(stop) => return Err(no_memory(stop)),
+        Err(refusal) => return Err(no_memory(refusal)),
     };
     forest.known();
     let stats = forest.stats();
-    let values = count_derivations(alloc, &forest, steps)?;
-    let line = work_line(alloc, size, &stats, values)?;
-    Ok(line)
+    let Ok(values) = count_derivations(alloc, &forest, steps) else {
+        return Err(AllocError);
+    };
+    work_line(alloc, size, &stats, values)
 }

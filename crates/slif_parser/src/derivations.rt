@@ -41,6 +41,7 @@ fn next_with<L: Ledger>(blank: Blank, iter: &mut TreeIter<'_>) -> Result<bool, N
     requires parts { blank.parts ≡ L.parts }
     requires some { 0 < blank.parts }
     ensures answer { IfOk result (λ more. (given : List Tree) → AreGiven iter.old given → IsAnswer iter.new given more) }
+    ensures stands { IfOk result (λ more. IsTrue more → IsSome iter.new.current) }
     ensures end { IfOk result (λ more. IsFalse more → iter.new ≡ between iter.old) }
     ensures forest { iter.new.forest ≡ iter.old.forest }
     ensures err { OnErr result (iter.new ≡ iter.old) }
@@ -75,6 +76,7 @@ impl<'f> Derivations<'f> {
     /// goes on. More than 2^64 - 1 derivations count as too many for memory.
     pub fn next(&mut self) -> Result<bool, NoMemory>
         ensures answer { IfOk result (λ more. (given : List Tree) → AreGiven self.old.iteration given → IsNext self.new given more) }
+        ensures stands { IfOk result (λ more. IsTrue more → IsSome self.new.iteration.current) }
         ensures first { AreGiven self.old.iteration [] → IfOk result IsTrue }
         ensures end { IfOk result (λ more. IsFalse more → self.new.iteration ≡ between self.old.iteration) }
         ensures read { self.new.read ≡ self.old.read }

@@ -6,7 +6,7 @@ use Rattle.std.specs.Bool.{IsTrue}
 use Rattle.grammar_model.specs.Grammar.{Grammar, Slot, no_rule, rule_at, lhs_of, level_of, child_slot, IsTerminal}
 use Rattle.grammar_model.specs.Checked.{IsLeft}
 use Rattle.grammar_core.specs.Written.{IsWritten}
-use Rattle.slot_analysis.specs.Least.{Clause, clause_at, AreBelow, IsLeastSet}
+use Rattle.horn_clauses.specs.Least.{Clause, clause_at, AreBelow, IsLeastSet}
 use Rattle.slot_analysis.specs.Slots.{number, end_of, IsNumbering, body_count, rule_clause, chain_clause, HasLevels, HasTerminals}
 use Rattle.slot_analysis.specs.Clauses.{IsFact, HasClauses, IsOfRule, Can, IsAnalysis}
 use Rattle.slot_analysis.proofs.Known.{lhs_known, head_numbered, child_numbered, body_small}

@@ -1,7 +1,3 @@
-pub mod Found
-pub mod Search
-pub mod Results
-pub mod RowLemmas
 pub mod LevelRows
 pub mod Counting
 pub mod Packing
@@ -16,3 +12,4 @@ pub mod StepLemmas
 pub mod Reaching
 pub mod Telling
 pub mod Asking
+pub mod Few

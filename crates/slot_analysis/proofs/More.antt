@@ -3,10 +3,10 @@ use Rattle.std.proofs.Common.{arith, ◌≡◌, ◌⊎◌, ◌↔◌, inl, inr, 
 use Rattle.std.proofs.lemmas.List.Elements.{Contains-append_left, Contains-push, Contains-push_cases}
 use Rattle.grammar_model.specs.Grammar.{Grammar, rule_at, child_slot, slot_count}
 use Rattle.grammar_model.specs.Analysis.{IsLive, IsProductive}
-use Rattle.slot_analysis.specs.Least.{Clause}
+use Rattle.horn_clauses.specs.Least.{Clause}
 use Rattle.slot_analysis.specs.Slots.{number, end_of, fact_clause}
 use Rattle.slot_analysis.specs.Steps.{unit_clause, HasMore, head_of, IsOfStart, IsOfUse, IsOfNext, IsOfNexts, IsOfPart, IsOfParts}
-use Rattle.slot_analysis.proofs.Search.{same_or_below}
+use Rattle.horn_clauses.proofs.Search.{same_or_below}
 
 pub more_none : (old : List Clause) (Q : Clause → Type 0) → ((c : Clause) → Q c → ⊥) → HasMore old old Q
 more_none old Q none = record { keeps = λ c h. h; only = λ c h. inl h; has = λ c q. absurd (none c q) }

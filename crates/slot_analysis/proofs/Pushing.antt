@@ -1,9 +1,9 @@
 -- Clauses that are added one at a time.
 use Rattle.std.proofs.Common.{arith, ◌≡◌, inl, inr, ℕ, suc, ◌+◌, ◌-◌, ◌<◌, ◌≤◌, Bool, true, false, List, [], ◌∷◌, ◌++◌, Contains, slice_index, slice_index_or, sym, ◌∙◌, ap, subst, true≢false}
 use Rattle.std.proofs.lemmas.List.Elements.{Contains-append_left, Contains-push, Contains-push_cases}
-use Rattle.slot_analysis.specs.Least.{Clause}
+use Rattle.horn_clauses.specs.Least.{Clause}
 use Rattle.slot_analysis.specs.Slots.{end_of, chain_clause, fact_clause, HasChain, HasFacts, HasLevels, HasTerminals}
-use Rattle.slot_analysis.proofs.Search.{same_or_below}
+use Rattle.horn_clauses.proofs.Search.{same_or_below}
 
 pub chain_none : (old : List Clause) (from : ℕ) → HasChain old old from from
 chain_none old from = record { keeps = λ c h. h; only = λ c h. inl h; has = λ x le lt. absurd (omega arith) }

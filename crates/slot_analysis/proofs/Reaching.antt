@@ -5,7 +5,7 @@ use Rattle.std.proofs.lemmas.List.Elements.{Contains-get_or}
 use Rattle.grammar_model.specs.Grammar.{Grammar, Slot, slot_of, rule_at, lhs_of, level_of, child_slot}
 use Rattle.grammar_model.specs.Analysis.{IsProductive, IsAccessibleIn, IsAccessible}
 use Rattle.grammar_core.specs.Written.{IsWritten}
-use Rattle.slot_analysis.specs.Least.{Clause, clause_at, AreBelow, IsDerivedIn, IsClosed, IsLeastSet}
+use Rattle.horn_clauses.specs.Least.{Clause, clause_at, AreBelow, IsDerivedIn, IsClosed, IsLeastSet}
 use Rattle.slot_analysis.specs.Slots.{number, end_of, IsNumbering, IsNumbered, fact_clause}
 use Rattle.slot_analysis.specs.Steps.{unit_clause, head_of, IsStep, IsReach}
 use Rattle.slot_analysis.proofs.Known.{lhs_known, head_numbered, child_numbered}

@@ -6,11 +6,11 @@ use Rattle.std.proofs.lemmas.List.FromFn.{get_or-map-range_with_len, length-map-
 use Rattle.grammar_model.specs.Grammar.{WrittenRule, Plain, Sequence, Grammar, Slot, slot_of, rule_at, lhs_of, level_of, child_slot, EachChildSlot, sequence_symbol}
 use Rattle.grammar_model.specs.Analysis.{SomeRule, IsStar, IsNullableIn, EachNeeded, IsProductiveIn}
 use Rattle.grammar_core.specs.Written.{IsWritten}
-use Rattle.slot_analysis.specs.Least.{Clause, clause_at, IsDerivedIn, IsClosed}
+use Rattle.horn_clauses.specs.Least.{Clause, clause_at, IsDerivedIn, IsClosed}
 use Rattle.slot_analysis.specs.Slots.{number, end_of, IsNumbering, IsNumbered, body_count, rule_clause, chain_clause, fact_clause}
 use Rattle.slot_analysis.specs.Clauses.{IsFact, HasClauses}
 use Rattle.slot_analysis.proofs.Known.{lhs_known, head_numbered, child_numbered, body_small}
-use Rattle.slot_analysis.proofs.Search.{same_or_below}
+use Rattle.horn_clauses.proofs.Search.{same_or_below}
 
 -- both analyses at once
 abbrev pub CanIn : Bool → ℕ → Grammar → Slot → Type 0

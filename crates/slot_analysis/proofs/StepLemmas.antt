@@ -4,7 +4,7 @@ use Rattle.std.specs.Bool.{IsTrue}
 use Rattle.grammar_model.specs.Grammar.{Grammar, WrittenRule, Plain, Sequence, slot_of, rule_at, child_slot, slot_count, lhs_of}
 use Rattle.grammar_model.specs.Analysis.{IsLive, IsProductive}
 use Rattle.grammar_core.specs.Written.{IsWritten}
-use Rattle.slot_analysis.specs.Least.{Clause}
+use Rattle.horn_clauses.specs.Least.{Clause}
 use Rattle.slot_analysis.specs.Slots.{number, IsNumbering, needed_of}
 use Rattle.slot_analysis.specs.Clauses.{IsAnalysis}
 use Rattle.slot_analysis.specs.Steps.{HasMore, head_of, IsOfStart, IsOfUse, IsOfNexts, IsOfParts, IsStep}

@@ -6,7 +6,7 @@ use Rattle.grammar_model.specs.Grammar.{WrittenRule, Plain, Sequence, Grammar, S
 use Rattle.grammar_model.specs.Analysis.{SomeRule, IsStar, IsNullableIn, IsNullable, EachNeeded, IsProductiveIn, IsProductive, IsLive, IsAccessibleIn, IsAccessible}
 use Rattle.grammar_model.specs.Checked.{IsLeft}
 use Rattle.grammar_core.specs.Written.{IsWritten, IsLevelled, symbols_of}
-use Rattle.slot_analysis.specs.Rows.{row_at}
+use Rattle.horn_clauses.specs.Rows.{row_at}
 use Rattle.slot_analysis.specs.Packed.{place, packed_rule, packed, packed_slot, Occurs, IsLevelTable}
 use Rattle.slot_analysis.specs.Slots.{groups_of}
 use Rattle.slot_analysis.proofs.Counting.{below_rises, below_zero, below_next, same_level}

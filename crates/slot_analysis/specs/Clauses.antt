@@ -2,7 +2,7 @@
 use Rattle.std.specs.Prelude.{◌≡◌, ℕ, suc, ◌<◌, ◌≤◌, Bool, true, false, List, length, slice_index, Contains, ◌⊎◌, ◌↔◌}
 use Rattle.grammar_model.specs.Grammar.{Grammar, Slot, rule_at, IsTerminal}
 use Rattle.grammar_model.specs.Analysis.{IsNullable, IsProductive}
-use Rattle.slot_analysis.specs.Least.{Clause}
+use Rattle.horn_clauses.specs.Least.{Clause}
 use Rattle.slot_analysis.specs.Slots.{number, IsNumbered, end_of, rule_clause, chain_clause, fact_clause}
 
 -- terminals are productive; none is nullable. The flag says that separators count, as they do for nullable.

@@ -3,7 +3,7 @@
 use Rattle.std.specs.Prelude.{◌≡◌, ℕ, suc, ◌+◌, ◌<◌, ◌≤◌, List, [], ◌∷◌, length, slice_index, Contains, ◌⊎◌, ◌↔◌}
 use Rattle.grammar_model.specs.Grammar.{Grammar, Slot, rule_at, lhs_of, level_of, child_slot, slot_count}
 use Rattle.grammar_model.specs.Analysis.{IsLive, IsProductive, IsAccessible}
-use Rattle.slot_analysis.specs.Least.{Clause}
+use Rattle.horn_clauses.specs.Least.{Clause}
 use Rattle.slot_analysis.specs.Slots.{number, IsNumbered, end_of, fact_clause}
 
 abbrev pub unit_clause : (head part : ℕ) → Clause

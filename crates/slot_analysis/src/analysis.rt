@@ -3,22 +3,21 @@ ghost use Rattle.std.specs.Prelude.{◌≡◌, ℕ, ◌+◌, ◌-◌, ◌^◌, �
 ghost use Rattle.grammar_model.specs.Grammar.{Slot, slot_of};
 ghost use Rattle.grammar_model.specs.Analysis.{IsNullable, IsProductive, IsAccessible};
 ghost use Rattle.grammar_model.specs.Checked.{IsLeft};
-ghost use Rattle.slot_analysis.specs.Rows.{rows_of};
 ghost use Rattle.slot_analysis.specs.Packed.{packed, IsLevelTable};
 ghost use Rattle.slot_analysis.specs.Slots.{end_of, IsNumbering};
 ghost use Rattle.slot_analysis.specs.Clauses.{IsAnalysis};
 ghost use Rattle.slot_analysis.specs.Steps.{IsReach};
 ghost use Rattle.slot_analysis.specs.Tables.{AreTables};
+ghost use Rattle.slot_analysis.specs.Few.{FewAreAccessible};
 ghost use Rattle.slot_analysis.specs.Tested.{HasTests};
 
 use crate::clauses::{analysis_of, lefts_of};
-use crate::least::is_found;
 use crate::levels::levels_of;
 use crate::packed::{Packed, is_level_at, place_at};
 use crate::slots::bases_of;
 use crate::steps::reach_of;
 use grammar_core::{SymbolId, Written};
-use indexmap::IndexSet;
+use horn_clauses::{NumberSet, Rows};
 use std::alloc::{AllocError, Global};
 use std::marker::Model;
 
@@ -27,39 +26,38 @@ use std::marker::Model;
 pub struct Tables {
     bases: Vec<u32>,
     lefts: Vec<bool>,
-    nullable: IndexSet<u32>,
-    productive: IndexSet<u32>,
-    reach: IndexSet<u32>,
+    nullable: NumberSet,
+    productive: NumberSet,
+    reach: NumberSet,
 }
 
 /// The levels of a grammar, and the tables of its packed slots.
 #[derive(Clone, Copy)]
 pub struct Slots<'a> {
-    pub levels: &'a [Vec<u32>],
+    pub levels: &'a Rows,
     pub bases: &'a [u32],
-    pub nullable: &'a IndexSet<u32>,
-    pub productive: &'a IndexSet<u32>,
-    pub reach: &'a IndexSet<u32>,
+    pub nullable: &'a NumberSet,
+    pub productive: &'a NumberSet,
+    pub reach: &'a NumberSet,
 }
 
 /// A grammar, and which of its slots are nullable, productive and accessible.
 #[derive(Drop)]
 pub struct Analysis<'a> {
     written: &'a Written,
-    levels: Vec<Vec<u32>>,
+    levels: Rows,
     tables: Tables,
 }
 
 impl<'a> Model for Analysis<'a> {
     ghost use Rattle.grammar_model.specs.Grammar.{Grammar};
-    ghost use Rattle.slot_analysis.specs.Rows.{rows_of};
     ghost use Rattle.slot_analysis.specs.Tables.{IsAnalysed};
 
     ghost Value = { Grammar };
 
     ghost view = { λ c. c.written.now };
 
-    ghost invariant = { λ c. IsAnalysed c.written.now (rows_of c.levels.items) c.tables.bases.items c.tables.lefts.items c.tables.nullable.keys c.tables.productive.keys c.tables.reach.keys };
+    ghost invariant = { λ c. IsAnalysed c.written.now c.levels c.tables.bases.items c.tables.lefts.items c.tables.nullable c.tables.productive c.tables.reach };
 }
 
 // The slot's number, if it has one.
@@ -99,7 +97,7 @@ fn is_no_left(lefts: &[bool], s: u32) -> bool
 
 // The tables of a packed grammar.
 fn tables_of(alloc: Global, w: &Packed<'_>) -> Result<Tables, AllocError>
-    ensures { IfOk result (λ t. AreTables w.now t.bases.items t.lefts.items t.nullable.keys t.productive.keys t.reach.keys) }
+    ensures { IfOk result (λ t. AreTables w.now t.bases.items t.lefts.items t.nullable t.productive t.reach) }
 {
     let _ = w.rule_count();
     let bases = bases_of(alloc, w)?;
@@ -116,9 +114,9 @@ fn tables_of(alloc: Global, w: &Packed<'_>) -> Result<Tables, AllocError>
     })
 }
 
-fn packed_tables(alloc: Global, w: &Written, levels: &[Vec<u32>]) -> Result<Tables, AllocError>
-    requires { IsLevelTable w.now (rows_of levels.now) }
-    ensures tables { IfOk result (λ t. AreTables (packed (rows_of levels.now) w.now) t.bases.items t.lefts.items t.nullable.keys t.productive.keys t.reach.keys) }
+fn packed_tables(alloc: Global, w: &Written, levels: &Rows) -> Result<Tables, AllocError>
+    requires { IsLevelTable w.now levels.now }
+    ensures tables { IfOk result (λ t. AreTables (packed levels.now w.now) t.bases.items t.lefts.items t.nullable t.productive t.reach) }
 {
     let _ = w.rule_count();
     let packed = Packed { written: w, levels };
@@ -154,6 +152,13 @@ impl<'a> Analysis<'a> {
         let _count = self.levels.len();
     }
 
+    /// States that few slots are accessible.
+    pub fn few_accessible(&self)
+        ensures { FewAreAccessible self.now }
+    {
+        let _count = self.levels.len();
+    }
+
     /// Whether the symbol is the left side of a rule.
     pub fn is_left(&self, s: SymbolId) -> bool
         requires { s < length self.now.names }
@@ -169,7 +174,7 @@ impl<'a> Analysis<'a> {
     {
         let place = place_at(&self.levels, s.0, level);
         match number_of(&self.tables.bases, s.0, place) {
-            Some(x) => is_found(&self.tables.nullable, x),
+            Some(x) => self.tables.nullable.has(x),
             None => false,
         }
     }
@@ -181,7 +186,7 @@ impl<'a> Analysis<'a> {
     {
         let place = place_at(&self.levels, s.0, level);
         match number_of(&self.tables.bases, s.0, place) {
-            Some(x) => is_found(&self.tables.productive, x),
+            Some(x) => self.tables.productive.has(x),
             None => is_no_left(&self.tables.lefts, s.0),
         }
     }
@@ -212,7 +217,7 @@ impl<'a> Analysis<'a> {
         }
         let place = place_at(&self.levels, s.0, level);
         match number_of(&self.tables.bases, s.0, place) {
-            Some(x) => is_found(&self.tables.reach, x),
+            Some(x) => self.tables.reach.has(x),
             None => false,
         }
     }
@@ -223,16 +228,16 @@ impl<'a> Analysis<'a> {
         ensures { IsTrue result ↔ ((l : ℕ) × IsAccessible self.now (record { symbol = s; level = l })) }
     {
         let x = last_use(&self.tables.bases, s.0);
-        is_found(&self.tables.reach, x)
+        self.tables.reach.has(x)
     }
 
     /// The tables, for a search through the slots.
     pub fn slots(&self) -> Slots<'_>
-        ensures levels { IsLevelTable self.now (rows_of result.levels.now) }
-        ensures numbering { IsNumbering (packed (rows_of result.levels.now) self.now) result.bases.now }
-        ensures nullable { IsAnalysis true (packed (rows_of result.levels.now) self.now) result.bases.now result.nullable.now.keys }
-        ensures productive { IsAnalysis false (packed (rows_of result.levels.now) self.now) result.bases.now result.productive.now.keys }
-        ensures reach { IsReach (packed (rows_of result.levels.now) self.now) result.bases.now result.reach.now.keys }
+        ensures levels { IsLevelTable self.now result.levels.now }
+        ensures numbering { IsNumbering (packed result.levels.now self.now) result.bases.now }
+        ensures nullable { IsAnalysis true (packed result.levels.now self.now) result.bases.now result.nullable.now }
+        ensures productive { IsAnalysis false (packed result.levels.now self.now) result.bases.now result.productive.now }
+        ensures reach { IsReach (packed result.levels.now self.now) result.bases.now result.reach.now }
         ensures small { slice_index result.bases.now (length self.now.names) + slice_index result.bases.now (length self.now.names) < 2 ^ 32 }
     {
         Slots {

@@ -5,9 +5,8 @@ ghost use Rattle.grammar_model.specs.Checked.{IsLeft};
 ghost use Rattle.slot_analysis.specs.Clauses.{HasClauses, IsAnalysis};
 ghost use Rattle.slot_analysis.specs.Slots.{number, end_of, IsNumbering, body_count, needed_of, rule_clause, HasChain, HasFacts, HasLevels, HasTerminals};
 
-use crate::least::{Clause, least_set};
 use crate::packed::Packed;
-use indexmap::IndexSet;
+use horn_clauses::{Clauses, NumberSet, least_set};
 use std::alloc::{AllocError, Global};
 
 /// The number of the tightest slot that the rule fits.
@@ -36,22 +35,23 @@ pub fn child_number(w: &Packed<'_>, bases: &[u32], i: usize, k: usize) -> u32
     bases[symbol as usize] + level
 }
 
-fn body_at(
-    alloc: Global,
+// Puts the body of a rule's clause in the place of what the list had.
+fn put_body(
     w: &Packed<'_>,
     bases: &[u32],
     i: usize,
     separators: bool,
-) -> Result<Vec<u32>, AllocError>
+    body: &mut Vec<u32>,
+) -> Result<(), AllocError>
     requires rule { i < length w.now.rules }
     requires numbering { IsNumbering w.now bases.now }
-    ensures { IfOk result (λ body. body.items ≡ (rule_clause separators bases.now (rule_at w.now i)).body) }
+    ensures { OnOk result (body.new.items ≡ (rule_clause separators bases.now (rule_at w.now i)).body) }
 {
-    let mut body = Vec::new(alloc);
+    body.clear();
     for k in 0..w.count_at(i, separators) {
         body.push(child_number(w, bases, i, k))?;
     }
-    Ok(body)
+    Ok(())
 }
 
 /// The clauses of the rules, in order.
@@ -60,59 +60,44 @@ pub fn push_rules(
     w: &Packed<'_>,
     bases: &[u32],
     separators: bool,
-    clauses: &mut Vec<Clause>,
+    clauses: &mut Clauses,
 ) -> Result<(), AllocError>
     requires { IsNumbering w.now bases.now }
-    ensures { OnOk result (clauses.new.items ≡ clauses.old.items ++ map (rule_clause separators bases.now) w.now.rules) }
+    ensures { OnOk result (clauses.new ≡ clauses.old ++ map (rule_clause separators bases.now) w.now.rules) }
 {
+    let mut body = Vec::new(alloc);
     for i in 0..w.rule_count() {
-        let head = head_number(w, bases, i);
-        let body = body_at(alloc, w, bases, i, separators)?;
-        clauses.push(Clause { head, body })?;
+        put_body(w, bases, i, separators, &mut body)?;
+        clauses.push(head_number(w, bases, i), &body)?;
     }
     Ok(())
 }
 
 // One clause, which takes a number to the one before it.
-fn push_link(alloc: Global, next: u32, clauses: &mut Vec<Clause>) -> Result<(), AllocError>
+fn push_link(next: u32, clauses: &mut Clauses) -> Result<(), AllocError>
     requires { 0 < next }
-    ensures { OnOk result (clauses.new.items ≡ clauses.old.items ++ record { head = next - 1; body = next ∷ [] } ∷ []) }
+    ensures { OnOk result (clauses.new ≡ clauses.old ++ record { head = next - 1; body = next ∷ [] } ∷ []) }
 {
-    let body = vec![in alloc; next]?;
-    clauses.push(Clause {
-        head: next - 1,
-        body,
-    })?;
-    Ok(())
+    clauses.push(next - 1, &[next])
 }
 
-fn push_chain(
-    alloc: Global,
-    from: u32,
-    to: u32,
-    clauses: &mut Vec<Clause>,
-) -> Result<(), AllocError>
+fn push_chain(from: u32, to: u32, clauses: &mut Clauses) -> Result<(), AllocError>
     requires { from < to }
-    ensures { OnOk result (HasChain clauses.old.items clauses.new.items from to) }
+    ensures { OnOk result (HasChain clauses.old clauses.new from to) }
 {
     for next in from + 1..to {
-        push_link(alloc, next, clauses)?;
+        push_link(next, clauses)?;
     }
     Ok(())
 }
 
 // The clauses of the levels of each symbol.
-fn push_levels(
-    alloc: Global,
-    w: &Packed<'_>,
-    bases: &[u32],
-    clauses: &mut Vec<Clause>,
-) -> Result<(), AllocError>
+fn push_levels(w: &Packed<'_>, bases: &[u32], clauses: &mut Clauses) -> Result<(), AllocError>
     requires { IsNumbering w.now bases.now }
-    ensures { OnOk result (HasLevels bases.now (length w.now.names) clauses.old.items clauses.new.items) }
+    ensures { OnOk result (HasLevels bases.now (length w.now.names) clauses.old clauses.new) }
 {
     for s in 0..w.symbol_count() {
-        push_chain(alloc, bases[s], bases[s + 1], clauses)?;
+        push_chain(bases[s], bases[s + 1], clauses)?;
     }
     Ok(())
 }
@@ -130,37 +115,30 @@ pub fn lefts_of(alloc: Global, w: &Packed<'_>) -> Result<Vec<bool>, AllocError>
     Ok(lefts)
 }
 
-fn push_facts(
-    alloc: Global,
-    from: u32,
-    to: u32,
-    clauses: &mut Vec<Clause>,
-) -> Result<(), AllocError>
+fn push_facts(from: u32, to: u32, clauses: &mut Clauses) -> Result<(), AllocError>
     requires { from ≤ to }
-    ensures { OnOk result (HasFacts clauses.old.items clauses.new.items from to) }
+    ensures { OnOk result (HasFacts clauses.old clauses.new from to) }
 {
     for x in from..to {
-        let body = Vec::new(alloc);
-        clauses.push(Clause { head: x, body })?;
+        clauses.push(x, &[])?;
     }
     Ok(())
 }
 
 // The clauses of the terminals.
 fn push_terminals(
-    alloc: Global,
     w: &Packed<'_>,
     bases: &[u32],
     lefts: &[bool],
-    clauses: &mut Vec<Clause>,
+    clauses: &mut Clauses,
 ) -> Result<(), AllocError>
     requires numbering { IsNumbering w.now bases.now }
     requires lefts { length lefts.now ≡ length w.now.names }
-    ensures { OnOk result (HasTerminals bases.now lefts.now (length w.now.names) clauses.old.items clauses.new.items) }
+    ensures { OnOk result (HasTerminals bases.now lefts.now (length w.now.names) clauses.old clauses.new) }
 {
     for s in 0..w.symbol_count() {
         if !lefts[s] {
-            push_facts(alloc, bases[s], bases[s + 1], clauses)?;
+            push_facts(bases[s], bases[s + 1], clauses)?;
         }
     }
     Ok(())
@@ -173,19 +151,19 @@ pub fn clauses_of(
     bases: &[u32],
     lefts: &[bool],
     separators: bool,
-) -> Result<Vec<Clause>, AllocError>
+) -> Result<Clauses, AllocError>
     requires numbering { IsNumbering w.now bases.now }
     requires length { length lefts.now ≡ length w.now.names }
     requires left { (s : ℕ) → IsTrue (slice_index_or lefts.now s false) ↔ IsLeft w.now s }
-    ensures { IfOk result (λ clauses. HasClauses separators w.now bases.now clauses.items) }
+    ensures { IfOk result (λ clauses. HasClauses separators w.now bases.now clauses) }
 {
-    let mut clauses = Vec::new(alloc);
+    let mut clauses = Clauses::new(alloc);
     push_rules(alloc, w, bases, separators, &mut clauses)?;
-    push_levels(alloc, w, bases, &mut clauses)?;
+    push_levels(w, bases, &mut clauses)?;
     if separators {
         return Ok(clauses);
     }
-    push_terminals(alloc, w, bases, lefts, &mut clauses)?;
+    push_terminals(w, bases, lefts, &mut clauses)?;
     Ok(clauses)
 }
 
@@ -196,11 +174,11 @@ pub fn analysis_of(
     bases: &[u32],
     lefts: &[bool],
     separators: bool,
-) -> Result<IndexSet<u32>, AllocError>
+) -> Result<NumberSet, AllocError>
     requires numbering { IsNumbering w.now bases.now }
     requires length { length lefts.now ≡ length w.now.names }
     requires left { (s : ℕ) → IsTrue (slice_index_or lefts.now s false) ↔ IsLeft w.now s }
-    ensures { IfOk result (λ found. IsAnalysis separators w.now bases.now found.keys) }
+    ensures { IfOk result (λ found. IsAnalysis separators w.now bases.now found) }
 {
     let clauses = clauses_of(alloc, w, bases, lefts, separators)?;
     let bound = bases[w.symbol_count()] as usize;

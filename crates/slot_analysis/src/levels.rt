@@ -1,13 +1,13 @@
 //! The levels that occur at each symbol, in order.
 ghost use Rattle.std.specs.Prelude.{◌≡◌, ℕ, ◌+◌, ◌<◌, ◌^◌, length, Contains, IfOk, OnOk, IsTrue, ◌↔◌};
 ghost use Rattle.std.specs.List.Sorted.{IsStrictlyIncreasing};
-ghost use Rattle.slot_analysis.specs.Rows.{rows_of, row_at, HasSameRows};
+ghost use Rattle.horn_clauses.specs.Rows.{row_at, HasSameRows};
 ghost use Rattle.slot_analysis.specs.Packed.{count_below, HasFirsts, HasBoth, HoldsLevels, IsLevelTable};
 
-use crate::least::{add_to_row, empty_rows};
 use crate::rules::{left_of, level_at};
 use grammar_core::Written;
-use std::alloc::{AllocError, AllocFailed, Global};
+use horn_clauses::{Gathered, Rows};
+use std::alloc::{AllocError, Global};
 
 /// How many of the levels are below this one.
 pub fn place(levels: &[u32], level: u32) -> u32
@@ -37,55 +37,69 @@ fn sort(levels: &mut Vec<u32>) -> Result<(), AllocError>
     Ok(())
 }
 
-fn sort_all(rows: &mut Vec<Vec<u32>>) -> Result<(), AllocError>
-    ensures same { OnOk result (HasSameRows (rows_of rows.old.items) (rows_of rows.new.items)) }
-    ensures sorted { OnOk result ((s : ℕ) → IsStrictlyIncreasing (row_at (rows_of rows.new.items) s)) }
+// Puts a row, sorted, in the place of what the list had.
+fn put_sorted(row: &[u32], levels: &mut Vec<u32>) -> Result<(), AllocError>
+    ensures sorted { OnOk result (IsStrictlyIncreasing levels.new.items) }
+    ensures same { OnOk result ((l : ℕ) → Contains levels.new.items l ↔ Contains row.now l) }
 {
+    levels.clear();
+    levels.extend_from_slice(row)?;
+    sort(levels)
+}
+
+// The rows, each of them sorted.
+fn sort_all(alloc: Global, rows: &Rows) -> Result<Rows, AllocError>
+    ensures same { IfOk result (λ sorted. HasSameRows rows.now sorted) }
+    ensures sorted { IfOk result (λ sorted. (s : ℕ) → IsStrictlyIncreasing (row_at sorted s)) }
+{
+    let mut sorted = Rows::new(alloc);
+    let mut levels = Vec::new(alloc);
     for s in 0..rows.len() {
-        sort(&mut rows[s])?;
+        put_sorted(rows.row(s), &mut levels)?;
+        sorted.push(&levels)?;
     }
-    Ok(())
+    Ok(sorted)
 }
 
 // Level 0 in each row.
-fn push_firsts(rows: &mut Vec<Vec<u32>>) -> Result<(), AllocFailed<u32>>
-    ensures { OnOk result (HasFirsts (length rows.old.items) (rows_of rows.new.items)) }
+fn push_firsts(rows: &mut Gathered) -> Result<(), AllocError>
+    requires { length rows.old < 2 ^ 32 }
+    ensures { OnOk result (HasFirsts (length rows.old) rows.new) }
 {
     for s in 0..rows.len() {
-        add_to_row(rows, s, 0)?;
+        rows.add(s as u32, 0)?;
     }
     Ok(())
 }
 
 // A level and the next one in a row.
-fn push_level(rows: &mut Vec<Vec<u32>>, x: usize, level: u32) -> Result<(), AllocFailed<u32>>
-    requires row { x < length rows.old.items }
+fn push_level(rows: &mut Gathered, x: u32, level: u32) -> Result<(), AllocError>
+    requires row { x < length rows.old }
     requires small { level + 1 < 2 ^ 32 }
-    ensures { OnOk result (HasBoth (rows_of rows.old.items) (rows_of rows.new.items) x level) }
+    ensures { OnOk result (HasBoth rows.old rows.new x level) }
 {
-    add_to_row(rows, x, level)?;
-    add_to_row(rows, x, level + 1)?;
-    Ok(())
+    rows.add(x, level)?;
+    rows.add(x, level + 1)
 }
 
 // The levels of the rules and next to those, in any order.
-fn push_rules(w: &Written, rows: &mut Vec<Vec<u32>>) -> Result<(), AllocFailed<u32>>
-    requires { HasFirsts (length w.now.names) (rows_of rows.old.items) }
-    ensures { OnOk result (HoldsLevels w.now (length w.now.rules) (rows_of rows.new.items)) }
+fn push_rules(w: &Written, rows: &mut Gathered) -> Result<(), AllocError>
+    requires { HasFirsts (length w.now.names) rows.old }
+    ensures { OnOk result (HoldsLevels w.now (length w.now.rules) rows.new) }
 {
     for i in 0..w.rule_count() {
-        push_level(rows, left_of(w, i) as usize, level_at(w, i))?;
+        push_level(rows, left_of(w, i), level_at(w, i))?;
     }
     Ok(())
 }
 
 /// For each symbol, in order, the levels 0, of its rules, and next to those.
-pub fn levels_of(alloc: Global, w: &Written) -> Result<Vec<Vec<u32>>, AllocError>
-    ensures { IfOk result (λ rows. IsLevelTable w.now (rows_of rows.items)) }
+pub fn levels_of(alloc: Global, w: &Written) -> Result<Rows, AllocError>
+    ensures { IfOk result (λ rows. IsLevelTable w.now rows) }
 {
-    let mut rows = empty_rows(alloc, w.symbol_count())?;
-    push_firsts(&mut rows)?;
-    push_rules(w, &mut rows)?;
-    sort_all(&mut rows)?;
-    Ok(rows)
+    let mut gathered = Gathered::new(alloc, w.symbol_count());
+    push_firsts(&mut gathered)?;
+    push_rules(w, &mut gathered)?;
+    let rows = gathered.rows(alloc)?;
+    sort_all(alloc, &rows)
 }

@@ -3,31 +3,31 @@ ghost use Rattle.std.specs.Prelude.{◌≡◌, Some, ◌<◌, ◌↔◌, IsTrue,
 ghost use Rattle.grammar_model.specs.Grammar.{rule_at, lhs_of, level_of, child_slot, slot_count};
 ghost use Rattle.grammar_core.specs.Written.{IsWritten};
 ghost use Rattle.std.specs.List.Sorted.{IsStrictlyIncreasing};
-ghost use Rattle.slot_analysis.specs.Rows.{rows_of, row_at};
+ghost use Rattle.horn_clauses.specs.Rows.{row_at};
 ghost use Rattle.slot_analysis.specs.Packed.{packed, packed_slot, place};
 ghost use Rattle.slot_analysis.specs.Slots.{groups_of, body_count, needed_of};
 
 use crate::{children, levels, rules};
 use grammar_core::{SymbolId, Written};
+use horn_clauses::Rows;
 use std::marker::Model;
 
 /// A grammar whose levels are replaced by their places among those that occur.
 #[derive(Drop)]
 pub struct Packed<'a> {
     pub written: &'a Written,
-    pub levels: &'a [Vec<u32>],
+    pub levels: &'a Rows,
 }
 
 impl<'a> Model for Packed<'a> {
     ghost use Rattle.grammar_model.specs.Grammar.{Grammar};
-    ghost use Rattle.slot_analysis.specs.Rows.{rows_of};
     ghost use Rattle.slot_analysis.specs.Packed.{packed, IsLevelTable};
 
     ghost Value = { Grammar };
 
-    ghost view = { λ p. packed (rows_of p.levels.now) p.written.now };
+    ghost view = { λ p. packed p.levels.now p.written.now };
 
-    ghost invariant = { λ p. IsLevelTable p.written.now (rows_of p.levels.now) };
+    ghost invariant = { λ p. IsLevelTable p.written.now p.levels.now };
 }
 
 impl<'a> Packed<'a> {
@@ -133,19 +133,19 @@ impl<'a> Packed<'a> {
 }
 
 /// The place of a level among those of a symbol.
-pub fn place_at(rows: &[Vec<u32>], symbol: u32, level: u32) -> u32
+pub fn place_at(rows: &Rows, symbol: u32, level: u32) -> u32
     requires known { symbol < length rows.now }
-    requires rising { IsStrictlyIncreasing (row_at (rows_of rows.now) symbol) }
-    ensures { result ≡ place (rows_of rows.now) symbol level }
+    requires rising { IsStrictlyIncreasing (row_at rows.now symbol) }
+    ensures { result ≡ place rows.now symbol level }
 {
-    levels::place(&rows[symbol as usize], level)
+    levels::place(rows.row(symbol as usize), level)
 }
 
 /// Whether the level is among those of a symbol.
-pub fn is_level_at(rows: &[Vec<u32>], symbol: u32, level: u32) -> bool
+pub fn is_level_at(rows: &Rows, symbol: u32, level: u32) -> bool
     requires known { symbol < length rows.now }
-    requires rising { IsStrictlyIncreasing (row_at (rows_of rows.now) symbol) }
-    ensures { IsTrue result ↔ Contains (row_at (rows_of rows.now) symbol) level }
+    requires rising { IsStrictlyIncreasing (row_at rows.now symbol) }
+    ensures { IsTrue result ↔ Contains (row_at rows.now symbol) level }
 {
-    levels::is_level(&rows[symbol as usize], level)
+    levels::is_level(rows.row(symbol as usize), level)
 }

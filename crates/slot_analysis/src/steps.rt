@@ -4,49 +4,34 @@ ghost use Rattle.grammar_model.specs.Grammar.{rule_at, lhs_of, level_of, child_s
 ghost use Rattle.grammar_model.specs.Analysis.{IsLive};
 ghost use Rattle.slot_analysis.specs.Slots.{number, end_of, IsNumbering, fact_clause};
 ghost use Rattle.slot_analysis.specs.Clauses.{IsAnalysis};
-ghost use Rattle.slot_analysis.specs.Least.{Clause};
+ghost use Rattle.horn_clauses.specs.Least.{Clause};
 ghost use Rattle.slot_analysis.specs.Steps.{unit_clause, HasMore, head_of, IsOfStart, IsOfUse, IsOfNext, IsOfNexts, IsOfPart, IsOfParts, IsStep, IsReach};
 
 use crate::clauses::{child_number, head_number};
-use crate::least::{Clause, is_found, least_set};
 use crate::packed::Packed;
-use indexmap::IndexSet;
+use horn_clauses::{Clauses, NumberSet, least_set};
 use std::alloc::{AllocError, Global};
 
-fn push_unit(
-    alloc: Global,
-    head: u32,
-    part: u32,
-    clauses: &mut Vec<Clause>,
-) -> Result<(), AllocError>
-    ensures { OnOk result (HasMore clauses.old.items clauses.new.items (λ c. c ≡ unit_clause head part)) }
+fn push_unit(head: u32, part: u32, clauses: &mut Clauses) -> Result<(), AllocError>
+    ensures { OnOk result (HasMore clauses.old clauses.new (λ c. c ≡ unit_clause head part)) }
 {
-    let body = vec![in alloc; part]?;
-    clauses.push(Clause { head, body })?;
-    Ok(())
+    clauses.push(head, &[part])
 }
 
-fn push_fact(alloc: Global, x: u32, clauses: &mut Vec<Clause>) -> Result<(), AllocError>
-    ensures { OnOk result (HasMore clauses.old.items clauses.new.items (λ c. c ≡ fact_clause x)) }
+fn push_fact(x: u32, clauses: &mut Clauses) -> Result<(), AllocError>
+    ensures { OnOk result (HasMore clauses.old clauses.new (λ c. c ≡ fact_clause x)) }
 {
-    let body = Vec::new(alloc);
-    clauses.push(Clause { head: x, body })?;
-    Ok(())
+    clauses.push(x, &[])
 }
 
 // The starts.
-fn push_starts(
-    alloc: Global,
-    w: &Packed<'_>,
-    bases: &[u32],
-    clauses: &mut Vec<Clause>,
-) -> Result<(), AllocError>
+fn push_starts(w: &Packed<'_>, bases: &[u32], clauses: &mut Clauses) -> Result<(), AllocError>
     requires { IsNumbering w.now bases.now }
-    ensures { OnOk result (HasMore clauses.old.items clauses.new.items (IsOfStart w.now bases.now (length w.now.starts))) }
+    ensures { OnOk result (HasMore clauses.old clauses.new (IsOfStart w.now bases.now (length w.now.starts))) }
 {
     for k in 0..w.start_count() {
         let x = start_number(w, bases, k);
-        push_fact(alloc, x, clauses)?;
+        push_fact(x, clauses)?;
     }
     Ok(())
 }
@@ -62,62 +47,55 @@ fn start_number(w: &Packed<'_>, bases: &[u32], k: usize) -> u32
 }
 
 // An accessible slot is in use.
-fn push_uses(alloc: Global, total: u32, clauses: &mut Vec<Clause>) -> Result<(), AllocError>
+fn push_uses(total: u32, clauses: &mut Clauses) -> Result<(), AllocError>
     requires { total + total < 2 ^ 32 }
-    ensures { OnOk result (HasMore clauses.old.items clauses.new.items (IsOfUse total total)) }
+    ensures { OnOk result (HasMore clauses.old clauses.new (IsOfUse total total)) }
 {
     for x in 0..total {
-        push_unit(alloc, total + x, x, clauses)?;
+        push_unit(total + x, x, clauses)?;
     }
     Ok(())
 }
 
 // With a slot, the next tighter one is in use.
-fn push_next(
-    alloc: Global,
-    total: u32,
-    from: u32,
-    to: u32,
-    clauses: &mut Vec<Clause>,
-) -> Result<(), AllocError>
+fn push_next(total: u32, from: u32, to: u32, clauses: &mut Clauses) -> Result<(), AllocError>
     requires order { from < to }
     requires small { total + to < 2 ^ 32 }
-    ensures { OnOk result (HasMore clauses.old.items clauses.new.items (IsOfNext total from to)) }
+    ensures { OnOk result (HasMore clauses.old clauses.new (IsOfNext total from to)) }
 {
     for x in from..to - 1 {
-        push_unit(alloc, total + (x + 1), total + x, clauses)?;
+        push_unit(total + (x + 1), total + x, clauses)?;
     }
     Ok(())
 }
 
 fn push_nexts(
-    alloc: Global,
     w: &Packed<'_>,
     bases: &[u32],
     total: u32,
-    clauses: &mut Vec<Clause>,
+    clauses: &mut Clauses,
 ) -> Result<(), AllocError>
     requires numbering { IsNumbering w.now bases.now }
     requires total { total ≡ slice_index bases.now (length w.now.names) }
     requires small { total + total < 2 ^ 32 }
-    ensures { OnOk result (HasMore clauses.old.items clauses.new.items (IsOfNexts bases.now total (length w.now.names))) }
+    ensures { OnOk result (HasMore clauses.old clauses.new (IsOfNexts bases.now total (length w.now.names))) }
 {
     for s in 0..w.symbol_count() {
-        push_next(alloc, total, bases[s], bases[s + 1], clauses)?;
+        push_next(total, bases[s], bases[s + 1], clauses)?;
     }
     Ok(())
 }
 
 // Whether what the rule needs is productive.
-fn is_live(w: &Packed<'_>, bases: &[u32], productive: &IndexSet<u32>, i: usize) -> bool
+fn is_live(w: &Packed<'_>, bases: &[u32], productive: &NumberSet, i: usize) -> bool
     requires rule { i < length w.now.rules }
     requires numbering { IsNumbering w.now bases.now }
-    requires productive { IsAnalysis false w.now bases.now productive.now.keys }
+    requires productive { IsAnalysis false w.now bases.now productive.now }
     ensures { IsTrue result ↔ IsLive w.now (rule_at w.now i) }
 {
     let _ = w.rule_count();
     for k in 0..w.needed_count(i) {
-        if !is_found(productive, child_number(w, bases, i, k)) {
+        if !productive.has(child_number(w, bases, i, k)) {
             return false;
         }
     }
@@ -126,49 +104,47 @@ fn is_live(w: &Packed<'_>, bases: &[u32], productive: &IndexSet<u32>, i: usize) 
 
 // From a rule in use to its productive parts.
 fn push_part(
-    alloc: Global,
     w: &Packed<'_>,
     bases: &[u32],
-    productive: &IndexSet<u32>,
+    productive: &NumberSet,
     total: u32,
     i: usize,
-    clauses: &mut Vec<Clause>,
+    clauses: &mut Clauses,
 ) -> Result<(), AllocError>
     requires rule { i < length w.now.rules }
     requires numbering { IsNumbering w.now bases.now }
-    requires productive { IsAnalysis false w.now bases.now productive.now.keys }
+    requires productive { IsAnalysis false w.now bases.now productive.now }
     requires total { total ≡ slice_index bases.now (length w.now.names) }
     requires small { total + total < 2 ^ 32 }
-    ensures { OnOk result (HasMore clauses.old.items clauses.new.items (IsOfPart w.now bases.now total i (slot_count (rule_at w.now i)))) }
+    ensures { OnOk result (HasMore clauses.old clauses.new (IsOfPart w.now bases.now total i (slot_count (rule_at w.now i)))) }
 {
     let _ = w.rule_count();
     let head = head_number(w, bases, i);
     for k in 0..w.part_count(i) {
         let child = child_number(w, bases, i, k);
-        if is_found(productive, child) {
-            push_unit(alloc, child, total + head, clauses)?;
+        if productive.has(child) {
+            push_unit(child, total + head, clauses)?;
         }
     }
     Ok(())
 }
 
 fn push_parts(
-    alloc: Global,
     w: &Packed<'_>,
     bases: &[u32],
-    productive: &IndexSet<u32>,
+    productive: &NumberSet,
     total: u32,
-    clauses: &mut Vec<Clause>,
+    clauses: &mut Clauses,
 ) -> Result<(), AllocError>
     requires numbering { IsNumbering w.now bases.now }
-    requires productive { IsAnalysis false w.now bases.now productive.now.keys }
+    requires productive { IsAnalysis false w.now bases.now productive.now }
     requires total { total ≡ slice_index bases.now (length w.now.names) }
     requires small { total + total < 2 ^ 32 }
-    ensures { OnOk result (HasMore clauses.old.items clauses.new.items (IsOfParts w.now bases.now total (length w.now.rules))) }
+    ensures { OnOk result (HasMore clauses.old clauses.new (IsOfParts w.now bases.now total (length w.now.rules))) }
 {
     for i in 0..w.rule_count() {
         if is_live(w, bases, productive, i) {
-            push_part(alloc, w, bases, productive, total, i, clauses)?;
+            push_part(w, bases, productive, total, i, clauses)?;
         }
     }
     Ok(())
@@ -178,20 +154,20 @@ fn steps_of(
     alloc: Global,
     w: &Packed<'_>,
     bases: &[u32],
-    productive: &IndexSet<u32>,
+    productive: &NumberSet,
     total: u32,
-) -> Result<Vec<Clause>, AllocError>
+) -> Result<Clauses, AllocError>
     requires numbering { IsNumbering w.now bases.now }
-    requires productive { IsAnalysis false w.now bases.now productive.now.keys }
+    requires productive { IsAnalysis false w.now bases.now productive.now }
     requires total { total ≡ slice_index bases.now (length w.now.names) }
     requires small { total + total < 2 ^ 32 }
-    ensures { IfOk result (λ clauses. (c : Clause) → Contains clauses.items c ↔ IsStep w.now bases.now total c) }
+    ensures { IfOk result (λ clauses. (c : Clause) → Contains clauses c ↔ IsStep w.now bases.now total c) }
 {
-    let mut clauses = Vec::new(alloc);
-    push_starts(alloc, w, bases, &mut clauses)?;
-    push_uses(alloc, total, &mut clauses)?;
-    push_nexts(alloc, w, bases, total, &mut clauses)?;
-    push_parts(alloc, w, bases, productive, total, &mut clauses)?;
+    let mut clauses = Clauses::new(alloc);
+    push_starts(w, bases, &mut clauses)?;
+    push_uses(total, &mut clauses)?;
+    push_nexts(w, bases, total, &mut clauses)?;
+    push_parts(w, bases, productive, total, &mut clauses)?;
     Ok(clauses)
 }
 
@@ -200,11 +176,11 @@ pub fn reach_of(
     alloc: Global,
     w: &Packed<'_>,
     bases: &[u32],
-    productive: &IndexSet<u32>,
-) -> Result<IndexSet<u32>, AllocError>
+    productive: &NumberSet,
+) -> Result<NumberSet, AllocError>
     requires numbering { IsNumbering w.now bases.now }
-    requires productive { IsAnalysis false w.now bases.now productive.now.keys }
-    ensures reach { IfOk result (λ found. IsReach w.now bases.now found.keys) }
+    requires productive { IsAnalysis false w.now bases.now productive.now }
+    ensures reach { IfOk result (λ found. IsReach w.now bases.now found) }
     ensures small { IfOk result (λ _. slice_index bases.now (length w.now.names) + slice_index bases.now (length w.now.names) < 2 ^ 32) }
 {
     let total = bases[w.symbol_count()];

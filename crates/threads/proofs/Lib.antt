@@ -1,4 +1,5 @@
 pub mod Listing
+pub mod Ordered
 pub mod Equal
 pub mod Closing
 pub mod Folding

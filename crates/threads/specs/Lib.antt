@@ -1,4 +1,5 @@
 pub mod Lists
+pub mod Order
 pub mod Folding
 pub mod Steps
 pub mod Goals

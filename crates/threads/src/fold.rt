@@ -5,7 +5,9 @@ ghost use Rattle.recognizer_model.specs.declared.thread.Thread.{Thread as AThrea
 ghost use Rattle.recognizer_model.specs.Threads.{next, IsDone, step, IsTopRule, Waiting};
 ghost use Rattle.threads.specs.Steps.{IsLoneIn, IsFoldedTo, IsOfList};
 ghost use Rattle.threads.specs.Folding.{IsOnly};
+ghost use Rattle.threads.specs.Order.{IsOrderOf};
 
+use crate::order::waiting;
 use grammar_core::Flat;
 use recognizer_model::{FlatSource, Label, Thread};
 
@@ -93,6 +95,16 @@ fn lone(flat: &Flat, row: &[Thread], symbol: u32) -> Option<Thread>
     }
 }
 
+// The same, of a row in order.
+fn lone_ordered(flat: &Flat, row: &[Thread], ordered: &[Thread], symbol: u32) -> Option<Thread>
+    requires rules { (th : AThread) → Contains row.now th → IsRule flat.now th.rule }
+    requires order { IsOrderOf flat.now row.now ordered.now }
+    ensures lone { IfSome result (λ th. (parts : List (List AThread)) → IsLoneIn flat.now parts (Waiting flat.now row.now) symbol th) }
+    ensures there { IfSome result (Contains row.now) }
+{
+    lone(flat, waiting(flat, ordered, symbol), symbol)
+}
+
 /// What may be waited for in place of the symbol, by the only threads that wait.
 pub fn fold(flat: &Flat, row: &[Thread], symbol: u32) -> Folded
     requires { (th : AThread) → Contains row.now th → IsRule flat.now th.rule }
@@ -102,6 +114,26 @@ pub fn fold(flat: &Flat, row: &[Thread], symbol: u32) -> Folded
     let mut goal = symbol;
     for _ in 0..FOLDS {
         let Some(thread) = lone(flat, row, goal) else {
+            return Folded::Stays(goal);
+        };
+        match thread.label {
+            Some(label) => return Folded::Up(label),
+            None => goal = flat.lhs(thread.rule),
+        }
+    }
+    Folded::Stays(goal)
+}
+
+/// The same, of a row in order.
+pub fn fold_ordered(flat: &Flat, row: &[Thread], ordered: &[Thread], symbol: u32) -> Folded
+    requires rules { (th : AThread) → Contains row.now th → IsRule flat.now th.rule }
+    requires order { IsOrderOf flat.now row.now ordered.now }
+    ensures folded { IsFoldedTo flat.now (Waiting flat.now row.now) symbol result }
+    ensures there { IsOfList row.now result }
+{
+    let mut goal = symbol;
+    for _ in 0..FOLDS {
+        let Some(thread) = lone_ordered(flat, row, ordered, goal) else {
             return Folded::Stays(goal);
         };
         match thread.label {

@@ -4,6 +4,7 @@
 mod close;
 mod fold;
 mod lists;
+mod order;
 mod part;
 mod row;
 mod scan;

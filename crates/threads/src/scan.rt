@@ -1,13 +1,15 @@
 //! What a row leads to by terminals.
-ghost use Rattle.std.specs.Prelude.{◌≡◌, ℕ, ◌<◌, ◌↔◌, ◌+◌, ◌^◌, List, length, IsTrue, IfOk, OnOk, Contains, Some};
+ghost use Rattle.std.specs.Prelude.{◌≡◌, ℕ, ◌<◌, ◌↔◌, ◌+◌, ◌^◌, List, length, IsTrue, IfOk, OnOk, Contains, Some, None};
 ghost use Rattle.recognizer_model.specs.Flat.{IsRule};
 ghost use Rattle.recognizer_model.specs.declared.thread.Thread.{Thread as AThread};
 ghost use Rattle.recognizer_model.specs.Threads.{next, step as thread_after, Waiting};
 ghost use Rattle.threads.specs.Lists.{IsGrown, IsThread, AreThreads, AreParts};
+ghost use Rattle.threads.specs.Order.{IsOrderOf};
 ghost use Rattle.threads.specs.Steps.{LeavesIn, IsReadBy, AreSeeds};
 
 use crate::fold::next_symbol;
 use crate::lists::Lists;
+use crate::order::list_ordered;
 use crate::part::label_for;
 use grammar_core::{Flat, SymbolId};
 use recognizer_model::{FlatSymbol, Label, Thread};
@@ -46,11 +48,13 @@ fn label_behind(
     flat: &Flat,
     parts: &mut Lists,
     row: &[Thread],
+    ordered: &[Thread],
     thread: Thread,
 ) -> Result<Label, AllocError>
     requires parts { AreParts flat.now parts.old }
     requires row { AreThreads flat.now (length parts.old) row.now }
     requires thread { IsThread flat.now (length parts.old) thread }
+    requires order { thread.label ≡ None → IsOrderOf flat.now row.now ordered.now }
     ensures grown { IsGrown parts.old parts.new }
     ensures parts { AreParts flat.now parts.new }
     ensures there { IfOk result (λ l. l.part < length parts.new) }
@@ -59,10 +63,48 @@ fn label_behind(
     match thread.label {
         Some(label) => Ok(label),
         None => {
-            let label = label_for(alloc, flat, parts, row, flat.lhs(thread.rule))?;
+            let label = label_for(alloc, flat, parts, row, ordered, flat.lhs(thread.rule))?;
             Ok(label)
         }
     }
+}
+
+// Whether a thread begins in its row and waits for one of the terminals.
+fn is_read_here(flat: &Flat, thread: Thread, terminals: &[SymbolId]) -> bool
+    requires { IsRule flat.now thread.rule }
+    ensures { ¬ IsTrue result → (x : ℕ) → thread.label ≡ None → next flat.now thread ≡ Some x → ¬ IsReadBy flat.now terminals.now x }
+{
+    thread.label.is_none() && is_read(flat, thread, terminals)
+}
+
+// Whether a thread that begins in a row waits for one of the terminals.
+fn is_read_at_begin(flat: &Flat, row: &[Thread], terminals: &[SymbolId]) -> bool
+    requires { (th : AThread) → Contains row.now th → IsRule flat.now th.rule }
+    ensures { ¬ IsTrue result → (th : AThread) (x : ℕ) → Contains row.now th → th.label ≡ None → next flat.now th ≡ Some x → ¬ IsReadBy flat.now terminals.now x }
+{
+    for thread in row {
+        if is_read_here(flat, *thread, terminals) {
+            return true;
+        }
+    }
+    false
+}
+
+// Lists a row in order, if a thread that begins in it is read.
+fn list_ordered_for(
+    alloc: Global,
+    flat: &Flat,
+    row: &[Thread],
+    terminals: &[SymbolId],
+) -> Result<Vec<Thread>, AllocError>
+    requires { (th : AThread) → Contains row.now th → IsRule flat.now th.rule }
+    ensures { IfOk result (λ ordered. (th : AThread) (x : ℕ) → Contains row.now th → th.label ≡ None → next flat.now th ≡ Some x → IsReadBy flat.now terminals.now x → IsOrderOf flat.now row.now ordered.items) }
+{
+    if !is_read_at_begin(flat, row, terminals) {
+        return Ok(Vec::new(alloc));
+    }
+    let ordered = list_ordered(alloc, flat, row)?;
+    Ok(ordered)
 }
 
 /// Lists what a row leads to by terminals.
@@ -81,10 +123,11 @@ pub fn scan(
     ensures threads { OnOk result (AreThreads flat.now (length parts.new) seeds.new.items) }
     ensures seeds { OnOk result ((later : List (List AThread)) → IsGrown parts.new later → AreSeeds flat.now later (IsReadBy flat.now terminals.now) row.now row.now seeds.new.items) }
 {
+    let ordered = list_ordered_for(alloc, flat, row, terminals)?;
     seeds.clear();
     for thread in row {
         if is_read(flat, *thread, terminals) {
-            let label = label_behind(alloc, flat, parts, row, *thread)?;
+            let label = label_behind(alloc, flat, parts, row, &ordered, *thread)?;
             seeds.push(advanced(*thread, Some(label)))?;
         }
     }

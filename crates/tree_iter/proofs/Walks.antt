@@ -3,8 +3,11 @@ use Rattle.std.proofs.Common.{◌≡◌, inl, inr, ℕ, zero, suc, ◌+◌, ◌-
 use Rattle.std.specs.Prelude.{slice_get, slice_set, slice_index_or, OnOk, OnErr}
 use Rattle.std.proofs.Math.Seq.{take-append_seam}
 use Rattle.std.proofs.lemmas.Option.{slice_get_within}
+use Rattle.grammar_core.specs.declared.steps.TreeStep.{TreeStep}
 use Rattle.grammar_core.specs.Steps.{step_of}
+use Rattle.grammar_model.specs.Grammar.{Grammar}
 use Rattle.grammar_model.specs.Steps.{Step, steps_of}
+use Rattle.recognizer_model.specs.Flat.{FlatGrammar}
 use Rattle.forest_model.specs.Forest.{Forest, IsForest}
 use Rattle.forest_laws.specs.Lists.{Lists, roots_by}
 use Rattle.forest_laws.specs.Laws.{AreAllLists}
@@ -18,13 +21,14 @@ use Rattle.tree_iter.specs.declared.goals.Fork.{Fork}
 use Rattle.tree_iter.specs.declared.goals.Fork.TheVariants.{Parts, OneOf}
 use Rattle.tree_iter.specs.declared.goals.GoalRow.{GoalRow}
 use Rattle.tree_iter.specs.declared.goals.Put.{Put}
+use Rattle.tree_iter.specs.declared.writing.CountRow.{CountRow}
 use Rattle.tree_iter.specs.declared.walk.Choice.{Choice}
 use Rattle.tree_iter.specs.declared.walk.Walk.{Walk}
 use Rattle.tree_iter.specs.declared.walk.Place.TheVariants.{Walking}
 use Rattle.tree_iter.specs.Linked.{Grows}
 use Rattle.tree_iter.specs.Goals.{fork_of, goal_of, IsStack, IsReady, IsBacked, AreReady, unit, units, look, Puts, PutsOption}
 use Rattle.tree_iter.specs.Writing.{IsStepOf, AreDone, IsCounted, counts_behind}
-use Rattle.tree_iter.specs.Walk.{IsKept, IsLast, HasSteps, Looks, Trail, Begun, Wrote, Chose, done_of, steps_on, IsChoice, AreChoices, IsTrail, StandsBefore, StandsBehind, Reaches, IsAbout, IsBack, IsUnderWay}
+use Rattle.tree_iter.specs.Walk.{IsKept, IsLast, HasLeft, KeepsLeft, HasSteps, Looks, Trail, Begun, Wrote, Chose, done_of, steps_on, IsChoice, AreChoices, IsTrail, StandsBefore, StandsBehind, Reaches, IsAbout, IsBack, IsUnderWay}
 use Rattle.tree_iter.proofs.Linked.{append_none, drop_from, linked_top, linked_none, linked_more, linked_taken, linked_bound}
 use Rattle.tree_iter.proofs.Written.{done_taken}
 use Rattle.tree_iter.proofs.GoalLemmas.{units_both, ready_both, option_ready, option_units, root_ready, is_goal}
@@ -150,8 +154,24 @@ step_ready w step behind a = (first_of w (Write step) behind a a.rest a.stands).
 pub left_within : (w : Walk) (rest : List (List Step)) → StandsBefore w rest → w.left ≤ length w.goals.items
 left_within w rest h = linked_bound (λ (r : GoalRow). goal_of r.goal) (λ r. r.below) w.goals.items w.left h.left h.left_is
 
-pub wrote_count : (w n : Walk) (step : Step) (done : List Step) → length w.counts.items ≡ length done → length n.counts.items ≡ length (done ++ step ∷ []) → length n.counts.items ≡ suc (length w.counts.items)
+wrote_count : (w n : Walk) (step : Step) (done : List Step) → length w.counts.items ≡ length done → length n.counts.items ≡ length (done ++ step ∷ []) → length n.counts.items ≡ suc (length w.counts.items)
 wrote_count w n step done a b = let c = length-append done (step ∷ []) in omega arith
+
+pub wrote_longer : (w n : Walk) (step : Step) (behind : ℕ) → IsAbout w (Write step) behind →
+    ((done : List Step) → AreDone w.forest.now.written w.forest.now.flat w.counts.items w.steps.items done → AreDone w.forest.now.written w.forest.now.flat n.counts.items n.steps.items (done ++ step ∷ [])) →
+    length n.counts.items ≡ suc (length w.counts.items)
+wrote_longer w n step behind a done =
+    let first = first_of w (Write step) behind a a.rest a.stands in
+    let after = done (steps_on first.trail) first.is.done in
+    wrote_count w n step (steps_on first.trail) first.is.done.counted.all after.counted.all
+
+-- what is done by the grammars of a forest
+pub done_on : (f : Forest) (w : Grammar) (g : FlatGrammar) (rows more : List CountRow) (steps longer : List TreeStep) (step : Step) → w ≡ f.written → g ≡ f.flat →
+    ((done : List Step) → AreDone w g rows steps done → AreDone w g more longer (done ++ step ∷ [])) → (done : List Step) → AreDone f.written f.flat rows steps done → AreDone f.written f.flat more longer (done ++ step ∷ [])
+done_on f w g rows more steps longer step w_is g_is ok done h =
+    subst (λ y. AreDone f.written y more longer (done ++ step ∷ [])) g_is
+    (subst (λ x. AreDone x g more longer (done ++ step ∷ [])) w_is
+    (ok done (subst (λ x. AreDone x g rows steps done) (sym w_is) (subst (λ y. AreDone f.written y rows steps done) (sym g_is) h))))
 
 -- a step was written
 pub wrote_one : (w n : Walk) (rest : List (List Step)) (step : Step) (behind : ℕ) → IsFirst w rest (Write step) behind →
@@ -323,12 +343,8 @@ cut_before w n rest k kept goals h =
       rest_is = h.rest_is;
     }
 
-pub cut_steps : (w n : Walk) (k : ℕ) → IsKept w w.left k → n.goals.items ≡ take k w.goals.items → (m : ℕ) → HasSteps w m → HasSteps (record w { goals = n.goals }) m
-cut_steps w n k kept goals m h = record {
-  left = h.left;
-  left_is = subst (λ g. IsStack g w.left h.left) (sym goals) (linked_taken (λ (r : GoalRow). goal_of r.goal) (λ r. r.below) w.goals.items k w.left h.left kept.0 h.left_is);
-  count = h.count;
-}
+pub cut_left : (w n : Walk) (k : ℕ) → IsKept w w.left k → n.goals.items ≡ take k w.goals.items → KeepsLeft w (record w { goals = n.goals })
+cut_left w n k kept goals = λ left h. subst (λ g. IsStack g w.left left) (sym goals) (linked_taken (λ (r : GoalRow). goal_of r.goal) (λ r. r.below) w.goals.items k w.left left kept.0 h)
 
 -- the row of the topmost goal, and others that only that needs
 pub cut_first : (w n : Walk) (rest : List (List Step)) (goal : Goal) (behind k : ℕ) → IsKept w behind k → n.goals.items ≡ take k w.goals.items → n.choices.items ≡ w.choices.items →
@@ -351,40 +367,66 @@ cut_first w n rest goal behind k kept goals choices h =
 
 -- ---- looks
 
+-- the goals behind the topmost one, which all stay
+pub record HasBehind (w : Walk) (goal : Goal) (behind : ℕ) (left : List Goal) : Type 0 where
+  pub others : List Goal
+  pub all : left ≡ goal ∷ others
+  pub linked : IsStack w.goals.items behind others
+
+pub left_behind : (w : Walk) (goal : Goal) (behind : ℕ) → IsAbout w goal behind → (left : List Goal) → HasLeft w left → HasBehind w goal behind left
+left_behind w goal behind a left h =
+    let on = linked_top (λ (r : GoalRow). goal_of r.goal) (λ r. r.below) w.goals.items a.place a.row left a.row_is (subst (λ t. IsStack w.goals.items t left) a.left_is h) in
+    record {
+      others = on.rest;
+      all = on.both ∙ ap (λ g. g ∷ on.rest) a.goal_is;
+      linked = subst (λ t. IsStack w.goals.items t on.rest) a.behind_is on.linked;
+    }
+
 -- an option of the topmost goal was put in its place
+pub put_left : (w n : Walk) (goal : Goal) (at behind k : ℕ) (put : Put) → n.left ≡ put.top → behind ≤ k → (p : PutsOption w.forest.now goal (take k w.goals.items) n.goals.items at behind put) →
+    (others : List Goal) → IsStack w.goals.items behind others → HasLeft n (p.option ++ others)
+put_left w n goal at behind k put left le p others linked =
+    subst (λ t. IsStack n.goals.items t (p.option ++ others)) (sym left)
+    (p.puts.stack others (linked_taken (λ (r : GoalRow). goal_of r.goal) (λ r. r.below) w.goals.items k behind others le linked))
+
 pub put_steps : (w n : Walk) (goal : Goal) (at behind k : ℕ) (put : Put) → IsAbout w goal behind → n.counts.items ≡ w.counts.items → n.left ≡ put.top → behind ≤ k →
     PutsOption w.forest.now goal (take k w.goals.items) n.goals.items at behind put → (m : ℕ) → HasSteps w m → HasSteps n (m + look goal)
 put_steps w n goal at behind k put a counts left le p m h =
-    let on = linked_top (λ (r : GoalRow). goal_of r.goal) (λ r. r.below) w.goals.items a.place a.row h.left a.row_is (subst (λ t. IsStack w.goals.items t h.left) a.left_is h.left_is) in
-    let linked : IsStack (take k w.goals.items) behind on.rest =
-    linked_taken (λ (r : GoalRow). goal_of r.goal) (λ r. r.below) w.goals.items k behind on.rest le (subst (λ t. IsStack w.goals.items t on.rest) a.behind_is on.linked) in
-    let stands : h.left ≡ goal ∷ on.rest = on.both ∙ ap (λ g. g ∷ on.rest) a.goal_is in
-    let all : units h.left ≡ unit goal + units on.rest = ap units stands in
+    let on = left_behind w goal behind a h.left h.left_is in
+    let all : units h.left ≡ unit goal + units on.others = ap units on.all in
     let own = option_units w.forest.now goal at p.option p.option_is in
-    let both = units_both p.option on.rest in
+    let both = units_both p.option on.others in
     let same : length n.counts.items ≡ length w.counts.items = ap (λ (l : List _). length l) counts in
     let sum = h.count in
     record {
-      left = p.option ++ on.rest;
-      left_is = subst (λ t. IsStack n.goals.items t (p.option ++ on.rest)) (sym left) (p.puts.stack on.rest linked);
+      left = p.option ++ on.others;
+      left_is = put_left w n goal at behind k put left le p on.others on.linked;
       count = omega arith;
     }
 
--- the topmost goal was written
+-- the topmost goal was written, and the others are left
+pub write_left : (w n : Walk) (behind : ℕ) → n.goals.items ≡ w.goals.items → n.left ≡ behind → (others : List Goal) → IsStack w.goals.items behind others → HasLeft n others
+write_left w n behind goals left others linked = subst (λ t. IsStack n.goals.items t others) (sym left) (subst (λ g. IsStack g behind others) (sym goals) linked)
+
 pub write_steps : (w n : Walk) (step : Step) (behind : ℕ) → IsAbout w (Write step) behind → length n.counts.items ≡ suc (length w.counts.items) → n.goals.items ≡ w.goals.items → n.left ≡ behind →
     (k : ℕ) → HasSteps w k → HasSteps n k
 write_steps w n step behind a longer goals left k h =
-    let on = linked_top (λ (r : GoalRow). goal_of r.goal) (λ r. r.below) w.goals.items a.place a.row h.left a.row_is (subst (λ t. IsStack w.goals.items t h.left) a.left_is h.left_is) in
-    let linked : IsStack w.goals.items behind on.rest = subst (λ t. IsStack w.goals.items t on.rest) a.behind_is on.linked in
-    let stands : h.left ≡ Write step ∷ on.rest = on.both ∙ ap (λ g. g ∷ on.rest) a.goal_is in
-    let same : units h.left ≡ units (Write step ∷ on.rest) = ap units stands in
-    let all : units h.left ≡ suc (units on.rest) = omega arith in
+    let on = left_behind w (Write step) behind a h.left h.left_is in
+    let same : units h.left ≡ units (Write step ∷ on.others) = ap units on.all in
+    let all : units h.left ≡ suc (units on.others) = omega arith in
     let sum = h.count in
     record {
-      left = on.rest;
-      left_is = subst (λ t. IsStack n.goals.items t on.rest) (sym left) (subst (λ g. IsStack g behind on.rest) (sym goals) linked);
+      left = on.others;
+      left_is = write_left w n behind goals left on.others on.linked;
       count = omega arith;
     }
+
+pub steps_kept : (w n : Walk) → KeepsLeft w n → n.counts ≡ w.counts → (k : ℕ) → HasSteps w k → HasSteps n k
+steps_kept w n keeps counts k h = record {
+  left = h.left;
+  left_is = keeps h.left h.left_is;
+  count = h.count ∙ sym (ap (λ (c : _). length c.items + units h.left) counts);
+}
 
 -- with no goal left the walk wrote them all
 pub all_written : (w : Walk) → w.left ≡ 0 → (k : ℕ) → HasSteps w k → k ≡ length w.counts.items

@@ -1,22 +1,23 @@
 -- Steps that are written and counted, when one more is, or when some are undone.
-use Rattle.std.proofs.Common.{◌≡◌, ℕ, zero, suc, ◌+◌, ◌<◌, ◌≤◌, List, [], ◌∷◌, ◌++◌, length, map, take, inl, inr, ◌⊎◌, Some, Result, Ok, Err, refl, sym, ap, ◌∙◌, subst, append_assoc, length-append, arith}
-use Rattle.std.specs.Prelude.{slice_get, option_to_list, OnOk}
+use Rattle.std.proofs.Common.{◌≡◌, ℕ, zero, suc, ◌+◌, ◌<◌, ◌≤◌, List, [], ◌∷◌, ◌++◌, length, map, take, inl, inr, ◌⊎◌, Some, refl, sym, ap, ◌∙◌, subst, append_assoc, length-append, arith}
+use Rattle.std.specs.Prelude.{Bool, true, false, cond, sum, slice_get, option_to_list}
 use Rattle.std.proofs.Math.Seq.{take-append_seam}
 use Rattle.std.proofs.lemmas.List.{take-append-le}
+use Rattle.std.proofs.lemmas.List.Sums.{sum_by-cons}
 use Rattle.grammar_core.specs.declared.steps.TreeStep.{TreeStep}
 use Rattle.grammar_core.specs.Steps.{step_of}
 use Rattle.grammar_model.specs.Grammar.{Grammar}
-use Rattle.grammar_model.specs.Steps.{Step}
+use Rattle.grammar_model.specs.Steps.{Step, TokenStep, NulledStep, RuleStep}
 use Rattle.grammar_model.proofs.Lists.{contains_from}
 use Rattle.recognizer_model.specs.declared.flat.FlatSymbol.{FlatSymbol}
 use Rattle.recognizer_model.specs.declared.flat.FlatSymbol.TheVariants.{Sequence, Top}
 use Rattle.recognizer_model.specs.Flat.{FlatGrammar}
 use Rattle.recognizer_model.specs.FlatForm.{IsFlatOf, symbol_at, written_symbol}
 use Rattle.forest_laws.proofs.Lists.{get_among}
-use Rattle.forest_laws.specs.Written.{sum_newest, older, step_written, counts_after, steps_written}
+use Rattle.forest_laws.specs.Written.{sum_newest, older, is_list_rule, step_written, counts_after, steps_written}
 use Rattle.tree_iter.specs.declared.writing.CountRow.{CountRow}
 use Rattle.tree_iter.specs.declared.writing.Effect.{Effect}
-use Rattle.tree_iter.specs.Writing.{IsCounted, AreTakenOff, IsEffect, counts_behind, AreCounted, AreDone}
+use Rattle.tree_iter.specs.Writing.{IsCounted, AreOnTop, AreTakenOff, IsEffect, counts_behind, AreCounted, AreDone}
 use Rattle.tree_iter.proofs.Linked.{linked_more, linked_taken, linked_push, linked_top, linked_none, linked_bound}
 use Rattle.tree_iter.proofs.GoalLemmas.{index_is}
 
@@ -161,10 +162,42 @@ taken_same rows counts n sum h =
     let next = newest_none n counts none in
     record { sum = h.sum ∙ sym next.1; rest = subst (λ l. IsCounted rows 0 l) (sym next.0) refl }
 
+-- the counts are for no more children than there were steps
+sum-cons : (c : ℕ) (counts : List ℕ) → sum (c ∷ counts) ≡ c + sum counts
+sum-cons = sum_by-cons (λ n. n)
+
+newest_and_older : (n : ℕ) (counts : List ℕ) → sum_newest n counts + sum (older n counts) ≡ sum counts
+newest_and_older zero counts = omega arith
+newest_and_older (suc n) [] = refl
+newest_and_older (suc n) (c ∷ counts) = let h = newest_and_older n counts in let more = sum-cons c counts in omega arith
+
+pub newest_few : (n : ℕ) (counts : List ℕ) → sum_newest n counts ≤ sum counts
+newest_few n counts = let h = newest_and_older n counts in omega arith
+
+rule_few : (list : Bool) (n : ℕ) (counts : List ℕ) → cond list (sum_newest n counts) 1 + sum (older n counts) ≤ suc (sum counts)
+rule_few true n counts = let h = newest_and_older n counts in omega arith
+rule_few false n counts = let h = newest_and_older n counts in omega arith
+
+after_few : (g : FlatGrammar) (counts : List ℕ) (step : Step) → sum (counts_after g counts step) ≤ suc (sum counts)
+after_few g counts (TokenStep x from to) = let more = sum-cons 1 counts in omega arith
+after_few g counts (NulledStep x at) = let more = sum-cons 1 counts in omega arith
+after_few g counts (RuleStep r n from to) =
+    let few = rule_few (is_list_rule g r) n counts in
+    let more = sum-cons (cond (is_list_rule g r) (sum_newest n counts) 1) (older n counts) in
+    omega arith
+
+behind_few : (g : FlatGrammar) (counts : List ℕ) (steps : List Step) → sum (counts_behind g counts steps) ≤ sum counts + length steps
+behind_few g counts [] = omega arith
+behind_few g counts (step ∷ steps) =
+    let one = after_few g counts step in
+    let others = behind_few g (counts_after g counts step) steps in
+    omega arith
+
+pub on_top : (g : FlatGrammar) (rows : List CountRow) (done : List Step) → AreCounted g rows done → AreOnTop rows (counts_behind g [] done)
+on_top g rows done h = record {
+  counted = counted_now g rows done h;
+  few = (let few = behind_few g [] done in let all = h.all in omega arith);
+}
+
 pub taken_bound : (rows : List CountRow) (counts : List ℕ) (n : ℕ) (row : CountRow) → AreTakenOff rows n counts row → row.below ≤ length rows
 taken_bound rows counts n row h = linked_bound (λ (r : CountRow). r.count) (λ r. r.below) rows row.below (older n counts) h.rest
-
--- what holds where both of two facts do
-pub both_ok : {T E A B C : Type 0} (r : Result T E) → OnOk r A → OnOk r B → (A → B → C) → OnOk r C
-both_ok (Ok x) a b f = f a b
-both_ok (Err e) a b f = tt

@@ -38,6 +38,16 @@ abbrev pub units : List Goal → ℕ
 units [] = 0
 units (goal ∷ goals) = unit goal + units goals
 
+-- how far a goal has come to be a step that is written
+abbrev pub weight : Goal → ℕ
+weight (Parts node) = 0
+weight (OneOf start end nodes) = 1
+weight (Write step) = 2
+
+abbrev pub weights : List Goal → ℕ
+weights [] = 0
+weights (goal ∷ goals) = weight goal + weights goals
+
 -- to choose an option of parts, their alternatives are looked at once
 abbrev pub look : Goal → ℕ
 look (Parts node) = 1

@@ -1,5 +1,5 @@
 -- A walk through a forest as it is kept: what it has done, what it has left, and what is still to come.
-use Rattle.std.specs.Prelude.{◌≡◌, ◌⊎◌, ℕ, suc, ◌+◌, ◌<◌, ◌≤◌, Bool, true, false, List, [], ◌∷◌, ◌++◌, length, map, take, drop, Option, Some, None, slice_get}
+use Rattle.std.specs.Prelude.{◌≡◌, ◌⊎◌, ℕ, suc, ◌+◌, ◌*◌, ◌<◌, ◌≤◌, Bool, true, false, List, [], ◌∷◌, ◌++◌, length, map, take, drop, Option, Some, None, slice_get}
 use Rattle.grammar_core.specs.declared.steps.TreeStep.{TreeStep}
 use Rattle.grammar_core.specs.Steps.{step_of}
 use Rattle.grammar_model.specs.Steps.{Step, steps_of}
@@ -17,7 +17,7 @@ use Rattle.tree_iter.specs.declared.walk.Place.TheVariants.{Walking, Between}
 use Rattle.tree_iter.specs.declared.iter.Current.{Current}
 use Rattle.tree_iter.specs.declared.iter.Current.TheVariants.{Nothing, Walked, Copied}
 use Rattle.tree_iter.specs.Writing.{AreDone}
-use Rattle.tree_iter.specs.Goals.{fork_of, goal_of, IsStack, IsReady, IsBacked, AreReady, units}
+use Rattle.tree_iter.specs.Goals.{fork_of, goal_of, IsStack, IsReady, IsBacked, AreReady, units, weights}
 
 -- what a walk has done, the newest last: it wrote a step, or chose an option of a goal, with other goals behind that goal
 pub data Trail : Type 0 where
@@ -88,15 +88,32 @@ pub record StandsBehind (w : Walk) (rest : List (List Step)) : Type 0 where
 abbrev pub Shows : Walk → List Step → Type 0
 Shows w steps = map step_of w.steps.items ≡ steps_written w.forest.now.written w.forest.now.flat [] steps
 
+-- the walk has these goals left
+abbrev pub HasLeft : Walk → List Goal → Type 0
+HasLeft w left = IsStack w.goals.items w.left left
+
+abbrev pub KeepsLeft : (old new : Walk) → Type 0
+KeepsLeft old new = (left : List Goal) → HasLeft old left → HasLeft new left
+
 -- so many flat steps the walk wrote, and has goals left for
 pub record HasSteps (w : Walk) (n : ℕ) : Type 0 where
   pub left : List Goal
-  pub left_is : IsStack w.goals.items w.left left
+  pub left_is : HasLeft w left
   pub count : n ≡ length w.counts.items + units left
 
 -- each look at alternatives makes a derivation longer by one step
 abbrev pub Looks : (old new : Walk) → (before after : ℕ) → Type 0
 Looks old new before after = (n : ℕ) → HasSteps old n → (looked : ℕ) × HasSteps new (n + looked) × (after ≡ before + looked)
+
+-- so far the walk has come
+pub record HasCome (w : Walk) (n : ℕ) : Type 0 where
+  pub left : List Goal
+  pub left_is : HasLeft w left
+  pub count : n ≡ 3 * length w.counts.items + weights left
+
+-- each goal that is done brings it further
+abbrev pub GoesFurther : (old new : Walk) → Type 0
+GoesFurther old new = (n : ℕ) → HasCome old n → (m : ℕ) × HasCome new m × (n < m)
 
 -- there were fewer looks than the derivation has steps, and none where there is no derivation
 abbrev pub AreFewLooks : Walk → Bool → (before after : ℕ) → Type 0

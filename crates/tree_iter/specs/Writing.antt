@@ -1,5 +1,5 @@
 -- How far the steps of a flat derivation are written, with the counts that they leave.
-use Rattle.std.specs.Prelude.{◌≡◌, ℕ, ◌<◌, ◌≤◌, List, [], ◌∷◌, length, map, take, option_to_list}
+use Rattle.std.specs.Prelude.{◌≡◌, ℕ, ◌<◌, ◌≤◌, List, [], ◌∷◌, length, map, take, sum, option_to_list}
 use Rattle.grammar_core.specs.declared.steps.TreeStep.{TreeStep}
 use Rattle.grammar_core.specs.Steps.{step_of}
 use Rattle.grammar_model.specs.Grammar.{Grammar}
@@ -25,6 +25,11 @@ IsStepOf g (RuleStep r n from to) = IsRule g r
 
 abbrev pub IsCounted : List CountRow → ℕ → List ℕ → Type 0
 IsCounted rows top counts = IsLinked (λ row. row.count) (λ row. row.below) rows top counts
+
+-- these counts are on top, for no more children than there are rows
+pub record AreOnTop (rows : List CountRow) (counts : List ℕ) : Type 0 where
+  pub counted : IsCounted rows (length rows) counts
+  pub few : sum counts ≤ length rows
 
 -- the newest counts are taken off
 pub record AreTakenOff (rows : List CountRow) (n : ℕ) (counts : List ℕ) (row : CountRow) : Type 0 where

@@ -107,7 +107,7 @@ impl<'f> TreeIter<'f> {
     }
 
     /// Goes to the next derivation. Answers whether there is one; behind the last it stands at none. A call that runs out of memory
-    /// leaves the iterator where it stands, and the next call goes on with what it has found; more than 2^64 - 1 derivations, or 2^32 - 1
+    /// leaves the iterator where it stands, and the next call goes on with what it has found; more than 2^64 - 1 derivations, or 2^32
     /// flat steps of one, count as too many for memory. Only looks at alternatives raise `steps`: what a derivation shares with the one
     /// before it at its beginning is not looked at again.
     pub fn next<L: Ledger>(&mut self, steps: &mut Steps<L>) -> Result<bool, NoMemory>

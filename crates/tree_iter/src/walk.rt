@@ -5,7 +5,7 @@ ghost use Rattle.grammar_model.specs.Steps.{Step};
 ghost use Rattle.forest_laws.specs.Goals.{Write};
 ghost use Rattle.tree_iter.specs.Writing.{flat_step};
 ghost use Rattle.tree_iter.specs.Goals.{fork_of};
-ghost use Rattle.tree_iter.specs.Walk.{IsKept, HasSteps, Looks, AreFewLooks, LeavesSome, IsAbout, IsBack, Goes, StandsBefore, StandsBehind, Reaches, Turns, Remain, Advances, IsUnderWay, IsLast};
+ghost use Rattle.tree_iter.specs.Walk.{IsKept, KeepsLeft, HasSteps, Looks, GoesFurther, AreFewLooks, LeavesSome, IsAbout, IsBack, Goes, StandsBefore, StandsBehind, Reaches, Turns, Remain, Advances, IsUnderWay, IsLast};
 ghost use Rattle.tree_iter.specs.declared.walk.Place.TheVariants.{Walking};
 
 use crate::goals::{Fork, Goal, GoalRow, MOST_ROWS, goal_row, put_option, put_root};
@@ -77,6 +77,7 @@ impl<'f> Walk<'f> {
         requires { IsAbout self.old (fork_of fork) behind }
         ensures goes { Goes self.old self.new }
         ensures looks { OnOk result (Looks self.old self.new steps.old steps.new) }
+        ensures further { OnOk result (GoesFurther self.old self.new) }
         ensures forest { self.new.forest ≡ self.old.forest }
     {
         self.goals.reserve(MOST_ROWS)?;
@@ -110,6 +111,7 @@ impl<'f> Walk<'f> {
         requires { IsAbout self.old (Write (flat_step step)) behind }
         ensures goes { Goes self.old self.new }
         ensures keeps { OnOk result ((n : ℕ) → HasSteps self.old n → HasSteps self.new n) }
+        ensures further { OnOk result (GoesFurther self.old self.new) }
         ensures forest { self.new.forest ≡ self.old.forest }
     {
         write_step(
@@ -137,7 +139,8 @@ impl<'f> Walk<'f> {
     // Lets go of the goals that are done and that no choice goes back to.
     fn let_go(&mut self)
         ensures goes { Goes self.old self.new }
-        ensures keeps { (n : ℕ) → HasSteps self.old n → HasSteps self.new n }
+        ensures keeps { KeepsLeft self.old self.new }
+        ensures counts { self.new.counts ≡ self.old.counts }
         ensures forest { self.new.forest ≡ self.old.forest }
     {
         let kept = self.kept(self.left);
@@ -150,6 +153,7 @@ impl<'f> Walk<'f> {
         requires stands { (rest : List (List Step)) × StandsBefore self.old rest }
         ensures goes { Goes self.old self.new }
         ensures looks { OnOk result (Looks self.old self.new steps.old steps.new) }
+        ensures further { OnOk result (GoesFurther self.old self.new) }
         ensures forest { self.new.forest ≡ self.old.forest }
     {
         let row = goal_row(&self.goals, self.left - 1);
@@ -168,13 +172,10 @@ impl<'f> Walk<'f> {
         ensures err { OnErr result (Goes self.old self.new) }
         ensures forest { self.new.forest ≡ self.old.forest }
     {
-        'walk: for _ in 0..u64::MAX {
-            if self.left == 0 {
-                return Ok(());
-            }
+        'walk: while self.left > 0 {
             self.go_one(steps)?;
         }
-        Err(NoMemory)
+        Ok(())
     }
 
     fn last_choice(&self) -> Option<Choice<'f>>

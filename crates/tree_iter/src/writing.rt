@@ -1,12 +1,12 @@
 //! Steps of flat derivations, written one after another as steps of what they stand for.
-ghost use Rattle.std.specs.Prelude.{◌≡◌, ◌+◌, ◌<◌, ◌∷◌, ◌++◌, [], ℕ, List, length, map, slice_get, vec_len, vec_capacity, Some, option_to_list, IfOk, OnOk, OnErr, false};
+ghost use Rattle.std.specs.Prelude.{◌≡◌, ◌^◌, ◌<◌, ◌∷◌, ◌++◌, [], ℕ, List, length, map, slice_get, vec_len, vec_capacity, Some, option_to_list, OnOk, OnErr, false};
 ghost use Rattle.grammar_core.specs.Steps.{step_of};
 ghost use Rattle.grammar_model.specs.Grammar.{Grammar, lhs_of as written_lhs, rule_at};
 ghost use Rattle.grammar_model.specs.Steps.{Step, RuleStep};
 ghost use Rattle.recognizer_model.specs.Flat.{IsRule, source_of};
 ghost use Rattle.recognizer_model.specs.FlatForm.{IsFlatOf, symbol_at, written_symbol as stands_for};
 ghost use Rattle.forest_laws.specs.Written.{is_list_rule as is_rule_of_list, rule_written};
-ghost use Rattle.tree_iter.specs.Writing.{flat_step, IsStepOf, IsCounted, AreTakenOff, IsEffect, AreDone};
+ghost use Rattle.tree_iter.specs.Writing.{flat_step, IsStepOf, IsCounted, AreOnTop, AreTakenOff, IsEffect, AreDone};
 
 use grammar_core::{
     Flat, FlatSource, FlatSymbol, RuleId, SymbolId, TreeStep, Written, WrittenRule,
@@ -90,43 +90,25 @@ fn row_at(rows: &[CountRow], k: usize) -> CountRow
     rows[k]
 }
 
-fn sum_of(a: u32, b: u32) -> Result<u32, NoMemory>
-    ensures { IfOk result (λ sum. sum ≡ a + b) }
-{
-    match a.checked_add(b) {
-        Some(sum) => Ok(sum),
-        None => Err(NoMemory),
-    }
-}
-
-// A place among rows; more than 2^32 - 1 rows count as too many for memory.
-fn place(n: usize) -> Result<u32, NoMemory>
-    ensures { IfOk result (λ place. place ≡ n) }
-{
-    match u32::try_from(n) {
-        Ok(place) => Ok(place),
-        Err(_) => Err(NoMemory),
-    }
-}
-
 // The sum of the newest so many counts, and what lies below them.
-fn newest(rows: &[CountRow], count: u32) -> Result<CountRow, NoMemory>
-    requires { (counts : List ℕ) × IsCounted rows.now (length rows.now) counts }
-    ensures { IfOk result (λ row. (counts : List ℕ) → IsCounted rows.now (length rows.now) counts → AreTakenOff rows.now count counts row) }
+fn newest(rows: &[CountRow], count: u32) -> CountRow
+    requires few { length rows.now < 2 ^ 32 }
+    requires on_top { (counts : List ℕ) × AreOnTop rows.now counts }
+    ensures { (counts : List ℕ) → IsCounted rows.now (length rows.now) counts → AreTakenOff rows.now count counts result }
 {
     let mut sum = 0u32;
-    let mut top = rows.len();
+    let mut top = rows.len() as u32;
     'newest: for _ in 0..count {
         if top > 0 {
-            let row = row_at(rows, top - 1);
-            sum = sum_of(sum, row.count)?;
-            top = row.below as usize;
+            let row = row_at(rows, top as usize - 1);
+            sum += row.count;
+            top = row.below;
         }
     }
-    Ok(CountRow {
+    CountRow {
         count: sum,
-        below: place(top)?,
-    })
+        below: top,
+    }
 }
 
 // A rule that is no list's, as it is written; a top is not.
@@ -153,59 +135,56 @@ fn rule_effect(
     children: u32,
     from: u32,
     to: u32,
-) -> Result<Effect, NoMemory>
+) -> Effect
     requires rule { IsRule flat.now rule }
-    requires counted { (counts : List ℕ) × IsCounted rows.now (length rows.now) counts }
-    ensures { IfOk result (λ effect. (w : Grammar) (counts : List ℕ) → IsCounted rows.now (length rows.now) counts → IsEffect w flat.now rows.now counts (RuleStep rule children from to) effect) }
+    requires few { length rows.now < 2 ^ 32 }
+    requires on_top { (counts : List ℕ) × AreOnTop rows.now counts }
+    ensures { (w : Grammar) (counts : List ℕ) → IsCounted rows.now (length rows.now) counts → IsEffect w flat.now rows.now counts (RuleStep rule children from to) result }
 {
-    let newest = newest(rows, children)?;
+    let newest = newest(rows, children);
     if is_list_rule(flat, rule) {
-        return Ok(Effect {
+        return Effect {
             row: newest,
             step: None,
-        });
+        };
     }
-    Ok(Effect {
+    Effect {
         row: CountRow {
             count: 1,
             below: newest.below,
         },
         step: rule_step(flat, rule, newest.count, from, to),
-    })
+    }
 }
 
 // What a step does behind those that left these counts.
-fn effect_of(
-    rows: &[CountRow],
-    flat: &Flat,
-    written: &Written,
-    step: FlatStep,
-) -> Result<Effect, NoMemory>
+fn effect_of(rows: &[CountRow], flat: &Flat, written: &Written, step: FlatStep) -> Effect
     requires flat_of { IsFlatOf flat.now written.now }
     requires step { IsStepOf flat.now (flat_step step) }
-    requires counted { (counts : List ℕ) × IsCounted rows.now (length rows.now) counts }
-    ensures { IfOk result (λ effect. (counts : List ℕ) → IsCounted rows.now (length rows.now) counts → IsEffect written.now flat.now rows.now counts (flat_step step) effect) }
+    requires few { length rows.now < 2 ^ 32 }
+    requires on_top { (counts : List ℕ) × AreOnTop rows.now counts }
+    ensures { (counts : List ℕ) → IsCounted rows.now (length rows.now) counts → IsEffect written.now flat.now rows.now counts (flat_step step) result }
 {
     let row = CountRow {
         count: 1,
-        below: place(rows.len())?,
+        below: rows.len() as u32,
     };
     match step {
-        FlatStep::Token { symbol, from, to } => Ok(Effect {
+        FlatStep::Token { symbol, from, to } => Effect {
             row,
             step: Some(TreeStep::Token {
                 symbol: written_symbol(flat, written, symbol),
                 from,
                 to,
             }),
-        }),
-        FlatStep::Nulled { symbol, at } => Ok(Effect {
+        },
+        FlatStep::Nulled { symbol, at } => Effect {
             row,
             step: Some(TreeStep::Nulled {
                 symbol: written_symbol(flat, written, symbol),
                 at,
             }),
-        }),
+        },
         FlatStep::Rule {
             rule,
             children,
@@ -229,30 +208,24 @@ fn make_room<T>(rows: &mut Vec<T>) -> Result<(), NoMemory>
 }
 
 // Puts what a step does behind the others.
-fn put_effect(
-    counts: &mut Vec<CountRow>,
-    steps: &mut Vec<TreeStep>,
-    row: CountRow,
-    step: Option<TreeStep>,
-) -> Result<(), NoMemory>
-    ensures counts { OnOk result (counts.new.items ≡ counts.old.items ++ row ∷ []) }
-    ensures steps { OnOk result (steps.new.items ≡ steps.old.items ++ option_to_list step) }
-    ensures err { OnErr result ((counts.new.items ≡ counts.old.items) × (steps.new.items ≡ steps.old.items)) }
+fn put_effect(counts: &mut Vec<CountRow>, steps: &mut Vec<TreeStep>, effect: Effect)
+    requires room { vec_len counts.old < vec_capacity counts.old }
+    requires room_of_steps { vec_len steps.old < vec_capacity steps.old }
+    ensures counts { counts.new.items ≡ counts.old.items ++ effect.row ∷ [] }
+    ensures steps { steps.new.items ≡ steps.old.items ++ option_to_list effect.step }
 {
-    make_room(counts)?;
-    make_room(steps)?;
-    let Ok(()) = counts.push(row) else {
+    let Ok(()) = counts.push(effect.row) else {
         unreachable!();
     };
-    if let Some(step) = step {
+    if let Some(step) = effect.step {
         let Ok(()) = steps.push(step) else {
             unreachable!();
         };
     }
-    Ok(())
 }
 
-/// Writes a step behind the others.
+/// Writes a step behind the others. Rows are numbered in 32 bits, and behind room for 2^32 of them one more counts as too many for
+/// memory.
 pub fn write_step(
     counts: &mut Vec<CountRow>,
     steps: &mut Vec<TreeStep>,
@@ -266,6 +239,12 @@ pub fn write_step(
     ensures ok { OnOk result ((done : List Step) → AreDone written.now flat.now counts.old.items steps.old.items done → AreDone written.now flat.now counts.new.items steps.new.items (done ++ flat_step step ∷ [])) }
     ensures err { OnErr result ((counts.new.items ≡ counts.old.items) × (steps.new.items ≡ steps.old.items)) }
 {
-    let effect = effect_of(counts, flat, written, step)?;
-    put_effect(counts, steps, effect.row, effect.step)
+    make_room(counts)?;
+    make_room(steps)?;
+    if counts.as_slice().len() > u32::MAX as usize {
+        return Err(NoMemory);
+    }
+    let effect = effect_of(counts, flat, written, step);
+    put_effect(counts, steps, effect);
+    Ok(())
 }

@@ -9,6 +9,8 @@ ghost use Rattle.forest_model.specs.Listing.{IsListing};
 ghost use Rattle.run_model.specs.Listing.{first_of};
 ghost use Rattle.run_model.specs.Outside.{stream};
 ghost use Rattle.valuator.specs.Told.{states};
+ghost use Rattle.tree_iter.specs.Iteration.{AreGiven};
+ghost use Rattle.grammar_model.specs.declared.Show.{Show};
 ghost use Rattle.value_lines.specs.Lines.{IsForestOf};
 ghost use Rattle.value_lines.specs.Writing.{AreBothTellers, TextHas, TextStops};
 
@@ -61,24 +63,52 @@ pub fn write_derivations<O: Sink, L: Ledger>(
         return Err(WriteRefusal::NoMemory);
     };
     let mut line = Vec::new(alloc);
+    write_lines(
+        alloc,
+        prepared,
+        chars,
+        spans,
+        first,
+        &mut iter,
+        &mut tellers,
+        &mut line,
+        out,
+        steps,
+    )
+}
+
+// Writes the lines of so many derivations from the first on, or of all.
+fn write_lines<O: Sink, L: Ledger>(
+    alloc: Global,
+    prepared: &Prepared,
+    chars: &Chars,
+    spans: &[Span],
+    first: Option<u32>,
+    iter: &mut TreeIter<'_>,
+    tellers: &mut Vec<Box<dyn Teller>>,
+    line: &mut Vec<u8>,
+    out: &mut O,
+    steps: &mut Steps<L>,
+) -> Result<(), WriteRefusal>
+    requires forest { (pieces : List Piece) × IsForestOf prepared.now chars.now spans.now iter.old.forest pieces }
+    requires begun { AreGiven iter.old [] }
+    requires tellers { (show : Show) × (states tellers.old.items shows held ≡ (show, []) ∷ []) }
+    ensures written { OnOk result ((show : Show) → states tellers.old.items shows held ≡ (show, []) ∷ [] →
+        TextHas prepared.now show chars.now spans.now iter.old.forest first (λ text. Appends (O.contents out.old) (O.contents out.new) text)) }
+    ensures stops { IfErr result (λ refusal. (show : Show) → states tellers.old.items shows held ≡ (show, []) ∷ [] → TextHas prepared.now show chars.now spans.now iter.old.forest first
+        (λ text. TextStops (stream O.contents O.fault_count out.old) (stream O.contents O.fault_count out.new) refusal text)) }
+    ensures counted { OnOk result ((trees : List Tree) → IsListing iter.old.forest trees → steps.new ≤ steps.old + sum_by choices (first_of first trees)) }
+    ensures later { O.fault_count out.old ≤ O.fault_count out.new }
+{
     let limit = limit_of(first);
     for _k in 0..limit {
-        let Ok(more) = next_line(
-            alloc,
-            prepared,
-            chars,
-            spans,
-            &mut iter,
-            &mut tellers,
-            &mut line,
-            steps,
-        ) else {
+        let Ok(more) = next_line(alloc, prepared, chars, spans, iter, tellers, line, steps) else {
             return Err(WriteRefusal::NoMemory);
         };
         if !more {
             return Ok(());
         }
-        let Ok(()) = write_all(out, &line) else {
+        let Ok(()) = write_all(out, line) else {
             return Err(WriteRefusal::WriteFault);
         };
     }

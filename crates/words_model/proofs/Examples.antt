@@ -4,19 +4,31 @@ use Rattle.grammar_model.specs.declared.Ranking.{Ranking}
 use Rattle.grammar_model.specs.declared.Ranking.TheVariants.{None as NoRanks, Rule as RuleRanks}
 use Rattle.grammar_model.specs.declared.Show.{Show}
 use Rattle.grammar_model.specs.declared.Show.TheVariants.{Array as ShowArray, Tree as ShowTree}
-use Rattle.words_model.specs.Words.{Job, Run, Check, Expect, Progress, Work, job_asked}
+use Rattle.words_model.specs.Words.{Job, Task, Values, Check, Expected, Report, Tell, Work, InputFrom, Nowhere, StandardInput, FileNamed, job_asked}
+
+abbrev input_in : Option (List ℕ) → InputFrom
+input_in None = StandardInput
+input_in (Some name) = FileNamed name
+
+abbrev of_grammar : (grammar : List ℕ) → InputFrom → Task → Job
+of_grammar grammar input task = record { grammar = Some grammar; input = input; task = task }
 
 abbrev runs : (grammar : List ℕ) (input : Option (List ℕ)) → Show → Ranking → (first : Option ℕ) (stats : Bool) → Job
-runs grammar input show ranking first stats = Run (record {
-  grammar = grammar;
-  input = input;
-  show = show;
-  ranking = ranking;
-  first = first;
-  stats = stats;
-})
+runs grammar input show ranking first stats = of_grammar grammar (input_in input) (Tell (Values (record { show = show; ranking = ranking; first = first; stats = stats })))
 
-progress_at : job_asked (codes "progress" ∷ codes "--at" ∷ codes "2" ∷ codes "--grammar" ∷ codes "g.slif" ∷ []) ≡ Some (Progress (codes "g.slif") 2 None)
+abbrev checks : List ℕ → Job
+checks grammar = of_grammar grammar Nowhere Check
+
+abbrev expects : (grammar : List ℕ) (input : Option (List ℕ)) → Job
+expects grammar input = of_grammar grammar (input_in input) (Tell Expected)
+
+abbrev reports : (grammar : List ℕ) (at : ℕ) (input : Option (List ℕ)) → Job
+reports grammar at input = of_grammar grammar (input_in input) (Tell (Report at))
+
+abbrev works : ℕ → Job
+works size = record { grammar = None; input = Nowhere; task = Work size }
+
+progress_at : job_asked (codes "progress" ∷ codes "--at" ∷ codes "2" ∷ codes "--grammar" ∷ codes "g.slif" ∷ []) ≡ Some (reports (codes "g.slif") 2 None)
 progress_at = refl
 
 run_alone : job_asked (codes "run" ∷ []) ≡ None
@@ -46,7 +58,7 @@ stats_twice = refl
 rank_for_check : job_asked (codes "check" ∷ codes "--grammar" ∷ codes "g.slif" ∷ codes "--rank" ∷ codes "rule" ∷ []) ≡ None
 rank_for_check = refl
 
-job_behind_the_end : job_asked (codes "--grammar" ∷ codes "g.slif" ∷ codes "--" ∷ codes "check" ∷ []) ≡ Some (Check (codes "g.slif"))
+job_behind_the_end : job_asked (codes "--grammar" ∷ codes "g.slif" ∷ codes "--" ∷ codes "check" ∷ []) ≡ Some (checks (codes "g.slif"))
 job_behind_the_end = refl
 
 option_behind_the_end : job_asked (codes "check" ∷ codes "--" ∷ codes "--grammar" ∷ codes "g.slif" ∷ []) ≡ None
@@ -58,7 +70,7 @@ two_behind_the_end = refl
 job_on_both_sides_of_the_end : job_asked (codes "check" ∷ codes "--grammar" ∷ codes "g.slif" ∷ codes "--" ∷ codes "check" ∷ []) ≡ None
 job_on_both_sides_of_the_end = refl
 
-nothing_behind_the_end : job_asked (codes "check" ∷ codes "--grammar" ∷ codes "g.slif" ∷ codes "--" ∷ []) ≡ Some (Check (codes "g.slif"))
+nothing_behind_the_end : job_asked (codes "check" ∷ codes "--grammar" ∷ codes "g.slif" ∷ codes "--" ∷ []) ≡ Some (checks (codes "g.slif"))
 nothing_behind_the_end = refl
 
 two_ends : job_asked (codes "--grammar" ∷ codes "g.slif" ∷ codes "--" ∷ codes "--" ∷ codes "check" ∷ []) ≡ None
@@ -70,13 +82,13 @@ the_end_as_a_value = refl
 the_end_before_a_value : job_asked (codes "--grammar" ∷ codes "--" ∷ codes "g.slif" ∷ codes "check" ∷ []) ≡ None
 the_end_before_a_value = refl
 
-work_2 : job_asked (codes "work" ∷ codes "--size" ∷ codes "2" ∷ []) ≡ Some (Work 2)
+work_2 : job_asked (codes "work" ∷ codes "--size" ∷ codes "2" ∷ []) ≡ Some (works 2)
 work_2 = refl
 
-work_1001 : job_asked (codes "--size=1001" ∷ codes "work" ∷ []) ≡ Some (Work 1001)
+work_1001 : job_asked (codes "--size=1001" ∷ codes "work" ∷ []) ≡ Some (works 1001)
 work_1001 = refl
 
-work_most : job_asked (codes "work" ∷ codes "--size" ∷ codes "100000" ∷ []) ≡ Some (Work 100000)
+work_most : job_asked (codes "work" ∷ codes "--size" ∷ codes "100000" ∷ []) ≡ Some (works 100000)
 work_most = refl
 
 work_too_many : job_asked (codes "work" ∷ codes "--size" ∷ codes "100001" ∷ []) ≡ None
@@ -145,7 +157,7 @@ value_with_an_equals = refl
 value_of_an_equals : job_asked (codes "run" ∷ codes "--grammar==" ∷ []) ≡ Some (runs (codes "=") None ShowArray RuleRanks None false)
 value_of_an_equals = refl
 
-value_that_names_a_job : job_asked (codes "check" ∷ codes "--grammar" ∷ codes "run" ∷ []) ≡ Some (Check (codes "run"))
+value_that_names_a_job : job_asked (codes "check" ∷ codes "--grammar" ∷ codes "run" ∷ []) ≡ Some (checks (codes "run"))
 value_that_names_a_job = refl
 
 value_empty_attached : job_asked (codes "run" ∷ codes "--grammar=" ∷ []) ≡ None
@@ -181,10 +193,10 @@ show_of_another_name = refl
 at_for_run : job_asked (codes "run" ∷ codes "--grammar" ∷ codes "g.slif" ∷ codes "--at" ∷ codes "2" ∷ []) ≡ None
 at_for_run = refl
 
-at_0 : job_asked (codes "progress" ∷ codes "--at" ∷ codes "0" ∷ codes "--grammar" ∷ codes "g.slif" ∷ codes "--input" ∷ codes "text" ∷ []) ≡ Some (Progress (codes "g.slif") 0 (Some (codes "text")))
+at_0 : job_asked (codes "progress" ∷ codes "--at" ∷ codes "0" ∷ codes "--grammar" ∷ codes "g.slif" ∷ codes "--input" ∷ codes "text" ∷ []) ≡ Some (reports (codes "g.slif") 0 (Some (codes "text")))
 at_0 = refl
 
-at_most : job_asked (codes "progress" ∷ codes "--at=16777216" ∷ codes "--grammar" ∷ codes "g.slif" ∷ []) ≡ Some (Progress (codes "g.slif") 16777216 None)
+at_most : job_asked (codes "progress" ∷ codes "--at=16777216" ∷ codes "--grammar" ∷ codes "g.slif" ∷ []) ≡ Some (reports (codes "g.slif") 16777216 None)
 at_most = refl
 
 at_past_the_most : job_asked (codes "progress" ∷ codes "--at=16777217" ∷ codes "--grammar" ∷ codes "g.slif" ∷ []) ≡ None
@@ -196,10 +208,10 @@ progress_without_at = refl
 progress_without_a_grammar : job_asked (codes "progress" ∷ codes "--at" ∷ codes "2" ∷ []) ≡ None
 progress_without_a_grammar = refl
 
-expect_plain : job_asked (codes "expect" ∷ codes "--grammar" ∷ codes "g.slif" ∷ []) ≡ Some (Expect (codes "g.slif") None)
+expect_plain : job_asked (codes "expect" ∷ codes "--grammar" ∷ codes "g.slif" ∷ []) ≡ Some (expects (codes "g.slif") None)
 expect_plain = refl
 
-expect_text : job_asked (codes "--input" ∷ codes "text" ∷ codes "expect" ∷ codes "--grammar" ∷ codes "g.slif" ∷ []) ≡ Some (Expect (codes "g.slif") (Some (codes "text")))
+expect_text : job_asked (codes "--input" ∷ codes "text" ∷ codes "expect" ∷ codes "--grammar" ∷ codes "g.slif" ∷ []) ≡ Some (expects (codes "g.slif") (Some (codes "text")))
 expect_text = refl
 
 first_for_expect : job_asked (codes "expect" ∷ codes "--grammar" ∷ codes "g.slif" ∷ codes "--first" ∷ codes "1" ∷ []) ≡ None
@@ -262,5 +274,5 @@ input_empty = refl
 an_empty_word : job_asked (codes "run" ∷ codes "--grammar" ∷ codes "g.slif" ∷ codes "" ∷ []) ≡ None
 an_empty_word = refl
 
-a_space_in_a_name : job_asked (codes "check" ∷ codes "--grammar" ∷ codes "a b" ∷ []) ≡ Some (Check (codes "a b"))
+a_space_in_a_name : job_asked (codes "check" ∷ codes "--grammar" ∷ codes "a b" ∷ []) ≡ Some (checks (codes "a b"))
 a_space_in_a_name = refl

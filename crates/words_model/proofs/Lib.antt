@@ -3,3 +3,4 @@ mod Examples
 pub mod Settings
 pub mod Spellings
 mod Orders
+pub mod Fitted

@@ -1,8 +1,8 @@
 -- Laws of the definitions.
-use Rattle.std.specs.Prelude.{◌≡◌, ℕ, Bool, true, false, not, List, ◌∷◌, ◌++◌, ◌⊎◌, Some, None, bytes_eq, codes}
+use Rattle.std.specs.Prelude.{◌≡◌, ◌≢◌, ℕ, ◌≤◌, Bool, true, false, not, IsTrue, List, ◌∷◌, ◌++◌, ◌⊎◌, Option, Some, None, is_some, bytes_eq, codes}
 use Rattle.std.specs.List.{list_all}
 use Rattle.language_model.specs.Building.{is_one_of}
-use Rattle.words_model.specs.Words.{Job, Setting, Asks, AskNothing, is_dashed, job_asked, with_value, words_set}
+use Rattle.words_model.specs.Words.{Job, Task, Check, Tell, Work, InputFrom, Nowhere, Setting, Asks, AskNothing, is_dashed, job_asked, with_value, words_set}
 
 -- the words ask for a job or for none, and for one at most
 abbrev pub HasJobOrNone : Type 0
@@ -10,6 +10,15 @@ HasJobOrNone = (words : List (List ℕ)) → ((job : Job) × Asks words job) ⊎
 
 abbrev pub HasOneJob : Type 0
 HasOneJob = (words : List (List ℕ)) (a b : Job) → Asks words a → Asks words b → a ≡ b
+
+-- the task has the grammar and the input that it needs, and no other; job `work` has a size within its bounds
+abbrev pub IsFitted : Task → (grammar : Option (List ℕ)) → InputFrom → Type 0
+IsFitted Check grammar input = IsTrue (is_some grammar) × (input ≡ Nowhere)
+IsFitted (Tell what) grammar input = IsTrue (is_some grammar) × (input ≢ Nowhere)
+IsFitted (Work size) grammar input = (grammar ≡ None) × (input ≡ Nowhere) × (size ≤ 100000)
+
+abbrev pub JobsAreFitted : Type 0
+JobsAreFitted = (words : List (List ℕ)) (job : Job) → Asks words job → IsFitted job.task job.grammar job.input
 
 -- `--name value` and `--name=value` set the same
 abbrev pub SpellingsAgree : Type 0

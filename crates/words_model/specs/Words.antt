@@ -12,23 +12,32 @@ use Rattle.language_model.specs.Building.{digits_number, is_one_of}
 
 -- ---- jobs
 
--- the values of one input: the names of the files, where the input has one, and which values are shown and how
-pub record RunAsked : Type 0 where
-  pub grammar : List ℕ
-  pub input : Option (List ℕ)
+-- which values are shown, and how
+pub record ValuesAsked : Type 0 where
   pub show : Show
   pub ranking : Ranking
-  -- at most so many values
+  -- at most so many
   pub first : Option ℕ
   pub stats : Bool
 
--- a job, with what it was given
-pub data Job : Type 0 where
-  Run : (asked : RunAsked) → Job
-  Check : (grammar : List ℕ) → Job
-  Expect : (grammar : List ℕ) (input : Option (List ℕ)) → Job
-  Progress : (grammar : List ℕ) (at : ℕ) (input : Option (List ℕ)) → Job
-  Work : (size : ℕ) → Job
+-- what is told of an input that is read to its end: the values of its derivations, the lexemes that could come next, or the report at a place
+pub data Telling : Type 0 where
+  Values : (asked : ValuesAsked) → Telling
+  Expected : Telling
+  Report : (at : ℕ) → Telling
+
+-- the values that are told, if it is values
+abbrev pub values_of : Telling → Option ValuesAsked
+values_of (Values asked) = Some asked
+values_of Expected = None
+values_of (Report at) = None
+
+-- what a job does: it tells what the symbols of its grammar can do, it tells something of its input, or it reads an input of its own, of
+-- that size, by a grammar of its own
+pub data Task : Type 0 where
+  Check : Task
+  Tell : (what : Telling) → Task
+  Work : (size : ℕ) → Task
 
 -- where the input of a job is
 pub data InputFrom : Type 0 where
@@ -36,24 +45,11 @@ pub data InputFrom : Type 0 where
   StandardInput : InputFrom
   FileNamed : (name : List ℕ) → InputFrom
 
--- the name of the file that has the job's grammar, if it needs one
-abbrev pub grammar_file : Job → Option (List ℕ)
-grammar_file (Run asked) = Some asked.grammar
-grammar_file (Check grammar) = Some grammar
-grammar_file (Expect grammar input) = Some grammar
-grammar_file (Progress grammar at input) = Some grammar
-grammar_file (Work size) = None
-
-abbrev pub input_named : Option (List ℕ) → InputFrom
-input_named None = StandardInput
-input_named (Some name) = FileNamed name
-
-abbrev pub input_from : Job → InputFrom
-input_from (Run asked) = input_named asked.input
-input_from (Check grammar) = Nowhere
-input_from (Expect grammar input) = input_named input
-input_from (Progress grammar at input) = input_named input
-input_from (Work size) = Nowhere
+-- a job: the file of its grammar, if it needs one, where its input is, and what it does
+pub record Job : Type 0 where
+  pub grammar : Option (List ℕ)
+  pub input : InputFrom
+  pub task : Task
 
 -- ---- what the words set, one after the other
 
@@ -142,8 +138,8 @@ number_from least most value =
     && nat_le least (digits_number value) && nat_le (digits_number value) most
     then Some (digits_number value) else None
 
-abbrev pub some_file : List ℕ → Option (Option (List ℕ))
-some_file value = option_map (λ name. Some name) (file_name value)
+abbrev pub input_file : List ℕ → Option InputFrom
+input_file value = option_map FileNamed (file_name value)
 
 -- at most so many values
 abbrev pub value_count : List ℕ → Option (Option ℕ)
@@ -162,77 +158,55 @@ show_of value =
     else (if bytes_eq value (codes "tree") then Some ShowTree
     else None)
 
--- ---- the table of jobs. `given` is the value of each name that was set
+-- ---- what is given. `given` is the value of each name that was set
 
 -- no option is given but these
 abbrev pub gives_only : List (List ℕ) → (given : List ℕ → Option (List ℕ)) → Bool
 gives_only names given = list_all (λ option. is_one_of names option || not (is_some (given option))) (stats ∷ with_value)
 
-abbrev pub grammar_given : (given : List ℕ → Option (List ℕ)) → Option (List ℕ)
-grammar_given given = option_and_then file_name (given (codes "grammar"))
+-- the file of the grammar, of a job that has the option
+abbrev pub grammar_given : (options : List (List ℕ)) (given : List ℕ → Option (List ℕ)) → Option (Option (List ℕ))
+grammar_given options given =
+    if is_one_of options (codes "grammar") then option_map (λ name. Some name) (option_and_then file_name (given (codes "grammar"))) else Some None
 
-abbrev pub input_given : (given : List ℕ → Option (List ℕ)) → Option (Option (List ℕ))
-input_given given = read_or None some_file (given (codes "input"))
+-- the input is the standard input, where a job that has the option is not given a file
+abbrev pub input_given : (options : List (List ℕ)) (given : List ℕ → Option (List ℕ)) → Option InputFrom
+input_given options given = if is_one_of options (codes "input") then read_or StandardInput input_file (given (codes "input")) else Some Nowhere
 
--- needs --grammar; may have --input, --first, --rank, --show and --stats
-abbrev pub run_asked : (given : List ℕ → Option (List ℕ)) → Option Job
-run_asked given =
-    if gives_only (codes "grammar" ∷ codes "input" ∷ codes "first" ∷ codes "rank" ∷ codes "show" ∷ stats ∷ []) given then
+-- the job of a task that has these options
+abbrev pub job_with : (options : List (List ℕ)) (task : Option Task) (given : List ℕ → Option (List ℕ)) → Option Job
+job_with options task given =
+    if gives_only options given then
     option_and_then (λ grammar.
     option_and_then (λ input.
+    option_map (λ t. record { grammar = grammar; input = input; task = t }) task)
+    (input_given options given))
+    (grammar_given options given)
+    else None
+
+abbrev pub values_asked : (given : List ℕ → Option (List ℕ)) → Option Task
+values_asked given =
     option_and_then (λ show.
     option_and_then (λ ranking.
-    option_map (λ first. Run (record {
-      grammar = grammar;
-      input = input;
-      show = show;
-      ranking = ranking;
-      first = first;
-      stats = is_some (given stats);
-    }))
+    option_map (λ first. Tell (Values (record { show = show; ranking = ranking; first = first; stats = is_some (given stats) })))
     (read_or None value_count (given (codes "first"))))
     (read_or RuleRanks ranking_of (given (codes "rank"))))
-    (read_or ShowArray show_of (given (codes "show"))))
-    (input_given given))
-    (grammar_given given)
-    else None
+    (read_or ShowArray show_of (given (codes "show")))
 
--- needs --grammar
-abbrev pub check_asked : (given : List ℕ → Option (List ℕ)) → Option Job
-check_asked given =
-    if gives_only (codes "grammar" ∷ []) given then option_map Check (grammar_given given) else None
+abbrev pub report_asked : (given : List ℕ → Option (List ℕ)) → Option Task
+report_asked given = option_map (λ at. Tell (Report at)) (option_and_then (number_from 0 16777216) (given (codes "at")))
 
--- needs --grammar; may have --input
-abbrev pub expect_asked : (given : List ℕ → Option (List ℕ)) → Option Job
-expect_asked given =
-    if gives_only (codes "grammar" ∷ codes "input" ∷ []) given then
-    option_and_then (λ grammar. option_map (Expect grammar) (input_given given)) (grammar_given given)
-    else None
+abbrev pub work_asked : (given : List ℕ → Option (List ℕ)) → Option Task
+work_asked given = option_map Work (option_and_then (number_from 1 100000) (given (codes "size")))
 
--- needs --grammar and --at; may have --input
-abbrev pub progress_asked : (given : List ℕ → Option (List ℕ)) → Option Job
-progress_asked given =
-    if gives_only (codes "grammar" ∷ codes "at" ∷ codes "input" ∷ []) given then
-    option_and_then (λ grammar.
-    option_and_then (λ at. option_map (Progress grammar at) (input_given given))
-    (option_and_then (number_from 0 16777216) (given (codes "at"))))
-    (grammar_given given)
-    else None
-
--- needs --size
-abbrev pub work_asked : (given : List ℕ → Option (List ℕ)) → Option Job
-work_asked given =
-    if gives_only (codes "size" ∷ []) given then
-    option_map Work (option_and_then (number_from 1 100000) (given (codes "size")))
-    else None
-
+-- THE TABLE OF JOBS: the options that each may have, and its task. It needs those whose value has no default
 abbrev pub job_named : (name : List ℕ) (given : List ℕ → Option (List ℕ)) → Option Job
 job_named name given =
-    if bytes_eq name (codes "run") then run_asked given
-    else (if bytes_eq name (codes "check") then check_asked given
-    else (if bytes_eq name (codes "expect") then expect_asked given
-    else (if bytes_eq name (codes "progress") then progress_asked given
-    else (if bytes_eq name (codes "work") then work_asked given
+    if bytes_eq name (codes "run") then job_with (codes "grammar" ∷ codes "input" ∷ codes "first" ∷ codes "rank" ∷ codes "show" ∷ stats ∷ []) (values_asked given) given
+    else (if bytes_eq name (codes "check") then job_with (codes "grammar" ∷ []) (Some Check) given
+    else (if bytes_eq name (codes "expect") then job_with (codes "grammar" ∷ codes "input" ∷ []) (Some (Tell Expected)) given
+    else (if bytes_eq name (codes "progress") then job_with (codes "grammar" ∷ codes "input" ∷ codes "at" ∷ []) (report_asked given) given
+    else (if bytes_eq name (codes "work") then job_with (codes "size" ∷ []) (work_asked given) given
     else None))))
 
 abbrev pub job_given : (given : List ℕ → Option (List ℕ)) → Option Job

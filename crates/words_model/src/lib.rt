@@ -2,7 +2,7 @@
 //! states.
 #![tactic(auto)]
 
-ghost use Rattle.words_model.specs.Laws.{HasJobOrNone, HasOneJob, PartsChangePlaces, SpellingsAgree};
+ghost use Rattle.words_model.specs.Laws.{HasJobOrNone, HasOneJob, JobsAreFitted, PartsChangePlaces, SpellingsAgree};
 
 /// Words ask for a job or for none.
 pub fn job_or_none()
@@ -12,6 +12,11 @@ pub fn job_or_none()
 /// Words ask for one job at most.
 pub fn one_job()
     ensures { HasOneJob }
+{}
+
+/// A job that words ask for has what its task needs.
+pub fn jobs_are_fitted()
+    ensures { JobsAreFitted }
 {}
 
 /// An option's value may stand in its word or in the next, where that does not begin with a hyphen.

@@ -4,6 +4,12 @@ use Rattle.bocage.proofs.NodeKeys.{one_number}
 use Rattle.earley_sets.proofs.Membership.{got_item}
 use Rattle.bocage.proofs.ends.list_node.Goals as goal
 
+pub returns-then-key-eq0 : goal.returns-then-key-eq0
+returns-then-key-eq0 c =
+    let zero = c.if-key-eq0.true in
+    gains_none (λ (n : ℕ). (n < c.args.first) × (slice_get c.args.keys.now.keys n ≡ Some c.args.key)) c.args.nodes.now.items
+    (λ n (l, e). (let some = c.requires (got_item c.args.keys.now.keys n c.args.key (sym e)) in absurd (omega arith)))
+
 pub returns-in_ok-push : goal.returns-in_ok-push
 returns-in_ok-push c =
     let lt = c.if-node-first.true in

@@ -21,3 +21,6 @@ returns c n =
       λ h. elim (all.0 h) [ inl o ↦ absurd (Contains-none n o) | inr (item, held, (lt, at)) ↦ (lt, (item, held, at)) ],
       λ (lt, (item, held, at)). all.1 (inr (item, held, (lt, at))),
     )
+
+pub list_node-requires : goal.list_node-requires
+list_node-requires c h = c.requires.begun _ h

@@ -19,6 +19,9 @@ returns-then-not-whole-clause-visited g c =
     (eqb-true (length c.as_slice.result.now) 0 (sym c.is_empty.ensures ∙ c.if-is_empty.true)) (λ e. c.if-not-whole.true (e ∙ sym c.place.ensures.place))
     (λ n. subst (λ (l : List ℕ). Contains l n ↔ ((n < c.args.first) × IsKnownNode c.args.recce.now c.args.end c.args.found.now.keys.keys n)) (sym c.as_slice.ensures.value) (c.in_ok-list_nodes.ensures n))
 
+pub list_nodes-requires-clause-begun : goal.list_nodes-requires-clause-begun
+list_nodes-requires-clause-begun g c key h = (c.requires.going.used key h).some
+
 pub least_origin-least-requires : goal.least_origin-least-requires
 least_origin-least-requires g c n h =
     let (lt, known) = (c.in_ok-list_nodes.ensures n).0 (subst (λ (l : List ℕ). Contains l n) c.deref.ensures.value h) in

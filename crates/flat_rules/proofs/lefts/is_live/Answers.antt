@@ -2,7 +2,7 @@ use Rattle.std.proofs.Common.{arith, ◌<◌, subst, sym, ◌∙◌, inl, inr, r
 use Rattle.grammar_model.specs.Grammar.{Grammar, rule_at, child_slot}
 use Rattle.grammar_model.specs.Analysis.{IsProductive}
 use Rattle.slot_analysis.specs.Slots.{needed_of}
-use Rattle.slot_analysis.proofs.Search.{same_or_below}
+use Rattle.horn_clauses.proofs.Search.{same_or_below}
 use Rattle.slot_analysis.proofs.StepLemmas.{all_needed}
 use Rattle.flat_rules.proofs.lefts.is_live.Goals as goal
 

@@ -1,6 +1,5 @@
-use Rattle.slot_analysis.specs.Rows.{rows_of}
 use Rattle.grammar_check.specs.Settled.{NoneBelow}
 use Rattle.grammar_check.proofs.cycles.least_cycle.Given as goal
 
 abbrev pub invariant-loop-x : goal.invariant-loop-x
-invariant-loop-x l = NoneBelow (rows_of l.rows) l.floors l.x
+invariant-loop-x l = NoneBelow l.rows l.floors l.x

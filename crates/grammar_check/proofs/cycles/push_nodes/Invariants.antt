@@ -1,7 +1,6 @@
-use Rattle.slot_analysis.specs.Rows.{rows_of}
 use Rattle.slot_analysis.specs.Steps.{HasMore}
 use Rattle.grammar_check.specs.Settled.{IsOfNodes}
 use Rattle.grammar_check.proofs.cycles.push_nodes.Given as goal
 
 abbrev pub invariant-loop-y : goal.invariant-loop-y
-invariant-loop-y l = HasMore l.initial.clauses.items l.clauses.items (IsOfNodes (rows_of l.rows) l.total l.y)
+invariant-loop-y l = HasMore l.initial.clauses l.clauses (IsOfNodes l.rows l.total l.y)

@@ -1,52 +1,49 @@
-use Rattle.std.proofs.Common.{◌≡◌, ℕ, ◌<◌, List, All, Option, Some, subst, sym, ◌∙◌, refl, length, slice_index}
+use Rattle.std.proofs.Common.{◌≡◌, ℕ, ◌<◌, List, All, Option, Some, subst, sym, refl, length, slice_index}
 use Rattle.std.specs.Option.{IfSome, IsNone}
 use Rattle.std.specs.declared.vec.Vec.{Vec}
 use Rattle.std.specs.declared.alloc.Global.{Global}
-use Rattle.slot_analysis.specs.Rows.{rows_of}
 use Rattle.grammar_check.specs.Links.{AreRows, AreFloors, IsLeastPath}
 use Rattle.grammar_check.specs.Settled.{NoneBelow, Rises}
 use Rattle.grammar_check.specs.Told.{AreSlotsAt}
-use Rattle.slot_analysis.proofs.RowLemmas.{rows_length}
 use Rattle.grammar_check.proofs.SlotCycles.{floors_are, rows_are, path_known, cycle_told, slots_of_grammar, heights}
 use Rattle.grammar_check.proofs.cyclic.cycle_of.Goals as goal
 
 pub least_cycle-requires-clause-rows : goal.least_cycle-requires-clause-rows
 least_cycle-requires-clause-rows c =
-    subst (λ (rows : List (Vec ℕ Global)). AreRows (length rows) (rows_of rows)) (sym c.deref.ensures.value)
-    (subst (λ n. AreRows n (rows_of c.in_ok-rows.rows.items)) (sym c.in_ok-rows.ensures.length)
-    (rows_are c.args.w.now c.rule_count.ensures.sound c.args.slots.now.bases.now c.requires.numbering c.in_ok-floors.floors.items c.in_ok-floors.ensures (rows_of c.in_ok-rows.rows.items) c.in_ok-rows.ensures.links))
+    subst (λ n. AreRows n c.in_ok-rows.rows) (sym c.in_ok-rows.ensures.length)
+    (rows_are c.args.w.now c.rule_count.ensures.sound c.args.slots.now.bases.now c.requires.numbering c.in_ok-floors.floors.items c.in_ok-floors.ensures c.in_ok-rows.rows c.in_ok-rows.ensures.links)
 
 pub least_cycle-requires-clause-floors : goal.least_cycle-requires-clause-floors
-least_cycle-requires-clause-floors c = subst AreFloors (sym c.deref-2.ensures.value) (floors_are c.args.w.now c.rule_count.ensures.sound c.args.slots.now.bases.now c.requires.numbering c.in_ok-floors.floors.items c.in_ok-floors.ensures)
+least_cycle-requires-clause-floors c = subst AreFloors (sym c.deref.ensures.value) (floors_are c.args.w.now c.rule_count.ensures.sound c.args.slots.now.bases.now c.requires.numbering c.in_ok-floors.floors.items c.in_ok-floors.ensures)
 
 pub returns-in_default-clause-none : goal.returns-in_default-clause-none
 returns-in_default-clause-none c = λ _.
-    let none = subst (λ (r : Option (Vec ℕ Global)). IsNone r → Rises (rows_of c.deref.result.now) c.deref-2.result.now) c.in_default.is c.in_ok-path.ensures.none refl in
-    let r = subst (λ (rows : List (Vec ℕ Global)). Rises (rows_of rows) c.in_ok-floors.floors.items) c.deref.ensures.value (subst (Rises (rows_of c.deref.result.now)) c.deref-2.ensures.value none) in
-    heights c.args.w.now c.rule_count.ensures.sound c.args.slots.now.bases.now c.requires.numbering c.in_ok-floors.floors.items c.in_ok-floors.ensures (rows_of c.in_ok-rows.rows.items) c.in_ok-rows.ensures.links
-    c.args.slots.now.productive.now.keys c.requires.productive.exact (rows_length c.in_ok-rows.rows.items ∙ c.in_ok-rows.ensures.length) r
+    let none = subst (λ (r : Option (Vec ℕ Global)). IsNone r → Rises c.in_ok-rows.rows c.deref.result.now) c.in_default.is c.in_ok-path.ensures.none refl in
+    let r = subst (Rises c.in_ok-rows.rows) c.deref.ensures.value none in
+    heights c.args.w.now c.rule_count.ensures.sound c.args.slots.now.bases.now c.requires.numbering c.in_ok-floors.floors.items c.in_ok-floors.ensures c.in_ok-rows.rows c.in_ok-rows.ensures.links
+    c.args.slots.now.productive.now c.requires.productive.exact c.in_ok-rows.ensures.length r
 
-abbrev Least : List (Vec ℕ Global) → List ℕ → List ℕ → Type 0
-Least rows floors path = (to : ℕ) × (n : ℕ) × IsLeastPath (rows_of rows) floors to n path × NoneBelow (rows_of rows) floors to
+abbrev Least : List (List ℕ) → List ℕ → List ℕ → Type 0
+Least rows floors path = (to : ℕ) × (n : ℕ) × IsLeastPath rows floors to n path × NoneBelow rows floors to
 
-least : (deref rows : List (Vec ℕ Global)) (deref-2 floors : List ℕ) (r : Option (Vec ℕ Global)) (path : Vec ℕ Global) → deref ≡ rows → deref-2 ≡ floors → r ≡ Some path → IfSome r (λ path. Least deref deref-2 path.items) → Least rows floors path.items
-least deref rows deref-2 floors r path er ef ep h =
-    let at = subst (λ (r : Option (Vec ℕ Global)). IfSome r (λ path. Least deref deref-2 path.items)) ep h in
-    subst (λ (rows : List (Vec ℕ Global)). Least rows floors path.items) er (subst (λ floors. Least deref floors path.items) ef at)
+least : (rows : List (List ℕ)) (deref floors : List ℕ) (r : Option (Vec ℕ Global)) (path : Vec ℕ Global) → deref ≡ floors → r ≡ Some path → IfSome r (λ path. Least rows deref path.items) → Least rows floors path.items
+least rows deref floors r path ef ep h =
+    let at = subst (λ (r : Option (Vec ℕ Global)). IfSome r (λ path. Least rows deref path.items)) ep h in
+    subst (λ floors. Least rows floors path.items) ef at
 
 pub slots_at-requires-clause-known : goal.slots_at-requires-clause-known
 slots_at-requires-clause-known c =
-    let (to, n, p, below) = least c.deref.result.now c.in_ok-rows.rows.items c.deref-2.result.now c.in_ok-floors.floors.items c.in_ok-path.field-0 c.in-Some.path c.deref.ensures.value c.deref-2.ensures.value c.in-Some.is c.in_ok-path.ensures.some in
-    subst (λ l. All (λ x. x < slice_index c.args.slots.now.bases.now (length c.args.w.now.names)) l) (sym c.deref-3.ensures.value)
-    (path_known c.args.w.now c.rule_count.ensures.sound c.args.slots.now.bases.now c.requires.numbering c.in_ok-floors.floors.items c.in_ok-floors.ensures (rows_of c.in_ok-rows.rows.items) c.in_ok-rows.ensures.links to n c.in-Some.path.items p)
+    let (to, n, p, below) = least c.in_ok-rows.rows c.deref.result.now c.in_ok-floors.floors.items c.in_ok-path.field-0 c.in-Some.path c.deref.ensures.value c.in-Some.is c.in_ok-path.ensures.some in
+    subst (λ l. All (λ x. x < slice_index c.args.slots.now.bases.now (length c.args.w.now.names)) l) (sym c.deref-2.ensures.value)
+    (path_known c.args.w.now c.rule_count.ensures.sound c.args.slots.now.bases.now c.requires.numbering c.in_ok-floors.floors.items c.in_ok-floors.ensures c.in_ok-rows.rows c.in_ok-rows.ensures.links to n c.in-Some.path.items p)
 
 pub returns-clause-some : goal.returns-clause-some
 returns-clause-some c =
-    let (to, n, p, below) = least c.deref.result.now c.in_ok-rows.rows.items c.deref-2.result.now c.in_ok-floors.floors.items c.in_ok-path.field-0 c.in-Some.path c.deref.ensures.value c.deref-2.ensures.value c.in-Some.is c.in_ok-path.ensures.some in
-    cycle_told c.args.w.now c.rule_count.ensures.sound c.args.slots.now.bases.now c.requires.numbering c.in_ok-floors.floors.items c.in_ok-floors.ensures (rows_of c.in_ok-rows.rows.items) c.in_ok-rows.ensures.links to n c.in-Some.path.items c.in_ok-cycle.cycle.items p below
-    (subst (λ l. AreSlotsAt c.args.w.now c.args.slots.now.bases.now l c.in_ok-cycle.cycle.items) c.deref-3.ensures.value c.in_ok-cycle.ensures)
+    let (to, n, p, below) = least c.in_ok-rows.rows c.deref.result.now c.in_ok-floors.floors.items c.in_ok-path.field-0 c.in-Some.path c.deref.ensures.value c.in-Some.is c.in_ok-path.ensures.some in
+    cycle_told c.args.w.now c.rule_count.ensures.sound c.args.slots.now.bases.now c.requires.numbering c.in_ok-floors.floors.items c.in_ok-floors.ensures c.in_ok-rows.rows c.in_ok-rows.ensures.links to n c.in-Some.path.items c.in_ok-cycle.cycle.items p below
+    (subst (λ l. AreSlotsAt c.args.w.now c.args.slots.now.bases.now l c.in_ok-cycle.cycle.items) c.deref-2.ensures.value c.in_ok-cycle.ensures)
 
 pub returns-clause-known : goal.returns-clause-known
 returns-clause-known c =
-    let told = subst (λ l. AreSlotsAt c.args.w.now c.args.slots.now.bases.now l c.in_ok-cycle.cycle.items) c.deref-3.ensures.value c.in_ok-cycle.ensures in
+    let told = subst (λ l. AreSlotsAt c.args.w.now c.args.slots.now.bases.now l c.in_ok-cycle.cycle.items) c.deref-2.ensures.value c.in_ok-cycle.ensures in
     slots_of_grammar c.args.w.now c.args.slots.now.bases.now c.in-Some.path.items c.in_ok-cycle.cycle.items told

@@ -1,7 +1,7 @@
 use Rattle.std.proofs.Common.{inl, inr, subst, sym}
 use Rattle.grammar_model.specs.Grammar.{rule_at, child_slot}
 use Rattle.grammar_model.specs.Analysis.{IsNullable}
-use Rattle.slot_analysis.proofs.Search.{same_or_below}
+use Rattle.horn_clauses.proofs.Search.{same_or_below}
 use Rattle.grammar_check.proofs.links.first_solid.Goals as goal
 
 pub loop-k-preserved : goal.loop-k-preserved

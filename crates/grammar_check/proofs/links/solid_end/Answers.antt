@@ -1,7 +1,7 @@
 use Rattle.std.proofs.Common.{arith, ◌≡◌, ◌-◌, inl, inr, subst, sym, ◌∙◌, true≢false}
 use Rattle.grammar_model.specs.Grammar.{rule_at, child_slot}
 use Rattle.grammar_model.specs.Analysis.{IsNullable}
-use Rattle.slot_analysis.proofs.Search.{same_or_below}
+use Rattle.horn_clauses.proofs.Search.{same_or_below}
 use Rattle.grammar_check.proofs.links.solid_end.Goals as goal
 use Rattle.grammar_check.proofs.links.solid_end.Goals.{then-not-is_part_nullable, else-not-is_part_nullable}
 

@@ -1,7 +1,7 @@
 use Rattle.std.proofs.Common.{arith, sym, ◌∙◌, ap, subst, length, true≢false, inl, inr}
 use Rattle.grammar_model.specs.Grammar.{Grammar}
 use Rattle.grammar_model.specs.Checked.{IsCountedNullable}
-use Rattle.slot_analysis.proofs.Search.{same_or_below}
+use Rattle.horn_clauses.proofs.Search.{same_or_below}
 use Rattle.grammar_check.proofs.refusals.counted_nullable.Goals as goal
 
 pub loop-i-preserved : goal.loop-i-preserved

@@ -1,8 +1,8 @@
 use Rattle.std.proofs.Common.{arith, inl, inr, sym, ◌∙◌, subst, true≢false, add-one}
 use Rattle.grammar_model.specs.Checked.{IsDuplicate}
-use Rattle.slot_analysis.specs.Rows.{rows_of}
+use Rattle.grammar_check.specs.Shared.{rows_of}
 use Rattle.grammar_check.specs.Shared.{HasTexts}
-use Rattle.slot_analysis.proofs.Search.{same_or_below}
+use Rattle.horn_clauses.proofs.Search.{same_or_below}
 use Rattle.grammar_check.proofs.shared.duplicate_rule.Goals as goal
 
 pub loop-i-preserved : goal.loop-i-preserved

@@ -1,6 +1,6 @@
 use Rattle.std.proofs.Common.{ℕ, ◌<◌}
 use Rattle.grammar_model.specs.Checked.{IsDuplicate}
-use Rattle.slot_analysis.specs.Rows.{rows_of}
+use Rattle.grammar_check.specs.Shared.{rows_of}
 use Rattle.grammar_check.specs.Shared.{HasTexts}
 use Rattle.grammar_check.proofs.shared.duplicate_rule.Given as goal
 

@@ -1,6 +1,6 @@
 use Rattle.std.proofs.Common.{Some, sym, ap, ◌∙◌, true≢false}
 use Rattle.grammar_core.specs.Written.{rule_of}
-use Rattle.slot_analysis.specs.Rows.{rows_of}
+use Rattle.grammar_check.specs.Shared.{rows_of}
 use Rattle.grammar_check.proofs.Sharing.{rule_is_plain, rule_is_sequence, texts_skip, texts_more, never_duplicate, duplicate_from}
 use Rattle.grammar_check.proofs.shared.is_repeated.Goals as goal
 

@@ -1,7 +1,7 @@
 use Rattle.std.proofs.Common.{arith, inl, inr, false, sym, ◌∙◌, subst, true≢false}
 use Rattle.std.proofs.lemmas.List.{get_or_default}
 use Rattle.grammar_model.specs.Checked.{IsShared}
-use Rattle.slot_analysis.proofs.Search.{same_or_below}
+use Rattle.horn_clauses.proofs.Search.{same_or_below}
 use Rattle.grammar_check.proofs.Sharing.{shared_from, shared_to, all_alone}
 use Rattle.grammar_check.proofs.shared.shared_sequence.Goals as goal
 use Rattle.grammar_check.proofs.shared.shared_sequence.Goals.{else-index-via-then-index+else-index-2, else-index-via-else-index}

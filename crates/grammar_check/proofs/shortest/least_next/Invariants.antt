@@ -1,6 +1,5 @@
-use Rattle.slot_analysis.specs.Rows.{rows_of}
 use Rattle.grammar_check.proofs.Choosing.{Chosen}
 use Rattle.grammar_check.proofs.shortest.least_next.Given as goal
 
 abbrev pub invariant-loop-j : goal.invariant-loop-j
-invariant-loop-j l = Chosen (rows_of l.rows) l.floors l.found.keys l.from l.j l.x l.best
+invariant-loop-j l = Chosen l.rows l.floors l.found l.from l.j l.x l.best

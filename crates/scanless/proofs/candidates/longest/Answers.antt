@@ -1,4 +1,4 @@
-use Rattle.std.proofs.Common.{arith, ℕ, ◌<◌, ◌+◌, Contains, Option, subst}
+use Rattle.std.proofs.Common.{arith, ℕ, ◌<◌, ◌+◌, Contains, subst}
 use Rattle.std.specs.Prelude.{IsNone, IfSome}
 use Rattle.reading_model.specs.Matches.{Matches}
 use Rattle.lexer.specs.declared.lexer.LexAnswer.{LexAnswer}

@@ -1,4 +1,3 @@
-use Rattle.std.proofs.Common.{◌≡◌}
 use Rattle.earley_sets.proofs.Cutting.{on_ok_both}
 use Rattle.scanless.proofs.Edges.{counts_token}
 use Rattle.scanless.proofs.taking.take_token.Goals as goal

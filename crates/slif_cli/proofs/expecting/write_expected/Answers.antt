@@ -1,7 +1,7 @@
 use Rattle.std.proofs.Common.{ℕ, List, Vec, Global, map, sym, subst}
 use Rattle.std.proofs.lemmas.Result.{on_ok_weaker, MatchResult-weaker}
 use Rattle.run_model.specs.Outside.{stream}
-use Rattle.run_model.specs.Jobs.Task.{Expected}
+use Rattle.words_model.specs.Words.Telling.{Expected}
 use Rattle.run_model.specs.Telling.{done}
 use Rattle.slif_cli.specs.Tasks.{TellsReading}
 use Rattle.slif_cli.proofs.Stopping.{lines_done, lines_stop}

@@ -1,15 +1,21 @@
 use Rattle.std.proofs.Common.{Err, ap, subst, sym}
-use Rattle.std.proofs.lemmas.Result.{MatchResult-weaker}
+use Rattle.outside_model.specs.Causes.{Rose}
 use Rattle.outside_model.specs.Told.{MayHold}
-use Rattle.slif_cli.proofs.Refusing.{load_text, too_long_text}
+use Rattle.slif_cli.specs.Refusals.{stop_for}
+use Rattle.slif_cli.specs.Stops.{LoadStops}
+use Rattle.slif_cli.proofs.Refusing.{load_stops_for, too_long_text}
+use Rattle.slif_cli.proofs.Stopping.{passed_on}
 use Rattle.slif_cli.proofs.grammar.load_grammar.Goals as goal
 
-pub returns-in-Ok-clause-stops : goal.returns-in-Ok-clause-stops
-returns-in-Ok-clause-stops g c =
-    let told = g.F.Files.told c.args.files.now c.args.name.now in
+pub returns-in_err-read_grammar-in-Ok-clause-stops : goal.returns-in_err-read_grammar-in-Ok-clause-stops
+returns-in_err-read_grammar-in-Ok-clause-stops g c =
+    let name = c.args.name.now in
+    let told = g.F.Files.told c.args.files.now name in
+    let files = Rose (g.F.Files.fault_count c.args.files.now) (g.F.Files.fault_count c.read_named.new.files) in
     let held : MayHold told c.deref.result.now = subst (MayHold told) (sym c.deref.ensures.value) c.in-Ok.ensures.whole in
-    MatchResult-weaker c.read_grammar.result c.read_grammar.ensures.stops (λ _ x. x)
-    (λ stop. load_text c.args.name.now told (g.F.Files.fault_count c.args.files.now) (g.F.Files.fault_count c.read_named.new.files) c.deref.result.now held stop)
+    let refusal = c.in_err-read_grammar-in-Ok.field-0.0 in
+    passed_on (LoadStops name told files) c.from_residual.result (stop_for refusal) c.from_residual.ensures.1
+    (load_stops_for name told files c.deref.result.now held refusal c.in_err-read_grammar-in-Ok.ensures.refused)
 
 pub returns-in_ok-text-in-Err-TooLarge-clause-stops : goal.returns-in_ok-text-in-Err-TooLarge-clause-stops
 returns-in_ok-text-in-Err-TooLarge-clause-stops g c =

@@ -6,7 +6,7 @@ use Rattle.recognizer_model.specs.declared.ReportLine.{ReportLine}
 use Rattle.reading_model.specs.Reading.{edges_of}
 use Rattle.report_model.specs.Report.{IsReport}
 use Rattle.run_model.specs.Outside.{stream}
-use Rattle.run_model.specs.Jobs.Task.{Report}
+use Rattle.words_model.specs.Words.Telling.{Report}
 use Rattle.run_model.specs.Telling.{done}
 use Rattle.slif_base.proofs.Bytes.{appends_none}
 use Rattle.slif_cli.specs.Tasks.{TellsReading}

@@ -1,83 +1,120 @@
-use Rattle.std.proofs.Common.{inr, inl, ◌⊎◌, ◌≡◌}
-use Rattle.std.specs.Prelude.{option_copied}
+use Rattle.std.proofs.Common.{◌≡◌, ◌≢◌, Option, Some, inl, inr, ◌⊎◌, ap, subst}
+use Rattle.std.specs.Prelude.{IsTrue, is_some, option_copied}
+use Rattle.std.specs.Borrow.{Bor}
 use Rattle.std.proofs.lemmas.Result.{on_ok_weaker, MatchResult-weaker}
 use Rattle.outside_model.specs.Causes.{Rose}
-use Rattle.words_model.specs.Words.{input_named}
-use Rattle.words_model.specs.Words.InputFrom.{FileNamed}
-use Rattle.run_model.specs.Outside.{stream, disk}
-use Rattle.run_model.specs.Outcome.{IsTaskOutcome}
+use Rattle.words_model.specs.Words as model
+use Rattle.words_model.specs.Words.{Asks}
+use Rattle.words_model.specs.Laws.{IsFitted}
+use Rattle.words_model.proofs.Fitted.{jobs_are_fitted}
+use Rattle.run_model.specs.Outcome.{IsWorkOutcome}
+use Rattle.run_model.specs.Outside.{stream}
 use Rattle.run_model.specs.Runs.{MayOpen}
-use Rattle.slif_cli.specs.Stops.{MayHave, MayRead}
-use Rattle.slif_cli.specs.Tasks.{task_of, TaskWithin}
-use Rattle.slif_cli.proofs.JobLemmas.{load_stops, asks_names}
+use Rattle.command_line.specs.Jobs.{job_of, task_of, telling_of, input_of}
+use Rattle.command_line.specs.declared.job.Job.{Job}
+use Rattle.command_line.specs.declared.job.Task.{Task}
+use Rattle.slif_cli.specs.Stops.{MayHave}
+use Rattle.slif_cli.specs.Tasks.{IsCheckJob, IsTellJob}
+use Rattle.slif_cli.proofs.JobLemmas.{asks_names, asks_nothing, worked, works_within, checks_within, fitted_as, copied_some}
 use Rattle.slif_cli.proofs.Stopping.{does_weaker, stops_weaker}
-use Rattle.slif_cli.proofs.TaskLemmas.{told, task_within, read_before, held_before, rose_earlier, reads_input, opens_input, asks_both}
 use Rattle.slif_cli.proofs.top.do_task.Goals as goal
 
-pub returns-in-Ok-clause-done : goal.returns-in-Ok-clause-done
-returns-in-Ok-clause-done g c =
+pub grammar_file-requires : goal.grammar_file-requires
+grammar_file-requires g c =
+    let (words, asks) = c.requires.asked in
+    copied_some c.args.job.grammar (fitted_as words (job_of c.args.job) asks model.Check (ap task_of c.in-Check.is)).0
+
+pub returns-in-Check-clause-done : goal.returns-in-Check-clause-done
+returns-in-Check-clause-done g c =
+    let is_job : IsCheckJob (job_of c.args.job) c.grammar_file.result.now = record { named = c.grammar_file.ensures; task = ap task_of c.in-Check.is } in
+    on_ok_weaker c.check_grammar.result (λ does. does (job_of c.args.job) is_job (g.I.Source.left c.args.input.now)) c.check_grammar.ensures.done
+
+pub returns-in-Check-clause-stops : goal.returns-in-Check-clause-stops
+returns-in-Check-clause-stops g c =
+    let is_job : IsCheckJob (job_of c.args.job) c.grammar_file.result.now = record { named = c.grammar_file.ensures; task = ap task_of c.in-Check.is } in
+    MatchResult-weaker c.check_grammar.result c.check_grammar.ensures.stops (λ _ x. x)
+    (λ stop stops. stops (job_of c.args.job) is_job (stream g.I.Source.left g.I.Source.fault_count c.args.input.now))
+
+pub returns-in-Check-clause-asks : goal.returns-in-Check-clause-asks
+returns-in-Check-clause-asks g c =
+    λ words asks. asks_names words (job_of c.args.job) asks (g.F.Files.told c.args.files.now) (g.I.Source.left c.args.input.now) c.grammar_file.result.now c.grammar_file.ensures _ _ c.check_grammar.ensures.asks
+
+pub returns-in-Check-clause-counted : goal.returns-in-Check-clause-counted
+returns-in-Check-clause-counted g c =
+    let is_job : IsCheckJob (job_of c.args.job) c.grammar_file.result.now = record { named = c.grammar_file.ensures; task = ap task_of c.in-Check.is } in
     let file = g.F.Files.told c.args.files.now in
     let left = g.I.Source.left c.args.input.now in
-    let b = c.in-Ok.prepared in
-    let from = option_copied c.args.name in
-    let task = task_of c.args.task in
-    on_ok_weaker c.tell_input.result
-    (λ does job is_job words asks. does_weaker (MayRead (IsTaskOutcome task b) (input_named from) (g.F.Files.told c.load_grammar.new.files) left) (MayHave words file left)
-    (λ o may. told words job c.args.grammar.now from task is_job asks file left b c.in-Ok.ensures.read o
-    (read_before (IsTaskOutcome task b) (input_named from) file (g.F.Files.told c.load_grammar.new.files) c.in-Ok.ensures.held left o may)) _ _ does)
-    c.tell_input.ensures.done
+    on_ok_weaker c.check_grammar.result
+    (λ does words asks. let d = does (job_of c.args.job) is_job left words asks in checks_within words (job_of c.args.job) c.grammar_file.result.now is_job asks file left d.outcome c.args.steps.now c.args.steps.now d.is)
+    c.check_grammar.ensures.done
 
-pub returns-in-Ok-clause-stops : goal.returns-in-Ok-clause-stops
-returns-in-Ok-clause-stops g c =
+pub grammar_file-grammar-requires : goal.grammar_file-grammar-requires
+grammar_file-grammar-requires g c =
+    let (words, asks) = c.requires.asked in
+    copied_some c.args.job.grammar (fitted_as words (job_of c.args.job) asks (model.Tell (telling_of c.in-Tell.what)) (ap task_of c.in-Tell.is)).0
+
+pub tell_by-requires-clause-somewhere : goal.tell_by-requires-clause-somewhere
+tell_by-requires-clause-somewhere g c =
+    let (words, asks) = c.requires.asked in
+    (fitted_as words (job_of c.args.job) asks (model.Tell (telling_of c.in-Tell.what)) (ap task_of c.in-Tell.is)).1
+
+pub returns-in-Tell-clause-done : goal.returns-in-Tell-clause-done
+returns-in-Tell-clause-done g c =
+    let is_job : IsTellJob (job_of c.args.job) c.grammar_file-grammar.result.now (input_of c.args.job.input) (telling_of c.in-Tell.what) = record { named = c.grammar_file-grammar.ensures; input = λ i. input_of c.args.job.input; task = ap task_of c.in-Tell.is } in
+    on_ok_weaker c.tell_by.result (λ does. does (job_of c.args.job) is_job) c.tell_by.ensures.done
+
+pub returns-in-Tell-clause-stops : goal.returns-in-Tell-clause-stops
+returns-in-Tell-clause-stops g c =
+    let is_job : IsTellJob (job_of c.args.job) c.grammar_file-grammar.result.now (input_of c.args.job.input) (telling_of c.in-Tell.what) = record { named = c.grammar_file-grammar.ensures; input = λ i. input_of c.args.job.input; task = ap task_of c.in-Tell.is } in
+    MatchResult-weaker c.tell_by.result c.tell_by.ensures.stops (λ _ x. x) (λ stop stops. stops (job_of c.args.job) is_job)
+
+pub returns-in-Tell-clause-asks : goal.returns-in-Tell-clause-asks
+returns-in-Tell-clause-asks g c =
+    let is_job : IsTellJob (job_of c.args.job) c.grammar_file-grammar.result.now (input_of c.args.job.input) (telling_of c.in-Tell.what) = record { named = c.grammar_file-grammar.ensures; input = λ i. input_of c.args.job.input; task = ap task_of c.in-Tell.is } in
+    c.tell_by.ensures.asks (job_of c.args.job) is_job
+
+pub returns-in-Tell-clause-input : goal.returns-in-Tell-clause-input
+returns-in-Tell-clause-input g c =
+    let is_job : IsTellJob (job_of c.args.job) c.grammar_file-grammar.result.now (input_of c.args.job.input) (telling_of c.in-Tell.what) = record { named = c.grammar_file-grammar.ensures; input = λ i. input_of c.args.job.input; task = ap task_of c.in-Tell.is } in
+    elim c.tell_by.ensures.input [ inl same ↦ inl same | inr reads ↦ inr (reads (job_of c.args.job) is_job) ]
+
+pub returns-in-Tell-clause-counted : goal.returns-in-Tell-clause-counted
+returns-in-Tell-clause-counted g c =
+    let is_job : IsTellJob (job_of c.args.job) c.grammar_file-grammar.result.now (input_of c.args.job.input) (telling_of c.in-Tell.what) = record { named = c.grammar_file-grammar.ensures; input = λ i. input_of c.args.job.input; task = ap task_of c.in-Tell.is } in
+    on_ok_weaker c.tell_by.result (λ within. within (job_of c.args.job) is_job) c.tell_by.ensures.counted
+
+pub work_of_size-requires : goal.work_of_size-requires
+work_of_size-requires g c =
+    let (words, asks) = c.requires.asked in
+    (fitted_as words (job_of c.args.job) asks (model.Work c.in-Work.size) (ap task_of c.in-Work.is)).2
+
+pub returns-in-Work-clause-done : goal.returns-in-Work-clause-done
+returns-in-Work-clause-done g c =
+    let size = c.in-Work.size in
     let file = g.F.Files.told c.args.files.now in
     let left = g.I.Source.left c.args.input.now in
-    let b = c.in-Ok.prepared in
-    let from = option_copied c.args.name in
-    let task = task_of c.args.task in
-    let before = g.F.Files.fault_count c.args.files.now in
-    let middle = g.F.Files.fault_count c.load_grammar.new.files in
-    let after = g.F.Files.fault_count c.tell_input.new.files in
-    let read = Rose (g.I.Source.fault_count c.args.input.now) (g.I.Source.fault_count c.tell_input.new.input) in
-    let earlier = rose_earlier before middle after c.in-Ok.ensures.later in
-    MatchResult-weaker c.tell_input.result c.tell_input.ensures.stops (λ _ x. x)
-    (λ stop stops job is_job words asks. stops_weaker (MayRead (IsTaskOutcome task b) (input_named from) (g.F.Files.told c.load_grammar.new.files) left) (MayHave words file left)
-    (λ o may. told words job c.args.grammar.now from task is_job asks file left b c.in-Ok.ensures.read o
-    (read_before (IsTaskOutcome task b) (input_named from) file (g.F.Files.told c.load_grammar.new.files) c.in-Ok.ensures.held left o may))
-    (λ asked. Rose middle after × (input_named from ≡ FileNamed asked)) (λ asked. Rose before after × MayOpen words file asked) (Rose middle after ⊎ read) (Rose before after ⊎ read)
-    (λ asked x. (earlier x.0, opens_input words job c.args.grammar.now from task is_job asks file left b c.in-Ok.ensures.read asked x.1))
-    (λ x. elim x [ inl rose ↦ inl (earlier rose) | inr rose ↦ inr rose ])
-    (stream g.O.Sink.contents g.O.Sink.fault_count c.args.out.now) (stream g.O.Sink.contents g.O.Sink.fault_count c.tell_input.new.out) stop stops)
+    on_ok_weaker c.work_of_size.result
+    (λ does words asks. does_weaker (IsWorkOutcome size) (MayHave words file left) (worked words (job_of c.args.job) size (ap task_of c.in-Work.is) asks file left) _ _ does) c.work_of_size.ensures.done
 
-pub returns-in-Ok-clause-asks : goal.returns-in-Ok-clause-asks
-returns-in-Ok-clause-asks g c =
-    λ job is_job words asks. asks_both words job c.args.grammar.now (option_copied c.args.name) (task_of c.args.task) is_job asks (g.F.Files.told c.args.files.now) (g.I.Source.left c.args.input.now) c.in-Ok.prepared c.in-Ok.ensures.read
-    _ _ _ c.in-Ok.ensures.asked c.tell_input.ensures.asks
-
-pub returns-in-Ok-clause-input : goal.returns-in-Ok-clause-input
-returns-in-Ok-clause-input g c =
-    elim c.tell_input.ensures.input [
-      | inl same ↦ inl same
-      | inr standard ↦ inr (λ job is_job words asks. reads_input words job c.args.grammar.now (option_copied c.args.name) (task_of c.args.task) is_job asks (g.F.Files.told c.args.files.now) (g.I.Source.left c.args.input.now) c.in-Ok.prepared c.in-Ok.ensures.read standard)
-    ]
-
-pub returns-in-Err-clause-stops : goal.returns-in-Err-clause-stops
-returns-in-Err-clause-stops g c =
-    λ job is_job words asks. load_stops words job asks (g.F.Files.told c.args.files.now) (g.I.Source.left c.args.input.now) c.args.grammar.now is_job.named
-    (g.F.Files.fault_count c.args.files.now) (disk g.F.Files.told g.F.Files.fault_count c.load_grammar.new.files) (g.I.Source.fault_count c.args.input.now)
-    (stream g.O.Sink.contents g.O.Sink.fault_count c.args.out.now) c.in-Err.stop c.in-Err.ensures.stops
-
-pub returns-in-Err-clause-asks : goal.returns-in-Err-clause-asks
-returns-in-Err-clause-asks g c =
-    λ job is_job words asks. asks_names words job asks (g.F.Files.told c.args.files.now) (g.I.Source.left c.args.input.now) c.args.grammar.now is_job.named _ _ c.in-Err.ensures.asks
-
-pub returns-in-Ok-clause-counted : goal.returns-in-Ok-clause-counted
-returns-in-Ok-clause-counted g c =
+pub returns-in-Work-clause-stops : goal.returns-in-Work-clause-stops
+returns-in-Work-clause-stops g c =
+    let size = c.in-Work.size in
     let file = g.F.Files.told c.args.files.now in
     let left = g.I.Source.left c.args.input.now in
-    let b = c.in-Ok.prepared in
-    let from = option_copied c.args.name in
-    let task = task_of c.args.task in
-    on_ok_weaker c.tell_input.result
-    (λ within job is_job words asks. task_within words job c.args.grammar.now from task is_job asks file left b c.in-Ok.ensures.read c.args.steps.now c.tell_input.new.steps
-    (held_before (input_named from) file (g.F.Files.told c.load_grammar.new.files) c.in-Ok.ensures.held left (λ bytes. TaskWithin task b bytes c.args.steps.now c.tell_input.new.steps) within))
-    c.tell_input.ensures.counted
+    let faults = g.F.Files.fault_count c.args.files.now in
+    let input = g.I.Source.fault_count c.args.input.now in
+    MatchResult-weaker c.work_of_size.result c.work_of_size.ensures.stops (λ _ x. x)
+    (λ stop stops words asks. stops_weaker (IsWorkOutcome size) (MayHave words file left) (worked words (job_of c.args.job) size (ap task_of c.in-Work.is) asks file left)
+    (λ name. ⊥) (λ name. Rose faults faults × MayOpen words file name) ⊥ (Rose faults faults ⊎ Rose input input) (λ name x. absurd x) (λ x. absurd x)
+    (stream g.O.Sink.contents g.O.Sink.fault_count c.args.out.now) (stream g.O.Sink.contents g.O.Sink.fault_count c.work_of_size.new.out) stop stops)
+
+pub returns-in-Work-clause-asks : goal.returns-in-Work-clause-asks
+returns-in-Work-clause-asks g c = λ words asks. asks_nothing words (g.F.Files.told c.args.files.now) (g.I.Source.left c.args.input.now) (g.F.Files.asked c.args.files.now)
+
+pub returns-in-Work-clause-counted : goal.returns-in-Work-clause-counted
+returns-in-Work-clause-counted g c =
+    let size = c.in-Work.size in
+    let file = g.F.Files.told c.args.files.now in
+    let left = g.I.Source.left c.args.input.now in
+    on_ok_weaker c.work_of_size.result
+    (λ within words asks. works_within words (job_of c.args.job) size (ap task_of c.in-Work.is) asks file left c.args.steps.now c.work_of_size.new.steps within) c.work_of_size.ensures.counted

@@ -13,7 +13,7 @@ returns-in-Ok-None-clause-stops g c =
     let none = subst (λ (o : Option Job). option_map job_of o ≡ job_asked words) c.in-Ok-None.field-0-is c.in-Ok-None.ensures in
     (not_asked words (g.F.Files.told c.args.files.now) _ (sym none), appends_none _)
 
-pub do_job-requires-clause-asked : goal.do_job-requires-clause-asked
-do_job-requires-clause-asked g c =
+pub do_task-requires-clause-asked : goal.do_task-requires-clause-asked
+do_task-requires-clause-asked g c =
     let words = map string_bytes c.args.words.now in
     (words, sym (subst (λ (o : Option Job). option_map job_of o ≡ job_asked words) c.in-Ok-Some.field-0-is c.in-Ok-Some.ensures))

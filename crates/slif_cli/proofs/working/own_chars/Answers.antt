@@ -1,11 +1,11 @@
 use Rattle.std.proofs.Common.{ap, chars, ◌∙◌}
-use Rattle.slif_cli.specs.Stops.{IsBrokenText}
+use Rattle.text_reading.specs.Parts.{IsBrokenText}
 use Rattle.slif_cli.proofs.Own.{input_memory, own_utf8}
 use Rattle.slif_cli.proofs.working.own_chars.Goals as goal
 
 pub no_memory-requires : goal.no_memory-requires
 no_memory-requires c =
-    input_memory (IsBrokenText c.deref.result.now) (own_utf8 c.args.size c.requires c.deref.result.now (c.deref.ensures.value ∙ c.in_ok-bytes.ensures)) c.in-Err.stop c.in-Err.ensures.stops
+    input_memory (IsBrokenText c.deref.result.now) (own_utf8 c.args.size c.requires c.deref.result.now (c.deref.ensures.value ∙ c.in_ok-bytes.ensures)) c.in-Err.refusal c.in-Err.ensures.refused
 
 pub returns-in-Ok : goal.returns-in-Ok
 returns-in-Ok c = c.in-Ok.ensures.ok ∙ ap chars (c.deref.ensures.value ∙ c.in_ok-bytes.ensures)

@@ -1,7 +1,7 @@
-use Rattle.run_model.specs.Refused.{IsRefused}
+use Rattle.text_reading.specs.Refusals.{IsRefusedAt}
 use Rattle.run_model.specs.Jobs.{work_grammar}
-use Rattle.slif_cli.proofs.Own.{text_memory, own_accepted}
+use Rattle.slif_cli.proofs.Own.{grammar_memory, own_accepted}
 use Rattle.slif_cli.proofs.working.own_grammar.Goals as goal
 
 pub no_memory-requires : goal.no_memory-requires
-no_memory-requires c = text_memory (IsRefused work_grammar) own_accepted c.in-Err.stop c.in-Err.ensures.stops
+no_memory-requires c = grammar_memory (IsRefusedAt work_grammar) own_accepted c.in-Err.refusal c.in-Err.ensures.refused

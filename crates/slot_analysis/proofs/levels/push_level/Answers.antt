@@ -1,9 +1,10 @@
 use Rattle.std.proofs.Common.{arith}
-use Rattle.slot_analysis.proofs.LevelRows.{same_count, both_added}
+use Rattle.slot_analysis.proofs.LevelRows.{both_added}
+use Rattle.horn_clauses.proofs.Results.{on_ok}
 use Rattle.slot_analysis.proofs.levels.push_level.Goals as goal
 
-pub add_to_row-requires-2 : goal.add_to_row-requires-2
-add_to_row-requires-2 c = let e = same_count c.args.rows.now.items c.add_to_row.new.rows.items c.args.x c.args.level c.in_ok-add_to_row.ensures in omega (arith, e, c.requires.row)
+pub add-requires-2 : goal.add-requires-2
+add-requires-2 c = let e = c.in_ok-add.ensures.ok.same_length in omega (arith, e, c.requires.row)
 
 pub returns : goal.returns
-returns c = both_added c.args.rows.now.items c.add_to_row.new.rows.items c.add_to_row-2.new.rows.items c.args.x c.args.level c.in_ok-add_to_row.ensures c.in_ok-add_to_row-2.ensures
+returns c = on_ok c.add-2.result (both_added c.args.rows.now c.add.new.self c.add-2.new.self c.args.x c.args.level c.in_ok-add.ensures.ok) c.add-2.ensures.ok

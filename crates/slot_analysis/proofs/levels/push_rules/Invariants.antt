@@ -1,6 +1,5 @@
-use Rattle.slot_analysis.specs.Rows.{rows_of}
 use Rattle.slot_analysis.specs.Packed.{HoldsLevels}
 use Rattle.slot_analysis.proofs.levels.push_rules.Given as goal
 
 abbrev pub invariant-loop-i : goal.invariant-loop-i
-invariant-loop-i l = HoldsLevels l.w l.i (rows_of l.rows.items)
+invariant-loop-i l = HoldsLevels l.w l.i l.rows

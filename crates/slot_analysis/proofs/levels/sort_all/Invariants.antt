@@ -1,7 +1,7 @@
-use Rattle.std.proofs.Common.{ℕ, ◌<◌}
-use Rattle.std.specs.List.Sorted.{IsStrictlyIncreasing}
-use Rattle.slot_analysis.specs.Rows.{rows_of, row_at, HasSameRows}
+use Rattle.std.proofs.Common.{◌≡◌, ℕ, ◌<◌, length}
+use Rattle.horn_clauses.specs.Rows.{row_at}
+use Rattle.slot_analysis.proofs.LevelRows.{IsSortedFrom}
 use Rattle.slot_analysis.proofs.levels.sort_all.Given as goal
 
 abbrev pub invariant-loop-s : goal.invariant-loop-s
-invariant-loop-s l = HasSameRows (rows_of l.initial.rows.items) (rows_of l.rows.items) × ((j : ℕ) → j < l.s → IsStrictlyIncreasing (row_at (rows_of l.rows.items) j))
+invariant-loop-s l = (length l.sorted ≡ l.s) × ((j : ℕ) → j < l.s → IsSortedFrom l.rows j (row_at l.sorted j))

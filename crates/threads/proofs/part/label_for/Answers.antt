@@ -2,8 +2,8 @@ use Rattle.recognizer_model.specs.Threads.{Stay}
 use Rattle.threads.proofs.Parts.{grown_same}
 use Rattle.threads.proofs.part.label_for.Goals as goal
 
-pub fold-requires : goal.fold-requires
-fold-requires c = λ th h. (c.requires.row th h).is_rule
+pub fold_ordered-requires-clause-rules : goal.fold_ordered-requires-clause-rules
+fold_ordered-requires-clause-rules c = λ th h. (c.requires.row th h).is_rule
 
 pub returns-in-Up : goal.returns-in-Up
 returns-in-Up c = record {

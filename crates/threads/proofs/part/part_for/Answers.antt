@@ -1,8 +1,8 @@
 use Rattle.threads.proofs.Parts.{parts_more}
 use Rattle.threads.proofs.part.part_for.Goals as goal
 
-pub list_part-requires : goal.list_part-requires
-list_part-requires c = λ th h. (c.requires.row th h).is_rule
+pub list_part-requires-clause-rules : goal.list_part-requires-clause-rules
+list_part-requires-clause-rules c = λ th h. (c.requires.row th h).is_rule
 
 pub returns-in_err-number-clause-parts : goal.returns-in_err-number-clause-parts
 returns-in_err-number-clause-parts c =

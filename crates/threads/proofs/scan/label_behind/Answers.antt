@@ -18,3 +18,6 @@ returns-in-Some c = record {
 pub returns-in_ok-label-in-None-clause-leaves : goal.returns-in_ok-label-in-None-clause-leaves
 returns-in_ok-label-in-None-clause-leaves c = λ later gr.
     Here c.in-None.is (subst (λ x. FoldsIn c.args.flat.now later (Waiting c.args.flat.now c.args.row.now) x c.in_ok-label-in-None.label) c.lhs.ensures (c.in_ok-label-in-None.ensures.folds later gr))
+
+pub label_for-requires-clause-order : goal.label_for-requires-clause-order
+label_for-requires-clause-order c = c.requires.order c.in-None.is

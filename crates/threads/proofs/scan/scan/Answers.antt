@@ -3,6 +3,7 @@ use Rattle.std.specs.declared.vec.Vec.{Vec}
 use Rattle.std.specs.declared.alloc.Global.{Global}
 use Rattle.std.proofs.lemmas.List.Elements.{Contains-get_or}
 use Rattle.recognizer_model.specs.declared.thread.Thread.{Thread}
+use Rattle.threads.specs.Order.{IsOrderOf}
 use Rattle.threads.proofs.Listing.{take_all}
 use Rattle.threads.proofs.Parts.{grown_long, threads_later, ScannedTo, scanned_none, scanned_more, scanned_skip}
 use Rattle.threads.proofs.scan.scan.Goals.{then-is_read+in_ok-label+in_ok-push, else-is_read}
@@ -45,3 +46,12 @@ loop-thread-preserved c =
 
 pub returns-clause-seeds : goal.returns-clause-seeds
 returns-clause-seeds c = (subst (λ l. ScannedTo c.args.flat.now c.args.parts.now c.args.terminals.now c.args.row.now l c.loop-thread.parts c.loop-thread.seeds.items) (take_all c.loop-thread.thread-index c.args.row.now c.loop-thread-test.false) c.loop-thread.invariant).seeds
+
+pub list_ordered_for-requires : goal.list_ordered_for-requires
+list_ordered_for-requires c th h = (c.requires.row th h).is_rule
+
+pub label_behind-requires-clause-order : goal.label_behind-requires-clause-order
+label_behind-requires-clause-order c none =
+    let (x, e, reads) = c.is_read.ensures.read.0 c.if-is_read.true in
+    subst (λ (l : List Thread). IsOrderOf c.args.flat.now c.args.row.now l) (sym c.deref.ensures.value)
+    (c.in_ok-ordered.ensures _ x (Contains-get_or c.args.row.now c.loop-thread.thread-index (record { rule = 0; dot = 0; label = None }) (omega arith)) none e reads)

@@ -1,25 +1,37 @@
 use Rattle.std.proofs.Common.{◌≡◌, suc, ◌+◌, ◌-◌, sym, subst, ◌∙◌, add-one, arith}
 use Rattle.tree_iter.specs.Writing.{AreTakenOff}
-use Rattle.tree_iter.proofs.Written.{taken_more, taken_same, taken_bound}
-use Rattle.tree_iter.proofs.writing.newest.Goals.{then-top-gt0+in_ok-sum, else-top-gt0}
+use Rattle.tree_iter.proofs.Written.{taken_more, taken_same, taken_bound, newest_few}
+use Rattle.tree_iter.proofs.writing.newest.Goals.{then-top-gt0, else-top-gt0}
 use Rattle.tree_iter.proofs.writing.newest.Goals as goal
 
 pub row_at-row-requires : goal.row_at-row-requires
 row_at-row-requires c =
-    let bound = taken_bound c.args.rows.now c.requires.0 c.newest.counter (record { count = c.newest.sum; below = c.newest.top }) (c.newest.invariant c.requires.0 c.requires.1) in
+    let bound = taken_bound c.args.rows.now c.requires.on_top.0 c.newest.counter (record { count = c.newest.sum; below = c.newest.top }) (c.newest.invariant c.requires.on_top.0 c.requires.on_top.1.counted) in
     let some = c.if-top-gt0.true in
+    omega arith
+
+pub overflow_add-sum : goal.overflow_add-sum
+overflow_add-sum c =
+    let counts = c.requires.on_top.0 in
+    let few = c.requires.on_top.1.few in
+    let place : c.newest.top ≡ suc (c.newest.top - 1) = (let some = c.if-top-gt0.true in omega arith) in
+    let old : AreTakenOff c.args.rows.now c.newest.counter counts (record { count = c.newest.sum; below = suc (c.newest.top - 1) }) =
+    subst (λ k. AreTakenOff c.args.rows.now c.newest.counter counts (record { count = c.newest.sum; below = k })) place (c.newest.invariant counts c.requires.on_top.1.counted) in
+    let more = taken_more c.args.rows.now counts c.newest.counter c.newest.sum (c.newest.top - 1) c.row_at-row.result c.row_at-row.ensures old in
+    let sum = more.sum in
+    let within = newest_few (suc c.newest.counter) counts in
+    let rows = c.requires.few in
     omega arith
 
 pub newest-preserved : goal.newest-preserved
 newest-preserved c = λ counts h. elim c.if-top-gt0.branch as (λ _. AreTakenOff c.args.rows.now (c.newest.counter + 1) counts (record { count = c.if-top-gt0.sum; below = c.if-top-gt0.top })) [
-  | then-top-gt0+in_ok-sum w ↦
-      let sum : c.if-top-gt0.sum ≡ c.newest.sum + w.row_at-row.result.count = w.sum-is ∙ w.in_ok-sum.ensures in
+  | then-top-gt0 w ↦
       let place : c.newest.top ≡ suc (c.newest.top - 1) = (let some = w.if-top-gt0.true in omega arith) in
       let old : AreTakenOff c.args.rows.now c.newest.counter counts (record { count = c.newest.sum; below = suc (c.newest.top - 1) }) =
       subst (λ k. AreTakenOff c.args.rows.now c.newest.counter counts (record { count = c.newest.sum; below = k })) place (c.newest.invariant counts h) in
       let more = taken_more c.args.rows.now counts c.newest.counter c.newest.sum (c.newest.top - 1) w.row_at-row.result w.row_at-row.ensures old in
       subst (λ k. AreTakenOff c.args.rows.now k counts (record { count = c.if-top-gt0.sum; below = c.if-top-gt0.top })) (sym (add-one c.newest.counter))
-      (subst (λ k. AreTakenOff c.args.rows.now (suc c.newest.counter) counts (record { count = k; below = c.if-top-gt0.top })) (sym sum)
+      (subst (λ k. AreTakenOff c.args.rows.now (suc c.newest.counter) counts (record { count = k; below = c.if-top-gt0.top })) (sym w.sum-is)
       (subst (λ k. AreTakenOff c.args.rows.now (suc c.newest.counter) counts (record { count = c.newest.sum + w.row_at-row.result.count; below = k })) (sym w.top-is) more))
   | else-top-gt0 w ↦
       let none : c.newest.top ≡ 0 = (let e = w.if-top-gt0.false in omega arith) in

@@ -1,4 +1,4 @@
-use Rattle.std.proofs.Common.{◌≡◌, ◌++◌, None, Some, length, subst, ◌∙◌, arith, ap}
+use Rattle.std.proofs.Common.{◌≡◌, ◌++◌, Some, length, subst, ◌∙◌, arith, ap}
 use Rattle.forest_model.specs.Forest.{Forest}
 use Rattle.forest_model.specs.Listing.{IsListing}
 use Rattle.tree_iter.specs.Iteration.{Iteration, IsAnswer, AreFew}

@@ -1,10 +1,11 @@
-use Rattle.std.proofs.Common.{◌∙◌, sym, subst, arith}
+use Rattle.std.proofs.Common.{◌≡◌, ap, subst}
+use Rattle.std.proofs.lemmas.Result.{on_ok_weaker, IfErr-weaker}
 use Rattle.std.specs.Io.KnownBytes.{Appends}
-use Rattle.outside_model.specs.Told.{AppendsPrefix}
-use Rattle.tree_iter.specs.Iteration.{AreFew}
-use Rattle.value_lines.specs.Lines.{IsForestOf, IsLineOf}
-use Rattle.value_lines.proofs.Texts.{IsWithin, so_many_is, within_next, within_less, none_written, front_written, enough_written, all_written, one_more_written, line_in_front}
-use Rattle.value_lines.proofs.Counting.{none_counted, one_more_counted, all_counted, enough_counted}
+use Rattle.forest_model.specs.Forest.{Forest}
+use Rattle.run_model.specs.Outside.{stream}
+use Rattle.tree_iter.specs.Iteration.{Iteration}
+use Rattle.value_lines.specs.Writing.{TextHas, TextStops}
+use Rattle.value_lines.proofs.Texts.{none_written}
 use Rattle.value_lines.proofs.writing.write_derivations.Goals as goal
 
 pub returns-in_default-clause-stops : goal.returns-in_default-clause-stops
@@ -12,82 +13,19 @@ returns-in_default-clause-stops g c =
     λ pieces of.
     none_written c.args.prepared.now c.args.show c.args.chars.now pieces c.args.forest.now c.args.first c.known.ensures (g.O.Sink.contents c.args.out.now)
 
-pub returns-in_default-next_line-clause-stops : goal.returns-in_default-next_line-clause-stops
-returns-in_default-next_line-clause-stops g c =
-    λ pieces of.
-    let within = within_less c.args.first c.loop-k._k (within_next c.args.first c.limit_of-limit.result c.loop-k._k c.limit_of-limit.ensures c.loop-k-test.true) in
-    front_written c.args.prepared.now c.args.show c.args.chars.now pieces c.args.forest.now c.args.first c.loop-k.iter c.loop-k.invariant.forest c.loop-k._k _ _ (c.loop-k.invariant.written pieces of) within
-
-pub returns-in_default-write_all-clause-stops : goal.returns-in_default-write_all-clause-stops
-returns-in_default-write_all-clause-stops g c =
-    λ pieces of.
-    let b = c.args.prepared.now in
-    let w = c.loop-k.invariant.written pieces of in
-    let line = c.in-Ok-next_line.ensures.line c.args.show pieces w.given c.loop-k.invariant.tellers (subst (λ f. IsForestOf b c.args.chars.now c.args.spans.now f pieces) (sym c.loop-k.invariant.forest) of) w.are in
-    let more = subst (IsLineOf b c.args.show c.args.chars.now pieces c.next_line.new.iter w.given c.next_line.new.line.items) c.if-not-more.false line in
-    let within = within_next c.args.first c.limit_of-limit.result c.loop-k._k c.limit_of-limit.ensures c.loop-k-test.true in
-    let part = subst (AppendsPrefix (g.O.Sink.contents c.loop-k.out) (g.O.Sink.contents c.write_all.new.sink)) c.deref.ensures.value c.in_default-write_all.ensures.front in
-    let r = line_in_front b c.args.show c.args.chars.now pieces c.args.forest.now c.args.first c.next_line.new.iter w.given c.next_line.new.line.items more
-    (c.in-Ok-next_line.ensures.forest ∙ c.loop-k.invariant.forest) c.loop-k._k _ _ _ w.count_is within w.appends part in
-    (r.0, r.1, (omega (arith, c.loop-k.invariant.later, c.in_default-write_all.ensures.cause.failed), r.2))
-
-pub loop-k-preserved : goal.loop-k-preserved
-loop-k-preserved g c = record {
-  forest = c.in-Ok-next_line.ensures.forest ∙ c.loop-k.invariant.forest;
-  tellers = c.in-Ok-next_line.ensures.tellers ∙ c.loop-k.invariant.tellers;
-  written = λ pieces of.
-      let b = c.args.prepared.now in
-      let w = c.loop-k.invariant.written pieces of in
-      let line = c.in-Ok-next_line.ensures.line c.args.show pieces w.given c.loop-k.invariant.tellers (subst (λ f. IsForestOf b c.args.chars.now c.args.spans.now f pieces) (sym c.loop-k.invariant.forest) of) w.are in
-      let more = subst (IsLineOf b c.args.show c.args.chars.now pieces c.next_line.new.iter w.given c.next_line.new.line.items) c.if-not-more.false line in
-      one_more_written b c.args.show c.args.chars.now pieces c.args.forest.now c.args.first c.next_line.new.iter w.given c.next_line.new.line.items more c.loop-k._k _ _ _ w.count_is w.appends
-      (subst (Appends (g.O.Sink.contents c.loop-k.out) (g.O.Sink.contents c.write_all.new.sink)) c.deref.ensures.value c.in-Ok-write_all.ensures.written);
-  counted =
-      let b = c.args.prepared.now in
-      let w = c.loop-k.invariant.counted in
-      let (pieces, of) = c.requires.forest in
-      let line = c.in-Ok-next_line.ensures.line c.args.show pieces w.given c.loop-k.invariant.tellers (subst (λ f. IsForestOf b c.args.chars.now c.args.spans.now f pieces) (sym c.loop-k.invariant.forest) of) w.are in
-      let more = subst (IsLineOf b c.args.show c.args.chars.now pieces c.next_line.new.iter w.given c.next_line.new.line.items) c.if-not-more.false line in
-      one_more_counted c.loop-k.iter c.next_line.new.iter c.loop-k._k _ _ _ w more.0 more.1
-      (subst (λ m. AreFew c.next_line.new.iter w.given m c.loop-k.steps c.next_line.new.steps) c.if-not-more.false (c.in-Ok-next_line.ensures.counted w.given w.are));
-  later = omega (arith, c.loop-k.invariant.later, c.in-Ok-write_all.ensures.cause.later);
-}
-
-pub returns-then-not-more-clause-counted : goal.returns-then-not-more-clause-counted
-returns-then-not-more-clause-counted g c =
-    let b = c.args.prepared.now in
-    let w = c.loop-k.invariant.counted in
-    let (pieces, of) = c.requires.forest in
-    let line = c.in-Ok-next_line.ensures.line c.args.show pieces w.given c.loop-k.invariant.tellers (subst (λ f. IsForestOf b c.args.chars.now c.args.spans.now f pieces) (sym c.loop-k.invariant.forest) of) w.are in
-    let none = subst (IsLineOf b c.args.show c.args.chars.now pieces c.next_line.new.iter w.given c.next_line.new.line.items) c.if-not-more.true line in
-    let within = within_less c.args.first c.loop-k._k (within_next c.args.first c.limit_of-limit.result c.loop-k._k c.limit_of-limit.ensures c.loop-k-test.true) in
-    all_counted c.args.forest.now c.args.first c.loop-k.iter c.next_line.new.iter (c.in-Ok-next_line.ensures.forest ∙ c.loop-k.invariant.forest) c.loop-k._k _ _ _ w none
-    (subst (λ m. AreFew c.next_line.new.iter w.given m c.loop-k.steps c.next_line.new.steps) c.if-not-more.true (c.in-Ok-next_line.ensures.counted w.given w.are)) within
-
-pub returns-in-Some-clause-counted : goal.returns-in-Some-clause-counted
-returns-in-Some-clause-counted g c =
-    let so_many = so_many_is c.args.first c.in-Some.field-0 c.limit_of-limit.result c.loop-k._k c.in-Some.is c.limit_of-limit.ensures c.loop-k-test.false c.loop-k.auto._k-end in
-    enough_counted c.args.forest.now c.args.first c.loop-k.iter c.loop-k.invariant.forest c.loop-k._k _ _ c.loop-k.invariant.counted so_many
-
-pub returns-then-not-more-clause-written : goal.returns-then-not-more-clause-written
-returns-then-not-more-clause-written g c =
-    λ pieces of.
-    let b = c.args.prepared.now in
-    let w = c.loop-k.invariant.written pieces of in
-    let line = c.in-Ok-next_line.ensures.line c.args.show pieces w.given c.loop-k.invariant.tellers (subst (λ f. IsForestOf b c.args.chars.now c.args.spans.now f pieces) (sym c.loop-k.invariant.forest) of) w.are in
-    let none = subst (IsLineOf b c.args.show c.args.chars.now pieces c.next_line.new.iter w.given c.next_line.new.line.items) c.if-not-more.true line in
-    let within = within_less c.args.first c.loop-k._k (within_next c.args.first c.limit_of-limit.result c.loop-k._k c.limit_of-limit.ensures c.loop-k-test.true) in
-    all_written b c.args.show c.args.chars.now pieces c.args.forest.now c.args.first c.next_line.new.iter (c.in-Ok-next_line.ensures.forest ∙ c.loop-k.invariant.forest)
-    w.given c.loop-k._k _ _ w.count_is none within w.appends
-
-pub returns-in-Some-clause-written : goal.returns-in-Some-clause-written
-returns-in-Some-clause-written g c =
-    λ pieces of.
-    let so_many = so_many_is c.args.first c.in-Some.field-0 c.limit_of-limit.result c.loop-k._k c.in-Some.is c.limit_of-limit.ensures c.loop-k-test.false c.loop-k.auto._k-end in
-    enough_written c.args.prepared.now c.args.show c.args.chars.now pieces c.args.forest.now c.args.first c.loop-k.iter c.loop-k.invariant.forest c.loop-k._k _ _ (c.loop-k.invariant.written pieces of) so_many
+pub returns-clause-written : goal.returns-clause-written
+returns-clause-written g c =
+    let same : c.in-Ok.iter.forest ≡ c.args.forest.now = ap (λ (it : Iteration). it.forest) c.in-Ok.ensures.begun in
+    on_ok_weaker c.write_lines.result
+    (λ has. subst (λ (f : Forest). TextHas c.args.prepared.now c.args.show c.args.chars.now c.args.spans.now f c.args.first (Appends (g.O.Sink.contents c.args.out.now) (g.O.Sink.contents c.write_lines.new.out)))
+    same (has c.args.show c.keep_teller.ensures))
+    c.write_lines.ensures.written
 
 pub returns-clause-stops : goal.returns-clause-stops
 returns-clause-stops g c =
-    λ pieces of.
-    let within = subst (λ o. IsWithin o c.loop-k._k) (sym c.in-None.is) tt in
-    front_written c.args.prepared.now c.args.show c.args.chars.now pieces c.args.forest.now c.args.first c.loop-k.iter c.loop-k.invariant.forest c.loop-k._k _ _ (c.loop-k.invariant.written pieces of) within
+    let same : c.in-Ok.iter.forest ≡ c.args.forest.now = ap (λ (it : Iteration). it.forest) c.in-Ok.ensures.begun in
+    IfErr-weaker c.write_lines.result _ _
+    (λ refusal stops. subst (λ (f : Forest). TextHas c.args.prepared.now c.args.show c.args.chars.now c.args.spans.now f c.args.first
+    (TextStops (stream g.O.Sink.contents g.O.Sink.fault_count c.args.out.now) (stream g.O.Sink.contents g.O.Sink.fault_count c.write_lines.new.out) refusal))
+    same (stops c.args.show c.keep_teller.ensures))
+    c.write_lines.ensures.stops

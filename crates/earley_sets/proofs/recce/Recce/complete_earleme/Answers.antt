@@ -1,5 +1,4 @@
-use Rattle.std.proofs.Common.{◌≡◌, ◌≢◌, ◌+◌, Contains, ap, subst, List, length, arith, ◌++◌, ◌∷◌, [], OnOk}
-use Rattle.std.proofs.lemmas.Result.{on_ok_weaker}
+use Rattle.std.proofs.Common.{◌≡◌, ◌≢◌, ◌+◌, ◌-◌, Contains, ap, sym, subst, List, length, arith, ◌++◌, ◌∷◌, []}
 use Rattle.recognizer_model.specs.declared.Item.{Item}
 use Rattle.recognizer_model.specs.Leo.{InReduced}
 use Rattle.recognizer_model.specs.Counts.{IsListOf}
@@ -7,6 +6,8 @@ use Rattle.std.specs.List.{AllPairs}
 use Rattle.recognizer_model.specs.Links.{Link, IsLink}
 use Rattle.leo_items.specs.Memo.{pairs_of}
 use Rattle.earley_sets.specs.Recognizer.{Recognizer, edges_of, top_of, made}
+use Rattle.earley_sets.specs.Kept.{AreLastMarks}
+use Rattle.earley_sets.proofs.Marked.{marks_at, row_longer, older_marks}
 use Rattle.earley_sets.proofs.Recognizing.{kept_top, kept_sets, kept_begun, add_kept, added_set, tried_links}
 use Rattle.earley_sets.proofs.recce.Recce.complete_earleme.Goals as goal
 
@@ -24,22 +25,62 @@ invariant_of-self g c =
     let v = ap (λ (r : Recognizer). length r.sets) c.self.view_is in
     let r = c.requires in
     let s = c.self.invariant.0.is.some in
-    let kept = add_kept c.self.inside.flat.now c.self.inside.start c.self.inside.edges c.self.inside.rows c.add_row.new.rows c.self.inside.top c.self.inside.memo c.self.invariant.0 c.add_row.result c.add_row.new.memo c.add_row.ensures.memo (omega arith) c.add_row.ensures.ok c.add_row.ensures.err in
-    (kept, c.self.invariant.1, c.add_row.ensures.flat, c.add_row.ensures.lists)
+    let kept = add_kept c.self.inside.flat.now c.self.inside.start c.self.inside.edges c.self.inside.rows c.add_row.new.rows c.self.inside.top c.self.inside.memo c.self.invariant.0 c.add_row.result c.add_row.new.memo c.add_row.ensures.memo (omega arith) c.add_row.ensures.ok c.add_row.ensures.err in (
+      kept,
+      c.self.invariant.1,
+      c.add_row.ensures.flat,
+      c.add_row.ensures.lists,
+      subst (λ (l : List (List Item)). AreLastMarks c.self.inside.flat.now l c.self.inside.marks.rows.items) (sym c.in_err-add_row.ensures.err.0) c.self.invariant.4,
+    )
+
+pub invariant_of-self-2 : goal.invariant_of-self-2
+invariant_of-self-2 g c =
+    let v = ap (λ (r : Recognizer). length r.sets) c.self.view_is in
+    let r = c.requires in
+    let s = c.self.invariant.0.is.some in
+    let kept = add_kept c.self.inside.flat.now c.self.inside.start c.self.inside.edges c.self.inside.rows c.add_row.new.rows c.self.inside.top c.self.inside.memo c.self.invariant.0 c.add_row.result c.add_row.new.memo c.add_row.ensures.memo (omega arith) c.add_row.ensures.ok c.add_row.ensures.err in (
+      kept,
+      c.self.invariant.1,
+      c.add_row.ensures.flat,
+      c.add_row.ensures.lists,
+      marks_at c.self.inside.flat.now c.add_row.new.rows.sets c.mark_row.new.marks.rows.items (c.len-last.result - 1) (ap (λ n. n - 1) c.len-last.ensures) c.mark_row.ensures,
+    )
+
+pub mark_row-requires-clause-flat : goal.mark_row-requires-clause-flat
+mark_row-requires-clause-flat g c = c.add_row.ensures.flat
+
+pub mark_row-requires-clause-place : goal.mark_row-requires-clause-place
+mark_row-requires-clause-place g c = let (row, more, _, _) = c.in_ok-add_row.ensures.ok in let l = row_longer c.self.inside.rows.sets c.add_row.new.rows.sets row more in let e = c.len-last.ensures in omega arith
+
+pub mark_row-requires-clause-few : goal.mark_row-requires-clause-few
+mark_row-requires-clause-few g c =
+    let v = ap (λ (r : Recognizer). length r.sets) c.self.view_is in
+    let r = c.requires in
+    let (row, more, _, _) = c.in_ok-add_row.ensures.ok in
+    let l = row_longer c.self.inside.rows.sets c.add_row.new.rows.sets row more in
+    let e = c.len-last.ensures in
+    omega arith
+
+pub mark_row-requires-clause-older : goal.mark_row-requires-clause-older
+mark_row-requires-clause-older g c =
+    let (row, more, _, _) = c.in_ok-add_row.ensures.ok in
+    let l = row_longer c.self.inside.rows.sets c.add_row.new.rows.sets row more in
+    let e = c.len-last.ensures in
+    older_marks c.self.inside.flat.now c.self.inside.rows.sets c.self.inside.marks.rows.items (c.len-last.result - 1) c.self.invariant.0.is.some (omega arith) c.self.invariant.4
 
 pub returns-clause-ok : goal.returns-clause-ok
 returns-clause-ok g c =
-    subst (λ (r : Recognizer). OnOk c.add_row.result ((set : List Item) × (c.add_row.new.rows.sets ≡ r.sets ++ set ∷ []) × IsListOf (InReduced r.flat (edges_of r) (top_of r) (length r.sets)) set)) c.self.view_is
-    (on_ok_weaker c.add_row.result (added_set c.self.inside.flat.now c.self.inside.start c.self.inside.edges c.self.inside.rows c.add_row.new.rows c.self.inside.top c.self.inside.memo c.self.invariant.0) c.add_row.ensures.ok)
+    subst (λ (r : Recognizer). (set : List Item) × (c.add_row.new.rows.sets ≡ r.sets ++ set ∷ []) × IsListOf (InReduced r.flat (edges_of r) (top_of r) (length r.sets)) set) c.self.view_is
+    (added_set c.self.inside.flat.now c.self.inside.start c.self.inside.edges c.self.inside.rows c.add_row.new.rows c.self.inside.top c.self.inside.memo c.self.invariant.0 c.in_ok-add_row.ensures.ok)
 
 pub add_row-requires-clause-memo : goal.add_row-requires-clause-memo
 add_row-requires-clause-memo g c = c.self.invariant.0.memo
 
 pub returns-clause-counted : goal.returns-clause-counted
 returns-clause-counted g c =
-    subst (λ (r : Recognizer). OnOk c.add_row.result ((tried : List Link) × AllPairs (λ a b. a ≢ b) tried × ((l : Link) → Contains tried l → IsLink r.flat (edges_of r) (top_of r) (length r.sets) l) ×
-    (c.add_row.new.steps + made r ≡ c.args.steps.now + length tried + length (pairs_of c.add_row.new.memo)))) c.self.view_is
-    (on_ok_weaker c.add_row.result (tried_links c.self.inside.flat.now c.self.inside.start c.self.inside.edges c.self.inside.rows c.add_row.new.rows c.self.inside.top c.self.inside.memo c.self.invariant.0 c.add_row.new.memo c.args.steps.now c.add_row.new.steps) c.add_row.ensures.counted)
+    subst (λ (r : Recognizer). (tried : List Link) × AllPairs (λ a b. a ≢ b) tried × ((l : Link) → Contains tried l → IsLink r.flat (edges_of r) (top_of r) (length r.sets) l) ×
+    (c.add_row.new.steps + made r ≡ c.args.steps.now + length tried + length (pairs_of c.add_row.new.memo))) c.self.view_is
+    (tried_links c.self.inside.flat.now c.self.inside.start c.self.inside.edges c.self.inside.rows c.add_row.new.rows c.self.inside.top c.self.inside.memo c.self.invariant.0 c.add_row.new.memo c.args.steps.now c.add_row.new.steps c.in_ok-add_row.ensures.counted)
 
 pub add_row-requires-clause-heads : goal.add_row-requires-clause-heads
 add_row-requires-clause-heads g c = c.self.invariant.1

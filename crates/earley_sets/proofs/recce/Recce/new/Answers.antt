@@ -1,5 +1,6 @@
-use Rattle.std.proofs.Common.{sym}
+use Rattle.std.proofs.Common.{sym, arith}
 use Rattle.earley_sets.proofs.Membership.{got_at}
+use Rattle.earley_sets.proofs.Marked.{marks_at, one_row}
 use Rattle.earley_sets.proofs.Recognizing.{first_kept, top_is_top}
 use Rattle.earley_sets.proofs.Sharing.{no_lists}
 use Rattle.earley_sets.proofs.recce.Recce.new.Goals as goal
@@ -15,7 +16,14 @@ invariant_of-result c =
       c.in_ok-heads.ensures,
       c.add_first.ensures.flat,
       c.add_first.ensures.lists,
+      marks_at c.args.flat.now c.add_first.new.rows.sets c.mark_row.new.marks.rows.items 0 (let l = one_row c.add_first.new.rows.sets kept rows in omega arith) c.mark_row.ensures,
     )
+
+pub mark_row-requires-clause-flat : goal.mark_row-requires-clause-flat
+mark_row-requires-clause-flat c = c.add_first.ensures.flat
+
+pub mark_row-requires-clause-place : goal.mark_row-requires-clause-place
+mark_row-requires-clause-place c = let (row, one, _, _) = c.in_ok-add_first.ensures.ok in let l = one_row c.add_first.new.rows.sets row one in omega arith
 
 pub add_first-requires-clause-lists : goal.add_first-requires-clause-lists
 add_first-requires-clause-lists c = no_lists c.args.flat.now c.in_ok-rows.rows.shared c.new_lists-lists.result.numbers.entries c.in_ok-rows.ensures.2 c.new_lists-lists.ensures

@@ -3,7 +3,7 @@ use Rattle.std.specs.Prelude.{◌≢◌}
 use Rattle.std.specs.List.{AllPairs}
 use Rattle.recognizer_model.specs.declared.Item.{Item}
 use Rattle.recognizer_model.specs.Flat.{rhs_of}
-use Rattle.item_rows.specs.Dotted.{dotted_at, AreNumbers, AreSpans, IsWholeSpan}
+use Rattle.item_rows.specs.Dotted.{dotted_at, AreNumbers, AreSpans, IsWholeSpan, IsTerminalSpan}
 use Rattle.item_rows.proofs.Listed.{rules_differ, dots_within, all_numbered, each_numbered}
 use Rattle.item_rows.proofs.dotted.DottedRules.new.Goals as goal
 
@@ -45,4 +45,5 @@ invariant_of-result c =
       each = each_numbered g listed firsts n c.in_ok-list_all.ensures rules same once c.in_ok-numbers.numbers.items numbers;
       by_symbol = subst (λ (r : List Item). AreSpans c.args.flat.now r c.in_ok-spans.spans.items (length c.args.flat.now.symbols)) c.deref-5.ensures.value c.in_ok-spans.ensures;
       at_end = subst (λ (r : List Item). IsWholeSpan c.args.flat.now r c.find_whole-whole.result) c.deref-6.ensures.value c.find_whole-whole.ensures;
+      first = subst (λ (r : List Item). IsTerminalSpan c.args.flat.now r c.find_scanned-scanned.result) c.deref-7.ensures.value c.find_scanned-scanned.ensures;
     }

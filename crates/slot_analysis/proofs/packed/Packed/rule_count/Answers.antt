@@ -1,8 +1,7 @@
 use Rattle.std.proofs.Common.{subst}
-use Rattle.slot_analysis.specs.Rows.{rows_of}
 use Rattle.grammar_core.specs.Written.{IsWritten}
 use Rattle.slot_analysis.proofs.Transfer.{packed_written}
 use Rattle.slot_analysis.proofs.packed.Packed.rule_count.Goals as goal
 
 pub returns-clause-sound : goal.returns-clause-sound
-returns-clause-sound c = subst IsWritten c.self.view_is (packed_written c.self.inside.written.now (rows_of c.self.inside.levels.now) c.rule_count.ensures.sound c.self.invariant)
+returns-clause-sound c = subst IsWritten c.self.view_is (packed_written c.self.inside.written.now c.self.inside.levels.now c.rule_count.ensures.sound c.self.invariant)

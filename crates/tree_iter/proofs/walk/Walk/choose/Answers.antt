@@ -3,8 +3,9 @@ use Rattle.tree_iter.specs.declared.goals.GoalRow.{GoalRow}
 use Rattle.tree_iter.specs.declared.walk.Choice.{Choice}
 use Rattle.tree_iter.specs.declared.walk.Walk.{Walk}
 use Rattle.tree_iter.specs.Goals.{fork_of, look, PutsOption}
-use Rattle.tree_iter.specs.Walk.{StandsBefore, HasSteps}
+use Rattle.tree_iter.specs.Walk.{StandsBefore, HasSteps, GoesFurther}
 use Rattle.tree_iter.proofs.Walks.{first_of, fork_goal, fork_some, cut_first, chose_one, chose_only, put_steps}
+use Rattle.tree_iter.proofs.Further.{put_further}
 use Rattle.tree_iter.proofs.walk.Walk.choose.Goals.{then-put-gt1+in-Ok-push, else-put-gt1}
 use Rattle.tree_iter.proofs.walk.Walk.choose.Goals as goal
 
@@ -47,4 +48,18 @@ returns-clause-looks g c = λ m h.
           (look (fork_of c.args.fork), put (record c.if-put-gt1.self { left = c.in-Ok.put.top }) (ap (λ (x : Walk). x.counts.items) b.self-is) refl (ap (λ (x : Walk). x.goals.items) b.self-is), c.put_option.ensures.looks)
       | else-put-gt1 b ↦
           (look (fork_of c.args.fork), put (record c.if-put-gt1.self { left = c.in-Ok.put.top }) (ap (λ (x : Walk). x.counts.items) b.self-is) refl (ap (λ (x : Walk). x.goals.items) b.self-is), c.put_option.ensures.looks)
+    ]
+
+pub returns-clause-further : goal.returns-clause-further
+returns-clause-further g c =
+    let w : Walk = c.args.self.now in
+    let k = c.kept-kept.result in
+    let rows = c.truncate.ensures.items ∙ ap (λ (l : List GoalRow). take k l) c.reserve.ensures.items in
+    let put : (n : Walk) → n.counts.items ≡ w.counts.items → n.left ≡ c.in-Ok.put.top → n.goals.items ≡ c.put_option.new.rows.items → GoesFurther w n = (λ n counts left goals.
+    put_further w n (fork_of c.args.fork) 0 c.args.behind k c.in-Ok.put c.requires counts left c.kept-kept.ensures.0
+    (subst (λ g. PutsOption w.forest.now (fork_of c.args.fork) (take k w.goals.items) g 0 c.args.behind c.in-Ok.put) (sym goals)
+    (subst (λ g. PutsOption w.forest.now (fork_of c.args.fork) g c.put_option.new.rows.items 0 c.args.behind c.in-Ok.put) rows c.in-Ok.ensures.ok))) in
+    elim c.if-put-gt1.branch as (λ _. GoesFurther w (record c.if-put-gt1.self { left = c.in-Ok.put.top })) [
+      | then-put-gt1+in-Ok-push b ↦ put (record c.if-put-gt1.self { left = c.in-Ok.put.top }) (ap (λ (x : Walk). x.counts.items) b.self-is) refl (ap (λ (x : Walk). x.goals.items) b.self-is)
+      | else-put-gt1 b ↦ put (record c.if-put-gt1.self { left = c.in-Ok.put.top }) (ap (λ (x : Walk). x.counts.items) b.self-is) refl (ap (λ (x : Walk). x.goals.items) b.self-is)
     ]

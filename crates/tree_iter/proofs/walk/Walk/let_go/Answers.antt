@@ -1,5 +1,5 @@
 use Rattle.tree_iter.specs.declared.walk.Walk.{Walk}
-use Rattle.tree_iter.proofs.Walks.{cut_before, cut_steps}
+use Rattle.tree_iter.proofs.Walks.{cut_before, cut_left}
 use Rattle.tree_iter.proofs.walk.Walk.let_go.Goals as goal
 
 pub returns-clause-goes : goal.returns-clause-goes
@@ -8,6 +8,6 @@ returns-clause-goes c = λ rest h.
     cut_before w (record w { goals = c.truncate.new.self }) rest c.kept-kept.result c.kept-kept.ensures c.truncate.ensures.items h
 
 pub returns-clause-keeps : goal.returns-clause-keeps
-returns-clause-keeps c = λ k h.
+returns-clause-keeps c =
     let w : Walk = c.args.self.now in
-    cut_steps w (record w { goals = c.truncate.new.self }) c.kept-kept.result c.kept-kept.ensures c.truncate.ensures.items k h
+    cut_left w (record w { goals = c.truncate.new.self }) c.kept-kept.result c.kept-kept.ensures c.truncate.ensures.items

@@ -1,0 +1,4 @@
+pub mod Marks
+pub mod Gathered
+pub mod Least
+pub mod Rows

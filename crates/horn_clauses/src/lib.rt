@@ -1,0 +1,14 @@
+//! Least sets of numbers by definite Horn clauses, and the lists that they are found with.
+#![tactic(auto)]
+
+mod clause_list;
+mod gathered;
+mod least;
+mod number_set;
+mod rows;
+
+pub use clause_list::Clauses;
+pub use gathered::Gathered;
+pub use least::least_set;
+pub use number_set::NumberSet;
+pub use rows::Rows;

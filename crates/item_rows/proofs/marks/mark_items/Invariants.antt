@@ -1,0 +1,7 @@
+use Rattle.std.proofs.Common.{◌≡◌, ◌<◌, ℕ, Some, slice_get}
+use Rattle.recognizer_model.specs.declared.Item.{Item}
+use Rattle.item_rows.specs.Marks.{WaitsFor, AreMarked}
+use Rattle.item_rows.proofs.marks.mark_items.Given as goal
+
+abbrev pub invariant-loop-k : goal.invariant-loop-k
+invariant-loop-k l = AreMarked (λ t. (i : ℕ) × (item : Item) × (i < l.k) × (slice_get l.items i ≡ Some item) × WaitsFor l.flat item t) l.mark l.marks.items

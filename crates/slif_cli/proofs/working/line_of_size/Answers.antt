@@ -1,6 +1,0 @@
-use Rattle.std.proofs.lemmas.Result.{on_ok_weaker}
-use Rattle.slif_cli.proofs.working.line_of_size.Goals as goal
-
-pub returns-clause-counted : goal.returns-clause-counted
-returns-clause-counted g c =
-    on_ok_weaker c.line_of_reading.result (λ gives. (c.in_ok-prepared.prepared, c.in_ok-prepared.ensures, gives c.args.steps.now c.in_ok-reading.ensures.counted)) c.line_of_reading.ensures.counted
