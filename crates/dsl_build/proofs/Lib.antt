@@ -18,3 +18,4 @@ pub mod Readying
 pub mod Granting
 pub mod SetNames
 pub mod OwnLemmas
+pub mod ResolvingLemmas

@@ -2,6 +2,7 @@ pub mod Built
 pub mod Lexical
 pub mod Ranges
 pub mod Ready
+pub mod Resolving
 pub mod Rules
 pub mod Tables
 pub use Rattle.dsl_faults.specs.Found

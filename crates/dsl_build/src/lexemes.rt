@@ -9,7 +9,7 @@ ghost use Rattle.dsl_build.specs.Ready.{IsSmall};
 
 use crate::built::LexemeRow;
 use crate::numbers::read_number;
-use crate::rules::symbol_of;
+use crate::symbols::symbol_of;
 use dsl_faults::{Names, value_of};
 use dsl_meanings::default_value;
 use dsl_statement::{Adverb, Spelled, Statement};

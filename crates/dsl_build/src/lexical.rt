@@ -1,18 +1,16 @@
 //! The lexical grammar.
-ghost use Rattle.std.specs.Prelude.{◌≡◌, ◌≤◌, ◌<◌, ◌+◌, ◌++◌, map, flat_map, filter, length, All, IfOk, OnOk, true};
-ghost use Rattle.language_model.specs.Building.{is_one_of, place_in, rules_of, is_of_level, sets_of, set_names, added_rules};
+ghost use Rattle.std.specs.Prelude.{◌≡◌, ◌≤◌, ◌<◌, ◌+◌, ◌++◌, map, flat_map, length, All, IfOk, OnOk};
+ghost use Rattle.language_model.specs.Building.{sets_of, set_names, added_rules};
 ghost use Rattle.grammar_core.specs.Written.{rule_of};
-ghost use Rattle.dsl_statement.specs.Statements.{statement_of};
 ghost use Rattle.dsl_build.specs.Lexical.{added_rule, added_of};
-ghost use Rattle.dsl_build.specs.Ready.{IsReadable, IsReady, IsWritable};
+ghost use Rattle.dsl_build.specs.Ready.{IsReadable, IsWritable};
 
 use crate::placed::is_quote_or_bracket;
-use crate::rules::{push_rules, symbol_of};
 use crate::sets::{numbers_from, push_sets};
 use crate::writing::written;
 use char_class::CharSet;
 use dsl_faults::Names;
-use dsl_statement::{Level, Spelled, Statement};
+use dsl_statement::Spelled;
 use grammar_core::{Assoc, Rule, SymbolId, Written, WrittenRule};
 use std::alloc::{AllocError, Global};
 
@@ -91,49 +89,32 @@ fn push_tokens(
     Ok(sets)
 }
 
-fn starts_of(alloc: Global, names: &Names, starts: &Names) -> Result<Vec<SymbolId>, AllocError>
-    requires named { All (λ t. is_one_of names.now t ≡ true) starts.now }
-    requires few { length names.now ≤ 16777215 }
-    ensures { IfOk result (λ symbols. symbols.items ≡ map (place_in names.now) starts.now) }
-{
-    let mut symbols = Vec::new(alloc);
-    for place in 0..starts.len() {
-        symbols.push(symbol_of(names, starts.text(place)))?;
-    }
-    Ok(symbols)
-}
-
-/// The grammar of the lexical rules, of the tokens with a place and of these starts.
+/// The grammar of these rules, of the tokens with a place and of these starts.
 pub fn lexical_grammar(
     alloc: Global,
-    statements: &[Statement],
-    tokens: &[&Spelled],
     names: &Names,
-    starts: &Names,
+    tokens: &[&Spelled],
+    mut rules: Vec<WrittenRule>,
+    starts: &[SymbolId],
 ) -> Result<Lexical, AllocError>
-    requires ready { All (λ s. is_of_level true (statement_of s) ≡ true → IsReady names.now (statement_of s)) statements.now }
     requires readable { All (λ t. IsReadable t.now) tokens.now }
     requires placed { length tokens.now ≤ length names.now }
     requires room { length names.now + length (flat_map sets_of (map (λ t. t.now) tokens.now)) ≤ 16777215 }
-    requires starts { All (λ t. is_one_of names.now t ≡ true) starts.now }
     requires writable { IsWritable (record {
       names = names.now ++ set_names (length (flat_map sets_of (map (λ t. t.now) tokens.now)));
-      rules = flat_map (rules_of names.now) (filter (is_of_level true) (map statement_of statements.now)) ++ added_rules 0 (length names.now) (map (λ t. t.now) tokens.now);
-      starts = map (place_in names.now) starts.now;
+      rules = map rule_of rules.items ++ added_rules 0 (length names.now) (map (λ t. t.now) tokens.now);
+      starts = starts.now;
     }) }
     ensures sets { IfOk result (λ l. l.sets.items ≡ flat_map sets_of (map (λ t. t.now) tokens.now)) }
     ensures grammar { IfOk result (λ l. l.grammar ≡ record {
       names = names.now ++ set_names (length (flat_map sets_of (map (λ t. t.now) tokens.now)));
-      rules = flat_map (rules_of names.now) (filter (is_of_level true) (map statement_of statements.now)) ++ added_rules 0 (length names.now) (map (λ t. t.now) tokens.now);
-      starts = map (place_in names.now) starts.now;
+      rules = map rule_of rules.items ++ added_rules 0 (length names.now) (map (λ t. t.now) tokens.now);
+      starts = starts.now;
     }) }
 {
-    let mut rules = Vec::new(alloc);
-    push_rules(alloc, &mut rules, names, Level::Lexical, statements)?;
     let sets = push_tokens(alloc, &mut rules, names.len(), tokens)?;
-    let starts = starts_of(alloc, names, starts)?;
     Ok(Lexical {
-        grammar: written(alloc, names, sets.len(), rules, &starts)?,
+        grammar: written(alloc, names, sets.len(), rules, starts)?,
         sets,
     })
 }

@@ -9,10 +9,10 @@ mod lexical;
 mod numbers;
 mod placed;
 mod quoted;
+mod resolving;
 mod rules;
 mod sets;
-mod structural;
-mod tables;
+mod symbols;
 mod texts;
 mod writing;
 

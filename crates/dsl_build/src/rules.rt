@@ -1,30 +1,20 @@
-//! The rules of statements, with the numbers that names have.
+//! The pass over statements that makes their rules of numbers: each name is looked up here once, in the table of its level.
 ghost use Rattle.std.specs.Prelude.{◌≡◌, ◌≤◌, ◌++◌, ◌∷◌, [], map, flat_map, filter, length, IfOk, OnOk, All, option_map, codes, false, true};
 ghost use Rattle.language_model.specs.Description.{Empty, Quantified};
 ghost use Rattle.language_model.specs.Building as building;
-ghost use Rattle.language_model.specs.Building.{is_one_of, place_in, numbers_in, rules_of_groups, rules_of, is_of_level, parts_of};
+ghost use Rattle.language_model.specs.Building.{is_one_of, place_in, numbers_in, rules_of, is_of_level, parts_of};
 ghost use Rattle.grammar_model.specs.Grammar.{Plain, Sequence};
 ghost use Rattle.grammar_core.specs.Written.{rule_of};
-ghost use Rattle.dsl_statement.specs.Statements.{adverbs_of, is_lexical, statement_of};
+ghost use Rattle.dsl_statement.specs.Statements.{adverbs_of, statement_of};
 ghost use Rattle.dsl_build.specs.Ready.{IsNamed, IsSmall, IsReady, IsReadyAlternative};
+ghost use Rattle.dsl_build.specs.Resolving.{is_at, rules_at, plain_with, groups_with};
 
 use crate::numbers::{assoc_of, rank_of, says};
+use crate::symbols::symbol_of;
 use dsl_faults::{Names, value_of};
 use dsl_statement::{Adverb, Alternative, Level, Spelled, Statement};
 use grammar_core::{Assoc, Rule, SeqRule, SymbolId, WrittenRule};
 use std::alloc::{AllocError, Global};
-
-/// The number of the text, which is one of the names.
-pub fn symbol_of(names: &Names, text: &str) -> SymbolId
-    requires named { is_one_of names.now text.now ≡ true }
-    requires few { length names.now ≤ 16777215 }
-    ensures { result ≡ place_in names.now text.now }
-{
-    match names.position(text) {
-        Some(place) => SymbolId(place as u32),
-        None => unreachable!(),
-    }
-}
 
 fn number_of(names: &Names, token: &Spelled) -> SymbolId
     requires named { IsNamed names.now token.now }
@@ -62,19 +52,18 @@ fn right_side(
 fn plain_rule(
     alloc: Global,
     names: &Names,
-    left: &Spelled,
+    lhs: SymbolId,
     level: u32,
     groups: u32,
     alternative: &Alternative,
 ) -> Result<WrittenRule, AllocError>
-    requires left { IsNamed names.now left.now }
     requires ready { IsReadyAlternative names.now alternative.now }
     requires few { length names.now ≤ 16777215 }
-    ensures { IfOk result (λ r. rule_of r ≡ building.plain_rule names.now left.now level groups alternative.now) }
+    ensures { IfOk result (λ r. rule_of r ≡ plain_with names.now lhs level groups alternative.now) }
 {
     let adverbs = &alternative.adverbs;
     Ok(WrittenRule::Plain(Rule {
-        lhs: number_of(names, left),
+        lhs,
         rhs: right_side(alloc, names, alternative)?,
         level,
         groups,
@@ -88,18 +77,17 @@ fn push_group(
     alloc: Global,
     out: &mut Vec<WrittenRule>,
     names: &Names,
-    left: &Spelled,
+    lhs: SymbolId,
     level: u32,
     groups: u32,
     group: &[Alternative],
 ) -> Result<(), AllocError>
-    requires left { IsNamed names.now left.now }
     requires ready { All (IsReadyAlternative names.now) group.now }
     requires few { length names.now ≤ 16777215 }
-    ensures { OnOk result (map rule_of out.new.items ≡ map rule_of out.old.items ++ map (building.plain_rule names.now left.now level groups) group.now) }
+    ensures { OnOk result (map rule_of out.new.items ≡ map rule_of out.old.items ++ map (plain_with names.now lhs level groups) group.now) }
 {
     for alternative in group {
-        out.push(plain_rule(alloc, names, left, level, groups, alternative)?)?;
+        out.push(plain_rule(alloc, names, lhs, level, groups, alternative)?)?;
     }
     Ok(())
 }
@@ -108,20 +96,19 @@ fn push_groups(
     alloc: Global,
     out: &mut Vec<WrittenRule>,
     names: &Names,
-    left: &Spelled,
+    lhs: SymbolId,
     groups: &[Vec<Alternative>],
 ) -> Result<(), AllocError>
-    requires left { IsNamed names.now left.now }
     requires ready { All (λ g. All (IsReadyAlternative names.now) g.items) groups.now }
     requires counted { length groups.now ≤ 4294967295 }
     requires few { length names.now ≤ 16777215 }
-    ensures { OnOk result (map rule_of out.new.items ≡ map rule_of out.old.items ++ rules_of_groups names.now left.now (length groups.now) (map (λ g. g.items) groups.now)) }
+    ensures { OnOk result (map rule_of out.new.items ≡ map rule_of out.old.items ++ groups_with names.now lhs (length groups.now) (map (λ g. g.items) groups.now)) }
 {
     let count = groups.len() as u32;
     let mut level = count;
     for group in groups {
         level -= 1;
-        push_group(alloc, out, names, left, level, count, group)?;
+        push_group(alloc, out, names, lhs, level, count, group)?;
     }
     Ok(())
 }
@@ -201,38 +188,74 @@ fn push_statement(
             out.push(sequence_rule(names, left, item, *plus, adverbs))?;
             Ok(())
         }
-        Statement::Rules { left, groups, .. } => push_groups(alloc, out, names, left, groups),
+        Statement::Rules { left, groups, .. } => {
+            push_groups(alloc, out, names, number_of(names, left), groups)
+        }
         _ => Ok(()),
     }
 }
 
-fn is_of_level(level: Level, s: &Statement) -> bool
-    ensures { result ≡ is_of_level (is_lexical level) (statement_of s.now) }
+// The level of the rules that the statement has.
+fn level_of(s: &Statement) -> Option<Level>
+    ensures structural { is_at false result ≡ is_of_level false (statement_of s.now) }
+    ensures lexical { is_at true result ≡ is_of_level true (statement_of s.now) }
 {
     match s {
-        Statement::Empty { level: own, .. } => own.is_lexical() == level.is_lexical(),
-        Statement::Quantified { level: own, .. } => own.is_lexical() == level.is_lexical(),
-        Statement::Rules { level: own, .. } => own.is_lexical() == level.is_lexical(),
-        _ => false,
+        Statement::Empty { level, .. } => Some(*level),
+        Statement::Quantified { level, .. } => Some(*level),
+        Statement::Rules { level, .. } => Some(*level),
+        _ => None,
     }
 }
 
-/// Puts the rules of one level, in order, behind the others.
-pub fn push_rules(
+/// The rules of both levels, each in order.
+#[derive(Drop)]
+pub struct Rules {
+    pub structural: Vec<WrittenRule>,
+    pub lexical: Vec<WrittenRule>,
+}
+
+fn push_of_level(
     alloc: Global,
-    out: &mut Vec<WrittenRule>,
-    names: &Names,
-    level: Level,
-    statements: &[Statement],
+    out: &mut Rules,
+    structural: &Names,
+    lexical: &Names,
+    s: &Statement,
 ) -> Result<(), AllocError>
-    requires ready { All (λ s. is_of_level (is_lexical level) (statement_of s) ≡ true → IsReady names.now (statement_of s)) statements.now }
-    requires few { length names.now ≤ 16777215 }
-    ensures { OnOk result (map rule_of out.new.items ≡ map rule_of out.old.items ++ flat_map (rules_of names.now) (filter (is_of_level (is_lexical level)) (map statement_of statements.now))) }
+    requires structural { is_of_level false (statement_of s.now) ≡ true → IsReady structural.now (statement_of s.now) }
+    requires lexical { is_of_level true (statement_of s.now) ≡ true → IsReady lexical.now (statement_of s.now) }
+    requires few { length structural.now ≤ 16777215 }
+    requires few_lexical { length lexical.now ≤ 16777215 }
+    ensures structural { OnOk result (map rule_of out.new.structural.items ≡ map rule_of out.old.structural.items ++ rules_at false structural.now (statement_of s.now)) }
+    ensures lexical { OnOk result (map rule_of out.new.lexical.items ≡ map rule_of out.old.lexical.items ++ rules_at true lexical.now (statement_of s.now)) }
 {
-    for s in statements {
-        if is_of_level(level, s) {
-            push_statement(alloc, out, names, s)?;
-        }
+    match level_of(s) {
+        Some(Level::Structural) => push_statement(alloc, &mut out.structural, structural, s),
+        Some(Level::Lexical) => push_statement(alloc, &mut out.lexical, lexical, s),
+        None => Ok(()),
     }
-    Ok(())
+}
+
+/// The rules of statements, over the numbers that names have in the table of their level.
+pub fn rules_of(
+    alloc: Global,
+    statements: &[Statement],
+    structural: &Names,
+    lexical: &Names,
+) -> Result<Rules, AllocError>
+    requires structural { All (λ s. is_of_level false (statement_of s) ≡ true → IsReady structural.now (statement_of s)) statements.now }
+    requires lexical { All (λ s. is_of_level true (statement_of s) ≡ true → IsReady lexical.now (statement_of s)) statements.now }
+    requires few { length structural.now ≤ 16777215 }
+    requires few_lexical { length lexical.now ≤ 16777215 }
+    ensures structural { IfOk result (λ r. map rule_of r.structural.items ≡ flat_map (rules_of structural.now) (filter (is_of_level false) (map statement_of statements.now))) }
+    ensures lexical { IfOk result (λ r. map rule_of r.lexical.items ≡ flat_map (rules_of lexical.now) (filter (is_of_level true) (map statement_of statements.now))) }
+{
+    let mut rules = Rules {
+        structural: Vec::new(alloc),
+        lexical: Vec::new(alloc),
+    };
+    for s in statements {
+        push_of_level(alloc, &mut rules, structural, lexical, s)?;
+    }
+    Ok(rules)
 }

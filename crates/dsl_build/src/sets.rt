@@ -1,8 +1,8 @@
-//! The character sets of quoted texts and classes, and the rules that are made of them.
-ghost use Rattle.std.specs.Prelude.{◌≡◌, ◌≤◌, ◌+◌, ◌++◌, map, nat_lt, chars, IfOk, OnOk};
+//! The character sets of quoted texts and classes, and their numbers.
+ghost use Rattle.std.specs.Prelude.{◌≡◌, ◌≤◌, ◌+◌, ◌-◌, ◌++◌, length, map, nat_lt, chars, IfOk, OnOk};
 ghost use Rattle.language_model.specs.Classes.{class_of, class_of_char};
 ghost use Rattle.language_model.specs.Classes as classes;
-ghost use Rattle.language_model.specs.Building.{sets_of, count_from};
+ghost use Rattle.language_model.specs.Building.{sets_of, count_from, numbered_from};
 ghost use Rattle.dsl_build.specs.Lexical.{class_sets};
 ghost use Rattle.dsl_build.specs.Ready.{IsReadable};
 
@@ -10,7 +10,7 @@ use crate::quoted::quoted;
 use char_class::{CharSet, ClassRefusal, read_class, set_of_char};
 use dsl_faults::{is_bracket, is_quote, modifier_len};
 use dsl_statement::Spelled;
-use grammar_core::SymbolId;
+use grammar_core::{SymbolId, Written};
 use std::alloc::{AllocError, Global};
 
 fn push_characters(
@@ -73,4 +73,23 @@ pub fn numbers_from(alloc: Global, from: usize, count: usize) -> Result<Vec<Symb
         numbers.push(SymbolId((from + k) as u32))?;
     }
     Ok(numbers)
+}
+
+/// The sets, each with its symbol, which are the last symbols of the grammar.
+pub fn numbered(
+    alloc: Global,
+    grammar: &Written,
+    mut sets: Vec<CharSet>,
+) -> Result<Vec<(SymbolId, CharSet)>, AllocError>
+    requires { length sets.items ≤ length grammar.now.names }
+    ensures { IfOk result (λ numbered. numbered.items ≡ numbered_from (length grammar.now.names - length sets.items) sets.items) }
+{
+    let first = grammar.symbol_count() - sets.len();
+    let mut numbered = Vec::new(alloc);
+    while let Some(set) = sets.pop() {
+        let number = first + sets.len();
+        numbered.push((SymbolId(number as u32), set))?;
+    }
+    numbered.reverse();
+    Ok(numbered)
 }

@@ -1,6 +1,6 @@
 use Rattle.std.proofs.Common.{◌≡◌, ◌≤◌, ◌++◌, length, reverse}
 use Rattle.language_model.specs.Building.{numbered_from}
-use Rattle.dsl_build.proofs.tables.numbered.Given as goal
+use Rattle.dsl_build.proofs.sets.numbered.Given as goal
 
 abbrev pub invariant-loop-set : goal.invariant-loop-set
 invariant-loop-set l = record {

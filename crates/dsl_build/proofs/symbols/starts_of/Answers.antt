@@ -3,7 +3,7 @@ use Rattle.std.specs.Prelude.{All, option_to_list}
 use Rattle.std.proofs.lemmas.List.Elements.{All-head}
 use Rattle.language_model.specs.Tokens.{Spelled}
 use Rattle.language_model.specs.Building.{is_one_of}
-use Rattle.dsl_build.proofs.structural.starts_of.Goals as goal
+use Rattle.dsl_build.proofs.symbols.starts_of.Goals as goal
 
 pub symbol_of-requires-clause-named : goal.symbol_of-requires-clause-named
 symbol_of-requires-clause-named c =

@@ -2,7 +2,7 @@ use Rattle.std.proofs.Common.{◌≡◌, arith, ◌∙◌, ap, ◌+◌, ◌-◌,
 use Rattle.std.proofs.lemmas.List.{length-append}
 use Rattle.language_model.specs.Building.{numbered_from}
 use Rattle.dsl_build.proofs.NumberedLemmas.{numbered_on}
-use Rattle.dsl_build.proofs.tables.numbered.Goals as goal
+use Rattle.dsl_build.proofs.sets.numbered.Goals as goal
 
 pub loop-set-preserved : goal.loop-set-preserved
 loop-set-preserved c =

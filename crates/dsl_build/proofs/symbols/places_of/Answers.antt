@@ -2,7 +2,7 @@ use Rattle.std.proofs.Common.{sym, ◌∙◌, ap, ◌∷◌, [], ◌++◌, map, 
 use Rattle.std.proofs.lemmas.List.{map-append}
 use Rattle.language_model.specs.Building.{place_in}
 use Rattle.dsl_faults.proofs.Lists.{take_get}
-use Rattle.dsl_build.proofs.tables.places_of.Goals as goal
+use Rattle.dsl_build.proofs.symbols.places_of.Goals as goal
 
 pub loop-k-preserved : goal.loop-k-preserved
 loop-k-preserved c =
