@@ -1,10 +1,10 @@
 -- Where characters begin among the bytes of a text.
-use Rattle.std.proofs.Common.{◌≡◌, ℕ, zero, suc, ◌+◌, ◌-◌, ◌<◌, ◌≤◌, Bool, true, false, ◌&&◌, List, [], ◌∷◌, ◌++◌, length, take, drop, get_or, refl, sym, ap, ◌∙◌, arith, append_assoc, length-append, subst, encode_utf8_all, IsUtf8}
+use Rattle.std.proofs.Common.{◌≡◌, ℕ, zero, suc, ◌+◌, ◌-◌, ◌<◌, ◌≤◌, Bool, true, false, ◌&&◌, List, [], ◌∷◌, ◌++◌, length, take, drop, get_or, refl, sym, ap, ◌∙◌, arith, append_assoc, length-append, subst, encode_utf8_all, IsUtf8, Option, Some, None, MatchOption}
 use Rattle.std.proofs.Math.Seq.{take-add, drop-append_seam, take-append_seam}
 use Rattle.std.proofs.Math.Utf8.{scalars, scalar}
-use Rattle.std.proofs.lemmas.List.{take-append-drop, get_or_default}
-use Rattle.std.proofs.lemmas.Str.{chars_past_char, chars-nil, chars-encodes, encodes-append, length-encode, IsCharBoundary-at_seam, scalars-chars, encodes-chars}
-use Rattle.std.specs.Str.{chars, IsCharBoundary}
+use Rattle.std.proofs.lemmas.List.{take-append-drop, get_or_default, length-take-le}
+use Rattle.std.proofs.lemmas.Str.{chars_past_char, chars-nil, chars-encodes, encodes-append, length-encode, IsCharBoundary-at_seam, scalars-chars, encodes-chars, chars-IsAscii, encodes-IsAscii, IsAscii-take}
+use Rattle.std.specs.Str.{chars, IsCharBoundary, IsAscii}
 use Rattle.std.specs.Char.{encode_utf8, len_utf8}
 use Rattle.std.specs.List.{slice_range}
 use Rattle.slif_base.specs.Characters.{starts_from}
@@ -86,11 +86,19 @@ start_at starts cs i m e b at =
     let zero_at : get_or starts i 0 ≡ 0 + length (encode_utf8_all (take i cs)) = ap (λ (xs : List ℕ). get_or xs i 0) e ∙ get_or-starts 0 cs i b in
     at ∙ get_or_default starts i m 0 inside ∙ (omega (arith, zero_at))
 
-pub index_inside : (starts cs values : List ℕ) (i : ℕ) → starts ≡ starts_from 0 cs → cs ≡ values → i ≤ length values → i < length starts
-index_inside starts cs values i e v b = omega (arith, ap length e, length-starts 0 cs, ap length v)
+-- the table of a text, or that its characters are its bytes
+pub table_of : {V : Type 0} (items : V → List ℕ) (bytes cs : List ℕ) (o : Option V) (v : V) → o ≡ Some v → MatchOption o (IsAscii bytes) (λ w. items w ≡ starts_from 0 (chars bytes)) → chars bytes ≡ cs → items v ≡ starts_from 0 cs
+table_of items bytes cs o v e h same = subst (λ x. MatchOption x (IsAscii bytes) (λ w. items w ≡ starts_from 0 (chars bytes))) e h ∙ ap (starts_from 0) same
 
-pub count_of_starts : (starts cs values : List ℕ) → starts ≡ starts_from 0 cs → cs ≡ values → length starts ≡ suc (length values)
-count_of_starts starts cs values e v = ap length e ∙ length-starts 0 cs ∙ ap (λ (xs : List ℕ). suc (length xs)) v
+pub bytes_are_chars : {V : Type 0} (items : V → List ℕ) (bytes cs : List ℕ) (o : Option V) → o ≡ None → MatchOption o (IsAscii bytes) (λ w. items w ≡ starts_from 0 (chars bytes)) → chars bytes ≡ cs → IsAscii bytes × (bytes ≡ cs)
+bytes_are_chars items bytes cs o e h same =
+    let ascii : IsAscii bytes = subst (λ x. MatchOption x (IsAscii bytes) (λ w. items w ≡ starts_from 0 (chars bytes))) e h in
+    (ascii, sym (chars-IsAscii bytes ascii) ∙ same)
+
+pub start_of_byte : (bytes cs : List ℕ) (i : ℕ) → IsAscii bytes × (bytes ≡ cs) → i ≤ length cs → i ≡ length (encode_utf8_all (take i cs))
+start_of_byte bytes cs i (ascii, same) b =
+    let inside : i ≤ length bytes = omega (arith, b, ap length same) in
+    sym (length-take-le i bytes inside) ∙ ap length (sym (encodes-IsAscii (take i bytes) (IsAscii-take bytes i ascii))) ∙ ap (λ (xs : List ℕ). length (encode_utf8_all (take i xs))) same
 
 pub cut_at : (bytes : List ℕ) (from to a b : ℕ) → IsUtf8 bytes → from ≤ to → to ≤ length (chars bytes) → a ≡ length (encode_utf8_all (take from (chars bytes))) → b ≡ length (encode_utf8_all (take to (chars bytes))) →
     (a ≤ b) × IsCharBoundary bytes a × IsCharBoundary bytes b × (slice_range bytes a b ≡ encode_utf8_all (slice_range (chars bytes) from to))
@@ -103,15 +111,13 @@ cut_at bytes from to a b utf8 h l at_from at_to =
       (λ i. slice_range (sym same i) (at_from i) (at_to i)) ∙ cut.part,
     )
 
-pub cut_in : (text bytes starts cs : List ℕ) (from to a b : ℕ) → IsUtf8 bytes → bytes ≡ text → starts ≡ starts_from 0 (chars text) → chars text ≡ cs → from ≤ to → to ≤ length cs →
-    a ≡ get_or starts from a → b ≡ get_or starts to b → (a ≤ b) × IsCharBoundary bytes a × IsCharBoundary bytes b × (slice_range bytes a b ≡ encode_utf8_all (slice_range cs from to))
-cut_in text bytes starts cs from to a b utf8 same e v h l at_from at_to =
+pub cut_in : (text bytes cs : List ℕ) (from to a b : ℕ) → IsUtf8 bytes → bytes ≡ text → chars text ≡ cs → from ≤ to → to ≤ length cs →
+    a ≡ length (encode_utf8_all (take from cs)) → b ≡ length (encode_utf8_all (take to cs)) → (a ≤ b) × IsCharBoundary bytes a × IsCharBoundary bytes b × (slice_range bytes a b ≡ encode_utf8_all (slice_range cs from to))
+cut_in text bytes cs from to a b utf8 same v h l at_from at_to =
     let all : chars bytes ≡ cs = ap chars same ∙ v in
-    let table : starts ≡ starts_from 0 (chars bytes) = e ∙ ap (λ (xs : List ℕ). starts_from 0 (chars xs)) (sym same) in
-    let count : length (chars bytes) ≡ length cs = ap length all in
-    let to_in : to ≤ length (chars bytes) = omega (arith, l, count) in
-    let from_in : from ≤ length (chars bytes) = omega (arith, l, count, h) in
-    let cut = cut_at bytes from to a b utf8 h to_in (start_at starts (chars bytes) from a table from_in at_from) (start_at starts (chars bytes) to b table to_in at_to) in
+    let to_in : to ≤ length (chars bytes) = omega (arith, l, ap length all) in
+    let start = λ (i : ℕ). ap (λ (xs : List ℕ). length (encode_utf8_all (take i xs))) (sym all) in
+    let cut = cut_at bytes from to a b utf8 h to_in (at_from ∙ start from) (at_to ∙ start to) in
     (cut.0, cut.1, cut.2, cut.3 ∙ ap (λ (xs : List ℕ). encode_utf8_all (slice_range xs from to)) all)
 
 scalars-take : (n : ℕ) (cs : List ℕ) → scalars cs ≡ true → scalars (take n cs) ≡ true

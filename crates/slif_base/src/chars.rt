@@ -1,5 +1,5 @@
 // The characters of a text.
-ghost use Rattle.std.specs.Prelude.{◌≡◌, ◌^◌, ◌<◌, ◌≤◌, length, take, slice_range, slice_index, encode_utf8_all, IsUtf8, IfOk, IfErr, OnOk};
+ghost use Rattle.std.specs.Prelude.{◌≡◌, ◌^◌, ◌<◌, ◌≤◌, length, take, slice_range, slice_index, encode_utf8_all, string_bytes, IsUtf8, IfOk, IfErr, OnOk};
 ghost use Rattle.std.specs.Str.{IsCharBoundary, chars};
 ghost use Rattle.slif_base.specs.Characters.{starts_from, RefusesText};
 ghost use Rattle.outside_model.specs.Places.{line_after, column_after};
@@ -14,7 +14,7 @@ pub enum TextRefusal {
     /// The first `at` bytes are the longest front that is UTF-8.
     #[error("not UTF-8 at byte {at}")]
     NotUtf8 { at: usize },
-    /// There was no memory, or the text has 4,294,967,296 bytes or more.
+    /// There was no memory, or a text that is not all ASCII has 4,294,967,296 bytes or more.
     #[error("out of memory")]
     NoMemory,
 }
@@ -33,12 +33,13 @@ impl From<AllocError> for TextRefusal {
 #[derive(Drop)]
 pub struct Chars {
     text: String,
-    starts: Vec<u32>,
+    // where each character begins, and where the text ends; none where each character is one byte
+    starts: Option<Vec<u32>>,
 }
 
 impl Model for Chars {
-    ghost use Rattle.std.specs.Prelude.{◌≡◌, List, ℕ, string_bytes};
-    ghost use Rattle.std.specs.Str.{chars};
+    ghost use Rattle.std.specs.Prelude.{◌≡◌, List, ℕ, string_bytes, MatchOption};
+    ghost use Rattle.std.specs.Str.{chars, IsAscii};
 
     ghost Value = { List ℕ };
 
@@ -46,7 +47,7 @@ impl Model for Chars {
 
     ghost view = { λ t. chars (string_bytes t.text) };
 
-    ghost invariant = { λ t. t.starts.items ≡ starts_from 0 (chars (string_bytes t.text)) };
+    ghost invariant = { λ t. MatchOption t.starts (IsAscii (string_bytes t.text)) (λ starts. starts.items ≡ starts_from 0 (chars (string_bytes t.text))) };
 }
 
 /// Where each character begins, and where the text ends.
@@ -64,6 +65,23 @@ fn starts_of(alloc: Global, text: &str) -> Result<Vec<u32>, AllocError>
     Ok(starts)
 }
 
+/// The characters of a text.
+fn characters(alloc: Global, text: String) -> Result<Chars, AllocError>
+    ensures { IfOk result (λ all. all ≡ chars (string_bytes text)) }
+{
+    if text.is_ascii() {
+        return Ok(Chars { text, starts: None });
+    }
+    if text.len() > u32::MAX as usize {
+        return Err(AllocError);
+    }
+    let starts = starts_of(alloc, text.as_str())?;
+    Ok(Chars {
+        text,
+        starts: Some(starts),
+    })
+}
+
 /// The characters of these bytes.
 pub fn chars_of(alloc: Global, bytes: &[u8]) -> Result<Chars, TextRefusal>
     ensures utf8 { OnOk result (IsUtf8 bytes.now) }
@@ -78,12 +96,33 @@ pub fn chars_of(alloc: Global, bytes: &[u8]) -> Result<Chars, TextRefusal>
             });
         }
     };
-    if text.len() > u32::MAX as usize {
-        return Err(TextRefusal::NoMemory);
-    }
-    let starts = starts_of(alloc, text)?;
     let text = String::from_str(alloc, text)?;
-    Ok(Chars { text, starts })
+    Ok(characters(alloc, text)?)
+}
+
+/// The characters of these bytes, which are moved and not copied.
+pub fn chars_from(alloc: Global, bytes: Vec<u8>) -> Result<Chars, TextRefusal>
+    ensures utf8 { OnOk result (IsUtf8 bytes.items) }
+    ensures ok { IfOk result (λ text. text ≡ chars bytes.items) }
+    ensures refused { IfErr result (RefusesText bytes.items) }
+{
+    match String::from_utf8(bytes) {
+        Ok(text) => Ok(characters(alloc, text)?),
+        Err(error) => Err(refusal_of(error.as_bytes())),
+    }
+}
+
+/// Why these bytes are no text.
+fn refusal_of(bytes: &[u8]) -> TextRefusal
+    requires { ¬ (IsUtf8 bytes.now) }
+    ensures { RefusesText bytes.now result }
+{
+    match std::str::from_utf8(bytes) {
+        Ok(_) => unreachable!(),
+        Err(error) => TextRefusal::NotUtf8 {
+            at: error.valid_up_to(),
+        },
+    }
 }
 
 /// The line and the column behind a text.
@@ -110,7 +149,21 @@ impl Chars {
     pub fn len(&self) -> usize
         ensures { result ≡ length self.now }
     {
-        self.starts.len() - 1
+        match &self.starts {
+            Some(starts) => starts.len() - 1,
+            None => self.text.len(),
+        }
+    }
+
+    /// The byte where the character at a place begins, or where the text ends.
+    fn start(&self, place: usize) -> usize
+        requires { place ≤ length self.now }
+        ensures { result ≡ length (encode_utf8_all (take place self.now)) }
+    {
+        match &self.starts {
+            Some(starts) => starts[place] as usize,
+            None => place,
+        }
     }
 
     /// The text from one place to another.
@@ -120,8 +173,8 @@ impl Chars {
         ensures bytes { result.now ≡ encode_utf8_all (slice_range self.now from to) }
         ensures characters { chars result.now ≡ slice_range self.now from to }
     {
-        let start = self.starts[from] as usize;
-        let end = self.starts[to] as usize;
+        let start = self.start(from);
+        let end = self.start(to);
         part(self.text.as_str(), start, end)
     }
 

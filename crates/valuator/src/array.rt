@@ -8,7 +8,7 @@ ghost use Rattle.valuator.specs.Made.{made_of, IsGrown, StandsFor};
 ghost use Rattle.valuator.specs.Told.{action_in};
 
 use crate::make::{Parts, make};
-use crate::stack::{append_line, newest, replace, visible};
+use crate::stack::{append_line, list_visible, newest, replace};
 use crate::{Show, Teller};
 use grammar_core::RuleId;
 use std::alloc::Global;
@@ -18,9 +18,11 @@ use value_text::{Action, NoMemory, Pool, ValueId};
 /// Makes the values that the actions of rules and lexemes make.
 #[derive(Drop)]
 pub struct ArrayTeller {
-    alloc: Global,
     pool: Pool,
     ids: Vec<ValueId>,
+    // lent to each call in turn: the children that are shown, and the items of a descriptor
+    seen: Vec<ValueId>,
+    items: Vec<ValueId>,
 }
 
 impl Model for ArrayTeller {
@@ -46,20 +48,21 @@ impl ArrayTeller {
         ensures { result ≡ [] }
     {
         ArrayTeller {
-            alloc,
             pool: Pool::new(alloc),
             ids: Vec::new(alloc),
+            seen: Vec::new(alloc),
+            items: Vec::new(alloc),
         }
     }
 }
 
 /// The value that an action makes, or another where there is no action.
 fn made_or(
-    alloc: Global,
     pool: &mut Pool,
     action: Option<&Action>,
     parts: &Parts<'_>,
     otherwise: ValueId,
+    items: &mut Vec<ValueId>,
 ) -> Result<ValueId, NoMemory>
     requires otherwise { otherwise < length pool.old }
     requires children { AreIds pool.old parts.now.children.now }
@@ -68,7 +71,7 @@ fn made_or(
 {
     match action {
         None => Ok(otherwise),
-        Some(action) => make(alloc, pool, action, parts),
+        Some(action) => make(pool, action, parts, items),
     }
 }
 
@@ -99,7 +102,7 @@ impl Teller for ArrayTeller {
             g1length: 1,
             children: &[value],
         };
-        let id = made_or(self.alloc, &mut self.pool, action, &parts, value)?;
+        let id = made_or(&mut self.pool, action, &parts, value, &mut self.items)?;
         self.ids.push(id)?;
         Ok(())
     }
@@ -120,7 +123,7 @@ impl Teller for ArrayTeller {
             g1length: 0,
             children: &[],
         };
-        let id = made_or(self.alloc, &mut self.pool, action, &parts, value)?;
+        let id = made_or(&mut self.pool, action, &parts, value, &mut self.items)?;
         self.ids.push(id)?;
         Ok(())
     }
@@ -139,16 +142,16 @@ impl Teller for ArrayTeller {
     ) -> Result<(), NoMemory> {
         let count = children as usize;
         let held = newest(self.ids.as_slice(), count);
-        let seen = visible(self.alloc, shown, held)?;
+        list_visible(shown, held, &mut self.seen)?;
         let parts = Parts {
             name,
             start,
             length,
             g1start,
             g1length,
-            children: seen.as_slice(),
+            children: self.seen.as_slice(),
         };
-        let id = make(self.alloc, &mut self.pool, action, &parts)?;
+        let id = make(&mut self.pool, action, &parts, &mut self.items)?;
         replace(&mut self.ids, count, id)?;
         Ok(())
     }

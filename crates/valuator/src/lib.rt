@@ -11,6 +11,6 @@ mod tree;
 
 pub use array::ArrayTeller;
 pub use grammar_model::Show;
-pub use playing::play;
+pub use playing::{Player, play};
 pub use teller::Teller;
 pub use tree::TreeTeller;

@@ -6,7 +6,6 @@ ghost use Rattle.value_text.specs.Meaning.{action_of};
 ghost use Rattle.value_text.specs.Pool.{AreIds};
 ghost use Rattle.valuator.specs.Made.{made_of, values_at, IsGrown, StandsFor};
 
-use std::alloc::Global;
 use value_text::{Action, DescItem, NoMemory, Pool, ValueId};
 
 /// What an action may put into a value.
@@ -89,12 +88,12 @@ fn add_items(
     Ok(())
 }
 
-/// Puts in the value that an action makes.
+/// Puts in the value that an action makes. `ids` are for the items of a descriptor, in place of what was listed.
 pub fn make(
-    alloc: Global,
     pool: &mut Pool,
     action: &Action,
     parts: &Parts<'_>,
+    ids: &mut Vec<ValueId>,
 ) -> Result<ValueId, NoMemory>
     requires { AreIds pool.old parts.now.children.now }
     ensures ok { IfOk result (λ id. StandsFor pool.new id (made_by (action_of action.now) (made_of pool.old parts.now))) }
@@ -108,8 +107,8 @@ pub fn make(
         },
         Action::Undef => pool.undef(),
         Action::Items(items) => {
-            let mut ids = Vec::new(alloc);
-            add_items(pool, parts, items.as_slice(), &mut ids)?;
+            ids.clear();
+            add_items(pool, parts, items.as_slice(), ids)?;
             pool.list(ids.as_slice())
         }
     }

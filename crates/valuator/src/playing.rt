@@ -16,13 +16,14 @@ use crate::nulling::{left_side, nulling_action, nulling_rules};
 use grammar_core::{RuleId, Span, SymbolId, TreeStep, Written};
 use slif_base::Chars;
 use std::alloc::Global;
+use std::marker::Model;
 use value_text::{Action, Meaning, NoMemory};
 
-/// Of a sequence's first children, which are items.
-fn shown_items(alloc: Global, separated: bool, count: u32) -> Result<Vec<bool>, NoMemory>
-    ensures { IfOk result (λ shown. shown.items ≡ items_shown (if separated then Some 0 else None) count) }
+/// Lists of a sequence's first children which are items, in place of what was listed.
+fn list_items(shown: &mut Vec<bool>, separated: bool, count: u32) -> Result<(), NoMemory>
+    ensures { OnOk result (shown.new.items ≡ items_shown (if separated then Some 0 else None) count) }
 {
-    let mut shown = Vec::new(alloc);
+    shown.clear();
     let mut is_item = true;
     for _k in 0..count {
         shown.push(is_item)?;
@@ -30,7 +31,7 @@ fn shown_items(alloc: Global, separated: bool, count: u32) -> Result<Vec<bool>, 
             is_item = !is_item;
         }
     }
-    Ok(shown)
+    Ok(())
 }
 
 /// The text of a token.
@@ -64,9 +65,9 @@ fn name_in<'p>(w: &'p Written, symbol: SymbolId) -> &'p str
     w.name(symbol)
 }
 
-/// What the steps of a derivation are played with.
+/// What a step is told by.
 #[derive(Clone, Copy)]
-struct Score<'p> {
+struct Sheet<'p> {
     meaning: &'p Meaning,
     w: &'p Written,
     spans: &'p [Span],
@@ -138,7 +139,7 @@ fn pass_rule(
 
 /// Tells a token.
 fn tell_token(
-    p: &Score<'_>,
+    p: &Sheet<'_>,
     symbol: SymbolId,
     from: u32,
     teller: &mut Box<dyn Teller>,
@@ -158,7 +159,7 @@ fn tell_token(
 
 /// Tells a nulled symbol.
 fn tell_nulled(
-    p: &Score<'_>,
+    p: &Sheet<'_>,
     symbol: SymbolId,
     at: u32,
     teller: &mut Box<dyn Teller>,
@@ -177,10 +178,10 @@ fn tell_nulled(
     pass_nulling(teller, name, start, at, action)
 }
 
-/// Of a rule's children, which are shown.
+/// Tells a rule.
 fn tell_rule(
-    alloc: Global,
-    p: &Score<'_>,
+    p: &Sheet<'_>,
+    shown: &mut Vec<bool>,
     rule: RuleId,
     children: u32,
     from: u32,
@@ -199,7 +200,7 @@ fn tell_rule(
     let end = end_of(p.spans, p.chars, to);
     let meaning = &p.meaning.rules.as_slice()[rule.0 as usize];
     if meaning.sequence {
-        let shown = shown_items(alloc, meaning.separated, children)?;
+        list_items(shown, meaning.separated, children)?;
         pass_rule(
             teller,
             rule,
@@ -228,8 +229,8 @@ fn tell_rule(
 
 /// Tells one step.
 fn tell(
-    alloc: Global,
-    p: &Score<'_>,
+    p: &Sheet<'_>,
+    shown: &mut Vec<bool>,
     step: &TreeStep,
     teller: &mut Box<dyn Teller>,
 ) -> Result<(), NoMemory>
@@ -248,14 +249,14 @@ fn tell(
             children,
             from,
             to,
-        } => tell_rule(alloc, p, *rule, *children, *from, *to, teller),
+        } => tell_rule(p, shown, *rule, *children, *from, *to, teller),
     }
 }
 
 /// Tells all tellers one step.
 fn tell_all(
-    alloc: Global,
-    p: &Score<'_>,
+    p: &Sheet<'_>,
+    shown: &mut Vec<bool>,
     step: &TreeStep,
     tellers: &mut Vec<Box<dyn Teller>>,
 ) -> Result<(), NoMemory>
@@ -266,15 +267,15 @@ fn tell_all(
     ensures ok { OnOk result (states tellers.new.items shows held ≡ advanced (λ show values. told show p.now.w.now (meaning_of p.now.meaning.now) (tokens_of p.now.chars.now p.now.spans.now) values (step_of step.now)) (states tellers.old.items shows held)) }
 {
     for teller in tellers.iter_mut() {
-        tell(alloc, p, step, teller)?;
+        tell(p, shown, step, teller)?;
     }
     Ok(())
 }
 
 /// Tells all tellers one step after another.
 fn tell_steps(
-    alloc: Global,
-    p: &Score<'_>,
+    p: &Sheet<'_>,
+    shown: &mut Vec<bool>,
     list: &[TreeStep],
     tellers: &mut Vec<Box<dyn Teller>>,
 ) -> Result<(), NoMemory>
@@ -285,13 +286,102 @@ fn tell_steps(
     ensures ok { OnOk result (states tellers.new.items shows held ≡ advanced (λ show values. told_all show p.now.w.now (meaning_of p.now.meaning.now) (tokens_of p.now.chars.now p.now.spans.now) values (map step_of list.now)) (states tellers.old.items shows held)) }
 {
     for step in list {
-        tell_all(alloc, p, step, tellers)?;
+        tell_all(p, shown, step, tellers)?;
     }
     Ok(())
 }
 
+/// Plays the steps of derivations of one grammar over the tokens of one text. It is seen as its score: the grammar, what
+/// its rules mean, the characters and the tokens' spans.
+#[derive(Drop)]
+pub struct Player<'p> {
+    meaning: &'p Meaning,
+    w: &'p Written,
+    spans: &'p [Span],
+    chars: &'p Chars,
+    // of each symbol, the rule that nulls it
+    nulling: Vec<Option<RuleId>>,
+    // of the children of the sequence told last, which are items
+    shown: Vec<bool>,
+}
+
+impl<'p> Model for Player<'p> {
+    ghost use Rattle.value_text.specs.Meaning.{meaning_of};
+    ghost use Rattle.valuator.specs.Player.{Score, IsReady};
+
+    ghost Value = { Score };
+
+    ghost view = { λ p. record { grammar = p.w.now; meaning = meaning_of p.meaning.now; chars = p.chars.now; spans = p.spans.now } };
+
+    ghost invariant = { λ p. IsReady p.w.now (meaning_of p.meaning.now) p.chars.now p.spans.now p.nulling.items };
+}
+
+impl<'p> Player<'p> {
+    /// A player of derivations by a meaning of a grammar. `spans` are those of the tokens in `chars`.
+    pub fn new(
+        alloc: Global,
+        meaning: &'p Meaning,
+        w: &'p Written,
+        spans: &'p [Span],
+        chars: &'p Chars,
+    ) -> Result<Player<'p>, NoMemory>
+        requires meaning { IsMeaningOf w.now (meaning_of meaning.now) }
+        requires spans { AreSpans (length chars.now) spans.now }
+        ensures { IfOk result (λ player. player ≡ record { grammar = w.now; meaning = meaning_of meaning.now; chars = chars.now; spans = spans.now }) }
+    {
+        let nulling = nulling_rules(alloc, w)?;
+        Ok(Player {
+            meaning,
+            w,
+            spans,
+            chars,
+            nulling,
+            shown: Vec::new(alloc),
+        })
+    }
+
+    /// Tells each teller the steps of a derivation, so that it holds the derivation's value on top of what it held. After
+    /// an `Err` there are no tellers.
+    pub fn play(
+        &mut self,
+        list: &[TreeStep],
+        tellers: &mut Vec<Box<dyn Teller>>,
+    ) -> Result<(), NoMemory>
+        requires { AreSteps self.old.grammar (length self.old.spans) (map step_of list.now) }
+        ensures ok { (t : Tree) → map step_of list.now ≡ steps_of t → OnOk result (states tellers.new.items shows held ≡ advanced (λ show values. values ++ value_of show self.old.grammar self.old.meaning (tokens_of self.old.chars self.old.spans) t ∷ []) (states tellers.old.items shows held)) }
+        ensures err { OnErr result (tellers.new.items ≡ []) }
+        ensures score { self.new ≡ self.old }
+    {
+        let told = self.tell_list(list, tellers);
+        if told.is_err() {
+            tellers.clear();
+        }
+        told
+    }
+
+    /// Tells the steps; after an `Err` tellers may hold anything.
+    fn tell_list(
+        &mut self,
+        list: &[TreeStep],
+        tellers: &mut Vec<Box<dyn Teller>>,
+    ) -> Result<(), NoMemory>
+        requires { AreSteps self.old.grammar (length self.old.spans) (map step_of list.now) }
+        ensures ok { OnOk result (states tellers.new.items shows held ≡ advanced (λ show values. told_all show self.old.grammar self.old.meaning (tokens_of self.old.chars self.old.spans) values (map step_of list.now)) (states tellers.old.items shows held)) }
+        ensures score { self.new ≡ self.old }
+    {
+        let p = Sheet {
+            meaning: self.meaning,
+            w: self.w,
+            spans: self.spans,
+            chars: self.chars,
+            nulling: self.nulling.as_slice(),
+        };
+        tell_steps(&p, &mut self.shown, list, tellers)
+    }
+}
+
 /// Tells each teller the steps of a derivation, so that it holds the derivation's value on top of what it held. After
-/// an `Err` there are no tellers.
+/// an `Err` there are no tellers. For many derivations of one grammar make a `Player`.
 pub fn play(
     alloc: Global,
     list: &[TreeStep],
@@ -307,35 +397,9 @@ pub fn play(
     ensures ok { (t : Tree) → map step_of list.now ≡ steps_of t → OnOk result (states tellers.new.items shows held ≡ advanced (λ show values. values ++ value_of show w.now (meaning_of meaning.now) (tokens_of chars.now spans.now) t ∷ []) (states tellers.old.items shows held)) }
     ensures err { OnErr result (tellers.new.items ≡ []) }
 {
-    let told = tell_list(alloc, list, meaning, w, spans, chars, tellers);
-    if told.is_err() {
+    let Ok(mut player) = Player::new(alloc, meaning, w, spans, chars) else {
         tellers.clear();
-    }
-    told
-}
-
-/// Tells the steps; after an `Err` tellers may hold anything.
-fn tell_list(
-    alloc: Global,
-    list: &[TreeStep],
-    meaning: &Meaning,
-    w: &Written,
-    spans: &[Span],
-    chars: &Chars,
-    tellers: &mut Vec<Box<dyn Teller>>,
-) -> Result<(), NoMemory>
-    requires list { AreSteps w.now (length spans.now) (map step_of list.now) }
-    requires meaning { IsMeaningOf w.now (meaning_of meaning.now) }
-    requires spans { AreSpans (length chars.now) spans.now }
-    ensures { OnOk result (states tellers.new.items shows held ≡ advanced (λ show values. told_all show w.now (meaning_of meaning.now) (tokens_of chars.now spans.now) values (map step_of list.now)) (states tellers.old.items shows held)) }
-{
-    let nulling = nulling_rules(alloc, w)?;
-    let p = Score {
-        meaning,
-        w,
-        spans,
-        chars,
-        nulling: nulling.as_slice(),
+        return Err(NoMemory);
     };
-    tell_steps(alloc, &p, list, tellers)
+    player.play(list, tellers)
 }

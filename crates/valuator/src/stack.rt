@@ -1,10 +1,9 @@
 // The ids of the values that a teller holds, the newest last.
-ghost use Rattle.std.specs.Prelude.{◌≡◌, ◌+◌, ◌-◌, ◌<◌, ◌≤◌, [], ◌∷◌, ◌++◌, length, take, drop, IfOk, OnOk, OnErr};
+ghost use Rattle.std.specs.Prelude.{◌≡◌, ◌+◌, ◌-◌, ◌<◌, ◌≤◌, [], ◌∷◌, ◌++◌, length, take, drop, OnOk, OnErr};
 ghost use Rattle.std.specs.List.{items_where_true};
 ghost use Rattle.grammar_model.specs.Text.{text_of};
 ghost use Rattle.value_text.specs.Nodes.{value_at};
 
-use std::alloc::Global;
 use value_text::{NoMemory, Pool, ValueId, append_text};
 
 /// The newest `count` ids.
@@ -43,20 +42,20 @@ pub fn append_line(pool: &Pool, id: ValueId, out: &mut Vec<u8>) -> Result<(), No
     Ok(())
 }
 
-/// The ids of those children that are shown.
-pub fn visible(
-    alloc: Global,
+/// Lists the ids of those children that are shown, in place of what was listed.
+pub fn list_visible(
     shown: &[bool],
     children: &[ValueId],
-) -> Result<Vec<ValueId>, NoMemory>
+    ids: &mut Vec<ValueId>,
+) -> Result<(), NoMemory>
     requires { length shown.now ≡ length children.now }
-    ensures { IfOk result (λ ids. ids.items ≡ items_where_true shown.now children.now) }
+    ensures { OnOk result (ids.new.items ≡ items_where_true shown.now children.now) }
 {
-    let mut ids = Vec::new(alloc);
+    ids.clear();
     for (child, is_shown) in children.iter().zip(shown) {
         if *is_shown {
             ids.push(*child)?;
         }
     }
-    Ok(ids)
+    Ok(())
 }

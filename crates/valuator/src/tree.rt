@@ -17,9 +17,10 @@ use value_text::{Action, NoMemory, Pool, ValueId};
 /// a leaf the list of its lexeme's name and its text, and of a nulled leaf the list of its symbol's name.
 #[derive(Drop)]
 pub struct TreeTeller {
-    alloc: Global,
     pool: Pool,
     ids: Vec<ValueId>,
+    // the parts of the list that was made last
+    parts: Vec<ValueId>,
 }
 
 impl Model for TreeTeller {
@@ -45,49 +46,47 @@ impl TreeTeller {
         ensures { result ≡ [] }
     {
         TreeTeller {
-            alloc,
             pool: Pool::new(alloc),
             ids: Vec::new(alloc),
+            parts: Vec::new(alloc),
         }
     }
 }
 
 /// A leaf's list.
-fn put_leaf(alloc: Global, pool: &mut Pool, name: &str, text: &str) -> Result<ValueId, NoMemory>
+fn put_leaf(pool: &mut Pool, name: &str, text: &str) -> Result<ValueId, NoMemory>
     ensures ok { IfOk result (λ id. StandsFor pool.new id (list_of (Text name.now ∷ Text text.now ∷ []))) }
     ensures grown { IsGrown pool.old pool.new }
 {
-    let mut parts = Vec::new(alloc);
-    add_text(pool, name, &mut parts)?;
-    add_text(pool, text, &mut parts)?;
-    pool.list(parts.as_slice())
+    let name = pool.text(name)?;
+    let text = pool.text(text)?;
+    pool.list(&[name, text])
 }
 
 /// A nulled leaf's list.
-fn put_nulled(alloc: Global, pool: &mut Pool, name: &str) -> Result<ValueId, NoMemory>
+fn put_nulled(pool: &mut Pool, name: &str) -> Result<ValueId, NoMemory>
     ensures ok { IfOk result (λ id. StandsFor pool.new id (list_of (Text name.now ∷ []))) }
     ensures grown { IsGrown pool.old pool.new }
 {
-    let mut parts = Vec::new(alloc);
-    add_text(pool, name, &mut parts)?;
-    pool.list(parts.as_slice())
+    let name = pool.text(name)?;
+    pool.list(&[name])
 }
 
-/// A node's list.
+/// A node's list. `parts` is for its parts, in place of what was listed.
 fn put_node(
-    alloc: Global,
     pool: &mut Pool,
     rule: RuleId,
     name: &str,
     children: &[ValueId],
+    parts: &mut Vec<ValueId>,
 ) -> Result<ValueId, NoMemory>
     requires { AreIds pool.old children.now }
     ensures ok { IfOk result (λ id. StandsFor pool.new id (list_of (Text name.now ∷ Number rule ∷ values_at pool.old children.now))) }
     ensures grown { IsGrown pool.old pool.new }
 {
-    let mut parts = Vec::new(alloc);
-    add_text(pool, name, &mut parts)?;
-    add_num(pool, rule.0, &mut parts)?;
+    parts.clear();
+    add_text(pool, name, parts)?;
+    add_num(pool, rule.0, parts)?;
     parts.extend_from_slice(children)?;
     pool.list(parts.as_slice())
 }
@@ -110,7 +109,7 @@ impl Teller for TreeTeller {
         _g1start: u32,
         _action: Option<&Action>,
     ) -> Result<(), NoMemory> {
-        let id = put_leaf(self.alloc, &mut self.pool, name, text)?;
+        let id = put_leaf(&mut self.pool, name, text)?;
         self.ids.push(id)?;
         Ok(())
     }
@@ -122,7 +121,7 @@ impl Teller for TreeTeller {
         _g1start: u32,
         _action: Option<&Action>,
     ) -> Result<(), NoMemory> {
-        let id = put_nulled(self.alloc, &mut self.pool, name)?;
+        let id = put_nulled(&mut self.pool, name)?;
         self.ids.push(id)?;
         Ok(())
     }
@@ -141,7 +140,7 @@ impl Teller for TreeTeller {
     ) -> Result<(), NoMemory> {
         let count = children as usize;
         let held = newest(self.ids.as_slice(), count);
-        let id = put_node(self.alloc, &mut self.pool, rule, name, held)?;
+        let id = put_node(&mut self.pool, rule, name, held, &mut self.parts)?;
         replace(&mut self.ids, count, id)?;
         Ok(())
     }

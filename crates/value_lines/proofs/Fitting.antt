@@ -16,6 +16,7 @@ use Rattle.reading_model.specs.Reading.{Piece, edges_of, place_after}
 use Rattle.forest_model.specs.Forest.{Forest}
 use Rattle.tree_iter.specs.Iteration.{Iteration, AreGiven, IsAnswer}
 use Rattle.valuator.specs.Play.{AreSteps, AreSpans, tokens_of}
+use Rattle.valuator.specs.Player.{Score}
 use Rattle.valuator.specs.Told.{advanced}
 use Rattle.value_lines.specs.Lines.{IsForestOf, IsLineOf}
 use Rattle.value_lines.proofs.Playing.{spans_fit, tokens_fit, steps_fit}
@@ -27,6 +28,13 @@ told_one f show old new e p = p ∙ ap (advanced f) e
 pub back_on_ok : {T E : Type 0} (r : Result T E) (old new now : List (Show × List Value)) → old ≡ now → OnOk r (new ≡ now) → OnOk r (new ≡ old)
 back_on_ok (Ok x) old new now e p = p ∙ sym e
 back_on_ok (Err x) old new now e p = p
+
+-- the line of a player that is the same as before
+pub line_played : (b : Built) (show : Show) (p q : Score) (f h : Forest) (pieces : List Piece) (new : Iteration) (given : List Tree) (line : List ℕ) (more : Bool) → p ≡ q → f ≡ h → IsForestOf b q.chars q.spans h pieces →
+    (IsForestOf b p.chars p.spans f pieces → IsLineOf b show p.chars pieces new given line more) → IsLineOf b show q.chars pieces new given line more
+line_played b show p q f h pieces new given line more e same of told =
+    let of_f = subst (λ (x : Forest). IsForestOf b q.chars q.spans x pieces) (sym same) of in
+    subst (λ (s : Score). IsLineOf b show s.chars pieces new given line more) e (told (subst (λ (s : Score). IsForestOf b s.chars s.spans f pieces) (sym e) of_f))
 
 -- one more was given
 abbrev Given : Iteration → List Tree → Type 0

@@ -9,8 +9,13 @@ use Rattle.flat_model.specs.Flattened.{IsFlattened}
 use Rattle.forest_model.specs.Forest.{Forest}
 use Rattle.forest_model.specs.Listing.{IsListing}
 use Rattle.scanless.specs.Reading.{span_of}
+use Rattle.valuator.specs.Player.{Score}
 use Rattle.tree_iter.specs.Iteration.{Iteration, AreGiven}
 use Rattle.run_model.specs.Listing.{line_of}
+
+-- what the derivations of a reading of these characters are played by
+abbrev pub score_of : Built → List ℕ → List Span → Score
+score_of b cs spans = record { grammar = b.g1; meaning = b.meaning; chars = cs; spans = spans }
 
 -- the forest is that of the pieces, by the flat grammar that is listed, and these are the spans of their tokens
 pub record IsForestOf (b : Built) (cs : List ℕ) (spans : List Span) (f : Forest) (pieces : List Piece) : Type 0 where

@@ -6,21 +6,19 @@ ghost use Rattle.grammar_model.specs.Text.{text_of};
 ghost use Rattle.grammar_model.specs.Values.{Value, value_of};
 ghost use Rattle.grammar_model.specs.declared.Show.{Show};
 ghost use Rattle.grammar_core.specs.Steps.{step_of};
-ghost use Rattle.value_text.specs.Meaning.{meaning_of};
-ghost use Rattle.valuator.specs.Play.{AreSteps, AreSpans, IsMeaningOf, tokens_of};
+ghost use Rattle.valuator.specs.Play.{AreSteps, tokens_of};
 ghost use Rattle.valuator.specs.Told.{HoldsOne, states, line_of as line_held};
 ghost use Rattle.reading_model.specs.Reading.{Piece};
 ghost use Rattle.tree_iter.specs.Iteration.{AreGiven, AreFew};
-ghost use Rattle.value_lines.specs.Lines.{IsForestOf, IsLineOf};
+ghost use Rattle.value_lines.specs.Lines.{score_of, IsForestOf, IsLineOf};
 
-use grammar_core::{Span, TreeStep, Written};
+use grammar_core::TreeStep;
 use scanless::Prepared;
-use slif_base::{Chars, Steps};
-use std::alloc::Global;
+use slif_base::Steps;
 use std::sync::ledger::Ledger;
 use tree_iter::TreeIter;
-use valuator::{Teller, play};
-use value_text::{Meaning, NoMemory};
+use valuator::{Player, Teller};
+use value_text::NoMemory;
 
 fn finish(teller: &mut Box<dyn Teller>, line: &mut Vec<u8>) -> Result<(), NoMemory>
     requires { HoldsOne (held teller.old) }
@@ -42,46 +40,41 @@ fn finish_first(tellers: &mut Vec<Box<dyn Teller>>, line: &mut Vec<u8>) -> Resul
 
 // Appends the line of the derivation that has these steps.
 fn append_line(
-    alloc: Global,
+    player: &mut Player<'_>,
     list: &[TreeStep],
-    meaning: &Meaning,
-    w: &Written,
-    spans: &[Span],
-    chars: &Chars,
     tellers: &mut Vec<Box<dyn Teller>>,
     line: &mut Vec<u8>,
 ) -> Result<(), NoMemory>
-    requires list { AreSteps w.now (length spans.now) (map step_of list.now) }
-    requires meaning { IsMeaningOf w.now (meaning_of meaning.now) }
-    requires spans { AreSpans (length chars.now) spans.now }
+    requires list { AreSteps player.old.grammar (length player.old.spans) (map step_of list.now) }
     requires tellers { (show : Show) × (states tellers.old.items shows held ≡ (show, []) ∷ []) }
     ensures tellers { OnOk result (states tellers.new.items shows held ≡ states tellers.old.items shows held) }
     ensures line { (show : Show) (t : Tree) → states tellers.old.items shows held ≡ (show, []) ∷ [] → map step_of list.now ≡ steps_of t → OnOk result (line.new.items ≡
-        line.old.items ++ (text_of (value_of show w.now (meaning_of meaning.now) (tokens_of chars.now spans.now) t) ++ 10 ∷ [])) }
+        line.old.items ++ (text_of (value_of show player.old.grammar player.old.meaning (tokens_of player.old.chars player.old.spans) t) ++ 10 ∷ [])) }
+    ensures player { player.new ≡ player.old }
 {
-    play(alloc, list, meaning, w, spans, chars, tellers)?;
+    player.play(list, tellers)?;
     finish_first(tellers, line)
 }
 
 /// Goes to the next derivation of a reading's forest and puts its line in place of what `line` held; answers whether there is one.
-/// `spans` are those of the reading's tokens in `chars`; `tellers` is one teller that holds nothing, and does so again after an `Ok`.
+/// The player is that of the reading; `tellers` is one teller that holds nothing, and does so again after an `Ok`.
 pub fn next_line<L: Ledger>(
-    alloc: Global,
     prepared: &Prepared,
-    chars: &Chars,
-    spans: &[Span],
+    player: &mut Player<'_>,
     iter: &mut TreeIter<'_>,
     tellers: &mut Vec<Box<dyn Teller>>,
     line: &mut Vec<u8>,
     steps: &mut Steps<L>,
 ) -> Result<bool, NoMemory>
-    requires forest { (pieces : List Piece) × IsForestOf prepared.now chars.now spans.now iter.old.forest pieces }
+    requires player { player.old ≡ score_of prepared.now player.old.chars player.old.spans }
+    requires forest { (pieces : List Piece) × IsForestOf prepared.now player.old.chars player.old.spans iter.old.forest pieces }
     requires given { (given : List Tree) × AreGiven iter.old given }
     requires tellers { (show : Show) × (states tellers.old.items shows held ≡ (show, []) ∷ []) }
     ensures line { IfOk result (λ more. (show : Show) (pieces : List Piece) (given : List Tree) → states tellers.old.items shows held ≡ (show, []) ∷ [] →
-        IsForestOf prepared.now chars.now spans.now iter.old.forest pieces → AreGiven iter.old given → IsLineOf prepared.now show chars.now pieces iter.new given line.new.items more) }
+        IsForestOf prepared.now player.old.chars player.old.spans iter.old.forest pieces → AreGiven iter.old given → IsLineOf prepared.now show player.old.chars pieces iter.new given line.new.items more) }
     ensures counted { IfOk result (λ more. (given : List Tree) → AreGiven iter.old given → AreFew iter.new given more steps.old steps.new) }
     ensures forest { iter.new.forest ≡ iter.old.forest }
+    ensures player { player.new ≡ player.old }
     ensures tellers { OnOk result (states tellers.new.items shows held ≡ states tellers.old.items shows held) }
 {
     prepared.known();
@@ -89,15 +82,6 @@ pub fn next_line<L: Ledger>(
         return Ok(false);
     }
     line.clear();
-    append_line(
-        alloc,
-        iter.current_steps(),
-        prepared.meaning(),
-        prepared.written(),
-        spans,
-        chars,
-        tellers,
-        line,
-    )?;
+    append_line(player, iter.current_steps(), tellers, line)?;
     Ok(true)
 }

@@ -1,17 +1,18 @@
 // Writing the lines of the derivations of a reading.
-ghost use Rattle.std.specs.Prelude.{◌≡◌, ◌≤◌, ◌+◌, ◌↔◌, ◌∷◌, [], List, IfErr, IfSome, IsTrue, OnOk};
+ghost use Rattle.std.specs.Prelude.{◌≡◌, ◌≤◌, ◌+◌, ◌↔◌, ◌∷◌, [], List, IfErr, IfOk, IfSome, IsTrue, OnOk};
 ghost use Rattle.std.specs.List.{sum_by};
 ghost use Rattle.std.specs.Io.KnownBytes.{Appends};
 ghost use Rattle.grammar_model.specs.Trees.{Tree};
 ghost use Rattle.recognizer_model.specs.Links.{choices};
 ghost use Rattle.reading_model.specs.Reading.{Piece};
+ghost use Rattle.forest_model.specs.Forest.{Forest as Shared};
 ghost use Rattle.forest_model.specs.Listing.{IsListing};
 ghost use Rattle.run_model.specs.Listing.{first_of};
 ghost use Rattle.run_model.specs.Outside.{stream};
 ghost use Rattle.valuator.specs.Told.{states};
 ghost use Rattle.tree_iter.specs.Iteration.{AreGiven};
 ghost use Rattle.grammar_model.specs.declared.Show.{Show};
-ghost use Rattle.value_lines.specs.Lines.{IsForestOf};
+ghost use Rattle.value_lines.specs.Lines.{score_of, IsForestOf};
 ghost use Rattle.value_lines.specs.Writing.{AreBothTellers, TextHas, TextStops};
 
 use crate::next_line;
@@ -23,7 +24,8 @@ use std::alloc::Global;
 use std::sync::ledger::Ledger;
 use thiserror::Error;
 use tree_iter::TreeIter;
-use valuator::{Show, Teller};
+use valuator::{Player, Show, Teller};
+use value_text::NoMemory;
 
 /// Why the lines were not all written.
 #[derive(Clone, Copy, Debug, PartialEq, Eq, Error)]
@@ -62,13 +64,14 @@ pub fn write_derivations<O: Sink, L: Ledger>(
     let Ok(mut iter) = TreeIter::new(alloc, forest) else {
         return Err(WriteRefusal::NoMemory);
     };
+    let Ok(mut player) = player_of(alloc, prepared, chars, spans) else {
+        return Err(WriteRefusal::NoMemory);
+    };
     let mut line = Vec::new(alloc);
     write_lines(
-        alloc,
         prepared,
-        chars,
-        spans,
         first,
+        &mut player,
         &mut iter,
         &mut tellers,
         &mut line,
@@ -77,32 +80,45 @@ pub fn write_derivations<O: Sink, L: Ledger>(
     )
 }
 
+// The player of the derivations of a reading.
+fn player_of<'p>(
+    alloc: Global,
+    prepared: &'p Prepared,
+    chars: &'p Chars,
+    spans: &'p [Span],
+) -> Result<Player<'p>, NoMemory>
+    requires { (forest : Shared) × (pieces : List Piece) × IsForestOf prepared.now chars.now spans.now forest pieces }
+    ensures { IfOk result (λ player. player ≡ score_of prepared.now chars.now spans.now) }
+{
+    prepared.known();
+    Player::new(alloc, prepared.meaning(), prepared.written(), spans, chars)
+}
+
 // Writes the lines of so many derivations from the first on, or of all.
 fn write_lines<O: Sink, L: Ledger>(
-    alloc: Global,
     prepared: &Prepared,
-    chars: &Chars,
-    spans: &[Span],
     first: Option<u32>,
+    player: &mut Player<'_>,
     iter: &mut TreeIter<'_>,
     tellers: &mut Vec<Box<dyn Teller>>,
     line: &mut Vec<u8>,
     out: &mut O,
     steps: &mut Steps<L>,
 ) -> Result<(), WriteRefusal>
-    requires forest { (pieces : List Piece) × IsForestOf prepared.now chars.now spans.now iter.old.forest pieces }
+    requires player { player.old ≡ score_of prepared.now player.old.chars player.old.spans }
+    requires forest { (pieces : List Piece) × IsForestOf prepared.now player.old.chars player.old.spans iter.old.forest pieces }
     requires begun { AreGiven iter.old [] }
     requires tellers { (show : Show) × (states tellers.old.items shows held ≡ (show, []) ∷ []) }
     ensures written { OnOk result ((show : Show) → states tellers.old.items shows held ≡ (show, []) ∷ [] →
-        TextHas prepared.now show chars.now spans.now iter.old.forest first (λ text. Appends (O.contents out.old) (O.contents out.new) text)) }
-    ensures stops { IfErr result (λ refusal. (show : Show) → states tellers.old.items shows held ≡ (show, []) ∷ [] → TextHas prepared.now show chars.now spans.now iter.old.forest first
+        TextHas prepared.now show player.old.chars player.old.spans iter.old.forest first (λ text. Appends (O.contents out.old) (O.contents out.new) text)) }
+    ensures stops { IfErr result (λ refusal. (show : Show) → states tellers.old.items shows held ≡ (show, []) ∷ [] → TextHas prepared.now show player.old.chars player.old.spans iter.old.forest first
         (λ text. TextStops (stream O.contents O.fault_count out.old) (stream O.contents O.fault_count out.new) refusal text)) }
     ensures counted { OnOk result ((trees : List Tree) → IsListing iter.old.forest trees → steps.new ≤ steps.old + sum_by choices (first_of first trees)) }
     ensures later { O.fault_count out.old ≤ O.fault_count out.new }
 {
     let limit = limit_of(first);
     for _k in 0..limit {
-        let Ok(more) = next_line(alloc, prepared, chars, spans, iter, tellers, line, steps) else {
+        let Ok(more) = next_line(prepared, player, iter, tellers, line, steps) else {
             return Err(WriteRefusal::NoMemory);
         };
         if !more {

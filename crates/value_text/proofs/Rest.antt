@@ -1,10 +1,10 @@
 -- What is written and what is still to be written, while the text of a value is appended.
-use Rattle.std.proofs.Common.{◌≡◌, ℕ, suc, ◌<◌, Bool, true, false, List, [], ◌∷◌, ◌++◌, length, map, take, refl, sym, ap, ◌∙◌, arith, length-append, append_assoc, append-nil, subst}
-use Rattle.std.proofs.Math.Seq.{take-append_seam}
-use Rattle.std.proofs.lemmas.Str.{chars_past_char, chars-nil}
+use Rattle.std.proofs.Common.{◌≡◌, ℕ, suc, ◌+◌, ◌-◌, ◌<◌, ◌≤◌, Bool, true, false, List, [], ◌∷◌, ◌++◌, length, map, take, refl, sym, ap, ◌∙◌, arith, length-append, append_assoc, append-nil, subst}
+use Rattle.std.proofs.Math.Seq.{take-append_seam, drop-append_seam}
+use Rattle.std.proofs.lemmas.Str.{chars_past_char, chars-nil, IsUtf8-past_char}
 use Rattle.std.specs.Str.{chars, IsUtf8}
 use Rattle.std.specs.Char.{encode_utf8}
-use Rattle.std.specs.List.{flat_map}
+use Rattle.std.specs.List.{flat_map, slice_range}
 use Rattle.value_text.specs.declared.text.Open.{Open}
 use Rattle.value_text.specs.Nodes.{value_at}
 use Rattle.value_text.specs.Parts.{comma, open_text, rest_text, AreOpen, items_text, IsExtended}
@@ -33,13 +33,95 @@ pub quoted_rest_char : (bytes rest : List ℕ) (c : ℕ) → IsUtf8 bytes → by
 quoted_rest_char bytes rest c utf8 e =
     ap (λ cs. flat_map escaped cs ++ 34 ∷ []) (chars_past_char bytes rest c utf8 e) ∙ append_assoc (escaped c) (flat_map escaped (chars rest)) (34 ∷ [])
 
-pub quoted_step : (bytes rest out out' whole : List ℕ) (c : ℕ) → IsUtf8 bytes → bytes ≡ encode_utf8 c ++ rest → out' ≡ out ++ escaped c → out ++ quoted_rest bytes ≡ whole → out' ++ quoted_rest rest ≡ whole
-quoted_step bytes rest out out' whole c utf8 e step w =
-    ap (λ b. b ++ quoted_rest rest) step ∙ append_assoc out (escaped c) (quoted_rest rest) ∙ ap (λ b. out ++ b) (sym (quoted_rest_char bytes rest c utf8 e)) ∙ w
+-- of a text in its quotes, the bytes from one place to another are still to be appended, and then the rest
+pub record IsQuoting (text : List ℕ) (from at : ℕ) (rest out whole : List ℕ) : Type 0 where
+  pub front : List ℕ
+  pub pending : List ℕ
+  pub text_is : text ≡ front ++ (pending ++ rest)
+  pub from_is : from ≡ length front
+  pub at_is : at ≡ from + length pending
+  pub utf8 : IsUtf8 rest
+  pub written : out ++ (pending ++ quoted_rest rest) ≡ whole
 
-pub quoted_end : (bytes out out' whole : List ℕ) → length bytes ≡ 0 → out' ≡ out ++ 34 ∷ [] → out ++ quoted_rest bytes ≡ whole → out' ≡ whole
-quoted_end [] out out' whole e step w = step ∙ ap (λ cs. out ++ (flat_map escaped cs ++ 34 ∷ [])) (sym chars-nil) ∙ w
-quoted_end (b ∷ bytes) out out' whole e step w = absurd (omega arith)
+pub quoting_begun : (text rest out out' : List ℕ) (at : ℕ) → IsUtf8 text → rest ≡ text → at ≡ 0 → out' ≡ out ++ 34 ∷ [] → IsQuoting text 0 at rest out' (out ++ 34 ∷ quoted_rest text)
+quoting_begun text rest out out' at utf8 same zero e = record {
+  front = [];
+  pending = [];
+  text_is = sym same;
+  from_is = refl;
+  at_is = zero;
+  utf8 = subst IsUtf8 (sym same) utf8;
+  written = (λ i. e i ++ quoted_rest (same i)) ∙ append_assoc out (34 ∷ []) (quoted_rest text);
+}
+
+quoting_bounds : (text : List ℕ) (from at : ℕ) (rest out whole : List ℕ) → IsQuoting text from at rest out whole → (from ≤ at) × (at + length rest ≡ length text)
+quoting_bounds text from at rest out whole h =
+    let e = ap length h.text_is in
+    (omega (arith, h.at_is), omega (arith, e, h.from_is, h.at_is, length-append h.front (h.pending ++ rest), length-append h.pending rest))
+
+-- what is still to be appended is that part of the text
+middle_part : (front pending rest : List ℕ) → slice_range (front ++ (pending ++ rest)) (length front) (length front + length pending) ≡ pending
+middle_part front pending rest =
+    let n : length front + length pending - length front ≡ length pending = omega arith in
+    (λ i. take (n i) (drop-append_seam front (pending ++ rest) i)) ∙ take-append_seam pending rest
+
+quoting_part : (text : List ℕ) (from at : ℕ) (rest out whole : List ℕ) (h : IsQuoting text from at rest out whole) → slice_range text from at ≡ h.pending
+quoting_part text from at rest out whole h =
+    (λ i. slice_range (h.text_is i) (h.from_is i) ((h.at_is ∙ ap (λ n. n + length h.pending) h.from_is) i)) ∙ middle_part h.front h.pending rest
+
+-- a character stands as it is
+pub quoting_plain : (text : List ℕ) (from at next : ℕ) (rest rest' out whole : List ℕ) (c : ℕ) → IsQuoting text from at rest out whole → rest ≡ encode_utf8 c ++ rest' → next ≡ at + length (encode_utf8 c) → escaped c ≡ encode_utf8 c →
+    IsQuoting text from next rest' out whole
+quoting_plain text from at next rest rest' out whole c h e n same = record {
+  front = h.front;
+  pending = h.pending ++ encode_utf8 c;
+  text_is = h.text_is ∙ ap (λ b. h.front ++ (h.pending ++ b)) e ∙ ap (λ b. h.front ++ b) (sym (append_assoc h.pending (encode_utf8 c) rest'));
+  from_is = h.from_is;
+  at_is = omega (arith, n, h.at_is, length-append h.pending (encode_utf8 c));
+  utf8 = IsUtf8-past_char rest rest' c h.utf8 e;
+  written =
+      ap (λ b. out ++ b) (append_assoc h.pending (encode_utf8 c) (quoted_rest rest'))
+      ∙ ap (λ b. out ++ (h.pending ++ (b ++ quoted_rest rest'))) (sym same)
+      ∙ ap (λ b. out ++ (h.pending ++ b)) (sym (quoted_rest_char rest rest' c h.utf8 e))
+      ∙ h.written;
+}
+
+-- a character is escaped
+pub quoting_escaped : (text : List ℕ) (from at past next : ℕ) (rest rest' out out' out'' part whole escape : List ℕ) (c : ℕ) → IsQuoting text from at rest out whole → rest ≡ encode_utf8 c ++ rest' →
+    past ≡ at + length (encode_utf8 c) → next ≡ at + length (encode_utf8 c) → escaped c ≡ escape → part ≡ slice_range text from at → out' ≡ out ++ part → out'' ≡ out' ++ escape →
+    IsQuoting text past next rest' out'' whole
+quoting_escaped text from at past next rest rest' out out' out'' part whole escape c h e p n by is first second =
+    let front : length (h.front ++ (h.pending ++ encode_utf8 c)) ≡ length h.front + (length h.pending + length (encode_utf8 c)) =
+    omega (arith, length-append h.front (h.pending ++ encode_utf8 c), length-append h.pending (encode_utf8 c)) in
+    let pending : part ≡ h.pending = is ∙ quoting_part text from at rest out whole h in
+    record {
+      front = h.front ++ (h.pending ++ encode_utf8 c);
+      pending = [];
+      text_is =
+          h.text_is ∙ ap (λ b. h.front ++ (h.pending ++ b)) e
+          ∙ ap (λ b. h.front ++ b) (sym (append_assoc h.pending (encode_utf8 c) rest'))
+          ∙ sym (append_assoc h.front (h.pending ++ encode_utf8 c) rest');
+      from_is = omega (arith, p, h.at_is, h.from_is, front);
+      at_is = omega (arith, p, n);
+      utf8 = IsUtf8-past_char rest rest' c h.utf8 e;
+      written =
+          ap (λ b. b ++ quoted_rest rest') (second ∙ ap (λ b. b ++ escape) (first ∙ ap (λ b. out ++ b) pending))
+          ∙ append_assoc (out ++ h.pending) escape (quoted_rest rest')
+          ∙ append_assoc out h.pending (escape ++ quoted_rest rest')
+          ∙ ap (λ b. out ++ (h.pending ++ (b ++ quoted_rest rest'))) (sym by)
+          ∙ ap (λ b. out ++ (h.pending ++ b)) (sym (quoted_rest_char rest rest' c h.utf8 e))
+          ∙ h.written;
+    }
+
+-- the end of the text, and the last quote
+pub quoting_ended : (text : List ℕ) (from at : ℕ) (rest out out' out'' part whole : List ℕ) → IsQuoting text from at rest out whole → length rest ≡ 0 → part ≡ slice_range text from (length text) → out' ≡ out ++ part → out'' ≡ out' ++ 34 ∷ [] →
+    out'' ≡ whole
+quoting_ended text from at [] out out' out'' part whole h none is first second =
+    let end : length text ≡ at = omega (arith, (quoting_bounds text from at [] out whole h).1) in
+    let pending : part ≡ h.pending = is ∙ ap (slice_range text from) end ∙ quoting_part text from at [] out whole h in
+    second ∙ ap (λ b. b ++ 34 ∷ []) (first ∙ ap (λ b. out ++ b) pending) ∙ append_assoc out h.pending (34 ∷ [])
+    ∙ ap (λ cs. out ++ (h.pending ++ (flat_map escaped cs ++ 34 ∷ []))) (sym chars-nil) ∙ h.written
+quoting_ended text from at (b ∷ rest) out out' out'' part whole h none is first second = absurd (omega arith)
 
 -- the list that was opened last is written first
 pub rest_text-push : (values : List Value) (ls : List Open) (l : Open) → rest_text values (ls ++ l ∷ []) ≡ open_text values l ++ rest_text values ls

@@ -3,3 +3,4 @@ pub mod ValueCode
 pub mod Nodes
 pub mod Pool
 pub mod Parts
+pub mod Escapes

@@ -1,9 +1,10 @@
 // The text of a value.
-ghost use Rattle.std.specs.Prelude.{◌≡◌, ◌<◌, ◌++◌, length, decimal, OnOk, OnErr};
+ghost use Rattle.std.specs.Prelude.{◌≡◌, ◌<◌, ◌++◌, ◌∷◌, [], length, decimal, OnOk, OnErr};
 ghost use Rattle.grammar_model.specs.Values.{Text};
 ghost use Rattle.grammar_model.specs.Text.{escaped, hex_digit, text_of};
 ghost use Rattle.value_text.specs.Nodes.{value_at};
 ghost use Rattle.value_text.specs.Parts.{comma, rest_text, AreOpen, IsExtended};
+ghost use Rattle.value_text.specs.Escapes.{bytes_of, escaped_by};
 
 use crate::pool::Part;
 use crate::{NoMemory, Pool, ValueId};
@@ -25,6 +26,15 @@ fn append(bytes: &[u8], out: &mut Vec<u8>) -> Result<(), NoMemory>
     Ok(())
 }
 
+/// Appends a byte.
+fn append_byte(byte: u8, out: &mut Vec<u8>) -> Result<(), NoMemory>
+    ensures ok { OnOk result (out.new.items ≡ out.old.items ++ byte ∷ []) }
+    ensures extended { IsExtended out.old.items out.new.items }
+{
+    out.push(byte)?;
+    Ok(())
+}
+
 /// A digit in base 16.
 fn hex(n: u8) -> u8
     requires { n < 16 }
@@ -33,37 +43,60 @@ fn hex(n: u8) -> u8
     if n < 10 { b'0' + n } else { b'a' + (n - 10) }
 }
 
-/// Appends a character as it stands inside a text's quotes.
-fn append_escaped(c: char, out: &mut Vec<u8>) -> Result<(), NoMemory>
-    ensures ok { OnOk result (out.new.items ≡ out.old.items ++ escaped c) }
-    ensures extended { IsExtended out.old.items out.new.items }
+/// How a character is escaped inside a text's quotes.
+#[derive(Clone, Copy)]
+enum Escape {
+    /// a backslash and this byte
+    Mark(u8),
+    /// its code in base 16
+    Code(u8),
+}
+
+/// How a character is escaped, or that it stands as it is.
+fn escape_of(c: char) -> Option<Escape>
+    ensures { escaped c ≡ escaped_by c result }
 {
     match c {
-        '\\' | '"' | '$' | '@' => append(&[b'\\', c as u8], out),
-        '\n' => append(b"\\n", out),
-        '\r' => append(b"\\r", out),
-        '\t' => append(b"\\t", out),
-        '\0'..='\x1f' | '\x7f'..='\u{9f}' => {
-            let code = c as u8;
-            append(
-                &[b'\\', b'x', b'{', hex(code / 16), hex(code % 16), b'}'],
-                out,
-            )
-        }
-        _ => append(c.encode_utf8(&mut [0; 4]).as_bytes(), out),
+        '\\' | '"' | '$' | '@' => Some(Escape::Mark(c as u8)),
+        '\n' => Some(Escape::Mark(b'n')),
+        '\r' => Some(Escape::Mark(b'r')),
+        '\t' => Some(Escape::Mark(b't')),
+        '\0'..='\x1f' | '\x7f'..='\u{9f}' => Some(Escape::Code(c as u8)),
+        _ => None,
     }
 }
 
-/// Appends a text in its quotes.
+/// Appends the bytes of an escape.
+fn append_escape(escape: Escape, out: &mut Vec<u8>) -> Result<(), NoMemory>
+    ensures ok { OnOk result (out.new.items ≡ out.old.items ++ bytes_of escape) }
+    ensures extended { IsExtended out.old.items out.new.items }
+{
+    match escape {
+        Escape::Mark(byte) => append(&[b'\\', byte], out),
+        Escape::Code(code) => append(
+            &[b'\\', b'x', b'{', hex(code / 16), hex(code % 16), b'}'],
+            out,
+        ),
+    }
+}
+
+/// Appends a text in its quotes. What stands between two escapes is appended at once.
 fn append_quoted(text: &str, out: &mut Vec<u8>) -> Result<(), NoMemory>
     ensures ok { OnOk result (out.new.items ≡ out.old.items ++ text_of (Text text.now)) }
     ensures extended { IsExtended out.old.items out.new.items }
 {
-    append(b"\"", out)?;
-    for c in text.chars() {
-        append_escaped(c, out)?;
+    append_byte(b'"', out)?;
+    let bytes = text.as_bytes();
+    let mut from = 0;
+    for (at, c) in text.char_indices() {
+        if let Some(escape) = escape_of(c) {
+            append(&bytes[from..at], out)?;
+            append_escape(escape, out)?;
+            from = at + c.len_utf8();
+        }
     }
-    append(b"\"", out)
+    append(&bytes[from..], out)?;
+    append_byte(b'"', out)
 }
 
 /// Appends a number's digits.
@@ -80,7 +113,11 @@ fn append_comma(follows: bool, out: &mut Vec<u8>) -> Result<(), NoMemory>
     ensures ok { OnOk result (out.new.items ≡ out.old.items ++ comma follows) }
     ensures extended { IsExtended out.old.items out.new.items }
 {
-    if follows { append(b",", out) } else { Ok(()) }
+    if follows {
+        append_byte(b',', out)
+    } else {
+        Ok(())
+    }
 }
 
 /// Appends a value, or the beginning of a list, which is then open.
@@ -102,7 +139,7 @@ fn append_start<'p>(
         Part::Number(n) => append_number(n, out),
         Part::Text(text) => append_quoted(text, out),
         Part::List(rest) => {
-            append(b"[", out)?;
+            append_byte(b'[', out)?;
             lists.push(Open {
                 rest,
                 follows: false,
@@ -122,7 +159,7 @@ fn append_value(pool: &Pool, id: ValueId, out: &mut Vec<u8>) -> Result<(), NoMem
     append_start(pool, id, &mut lists, out)?;
     while let Some(list) = lists.pop() {
         let Some((first, rest)) = list.rest.split_first() else {
-            append(b"]", out)?;
+            append_byte(b']', out)?;
             continue;
         };
         append_comma(list.follows, out)?;

@@ -9,22 +9,22 @@ use Rattle.valuator.proofs.playing.tell_rule.Goals as goal
 
 pub pass_rule-requires-clause-count : goal.pass_rule-requires-clause-count
 pass_rule-requires-clause-count g c =
-    let count : length c.as_slice-then-meaning.result.now ≡ c.args.children = ap length (c.as_slice-then-meaning.ensures.value ∙ c.in_ok-shown.ensures) ∙ length-items_shown _ _ in
+    let count : length c.as_slice-then-meaning.result.now ≡ c.args.children = ap length (c.as_slice-then-meaning.ensures.value ∙ c.in_ok-list_items.ensures) ∙ length-items_shown _ _ in
     omega (arith, count, c.ranges.children.fits)
 
 pub pass_rule-requires-clause-held : goal.pass_rule-requires-clause-held
 pass_rule-requires-clause-held g c =
-    let count : length c.as_slice-then-meaning.result.now ≡ c.args.children = ap length (c.as_slice-then-meaning.ensures.value ∙ c.in_ok-shown.ensures) ∙ length-items_shown _ _ in
+    let count : length c.as_slice-then-meaning.result.now ≡ c.args.children = ap length (c.as_slice-then-meaning.ensures.value ∙ c.in_ok-list_items.ensures) ∙ length-items_shown _ _ in
     omega (arith, count, c.requires.step.5)
 
-pub returns-in_ok-shown-clause-ok : goal.returns-in_ok-shown-clause-ok
-returns-in_ok-shown-clause-ok g c =
+pub returns-in_ok-list_items-clause-ok : goal.returns-in_ok-list_items-clause-ok
+returns-in_ok-list_items-clause-ok g c =
     let inside = rules_count c.args.p.now.meaning.now _ c.args.rule c.requires.meaning.count c.requires.step.0 in
     let meant = meaning_found c.args.p.now.meaning.now _ _ c.args.rule c.index-as_slice-rule.result c.as_slice.ensures c.rule.view_is inside c.index-as_slice-rule.is in
     let name = c.name_in-name.ensures ∙ ap (name_of c.args.p.now.w.now) (c.left_side.ensures ∙ ap lhs_of (sym (read_rule c.args.p.now.w.now c.args.rule _ c.written_rule-written.ensures))) in
     let from : c.args.from < length c.args.p.now.spans.now = omega (arith, c.requires.step.3, c.requires.step.4) in
     let suits = c.requires.meaning.suits c.args.rule c.requires.step.0 in
-    let items = c.as_slice-then-meaning.ensures.value ∙ c.in_ok-shown.ensures in
+    let items = c.as_slice-then-meaning.ensures.value ∙ c.in_ok-list_items.ensures in
     let count : length c.as_slice-then-meaning.result.now ≡ c.args.children = ap length items ∙ length-items_shown _ _ in
     let shown : c.as_slice-then-meaning.result.now ≡ shown_of (rule_at c.args.p.now.w.now c.args.rule) (meaning_at (meaning_of c.args.p.now.meaning.now) c.args.rule).shown c.args.children =
     sequence_shown _ _ _ _ suits (ap (λ (r : RuleMeaning). r.sequence) meant ∙ c.if-meaning.true) (items ∙ ap (λ (r : RuleMeaning). items_shown (if r.separated then Some 0 else None) c.args.children) (sym meant)) in

@@ -9,10 +9,11 @@ use Rattle.value_lines.proofs.writing.write_lines.Given as goal
 
 abbrev pub invariant-loop-k : goal.invariant-loop-k
 invariant-loop-k g l = record {
+  player : l.player ≡ l.fn.player;
   forest : l.iter.forest ≡ l.fn.iter.forest;
   tellers : states l.tellers.items (λ t. (goal.Teller-dyn g (t.vtable, t.value)).shows t.value) (λ t. (goal.Teller-dyn g (t.vtable, t.value)).held t.value) ≡ states l.fn.tellers.items (λ t. (goal.Teller-dyn g (t.vtable, t.value)).shows t.value) (λ t. (goal.Teller-dyn g (t.vtable, t.value)).held t.value);
-  written : (show : Show) (pieces : List Piece) → states l.fn.tellers.items (λ t. (goal.Teller-dyn g (t.vtable, t.value)).shows t.value) (λ t. (goal.Teller-dyn g (t.vtable, t.value)).held t.value) ≡ (show, []) ∷ [] → IsForestOf l.prepared l.chars l.spans l.fn.iter.forest pieces →
-      HasWritten l.prepared show l.chars pieces l.iter l._k (g.O.Sink.contents l.fn.out) (g.O.Sink.contents l.out);
+  written : (show : Show) (pieces : List Piece) → states l.fn.tellers.items (λ t. (goal.Teller-dyn g (t.vtable, t.value)).shows t.value) (λ t. (goal.Teller-dyn g (t.vtable, t.value)).held t.value) ≡ (show, []) ∷ [] → IsForestOf l.prepared l.fn.player.chars l.fn.player.spans l.fn.iter.forest pieces →
+      HasWritten l.prepared show l.fn.player.chars pieces l.iter l._k (g.O.Sink.contents l.fn.out) (g.O.Sink.contents l.out);
   counted : HasCounted l.iter l._k l.fn.steps l.steps;
   later : g.O.Sink.fault_count l.fn.out ≤ g.O.Sink.fault_count l.out;
 }

@@ -1,17 +1,29 @@
-use Rattle.std.proofs.lemmas.Str.{IsUtf8-past_char}
+use Rattle.std.proofs.Common.{arith, length}
 use Rattle.std.proofs.lemmas.Result.{on_ok_weaker}
-use Rattle.value_text.proofs.Rest.{quoted_step, quoted_end, extended_through}
+use Rattle.std.specs.List.{slice_range}
+use Rattle.value_text.proofs.Rest.{quoting_plain, quoting_escaped, quoting_ended, extended_through}
 use Rattle.value_text.proofs.text.append_quoted.Goals as goal
 
-pub loop-c-preserved : goal.loop-c-preserved
-loop-c-preserved c =
-    let parts = c.in-Some.ensures.steps.0 in
+pub loop-at-preserved-in-Some-escape_of : goal.loop-at-preserved-in-Some-escape_of
+loop-at-preserved-in-Some-escape_of c =
+    let steps = c.in-Some.ensures.steps in
     record {
-      utf8 = IsUtf8-past_char _ _ c.in-Some.c c.loop-c.invariant.utf8 parts;
-      written = quoted_step _ _ _ _ _ _ c.loop-c.invariant.utf8 parts c.in_ok-append_escaped.ensures.ok c.loop-c.invariant.written;
-      extended = extended_through _ _ _ c.loop-c.invariant.extended c.append_escaped.ensures.extended;
+      quoting =
+          quoting_escaped _ _ _ _ _ _ _ _ _ _ _ _ _ c.in-Some.c c.loop-at.invariant.quoting steps.1 (omega (arith, steps.0, c.len_utf8.ensures.len)) steps.2 c.in-Some-escape_of.ensures
+          (λ i. slice_range (c.as_bytes-bytes.ensures.value i) c.loop-at.from (steps.0 i)) c.in_ok-append.ensures.ok c.in_ok-append_escape.ensures.ok;
+      extended = extended_through _ _ _ (extended_through _ _ _ c.loop-at.invariant.extended c.append.ensures.extended) c.append_escape.ensures.extended;
+    }
+
+pub loop-at-preserved : goal.loop-at-preserved
+loop-at-preserved c =
+    let steps = c.in-Some.ensures.steps in
+    record {
+      quoting = quoting_plain _ _ _ _ _ _ _ _ c.in-Some.c c.loop-at.invariant.quoting steps.1 steps.2 c.in_default.ensures;
+      extended = c.loop-at.invariant.extended;
     }
 
 pub returns-clause-ok : goal.returns-clause-ok
 returns-clause-ok c =
-    on_ok_weaker c.append-2.result (λ step. quoted_end _ _ _ _ c.in-None.ensures.steps.0.0 step c.loop-c.invariant.written) c.append-2.ensures.ok
+    on_ok_weaker c.append_byte-2.result
+    (λ step. quoting_ended _ _ _ _ _ _ _ _ _ c.loop-at.invariant.quoting c.in-None.ensures.steps.0 (λ i. slice_range (c.as_bytes-bytes.ensures.value i) c.loop-at.from (length (c.as_bytes-bytes.ensures.value i))) c.in_ok-append-2.ensures.ok step)
+    c.append_byte-2.ensures.ok

@@ -5,13 +5,13 @@ use Rattle.value_text.proofs.text.append_value.Goals as goal
 pub loop-list-smaller-in_default-split_first : goal.loop-list-smaller-in_default-split_first
 loop-list-smaller-in_default-split_first c =
     less_left _ _ _ _ _ c.loop-list.invariant.written
-    (close_list _ _ _ _ _ _ _ c.in-Some.ensures.items c.in_default-split_first.ensures.cases c.in_ok-append.ensures.ok c.loop-list.invariant.written)
-    (one_longer _ _ _ c.in_ok-append.ensures.ok)
+    (close_list _ _ _ _ _ _ _ c.in-Some.ensures.items c.in_default-split_first.ensures.cases c.in_ok-append_byte.ensures.ok c.loop-list.invariant.written)
+    (one_longer _ _ _ c.in_ok-append_byte.ensures.ok)
 
 pub loop-list-preserved-in_default-split_first : goal.loop-list-preserved-in_default-split_first
 loop-list-preserved-in_default-split_first c = record {
-  written = close_list _ _ _ _ _ _ _ c.in-Some.ensures.items c.in_default-split_first.ensures.cases c.in_ok-append.ensures.ok c.loop-list.invariant.written;
-  extended = extended_through _ _ _ c.loop-list.invariant.extended c.append.ensures.extended;
+  written = close_list _ _ _ _ _ _ _ c.in-Some.ensures.items c.in_default-split_first.ensures.cases c.in_ok-append_byte.ensures.ok c.loop-list.invariant.written;
+  extended = extended_through _ _ _ c.loop-list.invariant.extended c.append_byte.ensures.extended;
   lists = lists_below _ _ _ _ c.in-Some.ensures.items c.loop-list.invariant.lists;
 }
 

@@ -10,7 +10,7 @@ pub make-requires : goal.make-requires
 make-requires c =
     let held : c.newest-held.result.now ≡ drop (length c.self.inside.ids.items - c.args.children) c.self.inside.ids.items =
     c.newest-held.ensures ∙ (λ i. drop (length (c.as_slice.ensures.value i) - c.args.children) (c.as_slice.ensures.value i)) in
-    shown_ids _ _ _ _ _ _ c.self.invariant (c.as_slice-2.ensures.value ∙ c.in_ok-seen.ensures) held
+    shown_ids _ _ _ _ _ _ c.self.invariant (c.as_slice-2.ensures.value ∙ c.in_ok-list_visible.ensures) held
 
 pub returns-in_err-id-clause-err : goal.returns-in_err-id-clause-err
 returns-in_err-id-clause-err c =
@@ -28,7 +28,7 @@ returns-clause-ok c =
     let held : c.newest-held.result.now ≡ drop (length c.self.inside.ids.items - c.args.children) c.self.inside.ids.items =
     c.newest-held.ensures ∙ (λ i. drop (length (c.as_slice.ensures.value i) - c.args.children) (c.as_slice.ensures.value i)) in
     let seen = shown_values c.self.inside.pool c.args.shown.now c.self.inside.ids.items c.newest-held.result.now c.as_slice-2.result.now (length c.self.inside.ids.items - c.args.children)
-    (c.as_slice-2.ensures.value ∙ c.in_ok-seen.ensures) held in
+    (c.as_slice-2.ensures.value ∙ c.in_ok-list_visible.ensures) held in
     let given : List Value → Made = λ vs. record { name = c.args.name.now; start = c.args.start; length = c.args.length; g1start = c.args.g1start; g1length = c.args.g1length; children = vs } in
     rw (← c.self.view_is)
     (held_replaced _ _ _ _ _ _ _ (λ vs. made_by (action_of c.args.action.now) (given (items_where_true c.args.shown.now vs))) c.make.ensures.grown c.self.invariant c.in_ok-id.ensures.ok c.in_ok-replace.ensures.ok

@@ -1,6 +1,6 @@
 use Rattle.std.proofs.Common.{◌≡◌, ◌++◌, length}
 use Rattle.std.specs.List.{items_where_true}
-use Rattle.valuator.proofs.stack.visible.Given as goal
+use Rattle.valuator.proofs.stack.list_visible.Given as goal
 
 abbrev pub invariant-loop-child : goal.invariant-loop-child
 invariant-loop-child l = record {

@@ -1,7 +1,7 @@
 use Rattle.std.proofs.Common.{◌≡◌, if◌then◌else◌, Some, None}
 use Rattle.grammar_model.specs.Grammar.{is_item}
 use Rattle.grammar_model.specs.Values.{items_shown}
-use Rattle.valuator.proofs.playing.shown_items.Given as goal
+use Rattle.valuator.proofs.playing.list_items.Given as goal
 
 abbrev pub invariant-loop-k : goal.invariant-loop-k
 invariant-loop-k l = record {
