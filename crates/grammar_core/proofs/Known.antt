@@ -1,0 +1,25 @@
+-- What is true of the rules of a written grammar.
+use Rattle.std.proofs.Common.{◌≡◌, ℕ, ◌<◌, length, Some, arith, subst}
+use Rattle.std.specs.Prelude.{All, slice_get}
+use Rattle.std.proofs.lemmas.Option.{get_or_from_slice_get}
+use Rattle.grammar_model.specs.Grammar.{WrittenRule, Plain, Sequence, Grammar, rule_at, no_rule, lhs_of, level_of}
+use Rattle.grammar_core.specs.Written.{IsWritten, IsLevelled, symbols_of}
+use Rattle.grammar_core.specs.Rules.{groups_of}
+
+first_symbol : (bound : ℕ) (rule : WrittenRule) → All (λ s. s < bound) (symbols_of rule) → lhs_of rule < bound
+first_symbol bound (Plain r) all = all 0 0 (omega arith)
+first_symbol bound (Sequence r) all = all 0 0 (omega arith)
+
+pub lhs_known : (g : Grammar) (i : ℕ) → IsWritten g → i < length g.rules → lhs_of (rule_at g i) < length g.names
+lhs_known g i w lt = first_symbol (length g.names) (rule_at g i) (w.rules_known i lt).0
+
+-- of the rule that is found at the place
+pub found_known : (g : Grammar) (i : ℕ) (rule : WrittenRule) → IsWritten g → i < length g.rules → slice_get g.rules i ≡ Some rule → lhs_of rule < length g.names
+found_known g i rule w lt at = subst (λ r. lhs_of r < length g.names) (get_or_from_slice_get g.rules i rule no_rule at) (lhs_known g i w lt)
+
+below_groups : (rule : WrittenRule) → IsLevelled rule → level_of rule < groups_of rule
+below_groups (Plain r) h = h.0
+below_groups (Sequence r) h = omega arith
+
+pub level_below : (g : Grammar) (i : ℕ) → IsWritten g → i < length g.rules → level_of (rule_at g i) < groups_of (rule_at g i)
+level_below g i w lt = below_groups (rule_at g i) (w.rules_known i lt).1
