@@ -17,7 +17,7 @@ use Rattle.grammar_core.specs.Written.{IsWritten}
 use Rattle.grammar_check.specs.Shared.{rows_of}
 use Rattle.grammar_check.specs.Shared.{IsSequenceAt, HasTwo, HasSequence, Marks, HasTexts}
 use Rattle.horn_clauses.proofs.Search.{same_or_other, same_or_below}
-use Rattle.slot_analysis.proofs.Known.{lhs_known}
+use Rattle.grammar_core.proofs.Known.{lhs_known}
 
 -- a mark more, where R holds
 pub mark_more : (marks : List Bool) (P Q : ℕ → Type 0) (x : ℕ) (c : Bool) (R : Type 0) → Marks marks P → x < length marks → (c ≡ true) ↔ R → ((y : ℕ) → (P y ⊎ ((y ≡ x) × R)) ↔ Q y) → Marks (slice_set marks x (slice_index_or marks x false || c)) Q

@@ -1,5 +1,5 @@
--- What is true of the rules of a written grammar.
-use Rattle.std.proofs.Common.{◌≡◌, ℕ, ◌<◌, length, Some, arith, subst}
+-- The rules of a written grammar, by their places.
+use Rattle.std.proofs.Common.{◌≡◌, ℕ, ◌<◌, length, Some, arith, sym, subst}
 use Rattle.std.specs.Prelude.{All, slice_get}
 use Rattle.std.proofs.lemmas.Option.{get_or_from_slice_get}
 use Rattle.grammar_model.specs.Grammar.{WrittenRule, Plain, Sequence, Grammar, rule_at, no_rule, lhs_of, level_of}
@@ -13,13 +13,19 @@ first_symbol bound (Sequence r) all = all 0 0 (omega arith)
 pub lhs_known : (g : Grammar) (i : ℕ) → IsWritten g → i < length g.rules → lhs_of (rule_at g i) < length g.names
 lhs_known g i w lt = first_symbol (length g.names) (rule_at g i) (w.rules_known i lt).0
 
--- of the rule that is found at the place
-pub found_known : (g : Grammar) (i : ℕ) (rule : WrittenRule) → IsWritten g → i < length g.rules → slice_get g.rules i ≡ Some rule → lhs_of rule < length g.names
-found_known g i rule w lt at = subst (λ r. lhs_of r < length g.names) (get_or_from_slice_get g.rules i rule no_rule at) (lhs_known g i w lt)
-
 below_groups : (rule : WrittenRule) → IsLevelled rule → level_of rule < groups_of rule
 below_groups (Plain r) h = h.0
 below_groups (Sequence r) h = omega arith
 
 pub level_below : (g : Grammar) (i : ℕ) → IsWritten g → i < length g.rules → level_of (rule_at g i) < groups_of (rule_at g i)
 level_below g i w lt = below_groups (rule_at g i) (w.rules_known i lt).1
+
+-- the rule that is found at the place
+pub found_is : (g : Grammar) (i : ℕ) (rule : WrittenRule) → slice_get g.rules i ≡ Some rule → rule ≡ rule_at g i
+found_is g i rule at = sym (get_or_from_slice_get g.rules i rule no_rule at)
+
+pub found_known : (g : Grammar) (i : ℕ) (rule : WrittenRule) → IsWritten g → i < length g.rules → slice_get g.rules i ≡ Some rule → lhs_of rule < length g.names
+found_known g i rule w lt at = subst (λ r. lhs_of r < length g.names) (sym (found_is g i rule at)) (lhs_known g i w lt)
+
+pub found_below : (g : Grammar) (i : ℕ) (rule : WrittenRule) → IsWritten g → i < length g.rules → slice_get g.rules i ≡ Some rule → level_of rule < groups_of rule
+found_below g i rule w lt at = subst (λ r. level_of r < groups_of r) (sym (found_is g i rule at)) (level_below g i w lt)
