@@ -234,21 +234,6 @@ module _ (g : Grammar) (rows : List (List ℕ)) (w : IsWritten g) (t : IsLevelTa
     λ (i, lt, e). (i, omega (arith, lt, rules_count), ap lhs_of (rule_is i lt) ∙ (lhs_is rows (rule_at g i) ∙ e)),
   )
 
-  pub child_known : (i k : ℕ) → i < length g.rules → k < slot_count (rule_at g i) → (child_slot (rule_at g i) k).symbol < length g.names
-  child_known i k lt kl = by (rule_at g i) (w.rules_known i lt).0 kl
-    where
-      parted : (item separator : ℕ) (b : Bool) → item < length g.names → separator < length g.names → (if b then item else separator) < length g.names
-      parted item separator true i s = i
-      parted item separator false i s = s
-
-      of_sequence : (item : ℕ) (separator : Option ℕ) → item < length g.names → All (λ s. s < length g.names) (option_to_list separator) → sequence_symbol item separator k < length g.names
-      of_sequence item None known all = known
-      of_sequence item (Some separator) known all = parted item separator (is_even k) known (all 0 0 (omega arith))
-
-      by : (rule : WrittenRule) → All (λ s. s < length g.names) (symbols_of rule) → k < slot_count rule → (child_slot rule k).symbol < length g.names
-      by (Plain r) all kl = all (suc k) 0 (omega (arith, kl))
-      by (Sequence r) all kl = of_sequence r.item r.separator (all 1 0 (omega arith)) (λ n d nl. all (suc (suc n)) d (omega (arith, nl)))
-
   -- what is looked up in the grammar, in a grammar that is the packed one
   module _ (h : Grammar) (is : p ≡ h) (i : ℕ) (il : i < length h.rules) where
     pub rule_within : i < length g.rules
