@@ -11,13 +11,14 @@ use Rattle.std.proofs.lemmas.Option.{get_or_from_slice_get}
 use Rattle.std.proofs.lemmas.List.{get_or-set_same, get_or-set_other, map-append}
 use Rattle.std.proofs.lemmas.List.Elements.{Contains-append_left, Contains-push, Contains-push_cases}
 use Rattle.indexmap.specs.IndexSet.{insert_key}
-use Rattle.grammar_model.specs.Grammar.{Grammar, PlainRule, SequenceRule, Plain, Sequence, rule_at, no_rule, lhs_of}
+use Rattle.grammar_model.specs.Grammar.{Grammar, WrittenRule, PlainRule, SequenceRule, Plain, Sequence, rule_at, no_rule, lhs_of}
 use Rattle.grammar_model.specs.Checked.{IsDuplicate, IsShared, SequencesAreAlone}
 use Rattle.grammar_core.specs.Written.{IsWritten}
+use Rattle.grammar_core.specs.Rules.{is_sequence}
 use Rattle.grammar_check.specs.Shared.{rows_of}
 use Rattle.grammar_check.specs.Shared.{IsSequenceAt, HasTwo, HasSequence, Marks, HasTexts}
 use Rattle.horn_clauses.proofs.Search.{same_or_other, same_or_below}
-use Rattle.slot_analysis.proofs.Known.{lhs_known}
+use Rattle.grammar_core.proofs.Known.{lhs_known}
 
 -- a mark more, where R holds
 pub mark_more : (marks : List Bool) (P Q : ℕ → Type 0) (x : ℕ) (c : Bool) (R : Type 0) → Marks marks P → x < length marks → (c ≡ true) ↔ R → ((y : ℕ) → (P y ⊎ ((y ≡ x) × R)) ↔ Q y) → Marks (slice_set marks x (slice_index_or marks x false || c)) Q
@@ -75,6 +76,10 @@ sequence_more g n x e y = (
     | inr same ↦ inr (sym is ∙ (ap (λ i. lhs_of (rule_at g i)) same ∙ sym e), subst (IsSequenceAt g) same q)
   ],
 )
+
+pub sequence_at : (g : Grammar) (i : ℕ) (rule : WrittenRule) (b : Bool) → rule ≡ rule_at g i → b ≡ is_sequence rule → (b ≡ true) ↔ IsSequenceAt g i
+sequence_at g i (Plain r) b is e = (λ t. absurd (true≢false (sym t ∙ e)), λ (q, k). let z : Plain r ≡ Sequence q = is ∙ k in absurd (cc))
+sequence_at g i (Sequence r) b is e = (λ t. (r, sym is), λ q. e)
 
 left_is : (g : Grammar) (i : ℕ) (r : SequenceRule) → rule_at g i ≡ Sequence r → lhs_of (rule_at g i) ≡ r.lhs
 left_is g i r e = ap lhs_of e

@@ -1,5 +1,5 @@
 use Rattle.std.proofs.Common.{◌<◌, length, sym, subst}
-use Rattle.slot_analysis.proofs.Known.{lhs_known}
+use Rattle.grammar_core.proofs.Known.{lhs_known}
 use Rattle.flat_rules.proofs.lefts.left_of.Goals as goal
 
 pub returns-clause-known : goal.returns-clause-known
