@@ -45,7 +45,7 @@ pub begin_later : (g : FlatGrammar) (old new : List (List Thread)) (starts : Lis
 begin_later g old new starts set to grown is = record { keeps = is.keeps; begins = λ later more. is.begins later (grown_on old new later grown more) }
 
 -- nothing is noted of no states
-pub empty_machine : (m : Machine) → m.parts ≡ [] → m.rows ≡ [] → m.kinds.items ≡ [] → m.next.items ≡ [] → m.begins.entries ≡ [] → IsMachine m
+pub empty_machine : (m : Machine) → m.parts ≡ [] → m.rows ≡ [] → m.kinds.items ≡ [] → m.next.items ≡ [] → m.begins ≡ [] → IsMachine m
 empty_machine m p r k n b = record {
   parts = subst (AreParts m.flat.now) (sym p) (λ s th h. absurd (Contains-none th h));
   rows = λ s. subst (λ (l : List (List Thread)). AreThreads m.flat.now (length m.parts) (list_at l s)) (sym r) (λ th h. absurd (Contains-none th h));
@@ -172,7 +172,14 @@ module _ (m : Machine) (is : IsMachine m) where
           rows = grown_added m.rows rows row added;
         }
 
--- ---- a state of no text is made
+-- ---- a state of no text is found, or made
+
+module _ (m : Machine) (is : IsMachine m) (begins : List (Vec ℕ Global × ℕ)) (same : begins ≡ m.begins) where
+  pub found_machine : IsMachine (record m { begins = begins })
+  found_machine = subst (λ (b : List (Vec ℕ Global × ℕ)). IsMachine (record m { begins = b })) (sym same) is
+
+  pub found_goes : (new : Machine) → Goes (record m { begins = begins }) new → Goes m new
+  found_goes new g = record { is = g.is; form = g.form; parts = g.parts; rows = g.rows }
 
 module _ (m : Machine) (is : IsMachine m) (rows : List (List Thread)) (kinds : Vec Kind Global) (row : List Thread) (threads : AreThreads m.flat.now (length m.parts) row) (added : (rows ≡ m.rows) ⊎ (rows ≡ m.rows ++ row ∷ [])) (of : AreKinds m.flat.now rows kinds.items) where
   pub begun_rows : Goes m (record m { rows = rows; kinds = kinds })
@@ -183,7 +190,7 @@ module _ (m : Machine) (is : IsMachine m) (rows : List (List Thread)) (kinds : V
     begun_at = subst (λ z. (set : List Thread) × IsBegin m.flat.now m.parts starts set z) (sym at) begins
 
     -- the begins that are noted
-    pub begun_begins : (entries : List (Vec ℕ Global × ℕ)) → ((list : List ℕ) (s : ℕ) → HasBegin entries list s → HasBegin m.begins.entries list s ⊎ ((list ≡ starts) × (s ≡ to))) →
+    pub begun_begins : (entries : List (Vec ℕ Global × ℕ)) → ((list : List ℕ) (s : ℕ) → HasBegin entries list s → HasBegin m.begins list s ⊎ ((list ≡ starts) × (s ≡ to))) →
         (list : List ℕ) (s : ℕ) → HasBegin entries list s → (s < length rows) × ((set : List Thread) × IsBegin m.flat.now m.parts list set (list_at rows s))
     begun_begins entries noted list s has = elim (noted list s has) [
       | inl o ↦ (with_rows m is rows kinds row threads added of).begins list s o

@@ -1,12 +1,10 @@
 -- A table of steps, by states and classes, and the states that lists of starts begin with.
-use Rattle.std.proofs.Common.{◌≡◌, ◌⊎◌, inl, inr, ℕ, zero, suc, ◌+◌, ◌*◌, ◌<◌, ◌++◌, List, [], ◌∷◌, Bool, true, false, cond, if◌then◌else◌, slice_get, Option, Some, None, refl, sym, ap, ◌∙◌, subst, arith}
+use Rattle.std.proofs.Common.{◌≡◌, ◌⊎◌, inl, inr, ℕ, zero, suc, ◌+◌, ◌*◌, ◌<◌, ◌++◌, List, [], ◌∷◌, Bool, true, false, if◌then◌else◌, slice_get, Some, refl, sym, ap, ◌∙◌, subst, arith}
 use Rattle.std.specs.Prelude.{slice_set, nat_eq}
-use Rattle.std.specs.Option.{IfSome}
 use Rattle.indexmap.specs.IndexMap.{insert_entry}
 use Rattle.std.specs.declared.vec.Vec.{Vec}
 use Rattle.std.specs.declared.alloc.Global.{Global}
 use Rattle.std.specs.Cmp.Lexicographic.{pointwise}
-use Rattle.std.specs.Map.{lookup}
 use Rattle.std.proofs.lemmas.Bool.Decides.{Decides-eqb}
 use Rattle.std.proofs.lemmas.Slice.Eq.{slice_eq-Decides}
 use Rattle.lexer.specs.Machines.{IsNoted, HasBegin}
@@ -41,20 +39,6 @@ Entries = List (Vec ℕ Global × ℕ)
 
 later_begin : (x : Vec ℕ Global × ℕ) (xs : Entries) (starts : List ℕ) (s : ℕ) → HasBegin xs starts s → HasBegin (x ∷ xs) starts s
 later_begin x xs starts s (v, (k, lt, at), same) = (v, (suc k, omega arith, at), same)
-
-pub found_begin : (entries : Entries) (starts : List ℕ) (s : ℕ) → lookup (λ (k : Vec ℕ Global). pointwise nat_eq starts k.items) entries ≡ Some s → HasBegin entries starts s
-found_begin [] starts s e = absurd (cc)
-found_begin (x ∷ xs) starts s e = by (pointwise nat_eq starts x.0.items) refl e (λ rest. found_begin xs starts s rest)
-  where
-    by : (b : Bool) → pointwise nat_eq starts x.0.items ≡ b → cond b (Some x.1) (lookup (λ (k : Vec ℕ Global). pointwise nat_eq starts k.items) xs) ≡ Some s → (lookup (λ (k : Vec ℕ Global). pointwise nat_eq starts k.items) xs ≡ Some s → HasBegin xs starts s) → HasBegin (x ∷ xs) starts s
-    by true h f rec =
-        let here : x.1 ≡ s = cc in
-        (x.0, (0, omega arith, ap (λ z. (x.0, z)) here), sym ((slice_eq-Decides Decides-eqb starts x.0.items (pointwise nat_eq starts x.0.items) refl).0 h))
-    by false h f rec = later_begin x xs starts s (rec f)
-
-pub some_begin : (o : Option ℕ) (entries : Entries) (starts : List ℕ) → o ≡ lookup (λ (k : Vec ℕ Global). pointwise nat_eq starts k.items) entries → IfSome o (HasBegin entries starts)
-some_begin None entries starts e = tt
-some_begin (Some s) entries starts e = found_begin entries starts s (sym e)
 
 abbrev pub vec_eq : Vec ℕ Global → Vec ℕ Global → Bool
 vec_eq x y = pointwise nat_eq x.items y.items

@@ -57,7 +57,7 @@ pub record IsMachine (m : Machine) : Type 0 where
   pub rows : (s : ℕ) → AreThreads m.flat.now (length m.parts) (list_at m.rows s)
   pub kinds : AreKinds m.flat.now m.rows m.kinds.items
   pub next : (s c t : ℕ) → c < 128 → IsNoted m.next.items s c t → IsNotedStep m s c t
-  pub begins : (starts : List ℕ) (s : ℕ) → HasBegin m.begins.entries starts s → (s < length m.rows) × ((set : List Thread) × IsBegin m.flat.now m.parts starts set (list_at m.rows s))
+  pub begins : (starts : List ℕ) (s : ℕ) → HasBegin m.begins starts s → (s < length m.rows) × ((set : List Thread) × IsBegin m.flat.now m.parts starts set (list_at m.rows s))
 
 -- what was there keeps its place
 pub record Goes (old new : Machine) : Type 0 where

@@ -6,13 +6,12 @@ ghost use Rattle.threads.specs.Steps.{IsBegin};
 ghost use Rattle.lexer.specs.Lexical.{LexicalForm};
 ghost use Rattle.lexer.specs.Machines.{form_of, IsMachine, Goes, IsStepBy, IsStepOver};
 
-use crate::begins::{begin_of, note_begin};
+use crate::begins::Begins;
 use crate::classes::Classes;
 use crate::kinds::{Kind, add_row};
 use crate::next::{known, note};
 use crate::table::Lexical;
 use grammar_core::Flat;
-use indexmap::IndexMap;
 use std::alloc::{AllocError, Global};
 use std::marker::Model;
 use threads::{Lists, first_row, next_row};
@@ -30,7 +29,7 @@ pub struct Machine<'g> {
     pub rows: Lists,
     pub kinds: Vec<Kind>,
     pub next: Vec<u32>,
-    pub begins: IndexMap<Vec<u32>, usize>,
+    pub begins: Begins,
     /// how many states are noted at most
     pub limit: usize,
 }
@@ -52,7 +51,7 @@ pub fn new_machine<'g>(
         rows: Lists::new(alloc),
         kinds: Vec::new(alloc),
         next: Vec::new(alloc),
-        begins: IndexMap::new(alloc),
+        begins: Begins::new(alloc),
         limit,
     })
 }
@@ -84,13 +83,13 @@ pub fn begin(machine: &mut Machine<'_>, alloc: Global, starts: &[u32]) -> Result
     ensures there { IfOk result (λ s. s < length machine.new.rows) }
     ensures begins { IfOk result (λ s. (set : List AThread) × IsBegin machine.new.flat.now machine.new.parts starts.now set (list_at machine.new.rows s)) }
 {
-    if let Some(state) = begin_of(&machine.begins, starts) {
+    if let Some(state) = machine.begins.find(starts) {
         return Ok(state);
     }
     let mut row = Vec::new(alloc);
     first_row(alloc, machine.flat, &machine.parts, starts, &mut row)?;
     let state = add_row(machine.flat, &mut machine.rows, &mut machine.kinds, row)?;
-    note_begin(alloc, &mut machine.begins, starts, state)?;
+    machine.begins.note(alloc, starts, state)?;
     Ok(state)
 }
 
