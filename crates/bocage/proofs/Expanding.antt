@@ -10,7 +10,7 @@ use Rattle.recognizer_model.specs.declared.NodeKey.{NodeKey}
 use Rattle.recognizer_model.specs.Counts.{IsCountOf}
 use Rattle.recognizer_model.specs.Leo.{InReduced}
 use Rattle.recognizer_model.specs.Chosen.{allowed_by}
-use Rattle.recognizer_model.specs.Nodes.{Before, Placed}
+use Rattle.recognizer_model.specs.Nodes.{Placed}
 use Rattle.recognizer_model.proofs.Over.{hidden_whole}
 use Rattle.earley_sets.specs.Recognizer.{Recognizer, IsRecognizer, place_of, set_at, edges_of, top_of}
 use Rattle.earley_sets.proofs.Membership.{got_item, found_at}
@@ -20,15 +20,16 @@ use Rattle.forest_parts.proofs.RowLemmas.{there, one_more_taken}
 use Rattle.bocage.specs.declared.rows.AlternativeRow.{AlternativeRow}
 use Rattle.bocage.specs.declared.walk.Found.{Found}
 use Rattle.bocage.specs.Walk.{IsRead, IsUsedIn, node_of_item, top_key}
-use Rattle.bocage.specs.Ends.{IsKnownNode, IsGoing}
+use Rattle.bocage.specs.Chains.{EndsAt}
+use Rattle.bocage.specs.Ends.{IsGoing}
 use Rattle.bocage.specs.Expanded.{IsExpandedIn, IsExpandedAt, IsExpandedFrom}
-use Rattle.bocage.proofs.Splits.{used_met, used_within, used_waits}
+use Rattle.bocage.proofs.Splits.{used_met, used_within}
 use Rattle.bocage.proofs.Growing.{map_both}
 use Rattle.bocage.proofs.Asking.{IsAsked, asked, least_asked}
 use Rattle.bocage.proofs.Counting.{at_place, none_at_least, none_counted, at_least_of, count_of, at_least_both, count_both, at_least_placed, count_placed}
 
 module _ (w : Grammar) (ranking : Ranking) (r : Recognizer) (read : IsRead w r) (end first : ℕ) (f : Found) (table : List (List AlternativeRow)) (going : IsGoing w ranking r end first f table) (nodes : List ℕ)
-    (listed : (n : ℕ) → Contains nodes n ↔ ((n < first) × IsKnownNode r end f.keys.keys n)) where
+    (listed : (n : ℕ) → Contains nodes n ↔ ((n < first) × EndsAt f.keys.keys end n)) where
   -- where a used node ends before the last place, one of the listed nodes begins no later
   pub reached : end ≢ place_of r → (key : NodeKey) → IsUsedIn w ranking r key → key.end ≡ end → (n : ℕ) × (k : NodeKey) × Contains nodes n × (slice_get f.keys.keys n ≡ Some k) × (k.origin ≤ key.origin)
   reached inner key used same =
@@ -42,17 +43,15 @@ module _ (w : Grammar) (ranking : Ranking) (r : Recognizer) (read : IsRead w r) 
           let held = asked w ranking r read (suc end) f.keys.keys f.wholes.items table (λ n k at le. going.visited n k at (omega arith)) (λ k lt e. subst (λ z. Contains f.keys.keys z) (sym e) (going.top lt)) a.met (omega arith) a.front a.part a.last a.some in
           let (n, at) = found_at f.keys.keys (node_of_item item end) held in
           let lt : n < first = elim (cases_lt n first) [ inl lt ↦ lt | inr ge ↦ absurd (inner (going.begun n (node_of_item item end) at ge refl)) ] in
-          let is = (used_met w ranking r read (node_of_item item end)).1 (a.some, Before a.met a.front a.part a.last) in
-          let kept = used_waits w ranking r read (node_of_item item end) is (going.waits n (node_of_item item end) at (inl lt) (omega arith)) in
-          (n, node_of_item item end, (listed n).1 (lt, (item, kept, at)), at, a.low)
+          (n, node_of_item item end, (listed n).1 (lt, (node_of_item item end, at, refl)), at, a.low)
 
   -- a listed node is used, and ends here
   pub listed_used : (n : ℕ) (key : NodeKey) → Contains nodes n → slice_get f.keys.keys n ≡ Some key → IsUsedIn w ranking r key × (key.end ≡ end)
   listed_used n key h at =
-      let (lt, (item, held, at')) = (listed n).0 h in
-      let one : Some (node_of_item item end) ≡ Some key = sym at' ∙ at in
-      let e : node_of_item item end ≡ key = cc in
-      (going.used key (got_item f.keys.keys n key (sym at)), sym (ap (λ (z : NodeKey). z.end) e))
+      let (lt, (other, at', same)) = (listed n).0 h in
+      let one : Some other ≡ Some key = sym at' ∙ at in
+      let e : other ≡ key = cc in
+      (going.used key (got_item f.keys.keys n key (sym at)), sym (ap (λ (z : NodeKey). z.end) e) ∙ same)
 
   -- where no node is listed nothing is expanded
   pub none_expanded : end ≢ place_of r → ((n : ℕ) → Contains nodes n → ⊥) → (item : Item) → IsExpandedAt w ranking r end item → ⊥
@@ -65,10 +64,10 @@ module _ (w : Grammar) (ranking : Ranking) (r : Recognizer) (read : IsRead w r) 
   least_met lowest least inner is some le (inr (n, key, h, at, e)) = let (used, same) = listed_used n key h at in (key, used, same, omega arith)
   least_met lowest least inner is some le (inl e) =
       let h = there nodes 0 0 some in
-      let (lt, (item, held, at)) = (listed (get_or nodes 0 0)).0 h in
-      let (used, same) = listed_used (get_or nodes 0 0) (node_of_item item end) h at in
-      let low = (used_within w ranking r read (node_of_item item end) used).forward in
-      (node_of_item item end, used, same, omega arith)
+      let (lt, (key, at, ends)) = (listed (get_or nodes 0 0)).0 h in
+      let (used, same) = listed_used (get_or nodes 0 0) key h at in
+      let low = (used_within w ranking r read key used).forward in
+      (key, used, same, omega arith)
 
   module _ (least : ℕ) (low : (n : ℕ) (key : NodeKey) → Contains nodes n → slice_get f.keys.keys n ≡ Some key → least ≤ key.origin) (whole : end ≡ place_of r → least ≡ 0)
       (met : end ≢ place_of r → (key : NodeKey) × IsUsedIn w ranking r key × (key.end ≡ end) × (key.origin ≤ least)) where

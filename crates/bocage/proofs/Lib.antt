@@ -8,6 +8,7 @@ pub mod Joining
 pub mod Finishing
 pub mod Moving
 pub mod Visiting
+pub mod Chained
 pub mod Telling
 pub mod Counting
 pub mod Asking

@@ -5,15 +5,15 @@ use Rattle.std.proofs.lemmas.List.Elements.{Contains-push_cases}
 use Rattle.grammar_model.specs.declared.Ranking.{Ranking}
 use Rattle.grammar_model.specs.Grammar.{Grammar}
 use Rattle.recognizer_model.specs.declared.NodeKey.{NodeKey}
-use Rattle.earley_sets.specs.Recognizer.{Recognizer, place_of, set_at}
+use Rattle.earley_sets.specs.Recognizer.{Recognizer, place_of}
 use Rattle.earley_sets.proofs.Membership.{Contains-none, got_at, got_item, found_at}
 use Rattle.forest_parts.proofs.RowLemmas.{one_more_taken, get_more}
 use Rattle.bocage.specs.declared.rows.AlternativeRow.{AlternativeRow}
 use Rattle.bocage.specs.declared.walk.Known.{Known}
 use Rattle.bocage.specs.declared.walk.Found.{Found}
-use Rattle.bocage.specs.Walk.{IsRead, Knows, IsUsedIn, IsNew, AreNoted, GrowsBy, ListsKey, node_of_item, top_key}
-use Rattle.bocage.specs.Ends.{SetsRow, IsKnownNode, HasRow, Goes, Visits, IsReady, IsGoing, AreVisited}
-use Rattle.bocage.proofs.Splits.{used_waits, read_of}
+use Rattle.bocage.specs.Walk.{IsRead, Knows, IsUsedIn, IsNew, AreNoted, GrowsBy, ListsKey, top_key}
+use Rattle.bocage.specs.Chains.{EndsAt}
+use Rattle.bocage.specs.Ends.{SetsRow, HasRow, Goes, Visits, IsReady, IsGoing, AreVisited}
 use Rattle.std.proofs.Math.ListN.{set}
 use Rattle.forest_parts.proofs.Spans.{last_is}
 use Rattle.bocage.proofs.Growing.{map_both, grows_none, grows_then}
@@ -217,7 +217,7 @@ module _ (k : Known) where
 
 module _ (k : Known) (knows : Knows k) (first : ℕ) (nodes : List ℕ) (old mid new : Found) (t u v : List (List AlternativeRow))
     (going : IsGoing k.written.now k.ranking k.recce.now k.end first old t)
-    (listed : (n : ℕ) → Contains nodes n ↔ ((n < first) × IsKnownNode k.recce.now k.end old.keys.keys n))
+    (listed : (n : ℕ) → Contains nodes n ↔ ((n < first) × EndsAt old.keys.keys k.end n))
     (one : Goes k old mid t u) (two : Goes k mid new u v)
     (have : (n : ℕ) (key : NodeKey) → Contains nodes n → slice_get old.keys.keys n ≡ Some key → HasRow k.written.now k.ranking k.recce.now mid.keys.keys mid.wholes.items u n key)
     (have_new : (n : ℕ) (key : NodeKey) → first ≤ n → slice_get new.keys.keys n ≡ Some key → key.end ≡ k.end → HasRow k.written.now k.ranking k.recce.now new.keys.keys new.wholes.items v n key) where
@@ -245,15 +245,7 @@ module _ (k : Known) (knows : Knows k) (first : ℕ) (nodes : List ℕ) (old mid
       here n key at end = elim (cases_lt n first) [
         | inl lt ↦
             let at' = old_at n key at lt in
-            let used = going.used key (got_item old.keys.keys n key (sym at')) in
-            let waits = going.waits n key at' (inl lt) (omega arith) in
-            let held = used_waits k.written.now k.ranking k.recce.now (read_of k knows) key used waits in
-            let is : IsKnownNode k.recce.now k.end old.keys.keys n = (
-              record { rule = key.rule; dot = key.dot; origin = key.origin },
-              subst (λ z. Contains (set_at k.recce.now z) (record { rule = key.rule; dot = key.dot; origin = key.origin })) end held,
-              at' ∙ (λ i. Some (record { rule = key.rule; dot = key.dot; origin = key.origin; end = end i })),
-            ) in
-            let row = have n key ((listed n).1 (lt, is)) at' in
+            let row = have n key ((listed n).1 (lt, (key, at', end))) at' in
             two.keeps n key (still_at (IsNew k) old.keys.keys mid.keys.keys one.keys n key at') row
         | inr ge ↦ have_new n key ge at end
       ]
@@ -271,17 +263,11 @@ new_ready k first old mid t u going goes whole n key le at end = record {
 
 -- a listed node is ready
 pub listed_ready : (k : Known) (first : ℕ) (old : Found) (t : List (List AlternativeRow)) (nodes : List ℕ) → IsGoing k.written.now k.ranking k.recce.now k.end first old t →
-    ((n : ℕ) → Contains nodes n ↔ ((n < first) × IsKnownNode k.recce.now k.end old.keys.keys n)) → ((n : ℕ) (key : NodeKey) → Contains nodes n → slice_get old.keys.keys n ≡ Some key → k.least ≤ key.origin) →
+    ((n : ℕ) → Contains nodes n ↔ ((n < first) × EndsAt old.keys.keys k.end n)) → ((n : ℕ) (key : NodeKey) → Contains nodes n → slice_get old.keys.keys n ≡ Some key → k.least ≤ key.origin) →
     (n : ℕ) → Contains nodes n → IsReady k old.keys.keys n
 listed_ready k first old t nodes going listed least n h =
-    let (lt, (item, held, at)) = (listed n).0 h in
-    record {
-      key = node_of_item item k.end;
-      at = at;
-      used = going.used (node_of_item item k.end) (got_item old.keys.keys n (node_of_item item k.end) (sym at));
-      end = refl;
-      least = least n (node_of_item item k.end) h at;
-    }
+    let (lt, (key, at, end)) = (listed n).0 h in
+    record { key = key; at = at; used = going.used key (got_item old.keys.keys n key (sym at)); end = end; least = least n key h at }
 
 module _ (w : Grammar) (ranking : Ranking) (r : Recognizer) where
   -- at the last place
@@ -308,22 +294,14 @@ module _ (w : Grammar) (ranking : Ranking) (r : Recognizer) where
 
   -- where no node ends there is nothing to visit
   pub none_visited : IsRead w r → (end first : ℕ) (f : Found) (table : List (List AlternativeRow)) (nodes : List ℕ) → IsGoing w ranking r end first f table → length nodes ≡ 0 → (end ≢ place_of r) →
-      ((n : ℕ) → Contains nodes n ↔ ((n < first) × IsKnownNode r end f.keys.keys n)) → AreVisited w ranking r end f table
+      ((n : ℕ) → Contains nodes n ↔ ((n < first) × EndsAt f.keys.keys end n)) → AreVisited w ranking r end f table
   none_visited read end first f table nodes going empty inner listed = record {
     visited = λ n key at le. elim (cases_lt end key.end) [
       | inl lt ↦ going.visited n key at lt
       | inr ge ↦
           let same : key.end ≡ end = omega arith in
           elim (cases_lt n first) [
-            | inl lt ↦
-                let used = going.used key (got_item f.keys.keys n key (sym at)) in
-                let held = used_waits w ranking r read key used (going.waits n key at (inl lt) (omega arith)) in
-                let is : IsKnownNode r end f.keys.keys n = (
-                  record { rule = key.rule; dot = key.dot; origin = key.origin },
-                  subst (λ z. Contains (set_at r z) (record { rule = key.rule; dot = key.dot; origin = key.origin })) same held,
-                  at ∙ (λ i. Some (record { rule = key.rule; dot = key.dot; origin = key.origin; end = same i })),
-                ) in
-                absurd (Contains-none n (subst (λ l. Contains l n) (none_of nodes empty) ((listed n).1 (lt, is))))
+            | inl lt ↦ absurd (Contains-none n (subst (λ l. Contains l n) (none_of nodes empty) ((listed n).1 (lt, (key, at, same)))))
             | inr after ↦ absurd (inner (going.begun n key at after same))
           ]
     ];

@@ -2,25 +2,20 @@
 use Rattle.std.specs.Prelude.{◌≡◌, ◌≢◌, ℕ, ◌<◌, ◌≤◌, ◌⊎◌, List, Some, length, map, slice_get, Contains}
 use Rattle.grammar_model.specs.declared.Ranking.{Ranking}
 use Rattle.grammar_model.specs.Grammar.{Grammar}
-use Rattle.recognizer_model.specs.declared.Item.{Item}
 use Rattle.recognizer_model.specs.declared.NodeKey.{NodeKey}
 use Rattle.recognizer_model.specs.Flat.{rhs_of}
-use Rattle.earley_sets.specs.Recognizer.{Recognizer, place_of, set_at}
+use Rattle.earley_sets.specs.Recognizer.{Recognizer, place_of}
 use Rattle.forest_model.specs.Forest.{AreAlternatives}
 use Rattle.bocage.specs.declared.rows.AlternativeRow.{AlternativeRow}
 use Rattle.bocage.specs.declared.walk.Known.{Known}
 use Rattle.bocage.specs.declared.walk.Found.{Found}
 use Rattle.bocage.specs.Rows.{alternative_of, AreWithin}
-use Rattle.bocage.specs.Walk.{seen, AreNoted, GrowsBy, IsNew, IsUsedIn, node_of_item, top_key}
+use Rattle.bocage.specs.Walk.{seen, AreNoted, GrowsBy, IsNew, IsUsedIn, top_key}
 
 -- one node gets these alternatives, and no other changes
 pub record SetsRow (old new : List (List AlternativeRow)) (n : ℕ) (rows : List AlternativeRow) : Type 0 where
   pub same : (m : ℕ) (held : List AlternativeRow) → m ≢ n → slice_get old m ≡ Some held → slice_get new m ≡ Some held
   pub sets : slice_get new n ≡ Some rows
-
--- the node of an item in the set of the place
-abbrev pub IsKnownNode : Recognizer → (end : ℕ) → List NodeKey → ℕ → Type 0
-IsKnownNode r end keys n = (item : Item) × Contains (set_at r end) item × (slice_get keys n ≡ Some (node_of_item item end))
 
 -- the node has its alternatives
 pub record HasRow (w : Grammar) (ranking : Ranking) (r : Recognizer) (keys : List NodeKey) (wholes : List ℕ) (table : List (List AlternativeRow)) (n : ℕ) (key : NodeKey) : Type 0 where

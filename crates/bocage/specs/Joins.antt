@@ -1,5 +1,5 @@
 -- Items joined with the groups that may stand behind them.
-use Rattle.std.specs.Prelude.{◌≡◌, ℕ, ◌≤◌, List, Some, Contains, ◌↔◌, slice_get}
+use Rattle.std.specs.Prelude.{◌≡◌, ℕ, ◌≤◌, Bool, cond, ◌==◌, nat_lt, List, Some, Contains, ◌↔◌, slice_get}
 use Rattle.std.specs.List.Sorted.{IsStrictlySortedBy}
 use Rattle.std.specs.declared.cmp.Ordering.{Ordering}
 use Rattle.std.specs.Ordering.{ordering_then, nat_cmp}
@@ -14,6 +14,10 @@ join_cmp a b = ordering_then (nat_cmp a.rule b.rule) (ordering_then (nat_cmp a.d
 
 abbrev pub front_of_join : Join → Item
 front_of_join j = record { rule = j.rule; dot = j.dot; origin = j.origin }
+
+-- its item stands before that one
+abbrev pub before_item : Item → Join → Bool
+before_item front j = cond (j.rule == front.rule) (cond (j.dot == front.dot) (nat_lt j.origin front.origin) (nat_lt j.dot front.dot)) (nat_lt j.rule front.rule)
 
 -- its item waits for the group's symbol where the group begins, and does not begin too early
 abbrev pub IsJoinOf : Recognizer → (least : ℕ) → Group → Join → Type 0

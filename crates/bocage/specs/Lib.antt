@@ -3,4 +3,5 @@ pub mod Readers
 pub mod Expanded
 pub mod Joins
 pub mod Walk
+pub mod Chains
 pub mod Ends

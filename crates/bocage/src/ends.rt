@@ -6,11 +6,13 @@ ghost use Rattle.earley_sets.specs.Recognizer.{IsRecognizer, place_of, set_at};
 ghost use Rattle.forest_parts.specs.Hidden.{AreHidden, RisesBy, RisesWithin};
 ghost use Rattle.bocage.specs.Expanded.{IsExpandedIn, IsExpandedAt};
 ghost use Rattle.bocage.specs.Walk.{Knows, IsUsedIn, IsRead, GrowsBy, top_key};
-ghost use Rattle.bocage.specs.Ends.{SetsRow, IsKnownNode, Visits, Goes, HasRow, IsReady, IsGoing, AreVisited};
+ghost use Rattle.bocage.specs.Chains.{AreChained, EndsAt};
+ghost use Rattle.bocage.specs.Ends.{SetsRow, Visits, Goes, HasRow, IsReady, IsGoing, AreVisited};
 ghost use Rattle.bocage.specs.Walk.{AreGathered, AreNoted};
 ghost use Rattle.bocage.specs.declared.rows.LastRow.{LastRow as TheLastRow};
 
 use crate::ForestRefusal;
+use crate::chains::{Chains, list_nodes, new_chains};
 use crate::joins::{Join, list_joins};
 use crate::rows::{AlternativeRow, LastRow, key_at};
 use crate::walk::{Found, Known, differ, put_key};
@@ -68,63 +70,6 @@ fn set_row<'a>(
         table[node] = rows;
     } else {
         table.push(rows)?;
-    }
-    Ok(())
-}
-
-// The number of a node, if it was met.
-fn find(keys: &IndexSet<NodeKey>, key: NodeKey) -> Option<usize>
-    ensures some { IfSome result (λ n. slice_get keys.now.keys n ≡ Some key) }
-    ensures none { IsNone result → ¬ Contains keys.now.keys key }
-{
-    keys.get_index_of(&key)
-}
-
-// Lists the node of an item, if it is one of the first. What begins is no node.
-fn list_node(
-    keys: &IndexSet<NodeKey>,
-    first: usize,
-    key: NodeKey,
-    nodes: &mut Vec<usize>,
-) -> Result<(), ForestRefusal>
-    requires { Contains keys.now.keys key → 0 < key.dot }
-    ensures { OnOk result ((n : ℕ) → Contains nodes.new.items n ↔ (Contains nodes.old.items n ⊎ ((n < first) × (slice_get keys.now.keys n ≡ Some key)))) }
-{
-    if key.dot == 0 {
-        return Ok(());
-    }
-    differ(keys);
-    if let Some(node) = find(keys, key) {
-        if node < first {
-            nodes.push(node)?;
-        }
-    }
-    Ok(())
-}
-
-// Lists those of the first nodes that end at a place and have no alternatives yet.
-fn list_nodes(
-    recce: &Recce<'_>,
-    end: u32,
-    keys: &IndexSet<NodeKey>,
-    first: usize,
-    nodes: &mut Vec<usize>,
-) -> Result<(), ForestRefusal>
-    requires end { end ≤ place_of recce.now }
-    requires begun { (key : TheKey) → Contains keys.now.keys key → 0 < key.dot }
-    ensures { OnOk result ((n : ℕ) → Contains nodes.new.items n ↔ ((n < first) × IsKnownNode recce.now end keys.now.keys n)) }
-{
-    nodes.clear();
-    let set = recce.kept(end);
-    for k in 0..set.len() {
-        let item = set.at(k);
-        let key = NodeKey {
-            rule: item.rule,
-            dot: item.dot,
-            origin: item.origin,
-            end,
-        };
-        list_node(keys, first, key, nodes)?;
     }
     Ok(())
 }
@@ -294,7 +239,7 @@ fn visit_from<'a>(
     requires end { end ≤ place_of recce.now }
     requires hidden { AreHidden recce.now end least hidden.now }
     requires going { IsGoing w.now ranking recce.now end first found.old (map (λ r. r.now) table.old.items) }
-    requires nodes { (n : ℕ) → Contains work.old.nodes.items n ↔ ((n < first) × IsKnownNode recce.now end found.old.keys.keys n) }
+    requires nodes { (n : ℕ) → Contains work.old.nodes.items n ↔ ((n < first) × EndsAt found.old.keys.keys end n) }
     requires least { (n : ℕ) (key : TheKey) → Contains work.old.nodes.items n → slice_get found.old.keys.keys n ≡ Some key → least ≤ key.origin }
     requires whole { end ≡ place_of recce.now → least ≡ 0 }
     ensures visited { OnOk result (AreVisited w.now ranking recce.now end found.new (map (λ r. r.now) table.new.items)) }
@@ -327,6 +272,7 @@ fn visit_end<'a, L: Ledger>(
     arena: &'a Bump,
     end: u32,
     first: usize,
+    chains: &mut Chains,
     found: &mut Found,
     table: &mut Vec<&'a [AlternativeRow]>,
     work: &mut Work,
@@ -335,12 +281,15 @@ fn visit_end<'a, L: Ledger>(
     requires read { IsRead w.now recce.now }
     requires end { end ≤ place_of recce.now }
     requires going { IsGoing w.now ranking recce.now end first found.old (map (λ r. r.now) table.old.items) }
+    requires few { length chains.old.below.items ≤ first }
+    requires chained { AreChained found.old.keys.keys chains.old.heads.items chains.old.below.items }
+    ensures chained { OnOk result (AreChained found.new.keys.keys chains.new.heads.items chains.new.below.items) }
     ensures visited { OnOk result (AreVisited w.now ranking recce.now end found.new (map (λ r. r.now) table.new.items)) }
     ensures grows { OnOk result (GrowsBy (IsUsedIn w.now ranking recce.now) found.old.keys.keys found.new.keys.keys) }
     ensures expanded { OnOk result (RisesBy (IsExpandedAt w.now ranking recce.now end) work.old.expanded work.new.expanded) }
     ensures counted { RisesWithin (IsExpandedAt w.now ranking recce.now end) steps.old steps.new }
 {
-    list_nodes(recce, end, &found.keys, first, &mut work.nodes)?;
+    list_nodes(&found.keys, first, end, chains, &mut work.nodes)?;
     let whole = end == recce.place();
     if work.nodes.as_slice().is_empty() && !whole {
         return Ok(());
@@ -374,15 +323,38 @@ pub fn walk<'a, L: Ledger>(
     ensures counted { RisesWithin (IsExpandedIn w.now ranking recce.now) steps.old steps.new }
 {
     let mut table = Vec::new(alloc);
+    let mut chains = new_chains(alloc);
     let place = recce.place();
     visit_end(
-        alloc, recce, w, ranking, arena, place, 0, found, &mut table, work, steps,
+        alloc,
+        recce,
+        w,
+        ranking,
+        arena,
+        place,
+        0,
+        &mut chains,
+        found,
+        &mut table,
+        work,
+        steps,
     )?;
     for back in 0..place {
         let first = found.keys.as_slice().len();
         let end = place - 1 - back;
         visit_end(
-            alloc, recce, w, ranking, arena, end, first, found, &mut table, work, steps,
+            alloc,
+            recce,
+            w,
+            ranking,
+            arena,
+            end,
+            first,
+            &mut chains,
+            found,
+            &mut table,
+            work,
+            steps,
         )?;
     }
     Ok(table)

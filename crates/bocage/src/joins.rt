@@ -1,11 +1,11 @@
 //! The first parts of a node, joined with the parts that may stand behind them.
-ghost use Rattle.std.specs.Prelude.{◌≡◌, ℕ, ◌<◌, ◌≤◌, ◌↔◌, ◌⊎◌, ◌^◌, length, OnOk, IfOk, Contains, Some, slice_get};
+ghost use Rattle.std.specs.Prelude.{◌≡◌, ℕ, true, false, ◌<◌, ◌≤◌, ◌↔◌, ◌⊎◌, length, OnOk, IfOk, IsTrue, Contains, Some, slice_get};
 ghost use Rattle.std.specs.List.Sorted.{IsStrictlySortedBy};
 ghost use Rattle.earley_sets.specs.Recognizer.{place_of, set_at};
 ghost use Rattle.forest_parts.specs.Lists.{between};
 ghost use Rattle.forest_parts.specs.declared.groups.Group.{Group as TheGroup};
 ghost use Rattle.bocage.specs.declared.joins.Join.{Join as TheJoin};
-ghost use Rattle.bocage.specs.Joins.{join_cmp, front_of_join, IsJoinOf, AreJoins};
+ghost use Rattle.bocage.specs.Joins.{join_cmp, front_of_join, before_item, IsJoinOf, AreJoins};
 
 use crate::ForestRefusal;
 use crate::rows::number;
@@ -93,40 +93,49 @@ fn joins_between(joins: &[Join], first: usize, past: usize) -> &[Join]
     &joins[first..past]
 }
 
-// Those of the joins that have a rule.
-fn joins_of_rule(joins: &[Join], rule: u32) -> &[Join]
-    requires sorted { IsStrictlySortedBy join_cmp joins.now }
-    ensures sorted { IsStrictlySortedBy join_cmp result.now }
-    ensures exact { (j : TheJoin) → Contains result.now j ↔ (Contains joins.now j × (j.rule ≡ rule)) }
+// Whether the item of a join stands before another.
+fn is_before(join: Join, front: Item) -> bool
+    ensures { result ≡ before_item front join }
 {
-    let first = joins.partition_point(|join| join.rule < rule);
-    let past = joins.partition_point(|join| join.rule <= rule);
-    joins_between(joins, first, past)
+    if join.rule != front.rule {
+        join.rule < front.rule
+    } else if join.dot != front.dot {
+        join.dot < front.dot
+    } else {
+        join.origin < front.origin
+    }
 }
 
-// Those of the joins, which all have one rule, that have a dot.
-fn joins_of_dot(joins: &[Join], dot: u32) -> &[Join]
-    requires sorted { IsStrictlySortedBy join_cmp joins.now }
-    requires rules { (i j : TheJoin) → Contains joins.now i → Contains joins.now j → i.rule ≡ j.rule }
-    ensures sorted { IsStrictlySortedBy join_cmp result.now }
-    ensures exact { (j : TheJoin) → Contains result.now j ↔ (Contains joins.now j × (j.dot ≡ dot)) }
+fn has_item(join: Join, front: Item) -> bool
+    ensures { IsTrue result ↔ (front_of_join join ≡ front) }
 {
-    let first = joins.partition_point(|join| join.dot < dot);
-    let past = joins.partition_point(|join| join.dot <= dot);
-    joins_between(joins, first, past)
+    join.origin == front.origin && join.dot == front.dot && join.rule == front.rule
 }
 
-// Those of the joins, which all have one rule and one dot, that have an origin.
-fn joins_of_origin(joins: &[Join], origin: u32) -> &[Join]
-    requires sorted { IsStrictlySortedBy join_cmp joins.now }
-    requires rules { (i j : TheJoin) → Contains joins.now i → Contains joins.now j → i.rule ≡ j.rule }
-    requires dots { (i j : TheJoin) → Contains joins.now i → Contains joins.now j → i.dot ≡ j.dot }
-    ensures sorted { IsStrictlySortedBy join_cmp result.now }
-    ensures exact { (j : TheJoin) → Contains result.now j ↔ (Contains joins.now j × (j.origin ≡ origin)) }
+// How many of the joins have items that stand before another.
+fn count_before(joins: &[Join], front: Item) -> usize
+    requires { IsStrictlySortedBy join_cmp joins.now }
+    ensures bound { result ≤ length joins.now }
+    ensures before { (k : ℕ) (j : TheJoin) → k < result → slice_get joins.now k ≡ Some j → before_item front j ≡ true }
+    ensures behind { (k : ℕ) (j : TheJoin) → result ≤ k → slice_get joins.now k ≡ Some j → before_item front j ≡ false }
 {
-    let first = joins.partition_point(|join| join.origin < origin);
-    let past = joins.partition_point(|join| join.origin <= origin);
-    joins_between(joins, first, past)
+    joins.partition_point(|join| is_before(*join, front))
+}
+
+// Where those end that have an item, from one place on.
+fn end_of_item(joins: &[Join], first: usize, front: Item) -> usize
+    requires { first ≤ length joins.now }
+    ensures order { first ≤ result }
+    ensures bound { result ≤ length joins.now }
+    ensures same { (k : ℕ) (j : TheJoin) → first ≤ k → k < result → slice_get joins.now k ≡ Some j → front_of_join j ≡ front }
+    ensures other { (j : TheJoin) → slice_get joins.now result ≡ Some j → ¬ (front_of_join j ≡ front) }
+{
+    for past in first..joins.len() {
+        if !has_item(joins[past], front) {
+            return past;
+        }
+    }
+    joins.len()
 }
 
 /// Those of the joins that have an item.
@@ -135,8 +144,7 @@ pub fn joins_of(joins: &[Join], front: Item) -> &[Join]
     ensures sorted { IsStrictlySortedBy join_cmp result.now }
     ensures exact { (j : TheJoin) → Contains result.now j ↔ (Contains joins.now j × (front_of_join j ≡ front)) }
 {
-    joins_of_origin(
-        joins_of_dot(joins_of_rule(joins, front.rule), front.dot),
-        front.origin,
-    )
+    let first = count_before(joins, front);
+    let past = end_of_item(joins, first, front);
+    joins_between(joins, first, past)
 }

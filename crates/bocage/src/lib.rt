@@ -1,6 +1,7 @@
 //! The shared packed forest of a reading: the chosen derivations of the start, each way to derive the first parts of a rule over a span once.
 #![tactic(auto)]
 
+mod chains;
 mod ends;
 mod forest;
 mod joins;

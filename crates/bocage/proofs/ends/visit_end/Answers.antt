@@ -4,8 +4,10 @@ use Rattle.std.proofs.lemmas.Result.{on_ok_weaker}
 use Rattle.recognizer_model.specs.declared.Item.{Item}
 use Rattle.earley_sets.proofs.Membership.{Contains-none}
 use Rattle.forest_parts.specs.Hidden.{IsHiddenFrom, RisesBy}
-use Rattle.bocage.specs.Ends.{IsKnownNode}
+use Rattle.bocage.specs.Chains.{EndsAt}
 use Rattle.bocage.specs.Expanded.{IsExpandedAt}
+use Rattle.bocage.specs.Walk.{IsUsedIn}
+use Rattle.bocage.proofs.Chained.{chained_more}
 use Rattle.bocage.proofs.Visiting.{none_of, none_visited}
 use Rattle.bocage.proofs.Counting.{rises_of, rises_by_of, rises_none_by}
 use Rattle.bocage.proofs.Expanding.{none_expanded, given_expanded}
@@ -17,19 +19,19 @@ pub returns-then-not-whole-clause-visited : goal.returns-then-not-whole-clause-v
 returns-then-not-whole-clause-visited g c =
     none_visited c.args.w.now c.args.ranking c.args.recce.now c.requires.read c.args.end c.args.first c.args.found.now (map (λ r. r.now) c.args.table.now.items) c.as_slice.result.now c.requires.going
     (eqb-true (length c.as_slice.result.now) 0 (sym c.is_empty.ensures ∙ c.if-is_empty.true)) (λ e. c.if-not-whole.true (e ∙ sym c.place.ensures.place))
-    (λ n. subst (λ (l : List ℕ). Contains l n ↔ ((n < c.args.first) × IsKnownNode c.args.recce.now c.args.end c.args.found.now.keys.keys n)) (sym c.as_slice.ensures.value) (c.in_ok-list_nodes.ensures n))
+    (λ n. subst (λ (l : List ℕ). Contains l n ↔ ((n < c.args.first) × EndsAt c.args.found.now.keys.keys c.args.end n)) (sym c.as_slice.ensures.value) (c.in_ok-list_nodes.ensures.listed n))
 
-pub list_nodes-requires-clause-begun : goal.list_nodes-requires-clause-begun
-list_nodes-requires-clause-begun g c key h = (c.requires.going.used key h).some
+pub list_nodes-requires-clause-first : goal.list_nodes-requires-clause-first
+list_nodes-requires-clause-first g c = c.requires.going.few
 
 pub least_origin-least-requires : goal.least_origin-least-requires
 least_origin-least-requires g c n h =
-    let (lt, known) = (c.in_ok-list_nodes.ensures n).0 (subst (λ (l : List ℕ). Contains l n) c.deref.ensures.value h) in
+    let (lt, known) = (c.in_ok-list_nodes.ensures.listed n).0 (subst (λ (l : List ℕ). Contains l n) c.deref.ensures.value h) in
     let few = c.requires.going.few in
     omega arith
 
 pub visit_from-requires-clause-nodes : goal.visit_from-requires-clause-nodes
-visit_from-requires-clause-nodes g c = c.in_ok-list_nodes.ensures
+visit_from-requires-clause-nodes g c = c.in_ok-list_nodes.ensures.listed
 
 pub visit_from-requires-clause-least : goal.visit_from-requires-clause-least
 visit_from-requires-clause-least g c n key h at = c.least_origin-least.ensures.nodes n key (subst (λ (l : List ℕ). Contains l n) (sym c.deref.ensures.value) h) at
@@ -45,7 +47,7 @@ visit_from-requires-clause-whole g c e =
 pub returns-then-not-whole-clause-expanded : goal.returns-then-not-whole-clause-expanded
 returns-then-not-whole-clause-expanded g c =
     rises_none_by (IsExpandedAt c.args.w.now c.args.ranking c.args.recce.now c.args.end) c.args.work.now.expanded
-    (none_expanded c.args.w.now c.args.ranking c.args.recce.now c.requires.read c.args.end c.args.first c.args.found.now (map (λ r. r.now) c.args.table.now.items) c.requires.going c.list_nodes.new.nodes.items c.in_ok-list_nodes.ensures
+    (none_expanded c.args.w.now c.args.ranking c.args.recce.now c.requires.read c.args.end c.args.first c.args.found.now (map (λ r. r.now) c.args.table.now.items) c.requires.going c.list_nodes.new.nodes.items c.in_ok-list_nodes.ensures.listed
     (λ e. c.if-not-whole.true (e ∙ sym c.place.ensures.place))
     (λ n h. Contains-none n (subst (λ (l : List ℕ). Contains l n) (sym c.as_slice.ensures.value ∙ none_of c.as_slice.result.now (eqb-true (length c.as_slice.result.now) 0 (sym c.is_empty.ensures ∙ c.if-is_empty.true))) h)))
 
@@ -57,7 +59,7 @@ pub returns-in_err-hidden-clause-counted : goal.returns-in_err-hidden-clause-cou
 returns-in_err-hidden-clause-counted g c =
     rises_of (IsHiddenFrom c.args.recce.now c.args.end c.least_origin-least.result) (IsExpandedAt c.args.w.now c.args.ranking c.args.recce.now c.args.end) c.args.steps.now c.list_hidden.new.steps
     (λ item h. (given_expanded c.args.w.now c.args.ranking c.args.recce.now c.requires.read c.args.end c.args.first c.args.found.now (map (λ r. r.now) c.args.table.now.items) c.requires.going c.deref.result.now
-    (λ n. subst (λ (l : List ℕ). Contains l n ↔ ((n < c.args.first) × IsKnownNode c.args.recce.now c.args.end c.args.found.now.keys.keys n)) (sym c.deref.ensures.value) (c.in_ok-list_nodes.ensures n))
+    (λ n. subst (λ (l : List ℕ). Contains l n ↔ ((n < c.args.first) × EndsAt c.args.found.now.keys.keys c.args.end n)) (sym c.deref.ensures.value) (c.in_ok-list_nodes.ensures.listed n))
     c.if-whole.lowest c.least_origin-least.result c.least_origin-least.ensures.nodes c.least_origin-least.ensures.bound c.least_origin-least.ensures.met
     (λ e. elim c.if-whole.branch [ then-whole w ↦ w.lowest-is | else-whole w ↦ absurd (w.if-whole.false (e ∙ sym c.place.ensures.place)) ])
     (λ n. (
@@ -73,7 +75,7 @@ returns-in_err-hidden-clause-counted g c =
 is_given : (g : given.Over) → (c : goal.After-drop-hidden g) → (item : Item) → IsHiddenFrom c.args.recce.now c.args.end c.least_origin-least.result item ↔ IsExpandedAt c.args.w.now c.args.ranking c.args.recce.now c.args.end item
 is_given g c =
     given_expanded c.args.w.now c.args.ranking c.args.recce.now c.requires.read c.args.end c.args.first c.args.found.now (map (λ r. r.now) c.args.table.now.items) c.requires.going c.deref.result.now
-    (λ n. subst (λ (l : List ℕ). Contains l n ↔ ((n < c.args.first) × IsKnownNode c.args.recce.now c.args.end c.args.found.now.keys.keys n)) (sym c.deref.ensures.value) (c.in_ok-list_nodes.ensures n))
+    (λ n. subst (λ (l : List ℕ). Contains l n ↔ ((n < c.args.first) × EndsAt c.args.found.now.keys.keys c.args.end n)) (sym c.deref.ensures.value) (c.in_ok-list_nodes.ensures.listed n))
     c.if-whole.lowest c.least_origin-least.result c.least_origin-least.ensures.nodes c.least_origin-least.ensures.bound c.least_origin-least.ensures.met
     (λ e. elim c.if-whole.branch [ then-whole w ↦ w.lowest-is | else-whole w ↦ absurd (w.if-whole.false (e ∙ sym c.place.ensures.place)) ])
     (λ n. (
@@ -94,3 +96,9 @@ returns-clause-expanded g c =
 pub returns-clause-counted : goal.returns-clause-counted
 returns-clause-counted g c =
     rises_of (IsHiddenFrom c.args.recce.now c.args.end c.least_origin-least.result) (IsExpandedAt c.args.w.now c.args.ranking c.args.recce.now c.args.end) c.args.steps.now c.list_hidden.new.steps (λ item. (is_given g c item).0) c.in_ok-hidden.ensures.counted
+
+pub returns-clause-chained : goal.returns-clause-chained
+returns-clause-chained g c =
+    on_ok_weaker c.visit_from.result
+    (λ grows. chained_more (IsUsedIn c.args.w.now c.args.ranking c.args.recce.now) c.args.found.now.keys.keys c.visit_from.new.found.keys.keys c.list_nodes.new.chains.heads.items c.list_nodes.new.chains.below.items grows c.in_ok-list_nodes.ensures.chained)
+    c.visit_from.ensures.grows

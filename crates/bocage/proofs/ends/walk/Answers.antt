@@ -1,4 +1,4 @@
-use Rattle.std.proofs.Common.{◌≡◌, ◌-◌, ◌+◌, suc, List, length, map, sym, subst, arith}
+use Rattle.std.proofs.Common.{◌≡◌, ◌≤◌, ◌-◌, ◌+◌, ℕ, suc, List, length, map, sym, ap, subst, arith}
 use Rattle.recognizer_model.specs.declared.NodeKey.{NodeKey}
 use Rattle.bocage.specs.Walk.{IsUsedIn}
 use Rattle.recognizer_model.specs.Counts.{IsCountOf}
@@ -7,6 +7,7 @@ use Rattle.bocage.specs.Ends.{IsGoing, AreVisited}
 use Rattle.bocage.specs.Expanded.{IsExpandedFrom}
 use Rattle.bocage.proofs.Expanding.{within_first, within_more, within_all, count_first, count_more, count_all}
 use Rattle.bocage.proofs.Growing.{grows_then}
+use Rattle.bocage.proofs.Chained.{none_chained}
 use Rattle.bocage.proofs.Visiting.{going_first, going_next}
 use Rattle.bocage.proofs.ends.walk.Goals as goal
 
@@ -20,6 +21,7 @@ loop-back-init g c =
     let e : c.place-place.result ≡ c.place-place.result - 0 = omega arith in
     record {
       visited = subst (λ p. AreVisited c.args.w.now c.args.ranking c.args.recce.now p c.visit_end.new.found (map (λ r. r.now) c.visit_end.new.table.items)) e c.in_ok-visit_end.ensures.visited;
+      chained = c.in_ok-visit_end.ensures.chained;
       grows = c.in_ok-visit_end.ensures.grows;
       counted = subst (λ p. RisesWithin (IsExpandedFrom c.args.w.now c.args.ranking c.args.recce.now p) c.args.steps.now c.visit_end.new.steps) e (within_first c.args.w.now c.args.ranking c.args.recce.now c.place-place.result c.args.steps.now c.visit_end.new.steps c.place-place.ensures.place c.in_ok-visit_end.ensures.counted);
       expanded = subst (λ p. IsCountOf (IsExpandedFrom c.args.w.now c.args.ranking c.args.recce.now p) c.visit_end.new.work.expanded) e (count_first c.args.w.now c.args.ranking c.args.recce.now c.requires.read c.place-place.result c.args.work.now.expanded c.visit_end.new.work.expanded c.place-place.ensures.place c.requires.start c.in_ok-visit_end.ensures.expanded);
@@ -41,6 +43,7 @@ loop-back-preserved g c =
     let end = c.place-place.result - 1 - c.loop-back.back in
     record {
       visited = subst (λ p. AreVisited c.args.w.now c.args.ranking c.args.recce.now p c.visit_end-in-loop-back.new.found (map (λ r. r.now) c.visit_end-in-loop-back.new.table.items)) e c.in_ok-visit_end-2.ensures.visited;
+      chained = c.in_ok-visit_end-2.ensures.chained;
       grows = grows_then (IsUsedIn c.args.w.now c.args.ranking c.args.recce.now) c.args.found.now.keys.keys c.loop-back.found.keys.keys c.visit_end-in-loop-back.new.found.keys.keys c.loop-back.invariant.grows c.in_ok-visit_end-2.ensures.grows;
       counted = subst (λ p. RisesWithin (IsExpandedFrom c.args.w.now c.args.ranking c.args.recce.now p) c.args.steps.now c.visit_end-in-loop-back.new.steps) e (within_more c.args.w.now c.args.ranking c.args.recce.now end c.args.steps.now c.loop-back.steps c.visit_end-in-loop-back.new.steps (subst (λ p. RisesWithin (IsExpandedFrom c.args.w.now c.args.ranking c.args.recce.now p) c.args.steps.now c.loop-back.steps) q c.loop-back.invariant.counted) c.in_ok-visit_end-2.ensures.counted);
       expanded = subst (λ p. IsCountOf (IsExpandedFrom c.args.w.now c.args.ranking c.args.recce.now p) c.visit_end-in-loop-back.new.work.expanded) e (count_more c.args.w.now c.args.ranking c.args.recce.now end c.loop-back.work.expanded c.visit_end-in-loop-back.new.work.expanded (subst (λ p. IsCountOf (IsExpandedFrom c.args.w.now c.args.ranking c.args.recce.now p) c.loop-back.work.expanded) q c.loop-back.invariant.expanded) c.in_ok-visit_end-2.ensures.expanded);
@@ -73,3 +76,15 @@ returns-in_err-visit_end-2-clause-counted g c =
     let end = c.place-place.result - 1 - c.loop-back.back in
     within_all c.args.w.now c.args.ranking c.args.recce.now end c.args.steps.now c.visit_end-in-loop-back.new.steps
     (within_more c.args.w.now c.args.ranking c.args.recce.now end c.args.steps.now c.loop-back.steps c.visit_end-in-loop-back.new.steps (subst (λ p. RisesWithin (IsExpandedFrom c.args.w.now c.args.ranking c.args.recce.now p) c.args.steps.now c.loop-back.steps) q c.loop-back.invariant.counted) c.in_err-visit_end-2.ensures.counted)
+
+pub visit_end-requires-clause-few : goal.visit_end-requires-clause-few
+visit_end-requires-clause-few g c = let e = ap (λ (l : List ℕ). length l) c.new_chains-chains.ensures.below in omega arith
+
+pub visit_end-requires-clause-chained : goal.visit_end-requires-clause-chained
+visit_end-requires-clause-chained g c = none_chained c.args.found.now.keys.keys c.new_chains-chains.result.heads.items c.new_chains-chains.result.below.items c.new_chains-chains.ensures.heads c.new_chains-chains.ensures.below
+
+pub visit_end-requires-in-loop-back-clause-few : goal.visit_end-requires-in-loop-back-clause-few
+visit_end-requires-in-loop-back-clause-few g c = subst (λ (l : List NodeKey). length c.loop-back.chains.below.items ≤ length l) (sym c.as_slice-first.ensures.keys) c.loop-back.invariant.chained.few
+
+pub visit_end-requires-in-loop-back-clause-chained : goal.visit_end-requires-in-loop-back-clause-chained
+visit_end-requires-in-loop-back-clause-chained g c = c.loop-back.invariant.chained

@@ -1,6 +1,7 @@
 use Rattle.std.proofs.Common.{◌-◌, map}
 use Rattle.forest_parts.specs.Hidden.{RisesWithin}
 use Rattle.bocage.specs.Walk.{IsUsedIn, GrowsBy}
+use Rattle.bocage.specs.Chains.{AreChained}
 use Rattle.bocage.specs.Ends.{AreVisited}
 use Rattle.bocage.specs.Expanded.{IsExpandedFrom}
 use Rattle.recognizer_model.specs.Counts.{IsCountOf}
@@ -9,6 +10,7 @@ use Rattle.bocage.proofs.ends.walk.Given as goal
 abbrev pub invariant-loop-back : goal.invariant-loop-back
 invariant-loop-back g l = record {
   visited : AreVisited l.w l.ranking l.recce (l.place - l.back) l.found (map (λ r. r.now) l.table.items);
+  chained : AreChained l.found.keys.keys l.chains.heads.items l.chains.below.items;
   grows : GrowsBy (IsUsedIn l.w l.ranking l.recce) l.fn.found.keys.keys l.found.keys.keys;
   counted : RisesWithin (IsExpandedFrom l.w l.ranking l.recce (l.place - l.back)) l.fn.steps l.steps;
   expanded : IsCountOf (IsExpandedFrom l.w l.ranking l.recce (l.place - l.back)) l.work.expanded;
