@@ -116,6 +116,24 @@ fn read_timed<L: Ledger>(
     Ok(begun.elapsed(rt)?.as_micros())
 }
 
+// What came of reading the tokens, and of building the forest, if it is to be built.
+fn outcome_in<L: Ledger>(
+    rt: &HostRuntime,
+    begun: Instant,
+    recce: &mut Recce<'_>,
+    w: &Written,
+    word: Word,
+    count: u32,
+    builds: bool,
+    steps: &mut Steps<L>,
+) -> Result<Outcome, anyhow::Error>
+    requires checked { IsChecked w.now }
+    requires flat { IsFlatOf recce.old.flat w.now }
+{
+    let time = read_timed(rt, begun, recce, word, count, steps)?;
+    outcome_of(rt, recce, w, time, builds, steps)
+}
+
 // Reads the tokens, and may build the forest.
 fn run<L: Ledger>(
     rt: &HostRuntime,
@@ -132,8 +150,9 @@ fn run<L: Ledger>(
 {
     let begun = Instant::now(rt)?;
     let mut recce = Recce::new(rt.alloc(), flat, 0)?;
-    let time = read_timed(rt, begun, &mut recce, word, count, steps)?;
-    outcome_of(rt, &recce, w, time, builds, steps)
+    let outcome = outcome_in(rt, begun, &mut recce, w, word, count, builds, steps);
+    drop(recce);
+    outcome
 }
 
 fn run_with<L: Ledger>(

@@ -6,6 +6,8 @@ mod devices;
 #[cfg(test)]
 mod faults;
 #[cfg(test)]
+mod large;
+#[cfg(test)]
 mod refused;
 #[cfg(test)]
 mod runs;

@@ -19,6 +19,8 @@ pub struct Given<'a> {
     pub grammar: &'a [u8],
     pub file: &'a [u8],
     pub input: &'a [u8],
+    /// how many bytes of the input are read at once
+    pub gives: usize,
     pub files_fail: &'a [u64],
     pub input_fails: &'a [u64],
     pub out_fails: &'a [u64],
@@ -95,6 +97,7 @@ pub const SUM: Given<'static> = Given {
     grammar: SUMS,
     file: b"1+",
     input: b"1+2+3",
+    gives: 2,
     files_fail: &[],
     input_fails: &[],
     out_fails: &[],
@@ -183,10 +186,9 @@ fn files_of(alloc: Global, given: &Given<'_>) -> Result<MemFiles, AllocError> {
     Ok(MemFiles::new(alloc, held, given.files_fail.to_vec(alloc)?))
 }
 
-// The input, of which two bytes are read at once.
 fn input_of(alloc: Global, given: &Given<'_>) -> Result<MemSource, AllocError> {
     let fails = given.input_fails.to_vec(alloc)?;
-    Ok(MemSource::new(given.input.to_vec(alloc)?, 2, fails))
+    Ok(MemSource::new(given.input.to_vec(alloc)?, given.gives.max(1), fails))
 }
 
 // A stream that takes ten bytes at once.

@@ -72,7 +72,10 @@ pub fn read_text<'p, L: Ledger>(
     let reading = read_input(alloc, prepared, chars, steps)?;
     match ended(alloc, prepared, chars, &reading) {
         Ok(()) => Ok(reading),
-        Err(refusal) => Err(refusal),
+        Err(refusal) => {
+            drop(reading);
+            Err(refusal)
+        }
     }
 }
 
