@@ -18,4 +18,3 @@ pub mod Readying
 pub mod Granting
 pub mod SetNames
 pub mod OwnLemmas
-pub mod ResolvingLemmas

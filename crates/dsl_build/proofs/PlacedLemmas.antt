@@ -1,5 +1,5 @@
 -- Tokens and texts, each once.
-use Rattle.std.proofs.Common.{◌≡◌, ℕ, ◌+◌, ◌<◌, Bool, true, false, cond, List, [], ◌∷◌, ◌++◌, length, take, get_or, Some, refl, sym, ap, ◌∙◌, map, append-nil}
+use Rattle.std.proofs.Common.{◌≡◌, ℕ, ◌+◌, ◌<◌, Bool, true, false, cond, List, [], ◌∷◌, ◌++◌, length, take, get_or, Some, refl, sym, ap, ◌∙◌, map, append-nil, append_assoc}
 use Rattle.std.specs.Prelude.{flat_map, filter, ◌||◌, ◌&&◌, not, bytes_eq, slice_get}
 use Rattle.std.proofs.Math.Bool.{or-false}
 use Rattle.std.proofs.lemmas.List.Elements.{filter-append}
@@ -7,7 +7,9 @@ use Rattle.language_model.specs.Tokens.{Spelled}
 use Rattle.language_model.specs.Building.{is_one_of, new_tokens}
 use Rattle.dsl_faults.specs.declared.uses.Use.{Use}
 use Rattle.dsl_faults.specs.Uses.{used_of}
+use Rattle.dsl_faults.specs.Texts.{AllNew, with_text}
 use Rattle.dsl_build.specs.Lexical.{is_placed, placed_part}
+use Rattle.dsl_build.proofs.Differing.{unseen, unseen_kept}
 use Rattle.dsl_faults.proofs.Lists.{flat_more, take_get}
 
 abbrev contents : List Spelled → List (List ℕ)
@@ -48,3 +50,21 @@ placed_on us i u names b lt is e taken =
 
 pub filter_more : (p : List ℕ → Bool) (xs : List (List ℕ)) (i : ℕ) (x : List ℕ) → slice_get xs i ≡ Some x → filter p (take (i + 1) xs) ≡ filter p (take i xs) ++ cond (p x) (x ∷ []) []
 filter_more p xs i x e = ap (filter p) (take_get xs i x e) ∙ filter-append p (take i xs) (x ∷ [])
+
+-- one more text behind the names, unless it is there
+one_among : (first ys : List (List ℕ)) (t : List ℕ) → is_one_of ys t ≡ false → is_one_of (first ++ ys) t ≡ is_one_of first t
+one_among [] ys t e = e
+one_among (x ∷ xs) ys t e = ap (λ b. bytes_eq x t || b) (one_among xs ys t e)
+
+joined_with : (first ys : List (List ℕ)) (t : List ℕ) → is_one_of ys t ≡ false → with_text (first ++ ys) t ≡ first ++ (ys ++ cond (not (is_one_of first t)) (t ∷ []) [])
+joined_with first ys t e = ap (λ b. cond b (first ++ ys) ((first ++ ys) ++ t ∷ [])) (one_among first ys t e) ∙ go (is_one_of first t)
+  where
+    go : (b : Bool) → cond b (first ++ ys) ((first ++ ys) ++ t ∷ []) ≡ first ++ (ys ++ cond (not b) (t ∷ []) [])
+    go true = ap (λ zs. first ++ zs) (sym (append-nil ys))
+    go false = append_assoc first ys (t ∷ [])
+
+pub others_on : (first texts names : List (List ℕ)) (i : ℕ) (t : List ℕ) → AllNew [] texts → slice_get texts i ≡ Some t → names ≡ first ++ filter (λ u. not (is_one_of first u)) (take i texts) →
+    with_text names t ≡ first ++ filter (λ u. not (is_one_of first u)) (take (i + 1) texts)
+others_on first texts names i t new at is =
+    let p = λ (u : List ℕ). not (is_one_of first u) in
+    ap (λ ns. with_text ns t) is ∙ joined_with first (filter p (take i texts)) t (unseen_kept p (take i texts) t (unseen [] texts i t new at)) ∙ ap (λ ns. first ++ ns) (sym (filter_more p texts i t at))

@@ -1,5 +1,5 @@
 -- What a description names, as numbers.
-use Rattle.std.specs.Prelude.{◌≡◌, ℕ, Bool, true, false, not, ◌&&◌, ◌||◌, List, [], ◌∷◌, ◌++◌, length, codes, Option, Some, None, map, flat_map, filter}
+use Rattle.std.specs.Prelude.{◌≡◌, ℕ, Bool, true, false, not, ◌&&◌, ◌||◌, List, [], ◌∷◌, codes, Option, Some, None, map, flat_map, filter}
 use Rattle.language_model.specs.Description.{Alternative, Statement}
 use Rattle.language_model.specs.Building.{is_of_level, parts_of, numbers_in, assoc_of, rank_of, says, rules_of, named_l0, grammar_g1, grammar_l0, built_of}
 use Rattle.grammar_model.specs.Grammar.{WrittenRule, Plain}
@@ -9,7 +9,7 @@ use Rattle.dsl_statement.specs.Statements.{is_lexical}
 use Rattle.dsl_build.specs.declared.resolving.Resolved.{Resolved}
 use Rattle.dsl_build.specs.Tables.{row_of}
 
--- the level is there, and is the lexical one, or the other
+-- there is a level, and it is this one
 abbrev pub is_at : Bool → Option Level → Bool
 is_at lexical (Some l) = (lexical && is_lexical l) || (not lexical && not (is_lexical l))
 is_at lexical None = false
@@ -17,11 +17,6 @@ is_at lexical None = false
 -- the rule of an alternative, by the number of its left side
 abbrev pub plain_with : List (List ℕ) → (lhs level groups : ℕ) → Alternative → WrittenRule
 plain_with names lhs level groups a = Plain (record { lhs = lhs; rhs = numbers_in names (parts_of a); level = level; groups = groups; assoc = assoc_of a.adverbs; rank = rank_of a.adverbs; null_high = says (codes "null-ranking") (codes "high") a.adverbs })
-
--- the rules of groups, of which the first is the tightest
-abbrev pub groups_with : List (List ℕ) → (lhs count : ℕ) → List (List Alternative) → List WrittenRule
-groups_with names lhs count [] = []
-groups_with names lhs count (g ∷ gs) = map (plain_with names lhs (length gs) count) g ++ groups_with names lhs count gs
 
 -- the rules of a statement, if they are of the level
 abbrev pub rules_at : Bool → List (List ℕ) → Statement → List WrittenRule

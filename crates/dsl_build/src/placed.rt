@@ -85,3 +85,14 @@ pub fn append(names: &mut Names, more: &Names) -> Result<(), AllocError>
     }
     Ok(())
 }
+
+/// Puts those of the texts that are not there behind the names.
+pub fn add_others(names: &mut Names, texts: &Names) -> Result<(), AllocError>
+    requires { AllNew [] texts.now }
+    ensures { OnOk result (names.new ≡ names.old ++ filter (λ t. not (is_one_of names.old t)) texts.now) }
+{
+    for place in 0..texts.len() {
+        names.add(texts.text(place))?;
+    }
+    Ok(())
+}

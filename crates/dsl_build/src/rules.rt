@@ -1,13 +1,13 @@
-//! The pass over statements that makes their rules of numbers: each name is looked up here once, in the table of its level.
+//! The pass over statements that makes their rules of numbers: each token is looked up once, in the table of its level.
 ghost use Rattle.std.specs.Prelude.{◌≡◌, ◌≤◌, ◌++◌, ◌∷◌, [], map, flat_map, filter, length, IfOk, OnOk, All, option_map, codes, false, true};
 ghost use Rattle.language_model.specs.Description.{Empty, Quantified};
 ghost use Rattle.language_model.specs.Building as building;
-ghost use Rattle.language_model.specs.Building.{is_one_of, place_in, numbers_in, rules_of, is_of_level, parts_of};
+ghost use Rattle.language_model.specs.Building.{is_one_of, place_in, numbers_in, rules_of_groups, rules_of, is_of_level, parts_of};
 ghost use Rattle.grammar_model.specs.Grammar.{Plain, Sequence};
 ghost use Rattle.grammar_core.specs.Written.{rule_of};
 ghost use Rattle.dsl_statement.specs.Statements.{adverbs_of, statement_of};
 ghost use Rattle.dsl_build.specs.Ready.{IsNamed, IsSmall, IsReady, IsReadyAlternative};
-ghost use Rattle.dsl_build.specs.Resolving.{is_at, rules_at, plain_with, groups_with};
+ghost use Rattle.dsl_build.specs.Resolving.{is_at, rules_at, plain_with};
 
 use crate::numbers::{assoc_of, rank_of, says};
 use crate::symbols::symbol_of;
@@ -96,14 +96,16 @@ fn push_groups(
     alloc: Global,
     out: &mut Vec<WrittenRule>,
     names: &Names,
-    lhs: SymbolId,
+    left: &Spelled,
     groups: &[Vec<Alternative>],
 ) -> Result<(), AllocError>
+    requires left { IsNamed names.now left.now }
     requires ready { All (λ g. All (IsReadyAlternative names.now) g.items) groups.now }
     requires counted { length groups.now ≤ 4294967295 }
     requires few { length names.now ≤ 16777215 }
-    ensures { OnOk result (map rule_of out.new.items ≡ map rule_of out.old.items ++ groups_with names.now lhs (length groups.now) (map (λ g. g.items) groups.now)) }
+    ensures { OnOk result (map rule_of out.new.items ≡ map rule_of out.old.items ++ rules_of_groups names.now left.now (length groups.now) (map (λ g. g.items) groups.now)) }
 {
+    let lhs = number_of(names, left);
     let count = groups.len() as u32;
     let mut level = count;
     for group in groups {
@@ -188,9 +190,7 @@ fn push_statement(
             out.push(sequence_rule(names, left, item, *plus, adverbs))?;
             Ok(())
         }
-        Statement::Rules { left, groups, .. } => {
-            push_groups(alloc, out, names, number_of(names, left), groups)
-        }
+        Statement::Rules { left, groups, .. } => push_groups(alloc, out, names, left, groups),
         _ => Ok(()),
     }
 }

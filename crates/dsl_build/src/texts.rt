@@ -9,7 +9,7 @@ ghost use Rattle.dsl_faults.specs.Named.{AreTables};
 ghost use Rattle.dsl_faults.specs.Uses.{used_of, uses_of, texts_asked};
 ghost use Rattle.dsl_faults.specs.declared.uses.Which.TheVariants.{StructuralLeft, Structural};
 
-use crate::placed::{Placed, append, placed_tokens, without};
+use crate::placed::{Placed, add_others, append, placed_tokens, without};
 use dsl_faults::{Named, Names, Use, Which, names_of};
 use std::alloc::{AllocError, Global};
 
@@ -36,19 +36,6 @@ pub struct Texts<'a> {
     pub placed: Placed<'a>,
 }
 
-// The first texts, and those of the second that are none of them.
-fn joined(alloc: Global, first: &Names, second: &Names) -> Result<Names, AllocError>
-    requires first { AllNew [] first.now }
-    requires second { AllNew [] second.now }
-    ensures { IfOk result (λ names. names ≡ first.now ++ filter (λ t. not (is_one_of first.now t)) second.now) }
-{
-    let others = without(alloc, second, first)?;
-    let mut names = Names::new(alloc);
-    append(&mut names, first)?;
-    append(&mut names, &others)?;
-    Ok(names)
-}
-
 fn starts_of(
     alloc: Global,
     uses: &[Use<'_>],
@@ -61,7 +48,9 @@ fn starts_of(
 {
     let lexemes = without(alloc, &symbols, left)?;
     let discards = names_of(alloc, Which::Discarded, uses)?;
-    let texts = joined(alloc, &lexemes, &discards)?;
+    let mut texts = Names::new(alloc);
+    append(&mut texts, &lexemes)?;
+    add_others(&mut texts, &discards)?;
     Ok(Starts {
         symbols,
         lexemes,
@@ -76,11 +65,9 @@ fn placed_of<'a>(alloc: Global, uses: &[Use<'a>], lexemes: &Names) -> Result<Pla
     ensures names { IfOk result (λ p. p.names ≡ map (λ t. t.content) (new_tokens [] (flat_map placed_part (map used_of uses.now)))
         ++ filter (λ t. not (is_one_of (map (λ u. u.content) (new_tokens [] (flat_map placed_part (map used_of uses.now)))) t)) lexemes.now) }
 {
-    let Placed { tokens, names } = placed_tokens(alloc, uses)?;
-    Ok(Placed {
-        tokens,
-        names: joined(alloc, &names, lexemes)?,
-    })
+    let Placed { tokens, mut names } = placed_tokens(alloc, uses)?;
+    add_others(&mut names, lexemes)?;
+    Ok(Placed { tokens, names })
 }
 
 /// The texts of a description with these names.

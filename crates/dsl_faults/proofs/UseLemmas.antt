@@ -1,6 +1,6 @@
 -- The uses of statements, and what is told of them.
 use Rattle.std.proofs.Common.{◌≡◌, ℕ, Bool, true, false, cond, List, [], ◌∷◌, ◌++◌, refl, sym, ap, ◌∙◌, map, Vec, Global, append_assoc, Result, Ok, Err}
-use Rattle.std.specs.Prelude.{flat_map, OnOk, bytes_eq, not, ◌&&◌, ◌||◌}
+use Rattle.std.specs.Prelude.{flat_map, option_map, find, OnOk, bytes_eq, not, ◌&&◌, ◌||◌, Option, Some, None}
 use Rattle.std.specs.List.{list_any}
 use Rattle.std.proofs.lemmas.List.Folds.{flat_map-map}
 use Rattle.language_model.specs.Tokens.{Spelled}
@@ -15,6 +15,8 @@ use Rattle.dsl_faults.specs.Uses.{used, Used, uses_of, used_of, is_left, is_aske
 use Rattle.std.proofs.Math.Bool.{or-false}
 use Rattle.dsl_faults.specs.declared.uses.Which.{Which}
 use Rattle.dsl_faults.specs.declared.uses.Which.TheVariants.{StructuralLeft, LexicalLeft}
+use Rattle.std.specs.Borrow.{Bor}
+use Rattle.dsl_faults.specs.Found.{first_of}
 use Rattle.dsl_faults.specs.declared.uses.Use.{Use}
 use Rattle.dsl_faults.specs.Faults.{left_part, both_fault}
 use Rattle.dsl_faults.proofs.Scans.{scan, turned, any_turned}
@@ -113,3 +115,21 @@ other_level false t xs structural lefts s l =
 pub both_known : (u : Use) (xs : List Use) (structural lefts : List (List ℕ)) → structural ≡ new_texts [] (flat_map (λ u. texts_asked StructuralLeft (used_of u)) xs) → lefts ≡ new_texts [] (flat_map (λ u. texts_asked LexicalLeft (used_of u)) xs) →
     both_fault structural lefts (used_of u) ≡ both_before (turned [] xs) u
 both_known u xs structural lefts s l = ap (λ b. at_most (is_left (used_of u) && b) (fault_at u.token.now)) (other_level (is_lexical u.level) u.token.now.content xs structural lefts s l)
+
+-- the content of the first use that is asked for
+asked_first : (which : Which) (us : List Use) → option_map (λ (u : Use). u.token.now.content) (find (λ u. is_asked which (used_of u)) us) ≡ first_of (flat_map (λ u. texts_asked which (used_of u)) us)
+asked_first which [] = refl
+asked_first which (u ∷ us) = go (is_asked which (used_of u)) (asked_first which us)
+  where
+    content : Use → List ℕ
+    content v = v.token.now.content
+
+    go : (b : Bool) → option_map content (find (λ v. is_asked which (used_of v)) us) ≡ first_of (flat_map (λ v. texts_asked which (used_of v)) us) →
+        option_map content (cond b (Some u) (find (λ v. is_asked which (used_of v)) us)) ≡ first_of (cond b (content u ∷ []) [] ++ flat_map (λ v. texts_asked which (used_of v)) us)
+    go true e = refl
+    go false e = e
+
+pub found_use : (which : Which) (us : List Use) (r : Option (Bor Use)) → option_map (λ u. u.now) r ≡ find (λ u. is_asked which (used_of u)) us →
+    option_map (λ (u : Bor Use). u.now.token.now.content) r ≡ first_of (flat_map (λ u. texts_asked which (used_of u)) us)
+found_use which us None e = ap (option_map (λ (u : Use). u.token.now.content)) e ∙ asked_first which us
+found_use which us (Some u) e = ap (option_map (λ (u : Use). u.token.now.content)) e ∙ asked_first which us

@@ -62,10 +62,7 @@ impl Names {
         if self.has(name) {
             return Ok(());
         }
-        let alloc = *self.names.allocator();
-        let owned = String::from_str(alloc, name)?;
-        self.names.insert(owned)?;
-        Ok(())
+        self.add_new(name)
     }
 
     /// The text at the place.
@@ -80,7 +77,11 @@ impl Names {
     pub fn add_new(&mut self, name: &str) -> Result<(), AllocError>
         requires { is_one_of self.old name.now ≡ false }
         ensures ok { IfOk result (λ _. self.new ≡ self.old ++ name.now ∷ []) }
+        ensures err { OnErr result (self.new ≡ self.old) }
     {
-        self.add(name)
+        let alloc = *self.names.allocator();
+        let owned = String::from_str(alloc, name)?;
+        self.names.insert(owned)?;
+        Ok(())
     }
 }

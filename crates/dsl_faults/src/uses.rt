@@ -206,10 +206,6 @@ pub fn names_of(alloc: Global, which: Which, uses: &[Use<'_>]) -> Result<Names, 
 pub fn first_asked<'a>(which: Which, uses: &[Use<'a>]) -> Option<&'a Spelled>
     ensures { option_map (λ t. t.now.content) result ≡ first_of (flat_map (texts_asked which) (map used_of uses.now)) }
 {
-    for used in uses {
-        if is_asked(which, used) {
-            return Some(used.token);
-        }
-    }
-    None
+    let used = uses.iter().find(|used| is_asked(which, used))?;
+    Some(used.token)
 }

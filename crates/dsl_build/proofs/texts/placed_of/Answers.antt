@@ -1,7 +1,7 @@
-use Rattle.std.proofs.Common.{[], sym, subst, List, ℕ}
-use Rattle.dsl_faults.specs.Texts.{AllNew}
-use Rattle.dsl_build.proofs.Differing.{new_tokens_all}
+use Rattle.std.proofs.Common.{◌∙◌, ◌++◌, ap, List, ℕ}
+use Rattle.std.specs.Prelude.{filter, not}
+use Rattle.language_model.specs.Building.{is_one_of}
 use Rattle.dsl_build.proofs.texts.placed_of.Goals as goal
 
-pub joined-requires-clause-first : goal.joined-requires-clause-first
-joined-requires-clause-first c = subst (λ (ns : List (List ℕ)). AllNew [] ns) (sym c.in_ok-tokens.ensures.names) (new_tokens_all [] _)
+pub returns-clause-names : goal.returns-clause-names
+returns-clause-names c = c.in_ok-add_others.ensures ∙ ap (λ (ns : List (List ℕ)). ns ++ filter (λ t. not (is_one_of ns t)) c.args.lexemes.now) c.in_ok-tokens.ensures.names

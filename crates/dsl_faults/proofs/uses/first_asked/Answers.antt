@@ -1,20 +1,26 @@
-use Rattle.std.proofs.Common.{[], ◌∷◌, arith, sym, ◌∙◌, ap, cond}
+use Rattle.std.proofs.Common.{sym, ◌∙◌, ap, rules, tests}
+use Rattle.std.specs.Prelude.{option_map}
+use Rattle.std.specs.Borrow.{Bor}
+use Rattle.std.proofs.lemmas.Iterator.{YieldsList-from_slice}
+use Rattle.std.proofs.lemmas.Iterator.Search.{find_from_yields_List}
 use Rattle.std.proofs.lemmas.List.Folds.{flat_map-map}
+use Rattle.language_model.specs.Tokens.{Spelled}
+use Rattle.dsl_faults.specs.Uses.{used_of, is_asked, texts_asked}
 use Rattle.dsl_faults.specs.Found.{first_of}
-use Rattle.dsl_faults.specs.Uses.{used_of, texts_asked}
 use Rattle.dsl_faults.specs.declared.uses.Use.{Use}
-use Rattle.dsl_faults.proofs.Firsts.{first_there, none_at_all}
+use Rattle.dsl_faults.proofs.UseLemmas.{found_use}
 use Rattle.dsl_faults.proofs.uses.first_asked.Goals as goal
 
-pub returns-then-is_asked : goal.returns-then-is_asked
-returns-then-is_asked c =
-    let g = λ (u : Use). texts_asked c.args.which (used_of u) in
-    let content = c.used-item.result.token.now.content in
-    sym (ap first_of (flat_map-map (texts_asked c.args.which) used_of c.args.uses.now)
-    ∙ first_there g c.args.uses.now c.loop-used.used-index c.used-item.result content (omega arith) c.used-item.is c.loop-used.invariant
-    (ap (λ b. first_of (cond b (content ∷ []) [])) (sym c.is_asked.ensures ∙ c.if-is_asked.true)))
+pub returns-in_err-used : goal.returns-in_err-used
+returns-in_err-used c =
+    let us = c.args.uses.now in
+    let content = λ (u : Bor Use). u.now.token.now.content in
+    let found = find_from_yields_List (λ (u : Use). is_asked c.args.which (used_of u)) _ _ _ c.find.ensures.ran (YieldsList-from_slice us cc) (λ x b q k. search (rules, tests)) in
+    ap (option_map (λ (t : Bor Spelled). t.now.content)) c.from_residual.ensures ∙ ap (option_map content) (sym c.in_err-used.was) ∙ found_use c.args.which us c.find.result found ∙ ap first_of (sym (flat_map-map (texts_asked c.args.which) used_of us))
 
 pub returns : goal.returns
 returns c =
-    let g = λ (u : Use). texts_asked c.args.which (used_of u) in
-    sym (ap first_of (flat_map-map (texts_asked c.args.which) used_of c.args.uses.now) ∙ none_at_all g c.args.uses.now c.loop-used.used-index (omega arith) c.loop-used.invariant)
+    let us = c.args.uses.now in
+    let content = λ (u : Bor Use). u.now.token.now.content in
+    let found = find_from_yields_List (λ (u : Use). is_asked c.args.which (used_of u)) _ _ _ c.find.ensures.ran (YieldsList-from_slice us cc) (λ x b q k. search (rules, tests)) in
+    ap (option_map content) (sym c.in_ok-used.was) ∙ found_use c.args.which us c.find.result found ∙ ap first_of (sym (flat_map-map (texts_asked c.args.which) used_of us))
