@@ -1,4 +1,9 @@
-use Rattle.std.proofs.Common.{◌≡◌, ap, refl, subst, sym}
+use Rattle.std.proofs.Common.{◌≡◌, ◌≤◌, ◌+◌, List, ap, refl, subst, sym}
+use Rattle.std.specs.List.{sum_by}
+use Rattle.grammar_model.specs.Trees.{Tree}
+use Rattle.recognizer_model.specs.Links.{choices}
+use Rattle.forest_model.specs.Listing.{IsListing}
+use Rattle.run_model.specs.Listing.{first_of}
 use Rattle.std.proofs.lemmas.Result.{on_ok_weaker, IfErr-weaker}
 use Rattle.std.specs.Io.KnownBytes.{Appends}
 use Rattle.forest_model.specs.Forest.{Forest}
@@ -57,3 +62,10 @@ returns-clause-stops g c =
     subst (λ (f : Forest). TextHas b c.args.show c.args.chars.now c.args.spans.now f c.args.first ends) same
     (subst (λ (s : Score). TextHas b c.args.show s.chars s.spans c.in-Ok.iter.forest c.args.first ends) c.in-Ok-player_of.ensures (stops c.args.show c.keep_teller.ensures)))
     c.write_lines.ensures.stops
+
+pub returns-clause-counted : goal.returns-clause-counted
+returns-clause-counted g c =
+    let same : c.in-Ok.iter.forest ≡ c.args.forest.now = ap (λ (it : Iteration). it.forest) c.in-Ok.ensures.begun in
+    on_ok_weaker c.write_lines.result
+    (λ counted. subst (λ (f : Forest). (trees : List Tree) → IsListing f trees → c.write_lines.new.steps ≤ c.args.steps.now + sum_by choices (first_of c.args.first trees)) same counted)
+    c.write_lines.ensures.counted
