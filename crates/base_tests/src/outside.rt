@@ -2,8 +2,8 @@
 ghost use Rattle.std.specs.Prelude.{◌≡◌, ◌<◌, ◌≤◌};
 
 use slif_base::{
-    DiskFiles, FileRefusal, Files, MemFiles, MemSink, MemSource, ReadRefusal, Sink, Source,
-    StdSink, StdSource, Steps, chars_of, read_all, read_named, write_all,
+    Chars, DiskFiles, FileRefusal, Files, MemFiles, MemSink, MemSource, ReadRefusal, Sink, Source,
+    StdSink, StdSource, Steps, TextRefusal, chars_from, chars_of, read_all, read_named, write_all,
 };
 use std::alloc::{AllocError, Global};
 use std::fs;
@@ -197,5 +197,32 @@ fn lines_and_columns(rt: HostRuntime) -> Result<(), Fail> {
         }
     }
     assert!(rt; text.len() > 1 && text.at(1) == 'é');
+    Ok(())
+}
+
+// The characters of bytes that are moved.
+fn moved(alloc: Global, bytes: &[u8]) -> Result<Result<Chars, TextRefusal>, AllocError> {
+    let bytes = Vec::from_slice(alloc, bytes)?;
+    Ok(chars_from(alloc, bytes))
+}
+
+#[test]
+fn bytes_are_moved_into_a_text(rt: HostRuntime) -> Result<(), Fail> {
+    let Ok(text) = moved(rt.alloc(), b"ab\ncd")? else {
+        return Err(Fail::from("a text"));
+    };
+    assert_eq!(rt; text.len(), 5);
+    assert!(rt;
+        text.len() > 4
+            && text.at(3) == 'c'
+            && text.text(1, 4) == "b\nc"
+            && text.line_column(4) == (2, 2)
+    );
+    assert!(rt;
+        matches!(
+            moved(rt.alloc(), b"ab\xff")?,
+            Err(TextRefusal::NotUtf8 { at: 2 })
+        )
+    );
     Ok(())
 }

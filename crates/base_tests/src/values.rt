@@ -25,8 +25,8 @@ fn is_text(alloc: Global, pool: &Pool, id: ValueId, wanted: &[u8]) -> Result<boo
 #[test]
 fn texts_are_escaped(rt: HostRuntime) -> Result<(), Fail> {
     let mut pool = Pool::new(rt.alloc());
-    let id = pool.text("a\"$@\\\n\r\t\u{0}\u{9f}\u{e4}\u{1d11e}")?;
-    let wanted = "\"a\\\"\\$\\@\\\\\\n\\r\\t\\x{00}\\x{9f}\u{e4}\u{1d11e}\"";
+    let id = pool.text("a\"b\u{e4} c$@\\\n\r\t\u{0}\u{9f}\u{e4}\u{1d11e}")?;
+    let wanted = "\"a\\\"b\u{e4} c\\$\\@\\\\\\n\\r\\t\\x{00}\\x{9f}\u{e4}\u{1d11e}\"";
     assert!(rt; is_text(rt.alloc(), &pool, id, wanted.as_bytes())?);
     Ok(())
 }

@@ -14,7 +14,7 @@ pub enum TextRefusal {
     /// The first `at` bytes are the longest front that is UTF-8.
     #[error("not UTF-8 at byte {at}")]
     NotUtf8 { at: usize },
-    /// There was no memory, or a text that is not all ASCII has 4,294,967,296 bytes or more.
+    /// There was no memory, or the text has 4,294,967,296 bytes or more.
     #[error("out of memory")]
     NoMemory,
 }

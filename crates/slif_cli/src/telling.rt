@@ -57,7 +57,7 @@ pub fn tell_input<'a, F: Files, I: Source, O: Sink, L: Ledger>(
     ensures input { (input.new ≡ input.old) ⊎ (input_of from.entry ≡ StandardInput) }
 {
     let bytes = read_bytes(alloc, from, files, input)?;
-    tell_bytes(alloc, prepared, what, &bytes, out, tellers, steps)
+    tell_bytes(alloc, prepared, what, bytes, out, tellers, steps)
 }
 
 // Writes what is told of the bytes of an input.
@@ -65,17 +65,17 @@ fn tell_bytes<'a, O: Sink, L: Ledger>(
     alloc: Global,
     prepared: &Prepared,
     what: Telling,
-    bytes: &[u8],
+    bytes: Vec<u8>,
     out: &mut O,
     tellers: Vec<Box<dyn Teller>>,
     steps: &mut Steps<L>,
 ) -> Result<(), Stop<'a>>
-    requires few { length bytes.now ≤ 16777216 }
+    requires few { length bytes.items ≤ 16777216 }
     requires tellers { AreBothTellers (states tellers.items shows held) }
-    ensures done { OnOk result (Does (IsInputOutcome (telling_of what) prepared.now bytes.now) (O.contents out.old) (O.contents out.new)) }
-    ensures stops { IfErr result (WriteStops (IsInputOutcome (telling_of what) prepared.now bytes.now)
+    ensures done { OnOk result (Does (IsInputOutcome (telling_of what) prepared.now bytes.items) (O.contents out.old) (O.contents out.new)) }
+    ensures stops { IfErr result (WriteStops (IsInputOutcome (telling_of what) prepared.now bytes.items)
         (stream O.contents O.fault_count out.old) (stream O.contents O.fault_count out.new)) }
-    ensures counted { OnOk result (InputWithin (telling_of what) prepared.now bytes.now steps.old steps.new) }
+    ensures counted { OnOk result (InputWithin (telling_of what) prepared.now bytes.items steps.old steps.new) }
     ensures out_later { O.fault_count out.old ≤ O.fault_count out.new }
 {
     let chars = input_chars(alloc, bytes)?;

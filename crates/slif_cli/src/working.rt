@@ -112,7 +112,7 @@ fn own_chars(alloc: Global, size: u32) -> Result<Chars, AllocError>
     ensures { IfOk result (λ chars. chars ≡ chars_in (work_input size)) }
 {
     let bytes = work_bytes(alloc, size as usize)?;
-    match input_chars(alloc, &bytes) {
+    match input_chars(alloc, bytes) {
         Ok(chars) => Ok(chars),
         Err(refusal) => Err(no_memory(refusal)),
     }

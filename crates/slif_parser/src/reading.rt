@@ -1,6 +1,7 @@
 //! An input that is read to its end.
-ghost use Rattle.std.specs.Prelude.{◌≡◌, ◌<◌, IfOk, IfErr};
+ghost use Rattle.std.specs.Prelude.{◌≡◌, ◌<◌, IfOk, IfErr, OnOk, IsUtf8, chars as chars_in};
 ghost use Rattle.text_reading.specs.Refusals.{IsInputRefusedAt, IsNoDerivation, TellsInput as TellsRefusal};
+ghost use Rattle.text_reading.specs.Parts.{IsBrokenText};
 ghost use Rattle.slif_parser.specs.Errors.{TellsInput};
 ghost use Rattle.slif_parser.specs.Readings.{IsReadAs, IsForestAs};
 
@@ -36,6 +37,15 @@ impl<'g> Model for Reading<'g> {
     ghost invariant = { λ r. IsHeld r.prepared.now r.chars r.tokens.recce r.tokens.spans.items };
 }
 
+// The characters of an input, which is copied.
+fn copied_chars(alloc: Global, input: &[u8]) -> Result<Chars, Refusal>
+    ensures utf8 { OnOk result (IsUtf8 input.now) }
+    ensures ok { IfOk result (λ chars. chars ≡ chars_in input.now) }
+    ensures refused { IfErr result (TellsRefusal (IsBrokenText input.now)) }
+{
+    input_chars(alloc, Vec::from_slice(alloc, input)?)
+}
+
 /// Reads the bytes of an input, on a counter of its own.
 pub fn read_bytes<'g, L: Ledger>(
     blank: Blank,
@@ -52,7 +62,7 @@ pub fn read_bytes<'g, L: Ledger>(
     if input.len() > LIMIT {
         return Err(input_too_long(alloc));
     }
-    let chars = match input_chars(alloc, input) {
+    let chars = match copied_chars(alloc, input) {
         Ok(chars) => chars,
         Err(refusal) => return Err(refusal),
     };

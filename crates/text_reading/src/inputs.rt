@@ -14,7 +14,7 @@ use crate::Refusal;
 use crate::phrases::{phrase, place_in};
 use grammar_core::{SymbolId, Written};
 use scanless::{Ending, Prepared, Reading, read_input};
-use slif_base::{Chars, Steps, TextRefusal, chars_of};
+use slif_base::{Chars, Steps, TextRefusal, chars_from};
 use std::alloc::{AllocError, Global};
 use std::sync::ledger::Ledger;
 use value_text::NoMemory;
@@ -33,13 +33,13 @@ pub fn input_too_long(alloc: Global) -> Refusal
     }
 }
 
-/// The characters of an input.
-pub fn input_chars(alloc: Global, bytes: &[u8]) -> Result<Chars, Refusal>
-    ensures utf8 { OnOk result (IsUtf8 bytes.now) }
-    ensures ok { IfOk result (λ chars. chars ≡ chars_in bytes.now) }
-    ensures refused { IfErr result (TellsInput (IsBrokenText bytes.now)) }
+/// The characters of an input, whose bytes are moved into them.
+pub fn input_chars(alloc: Global, bytes: Vec<u8>) -> Result<Chars, Refusal>
+    ensures utf8 { OnOk result (IsUtf8 bytes.items) }
+    ensures ok { IfOk result (λ chars. chars ≡ chars_in bytes.items) }
+    ensures refused { IfErr result (TellsInput (IsBrokenText bytes.items)) }
 {
-    match chars_of(alloc, bytes) {
+    match chars_from(alloc, bytes) {
         Ok(chars) => Ok(chars),
         Err(TextRefusal::NotUtf8 { at }) => Err(Refusal::Input {
             text: not_utf8_text(alloc, at)?,

@@ -21,7 +21,7 @@ use Rattle.slif_cli.proofs.telling.tell_bytes.Goals as goal
 pub returns-in_err-chars-clause-stops : goal.returns-in_err-chars-clause-stops
 returns-in_err-chars-clause-stops g c =
     let b = c.args.prepared.now in
-    let bytes = c.args.bytes.now in
+    let bytes = c.args.bytes.items in
     let what = telling_of c.args.what in
     let before = stream g.O.Sink.contents g.O.Sink.fault_count c.args.out.now in
     let refusal = c.in_err-chars.field-0.0 in
@@ -32,7 +32,7 @@ returns-in_err-chars-clause-stops g c =
 pub returns-in_err-reading-clause-stops : goal.returns-in_err-reading-clause-stops
 returns-in_err-reading-clause-stops g c =
     let b = c.args.prepared.now in
-    let bytes = c.args.bytes.now in
+    let bytes = c.args.bytes.items in
     let what = telling_of c.args.what in
     let before = stream g.O.Sink.contents g.O.Sink.fault_count c.args.out.now in
     let refusal = c.in_err-reading.field-0.0 in
@@ -43,16 +43,16 @@ returns-in_err-reading-clause-stops g c =
 
 pub read_text-requires : goal.read_text-requires
 read_text-requires g c =
-    omega (arith, ap length c.in_ok-chars.ensures.ok, length-le-encodes (chars c.args.bytes.now), ap length (encodes-chars c.args.bytes.now c.in_ok-chars.ensures.utf8), c.requires.few)
+    omega (arith, ap length c.in_ok-chars.ensures.ok, length-le-encodes (chars c.args.bytes.items), ap length (encodes-chars c.args.bytes.items c.in_ok-chars.ensures.utf8), c.requires.few)
 
 pub tell_reading-requires-clause-few : goal.tell_reading-requires-clause-few
 tell_reading-requires-clause-few g c =
-    omega (arith, ap length c.in_ok-chars.ensures.ok, length-le-encodes (chars c.args.bytes.now), ap length (encodes-chars c.args.bytes.now c.in_ok-chars.ensures.utf8), c.requires.few)
+    omega (arith, ap length c.in_ok-chars.ensures.ok, length-le-encodes (chars c.args.bytes.items), ap length (encodes-chars c.args.bytes.items c.in_ok-chars.ensures.utf8), c.requires.few)
 
 pub returns-clause-done : goal.returns-clause-done
 returns-clause-done g c =
     let b = c.args.prepared.now in
-    let bytes = c.args.bytes.now in
+    let bytes = c.args.bytes.items in
     let what = telling_of c.args.what in
     let text : IsInputText bytes = record { within = c.requires.few; utf8 = c.in_ok-chars.ensures.utf8 } in
     on_ok_weaker c.tell_reading.result
@@ -63,7 +63,7 @@ returns-clause-done g c =
 pub returns-clause-stops : goal.returns-clause-stops
 returns-clause-stops g c =
     let b = c.args.prepared.now in
-    let bytes = c.args.bytes.now in
+    let bytes = c.args.bytes.items in
     let what = telling_of c.args.what in
     let text : IsInputText bytes = record { within = c.requires.few; utf8 = c.in_ok-chars.ensures.utf8 } in
     MatchResult-weaker c.tell_reading.result c.tell_reading.ensures.stops (λ _ x. x)
@@ -76,8 +76,8 @@ pub returns-clause-counted : goal.returns-clause-counted
 returns-clause-counted g c =
     let b = c.args.prepared.now in
     let what = telling_of c.args.what in
-    let text : IsInputText c.args.bytes.now = record { within = c.requires.few; utf8 = c.in_ok-chars.ensures.utf8 } in
+    let text : IsInputText c.args.bytes.items = record { within = c.requires.few; utf8 = c.in_ok-chars.ensures.utf8 } in
     on_ok_weaker c.tell_reading.result
-    (λ goes. bytes_within what b c.args.bytes.now text c.args.steps.now c.tell_reading.new.steps
+    (λ goes. bytes_within what b c.args.bytes.items text c.args.steps.now c.tell_reading.new.steps
     (subst (λ (cs : List ℕ). TellsWithin what b cs c.args.steps.now c.tell_reading.new.steps) c.in_ok-chars.ensures.ok (goes c.args.steps.now c.in_ok-reading.ensures.counted)))
     c.tell_reading.ensures.counted

@@ -1,4 +1,4 @@
-use Rattle.std.proofs.Common.{sym, subst, ◌⊎◌, ◌≡◌}
+use Rattle.std.proofs.Common.{◌⊎◌, ◌≡◌}
 use Rattle.std.proofs.lemmas.Result.{on_ok_weaker, MatchResult-weaker}
 use Rattle.outside_model.specs.Causes.{Rose}
 use Rattle.words_model.specs.Words.InputFrom.{FileNamed}
@@ -17,9 +17,9 @@ returns-clause-done g c =
     let from = input_of c.args.from in
     let file = g.F.Files.told c.args.files.now in
     let left = g.I.Source.left c.args.input.now in
-    let may_be : InputMayBe from file left c.deref.result.now = subst (InputMayBe from file left) (sym c.deref.ensures.value) c.in_ok-bytes.ensures.read in
+    let may_be : InputMayBe from file left c.in_ok-bytes.bytes.items = c.in_ok-bytes.ensures.read in
     on_ok_weaker c.tell_bytes.result
-    (does_weaker (IsInputOutcome (telling_of c.args.what) b c.deref.result.now) (MayRead (IsInputOutcome (telling_of c.args.what) b) from file left) (may_read (IsInputOutcome (telling_of c.args.what) b) from file left c.deref.result.now may_be) _ _)
+    (does_weaker (IsInputOutcome (telling_of c.args.what) b c.in_ok-bytes.bytes.items) (MayRead (IsInputOutcome (telling_of c.args.what) b) from file left) (may_read (IsInputOutcome (telling_of c.args.what) b) from file left c.in_ok-bytes.bytes.items may_be) _ _)
     c.tell_bytes.ensures.done
 
 pub returns-clause-stops : goal.returns-clause-stops
@@ -28,11 +28,11 @@ returns-clause-stops g c =
     let from = input_of c.args.from in
     let file = g.F.Files.told c.args.files.now in
     let left = g.I.Source.left c.args.input.now in
-    let may_be : InputMayBe from file left c.deref.result.now = subst (InputMayBe from file left) (sym c.deref.ensures.value) c.in_ok-bytes.ensures.read in
+    let may_be : InputMayBe from file left c.in_ok-bytes.bytes.items = c.in_ok-bytes.ensures.read in
     let files = Rose (g.F.Files.fault_count c.args.files.now) (g.F.Files.fault_count c.read_bytes.new.files) in
     let input = Rose (g.I.Source.fault_count c.args.input.now) (g.I.Source.fault_count c.read_bytes.new.input) in
     MatchResult-weaker c.tell_bytes.result c.tell_bytes.ensures.stops (λ _ x. x)
-    (λ stop. stops_weaker (IsInputOutcome (telling_of c.args.what) b c.deref.result.now) (MayRead (IsInputOutcome (telling_of c.args.what) b) from file left) (may_read (IsInputOutcome (telling_of c.args.what) b) from file left c.deref.result.now may_be)
+    (λ stop. stops_weaker (IsInputOutcome (telling_of c.args.what) b c.in_ok-bytes.bytes.items) (MayRead (IsInputOutcome (telling_of c.args.what) b) from file left) (may_read (IsInputOutcome (telling_of c.args.what) b) from file left c.in_ok-bytes.bytes.items may_be)
     (λ asked. ⊥) (λ asked. files × (from ≡ FileNamed asked)) ⊥ (files ⊎ input) (λ asked x. absurd x) (λ x. absurd x)
     (stream g.O.Sink.contents g.O.Sink.fault_count c.args.out.now) (stream g.O.Sink.contents g.O.Sink.fault_count c.tell_bytes.new.out) stop)
 
@@ -55,5 +55,5 @@ returns-clause-counted g c =
     let from = input_of c.args.from in
     let file = g.F.Files.told c.args.files.now in
     let left = g.I.Source.left c.args.input.now in
-    let may_be : InputMayBe from file left c.deref.result.now = subst (InputMayBe from file left) (sym c.deref.ensures.value) c.in_ok-bytes.ensures.read in
-    on_ok_weaker c.tell_bytes.result (λ within. record { bytes = c.deref.result.now; may_be = may_be; holds = within }) c.tell_bytes.ensures.counted
+    let may_be : InputMayBe from file left c.in_ok-bytes.bytes.items = c.in_ok-bytes.ensures.read in
+    on_ok_weaker c.tell_bytes.result (λ within. record { bytes = c.in_ok-bytes.bytes.items; may_be = may_be; holds = within }) c.tell_bytes.ensures.counted

@@ -5,7 +5,7 @@ use Rattle.slif_cli.proofs.working.own_chars.Goals as goal
 
 pub no_memory-requires : goal.no_memory-requires
 no_memory-requires c =
-    input_memory (IsBrokenText c.deref.result.now) (own_utf8 c.args.size c.requires c.deref.result.now (c.deref.ensures.value ∙ c.in_ok-bytes.ensures)) c.in-Err.refusal c.in-Err.ensures.refused
+    input_memory (IsBrokenText c.in_ok-bytes.bytes.items) (own_utf8 c.args.size c.requires c.in_ok-bytes.bytes.items c.in_ok-bytes.ensures) c.in-Err.refusal c.in-Err.ensures.refused
 
 pub returns-in-Ok : goal.returns-in-Ok
-returns-in-Ok c = c.in-Ok.ensures.ok ∙ ap chars (c.deref.ensures.value ∙ c.in_ok-bytes.ensures)
+returns-in-Ok c = c.in-Ok.ensures.ok ∙ ap chars c.in_ok-bytes.ensures
