@@ -191,12 +191,6 @@ duplicate_from g i texts p text is e h = (
 pub never_duplicate : (g : Grammar) (i : ℕ) (q : SequenceRule) → rule_at g i ≡ Sequence q → IsDuplicate g i → ⊥
 never_duplicate g i q is (j, r, s, lt, f, k, a, b) = let z : Plain s ≡ Sequence q = sym k ∙ is in absurd (cc)
 
-pub rule_is_plain : (g : Grammar) (i : ℕ) (p : PlainRule) → slice_get g.rules i ≡ Some (Plain p) → rule_at g i ≡ Plain p
-rule_is_plain g i p e = get_or_from_slice_get g.rules i (Plain p) no_rule e
-
-pub rule_is_sequence : (g : Grammar) (i : ℕ) (r : SequenceRule) → slice_get g.rules i ≡ Some (Sequence r) → rule_at g i ≡ Sequence r
-rule_is_sequence g i r e = get_or_from_slice_get g.rules i (Sequence r) no_rule e
-
 pub fresh_text : (old : List (Vec ℕ Global)) (v : Vec ℕ Global) (new : Bool) → new ≡ not (list_any (λ k. pointwise nat_eq v.items k.items) old) → IsTrue (not new) ↔ Contains (rows_of old) v.items
 fresh_text old v new e = by (list_any (λ k. pointwise nat_eq v.items k.items) old) refl
   where

@@ -2,7 +2,6 @@ use Rattle.std.proofs.Common.{◌≡◌, ◌++◌, ◌∷◌, [], map, ap, ◌�
 use Rattle.grammar_model.specs.Grammar.{rule_at}
 use Rattle.grammar_model.specs.Simple.{numbers, part_count}
 use Rattle.grammar_core.specs.Written.{rule_of}
-use Rattle.grammar_core.proofs.Known.{found_is}
 use Rattle.flat_rules.specs.Added.{part_in}
 use Rattle.flat_rules.proofs.Adding.{map_next}
 use Rattle.flat_rules.proofs.pushing.right_side.Goals as goal
@@ -13,6 +12,6 @@ loop-k-preserved c =
 
 pub returns : goal.returns
 returns c =
-    let is = ap part_count (found_is c.args.w.now c.args.i (rule_of c.rule.result.now) c.rule.ensures.is) in
+    let is = ap part_count c.rule.ensures.is in
     let all : c.loop-k.k ≡ part_count (rule_at c.args.w.now c.args.i) = omega (arith, c.loop-k-test.false, c.loop-k.auto.k-end, c.count_parts-k-end.ensures, is) in
     c.loop-k.invariant ∙ ap (λ n. map (part_in c.args.symbols.now (rule_at c.args.w.now c.args.i)) (numbers n)) all
