@@ -3,8 +3,7 @@ use Rattle.std.proofs.Common.{arith, ◌≡◌, ◌⊎◌, ◌↔◌, inl, inr, 
 use Rattle.std.proofs.Common.{All}
 use Rattle.std.specs.Option.{IfSome}
 use Rattle.grammar_core.specs.Written.{IsWritten, symbols_of}
-use Rattle.std.proofs.lemmas.Option.{get_or_from_slice_get}
-use Rattle.grammar_model.specs.Grammar.{Grammar, PlainRule, SequenceRule, Plain, Sequence, slot_of, rule_at, no_rule, sequence_symbol}
+use Rattle.grammar_model.specs.Grammar.{Grammar, PlainRule, SequenceRule, Plain, Sequence, slot_of, rule_at, sequence_symbol}
 use Rattle.grammar_model.specs.Analysis.{IsNullable}
 use Rattle.grammar_model.specs.Checked.{IsCountedNullable}
 use Rattle.grammar_check.specs.Counted.{HasNullable}

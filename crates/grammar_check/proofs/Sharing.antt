@@ -1,5 +1,5 @@
 -- Marks of symbols, and texts of rules.
-use Rattle.std.proofs.Common.{arith, ◌≡◌, ◌≢◌, ◌⊎◌, ◌↔◌, inl, inr, ℕ, zero, suc, ◌+◌, ◌<◌, Bool, true, false, not, ◌||◌, if◌then◌else◌, Some, List, [], ◌∷◌, ◌++◌, length, Contains, slice_get, slice_index_or, slice_set, nat_eq, refl, sym, ◌∙◌, ap, subst, true≢false}
+use Rattle.std.proofs.Common.{arith, ◌≡◌, ◌≢◌, ◌⊎◌, ◌↔◌, inl, inr, ℕ, zero, suc, ◌+◌, ◌<◌, Bool, true, false, not, ◌||◌, if◌then◌else◌, List, [], ◌∷◌, ◌++◌, length, Contains, slice_index_or, slice_set, nat_eq, refl, sym, ◌∙◌, ap, subst, true≢false}
 use Rattle.std.specs.Bool.{IsTrue, Decides}
 use Rattle.std.specs.List.{list_any}
 use Rattle.std.specs.Cmp.Lexicographic.{pointwise}
@@ -7,11 +7,10 @@ use Rattle.std.specs.declared.vec.Vec.{Vec}
 use Rattle.std.specs.declared.alloc.Global.{Global}
 use Rattle.std.proofs.lemmas.Bool.Decides.{Decides-eqb}
 use Rattle.std.proofs.lemmas.Slice.Eq.{slice_eq-Decides}
-use Rattle.std.proofs.lemmas.Option.{get_or_from_slice_get}
 use Rattle.std.proofs.lemmas.List.{get_or-set_same, get_or-set_other, map-append}
 use Rattle.std.proofs.lemmas.List.Elements.{Contains-append_left, Contains-push, Contains-push_cases}
 use Rattle.indexmap.specs.IndexSet.{insert_key}
-use Rattle.grammar_model.specs.Grammar.{Grammar, WrittenRule, PlainRule, SequenceRule, Plain, Sequence, rule_at, no_rule, lhs_of}
+use Rattle.grammar_model.specs.Grammar.{Grammar, WrittenRule, PlainRule, SequenceRule, Plain, Sequence, rule_at, lhs_of}
 use Rattle.grammar_model.specs.Checked.{IsDuplicate, IsShared, SequencesAreAlone}
 use Rattle.grammar_core.specs.Written.{IsWritten}
 use Rattle.grammar_core.specs.Rules.{is_sequence}

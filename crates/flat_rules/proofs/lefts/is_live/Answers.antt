@@ -1,7 +1,6 @@
 use Rattle.std.proofs.Common.{arith, ◌<◌, subst, sym, ◌∙◌, inl, inr, refl, true≢false, ap}
 use Rattle.grammar_model.specs.Grammar.{Grammar, rule_at, child_slot}
 use Rattle.grammar_model.specs.Analysis.{IsProductive}
-use Rattle.grammar_core.specs.Written.{rule_of}
 use Rattle.slot_analysis.specs.Slots.{needed_of}
 use Rattle.horn_clauses.proofs.Search.{same_or_below}
 use Rattle.slot_analysis.proofs.StepLemmas.{all_needed}

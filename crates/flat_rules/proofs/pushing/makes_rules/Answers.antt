@@ -1,7 +1,6 @@
 use Rattle.std.proofs.Common.{ap, ◌∙◌, false}
 use Rattle.std.specs.Prelude.{nat_le}
 use Rattle.grammar_model.specs.Grammar.{rule_at, level_of}
-use Rattle.grammar_core.specs.Written.{rule_of}
 use Rattle.flat_rules.proofs.SlotRules.{makes_then}
 use Rattle.flat_rules.proofs.pushing.makes_rules.Goals as goal
 

@@ -2,7 +2,6 @@ use Rattle.std.proofs.Common.{ap, ◌∙◌, sym, ◌++◌}
 use Rattle.std.specs.Prelude.{not, ◌&&◌}
 use Rattle.grammar_model.specs.Grammar.{rule_at}
 use Rattle.grammar_core.specs.Rules.{is_sequence}
-use Rattle.grammar_core.specs.Written.{rule_of}
 use Rattle.flat_rules.specs.Tables.{told_slot}
 use Rattle.flat_rules.specs.Added.{from_rule, lists_by, plain_by, is_proper_rule, counts_separator}
 use Rattle.flat_rules.proofs.Adding.{adds_to}

@@ -1,6 +1,5 @@
 use Rattle.std.proofs.Common.{◌≡◌, ◌++◌, ap, ◌∙◌, sym, true}
 use Rattle.grammar_model.specs.Grammar.{rule_at}
-use Rattle.grammar_core.specs.Written.{rule_of}
 use Rattle.flat_rules.specs.Added.{longer_by, counts_separator, part_in, has_separator_rule}
 use Rattle.flat_rules.proofs.Adding.{adds_to, longer_none, longer_three}
 use Rattle.flat_rules.proofs.Rows.{append_none}

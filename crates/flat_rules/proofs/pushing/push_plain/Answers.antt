@@ -1,7 +1,6 @@
 use Rattle.std.proofs.Common.{◌≡◌, ◌∙◌, ap, rules}
 use Rattle.grammar_model.specs.Grammar.{rule_at}
 use Rattle.grammar_model.specs.Simple.{part_count}
-use Rattle.grammar_core.specs.Written.{rule_of}
 use Rattle.flat_rules.proofs.pushing.push_plain.Goals as goal
 
 pub returns-then-count_parts-eq0 : goal.returns-then-count_parts-eq0

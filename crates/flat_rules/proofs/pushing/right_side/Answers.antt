@@ -1,7 +1,6 @@
 use Rattle.std.proofs.Common.{◌≡◌, ◌++◌, ◌∷◌, [], map, ap, ◌∙◌, sym, arith}
 use Rattle.grammar_model.specs.Grammar.{rule_at}
 use Rattle.grammar_model.specs.Simple.{numbers, part_count}
-use Rattle.grammar_core.specs.Written.{rule_of}
 use Rattle.flat_rules.specs.Added.{part_in}
 use Rattle.flat_rules.proofs.Adding.{map_next}
 use Rattle.flat_rules.proofs.pushing.right_side.Goals as goal

@@ -1,6 +1,5 @@
 use Rattle.std.proofs.Common.{◌≡◌, ap, ◌∙◌}
 use Rattle.grammar_model.specs.Grammar.{rule_at}
-use Rattle.grammar_core.specs.Written.{rule_of}
 use Rattle.grammar_core.specs.Rules.{groups_of}
 use Rattle.slot_analysis.proofs.Transfer.{groups_told}
 use Rattle.slot_analysis.proofs.packed.Packed.groups_at.Goals as goal
