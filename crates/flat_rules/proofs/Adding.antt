@@ -1,5 +1,5 @@
 -- Flat rules that are added, one part of a list after another.
-use Rattle.std.proofs.Common.{◌≡◌, ℕ, zero, suc, ◌+◌, ◌<◌, ◌≤◌, Bool, true, false, cond, List, [], ◌∷◌, ◌++◌, length, map, take, drop, get_or, Result, Ok, Err, refl, sym, ap, ◌∙◌, subst, arith, append_assoc, length-append}
+use Rattle.std.proofs.Common.{◌≡◌, ℕ, zero, suc, ◌+◌, ◌<◌, ◌≤◌, Bool, true, cond, List, [], ◌∷◌, ◌++◌, length, map, take, drop, get_or, Result, Ok, Err, refl, sym, ap, ◌∙◌, subst, arith, append_assoc, length-append}
 use Rattle.std.specs.List.{flat_map}
 use Rattle.std.specs.declared.vec.Vec.{Vec}
 use Rattle.std.specs.declared.alloc.Global.{Global}
@@ -138,9 +138,6 @@ at_top n k lt =
     let count = numbers_length n in
     let (less, is) = at_map Top (numbers n) k 0 (omega (arith, count, lt)) in
     (less, subst (λ z. Top z ≡ get_or (map Top (numbers n)) k (Top z)) (numbers_at n k 0 lt) is)
-
-pub longer_none : (t : Numbering) (i : ℕ) (counts : Bool) (rule : WrittenRule) → has_separator_rule rule ≡ true → counts ≡ false → longer_by t i counts rule ≡ []
-longer_none t i counts rule has none = rw (has, none)
 
 pub longer_three : (t : Numbering) (i : ℕ) (counts : Bool) (rule : WrittenRule) (list separator item : ℕ) → has_separator_rule rule ≡ true → counts ≡ true → list ≡ number_in t (Sequence i) → separator ≡ part_in t rule 1 → item ≡ part_in t rule 0 →
     rule_by i list (list ∷ separator ∷ item ∷ []) ∷ [] ≡ longer_by t i counts rule
