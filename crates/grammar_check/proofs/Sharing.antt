@@ -1,5 +1,5 @@
 -- Marks of symbols, and texts of rules.
-use Rattle.std.proofs.Common.{arith, ◌≡◌, ◌≢◌, ◌⊎◌, ◌↔◌, inl, inr, ℕ, zero, suc, ◌+◌, ◌<◌, Bool, true, false, not, ◌||◌, if◌then◌else◌, Some, List, [], ◌∷◌, ◌++◌, length, Contains, slice_get, slice_index_or, slice_set, nat_eq, refl, sym, ◌∙◌, ap, subst, true≢false}
+use Rattle.std.proofs.Common.{arith, ◌≡◌, ◌≢◌, ◌⊎◌, ◌↔◌, inl, inr, ℕ, zero, suc, ◌+◌, ◌<◌, Bool, true, false, not, ◌||◌, if◌then◌else◌, List, [], ◌∷◌, ◌++◌, length, Contains, slice_index_or, slice_set, nat_eq, refl, sym, ◌∙◌, ap, subst, true≢false}
 use Rattle.std.specs.Bool.{IsTrue, Decides}
 use Rattle.std.specs.List.{list_any}
 use Rattle.std.specs.Cmp.Lexicographic.{pointwise}
@@ -7,11 +7,10 @@ use Rattle.std.specs.declared.vec.Vec.{Vec}
 use Rattle.std.specs.declared.alloc.Global.{Global}
 use Rattle.std.proofs.lemmas.Bool.Decides.{Decides-eqb}
 use Rattle.std.proofs.lemmas.Slice.Eq.{slice_eq-Decides}
-use Rattle.std.proofs.lemmas.Option.{get_or_from_slice_get}
 use Rattle.std.proofs.lemmas.List.{get_or-set_same, get_or-set_other, map-append}
 use Rattle.std.proofs.lemmas.List.Elements.{Contains-append_left, Contains-push, Contains-push_cases}
 use Rattle.indexmap.specs.IndexSet.{insert_key}
-use Rattle.grammar_model.specs.Grammar.{Grammar, WrittenRule, PlainRule, SequenceRule, Plain, Sequence, rule_at, no_rule, lhs_of}
+use Rattle.grammar_model.specs.Grammar.{Grammar, WrittenRule, PlainRule, SequenceRule, Plain, Sequence, rule_at, lhs_of}
 use Rattle.grammar_model.specs.Checked.{IsDuplicate, IsShared, SequencesAreAlone}
 use Rattle.grammar_core.specs.Written.{IsWritten}
 use Rattle.grammar_core.specs.Rules.{is_sequence}
@@ -190,12 +189,6 @@ duplicate_from g i texts p text is e h = (
 
 pub never_duplicate : (g : Grammar) (i : ℕ) (q : SequenceRule) → rule_at g i ≡ Sequence q → IsDuplicate g i → ⊥
 never_duplicate g i q is (j, r, s, lt, f, k, a, b) = let z : Plain s ≡ Sequence q = sym k ∙ is in absurd (cc)
-
-pub rule_is_plain : (g : Grammar) (i : ℕ) (p : PlainRule) → slice_get g.rules i ≡ Some (Plain p) → rule_at g i ≡ Plain p
-rule_is_plain g i p e = get_or_from_slice_get g.rules i (Plain p) no_rule e
-
-pub rule_is_sequence : (g : Grammar) (i : ℕ) (r : SequenceRule) → slice_get g.rules i ≡ Some (Sequence r) → rule_at g i ≡ Sequence r
-rule_is_sequence g i r e = get_or_from_slice_get g.rules i (Sequence r) no_rule e
 
 pub fresh_text : (old : List (Vec ℕ Global)) (v : Vec ℕ Global) (new : Bool) → new ≡ not (list_any (λ k. pointwise nat_eq v.items k.items) old) → IsTrue (not new) ↔ Contains (rows_of old) v.items
 fresh_text old v new e = by (list_any (λ k. pointwise nat_eq v.items k.items) old) refl

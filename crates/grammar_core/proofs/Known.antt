@@ -1,8 +1,7 @@
 -- The rules of a written grammar, by their places.
-use Rattle.std.proofs.Common.{◌≡◌, ℕ, suc, ◌<◌, Bool, true, false, if◌then◌else◌, ◌∷◌, length, Option, Some, None, option_to_list, arith, sym, subst}
-use Rattle.std.specs.Prelude.{All, slice_get}
-use Rattle.std.proofs.lemmas.Option.{get_or_from_slice_get}
-use Rattle.grammar_model.specs.Grammar.{WrittenRule, Plain, Sequence, Grammar, rule_at, no_rule, lhs_of, level_of, child_slot, slot_count, sequence_symbol, is_even}
+use Rattle.std.proofs.Common.{ℕ, suc, ◌<◌, Bool, true, false, if◌then◌else◌, ◌∷◌, length, Option, Some, None, option_to_list, arith}
+use Rattle.std.specs.Prelude.{All}
+use Rattle.grammar_model.specs.Grammar.{WrittenRule, Plain, Sequence, Grammar, rule_at, lhs_of, level_of, child_slot, slot_count, sequence_symbol, is_even}
 use Rattle.grammar_core.specs.Written.{IsWritten, IsLevelled, symbols_of}
 use Rattle.grammar_core.specs.Rules.{groups_of}
 
@@ -34,13 +33,3 @@ below_groups (Sequence r) h = omega arith
 
 pub level_below : (g : Grammar) (i : ℕ) → IsWritten g → i < length g.rules → level_of (rule_at g i) < groups_of (rule_at g i)
 level_below g i w lt = below_groups (rule_at g i) (w.rules_known i lt).1
-
--- the rule that is found at the place
-pub found_is : (g : Grammar) (i : ℕ) (rule : WrittenRule) → slice_get g.rules i ≡ Some rule → rule ≡ rule_at g i
-found_is g i rule at = sym (get_or_from_slice_get g.rules i rule no_rule at)
-
-pub found_known : (g : Grammar) (i : ℕ) (rule : WrittenRule) → IsWritten g → i < length g.rules → slice_get g.rules i ≡ Some rule → lhs_of rule < length g.names
-found_known g i rule w lt at = subst (λ r. lhs_of r < length g.names) (sym (found_is g i rule at)) (lhs_known g i w lt)
-
-pub found_below : (g : Grammar) (i : ℕ) (rule : WrittenRule) → IsWritten g → i < length g.rules → slice_get g.rules i ≡ Some rule → level_of rule < groups_of rule
-found_below g i rule w lt at = subst (λ r. level_of r < groups_of r) (sym (found_is g i rule at)) (level_below g i w lt)

@@ -239,7 +239,7 @@ impl Written {
     /// The rule at this place, counted from 0.
     pub fn rule(&self, k: usize) -> &WrittenRule
         requires { k < length self.now.rules }
-        ensures is { slice_get self.now.rules k ≡ Some (rule_of result.now) }
+        ensures is { rule_of result.now ≡ rule_at self.now k }
         ensures sound { IsWritten self.now }
     {
         &self.rules[k]

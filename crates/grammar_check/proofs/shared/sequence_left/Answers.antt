@@ -1,7 +1,6 @@
 use Rattle.std.proofs.Common.{arith, ◌≡◌, Bool, false, ◌+◌, ◌<◌, ◌||◌, List, sym, ap, ◌∙◌, subst, length, slice_index_or, length-set}
 use Rattle.grammar_model.specs.Grammar.{rule_at, lhs_of}
 use Rattle.grammar_core.specs.Written.{rule_of}
-use Rattle.grammar_core.proofs.Known.{found_is}
 use Rattle.grammar_check.specs.Shared.{HasSequence, IsSequenceAt, Marks}
 use Rattle.grammar_check.proofs.Sharing.{mark_more, sequence_at, sequence_more}
 use Rattle.grammar_check.proofs.shared.sequence_left.Goals as goal
@@ -17,7 +16,7 @@ loop-i-preserved c =
       sized = ap length c.mark.ensures ∙ (length-set c.loop-i.marks.items x (slice_index_or c.loop-i.marks.items x false || c.is_sequence.result) ∙ c.loop-i.invariant.sized);
       marks = subst (λ (l : List Bool). Marks l (HasSequence c.args.w.now (c.loop-i.i + 1))) (sym c.mark.ensures)
           (mark_more c.loop-i.marks.items (HasSequence c.args.w.now c.loop-i.i) (HasSequence c.args.w.now (c.loop-i.i + 1)) x c.is_sequence.result (IsSequenceAt c.args.w.now c.loop-i.i) c.loop-i.invariant.marks (omega (arith, known, c.loop-i.invariant.sized))
-          (sequence_at g c.loop-i.i rule c.is_sequence.result (found_is g c.loop-i.i rule c.rule.ensures.is) c.is_sequence.ensures) (sequence_more c.args.w.now c.loop-i.i x is));
+          (sequence_at g c.loop-i.i rule c.is_sequence.result c.rule.ensures.is c.is_sequence.ensures) (sequence_more c.args.w.now c.loop-i.i x is));
     }
 
 pub returns-clause-marks : goal.returns-clause-marks
