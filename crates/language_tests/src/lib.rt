@@ -4,6 +4,10 @@
 #[cfg(test)]
 mod building;
 #[cfg(test)]
+mod examples;
+#[cfg(test)]
+mod limits;
+#[cfg(test)]
 mod preparing;
 #[cfg(test)]
 mod statements;

@@ -7,14 +7,16 @@ use std::alloc::{AllocError, Global};
 use std::marker::Model;
 
 // How many places are tried before the table is asked.
-const RECENT: usize = 8;
+const RECENT: usize = 16;
 
 /// The states that lists of starts begin with. It is seen as the lists, each with its state.
 #[derive(Drop)]
 pub struct Begins {
     states: IndexMap<Vec<u32>, usize>,
-    // places of the table, that of the list found last before the others
+    // places of the table, those that it was asked for last
     recent: [usize; RECENT],
+    // how often it was asked
+    asked: usize,
 }
 
 impl Model for Begins {
@@ -53,17 +55,16 @@ impl Begins {
         Begins {
             states: IndexMap::new(alloc),
             recent: [0; RECENT],
+            asked: 0,
         }
     }
 
-    // The state of a list that was found lately.
-    fn find_recent(&mut self, starts: &[u32]) -> Option<usize>
-        ensures same { self.new ≡ self.old }
-        ensures found { IfSome result (HasBegin self.old starts.now) }
+    // The state of a list that the table was asked for lately.
+    fn find_recent(&self, starts: &[u32]) -> Option<usize>
+        ensures { IfSome result (HasBegin self.now starts.now) }
     {
-        for turn in 0..RECENT {
-            if let Some(state) = state_at(&self.states, self.recent[turn], starts) {
-                self.recent.swap(0, turn);
+        for place in &self.recent {
+            if let Some(state) = state_at(&self.states, *place, starts) {
                 return Some(state);
             }
         }
@@ -76,12 +77,12 @@ impl Begins {
         ensures found { IfSome result (HasBegin self.old starts.now) }
     {
         let place = self.states.get_index_of(starts)?;
-        self.recent[RECENT - 1] = place;
-        self.recent.swap(0, RECENT - 1);
+        self.recent[self.asked % RECENT] = place;
+        self.asked = self.asked.wrapping_add(1);
         state_at(&self.states, place, starts)
     }
 
-    /// The state of a list of starts, if it is noted. A list that was found lately is found without the table.
+    /// The state of a list of starts, if it is noted. The lists that were asked for lately are compared first.
     pub fn find(&mut self, starts: &[u32]) -> Option<usize>
         ensures same { self.new ≡ self.old }
         ensures found { IfSome result (HasBegin self.old starts.now) }

@@ -1,8 +1,10 @@
 -- What a program gathers from the rows of lexemes and the starts that are marked is what reading takes.
-use Rattle.std.proofs.Common.{arith, ◌≡◌, ◌↔◌, ◌⊎◌, inl, inr, ℕ, ◌+◌, ◌<◌, ◌≤◌, ◌≤ℤ◌, Bool, false, pos, IsFalse, List, [], ◌++◌, length, map, get_or, All, Contains, Some, None, refl, sym, subst}
-use Rattle.std.proofs.lemmas.List.Elements.{All-contains, All-from_get_or, Contains-append_left, Contains-append_right, Contains-append_cases, Contains-get_or}
+use Rattle.std.proofs.Common.{arith, ◌≡◌, ◌↔◌, ◌⊎◌, inl, inr, ℕ, ◌+◌, ◌<◌, ◌≤◌, ◌≤ℤ◌, IsFalse, List, [], ◌++◌, length, map, get_or, All, Contains, Some, None, refl, sym, ◌∙◌, ap, subst}
+use Rattle.std.proofs.lemmas.List.Elements.{All-contains, Contains-append_left, Contains-append_right, Contains-append_cases, Contains-get_or}
 use Rattle.std.specs.List.Sorted.{IsStrictlySortedBy}
 use Rattle.std.specs.Ordering.{nat_cmp}
+use Rattle.std.specs.Prelude.{slice_get, option_map}
+use Rattle.std.proofs.lemmas.Option.{slice_get-map}
 use Rattle.language_model.specs.Building.{Built, LexemeRow}
 use Rattle.dsl_build.specs.declared.built.LexemeRow.{LexemeRow as HeldRow}
 use Rattle.dsl_build.specs.Tables.{row_of}
@@ -13,13 +15,13 @@ use Rattle.earley_sets.specs.Recognizer.{Recognizer, IsExpected}
 use Rattle.earley_sets.proofs.Membership.{Contains-none, Contains-map, Contains-map_from}
 use Rattle.scanless.proofs.Highest.{most_twice}
 use Rattle.scanless.proofs.Ordered.{map_map}
-use Rattle.scanless.specs.Pieces.{AreInOrder, AreCandidates, AreMatched, IsMarked, IsLongestBy, IsHighestOf, IsFit, Gathers, AreLexemes}
+use Rattle.scanless.specs.Pieces.{AreInOrder, AreCandidates, ArePlaced, AreMatched, IsLongestBy, IsHighestOf, IsFit, Gathers, AreLexemes}
 
 -- ---- the longest match
 
 module _ (b : Built) (text : List ℕ) (pieces : List Piece) (at : ℕ) (starts : List ℕ) (are : AreCandidates b pieces starts) where
-  pub longest_by : (n : ℕ) (matched : List ℕ) (marks : List Bool) → AreMatched b text at starts n matched → ((k : ℕ) → k < length b.l0.starts → IsMarked marks k ↔ Contains matched k) → IsLongestBy b text pieces at n marks
-  longest_by n matched marks m exact =
+  pub longest_by : (n : ℕ) (matched : List ℕ) → AreMatched b text at starts n matched → IsLongestBy b text pieces at n matched
+  longest_by n matched m =
       let first = (m.exact (get_or matched 0 0)).0 (Contains-get_or matched 0 0 m.found) in
       record {
         longest = record {
@@ -29,9 +31,9 @@ module _ (b : Built) (text : List ℕ) (pieces : List Piece) (at : ℕ) (starts 
           matches = first.1;
           longest = λ other k c h. m.longest other k ((are other).1 c) h;
         };
-        marked = λ start lt. (
-          (λ mk. (let (c, h) = (m.exact start).0 ((exact start lt).0 mk) in ((are start).0 c, h))),
-          (λ (c, h). (exact start lt).1 ((m.exact start).1 ((are start).1 c, h))),
+        exact = λ start. (
+          (λ mk. (let (c, h) = (m.exact start).0 mk in ((are start).0 c, h))),
+          (λ (c, h). (m.exact start).1 ((are start).1 c, h)),
         );
       }
 
@@ -44,12 +46,8 @@ matched_within b text at starts n matched m = match_within b text (get_or matche
 one_longest : (b : Built) (text : List ℕ) (pieces : List Piece) (at m n : ℕ) → IsLongest b text pieces at m → IsLongest b text pieces at n → m ≡ n
 one_longest b text pieces at m n l k = let x = l.longest k.start n k.candidate k.matches in let y = k.longest l.start m l.candidate l.matches in omega (arith, x, y)
 
-pub skipped_is : (b : Built) (text : List ℕ) (pieces : List Piece) (at n : ℕ) (marks : List Bool) → All (λ k. k < length b.l0.starts) b.discards → IsLongestBy b text pieces at n marks →
-    ((k : ℕ) × Contains b.discards k × IsMarked marks k) ↔ IsSkipped b text pieces at n
-skipped_is b text pieces at n marks within by = (
-  (λ (k, c, mk). (k, c, ((by.marked k (All-contains (λ i. i < length b.l0.starts) b.discards k within c)).0 mk).1)),
-  (λ (k, c, h). (k, c, (by.marked k (All-contains (λ i. i < length b.l0.starts) b.discards k within c)).1 (ADiscard c, h))),
-)
+pub skipped_is : (b : Built) (text : List ℕ) (pieces : List Piece) (at n : ℕ) (matched : List ℕ) → IsLongestBy b text pieces at n matched → ((k : ℕ) × Contains b.discards k × Contains matched k) ↔ IsSkipped b text pieces at n
+skipped_is b text pieces at n matched by = ((λ (k, c, mk). (k, c, ((by.exact k).0 mk).1)), (λ (k, c, h). (k, c, (by.exact k).1 (ADiscard c, h))))
 
 -- ---- the rows are those of the lexemes
 
@@ -64,14 +62,8 @@ module _ (b : Built) (rows : List HeldRow) (rows_are : map row_of rows ≡ b.lex
   rows_ascend order =
       subst (IsStrictlySortedBy nat_cmp) (map_map (λ (l : LexemeRow). l.symbol) row_of rows) (subst (λ ls. IsStrictlySortedBy nat_cmp (map (λ (l : LexemeRow). l.symbol) ls)) (sym rows_are) order.ascend)
 
-  pub rows_start : (marks : List Bool) → All (λ (l : LexemeRow). l.start < length b.l0.starts) b.lexemes → length marks ≡ length b.l0.starts → All (λ (r : HeldRow). r.start < length marks) rows
-  rows_start marks starts all = All-from_get_or (λ (r : HeldRow). r.start < length marks) rows (record { symbol = 0; start = 0; priority = pos 0; latm = false }) (λ i lt. within i lt)
-    where
-      within : (i : ℕ) → i < length rows → (get_or rows i (record { symbol = 0; start = 0; priority = pos 0; latm = false })).start < length marks
-      within i lt =
-          let d : HeldRow = record { symbol = 0; start = 0; priority = pos 0; latm = false } in
-          let lt' = All-contains (λ (l : LexemeRow). l.start < length b.l0.starts) b.lexemes (row_of (get_or rows i d)) starts (in_lexemes (get_or rows i d) (Contains-get_or rows i d lt)) in
-          omega (arith, lt', all)
+  pub rows_placed : AreInOrder b → ArePlaced rows
+  rows_placed order k r e = order.places k (row_of r) (subst (λ ls. slice_get ls k ≡ Some (row_of r)) rows_are (slice_get-map row_of rows k ∙ ap (option_map row_of) e))
 
   pub gathered_lexemes : (P : HeldRow → Type 0) (xs : List ℕ) → Gathers P (λ (r : HeldRow). r.symbol) rows xs → AreLexemes b xs
   gathered_lexemes P xs g s c = let (r, m, p, is) = (g s).0 c in (row_of r, in_lexemes r m, is)
@@ -115,17 +107,14 @@ module _ (b : Built) (rows : List HeldRow) (rows_are : map row_of rows ≡ b.lex
             let s : r.symbol ≡ symbol = subst (λ (k : LexemeRow). k.symbol ≡ symbol) e is in
             (same symbol).1 ((g symbol).1 (r, m, (next r.symbol).1 (subst (IsNext b pieces) (sym s) n), s))
 
-  module _ (starts : All (λ (l : LexemeRow). l.start < length b.l0.starts) b.lexemes) (text : List ℕ) (pieces : List Piece) (at n : ℕ) (marks : List Bool) (by : IsLongestBy b text pieces at n marks) where
-    start_within : (r : HeldRow) → Contains rows r → r.start < length b.l0.starts
-    start_within r m = All-contains (λ (l : LexemeRow). l.start < length b.l0.starts) b.lexemes (row_of r) starts (in_lexemes r m)
-
-    pub found_are : (xs ys : List ℕ) → Gathers (λ (r : HeldRow). IsMarked marks r.start) (λ (r : HeldRow). r.symbol) rows xs → AreSorted b ys → ((s : ℕ) → Contains ys s ↔ Contains xs s) → AreFound b text pieces at ys
+  module _ (text : List ℕ) (pieces : List Piece) (at n : ℕ) (matched : List ℕ) (by : IsLongestBy b text pieces at n matched) where
+    pub found_are : (xs ys : List ℕ) → Gathers (λ (r : HeldRow). Contains matched r.start) (λ (r : HeldRow). r.symbol) rows xs → AreSorted b ys → ((s : ℕ) → Contains ys s ↔ Contains xs s) → AreFound b text pieces at ys
     found_are xs ys g sorted same = record { sorted = sorted; exact = λ symbol. (there symbol, back symbol) }
       where
         there : (symbol : ℕ) → Contains ys symbol → IsFound b text pieces at symbol
         there symbol c =
             let (r, m, mk, is) = (g symbol).0 ((same symbol).0 c) in
-            let (candidate, matches) = (by.marked r.start (start_within r m)).0 mk in
+            let (candidate, matches) = (by.exact r.start).0 mk in
             record { row = row_of r; lexeme = in_lexemes r m; symbol_is = is; candidate = candidate; count = n; longest = by.longest; matches = matches }
 
         back : (symbol : ℕ) → IsFound b text pieces at symbol → Contains ys symbol
@@ -135,22 +124,22 @@ module _ (b : Built) (rows : List HeldRow) (rows_are : map row_of rows ≡ b.lex
             let count_is : f.count ≡ n = one_longest b text pieces at f.count n f.longest by.longest in
             let candidate : IsCandidate b pieces r.start = subst (λ (k : LexemeRow). IsCandidate b pieces k.start) e f.candidate in
             let matches : Matches b text r.start at (at + f.count) = subst (λ (k : LexemeRow). Matches b text k.start at (at + f.count)) e f.matches in
-            (same symbol).1 ((g symbol).1 (r, m, (by.marked r.start (start_within r m)).1 (candidate, subst (λ k. Matches b text r.start at (at + k)) count_is matches), s))
+            (same symbol).1 ((g symbol).1 (r, m, (by.exact r.start).1 (candidate, subst (λ k. Matches b text r.start at (at + k)) count_is matches), s))
 
     module _ (recce : Recognizer) (next : (t : ℕ) → IsExpected recce t ↔ IsNext b pieces t) where
-      fit_is : (r : HeldRow) → Contains rows r → IsFit recce marks r → IsFitting b text pieces at n (row_of r)
-      fit_is r m fit = record { lexeme = in_lexemes r m; next = (next r.symbol).0 fit.1; matches = ((by.marked r.start (start_within r m)).0 fit.0).1 }
+      fit_is : (r : HeldRow) → Contains rows r → IsFit recce matched r → IsFitting b text pieces at n (row_of r)
+      fit_is r m fit = record { lexeme = in_lexemes r m; next = (next r.symbol).0 fit.1; matches = ((by.exact r.start).0 fit.0).1 }
 
-      is_fit : (l : LexemeRow) → IsFitting b text pieces at n l → (r : HeldRow) × Contains rows r × (l ≡ row_of r) × IsFit recce marks r
+      is_fit : (l : LexemeRow) → IsFitting b text pieces at n l → (r : HeldRow) × Contains rows r × (l ≡ row_of r) × IsFit recce matched r
       is_fit l f =
           let (r, m, e) = from_lexemes l f.lexeme in
           let g : IsFitting b text pieces at n (row_of r) = subst (IsFitting b text pieces at n) e f in
-          (r, m, e, ((by.marked r.start (start_within r m)).1 (ALexeme (row_of r) (in_lexemes r m) refl (inr g.next), g.matches), (next r.symbol).1 g.next))
+          (r, m, e, ((by.exact r.start).1 (ALexeme (row_of r) (in_lexemes r m) refl (inr g.next), g.matches), (next r.symbol).1 g.next))
 
-      pub none_kept : IsHighestOf (IsFit recce marks) rows None → (symbol : ℕ) → Contains [] symbol ↔ IsKept b text pieces at n symbol
+      pub none_kept : IsHighestOf (IsFit recce matched) rows None → (symbol : ℕ) → Contains [] symbol ↔ IsKept b text pieces at n symbol
       none_kept none symbol = ((λ c. absurd (Contains-none symbol c)), (λ k. (let (r, m, e, fit) = is_fit k.row k.fitting in absurd (none r m fit))))
 
-      pub kept_are : (h : HeldRow) (kept : List ℕ) → IsHighestOf (IsFit recce marks) rows (Some h) → Gathers (λ (r : HeldRow). IsFit recce marks r × (r.priority ≡ h.priority)) (λ (r : HeldRow). r.symbol) rows kept →
+      pub kept_are : (h : HeldRow) (kept : List ℕ) → IsHighestOf (IsFit recce matched) rows (Some h) → Gathers (λ (r : HeldRow). IsFit recce matched r × (r.priority ≡ h.priority)) (λ (r : HeldRow). r.symbol) rows kept →
           (symbol : ℕ) → Contains kept symbol ↔ IsKept b text pieces at n symbol
       kept_are h kept (h_in, h_fit, most) g symbol = (there, back)
         where

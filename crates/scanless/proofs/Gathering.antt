@@ -1,5 +1,5 @@
 -- Lists that gather what rows have, row after row.
-use Rattle.std.proofs.Common.{arith, ◌≡◌, inl, inr, ℕ, suc, ◌+◌, ◌<◌, ◌≤◌, List, [], ◌∷◌, ◌++◌, length, map, take, get_or, Contains, refl, sym, ◌∙◌, ap, subst}
+use Rattle.std.proofs.Common.{arith, ◌≡◌, ◌↔◌, ◌⊎◌, inl, inr, ℕ, suc, ◌+◌, ◌<◌, ◌≤◌, List, [], ◌∷◌, ◌++◌, length, map, take, get_or, Contains, refl, sym, ◌∙◌, ap, subst}
 use Rattle.std.specs.List.{AllByRecursion}
 use Rattle.std.specs.List.Sorted.{IsStrictlySortedBy}
 use Rattle.std.specs.declared.cmp.Ordering.TheVariants.{Less}
@@ -42,9 +42,25 @@ module _ {A B : Type 0} (P : A → Type 0) (f : A → B) where
   pub gathers_all : (rows : List A) (n : ℕ) (xs : List B) → length rows ≤ n → Gathers P f (take n rows) xs → Gathers P f rows xs
   gathers_all rows n xs le g = subst (λ rs. Gathers P f rs xs) (take_all n rows le) g
 
+-- ---- the same rows, of which others are meant
+
+module _ {A B : Type 0} (f : A → B) (rows : List A) (P : A → Type 0) where
+  pub gathers_never : ((r : A) → P r → ⊥) → Gathers P f rows []
+  gathers_never never y = ((λ (k, lt, e). absurd (omega (arith, lt))), (λ (r, m, p, is). absurd (never r p)))
+
+  module _ (Q : A → Type 0) (xs : List B) (g : Gathers P f rows xs) (on : (r : A) → Contains rows r → P r → Q r) where
+    pub gathers_same : ((r : A) → Contains rows r → Q r → P r) → Gathers Q f rows xs
+    gathers_same back y = ((λ c. (let (r, m, p, is) = (g y).0 c in (r, m, on r m p, is))), (λ (r, m, q, is). (g y).1 (r, m, back r m q, is)))
+
+    pub gathers_with : (row : A) (ys : List B) → Contains rows row → Q row → ((r : A) → Contains rows r → Q r → P r ⊎ (r ≡ row)) → ((y : B) → Contains ys y ↔ (Contains xs y ⊎ (y ≡ f row))) → Gathers Q f rows ys
+    gathers_with row ys there q back same y = (
+      (λ c. elim ((same y).0 c) [ inl o ↦ (let (r, m, p, is) = (g y).0 o in (r, m, on r m p, is)) | inr e ↦ (row, there, q, sym e) ]),
+      (λ (r, m, p, is). (same y).1 (elim (back r m p) [ inl o ↦ inl ((g y).1 (r, m, o, is)) | inr e ↦ inr (sym is ∙ ap f e) ])),
+    )
+
 -- ---- in ascending order
 
-below : (x y : ℕ) → x < y → nat_cmp x y ≡ Less
+pub below : (x y : ℕ) → x < y → nat_cmp x y ≡ Less
 below x y lt = sym (nat_cmp_is x y Less lt)
 
 under_push : (x : ℕ) (xs : List ℕ) (y : ℕ) → AllByRecursion (λ z. nat_cmp x z ≡ Less) xs → x < y → AllByRecursion (λ z. nat_cmp x z ≡ Less) (xs ++ y ∷ [])

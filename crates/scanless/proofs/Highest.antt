@@ -1,9 +1,11 @@
--- A row of the highest priority, with one row more.
-use Rattle.std.proofs.Common.{arith, ◌≡◌, ◌⊎◌, inl, inr, ℤ, ◌≤ℤ◌, List, [], ◌∷◌, ◌++◌, Contains, Option, Some, None, sym, subst}
+-- Lexemes that fit, with one start more, and one of the highest priority.
+use Rattle.std.proofs.Common.{arith, ◌≡◌, ◌⊎◌, inl, inr, ℕ, ℤ, ◌≤ℤ◌, List, [], ◌∷◌, ◌++◌, Contains, Option, Some, None, sym, subst}
 use Rattle.std.proofs.lemmas.Int.{ints}
 use Rattle.std.proofs.lemmas.List.Elements.{Contains-append_left, Contains-push, Contains-push_cases}
 use Rattle.dsl_build.specs.declared.built.LexemeRow.{LexemeRow as HeldRow}
-use Rattle.scanless.specs.Pieces.{IsHighestOf}
+use Rattle.earley_sets.specs.Recognizer.{Recognizer, IsExpected}
+use Rattle.earley_sets.proofs.Membership.{Contains-none}
+use Rattle.scanless.specs.Pieces.{IsRowAt, IsHighestOf, IsFit}
 
 most_itself : (x : ℤ) → x ≤ℤ x
 most_itself x = omega (arith, ints)
@@ -14,23 +16,37 @@ most_through x y z a b = omega (arith, ints, a, b)
 pub most_twice : (x y : ℤ) → x ≤ℤ y → y ≤ℤ x → x ≡ y
 most_twice x y a b = omega (arith, ints, a, b)
 
-module _ (P : HeldRow → Type 0) where
-  pub highest_none : IsHighestOf P [] None
-  highest_none r (k, lt, e) p = absurd (omega (arith, lt))
+module _ (recce : Recognizer) (rows : List HeldRow) where
+  pub highest_none : IsHighestOf (IsFit recce []) rows None
+  highest_none r m (c, x) = Contains-none r.start c
 
-  module _ (rows : List HeldRow) (row : HeldRow) where
-    pub highest_same : (o : Option HeldRow) → (P row → ⊥) → IsHighestOf P rows o → IsHighestOf P (rows ++ row ∷ []) o
-    highest_same None not none = λ r c p. elim (Contains-push_cases rows row r c) [ inl o ↦ none r o p | inr e ↦ not (subst P (sym e) p) ]
-    highest_same (Some h) not (m, p, most) =
-        (Contains-append_left rows (row ∷ []) h m, p, λ q c k. elim (Contains-push_cases rows row q c) [ inl o ↦ most q o k | inr s ↦ absurd (not (subst P (sym s) k)) ])
+  module _ (starts : List ℕ) (start : ℕ) where
+    pub fit_still : (r : HeldRow) → IsFit recce starts r → IsFit recce (starts ++ start ∷ []) r
+    fit_still r (c, x) = (Contains-append_left starts (start ∷ []) r.start c, x)
 
-    pub highest_with : P row → (h m : HeldRow) → (h.priority ≤ℤ m.priority) × (row.priority ≤ℤ m.priority) → (m ≡ h) ⊎ (m ≡ row) → IsHighestOf P rows (Some h) → IsHighestOf P (rows ++ row ∷ []) (Some m)
-    highest_with p h m (a, b) one (c, q, most) = (
-      elim one [ inl same ↦ subst (Contains (rows ++ row ∷ [])) (sym same) (Contains-append_left rows (row ∷ []) h c) | inr same ↦ subst (Contains (rows ++ row ∷ [])) (sym same) (Contains-push rows row) ],
-      elim one [ inl same ↦ subst P (sym same) q | inr same ↦ subst P (sym same) p ],
-      λ o k f. elim (Contains-push_cases rows row o k) [ inl i ↦ most_through o.priority h.priority m.priority (most o i f) a | inr s ↦ subst (λ (z : HeldRow). z.priority ≤ℤ m.priority) s b ],
-    )
+    -- no lexeme of the start fits
+    module _ (none : (r : HeldRow) → Contains rows r → r.start ≡ start → IsExpected recce r.symbol → ⊥) where
+      pub fit_same : (r : HeldRow) → Contains rows r → IsFit recce (starts ++ start ∷ []) r → IsFit recce starts r
+      fit_same r m (c, x) = elim (Contains-push_cases starts start r.start c) [ inl o ↦ (o, x) | inr e ↦ absurd (none r m (sym e) x) ]
 
-    pub highest_first : P row → IsHighestOf P rows None → IsHighestOf P (rows ++ row ∷ []) (Some row)
-    highest_first p none =
-        (Contains-push rows row, p, λ q c k. elim (Contains-push_cases rows row q c) [ inl o ↦ absurd (none q o k) | inr s ↦ subst (λ (z : HeldRow). z.priority ≤ℤ row.priority) s (most_itself row.priority) ])
+      pub highest_same : (o : Option HeldRow) → IsHighestOf (IsFit recce starts) rows o → IsHighestOf (IsFit recce (starts ++ start ∷ [])) rows o
+      highest_same None h = λ r m f. h r m (fit_same r m f)
+      highest_same (Some h) (m, f, most) = (m, fit_still h f, λ r k g. most r k (fit_same r k g))
+
+    -- one does
+    module _ (row : HeldRow) (at : IsRowAt rows start row) (expected : IsExpected recce row.symbol) where
+      pub fit_row : IsFit recce (starts ++ start ∷ []) row
+      fit_row = (subst (Contains (starts ++ start ∷ [])) (sym at.1) (Contains-push starts start), expected)
+
+      pub fit_more : (r : HeldRow) → Contains rows r → IsFit recce (starts ++ start ∷ []) r → IsFit recce starts r ⊎ (r ≡ row)
+      fit_more r m (c, x) = elim (Contains-push_cases starts start r.start c) [ inl o ↦ inl (o, x) | inr e ↦ inr (at.2 r m (sym e)) ]
+
+      pub highest_with : (h m : HeldRow) → (h.priority ≤ℤ m.priority) × (row.priority ≤ℤ m.priority) → (m ≡ h) ⊎ (m ≡ row) → IsHighestOf (IsFit recce starts) rows (Some h) → IsHighestOf (IsFit recce (starts ++ start ∷ [])) rows (Some m)
+      highest_with h m (a, b) one (c, f, most) = (
+        elim one [ inl same ↦ subst (Contains rows) (sym same) c | inr same ↦ subst (Contains rows) (sym same) at.0 ],
+        elim one [ inl same ↦ subst (IsFit recce (starts ++ start ∷ [])) (sym same) (fit_still h f) | inr same ↦ subst (IsFit recce (starts ++ start ∷ [])) (sym same) fit_row ],
+        λ r k g. elim (fit_more r k g) [ inl o ↦ most_through r.priority h.priority m.priority (most r k o) a | inr s ↦ subst (λ (z : HeldRow). z.priority ≤ℤ m.priority) (sym s) b ],
+      )
+
+      pub highest_first : IsHighestOf (IsFit recce starts) rows None → IsHighestOf (IsFit recce (starts ++ start ∷ [])) rows (Some row)
+      highest_first none = (at.0, fit_row, λ r k g. elim (fit_more r k g) [ inl o ↦ absurd (none r k o) | inr s ↦ subst (λ (z : HeldRow). z.priority ≤ℤ row.priority) (sym s) (most_itself row.priority) ])

@@ -1,6 +1,7 @@
 pub mod Listed
 pub mod Faults
 mod Gathering
+mod Inserting
 mod Nexts
 mod Highest
 mod Choosing
@@ -10,4 +11,4 @@ mod Naming
 mod Steps
 mod Matched
 mod Edges
-mod Marking
+mod Results

@@ -1,5 +1,5 @@
 -- The lexemes of a text are in order of their symbols, which have names of their own.
-use Rattle.std.proofs.Common.{arith, ◌≡◌, ℕ, zero, suc, ◌+◌, ◌≤◌, Bool, true, false, cond, List, [], ◌∷◌, map, Some, Contains, refl, sym, ◌∙◌, ap, subst}
+use Rattle.std.proofs.Common.{arith, ◌≡◌, ℕ, zero, suc, ◌+◌, ◌≤◌, Bool, true, false, cond, List, [], ◌∷◌, ◌++◌, map, Some, Contains, refl, sym, ◌∙◌, ap, subst}
 use Rattle.std.specs.Prelude.{filter, not, ◌||◌, bytes_eq, slice_get}
 use Rattle.std.specs.List.{AllByRecursion}
 use Rattle.std.specs.List.Sorted.{IsStrictlySortedBy}
@@ -8,12 +8,13 @@ use Rattle.std.specs.Ordering.{nat_cmp}
 use Rattle.std.specs.Cmp.{nat_cmp_is}
 use Rattle.std.proofs.lemmas.Slice.Eq.{bytes_eq-Decides}
 use Rattle.language_model.specs.Description.{Statement}
-use Rattle.language_model.specs.Building.{Built, LexemeRow, built_of, is_one_of, symbols_g1, lexemes, lexeme_row, left_names, place_in}
+use Rattle.language_model.specs.Building.{Built, LexemeRow, built_of, is_one_of, symbols_g1, lexemes, lexeme_row, left_names, discarded, start_texts, place_in}
 use Rattle.language_model.specs.Texts.{IsBuilt}
 use Rattle.dsl_build.specs.Texts.{AllNew}
-use Rattle.dsl_build.proofs.Differing.{differ, symbols_new}
+use Rattle.dsl_build.proofs.Differing.{differ, symbols_new, starts_new}
 use Rattle.dsl_build.proofs.Known.{place_known}
 use Rattle.grammar_core.proofs.Growth.{named}
+use Rattle.flat_rules.proofs.Named.{map_get}
 use Rattle.earley_sets.proofs.Membership.{Contains-map_from, found_at, got_at}
 use Rattle.scanless.specs.Pieces.{AreInOrder}
 
@@ -86,6 +87,11 @@ lexeme_text d l c =
             by true (suc i) e rest = let (j, f) = rest i e in (suc j, f)
             by false i e rest = let (j, f) = rest i e in (suc j, f)
 
+get_front : (xs ys : List (List ℕ)) (k : ℕ) (t : List ℕ) → slice_get xs k ≡ Some t → slice_get (xs ++ ys) k ≡ Some t
+get_front [] ys k t e = absurd (cc)
+get_front (x ∷ xs) ys zero t e = e
+get_front (x ∷ xs) ys (suc k) t e = get_front xs ys k t e
+
 built_order : (d : List Statement) → AreInOrder (built_of d)
 built_order d = record {
   ascend = subst (IsStrictlySortedBy nat_cmp) (sym (map_map (λ (l : LexemeRow). l.symbol) (lexeme_row d) (lexemes d)))
@@ -98,6 +104,9 @@ built_order d = record {
       let (gt, u_is) = got_at (symbols_g1 d) m.symbol u [] (sym on) in
       let e : t ≡ u = sym t_is ∙ (same ∙ u_is) in
       differ [] (symbols_g1 d) l.symbol m.symbol t (symbols_new d) at (subst (λ x. slice_get (symbols_g1 d) m.symbol ≡ Some x) (sym e) on);
+  places = λ k l e.
+      let (t, at, is) = map_get (lexeme_row d) (lexemes d) k l e in
+      subst (λ (r : LexemeRow). r.start ≡ k) is (place_at (start_texts d) k t (starts_new d) (get_front (lexemes d) (filter (λ u. not (is_one_of (lexemes d) u)) (discarded d)) k t at));
 }
 
 pub in_order : (b : Built) → IsBuilt b → AreInOrder b

@@ -1,34 +1,12 @@
--- Starts that are marked one after another, and what results tell.
-use Rattle.std.proofs.Common.{arith, ◌≡◌, ◌≢◌, ◌↔◌, ◌⊎◌, inl, inr, ℕ, ◌+◌, ◌<◌, Bool, true, false, cond, List, [], ◌∷◌, ◌++◌, length, take, get_or, set, Contains, Option, Some, None, Result, Ok, Err, OnOk, IfOk, refl, sym, ◌∙◌, subst}
+-- What results tell.
+use Rattle.std.proofs.Common.{◌≡◌, ℕ, cond, List, ◌++◌, Option, Some, None, Result, Ok, Err, OnOk, IfOk, refl, subst}
 use Rattle.std.specs.Prelude.{IsNone, IfSome, is_ok}
 use Rattle.std.specs.Option.{IsSomeAnd}
-use Rattle.std.proofs.lemmas.Bool.{cases_lt, true≢false}
-use Rattle.std.proofs.lemmas.List.{take_more, get_or-set_same, get_or-set_other}
-use Rattle.std.proofs.lemmas.List.Elements.{Contains-append_left, Contains-push, Contains-push_cases}
-use Rattle.scanless.specs.Pieces.{IsMarked}
+use Rattle.std.proofs.lemmas.Bool.{true≢false}
 
-same_or : (k s : ℕ) → (k ≡ s) ⊎ (k ≢ s)
-same_or k s = elim (cases_lt k s) [
-  | inl lt ↦ inr (λ e. omega (arith, lt, e))
-  | inr ge ↦ elim (cases_lt s k) [ inl gt ↦ inr (λ e. omega (arith, gt, e)) | inr le ↦ inl (omega (arith, ge, le)) ]
-]
-
-module _ (n : ℕ) (xs : List Bool) (starts : List ℕ) (i : ℕ) (lt : i < length starts) (all : length xs ≡ n) (within : get_or starts i 0 < n) (marked : (k : ℕ) → k < n → IsMarked xs k ↔ Contains (take i starts) k) where
-  with_one : (k : ℕ) → k < n → (k ≡ get_or starts i 0) ⊎ (k ≢ get_or starts i 0) → IsMarked (set xs (get_or starts i 0) true) k ↔ Contains (take i starts ++ get_or starts i 0 ∷ []) k
-  with_one k k_lt (inl e) = (
-    (λ m. subst (Contains (take i starts ++ get_or starts i 0 ∷ [])) (sym e) (Contains-push (take i starts) (get_or starts i 0))),
-    (λ c. subst (λ j. IsMarked (set xs (get_or starts i 0) true) j) (sym e) (get_or-set_same xs (get_or starts i 0) true false (omega (arith, all, within)))),
-  )
-  with_one k k_lt (inr other) =
-      let same = get_or-set_other xs (get_or starts i 0) k true false other in (
-        (λ m. Contains-append_left (take i starts) (get_or starts i 0 ∷ []) k ((marked k k_lt).0 (sym same ∙ m))),
-        (λ c. same ∙ (marked k k_lt).1 (elim (Contains-push_cases (take i starts) (get_or starts i 0) k c) [ inl o ↦ o | inr e ↦ absurd (other (sym e)) ])),
-      )
-
-  pub mark_more : (k : ℕ) → k < n → IsMarked (set xs (get_or starts i 0) true) k ↔ Contains (take (i + 1) starts) k
-  mark_more k k_lt = subst (λ l. IsMarked (set xs (get_or starts i 0) true) k ↔ Contains l k) (sym (take_more starts i 0 lt)) (with_one k k_lt (same_or k (get_or starts i 0)))
-
--- ---- results
+pub when_ok : {T E : Type 0} (r : Result T E) (done undone new : List ℕ) (P : Type 0) → new ≡ cond (is_ok r) done undone → (new ≡ done → P) → OnOk r P
+when_ok (Ok x) done undone new P e f = f e
+when_ok (Err x) done undone new P e f = tt
 
 pub appended : {T E : Type 0} (r : Result T E) (old more new : List ℕ) (P : Type 0) → new ≡ cond (is_ok r) (old ++ more) old → (new ≡ old ++ more → P) → OnOk r P
 appended (Ok x) old more new P e f = f e

@@ -1,5 +1,5 @@
 -- Reading piece by piece: what is read goes on, or ends.
-use Rattle.std.proofs.Common.{arith, ◌≡◌, ◌↔◌, ℕ, ◌+◌, ◌<◌, ◌≤◌, Bool, List, [], ◌∷◌, ◌++◌, length, map, Contains, refl, sym, ◌∙◌, ap, subst}
+use Rattle.std.proofs.Common.{arith, ◌≡◌, ◌↔◌, ℕ, ◌+◌, ◌<◌, ◌≤◌, List, [], ◌∷◌, ◌++◌, length, map, Contains, refl, sym, ◌∙◌, ap, subst}
 use Rattle.std.specs.List.Sorted.{IsStrictlySortedBy}
 use Rattle.std.specs.Ordering.{nat_cmp}
 use Rattle.grammar_core.specs.declared.steps.Span.{Span}
@@ -31,7 +31,7 @@ module _ (b : Built) (text : List ℕ) where
     taken n [] more longest some sorted exact = absurd (omega (arith, some))
     taken n (first ∷ others) more longest some sorted exact = Take first others read.reads more longest sorted exact
 
-    module _ (n : ℕ) (marks : List Bool) (more : at < length text) (by : IsLongestBy b text pieces at n marks) (kept : List ℕ) where
+    module _ (n : ℕ) (matched : List ℕ) (more : at < length text) (by : IsLongestBy b text pieces at n matched) (kept : List ℕ) where
       pub reads_token : (new : Recognizer) (spans' : List Span) → at + n ≤ length text → IsStrictlySortedBy nat_cmp kept → IsChosen b text pieces at n kept choice.Token → Takes recce new kept →
           map span_of spans' ≡ map span_of spans ++ (at, n) ∷ [] → HasRead b text (pieces ++ Token n kept ∷ []) (at + n) new spans'
       reads_token new spans' within sorted chosen takes spans_are = record {

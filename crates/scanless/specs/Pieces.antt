@@ -1,5 +1,5 @@
 -- What can be taken at a place of a text, as a program looks for it.
-use Rattle.std.specs.Prelude.{◌≡◌, ℕ, ◌+◌, ◌<◌, ◌≤◌, ◌≤ℤ◌, ◌⊎◌, ◌↔◌, ◌++◌, List, [], ◌∷◌, length, map, Bool, false, IsTrue, Option, Some, None, Contains, slice_index_or}
+use Rattle.std.specs.Prelude.{◌≡◌, ℕ, ◌+◌, ◌<◌, ◌≤◌, ◌≤ℤ◌, ◌⊎◌, ◌↔◌, ◌++◌, List, [], ◌∷◌, length, map, Option, Some, None, Contains, slice_get}
 use Rattle.std.specs.List.Sorted.{IsStrictlySortedBy}
 use Rattle.std.specs.Ordering.{nat_cmp}
 use Rattle.grammar_model.specs.Values.{name_of}
@@ -13,10 +13,19 @@ use Rattle.dsl_build.specs.declared.built.LexemeRow.{LexemeRow as HeldRow}
 use Rattle.earley_sets.specs.Recognizer.{Recognizer, IsExpected}
 use Rattle.lexer.specs.Lexical.{LexicalForm}
 
--- the lexemes are in order of their symbols, each of which has a name of its own
+-- the lexemes are in order of their symbols, each of which has a name of its own, and the first starts are theirs
 pub record AreInOrder (b : Built) : Type 0 where
   pub ascend : IsStrictlySortedBy nat_cmp (map (λ (l : LexemeRow). l.symbol) b.lexemes)
   pub differ : (l m : LexemeRow) → Contains b.lexemes l → Contains b.lexemes m → name_of b.g1 l.symbol ≡ name_of b.g1 m.symbol → l.symbol ≡ m.symbol
+  pub places : (k : ℕ) (l : LexemeRow) → slice_get b.lexemes k ≡ Some l → l.start ≡ k
+
+-- the start of each row is its place
+abbrev pub ArePlaced : List HeldRow → Type 0
+ArePlaced rows = (k : ℕ) (r : HeldRow) → slice_get rows k ≡ Some r → r.start ≡ k
+
+-- the only row of a start
+abbrev pub IsRowAt : List HeldRow → ℕ → HeldRow → Type 0
+IsRowAt rows start r = Contains rows r × (r.start ≡ start) × ((other : HeldRow) → Contains rows other → other.start ≡ start → other ≡ r)
 
 -- a lexer for the lexical grammar, where there is a lexeme or a discard
 abbrev pub IsLexerOf : Built → Option LexicalForm → Type 0
@@ -26,13 +35,10 @@ IsLexerOf b (Some l) = IsLexical b × IsFlat l.flat × IsFlatOf l.flat b.l0 × (
 abbrev pub AreCandidates : Built → List Piece → List ℕ → Type 0
 AreCandidates b pieces starts = (start : ℕ) → Contains starts start ↔ IsCandidate b pieces start
 
-abbrev pub IsMarked : List Bool → ℕ → Type 0
-IsMarked marks start = IsTrue (slice_index_or marks start false)
-
--- the length of the longest match, and of all starts just the candidates that have it are marked
-pub record IsLongestBy (b : Built) (text : List ℕ) (pieces : List Piece) (at n : ℕ) (marks : List Bool) : Type 0 where
+-- the length of the longest match, and just the candidates that have it
+pub record IsLongestBy (b : Built) (text : List ℕ) (pieces : List Piece) (at n : ℕ) (matched : List ℕ) : Type 0 where
   pub longest : IsLongest b text pieces at n
-  pub marked : (start : ℕ) → start < length b.l0.starts → IsMarked marks start ↔ (IsCandidate b pieces start × Matches b text start at (at + n))
+  pub exact : (start : ℕ) → Contains matched start ↔ (IsCandidate b pieces start × Matches b text start at (at + n))
 
 -- the element goes last, if P holds
 abbrev pub AddsIf : {A : Type 0} → Type 0 → A → (old new : List A) → Type 0
@@ -58,6 +64,10 @@ abbrev pub IsHighestOf : (HeldRow → Type 0) → List HeldRow → Option HeldRo
 IsHighestOf P rows None = (r : HeldRow) → Contains rows r → P r → ⊥
 IsHighestOf P rows (Some h) = Contains rows h × P h × ((r : HeldRow) → Contains rows r → P r → r.priority ≤ℤ h.priority)
 
--- the row's start is marked and its symbol expected
-abbrev pub IsFit : Recognizer → List Bool → HeldRow → Type 0
-IsFit recce marks r = IsMarked marks r.start × IsExpected recce r.symbol
+-- the row's start is one of these and its symbol expected
+abbrev pub IsFit : Recognizer → List ℕ → HeldRow → Type 0
+IsFit recce starts r = Contains starts r.start × IsExpected recce r.symbol
+
+-- it also has the priority of the highest
+abbrev pub IsBest : Recognizer → List ℕ → (highest : HeldRow) → HeldRow → Type 0
+IsBest recce starts highest r = IsFit recce starts r × (r.priority ≡ highest.priority)

@@ -5,7 +5,7 @@ ghost use Rattle.dsl_build.specs.declared.built.LexemeRow.{LexemeRow as HeldRow}
 ghost use Rattle.reading_model.specs.Matches.{Matches};
 ghost use Rattle.reading_model.specs.Reading.{Piece, IsLongest};
 ghost use Rattle.scanless.specs.Reading.{HoldsPieces};
-ghost use Rattle.scanless.specs.Pieces.{IsLexerOf, AreCandidates, AreMatched, IsMarked, IsLongestBy, AddsIf, Gathers};
+ghost use Rattle.scanless.specs.Pieces.{IsLexerOf, AreCandidates, AreMatched, IsLongestBy, AddsIf, Gathers};
 
 use crate::Prepared;
 use dsl_build::LexemeRow;
@@ -21,8 +21,8 @@ pub struct Work<'p> {
     pub lexer: Option<Lexer<'p>>,
     /// what is looked for, by its places among the starts
     pub candidates: Vec<u32>,
-    /// which starts have the longest match
-    pub marks: Vec<bool>,
+    /// which of them have the longest match
+    pub matched: Vec<u32>,
     /// the lexemes that are kept
     pub kept: Vec<SymbolId>,
 }
@@ -35,7 +35,7 @@ impl<'p> Work<'p> {
         Ok(Work {
             lexer: lexer_of(alloc, p)?,
             candidates: Vec::new(alloc),
-            marks: Vec::new(alloc),
+            matched: Vec::new(alloc),
             kept: Vec::new(alloc),
         })
     }
@@ -133,22 +133,8 @@ fn longest(
     }
 }
 
-// Marks these of so many starts.
-fn mark(marks: &mut Vec<bool>, count: usize, starts: &[u32]) -> Result<(), AllocError>
-    requires { (k : ℕ) → Contains starts.now k → k < count }
-    ensures all { OnOk result (length marks.new.items ≡ count) }
-    ensures exact { OnOk result ((k : ℕ) → k < count → IsMarked marks.new.items k ↔ Contains starts.now k) }
-{
-    marks.clear();
-    marks.resize(count, false)?;
-    for start in starts {
-        marks[*start as usize] = true;
-    }
-    Ok(())
-}
-
 /// The length of the longest match of what is looked for at a place, where something matches a character; then just the starts
-/// that have it are marked.
+/// that have it are listed.
 pub fn look(
     work: &mut Work<'_>,
     alloc: Global,
@@ -162,9 +148,8 @@ pub fn look(
     requires few { length chars.now ≤ 16777216 }
     ensures lexer { OnOk result (IsLexerOf p.now work.new.lexer) }
     ensures none { IfOk result (λ answer. IsNone answer → (pieces : List Piece) → HoldsPieces p.now pieces recce.now → (n : ℕ) → IsLongest p.now chars.now pieces at n → ⊥) }
-    ensures some { IfOk result (λ answer. IfSome answer (λ n. (pieces : List Piece) → HoldsPieces p.now pieces recce.now → IsLongestBy p.now chars.now pieces at n work.new.marks.items)) }
+    ensures some { IfOk result (λ answer. IfSome answer (λ n. (pieces : List Piece) → HoldsPieces p.now pieces recce.now → IsLongestBy p.now chars.now pieces at n work.new.matched.items)) }
     ensures within { IfOk result (λ answer. IfSome answer (λ n. (0 < n) × (at + n ≤ length chars.now))) }
-    ensures marks { IfOk result (λ answer. IfSome answer (λ n. length work.new.marks.items ≡ length p.now.l0.starts)) }
 {
     p.known();
     list_candidates(p, recce, &mut work.candidates)?;
@@ -172,7 +157,7 @@ pub fn look(
     match longest(&mut work.lexer, alloc, p, chars, at, starts)? {
         None => Ok(None),
         Some(answer) => {
-            mark(&mut work.marks, p.start_count(), answer.matched.as_slice())?;
+            work.matched = answer.matched;
             Ok(Some(answer.length))
         }
     }

@@ -1,12 +1,12 @@
 //! Which of the lexemes that have the longest match are kept, and whether a discard has it.
-ghost use Rattle.std.specs.Prelude.{◌≡◌, ℕ, ◌<◌, ◌≤ℤ◌, ◌⊎◌, ◌↔◌, ◌++◌, ◌∷◌, [], List, length, map, option_copied, All, IsTrue, IfOk, OnOk, Contains};
+ghost use Rattle.std.specs.Prelude.{◌≡◌, ◌≢◌, ℕ, ◌≤ℤ◌, ◌⊎◌, ◌↔◌, ◌++◌, ◌∷◌, [], List, option_copied, IsTrue, IsNone, IfSome, IfOk, OnOk, Contains};
 ghost use Rattle.std.specs.List.Sorted.{IsStrictlySortedBy};
 ghost use Rattle.std.specs.Ordering.{nat_cmp};
 ghost use Rattle.earley_sets.specs.Recognizer.{IsExpected};
 ghost use Rattle.dsl_build.specs.declared.built.LexemeRow.{LexemeRow as HeldRow};
 ghost use Rattle.reading_model.specs.Reading.{Piece, IsKept, IsSkipped};
 ghost use Rattle.scanless.specs.Reading.{HoldsPieces, IsChosen};
-ghost use Rattle.scanless.specs.Pieces.{IsLongestBy, IsHighestOf, IsFit, IsMarked, AddsIf, Gathers};
+ghost use Rattle.scanless.specs.Pieces.{ArePlaced, IsLongestBy, IsRowAt, IsHighestOf, IsFit, IsBest, Gathers};
 
 use crate::Prepared;
 use crate::candidates::Work;
@@ -25,12 +25,27 @@ pub enum Choice {
     Nothing,
 }
 
-// Whether a lexeme has the longest match and is acceptable.
-fn fits(row: &LexemeRow, recce: &Recce<'_>, marks: &[bool]) -> bool
-    requires { row.now.start < length marks.now }
-    ensures { IsTrue result ↔ IsFit recce.now marks.now row.now }
+/// The row of a start, if it is a lexeme's.
+pub fn row_at(rows: &[LexemeRow], start: u32) -> Option<&LexemeRow>
+    requires { ArePlaced rows.now }
+    ensures some { IfSome result (λ r. IsRowAt rows.now start r.now) }
+    ensures none { IsNone result → (r : HeldRow) → Contains rows.now r → r.start ≢ start }
 {
-    marks[row.start as usize] && recce.is_expected(row.symbol)
+    rows.get(start as usize)
+}
+
+// The row of a start, if it is that of a lexeme that is acceptable.
+fn fitting<'r>(rows: &'r [LexemeRow], recce: &Recce<'_>, start: u32) -> Option<&'r LexemeRow>
+    requires { ArePlaced rows.now }
+    ensures some { IfSome result (λ r. IsRowAt rows.now start r.now × IsExpected recce.now r.now.symbol) }
+    ensures none { IsNone result → (r : HeldRow) → Contains rows.now r → r.start ≡ start → IsExpected recce.now r.symbol → ⊥ }
+{
+    let row = row_at(rows, start)?;
+    if recce.is_expected(row.symbol) {
+        Some(row)
+    } else {
+        None
+    }
 }
 
 fn greater<'r>(a: &'r LexemeRow, b: &'r LexemeRow) -> &'r LexemeRow
@@ -40,19 +55,19 @@ fn greater<'r>(a: &'r LexemeRow, b: &'r LexemeRow) -> &'r LexemeRow
     if a.priority < b.priority { b } else { a }
 }
 
-// A row of the highest priority so far, with one row more.
+// A row of the highest priority so far, with one start more.
 fn raised<'r>(
     highest: Option<&'r LexemeRow>,
-    row: &'r LexemeRow,
+    rows: &'r [LexemeRow],
     recce: &Recce<'_>,
-    marks: &[bool],
+    start: u32,
 ) -> Option<&'r LexemeRow>
-    requires { row.now.start < length marks.now }
-    ensures { (rows : List HeldRow) → IsHighestOf (IsFit recce.now marks.now) rows (option_copied highest.entry) → IsHighestOf (IsFit recce.now marks.now) (rows ++ row.now ∷ []) (option_copied result) }
+    requires { ArePlaced rows.now }
+    ensures { (starts : List ℕ) → IsHighestOf (IsFit recce.now starts) rows.now (option_copied highest.entry) → IsHighestOf (IsFit recce.now (starts ++ start ∷ [])) rows.now (option_copied result) }
 {
-    if !fits(row, recce, marks) {
+    let Some(row) = fitting(rows, recce, start) else {
         return highest;
-    }
+    };
     match highest {
         Some(other) => Some(greater(other, row)),
         None => Some(row),
@@ -60,50 +75,72 @@ fn raised<'r>(
 }
 
 // A row of the highest priority of those that fit.
-fn highest<'r>(rows: &'r [LexemeRow], recce: &Recce<'_>, marks: &[bool]) -> Option<&'r LexemeRow>
-    requires { All (λ r. r.start < length marks.now) rows.now }
-    ensures { IsHighestOf (IsFit recce.now marks.now) rows.now (option_copied result) }
+fn highest<'r>(rows: &'r [LexemeRow], recce: &Recce<'_>, matched: &[u32]) -> Option<&'r LexemeRow>
+    requires { ArePlaced rows.now }
+    ensures { IsHighestOf (IsFit recce.now matched.now) rows.now (option_copied result) }
 {
     let mut highest = None;
-    for row in rows {
-        highest = raised(highest, row, recce, marks);
+    for start in matched {
+        highest = raised(highest, rows, recce, *start);
     }
     highest
 }
 
-// Keeps a lexeme, if it fits and has the highest priority.
+/// Puts a symbol in its place, unless it is there.
+pub fn insert(symbols: &mut Vec<SymbolId>, symbol: SymbolId) -> Result<(), AllocFailed<SymbolId>>
+    requires { IsStrictlySortedBy nat_cmp symbols.old.items }
+    ensures sorted { OnOk result (IsStrictlySortedBy nat_cmp symbols.new.items) }
+    ensures exact { OnOk result ((s : ℕ) → Contains symbols.new.items s ↔ (Contains symbols.old.items s ⊎ (s ≡ symbol))) }
+{
+    match symbols.binary_search(&symbol) {
+        Ok(_) => Ok(()),
+        Err(place) => symbols.insert(place, symbol),
+    }
+}
+
+fn is_as_high(a: &LexemeRow, b: &LexemeRow) -> bool
+    ensures { IsTrue result ↔ (a.now.priority ≡ b.now.priority) }
+{
+    a.priority == b.priority
+}
+
+// Keeps the lexeme of a start, if it fits and has the highest priority.
 fn keep(
-    row: &LexemeRow,
+    rows: &[LexemeRow],
     recce: &Recce<'_>,
-    marks: &[bool],
+    start: u32,
     highest: &LexemeRow,
     kept: &mut Vec<SymbolId>,
 ) -> Result<(), AllocFailed<SymbolId>>
-    requires { row.now.start < length marks.now }
-    ensures { OnOk result (AddsIf (IsFit recce.now marks.now row.now × (row.now.priority ≡ highest.now.priority)) row.now.symbol kept.old.items kept.new.items) }
+    requires places { ArePlaced rows.now }
+    requires sorted { IsStrictlySortedBy nat_cmp kept.old.items }
+    ensures sorted { OnOk result (IsStrictlySortedBy nat_cmp kept.new.items) }
+    ensures exact { OnOk result ((starts : List ℕ) → Gathers (IsBest recce.now starts highest.now) (λ (r : HeldRow). r.symbol) rows.now kept.old.items →
+        Gathers (IsBest recce.now (starts ++ start ∷ []) highest.now) (λ (r : HeldRow). r.symbol) rows.now kept.new.items) }
 {
-    let fits = fits(row, recce, marks);
-    if fits && row.priority == highest.priority {
-        kept.push(row.symbol)?;
+    let Some(row) = fitting(rows, recce, start) else {
+        return Ok(());
+    };
+    if !is_as_high(row, highest) {
+        return Ok(());
     }
-    Ok(())
+    insert(kept, row.symbol)
 }
 
 fn keep_all(
     rows: &[LexemeRow],
     recce: &Recce<'_>,
-    marks: &[bool],
+    matched: &[u32],
     highest: &LexemeRow,
     kept: &mut Vec<SymbolId>,
 ) -> Result<(), AllocFailed<SymbolId>>
-    requires starts { All (λ r. r.start < length marks.now) rows.now }
-    requires order { IsStrictlySortedBy nat_cmp (map (λ (r : HeldRow). r.symbol) rows.now) }
+    requires places { ArePlaced rows.now }
     requires none { kept.old.items ≡ [] }
     ensures sorted { OnOk result (IsStrictlySortedBy nat_cmp kept.new.items) }
-    ensures exact { OnOk result (Gathers (λ (r : HeldRow). IsFit recce.now marks.now r × (r.priority ≡ highest.now.priority)) (λ (r : HeldRow). r.symbol) rows.now kept.new.items) }
+    ensures exact { OnOk result (Gathers (IsBest recce.now matched.now highest.now) (λ (r : HeldRow). r.symbol) rows.now kept.new.items) }
 {
-    for row in rows {
-        keep(row, recce, marks, highest, kept)?;
+    for start in matched {
+        keep(rows, recce, *start, highest, kept)?;
     }
     Ok(())
 }
@@ -112,13 +149,12 @@ fn keep_all(
 fn list_kept(
     p: &Prepared,
     recce: &Recce<'_>,
-    marks: &[bool],
+    matched: &[u32],
     kept: &mut Vec<SymbolId>,
 ) -> Result<(), AllocFailed<SymbolId>>
-    requires { length marks.now ≡ length p.now.l0.starts }
     ensures sorted { OnOk result (IsStrictlySortedBy nat_cmp kept.new.items) }
     ensures expected { OnOk result ((s : ℕ) → Contains kept.new.items s → IsExpected recce.now s) }
-    ensures exact { OnOk result ((text : List ℕ) (pieces : List Piece) (at n : ℕ) → HoldsPieces p.now pieces recce.now → IsLongestBy p.now text pieces at n marks.now →
+    ensures exact { OnOk result ((text : List ℕ) (pieces : List Piece) (at n : ℕ) → HoldsPieces p.now pieces recce.now → IsLongestBy p.now text pieces at n matched.now →
         (s : ℕ) → Contains kept.new.items s ↔ IsKept p.now text pieces at n s) }
 {
     p.known();
@@ -126,27 +162,30 @@ fn list_kept(
     let _place = recce.place();
     let rows = p.lexemes();
     kept.clear();
-    match highest(rows, recce, marks) {
-        Some(row) => keep_all(rows, recce, marks, row, kept),
+    match highest(rows, recce, matched) {
+        Some(row) => keep_all(rows, recce, matched, row, kept),
         None => Ok(()),
     }
 }
 
 // Whether a discard has the longest match.
-fn is_skipped(p: &Prepared, marks: &[bool]) -> bool
-    requires { length marks.now ≡ length p.now.l0.starts }
-    ensures { (text : List ℕ) (pieces : List Piece) (at n : ℕ) → IsLongestBy p.now text pieces at n marks.now → IsTrue result ↔ IsSkipped p.now text pieces at n }
+fn is_skipped(p: &Prepared, matched: &[u32]) -> bool
+    ensures { (text : List ℕ) (pieces : List Piece) (at n : ℕ) → IsLongestBy p.now text pieces at n matched.now → IsTrue result ↔ IsSkipped p.now text pieces at n }
 {
-    p.known();
-    is_marked(p.discards(), marks)
+    has_one(p.discards(), matched)
 }
 
-fn is_marked(starts: &[u32], marks: &[bool]) -> bool
-    requires { All (λ k. k < length marks.now) starts.now }
-    ensures { IsTrue result ↔ ((k : ℕ) × Contains starts.now k × IsMarked marks.now k) }
+fn is_among(start: u32, matched: &[u32]) -> bool
+    ensures { IsTrue result ↔ Contains matched.now start }
+{
+    matched.contains(&start)
+}
+
+fn has_one(starts: &[u32], matched: &[u32]) -> bool
+    ensures { IsTrue result ↔ ((k : ℕ) × Contains starts.now k × Contains matched.now k) }
 {
     for start in starts {
-        if marks[*start as usize] {
+        if is_among(*start, matched) {
             return true;
         }
     }
@@ -155,18 +194,17 @@ fn is_marked(starts: &[u32], marks: &[bool]) -> bool
 
 /// Lists the lexemes that are kept of the longest match, by their numbers, and tells what can be taken.
 pub fn choose(work: &mut Work<'_>, p: &Prepared, recce: &Recce<'_>) -> Result<Choice, AllocError>
-    requires { length work.old.marks.items ≡ length p.now.l0.starts }
-    ensures same { (work.new.lexer ≡ work.old.lexer) × (work.new.marks.items ≡ work.old.marks.items) }
+    ensures same { (work.new.lexer ≡ work.old.lexer) × (work.new.matched.items ≡ work.old.matched.items) }
     ensures sorted { OnOk result (IsStrictlySortedBy nat_cmp work.new.kept.items) }
     ensures expected { OnOk result ((s : ℕ) → Contains work.new.kept.items s → IsExpected recce.now s) }
-    ensures chosen { IfOk result (λ choice. (text : List ℕ) (pieces : List Piece) (at n : ℕ) → HoldsPieces p.now pieces recce.now → IsLongestBy p.now text pieces at n work.old.marks.items →
+    ensures chosen { IfOk result (λ choice. (text : List ℕ) (pieces : List Piece) (at n : ℕ) → HoldsPieces p.now pieces recce.now → IsLongestBy p.now text pieces at n work.old.matched.items →
         IsChosen p.now text pieces at n work.new.kept.items choice) }
 {
-    list_kept(p, recce, work.marks.as_slice(), &mut work.kept)?;
+    list_kept(p, recce, work.matched.as_slice(), &mut work.kept)?;
     if !work.kept.is_empty() {
         return Ok(Choice::Token);
     }
-    if is_skipped(p, work.marks.as_slice()) {
+    if is_skipped(p, work.matched.as_slice()) {
         return Ok(Choice::Skipped);
     }
     Ok(Choice::Nothing)

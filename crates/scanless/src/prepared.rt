@@ -112,7 +112,7 @@ impl Prepared {
         let _ = &self.built;
     }
 
-    /// States that the lexemes are in order.
+    /// States that the lexemes are in order, and the first starts.
     pub(crate) fn in_order(&self)
         ensures { AreInOrder self.now }
     {
@@ -174,13 +174,6 @@ impl Prepared {
         ensures { map row_of result.now ≡ self.now.lexemes }
     {
         self.built.lexemes.as_slice()
-    }
-
-    // How many starts the lexical grammar has.
-    pub(crate) fn start_count(&self) -> usize
-        ensures { result ≡ length self.now.l0.starts }
-    {
-        self.built.l0.start_count()
     }
 
     /// How many discards there are.

@@ -136,7 +136,7 @@ impl<'p> Reader<'p> {
                 Ok(None)
             }
             Choice::Nothing => {
-                let found = found_lexemes(alloc, p, self.work.marks.as_slice())?;
+                let found = found_lexemes(alloc, p, self.work.matched.as_slice())?;
                 self.stop(alloc, p, found)
             }
         }

@@ -1,14 +1,15 @@
 //! What is told of a place: the lexemes that are found and those that are expected.
-ghost use Rattle.std.specs.Prelude.{◌≡◌, ℕ, ◌<◌, List, [], length, map, All, IfOk, OnOk};
+ghost use Rattle.std.specs.Prelude.{◌≡◌, ℕ, List, [], ◌∷◌, ◌++◌, map, IfOk, OnOk, Contains};
 ghost use Rattle.std.specs.List.Sorted.{IsStrictlySortedBy};
 ghost use Rattle.std.specs.Ordering.{nat_cmp};
 ghost use Rattle.earley_sets.specs.Recognizer.{IsExpected};
 ghost use Rattle.dsl_build.specs.declared.built.LexemeRow.{LexemeRow as HeldRow};
 ghost use Rattle.reading_model.specs.Reading.{Piece, AreFound, AreExpected};
 ghost use Rattle.scanless.specs.Reading.{HoldsPieces};
-ghost use Rattle.scanless.specs.Pieces.{IsLongestBy, IsMarked, AddsIf, Gathers};
+ghost use Rattle.scanless.specs.Pieces.{ArePlaced, IsLongestBy, AddsIf, Gathers};
 
 use crate::Prepared;
+use crate::kept::{insert, row_at};
 use crate::names::sort_by_name;
 use dsl_build::LexemeRow;
 use earley_sets::Recce;
@@ -61,33 +62,36 @@ pub fn expected_lexemes(
     Ok(symbols)
 }
 
-fn add_marked(
-    row: &LexemeRow,
-    marks: &[bool],
+// Adds the lexeme of a start, if it is that of one.
+fn add_found(
+    rows: &[LexemeRow],
+    start: u32,
     symbols: &mut Vec<SymbolId>,
 ) -> Result<(), AllocFailed<SymbolId>>
-    requires { row.now.start < length marks.now }
-    ensures { OnOk result (AddsIf (IsMarked marks.now row.now.start) row.now.symbol symbols.old.items symbols.new.items) }
+    requires places { ArePlaced rows.now }
+    requires sorted { IsStrictlySortedBy nat_cmp symbols.old.items }
+    ensures sorted { OnOk result (IsStrictlySortedBy nat_cmp symbols.new.items) }
+    ensures exact { OnOk result ((starts : List ℕ) → Gathers (λ (r : HeldRow). Contains starts r.start) (λ (r : HeldRow). r.symbol) rows.now symbols.old.items →
+        Gathers (λ (r : HeldRow). Contains (starts ++ start ∷ []) r.start) (λ (r : HeldRow). r.symbol) rows.now symbols.new.items) }
 {
-    if marks[row.start as usize] {
-        symbols.push(row.symbol)?;
+    match row_at(rows, start) {
+        Some(row) => insert(symbols, row.symbol),
+        None => Ok(()),
     }
-    Ok(())
 }
 
-fn add_all_marked(
+fn add_all_found(
     rows: &[LexemeRow],
-    marks: &[bool],
+    matched: &[u32],
     symbols: &mut Vec<SymbolId>,
 ) -> Result<(), AllocFailed<SymbolId>>
-    requires starts { All (λ r. r.start < length marks.now) rows.now }
-    requires order { IsStrictlySortedBy nat_cmp (map (λ (r : HeldRow). r.symbol) rows.now) }
+    requires places { ArePlaced rows.now }
     requires none { symbols.old.items ≡ [] }
     ensures sorted { OnOk result (IsStrictlySortedBy nat_cmp symbols.new.items) }
-    ensures exact { OnOk result (Gathers (λ (r : HeldRow). IsMarked marks.now r.start) (λ (r : HeldRow). r.symbol) rows.now symbols.new.items) }
+    ensures exact { OnOk result (Gathers (λ (r : HeldRow). Contains matched.now r.start) (λ (r : HeldRow). r.symbol) rows.now symbols.new.items) }
 {
-    for row in rows {
-        add_marked(row, marks, symbols)?;
+    for start in matched {
+        add_found(rows, *start, symbols)?;
     }
     Ok(())
 }
@@ -96,15 +100,13 @@ fn add_all_marked(
 pub fn found_lexemes(
     alloc: Global,
     p: &Prepared,
-    marks: &[bool],
+    matched: &[u32],
 ) -> Result<Vec<SymbolId>, AllocError>
-    requires { length marks.now ≡ length p.now.l0.starts }
-    ensures { IfOk result (λ symbols. (text : List ℕ) (pieces : List Piece) (at n : ℕ) → IsLongestBy p.now text pieces at n marks.now → AreFound p.now text pieces at symbols.items) }
+    ensures { IfOk result (λ symbols. (text : List ℕ) (pieces : List Piece) (at n : ℕ) → IsLongestBy p.now text pieces at n matched.now → AreFound p.now text pieces at symbols.items) }
 {
-    p.known();
     p.in_order();
     let mut symbols = Vec::new(alloc);
-    add_all_marked(p.lexemes(), marks, &mut symbols)?;
+    add_all_found(p.lexemes(), matched, &mut symbols)?;
     sort_by_name(p, &mut symbols)?;
     Ok(symbols)
 }

@@ -6,7 +6,7 @@ use Rattle.scanless.specs.Reading.{HoldsPieces}
 use Rattle.scanless.specs.Pieces.{AreCandidates}
 use Rattle.scanless.proofs.Nexts.{next_is}
 use Rattle.scanless.proofs.Choosing.{candidates_known, candidates_are}
-use Rattle.scanless.proofs.Marking.{appended}
+use Rattle.scanless.proofs.Results.{appended}
 use Rattle.scanless.proofs.candidates.list_candidates.Goals as goal
 
 pub returns-clause-known : goal.returns-clause-known

@@ -5,7 +5,7 @@ use Rattle.lexer.specs.declared.lexer.LexAnswer.{LexAnswer}
 use Rattle.lexer.specs.Lexical.{IsLongestMatch, IsUnmatched}
 use Rattle.scanless.specs.Pieces.{IsLexerOf, AreMatched}
 use Rattle.scanless.proofs.Matched.{matched, unmatched}
-use Rattle.scanless.proofs.Marking.{if_ok, if_some}
+use Rattle.scanless.proofs.Results.{if_ok, if_some}
 use Rattle.scanless.proofs.candidates.longest.Goals as goal
 
 pub longest-requires-clause-starts : goal.longest-requires-clause-starts

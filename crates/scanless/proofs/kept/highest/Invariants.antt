@@ -3,5 +3,5 @@ use Rattle.std.specs.Prelude.{option_copied}
 use Rattle.scanless.specs.Pieces.{IsHighestOf, IsFit}
 use Rattle.scanless.proofs.kept.highest.Given as goal
 
-abbrev pub invariant-loop-row : goal.invariant-loop-row
-invariant-loop-row l = IsHighestOf (IsFit l.recce l.marks) (take l.row-index l.rows) (option_copied l.highest)
+abbrev pub invariant-loop-start : goal.invariant-loop-start
+invariant-loop-start l = IsHighestOf (IsFit l.recce (take l.start-index l.matched)) l.rows (option_copied l.highest)

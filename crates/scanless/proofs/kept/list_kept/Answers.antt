@@ -8,17 +8,14 @@ use Rattle.reading_model.specs.Reading.{IsKept}
 use Rattle.scanless.specs.Pieces.{IsHighestOf, IsFit}
 use Rattle.scanless.proofs.Gathering.{sorted_none}
 use Rattle.scanless.proofs.Nexts.{next_is}
-use Rattle.scanless.proofs.Choosing.{rows_ascend, rows_start, kept_are, none_kept}
+use Rattle.scanless.proofs.Choosing.{rows_placed, kept_are, none_kept}
 use Rattle.scanless.proofs.kept.list_kept.Goals as goal
 
 pub highest-requires : goal.highest-requires
-highest-requires c = rows_start c.args.p.now c.lexemes-rows.result.now c.lexemes-rows.ensures c.args.marks.now c.known.ensures.ranges.starts c.requires
+highest-requires c = rows_placed c.args.p.now c.lexemes-rows.result.now c.lexemes-rows.ensures c.in_order.ensures
 
-pub keep_all-requires-clause-starts : goal.keep_all-requires-clause-starts
-keep_all-requires-clause-starts c = rows_start c.args.p.now c.lexemes-rows.result.now c.lexemes-rows.ensures c.args.marks.now c.known.ensures.ranges.starts c.requires
-
-pub keep_all-requires-clause-order : goal.keep_all-requires-clause-order
-keep_all-requires-clause-order c = rows_ascend c.args.p.now c.lexemes-rows.result.now c.lexemes-rows.ensures c.in_order.ensures
+pub keep_all-requires-clause-places : goal.keep_all-requires-clause-places
+keep_all-requires-clause-places c = rows_placed c.args.p.now c.lexemes-rows.result.now c.lexemes-rows.ensures c.in_order.ensures
 
 pub returns-in-Some-clause-expected : goal.returns-in-Some-clause-expected
 returns-in-Some-clause-expected c =
@@ -28,9 +25,9 @@ pub returns-in-Some-clause-exact : goal.returns-in-Some-clause-exact
 returns-in-Some-clause-exact c =
     let e : c.highest.result ≡ Some c.in-Some.row = cc in
     on_ok_weaker c.keep_all.result
-    (λ g text pieces at n holds by. kept_are c.args.p.now c.lexemes-rows.result.now c.lexemes-rows.ensures c.known.ensures.ranges.starts text pieces at n c.args.marks.now by c.args.recce.now
+    (λ g text pieces at n holds by. kept_are c.args.p.now c.lexemes-rows.result.now c.lexemes-rows.ensures text pieces at n c.args.matched.now by c.args.recce.now
     (next_is c.args.p.now c.known.ensures.accepted.checked.structural pieces c.args.recce.now c.place-place.ensures.is holds) c.in-Some.row.now c.keep_all.new.kept.items
-    (subst (λ o. IsHighestOf (IsFit c.args.recce.now c.args.marks.now) c.lexemes-rows.result.now (option_copied o)) e c.highest.ensures) g)
+    (subst (λ o. IsHighestOf (IsFit c.args.recce.now c.args.matched.now) c.lexemes-rows.result.now (option_copied o)) e c.highest.ensures) g)
     c.keep_all.ensures.exact
 
 pub returns-in-None-clause-sorted : goal.returns-in-None-clause-sorted
@@ -40,6 +37,6 @@ pub returns-in-None-clause-exact : goal.returns-in-None-clause-exact
 returns-in-None-clause-exact c = λ text pieces at n holds by.
     let e : c.highest.result ≡ None = cc in
     subst (λ kept. (symbol : ℕ) → Contains kept symbol ↔ IsKept c.args.p.now text pieces at n symbol) (sym c.clear.ensures.items)
-    (none_kept c.args.p.now c.lexemes-rows.result.now c.lexemes-rows.ensures c.known.ensures.ranges.starts text pieces at n c.args.marks.now by c.args.recce.now
+    (none_kept c.args.p.now c.lexemes-rows.result.now c.lexemes-rows.ensures text pieces at n c.args.matched.now by c.args.recce.now
     (next_is c.args.p.now c.known.ensures.accepted.checked.structural pieces c.args.recce.now c.place-place.ensures.is holds)
-    (subst (λ o. IsHighestOf (IsFit c.args.recce.now c.args.marks.now) c.lexemes-rows.result.now (option_copied o)) e c.highest.ensures))
+    (subst (λ o. IsHighestOf (IsFit c.args.recce.now c.args.matched.now) c.lexemes-rows.result.now (option_copied o)) e c.highest.ensures))
