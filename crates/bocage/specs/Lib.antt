@@ -1,4 +1,5 @@
 pub mod Rows
+pub mod Near
 pub mod Readers
 pub mod Expanded
 pub mod Joins

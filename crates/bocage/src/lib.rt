@@ -5,6 +5,7 @@ mod chains;
 mod ends;
 mod forest;
 mod joins;
+mod near;
 mod refusal;
 mod rows;
 mod walk;

@@ -1,0 +1,26 @@
+-- A hash that keeps what lies near together.
+use Rattle.std.specs.Prelude.{ℕ, ◌+◌, ◌*◌, ◌/◌, ◌%◌, ◌^◌, List, slice_index_or, bit_xor}
+use Rattle.bocage.specs.declared.near.NearHasher.{NearHasher}
+
+abbrev pub start : NearHasher
+start = record { mixed = 0; before = 0; last = 0 }
+
+abbrev pub mixed_with : ℕ → ℕ → ℕ
+mixed_with state number = let y = (bit_xor state number * 0x9e3779b97f4a7c15) % 2 ^ 64 in bit_xor y (y / 2 ^ 32)
+
+-- the first four bytes as a number, the lowest first
+abbrev pub number_in : List ℕ → ℕ
+number_in bytes = slice_index_or bytes 0 0 + slice_index_or bytes 1 0 * 256 + slice_index_or bytes 2 0 * 65536 + slice_index_or bytes 3 0 * 16777216
+
+abbrev pub written : NearHasher → List ℕ → NearHasher
+written h bytes = record { mixed = mixed_with h.mixed h.before; before = h.last; last = number_in bytes }
+
+-- all but the last two numbers are mixed, and of these two what is behind their lowest three bits
+abbrev pub block_of : NearHasher → ℕ
+block_of h = mixed_with (mixed_with h.mixed (h.before / 8)) (h.last / 8)
+
+abbrev pub finished : NearHasher → ℕ
+finished h =
+    let block = block_of h in
+    let near = (block % 8 + h.before % 8 * 2 + h.last % 8) % 8 in
+    bit_xor (block % 4294967296 / 8 * 8 + near) ((h.before % 8 * 8 + h.last % 8) * 67108864)
