@@ -1,5 +1,4 @@
 pub mod Rows
-pub mod Near
 pub mod Readers
 pub mod Expanded
 pub mod Joins

@@ -3,8 +3,8 @@ ghost use Rattle.std.specs.Prelude.{◌≡◌, ◌≢◌, ℕ, List, ◌<◌, �
 ghost use Rattle.bocage.specs.Chains.{AreChained, EndsAt, IsChain};
 
 use crate::ForestRefusal;
-use crate::near::NodeKeys;
 use crate::rows::{key_at, number};
+use crate::walk::NodeKeys;
 use recognizer_model::NodeKey;
 use std::alloc::{AllocFailed, Global};
 

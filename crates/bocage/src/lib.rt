@@ -5,7 +5,6 @@ mod chains;
 mod ends;
 mod forest;
 mod joins;
-mod near;
 mod refusal;
 mod rows;
 mod walk;

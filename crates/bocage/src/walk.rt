@@ -9,14 +9,19 @@ ghost use Rattle.bocage.specs.Walk.{FitsPart, GrowsBy, whole_keys, AddsWholes, I
 
 use crate::ForestRefusal;
 use crate::joins::{Join, joins_of};
-use crate::near::NodeKeys;
 use crate::rows::{AlternativeRow, LastRow, number};
 use earley_sets::Recce;
 use forest_parts::{Group, Part, is_null_high, parts_between};
 use grammar_core::{Flat, Written};
 use grammar_model::Ranking;
+use indexmap::IndexSet;
+use leo_items::NearHasher;
 use recognizer_model::{Item, NodeKey};
 use smallvec::SmallVec;
+use std::hash::BuildHasherDefault;
+
+/// Keys of nodes, in the order of their numbers. Those of near places are looked up near each other.
+pub type NodeKeys = IndexSet<NodeKey, BuildHasherDefault<NearHasher>>;
 
 /// What is looked up where nodes end at one place: the parts that end there and begin at `least` or behind it.
 #[derive(Clone, Copy, Drop)]

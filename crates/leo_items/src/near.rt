@@ -1,16 +1,11 @@
-//! A hash by which keys that differ little in their last two numbers stand near each other, so that a walk from place to place looks
-//! up what lies in the cache.
+//! A hash by which keys with nearly the same last two numbers stand together, so that a walk from place to place looks up what lies
+//! in the cache.
 ghost use Rattle.std.specs.Prelude.{◌≡◌, slice_index_or};
-ghost use Rattle.bocage.specs.Near.{start, written, finished, mixed_with, number_in, block_of};
+ghost use Rattle.leo_items.specs.Near.{start, written, finished, mixed_with, number_in, block_of};
 
-use indexmap::IndexSet;
-use recognizer_model::NodeKey;
-use std::hash::{BuildHasherDefault, Hasher};
+use std::hash::Hasher;
 
-/// Keys of nodes, in the order of their numbers.
-pub type NodeKeys = IndexSet<NodeKey, BuildHasherDefault<NearHasher>>;
-
-/// The numbers that were written: all mixed but the last two.
+/// A hasher of 32-bit numbers, of which those before the last two are mixed.
 #[derive(Clone, Copy)]
 pub struct NearHasher {
     mixed: u64,
@@ -38,9 +33,8 @@ impl Hasher for NearHasher {
     #[inline(always)]
     fn finish(&self) -> u64 {
         let block = block_of(self);
-        let near = (block % 8 + self.before % 8 * 2 + self.last % 8) % 8;
-        let within = self.before % 8 * 8 + self.last % 8;
-        (block % 4_294_967_296 / 8 * 8 + near) ^ (within * 67_108_864)
+        let within = self.before % 4 * 4 + self.last % 4;
+        (block % 4_294_967_296) ^ (within * 268_435_456)
     }
 
     #[inline(always)]
@@ -85,5 +79,5 @@ fn number_in(bytes: &[u8]) -> u64
 fn block_of(hasher: &NearHasher) -> u64
     ensures { result ≡ block_of hasher.now }
 {
-    mixed_with(mixed_with(hasher.mixed, hasher.before / 8), hasher.last / 8)
+    mixed_with(mixed_with(hasher.mixed, hasher.before / 4), hasher.last / 4)
 }

@@ -1,6 +1,6 @@
--- A hash that keeps what lies near together.
+-- A hash by which what is near stands together.
 use Rattle.std.specs.Prelude.{ℕ, ◌+◌, ◌*◌, ◌/◌, ◌%◌, ◌^◌, List, slice_index_or, bit_xor}
-use Rattle.bocage.specs.declared.near.NearHasher.{NearHasher}
+use Rattle.leo_items.specs.declared.near.NearHasher.{NearHasher}
 
 abbrev pub start : NearHasher
 start = record { mixed = 0; before = 0; last = 0 }
@@ -15,12 +15,10 @@ number_in bytes = slice_index_or bytes 0 0 + slice_index_or bytes 1 0 * 256 + sl
 abbrev pub written : NearHasher → List ℕ → NearHasher
 written h bytes = record { mixed = mixed_with h.mixed h.before; before = h.last; last = number_in bytes }
 
--- all but the last two numbers are mixed, and of these two what is behind their lowest three bits
+-- what keys that stand together have in common: all numbers but the last two, and of these what is behind their lowest two bits
 abbrev pub block_of : NearHasher → ℕ
-block_of h = mixed_with (mixed_with h.mixed (h.before / 8)) (h.last / 8)
+block_of h = mixed_with (mixed_with h.mixed (h.before / 4)) (h.last / 4)
 
+-- the lowest bits change the highest four bits of the hash alone, by which a table does not place keys but tells them apart
 abbrev pub finished : NearHasher → ℕ
-finished h =
-    let block = block_of h in
-    let near = (block % 8 + h.before % 8 * 2 + h.last % 8) % 8 in
-    bit_xor (block % 4294967296 / 8 * 8 + near) ((h.before % 8 * 8 + h.last % 8) * 67108864)
+finished h = bit_xor (block_of h % 4294967296) ((h.before % 4 * 4 + h.last % 4) * 268435456)
