@@ -4,7 +4,7 @@ ghost use Rattle.bocage.specs.Chains.{AreChained, EndsAt, IsChain};
 
 use crate::ForestRefusal;
 use crate::rows::{key_at, number};
-use indexmap::IndexSet;
+use crate::walk::NodeKeys;
 use recognizer_model::NodeKey;
 use std::alloc::{AllocFailed, Global};
 
@@ -96,7 +96,7 @@ fn list_chain(chains: &Chains, end: u32, nodes: &mut Vec<usize>) -> Result<(), F
 
 /// Lists those of the first nodes that end at a place. All of the first are noted then.
 pub fn list_nodes(
-    keys: &IndexSet<NodeKey>,
+    keys: &NodeKeys,
     first: usize,
     end: u32,
     chains: &mut Chains,

@@ -15,13 +15,12 @@ use crate::ForestRefusal;
 use crate::chains::{Chains, list_nodes, new_chains};
 use crate::joins::{Join, list_joins};
 use crate::rows::{AlternativeRow, LastRow, key_at};
-use crate::walk::{Found, Known, differ, put_key};
+use crate::walk::{Found, Known, NodeKeys, put_key};
 use bumpalo::Bump;
 use earley_sets::Recce;
 use forest_parts::{Group, Part, list_groups, list_hidden, list_parts};
 use grammar_core::Written;
 use grammar_model::{Edge, Ranking};
-use indexmap::IndexSet;
 use recognizer_model::{Item, NodeKey};
 use slif_base::Steps;
 use std::alloc::Global;
@@ -75,7 +74,7 @@ fn set_row<'a>(
 }
 
 // The least origin of nodes, where it is lower than the one that is given.
-fn least_origin(keys: &IndexSet<NodeKey>, nodes: &[usize], least: u32) -> u32
+fn least_origin(keys: &NodeKeys, nodes: &[usize], least: u32) -> u32
     requires { (n : ℕ) → Contains nodes.now n → n < length keys.now.keys }
     ensures nodes { (n : ℕ) (key : TheKey) → Contains nodes.now n → slice_get keys.now.keys n ≡ Some key → result ≤ key.origin }
     ensures bound { result ≤ least }

@@ -26,6 +26,7 @@ use recognizer_model::NodeKey;
 use slif_base::Steps;
 use smallvec::SmallVec;
 use std::alloc::Global;
+use std::hash::BuildHasherDefault;
 use std::marker::Model;
 use std::sync::ledger::Ledger;
 
@@ -166,7 +167,7 @@ impl<'a> Forest<'a> {
         ensures counted { RisesWithin (IsExpandedIn w.now ranking recce.now) steps.old steps.new }
     {
         let mut found = Found {
-            keys: IndexSet::new(alloc),
+            keys: IndexSet::with_hasher(alloc, BuildHasherDefault::new()),
             alternatives: SmallVec::new(alloc),
             wholes: Vec::new(alloc),
             lasts: Vec::new(alloc),

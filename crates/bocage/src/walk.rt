@@ -15,8 +15,13 @@ use forest_parts::{Group, Part, is_null_high, parts_between};
 use grammar_core::{Flat, Written};
 use grammar_model::Ranking;
 use indexmap::IndexSet;
+use leo_items::NearHasher;
 use recognizer_model::{Item, NodeKey};
 use smallvec::SmallVec;
+use std::hash::BuildHasherDefault;
+
+/// Keys of nodes, in the order of their numbers. Those of near places are looked up near each other.
+pub type NodeKeys = IndexSet<NodeKey, BuildHasherDefault<NearHasher>>;
 
 /// What is looked up where nodes end at one place: the parts that end there and begin at `least` or behind it.
 #[derive(Clone, Copy, Drop)]
@@ -34,7 +39,7 @@ pub struct Known<'k> {
 /// Nodes by their numbers, the alternatives of the one that is looked at, and the nodes of whole rules.
 #[derive(Drop)]
 pub struct Found {
-    pub keys: IndexSet<NodeKey>,
+    pub keys: NodeKeys,
     pub alternatives: SmallVec<AlternativeRow, 4>,
     pub wholes: Vec<u32>,
     /// what the last part is of each group of the place, once it was asked for
@@ -42,7 +47,7 @@ pub struct Found {
 }
 
 // The number of a node, which becomes a new one if there is none of the key.
-fn number_of(keys: &mut IndexSet<NodeKey>, key: NodeKey) -> Result<u32, ForestRefusal>
+fn number_of(keys: &mut NodeKeys, key: NodeKey) -> Result<u32, ForestRefusal>
     ensures number { IfOk result (λ n. slice_get keys.new.keys n ≡ Some key) }
     ensures grows { OnOk result (GrowsBy (λ k. k ≡ key) keys.old.keys keys.new.keys) }
 {
@@ -51,11 +56,7 @@ fn number_of(keys: &mut IndexSet<NodeKey>, key: NodeKey) -> Result<u32, ForestRe
 }
 
 // The number of the node of the parts before the last one, if there are any.
-fn front_of(
-    keys: &mut IndexSet<NodeKey>,
-    front: Item,
-    end: u32,
-) -> Result<Option<u32>, ForestRefusal>
+fn front_of(keys: &mut NodeKeys, front: Item, end: u32) -> Result<Option<u32>, ForestRefusal>
     ensures front { IfOk result (λ n. IsFrontFound keys.new.keys front end n) }
     ensures grows { OnOk result (GrowsBy (λ k. (0 < front.dot) × (k ≡ node_of_item front end)) keys.old.keys keys.new.keys) }
 {
@@ -77,7 +78,7 @@ fn front_of(
 fn put_whole(
     flat: &Flat,
     part: Part,
-    keys: &mut IndexSet<NodeKey>,
+    keys: &mut NodeKeys,
     wholes: &mut Vec<u32>,
 ) -> Result<(), ForestRefusal>
     requires { FitsPart flat.now part }
@@ -104,7 +105,7 @@ fn put_whole(
 fn put_wholes(
     flat: &Flat,
     parts: &[Part],
-    keys: &mut IndexSet<NodeKey>,
+    keys: &mut NodeKeys,
     wholes: &mut Vec<u32>,
 ) -> Result<(), ForestRefusal>
     requires { (p : ThePart) → Contains parts.now p → FitsPart flat.now p }
@@ -121,7 +122,7 @@ fn put_wholes(
 fn last_of(
     flat: &Flat,
     parts: &[Part],
-    keys: &mut IndexSet<NodeKey>,
+    keys: &mut NodeKeys,
     wholes: &mut Vec<u32>,
 ) -> Result<LastRow, ForestRefusal>
     requires some { 0 < length parts.now }
@@ -329,7 +330,7 @@ pub fn put_key(known: &Known<'_>, key: NodeKey, found: &mut Found) -> Result<(),
 }
 
 /// Begins with the node of the whole, if it spans something.
-pub fn begin(recce: &Recce<'_>, keys: &mut IndexSet<NodeKey>) -> Result<Option<u32>, ForestRefusal>
+pub fn begin(recce: &Recce<'_>, keys: &mut NodeKeys) -> Result<Option<u32>, ForestRefusal>
     requires { keys.old.keys ≡ [] }
     ensures root { IfOk result (λ root. IsBegun recce.now keys.new.keys root) }
     ensures is { OnOk result (IsRecognizer recce.now) }
@@ -351,7 +352,7 @@ pub fn begin(recce: &Recce<'_>, keys: &mut IndexSet<NodeKey>) -> Result<Option<u
 }
 
 /// States that no node has two numbers.
-pub fn differ(keys: &IndexSet<NodeKey>)
+pub fn differ(keys: &NodeKeys)
     ensures { AllPairs (λ x y. x ≢ y) keys.now.keys }
 {
     let _keys = keys.as_slice();

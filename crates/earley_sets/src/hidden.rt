@@ -10,12 +10,16 @@ ghost use Rattle.earley_sets.specs.Hidden.{IsFrom, IsSingleStep, NoneLeadsOn, Is
 use grammar_core::Flat;
 use indexmap::IndexSet;
 use item_rows::{Row, Rows};
-use leo_items::{pair_above, step_in};
+use leo_items::{NearHasher, pair_above, step_in};
 use recognizer_model::Item;
 use std::alloc::{AllocError, AllocFailed, Global};
+use std::hash::BuildHasherDefault;
+
+// Items, of which those with near origins are looked up near each other.
+type ItemSet = IndexSet<Item, BuildHasherDefault<NearHasher>>;
 
 // Puts the items that begin at a place or behind it.
-fn put_from(items: &Row<'_>, from: u32, set: &mut IndexSet<Item>) -> Result<(), AllocFailed<Item>>
+fn put_from(items: &Row<'_>, from: u32, set: &mut ItemSet) -> Result<(), AllocFailed<Item>>
     requires { set.old.keys ≡ [] }
     ensures { OnOk result ((item : TheItem) → Contains set.new.keys item ↔ IsFrom items.now from item) }
 {
@@ -78,7 +82,7 @@ fn add_steps(
     rows: &Rows<'_>,
     place: u32,
     from: u32,
-    set: &mut IndexSet<Item>,
+    set: &mut ItemSet,
 ) -> Result<(), AllocFailed<Item>>
     requires rows { HasRows flat.now rows.now }
     requires place { place < length rows.now.sets }
@@ -124,7 +128,7 @@ pub fn list_hidden(
     if !some_leads_on(flat, rows, &whole, place, from) {
         return Ok(Vec::new(alloc));
     }
-    let mut set = IndexSet::new(alloc);
+    let mut set = IndexSet::with_hasher(alloc, BuildHasherDefault::new());
     put_from(&whole, from, &mut set)?;
     let kept = set.len();
     add_steps(flat, rows, place, from, &mut set)?;

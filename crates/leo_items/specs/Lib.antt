@@ -1,3 +1,4 @@
 pub mod Steps
 pub mod Memo
+pub mod Near
 pub mod ByRows

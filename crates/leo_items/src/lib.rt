@@ -3,6 +3,7 @@
 
 mod chain;
 mod memo;
+mod near;
 
 ghost use Rattle.std.specs.Prelude.{◌≡◌, ℕ, ◌+◌, ◌<◌, ◌^◌, List, length, Some, IfSome, IsNone, Contains};
 ghost use Rattle.recognizer_model.specs.declared.Item.{Item as TheItem};
@@ -13,6 +14,7 @@ pub use chain::{pair_above, step_in, topmost};
 use grammar_core::Flat;
 use item_rows::Row;
 pub use memo::{Memo, Pair};
+pub use near::NearHasher;
 use recognizer_model::Item;
 
 // The item with its dot advanced.

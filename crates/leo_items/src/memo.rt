@@ -2,9 +2,11 @@
 ghost use Rattle.std.specs.Prelude.{◌≡◌, ◌++◌, ◌∷◌, [], length, take, None, OnOk, OnErr};
 ghost use Rattle.leo_items.specs.Memo.{noted};
 
+use crate::NearHasher;
 use indexmap::IndexMap;
 use recognizer_model::Item;
 use std::alloc::{AllocFailed, Global};
+use std::hash::BuildHasherDefault;
 use std::marker::Model;
 
 /// A set and a symbol.
@@ -17,7 +19,7 @@ pub struct Pair {
 /// An item for each pair that was noted.
 #[derive(Drop)]
 pub struct Memo {
-    tops: IndexMap<Pair, Item>,
+    tops: IndexMap<Pair, Item, BuildHasherDefault<NearHasher>>,
 }
 
 impl Model for Memo {
@@ -35,7 +37,7 @@ impl Memo {
         ensures { result ≡ [] }
     {
         Memo {
-            tops: IndexMap::new(alloc),
+            tops: IndexMap::with_hasher(alloc, BuildHasherDefault::new()),
         }
     }
 

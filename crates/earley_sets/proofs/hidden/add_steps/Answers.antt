@@ -1,5 +1,6 @@
-use Rattle.std.proofs.Common.{◌≡◌, ◌∙◌, ◌+◌, ◌++◌, [], List, sym, ap, refl, subst, append-nil, append_assoc, HashSet, BuildHasherDefault, FoldHasher}
+use Rattle.std.proofs.Common.{◌≡◌, ◌∙◌, ◌+◌, ◌++◌, [], List, sym, ap, refl, subst, append-nil, append_assoc, HashSet, BuildHasherDefault}
 use Rattle.recognizer_model.specs.declared.Item.{Item}
+use Rattle.leo_items.specs.declared.near.NearHasher.{NearHasher}
 use Rattle.earley_sets.specs.Hidden.{IsSingleStep}
 use Rattle.earley_sets.specs.Loops.{IsClosedTo}
 use Rattle.earley_sets.proofs.Adding.{adds_key}
@@ -33,13 +34,13 @@ loop-k-preserved c =
           let adds = adds_key c.loop-k.set.keys w.insert.new.self.keys w.in-Some-single_step.step w.in_ok-insert.ensures.keys in
           let (more', e') = Adds-begins c.loop-k.set.keys w.insert.new.self.keys w.in-Some-single_step.step adds in
           subst (λ (keys : List Item). IsClosedTo c.args.flat.now (IsSingleStep c.args.flat.now c.args.rows.now.sets c.args.place c.args.from) c.args.set.now.keys keys (c.loop-k.k + 1) × ((more : List Item) × (keys ≡ c.args.set.now.keys ++ more)))
-          (ap (λ (s : HashSet Item (BuildHasherDefault FoldHasher)). s.keys) (sym w.set-is)) (
+          (ap (λ (s : HashSet Item (BuildHasherDefault NearHasher)). s.keys) (sym w.set-is)) (
             step_added c.args.flat.now c.args.rows.now.sets c.requires.rows.are c.args.place c.args.from c.args.set.now.keys c.loop-k.set.keys c.loop-k.k c.loop-k.invariant.0 c.in-Some.item at w.in-Some-single_step.step w.insert.new.self.keys w.in-Some-single_step.ensures.some adds,
             (more ++ more', e' ∙ (ap (λ l. l ++ more') e ∙ append_assoc c.args.set.now.keys more more')),
           )
       | in_default-single_step w ↦
           subst (λ (keys : List Item). IsClosedTo c.args.flat.now (IsSingleStep c.args.flat.now c.args.rows.now.sets c.args.place c.args.from) c.args.set.now.keys keys (c.loop-k.k + 1) × ((more : List Item) × (keys ≡ c.args.set.now.keys ++ more)))
-          (ap (λ (s : HashSet Item (BuildHasherDefault FoldHasher)). s.keys) (sym w.set-is)) (
+          (ap (λ (s : HashSet Item (BuildHasherDefault NearHasher)). s.keys) (sym w.set-is)) (
             none_added c.args.flat.now c.args.rows.now.sets c.requires.rows.are c.args.place c.args.from c.args.set.now.keys c.loop-k.set.keys c.loop-k.k c.loop-k.invariant.0 c.in-Some.item at (w.in_default-single_step.ensures.none refl),
             (more, e),
           )

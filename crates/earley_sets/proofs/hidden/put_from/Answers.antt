@@ -1,5 +1,6 @@
-use Rattle.std.proofs.Common.{sym, ap, subst, arith, ◌+◌, ◌↔◌, take, Contains, HashSet, BuildHasherDefault, FoldHasher}
+use Rattle.std.proofs.Common.{sym, ap, subst, arith, ◌+◌, ◌↔◌, take, Contains, HashSet, BuildHasherDefault}
 use Rattle.recognizer_model.specs.declared.Item.{Item}
+use Rattle.leo_items.specs.declared.near.NearHasher.{NearHasher}
 use Rattle.earley_sets.specs.Hidden.{IsFrom}
 use Rattle.earley_sets.proofs.Adding.{adds_key}
 use Rattle.earley_sets.proofs.Cutting.{take_all}
@@ -13,11 +14,11 @@ loop-k-init c = from_none c.args.from c.args.set.now.keys c.requires
 pub loop-k-preserved : goal.loop-k-preserved
 loop-k-preserved c = elim c.if-from-item.branch [
   | then-from-item+in_ok-insert w ↦
-      subst (AreFrom c.args.from (take (c.loop-k.k + 1) c.args.items.now)) (ap (λ (s : HashSet Item (BuildHasherDefault FoldHasher)). s.keys) (sym w.set-is))
+      subst (AreFrom c.args.from (take (c.loop-k.k + 1) c.args.items.now)) (ap (λ (s : HashSet Item (BuildHasherDefault NearHasher)). s.keys) (sym w.set-is))
       (from_add c.args.from c.args.items.now c.loop-k.k c.at-item.result c.at-item.ensures c.loop-k.set.keys w.insert.new.self.keys c.loop-k.invariant w.if-from-item.true
       (adds_key c.loop-k.set.keys w.insert.new.self.keys _ w.in_ok-insert.ensures.keys))
   | else-from-item w ↦
-      subst (AreFrom c.args.from (take (c.loop-k.k + 1) c.args.items.now)) (ap (λ (s : HashSet Item (BuildHasherDefault FoldHasher)). s.keys) (sym w.set-is))
+      subst (AreFrom c.args.from (take (c.loop-k.k + 1) c.args.items.now)) (ap (λ (s : HashSet Item (BuildHasherDefault NearHasher)). s.keys) (sym w.set-is))
       (from_skip c.args.from c.args.items.now c.loop-k.k c.at-item.result c.at-item.ensures c.loop-k.set.keys c.loop-k.invariant
       (λ le. let lt = w.if-from-item.false in omega arith))
 ]
