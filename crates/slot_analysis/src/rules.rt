@@ -1,4 +1,4 @@
-//! Rules: how many child slots count.
+//! How many child slots of a rule there are, and how many count.
 ghost use Rattle.std.specs.Prelude.{◌≡◌};
 ghost use Rattle.grammar_model.specs.Grammar.{slot_count};
 ghost use Rattle.grammar_core.specs.Written.{rule_of};
@@ -29,7 +29,7 @@ pub fn part_count(rule: &WrittenRule) -> usize
     }
 }
 
-/// How many of them, from the first, a live rule needs to be productive.
+/// How many child slots, from the first, a live rule needs to be productive: all but a separator.
 pub fn needed_count(rule: &WrittenRule) -> usize
     ensures { result ≡ needed_of (rule_of rule.now) }
 {
