@@ -177,6 +177,8 @@ impl<'a> Forest<'a> {
         let table = walk(
             alloc, recce, w, ranking, arena, &mut found, &mut work, steps,
         )?;
+        let expanded = work.expanded;
+        drop(work);
         differ(&found.keys);
         let keys = Vec::from_slice(alloc, found.keys.as_slice())?;
         Ok(Forest {
@@ -187,7 +189,7 @@ impl<'a> Forest<'a> {
             table,
             wholes: found.wholes,
             root,
-            expanded: work.expanded,
+            expanded,
         })
     }
 
