@@ -4,3 +4,4 @@ pub mod Placed
 pub mod Holding
 pub mod Listing
 pub mod Chains
+pub mod Known

@@ -1,4 +1,5 @@
 pub mod Written
+pub mod Rules
 pub mod Refusals
 pub mod Flat
 pub mod Steps

@@ -1,4 +1,8 @@
 //! Symbols and rules.
+ghost use Rattle.std.specs.Prelude.{◌≡◌};
+ghost use Rattle.grammar_model.specs.Grammar.{lhs_of, level_of, rank_of, null_high_of};
+ghost use Rattle.grammar_core.specs.Written.{rule_of};
+ghost use Rattle.grammar_core.specs.Rules.{groups_of, is_sequence};
 
 use grammar_model::{Assoc, RuleId, SymbolId};
 use std::marker::Model;
@@ -53,4 +57,66 @@ impl Model for SeqRule {
 pub enum WrittenRule {
     Plain(Rule),
     Sequence(SeqRule),
+}
+
+impl WrittenRule {
+    /// The left side.
+    pub fn lhs(&self) -> SymbolId
+        ensures { result ≡ lhs_of (rule_of self.now) }
+    {
+        match self {
+            WrittenRule::Plain(rule) => rule.lhs,
+            WrittenRule::Sequence(rule) => rule.lhs,
+        }
+    }
+
+    /// The level, which is 0 for a sequence.
+    pub fn level(&self) -> u32
+        ensures { result ≡ level_of (rule_of self.now) }
+    {
+        match self {
+            WrittenRule::Plain(rule) => rule.level,
+            WrittenRule::Sequence(_) => 0,
+        }
+    }
+
+    /// How many groups its statement has, a sequence being the only group of its own.
+    pub fn groups(&self) -> u32
+        ensures { result ≡ groups_of (rule_of self.now) }
+    {
+        match self {
+            WrittenRule::Plain(rule) => rule.groups,
+            WrittenRule::Sequence(_) => 1,
+        }
+    }
+
+    /// The rank.
+    pub fn rank(&self) -> i32
+        ensures { result ≡ rank_of (rule_of self.now) }
+    {
+        match self {
+            WrittenRule::Plain(rule) => rule.rank,
+            WrittenRule::Sequence(rule) => rule.rank,
+        }
+    }
+
+    /// Whether a nulled last part comes first in the order of derivations.
+    pub fn null_high(&self) -> bool
+        ensures { result ≡ null_high_of (rule_of self.now) }
+    {
+        match self {
+            WrittenRule::Plain(rule) => rule.null_high,
+            WrittenRule::Sequence(rule) => rule.null_high,
+        }
+    }
+
+    /// Whether it is a sequence.
+    pub fn is_sequence(&self) -> bool
+        ensures { result ≡ is_sequence (rule_of self.now) }
+    {
+        match self {
+            WrittenRule::Plain(_) => false,
+            WrittenRule::Sequence(_) => true,
+        }
+    }
 }

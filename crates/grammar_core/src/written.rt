@@ -1,7 +1,7 @@
 //! The grammar itself, which grows by symbols, rules and starts.
 ghost use Rattle.std.specs.Prelude.{◌≡◌, ℕ, ◌<◌, ◌≤◌, [], ◌∷◌, ◌++◌, All, Some, None, length, nat_lt, false, IsTrue, IsOk, IfOk, IfSome, OnErr, is_some, option_to_list, slice_get};
 ghost use Rattle.std.specs.List.{list_all};
-ghost use Rattle.grammar_model.specs.Grammar.{Plain, Sequence};
+ghost use Rattle.grammar_model.specs.Grammar.{Plain, Sequence, rule_at, lhs_of};
 ghost use Rattle.grammar_core.specs.Written.{IsWritten, IsLevelled, symbols_of, rule_of, has_name, number_of, with_name, with_rule, with_start};
 ghost use Rattle.grammar_core.specs.Refusals.{Answers, name_refusal, rule_refusal, start_refusal};
 
@@ -189,6 +189,13 @@ impl Written {
         }
     }
 
+    /// States what is always so of a grammar.
+    pub fn known(&self)
+        ensures { IsWritten self.now }
+    {
+        let _count = self.names.len();
+    }
+
     /// How many symbols there are.
     pub fn symbol_count(&self) -> usize
         ensures count { result ≡ length self.now.names }
@@ -227,6 +234,24 @@ impl Written {
         ensures { slice_get self.now.rules r ≡ Some (rule_of result.now) }
     {
         &self.rules[r.0 as usize]
+    }
+
+    /// The rule at this place, counted from 0.
+    pub fn rule(&self, k: usize) -> &WrittenRule
+        requires { k < length self.now.rules }
+        ensures is { rule_of result.now ≡ rule_at self.now k }
+        ensures sound { IsWritten self.now }
+    {
+        &self.rules[k]
+    }
+
+    /// The left side of the rule at this place.
+    pub fn lhs(&self, k: usize) -> SymbolId
+        requires { k < length self.now.rules }
+        ensures is { result ≡ lhs_of (rule_at self.now k) }
+        ensures known { result < length self.now.names }
+    {
+        self.rule(k).lhs()
     }
 
     /// The start at this place, counted from 0.
