@@ -9,7 +9,8 @@ use Rattle.grammar_core.specs.Written.{IsWritten}
 use Rattle.horn_clauses.specs.Least.{Clause, clause_at, AreBelow, IsLeastSet}
 use Rattle.slot_analysis.specs.Slots.{number, end_of, IsNumbering, body_count, rule_clause, chain_clause, HasLevels, HasTerminals}
 use Rattle.slot_analysis.specs.Clauses.{IsFact, HasClauses, IsOfRule, Can, IsAnalysis}
-use Rattle.slot_analysis.proofs.Known.{lhs_known, head_numbered, child_numbered, body_small}
+use Rattle.grammar_core.proofs.Known.{lhs_known}
+use Rattle.slot_analysis.proofs.Known.{head_numbered, child_numbered, body_small}
 use Rattle.slot_analysis.proofs.Rounds.{CanIn, from_nullable, to_nullable, from_productive, to_productive, sound, complete, bases_rise, part_is, body_length}
 
 module _ (seps : Bool) (g : Grammar) (bases : List ℕ) where

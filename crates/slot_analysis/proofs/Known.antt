@@ -6,14 +6,9 @@ use Rattle.grammar_model.specs.declared.Assoc.{Assoc}
 use Rattle.grammar_model.specs.declared.Assoc.TheVariants.{Left, Right, Group}
 use Rattle.grammar_model.specs.Grammar.{WrittenRule, Plain, Sequence, PlainRule, Grammar, rule_at, lhs_of, level_of, tighter, occurs, own_level, child_slot, slot_count, slot_of, sequence_symbol, is_even}
 use Rattle.grammar_core.specs.Written.{IsWritten, IsLevelled, symbols_of}
-use Rattle.slot_analysis.specs.Slots.{groups_of, end_of, IsNumbering, IsNumbered, body_count}
-
-first_symbol : (bound : ℕ) (rule : WrittenRule) → All (λ s. s < bound) (symbols_of rule) → lhs_of rule < bound
-first_symbol bound (Plain r) all = all 0 0 (omega arith)
-first_symbol bound (Sequence r) all = all 0 0 (omega arith)
-
-pub lhs_known : (g : Grammar) (i : ℕ) → IsWritten g → i < length g.rules → lhs_of (rule_at g i) < length g.names
-lhs_known g i w lt = first_symbol (length g.names) (rule_at g i) (w.rules_known i lt).0
+use Rattle.grammar_core.specs.Rules.{groups_of}
+use Rattle.grammar_core.proofs.Known.{lhs_known, level_below}
+use Rattle.slot_analysis.specs.Slots.{end_of, IsNumbering, IsNumbered, body_count}
 
 pub numbering : (g : Grammar) (rooms sums : List ℕ) → IsWritten g → length rooms ≡ length g.names → ((s : ℕ) → s < length g.names → 0 < slice_index rooms s) →
     ((i : ℕ) → i < length g.rules → groups_of (rule_at g i) ≤ slice_index rooms (lhs_of (rule_at g i))) →
@@ -27,13 +22,9 @@ numbering g rooms sums w e some rules e' begin steps = record {
       let a = steps (lhs_of (rule_at g i)) (omega (arith, known, e)) in let b = rules i lt in omega (arith, a, b);
 }
 
-level_small : (rule : WrittenRule) → IsLevelled rule → level_of rule < groups_of rule
-level_small (Plain r) h = h.0
-level_small (Sequence r) h = omega arith
-
 -- the tightest slot that a rule fits has a number
 pub head_numbered : (g : Grammar) (bases : List ℕ) (i : ℕ) → IsWritten g → IsNumbering g bases → i < length g.rules → slice_index bases (lhs_of (rule_at g i)) + level_of (rule_at g i) < end_of bases (lhs_of (rule_at g i))
-head_numbered g bases i w n lt = let a = level_small (rule_at g i) (w.rules_known i lt).1 in let b = n.rooms i lt in omega (arith, a, b)
+head_numbered g bases i w n lt = let a = level_below g i w lt in let b = n.rooms i lt in omega (arith, a, b)
 
 tighter_small : (r : PlainRule) → r.level < r.groups → tighter r < r.groups
 tighter_small r lt = by (r.level + 1 == r.groups) refl

@@ -8,7 +8,8 @@ use Rattle.grammar_core.specs.Written.{IsWritten}
 use Rattle.horn_clauses.specs.Least.{Clause, clause_at, AreBelow, IsDerivedIn, IsClosed, IsLeastSet}
 use Rattle.slot_analysis.specs.Slots.{number, end_of, IsNumbering, IsNumbered, fact_clause}
 use Rattle.slot_analysis.specs.Steps.{unit_clause, head_of, IsStep, IsReach}
-use Rattle.slot_analysis.proofs.Known.{lhs_known, head_numbered, child_numbered}
+use Rattle.grammar_core.proofs.Known.{lhs_known}
+use Rattle.slot_analysis.proofs.Known.{head_numbered, child_numbered}
 use Rattle.slot_analysis.proofs.Rounds.{bases_rise, one_symbol, closed_by}
 use Rattle.slot_analysis.proofs.StepLemmas.{head_small}
 

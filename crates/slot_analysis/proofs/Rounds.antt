@@ -9,7 +9,8 @@ use Rattle.grammar_core.specs.Written.{IsWritten}
 use Rattle.horn_clauses.specs.Least.{Clause, clause_at, IsDerivedIn, IsClosed}
 use Rattle.slot_analysis.specs.Slots.{number, end_of, IsNumbering, IsNumbered, body_count, rule_clause, chain_clause, fact_clause}
 use Rattle.slot_analysis.specs.Clauses.{IsFact, HasClauses}
-use Rattle.slot_analysis.proofs.Known.{lhs_known, head_numbered, child_numbered, body_small}
+use Rattle.grammar_core.proofs.Known.{lhs_known}
+use Rattle.slot_analysis.proofs.Known.{head_numbered, child_numbered, body_small}
 use Rattle.horn_clauses.proofs.Search.{same_or_below}
 
 -- both analyses at once

@@ -8,7 +8,8 @@ use Rattle.horn_clauses.specs.Least.{Clause}
 use Rattle.slot_analysis.specs.Slots.{number, IsNumbering, needed_of}
 use Rattle.slot_analysis.specs.Clauses.{IsAnalysis}
 use Rattle.slot_analysis.specs.Steps.{HasMore, head_of, IsOfStart, IsOfUse, IsOfNexts, IsOfParts, IsStep}
-use Rattle.slot_analysis.proofs.Known.{child_numbered, head_numbered, lhs_known}
+use Rattle.grammar_core.proofs.Known.{lhs_known}
+use Rattle.slot_analysis.proofs.Known.{child_numbered, head_numbered}
 use Rattle.slot_analysis.proofs.Rounds.{item_first, bases_rise}
 
 pub productive_found : (g : Grammar) (bases keys : List ℕ) (i k x : ℕ) (b : Bool) → IsWritten g → IsNumbering g bases → i < length g.rules → k < slot_count (rule_at g i) → IsAnalysis false g bases keys →

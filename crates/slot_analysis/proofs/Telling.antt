@@ -9,7 +9,8 @@ use Rattle.grammar_model.proofs.Lists.{Among, among_from, contains_from}
 use Rattle.slot_analysis.specs.Slots.{number, end_of, IsNumbered}
 use Rattle.slot_analysis.specs.Tables.{AreTables}
 use Rattle.slot_analysis.specs.Tested.{HasTests}
-use Rattle.slot_analysis.proofs.Known.{lhs_known, head_numbered}
+use Rattle.grammar_core.proofs.Known.{lhs_known}
+use Rattle.slot_analysis.proofs.Known.{head_numbered}
 use Rattle.slot_analysis.proofs.Beyond.{accessible_numbered}
 
 abbrev pub holds : List ℕ → ℕ → Bool

@@ -6,9 +6,10 @@ use Rattle.grammar_model.specs.Grammar.{WrittenRule, Plain, Sequence, Grammar, S
 use Rattle.grammar_model.specs.Analysis.{SomeRule, IsStar, IsNullableIn, IsNullable, EachNeeded, IsProductiveIn, IsProductive, IsLive, IsAccessibleIn, IsAccessible}
 use Rattle.grammar_model.specs.Checked.{IsLeft}
 use Rattle.grammar_core.specs.Written.{IsWritten, IsLevelled, symbols_of}
+use Rattle.grammar_core.proofs.Known.{lhs_known}
 use Rattle.horn_clauses.specs.Rows.{row_at}
 use Rattle.slot_analysis.specs.Packed.{place, packed_rule, packed, packed_slot, Occurs, IsLevelTable}
-use Rattle.slot_analysis.specs.Slots.{groups_of}
+use Rattle.grammar_core.specs.Rules.{groups_of}
 use Rattle.slot_analysis.proofs.Counting.{below_rises, below_zero, below_next, same_level}
 use Rattle.slot_analysis.proofs.Packing.{lhs_is, level_is, slots_are, first_is, star_to, star_from, level_same, places_below, part_occurs}
 
@@ -22,16 +23,9 @@ module _ (g : Grammar) (rows : List (List ℕ)) (w : IsWritten g) (t : IsLevelTa
   pub rule_is : (i : ℕ) → i < length g.rules → rule_at p i ≡ packed_rule rows (rule_at g i)
   rule_is i lt = get_or-map (packed_rule rows) g.rules i no_rule no_rule lt
 
-  left_known : (i : ℕ) → i < length g.rules → lhs_of (rule_at g i) < length g.names
-  left_known i lt = by (rule_at g i) (w.rules_known i lt).0
-    where
-      by : (rule : WrittenRule) → All (λ s. s < length g.names) (symbols_of rule) → lhs_of rule < length g.names
-      by (Plain r) all = all 0 0 (omega arith)
-      by (Sequence r) all = all 0 0 (omega arith)
-
   -- the child slots of the packed rule are those of the rule
   pub child_is : (i k : ℕ) → i < length g.rules → k < slot_count (rule_at g i) → child_slot (packed_rule rows (rule_at g i)) k ≡ packed_slot rows (child_slot (rule_at g i) k)
-  child_is i k lt kl = by (rule_at g i) (w.rules_known i lt).1 (t.has.levels i lt) (t.has.nexts i lt) (t.has.first (lhs_of (rule_at g i)) (left_known i lt))
+  child_is i k lt kl = by (rule_at g i) (w.rules_known i lt).1 (t.has.levels i lt) (t.has.nexts i lt) (t.has.first (lhs_of (rule_at g i)) (lhs_known g i w lt))
     where
       by : (rule : WrittenRule) → IsLevelled rule → Contains (row_at rows (lhs_of rule)) (level_of rule) → Contains (row_at rows (lhs_of rule)) (suc (level_of rule)) → Contains (row_at rows (lhs_of rule)) 0 →
           child_slot (packed_rule rows rule) k ≡ packed_slot rows (child_slot rule k)
@@ -40,7 +34,7 @@ module _ (g : Grammar) (rows : List (List ℕ)) (w : IsWritten g) (t : IsLevelTa
 
   -- each child slot's level occurs at its symbol
   pub child_occurs : (i k : ℕ) → i < length g.rules → k < slot_count (rule_at g i) → Occurs rows (child_slot (rule_at g i) k)
-  child_occurs i k lt kl = by (rule_at g i) (w.rules_known i lt) (t.has.levels i lt) (t.has.nexts i lt) (t.has.first (lhs_of (rule_at g i)) (left_known i lt)) kl
+  child_occurs i k lt kl = by (rule_at g i) (w.rules_known i lt) (t.has.levels i lt) (t.has.nexts i lt) (t.has.first (lhs_of (rule_at g i)) (lhs_known g i w lt)) kl
     where
       parted : (item separator : ℕ) (b : Bool) → item < length g.names → separator < length g.names → Occurs rows (slot_of (if b then item else separator))
       parted item separator true i s = t.has.first item i
@@ -113,7 +107,7 @@ module _ (g : Grammar) (rows : List (List ℕ)) (w : IsWritten g) (t : IsLevelTa
     names_differ = w.names_differ;
     rules_known = λ i lt. (let il : i < length g.rules = omega (arith, lt, rules_count) in
         subst (λ r. All (λ s. s < length g.names) (symbols_of r) × IsLevelled r) (sym (rule_is i il))
-        (by (rule_at g i) (w.rules_known i il) (t.has.levels i il) (t.has.nexts i il) (t.has.first (lhs_of (rule_at g i)) (left_known i il))));
+        (by (rule_at g i) (w.rules_known i il) (t.has.levels i il) (t.has.nexts i il) (t.has.first (lhs_of (rule_at g i)) (lhs_known g i w il))));
     starts_known = w.starts_known;
   }
     where
@@ -240,21 +234,6 @@ module _ (g : Grammar) (rows : List (List ℕ)) (w : IsWritten g) (t : IsLevelTa
     λ (i, lt, e). (i, omega (arith, lt, rules_count), ap lhs_of (rule_is i lt) ∙ (lhs_is rows (rule_at g i) ∙ e)),
   )
 
-  pub child_known : (i k : ℕ) → i < length g.rules → k < slot_count (rule_at g i) → (child_slot (rule_at g i) k).symbol < length g.names
-  child_known i k lt kl = by (rule_at g i) (w.rules_known i lt).0 kl
-    where
-      parted : (item separator : ℕ) (b : Bool) → item < length g.names → separator < length g.names → (if b then item else separator) < length g.names
-      parted item separator true i s = i
-      parted item separator false i s = s
-
-      of_sequence : (item : ℕ) (separator : Option ℕ) → item < length g.names → All (λ s. s < length g.names) (option_to_list separator) → sequence_symbol item separator k < length g.names
-      of_sequence item None known all = known
-      of_sequence item (Some separator) known all = parted item separator (is_even k) known (all 0 0 (omega arith))
-
-      by : (rule : WrittenRule) → All (λ s. s < length g.names) (symbols_of rule) → k < slot_count rule → (child_slot rule k).symbol < length g.names
-      by (Plain r) all kl = all (suc k) 0 (omega (arith, kl))
-      by (Sequence r) all kl = of_sequence r.item r.separator (all 1 0 (omega arith)) (λ n d nl. all (suc (suc n)) d (omega (arith, nl)))
-
   -- what is looked up in the grammar, in a grammar that is the packed one
   module _ (h : Grammar) (is : p ≡ h) (i : ℕ) (il : i < length h.rules) where
     pub rule_within : i < length g.rules
@@ -267,7 +246,7 @@ module _ (g : Grammar) (rows : List (List ℕ)) (w : IsWritten g) (t : IsLevelTa
     level_told s l q es el eq = eq ∙ (ap (λ s. place rows s l) es ∙ (ap (place rows (lhs_of (rule_at g i))) el ∙ (sym (level_is rows (rule_at g i)) ∙ ap level_of same_rule)))
 
     pub groups_told : (s l q : ℕ) → s ≡ lhs_of (rule_at g i) → l ≡ groups_of (rule_at g i) → q ≡ place rows s l → q ≡ groups_of (rule_at h i)
-    groups_told s l q es el eq = eq ∙ (ap (λ s. place rows s l) es ∙ (ap (place rows (lhs_of (rule_at g i))) el ∙ (by (rule_at g i) (t.has.first (lhs_of (rule_at g i)) (left_known i rule_within)) ∙ ap groups_of same_rule)))
+    groups_told s l q es el eq = eq ∙ (ap (λ s. place rows s l) es ∙ (ap (place rows (lhs_of (rule_at g i))) el ∙ (by (rule_at g i) (t.has.first (lhs_of (rule_at g i)) (lhs_known g i w rule_within)) ∙ ap groups_of same_rule)))
       where
         by : (rule : WrittenRule) → Contains (row_at rows (lhs_of rule)) 0 → place rows (lhs_of rule) (groups_of rule) ≡ groups_of (packed_rule rows rule)
         by (Plain r) first = refl

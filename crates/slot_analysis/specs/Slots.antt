@@ -2,11 +2,8 @@
 use Rattle.std.specs.Prelude.{◌≡◌, ℕ, suc, ◌+◌, ◌<◌, ◌≤◌, Bool, false, if◌then◌else◌, List, [], ◌∷◌, length, map, slice_index, slice_index_or, Contains, ◌⊎◌, option_to_list}
 use Rattle.std.specs.List.{range_with_len}
 use Rattle.grammar_model.specs.Grammar.{WrittenRule, Plain, Sequence, Grammar, Slot, rule_at, lhs_of, level_of, child_slot}
+use Rattle.grammar_core.specs.Rules.{groups_of}
 use Rattle.horn_clauses.specs.Least.{Clause}
-
-abbrev pub groups_of : WrittenRule → ℕ
-groups_of (Plain r) = r.groups
-groups_of (Sequence r) = 1
 
 abbrev pub number : List ℕ → Slot → ℕ
 number bases slot = slice_index bases slot.symbol + slot.level

@@ -99,7 +99,7 @@ fn is_no_left(lefts: &[bool], s: u32) -> bool
 fn tables_of(alloc: Global, w: &Packed<'_>) -> Result<Tables, AllocError>
     ensures { IfOk result (λ t. AreTables w.now t.bases.items t.lefts.items t.nullable t.productive t.reach) }
 {
-    let _ = w.rule_count();
+    w.known();
     let bases = bases_of(alloc, w)?;
     let lefts = lefts_of(alloc, w)?;
     let nullable = analysis_of(alloc, w, &bases, &lefts, true)?;
@@ -118,7 +118,6 @@ fn packed_tables(alloc: Global, w: &Written, levels: &Rows) -> Result<Tables, Al
     requires { IsLevelTable w.now levels.now }
     ensures tables { IfOk result (λ t. AreTables (packed levels.now w.now) t.bases.items t.lefts.items t.nullable t.productive t.reach) }
 {
-    let _ = w.rule_count();
     let packed = Packed { written: w, levels };
     tables_of(alloc, &packed)
 }
@@ -128,7 +127,7 @@ impl<'a> Analysis<'a> {
     pub fn analyse(alloc: Global, w: &'a Written) -> Result<Analysis<'a>, AllocError>
         ensures { IfOk result (λ c. c ≡ w.now) }
     {
-        let _ = w.rule_count();
+        w.known();
         let levels = levels_of(alloc, w)?;
         let tables = packed_tables(alloc, w, &levels)?;
         Ok(Analysis {

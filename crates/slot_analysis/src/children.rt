@@ -4,7 +4,7 @@ ghost use Rattle.grammar_model.specs.declared.Assoc.TheVariants.{Left, Right};
 ghost use Rattle.grammar_model.specs.Grammar.{rule_at, lhs_of, level_of, child_slot, child_level, tighter, occurs, own_level, slot_count, sequence_symbol, Sequence, Plain};
 ghost use Rattle.slot_analysis.specs.Slots.{number, IsNumbering, body_count, rule_clause};
 
-use grammar_core::{Assoc, Rule, RuleId, SeqRule, SymbolId, Written, WrittenRule};
+use grammar_core::{Assoc, Rule, SeqRule, SymbolId, Written, WrittenRule};
 use std::alloc::{AllocError, Global};
 
 // Whether the symbol is one of these.
@@ -90,8 +90,7 @@ pub fn child_at(w: &Written, i: usize, k: usize) -> (u32, u32)
     ensures symbol { result.0 ≡ (child_slot (rule_at w.now i) k).symbol }
     ensures level { result.1 ≡ (child_slot (rule_at w.now i) k).level }
 {
-    let _ = w.rule_count();
-    match w.written_rule(RuleId(i as u32)) {
+    match w.rule(i) {
         WrittenRule::Plain(rule) => (rule.rhs[k].0, level_of_part(rule, k)),
         WrittenRule::Sequence(rule) => (sequence_part(rule, k), 0),
     }

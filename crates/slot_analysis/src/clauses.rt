@@ -15,7 +15,7 @@ pub fn head_number(w: &Packed<'_>, bases: &[u32], i: usize) -> u32
     requires numbering { IsNumbering w.now bases.now }
     ensures { result ≡ slice_index bases.now (lhs_of (rule_at w.now i)) + level_of (rule_at w.now i) }
 {
-    let _ = w.rule_count();
+    w.known();
     let symbol = w.left_of(i) as usize;
     let level = w.level_at(i);
     let _end = bases[symbol + 1];
@@ -29,7 +29,7 @@ pub fn child_number(w: &Packed<'_>, bases: &[u32], i: usize, k: usize) -> u32
     requires part { k < slot_count (rule_at w.now i) }
     ensures { result ≡ number bases.now (child_slot (rule_at w.now i) k) }
 {
-    let _ = w.rule_count();
+    w.known();
     let (symbol, level) = w.child_at(i, k);
     let _end = bases[symbol as usize + 1];
     bases[symbol as usize] + level

@@ -1,11 +1,13 @@
 //! The levels that occur at each symbol, in order.
-ghost use Rattle.std.specs.Prelude.{◌≡◌, ℕ, ◌+◌, ◌<◌, ◌^◌, length, Contains, IfOk, OnOk, IsTrue, ◌↔◌};
+ghost use Rattle.std.specs.Prelude.{◌≡◌, ℕ, ◌<◌, ◌^◌, length, Contains, IfOk, OnOk, IsTrue, ◌↔◌};
+ghost use Rattle.grammar_model.specs.Grammar.{lhs_of, level_of};
+ghost use Rattle.grammar_core.specs.Written.{rule_of};
+ghost use Rattle.grammar_core.specs.Rules.{groups_of};
 ghost use Rattle.std.specs.List.Sorted.{IsStrictlyIncreasing};
 ghost use Rattle.horn_clauses.specs.Rows.{row_at, HasSameRows};
 ghost use Rattle.slot_analysis.specs.Packed.{count_below, HasFirsts, HasBoth, HoldsLevels, IsLevelTable};
 
-use crate::rules::{left_of, level_at};
-use grammar_core::Written;
+use grammar_core::{Written, WrittenRule};
 use horn_clauses::{Gathered, Rows};
 use std::alloc::{AllocError, Global};
 
@@ -72,14 +74,18 @@ fn push_firsts(rows: &mut Gathered) -> Result<(), AllocError>
     Ok(())
 }
 
-// A level and the next one in a row.
-fn push_level(rows: &mut Gathered, x: u32, level: u32) -> Result<(), AllocError>
-    requires row { x < length rows.old }
-    requires small { level + 1 < 2 ^ 32 }
-    ensures { OnOk result (HasBoth rows.old rows.new x level) }
+// The rule's level and the next one, in the row of its left side.
+fn push_rule(rule: &WrittenRule, rows: &mut Gathered) -> Result<(), AllocError>
+    requires row { lhs_of (rule_of rule.now) < length rows.old }
+    requires level { level_of (rule_of rule.now) < groups_of (rule_of rule.now) }
+    ensures { OnOk result (HasBoth rows.old rows.new (lhs_of (rule_of rule.now)) (level_of (rule_of rule.now))) }
 {
-    rows.add(x, level)?;
-    rows.add(x, level + 1)
+    // A level is below its groups, so there is a next one.
+    let _groups = rule.groups();
+    let left = rule.lhs();
+    let level = rule.level();
+    rows.add(left.0, level)?;
+    rows.add(left.0, level + 1)
 }
 
 // The levels of the rules and next to those, in any order.
@@ -88,7 +94,7 @@ fn push_rules(w: &Written, rows: &mut Gathered) -> Result<(), AllocError>
     ensures { OnOk result (HoldsLevels w.now (length w.now.rules) rows.new) }
 {
     for i in 0..w.rule_count() {
-        push_level(rows, left_of(w, i), level_at(w, i))?;
+        push_rule(w.rule(i), rows)?;
     }
     Ok(())
 }

@@ -14,4 +14,4 @@ pub use analysis::{Analysis, Slots};
 pub use children::child_at;
 pub use clauses::{child_number, head_number};
 pub use packed::Packed;
-pub use rules::left_of;
+pub use rules::needed_count;

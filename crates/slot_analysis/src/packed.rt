@@ -5,9 +5,11 @@ ghost use Rattle.grammar_core.specs.Written.{IsWritten};
 ghost use Rattle.std.specs.List.Sorted.{IsStrictlyIncreasing};
 ghost use Rattle.horn_clauses.specs.Rows.{row_at};
 ghost use Rattle.slot_analysis.specs.Packed.{packed, packed_slot, place};
-ghost use Rattle.slot_analysis.specs.Slots.{groups_of, body_count, needed_of};
+ghost use Rattle.grammar_core.specs.Rules.{groups_of};
+ghost use Rattle.slot_analysis.specs.Slots.{body_count, needed_of};
 
-use crate::{children, levels, rules};
+use crate::rules::{body_len, needed_count, part_count};
+use crate::{children, levels};
 use grammar_core::{SymbolId, Written};
 use horn_clauses::Rows;
 use std::marker::Model;
@@ -31,6 +33,13 @@ impl<'a> Model for Packed<'a> {
 }
 
 impl<'a> Packed<'a> {
+    /// States what is always so of a written grammar.
+    pub fn known(&self)
+        ensures { IsWritten self.now }
+    {
+        self.written.known();
+    }
+
     /// How many symbols there are.
     pub fn symbol_count(&self) -> usize
         ensures count { result ≡ length self.now.names }
@@ -69,8 +78,7 @@ impl<'a> Packed<'a> {
         ensures value { result ≡ lhs_of (rule_at self.now i) }
         ensures known { result < length self.now.names }
     {
-        let _ = self.written.rule_count();
-        rules::left_of(self.written, i)
+        self.written.lhs(i).0
     }
 
     /// The place of the rule's level.
@@ -78,10 +86,9 @@ impl<'a> Packed<'a> {
         requires { i < length self.now.rules }
         ensures { result ≡ level_of (rule_at self.now i) }
     {
-        let _ = self.written.rule_count();
-        let symbol = rules::left_of(self.written, i);
-        let level = rules::level_at(self.written, i);
-        place_at(self.levels, symbol, level)
+        let symbol = self.written.lhs(i);
+        let level = self.written.rule(i).level();
+        place_at(self.levels, symbol.0, level)
     }
 
     /// How many places the groups of the rule's statement have.
@@ -89,10 +96,9 @@ impl<'a> Packed<'a> {
         requires { i < length self.now.rules }
         ensures { result ≡ groups_of (rule_at self.now i) }
     {
-        let _ = self.written.rule_count();
-        let symbol = rules::left_of(self.written, i);
-        let groups = rules::groups_at(self.written, i);
-        place_at(self.levels, symbol, groups)
+        let symbol = self.written.lhs(i);
+        let groups = self.written.rule(i).groups();
+        place_at(self.levels, symbol.0, groups)
     }
 
     /// The symbol of a rule's child slot, and the place of its level.
@@ -102,7 +108,7 @@ impl<'a> Packed<'a> {
         ensures symbol { result.0 ≡ (child_slot (rule_at self.now i) k).symbol }
         ensures level { result.1 ≡ (child_slot (rule_at self.now i) k).level }
     {
-        let _ = self.written.rule_count();
+        self.written.known();
         let (symbol, level) = children::child_at(self.written, i, k);
         (symbol, place_at(self.levels, symbol, level))
     }
@@ -112,7 +118,7 @@ impl<'a> Packed<'a> {
         requires { i < length self.now.rules }
         ensures { result ≡ body_count separators (rule_at self.now i) }
     {
-        rules::count_at(self.written, i, separators)
+        body_len(self.written.rule(i), separators)
     }
 
     /// How many child slots the rule has.
@@ -120,7 +126,7 @@ impl<'a> Packed<'a> {
         requires { i < length self.now.rules }
         ensures { result ≡ slot_count (rule_at self.now i) }
     {
-        rules::part_count(self.written, i)
+        part_count(self.written.rule(i))
     }
 
     /// How many of them, from the first, a live rule needs to be productive.
@@ -128,7 +134,7 @@ impl<'a> Packed<'a> {
         requires { i < length self.now.rules }
         ensures { result ≡ needed_of (rule_at self.now i) }
     {
-        rules::needed_count(self.written, i)
+        needed_count(self.written.rule(i))
     }
 }
 

@@ -1,7 +1,8 @@
 //! Numbers for the slots of a grammar.
 ghost use Rattle.std.specs.Prelude.{◌≡◌, ℕ, suc, ◌+◌, ◌<◌, ◌≤◌, ◌^◌, length, slice_index, IfOk, IsTrue, ◌↔◌};
 ghost use Rattle.grammar_model.specs.Grammar.{rule_at, lhs_of, level_of, child_slot, child_level, tighter, occurs, own_level};
-ghost use Rattle.slot_analysis.specs.Slots.{groups_of, number, end_of, IsNumbering, IsNumbered, body_count};
+ghost use Rattle.grammar_core.specs.Rules.{groups_of};
+ghost use Rattle.slot_analysis.specs.Slots.{number, end_of, IsNumbering, IsNumbered, body_count};
 
 use crate::packed::Packed;
 use std::alloc::{AllocError, Global};
@@ -45,7 +46,7 @@ pub fn bases_of(alloc: Global, w: &Packed<'_>) -> Result<Vec<u32>, AllocError>
     ensures { IfOk result (λ bases. IsNumbering w.now bases.items) }
 {
     let rooms = rooms_of(alloc, w)?;
-    let _ = w.rule_count();
+    w.known();
     let sums = sums_of(alloc, &rooms)?;
     Ok(sums)
 }

@@ -41,7 +41,7 @@ fn start_number(w: &Packed<'_>, bases: &[u32], k: usize) -> u32
     requires start { k < length w.now.starts }
     ensures { result ≡ slice_index bases.now (slice_index w.now.starts k) }
 {
-    let _ = w.start_count();
+    w.known();
     let s = w.start(k);
     bases[s.0 as usize]
 }
@@ -93,7 +93,7 @@ fn is_live(w: &Packed<'_>, bases: &[u32], productive: &NumberSet, i: usize) -> b
     requires productive { IsAnalysis false w.now bases.now productive.now }
     ensures { IsTrue result ↔ IsLive w.now (rule_at w.now i) }
 {
-    let _ = w.rule_count();
+    w.known();
     for k in 0..w.needed_count(i) {
         if !productive.has(child_number(w, bases, i, k)) {
             return false;
@@ -118,7 +118,7 @@ fn push_part(
     requires small { total + total < 2 ^ 32 }
     ensures { OnOk result (HasMore clauses.old clauses.new (IsOfPart w.now bases.now total i (slot_count (rule_at w.now i)))) }
 {
-    let _ = w.rule_count();
+    w.known();
     let head = head_number(w, bases, i);
     for k in 0..w.part_count(i) {
         let child = child_number(w, bases, i, k);

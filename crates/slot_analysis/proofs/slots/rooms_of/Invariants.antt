@@ -1,6 +1,6 @@
 use Rattle.std.proofs.Common.{◌≡◌, ℕ, ◌<◌, ◌≤◌, length, slice_index}
 use Rattle.grammar_model.specs.Grammar.{rule_at, lhs_of}
-use Rattle.slot_analysis.specs.Slots.{groups_of}
+use Rattle.grammar_core.specs.Rules.{groups_of}
 use Rattle.slot_analysis.proofs.slots.rooms_of.Given as goal
 
 abbrev pub invariant-loop-i : goal.invariant-loop-i

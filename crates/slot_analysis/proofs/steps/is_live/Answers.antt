@@ -13,7 +13,7 @@ pub returns-then-not-has : goal.returns-then-not-has
 returns-then-not-has c =
     let lt : c.loop-k.k < needed_of (rule_at c.args.w.now c.args.i) = omega (arith, c.loop-k-test.true, c.needed_count-k-end.ensures) in (
       λ t. absurd (true≢false (sym t)),
-      λ live. absurd (true≢false (sym ((productive_found c.args.w.now c.args.bases.now c.args.productive.now c.args.i c.loop-k.k c.child_number.result c.has.result c.rule_count.ensures.sound c.requires.numbering c.requires.rule
+      λ live. absurd (true≢false (sym ((productive_found c.args.w.now c.args.bases.now c.args.productive.now c.args.i c.loop-k.k c.child_number.result c.has.result c.known.ensures c.requires.numbering c.requires.rule
           (needed_small (rule_at c.args.w.now c.args.i) c.loop-k.k lt) c.requires.productive c.child_number.ensures c.has.ensures).1 ((all_needed c.args.w.now (rule_at c.args.w.now c.args.i)).1 live c.loop-k.k lt)) ∙ c.if-not-has.true)),
     )
 
@@ -21,7 +21,7 @@ pub loop-k-preserved : goal.loop-k-preserved
 loop-k-preserved c = λ j lt. elim (same_or_below j c.loop-k.k lt) [
   | inl before ↦ c.loop-k.invariant j before
   | inr same ↦ subst (λ j. IsProductive c.args.w.now (child_slot (rule_at c.args.w.now c.args.i) j)) (sym same)
-      ((productive_found c.args.w.now c.args.bases.now c.args.productive.now c.args.i c.loop-k.k c.child_number.result c.has.result c.rule_count.ensures.sound c.requires.numbering c.requires.rule
+      ((productive_found c.args.w.now c.args.bases.now c.args.productive.now c.args.i c.loop-k.k c.child_number.result c.has.result c.known.ensures c.requires.numbering c.requires.rule
       (needed_small (rule_at c.args.w.now c.args.i) c.loop-k.k (omega (arith, c.loop-k-test.true, c.needed_count-k-end.ensures))) c.requires.productive c.child_number.ensures c.has.ensures).0 c.if-not-has.false)
 ]
 

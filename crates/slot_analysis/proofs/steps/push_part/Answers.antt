@@ -9,14 +9,14 @@ use Rattle.slot_analysis.proofs.steps.push_part.Goals as goal
 use Rattle.slot_analysis.proofs.steps.push_part.Goals.{then-has+in_ok-push_unit, else-has}
 
 pub overflow_add-total : goal.overflow_add-total
-overflow_add-total c = let h = head_small c.args.w.now c.args.bases.now c.args.i c.rule_count.ensures.sound c.requires.numbering c.requires.rule in omega (arith, h, c.head_number-head.ensures, c.requires.total, c.requires.small)
+overflow_add-total c = let h = head_small c.args.w.now c.args.bases.now c.args.i c.known.ensures c.requires.numbering c.requires.rule in omega (arith, h, c.head_number-head.ensures, c.requires.total, c.requires.small)
 
 pub loop-k-init : goal.loop-k-init
 loop-k-init c = more_none c.args.clauses.now (IsOfPart c.args.w.now c.args.bases.now c.args.total c.args.i 0) (λ d (k, lt, p, e). omega (arith, lt))
 
 pub loop-k-preserved : goal.loop-k-preserved
 loop-k-preserved c =
-    let told = productive_found c.args.w.now c.args.bases.now c.args.productive.now c.args.i c.loop-k.k c.child_number-child.result c.has.result c.rule_count.ensures.sound c.requires.numbering c.requires.rule
+    let told = productive_found c.args.w.now c.args.bases.now c.args.productive.now c.args.i c.loop-k.k c.child_number-child.result c.has.result c.known.ensures c.requires.numbering c.requires.rule
     (omega (arith, c.loop-k-test.true, c.part_count-k-end.ensures)) c.requires.productive c.child_number-child.ensures c.has.ensures in
     elim c.if-has.branch [
       | then-has+in_ok-push_unit w ↦ subst (λ (v : List Clause). HasMore c.args.clauses.now v (IsOfPart c.args.w.now c.args.bases.now c.args.total c.args.i (c.loop-k.k + 1))) (sym w.clauses-is)
