@@ -3,7 +3,7 @@ use Rattle.std.proofs.Common.{arith, ◌≡◌, ℕ, zero, suc, ◌<◌, ◌≤�
 use Rattle.grammar_model.specs.Grammar.{Grammar}
 use Rattle.grammar_model.specs.Checked.{IsFirstStart, StartsAreLeft, SequencesAreAlone, RulesDiffer, ItemsSpan, StartsAreProductive, Refusal, NoRules, NoStart, StartNotLhs, SequenceLhs, Duplicate, CountedNullable, UnproductiveStart, Cyclic, IsFault, kind_of}
 use Rattle.grammar_core.specs.Written.{IsWritten}
-use Rattle.slot_analysis.proofs.Known.{lhs_known}
+use Rattle.grammar_core.proofs.Known.{lhs_known}
 use Rattle.std.specs.Option.{IfSome, IsNone}
 
 pub contains_got : (xs : List ℕ) (k x : ℕ) → slice_get xs k ≡ Some x → Contains xs x

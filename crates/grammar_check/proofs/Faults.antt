@@ -3,8 +3,7 @@ use Rattle.std.proofs.Common.{arith, ◌≡◌, ◌⊎◌, ◌↔◌, inl, inr, 
 use Rattle.std.proofs.Common.{All}
 use Rattle.std.specs.Option.{IfSome}
 use Rattle.grammar_core.specs.Written.{IsWritten, symbols_of}
-use Rattle.std.proofs.lemmas.Option.{get_or_from_slice_get}
-use Rattle.grammar_model.specs.Grammar.{Grammar, PlainRule, SequenceRule, Plain, Sequence, slot_of, rule_at, no_rule, sequence_symbol}
+use Rattle.grammar_model.specs.Grammar.{Grammar, PlainRule, SequenceRule, Plain, Sequence, slot_of, rule_at, sequence_symbol}
 use Rattle.grammar_model.specs.Analysis.{IsNullable}
 use Rattle.grammar_model.specs.Checked.{IsCountedNullable}
 use Rattle.grammar_check.specs.Counted.{HasNullable}
@@ -45,17 +44,15 @@ has_either g r s e = (
     by (suc zero) lt h = inr h
     by (suc (suc k)) lt h = absurd (omega arith)
 
-pub counted_plain : (g : Grammar) (i : ℕ) (p : PlainRule) → slice_get g.rules i ≡ Some (Plain p) → IsCountedNullable g i → ⊥
-counted_plain g i p e (r, is, h) = let z : Plain p ≡ Sequence r = sym (get_or_from_slice_get g.rules i (Plain p) no_rule e) ∙ is in absurd (cc)
+pub counted_plain : (g : Grammar) (i : ℕ) (p : PlainRule) → rule_at g i ≡ Plain p → IsCountedNullable g i → ⊥
+counted_plain g i p e (r, is, h) = let z : Plain p ≡ Sequence r = sym e ∙ is in absurd (cc)
 
-pub counted_sequence : (g : Grammar) (i : ℕ) (r : SequenceRule) → slice_get g.rules i ≡ Some (Sequence r) → (HasNullable g r ↔ IsCountedNullable g i)
-counted_sequence g i r e =
-    let is : rule_at g i ≡ Sequence r = get_or_from_slice_get g.rules i (Sequence r) no_rule e in
+pub counted_sequence : (g : Grammar) (i : ℕ) (r : SequenceRule) → rule_at g i ≡ Sequence r → (HasNullable g r ↔ IsCountedNullable g i)
+counted_sequence g i r is =
     (λ h. (r, is, h), λ (q, iq, h). let z : Sequence q ≡ Sequence r = sym iq ∙ is in let same : q ≡ r = cc in subst (HasNullable g) same h)
 
-pub sequence_known : (g g' : Grammar) (i : ℕ) (r : SequenceRule) → g ≡ g' → IsWritten g → i < length g.rules → slice_get g.rules i ≡ Some (Sequence r) → (r.item < length g'.names) × IfSome r.separator (λ s. s < length g'.names)
-sequence_known g g' i r eg w lt e =
-    let is : rule_at g i ≡ Sequence r = get_or_from_slice_get g.rules i (Sequence r) no_rule e in
+pub sequence_known : (g g' : Grammar) (i : ℕ) (r : SequenceRule) → g ≡ g' → IsWritten g → i < length g.rules → rule_at g i ≡ Sequence r → (r.item < length g'.names) × IfSome r.separator (λ s. s < length g'.names)
+sequence_known g g' i r eg w lt is =
     let all = subst (λ rule. All (λ s. s < length g.names) (symbols_of rule)) is (w.rules_known i lt).0 in
     subst (λ g. (r.item < length g.names) × IfSome r.separator (λ s. s < length g.names)) eg (all 1 0 (omega arith), by r.separator all)
   where

@@ -1,5 +1,5 @@
 -- Marks of symbols, and texts of rules.
-use Rattle.std.proofs.Common.{arith, ◌≡◌, ◌≢◌, ◌⊎◌, ◌↔◌, inl, inr, ℕ, zero, suc, ◌+◌, ◌<◌, Bool, true, false, not, ◌||◌, if◌then◌else◌, Some, List, [], ◌∷◌, ◌++◌, length, Contains, slice_get, slice_index_or, slice_set, nat_eq, refl, sym, ◌∙◌, ap, subst, true≢false}
+use Rattle.std.proofs.Common.{arith, ◌≡◌, ◌≢◌, ◌⊎◌, ◌↔◌, inl, inr, ℕ, zero, suc, ◌+◌, ◌<◌, Bool, true, false, not, ◌||◌, if◌then◌else◌, List, [], ◌∷◌, ◌++◌, length, Contains, slice_index_or, slice_set, nat_eq, refl, sym, ◌∙◌, ap, subst, true≢false}
 use Rattle.std.specs.Bool.{IsTrue, Decides}
 use Rattle.std.specs.List.{list_any}
 use Rattle.std.specs.Cmp.Lexicographic.{pointwise}
@@ -7,17 +7,17 @@ use Rattle.std.specs.declared.vec.Vec.{Vec}
 use Rattle.std.specs.declared.alloc.Global.{Global}
 use Rattle.std.proofs.lemmas.Bool.Decides.{Decides-eqb}
 use Rattle.std.proofs.lemmas.Slice.Eq.{slice_eq-Decides}
-use Rattle.std.proofs.lemmas.Option.{get_or_from_slice_get}
 use Rattle.std.proofs.lemmas.List.{get_or-set_same, get_or-set_other, map-append}
 use Rattle.std.proofs.lemmas.List.Elements.{Contains-append_left, Contains-push, Contains-push_cases}
 use Rattle.indexmap.specs.IndexSet.{insert_key}
-use Rattle.grammar_model.specs.Grammar.{Grammar, PlainRule, SequenceRule, Plain, Sequence, rule_at, no_rule, lhs_of}
+use Rattle.grammar_model.specs.Grammar.{Grammar, WrittenRule, PlainRule, SequenceRule, Plain, Sequence, rule_at, lhs_of}
 use Rattle.grammar_model.specs.Checked.{IsDuplicate, IsShared, SequencesAreAlone}
 use Rattle.grammar_core.specs.Written.{IsWritten}
+use Rattle.grammar_core.specs.Rules.{is_sequence}
 use Rattle.grammar_check.specs.Shared.{rows_of}
 use Rattle.grammar_check.specs.Shared.{IsSequenceAt, HasTwo, HasSequence, Marks, HasTexts}
 use Rattle.horn_clauses.proofs.Search.{same_or_other, same_or_below}
-use Rattle.slot_analysis.proofs.Known.{lhs_known}
+use Rattle.grammar_core.proofs.Known.{lhs_known}
 
 -- a mark more, where R holds
 pub mark_more : (marks : List Bool) (P Q : ℕ → Type 0) (x : ℕ) (c : Bool) (R : Type 0) → Marks marks P → x < length marks → (c ≡ true) ↔ R → ((y : ℕ) → (P y ⊎ ((y ≡ x) × R)) ↔ Q y) → Marks (slice_set marks x (slice_index_or marks x false || c)) Q
@@ -75,6 +75,10 @@ sequence_more g n x e y = (
     | inr same ↦ inr (sym is ∙ (ap (λ i. lhs_of (rule_at g i)) same ∙ sym e), subst (IsSequenceAt g) same q)
   ],
 )
+
+pub sequence_at : (g : Grammar) (i : ℕ) (rule : WrittenRule) (b : Bool) → rule ≡ rule_at g i → b ≡ is_sequence rule → (b ≡ true) ↔ IsSequenceAt g i
+sequence_at g i (Plain r) b is e = (λ t. absurd (true≢false (sym t ∙ e)), λ (q, k). let z : Plain r ≡ Sequence q = is ∙ k in absurd (cc))
+sequence_at g i (Sequence r) b is e = (λ t. (r, sym is), λ q. e)
 
 left_is : (g : Grammar) (i : ℕ) (r : SequenceRule) → rule_at g i ≡ Sequence r → lhs_of (rule_at g i) ≡ r.lhs
 left_is g i r e = ap lhs_of e
@@ -185,12 +189,6 @@ duplicate_from g i texts p text is e h = (
 
 pub never_duplicate : (g : Grammar) (i : ℕ) (q : SequenceRule) → rule_at g i ≡ Sequence q → IsDuplicate g i → ⊥
 never_duplicate g i q is (j, r, s, lt, f, k, a, b) = let z : Plain s ≡ Sequence q = sym k ∙ is in absurd (cc)
-
-pub rule_is_plain : (g : Grammar) (i : ℕ) (p : PlainRule) → slice_get g.rules i ≡ Some (Plain p) → rule_at g i ≡ Plain p
-rule_is_plain g i p e = get_or_from_slice_get g.rules i (Plain p) no_rule e
-
-pub rule_is_sequence : (g : Grammar) (i : ℕ) (r : SequenceRule) → slice_get g.rules i ≡ Some (Sequence r) → rule_at g i ≡ Sequence r
-rule_is_sequence g i r e = get_or_from_slice_get g.rules i (Sequence r) no_rule e
 
 pub fresh_text : (old : List (Vec ℕ Global)) (v : Vec ℕ Global) (new : Bool) → new ≡ not (list_any (λ k. pointwise nat_eq v.items k.items) old) → IsTrue (not new) ↔ Contains (rows_of old) v.items
 fresh_text old v new e = by (list_any (λ k. pointwise nat_eq v.items k.items) old) refl

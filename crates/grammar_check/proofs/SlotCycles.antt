@@ -19,7 +19,8 @@ use Rattle.grammar_check.specs.Settled.{NoneBelow, Rises}
 use Rattle.grammar_check.specs.Message.{AreOf}
 use Rattle.grammar_check.specs.Told.{slot_with, slots_with, IsHomed, AreSlotsAt}
 use Rattle.horn_clauses.proofs.Search.{same_or_other}
-use Rattle.slot_analysis.proofs.Known.{lhs_known, head_numbered, child_numbered}
+use Rattle.grammar_core.proofs.Known.{lhs_known}
+use Rattle.slot_analysis.proofs.Known.{head_numbered, child_numbered}
 use Rattle.slot_analysis.proofs.Rounds.{item_first, bases_rise, one_symbol}
 use Rattle.slot_analysis.proofs.Reaching.{numbered_small, same_slot}
 use Rattle.slot_analysis.proofs.Beyond.{accessible_numbered}

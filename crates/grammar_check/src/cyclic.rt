@@ -31,7 +31,7 @@ fn cycle_of(
     ensures known { IfOk result (λ r. IfSome r (λ cycle. AreOf w.now cycle.items)) }
     ensures none { IfOk result (λ r. IsNone r → HasHeights w.now) }
 {
-    let _ = w.rule_count();
+    w.known();
     let rows = links_of(alloc, w, slots)?;
     let floors = floors_of(alloc, w, slots.bases)?;
     let Some(path) = least_cycle(alloc, &rows, &floors)? else {
@@ -77,7 +77,7 @@ pub fn least_cycle_of(
 {
     let slots = analysis.slots();
     let written = analysis.written();
-    let _ = written.rule_count();
+    written.known();
     let packed = Packed {
         written,
         levels: slots.levels,

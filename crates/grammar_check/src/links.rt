@@ -19,7 +19,7 @@ fn is_part_nullable(w: &Packed<'_>, bases: &[u32], nullable: &NumberSet, i: usiz
     requires part { k < needed_of (rule_at w.now i) }
     ensures { IsTrue result ↔ IsNullable w.now (child_slot (rule_at w.now i) k) }
 {
-    let _ = w.rule_count();
+    w.known();
     nullable.has(child_number(w, bases, i, k))
 }
 
@@ -32,7 +32,7 @@ fn is_part_used(w: &Packed<'_>, slots: &Slots<'_>, i: usize, k: usize) -> bool
     requires part { k < needed_of (rule_at w.now i) }
     ensures { IsTrue result ↔ (IsAccessible w.now (child_slot (rule_at w.now i) k) × IsProductive w.now (child_slot (rule_at w.now i) k)) }
 {
-    let _ = w.rule_count();
+    w.known();
     let child = child_number(w, slots.bases, i, k);
     slots.reach.has(child) && slots.productive.has(child)
 }
@@ -46,7 +46,6 @@ fn first_solid(w: &Packed<'_>, bases: &[u32], nullable: &NumberSet, i: usize) ->
     ensures before { (j : ℕ) → j < result → IsNullable w.now (child_slot (rule_at w.now i) j) }
     ensures at { result < needed_of (rule_at w.now i) → IsNullable w.now (child_slot (rule_at w.now i) result) → ⊥ }
 {
-    let _ = w.rule_count();
     let count = w.needed_count(i);
     for k in 0..count {
         if !is_part_nullable(w, bases, nullable, i, k) {
@@ -65,7 +64,6 @@ fn solid_end(w: &Packed<'_>, bases: &[u32], nullable: &NumberSet, i: usize) -> u
     ensures behind { (j : ℕ) → result ≤ j → j < needed_of (rule_at w.now i) → IsNullable w.now (child_slot (rule_at w.now i) j) }
     ensures last { 0 < result → IsNullable w.now (child_slot (rule_at w.now i) (result - 1)) → ⊥ }
 {
-    let _ = w.rule_count();
     let mut end = 0;
     for k in 0..w.needed_count(i) {
         if !is_part_nullable(w, bases, nullable, i, k) {
@@ -97,7 +95,7 @@ fn add_links(
     requires sized { length rows.old ≡ slice_index slots.now.bases.now (length w.now.names) }
     ensures { OnOk result (HasPairs rows.old rows.new (IsLinkOf w.now slots.now.bases.now i (needed_of (rule_at w.now i)))) }
 {
-    let _ = w.rule_count();
+    w.known();
     let head = head_number(w, slots.bases, i);
     let first = first_solid(w, slots.bases, slots.nullable, i);
     let end = solid_end(w, slots.bases, slots.nullable, i);

@@ -7,7 +7,6 @@ ghost use Rattle.grammar_check.specs.Message.{IsOf, cycle_text, refusal_text, Ar
 use crate::GrammarRefusal;
 use grammar_core::{RuleId, SymbolId, Written};
 use itoa::Buffer;
-use slot_analysis::left_of;
 use std::alloc::{AllocError, Global};
 use value_text::NoMemory;
 
@@ -32,8 +31,7 @@ fn left_name(w: &Written, rule: RuleId) -> &str
     requires { rule < length w.now.rules }
     ensures { result.now ≡ name_of w.now (lhs_of (rule_at w.now rule)) }
 {
-    let symbol = left_of(w, rule.0 as usize);
-    symbol_name(w, SymbolId(symbol))
+    symbol_name(w, w.lhs(rule.0 as usize))
 }
 
 fn duplicate_text(alloc: Global, w: &Written, rule: RuleId) -> Result<Vec<u8>, AllocError>

@@ -55,8 +55,7 @@ fn counts_nullable(analysis: &Analysis<'_>, i: usize) -> bool
     ensures { IsTrue result ↔ IsCountedNullable analysis.now i }
 {
     let w = analysis.written();
-    let _ = w.rule_count();
-    match w.written_rule(RuleId(i as u32)) {
+    match w.rule(i) {
         WrittenRule::Plain(_) => false,
         WrittenRule::Sequence(rule) => has_nullable(analysis, rule),
     }
@@ -81,6 +80,6 @@ fn start_at(w: &Written, k: usize) -> SymbolId
     ensures value { slice_get w.now.starts k ≡ Some result }
     ensures known { result < length w.now.names }
 {
-    let _ = w.start_count();
+    w.known();
     w.start(k)
 }

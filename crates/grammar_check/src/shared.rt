@@ -6,19 +6,7 @@ ghost use Rattle.grammar_check.specs.Shared.{rows_of, IsSequenceAt, HasTwo, HasS
 
 use grammar_core::{Rule, RuleId, SymbolId, Written, WrittenRule};
 use indexmap::IndexSet;
-use slot_analysis::left_of;
 use std::alloc::{AllocError, AllocFailed, Global};
-
-fn is_sequence(w: &Written, i: usize) -> bool
-    requires { i < length w.now.rules }
-    ensures { IsTrue result ↔ IsSequenceAt w.now i }
-{
-    let _ = w.rule_count();
-    match w.written_rule(RuleId(i as u32)) {
-        WrittenRule::Plain(_) => false,
-        WrittenRule::Sequence(_) => true,
-    }
-}
 
 fn mark(marks: &mut Vec<bool>, x: usize, more: bool)
     requires { x < length marks.old.items }
@@ -35,7 +23,7 @@ fn twice_left(alloc: Global, w: &Written) -> Result<Vec<bool>, AllocError>
     let mut seen = vec![in alloc; false; w.symbol_count()]?;
     let mut twice = vec![in alloc; false; w.symbol_count()]?;
     for i in 0..w.rule_count() {
-        let symbol = left_of(w, i) as usize;
+        let symbol = w.lhs(i).0 as usize;
         mark(&mut twice, symbol, seen[symbol]);
         mark(&mut seen, symbol, true);
     }
@@ -49,8 +37,8 @@ fn sequence_left(alloc: Global, w: &Written) -> Result<Vec<bool>, AllocError>
 {
     let mut marks = vec![in alloc; false; w.symbol_count()]?;
     for i in 0..w.rule_count() {
-        let symbol = left_of(w, i) as usize;
-        mark(&mut marks, symbol, is_sequence(w, i));
+        let symbol = w.lhs(i).0 as usize;
+        mark(&mut marks, symbol, w.rule(i).is_sequence());
     }
     Ok(marks)
 }
@@ -102,8 +90,7 @@ fn is_repeated(
     ensures repeated { IfOk result (λ r. IsTrue r ↔ IsDuplicate w.now i) }
     ensures texts { OnOk result (HasTexts w.now (suc i) (rows_of texts.new.keys)) }
 {
-    let _ = w.rule_count();
-    match w.written_rule(RuleId(i as u32)) {
+    match w.rule(i) {
         WrittenRule::Sequence(_) => Ok(false),
         WrittenRule::Plain(rule) => {
             let text = text_of(alloc, rule)?;

@@ -26,7 +26,7 @@ fn slot_at(w: &Packed<'_>, bases: &[u32], homes: &[u32], x: u32) -> (SymbolId, u
     ensures numbered { IsNumbered w.now bases.now (slot_with result) }
     ensures same { number bases.now (slot_with result) ≡ x }
 {
-    let _ = w.rule_count();
+    w.known();
     let symbol = homes[x as usize];
     (SymbolId(symbol), x - bases[symbol as usize])
 }

@@ -11,16 +11,16 @@ use Rattle.grammar_check.proofs.cyclic.cycle_of.Goals as goal
 pub least_cycle-requires-clause-rows : goal.least_cycle-requires-clause-rows
 least_cycle-requires-clause-rows c =
     subst (λ n. AreRows n c.in_ok-rows.rows) (sym c.in_ok-rows.ensures.length)
-    (rows_are c.args.w.now c.rule_count.ensures.sound c.args.slots.now.bases.now c.requires.numbering c.in_ok-floors.floors.items c.in_ok-floors.ensures c.in_ok-rows.rows c.in_ok-rows.ensures.links)
+    (rows_are c.args.w.now c.known.ensures c.args.slots.now.bases.now c.requires.numbering c.in_ok-floors.floors.items c.in_ok-floors.ensures c.in_ok-rows.rows c.in_ok-rows.ensures.links)
 
 pub least_cycle-requires-clause-floors : goal.least_cycle-requires-clause-floors
-least_cycle-requires-clause-floors c = subst AreFloors (sym c.deref.ensures.value) (floors_are c.args.w.now c.rule_count.ensures.sound c.args.slots.now.bases.now c.requires.numbering c.in_ok-floors.floors.items c.in_ok-floors.ensures)
+least_cycle-requires-clause-floors c = subst AreFloors (sym c.deref.ensures.value) (floors_are c.args.w.now c.known.ensures c.args.slots.now.bases.now c.requires.numbering c.in_ok-floors.floors.items c.in_ok-floors.ensures)
 
 pub returns-in_default-clause-none : goal.returns-in_default-clause-none
 returns-in_default-clause-none c = λ _.
     let none = subst (λ (r : Option (Vec ℕ Global)). IsNone r → Rises c.in_ok-rows.rows c.deref.result.now) c.in_default.is c.in_ok-path.ensures.none refl in
     let r = subst (Rises c.in_ok-rows.rows) c.deref.ensures.value none in
-    heights c.args.w.now c.rule_count.ensures.sound c.args.slots.now.bases.now c.requires.numbering c.in_ok-floors.floors.items c.in_ok-floors.ensures c.in_ok-rows.rows c.in_ok-rows.ensures.links
+    heights c.args.w.now c.known.ensures c.args.slots.now.bases.now c.requires.numbering c.in_ok-floors.floors.items c.in_ok-floors.ensures c.in_ok-rows.rows c.in_ok-rows.ensures.links
     c.args.slots.now.productive.now c.requires.productive.exact c.in_ok-rows.ensures.length r
 
 abbrev Least : List (List ℕ) → List ℕ → List ℕ → Type 0
@@ -35,12 +35,12 @@ pub slots_at-requires-clause-known : goal.slots_at-requires-clause-known
 slots_at-requires-clause-known c =
     let (to, n, p, below) = least c.in_ok-rows.rows c.deref.result.now c.in_ok-floors.floors.items c.in_ok-path.field-0 c.in-Some.path c.deref.ensures.value c.in-Some.is c.in_ok-path.ensures.some in
     subst (λ l. All (λ x. x < slice_index c.args.slots.now.bases.now (length c.args.w.now.names)) l) (sym c.deref-2.ensures.value)
-    (path_known c.args.w.now c.rule_count.ensures.sound c.args.slots.now.bases.now c.requires.numbering c.in_ok-floors.floors.items c.in_ok-floors.ensures c.in_ok-rows.rows c.in_ok-rows.ensures.links to n c.in-Some.path.items p)
+    (path_known c.args.w.now c.known.ensures c.args.slots.now.bases.now c.requires.numbering c.in_ok-floors.floors.items c.in_ok-floors.ensures c.in_ok-rows.rows c.in_ok-rows.ensures.links to n c.in-Some.path.items p)
 
 pub returns-clause-some : goal.returns-clause-some
 returns-clause-some c =
     let (to, n, p, below) = least c.in_ok-rows.rows c.deref.result.now c.in_ok-floors.floors.items c.in_ok-path.field-0 c.in-Some.path c.deref.ensures.value c.in-Some.is c.in_ok-path.ensures.some in
-    cycle_told c.args.w.now c.rule_count.ensures.sound c.args.slots.now.bases.now c.requires.numbering c.in_ok-floors.floors.items c.in_ok-floors.ensures c.in_ok-rows.rows c.in_ok-rows.ensures.links to n c.in-Some.path.items c.in_ok-cycle.cycle.items p below
+    cycle_told c.args.w.now c.known.ensures c.args.slots.now.bases.now c.requires.numbering c.in_ok-floors.floors.items c.in_ok-floors.ensures c.in_ok-rows.rows c.in_ok-rows.ensures.links to n c.in-Some.path.items c.in_ok-cycle.cycle.items p below
     (subst (λ l. AreSlotsAt c.args.w.now c.args.slots.now.bases.now l c.in_ok-cycle.cycle.items) c.deref-2.ensures.value c.in_ok-cycle.ensures)
 
 pub returns-clause-known : goal.returns-clause-known

@@ -13,7 +13,7 @@ pub returns-in_default-clause-none : goal.returns-in_default-clause-none
 returns-in_default-clause-none c _ =
     let e = c.written-written.ensures in
     let high = none_told c.in_ok-cycle.field-0 (HasHeights (packed c.slots-slots.result.levels.now c.written-written.result.now)) c.in_default.is c.in_ok-cycle.ensures.none in
-    has_heights c.args.analysis.now c.slots-slots.result.levels.now (subst IsWritten e c.rule_count.ensures.sound) c.slots-slots.ensures.levels
+    has_heights c.args.analysis.now c.slots-slots.result.levels.now (subst IsWritten e c.known.ensures) c.slots-slots.ensures.levels
     (subst (λ (g : Grammar). HasHeights (packed c.slots-slots.result.levels.now g)) e high)
 
 pub unpacked-requires : goal.unpacked-requires
@@ -21,7 +21,7 @@ unpacked-requires c =
     let e = c.written-written.ensures in
     let least = some_told c.in_ok-cycle.field-0 c.in-Some.cycle (λ cycle. IsLeastCycle (packed c.slots-slots.result.levels.now c.written-written.result.now) (slots_with cycle.items)) c.in-Some.is c.in_ok-cycle.ensures.some in
     subst (λ (l : List (ℕ × ℕ)). All (IsPlaced c.slots-slots.result.levels.now) l) (sym c.deref.ensures.value)
-    (all_placed c.args.analysis.now c.slots-slots.result.levels.now (subst IsWritten e c.rule_count.ensures.sound) c.slots-slots.ensures.levels c.in-Some.cycle.items
+    (all_placed c.args.analysis.now c.slots-slots.result.levels.now (subst IsWritten e c.known.ensures) c.slots-slots.ensures.levels c.in-Some.cycle.items
     (subst (λ (g : Grammar). IsLeastCycle (packed c.slots-slots.result.levels.now g) (slots_with c.in-Some.cycle.items)) e least))
 
 pub returns-clause-some : goal.returns-clause-some
@@ -30,7 +30,7 @@ returns-clause-some c =
     let least = some_told c.in_ok-cycle.field-0 c.in-Some.cycle (λ cycle. IsLeastCycle (packed c.slots-slots.result.levels.now c.written-written.result.now) (slots_with cycle.items)) c.in-Some.is c.in_ok-cycle.ensures.some in
     let is = c.in_ok-cycle-2.ensures ∙ ap (λ (l : List (ℕ × ℕ)). map (unpacked_pair c.slots-slots.result.levels.now) l) c.deref.ensures.value in
     subst (λ (l : List (ℕ × ℕ)). IsLeastCycle c.args.analysis.now (slots_with l)) (sym is)
-    (least_unpacked c.args.analysis.now c.slots-slots.result.levels.now (subst IsWritten e c.rule_count.ensures.sound) c.slots-slots.ensures.levels c.in-Some.cycle.items
+    (least_unpacked c.args.analysis.now c.slots-slots.result.levels.now (subst IsWritten e c.known.ensures) c.slots-slots.ensures.levels c.in-Some.cycle.items
     (subst (λ (g : Grammar). IsLeastCycle (packed c.slots-slots.result.levels.now g) (slots_with c.in-Some.cycle.items)) e least))
 
 pub returns-clause-known : goal.returns-clause-known

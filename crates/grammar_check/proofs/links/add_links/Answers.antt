@@ -8,7 +8,7 @@ use Rattle.grammar_check.proofs.links.add_links.Goals.{then-lies_between+then-is
 
 pub add-requires : goal.add-requires
 add-requires c =
-    let h = part_below c.args.w.now c.args.slots.now.bases.now c.args.i c.loop-k.k c.child_number-child.result c.rule_count.ensures.sound c.requires.numbering c.requires.rule (omega (arith, c.loop-k-test.true, c.needed_count-k-end.ensures)) c.child_number-child.ensures in
+    let h = part_below c.args.w.now c.args.slots.now.bases.now c.args.i c.loop-k.k c.child_number-child.result c.known.ensures c.requires.numbering c.requires.rule (omega (arith, c.loop-k-test.true, c.needed_count-k-end.ensures)) c.child_number-child.ensures in
     omega (arith, h, c.requires.sized, c.loop-k.invariant.same_length)
 
 pub loop-k-preserved : goal.loop-k-preserved

@@ -1,16 +1,22 @@
-use Rattle.std.proofs.Common.{arith, ◌≡◌, Bool, false, ◌+◌, ◌||◌, List, sym, ap, ◌∙◌, subst, length, slice_index_or, length-set}
+use Rattle.std.proofs.Common.{arith, ◌≡◌, Bool, false, ◌+◌, ◌<◌, ◌||◌, List, sym, ap, ◌∙◌, subst, length, slice_index_or, length-set}
+use Rattle.grammar_model.specs.Grammar.{rule_at, lhs_of}
+use Rattle.grammar_core.specs.Written.{rule_of}
 use Rattle.grammar_check.specs.Shared.{HasSequence, IsSequenceAt, Marks}
-use Rattle.grammar_check.proofs.Sharing.{mark_more, sequence_more}
+use Rattle.grammar_check.proofs.Sharing.{mark_more, sequence_at, sequence_more}
 use Rattle.grammar_check.proofs.shared.sequence_left.Goals as goal
 
 pub loop-i-preserved : goal.loop-i-preserved
 loop-i-preserved c =
-    let known = c.left_of-symbol.ensures.known in
+    let g = c.args.w.now in
+    let x = c.symbol.inside.0 in
+    let is : x ≡ lhs_of (rule_at g c.loop-i.i) = c.symbol.view_is ∙ c.lhs.ensures.is in
+    let known : x < length g.names = omega (arith, c.symbol.view_is, c.lhs.ensures.known) in
+    let rule = rule_of c.rule.result.now in
     record {
-      sized = ap length c.mark.ensures ∙ (length-set c.loop-i.marks.items c.left_of-symbol.result (slice_index_or c.loop-i.marks.items c.left_of-symbol.result false || c.is_sequence.result) ∙ c.loop-i.invariant.sized);
+      sized = ap length c.mark.ensures ∙ (length-set c.loop-i.marks.items x (slice_index_or c.loop-i.marks.items x false || c.is_sequence.result) ∙ c.loop-i.invariant.sized);
       marks = subst (λ (l : List Bool). Marks l (HasSequence c.args.w.now (c.loop-i.i + 1))) (sym c.mark.ensures)
-          (mark_more c.loop-i.marks.items (HasSequence c.args.w.now c.loop-i.i) (HasSequence c.args.w.now (c.loop-i.i + 1)) c.left_of-symbol.result c.is_sequence.result (IsSequenceAt c.args.w.now c.loop-i.i) c.loop-i.invariant.marks (omega (arith, known, c.loop-i.invariant.sized))
-          c.is_sequence.ensures (sequence_more c.args.w.now c.loop-i.i c.left_of-symbol.result c.left_of-symbol.ensures.value));
+          (mark_more c.loop-i.marks.items (HasSequence c.args.w.now c.loop-i.i) (HasSequence c.args.w.now (c.loop-i.i + 1)) x c.is_sequence.result (IsSequenceAt c.args.w.now c.loop-i.i) c.loop-i.invariant.marks (omega (arith, known, c.loop-i.invariant.sized))
+          (sequence_at g c.loop-i.i rule c.is_sequence.result c.rule.ensures.is c.is_sequence.ensures) (sequence_more c.args.w.now c.loop-i.i x is));
     }
 
 pub returns-clause-marks : goal.returns-clause-marks
