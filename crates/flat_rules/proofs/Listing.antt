@@ -19,11 +19,13 @@ use Rattle.recognizer_model.specs.FlatForm.{IsUsedSlot}
 use Rattle.flat_model.specs.Flatten
 use Rattle.flat_model.specs.Flatten.{Decided, levels_of}
 use Rattle.flat_rules.specs.declared.numbering.SlotKey.{SlotKey}
-use Rattle.flat_rules.specs.Tables.{rules_with, is_sequence_rule, AreLive, told_slot, slot_at, same_slot, place_of, slots_of_terminals, slots_of_lefts}
+use Rattle.grammar_core.specs.Rules.{is_sequence}
+use Rattle.flat_rules.specs.Tables.{rules_with, AreLive, told_slot, slot_at, same_slot, place_of, slots_of_terminals, slots_of_lefts}
 use Rattle.flat_rules.proofs.Once.{among_filter, among_filter_from, among_numbers, among_numbers_from}
 use Rattle.flat_rules.proofs.Symbols.{terminal_no}
 use Rattle.flat_rules.proofs.Rules.{live_from, from_live}
-use Rattle.flat_rules.proofs.Rows.{numbers_next, append_none, child_known}
+use Rattle.grammar_core.proofs.Known.{child_known}
+use Rattle.flat_rules.proofs.Rows.{numbers_next, append_none}
 
 -- ---- tests that say the same
 
@@ -214,13 +216,13 @@ module _ (w : Grammar) (d : Decided w) where
       flat_bound (λ s. map (slot_at s) (levels_of w d s)) (length w.names) d.symbols
       (no_levels (length w.names) (λ s k u. used_known w written (slot_at s k) u)) (no_levels d.symbols (λ s k u. d.below_symbols (slot_at s k) u))
 
-  makes_by : (rule : WrittenRule) (live used : Bool) → live ≡ Flatten.is_live w d rule → used ≡ d.used (slot_of (lhs_of rule)) → (is_sequence_rule rule && (live && used)) ≡ Flatten.makes_list w d rule
+  makes_by : (rule : WrittenRule) (live used : Bool) → live ≡ Flatten.is_live w d rule → used ≡ d.used (slot_of (lhs_of rule)) → (is_sequence rule && (live && used)) ≡ Flatten.makes_list w d rule
   makes_by (Plain r) live used e f = refl
   makes_by (Grammar.Sequence r) live used e f = λ i. e i && f i
 
   -- the tests of a rule that makes a list
   pub makes_is : (i : ℕ) (live used : Bool) (table : List Bool) → AreLive w table → i < length w.rules → slice_index_or table i false ≡ live → (used ≡ true) ↔ IsUsedSlot w (slot_at (lhs_of (rule_at w i)) 0) →
-      (is_sequence_rule (rule_at w i) && (live && used)) ≡ Flatten.makes_list w d (rule_at w i)
+      (is_sequence (rule_at w i) && (live && used)) ≡ Flatten.makes_list w d (rule_at w i)
   makes_is i live used table t lt e u =
       let a = t.each i lt in
       makes_by (rule_at w i) live used

@@ -1,17 +1,14 @@
 -- Rows of rules by their left sides, and what is known of a grammar's rules.
-use Rattle.std.proofs.Common.{◌≡◌, ◌≢◌, ℕ, zero, suc, ◌+◌, ◌<◌, Bool, true, false, cond, List, [], ◌∷◌, ◌++◌, length, All, get_or, slice_set, Result, Ok, Err, is_ok, ◌⊎◌, inl, inr, Option, Some, None, refl, sym, ap, ◌∙◌, subst, arith, length-set, if◌then◌else◌}
-use Rattle.std.specs.Prelude.{◌==◌, filter, option_to_list, slice_get}
+use Rattle.std.proofs.Common.{◌≡◌, ◌≢◌, ℕ, zero, suc, ◌+◌, ◌<◌, Bool, true, false, cond, List, [], ◌∷◌, ◌++◌, length, get_or, slice_set, Result, Ok, Err, is_ok, ◌⊎◌, inl, inr, refl, sym, ap, ◌∙◌, subst, arith, length-set, if◌then◌else◌}
+use Rattle.std.specs.Prelude.{◌==◌, filter}
 use Rattle.std.specs.Result.{OnOk}
 use Rattle.std.specs.declared.vec.Vec.{Vec}
 use Rattle.std.specs.declared.alloc.Global.{Global}
 use Rattle.std.proofs.lemmas.Bool.{cases_eq, ne_eqb, eq-eqb}
 use Rattle.std.proofs.lemmas.List.{get_or-set_same, get_or-set_other, get_or-map, map-set, length-map}
 use Rattle.std.proofs.lemmas.List.Elements.{filter-append}
-use Rattle.grammar_model.specs.Grammar.{WrittenRule, Plain, Sequence, PlainRule, Grammar, rule_at, lhs_of, level_of, child_slot, slot_count, sequence_symbol, is_even}
+use Rattle.grammar_model.specs.Grammar.{Grammar, rule_at, lhs_of}
 use Rattle.grammar_model.specs.Simple.{numbers}
-use Rattle.grammar_core.specs.Written.{IsWritten, IsLevelled, symbols_of}
-use Rattle.slot_analysis.specs.Slots.{groups_of}
-use Rattle.recognizer_model.proofs.FlatNamed.{get_index}
 use Rattle.flat_rules.specs.Tables.{rows_of, row_at, HasAdded}
 
 -- ---- rows
@@ -71,32 +68,3 @@ lefts_more w old new n s is h a t = go (cases_eq t s)
         ap (row_at new) e ∙ a.here ∙ ap (λ l. l ++ n ∷ []) (h s) ∙ sym (rules_next w n s true (eq-eqb _ s (sym is))) ∙ ap (rules_to w (n + 1)) (sym e)
     go (inr ne) =
         a.others t ne ∙ h t ∙ sym (append_none (rules_to w n t)) ∙ sym (rules_next w n t false (ne_eqb _ t (λ e. ne (sym (is ∙ e)))))
-
--- ---- the symbols of rules are known
-
-pub child_known : (w : Grammar) (i k : ℕ) → IsWritten w → i < length w.rules → k < slot_count (rule_at w i) → (child_slot (rule_at w i) k).symbol < length w.names
-child_known w i k written lt less = go (rule_at w i) (written.rules_known i lt).0 less
-  where
-    parts : (item separator n : ℕ) (b : Bool) → item < n → separator < n → (if b then item else separator) < n
-    parts item separator n true a b = a
-    parts item separator n false a b = b
-
-    of : (r : Rattle.grammar_model.specs.Grammar.SequenceRule) (separator : Option ℕ) → All (λ s. s < length w.names) (r.lhs ∷ r.item ∷ option_to_list separator) → sequence_symbol r.item separator k < length w.names
-    of r None all = all 1 0 (omega arith)
-    of r (Some c) all = parts r.item c (length w.names) (is_even k) (all 1 0 (omega arith)) (all 2 0 (omega arith))
-
-    go : (rule : WrittenRule) → All (λ s. s < length w.names) (symbols_of rule) → k < slot_count rule → (child_slot rule k).symbol < length w.names
-    go (Plain r) all less = all (suc k) 0 (omega arith)
-    go (Sequence r) all less = of r r.separator all
-
--- ---- levels are below groups
-
-level_small : (rule : WrittenRule) → IsLevelled rule → (groups : ℕ) → groups_of rule ≡ groups → level_of rule < groups
-level_small (Plain r) h groups e = let lt = h.0 in omega arith
-level_small (Sequence r) h groups e = omega arith
-
-pub level_below : (w : Grammar) (i groups : ℕ) (rule : WrittenRule) → IsWritten w → i < length w.rules → slice_get w.rules i ≡ Some rule → groups_of rule ≡ groups → level_of (rule_at w i) < groups
-level_below w i groups rule written lt e g = level_small (rule_at w i) (written.rules_known i lt).1 groups (ap groups_of (rule_is w i rule e) ∙ g)
-  where
-    rule_is : (w : Grammar) (i : ℕ) (rule : WrittenRule) → slice_get w.rules i ≡ Some rule → rule_at w i ≡ rule
-    rule_is w i rule e = (get_index w.rules i _ rule e).1

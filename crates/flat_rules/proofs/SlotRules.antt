@@ -14,7 +14,8 @@ use Rattle.recognizer_model.specs.declared.flat.FlatSource.TheVariants.{Written}
 use Rattle.recognizer_model.specs.FlatForm.{NamedRule}
 use Rattle.flat_model.specs.Flatten
 use Rattle.flat_model.specs.Flatten.{Decided}
-use Rattle.flat_rules.specs.Tables.{Numbering, number_in, numbered_in, place_of, slot_at, AreLive, is_sequence_rule}
+use Rattle.grammar_core.specs.Rules.{is_sequence}
+use Rattle.flat_rules.specs.Tables.{Numbering, number_in, numbered_in, place_of, slot_at, AreLive}
 use Rattle.flat_rules.specs.Added.{rule_by, part_in, parts_in, plain_by, lists_by, from_rule, is_proper_rule, separator_counts, counts_separator}
 use Rattle.flat_rules.proofs.Deciding.{terminal_symbol, left_symbol}
 use Rattle.flat_rules.proofs.Listing.{same_test}
@@ -142,20 +143,20 @@ module _ (w : Grammar) (d : Decided w) (t : Numbering) where
   pub none_of : (i s k : ℕ) → Grammar.lhs_of (rule_at w i) ≡ s → (Flatten.is_live w d (rule_at w i) && nat_le k (level_of (rule_at w i))) ≡ false → [] ≡ from_rule w d t (slot_at s k) i
   none_of i s k left e = sym (none_by i (rule_at w i) k e) ∙ ap (λ s. from_rule w d t (slot_at s k) i) left
 
-  pub plain_of : (i s k : ℕ) → i < length w.rules → Grammar.lhs_of (rule_at w i) ≡ s → (Flatten.is_live w d (rule_at w i) && nat_le k (level_of (rule_at w i))) ≡ true → is_sequence_rule (rule_at w i) ≡ false →
+  pub plain_of : (i s k : ℕ) → i < length w.rules → Grammar.lhs_of (rule_at w i) ≡ s → (Flatten.is_live w d (rule_at w i) && nat_le k (level_of (rule_at w i))) ≡ true → is_sequence (rule_at w i) ≡ false →
       plain_by t i (place_of t.slots (slot_at s k)) (rule_at w i) ≡ from_rule w d t (slot_at s k) i
   plain_of i s k lt left e other = go (rule_at w i) refl left e other
     where
-      go : (rule : WrittenRule) → rule_at w i ≡ rule → Grammar.lhs_of rule ≡ s → (Flatten.is_live w d rule && nat_le k (level_of rule)) ≡ true → is_sequence_rule rule ≡ false →
+      go : (rule : WrittenRule) → rule_at w i ≡ rule → Grammar.lhs_of rule ≡ s → (Flatten.is_live w d rule && nat_le k (level_of rule)) ≡ true → is_sequence rule ≡ false →
           plain_by t i (place_of t.slots (slot_at s k)) rule ≡ map (numbered_in t) (Flatten.slot_rules w d s k i rule)
       go (Plain r) is left e other = subst (λ s. plain_by t i (place_of t.slots (slot_at s k)) (Plain r) ≡ map (numbered_in t) (Flatten.plain_rules w d s k i r)) left (some_plain i k r lt is e)
       go (Grammar.Sequence r) is left e other = absurd (true≢false other)
 
-  pub lists_of : (i s k : ℕ) → Grammar.lhs_of (rule_at w i) ≡ s → (Flatten.is_live w d (rule_at w i) && nat_le k (level_of (rule_at w i))) ≡ true → is_sequence_rule (rule_at w i) ≡ true →
+  pub lists_of : (i s k : ℕ) → Grammar.lhs_of (rule_at w i) ≡ s → (Flatten.is_live w d (rule_at w i) && nat_le k (level_of (rule_at w i))) ≡ true → is_sequence (rule_at w i) ≡ true →
       lists_by t i (place_of t.slots (slot_at s k)) (not (is_proper_rule (rule_at w i)) && counts_separator d (rule_at w i)) (rule_at w i) ≡ from_rule w d t (slot_at s k) i
   lists_of i s k left e more = go (rule_at w i) left e more
     where
-      go : (rule : WrittenRule) → Grammar.lhs_of rule ≡ s → (Flatten.is_live w d rule && nat_le k (level_of rule)) ≡ true → is_sequence_rule rule ≡ true →
+      go : (rule : WrittenRule) → Grammar.lhs_of rule ≡ s → (Flatten.is_live w d rule && nat_le k (level_of rule)) ≡ true → is_sequence rule ≡ true →
           lists_by t i (place_of t.slots (slot_at s k)) (not (is_proper_rule rule) && counts_separator d rule) rule ≡ map (numbered_in t) (Flatten.slot_rules w d s k i rule)
       go (Plain r) left e more = absurd (true≢false (sym more))
       go (Grammar.Sequence r) left e more =

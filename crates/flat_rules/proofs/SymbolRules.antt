@@ -13,7 +13,8 @@ use Rattle.recognizer_model.specs.declared.flat.FlatSymbol.TheVariants.{Terminal
 use Rattle.recognizer_model.proofs.FlatNamed.{among_at, get_index}
 use Rattle.flat_model.specs.Flatten
 use Rattle.flat_model.specs.Flatten.{Decided}
-use Rattle.flat_rules.specs.Tables.{Numbering, number_in, numbered_in, place_of, is_sequence_rule, rules_with, lists_to, rows_of, AreLefts, slots_of_terminals, slots_of_lefts}
+use Rattle.grammar_core.specs.Rules.{is_sequence}
+use Rattle.flat_rules.specs.Tables.{Numbering, number_in, numbered_in, place_of, rules_with, lists_to, rows_of, AreLefts, slots_of_terminals, slots_of_lefts}
 use Rattle.flat_rules.specs.Added.{rule_by, part_in, items_by, top_by, from_rule, from_rules, separator_counts, counts_separator}
 use Rattle.flat_rules.proofs.Once.{among_filter_from, among_numbers_from}
 use Rattle.flat_rules.proofs.Deciding.{slots_known, map_flat, terminal_symbol, left_symbol}
@@ -77,10 +78,10 @@ module _ (w : Grammar) (d : Decided w) (t : Numbering) where
   item_is : (i : ℕ) (r : SequenceRule) → rule_by i (number_in t (Sequence i)) (part_in t (Grammar.Sequence r) 0 ∷ []) ≡ numbered_in t (named_by (Sequence i) (Flatten.symbol_for w d (slot_of r.item) ∷ []) i)
   item_is i r = ap (λ x. rule_by i (number_in t (Sequence i)) (x ∷ [])) (ap (λ s. place_of t.slots (slot_of s)) (first_item r.item r.separator) ∙ sym (number_flat w d t r.item))
 
-  pub items_of : (i : ℕ) → is_sequence_rule (rule_at w i) ≡ true → items_by t i (counts_separator d (rule_at w i)) (rule_at w i) ≡ map (numbered_in t) (Flatten.rules_of w d (Sequence i))
+  pub items_of : (i : ℕ) → is_sequence (rule_at w i) ≡ true → items_by t i (counts_separator d (rule_at w i)) (rule_at w i) ≡ map (numbered_in t) (Flatten.rules_of w d (Sequence i))
   items_of i more = go (rule_at w i) more
     where
-      go : (rule : WrittenRule) → is_sequence_rule rule ≡ true → items_by t i (counts_separator d rule) rule ≡ map (numbered_in t) (Flatten.item_rules w d i rule)
+      go : (rule : WrittenRule) → is_sequence rule ≡ true → items_by t i (counts_separator d rule) rule ≡ map (numbered_in t) (Flatten.item_rules w d i rule)
       go (Plain r) more = absurd (true≢false (sym more))
       go (Grammar.Sequence r) more =
           (λ z. longer_is i r r.separator z ++ item_is i r z ∷ [])
@@ -90,11 +91,11 @@ module _ (w : Grammar) (d : Decided w) (t : Numbering) where
   top_of k = ap (λ x. record { lhs = number_in t (Top k); rhs = x ∷ []; source = Rattle.recognizer_model.specs.declared.flat.FlatSource.TheVariants.Top k } ∷ []) (sym (number_flat w d t (slice_index w.starts k)))
 
 -- a rule that makes a list is a sequence
-makes_sequence : (w : Grammar) (d : Decided w) (rule : WrittenRule) → Flatten.makes_list w d rule ≡ true → is_sequence_rule rule ≡ true
+makes_sequence : (w : Grammar) (d : Decided w) (rule : WrittenRule) → Flatten.makes_list w d rule ≡ true → is_sequence rule ≡ true
 makes_sequence w d (Plain r) e = cc
 makes_sequence w d (Grammar.Sequence r) e = refl
 
-pub lists_known : (w : Grammar) (d : Decided w) (lists : List ℕ) (k : ℕ) → lists ≡ lists_to w d (length w.rules) → k < length lists → (get_or lists k 0 < length w.rules) × (is_sequence_rule (rule_at w (get_or lists k 0)) ≡ true)
+pub lists_known : (w : Grammar) (d : Decided w) (lists : List ℕ) (k : ℕ) → lists ≡ lists_to w d (length w.rules) → k < length lists → (get_or lists k 0 < length w.rules) × (is_sequence (rule_at w (get_or lists k 0)) ≡ true)
 lists_known w d lists k e lt =
     let i = get_or lists k 0 in
     let m : Among i (lists_to w d (length w.rules)) = subst (Among i) e (among_at lists k 0 lt) in

@@ -36,10 +36,6 @@ pub record AreLefts (w : Grammar) (rows : List (List ℕ)) : Type 0 where
   pub sized : length rows ≡ length w.names
   pub each : (s : ℕ) → s < length w.names → row_at rows s ≡ rules_with w s
 
-abbrev pub is_sequence_rule : WrittenRule → Bool
-is_sequence_rule (Plain r) = false
-is_sequence_rule (Grammar.Sequence r) = true
-
 -- whether each rule is live
 pub record AreLive (w : Grammar) (live : List Bool) : Type 0 where
   pub sized : length live ≡ length w.rules

@@ -54,7 +54,7 @@ fn push_slots(
     ensures { (d : Decided c.now) → Adds rules.old.items rules.new.items (from_symbols c.now d symbols.now (map (symbol_for c.now d) symbols.now.slots)) result }
 {
     c.tested();
-    let _ = c.written().rule_count();
+    c.written().known();
     for x in 0..symbols.slot_count() {
         let slot = symbols.slot(x);
         push_row(
@@ -80,7 +80,7 @@ fn push_lists(
     ensures { (d : Decided c.now) → Adds rules.old.items rules.new.items (from_symbols c.now d symbols.now (map Sequence symbols.now.lists)) result }
 {
     c.tested();
-    let _ = c.written().rule_count();
+    c.written().known();
     let lists = symbols.lists();
     for i in lists {
         push_items(alloc, c, symbols, *i as usize, rules)?;
@@ -158,7 +158,7 @@ fn list_slots(
     ensures marks { OnOk result ((d : Decided c.now) → marks.new.items ≡ marks.old.items ++ map (is_marked c.now d) (map (symbol_for c.now d) symbols.now.slots)) }
 {
     c.tested();
-    let _ = c.written().rule_count();
+    c.written().known();
     for x in 0..symbols.slot_count() {
         let slot = symbols.slot(x);
         list.push(symbol_of(rows, slot))?;
@@ -288,7 +288,7 @@ pub fn flatten(alloc: Global, c: &Checked<'_>) -> Result<Flat, FlatRefusal>
 {
     c.tested();
     c.known();
-    let _ = c.written().rule_count();
+    c.written().known();
     let parts = parts_of(alloc, c)?;
     Ok(Flat::from_parts(parts))
 }

@@ -7,7 +7,8 @@ ghost use Rattle.recognizer_model.specs.FlatForm.{IsUsedSlot};
 ghost use Rattle.flat_rules.specs.Tables.{rows_of, row_at, AreLefts, AreLive, HasAdded};
 
 use grammar_check::{Checked, child_at};
-use grammar_core::{RuleId, SymbolId, Written, WrittenRule};
+use grammar_core::{SymbolId, Written};
+use slot_analysis::needed_count;
 use std::alloc::{AllocError, AllocFailed, Global};
 
 fn empty_rows(alloc: Global, count: usize) -> Result<Vec<Vec<u32>>, AllocError>
@@ -29,34 +30,14 @@ fn add_to_row(rows: &mut Vec<Vec<u32>>, s: usize, rule: u32) -> Result<(), Alloc
     rows[s].push(rule)
 }
 
-fn lhs_at(w: &Written, i: usize) -> u32
-    requires { i < length w.now.rules }
-    ensures { result ≡ lhs_of (rule_at w.now i) }
-{
-    let _ = w.rule_count();
-    match w.written_rule(RuleId(i as u32)) {
-        WrittenRule::Plain(rule) => rule.lhs.0,
-        WrittenRule::Sequence(rule) => rule.lhs.0,
-    }
-}
-
-/// The left side of a rule.
-pub fn left_of(w: &Written, i: usize) -> u32
-    requires { i < length w.now.rules }
-    ensures value { result ≡ lhs_of (rule_at w.now i) }
-    ensures known { result < length w.now.names }
-{
-    let _ = w.rule_count();
-    lhs_at(w, i)
-}
-
 /// The rules of each left side.
 pub fn rules_by_left(alloc: Global, w: &Written) -> Result<Vec<Vec<u32>>, AllocError>
     ensures { IfOk result (λ rows. AreLefts w.now (rows_of rows.items)) }
 {
     let mut rows = empty_rows(alloc, w.symbol_count())?;
     for i in 0..w.rule_count() {
-        add_to_row(&mut rows, left_of(w, i) as usize, i as u32)?;
+        let left = w.lhs(i).0 as usize;
+        add_to_row(&mut rows, left, i as u32)?;
     }
     Ok(rows)
 }
@@ -76,21 +57,9 @@ pub fn is_child_productive(c: &Checked<'_>, i: usize, k: usize) -> bool
     ensures { IsTrue result ↔ IsProductive c.now (child_slot (rule_at c.now i) k) }
 {
     let w = c.written();
-    let _ = w.rule_count();
+    w.known();
     let (symbol, level) = child_at(w, i, k);
     c.slot_productive(SymbolId(symbol), level)
-}
-
-// How many parts of a rule have to have trees: a separator need not.
-fn needed_count(w: &Written, i: usize) -> usize
-    requires { i < length w.now.rules }
-    ensures { result ≡ needed_of (rule_at w.now i) }
-{
-    let _ = w.rule_count();
-    match w.written_rule(RuleId(i as u32)) {
-        WrittenRule::Plain(rule) => rule.rhs.len(),
-        WrittenRule::Sequence(_) => 1,
-    }
 }
 
 // Whether the rule can stand in a tree.
@@ -98,7 +67,7 @@ fn is_live(c: &Checked<'_>, i: usize) -> bool
     requires { i < length c.now.rules }
     ensures { IsTrue result ↔ IsLive c.now (rule_at c.now i) }
 {
-    for k in 0..needed_count(c.written(), i) {
+    for k in 0..needed_count(c.written().rule(i)) {
         if !is_child_productive(c, i, k) {
             return false;
         }

@@ -5,11 +5,11 @@ ghost use Rattle.grammar_model.specs.Grammar.{Slot, rule_at, level_of, slot_of};
 ghost use Rattle.grammar_model.specs.Simple.{is_terminal, numbers};
 ghost use Rattle.recognizer_model.specs.declared.flat.FlatSymbol.TheVariants.{Sequence, Top};
 ghost use Rattle.flat_model.specs.Flatten.{Decided, makes_list};
-ghost use Rattle.flat_rules.specs.Tables.{rows_of, is_sequence_rule, AreLefts, AreLive, told_slot, slot_at, place_of, slots_of_terminals, slots_of_lefts, lists_to, number_in, AreNumbers};
+ghost use Rattle.flat_rules.specs.Tables.{rows_of, AreLefts, AreLive, told_slot, slot_at, place_of, slots_of_terminals, slots_of_lefts, lists_to, number_in, AreNumbers};
 
-use crate::lefts::{is_used, left_of};
+use crate::lefts::is_used;
 use grammar_check::Checked;
-use grammar_core::{RuleId, Written, WrittenRule};
+use grammar_core::Written;
 use indexmap::IndexSet;
 use std::alloc::{AllocError, AllocFailed, Global};
 use std::marker::Model;
@@ -46,13 +46,12 @@ pub fn has_none(row: &[u32]) -> bool
 }
 
 // Whether the symbol is a terminal in use.
-fn is_used_terminal(c: &Checked<'_>, rows: &[Vec<u32>], s: usize) -> bool
+fn is_used_terminal(c: &Checked<'_>, rows: &[Vec<u32>], s: u32) -> bool
     requires symbol { s < length c.now.names }
     requires rows { AreLefts c.now (rows_of rows.now) }
     ensures { (d : Decided c.now) → result ≡ (is_terminal c.now s && d.used (slot_of s)) }
 {
-    let _ = c.written().symbol_count();
-    has_none(&rows[s]) && is_used(c, s as u32, 0)
+    has_none(&rows[s as usize]) && is_used(c, s, 0)
 }
 
 fn list_terminals(
@@ -64,25 +63,12 @@ fn list_terminals(
     ensures { OnOk result ((d : Decided c.now) → map told_slot slots.new.items ≡ map told_slot slots.old.items ++ slots_of_terminals c.now d) }
 {
     for s in 0..c.written().symbol_count() {
-        if is_used_terminal(c, rows, s) {
-            slots.push(SlotKey {
-                symbol: s as u32,
-                level: 0,
-            })?;
+        let symbol = s as u32;
+        if is_used_terminal(c, rows, symbol) {
+            slots.push(SlotKey { symbol, level: 0 })?;
         }
     }
     Ok(())
-}
-
-fn groups_at(w: &Written, i: usize) -> u32
-    requires { i < length w.now.rules }
-    ensures { level_of (rule_at w.now i) < result }
-{
-    let _ = w.rule_count();
-    match w.written_rule(RuleId(i as u32)) {
-        WrittenRule::Plain(rule) => rule.groups,
-        WrittenRule::Sequence(_) => 1,
-    }
 }
 
 // A bound of the levels of these rules.
@@ -93,7 +79,7 @@ fn room_of(w: &Written, row: &[u32]) -> u32
 {
     let mut room = 0;
     for i in row {
-        room = room.max(groups_at(w, *i as usize));
+        room = room.max(w.rule(*i as usize).groups());
     }
     room
 }
@@ -144,18 +130,6 @@ fn set_of(alloc: Global, keys: &[SlotKey]) -> Result<IndexSet<SlotKey>, AllocErr
     Ok(set)
 }
 
-/// Whether the rule is a sequence.
-pub fn is_sequence(w: &Written, i: usize) -> bool
-    requires { i < length w.now.rules }
-    ensures { result ≡ is_sequence_rule (rule_at w.now i) }
-{
-    let _ = w.rule_count();
-    match w.written_rule(RuleId(i as u32)) {
-        WrittenRule::Plain(_) => false,
-        WrittenRule::Sequence(_) => true,
-    }
-}
-
 // Whether the rule makes a list.
 fn is_list(c: &Checked<'_>, live: &[bool], i: usize) -> bool
     requires rule { i < length c.now.rules }
@@ -163,7 +137,7 @@ fn is_list(c: &Checked<'_>, live: &[bool], i: usize) -> bool
     ensures { (d : Decided c.now) → result ≡ makes_list c.now d (rule_at c.now i) }
 {
     let w = c.written();
-    is_sequence(w, i) && live[i] && is_used(c, left_of(w, i), 0)
+    w.rule(i).is_sequence() && live[i] && is_used(c, w.lhs(i).0, 0)
 }
 
 fn list_lists(
@@ -203,7 +177,7 @@ pub fn symbols_of(
 {
     c.tested();
     c.few_accessible();
-    let _ = c.written().rule_count();
+    c.written().known();
     let mut keys = Vec::new(alloc);
     list_terminals(c, rows, &mut keys)?;
     list_lefts(c, rows, &mut keys)?;

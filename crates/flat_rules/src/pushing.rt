@@ -5,12 +5,14 @@ ghost use Rattle.grammar_model.specs.Grammar.{Plain, rule_at, lhs_of, level_of, 
 ghost use Rattle.grammar_model.specs.Simple.{part_count};
 ghost use Rattle.recognizer_model.specs.declared.flat.FlatSymbol.TheVariants.{Sequence};
 ghost use Rattle.flat_model.specs.Flatten.{Decided, is_live};
-ghost use Rattle.flat_rules.specs.Tables.{Numbering, AreLive, AreNumbers, is_sequence_rule, number_in, numbered_in, place_of, slot_at, told_slot};
+ghost use Rattle.grammar_core.specs.Written.{rule_of};
+ghost use Rattle.grammar_core.specs.Rules.{is_sequence};
+ghost use Rattle.flat_rules.specs.Tables.{Numbering, AreLive, AreNumbers, number_in, numbered_in, place_of, slot_at, told_slot};
 ghost use Rattle.flat_rules.specs.Added.{Adds, rule_by, part_in, parts_in, plain_by, lists_by, longer_by, items_by, from_rule, has_separator_rule, is_proper_rule, counts_separator};
 
 use crate::FlatRefusal;
-use crate::lefts::{is_child_productive, left_of};
-use crate::numbering::{SlotKey, Symbols, is_sequence};
+use crate::lefts::is_child_productive;
+use crate::numbering::{SlotKey, Symbols};
 use grammar_check::{Checked, child_at};
 use grammar_core::{RuleId, Written, WrittenRule};
 use recognizer_model::{FlatRule, FlatSource};
@@ -46,45 +48,28 @@ fn push_by(rules: &mut Vec<FlatRule>, i: usize, lhs: u32, rhs: Vec<u32>) -> Resu
 }
 
 // How many parts a plain rule has.
-fn count_parts(w: &Written, i: usize) -> usize
-    requires { i < length w.now.rules }
-    ensures { result ≡ part_count (rule_at w.now i) }
+fn count_parts(rule: &WrittenRule) -> usize
+    ensures { result ≡ part_count (rule_of rule.now) }
 {
-    let _ = w.rule_count();
-    match w.written_rule(RuleId(i as u32)) {
+    match rule {
         WrittenRule::Plain(rule) => rule.rhs.len(),
         WrittenRule::Sequence(_) => 0,
     }
 }
 
-fn level_at(w: &Written, i: usize) -> u32
-    requires { i < length w.now.rules }
-    ensures { result ≡ level_of (rule_at w.now i) }
+fn has_separator(rule: &WrittenRule) -> bool
+    ensures { result ≡ has_separator_rule (rule_of rule.now) }
 {
-    let _ = w.rule_count();
-    match w.written_rule(RuleId(i as u32)) {
-        WrittenRule::Plain(rule) => rule.level,
-        WrittenRule::Sequence(_) => 0,
-    }
-}
-
-fn has_separator(w: &Written, i: usize) -> bool
-    requires { i < length w.now.rules }
-    ensures { result ≡ has_separator_rule (rule_at w.now i) }
-{
-    let _ = w.rule_count();
-    match w.written_rule(RuleId(i as u32)) {
+    match rule {
         WrittenRule::Plain(_) => false,
         WrittenRule::Sequence(rule) => rule.separator.is_some(),
     }
 }
 
-fn is_proper(w: &Written, i: usize) -> bool
-    requires { i < length w.now.rules }
-    ensures { result ≡ is_proper_rule (rule_at w.now i) }
+fn is_proper(rule: &WrittenRule) -> bool
+    ensures { result ≡ is_proper_rule (rule_of rule.now) }
 {
-    let _ = w.rule_count();
-    match w.written_rule(RuleId(i as u32)) {
+    match rule {
         WrittenRule::Plain(_) => true,
         WrittenRule::Sequence(rule) => rule.proper,
     }
@@ -112,7 +97,7 @@ fn right_side(
     ensures { IfOk result (λ rhs. rhs.items ≡ parts_in symbols.now (rule_at w.now i)) }
 {
     let mut rhs = Vec::new(alloc);
-    for k in 0..count_parts(w, i) {
+    for k in 0..count_parts(w.rule(i)) {
         rhs.push(part_number(w, symbols, i, k))?;
     }
     Ok(rhs)
@@ -130,8 +115,7 @@ fn push_plain(
     requires small { length symbols.now.slots < 2 ^ 32 }
     ensures { Adds rules.old.items rules.new.items (plain_by symbols.now i lhs (rule_at w.now i)) result }
 {
-    let _ = w.rule_count();
-    if count_parts(w, i) == 0 {
+    if count_parts(w.rule(i)) == 0 {
         return Ok(());
     }
     let rhs = right_side(alloc, w, symbols, i)?;
@@ -144,7 +128,7 @@ fn has_live_separator(c: &Checked<'_>, i: usize) -> bool
     ensures counts { (d : Decided c.now) → result ≡ counts_separator d (rule_at c.now i) }
     ensures part { IsTrue result → 1 < slot_count (rule_at c.now i) }
 {
-    has_separator(c.written(), i) && is_child_productive(c, i, 1)
+    has_separator(c.written().rule(i)) && is_child_productive(c, i, 1)
 }
 
 /// The numbers, as a list of their own.
@@ -176,7 +160,7 @@ fn trails(c: &Checked<'_>, i: usize) -> bool
     ensures trails { (d : Decided c.now) → result ≡ (not (is_proper_rule (rule_at c.now i)) && counts_separator d (rule_at c.now i)) }
     ensures part { IsTrue result → 1 < slot_count (rule_at c.now i) }
 {
-    !is_proper(c.written(), i) && has_live_separator(c, i)
+    !is_proper(c.written().rule(i)) && has_live_separator(c, i)
 }
 
 // The rules of a left side of a list.
@@ -189,13 +173,13 @@ fn push_lists(
     rules: &mut Vec<FlatRule>,
 ) -> Result<(), FlatRefusal>
     requires rule { i < length c.now.rules }
-    requires sequence { is_sequence_rule (rule_at c.now i) ≡ true }
+    requires sequence { is_sequence (rule_at c.now i) ≡ true }
     requires numbers { AreNumbers c.now symbols.now }
     ensures { (d : Decided c.now) → Adds rules.old.items rules.new.items
         (lists_by symbols.now i lhs (not (is_proper_rule (rule_at c.now i)) && counts_separator d (rule_at c.now i)) (rule_at c.now i)) result }
 {
     let w = c.written();
-    let _ = w.rule_count();
+    w.known();
     let list = symbols.list_number(i);
     if !trails(c, i) {
         return push_these(alloc, rules, i, lhs, &[list]);
@@ -214,15 +198,14 @@ fn push_longer(
     rules: &mut Vec<FlatRule>,
 ) -> Result<(), FlatRefusal>
     requires rule { i < length c.now.rules }
-    requires sequence { is_sequence_rule (rule_at c.now i) ≡ true }
+    requires sequence { is_sequence (rule_at c.now i) ≡ true }
     requires numbers { AreNumbers c.now symbols.now }
     ensures { (d : Decided c.now) → Adds rules.old.items rules.new.items (longer_by symbols.now i (counts_separator d (rule_at c.now i)) (rule_at c.now i)) result }
 {
     let w = c.written();
-    let _ = w.rule_count();
     let list = symbols.list_number(i);
     let item = part_number(w, symbols, i, 0);
-    if !has_separator(w, i) {
+    if !has_separator(w.rule(i)) {
         return push_these(alloc, rules, i, list, &[list, item]);
     }
     if !has_live_separator(c, i) {
@@ -241,12 +224,12 @@ pub fn push_items(
     rules: &mut Vec<FlatRule>,
 ) -> Result<(), FlatRefusal>
     requires rule { i < length c.now.rules }
-    requires sequence { is_sequence_rule (rule_at c.now i) ≡ true }
+    requires sequence { is_sequence (rule_at c.now i) ≡ true }
     requires numbers { AreNumbers c.now symbols.now }
     ensures { (d : Decided c.now) → Adds rules.old.items rules.new.items (items_by symbols.now i (counts_separator d (rule_at c.now i)) (rule_at c.now i)) result }
 {
     let w = c.written();
-    let _ = w.rule_count();
+    w.known();
     let list = symbols.list_number(i);
     let item = part_number(w, symbols, i, 0);
     push_longer(alloc, c, symbols, i, rules)?;
@@ -259,7 +242,7 @@ fn makes_rules(c: &Checked<'_>, live: &[bool], level: u32, i: usize) -> bool
     requires live { AreLive c.now live.now }
     ensures { (d : Decided c.now) → result ≡ (is_live c.now d (rule_at c.now i) && nat_le level (level_of (rule_at c.now i))) }
 {
-    live[i] && level <= level_at(c.written(), i)
+    live[i] && level <= c.written().rule(i).level()
 }
 
 /// The rules of a slot that come from a rule of its symbol.
@@ -283,7 +266,7 @@ pub fn push_for_slot(
         return Ok(());
     }
     let lhs = symbols.slot_number(slot.symbol, slot.level);
-    if is_sequence(w, i) {
+    if w.rule(i).is_sequence() {
         push_lists(alloc, c, symbols, i, lhs, rules)
     } else {
         push_plain(alloc, w, symbols, i, lhs, rules)

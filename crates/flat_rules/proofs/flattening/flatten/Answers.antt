@@ -12,13 +12,13 @@ use Rattle.flat_rules.proofs.flattening.flatten.Goals as goal
 
 pub returns-in_err-parts-clause-many : goal.returns-in_err-parts-clause-many
 returns-in_err-parts-clause-many c =
-    let d : Decided c.args.c.now = decided_of c.args.c.now (subst IsWritten c.written.ensures c.rule_count.ensures.sound) c.tested.ensures in
+    let d : Decided c.args.c.now = decided_of c.args.c.now (subst IsWritten c.written.ensures c.known-2.ensures) c.tested.ensures in
     err_too_many c.args.c.now d c.from_residual.result c.in_err-parts.field-0.0 c.from_residual.ensures.1 c.in_err-parts.ensures.many
 
 pub from_parts-requires-clause-flat : goal.from_parts-requires-clause-flat
 from_parts-requires-clause-flat c =
     let w = c.args.c.now in
-    let written = subst IsWritten c.written.ensures c.rule_count.ensures.sound in
+    let written = subst IsWritten c.written.ensures c.known-2.ensures in
     let d : Decided w = decided_of w written c.tested.ensures in
     let same = c.in_ok-parts.ensures.flat d in
     let few : AreFew w (flat_of w d) = few_enough w d written (subst (λ (f : FlatGrammar). length f.symbols < 2 ^ 32) same c.in_ok-parts.ensures.small) (subst (λ (f : FlatGrammar). length f.rules ≤ most_rules) same c.in_ok-parts.ensures.few) in
@@ -27,7 +27,7 @@ from_parts-requires-clause-flat c =
 pub from_parts-requires-clause-arranged : goal.from_parts-requires-clause-arranged
 from_parts-requires-clause-arranged c =
     let w = c.args.c.now in
-    let written = subst IsWritten c.written.ensures c.rule_count.ensures.sound in
+    let written = subst IsWritten c.written.ensures c.known-2.ensures in
     let d : Decided w = decided_of w written c.tested.ensures in
     let same = c.in_ok-parts.ensures.flat d in
     let few : AreFew w (flat_of w d) = few_enough w d written (subst (λ (f : FlatGrammar). length f.symbols < 2 ^ 32) same c.in_ok-parts.ensures.small) (subst (λ (f : FlatGrammar). length f.rules ≤ most_rules) same c.in_ok-parts.ensures.few) in
@@ -36,7 +36,7 @@ from_parts-requires-clause-arranged c =
 pub returns-clause-flat : goal.returns-clause-flat
 returns-clause-flat c =
     let w = c.args.c.now in
-    let written = subst IsWritten c.written.ensures c.rule_count.ensures.sound in
+    let written = subst IsWritten c.written.ensures c.known-2.ensures in
     let d : Decided w = decided_of w written c.tested.ensures in
     let same = c.in_ok-parts.ensures.flat d in
     let few : AreFew w (flat_of w d) = few_enough w d written (subst (λ (f : FlatGrammar). length f.symbols < 2 ^ 32) same c.in_ok-parts.ensures.small) (subst (λ (f : FlatGrammar). length f.rules ≤ most_rules) same c.in_ok-parts.ensures.few) in record {

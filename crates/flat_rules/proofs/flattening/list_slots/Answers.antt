@@ -14,7 +14,7 @@ use Rattle.flat_rules.proofs.flattening.list_slots.Goals as goal
 
 pub symbol_of-requires : goal.symbol_of-requires
 symbol_of-requires c =
-    let written = subst IsWritten c.written.ensures c.rule_count.ensures.sound in
+    let written = subst IsWritten c.written.ensures c.known.ensures in
     let d : Decided c.args.c.now = decided_of c.args.c.now written c.tested.ensures in
     let slot : Slot = told_slot c.slot-slot.result in
     let known = slots_known c.args.c.now d written slot (subst (Among slot) (c.requires.numbers.slots d) (get_among c.args.symbols.now.slots c.loop-x.x slot c.slot-slot.ensures)) in
@@ -23,7 +23,7 @@ symbol_of-requires c =
 
 pub slot_nullable-requires : goal.slot_nullable-requires
 slot_nullable-requires c =
-    let written = subst IsWritten c.written.ensures c.rule_count.ensures.sound in
+    let written = subst IsWritten c.written.ensures c.known.ensures in
     let d : Decided c.args.c.now = decided_of c.args.c.now written c.tested.ensures in
     let slot : Slot = told_slot c.slot-slot.result in
     slots_known c.args.c.now d written slot (subst (Among slot) (c.requires.numbers.slots d) (get_among c.args.symbols.now.slots c.loop-x.x slot c.slot-slot.ensures))
@@ -35,7 +35,7 @@ loop-x-preserved c =
     let slot : Slot = told_slot c.slot-slot.result in
     let (lt, is) = get_index slots c.loop-x.x slot slot c.slot-slot.ensures in record {
       list = λ d.
-          let known = slots_known w d (subst IsWritten c.written.ensures c.rule_count.ensures.sound) slot (subst (Among slot) (c.requires.numbers.slots d) (get_among slots c.loop-x.x slot c.slot-slot.ensures)) in
+          let known = slots_known w d (subst IsWritten c.written.ensures c.known.ensures) slot (subst (Among slot) (c.requires.numbers.slots d) (get_among slots c.loop-x.x slot c.slot-slot.ensures)) in
           take_step (symbol_for w d) slots c.loop-x.x slot c.symbol_of.result c.args.list.now.items c.loop-x.list.items c.push.new.self.items lt (sym is) (c.loop-x.invariant.list d) c.in_ok-push.ensures.items
           (symbol_told w d slot (row_at (rows_of c.args.rows.now) slot.symbol) c.symbol_of.result (c.requires.rows.each slot.symbol known) c.symbol_of.ensures.terminal c.symbol_of.ensures.left);
       marks = λ d. take_step (λ s. is_marked w d (symbol_for w d s)) slots c.loop-x.x slot c.slot_nullable.result c.args.marks.now.items c.loop-x.marks.items c.push-in-loop-x.new.self.items lt (sym is) (c.loop-x.invariant.marks d) c.in_ok-push-2.ensures.items

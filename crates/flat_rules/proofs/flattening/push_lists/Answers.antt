@@ -15,12 +15,12 @@ use Rattle.flat_rules.proofs.flattening.push_lists.Goals as goal
 
 pub push_items-requires-clause-rule : goal.push_items-requires-clause-rule
 push_items-requires-clause-rule c =
-    let d : Decided c.args.c.now = decided_of c.args.c.now (subst IsWritten c.written.ensures c.rule_count.ensures.sound) c.tested.ensures in
+    let d : Decided c.args.c.now = decided_of c.args.c.now (subst IsWritten c.written.ensures c.known.ensures) c.tested.ensures in
     (lists_known c.args.c.now d c.lists-lists.result.now c.loop-i.i-index (c.lists-lists.ensures ∙ c.requires.lists d) c.loop-i-test.true).0
 
 pub push_items-requires-clause-sequence : goal.push_items-requires-clause-sequence
 push_items-requires-clause-sequence c =
-    let d : Decided c.args.c.now = decided_of c.args.c.now (subst IsWritten c.written.ensures c.rule_count.ensures.sound) c.tested.ensures in
+    let d : Decided c.args.c.now = decided_of c.args.c.now (subst IsWritten c.written.ensures c.known.ensures) c.tested.ensures in
     (lists_known c.args.c.now d c.lists-lists.result.now c.loop-i.i-index (c.lists-lists.ensures ∙ c.requires.lists d) c.loop-i-test.true).1
 
 pub returns-in_err-push_items : goal.returns-in_err-push_items

@@ -18,7 +18,7 @@ use Rattle.flat_rules.proofs.flattening.push_slots.Goals as goal
 
 pub bounds-rows-slot : goal.bounds-rows-slot
 bounds-rows-slot c =
-    let written = subst IsWritten c.written.ensures c.rule_count.ensures.sound in
+    let written = subst IsWritten c.written.ensures c.known.ensures in
     let d : Decided c.args.c.now = decided_of c.args.c.now written c.tested.ensures in
     let slots = c.args.symbols.now.slots in
     let known = slots_known c.args.c.now d written (told_slot c.slot-slot.result) (subst (Among (told_slot c.slot-slot.result)) (c.requires.numbers.slots d) (get_among slots c.loop-x.x (told_slot c.slot-slot.result) c.slot-slot.ensures)) in
@@ -27,7 +27,7 @@ bounds-rows-slot c =
 
 pub push_row-requires-clause-row : goal.push_row-requires-clause-row
 push_row-requires-clause-row c = λ i m.
-    let written = subst IsWritten c.written.ensures c.rule_count.ensures.sound in
+    let written = subst IsWritten c.written.ensures c.known.ensures in
     let d : Decided c.args.c.now = decided_of c.args.c.now written c.tested.ensures in
     let row = row_of_slot c.args.c.now d c.args.symbols.now.slots c.loop-x.x (told_slot c.slot-slot.result) c.args.rows.now c.index-rows-slot.result written (c.requires.numbers.slots d) c.slot-slot.ensures c.requires.rows c.index-rows-slot.is in
     among_rule c.args.c.now c.slot-slot.result.symbol i (subst (Among i) (c.deref.ensures.value ∙ row.1) (among_from c.deref.result.now i m))
@@ -37,7 +37,7 @@ returns-in_err-push_row c = λ d.
     let t = c.args.symbols.now in
     let g : FlatSymbol → List FlatRule = λ x. map (numbered_in t) (rules_of c.args.c.now d x) in
     let slot : Slot = told_slot c.slot-slot.result in
-    let row = row_of_slot c.args.c.now d t.slots c.loop-x.x slot c.args.rows.now c.index-rows-slot.result (subst IsWritten c.written.ensures c.rule_count.ensures.sound) (c.requires.numbers.slots d) c.slot-slot.ensures c.requires.rows c.index-rows-slot.is in
+    let row = row_of_slot c.args.c.now d t.slots c.loop-x.x slot c.args.rows.now c.index-rows-slot.result (subst IsWritten c.written.ensures c.known.ensures) (c.requires.numbers.slots d) c.slot-slot.ensures c.requires.rows c.index-rows-slot.is in
     let (lt, is) = at_slot (symbol_for c.args.c.now d) t.slots c.loop-x.x slot c.slot-slot.ensures in
     loop_stop g (map (symbol_for c.args.c.now d) t.slots) c.loop-x.x (symbol_for c.args.c.now d slot) c.args.rules.now.items c.loop-x.rules.items c.push_row.new.rules.items c.push_row.new.rules.items c.in_err-push_row.field-0.0 c.from_residual.result lt is c.from_residual.ensures.1 (c.loop-x.invariant d)
     (adds_to {T = Unit {0}} c.loop-x.rules.items c.push_row.new.rules.items (from_rules c.args.c.now d t slot c.deref.result.now) (g (symbol_for c.args.c.now d slot)) (Err c.in_err-push_row.field-0.0)
@@ -48,7 +48,7 @@ loop-x-preserved c = λ d.
     let t = c.args.symbols.now in
     let g : FlatSymbol → List FlatRule = λ x. map (numbered_in t) (rules_of c.args.c.now d x) in
     let slot : Slot = told_slot c.slot-slot.result in
-    let row = row_of_slot c.args.c.now d t.slots c.loop-x.x slot c.args.rows.now c.index-rows-slot.result (subst IsWritten c.written.ensures c.rule_count.ensures.sound) (c.requires.numbers.slots d) c.slot-slot.ensures c.requires.rows c.index-rows-slot.is in
+    let row = row_of_slot c.args.c.now d t.slots c.loop-x.x slot c.args.rows.now c.index-rows-slot.result (subst IsWritten c.written.ensures c.known.ensures) (c.requires.numbers.slots d) c.slot-slot.ensures c.requires.rows c.index-rows-slot.is in
     let (lt, is) = at_slot (symbol_for c.args.c.now d) t.slots c.loop-x.x slot c.slot-slot.ensures in
     loop_next g (map (symbol_for c.args.c.now d) t.slots) c.loop-x.x (symbol_for c.args.c.now d slot) c.args.rules.now.items c.loop-x.rules.items c.push_row.new.rules.items lt is (c.loop-x.invariant d)
     (adds_to {T = Unit {0}} c.loop-x.rules.items c.push_row.new.rules.items (from_rules c.args.c.now d t slot c.deref.result.now) (g (symbol_for c.args.c.now d slot)) (Ok tt)

@@ -8,7 +8,7 @@ use Rattle.flat_rules.proofs.lefts.is_live.Goals as goal
 
 pub returns-then-not-is_child_productive : goal.returns-then-not-is_child_productive
 returns-then-not-is_child_productive c =
-    let same = ap (λ (g : Grammar). needed_of (rule_at g c.args.i)) c.written.ensures in
+    let same = ap needed_of c.rule.ensures.is ∙ ap (λ (g : Grammar). needed_of (rule_at g c.args.i)) c.written.ensures in
     let lt : c.loop-k.k < needed_of (rule_at c.args.c.now c.args.i) = omega (arith, c.loop-k-test.true, c.needed_count-k-end.ensures, same) in (
       λ t. absurd (true≢false (sym t)),
       λ live. absurd (true≢false (sym (c.is_child_productive.ensures.1 ((all_needed c.args.c.now (rule_at c.args.c.now c.args.i)).1 live c.loop-k.k lt)) ∙ c.if-not-is_child_productive.true)),
@@ -22,5 +22,5 @@ loop-k-preserved c = λ j lt. elim (same_or_below j c.loop-k.k lt) [
 
 pub returns : goal.returns
 returns c =
-    let same = ap (λ (g : Grammar). needed_of (rule_at g c.args.i)) c.written.ensures in
+    let same = ap needed_of c.rule.ensures.is ∙ ap (λ (g : Grammar). needed_of (rule_at g c.args.i)) c.written.ensures in
     (λ t. (all_needed c.args.c.now (rule_at c.args.c.now c.args.i)).0 (λ j lt. c.loop-k.invariant j (omega (arith, lt, c.loop-k-test.false, c.needed_count-k-end.ensures, same))), λ live. refl)

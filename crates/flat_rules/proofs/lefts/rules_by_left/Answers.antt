@@ -10,7 +10,7 @@ pub loop-i-preserved : goal.loop-i-preserved
 loop-i-preserved c =
     let a = c.in_ok-add_to_row.ensures in (
       omega (arith, a.same_length, rows_length c.loop-i.rows.items, rows_length c.add_to_row.new.rows.items, c.loop-i.invariant.0),
-      lefts_more c.args.w.now (rows_of c.loop-i.rows.items) (rows_of c.add_to_row.new.rows.items) c.loop-i.i c.left_of.result c.left_of.ensures.value c.loop-i.invariant.1 a,
+      lefts_more c.args.w.now (rows_of c.loop-i.rows.items) (rows_of c.add_to_row.new.rows.items) c.loop-i.i c.left.inside.0 (c.left.view_is ∙ c.lhs.ensures.is) c.loop-i.invariant.1 a,
     )
 
 pub returns : goal.returns

@@ -3,8 +3,8 @@ use Rattle.grammar_model.specs.Grammar.{rule_at, level_of}
 use Rattle.std.proofs.lemmas.List.{get_or_default}
 use Rattle.flat_rules.proofs.numbering.room_of.Goals as goal
 
-pub groups_at-requires : goal.groups_at-requires
-groups_at-requires c = c.requires _ (c.loop-i.i-index, c.loop-i-test.true, get_or_default c.args.row.now c.loop-i.i-index _ 0 c.loop-i-test.true)
+pub rule-requires : goal.rule-requires
+rule-requires c = c.requires _ (c.loop-i.i-index, c.loop-i-test.true, get_or_default c.args.row.now c.loop-i.i-index _ 0 c.loop-i-test.true)
 
 pub returns-clause-bound : goal.returns-clause-bound
 returns-clause-bound c = λ i (k, lt, e).

@@ -7,7 +7,7 @@ use Rattle.flat_rules.proofs.numbering.symbols_of.Goals as goal
 
 pub set_of-requires : goal.set_of-requires
 set_of-requires c =
-    let d : Decided c.args.c.now = decided_of c.args.c.now (subst IsWritten c.written.ensures c.rule_count.ensures.sound) c.tested.ensures in
+    let d : Decided c.args.c.now = decided_of c.args.c.now (subst IsWritten c.written.ensures c.known.ensures) c.tested.ensures in
     keys_differ c.args.c.now d c.deref.result.now
     (ap (map told_slot) c.deref.ensures.value ∙ c.in_ok-list_lefts.ensures d ∙ ap (λ l. l ++ slots_of_lefts c.args.c.now d) (c.in_ok-list_terminals.ensures d ∙ ap (λ l. map told_slot l ++ slots_of_terminals c.args.c.now d) c.new-keys.ensures.items))
 
@@ -24,7 +24,7 @@ returns c =
       few = c.in_ok-list_lists.ensures.few;
       sized = c.in_ok-list_lists.ensures.sized;
       small =
-          let written = subst IsWritten c.written.ensures c.rule_count.ensures.sound in
+          let written = subst IsWritten c.written.ensures c.known.ensures in
           let d = decided_of w written c.tested.ensures in
           omega (arith, ap length (are d), slots_few w d c.few_accessible.ensures, c.in_ok-list_lists.ensures.small, written.few_rules, written.few_starts);
     }

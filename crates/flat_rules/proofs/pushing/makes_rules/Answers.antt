@@ -6,8 +6,8 @@ use Rattle.flat_rules.proofs.pushing.makes_rules.Goals as goal
 
 pub returns-then-live-i : goal.returns-then-live-i
 returns-then-live-i c = λ d.
-    makes_then c.args.c.now d c.args.i c.args.level _ (nat_le c.args.level c.level_at.result) c.args.live.now c.requires.live c.requires.rule c.if-live-i.true
-    (ap (nat_le c.args.level) (c.level_at.ensures ∙ ap (λ g. level_of (rule_at g c.args.i)) c.written.ensures))
+    makes_then c.args.c.now d c.args.i c.args.level _ (nat_le c.args.level c.level.result) c.args.live.now c.requires.live c.requires.rule c.if-live-i.true
+    (ap (nat_le c.args.level) (c.level.ensures ∙ ap level_of c.rule.ensures.is ∙ ap (λ g. level_of (rule_at g c.args.i)) c.written.ensures))
 
 pub returns-else-live-i : goal.returns-else-live-i
 returns-else-live-i c = λ d.
