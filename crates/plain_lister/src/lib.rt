@@ -18,7 +18,6 @@ mod rules;
 mod store;
 
 use crate::lister::list_at;
-use crate::rules::left_of;
 use crate::store::Store;
 use grammar_core::{SymbolId, Written};
 use indexmap::IndexMap;
@@ -65,7 +64,7 @@ fn lefts_of(alloc: Global, w: &Written) -> Result<Vec<u32>, AllocError>
 {
     let mut lefts = Vec::new(alloc);
     for i in 0..w.rule_count() {
-        lefts.push(left_of(w, i))?;
+        lefts.push(w.lhs(i).0)?;
     }
     Ok(lefts)
 }
@@ -93,7 +92,7 @@ fn trees_in_cells(
     requires short { length input.now ≤ 1000 }
     ensures { IfOk result (λ r. (start : ℕ) × (slice_get w.now.starts 0 ≡ Some start) × (map (tree_at r.0.items) r.1.items ≡ listed w.now input.now (slot_of start) 0 (length input.now))) }
 {
-    let _ = w.start_count();
+    w.known();
     let start = w.start(0);
     let mut store = Store {
         cells: Vec::new(alloc),

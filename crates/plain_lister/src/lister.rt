@@ -7,9 +7,9 @@ ghost use Rattle.plain_lister.specs.Table.{IsKey, IsSound, IsListed, IsTold};
 
 use crate::Cell;
 use crate::cells::{add_cell, add_firsts, add_nodes, add_pairs};
-use crate::rules::{is_inner, is_quoted_at, left_of, part_of, parts_of};
+use crate::rules::{is_inner, is_quoted_at, part_of, parts_of};
 use crate::store::{Store, find_list, keep_list};
-use grammar_core::Written;
+use grammar_core::{SymbolId, Written};
 use std::alloc::{AllocError, Global};
 
 /// The number of a key's list.
@@ -68,14 +68,15 @@ fn leaves_at(
     ensures { IfOk result (λ places. IsTold w.now input.now store.old store.new places.items x 0 p q) }
 {
     let mut out = Vec::new(alloc);
-    let _ = w.symbol_count();
+    w.known();
+    let symbol = x as u32;
     if q != p + 1 {
         return Ok(out);
     }
-    if !is_quoted_at(w, input, x, p) {
+    if !is_quoted_at(w, input, SymbolId(symbol), p) {
         return Ok(out);
     }
-    add_cell(&mut store.cells, &mut out, Cell::Leaf(x as u32, p as u32))?;
+    add_cell(&mut store.cells, &mut out, Cell::Leaf(symbol, p as u32))?;
     Ok(out)
 }
 
@@ -100,7 +101,7 @@ fn nodes_at(
 {
     let mut out = Vec::new(alloc);
     for i in 0..w.rule_count() {
-        if left_of(w, i) as usize != x {
+        if w.lhs(i).0 as usize != x {
             continue;
         }
         let k = list_at(alloc, w, input, store, i, parts_of(w, i), p, q)?;

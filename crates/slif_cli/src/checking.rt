@@ -2,7 +2,6 @@
 ghost use Rattle.std.specs.Prelude.{◌≡◌, ◌≤◌, ◌<◌, ◌++◌, All, map, length, IfOk, IfErr, OnOk, slice_set, true};
 ghost use Rattle.std.specs.List.{concat};
 ghost use Rattle.std.specs.Io.KnownBytes.{Appends};
-ghost use Rattle.grammar_model.specs.Grammar.{rule_at, lhs_of};
 ghost use Rattle.grammar_model.specs.Values.{name_of};
 ghost use Rattle.run_model.specs.Outcome.{IsCheckOutcome};
 ghost use Rattle.run_model.specs.Checking.{IsRowOf, AreRows, AreCheckLines, head_line, row_line, word_if};
@@ -10,7 +9,7 @@ ghost use Rattle.run_model.specs.Outside.{stream};
 ghost use Rattle.slif_cli.specs.Stops.{Does, WriteStops, LinesStop, told_row};
 
 use crate::stop::Stop;
-use grammar_core::{RuleId, SymbolId, Written, WrittenRule};
+use grammar_core::{SymbolId, Written};
 use scanless::Prepared;
 use slif_base::{Sink, write_all};
 use std::alloc::{AllocError, Global};
@@ -108,7 +107,7 @@ fn rows_of(alloc: Global, prepared: &Prepared) -> Result<Vec<SymbolRow>, AllocEr
     let mut seen = vec![in alloc; false; w.symbol_count()]?;
     let mut rows = Vec::new(alloc);
     for i in 0..w.rule_count() {
-        let symbol = left_side(w, i);
+        let symbol = w.lhs(i);
         if !seen[symbol.0 as usize] {
             mark(&mut seen, symbol.0 as usize);
             rows.push(row_of(prepared, symbol))?;
@@ -122,27 +121,6 @@ fn mark(seen: &mut Vec<bool>, at: usize)
     ensures { seen.new.items ≡ slice_set seen.old.items at true }
 {
     seen[at] = true;
-}
-
-/// The left side of a rule.
-pub fn left_side(w: &Written, i: usize) -> SymbolId
-    requires { i < length w.now.rules }
-    ensures is { result ≡ lhs_of (rule_at w.now i) }
-    ensures known { result < length w.now.names }
-{
-    let _ = w.rule_count();
-    left_at(w, i)
-}
-
-fn left_at(w: &Written, i: usize) -> SymbolId
-    requires { i < length w.now.rules }
-    ensures { result ≡ lhs_of (rule_at w.now i) }
-{
-    let _ = w.rule_count();
-    match w.written_rule(RuleId(i as u32)) {
-        WrittenRule::Plain(rule) => rule.lhs,
-        WrittenRule::Sequence(rule) => rule.lhs,
-    }
 }
 
 fn row_of(prepared: &Prepared, symbol: SymbolId) -> SymbolRow

@@ -8,7 +8,7 @@ ghost use Rattle.scanless.specs.declared.reading.Ending.TheVariants.{End};
 ghost use Rattle.slif_cli.specs.Stops.{Does, WriteStops};
 ghost use Rattle.slif_cli.specs.Tasks.{TellsReading};
 
-use crate::checking::{left_side, write_lines};
+use crate::checking::write_lines;
 use crate::stop::{Refusal, Stop};
 use grammar_core::Written;
 use progress::{ProgressRefusal, ReportLine, report};
@@ -76,7 +76,7 @@ fn line_of(alloc: Global, w: &Written, at: u32, item: &ReportLine) -> Result<Vec
     ensures { IfOk result (λ line. line.items ≡ report_line w.now at item.now) }
 {
     let ReportLine { rule, dot, origin } = *item;
-    let name = w.name(left_side(w, rule as usize));
+    let name = w.name(w.lhs(rule as usize));
     let line = format!(in alloc; "{rule}:{dot} @{origin}-{at} {name}\n")?;
     Ok(line.into_bytes())
 }

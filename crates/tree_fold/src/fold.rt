@@ -11,7 +11,7 @@ ghost use Rattle.tree_fold.specs.Values.{token_told, HasValue, Gives, Fails, lef
 ghost use Rattle.tree_fold.specs.Failing.{IsFailure};
 
 use crate::{FoldError, Semantics, Token};
-use grammar_core::{Span, SymbolId, TreeStep, Written, WrittenRule};
+use grammar_core::{Span, SymbolId, TreeStep, Written};
 use slif_base::Chars;
 use std::alloc::Global;
 
@@ -40,15 +40,6 @@ fn token_of<'p>(text: &Text<'p>, symbol: SymbolId, from: u32) -> Token<'p>
     }
 }
 
-fn left_side(rule: &WrittenRule) -> SymbolId
-    ensures { result ≡ lhs_of (rule_of rule.now) }
-{
-    match rule {
-        WrittenRule::Plain(rule) => rule.lhs,
-        WrittenRule::Sequence(rule) => rule.lhs,
-    }
-}
-
 // What the semantics makes of a step. The values that are its children's are no longer held.
 fn make<S: Semantics>(
     text: &Text<'_>,
@@ -66,7 +57,7 @@ fn make<S: Semantics>(
         TreeStep::Token { symbol, from, .. } => semantics.token(token_of(text, symbol, from)),
         TreeStep::Nulled { symbol, .. } => semantics.nulled(symbol, text.w.name(symbol)),
         TreeStep::Rule { rule, children, .. } => {
-            let left = left_side(text.w.written_rule(rule));
+            let left = text.w.written_rule(rule).lhs();
             let values = held.split_off(held.len() - children as usize)?;
             semantics.rule(rule, text.w.name(left), values)
         }
@@ -88,7 +79,7 @@ pub fn fold_steps<S: Semantics>(
     ensures value { IfOk result (λ v. (t : Tree) → map step_of steps.now ≡ steps_of t → HasValue S.token_gives S.nulled_gives S.rule_gives w.now (tokens_of chars.now spans.now) t v) }
     ensures failure { IfErr result (IsFailure (Fails S.token_gives S.nulled_gives S.rule_gives w.now (tokens_of chars.now spans.now) (map step_of steps.now))) }
 {
-    let _count = w.symbol_count();
+    w.known();
     let text = Text { w, chars, spans };
     let mut held = Vec::new(alloc);
     for step in steps {

@@ -55,7 +55,7 @@ nodes_at-loop-i-preserved t c =
     let s = c.list_at.new.store in
     let lt : i < length g.rules = omega (arith, c.rule_count-i-end.ensures.count) in
     let some : 0 < c.parts_of.result = omega (arith, c.parts_of.ensures, simple_parts g (rule_at g i) (c.requires.simple i lt)) in
-    let left : lhs_of (rule_at g i) ≡ c.args.x = omega (arith, c.left_of.ensures) in
+    let left : lhs_of (rule_at g i) ≡ c.args.x = omega (arith, c.lhs-in-loop-i.view_is, c.lhs.ensures.is) in
     let told = told_read g input s c.in_ok-k.k i c.parts_of.result p q c.index.result.now c.as_slice.result.now c.in_ok-k.ensures.holds c.index.ensures c.as_slice.ensures
     ∙ front_value g input i c.parts_of.result p q some ∙ ap (λ n. map as_front (fronts_listed g input i n p q)) c.parts_of.ensures in
     built_same g input c.args.store.now (record { cells = c.add_nodes.new.cells; lists = s.lists; memo = s.memo }) c.add_nodes.new.out.items _ _

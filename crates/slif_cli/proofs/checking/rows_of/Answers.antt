@@ -14,13 +14,13 @@ loop-i-preserved c =
     let g : Grammar = c.args.prepared.now.g1 in
     let i = c.loop-i.i in
     let seen = c.loop-i.seen.items in
-    let s = c.left_side-symbol.result in
+    let s = c.lhs-symbol.result in
     let r = c.index.result.now in
     let e : c.written-w.result.now ≡ g = c.written-w.ensures in
     let size : length c.written-w.result.now.rules ≡ length g.rules = ap (λ (x : Grammar). length x.rules) e in
     let lt : i < length g.rules = omega (arith, c.loop-i-test.true, c.loop-i.auto.i-end, c.rule_count-i-end.ensures.count, size) in
-    let is : s ≡ lhs_of (rule_at g i) = subst (λ (x : Grammar). s ≡ lhs_of (rule_at x i)) e c.left_side-symbol.ensures.is in
-    let known : s < length g.names = subst (λ (x : Grammar). s < length x.names) e c.left_side-symbol.ensures.known in
+    let is : s ≡ lhs_of (rule_at g i) = subst (λ (x : Grammar). s ≡ lhs_of (rule_at x i)) e c.lhs-symbol.ensures.is in
+    let known : s < length g.names = subst (λ (x : Grammar). s < length x.names) e c.lhs-symbol.ensures.known in
     let held : r ≡ slice_index_or seen s r = subst (λ (x : ℕ). r ≡ slice_index_or seen x r) c.symbol.view_is c.index.ensures in
     elim c.if-not-index.branch [
       | then-not-index+in_ok-push w ↦

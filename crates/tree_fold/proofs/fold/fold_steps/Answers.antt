@@ -10,7 +10,7 @@ pub loop-step-init : goal.loop-step-init
 loop-step-init g c = record {
   holds = holds_none g.S.Semantics.token_gives g.S.Semantics.nulled_gives g.S.Semantics.rule_gives c.args.w.now (tokens_of c.args.chars.now c.args.spans.now) c.args.steps.now c.new-held.result.items c.new-held.ensures.items;
   can = subst (λ n. CanTellAll c.args.w.now (length c.args.spans.now) n (map step_of c.args.steps.now)) (ap length (sym c.new-held.ensures.items))
-      (can_begin c.args.w.now (length c.args.spans.now) c.symbol_count-count.ensures.sound (map step_of c.args.steps.now) c.requires.steps);
+      (can_begin c.args.w.now (length c.args.spans.now) c.known.ensures (map step_of c.args.steps.now) c.requires.steps);
 }
 
 pub make-requires-clause-step : goal.make-requires-clause-step
