@@ -35,8 +35,7 @@ pub write_lines-requires-clause-forest : goal.write_lines-requires-clause-forest
 write_lines-requires-clause-forest g c =
     let b = c.args.prepared.now in
     let (pieces, of) = c.requires.forest in
-    let same : c.in-Ok.iter.forest ≡ c.args.forest.now = ap (λ (it : Iteration). it.forest) c.in-Ok.ensures.begun in
-    (
+    let same : c.in-Ok.iter.forest ≡ c.args.forest.now = ap (λ (it : Iteration). it.forest) c.in-Ok.ensures.begun in (
       pieces,
       subst (λ (s : Score). IsForestOf b s.chars s.spans c.in-Ok.iter.forest pieces) (sym c.in-Ok-player_of.ensures)
           (subst (λ (f : Forest). IsForestOf b c.args.chars.now c.args.spans.now f pieces) (sym same) of),
