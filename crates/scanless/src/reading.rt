@@ -188,11 +188,6 @@ pub fn read_input<'p, L: Ledger>(
     ensures counted { IfOk result (λ r. TakesAtMost r.recce steps.old steps.new) }
 {
     let mut reader = Reader::new(alloc, p)?;
-    match reader.read(alloc, p, chars, steps) {
-        Ok(ending) => Ok(reader.ended(ending)),
-        Err(error) => {
-            drop(reader);
-            Err(error)
-        }
-    }
+    let ending = reader.read(alloc, p, chars, steps)?;
+    Ok(reader.ended(ending))
 }
