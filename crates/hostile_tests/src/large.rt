@@ -116,19 +116,20 @@ const FILED: [Given<'static>; 3] = [
     },
 ];
 
-// Whether a run is refused for an input that is read 4,097 times, and no more.
+// Whether a run is refused for an input that is read 4,097 times behind so many calls, and no more.
 fn refuses_input(
     alloc: Global,
     given: &Given<'_>,
     device: Device,
-    opened: u64,
+    before: u8,
 ) -> Result<bool, AllocError> {
-    let calls = [opened + 4098];
+    let before = u64::from(before);
+    let calls = [before + 4098];
     let whole = given.failing(device, &calls);
     Ok(
         is_refused(alloc, given, 1, LONG_INPUT)?
-            && breaks(alloc, given, device, opened + 1, CANNOT_READ)?
-            && breaks(alloc, given, device, opened + 4097, CANNOT_READ)?
+            && breaks(alloc, given, device, before + 1, CANNOT_READ)?
+            && breaks(alloc, given, device, before + 4097, CANNOT_READ)?
             && ends(alloc, &whole, 1, b"", LONG_INPUT)?,
     )
 }
