@@ -66,7 +66,7 @@ begins_nulled_steps_of g known = record {
     in_range = lit< tt;
     fits = (refl, lit≤ tt);
     complete = refl;
-    front = (
+    prefix = (
       0,
       (0, refl, record { symbol_is = refl; from_is = refl; to_is = refl; nullable = begins_nulled_nullable g }),
       record {
@@ -76,7 +76,7 @@ begins_nulled_steps_of g known = record {
         in_range = lit< tt;
         fits = (refl, lit≤ tt);
         complete = refl;
-        front = (0, refl, record { symbol_is = refl; from_is = refl; to_is = refl; terminal = begins_nulled_terminal g; held = refl });
+        prefix = (0, refl, record { symbol_is = refl; from_is = refl; to_is = refl; terminal = begins_nulled_terminal g; held = refl });
       },
     );
   };
@@ -156,7 +156,7 @@ ends_nulled_steps_of g known = record {
     in_range = lit< tt;
     fits = (refl, lit≤ tt);
     complete = refl;
-    front = (
+    prefix = (
       1,
       (
         0,
@@ -168,7 +168,7 @@ ends_nulled_steps_of g known = record {
           in_range = lit< tt;
           fits = (refl, lit≤ tt);
           complete = refl;
-          front = (0, refl, record { symbol_is = refl; from_is = refl; to_is = refl; terminal = ends_nulled_terminal g; held = refl });
+          prefix = (0, refl, record { symbol_is = refl; from_is = refl; to_is = refl; terminal = ends_nulled_terminal g; held = refl });
         },
       ),
       record { symbol_is = refl; from_is = refl; to_is = refl; nullable = ends_nulled_nullable g },
@@ -220,7 +220,7 @@ list_in_brackets_steps_of g known = record {
     in_range = lit< tt;
     fits = (refl, lit≤ tt);
     complete = refl;
-    front = (
+    prefix = (
       4,
       (
         1,
@@ -232,7 +232,7 @@ list_in_brackets_steps_of g known = record {
           in_range = lit< tt;
           fits = (refl, lit≤ tt);
           complete = (lit< tt, λ h. refl);
-          front = (
+          prefix = (
             3,
             (
               2,
@@ -291,7 +291,7 @@ one_part_steps_of g known = record {
     in_range = lit< tt;
     fits = (refl, lit≤ tt);
     complete = refl;
-    front = (0, refl, record { symbol_is = refl; from_is = refl; to_is = refl; terminal = one_part_terminal g; held = refl });
+    prefix = (0, refl, record { symbol_is = refl; from_is = refl; to_is = refl; terminal = one_part_terminal g; held = refl });
   };
   inside = lit≤ tt;
   are = refl;

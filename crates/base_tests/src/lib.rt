@@ -1,4 +1,4 @@
-//! Tests of the outside, of character classes and of values. There is nothing else here.
+//! Tests of the outside, of character classes, of values, and of trees as text. There is nothing else here.
 #![tactic(auto)]
 
 #[cfg(test)]
@@ -6,8 +6,14 @@ mod classes;
 #[cfg(test)]
 mod outside;
 #[cfg(test)]
+mod pictures;
+#[cfg(test)]
 mod plays;
 #[cfg(test)]
+mod read_values;
+#[cfg(test)]
 mod tellers;
+#[cfg(test)]
+mod trees;
 #[cfg(test)]
 mod values;

@@ -11,18 +11,14 @@ use std::marker::Brand;
 use std::sync::ledger::{Blank, Ledger};
 use std::test::Fail;
 
-fn numbers(alloc: Global, all: &[u64]) -> Result<Vec<u64>, AllocError> {
-    all.to_vec(alloc)
-}
-
 fn source(alloc: Global, give: usize, fails: &[u64]) -> Result<MemSource, AllocError>
     requires { 1 ≤ give }
 {
     let bytes = b"hello".to_vec(alloc)?;
-    Ok(MemSource::new(bytes, give, numbers(alloc, fails)?))
+    Ok(MemSource::new(bytes, give, fails.to_vec(alloc)?))
 }
 
-fn is_answer(read: &Result<Vec<u8>, ReadRefusal>, wanted: Result<&[u8], ReadRefusal>) -> bool {
+fn is_answer<E: PartialEq + Drop>(read: &Result<Vec<u8>, E>, wanted: Result<&[u8], E>) -> bool {
     match (read, wanted) {
         (Ok(bytes), Ok(wanted)) => bytes.as_slice() == wanted,
         (Err(refusal), Err(wanted)) => *refusal == wanted,
@@ -69,7 +65,7 @@ fn writes(
     wanted: &[u8],
     faults: u64,
 ) -> Result<bool, AllocError> {
-    let mut sink = MemSink::new(alloc, 2, numbers(alloc, fails)?);
+    let mut sink = MemSink::new(alloc, 2, fails.to_vec(alloc)?);
     let is_done = write_all(&mut sink, b"hello").is_ok();
     Ok(is_done == done && sink.written() == wanted && sink.faults() == faults)
 }
@@ -84,15 +80,7 @@ fn writes_all(rt: HostRuntime) -> Result<(), Fail> {
 fn files(alloc: Global, fails: &[u64]) -> Result<MemFiles, AllocError> {
     let name = String::from_str(alloc, "a")?;
     let held = vec![in alloc; (name, b"hello".to_vec(alloc)?)]?;
-    Ok(MemFiles::new(alloc, held, numbers(alloc, fails)?))
-}
-
-fn is_file(read: &Result<Vec<u8>, FileRefusal>, wanted: Result<&[u8], FileRefusal>) -> bool {
-    match (read, wanted) {
-        (Ok(bytes), Ok(wanted)) => bytes.as_slice() == wanted,
-        (Err(refusal), Err(wanted)) => *refusal == wanted,
-        _ => false,
-    }
+    Ok(MemFiles::new(alloc, held, fails.to_vec(alloc)?))
 }
 
 // Whether reading a named file whole has this answer.
@@ -103,7 +91,7 @@ fn is_named<F: Files>(
     most: usize,
     wanted: Result<&[u8], FileRefusal>,
 ) -> bool {
-    is_file(&read_named(alloc, files, name, most), wanted)
+    is_answer(&read_named(alloc, files, name, most), wanted)
 }
 
 fn are_named(alloc: Global, files: &mut MemFiles) -> bool {
@@ -186,9 +174,8 @@ fn counts(_rt: HostRuntime) {
 #[test]
 fn lines_and_columns(rt: HostRuntime) -> Result<(), Fail> {
     const PLACES: [(usize, u32, u32); 5] = [(0, 1, 1), (1, 1, 2), (2, 1, 3), (3, 2, 1), (5, 3, 1)];
-    let text = match chars_of(rt.alloc(), "aé\n\r\n".as_bytes()) {
-        Ok(text) => text,
-        Err(_) => return Err(Fail::from("a text")),
+    let Ok(text) = chars_of(rt.alloc(), "aé\n\r\n".as_bytes()) else {
+        return Err(Fail::from("a text"));
     };
     assert_eq!(rt; text.len(), 5);
     for &(at, line, column) in &PLACES {
@@ -218,11 +205,7 @@ fn bytes_are_moved_into_a_text(rt: HostRuntime) -> Result<(), Fail> {
             && text.text(1, 4) == "b\nc"
             && text.line_column(4) == (2, 2)
     );
-    assert!(rt;
-        matches!(
-            moved(rt.alloc(), b"ab\xff")?,
-            Err(TextRefusal::NotUtf8 { at: 2 })
-        )
-    );
+    let refused = moved(rt.alloc(), b"ab\xff")?;
+    assert!(rt; matches!(refused, Err(TextRefusal::NotUtf8 { at: 2 })));
     Ok(())
 }

@@ -284,7 +284,7 @@ fn trees_name_nulled_symbols(rt: HostRuntime) -> Result<(), Fail> {
 }
 
 /// S ::= B C; B ::= x; C is empty: the numbers 0 S, 1 B, 2 C, 3 x.
-pub fn nulled_at_the_end(alloc: Global) -> Result<Written, CoreRefusal>
+pub(crate) fn nulled_at_the_end(alloc: Global) -> Result<Written, CoreRefusal>
     ensures rules { IfOk result (λ w. w.rules ≡ ends_nulled) }
     ensures sound { IfOk result (λ w. IsWritten w) }
 {
@@ -296,7 +296,7 @@ pub fn nulled_at_the_end(alloc: Global) -> Result<Written, CoreRefusal>
 }
 
 /// The items of a rule.
-pub const MADE: [DescItem; 6] = [
+pub(crate) const MADE: [DescItem; 6] = [
     DescItem::Name,
     DescItem::Start,
     DescItem::Length,
@@ -306,7 +306,7 @@ pub const MADE: [DescItem; 6] = [
 ];
 
 /// The items of a lexeme.
-pub const SEEN: [DescItem; 4] = [
+pub(crate) const SEEN: [DescItem; 4] = [
     DescItem::Symbol,
     DescItem::Start,
     DescItem::Length,
@@ -314,7 +314,7 @@ pub const SEEN: [DescItem; 4] = [
 ];
 
 /// An action that shows these items.
-pub fn described_by(alloc: Global, items: &[DescItem]) -> Result<Action, NoMemory> {
+pub(crate) fn described_by(alloc: Global, items: &[DescItem]) -> Result<Action, NoMemory> {
     Ok(Action::Items(Items::new(items.to_vec(alloc)?)))
 }
 
@@ -326,7 +326,7 @@ fn described(alloc: Global, shown: &[bool]) -> Result<RuleMeaning, NoMemory>
 }
 
 /// All items of the rules, and of lexemes those that they have.
-pub fn all_described(alloc: Global) -> Result<Meaning, NoMemory>
+pub(crate) fn all_described(alloc: Global) -> Result<Meaning, NoMemory>
     ensures { IfOk result (λ m. (g : Grammar) → g.rules ≡ ends_nulled → IsMeaningOf g (meaning_of m)) }
 {
     let both = described(alloc, &[true, true])?;
@@ -390,7 +390,7 @@ fn line_of_nulled(
 }
 
 /// Plays the derivation of `nulled_at_the_end`, in which the last symbol is nulled.
-pub fn play_nulled(
+pub(crate) fn play_nulled(
     alloc: Global,
     meaning: &Meaning,
     w: &Written,

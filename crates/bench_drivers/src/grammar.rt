@@ -80,7 +80,11 @@ pub fn flat_of(alloc: Global, w: &Written) -> Result<Flat, anyhow::Error>
     ensures start { IfOk result (λ f. 0 < length f.tops) }
 {
     match check(alloc, w) {
-        Ok(checked) => Ok(flatten(alloc, &checked)?),
+        Ok(checked) => {
+            let flat = flatten(alloc, &checked);
+            drop(checked);
+            Ok(flat?)
+        }
         Err(_) => bail!("the check refuses the grammar"),
     }
 }

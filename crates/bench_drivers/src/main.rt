@@ -71,8 +71,10 @@ fn build<'r, L: Ledger>(
     let begun = Instant::now(rt)?;
     let arena = Bump::new(rt.alloc());
     let forest = Forest::build(rt.alloc(), &arena, recce, w, Ranking::Rule, steps)?;
-    let took = begun.elapsed(rt)?;
-    Ok((forest.node_count(), took.as_micros()))
+    let took = begun.elapsed(rt);
+    let nodes = forest.node_count();
+    drop(forest);
+    Ok((nodes, took?.as_micros()))
 }
 
 // What came of reading in so much time, and of building the forest, if it is to be built.

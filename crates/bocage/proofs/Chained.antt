@@ -1,13 +1,13 @@
 -- Chains of nodes, as nodes are noted and as they are listed.
 use Rattle.std.proofs.Common.{◌≡◌, ◌≢◌, ℕ, zero, suc, ◌<◌, ◌≤◌, ◌+◌, ◌++◌, inl, inr, ◌↔◌, Contains, List, [], ◌∷◌, Some, length, slice_get, get_or, refl, sym, ◌∙◌, ap, subst, arith}
 use Rattle.std.proofs.lemmas.Bool.{cases_lt}
+use Rattle.std.proofs.lemmas.List.{length_push}
+use Rattle.finite_sets.proofs.Lists.{Contains-none, get_left, get_last, got_at}
 use Rattle.recognizer_model.specs.declared.NodeKey.{NodeKey}
-use Rattle.earley_sets.proofs.Membership.{Contains-none, Contains-cons_cases, Contains-first, Contains-rest, got_at}
-use Rattle.forest_parts.proofs.RowLemmas.{get_more}
-use Rattle.forest_parts.proofs.Spans.{last_is}
+use Rattle.earley_sets.proofs.Membership.{Contains-cons_cases, Contains-first, Contains-rest}
 use Rattle.bocage.specs.Walk.{GrowsBy}
 use Rattle.bocage.specs.Chains.{EndsAt, IsChain, AreChained}
-use Rattle.bocage.proofs.Visiting.{longer, still_at, was_at, push_long}
+use Rattle.bocage.proofs.Visiting.{longer, still_at, was_at}
 
 -- a list that is widened by what stands for none
 pub widened : (xs : List ℕ) (e : ℕ) → get_or (xs ++ 0 ∷ []) e 0 ≡ get_or xs e 0
@@ -26,7 +26,7 @@ within below head (n ∷ ns) (e, (b, at, le, rest)) = let (lt, same) = got_at be
 
 more_links : (below more : List ℕ) (head : ℕ) (ns : List ℕ) → IsChain below head ns → IsChain (below ++ more) head ns
 more_links below more head [] e = e
-more_links below more head (n ∷ ns) (e, (b, at, le, rest)) = (e, (b, get_more below more n b at, le, more_links below more b ns rest))
+more_links below more head (n ∷ ns) (e, (b, at, le, rest)) = (e, (b, get_left below more n b at, le, more_links below more b ns rest))
 
 -- a chain has its first node where its head says
 pub chain_first : (below : List ℕ) (head n : ℕ) (ns : List ℕ) → IsChain below head ns → head ≡ suc n →
@@ -45,10 +45,6 @@ chain_end below head (n ∷ ns) (e, rest) is = absurd (omega arith)
 pub push_through : (xs : List ℕ) (n : ℕ) (more : List ℕ) → xs ++ n ∷ more ≡ (xs ++ n ∷ []) ++ more
 push_through [] n more = refl
 push_through (x ∷ xs) n more = ap (λ l. x ∷ l) (push_through xs n more)
-
-pub append_none : (xs : List ℕ) → xs ++ [] ≡ xs
-append_none [] = refl
-append_none (x ∷ xs) = ap (λ l. x ∷ l) (append_none xs)
 
 -- before any is noted
 pub none_chained : (keys : List NodeKey) (heads below : List ℕ) → heads ≡ [] → below ≡ [] → AreChained keys heads below
@@ -81,7 +77,7 @@ chained_more P old new heads below grows h = record {
 module _ (keys : List NodeKey) (heads below heads' below' : List ℕ) (key : NodeKey) (h : AreChained keys heads below) (at : slice_get keys (length below) ≡ Some key)
     (links : below' ≡ below ++ get_or heads key.end 0 ∷ []) (sets : get_or heads' key.end 0 ≡ length below') (same : (e : ℕ) → e ≢ key.end → get_or heads' e 0 ≡ get_or heads e 0) where
   long : length below' ≡ length below + 1
-  long = ap (λ (l : List ℕ). length l) links ∙ push_long below (get_or heads key.end 0)
+  long = ap (λ (l : List ℕ). length l) links ∙ length_push below (get_or heads key.end 0)
 
   other : (end : ℕ) → end ≢ key.end → (ns : List ℕ) × IsChain below' (get_or heads' end 0) ns × ((n : ℕ) → Contains ns n ↔ ((n < length below') × EndsAt keys end n))
   other end ne =
@@ -109,7 +105,7 @@ module _ (keys : List NodeKey) (heads below heads' below' : List ℕ) (key : Nod
           sets ∙ (let e : length below' ≡ suc (length below) = omega (arith, long) in e),
           (
             get_or heads key.end 0,
-            subst (λ l. slice_get l (length below) ≡ Some (get_or heads key.end 0)) (sym links) (last_is below (get_or heads key.end 0)),
+            subst (λ l. slice_get l (length below) ≡ Some (get_or heads key.end 0)) (sym links) (get_last below (get_or heads key.end 0)),
             within below (get_or heads key.end 0) ns is,
             subst (λ l. IsChain l (get_or heads key.end 0) ns) (sym links) (more_links below (get_or heads key.end 0 ∷ []) (get_or heads key.end 0) ns is),
           ),

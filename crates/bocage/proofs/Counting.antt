@@ -1,16 +1,13 @@
 -- How many values have a property.
 use Rattle.std.proofs.Common.{◌≡◌, ◌⊎◌, inl, inr, ◌↔◌, ℕ, ◌+◌, ◌≤◌, List, [], ◌∷◌, ◌++◌, map, Contains, refl, sym, ◌∙◌, ap, subst, arith}
 use Rattle.std.proofs.lemmas.List.{length-append, length-map}
-use Rattle.finite_sets.proofs.Members.{Among, Once, among_from, contains_from, among_either, among_left, among_right, among_map_from, once_pairs, pairs_once, once_most}
+use Rattle.finite_sets.proofs.Lists.{Contains-none, Contains-map}
+use Rattle.finite_sets.proofs.Members.{Among, Once, among_from, contains_from, among_either, among_left, among_right, among_map_from, once_pairs, pairs_once, once_most, once_append}
 use Rattle.recognizer_model.specs.declared.Item.{Item}
 use Rattle.recognizer_model.specs.Counts.{IsCountOf}
 use Rattle.recognizer_model.specs.Nodes.{Placed}
-use Rattle.earley_sets.proofs.Membership.{Contains-none, Contains-map, Contains-map_from}
+use Rattle.earley_sets.proofs.Membership.{Contains-map_from}
 use Rattle.forest_parts.specs.Hidden.{AreAtLeast, RisesWithin, RisesBy}
-
-once_both : {X : Type 0} (xs ys : List X) → Once xs → Once ys → ((x : X) → Among x xs → Among x ys → ⊥) → Once (xs ++ ys)
-once_both [] ys a b apart = b
-once_both (x ∷ xs) ys (fresh, a) b apart = ((λ m. elim (among_either x xs ys m) [ inl h ↦ fresh h | inr h ↦ apart x (inl refl) h ]), once_both xs ys a b (λ z m n. apart z (inr m) n))
 
 once_map : {X Y : Type 0} (f : X → Y) → ((a b : X) → f a ≡ f b → a ≡ b) → (xs : List X) → Once xs → Once (map f xs)
 once_map f one [] h = tt
@@ -56,7 +53,7 @@ module _ {X : Type 0} (P Q R : X → Type 0) (apart : (x : X) → P x → Q x �
   pub at_least_both : (m n : ℕ) → AreAtLeast P m → AreAtLeast Q n → AreAtLeast R (m + n)
   at_least_both m n (xs, once, are, e) (ys, once', are', e') = (
     xs ++ ys,
-    once_pairs (xs ++ ys) (once_both xs ys (pairs_once xs once) (pairs_once ys once') (λ x a b. apart x (are x (contains_from xs x a)) (are' x (contains_from ys x b)))),
+    once_pairs (xs ++ ys) (once_append xs ys (pairs_once xs once) (pairs_once ys once') (λ x a b. apart x (are x (contains_from xs x a)) (are' x (contains_from ys x b)))),
     (λ x h. elim (among_either x xs ys (among_from (xs ++ ys) x h)) [ inl a ↦ first x (are x (contains_from xs x a)) | inr b ↦ second x (are' x (contains_from ys x b)) ]),
     (let l = length-append xs ys in omega arith),
   )
@@ -65,7 +62,7 @@ module _ {X : Type 0} (P Q R : X → Type 0) (apart : (x : X) → P x → Q x �
   count_both m n parted (xs, l, e) (ys, l', e') = (
     xs ++ ys,
     record {
-      once = once_pairs (xs ++ ys) (once_both xs ys (pairs_once xs l.once) (pairs_once ys l'.once) (λ x a b. apart x ((l.exact x).0 (contains_from xs x a)) ((l'.exact x).0 (contains_from ys x b))));
+      once = once_pairs (xs ++ ys) (once_append xs ys (pairs_once xs l.once) (pairs_once ys l'.once) (λ x a b. apart x ((l.exact x).0 (contains_from xs x a)) ((l'.exact x).0 (contains_from ys x b))));
       exact = λ x. (
         λ h. elim (among_either x xs ys (among_from (xs ++ ys) x h)) [ inl a ↦ first x ((l.exact x).0 (contains_from xs x a)) | inr b ↦ second x ((l'.exact x).0 (contains_from ys x b)) ],
         λ h. contains_from (xs ++ ys) x (elim (parted x h) [ inl p ↦ among_left x xs ys (among_from xs x ((l.exact x).1 p)) | inr q ↦ among_right x xs ys (among_from ys x ((l'.exact x).1 q)) ]),

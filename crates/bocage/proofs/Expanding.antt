@@ -3,6 +3,9 @@ use Rattle.std.proofs.Common.{◌≡◌, ◌≢◌, ◌⊎◌, inl, inr, ◌↔�
 use Rattle.std.specs.Prelude.{sum}
 use Rattle.std.proofs.lemmas.Bool.{cases_lt}
 use Rattle.std.proofs.lemmas.List.Sums.{sum_by_push}
+use Rattle.std.proofs.lemmas.List.{map-append, take_more}
+use Rattle.std.proofs.lemmas.List.Elements.{Contains-get_or}
+use Rattle.finite_sets.proofs.Lists.{got_item}
 use Rattle.grammar_model.specs.declared.Ranking.{Ranking}
 use Rattle.grammar_model.specs.Grammar.{Grammar}
 use Rattle.recognizer_model.specs.declared.Item.{Item}
@@ -12,11 +15,10 @@ use Rattle.recognizer_model.specs.Leo.{InReduced}
 use Rattle.recognizer_model.specs.Chosen.{allowed_by}
 use Rattle.recognizer_model.specs.Nodes.{Placed}
 use Rattle.recognizer_model.proofs.Over.{hidden_whole}
-use Rattle.earley_sets.specs.Recognizer.{Recognizer, IsRecognizer, place_of, set_at, edges_of, top_of}
-use Rattle.earley_sets.proofs.Membership.{got_item, found_at}
+use Rattle.earley_sets.specs.Recognizer.{Recognizer, IsRecognizer, earleme_of, set_at, edges_of, top_of}
+use Rattle.earley_sets.proofs.Membership.{found_at}
 use Rattle.forest_parts.specs.Hidden.{IsHiddenFrom, RisesWithin, RisesBy}
 use Rattle.forest_parts.proofs.Sets.{at_top, goes}
-use Rattle.forest_parts.proofs.RowLemmas.{there, one_more_taken}
 use Rattle.bocage.specs.declared.rows.AlternativeRow.{AlternativeRow}
 use Rattle.bocage.specs.declared.walk.Found.{Found}
 use Rattle.bocage.specs.Walk.{IsRead, IsUsedIn, node_of_item, top_key}
@@ -24,14 +26,13 @@ use Rattle.bocage.specs.Chains.{EndsAt}
 use Rattle.bocage.specs.Ends.{IsGoing}
 use Rattle.bocage.specs.Expanded.{IsExpandedIn, IsExpandedAt, IsExpandedFrom}
 use Rattle.bocage.proofs.Splits.{used_met, used_within}
-use Rattle.bocage.proofs.Growing.{map_both}
 use Rattle.bocage.proofs.Asking.{IsAsked, asked, least_asked}
 use Rattle.bocage.proofs.Counting.{at_place, none_at_least, none_counted, at_least_of, count_of, at_least_both, count_both, at_least_placed, count_placed}
 
 module _ (w : Grammar) (ranking : Ranking) (r : Recognizer) (read : IsRead w r) (end first : ℕ) (f : Found) (table : List (List AlternativeRow)) (going : IsGoing w ranking r end first f table) (nodes : List ℕ)
     (listed : (n : ℕ) → Contains nodes n ↔ ((n < first) × EndsAt f.keys.keys end n)) where
   -- where a used node ends before the last place, one of the listed nodes begins no later
-  pub reached : end ≢ place_of r → (key : NodeKey) → IsUsedIn w ranking r key → key.end ≡ end → (n : ℕ) × (k : NodeKey) × Contains nodes n × (slice_get f.keys.keys n ≡ Some k) × (k.origin ≤ key.origin)
+  pub reached : end ≢ earleme_of r → (key : NodeKey) → IsUsedIn w ranking r key → key.end ≡ end → (n : ℕ) × (k : NodeKey) × Contains nodes n × (slice_get f.keys.keys n ≡ Some k) × (k.origin ≤ key.origin)
   reached inner key used same =
       let (some, met) = (used_met w ranking r read key).0 used in
       elim (least_asked (allowed_by w ranking r.flat (edges_of r)) r read.is met some) [ inl e ↦ absurd (inner (sym same ∙ e)) | inr a ↦ go (subst (λ z. IsAsked (allowed_by w ranking r.flat (edges_of r)) r key.origin z) same a) ]
@@ -40,7 +41,7 @@ module _ (w : Grammar) (ranking : Ranking) (r : Recognizer) (read : IsRead w r) 
       go a =
           let b = a.behind in
           let item : Item = record { rule = a.rule; dot = a.dot; origin = a.origin } in
-          let held = asked w ranking r read (suc end) f.keys.keys f.wholes.items table (λ n k at le. going.visited n k at (omega arith)) (λ k lt e. subst (λ z. Contains f.keys.keys z) (sym e) (going.top lt)) a.met (omega arith) a.front a.part a.last a.some in
+          let held = asked w ranking r read (suc end) f.keys.keys f.wholes.items table (λ n k at le. going.visited n k at (omega arith)) (λ k lt e. subst (λ z. Contains f.keys.keys z) (sym e) (going.top lt)) a.met (omega arith) a.predecessor a.part a.cause a.some in
           let (n, at) = found_at f.keys.keys (node_of_item item end) held in
           let lt : n < first = elim (cases_lt n first) [ inl lt ↦ lt | inr ge ↦ absurd (inner (going.begun n (node_of_item item end) at ge refl)) ] in
           (n, node_of_item item end, (listed n).1 (lt, (node_of_item item end, at, refl)), at, a.low)
@@ -54,28 +55,28 @@ module _ (w : Grammar) (ranking : Ranking) (r : Recognizer) (read : IsRead w r) 
       (going.used key (got_item f.keys.keys n key (sym at)), sym (ap (λ (z : NodeKey). z.end) e) ∙ same)
 
   -- where no node is listed nothing is expanded
-  pub none_expanded : end ≢ place_of r → ((n : ℕ) → Contains nodes n → ⊥) → (item : Item) → IsExpandedAt w ranking r end item → ⊥
+  pub none_expanded : end ≢ earleme_of r → ((n : ℕ) → Contains nodes n → ⊥) → (item : Item) → IsExpandedAt w ranking r end item → ⊥
   none_expanded inner none item (hidden, (key, used, same, le)) = let (n, k, h, at, low) = reached inner key used same in none n h
 
   -- the least origin is that of one of the listed nodes
-  pub least_met : (lowest least : ℕ) → end ≢ place_of r → lowest ≡ end → 0 < length nodes → least ≤ lowest →
+  pub least_met : (lowest least : ℕ) → end ≢ earleme_of r → lowest ≡ end → 0 < length nodes → least ≤ lowest →
       (least ≡ lowest) ⊎ ((n : ℕ) × (key : NodeKey) × Contains nodes n × (slice_get f.keys.keys n ≡ Some key) × (key.origin ≡ least)) →
       (key : NodeKey) × IsUsedIn w ranking r key × (key.end ≡ end) × (key.origin ≤ least)
   least_met lowest least inner is some le (inr (n, key, h, at, e)) = let (used, same) = listed_used n key h at in (key, used, same, omega arith)
   least_met lowest least inner is some le (inl e) =
-      let h = there nodes 0 0 some in
+      let h = Contains-get_or nodes 0 0 some in
       let (lt, (key, at, ends)) = (listed (get_or nodes 0 0)).0 h in
       let (used, same) = listed_used (get_or nodes 0 0) key h at in
       let low = (used_within w ranking r read key used).forward in
       (key, used, same, omega arith)
 
-  module _ (least : ℕ) (low : (n : ℕ) (key : NodeKey) → Contains nodes n → slice_get f.keys.keys n ≡ Some key → least ≤ key.origin) (whole : end ≡ place_of r → least ≡ 0)
-      (met : end ≢ place_of r → (key : NodeKey) × IsUsedIn w ranking r key × (key.end ≡ end) × (key.origin ≤ least)) where
+  module _ (least : ℕ) (low : (n : ℕ) (key : NodeKey) → Contains nodes n → slice_get f.keys.keys n ≡ Some key → least ≤ key.origin) (whole : end ≡ earleme_of r → least ≡ 0)
+      (met : end ≢ earleme_of r → (key : NodeKey) × IsUsedIn w ranking r key × (key.end ≡ end) × (key.origin ≤ least)) where
     -- at any place, or at the last one
-    same_or_not : (end ≡ place_of r) ⊎ (end ≢ place_of r)
-    same_or_not = elim (cases_lt end (place_of r)) [
-      | inl lt ↦ inr (λ e. let q : end ≡ place_of r = e in absurd (omega arith))
-      | inr ge ↦ elim (cases_lt (place_of r) end) [ inl gt ↦ inr (λ e. let q : end ≡ place_of r = e in absurd (omega arith)) | inr le ↦ inl (omega arith) ]
+    same_or_not : (end ≡ earleme_of r) ⊎ (end ≢ earleme_of r)
+    same_or_not = elim (cases_lt end (earleme_of r)) [
+      | inl lt ↦ inr (λ e. let q : end ≡ earleme_of r = e in absurd (omega arith))
+      | inr ge ↦ elim (cases_lt (earleme_of r) end) [ inl gt ↦ inr (λ e. let q : end ≡ earleme_of r = e in absurd (omega arith)) | inr le ↦ inl (omega arith) ]
     ]
 
     pub hidden_expanded : (item : Item) → IsHiddenFrom r end least item → IsExpandedAt w ranking r end item
@@ -98,13 +99,13 @@ module _ (w : Grammar) (ranking : Ranking) (r : Recognizer) (read : IsRead w r) 
       ],
     )
 
-  -- what was given for the place is what is expanded there
+  -- what was given for the place is what is expanded Contains-get_or
   pub given_expanded : (lowest least : ℕ) → ((n : ℕ) (key : NodeKey) → Contains nodes n → slice_get f.keys.keys n ≡ Some key → least ≤ key.origin) → least ≤ lowest →
       (least ≡ lowest) ⊎ ((n : ℕ) × (key : NodeKey) × Contains nodes n × (slice_get f.keys.keys n ≡ Some key) × (key.origin ≡ least)) →
-      (end ≡ place_of r → lowest ≡ 0) → (end ≢ place_of r → (lowest ≡ end) × (0 < length nodes)) → (item : Item) → IsHiddenFrom r end least item ↔ IsExpandedAt w ranking r end item
+      (end ≡ earleme_of r → lowest ≡ 0) → (end ≢ earleme_of r → (lowest ≡ end) × (0 < length nodes)) → (item : Item) → IsHiddenFrom r end least item ↔ IsExpandedAt w ranking r end item
   given_expanded lowest least low le met whole inner item =
-      let whole' : end ≡ place_of r → least ≡ 0 = λ e. (let z = whole e in omega arith) in
-      let met' : end ≢ place_of r → (key : NodeKey) × IsUsedIn w ranking r key × (key.end ≡ end) × (key.origin ≤ least) = λ n. (let (is, some) = inner n in least_met lowest least n is some le met) in
+      let whole' : end ≡ earleme_of r → least ≡ 0 = λ e. (let z = whole e in omega arith) in
+      let met' : end ≢ earleme_of r → (key : NodeKey) × IsUsedIn w ranking r key × (key.end ≡ end) × (key.origin ≤ least) = λ n. (let (is, some) = inner n in least_met lowest least n is some le met) in
       (hidden_expanded least low whole' met' item, expanded_hidden least low whole' met' item)
 
 -- one place more
@@ -143,16 +144,16 @@ module _ (w : Grammar) (ranking : Ranking) (r : Recognizer) where
       (count_both (IsExpandedFrom w ranking r (suc end)) (at_end end) (IsExpandedFrom w ranking r end) (apart end) (later end) (now end) k n (parted end) some (count_placed end (IsExpandedAt w ranking r end) (at_end end) (here end) n (out end) more))
 
   -- behind the last place nothing is expanded
-  pub none_behind : IsRead w r → IsCountOf (IsExpandedFrom w ranking r (suc (place_of r))) 0
-  none_behind read = none_counted (IsExpandedFrom w ranking r (suc (place_of r))) (λ p ((hidden, (key, used, same, low)), le). (let w = (used_within w ranking r read key used).inside in absurd (omega arith)))
+  pub none_behind : IsRead w r → IsCountOf (IsExpandedFrom w ranking r (suc (earleme_of r))) 0
+  none_behind read = none_counted (IsExpandedFrom w ranking r (suc (earleme_of r))) (λ p ((hidden, (key, used, same, low)), le). (let w = (used_within w ranking r read key used).inside in absurd (omega arith)))
 
-  pub none_within : (k : ℕ) → RisesWithin (IsExpandedFrom w ranking r (suc (place_of r))) k k
-  none_within k = (0, none_at_least (IsExpandedFrom w ranking r (suc (place_of r))), omega arith)
+  pub none_within : (k : ℕ) → RisesWithin (IsExpandedFrom w ranking r (suc (earleme_of r))) k k
+  none_within k = (0, none_at_least (IsExpandedFrom w ranking r (suc (earleme_of r))), omega arith)
 
-  pub within_first : (end k l : ℕ) → end ≡ place_of r → RisesWithin (IsExpandedAt w ranking r end) k l → RisesWithin (IsExpandedFrom w ranking r end) k l
+  pub within_first : (end k l : ℕ) → end ≡ earleme_of r → RisesWithin (IsExpandedAt w ranking r end) k l → RisesWithin (IsExpandedFrom w ranking r end) k l
   within_first end k l e h = within_more end k k l (subst (λ p. RisesWithin (IsExpandedFrom w ranking r (suc p)) k k) (sym e) (none_within k)) h
 
-  pub count_first : IsRead w r → (end k l : ℕ) → end ≡ place_of r → k ≡ 0 → RisesBy (IsExpandedAt w ranking r end) k l → IsCountOf (IsExpandedFrom w ranking r end) l
+  pub count_first : IsRead w r → (end k l : ℕ) → end ≡ earleme_of r → k ≡ 0 → RisesBy (IsExpandedAt w ranking r end) k l → IsCountOf (IsExpandedFrom w ranking r end) l
   count_first read end k l e z h = count_more end 0 l (subst (λ p. IsCountOf (IsExpandedFrom w ranking r (suc p)) 0) (sym e) (none_behind read)) (subst (λ m. RisesBy (IsExpandedAt w ranking r end) m l) z h)
 
   pub within_all : (end k l : ℕ) → RisesWithin (IsExpandedFrom w ranking r end) k l → RisesWithin (IsExpandedIn w ranking r) k l
@@ -180,14 +181,14 @@ module _ (r : Recognizer) (is : IsRecognizer r) where
     where
       longer : sum (map length (take (suc k) r.sets)) ≡ sum (map length (take k r.sets)) + length (set_at r k)
       longer =
-          ap (λ l. sum (map length l)) (ap (λ n. take n r.sets) (let e : suc k ≡ k + 1 = omega arith in e) ∙ one_more_taken r.sets k [] (omega arith))
-          ∙ ap sum (map_both length (take k r.sets) (set_at r k ∷ []))
+          ap (λ l. sum (map length l)) (ap (λ n. take n r.sets) (let e : suc k ≡ k + 1 = omega arith in e) ∙ take_more r.sets k [] (omega arith))
+          ∙ ap sum (map-append length (take k r.sets) (set_at r k ∷ []))
           ∙ sum_by_push (λ x. x) (map length (take k r.sets)) (length (set_at r k))
 
-  pub kept_counted : IsCountOf {A = Placed} (λ p. (p.place ≤ place_of r) × InReduced r.flat (edges_of r) (top_of r) p.place p.item) (sum (map length r.sets))
+  pub kept_counted : IsCountOf {A = Placed} (λ p. (p.place ≤ earleme_of r) × InReduced r.flat (edges_of r) (top_of r) p.place p.item) (sum (map length r.sets))
   kept_counted =
       let s = is.some in
-      count_of (IsKeptBelow (length r.sets)) (λ p. (p.place ≤ place_of r) × InReduced r.flat (edges_of r) (top_of r) p.place p.item) (sum (map length r.sets)) (λ p. ((λ (lt, h). (omega arith, h)), (λ (le, h). (omega arith, h))))
+      count_of (IsKeptBelow (length r.sets)) (λ p. (p.place ≤ earleme_of r) × InReduced r.flat (edges_of r) (top_of r) p.place p.item) (sum (map length r.sets)) (λ p. ((λ (lt, h). (omega arith, h)), (λ (le, h). (omega arith, h))))
       (subst (λ l. IsCountOf (IsKeptBelow (length r.sets)) (sum (map length l))) (all r.sets) (kept_below (length r.sets) (omega arith)))
     where
       all : {X : Type 0} (xs : List X) → take (length xs) xs ≡ xs

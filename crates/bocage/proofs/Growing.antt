@@ -4,34 +4,26 @@ use Rattle.std.specs.declared.cmp.Ordering.{Ordering}
 use Rattle.std.specs.declared.cmp.Ordering.TheVariants.{Less}
 use Rattle.std.specs.List.{AllByRecursion}
 use Rattle.std.specs.List.Sorted.{IsStrictlySortedBy}
-use Rattle.std.proofs.lemmas.List.{append-nil}
+use Rattle.std.proofs.lemmas.List.{append-nil, append_assoc, map-append, take-append-le}
 use Rattle.std.proofs.lemmas.List.Elements.{Contains-append_left, Contains-append_right, Contains-append_cases}
+use Rattle.finite_sets.proofs.Lists.{Contains-none, get_map, get_left, get_mapped}
 use Rattle.grammar_model.specs.declared.Ranking.{Ranking}
 use Rattle.grammar_model.specs.Grammar.{Grammar}
 use Rattle.recognizer_model.specs.declared.Item.{Item}
 use Rattle.recognizer_model.specs.declared.NodeKey.{NodeKey}
 use Rattle.earley_sets.specs.Recognizer.{Recognizer, set_at}
-use Rattle.earley_sets.proofs.Membership.{Contains-none, Contains-first, Contains-rest}
-use Rattle.forest_model.specs.Forest.{Forest, ForestNode, Last, AnEdge, Nothing, Wholes, Alternative, IsNode, IsFront, IsLast, IsWholeOver, IsAlternative, starts_cmp}
+use Rattle.earley_sets.proofs.Membership.{Contains-first, Contains-rest}
+use Rattle.forest_model.specs.Forest.{Forest, ForestNode, Cause, AnEdge, Nothing, Wholes, Alternative, IsNode, IsPredecessor, IsCause, IsWholeOver, IsAlternative, starts_cmp}
 use Rattle.forest_parts.specs.Lists.{between}
-use Rattle.forest_parts.proofs.RowLemmas.{get_more}
 use Rattle.bocage.specs.declared.rows.AlternativeRow.{AlternativeRow}
-use Rattle.bocage.specs.declared.rows.LastRow.{LastRow}
-use Rattle.bocage.specs.declared.rows.LastRow.TheVariants as row
+use Rattle.bocage.specs.declared.rows.CauseRow.{CauseRow}
+use Rattle.bocage.specs.declared.rows.CauseRow.TheVariants as row
 use Rattle.bocage.specs.declared.walk.Known.{Known}
 use Rattle.bocage.specs.declared.walk.Found.{Found}
-use Rattle.bocage.specs.Rows.{last_of, alternative_of, IsLastWithin}
+use Rattle.bocage.specs.Rows.{cause_of, alternative_of, IsCauseWithin}
 use Rattle.bocage.specs.Walk.{bare, seen, seen_by, GrowsBy, IsNew, AreNoted, AreListed, Lists, is_high, whole_keys, whole_keys_by, AreNumbers, AddsWholes}
 use Rattle.recognizer_model.specs.Flat.{FlatGrammar}
 use Rattle.forest_parts.specs.declared.parts.Part.{Part}
-
-pub assoc : {X : Type 0} (xs ys zs : List X) → (xs ++ ys) ++ zs ≡ xs ++ (ys ++ zs)
-assoc [] ys zs = refl
-assoc (x ∷ xs) ys zs = ap (λ l. x ∷ l) (assoc xs ys zs)
-
-pub map_both : {X Y : Type 0} (f : X → Y) (xs ys : List X) → map f (xs ++ ys) ≡ map f xs ++ map f ys
-map_both f [] ys = refl
-map_both f (x ∷ xs) ys = ap (λ l. f x ∷ l) (map_both f xs ys)
 
 module _ (P : NodeKey → Type 0) where
   pub grows_none : (keys : List NodeKey) → GrowsBy P keys keys
@@ -40,7 +32,7 @@ module _ (P : NodeKey → Type 0) where
   pub grows_then : (old mid new : List NodeKey) → GrowsBy P old mid → GrowsBy P mid new → GrowsBy P old new
   grows_then old mid new (m, e, p) (n, f, q) = (
     m ++ n,
-    f ∙ ap (λ l. l ++ n) e ∙ assoc old m n,
+    f ∙ ap (λ l. l ++ n) e ∙ append_assoc old m n,
     λ k h. elim (Contains-append_cases m n k h) [ inl a ↦ p k a | inr b ↦ q k b ],
   )
 
@@ -48,16 +40,6 @@ module _ (P : NodeKey → Type 0) where
   grows_weaker Q old new w (m, e, p) = (m, e, λ k h. w k (p k h))
 
 -- NODES BY THEIR NUMBERS
-
-pub get_map : {X Y : Type 0} (f : X → Y) (xs : List X) (n : ℕ) (x : X) → slice_get xs n ≡ Some x → slice_get (map f xs) n ≡ Some (f x)
-get_map f [] n x e = absurd (cc)
-get_map f (y ∷ ys) zero x e = let s : y ≡ x = cc in ap (λ z. Some (f z)) s
-get_map f (y ∷ ys) (suc n) x e = get_map f ys n x e
-
-pub get_mapped : {X Y : Type 0} (f : X → Y) (xs : List X) (n : ℕ) (y : Y) → slice_get (map f xs) n ≡ Some y → (x : X) × (slice_get xs n ≡ Some x) × (f x ≡ y)
-get_mapped f [] n y e = absurd (cc)
-get_mapped f (z ∷ zs) zero y e = (z, refl, (let s : f z ≡ y = cc in s))
-get_mapped f (z ∷ zs) (suc n) y e = get_mapped f zs n y e
 
 module _ (w : Grammar) (ranking : Ranking) (r : Recognizer) (keys : List NodeKey) where
   pub node_seen : (n : ℕ) (k : NodeKey) → slice_get keys n ≡ Some k → IsNode (seen w ranking r keys) n k
@@ -74,13 +56,13 @@ module _ (w : Grammar) (ranking : Ranking) (r : Recognizer) (keys : List NodeKey
     )
 
     pub node_more : (n : ℕ) (k : NodeKey) → IsNode (seen w ranking r keys) n k → IsNode (seen w ranking r (keys ++ more)) n k
-    node_more n k (node, e, s) = (node, subst (λ l. slice_get l n ≡ Some node) (sym (map_both bare keys more)) (get_more (map bare keys) (map bare more) n node e), s)
+    node_more n k (node, e, s) = (node, subst (λ l. slice_get l n ≡ Some node) (sym (map-append bare keys more)) (get_left (map bare keys) (map bare more) n node e), s)
 
-    front_more : (rule dot origin m : ℕ) (o : Option ℕ) → IsFront (seen w ranking r keys) rule dot origin m o → IsFront (seen w ranking r (keys ++ more)) rule dot origin m o
-    front_more rule dot origin m None h = h
-    front_more rule dot origin m (Some n) (lt, h) = (lt, node_more n (record { rule = rule; dot = dot; origin = origin; end = m }) h)
+    predecessor_more : (rule dot origin m : ℕ) (o : Option ℕ) → IsPredecessor (seen w ranking r keys) rule dot origin m o → IsPredecessor (seen w ranking r (keys ++ more)) rule dot origin m o
+    predecessor_more rule dot origin m None h = h
+    predecessor_more rule dot origin m (Some n) (lt, h) = (lt, node_more n (record { rule = rule; dot = dot; origin = origin; end = m }) h)
 
-    last_more : (symbol m q : ℕ) (l : Last) → IsLast (seen w ranking r keys) symbol m q l → IsLast (seen w ranking r (keys ++ more)) symbol m q l
+    last_more : (symbol m q : ℕ) (l : Cause) → IsCause (seen w ranking r keys) symbol m q l → IsCause (seen w ranking r (keys ++ more)) symbol m q l
     last_more symbol m q AnEdge h = h
     last_more symbol m q Nothing h = h
     last_more symbol m q (Wholes nodes) h = record {
@@ -94,24 +76,19 @@ module _ (w : Grammar) (ranking : Ranking) (r : Recognizer) (keys : List NodeKey
     }
 
     pub alternative_more : (rule dot origin symbol q : ℕ) (a : Alternative) → IsAlternative (seen w ranking r keys) rule dot origin symbol q a → IsAlternative (seen w ranking r (keys ++ more)) rule dot origin symbol q a
-    alternative_more rule dot origin symbol q a h = record { front = front_more rule dot origin a.start a.front h.front; last = last_more symbol a.start q a.last h.last }
+    alternative_more rule dot origin symbol q a h = record { predecessor = predecessor_more rule dot origin a.start a.predecessor h.predecessor; cause = last_more symbol a.start q a.cause h.cause }
 
 -- PARTS OF A LIST THAT GROWS
 
-pub take_more : {X : Type 0} (n : ℕ) (xs ys : List X) → n ≤ length xs → take n (xs ++ ys) ≡ take n xs
-take_more zero xs ys le = refl
-take_more (suc n) [] ys le = absurd (omega arith)
-take_more (suc n) (x ∷ xs) ys le = ap (λ l. x ∷ l) (take_more n xs ys (omega arith))
-
 pub between_more : {X : Type 0} (first end : ℕ) (xs ys : List X) → first ≤ end → end ≤ length xs → between first end (xs ++ ys) ≡ between first end xs
-between_more zero end xs ys le bound = let e : end - 0 ≡ end = omega arith in ap (λ n. take n (xs ++ ys)) e ∙ take_more end xs ys bound ∙ ap (λ n. take n xs) (sym e)
+between_more zero end xs ys le bound = let e : end - 0 ≡ end = omega arith in ap (λ n. take n (xs ++ ys)) e ∙ take-append-le end xs ys bound ∙ ap (λ n. take n xs) (sym e)
 between_more (suc first) zero xs ys le bound = absurd (omega arith)
 between_more (suc first) (suc end) [] ys le bound = absurd (omega arith)
 between_more (suc first) (suc end) (x ∷ xs) ys le bound =
     let e : suc end - suc first ≡ end - first = omega arith in
     ap (λ n. take n (drop first (xs ++ ys))) e ∙ between_more first end xs ys (omega arith) (omega arith) ∙ ap (λ n. take n (drop first xs)) (sym e)
 
-pub last_same : (wholes more : List ℕ) (l : LastRow) → IsLastWithin wholes l → last_of (wholes ++ more) l ≡ last_of wholes l
+pub last_same : (wholes more : List ℕ) (l : CauseRow) → IsCauseWithin wholes l → cause_of (wholes ++ more) l ≡ cause_of wholes l
 last_same wholes more row.Edge h = refl
 last_same wholes more row.Nothing h = refl
 last_same wholes more (row.Wholes first end) (le, bound) = ap Wholes (between_more first end wholes more le bound)
@@ -120,13 +97,13 @@ pub length_more : {X : Type 0} (xs ys : List X) → length xs ≤ length (xs ++ 
 length_more [] ys = omega arith
 length_more (x ∷ xs) ys = let l = length_more xs ys in omega arith
 
-pub within_more : (wholes more : List ℕ) (l : LastRow) → IsLastWithin wholes l → IsLastWithin (wholes ++ more) l
+pub within_more : (wholes more : List ℕ) (l : CauseRow) → IsCauseWithin wholes l → IsCauseWithin (wholes ++ more) l
 within_more wholes more row.Edge h = h
 within_more wholes more row.Nothing h = h
 within_more wholes more (row.Wholes first end) (le, bound) = let l = length_more wholes more in (le, omega arith)
 
-pub alternative_same : (wholes more : List ℕ) (a : AlternativeRow) → IsLastWithin wholes a.last → alternative_of (wholes ++ more) a ≡ alternative_of wholes a
-alternative_same wholes more a h = λ i. record { start = a.start; front = a.front; last = last_same wholes more a.last h i }
+pub alternative_same : (wholes more : List ℕ) (a : AlternativeRow) → IsCauseWithin wholes a.cause → alternative_of (wholes ++ more) a ≡ alternative_of wholes a
+alternative_same wholes more a h = λ i. record { start = a.start; predecessor = a.predecessor; cause = last_same wholes more a.cause h i }
 
 -- LISTS OF ALTERNATIVES
 
@@ -144,43 +121,43 @@ module _ {K : Type 0} (c : K → K → Ordering) where
 abbrev starts : List AlternativeRow → List ℕ
 starts rows = map (λ (a : AlternativeRow). a.start) rows
 
-module _ (w : Grammar) (ranking : Ranking) (r : Recognizer) (high : Bool) (front : Item) (symbol end : ℕ) where
+module _ (w : Grammar) (ranking : Ranking) (r : Recognizer) (high : Bool) (predecessor : Item) (symbol end : ℕ) where
   -- what was listed stays listed
   pub listed_more : (D : ℕ → Type 0) (keys keys' mk : List NodeKey) (wholes wholes' mw : List ℕ) (rows : List AlternativeRow) → keys' ≡ keys ++ mk → wholes' ≡ wholes ++ mw →
-      AreListed (seen w ranking r keys) r high front symbol end D wholes rows → AreListed (seen w ranking r keys') r high front symbol end D wholes' rows
+      AreListed (seen w ranking r keys) r high predecessor symbol end D wholes rows → AreListed (seen w ranking r keys') r high predecessor symbol end D wholes' rows
   listed_more D keys keys' mk wholes wholes' mw rows ek ew h = record {
     exact = h.exact;
     sorted = h.sorted;
     each = λ a i. (
-      subst (λ k. IsAlternative (seen w ranking r k) front.rule front.dot front.origin symbol end (alternative_of wholes' a)) (sym ek)
-          (subst (λ l. IsAlternative (seen w ranking r (keys ++ mk)) front.rule front.dot front.origin symbol end (alternative_of l a)) (sym ew)
-          (subst (λ b. IsAlternative (seen w ranking r (keys ++ mk)) front.rule front.dot front.origin symbol end b) (sym (alternative_same wholes mw a (h.each a i).1))
-          (alternative_more w ranking r keys mk front.rule front.dot front.origin symbol end (alternative_of wholes a) (h.each a i).0))),
-      subst (λ l. IsLastWithin l a.last) (sym ew) (within_more wholes mw a.last (h.each a i).1),
+      subst (λ k. IsAlternative (seen w ranking r k) predecessor.rule predecessor.dot predecessor.origin symbol end (alternative_of wholes' a)) (sym ek)
+          (subst (λ l. IsAlternative (seen w ranking r (keys ++ mk)) predecessor.rule predecessor.dot predecessor.origin symbol end (alternative_of l a)) (sym ew)
+          (subst (λ b. IsAlternative (seen w ranking r (keys ++ mk)) predecessor.rule predecessor.dot predecessor.origin symbol end b) (sym (alternative_same wholes mw a (h.each a i).1))
+          (alternative_more w ranking r keys mk predecessor.rule predecessor.dot predecessor.origin symbol end (alternative_of wholes a) (h.each a i).0))),
+      subst (λ l. IsCauseWithin l a.cause) (sym ew) (within_more wholes mw a.cause (h.each a i).1),
     );
   }
 
   -- one list behind another
-  pub listed_both : (D D' D'' : ℕ → Type 0) (F : Forest) (wholes : List ℕ) (rows rows' : List AlternativeRow) → AreListed F r high front symbol end D wholes rows → AreListed F r high front symbol end D' wholes rows' →
-      ((m n : ℕ) → D m → D' n → starts_cmp high end m n ≡ Less) → ((m : ℕ) → Contains (set_at r m) front → D'' m ↔ (D m ⊎ D' m)) → AreListed F r high front symbol end D'' wholes (rows ++ rows')
+  pub listed_both : (D D' D'' : ℕ → Type 0) (F : Forest) (wholes : List ℕ) (rows rows' : List AlternativeRow) → AreListed F r high predecessor symbol end D wholes rows → AreListed F r high predecessor symbol end D' wholes rows' →
+      ((m n : ℕ) → D m → D' n → starts_cmp high end m n ≡ Less) → ((m : ℕ) → Contains (set_at r m) predecessor → D'' m ↔ (D m ⊎ D' m)) → AreListed F r high predecessor symbol end D'' wholes (rows ++ rows')
   listed_both D D' D'' F wholes rows rows' h g less iff = record {
     exact = λ m. (
-      λ i. elim (Contains-append_cases (starts rows) (starts rows') m (subst (λ l. Contains l m) (map_both (λ (a : AlternativeRow). a.start) rows rows') i)) [
+      λ i. elim (Contains-append_cases (starts rows) (starts rows') m (subst (λ l. Contains l m) (map-append (λ (a : AlternativeRow). a.start) rows rows') i)) [
         | inl a ↦ let (d, s) = (h.exact m).0 a in ((iff m s).1 (inl d), s)
         | inr b ↦ let (d, s) = (g.exact m).0 b in ((iff m s).1 (inr d), s)
       ],
-      λ (d, s). subst (λ l. Contains l m) (sym (map_both (λ (a : AlternativeRow). a.start) rows rows')) (elim ((iff m s).0 d) [
+      λ (d, s). subst (λ l. Contains l m) (sym (map-append (λ (a : AlternativeRow). a.start) rows rows')) (elim ((iff m s).0 d) [
         | inl a ↦ Contains-append_left (starts rows) (starts rows') m ((h.exact m).1 (a, s))
         | inr b ↦ Contains-append_right (starts rows) (starts rows') m ((g.exact m).1 (b, s))
       ]),
     );
-    sorted = subst (λ l. IsStrictlySortedBy (starts_cmp high end) l) (sym (map_both (λ (a : AlternativeRow). a.start) rows rows'))
+    sorted = subst (λ l. IsStrictlySortedBy (starts_cmp high end) l) (sym (map-append (λ (a : AlternativeRow). a.start) rows rows'))
         (sorted_both (starts_cmp high end) (starts rows) (starts rows') h.sorted g.sorted (λ m n a b. less m n ((h.exact m).0 a).0 ((g.exact n).0 b).0));
     each = λ a i. elim (Contains-append_cases rows rows' a i) [ inl x ↦ h.each a x | inr y ↦ g.each a y ];
   }
 
-module _ (k : Known) (front : Item) (symbol : ℕ) where
-  pub lists_none : (D : ℕ → Type 0) (t : Found) → ((m : ℕ) → D m → Contains (set_at k.recce.now m) front → ⊥) → AreNoted k t → Lists k front symbol D t t
+module _ (k : Known) (predecessor : Item) (symbol : ℕ) where
+  pub lists_none : (D : ℕ → Type 0) (t : Found) → ((m : ℕ) → D m → Contains (set_at k.recce.now m) predecessor → ⊥) → AreNoted k t → Lists k predecessor symbol D t t
   unfolding IsStrictlySortedBy
   lists_none D t never noted = record {
     rows = [];
@@ -196,21 +173,21 @@ module _ (k : Known) (front : Item) (symbol : ℕ) where
     noted = noted;
   }
 
-  pub lists_then : (D D' D'' : ℕ → Type 0) (old mid new : Found) → Lists k front symbol D old mid → Lists k front symbol D' mid new →
-      ((m n : ℕ) → D m → D' n → starts_cmp (is_high k front) k.end m n ≡ Less) → ((m : ℕ) → Contains (set_at k.recce.now m) front → D'' m ↔ (D m ⊎ D' m)) → Lists k front symbol D'' old new
+  pub lists_then : (D D' D'' : ℕ → Type 0) (old mid new : Found) → Lists k predecessor symbol D old mid → Lists k predecessor symbol D' mid new →
+      ((m n : ℕ) → D m → D' n → starts_cmp (is_high k predecessor) k.end m n ≡ Less) → ((m : ℕ) → Contains (set_at k.recce.now m) predecessor → D'' m ↔ (D m ⊎ D' m)) → Lists k predecessor symbol D'' old new
   lists_then D D' D'' old mid new h g less iff = record {
     rows = h.rows ++ g.rows;
-    is = g.is ∙ ap (λ l. l ++ g.rows) h.is ∙ assoc old.alternatives.items h.rows g.rows;
-    listed = listed_both k.written.now k.ranking k.recce.now (is_high k front) front symbol k.end D D' D'' (seen_by k new.keys.keys) new.wholes.items h.rows g.rows
-        (listed_more k.written.now k.ranking k.recce.now (is_high k front) front symbol k.end D mid.keys.keys new.keys.keys (g.keys).0 mid.wholes.items new.wholes.items g.more h.rows (g.keys).1 g.wholes h.listed)
+    is = g.is ∙ ap (λ l. l ++ g.rows) h.is ∙ append_assoc old.alternatives.items h.rows g.rows;
+    listed = listed_both k.written.now k.ranking k.recce.now (is_high k predecessor) predecessor symbol k.end D D' D'' (seen_by k new.keys.keys) new.wholes.items h.rows g.rows
+        (listed_more k.written.now k.ranking k.recce.now (is_high k predecessor) predecessor symbol k.end D mid.keys.keys new.keys.keys (g.keys).0 mid.wholes.items new.wholes.items g.more h.rows (g.keys).1 g.wholes h.listed)
         g.listed less iff;
     keys = grows_then (IsNew k) old.keys.keys mid.keys.keys new.keys.keys h.keys g.keys;
     more = h.more ++ g.more;
-    wholes = g.wholes ∙ ap (λ l. l ++ g.more) h.wholes ∙ assoc old.wholes.items h.more g.more;
+    wholes = g.wholes ∙ ap (λ l. l ++ g.more) h.wholes ∙ append_assoc old.wholes.items h.more g.more;
     noted = g.noted;
   }
 
-  pub lists_same : (D D' : ℕ → Type 0) (old new : Found) → Lists k front symbol D old new → ((m : ℕ) → Contains (set_at k.recce.now m) front → D m ↔ D' m) → Lists k front symbol D' old new
+  pub lists_same : (D D' : ℕ → Type 0) (old new : Found) → Lists k predecessor symbol D old new → ((m : ℕ) → Contains (set_at k.recce.now m) predecessor → D m ↔ D' m) → Lists k predecessor symbol D' old new
   lists_same D D' old new h iff = record {
     rows = h.rows;
     is = h.is;
@@ -229,7 +206,7 @@ module _ (k : Known) (front : Item) (symbol : ℕ) where
 
 pub keys_both : (g : FlatGrammar) (ps qs : List Part) → whole_keys g (ps ++ qs) ≡ whole_keys g ps ++ whole_keys g qs
 keys_both g [] qs = refl
-keys_both g (p ∷ ps) qs = ap (λ l. whole_keys_by g p p.whole ++ l) (keys_both g ps qs) ∙ sym (assoc (whole_keys_by g p p.whole) (whole_keys g ps) (whole_keys g qs))
+keys_both g (p ∷ ps) qs = ap (λ l. whole_keys_by g p p.whole ++ l) (keys_both g ps qs) ∙ sym (append_assoc (whole_keys_by g p p.whole) (whole_keys g ps) (whole_keys g qs))
 
 pub numbers_more : (keys more : List NodeKey) (ns : List ℕ) (of : List NodeKey) → AreNumbers keys ns of → AreNumbers (keys ++ more) ns of
 numbers_more keys more [] [] h = refl
@@ -238,7 +215,7 @@ numbers_more keys more (n ∷ ns) [] h = absurd (cc)
 numbers_more keys more (n ∷ ns) (k ∷ ks) h =
     let a : slice_get keys n ≡ Some k = cc in
     let b : map (slice_get keys) ns ≡ map Some ks = cc in
-    let a' = get_more keys more n k a in
+    let a' = get_left keys more n k a in
     let b' = numbers_more keys more ns ks b in
     λ i. a' i ∷ b' i
 
@@ -248,6 +225,6 @@ wholes_none keys old = ([], sym (append-nil old), refl)
 pub wholes_then : (P : NodeKey → Type 0) (keys keys' of of' : List NodeKey) (old mid new : List ℕ) → GrowsBy P keys keys' → AddsWholes keys of old mid → AddsWholes keys' of' mid new → AddsWholes keys' (of ++ of') old new
 wholes_then P keys keys' of of' old mid new (mk, ek, p) (ns, e, h) (ms, f, g) = (
   ns ++ ms,
-  f ∙ ap (λ l. l ++ ms) e ∙ assoc old ns ms,
-  map_both (slice_get keys') ns ms ∙ (λ i. subst (λ ks. AreNumbers ks ns of) (sym ek) (numbers_more keys mk ns of h) i ++ g i) ∙ sym (map_both Some of of'),
+  f ∙ ap (λ l. l ++ ms) e ∙ append_assoc old ns ms,
+  map-append (slice_get keys') ns ms ∙ (λ i. subst (λ ks. AreNumbers ks ns of) (sym ek) (numbers_more keys mk ns of h) i ++ g i) ∙ sym (map-append Some of of'),
 )

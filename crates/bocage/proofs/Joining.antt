@@ -1,14 +1,18 @@
--- The joins of one item: where the last part may begin.
-use Rattle.std.proofs.Common.{◌≡◌, ℕ, zero, suc, ◌<◌, ◌≤◌, ◌+◌, ◌⊎◌, inl, inr, ◌↔◌, Bool, true, false, ◌==◌, if◌then◌else◌, eq-eqb, Contains, List, [], ◌∷◌, Some, length, take, get_or, slice_get, refl, sym, ◌∙◌, ap, subst, arith}
+-- The joins of one item: where the cause may begin.
+use Rattle.std.proofs.Common.{◌≡◌, ℕ, zero, suc, ◌<◌, ◌≤◌, ◌+◌, ◌⊎◌, inl, inr, ◌↔◌, Bool, true, false, if◌then◌else◌, eq-eqb, Contains, List, [], ◌∷◌, Some, length, take, get_or, slice_get, refl, sym, ◌∙◌, ap, subst, arith}
 use Rattle.std.specs.declared.cmp.Ordering.TheVariants.{Less, Equal, Greater}
 use Rattle.std.specs.Ordering.{ordering_then, nat_cmp}
 use Rattle.std.specs.Cmp.{nat_cmp_is}
-use Rattle.std.proofs.lemmas.Bool.{eqb-true, cases_lt}
+use Rattle.std.proofs.lemmas.Bool.{cases_lt}
+use Rattle.std.proofs.lemmas.List.Elements.{Contains-get_or}
+use Rattle.std.proofs.lemmas.Option.{slice_get-get_or}
+use Rattle.finite_sets.proofs.Clauses.{less_differs}
+use Rattle.finite_sets.proofs.Lists.{taken_at, got_item, got_at}
 use Rattle.recognizer_model.specs.declared.Item.{Item}
 use Rattle.recognizer_model.specs.Flat.{IsNullable}
 use Rattle.recognizer_model.specs.Items.{after}
 use Rattle.earley_sets.specs.Recognizer.{Recognizer, set_at}
-use Rattle.earley_sets.proofs.Membership.{Contains-none, Contains-first, Contains-rest, Contains-cons_cases, got_at, got_item, get_at}
+use Rattle.earley_sets.proofs.Membership.{Contains-first, Contains-rest}
 use Rattle.forest_model.specs.Forest.{starts_cmp, start_place}
 use Rattle.forest_parts.specs.declared.parts.Part.{Part}
 use Rattle.forest_parts.specs.declared.groups.Group.{Group}
@@ -18,25 +22,17 @@ use Rattle.forest_parts.proofs.Spans.{span_of_group, start_of_group, symbol_of_g
 use Rattle.bocage.specs.declared.joins.Join.{Join}
 use Rattle.bocage.specs.declared.walk.Known.{Known}
 use Rattle.bocage.specs.declared.walk.Found.{Found}
-use Rattle.bocage.specs.Joins.{front_of_join}
+use Rattle.bocage.specs.Joins.{predecessor_of_join}
 use Rattle.grammar_model.specs.declared.Ranking.{Ranking}
 use Rattle.grammar_model.specs.Grammar.{Grammar}
 use Rattle.forest_parts.specs.Groups.{IsSpan}
 use Rattle.forest_parts.proofs.InOrder.{rest_less}
-use Rattle.forest_parts.proofs.RowLemmas.{there}
 use Rattle.bocage.specs.Walk.{AreGathered, AreJoinsOf, IsNext, BeginsIn, MayBegin, Lists, Knows, is_high}
 use Rattle.bocage.proofs.JoinOrder.{no_join}
 use Rattle.bocage.proofs.Growing.{lists_then}
 
-not_same : (m n : ℕ) → m < n → (m == n) ≡ false
-not_same m n lt = go (m == n) refl
-  where
-    go : (b : Bool) → (m == n) ≡ b → (m == n) ≡ false
-    go true e = let q = eqb-true m n e in absurd (omega arith)
-    go false e = e
-
 place_inside : (high : Bool) (m end : ℕ) → m < end → start_place high m end ≡ 1
-place_inside high m end lt = ap (λ b. if b then (if high then 0 else 2) else 1) (not_same m end lt)
+place_inside high m end lt = ap (λ b. if b then (if high then 0 else 2) else 1) (less_differs m end lt)
 
 -- the later start is the first
 pub starts_less : (high : Bool) (end m n : ℕ) → n < m → m < end → starts_cmp high end m n ≡ Less
@@ -58,7 +54,7 @@ group_before k knows g h =
     let some = is.some in
     let bound = is.within in
     let p = part_at k.parts.now g.first in
-    let c = there k.parts.now g.first no_part (omega arith) in
+    let c = Contains-get_or k.parts.now g.first no_part (omega arith) in
     let (s, l) = is.each g.first (omega arith) some in
     let long = long_part k knows (part_at k.parts.now g.first) c in
     (part_at k.parts.now g.first, c, s, l, omega arith)
@@ -94,54 +90,46 @@ nat_less a b e = elim (cases_lt a b) [
   ]
 ]
 
-in_take : {X : Type 0} (n : ℕ) (xs : List X) (x : X) → Contains (take n xs) x → (i : ℕ) × (i < n) × (slice_get xs i ≡ Some x)
-in_take zero xs x h = absurd (Contains-none x h)
-in_take (suc n) [] x h = absurd (Contains-none x h)
-in_take (suc n) (y ∷ ys) x h = elim (Contains-cons_cases y (take n ys) x h) [
-  | inl e ↦ (0, omega arith, ap Some e)
-  | inr t ↦ let (i, lt, e) = in_take n ys x t in (suc i, omega arith, e)
-]
-
 take_in : {X : Type 0} (n : ℕ) (xs : List X) (i : ℕ) (x : X) → i < n → slice_get xs i ≡ Some x → Contains (take n xs) x
 take_in zero xs i x lt e = absurd (omega arith)
 take_in (suc n) [] i x lt e = absurd (cc)
 take_in (suc n) (y ∷ ys) zero x lt e = let s : y ≡ x = cc in subst (Contains (y ∷ take n ys)) s (Contains-first y (take n ys))
 take_in (suc n) (y ∷ ys) (suc i) x lt e = Contains-rest y (take n ys) x (take_in n ys i x (omega arith) e)
 
-module _ (k : Known) (knows : Knows k) (front : Item) (symbol : ℕ) (next : IsNext k front symbol) (joins : List Join) (are : AreJoinsOf k front joins) where
+module _ (k : Known) (knows : Knows k) (predecessor : Item) (symbol : ℕ) (next : IsNext k predecessor symbol) (joins : List Join) (are : AreJoinsOf k predecessor joins) where
   -- the group of a join
-  pub group_of_join : (j : Join) → Contains joins j → (g : Group) × (slice_get k.groups.now j.group ≡ Some g) × Contains (set_at k.recce.now g.start) front × (g.symbol ≡ symbol)
+  pub group_of_join : (j : Join) → Contains joins j → (g : Group) × (slice_get k.groups.now j.group ≡ Some g) × Contains (set_at k.recce.now g.start) predecessor × (g.symbol ≡ symbol)
   group_of_join j h =
       let (a, e) = (are.exact j).0 h in
       let (g, at, (in_set, waits, least)) = (knows.gathered.joins.exact j).0 a in
-      let w : after k.recce.now.flat front ≡ Some g.symbol = subst (λ (z : Item). after k.recce.now.flat z ≡ Some g.symbol) e waits in
+      let w : after k.recce.now.flat predecessor ≡ Some g.symbol = subst (λ (z : Item). after k.recce.now.flat z ≡ Some g.symbol) e waits in
       let both : Some g.symbol ≡ Some symbol = sym w ∙ next.part in
       let s : g.symbol ≡ symbol = cc in
       (g, at, subst (λ (z : Item). Contains (set_at k.recce.now g.start) z) e in_set, s)
 
-  same_front : (i j : Join) → Contains joins i → Contains joins j → front_of_join i ≡ front_of_join j
-  same_front i j a b = ((are.exact i).0 a).1 ∙ sym ((are.exact j).0 b).1
+  same_predecessor : (i j : Join) → Contains joins i → Contains joins j → predecessor_of_join i ≡ predecessor_of_join j
+  same_predecessor i j a b = ((are.exact i).0 a).1 ∙ sym ((are.exact j).0 b).1
 
   groups_rise : (i j : ℕ) (d : Join) → i < j → j < length joins → (get_or joins i d).group < (get_or joins j d).group
   groups_rise i j d lt below = nat_less _ _ (
       rest_less (λ (z : Join). z.rule) (λ (z : Join). z.dot) (λ (z : Join). z.origin) (λ (y z : Join). nat_cmp y.group z.group) joins are.sorted
-      (λ p q a b. ap (λ (z : Item). z.rule) (same_front p q a b)) (λ p q a b. ap (λ (z : Item). z.dot) (same_front p q a b)) i j d lt below
-      (ap (λ (z : Item). z.origin) (same_front (get_or joins i d) (get_or joins j d) (there joins i d (omega arith)) (there joins j d below)))
+      (λ p q a b. ap (λ (z : Item). z.rule) (same_predecessor p q a b)) (λ p q a b. ap (λ (z : Item). z.dot) (same_predecessor p q a b)) i j d lt below
+      (ap (λ (z : Item). z.origin) (same_predecessor (get_or joins i d) (get_or joins j d) (Contains-get_or joins i d (omega arith)) (Contains-get_or joins j d below)))
       )
 
   -- one join more
-  pub lists_next : (n : ℕ) (lt : n < length joins) (g : Group) → slice_get k.groups.now (get_or joins n no_join).group ≡ Some g → (old mid new : Found) → Lists k front symbol (BeginsIn k (take n joins)) old mid →
-      Lists k front g.symbol (λ m. m ≡ g.start) mid new → Lists k front symbol (BeginsIn k (take (n + 1) joins)) old new
+  pub lists_next : (n : ℕ) (lt : n < length joins) (g : Group) → slice_get k.groups.now (get_or joins n no_join).group ≡ Some g → (old mid new : Found) → Lists k predecessor symbol (BeginsIn k (take n joins)) old mid →
+      Lists k predecessor g.symbol (λ m. m ≡ g.start) mid new → Lists k predecessor symbol (BeginsIn k (take (n + 1) joins)) old new
   lists_next n lt g at old mid new a b =
-      let (g', at', in_set, s) = group_of_join (get_or joins n no_join) (there joins n no_join lt) in
+      let (g', at', in_set, s) = group_of_join (get_or joins n no_join) (Contains-get_or joins n no_join lt) in
       let one : Some g ≡ Some g' = sym at ∙ at' in
       let same : g ≡ g' = cc in
       let symbol_is : g.symbol ≡ symbol = ap (λ (z : Group). z.symbol) same ∙ s in
-      lists_then k front symbol (BeginsIn k (take n joins)) (λ m. m ≡ g.start) (BeginsIn k (take (n + 1) joins)) old mid new a (subst (λ x. Lists k front x (λ m. m ≡ g.start) mid new) symbol_is b) (less symbol_is) (λ m h. (to m, from m))
+      lists_then k predecessor symbol (BeginsIn k (take n joins)) (λ m. m ≡ g.start) (BeginsIn k (take (n + 1) joins)) old mid new a (subst (λ x. Lists k predecessor x (λ m. m ≡ g.start) mid new) symbol_is b) (less symbol_is) (λ m h. (to m, from m))
     where
-      less : g.symbol ≡ symbol → (m q : ℕ) → BeginsIn k (take n joins) m → q ≡ g.start → starts_cmp (is_high k front) k.end m q ≡ Less
+      less : g.symbol ≡ symbol → (m q : ℕ) → BeginsIn k (take n joins) m → q ≡ g.start → starts_cmp (is_high k predecessor) k.end m q ≡ Less
       less symbol_is m q (j, h, i, held, begins) e =
-          let (p, before, found) = in_take n joins j i in
+          let (p, before, found) = taken_at n joins j i in
           let (l, same) = got_at joins p j no_join (sym found) in
           let c = got_item joins p j (sym found) in
           let (h', held', in_set, s) = group_of_join j c in
@@ -151,11 +139,11 @@ module _ (k : Known) (knows : Knows k) (front : Item) (symbol : ℕ) (next : IsN
           let r = ap (λ (z : Join). z.group) same in
           let order = knows.gathered.groups.order j.group (get_or joins n no_join).group h g (omega arith) held at (ap (λ (z : Group). z.symbol) q' ∙ s ∙ sym symbol_is) in
           let (first, there', s', l', early) = group_before k knows h (got_item k.groups.now j.group h (sym held)) in
-          starts_less (is_high k front) k.end m q (omega arith) (omega arith)
+          starts_less (is_high k predecessor) k.end m q (omega arith) (omega arith)
 
       to : (m : ℕ) → BeginsIn k (take (n + 1) joins) m → BeginsIn k (take n joins) m ⊎ (m ≡ g.start)
       to m (j, h, i, held, begins) =
-          let (p, before, found) = in_take (n + 1) joins j i in
+          let (p, before, found) = taken_at (n + 1) joins j i in
           elim (cases_lt p n) [
             | inl l ↦ inl (j, h, take_in n joins p j l found, held, begins)
             | inr ge ↦
@@ -167,13 +155,13 @@ module _ (k : Known) (knows : Knows k) (front : Item) (symbol : ℕ) (next : IsN
           ]
 
       from : (m : ℕ) → BeginsIn k (take n joins) m ⊎ (m ≡ g.start) → BeginsIn k (take (n + 1) joins) m
-      from m (inl (j, h, i, held, begins)) = let (p, before, found) = in_take n joins j i in (j, h, take_in (n + 1) joins p j (omega arith) found, held, begins)
-      from m (inr e) = (get_or joins n no_join, g, take_in (n + 1) joins n (get_or joins n no_join) (omega arith) (get_at joins n no_join lt), at, e)
+      from m (inl (j, h, i, held, begins)) = let (p, before, found) = taken_at n joins j i in (j, h, take_in (n + 1) joins p j (omega arith) found, held, begins)
+      from m (inr e) = (get_or joins n no_join, g, take_in (n + 1) joins n (get_or joins n no_join) (omega arith) (slice_get-get_or joins n no_join lt), at, e)
 
   -- NOTHING, AND THE JOINS
 
-  -- behind the front there may begin nothing, or what one of the joins has
-  pub may_begin : (m : ℕ) → Contains (set_at k.recce.now m) front → MayBegin k symbol m ↔ (((m ≡ k.end) × IsNullable k.recce.now.flat symbol) ⊎ BeginsIn k joins m)
+  -- behind the predecessor Contains-get_or may begin nothing, or what one of the joins has
+  pub may_begin : (m : ℕ) → Contains (set_at k.recce.now m) predecessor → MayBegin k symbol m ↔ (((m ≡ k.end) × IsNullable k.recce.now.flat symbol) ⊎ BeginsIn k joins m)
   may_begin m at = (to, from)
     where
       to : MayBegin k symbol m → ((m ≡ k.end) × IsNullable k.recce.now.flat symbol) ⊎ BeginsIn k joins m
@@ -181,10 +169,10 @@ module _ (k : Known) (knows : Knows k) (front : Item) (symbol : ℕ) (next : IsN
       to (inr (p, all, s, sum)) =
           let (n, g, held, gs, gl) = knows.gathered.groups.all p all in
           let here : m ≡ g.start = omega arith in
-          let join : Join = record { rule = front.rule; dot = front.dot; origin = front.origin; group = n } in
-          let in_all : Contains k.joins.now (record { rule = front.rule; dot = front.dot; origin = front.origin; group = n }) =
-          (knows.gathered.joins.exact _).1 (g, held, (subst (λ z. Contains (set_at k.recce.now z) front) here at, next.part ∙ ap Some (sym (gs ∙ s)), next.least)) in
-          inr (record { rule = front.rule; dot = front.dot; origin = front.origin; group = n }, g, (are.exact _).1 (in_all, refl), held, here)
+          let join : Join = record { rule = predecessor.rule; dot = predecessor.dot; origin = predecessor.origin; group = n } in
+          let in_all : Contains k.joins.now (record { rule = predecessor.rule; dot = predecessor.dot; origin = predecessor.origin; group = n }) =
+          (knows.gathered.joins.exact _).1 (g, held, (subst (λ z. Contains (set_at k.recce.now z) predecessor) here at, next.part ∙ ap Some (sym (gs ∙ s)), next.least)) in
+          inr (record { rule = predecessor.rule; dot = predecessor.dot; origin = predecessor.origin; group = n }, g, (are.exact _).1 (in_all, refl), held, here)
 
       from : ((m ≡ k.end) × IsNullable k.recce.now.flat symbol) ⊎ BeginsIn k joins m → MayBegin k symbol m
       from (inl n) = inl n

@@ -1,7 +1,8 @@
 -- Nodes by their numbers.
 use Rattle.std.proofs.Common.{◌≡◌, ℕ, zero, suc, ◌<◌, ◌≤◌, List, [], ◌∷◌, Some, length, map, get_or, slice_get, refl, sym, ap, arith}
+use Rattle.std.proofs.lemmas.Option.{slice_get-get_or}
+use Rattle.finite_sets.proofs.Lists.{got_at}
 use Rattle.recognizer_model.specs.declared.NodeKey.{NodeKey}
-use Rattle.earley_sets.proofs.Membership.{get_at, got_at}
 use Rattle.forest_model.specs.Forest.{ForestNode}
 use Rattle.bocage.specs.declared.rows.AlternativeRow.{AlternativeRow}
 use Rattle.bocage.specs.Rows.{alternative_of, nodes_of, IsTable}
@@ -45,7 +46,7 @@ module _ (wholes : List ℕ) (keys : List NodeKey) (table : List (List Alternati
   key_told n key d a =
       let (lt, e) = got_at keys n key key (sym a) in
       let long = is.long in
-      ap (λ (z : ForestNode). z.key) (node_told wholes keys table n key (get_or table n []) d a (get_at table n [] (omega arith)))
+      ap (λ (z : ForestNode). z.key) (node_told wholes keys table n key (get_or table n []) d a (slice_get-get_or table n [] (omega arith)))
 
   pub rows_told : (n : ℕ) (rows : List AlternativeRow) (d : ForestNode) → n < length keys → slice_get table n ≡ Some rows → (get_or (nodes_of wholes keys table) n d).alternatives ≡ map (alternative_of wholes) rows
-  rows_told n rows d lt b = ap (λ (z : ForestNode). z.alternatives) (node_told wholes keys table n _ rows d (get_at keys n (record { rule = 0; dot = 0; origin = 0; end = 0 }) lt) b)
+  rows_told n rows d lt b = ap (λ (z : ForestNode). z.alternatives) (node_told wholes keys table n _ rows d (slice_get-get_or keys n (record { rule = 0; dot = 0; origin = 0; end = 0 }) lt) b)

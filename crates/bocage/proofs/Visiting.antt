@@ -5,9 +5,8 @@ use Rattle.std.proofs.lemmas.List.Elements.{Contains-push_cases}
 use Rattle.grammar_model.specs.declared.Ranking.{Ranking}
 use Rattle.grammar_model.specs.Grammar.{Grammar}
 use Rattle.recognizer_model.specs.declared.NodeKey.{NodeKey}
-use Rattle.earley_sets.specs.Recognizer.{Recognizer, place_of}
-use Rattle.earley_sets.proofs.Membership.{Contains-none, got_at, got_item, found_at}
-use Rattle.forest_parts.proofs.RowLemmas.{one_more_taken, get_more}
+use Rattle.earley_sets.specs.Recognizer.{Recognizer, earleme_of}
+use Rattle.earley_sets.proofs.Membership.{found_at}
 use Rattle.bocage.specs.declared.rows.AlternativeRow.{AlternativeRow}
 use Rattle.bocage.specs.declared.walk.Known.{Known}
 use Rattle.bocage.specs.declared.walk.Found.{Found}
@@ -15,10 +14,12 @@ use Rattle.bocage.specs.Walk.{IsRead, Knows, IsUsedIn, IsNew, AreNoted, GrowsBy,
 use Rattle.bocage.specs.Chains.{EndsAt}
 use Rattle.bocage.specs.Ends.{SetsRow, HasRow, Goes, Visits, IsReady, IsGoing, AreVisited}
 use Rattle.std.proofs.Math.ListN.{set}
-use Rattle.forest_parts.proofs.Spans.{last_is}
-use Rattle.bocage.proofs.Growing.{map_both, grows_none, grows_then}
+use Rattle.std.proofs.lemmas.List.{map-append, length-map, take_more, nil_from_length, map-set}
+use Rattle.std.proofs.lemmas.Option.{slice_get_within}
+use Rattle.finite_sets.proofs.Lists.{Contains-none, get_left, get_last, get_none, got_item}
+use Rattle.bocage.proofs.Growing.{grows_none, grows_then}
 use Rattle.bocage.proofs.Finishing.{key_law}
-use Rattle.bocage.proofs.Moving.{row_stays, past_end}
+use Rattle.bocage.proofs.Moving.{row_stays}
 
 get_below : {X : Type 0} (xs ys : List X) (n : ℕ) (x : X) → slice_get (xs ++ ys) n ≡ Some x → n < length xs → slice_get xs n ≡ Some x
 get_below [] ys n x e lt = absurd (omega arith)
@@ -29,13 +30,6 @@ get_behind : {X : Type 0} (xs ys : List X) (n : ℕ) (x : X) → slice_get (xs +
 get_behind [] ys n x e le = got_item ys n x (sym e)
 get_behind (z ∷ zs) ys zero x e le = absurd (omega arith)
 get_behind (z ∷ zs) ys (suc n) x e le = get_behind zs ys n x e (omega arith)
-
-within : {X : Type 0} (xs : List X) (n : ℕ) (x : X) → slice_get xs n ≡ Some x → n < length xs
-within xs n x e = (got_at xs n x x (sym e)).0
-
-pub none_of : {X : Type 0} (xs : List X) → length xs ≡ 0 → xs ≡ []
-none_of [] e = refl
-none_of (x ∷ xs) e = absurd (omega arith)
 
 -- ROWS THAT ARE SET
 
@@ -51,33 +45,20 @@ set_other (z ∷ ys) zero (suc m) b y ne e = e
 set_other (z ∷ ys) (suc n) zero b y ne e = e
 set_other (z ∷ ys) (suc n) (suc m) b y ne e = set_other ys n m b y (λ q. ne (ap suc q)) e
 
-map_set : {X Y : Type 0} (f : X → Y) (xs : List X) (n : ℕ) (a : X) → map f (set xs n a) ≡ set (map f xs) n (f a)
-map_set f [] n a = refl
-map_set f (x ∷ xs) zero a = refl
-map_set f (x ∷ xs) (suc n) a = ap (λ l. f x ∷ l) (map_set f xs n a)
-
-length_mapped : {X Y : Type 0} (f : X → Y) (xs : List X) → length (map f xs) ≡ length xs
-length_mapped f [] = refl
-length_mapped f (x ∷ xs) = ap suc (length_mapped f xs)
-
-pub push_long : {X : Type 0} (xs : List X) (x : X) → length (xs ++ x ∷ []) ≡ length xs + 1
-push_long [] x = omega arith
-push_long (y ∷ ys) x = let l = push_long ys x in omega arith
-
 module _ {X : Type 0} (f : X → List AlternativeRow) (old : List (List AlternativeRow)) (xs : List X) (same : (m : ℕ) (held : List AlternativeRow) → slice_get old m ≡ Some held → slice_get (map f xs) m ≡ Some held) where
   pub more_pushed : (x : X) (m : ℕ) (held : List AlternativeRow) → slice_get old m ≡ Some held → slice_get (map f (xs ++ x ∷ [])) m ≡ Some held
-  more_pushed x m held e = subst (λ l. slice_get l m ≡ Some held) (sym (map_both f xs (x ∷ []))) (get_more (map f xs) (f x ∷ []) m held (same m held e))
+  more_pushed x m held e = subst (λ l. slice_get l m ≡ Some held) (sym (map-append f xs (x ∷ []))) (get_left (map f xs) (f x ∷ []) m held (same m held e))
 
   pub sets_pushed : (x : X) (n : ℕ) → n ≡ length xs → SetsRow old (map f (xs ++ x ∷ [])) n (f x)
   sets_pushed x n e = record {
     same = λ m held ne h. more_pushed x m held h;
-    sets = subst (λ k. slice_get (map f (xs ++ x ∷ [])) k ≡ Some (f x)) (length_mapped f xs ∙ sym e) (subst (λ l. slice_get l (length (map f xs)) ≡ Some (f x)) (sym (map_both f xs (x ∷ []))) (last_is (map f xs) (f x)));
+    sets = subst (λ k. slice_get (map f (xs ++ x ∷ [])) k ≡ Some (f x)) (length-map xs f ∙ sym e) (subst (λ l. slice_get l (length (map f xs)) ≡ Some (f x)) (sym (map-append f xs (x ∷ []))) (get_last (map f xs) (f x)));
   }
 
   pub sets_there : (x : X) (n : ℕ) → n < length xs → SetsRow old (map f (set xs n x)) n (f x)
   sets_there x n lt = record {
-    same = λ m held ne h. subst (λ l. slice_get l m ≡ Some held) (sym (map_set f xs n x)) (set_other (map f xs) n m (f x) held ne (same m held h));
-    sets = (let l = length_mapped f xs in subst (λ l. slice_get l n ≡ Some (f x)) (sym (map_set f xs n x)) (set_same (map f xs) n (f x) (omega arith)));
+    same = λ m held ne h. subst (λ l. slice_get l m ≡ Some held) (sym (map-set f xs n x)) (set_other (map f xs) n m (f x) held ne (same m held h));
+    sets = (let l = length-map xs f in subst (λ l. slice_get l n ≡ Some (f x)) (sym (map-set f xs n x)) (set_same (map f xs) n (f x) (omega arith)));
   }
 
 -- of what has grown, a number is an old one's, or that of one that was added
@@ -87,7 +68,7 @@ by_age P old new (more, e, p) n key at =
     elim (cases_lt n (length old)) [ inl lt ↦ inl (get_below old more n key at' lt) | inr ge ↦ inr (p key (get_behind old more n key at' ge)) ]
 
 pub still_at : (P : NodeKey → Type 0) (old new : List NodeKey) → GrowsBy P old new → (n : ℕ) (key : NodeKey) → slice_get old n ≡ Some key → slice_get new n ≡ Some key
-still_at P old new (more, e, p) n key at = subst (λ l. slice_get l n ≡ Some key) (sym e) (get_more old more n key at)
+still_at P old new (more, e, p) n key at = subst (λ l. slice_get l n ≡ Some key) (sym e) (get_left old more n key at)
 
 pub still_there : (P : NodeKey → Type 0) (old new : List NodeKey) → GrowsBy P old new → (key : NodeKey) → Contains old key → Contains new key
 still_there P old new g key h = let (n, at) = found_at old key h in got_item new n key (sym (still_at P old new g n key at))
@@ -173,7 +154,7 @@ module _ (k : Known) where
     goes_then old mid new t u v goes visit.goes,
     λ n key h at. (
         let at' = still_at (IsNew k) old.keys.keys mid.keys.keys goes.keys n key at in
-        elim (Contains-push_cases (take i nodes) (get_or nodes i 0) n (subst (λ l. Contains l n) (one_more_taken nodes i 0 lt) h)) [
+        elim (Contains-push_cases (take i nodes) (get_or nodes i 0) n (subst (λ l. Contains l n) (take_more nodes i 0 lt) h)) [
           | inl a ↦ visit.goes.keeps n key at' (have n key a at)
           | inr e ↦ subst (λ n. HasRow k.written.now k.ranking k.recce.now new.keys.keys new.wholes.items v n key) e (visit.has key (subst (λ z. slice_get mid.keys.keys z ≡ Some key) (sym e) at'))
         ]
@@ -185,7 +166,7 @@ module _ (k : Known) where
       (here.end ≡ k.end → HasRow k.written.now k.ranking k.recce.now new.keys.keys new.wholes.items v m here) → ((n : ℕ) (key : NodeKey) → first ≤ n → n < m → slice_get mid.keys.keys n ≡ Some key → key.end ≡ k.end → HasRow k.written.now k.ranking k.recce.now mid.keys.keys mid.wholes.items u n key) →
       (n : ℕ) (key : NodeKey) → first ≤ n → n < m + 1 → slice_get new.keys.keys n ≡ Some key → key.end ≡ k.end → HasRow k.written.now k.ranking k.recce.now new.keys.keys new.wholes.items v n key
   new_more first m here mid new u v held goes has have n key le lt at end =
-      let below = within mid.keys.keys m here held in
+      let below = slice_get_within mid.keys.keys m here held in
       let at' = was_at (IsNew k) mid.keys.keys new.keys.keys goes.keys n key (omega arith) at in
       elim (cases_lt n m) [
         | inl before ↦ goes.keeps n key at' (have n key le before at' end)
@@ -209,8 +190,8 @@ module _ (k : Known) where
       ((n : ℕ) (key : NodeKey) → first ≤ n → n < m → slice_get f.keys.keys n ≡ Some key → key.end ≡ k.end → HasRow k.written.now k.ranking k.recce.now f.keys.keys f.wholes.items u n key) →
       (n : ℕ) (key : NodeKey) → first ≤ n → slice_get f.keys.keys n ≡ Some key → key.end ≡ k.end → HasRow k.written.now k.ranking k.recce.now f.keys.keys f.wholes.items u n key
   new_all first m f u none have n key le at end =
-      let lt = within f.keys.keys n key at in
-      let past = past_end f.keys.keys m none in
+      let lt = slice_get_within f.keys.keys n key at in
+      let past = get_none f.keys.keys m none in
       have n key le (omega arith) at end
 
 -- AFTER ONE END
@@ -251,7 +232,7 @@ module _ (k : Known) (knows : Knows k) (first : ℕ) (nodes : List ℕ) (old mid
       ]
 
 -- a node from the first number on is ready where it ends here
-pub new_ready : (k : Known) (first : ℕ) (old mid : Found) (t u : List (List AlternativeRow)) → IsGoing k.written.now k.ranking k.recce.now k.end first old t → Goes k old mid t u → (k.end ≡ place_of k.recce.now → k.least ≡ 0) →
+pub new_ready : (k : Known) (first : ℕ) (old mid : Found) (t u : List (List AlternativeRow)) → IsGoing k.written.now k.ranking k.recce.now k.end first old t → Goes k old mid t u → (k.end ≡ earleme_of k.recce.now → k.least ≡ 0) →
     (n : ℕ) (key : NodeKey) → first ≤ n → slice_get mid.keys.keys n ≡ Some key → key.end ≡ k.end → IsReady k mid.keys.keys n
 new_ready k first old mid t u going goes whole n key le at end = record {
   key = key;
@@ -271,7 +252,7 @@ listed_ready k first old t nodes going listed least n h =
 
 module _ (w : Grammar) (ranking : Ranking) (r : Recognizer) where
   -- at the last place
-  pub going_first : (f : Found) (table : List (List AlternativeRow)) → ((key : NodeKey) → Contains f.keys.keys key → IsUsedIn w ranking r key × (key.end ≡ place_of r)) → (0 < place_of r → Contains f.keys.keys (top_key r)) → IsGoing w ranking r (place_of r) 0 f table
+  pub going_first : (f : Found) (table : List (List AlternativeRow)) → ((key : NodeKey) → Contains f.keys.keys key → IsUsedIn w ranking r key × (key.end ≡ earleme_of r)) → (0 < earleme_of r → Contains f.keys.keys (top_key r)) → IsGoing w ranking r (earleme_of r) 0 f table
   going_first f table h top = record {
     few = omega arith;
     visited = λ n key at lt. (let e = (h key (got_item f.keys.keys n key (sym at))).1 in absurd (omega arith));
@@ -288,12 +269,12 @@ module _ (w : Grammar) (ranking : Ranking) (r : Recognizer) where
     visited = λ n key at lt. h.visited n key at (omega arith);
     used = h.used;
     waits = λ n key at e le. h.waits n key at (omega arith);
-    begun = λ n key at le e. (let lt = within f.keys.keys n key at in absurd (omega arith));
+    begun = λ n key at le e. (let lt = slice_get_within f.keys.keys n key at in absurd (omega arith));
     top = h.top;
   }
 
   -- where no node ends there is nothing to visit
-  pub none_visited : IsRead w r → (end first : ℕ) (f : Found) (table : List (List AlternativeRow)) (nodes : List ℕ) → IsGoing w ranking r end first f table → length nodes ≡ 0 → (end ≢ place_of r) →
+  pub none_visited : IsRead w r → (end first : ℕ) (f : Found) (table : List (List AlternativeRow)) (nodes : List ℕ) → IsGoing w ranking r end first f table → length nodes ≡ 0 → (end ≢ earleme_of r) →
       ((n : ℕ) → Contains nodes n ↔ ((n < first) × EndsAt f.keys.keys end n)) → AreVisited w ranking r end f table
   none_visited read end first f table nodes going empty inner listed = record {
     visited = λ n key at le. elim (cases_lt end key.end) [
@@ -301,7 +282,7 @@ module _ (w : Grammar) (ranking : Ranking) (r : Recognizer) where
       | inr ge ↦
           let same : key.end ≡ end = omega arith in
           elim (cases_lt n first) [
-            | inl lt ↦ absurd (Contains-none n (subst (λ l. Contains l n) (none_of nodes empty) ((listed n).1 (lt, (key, at, same)))))
+            | inl lt ↦ absurd (Contains-none n (subst (λ l. Contains l n) (nil_from_length nodes empty) ((listed n).1 (lt, (key, at, same)))))
             | inr after ↦ absurd (inner (going.begun n key at after same))
           ]
     ];

@@ -1,6 +1,5 @@
 -- Parts over one span: an edge, or the whole rules of a symbol.
-use Rattle.std.proofs.Common.{◌≡◌, ℕ, zero, suc, ◌<◌, ◌≤◌, ◌+◌, ◌-◌, ◌++◌, inl, inr, Contains, List, [], ◌∷◌, Option, Some, None, length, map, take, drop, slice_get, refl, sym, ◌∙◌, ap, subst, arith, ℤ, ◌≤ℤ◌}
-use Rattle.std.proofs.lemmas.Int.{ints}
+use Rattle.std.proofs.Common.{◌≡◌, ℕ, zero, suc, ◌<◌, ◌≤◌, ◌+◌, ◌-◌, ◌++◌, inl, inr, Contains, List, [], ◌∷◌, Option, Some, None, length, map, take, drop, slice_get, refl, sym, ◌∙◌, ap, subst, arith, ◌≤ℤ◌}
 use Rattle.std.specs.declared.cmp.Ordering.{Ordering}
 use Rattle.std.specs.declared.cmp.Ordering.TheVariants.{Less, Equal, Greater}
 use Rattle.std.specs.Ordering.{ordering_then, nat_cmp, int_cmp, bool_cmp}
@@ -8,7 +7,11 @@ use Rattle.std.specs.Option.{option_cmp}
 use Rattle.std.specs.Cmp.{nat_cmp_is}
 use Rattle.std.specs.List.{AllByRecursion}
 use Rattle.std.specs.List.Sorted.{IsStrictlySortedBy}
-use Rattle.std.proofs.lemmas.List.Elements.{at_from_Contains, Contains-append_right}
+use Rattle.std.proofs.lemmas.List.Elements.{at_from_Contains, Contains-append_right, Contains-get_or}
+use Rattle.std.proofs.Math.Seq.{take-length, drop-append_seam}
+use Rattle.std.proofs.lemmas.List.{length-map, length-append}
+use Rattle.finite_sets.proofs.Deciding.{most_twice}
+use Rattle.finite_sets.proofs.Lists.{Contains-none, get_left}
 use Rattle.grammar_model.specs.declared.Edge.{Edge as HeldEdge}
 use Rattle.grammar_model.specs.Trees.{Tree, Children, Leaf, Node}
 use Rattle.recognizer_model.specs.declared.Item.{Item}
@@ -19,25 +22,24 @@ use Rattle.recognizer_model.specs.FlatDerives.{Derives, Token, Rule, Spans}
 use Rattle.recognizer_model.specs.Contexts.{IsFound, Next}
 use Rattle.earley_sets.specs.Recognizer.{set_at, edges_of, top_of}
 use Rattle.recognizer_model.specs.Items.{InSet}
-use Rattle.earley_sets.proofs.Membership.{Contains-none, Contains-first, Contains-rest, Contains-cons_cases}
-use Rattle.forest_model.specs.Forest.{AreWholes, IsWholeOver, IsLast, whole_key, rules_cmp}
+use Rattle.earley_sets.proofs.Membership.{Contains-first, Contains-rest, Contains-cons_cases}
+use Rattle.forest_model.specs.Forest.{AreWholes, IsWholeOver, IsCause, whole_key, rules_cmp}
 use Rattle.forest_parts.specs.declared.parts.RuleKey.{RuleKey}
 use Rattle.forest_parts.specs.declared.parts.Part.{Part}
 use Rattle.forest_parts.specs.Lists.{between}
 use Rattle.forest_parts.specs.Parts.{part_cmp, key_cmp, part_at, no_part, rule_key_of, IsPart, IsPartAt, IsWholeOf}
-use Rattle.bocage.specs.declared.rows.LastRow.{LastRow}
-use Rattle.bocage.specs.declared.rows.LastRow.TheVariants as row
+use Rattle.bocage.specs.declared.rows.CauseRow.{CauseRow}
+use Rattle.bocage.specs.declared.rows.CauseRow.TheVariants as row
 use Rattle.bocage.specs.declared.walk.Known.{Known}
-use Rattle.bocage.specs.Rows.{last_of, IsLastWithin}
+use Rattle.bocage.specs.Rows.{cause_of, IsCauseWithin}
 use Rattle.recognizer_model.specs.Chosen.{flat_rank, allowed_by}
 use Rattle.forest_parts.specs.Groups.{rank_in, IsSpan}
 use Rattle.forest_parts.proofs.Ranks.{kept_allowed, allowed_kept}
 use Rattle.forest_parts.proofs.InOrder.{then_rest}
-use Rattle.forest_parts.proofs.RowLemmas.{there, get_more}
 use Rattle.forest_parts.proofs.Sets.{in_full}
-use Rattle.bocage.specs.Walk.{seen_by, IsUsedIn, node_of_item, node_after, whole_keys, whole_keys_by, AreNumbers, IsLastHeld, AreNoted, IsNew, IsNext, Knows, Lists, GrowsBy, IsFrontFound, FitsPart, HasRule}
+use Rattle.bocage.specs.Walk.{seen_by, IsUsedIn, node_of_item, node_after, whole_keys, whole_keys_by, AreNumbers, IsCauseHeld, AreNoted, IsNew, IsNext, Knows, Lists, GrowsBy, IsPredecessorFound, FitsPart, HasRule}
 use Rattle.bocage.specs.declared.walk.Found.{Found}
-use Rattle.bocage.proofs.Putting.{found_front, whole_used, front_new, put_one}
+use Rattle.bocage.proofs.Putting.{found_predecessor, whole_used, prefix_new, put_one}
 use Rattle.bocage.proofs.Growing.{node_seen, grows_then, grows_weaker}
 use Rattle.bocage.proofs.Splits.{used_met, met_stands, read_of}
 
@@ -66,9 +68,6 @@ keys_compare k keys r s same =
     (ap (ordering_then (int_cmp (b.rank).0 (a.rank).0)) (sym (then_assoc (nat_cmp a.source b.source) (bool_cmp a.trailing b.trailing) (nat_cmp r s)))
     ∙ sym (then_assoc (int_cmp (b.rank).0 (a.rank).0) (ordering_then (nat_cmp a.source b.source) (bool_cmp a.trailing b.trailing)) (nat_cmp r s)))
     ∙ ap (λ o. ordering_then o (ordering_then (nat_cmp (b.length).0 (a.length).0) (ordering_then (ordering_then (int_cmp (b.rank).0 (a.rank).0) (ordering_then (nat_cmp a.source b.source) (bool_cmp a.trailing b.trailing))) (nat_cmp r s)))) e
-
-both_ways : (x y : ℤ) → x ≤ℤ y → y ≤ℤ x → x ≡ y
-both_ways x y a b = omega (arith, ints)
 
 -- a part over the span that is a rule of the symbol, whole at the end
 pub record IsTidy (k : Known) (symbol m end length' : ℕ) (p : Part) : Type 0 where
@@ -146,10 +145,10 @@ from_keys g (p ∷ ps) n h = go p.whole refl h (λ i. from_keys g ps n i)
       | inr j ↦ let (q, l, r) = rest j in (q, Contains-rest p ps q l, r)
     ]
 
--- what was found of the front stays so
-front_stays : (keys keys' more : List NodeKey) → keys' ≡ keys ++ more → (front : Item) (m : ℕ) (o : Option ℕ) → IsFrontFound keys front m o → IsFrontFound keys' front m o
-front_stays keys keys' more e front m None h = h
-front_stays keys keys' more e front m (Some n) (lt, h) = (lt, subst (λ l. slice_get l n ≡ Some (node_of_item front m)) (sym e) (get_more keys more n (node_of_item front m) h))
+-- what was found of the predecessor stays so
+predecessor_stays : (keys keys' more : List NodeKey) → keys' ≡ keys ++ more → (predecessor : Item) (m : ℕ) (o : Option ℕ) → IsPredecessorFound keys predecessor m o → IsPredecessorFound keys' predecessor m o
+predecessor_stays keys keys' more e predecessor m None h = h
+predecessor_stays keys keys' more e predecessor m (Some n) (lt, h) = (lt, subst (λ l. slice_get l n ≡ Some (node_of_item predecessor m)) (sym e) (get_left keys more n (node_of_item predecessor m) h))
 
 -- a part lies where it can
 pub fits_part : (k : Known) → Knows k → (p : Part) → Contains k.parts.now p → FitsPart k.recce.now.flat p
@@ -162,11 +161,7 @@ fits_part k knows p h = go ((knows.gathered.parts p).0 h).0
         let e = is.end in
         (omega arith, subst (λ o. HasRule k.recce.now.flat o) (sym is.whole) ((in_full k.recce.now knows.is place item).0 i).is_rule)
 
-length_map : {X Y : Type 0} (f : X → Y) (xs : List X) → length (map f xs) ≡ length xs
-length_map f [] = refl
-length_map f (x ∷ xs) = ap suc (length_map f xs)
-
--- a number at a place is that of the key there
+-- a number at a place is that of the key Contains-get_or
 number_at : (keys : List NodeKey) (ns : List ℕ) (f : ℕ → NodeKey) (rs : List ℕ) → AreNumbers keys ns (map f rs) → (i n r : ℕ) → slice_get ns i ≡ Some n → slice_get rs i ≡ Some r → slice_get keys n ≡ Some (f r)
 number_at keys [] f rs h i n r a b = absurd (cc)
 number_at keys (m ∷ ns) f [] h i n r a b = absurd (cc)
@@ -179,28 +174,16 @@ number_at keys (m ∷ ns) f (s ∷ rs) h (suc i) n r a b =
     let x : map (slice_get keys) ns ≡ map Some (map f rs) = cc in
     number_at keys ns f rs x i n r a b
 
-drop_all : {X : Type 0} (xs ys : List X) → drop (length xs) (xs ++ ys) ≡ ys
-drop_all [] ys = refl
-drop_all (x ∷ xs) ys = drop_all xs ys
-
-pub take_all : {X : Type 0} (xs : List X) → take (length xs) xs ≡ xs
-take_all [] = refl
-take_all (x ∷ xs) = ap (λ l. x ∷ l) (take_all xs)
-
-pub length_both : {X : Type 0} (xs ys : List X) → length (xs ++ ys) ≡ length xs + length ys
-length_both [] ys = omega arith
-length_both (x ∷ xs) ys = let l = length_both xs ys in omega arith
-
 pub between_all : {X : Type 0} (xs ys : List X) → between (length xs) (length (xs ++ ys)) (xs ++ ys) ≡ ys
 between_all xs ys =
-    let l = length_both xs ys in
+    let l = length-append xs ys in
     let e : length (xs ++ ys) - length xs ≡ length ys = omega arith in
-    ap (λ n. take n (drop (length xs) (xs ++ ys))) e ∙ ap (take (length ys)) (drop_all xs ys) ∙ take_all ys
+    ap (λ n. take n (drop (length xs) (xs ++ ys))) e ∙ ap (take (length ys)) (drop-append_seam xs ys) ∙ take-length ys
 
-module _ (k : Known) (knows : Knows k) (front : Item) (parts : List Part) (span : IsSpan k.ranking k.parts.now parts) (m : ℕ) (sum : m + (part_at parts 0).length ≡ k.end)
-    (next : IsNext k front (part_at parts 0).symbol) where
+module _ (k : Known) (knows : Knows k) (predecessor : Item) (parts : List Part) (span : IsSpan k.ranking k.parts.now parts) (m : ℕ) (sum : m + (part_at parts 0).length ≡ k.end)
+    (next : IsNext k predecessor (part_at parts 0).symbol) where
   first_there : Contains parts (part_at parts 0)
-  first_there = there parts 0 no_part span.some
+  first_there = Contains-get_or parts 0 no_part span.some
 
   part_is : (p : Part) → Contains parts p → IsPartAt k.written.now k.ranking k.recce.now k.end k.least p
   part_is p h = (knows.gathered.parts p).0 ((span.exact p).0 h).0
@@ -241,12 +224,12 @@ module _ (k : Known) (knows : Knows k) (front : Item) (parts : List Part) (span 
   abbrev part_by : ℕ → Part
   part_by r = record { end = k.end; symbol = (part_at parts 0).symbol; length = (part_at parts 0).length; whole = Some (rule_key_of k.written.now k.ranking k.recce.now.flat r) }
 
-  rule_there : Contains (set_at k.recce.now m) front → m < k.end → (r : ℕ) (cs : Children) → IsRule k.recce.now.flat r → lhs_of k.recce.now.flat r ≡ (part_at parts 0).symbol →
+  rule_there : Contains (set_at k.recce.now m) predecessor → m < k.end → (r : ℕ) (cs : Children) → IsRule k.recce.now.flat r → lhs_of k.recce.now.flat r ≡ (part_at parts 0).symbol →
       Spans k.recce.now.flat (edges_of k.recce.now) r (length (rhs_of k.recce.now.flat r)) m k.end cs → Contains k.parts.now (part_by r)
   rule_there at lt r cs is_rule left spans =
-      let met = ((used_met k.written.now k.ranking k.recce.now (read_of k knows) (node_after front k.end)).0 next.used).1 in
+      let met = ((used_met k.written.now k.ranking k.recce.now (read_of k knows) (node_after predecessor k.end)).0 next.used).1 in
       let (is, stands) = met_stands k.recce.now knows.is met in
-      let f = found_front k knows front (part_at parts 0).symbol m (omega arith) at next in
+      let f = found_predecessor k knows predecessor (part_at parts 0).symbol m (omega arith) at next in
       let found : IsFound k.recce.now.flat (edges_of k.recce.now) (top_of k.recce.now) k.end (record { rule = r; dot = length (rhs_of k.recce.now.flat r); origin = m }) =
       record { is_rule = is_rule; may_stand = Next stands is refl f.spans (next.part ∙ ap Some (sym left)); children = cs; spans = spans } in
       let there' = (in_full k.recce.now knows.is k.end (record { rule = r; dot = length (rhs_of k.recce.now.flat r); origin = m })).1 found in
@@ -264,7 +247,7 @@ module _ (k : Known) (knows : Knows k) (front : Item) (parts : List Part) (span 
       )
 
   -- the rule of a part is allowed
-  allowed : Contains (set_at k.recce.now m) front → m < k.end → (p : Part) → Contains parts p → (r : ℕ) → lhs_of k.recce.now.flat r ≡ (part_at parts 0).symbol → p.whole ≡ Some (rule_key_of k.written.now k.ranking k.recce.now.flat r) →
+  allowed : Contains (set_at k.recce.now m) predecessor → m < k.end → (p : Part) → Contains parts p → (r : ℕ) → lhs_of k.recce.now.flat r ≡ (part_at parts 0).symbol → p.whole ≡ Some (rule_key_of k.written.now k.ranking k.recce.now.flat r) →
       allowed_by k.written.now k.ranking k.recce.now.flat (edges_of k.recce.now) r m k.end
   allowed at lt p h r left whole =
       kept_allowed k.written.now k.recce.now.flat (edges_of k.recce.now) r m k.end p (part_at parts 0) k.ranking ((span.exact p).0 h).3
@@ -303,30 +286,30 @@ module _ (k : Known) (knows : Knows k) (front : Item) (parts : List Part) (span 
         go end (inr (place, item, le, h, is)) = let a = is.start in let b = is.end in let c = is.spans in omega arith
 
     module _ (keys : List NodeKey) where
-      rule_over : Contains (set_at k.recce.now m) front → (r : ℕ) → Contains (rules_of parts) r → IsWholeOver (seen_by k keys) (part_at parts 0).symbol m k.end r × allowed_by k.written.now k.ranking k.recce.now.flat (edges_of k.recce.now) r m k.end
+      rule_over : Contains (set_at k.recce.now m) predecessor → (r : ℕ) → Contains (rules_of parts) r → IsWholeOver (seen_by k keys) (part_at parts 0).symbol m k.end r × allowed_by k.written.now k.ranking k.recce.now.flat (edges_of k.recce.now) r m k.end
       rule_over at r h =
           let (p, i, (t, e)) = from_rules k (part_at parts 0).symbol m k.end (part_at parts 0).length sum keys parts tidy r h in
           let (cs, spans) = tidy_spans p t in
           subst (λ z. IsWholeOver (seen_by k keys) (part_at parts 0).symbol m k.end z × allowed_by k.written.now k.ranking k.recce.now.flat (edges_of k.recce.now) z m k.end) e
           (record { is_rule = t.is_rule; left = t.left; children = cs; spans = spans }, allowed at goes_on p i t.rule t.left t.whole)
 
-      over_rule : Contains (set_at k.recce.now m) front → (r : ℕ) → IsWholeOver (seen_by k keys) (part_at parts 0).symbol m k.end r × allowed_by k.written.now k.ranking k.recce.now.flat (edges_of k.recce.now) r m k.end → Contains (rules_of parts) r
+      over_rule : Contains (set_at k.recce.now m) predecessor → (r : ℕ) → IsWholeOver (seen_by k keys) (part_at parts 0).symbol m k.end r × allowed_by k.written.now k.ranking k.recce.now.flat (edges_of k.recce.now) r m k.end → Contains (rules_of parts) r
       over_rule at r (h, best) =
           let all = rule_there at goes_on r h.children h.is_rule h.left h.spans in
           let (cs, spans) = tidy_spans (part_at parts 0) first_tidy in
           let own = ap rank_in first_tidy.whole in
           let high = span.best (part_by r) all refl refl in
           let kept = allowed_kept k.written.now k.recce.now.flat (edges_of k.recce.now) r m k.end (part_by r) (part_at parts 0) k.ranking best
-          (λ is. (let low = is first_tidy.rule cs first_tidy.is_rule (first_tidy.left ∙ sym h.left) spans in both_ways (flat_rank k.written.now k.ranking k.recce.now.flat r) (rank_in (part_at parts 0).whole) high (subst (λ z. z ≤ℤ flat_rank k.written.now k.ranking k.recce.now.flat r) (sym own) low))) in
+          (λ is. (let low = is first_tidy.rule cs first_tidy.is_rule (first_tidy.left ∙ sym h.left) spans in most_twice (flat_rank k.written.now k.ranking k.recce.now.flat r) (rank_in (part_at parts 0).whole) high (subst (λ z. z ≤ℤ flat_rank k.written.now k.ranking k.recce.now.flat r) (sym own) low))) in
           to_rules k (part_at parts 0).symbol m k.end (part_at parts 0).length sum keys parts (part_by r) (rule_key_of k.written.now k.ranking k.recce.now.flat r) ((span.exact (part_by r)).1 (all, refl, refl, kept)) refl
 
-      pub are_wholes : Contains (set_at k.recce.now m) front → (ns : List ℕ) → AreNumbers keys ns (whole_keys k.recce.now.flat parts) → AreWholes (seen_by k keys) (part_at parts 0).symbol m k.end ns
+      pub are_wholes : Contains (set_at k.recce.now m) predecessor → (ns : List ℕ) → AreNumbers keys ns (whole_keys k.recce.now.flat parts) → AreWholes (seen_by k keys) (part_at parts 0).symbol m k.end ns
       are_wholes at ns h =
           let is = keys_are k (part_at parts 0).symbol m k.end (part_at parts 0).length sum keys parts tidy in
           let h' = subst (λ ks. AreNumbers keys ns ks) is h in
-          let l1 = length_map (slice_get keys) ns in
-          let l2 = length_map (λ (z : NodeKey). Some z) (map (λ r. whole_key (seen_by k keys) r m k.end) (rules_of parts)) in
-          let l3 = length_map (λ r. whole_key (seen_by k keys) r m k.end) (rules_of parts) in
+          let l1 = length-map ns (slice_get keys) in
+          let l2 = length-map (map (λ r. whole_key (seen_by k keys) r m k.end) (rules_of parts)) (λ (z : NodeKey). Some z) in
+          let l3 = length-map (rules_of parts) (λ r. whole_key (seen_by k keys) r m k.end) in
           let l4 = ap (λ (z : List (Option NodeKey)). length z) h' in
           let (cs, derives) = tidy_spans (part_at parts 0) first_tidy in
           let one = over_rule at first_tidy.rule (record { is_rule = first_tidy.is_rule; left = first_tidy.left; children = cs; spans = derives }, allowed at goes_on (part_at parts 0) first_there first_tidy.rule first_tidy.left first_tidy.whole) in
@@ -342,9 +325,9 @@ module _ (k : Known) (knows : Knows k) (front : Item) (parts : List Part) (span 
                 (number_at keys ns (λ z. whole_key (seen_by k keys) z m k.end) (rules_of parts) h' i n r a b);
           }
 
-  -- what the last part is
-  pub last_is : Contains (set_at k.recce.now m) front → (keys : List NodeKey) (wholes : List ℕ) (last : LastRow) → IsLastHeld k.recce.now.flat parts keys wholes last →
-      IsLast (seen_by k keys) (part_at parts 0).symbol m k.end (last_of wholes last) × IsLastWithin wholes last
+  -- the cause
+  pub last_is : Contains (set_at k.recce.now m) predecessor → (keys : List NodeKey) (wholes : List ℕ) (cause : CauseRow) → IsCauseHeld k.recce.now.flat parts keys wholes cause →
+      IsCause (seen_by k keys) (part_at parts 0).symbol m k.end (cause_of wholes cause) × IsCauseWithin wholes cause
   last_is at keys wholes row.Edge none = (edge_over none, tt)
   last_is at keys wholes row.Nothing h = absurd h
   last_is at keys wholes (row.Wholes first' end') (key, whole, a, b, h) = (are_wholes key whole keys at (between first' end' wholes) h, (a, b))
@@ -358,7 +341,7 @@ module _ (k : Known) (knows : Knows k) (front : Item) (parts : List Part) (span 
       go (Some key) e = let t = first_tidy key e in let (cs, s) = tidy_spans key e (part_at parts 0) t in (Node t.rule cs m k.end, Rule t.is_rule t.left (goes_on key e) s)
 
   -- the nodes of whole rules may be met
-  pub wholes_new : Contains (set_at k.recce.now m) front → (n : NodeKey) → Contains (whole_keys k.recce.now.flat parts) n → IsNew k n
+  pub wholes_new : Contains (set_at k.recce.now m) predecessor → (n : NodeKey) → Contains (whole_keys k.recce.now.flat parts) n → IsNew k n
   wholes_new at n h =
       let (p, i, (key, e, q)) = from_keys k.recce.now.flat parts n h in
       let (part, end, bound) = part_is p i in
@@ -380,7 +363,7 @@ module _ (k : Known) (knows : Knows k) (front : Item) (parts : List Part) (span 
           let f = g.2 in
           let from : m ≡ p.end - p.length = omega arith in
           let lt : m < k.end = omega arith in
-          let used = whole_used k knows front (part_at parts 0).symbol m (omega arith) at next tree derives t.rule s.children t.is_rule (sym t.left) lt s.spans (allowed at lt p i t.rule t.left t.whole) in
+          let used = whole_used k knows predecessor (part_at parts 0).symbol m (omega arith) at next tree derives t.rule s.children t.is_rule (sym t.left) lt s.spans (allowed at lt p i t.rule t.left t.whole) in
           let here : n.end ≡ k.end = ap (λ (z : NodeKey). z.end) q ∙ end in
           let origin : n.origin ≡ p.end - p.length = ap (λ (z : NodeKey). z.origin) q in
           record {
@@ -391,16 +374,16 @@ module _ (k : Known) (knows : Knows k) (front : Item) (parts : List Part) (span 
           }
 
   -- the alternative of the parts
-  pub put_group : Contains (set_at k.recce.now m) front → (old new : Found) (mid : List NodeKey) (o : Option ℕ) (last : LastRow) (more : List ℕ) →
-      new.alternatives.items ≡ old.alternatives.items ++ record { start = m; front = o; last = last } ∷ [] → new.wholes.items ≡ old.wholes.items ++ more → IsFrontFound mid front m o →
-      GrowsBy (λ z. (0 < front.dot) × (z ≡ node_of_item front m)) old.keys.keys mid → GrowsBy (λ z. Contains (whole_keys k.recce.now.flat parts) z) mid new.keys.keys →
-      IsLastHeld k.recce.now.flat parts new.keys.keys new.wholes.items last → AreNoted k new →
-      Lists k front (part_at parts 0).symbol (λ n. n ≡ m) old new
-  put_group at old new mid o last more is e found one two held noted =
+  pub put_group : Contains (set_at k.recce.now m) predecessor → (old new : Found) (mid : List NodeKey) (o : Option ℕ) (cause : CauseRow) (more : List ℕ) →
+      new.alternatives.items ≡ old.alternatives.items ++ record { start = m; predecessor = o; cause = cause } ∷ [] → new.wholes.items ≡ old.wholes.items ++ more → IsPredecessorFound mid predecessor m o →
+      GrowsBy (λ z. (0 < predecessor.dot) × (z ≡ node_of_item predecessor m)) old.keys.keys mid → GrowsBy (λ z. Contains (whole_keys k.recce.now.flat parts) z) mid new.keys.keys →
+      IsCauseHeld k.recce.now.flat parts new.keys.keys new.wholes.items cause → AreNoted k new →
+      Lists k predecessor (part_at parts 0).symbol (λ n. n ≡ m) old new
+  put_group at old new mid o cause more is e found one two held noted =
       let (tree, derives) = has_tree in
-      let (a, b) = last_is at new.keys.keys new.wholes.items last held in
-      put_one k knows front (part_at parts 0).symbol m (omega arith) at next tree derives (λ n. n ≡ m) old new o last more refl (λ n d. d) is e
+      let (a, b) = last_is at new.keys.keys new.wholes.items cause held in
+      put_one k knows predecessor (part_at parts 0).symbol m (omega arith) at next tree derives (λ n. n ≡ m) old new o cause more refl (λ n d. d) is e
       (grows_then (IsNew k) old.keys.keys mid new.keys.keys
-      (grows_weaker (IsNew k) (λ z. (0 < front.dot) × (z ≡ node_of_item front m)) old.keys.keys mid (λ z (lt, q). subst (λ y. IsNew k y) (sym q) (front_new k knows front (part_at parts 0).symbol m (omega arith) at next tree derives lt)) one)
+      (grows_weaker (IsNew k) (λ z. (0 < predecessor.dot) × (z ≡ node_of_item predecessor m)) old.keys.keys mid (λ z (lt, q). subst (λ y. IsNew k y) (sym q) (prefix_new k knows predecessor (part_at parts 0).symbol m (omega arith) at next tree derives lt)) one)
       (grows_weaker (IsNew k) (λ z. Contains (whole_keys k.recce.now.flat parts) z) mid new.keys.keys (wholes_new at) two))
-      (front_stays mid new.keys.keys (two).0 (two).1 front m o found) a b noted
+      (predecessor_stays mid new.keys.keys (two).0 (two).1 predecessor m o found) a b noted

@@ -4,7 +4,7 @@ use Rattle.grammar_model.specs.declared.Ranking.{Ranking}
 use Rattle.grammar_model.specs.Grammar.{Grammar}
 use Rattle.recognizer_model.specs.declared.NodeKey.{NodeKey}
 use Rattle.recognizer_model.specs.Flat.{rhs_of}
-use Rattle.earley_sets.specs.Recognizer.{Recognizer, place_of}
+use Rattle.earley_sets.specs.Recognizer.{Recognizer, earleme_of}
 use Rattle.forest_model.specs.Forest.{AreAlternatives}
 use Rattle.bocage.specs.declared.rows.AlternativeRow.{AlternativeRow}
 use Rattle.bocage.specs.declared.walk.Known.{Known}
@@ -50,12 +50,12 @@ pub record IsGoing (w : Grammar) (ranking : Ranking) (r : Recognizer) (end first
   pub visited : (n : ℕ) (key : NodeKey) → slice_get f.keys.keys n ≡ Some key → end < key.end → HasRow w ranking r f.keys.keys f.wholes.items table n key
   pub used : (key : NodeKey) → Contains f.keys.keys key → IsUsedIn w ranking r key
   pub waits : (n : ℕ) (key : NodeKey) → slice_get f.keys.keys n ≡ Some key → (n < first) ⊎ (key.end < end) → key.end ≤ end → key.dot < length (rhs_of r.flat key.rule)
-  pub begun : (n : ℕ) (key : NodeKey) → slice_get f.keys.keys n ≡ Some key → first ≤ n → key.end ≡ end → end ≡ place_of r
-  pub top : 0 < place_of r → Contains f.keys.keys (top_key r)
+  pub begun : (n : ℕ) (key : NodeKey) → slice_get f.keys.keys n ≡ Some key → first ≤ n → key.end ≡ end → end ≡ earleme_of r
+  pub top : 0 < earleme_of r → Contains f.keys.keys (top_key r)
 
 -- after the nodes that end at a place or behind it were visited: they have their alternatives, and those that end before it wait
 pub record AreVisited (w : Grammar) (ranking : Ranking) (r : Recognizer) (end : ℕ) (f : Found) (table : List (List AlternativeRow)) : Type 0 where
   pub visited : (n : ℕ) (key : NodeKey) → slice_get f.keys.keys n ≡ Some key → end ≤ key.end → HasRow w ranking r f.keys.keys f.wholes.items table n key
   pub used : (key : NodeKey) → Contains f.keys.keys key → IsUsedIn w ranking r key
   pub waits : (n : ℕ) (key : NodeKey) → slice_get f.keys.keys n ≡ Some key → key.end < end → key.dot < length (rhs_of r.flat key.rule)
-  pub top : 0 < place_of r → Contains f.keys.keys (top_key r)
+  pub top : 0 < earleme_of r → Contains f.keys.keys (top_key r)

@@ -5,10 +5,10 @@ use Rattle.grammar_model.specs.declared.Ranking.{Ranking}
 use Rattle.grammar_model.specs.Grammar.{Grammar}
 use Rattle.recognizer_model.specs.Chosen.{allowed_by}
 use Rattle.recognizer_model.specs.Nodes.{Placed, IsExpanded}
-use Rattle.earley_sets.specs.Recognizer.{Recognizer, place_of, edges_of, top_of}
+use Rattle.earley_sets.specs.Recognizer.{Recognizer, earleme_of, edges_of, top_of}
 
 abbrev pub IsExpandedIn : Grammar → Ranking → Recognizer → Placed → Type 0
-IsExpandedIn w ranking r p = IsExpanded r.flat (edges_of r) (allowed_by w ranking r.flat (edges_of r)) (top_of r) (place_of r) p
+IsExpandedIn w ranking r p = IsExpanded r.flat (edges_of r) (allowed_by w ranking r.flat (edges_of r)) (top_of r) (earleme_of r) p
 
 -- an expanded item of one place
 abbrev pub IsExpandedAt : Grammar → Ranking → Recognizer → (end : ℕ) → Item → Type 0

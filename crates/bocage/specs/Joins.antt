@@ -1,4 +1,4 @@
--- Items joined with the groups that may stand behind them.
+-- Items joined with the groups of parts that may stand behind them.
 use Rattle.std.specs.Prelude.{◌≡◌, ℕ, ◌≤◌, Bool, cond, ◌==◌, nat_lt, List, Some, Contains, ◌↔◌, slice_get}
 use Rattle.std.specs.List.Sorted.{IsStrictlySortedBy}
 use Rattle.std.specs.declared.cmp.Ordering.{Ordering}
@@ -12,16 +12,16 @@ use Rattle.bocage.specs.declared.joins.Join.{Join}
 abbrev pub join_cmp : Join → Join → Ordering
 join_cmp a b = ordering_then (nat_cmp a.rule b.rule) (ordering_then (nat_cmp a.dot b.dot) (ordering_then (nat_cmp a.origin b.origin) (nat_cmp a.group b.group)))
 
-abbrev pub front_of_join : Join → Item
-front_of_join j = record { rule = j.rule; dot = j.dot; origin = j.origin }
+abbrev pub predecessor_of_join : Join → Item
+predecessor_of_join j = record { rule = j.rule; dot = j.dot; origin = j.origin }
 
 -- its item stands before that one
 abbrev pub before_item : Item → Join → Bool
-before_item front j = cond (j.rule == front.rule) (cond (j.dot == front.dot) (nat_lt j.origin front.origin) (nat_lt j.dot front.dot)) (nat_lt j.rule front.rule)
+before_item predecessor j = cond (j.rule == predecessor.rule) (cond (j.dot == predecessor.dot) (nat_lt j.origin predecessor.origin) (nat_lt j.dot predecessor.dot)) (nat_lt j.rule predecessor.rule)
 
 -- its item waits for the group's symbol where the group begins, and does not begin too early
 abbrev pub IsJoinOf : Recognizer → (least : ℕ) → Group → Join → Type 0
-IsJoinOf r least g j = Contains (set_at r g.start) (front_of_join j) × (after r.flat (front_of_join j) ≡ Some g.symbol) × (least ≤ j.origin)
+IsJoinOf r least g j = Contains (set_at r g.start) (predecessor_of_join j) × (after r.flat (predecessor_of_join j) ≡ Some g.symbol) × (least ≤ j.origin)
 
 -- all joins of the groups
 pub record AreJoins (r : Recognizer) (least : ℕ) (groups : List Group) (joins : List Join) : Type 0 where

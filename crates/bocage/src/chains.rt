@@ -2,11 +2,10 @@
 ghost use Rattle.std.specs.Prelude.{◌≡◌, ◌≢◌, ℕ, List, ◌<◌, ◌≤◌, ◌↔◌, ◌∷◌, ◌++◌, [], length, OnOk, Contains, slice_index_or, slice_set};
 ghost use Rattle.bocage.specs.Chains.{AreChained, EndsAt, IsChain};
 
-use crate::ForestRefusal;
 use crate::rows::{key_at, number};
 use crate::walk::NodeKeys;
 use recognizer_model::NodeKey;
-use std::alloc::{AllocFailed, Global};
+use std::alloc::{AllocError, AllocFailed, Global};
 
 /// Nodes by the places where they end: the newest of each place, and for each node the one before it that ends at the same place. Each
 /// is told by the place behind its number, and 0 is none.
@@ -50,7 +49,7 @@ fn replace(heads: &mut Vec<u32>, end: usize, head: u32) -> u32
 }
 
 // Notes the next node, which ends at a place.
-fn link(chains: &mut Chains, end: u32) -> Result<(), ForestRefusal>
+fn link(chains: &mut Chains, end: u32) -> Result<(), AllocError>
     ensures below { OnOk result (chains.new.below.items ≡ chains.old.below.items ++ slice_index_or chains.old.heads.items end 0 ∷ []) }
     ensures sets { OnOk result (slice_index_or chains.new.heads.items end 0 ≡ length chains.new.below.items) }
     ensures same { OnOk result ((e : ℕ) → e ≢ end → slice_index_or chains.new.heads.items e 0 ≡ slice_index_or chains.old.heads.items e 0) }
@@ -80,7 +79,7 @@ fn link_at(below: &[u32], node: usize) -> u32
 }
 
 // Lists the nodes of a chain, in place of what the list held.
-fn list_chain(chains: &Chains, end: u32, nodes: &mut Vec<usize>) -> Result<(), ForestRefusal>
+fn list_chain(chains: &Chains, end: u32, nodes: &mut Vec<usize>) -> Result<(), AllocError>
     requires { (ns : List ℕ) × IsChain chains.now.below.items (slice_index_or chains.now.heads.items end 0) ns }
     ensures { OnOk result ((ns : List ℕ) → IsChain chains.now.below.items (slice_index_or chains.now.heads.items end 0) ns → nodes.new.items ≡ ns) }
 {
@@ -101,7 +100,7 @@ pub fn list_nodes(
     end: u32,
     chains: &mut Chains,
     nodes: &mut Vec<usize>,
-) -> Result<(), ForestRefusal>
+) -> Result<(), AllocError>
     requires first { first ≤ length keys.now.keys }
     requires few { length chains.old.below.items ≤ first }
     requires chained { AreChained keys.now.keys chains.old.heads.items chains.old.below.items }

@@ -2,19 +2,18 @@
 ghost use Rattle.std.specs.Prelude.{◌≡◌, ◌≢◌, AllPairs, ℕ, ◌<◌, ◌≤◌, ◌+◌, ◌-◌, ◌↔◌, ◌⊎◌, [], length, map, IfOk, OnOk, IfSome, IsNone, Contains, slice_get, Some};
 ghost use Rattle.recognizer_model.specs.declared.NodeKey.{NodeKey as TheKey};
 ghost use Rattle.recognizer_model.specs.Counts.{IsCountOf};
-ghost use Rattle.earley_sets.specs.Recognizer.{IsRecognizer, place_of, set_at};
+ghost use Rattle.earley_sets.specs.Recognizer.{IsRecognizer, earleme_of, set_at};
 ghost use Rattle.forest_parts.specs.Hidden.{AreHidden, RisesBy, RisesWithin};
 ghost use Rattle.bocage.specs.Expanded.{IsExpandedIn, IsExpandedAt};
 ghost use Rattle.bocage.specs.Walk.{Knows, IsUsedIn, IsRead, GrowsBy, top_key};
 ghost use Rattle.bocage.specs.Chains.{AreChained, EndsAt};
 ghost use Rattle.bocage.specs.Ends.{SetsRow, Visits, Goes, HasRow, IsReady, IsGoing, AreVisited};
 ghost use Rattle.bocage.specs.Walk.{AreGathered, AreNoted};
-ghost use Rattle.bocage.specs.declared.rows.LastRow.{LastRow as TheLastRow};
+ghost use Rattle.bocage.specs.declared.rows.CauseRow.{CauseRow as TheCauseRow};
 
-use crate::ForestRefusal;
 use crate::chains::{Chains, list_nodes, new_chains};
 use crate::joins::{Join, list_joins};
-use crate::rows::{AlternativeRow, LastRow, key_at};
+use crate::rows::{AlternativeRow, CauseRow, key_at};
 use crate::walk::{Found, Known, NodeKeys, put_key};
 use bumpalo::Bump;
 use earley_sets::Recce;
@@ -23,7 +22,7 @@ use grammar_core::Written;
 use grammar_model::{Edge, Ranking};
 use recognizer_model::{Item, NodeKey};
 use slif_base::Steps;
-use std::alloc::Global;
+use std::alloc::{AllocError, Global};
 use std::sync::ledger::Ledger;
 
 /// What is used again for each place.
@@ -59,7 +58,7 @@ fn set_row<'a>(
     table: &mut Vec<&'a [AlternativeRow]>,
     node: usize,
     rows: &'a [AlternativeRow],
-) -> Result<(), ForestRefusal>
+) -> Result<(), AllocError>
     ensures { OnOk result (SetsRow (map (λ r. r.now) table.old.items) (map (λ r. r.now) table.new.items) node rows.now) }
 {
     for k in table.as_slice().len()..node {
@@ -94,7 +93,7 @@ fn visit<'a>(
     node: usize,
     found: &mut Found,
     table: &mut Vec<&'a [AlternativeRow]>,
-) -> Result<(), ForestRefusal>
+) -> Result<(), AllocError>
     requires knows { Knows known.now }
     requires node { IsReady known.now found.old.keys.keys node }
     requires noted { AreNoted known.now found.old }
@@ -114,7 +113,7 @@ fn visit_listed<'a>(
     nodes: &[usize],
     found: &mut Found,
     table: &mut Vec<&'a [AlternativeRow]>,
-) -> Result<(), ForestRefusal>
+) -> Result<(), AllocError>
     requires knows { Knows known.now }
     requires nodes { (n : ℕ) → Contains nodes.now n → IsReady known.now found.old.keys.keys n }
     requires noted { AreNoted known.now found.old }
@@ -136,7 +135,7 @@ fn visit_here<'a>(
     key: NodeKey,
     found: &mut Found,
     table: &mut Vec<&'a [AlternativeRow]>,
-) -> Result<(), ForestRefusal>
+) -> Result<(), AllocError>
     requires knows { Knows known.now }
     requires node { slice_get found.old.keys.keys node ≡ Some key }
     requires ready { key.end ≡ known.now.end → IsReady known.now found.old.keys.keys node }
@@ -158,7 +157,7 @@ fn visit_new<'a>(
     first: usize,
     found: &mut Found,
     table: &mut Vec<&'a [AlternativeRow]>,
-) -> Result<(), ForestRefusal>
+) -> Result<(), AllocError>
     requires knows { Knows known.now }
     requires first { first ≤ length found.old.keys.keys }
     requires noted { AreNoted known.now found.old }
@@ -173,22 +172,23 @@ fn visit_new<'a>(
         };
         visit_here(known, arena, node, key, found, table)?;
     }
-    Err(ForestRefusal::NoMemory)
+    let _count = found.keys.len();
+    unreachable!()
 }
 
 // Notes nothing of so many groups.
-fn forget(groups: usize, lasts: &mut Vec<Option<LastRow>>) -> Result<(), ForestRefusal>
-    ensures long { OnOk result (length lasts.new.items ≡ groups) }
-    ensures none { OnOk result ((n : ℕ) (last : TheLastRow) → slice_get lasts.new.items n ≢ Some (Some last)) }
+fn forget(groups: usize, causes: &mut Vec<Option<CauseRow>>) -> Result<(), AllocError>
+    ensures long { OnOk result (length causes.new.items ≡ groups) }
+    ensures none { OnOk result ((n : ℕ) (cause : TheCauseRow) → slice_get causes.new.items n ≢ Some (Some cause)) }
 {
-    lasts.clear();
+    causes.clear();
     for k in 0..groups {
-        lasts.push(None)?;
+        causes.push(None)?;
     }
     Ok(())
 }
 
-// Lists what may be the last part of a node that ends at a place and does not begin too early, and what stands before it.
+// Lists what may be the cause in a node that ends at a place and does not begin too early, and what may stand before it.
 fn gather(
     recce: &Recce<'_>,
     w: &Written,
@@ -197,9 +197,9 @@ fn gather(
     least: u32,
     hidden: &[Item],
     work: &mut Work,
-) -> Result<(), ForestRefusal>
+) -> Result<(), AllocError>
     requires read { IsRead w.now recce.now }
-    requires end { end ≤ place_of recce.now }
+    requires end { end ≤ earleme_of recce.now }
     requires hidden { AreHidden recce.now end least hidden.now }
     ensures gathered { OnOk result (AreGathered w.now ranking recce.now end least work.new.parts.items work.new.groups.items work.new.joins.items) }
     ensures nodes { work.new.nodes ≡ work.old.nodes }
@@ -233,14 +233,14 @@ fn visit_from<'a>(
     found: &mut Found,
     table: &mut Vec<&'a [AlternativeRow]>,
     work: &mut Work,
-) -> Result<(), ForestRefusal>
+) -> Result<(), AllocError>
     requires read { IsRead w.now recce.now }
-    requires end { end ≤ place_of recce.now }
+    requires end { end ≤ earleme_of recce.now }
     requires hidden { AreHidden recce.now end least hidden.now }
     requires going { IsGoing w.now ranking recce.now end first found.old (map (λ r. r.now) table.old.items) }
     requires nodes { (n : ℕ) → Contains work.old.nodes.items n ↔ ((n < first) × EndsAt found.old.keys.keys end n) }
     requires least { (n : ℕ) (key : TheKey) → Contains work.old.nodes.items n → slice_get found.old.keys.keys n ≡ Some key → least ≤ key.origin }
-    requires whole { end ≡ place_of recce.now → least ≡ 0 }
+    requires whole { end ≡ earleme_of recce.now → least ≡ 0 }
     ensures visited { OnOk result (AreVisited w.now ranking recce.now end found.new (map (λ r. r.now) table.new.items)) }
     ensures grows { OnOk result (GrowsBy (IsUsedIn w.now ranking recce.now) found.old.keys.keys found.new.keys.keys) }
     ensures expanded { work.new.expanded ≡ work.old.expanded }
@@ -256,7 +256,7 @@ fn visit_from<'a>(
         groups: &work.groups,
         joins: &work.joins,
     };
-    forget(work.groups.as_slice().len(), &mut found.lasts)?;
+    forget(work.groups.as_slice().len(), &mut found.causes)?;
     visit_listed(&known, arena, &work.nodes, found, table)?;
     visit_new(&known, arena, first, found, table)?;
     Ok(())
@@ -276,9 +276,9 @@ fn visit_end<'a, L: Ledger>(
     table: &mut Vec<&'a [AlternativeRow]>,
     work: &mut Work,
     steps: &mut Steps<L>,
-) -> Result<(), ForestRefusal>
+) -> Result<(), AllocError>
     requires read { IsRead w.now recce.now }
-    requires end { end ≤ place_of recce.now }
+    requires end { end ≤ earleme_of recce.now }
     requires going { IsGoing w.now ranking recce.now end first found.old (map (λ r. r.now) table.old.items) }
     requires few { length chains.old.below.items ≤ first }
     requires chained { AreChained found.old.keys.keys chains.old.heads.items chains.old.below.items }
@@ -311,10 +311,10 @@ pub fn walk<'a, L: Ledger>(
     found: &mut Found,
     work: &mut Work,
     steps: &mut Steps<L>,
-) -> Result<Vec<&'a [AlternativeRow]>, ForestRefusal>
+) -> Result<Vec<&'a [AlternativeRow]>, AllocError>
     requires read { IsRead w.now recce.now }
-    requires used { (key : TheKey) → Contains found.old.keys.keys key → IsUsedIn w.now ranking recce.now key × (key.end ≡ place_of recce.now) }
-    requires top { 0 < place_of recce.now → Contains found.old.keys.keys (top_key recce.now) }
+    requires used { (key : TheKey) → Contains found.old.keys.keys key → IsUsedIn w.now ranking recce.now key × (key.end ≡ earleme_of recce.now) }
+    requires top { 0 < earleme_of recce.now → Contains found.old.keys.keys (top_key recce.now) }
     requires start { work.old.expanded ≡ 0 }
     ensures visited { IfOk result (λ table. AreVisited w.now ranking recce.now 0 found.new (map (λ r. r.now) table.items)) }
     ensures grows { OnOk result (GrowsBy (IsUsedIn w.now ranking recce.now) found.old.keys.keys found.new.keys.keys) }

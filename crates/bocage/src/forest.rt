@@ -1,33 +1,31 @@
 //! The forest, and what is read of it.
-ghost use Rattle.std.specs.Prelude.{◌≡◌, ℕ, ◌+◌, ◌<◌, ◌≤◌, ◌↔◌, Err, IfOk, length};
+ghost use Rattle.std.specs.Prelude.{◌≡◌, ℕ, ◌+◌, ◌<◌, ◌≤◌, ◌↔◌, [], Err, IfOk, length};
 ghost use Rattle.grammar_model.specs.Checked.{IsChecked};
 ghost use Rattle.recognizer_model.specs.FlatForm.{IsFlatOf};
 ghost use Rattle.recognizer_model.specs.Counts.{IsCountOf};
 ghost use Rattle.recognizer_model.specs.Chosen.{allowed_by};
 ghost use Rattle.recognizer_model.specs.Nodes.{IsExpanded, IsStats};
-ghost use Rattle.earley_sets.specs.Recognizer.{HasTree, place_of, edges_of, top_of};
+ghost use Rattle.earley_sets.specs.Recognizer.{HasTree, earleme_of, edges_of, top_of};
 ghost use Rattle.forest_model.specs.Forest.{IsForest, IsNode, allowed_of, edges_of as forest_edges, top_of as forest_top};
 ghost use Rattle.forest_parts.specs.Hidden.{RisesWithin};
 ghost use Rattle.bocage.specs.Expanded.{IsExpandedIn};
-ghost use Rattle.bocage.specs.Rows.{part_told};
+ghost use Rattle.bocage.specs.Rows.{cause_told};
 ghost use Rattle.bocage.specs.Readers.{alternative_at, node_at};
 ghost use Rattle.bocage.specs.declared.refusal.ForestRefusal.TheVariants.{NoParse};
 
 use crate::ForestRefusal;
 use crate::ends::{Work, walk};
-use crate::rows::{AlternativeRow, LastPart, alternative_row, key_at, last_part, rows_at};
+use crate::rows::{AlternativeRow, Cause, alternative_row, cause_at, key_at, rows_at};
 use crate::walk::{Found, begin, differ};
 use bumpalo::Bump;
 use earley_sets::Recce;
 use grammar_core::{Flat, Written};
 use grammar_model::Ranking;
-use indexmap::IndexSet;
 use recognizer_model::NodeKey;
 use slif_base::Steps;
-use smallvec::SmallVec;
-use std::alloc::Global;
-use std::hash::BuildHasherDefault;
+use std::alloc::{AllocError, Global};
 use std::marker::Model;
+use std::mem::replace;
 use std::sync::ledger::Ledger;
 
 /// The alternatives of a node, in the declared order.
@@ -50,7 +48,7 @@ impl<'f> Model for Alternatives<'f> {
 }
 
 impl<'f> Alternatives<'f> {
-    /// How many starts the last part has.
+    /// How many alternatives there are.
     pub fn len(&self) -> usize
         ensures { result ≡ length self.now }
     {
@@ -65,20 +63,20 @@ impl<'f> Alternatives<'f> {
         alternative_row(self.rows, k).start
     }
 
-    /// The node of the parts before the last one, if there are any.
-    pub fn front(&self, k: usize) -> Option<u32>
+    /// The predecessor: the node of the parts before the last one, if there are any.
+    pub fn predecessor(&self, k: usize) -> Option<u32>
         requires { k < length self.now }
-        ensures { result ≡ (alternative_at self.now k).front }
+        ensures { result ≡ (alternative_at self.now k).predecessor }
     {
-        alternative_row(self.rows, k).front
+        alternative_row(self.rows, k).predecessor
     }
 
-    /// What the last part is.
-    pub fn last(&self, k: usize) -> LastPart<'f>
+    /// The cause: what the last part is.
+    pub fn cause(&self, k: usize) -> Cause<'f>
         requires { k < length self.now }
-        ensures { part_told result ≡ (alternative_at self.now k).last }
+        ensures { cause_told result ≡ (alternative_at self.now k).cause }
     {
-        last_part(alternative_row(self.rows, k), self.wholes)
+        cause_at(alternative_row(self.rows, k), self.wholes)
     }
 }
 
@@ -109,7 +107,7 @@ pub struct Forest<'a> {
 
 impl<'a> Model for Forest<'a> {
     ghost use Rattle.std.specs.Prelude.{map};
-    ghost use Rattle.earley_sets.specs.Recognizer.{place_of};
+    ghost use Rattle.earley_sets.specs.Recognizer.{earleme_of};
     ghost use Rattle.forest_model.specs.Forest.{Forest, IsForest};
     ghost use Rattle.recognizer_model.specs.Counts.{IsCountOf};
     ghost use Rattle.bocage.specs.Rows.{nodes_of, IsTable};
@@ -117,9 +115,9 @@ impl<'a> Model for Forest<'a> {
 
     ghost Value = { Forest };
 
-    ghost view = { λ f. record { written = f.written.now; flat = f.recce.now.flat; start = f.recce.now.start; edges = f.recce.now.edges; place = place_of f.recce.now; ranking = f.ranking; nodes = nodes_of f.wholes.items f.keys.items (map (λ r. r.now) f.table.items); root = f.root } };
+    ghost view = { λ f. record { written = f.written.now; flat = f.recce.now.flat; start = f.recce.now.start; edges = f.recce.now.edges; place = earleme_of f.recce.now; ranking = f.ranking; nodes = nodes_of f.wholes.items f.keys.items (map (λ r. r.now) f.table.items); root = f.root } };
 
-    ghost invariant = { λ f. IsForest (record { written = f.written.now; flat = f.recce.now.flat; start = f.recce.now.start; edges = f.recce.now.edges; place = place_of f.recce.now; ranking = f.ranking; nodes = nodes_of f.wholes.items f.keys.items (map (λ r. r.now) f.table.items); root = f.root }) × IsTable f.keys.items (map (λ r. r.now) f.table.items) f.wholes.items × IsCountOf (IsExpandedIn f.written.now f.ranking f.recce.now) f.expanded };
+    ghost invariant = { λ f. IsForest (record { written = f.written.now; flat = f.recce.now.flat; start = f.recce.now.start; edges = f.recce.now.edges; place = earleme_of f.recce.now; ranking = f.ranking; nodes = nodes_of f.wholes.items f.keys.items (map (λ r. r.now) f.table.items); root = f.root }) × IsTable f.keys.items (map (λ r. r.now) f.table.items) f.wholes.items × IsCountOf (IsExpandedIn f.written.now f.ranking f.recce.now) f.expanded };
 }
 
 impl<'a> Forest<'a> {
@@ -137,17 +135,14 @@ impl<'a> Forest<'a> {
         requires checked { IsChecked w.now }
         requires flat { IsFlatOf recce.now.flat w.now }
         ensures forest { IfOk result (λ f. IsForest f) }
-        ensures reading { IfOk result (λ f. (f.written ≡ w.now) × (f.flat ≡ recce.now.flat) × (f.start ≡ recce.now.start) × (f.edges ≡ recce.now.edges) × (f.place ≡ place_of recce.now) × (f.ranking ≡ ranking)) }
+        ensures reading { IfOk result (λ f. (f.written ≡ w.now) × (f.flat ≡ recce.now.flat) × (f.start ≡ recce.now.start) × (f.edges ≡ recce.now.edges) × (f.place ≡ earleme_of recce.now) × (f.ranking ≡ ranking)) }
         ensures no_parse { (result ≡ Err NoParse) ↔ (¬ HasTree recce.now) }
-        ensures counted { (n : ℕ) → IsCountOf (IsExpanded recce.now.flat (edges_of recce.now) (allowed_by w.now ranking recce.now.flat (edges_of recce.now)) (top_of recce.now) (place_of recce.now)) n → steps.new ≤ steps.old + n }
+        ensures counted { (n : ℕ) → IsCountOf (IsExpanded recce.now.flat (edges_of recce.now) (allowed_by w.now ranking recce.now.flat (edges_of recce.now)) (top_of recce.now) (earleme_of recce.now)) n → steps.new ≤ steps.old + n }
     {
         if !recce.at_end() {
             return Err(ForestRefusal::NoParse);
         }
-        match Forest::grow(alloc, arena, recce, w, ranking, steps) {
-            Ok(forest) => Ok(forest),
-            Err(_) => Err(ForestRefusal::NoMemory),
-        }
+        Ok(Forest::grow(alloc, arena, recce, w, ranking, steps)?)
     }
 
     // The forest of a start that has a tree.
@@ -158,25 +153,39 @@ impl<'a> Forest<'a> {
         w: &'a Written,
         ranking: Ranking,
         steps: &mut Steps<L>,
-    ) -> Result<Forest<'a>, ForestRefusal>
+    ) -> Result<Forest<'a>, AllocError>
         requires checked { IsChecked w.now }
         requires flat { IsFlatOf recce.now.flat w.now }
         requires tree { HasTree recce.now }
-        ensures reading { IfOk result (λ f. (f.written ≡ w.now) × (f.flat ≡ recce.now.flat) × (f.start ≡ recce.now.start) × (f.edges ≡ recce.now.edges) × (f.place ≡ place_of recce.now) × (f.ranking ≡ ranking)) }
+        ensures reading { IfOk result (λ f. (f.written ≡ w.now) × (f.flat ≡ recce.now.flat) × (f.start ≡ recce.now.start) × (f.edges ≡ recce.now.edges) × (f.place ≡ earleme_of recce.now) × (f.ranking ≡ ranking)) }
         ensures forest { IfOk result (λ f. IsForest f) }
         ensures counted { RisesWithin (IsExpandedIn w.now ranking recce.now) steps.old steps.new }
     {
-        let mut found = Found {
-            keys: IndexSet::with_hasher(alloc, BuildHasherDefault::new()),
-            alternatives: SmallVec::new(alloc),
-            wholes: Vec::new(alloc),
-            lasts: Vec::new(alloc),
-        };
-        let mut work = Work::new(alloc);
+        let mut found = Found::new(alloc);
+        Forest::grow_in(alloc, arena, recce, w, ranking, &mut found, steps)
+    }
+
+    // The same, where there is a place for what is found, with nothing in it yet.
+    fn grow_in<L: Ledger>(
+        alloc: Global,
+        arena: &'a Bump,
+        recce: &'a Recce<'a>,
+        w: &'a Written,
+        ranking: Ranking,
+        found: &mut Found,
+        steps: &mut Steps<L>,
+    ) -> Result<Forest<'a>, AllocError>
+        requires checked { IsChecked w.now }
+        requires flat { IsFlatOf recce.now.flat w.now }
+        requires tree { HasTree recce.now }
+        requires none { found.old.keys.keys ≡ [] }
+        ensures reading { IfOk result (λ f. (f.written ≡ w.now) × (f.flat ≡ recce.now.flat) × (f.start ≡ recce.now.start) × (f.edges ≡ recce.now.edges) × (f.place ≡ earleme_of recce.now) × (f.ranking ≡ ranking)) }
+        ensures forest { IfOk result (λ f. IsForest f) }
+        ensures counted { RisesWithin (IsExpandedIn w.now ranking recce.now) steps.old steps.new }
+    {
         let root = begin(recce, &mut found.keys)?;
-        let table = walk(
-            alloc, recce, w, ranking, arena, &mut found, &mut work, steps,
-        )?;
+        let mut work = Work::new(alloc);
+        let table = walk(alloc, recce, w, ranking, arena, found, &mut work, steps)?;
         let expanded = work.expanded;
         drop(work);
         differ(&found.keys);
@@ -187,7 +196,7 @@ impl<'a> Forest<'a> {
             ranking,
             keys,
             table,
-            wholes: found.wholes,
+            wholes: replace(&mut found.wholes, Vec::new(alloc)),
             root,
             expanded,
         })

@@ -1,17 +1,17 @@
-//! The first parts of a node, joined with the parts that may stand behind them.
+//! Items that wait, joined with the groups of parts that may stand behind them: what may be predecessors, with what may be causes.
 ghost use Rattle.std.specs.Prelude.{◌≡◌, ℕ, true, false, ◌<◌, ◌≤◌, ◌↔◌, ◌⊎◌, length, OnOk, IfOk, IsTrue, Contains, Some, slice_get};
 ghost use Rattle.std.specs.List.Sorted.{IsStrictlySortedBy};
-ghost use Rattle.earley_sets.specs.Recognizer.{place_of, set_at};
+ghost use Rattle.earley_sets.specs.Recognizer.{earleme_of, set_at};
 ghost use Rattle.forest_parts.specs.Lists.{between};
 ghost use Rattle.forest_parts.specs.declared.groups.Group.{Group as TheGroup};
 ghost use Rattle.bocage.specs.declared.joins.Join.{Join as TheJoin};
-ghost use Rattle.bocage.specs.Joins.{join_cmp, front_of_join, before_item, IsJoinOf, AreJoins};
+ghost use Rattle.bocage.specs.Joins.{join_cmp, predecessor_of_join, before_item, IsJoinOf, AreJoins};
 
-use crate::ForestRefusal;
 use crate::rows::number;
 use earley_sets::Recce;
 use forest_parts::Group;
 use recognizer_model::Item;
+use std::alloc::AllocError;
 
 /// An item that waits where a group begins, for its symbol.
 #[derive(Clone, Copy, PartialEq, Eq, PartialOrd, Ord)]
@@ -23,9 +23,9 @@ pub struct Join {
 }
 
 // Puts the join of an item with a group, if the item does not begin too early.
-fn put_join(least: u32, item: Item, number: u32, joins: &mut Vec<Join>) -> Result<(), ForestRefusal>
+fn put_join(least: u32, item: Item, number: u32, joins: &mut Vec<Join>) -> Result<(), AllocError>
     ensures { OnOk result ((j : TheJoin) → Contains joins.new.items j ↔
-        (Contains joins.old.items j ⊎ ((j.group ≡ number) × (front_of_join j ≡ item) × (least ≤ item.origin)))) }
+        (Contains joins.old.items j ⊎ ((j.group ≡ number) × (predecessor_of_join j ≡ item) × (least ≤ item.origin)))) }
 {
     if least <= item.origin {
         joins.push(Join {
@@ -45,8 +45,8 @@ fn put_joins(
     group: Group,
     number: u32,
     joins: &mut Vec<Join>,
-) -> Result<(), ForestRefusal>
-    requires { group.start ≤ place_of recce.now }
+) -> Result<(), AllocError>
+    requires { group.start ≤ earleme_of recce.now }
     ensures { OnOk result ((j : TheJoin) → Contains joins.new.items j ↔
         (Contains joins.old.items j ⊎ ((j.group ≡ number) × IsJoinOf recce.now least group j))) }
 {
@@ -57,7 +57,7 @@ fn put_joins(
     Ok(())
 }
 
-fn sort(joins: &mut Vec<Join>) -> Result<(), ForestRefusal>
+fn sort(joins: &mut Vec<Join>) -> Result<(), AllocError>
     ensures sorted { OnOk result (IsStrictlySortedBy join_cmp joins.new.items) }
     ensures same { OnOk result ((j : TheJoin) → Contains joins.new.items j ↔ Contains joins.old.items j) }
 {
@@ -72,8 +72,8 @@ pub fn list_joins(
     least: u32,
     groups: &[Group],
     joins: &mut Vec<Join>,
-) -> Result<(), ForestRefusal>
-    requires { (g : TheGroup) → Contains groups.now g → g.start ≤ place_of recce.now }
+) -> Result<(), AllocError>
+    requires { (g : TheGroup) → Contains groups.now g → g.start ≤ earleme_of recce.now }
     ensures { OnOk result (AreJoins recce.now least groups.now joins.new.items) }
 {
     joins.clear();
@@ -94,44 +94,46 @@ fn joins_between(joins: &[Join], first: usize, past: usize) -> &[Join]
 }
 
 // Whether the item of a join stands before another.
-fn is_before(join: Join, front: Item) -> bool
-    ensures { result ≡ before_item front join }
+fn is_before(join: Join, predecessor: Item) -> bool
+    ensures { result ≡ before_item predecessor join }
 {
-    if join.rule != front.rule {
-        join.rule < front.rule
-    } else if join.dot != front.dot {
-        join.dot < front.dot
+    if join.rule != predecessor.rule {
+        join.rule < predecessor.rule
+    } else if join.dot != predecessor.dot {
+        join.dot < predecessor.dot
     } else {
-        join.origin < front.origin
+        join.origin < predecessor.origin
     }
 }
 
-fn has_item(join: Join, front: Item) -> bool
-    ensures { IsTrue result ↔ (front_of_join join ≡ front) }
+fn has_item(join: Join, predecessor: Item) -> bool
+    ensures { IsTrue result ↔ (predecessor_of_join join ≡ predecessor) }
 {
-    join.origin == front.origin && join.dot == front.dot && join.rule == front.rule
+    join.origin == predecessor.origin
+        && join.dot == predecessor.dot
+        && join.rule == predecessor.rule
 }
 
 // How many of the joins have items that stand before another.
-fn count_before(joins: &[Join], front: Item) -> usize
+fn count_before(joins: &[Join], predecessor: Item) -> usize
     requires { IsStrictlySortedBy join_cmp joins.now }
     ensures bound { result ≤ length joins.now }
-    ensures before { (k : ℕ) (j : TheJoin) → k < result → slice_get joins.now k ≡ Some j → before_item front j ≡ true }
-    ensures behind { (k : ℕ) (j : TheJoin) → result ≤ k → slice_get joins.now k ≡ Some j → before_item front j ≡ false }
+    ensures before { (k : ℕ) (j : TheJoin) → k < result → slice_get joins.now k ≡ Some j → before_item predecessor j ≡ true }
+    ensures behind { (k : ℕ) (j : TheJoin) → result ≤ k → slice_get joins.now k ≡ Some j → before_item predecessor j ≡ false }
 {
-    joins.partition_point(|join| is_before(*join, front))
+    joins.partition_point(|join| is_before(*join, predecessor))
 }
 
 // Where those end that have an item, from one place on.
-fn end_of_item(joins: &[Join], first: usize, front: Item) -> usize
+fn end_of_item(joins: &[Join], first: usize, predecessor: Item) -> usize
     requires { first ≤ length joins.now }
     ensures order { first ≤ result }
     ensures bound { result ≤ length joins.now }
-    ensures same { (k : ℕ) (j : TheJoin) → first ≤ k → k < result → slice_get joins.now k ≡ Some j → front_of_join j ≡ front }
-    ensures other { (j : TheJoin) → slice_get joins.now result ≡ Some j → ¬ (front_of_join j ≡ front) }
+    ensures same { (k : ℕ) (j : TheJoin) → first ≤ k → k < result → slice_get joins.now k ≡ Some j → predecessor_of_join j ≡ predecessor }
+    ensures other { (j : TheJoin) → slice_get joins.now result ≡ Some j → ¬ (predecessor_of_join j ≡ predecessor) }
 {
     for past in first..joins.len() {
-        if !has_item(joins[past], front) {
+        if !has_item(joins[past], predecessor) {
             return past;
         }
     }
@@ -139,12 +141,12 @@ fn end_of_item(joins: &[Join], first: usize, front: Item) -> usize
 }
 
 /// Those of the joins that have an item.
-pub fn joins_of(joins: &[Join], front: Item) -> &[Join]
+pub fn joins_of(joins: &[Join], predecessor: Item) -> &[Join]
     requires { IsStrictlySortedBy join_cmp joins.now }
     ensures sorted { IsStrictlySortedBy join_cmp result.now }
-    ensures exact { (j : TheJoin) → Contains result.now j ↔ (Contains joins.now j × (front_of_join j ≡ front)) }
+    ensures exact { (j : TheJoin) → Contains result.now j ↔ (Contains joins.now j × (predecessor_of_join j ≡ predecessor)) }
 {
-    let first = count_before(joins, front);
-    let past = end_of_item(joins, first, front);
+    let first = count_before(joins, predecessor);
+    let past = end_of_item(joins, first, predecessor);
     joins_between(joins, first, past)
 }

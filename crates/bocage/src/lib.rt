@@ -1,4 +1,4 @@
-//! The shared packed forest of a reading: the chosen derivations of the start, each way to derive the first parts of a rule over a span once.
+//! The shared packed forest of a reading: the chosen derivations of the start, each way to derive a prefix of a rule over a span once.
 #![tactic(auto)]
 
 mod chains;
@@ -11,4 +11,4 @@ mod walk;
 
 pub use forest::{Alternatives, Forest, Stats};
 pub use refusal::ForestRefusal;
-pub use rows::LastPart;
+pub use rows::Cause;

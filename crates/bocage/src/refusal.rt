@@ -1,7 +1,7 @@
 //! Why there is no forest.
 ghost use Rattle.std.specs.Prelude.{◌≡◌};
 
-use std::alloc::{AllocError, AllocFailed};
+use std::alloc::AllocError;
 use thiserror::Error;
 
 /// Why there is no forest.
@@ -21,16 +21,6 @@ impl From<AllocError> for ForestRefusal {
     ghost from_gives = { λ _ refusal. refusal ≡ NoMemory };
 
     fn from(_error: AllocError) -> Self {
-        ForestRefusal::NoMemory
-    }
-}
-
-impl<T: Drop> From<AllocFailed<T>> for ForestRefusal {
-    ghost use Rattle.bocage.specs.declared.refusal.ForestRefusal.TheVariants.{NoMemory};
-
-    ghost from_gives = { λ _ refusal. refusal ≡ NoMemory };
-
-    fn from(_error: AllocFailed<T>) -> Self {
         ForestRefusal::NoMemory
     }
 }

@@ -1,14 +1,14 @@
 //! Alternatives, and the nodes of whole rules that they have.
 ghost use Rattle.std.specs.Prelude.{◌≡◌, ◌<◌, ◌≤◌, length, slice_index_or, slice_get, map, Some, IfOk};
 ghost use Rattle.forest_parts.specs.Lists.{between};
-ghost use Rattle.bocage.specs.Rows.{part_told, last_of, IsLastWithin, no_alternative};
+ghost use Rattle.bocage.specs.Rows.{cause_told, cause_of, IsCauseWithin, no_alternative};
 
-use crate::ForestRefusal;
 use recognizer_model::NodeKey;
+use std::alloc::AllocError;
 
-/// What the last part of a node is in an alternative. Nodes of whole rules are in the declared order of their rules.
+/// The cause of an alternative: what the last part is. Nodes of whole rules are in the declared order of their rules.
 #[derive(Clone, Copy)]
-pub enum LastPart<'f> {
+pub enum Cause<'f> {
     /// a terminal's edge
     Edge,
     /// a symbol that spans nothing
@@ -17,21 +17,21 @@ pub enum LastPart<'f> {
     Wholes(&'f [u32]),
 }
 
-/// What the last part of a node is: where whole rules are, their nodes stand from `first` up to `end`.
+/// A cause as it is kept: where it is whole rules, their nodes stand from `first` up to `end`.
 #[derive(Clone, Copy, Default)]
-pub enum LastRow {
+pub enum CauseRow {
     #[default]
     Edge,
     Nothing,
     Wholes { first: u32, end: u32 },
 }
 
-/// Where the last part of a node may begin, with the node of the parts before it.
+/// An alternative as it is kept: where the last part begins, the node of the parts before it, and the cause.
 #[derive(Clone, Copy, Default)]
 pub struct AlternativeRow {
     pub start: u32,
-    pub front: Option<u32>,
-    pub last: LastRow,
+    pub predecessor: Option<u32>,
+    pub cause: CauseRow,
 }
 
 /// A row, by its number.
@@ -67,24 +67,24 @@ fn wholes_between(wholes: &[u32], first: u32, end: u32) -> &[u32]
     &wholes[first as usize..end as usize]
 }
 
-/// What the last part of a row is.
-pub fn last_part(row: AlternativeRow, wholes: &[u32]) -> LastPart<'_>
-    requires { IsLastWithin wholes.now row.last }
-    ensures { part_told result ≡ last_of wholes.now row.last }
+/// The cause of a row.
+pub fn cause_at(row: AlternativeRow, wholes: &[u32]) -> Cause<'_>
+    requires { IsCauseWithin wholes.now row.cause }
+    ensures { cause_told result ≡ cause_of wholes.now row.cause }
 {
-    match row.last {
-        LastRow::Edge => LastPart::Edge,
-        LastRow::Nothing => LastPart::Nothing,
-        LastRow::Wholes { first, end } => LastPart::Wholes(wholes_between(wholes, first, end)),
+    match row.cause {
+        CauseRow::Edge => Cause::Edge,
+        CauseRow::Nothing => Cause::Nothing,
+        CauseRow::Wholes { first, end } => Cause::Wholes(wholes_between(wholes, first, end)),
     }
 }
 
-/// A count as a number.
-pub fn number(count: usize) -> Result<u32, ForestRefusal>
+/// A count as a number. One that 32 bits do not hold counts as too many for memory.
+pub fn number(count: usize) -> Result<u32, AllocError>
     ensures { IfOk result (λ n. n ≡ count) }
 {
     match u32::try_from(count) {
         Ok(number) => Ok(number),
-        Err(_) => Err(ForestRefusal::NoMemory),
+        Err(_) => Err(AllocError),
     }
 }

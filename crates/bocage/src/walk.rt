@@ -1,15 +1,14 @@
-//! The alternatives of a node: each that is met gets a number, and what may be its last part is joined with its first parts.
+//! The alternatives of a node: each node that is met gets a number, and its predecessors are joined with their causes.
 ghost use Rattle.std.specs.Prelude.{◌≡◌, ◌≢◌, AllPairs, ℕ, ◌<◌, ◌≤◌, ◌+◌, ◌-◌, ◌↔◌, ◌⊎◌, [], ◌∷◌, length, map, IfOk, OnOk, IfSome, IsTrue, IsFalse, Contains, slice_get, Some};
 ghost use Rattle.recognizer_model.specs.Flat.{IsNullable, IsRule, rhs_of};
-ghost use Rattle.earley_sets.specs.Recognizer.{IsRecognizer, place_of, set_at};
+ghost use Rattle.earley_sets.specs.Recognizer.{IsRecognizer, earleme_of, set_at};
 ghost use Rattle.forest_parts.specs.declared.parts.Part.{Part as ThePart};
-ghost use Rattle.bocage.specs.declared.rows.LastRow.{LastRow as TheLastRow};
-ghost use Rattle.bocage.specs.Joins.{front_of_join};
-ghost use Rattle.bocage.specs.Walk.{FitsPart, GrowsBy, whole_keys, AddsWholes, IsFrontFound, IsLastFound, node_of_item, Knows, Lists, AreNoted, IsLastNoted, AreJoinsOf, IsNext, IsNew, BeginsIn, MayBegin, ListsKey, IsBegun, is_high, IsUsedIn};
+ghost use Rattle.bocage.specs.declared.rows.CauseRow.{CauseRow as TheCauseRow};
+ghost use Rattle.bocage.specs.Joins.{predecessor_of_join};
+ghost use Rattle.bocage.specs.Walk.{FitsPart, GrowsBy, whole_keys, AddsWholes, IsPredecessorFound, IsCauseFound, node_of_item, Knows, Lists, AreNoted, IsCauseNoted, AreJoinsOf, IsNext, IsNew, BeginsIn, MayBegin, ListsKey, IsBegun, is_high, IsUsedIn};
 
-use crate::ForestRefusal;
 use crate::joins::{Join, joins_of};
-use crate::rows::{AlternativeRow, LastRow, number};
+use crate::rows::{AlternativeRow, CauseRow, number};
 use earley_sets::Recce;
 use forest_parts::{Group, Part, is_null_high, parts_between};
 use grammar_core::{Flat, Written};
@@ -18,6 +17,7 @@ use indexmap::IndexSet;
 use leo_items::NearHasher;
 use recognizer_model::{Item, NodeKey};
 use smallvec::SmallVec;
+use std::alloc::{AllocError, Global};
 use std::hash::BuildHasherDefault;
 
 /// Keys of nodes, in the order of their numbers. Those of near places are looked up near each other.
@@ -42,12 +42,26 @@ pub struct Found {
     pub keys: NodeKeys,
     pub alternatives: SmallVec<AlternativeRow, 4>,
     pub wholes: Vec<u32>,
-    /// what the last part is of each group of the place, once it was asked for
-    pub lasts: Vec<Option<LastRow>>,
+    /// the cause of each group of the place, once it was asked for
+    pub causes: Vec<Option<CauseRow>>,
+}
+
+impl Found {
+    /// Nothing found yet.
+    pub fn new(alloc: Global) -> Found
+        ensures { result.keys.keys ≡ [] }
+    {
+        Found {
+            keys: IndexSet::with_hasher(alloc, BuildHasherDefault::new()),
+            alternatives: SmallVec::new(alloc),
+            wholes: Vec::new(alloc),
+            causes: Vec::new(alloc),
+        }
+    }
 }
 
 // The number of a node, which becomes a new one if there is none of the key.
-fn number_of(keys: &mut NodeKeys, key: NodeKey) -> Result<u32, ForestRefusal>
+fn number_of(keys: &mut NodeKeys, key: NodeKey) -> Result<u32, AllocError>
     ensures number { IfOk result (λ n. slice_get keys.new.keys n ≡ Some key) }
     ensures grows { OnOk result (GrowsBy (λ k. k ≡ key) keys.old.keys keys.new.keys) }
 {
@@ -55,20 +69,24 @@ fn number_of(keys: &mut NodeKeys, key: NodeKey) -> Result<u32, ForestRefusal>
     number(at)
 }
 
-// The number of the node of the parts before the last one, if there are any.
-fn front_of(keys: &mut NodeKeys, front: Item, end: u32) -> Result<Option<u32>, ForestRefusal>
-    ensures front { IfOk result (λ n. IsFrontFound keys.new.keys front end n) }
-    ensures grows { OnOk result (GrowsBy (λ k. (0 < front.dot) × (k ≡ node_of_item front end)) keys.old.keys keys.new.keys) }
+// The number of the predecessor, if there are parts before the last one.
+fn predecessor_of(
+    keys: &mut NodeKeys,
+    predecessor: Item,
+    end: u32,
+) -> Result<Option<u32>, AllocError>
+    ensures predecessor { IfOk result (λ n. IsPredecessorFound keys.new.keys predecessor end n) }
+    ensures grows { OnOk result (GrowsBy (λ k. (0 < predecessor.dot) × (k ≡ node_of_item predecessor end)) keys.old.keys keys.new.keys) }
 {
-    if front.dot == 0 {
+    if predecessor.dot == 0 {
         return Ok(None);
     }
     Ok(Some(number_of(
         keys,
         NodeKey {
-            rule: front.rule,
-            dot: front.dot,
-            origin: front.origin,
+            rule: predecessor.rule,
+            dot: predecessor.dot,
+            origin: predecessor.origin,
             end,
         },
     )?))
@@ -80,7 +98,7 @@ fn put_whole(
     part: Part,
     keys: &mut NodeKeys,
     wholes: &mut Vec<u32>,
-) -> Result<(), ForestRefusal>
+) -> Result<(), AllocError>
     requires { FitsPart flat.now part }
     ensures numbers { OnOk result (AddsWholes keys.new.keys (whole_keys flat.now (part ∷ [])) wholes.old.items wholes.new.items) }
     ensures grows { OnOk result (GrowsBy (λ k. Contains (whole_keys flat.now (part ∷ [])) k) keys.old.keys keys.new.keys) }
@@ -107,7 +125,7 @@ fn put_wholes(
     parts: &[Part],
     keys: &mut NodeKeys,
     wholes: &mut Vec<u32>,
-) -> Result<(), ForestRefusal>
+) -> Result<(), AllocError>
     requires { (p : ThePart) → Contains parts.now p → FitsPart flat.now p }
     ensures numbers { OnOk result (AddsWholes keys.new.keys (whole_keys flat.now parts.now) wholes.old.items wholes.new.items) }
     ensures grows { OnOk result (GrowsBy (λ k. Contains (whole_keys flat.now parts.now) k) keys.old.keys keys.new.keys) }
@@ -118,201 +136,203 @@ fn put_wholes(
     Ok(())
 }
 
-// What the last part is, of parts over one span.
-fn last_of(
+// The cause of parts over one span.
+fn cause_of(
     flat: &Flat,
     parts: &[Part],
     keys: &mut NodeKeys,
     wholes: &mut Vec<u32>,
-) -> Result<LastRow, ForestRefusal>
+) -> Result<CauseRow, AllocError>
     requires some { 0 < length parts.now }
     requires fits { (p : ThePart) → Contains parts.now p → FitsPart flat.now p }
-    ensures last { IfOk result (λ last. IsLastFound flat.now parts.now keys.new.keys wholes.old.items wholes.new.items last) }
+    ensures cause { IfOk result (λ cause. IsCauseFound flat.now parts.now keys.new.keys wholes.old.items wholes.new.items cause) }
     ensures grows { OnOk result (GrowsBy (λ k. Contains (whole_keys flat.now parts.now) k) keys.old.keys keys.new.keys) }
 {
     if parts[0].whole.is_none() {
-        return Ok(LastRow::Edge);
+        return Ok(CauseRow::Edge);
     }
     let first = number(wholes.len())?;
     put_wholes(flat, parts, keys, wholes)?;
-    Ok(LastRow::Wholes {
+    Ok(CauseRow::Wholes {
         first,
         end: number(wholes.len())?,
     })
 }
 
 // What is noted of a group.
-fn noted_last(lasts: &[Option<LastRow>], at: usize) -> Option<LastRow>
-    requires { at < length lasts.now }
-    ensures { IfSome result (λ last. slice_get lasts.now at ≡ Some (Some last)) }
+fn noted_cause(causes: &[Option<CauseRow>], at: usize) -> Option<CauseRow>
+    requires { at < length causes.now }
+    ensures { IfSome result (λ cause. slice_get causes.now at ≡ Some (Some cause)) }
 {
-    lasts[at]
+    causes[at]
 }
 
-// Notes the last part of a group.
-fn note_last(lasts: &mut Vec<Option<LastRow>>, at: usize, last: LastRow)
-    requires { at < length lasts.old.items }
-    ensures long { length lasts.new.items ≡ length lasts.old.items }
-    ensures each { (n : ℕ) (held : TheLastRow) → slice_get lasts.new.items n ≡ Some (Some held) → (slice_get lasts.old.items n ≡ Some (Some held)) ⊎ ((n ≡ at) × (held ≡ last)) }
+// Notes the cause of a group.
+fn note_cause(causes: &mut Vec<Option<CauseRow>>, at: usize, cause: CauseRow)
+    requires { at < length causes.old.items }
+    ensures long { length causes.new.items ≡ length causes.old.items }
+    ensures each { (n : ℕ) (held : TheCauseRow) → slice_get causes.new.items n ≡ Some (Some held) → (slice_get causes.old.items n ≡ Some (Some held)) ⊎ ((n ≡ at) × (held ≡ cause)) }
 {
-    lasts[at] = Some(last);
+    causes[at] = Some(cause);
 }
 
-// What the last part is, of the parts of a group. Their nodes are numbered once, for all alternatives.
-fn last_of_group(
+// The cause of a group. Its nodes are numbered once, for all alternatives.
+fn cause_of_group(
     known: &Known<'_>,
     group: Group,
     at: usize,
     found: &mut Found,
-) -> Result<LastRow, ForestRefusal>
+) -> Result<CauseRow, AllocError>
     requires knows { Knows known.now }
     requires group { slice_get known.now.groups.now at ≡ Some group }
     requires noted { AreNoted known.now found.old }
-    ensures { IfOk result (λ last. IsLastNoted known.now group found.old found.new last) }
+    ensures { IfOk result (λ cause. IsCauseNoted known.now group found.old found.new cause) }
 {
-    if let Some(last) = noted_last(&found.lasts, at) {
-        return Ok(last);
+    if let Some(cause) = noted_cause(&found.causes, at) {
+        return Ok(cause);
     }
     let parts = parts_between(known.parts, group.first, group.past);
-    let last = last_of(
+    let cause = cause_of(
         known.recce.flat(),
         parts,
         &mut found.keys,
         &mut found.wholes,
     )?;
-    note_last(&mut found.lasts, at, last);
-    Ok(last)
+    note_cause(&mut found.causes, at, cause);
+    Ok(cause)
 }
 
 // Puts the alternative of a group.
 fn put_alternative(
     known: &Known<'_>,
-    front: Item,
+    predecessor: Item,
     group: Group,
     at: usize,
     found: &mut Found,
-) -> Result<(), ForestRefusal>
+) -> Result<(), AllocError>
     requires knows { Knows known.now }
     requires group { slice_get known.now.groups.now at ≡ Some group }
     requires noted { AreNoted known.now found.old }
-    requires next { IsNext known.now front group.symbol }
-    requires there { Contains (set_at known.now.recce.now group.start) front }
-    ensures { OnOk result (Lists known.now front group.symbol (λ m. m ≡ group.start) found.old found.new) }
+    requires next { IsNext known.now predecessor group.symbol }
+    requires there { Contains (set_at known.now.recce.now group.start) predecessor }
+    ensures { OnOk result (Lists known.now predecessor group.symbol (λ m. m ≡ group.start) found.old found.new) }
 {
     let start = group.start;
-    let front = front_of(&mut found.keys, front, start)?;
-    let last = last_of_group(known, group, at, found)?;
-    found
-        .alternatives
-        .push(AlternativeRow { start, front, last })?;
+    let predecessor = predecessor_of(&mut found.keys, predecessor, start)?;
+    let cause = cause_of_group(known, group, at, found)?;
+    found.alternatives.push(AlternativeRow {
+        start,
+        predecessor,
+        cause,
+    })?;
     Ok(())
 }
 
 // Puts the alternatives of joins, which all have the item.
 fn put_alternatives(
     known: &Known<'_>,
-    front: Item,
+    predecessor: Item,
     symbol: u32,
     joins: &[Join],
     found: &mut Found,
-) -> Result<(), ForestRefusal>
+) -> Result<(), AllocError>
     requires knows { Knows known.now }
-    requires joins { AreJoinsOf known.now front joins.now }
+    requires joins { AreJoinsOf known.now predecessor joins.now }
     requires noted { AreNoted known.now found.old }
-    requires next { IsNext known.now front symbol }
-    ensures { OnOk result (Lists known.now front symbol (BeginsIn known.now joins.now) found.old found.new) }
+    requires next { IsNext known.now predecessor symbol }
+    ensures { OnOk result (Lists known.now predecessor symbol (BeginsIn known.now joins.now) found.old found.new) }
 {
     for join in joins {
         let at = join.group as usize;
-        put_alternative(known, front, known.groups[at], at, found)?;
+        put_alternative(known, predecessor, known.groups[at], at, found)?;
     }
     Ok(())
 }
 
-// Puts the alternative of a last part that spans nothing, if there is one.
+// Puts the alternative whose cause spans nothing, if there is one.
 fn put_nothing(
     known: &Known<'_>,
-    front: Item,
+    predecessor: Item,
     symbol: u32,
     found: &mut Found,
-) -> Result<(), ForestRefusal>
+) -> Result<(), AllocError>
     requires knows { Knows known.now }
-    requires next { IsNext known.now front symbol }
+    requires next { IsNext known.now predecessor symbol }
     requires noted { AreNoted known.now found.old }
-    ensures { OnOk result (Lists known.now front symbol (λ m. (m ≡ known.now.end) × IsNullable known.now.recce.now.flat symbol) found.old found.new) }
+    ensures { OnOk result (Lists known.now predecessor symbol (λ m. (m ≡ known.now.end) × IsNullable known.now.recce.now.flat symbol) found.old found.new) }
 {
-    if known.recce.flat().nullable(symbol) && known.recce.has(known.end, front) {
-        let front = front_of(&mut found.keys, front, known.end)?;
+    if known.recce.flat().nullable(symbol) && known.recce.has(known.end, predecessor) {
+        let predecessor = predecessor_of(&mut found.keys, predecessor, known.end)?;
         found.alternatives.push(AlternativeRow {
             start: known.end,
-            front,
-            last: LastRow::Nothing,
+            predecessor,
+            cause: CauseRow::Nothing,
         })?;
     }
     Ok(())
 }
 
-// Puts the alternatives of a node whose rule puts nulled last parts first.
+// Puts the alternatives of a node whose rule puts nulled causes first.
 fn put_nothing_first(
     known: &Known<'_>,
-    front: Item,
+    predecessor: Item,
     symbol: u32,
     joins: &[Join],
     found: &mut Found,
-) -> Result<(), ForestRefusal>
+) -> Result<(), AllocError>
     requires knows { Knows known.now }
-    requires high { IsTrue (is_high known.now front) }
-    requires joins { AreJoinsOf known.now front joins.now }
+    requires high { IsTrue (is_high known.now predecessor) }
+    requires joins { AreJoinsOf known.now predecessor joins.now }
     requires noted { AreNoted known.now found.old }
-    requires next { IsNext known.now front symbol }
-    ensures { OnOk result (Lists known.now front symbol (MayBegin known.now symbol) found.old found.new) }
+    requires next { IsNext known.now predecessor symbol }
+    ensures { OnOk result (Lists known.now predecessor symbol (MayBegin known.now symbol) found.old found.new) }
 {
-    put_nothing(known, front, symbol, found)?;
-    put_alternatives(known, front, symbol, joins, found)
+    put_nothing(known, predecessor, symbol, found)?;
+    put_alternatives(known, predecessor, symbol, joins, found)
 }
 
-// Puts the alternatives of a node whose rule puts nulled last parts last.
+// Puts the alternatives of a node whose rule puts nulled causes last.
 fn put_nothing_last(
     known: &Known<'_>,
-    front: Item,
+    predecessor: Item,
     symbol: u32,
     joins: &[Join],
     found: &mut Found,
-) -> Result<(), ForestRefusal>
+) -> Result<(), AllocError>
     requires knows { Knows known.now }
-    requires low { IsFalse (is_high known.now front) }
-    requires joins { AreJoinsOf known.now front joins.now }
+    requires low { IsFalse (is_high known.now predecessor) }
+    requires joins { AreJoinsOf known.now predecessor joins.now }
     requires noted { AreNoted known.now found.old }
-    requires next { IsNext known.now front symbol }
-    ensures { OnOk result (Lists known.now front symbol (MayBegin known.now symbol) found.old found.new) }
+    requires next { IsNext known.now predecessor symbol }
+    ensures { OnOk result (Lists known.now predecessor symbol (MayBegin known.now symbol) found.old found.new) }
 {
-    put_alternatives(known, front, symbol, joins, found)?;
-    put_nothing(known, front, symbol, found)
+    put_alternatives(known, predecessor, symbol, joins, found)?;
+    put_nothing(known, predecessor, symbol, found)
 }
 
 // Puts the alternatives of a node.
 fn put_node(
     known: &Known<'_>,
-    front: Item,
+    predecessor: Item,
     symbol: u32,
     found: &mut Found,
-) -> Result<(), ForestRefusal>
+) -> Result<(), AllocError>
     requires knows { Knows known.now }
-    requires rule { IsRule known.now.recce.now.flat front.rule }
-    requires next { IsNext known.now front symbol }
+    requires rule { IsRule known.now.recce.now.flat predecessor.rule }
+    requires next { IsNext known.now predecessor symbol }
     requires noted { AreNoted known.now found.old }
-    ensures { OnOk result (Lists known.now front symbol (MayBegin known.now symbol) found.old found.new) }
+    ensures { OnOk result (Lists known.now predecessor symbol (MayBegin known.now symbol) found.old found.new) }
 {
-    let joins = joins_of(known.joins, front);
-    if is_null_high(known.recce.flat(), known.written, front.rule) {
-        put_nothing_first(known, front, symbol, joins, found)
+    let joins = joins_of(known.joins, predecessor);
+    if is_null_high(known.recce.flat(), known.written, predecessor.rule) {
+        put_nothing_first(known, predecessor, symbol, joins, found)
     } else {
-        put_nothing_last(known, front, symbol, joins, found)
+        put_nothing_last(known, predecessor, symbol, joins, found)
     }
 }
 
 /// Puts the alternatives of a node by its key.
-pub fn put_key(known: &Known<'_>, key: NodeKey, found: &mut Found) -> Result<(), ForestRefusal>
+pub fn put_key(known: &Known<'_>, key: NodeKey, found: &mut Found) -> Result<(), AllocError>
     requires knows { Knows known.now }
     requires used { IsUsedIn known.now.written.now known.now.ranking known.now.recce.now key }
     requires end { key.end ≡ known.now.end }
@@ -320,17 +340,17 @@ pub fn put_key(known: &Known<'_>, key: NodeKey, found: &mut Found) -> Result<(),
     requires noted { AreNoted known.now found.old }
     ensures { OnOk result (ListsKey known.now key found.old found.new) }
 {
-    let front = Item {
+    let predecessor = Item {
         rule: key.rule,
         dot: key.dot - 1,
         origin: key.origin,
     };
-    let symbol = known.recce.flat().rhs(key.rule)[front.dot as usize];
-    put_node(known, front, symbol, found)
+    let symbol = known.recce.flat().rhs(key.rule)[predecessor.dot as usize];
+    put_node(known, predecessor, symbol, found)
 }
 
 /// Begins with the node of the whole, if it spans something.
-pub fn begin(recce: &Recce<'_>, keys: &mut NodeKeys) -> Result<Option<u32>, ForestRefusal>
+pub fn begin(recce: &Recce<'_>, keys: &mut NodeKeys) -> Result<Option<u32>, AllocError>
     requires { keys.old.keys ≡ [] }
     ensures root { IfOk result (λ root. IsBegun recce.now keys.new.keys root) }
     ensures is { OnOk result (IsRecognizer recce.now) }

@@ -36,7 +36,9 @@ fn value_of(alloc: Global, grammar: &Grammar, expression: &str) -> Result<i64, C
 
 fn value_of_reading(alloc: Global, reading: &Reading<'_>) -> Result<i64, CalculationError> {
     let forest = reading.forest(alloc, Ranking::Rule)?;
-    first_value(alloc, &forest)
+    let value = first_value(alloc, &forest);
+    drop(forest);
+    value
 }
 
 /// The value of the first derivation. There is one, and the grammar gives no more.

@@ -73,7 +73,7 @@ within_is code x ps from to le le' low here high =
     let q = leads code x in
     let inner = take (to - from) (drop from ps) in
     let outer = drop (to - from) (drop from ps) in
-    let front : list_any q (take from ps) ≡ false =
+    let prefix : list_any q (take from ps) ≡ false =
     none_passes q (take from ps) (λ k d lt. let k' : k < from = omega (arith, length-take-le from ps (omega arith)) in
     ap (λ b. b && ((get_or (take from ps) k d).1 == x)) (ne_eqb _ code (λ e. let a = low k d k' in let g = ap (λ (p : ℕ × ℕ). p.0) (get_or-take from ps k d k') in omega (arith, e, a, g)))) in
     let rest : list_any q outer ≡ false =
@@ -87,7 +87,7 @@ within_is code x ps from to le le' low here high =
     let k' : k < to - from = omega arith in
     ap (λ (p : ℕ × ℕ). p.0) (get_or-take (to - from) (drop from ps) k d k' ∙ get_or-drop from ps k d) ∙ here (from + k) d (omega arith) (omega arith))
     ∙ sym (
-    ap (list_any q) (sym (take-append-drop from ps)) ∙ list_any-append q (take from ps) (drop from ps) ∙ ap (λ b. b || list_any q (drop from ps)) front
+    ap (list_any q) (sym (take-append-drop from ps)) ∙ list_any-append q (take from ps) (drop from ps) ∙ ap (λ b. b || list_any q (drop from ps)) prefix
     ∙ ap (list_any q) (sym (take-append-drop (to - from) (drop from ps))) ∙ list_any-append q inner outer ∙ ap (λ b. list_any q inner || b) rest ∙ or-false (list_any q inner))
 
 -- pairs stand in both orders

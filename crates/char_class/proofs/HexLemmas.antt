@@ -7,8 +7,8 @@ use Rattle.std.proofs.lemmas.List.Sums.{prefix_len_passes}
 use Rattle.std.proofs.lemmas.Bool.{lt-ltb, le-leb}
 use Rattle.language_model.specs.Classes.{hex_piece, one_or_bad, hex_number}
 
-pub front_passes : (p : ℕ → Bool) (xs : List ℕ) (n k : ℕ) → n ≡ prefix_len p xs → k < length (take n xs) → p (get_or (take n xs) k 0) ≡ true
-front_passes p xs n k same h =
+pub prefix_passes : (p : ℕ → Bool) (xs : List ℕ) (n k : ℕ) → n ≡ prefix_len p xs → k < length (take n xs) → p (get_or (take n xs) k 0) ≡ true
+prefix_passes p xs n k same h =
     let below : k < n = omega (arith, length-take n xs) in
     ap p (get_or-take n xs k 0 below) ∙ prefix_len_passes p xs k 0 (omega arith)
 

@@ -9,9 +9,9 @@ use Rattle.language_model.specs.Classes.{items_of, item_then, range_start}
 use Rattle.char_class.specs.Reading.{item_at}
 
 -- the items before, and those that are read
-abbrev pub with_front : List ClassItem → Result (List ClassItem) ClassFault → Result (List ClassItem) ClassFault
-with_front front (Ok items) = Ok (front ++ items)
-with_front front (Err f) = Err f
+abbrev pub with_prefix : List ClassItem → Result (List ClassItem) ClassFault → Result (List ClassItem) ClassFault
+with_prefix prefix (Ok items) = Ok (prefix ++ items)
+with_prefix prefix (Err f) = Err f
 
 by_start : (p q r : Piece) (ps : List Piece) (o : Option ℕ) → range_start p q ≡ o → items_of (p ∷ q ∷ r ∷ ps) ≡ item_then (item_at (p ∷ q ∷ r ∷ ps)).0 (items_of (drop (item_at (p ∷ q ∷ r ∷ ps)).1 (p ∷ q ∷ r ∷ ps)))
 unfolding items_of
@@ -25,9 +25,9 @@ items_of-step (p ∷ []) h = refl
 items_of-step (p ∷ q ∷ []) h = refl
 items_of-step (p ∷ q ∷ r ∷ ps) h = by_start p q r ps (range_start p q) refl
 
-pub with_front-ok : (front : List ClassItem) (i : ClassItem) (rest : Result (List ClassItem) ClassFault) → with_front front (item_then (Ok i) rest) ≡ with_front (front ++ i ∷ []) rest
-with_front-ok front i (Ok is) = ap Ok (sym (append_assoc front (i ∷ []) is))
-with_front-ok front i (Err f) = refl
+pub with_prefix-ok : (prefix : List ClassItem) (i : ClassItem) (rest : Result (List ClassItem) ClassFault) → with_prefix prefix (item_then (Ok i) rest) ≡ with_prefix (prefix ++ i ∷ []) rest
+with_prefix-ok prefix i (Ok is) = ap Ok (sym (append_assoc prefix (i ∷ []) is))
+with_prefix-ok prefix i (Err f) = refl
 
 items_here : (ps : List Piece) (at : ℕ) (found : Result ClassItem ClassFault × ℕ) → at < length ps → found ≡ item_at (take (length ps - at) (drop at ps)) → items_of (drop at ps) ≡ item_then found.0 (items_of (drop (at + found.1) ps))
 items_here ps at found within is =
@@ -37,14 +37,14 @@ items_here ps at found within is =
     (items_of-step (drop at ps) some ∙ ap (λ t. item_then (item_at (drop at ps)).0 (items_of t)) (drop-drop _ _ ps))
 
 -- a step of the loop, where there is an item
-pub items_next : (ps : List Piece) (at : ℕ) (front : List ClassItem) (found : Result ClassItem ClassFault × ℕ) (i : ClassItem) → at < length ps → found ≡ item_at (take (length ps - at) (drop at ps)) → found.0 ≡ Ok i → with_front front (items_of (drop at ps)) ≡ items_of ps → with_front (front ++ i ∷ []) (items_of (drop (at + found.1) ps)) ≡ items_of ps
-items_next ps at front found i within is ok so_far = sym (with_front-ok front i _) ∙ ap (with_front front) (sym (items_here ps at found within is ∙ ap (λ r. item_then r (items_of (drop (at + found.1) ps))) ok)) ∙ so_far
+pub items_next : (ps : List Piece) (at : ℕ) (prefix : List ClassItem) (found : Result ClassItem ClassFault × ℕ) (i : ClassItem) → at < length ps → found ≡ item_at (take (length ps - at) (drop at ps)) → found.0 ≡ Ok i → with_prefix prefix (items_of (drop at ps)) ≡ items_of ps → with_prefix (prefix ++ i ∷ []) (items_of (drop (at + found.1) ps)) ≡ items_of ps
+items_next ps at prefix found i within is ok so_far = sym (with_prefix-ok prefix i _) ∙ ap (with_prefix prefix) (sym (items_here ps at found within is ∙ ap (λ r. item_then r (items_of (drop (at + found.1) ps))) ok)) ∙ so_far
 
 -- where there is none
-pub items_end : (ps : List Piece) (at : ℕ) (front : List ClassItem) (found : Result ClassItem ClassFault × ℕ) (f : ClassFault) → at < length ps → found ≡ item_at (take (length ps - at) (drop at ps)) → found.0 ≡ Err f → with_front front (items_of (drop at ps)) ≡ items_of ps → items_of ps ≡ Err f
-items_end ps at front found f within is err so_far = sym so_far ∙ ap (with_front front) (items_here ps at found within is ∙ ap (λ r. item_then r (items_of (drop (at + found.1) ps))) err)
+pub items_end : (ps : List Piece) (at : ℕ) (prefix : List ClassItem) (found : Result ClassItem ClassFault × ℕ) (f : ClassFault) → at < length ps → found ≡ item_at (take (length ps - at) (drop at ps)) → found.0 ≡ Err f → with_prefix prefix (items_of (drop at ps)) ≡ items_of ps → items_of ps ≡ Err f
+items_end ps at prefix found f within is err so_far = sym so_far ∙ ap (with_prefix prefix) (items_here ps at found within is ∙ ap (λ r. item_then r (items_of (drop (at + found.1) ps))) err)
 
 -- past the end
-pub items_all : (ps : List Piece) (at : ℕ) (front : List ClassItem) → length ps ≤ at → with_front front (items_of (drop at ps)) ≡ items_of ps → items_of ps ≡ Ok front
+pub items_all : (ps : List Piece) (at : ℕ) (prefix : List ClassItem) → length ps ≤ at → with_prefix prefix (items_of (drop at ps)) ≡ items_of ps → items_of ps ≡ Ok prefix
 unfolding items_of
-items_all ps at front past so_far = sym so_far ∙ ap (λ t. with_front front (items_of t)) (drop_of_length-le ps past) ∙ ap Ok (append-nil front)
+items_all ps at prefix past so_far = sym so_far ∙ ap (λ t. with_prefix prefix (items_of t)) (drop_of_length-le ps past) ∙ ap Ok (append-nil prefix)

@@ -1,9 +1,9 @@
 -- What the stored bits and codes say of members.
-use Rattle.std.proofs.Common.{◌≡◌, inl, inr, ⊎_elim, ◌↔◌, ℕ, ◌<◌, Bool, true, false, not, ◌&&◌, ◌||◌, ◌==◌, ◌≢◌, ◌+◌, ◌++◌, List, [], ◌∷◌, length, take, get_or, refl, sym, ap, subst, ◌∙◌, arith, eqb-true, eq-eqb, Any, ◌≤◌, ◌*◌, ◌^◌, ◌%◌, bit_or, bit_and, ◌/◌, below_more}
-use Rattle.std.specs.Prelude.{suc, nat_lt, ◌⊎◌, MatchResult, Result, Ok, Err, is_ok, IsPermutation, if◌then◌else◌, IsTrue, MatchBool}
+use Rattle.std.proofs.Common.{◌≡◌, ⊎_elim, ◌↔◌, ℕ, ◌<◌, Bool, true, false, not, ◌&&◌, ◌||◌, ◌==◌, ◌≢◌, ◌+◌, ◌++◌, List, [], ◌∷◌, length, take, get_or, refl, sym, ap, subst, ◌∙◌, arith, eqb-true, eq-eqb, Any, ◌≤◌, ◌*◌, ◌^◌, ◌%◌, bit_or, bit_and, ◌/◌, below_more}
+use Rattle.std.specs.Prelude.{suc, ◌⊎◌, MatchResult, Result, Ok, Err, is_ok, IsPermutation, if◌then◌else◌, IsTrue, MatchBool}
 use Rattle.std.specs.List.{list_any, list_all}
 use Rattle.std.proofs.lemmas.List.Sorted.{list_any-IsPermutation}
-use Rattle.std.proofs.lemmas.Bool.{ltb-true, ltb-false, and_parts, or_cases, or_left, or_right}
+use Rattle.std.proofs.lemmas.Bool.{and_parts, or_cases, or_left, or_right, cases_lt}
 use Rattle.std.proofs.lemmas.List.Folds.{list_any-append, list_any_more, list_any_at, Any-from_list_any, list_any-from_Any}
 use Rattle.std.proofs.Math.Bool.{or-false, and-true, and-false}
 use Rattle.std.specs.Cmp.Derive.{both_true}
@@ -134,13 +134,6 @@ parts_answer negated caseless items folded now c result has same is =
     let e = is ∙ tested_is negated caseless items folded c (has c) in
     subst P same (λ h. member.0 (sym e ∙ h), λ m. e ∙ member.1 m)
 
-lt_or_le : (a b : ℕ) → (a < b) ⊎ (b ≤ a)
-lt_or_le a b = go (nat_lt a b) refl
-  where
-    go : (t : Bool) → nat_lt a b ≡ t → (a < b) ⊎ (b ≤ a)
-    go true e = inl (ltb-true a b e)
-    go false e = inr (ltb-false a b e)
-
 none_there : (codes : List ℕ) (c : ℕ) → ((k : ℕ) → k < length codes → get_or codes k 0 ≡ c → ⊥) → has_code codes c ≡ false
 none_there [] c h = refl
 none_there (x ∷ xs) c h = go (x == c) refl ∙ none_there xs c (λ k lt e. h (suc k) (omega arith) e)
@@ -155,7 +148,7 @@ among_is codes c (Ok i) h = sym (list_any_at (λ x. x == c) codes i 0 h.0 (eq-eq
 among_is codes c (Err i) h = sym (none_there codes c either)
   where
     either : (k : ℕ) → k < length codes → get_or codes k 0 ≡ c → ⊥
-    either k lt e = ⊎_elim (λ a. (let b = h.1 k a in absurd (omega arith))) (λ a. (let b = h.2 k a lt in absurd (omega arith))) (lt_or_le k i)
+    either k lt e = ⊎_elim (λ a. (let b = h.1 k a in absurd (omega arith))) (λ a. (let b = h.2 k a lt in absurd (omega arith))) (cases_lt k i)
 
 pub same_codes : (folded sorted : List ℕ) (c : ℕ) → IsPermutation folded sorted → has_code sorted c ≡ has_code folded c
 same_codes folded sorted c p = sym (list_any-IsPermutation (λ x. x == c) folded sorted p)

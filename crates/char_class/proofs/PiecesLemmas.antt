@@ -26,11 +26,11 @@ unfolding pieces_behind
 pieces_of-past text at h = ap (λ t. pieces_behind t 0) (drop_of_length-le text h)
 
 -- a step of the loop
-pub pieces_next : (text : List ℕ) (at : ℕ) (front : List Piece) (found : Piece × ℕ) → at < length text → found ≡ piece_at (take (length text - at) (drop at text)) → 0 < found.1 → front ++ pieces_of (drop at text) ≡ pieces_of text → (front ++ found.0 ∷ []) ++ pieces_of (drop (at + found.1) text) ≡ pieces_of text
-pieces_next text at front found within is moves so_far =
+pub pieces_next : (text : List ℕ) (at : ℕ) (prefix : List Piece) (found : Piece × ℕ) → at < length text → found ≡ piece_at (take (length text - at) (drop at text)) → 0 < found.1 → prefix ++ pieces_of (drop at text) ≡ pieces_of text → (prefix ++ found.0 ∷ []) ++ pieces_of (drop (at + found.1) text) ≡ pieces_of text
+pieces_next text at prefix found within is moves so_far =
     let here : found ≡ piece_at (drop at text) = is ∙ ap piece_at (take_rest text at) in
     let some : 0 < length (drop at text) = omega (arith, length-drop at text) in
     let step : pieces_of (drop at text) ≡ found.0 ∷ pieces_of (drop (at + found.1) text) =
     subst (λ (f : Piece × ℕ). 0 < f.1 → pieces_of (drop at text) ≡ f.0 ∷ pieces_of (drop (at + f.1) text)) (sym here)
     (λ m. pieces_of-step (drop at text) some m ∙ ap (λ t. (piece_at (drop at text)).0 ∷ pieces_of t) (drop-drop _ _ text)) moves in
-    append_assoc front (found.0 ∷ []) (pieces_of (drop (at + found.1) text)) ∙ ap (λ ps. front ++ ps) (sym step) ∙ so_far
+    append_assoc prefix (found.0 ∷ []) (pieces_of (drop (at + found.1) text)) ∙ ap (λ ps. prefix ++ ps) (sym step) ∙ so_far

@@ -13,15 +13,19 @@ stats_rule = record (option_rule stats) { action = Some SetTrue }
 abbrev pub job_rule : Rule
 job_rule = new_rule (codes "JOB")
 
+abbrev pub with_options : App → App
+with_options app =
+    with_rule (with_rule (with_rule (with_rule app
+    (option_rule (codes "grammar")))
+    (option_rule (codes "input")))
+    (option_rule (codes "first")))
+    (option_rule (codes "rank"))
+
 abbrev pub slif_app : App
 slif_app =
     let new = new_app (codes "slif") in
     let app : App = record new { top = record new.top { no_binary_name = true; disable_help_flag = true } } in
-    with_rule (with_rule (with_rule (with_rule (with_rule (with_rule (with_rule (with_rule (with_rule app
-    (option_rule (codes "grammar")))
-    (option_rule (codes "input")))
-    (option_rule (codes "first")))
-    (option_rule (codes "rank")))
+    with_rule (with_rule (with_rule (with_rule (with_rule (with_options app)
     (option_rule (codes "show")))
     (option_rule (codes "at")))
     (option_rule (codes "size")))

@@ -13,6 +13,12 @@ use crate::value::{file_name, number_from, ranking_of, show_of};
 use clap::ArgMatches;
 use grammar_model::{Ranking, Show};
 
+// the last place that an input can have
+const LAST_EARLEME: u32 = 16_777_216;
+
+// the greatest size of job `work`
+const LARGEST_WORK: u32 = 100_000;
+
 fn stands_in(names: &[&str], name: &str) -> bool
     ensures { result ≡ list_any (λ other. bytes_eq other.now name.now) names.now }
 {
@@ -135,14 +141,14 @@ fn values_asked(matches: &ArgMatches<'_>) -> Option<Task>
 fn report_asked(matches: &ArgMatches<'_>) -> Option<Task>
     ensures { option_map task_of result ≡ model.report_asked (given_in (found_of matches.now)) }
 {
-    let at = number_from(0, 16_777_216, matches.get_str("at")?)?;
+    let at = number_from(0, LAST_EARLEME, matches.get_str("at")?)?;
     Some(Task::Tell(Telling::Report { at }))
 }
 
 fn work_asked(matches: &ArgMatches<'_>) -> Option<Task>
     ensures { option_map task_of result ≡ model.work_asked (given_in (found_of matches.now)) }
 {
-    let size = number_from(1, 100_000, matches.get_str("size")?)?;
+    let size = number_from(1, LARGEST_WORK, matches.get_str("size")?)?;
     Some(Task::Work { size })
 }
 

@@ -2,11 +2,11 @@
 use Rattle.std.proofs.Common.{◌≡◌, ℕ, zero, suc, ◌<◌, Bool, true, false, cond, List, [], ◌∷◌, ◌++◌, refl, map, length, arith}
 use Rattle.std.specs.Prelude.{flat_map, filter, slice_index_or}
 use Rattle.std.specs.List.{AllByRecursion}
-use Rattle.dsl_build.proofs.Faultless.{front_empty, back_empty}
+use Rattle.finite_sets.proofs.Lists.{prefix_empty, back_empty}
 
-pub all_front : {A : Type 0} (P : A → Type 0) (xs ys : List A) → AllByRecursion P (xs ++ ys) → AllByRecursion P xs
-all_front P [] ys a = tt
-all_front P (x ∷ xs) ys a = (a.0, all_front P xs ys a.1)
+pub all_prefix : {A : Type 0} (P : A → Type 0) (xs ys : List A) → AllByRecursion P (xs ++ ys) → AllByRecursion P xs
+all_prefix P [] ys a = tt
+all_prefix P (x ∷ xs) ys a = (a.0, all_prefix P xs ys a.1)
 
 pub all_back : {A : Type 0} (P : A → Type 0) (xs ys : List A) → AllByRecursion P (xs ++ ys) → AllByRecursion P ys
 all_back P [] ys a = a
@@ -38,7 +38,7 @@ all_flat P f (x ∷ xs) a = all_join P (f x) (flat_map f xs) a.0 (all_flat P f x
 
 pub all_pieces : {A B : Type 0} (P : B → Type 0) (f : A → List B) (xs : List A) → AllByRecursion P (flat_map f xs) → AllByRecursion (λ x. AllByRecursion P (f x)) xs
 all_pieces P f [] a = tt
-all_pieces P f (x ∷ xs) a = (all_front P (f x) (flat_map f xs) a, all_pieces P f xs (all_back P (f x) (flat_map f xs) a))
+all_pieces P f (x ∷ xs) a = (all_prefix P (f x) (flat_map f xs) a, all_pieces P f xs (all_back P (f x) (flat_map f xs) a))
 
 pub all_filter : {A : Type 0} (P : A → Type 0) (p : A → Bool) (xs : List A) → AllByRecursion (λ x. p x ≡ true → P x) xs → AllByRecursion P (filter p xs)
 all_filter P p [] a = tt
@@ -50,7 +50,7 @@ all_filter P p (x ∷ xs) a = go (p x) refl (all_filter P p xs a.1)
 
 pub all_empty : {A B : Type 0} (f : A → List B) (xs : List A) → flat_map f xs ≡ [] → AllByRecursion (λ x. f x ≡ []) xs
 all_empty f [] e = tt
-all_empty f (x ∷ xs) e = (front_empty (f x) (flat_map f xs) e, all_empty f xs (back_empty (f x) (flat_map f xs) e))
+all_empty f (x ∷ xs) e = (prefix_empty (f x) (flat_map f xs) e, all_empty f xs (back_empty (f x) (flat_map f xs) e))
 
 pub all_at : {A : Type 0} (P : A → Type 0) (xs : List A) (i : ℕ) (d : A) → AllByRecursion P xs → i < length xs → P (slice_index_or xs i d)
 all_at P [] i d a lt = absurd (omega arith)

@@ -7,10 +7,11 @@ use Rattle.std.specs.Char.{encode_utf8}
 use Rattle.std.proofs.Math.Utf8.{scalars, scalar}
 use Rattle.std.proofs.Math.Seq.{take-append_seam}
 use Rattle.std.proofs.lemmas.List.{length-map}
-use Rattle.std.proofs.lemmas.Bool.{true≢false}
+use Rattle.std.proofs.lemmas.Bool.{true≢false, and_from, or_left}
 use Rattle.std.proofs.lemmas.Bool.Decides.{Decides-eqb}
 use Rattle.std.proofs.lemmas.Slice.Eq.{ends_is}
 use Rattle.std.proofs.lemmas.Str.{encodes-append, chars-encodes, char_from_byte, length-le-encodes}
+use Rattle.finite_sets.proofs.Clauses.{and_right}
 use Rattle.unicode.specs.Binary.{is_white_space}
 use Rattle.ucd_table.specs.Rows.{in_ranges}
 use Rattle.ucd_props.specs.Ranges.{white_space_ranges}
@@ -32,8 +33,8 @@ last_behind : (d : ℕ) (xs : List ℕ) (y : ℕ) (ys : List ℕ) → last_or d 
 last_behind d [] y ys = refl
 last_behind d (x ∷ xs) y ys = last_behind x xs y ys
 
-ends : (s p : List ℕ) (front : List ℕ) → s ≡ front ++ p → ends_with nat_eq s p ≡ true
-ends s p front e = (ends_is Decides-eqb s p (ends_with nat_eq s p) refl).1 front e
+ends : (s p : List ℕ) (prefix : List ℕ) → s ≡ prefix ++ p → ends_with nat_eq s p ≡ true
+ends s p prefix e = (ends_is Decides-eqb s p (ends_with nat_eq s p) refl).1 prefix e
 
 ends_not : (s : List ℕ) (y : ℕ) (ys : List ℕ) (b : Bool) → ends_with nat_eq s (y ∷ ys) ≡ b → (last_or 0 s ≡ last_or y ys → ⊥) → b ≡ false
 ends_not s y ys true e other =
@@ -45,43 +46,35 @@ ends_not s y ys false e other = refl
 seam : (xs : List ℕ) (y : ℕ) (ys : List ℕ) → xs ++ y ∷ ys ≡ (xs ++ y ∷ []) ++ ys
 seam xs y ys = sym (append_assoc xs (y ∷ []) ys)
 
-modifier_is : (front modifier : List ℕ) → IsModifier modifier → modifier_len (front ++ 39 ∷ modifier) ≡ length modifier
-modifier_is front modifier (zero, within, is) =
-    subst (λ m. modifier_len (front ++ 39 ∷ m) ≡ length m) is
-    (let s = front ++ 39 ∷ [] in
-    let last : last_or 0 s ≡ 39 = last_behind 0 front 39 [] in
+modifier_is : (prefix modifier : List ℕ) → IsModifier modifier → modifier_len (prefix ++ 39 ∷ modifier) ≡ length modifier
+modifier_is prefix modifier (zero, within, is) =
+    subst (λ m. modifier_len (prefix ++ 39 ∷ m) ≡ length m) is
+    (let s = prefix ++ 39 ∷ [] in
+    let last : last_or 0 s ≡ 39 = last_behind 0 prefix 39 [] in
     let a : ends_with nat_eq s (codes ":ic") ≡ false = ends_not s 58 (105 ∷ 99 ∷ []) (ends_with nat_eq s (codes ":ic")) refl (λ (e : last_or 0 s ≡ 99). omega (arith, last, e)) in
     let b : ends_with nat_eq s (codes ":i") ≡ false = ends_not s 58 (105 ∷ []) (ends_with nat_eq s (codes ":i")) refl (λ (e : last_or 0 s ≡ 105). omega (arith, last, e)) in
     ap (λ x. cond x 3 (cond (ends_with nat_eq s (codes ":i")) 2 0)) a ∙ ap (λ x. cond x 2 0) b)
-modifier_is front modifier (suc zero, within, is) =
-    subst (λ m. modifier_len (front ++ 39 ∷ m) ≡ length m) is
-    (let s = front ++ 39 ∷ codes ":i" in
-    let last : last_or 0 s ≡ 105 = last_behind 0 front 39 (codes ":i") in
+modifier_is prefix modifier (suc zero, within, is) =
+    subst (λ m. modifier_len (prefix ++ 39 ∷ m) ≡ length m) is
+    (let s = prefix ++ 39 ∷ codes ":i" in
+    let last : last_or 0 s ≡ 105 = last_behind 0 prefix 39 (codes ":i") in
     let a : ends_with nat_eq s (codes ":ic") ≡ false = ends_not s 58 (105 ∷ 99 ∷ []) (ends_with nat_eq s (codes ":ic")) refl (λ (e : last_or 0 s ≡ 99). omega (arith, last, e)) in
-    let b : ends_with nat_eq s (codes ":i") ≡ true = ends s (codes ":i") (front ++ 39 ∷ []) (seam front 39 (codes ":i")) in
+    let b : ends_with nat_eq s (codes ":i") ≡ true = ends s (codes ":i") (prefix ++ 39 ∷ []) (seam prefix 39 (codes ":i")) in
     ap (λ x. cond x 3 (cond (ends_with nat_eq s (codes ":i")) 2 0)) a ∙ ap (λ x. cond x 2 0) b)
-modifier_is front modifier (suc (suc zero), within, is) =
-    subst (λ m. modifier_len (front ++ 39 ∷ m) ≡ length m) is
-    (let s = front ++ 39 ∷ codes ":ic" in
-    let a : ends_with nat_eq s (codes ":ic") ≡ true = ends s (codes ":ic") (front ++ 39 ∷ []) (seam front 39 (codes ":ic")) in
+modifier_is prefix modifier (suc (suc zero), within, is) =
+    subst (λ m. modifier_len (prefix ++ 39 ∷ m) ≡ length m) is
+    (let s = prefix ++ 39 ∷ codes ":ic" in
+    let a : ends_with nat_eq s (codes ":ic") ≡ true = ends s (codes ":ic") (prefix ++ 39 ∷ []) (seam prefix 39 (codes ":ic")) in
     ap (λ x. cond x 3 (cond (ends_with nat_eq s (codes ":i")) 2 0)) a)
-modifier_is front modifier (suc (suc (suc k)), within, is) = absurd (omega (arith, within))
+modifier_is prefix modifier (suc (suc (suc k)), within, is) = absurd (omega (arith, within))
 
 pub both_left : (a b : Bool) → (a && b) ≡ true → a ≡ true
 both_left true b e = refl
 both_left false b e = e
 
-pub both_right : (a b : Bool) → (a && b) ≡ true → b ≡ true
-both_right true b e = e
-both_right false b e = cc
-
-both_true : (a b : Bool) → a ≡ true → b ≡ true → (a && b) ≡ true
-both_true true b e f = f
-both_true false b e f = e
-
-scalars_front : (xs ys : List ℕ) → scalars (xs ++ ys) ≡ true → scalars xs ≡ true
-scalars_front [] ys e = refl
-scalars_front (x ∷ xs) ys e = both_true (scalar x) (scalars xs) (both_left (scalar x) (scalars (xs ++ ys)) e) (scalars_front xs ys (both_right (scalar x) (scalars (xs ++ ys)) e))
+scalars_prefix : (xs ys : List ℕ) → scalars (xs ++ ys) ≡ true → scalars xs ≡ true
+scalars_prefix [] ys e = refl
+scalars_prefix (x ∷ xs) ys e = and_from (scalar x) (scalars xs) (both_left (scalar x) (scalars (xs ++ ys)) e) (scalars_prefix xs ys (and_right (scalar x) (scalars (xs ++ ys)) e))
 
 modifier_bytes : (modifier : List ℕ) → IsModifier modifier → encode_utf8_all modifier ≡ modifier
 unfolding encode_utf8
@@ -109,12 +102,12 @@ quoted_facts text inner modifier e s m =
     let bytes = encode_utf8_all inner in
     let content = 39 ∷ (bytes ++ 39 ∷ modifier) in
     let is : encode_utf8_all text ≡ content = ap encode_utf8_all e ∙ quoted_bytes inner modifier m in
-    let all : scalars (inner ++ 39 ∷ modifier) ≡ true = both_right (scalar 39) (scalars (inner ++ 39 ∷ modifier)) (ap scalars (sym e) ∙ s) in
+    let all : scalars (inner ++ 39 ∷ modifier) ≡ true = and_right (scalar 39) (scalars (inner ++ 39 ∷ modifier)) (ap scalars (sym e) ∙ s) in
     let long : length (bytes ++ 39 ∷ modifier) ≡ length bytes + suc (length modifier) = length-append bytes (39 ∷ modifier) in
     let behind : modifier_len content ≡ length modifier = modifier_is (39 ∷ bytes) modifier m in
     let count : length content - modifier_len content - 2 ≡ length bytes = omega (arith, long, behind) in
     subst (λ c. IsQuoted c inner) (sym is) (record {
-      characters = scalars_front inner (39 ∷ modifier) all;
+      characters = scalars_prefix inner (39 ∷ modifier) all;
       bytes = ap (λ n. take n (bytes ++ 39 ∷ modifier)) count ∙ take-append_seam bytes (39 ∷ modifier);
       shorter = let le = length-le-encodes inner in omega (arith, long, le);
       first = λ rest f. other 39 58 (bytes ++ 39 ∷ modifier) rest f (λ g. omega (arith, g));
@@ -180,17 +173,13 @@ first_other c cs ne rest e =
 lettered_other : (c : ℕ) → is_lettered c ≡ true → c ≡ 58 → ⊥
 lettered_other c l e = true≢false (sym l ∙ ap is_lettered e ∙ colon_none)
 
-or_front : (a b : Bool) → a ≡ true → (a || b) ≡ true
-or_front true b e = refl
-or_front false b e = absurd (true≢false (sym e))
-
 run_named : (text : List ℕ) → 0 < length text → list_all is_word text ≡ true → NoColon (encode_utf8_all text)
 run_named [] lt a = absurd (omega (arith, lt))
-run_named (c ∷ cs) lt a = first_other c cs (lettered_other c (or_front (is_word c) (is_white_space c) (both_left (is_word c) (list_all is_word cs) a)))
+run_named (c ∷ cs) lt a = first_other c cs (lettered_other c (or_left (is_word c) (is_white_space c) (both_left (is_word c) (list_all is_word cs) a)))
 
 spaced_named : (cs : List ℕ) (pending : Bool) → list_all is_lettered cs ≡ true → NoColon (encode_utf8_all (spaced cs false pending))
 spaced_named [] pending a = λ rest e. cc
-spaced_named (c ∷ cs) pending a = go (is_white_space c) (spaced_named cs true (both_right (is_lettered c) (list_all is_lettered cs) a))
+spaced_named (c ∷ cs) pending a = go (is_white_space c) (spaced_named cs true (and_right (is_lettered c) (list_all is_lettered cs) a))
   where
     go : (w : Bool) → NoColon (encode_utf8_all (spaced cs false true)) → NoColon (encode_utf8_all (cond w (spaced cs false true) (c ∷ spaced cs true false)))
     go true rest = rest

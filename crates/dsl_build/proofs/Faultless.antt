@@ -1,23 +1,8 @@
 -- What a description without faults has not.
-use Rattle.std.proofs.Common.{◌≡◌, Bool, true, false, List, [], ◌∷◌, ◌++◌, refl, map}
+use Rattle.std.proofs.Common.{◌≡◌, List, [], ◌++◌, map}
+use Rattle.finite_sets.proofs.Lists.{map_empty, prefix_empty, back_empty}
 use Rattle.language_model.specs.Description.{Statement}
-use Rattle.language_model.specs.Building.{Fault, BadAdverb, RepeatedAdverb, LexemeNotDefined, InBoth, NotALexeme, BadClass, TwoStarts, NumberRange, TooLong, faults_of, bad_adverbs, repeated, not_defined, in_both, lefts, not_lexemes, bad_classes, second_starts, big_numbers, too_long, at_most}
-
-pub front_empty : {A : Type 0} (xs ys : List A) → xs ++ ys ≡ [] → xs ≡ []
-front_empty [] ys e = refl
-front_empty (x ∷ xs) ys e = cc
-
-pub back_empty : {A : Type 0} (xs ys : List A) → xs ++ ys ≡ [] → ys ≡ []
-back_empty [] ys e = e
-back_empty (x ∷ xs) ys e = cc
-
-pub map_empty : {A B : Type 0} (f : A → B) (xs : List A) → map f xs ≡ [] → xs ≡ []
-map_empty f [] e = refl
-map_empty f (x ∷ xs) e = cc
-
-pub none_of : (b : Bool) (f : Fault) → at_most b f ≡ [] → b ≡ false
-none_of true f e = cc
-none_of false f e = refl
+use Rattle.language_model.specs.Building.{BadAdverb, RepeatedAdverb, LexemeNotDefined, InBoth, NotALexeme, BadClass, TwoStarts, NumberRange, TooLong, faults_of, bad_adverbs, repeated, not_defined, in_both, lefts, not_lexemes, bad_classes, second_starts, big_numbers, too_long}
 
 pub record Faultless (d : List Statement) : Type 0 where
   pub adverbs : bad_adverbs d ≡ []
@@ -41,15 +26,15 @@ faultless d e =
     let s = map TwoStarts (second_starts d) in
     let u = map NumberRange (big_numbers d) in
     let t = map TooLong (too_long d) in
-    let e1 = front_empty (a ++ r ++ n ++ b ++ x ++ c ++ s ++ u) t e in
-    let e2 = front_empty (a ++ r ++ n ++ b ++ x ++ c ++ s) u e1 in
-    let e3 = front_empty (a ++ r ++ n ++ b ++ x ++ c) s e2 in
-    let e4 = front_empty (a ++ r ++ n ++ b ++ x) c e3 in
-    let e5 = front_empty (a ++ r ++ n ++ b) x e4 in
-    let e6 = front_empty (a ++ r ++ n) b e5 in
-    let e7 = front_empty (a ++ r) n e6 in
+    let e1 = prefix_empty (a ++ r ++ n ++ b ++ x ++ c ++ s ++ u) t e in
+    let e2 = prefix_empty (a ++ r ++ n ++ b ++ x ++ c ++ s) u e1 in
+    let e3 = prefix_empty (a ++ r ++ n ++ b ++ x ++ c) s e2 in
+    let e4 = prefix_empty (a ++ r ++ n ++ b ++ x) c e3 in
+    let e5 = prefix_empty (a ++ r ++ n ++ b) x e4 in
+    let e6 = prefix_empty (a ++ r ++ n) b e5 in
+    let e7 = prefix_empty (a ++ r) n e6 in
     record {
-      adverbs = map_empty BadAdverb (bad_adverbs d) (front_empty a r e7);
+      adverbs = map_empty BadAdverb (bad_adverbs d) (prefix_empty a r e7);
       repeats = map_empty RepeatedAdverb (repeated [] d) (back_empty a r e7);
       defined = map_empty LexemeNotDefined (not_defined d) (back_empty (a ++ r) n e6);
       levels = map_empty InBoth (in_both [] (lefts d)) (back_empty (a ++ r ++ n) b e5);

@@ -2,9 +2,11 @@
 use Rattle.std.proofs.Common.{◌≡◌, ℕ, ◌+◌, ◌≤◌, ◌==◌, Bool, true, false, cond, List, [], ◌∷◌, ◌++◌, Some, refl, sym, subst, map, length, arith, ltb-false}
 use Rattle.std.specs.Prelude.{flat_map, filter, not, ◌||◌, ◌&&◌, bytes_eq, codes, option_to_list, nat_lt, IsTrue, Result, Ok, Err, chars}
 use Rattle.std.specs.List.{AllByRecursion, list_all}
-use Rattle.std.proofs.lemmas.Bool.{true≢false}
+use Rattle.std.proofs.lemmas.Bool.{true≢false, not-false}
 use Rattle.std.proofs.lemmas.List.{length-map}
 use Rattle.std.proofs.lemmas.Slice.Eq.{bytes_eq-Decides}
+use Rattle.finite_sets.proofs.Lists.{prefix_empty, back_empty}
+use Rattle.finite_sets.proofs.Clauses.{and_right}
 use Rattle.language_model.specs.declared.token.TokenKind.{TokenKind}
 use Rattle.language_model.specs.declared.token.TokenKind.TheVariants.{Word, Angle, Quote, Bracket, Pseudo, Reserved, Signed, Mark}
 use Rattle.language_model.specs.declared.class.ClassFault.{ClassFault}
@@ -13,8 +15,9 @@ use Rattle.language_model.specs.Classes.{Class, class_of, class_of_char, modifie
 use Rattle.language_model.specs.Description.{Alternative, Adverb, Comma, Pair, Statement, Start, Default, LexemeDefault, Lexeme, Discard, Empty, Quantified, Rules, is_statement, is_name, is_kind_of_single, is_adverb, Together, Spells, pieces_of}
 use Rattle.language_model.specs.Building.{AdverbPlace, InLexicalQuantified, InQuantified, is_one_of, names_at, fits_adverb, is_single, pairs_of, adverb_lists, value_of, separator_of, parts_of, alternatives_of, right_sides, long_parts, at_most, fault_at, Fault, is_quote, is_quote_or_bracket, quoted, sets_of, lexical_tokens, new_tokens, placed_tokens}
 use Rattle.language_model.specs.Texts.{IsDescription, spelled}
-use Rattle.dsl_build.proofs.Faultless.{Faultless, front_empty, back_empty, none_of}
+use Rattle.dsl_build.proofs.Faultless.{Faultless}
 use Rattle.dsl_build.proofs.Alls.{all_map, all_mapped, all_weaker, all_flat, all_filter, all_empty}
+use Rattle.language_model.proofs.Short.{none_of}
 
 -- a token with at most a thousand sets
 abbrev pub IsFew : Spelled → Type 0
@@ -73,9 +76,9 @@ value_kind Reserved c at h = refl
 value_kind Signed c at h = refl
 value_kind Mark c at h = refl
 
-pub and_front : (a b : Bool) → IsTrue (a && b) → IsTrue a
-and_front true b h = refl
-and_front false b h = h
+pub and_prefix : (a b : Bool) → IsTrue (a && b) → IsTrue a
+and_prefix true b h = refl
+and_prefix false b h = h
 
 pub and_back : (a b : Bool) → IsTrue (a && b) → IsTrue b
 and_back true b h = h
@@ -86,21 +89,13 @@ and_back false b h = absurd (true≢false (sym h))
 abbrev pub bad_pair : AdverbPlace → Spelled × Spelled → List Fault
 bad_pair place p = at_most (not (is_one_of (names_at place) p.0.content && fits_adverb p.0.content p.1)) (fault_at p.0)
 
-pub not_false : (b : Bool) → not b ≡ false → b ≡ true
-not_false true e = refl
-not_false false e = absurd (true≢false e)
-
-pub true_back : (a b : Bool) → (a && b) ≡ true → b ≡ true
-true_back true b e = e
-true_back false b e = absurd (true≢false (sym e))
-
 separator_few : (place : AdverbPlace) (adverbs : List Adverb) → flat_map (bad_pair place) (pairs_of adverbs) ≡ [] → AllByRecursion IsFew (separator_of adverbs)
 separator_few place [] e = tt
 separator_few place (Comma at ∷ adverbs) e = separator_few place adverbs e
 separator_few place (Pair name value ∷ adverbs) e =
     go (bytes_eq name.content (codes "separator")) refl
-    (true_back (is_one_of (names_at place) name.content) (fits_adverb name.content value) (not_false (is_one_of (names_at place) name.content && fits_adverb name.content value)
-    (none_of (not (is_one_of (names_at place) name.content && fits_adverb name.content value)) (fault_at name) (front_empty (bad_pair place (name, value)) (flat_map (bad_pair place) (pairs_of adverbs)) e))))
+    (and_right (is_one_of (names_at place) name.content) (fits_adverb name.content value) (not-false (is_one_of (names_at place) name.content && fits_adverb name.content value)
+    (none_of (not (is_one_of (names_at place) name.content && fits_adverb name.content value)) (fault_at name) (prefix_empty (bad_pair place (name, value)) (flat_map (bad_pair place) (pairs_of adverbs)) e))))
     (separator_few place adverbs (back_empty (bad_pair place (name, value)) (flat_map (bad_pair place) (pairs_of adverbs)) e))
   where
     go : (b : Bool) → bytes_eq name.content (codes "separator") ≡ b → fits_adverb name.content value ≡ true → AllByRecursion IsFew (separator_of adverbs) → AllByRecursion IsFew (option_to_list (cond b (Some value) (value_of (codes "separator") adverbs)))
@@ -118,7 +113,7 @@ or_back false b e = e
 parts_few : (before : ℕ) (ts : List Spelled) → long_parts before ts ≡ [] → AllByRecursion IsFew ts
 parts_few before [] e = tt
 parts_few before (t ∷ ts) e = (
-  few_token t (or_back (before == 1000) (is_long t) (none_of (before == 1000 || is_long t) (fault_at t) (front_empty (at_most (before == 1000 || is_long t) (fault_at t)) (long_parts (before + 1) ts) e))),
+  few_token t (or_back (before == 1000) (is_long t) (none_of (before == 1000 || is_long t) (fault_at t) (prefix_empty (at_most (before == 1000 || is_long t) (fault_at t)) (long_parts (before + 1) ts) e))),
   parts_few (before + 1) ts (back_empty (at_most (before == 1000 || is_long t) (fault_at t)) (long_parts (before + 1) ts) e),
 )
 
@@ -150,24 +145,24 @@ single_few t h = few_token t (single_kind t.kind t.content t.at h)
 
 quantified_few : (lexical : Bool) (item : Spelled) (adverbs : List Adverb) → IsTrue (is_kind_of_single item.kind) → flat_map (bad_pair (cond lexical InLexicalQuantified InQuantified)) (pairs_of adverbs) ++ [] ≡ [] → AllByRecursion IsFew (item ∷ separator_of adverbs)
 quantified_few lexical item adverbs h e =
-    (single_few item h, separator_few (cond lexical InLexicalQuantified InQuantified) adverbs (front_empty (flat_map (bad_pair (cond lexical InLexicalQuantified InQuantified)) (pairs_of adverbs)) [] e))
+    (single_few item h, separator_few (cond lexical InLexicalQuantified InQuantified) adverbs (prefix_empty (flat_map (bad_pair (cond lexical InLexicalQuantified InQuantified)) (pairs_of adverbs)) [] e))
 
 few_statement : (s : Statement) → IsTrue (is_statement s) → bad_of s ≡ [] → long_of s ≡ [] → AllByRecursion IsFew (lexical_tokens s)
 few_statement (Start at name) h bad long = tt
 few_statement (Default at adverbs) h bad long = tt
 few_statement (LexemeDefault at adverbs) h bad long = tt
 few_statement (Lexeme at name adverbs) h bad long = tt
-few_statement (Discard at item adverbs) h bad long = (single_few item (and_front (is_kind_of_single item.kind) (list_all is_adverb adverbs) h), tt)
-few_statement (Empty left true adverbs) h bad long = (name_few left (and_front (is_name left) (list_all is_adverb adverbs) h), tt)
+few_statement (Discard at item adverbs) h bad long = (single_few item (and_prefix (is_kind_of_single item.kind) (list_all is_adverb adverbs) h), tt)
+few_statement (Empty left true adverbs) h bad long = (name_few left (and_prefix (is_name left) (list_all is_adverb adverbs) h), tt)
 few_statement (Empty left false adverbs) h bad long = tt
 few_statement (Quantified left true item plus adverbs) h bad long =
-    let front = and_front (is_name left && is_kind_of_single item.kind) (list_all is_adverb adverbs) h in
-    (name_few left (and_front (is_name left) (is_kind_of_single item.kind) front), kept_few true (item ∷ separator_of adverbs) (quantified_few true item adverbs (and_back (is_name left) (is_kind_of_single item.kind) front) bad))
+    let prefix = and_prefix (is_name left && is_kind_of_single item.kind) (list_all is_adverb adverbs) h in
+    (name_few left (and_prefix (is_name left) (is_kind_of_single item.kind) prefix), kept_few true (item ∷ separator_of adverbs) (quantified_few true item adverbs (and_back (is_name left) (is_kind_of_single item.kind) prefix) bad))
 few_statement (Quantified left false item plus adverbs) h bad long =
-    let front = and_front (is_name left && is_kind_of_single item.kind) (list_all is_adverb adverbs) h in
-    kept_few false (item ∷ separator_of adverbs) (quantified_few false item adverbs (and_back (is_name left) (is_kind_of_single item.kind) front) bad)
+    let prefix = and_prefix (is_name left && is_kind_of_single item.kind) (list_all is_adverb adverbs) h in
+    kept_few false (item ∷ separator_of adverbs) (quantified_few false item adverbs (and_back (is_name left) (is_kind_of_single item.kind) prefix) bad)
 few_statement (Rules left true groups) h bad long =
-    (name_few left (and_front (is_name left) _ (and_front (is_name left && _) _ h)), kept_few true (flat_map parts_of (alternatives_of groups)) (sides_few (alternatives_of groups) long))
+    (name_few left (and_prefix (is_name left) _ (and_prefix (is_name left && _) _ h)), kept_few true (flat_map parts_of (alternatives_of groups)) (sides_few (alternatives_of groups) long))
 few_statement (Rules left false groups) h bad long = kept_few false (flat_map parts_of (alternatives_of groups)) (sides_few (alternatives_of groups) long)
 
 -- THE DESCRIPTION

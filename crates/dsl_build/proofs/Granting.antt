@@ -1,11 +1,13 @@
 -- What a grammar grants.
-use Rattle.std.proofs.Common.{◌≡◌, ℕ, zero, suc, subst, get_or, ◌<◌, ◌≤◌, Bool, true, false, cond, List, [], ◌∷◌, ◌++◌, Some, None, refl, sym, ap, ◌∙◌, length, map}
-use Rattle.std.specs.Prelude.{◌&&◌, ◌||◌, nat_lt, nat_le, All, slice_get}
+use Rattle.std.proofs.Common.{◌≡◌, ℕ, zero, suc, subst, get_or, ◌<◌, ◌≤◌, true, false, cond, List, [], ◌∷◌, ◌++◌, Some, None, refl, sym, ap, ◌∙◌, length, map}
+use Rattle.std.specs.Prelude.{◌&&◌, nat_lt, nat_le, All, slice_get}
 use Rattle.std.specs.List.{AllByRecursion, list_all}
 use Rattle.std.proofs.lemmas.List.Elements.{recursion_from_All, All-from_recursion, All-get_or}
 use Rattle.dsl_build.proofs.Alls.{all_mapped}
 use Rattle.std.proofs.lemmas.Bool.Decides.{nat_tests}
 use Rattle.std.proofs.Common.{arith}
+use Rattle.std.proofs.lemmas.Option.{same_Some}
+use Rattle.std.proofs.lemmas.Bool.{or_right}
 use Rattle.grammar_model.specs.Grammar.{WrittenRule, Plain, Sequence, Grammar}
 use Rattle.grammar_core.specs.Written.{symbols_of, IsLevelled, has_name, has_room, with_name}
 use Rattle.grammar_core.specs.Refusals.{name_refusal, rule_refusal, start_refusal, knows, is_levelled, is_short}
@@ -24,12 +26,8 @@ below s n lt = grind (arith, nat_tests)
 within : (m n : ℕ) → m ≤ n → nat_le m n ≡ true
 within m n le = grind (arith, nat_tests)
 
-or_back : (a b : Bool) → b ≡ true → (a || b) ≡ true
-or_back true b e = refl
-or_back false b e = e
-
 pub name_granted : (g : Grammar) (name : List ℕ) → length g.names < 16777215 → name_refusal g name ≡ None
-name_granted g name lt = ap (λ b. cond b None (Some TooMany)) (or_back (has_name g name) (has_room (length g.names)) (room (length g.names) lt))
+name_granted g name lt = ap (λ b. cond b None (Some TooMany)) (or_right (has_name g name) (has_room (length g.names)) (room (length g.names) lt))
 
 all_known : (g : Grammar) (ss : List ℕ) → AllByRecursion (λ s. s < length g.names) ss → list_all (knows g) ss ≡ true
 all_known g [] a = refl
@@ -53,16 +51,13 @@ start_granted g s known lt =
 pub named_more : (g : Grammar) (name : List ℕ) → is_one_of g.names name ≡ false → with_name g name ≡ with_names g (name ∷ [])
 named_more g name e = ap (λ b. record { names = cond b g.names (g.names ++ name ∷ []); rules = g.rules; starts = g.starts }) (sym (is_one_of_any name g.names) ∙ e)
 
-some_same : {A : Type 0} (x y : A) → Some x ≡ Some y → x ≡ y
-some_same x y e = cc
-
 -- what holds of all elements holds of one
 pub all_get : {A : Type 0} (P : A → Type 0) (xs : List A) (i : ℕ) (x : A) → All P xs → slice_get xs i ≡ Some x → P x
 all_get {A} P xs i x a e = go xs i (recursion_from_All P xs a) e
   where
     go : (ys : List A) (k : ℕ) → AllByRecursion P ys → slice_get ys k ≡ Some x → P x
     go [] k b f = cc
-    go (y ∷ ys) zero b f = subst P (some_same y x f) b.0
+    go (y ∷ ys) zero b f = subst P (same_Some y x f) b.0
     go (y ∷ ys) (suc k) b f = go ys k b.1 f
 
 pub all_mapped_get : {A B : Type 0} (P : B → Type 0) (f : A → B) (xs : List A) (i : ℕ) (x : A) → All P (map f xs) → i < length xs → x ≡ get_or xs i x → P (f x)

@@ -1,6 +1,6 @@
 -- Rules name symbols of their grammar, and their right sides are short.
-use Rattle.std.proofs.Common.{◌≡◌, ℕ, suc, ◌+◌, ◌<◌, ◌≤◌, ◌==◌, Bool, true, false, cond, List, [], ◌∷◌, ◌++◌, Option, Some, None, refl, sym, ap, ◌∙◌, subst, map, length, arith}
-use Rattle.std.specs.Prelude.{flat_map, filter, not, ◌||◌, ◌&&◌, bytes_eq, codes, All, option_map, option_to_list, nat_lt}
+use Rattle.std.proofs.Common.{◌≡◌, ℕ, suc, ◌+◌, ◌<◌, ◌≤◌, Bool, true, false, cond, List, [], ◌∷◌, ◌++◌, Option, Some, None, refl, sym, ap, ◌∙◌, subst, map, length, arith}
+use Rattle.std.specs.Prelude.{flat_map, filter, not, ◌||◌, bytes_eq, codes, All, option_map, option_to_list}
 use Rattle.std.specs.List.{AllByRecursion}
 use Rattle.std.proofs.lemmas.Bool.{true≢false}
 use Rattle.std.proofs.lemmas.List.{map-append, length-map}
@@ -9,12 +9,11 @@ use Rattle.grammar_model.specs.Grammar.{WrittenRule}
 use Rattle.grammar_core.specs.Written.{symbols_of, IsLevelled}
 use Rattle.language_model.specs.Tokens.{Spelled}
 use Rattle.language_model.specs.Description.{Alternative, Statement, Start, Default, LexemeDefault, Lexeme, Discard, Empty, Quantified, Rules}
-use Rattle.language_model.specs.Building.{is_one_of, place_in, numbers_in, parts_of, alternatives_of, separator_of, value_of, plain_rule, rules_of_groups, rules_of, is_of_level, right_sides, long_parts, too_long, at_most, fault_at, is_quote, quoted}
+use Rattle.language_model.specs.Building.{is_one_of, place_in, numbers_in, parts_of, alternatives_of, separator_of, value_of, plain_rule, rules_of_groups, rules_of, is_of_level, right_sides, long_parts, too_long}
 use Rattle.dsl_faults.proofs.Keeping.{bytes_eq_sym}
-use Rattle.dsl_build.proofs.Faultless.{front_empty, back_empty, none_of}
-use Rattle.dsl_build.proofs.Alls.{all_front, all_back, all_join, all_mapped, all_weaker, all_empty}
+use Rattle.dsl_build.proofs.Alls.{all_prefix, all_back, all_join, all_mapped, all_weaker, all_empty}
 use Rattle.std.proofs.lemmas.Grind.{flat_map-append}
-use Rattle.std.proofs.lemmas.Bool.{eqb-false}
+use Rattle.language_model.proofs.Short.{not_long}
 
 -- the texts are all among the names
 abbrev pub AllIn : List (List ℕ) → List (List ℕ) → Type 0
@@ -53,7 +52,7 @@ group_good : (names : List (List ℕ)) (left : Spelled) (level count : ℕ) (g :
 group_good names left level count [] lt held known short = tt
 group_good names left level count (a ∷ as') lt held known short =
     let split : AllIn names (contents (parts_of a) ++ alternatives_in as') = subst (AllIn names) (map-append (λ (t : Spelled). t.content) (parts_of a) (flat_map parts_of as')) known in
-    let parts = numbers_known names (parts_of a) (all_front (λ t. is_one_of names t ≡ true) (contents (parts_of a)) (alternatives_in as') split) in
+    let parts = numbers_known names (parts_of a) (all_prefix (λ t. is_one_of names t ≡ true) (contents (parts_of a)) (alternatives_in as') split) in
     let long : length (numbers_in names (parts_of a)) ≤ 1000 = subst (λ n. n ≤ 1000) (sym (length-map (parts_of a) (λ t. place_in names t.content))) short.0 in (
       (All-from_recursion (λ s. s < length names) (place_in names left.content ∷ numbers_in names (parts_of a)) (place_known names left.content held, parts), (lt, long)),
       group_good names left level count as' lt held (all_back (λ t. is_one_of names t ≡ true) (contents (parts_of a)) (alternatives_in as') split) short.1,
@@ -67,7 +66,7 @@ groups_good names left count (g ∷ gs) le held known short =
     let split : AllIn names (alternatives_in g ++ alternatives_in (alternatives_of gs)) =
     subst (AllIn names) (ap contents parts ∙ map-append (λ (t : Spelled). t.content) (flat_map parts_of g) (flat_map parts_of (alternatives_of gs))) known in
     all_join (IsGood (length names)) (map (plain_rule names left (length gs) count) g) (rules_of_groups names left count gs)
-    (group_good names left (length gs) count g (omega (arith, le)) held (all_front (λ t. is_one_of names t ≡ true) (alternatives_in g) (alternatives_in (alternatives_of gs)) split) (all_front IsShort g (alternatives_of gs) short))
+    (group_good names left (length gs) count g (omega (arith, le)) held (all_prefix (λ t. is_one_of names t ≡ true) (alternatives_in g) (alternatives_in (alternatives_of gs)) split) (all_prefix IsShort g (alternatives_of gs) short))
     (groups_good names left count gs (omega (arith, le)) held (all_back (λ t. is_one_of names t ≡ true) (alternatives_in g) (alternatives_in (alternatives_of gs)) split) (all_back IsShort g (alternatives_of gs) short))
 
 -- what the rules of a statement name
@@ -109,18 +108,6 @@ level_good names lexical (s ∷ ss) known short = go (is_of_level lexical s) ref
     go false e rest = rest
 
 -- THE LENGTHS OF RIGHT SIDES
-
-not_long : (before : ℕ) (ts : List Spelled) → before ≤ 1000 → long_parts before ts ≡ [] → before + length ts ≤ 1000
-not_long before [] le e = omega (arith, le)
-not_long before (t ∷ ts) le e =
-    let quote = is_quote t && nat_lt 1000 (length (quoted t.content)) in
-    let last : (before == 1000 || quote) ≡ false = none_of (before == 1000 || quote) (fault_at t) (front_empty (at_most (before == 1000 || quote) (fault_at t)) (long_parts (before + 1) ts) e) in
-    let rest = not_long (before + 1) ts (go before le (before == 1000) refl quote last) (back_empty (at_most (before == 1000 || quote) (fault_at t)) (long_parts (before + 1) ts) e) in
-    omega (arith, rest)
-  where
-    go : (n : ℕ) → n ≤ 1000 → (b : Bool) → (n == 1000) ≡ b → (c : Bool) → (b || c) ≡ false → n + 1 ≤ 1000
-    go n le true is c f = absurd (true≢false f)
-    go n le false is c f = let other = eqb-false n 1000 is in omega (arith, le, other)
 
 short_side : (side : List Spelled) → 0 + length side ≤ 1000 → length side ≤ 1000
 short_side side le = omega (arith, le)

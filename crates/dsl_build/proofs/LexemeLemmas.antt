@@ -4,14 +4,16 @@ use Rattle.std.specs.Prelude.{flat_map, option_map, unwrap_or, bytes_eq, codes, 
 use Rattle.std.specs.List.{list_any, position_or_len}
 use Rattle.std.proofs.lemmas.Bool.{true≢false}
 use Rattle.std.proofs.lemmas.Slice.Eq.{bytes_eq-Decides}
+use Rattle.std.proofs.Math.Bool.{or-true}
+use Rattle.finite_sets.proofs.Lists.{flat_flat, prefix_empty, back_empty}
 use Rattle.language_model.specs.Tokens.{Spelled}
 use Rattle.language_model.specs.Description.{Adverb, Comma, Pair, Statement, Start, Default, LexemeDefault, Lexeme, Discard, Empty, Quantified, Rules}
 use Rattle.language_model.specs.Building.{is_one_of, value_of, place_in, number_of, LexemeRow, lexeme_row, lexeme_adverbs, lexeme_default_adverbs, symbols_g1, start_texts, repeated, repeated_statement, repeated_in, pairs_of, adverb_lists, is_lexeme_of}
 use Rattle.dsl_build.specs.Tables.{lexeme_parts, adverbs_at, or_else, row_from}
 use Rattle.dsl_faults.specs.Texts.{AllNew}
-use Rattle.dsl_faults.proofs.Lists.{flat_flat, flat_same}
+use Rattle.dsl_faults.proofs.Lists.{flat_same}
 use Rattle.dsl_faults.proofs.Keeping.{bytes_eq_sym}
-use Rattle.dsl_build.proofs.Faultless.{front_empty, back_empty, none_of}
+use Rattle.language_model.proofs.Short.{none_of}
 
 -- THE VALUE OF AN ADVERB
 
@@ -37,7 +39,7 @@ statements_new : (seen : List (List ℕ)) (before d : List Statement) → SameSe
 statements_new seen before [] same e = tt
 statements_new seen before (s ∷ ss) same e =
     let rest : repeated (s ∷ before) ss ≡ [] = back_empty (repeated_statement before s ++ flat_map (λ l. repeated_in [] (pairs_of l.1)) (adverb_lists s)) (repeated (s ∷ before) ss) e in
-    let own : repeated_statement before s ≡ [] = front_empty (repeated_statement before s) (flat_map (λ l. repeated_in [] (pairs_of l.1)) (adverb_lists s)) (front_empty (repeated_statement before s ++ flat_map (λ l. repeated_in [] (pairs_of l.1)) (adverb_lists s)) (repeated (s ∷ before) ss) e) in
+    let own : repeated_statement before s ≡ [] = prefix_empty (repeated_statement before s) (flat_map (λ l. repeated_in [] (pairs_of l.1)) (adverb_lists s)) (prefix_empty (repeated_statement before s ++ flat_map (λ l. repeated_in [] (pairs_of l.1)) (adverb_lists s)) (repeated (s ∷ before) ss) e) in
     go s own (λ (seen' : List (List ℕ)) (same' : SameSeen seen' (s ∷ before)). statements_new seen' (s ∷ before) ss same' rest)
   where
     go : (x : Statement) → repeated_statement before x ≡ [] → ((seen' : List (List ℕ)) → SameSeen seen' (x ∷ before) → AllNew seen' (names_of ss)) → AllNew seen (names_of (x ∷ ss))
@@ -61,14 +63,10 @@ lexemes_new d e = statements_new [] [] d (λ (t : List ℕ). refl) e
 abbrev of_name : List ℕ → (List ℕ) × List Adverb → List Adverb
 of_name name p = cond (bytes_eq name p.0) p.1 []
 
-or_true : (b : Bool) → (b || true) ≡ true
-or_true true = refl
-or_true false = refl
-
 none_behind : (name : List ℕ) (seen : List (List ℕ)) (parts : List ((List ℕ) × List Adverb)) → is_one_of seen name ≡ true → AllNew seen (map (λ p. p.0) parts) → flat_map (of_name name) parts ≡ []
 none_behind name seen [] held new = refl
 none_behind name seen (p ∷ ps) held new =
-    go (bytes_eq name p.0) refl (none_behind name (p.0 ∷ seen) ps (ap (λ b. bytes_eq p.0 name || b) held ∙ or_true (bytes_eq p.0 name)) new.1)
+    go (bytes_eq name p.0) refl (none_behind name (p.0 ∷ seen) ps (ap (λ b. bytes_eq p.0 name || b) held ∙ or-true (bytes_eq p.0 name)) new.1)
   where
     go : (b : Bool) → bytes_eq name p.0 ≡ b → flat_map (of_name name) ps ≡ [] → cond b p.1 [] ++ flat_map (of_name name) ps ≡ []
     go true e rest = absurd (true≢false (sym held ∙ ap (is_one_of seen) ((bytes_eq-Decides name p.0).0 e) ∙ new.0))
@@ -87,7 +85,7 @@ own_found name seen (p ∷ ps) new = go (bytes_eq name p.0) refl (own_found name
 
 pub own_are : (d : List Statement) (name : List ℕ) → repeated [] d ≡ [] → adverbs_at (map (λ p. p.0) (flat_map lexeme_parts d)) (map (λ p. p.1) (flat_map lexeme_parts d)) name ≡ flat_map (lexeme_adverbs name) d
 own_are d name e =
-    sym (own_found name [] (flat_map lexeme_parts d) (lexemes_new d e)) ∙ flat_flat (of_name name) lexeme_parts d ∙ flat_same (λ s. flat_map (of_name name) (lexeme_parts s)) (lexeme_adverbs name) d each
+    sym (own_found name [] (flat_map lexeme_parts d) (lexemes_new d e)) ∙ flat_flat lexeme_parts (of_name name) d ∙ flat_same (λ s. flat_map (of_name name) (lexeme_parts s)) (lexeme_adverbs name) d each
   where
     each : (s : Statement) → flat_map (of_name name) (lexeme_parts s) ≡ lexeme_adverbs name s
     each (Lexeme at n adverbs) = append-nil (cond (bytes_eq name n.content) adverbs [])

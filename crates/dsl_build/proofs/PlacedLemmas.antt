@@ -1,8 +1,9 @@
 -- Tokens and texts, each once.
-use Rattle.std.proofs.Common.{◌≡◌, ℕ, ◌+◌, ◌<◌, Bool, true, false, cond, List, [], ◌∷◌, ◌++◌, length, take, get_or, Some, refl, sym, ap, ◌∙◌, map, append-nil, append_assoc}
+use Rattle.std.proofs.Common.{◌≡◌, ℕ, ◌+◌, ◌<◌, Bool, true, false, cond, List, [], ◌∷◌, ◌++◌, length, take, get_or, Some, sym, ap, ◌∙◌, map, append-nil, append_assoc}
 use Rattle.std.specs.Prelude.{flat_map, filter, ◌||◌, ◌&&◌, not, bytes_eq, slice_get}
 use Rattle.std.proofs.Math.Bool.{or-false}
 use Rattle.std.proofs.lemmas.List.Elements.{filter-append}
+use Rattle.finite_sets.proofs.Clauses.{or_moves}
 use Rattle.language_model.specs.Tokens.{Spelled}
 use Rattle.language_model.specs.Building.{is_one_of, new_tokens}
 use Rattle.dsl_faults.specs.declared.uses.Use.{Use}
@@ -14,12 +15,6 @@ use Rattle.dsl_faults.proofs.Lists.{flat_more, take_get}
 
 abbrev contents : List Spelled → List (List ℕ)
 contents ts = map (λ t. t.content) ts
-
-or_moves : (a b c : Bool) → (a || (b || c)) ≡ ((b || a) || c)
-or_moves true true c = refl
-or_moves true false c = refl
-or_moves false true c = refl
-or_moves false false c = refl
 
 tokens_more : (seen : List (List ℕ)) (ts : List Spelled) (t : Spelled) → new_tokens seen (ts ++ t ∷ []) ≡ new_tokens seen ts ++ cond (is_one_of seen t.content || is_one_of (contents (new_tokens seen ts)) t.content) [] (t ∷ [])
 tokens_more seen [] t = ap (λ b. cond b [] (t ∷ [])) (sym (or-false (is_one_of seen t.content)))

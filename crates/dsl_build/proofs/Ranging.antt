@@ -1,11 +1,13 @@
 -- What is built of a description without faults is in range.
-use Rattle.std.proofs.Common.{◌≡◌, ℕ, zero, suc, ◌+◌, ◌<◌, ◌≤◌, Bool, true, false, cond, List, [], ◌∷◌, ◌++◌, refl, sym, ap, ◌∙◌, subst, map, length, take, arith, ◌⊎◌, inl, inr, ⊎_elim}
+use Rattle.std.proofs.Common.{◌≡◌, ℕ, zero, suc, ◌+◌, ◌<◌, ◌≤◌, Bool, true, false, cond, List, [], ◌∷◌, ◌++◌, refl, sym, ap, ◌∙◌, subst, map, length, take, arith, ◌⊎◌, ⊎_elim}
 use Rattle.std.specs.Prelude.{flat_map, filter, not, ◌||◌, ◌&&◌, bytes_eq, decimal, pos}
 use Rattle.std.specs.List.{AllByRecursion}
-use Rattle.std.proofs.lemmas.Bool.{true≢false}
+use Rattle.std.proofs.lemmas.Bool.{true≢false, or_cases}
 use Rattle.std.proofs.lemmas.List.{length-map, length-append}
 use Rattle.std.proofs.lemmas.List.Elements.{All-from_recursion, recursion_from_All}
 use Rattle.std.proofs.lemmas.Slice.Eq.{bytes_eq-Decides}
+use Rattle.std.proofs.Math.Bool.{or-true}
+use Rattle.finite_sets.proofs.Lists.{map_flat}
 use Rattle.grammar_model.specs.Grammar.{WrittenRule, Plain}
 use Rattle.grammar_model.specs.declared.Assoc.TheVariants.{Left}
 use Rattle.grammar_core.specs.Written.{symbols_of}
@@ -14,7 +16,6 @@ use Rattle.language_model.specs.Description.{Statement, Start, Default, LexemeDe
 use Rattle.language_model.specs.Building.{Built, is_one_of, place_in, parts_of, alternatives_of, separator_of, rules_of, is_of_level, structural_names, symbols_g1, left_names, lexemes, start_names, start_of, lexical_tokens, placed_tokens, new_tokens, new_texts, texts_l0, named_l0, sets_l0, sets_of, set_names, added_rules, count_from, discards_of, discarded, start_texts, grammar_g1, grammar_l0, lexeme_row, built_of, numbered_from, is_quote_or_bracket}
 use Rattle.language_model.specs.Texts.{IsBuiltOf}
 use Rattle.dsl_build.specs.Ranges.{IsKnown, IsInRange}
-use Rattle.dsl_faults.proofs.Lists.{map_flat}
 use Rattle.dsl_faults.proofs.Keeping.{among_texts}
 use Rattle.dsl_faults.proofs.Bridges.{among_filtered}
 use Rattle.dsl_build.proofs.Faultless.{Faultless, faultless}
@@ -27,14 +28,10 @@ use Rattle.dsl_build.proofs.Known.{AllIn, place_known, IsGood, names_in, level_g
 same_text : (t : List ℕ) → bytes_eq t t ≡ true
 same_text t = (bytes_eq-Decides t t).1 refl
 
-pub or_true : (b : Bool) → (b || true) ≡ true
-or_true true = refl
-or_true false = refl
-
 pub all_in : (names xs : List (List ℕ)) → ((t : List ℕ) → is_one_of xs t ≡ true → is_one_of names t ≡ true) → AllIn names xs
 all_in names [] h = tt
 all_in names (x ∷ xs) h =
-    (h x (ap (λ b. b || is_one_of xs x) (same_text x)), all_in names xs (λ (t : List ℕ) (e : is_one_of xs t ≡ true). h t (ap (λ b. bytes_eq x t || b) e ∙ or_true (bytes_eq x t))))
+    (h x (ap (λ b. b || is_one_of xs x) (same_text x)), all_in names xs (λ (t : List ℕ) (e : is_one_of xs t ≡ true). h t (ap (λ b. bytes_eq x t || b) e ∙ or-true (bytes_eq x t))))
 
 pub any_append : (xs ys : List (List ℕ)) (t : List ℕ) → is_one_of (xs ++ ys) t ≡ (is_one_of xs t || is_one_of ys t)
 any_append [] ys t = refl
@@ -143,7 +140,7 @@ contents = map (λ t. t.content)
 named_has : (d : List Statement) (t : List ℕ) → is_one_of (flat_map (λ s. contents (lexical_tokens s)) d) t ≡ true → is_one_of (named_l0 d) t ≡ true
 named_has d t e =
     let texts : is_one_of (texts_l0 d) t ≡ true =
-    ap (λ xs. is_one_of xs t) (tokens_as_texts [] (flat_map lexical_tokens d) ∙ ap (new_texts []) (map_flat (λ (u : Spelled). u.content) lexical_tokens d)) ∙ among_texts (flat_map (λ s. contents (lexical_tokens s)) d) t ∙ e in
+    ap (λ xs. is_one_of xs t) (tokens_as_texts [] (flat_map lexical_tokens d) ∙ ap (new_texts []) (map_flat lexical_tokens (λ (u : Spelled). u.content) d)) ∙ among_texts (flat_map (λ s. contents (lexical_tokens s)) d) t ∙ e in
     in_joined (texts_l0 d) (lexemes d) t (ap (λ b. b || is_one_of (lexemes d) t) texts)
 
 pub lexical_all : (d : List Statement) → AllByRecursion (λ s. AllIn (named_l0 d) (contents (lexical_tokens s))) d
@@ -192,20 +189,16 @@ discarded_in d t e =
     (sym (among_texts (flat_map discards_of d) t) ∙ e)
 
 pub lexeme_named : (d : List Statement) (t : List ℕ) → is_one_of (lexemes d) t ≡ true → is_one_of (named_l0 d) t ≡ true
-lexeme_named d t e = in_joined (texts_l0 d) (lexemes d) t (ap (λ b. is_one_of (texts_l0 d) t || b) e ∙ or_true (is_one_of (texts_l0 d) t))
+lexeme_named d t e = in_joined (texts_l0 d) (lexemes d) t (ap (λ b. is_one_of (texts_l0 d) t || b) e ∙ or-true (is_one_of (texts_l0 d) t))
 
-pub front_true : (a b : Bool) → (a && b) ≡ true → a ≡ true
-front_true true b e = refl
-front_true false b e = e
-
-pub or_cases : (a b : Bool) → (a || b) ≡ true → (a ≡ true) ⊎ (b ≡ true)
-or_cases true b e = inl refl
-or_cases false b e = inr e
+pub prefix_true : (a b : Bool) → (a && b) ≡ true → a ≡ true
+prefix_true true b e = refl
+prefix_true false b e = e
 
 -- a start is a lexeme or a discard
 pub start_named : (d : List Statement) (t : List ℕ) → is_one_of (start_texts d) t ≡ true → is_one_of (named_l0 d) t ≡ true
 start_named d t e =
-    ⊎_elim (lexeme_named d t) (λ (h : is_one_of (filter (λ u. not (is_one_of (lexemes d) u)) (discarded d)) t ≡ true). discarded_in d t (front_true (is_one_of (discarded d) t) (not (is_one_of (lexemes d) t)) (sym (among_filtered (λ u. not (is_one_of (lexemes d) u)) (discarded d) t) ∙ h)))
+    ⊎_elim (lexeme_named d t) (λ (h : is_one_of (filter (λ u. not (is_one_of (lexemes d) u)) (discarded d)) t ≡ true). discarded_in d t (prefix_true (is_one_of (discarded d) t) (not (is_one_of (lexemes d) t)) (sym (among_filtered (λ u. not (is_one_of (lexemes d) u)) (discarded d) t) ∙ h)))
     (or_cases (is_one_of (lexemes d) t) (is_one_of (filter (λ u. not (is_one_of (lexemes d) u)) (discarded d)) t) (sym (any_append (lexemes d) (filter (λ u. not (is_one_of (lexemes d) u)) (discarded d)) t) ∙ e))
 
 pub count_long : (a k : ℕ) → length (count_from a k) ≡ k
@@ -276,13 +269,13 @@ numbered_long n [] = refl
 numbered_long n (x ∷ xs) = ap suc (numbered_long (n + 1) xs)
 
 pub symbol_of_lexeme : (d : List Statement) (t : List ℕ) → is_one_of (lexemes d) t ≡ true → is_one_of (symbols_g1 d) t ≡ true
-symbol_of_lexeme d t e = front_true (is_one_of (symbols_g1 d) t) (not (is_one_of (left_names false d) t)) (sym (among_filtered (λ u. not (is_one_of (left_names false d) u)) (symbols_g1 d) t) ∙ e)
+symbol_of_lexeme d t e = prefix_true (is_one_of (symbols_g1 d) t) (not (is_one_of (left_names false d) t)) (sym (among_filtered (λ u. not (is_one_of (left_names false d) u)) (symbols_g1 d) t) ∙ e)
 
 pub start_of_lexeme : (d : List Statement) (t : List ℕ) → is_one_of (lexemes d) t ≡ true → is_one_of (start_texts d) t ≡ true
 start_of_lexeme d t e = in_joined (lexemes d) (discarded d) t (ap (λ b. b || is_one_of (discarded d) t) e)
 
 pub start_of_discard : (d : List Statement) (t : List ℕ) → is_one_of (discarded d) t ≡ true → is_one_of (start_texts d) t ≡ true
-start_of_discard d t e = in_joined (lexemes d) (discarded d) t (ap (λ b. is_one_of (lexemes d) t || b) e ∙ or_true (is_one_of (lexemes d) t))
+start_of_discard d t e = in_joined (lexemes d) (discarded d) t (ap (λ b. is_one_of (lexemes d) t || b) e ∙ or-true (is_one_of (lexemes d) t))
 
 tables_in_range : (d : List Statement) → Faultless d → AllByRecursion IsFew (placed_tokens d) → IsInRange (built_of d)
 tables_in_range d f few =

@@ -19,7 +19,7 @@ use Rattle.dsl_build.specs.Lexical.{set_name}
 use Rattle.dsl_build.specs.Ready.{IsSmall, IsNamed, IsReady, IsReadyAlternative, IsReadable, IsWritable}
 use Rattle.dsl_build.proofs.Faultless.{Faultless}
 use Rattle.dsl_build.proofs.Alls.{all_join, all_map, all_mapped, all_weaker, all_flat, all_pieces, all_filter, all_empty}
-use Rattle.dsl_build.proofs.Few.{bad_of, and_front, statements_are, all_tokens, few_placed}
+use Rattle.dsl_build.proofs.Few.{bad_of, and_prefix, statements_are, all_tokens, few_placed}
 use Rattle.dsl_build.proofs.Known.{AllIn, names_in}
 use Rattle.dsl_build.proofs.Differing.{symbols_new, named_new, append_new, apart_nothing, Apart}
 use Rattle.dsl_build.proofs.Ranging.{structural_in, lexical_in, symbols_all, lexical_all, start_named, start_of_lexeme, start_of_discard, symbol_of_lexeme, names_long, g1_known, l0_known, all_in, contents}
@@ -131,18 +131,18 @@ tokens_sound (Default at adverbs) h bad kept = tt
 tokens_sound (LexemeDefault at adverbs) h bad kept = tt
 tokens_sound (Lexeme at name adverbs) h bad kept = tt
 tokens_sound (Discard at item adverbs) h bad kept = rights_sound (Discard at item adverbs) h bad kept
-tokens_sound (Empty left true adverbs) h bad kept = ((name_part left (and_front (is_name left) (list_all is_adverb adverbs) h), (left_spelt (Empty left true adverbs) kept).0), tt)
+tokens_sound (Empty left true adverbs) h bad kept = ((name_part left (and_prefix (is_name left) (list_all is_adverb adverbs) h), (left_spelt (Empty left true adverbs) kept).0), tt)
 tokens_sound (Empty left false adverbs) h bad kept = tt
 tokens_sound (Quantified left true item plus adverbs) h bad kept =
-    let front = and_front (is_name left && is_kind_of_single item.kind) (list_all is_adverb adverbs) h in
+    let prefix = and_prefix (is_name left && is_kind_of_single item.kind) (list_all is_adverb adverbs) h in
     let rights = all_mapped (λ (r : Bool × Spelled). IsSound r.1) (λ t. (true, t)) (item ∷ separator_of adverbs) (rights_sound (Quantified left true item plus adverbs) h bad kept) in
-    ((name_part left (and_front (is_name left) (is_kind_of_single item.kind) front), (left_spelt (Quantified left true item plus adverbs) kept).0), kept_sound true (item ∷ separator_of adverbs) rights)
+    ((name_part left (and_prefix (is_name left) (is_kind_of_single item.kind) prefix), (left_spelt (Quantified left true item plus adverbs) kept).0), kept_sound true (item ∷ separator_of adverbs) rights)
 tokens_sound (Quantified left false item plus adverbs) h bad kept =
     kept_sound false (item ∷ separator_of adverbs) (all_mapped (λ (r : Bool × Spelled). IsSound r.1) (λ t. (false, t)) (item ∷ separator_of adverbs) (rights_sound (Quantified left false item plus adverbs) h bad kept))
 tokens_sound (Rules left true groups) h bad kept =
-    let front = and_front (is_name left && list_all is_group groups) (is_one groups) h in
+    let prefix = and_prefix (is_name left && list_all is_group groups) (is_one groups) h in
     let rights = all_mapped (λ (r : Bool × Spelled). IsSound r.1) (λ t. (true, t)) (flat_map parts_of (alternatives_of groups)) (rights_sound (Rules left true groups) h bad kept) in
-    ((name_part left (and_front (is_name left) (list_all is_group groups) front), (left_spelt (Rules left true groups) kept).0), kept_sound true (flat_map parts_of (alternatives_of groups)) rights)
+    ((name_part left (and_prefix (is_name left) (list_all is_group groups) prefix), (left_spelt (Rules left true groups) kept).0), kept_sound true (flat_map parts_of (alternatives_of groups)) rights)
 tokens_sound (Rules left false groups) h bad kept =
     kept_sound false (flat_map parts_of (alternatives_of groups)) (all_mapped (λ (r : Bool × Spelled). IsSound r.1) (λ t. (false, t)) (flat_map parts_of (alternatives_of groups)) (rights_sound (Rules left false groups) h bad kept))
 
@@ -196,17 +196,17 @@ structural_named (LexemeDefault at adverbs) h bad kept = tt
 structural_named (Lexeme at name adverbs) h bad kept = tt
 structural_named (Discard at item adverbs) h bad kept = tt
 structural_named (Empty left true adverbs) h bad kept = tt
-structural_named (Empty left false adverbs) h bad kept = (sound_named left (name_part left (and_front (is_name left) (list_all is_adverb adverbs) h), (left_spelt (Empty left false adverbs) kept).0), tt)
+structural_named (Empty left false adverbs) h bad kept = (sound_named left (name_part left (and_prefix (is_name left) (list_all is_adverb adverbs) h), (left_spelt (Empty left false adverbs) kept).0), tt)
 structural_named (Quantified left true item plus adverbs) h bad kept = tt
 structural_named (Quantified left false item plus adverbs) h bad kept =
-    let front = and_front (is_name left && is_kind_of_single item.kind) (list_all is_adverb adverbs) h in
+    let prefix = and_prefix (is_name left && is_kind_of_single item.kind) (list_all is_adverb adverbs) h in
     let rights = all_mapped (λ (r : Bool × Spelled). IsSound r.1) (λ t. (false, t)) (item ∷ separator_of adverbs) (rights_sound (Quantified left false item plus adverbs) h bad kept) in
-    (sound_named left (name_part left (and_front (is_name left) (is_kind_of_single item.kind) front), (left_spelt (Quantified left false item plus adverbs) kept).0), rights_named (item ∷ separator_of adverbs) rights)
+    (sound_named left (name_part left (and_prefix (is_name left) (is_kind_of_single item.kind) prefix), (left_spelt (Quantified left false item plus adverbs) kept).0), rights_named (item ∷ separator_of adverbs) rights)
 structural_named (Rules left true groups) h bad kept = tt
 structural_named (Rules left false groups) h bad kept =
-    let front = and_front (is_name left && list_all is_group groups) (is_filled groups) h in
+    let prefix = and_prefix (is_name left && list_all is_group groups) (is_filled groups) h in
     let rights = all_mapped (λ (r : Bool × Spelled). IsSound r.1) (λ t. (false, t)) (flat_map parts_of (alternatives_of groups)) (rights_sound (Rules left false groups) h bad kept) in
-    (sound_named left (name_part left (and_front (is_name left) (list_all is_group groups) front), (left_spelt (Rules left false groups) kept).0), rights_named (flat_map parts_of (alternatives_of groups)) rights)
+    (sound_named left (name_part left (and_prefix (is_name left) (list_all is_group groups) prefix), (left_spelt (Rules left false groups) kept).0), rights_named (flat_map parts_of (alternatives_of groups)) rights)
 
 new_named : (seen ts : List (List ℕ)) → AllByRecursion NoColon ts → AllByRecursion NoColon (new_texts seen ts)
 new_named seen [] a = tt

@@ -4,10 +4,12 @@ use Rattle.std.specs.Prelude.{flat_map, filter, not, ◌&&◌, bytes_eq, codes, 
 use Rattle.std.specs.List.{AllByRecursion, list_all}
 use Rattle.std.specs.Char.{is_ascii_digit}
 use Rattle.std.proofs.lemmas.Int.{ints}
-use Rattle.std.proofs.lemmas.Bool.{true≢false, eqb-true}
+use Rattle.std.proofs.lemmas.Bool.{true≢false, eqb-true, not-false}
 use Rattle.std.proofs.lemmas.Bool.Decides.{nat_tests}
 use Rattle.std.proofs.lemmas.Slice.Eq.{bytes_eq-Decides}
 use Rattle.std.proofs.lemmas.Str.{encode_ascii}
+use Rattle.finite_sets.proofs.Lists.{prefix_empty, back_empty}
+use Rattle.finite_sets.proofs.Clauses.{and_right}
 use Rattle.language_model.specs.declared.token.TokenKind.{TokenKind}
 use Rattle.language_model.specs.declared.token.TokenKind.TheVariants.{Word, Angle, Quote, Bracket, Pseudo, Reserved, Signed, Mark}
 use Rattle.language_model.specs.Tokens.{Spelled}
@@ -15,11 +17,11 @@ use Rattle.language_model.specs.Description.{Adverb, Comma, Pair, Statement}
 use Rattle.language_model.specs.Building.{AdverbPlace, Fault, fault_at, at_most, is_one_of, is_number, names_at, fits_adverb, pairs_of, adverb_lists, value_of, number_of, digits_number, rank_of}
 use Rattle.dsl_build.specs.Ready.{IsSmall}
 use Rattle.dsl_build.specs.Tables.{priority_of}
-use Rattle.dsl_build.proofs.Faultless.{front_empty, back_empty, none_of}
-use Rattle.dsl_build.proofs.Few.{bad_pair, bad_of, not_false, true_back}
+use Rattle.dsl_build.proofs.Few.{bad_pair, bad_of}
 use Rattle.dsl_build.proofs.Alls.{all_empty}
-use Rattle.dsl_build.proofs.Contents.{both_left, both_right}
+use Rattle.dsl_build.proofs.Contents.{both_left}
 use Rattle.dsl_build.proofs.Spellings.{IsSpelt, Spelt, PairsSpelt}
+use Rattle.language_model.proofs.Short.{none_of}
 
 -- NUMBERS
 
@@ -31,13 +33,13 @@ small_neg n le = (omega (arith, ints, le), omega (arith, ints))
 
 digits_all : (ds : List ℕ) → list_all is_ascii_digit ds ≡ true → filter is_ascii_digit ds ≡ ds
 digits_all [] e = refl
-digits_all (d ∷ ds) e = ap (λ b. cond b (d ∷ filter is_ascii_digit ds) (filter is_ascii_digit ds)) (both_left (is_ascii_digit d) (list_all is_ascii_digit ds) e) ∙ ap (λ xs. d ∷ xs) (digits_all ds (both_right (is_ascii_digit d) (list_all is_ascii_digit ds) e))
+digits_all (d ∷ ds) e = ap (λ b. cond b (d ∷ filter is_ascii_digit ds) (filter is_ascii_digit ds)) (both_left (is_ascii_digit d) (list_all is_ascii_digit ds) e) ∙ ap (λ xs. d ∷ xs) (digits_all ds (and_right (is_ascii_digit d) (list_all is_ascii_digit ds) e))
 
 digits_bytes : (ds : List ℕ) → list_all is_ascii_digit ds ≡ true → encode_utf8_all ds ≡ ds
 digits_bytes [] e = refl
 digits_bytes (d ∷ ds) e =
     let digit : is_ascii_digit d ≡ true = both_left (is_ascii_digit d) (list_all is_ascii_digit ds) e in
-    ap (λ bs. bs ++ encode_utf8_all ds) (encode_ascii d (below d digit)) ∙ ap (λ xs. d ∷ xs) (digits_bytes ds (both_right (is_ascii_digit d) (list_all is_ascii_digit ds) e))
+    ap (λ bs. bs ++ encode_utf8_all ds) (encode_ascii d (below d digit)) ∙ ap (λ xs. d ∷ xs) (digits_bytes ds (and_right (is_ascii_digit d) (list_all is_ascii_digit ds) e))
   where
     below : (c : ℕ) → is_ascii_digit c ≡ true → c < 128
     below c h = grind (arith, nat_tests)
@@ -109,11 +111,11 @@ told_small name numeral number place (Pair n v ∷ adverbs) bad big spelt =
     go (bytes_eq n.content name) refl (told_small name numeral number place adverbs (back_empty (bad_pair place (n, v)) (flat_map (bad_pair place) (pairs_of adverbs)) bad) (back_empty (big_pair (n, v)) (flat_map big_pair (pairs_of adverbs)) big) spelt.1)
   where
     fits : fits_adverb n.content v ≡ true
-    fits = true_back (is_one_of (names_at place) n.content) (fits_adverb n.content v) (not_false (is_one_of (names_at place) n.content && fits_adverb n.content v)
-        (none_of (not (is_one_of (names_at place) n.content && fits_adverb n.content v)) (fault_at n) (front_empty (bad_pair place (n, v)) (flat_map (bad_pair place) (pairs_of adverbs)) bad)))
+    fits = and_right (is_one_of (names_at place) n.content) (fits_adverb n.content v) (not-false (is_one_of (names_at place) n.content && fits_adverb n.content v)
+        (none_of (not (is_one_of (names_at place) n.content && fits_adverb n.content v)) (fault_at n) (prefix_empty (bad_pair place (n, v)) (flat_map (bad_pair place) (pairs_of adverbs)) bad)))
 
     few : (is_one_of (codes "rank" ∷ codes "priority" ∷ []) n.content && nat_lt 1000000 (digits_number (filter is_ascii_digit v.content))) ≡ false
-    few = none_of (is_one_of (codes "rank" ∷ codes "priority" ∷ []) n.content && nat_lt 1000000 (digits_number (filter is_ascii_digit v.content))) (fault_at v) (front_empty (big_pair (n, v)) (flat_map big_pair (pairs_of adverbs)) big)
+    few = none_of (is_one_of (codes "rank" ∷ codes "priority" ∷ []) n.content && nat_lt 1000000 (digits_number (filter is_ascii_digit v.content))) (fault_at v) (prefix_empty (big_pair (n, v)) (flat_map big_pair (pairs_of adverbs)) big)
 
     go : (b : Bool) → bytes_eq n.content name ≡ b → IsSmall (told name adverbs) → IsSmall (unwrap_or (option_map (λ t. number_of t.content) (cond b (Some v) (value_of name adverbs))) (pos 0))
     go true is rest =

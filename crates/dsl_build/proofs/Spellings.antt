@@ -5,13 +5,15 @@ use Rattle.std.specs.List.{AllByRecursion, slice_range}
 use Rattle.std.proofs.Math.Utf8.{scalars, scalar}
 use Rattle.std.proofs.lemmas.Str.{scalars-chars}
 use Rattle.std.specs.Str.{chars}
+use Rattle.std.proofs.lemmas.Bool.{and_from}
+use Rattle.finite_sets.proofs.Clauses.{and_right}
 use Rattle.language_model.specs.declared.token.Token.{Token}
 use Rattle.language_model.specs.declared.token.TokenKind.{TokenKind}
 use Rattle.language_model.specs.Tokens.{Spelled, LeadTo, IsSpelling, content_of, spelled_at}
 use Rattle.language_model.specs.Description.{Element, Bare, Hidden, Adverb, Comma, Pair, Alternative, Statement, Start, Default, LexemeDefault, Lexeme, Discard, Empty, Quantified, Rules, Printed, kept, mark, joined, tokens_of_element, tokens_of_adverbs, tokens_of_alternative, tokens_of_groups, tokens_of, is_mark, begins_piece, onto_first, cut, is_some, pieces_of, Together, PrintedAs, Spells}
 use Rattle.language_model.specs.Texts.{IsDescription, spelled}
 use Rattle.language_model.specs.Building.{AdverbPlace, InOther, InAlternative, adverb_lists, pairs_of, value_of, separator_of, parts_of, parts_of_element, alternatives_of, right_of, left_of}
-use Rattle.dsl_build.proofs.Alls.{all_front, all_back, all_join, all_map, all_mapped, all_weaker, all_flat, all_filter}
+use Rattle.dsl_build.proofs.Alls.{all_prefix, all_back, all_join, all_map, all_mapped, all_weaker, all_flat, all_filter}
 
 -- the content is that of a token of the kind, in a text of Unicode characters
 abbrev pub IsSpelt : TokenKind → List ℕ → Type 0
@@ -24,23 +26,15 @@ both_left : (a b : Bool) → (a && b) ≡ true → a ≡ true
 both_left true b e = refl
 both_left false b e = e
 
-both_right : (a b : Bool) → (a && b) ≡ true → b ≡ true
-both_right true b e = e
-both_right false b e = cc
-
-both_true : (a b : Bool) → a ≡ true → b ≡ true → (a && b) ≡ true
-both_true true b e f = f
-both_true false b e f = e
-
 pub scalars_drop : (n : ℕ) (cs : List ℕ) → scalars cs ≡ true → scalars (drop n cs) ≡ true
 scalars_drop zero cs s = s
 scalars_drop (suc n) [] s = s
-scalars_drop (suc n) (c ∷ cs) s = scalars_drop n cs (both_right (scalar c) (scalars cs) s)
+scalars_drop (suc n) (c ∷ cs) s = scalars_drop n cs (and_right (scalar c) (scalars cs) s)
 
 pub scalars_take : (n : ℕ) (cs : List ℕ) → scalars cs ≡ true → scalars (take n cs) ≡ true
 scalars_take zero cs s = refl
 scalars_take (suc n) [] s = refl
-scalars_take (suc n) (c ∷ cs) s = both_true (scalar c) (scalars (take n cs)) (both_left (scalar c) (scalars cs) s) (scalars_take n cs (both_right (scalar c) (scalars cs) s))
+scalars_take (suc n) (c ∷ cs) s = and_from (scalar c) (scalars (take n cs)) (both_left (scalar c) (scalars cs) s) (scalars_take n cs (and_right (scalar c) (scalars cs) s))
 
 tokens_spelt : (text : List ℕ) (at place : ℕ) (ts : List Token) → scalars text ≡ true → LeadTo text at ts place → AllByRecursion Spelt (map (spelled_at text) ts)
 tokens_spelt text at place [] s h = tt
@@ -100,7 +94,7 @@ elements_spelt (Hidden ts ∷ es) a =
     let own = map kept ts ++ mark (codes ")") ∷ [] in
     let rest = flat_map tokens_of_element es in
     all_join Spelt ts (flat_map parts_of_element es)
-    (all_mapped PrintedSpelt kept ts (all_front PrintedSpelt (map kept ts) (mark (codes ")") ∷ []) (all_front PrintedSpelt own rest a.1)))
+    (all_mapped PrintedSpelt kept ts (all_prefix PrintedSpelt (map kept ts) (mark (codes ")") ∷ []) (all_prefix PrintedSpelt own rest a.1)))
     (elements_spelt es (all_back PrintedSpelt own rest a.1))
 
 adverbs_spelt : (adverbs : List Adverb) → AllByRecursion PrintedSpelt (tokens_of_adverbs adverbs) → AllByRecursion (λ p. Spelt p.1) (pairs_of adverbs)
@@ -121,7 +115,7 @@ joined_all : (P : Printed → Type 0) (m : Printed) (xs : List (List Printed)) �
 joined_all P m [] a = tt
 joined_all P m (ps ∷ []) a = (a, tt)
 joined_all P m (ps ∷ qs ∷ rest) a =
-    (all_front P ps (m ∷ joined m (qs ∷ rest)) a, joined_all P m (qs ∷ rest) (all_back P ps (m ∷ joined m (qs ∷ rest)) a).1)
+    (all_prefix P ps (m ∷ joined m (qs ∷ rest)) a, joined_all P m (qs ∷ rest) (all_back P ps (m ∷ joined m (qs ∷ rest)) a).1)
 
 abbrev AlternativeSpelt : Alternative → Type 0
 AlternativeSpelt a = AllByRecursion PrintedSpelt (tokens_of_alternative a)
@@ -142,7 +136,7 @@ parts_spelt : (gs : List (List Alternative)) → AllByRecursion PrintedSpelt (to
 parts_spelt gs a =
     all_flat Spelt parts_of (alternatives_of gs)
     (all_weaker AlternativeSpelt (λ x. AllByRecursion Spelt (parts_of x)) (alternatives_of gs)
-    (λ (x : Alternative) (h : AlternativeSpelt x). elements_spelt x.elements (all_front PrintedSpelt (flat_map tokens_of_element x.elements) (tokens_of_adverbs x.adverbs) h)) (groups_spelt gs a))
+    (λ (x : Alternative) (h : AlternativeSpelt x). elements_spelt x.elements (all_prefix PrintedSpelt (flat_map tokens_of_element x.elements) (tokens_of_adverbs x.adverbs) h)) (groups_spelt gs a))
 
 pub right_spelt : (s : Statement) → AllByRecursion PrintedSpelt (tokens_of s) → AllByRecursion (λ r. Spelt r.1) (right_of s)
 unfolding tokens_of

@@ -1,6 +1,6 @@
 -- The terminals of a lexical grammar: its character sets, and a start that has no rule at all.
 use Rattle.std.proofs.Common.{◌≡◌, ◌≢◌, ℕ, zero, suc, ◌+◌, ◌<◌, ◌≤◌, Bool, true, false, cond, List, [], ◌∷◌, ◌++◌, Option, Some, refl, sym, ap, ◌∙◌, subst, map, length, take, drop, arith, ◌⊎◌, inl, inr, ⊎_elim, ◌-◌}
-use Rattle.std.proofs.lemmas.Bool.{cases_lt}
+use Rattle.std.proofs.lemmas.Bool.{cases_lt, not-false, or_cases}
 use Rattle.std.specs.Prelude.{flat_map, filter, not, ◌||◌, ◌&&◌, bytes_eq, codes, IsTrue, slice_index_or, slice_get, option_to_list, pos}
 use Rattle.std.specs.List.{AllByRecursion, list_all}
 use Rattle.std.proofs.lemmas.Bool.{true≢false}
@@ -19,15 +19,19 @@ use Rattle.dsl_build.specs.Ranges.{HasSet, IsBareStart, TerminalsHaveSets}
 use Rattle.language_model.specs.Description.{pieces_of}
 use Rattle.dsl_faults.proofs.Keeping.{among_texts}
 use Rattle.dsl_faults.proofs.Bridges.{among_filtered, any_left}
-use Rattle.dsl_build.proofs.Faultless.{Faultless, faultless, front_empty, back_empty, map_empty, none_of}
+use Rattle.dsl_build.proofs.Faultless.{Faultless, faultless}
 use Rattle.dsl_build.proofs.Differing.{differ, named_new}
-use Rattle.dsl_build.proofs.Alls.{all_front, all_back, all_join, all_map, all_weaker, all_always, all_flat, all_pieces, all_filter, all_empty, all_at}
-use Rattle.dsl_build.proofs.Few.{and_front, and_back, bad_pair, bad_of, not_false, true_back, statements_are, all_tokens}
+use Rattle.dsl_build.proofs.Alls.{all_prefix, all_back, all_join, all_map, all_weaker, all_always, all_flat, all_pieces, all_filter, all_empty, all_at}
+use Rattle.dsl_build.proofs.Few.{and_prefix, and_back, bad_pair, bad_of, statements_are, all_tokens}
 use Rattle.dsl_build.proofs.Known.{AllIn, place_known}
 use Rattle.dsl_faults.specs.Texts.{AllNew}
 use Rattle.std.proofs.Math.Bool.{or-false}
-use Rattle.dsl_build.proofs.Ranging.{or_true, all_in, any_append, one_in, symbols_all, lefts_in, tokens_as_texts, contents, or_cases, names_long, numbers_are, numbered_long, front_true, symbol_of_lexeme}
-use Rattle.dsl_faults.proofs.Lists.{map_flat}
+use Rattle.std.proofs.lemmas.Option.{same_Some}
+use Rattle.std.proofs.Math.Bool.{or-true}
+use Rattle.finite_sets.proofs.Lists.{get_left, map_empty, map_flat, get_some, prefix_empty, back_empty}
+use Rattle.finite_sets.proofs.Clauses.{and_right}
+use Rattle.dsl_build.proofs.Ranging.{all_in, any_append, one_in, symbols_all, lefts_in, tokens_as_texts, contents, names_long, numbers_are, numbered_long, prefix_true, symbol_of_lexeme}
+use Rattle.language_model.proofs.Short.{none_of}
 
 -- RULES WITH A LEFT SIDE
 
@@ -35,9 +39,9 @@ abbrev HasLeft : ℕ → List WrittenRule → Type 0
 HasLeft s [] = ⊥
 HasLeft s (r ∷ rs) = (lhs_of r ≡ s) ⊎ HasLeft s rs
 
-has_front : (s : ℕ) (xs ys : List WrittenRule) → HasLeft s xs → HasLeft s (xs ++ ys)
-has_front s [] ys h = absurd h
-has_front s (x ∷ xs) ys h = ⊎_elim (λ (e : lhs_of x ≡ s). inl e) (λ (t : HasLeft s xs). inr (has_front s xs ys t)) h
+has_prefix : (s : ℕ) (xs ys : List WrittenRule) → HasLeft s xs → HasLeft s (xs ++ ys)
+has_prefix s [] ys h = absurd h
+has_prefix s (x ∷ xs) ys h = ⊎_elim (λ (e : lhs_of x ≡ s). inl e) (λ (t : HasLeft s xs). inr (has_prefix s xs ys t)) h
 
 has_back : (s : ℕ) (xs ys : List WrittenRule) → HasLeft s ys → HasLeft s (xs ++ ys)
 has_back s [] ys h = h
@@ -51,7 +55,7 @@ no_terminal s (r ∷ rs) h none =
 
 some_group : (names : List (List ℕ)) (left : Spelled) (count : ℕ) (gs : List (List Alternative)) → IsTrue (list_all is_group gs) → IsTrue (is_filled gs) → HasLeft (place_in names left.content) (rules_of_groups names left count gs)
 some_group names left count [] h k = absurd (true≢false (sym k))
-some_group names left count (g ∷ gs) h k = has_front (place_in names left.content) (map (plain_rule names left (length gs) count) g) (rules_of_groups names left count gs) (one g (and_front (is_group g) (list_all is_group gs) h))
+some_group names left count (g ∷ gs) h k = has_prefix (place_in names left.content) (map (plain_rule names left (length gs) count) g) (rules_of_groups names left count gs) (one g (and_prefix (is_group g) (list_all is_group gs) h))
   where
     one : (as' : List Alternative) → IsTrue (is_group as') → HasLeft (place_in names left.content) (map (plain_rule names left (length gs) count) as')
     one [] f = absurd (true≢false (sym f))
@@ -61,17 +65,14 @@ one_filled : {A : Type 0} (xs : List A) → IsTrue (is_one xs) → IsTrue (is_fi
 one_filled [] h = h
 one_filled (x ∷ xs) h = refl
 
-some_is : {A : Type 0} (a b : A) → Some a ≡ Some b → a ≡ b
-some_is a b e = cc
-
 abbrev side : Bool → Spelled → Option (Bool × Spelled)
 side l t = Some (l, t)
 
 side_token : (k l : Bool) (own left : Spelled) → side k own ≡ side l left → own ≡ left
-side_token k l own left e = ap (λ (x : Bool × Spelled). x.1) (some_is (k, own) (l, left) e)
+side_token k l own left e = ap (λ (x : Bool × Spelled). x.1) (same_Some (k, own) (l, left) e)
 
 side_level : (k l : Bool) (own left : Spelled) → side k own ≡ side l left → k ≡ l
-side_level k l own left e = ap (λ (x : Bool × Spelled). x.0) (some_is (k, own) (l, left) e)
+side_level k l own left e = ap (λ (x : Bool × Spelled). x.0) (same_Some (k, own) (l, left) e)
 
 statement_has : (names : List (List ℕ)) (s : Statement) (l : Bool) (left : Spelled) → IsTrue (is_statement s) → left_of s ≡ Some (l, left) → HasLeft (place_in names left.content) (rules_of names s)
 statement_has names (Start at name) l left h e = cc
@@ -83,9 +84,9 @@ statement_has names (Empty own lexical adverbs) l left h e = inl (ap (λ (t : Sp
 statement_has names (Quantified own lexical item plus adverbs) l left h e = inl (ap (λ (t : Spelled). place_in names t.content) (side_token lexical l own left e))
 statement_has names (Rules own lexical groups) l left h e =
     let same : own ≡ left = side_token lexical l own left e in
-    let front = and_front (is_name own && list_all is_group groups) (cond lexical (is_one groups) (is_filled groups)) h in
+    let prefix = and_prefix (is_name own && list_all is_group groups) (cond lexical (is_one groups) (is_filled groups)) h in
     subst (λ (t : Spelled). HasLeft (place_in names t.content) (rules_of names (Rules own lexical groups))) same
-    (some_group names own (length groups) groups (and_back (is_name own) (list_all is_group groups) front) (filled lexical (and_back (is_name own && list_all is_group groups) (cond lexical (is_one groups) (is_filled groups)) h)))
+    (some_group names own (length groups) groups (and_back (is_name own) (list_all is_group groups) prefix) (filled lexical (and_back (is_name own && list_all is_group groups) (cond lexical (is_one groups) (is_filled groups)) h)))
   where
     filled : (b : Bool) → IsTrue (cond b (is_one groups) (is_filled groups)) → IsTrue (is_filled groups)
     filled true k = one_filled groups k
@@ -96,7 +97,7 @@ level_on : (names : List (List ℕ)) (t left : List ℕ) (b : Bool) (texts : Lis
     (is_one_of texts t ≡ true → HasLeft (place_in names t) (flat_map (rules_of names) fs)) → HasLeft (place_in names t) (flat_map (rules_of names) (cond b (s ∷ fs) fs))
 level_on names t left false texts fs s has e rest = rest e
 level_on names t left true texts fs s has e rest =
-    ⊎_elim (λ (is : bytes_eq left t ≡ true). has_front (place_in names t) (rules_of names s) (flat_map (rules_of names) fs) (subst (λ u. HasLeft (place_in names u) (rules_of names s)) ((bytes_eq-Decides left t).0 is) has))
+    ⊎_elim (λ (is : bytes_eq left t ≡ true). has_prefix (place_in names t) (rules_of names s) (flat_map (rules_of names) fs) (subst (λ u. HasLeft (place_in names u) (rules_of names s)) ((bytes_eq-Decides left t).0 is) has))
     (λ (f : is_one_of texts t ≡ true). has_back (place_in names t) (rules_of names s) (flat_map (rules_of names) fs) (rest f))
     (or_cases (bytes_eq left t) (is_one_of texts t) e)
 
@@ -124,7 +125,7 @@ added_has number next [] i u e q = cc
 added_has number next (t ∷ ts) zero u e q =
     let same : t ≡ u = cc in
     let here : number ≡ number + 0 = omega arith in
-    has_front (number + 0) (cond (is_quote_or_bracket t) (added_one number next t ∷ []) []) (added_rules (number + 1) (next + length (sets_of t)) ts) (go (is_quote_or_bracket t) (ap is_quote_or_bracket same ∙ q) here)
+    has_prefix (number + 0) (cond (is_quote_or_bracket t) (added_one number next t ∷ []) []) (added_rules (number + 1) (next + length (sets_of t)) ts) (go (is_quote_or_bracket t) (ap is_quote_or_bracket same ∙ q) here)
   where
     go : (b : Bool) → b ≡ true → number ≡ number + 0 → HasLeft (number + 0) (cond b (added_one number next t ∷ []) [])
     go true f here = inl here
@@ -171,26 +172,26 @@ value_kind Mark c at h = absurd (true≢false (sym h))
 
 tokens_parts : (ts : List Spelled) → IsTrue (list_all (λ t. is_kind_of_part t.kind) ts) → AllByRecursion IsPart ts
 tokens_parts [] h = tt
-tokens_parts (t ∷ ts) h = (part_kind t.kind t.content t.at (and_front (is_kind_of_part t.kind) (list_all (λ u. is_kind_of_part u.kind) ts) h), tokens_parts ts (and_back (is_kind_of_part t.kind) (list_all (λ u. is_kind_of_part u.kind) ts) h))
+tokens_parts (t ∷ ts) h = (part_kind t.kind t.content t.at (and_prefix (is_kind_of_part t.kind) (list_all (λ u. is_kind_of_part u.kind) ts) h), tokens_parts ts (and_back (is_kind_of_part t.kind) (list_all (λ u. is_kind_of_part u.kind) ts) h))
 
 elements_parts : (es : List Element) → IsTrue (list_all is_element es) → AllByRecursion IsPart (flat_map parts_of_element es)
 elements_parts [] h = tt
-elements_parts (Bare t ∷ es) h = (part_kind t.kind t.content t.at (and_front (is_kind_of_part t.kind) (list_all is_element es) h), elements_parts es (and_back (is_kind_of_part t.kind) (list_all is_element es) h))
+elements_parts (Bare t ∷ es) h = (part_kind t.kind t.content t.at (and_prefix (is_kind_of_part t.kind) (list_all is_element es) h), elements_parts es (and_back (is_kind_of_part t.kind) (list_all is_element es) h))
 elements_parts (Hidden ts ∷ es) h =
     let own = is_filled ts && list_all (λ t. is_kind_of_part t.kind) ts in
-    all_join IsPart ts (flat_map parts_of_element es) (tokens_parts ts (and_back (is_filled ts) (list_all (λ t. is_kind_of_part t.kind) ts) (and_front own (list_all is_element es) h))) (elements_parts es (and_back own (list_all is_element es) h))
+    all_join IsPart ts (flat_map parts_of_element es) (tokens_parts ts (and_back (is_filled ts) (list_all (λ t. is_kind_of_part t.kind) ts) (and_prefix own (list_all is_element es) h))) (elements_parts es (and_back own (list_all is_element es) h))
 
 alternatives_parts : (as' : List Alternative) → IsTrue (list_all is_alternative as') → AllByRecursion IsPart (flat_map parts_of as')
 alternatives_parts [] h = tt
 alternatives_parts (a ∷ as') h =
-    let own = and_front (is_alternative a) (list_all is_alternative as') h in
-    let front = and_front (is_filled a.elements && list_all is_element a.elements) (list_all is_adverb a.adverbs) own in
-    all_join IsPart (parts_of a) (flat_map parts_of as') (elements_parts a.elements (and_back (is_filled a.elements) (list_all is_element a.elements) front)) (alternatives_parts as' (and_back (is_alternative a) (list_all is_alternative as') h))
+    let own = and_prefix (is_alternative a) (list_all is_alternative as') h in
+    let prefix = and_prefix (is_filled a.elements && list_all is_element a.elements) (list_all is_adverb a.adverbs) own in
+    all_join IsPart (parts_of a) (flat_map parts_of as') (elements_parts a.elements (and_back (is_filled a.elements) (list_all is_element a.elements) prefix)) (alternatives_parts as' (and_back (is_alternative a) (list_all is_alternative as') h))
 
 groups_parts : (gs : List (List Alternative)) → IsTrue (list_all is_group gs) → AllByRecursion IsPart (flat_map parts_of (alternatives_of gs))
 groups_parts [] h = tt
 groups_parts (g ∷ gs) h =
-    let own = and_front (is_group g) (list_all is_group gs) h in
+    let own = and_prefix (is_group g) (list_all is_group gs) h in
     subst (AllByRecursion IsPart) (sym (flat_map-append parts_of g (alternatives_of gs)))
     (all_join IsPart (flat_map parts_of g) (flat_map parts_of (alternatives_of gs)) (alternatives_parts g (and_back (is_filled g) (list_all is_alternative g) own)) (groups_parts gs (and_back (is_group g) (list_all is_group gs) h)))
 
@@ -199,8 +200,8 @@ separator_parts place [] e = tt
 separator_parts place (Comma at ∷ adverbs) e = separator_parts place adverbs e
 separator_parts place (Pair name value ∷ adverbs) e =
     go (bytes_eq name.content (codes "separator")) refl
-    (true_back (is_one_of (names_at place) name.content) (fits_adverb name.content value) (not_false (is_one_of (names_at place) name.content && fits_adverb name.content value)
-    (none_of (not (is_one_of (names_at place) name.content && fits_adverb name.content value)) (fault_at name) (front_empty (bad_pair place (name, value)) (flat_map (bad_pair place) (pairs_of adverbs)) e))))
+    (and_right (is_one_of (names_at place) name.content) (fits_adverb name.content value) (not-false (is_one_of (names_at place) name.content && fits_adverb name.content value)
+    (none_of (not (is_one_of (names_at place) name.content && fits_adverb name.content value)) (fault_at name) (prefix_empty (bad_pair place (name, value)) (flat_map (bad_pair place) (pairs_of adverbs)) e))))
     (separator_parts place adverbs (back_empty (bad_pair place (name, value)) (flat_map (bad_pair place) (pairs_of adverbs)) e))
   where
     go : (b : Bool) → bytes_eq name.content (codes "separator") ≡ b → fits_adverb name.content value ≡ true → AllByRecursion IsPart (separator_of adverbs) → AllByRecursion IsPart (option_to_list (cond b (Some value) (value_of (codes "separator") adverbs)))
@@ -214,16 +215,16 @@ rights_parts (Start at name) h bad = tt
 rights_parts (Default at adverbs) h bad = tt
 rights_parts (LexemeDefault at adverbs) h bad = tt
 rights_parts (Lexeme at name adverbs) h bad = tt
-rights_parts (Discard at item adverbs) h bad = (single_kind item.kind item.content item.at (and_front (is_kind_of_single item.kind) (list_all is_adverb adverbs) h), tt)
+rights_parts (Discard at item adverbs) h bad = (single_kind item.kind item.content item.at (and_prefix (is_kind_of_single item.kind) (list_all is_adverb adverbs) h), tt)
 rights_parts (Empty left lexical adverbs) h bad = tt
 rights_parts (Quantified left lexical item plus adverbs) h bad =
-    let front = and_front (is_name left && is_kind_of_single item.kind) (list_all is_adverb adverbs) h in
+    let prefix = and_prefix (is_name left && is_kind_of_single item.kind) (list_all is_adverb adverbs) h in
     let place = cond lexical InLexicalQuantified InQuantified in
     all_map (λ (r : Bool × Spelled). IsPart r.1) (λ t. (lexical, t)) (item ∷ separator_of adverbs)
-    (single_kind item.kind item.content item.at (and_back (is_name left) (is_kind_of_single item.kind) front), separator_parts place adverbs (front_empty (flat_map (bad_pair place) (pairs_of adverbs)) [] bad))
+    (single_kind item.kind item.content item.at (and_back (is_name left) (is_kind_of_single item.kind) prefix), separator_parts place adverbs (prefix_empty (flat_map (bad_pair place) (pairs_of adverbs)) [] bad))
 rights_parts (Rules left lexical groups) h bad =
-    let front = and_front (is_name left && list_all is_group groups) (cond lexical (is_one groups) (is_filled groups)) h in
-    all_map (λ (r : Bool × Spelled). IsPart r.1) (λ t. (lexical, t)) (flat_map parts_of (alternatives_of groups)) (groups_parts groups (and_back (is_name left) (list_all is_group groups) front))
+    let prefix = and_prefix (is_name left && list_all is_group groups) (cond lexical (is_one groups) (is_filled groups)) h in
+    all_map (λ (r : Bool × Spelled). IsPart r.1) (λ t. (lexical, t)) (flat_map parts_of (alternatives_of groups)) (groups_parts groups (and_back (is_name left) (list_all is_group groups) prefix))
 
 -- WHAT IS DEFINED
 
@@ -270,9 +271,9 @@ first_left l names (Default at adverbs) ss a = λ left e. cc
 first_left l names (LexemeDefault at adverbs) ss a = λ left e. cc
 first_left l names (Lexeme at name adverbs) ss a = λ left e. cc
 first_left l names (Discard at item adverbs) ss a = λ left e. cc
-first_left l names (Empty own k adverbs) ss a = λ left e. one_left l k own left names (all_front (λ t. is_one_of names t ≡ true) (cond ((l && k) || (not l && not k)) (own.content ∷ []) []) (left_names l ss) a) e
-first_left l names (Quantified own k item plus adverbs) ss a = λ left e. one_left l k own left names (all_front (λ t. is_one_of names t ≡ true) (cond ((l && k) || (not l && not k)) (own.content ∷ []) []) (left_names l ss) a) e
-first_left l names (Rules own k groups) ss a = λ left e. one_left l k own left names (all_front (λ t. is_one_of names t ≡ true) (cond ((l && k) || (not l && not k)) (own.content ∷ []) []) (left_names l ss) a) e
+first_left l names (Empty own k adverbs) ss a = λ left e. one_left l k own left names (all_prefix (λ t. is_one_of names t ≡ true) (cond ((l && k) || (not l && not k)) (own.content ∷ []) []) (left_names l ss) a) e
+first_left l names (Quantified own k item plus adverbs) ss a = λ left e. one_left l k own left names (all_prefix (λ t. is_one_of names t ≡ true) (cond ((l && k) || (not l && not k)) (own.content ∷ []) []) (left_names l ss) a) e
+first_left l names (Rules own k groups) ss a = λ left e. one_left l k own left names (all_prefix (λ t. is_one_of names t ≡ true) (cond ((l && k) || (not l && not k)) (own.content ∷ []) []) (left_names l ss) a) e
 
 other_lefts : (l : Bool) (names : List (List ℕ)) (s : Statement) (ss : List Statement) → AllIn names (left_names l (s ∷ ss)) → AllIn names (left_names l ss)
 other_lefts l names (Start at name) ss a = a
@@ -340,20 +341,10 @@ all_get P [] i x a e = cc
 all_get P (y ∷ ys) zero x a e = let same : y ≡ x = cc in subst P same a.0
 all_get P (y ∷ ys) (suc i) x a e = all_get P ys i x a.1 e
 
-get_in : (names : List (List ℕ)) (i : ℕ) (t : List ℕ) → slice_get names i ≡ Some t → is_one_of names t ≡ true
+pub get_in : (names : List (List ℕ)) (i : ℕ) (t : List ℕ) → slice_get names i ≡ Some t → is_one_of names t ≡ true
 get_in [] i t e = cc
 get_in (n ∷ ns) zero t e = let same : n ≡ t = cc in ap (λ b. b || is_one_of ns t) ((bytes_eq-Decides n t).1 same)
-get_in (n ∷ ns) (suc i) t e = ap (λ b. bytes_eq n t || b) (get_in ns i t e) ∙ or_true (bytes_eq n t)
-
-get_front : {A : Type 0} (xs ys : List A) (i : ℕ) (x : A) → slice_get xs i ≡ Some x → slice_get (xs ++ ys) i ≡ Some x
-get_front [] ys i x e = cc
-get_front (y ∷ xs) ys zero x e = e
-get_front (y ∷ xs) ys (suc i) x e = get_front xs ys i x e
-
-some_at : {A : Type 0} (xs : List A) (i : ℕ) → i < length xs → (x : A) × (slice_get xs i ≡ Some x)
-some_at [] i lt = absurd (omega arith)
-some_at (x ∷ xs) zero lt = (x, refl)
-some_at (x ∷ xs) (suc i) lt = some_at xs i (omega (arith, lt))
+get_in (n ∷ ns) (suc i) t e = ap (λ b. bytes_eq n t || b) (get_in ns i t e) ∙ or-true (bytes_eq n t)
 
 token_at : (ts : List Spelled) (i : ℕ) (t : List ℕ) → slice_get (contents ts) i ≡ Some t → (u : Spelled) × (slice_get ts i ≡ Some u) × (u.content ≡ t)
 token_at [] i t e = cc
@@ -363,7 +354,7 @@ token_at (u ∷ us) (suc i) t e = token_at us i t e
 text_at : (names : List (List ℕ)) (t : List ℕ) → is_one_of names t ≡ true → slice_get names (place_in names t) ≡ Some t
 text_at names t e = named t names (place_known names t e)
 
-place_at : (names : List (List ℕ)) (i : ℕ) (t : List ℕ) → AllNew [] names → slice_get names i ≡ Some t → place_in names t ≡ i
+pub place_at : (names : List (List ℕ)) (i : ℕ) (t : List ℕ) → AllNew [] names → slice_get names i ≡ Some t → place_in names t ≡ i
 place_at names i t new e = differ [] names (place_in names t) i t new (text_at names t (get_in names i t e)) e
 
 place_same : (names : List (List ℕ)) (t u : List ℕ) → is_one_of names t ≡ true → is_one_of names u ≡ true → place_in names t ≡ place_in names u → t ≡ u
@@ -383,11 +374,11 @@ placed_has d t are settled e =
     let p = place_in (texts_l0 d) t in
     let there : slice_get (texts_l0 d) p ≡ Some t = text_at (texts_l0 d) t e in
     let token = token_at (placed_tokens d) p t there in
-    let place : place_in names t ≡ p = place_at names p t (named_new d) (get_front (texts_l0 d) (filter (λ u. not (is_one_of (texts_l0 d) u)) (lexemes d)) p t there) in
+    let place : place_in names t ≡ p = place_at names p t (named_new d) (get_left (texts_l0 d) (filter (λ u. not (is_one_of (texts_l0 d) u)) (lexemes d)) p t there) in
     let here : 0 + p ≡ place_in names t = omega (arith, place) in
     ⊎_elim
     (λ (q : is_quote_or_bracket token.0 ≡ true). has_back (place_in names t) written added (subst (λ n. HasLeft n added) here (added_has 0 (length names) (placed_tokens d) p token.0 token.1 q)))
-    (λ (o : is_one_of (left_names true d) token.0.content ≡ true). has_front (place_in names t) written added (subst (λ u. HasLeft (place_in names u) written) token.2 (level_has names true d token.0.content are o)))
+    (λ (o : is_one_of (left_names true d) token.0.content ≡ true). has_prefix (place_in names t) written added (subst (λ u. HasLeft (place_in names u) written) token.2 (level_has names true d token.0.content are o)))
     (all_get (IsRuled d) (placed_tokens d) p token.0 (placed_ruled d settled) token.1)
 
 -- WHERE A STRUCTURAL SYMBOL STANDS
@@ -397,7 +388,7 @@ texts_all d =
     all_pieces (λ t. is_one_of (texts_l0 d) t ≡ true) (λ s. contents (lexical_tokens s)) d
     (all_in (texts_l0 d) (flat_map (λ s. contents (lexical_tokens s)) d)
     (λ (t : List ℕ) (e : is_one_of (flat_map (λ s. contents (lexical_tokens s)) d) t ≡ true).
-    ap (λ xs. is_one_of xs t) (tokens_as_texts [] (flat_map lexical_tokens d) ∙ ap (new_texts []) (map_flat (λ (u : Spelled). u.content) lexical_tokens d)) ∙ among_texts (flat_map (λ s. contents (lexical_tokens s)) d) t ∙ e))
+    ap (λ xs. is_one_of xs t) (tokens_as_texts [] (flat_map lexical_tokens d) ∙ ap (new_texts []) (map_flat lexical_tokens (λ (u : Spelled). u.content) d)) ∙ among_texts (flat_map (λ s. contents (lexical_tokens s)) d) t ∙ e))
 
 lexical_lefts_in : (names : List (List ℕ)) (ss : List Statement) → AllByRecursion (λ s. AllIn names (contents (lexical_tokens s))) ss → AllIn names (left_names true ss)
 lexical_lefts_in names [] a = tt
@@ -526,7 +517,7 @@ level_lefts names lefts' (s ∷ ss) a = go s a.0 (level_lefts names lefts' ss a.
     go (Rules left false groups) h rest = all_join (HasLeftIn names lefts') (rules_of_groups names left (length groups) groups) (flat_map (rules_of names) (filter (is_of_level false) ss)) (groups_lefts names lefts' left (length groups) groups (h left refl)) rest
 
 not_left : (d : List Statement) (t : List ℕ) → is_one_of (lexemes d) t ≡ true → is_one_of (left_names false d) t ≡ true → ⊥
-not_left d t e f = true≢false (sym (true_back (is_one_of (symbols_g1 d) t) (not (is_one_of (left_names false d) t)) (sym (among_filtered (λ u. not (is_one_of (left_names false d) u)) (symbols_g1 d) t) ∙ e)) ∙ ap not f)
+not_left d t e f = true≢false (sym (and_right (is_one_of (symbols_g1 d) t) (not (is_one_of (left_names false d) t)) (sym (among_filtered (λ u. not (is_one_of (left_names false d) u)) (symbols_g1 d) t) ∙ e)) ∙ ap not f)
 
 lexeme_terminal : (d : List Statement) (t : List ℕ) → is_one_of (symbols_g1 d) t ≡ true → is_one_of (lexemes d) t ≡ true → IsTerminal (grammar_g1 d) (place_in (symbols_g1 d) t)
 lexeme_terminal d t s e = λ i lt f.
@@ -551,7 +542,7 @@ unruled d s t f h none at = go (is_one_of (texts_l0 d) t) refl
     settled = description_settled d f h
 
     lexeme : is_one_of (texts_l0 d) t ≡ false → is_one_of (lexemes d) t ≡ true
-    lexeme is = front_true (is_one_of (lexemes d) t) (not (is_one_of (texts_l0 d) t)) (sym (among_filtered (λ u. not (is_one_of (texts_l0 d) u)) (lexemes d) t)
+    lexeme is = prefix_true (is_one_of (lexemes d) t) (not (is_one_of (texts_l0 d) t)) (sym (among_filtered (λ u. not (is_one_of (texts_l0 d) u)) (lexemes d) t)
         ∙ sym (ap (λ b. b || is_one_of (filter (λ u. not (is_one_of (texts_l0 d) u)) (lexemes d)) t) is) ∙ sym (any_append (texts_l0 d) (filter (λ u. not (is_one_of (texts_l0 d) u)) (lexemes d)) t) ∙ get_in (named_l0 d) s t at)
 
     go : (b : Bool) → is_one_of (texts_l0 d) t ≡ b → IsBareStart (built_of d) s
@@ -566,7 +557,7 @@ unruled d s t f h none at = go (is_one_of (texts_l0 d) t) refl
           start = place_in (symbols_g1 d) t;
           is = ap (map (place_in (symbols_g1 d))) (start_is d t f.starts st);
           bare = lexeme_terminal d t symbol lexical;
-          named = text_at (symbols_g1 d) t symbol ∙ sym (get_front (named_l0 d) (set_names (length (sets_l0 d))) s t at);
+          named = text_at (symbols_g1 d) t symbol ∙ sym (get_left (named_l0 d) (set_names (length (sets_l0 d))) s t at);
         })
         (λ (other : (is_one_of (left_names false d) t ≡ true) ⊎ (is_one_of (texts_l0 d) t ≡ true)).
         ⊎_elim (λ (left : is_one_of (left_names false d) t ≡ true). absurd (not_left d t lexical left)) (λ (text : is_one_of (texts_l0 d) t ≡ true). absurd (true≢false (sym text ∙ is))) other)
@@ -588,7 +579,7 @@ built_terminals d f h s lt none = ⊎_elim (λ (below : s < length (named_l0 d))
     bare : s < length (named_l0 d) → IsBareStart (built_of d) s
     bare below =
         let names = named_l0 d in
-        let found = some_at names s below in
+        let found = get_some names s below in
         unruled d s found.0 f h none found.1
 
 pub terminals_are_sets : (d : List Statement) (b : Built) → IsBuiltOf d b → TerminalsHaveSets b

@@ -1,6 +1,7 @@
 -- The texts of both grammars, as tables of uses have them, are those of the definition.
 use Rattle.std.proofs.Common.{◌≡◌, ℕ, Bool, true, false, cond, List, [], ◌∷◌, ◌++◌, refl, sym, ap, ◌∙◌, map, take}
 use Rattle.std.specs.Prelude.{flat_map, filter, not, ◌||◌}
+use Rattle.finite_sets.proofs.Lists.{flat_flat}
 use Rattle.language_model.specs.Tokens.{Spelled}
 use Rattle.language_model.specs.Description.{Statement, Start, Default, LexemeDefault, Lexeme, Discard, Empty, Quantified, Rules}
 use Rattle.language_model.specs.Building.{is_one_of, new_texts, new_tokens, symbols_g1, lexemes, left_names, discards_of, discarded, start_names, start_of, lexical_tokens, placed_tokens, is_quote_or_bracket, separator_of, parts_of, alternatives_of}
@@ -8,7 +9,7 @@ use Rattle.dsl_faults.specs.declared.uses.Role.TheVariants as role
 use Rattle.dsl_faults.specs.declared.uses.Which.TheVariants.{StructuralLeft, Discarded, Started}
 use Rattle.dsl_faults.specs.Uses.{used, uses_of, texts_asked, starts_asked}
 use Rattle.dsl_build.specs.Lexical.{placed_part}
-use Rattle.dsl_faults.proofs.Lists.{flat_flat, flat_same}
+use Rattle.dsl_faults.proofs.Lists.{flat_same}
 use Rattle.dsl_faults.proofs.Keeping.{among_texts}
 use Rattle.dsl_faults.proofs.Bridges.{uses, nothing, structural_lefts}
 
@@ -23,7 +24,7 @@ lexemes_are d symbols left s l =
     (λ (t : List ℕ). ap not (ap (λ ns. is_one_of ns t) l ∙ among_texts (flat_map (texts_asked StructuralLeft) (uses d)) t ∙ ap (λ ns. is_one_of ns t) (sym (structural_lefts d))))
 
 pub discards_are : (d : List Statement) → new_texts [] (flat_map (texts_asked Discarded) (uses d)) ≡ discarded d
-discards_are d = ap (new_texts []) (flat_flat (texts_asked Discarded) uses_of d ∙ flat_same (λ s. flat_map (texts_asked Discarded) (uses_of s)) discards_of d each)
+discards_are d = ap (new_texts []) (flat_flat uses_of (texts_asked Discarded) d ∙ flat_same (λ s. flat_map (texts_asked Discarded) (uses_of s)) discards_of d each)
   where
     each : (s : Statement) → flat_map (texts_asked Discarded) (uses_of s) ≡ discards_of s
     each (Start at name) = refl
@@ -37,7 +38,7 @@ discards_are d = ap (new_texts []) (flat_flat (texts_asked Discarded) uses_of d 
 
 pub starts_are : (d : List Statement) → starts_asked (uses d) ≡ start_of d
 starts_are d =
-    ap (λ ns. take 1 (ns ++ flat_map (texts_asked StructuralLeft) (uses d))) (flat_flat (texts_asked Started) uses_of d ∙ flat_same (λ s. flat_map (texts_asked Started) (uses_of s)) start_names d each)
+    ap (λ ns. take 1 (ns ++ flat_map (texts_asked StructuralLeft) (uses d))) (flat_flat uses_of (texts_asked Started) d ∙ flat_same (λ s. flat_map (texts_asked Started) (uses_of s)) start_names d each)
     ∙ ap (λ ns. take 1 (flat_map start_names d ++ ns)) (sym (structural_lefts d))
   where
     each : (s : Statement) → flat_map (texts_asked Started) (uses_of s) ≡ start_names s
@@ -60,7 +61,7 @@ placed_rights (x ∷ xs) = go (x.0 || is_quote_or_bracket x.1) (placed_rights xs
     go false e = e
 
 pub placed_are : (d : List Statement) → new_tokens [] (flat_map placed_part (uses d)) ≡ placed_tokens d
-placed_are d = ap (new_tokens []) (flat_flat placed_part uses_of d ∙ flat_same (λ s. flat_map placed_part (uses_of s)) lexical_tokens d each)
+placed_are d = ap (new_tokens []) (flat_flat uses_of placed_part d ∙ flat_same (λ s. flat_map placed_part (uses_of s)) lexical_tokens d each)
   where
     each : (s : Statement) → flat_map placed_part (uses_of s) ≡ lexical_tokens s
     each (Start at name) = refl

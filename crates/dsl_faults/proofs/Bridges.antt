@@ -5,6 +5,7 @@ use Rattle.std.specs.List.{cons_option}
 use Rattle.std.proofs.Math.Bool.{or-false}
 use Rattle.std.proofs.lemmas.List.Folds.{flat_map-map}
 use Rattle.std.proofs.lemmas.Slice.Eq.{bytes_eq-Decides}
+use Rattle.finite_sets.proofs.Lists.{flat_flat}
 use Rattle.language_model.specs.Tokens.{Spelled}
 use Rattle.language_model.specs.Classes.{class_of}
 use Rattle.language_model.specs.Description.{Statement, Start, Default, LexemeDefault, Lexeme, Discard, Empty, Quantified, Rules, is_name}
@@ -14,7 +15,7 @@ use Rattle.dsl_faults.specs.declared.uses.Role.TheVariants as role
 use Rattle.dsl_faults.specs.declared.uses.Which.TheVariants.{StructuralLeft, LexicalLeft, Structural}
 use Rattle.dsl_faults.specs.Uses.{Used, used, uses_of, texts_asked, is_left}
 use Rattle.dsl_faults.specs.Faults.{undefined_fault, class_fault, left_part, lexeme_fault, all_faults}
-use Rattle.dsl_faults.proofs.Lists.{flat_flat, flat_same}
+use Rattle.dsl_faults.proofs.Lists.{flat_same}
 use Rattle.dsl_faults.proofs.Keeping.{among_texts}
 
 pub filter_flat : {A B : Type 0} (f : A → Option B) (xs : List A) → filter_map f xs ≡ flat_map (λ x. option_to_list (f x)) xs
@@ -66,7 +67,7 @@ single (x ∷ xs) = ap (λ ys. x ∷ ys) (single xs)
 lefts_of_uses : (d : List Statement) → lefts d ≡ flat_map left_part (uses d)
 lefts_of_uses d =
     filter_flat left_of d
-    ∙ sym (flat_flat left_part uses_of d ∙ flat_same (λ s. flat_map left_part (uses_of s)) (λ s. option_to_list (left_of s)) d
+    ∙ sym (flat_flat uses_of left_part d ∙ flat_same (λ s. flat_map left_part (uses_of s)) (λ s. option_to_list (left_of s)) d
     (λ (s : Statement). lefts_only left_part s (λ (l : Bool) (t : Spelled). refl) (λ (l : Bool) (t : Spelled). refl) (λ (l : Bool) (t : Spelled). refl) ∙ single (option_to_list (left_of s))))
 
 abbrev pub names_at_level : Bool → Bool × Spelled → List (List ℕ)
@@ -74,7 +75,7 @@ names_at_level lexical l = cond ((lexical && l.0) || (not lexical && not l.0)) (
 
 pub lexical_lefts : (d : List Statement) → left_names true d ≡ flat_map (texts_asked LexicalLeft) (uses d)
 lexical_lefts d =
-    ap (flat_map (names_at_level true)) (lefts_of_uses d) ∙ flat_flat (names_at_level true) left_part (uses d)
+    ap (flat_map (names_at_level true)) (lefts_of_uses d) ∙ flat_flat left_part (names_at_level true) (uses d)
     ∙ flat_same (λ u. flat_map (names_at_level true) (left_part u)) (texts_asked LexicalLeft) (uses d) (λ (u : Used). go (is_left u) u.lexical u.token)
   where
     go : (b l : Bool) (t : Spelled) → flat_map (names_at_level true) (cond b ((l, t) ∷ []) []) ≡ cond (b && l) (t.content ∷ []) []
@@ -84,7 +85,7 @@ lexical_lefts d =
 
 pub structural_lefts : (d : List Statement) → left_names false d ≡ flat_map (texts_asked StructuralLeft) (uses d)
 structural_lefts d =
-    ap (flat_map (names_at_level false)) (lefts_of_uses d) ∙ flat_flat (names_at_level false) left_part (uses d)
+    ap (flat_map (names_at_level false)) (lefts_of_uses d) ∙ flat_flat left_part (names_at_level false) (uses d)
     ∙ flat_same (λ u. flat_map (names_at_level false) (left_part u)) (texts_asked StructuralLeft) (uses d) (λ (u : Used). go (is_left u) u.lexical u.token)
   where
     go : (b l : Bool) (t : Spelled) → flat_map (names_at_level false) (cond b ((l, t) ∷ []) []) ≡ cond (b && not l) (t.content ∷ []) []
@@ -116,7 +117,7 @@ any_left (l ∷ ls) t =
 -- THE TABLES
 
 pub symbols_are : (d : List Statement) → symbols_g1 d ≡ new_texts [] (flat_map (texts_asked Structural) (uses d))
-symbols_are d = ap (new_texts []) (sym (flat_flat (texts_asked Structural) uses_of d ∙ flat_same (λ s. flat_map (texts_asked Structural) (uses_of s)) structural_names d each))
+symbols_are d = ap (new_texts []) (sym (flat_flat uses_of (texts_asked Structural) d ∙ flat_same (λ s. flat_map (texts_asked Structural) (uses_of s)) structural_names d each))
   where
     rights : (xs : List Spelled) → flat_map (texts_asked Structural) (map (λ (x : Bool × Spelled). used role.Right x.0 x.1) (map (λ t. (false, t)) xs)) ≡ map (λ t. t.content) xs
     rights [] = refl
@@ -169,7 +170,7 @@ module _ (d : List Statement) (structural lexical : List (List ℕ)) (s_is : str
 
   undefined_are : flat_map (undefined_fault structural lexical) (uses d) ≡ not_defined d
   undefined_are =
-      flat_flat (undefined_fault structural lexical) uses_of d
+      flat_flat uses_of (undefined_fault structural lexical) d
       ∙ flat_same (λ s. flat_map (undefined_fault structural lexical) (uses_of s)) (λ s. flat_map (λ r. at_most (is_name r.1 && not (is_one_of (cond r.0 (left_names true d) (all_left_names d)) r.1.content)) (fault_at r.1)) (right_of s)) d
       (λ (s : Statement). rights_only (undefined_fault structural lexical) (λ r. at_most (is_name r.1 && not (is_one_of (cond r.0 (left_names true d) (all_left_names d)) r.1.content)) (fault_at r.1)) s
       (λ (l : Bool) (t : Spelled). refl) (λ (l : Bool) (t : Spelled). refl)
@@ -194,7 +195,7 @@ module _ (d : List Statement) (structural lexical : List (List ℕ)) (s_is : str
 
 classes_are : (d : List Statement) → flat_map class_fault (uses d) ≡ bad_classes d
 classes_are d =
-    flat_flat class_fault uses_of d
+    flat_flat uses_of class_fault d
     ∙ flat_same (λ s. flat_map class_fault (uses_of s)) (λ s. flat_map (λ r. at_most (is_bracket r.1 && not (is_ok (class_of (chars r.1.content)))) (fault_at r.1)) (right_of s)) d
     (λ (s : Statement). rights_only class_fault (λ r. at_most (is_bracket r.1 && not (is_ok (class_of (chars r.1.content)))) (fault_at r.1)) s
     (λ (l : Bool) (t : Spelled). refl) (λ (l : Bool) (t : Spelled). refl) (λ (x : Bool × Spelled). refl) (λ (x : Bool × Spelled). refl))

@@ -1,6 +1,5 @@
 -- How many characters bytes spell, and what numbers digits spell, one byte after the other.
-use Rattle.std.proofs.Common.{◌≡◌, ℕ, zero, suc, ◌+◌, ◌-◌, ◌*◌, ◌<◌, ◌≤◌, ◌==◌, cond, List, [], ◌∷◌, length, take, drop, get_or, refl, sym, ap, ◌∙◌, arith, add-one}
-use Rattle.std.proofs.Math.Seq.{drop-cons}
+use Rattle.std.proofs.Common.{◌≡◌, ℕ, zero, suc, ◌+◌, ◌-◌, ◌*◌, ◌≤◌, ◌==◌, cond, List, [], ◌∷◌, length, take, refl, sym, ap, ◌∙◌, arith}
 use Rattle.std.specs.Prelude.{fold}
 use Rattle.std.specs.Str.{chars, chars_after, continuation_len, lead_bits}
 use Rattle.std.specs.Char.{digit_value}
@@ -57,9 +56,6 @@ count_ends n b m count bs whole e z h = let o = count_step n b m bs e in let f :
 pub count_goes_on : (n b m count : ℕ) (bs : List ℕ) (whole : ℕ) → m ≡ cond (n == 0) (continuation_len b) (n - 1) → (m ≡ 0 → ⊥) → count + count_behind n (b ∷ bs) ≡ whole → count + count_behind m bs ≡ whole
 count_goes_on n b m count bs whole e z h = let o = count_step n b m bs e in let f = unended m z in omega (arith, o, f, h)
 
-pub drop_next : (bs : List ℕ) (i : ℕ) → i < length bs → drop i bs ≡ get_or bs i 0 ∷ drop (i + 1) bs
-drop_next bs i lt = drop-cons bs i 0 lt ∙ ap (λ k. get_or bs i 0 ∷ drop k bs) (sym (add-one i))
-
 -- NUMBERS
 
 abbrev folded : ℕ → List ℕ → ℕ
@@ -69,10 +65,10 @@ grown : (n : ℕ) (ds : List ℕ) → n ≤ folded n ds
 grown n [] = omega arith
 grown n (d ∷ ds) = let e = grown (10 * n + digit_value d) ds in omega (arith, e)
 
-front_less : (n i : ℕ) (ds : List ℕ) → folded n (take i ds) ≤ folded n ds
-front_less n zero ds = grown n ds
-front_less n (suc i) [] = omega arith
-front_less n (suc i) (d ∷ ds) = front_less (10 * n + digit_value d) i ds
+prefix_less : (n i : ℕ) (ds : List ℕ) → folded n (take i ds) ≤ folded n ds
+prefix_less n zero ds = grown n ds
+prefix_less n (suc i) [] = omega arith
+prefix_less n (suc i) (d ∷ ds) = prefix_less (10 * n + digit_value d) i ds
 
-pub digits_front : (ds : List ℕ) (i : ℕ) → digits_number (take i ds) ≤ digits_number ds
-digits_front ds i = front_less 0 i ds
+pub digits_prefix : (ds : List ℕ) (i : ℕ) → digits_number (take i ds) ≤ digits_number ds
+digits_prefix ds i = prefix_less 0 i ds

@@ -1,9 +1,10 @@
 -- The first of a list that is made piece by piece.
-use Rattle.std.proofs.Common.{◌≡◌, ℕ, zero, suc, ◌+◌, ◌<◌, List, [], ◌∷◌, ◌++◌, length, take, get_or, Option, Some, None, refl, sym, ◌∙◌, arith, add-one, subst, ◌≤◌, Bool, true, false, cond}
-use Rattle.std.specs.Prelude.{flat_map, option_map, is_some}
+use Rattle.std.proofs.Common.{◌≡◌, ℕ, zero, suc, ◌+◌, ◌<◌, List, [], ◌∷◌, ◌++◌, length, take, get_or, Option, Some, None, refl, sym, ◌∙◌, arith, add-one, subst, ◌≤◌, true, false}
+use Rattle.std.specs.Prelude.{flat_map, option_map, option_to_list, is_some}
 use Rattle.std.proofs.lemmas.Bool.{true≢false}
 use Rattle.std.proofs.lemmas.List.{take_all}
-use Rattle.language_model.specs.Building.{Fault, at_most}
+use Rattle.finite_sets.proofs.Lists.{prefix_empty, back_empty}
+use Rattle.language_model.specs.Building.{Fault}
 use Rattle.dsl_faults.specs.declared.found.Found.{Found}
 use Rattle.dsl_faults.specs.Found.{first_of, fault_of}
 
@@ -11,9 +12,9 @@ pub first_of_append : {A : Type 0} (xs ys : List A) → xs ≡ [] → first_of (
 first_of_append [] ys e = refl
 first_of_append (x ∷ xs) ys e = cc
 
-pub first_of_front : {A : Type 0} (xs ys : List A) (f : A) → first_of xs ≡ Some f → first_of (xs ++ ys) ≡ Some f
-first_of_front [] ys f e = cc
-first_of_front (x ∷ xs) ys f e = e
+pub first_of_prefix : {A : Type 0} (xs ys : List A) (f : A) → first_of xs ≡ Some f → first_of (xs ++ ys) ≡ Some f
+first_of_prefix [] ys f e = cc
+first_of_prefix (x ∷ xs) ys f e = e
 
 pub none_first : {A : Type 0} (xs : List A) → first_of xs ≡ None → xs ≡ []
 none_first [] e = refl
@@ -27,20 +28,12 @@ pub both_none : {A : Type 0} (xs ys : List A) → xs ≡ [] → ys ≡ [] → xs
 both_none [] ys e h = h
 both_none (x ∷ xs) ys e h = cc
 
-front_none : {A : Type 0} (xs ys : List A) → xs ++ ys ≡ [] → xs ≡ []
-front_none [] ys e = refl
-front_none (x ∷ xs) ys e = cc
-
-back_none : {A : Type 0} (xs ys : List A) → xs ++ ys ≡ [] → ys ≡ []
-back_none [] ys e = e
-back_none (x ∷ xs) ys e = cc
-
 -- a first one in the piece at a place, with none in the pieces before
 pub flat_first : {A B : Type 0} (g : A → List B) (xs : List A) (i : ℕ) (d : A) (f : B) → i < length xs → flat_map g (take i xs) ≡ [] → first_of (g (get_or xs i d)) ≡ Some f → first_of (flat_map g xs) ≡ Some f
 flat_first g [] i d f lt none e = absurd (omega arith)
-flat_first g (x ∷ xs) zero d f lt none e = first_of_front (g x) (flat_map g xs) f e
+flat_first g (x ∷ xs) zero d f lt none e = first_of_prefix (g x) (flat_map g xs) f e
 flat_first g (x ∷ xs) (suc i) d f lt none e =
-    first_of_append (g x) (flat_map g xs) (front_none (g x) (flat_map g (take i xs)) none) ∙ flat_first g xs i d f (omega arith) (back_none (g x) (flat_map g (take i xs)) none) e
+    first_of_append (g x) (flat_map g xs) (prefix_empty (g x) (flat_map g (take i xs)) none) ∙ flat_first g xs i d f (omega arith) (back_empty (g x) (flat_map g (take i xs)) none) e
 
 -- none in one more piece
 pub flat_none : {A B : Type 0} (g : A → List B) (xs : List A) (i : ℕ) (d : A) → i < length xs → flat_map g (take i xs) ≡ [] → first_of (g (get_or xs i d)) ≡ None → flat_map g (take (i + 1) xs) ≡ []
@@ -49,7 +42,7 @@ flat_none {A} {B} g xs i d lt none e = rw (add-one i) (go xs i lt none e)
     go : (xs : List A) (i : ℕ) → i < length xs → flat_map g (take i xs) ≡ [] → first_of (g (get_or xs i d)) ≡ None → flat_map g (take (suc i) xs) ≡ []
     go [] i lt none e = absurd (omega arith)
     go (x ∷ xs) zero lt none e = both_none (g x) [] (none_first (g x) e) refl
-    go (x ∷ xs) (suc i) lt none e = both_none (g x) (flat_map g (take (suc i) xs)) (front_none (g x) (flat_map g (take i xs)) none) (go xs i (omega arith) (back_none (g x) (flat_map g (take i xs)) none) e)
+    go (x ∷ xs) (suc i) lt none e = both_none (g x) (flat_map g (take (suc i) xs)) (prefix_empty (g x) (flat_map g (take i xs)) none) (go xs i (omega arith) (back_empty (g x) (flat_map g (take i xs)) none) e)
 
 -- the same, where the element at the place is named
 pub first_there : {A B : Type 0} (g : A → List B) (xs : List A) (i : ℕ) (x : A) (f : B) → i < length xs → x ≡ get_or xs i x → flat_map g (take i xs) ≡ [] → first_of (g x) ≡ Some f → first_of (flat_map g xs) ≡ Some f
@@ -72,6 +65,6 @@ pub stops : {A : Type 0} (g : A → List Fault) (xs : List A) (i : ℕ) (x : A) 
 stops g xs i x None lt is none e f = absurd (true≢false (sym f))
 stops g xs i x (Some y) lt is none e f = sym (first_there g xs i x (fault_of y) lt is none (sym e))
 
-pub first_at_most : (b : Bool) (f : Fault) → first_of (at_most b f ++ []) ≡ cond b (Some f) None
-first_at_most true f = refl
-first_at_most false f = refl
+pub first_of_option : {A : Type 0} (o : Option A) → o ≡ first_of (option_to_list o)
+first_of_option None = refl
+first_of_option (Some x) = refl

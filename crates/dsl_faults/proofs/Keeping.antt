@@ -8,6 +8,7 @@ use Rattle.std.proofs.lemmas.Bool.Decides.{same_from_decides}
 use Rattle.std.proofs.lemmas.Slice.Eq.{bytes_eq-Decides}
 use Rattle.std.proofs.Math.Bool.{or-false}
 use Rattle.std.proofs.lemmas.Bool.{true≢false}
+use Rattle.finite_sets.proofs.Clauses.{or_moves}
 use Rattle.language_model.specs.Building.{is_one_of, new_texts}
 use Rattle.dsl_faults.specs.Texts.{with_text}
 use Rattle.dsl_faults.specs.declared.uses.Use.{Use}
@@ -23,12 +24,6 @@ bytes_eq_sym xs ys =
 pub is_one_of_any : (t : List ℕ) (names : List (List ℕ)) → is_one_of names t ≡ list_any (bytes_eq t) names
 is_one_of_any t [] = refl
 is_one_of_any t (n ∷ ns) = let e = is_one_of_any t ns in let s = bytes_eq_sym n t in cc
-
-or_moves : (a b c : Bool) → (a || (b || c)) ≡ ((b || a) || c)
-or_moves true true c = refl
-or_moves true false c = refl
-or_moves false true c = refl
-or_moves false false c = refl
 
 -- one more text
 new_more : (seen xs : List (List ℕ)) (t : List ℕ) → new_texts seen (xs ++ t ∷ []) ≡ new_texts seen xs ++ cond (is_one_of seen t || is_one_of (new_texts seen xs) t) [] (t ∷ [])

@@ -5,7 +5,8 @@ pub mod Lists
 pub mod Digits
 pub mod Pairs
 pub mod Repeats
-pub mod Scans
 pub mod SecondLemmas
 pub mod UseLemmas
 pub mod Counting
+pub mod Searches
+pub mod Alongs

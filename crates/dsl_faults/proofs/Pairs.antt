@@ -1,11 +1,11 @@
 -- The pairs of adverbs, and the value of one.
-use Rattle.std.proofs.Common.{◌≡◌, ℕ, Bool, true, false, cond, List, [], ◌∷◌, ◌++◌, Option, Some, None, refl, sym, ap, ◌∙◌, map, subst, append-nil, Vec, Global}
+use Rattle.std.proofs.Common.{◌≡◌, ℕ, Bool, true, false, cond, List, [], ◌∷◌, ◌++◌, Some, None, refl, sym, ap, ◌∙◌, map, append-nil, Vec, Global}
 use Rattle.std.proofs.lemmas.List.Folds.{flat_map-map}
 use Rattle.std.specs.Prelude.{flat_map, option_to_list, not, ◌&&◌}
 use Rattle.std.specs.Str.{bytes_eq}
+use Rattle.finite_sets.proofs.Lists.{flat_flat}
 use Rattle.language_model.specs.Tokens.{Spelled}
-use Rattle.language_model.specs.Description as description
-use Rattle.language_model.specs.Description.{Adverb, Alternative}
+use Rattle.language_model.specs.Description.{Alternative}
 use Rattle.dsl_statement.specs.declared.statement.Alternative.{Alternative as HeldAlternative}
 use Rattle.dsl_faults.specs.declared.checks.Check.{Check}
 use Rattle.language_model.specs.Building.{value_of, pairs_of, AdverbPlace, fault_at, at_most, is_one_of, names_at, fits_adverb}
@@ -15,15 +15,11 @@ use Rattle.dsl_statement.specs.Statements.{adverb_of, adverbs_of}
 use Rattle.dsl_faults.specs.declared.checks.Check.TheVariants.{Known}
 use Rattle.dsl_faults.specs.Adverbs.{list_faults, big_faults, is_big}
 use Rattle.dsl_faults.specs.Found.{first_of}
-use Rattle.dsl_faults.proofs.Lists.{flat_flat, flat_same}
+use Rattle.dsl_faults.proofs.Lists.{flat_same}
 
 -- the value that an adverb gives
-abbrev pub value_in : List ℕ → Adverb → Option Spelled
-value_in name (description.Comma at) = None
-value_in name (description.Pair n value) = cond (bytes_eq n.content name) (Some value) None
-
 abbrev pub values_in : List ℕ → HeldAdverb → List Spelled
-values_in name a = option_to_list (value_in name (adverb_of a))
+values_in name a = option_to_list (value_of name (adverb_of a ∷ []))
 
 pub value_of_first : (name : List ℕ) (held : List HeldAdverb) → value_of name (map adverb_of held) ≡ first_of (flat_map (values_in name) held)
 value_of_first name [] = refl
@@ -34,12 +30,6 @@ value_of_first name (Pair n value ∷ held) = go (bytes_eq n.content name) (valu
         cond b (Some value) (value_of name (map adverb_of held)) ≡ first_of (option_to_list (cond b (Some value) None) ++ flat_map (values_in name) held)
     go true e = refl
     go false e = e
-
-pub value_here : (name : List ℕ) (a : HeldAdverb) (n v : Spelled) → a ≡ Pair n v → bytes_eq n.content name ≡ true → first_of (values_in name a) ≡ Some v
-value_here name a n v is same = subst (λ b. first_of (values_in name b) ≡ Some v) (sym is) (subst (λ b. first_of (option_to_list (cond b (Some v) None)) ≡ Some v) (sym same) refl)
-
-pub no_value_here : (name : List ℕ) (a : HeldAdverb) (n v : Spelled) → a ≡ Pair n v → bytes_eq n.content name ≡ false → first_of (values_in name a) ≡ None
-no_value_here name a n v is same = subst (λ b. first_of (values_in name b) ≡ None) (sym is) (subst (λ b. first_of (option_to_list (cond b (Some v) None)) ≡ None) (sym same) refl)
 
 pub pairs_flat : {A : Type 0} (f : Spelled × Spelled → List A) (held : List HeldAdverb) → flat_map f (pairs_of (map adverb_of held)) ≡ flat_map (λ a. flat_map f (pairs_of (adverb_of a ∷ []))) held
 pairs_flat f [] = refl
@@ -56,7 +46,7 @@ big_flat held = pairs_flat (λ p. at_most (is_big p.0.content p.1) (fault_at p.1
 pub groups_flat : (check : Check) (place : AdverbPlace) (groups : List (Vec HeldAlternative Global)) →
     flat_map (list_faults check) (flat_map (λ g. map (λ a. (place, a.adverbs)) g) (map (λ g. g.items) groups)) ≡ flat_map (λ g. flat_map (λ a. list_faults check (place, a.adverbs)) g.items) groups
 groups_flat check place groups =
-    flat_flat (list_faults check) (λ (g : List Alternative). map (λ a. (place, a.adverbs)) g) (map (λ g. g.items) groups)
+    flat_flat (λ (g : List Alternative). map (λ a. (place, a.adverbs)) g) (list_faults check) (map (λ g. g.items) groups)
     ∙ flat_map-map (λ (g : List Alternative). flat_map (list_faults check) (map (λ a. (place, a.adverbs)) g)) (λ g. g.items) groups
     ∙ flat_same (λ (g : Vec HeldAlternative Global). flat_map (list_faults check) (map (λ a. (place, a.adverbs)) g.items)) (λ g. flat_map (λ a. list_faults check (place, a.adverbs)) g.items) groups
     (λ (g : Vec HeldAlternative Global). flat_map-map (list_faults check) (λ a. (place, a.adverbs)) g.items)

@@ -1,8 +1,11 @@
 -- What stands twice in a list of adverbs, up to a place and behind it.
-use Rattle.std.proofs.Common.{◌≡◌, ℕ, suc, ◌+◌, ◌<◌, Bool, true, false, cond, List, [], ◌∷◌, ◌++◌, length, take, drop, get_or, Option, Some, None, refl, sym, ap, ◌∙◌, map, add-one, append_assoc, Bor}
-use Rattle.std.specs.Prelude.{option_map, option_copied, is_some, bytes_eq, ◌||◌}
-use Rattle.std.proofs.lemmas.List.{map-append, take-append-drop}
-use Rattle.std.proofs.Math.Seq.{take-suc, drop-cons}
+use Rattle.std.proofs.Common.{◌≡◌, ℕ, ◌+◌, Bool, true, false, cond, List, [], ◌∷◌, ◌++◌, length, take, Option, Some, None, refl, sym, ap, ◌∙◌, map, append_assoc, Bor}
+use Rattle.std.specs.Prelude.{flat_map, option_copied, option_map, is_some, bytes_eq, ◌||◌}
+use Rattle.std.proofs.lemmas.List.{map-append, length-append}
+use Rattle.std.proofs.lemmas.List.Folds.{list_any-append}
+use Rattle.std.specs.Bool.{then_some}
+use Rattle.std.specs.List.{slice_get, range_with_len}
+use Rattle.std.proofs.Math.Seq.{take-append_seam}
 use Rattle.language_model.specs.Tokens.{Spelled}
 use Rattle.language_model.specs.Description as description
 use Rattle.language_model.specs.Description.{Adverb}
@@ -10,10 +13,9 @@ use Rattle.language_model.specs.Building.{value_of, pairs_of, repeated_in, is_on
 use Rattle.dsl_statement.specs.declared.statement.Adverb.{Adverb as HeldAdverb}
 use Rattle.dsl_statement.specs.declared.statement.Adverb.TheVariants.{Comma, Pair}
 use Rattle.dsl_statement.specs.Statements.{adverb_of, adverbs_of}
+use Rattle.dsl_faults.specs.Found.{fault_of, first_of}
 use Rattle.dsl_faults.specs.declared.found.Found.{Found}
-use Rattle.dsl_faults.specs.Found.{first_of, fault_of}
-use Rattle.dsl_faults.specs.Adverbs.{names_of}
-use Rattle.dsl_faults.proofs.Firsts.{first_of_append, first_of_front, both_none, none_first}
+use Rattle.dsl_faults.specs.Adverbs.{names_of, repeat_of}
 
 abbrev names_before : List (List ℕ) → List (Spelled × Spelled) → List (List ℕ)
 names_before before [] = before
@@ -61,24 +63,34 @@ repeated_behind xs ys =
     ap (repeated_in []) (held_append xs ys) ∙ repeated_append [] ps qs
     ∙ ap (λ fs. repeated_in [] ps ++ fs) (repeated_same (names_before [] ps) (names_of xs) qs (λ (t : List ℕ). among_before [] ps t))
 
-pub repeat_goes_on : (xs : List HeldAdverb) (i : ℕ) (x : HeldAdverb) (o : Option Found) → i < length xs → x ≡ get_or xs i x → repeated_in [] (pairs_of (adverbs_of (take i xs))) ≡ [] →
-    option_map fault_of o ≡ first_of (repeated_in (names_of (take i xs)) (pairs_of (adverb_of x ∷ []))) → is_some o ≡ false → repeated_in [] (pairs_of (adverbs_of (take (i + 1) xs))) ≡ []
-repeat_goes_on xs i x None lt is none e f =
-    ap (λ k. repeated_in [] (pairs_of (adverbs_of (take k xs)))) (add-one i) ∙ ap (λ ys. repeated_in [] (pairs_of (adverbs_of ys))) (take-suc xs i x lt ∙ ap (λ y. take i xs ++ y ∷ []) (sym is))
-    ∙ repeated_behind (take i xs) (x ∷ []) ∙ both_none _ _ none (none_first _ (sym e))
-repeat_goes_on xs i x (Some y) lt is none e f = cc
+named_more : (before : List HeldAdverb) (x : HeldAdverb) (t : List ℕ) → is_one_of (names_of (before ++ x ∷ [])) t ≡ (is_one_of (names_of before) t || is_one_of (map (λ p. p.0.content) (pairs_of (adverb_of x ∷ []))) t)
+named_more before x t =
+    ap (λ ps. is_one_of (map (λ p. p.0.content) ps) t) (held_append before (x ∷ []))
+    ∙ ap (λ ns. is_one_of ns t) (map-append (λ p. p.0.content) (pairs_of (adverbs_of before)) (pairs_of (adverb_of x ∷ [])))
+    ∙ list_any-append (λ n. bytes_eq n t) (names_of before) (map (λ p. p.0.content) (pairs_of (adverb_of x ∷ [])))
 
-pub repeat_stops : (xs : List HeldAdverb) (i : ℕ) (x : HeldAdverb) (o : Option Found) → i < length xs → x ≡ get_or xs i x → repeated_in [] (pairs_of (adverbs_of (take i xs))) ≡ [] →
-    option_map fault_of o ≡ first_of (repeated_in (names_of (take i xs)) (pairs_of (adverb_of x ∷ []))) → is_some o ≡ true → option_map fault_of o ≡ first_of (repeated_in [] (pairs_of (adverbs_of xs)))
-repeat_stops xs i x None lt is none e f = cc
-repeat_stops xs i x (Some y) lt is none e f =
-    let whole : take i xs ++ x ∷ drop (suc i) xs ≡ xs = ap (λ z. take i xs ++ z ∷ drop (suc i) xs) is ∙ ap (λ ys. take i xs ++ ys) (sym (drop-cons xs i x lt)) ∙ take-append-drop i xs in
-    let first : first_of (repeated_in [] (pairs_of (adverbs_of (take i xs ++ x ∷ drop (suc i) xs)))) ≡ Some (fault_of y) =
-    ap first_of (repeated_behind (take i xs) (x ∷ drop (suc i) xs)) ∙ first_of_append _ _ none
-    ∙ ap (λ ps. first_of (repeated_in (names_of (take i xs)) ps)) (held_append (x ∷ []) (drop (suc i) xs))
-    ∙ ap first_of (repeated_append (names_of (take i xs)) (pairs_of (adverb_of x ∷ [])) (pairs_of (adverbs_of (drop (suc i) xs))))
-    ∙ first_of_front _ _ (fault_of y) (sym e) in
-    sym (ap (λ ys. first_of (repeated_in [] (pairs_of (adverbs_of ys)))) (sym whole) ∙ first)
+get_behind : {A : Type 0} (before : List A) (x : A) (xs : List A) → slice_get (before ++ x ∷ xs) (length before) ≡ Some x
+get_behind [] x xs = refl
+get_behind (y ∷ before) x xs = get_behind before x xs
+
+-- the repeats, place by place
+repeats_from : (before xs : List HeldAdverb) → repeated_in (names_of before) (pairs_of (adverbs_of xs)) ≡ flat_map (λ i. repeat_of (take i (before ++ xs)) (slice_get (before ++ xs) i)) (range_with_len (length before) (length xs))
+repeats_from before [] = refl
+repeats_from before (x ∷ xs) =
+    let p = pairs_of (adverb_of x ∷ []) in
+    let more = pairs_of (adverbs_of xs) in
+    let here : repeat_of (take (length before) (before ++ x ∷ xs)) (slice_get (before ++ x ∷ xs) (length before)) ≡ repeated_in (names_of before) p = ap (λ ys. repeat_of ys (slice_get (before ++ x ∷ xs) (length before))) (take-append_seam before (x ∷ xs)) ∙ ap (repeat_of before) (get_behind before x xs) in
+    let known : (t : List ℕ) → is_one_of (names_before (names_of before) p) t ≡ is_one_of (names_of (before ++ x ∷ [])) t = λ t. among_before (names_of before) p t ∙ sym (named_more before x t) in
+    let long : length (before ++ x ∷ []) ≡ length before + 1 = length-append before (x ∷ []) in
+    let next = repeats_from (before ++ x ∷ []) xs in
+    ap (repeated_in (names_of before)) (pairs_append (adverb_of x ∷ []) (adverbs_of xs)) ∙ repeated_append (names_of before) p more
+    ∙ ap (λ fs. repeated_in (names_of before) p ++ fs) (repeated_same (names_before (names_of before) p) (names_of (before ++ x ∷ [])) more known ∙ next
+    ∙ ap (λ ys. flat_map (λ i. repeat_of (take i ys) (slice_get ys i)) (range_with_len (length (before ++ x ∷ [])) (length xs))) (append_assoc before (x ∷ []) xs)
+    ∙ ap (λ n. flat_map (λ i. repeat_of (take i (before ++ x ∷ xs)) (slice_get (before ++ x ∷ xs) i)) (range_with_len n (length xs))) long)
+    ∙ ap (λ fs. fs ++ flat_map (λ i. repeat_of (take i (before ++ x ∷ xs)) (slice_get (before ++ x ∷ xs) i)) (range_with_len (length before + 1) (length xs))) (sym here)
+
+pub repeats_by_place : (xs : List HeldAdverb) → repeated_in [] (pairs_of (adverbs_of xs)) ≡ flat_map (λ i. repeat_of (take i xs) (slice_get xs i)) (range_with_len 0 (length xs))
+repeats_by_place xs = repeats_from [] xs
 
 -- an adverb with the name stands among them
 pub value_named : (name : List ℕ) (held : List HeldAdverb) → is_some (value_of name (adverbs_of held)) ≡ is_one_of (names_of held) name
@@ -94,10 +106,10 @@ pub copied_some : {A : Type 0} (o : Option (Bor A)) → is_some o ≡ is_some (o
 copied_some None = refl
 copied_some (Some x) = refl
 
-pub repeat_here : (before : List HeldAdverb) (a : HeldAdverb) (n v : Spelled) (f : Fault) (b : Bool) → a ≡ Pair n v → b ≡ is_one_of (names_of before) n.content → b ≡ true → f ≡ fault_at n → Some f ≡ first_of (repeated_in (names_of before) (pairs_of (adverb_of a ∷ [])))
-repeat_here before a n v f b is e t same =
-    sym (ap (λ x. first_of (repeated_in (names_of before) (pairs_of (adverb_of x ∷ [])))) is ∙ ap (λ x. first_of (at_most x (fault_at n) ++ [])) (sym e ∙ t) ∙ ap Some (sym same))
-
-pub no_repeat_here : (before : List HeldAdverb) (a : HeldAdverb) (n v : Spelled) (b : Bool) → a ≡ Pair n v → b ≡ is_one_of (names_of before) n.content → b ≡ false → None ≡ first_of (repeated_in (names_of before) (pairs_of (adverb_of a ∷ [])))
-no_repeat_here before a n v b is e t =
-    sym (ap (λ x. first_of (repeated_in (names_of before) (pairs_of (adverb_of x ∷ [])))) is ∙ ap (λ x. first_of (at_most x (fault_at n) ++ [])) (sym e ∙ t))
+pub repeat_told : (before : List HeldAdverb) (a : HeldAdverb) (n v : Spelled) (x : Found) (b : Bool) → a ≡ Pair n v → b ≡ is_one_of (names_of before) n.content → fault_of x ≡ fault_at n → option_map fault_of (then_some b x) ≡ first_of (repeated_in (names_of before) (pairs_of (adverb_of a ∷ [])))
+repeat_told before a n v x b is e same =
+    go b ∙ ap (λ f. first_of (at_most b f ++ [])) same ∙ ap (λ y. first_of (at_most y (fault_at n) ++ [])) e ∙ sym (ap (λ y. first_of (repeated_in (names_of before) (pairs_of (adverb_of y ∷ [])))) is)
+  where
+    go : (b : Bool) → option_map fault_of (then_some b x) ≡ first_of (at_most b (fault_of x) ++ [])
+    go true = refl
+    go false = refl

@@ -1,12 +1,12 @@
 -- The places of adverbs, as a program holds them, and what is wrong with a list of adverbs.
-use Rattle.std.specs.Prelude.{ℕ, Bool, not, ◌&&◌, nat_lt, List, [], ◌∷◌, filter, flat_map, map, codes}
+use Rattle.std.specs.Prelude.{ℕ, Bool, Option, Some, None, not, ◌&&◌, nat_lt, List, [], ◌∷◌, filter, flat_map, map, codes}
 use Rattle.std.specs.Char.{is_ascii_digit}
 use Rattle.language_model.specs.Tokens.{Spelled}
 use Rattle.language_model.specs.Description.{Adverb, Statement}
 use Rattle.language_model.specs.Building as building
 use Rattle.language_model.specs.Building.{AdverbPlace, Fault, fault_at, at_most, names_at, is_one_of, fits_adverb, digits_number, pairs_of, repeated_in, adverb_lists}
 use Rattle.dsl_statement.specs.declared.statement.Adverb.{Adverb as HeldAdverb}
-use Rattle.dsl_statement.specs.Statements.{adverbs_of}
+use Rattle.dsl_statement.specs.Statements.{adverb_of, adverbs_of}
 use Rattle.dsl_faults.specs.declared.checks.Check.{Check}
 use Rattle.dsl_faults.specs.declared.checks.Check.TheVariants.{Known, Once, Small}
 use Rattle.dsl_faults.specs.declared.adverbs.Place.{Place}
@@ -32,6 +32,11 @@ big_faults adverbs = flat_map (λ p. at_most (is_big p.0.content p.1) (fault_at 
 -- the names of adverbs
 abbrev pub names_of : List HeldAdverb → List (List ℕ)
 names_of adverbs = map (λ p. p.0.content) (pairs_of (adverbs_of adverbs))
+
+-- what an adverb behind these repeats
+abbrev pub repeat_of : List HeldAdverb → Option HeldAdverb → List Fault
+repeat_of before None = []
+repeat_of before (Some a) = repeated_in (names_of before) (pairs_of (adverb_of a ∷ []))
 
 -- what is wrong with a list of adverbs
 abbrev pub list_faults : Check → AdverbPlace × List Adverb → List Fault

@@ -6,6 +6,8 @@ use Rattle.language_model.specs.Classes.{class_of}
 use Rattle.language_model.specs.Building.{Fault, fault_at, at_most, is_one_of, is_bracket, is_quote, quoted, BuildFault, BadAdverb, RepeatedAdverb, LexemeNotDefined, InBoth, NotALexeme, BadClass, TwoStarts, NumberRange, TooLong, bad_adverbs, repeated, in_both, second_starts, big_numbers, too_long}
 use Rattle.dsl_faults.specs.Texts.{with_text}
 use Rattle.dsl_faults.specs.Uses.{Used, is_left, is_right}
+use Rattle.dsl_faults.specs.declared.seconds.Seen.{Seen}
+use Rattle.dsl_faults.specs.declared.symbols.Lefts.{Lefts}
 
 -- a name on a right side that no rule defines, or in a lexical place no lexical rule
 abbrev pub is_undefined : (structural lexical : List (List ℕ)) → Used → Bool
@@ -24,6 +26,10 @@ class_fault u = at_most (is_bad_class u) (fault_at u.token)
 abbrev pub both_fault : (structural lexical : List (List ℕ)) → Used → List Fault
 both_fault structural lexical u = at_most (is_left u && is_one_of (if u.lexical then structural else lexical) u.token.content) (fault_at u.token)
 
+-- the left sides behind one more use
+abbrev pub lefts_after : Lefts → Used → Lefts
+lefts_after lefts u = if is_left u then (if u.lexical then record { structural = lefts.structural; lexical = with_text lefts.lexical u.token.content } else record { structural = with_text lefts.structural u.token.content; lexical = lefts.lexical }) else lefts
+
 abbrev pub left_part : Used → List (Bool × Spelled)
 left_part u = if is_left u then (u.lexical, u.token) ∷ [] else []
 
@@ -38,13 +44,14 @@ second_fault seen lexemes (LexemeDefault at adverbs) = at_most seen (record { at
 second_fault seen lexemes (Lexeme at name adverbs) = at_most (is_one_of lexemes name.content) (record { at = at; name = codes ":lexeme" })
 second_fault seen lexemes _ = []
 
-abbrev pub with_lexeme : List (List ℕ) → Statement → List (List ℕ)
-with_lexeme lexemes (Lexeme at name adverbs) = with_text lexemes name.content
-with_lexeme lexemes _ = lexemes
+abbrev pub seen_after : Seen → Statement → Seen
+seen_after seen (LexemeDefault at adverbs) = record { alloc = seen.alloc; default = true; lexemes = seen.lexemes }
+seen_after seen (Lexeme at name adverbs) = record { alloc = seen.alloc; default = seen.default; lexemes = with_text seen.lexemes name.content }
+seen_after seen _ = seen
 
-abbrev pub start_fault : Bool → Statement → List Fault
-start_fault seen (Start at name) = at_most seen (record { at = at; name = codes ":start" })
-start_fault seen _ = []
+abbrev pub start_fault : Statement → List Fault
+start_fault (Start at name) = record { at = at; name = codes ":start" } ∷ []
+start_fault _ = []
 
 abbrev pub is_start : Statement → Bool
 is_start (Start at name) = true

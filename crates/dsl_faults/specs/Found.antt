@@ -1,5 +1,7 @@
 -- What a program's faults and refusals mean.
-use Rattle.std.specs.Prelude.{◌≡◌, List, [], ◌∷◌, Option, Some, None, Result, IfSome, MatchResult, string_bytes}
+use Rattle.std.specs.Prelude.{◌≡◌, List, [], ◌∷◌, ◌++◌, Option, Some, None, Result, IfSome, MatchResult, string_bytes}
+use Rattle.std.specs.Borrow.{Bor, MutBor}
+use Rattle.std.specs.Fn.{Shared}
 use Rattle.language_model.specs.Building as building
 use Rattle.language_model.specs.Building.{Fault, BuildFault}
 use Rattle.dsl_faults.specs.declared.found.Found.{Found}
@@ -12,6 +14,20 @@ fault_of f = record { at = f.at; name = f.name.now }
 abbrev pub first_of : {A : Type 0} → List A → Option A
 first_of [] = None
 first_of (x ∷ xs) = Some x
+
+-- what elements have, each by the state that those before it left
+abbrev pub along : {S A B : Type 0} → (S → A → List B) → (S → A → S) → S → List A → List B
+along each after s [] = []
+along each after s (x ∷ xs) = each s x ++ along each after (after s x) xs
+
+-- a call at a `&mut` to s and a `&` to x may give r, and leave t
+pub record FindsAfter {F S A R : Type 0} (g : Shared F (MutBor S × (Bor A × Unit {0})) (R × (MutBor S × Unit {0}))) (f : F) (s : S) (x : A) (r : R) (t : S) : Type 0 where
+  pub shown : MutBor S
+  pub item : Bor A
+  pub shows : (shown.now ≡ s) × (item.now ≡ x)
+  pub left : MutBor S
+  pub met : g.post f (shown, (item, tt)) (r, (left, tt))
+  pub leaves : left.now ≡ t
 
 -- the fault that a refusal tells, if it is not want of memory
 abbrev pub refused_fault : BuildRefusal → Option BuildFault

@@ -3,7 +3,7 @@ ghost use Rattle.std.specs.Prelude.{◌≡◌, ℕ, ◌∷◌, [], ◌||◌, map
 ghost use Rattle.std.specs.List.{list_all, list_any};
 ghost use Rattle.std.specs.Char.{is_ascii_digit};
 ghost use Rattle.language_model.specs.Building.{names_at, is_one_of, is_number, is_single, is_word_among, value_of, digits_number};
-ghost use Rattle.dsl_statement.specs.Statements.{adverbs_of};
+ghost use Rattle.dsl_statement.specs.Statements.{adverb_of, adverbs_of};
 ghost use Rattle.dsl_faults.specs.Adverbs.{place_of};
 
 use dsl_statement::{Adverb, Spelled, TokenKind};
@@ -84,16 +84,19 @@ pub fn is_word_among(token: &Spelled, texts: &[&str]) -> bool
     }
 }
 
+// The value of the adverb, if it has this name.
+fn value_in<'a>(name: &str, adverb: &'a Adverb) -> Option<&'a Spelled>
+    ensures { option_copied result ≡ value_of name.now (adverb_of adverb.now ∷ []) }
+{
+    match adverb {
+        Adverb::Comma { .. } => None,
+        Adverb::Pair { name: held, value } => (held.content.as_str() == name).then_some(value),
+    }
+}
+
 /// The value of the first adverb with this name.
 pub fn value_of<'a>(name: &str, adverbs: &'a [Adverb]) -> Option<&'a Spelled>
     ensures { option_copied result ≡ value_of name.now (adverbs_of adverbs.now) }
 {
-    for adverb in adverbs {
-        if let Adverb::Pair { name: held, value } = adverb {
-            if held.content.as_str() == name {
-                return Some(value);
-            }
-        }
-    }
-    None
+    adverbs.iter().find_map(|adverb| value_in(name, adverb))
 }

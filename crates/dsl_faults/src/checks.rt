@@ -1,13 +1,13 @@
 //! The faults of adverbs.
-ghost use Rattle.std.specs.Prelude.{◌≡◌, IfOk, option_map, flat_map, map, [], ◌∷◌, if◌then◌else◌};
+ghost use Rattle.std.specs.Prelude.{◌≡◌, ◌<◌, IfOk, option_map, flat_map, map, [], ◌∷◌, if◌then◌else◌, length, take, slice_get};
 ghost use Rattle.language_model.specs.Building.{pairs_of, repeated_in, InAlternative, InEmpty, InQuantified, InLexicalQuantified, InOther};
 ghost use Rattle.dsl_faults.specs.declared.checks.Check.TheVariants.{Known};
 ghost use Rattle.dsl_statement.specs.Statements.{adverb_of, adverbs_of, is_lexical, statement_of};
 ghost use Rattle.dsl_faults.specs.Found.{fault_of, first_of};
-ghost use Rattle.dsl_faults.specs.Adverbs.{place_of, names_of, list_faults, big_faults, statement_faults};
+ghost use Rattle.dsl_faults.specs.Adverbs.{place_of, names_of, repeat_of, list_faults, big_faults, statement_faults};
 
 use crate::adverbs::{Place, is_allowed, value_of};
-use crate::found::{Found, fault_at, first_at, first_found};
+use crate::found::{Found, fault_at, first_found};
 use crate::values::{fits, is_big};
 use dsl_statement::{Adverb, Alternative, Level, Statement};
 use std::alloc::{AllocError, Global};
@@ -34,11 +34,8 @@ fn unknown_adverb(
         Adverb::Comma { .. } => Ok(None),
         Adverb::Pair { name, value } => {
             let text = name.content.as_str();
-            if is_allowed(place, text) && fits(alloc, text, value)? {
-                Ok(None)
-            } else {
-                Ok(Some(fault_at(name)))
-            }
+            let known = is_allowed(place, text) && fits(alloc, text, value)?;
+            Ok((!known).then_some(fault_at(name)))
         }
     }
 }
@@ -56,25 +53,23 @@ fn repeated_adverb<'a>(before: &[Adverb], adverb: &'a Adverb) -> Option<Found<'a
     match adverb {
         Adverb::Comma { .. } => None,
         Adverb::Pair { name, .. } => {
-            if value_of(name.content.as_str(), before).is_some() {
-                Some(fault_at(name))
-            } else {
-                None
-            }
+            let again = value_of(name.content.as_str(), before).is_some();
+            again.then_some(fault_at(name))
         }
     }
+}
+
+fn repeated_at(adverbs: &[Adverb], place: usize) -> Option<Found<'_>>
+    requires { place < length adverbs.now }
+    ensures { option_map fault_of result ≡ first_of (repeat_of (take place adverbs.now) (slice_get adverbs.now place)) }
+{
+    repeated_adverb(&adverbs[..place], &adverbs[place])
 }
 
 fn repeated(adverbs: &[Adverb]) -> Option<Found<'_>>
     ensures { option_map fault_of result ≡ first_of (repeated_in [] (pairs_of (adverbs_of adverbs.now))) }
 {
-    for (i, adverb) in adverbs.iter().enumerate() {
-        let found = repeated_adverb(&adverbs[..i], adverb);
-        if found.is_some() {
-            return found;
-        }
-    }
-    None
+    (0..adverbs.len()).find_map(|place| repeated_at(adverbs, place))
 }
 
 fn big_adverb(adverb: &Adverb) -> Option<Found<'_>>
@@ -91,7 +86,7 @@ fn big_adverb(adverb: &Adverb) -> Option<Found<'_>>
 fn too_big(adverbs: &[Adverb]) -> Option<Found<'_>>
     ensures { option_map fault_of result ≡ first_of (big_faults (adverbs_of adverbs.now)) }
 {
-    first_at(adverbs, big_adverb)
+    adverbs.iter().find_map(big_adverb)
 }
 
 fn fault_in_list(

@@ -2,7 +2,7 @@
 ghost use Rattle.std.specs.Prelude.{◌≡◌, List, Ok, IfOk, flat_map, option_map};
 ghost use Rattle.std.specs.Fn.{FnReturnsAt};
 ghost use Rattle.language_model.specs.Building.{Fault, fault_at};
-ghost use Rattle.dsl_faults.specs.Found.{fault_of, first_of};
+ghost use Rattle.dsl_faults.specs.Found.{FindsAfter, along, fault_of, first_of};
 
 use dsl_statement::Spelled;
 use std::alloc::AllocError;
@@ -24,21 +24,7 @@ pub fn fault_at(token: &Spelled) -> Found<'_>
     }
 }
 
-/// What is found at the first of them at which something is.
-pub fn first_at<'a, T, F: Fn(&'a T) -> Option<Found<'a>>>(xs: &'a [T], find: F) -> Option<Found<'a>>
-    requires { F.IsAlwaysCallable find }
-    ensures { (each : T → List Fault) → ((x : _) (o : _) → FnReturnsAt F.Fn find x o → option_map fault_of o ≡ first_of (each x)) → option_map fault_of result ≡ first_of (flat_map each xs.now) }
-{
-    for x in xs {
-        let found = find(x);
-        if found.is_some() {
-            return found;
-        }
-    }
-    None
-}
-
-/// The same, where a search may want memory.
+/// What is found at the first of them at which something is, where a search may want memory.
 pub fn first_found<'a, T, F: Fn(&'a T) -> Result<Option<Found<'a>>, AllocError>>(
     xs: &'a [T],
     find: F,
@@ -48,6 +34,25 @@ pub fn first_found<'a, T, F: Fn(&'a T) -> Result<Option<Found<'a>>, AllocError>>
 {
     for x in xs {
         let found = find(x)?;
+        if found.is_some() {
+            return Ok(found);
+        }
+    }
+    Ok(None)
+}
+
+/// The same, where a search may change a state, which the next one is given.
+pub fn first_after<'a, T, S: Drop, F: Fn(&mut S, &'a T) -> Result<Option<Found<'a>>, AllocError>>(
+    xs: &'a [T],
+    first: S,
+    find: F,
+) -> Result<Option<Found<'a>>, AllocError>
+    requires { F.IsAlwaysCallable find }
+    ensures { (each : S → T → List Fault) (after : S → T → S) → ((s : _) (x : _) (o : _) (t : _) → FindsAfter F.Fn find s x (Ok o) t → (option_map fault_of o ≡ first_of (each s x)) × (t ≡ after s x)) → IfOk result (λ found. option_map fault_of found ≡ first_of (along each after first xs.now)) }
+{
+    let mut state = first;
+    for x in xs {
+        let found = find(&mut state, x)?;
         if found.is_some() {
             return Ok(found);
         }

@@ -1,15 +1,15 @@
 //! Faults of whole statements and of right sides.
 ghost use Rattle.std.specs.Prelude.{◌≡◌, ◌++◌, [], ◌||◌, ◌==◌, ◌&&◌, nat_lt, length, IfOk, OnOk, option_map, map, flat_map};
 ghost use Rattle.language_model.specs.Building as building;
-ghost use Rattle.language_model.specs.Building.{is_lexeme_default, second_starts, long_parts, too_long};
+ghost use Rattle.language_model.specs.Building.{second_starts, long_parts, too_long};
 ghost use Rattle.dsl_statement.specs.Statements.{statement_of};
 ghost use Rattle.dsl_faults.specs.Found.{fault_of, first_of};
 ghost use Rattle.dsl_faults.specs.Adverbs.{statement_faults};
 ghost use Rattle.dsl_faults.specs.declared.checks.Check.TheVariants.{Once};
-ghost use Rattle.dsl_faults.specs.Faults.{lexeme_fault, second_fault, with_lexeme, start_fault, is_start, long_fault};
+ghost use Rattle.dsl_faults.specs.Faults.{lexeme_fault, second_fault, seen_after, start_fault, is_start, long_fault};
 
 use crate::checks::{Check, fault_in_statement};
-use crate::found::{Found, fault_at, first_at, first_found};
+use crate::found::{Found, fault_at, first_after, first_found};
 use crate::names::Names;
 use crate::parts::parts_of;
 use crate::quotes::{between_quotes, character_count, is_quote};
@@ -39,82 +39,75 @@ pub fn not_a_lexeme<'a>(
 ) -> Option<Found<'a>>
     ensures { option_map fault_of result ≡ first_of (flat_map (lexeme_fault symbols.now left.now) (map statement_of statements.now)) }
 {
-    first_at(statements, |s| lexeme_fault(s, symbols, left))
+    statements
+        .iter()
+        .find_map(|s| lexeme_fault(s, symbols, left))
 }
 
-fn second_fault<'a>(s: &'a Statement, seen: bool, lexemes: &Names) -> Option<Found<'a>>
-    ensures { option_map fault_of result ≡ first_of (second_fault seen lexemes.now (statement_of s.now)) }
+// What stood before a statement that no other like it may follow.
+#[derive(Drop)]
+struct Seen {
+    alloc: Global,
+    // whether there was a `lexeme default`
+    default: bool,
+    // the names of the `:lexeme` statements
+    lexemes: Names,
+}
+
+fn second_fault<'a>(s: &'a Statement, seen: &Seen) -> Option<Found<'a>>
+    ensures { option_map fault_of result ≡ first_of (second_fault seen.now.default seen.now.lexemes (statement_of s.now)) }
 {
     match s {
-        Statement::LexemeDefault { at, .. } => seen.then_some(Found {
+        Statement::LexemeDefault { at, .. } => seen.default.then_some(Found {
             at: *at,
             name: "lexeme default",
         }),
-        Statement::Lexeme { at, name, .. } => lexemes.has(name.content.as_str()).then_some(Found {
-            at: *at,
-            name: ":lexeme",
-        }),
+        Statement::Lexeme { at, name, .. } => {
+            let again = seen.lexemes.has(name.content.as_str());
+            again.then_some(Found {
+                at: *at,
+                name: ":lexeme",
+            })
+        }
         _ => None,
     }
 }
 
-fn is_lexeme_default(s: &Statement) -> bool
-    ensures { result ≡ is_lexeme_default (statement_of s.now) }
-{
-    matches!(s, Statement::LexemeDefault { .. })
-}
-
-fn keep_lexeme(lexemes: &mut Names, s: &Statement) -> Result<(), AllocError>
-    ensures { OnOk result (lexemes.new ≡ with_lexeme lexemes.old (statement_of s.now)) }
+fn see(seen: &mut Seen, s: &Statement) -> Result<(), AllocError>
+    ensures { OnOk result (seen.new ≡ seen_after seen.old (statement_of s.now)) }
 {
     match s {
-        Statement::Lexeme { name, .. } => lexemes.add(name.content.as_str()),
+        Statement::LexemeDefault { .. } => {
+            seen.default = true;
+            Ok(())
+        }
+        Statement::Lexeme { name, .. } => seen.lexemes.add(name.content.as_str()),
         _ => Ok(()),
     }
 }
 
-fn repeated_at<'a>(
-    alloc: Global,
-    s: &'a Statement,
-    seen: bool,
-    lexemes: &Names,
-) -> Result<Option<Found<'a>>, AllocError>
-    ensures { IfOk result (λ found. option_map fault_of found ≡ first_of (second_fault seen lexemes.now (statement_of s.now) ++ statement_faults Once (statement_of s.now))) }
+fn repeated_at<'a>(seen: &mut Seen, s: &'a Statement) -> Result<Option<Found<'a>>, AllocError>
+    ensures found { IfOk result (λ found. option_map fault_of found ≡ first_of (second_fault seen.old.default seen.old.lexemes (statement_of s.now) ++ statement_faults Once (statement_of s.now))) }
+    ensures seen { OnOk result (seen.new ≡ seen_after seen.old (statement_of s.now)) }
 {
-    let found = second_fault(s, seen, lexemes);
-    if found.is_some() {
-        return Ok(found);
+    let second = second_fault(s, seen);
+    see(seen, s)?;
+    match second {
+        Some(found) => Ok(Some(found)),
+        None => fault_in_statement(seen.alloc, Check::Once, s),
     }
-    fault_in_statement(alloc, Check::Once, s)
 }
 
 /// The first adverb that stands twice in a list, or second `lexeme default`, or second `:lexeme` of a lexeme.
 pub fn repeated(alloc: Global, statements: &[Statement]) -> Result<Option<Found<'_>>, AllocError>
     ensures { IfOk result (λ found. option_map fault_of found ≡ first_of (building.repeated [] (map statement_of statements.now))) }
 {
-    let mut seen = false;
-    let mut lexemes = Names::new(alloc);
-    for s in statements {
-        let found = repeated_at(alloc, s, seen, &lexemes)?;
-        if found.is_some() {
-            return Ok(found);
-        }
-        seen |= is_lexeme_default(s);
-        keep_lexeme(&mut lexemes, s)?;
-    }
-    Ok(None)
-}
-
-fn start_fault(s: &Statement, seen: bool) -> Option<Found<'_>>
-    ensures { option_map fault_of result ≡ first_of (start_fault seen (statement_of s.now)) }
-{
-    match s {
-        Statement::Start { at, .. } => seen.then_some(Found {
-            at: *at,
-            name: ":start",
-        }),
-        _ => None,
-    }
+    let seen = Seen {
+        alloc,
+        default: false,
+        lexemes: Names::new(alloc),
+    };
+    first_after(statements, seen, repeated_at)
 }
 
 fn is_start(s: &Statement) -> bool
@@ -123,19 +116,24 @@ fn is_start(s: &Statement) -> bool
     matches!(s, Statement::Start { .. })
 }
 
+fn start_fault(s: &Statement) -> Option<Found<'_>>
+    ensures { option_map fault_of result ≡ first_of (start_fault (statement_of s.now)) }
+{
+    match s {
+        Statement::Start { at, .. } => Some(Found {
+            at: *at,
+            name: ":start",
+        }),
+        _ => None,
+    }
+}
+
 /// The second `:start`.
 pub fn second_start(statements: &[Statement]) -> Option<Found<'_>>
     ensures { option_map fault_of result ≡ first_of (second_starts (map statement_of statements.now)) }
 {
-    let mut seen = false;
-    for s in statements {
-        let found = start_fault(s, seen);
-        if found.is_some() {
-            return found;
-        }
-        seen |= is_start(s);
-    }
-    None
+    let first = statements.iter().position(is_start)?;
+    statements[first + 1..].iter().find_map(start_fault)
 }
 
 fn is_long_quote(token: &Spelled) -> bool
@@ -154,13 +152,10 @@ fn long_fault<'a>(before: usize, token: &'a Spelled) -> Option<Found<'a>>
 fn long_part<'a>(parts: &[&'a Spelled]) -> Option<Found<'a>>
     ensures { option_map fault_of result ≡ first_of (long_parts 0 (map (λ t. t.now) parts.now)) }
 {
-    for (i, part) in parts.iter().enumerate() {
-        let found = long_fault(i, part);
-        if found.is_some() {
-            return found;
-        }
-    }
-    None
+    parts
+        .iter()
+        .enumerate()
+        .find_map(|(i, part)| long_fault(i, part))
 }
 
 fn long_alternative(

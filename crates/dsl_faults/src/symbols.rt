@@ -5,13 +5,12 @@ ghost use Rattle.language_model.specs.Building as building;
 ghost use Rattle.language_model.specs.Building.{is_one_of};
 ghost use Rattle.language_model.specs.Classes.{class_of};
 ghost use Rattle.dsl_faults.specs.Found.{fault_of, first_of};
-ghost use Rattle.dsl_faults.specs.Texts.{with_text};
-ghost use Rattle.dsl_faults.specs.Uses.{used_of, is_right, is_left, is_asked};
-ghost use Rattle.dsl_faults.specs.Faults.{is_undefined, is_bad_class, undefined_fault, class_fault, both_fault, left_part};
+ghost use Rattle.dsl_faults.specs.Uses.{used_of, is_right, is_left};
+ghost use Rattle.dsl_faults.specs.Faults.{is_undefined, is_bad_class, undefined_fault, class_fault, both_fault, left_part, lefts_after};
 
-use crate::found::{Found, fault_at, first_at, first_found};
+use crate::found::{Found, fault_at, first_after, first_found};
 use crate::names::Names;
-use crate::uses::{Role, Use, Which, is_asked, text_of};
+use crate::uses::{Role, Use, text_of};
 use char_class::{ClassRefusal, read_class};
 use dsl_statement::{Level, Spelled, TokenKind};
 use std::alloc::{AllocError, Global};
@@ -69,7 +68,8 @@ fn undefined_use<'a>(used: &Use<'a>, structural: &Names, lexical: &Names) -> Opt
 pub fn undefined<'a>(uses: &'a [Use<'a>], structural: &Names, lexical: &Names) -> Option<Found<'a>>
     ensures { option_map fault_of result ≡ first_of (flat_map (undefined_fault structural.now lexical.now) (map used_of uses.now)) }
 {
-    first_at(uses, |used| undefined_use(used, structural, lexical))
+    uses.iter()
+        .find_map(|used| undefined_use(used, structural, lexical))
 }
 
 fn is_bad_text(alloc: Global, text: &str) -> Result<bool, AllocError>
@@ -85,11 +85,8 @@ fn is_bad_text(alloc: Global, text: &str) -> Result<bool, AllocError>
 fn bad_class_use<'a>(alloc: Global, used: &Use<'a>) -> Result<Option<Found<'a>>, AllocError>
     ensures { IfOk result (λ found. option_map fault_of found ≡ first_of (class_fault (used_of used.now))) }
 {
-    if is_right(used) && is_bracket(used.token) && is_bad_text(alloc, text_of(used))? {
-        Ok(Some(fault_at_use(used)))
-    } else {
-        Ok(None)
-    }
+    let bad = is_right(used) && is_bracket(used.token) && is_bad_text(alloc, text_of(used))?;
+    Ok(bad.then_some(fault_at_use(used)))
 }
 
 /// The first class that cannot be read.
@@ -99,46 +96,58 @@ pub fn bad_class<'a>(alloc: Global, uses: &'a [Use<'a>]) -> Result<Option<Found<
     first_found(uses, |used| bad_class_use(alloc, used))
 }
 
-fn is_of_other_level(used: &Use<'_>, structural: &Names, lexical: &Names) -> bool
-    ensures { result ≡ is_one_of (if (used_of used.now).lexical then structural.now else lexical.now) (used_of used.now).token.content }
+// The left sides of either level that stood before a use.
+#[derive(Drop)]
+struct Lefts {
+    structural: Names,
+    lexical: Names,
+}
+
+fn is_of_other_level(used: &Use<'_>, lefts: &Lefts) -> bool
+    ensures { result ≡ is_one_of (if (used_of used.now).lexical then lefts.now.structural else lefts.now.lexical) (used_of used.now).token.content }
 {
     let text = text_of(used);
     match used.level {
-        Level::Structural => lexical.has(text),
-        Level::Lexical => structural.has(text),
+        Level::Structural => lefts.lexical.has(text),
+        Level::Lexical => lefts.structural.has(text),
     }
 }
 
-fn both_use<'a>(used: &Use<'a>, structural: &Names, lexical: &Names) -> Option<Found<'a>>
-    ensures { option_map fault_of result ≡ first_of (both_fault structural.now lexical.now (used_of used.now)) }
+fn both_fault<'a>(used: &Use<'a>, lefts: &Lefts) -> Option<Found<'a>>
+    ensures { option_map fault_of result ≡ first_of (both_fault lefts.now.structural lefts.now.lexical (used_of used.now)) }
 {
-    let both = is_left(used) && is_of_other_level(used, structural, lexical);
+    let both = is_left(used) && is_of_other_level(used, lefts);
     both.then_some(fault_at_use(used))
 }
 
-// Puts the text of the use behind the others, if it is one that is asked for.
-fn keep(names: &mut Names, which: Which, used: &Use<'_>) -> Result<(), AllocError>
-    ensures { OnOk result (names.new ≡ (if is_asked which (used_of used.now) then with_text names.old (used_of used.now).token.content else names.old)) }
+fn keep_left(lefts: &mut Lefts, used: &Use<'_>) -> Result<(), AllocError>
+    ensures { OnOk result (lefts.new ≡ lefts_after lefts.old (used_of used.now)) }
 {
-    if is_asked(which, used) {
-        names.add(text_of(used))?;
+    if !is_left(used) {
+        return Ok(());
     }
-    Ok(())
+    match used.level {
+        Level::Structural => lefts.structural.add(text_of(used)),
+        Level::Lexical => lefts.lexical.add(text_of(used)),
+    }
+}
+
+fn both_at<'a>(lefts: &mut Lefts, used: &Use<'a>) -> Result<Option<Found<'a>>, AllocError>
+    ensures found { IfOk result (λ found. option_map fault_of found ≡ first_of (both_fault lefts.old.structural lefts.old.lexical (used_of used.now))) }
+    ensures left { OnOk result (lefts.new ≡ lefts_after lefts.old (used_of used.now)) }
+{
+    let found = both_fault(used, lefts);
+    keep_left(lefts, used)?;
+    Ok(found)
 }
 
 /// The first left side whose name is one of the other level before.
-pub fn in_both<'a>(alloc: Global, uses: &[Use<'a>]) -> Result<Option<Found<'a>>, AllocError>
+pub fn in_both<'a>(alloc: Global, uses: &'a [Use<'a>]) -> Result<Option<Found<'a>>, AllocError>
     ensures { IfOk result (λ found. option_map fault_of found ≡ first_of (building.in_both [] (flat_map left_part (map used_of uses.now)))) }
 {
-    let mut structural = Names::new(alloc);
-    let mut lexical = Names::new(alloc);
-    for used in uses {
-        let found = both_use(used, &structural, &lexical);
-        if found.is_some() {
-            return Ok(found);
-        }
-        keep(&mut structural, Which::StructuralLeft, used)?;
-        keep(&mut lexical, Which::LexicalLeft, used)?;
-    }
-    Ok(None)
+    let lefts = Lefts {
+        structural: Names::new(alloc),
+        lexical: Names::new(alloc),
+    };
+    first_after(uses, lefts, both_at)
 }

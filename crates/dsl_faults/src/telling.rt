@@ -134,8 +134,7 @@ fn tell_long(alloc: Global, statements: &[Statement]) -> Result<(), BuildRefusal
     }
 }
 
-/// Whether the description has no fault, or its first. The tables have the structural symbols, and the left sides
-/// of either level.
+/// Whether the description has no fault, or its first. The tables have the structural symbols, and the left sides.
 pub fn tell_all(
     alloc: Global,
     statements: &[Statement],

@@ -120,8 +120,7 @@ fn push_statement<'a>(
 {
     match s {
         Statement::Start { name, .. } => push(uses, Role::Start, Level::Structural, name),
-        Statement::Default { .. } => Ok(()),
-        Statement::LexemeDefault { .. } => Ok(()),
+        Statement::Default { .. } | Statement::LexemeDefault { .. } => Ok(()),
         Statement::Lexeme { .. } => Ok(()),
         Statement::Discard { item, .. } => push(uses, Role::Discard, Level::Lexical, item),
         Statement::Empty { left, level, .. } => push(uses, Role::Left, *level, left),

@@ -17,8 +17,7 @@ fn is_action(alloc: Global, value: &Spelled) -> Result<bool, AllocError>
 {
     match value.kind {
         TokenKind::Reserved | TokenKind::Bracket => {
-            let action = read_action(alloc, value.content.as_str())?;
-            Ok(action.is_some())
+            Ok(read_action(alloc, value.content.as_str())?.is_some())
         }
         _ => Ok(false),
     }

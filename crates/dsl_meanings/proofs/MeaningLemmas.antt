@@ -4,6 +4,7 @@ use Rattle.std.specs.Prelude.{flat_map}
 use Rattle.std.proofs.lemmas.List.{drop_all}
 use Rattle.std.proofs.lemmas.List.Folds.{flat_map-map}
 use Rattle.std.proofs.Math.Seq.{drop-cons}
+use Rattle.finite_sets.proofs.Lists.{map_flat}
 use Rattle.grammar_model.specs.Values.{Action, RuleMeaning}
 use Rattle.language_model.specs.Description.{Alternative, Statement, Start, Default, LexemeDefault, Lexeme, Discard, Empty, Quantified, Rules}
 use Rattle.language_model.specs.Building.{meanings, alternatives_of}
@@ -11,12 +12,11 @@ use Rattle.dsl_statement.specs.declared.statement.Alternative.{Alternative as He
 use Rattle.dsl_statement.specs.declared.statement.Statement.{Statement as HeldStatement}
 use Rattle.dsl_statement.specs.Statements.{statement_of}
 use Rattle.dsl_meanings.specs.Meanings.{meaning_of_alternative, meanings_of, next_default}
-use Rattle.dsl_faults.proofs.Lists.{map_flat}
 
 pub alternatives_flat : (default : Action) (groups : List (Vec HeldAlternative Global)) →
     map (meaning_of_alternative default) (alternatives_of (map (λ g. g.items) groups)) ≡ flat_map (λ g. map (meaning_of_alternative default) g.items) groups
 alternatives_flat default groups =
-    map_flat (meaning_of_alternative default) (λ (g : List Alternative). g) (map (λ g. g.items) groups) ∙ flat_map-map (λ (g : List Alternative). map (meaning_of_alternative default) g) (λ g. g.items) groups
+    map_flat (λ (g : List Alternative). g) (meaning_of_alternative default) (map (λ g. g.items) groups) ∙ flat_map-map (λ (g : List Alternative). map (meaning_of_alternative default) g) (λ g. g.items) groups
 
 one_statement : (default : Action) (s : Statement) (ss : List Statement) → meanings default (s ∷ ss) ≡ meanings_of default s ++ meanings (next_default default s) ss
 one_statement default (Start at name) ss = refl

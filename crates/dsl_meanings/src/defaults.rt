@@ -21,17 +21,17 @@ fn default_adverbs(s: &Statement) -> &[Adverb]
     }
 }
 
+fn value_in<'a>(name: &str, s: &'a Statement) -> Option<&'a Spelled>
+    ensures { option_copied result ≡ building.value_of name.now (lexeme_default_adverbs (statement_of s.now)) }
+{
+    value_of(name, default_adverbs(s))
+}
+
 /// The value that `lexeme default` has for the adverb of this name.
 pub fn default_value<'a>(name: &str, statements: &'a [Statement]) -> Option<&'a Spelled>
     ensures { option_copied result ≡ building.value_of name.now (flat_map lexeme_default_adverbs (map statement_of statements.now)) }
 {
-    for s in statements {
-        let value = value_of(name, default_adverbs(s));
-        if value.is_some() {
-            return value;
-        }
-    }
-    None
+    statements.iter().find_map(|s| value_in(name, s))
 }
 
 // The action of all lexemes, if there is one.

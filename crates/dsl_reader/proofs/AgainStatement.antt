@@ -132,20 +132,20 @@ first_begins_not (Hidden parts ∷ elements) adverbs (t ∷ ts) some ok fine h =
     (omega arith, no_adverb t ts (other_mark (codes ",") (codes "(") t.kind t.content t.at refl h.0.0 h.0.1) (hidden_first parts (printed elements adverbs) ts ins.0 ins.1 inside))
 
 -- an alternative at the front, before no arrow
-pub record IsFronted (q : List Spelled) : Type 0 where
-  pub front : List Spelled
+pub record IsPrefixed (q : List Spelled) : Type 0 where
+  pub prefix : List Spelled
   pub back : List Spelled
-  pub whole : q ≡ front ++ back
-  pub some : 0 < length front
-  pub begins : begins_adverb front ≡ false
+  pub whole : q ≡ prefix ++ back
+  pub some : 0 < length prefix
+  pub begins : begins_adverb prefix ≡ false
   pub no_arrow : NoArrow back
 
-alternative_fronted : (a : Alternative) (p back q : List Spelled) → is_alternative a ≡ true → Together PrintedAs (tokens_of_alternative a) p → q ≡ p ++ back → NoArrow back → IsFronted q
-alternative_fronted a p back q fine h whole no_arrow =
+alternative_prefixed : (a : Alternative) (p back q : List Spelled) → is_alternative a ≡ true → Together PrintedAs (tokens_of_alternative a) p → q ≡ p ++ back → NoArrow back → IsPrefixed q
+alternative_prefixed a p back q fine h whole no_arrow =
     let outer = and_parts (is_some a.elements && list_all is_element a.elements) (list_all is_adverb a.adverbs) fine in
     let inner = and_parts (is_some a.elements) (list_all is_element a.elements) outer.0 in
     let facts = first_begins_not a.elements a.adverbs p inner.0 inner.1 outer.1 h in
-    record { front = p; back = back; whole = whole; some = facts.0; begins = facts.1; no_arrow = no_arrow }
+    record { prefix = p; back = back; whole = whole; some = facts.0; begins = facts.1; no_arrow = no_arrow }
 
 mark_no_arrow : (m : List ℕ) (ps : List Printed) (s : List Spelled) → bytes_eq m (codes "=>") ≡ false → Together PrintedAs (mark m ∷ ps) s → NoArrow s
 mark_no_arrow m ps [] e h = tt
@@ -155,36 +155,36 @@ no_arrow_append : (p s : List Spelled) → NoArrow p → NoArrow s → NoArrow (
 no_arrow_append [] s h k = k
 no_arrow_append (t ∷ p) s h k = h
 
-group_fronted : (g : List Alternative) (p back q : List Spelled) → is_group g ≡ true → Together PrintedAs (tokens_of_group g) p → q ≡ p ++ back → NoArrow back → IsFronted q
-group_fronted [] p back q fine h whole no_arrow = absurd (let e : false ≡ true = fine in clash e)
+group_prefixed : (g : List Alternative) (p back q : List Spelled) → is_group g ≡ true → Together PrintedAs (tokens_of_group g) p → q ≡ p ++ back → NoArrow back → IsPrefixed q
+group_prefixed [] p back q fine h whole no_arrow = absurd (let e : false ≡ true = fine in clash e)
   where
     clash : false ≡ true → ⊥
     clash e = absurd cc
-group_fronted (a ∷ []) p back q fine h whole no_arrow = alternative_fronted a p back q (and_parts (is_alternative a) true fine).0 h whole no_arrow
-group_fronted (a ∷ b ∷ g) p back q fine h whole no_arrow =
+group_prefixed (a ∷ []) p back q fine h whole no_arrow = alternative_prefixed a p back q (and_parts (is_alternative a) true fine).0 h whole no_arrow
+group_prefixed (a ∷ b ∷ g) p back q fine h whole no_arrow =
     let split = parted (tokens_of_alternative a) (mark (codes "|") ∷ tokens_of_group (b ∷ g)) p h in
-    alternative_fronted a split.first (split.second ++ back) q (and_parts (is_alternative a) (list_all is_alternative (b ∷ g)) fine).0 split.before
+    alternative_prefixed a split.first (split.second ++ back) q (and_parts (is_alternative a) (list_all is_alternative (b ∷ g)) fine).0 split.before
     (whole ∙ ap (λ l. l ++ back) split.whole ∙ append_assoc split.first split.second back)
     (no_arrow_append split.second back (mark_no_arrow (codes "|") (tokens_of_group (b ∷ g)) split.second refl split.behind) no_arrow)
 
-groups_fronted : (gs : List (List Alternative)) (q : List Spelled) → is_some gs ≡ true → list_all is_group gs ≡ true → Together PrintedAs (tokens_of_groups gs) q → IsFronted q
-groups_fronted [] q some fine h = absurd (let e : false ≡ true = some in clash e)
+groups_prefixed : (gs : List (List Alternative)) (q : List Spelled) → is_some gs ≡ true → list_all is_group gs ≡ true → Together PrintedAs (tokens_of_groups gs) q → IsPrefixed q
+groups_prefixed [] q some fine h = absurd (let e : false ≡ true = some in clash e)
   where
     clash : false ≡ true → ⊥
     clash e = absurd cc
-groups_fronted (g ∷ []) q some fine h = group_fronted g q [] q (and_parts (is_group g) true fine).0 h (sym (append-nil q)) tt
-groups_fronted (g ∷ k ∷ gs) q some fine h =
+groups_prefixed (g ∷ []) q some fine h = group_prefixed g q [] q (and_parts (is_group g) true fine).0 h (sym (append-nil q)) tt
+groups_prefixed (g ∷ k ∷ gs) q some fine h =
     let split = parted (tokens_of_group g) (mark (codes "||") ∷ tokens_of_groups (k ∷ gs)) q h in
-    group_fronted g split.first split.second q (and_parts (is_group g) (list_all is_group (k ∷ gs)) fine).0 split.before split.whole (mark_no_arrow (codes "||") (tokens_of_groups (k ∷ gs)) split.second refl split.behind)
+    group_prefixed g split.first split.second q (and_parts (is_group g) (list_all is_group (k ∷ gs)) fine).0 split.before split.whole (mark_no_arrow (codes "||") (tokens_of_groups (k ∷ gs)) split.second refl split.behind)
 
-begins_seam : (front back : List Spelled) → 0 < length front → begins_adverb front ≡ false → NoArrow back → ends_elements (front ++ back) ≡ false
+begins_seam : (prefix back : List Spelled) → 0 < length prefix → begins_adverb prefix ≡ false → NoArrow back → ends_elements (prefix ++ back) ≡ false
 begins_seam [] back h e k = absurd (omega arith)
 begins_seam (t ∷ []) [] h e k = e
 begins_seam (t ∷ []) (u ∷ back) h e k = ap (λ b. b || is_mark (codes "=>") u) e ∙ k
-begins_seam (t ∷ u ∷ front) back h e k = e
+begins_seam (t ∷ u ∷ prefix) back h e k = e
 
-fronted_goes_on : (q : List Spelled) → IsFronted q → ends_elements q ≡ false
-fronted_goes_on q f = ap ends_elements f.whole ∙ begins_seam f.front f.back f.some f.begins f.no_arrow
+prefixed_goes_on : (q : List Spelled) → IsPrefixed q → ends_elements q ≡ false
+prefixed_goes_on q f = ap ends_elements f.whole ∙ begins_seam f.prefix f.back f.some f.begins f.no_arrow
 
 unlike_second : (m : List ℕ) (q : List Spelled) → list_all (is_unlike m) q ≡ true → first_is (is_mark m) (drop 1 q) ≡ false
 unlike_second m [] h = refl
@@ -207,7 +207,7 @@ rules_again : (left : Spelled) (lexical : Bool) (gs : List (List Alternative)) (
 unfolding right_of rules_of
 rules_again left lexical gs op q fine shape h =
     let shaped = shape_some lexical gs shape in
-    let goes_on = fronted_goes_on q (groups_fronted gs q shaped.0 fine h) in
+    let goes_on = prefixed_goes_on q (groups_prefixed gs q shaped.0 fine h) in
     let star = unlike_second (codes "*") q (printed_unlike (codes "*") (tokens_of_groups gs) q (groups_unlike (codes "*") (record { comma = refl; arrow = refl; opens = refl; closes = refl; ranking = refl }) refl refl gs fine) h) in
     let plus = unlike_second (codes "+") q (printed_unlike (codes "+") (tokens_of_groups gs) q (groups_unlike (codes "+") (record { comma = refl; arrow = refl; opens = refl; closes = refl; ranking = refl }) refl refl gs fine) h) in
     let read = groups_again gs q shaped.0 fine h in

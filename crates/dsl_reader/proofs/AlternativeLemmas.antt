@@ -99,23 +99,23 @@ some_end [] x = refl
 some_end (y ∷ ys) x = refl
 
 -- the parts in round brackets, of which some are read
-hidden_again : (parts front : List Spelled) (elements : List Element) (adverbs : List Adverb) (p : List Spelled) (a : Option Alternative) → list_all (λ t. is_kind_of_part t.kind) parts ≡ true → is_some (front ++ parts) ≡ true
+hidden_again : (parts prefix : List Spelled) (elements : List Element) (adverbs : List Adverb) (p : List Spelled) (a : Option Alternative) → list_all (λ t. is_kind_of_part t.kind) parts ≡ true → is_some (prefix ++ parts) ≡ true
     → Together PrintedAs ((map kept parts ++ mark (codes ")") ∷ []) ++ printed elements adverbs) p
     → ((q : List Spelled) → Together PrintedAs (printed elements adverbs) q → alternative_of q None ≡ a)
-    → alternative_of p (Some front) ≡ add_element (Hidden (front ++ parts)) a
-hidden_again [] front elements adverbs [] a ok some h rest = absurd h
-hidden_again [] front elements adverbs (t ∷ ts) a ok some h rest =
-    let named : is_some front ≡ true = subst (λ l. is_some l ≡ true) (append-nil front) some in
-    close_step t ts front (mark_no_part t.kind h.0.0) (both_true (mark_is (codes ")") t.kind t.content t.at h.0.0 h.0.1) named)
-    ∙ ap (add_element (Hidden front)) (rest ts h.1) ∙ ap (λ l. add_element (Hidden l) a) (sym (append-nil front))
-hidden_again (x ∷ xs) front elements adverbs [] a ok some h rest = absurd h
-hidden_again (x ∷ xs) front elements adverbs (t ∷ ts) a ok some h rest =
+    → alternative_of p (Some prefix) ≡ add_element (Hidden (prefix ++ parts)) a
+hidden_again [] prefix elements adverbs [] a ok some h rest = absurd h
+hidden_again [] prefix elements adverbs (t ∷ ts) a ok some h rest =
+    let named : is_some prefix ≡ true = subst (λ l. is_some l ≡ true) (append-nil prefix) some in
+    close_step t ts prefix (mark_no_part t.kind h.0.0) (both_true (mark_is (codes ")") t.kind t.content t.at h.0.0 h.0.1) named)
+    ∙ ap (add_element (Hidden prefix)) (rest ts h.1) ∙ ap (λ l. add_element (Hidden l) a) (sym (append-nil prefix))
+hidden_again (x ∷ xs) prefix elements adverbs [] a ok some h rest = absurd h
+hidden_again (x ∷ xs) prefix elements adverbs (t ∷ ts) a ok some h rest =
     let parts = and_parts (is_kind_of_part x.kind) (list_all (λ t. is_kind_of_part t.kind) xs) ok in
     let same = kept_is x t h.0 in
     let part : is_kind_of_part t.kind ≡ true = subst (λ (y : Spelled). is_kind_of_part y.kind ≡ true) same parts.0 in
-    let regroup : (front ++ t ∷ []) ++ xs ≡ front ++ x ∷ xs = append_assoc front (t ∷ []) xs ∙ ap (λ y. front ++ y ∷ xs) (sym same) in
-    part_step t ts front part
-    ∙ hidden_again xs (front ++ t ∷ []) elements adverbs ts a parts.1 (subst (λ l. is_some l ≡ true) (sym regroup) some) h.1 rest
+    let regroup : (prefix ++ t ∷ []) ++ xs ≡ prefix ++ x ∷ xs = append_assoc prefix (t ∷ []) xs ∙ ap (λ y. prefix ++ y ∷ xs) (sym same) in
+    part_step t ts prefix part
+    ∙ hidden_again xs (prefix ++ t ∷ []) elements adverbs ts a parts.1 (subst (λ l. is_some l ≡ true) (sym regroup) some) h.1 rest
     ∙ ap (λ l. add_element (Hidden l) a) regroup
 
 -- the first of parts in round brackets is no arrow
@@ -166,7 +166,7 @@ alternative_again (Hidden parts ∷ elements) adverbs (t ∷ ts) ok fine h =
 abbrev Taken : Option (List Spelled) → List Spelled → Option Alternative → Type 0
 Taken state tokens None = Unit {0}
 Taken None tokens (Some a) = (list_all is_element a.elements ≡ true) × (list_all is_adverb a.adverbs ≡ true) × Together PrintedAs (printed a.elements a.adverbs) tokens
-Taken (Some front) tokens (Some a) = (parts : List Spelled) × (elements : List Element) × (a.elements ≡ Hidden (front ++ parts) ∷ elements) × (list_all (λ t. is_kind_of_part t.kind) parts ≡ true) × (is_some (front ++ parts) ≡ true) × (list_all is_element elements ≡ true) × (list_all is_adverb a.adverbs ≡ true) × Together PrintedAs ((map kept parts ++ mark (codes ")") ∷ []) ++ printed elements a.adverbs) tokens
+Taken (Some prefix) tokens (Some a) = (parts : List Spelled) × (elements : List Element) × (a.elements ≡ Hidden (prefix ++ parts) ∷ elements) × (list_all (λ t. is_kind_of_part t.kind) parts ≡ true) × (is_some (prefix ++ parts) ≡ true) × (list_all is_element elements ≡ true) × (list_all is_adverb a.adverbs ≡ true) × Together PrintedAs ((map kept parts ++ mark (codes ")") ∷ []) ++ printed elements a.adverbs) tokens
 
 taken_if : (state : Option (List Spelled)) (tokens : List Spelled) (b : Bool) (x y : Option Alternative) → (b ≡ true → Taken state tokens x) → (b ≡ false → Taken state tokens y) → Taken state tokens (if b then x else y)
 taken_if state tokens true x y f g = f refl
@@ -180,17 +180,17 @@ taken_bare : (t : Spelled) (ts : List Spelled) (r : Option Alternative) → is_k
 taken_bare t ts None part h = tt
 taken_bare t ts (Some a) part h = (both_true part h.0, h.1, ((refl, refl, refl), h.2))
 
-taken_part : (t : Spelled) (ts front : List Spelled) (r : Option Alternative) → is_kind_of_part t.kind ≡ true → Taken (Some (front ++ t ∷ [])) ts r → Taken (Some front) (t ∷ ts) r
-taken_part t ts front None part h = tt
-taken_part t ts front (Some a) part (parts, elements, is, ok, some, fine, adverbs_fine, rest) =
-    let regroup = append_assoc front (t ∷ []) parts in
+taken_part : (t : Spelled) (ts prefix : List Spelled) (r : Option Alternative) → is_kind_of_part t.kind ≡ true → Taken (Some (prefix ++ t ∷ [])) ts r → Taken (Some prefix) (t ∷ ts) r
+taken_part t ts prefix None part h = tt
+taken_part t ts prefix (Some a) part (parts, elements, is, ok, some, fine, adverbs_fine, rest) =
+    let regroup = append_assoc prefix (t ∷ []) parts in
     (t ∷ parts, elements, is ∙ ap (λ l. Hidden l ∷ elements) regroup, both_true part ok, subst (λ l. is_some l ≡ true) regroup some, fine, adverbs_fine, ((refl, refl, refl), rest))
 
-taken_close : (t : Spelled) (ts front : List Spelled) (r : Option Alternative) → is_mark (codes ")") t ≡ true → is_some front ≡ true → Taken None ts r → Taken (Some front) (t ∷ ts) (add_element (Hidden front) r)
-taken_close t ts front None ends some h = tt
-taken_close t ts front (Some a) ends some h =
+taken_close : (t : Spelled) (ts prefix : List Spelled) (r : Option Alternative) → is_mark (codes ")") t ≡ true → is_some prefix ≡ true → Taken None ts r → Taken (Some prefix) (t ∷ ts) (add_element (Hidden prefix) r)
+taken_close t ts prefix None ends some h = tt
+taken_close t ts prefix (Some a) ends some h =
     let m = mark_parts (codes ")") t.kind t.content t.at ends in
-    ([], a.elements, ap (λ l. Hidden l ∷ a.elements) (sym (append-nil front)), refl, subst (λ l. is_some l ≡ true) (sym (append-nil front)) some, h.0, h.1, ((m.0, m.1, tt), h.2))
+    ([], a.elements, ap (λ l. Hidden l ∷ a.elements) (sym (append-nil prefix)), refl, subst (λ l. is_some l ≡ true) (sym (append-nil prefix)) some, h.0, h.1, ((m.0, m.1, tt), h.2))
 
 taken_open : (t : Spelled) (ts : List Spelled) (r : Option Alternative) → is_mark (codes "(") t ≡ true → Taken (Some []) ts r → Taken None (t ∷ ts) r
 taken_open t ts None opens h = tt
@@ -204,18 +204,18 @@ taken_open t ts (Some a) opens (parts, elements, is, ok, some, fine, adverbs_fin
 alternative_taken : (tokens : List Spelled) (state : Option (List Spelled)) → Taken state tokens (alternative_of tokens state)
 unfolding alternative_of
 alternative_taken [] None = (refl, refl, tt)
-alternative_taken [] (Some front) = tt
+alternative_taken [] (Some prefix) = tt
 alternative_taken (t ∷ ts) None =
     taken_if None (t ∷ ts) (begins_adverb (t ∷ ts)) (only_adverbs (adverbs_of (t ∷ ts))) (if is_mark (codes "(") t then alternative_of ts (Some []) else (if is_kind_of_part t.kind then add_element (Bare t) (alternative_of ts None) else None))
     (λ e. taken_adverbs (t ∷ ts) (adverbs_of (t ∷ ts)) refl)
     (λ e. taken_if None (t ∷ ts) (is_mark (codes "(") t) (alternative_of ts (Some [])) (if is_kind_of_part t.kind then add_element (Bare t) (alternative_of ts None) else None)
     (λ opens. taken_open t ts (alternative_of ts (Some [])) opens (alternative_taken ts (Some [])))
     (λ f. taken_if None (t ∷ ts) (is_kind_of_part t.kind) (add_element (Bare t) (alternative_of ts None)) None (λ part. taken_bare t ts (alternative_of ts None) part (alternative_taken ts None)) (λ g. tt)))
-alternative_taken (t ∷ ts) (Some front) =
-    taken_if (Some front) (t ∷ ts) (is_kind_of_part t.kind) (alternative_of ts (Some (front ++ t ∷ []))) (if is_mark (codes ")") t && is_some front then add_element (Hidden front) (alternative_of ts None) else None)
-    (λ part. taken_part t ts front (alternative_of ts (Some (front ++ t ∷ []))) part (alternative_taken ts (Some (front ++ t ∷ []))))
-    (λ e. taken_if (Some front) (t ∷ ts) (is_mark (codes ")") t && is_some front) (add_element (Hidden front) (alternative_of ts None)) None
-    (λ both. let parts = and_parts (is_mark (codes ")") t) (is_some front) both in taken_close t ts front (alternative_of ts None) parts.0 parts.1 (alternative_taken ts None))
+alternative_taken (t ∷ ts) (Some prefix) =
+    taken_if (Some prefix) (t ∷ ts) (is_kind_of_part t.kind) (alternative_of ts (Some (prefix ++ t ∷ []))) (if is_mark (codes ")") t && is_some prefix then add_element (Hidden prefix) (alternative_of ts None) else None)
+    (λ part. taken_part t ts prefix (alternative_of ts (Some (prefix ++ t ∷ []))) part (alternative_taken ts (Some (prefix ++ t ∷ []))))
+    (λ e. taken_if (Some prefix) (t ∷ ts) (is_mark (codes ")") t && is_some prefix) (add_element (Hidden prefix) (alternative_of ts None)) None
+    (λ both. let parts = and_parts (is_mark (codes ")") t) (is_some prefix) both in taken_close t ts prefix (alternative_of ts None) parts.0 parts.1 (alternative_taken ts None))
     (λ g. tt))
 
 pub alternative_takes : (tokens : List Spelled) (a : Alternative) → alternative_of tokens None ≡ Some a → (list_all is_element a.elements ≡ true) × (list_all is_adverb a.adverbs ≡ true) × Together PrintedAs (printed a.elements a.adverbs) tokens

@@ -1,8 +1,8 @@
 -- Reading what stands between marks.
-use Rattle.std.proofs.Common.{◌≡◌, ◌∙◌, sym, ap, subst, refl, ℕ, Bool, true, false, not, List, [], ◌∷◌, ◌++◌, map, Option, Some, None}
+use Rattle.std.proofs.Common.{◌≡◌, ◌∙◌, sym, ap, subst, refl, ℕ, Bool, true, false, List, [], ◌∷◌, ◌++◌, map, Option, Some, None}
 use Rattle.std.specs.Prelude.{if◌then◌else◌}
 use Rattle.std.specs.List.{list_all}
-use Rattle.std.proofs.lemmas.Bool.{and_parts}
+use Rattle.std.proofs.lemmas.Bool.{and_parts, not-true}
 use Rattle.std.specs.Cmp.Derive.{both_true}
 use Rattle.language_model.specs.Tokens.{Spelled}
 use Rattle.language_model.specs.Description.{is_some, is_mark, onto_first, Printed, mark, joined, PrintedAs, Together}
@@ -10,10 +10,6 @@ use Rattle.dsl_reader.specs.Pieces.{is_unlike}
 use Rattle.dsl_reader.specs.Forms.{between, both_some, all_read}
 use Rattle.dsl_reader.proofs.AdverbLemmas.{mark_is, mark_parts}
 use Rattle.dsl_reader.proofs.UnlikeLemmas.{unlike, printed_unlike}
-
-not_true : (b : Bool) → not b ≡ true → b ≡ false
-not_true true h = cc
-not_true false h = refl
 
 pub other_step : (m : List ℕ) (t : Spelled) (ts : List Spelled) → is_mark m t ≡ false → between m (t ∷ ts) ≡ onto_first t (between m ts)
 unfolding between
@@ -28,13 +24,13 @@ unfolding between
 between_last m [] h = refl
 between_last m (t ∷ q) h =
     let parts = and_parts (is_unlike m t) (list_all (is_unlike m) q) h in
-    other_step m t q (not_true (is_mark m t) parts.0) ∙ ap (onto_first t) (between_last m q parts.1)
+    other_step m t q (not-true (is_mark m t) parts.0) ∙ ap (onto_first t) (between_last m q parts.1)
 
 pub between_more : (m : List ℕ) (q : List Spelled) (t : Spelled) (r : List Spelled) → list_all (is_unlike m) q ≡ true → is_mark m t ≡ true → between m (q ++ t ∷ r) ≡ q ∷ between m r
 between_more m [] t r h e = mark_step m t r e
 between_more m (u ∷ q) t r h e =
     let parts = and_parts (is_unlike m u) (list_all (is_unlike m) q) h in
-    other_step m u (q ++ t ∷ r) (not_true (is_mark m u) parts.0) ∙ ap (onto_first u) (between_more m q t r parts.1 e)
+    other_step m u (q ++ t ∷ r) (not-true (is_mark m u) parts.0) ∙ ap (onto_first u) (between_more m q t r parts.1 e)
 
 -- printed lists one after the other are those of two texts
 pub record IsParted (ps qs : List Printed) (ts : List Spelled) : Type 0 where

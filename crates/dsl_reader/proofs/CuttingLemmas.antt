@@ -1,7 +1,7 @@
 -- Reading the pieces, one token further.
 use Rattle.std.proofs.Common.{◌≡◌, ◌∙◌, sym, ap, subst, refl, ℕ, zero, suc, ◌+◌, ◌-◌, ◌<◌, ◌≤◌, Bool, true, false, ◌&&◌, ◌||◌, List, [], ◌∷◌, ◌++◌, length, drop, take, codes, filter, None, append_assoc, append-nil, arith, get_or, length-append}
 use Rattle.std.specs.List.{All, slice_range}
-use Rattle.std.proofs.lemmas.List.{length-drop, length-take, length-take-le}
+use Rattle.std.proofs.lemmas.List.{length-drop, length-take, length-take-le, drop-append-le}
 use Rattle.std.proofs.Math.ListN.{drop_of_length-le}
 use Rattle.std.proofs.Math.Seq.{take-add}
 use Rattle.language_model.specs.declared.token.TokenKind.TheVariants.{Angle}
@@ -107,15 +107,10 @@ cell_of ts at h =
     let first = cell_first (drop at ts) (omega (arith, length-drop at ts)) in
     record { token = first.0; is = first.1 ∙ ap (λ l. first.0 ∷ l) (sym (drop_more 1 at ts)) }
 
-drop_front : (n : ℕ) (xs ys : List Spelled) → n ≤ length xs → drop n (xs ++ ys) ≡ drop n xs ++ ys
-drop_front zero xs ys h = refl
-drop_front (suc n) [] ys h = absurd (omega arith)
-drop_front (suc n) (x ∷ xs) ys h = drop_front n xs ys (omega arith)
-
 one_longer : (ts : List Spelled) (from at : ℕ) (t : Spelled) → drop at ts ≡ t ∷ drop (at + 1) ts → from ≤ at → at ≤ length ts → drop from (take (at + 1) ts) ≡ drop from (take at ts) ++ t ∷ []
 one_longer ts from at t e h l =
     ap (drop from) (take-add at 1 ts ∙ ap (λ x. take at ts ++ take 1 x) e)
-    ∙ drop_front from (take at ts) (t ∷ []) (omega (arith, length-take-le at ts l))
+    ∙ drop-append-le from (take at ts) (t ∷ []) (omega (arith, length-take-le at ts l))
 
 none_left : (ts : List Spelled) (n : ℕ) → drop n (take n ts) ≡ []
 none_left ts n = drop_of_length-le (take n ts) (omega (arith, length-take n ts))

@@ -90,9 +90,9 @@ pair_first xs a h e is = subst (PairRead xs) (sym is) (pair_read xs h e)
 pub pair_none : (xs : List Spelled) → 0 < length xs → first_is (is_mark (codes ",")) xs ≡ false → None ≡ pair_of xs → adverbs_of xs ≡ None
 pair_none xs h e is = subst (PairRead xs) (sym is) (pair_read xs h e)
 
-add_front : (front : List Adverb) (a : Adverb) (o : Option (List Adverb)) → option_map (λ r. (front ++ a ∷ []) ++ r) o ≡ option_map (λ r. front ++ r) (add_adverb a o)
-add_front front a None = refl
-add_front front a (Some r) = ap Some (append_assoc front (a ∷ []) r)
+add_prefix : (prefix : List Adverb) (a : Adverb) (o : Option (List Adverb)) → option_map (λ r. (prefix ++ a ∷ []) ++ r) o ≡ option_map (λ r. prefix ++ r) (add_adverb a o)
+add_prefix prefix a None = refl
+add_prefix prefix a (Some r) = ap Some (append_assoc prefix (a ∷ []) r)
 
 pub adverbs_next : (ts : List Spelled) (i n : ℕ) (old new : List HeldAdverb) (x : HeldAdverb) (W : Option (List Adverb)) → new ≡ old ++ x ∷ [] → adverbs_of (drop i ts) ≡ add_adverb (adverb_seen x) (adverbs_of (drop n (drop i ts)))
     → option_map (λ r. map adverb_seen old ++ r) (adverbs_of (drop i ts)) ≡ W → option_map (λ r. map adverb_seen new ++ r) (adverbs_of (drop (i + n) ts)) ≡ W
@@ -100,15 +100,15 @@ adverbs_next ts i n old new x W e step w =
     ap (λ (l : List HeldAdverb). option_map (λ r. map adverb_seen l ++ r) (adverbs_of (drop (i + n) ts))) e
     ∙ ap (λ l. option_map (λ r. l ++ r) (adverbs_of (drop (i + n) ts))) (map-append adverb_seen old (x ∷ []))
     ∙ ap (λ l. option_map (λ r. (map adverb_seen old ++ adverb_seen x ∷ []) ++ r) (adverbs_of l)) (drop_more n i ts)
-    ∙ add_front (map adverb_seen old) (adverb_seen x) (adverbs_of (drop n (drop i ts)))
+    ∙ add_prefix (map adverb_seen old) (adverb_seen x) (adverbs_of (drop n (drop i ts)))
     ∙ ap (option_map (λ r. map adverb_seen old ++ r)) (sym step) ∙ w
 
-pub adverbs_none : (ts : List Spelled) (i : ℕ) (front : List Adverb) (W : Option (List Adverb)) → adverbs_of (drop i ts) ≡ None → option_map (λ r. front ++ r) (adverbs_of (drop i ts)) ≡ W → None ≡ W
-adverbs_none ts i front W e w = ap (option_map (λ r. front ++ r)) (sym e) ∙ w
+pub adverbs_none : (ts : List Spelled) (i : ℕ) (prefix : List Adverb) (W : Option (List Adverb)) → adverbs_of (drop i ts) ≡ None → option_map (λ r. prefix ++ r) (adverbs_of (drop i ts)) ≡ W → None ≡ W
+adverbs_none ts i prefix W e w = ap (option_map (λ r. prefix ++ r)) (sym e) ∙ w
 
-pub adverbs_end : (ts : List Spelled) (i : ℕ) (front : List Adverb) (W : Option (List Adverb)) → length ts ≤ i → option_map (λ r. front ++ r) (adverbs_of (drop i ts)) ≡ W → Some front ≡ W
+pub adverbs_end : (ts : List Spelled) (i : ℕ) (prefix : List Adverb) (W : Option (List Adverb)) → length ts ≤ i → option_map (λ r. prefix ++ r) (adverbs_of (drop i ts)) ≡ W → Some prefix ≡ W
 unfolding adverbs_of
-adverbs_end ts i front W h w = ap Some (sym (append-nil front)) ∙ ap (λ l. option_map (λ r. front ++ r) (adverbs_of l)) (sym (drop_of_length-le ts h)) ∙ w
+adverbs_end ts i prefix W h w = ap Some (sym (append-nil prefix)) ∙ ap (λ l. option_map (λ r. prefix ++ r) (adverbs_of l)) (sym (drop_of_length-le ts h)) ∙ w
 
 -- PARTS IN ROUND BRACKETS
 
@@ -170,9 +170,9 @@ hidden_taken : (xs parts : List Spelled) → ends_elements xs ≡ false → firs
 hidden_taken xs parts ends opens h =
     open_read xs ends opens ∙ sym h ∙ ap (λ l. add_element (Hidden parts) (alternative_of l None)) (sym (drop_more (suc (length parts)) 1 xs) ∙ ap (λ n. drop n xs) (let e : 1 + suc (length parts) ≡ 2 + length parts = omega arith in e))
 
-onto_next : (front : List Element) (e : Element) (o : Option Alternative) → onto_elements (front ++ e ∷ []) o ≡ onto_elements front (add_element e o)
-onto_next front e None = refl
-onto_next front e (Some a) = ap (λ l. Some (record { elements = l; adverbs = a.adverbs })) (append_assoc front (e ∷ []) a.elements)
+onto_next : (prefix : List Element) (e : Element) (o : Option Alternative) → onto_elements (prefix ++ e ∷ []) o ≡ onto_elements prefix (add_element e o)
+onto_next prefix e None = refl
+onto_next prefix e (Some a) = ap (λ l. Some (record { elements = l; adverbs = a.adverbs })) (append_assoc prefix (e ∷ []) a.elements)
 
 elements_next : (ts : List Spelled) (i n : ℕ) (old new : List HeldElement) (x : HeldElement) (W : Option Alternative) → new ≡ old ++ x ∷ [] → alternative_of (drop i ts) None ≡ add_element (element_seen x) (alternative_of (drop n (drop i ts)) None)
     → onto_elements (map element_seen old) (alternative_of (drop i ts) None) ≡ W → onto_elements (map element_seen new) (alternative_of (drop (i + n) ts) None) ≡ W
@@ -194,29 +194,29 @@ hidden_on ts i old new parts x W seen e ends opens h w =
     let here : hidden_behind (Some parts) (drop 1 (drop i ts)) ≡ alternative_of (drop 1 (drop i ts)) (Some []) = subst (λ l. hidden_behind (Some parts) l ≡ alternative_of l (Some [])) (drop_more 1 i ts) h in
     elements_next ts i (2 + length parts) old new x W e (hidden_taken (drop i ts) parts ends opens here ∙ ap (λ y. add_element y (alternative_of (drop (2 + length parts) (drop i ts)) None)) (sym seen)) w
 
-pub hidden_none : (ts : List Spelled) (i : ℕ) (front : List Element) (W : Option Alternative) → ends_elements (drop i ts) ≡ false → first_is (is_mark (codes "(")) (drop i ts) ≡ true → None ≡ alternative_of (drop (i + 1) ts) (Some []) → onto_elements front (alternative_of (drop i ts) None) ≡ W → None ≡ W
-hidden_none ts i front W ends opens h w =
-    ap (onto_elements front) (h ∙ ap (λ l. alternative_of l (Some [])) (drop_more 1 i ts) ∙ sym (open_read (drop i ts) ends opens)) ∙ w
+pub hidden_none : (ts : List Spelled) (i : ℕ) (prefix : List Element) (W : Option Alternative) → ends_elements (drop i ts) ≡ false → first_is (is_mark (codes "(")) (drop i ts) ≡ true → None ≡ alternative_of (drop (i + 1) ts) (Some []) → onto_elements prefix (alternative_of (drop i ts) None) ≡ W → None ≡ W
+hidden_none ts i prefix W ends opens h w =
+    ap (onto_elements prefix) (h ∙ ap (λ l. alternative_of l (Some [])) (drop_more 1 i ts) ∙ sym (open_read (drop i ts) ends opens)) ∙ w
 
 other_read : (xs : List Spelled) → ends_elements xs ≡ false → first_is (is_mark (codes "(")) xs ≡ false → first_is is_part xs ≡ false → alternative_of xs None ≡ None
 unfolding alternative_of
 other_read [] ends opens is = cc
 other_read (t ∷ ts) ends opens is = rw (ends, opens, is) refl
 
-pub other_none : (ts : List Spelled) (i : ℕ) (front : List Element) (W : Option Alternative) → ends_elements (drop i ts) ≡ false → first_is (is_mark (codes "(")) (drop i ts) ≡ false → first_is is_part (drop i ts) ≡ false → onto_elements front (alternative_of (drop i ts) None) ≡ W → None ≡ W
-other_none ts i front W ends opens is w = ap (onto_elements front) (sym (other_read (drop i ts) ends opens is)) ∙ w
+pub other_none : (ts : List Spelled) (i : ℕ) (prefix : List Element) (W : Option Alternative) → ends_elements (drop i ts) ≡ false → first_is (is_mark (codes "(")) (drop i ts) ≡ false → first_is is_part (drop i ts) ≡ false → onto_elements prefix (alternative_of (drop i ts) None) ≡ W → None ≡ W
+other_none ts i prefix W ends opens is w = ap (onto_elements prefix) (sym (other_read (drop i ts) ends opens is)) ∙ w
 
 ends_read : (xs : List Spelled) → ends_elements xs ≡ true → alternative_of xs None ≡ only_adverbs (adverbs_of xs)
 unfolding alternative_of adverbs_of
 ends_read [] h = refl
 ends_read (t ∷ ts) h = adverb_step t ts h
 
-onto_ended : (front : List Element) (o : Option (List Adverb)) (x : Option Alternative) → onto_elements front (only_adverbs o) ≡ x → option_map (λ as'. record { elements = front; adverbs = as' }) o ≡ x
-onto_ended front None x e = e
-onto_ended front (Some as') x e = ap (λ l. Some (record { elements = l; adverbs = as' })) (sym (append-nil front)) ∙ e
+onto_ended : (prefix : List Element) (o : Option (List Adverb)) (x : Option Alternative) → onto_elements prefix (only_adverbs o) ≡ x → option_map (λ as'. record { elements = prefix; adverbs = as' }) o ≡ x
+onto_ended prefix None x e = e
+onto_ended prefix (Some as') x e = ap (λ l. Some (record { elements = l; adverbs = as' })) (sym (append-nil prefix)) ∙ e
 
-pub ended : (ts : List Spelled) (i : ℕ) (front : List Element) (o : Option (List Adverb)) (W : Option Alternative) → ends_elements (drop i ts) ≡ true → o ≡ adverbs_of (drop i ts) → onto_elements front (alternative_of (drop i ts) None) ≡ W → option_map (λ as'. record { elements = front; adverbs = as' }) o ≡ W
-ended ts i front o W ends e w = onto_ended front o W (ap (λ x. onto_elements front (only_adverbs x)) e ∙ ap (onto_elements front) (sym (ends_read (drop i ts) ends)) ∙ w)
+pub ended : (ts : List Spelled) (i : ℕ) (prefix : List Element) (o : Option (List Adverb)) (W : Option Alternative) → ends_elements (drop i ts) ≡ true → o ≡ adverbs_of (drop i ts) → onto_elements prefix (alternative_of (drop i ts) None) ≡ W → option_map (λ as'. record { elements = prefix; adverbs = as' }) o ≡ W
+ended ts i prefix o W ends e w = onto_ended prefix o W (ap (λ x. onto_elements prefix (only_adverbs x)) e ∙ ap (onto_elements prefix) (sym (ends_read (drop i ts) ends)) ∙ w)
 
 -- BETWEEN MARKS
 
@@ -253,52 +253,52 @@ all_unlike m (t ∷ ts) h = by_mark (is_mark m t) refl h (λ k. all_unlike m ts 
     by_mark true e g rest = absurd (let none : prefix_len (is_unlike m) (t ∷ ts) ≡ 0 = ap (λ b. cond (not b) (1 + prefix_len (is_unlike m) ts) 0) e in omega arith)
     by_mark false e g rest = both_true (ap not e) (rest (omega (arith, one_unlike m t ts e)))
 
-onto_read : {A : Type 0} (front : List A) (x : A) (o : Option (List A)) → option_map (λ r. (front ++ x ∷ []) ++ r) o ≡ option_map (λ r. front ++ r) (both_some (Some x) o)
-onto_read front x None = refl
-onto_read front x (Some r) = ap Some (append_assoc front (x ∷ []) r)
+onto_read : {A : Type 0} (prefix : List A) (x : A) (o : Option (List A)) → option_map (λ r. (prefix ++ x ∷ []) ++ r) o ≡ option_map (λ r. prefix ++ r) (both_some (Some x) o)
+onto_read prefix x None = refl
+onto_read prefix x (Some r) = ap Some (append_assoc prefix (x ∷ []) r)
 
 -- what stands between two places, the second of which is the next mark or the end
 part_is : (m : List ℕ) (ts : List Spelled) (at to : ℕ) → to ≡ at + prefix_len (is_unlike m) (drop at ts) → drop at (take to ts) ≡ take (prefix_len (is_unlike m) (drop at ts)) (drop at ts)
 part_is m ts at to e = ap (λ n. drop at (take n ts)) e ∙ drop-take at (prefix_len (is_unlike m) (drop at ts)) ts
 
-pub split_next : {A : Type 0} (m : List ℕ) (read : List Spelled → Option A) (ts : List Spelled) (at to : ℕ) (x : A) (front new : List A) (W : Option (List A)) → at ≤ length ts → to ≡ at + prefix_len (is_unlike m) (drop at ts) → to < length ts → Some x ≡ read (drop at (take to ts)) → new ≡ front ++ x ∷ []
-    → option_map (λ r. front ++ r) (all_read read (between m (drop at ts))) ≡ W → option_map (λ r. new ++ r) (all_read read (between m (drop (to + 1) ts))) ≡ W
-split_next m read ts at to x front new W h e l is made w =
+pub split_next : {A : Type 0} (m : List ℕ) (read : List Spelled → Option A) (ts : List Spelled) (at to : ℕ) (x : A) (prefix new : List A) (W : Option (List A)) → at ≤ length ts → to ≡ at + prefix_len (is_unlike m) (drop at ts) → to < length ts → Some x ≡ read (drop at (take to ts)) → new ≡ prefix ++ x ∷ []
+    → option_map (λ r. prefix ++ r) (all_read read (between m (drop at ts))) ≡ W → option_map (λ r. new ++ r) (all_read read (between m (drop (to + 1) ts))) ≡ W
+split_next m read ts at to x prefix new W h e l is made w =
     let xs = drop at ts in
     let n = prefix_len (is_unlike m) xs in
     let inside : n < length xs = omega (arith, length-drop at ts) in
     let rest : drop (to + 1) ts ≡ drop (suc n) xs = ap (λ k. drop k ts) (let g : to + 1 ≡ at + suc n = omega arith in g) ∙ drop_more (suc n) at ts in
     ap (λ l. option_map (λ r. l ++ r) (all_read read (between m (drop (to + 1) ts)))) made
-    ∙ ap (λ l. option_map (λ r. (front ++ x ∷ []) ++ r) (all_read read (between m l))) rest
-    ∙ onto_read front x (all_read read (between m (drop (suc n) xs)))
-    ∙ ap (λ o. option_map (λ r. front ++ r) (both_some o (all_read read (between m (drop (suc n) xs))))) (is ∙ ap read (part_is m ts at to e))
-    ∙ ap (λ l. option_map (λ r. front ++ r) (all_read read l)) (sym (between_at m xs inside)) ∙ w
+    ∙ ap (λ l. option_map (λ r. (prefix ++ x ∷ []) ++ r) (all_read read (between m l))) rest
+    ∙ onto_read prefix x (all_read read (between m (drop (suc n) xs)))
+    ∙ ap (λ o. option_map (λ r. prefix ++ r) (both_some o (all_read read (between m (drop (suc n) xs))))) (is ∙ ap read (part_is m ts at to e))
+    ∙ ap (λ l. option_map (λ r. prefix ++ r) (all_read read l)) (sym (between_at m xs inside)) ∙ w
 
-pub split_last : {A : Type 0} (m : List ℕ) (read : List Spelled → Option A) (ts : List Spelled) (at to : ℕ) (x : A) (front new : List A) (W : Option (List A)) → at ≤ length ts → to ≡ at + prefix_len (is_unlike m) (drop at ts) → to ≡ length ts → Some x ≡ read (drop at (take to ts)) → new ≡ front ++ x ∷ []
-    → option_map (λ r. front ++ r) (all_read read (between m (drop at ts))) ≡ W → Some new ≡ W
-split_last m read ts at to x front new W h e l is made w =
+pub split_last : {A : Type 0} (m : List ℕ) (read : List Spelled → Option A) (ts : List Spelled) (at to : ℕ) (x : A) (prefix new : List A) (W : Option (List A)) → at ≤ length ts → to ≡ at + prefix_len (is_unlike m) (drop at ts) → to ≡ length ts → Some x ≡ read (drop at (take to ts)) → new ≡ prefix ++ x ∷ []
+    → option_map (λ r. prefix ++ r) (all_read read (between m (drop at ts))) ≡ W → Some new ≡ W
+split_last m read ts at to x prefix new W h e l is made w =
     let xs = drop at ts in
     let quiet = all_unlike m xs (omega (arith, length-drop at ts)) in
     let whole : drop at (take to ts) ≡ xs = ap (λ k. drop at (take k ts)) l ∙ ap (drop at) (take-length ts) in
     ap Some made
-    ∙ ap (λ o. option_map (λ r. front ++ r) (both_some o (Some []))) (is ∙ ap read whole)
-    ∙ ap (λ l. option_map (λ r. front ++ r) (all_read read l)) (sym (between_last m xs quiet)) ∙ w
+    ∙ ap (λ o. option_map (λ r. prefix ++ r) (both_some o (Some []))) (is ∙ ap read whole)
+    ∙ ap (λ l. option_map (λ r. prefix ++ r) (all_read read l)) (sym (between_last m xs quiet)) ∙ w
 
-pub split_none : {A : Type 0} (m : List ℕ) (read : List Spelled → Option A) (ts : List Spelled) (at to : ℕ) (front : List A) (W : Option (List A)) → at ≤ length ts → to ≡ at + prefix_len (is_unlike m) (drop at ts) → to ≤ length ts → None ≡ read (drop at (take to ts))
-    → option_map (λ r. front ++ r) (all_read read (between m (drop at ts))) ≡ W → None ≡ W
-split_none m read ts at to front W h e l is w = by_end (nat_lt to (length ts)) refl
+pub split_none : {A : Type 0} (m : List ℕ) (read : List Spelled → Option A) (ts : List Spelled) (at to : ℕ) (prefix : List A) (W : Option (List A)) → at ≤ length ts → to ≡ at + prefix_len (is_unlike m) (drop at ts) → to ≤ length ts → None ≡ read (drop at (take to ts))
+    → option_map (λ r. prefix ++ r) (all_read read (between m (drop at ts))) ≡ W → None ≡ W
+split_none m read ts at to prefix W h e l is w = by_end (nat_lt to (length ts)) refl
   where
     by_end : (b : Bool) → nat_lt to (length ts) ≡ b → None ≡ W
     by_end true f =
         let inside : prefix_len (is_unlike m) (drop at ts) < length (drop at ts) = omega (arith, length-drop at ts, ltb-true to (length ts) f) in
-        ap (λ o. option_map (λ r. front ++ r) (both_some o (all_read read (between m (drop (suc (prefix_len (is_unlike m) (drop at ts))) (drop at ts)))))) (is ∙ ap read (part_is m ts at to e))
-        ∙ ap (λ l. option_map (λ r. front ++ r) (all_read read l)) (sym (between_at m (drop at ts) inside)) ∙ w
+        ap (λ o. option_map (λ r. prefix ++ r) (both_some o (all_read read (between m (drop (suc (prefix_len (is_unlike m) (drop at ts))) (drop at ts)))))) (is ∙ ap read (part_is m ts at to e))
+        ∙ ap (λ l. option_map (λ r. prefix ++ r) (all_read read l)) (sym (between_at m (drop at ts) inside)) ∙ w
     by_end false f =
         let same : to ≡ length ts = omega (arith, ltb-false to (length ts) f) in
         let quiet = all_unlike m (drop at ts) (omega (arith, length-drop at ts)) in
         let whole : drop at (take to ts) ≡ drop at ts = ap (λ k. drop at (take k ts)) same ∙ ap (drop at) (take-length ts) in
-        ap (λ o. option_map (λ r. front ++ r) (both_some o (Some []))) (is ∙ ap read whole)
-        ∙ ap (λ l. option_map (λ r. front ++ r) (all_read read l)) (sym (between_last m (drop at ts) quiet)) ∙ w
+        ap (λ o. option_map (λ r. prefix ++ r) (both_some o (Some []))) (is ∙ ap read whole)
+        ∙ ap (λ l. option_map (λ r. prefix ++ r) (all_read read l)) (sym (between_last m (drop at ts) quiet)) ∙ w
 
 pub begins_ends : (ts : List Spelled) (i : ℕ) → i < length ts → begins_adverb (drop i ts) ≡ ends_elements (drop i ts)
 begins_ends ts i h = some_begins (drop i ts) (omega (arith, length-drop i ts))

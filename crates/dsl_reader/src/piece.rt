@@ -61,7 +61,7 @@ impl<'t> Piece<'t> {
     }
 
     /// The first tokens.
-    pub fn front(&self, count: usize) -> Piece<'t>
+    pub fn prefix(&self, count: usize) -> Piece<'t>
         requires { count ≤ length self.now }
         ensures { result ≡ take count self.now }
     {
@@ -212,7 +212,7 @@ impl<'t> Piece<'t> {
         requires { to ≤ length self.now }
         ensures { result ≡ drop from (take to self.now) }
     {
-        self.front(to).behind(from)
+        self.prefix(to).behind(from)
     }
 
     /// The name at a place, with where it stands.

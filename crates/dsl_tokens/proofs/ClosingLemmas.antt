@@ -1,7 +1,8 @@
 -- Where a bracket closes, character by character.
-use Rattle.std.proofs.Common.{◌≡◌, ◌∙◌, sym, ap, refl, ℕ, zero, suc, ◌+◌, ◌<◌, ◌≤◌, Bool, true, false, List, [], ◌∷◌, ◌++◌, length, take, drop, get_or, ◌-◌, arith, Option, Some, None, drop-cons, add-one, cond}
+use Rattle.std.proofs.Common.{◌≡◌, ◌∙◌, sym, ap, refl, ℕ, zero, suc, ◌+◌, ◌<◌, ◌≤◌, Bool, true, false, List, [], ◌∷◌, ◌++◌, length, take, drop, get_or, ◌-◌, arith, Option, Some, None, cond}
 use Rattle.std.specs.Prelude.{option_map}
 use Rattle.std.proofs.Math.ListN.{drop_of_length-le}
+use Rattle.std.proofs.lemmas.List.{drop_more}
 use Rattle.language_model.specs.declared.token.BracketState.{BracketState}
 use Rattle.language_model.specs.declared.token.BracketState.TheVariants.{Plain}
 use Rattle.language_model.specs.Tokens.{closing, closes, state_behind}
@@ -10,20 +11,17 @@ map_map : (f g h : ℕ → ℕ) → ((k : ℕ) → f (g k) ≡ h k) → (o : Opt
 map_map f g h e (Some k) = ap Some (e k)
 map_map f g h e None = refl
 
-next_cell : (text : List ℕ) (at : ℕ) → at < length text → drop at text ≡ get_or text at 0 ∷ drop (at + 1) text
-next_cell text at h = rw (add-one, drop-cons text at 0)
-
 closing_one : (c : ℕ) (cs : List ℕ) (s : BracketState) (b : Bool) → closes s c ≡ b → closing (c ∷ cs) s ≡ cond b (Some 1) (option_map (λ k. 1 + k) (closing cs (state_behind s c)))
 unfolding closing
 closing_one c cs s b e = rw e refl
 
 -- the steps of the loop
 pub closing_found : (text : List ℕ) (at : ℕ) (s : BracketState) → at < length text → closes s (get_or text at 0) ≡ true → option_map (λ k. at + k) (closing (drop at text) s) ≡ closing text Plain → Some (at + 1) ≡ closing text Plain
-closing_found text at s within ends so_far = sym (ap (λ t. option_map (λ k. at + k) (closing t s)) (next_cell text at within) ∙ ap (option_map (λ k. at + k)) (closing_one _ _ s true ends)) ∙ so_far
+closing_found text at s within ends so_far = sym (ap (λ t. option_map (λ k. at + k) (closing t s)) (drop_more text at 0 within) ∙ ap (option_map (λ k. at + k)) (closing_one _ _ s true ends)) ∙ so_far
 
 pub closing_next : (text : List ℕ) (at : ℕ) (s : BracketState) → at < length text → closes s (get_or text at 0) ≡ false → option_map (λ k. at + k) (closing (drop at text) s) ≡ closing text Plain → option_map (λ k. at + 1 + k) (closing (drop (at + 1) text) (state_behind s (get_or text at 0))) ≡ closing text Plain
 closing_next text at s within goes_on so_far =
-    sym (ap (λ t. option_map (λ k. at + k) (closing t s)) (next_cell text at within) ∙ ap (option_map (λ k. at + k)) (closing_one _ _ s false goes_on)
+    sym (ap (λ t. option_map (λ k. at + k) (closing t s)) (drop_more text at 0 within) ∙ ap (option_map (λ k. at + k)) (closing_one _ _ s false goes_on)
     ∙ map_map (λ k. at + k) (λ k. 1 + k) (λ k. at + 1 + k) (λ k. omega arith) _) ∙ so_far
 
 pub closing_none : (text : List ℕ) (at : ℕ) (s : BracketState) → length text ≤ at → option_map (λ k. at + k) (closing (drop at text) s) ≡ closing text Plain → None ≡ closing text Plain
@@ -63,12 +61,6 @@ pub closing_within : (xs : List ℕ) (s : BracketState) (k : ℕ) → closing xs
 unfolding closing
 closing_within [] s k e = absurd cc
 closing_within (c ∷ cs) s k e = within_one c cs s k (λ j. closing_within cs (state_behind s c) j) (closes s c) refl e
-
--- an element of a list, whatever stands for one past the end
-pub cell : (xs : List ℕ) (i d e : ℕ) → i < length xs → get_or xs i d ≡ get_or xs i e
-cell [] i d e h = absurd (omega arith)
-cell (x ∷ xs) zero d e h = refl
-cell (x ∷ xs) (suc i) d e h = cell xs i d e (omega arith)
 
 -- the part that closes closes by itself
 self_rest : (rest : Option ℕ) (cs : List ℕ) (s : BracketState) (k : ℕ) → ((j : ℕ) → rest ≡ Some j → closing (take j cs) s ≡ Some j) → option_map (λ j. 1 + j) rest ≡ Some k → option_map (λ j. 1 + j) (closing (take (k - 1) cs) s) ≡ Some k

@@ -8,8 +8,8 @@ use Rattle.ucd_props.specs.Ranges.{white_space_ranges}
 use Rattle.unicode.specs.Binary.{is_white_space}
 use Rattle.ucd_perl.specs.Perl.{is_word_byte}
 use Rattle.std.specs.List.{slice_range, list_all, list_any, prefix_len, starts_with}
-use Rattle.std.proofs.lemmas.List.{length-drop, length-take, length-take-le, take-append-drop, get_or-take}
-use Rattle.std.proofs.Math.Seq.{take-suc}
+use Rattle.std.proofs.lemmas.List.{length-drop, length-take, length-take-le, take-append-drop, get_or-take, get_or_past}
+use Rattle.std.proofs.Math.Seq.{take-suc, take-append_seam, drop-append_seam}
 use lib.Seq.{take-add}
 use Rattle.std.proofs.lemmas.List.Folds.{length-prefix_len}
 use Rattle.std.specs.Cmp.Derive.{both_true}
@@ -41,21 +41,13 @@ run_is p (y ∷ ys) x rest all fails =
     let more = run_is p ys x rest parts.1 fails in
     rw parts.0 (omega (arith, more))
 
-pub front_of : (xs ys : List ℕ) → take (length xs) (xs ++ ys) ≡ xs
-front_of [] ys = refl
-front_of (x ∷ xs) ys = ap (λ l. x ∷ l) (front_of xs ys)
-
 pub behind : (xs : List ℕ) (y : ℕ) (ys : List ℕ) → slice_index (xs ++ y ∷ ys) (length xs) ≡ y
 behind [] y ys = refl
 behind (x ∷ xs) y ys = behind xs y ys
 
-pub drop_front : (xs ys : List ℕ) → drop (length xs) (xs ++ ys) ≡ ys
-drop_front [] ys = refl
-drop_front (x ∷ xs) ys = drop_front xs ys
-
 -- THE FIRST CHARACTER
 
-not_word : (c : ℕ) → c < 128 → is_word_byte c ≡ false → is_word c ≡ false
+pub not_word : (c : ℕ) → c < 128 → is_word_byte c ≡ false → is_word c ≡ false
 not_word c below no_byte = is_word_char-ascii c below ∙ no_byte
 
 token_word : (c : ℕ) (rest : List ℕ) → is_word c ≡ true → token_at (c ∷ rest) ≡ word_at (c ∷ rest)
@@ -196,7 +188,7 @@ drop_behind (x ∷ xs) y ys = drop_behind xs y ys
 angle_found : (inner rest : List ℕ) → list_all is_angle_character inner ≡ true → list_any is_word inner ≡ true → angle_at (60 ∷ (inner ++ 62 ∷ rest)) ≡ Some (Angle, 2 + length inner)
 angle_found inner rest all some =
     let no_angle : is_angle_character 62 ≡ false = ap (λ b. b || is_white_space 62) (not_word 62 (omega arith) refl) ∙ no_space_62 in
-    angle_of (60 ∷ (inner ++ 62 ∷ rest)) (length inner) (run_is is_angle_character inner 62 rest all no_angle) (next_is 60 inner 62 rest) (ap (list_any is_word) (front_of inner (62 ∷ rest)) ∙ some)
+    angle_of (60 ∷ (inner ++ 62 ∷ rest)) (length inner) (run_is is_angle_character inner 62 rest all no_angle) (next_is 60 inner 62 rest) (ap (list_any is_word) (take-append_seam inner (62 ∷ rest)) ∙ some)
 
 angle_spelled : (inner rest : List ℕ) → list_all is_angle_character inner ≡ true → list_any is_word inner ≡ true → Bounded Angle (length (60 ∷ (inner ++ 62 ∷ []))) (token_at (60 ∷ ((inner ++ 62 ∷ []) ++ rest)))
 angle_spelled inner rest all some =
@@ -244,7 +236,7 @@ bracket_of text len e = ap (option_map (λ len. (Bracket, 1 + len + modifier_at 
 bracket_spelled : (inner modifier rest : List ℕ) → closing inner Plain ≡ Some (length inner) → IsModifier modifier → Bounded Bracket (length (91 ∷ (inner ++ modifier))) (token_at (91 ∷ ((inner ++ modifier) ++ rest)))
 bracket_spelled inner modifier rest ends is =
     let more = modifier ++ rest in
-    let tail : drop (1 + length inner) (91 ∷ (inner ++ more)) ≡ more = ap (λ k. drop k (91 ∷ (inner ++ more))) (one_plus (length inner)) ∙ drop_front inner more in
+    let tail : drop (1 + length inner) (91 ∷ (inner ++ more)) ≡ more = ap (λ k. drop k (91 ∷ (inner ++ more))) (one_plus (length inner)) ∙ drop-append_seam inner more in
     let bound : length modifier ≤ modifier_at (drop (1 + length inner) (91 ∷ (inner ++ more))) = subst (λ t. length modifier ≤ modifier_at t) (sym tail) (modifier_bounded modifier rest is) in
     let len : length (91 ∷ (inner ++ modifier)) ≡ 1 + length inner + length modifier = omega (arith, length-append inner modifier) in
     subst (λ t. Bounded Bracket (length (91 ∷ (inner ++ modifier))) (token_at (91 ∷ t))) (sym (append_assoc inner modifier rest))
@@ -391,11 +383,11 @@ same_texts [] (y ∷ ys) h = cc
 same_texts (x ∷ xs) [] h = cc
 same_texts (x ∷ xs) (y ∷ ys) h = let head = eqb-true x y (and_parts _ _ h).0 in let tail = same_texts xs ys (and_parts _ _ h).1 in cc
 
-front_is : (text needle : List ℕ) → starts_with nat_eq text needle ≡ true → take (length needle) text ≡ needle
-front_is text needle h = sym (same_texts needle (take (length needle) text) h)
+prefix_is : (text needle : List ℕ) → starts_with nat_eq text needle ≡ true → take (length needle) text ≡ needle
+prefix_is text needle h = sym (same_texts needle (take (length needle) text) h)
 
-front_within : (text needle : List ℕ) → starts_with nat_eq text needle ≡ true → length needle ≤ length text
-front_within text needle h = omega (arith, ap length (front_is text needle h), length-take (length needle) text)
+prefix_within : (text needle : List ℕ) → starts_with nat_eq text needle ≡ true → length needle ≤ length text
+prefix_within text needle h = omega (arith, ap length (prefix_is text needle h), length-take (length needle) text)
 
 run_all : (p : ℕ → Bool) (xs : List ℕ) → list_all p (take (prefix_len p xs) xs) ≡ true
 run_all p [] = refl
@@ -411,13 +403,8 @@ run_good p xs some = (omega (arith, length-prefix_len p xs), run_all p xs)
 word_good : (c : ℕ) (cs : List ℕ) → is_word c ≡ true → Good (c ∷ cs) (word_at (c ∷ cs))
 unfolding word_at
 word_good c cs word = good_if (c ∷ cs) (starts_with nat_eq (c ∷ cs) (codes "null-ranking")) _ _
-    (λ h. (omega arith, front_within (c ∷ cs) (codes "null-ranking") h, subst (Contains marks) (sym (front_is (c ∷ cs) (codes "null-ranking") h)) (12, omega arith, refl)))
+    (λ h. (omega arith, prefix_within (c ∷ cs) (codes "null-ranking") h, subst (Contains marks) (sym (prefix_is (c ∷ cs) (codes "null-ranking") h)) (12, omega arith, refl)))
     (λ h. let some : 0 < prefix_len is_word (c ∷ cs) = rw word (omega arith) in (some, prefix_len-le-length is_word (c ∷ cs), run_good is_word (c ∷ cs) some))
-
-past : (xs : List ℕ) (n d : ℕ) → length xs ≤ n → slice_index_or xs n d ≡ d
-past [] n d h = refl
-past (x ∷ xs) zero d h = absurd (omega arith)
-past (x ∷ xs) (suc n) d h = past xs n d (omega arith)
 
 -- a character that is there is within
 there : (xs : List ℕ) (n y : ℕ) → slice_index xs n ≡ suc y → n < length xs
@@ -425,11 +412,11 @@ there xs n y is = by_order (nat_lt n (length xs)) refl
   where
     by_order : (b : Bool) → nat_lt n (length xs) ≡ b → n < length xs
     by_order true less = ltb-true n _ less
-    by_order false more = absurd (omega (arith, past xs n 0 (ltb-false n _ more)))
+    by_order false more = absurd (omega (arith, get_or_past xs n 0 (ltb-false n _ more)))
 
--- the front up to a character behind another
-front_to : (a : ℕ) (cs : List ℕ) (n y : ℕ) → slice_index (a ∷ cs) (1 + n) ≡ suc y → (n < length cs) × (take (2 + n) (a ∷ cs) ≡ a ∷ (take n cs ++ suc y ∷ []))
-front_to a cs n y is =
+-- the prefix up to a character behind another
+prefix_to : (a : ℕ) (cs : List ℕ) (n y : ℕ) → slice_index (a ∷ cs) (1 + n) ≡ suc y → (n < length cs) × (take (2 + n) (a ∷ cs) ≡ a ∷ (take n cs ++ suc y ∷ []))
+prefix_to a cs n y is =
     let here : slice_index cs n ≡ suc y = ap (slice_index (a ∷ cs)) (sym (one_plus n)) ∙ is in
     let within = there cs n y here in
     (within, ap (λ k. take k (a ∷ cs)) (two_plus n) ∙ ap (λ l. a ∷ l) (take-suc cs n 0 within ∙ ap (λ x. take n cs ++ x ∷ []) here))
@@ -440,8 +427,8 @@ angle_good cs = good_if (60 ∷ cs) ((slice_index (60 ∷ cs) (1 + prefix_len is
     (λ h.
     let parts = and_parts _ _ h in
     let n = prefix_len is_angle_character cs in
-    let front = front_to 60 cs n 61 (eqb-true _ _ parts.0) in
-    (omega arith, omega (arith, front.0), (take n cs, front.1, run_all is_angle_character cs, parts.1)))
+    let prefix = prefix_to 60 cs n 61 (eqb-true _ _ parts.0) in
+    (omega arith, omega (arith, prefix.0), (take n cs, prefix.1, run_all is_angle_character cs, parts.1)))
     (λ h. tt)
 
 modifier_good : (text : List ℕ) → (modifier_at text ≤ length text) × IsModifier (take (modifier_at text) text)
@@ -449,8 +436,8 @@ unfolding modifier_at
 modifier_good text = by_three (starts_with nat_eq text (codes ":ic")) (starts_with nat_eq text (codes ":i")) refl refl
   where
     by_three : (b d : Bool) → starts_with nat_eq text (codes ":ic") ≡ b → starts_with nat_eq text (codes ":i") ≡ d → ((if b then 3 else (if d then 2 else 0)) ≤ length text) × IsModifier (take (if b then 3 else (if d then 2 else 0)) text)
-    by_three true d h k = (front_within text (codes ":ic") h, subst IsModifier (sym (front_is text (codes ":ic") h)) (2, omega arith, refl))
-    by_three false true h k = (front_within text (codes ":i") k, subst IsModifier (sym (front_is text (codes ":i") k)) (1, omega arith, refl))
+    by_three true d h k = (prefix_within text (codes ":ic") h, subst IsModifier (sym (prefix_is text (codes ":ic") h)) (2, omega arith, refl))
+    by_three false true h k = (prefix_within text (codes ":i") k, subst IsModifier (sym (prefix_is text (codes ":i") k)) (1, omega arith, refl))
     by_three false false h k = (omega arith, (0, omega arith, refl))
 
 quote_good : (cs : List ℕ) → Good (39 ∷ cs) (quote_at (39 ∷ cs))
@@ -459,12 +446,12 @@ quote_good cs = good_if (39 ∷ cs) (nat_lt 0 (prefix_len is_quotable cs) && (sl
     (λ h.
     let parts = and_parts _ _ h in
     let n = prefix_len is_quotable cs in
-    let front = front_to 39 cs n 38 (eqb-true _ _ parts.1) in
+    let prefix = prefix_to 39 cs n 38 (eqb-true _ _ parts.1) in
     let modifier = modifier_good (drop (2 + n) (39 ∷ cs)) in
     let m = modifier_at (drop (2 + n) (39 ∷ cs)) in (
       omega arith,
-      omega (arith, front.0, modifier.0, length-drop (2 + n) (39 ∷ cs)),
-      (take n cs, take m (drop (2 + n) (39 ∷ cs)), take-add (2 + n) m (39 ∷ cs) ∙ ap (λ l. l ++ take m (drop (2 + n) (39 ∷ cs))) front.1, run_good is_quotable cs (ltb-true 0 _ parts.0), modifier.1),
+      omega (arith, prefix.0, modifier.0, length-drop (2 + n) (39 ∷ cs)),
+      (take n cs, take m (drop (2 + n) (39 ∷ cs)), take-add (2 + n) m (39 ∷ cs) ∙ ap (λ l. l ++ take m (drop (2 + n) (39 ∷ cs))) prefix.1, run_good is_quotable cs (ltb-true 0 _ parts.0), modifier.1),
     ))
     (λ h. tt)
 
@@ -478,10 +465,10 @@ bracket_good cs = by_end (closing cs Plain) refl
         let within = closing_within cs Plain len e in
         let modifier = modifier_good (drop (1 + len) (91 ∷ cs)) in
         let m = modifier_at (drop (1 + len) (91 ∷ cs)) in
-        let front : take (1 + len) (91 ∷ cs) ≡ 91 ∷ take len cs = ap (λ k. take k (91 ∷ cs)) (one_plus len) in (
+        let prefix : take (1 + len) (91 ∷ cs) ≡ 91 ∷ take len cs = ap (λ k. take k (91 ∷ cs)) (one_plus len) in (
           omega arith,
           omega (arith, within.1, modifier.0, length-drop (1 + len) (91 ∷ cs)),
-          (take len cs, take m (drop (1 + len) (91 ∷ cs)), take-add (1 + len) m (91 ∷ cs) ∙ ap (λ l. l ++ take m (drop (1 + len) (91 ∷ cs))) front, closing_self cs Plain len e ∙ ap Some (sym (length-take-le len cs within.1)), modifier.1),
+          (take len cs, take m (drop (1 + len) (91 ∷ cs)), take-add (1 + len) m (91 ∷ cs) ∙ ap (λ l. l ++ take m (drop (1 + len) (91 ∷ cs))) prefix, closing_self cs Plain len e ∙ ap Some (sym (length-take-le len cs within.1)), modifier.1),
         )
 
 pseudo_good : (cs : List ℕ) → Good (58 ∷ cs) (if nat_lt 0 (prefix_len is_word cs) then Some (Pseudo, 1 + prefix_len is_word cs) else None)

@@ -68,13 +68,13 @@ impl<'t> Rest<'t> {
     }
 
     /// Whether the text begins with these characters.
-    pub fn starts_with(&self, front: &[char]) -> bool
-        ensures { result ≡ starts_with nat_eq self.now front.now }
+    pub fn starts_with(&self, prefix: &[char]) -> bool
+        ensures { result ≡ starts_with nat_eq self.now prefix.now }
     {
-        if front.len() > self.len() {
+        if prefix.len() > self.len() {
             return false;
         }
-        for (i, c) in front.iter().enumerate() {
+        for (i, c) in prefix.iter().enumerate() {
             if self.at(i) != *c {
                 return false;
             }

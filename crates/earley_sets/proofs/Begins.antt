@@ -1,5 +1,7 @@
 -- What begins at a place, by the symbols that its kernel waits for.
 use Rattle.std.proofs.Common.{◌≡◌, ◌≢◌, ℕ, ◌<◌, ◌≤◌, ◌↔◌, ◌⊎◌, inl, inr, List, [], Some, Contains, refl, sym, ◌∙◌, ap, subst, arith}
+use Rattle.std.proofs.lemmas.Option.{slice_get_within}
+use Rattle.finite_sets.proofs.Lists.{Contains-none}
 use Rattle.grammar_model.specs.declared.Edge.{Edge as HeldEdge}
 use Rattle.recognizer_model.specs.declared.Item.{Item}
 use Rattle.recognizer_model.specs.Flat.{FlatGrammar, lhs_of, rhs_of}
@@ -14,14 +16,13 @@ use Rattle.earley_sets.specs.Closing as closing
 use Rattle.earley_sets.specs.Begun.{HasRule, AreAwaited, Begins, AreBegun, IsBegun, IsFirst}
 use Rattle.earley_sets.specs.Begun as begun
 use Rattle.earley_sets.specs.Scanning.{IsSeed, GoForward}
-use Rattle.earley_sets.proofs.Following.{leads_later, part_within}
-use Rattle.earley_sets.proofs.Membership.{Contains-none}
+use Rattle.earley_sets.proofs.Following.{leads_later}
 
 pub begins_item : {g : FlatGrammar} {A : ℕ → Type 0} {item : Item} → Begins g A item → IsItem g item × (item.origin ≡ 0)
 begins_item (begun.First a rule l) = (record { is_rule = rule; within = omega arith }, refl)
 begins_item (begun.Predicts b e rule l) = (record { is_rule = rule; within = omega arith }, refl)
 begins_item {g = g} (begun.Skips {x = x} {item = before} b e n) =
-    let (is, zero) = begins_item b in (record { is_rule = is.is_rule; within = part_within (rhs_of g before.rule) before.dot x e }, zero)
+    let (is, zero) = begins_item b in (record { is_rule = is.is_rule; within = slice_get_within (rhs_of g before.rule) before.dot x e }, zero)
 
 -- symbols with rules alone count
 pub begins_over : {g : FlatGrammar} {A B : ℕ → Type 0} {item : Item} → ((x : ℕ) → A x → HasRule g x → B x) → Begins g A item → Begins g B item

@@ -11,7 +11,7 @@ use Rattle.recognizer_model.specs.Leo.{GoesForward}
 use Rattle.recognizer_model.specs.Links.{Link, Predicts, Skips, Scans, Completes, Leaps, IsLink}
 use Rattle.recognizer_model.proofs.Over.{AgreeTo, agree_below, same_reduced, same_none, same_leads}
 use Rattle.earley_sets.specs.Scanning.{GoForward}
-use Rattle.earley_sets.specs.Recognizer.{Recognizer, IsRecognizer, place_of, edges_of, top_of, made, IsLeoPair}
+use Rattle.earley_sets.specs.Recognizer.{Recognizer, IsRecognizer, earleme_of, edges_of, top_of, made, IsLeoPair}
 use Rattle.earley_sets.specs.Counted.{PlacedLink, IsLinkOf, CountsFrom, TakesAtMost}
 use Rattle.earley_sets.proofs.ByRows.{goes_forward}
 use Rattle.earley_sets.proofs.Recognizing.{top_is_top}
@@ -34,7 +34,7 @@ counts_first r before none = rises_none (IsLinkOf r) (before + made r) before (l
 
 -- more edges that end behind the place leave the links as they are
 module _ (old new : Recognizer) (is : IsRecognizer new) (flat : new.flat ≡ old.flat) (start : new.start ≡ old.start) (sets : new.sets ≡ old.sets) (noted : new.noted ≡ old.noted)
-    (more : List HeldEdge) (edges : new.edges ≡ old.edges ++ more) (behind : (e : HeldEdge) → Contains more e → place_of old < e.to) where
+    (more : List HeldEdge) (edges : new.edges ≡ old.edges ++ more) (behind : (e : HeldEdge) → Contains more e → earleme_of old < e.to) where
   over : Recognizer
   over = record { flat = new.flat; start = new.start; edges = old.edges; sets = new.sets; noted = new.noted }
 
@@ -51,10 +51,10 @@ module _ (old new : Recognizer) (is : IsRecognizer new) (flat : new.flat ≡ old
   old_forward : GoForward old.edges
   old_forward e c = is.forward e (in_new e c)
 
-  same_place : place_of new ≡ place_of old
+  same_place : earleme_of new ≡ earleme_of old
   same_place = let e = ap (λ (l : List (List Item)). length l) sets in omega (arith, e)
 
-  agree : AgreeTo (place_of new) (edges_of over) (edges_of new)
+  agree : AgreeTo (earleme_of new) (edges_of over) (edges_of new)
   unfolding over
   agree y a b le = (
     λ (s, x, h). (s, x, in_new (record { symbol = s; from = a; to = b }) h),

@@ -1,7 +1,8 @@
-use Rattle.std.proofs.Common.{◌≡◌, ◌≢◌, ℕ, zero, suc, ◌+◌, ◌<◌, ◌≤◌, ◌++◌, append_assoc, take, ◌↔◌, ◌⊎◌, inl, inr, List, [], ◌∷◌, length, map, slice_get, Some, None, Contains, refl, sym, ◌∙◌, ap, subst, arith}
+use Rattle.std.proofs.Common.{◌≡◌, ◌≢◌, ℕ, ◌+◌, ◌<◌, ◌≤◌, ◌++◌, append_assoc, take, ◌↔◌, ◌⊎◌, inl, inr, List, [], ◌∷◌, map, slice_get, Some, None, Contains, refl, sym, ◌∙◌, ap, subst, arith}
 use Rattle.std.proofs.lemmas.List.{take_more}
 use Rattle.std.proofs.lemmas.List.Elements.{Contains-append_left, Contains-append_right, Contains-push, Contains-push_cases, Contains-append_cases}
-use Rattle.grammar_core.proofs.Halving.{index_get}
+use Rattle.std.proofs.lemmas.Option.{slice_get_within}
+use Rattle.finite_sets.proofs.Lists.{Contains-map, get_index, get_end, none_at_end}
 use Rattle.recognizer_model.specs.declared.Item.{Item}
 use Rattle.recognizer_model.specs.Flat.{FlatGrammar, lhs_of, rhs_of, IsNullable}
 use Rattle.recognizer_model.specs.Items.{after, advanced}
@@ -12,13 +13,13 @@ use Rattle.leo_items.specs.declared.memo.Pair.{Pair}
 use Rattle.leo_items.specs.ByRows.{IsNotLeoIn, LeadsIn, pair_of}
 use Rattle.leo_items.proofs.Chains.{has_leo, leads_one, leads_item}
 use Rattle.earley_sets.specs.Closing.{IsAdvancedOver, IsSkipped, IsDone, Follows, Predicts, Skips, Completes, Leaps, GoesOn}
-use Rattle.earley_sets.proofs.Membership.{Contains-map, Contains-map_from}
+use Rattle.earley_sets.proofs.Membership.{Contains-map_from}
 
 -- one more item with its dot advanced
 pub advanced_more : (row : List Item) (k : ℕ) (x : Item) → slice_get row k ≡ Some x → (first old new : List Item) (y : Item) → old ≡ first ++ map advanced (take k row) → new ≡ old ++ y ∷ [] → y ≡ advanced x →
     new ≡ first ++ map advanced (take (k + 1) row)
 advanced_more row k x is first old new y before more same =
-    let (lt, at) = index_get row k x x is in
+    let (lt, at) = get_index row k x x is in
     let next : take (k + 1) row ≡ take k row ++ x ∷ [] = take_more row k x lt ∙ ap (λ z. take k row ++ z ∷ []) at in
     more ∙ (ap (λ l. l ++ y ∷ []) before ∙ (ap (λ z. (first ++ map advanced (take k row)) ++ z ∷ []) same
     ∙ (append_assoc first (map advanced (take k row)) (advanced x ∷ []) ∙ ap (λ l. first ++ l) (sym (ap (map advanced) next ∙ map_append (take k row))))))
@@ -76,17 +77,6 @@ module _ (g : FlatGrammar) (rows : List (List Item)) (i x : ℕ) (old new : List
       one (inl (none, a)) = let (item, leo) = has_leo g rows leads in absurd (none item leo)
       one (inr more) = leads_one g rows leads more
 
--- an item with nothing behind the dot has it at the end
-pub whole_from : (xs : List ℕ) (n : ℕ) → n ≤ length xs → slice_get xs n ≡ None → n ≡ length xs
-whole_from [] n le e = omega arith
-whole_from (y ∷ ys) zero le e = absurd (cc)
-whole_from (y ∷ ys) (suc n) le e = ap suc (whole_from ys n (omega arith) e)
-
-whole_past : (xs : List ℕ) (n : ℕ) → n ≡ length xs → slice_get xs n ≡ None
-whole_past [] n e = refl
-whole_past (y ∷ ys) zero e = absurd (omega arith)
-whole_past (y ∷ ys) (suc n) e = whole_past ys n (omega arith)
-
 -- an advanced item has its dot behind the start
 pub leads_later : {g : FlatGrammar} {rows : List (List Item)} {i x : ℕ} {t : Item} → LeadsIn g rows i x t → t.dot ≡ 0 → ⊥
 leads_later (LeadsIn.Last leo none) e = omega (arith, e)
@@ -100,8 +90,8 @@ module _ (g : FlatGrammar) (rows : List (List Item)) (place : ℕ) (item : Item)
     on_skipped : (other : Item) → Follows g rows place item other → other.dot ≢ 0 → IsSkipped g item x other
     on_skipped other (Predicts {x = y} {r = r} e' rule l) behind = absurd (behind refl)
     on_skipped other (Skips {x = y} e' n) behind = let s : y ≡ x = cc in (subst (IsNullable g) s n, refl)
-    on_skipped other (Completes whole lt none w e') behind = let n = whole_past (rhs_of g item.rule) item.dot whole in absurd (cc)
-    on_skipped other (Leaps whole lt leads) behind = let n = whole_past (rhs_of g item.rule) item.dot whole in absurd (cc)
+    on_skipped other (Completes whole lt none w e') behind = let n = none_at_end (rhs_of g item.rule) item.dot whole in absurd (cc)
+    on_skipped other (Leaps whole lt leads) behind = let n = none_at_end (rhs_of g item.rule) item.dot whole in absurd (cc)
 
     pub goes_skipped : (old new : List Item) → ((other : Item) → Contains new other ↔ (Contains old other ⊎ IsSkipped g item x other)) →
         (other : Item) → Contains new other ↔ (Contains old other ⊎ GoesOn g rows place item other)
@@ -127,24 +117,19 @@ module _ (g : FlatGrammar) (rows : List (List Item)) (place : ℕ) (item : Item)
       where
         follows : IsDone g rows item.origin (lhs_of g item.rule) other → GoesOn g rows place item other
         follows (inl (none, (w, i, e', s))) = (
-          subst (Follows g rows place item) (sym s) (Completes (whole_from (rhs_of g item.rule) item.dot is.within e) lt none i e'),
+          subst (Follows g rows place item) (sym s) (Completes (get_end (rhs_of g item.rule) item.dot is.within e) lt none i e'),
           λ start. (let d = ap (λ (t : Item). t.dot) s in omega (arith, d, start)),
         )
-        follows (inr leads) = (Leaps (whole_from (rhs_of g item.rule) item.dot is.within e) lt leads, λ start. leads_later leads start)
+        follows (inr leads) = (Leaps (get_end (rhs_of g item.rule) item.dot is.within e) lt leads, λ start. leads_later leads start)
 
     pub goes_nowhere : (old : List Item) → place ≤ item.origin → (other : Item) → Contains old other ↔ (Contains old other ⊎ GoesOn g rows place item other)
     goes_nowhere old le other = (λ o. inl o, λ h. elim h [ inl o ↦ o | inr (f, behind) ↦ let (lt, c) = done_from other f in absurd (omega arith) ])
-
-pub part_within : (xs : List ℕ) (k x : ℕ) → slice_get xs k ≡ Some x → k < length xs
-part_within [] k x e = absurd (cc)
-part_within (y ∷ ys) zero x e = omega arith
-part_within (y ∷ ys) (suc k) x e = let h = part_within ys k x e in omega arith
 
 -- what follows from an item is one
 pub follows_item : (g : FlatGrammar) (rows : List (List Item)) (place : ℕ) (item : Item) → IsItem g item → AreRows g rows →
     (other : Item) → Follows g rows place item other → IsItem g other
 follows_item g rows place item is are other (Predicts e rule l) = record { is_rule = rule; within = omega arith }
-follows_item g rows place item is are other (Skips {x = x} e n) = record { is_rule = is.is_rule; within = part_within (rhs_of g item.rule) item.dot x e }
+follows_item g rows place item is are other (Skips {x = x} e n) = record { is_rule = is.is_rule; within = slice_get_within (rhs_of g item.rule) item.dot x e }
 follows_item g rows place item is are other (Leaps whole lt leads) = leads_item g rows are leads
 follows_item g rows place item is are other (Completes {waiting = w} whole lt none i e) =
-    let is' = (are item.origin).items w i in record { is_rule = is'.is_rule; within = part_within (rhs_of g w.rule) w.dot _ e }
+    let is' = (are item.origin).items w i in record { is_rule = is'.is_rule; within = slice_get_within (rhs_of g w.rule) w.dot _ e }

@@ -3,6 +3,7 @@ use Rattle.std.proofs.Common.{◌≡◌, ◌≢◌, ◌↔◌, ◌⊎◌, inl, i
 use Rattle.std.specs.List.{AllPairs}
 use Rattle.std.proofs.lemmas.List.{take_more, get_or_append_left, get_or-append-add}
 use Rattle.std.proofs.lemmas.List.Elements.{Contains-append_left, Contains-append_right, Contains-append_cases, Contains-push, Contains-push_cases}
+use Rattle.finite_sets.proofs.Lists.{Contains-none, get_index}
 use Rattle.grammar_model.specs.declared.Edge.{Edge as HeldEdge}
 use Rattle.grammar_model.specs.Derives.{Held}
 use Rattle.recognizer_model.specs.declared.Item.{Item}
@@ -14,17 +15,15 @@ use Rattle.recognizer_model.specs.Leo.{InReduced, InExpanded, IsHidden}
 use Rattle.recognizer_model.specs.Counts.{IsListOf}
 use Rattle.recognizer_model.proofs.Leo.{origin_below, reduced_inside, expanded_inside, expands_to_all}
 use Rattle.recognizer_model.proofs.Over.{hidden_whole}
-use Rattle.grammar_core.proofs.Halving.{index_get}
 use Rattle.item_rows.specs.Rows.{row_at}
 use Rattle.item_rows.specs.Kept.{IsItem, AreRows}
 use Rattle.leo_items.proofs.Chains.{leo_inside}
-use Rattle.earley_sets.specs.Closing.{Adds, Grows, IsReached, Seed}
+use Rattle.earley_sets.specs.Closing.{Adds, IsReached, Seed}
 use Rattle.earley_sets.specs.Closing as closing
 use Rattle.earley_sets.specs.Scanning.{GoForward, AreReduced}
 use Rattle.earley_sets.specs.Loops.{IsClosedTo}
 use Rattle.earley_sets.specs.Hidden.{IsWholeFrom, IsFrom, IsSingleStep, NoneLeadsOn, IsStepped, Kept, Step, IsHiddenIn}
 use Rattle.earley_sets.proofs.Adding.{decide}
-use Rattle.earley_sets.proofs.Membership.{Contains-none}
 use Rattle.earley_sets.proofs.Growing.{Adds-begins, Adds-has}
 use Rattle.earley_sets.proofs.Loops.{closed_more}
 use Rattle.earley_sets.proofs.ByRows.{goes_forward, known, to_leo, from_leo}
@@ -61,11 +60,11 @@ module _ (from : ℕ) where
   module _ (items : List Item) (k : ℕ) (x : Item) (e : slice_get items k ≡ Some x) where
     pub from_add : (old new : List Item) → AreFrom (take k items) old → from ≤ x.origin → Adds old new x → AreFrom (take (k + 1) items) new
     from_add old new are is adds =
-        let (lt, same) = index_get items k x x e in
+        let (lt, same) = get_index items k x x e in
         add_got items old new k x lt are (subst (λ z. from ≤ z.origin) (sym same) is) (subst (Adds old new) (sym same) adds)
 
     pub from_skip : (old : List Item) → AreFrom (take k items) old → ¬ (from ≤ x.origin) → AreFrom (take (k + 1) items) old
-    from_skip old are none = let (lt, same) = index_get items k x x e in skip_got items old k x lt are (λ is. none (subst (λ z. from ≤ z.origin) same is))
+    from_skip old are none = let (lt, same) = get_index items k x x e in skip_got items old k x lt are (λ is. none (subst (λ z. from ≤ z.origin) same is))
 
 -- of the whole items of a row
 module _ (g : FlatGrammar) (from : ℕ) where
@@ -151,7 +150,7 @@ module _ (g : FlatGrammar) (rows : List (List Item)) (place from : ℕ) where
   pub none_more : (items : List Item) (k : ℕ) (x : Item) → slice_get items k ≡ Some x → NoneLeadsOn g rows place from (take k items) → (from ≤ x.origin → (step : Item) → ¬ IsSingleStep g rows place from x step) →
       NoneLeadsOn g rows place from (take (k + 1) items)
   none_more items k x e none here item step (h, le) s =
-      let (lt, same) = index_get items k x x e in
+      let (lt, same) = get_index items k x x e in
       elim (Contains-push_cases (take k items) (get_or items k x) item (subst (λ l. Contains l item) (take_more items k x lt) h)) [
         | inl o ↦ none item step (o, le) s
         | inr is ↦ subst (λ z. from ≤ z.origin → (step : Item) → ¬ IsSingleStep g rows place from z step) (sym same ∙ is) here le step s

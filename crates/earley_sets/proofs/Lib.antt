@@ -21,7 +21,6 @@ pub mod Splitting
 pub mod Nulling
 pub mod Hiding
 pub mod Recognizing
-pub mod Starts
 pub mod Exact
 pub mod Counting
 pub mod Expanding

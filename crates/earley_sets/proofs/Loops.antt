@@ -1,19 +1,17 @@
-use Rattle.std.proofs.Common.{◌≡◌, ℕ, zero, suc, ◌+◌, ◌<◌, ◌≤◌, ◌↔◌, ◌⊎◌, inl, inr, List, [], ◌∷◌, length, get_or, slice_get, Option, Some, None, Contains, sym, ◌∙◌, ap, subst, arith, length-append}
+use Rattle.std.proofs.Common.{◌≡◌, ℕ, zero, suc, ◌+◌, ◌≤◌, ◌↔◌, ◌⊎◌, inl, inr, List, [], ◌∷◌, length, get_or, slice_get, Option, Some, None, Contains, sym, ◌∙◌, ap, subst, arith, length-append}
 use Rattle.std.proofs.lemmas.List.{get_or_append_left}
+use Rattle.std.proofs.lemmas.Bool.{cases_lt}
+use Rattle.finite_sets.proofs.Lists.{got_item, got_at}
 use Rattle.recognizer_model.specs.declared.Item.{Item}
 use Rattle.recognizer_model.specs.Flat.{FlatGrammar}
 use Rattle.earley_sets.specs.Kept.{IsItem, AreItems}
 use Rattle.earley_sets.specs.Closing.{IsReached, Seed, Step, Grows}
 use Rattle.earley_sets.specs.Loops.{IsClosedTo}
-use Rattle.earley_sets.proofs.Membership.{got_at, got_item}
 
 pub got_none : (xs : List Item) (k : ℕ) → Path (Option Item) None (slice_get xs k) → length xs ≤ k
 got_none [] k e = omega arith
 got_none (y ∷ ys) zero e = absurd (cc)
 got_none (y ∷ ys) (suc k) e = let h = got_none ys k e in omega arith
-
-le_or_above : (a b : ℕ) → (a < b) ⊎ (b ≤ a)
-le_or_above a b = grind arith
 
 module _ (g : FlatGrammar) (F : Item → Item → Type 0) where
   pub closed_init : (keys : List Item) → AreItems g keys → IsClosedTo g F keys keys 0
@@ -43,7 +41,7 @@ module _ (g : FlatGrammar) (F : Item → Item → Type 0) where
             | inl old ↦ inv.reached other old
             | inr n ↦ Step (inv.reached item there) (only other n)
           ];
-          followed = λ i d below other f. elim (le_or_above i k) [
+          followed = λ i d below other f. elim (cases_lt i k) [
             | inl before ↦
                 let old : get_or new i d ≡ get_or keys i d = ap (λ l. get_or l i d) e ∙ get_or_append_left keys more d i (let w = inv.within in omega arith) in
                 kept other (inv.followed i d before other (subst (λ b. F b other) old f))

@@ -2,6 +2,8 @@
 use Rattle.std.proofs.Common.{◌≡◌, inl, inr, ℕ, ◌<◌, List, [], length, Some, Contains, sym, ◌∙◌, ap, subst, arith}
 use Rattle.std.proofs.lemmas.Bool.{cases_lt}
 use Rattle.std.proofs.lemmas.List.{get_or_past}
+use Rattle.std.proofs.lemmas.Option.{same_Some}
+use Rattle.finite_sets.proofs.Lists.{Contains-none}
 use Rattle.grammar_model.specs.declared.Edge.{Edge as HeldEdge}
 use Rattle.grammar_model.specs.Trees.{Tree, Children}
 use Rattle.grammar_model.specs.Derives.{Edges, Held}
@@ -17,10 +19,6 @@ use Rattle.recognizer_model.proofs.Leo.{reduced_inside}
 use Rattle.leo_items.specs.ByRows.{AreNulled}
 use Rattle.earley_sets.specs.Scanning.{GoForward, AreReduced}
 use Rattle.earley_sets.proofs.ByRows.{goes_forward}
-use Rattle.earley_sets.proofs.Membership.{Contains-none}
-
-some_same : {x y : ℕ} → Some x ≡ Some y → x ≡ y
-some_same e = cc
 
 module _ (g : FlatGrammar) (E : Edges) (forward : GoesForward E) where
   null_there : {x p q : ℕ} {t : Tree} → Derives g E x p q t → p ≡ q → IsNullable g x
@@ -38,7 +36,7 @@ module _ (g : FlatGrammar) (E : Edges) (forward : GoesForward E) where
         | inl before ↦ spans_nothing s (omega (arith, a, b, e)) k x before at
         | inr le ↦
             let here : k ≡ d = omega (arith, le, lt) in
-            subst (IsNullable g) (sym (some_same (sym at ∙ (ap (part_of g r) here ∙ part)))) (null_there t (omega (arith, a, b, e)))
+            subst (IsNullable g) (sym (same_Some _ _ (sym at ∙ (ap (part_of g r) here ∙ part)))) (null_there t (omega (arith, a, b, e)))
       ]
 
 module _ (g : FlatGrammar) (edges : List HeldEdge) (top : ℕ) (is_top : IsTop g top) (forward : GoForward edges) (rows : List (List Item)) (place : ℕ) (are : AreReduced g edges top rows place) where

@@ -1,8 +1,8 @@
 -- Recognizers: what is known of the next place, and what one more set keeps.
-use Rattle.std.proofs.Common.{◌≡◌, ◌≢◌, ℕ, zero, suc, ◌+◌, ◌-◌, ◌<◌, ◌≤◌, ◌++◌, ◌↔◌, ◌⊎◌, inl, inr, List, [], ◌∷◌, length, get_or, Some, Contains, slice_get, refl, sym, ◌∙◌, ap, subst, arith, length-append, Result, Ok, Err, OnOk, OnErr}
+use Rattle.std.proofs.Common.{◌≡◌, ◌≢◌, ℕ, ◌+◌, ◌-◌, ◌<◌, ◌≤◌, ◌++◌, ◌↔◌, ◌⊎◌, inl, inr, List, [], ◌∷◌, length, get_or, Some, Contains, slice_get, refl, sym, ◌∙◌, ap, subst, arith, length-append, Result, Ok, Err, OnOk, OnErr}
 use Rattle.std.specs.Prelude.{slice_index, AllPairs}
 use Rattle.std.proofs.lemmas.Bool.{cases_lt}
-use Rattle.std.proofs.lemmas.List.{get_or_append_left, get_or-append-add, get_or_default}
+use Rattle.std.proofs.lemmas.List.{get_or_append_left, get_or-append-add, get_or_default, get_or_past}
 use Rattle.std.proofs.lemmas.List.Quantifiers.{all_pairs_push}
 use Rattle.std.proofs.lemmas.Map.Entries.{length-keys_of}
 use Rattle.grammar_model.specs.declared.Edge.{Edge as HeldEdge}
@@ -10,6 +10,8 @@ use Rattle.grammar_model.specs.Derives.{Held}
 use Rattle.recognizer_model.specs.declared.Item.{Item}
 use Rattle.recognizer_model.specs.declared.flat.FlatSymbol.TheVariants.{Terminal}
 use Rattle.std.proofs.lemmas.List.Elements.{Contains-append_left, Contains-push_cases}
+use Rattle.std.proofs.lemmas.Option.{slice_get-get_or}
+use Rattle.finite_sets.proofs.Lists.{Contains-none, got_at}
 use Rattle.grammar_core.specs.Edges.{longest_edge}
 use Rattle.grammar_core.specs.declared.edges.EdgeRefusal.{EdgeRefusal}
 use Rattle.grammar_core.specs.declared.edges.EdgeRefusal.TheVariants.{Duplicate, BadLength}
@@ -41,9 +43,8 @@ use Rattle.leo_items.specs.ByRows.{IsMemo}
 use Rattle.leo_items.proofs.Chains.{memo_stays, memo_none, memo_pairs}
 use Rattle.earley_sets.proofs.ByRows.{known, to_leo}
 use Rattle.earley_sets.specs.Scanning.{GoForward, AreReduced}
-use Rattle.earley_sets.specs.Recognizer.{Recognizer, IsKept, place_of, edges_of, top_of, made, start_symbol, IsExpected, HasTree}
+use Rattle.earley_sets.specs.Recognizer.{Recognizer, IsKept, earleme_of, edges_of, top_of, made, start_symbol, IsExpected, HasTree}
 use Rattle.earley_sets.specs.Tried.{RisesBy}
-use Rattle.earley_sets.proofs.Membership.{Contains-none, get_at, got_at}
 
 abbrev pub recognizer : FlatGrammar → ℕ → List HeldEdge → List (List Item) → List Note → Recognizer
 recognizer g start edges rows notes = record { flat = g; start = start; edges = edges; sets = rows; noted = pairs_of notes }
@@ -53,11 +54,6 @@ nothing_there g i = record {
   items = λ item h. absurd (Contains-none item h);
   begun = λ item h. absurd (Contains-none item h);
 }
-
-past_end : {A : Type 0} (xs : List A) (i : ℕ) (d : A) → length xs ≤ i → get_or xs i d ≡ d
-past_end [] i d le = refl
-past_end (x ∷ xs) zero d le = absurd (omega arith)
-past_end (x ∷ xs) (suc i) d le = past_end xs i d (omega arith)
 
 -- the rows of the places so far, and one more
 pub row_before : (rows : List (List Item)) (row : List Item) (i : ℕ) → i < length rows → row_at (rows ++ row ∷ []) i ≡ row_at rows i
@@ -70,7 +66,7 @@ pub rows_more : (g : FlatGrammar) (rows : List (List Item)) (row : List Item) �
 rows_more g rows row are is i = elim (cases_lt i (length rows)) [
   | inl lt ↦ subst (IsRowOf g i) (sym (row_before rows row i lt)) (are i)
   | inr ge ↦ elim (cases_lt (length rows) i) [
-    | inl gt ↦ subst (IsRowOf g i) (sym (past_end (rows ++ row ∷ []) i [] (let l = length-append rows (row ∷ []) in omega arith))) (nothing_there g i)
+    | inl gt ↦ subst (IsRowOf g i) (sym (get_or_past (rows ++ row ∷ []) i [] (let l = length-append rows (row ∷ []) in omega arith))) (nothing_there g i)
     | inr le ↦ let here : i ≡ length rows = omega arith in subst (IsRowOf g i) (sym (row_last rows row i here)) (subst (λ k. IsRowOf g k row) (sym here) is)
   ]
 ]
@@ -79,7 +75,7 @@ pub no_rows : (g : FlatGrammar) → AreRows g []
 no_rows g i = nothing_there g i
 
 pub top_is_top : (g : FlatGrammar) (start top : ℕ) → IsFlat g → start < length g.tops → top ≡ slice_index g.tops start → IsTop g top
-top_is_top g start top flat lt e = subst (IsTop g) (sym e) (flat.tops start (slice_index g.tops start) (get_at g.tops start 0 lt)).is_top
+top_is_top g start top flat lt e = subst (IsTop g) (sym e) (flat.tops start (slice_index g.tops start) (slice_get-get_or g.tops start 0 lt)).is_top
 
 module _ (g : FlatGrammar) (start : ℕ) (edges : List HeldEdge) (rows : List (List Item)) (top : ℕ) (notes : List Note) (k : IsKept (recognizer g start edges rows notes) top notes) where
   pub kept_top : IsTop g top
@@ -194,7 +190,7 @@ module _ (g : FlatGrammar) (start : ℕ) (edges : List HeldEdge) (rows : List (L
   last : ℕ
   last = length rows - 1
 
-  pub place_is : place_of (recognizer g start edges rows notes) ≡ length rows - 1
+  pub place_is : earleme_of (recognizer g start edges rows notes) ≡ length rows - 1
   place_is = refl
 
   is_top : IsTop g top
@@ -263,10 +259,10 @@ module _ (g : FlatGrammar) (start : ℕ) (edges : List HeldEdge) (rows : List (L
   whole_is_tree = (there, back)
     where
       one : length (rhs_of g top) ≡ 1
-      one = subst (λ z. length (rhs_of g z) ≡ 1) (sym k.top_is) (k.is.flat.tops start (slice_index g.tops start) (get_at g.tops start 0 k.is.start)).one
+      one = subst (λ z. length (rhs_of g z) ≡ 1) (sym k.top_is) (k.is.flat.tops start (slice_index g.tops start) (slice_get-get_or g.tops start 0 k.is.start)).one
 
       part : part_of g top 0 ≡ Some (slice_index (rhs_of g top) 0)
-      part = get_at (rhs_of g top) 0 0 (let o = one in omega arith)
+      part = slice_get-get_or (rhs_of g top) 0 0 (let o = one in omega arith)
 
       found : Contains (row_at rows (length rows - 1)) (record { rule = top; dot = 1; origin = 0 }) ↔ IsFound g (FlatEdges g (Held edges)) top (length rows - 1) (record { rule = top; dot = 1; origin = 0 })
       found =
@@ -274,8 +270,8 @@ module _ (g : FlatGrammar) (start : ℕ) (edges : List HeldEdge) (rows : List (L
           let l = top_in_set (length rows - 1) (record { rule = top; dot = 1; origin = 0 }) last_below refl in
           ((λ h. law.0 (l.0 h)), (λ h. l.1 (law.1 h)))
 
-      view : (q : ℕ) (x : ℕ) → q ≡ place_of (recognizer g start edges rows notes) → x ≡ start_symbol (recognizer g start edges rows notes) → (t : Tree) → View.Derives (grammar_view g) (FlatEdges g (Held edges)) (slot_of x) 0 q t → HasTree (recognizer g start edges rows notes)
-      view q x e s t d = (t, subst (λ z. View.Derives (grammar_view g) (FlatEdges g (Held edges)) (slot_of z) 0 (place_of (recognizer g start edges rows notes)) t) s (subst (λ z. View.Derives (grammar_view g) (FlatEdges g (Held edges)) (slot_of x) 0 z t) e d))
+      view : (q : ℕ) (x : ℕ) → q ≡ earleme_of (recognizer g start edges rows notes) → x ≡ start_symbol (recognizer g start edges rows notes) → (t : Tree) → View.Derives (grammar_view g) (FlatEdges g (Held edges)) (slot_of x) 0 q t → HasTree (recognizer g start edges rows notes)
+      view q x e s t d = (t, subst (λ z. View.Derives (grammar_view g) (FlatEdges g (Held edges)) (slot_of z) 0 (earleme_of (recognizer g start edges rows notes)) t) s (subst (λ z. View.Derives (grammar_view g) (FlatEdges g (Held edges)) (slot_of x) 0 z t) e d))
 
       symbol : slice_index (rhs_of g top) 0 ≡ start_symbol (recognizer g start edges rows notes)
       symbol = ap (λ z. slice_index (rhs_of g z) 0) k.top_is
@@ -297,7 +293,7 @@ module _ (g : FlatGrammar) (start : ℕ) (edges : List HeldEdge) (rows : List (L
   pub kept_exact : (j : ℕ) → j ≤ length rows - 1 → IsListOf (InReduced g (edges_of (recognizer g start edges rows notes)) (top_of (recognizer g start edges rows notes)) j) (row_at rows j)
   kept_exact j le = k.is.exact j (let s = k.is.some in omega arith)
 
-  module _ (t place n : ℕ) (here : place ≡ place_of (recognizer g start edges rows notes)) (there : IsExpected (recognizer g start edges rows notes) t) where
+  module _ (t place n : ℕ) (here : place ≡ earleme_of (recognizer g start edges rows notes)) (there : IsExpected (recognizer g start edges rows notes) t) where
     edge : HeldEdge
     edge = record { symbol = t; from = place; to = place + n }
 
@@ -319,7 +315,7 @@ module _ (g : FlatGrammar) (start : ℕ) (edges : List HeldEdge) (rows : List (L
         forward = more_forward some;
         begun = λ e h. elim (Contains-push_cases edges (record { symbol = t; from = place; to = place + n }) e h) [
           | inl o ↦ k.is.begun e o
-          | inr s ↦ subst (λ (z : HeldEdge). z.from ≤ place_of (recognizer g start edges rows notes)) s (omega arith)
+          | inr s ↦ subst (λ (z : HeldEdge). z.from ≤ earleme_of (recognizer g start edges rows notes)) s (omega arith)
         ];
         known = λ e h. elim (Contains-push_cases edges (record { symbol = t; from = place; to = place + n }) e h) [
           | inl o ↦ k.is.known e o

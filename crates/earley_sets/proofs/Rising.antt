@@ -2,17 +2,11 @@
 use Rattle.std.proofs.Common.{◌≡◌, ◌≢◌, inl, inr, ℕ, ◌+◌, ◌≤◌, ◌++◌, List, [], ◌∷◌, length, map, Contains, refl, sym, subst, arith, length-append}
 use Rattle.std.specs.Prelude.{AllPairs}
 use Rattle.std.proofs.lemmas.List.{length-map}
-use Rattle.finite_sets.proofs.Members.{Among, Once, among_from, contains_from, among_either, among_map_from, once_pairs, pairs_once, once_most}
+use Rattle.finite_sets.proofs.Lists.{Contains-none}
+use Rattle.finite_sets.proofs.Members.{Among, Once, among_from, contains_from, among_either, among_map_from, once_pairs, pairs_once, once_most, once_append}
 use Rattle.recognizer_model.specs.Counts.{IsCountOf}
 use Rattle.earley_sets.specs.Tried.{RisesBy}
-use Rattle.earley_sets.proofs.Membership.{Contains-none, Contains-cons_cases, Contains-map_from}
-
-once_append : {X : Type 0} (xs ys : List X) → Once xs → Once ys → ((x : X) → Among x xs → Among x ys → ⊥) → Once (xs ++ ys)
-once_append [] ys o p apart = p
-once_append (x ∷ xs) ys (fresh, o) p apart = (
-  λ m. elim (among_either x xs ys m) [ inl a ↦ fresh a | inr b ↦ apart x (inl refl) b ],
-  once_append xs ys o p (λ y a b. apart y (inr a) b),
-)
+use Rattle.earley_sets.proofs.Membership.{Contains-cons_cases, Contains-map_from}
 
 -- values that differ do so after a function that keeps them apart
 once_map : {X Y : Type 0} (P : X → Type 0) (f : X → Y) (xs : List X) → ((x y : X) → P x → P y → f x ≡ f y → x ≡ y) → ((x : X) → Among x xs → P x) → Once xs → Once (map f xs)

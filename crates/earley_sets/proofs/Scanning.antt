@@ -1,5 +1,8 @@
 use Rattle.std.proofs.Common.{◌≡◌, ℕ, ◌<◌, ◌≤◌, ◌+◌, ◌↔◌, ◌⊎◌, inl, inr, List, [], ◌∷◌, length, take, Some, Contains, slice_get, refl, sym, ◌∙◌, ap, subst, arith, append-nil}
 use Rattle.std.proofs.lemmas.List.Elements.{Contains-append_left, Contains-push, Contains-push_cases}
+use Rattle.std.proofs.lemmas.List.{take_all}
+use Rattle.std.proofs.lemmas.Option.{slice_get_within}
+use Rattle.finite_sets.proofs.Lists.{Contains-none}
 use Rattle.grammar_model.specs.declared.Edge.{Edge as HeldEdge}
 use Rattle.grammar_model.specs.Derives.{Held}
 use Rattle.recognizer_model.specs.declared.Item.{Item}
@@ -16,9 +19,7 @@ use Rattle.earley_sets.specs.Scanning.{IsScannedBy, IsScanned, IsSeed, GoForward
 use Rattle.recognizer_model.specs.Leo.{InReduced}
 use Rattle.recognizer_model.proofs.Leo.{reduced_inside}
 use Rattle.earley_sets.proofs.ByRows.{goes_forward, to_none, from_none, to_leads, from_leads}
-use Rattle.earley_sets.proofs.Cutting.{take_all, take_next}
-use Rattle.earley_sets.proofs.Membership.{Contains-none}
-use Rattle.earley_sets.proofs.Following.{part_within}
+use Rattle.earley_sets.proofs.Cutting.{take_next}
 
 -- no two symbols stand for the same thing
 abbrev pub Differ : FlatGrammar → Type 0
@@ -120,9 +121,9 @@ module _ (g : FlatGrammar) (edges : List HeldEdge) (top : ℕ) (is_top : IsTop g
   set_items : {j : ℕ} {item : Item} → InSet g (FlatEdges g (Held edges)) top j item → IsItem g item
   set_items InSet.Start = record { is_rule = is_top.is_rule; within = omega arith }
   set_items (InSet.Predict i e rule l) = record { is_rule = rule; within = omega arith }
-  set_items (InSet.Skip {x = x} {item = w} i e n) = let k = set_items i in record { is_rule = k.is_rule; within = part_within (rhs_of g w.rule) w.dot x e }
-  set_items (InSet.Scan {x = x} {item = w} i e s) = let k = set_items i in record { is_rule = k.is_rule; within = part_within (rhs_of g w.rule) w.dot x e }
-  set_items (InSet.Complete {whole = whole} {item = w} c at_end lt i e) = let k = set_items i in record { is_rule = k.is_rule; within = part_within (rhs_of g w.rule) w.dot (lhs_of g whole.rule) e }
+  set_items (InSet.Skip {x = x} {item = w} i e n) = let k = set_items i in record { is_rule = k.is_rule; within = slice_get_within (rhs_of g w.rule) w.dot x e }
+  set_items (InSet.Scan {x = x} {item = w} i e s) = let k = set_items i in record { is_rule = k.is_rule; within = slice_get_within (rhs_of g w.rule) w.dot x e }
+  set_items (InSet.Complete {whole = whole} {item = w} c at_end lt i e) = let k = set_items i in record { is_rule = k.is_rule; within = slice_get_within (rhs_of g w.rule) w.dot (lhs_of g whole.rule) e }
 
   pub reduced_items : {item : Item} → InReduced g (FlatEdges g (Held edges)) top place item → IsItem g item
   reduced_items i = set_items (reduced_inside g (FlatEdges g (Held edges)) top is_top (goes_forward g edges top is_top forward) i)

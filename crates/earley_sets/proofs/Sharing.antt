@@ -1,6 +1,7 @@
 -- The lists that were made, and one more.
-use Rattle.std.proofs.Common.{◌≡◌, ◌⊎◌, inl, inr, ℕ, zero, suc, ◌+◌, ◌<◌, ◌++◌, List, [], ◌∷◌, length, Some, slice_get, Contains, refl, sym, ◌∙◌, ap, subst, arith, length-append}
+use Rattle.std.proofs.Common.{◌≡◌, ◌⊎◌, inl, inr, ℕ, ◌+◌, ◌<◌, ◌++◌, List, [], ◌∷◌, length, Some, slice_get, Contains, sym, ◌∙◌, ap, subst, arith, length-append}
 use Rattle.std.proofs.lemmas.List.{get_or_append_left, get_or-append-add}
+use Rattle.finite_sets.proofs.Lists.{get_left}
 use Rattle.recognizer_model.specs.declared.Item.{Item}
 use Rattle.recognizer_model.specs.Flat.{FlatGrammar}
 use Rattle.recognizer_model.specs.Counts.{IsListOf}
@@ -9,11 +10,6 @@ use Rattle.earley_sets.specs.Begun.{AreBegun, IsNoted, AreLists}
 use Rattle.earley_sets.specs.Tried.{MakesOneLater, TriesBegun}
 use Rattle.earley_sets.proofs.Noting.{Entries}
 use Rattle.earley_sets.proofs.Rising.{rises_as}
-
-got_still : {A : Type 0} (xs more : List A) (k : ℕ) (x : A) → slice_get xs k ≡ Some x → slice_get (xs ++ more) k ≡ Some x
-got_still [] more k x e = absurd (cc)
-got_still (y ∷ ys) more zero x e = e
-got_still (y ∷ ys) more (suc k) x e = got_still ys more k x e
 
 pub listed_begun : (g : FlatGrammar) (A : ℕ → Type 0) (items list : List Item) → AreBegun g A items → IsListOf (Contains items) list → AreBegun g A list
 listed_begun g A items list are lists item = ((λ c. (are item).0 ((lists.exact item).0 c)), (λ b. (lists.exact item).1 ((are item).1 b)))
@@ -27,7 +23,7 @@ module _ (g : FlatGrammar) (lists : List (List Item)) (list : List Item) where
 
   pub lists_more : (notes : Entries) → AreLists g lists notes → AreLists g (lists ++ list ∷ []) notes
   lists_more notes are = record {
-    none = got_still lists (list ∷ []) 0 [] are.none;
+    none = get_left lists (list ∷ []) 0 [] are.none;
     noted = λ symbols number n. (
         let (lt, begun) = are.noted symbols number n in (
           (let l = length-append lists (list ∷ []) in omega (arith, l, lt)),
@@ -54,10 +50,6 @@ no_lists g lists notes one none = record {
   none = ap (λ (l : List (List Item)). slice_get l 0) one;
   noted = λ symbols number (v, (k, lt, e), same). (let l = ap length none in absurd (omega (arith, l, lt)));
 }
-
-pub none_there : {A : Type 0} (xs : List A) → length xs ≡ 0 → xs ≡ []
-none_there [] e = refl
-none_there (x ∷ xs) e = absurd (omega (arith, e))
 
 got_first : (lists : List (List Item)) → slice_get lists 0 ≡ Some [] → (0 < length lists) × (shared_at lists 0 ≡ [])
 got_first [] e = absurd (cc)

@@ -2,12 +2,13 @@
 use Rattle.std.proofs.Common.{◌≡◌, ◌≢◌, ◌↔◌, ◌⊎◌, inl, inr, ℕ, ◌+◌, ◌≤◌, ◌++◌, List, [], ◌∷◌, take, length, slice_get, Some, Contains, sym, ◌∙◌, ap, subst, append-nil}
 use Rattle.std.specs.Prelude.{AllPairs}
 use Rattle.std.proofs.lemmas.List.Elements.{Contains-append_left, Contains-push, Contains-push_cases}
+use Rattle.std.proofs.lemmas.List.{take_all}
+use Rattle.finite_sets.proofs.Lists.{Contains-none}
 use Rattle.recognizer_model.specs.declared.Item.{Item}
 use Rattle.recognizer_model.specs.Flat.{FlatGrammar, IsRule, lhs_of}
 use Rattle.earley_sets.specs.Begun.{IsPredicted, IsFirst}
 use Rattle.earley_sets.specs.Tried.{RisesBy, IsRuleOf}
-use Rattle.earley_sets.proofs.Cutting.{take_all, take_next, not_before}
-use Rattle.earley_sets.proofs.Membership.{Contains-none}
+use Rattle.earley_sets.proofs.Cutting.{take_next, not_before}
 use Rattle.earley_sets.proofs.Rising.{rises_none, rises_on}
 
 module _ (g : FlatGrammar) (symbols : List ℕ) where

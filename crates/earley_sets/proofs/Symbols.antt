@@ -1,16 +1,15 @@
 -- The symbols that items wait for, listed item by item.
 use Rattle.std.proofs.Common.{◌≡◌, ◌↔◌, inl, inr, ℕ, ◌+◌, ◌≤◌, ◌++◌, List, [], ◌∷◌, take, length, slice_get, Some, Contains, sym, ◌∙◌, ap, subst, append-nil}
 use Rattle.std.proofs.lemmas.List.Elements.{Contains-append_left, Contains-push, Contains-push_cases}
+use Rattle.std.proofs.lemmas.List.{take_all}
+use Rattle.std.proofs.lemmas.Option.{same_Some}
+use Rattle.finite_sets.proofs.Lists.{Contains-none}
 use Rattle.recognizer_model.specs.declared.Item.{Item}
 use Rattle.recognizer_model.specs.Flat.{FlatGrammar}
 use Rattle.recognizer_model.specs.Items.{after}
 use Rattle.item_rows.specs.Kept.{IsAwaited}
 use Rattle.earley_sets.specs.Begun.{HasRule, AreAwaited}
-use Rattle.earley_sets.proofs.Cutting.{take_all, take_next}
-use Rattle.earley_sets.proofs.Membership.{Contains-none}
-
-pub some_same : {x y : ℕ} → Some x ≡ Some y → x ≡ y
-some_same e = cc
+use Rattle.earley_sets.proofs.Cutting.{take_next}
 
 module _ (g : FlatGrammar) (items : List Item) where
   abbrev pub AwaitedTo : List ℕ → ℕ → Type 0
@@ -31,7 +30,7 @@ module _ (g : FlatGrammar) (items : List Item) where
       ],
       λ ((w, there, e), h). subst (λ l. Contains l x) (sym is) (elim (Contains-push_cases (take k items) item w there) [
         | inl o ↦ Contains-append_left old (y ∷ []) x ((are x).1 ((w, o, e), h))
-        | inr same ↦ subst (Contains (old ++ y ∷ [])) (some_same (sym waits ∙ (ap (after g) same ∙ e))) (Contains-push old y)
+        | inr same ↦ subst (Contains (old ++ y ∷ [])) (same_Some _ _ (sym waits ∙ (ap (after g) same ∙ e))) (Contains-push old y)
       ]),
     )
 

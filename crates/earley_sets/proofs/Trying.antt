@@ -1,8 +1,10 @@
 -- The links that an item makes, and those that the edges to a place make.
 use Rattle.std.proofs.Common.{◌≡◌, ◌≢◌, inl, inr, ℕ, ◌+◌, ◌<◌, ◌≤◌, ◌++◌, List, [], ◌∷◌, length, map, take, slice_get, Some, None, Contains, ◌↔◌, refl, sym, ◌∙◌, ap, subst, arith, length-append, append-nil}
 use Rattle.std.specs.Prelude.{AllPairs}
-use Rattle.std.proofs.lemmas.List.{length-map}
+use Rattle.std.proofs.lemmas.List.{length-map, take_all}
 use Rattle.std.proofs.lemmas.List.Elements.{Contains-append_left, Contains-push}
+use Rattle.std.proofs.lemmas.Option.{same_Some}
+use Rattle.finite_sets.proofs.Lists.{get_end}
 use Rattle.grammar_model.specs.declared.Edge.{Edge as HeldEdge}
 use Rattle.grammar_model.specs.Derives.{Held}
 use Rattle.recognizer_model.specs.declared.Item.{Item}
@@ -20,12 +22,8 @@ use Rattle.earley_sets.specs.Kept.{IsItem}
 use Rattle.earley_sets.specs.Scanning.{GoForward, AreReduced}
 use Rattle.earley_sets.specs.Tried.{RisesBy, AwaitsEdge, MakesScan, MakesSkip, RisesByDone, MakesLink, MakesOne, MakesKernel, MakesLater}
 use Rattle.earley_sets.proofs.ByRows.{to_none, to_leads}
-use Rattle.earley_sets.proofs.Cutting.{take_all, not_before, take_next}
-use Rattle.earley_sets.proofs.Following.{whole_from}
+use Rattle.earley_sets.proofs.Cutting.{not_before, take_next}
 use Rattle.earley_sets.proofs.Rising.{rises_none, rises_one, rises_as, rises_over, rises_on}
-
-some_same : {x y : ℕ} → Some x ≡ Some y → x ≡ y
-some_same e = cc
 
 terminal_same : {s t : ℕ} → Some (Terminal s) ≡ Some (Terminal t) → s ≡ t
 terminal_same e = cc
@@ -68,7 +66,7 @@ module _ (g : FlatGrammar) (rows : List (List Item)) (place : ℕ) (item : Item)
 
   module _ (none : after g item ≡ None) (is : IsItem g item) (lt : item.origin < place) where
     whole : IsWhole g item
-    whole = whole_from (rhs_of g item.rule) item.dot is.within none
+    whole = get_end (rhs_of g item.rule) item.dot is.within none
 
     done : (a b : ℕ) → RisesByDone g rows item.origin (lhs_of g item.rule) a b → RisesBy (MakesLink g rows place item) a b
     done a b (inl (never, r)) = rises_over (MakesLink g rows place item) (Completes item) (λ w h. (refl, whole, lt, never, h)) (λ v w h i e. cc) r
@@ -138,7 +136,7 @@ module _ (g : FlatGrammar) (rows : List (List Item)) (place : ℕ) where
       same_edge other item' item ends' (x', is', (there', waits')) (x, is, (there, waits)) e =
           let items : item' ≡ item = cc in
           let froms : other.from ≡ edge.from = cc in
-          let symbols : x' ≡ x = some_same (sym waits' ∙ (ap (after g) items ∙ waits)) in
+          let symbols : x' ≡ x = same_Some _ _ (sym waits' ∙ (ap (after g) items ∙ waits)) in
           let terminals : other.symbol ≡ edge.symbol = terminal_same (sym is' ∙ (ap (slice_get g.symbols) symbols ∙ is)) in
           let tos : other.to ≡ edge.to = ends' ∙ sym ends in
           λ i. record { symbol = terminals i; from = froms i; to = tos i }

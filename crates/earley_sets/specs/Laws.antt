@@ -8,17 +8,17 @@ use Rattle.grammar_model.specs.Acceptable.{IsAcceptable}
 use Rattle.recognizer_model.specs.FlatForm.{IsFlatOf}
 use Rattle.recognizer_model.specs.Counts.{IsCountOf}
 use Rattle.recognizer_model.specs.Links.{Link, IsLink}
-use Rattle.earley_sets.specs.Recognizer.{Recognizer, IsRecognizer, IsExpected, HasTree, place_of, edges_of, top_of}
+use Rattle.earley_sets.specs.Recognizer.{Recognizer, IsRecognizer, IsExpected, HasTree, earleme_of, edges_of, top_of}
 
 -- the expected terminals are those that are acceptable to the checked grammar
 abbrev pub ExpectedAreAcceptable : Type 0
 ExpectedAreAcceptable = (w : Grammar) (r : Recognizer) (start t : ℕ) → IsChecked w → IsFlatOf r.flat w → IsRecognizer r → slice_get w.starts r.start ≡ Some start →
-    IsExpected r t ↔ IsAcceptable w (Held r.edges) start t (place_of r)
+    IsExpected r t ↔ IsAcceptable w (Held r.edges) start t (earleme_of r)
 
 -- there is a tree exactly where the checked grammar has a derivation of the start
 abbrev pub TreesAreDerivations : Type 0
 TreesAreDerivations = (w : Grammar) (r : Recognizer) (start : ℕ) → IsChecked w → IsFlatOf r.flat w → IsRecognizer r → slice_get w.starts r.start ≡ Some start →
-    HasTree r ↔ ((tree : Tree) × Derives w (Held r.edges) (slot_of start) 0 (place_of r) tree)
+    HasTree r ↔ ((tree : Tree) × Derives w (Held r.edges) (slot_of start) 0 (earleme_of r) tree)
 
 -- the links that are tried, each once, are no more than the set has
 abbrev pub TriesAreFew : Type 0

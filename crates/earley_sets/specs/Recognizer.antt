@@ -28,8 +28,8 @@ pub record Recognizer : Type 0 where
   pub noted : List Pair
 
 -- the last place of which the set is made
-abbrev pub place_of : Recognizer → ℕ
-place_of r = length r.sets - 1
+abbrev pub earleme_of : Recognizer → ℕ
+earleme_of r = length r.sets - 1
 
 abbrev pub set_at : Recognizer → ℕ → List Item
 set_at r j = slice_index_or r.sets j []
@@ -50,28 +50,28 @@ start_symbol r = slice_index (rhs_of r.flat (top_of r)) 0
 
 -- the edge of a terminal that begins at the last place
 abbrev pub new_edge : Recognizer → (t length : ℕ) → HeldEdge
-new_edge r t n = record { symbol = t; from = place_of r; to = place_of r + n }
+new_edge r t n = record { symbol = t; from = earleme_of r; to = earleme_of r + n }
 
 -- the terminal is acceptable at the last place
 abbrev pub IsExpected : Recognizer → ℕ → Type 0
-IsExpected r t = (x : ℕ) × (slice_get r.flat.symbols x ≡ Some (Terminal t)) × IsAcceptable (grammar_view r.flat) (edges_of r) (lhs_of r.flat (top_of r)) x (place_of r)
+IsExpected r t = (x : ℕ) × (slice_get r.flat.symbols x ≡ Some (Terminal t)) × IsAcceptable (grammar_view r.flat) (edges_of r) (lhs_of r.flat (top_of r)) x (earleme_of r)
 
 -- a tree of the start spans the edges up to the last place
 abbrev pub HasTree : Recognizer → Type 0
-HasTree r = (tree : Tree) × Derives (grammar_view r.flat) (edges_of r) (slot_of (start_symbol r)) 0 (place_of r) tree
+HasTree r = (tree : Tree) × Derives (grammar_view r.flat) (edges_of r) (slot_of (start_symbol r)) 0 (earleme_of r) tree
 
 -- a pair of a place so far has a Leo item
 abbrev pub IsLeoPair : Recognizer → Pair → Type 0
-IsLeoPair r pair = (pair.set ≤ place_of r) × ((item : Item) × IsLeo r.flat (edges_of r) (top_of r) pair.set pair.symbol item)
+IsLeoPair r pair = (pair.set ≤ earleme_of r) × ((item : Item) × IsLeo r.flat (edges_of r) (top_of r) pair.set pair.symbol item)
 
 pub record IsRecognizer (r : Recognizer) : Type 0 where
   pub flat : IsFlat r.flat
   pub start : r.start < length r.flat.tops
   pub some : 0 < length r.sets
-  pub in_range : place_of r ≤ 16777216
+  pub in_range : earleme_of r ≤ 16777216
   pub once : AllPairs (λ d e. d ≢ e) r.edges
   pub forward : (e : HeldEdge) → Contains r.edges e → e.from < e.to
-  pub begun : (e : HeldEdge) → Contains r.edges e → e.from ≤ place_of r
+  pub begun : (e : HeldEdge) → Contains r.edges e → e.from ≤ earleme_of r
   pub known : (e : HeldEdge) → Contains r.edges e → (x : ℕ) × (slice_get r.flat.symbols x ≡ Some (Terminal e.symbol))
   pub exact : (j : ℕ) → j < length r.sets → IsListOf (InReduced r.flat (edges_of r) (top_of r) j) (set_at r j)
   pub noted_once : AllPairs (λ p q. p ≢ q) r.noted

@@ -1,3 +1,4 @@
+-- What a set begins with, what goes on from that, and when rows are the reduced sets.
 use Rattle.std.specs.Prelude.{◌≡◌, ℕ, ◌<◌, List, Some, slice_get, Contains, ◌↔◌, ◌⊎◌}
 use Rattle.grammar_model.specs.declared.Edge.{Edge as HeldEdge}
 use Rattle.grammar_model.specs.Derives.{Held}

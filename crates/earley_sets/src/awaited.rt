@@ -14,7 +14,7 @@ use std::alloc::AllocFailed;
 
 // The symbol that an item waits for, if it has rules.
 fn awaited(flat: &Flat, heads: &Heads, item: Item) -> Option<u32>
-    requires heads { AreHeads flat.now heads.now.rules.items }
+    requires heads { AreHeads flat.now heads.now }
     requires item { IsItem flat.now item }
     ensures some { IfSome result (λ x. (after flat.now item ≡ Some x) × HasRule flat.now x) }
     ensures none { IsNone result → (x : ℕ) → after flat.now item ≡ Some x → ¬ HasRule flat.now x }
@@ -44,7 +44,7 @@ pub fn list_awaited(
     items: &[Item],
     symbols: &mut Vec<u32>,
 ) -> Result<(), AllocFailed<u32>>
-    requires heads { AreHeads flat.now heads.now.rules.items }
+    requires heads { AreHeads flat.now heads.now }
     requires items { AreItems flat.now items.now }
     ensures once { OnOk result (AllPairs (λ x y. x ≢ y) symbols.new.items) }
     ensures exact { OnOk result (AreAwaited flat.now items.now symbols.new.items) }

@@ -43,7 +43,7 @@ fn list_rules(
     symbol: u32,
     next: &mut Vec<Item>,
 ) -> Result<(), AllocFailed<Item>>
-    requires { AreHeads flat.now heads.now.rules.items }
+    requires { AreHeads flat.now heads.now }
     ensures listed { OnOk result ((other : Item) → Contains next.new.items other ↔ (Contains next.old.items other ⊎ IsPredicted flat.now symbol other)) }
     ensures links { OnOk result (RisesBy (λ (r : ℕ). IsRule flat.now r × (lhs_of flat.now r ≡ symbol)) (length next.old.items) (length next.new.items)) }
 {
@@ -53,7 +53,7 @@ fn list_rules(
 
 // Whether the rules of a symbol have begun in the set.
 fn have_begun(flat: &Flat, heads: &Heads, set: &IndexSet<Item>, symbol: u32) -> bool
-    requires heads { AreHeads flat.now heads.now.rules.items }
+    requires heads { AreHeads flat.now heads.now }
     requires together { BeginTogether flat.now set.now.keys }
     ensures { IsTrue result → (other : Item) → IsPredicted flat.now symbol other → Contains set.now.keys other }
 {
@@ -73,7 +73,7 @@ fn list_unbegun(
     symbol: u32,
     next: &mut Vec<Item>,
 ) -> Result<(), AllocFailed<Item>>
-    requires heads { AreHeads flat.now heads.now.rules.items }
+    requires heads { AreHeads flat.now heads.now }
     requires together { BeginTogether flat.now set.now.keys }
     requires empty { next.old.items ≡ [] }
     ensures only { OnOk result ((other : Item) → Contains next.new.items other → IsPredicted flat.now symbol other) }
@@ -96,7 +96,7 @@ fn list_later(
 ) -> Result<(), AllocFailed<Item>>
     requires item { IsItem flat.now item }
     requires origin { item.origin ≡ 0 }
-    requires heads { AreHeads flat.now heads.now.rules.items }
+    requires heads { AreHeads flat.now heads.now }
     requires together { BeginTogether flat.now set.now.keys }
     ensures only { OnOk result ((other : Item) → Contains next.new.items other → Follows flat.now [] 0 item other) }
     ensures all { OnOk result ((other : Item) → Follows flat.now [] 0 item other → Contains set.now.keys other ⊎ Contains next.new.items other) }
@@ -119,7 +119,7 @@ fn close_begun<L: Ledger>(
     next: &mut Vec<Item>,
     steps: &mut Steps<L>,
 ) -> Result<(), AllocFailed<Item>>
-    requires heads { AreHeads flat.now heads.now.rules.items }
+    requires heads { AreHeads flat.now heads.now }
     requires items { AreItems flat.now set.old.keys }
     requires origins { (item : Item) → Contains set.old.keys item → item.origin ≡ 0 }
     requires together { BeginTogether flat.now set.old.keys }
@@ -144,7 +144,7 @@ fn list_firsts(
     symbols: &[u32],
     next: &mut Vec<Item>,
 ) -> Result<(), AllocFailed<Item>>
-    requires heads { AreHeads flat.now heads.now.rules.items }
+    requires heads { AreHeads flat.now heads.now }
     requires once { AllPairs (λ x y. x ≢ y) symbols.now }
     ensures listed { OnOk result ((item : Item) → Contains next.new.items item ↔ IsFirst flat.now symbols.now item) }
     ensures tried { OnOk result (RisesBy (IsRuleOf flat.now symbols.now) 0 (length next.new.items)) }
@@ -165,7 +165,7 @@ pub fn fill_begun<L: Ledger>(
     next: &mut Vec<Item>,
     steps: &mut Steps<L>,
 ) -> Result<(), AllocError>
-    requires heads { AreHeads flat.now heads.now.rules.items }
+    requires heads { AreHeads flat.now heads.now }
     requires once { AllPairs (λ x y. x ≢ y) symbols.now }
     ensures begun { OnOk result (AreBegun flat.now (Contains symbols.now) set.new.keys) }
     ensures tried { OnOk result (TriesBegun flat.now symbols.now set.new.keys steps.old steps.new) }

@@ -7,11 +7,13 @@ ghost use Rattle.recognizer_model.specs.Contexts.{IsTop};
 ghost use Rattle.recognizer_model.specs.Items.{first_item};
 ghost use Rattle.leo_items.specs.ByRows.{IsMemo, NotesMore, AreNulled};
 ghost use Rattle.earley_sets.specs.Kept.{IsItem, AreItems, HasRows};
+ghost use Rattle.earley_sets.specs.Heads.{AreHeads};
 ghost use Rattle.earley_sets.specs.Closing.{Adds, GoesOn, IsReached, Grows};
 ghost use Rattle.earley_sets.specs.Scanning.{IsScanned, IsScannedBy, IsSeed, IsKernel, GoForward, AreReduced};
 ghost use Rattle.earley_sets.specs.Tried.{RisesBy, AwaitsEdge, MakesScan, MakesOne, MakesKernel};
 
 use crate::follow::{list_completed, list_next};
+use crate::heads::{Heads, symbol_of};
 use grammar_core::{Flat, SymbolId, TokenEdges};
 use grammar_model::Edge as HeldEdge;
 use indexmap::IndexSet;
@@ -97,10 +99,12 @@ fn close<L: Ledger>(
 // Lists the items that an edge of a terminal advances.
 fn list_by_edge(
     flat: &Flat,
+    heads: &Heads,
     rows: &Rows<'_>,
     edge: HeldEdge,
     next: &mut Vec<Item>,
 ) -> Result<(), AllocFailed<Item>>
+    requires heads { AreHeads flat.now heads.now }
     requires rows { HasRows flat.now rows.now }
     requires from { edge.from < length rows.now.sets }
     ensures listed { OnOk result ((other : Item) → Contains next.new.items other ↔
@@ -108,7 +112,7 @@ fn list_by_edge(
     ensures links { OnOk result (RisesBy (AwaitsEdge flat.now rows.now.sets edge) (length next.old.items) (length next.new.items)) }
 {
     flat.known();
-    match flat.terminal(SymbolId(edge.symbol)) {
+    match symbol_of(flat, heads, SymbolId(edge.symbol)) {
         Some(symbol) => list_completed(flat, rows, edge.from, symbol, next),
         None => Ok(()),
     }
@@ -117,12 +121,14 @@ fn list_by_edge(
 // Lists the items that the edges to a place advance.
 fn list_scanned(
     flat: &Flat,
+    heads: &Heads,
     rows: &Rows<'_>,
     edges: &TokenEdges,
     place: u32,
     ending: &mut Vec<HeldEdge>,
     next: &mut Vec<Item>,
 ) -> Result<(), AllocError>
+    requires heads { AreHeads flat.now heads.now }
     requires rows { HasRows flat.now rows.now }
     requires begun { (e : HeldEdge) → Contains edges.now e → e.from < length rows.now.sets }
     ensures listed { OnOk result ((other : Item) → Contains next.new.items other ↔
@@ -131,7 +137,7 @@ fn list_scanned(
 {
     edges.list_to(place, ending)?;
     for edge in &*ending {
-        list_by_edge(flat, rows, *edge, next)?;
+        list_by_edge(flat, heads, rows, *edge, next)?;
     }
     Ok(())
 }
@@ -155,6 +161,7 @@ fn list_first(top: u32, place: u32, next: &mut Vec<Item>) -> Result<(), AllocFai
 // Lists what the set of a place begins with.
 fn list_seeds(
     flat: &Flat,
+    heads: &Heads,
     top: u32,
     rows: &Rows<'_>,
     edges: &TokenEdges,
@@ -162,13 +169,14 @@ fn list_seeds(
     ending: &mut Vec<HeldEdge>,
     next: &mut Vec<Item>,
 ) -> Result<(), AllocError>
+    requires heads { AreHeads flat.now heads.now }
     requires rows { HasRows flat.now rows.now }
     requires begun { (e : HeldEdge) → Contains edges.now e → e.from < length rows.now.sets }
     ensures listed { OnOk result ((item : Item) → Contains next.new.items item ↔ IsSeed flat.now rows.now.sets top place edges.now item) }
     ensures links { OnOk result (0 < place → RisesBy (MakesScan flat.now rows.now.sets place edges.now) 0 (length next.new.items)) }
 {
     list_first(top, place, next)?;
-    list_scanned(flat, rows, edges, place, ending, next)
+    list_scanned(flat, heads, rows, edges, place, ending, next)
 }
 
 // Lets all items go. An empty set costs no more than a look.
@@ -204,6 +212,7 @@ pub struct Work {
 /// Makes the kernel of the set of a place. Nothing is known of the set after an error.
 pub fn make_kernel<L: Ledger>(
     flat: &Flat,
+    heads: &Heads,
     top: u32,
     rows: &Rows<'_>,
     memo: &mut Memo,
@@ -212,6 +221,7 @@ pub fn make_kernel<L: Ledger>(
     work: &mut Work,
     steps: &mut Steps<L>,
 ) -> Result<(), AllocError>
+    requires heads { AreHeads flat.now heads.now }
     requires top { IsTop flat.now top }
     requires sets { AreReduced flat.now edges.now top rows.now.sets place }
     requires rows { HasRows flat.now rows.now }
@@ -227,6 +237,7 @@ pub fn make_kernel<L: Ledger>(
 {
     list_seeds(
         flat,
+        heads,
         top,
         rows,
         edges,

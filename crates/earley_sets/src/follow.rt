@@ -138,10 +138,7 @@ pub fn list_next<L: Ledger>(
 {
     flat.known();
     match next_symbol(flat, item) {
-        Some(x) => {
-            list_skipped(flat, item, x, next)?;
-            Ok(())
-        }
+        Some(x) => Ok(list_skipped(flat, item, x, next)?),
         None => {
             if item.origin < place {
                 list_done(flat, rows, memo, pair_above(flat, item), next, steps)

@@ -72,7 +72,7 @@ fn make_list<L: Ledger>(
     lists: &mut Lists,
     steps: &mut Steps<L>,
 ) -> Result<u32, AllocError>
-    requires heads { AreHeads flat.now heads.now.rules.items }
+    requires heads { AreHeads flat.now heads.now }
     requires flat { rows.old.flat ≡ flat.now }
     requires once { AllPairs (λ x y. x ≢ y) lists.old.symbols.items }
     requires lists { AreLists flat.now rows.old.shared lists.old.numbers.entries }
@@ -105,7 +105,7 @@ pub fn find_list<L: Ledger>(
     items: &[Item],
     steps: &mut Steps<L>,
 ) -> Result<u32, AllocError>
-    requires heads { AreHeads flat.now heads.now.rules.items }
+    requires heads { AreHeads flat.now heads.now }
     requires flat { rows.old.flat ≡ flat.now }
     requires items { AreItems flat.now items.now }
     requires lists { AreLists flat.now rows.old.shared lists.old.numbers.entries }

@@ -17,16 +17,16 @@ ghost use Rattle.earley_sets.specs.Heads.{AreHeads};
 ghost use Rattle.earley_sets.specs.Begun.{AreLists};
 ghost use Rattle.earley_sets.specs.Scanning.{GoForward, AreReduced};
 ghost use Rattle.earley_sets.specs.Tried.{RisesBy};
-ghost use Rattle.earley_sets.specs.Recognizer.{Recognizer, place_of, set_at, edges_of, top_of, made, new_edge, IsExpected, HasTree, IsRecognizer};
+ghost use Rattle.earley_sets.specs.Recognizer.{Recognizer, earleme_of, set_at, edges_of, top_of, made, new_edge, IsExpected, HasTree, IsRecognizer};
 ghost use Rattle.earley_sets.specs.declared.recce.AlternativeRefusal.TheVariants.{Unexpected, Duplicate, BadLength};
 
 use crate::close::{Work, make_kernel};
-use crate::heads::{Heads, list_heads};
+use crate::heads::{Heads, list_heads, symbol_of};
 use crate::hidden::list_hidden;
 use crate::lists::{Lists, find_list, new_lists};
 use grammar_core::{EdgeRefusal, Flat, SymbolId, TokenEdges};
 use indexmap::IndexSet;
-use item_rows::{Marks, Row, Rows, is_marked, list_expected, mark_row, new_marks, take_marks};
+use item_rows::{Marks, Row, Rows, ascending, is_marked, mark_row, new_marks, take_marks};
 use leo_items::Memo;
 use recognizer_model::Item;
 use slif_base::Steps;
@@ -47,7 +47,7 @@ fn make_row<L: Ledger>(
     work: &mut Work,
     steps: &mut Steps<L>,
 ) -> Result<(), AllocError>
-    requires heads { AreHeads flat.now heads.now.rules.items }
+    requires heads { AreHeads flat.now heads.now }
     requires top { IsTop flat.now top }
     requires sets { AreReduced flat.now edges.now top rows.old.sets (length rows.old.sets) }
     requires rows { HasRows flat.now rows.old }
@@ -66,7 +66,7 @@ fn make_row<L: Ledger>(
         RisesBy (IsLink flat.now (FlatEdges flat.now (Held edges.now)) top (length rows.old.sets)) (steps.old + length memo.new) (steps.new + length memo.old)) }
 {
     let place = rows.len() as u32;
-    make_kernel(flat, top, rows, memo, edges, place, work, steps)?;
+    make_kernel(flat, heads, top, rows, memo, edges, place, work, steps)?;
     let kernel = work.set.as_slice();
     let begun = find_list(flat, heads, rows, lists, kernel, steps)?;
     rows.push(kernel, begun)
@@ -84,7 +84,7 @@ fn add_row<L: Ledger>(
     work: &mut Work,
     steps: &mut Steps<L>,
 ) -> Result<(), AllocError>
-    requires heads { AreHeads flat.now heads.now.rules.items }
+    requires heads { AreHeads flat.now heads.now }
     requires top { IsTop flat.now top }
     requires sets { AreReduced flat.now edges.now top rows.old.sets (length rows.old.sets) }
     requires rows { HasRows flat.now rows.old }
@@ -127,7 +127,7 @@ fn add_first<L: Ledger>(
     requires name { blank.name ≡ L.name }
     requires parts { blank.parts ≡ L.parts }
     requires some { 0 < blank.parts }
-    requires heads { AreHeads flat.now heads.now.rules.items }
+    requires heads { AreHeads flat.now heads.now }
     requires top { IsTop flat.now top }
     requires rows { rows.old.sets ≡ [] }
     requires flat { rows.old.flat ≡ flat.now }
@@ -188,7 +188,7 @@ impl<'g> Model for Recce<'g> {
 
     ghost view = { λ r. record { flat = r.flat.now; start = r.start; edges = r.edges; sets = r.rows.sets; noted = pairs_of r.memo } };
 
-    ghost invariant = { λ r. IsKept (record { flat = r.flat.now; start = r.start; edges = r.edges; sets = r.rows.sets; noted = pairs_of r.memo }) r.top r.memo × AreHeads r.flat.now r.heads.rules.items × (r.rows.flat ≡ r.flat.now) × AreLists r.flat.now r.rows.shared r.lists.numbers.entries × AreLastMarks r.flat.now r.rows.sets r.marks.rows.items };
+    ghost invariant = { λ r. IsKept (record { flat = r.flat.now; start = r.start; edges = r.edges; sets = r.rows.sets; noted = pairs_of r.memo }) r.top r.memo × AreHeads r.flat.now r.heads × (r.rows.flat ≡ r.flat.now) × AreLists r.flat.now r.rows.shared r.lists.numbers.entries × AreLastMarks r.flat.now r.rows.sets r.marks };
 }
 
 /// Items of a set: those that begin at an earlier place, and then the others; each part by the symbol after the dot, whole items last, then by rule, dot and origin.
@@ -277,7 +277,7 @@ impl<'g> Recce<'g> {
 
     /// The last place of which the set is made.
     pub fn place(&self) -> u32
-        ensures place { result ≡ place_of self.now }
+        ensures place { result ≡ earleme_of self.now }
         ensures is { IsRecognizer self.now }
     {
         (self.rows.len() - 1) as u32
@@ -306,7 +306,7 @@ impl<'g> Recce<'g> {
 
     /// Makes the set of the next place. After an error the recognizer is as before. Each step is a try of another link, or notes a Leo pair.
     pub fn complete_earleme<L: Ledger>(&mut self, steps: &mut Steps<L>) -> Result<(), AllocError>
-        requires { place_of self.old < 16777216 }
+        requires { earleme_of self.old < 16777216 }
         ensures same { (self.new.flat ≡ self.old.flat) × (self.new.start ≡ self.old.start) × (self.new.edges ≡ self.old.edges) }
         ensures ok { OnOk result ((set : List Item) × (self.new.sets ≡ self.old.sets ++ set ∷ []) ×
             IsListOf (InReduced self.old.flat (edges_of self.old) (top_of self.old) (length self.old.sets)) set) }
@@ -335,8 +335,19 @@ impl<'g> Recce<'g> {
     pub fn is_expected(&self, t: SymbolId) -> bool
         ensures { IsTrue result ↔ IsExpected self.now t }
     {
-        let last = self.rows.len() - 1;
-        is_marked(self.flat, &self.rows, last, &self.marks, t)
+        let mark = self.rows.len() as u32;
+        match symbol_of(self.flat, &self.heads, t) {
+            Some(symbol) => is_marked(self.flat, &self.marks, mark, symbol, t),
+            None => false,
+        }
+    }
+
+    /// The terminals that are acceptable at the place, each once.
+    pub fn expected_terminals(&self) -> &[SymbolId]
+        ensures once { AllPairs (λ s t. s ≢ t) result.now }
+        ensures exact { (t : ℕ) → Contains result.now t ↔ IsExpected self.now t }
+    {
+        &self.marks.listed
     }
 
     /// The terminals that are acceptable at the place, in the order of their numbers.
@@ -344,8 +355,7 @@ impl<'g> Recce<'g> {
         ensures order { IfOk result (λ ts. AllPairs (λ s t. s < t) ts.items) }
         ensures exact { IfOk result (λ ts. (t : ℕ) → Contains ts.items t ↔ IsExpected self.now t) }
     {
-        let last = self.rows.len() - 1;
-        list_expected(alloc, self.flat, &self.rows, last)
+        ascending(alloc, &self.marks.listed)
     }
 
     /// Whether a tree of the start spans the edges up to the place.
@@ -363,7 +373,7 @@ impl<'g> Recce<'g> {
 
     /// The set of a place, as far as it is kept.
     pub fn kept(&self, j: u32) -> SetView<'_>
-        requires { j ≤ place_of self.now }
+        requires { j ≤ earleme_of self.now }
         ensures { result ≡ set_at self.now j }
     {
         SetView {
@@ -373,7 +383,7 @@ impl<'g> Recce<'g> {
 
     /// Whether an item is kept in the set of a place.
     pub fn has(&self, j: u32, item: Item) -> bool
-        requires { j ≤ place_of self.now }
+        requires { j ≤ earleme_of self.now }
         ensures { IsTrue result ↔ Contains (set_at self.now j) item }
     {
         self.rows.contains(j as usize, item)
@@ -381,7 +391,7 @@ impl<'g> Recce<'g> {
 
     /// The items of a set that wait for a symbol.
     pub fn waiting(&self, j: u32, symbol: u32) -> SetView<'_>
-        requires { j ≤ place_of self.now }
+        requires { j ≤ earleme_of self.now }
         ensures { (item : Item) → Contains result item ↔ (Contains (set_at self.now j) item × (after self.now.flat item ≡ Some symbol)) }
     {
         SetView {
@@ -391,7 +401,7 @@ impl<'g> Recce<'g> {
 
     /// The whole items of a set, as far as they are kept.
     pub fn whole(&self, j: u32) -> SetView<'_>
-        requires { j ≤ place_of self.now }
+        requires { j ≤ earleme_of self.now }
         ensures { IsListOf (λ item. Contains (set_at self.now j) item × IsWhole self.now.flat item) result }
     {
         SetView {
@@ -414,7 +424,7 @@ impl<'g> Recce<'g> {
         from: u32,
         steps: &mut Steps<L>,
     ) -> Result<Vec<Item>, AllocError>
-        requires { j ≤ place_of self.now }
+        requires { j ≤ earleme_of self.now }
         ensures hidden { IfOk result (λ items. IsListOf (λ item. IsHidden self.now.flat (edges_of self.now) (top_of self.now) j item × (from ≤ item.origin)) items.items) }
         ensures full { IfOk result (λ items. (item : Item) → IsWhole self.now.flat item → from ≤ item.origin →
             (Contains (set_at self.now j) item ⊎ Contains items.items item) ↔ InSet self.now.flat (edges_of self.now) (top_of self.now) j item) }
@@ -442,7 +452,7 @@ impl<'g> Recce<'g> {
 
     /// Takes a terminal that begins at the place and is so many places long.
     pub fn alternative(&mut self, t: SymbolId, length: u32) -> Result<(), AlternativeRefusal>
-        requires { place_of self.old < 16777216 }
+        requires { earleme_of self.old < 16777216 }
         ensures same { (self.new.flat ≡ self.old.flat) × (self.new.start ≡ self.old.start) × (self.new.sets ≡ self.old.sets) × (self.new.noted ≡ self.old.noted) }
         ensures ok { OnOk result (self.new.edges ≡ self.old.edges ++ new_edge self.old t length ∷ []) }
         ensures err { OnErr result (self.new ≡ self.old) }

@@ -1,5 +1,8 @@
 -- Decisions of parts, of numbers, and of numbers below a bound.
-use Rattle.std.proofs.Common.{arith, ◌≡◌, ◌⊎◌, inl, inr, ℕ, zero, suc, ◌<◌, ◌≤◌, Bool, true, false, sym, subst, refl, true≢false}
+use Rattle.std.proofs.Common.{arith, ℤ, ◌≤ℤ◌, T, ◌≡◌, ◌⊎◌, inl, inr, ℕ, zero, suc, ◌<◌, ◌≤◌, Bool, true, false, sym, subst, refl, true≢false}
+use Rattle.std.specs.Int.Signed.{le_z, le_z_yes}
+use Rattle.std.proofs.lemmas.Bool.{cases_lt}
+use Rattle.std.proofs.lemmas.Int.{ints}
 use Rattle.finite_sets.specs.Decided.{IsDecided}
 
 pub both : {A B : Type 0} → IsDecided A → IsDecided B → IsDecided (A × B)
@@ -51,9 +54,6 @@ is_true false = inr (λ e. true≢false (sym e))
 
 -- ---- numbers
 
-pub lt_or : (a b : ℕ) → (a < b) ⊎ (b ≤ a)
-lt_or a b = grind arith
-
 pub same_or_below : (i n : ℕ) → i < suc n → (i < n) ⊎ (i ≡ n)
 same_or_below i n lt = grind arith
 
@@ -61,10 +61,26 @@ pub equal : (a b : ℕ) → IsDecided (a ≡ b)
 equal a b = grind arith
 
 pub less : (a b : ℕ) → IsDecided (a < b)
-less a b = elim (lt_or a b) [ inl lt ↦ inl lt | inr le ↦ inr (λ lt. absurd (omega arith)) ]
+less a b = elim (cases_lt a b) [ inl lt ↦ inl lt | inr le ↦ inr (λ lt. absurd (omega arith)) ]
 
 pub at_most : (a b : ℕ) → IsDecided (a ≤ b)
-at_most a b = elim (lt_or b a) [ inl lt ↦ inr (λ le. absurd (omega arith)) | inr le ↦ inl le ]
+at_most a b = elim (cases_lt b a) [ inl lt ↦ inr (λ le. absurd (omega arith)) | inr le ↦ inl le ]
+
+pub most_decided : (a b : ℤ) → IsDecided (a ≤ℤ b)
+most_decided a b = go (le_z a b) refl
+  where
+    go : (t : Bool) → le_z a b ≡ t → IsDecided (a ≤ℤ b)
+    go true e = inl (le_z_yes (subst T (sym e) tt))
+    go false e = inr (λ h. subst T e h.le)
+
+pub most_itself : (x : ℤ) → x ≤ℤ x
+most_itself x = omega (arith, ints)
+
+pub most_through : (x y z : ℤ) → x ≤ℤ y → y ≤ℤ z → x ≤ℤ z
+most_through x y z a b = omega (arith, ints, a, b)
+
+pub most_twice : (x y : ℤ) → x ≤ℤ y → y ≤ℤ x → x ≡ y
+most_twice x y a b = omega (arith, ints, a, b)
 
 -- ---- numbers below a bound
 

@@ -1,5 +1,7 @@
 pub mod Deciding
 pub mod Members
+pub mod Lists
+pub mod Clauses
 pub mod Choosing
 pub mod Rounds
 pub mod Walks

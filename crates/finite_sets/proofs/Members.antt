@@ -1,5 +1,5 @@
 -- Members of lists, and searches among them.
-use Rattle.std.proofs.Common.{arith, ◌≡◌, ◌≢◌, ◌⊎◌, inl, inr, ℕ, zero, suc, ◌<◌, ◌≤◌, List, [], ◌∷◌, ◌++◌, map, length, sym, ◌∙◌, ap, subst, refl, Contains, AllPairs, flat_map, slice_index_or}
+use Rattle.std.proofs.Common.{arith, ◌≡◌, ◌≢◌, ◌⊎◌, inl, inr, ℕ, zero, suc, ◌<◌, ◌≤◌, Bool, true, false, cond, true≢false, filter, List, [], ◌∷◌, ◌++◌, map, length, sym, ◌∙◌, ap, subst, refl, Contains, AllPairs, flat_map, slice_index_or}
 use Rattle.finite_sets.specs.Decided.{IsDecided}
 use Rattle.finite_sets.proofs.Deciding.{both, one_of, moved}
 
@@ -118,7 +118,7 @@ abbrev pub Once : {X : Type 0} → List X → Type 0
 Once [] = Unit {0}
 Once (x ∷ xs) = (Among x xs → ⊥) × Once xs
 
-among_at : {X : Type 0} (xs : List X) (k : ℕ) (d : X) → k < length xs → Among (slice_index_or xs k d) xs
+pub among_at : {X : Type 0} (xs : List X) (k : ℕ) (d : X) → k < length xs → Among (slice_index_or xs k d) xs
 among_at [] k d lt = absurd (omega arith)
 among_at (x ∷ xs) zero d lt = inl refl
 among_at (x ∷ xs) (suc k) d lt = inr (among_at xs k d (omega arith))
@@ -132,6 +132,54 @@ once_pairs (x ∷ xs) h (suc i) (suc j) d lt within e = once_pairs xs h.1 i j d 
 pub pairs_once : {X : Type 0} (xs : List X) → AllPairs (λ x y. x ≢ y) xs → Once xs
 pairs_once [] h = tt
 pairs_once (x ∷ xs) h = ((λ m. let (k, lt, e) = contains_from xs x m in h 0 (suc k) x (omega arith) (omega (arith, lt)) (sym e)), pairs_once xs (λ i j d lt within. h (suc i) (suc j) d (omega (arith, lt)) (omega (arith, within))))
+
+pub once_append : {X : Type 0} (xs ys : List X) → Once xs → Once ys → ((x : X) → Among x xs → Among x ys → ⊥) → Once (xs ++ ys)
+once_append [] ys h k apart = k
+once_append (x ∷ xs) ys h k apart =
+    ((λ m. elim (among_either x xs ys m) [ inl a ↦ h.0 a | inr a ↦ apart x (inl refl) a ]), once_append xs ys h.1 k (λ y a b. apart y (inr a) b))
+
+pub once_map : {X Y : Type 0} (f : X → Y) (xs : List X) → ((x y : X) → f x ≡ f y → x ≡ y) → Once xs → Once (map f xs)
+once_map f [] one h = tt
+once_map f (x ∷ xs) one h =
+    ((λ m. let (y, a, e) = among_map_from f (f x) xs m in h.0 (subst (λ z. Among z xs) (one y x e) a)), once_map f xs one h.1)
+
+pub once_flat_map : {X Y : Type 0} (f : X → List Y) (xs : List X) → Once xs → ((x : X) → Among x xs → Once (f x)) →
+    ((x z : X) (y : Y) → Among x xs → Among z xs → Among y (f x) → Among y (f z) → x ≡ z) → Once (flat_map f xs)
+once_flat_map f [] h each one = tt
+once_flat_map f (x ∷ xs) h each one =
+    once_append (f x) (flat_map f xs) (each x (inl refl)) (once_flat_map f xs h.1 (λ z m. each z (inr m)) (λ z t y m n a b. one z t y (inr m) (inr n) a b))
+    (λ y a b. let (z, m, c) = among_flat_map_from f y xs b in h.0 (subst (λ t. Among t xs) (sym (one x z y (inl refl) (inr m) a c)) m))
+
+-- ---- what a test keeps
+
+pub among_filter : {X : Type 0} (test : X → Bool) (x : X) (xs : List X) → Among x xs → test x ≡ true → Among x (filter test xs)
+among_filter test x [] m e = absurd m
+among_filter {X} test x (y ∷ ys) m e = go (test y) refl (λ k. among_filter test x ys k e) m
+  where
+    go : (b : Bool) → test y ≡ b → (Among x ys → Among x (filter test ys)) → (y ≡ x) ⊎ Among x ys → Among x (cond b (y ∷ filter test ys) (filter test ys))
+    go true is ih (inl same) = inl same
+    go true is ih (inr k) = inr (ih k)
+    go false is ih (inl same) = absurd (true≢false (sym e ∙ ap test (sym same) ∙ is))
+    go false is ih (inr k) = ih k
+
+pub among_filter_from : {X : Type 0} (test : X → Bool) (x : X) (xs : List X) → Among x (filter test xs) → Among x xs × (test x ≡ true)
+among_filter_from test x [] m = absurd m
+among_filter_from {X} test x (y ∷ ys) m = go (test y) refl (λ k. among_filter_from test x ys k) m
+  where
+    go : (b : Bool) → test y ≡ b → (Among x (filter test ys) → Among x ys × (test x ≡ true)) → Among x (cond b (y ∷ filter test ys) (filter test ys)) → Among x (y ∷ ys) × (test x ≡ true)
+    go true is ih (inl same) = (inl same, ap test (sym same) ∙ is)
+    go true is ih (inr k) = let (a, e) = ih k in (inr a, e)
+    go false is ih k = let (a, e) = ih k in (inr a, e)
+
+pub once_filter : {X : Type 0} (test : X → Bool) (xs : List X) → Once xs → Once (filter test xs)
+once_filter test [] h = tt
+once_filter {X} test (x ∷ xs) h = go (test x) (once_filter test xs h.1)
+  where
+    go : (b : Bool) → Once (filter test xs) → Once (cond b (x ∷ filter test xs) (filter test xs))
+    go true ih = ((λ m. h.0 (among_filter_from test x xs m).0), ih)
+    go false ih = ih
+
+-- ---- lists without an element, and of those that are decided
 
 -- a list without one of its elements
 pub without : {X : Type 0} (x : X) (xs : List X) → Among x xs →

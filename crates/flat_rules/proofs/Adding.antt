@@ -1,30 +1,31 @@
 -- Flat rules that are added, one part of a list after another.
-use Rattle.std.proofs.Common.{◌≡◌, ℕ, zero, suc, ◌+◌, ◌<◌, ◌≤◌, Bool, true, cond, List, [], ◌∷◌, ◌++◌, length, map, take, drop, get_or, Result, Ok, Err, refl, sym, ap, ◌∙◌, subst, arith, append_assoc, length-append}
+use Rattle.std.proofs.Common.{◌≡◌, ℕ, ◌+◌, ◌<◌, ◌≤◌, Bool, true, cond, List, [], ◌∷◌, ◌++◌, length, map, take, drop, get_or, Result, Ok, Err, sym, ap, ◌∙◌, subst, arith, append_assoc, length-append}
 use Rattle.std.specs.List.{flat_map}
 use Rattle.std.specs.declared.vec.Vec.{Vec}
 use Rattle.std.specs.declared.alloc.Global.{Global}
 use Rattle.std.specs.Prelude.{slice_get, Some}
 use Rattle.std.specs.Result.{IsErrAnd}
 use Rattle.std.proofs.lemmas.Grind.{flat_map-append}
-use Rattle.std.proofs.lemmas.List.{map-append, take_more, take-append-drop}
+use Rattle.std.proofs.lemmas.List.{map-append, take_more, take-append-drop, append-nil, length-map, take_all}
+use Rattle.finite_sets.proofs.Lists.{get_index}
 use Rattle.grammar_model.specs.Simple.{numbers}
 use Rattle.recognizer_model.specs.Flat.{FlatRule}
 use Rattle.flat_rules.specs.declared.refusal.FlatRefusal.{FlatRefusal}
 use Rattle.flat_rules.specs.declared.refusal.FlatRefusal.TheVariants.{TooManyRules, NoMemory}
 use Rattle.grammar_model.specs.Grammar.{WrittenRule}
 use Rattle.recognizer_model.specs.declared.flat.FlatSymbol.TheVariants.{Sequence, Top}
-use Rattle.recognizer_model.proofs.FlatNamed.{map_at, map_length, get_index}
+use Rattle.recognizer_model.proofs.FlatNamed.{map_at}
 use Rattle.flat_rules.specs.Tables.{Numbering, number_in}
 use Rattle.flat_rules.specs.Added.{Adds, AreAll, rule_by, part_in, longer_by, has_separator_rule}
 use Rattle.flat_model.specs.Flattened.{most_rules}
 use Rattle.flat_rules.proofs.FlatOf.{numbers_length, numbers_at}
-use Rattle.flat_rules.proofs.Rows.{numbers_next, append_none}
+use Rattle.flat_rules.proofs.Rows.{numbers_next}
 
 pub map_next : {X : Type 0} (g : ℕ → X) (n : ℕ) → map g (numbers (n + 1)) ≡ map g (numbers n) ++ g n ∷ []
 map_next g n = ap (map g) (numbers_next n) ∙ map-append g (numbers n) (n ∷ [])
 
 pub adds_none : {T : Type 0} (old : List FlatRule) (x : T) → Adds old old [] (Ok x)
-adds_none old x = (sym (append_none old), (λ le. le))
+adds_none old x = (sym (append-nil old), (λ le. le))
 
 pub adds_two : {T U : Type 0} (old mid new a b : List FlatRule) (x : T) (r : Result U FlatRefusal) → Adds old mid a (Ok x) → Adds mid new b r → Adds old new (a ++ b) r
 adds_two old mid new a b x (Ok y) h k = (k.0 ∙ ap (λ l. l ++ b) h.0 ∙ append_assoc old a b, (λ le. k.1 (h.1 le)))
@@ -52,7 +53,7 @@ adds_to old new a b r e h = subst (λ l. Adds old new l r) e h
 part_more : {X : Type 0} (g : X → List FlatRule) (xs : List X) (n : ℕ) (x : X) → n < length xs → x ≡ get_or xs n x → flat_map g (take n xs) ++ g x ≡ flat_map g (take (n + 1) xs)
 part_more g xs n x lt is =
     let more : take (n + 1) xs ≡ take n xs ++ get_or xs n x ∷ [] = grind (arith, take_more) in
-    sym (ap (flat_map g) (more ∙ ap (λ y. take n xs ++ y ∷ []) (sym is)) ∙ flat_map-append g (take n xs) (x ∷ []) ∙ ap (λ l. flat_map g (take n xs) ++ l) (append_none (g x)))
+    sym (ap (flat_map g) (more ∙ ap (λ y. take n xs ++ y ∷ []) (sym is)) ∙ flat_map-append g (take n xs) (x ∷ []) ∙ ap (λ l. flat_map g (take n xs) ++ l) (append-nil (g x)))
 
 parts_all : {X : Type 0} (g : X → List FlatRule) (xs : List X) (n : ℕ) → flat_map g (take n xs) ++ flat_map g (drop n xs) ≡ flat_map g xs
 parts_all g xs n = sym (flat_map-append g (take n xs) (drop n xs)) ∙ ap (flat_map g) (take-append-drop n xs)
@@ -85,18 +86,12 @@ pub loop_next : {X : Type 0} (g : X → List FlatRule) (xs : List X) (n : ℕ) (
     Adds {T = Done} start mid (flat_map g (take n xs)) (Ok tt) → Adds {T = Done} mid new (g x) (Ok tt) → Adds {T = Done} start new (flat_map g (take (n + 1) xs)) (Ok tt)
 loop_next g xs n x start mid new lt is h k = adds_next {T = Done} {U = Done} g xs n x start mid new tt tt lt is h k
 
-pub take_all : {X : Type 0} (xs : List X) (n : ℕ) → length xs ≤ n → take n xs ≡ xs
-take_all [] zero le = refl
-take_all [] (suc n) le = refl
-take_all (x ∷ xs) zero le = absurd (omega arith)
-take_all (x ∷ xs) (suc n) le = ap (λ l. x ∷ l) (take_all xs n (omega arith))
-
 pub loop_end : {X : Type 0} (g : X → List FlatRule) (xs : List X) (n : ℕ) (start new : List FlatRule) → length xs ≤ n → Adds {T = Done} start new (flat_map g (take n xs)) (Ok tt) → Adds {T = Done} start new (flat_map g xs) (Ok tt)
-loop_end g xs n start new le h = adds_to {T = Done} start new (flat_map g (take n xs)) (flat_map g xs) (Ok tt) (ap (flat_map g) (take_all xs n le)) h
+loop_end g xs n start new le h = adds_to {T = Done} start new (flat_map g (take n xs)) (flat_map g xs) (Ok tt) (ap (flat_map g) (take_all n xs le)) h
 
 -- what stands at a place of a list that is made of another
 pub at_map : {A B : Type 0} (g : A → B) (xs : List A) (k : ℕ) (d : A) → k < length xs → (k < length (map g xs)) × (g (get_or xs k d) ≡ get_or (map g xs) k (g (get_or xs k d)))
-at_map g xs k d lt = let long = map_length g xs in (omega (arith, long, lt), sym (map_at g xs k d (g (get_or xs k d)) lt))
+at_map g xs k d lt = let long = length-map xs g in (omega (arith, long, lt), sym (map_at g xs k d (g (get_or xs k d)) lt))
 
 pub take_step : {A B : Type 0} (g : A → B) (xs : List A) (n : ℕ) (x : A) (y : B) (start old new : List B) → n < length xs → x ≡ get_or xs n x → old ≡ start ++ map g (take n xs) → new ≡ old ++ y ∷ [] → y ≡ g x → new ≡ start ++ map g (take (n + 1) xs)
 take_step g xs n x y start old new lt is h e same =

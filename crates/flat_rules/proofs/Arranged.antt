@@ -1,13 +1,12 @@
 -- The flat grammar is arranged: terminals first, by number, and the rules of a symbol together.
 use Rattle.std.proofs.Common.{◌≡◌, ℕ, zero, suc, ◌<◌, ◌≤◌, Bool, List, [], ◌∷◌, ◌++◌, ◌⊎◌, inl, inr, Some, refl, ap, ◌∙◌, subst, arith}
-use Rattle.std.specs.Prelude.{◌↔◌, Contains, slice_get, slice_index, slice_index_or, ◌^◌}
+use Rattle.std.specs.Prelude.{slice_get, slice_index_or}
 use Rattle.grammar_model.specs.Grammar.{Grammar, slot_of}
-use Rattle.grammar_model.proofs.Lists.{Among}
 use Rattle.recognizer_model.specs.Flat.{FlatGrammar, IsRule, lhs_of}
 use Rattle.recognizer_model.specs.declared.flat.FlatSymbol.{FlatSymbol}
 use Rattle.recognizer_model.specs.declared.flat.FlatSymbol.TheVariants.{Terminal}
 use Rattle.recognizer_model.specs.FlatForm.{NamedRule}
-use Rattle.recognizer_model.proofs.FlatNamed.{get_index, index_get, among_at, at_among}
+use Rattle.recognizer_model.proofs.FlatNamed.{at_among}
 use Rattle.flat_model.specs.Flatten
 use Rattle.flat_model.specs.Flatten.{Decided}
 use Rattle.flat_rules.proofs.Symbols.{symbol_in}
@@ -16,12 +15,14 @@ use Rattle.flat_rules.proofs.FlatOf.{no_named, rules_length}
 use Rattle.std.specs.Prelude.{filter}
 use Rattle.std.specs.List.{AllPairs, flat_map}
 use Rattle.std.proofs.lemmas.List.Kept.{AllPairs-filter}
+use Rattle.std.proofs.lemmas.Option.{slice_get-get_or}
+use Rattle.finite_sets.proofs.Members.{Among, among_at, among_either, among_flat_map_from}
+use Rattle.finite_sets.proofs.Lists.{get_map, get_among, get_index, get_mapped}
 use Rattle.grammar_model.specs.Simple.{is_terminal, numbers}
-use Rattle.grammar_model.proofs.Lists.{among_either, among_flat_map_from}
 use Rattle.recognizer_model.specs.Invariant.{IsArranged}
 use Rattle.flat_rules.proofs.Symbols.{later_in}
 use Rattle.flat_rules.proofs.FlatOf.{numbers_at, numbers_length}
-use Rattle.flat_rules.proofs.Named.{lhs_is, at_number, get_among, map_get, get_mapped}
+use Rattle.flat_rules.proofs.Named.{lhs_is, at_number}
 
 -- ---- lists in order, by recursion
 
@@ -92,10 +93,10 @@ module _ (w : Grammar) (d : Decided w) where
   get_either (x ∷ xs) ys zero s e = inl e
   get_either (x ∷ xs) ys (suc y) s e = get_either xs ys y s e
 
-  get_front : (xs ys : List FlatSymbol) (x : ℕ) (s : FlatSymbol) → slice_get xs x ≡ Some s → slice_get (xs ++ ys) x ≡ Some s
-  get_front [] ys x s e = cc
-  get_front (y ∷ xs) ys zero s e = e
-  get_front (y ∷ xs) ys (suc x) s e = get_front xs ys x s e
+  get_prefix : (xs ys : List FlatSymbol) (x : ℕ) (s : FlatSymbol) → slice_get xs x ≡ Some s → slice_get (xs ++ ys) x ≡ Some s
+  get_prefix [] ys x s e = cc
+  get_prefix (y ∷ xs) ys zero s e = e
+  get_prefix (y ∷ xs) ys (suc x) s e = get_prefix xs ys x s e
 
   terminals : (x y t : ℕ) → x < y → slice_get f.symbols y ≡ Some (Terminal t) → (s : ℕ) × (slice_get f.symbols x ≡ Some (Terminal s)) × (s < t)
   terminals x y t lt e = go (get_either (Flatten.terminals w d) rest y (Terminal t) e)
@@ -103,12 +104,12 @@ module _ (w : Grammar) (d : Decided w) where
       go : (slice_get (Flatten.terminals w d) y ≡ Some (Terminal t)) ⊎ Among (Terminal t) rest → (s : ℕ) × (slice_get f.symbols x ≡ Some (Terminal s)) × (s < t)
       go (inr m) = absurd (rest_other t m)
       go (inl here) =
-          let (u, at, same) = map_get Terminal of_terminals y (Terminal t) here in
+          let (u, at, same) = get_mapped Terminal of_terminals y (Terminal t) here in
           let (within, is) = get_index of_terminals y 0 u at in
           let less = AllPairs-filter (λ a b. a < b) passes (numbers d.symbols) (numbers_ordered d.symbols) x y 0 lt within in
           let equal : u ≡ t = cc in
           let first = slice_index_or of_terminals x 0 in
-          (first, get_front (Flatten.terminals w d) rest x (Terminal first) (get_mapped Terminal of_terminals x first (index_get of_terminals x 0 (omega arith))), subst (λ z. first < z) (is ∙ equal) less)
+          (first, get_prefix (Flatten.terminals w d) rest x (Terminal first) (get_map Terminal of_terminals x first (slice_get-get_or of_terminals x 0 (omega arith))), subst (λ z. first < z) (is ∙ equal) less)
 
   -- ---- rules
 
@@ -120,8 +121,8 @@ module _ (w : Grammar) (d : Decided w) where
 
   symbols_ordered : Ordered NotAfter f.symbols
   symbols_ordered = pairs_ordered NotAfter f.symbols (λ i j s lt within. (
-      let a = at_number w d i (slice_index_or f.symbols i s) (index_get f.symbols i s (omega arith)) in
-      let b = at_number w d j (slice_index_or f.symbols j s) (index_get f.symbols j s within) in omega arith))
+      let a = at_number w d i (slice_index_or f.symbols i s) (slice_get-get_or f.symbols i s (omega arith)) in
+      let b = at_number w d j (slice_index_or f.symbols j s) (slice_get-get_or f.symbols j s within) in omega arith))
 
   left_of : (x : FlatSymbol) (n : NamedRule) → Among x f.symbols → Among n (Flatten.rules_of w d x) → number_of n.left ≡ number_of x
   left_of x n m a = ap number_of (rule_in w d x n (symbol_in w d x m) a).1

@@ -1,24 +1,24 @@
 -- What a check tells by tests is what it decides; and the slots that are numbered, each once.
-use Rattle.std.proofs.Common.{◌≡◌, ◌≢◌, ℕ, zero, suc, ◌+◌, ◌<◌, ◌≤◌, Bool, true, false, List, [], ◌∷◌, ◌++◌, length, map, inl, inr, refl, sym, ap, ◌∙◌, subst, arith}
+use Rattle.std.proofs.Common.{◌≡◌, ◌≢◌, ℕ, zero, suc, ◌+◌, ◌<◌, Bool, true, false, List, [], ◌∷◌, ◌++◌, length, map, inl, inr, refl, sym, ap, ◌∙◌, subst, arith}
 use Rattle.std.specs.Prelude.{◌&&◌, ◌^◌, filter, not, slice_index_or}
 use Rattle.std.specs.List.{AllPairs, flat_map}
-use Rattle.grammar_model.specs.Grammar.{WrittenRule, Grammar, rule_at, no_rule, slot_of, level_of}
+use Rattle.std.proofs.lemmas.List.{append_assoc, map-append}
+use Rattle.std.proofs.lemmas.Bool.{not-true, and_from, and_parts}
+use Rattle.std.proofs.lemmas.Simd.{map-map}
+use Rattle.finite_sets.proofs.Members.{among_filter_from, among_left, among_either, among_map, among_map_from, among_flat_map_from, among_at, once_pairs, Among, Once}
+use Rattle.grammar_model.specs.Grammar.{WrittenRule, Grammar, no_rule, slot_of, level_of}
 use Rattle.grammar_model.specs.Grammar
 use Rattle.grammar_model.specs.Simple.{is_terminal, numbers}
-use Rattle.grammar_model.proofs.Lists.{Among, among_left, among_map, among_either, among_map_from, among_flat_map_from}
 use Rattle.grammar_core.specs.Written.{IsWritten}
 use Rattle.slot_analysis.specs.Tested.{HasTests}
 use Rattle.slot_analysis.specs.Few.{FewAreAccessible}
 use Rattle.recognizer_model.specs.FlatForm.{IsUsedSlot}
-use Rattle.recognizer_model.proofs.FlatNamed.{among_at}
 use Rattle.recognizer_model.specs.declared.flat.FlatSymbol.TheVariants.{Terminal, Slot}
 use Rattle.flat_model.specs.Flatten
 use Rattle.flat_model.specs.Flatten.{Decided, levels_of}
 use Rattle.flat_rules.specs.declared.numbering.SlotKey.{SlotKey}
 use Rattle.flat_rules.specs.Tables.{told_slot, slot_at, slots_of_terminals, slots_of_lefts}
-use Rattle.flat_rules.proofs.Once.{Once, once_pairs, among_filter_from}
-use Rattle.flat_rules.proofs.Symbols.{both, both_from, false_of_not, once_symbols}
-use Rattle.flat_rules.proofs.FlatOf.{append_all}
+use Rattle.flat_rules.proofs.Symbols.{once_symbols}
 use Rattle.flat_rules.proofs.Listing.{used_known, productive_rule}
 
 -- ---- what is decided
@@ -36,8 +36,8 @@ pub decided_of : (w : Grammar) → IsWritten w → HasTests w → Decided w
 decided_of w written t = record {
   used = λ s. t.accessible s && t.productive s;
   used_is = λ s. (
-    (λ e. (let (a, b) = both_from (t.accessible s) (t.productive s) e in ((t.accessible_is s).0 a, (t.productive_is s).0 b))),
-    (λ u. both (t.accessible s) (t.productive s) ((t.accessible_is s).1 u.0) ((t.productive_is s).1 u.1)),
+    (λ e. (let (a, b) = and_parts (t.accessible s) (t.productive s) e in ((t.accessible_is s).0 a, (t.productive_is s).0 b))),
+    (λ u. and_from (t.accessible s) (t.productive s) ((t.accessible_is s).1 u.0) ((t.productive_is s).1 u.1)),
   );
   productive = t.productive;
   productive_is = t.productive_is;
@@ -66,17 +66,9 @@ map_filter f g p xs same = go (filter p xs) (λ k m. same k (among_filter_from p
     go [] h = refl
     go (y ∷ ys) h = λ i. h y (inl refl) i ∷ go ys (λ k m. h k (inr m)) i
 
-pub map_twice : {X Y Z : Type 0} (g : Y → Z) (f : X → Y) (xs : List X) → map g (map f xs) ≡ map (λ x. g (f x)) xs
-map_twice g f [] = refl
-map_twice g f (x ∷ xs) = ap (λ l. g (f x) ∷ l) (map_twice g f xs)
-
-pub map_both : {X Y : Type 0} (f : X → Y) (xs ys : List X) → map f (xs ++ ys) ≡ map f xs ++ map f ys
-map_both f [] ys = refl
-map_both f (x ∷ xs) ys = ap (λ l. f x ∷ l) (map_both f xs ys)
-
 pub map_flat : {K X Y : Type 0} (f : X → Y) (g : K → List X) (h : K → List Y) (xs : List K) → ((k : K) → map f (g k) ≡ h k) → map f (flat_map g xs) ≡ flat_map h xs
 map_flat f g h [] same = refl
-map_flat f g h (x ∷ xs) same = map_both f (g x) (flat_map g xs) ∙ (λ i. same x i ++ map_flat f g h xs same i)
+map_flat f g h (x ∷ xs) same = map-append f (g x) (flat_map g xs) ∙ (λ i. same x i ++ map_flat f g h xs same i)
 
 module _ (w : Grammar) (d : Decided w) where
   abbrev pub slots_in : List Grammar.Slot
@@ -91,22 +83,22 @@ module _ (w : Grammar) (d : Decided w) where
   terminals_are : map (Flatten.symbol_for w d) (slots_of_terminals w d) ≡ Flatten.terminals w d
   terminals_are =
       let p : ℕ → Bool = λ s. is_terminal w s && d.used (slot_of s) in
-      map_twice (Flatten.symbol_for w d) slot_of (filter p (numbers d.symbols))
-      ∙ map_filter (λ s. Flatten.symbol_for w d (slot_of s)) Terminal p (numbers d.symbols) (λ s t. terminal_symbol s 0 (both_from (is_terminal w s) (d.used (slot_of s)) t).0)
+      map-map (Flatten.symbol_for w d) slot_of (filter p (numbers d.symbols))
+      ∙ map_filter (λ s. Flatten.symbol_for w d (slot_of s)) Terminal p (numbers d.symbols) (λ s t. terminal_symbol s 0 (and_parts (is_terminal w s) (d.used (slot_of s)) t).0)
 
   slots_are : map (Flatten.symbol_for w d) (slots_of_lefts w d) ≡ Flatten.slots w d
   slots_are =
       map_flat (Flatten.symbol_for w d) (λ s. map (slot_at s) (levels_of w d s)) (λ s. map (Slot s) (levels_of w d s)) (numbers d.symbols)
-      (λ s. map_twice (Flatten.symbol_for w d) (slot_at s) (levels_of w d s)
+      (λ s. map-map (Flatten.symbol_for w d) (slot_at s) (levels_of w d s)
       ∙ map_filter (λ k. Flatten.symbol_for w d (slot_at s k)) (Slot s) (λ k. not (is_terminal w s) && d.used (slot_at s k)) (numbers d.levels)
-      (λ k t. left_symbol s k (false_of_not (is_terminal w s) (both_from (not (is_terminal w s)) (d.used (slot_at s k)) t).0)))
+      (λ k t. left_symbol s k (not-true (is_terminal w s) (and_parts (not (is_terminal w s)) (d.used (slot_at s k)) t).0)))
 
-  pub front_is : Flatten.terminals w d ++ Flatten.slots w d ≡ map (Flatten.symbol_for w d) slots_in
-  front_is = (λ i. sym terminals_are i ++ sym slots_are i) ∙ sym (map_both (Flatten.symbol_for w d) (slots_of_terminals w d) (slots_of_lefts w d))
+  pub prefix_is : Flatten.terminals w d ++ Flatten.slots w d ≡ map (Flatten.symbol_for w d) slots_in
+  prefix_is = (λ i. sym terminals_are i ++ sym slots_are i) ∙ sym (map-append (Flatten.symbol_for w d) (slots_of_terminals w d) (slots_of_lefts w d))
 
   -- the symbols, slots first
   pub symbols_split : Flatten.symbols w d ≡ map (Flatten.symbol_for w d) slots_in ++ (Flatten.lists w d ++ Flatten.tops w d)
-  symbols_split = sym (append_all (Flatten.terminals w d) (Flatten.slots w d) (Flatten.lists w d ++ Flatten.tops w d)) ∙ ap (λ l. l ++ (Flatten.lists w d ++ Flatten.tops w d)) front_is
+  symbols_split = sym (append_assoc (Flatten.terminals w d) (Flatten.slots w d) (Flatten.lists w d ++ Flatten.tops w d)) ∙ ap (λ l. l ++ (Flatten.lists w d ++ Flatten.tops w d)) prefix_is
 
   pub once_slots_in : Once slots_in
   once_slots_in =
@@ -118,12 +110,12 @@ slots_used w d slot m = elim (among_either slot (slots_of_terminals w d) (slots_
   | inl a ↦
       let p : ℕ → Bool = λ s. is_terminal w s && d.used (slot_of s) in
       let (s, b, e) = among_map_from slot_of slot (filter p (numbers d.symbols)) a in
-      subst (IsUsedSlot w) e ((d.used_is (slot_of s)).0 (both_from (is_terminal w s) (d.used (slot_of s)) (among_filter_from p s (numbers d.symbols) b).1).1)
+      subst (IsUsedSlot w) e ((d.used_is (slot_of s)).0 (and_parts (is_terminal w s) (d.used (slot_of s)) (among_filter_from p s (numbers d.symbols) b).1).1)
   | inr a ↦
       let (s, there, b) = among_flat_map_from (λ s. map (slot_at s) (levels_of w d s)) slot (numbers d.symbols) a in
       let (k, here, e) = among_map_from (slot_at s) slot (levels_of w d s) b in
       let p : ℕ → Bool = λ k. not (is_terminal w s) && d.used (slot_at s k) in
-      subst (IsUsedSlot w) e ((d.used_is (slot_at s k)).0 (both_from (not (is_terminal w s)) (d.used (slot_at s k)) (among_filter_from p k (numbers d.levels) here).1).1)
+      subst (IsUsedSlot w) e ((d.used_is (slot_at s k)).0 (and_parts (not (is_terminal w s)) (d.used (slot_at s k)) (among_filter_from p k (numbers d.levels) here).1).1)
 ]
 
 -- and of a known symbol

@@ -1,16 +1,17 @@
 -- Marks and heights of the flat grammar.
 use Rattle.std.proofs.Common.{◌≡◌, ◌≢◌, ℕ, zero, suc, ◌<◌, ◌+◌, List, length, Some, refl, sym, ap, ◌∙◌, subst, arith, lit<, lit≤}
-use Rattle.std.specs.Prelude.{◌↔◌, Contains, slice_get, slice_index, slice_index_or, ◌^◌}
-use Rattle.grammar_model.specs.Grammar.{PlainRule, SequenceRule, WrittenRule, Plain, Grammar, slot_of, child_slot, Fits, slot_count, sequence_symbol}
+use Rattle.std.specs.Prelude.{slice_get, slice_index, slice_index_or}
+use Rattle.std.proofs.lemmas.Option.{slice_get-get_or}
+use Rattle.finite_sets.proofs.Lists.{get_index}
+use Rattle.grammar_model.specs.Grammar.{PlainRule, SequenceRule, Plain, Grammar, slot_of, child_slot, Fits, sequence_symbol}
 use Rattle.grammar_model.specs.Grammar
 use Rattle.grammar_model.specs.Analysis
-use Rattle.grammar_model.specs.Analysis.{IsProductive, IsAccessible, IsLive}
 use Rattle.grammar_model.specs.Checked.{IsChecked}
 use Rattle.recognizer_model.specs.Flat.{FlatGrammar, IsRule, lhs_of, part_of, IsNullable}
 use Rattle.recognizer_model.specs.declared.flat.FlatSymbol.{FlatSymbol}
 use Rattle.recognizer_model.specs.declared.flat.FlatSymbol.TheVariants.{Terminal, Slot, Sequence, Top}
 use Rattle.recognizer_model.specs.FlatForm.{IsUsedSlot, IsSymbolOf, Stands, AsTerminal, AsSlot, StandAll, NamedRule, IsRuleOf, OfPlain, OfList, OfTrailing, OfItem, OfItems, OfSeparated, OfTop, symbol_at, SpansNothing}
-use Rattle.recognizer_model.proofs.FlatNamed.{get_index, index_get, all_at}
+use Rattle.recognizer_model.proofs.FlatNamed.{all_at}
 use Rattle.flat_model.specs.Flatten
 use Rattle.flat_model.specs.Flatten.{Decided}
 use Rattle.flat_rules.proofs.Symbols.{in_symbols}
@@ -60,7 +61,7 @@ module _ (w : Grammar) (d : Decided w) (c : IsChecked w) where
       child j less =
           let st = all_at w (Plain r) 0 right j all less in
           let e : 0 + j ≡ j = omega arith in
-          subst (λ z. Analysis.IsNullable w (child_slot (Plain r) z)) e (stands_null (child_slot (Plain r) (0 + j)) (slice_index_or right j (Top 0)) st (h j (slice_index_or right j (Top 0)) (index_get right j (Top 0) less)))
+          subst (λ z. Analysis.IsNullable w (child_slot (Plain r) z)) e (stands_null (child_slot (Plain r) (0 + j)) (slice_index_or right j (Top 0)) st (h j (slice_index_or right j (Top 0)) (slice_get-get_or right j (Top 0) less)))
   null_rule n (OfList i r symbol is) h = absurd (h 0 (Sequence i) refl)
   null_rule n (OfTrailing i b r s symbol is sep proper prod st) h = absurd (h 0 (Sequence i) refl)
   null_rule n (OfItem i r b symbol is st) h = absurd (item_spans i r symbol.1 is (stands_null (slot_of r.item) b st (h 0 b refl)))
@@ -119,7 +120,7 @@ module _ (w : Grammar) (d : Decided w) (c : IsChecked w) where
       stand_at j lj = let e : 0 + j ≡ j = omega arith in subst (λ z. Stands w (child_slot (Plain r) z) (slice_index_or right j (Top 0))) e (all_at w (Plain r) 0 right j all lj)
 
       beside : (j : ℕ) → j < length right → j ≢ k → Analysis.IsNullable w (child_slot (Plain r) j)
-      beside j lj ne = stands_null (child_slot (Plain r) j) (slice_index_or right j (Top 0)) (stand_at j lj) (over j (slice_index_or right j (Top 0)) ne (index_get right j (Top 0) lj))
+      beside j lj ne = stands_null (child_slot (Plain r) j) (slice_index_or right j (Top 0)) (stand_at j lj) (over j (slice_index_or right j (Top 0)) ne (slice_get-get_or right j (Top 0) lj))
 
   item_falls : (i : ℕ) (r : SequenceRule) (b : FlatSymbol) → IsSymbolOf w (Sequence i) → Grammar.rule_at w i ≡ Grammar.Sequence r → Stands w (slot_of r.item) b → height_of b < height_of (Sequence i)
   item_falls i r b (q, lt, is', live, used) is st =

@@ -1,11 +1,11 @@
 -- Each checked grammar has its flat grammar.
 use Rattle.std.proofs.Common.{◌≡◌, ℕ, ◌<◌, length, Some, ap, ◌∙◌, arith, lit<}
 use Rattle.std.specs.Prelude.{◌^◌}
+use Rattle.std.proofs.lemmas.List.{length-map}
 use Rattle.grammar_model.specs.Grammar.{Grammar}
 use Rattle.grammar_model.specs.Checked.{IsChecked}
 use Rattle.recognizer_model.specs.Flat.{FlatGrammar, IsRule, lhs_of, rhs_of, part_of}
 use Rattle.recognizer_model.specs.FlatForm.{NamedRule, IsRuleOf, OfPlain, OfList, OfTrailing, OfItem, OfItems, OfSeparated, OfTop}
-use Rattle.recognizer_model.proofs.FlatNamed.{map_length}
 use Rattle.flat_model.specs.Flatten
 use Rattle.flat_model.specs.Flatten.{Decided}
 use Rattle.flat_rules.proofs.Symbols.{in_symbols}
@@ -35,7 +35,7 @@ module _ (w : Grammar) (d : Decided w) (c : IsChecked w) (few : AreFew w (Flatte
   short : (r : ℕ) → IsRule f r → length (rhs_of f r) < 2 ^ 32
   short r lt =
       let less = short_name (name_of w d r) (is_rule w d r lt) in
-      let len : length (rhs_of f r) ≡ length (name_of w d r).right = ap length (rhs_is w d r lt) ∙ map_length (Flatten.number_of w d) (name_of w d r).right in
+      let len : length (rhs_of f r) ≡ length (name_of w d r).right = ap length (rhs_is w d r lt) ∙ length-map (name_of w d r).right (Flatten.number_of w d) in
       omega arith
 
   left : (r : ℕ) → IsRule f r → lhs_of f r < length f.symbols
@@ -52,7 +52,7 @@ module _ (w : Grammar) (d : Decided w) (c : IsChecked w) (few : AreFew w (Flatte
 
   in_range : IsInRange f
   in_range = record {
-    marks = map_length (Flatten.is_marked w d) f.symbols;
+    marks = length-map f.symbols (Flatten.is_marked w d);
     symbols = few.symbols;
     rules = few.rules;
     tops = let e = (is_flat_of w d c).tops_all in let lt = few.starts in omega arith;

@@ -1,19 +1,19 @@
 -- Lists of numbers that pass a test, as they grow; and what bounds them.
-use Rattle.std.proofs.Common.{◌≡◌, ◌≢◌, ℕ, zero, suc, ◌+◌, ◌<◌, ◌≤◌, Bool, true, false, cond, not, List, [], ◌∷◌, ◌++◌, length, map, take, get_or, ◌⊎◌, inl, inr, refl, sym, ap, ◌∙◌, subst, arith, true≢false}
+use Rattle.std.proofs.Common.{◌≡◌, ◌≢◌, ℕ, zero, suc, ◌+◌, ◌<◌, ◌≤◌, Bool, true, false, cond, not, List, [], ◌∷◌, ◌++◌, length, map, take, get_or, inl, inr, refl, sym, ap, ◌∙◌, subst, arith}
 use Rattle.std.specs.Prelude.{◌&&◌, ◌||◌, ◌==◌, ◌↔◌, filter, slice_index_or, nat_lt, unwrap_or, Option, Some, None}
 use Rattle.std.specs.List.{AllPairs, flat_map, list_any, position}
 use Rattle.grammar_core.proofs.Growth.{position_or_len-map}
 use Rattle.std.proofs.lemmas.Bool.{cases_Bool, eqb-true, and_parts, eq-eqb}
-use Rattle.std.proofs.lemmas.List.{map-append, take_more, get_or-take, length-take-le, length-map}
+use Rattle.std.proofs.lemmas.List.{map-append, take_more, get_or-take, length-take-le, length-map, append-nil}
 use Rattle.std.proofs.lemmas.List.Elements.{filter-append}
 use Rattle.std.proofs.lemmas.Grind.{flat_map-append}
+use Rattle.finite_sets.proofs.Members.{among_filter, among_filter_from, contains_from, Among}
 use Rattle.indexmap.specs.IndexSet.{insert_key}
-use Rattle.grammar_model.specs.Grammar.{Grammar, WrittenRule, rule_at, slot_of, lhs_of, level_of, Plain, child_slot}
+use Rattle.grammar_model.specs.Grammar.{Grammar, WrittenRule, rule_at, slot_of, lhs_of, level_of, Plain}
 use Rattle.grammar_model.specs.Grammar
 use Rattle.grammar_model.specs.Analysis.{IsLive, IsProductive, IsAccessibleIn}
 use Rattle.grammar_model.specs.Simple.{is_terminal, numbers}
-use Rattle.grammar_model.proofs.Simple.{terminal_from, no_terminal_from, is_terminal_from}
-use Rattle.grammar_model.proofs.Lists.{Among, contains_from}
+use Rattle.grammar_model.proofs.Simple.{terminal_from, no_terminal_from, is_terminal_from, among_numbers, among_numbers_from}
 use Rattle.grammar_core.specs.Written.{IsWritten}
 use Rattle.recognizer_model.specs.FlatForm.{IsUsedSlot}
 use Rattle.flat_model.specs.Flatten
@@ -21,11 +21,10 @@ use Rattle.flat_model.specs.Flatten.{Decided, levels_of}
 use Rattle.flat_rules.specs.declared.numbering.SlotKey.{SlotKey}
 use Rattle.grammar_core.specs.Rules.{is_sequence}
 use Rattle.flat_rules.specs.Tables.{rules_with, AreLive, told_slot, slot_at, same_slot, place_of, slots_of_terminals, slots_of_lefts}
-use Rattle.flat_rules.proofs.Once.{among_filter, among_filter_from, among_numbers, among_numbers_from}
 use Rattle.flat_rules.proofs.Symbols.{terminal_no}
 use Rattle.flat_rules.proofs.Rules.{live_from, from_live}
 use Rattle.grammar_core.proofs.Known.{child_known}
-use Rattle.flat_rules.proofs.Rows.{numbers_next, append_none}
+use Rattle.flat_rules.proofs.Rows.{numbers_next}
 
 -- ---- tests that say the same
 
@@ -43,10 +42,10 @@ pub filter_keep : (p : ℕ → Bool) (n : ℕ) → p n ≡ true → filter p (nu
 filter_keep p n e = filter_next p n true e
 
 pub filter_drop : (p : ℕ → Bool) (n : ℕ) → p n ≡ false → filter p (numbers (n + 1)) ≡ filter p (numbers n)
-filter_drop p n e = filter_next p n false e ∙ append_none (filter p (numbers n))
+filter_drop p n e = filter_next p n false e ∙ append-nil (filter p (numbers n))
 
 pub flat_next : {X : Type 0} (g : ℕ → List X) (n : ℕ) → flat_map g (numbers (n + 1)) ≡ flat_map g (numbers n) ++ g n
-flat_next g n = ap (flat_map g) (numbers_next n) ∙ flat_map-append g (numbers n) (n ∷ []) ∙ ap (λ l. flat_map g (numbers n) ++ l) (append_none (g n))
+flat_next g n = ap (flat_map g) (numbers_next n) ∙ flat_map-append g (numbers n) (n ∷ []) ∙ ap (λ l. flat_map g (numbers n) ++ l) (append-nil (g n))
 
 -- past a bound nothing passes
 filter_past : (p : ℕ → Bool) (m j : ℕ) → ((k : ℕ) → p k ≡ true → k < m) → filter p (numbers (j + m)) ≡ filter p (numbers m)
@@ -68,7 +67,7 @@ flat_past : {X : Type 0} (g : ℕ → List X) (m j : ℕ) → ((k : ℕ) → m �
 flat_past g m zero bound = let e : 0 + m ≡ m = omega arith in ap (λ n. flat_map g (numbers n)) e
 flat_past g m (suc j) bound =
     let e : suc j + m ≡ (j + m) + 1 = omega arith in
-    ap (λ n. flat_map g (numbers n)) e ∙ flat_next g (j + m) ∙ ap (λ l. flat_map g (numbers (j + m)) ++ l) (bound (j + m) (omega arith)) ∙ append_none (flat_map g (numbers (j + m))) ∙ flat_past g m j bound
+    ap (λ n. flat_map g (numbers n)) e ∙ flat_next g (j + m) ∙ ap (λ l. flat_map g (numbers (j + m)) ++ l) (bound (j + m) (omega arith)) ∙ append-nil (flat_map g (numbers (j + m))) ∙ flat_past g m j bound
 
 pub flat_bound : {X : Type 0} (g : ℕ → List X) (m n : ℕ) → ((k : ℕ) → m ≤ k → g k ≡ []) → ((k : ℕ) → n ≤ k → g k ≡ []) → flat_map g (numbers m) ≡ flat_map g (numbers n)
 flat_bound g m n a b =

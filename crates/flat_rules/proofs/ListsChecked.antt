@@ -4,44 +4,19 @@ use Rattle.std.specs.Prelude.{Contains, ◌^◌, slice_index_or}
 use Rattle.std.proofs.lemmas.Bool.{true≢false}
 use Rattle.grammar_model.specs.Grammar.{PlainRule, SequenceRule, WrittenRule, Plain, Grammar, rule_at, slot_of, child_slot, slot_count}
 use Rattle.grammar_model.specs.Grammar
-use Rattle.grammar_model.specs.Analysis.{IsNullable, IsProductive, LeadsTo}
-use Rattle.grammar_model.specs.Cycles.{HasHeights}
+use Rattle.grammar_model.specs.Analysis.{IsNullable, IsProductive}
 use Rattle.grammar_model.specs.Checked.{IsChecked, IsLeft, IsAloneAt, IsDuplicate, IsCountedNullable}
 use Rattle.grammar_model.proofs.Cycles.{no_cycle}
 use Rattle.flat_model.specs.Flatten.{AreFew, flat_of}
 use Rattle.flat_model.specs.Lists.{lists, ListsHaveFlatGrammar}
 use Rattle.flat_rules.proofs.ListsDecided.{at, nullable_is, productive_to, decided}
 use Rattle.flat_rules.proofs.Law.{flat_grammars_exist}
+use Rattle.grammar_model.proofs.Instances.{heights}
 
 -- only the start is nullable
 spans : (s k : ℕ) → 0 < s → IsNullable lists (at s k) → ⊥
 spans zero k more n = omega arith
 spans (suc s) k more n = true≢false (sym ((nullable_is (suc s) k).1 n))
-
--- ---- heights
-
-abbrev height_of : ℕ → ℕ
-height_of zero = 4
-height_of (suc zero) = 3
-height_of (suc (suc zero)) = 2
-height_of (suc (suc (suc n))) = 1
-
-lower : (s t : Grammar.Slot) (a b : ℕ) → a ≡ s.symbol → b ≡ t.symbol → height_of b < height_of a → height_of t.symbol < height_of s.symbol
-lower s t a b e e' lt = subst (λ z. height_of z < height_of s.symbol) e' (subst (λ z. height_of b < height_of z) e lt)
-
-falls : (s t : Grammar.Slot) → LeadsTo lists s t → height_of t.symbol < height_of s.symbol
-falls s t (zero, lt, f, e) = lower s t 0 1 f.0 (ap (λ z. z.symbol) e) (lit< tt)
-falls s t (suc zero, lt, f, e) = lower s t 1 2 f.0 (ap (λ z. z.symbol) e) (lit< tt)
-falls s t (suc (suc zero), lt, f, (zero, k, e, others)) = lower s t 2 3 f.0 (ap (λ z. z.symbol) e) (lit< tt)
-falls s t (suc (suc zero), lt, f, (suc j, k, e, others)) = absurd (omega arith)
-falls s t (suc (suc (suc zero)), lt, f, (zero, k, e, others)) = absurd (spans 5 0 (lit< tt) (others 1 (lit< tt) (λ h. omega arith)))
-falls s t (suc (suc (suc zero)), lt, f, (suc j, k, e, others)) = absurd (spans 2 1 (lit< tt) (others 0 (lit< tt) (λ h. omega arith)))
-falls s t (suc (suc (suc (suc zero))), lt, f, (zero, k, e, others)) = absurd (spans 6 0 (lit< tt) (others 1 (lit< tt) (λ h. omega arith)))
-falls s t (suc (suc (suc (suc zero))), lt, f, (suc j, k, e, others)) = absurd (spans 2 0 (lit< tt) (others 0 (lit< tt) (λ h. omega arith)))
-falls s t (suc (suc (suc (suc (suc i)))), lt, f, w) = absurd (omega arith)
-
-heights : HasHeights lists
-heights = record { height = λ s. height_of s.symbol; falls = λ s t a p l. falls s t l }
 
 -- ---- the conditions of the check
 

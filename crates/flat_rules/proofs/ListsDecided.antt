@@ -9,17 +9,10 @@ use Rattle.grammar_model.proofs.Total.{nullable_not_terminal}
 use Rattle.recognizer_model.specs.FlatForm.{IsUsedSlot}
 use Rattle.flat_model.specs.Flatten.{Decided}
 use Rattle.flat_model.specs.Lists.{lists}
+use Rattle.grammar_model.proofs.Instances.{terminal}
 
 abbrev pub at : (symbol level : ℕ) → Grammar.Slot
 at s k = record { symbol = s; level = k }
-
-pub terminal : (n : ℕ) → IsTerminal lists (suc (suc (suc n)))
-terminal n zero lt e = omega arith
-terminal n (suc zero) lt e = omega arith
-terminal n (suc (suc zero)) lt e = omega arith
-terminal n (suc (suc (suc zero))) lt e = omega arith
-terminal n (suc (suc (suc (suc zero)))) lt e = omega arith
-terminal n (suc (suc (suc (suc (suc i))))) lt e = omega arith
 
 left_not : (s : ℕ) → s < 3 → IsTerminal lists s → ⊥
 left_not zero lt t = t 0 (lit< tt) refl

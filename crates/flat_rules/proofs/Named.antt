@@ -1,49 +1,26 @@
 -- The rules of the flat grammar by their numbers, and by their names.
-use Rattle.std.proofs.Common.{◌≡◌, ℕ, zero, suc, ◌<◌, ◌≤◌, List, [], ◌∷◌, map, length, ◌⊎◌, inl, inr, Some, refl, sym, ap, ◌∙◌, arith}
+use Rattle.std.proofs.Common.{◌≡◌, ℕ, ◌<◌, ◌≤◌, [], map, length, ◌⊎◌, inl, inr, Some, sym, ap, ◌∙◌, arith}
 use Rattle.std.specs.Prelude.{slice_get, slice_index_or}
 use Rattle.std.proofs.lemmas.Bool.{cases_lt}
+use Rattle.std.proofs.lemmas.Option.{slice_get-get_or}
+use Rattle.std.proofs.lemmas.List.{get_or_past}
+use Rattle.finite_sets.proofs.Members.{among_at, once_pairs, Among}
+use Rattle.finite_sets.proofs.Lists.{get_map, get_among, get_index, get_mapped}
 use Rattle.grammar_model.specs.Grammar.{Grammar}
 use Rattle.grammar_model.specs.Checked.{IsChecked}
-use Rattle.grammar_model.proofs.Lists.{Among}
 use Rattle.recognizer_model.specs.Flat.{FlatGrammar, FlatRule, no_rule, IsRule, lhs_of, rhs_of, source_of, part_of, IsNullable}
 use Rattle.recognizer_model.specs.declared.flat.FlatSymbol.{FlatSymbol}
 use Rattle.recognizer_model.specs.declared.flat.FlatSymbol.TheVariants.{Top}
 use Rattle.recognizer_model.specs.FlatForm.{IsSymbolOf, NamedRule, IsRuleOf, SpansNothing}
-use Rattle.recognizer_model.proofs.FlatNamed.{get_index, index_get, among_at, at_among, one_place}
+use Rattle.recognizer_model.proofs.FlatNamed.{at_among, one_place}
 use Rattle.flat_model.specs.Flatten
 use Rattle.flat_model.specs.Flatten.{Decided}
-use Rattle.flat_rules.proofs.Once.{once_pairs}
 use Rattle.flat_rules.proofs.Symbols.{symbol_in, in_symbols, once_symbols}
 use Rattle.flat_rules.proofs.Rules.{named_in}
 use Rattle.flat_rules.proofs.Whole.{in_named, in_rules, once_named}
 use Rattle.flat_rules.proofs.Numbered.{numbered_in, told_back}
 use Rattle.flat_rules.proofs.Parts.{parts_are}
 use Rattle.flat_rules.proofs.FlatOf.{no_named, rule_at, rules_length, is_flat_of}
-
-pub map_get : {A B : Type 0} (g : A → B) (xs : List A) (k : ℕ) (y : B) → slice_get (map g xs) k ≡ Some y → (x : A) × (slice_get xs k ≡ Some x) × (g x ≡ y)
-map_get g [] k y e = cc
-map_get g (x ∷ xs) zero y e = let h : g x ≡ y = cc in (x, refl, h)
-map_get g (x ∷ xs) (suc k) y e = map_get g xs k y e
-
-pub get_among : {A : Type 0} (xs : List A) (k : ℕ) (x : A) → slice_get xs k ≡ Some x → Among x xs
-get_among [] k x e = cc
-get_among (y ∷ ys) zero x e = let h : y ≡ x = cc in inl h
-get_among (y ∷ ys) (suc k) x e = inr (get_among ys k x e)
-
-pub among_get : {A : Type 0} (xs : List A) (x : A) → Among x xs → (k : ℕ) × (slice_get xs k ≡ Some x)
-among_get [] x m = absurd m
-among_get (y ∷ ys) x (inl e) = (0, ap Some e)
-among_get (y ∷ ys) x (inr m) = let (k, h) = among_get ys x m in (suc k, h)
-
-pub get_mapped : {A B : Type 0} (g : A → B) (xs : List A) (k : ℕ) (x : A) → slice_get xs k ≡ Some x → slice_get (map g xs) k ≡ Some (g x)
-get_mapped g [] k x e = cc
-get_mapped g (y ∷ ys) zero x e = let h : y ≡ x = cc in ap (λ z. Some (g z)) h
-get_mapped g (y ∷ ys) (suc k) x e = get_mapped g ys k x e
-
-past : {A : Type 0} (xs : List A) (k : ℕ) (d : A) → length xs ≤ k → slice_index_or xs k d ≡ d
-past [] k d le = refl
-past (x ∷ xs) zero d le = absurd (omega arith)
-past (x ∷ xs) (suc k) d le = past xs k d (omega arith)
 
 -- only a rule has parts
 pub has_part : (f : FlatGrammar) (r position x : ℕ) → part_of f r position ≡ Some x → IsRule f r
@@ -52,7 +29,7 @@ has_part f r position x e = go (cases_lt r (length f.rules))
     go : (r < length f.rules) ⊎ (length f.rules ≤ r) → IsRule f r
     go (inl lt) = lt
     go (inr ge) =
-        let h : slice_get [] position ≡ Some x = ap (λ (z : FlatRule). slice_get z.rhs position) (sym (past f.rules r no_rule ge)) ∙ e in
+        let h : slice_get [] position ≡ Some x = ap (λ (z : FlatRule). slice_get z.rhs position) (sym (get_or_past f.rules r no_rule ge)) ∙ e in
         cc
 
 module _ (w : Grammar) (d : Decided w) where
@@ -87,10 +64,10 @@ module _ (w : Grammar) (d : Decided w) where
   source_is r lt = ap (λ (z : FlatRule). z.source) (rule_at w d r (name_lt r lt))
 
   pub part_is : (r position x : ℕ) → IsRule f r → part_of f r position ≡ Some x → (s : FlatSymbol) × (slice_get (name_of r).right position ≡ Some s) × (number_of s ≡ x)
-  part_is r position x lt e = map_get number_of (name_of r).right position x (ap (λ l. slice_get l position) (sym (rhs_is r lt)) ∙ e)
+  part_is r position x lt e = get_mapped number_of (name_of r).right position x (ap (λ l. slice_get l position) (sym (rhs_is r lt)) ∙ e)
 
   pub is_part : (r position : ℕ) (s : FlatSymbol) → IsRule f r → slice_get (name_of r).right position ≡ Some s → part_of f r position ≡ Some (number_of s)
-  is_part r position s lt e = ap (λ l. slice_get l position) (rhs_is r lt) ∙ get_mapped number_of (name_of r).right position s e
+  is_part r position s lt e = ap (λ l. slice_get l position) (rhs_is r lt) ∙ get_map number_of (name_of r).right position s e
 
   -- a named rule has a number
   pub rule_of : (n : NamedRule) → IsRuleOf w n → (r : ℕ) × IsRule f r × (name_of r ≡ n)
@@ -107,7 +84,7 @@ module _ (w : Grammar) (d : Decided w) where
   pub told : (s : FlatSymbol) → IsSymbolOf w s → slice_get f.symbols (number_of s) ≡ Some s
   told s symbol =
       let m = in_symbols w d s symbol in
-      index_get f.symbols (number_of s) (Top 0) (numbered_in w d s m) ∙ ap Some (told_back w d s m)
+      slice_get-get_or f.symbols (number_of s) (Top 0) (numbered_in w d s m) ∙ ap Some (told_back w d s m)
 
   pub symbol_of : (x : ℕ) (s : FlatSymbol) → slice_get f.symbols x ≡ Some s → IsSymbolOf w s
   symbol_of x s e = symbol_in w d s (get_among f.symbols x s e)

@@ -1,16 +1,15 @@
 -- Symbols are numbered by their places, so a rule by numbers is told back by its names.
 use Rattle.std.proofs.Common.{◌≡◌, ℕ, suc, ◌<◌, Bool, true, false, cond, List, [], ◌∷◌, map, length, inl, inr, refl, sym, ap, ◌∙◌, arith}
 use Rattle.std.specs.Prelude.{nat_eq, slice_index_or}
-use Rattle.std.proofs.lemmas.Bool.{eqb-true, eq-eqb, true≢false}
+use Rattle.std.proofs.lemmas.Bool.{eqb-true, eq-eqb, true≢false, and_from, and_parts}
+use Rattle.finite_sets.proofs.Members.{Among}
 use Rattle.grammar_model.specs.Grammar.{Grammar}
-use Rattle.grammar_model.proofs.Lists.{Among}
 use Rattle.recognizer_model.specs.Flat.{FlatGrammar}
 use Rattle.recognizer_model.specs.declared.flat.FlatSymbol.{FlatSymbol}
 use Rattle.recognizer_model.specs.declared.flat.FlatSymbol.TheVariants.{Terminal, Slot, Sequence, Top}
 use Rattle.recognizer_model.specs.FlatForm.{NamedRule, symbol_at, named}
 use Rattle.flat_model.specs.Flatten
 use Rattle.flat_model.specs.Flatten.{Decided, same_symbol, place_in}
-use Rattle.flat_rules.proofs.Symbols.{both, both_from}
 
 same_from : (x s : FlatSymbol) → same_symbol x s ≡ true → x ≡ s
 same_from (Terminal s) (Terminal t) e = ap Terminal (eqb-true s t e)
@@ -19,7 +18,7 @@ same_from (Terminal s) (Sequence j) e = cc
 same_from (Terminal s) (Top l) e = cc
 same_from (Slot s k) (Terminal t) e = cc
 same_from (Slot s k) (Slot t l) e =
-    let (a, b) = both_from (nat_eq s t) (nat_eq k l) e in
+    let (a, b) = and_parts (nat_eq s t) (nat_eq k l) e in
     let p = eqb-true s t a in
     let q = eqb-true k l b in
     λ i. Slot (p i) (q i)
@@ -36,7 +35,7 @@ same_from (Top k) (Top l) e = ap Top (eqb-true k l e)
 
 same_itself : (s : FlatSymbol) → same_symbol s s ≡ true
 same_itself (Terminal s) = eq-eqb s s refl
-same_itself (Slot s k) = both (nat_eq s s) (nat_eq k k) (eq-eqb s s refl) (eq-eqb k k refl)
+same_itself (Slot s k) = and_from (nat_eq s s) (nat_eq k k) (eq-eqb s s refl) (eq-eqb k k refl)
 same_itself (Sequence i) = eq-eqb i i refl
 same_itself (Top k) = eq-eqb k k refl
 

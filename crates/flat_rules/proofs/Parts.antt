@@ -1,15 +1,16 @@
 -- What stands on the right side of a flat rule is a symbol of the flat grammar: the children of live rules of slots that count do count.
 use Rattle.std.proofs.Common.{◌≡◌, ℕ, suc, ◌<◌, ◌≤◌, ◌+◌, Bool, true, false, cond, List, [], ◌∷◌, length, inl, inr, Option, Some, None, refl, sym, ap, ◌∙◌, subst, arith, lit<, lit≤}
-use Rattle.std.specs.Prelude.{◌&&◌, ◌==◌, nat_lt, Contains, slice_get, slice_index, slice_index_or}
+use Rattle.std.specs.Prelude.{◌&&◌, ◌==◌, nat_lt, Contains, slice_get, slice_index}
 use Rattle.std.proofs.lemmas.Bool.{ne_eqb}
-use Rattle.grammar_model.specs.Grammar.{PlainRule, SequenceRule, WrittenRule, Plain, Grammar, rule_at, slot_of, child_slot, Fits, own_level, slot_count, sequence_symbol, IsChildSlot, is_item}
+use Rattle.std.proofs.lemmas.List.{get_or_default}
+use Rattle.finite_sets.proofs.Members.{Among}
+use Rattle.finite_sets.proofs.Lists.{get_index}
+use Rattle.grammar_model.specs.Grammar.{PlainRule, SequenceRule, WrittenRule, Plain, Grammar, rule_at, slot_of, child_slot, Fits, own_level, sequence_symbol, IsChildSlot}
 use Rattle.grammar_model.specs.Grammar
 use Rattle.grammar_model.specs.Analysis.{IsProductive, IsLive}
 use Rattle.grammar_model.specs.Checked.{IsChecked}
-use Rattle.grammar_model.proofs.Lists.{Among}
 use Rattle.recognizer_model.specs.declared.flat.FlatSymbol.{FlatSymbol}
 use Rattle.recognizer_model.specs.FlatForm.{IsUsedSlot, IsSymbolOf, Stands, AsTerminal, AsSlot, StandAll, NamedRule, IsRuleOf, OfPlain, OfList, OfTrailing, OfItem, OfItems, OfSeparated, OfTop}
-use Rattle.recognizer_model.proofs.FlatNamed.{get_index}
 
 module _ (w : Grammar) where
   -- a child slot of a live rule of a slot that counts
@@ -69,7 +70,7 @@ module _ (w : Grammar) where
   pub start_used : IsChecked w → (k start : ℕ) → slice_get w.starts k ≡ Some start → IsUsedSlot w (slot_of start)
   start_used c k start e =
       let (lt, is) = get_index w.starts k 0 start e in
-      let among : Contains w.starts start = (k, lt, Rattle.recognizer_model.proofs.FlatNamed.index_any w.starts k _ 0 lt ∙ is) in
+      let among : Contains w.starts start = (k, lt, get_or_default w.starts k _ 0 lt ∙ is) in
       ((0, (start, among, refl)), c.starts_productive start among)
 
   -- each part of a flat rule is a symbol

@@ -1,16 +1,18 @@
 -- What is always so of the flat grammar: its ranges, its tops, and what its rules come from.
 use Rattle.std.proofs.Common.{◌≡◌, ◌≢◌, ℕ, suc, ◌<◌, List, [], ◌∷◌, length, inl, inr, Some, refl, sym, ap, ◌∙◌, subst, arith, lit<}
 use Rattle.std.specs.Prelude.{slice_get}
-use Rattle.grammar_model.specs.Grammar.{PlainRule, SequenceRule, WrittenRule, Plain, Grammar, slot_of, child_slot, Fits, slot_count, sequence_symbol}
+use Rattle.std.proofs.lemmas.List.{length-map}
+use Rattle.finite_sets.proofs.Members.{Among}
+use Rattle.finite_sets.proofs.Lists.{get_among}
+use Rattle.grammar_model.specs.Grammar.{WrittenRule, Plain, Grammar, slot_of, child_slot}
 use Rattle.grammar_model.specs.Grammar
 use Rattle.grammar_model.specs.Checked.{IsChecked}
-use Rattle.grammar_model.proofs.Lists.{Among}
 use Rattle.recognizer_model.specs.Flat.{FlatGrammar, IsRule, lhs_of, rhs_of, source_of, part_of}
 use Rattle.recognizer_model.specs.declared.flat.FlatSymbol.{FlatSymbol}
 use Rattle.recognizer_model.specs.declared.flat.FlatSymbol.TheVariants.{Terminal, Sequence, Top}
 use Rattle.recognizer_model.specs.declared.flat.FlatSource.TheVariants.{Top as OfStart}
 use Rattle.recognizer_model.specs.FlatForm.{IsSymbolOf, Stands, AsTerminal, AsSlot, StandAll, NamedRule, IsRuleOf, OfPlain, OfList, OfTrailing, OfItem, OfItems, OfSeparated, OfTop, symbol_at}
-use Rattle.recognizer_model.proofs.FlatNamed.{map_length, stand_one}
+use Rattle.recognizer_model.proofs.FlatNamed.{stand_one}
 use Rattle.flat_model.specs.Flatten
 use Rattle.flat_model.specs.Flatten.{Decided}
 use Rattle.flat_rules.proofs.Symbols.{in_symbols}
@@ -19,7 +21,7 @@ use Rattle.flat_rules.proofs.Parts.{parts_are}
 use Rattle.flat_rules.proofs.FlatOf.{is_flat_of}
 use Rattle.recognizer_model.specs.Invariant.{IsTopOf, HasSource}
 use Rattle.recognizer_model.specs.Acceptable
-use Rattle.flat_rules.proofs.Named.{name_of, is_rule, left_in, lhs_is, rhs_is, source_is, part_is, same_rule, told, symbol_of, one_number, get_among, has_part}
+use Rattle.flat_rules.proofs.Named.{name_of, is_rule, left_in, lhs_is, rhs_is, source_is, part_is, same_rule, told, symbol_of, one_number, has_part}
 
 module _ (w : Grammar) (d : Decided w) where
   abbrev f : FlatGrammar
@@ -127,7 +129,7 @@ module _ (w : Grammar) (d : Decided w) where
   some r lt =
       let a = some_right (name_of w d r) (is_rule w d r lt) in
       let b = ap length (rhs_is w d r lt) in
-      let e = map_length number_of (name_of w d r).right in
+      let e = length-map (name_of w d r).right number_of in
       omega arith
 
   pub sources : (r : ℕ) (s : FlatSymbol) → IsRule f r → slice_get f.symbols (lhs_of f r) ≡ Some s → HasSource s (source_of f r)
@@ -159,7 +161,7 @@ module _ (w : Grammar) (d : Decided w) where
           };
           symbol = ap (slice_get f.symbols) (lhs_is w d r lt) ∙ told w d (name_of w d r).left (left_in w d r lt) ∙ ap Some left;
           source = source_is w d r lt ∙ ap (λ (z : NamedRule). z.source) whole;
-          one = ap length (rhs_is w d r lt) ∙ map_length number_of (name_of w d r).right ∙ ap (λ (z : NamedRule). length z.right) whole;
+          one = ap length (rhs_is w d r lt) ∙ length-map (name_of w d r).right number_of ∙ ap (λ (z : NamedRule). length z.right) whole;
         }
       where
         outer : (q position : ℕ) → IsSymbolOf w (name_of w d r).left → lhs_of f r ≡ number_of (name_of w d r).left → (name_of w d r).left ≡ Top k → part_of f q position ≡ Some (lhs_of f r) → ⊥

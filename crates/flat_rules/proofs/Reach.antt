@@ -1,22 +1,25 @@
 -- Each symbol of the flat grammar is productive and accessible.
 use Rattle.std.proofs.Common.{◌≡◌, ◌≢◌, ℕ, zero, suc, ◌<◌, ◌≤◌, ◌+◌, List, [], ◌∷◌, length, ◌⊎◌, inl, inr, Option, Some, None, refl, sym, ap, ◌∙◌, subst, arith, lit≤}
-use Rattle.std.specs.Prelude.{◌↔◌, Contains, slice_get, slice_index, slice_index_or, ◌^◌}
-use Rattle.grammar_model.specs.Grammar.{PlainRule, SequenceRule, WrittenRule, Plain, Grammar, slot_of, child_slot, Fits, slot_count, sequence_symbol}
+use Rattle.std.specs.Prelude.{slice_get, slice_index, slice_index_or}
+use Rattle.grammar_model.specs.Grammar.{PlainRule, SequenceRule, WrittenRule, Plain, Grammar, slot_of, child_slot, Fits, sequence_symbol}
 use Rattle.grammar_model.specs.Grammar
 use Rattle.grammar_model.specs.Analysis
 use Rattle.grammar_model.specs.Analysis.{IsProductive, IsAccessible, IsLive}
 use Rattle.grammar_model.specs.Checked.{IsChecked}
-use Rattle.grammar_model.proofs.Lists.{Among, among_from}
 use Rattle.recognizer_model.specs.Flat.{FlatGrammar, IsRule, lhs_of, rhs_of}
 use Rattle.recognizer_model.specs.declared.flat.FlatSymbol.{FlatSymbol}
 use Rattle.recognizer_model.specs.declared.flat.FlatSymbol.TheVariants.{Terminal, Slot, Sequence, Top}
 use Rattle.recognizer_model.specs.declared.flat.FlatSource.TheVariants.{Written, Top as OfStart}
 use Rattle.recognizer_model.specs.FlatForm.{IsUsedSlot, IsSymbolOf, Stands, AsTerminal, AsSlot, StandAll, NamedRule, IsRuleOf, OfPlain, OfList, OfItem, OfSeparated, OfTop}
-use Rattle.recognizer_model.proofs.FlatNamed.{get_index, index_get, map_length, stand_one}
+use Rattle.recognizer_model.proofs.FlatNamed.{stand_one}
 use Rattle.flat_model.specs.Flatten
 use Rattle.flat_model.specs.Flatten.{Decided}
 use Rattle.flat_rules.proofs.Parts.{child_used, start_used}
 use Rattle.std.proofs.lemmas.Bool.{cases_lt}
+use Rattle.std.proofs.lemmas.List.{length-map}
+use Rattle.std.proofs.lemmas.Option.{slice_get-get_or}
+use Rattle.finite_sets.proofs.Members.{among_from, Among}
+use Rattle.finite_sets.proofs.Lists.{get_among, among_get, get_index}
 use Rattle.grammar_model.proofs.Productive.{nullable_by, item_first}
 use Rattle.recognizer_model.specs.Invariant
 use Rattle.recognizer_model.specs.Invariant.{Outermost, Below}
@@ -24,7 +27,7 @@ use Rattle.recognizer_model.specs.Acceptable
 use Rattle.recognizer_model.specs.Acceptable.{Itself, Marked, ByRule, Both}
 use Rattle.flat_rules.proofs.Parts.{level_zero, item_used}
 use Rattle.flat_rules.proofs.Rules.{stand, parts_stand, parts_length}
-use Rattle.flat_rules.proofs.Named.{name_of, lhs_is, rhs_is, is_part, rule_of, told, symbol_of, at_number, marked, get_among, among_get}
+use Rattle.flat_rules.proofs.Named.{name_of, lhs_is, rhs_is, is_part, rule_of, told, symbol_of, at_number, marked}
 
 module _ (w : Grammar) (d : Decided w) (c : IsChecked w) where
   abbrev f : FlatGrammar
@@ -46,14 +49,14 @@ module _ (w : Grammar) (d : Decided w) (c : IsChecked w) where
   parts_productive : (r dot : ℕ) → IsRule f r → dot ≤ length (name_of w d r).right → ((x : FlatSymbol) → Among x (name_of w d r).right → Acceptable.IsProductive f (number_of x)) → Acceptable.AreProductive f r dot
   parts_productive r zero lt le h = Acceptable.None
   parts_productive r (suc dot) lt le h =
-      let at = index_get (name_of w d r).right dot (Top 0) (omega arith) in
+      let at = slice_get-get_or (name_of w d r).right dot (Top 0) (omega arith) in
       let x = slice_index_or (name_of w d r).right dot (Top 0) in
       Both (parts_productive r dot lt (omega arith) h) (is_part w d r dot x lt at) (h x (get_among (name_of w d r).right dot x at))
 
   by_named : (n : NamedRule) → IsRuleOf w n → ((x : FlatSymbol) → Among x n.right → Acceptable.IsProductive f (number_of x)) → Acceptable.IsProductive f (number_of n.left)
   by_named n rule h =
       let (r, lt, e) = rule_of w d n rule in
-      let len : length (rhs_of f r) ≡ length (name_of w d r).right = ap length (rhs_is w d r lt) ∙ map_length number_of (name_of w d r).right in
+      let len : length (rhs_of f r) ≡ length (name_of w d r).right = ap length (rhs_is w d r lt) ∙ length-map (name_of w d r).right number_of in
       let all : Acceptable.AreProductive f r (length (name_of w d r).right) = parts_productive r (length (name_of w d r).right) lt (omega arith) (subst (λ (z : NamedRule). (x : FlatSymbol) → Among x z.right → Acceptable.IsProductive f (number_of x)) (sym e) h) in
       ByRule lt (lhs_is w d r lt ∙ ap (λ (z : NamedRule). number_of z.left) e) (subst (Acceptable.AreProductive f r) (sym len) all)
 
@@ -76,13 +79,13 @@ module _ (w : Grammar) (d : Decided w) (c : IsChecked w) where
   null_told slot other n used x (AsTerminal t) flat = absurd (other t)
   null_told slot other n used x (AsSlot o) flat = Marked (marked w d c (Slot slot.symbol slot.level) (stands_symbol slot (Slot slot.symbol slot.level) (AsSlot o) used flat) n)
 
-  part_told : (i : ℕ) (r : PlainRule) (above : Grammar.Slot) (k : ℕ) (ss : List FlatSymbol) (x : FlatSymbol) → i < length w.rules → Grammar.rule_at w i ≡ Plain r → Fits (Plain r) above → IsLive w (Plain r) → IsUsedSlot w above →
+  cause_told : (i : ℕ) (r : PlainRule) (above : Grammar.Slot) (k : ℕ) (ss : List FlatSymbol) (x : FlatSymbol) → i < length w.rules → Grammar.rule_at w i ≡ Plain r → Fits (Plain r) above → IsLive w (Plain r) → IsUsedSlot w above →
       ((j : ℕ) → j < length r.rhs → Told (child_slot (Plain r) j)) → StandAll w (Plain r) k ss → k + length ss ≤ length r.rhs → Among x ss → Acceptable.IsProductive f (number_of x)
-  part_told i r above k [] x lt is fits live used h all le m = absurd m
-  part_told i r above k (s ∷ ss) x lt is fits live used h all le (inl e) =
+  cause_told i r above k [] x lt is fits live used h all le m = absurd m
+  cause_told i r above k (s ∷ ss) x lt is fits live used h all le (inl e) =
       let child = child_used w i (Plain r) above (child_slot (Plain r) k) lt is fits live used (live k (omega arith)) (k, omega arith, refl) in
       subst (λ z. Acceptable.IsProductive f (number_of z)) e (h k (omega arith) child s all.0 (level_zero w i r lt is k))
-  part_told i r above k (s ∷ ss) x lt is fits live used h all le (inr m) = part_told i r above (suc k) ss x lt is fits live used h all.1 (omega arith) m
+  cause_told i r above k (s ∷ ss) x lt is fits live used h all le (inr m) = cause_told i r above (suc k) ss x lt is fits live used h all.1 (omega arith) m
 
   not_terminal : (i : ℕ) (rule : WrittenRule) (slot : Grammar.Slot) → i < length w.rules → Grammar.rule_at w i ≡ rule → Fits rule slot → Grammar.IsTerminal w slot.symbol → ⊥
   not_terminal i rule slot lt is fits t = t i lt (ap Grammar.lhs_of is ∙ fits.0)
@@ -108,7 +111,7 @@ module _ (w : Grammar) (d : Decided w) (c : IsChecked w) where
       go (inl more) =
           let len = parts_length w d (Plain r) 0 (length r.rhs) in
           by_named (record { left = Slot slot.symbol slot.level; right = parts r; source = Written i }) (plain_named i slot.symbol slot.level r lt is fits live used more)
-          (λ y m. part_told i r slot 0 (parts r) y lt is fits live used h (parts_stand w d (Plain r) 0 (length r.rhs)) (omega arith) m)
+          (λ y m. cause_told i r slot 0 (parts r) y lt is fits live used h (parts_stand w d (Plain r) 0 (length r.rhs)) (omega arith) m)
       go (inr none) =
           null_told slot o (nullable_by w i slot lt (subst (λ z. Fits z slot) (sym is) fits) (subst (λ z. Grammar.EachChildSlot (Analysis.IsNullable w) z) (sym is) (λ j less. absurd (omega arith))))
           used (Slot slot.symbol slot.level) (AsSlot o) flat
@@ -156,7 +159,7 @@ module _ (w : Grammar) (d : Decided w) (c : IsChecked w) where
       list_productive i r (r, lt, is, live, used) is (item_used w i r r is is lt live used) (slot_told live.0 (slot_of r.item) live.1)
   symbol_productive (Top k) lt =
       let start = slice_index w.starts k in
-      let at = index_get w.starts k _ lt in
+      let at = slice_get-get_or w.starts k _ lt in
       let used = start_used w c k start at in
       let s = Flatten.symbol_for w d (slot_of start) in
       let st = stand w d (slot_of start) in
@@ -165,7 +168,7 @@ module _ (w : Grammar) (d : Decided w) (c : IsChecked w) where
 
   pub productive : (x : ℕ) → x < length f.symbols → Acceptable.IsProductive f x
   productive x lt =
-      let at = index_get f.symbols x (Top 0) lt in
+      let at = slice_get-get_or f.symbols x (Top 0) lt in
       subst (Acceptable.IsProductive f) (at_number w d x (slice_index_or f.symbols x (Top 0)) at)
       (symbol_productive (slice_index_or f.symbols x (Top 0)) (symbol_of w d x (slice_index_or f.symbols x (Top 0)) at))
 
@@ -241,6 +244,6 @@ module _ (w : Grammar) (d : Decided w) (c : IsChecked w) where
 
   pub accessible : (x : ℕ) → x < length f.symbols → Invariant.IsAccessible f x
   accessible x lt =
-      let at = index_get f.symbols x (Top 0) lt in
+      let at = slice_get-get_or f.symbols x (Top 0) lt in
       subst (Invariant.IsAccessible f) (at_number w d x (slice_index_or f.symbols x (Top 0)) at)
       (symbol_accessible (slice_index_or f.symbols x (Top 0)) (symbol_of w d x (slice_index_or f.symbols x (Top 0)) at))

@@ -5,7 +5,7 @@ use Rattle.std.specs.Result.{OnOk}
 use Rattle.std.specs.declared.vec.Vec.{Vec}
 use Rattle.std.specs.declared.alloc.Global.{Global}
 use Rattle.std.proofs.lemmas.Bool.{cases_eq, ne_eqb, eq-eqb}
-use Rattle.std.proofs.lemmas.List.{get_or-set_same, get_or-set_other, get_or-map, map-set, length-map}
+use Rattle.std.proofs.lemmas.List.{get_or-set_same, get_or-set_other, get_or-map, map-set, length-map, append-nil}
 use Rattle.std.proofs.lemmas.List.Elements.{filter-append}
 use Rattle.grammar_model.specs.Grammar.{Grammar, rule_at, lhs_of}
 use Rattle.grammar_model.specs.Simple.{numbers}
@@ -56,10 +56,6 @@ rules_next : (w : Grammar) (n s : ℕ) (b : Bool) → (lhs_of (rule_at w n) == s
 rules_next w n s b e =
     ap (filter (λ i. lhs_of (rule_at w i) == s)) (numbers_next n) ∙ filter-append (λ i. lhs_of (rule_at w i) == s) (numbers n) (n ∷ []) ∙ ap (λ c. rules_to w n s ++ cond c (n ∷ []) []) e
 
-pub append_none : {X : Type 0} (xs : List X) → xs ++ [] ≡ xs
-append_none [] = refl
-append_none (x ∷ xs) = ap (λ l. x ∷ l) (append_none xs)
-
 pub lefts_more : (w : Grammar) (old new : List (List ℕ)) (n s : ℕ) → s ≡ lhs_of (rule_at w n) → ((t : ℕ) → row_at old t ≡ rules_to w n t) → HasAdded old new s n → (t : ℕ) → row_at new t ≡ rules_to w (n + 1) t
 lefts_more w old new n s is h a t = go (cases_eq t s)
   where
@@ -67,4 +63,4 @@ lefts_more w old new n s is h a t = go (cases_eq t s)
     go (inl e) =
         ap (row_at new) e ∙ a.here ∙ ap (λ l. l ++ n ∷ []) (h s) ∙ sym (rules_next w n s true (eq-eqb _ s (sym is))) ∙ ap (rules_to w (n + 1)) (sym e)
     go (inr ne) =
-        a.others t ne ∙ h t ∙ sym (append_none (rules_to w n t)) ∙ sym (rules_next w n t false (ne_eqb _ t (λ e. ne (sym (is ∙ e)))))
+        a.others t ne ∙ h t ∙ sym (append-nil (rules_to w n t)) ∙ sym (rules_next w n t false (ne_eqb _ t (λ e. ne (sym (is ∙ e)))))

@@ -2,23 +2,22 @@
 use Rattle.std.proofs.Common.{◌≡◌, ◌≢◌, ℕ, zero, suc, ◌<◌, Bool, true, false, not, cond, List, [], ◌∷◌, length, inl, inr, Option, Some, None, refl, sym, ap, ◌∙◌, subst, arith, lit<}
 use Rattle.std.specs.Prelude.{◌&&◌, nat_lt, slice_index, IsFalse}
 use Rattle.std.specs.List.{list_all}
-use Rattle.std.proofs.lemmas.Bool.{ltb-true}
-use Rattle.grammar_model.specs.Grammar.{PlainRule, SequenceRule, WrittenRule, Plain, Grammar, rule_at, slot_of, child_slot, Fits}
+use Rattle.std.proofs.lemmas.Bool.{ltb-true, and_from, and_parts}
+use Rattle.std.proofs.lemmas.Option.{slice_get-get_or}
+use Rattle.finite_sets.proofs.Members.{among_either, among_flat_map_from, Among, Once}
+use Rattle.grammar_model.specs.Grammar.{PlainRule, SequenceRule, WrittenRule, Plain, Grammar, rule_at, slot_of, child_slot}
 use Rattle.grammar_model.specs.Grammar
 use Rattle.grammar_model.specs.Analysis.{IsLive}
 use Rattle.grammar_model.specs.Simple.{is_terminal, numbers, fits}
-use Rattle.grammar_model.proofs.Simple.{terminal_from, no_terminal_from, fits_from}
-use Rattle.grammar_model.proofs.Lists.{Among, among_either, among_flat_map_from}
+use Rattle.grammar_model.proofs.Simple.{terminal_from, no_terminal_from, fits_from, among_numbers, among_numbers_from}
 use Rattle.recognizer_model.specs.declared.flat.FlatSymbol.{FlatSymbol}
 use Rattle.recognizer_model.specs.declared.flat.FlatSymbol.TheVariants.{Terminal, Slot, Sequence, Top}
 use Rattle.recognizer_model.specs.declared.flat.FlatSource.{FlatSource}
 use Rattle.recognizer_model.specs.declared.flat.FlatSource.TheVariants.{Written, Top as OfStart}
 use Rattle.recognizer_model.specs.FlatForm.{IsUsedSlot, IsSymbolOf, Stands, AsTerminal, AsSlot, StandAll, NamedRule, IsRuleOf, OfPlain, OfList, OfTrailing, OfItem, OfItems, OfSeparated, OfTop}
-use Rattle.recognizer_model.proofs.FlatNamed.{index_get}
 use Rattle.flat_model.specs.Flatten
 use Rattle.flat_model.specs.Flatten.{Decided}
-use Rattle.flat_rules.proofs.Once.{Once, among_numbers, among_numbers_from}
-use Rattle.flat_rules.proofs.Symbols.{both, both_from, symbol_in}
+use Rattle.flat_rules.proofs.Symbols.{symbol_in}
 
 pub among_if : {X : Type 0} (b : Bool) (x : X) (xs : List X) → Among x (cond b xs []) → (b ≡ true) × Among x xs
 among_if true x xs m = (refl, m)
@@ -40,12 +39,12 @@ index_of (OfStart k) = k
 
 all_among : {X : Type 0} (p : X → Bool) (x : X) (xs : List X) → list_all p xs ≡ true → Among x xs → p x ≡ true
 all_among p x [] e m = absurd m
-all_among p x (y ∷ ys) e (inl same) = ap p (sym same) ∙ (both_from (p y) (list_all p ys) e).0
-all_among p x (y ∷ ys) e (inr m) = all_among p x ys (both_from (p y) (list_all p ys) e).1 m
+all_among p x (y ∷ ys) e (inl same) = ap p (sym same) ∙ (and_parts (p y) (list_all p ys) e).0
+all_among p x (y ∷ ys) e (inr m) = all_among p x ys (and_parts (p y) (list_all p ys) e).1 m
 
 among_all : {X : Type 0} (p : X → Bool) (xs : List X) → ((x : X) → Among x xs → p x ≡ true) → list_all p xs ≡ true
 among_all p [] h = refl
-among_all p (y ∷ ys) h = both (p y) (list_all p ys) (h y (inl refl)) (among_all p ys (λ x m. h x (inr m)))
+among_all p (y ∷ ys) h = and_from (p y) (list_all p ys) (h y (inl refl)) (among_all p ys (λ x m. h x (inr m)))
 
 module _ (w : Grammar) (d : Decided w) where
   abbrev symbol_for : Grammar.Slot → FlatSymbol
@@ -91,8 +90,8 @@ module _ (w : Grammar) (d : Decided w) where
   plain_in : (s k i : ℕ) (r : PlainRule) (n : NamedRule) → IsUsedSlot w (record { symbol = s; level = k }) → i < length w.rules → rule_at w i ≡ Plain r → Among n (Flatten.plain_rules w d s k i r) → Told s k i n
   plain_in s k i r n used lt is m =
       let (test, a) = among_if (fits (Plain r) (record { symbol = s; level = k }) && (Flatten.is_live w d (Plain r) && nat_lt 0 (length r.rhs))) n (plain_made s k i r ∷ []) m in
-      let (f, rest) = both_from (fits (Plain r) (record { symbol = s; level = k })) (Flatten.is_live w d (Plain r) && nat_lt 0 (length r.rhs)) test in
-      let (live, some) = both_from (Flatten.is_live w d (Plain r)) (nat_lt 0 (length r.rhs)) rest in
+      let (f, rest) = and_parts (fits (Plain r) (record { symbol = s; level = k })) (Flatten.is_live w d (Plain r) && nat_lt 0 (length r.rhs)) test in
+      let (live, some) = and_parts (Flatten.is_live w d (Plain r)) (nat_lt 0 (length r.rhs)) rest in
       let len = parts_length (Plain r) 0 (length r.rhs) in
       let more : 0 < length r.rhs = ltb-true 0 (length r.rhs) some in
       let p : IsRuleOf w (plain_made s k i r) = OfPlain i s k r (Flatten.parts_from w d (Plain r) 0 (length r.rhs)) lt is (some_parts _ (omega arith)) (live_from (Plain r) live)
@@ -116,14 +115,14 @@ module _ (w : Grammar) (d : Decided w) where
   trailing_in i r None n symbol is sep m = absurd m
   trailing_in i r (Some c) n symbol is sep m =
       let (test, a) = among_if (not r.proper && d.productive (slot_of c)) n (trailing_made i r c ∷ []) m in
-      let (proper, prod) = both_from (not r.proper) (d.productive (slot_of c)) test in
+      let (proper, prod) = and_parts (not r.proper) (d.productive (slot_of c)) test in
       let p : IsRuleOf w (trailing_made i r c) = OfTrailing i c r (symbol_for (slot_of c)) symbol is sep (false_from r.proper proper) ((d.productive_is (slot_of c)).0 prod) (stand (slot_of c)) in
       elim a [ inl e ↦ subst (Told r.lhs 0 i) e (p, refl, refl) | inr bad ↦ absurd bad ]
 
   list_in : (s k i : ℕ) (r : SequenceRule) (n : NamedRule) → IsUsedSlot w (record { symbol = s; level = k }) → i < length w.rules → rule_at w i ≡ Grammar.Sequence r → Among n (Flatten.list_rules w d s k i r) → Told s k i n
   list_in s k i r n used lt is m =
       let (test, a) = among_if (fits (Grammar.Sequence r) (record { symbol = s; level = k }) && Flatten.is_live w d (Grammar.Sequence r)) n (list_made i r ∷ Flatten.trailing_rules w d i r r.separator) m in
-      let (f, live) = both_from (fits (Grammar.Sequence r) (record { symbol = s; level = k })) (Flatten.is_live w d (Grammar.Sequence r)) test in
+      let (f, live) = and_parts (fits (Grammar.Sequence r) (record { symbol = s; level = k })) (Flatten.is_live w d (Grammar.Sequence r)) test in
       let (left, low) = fits_from (Grammar.Sequence r) (record { symbol = s; level = k }) f in
       let zero_level : 0 ≡ k = omega arith in
       let used' : IsUsedSlot w (slot_of r.lhs) = subst (λ z. IsUsedSlot w (record { symbol = z; level = 0 })) (sym left) (subst (λ z. IsUsedSlot w (record { symbol = s; level = z })) (sym zero_level) used) in
@@ -178,7 +177,7 @@ module _ (w : Grammar) (d : Decided w) where
   rule_in (Sequence i) n symbol m = item_in i (rule_at w i) n symbol refl m
   rule_in (Top k) n lt (inl e) =
       let p : IsRuleOf w (record { left = Top k; right = symbol_for (slot_of (slice_index w.starts k)) ∷ []; source = OfStart k }) =
-      OfTop k (slice_index w.starts k) (symbol_for (slot_of (slice_index w.starts k))) (index_get w.starts k _ lt) (stand (slot_of (slice_index w.starts k))) in
+      OfTop k (slice_index w.starts k) (symbol_for (slot_of (slice_index w.starts k))) (slice_get-get_or w.starts k _ lt) (stand (slot_of (slice_index w.starts k))) in
       subst (λ (z : NamedRule). IsRuleOf w z × (z.left ≡ Top k)) e (p, refl)
   rule_in (Top k) n lt (inr bad) = absurd bad
 

@@ -6,17 +6,14 @@ use Rattle.std.proofs.lemmas.List.{map-append}
 use Rattle.grammar_model.specs.Grammar.{SequenceRule, WrittenRule, Plain, Grammar, rule_at, slot_of, sequence_symbol}
 use Rattle.grammar_model.specs.Grammar
 use Rattle.grammar_model.specs.Simple.{is_terminal, numbers}
-use Rattle.grammar_model.proofs.Simple.{terminal_from, no_terminal_from}
-use Rattle.grammar_model.proofs.Lists.{Among}
+use Rattle.grammar_model.proofs.Simple.{terminal_from, no_terminal_from, among_numbers_from}
 use Rattle.recognizer_model.specs.declared.flat.FlatSymbol.{FlatSymbol}
 use Rattle.recognizer_model.specs.declared.flat.FlatSymbol.TheVariants.{Terminal, Slot, Sequence, Top}
-use Rattle.recognizer_model.proofs.FlatNamed.{among_at, get_index}
 use Rattle.flat_model.specs.Flatten
 use Rattle.flat_model.specs.Flatten.{Decided}
 use Rattle.grammar_core.specs.Rules.{is_sequence}
 use Rattle.flat_rules.specs.Tables.{Numbering, number_in, numbered_in, place_of, rules_with, lists_to, rows_of, AreLefts, slots_of_terminals, slots_of_lefts}
 use Rattle.flat_rules.specs.Added.{rule_by, part_in, items_by, top_by, from_rule, from_rules, separator_counts, counts_separator}
-use Rattle.flat_rules.proofs.Once.{among_filter_from, among_numbers_from}
 use Rattle.flat_rules.proofs.Deciding.{slots_known, map_flat, terminal_symbol, left_symbol}
 use Rattle.flat_rules.proofs.Listing.{terminal_none, no_rules, same_test}
 use Rattle.grammar_model.specs.Analysis.{IsNullable}
@@ -24,8 +21,9 @@ use Rattle.grammar_model.proofs.Total.{nullable_not_terminal}
 use Rattle.flat_rules.proofs.SlotRules.{named_by, number_flat}
 use Rattle.std.specs.declared.vec.Vec.{Vec}
 use Rattle.std.specs.declared.alloc.Global.{Global}
+use Rattle.finite_sets.proofs.Lists.{get_among, get_index}
+use Rattle.finite_sets.proofs.Members.{among_filter_from, among_at, Among}
 use Rattle.grammar_core.specs.Written.{IsWritten}
-use Rattle.flat_rules.proofs.Named.{get_among}
 use Rattle.flat_rules.proofs.Rows.{row_is, rows_length}
 
 flat_filter : {X : Type 0} (g : ℕ → List X) (p : ℕ → Bool) (xs : List ℕ) → ((k : ℕ) → p k ≡ false → g k ≡ []) → flat_map g (filter p xs) ≡ flat_map g xs

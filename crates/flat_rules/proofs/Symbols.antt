@@ -1,39 +1,23 @@
--- The symbols of the flat grammar are listed, each once.
+-- The symbols of the flat grammar are list_is, each once.
 use Rattle.std.proofs.Common.{◌≡◌, ℕ, ◌<◌, Bool, true, false, not, List, ◌++◌, map, length, ◌⊎◌, inl, inr, refl, sym, ap, ◌∙◌, subst, arith}
-use Rattle.std.specs.Prelude.{◌&&◌, ◌↔◌, filter, Contains}
-use Rattle.std.specs.List.{flat_map}
-use Rattle.std.proofs.lemmas.Bool.{cases_Bool}
-use Rattle.grammar_model.specs.Grammar.{PlainRule, SequenceRule, WrittenRule, Plain, Grammar, rule_at, slot_of}
+use Rattle.std.specs.Prelude.{◌&&◌, filter}
+use Rattle.std.proofs.lemmas.Bool.{cases_Bool, not-true, and_from, and_parts, not_from_false}
+use Rattle.finite_sets.proofs.Members.{among_filter, among_filter_from, among_left, among_right, among_either, among_map, among_map_from, among_flat_map, among_flat_map_from, once_append, once_map, once_flat_map, once_filter, Among, Once}
+use Rattle.grammar_model.specs.Grammar.{SequenceRule, WrittenRule, Plain, Grammar, rule_at, slot_of}
 use Rattle.grammar_model.specs.Grammar
 use Rattle.grammar_model.specs.Analysis.{IsLive}
 use Rattle.grammar_model.specs.Simple.{is_terminal, numbers}
-use Rattle.grammar_model.proofs.Simple.{terminal_from, no_terminal_from, is_terminal_from}
-use Rattle.grammar_model.proofs.Lists.{Among, among_left, among_right, among_either, among_map, among_map_from, among_flat_map, among_flat_map_from}
+use Rattle.grammar_model.proofs.Simple.{terminal_from, no_terminal_from, is_terminal_from, among_numbers, among_numbers_from}
 use Rattle.recognizer_model.specs.declared.flat.FlatSymbol.{FlatSymbol}
 use Rattle.recognizer_model.specs.declared.flat.FlatSymbol.TheVariants.{Terminal, Slot, Sequence, Top}
 use Rattle.recognizer_model.specs.FlatForm.{IsUsedSlot, IsSymbolOf}
 use Rattle.recognizer_model.specs.Counts.{IsListOf}
 use Rattle.flat_model.specs.Flatten
 use Rattle.flat_model.specs.Flatten.{Decided}
-use Rattle.flat_rules.proofs.Once.{Once, listed, once_append, once_map, once_flat_map, once_filter, among_filter, among_filter_from, among_numbers, among_numbers_from, once_numbers}
+use Rattle.flat_rules.proofs.Once.{once_numbers}
+use Rattle.recognizer_model.proofs.Counting.{list_is}
 
 -- ---- two tests
-
-pub both_from : (a b : Bool) → (a && b) ≡ true → (a ≡ true) × (b ≡ true)
-both_from true b e = (refl, e)
-both_from false b e = cc
-
-pub both : (a b : Bool) → a ≡ true → b ≡ true → (a && b) ≡ true
-both true b x y = y
-both false b x y = cc
-
-pub false_of_not : (a : Bool) → not a ≡ true → a ≡ false
-false_of_not true e = cc
-false_of_not false e = refl
-
-pub not_of_false : (a : Bool) → a ≡ false → not a ≡ true
-not_of_false true e = cc
-not_of_false false e = refl
 
 pub terminal_no : (w : Grammar) (s : ℕ) → (Grammar.IsTerminal w s → ⊥) → is_terminal w s ≡ false
 terminal_no w s other = elim (cases_Bool (is_terminal w s)) [ inl t ↦ absurd (other (terminal_from w s t)) | inr f ↦ f ]
@@ -70,7 +54,7 @@ module _ (w : Grammar) (d : Decided w) where
   terminal_in x m =
       let (t, a, e) = among_map_from Terminal x (filter (λ s. is_terminal w s && d.used (slot_of s)) (numbers d.symbols)) m in
       let (b, test) = among_filter_from (λ s. is_terminal w s && d.used (slot_of s)) t (numbers d.symbols) a in
-      let (ter, used) = both_from (is_terminal w t) (d.used (slot_of t)) test in
+      let (ter, used) = and_parts (is_terminal w t) (d.used (slot_of t)) test in
       let p : IsSymbolOf w (Terminal t) = (terminal_from w t ter, (d.used_is (slot_of t)).0 used) in
       (sym (ap kind e), subst (IsSymbolOf w) e p)
 
@@ -79,14 +63,14 @@ module _ (w : Grammar) (d : Decided w) where
       let (s, a, b) = among_flat_map_from (λ s. map (Slot s) (Flatten.levels_of w d s)) x (numbers d.symbols) m in
       let (k, c, e) = among_map_from (Slot s) x (Flatten.levels_of w d s) b in
       let (g, test) = among_filter_from (λ k. not (is_terminal w s) && d.used (record { symbol = s; level = k })) k (numbers d.levels) c in
-      let (ter, used) = both_from (not (is_terminal w s)) (d.used (record { symbol = s; level = k })) test in
-      let p : IsSymbolOf w (Slot s k) = (no_terminal_from w s (false_of_not (is_terminal w s) ter), (d.used_is (record { symbol = s; level = k })).0 used) in
+      let (ter, used) = and_parts (not (is_terminal w s)) (d.used (record { symbol = s; level = k })) test in
+      let p : IsSymbolOf w (Slot s k) = (no_terminal_from w s (not-true (is_terminal w s) ter), (d.used_is (record { symbol = s; level = k })).0 used) in
       (sym (ap kind e), subst (IsSymbolOf w) e p)
 
   list_at : (i : ℕ) (rule : WrittenRule) → i < length w.rules → rule_at w i ≡ rule → makes rule ≡ true → IsSymbolOf w (Sequence i)
   list_at i (Plain r) lt is e = cc
   list_at i (Grammar.Sequence r) lt is e =
-      let (live, used) = both_from (d.productive (slot_of r.item)) (d.used (slot_of r.lhs)) e in
+      let (live, used) = and_parts (d.productive (slot_of r.item)) (d.used (slot_of r.lhs)) e in
       (r, lt, is, (d.productive_is (slot_of r.item)).0 live, (d.used_is (slot_of r.lhs)).0 used)
 
   list_in : (x : FlatSymbol) → Among x (Flatten.lists w d) → (kind x ≡ 2) × IsSymbolOf w x
@@ -107,7 +91,7 @@ module _ (w : Grammar) (d : Decided w) where
   all_terminals t ter used =
       among_map Terminal t (filter (λ s. is_terminal w s && d.used (slot_of s)) (numbers d.symbols))
       (among_filter (λ s. is_terminal w s && d.used (slot_of s)) t (numbers d.symbols) (among_numbers d.symbols t (d.below_symbols (slot_of t) used))
-      (both (is_terminal w t) (d.used (slot_of t)) (is_terminal_from w t ter) ((d.used_is (slot_of t)).1 used)))
+      (and_from (is_terminal w t) (d.used (slot_of t)) (is_terminal_from w t ter) ((d.used_is (slot_of t)).1 used)))
 
   pub all_slots : (s k : ℕ) → (Grammar.IsTerminal w s → ⊥) → IsUsedSlot w (record { symbol = s; level = k }) → Among (Slot s k) (Flatten.slots w d)
   all_slots s k other used =
@@ -116,13 +100,13 @@ module _ (w : Grammar) (d : Decided w) where
       (among_map (Slot s) k (Flatten.levels_of w d s)
       (among_filter (λ k. not (is_terminal w s) && d.used (record { symbol = s; level = k })) k (numbers d.levels)
       (among_numbers d.levels k (d.below_levels (record { symbol = s; level = k }) used other))
-      (both (not (is_terminal w s)) (d.used (record { symbol = s; level = k })) (not_of_false (is_terminal w s) (terminal_no w s other)) ((d.used_is (record { symbol = s; level = k })).1 used))))
+      (and_from (not (is_terminal w s)) (d.used (record { symbol = s; level = k })) (not_from_false (is_terminal w s) (terminal_no w s other)) ((d.used_is (record { symbol = s; level = k })).1 used))))
 
   makes_one : (r : SequenceRule) (rule : WrittenRule) → rule ≡ Grammar.Sequence r → IsLive w (Grammar.Sequence r) → IsUsedSlot w (slot_of r.lhs) → makes rule ≡ true
   makes_one r (Plain p) e live used = cc
   makes_one r (Grammar.Sequence p) e live used =
       let same : r ≡ p = sym (ap sequence_of e) in
-      both (d.productive (slot_of p.item)) (d.used (slot_of p.lhs))
+      and_from (d.productive (slot_of p.item)) (d.used (slot_of p.lhs))
       ((d.productive_is (slot_of p.item)).1 (subst (λ q. IsLive w (Grammar.Sequence q)) same live)) ((d.used_is (slot_of p.lhs)).1 (subst (λ (q : SequenceRule). IsUsedSlot w (slot_of q.lhs)) same used))
 
   pub all_lists : (i : ℕ) → IsSymbolOf w (Sequence i) → Among (Sequence i) (Flatten.lists w d)
@@ -187,4 +171,4 @@ module _ (w : Grammar) (d : Decided w) where
       (λ x a b. (let e = (terminal_in x a).0 in let f = (later_in x b).0 in omega arith))
 
   pub symbols_listed : IsListOf (IsSymbolOf w) (Flatten.symbols w d)
-  symbols_listed = listed (IsSymbolOf w) (Flatten.symbols w d) once_symbols symbol_in in_symbols
+  symbols_listed = list_is (IsSymbolOf w) (Flatten.symbols w d) once_symbols symbol_in in_symbols

@@ -1,23 +1,24 @@
 -- Each rule that the flat grammar has to have is among its rules, which are listed each once.
 use Rattle.std.proofs.Common.{◌≡◌, ◌≢◌, ℕ, ◌<◌, Bool, true, false, not, List, [], ◌∷◌, length, inl, inr, Option, Some, None, refl, sym, ap, ◌∙◌, subst, arith, lit≤}
 use Rattle.std.specs.Prelude.{◌&&◌, nat_lt, slice_get, slice_index, IsFalse}
-use Rattle.std.proofs.lemmas.Bool.{lt-ltb}
-use Rattle.grammar_model.specs.Grammar.{PlainRule, SequenceRule, WrittenRule, Plain, Grammar, rule_at, slot_of, child_slot, Fits}
+use Rattle.std.proofs.lemmas.Bool.{lt-ltb, and_from}
+use Rattle.finite_sets.proofs.Lists.{get_index}
+use Rattle.finite_sets.proofs.Members.{among_left, among_right, among_flat_map, once_append, once_flat_map, Among, Once}
+use Rattle.grammar_model.specs.Grammar.{PlainRule, SequenceRule, WrittenRule, Plain, Grammar, rule_at, slot_of, Fits}
 use Rattle.grammar_model.specs.Grammar
 use Rattle.grammar_model.specs.Analysis.{IsProductive, IsLive}
 use Rattle.grammar_model.specs.Simple.{numbers, fits}
-use Rattle.grammar_model.proofs.Simple.{from_fits}
-use Rattle.grammar_model.proofs.Lists.{Among, among_left, among_right, among_flat_map}
+use Rattle.grammar_model.proofs.Simple.{from_fits, among_numbers, among_numbers_from}
 use Rattle.recognizer_model.specs.declared.flat.FlatSymbol.{FlatSymbol}
 use Rattle.recognizer_model.specs.declared.flat.FlatSymbol.TheVariants.{Terminal, Slot, Sequence, Top}
 use Rattle.recognizer_model.specs.declared.flat.FlatSource.TheVariants.{Written, Top as OfStart}
 use Rattle.recognizer_model.specs.FlatForm.{IsUsedSlot, IsSymbolOf, Stands, StandAll, NamedRule, IsRuleOf, OfPlain, OfList, OfTrailing, OfItem, OfItems, OfSeparated, OfTop}
-use Rattle.recognizer_model.proofs.FlatNamed.{stand_one, all_one, get_index}
+use Rattle.recognizer_model.proofs.FlatNamed.{stand_one, all_one}
 use Rattle.flat_model.specs.Flatten
 use Rattle.flat_model.specs.Flatten.{Decided}
-use Rattle.flat_rules.proofs.Once.{Once, once_append, once_flat_map, among_numbers, among_numbers_from, once_numbers}
-use Rattle.flat_rules.proofs.Symbols.{both, symbol_in, in_symbols, once_symbols, sequence_of}
-use Rattle.flat_rules.proofs.Rules.{if_among, once_if, index_of, stand, parts_stand, parts_length, from_live, live_from, plain_made, list_made, trailing_made, item_made, items_made, separated_made, slot_rule_in, longer_in, rule_in}
+use Rattle.flat_rules.proofs.Once.{once_numbers}
+use Rattle.flat_rules.proofs.Symbols.{symbol_in, in_symbols, once_symbols, sequence_of}
+use Rattle.flat_rules.proofs.Rules.{if_among, once_if, index_of, stand, parts_stand, parts_length, from_live, plain_made, list_made, trailing_made, item_made, items_made, separated_made, slot_rule_in, longer_in, rule_in}
 
 module _ (w : Grammar) (d : Decided w) where
   abbrev symbol_for : Grammar.Slot → FlatSymbol
@@ -40,11 +41,11 @@ module _ (w : Grammar) (d : Decided w) where
   plain_there s k i r right some live f len all =
       let more = length_some right some in
       if_among (fits (Plain r) (record { symbol = s; level = k }) && (Flatten.is_live w d (Plain r) && nat_lt 0 (length r.rhs))) _ (plain_made w d s k i r ∷ [])
-      (both _ _ (from_fits (Plain r) (record { symbol = s; level = k }) f) (both _ _ (from_live w d (Plain r) live) (lt-ltb 0 (length r.rhs) (omega arith))))
+      (and_from _ _ (from_fits (Plain r) (record { symbol = s; level = k }) f) (and_from _ _ (from_live w d (Plain r) live) (lt-ltb 0 (length r.rhs) (omega arith))))
       (inl (is_made s k i r right len all))
 
   list_test : (i : ℕ) (r : SequenceRule) → IsLive w (Grammar.Sequence r) → (fits (Grammar.Sequence r) (record { symbol = r.lhs; level = 0 }) && Flatten.is_live w d (Grammar.Sequence r)) ≡ true
-  list_test i r live = both _ _ (from_fits (Grammar.Sequence r) (record { symbol = r.lhs; level = 0 }) (refl, lit≤ tt)) (from_live w d (Grammar.Sequence r) live)
+  list_test i r live = and_from _ _ (from_fits (Grammar.Sequence r) (record { symbol = r.lhs; level = 0 }) (refl, lit≤ tt)) (from_live w d (Grammar.Sequence r) live)
 
   list_there : (i : ℕ) (r : SequenceRule) → IsLive w (Grammar.Sequence r) → Among (list_made w d i r) (Flatten.list_rules w d r.lhs 0 i r)
   list_there i r live =
@@ -59,7 +60,7 @@ module _ (w : Grammar) (d : Decided w) where
   trailing_among i c r (Some b) e proper prod =
       let same : b ≡ c = cc in
       if_among (not r.proper && d.productive (slot_of b)) _ (trailing_made w d i r b ∷ [])
-      (both _ _ (not_from r.proper proper) ((d.productive_is (slot_of b)).1 (subst (λ z. IsProductive w (slot_of z)) (sym same) prod)))
+      (and_from _ _ (not_from r.proper proper) ((d.productive_is (slot_of b)).1 (subst (λ z. IsProductive w (slot_of z)) (sym same) prod)))
       (inl (ap (trailing_made w d i r) same))
 
   trailing_there : (i c : ℕ) (r : SequenceRule) → IsLive w (Grammar.Sequence r) → r.separator ≡ Some c → IsFalse r.proper → IsProductive w (slot_of c) → Among (trailing_made w d i r c) (Flatten.list_rules w d r.lhs 0 i r)

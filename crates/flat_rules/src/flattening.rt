@@ -256,8 +256,17 @@ fn flat_symbols(
     Ok((list, marks))
 }
 
-// The parts of the flat grammar.
-fn parts_of(alloc: Global, c: &Checked<'_>) -> Result<FlatParts, FlatRefusal>
+// The parts of the flat grammar, by the numbers of its symbols.
+fn parts_by(
+    alloc: Global,
+    c: &Checked<'_>,
+    numbers: &Symbols,
+    rows: &[Vec<u32>],
+    live: &[bool],
+) -> Result<FlatParts, FlatRefusal>
+    requires rows { AreLefts c.now (rows_of rows.now) }
+    requires live { AreLive c.now live.now }
+    requires numbers { AreNumbers c.now numbers.now }
     ensures flat { IfOk result (λ parts. (d : Decided c.now) → parts ≡ flat_of c.now d) }
     ensures few { IfOk result (λ parts. length parts.rules ≤ most_rules) }
     ensures small { IfOk result (λ parts. length parts.symbols < 2 ^ 32) }
@@ -267,18 +276,28 @@ fn parts_of(alloc: Global, c: &Checked<'_>) -> Result<FlatParts, FlatRefusal>
     c.known();
     let w = c.written();
     let starts = w.start_count();
-    let rows = rules_by_left(alloc, w)?;
-    let live = live_rules(alloc, c)?;
-    let symbols = symbols_of(alloc, c, &rows, &live)?;
-    let rules = flat_rules(alloc, c, &symbols, &rows, &live)?;
+    let rules = flat_rules(alloc, c, numbers, rows, live)?;
     let tops = top_rules(alloc, &rules, starts)?;
-    let (list, marks) = flat_symbols(alloc, c, &symbols, &rows)?;
+    let (symbols, nullable) = flat_symbols(alloc, c, numbers, rows)?;
     Ok(FlatParts {
-        symbols: list,
-        nullable: marks,
+        symbols,
+        nullable,
         rules,
         tops,
     })
+}
+
+// The parts of the flat grammar.
+fn parts_of(alloc: Global, c: &Checked<'_>) -> Result<FlatParts, FlatRefusal>
+    ensures flat { IfOk result (λ parts. (d : Decided c.now) → parts ≡ flat_of c.now d) }
+    ensures few { IfOk result (λ parts. length parts.rules ≤ most_rules) }
+    ensures small { IfOk result (λ parts. length parts.symbols < 2 ^ 32) }
+    ensures many { IfErr result (λ e. e ≡ TooManyRules → (d : Decided c.now) → most_rules < length (flat_of c.now d).rules) }
+{
+    let rows = rules_by_left(alloc, c.written())?;
+    let live = live_rules(alloc, c)?;
+    let numbers = symbols_of(alloc, c, &rows, &live)?;
+    parts_by(alloc, c, &numbers, &rows, &live)
 }
 
 /// The flat grammar of a checked one.

@@ -1,28 +1,20 @@
 -- Which rules the ranking of a reading allows is decided, and so is which trees are of allowed rules.
-use Rattle.std.proofs.Common.{arith, ◌≡◌, ℕ, ℤ, ◌≤ℤ◌, T, Bool, true, false, List, [], ◌∷◌, length, ◌⊎◌, inl, inr, refl, sym, subst}
+use Rattle.std.proofs.Common.{arith, ◌≡◌, ℕ, ℤ, ◌≤ℤ◌, Bool, true, List, [], ◌∷◌, length, ◌⊎◌, inl, inr, refl}
 use Rattle.std.specs.Prelude.{◌&&◌}
-use Rattle.std.specs.Int.Signed.{le_z, le_z_yes}
 use Rattle.std.proofs.lemmas.Bool.{and_parts, and_from}
+use Rattle.finite_sets.proofs.Members.{Among}
 use Rattle.grammar_model.specs.Trees.{Tree, Children, Leaf, Nulled, Node, NoChild, Child}
 use Rattle.grammar_model.specs.Derives.{Edges}
 use Rattle.grammar_model.specs.declared.Ranking.{Ranking}
 use Rattle.grammar_model.specs.declared.Ranking.TheVariants.{None as NoRanks, Rule as RuleRanks, High as HighRanks}
-use Rattle.grammar_model.proofs.Lists.{Among}
 use Rattle.finite_sets.specs.Decided.{IsDecided}
-use Rattle.finite_sets.proofs.Deciding.{both, both_then, implied, moved, equal, less, each_below, test_of, test_true, true_test}
+use Rattle.finite_sets.proofs.Deciding.{both, both_then, implied, moved, equal, less, each_below, test_of, test_true, true_test, most_decided}
 use Rattle.recognizer_model.specs.Flat.{FlatGrammar, IsRule, lhs_of, rhs_of}
 use Rattle.recognizer_model.specs.FlatDerives.{Spans}
 use Rattle.recognizer_model.specs.Chosen.{AreAllowed, AreAllowedIn, LeavesSome, flat_rank, IsBestRule, allowed_by}
 use Rattle.recognizer_model.proofs.Leaving.{leaves_some}
 use Rattle.forest_model.specs.Forest.{Forest, edges_of, allowed_of, IsDerived}
 use Rattle.forest_laws.proofs.Reading.{held_forward, spans, span_in, in_spans}
-
-most_decided : (a b : ℤ) → IsDecided (a ≤ℤ b)
-most_decided a b = go (le_z a b) refl
-  where
-    go : (t : Bool) → le_z a b ≡ t → IsDecided (a ≤ℤ b)
-    go true e = inl (le_z_yes (subst T (sym e) tt))
-    go false e = inr (λ h. subst T e h.le)
 
 pub some_or_none : {X : Type 0} (xs : List X) → ((x : X) × Among x xs) ⊎ ((x : X) → Among x xs → ⊥)
 some_or_none [] = inr (λ x m. m)
@@ -72,28 +64,28 @@ module _ (f : Forest) (derived : IsDerived f) where
     pub tree_test : Tree → Bool
     tree_test (Leaf x p q) = true
     tree_test (Nulled x p) = true
-    tree_test (Node r cs p q) = rule_test r p q && front_test cs
+    tree_test (Node r cs p q) = rule_test r p q && prefix_test cs
 
-    pub front_test : Children → Bool
-    front_test NoChild = true
-    front_test (Child front last) = front_test front && tree_test last
+    pub prefix_test : Children → Bool
+    prefix_test NoChild = true
+    prefix_test (Child prefix last) = prefix_test prefix && tree_test last
 
   mutual
     pub tree_is : (t : Tree) → tree_test t ≡ true → AreAllowed (allowed_of f) t
     tree_is (Leaf x p q) e = tt
     tree_is (Nulled x p) e = tt
-    tree_is (Node r cs p q) e = let (a, b) = and_parts (rule_test r p q) (front_test cs) e in (true_test (allowed_decided r p q) a, front_is cs b)
+    tree_is (Node r cs p q) e = let (a, b) = and_parts (rule_test r p q) (prefix_test cs) e in (true_test (allowed_decided r p q) a, prefix_is cs b)
 
-    pub front_is : (cs : Children) → front_test cs ≡ true → AreAllowedIn (allowed_of f) cs
-    front_is NoChild e = tt
-    front_is (Child front last) e = let (a, b) = and_parts (front_test front) (tree_test last) e in (front_is front a, tree_is last b)
+    pub prefix_is : (cs : Children) → prefix_test cs ≡ true → AreAllowedIn (allowed_of f) cs
+    prefix_is NoChild e = tt
+    prefix_is (Child prefix last) e = let (a, b) = and_parts (prefix_test prefix) (tree_test last) e in (prefix_is prefix a, tree_is last b)
 
   mutual
     pub is_tree : (t : Tree) → AreAllowed (allowed_of f) t → tree_test t ≡ true
     is_tree (Leaf x p q) c = refl
     is_tree (Nulled x p) c = refl
-    is_tree (Node r cs p q) c = and_from (rule_test r p q) (front_test cs) (test_true (allowed_decided r p q) c.0) (is_front cs c.1)
+    is_tree (Node r cs p q) c = and_from (rule_test r p q) (prefix_test cs) (test_true (allowed_decided r p q) c.0) (is_prefix cs c.1)
 
-    pub is_front : (cs : Children) → AreAllowedIn (allowed_of f) cs → front_test cs ≡ true
-    is_front NoChild c = refl
-    is_front (Child front last) c = and_from (front_test front) (tree_test last) (is_front front c.0) (is_tree last c.1)
+    pub is_prefix : (cs : Children) → AreAllowedIn (allowed_of f) cs → prefix_test cs ≡ true
+    is_prefix NoChild c = refl
+    is_prefix (Child prefix last) c = and_from (prefix_test prefix) (tree_test last) (is_prefix prefix c.0) (is_tree last c.1)

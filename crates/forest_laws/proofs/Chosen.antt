@@ -1,7 +1,7 @@
 -- A list with one value for each element of another.
 use Rattle.std.proofs.Common.{◌≡◌, ℕ, zero, suc, List, [], ◌∷◌, map, length, inl, inr, Some, refl, ap, subst}
 use Rattle.std.specs.Prelude.{slice_get}
-use Rattle.grammar_model.proofs.Lists.{Among}
+use Rattle.finite_sets.proofs.Members.{Among}
 
 abbrev pub Paired : {X Y : Type 0} → (X → Y → Type 0) → List X → List Y → Type 0
 Paired P [] [] = Unit {0}

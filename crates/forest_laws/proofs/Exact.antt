@@ -7,14 +7,17 @@ use Rattle.std.specs.declared.cmp.Ordering.{Ordering}
 use Rattle.std.specs.Ordering.{ordering_then, ordering_reverse, nat_cmp}
 use Rattle.std.specs.Cmp.{on_total}
 use Rattle.std.proofs.lemmas.List.Kept.{IsStrictlySortedBy-filter}
+use Rattle.std.proofs.lemmas.List.{append-nil}
+use Rattle.std.proofs.lemmas.List.Folds.{flat_map-map}
+use Rattle.finite_sets.proofs.Lists.{get_among, get_index}
 use Rattle.grammar_model.specs.Grammar.{Slot, slot_of, rule_at, child_slot}
 use Rattle.grammar_model.specs.Grammar
 use Rattle.grammar_model.specs.Trees.{Tree, Children, Leaf, Nulled, Node, NoChild, Child, child_count}
-use Rattle.grammar_model.specs.Derives.{Edges, Held, DerivesFront}
+use Rattle.grammar_model.specs.Derives.{Edges, Held, DerivesPrefix}
 use Rattle.grammar_model.specs.Order.{RuleOrder, IsRuleOrder, tree_cmp}
 use Rattle.grammar_model.specs.All.{IsAll}
 use Rattle.grammar_model.proofs.Total.{all_unique, nullable_not_terminal}
-use Rattle.grammar_model.proofs.Lists.{Among, among_from, contains_from, one_sorted}
+use Rattle.grammar_model.proofs.Lists.{one_sorted}
 use Rattle.grammar_model.proofs.Compose.{GoForward, at_cmp, place_of}
 use Rattle.recognizer_model.specs.declared.NodeKey.{NodeKey}
 use Rattle.recognizer_model.specs.declared.flat.FlatSymbol.TheVariants.{Terminal, Top}
@@ -26,23 +29,23 @@ use Rattle.recognizer_model.specs.Acceptable.{OnlyTerminals}
 use Rattle.recognizer_model.specs.Invariant.{IsFlat, IsTopOf}
 use Rattle.recognizer_model.specs.View.{grammar_view}
 use Rattle.recognizer_model.proofs.Views.{IsKindOf, kind_of, rule_viewed, in_view, nullable_viewed, terminal_viewed}
-use Rattle.recognizer_model.proofs.FlatNamed.{get_index}
 use Rattle.recognizer_model.specs.Chosen.{AreAllowed}
 use Rattle.recognizer_model.proofs.FlatChosen.{written_chosen}
 use Rattle.recognizer_model.proofs.Nodes
-use Rattle.forest_model.specs.Forest.{Last, AnEdge, Nothing, Wholes, Alternative, ForestNode, Forest, edges_of, allowed_of, top_of, IsNode, start_place, starts_cmp, ranks_high, rules_cmp, whole_key, IsSplit, IsWholeOver, AreWholes, IsLast, IsFront, AreAlternatives, IsRoot, IsForest}
+use Rattle.forest_model.specs.Forest.{Cause, AnEdge, Nothing, Wholes, Alternative, ForestNode, Forest, edges_of, allowed_of, top_of, IsNode, start_place, starts_cmp, ranks_high, rules_cmp, whole_key, IsSplit, IsWholeOver, AreWholes, IsCause, IsPredecessor, AreAlternatives, IsRoot, IsForest}
 use Rattle.forest_model.specs.Listing.{IsListing}
-use Rattle.forest_laws.specs.Lists.{Lists, last_symbol, rule_of, fronts_by, whole_by, lasts_by, alternative_by, AreLists, roots_by, trees_by}
+use Rattle.forest_laws.specs.Lists.{Lists, cause_symbol, rule_of, prefixes_by, whole_by, causes_by, alternative_by, AreLists, roots_by, trees_by}
 use Rattle.forest_laws.specs.Laws.{AreAllSpans, AreAllTrees, AreAllLists, ForestsHaveLists}
-use Rattle.forest_laws.proofs.Lists.{flat_map_map, flat_map_same, flat_map_both, only_one, get_among, get_first, append_nil}
+use Rattle.forest_laws.proofs.Lists.{flat_map_same, flat_map_both, only_one, get_first}
 use Rattle.finite_sets.proofs.Deciding.{moved, true_test, test_true}
-use Rattle.finite_sets.proofs.Members.{values}
-use Rattle.forest_laws.proofs.Kept.{among_kept, kept_among, kept_flat, kept_map, flat_kept}
+use Rattle.finite_sets.proofs.Members.{values, among_filter, among_filter_from, among_from, contains_from, Among}
+use Rattle.forest_laws.proofs.Kept.{kept_flat, kept_map, flat_kept}
 use Rattle.forest_laws.proofs.Ordered.{sorted_by, within_values}
 use Rattle.forest_laws.proofs.Reading
-use Rattle.forest_laws.proofs.Reading.{D, rule_there}
-use Rattle.forest_laws.proofs.Allowing.{leaves, over_decided, allowed_decided, rule_test, tree_test, front_test, tree_is, front_is, is_tree, is_front}
-use Rattle.forest_laws.proofs.Fronts.{AllFronts, front_unique, one_front, behind, one_more, nodes_all}
+use Rattle.forest_laws.proofs.Reading.{D}
+use Rattle.forest_laws.proofs.Allowing.{leaves, over_decided, allowed_decided, rule_test, tree_test, prefix_test, tree_is, prefix_is, is_tree, is_prefix}
+use Rattle.forest_laws.proofs.Prefixes.{AllPrefixes, prefix_unique, one_prefix, behind, one_more, nodes_all}
+use Rattle.recognizer_model.proofs.Sources.{rule_there}
 
 sorted_as : {X : Type 0} (R S : X → X → Ordering) → ((x y : X) → R x y ≡ S x y) → (xs : List X) → IsStrictlySortedBy R xs → IsStrictlySortedBy S xs
 sorted_as R S e xs s = let same : R ≡ S = λ i x y. e x y i in subst (λ c. IsStrictlySortedBy c xs) same s
@@ -95,17 +98,17 @@ module _ (f : Forest) (is : IsForest f) where
   abbrev back : (x p q : ℕ) (t : Tree) → D F E (slot_of x) p q t → FlatDerives.Derives g E x p q t
   back = Reading.back f is.derived
 
-  abbrev front_viewed : {r d p q : ℕ} {cs : Children} → IsRule g r → Spans g E r d p q cs → DerivesFront F E (rule_at F r) p q cs × (child_count cs ≡ d)
-  front_viewed rule s = Reading.front_viewed f is.derived rule s
+  abbrev prefix_viewed : {r d p q : ℕ} {cs : Children} → IsRule g r → Spans g E r d p q cs → DerivesPrefix F E (rule_at F r) p q cs × (child_count cs ≡ d)
+  prefix_viewed rule s = Reading.prefix_viewed f is.derived rule s
 
-  abbrev front_back : (cs : Children) (r : ℕ) → IsRule g r → (p q : ℕ) → child_count cs ≤ length (rhs_of g r) → DerivesFront F E (rule_at F r) p q cs → Spans g E r (child_count cs) p q cs
-  front_back = Reading.front_back f is.derived
+  abbrev prefix_back : (cs : Children) (r : ℕ) → IsRule g r → (p q : ℕ) → child_count cs ≤ length (rhs_of g r) → DerivesPrefix F E (rule_at F r) p q cs → Spans g E r (child_count cs) p q cs
+  prefix_back = Reading.prefix_back f is.derived
 
   abbrev pub exact : (slot : Slot) (p q : ℕ) → (trees : List Tree) × IsAll F E order slot p q trees
   exact = Reading.exact f is.derived
 
   abbrev pub All : (r n p q : ℕ) → List Children → Type 0
-  All r n p q xs = AllFronts F E forward order laws (rule_at F r) (order.null_high r) n p q xs
+  All r n p q xs = AllPrefixes F E forward order laws (rule_at F r) (order.null_high r) n p q xs
 
   abbrev pub spans : (r n p q : ℕ) → (cs : List Children) × All r n p q cs
   spans r n p q = Reading.spans f is.derived r n p q
@@ -115,13 +118,13 @@ module _ (f : Forest) (is : IsForest f) where
   kept x p q = filter (tree_test f is.derived) (exact (slot_of x) p q).0
 
   abbrev pub kept_spans : (r n p q : ℕ) → List Children
-  kept_spans r n p q = filter (front_test f is.derived) (spans r n p q).0
+  kept_spans r n p q = filter (prefix_test f is.derived) (spans r n p q).0
 
   pub in_kept : (x p q : ℕ) (t : Tree) → Contains (kept x p q) t ↔ (D F E (slot_of x) p q t × AreAllowed (allowed_of f) t)
   in_kept x p q t = (
-    λ c. (let (m, e) = kept_among (tree_test f is.derived) t (exact (slot_of x) p q).0 (among_from (kept x p q) t c) in
+    λ c. (let (m, e) = among_filter_from (tree_test f is.derived) t (exact (slot_of x) p q).0 (among_from (kept x p q) t c) in
         (((exact (slot_of x) p q).1.each t).0 (contains_from _ t m), tree_is f is.derived t e)),
-    λ (d, c). contains_from (kept x p q) t (among_kept (tree_test f is.derived) t (exact (slot_of x) p q).0 (among_from _ t (((exact (slot_of x) p q).1.each t).1 d)) (is_tree f is.derived t c)),
+    λ (d, c). contains_from (kept x p q) t (among_filter (tree_test f is.derived) t (exact (slot_of x) p q).0 (among_from _ t (((exact (slot_of x) p q).1.each t).1 d)) (is_tree f is.derived t c)),
   )
 
   pub kept_sorted : (x p q : ℕ) → IsStrictlySortedBy (tree_cmp order) (kept x p q)
@@ -197,11 +200,11 @@ module _ (f : Forest) (is : IsForest f) where
     inner : Grammar.IsTerminal F x → ⊥
     inner t = t some (in_view g some there.is_rule) (fits some there).0
 
-    no_children : (r : ℕ) (cs : Children) → child_count cs ≡ 0 → DerivesFront F E (rule_at F r) p q cs → ⊥
+    no_children : (r : ℕ) (cs : Children) → child_count cs ≡ 0 → DerivesPrefix F E (rule_at F r) p q cs → ⊥
     no_children r NoChild c d = let lt = spanned in omega arith
-    no_children r (Child front last) c d = omega arith
+    no_children r (Child prefix last) c d = omega arith
 
-    enough : (r : ℕ) (cs : Children) → r < length F.rules → Grammar.Fits (rule_at F r) (slot_of x) → Grammar.IsChildCount (rule_at F r) (child_count cs) → DerivesFront F E (rule_at F r) p q cs →
+    enough : (r : ℕ) (cs : Children) → r < length F.rules → Grammar.Fits (rule_at F r) (slot_of x) → Grammar.IsChildCount (rule_at F r) (child_count cs) → DerivesPrefix F E (rule_at F r) p q cs →
         Among r rules × (child_count cs ≡ parts_count r)
     enough r cs lt fit full d = go (kind_of g r lt)
       where
@@ -209,7 +212,7 @@ module _ (f : Forest) (is : IsForest f) where
         go (inl rule) =
             let e = rule_viewed g r rule in
             let count : child_count cs ≡ parts_count r = subst (λ z. Grammar.IsChildCount z (child_count cs)) e full in
-            let s = subst (λ k. Spans g E r k p q cs) count (front_back cs r rule p q (omega (arith, count)) d) in
+            let s = subst (λ k. Spans g E r k p q cs) count (prefix_back cs r rule p q (omega (arith, count)) d) in
             let left : lhs_of g r ≡ x = (subst (λ z. Grammar.Fits z (slot_of x)) e fit).0 in
             (among_from rules r ((exactly r).1 (record { is_rule = rule; left = left; children = cs; spans = s })), count)
         go (inr (y, m, e)) =
@@ -231,15 +234,15 @@ module _ (f : Forest) (is : IsForest f) where
         ap (filter (tree_test f is.derived)) all_rules
         ∙ kept_flat (tree_test f is.derived) each_rule rules
         ∙ flat_map_same (λ r. filter (tree_test f is.derived) (each_rule r)) (λ r. cond (rule_test f is.derived r p q) (each_kept r) []) rules
-        (λ r m. kept_map (tree_test f is.derived) (rule_test f is.derived r p q) (front_test f is.derived) (λ cs. Node r cs p q) (λ cs. refl) (spans r (parts_count r) p q).0)
+        (λ r m. kept_map (tree_test f is.derived) (rule_test f is.derived r p q) (prefix_test f is.derived) (λ cs. Node r cs p q) (λ cs. refl) (spans r (parts_count r) p q).0)
         ∙ flat_kept (λ r. rule_test f is.derived r p q) each_kept rules
 
     allowed_rules : (best : List ℕ) → IsStrictlySortedBy (rules_cmp f) best → ((r : ℕ) → Contains best r ↔ (IsWholeOver f x p q r × allowed_of f r p q)) → filter (λ r. rule_test f is.derived r p q) rules ≡ best
     allowed_rules best in_order is_best =
         one_sorted (rules_cmp f) (λ r s a b. (let c = laws.total.antisymm (r, parts_count r) (s, parts_count s) ∙ ap ordering_reverse b in cc)) (filter (λ r. rule_test f is.derived r p q) rules) best
         (IsStrictlySortedBy-filter (rules_cmp f) (λ r. rule_test f is.derived r p q) rules sorted) in_order
-        (λ r m. (let (k, e) = kept_among (λ r. rule_test f is.derived r p q) r rules m in among_from best r ((is_best r).1 (over r k, true_test (allowed_decided f is.derived r p q) e))))
-        (λ r m. (let (o, a) = (is_best r).0 (contains_from best r m) in among_kept (λ r. rule_test f is.derived r p q) r rules (among_from rules r ((exactly r).1 o)) (test_true (allowed_decided f is.derived r p q) a)))
+        (λ r m. (let (k, e) = among_filter_from (λ r. rule_test f is.derived r p q) r rules m in among_from best r ((is_best r).1 (over r k, true_test (allowed_decided f is.derived r p q) e))))
+        (λ r m. (let (o, a) = (is_best r).0 (contains_from best r m) in among_filter (λ r. rule_test f is.derived r p q) r rules (among_from rules r ((exactly r).1 o)) (test_true (allowed_decided f is.derived r p q) a)))
 
   rules_of : (x p q : ℕ) → (rules : List ℕ) × IsStrictlySortedBy (rules_cmp f) rules × ((r : ℕ) → Contains rules r ↔ IsWholeOver f x p q r)
   rules_of x p q =
@@ -264,18 +267,18 @@ module _ (f : Forest) (is : IsForest f) where
           let v = node_list n (whole_key f r p q) k in
           λ j. map (λ cs. Node (u j) cs p q) (v j)))
 
-  last_kept : (x p q : ℕ) (l : Last) → IsLast f x p q l → lasts_by f lists x p q l ≡ kept x p q
+  last_kept : (x p q : ℕ) (l : Cause) → IsCause f x p q l → causes_by f lists x p q l ≡ kept x p q
   last_kept x p q AnEdge h = ap (filter (tree_test f is.derived)) (all_unique F E order laws (slot_of x) p q _ _ (leaf_all x p q h) (exact (slot_of x) p q).1)
   last_kept x p q Nothing h = ap (filter (tree_test f is.derived)) (all_unique F E order laws (slot_of x) p q _ _ (null_all x p q h.0 h.1) (exact (slot_of x) p q).1)
   last_kept x p q (Wholes nodes) h = wholes_kept x p q nodes h
 
   -- ---- a node
 
-  front_same : (r d p m : ℕ) (front : Option ℕ) → IsFront f r d p m front → fronts_by lists front ≡ kept_spans r d p m
-  front_same r d p m None h =
-      ap (filter (front_test f is.derived)) (front_unique F E forward order laws (rule_at F r) (order.null_high r) d p m (NoChild ∷ []) (spans r d p m).0
-      (subst (λ k. All r k p m (NoChild ∷ [])) (sym h.0) (subst (λ z. All r 0 p z (NoChild ∷ [])) (sym h.1) (one_front F E forward order laws (rule_at F r) (order.null_high r) p))) (spans r d p m).1)
-  front_same r d p m (Some n) h = node_list n (record { rule = r; dot = d; origin = p; end = m }) h.1
+  prefix_same : (r d p m : ℕ) (prefix : Option ℕ) → IsPredecessor f r d p m prefix → prefixes_by lists prefix ≡ kept_spans r d p m
+  prefix_same r d p m None h =
+      ap (filter (prefix_test f is.derived)) (prefix_unique F E forward order laws (rule_at F r) (order.null_high r) d p m (NoChild ∷ []) (spans r d p m).0
+      (subst (λ k. All r k p m (NoChild ∷ [])) (sym h.0) (subst (λ z. All r 0 p z (NoChild ∷ [])) (sym h.1) (one_prefix F E forward order laws (rule_at F r) (order.null_high r) p))) (spans r d p m).1)
+  prefix_same r d p m (Some n) h = node_list n (record { rule = r; dot = d; origin = p; end = m }) h.1
 
   module _ (key : NodeKey) (alternatives : List Alternative) (a : AreAlternatives f key alternatives) where
     pub is_rule : IsRule g key.rule
@@ -284,7 +287,7 @@ module _ (f : Forest) (is : IsForest f) where
     part_is : (a.dot < length (rhs_of g key.rule)) × (slice_index_or (rhs_of g key.rule) a.dot 0 ≡ a.symbol)
     part_is = get_index (rhs_of g key.rule) a.dot 0 a.symbol a.part
 
-    pub symbol_is : last_symbol f key ≡ a.symbol
+    pub symbol_is : cause_symbol f key ≡ a.symbol
     symbol_is = let e : key.dot - 1 ≡ a.dot = (let h = a.dot_is in omega arith) in ap (λ d. slice_index_or (rhs_of g key.rule) d 0) e ∙ part_is.1
 
     slot_is : child_slot (rule_at F key.rule) a.dot ≡ slot_of a.symbol
@@ -296,12 +299,12 @@ module _ (f : Forest) (is : IsForest f) where
     abbrev before : (m : ℕ) → (cs : List Children) × All key.rule a.dot key.origin m cs
     before m = spans key.rule a.dot key.origin m
 
-    split_of : (m : ℕ) (cs : Children) (t : Tree) → DerivesFront F E (rule_at F key.rule) key.origin m cs → child_count cs ≡ a.dot → D F E (slot_of a.symbol) m key.end t → IsSplit f key.rule a.dot key.origin a.symbol m key.end
+    split_of : (m : ℕ) (cs : Children) (t : Tree) → DerivesPrefix F E (rule_at F key.rule) key.origin m cs → child_count cs ≡ a.dot → D F E (slot_of a.symbol) m key.end t → IsSplit f key.rule a.dot key.origin a.symbol m key.end
     split_of m cs t d e h = record {
       children = cs;
-      front = subst (λ k. Spans g E key.rule k key.origin m cs) e (front_back cs key.rule is_rule key.origin m (let lt = part_is.0 in omega (arith, e)) d);
+      predecessor = subst (λ k. Spans g E key.rule k key.origin m cs) e (prefix_back cs key.rule is_rule key.origin m (let lt = part_is.0 in omega (arith, e)) d);
       tree = t;
-      last = back a.symbol m key.end t h;
+      cause = back a.symbol m key.end t h;
     }
 
     made : All key.rule (suc a.dot) key.origin key.end (flat_map (behind F E forward order laws exact (slot_of a.symbol) key.end (λ r. (before r).0)) starts)
@@ -310,56 +313,56 @@ module _ (f : Forest) (is : IsForest f) where
         (λ m cs t d e h. among_from starts m ((a.exact m).1 (split_of m cs t d e h)))
 
     key_is : (spans key.rule key.dot key.origin key.end).0 ≡ flat_map (behind F E forward order laws exact (slot_of a.symbol) key.end (λ r. (before r).0)) starts
-    key_is = front_unique F E forward order laws (rule_at F key.rule) (order.null_high key.rule) key.dot key.origin key.end _ _
+    key_is = prefix_unique F E forward order laws (rule_at F key.rule) (order.null_high key.rule) key.dot key.origin key.end _ _
         (spans key.rule key.dot key.origin key.end).1
         (subst (λ d. All key.rule d key.origin key.end (flat_map (behind F E forward order laws exact (slot_of a.symbol) key.end (λ r. (before r).0)) starts)) (sym a.dot_is) made)
 
-    -- of a front with a last part the test is of both
-    behind_kept : (m : ℕ) → filter (front_test f is.derived) (behind F E forward order laws exact (slot_of a.symbol) key.end (λ r. (before r).0) m)
+    -- of a prefix with a last part the test is of both
+    behind_kept : (m : ℕ) → filter (prefix_test f is.derived) (behind F E forward order laws exact (slot_of a.symbol) key.end (λ r. (before r).0) m)
         ≡ flat_map (λ cs. map (Child cs) (kept a.symbol m key.end)) (kept_spans key.rule a.dot key.origin m)
     behind_kept m =
-        kept_flat (front_test f is.derived) (λ cs. map (Child cs) (exact (slot_of a.symbol) m key.end).0) (before m).0
-        ∙ flat_map_same (λ cs. filter (front_test f is.derived) (map (Child cs) (exact (slot_of a.symbol) m key.end).0)) (λ cs. cond (front_test f is.derived cs) (map (Child cs) (kept a.symbol m key.end)) []) (before m).0
-        (λ cs i. kept_map (front_test f is.derived) (front_test f is.derived cs) (tree_test f is.derived) (Child cs) (λ t. refl) (exact (slot_of a.symbol) m key.end).0)
-        ∙ flat_kept (front_test f is.derived) (λ cs. map (Child cs) (kept a.symbol m key.end)) (before m).0
+        kept_flat (prefix_test f is.derived) (λ cs. map (Child cs) (exact (slot_of a.symbol) m key.end).0) (before m).0
+        ∙ flat_map_same (λ cs. filter (prefix_test f is.derived) (map (Child cs) (exact (slot_of a.symbol) m key.end).0)) (λ cs. cond (prefix_test f is.derived cs) (map (Child cs) (kept a.symbol m key.end)) []) (before m).0
+        (λ cs i. kept_map (prefix_test f is.derived) (prefix_test f is.derived cs) (tree_test f is.derived) (Child cs) (λ t. refl) (exact (slot_of a.symbol) m key.end).0)
+        ∙ flat_kept (prefix_test f is.derived) (λ cs. map (Child cs) (kept a.symbol m key.end)) (before m).0
 
-    last_is : (b : Alternative) → Contains alternatives b → lasts_by f lists a.symbol b.start key.end b.last ≡ kept a.symbol b.start key.end
-    last_is b c = last_kept a.symbol b.start key.end b.last (a.each b c).last
+    last_is : (b : Alternative) → Contains alternatives b → causes_by f lists a.symbol b.start key.end b.cause ≡ kept a.symbol b.start key.end
+    last_is b c = last_kept a.symbol b.start key.end b.cause (a.each b c).cause
 
     alternative_is : (b : Alternative) → Among b alternatives →
-        filter (front_test f is.derived) (behind F E forward order laws exact (slot_of a.symbol) key.end (λ r. (before r).0) b.start) ≡ alternative_by f lists (last_symbol f key) key.end b
+        filter (prefix_test f is.derived) (behind F E forward order laws exact (slot_of a.symbol) key.end (λ r. (before r).0) b.start) ≡ alternative_by f lists (cause_symbol f key) key.end b
     alternative_is b m =
         let c = contains_from alternatives b m in
-        let x = front_same key.rule a.dot key.origin b.start b.front (a.each b c).front in
+        let x = prefix_same key.rule a.dot key.origin b.start b.predecessor (a.each b c).predecessor in
         let y = last_is b c in
         let z : alternative_by f lists a.symbol key.end b ≡ flat_map (λ cs. map (Child cs) (kept a.symbol b.start key.end)) (kept_spans key.rule a.dot key.origin b.start) =
         λ i. flat_map (λ cs. map (Child cs) (y i)) (x i) in
         behind_kept b.start ∙ sym z ∙ sym (ap (λ s. alternative_by f lists s key.end b) symbol_is)
 
-    pub key_by : key_list key ≡ flat_map (alternative_by f lists (last_symbol f key) key.end) alternatives
-    key_by = ap (filter (front_test f is.derived)) key_is
-        ∙ kept_flat (front_test f is.derived) (behind F E forward order laws exact (slot_of a.symbol) key.end (λ r. (before r).0)) starts
-        ∙ flat_map_map (λ (z : Alternative). z.start) (λ m. filter (front_test f is.derived) (behind F E forward order laws exact (slot_of a.symbol) key.end (λ r. (before r).0) m)) alternatives
+    pub key_by : key_list key ≡ flat_map (alternative_by f lists (cause_symbol f key) key.end) alternatives
+    key_by = ap (filter (prefix_test f is.derived)) key_is
+        ∙ kept_flat (prefix_test f is.derived) (behind F E forward order laws exact (slot_of a.symbol) key.end (λ r. (before r).0)) starts
+        ∙ flat_map-map (λ m. filter (prefix_test f is.derived) (behind F E forward order laws exact (slot_of a.symbol) key.end (λ r. (before r).0) m)) (λ (z : Alternative). z.start) alternatives
         ∙ flat_map_same _ _ alternatives alternative_is
 
     pub key_all : AreAllSpans f key (key_list key)
     key_all =
         let all = (spans key.rule key.dot key.origin key.end).1 in
         record {
-          sorted = IsStrictlySortedBy-filter _ (front_test f is.derived) (spans key.rule key.dot key.origin key.end).0 all.sorted;
+          sorted = IsStrictlySortedBy-filter _ (prefix_test f is.derived) (spans key.rule key.dot key.origin key.end).0 all.sorted;
           exact = λ cs. (
-            λ c. (let (m, e) = kept_among (front_test f is.derived) cs (spans key.rule key.dot key.origin key.end).0 (among_from (key_list key) cs c) in
+            λ c. (let (m, e) = among_filter_from (prefix_test f is.derived) cs (spans key.rule key.dot key.origin key.end).0 (among_from (key_list key) cs c) in
                 let d = (all.each cs).0 m in
                 let lt = part_is.0 in
                 let dot = a.dot_is in
                 let n = d.1 in
-                (subst (λ k. Spans g E key.rule k key.origin key.end cs) d.1 (front_back cs key.rule is_rule key.origin key.end (omega arith) d.0), front_is f is.derived cs e)),
-            λ (s, c). contains_from _ cs (among_kept (front_test f is.derived) cs (spans key.rule key.dot key.origin key.end).0 ((all.each cs).1 (front_viewed is_rule s)) (is_front f is.derived cs c)),
+                (subst (λ k. Spans g E key.rule k key.origin key.end cs) d.1 (prefix_back cs key.rule is_rule key.origin key.end (omega arith) d.0), prefix_is f is.derived cs e)),
+            λ (s, c). contains_from _ cs (among_filter (prefix_test f is.derived) cs (spans key.rule key.dot key.origin key.end).0 ((all.each cs).1 (prefix_viewed is_rule s)) (is_prefix f is.derived cs c)),
           );
         }
 
-    pub last_trees : (b : Alternative) → Contains alternatives b → AreAllTrees f (last_symbol f key) b.start key.end (lasts_by f lists (last_symbol f key) b.start key.end b.last)
-    last_trees b c = subst (λ s. AreAllTrees f s b.start key.end (lasts_by f lists s b.start key.end b.last)) (sym symbol_is)
+    pub last_trees : (b : Alternative) → Contains alternatives b → AreAllTrees f (cause_symbol f key) b.start key.end (causes_by f lists (cause_symbol f key) b.start key.end b.cause)
+    last_trees b c = subst (λ s. AreAllTrees f s b.start key.end (causes_by f lists s b.start key.end b.cause)) (sym symbol_is)
         (subst (AreAllTrees f a.symbol b.start key.end) (sym (last_is b c))
         (record {
           sorted = kept_sorted a.symbol b.start key.end;
@@ -435,7 +438,7 @@ module _ (f : Forest) (is : IsForest f) where
   root_kept None h =
       let e : 0 ≡ f.place = sym h in
       ap (filter (tree_test f is.derived)) (all_unique F E order laws (slot_of whole_symbol) 0 f.place _ _ (null_all whole_symbol 0 f.place e (over_nothing is.derived.derives e)) (exact (slot_of whole_symbol) 0 f.place).1)
-  root_kept (Some n) h = sym (append_nil (whole_by f lists 0 f.place n)) ∙ wholes_kept whole_symbol 0 f.place (n ∷ []) (root_wholes n h.0 h.1)
+  root_kept (Some n) h = sym (append-nil (whole_by f lists 0 f.place n)) ∙ wholes_kept whole_symbol 0 f.place (n ∷ []) (root_wholes n h.0 h.1)
 
   stands : StandsFor f.written (symbol_at f.flat whole_symbol) (slot_of (slice_index_or f.written.starts f.start 0))
   stands =
@@ -461,7 +464,7 @@ module _ (f : Forest) (is : IsForest f) where
   all_lists = record {
     equal = equal;
     nodes = λ n node e. subst (AreAllSpans f node.key) (sym (ap at e)) (key_all node.key node.alternatives (is.alternatives node (node_among n node e)));
-    lasts = λ n node b e c. last_trees node.key node.alternatives (is.alternatives node (node_among n node e)) b c;
+    causes = λ n node b e c. last_trees node.key node.alternatives (is.alternatives node (node_among n node e)) b c;
     listing = listing;
   }
 

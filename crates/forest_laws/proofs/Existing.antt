@@ -6,14 +6,13 @@ use Rattle.std.specs.List.Sorted.{IsStrictlySortedBy}
 use Rattle.std.specs.declared.cmp.Ordering.TheVariants.{Equal}
 use Rattle.std.specs.Ordering.{nat_cmp}
 use Rattle.std.specs.Cmp.{IsTotalOrder, nat_cmp_total, then_total, on_total, back_total}
+use Rattle.finite_sets.proofs.Clauses.{nat_cmp-Equal, then_equal}
+use Rattle.finite_sets.proofs.Lists.{get_map, among_get, get_index}
 use Rattle.grammar_model.specs.Trees.{Tree, Children, Node}
-use Rattle.grammar_model.proofs.Chains.{both_Equal}
-use Rattle.grammar_model.proofs.Sorting.{nat_cmp-Equal}
-use Rattle.grammar_model.proofs.Lists.{Among, among_from, contains_from, among_flat_map, among_flat_map_from}
 use Rattle.finite_sets.specs.Decided.{IsDecided}
 use Rattle.finite_sets.proofs.Deciding.{both, moved, equal}
 use Rattle.finite_sets.proofs.Members
-use Rattle.finite_sets.proofs.Members.{values, once_pairs, listed}
+use Rattle.finite_sets.proofs.Members.{values, once_pairs, listed, among_filter, among_filter_from, among_from, contains_from, among_flat_map, among_flat_map_from, Among}
 use Rattle.recognizer_model.specs.declared.NodeKey.{NodeKey}
 use Rattle.recognizer_model.specs.declared.flat.FlatSymbol.TheVariants.{Terminal}
 use Rattle.recognizer_model.specs.Flat.{FlatGrammar, IsRule, lhs_of, rhs_of, part_of, IsNullable}
@@ -24,18 +23,16 @@ use Rattle.recognizer_model.specs.Contexts.{IsTop}
 use Rattle.recognizer_model.specs.Chosen.{AreAllowed}
 use Rattle.recognizer_model.specs.Nodes.{IsUsed, IsMet, Whole, Before, Last}
 use Rattle.recognizer_model.proofs.Nodes.{used_are_met}
-use Rattle.recognizer_model.proofs.FlatNamed.{get_index}
-use Rattle.forest_model.specs.Forest.{AnEdge, Nothing, Wholes, Alternative, ForestNode, Forest, edges_of, allowed_of, top_of, IsNode, start_place, starts_cmp, ranks_high, rules_cmp, whole_key, IsSplit, IsWholeOver, AreWholes, IsLast, IsFront, IsAlternative, AreAlternatives, IsDerived, IsRoot, IsForest}
+use Rattle.forest_model.specs.Forest.{AnEdge, Nothing, Wholes, Alternative, ForestNode, Forest, edges_of, allowed_of, top_of, IsNode, start_place, starts_cmp, ranks_high, rules_cmp, whole_key, IsSplit, IsWholeOver, AreWholes, IsCause, IsPredecessor, IsAlternative, AreAlternatives, IsDerived, IsRoot, IsForest}
 use Rattle.forest_model.specs.Forest
 use Rattle.forest_laws.specs.Laws.{with_nodes, ForestsExist}
-use Rattle.forest_laws.proofs.Lists.{among_get}
-use Rattle.forest_laws.proofs.Reading.{laws, forward, only, rule_there, spans, trees_of, tree_in, in_trees, span_in, in_spans}
-use Rattle.forest_laws.proofs.Kept.{among_kept, kept_among}
+use Rattle.forest_laws.proofs.Reading.{laws, forward, only, spans, trees_of, tree_in, in_trees, span_in, in_spans}
 use Rattle.forest_laws.proofs.Ordered.{sorted_by, within_values}
 use Rattle.forest_laws.proofs.Allowing.{some_or_none, leaves, over_decided, allowed_decided, tree_test, tree_is, is_tree}
 use Rattle.forest_laws.proofs.Chosen.{chosen, Paired, paired_length, paired_get, paired_at, paired_map, paired_from}
 use Rattle.forest_laws.proofs.Used.{nodes_in, in_tree, from_tree, first_in}
 use Rattle.forest_laws.proofs.Moved.{alternatives_to}
+use Rattle.recognizer_model.proofs.Sources.{rule_there}
 
 same_key : (x y : NodeKey) → IsDecided (x ≡ y)
 same_key x y =
@@ -47,12 +44,7 @@ starts_total : (high : _) (end : ℕ) → IsTotalOrder (λ (m n : ℕ). starts_c
 starts_total high end = then_total (on_total (λ (m : ℕ). start_place high m end) nat_cmp_total) (back_total nat_cmp_total)
 
 starts_one : (high : _) (end m n : ℕ) → starts_cmp high end m n ≡ Equal → m ≡ n
-starts_one high end m n e = sym (nat_cmp-Equal n m (both_Equal (nat_cmp (start_place high m end) (start_place high n end)) (nat_cmp n m) e).1)
-
-map_get : {X Y : Type 0} (h : X → Y) (xs : List X) (n : ℕ) (x : X) → slice_get xs n ≡ Some x → slice_get (map h xs) n ≡ Some (h x)
-map_get h [] n x e = cc
-map_get h (y ∷ ys) zero x e = let d : y ≡ x = cc in ap (λ z. Some (h z)) d
-map_get h (y ∷ ys) (suc n) x e = map_get h ys n x e
+starts_one high end m n e = sym (nat_cmp-Equal n m (then_equal (nat_cmp (start_place high m end) (start_place high n end)) (nat_cmp n m) e).1)
 
 module _ (f : Forest) (derived : IsDerived f) where
   abbrev g : FlatGrammar
@@ -84,11 +76,11 @@ module _ (f : Forest) (derived : IsDerived f) where
       used k m =
           let (t, i, n) = among_flat_map_from nodes_in k trees m in
           let s = from_tree t k n in
-          let (j, e) = kept_among (tree_test f derived) t (trees_of f derived (lhs_of g top) 0 f.place) i in
+          let (j, e) = among_filter_from (tree_test f derived) t (trees_of f derived (lhs_of g top) 0 f.place) i in
           record { tree = t; derives = in_trees f derived (lhs_of g top) 0 f.place t j; chosen = tree_is f derived t e; children = s.children; has = s.has; dot_is = s.dot_is; some = s.some }
 
       found : (k : NodeKey) → Used k → Among k (flat_map nodes_in trees)
-      found k u = among_flat_map nodes_in u.tree k trees (among_kept (tree_test f derived) u.tree (trees_of f derived (lhs_of g top) 0 f.place) (tree_in f derived u.derives) (is_tree f derived u.tree u.chosen))
+      found k u = among_flat_map nodes_in u.tree k trees (among_filter (tree_test f derived) u.tree (trees_of f derived (lhs_of g top) 0 f.place) (tree_in f derived u.derives) (is_tree f derived u.tree u.chosen))
           (in_tree u.has k (first_in k.rule k.origin k.end u.children k refl refl refl u.dot_is u.some))
 
   abbrev keys : List NodeKey
@@ -100,7 +92,7 @@ module _ (f : Forest) (derived : IsDerived f) where
   number : (k : NodeKey) → Used k → (n : ℕ) × IsNode bare n k
   number k u =
       let (n, e) = among_get keys k (among_from keys k ((keys_all.1.exact k).1 u)) in
-      (n, (record { key = k; alternatives = [] }, map_get (λ k. record { key = k; alternatives = [] }) keys n k e, refl))
+      (n, (record { key = k; alternatives = [] }, get_map (λ k. record { key = k; alternatives = [] }) keys n k e, refl))
 
   -- ---- what is met
 
@@ -164,13 +156,13 @@ module _ (f : Forest) (derived : IsDerived f) where
   some_allowed (Null n) a lt r o = absurd (omega arith)
   some_allowed (Rule {r = r'} {cs = cs} rule l h s) a lt r o = (r', record { is_rule = rule; left = l; children = cs; spans = s }, a.0)
 
-  abbrev IsLastPart : (x m q : ℕ) → Type 0
-  IsLastPart x m q = edges_of f x m q ⊎ (((m ≡ q) × IsNullable g x) ⊎ ((m < q) × ((r : ℕ) × IsWholeOver bare x m q r)))
+  abbrev IsCausePart : (x m q : ℕ) → Type 0
+  IsCausePart x m q = edges_of f x m q ⊎ (((m ≡ q) × IsNullable g x) ⊎ ((m < q) × ((r : ℕ) × IsWholeOver bare x m q r)))
 
-  last_part : {x m q : ℕ} {t : Tree} → Derives g (edges_of f) x m q t → IsLastPart x m q
-  last_part (Token e) = inl e
-  last_part (Null n) = inr (inl (refl, n))
-  last_part (Rule {r = r} {cs = cs} rule l lt s) = inr (inr (lt, (r, record { is_rule = rule; left = l; children = cs; spans = s })))
+  cause_at : {x m q : ℕ} {t : Tree} → Derives g (edges_of f) x m q t → IsCausePart x m q
+  cause_at (Token e) = inl e
+  cause_at (Null n) = inr (inl (refl, n))
+  cause_at (Rule {r = r} {cs = cs} rule l lt s) = inr (inr (lt, (r, record { is_rule = rule; left = l; children = cs; spans = s })))
 
   -- ---- the alternatives of a key
 
@@ -188,24 +180,24 @@ module _ (f : Forest) (derived : IsDerived f) where
             ((t : Tree) × Among t (trees_of f derived x m q)) ⊎ ((t : Tree) → Among t (trees_of f derived x m q) → ⊥) → IsDecided (IsSplit bare r d p x m q)
         go (inl (cs, i)) (inl (t, j)) =
             let lt = (get_index (rhs_of g r) d 0 x part).0 in
-            inl (record { children = cs; front = in_spans f derived r d p m cs is_rule (omega arith) i; tree = t; last = in_trees f derived x m q t j })
-        go (inr none) b = inr (λ s. none s.children (span_in f derived is_rule s.front))
-        go a (inr none) = inr (λ s. none s.tree (tree_in f derived s.last))
+            inl (record { children = cs; predecessor = in_spans f derived r d p m cs is_rule (omega arith) i; tree = t; cause = in_trees f derived x m q t j })
+        go (inr none) b = inr (λ s. none s.children (span_in f derived is_rule s.predecessor))
+        go a (inr none) = inr (λ s. none s.tree (tree_in f derived s.cause))
 
     starts : (starts : List ℕ) × IsStrictlySortedBy (starts_cmp (ranks_high bare r) q) starts × ((m : ℕ) → Contains starts m ↔ IsSplit bare r d p x m q)
     starts = sorted_by (starts_cmp (ranks_high bare r) q) (starts_total (ranks_high bare r) q) (starts_one (ranks_high bare r) q) (λ m. IsSplit bare r d p x m q) (values (λ i. i) (suc q)) split_decided
-        (λ m s. within_values (suc q) m (let le = ahead s.last in omega arith))
+        (λ m s. within_values (suc q) m (let le = ahead s.cause in omega arith))
 
-    abbrev front_key : ℕ → NodeKey
-    front_key m = record { rule = r; dot = d; origin = p; end = m }
+    abbrev prefix_key : ℕ → NodeKey
+    prefix_key m = record { rule = r; dot = d; origin = p; end = m }
 
-    front_for : (m : ℕ) → IsSplit bare r d p x m q → (front : Option ℕ) × IsFront bare r d p m front
-    front_for m s = go (none_or_some s.front)
+    prefix_for : (m : ℕ) → IsSplit bare r d p x m q → (prefix : Option ℕ) × IsPredecessor bare r d p m prefix
+    prefix_for m s = go (none_or_some s.predecessor)
       where
-        go : ((d ≡ 0) × (m ≡ p)) ⊎ (0 < d) → (front : Option ℕ) × IsFront bare r d p m front
+        go : ((d ≡ 0) × (m ≡ p)) ⊎ (0 < d) → (prefix : Option ℕ) × IsPredecessor bare r d p m prefix
         go (inl none) = (None, none)
         go (inr some) =
-            let (n, node) = number (front_key m) (use_of (front_key m) some (Before here s.front part s.last)) in
+            let (n, node) = number (prefix_key m) (use_of (prefix_key m) some (Before here s.predecessor part s.cause)) in
             (Some n, (some, node))
 
     wholes_for : (m : ℕ) → IsSplit bare r d p x m q → m < q → (r' : ℕ) → IsWholeOver bare x m q r' → (nodes : List ℕ) × AreWholes bare x m q nodes
@@ -229,12 +221,12 @@ module _ (f : Forest) (derived : IsDerived f) where
         )
       where
         numbered : (rule : ℕ) → IsWholeOver bare x m q rule × allowed_of bare rule m q → (n : ℕ) × IsNode bare n (whole_key bare rule m q)
-        numbered rule (o, a) = number (whole_key bare rule m q) (use_of (whole_key bare rule m q) (derived.flat.some rule o.is_rule) (Last here s.front (part ∙ ap Some (sym o.left)) o.is_rule lt o.spans a))
+        numbered rule (o, a) = number (whole_key bare rule m q) (use_of (whole_key bare rule m q) (derived.flat.some rule o.is_rule) (Last here s.predecessor (part ∙ ap Some (sym o.left)) o.is_rule lt o.spans a))
 
-    last_for : (m : ℕ) → IsSplit bare r d p x m q → (last : Forest.Last) × IsLast bare x m q last
-    last_for m s = go (last_part s.last)
+    last_for : (m : ℕ) → IsSplit bare r d p x m q → (last : Forest.Cause) × IsCause bare x m q last
+    last_for m s = go (cause_at s.cause)
       where
-        go : IsLastPart x m q → (last : Forest.Last) × IsLast bare x m q last
+        go : IsCausePart x m q → (last : Forest.Cause) × IsCause bare x m q last
         go (inl e) = (AnEdge, e)
         go (inr (inl n)) = (Nothing, n)
         go (inr (inr (lt, (r', over)))) = let (nodes, w) = wholes_for m s lt r' over in (Wholes nodes, w)
@@ -244,9 +236,9 @@ module _ (f : Forest) (derived : IsDerived f) where
 
     alternative_for : (m : ℕ) → IsSplit bare r d p x m q → (a : Alternative) × Fits m a
     alternative_for m s =
-        let (front, is_front) = front_for m s in
+        let (prefix, is_prefix) = prefix_for m s in
         let (last, is_last) = last_for m s in
-        (record { start = m; front = front; last = last }, (refl, record { front = is_front; last = is_last }))
+        (record { start = m; predecessor = prefix; cause = last }, (refl, record { predecessor = is_prefix; cause = is_last }))
 
     alternatives_of : (alternatives : List Alternative) × AreAlternatives bare (record { rule = r; dot = suc d; origin = p; end = q }) alternatives
     alternatives_of =

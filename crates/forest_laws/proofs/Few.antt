@@ -1,11 +1,14 @@
 -- A flat derivation has few steps: a list's node has an item of its own, which is a child of the written node.
 use Rattle.std.proofs.Common.{◌≡◌, ℕ, zero, suc, ◌<◌, ◌≤◌, ◌+◌, Bool, true, false, cond, List, [], ◌∷◌, ◌++◌, length, map, Some, refl, sym, ap, ◌∙◌, subst, length-append, arith}
 use Rattle.std.specs.Prelude.{slice_get, slice_index_or}
+use Rattle.std.proofs.lemmas.List.{length-map}
+use Rattle.std.proofs.lemmas.Option.{slice_get-get_or}
+use Rattle.finite_sets.proofs.Members.{contains_from, among_map}
+use Rattle.finite_sets.proofs.Lists.{get_map, get_among}
 use Rattle.grammar_model.specs.Grammar.{Grammar, slot_of}
 use Rattle.grammar_model.specs.Trees.{Tree, Children, Node, NoChild, Child, child_count}
 use Rattle.grammar_model.specs.Derives.{Edges}
 use Rattle.grammar_model.specs.Steps.{RuleStep, steps_of, steps_of_all}
-use Rattle.grammar_model.proofs.Lists.{among_map, contains_from}
 use Rattle.recognizer_model.specs.declared.flat.FlatSymbol.{FlatSymbol}
 use Rattle.recognizer_model.specs.declared.flat.FlatSymbol.TheVariants.{Sequence, Top}
 use Rattle.recognizer_model.specs.declared.flat.FlatSource.TheVariants.{Written, Top as OfStart}
@@ -15,8 +18,7 @@ use Rattle.recognizer_model.specs.FlatDerives
 use Rattle.recognizer_model.specs.FlatForm.{NamedRule, named, IsRuleOf, OfPlain, OfList, OfTrailing, OfItem, OfItems, OfSeparated, OfTop, symbol_at, is_list, is_list_node, tree_of, children_of, inside, join, node_by}
 use Rattle.recognizer_model.specs.Links.{choices, choices_among}
 use Rattle.forest_model.specs.Forest.{Forest, edges_of, top_of, IsDerived}
-use Rattle.forest_laws.proofs.Lists.{get_among}
-use Rattle.forest_laws.proofs.Written.{no_list, get_of, count_join, IsNoTop, part_no_top, source_written, top_is, start_is, only_child}
+use Rattle.forest_laws.proofs.Written.{no_list, count_join, IsNoTop, part_no_top, source_written, top_is, start_is, only_child}
 use Rattle.forest_laws.specs.Few.{StepsAreFew}
 
 choices_join : (a b : Children) → choices_among (join a b) ≡ choices_among a + choices_among b
@@ -50,15 +52,6 @@ list_ends w n (OfSeparated i separator r b c a d e f h j) list =
     more_ends (Sequence i) (c ∷ b ∷ []) (omega arith) (more_ends c (b ∷ []) (omega arith) (one_ends b (no_list w (slot_of r.item) b j)))
 list_ends w n (OfTop k start s a st) list = cc
 
-get_map : {X Y : Type 0} (h : X → Y) (xs : List X) (n : ℕ) (x : X) → slice_get xs n ≡ Some x → slice_get (map h xs) n ≡ Some (h x)
-get_map h [] n x e = cc
-get_map h (y ∷ ys) zero x e = let d : y ≡ x = cc in ap (λ z. Some (h z)) d
-get_map h (y ∷ ys) (suc n) x e = get_map h ys n x e
-
-map_length : {X Y : Type 0} (h : X → Y) (xs : List X) → length (map h xs) ≡ length xs
-map_length h [] = refl
-map_length h (x ∷ xs) = ap suc (map_length h xs)
-
 module _ (f : Forest) (derived : IsDerived f) where
   abbrev g : FlatGrammar
   g = f.flat
@@ -72,9 +65,9 @@ module _ (f : Forest) (derived : IsDerived f) where
   last_item : (r d x : ℕ) → IsRule g r → is_list (symbol_at g (lhs_of g r)) ≡ true → part_of g r d ≡ Some x → suc d ≡ length (rhs_of g r) → is_list (symbol_at g x) ≡ false
   last_item r d x rule list part last =
       let it : FlatRule = slice_index_or g.rules r no_rule in
-      let at = get_among g.rules r it (get_of g.rules r no_rule rule) in
+      let at = get_among g.rules r it (slice_get-get_or g.rules r no_rule rule) in
       let named_is = (derived.flat_of.rules.exact (named g it)).0 (contains_from (map (named g) g.rules) (named g it) (among_map (named g) it g.rules at)) in
-      list_ends w (named g it) named_is list d (symbol_at g x) (get_map (symbol_at g) it.rhs d x part) (last ∙ sym (map_length (symbol_at g) it.rhs))
+      list_ends w (named g it) named_is list d (symbol_at g x) (get_map (symbol_at g) it.rhs d x part) (last ∙ sym (length-map it.rhs (symbol_at g)))
 
   -- one where a tree is no list's
   abbrev single : Tree → ℕ
@@ -82,18 +75,18 @@ module _ (f : Forest) (derived : IsDerived f) where
 
   abbrev single_last : Children → ℕ
   single_last NoChild = 0
-  single_last (Child front last) = single last
+  single_last (Child prefix last) = single last
 
   -- what a tree has to spare as a child
   abbrev room_of : Tree → ℕ
   room_of t = cond (is_list_node g t) (room (inside w g t)) (suc (choices (tree_of w g t)))
 
-  room_more : (front : Children) (last : Tree) → room (children_of w g (Child front last)) ≡ room (children_of w g front) + room_of last
-  room_more front last = go (is_list_node g last)
+  room_more : (prefix : Children) (last : Tree) → room (children_of w g (Child prefix last)) ≡ room (children_of w g prefix) + room_of last
+  room_more prefix last = go (is_list_node g last)
     where
-      go : (b : Bool) → room (cond b (join (children_of w g front) (inside w g last)) (Child (children_of w g front) (tree_of w g last)))
-          ≡ room (children_of w g front) + cond b (room (inside w g last)) (suc (choices (tree_of w g last)))
-      go true = let a = choices_join (children_of w g front) (inside w g last) in let b = count_join (children_of w g front) (inside w g last) in omega arith
+      go : (b : Bool) → room (cond b (join (children_of w g prefix) (inside w g last)) (Child (children_of w g prefix) (tree_of w g last)))
+          ≡ room (children_of w g prefix) + cond b (room (inside w g last)) (suc (choices (tree_of w g last)))
+      go true = let a = choices_join (children_of w g prefix) (inside w g last) in let b = count_join (children_of w g prefix) (inside w g last) in omega arith
       go false = omega arith
 
   -- a token and a nulled symbol are no list
@@ -140,11 +133,11 @@ module _ (f : Forest) (derived : IsDerived f) where
 
     children_few : {r d p q : ℕ} {cs : Children} → Spans g E r d p q cs → length (steps_of_all cs) + single_last cs ≤ room (children_of w g cs)
     children_few FlatDerives.Nothing = omega arith
-    children_few (More {r = r} {d = d} {x = x} {cs = front} {t = t} s e d') =
+    children_few (More {r = r} {d = d} {x = x} {cs = prefix} {t = t} s e d') =
         let before = children_few s in
         let last = tree_few d' (part_no_top f derived r d x e) in
-        let both = length-append (steps_of_all front) (steps_of t) in
-        let more = room_more front t in
+        let both = length-append (steps_of_all prefix) (steps_of t) in
+        let more = room_more prefix t in
         omega arith
 
   abbrev IsFew : Tree → Type 0

@@ -1,6 +1,6 @@
 pub mod Lists
 pub mod Kept
-pub mod Fronts
+pub mod Prefixes
 pub mod Reading
 pub mod Allowing
 pub mod Ordered

@@ -1,17 +1,18 @@
 -- The nodes of a forest stand for nothing else: each list that a node stands for is made of smaller child lists.
-use Rattle.std.proofs.Common.{◌≡◌, ℕ, zero, suc, ◌<◌, ◌+◌, List, [], ◌∷◌, map, length, ◌⊎◌, inl, inr, Option, Some, None, refl, sym, ap, ◌∙◌, subst, arith}
+use Rattle.std.proofs.Common.{◌≡◌, ℕ, zero, suc, ◌<◌, ◌+◌, List, [], ◌∷◌, map, ◌⊎◌, inl, inr, Option, Some, None, refl, sym, ap, ◌∙◌, subst, arith}
 use Rattle.std.specs.Prelude.{slice_get, Contains}
 use Rattle.std.specs.List.{flat_map}
+use Rattle.finite_sets.proofs.Members.{among_from, contains_from, Among, among_map}
+use Rattle.finite_sets.proofs.Lists.{get_among, among_get, get_some}
 use Rattle.grammar_model.specs.Trees.{Tree, Children, Leaf, Nulled, Node, NoChild, Child}
-use Rattle.grammar_model.proofs.Lists.{Among, among_from, contains_from}
 use Rattle.recognizer_model.specs.declared.NodeKey.{NodeKey}
 use Rattle.recognizer_model.specs.FlatDerives.{Derives, Spans, Rule, More}
 use Rattle.recognizer_model.specs.Chosen.{AreAllowed, AreAllowedIn}
-use Rattle.recognizer_model.proofs.Leaving.{front_some}
-use Rattle.forest_model.specs.Forest.{Last, AnEdge, Nothing, Wholes, Alternative, ForestNode, Forest, edges_of, allowed_of, IsNode, whole_key, IsSplit, IsLast, IsFront, AreAlternatives, IsForest}
-use Rattle.forest_laws.specs.Lists.{Lists, last_symbol, rule_of, fronts_by, whole_by, lasts_by, alternative_by, node_by, AreLists}
+use Rattle.recognizer_model.proofs.Leaving.{prefix_some}
+use Rattle.forest_model.specs.Forest.{Cause, AnEdge, Nothing, Wholes, Alternative, ForestNode, Forest, edges_of, allowed_of, IsNode, whole_key, IsSplit, IsCause, IsPredecessor, AreAlternatives, IsForest}
+use Rattle.forest_laws.specs.Lists.{Lists, cause_symbol, rule_of, prefixes_by, whole_by, causes_by, alternative_by, node_by, AreLists}
 use Rattle.forest_laws.specs.Laws.{ListsAreOne}
-use Rattle.forest_laws.proofs.Lists.{flat_map_same, among_get, get_there, get_among}
+use Rattle.forest_laws.proofs.Lists.{flat_map_same, get_there}
 use Rattle.forest_laws.proofs.Allowing.{leaves}
 use Rattle.forest_laws.proofs.Exact.{lists, key_list, equal, key_all, symbol_is, node_among}
 
@@ -23,7 +24,7 @@ abbrev mutual
 
   size : Children → ℕ
   size NoChild = 0
-  size (Child front last) = suc (size front + tree_size last)
+  size (Child prefix last) = suc (size prefix + tree_size last)
 
 module _ (f : Forest) (is : IsForest f) (others : Lists) (are : AreLists f others) where
   -- the node's child lists are smaller than k
@@ -48,25 +49,25 @@ module _ (f : Forest) (is : IsForest f) (others : Lists) (are : AreLists f other
         (((key_all f is inner.key inner.alternatives (is.alternatives inner (node_among f is n inner e))).exact cs).0 (contains_from _ cs m))))
 
     module _ (m : ℕ) (split : IsSplit f node.key.rule a.dot node.key.origin a.symbol m node.key.end) where
-      -- a front and a last part of allowed rules
-      front_there : (cs : Children) × (Spans f.flat (edges_of f) node.key.rule a.dot node.key.origin m cs × AreAllowedIn (allowed_of f) cs)
-      front_there = let (cs, s, c) = front_some f.flat (edges_of f) (allowed_of f) (leaves f is.derived) split.front in (cs, (s, c))
+      -- a prefix and a last part of allowed rules
+      prefix_there : (cs : Children) × (Spans f.flat (edges_of f) node.key.rule a.dot node.key.origin m cs × AreAllowedIn (allowed_of f) cs)
+      prefix_there = let (cs, s, c) = prefix_some f.flat (edges_of f) (allowed_of f) (leaves f is.derived) split.predecessor in (cs, (s, c))
 
       last_there : (t : Tree) × (Derives f.flat (edges_of f) a.symbol m node.key.end t × AreAllowed (allowed_of f) t)
-      last_there = let (t, d, c) = leaves f is.derived a.symbol m node.key.end split.tree split.last in (t, (d, c))
+      last_there = let (t, d, c) = leaves f is.derived a.symbol m node.key.end split.tree split.cause in (t, (d, c))
 
       some : 0 < k
-      some = let lt = member m front_there.0 last_there.0 front_there.1 last_there.1 in omega arith
+      some = let lt = member m prefix_there.0 last_there.0 prefix_there.1 last_there.1 in omega arith
 
-      front_one : (front : Option ℕ) → IsFront f node.key.rule a.dot node.key.origin m front → fronts_by others front ≡ fronts_by (lists f is) front
-      front_one None h = refl
-      front_one (Some n) h = within n (record { rule = node.key.rule; dot = a.dot; origin = node.key.origin; end = m }) h.1 some
+      prefix_one : (prefix : Option ℕ) → IsPredecessor f node.key.rule a.dot node.key.origin m prefix → prefixes_by others prefix ≡ prefixes_by (lists f is) prefix
+      prefix_one None h = refl
+      prefix_one (Some n) h = within n (record { rule = node.key.rule; dot = a.dot; origin = node.key.origin; end = m }) h.1 some
           (λ cs s. (let lt = member m cs last_there.0 s last_there.1 in larger cs last_there.0 lt))
         where
           larger : (cs : Children) (t : Tree) → size (Child cs t) < k → suc (size cs) < k
           larger cs t lt = omega arith
 
-      last_one : (l : Last) → IsLast f a.symbol m node.key.end l → lasts_by f others a.symbol m node.key.end l ≡ lasts_by f (lists f is) a.symbol m node.key.end l
+      last_one : (l : Cause) → IsCause f a.symbol m node.key.end l → causes_by f others a.symbol m node.key.end l ≡ causes_by f (lists f is) a.symbol m node.key.end l
       last_one AnEdge h = refl
       last_one Nothing h = refl
       last_one (Wholes nodes) h = flat_map_same (whole_by f others m node.key.end) (whole_by f (lists f is) m node.key.end) nodes
@@ -81,19 +82,19 @@ module _ (f : Forest) (is : IsForest f) (others : Lists) (are : AreLists f other
               let (r, e') = get_there nodes h.rules j n h.all e in
               let (over, allowed) = (h.exact r).0 (contains_from h.rules r (get_among h.rules j r e')) in
               within n (whole_key f r m node.key.end) (h.each j n r e e') some
-              (λ cs (s, c). larger r cs front_there.0 (member m front_there.0 (Node r cs m node.key.end) front_there.1 (Rule over.is_rule over.left h.spans s, (allowed, c))))
+              (λ cs (s, c). larger r cs prefix_there.0 (member m prefix_there.0 (Node r cs m node.key.end) prefix_there.1 (Rule over.is_rule over.left h.spans s, (allowed, c))))
 
-    alternative_one : (b : Alternative) → Among b node.alternatives → alternative_by f others (last_symbol f node.key) node.key.end b ≡ alternative_by f (lists f is) (last_symbol f node.key) node.key.end b
+    alternative_one : (b : Alternative) → Among b node.alternatives → alternative_by f others (cause_symbol f node.key) node.key.end b ≡ alternative_by f (lists f is) (cause_symbol f node.key) node.key.end b
     alternative_one b i =
         let c = contains_from node.alternatives b i in
         let s = (a.exact b.start).0 (started node.alternatives b i) in
-        let x = front_one b.start s b.front (a.each b c).front in
-        let y = last_one b.start s b.last (a.each b c).last in
-        let z : alternative_by f others a.symbol node.key.end b ≡ alternative_by f (lists f is) a.symbol node.key.end b = (λ j. flat_map (λ front. map (Child front) (y j)) (x j)) in
+        let x = prefix_one b.start s b.predecessor (a.each b c).predecessor in
+        let y = last_one b.start s b.cause (a.each b c).cause in
+        let z : alternative_by f others a.symbol node.key.end b ≡ alternative_by f (lists f is) a.symbol node.key.end b = (λ j. flat_map (λ prefix. map (Child prefix) (y j)) (x j)) in
         subst (λ s. alternative_by f others s node.key.end b ≡ alternative_by f (lists f is) s node.key.end b) (sym (symbol_is f is node.key node.alternatives a)) z
       where
         started : (alternatives : List Alternative) (b : Alternative) → Among b alternatives → Contains (map (λ (z : Alternative). z.start) alternatives) b.start
-        started alternatives b i = contains_from _ b.start (Rattle.grammar_model.proofs.Lists.among_map (λ (z : Alternative). z.start) b alternatives i)
+        started alternatives b i = contains_from _ b.start (among_map (λ (z : Alternative). z.start) b alternatives i)
 
     node_one : node_by f others node ≡ node_by f (lists f is) node
     node_one = flat_map_same _ _ node.alternatives alternative_one
@@ -117,12 +118,7 @@ module _ (f : Forest) (is : IsForest f) (others : Lists) (are : AreLists f other
   pub only_one : (n : ℕ) (node : ForestNode) → slice_get f.nodes n ≡ Some node → others n ≡ lists f is n
   only_one n node e = let (k, all) = above (key_list f is node.key) in one k n node e all
 
-there : {X : Type 0} (xs : List X) (n : ℕ) → n < length xs → (x : X) × (slice_get xs n ≡ Some x)
-there [] n lt = absurd (omega arith)
-there (x ∷ xs) zero lt = (x, refl)
-there (x ∷ xs) (suc n) lt = there xs n (omega arith)
-
 pub lists_are_one : ListsAreOne
 lists_are_one f is ls others a b n lt =
-    let (node, e) = there f.nodes n lt in
+    let (node, e) = get_some f.nodes n lt in
     only_one f is ls a n node e ∙ sym (only_one f is others b n node e)

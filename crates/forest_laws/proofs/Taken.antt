@@ -1,9 +1,11 @@
 -- The first lists of steps are those of the first derivations.
 use Rattle.std.proofs.Common.{◌≡◌, ℕ, zero, suc, ◌≤◌, List, [], ◌∷◌, ◌++◌, length, map, inl, inr, Option, Some, None, refl, sym, ap, ◌∙◌, subst}
 use Rattle.std.specs.Prelude.{slice_get}
+use Rattle.std.proofs.lemmas.List.{map-append, append-nil}
+use Rattle.finite_sets.proofs.Members.{contains_from, among_left, Among}
+use Rattle.finite_sets.proofs.Lists.{map_empty}
 use Rattle.grammar_model.specs.Trees.{Tree, Node}
 use Rattle.grammar_model.specs.Steps.{Step, steps_of}
-use Rattle.grammar_model.proofs.Lists.{Among, contains_from, among_left}
 use Rattle.recognizer_model.specs.Flat.{lhs_of}
 use Rattle.recognizer_model.specs.FlatForm.{tree_of}
 use Rattle.recognizer_model.specs.FlatDerives.{Derives}
@@ -13,8 +15,7 @@ use Rattle.forest_model.specs.Listing.{IsListing}
 use Rattle.forest_laws.specs.Lists.{Lists, roots_by, rule_of}
 use Rattle.forest_laws.specs.Laws.{AreAllLists}
 use Rattle.forest_laws.specs.Written.{steps_written}
-use Rattle.forest_laws.specs.Taken.{AreTaken, FrontsAreTaken}
-use Rattle.forest_laws.proofs.Lists.{append_nil}
+use Rattle.forest_laws.specs.Taken.{AreTaken, PrefixesAreTaken}
 use Rattle.forest_laws.proofs.Reading
 use Rattle.forest_laws.proofs.Exact
 use Rattle.forest_laws.proofs.Exact.{root_kept, in_kept}
@@ -38,14 +39,6 @@ split_map h (x ∷ xs) (y ∷ ys) zs e =
     let s = split_map h xs ys zs tail in
     let same = s.first_is in
     record { first = x ∷ s.first; second = s.second; both = ap (λ l. x ∷ l) s.both; first_is = λ i. head i ∷ same i; second_is = s.second_is }
-
-map_both : {X Y : Type 0} (f : X → Y) (xs ys : List X) → map f (xs ++ ys) ≡ map f xs ++ map f ys
-map_both f [] ys = refl
-map_both f (x ∷ xs) ys = ap (λ l. f x ∷ l) (map_both f xs ys)
-
-none_left : {X Y : Type 0} (h : X → Y) (xs : List X) → map h xs ≡ [] → xs ≡ []
-none_left h [] e = refl
-none_left h (x ∷ xs) e = cc
 
 each_written : (out : List Step → List Step) (tree : Tree → Tree) (ts : List Tree) → ((t : Tree) → Among t ts → out (steps_of t) ≡ steps_of (tree t)) → map out (map steps_of ts) ≡ map steps_of (map tree ts)
 each_written out tree [] e = refl
@@ -77,7 +70,7 @@ module _ (f : Forest) (lists : Lists) (is : IsForest f) (all : AreAllLists f lis
   taken_are taken rest e =
       let s = split_map steps_of (roots_by f lists f.root) taken rest e in
       let listing : IsListing f (map (tree_of f.written f.flat) s.first ++ map (tree_of f.written f.flat) s.second) =
-      subst (IsListing f) (ap (map (tree_of f.written f.flat)) s.both ∙ map_both (tree_of f.written f.flat) s.first s.second) all.listing in
+      subst (IsListing f) (ap (map (tree_of f.written f.flat)) s.both ∙ map-append (tree_of f.written f.flat) s.first s.second) all.listing in
       record {
         given = map (tree_of f.written f.flat) s.first;
         first = record { rest = map (tree_of f.written f.flat) s.second; listing = listing };
@@ -87,9 +80,9 @@ module _ (f : Forest) (lists : Lists) (is : IsForest f) (all : AreAllLists f lis
         few = λ k flat tree at there.
             each_few (tree_of f.written f.flat) s.first (λ t m. steps_are_few f is.derived t (derived t (subst (Among t) (sym s.both) (among_left t s.first s.second m))))
             k flat tree (subst (λ l. slice_get l k ≡ Some flat) (sym s.first_is) at) there;
-        all = λ none. (let gone = none_left steps_of s.second (s.second_is ∙ none) in
-            subst (IsListing f) (ap (λ l. map (tree_of f.written f.flat) s.first ++ map (tree_of f.written f.flat) l) gone ∙ append_nil (map (tree_of f.written f.flat) s.first)) listing);
+        all = λ none. (let gone = map_empty steps_of s.second (s.second_is ∙ none) in
+            subst (IsListing f) (ap (λ l. map (tree_of f.written f.flat) s.first ++ map (tree_of f.written f.flat) l) gone ∙ append-nil (map (tree_of f.written f.flat) s.first)) listing);
       }
 
-pub fronts_are_taken : FrontsAreTaken
-fronts_are_taken f lists taken rest is all e = taken_are f lists is all taken rest e
+pub prefixes_are_taken : PrefixesAreTaken
+prefixes_are_taken f lists taken rest is all e = taken_are f lists is all taken rest e

@@ -2,9 +2,13 @@
 use Rattle.std.proofs.Common.{◌≡◌, ℕ, zero, suc, ◌<◌, List, [], ◌∷◌, ◌++◌, map, length, Option, Some, None, refl, sym, ap, ◌∙◌, subst, arith}
 use Rattle.std.specs.Prelude.{slice_get, slice_index_or, Contains}
 use Rattle.std.specs.List.{flat_map}
+use Rattle.std.proofs.lemmas.List.{append_assoc, map-append, append-nil}
+use Rattle.std.proofs.lemmas.List.Folds.{flat_map-map}
+use Rattle.std.proofs.lemmas.Option.{slice_get_within}
+use Rattle.finite_sets.proofs.Members.{among_from, contains_from, among_map, among_map_from, Among}
+use Rattle.finite_sets.proofs.Lists.{get_among, among_get, flat_flat, map_flat, get_some}
 use Rattle.grammar_model.specs.Trees.{Tree, Children, Node, Child, child_count}
 use Rattle.grammar_model.specs.Steps.{Step, TokenStep, NulledStep, RuleStep, steps_of, steps_of_all}
-use Rattle.grammar_model.proofs.Lists.{Among, among_from, contains_from, among_map, among_map_from}
 use Rattle.recognizer_model.specs.Contexts.{IsTop}
 use Rattle.recognizer_model.specs.Nodes.{IsMet, Whole, Before, Last as MetLast}
 use Rattle.recognizer_model.proofs.Nodes.{used_are_met}
@@ -12,23 +16,15 @@ use Rattle.recognizer_model.specs.FlatDerives.{Derives, Spans, More}
 use Rattle.recognizer_model.specs.FlatDerives
 use Rattle.recognizer_model.specs.Flat.{FlatGrammar, part_of}
 use Rattle.grammar_model.specs.Derives.{Edges}
-use Rattle.forest_model.specs.Forest.{Last, AnEdge, Nothing, Wholes, Alternative, ForestNode, Forest, edges_of, allowed_of, top_of, IsNode, IsSplit, IsFront, IsLast, IsRoot, IsForest}
-use Rattle.forest_laws.specs.Lists.{Lists, last_symbol, rule_of, fronts_by, whole_by, lasts_by, alternative_by, roots_by}
+use Rattle.forest_model.specs.Forest.{Cause, AnEdge, Nothing, Wholes, Alternative, ForestNode, Forest, edges_of, allowed_of, top_of, IsNode, IsSplit, IsPredecessor, IsCause, IsRoot, IsForest}
+use Rattle.forest_laws.specs.Lists.{Lists, cause_symbol, rule_of, prefixes_by, whole_by, causes_by, alternative_by, roots_by}
 use Rattle.forest_laws.specs.Laws.{AreAllLists}
-use Rattle.forest_laws.specs.Goals.{Goal, Parts, OneOf, Write, count_of, front_goals, last_goals, whole_goals, alternative_goals, node_options, options, IsGoal, AreGoals, root_goals, steps_from, Done, Wrote, Chose, written, later_steps, to_come, stands, GoalsAreChosen, WalksGoOn}
+use Rattle.forest_laws.specs.Goals.{Goal, Parts, OneOf, Write, count_of, predecessor_goals, cause_goals, whole_goals, alternative_goals, node_options, options, IsGoal, AreGoals, root_goals, steps_from, Done, Wrote, Chose, written, later_steps, to_come, stands, GoalsAreChosen, WalksGoOn}
 use Rattle.forest_laws.specs.Walked.{IsWalked, ForestsAreWalked}
 use Rattle.forest_laws.proofs.Allowing.{leaves}
-use Rattle.forest_laws.proofs.Lists.{flat_map_map, flat_map_same, get_among, among_get, get_there, append_nil}
+use Rattle.forest_laws.proofs.Lists.{flat_map_same, get_there}
 
 -- ---- lists
-
-assoc : {X : Type 0} (xs ys zs : List X) → (xs ++ ys) ++ zs ≡ xs ++ (ys ++ zs)
-assoc [] ys zs = refl
-assoc (x ∷ xs) ys zs = ap (λ l. x ∷ l) (assoc xs ys zs)
-
-map_both : {X Y : Type 0} (f : X → Y) (xs ys : List X) → map f (xs ++ ys) ≡ map f xs ++ map f ys
-map_both f [] ys = refl
-map_both f (x ∷ xs) ys = ap (λ l. f x ∷ l) (map_both f xs ys)
 
 map_map : {X Y Z : Type 0} (f : X → Y) (h : Y → Z) (k : X → Z) → ((x : X) → h (f x) ≡ k x) → (xs : List X) → map h (map f xs) ≡ map k xs
 map_map f h k e [] = refl
@@ -44,25 +40,6 @@ map_id f e (x ∷ xs) =
     let b = map_id f e xs in
     λ i. a i ∷ b i
 
-map_same : {X Y : Type 0} (f h : X → Y) → ((x : X) → f x ≡ h x) → (xs : List X) → map f xs ≡ map h xs
-map_same f h e [] = refl
-map_same f h e (x ∷ xs) =
-    let a = e x in
-    let b = map_same f h e xs in
-    λ i. a i ∷ b i
-
-flat_both : {X Y : Type 0} (f : X → List Y) (xs ys : List X) → flat_map f (xs ++ ys) ≡ flat_map f xs ++ flat_map f ys
-flat_both f [] ys = refl
-flat_both f (x ∷ xs) ys = ap (λ l. f x ++ l) (flat_both f xs ys) ∙ sym (assoc (f x) (flat_map f xs) (flat_map f ys))
-
-flat_flat : {X Y Z : Type 0} (f : X → List Y) (h : Y → List Z) (xs : List X) → flat_map h (flat_map f xs) ≡ flat_map (λ x. flat_map h (f x)) xs
-flat_flat f h [] = refl
-flat_flat f h (x ∷ xs) = flat_both h (f x) (flat_map f xs) ∙ ap (λ l. flat_map h (f x) ++ l) (flat_flat f h xs)
-
-map_flat : {X Y Z : Type 0} (f : X → List Y) (h : Y → Z) (xs : List X) → map h (flat_map f xs) ≡ flat_map (λ x. map h (f x)) xs
-map_flat f h [] = refl
-map_flat f h (x ∷ xs) = map_both h (f x) (flat_map f xs) ∙ ap (λ l. map h (f x) ++ l) (map_flat f h xs)
-
 -- ---- walks, whatever the lists are
 
 module _ (f : Forest) (lists : Lists) where
@@ -76,14 +53,14 @@ module _ (f : Forest) (lists : Lists) where
 
   chose : (done : List Done) (later : List (List Goal)) (behind : List Goal) →
       to_come f lists (done ++ Chose later behind ∷ []) ≡ map (λ rest. written done ++ rest) (later_steps f lists behind later) ++ to_come f lists done
-  chose [] later behind = sym (append_nil (map (λ rest. rest) (later_steps f lists behind later)) ∙ map_id (λ rest. rest) (λ x. refl) (later_steps f lists behind later))
+  chose [] later behind = sym (append-nil (map (λ rest. rest) (later_steps f lists behind later)) ∙ map_id (λ rest. rest) (λ x. refl) (later_steps f lists behind later))
   chose (Wrote s ∷ done) later behind =
       let l : List (List Step) = later_steps f lists behind later in
-      ap (map (λ rest. s ∷ rest)) (chose done later behind) ∙ map_both (λ rest. s ∷ rest) (map (λ rest. written done ++ rest) l) (to_come f lists done)
+      ap (map (λ rest. s ∷ rest)) (chose done later behind) ∙ map-append (λ rest. s ∷ rest) (map (λ rest. written done ++ rest) l) (to_come f lists done)
       ∙ ap (λ m. m ++ map (λ rest. s ∷ rest) (to_come f lists done)) (map_map (λ rest. written done ++ rest) (λ rest. s ∷ rest) (λ rest. s ∷ (written done ++ rest)) (λ x. refl) l)
   chose (Chose others before ∷ done) later behind =
       ap (λ l. l ++ later_steps f lists before others) (chose done later behind)
-      ∙ assoc (map (λ rest. written done ++ rest) (later_steps f lists behind later)) (to_come f lists done) (later_steps f lists before others)
+      ∙ append_assoc (map (λ rest. written done ++ rest) (later_steps f lists behind later)) (to_come f lists done) (later_steps f lists before others)
 
   wrote_more : (done : List Done) (step : Step) → written (done ++ Wrote step ∷ []) ≡ written done ++ step ∷ []
   wrote_more [] step = refl
@@ -99,7 +76,7 @@ module _ (f : Forest) (lists : Lists) where
   writes done step left =
       let same : map (λ rest. written done ++ rest) (map (λ rest. step ∷ rest) (S left)) ≡ map (λ rest. written (done ++ Wrote step ∷ []) ++ rest) (S left) =
       map_map (λ rest. step ∷ rest) (λ rest. written done ++ rest) (λ rest. written (done ++ Wrote step ∷ []) ++ rest)
-      (λ x. sym (ap (λ l. l ++ x) (wrote_more done step) ∙ assoc (written done) (step ∷ []) x)) (S left) in
+      (λ x. sym (ap (λ l. l ++ x) (wrote_more done step) ∙ append_assoc (written done) (step ∷ []) x)) (S left) in
       let rest = sym (unwrites done step) in
       λ i. same i ++ rest i
 
@@ -110,8 +87,8 @@ module _ (f : Forest) (lists : Lists) where
       let l : List (List Step) = later_steps f lists behind later in
       let a : map (λ rest. written done ++ rest) first ≡ map (λ rest. written (done ++ Chose later behind ∷ []) ++ rest) first = ap (λ w. map (λ rest. w ++ rest) first) (sym (wrote_same done later behind)) in
       let b = sym (chose done later behind) in
-      ap (λ m. m ++ to_come f lists done) (map_both (λ rest. written done ++ rest) first l)
-      ∙ assoc (map (λ rest. written done ++ rest) first) (map (λ rest. written done ++ rest) l) (to_come f lists done)
+      ap (λ m. m ++ to_come f lists done) (map-append (λ rest. written done ++ rest) first l)
+      ∙ append_assoc (map (λ rest. written done ++ rest) first) (map (λ rest. written done ++ rest) l) (to_come f lists done)
       ∙ (λ i. a i ++ b i)
 
   walks_go_on : GoalsAreChosen f lists → WalksGoOn f lists
@@ -121,7 +98,7 @@ module _ (f : Forest) (lists : Lists) where
         ap (λ l. map (λ rest. written done ++ rest) l ++ to_come f lists done)
         (choices.chosen goal left is (λ step same. (let h : [] ≡ option ∷ later = sym (ap (options f) same) ∙ e in cc)) ∙ ap (later_steps f lists left) e)
         ∙ opened done option left later;
-    gives = λ done. ap (λ l. l ∷ to_come f lists done) (append_nil (written done));
+    gives = λ done. ap (λ l. l ∷ to_come f lists done) (append-nil (written done));
     unwrites = unwrites;
     is_spent = λ done behind. chose done [] behind;
     goes_on = λ done option behind later. chose done (option ∷ later) behind ∙ opened done option behind later;
@@ -133,20 +110,10 @@ count_is : {g : FlatGrammar} {E : Edges} {r d p q : ℕ} {cs : Children} → Spa
 count_is FlatDerives.Nothing = refl
 count_is (More s e t) = ap suc (count_is s)
 
-there : {X : Type 0} (xs : List X) (n : ℕ) → n < length xs → (x : X) × (slice_get xs n ≡ Some x)
-there [] n lt = absurd (omega arith)
-there (x ∷ xs) zero lt = (x, refl)
-there (x ∷ xs) (suc n) lt = there xs n (omega arith)
-
-within : {X : Type 0} (xs : List X) (n : ℕ) (x : X) → slice_get xs n ≡ Some x → n < length xs
-within [] n x e = cc
-within (y ∷ ys) zero x e = omega arith
-within (y ∷ ys) (suc n) x e = let h = within ys n x e in omega arith
-
 module _ (f : Forest) (lists : Lists) (is : IsForest f) (all : AreAllLists f lists) where
   counted : (n : ℕ) → n < length f.nodes → (cs : Children) → Among cs (lists n) → child_count cs ≡ count_of (slice_get f.nodes n)
   counted n lt cs m =
-      let (node, e) = there f.nodes n lt in
+      let (node, e) = get_some f.nodes n lt in
       count_is ((((all.nodes n node e).exact cs).0 (contains_from (lists n) cs m)).0) ∙ sym (ap count_of e)
 
   module _ (goals : List Goal) where
@@ -159,68 +126,68 @@ module _ (f : Forest) (lists : Lists) (is : IsForest f) (all : AreAllLists f lis
     abbrev with_tree : Tree → List (List Step)
     with_tree t = map (λ rest. steps_of t ++ rest) (steps_from f lists goals)
 
-    last_one : (x m q : ℕ) (l : Last) → steps_from f lists (last_goals x m q l ++ goals) ≡ flat_map with_tree (lasts_by f lists x m q l)
-    last_one x m q AnEdge = sym (append_nil (map (λ rest. TokenStep x m q ∷ rest) after))
-    last_one x m q Nothing = sym (append_nil (map (λ rest. NulledStep x m ∷ rest) after))
+    last_one : (x m q : ℕ) (l : Cause) → steps_from f lists (cause_goals x m q l ++ goals) ≡ flat_map with_tree (causes_by f lists x m q l)
+    last_one x m q AnEdge = sym (append-nil (map (λ rest. TokenStep x m q ∷ rest) after))
+    last_one x m q Nothing = sym (append-nil (map (λ rest. NulledStep x m ∷ rest) after))
     last_one x m q (Wholes nodes) = refl
 
-    front_one : (front : Option ℕ) (more : List Goal) → steps_from f lists (front_goals front ++ more) ≡ flat_map (λ cs. map (λ rest. steps_of_all cs ++ rest) (steps_from f lists more)) (fronts_by lists front)
-    front_one None more = sym (append_nil (map (λ rest. rest) (steps_from f lists more)) ∙ map_id (λ rest. rest) (λ x. refl) (steps_from f lists more))
-    front_one (Some n) more = refl
+    prefix_one : (prefix : Option ℕ) (more : List Goal) → steps_from f lists (predecessor_goals prefix ++ more) ≡ flat_map (λ cs. map (λ rest. steps_of_all cs ++ rest) (steps_from f lists more)) (prefixes_by lists prefix)
+    prefix_one None more = sym (append-nil (map (λ rest. rest) (steps_from f lists more)) ∙ map_id (λ rest. rest) (λ x. refl) (steps_from f lists more))
+    prefix_one (Some n) more = refl
 
-    one_more : (front : Children) (trees : List Tree) → map (λ rest. steps_of_all front ++ rest) (flat_map with_tree trees) ≡ flat_map with_children (map (Child front) trees)
-    one_more front trees =
-        map_flat with_tree (λ rest. steps_of_all front ++ rest) trees
-        ∙ flat_map_same (λ t. map (λ rest. steps_of_all front ++ rest) (with_tree t)) (λ t. with_children (Child front t)) trees
-        (λ t m. map_map (λ rest. steps_of t ++ rest) (λ rest. steps_of_all front ++ rest) (λ rest. (steps_of_all front ++ steps_of t) ++ rest) (λ x. sym (assoc (steps_of_all front) (steps_of t) x)) after)
-        ∙ sym (flat_map_map (Child front) with_children trees)
+    one_more : (prefix : Children) (trees : List Tree) → map (λ rest. steps_of_all prefix ++ rest) (flat_map with_tree trees) ≡ flat_map with_children (map (Child prefix) trees)
+    one_more prefix trees =
+        map_flat with_tree (λ rest. steps_of_all prefix ++ rest) trees
+        ∙ flat_map_same (λ t. map (λ rest. steps_of_all prefix ++ rest) (with_tree t)) (λ t. with_children (Child prefix t)) trees
+        (λ t m. map_map (λ rest. steps_of t ++ rest) (λ rest. steps_of_all prefix ++ rest) (λ rest. (steps_of_all prefix ++ steps_of t) ++ rest) (λ x. sym (append_assoc (steps_of_all prefix) (steps_of t) x)) after)
+        ∙ sym (flat_map-map with_children (Child prefix) trees)
 
     alternative_one : (node : ForestNode) (a : Alternative) →
-        flat_map with_children (alternative_by f lists (last_symbol f node.key) node.key.end a) ≡ steps_from f lists (alternative_goals f node a ++ goals)
+        flat_map with_children (alternative_by f lists (cause_symbol f node.key) node.key.end a) ≡ steps_from f lists (alternative_goals f node a ++ goals)
     alternative_one node a =
-        let trees : List Tree = lasts_by f lists (last_symbol f node.key) a.start node.key.end a.last in
-        let ends : List Goal = last_goals (last_symbol f node.key) a.start node.key.end a.last in
-        flat_flat (λ front. map (Child front) (lasts_by f lists (last_symbol f node.key) a.start node.key.end a.last)) with_children (fronts_by lists a.front)
-        ∙ sym (ap (steps_from f lists) (assoc (front_goals a.front) ends goals) ∙ front_one a.front (ends ++ goals)
-        ∙ ap (λ (l : List (List Step)). flat_map (λ cs. map (λ rest. steps_of_all cs ++ rest) l) (fronts_by lists a.front)) (last_one (last_symbol f node.key) a.start node.key.end a.last)
-        ∙ flat_map_same (λ cs. map (λ rest. steps_of_all cs ++ rest) (flat_map with_tree trees)) (λ cs. flat_map with_children (map (Child cs) trees)) (fronts_by lists a.front) (λ cs m. one_more cs trees))
+        let trees : List Tree = causes_by f lists (cause_symbol f node.key) a.start node.key.end a.cause in
+        let ends : List Goal = cause_goals (cause_symbol f node.key) a.start node.key.end a.cause in
+        flat_flat (λ prefix. map (Child prefix) (causes_by f lists (cause_symbol f node.key) a.start node.key.end a.cause)) with_children (prefixes_by lists a.predecessor)
+        ∙ sym (ap (steps_from f lists) (append_assoc (predecessor_goals a.predecessor) ends goals) ∙ prefix_one a.predecessor (ends ++ goals)
+        ∙ ap (λ (l : List (List Step)). flat_map (λ cs. map (λ rest. steps_of_all cs ++ rest) l) (prefixes_by lists a.predecessor)) (last_one (cause_symbol f node.key) a.start node.key.end a.cause)
+        ∙ flat_map_same (λ cs. map (λ rest. steps_of_all cs ++ rest) (flat_map with_tree trees)) (λ cs. flat_map with_children (map (Child cs) trees)) (prefixes_by lists a.predecessor) (λ cs m. one_more cs trees))
 
     parts_chosen : (n : ℕ) (node : ForestNode) → slice_get f.nodes n ≡ Some node → steps_from f lists (Parts n ∷ goals) ≡ later_steps f lists goals (options f (Parts n))
     parts_chosen n node e =
         ap (flat_map with_children) (all.equal n node e)
-        ∙ flat_flat (alternative_by f lists (last_symbol f node.key) node.key.end) with_children node.alternatives
-        ∙ flat_map_same (λ a. flat_map with_children (alternative_by f lists (last_symbol f node.key) node.key.end a)) (λ a. steps_from f lists (alternative_goals f node a ++ goals)) node.alternatives (λ a m. alternative_one node a)
-        ∙ sym (flat_map_map (alternative_goals f node) (λ option. steps_from f lists (option ++ goals)) node.alternatives)
+        ∙ flat_flat (alternative_by f lists (cause_symbol f node.key) node.key.end) with_children node.alternatives
+        ∙ flat_map_same (λ a. flat_map with_children (alternative_by f lists (cause_symbol f node.key) node.key.end a)) (λ a. steps_from f lists (alternative_goals f node a ++ goals)) node.alternatives (λ a m. alternative_one node a)
+        ∙ sym (flat_map-map (λ option. steps_from f lists (option ++ goals)) (alternative_goals f node) node.alternatives)
         ∙ ap (λ o. later_steps f lists goals (node_options f o)) (sym e)
 
     whole_one : (m q n : ℕ) → n < length f.nodes → flat_map with_tree (whole_by f lists m q n) ≡ steps_from f lists (whole_goals f m q n ++ goals)
     whole_one m q n lt =
         let r : ℕ = rule_of (slice_get f.nodes n) in
         let c : ℕ = count_of (slice_get f.nodes n) in
-        flat_map_map (λ cs. Node (rule_of (slice_get f.nodes n)) cs m q) with_tree (lists n)
+        flat_map-map with_tree (λ cs. Node (rule_of (slice_get f.nodes n)) cs m q) (lists n)
         ∙ flat_map_same (λ cs. with_tree (Node r cs m q)) (λ cs. map (λ rest. steps_of_all cs ++ rest) (map (λ rest. RuleStep r c m q ∷ rest) after)) (lists n)
         (λ cs i. sym (map_map (λ rest. RuleStep r c m q ∷ rest) (λ rest. steps_of_all cs ++ rest) (λ rest. (steps_of_all cs ++ RuleStep r (child_count cs) m q ∷ []) ++ rest)
-        (λ x. ap (λ k. steps_of_all cs ++ RuleStep r k m q ∷ x) (sym (counted n lt cs i)) ∙ sym (assoc (steps_of_all cs) (RuleStep r (child_count cs) m q ∷ []) x)) after))
+        (λ x. ap (λ k. steps_of_all cs ++ RuleStep r k m q ∷ x) (sym (counted n lt cs i)) ∙ sym (append_assoc (steps_of_all cs) (RuleStep r (child_count cs) m q ∷ []) x)) after))
 
     wholes_chosen : (m q : ℕ) (nodes : List ℕ) → ((n : ℕ) → Contains nodes n → n < length f.nodes) → steps_from f lists (OneOf m q nodes ∷ goals) ≡ later_steps f lists goals (options f (OneOf m q nodes))
     wholes_chosen m q nodes inside =
         flat_flat (whole_by f lists m q) with_tree nodes
         ∙ flat_map_same (λ n. flat_map with_tree (whole_by f lists m q n)) (λ n. steps_from f lists (whole_goals f m q n ++ goals)) nodes (λ n i. whole_one m q n (inside n (contains_from nodes n i)))
-        ∙ sym (flat_map_map (whole_goals f m q) (λ option. steps_from f lists (option ++ goals)) nodes)
+        ∙ sym (flat_map-map (λ option. steps_from f lists (option ++ goals)) (whole_goals f m q) nodes)
 
   goal_chosen : (goal : Goal) (goals : List Goal) → IsGoal f goal → ((step : Step) → goal ≡ Write step → ⊥) → steps_from f lists (goal ∷ goals) ≡ later_steps f lists goals (options f goal)
-  goal_chosen (Parts n) goals lt other = let (node, e) = there f.nodes n lt in parts_chosen goals n node e
+  goal_chosen (Parts n) goals lt other = let (node, e) = get_some f.nodes n lt in parts_chosen goals n node e
   goal_chosen (OneOf m q nodes) goals h other = wholes_chosen goals m q nodes h.1
   goal_chosen (Write step) goals h other = absurd (other step refl)
 
   is_node : (n : ℕ) (k : _) → IsNode f n k → n < length f.nodes
-  is_node n k (node, e, same) = within f.nodes n node e
+  is_node n k (node, e, same) = slice_get_within f.nodes n node e
 
-  fronts_kept : (rule dot origin m : ℕ) (front : Option ℕ) → IsFront f rule dot origin m front → AreGoals f (front_goals front)
-  fronts_kept rule dot origin m None h = tt
-  fronts_kept rule dot origin m (Some n) h = (is_node n _ h.1, tt)
+  prefixes_kept : (rule dot origin m : ℕ) (prefix : Option ℕ) → IsPredecessor f rule dot origin m prefix → AreGoals f (predecessor_goals prefix)
+  prefixes_kept rule dot origin m None h = tt
+  prefixes_kept rule dot origin m (Some n) h = (is_node n _ h.1, tt)
 
-  lasts_kept : (x m q : ℕ) (y : ℕ) (l : Last) → IsLast f x m q l → AreGoals f (last_goals y m q l)
+  lasts_kept : (x m q : ℕ) (y : ℕ) (l : Cause) → IsCause f x m q l → AreGoals f (cause_goals y m q l)
   lasts_kept x m q y AnEdge h = (tt, tt)
   lasts_kept x m q y Nothing h = (tt, tt)
   lasts_kept x m q y (Wholes nodes) h = ((h.some, inside), tt)
@@ -237,13 +204,13 @@ module _ (f : Forest) (lists : Lists) (is : IsForest f) (all : AreAllLists f lis
 
   goal_kept : (goal : Goal) (option : List Goal) → IsGoal f goal → Contains (options f goal) option → AreGoals f option
   goal_kept (Parts n) option lt c =
-      let (node, e) = there f.nodes n lt in
+      let (node, e) = get_some f.nodes n lt in
       let here = subst (λ o. Contains (node_options f o) option) e c in
       let (a, i, same) = among_map_from (alternative_goals f node) option node.alternatives (among_from _ option here) in
       let alternatives = is.alternatives node (contains_from f.nodes node (get_among f.nodes n node e)) in
       let one = alternatives.each a (contains_from node.alternatives a i) in
-      subst (AreGoals f) same (both (front_goals a.front) (last_goals (last_symbol f node.key) a.start node.key.end a.last)
-      (fronts_kept node.key.rule alternatives.dot node.key.origin a.start a.front one.front) (lasts_kept alternatives.symbol a.start node.key.end (last_symbol f node.key) a.last one.last))
+      subst (AreGoals f) same (both (predecessor_goals a.predecessor) (cause_goals (cause_symbol f node.key) a.start node.key.end a.cause)
+      (prefixes_kept node.key.rule alternatives.dot node.key.origin a.start a.predecessor one.predecessor) (lasts_kept alternatives.symbol a.start node.key.end (cause_symbol f node.key) a.cause one.cause))
   goal_kept (OneOf m q nodes) option (some, inside) c =
       let (n, i, same) = among_map_from (whole_goals f m q) option nodes (among_from _ option c) in
       subst (AreGoals f) same (inside n (contains_from nodes n i), (tt, tt))
@@ -257,7 +224,7 @@ module _ (f : Forest) (lists : Lists) (is : IsForest f) (all : AreAllLists f lis
       go (x ∷ xs) zero lt = refl
       go (x ∷ xs) (suc k) lt = go xs k (omega arith)
 
-  -- the first parts of a used node are there
+  -- the first parts of a used node are get_some
   met_spans : {r d p q : ℕ} → IsMet f.flat (edges_of f) (allowed_of f) (top_of f) f.place r d p q → (cs : Children) × Spans f.flat (edges_of f) r d p q cs
   met_spans (Whole {cs = cs} lt s) = (cs, s)
   met_spans (Before {cs = cs} m s e d) = (cs, s)
@@ -266,7 +233,7 @@ module _ (f : Forest) (lists : Lists) (is : IsForest f) (all : AreAllLists f lis
   split_there : {r d p q x : ℕ} {cs : Children} → Spans f.flat (edges_of f) r (suc d) p q cs → part_of f.flat r d ≡ Some x → (m : ℕ) × IsSplit f r d p x m q
   split_there {r} {d} {p} {q} {x} (More {m = m} {x = y} {cs = cs} {t = t} s e h) part =
       let same : y ≡ x = (let both = sym e ∙ part in cc) in
-      (m, record { children = cs; front = s; tree = t; last = subst (λ z. Derives f.flat (edges_of f) z m q t) same h })
+      (m, record { children = cs; predecessor = s; tree = t; cause = subst (λ z. Derives f.flat (edges_of f) z m q t) same h })
 
   map_length : {X Y : Type 0} (h : X → Y) (xs : List X) → length (map h xs) ≡ length xs
   map_length h [] = refl
@@ -287,7 +254,7 @@ module _ (f : Forest) (lists : Lists) (is : IsForest f) (all : AreAllLists f lis
 
   goal_some : (goal : Goal) → IsGoal f goal → ((step : Step) → goal ≡ Write step → ⊥) → 0 < length (options f goal)
   goal_some (Parts n) lt other =
-      let (node, e) = there f.nodes n lt in
+      let (node, e) = get_some f.nodes n lt in
       let h = some_alternative n node e in
       let l = map_length (alternative_goals f node) node.alternatives in
       let same : length (node_options f (slice_get f.nodes n)) ≡ length (map (alternative_goals f node) node.alternatives) = ap (λ o. length (node_options f o)) e in
@@ -301,7 +268,7 @@ module _ (f : Forest) (lists : Lists) (is : IsForest f) (all : AreAllLists f lis
   alone : (trees : List Tree) → flat_map (λ t. map (λ rest. steps_of t ++ rest) ([] ∷ [])) trees ≡ map steps_of trees
   alone [] = refl
   alone (t ∷ trees) =
-      let a = append_nil (steps_of t) in
+      let a = append-nil (steps_of t) in
       let b = alone trees in
       λ i. a i ∷ b i
 

@@ -1,6 +1,10 @@
 -- Flat steps are written as the steps of what their tree stands for.
-use Rattle.std.proofs.Common.{◌≡◌, ℕ, zero, suc, ◌<◌, ◌+◌, Bool, true, false, cond, List, [], ◌∷◌, ◌++◌, length, Option, Some, None, refl, sym, ap, ◌∙◌, subst, arith}
+use Rattle.std.proofs.Common.{◌≡◌, ℕ, ◌+◌, Bool, true, false, cond, List, [], ◌∷◌, ◌++◌, length, Some, refl, sym, ap, ◌∙◌, subst, arith}
 use Rattle.std.specs.Prelude.{slice_get, slice_index_or}
+use Rattle.std.proofs.lemmas.List.{append_assoc, append-nil}
+use Rattle.std.proofs.lemmas.Option.{slice_get-get_or}
+use Rattle.finite_sets.proofs.Members.{contains_from, among_map}
+use Rattle.finite_sets.proofs.Lists.{get_among}
 use Rattle.grammar_model.specs.Grammar.{Grammar, slot_of}
 use Rattle.grammar_model.specs.Grammar
 use Rattle.grammar_model.specs.Trees.{Tree, Children, Leaf, Nulled, Node, NoChild, Child, child_count}
@@ -14,19 +18,13 @@ use Rattle.recognizer_model.specs.Invariant.{IsFlat, IsTopOf, HasSource}
 use Rattle.recognizer_model.specs.FlatDerives.{Derives, Spans, Token, Null, Rule, More}
 use Rattle.recognizer_model.specs.FlatDerives
 use Rattle.recognizer_model.specs.Flat.{FlatGrammar, FlatRule, no_rule, IsRule, lhs_of, rhs_of, source_of, part_of}
-use Rattle.grammar_model.proofs.Lists.{among_map, contains_from}
 use Rattle.forest_model.specs.Forest.{Forest, edges_of, top_of, IsDerived}
-use Rattle.forest_laws.proofs.Lists.{append_nil, get_among}
 use Rattle.recognizer_model.specs.FlatForm.{Stands, AsTerminal, AsSlot, NamedRule, named, IsRuleOf, OfPlain, OfList, OfTrailing, OfItem, OfItems, OfSeparated, OfTop, symbol_at, is_list, is_list_node, tree_of, children_of, inside, join, node_by}
-use Rattle.forest_laws.specs.Written.{sum_newest, older, is_list_rule, rule_written, step_written, counts_after, steps_written}
-
-assoc : {X : Type 0} (xs ys zs : List X) → (xs ++ ys) ++ zs ≡ xs ++ (ys ++ zs)
-assoc [] ys zs = refl
-assoc (x ∷ xs) ys zs = ap (λ l. x ∷ l) (assoc xs ys zs)
+use Rattle.forest_laws.specs.Written.{sum_newest, older, is_list_rule, rule_written, steps_written}
 
 steps_join : (a b : Children) → steps_of_all (join a b) ≡ steps_of_all a ++ steps_of_all b
-steps_join a NoChild = sym (append_nil (steps_of_all a))
-steps_join a (Child b t) = ap (λ l. l ++ steps_of t) (steps_join a b) ∙ assoc (steps_of_all a) (steps_of_all b) (steps_of t)
+steps_join a NoChild = sym (append-nil (steps_of_all a))
+steps_join a (Child b t) = ap (λ l. l ++ steps_of t) (steps_join a b) ∙ append_assoc (steps_of_all a) (steps_of_all b) (steps_of t)
 
 pub count_join : (a b : Children) → child_count (join a b) ≡ child_count a + child_count b
 count_join a NoChild = omega arith
@@ -45,7 +43,7 @@ module _ (w : Grammar) (g : FlatGrammar) where
 
   abbrev counts_of : Children → List ℕ → List ℕ
   counts_of NoChild counts = counts
-  counts_of (Child front last) counts = count last ∷ counts_of front counts
+  counts_of (Child prefix last) counts = count last ∷ counts_of prefix counts
 
   -- each node comes from a written rule
   abbrev mutual
@@ -56,31 +54,31 @@ module _ (w : Grammar) (g : FlatGrammar) where
 
     AreWritten : Children → Type 0
     AreWritten NoChild = Unit {0}
-    AreWritten (Child front last) = AreWritten front × IsWritten last
+    AreWritten (Child prefix last) = AreWritten prefix × IsWritten last
 
-  out_more : (front : Children) (last : Tree) → steps_of_all (children_of w g (Child front last)) ≡ steps_of_all (children_of w g front) ++ out last
-  out_more front last = go (is_list_node g last)
+  out_more : (prefix : Children) (last : Tree) → steps_of_all (children_of w g (Child prefix last)) ≡ steps_of_all (children_of w g prefix) ++ out last
+  out_more prefix last = go (is_list_node g last)
     where
-      go : (b : Bool) → steps_of_all (cond b (join (children_of w g front) (inside w g last)) (Child (children_of w g front) (tree_of w g last)))
-          ≡ steps_of_all (children_of w g front) ++ cond b (steps_of_all (inside w g last)) (steps_of (tree_of w g last))
-      go true = steps_join (children_of w g front) (inside w g last)
+      go : (b : Bool) → steps_of_all (cond b (join (children_of w g prefix) (inside w g last)) (Child (children_of w g prefix) (tree_of w g last)))
+          ≡ steps_of_all (children_of w g prefix) ++ cond b (steps_of_all (inside w g last)) (steps_of (tree_of w g last))
+      go true = steps_join (children_of w g prefix) (inside w g last)
       go false = refl
 
-  count_more : (front : Children) (last : Tree) → child_count (children_of w g (Child front last)) ≡ child_count (children_of w g front) + count last
-  count_more front last = go (is_list_node g last)
+  count_more : (prefix : Children) (last : Tree) → child_count (children_of w g (Child prefix last)) ≡ child_count (children_of w g prefix) + count last
+  count_more prefix last = go (is_list_node g last)
     where
-      go : (b : Bool) → child_count (cond b (join (children_of w g front) (inside w g last)) (Child (children_of w g front) (tree_of w g last)))
-          ≡ child_count (children_of w g front) + cond b (child_count (inside w g last)) 1
-      go true = count_join (children_of w g front) (inside w g last)
+      go : (b : Bool) → child_count (cond b (join (children_of w g prefix) (inside w g last)) (Child (children_of w g prefix) (tree_of w g last)))
+          ≡ child_count (children_of w g prefix) + cond b (child_count (inside w g last)) 1
+      go true = count_join (children_of w g prefix) (inside w g last)
       go false = omega arith
 
   sum_is : (cs : Children) (counts : List ℕ) → sum_newest (child_count cs) (counts_of cs counts) ≡ child_count (children_of w g cs)
   sum_is NoChild counts = refl
-  sum_is (Child front last) counts = ap (λ n. n + count last) (sum_is front counts) ∙ sym (count_more front last)
+  sum_is (Child prefix last) counts = ap (λ n. n + count last) (sum_is prefix counts) ∙ sym (count_more prefix last)
 
   older_is : (cs : Children) (counts : List ℕ) → older (child_count cs) (counts_of cs counts) ≡ counts
   older_is NoChild counts = refl
-  older_is (Child front last) counts = older_is front counts
+  older_is (Child prefix last) counts = older_is prefix counts
 
   -- the rule of a node, behind its children
   rule_step : (r : ℕ) (cs : Children) (p q i : ℕ) → source_of g r ≡ Written i → (counts : List ℕ) (rest : List Step) →
@@ -100,29 +98,24 @@ module _ (w : Grammar) (g : FlatGrammar) where
       go : (b : Bool) → steps_of_all (children_of w g cs) ++ (rule_written b (Written i) (child_count (children_of w g cs)) p q ++ W (cond b (child_count (children_of w g cs)) 1 ∷ counts) rest)
           ≡ cond b (steps_of_all (children_of w g cs)) (steps_of (Node i (children_of w g cs) p q)) ++ W (cond b (child_count (children_of w g cs)) 1 ∷ counts) rest
       go true = refl
-      go false = sym (assoc (steps_of_all (children_of w g cs)) (RuleStep i (child_count (children_of w g cs)) p q ∷ []) (W (1 ∷ counts) rest))
+      go false = sym (append_assoc (steps_of_all (children_of w g cs)) (RuleStep i (child_count (children_of w g cs)) p q ∷ []) (W (1 ∷ counts) rest))
 
   mutual
     tree_written : (t : Tree) → IsWritten t → (counts : List ℕ) (rest : List Step) → W counts (steps_of t ++ rest) ≡ out t ++ W (count t ∷ counts) rest
     tree_written (Leaf x p q) h counts rest = refl
     tree_written (Nulled x p) h counts rest = refl
     tree_written (Node r cs p q) h counts rest =
-        ap (W counts) (assoc (steps_of_all cs) (RuleStep r (child_count cs) p q ∷ []) rest)
+        ap (W counts) (append_assoc (steps_of_all cs) (RuleStep r (child_count cs) p q ∷ []) rest)
         ∙ children_written cs h.1 counts (RuleStep r (child_count cs) p q ∷ rest) ∙ rule_step r cs p q h.0.0 h.0.1 counts rest
 
     children_written : (cs : Children) → AreWritten cs → (counts : List ℕ) (rest : List Step) → W counts (steps_of_all cs ++ rest) ≡ steps_of_all (children_of w g cs) ++ W (counts_of cs counts) rest
     children_written NoChild h counts rest = refl
-    children_written (Child front last) h counts rest =
-        ap (W counts) (assoc (steps_of_all front) (steps_of last) rest)
-        ∙ children_written front h.0 counts (steps_of last ++ rest)
-        ∙ ap (λ l. steps_of_all (children_of w g front) ++ l) (tree_written last h.1 (counts_of front counts) rest)
-        ∙ sym (assoc (steps_of_all (children_of w g front)) (out last) (W (count last ∷ counts_of front counts) rest))
-        ∙ ap (λ l. l ++ W (count last ∷ counts_of front counts) rest) (sym (out_more front last))
-
-pub get_of : {X : Type 0} (xs : List X) (k : ℕ) (d : X) → k < length xs → slice_get xs k ≡ Some (slice_index_or xs k d)
-get_of [] k d lt = absurd (omega arith)
-get_of (x ∷ xs) zero d lt = refl
-get_of (x ∷ xs) (suc k) d lt = get_of xs k d (omega arith)
+    children_written (Child prefix last) h counts rest =
+        ap (W counts) (append_assoc (steps_of_all prefix) (steps_of last) rest)
+        ∙ children_written prefix h.0 counts (steps_of last ++ rest)
+        ∙ ap (λ l. steps_of_all (children_of w g prefix) ++ l) (tree_written last h.1 (counts_of prefix counts) rest)
+        ∙ sym (append_assoc (steps_of_all (children_of w g prefix)) (out last) (W (count last ∷ counts_of prefix counts) rest))
+        ∙ ap (λ l. l ++ W (count last ∷ counts_of prefix counts) rest) (sym (out_more prefix last))
 
 first_is : (h : ℕ → FlatSymbol) (xs : List ℕ) (s : FlatSymbol) (x : ℕ) → Rattle.std.proofs.Common.map h xs ≡ s ∷ [] → slice_get xs 0 ≡ Some x → h x ≡ s
 first_is h [] s x e e' = cc
@@ -163,13 +156,13 @@ module _ (f : Forest) (derived : IsDerived f) where
   pub part_no_top : (r d x : ℕ) → part_of g r d ≡ Some x → IsNoTop x
   part_no_top r d x part k at =
       let r' : ℕ = slice_index_or g.tops k 0 in
-      let top = flat.tops k r' (get_of g.tops k 0 (flat.all_tops x k at)) in
+      let top = flat.tops k r' (slice_get-get_or g.tops k 0 (flat.all_tops x k at)) in
       let same : x ≡ lhs_of g r' = flat.differ x (lhs_of g r') (Top k) at top.symbol in
       top.is_top.outermost r d (part ∙ ap Some same)
 
   pub source_written : (r : ℕ) → IsRule g r → IsNoTop (lhs_of g r) → (i : ℕ) × (source_of g r ≡ Written i)
   source_written r rule other =
-      let at = get_of g.symbols (lhs_of g r) (Top 0) (flat.in_range.left r rule) in
+      let at = slice_get-get_or g.symbols (lhs_of g r) (Top 0) (flat.in_range.left r rule) in
       go (symbol_at g (lhs_of g r)) at (source_of g r) refl (flat.sources r (symbol_at g (lhs_of g r)) rule at)
     where
       go : (s : FlatSymbol) → slice_get f.flat.symbols (lhs_of f.flat r) ≡ Some s → (source : FlatSource) → source_of f.flat r ≡ source → HasSource s source → (i : ℕ) × (source_of f.flat r ≡ Written i)
@@ -198,12 +191,12 @@ module _ (f : Forest) (derived : IsDerived f) where
   list_node (Rule rule l lt s) h = ap (λ y. is_list (symbol_at g y)) l ∙ h
 
   pub top_is : IsTopOf f.flat f.start (top_of f)
-  top_is = flat.tops f.start (top_of f) (get_of g.tops f.start 0 derived.start)
+  top_is = flat.tops f.start (top_of f) (slice_get-get_or g.tops f.start 0 derived.start)
 
   pub start_is : (x : ℕ) → part_of g (top_of f) 0 ≡ Some x → is_list (symbol_at g x) ≡ false
   start_is x part =
       let rule : FlatRule = slice_index_or g.rules (top_of f) no_rule in
-      let at = get_among g.rules (top_of f) rule (get_of g.rules (top_of f) no_rule top_is.is_top.is_rule) in
+      let at = get_among g.rules (top_of f) rule (slice_get-get_or g.rules (top_of f) no_rule top_is.is_top.is_rule) in
       let named_is = (derived.flat_of.rules.exact (named g rule)).0 (contains_from (Rattle.std.proofs.Common.map (named g) g.rules) (named g rule) (among_map (named g) rule g.rules at)) in
       let (s, right, none) = start_only f.written (named g rule) f.start named_is top_is.source in
       ap is_list (first_is (symbol_at g) (rhs_of g (top_of f)) s x right part) ∙ none
@@ -222,7 +215,7 @@ module _ (f : Forest) (derived : IsDerived f) where
       tree_written f.written g t is [] (RuleStep r 1 p q ∷ [])
       ∙ ap (λ s. out f.written g t ++ (rule_written (is_list_rule g r) s (sum_newest 1 (count f.written g t ∷ [])) p q ++ [])) source
       ∙ ap (λ l. out f.written g t ++ (l ++ [])) (nothing (is_list_rule g r))
-      ∙ append_nil (out f.written g t)
+      ∙ append-nil (out f.written g t)
       ∙ ap (λ b. cond b (steps_of_all (inside f.written g t)) (steps_of (tree_of f.written g t))) none
       ∙ sym (ap (λ s. steps_of (node_by s (children_of f.written g (Child NoChild t)) p q)) source
       ∙ ap (λ b. steps_of (node_by (OfStart k) (cond b (join NoChild (inside f.written g t)) (Child NoChild (tree_of f.written g t))) p q)) none)

@@ -1,13 +1,14 @@
 -- A walk through a forest that writes the steps of a derivation. What is left to do is a list of goals; a goal is done by choosing
--- one of its options, which is a list of goals again. The front is walked before the last part, and the children before their rule.
+-- one of its options, which is a list of goals again. The predecessor is walked before the cause, and the children before their
+-- rule. Goals and choices are Prolog's words for such a search, depth first with backtracking.
 use Rattle.std.specs.Prelude.{◌≡◌, ℕ, ◌<◌, List, [], ◌∷◌, ◌++◌, map, length, Option, Some, None, slice_get, Contains}
 use Rattle.std.specs.List.{flat_map}
 use Rattle.grammar_model.specs.Steps.{Step, TokenStep, NulledStep, RuleStep, steps_of, steps_of_all}
 use Rattle.recognizer_model.specs.Flat.{lhs_of}
-use Rattle.forest_model.specs.Forest.{Last, AnEdge, Nothing, Wholes, Alternative, ForestNode, Forest, top_of}
-use Rattle.forest_laws.specs.Lists.{Lists, last_symbol, rule_of, whole_by}
+use Rattle.forest_model.specs.Forest.{Cause, AnEdge, Nothing, Wholes, Alternative, ForestNode, Forest, top_of}
+use Rattle.forest_laws.specs.Lists.{Lists, cause_symbol, rule_of, whole_by}
 
--- the parts of a node, a whole rule over the span, or a step to be written
+-- a goal, as Prolog has it: the parts of a node, a whole rule of these over the span, or a step to be written
 pub data Goal : Type 0 where
   Parts : (node : ℕ) → Goal
   OneOf : (start end : ℕ) (nodes : List ℕ) → Goal
@@ -18,21 +19,24 @@ abbrev pub count_of : Option ForestNode → ℕ
 count_of None = 0
 count_of (Some node) = node.key.dot
 
-abbrev pub front_goals : Option ℕ → List Goal
-front_goals None = []
-front_goals (Some n) = Parts n ∷ []
+-- what is left to do for the predecessor of an alternative, for its cause, and for both
+abbrev pub predecessor_goals : Option ℕ → List Goal
+predecessor_goals None = []
+predecessor_goals (Some n) = Parts n ∷ []
 
-abbrev pub last_goals : (symbol start end : ℕ) → Last → List Goal
-last_goals symbol start end AnEdge = Write (TokenStep symbol start end) ∷ []
-last_goals symbol start end Nothing = Write (NulledStep symbol start) ∷ []
-last_goals symbol start end (Wholes nodes) = OneOf start end nodes ∷ []
+abbrev pub cause_goals : (symbol start end : ℕ) → Cause → List Goal
+cause_goals symbol start end AnEdge = Write (TokenStep symbol start end) ∷ []
+cause_goals symbol start end Nothing = Write (NulledStep symbol start) ∷ []
+cause_goals symbol start end (Wholes nodes) = OneOf start end nodes ∷ []
 
+-- the parts of a whole rule, and then its step
 abbrev pub whole_goals : Forest → (start end node : ℕ) → List Goal
 whole_goals f start end n = Parts n ∷ Write (RuleStep (rule_of (slice_get f.nodes n)) (count_of (slice_get f.nodes n)) start end) ∷ []
 
 abbrev pub alternative_goals : Forest → ForestNode → Alternative → List Goal
-alternative_goals f node a = front_goals a.front ++ last_goals (last_symbol f node.key) a.start node.key.end a.last
+alternative_goals f node a = predecessor_goals a.predecessor ++ cause_goals (cause_symbol f node.key) a.start node.key.end a.cause
 
+-- an option for each alternative of a node
 abbrev pub node_options : Forest → Option ForestNode → List (List Goal)
 node_options f None = []
 node_options f (Some node) = map (alternative_goals f node) node.alternatives
@@ -53,6 +57,7 @@ abbrev pub AreGoals : Forest → List Goal → Type 0
 AreGoals f [] = Unit {0}
 AreGoals f (goal ∷ goals) = IsGoal f goal × AreGoals f goals
 
+-- the goals of the whole
 abbrev pub root_goals : Forest → Option ℕ → List Goal
 root_goals f None = Write (NulledStep (lhs_of f.flat (top_of f)) 0) ∷ []
 root_goals f (Some n) = whole_goals f 0 f.place n
@@ -69,6 +74,7 @@ pub data Done : Type 0 where
   Wrote : (step : Step) → Done
   Chose : (later : List (List Goal)) (behind : List Goal) → Done
 
+-- the steps that were written
 abbrev pub written : List Done → List Step
 written [] = []
 written (Wrote step ∷ done) = step ∷ written done

@@ -9,7 +9,7 @@ use Rattle.recognizer_model.specs.FlatDerives.{Derives, Spans}
 use Rattle.recognizer_model.specs.Chosen.{AreAllowed, AreAllowedIn}
 use Rattle.forest_model.specs.Forest.{Alternative, ForestNode, Forest, edges_of, allowed_of, ranks_high, IsDerived, IsForest}
 use Rattle.forest_model.specs.Listing.{IsListing}
-use Rattle.forest_laws.specs.Lists.{Lists, AreLists, last_symbol, lasts_by, trees_by}
+use Rattle.forest_laws.specs.Lists.{Lists, AreLists, cause_symbol, causes_by, trees_by}
 
 -- all child lists of the key that are of allowed rules, in order
 pub record AreAllSpans (f : Forest) (key : NodeKey) (lists : List Children) : Type 0 where
@@ -25,8 +25,8 @@ pub record AreAllTrees (f : Forest) (symbol start end : ℕ) (trees : List Tree)
 pub record AreAllLists (f : Forest) (lists : Lists) : Type 0 where
   pub equal : AreLists f lists
   pub nodes : (n : ℕ) (node : ForestNode) → slice_get f.nodes n ≡ Some node → AreAllSpans f node.key (lists n)
-  pub lasts : (n : ℕ) (node : ForestNode) (a : Alternative) → slice_get f.nodes n ≡ Some node → Contains node.alternatives a →
-      AreAllTrees f (last_symbol f node.key) a.start node.key.end (lasts_by f lists (last_symbol f node.key) a.start node.key.end a.last)
+  pub causes : (n : ℕ) (node : ForestNode) (a : Alternative) → slice_get f.nodes n ≡ Some node → Contains node.alternatives a →
+      AreAllTrees f (cause_symbol f node.key) a.start node.key.end (causes_by f lists (cause_symbol f node.key) a.start node.key.end a.cause)
   pub listing : IsListing f (trees_by f lists)
 
 -- each forest has them

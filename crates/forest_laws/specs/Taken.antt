@@ -17,6 +17,7 @@ pub record AreTaken (f : Forest) (taken rest : List (List Step)) : Type 0 where
   pub few : (k : ℕ) (flat : List Step) (tree : Tree) → slice_get taken k ≡ Some flat → slice_get given k ≡ Some tree → length flat ≤ suc (choices tree)
   pub all : rest ≡ [] → IsListing f given
 
-abbrev pub FrontsAreTaken : Type 0
-FrontsAreTaken = (f : Forest) (lists : Lists) (taken rest : List (List Step)) → IsForest f → AreAllLists f lists →
+-- so is each prefix of what the root stands for
+abbrev pub PrefixesAreTaken : Type 0
+PrefixesAreTaken = (f : Forest) (lists : Lists) (taken rest : List (List Step)) → IsForest f → AreAllLists f lists →
     map steps_of (roots_by f lists f.root) ≡ taken ++ rest → AreTaken f taken rest

@@ -11,11 +11,13 @@ use Rattle.recognizer_model.specs.FlatForm.{symbol_at, is_list, written_symbol, 
 use Rattle.forest_model.specs.Forest.{Forest, edges_of, top_of, IsDerived}
 use Rattle.recognizer_model.specs.FlatDerives.{Derives}
 
+-- the sum of the newest n counts
 abbrev pub sum_newest : ℕ → List ℕ → ℕ
 sum_newest zero counts = 0
 sum_newest (suc n) [] = 0
 sum_newest (suc n) (c ∷ counts) = sum_newest n counts + c
 
+-- those behind them
 abbrev pub older : ℕ → List ℕ → List ℕ
 older zero counts = counts
 older (suc n) [] = []
@@ -24,11 +26,13 @@ older (suc n) (c ∷ counts) = older n counts
 abbrev pub is_list_rule : FlatGrammar → ℕ → Bool
 is_list_rule g r = is_list (symbol_at g (lhs_of g r))
 
+-- what a flat rule writes: nothing where it is a list's or comes from a start
 abbrev pub rule_written : Bool → FlatSource → (count from to : ℕ) → List Step
 rule_written true source count from to = []
 rule_written false (Written i) count from to = RuleStep i count from to ∷ []
 rule_written false (OfStart k) count from to = []
 
+-- what a step writes behind these counts, and the counts that it leaves
 abbrev pub step_written : Grammar → FlatGrammar → List ℕ → Step → List Step
 step_written w g counts (TokenStep x from to) = TokenStep (written_symbol w (symbol_at g x)) from to ∷ []
 step_written w g counts (NulledStep x at) = NulledStep (written_symbol w (symbol_at g x)) at ∷ []
@@ -39,6 +43,7 @@ counts_after g counts (TokenStep x from to) = 1 ∷ counts
 counts_after g counts (NulledStep x at) = 1 ∷ counts
 counts_after g counts (RuleStep r n from to) = cond (is_list_rule g r) (sum_newest n counts) 1 ∷ older n counts
 
+-- the steps that are written, one after another
 abbrev pub steps_written : Grammar → FlatGrammar → List ℕ → List Step → List Step
 steps_written w g counts [] = []
 steps_written w g counts (step ∷ steps) = step_written w g counts step ++ steps_written w g (counts_after g counts step) steps

@@ -4,7 +4,7 @@
 ghost use Rattle.forest_laws.specs.Applied.{ForestsApply};
 ghost use Rattle.forest_laws.specs.Few.{StepsAreFew};
 ghost use Rattle.forest_laws.specs.Laws.{ForestsExist, ForestsHaveLists, ListsAreOne};
-ghost use Rattle.forest_laws.specs.Taken.{FrontsAreTaken};
+ghost use Rattle.forest_laws.specs.Taken.{PrefixesAreTaken};
 ghost use Rattle.forest_laws.specs.Walked.{ForestsAreWalked};
 ghost use Rattle.forest_laws.specs.Written.{StepsAreWritten};
 
@@ -13,7 +13,7 @@ pub fn forests_exist()
     ensures { ForestsExist }
 {}
 
-/// The nodes of a forest stand for lists: of each node all child lists of its key that are of allowed rules, of each last part all such
+/// The nodes of a forest stand for lists: of each node all child lists of its key that are of allowed rules, of each cause all such
 /// trees, and of the whole the chosen derivations of the reading, in the declared order.
 pub fn forests_have_lists()
     ensures { ForestsHaveLists }
@@ -46,6 +46,6 @@ pub fn steps_are_few()
 {}
 
 /// What a walk has given so far are the first derivations of the list, and with nothing left it is the whole list.
-pub fn fronts_are_taken()
-    ensures { FrontsAreTaken }
+pub fn prefixes_are_taken()
+    ensures { PrefixesAreTaken }
 {}

@@ -1,6 +1,7 @@
--- The shared packed forest of a reading. A node stands for all chosen ways to derive the first parts of a flat rule over a span, one
--- part or more. Its alternatives say where the last of these parts may begin; each has the node of the parts before, and what the
--- last part is: an edge, a symbol that spans nothing, or the nodes of whole rules. Each node is there once, whatever uses it.
+-- The shared packed forest of a reading. A node stands for all chosen ways to derive a prefix of a flat rule over a span, of one part
+-- or more. Its alternatives say where the last of these parts may begin; each has a predecessor, the node of the parts before, and a
+-- cause, which is what the last part is: an edge, a symbol that spans nothing, or the nodes of whole rules. Each node is there once,
+-- whatever uses it.
 -- Source: the Libmarpa manual (the bocage, with its or-nodes and and-nodes).
 use Rattle.std.specs.Prelude.{◌≡◌, ℕ, suc, ◌<◌, ◌↔◌, Bool, ◌==◌, if◌then◌else◌, List, [], length, map, Option, Some, None, slice_get, slice_index_or, Contains}
 use Rattle.std.specs.List.Sorted.{IsStrictlySortedBy}
@@ -21,18 +22,19 @@ use Rattle.recognizer_model.specs.Chosen.{Allowed, allowed_by}
 use Rattle.recognizer_model.specs.Nodes.{IsUsed}
 use Rattle.recognizer_model.specs.Counts.{IsListOf}
 
--- what the last part of a node is in an alternative; nodes are told by their numbers, in the order of their rules
-pub data Last : Type 0 where
-  AnEdge : Last
-  Nothing : Last
-  Wholes : (nodes : List ℕ) → Last
+-- the cause of an alternative: what the last part is; nodes are told by their numbers, in the order of their rules
+pub data Cause : Type 0 where
+  AnEdge : Cause
+  Nothing : Cause
+  Wholes : (nodes : List ℕ) → Cause
 
--- a start of the last part, with the node of the parts before it, if there are any
+-- where the last part begins, the node of the parts before, if there are any, and the cause
 pub record Alternative : Type 0 where
   pub start : ℕ
-  pub front : Option ℕ
-  pub last : Last
+  pub predecessor : Option ℕ
+  pub cause : Cause
 
+-- a node, with its alternatives in order
 pub record ForestNode : Type 0 where
   pub key : NodeKey
   pub alternatives : List Alternative
@@ -66,7 +68,7 @@ IsNode f n k = (node : ForestNode) × (slice_get f.nodes n ≡ Some node) × (no
 
 -- THE ORDER OF ALTERNATIVES
 
--- a last part that spans nothing stands before all others or behind them
+-- a cause that spans nothing stands before all others or behind them
 abbrev pub start_place : Bool → (start end : ℕ) → ℕ
 start_place high start end = if start == end then (if high then 0 else 2) else 1
 
@@ -89,9 +91,9 @@ whole_key f r p q = record { rule = r; dot = length (rhs_of f.flat r); origin = 
 -- the parts before derive what lies before m, and the symbol derives m to q
 pub record IsSplit (f : Forest) (rule dot origin symbol m q : ℕ) : Type 0 where
   pub children : Children
-  pub front : Spans f.flat (edges_of f) rule dot origin m children
+  pub predecessor : Spans f.flat (edges_of f) rule dot origin m children
   pub tree : Tree
-  pub last : Derives f.flat (edges_of f) symbol m q tree
+  pub cause : Derives f.flat (edges_of f) symbol m q tree
 
 -- the rule derives the span as a whole
 pub record IsWholeOver (f : Forest) (symbol p q rule : ℕ) : Type 0 where
@@ -110,20 +112,21 @@ pub record AreWholes (f : Forest) (symbol p q : ℕ) (nodes : List ℕ) : Type 0
   pub all : length nodes ≡ length rules
   pub each : (i n r : ℕ) → slice_get nodes i ≡ Some n → slice_get rules i ≡ Some r → IsNode f n (whole_key f r p q)
 
--- what the last part is
-abbrev pub IsLast : Forest → (symbol m q : ℕ) → Last → Type 0
-IsLast f symbol m q AnEdge = edges_of f symbol m q
-IsLast f symbol m q Nothing = (m ≡ q) × IsNullable f.flat symbol
-IsLast f symbol m q (Wholes nodes) = AreWholes f symbol m q nodes
+-- the cause is what derives the symbol over the span
+abbrev pub IsCause : Forest → (symbol m q : ℕ) → Cause → Type 0
+IsCause f symbol m q AnEdge = edges_of f symbol m q
+IsCause f symbol m q Nothing = (m ≡ q) × IsNullable f.flat symbol
+IsCause f symbol m q (Wholes nodes) = AreWholes f symbol m q nodes
 
--- the node of so many first parts, if they are some
-abbrev pub IsFront : Forest → (rule dot origin m : ℕ) → Option ℕ → Type 0
-IsFront f rule dot origin m None = (dot ≡ 0) × (m ≡ origin)
-IsFront f rule dot origin m (Some n) = (0 < dot) × IsNode f n (record { rule = rule; dot = dot; origin = origin; end = m })
+-- the predecessor is the node of so many parts, if there are any
+abbrev pub IsPredecessor : Forest → (rule dot origin m : ℕ) → Option ℕ → Type 0
+IsPredecessor f rule dot origin m None = (dot ≡ 0) × (m ≡ origin)
+IsPredecessor f rule dot origin m (Some n) = (0 < dot) × IsNode f n (record { rule = rule; dot = dot; origin = origin; end = m })
 
+-- an alternative of the node of one part more, which is the symbol
 pub record IsAlternative (f : Forest) (rule dot origin symbol q : ℕ) (a : Alternative) : Type 0 where
-  pub front : IsFront f rule dot origin a.start a.front
-  pub last : IsLast f symbol a.start q a.last
+  pub predecessor : IsPredecessor f rule dot origin a.start a.predecessor
+  pub cause : IsCause f symbol a.start q a.cause
 
 -- all starts that the last of the parts has, each once, in order
 pub record AreAlternatives (f : Forest) (key : NodeKey) (alternatives : List Alternative) : Type 0 where
@@ -152,6 +155,7 @@ abbrev pub IsRoot : Forest → Option ℕ → Type 0
 IsRoot f None = f.place ≡ 0
 IsRoot f (Some n) = (0 < f.place) × IsNode f n (whole_key f (top_of f) 0 f.place)
 
+-- it has exactly the nodes that its chosen derivations use, each once, each with all its alternatives
 pub record IsForest (f : Forest) : Type 0 where
   pub derived : IsDerived f
   pub used : IsListOf (IsUsed f.flat (edges_of f) (allowed_of f) (top_of f) f.place) (map (λ n. n.key) f.nodes)

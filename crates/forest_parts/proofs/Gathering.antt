@@ -2,7 +2,8 @@
 use Rattle.std.proofs.Common.{◌≡◌, ℕ, ◌<◌, ◌≤◌, ◌+◌, ◌++◌, ◌⊎◌, inl, inr, ◌↔◌, Contains, List, [], ◌∷◌, length, slice_get, Some, None, sym, ◌∙◌, ap, subst, arith}
 use Rattle.std.proofs.lemmas.Bool.{cases_lt}
 use Rattle.std.proofs.lemmas.List.Elements.{Contains-append_left, Contains-push, Contains-push_cases}
-use Rattle.earley_sets.proofs.Membership.{got_at, got_item, found_at}
+use Rattle.finite_sets.proofs.Lists.{got_item, got_at}
+use Rattle.earley_sets.proofs.Membership.{found_at}
 use Rattle.grammar_model.specs.declared.Edge.{Edge as HeldEdge}
 use Rattle.grammar_model.specs.declared.Ranking.{Ranking}
 use Rattle.grammar_model.specs.Grammar.{Grammar}
@@ -11,7 +12,7 @@ use Rattle.recognizer_model.specs.declared.flat.FlatSymbol.TheVariants.{Terminal
 use Rattle.recognizer_model.specs.Flat.{FlatGrammar}
 use Rattle.recognizer_model.specs.Items.{InSet}
 use Rattle.recognizer_model.specs.Invariant.{IsFlat}
-use Rattle.earley_sets.specs.Recognizer.{Recognizer, place_of, edges_of, top_of}
+use Rattle.earley_sets.specs.Recognizer.{Recognizer, earleme_of, edges_of, top_of}
 use Rattle.forest_parts.specs.declared.parts.Part.{Part}
 use Rattle.forest_parts.specs.Parts.{IsEdgeOf, IsWholeOf, IsPartAt}
 
@@ -110,7 +111,7 @@ gains_edge g least symbol e v old new flat le is to same from none grown =
     ))
 
 -- what was put are the parts that end at the place and do not begin too early
-pub parts_are : (w : Grammar) (ranking : Ranking) (r : Recognizer) (end least : ℕ) (edges : List HeldEdge) → end ≤ place_of r → ((e : HeldEdge) → Contains edges e ↔ (Contains r.edges e × (e.to ≡ end))) → (p : Part) →
+pub parts_are : (w : Grammar) (ranking : Ranking) (r : Recognizer) (end least : ℕ) (edges : List HeldEdge) → end ≤ earleme_of r → ((e : HeldEdge) → Contains edges e ↔ (Contains r.edges e × (e.to ≡ end))) → (p : Part) →
     (((e : HeldEdge) × Contains edges e × ((least ≤ e.from) × IsEdgeOf r.flat e p)) ⊎ ((item : Item) × InSet r.flat (edges_of r) (top_of r) end item × ((least ≤ item.origin) × IsWholeOf w ranking r.flat end item p)))
     ↔ IsPartAt w ranking r end least p
 parts_are w ranking r end least edges le are p = (to, from)

@@ -2,17 +2,18 @@
 use Rattle.std.proofs.Common.{◌≡◌, ℕ, zero, suc, ◌<◌, ◌≤◌, ◌-◌, ◌⊎◌, inl, inr, ◌↔◌, Contains, List, [], ◌∷◌, length, get_or, take, drop, ◌∙◌, ap, subst, arith}
 use Rattle.std.specs.Prelude.{nat_lt, nat_le, slice_index_or}
 use Rattle.std.specs.declared.cmp.Ordering.{Ordering}
-use Rattle.std.specs.declared.cmp.Ordering.TheVariants.{Less, Equal, Greater}
+use Rattle.std.specs.declared.cmp.Ordering.TheVariants.{Less, Equal}
 use Rattle.std.specs.Ordering.{ordering_then, nat_cmp}
 use Rattle.std.specs.Cmp.{nat_cmp_is}
 use Rattle.std.specs.List.{AllByRecursion}
 use Rattle.std.specs.List.Sorted.{IsPartitionedBy, IsNonDecreasingBy, IsStrictlySortedBy}
 use Rattle.std.proofs.lemmas.Bool.{ltb-true, leb-true, lt-ltb, le-leb, cases_lt}
 use Rattle.std.proofs.lemmas.Map.Keys.{Less-from_sorted}
+use Rattle.std.proofs.lemmas.List.Elements.{Contains-get_or}
+use Rattle.finite_sets.proofs.Lists.{get_index}
+use Rattle.finite_sets.proofs.Clauses.{then_at_most}
 use Rattle.grammar_core.proofs.Placed.{part_from, part_to, found_at, at_found}
-use Rattle.grammar_core.proofs.Halving.{index_get}
 use Rattle.forest_parts.specs.Lists.{between}
-use Rattle.forest_parts.proofs.RowLemmas.{there}
 
 -- the elements of a list in order that have one number
 module _ {X : Type 0} (n : X → ℕ) (row : List X) (order : IsNonDecreasingBy n row) (x : ℕ) where
@@ -38,7 +39,7 @@ module _ {X : Type 0} (n : X → ℕ) (row : List X) (order : IsNonDecreasingBy 
         there' : Contains (take (end - start) (drop start row)) w → Contains row w × (n w ≡ x)
         there' h =
             let (k, from, to, is) = part_from row start end start_first be w h in
-            let (lt, same) = index_get row k w w is in
+            let (lt, same) = get_index row k w w is in
             let p = a1 k w from lt in
             let q = b2 k w to in
             let s = ap (λ (z : X). n z) same in
@@ -47,7 +48,7 @@ module _ {X : Type 0} (n : X → ℕ) (row : List X) (order : IsNonDecreasingBy 
         back : Contains row w × (n w ≡ x) → Contains (take (end - start) (drop start row)) w
         back (c, e) =
             let (k, is) = found_at row w c in
-            let (lt, same) = index_get row k w w is in
+            let (lt, same) = get_index row k w w is in
             let s = ap (λ (z : X). n z) same in
             part_to row start end start_first be k w (first k lt (s ∙ e)) (last k lt (s ∙ e)) is
           where
@@ -80,12 +81,6 @@ module _ {K : Type 0} (c : K → K → Ordering) where
   pub sorted_between : (first end : ℕ) (xs : List K) → IsStrictlySortedBy c xs → IsStrictlySortedBy c (between first end xs)
   sorted_between first end xs h = sorted_take (end - first) (drop first xs) (sorted_drop first xs h)
 
-then_le : (a b : ℕ) (o : Ordering) → ordering_then (nat_cmp a b) o ≡ Less → a ≤ b
-then_le a b o e = elim (cases_lt b a) [
-  | inl gt ↦ let g = nat_cmp_is a b Greater gt in let f : ordering_then Greater o ≡ Less = ap (λ r. ordering_then r o) g ∙ e in absurd (cc)
-  | inr le ↦ le
-]
-
 pub then_rest : (a b : ℕ) (o : Ordering) → ordering_then (nat_cmp a b) o ≡ Less → a ≡ b → o ≡ Less
 then_rest a b o e same = let g = nat_cmp_is a b Equal same in ap (λ r. ordering_then r o) g ∙ e
 
@@ -111,31 +106,31 @@ module _ {X : Type 0} (f g h : X → ℕ) (rest : X → X → Ordering) where
 
     pub firsts_rise : IsNonDecreasingBy f row
     firsts_rise i j d le below = elim (cases_lt i j) [
-      | inl lt ↦ then_le _ _ _ (less i j d lt below)
+      | inl lt ↦ then_at_most _ _ _ (less i j d lt below)
       | inr ge ↦ let same : i ≡ j = omega arith in subst (λ k. f (get_or row i d) ≤ f (get_or row k d)) same (omega arith)
     ]
 
     module _ (firsts : SameFirst) where
       after_firsts : (i j : ℕ) (d : X) → i < j → j < length row → by_second (get_or row i d) (get_or row j d) ≡ Less
-      after_firsts i j d lt below = then_rest _ _ _ (less i j d lt below) (firsts (get_or row i d) (get_or row j d) (there row i d (omega arith)) (there row j d below))
+      after_firsts i j d lt below = then_rest _ _ _ (less i j d lt below) (firsts (get_or row i d) (get_or row j d) (Contains-get_or row i d (omega arith)) (Contains-get_or row j d below))
 
       pub seconds_rise : IsNonDecreasingBy g row
       seconds_rise i j d le below = elim (cases_lt i j) [
-        | inl lt ↦ then_le _ _ _ (after_firsts i j d lt below)
+        | inl lt ↦ then_at_most _ _ _ (after_firsts i j d lt below)
         | inr ge ↦ let same : i ≡ j = omega arith in subst (λ k. g (get_or row i d) ≤ g (get_or row k d)) same (omega arith)
       ]
 
       -- where the second is the same, the third rises
       pub thirds_rise : (i j : ℕ) (d : X) → i ≤ j → j < length row → g (get_or row i d) ≡ g (get_or row j d) → h (get_or row i d) ≤ h (get_or row j d)
       thirds_rise i j d le below e = elim (cases_lt i j) [
-        | inl lt ↦ then_le _ _ _ (then_rest _ _ _ (after_firsts i j d lt below) e)
+        | inl lt ↦ then_at_most _ _ _ (then_rest _ _ _ (after_firsts i j d lt below) e)
         | inr ge ↦ let same : i ≡ j = omega arith in subst (λ k. h (get_or row i d) ≤ h (get_or row k d)) same (omega arith)
       ]
 
       module _ (seconds : SameSecond) where
         pub all_thirds_rise : IsNonDecreasingBy h row
-        all_thirds_rise i j d le below = thirds_rise i j d le below (seconds (get_or row i d) (get_or row j d) (there row i d (omega arith)) (there row j d below))
+        all_thirds_rise i j d le below = thirds_rise i j d le below (seconds (get_or row i d) (get_or row j d) (Contains-get_or row i d (omega arith)) (Contains-get_or row j d below))
 
         -- where all three are the same, the rest is in order
         pub rest_less : (i j : ℕ) (d : X) → i < j → j < length row → h (get_or row i d) ≡ h (get_or row j d) → rest (get_or row i d) (get_or row j d) ≡ Less
-        rest_less i j d lt below e = then_rest _ _ _ (then_rest _ _ _ (after_firsts i j d lt below) (seconds (get_or row i d) (get_or row j d) (there row i d (omega arith)) (there row j d below))) e
+        rest_less i j d lt below e = then_rest _ _ _ (then_rest _ _ _ (after_firsts i j d lt below) (seconds (get_or row i d) (get_or row j d) (Contains-get_or row i d (omega arith)) (Contains-get_or row j d below))) e

@@ -9,6 +9,8 @@ use Rattle.std.specs.Int.Signed.{≤ℤ_refl}
 use Rattle.std.specs.Ordering.{ordering_then, int_cmp}
 use Rattle.std.specs.Option.{option_cmp}
 use Rattle.std.specs.List.Sorted.{IsStrictlySortedBy}
+use Rattle.std.proofs.lemmas.List.Elements.{Contains-get_or}
+use Rattle.std.proofs.lemmas.Option.{slice_get-get_or}
 use Rattle.grammar_model.specs.declared.Ranking.{Ranking}
 use Rattle.grammar_model.specs.declared.Ranking.TheVariants.{None as NoRanks, Rule as RuleRanks, High as HighRanks}
 use Rattle.grammar_model.specs.Derives.{Edges}
@@ -23,12 +25,10 @@ use Rattle.recognizer_model.specs.FlatForm.{symbol_at, is_list, list_length, sou
 use Rattle.recognizer_model.specs.Invariant.{IsFlat, HasSource}
 use Rattle.recognizer_model.specs.Chosen.{flat_rank, IsBestRule, allowed_by}
 use Rattle.earley_sets.specs.Recognizer.{Recognizer, IsRecognizer}
-use Rattle.earley_sets.proofs.Membership.{get_at}
 use Rattle.forest_parts.specs.declared.parts.Part.{Part}
 use Rattle.forest_parts.specs.Parts.{part_cmp, key_cmp, part_at, no_part, rule_key_of, IsPart, IsPartAt}
 use Rattle.forest_parts.specs.Groups.{rank_in, IsKept, RanksFall}
 use Rattle.forest_parts.proofs.InOrder.{then_rest}
-use Rattle.forest_parts.proofs.RowLemmas.{there}
 use Rattle.forest_parts.proofs.Sets.{in_full}
 
 then_rank : (x y : ℤ) (o : Ordering) → ordering_then (int_cmp x y) o ≡ Less → x ≤ℤ y
@@ -42,7 +42,7 @@ then_rank x y o e = go (int_cmp x y) refl
 module _ (w : Grammar) (ranking : Ranking) (g : FlatGrammar) (flat : IsFlat g) where
   -- all rules of a list come from one written rule
   one_source : (i r : ℕ) → IsRule g r → symbol_at g (lhs_of g r) ≡ Sequence i → source_of g r ≡ Written i
-  one_source i r is e = go (source_of g r) (flat.sources r (Sequence i) is (get_at g.symbols (lhs_of g r) (Top 0) (flat.in_range.left r is) ∙ ap Some e))
+  one_source i r is e = go (source_of g r) (flat.sources r (Sequence i) is (slice_get-get_or g.symbols (lhs_of g r) (Top 0) (flat.in_range.left r is) ∙ ap Some e))
     where
       go : (s : FlatSource) → HasSource (Sequence i) s → s ≡ Written i
       go (Written j) same = ap Written same
@@ -69,8 +69,8 @@ module _ (w : Grammar) (ranking : Ranking) (g : FlatGrammar) (flat : IsFlat g) w
 -- the parts that end at a place
 pub ranks_fall : (w : Grammar) (ranking : Ranking) (r : Recognizer) → IsRecognizer r → (end least : ℕ) (all : List Part) → ((p : Part) → Contains all p ↔ IsPartAt w ranking r end least p) → IsStrictlySortedBy part_cmp all → RanksFall all
 ranks_fall w ranking r known end least all exact sorted i j lt below (symbol, long) =
-    let (a, here, _) = (exact (part_at all i)).0 (there all i no_part (omega arith)) in
-    let (b, here', _) = (exact (part_at all j)).0 (there all j no_part below) in
+    let (a, here, _) = (exact (part_at all i)).0 (Contains-get_or all i no_part (omega arith)) in
+    let (b, here', _) = (exact (part_at all j)).0 (Contains-get_or all j no_part below) in
     go a b (then_rest _ _ _ (then_rest _ _ _ (then_rest _ _ _ (Less-from_sorted part_cmp all i j no_part sorted lt below) (here ∙ sym here')) symbol) long)
   where
     go : IsPart w ranking r (part_at all i) → IsPart w ranking r (part_at all j) → option_cmp key_cmp (part_at all i).whole (part_at all j).whole ≡ Less → rank_in (part_at all j).whole ≤ℤ rank_in (part_at all i).whole

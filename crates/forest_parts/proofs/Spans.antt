@@ -1,22 +1,23 @@
 -- Parts that end at one place, span by span.
-use Rattle.std.proofs.Common.{◌≡◌, ℕ, zero, suc, ◌<◌, ◌≤◌, ◌+◌, ◌-◌, ◌++◌, ◌⊎◌, inl, inr, Contains, List, [], ◌∷◌, Some, length, take, drop, get_or, slice_get, refl, sym, ◌∙◌, ap, subst, arith, ◌≤ℤ◌}
+use Rattle.std.proofs.Common.{◌≡◌, ℕ, zero, suc, ◌<◌, ◌≤◌, ◌+◌, ◌-◌, ◌++◌, inl, inr, Contains, List, [], ◌∷◌, Some, length, take, drop, get_or, slice_get, refl, sym, ◌∙◌, ap, subst, arith, ◌≤ℤ◌}
 use Rattle.std.proofs.lemmas.Int.{ints}
 use Rattle.std.specs.Option.{option_cmp}
 use Rattle.std.specs.List.Sorted.{IsStrictlySortedBy}
 use Rattle.std.proofs.lemmas.Bool.{cases_lt}
-use Rattle.std.proofs.lemmas.List.Elements.{Contains-push_cases}
+use Rattle.std.proofs.lemmas.List.Elements.{Contains-push_cases, Contains-get_or}
 use Rattle.grammar_core.proofs.Placed.{part_from, part_to}
-use Rattle.earley_sets.proofs.Membership.{got_at, got_item, get_at, found_at}
+use Rattle.earley_sets.proofs.Membership.{found_at}
 use Rattle.forest_parts.specs.declared.parts.Part.{Part}
 use Rattle.forest_parts.specs.declared.groups.Group.{Group}
 use Rattle.forest_parts.specs.Lists.{between}
 use Rattle.forest_parts.specs.Parts.{part_cmp, key_cmp, part_at, no_part}
 use Rattle.std.specs.Int.Signed.{≤ℤ_refl}
+use Rattle.std.proofs.lemmas.Option.{slice_get-get_or}
+use Rattle.finite_sets.proofs.Lists.{get_left, get_last, get_pushed, got_item, got_at}
 use Rattle.grammar_model.specs.declared.Ranking.{Ranking}
 use Rattle.grammar_model.specs.declared.Ranking.TheVariants.{None as NoRanks, Rule as RuleRanks, High as HighRanks}
 use Rattle.forest_parts.specs.Groups.{IsSameSpan, IsKept, RanksFall, IsGroup, rank_in, IsSpan}
 use Rattle.forest_parts.proofs.InOrder.{seconds_rise, thirds_rise, sorted_between}
-use Rattle.forest_parts.proofs.RowLemmas.{there, get_more}
 
 first_between : {X : Type 0} (k end : ℕ) (xs : List X) (d : X) → k < end → k < length xs → get_or (between k end xs) 0 d ≡ get_or xs k d
 first_between zero (suc end) [] d lt l = absurd (omega arith)
@@ -25,16 +26,6 @@ first_between zero zero xs d lt l = absurd (omega arith)
 first_between (suc k) zero xs d lt l = absurd (omega arith)
 first_between (suc k) (suc end) [] d lt l = absurd (omega arith)
 first_between (suc k) (suc end) (x ∷ xs) d lt l = let e : suc end - suc k ≡ end - k = omega arith in ap (λ n. get_or (take n (drop k xs)) 0 d) e ∙ first_between k end xs d (omega arith) (omega arith)
-
-pub last_is : {X : Type 0} (xs : List X) (x : X) → slice_get (xs ++ x ∷ []) (length xs) ≡ Some x
-last_is [] x = refl
-last_is (y ∷ ys) x = last_is ys x
-
-pub pushed_at : {X : Type 0} (xs : List X) (x : X) (n : ℕ) (y : X) → slice_get (xs ++ x ∷ []) n ≡ Some y → (slice_get xs n ≡ Some y) ⊎ ((n ≡ length xs) × (x ≡ y))
-pushed_at [] x zero y e = inr (refl, (let s : x ≡ y = cc in s))
-pushed_at [] x (suc n) y e = absurd (cc)
-pushed_at (z ∷ zs) x zero y e = inl e
-pushed_at (z ∷ zs) x (suc n) y e = elim (pushed_at zs x n y e) [ inl a ↦ inl a | inr (a, b) ↦ inr (ap suc a, b) ]
 
 -- the ranking keeps the first
 kept_first : (ranking : Ranking) (p : Part) → IsKept ranking p p
@@ -88,7 +79,7 @@ module _ (ranking : Ranking) (end : ℕ) (parts : List Part) (sorted : IsStrictl
     ]
 
     fits : (part_at parts k).length ≤ end
-    fits = (ends (part_at parts k) (there parts k no_part below)).1
+    fits = (ends (part_at parts k) (Contains-get_or parts k no_part below)).1
 
     module _ (groups : List Group)
         (are : (g : Group) → Contains groups g → IsGroup ranking end parts g)
@@ -118,14 +109,14 @@ module _ (ranking : Ranking) (end : ℕ) (parts : List Part) (sorted : IsStrictl
 
       pub more_all : (i : ℕ) → i < past → (n : ℕ) × (g : Group) × (slice_get (groups ++ record { symbol = (part_at parts k).symbol; start = end - (part_at parts k).length; first = k; past = cut } ∷ []) n ≡ Some g) × (g.symbol ≡ (part_at parts i).symbol) × (g.start + (part_at parts i).length ≡ end)
       more_all i lt = elim (cases_lt i k) [
-        | inl before ↦ let (n, g, at, gs, gl) = all i before in (n, g, get_more groups _ n g at, gs, gl)
-        | inr ge ↦ let s = same i ge lt in let l = s.1 in let f = fits in (length groups, group_at, last_is groups _, sym s.0, omega arith)
+        | inl before ↦ let (n, g, at, gs, gl) = all i before in (n, g, get_left groups _ n g at, gs, gl)
+        | inr ge ↦ let s = same i ge lt in let l = s.1 in let f = fits in (length groups, group_at, get_last groups _, sym s.0, omega arith)
       ]
 
       pub more_order : (i j : ℕ) (g h : Group) → i < j → slice_get (groups ++ record { symbol = (part_at parts k).symbol; start = end - (part_at parts k).length; first = k; past = cut } ∷ []) i ≡ Some g →
           slice_get (groups ++ record { symbol = (part_at parts k).symbol; start = end - (part_at parts k).length; first = k; past = cut } ∷ []) j ≡ Some h → g.symbol ≡ h.symbol → h.start < g.start
-      more_order i j g h lt a b s = elim (pushed_at groups _ i g a) [
-        | inl x ↦ elim (pushed_at groups _ j h b) [
+      more_order i j g h lt a b s = elim (get_pushed groups _ i g a) [
+        | inl x ↦ elim (get_pushed groups _ j h b) [
           | inl y ↦ order i j g h lt x y s
           | inr (at, same') ↦
               let x' = longer g k (got_item groups i g (sym x)) (omega arith) below (s ∙ ap (λ (z : Group). z.symbol) (sym same')) in
@@ -133,7 +124,7 @@ module _ (ranking : Ranking) (end : ℕ) (parts : List Part) (sorted : IsStrictl
               let e = ap (λ (z : Group). z.start) same' in
               omega arith
         ]
-        | inr (at, same') ↦ elim (pushed_at groups _ j h b) [
+        | inr (at, same') ↦ elim (get_pushed groups _ j h b) [
           | inl y ↦ let (l, e) = got_at groups j h h (sym y) in absurd (omega arith)
           | inr (at', _) ↦ absurd (omega arith)
         ]
@@ -161,7 +152,7 @@ module _ (ranking : Ranking) (end : ℕ) (parts : List Part) (sorted : IsStrictl
 
     pub span_of_group : IsSpan ranking parts (between g.first g.past parts)
     span_of_group = record {
-      some = (let (n, lt, e) = inside (part_at parts g.first) g.first (omega arith) is.some (get_at parts g.first no_part below) in omega arith);
+      some = (let (n, lt, e) = inside (part_at parts g.first) g.first (omega arith) is.some (slice_get-get_or parts g.first no_part below) in omega arith);
       sorted = sorted_between part_cmp g.first g.past parts sorted;
       exact = λ p. (out p, into p);
       best = best;

@@ -1,4 +1,4 @@
--- Edges and whole rules, as what may be the last part of a node, and their order.
+-- Edges and whole rules, as what may be the cause in a node, and their order.
 use Rattle.std.specs.Prelude.{◌≡◌, ℕ, ◌+◌, ◌<◌, ◌≤◌, List, length, Some, None, Contains, ◌⊎◌, slice_get, slice_index_or}
 use Rattle.grammar_model.specs.declared.Edge.{Edge as HeldEdge}
 use Rattle.recognizer_model.specs.declared.flat.FlatSymbol.TheVariants.{Terminal}
@@ -12,7 +12,7 @@ use Rattle.recognizer_model.specs.declared.Item.{Item}
 use Rattle.recognizer_model.specs.Flat.{FlatGrammar, lhs_of, rhs_of, source_of}
 use Rattle.recognizer_model.specs.FlatForm.{source_number, list_length}
 use Rattle.recognizer_model.specs.Items.{InSet}
-use Rattle.earley_sets.specs.Recognizer.{Recognizer, place_of, edges_of, top_of}
+use Rattle.earley_sets.specs.Recognizer.{Recognizer, earleme_of, edges_of, top_of}
 use Rattle.forest_parts.specs.declared.parts.RuleKey.{RuleKey}
 use Rattle.forest_parts.specs.declared.parts.Part.{Part}
 
@@ -58,7 +58,7 @@ abbrev pub IsEdgePart : Recognizer → Part → Type 0
 IsEdgePart r p = (e : HeldEdge) × Contains r.edges e × IsEdgeOf r.flat e p
 
 abbrev pub IsWholePart : Grammar → Ranking → Recognizer → Part → Type 0
-IsWholePart w ranking r p = (end : ℕ) × (item : Item) × (end ≤ place_of r) × InSet r.flat (edges_of r) (top_of r) end item × IsWholeOf w ranking r.flat end item p
+IsWholePart w ranking r p = (end : ℕ) × (item : Item) × (end ≤ earleme_of r) × InSet r.flat (edges_of r) (top_of r) end item × IsWholeOf w ranking r.flat end item p
 
 abbrev pub IsPart : Grammar → Ranking → Recognizer → Part → Type 0
 IsPart w ranking r p = IsEdgePart r p ⊎ IsWholePart w ranking r p

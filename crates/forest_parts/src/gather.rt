@@ -1,4 +1,4 @@
-//! What may be the last part of a node that ends at a place: the edges and the whole rules that end there.
+//! What may be the cause in a node that ends at a place: the edges and the whole rules that end there.
 ghost use Rattle.std.specs.Prelude.{◌≡◌, ◌<◌, ◌≤◌, ◌+◌, ◌↔◌, ◌⊎◌, IfOk, OnOk, Contains};
 ghost use Rattle.std.specs.List.Sorted.{IsStrictlySortedBy};
 ghost use Rattle.grammar_model.specs.declared.Edge.{Edge as TheEdge};
@@ -6,7 +6,7 @@ ghost use Rattle.recognizer_model.specs.declared.Item.{Item as TheItem};
 ghost use Rattle.recognizer_model.specs.Items.{InSet};
 ghost use Rattle.recognizer_model.specs.FlatForm.{IsFlatOf};
 ghost use Rattle.earley_sets.specs.Kept.{IsItem, AreItems};
-ghost use Rattle.earley_sets.specs.Recognizer.{IsRecognizer, place_of, set_at, edges_of, top_of};
+ghost use Rattle.earley_sets.specs.Recognizer.{IsRecognizer, earleme_of, set_at, edges_of, top_of};
 ghost use Rattle.forest_parts.specs.Hidden.{IsHiddenFrom, AreHidden, RisesBy, RisesWithin};
 ghost use Rattle.forest_parts.specs.declared.parts.Part.{Part as ThePart};
 ghost use Rattle.forest_parts.specs.Parts.{part_cmp, IsEdgeOf, IsWholeOf, IsPartAt};
@@ -29,7 +29,7 @@ pub fn list_hidden<L: Ledger>(
     expanded: &mut u64,
     steps: &mut Steps<L>,
 ) -> Result<Vec<Item>, AllocError>
-    requires { end ≤ place_of recce.now }
+    requires { end ≤ earleme_of recce.now }
     ensures hidden { IfOk result (λ items. AreHidden recce.now end least items.items) }
     ensures expanded { OnOk result (RisesBy (IsHiddenFrom recce.now end least) expanded.old expanded.new) }
     ensures counted { RisesWithin (IsHiddenFrom recce.now end least) steps.old steps.new }
@@ -123,7 +123,7 @@ fn put_kept(
 ) -> Result<(), AllocError>
     requires is { IsRecognizer recce.now }
     requires flat { IsFlatOf recce.now.flat w.now }
-    requires end { end ≤ place_of recce.now }
+    requires end { end ≤ earleme_of recce.now }
     ensures { OnOk result ((p : ThePart) → Contains parts.new.items p ↔
         (Contains parts.old.items p ⊎ ((item : TheItem) × Contains (set_at recce.now end) item × ((least ≤ item.origin) × IsWholeOf w.now ranking recce.now.flat end item p)))) }
 {
@@ -167,7 +167,7 @@ fn put_wholes(
 ) -> Result<(), AllocError>
     requires is { IsRecognizer recce.now }
     requires flat { IsFlatOf recce.now.flat w.now }
-    requires end { end ≤ place_of recce.now }
+    requires end { end ≤ earleme_of recce.now }
     requires hidden { AreHidden recce.now end least hidden.now }
     ensures { OnOk result ((p : ThePart) → Contains parts.new.items p ↔
         (Contains parts.old.items p ⊎ ((item : TheItem) × InSet recce.now.flat (edges_of recce.now) (top_of recce.now) end item × ((least ≤ item.origin) × IsWholeOf w.now ranking recce.now.flat end item p)))) }
@@ -198,7 +198,7 @@ pub fn list_parts(
 ) -> Result<(), AllocError>
     requires is { IsRecognizer recce.now }
     requires flat { IsFlatOf recce.now.flat w.now }
-    requires end { end ≤ place_of recce.now }
+    requires end { end ≤ earleme_of recce.now }
     requires hidden { AreHidden recce.now end least hidden.now }
     ensures sorted { OnOk result (IsStrictlySortedBy part_cmp parts.new.items) }
     ensures exact { OnOk result ((p : ThePart) → Contains parts.new.items p ↔ IsPartAt w.now ranking recce.now end least p) }

@@ -1,4 +1,4 @@
-//! What may be the last part of a node that ends at a place: the edges and whole rules that end there, in the declared order, in groups of one symbol over one span.
+//! What may be the cause in a node that ends at a place, its last part: the edges and whole rules that end there, in the declared order, in groups of one symbol over one span.
 #![tactic(auto)]
 
 mod gather;

@@ -1,4 +1,4 @@
-//! What may be the last part of a node: edges and whole rules, in the order in which a forest has them.
+//! What may be the cause in a node: edges and whole rules, in the order in which a forest has them.
 ghost use Rattle.std.specs.Prelude.{◌≡◌, ◌≤◌, length};
 ghost use Rattle.grammar_model.specs.Grammar.{is_even as is_even_number, has_trailing, null_high_of, rule_at};
 ghost use Rattle.grammar_model.specs.Order.{rank_by};
@@ -50,10 +50,9 @@ fn list_length(flat: &Flat, rule: u32) -> u32
 fn rank(ranking: Ranking, rule: &WrittenRule) -> i32
     ensures { result ≡ rank_by ranking (rule_of rule.now) }
 {
-    match (ranking, rule) {
-        (Ranking::None, _) => 0,
-        (_, WrittenRule::Plain(r)) => r.rank,
-        (_, WrittenRule::Sequence(r)) => r.rank,
+    match ranking {
+        Ranking::None => 0,
+        Ranking::Rule | Ranking::High => rule.rank(),
     }
 }
 
@@ -104,16 +103,6 @@ pub fn rule_key(flat: &Flat, w: &Written, ranking: Ranking, rule: u32) -> RuleKe
     }
 }
 
-// Whether nulled last parts of a written rule come first.
-fn puts_nulled_first(rule: &WrittenRule) -> bool
-    ensures { result ≡ null_high_of (rule_of rule.now) }
-{
-    match rule {
-        WrittenRule::Plain(r) => r.null_high,
-        WrittenRule::Sequence(r) => r.null_high,
-    }
-}
-
 /// Whether nulled last parts of a flat rule come first.
 pub fn is_null_high(flat: &Flat, w: &Written, rule: u32) -> bool
     requires flat { IsFlatOf flat.now w.now }
@@ -121,7 +110,7 @@ pub fn is_null_high(flat: &Flat, w: &Written, rule: u32) -> bool
     ensures { result ≡ null_high_of (rule_at w.now (source_number w.now (source_of flat.now rule))) }
 {
     match flat.origin_of(rule) {
-        FlatSource::Written(source) => puts_nulled_first(w.written_rule(source)),
+        FlatSource::Written(source) => w.written_rule(source).null_high(),
         FlatSource::Top(_) => false,
     }
 }

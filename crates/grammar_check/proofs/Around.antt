@@ -10,7 +10,7 @@ use Rattle.grammar_model.specs.Grammar.{WrittenRule, Plain, Sequence, Grammar, S
 use Rattle.grammar_model.specs.Analysis.{IsNullable, IsProductive, IsAccessible, IsAlone, LeadsTo}
 use Rattle.grammar_model.specs.Cycles.{IsWalk, slot_cmp, cycle_cmp, IsLeastCycle, HasHeights}
 use Rattle.grammar_core.specs.Written.{IsWritten}
-use Rattle.horn_clauses.specs.Rows.{row_at}
+use Rattle.jagged.specs.Rows.{row_at}
 use Rattle.slot_analysis.specs.Packed.{place, packed_rule, packed, packed_slot, unpacked_slot, Occurs, IsLevelTable}
 use Rattle.grammar_check.specs.Told.{slot_with, slots_with, IsPlaced, unpacked_pair}
 use Rattle.grammar_check.specs.Message.{AreOf}

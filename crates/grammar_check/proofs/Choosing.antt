@@ -1,9 +1,10 @@
 -- The least number to which there is a step, and walks that always go on by it.
 use Rattle.std.proofs.Common.{arith, ◌≡◌, ◌⊎◌, inl, inr, ℕ, suc, ◌+◌, ◌-◌, ◌<◌, ◌≤◌, List, [], ◌∷◌, ◌++◌, length, slice_index, sym, ◌∙◌, ap, subst, length-append}
 use Rattle.std.proofs.lemmas.List.{get_or_append_left, get_or_push}
+use Rattle.std.proofs.lemmas.Bool.{cases_lt}
 use Rattle.grammar_check.specs.Links.{Step, Walks, StepsInto, AreLayers, IsLeastNext, IsLeastPath}
 use Rattle.horn_clauses.proofs.Search.{same_or_below}
-use Rattle.grammar_check.proofs.Layering.{lt_or, locate}
+use Rattle.grammar_check.proofs.Layering.{locate}
 
 pub record Chosen (rows : List (List ℕ)) (floors keys : List ℕ) (from to x best : ℕ) : Type 0 where
   pub least : (i : ℕ) → from ≤ i → i < to → Step rows floors x (slice_index keys i) → best ≤ slice_index keys i
@@ -52,7 +53,7 @@ module _ (rows : List (List ℕ)) (floors : List ℕ) (to : ℕ) (keys starts : 
       (i : ℕ) × (slice_index starts m ≤ i) × (i < slice_index starts (suc m)) × (slice_index keys i ≡ t)
   next_layer m j t lt from below s w =
       let (i, il, e) = l.complete m t (omega arith) w in
-      elim (lt_or i (slice_index starts m)) [
+      elim (cases_lt i (slice_index starts m)) [
         | inr up ↦ (i, up, il, e)
         | inl low ↦
             let (p, a, b, d) = locate rows floors to keys starts l m i (omega arith) low in

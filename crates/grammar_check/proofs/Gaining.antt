@@ -2,12 +2,12 @@
 use Rattle.std.proofs.Common.{arith, ◌≡◌, ◌⊎◌, ◌↔◌, inl, inr, ℕ, ◌+◌, ◌-◌, ◌<◌, ◌≤◌, List, [], ◌∷◌, ◌++◌, length, All, Contains, get_or, slice_index, sym, ◌∙◌, ap, subst, append-nil, append_assoc}
 use Rattle.std.proofs.lemmas.List.Elements.{Contains-get_or, Contains-append_left, Contains-append_cases, Contains-push, Contains-push_cases}
 use Rattle.horn_clauses.specs.Least.{Adds}
-use Rattle.horn_clauses.specs.Rows.{row_at}
+use Rattle.jagged.specs.Rows.{row_at}
 use Rattle.grammar_check.specs.Links.{Tied, Step, StepsInto, AreRows, IsDown, Gains}
 use Rattle.grammar_check.specs.Links.{AreFloors}
-use Rattle.horn_clauses.proofs.Found.{Contains-none}
 use Rattle.horn_clauses.proofs.Search.{same_or_below}
 use Rattle.std.proofs.lemmas.List.{get_or_default}
+use Rattle.finite_sets.proofs.Lists.{Contains-none}
 
 pub gains_none : (old : List ℕ) (P : ℕ → Type 0) → ((x : ℕ) → P x → ⊥) → Gains old old P
 gains_none old P none = record { more = []; extends = sym (append-nil old); only = λ x h. absurd (Contains-none x h); fresh = λ x h. absurd (Contains-none x h); has = λ x p. absurd (none x p) }

@@ -2,12 +2,10 @@
 use Rattle.std.proofs.Common.{arith, ◌≡◌, ◌⊎◌, inl, inr, ℕ, zero, suc, ◌+◌, ◌-◌, ◌<◌, ◌≤◌, List, [], ◌∷◌, ◌++◌, length, Contains, All, get_or, slice_index, refl, sym, ◌∙◌, ap, subst, length-append}
 use Rattle.std.proofs.lemmas.List.{get_or_append_left, get_or-append_right, get_or_push, get_or_default}
 use Rattle.std.proofs.lemmas.List.Elements.{Contains-get_or}
+use Rattle.std.proofs.lemmas.Bool.{cases_lt}
+use Rattle.finite_sets.proofs.Lists.{Contains-none}
 use Rattle.grammar_check.specs.Links.{Step, Walks, Gains, StepsInto, AreRows, AreLayers}
-use Rattle.horn_clauses.proofs.Found.{Contains-none}
 use Rattle.grammar_check.proofs.Gaining.{gains_cases}
-
-pub lt_or : (a b : ℕ) → (a < b) ⊎ (b ≤ a)
-lt_or a b = grind arith
 
 pub contains_at : (xs : List ℕ) (j x : ℕ) → j < length xs → slice_index xs j ≡ x → Contains xs x
 contains_at xs j x lt e = subst (Contains xs) e (Contains-get_or xs j 0 lt)
@@ -55,7 +53,7 @@ module _ (rows : List (List ℕ)) (floors : List ℕ) (to : ℕ) (keys starts : 
   -- the layer of a place
   pub locate : (n i : ℕ) → n < length starts → i < slice_index starts n → (p : ℕ) × (p < n) × (slice_index starts p ≤ i) × (i < slice_index starts (suc p))
   locate zero i lt small = absurd (omega (arith, l.begin, small))
-  locate (suc n) i lt small = elim (lt_or i (slice_index starts n)) [
+  locate (suc n) i lt small = elim (cases_lt i (slice_index starts n)) [
     | inl low ↦ let (p, a, b, d) = locate n i (omega arith) low in (p, omega (arith, a), b, d)
     | inr up ↦ (n, omega arith, up, small)
   ]
@@ -108,12 +106,12 @@ module _ (rows : List (List ℕ)) (floors : List ℕ) (to : ℕ) (keys starts : 
       at m lt = old_at m (omega (arith, lt, size_new, size))
 
       least : (m j q : ℕ) → m ≤ suc n → slice_index starts m ≤ j → j < length new → Walks rows floors to (suc q) (slice_index new j) → m ≤ q
-      least m j q le from lt w = elim (lt_or j (length keys)) [
-        | inl old ↦ elim (lt_or m (suc n)) [
+      least m j q le from lt w = elim (cases_lt j (length keys)) [
+        | inl old ↦ elim (cases_lt m (suc n)) [
           | inl small ↦ l.least m j q (omega (arith, size, small)) from old (subst (λ x. Walks rows floors to (suc q) x) (low j old) w)
           | inr big ↦ let e : m ≡ suc n = omega (arith, le, big) in absurd (omega (arith, old, from, top, ap (slice_index starts) e))
         ]
-        | inr up ↦ elim (lt_or q m) [
+        | inr up ↦ elim (cases_lt q m) [
           | inl less ↦
               let (i, il, e) = l.complete q (slice_index new j) (omega (arith, size, less, le)) w in
               let z = l.within (suc q) (omega (arith, size, less, le)) in
@@ -129,7 +127,7 @@ module _ (rows : List (List ℕ)) (floors : List ℕ) (to : ℕ) (keys starts : 
           | inl old ↦ let r = l.rising m old in omega (arith, r, old_at m (omega (arith, old)), old_at (suc m) old)
           | inr e ↦ omega (arith, at m lt, ap (slice_index starts) e, top, new_at, ap (λ m. slice_index (starts ++ length new ∷ []) (suc m)) e, more_long)
         ];
-        within = λ m lt. elim (lt_or m (length starts)) [
+        within = λ m lt. elim (cases_lt m (length starts)) [
           | inl old ↦ let r = l.within m old in omega (arith, r, old_at m old, more_long)
           | inr e ↦ let is : m ≡ suc (suc n) = omega (arith, e, lt, size_new, size) in omega (arith, ap (slice_index (starts ++ length new ∷ [])) is, new_at)
         ];
@@ -158,7 +156,7 @@ module _ (rows : List (List ℕ)) (floors : List ℕ) (to : ℕ) (keys starts : 
           last x (t, s, w) =
               let (i, il, e) = l.complete n t (omega (arith, size)) w in
               let s' = subst (Step rows floors x) (sym e) s in
-              let (j, jl, e') : (j : ℕ) × (j < length new) × (slice_index new j ≡ x) = elim (lt_or i (slice_index starts n)) [
+              let (j, jl, e') : (j : ℕ) × (j < length new) × (slice_index new j ≡ x) = elim (cases_lt i (slice_index starts n)) [
                 | inl before ↦ let (j, jl, e') = before_last i x before s' in (j, omega (arith, jl, more_long), low j jl ∙ e')
                 | inr here ↦ at_contained new x (g.has x (i, here, omega (arith, il, top), s'))
               ] in

@@ -4,7 +4,8 @@ use Rattle.std.specs.Bool.{IsTrue}
 use Rattle.grammar_model.specs.Grammar.{Grammar, Slot, rule_at, child_slot}
 use Rattle.grammar_model.specs.Analysis.{IsNullable, IsProductive, IsAccessible}
 use Rattle.grammar_core.specs.Written.{IsWritten}
-use Rattle.horn_clauses.specs.Rows.{row_at, HasAdded}
+use Rattle.horn_clauses.specs.Rows.{HasAdded}
+use Rattle.jagged.specs.Rows.{row_at}
 use Rattle.slot_analysis.specs.Slots.{number, end_of, IsNumbering, IsNumbered, needed_of}
 use Rattle.slot_analysis.specs.Steps.{head_of}
 use Rattle.grammar_check.specs.Linked.{HasPairs, IsLinkAt, IsLinkOf, IsLinkTo}
@@ -15,9 +16,9 @@ use Rattle.slot_analysis.proofs.Reaching.{numbered_small}
 use Rattle.slot_analysis.proofs.StepLemmas.{needed_small}
 
 -- what is known of slots by their numbers, of a part
-pub part_told : (P : Slot → Type 0) (g : Grammar) (bases keys : List ℕ) (i k x : ℕ) (b : Bool) → IsWritten g → IsNumbering g bases → i < length g.rules → k < needed_of (rule_at g i) →
+pub cause_told : (P : Slot → Type 0) (g : Grammar) (bases keys : List ℕ) (i k x : ℕ) (b : Bool) → IsWritten g → IsNumbering g bases → i < length g.rules → k < needed_of (rule_at g i) →
     ((slot : Slot) → IsNumbered g bases slot → Contains keys (number bases slot) ↔ P slot) → x ≡ number bases (child_slot (rule_at g i) k) → IsTrue b ↔ Contains keys x → IsTrue b ↔ P (child_slot (rule_at g i) k)
-part_told P g bases keys i k x b w n il kl exact e test =
+cause_told P g bases keys i k x b w n il kl exact e test =
     let both = exact (child_slot (rule_at g i) k) (child_numbered g bases i k w n il (needed_small (rule_at g i) k kl)) in
     (λ t. both.0 (subst (Contains keys) e (test.0 t)), λ p. test.1 (subst (Contains keys) (sym e) (both.1 p)))
 

@@ -34,9 +34,9 @@ named_more g (p ∷ ps) zero d text name some lt e en = absurd (omega arith)
 named_more g (p ∷ ps) (suc k) d text name some lt e en =
     let z : suc k + 1 - 1 ≡ suc k = omega arith in
     let z' : suc k - 1 ≡ k = omega arith in
-    let front : text ≡ codes "cyclic: " ++ (name_of g p.0 ++ more_names g ps k) = e ∙ ap (λ n. codes "cyclic: " ++ (name_of g p.0 ++ more_names g ps n)) z' in
+    let prefix : text ≡ codes "cyclic: " ++ (name_of g p.0 ++ more_names g ps k) = e ∙ ap (λ n. codes "cyclic: " ++ (name_of g p.0 ++ more_names g ps n)) z' in
     let last = name_of g (get_or ps k d).0 in
-    append_assoc text (codes ", ") name ∙ (ap (λ t. t ++ (codes ", " ++ name)) front ∙ (ap (λ n. (codes "cyclic: " ++ (name_of g p.0 ++ more_names g ps k)) ++ (codes ", " ++ n)) en
+    append_assoc text (codes ", ") name ∙ (ap (λ t. t ++ (codes ", " ++ name)) prefix ∙ (ap (λ n. (codes "cyclic: " ++ (name_of g p.0 ++ more_names g ps k)) ++ (codes ", " ++ n)) en
     ∙ (append_assoc (codes "cyclic: ") (name_of g p.0 ++ more_names g ps k) (codes ", " ++ last) ∙ ap (λ l. codes "cyclic: " ++ l)
     (append_assoc (name_of g p.0) (more_names g ps k) (codes ", " ++ last) ∙ ap (λ l. name_of g p.0 ++ l) (sym (names_push g ps k d (omega arith)) ∙ ap (more_names g ps) (sym z))))))
 

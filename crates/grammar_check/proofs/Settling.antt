@@ -1,15 +1,15 @@
 -- Settled numbers: heights rise along steps to them, and where one is not settled there is a cycle.
 use Rattle.std.proofs.Common.{arith, ◌≡◌, ◌⊎◌, ◌↔◌, inl, inr, ℕ, zero, suc, ◌+◌, ◌-◌, ◌<◌, ◌≤◌, Bool, true, false, nat_lt, ◌==◌, if◌then◌else◌, List, [], ◌∷◌, length, map, take, Contains, All, get_or, slice_index, refl, sym, ◌∙◌, ap, subst}
-use Rattle.std.proofs.lemmas.Bool.{eqb-true, eqb-false}
+use Rattle.std.proofs.lemmas.Bool.{eqb-true, eqb-false, cases_lt}
 use Rattle.std.proofs.lemmas.List.{get_or-take, length-take-le, get_or-map, length-map}
 use Rattle.std.proofs.lemmas.List.Elements.{Contains-get_or}
+use Rattle.finite_sets.proofs.Lists.{Contains-none, Contains-map}
 use Rattle.indexmap.proofs.IndexTableLemmas.Probe.{OneToOne, pigeonhole}
 use Rattle.horn_clauses.specs.Least.{Clause, clause_at, IsLeastSet, AreBelow}
-use Rattle.horn_clauses.specs.Rows.{row_at}
+use Rattle.jagged.specs.Rows.{row_at}
 use Rattle.grammar_check.specs.Links.{Tied, Step, Walks, AreFloors, AreRows}
 use Rattle.grammar_check.specs.Settled.{node_clause, use_clause, IsOfNodes, IsOfUses, Rises}
-use Rattle.horn_clauses.proofs.Found.{Contains-none}
-use Rattle.grammar_check.proofs.Layering.{lt_or, contains_at, at_contained, step_known}
+use Rattle.grammar_check.proofs.Layering.{contains_at, at_contained, step_known}
 use Rattle.slot_analysis.proofs.Rounds.{closed_by}
 use Rattle.horn_clauses.proofs.Search.{same_or_below}
 
@@ -63,11 +63,6 @@ all_or keys (y ∷ ys) = by (contained_or keys y) (all_or keys ys)
     by (inl h) (inr (z, there, out)) = let (j, jl, e) = at_contained ys z there in inr (z, contains_at (y ∷ ys) (suc j) z (omega (arith, jl)) e, out)
     by (inr out) rest = inr (y, contains_at (y ∷ ys) 0 y (omega arith) refl, out)
 
-pub map_has : (f : ℕ → ℕ) (xs : List ℕ) (x : ℕ) → Contains xs x → Contains (map f xs) (f x)
-map_has f xs x h =
-    let (j, jl, e) = at_contained xs x h in
-    contains_at (map f xs) j (f x) (omega (arith, jl, length-map xs f)) (get_or-map f xs j 0 0 jl ∙ ap f e)
-
 pub map_only : (f : ℕ → ℕ) (xs : List ℕ) (z : ℕ) → Contains (map f xs) z → (x : ℕ) × Contains xs x × (z ≡ f x)
 map_only f xs z h =
     let (j, jl, e) = at_contained (map f xs) z h in
@@ -104,7 +99,7 @@ use_only floors total y z h = by (nat_lt (slice_index floors y) y) refl h
     by false e h = let (j, jl, is) = at_contained (y ∷ []) z h in inl (one j jl is)
 
 row_small : (rows : List (List ℕ)) (t h : ℕ) → Contains (row_at rows t) h → t < length rows
-row_small rows t h there = elim (lt_or t (length rows)) [ inl lt ↦ lt | inr past ↦ absurd (Contains-none h (subst (λ (l : List ℕ). Contains l h) (beyond rows t past) there)) ]
+row_small rows t h there = elim (cases_lt t (length rows)) [ inl lt ↦ lt | inr past ↦ absurd (Contains-none h (subst (λ (l : List ℕ). Contains l h) (beyond rows t past) there)) ]
   where
     beyond : (rows : List (List ℕ)) (t : ℕ) → length rows ≤ t → row_at rows t ≡ []
     beyond [] t le = refl
@@ -141,7 +136,7 @@ module _ (rows : List (List ℕ)) (floors : List ℕ) (cs : List Clause) (keys :
       elim ((has c).0 cin) [
         | inl (y, yl, is) ↦
             let same : y ≡ t = sym (ap (λ c. c.head) is) ∙ head in
-            body (total + h) (subst (λ c. Contains c.body (total + h)) (sym is) (subst (λ y. Contains (map (λ h. total + h) (row_at rows y)) (total + h)) (sym same) (map_has (λ h. total + h) (row_at rows t) h row)))
+            body (total + h) (subst (λ c. Contains c.body (total + h)) (sym is) (subst (λ y. Contains (map (λ h. total + h) (row_at rows y)) (total + h)) (sym same) (Contains-map (λ h. total + h) (row_at rows t) h row)))
         | inr (y, yl, is) ↦ let z : total + y ≡ t = sym (ap (λ c. c.head) is) ∙ head in absurd (omega (arith, z, lt))
       ]
 

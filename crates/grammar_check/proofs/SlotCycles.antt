@@ -1,16 +1,17 @@
 -- Steps between numbers are those between slots, so their least cycle is the grammar's.
 use Rattle.std.proofs.Common.{arith, ◌≡◌, ◌≢◌, ◌⊎◌, ◌↔◌, inl, inr, ℕ, zero, suc, ◌+◌, ◌-◌, ◌<◌, ◌≤◌, Bool, true, false, nat_lt, ◌==◌, if◌then◌else◌, Option, Some, List, [], ◌∷◌, length, All, Contains, slice_index, slice_index_or, slice_get, refl, sym, ◌∙◌, ap, subst}
-use Rattle.std.proofs.lemmas.Bool.{eqb-true, eqb-false}
+use Rattle.std.proofs.lemmas.Bool.{eqb-true, eqb-false, cases_lt}
 use Rattle.std.proofs.lemmas.List.{get_or_default, get_or-map, length-map}
 use Rattle.std.specs.declared.cmp.Ordering.{Ordering}
 use Rattle.std.specs.declared.cmp.Ordering.TheVariants.{Less, Equal, Greater}
 use Rattle.std.specs.Ordering.{ordering_then, nat_cmp}
 use Rattle.std.specs.Cmp.Lexicographic.{slice_cmp}
+use Rattle.std.proofs.lemmas.Option.{slice_get-get_or}
 use Rattle.grammar_model.specs.Grammar.{WrittenRule, Plain, Sequence, Grammar, Slot, slot_of, rule_at, lhs_of, child_slot, slot_count, EachChildSlot}
 use Rattle.grammar_model.specs.Analysis.{IsStar, IsNullableIn, IsNullable, EachNeeded, IsProductiveIn, IsProductive, IsAccessible, IsAlone, LeadsTo}
 use Rattle.grammar_model.specs.Cycles.{IsWalk, IsCycle, IsLeastCycle, HasHeights, slot_cmp, cycle_cmp}
 use Rattle.grammar_core.specs.Written.{IsWritten}
-use Rattle.horn_clauses.specs.Rows.{row_at}
+use Rattle.jagged.specs.Rows.{row_at}
 use Rattle.slot_analysis.specs.Slots.{number, end_of, IsNumbering, IsNumbered, needed_of}
 use Rattle.slot_analysis.specs.Steps.{head_of}
 use Rattle.grammar_check.specs.Linked.{IsLinkTo, IsFloored}
@@ -21,12 +22,13 @@ use Rattle.grammar_check.specs.Told.{slot_with, slots_with, IsHomed, AreSlotsAt}
 use Rattle.horn_clauses.proofs.Search.{same_or_other}
 use Rattle.grammar_core.proofs.Known.{lhs_known}
 use Rattle.slot_analysis.proofs.Known.{head_numbered, child_numbered}
-use Rattle.slot_analysis.proofs.Rounds.{item_first, bases_rise, one_symbol}
+use Rattle.slot_analysis.proofs.Rounds.{bases_rise, one_symbol}
 use Rattle.slot_analysis.proofs.Reaching.{numbered_small, same_slot}
 use Rattle.slot_analysis.proofs.Beyond.{accessible_numbered}
 use Rattle.slot_analysis.proofs.StepLemmas.{all_needed, needed_small, head_small}
-use Rattle.grammar_check.proofs.Layering.{lt_or, step_known}
+use Rattle.grammar_check.proofs.Layering.{step_known}
 use Rattle.grammar_check.proofs.Settling.{contained_or}
+use Rattle.grammar_model.proofs.Productive.{item_first}
 
 needs : (P : Slot → Type 0) (rule : WrittenRule) → ((k : ℕ) → k < slot_count rule → P (child_slot rule k)) → EachNeeded P rule
 needs P (Plain r) all = all
@@ -71,16 +73,11 @@ nat_cases a b = by (nat_lt a b) (a == b) refl refl
     by false true e f = inr (inl (refl, eqb-true a b f))
     by false false e f = inr (inr (refl, (let le = other a b e in let ne = eqb-false a b f in omega arith)))
 
-got_some : (xs : List Slot) (i : ℕ) (d : Slot) → i < length xs → slice_get xs i ≡ Some (slice_index_or xs i d)
-got_some [] i d lt = absurd (omega arith)
-got_some (x ∷ xs) zero d lt = refl
-got_some (x ∷ xs) (suc i) d lt = got_some xs i d (omega arith)
-
 some_same : (s t : Slot) → Path (Option Slot) (Some s) (Some t) → s ≡ t
 some_same s t e = cc
 
 closed_at : (y : Slot) (ys : List Slot) (k : ℕ) → Path (Option Slot) (Some y) (slice_get (y ∷ ys) (suc k)) → k < length ys → y ≡ slice_index_or (y ∷ ys) (suc k) y
-closed_at y ys k e lt = some_same y (slice_index_or (y ∷ ys) (suc k) y) (e ∙ got_some (y ∷ ys) (suc k) y (omega arith))
+closed_at y ys k e lt = some_same y (slice_index_or (y ∷ ys) (suc k) y) (e ∙ slice_get-get_or (y ∷ ys) (suc k) y (omega arith))
 
 walk_of : (g : Grammar) (ss : List Slot) → ((i : ℕ) → i < length ss → IsAccessible g (slice_index_or ss i (slot_of 0)) × IsProductive g (slice_index_or ss i (slot_of 0))) →
     ((i : ℕ) → suc i < length ss → LeadsTo g (slice_index_or ss i (slot_of 0)) (slice_index_or ss (suc i) (slot_of 0))) → IsWalk g ss
@@ -103,7 +100,7 @@ module _ (g : Grammar) (w : IsWritten g) where
     -- the symbol of a number
     pub symbol_of : (m x : ℕ) → m ≤ length g.names → x < slice_index bases m → (s : ℕ) × (s < m) × (slice_index bases s ≤ x) × (x < end_of bases s)
     symbol_of zero x le lt = absurd (omega (arith, n.begin, lt))
-    symbol_of (suc m) x le lt = elim (lt_or x (slice_index bases m)) [
+    symbol_of (suc m) x le lt = elim (cases_lt x (slice_index bases m)) [
       | inl low ↦ let (s, a, b, d) = symbol_of m x (omega arith) low in (s, omega (arith, a), b, d)
       | inr up ↦ (m, omega arith, up, lt)
     ]
@@ -263,7 +260,7 @@ module _ (g : Grammar) (w : IsWritten g) where
                 cycle = record {
                   long = let s = p.some in omega (arith, size);
                   walk = walk_of g ss entered (λ i lt. (linked i lt).0);
-                  closed = got_some ss 0 (slot_of 0) (omega (arith, size)) ∙ (ap Some round ∙ (sym (got_some ss m (slot_of 0) (omega (arith, size))) ∙ ap (slice_get ss) (let z : m ≡ length ss - 1 = omega (arith, size) in z)));
+                  closed = slice_get-get_or ss 0 (slot_of 0) (omega (arith, size)) ∙ (ap Some round ∙ (sym (slice_get-get_or ss m (slot_of 0) (omega (arith, size))) ∙ ap (slice_get ss) (let z : m ≡ length ss - 1 = omega (arith, size) in z)));
                 };
                 least = λ others c e. not_greater ss others all size c e;
               }
@@ -308,7 +305,7 @@ AreLinks g bases rows = (t h : ℕ) → Contains (row_at rows t) h ↔ IsLinkTo 
 
 module _ (g : Grammar) (w : IsWritten g) (bases : List ℕ) (n : IsNumbering g bases) (floors : List ℕ) (fl : IsFloored g bases floors) (rows : List (List ℕ)) (links : AreLinks g bases rows) where
   pub path_known : (to m : ℕ) (path : List ℕ) → IsLeastPath rows floors to m path → All (λ x. x < slice_index bases (length g.names)) path
-  path_known to m path p k d lt = subst (λ x. x < slice_index bases (length g.names)) (get_or_default path k 0 d lt) (by (lt_or k m))
+  path_known to m path p k d lt = subst (λ x. x < slice_index bases (length g.names)) (get_or_default path k 0 d lt) (by (cases_lt k m))
     where
       inner : (i : ℕ) → i < m → slice_index path i < slice_index bases (length g.names)
       inner i il = let s = step_known rows floors (slice_index path i) (slice_index path (suc i)) (subst (λ n. AreRows n rows) (sym fl.sized) (rows_are g w bases n floors fl rows links)) (p.steps i il) in omega (arith, s, fl.sized)

@@ -1,9 +1,10 @@
 -- A grammar that is checked has no refusal, and no grammar has two.
-use Rattle.std.proofs.Common.{arith, ◌≡◌, ◌⊎◌, inl, inr, ℕ, ◌<◌, List, [], ◌∷◌, length, take, Some, slice_get, refl, sym, ◌∙◌, ap}
+use Rattle.std.proofs.Common.{arith, ◌≡◌, ◌⊎◌, inl, inr, ℕ, ◌<◌, List, [], ◌∷◌, length, take, slice_get, refl, sym, ◌∙◌, ap}
 use Rattle.std.specs.declared.cmp.Ordering.{Ordering}
 use Rattle.std.specs.declared.cmp.Ordering.TheVariants.{Less, Equal, Greater}
 use Rattle.std.specs.Ordering.{ordering_then, nat_cmp}
 use Rattle.std.specs.Cmp.Lexicographic.{slice_cmp}
+use Rattle.std.proofs.lemmas.Option.{same_Some}
 use Rattle.grammar_model.specs.Grammar.{Grammar, Slot}
 use Rattle.grammar_model.specs.Cycles.{IsLeastCycle, slot_cmp, cycle_cmp}
 use Rattle.grammar_model.specs.Checked.{IsLeastWith, IsFirstStart, Refusal, NoRules, NoStart, StartNotLhs, SequenceLhs, Duplicate, CountedNullable, UnproductiveStart, Cyclic, IsFault, kind_of}
@@ -68,14 +69,11 @@ side a b = grind arith
 one_least : (P : ℕ → Type 0) (a b : ℕ) → IsLeastWith P a → IsLeastWith P b → a ≡ b
 one_least P a b (pa, la) (pb, lb) = elim (side a b) [ inl lt ↦ absurd (lb a lt pa) | inr (inl gt) ↦ absurd (la b gt pb) | inr (inr e) ↦ e ]
 
-some_one : (s t : ℕ) → Some s ≡ Some t → s ≡ t
-some_one s t e = cc
-
 one_first : (g : Grammar) (P : ℕ → Type 0) (s t : ℕ) → IsFirstStart g P s → IsFirstStart g P t → s ≡ t
 one_first g P s t (i, es, ps, fs) (j, et, pt, ft) = elim (side i j) [
   | inl lt ↦ absurd (ft i s lt es ps)
   | inr (inl gt) ↦ absurd (fs j t gt et pt)
-  | inr (inr e) ↦ some_one s t (sym es ∙ (ap (slice_get g.starts) e ∙ et))
+  | inr (inr e) ↦ same_Some s t (sym es ∙ (ap (slice_get g.starts) e ∙ et))
 ]
 
 same : (g : Grammar) (a b : Refusal) → kind_of a ≡ kind_of b → IsFault g a → IsFault g b → a ≡ b

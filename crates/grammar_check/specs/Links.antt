@@ -1,7 +1,7 @@
 -- Steps between the numbers of slots. A row has, for a number, the tightest slots from which there is a step to it;
 -- the looser ones of the same symbol have it too, down to the symbol's first number, their floor.
 use Rattle.std.specs.Prelude.{◌≡◌, ℕ, zero, suc, ◌-◌, ◌<◌, ◌≤◌, List, ◌++◌, length, slice_index, Contains}
-use Rattle.horn_clauses.specs.Rows.{row_at}
+use Rattle.jagged.specs.Rows.{row_at}
 
 -- a looser slot of the same symbol, or the same slot
 abbrev pub Tied : List ℕ → (x h : ℕ) → Type 0

@@ -1,9 +1,9 @@
 -- Cycles of steps between numbers: there are none, or the least number on one. A number is settled where no endless walk
 -- leads to it: all from which there is a step to it are settled. Past the numbers stand as many again, each for all that
 -- are tied to a number.
-use Rattle.std.specs.Prelude.{◌≡◌, ℕ, suc, ◌+◌, ◌-◌, ◌<◌, nat_lt, if◌then◌else◌, List, [], ◌∷◌, length, map, slice_index}
-use Rattle.horn_clauses.specs.Least.{Clause}
-use Rattle.horn_clauses.specs.Rows.{row_at}
+use Rattle.std.specs.Prelude.{◌≡◌, ℕ, suc, ◌+◌, ◌-◌, ◌<◌, nat_lt, if◌then◌else◌, List, [], ◌∷◌, length, map, slice_index, Contains, ◌⊎◌, ◌↔◌}
+use Rattle.horn_clauses.specs.Least.{Clause, IsLeastSet}
+use Rattle.jagged.specs.Rows.{row_at}
 use Rattle.grammar_check.specs.Links.{Step, Walks}
 
 abbrev pub node_clause : List (List ℕ) → (total y : ℕ) → Clause
@@ -18,6 +18,11 @@ IsOfNodes rows total n c = (y : ℕ) × (y < n) × (c ≡ node_clause rows total
 
 abbrev pub IsOfUses : List ℕ → (total n : ℕ) → Clause → Type 0
 IsOfUses floors total n c = (y : ℕ) × (y < n) × (c ≡ use_clause floors total y)
+
+-- the least set that the clauses of all numbers make
+abbrev pub AreSettled : List (List ℕ) → List ℕ → List ℕ → Type 0
+AreSettled rows floors keys =
+    (clauses : List Clause) × ((c : Clause) → Contains clauses c ↔ (IsOfNodes rows (length rows) (length rows) c ⊎ IsOfUses floors (length rows) (length rows) c)) × IsLeastSet clauses keys
 
 -- no number below this one is on a cycle
 abbrev pub NoneBelow : List (List ℕ) → List ℕ → ℕ → Type 0

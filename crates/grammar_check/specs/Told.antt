@@ -1,7 +1,7 @@
 -- Slots as pairs of a symbol and a level.
 use Rattle.std.specs.Prelude.{◌≡◌, ℕ, ◌<◌, ◌≤◌, List, length, map, slice_index, slice_index_or}
 use Rattle.grammar_model.specs.Grammar.{Grammar, Slot}
-use Rattle.horn_clauses.specs.Rows.{row_at}
+use Rattle.jagged.specs.Rows.{row_at}
 use Rattle.slot_analysis.specs.Slots.{number, end_of, IsNumbered}
 
 abbrev pub slot_with : ℕ × ℕ → Slot

@@ -102,7 +102,7 @@ impl<'a> Checked<'a> {
         self.analysis.few_accessible();
     }
 
-    /// The grammar.
+    /// The grammar that was checked.
     pub fn written(&self) -> &Written
         ensures { result.now ≡ self.now }
     {

@@ -1,13 +1,14 @@
-//! The least cycle among slots.
+//! The least cycle among the numbers of slots, or heights that rise where there is none.
 ghost use Rattle.std.specs.Prelude.{◌≡◌, ℕ, suc, ◌+◌, ◌-◌, ◌<◌, ◌≤◌, ◌^◌, map, length, slice_index, All, Contains, IfOk, OnOk, IfSome, IsNone, ◌↔◌, ◌⊎◌, ◌++◌, ◌∷◌, []};
 ghost use Rattle.horn_clauses.specs.Least.{Clause};
-ghost use Rattle.horn_clauses.specs.Rows.{row_at};
+ghost use Rattle.jagged.specs.Rows.{row_at};
 ghost use Rattle.slot_analysis.specs.Steps.{HasMore};
 ghost use Rattle.grammar_check.specs.Links.{Step, Walks, AreFloors, AreRows, IsLeastPath};
-ghost use Rattle.grammar_check.specs.Settled.{node_clause, use_clause, IsOfNodes, IsOfUses, NoneBelow, Rises};
+ghost use Rattle.grammar_check.specs.Settled.{node_clause, use_clause, IsOfNodes, IsOfUses, AreSettled, NoneBelow, Rises};
 
 use crate::shortest::cycle_through;
-use horn_clauses::{Clauses, Rows, least_set};
+use horn_clauses::{Clauses, NumberSet, least_set};
+use jagged::Jagged;
 use std::alloc::{AllocError, Global};
 
 // Puts the numbers past a bound that stand for those of a row in the place of what the list had.
@@ -26,7 +27,7 @@ fn put_shifted(row: &[u32], by: u32, body: &mut Vec<u32>) -> Result<(), AllocErr
 // A number is settled where all from which there is a step to it are.
 fn push_nodes(
     alloc: Global,
-    rows: &Rows,
+    rows: &Jagged<u32>,
     total: u32,
     clauses: &mut Clauses,
 ) -> Result<(), AllocError>
@@ -69,7 +70,12 @@ fn push_ties(floors: &[u32], total: u32, clauses: &mut Clauses) -> Result<(), Al
     Ok(())
 }
 
-fn settling(alloc: Global, rows: &Rows, floors: &[u32], total: u32) -> Result<Clauses, AllocError>
+fn settling(
+    alloc: Global,
+    rows: &Jagged<u32>,
+    floors: &[u32],
+    total: u32,
+) -> Result<Clauses, AllocError>
     requires total { total ≡ length rows.now }
     requires sized { length rows.now ≡ length floors.now }
     requires small { total + total < 2 ^ 32 }
@@ -82,10 +88,27 @@ fn settling(alloc: Global, rows: &Rows, floors: &[u32], total: u32) -> Result<Cl
     Ok(clauses)
 }
 
+// The numbers to which no endless walk leads.
+fn settled_of(
+    alloc: Global,
+    rows: &Jagged<u32>,
+    floors: &[u32],
+    total: u32,
+) -> Result<NumberSet, AllocError>
+    requires total { total ≡ length rows.now }
+    requires sized { length rows.now ≡ length floors.now }
+    requires small { total + total < 2 ^ 32 }
+    requires rows { AreRows (length rows.now) rows.now }
+    ensures { IfOk result (λ settled. AreSettled rows.now floors.now settled) }
+{
+    let clauses = settling(alloc, rows, floors, total)?;
+    least_set(alloc, &clauses, (total + total) as usize)
+}
+
 /// The least of the shortest cycles through the least number that is on one, if there is a cycle.
 pub fn least_cycle(
     alloc: Global,
-    rows: &Rows,
+    rows: &Jagged<u32>,
     floors: &[u32],
 ) -> Result<Option<Vec<u32>>, AllocError>
     requires sized { length rows.now ≡ length floors.now }
@@ -96,8 +119,7 @@ pub fn least_cycle(
     ensures none { IfOk result (λ r. IsNone r → Rises rows.now floors.now) }
 {
     let total = rows.len() as u32;
-    let clauses = settling(alloc, rows, floors, total)?;
-    let settled = least_set(alloc, &clauses, (total + total) as usize)?;
+    let settled = settled_of(alloc, rows, floors, total)?;
     for x in 0..total {
         if !settled.has(x) {
             if let Some(path) = cycle_through(alloc, rows, floors, x)? {

@@ -1,7 +1,7 @@
-//! The least cycle of a grammar.
+//! The least cycle of a grammar, as its slots.
 ghost use Rattle.std.specs.Prelude.{true, false, ◌≡◌, ◌+◌, ◌<◌, ◌^◌, length, map, slice_index, All, IfOk, IfSome, IsNone};
 ghost use Rattle.grammar_model.specs.Cycles.{IsLeastCycle, HasHeights};
-ghost use Rattle.horn_clauses.specs.Rows.{row_at};
+ghost use Rattle.jagged.specs.Rows.{row_at};
 ghost use Rattle.slot_analysis.specs.Slots.{IsNumbering};
 ghost use Rattle.slot_analysis.specs.Clauses.{IsAnalysis};
 ghost use Rattle.slot_analysis.specs.Steps.{IsReach};
@@ -12,7 +12,7 @@ use crate::cycles::least_cycle;
 use crate::links::{floors_of, links_of};
 use crate::table::slots_at;
 use grammar_core::SymbolId;
-use horn_clauses::Rows;
+use jagged::Jagged;
 use slot_analysis::{Analysis, Packed, Slots};
 use std::alloc::{AllocError, Global};
 
@@ -42,7 +42,7 @@ fn cycle_of(
 }
 
 // The level of a place.
-fn level_at(rows: &Rows, symbol: SymbolId, place: u32) -> u32
+fn level_at(rows: &Jagged<u32>, symbol: SymbolId, place: u32) -> u32
     requires { place < length (row_at rows.now symbol) }
     ensures { result ≡ slice_index (row_at rows.now symbol) place }
 {
@@ -52,7 +52,7 @@ fn level_at(rows: &Rows, symbol: SymbolId, place: u32) -> u32
 // The slots whose levels have these places.
 fn unpacked(
     alloc: Global,
-    rows: &Rows,
+    rows: &Jagged<u32>,
     cycle: &[(SymbolId, u32)],
 ) -> Result<Vec<(SymbolId, u32)>, AllocError>
     requires { All (IsPlaced rows.now) cycle.now }

@@ -1,8 +1,9 @@
 //! The least steps from each slot to one of them, found layer by layer.
-ghost use Rattle.std.specs.Prelude.{◌≡◌, ℕ, suc, ◌+◌, ◌-◌, ◌<◌, ◌≤◌, length, slice_index, All, Contains, IfOk, OnOk};
+ghost use Rattle.std.specs.Prelude.{◌≡◌, ℕ, suc, ◌+◌, ◌-◌, ◌<◌, ◌≤◌, [], ◌∷◌, length, slice_index, All, Contains, IfOk, OnOk};
 ghost use Rattle.grammar_check.specs.Links.{Tied, Step, Walks, AreFloors, AreRows, IsDown, Gains, StepsInto, AreLayers};
 
-use horn_clauses::{NumberSet, Rows};
+use horn_clauses::NumberSet;
+use jagged::Jagged;
 use std::alloc::{AllocError, Global};
 
 // The numbers from the floor of a number up to it, as far as they are not found yet.
@@ -40,7 +41,12 @@ fn gather(floors: &[u32], row: &[u32], found: &mut NumberSet) -> Result<(), Allo
 }
 
 // What has a step to the number.
-fn spread(rows: &Rows, floors: &[u32], t: u32, found: &mut NumberSet) -> Result<(), AllocError>
+fn spread(
+    rows: &Jagged<u32>,
+    floors: &[u32],
+    t: u32,
+    found: &mut NumberSet,
+) -> Result<(), AllocError>
     requires known { t < length rows.now }
     requires rows { AreRows (length floors.now) rows.now }
     requires floors { AreFloors floors.now }
@@ -53,7 +59,7 @@ fn spread(rows: &Rows, floors: &[u32], t: u32, found: &mut NumberSet) -> Result<
 
 // What has a step to one of the numbers found at some places.
 fn grow(
-    rows: &Rows,
+    rows: &Jagged<u32>,
     floors: &[u32],
     from: usize,
     to: usize,
@@ -76,10 +82,43 @@ fn grow(
     Ok(())
 }
 
+// Adds layer by layer, to the last, and where each starts.
+fn add_layers(
+    rows: &Jagged<u32>,
+    floors: &[u32],
+    to: u32,
+    found: &mut NumberSet,
+    starts: &mut Vec<usize>,
+) -> Result<(), AllocError>
+    requires known { to < length rows.now }
+    requires sized { length rows.now ≡ length floors.now }
+    requires rows { AreRows (length floors.now) rows.now }
+    requires floors { AreFloors floors.now }
+    requires none { found.old ≡ [] }
+    requires first { starts.old.items ≡ 0 ∷ [] }
+    ensures layers { OnOk result (AreLayers rows.now floors.now to found.new starts.new.items) }
+    ensures known { OnOk result (All (λ x. x < length rows.now) found.new) }
+    ensures ended { OnOk result ((length starts.new.items ≡ suc (length starts.new.items - 1)) × (slice_index starts.new.items (length starts.new.items - 1) ≡ length found.new)) }
+    ensures all { OnOk result ((n x : ℕ) → Walks rows.now floors.now to (suc n) x → Contains found.new x) }
+{
+    spread(rows, floors, to, found)?;
+    for n in 0..usize::MAX {
+        let from = starts[n];
+        let end = found.len();
+        starts.push(end)?;
+        if from == end {
+            return Ok(());
+        }
+        grow(rows, floors, from, end, found)?;
+    }
+    let _length = starts.len();
+    unreachable!()
+}
+
 /// All numbers that have steps to a number, in layers, and where each layer starts.
 pub fn layers_of(
     alloc: Global,
-    rows: &Rows,
+    rows: &Jagged<u32>,
     floors: &[u32],
     to: u32,
 ) -> Result<(NumberSet, Vec<usize>), AllocError>
@@ -94,16 +133,6 @@ pub fn layers_of(
 {
     let mut found = NumberSet::new(alloc);
     let mut starts = vec![in alloc; 0usize]?;
-    spread(rows, floors, to, &mut found)?;
-    for n in 0..usize::MAX {
-        let from = starts[n];
-        let end = found.len();
-        starts.push(end)?;
-        if from == end {
-            return Ok((found, starts));
-        }
-        grow(rows, floors, from, end, &mut found)?;
-    }
-    let _length = starts.len();
-    unreachable!()
+    add_layers(rows, floors, to, &mut found, &mut starts)?;
+    Ok((found, starts))
 }

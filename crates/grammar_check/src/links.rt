@@ -2,13 +2,14 @@
 ghost use Rattle.std.specs.Prelude.{true, false, ◌≡◌, ◌≢◌, ℕ, suc, ◌+◌, ◌-◌, ◌<◌, ◌≤◌, ◌^◌, length, slice_index, Contains, IfOk, OnOk, IsTrue, ◌↔◌};
 ghost use Rattle.grammar_model.specs.Grammar.{rule_at, child_slot, slot_of};
 ghost use Rattle.grammar_model.specs.Analysis.{IsNullable, IsProductive, IsAccessible};
-ghost use Rattle.horn_clauses.specs.Rows.{row_at};
+ghost use Rattle.jagged.specs.Rows.{row_at};
 ghost use Rattle.slot_analysis.specs.Slots.{number, end_of, IsNumbering, needed_of};
 ghost use Rattle.slot_analysis.specs.Clauses.{IsAnalysis};
 ghost use Rattle.slot_analysis.specs.Steps.{head_of, IsReach};
 ghost use Rattle.grammar_check.specs.Linked.{HasPairs, IsLinkAt, IsLinkOf, IsLinkTo, IsFloored};
 
-use horn_clauses::{Gathered, NumberSet, Rows};
+use horn_clauses::{Gathered, NumberSet};
+use jagged::Jagged;
 use slot_analysis::{Packed, Slots, child_number, head_number};
 use std::alloc::{AllocError, Global};
 
@@ -109,7 +110,7 @@ fn add_links(
 }
 
 /// The rows of all steps: for each slot, the tightest slots from which there is one to it.
-pub fn links_of(alloc: Global, w: &Packed<'_>, slots: &Slots<'_>) -> Result<Rows, AllocError>
+pub fn links_of(alloc: Global, w: &Packed<'_>, slots: &Slots<'_>) -> Result<Jagged<u32>, AllocError>
     requires numbering { IsNumbering w.now slots.now.bases.now }
     requires nullable { IsAnalysis true w.now slots.now.bases.now slots.now.nullable.now }
     requires productive { IsAnalysis false w.now slots.now.bases.now slots.now.productive.now }

@@ -3,7 +3,8 @@ ghost use Rattle.std.specs.Prelude.{◌≡◌, ℕ, suc, ◌+◌, ◌-◌, ◌^�
 ghost use Rattle.grammar_check.specs.Links.{Tied, Step, Walks, AreFloors, AreRows, StepsInto, AreLayers, IsLeastNext, IsLeastPath};
 
 use crate::layers::layers_of;
-use horn_clauses::{NumberSet, Rows};
+use horn_clauses::NumberSet;
+use jagged::Jagged;
 use std::alloc::{AllocError, Global};
 
 // Whether one of the numbers is tied to one of a row.
@@ -20,7 +21,7 @@ fn has_tied(row: &[u32], floors: &[u32], x: u32) -> bool
     false
 }
 
-fn has_step(rows: &Rows, floors: &[u32], x: u32, t: u32) -> bool
+fn has_step(rows: &Jagged<u32>, floors: &[u32], x: u32, t: u32) -> bool
     requires known { t < length rows.now }
     requires rows { AreRows (length floors.now) rows.now }
     ensures { IsTrue result ↔ Step rows.now floors.now x t }
@@ -29,7 +30,14 @@ fn has_step(rows: &Rows, floors: &[u32], x: u32, t: u32) -> bool
 }
 
 // The least number at some places to which there is a step.
-fn least_next(rows: &Rows, floors: &[u32], found: &NumberSet, x: u32, from: usize, to: usize) -> u32
+fn least_next(
+    rows: &Jagged<u32>,
+    floors: &[u32],
+    found: &NumberSet,
+    x: u32,
+    from: usize,
+    to: usize,
+) -> u32
     requires within { to ≤ length found.now }
     requires few { length rows.now < 2 ^ 32 }
     requires known { All (λ t. t < length rows.now) found.now }
@@ -50,7 +58,7 @@ fn least_next(rows: &Rows, floors: &[u32], found: &NumberSet, x: u32, from: usiz
 // A shortest walk from the number that the layers are of back to it.
 fn path_of(
     alloc: Global,
-    rows: &Rows,
+    rows: &Jagged<u32>,
     floors: &[u32],
     found: &NumberSet,
     starts: &[usize],
@@ -107,10 +115,36 @@ fn layer_of(starts: &[usize], j: usize) -> usize
     0
 }
 
+// The least of the shortest cycles from a number, by the layers of what has steps to it.
+fn cycle_within(
+    alloc: Global,
+    rows: &Jagged<u32>,
+    floors: &[u32],
+    found: &NumberSet,
+    starts: &[usize],
+    to: u32,
+) -> Result<Option<Vec<u32>>, AllocError>
+    requires few { length rows.now < 2 ^ 32 }
+    requires rows { AreRows (length floors.now) rows.now }
+    requires layers { AreLayers rows.now floors.now to found.now starts.now }
+    requires known { All (λ x. x < length rows.now) found.now }
+    requires some { length starts.now ≡ suc (length starts.now - 1) }
+    requires ended { slice_index starts.now (length starts.now - 1) ≡ length found.now }
+    ensures some { IfOk result (λ r. IfSome r (λ path. (n : ℕ) × IsLeastPath rows.now floors.now to n path.items)) }
+    ensures none { IfOk result (λ r. IsNone r → Contains found.now to → ⊥) }
+{
+    let Some(place) = place_of(found, to) else {
+        return Ok(None);
+    };
+    let layer = layer_of(starts, place);
+    let path = path_of(alloc, rows, floors, found, starts, to, layer)?;
+    Ok(Some(path))
+}
+
 /// The least of the shortest cycles from a number, if it is on one.
 pub fn cycle_through(
     alloc: Global,
-    rows: &Rows,
+    rows: &Jagged<u32>,
     floors: &[u32],
     to: u32,
 ) -> Result<Option<Vec<u32>>, AllocError>
@@ -123,10 +157,5 @@ pub fn cycle_through(
     ensures none { IfOk result (λ r. IsNone r → (m : ℕ) → Walks rows.now floors.now to (suc m) to → ⊥) }
 {
     let (found, starts) = layers_of(alloc, rows, floors, to)?;
-    let Some(place) = place_of(&found, to) else {
-        return Ok(None);
-    };
-    let layer = layer_of(&starts, place);
-    let path = path_of(alloc, rows, floors, &found, &starts, to, layer)?;
-    Ok(Some(path))
+    cycle_within(alloc, rows, floors, &found, &starts, to)
 }

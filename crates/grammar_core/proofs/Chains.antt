@@ -4,11 +4,12 @@ use Rattle.std.specs.Prelude.{nat_eq, AllPairs}
 use Rattle.std.proofs.lemmas.Bool.{cases_eq, cases_lt, ne_eqb}
 use Rattle.std.proofs.lemmas.List.Elements.{Contains-append_left, Contains-push, Contains-push_cases}
 use Rattle.std.proofs.lemmas.List.Quantifiers.{all_pairs_push}
+use Rattle.std.proofs.lemmas.List.{get_or_default}
+use Rattle.finite_sets.proofs.Lists.{get_index}
 use Rattle.grammar_model.specs.declared.Edge.{Edge as HeldEdge}
 use Rattle.grammar_core.specs.declared.long.LongEdge.{LongEdge}
 use Rattle.grammar_core.specs.Long.{all_held, IsLastTo, IsNewest, AreChained}
-use Rattle.grammar_core.proofs.Halving.{index_get}
-use Rattle.grammar_core.proofs.Placed.{index_any, found_at, at_found}
+use Rattle.grammar_core.proofs.Placed.{found_at, at_found}
 
 -- what stands in a list that one more was pushed on
 module _ {A : Type 0} where
@@ -46,7 +47,7 @@ held_more (x ∷ xs) y = ap (λ l. x.edge ∷ l) (held_more xs y)
 
 -- one more that is not there
 pub push_once : (held : List HeldEdge) (e : HeldEdge) → AllPairs (λ a b. a ≢ b) held → (Contains held e → ⊥) → AllPairs (λ a b. a ≢ b) (held ++ e ∷ [])
-push_once held e once new = all_pairs_push (λ a b. a ≢ b) held e once (λ k d lt same. new (k, lt, index_any held k e d lt ∙ same))
+push_once held e once new = all_pairs_push (λ a b. a ≢ b) held e once (λ k d lt same. new (k, lt, get_or_default held k e d lt ∙ same))
 
 module _ (edges : List LongEdge) (y : LongEdge) (place : ℕ) where
   fewer : (n k : ℕ) (e : LongEdge) → n ≤ length edges → k < n → slice_get (edges ++ y ∷ []) k ≡ Some e → slice_get edges k ≡ Some e
@@ -68,7 +69,7 @@ module _ (edges : List LongEdge) (y : LongEdge) (place : ℕ) where
 
   ends_elsewhere : (y.edge.to ≢ place) → (k : ℕ) (e : LongEdge) → ((k < length edges) → slice_get edges k ≡ Some e → e.edge.to ≢ place) → slice_get (edges ++ y ∷ []) k ≡ Some e → e.edge.to ≢ place
   ends_elsewhere apart k e old is = elim (more_cases edges y k e is) [
-    | inl a ↦ (let (lt, s) = index_get edges k e e a in old lt a)
+    | inl a ↦ (let (lt, s) = get_index edges k e e a in old lt a)
     | inr (b, c) ↦ λ t. apart (subst (λ (z : LongEdge). z.edge.to ≡ place) (sym c) t)
   ]
 
@@ -101,7 +102,7 @@ module _ (edges : List LongEdge) (newest : ℕ → Option ℕ) (are : AreChained
 
       before : (k : ℕ) (e : LongEdge) → slice_get (edges ++ y ∷ []) k ≡ Some e → IsNewest (edges ++ y ∷ []) e.edge.to k e.below
       before k e is = elim (more_cases edges y k e is) [
-        | inl a ↦ (let (lt, s) = index_get edges k e e a in newest_kept edges y e.edge.to k e.below (omega arith) (are.before k e a))
+        | inl a ↦ (let (lt, s) = get_index edges k e e a in newest_kept edges y e.edge.to k e.below (omega arith) (are.before k e a))
         | inr (b, c) ↦
             subst (λ (z : LongEdge). IsNewest (edges ++ y ∷ []) z.edge.to k z.below) c
             (subst (λ n. IsNewest (edges ++ y ∷ []) y.edge.to n y.below) (sym b) (newest_kept edges y y.edge.to (length edges) y.below (omega arith) own))
@@ -149,7 +150,7 @@ module _ (edges : List LongEdge) (place : ℕ) (start : List HeldEdge) where
       λ h. inl (subst (λ l. Contains l e) same h),
       λ h. elim h [
         | inl s ↦ subst (λ l. Contains l e) (sym same) s
-        | inr f ↦ (let (lt, s) = index_get edges f.number f.link f.link f.at in let g = f.from in absurd (omega arith))
+        | inr f ↦ (let (lt, s) = get_index edges f.number f.link f.link f.at in let g = f.from in absurd (omega arith))
       ],
     );
   }
@@ -209,8 +210,8 @@ module _ (edges : List LongEdge) (place : ℕ) (start : List HeldEdge) where
             let b = l.newest.below in
             let g = f.from in
             let lt : number < f.number = omega arith in
-            let (lt_x, at_x) = index_get (all_held edges) number x.edge x.edge (held_at edges number x at) in
-            let (lt_f, at_f) = index_get (all_held edges) f.number x.edge f.link.edge (held_at edges f.number f.link f.at) in
+            let (lt_x, at_x) = get_index (all_held edges) number x.edge x.edge (held_at edges number x at) in
+            let (lt_f, at_f) = get_index (all_held edges) f.number x.edge f.link.edge (held_at edges f.number f.link f.at) in
             are.once number f.number x.edge lt lt_f (at_x ∙ sym (at_f ∙ f.is))
       ]
 

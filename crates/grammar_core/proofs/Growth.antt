@@ -10,6 +10,7 @@ use Rattle.std.proofs.lemmas.Slice.Eq.{bytes_eq-Decides}
 use Rattle.std.proofs.lemmas.List.Elements.{All-weaker, All-append}
 use Rattle.std.proofs.Math.ListN.{get_or-append}
 use Rattle.std.proofs.Math.Seq.{get_or-append_seam}
+use Rattle.finite_sets.proofs.Lists.{get_pushed}
 use Rattle.grammar_model.specs.Grammar.{WrittenRule, Grammar, rule_at, no_rule}
 use Rattle.grammar_core.specs.Written.{IsWritten, IsLevelled, symbols_of, with_rule, with_start}
 
@@ -50,12 +51,6 @@ place_past p (x ∷ xs) e =
     let ih = place_past p xs f.1 in
     subst (λ b. cond (not b) (1 + position_or_len p xs) 0 ≡ suc (length xs)) (sym f.0) (omega arith)
 
-get_either : {X : Type 0} (xs : List X) (x : X) (i : ℕ) (y : X) → slice_get (xs ++ x ∷ []) i ≡ Some y → (slice_get xs i ≡ Some y) ⊎ ((i ≡ length xs) × (x ≡ y))
-get_either [] x zero y e = inr (refl, cc)
-get_either [] x (suc i) y e = cc
-get_either (z ∷ zs) x zero y e = inl e
-get_either (z ∷ zs) x (suc i) y e = elim (get_either zs x i y e) [ inl h ↦ inl h | inr h ↦ inr (ap suc h.0, h.1) ]
-
 pub get_last : {X : Type 0} (xs : List X) (x : X) (i : ℕ) → i ≡ length xs → slice_get (xs ++ x ∷ []) i ≡ Some x
 get_last {X} xs x i e = subst (λ k. slice_get (xs ++ x ∷ []) k ≡ Some x) (sym e) (go xs)
   where
@@ -75,7 +70,7 @@ abbrev Differ : List (List ℕ) → Type 0
 Differ names = (i j : ℕ) (name : List ℕ) → slice_get names i ≡ Some name → slice_get names j ≡ Some name → i ≡ j
 
 differ_more : (names : List (List ℕ)) (new : List ℕ) → list_any (bytes_eq new) names ≡ false → Differ names → Differ (names ++ new ∷ [])
-differ_more names new free differ i j name a b = go (get_either names new i name a) (get_either names new j name b)
+differ_more names new free differ i j name a b = go (get_pushed names new i name a) (get_pushed names new j name b)
   where
     go : (slice_get names i ≡ Some name) ⊎ ((i ≡ length names) × (new ≡ name)) → (slice_get names j ≡ Some name) ⊎ ((j ≡ length names) × (new ≡ name)) → i ≡ j
     go (inl x) (inl y) = differ i j name x y

@@ -1,29 +1,16 @@
 -- Searches by halving over what a flat grammar has in order.
-use Rattle.std.proofs.Common.{◌≡◌, ℕ, zero, suc, ◌<◌, ◌≤◌, true, false, List, [], ◌∷◌, length, ◌⊎◌, inl, inr, Some, refl, sym, ap, ◌∙◌, subst, arith}
+use Rattle.std.proofs.Common.{◌≡◌, ℕ, ◌<◌, ◌≤◌, true, false, ◌⊎◌, inl, inr, Some, sym, ap, ◌∙◌, subst, arith}
 use Rattle.std.specs.Prelude.{nat_lt, nat_le, slice_get, slice_index_or}
 use Rattle.std.specs.List.Sorted.{IsPartitionedBy}
 use Rattle.std.proofs.lemmas.Bool.{true≢false, ltb-true, leb-true, lt-ltb, le-leb, cases_lt}
+use Rattle.std.proofs.lemmas.Option.{slice_get-get_or}
+use Rattle.std.proofs.lemmas.List.{get_or_default}
+use Rattle.finite_sets.proofs.Lists.{get_index}
 use Rattle.recognizer_model.specs.declared.flat.FlatSymbol.{FlatSymbol}
 use Rattle.recognizer_model.specs.declared.flat.FlatSymbol.TheVariants.{Terminal, Slot, Sequence, Top}
 use Rattle.recognizer_model.specs.Flat.{FlatGrammar, FlatRule, no_rule, IsRule, lhs_of}
 use Rattle.recognizer_model.specs.Invariant.{IsArranged}
 use Rattle.grammar_core.specs.Flat.{terminal_below}
-
--- an element has no other default than itself
-index_any : {A : Type 0} (xs : List A) (k : ℕ) (d e : A) → k < length xs → slice_index_or xs k d ≡ slice_index_or xs k e
-index_any [] k d e lt = absurd (omega arith)
-index_any (x ∷ xs) zero d e lt = refl
-index_any (x ∷ xs) (suc k) d e lt = index_any xs k d e (omega arith)
-
-pub index_get : {A : Type 0} (xs : List A) (k : ℕ) (d x : A) → slice_get xs k ≡ Some x → (k < length xs) × (slice_index_or xs k d ≡ x)
-index_get [] k d x e = cc
-index_get (y ∷ ys) zero d x e = (omega arith, cc)
-index_get (y ∷ ys) (suc k) d x e = let (lt, h) = index_get ys k d x e in (omega arith, h)
-
-pub get_index : {A : Type 0} (xs : List A) (k : ℕ) (d : A) → k < length xs → slice_get xs k ≡ Some (slice_index_or xs k d)
-get_index [] k d lt = absurd (omega arith)
-get_index (y ∷ ys) zero d lt = refl
-get_index (y ∷ ys) (suc k) d lt = get_index ys k d (omega arith)
 
 module _ (f : FlatGrammar) (arranged : IsArranged f) where
   lower_equal : (i j : ℕ) → i ≤ j → IsRule f j → lhs_of f i ≤ lhs_of f j
@@ -34,7 +21,7 @@ module _ (f : FlatGrammar) (arranged : IsArranged f) where
       go (inr ge) = let e : i ≡ j = omega arith in subst (λ z. lhs_of f i ≤ lhs_of f z) e (omega arith)
 
   left_at : (k : ℕ) (d : FlatRule) → IsRule f k → (slice_index_or f.rules k d).lhs ≡ lhs_of f k
-  left_at k d r = ap (λ (z : FlatRule). z.lhs) (index_any f.rules k d no_rule r)
+  left_at k d r = ap (λ (z : FlatRule). z.lhs) (get_or_default f.rules k d no_rule r)
 
   pub below_partitioned : (x : ℕ) → IsPartitionedBy (λ (r : FlatRule). nat_lt r.lhs x) f.rules
   below_partitioned x i j d le lt e =
@@ -65,13 +52,13 @@ module _ (f : FlatGrammar) (arranged : IsArranged f) where
       by_kind (Terminal s) is below less =
           let (r, ir, lower) = arranged.terminals i j s less is in
           let h = ltb-true s t below in
-          subst (λ z. terminal_below t z ≡ true) (sym (index_get f.symbols i d (Terminal r) ir).1) (below_from t r (omega arith))
+          subst (λ z. terminal_below t z ≡ true) (sym (get_index f.symbols i d (Terminal r) ir).1) (below_from t r (omega arith))
       by_kind (Slot s k) is below less = absurd (true≢false (sym below))
       by_kind (Sequence r) is below less = absurd (true≢false (sym below))
       by_kind (Top k) is below less = absurd (true≢false (sym below))
 
       go : (i < j) ⊎ (j ≤ i) → terminal_below t (slice_index_or f.symbols i d) ≡ true
-      go (inl less) = by_kind (slice_index_or f.symbols j d) (get_index f.symbols j d lt) e less
+      go (inl less) = by_kind (slice_index_or f.symbols j d) (slice_get-get_or f.symbols j d lt) e less
       go (inr ge) = let same : j ≡ i = omega arith in subst (λ z. terminal_below t (slice_index_or f.symbols z d) ≡ true) same e
 
   -- the terminal stands where those of lower numbers end, or nowhere

@@ -3,10 +3,10 @@ use Rattle.std.proofs.Common.{◌≡◌, ◌≢◌, ℕ, ◌+◌, ◌-◌, ◌<�
 use Rattle.std.specs.Prelude.{AllPairs}
 use Rattle.std.proofs.lemmas.Bool.{cases_lt}
 use Rattle.std.proofs.lemmas.List.Elements.{Contains-append_left, Contains-push, Contains-push_cases}
+use Rattle.finite_sets.proofs.Lists.{get_index}
 use Rattle.grammar_model.specs.declared.Edge.{Edge as HeldEdge}
 use Rattle.grammar_core.specs.declared.edges.Edge.{Edge}
 use Rattle.grammar_core.specs.Edges.{placed, all_placed, ArePlaced, IsShortTo}
-use Rattle.grammar_core.proofs.Halving.{index_get}
 use Rattle.grammar_core.proofs.Placed.{found_at, at_found, placed_bounds}
 use Rattle.grammar_core.proofs.Chains.{push_once}
 
@@ -79,8 +79,8 @@ module _ (begun : List Edge) (place : ℕ) (start : List HeldEdge) where
             let symbol : x.symbol ≡ b.edge.symbol = ap (λ (z : HeldEdge). z.symbol) b.is in
             let size : x.length ≡ b.edge.length = one ∙ sym b.one in
             let edge : x ≡ b.edge = λ i. record { symbol = symbol i; length = size i } in
-            let (lt, here) = index_get begun k x x at in
-            let (low, there) = index_get begun b.number x b.edge b.at in
+            let (lt, here) = get_index begun k x x at in
+            let (low, there) = get_index begun b.number x b.edge b.at in
             differ b.number k x b.below lt (there ∙ sym (here ∙ edge))
       ]
 
@@ -114,7 +114,7 @@ module _ (begun : List Edge) (place : ℕ) (start : List HeldEdge) where
       | inl s ↦ (listed e).1 (inl s)
       | inr (x, there, one, is) ↦
           let (n, at) = found_at begun x there in
-          let (lt, s) = index_get begun n x x at in
+          let (lt, s) = get_index begun n x x at in
           (listed e).1 (inr (record { number = n; below = omega arith; edge = x; at = at; one = one; is = is }))
     ],
   )

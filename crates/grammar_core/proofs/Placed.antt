@@ -3,25 +3,21 @@ use Rattle.std.proofs.Common.{◌≡◌, ◌≢◌, ℕ, zero, suc, ◌+◌, ◌
 use Rattle.std.specs.Prelude.{nat_lt, slice_get, slice_index, slice_index_or, AllPairs}
 use Rattle.std.specs.List.Sorted.{IsPartitionedBy}
 use Rattle.std.proofs.lemmas.Bool.{ltb-true, lt-ltb, cases_lt}
-use Rattle.std.proofs.lemmas.List.{get_or-take, get_or-drop, get_or_append_left, get_or-append-add}
+use Rattle.std.proofs.lemmas.List.{get_or-take, get_or-drop, get_or_append_left, get_or-append-add, get_or_default}
 use Rattle.std.proofs.lemmas.List.Elements.{Contains-append_left, Contains-push, Contains-push_cases}
 use Rattle.std.proofs.lemmas.List.Quantifiers.{all_pairs_push}
+use Rattle.std.proofs.lemmas.Option.{slice_get-get_or}
+use Rattle.finite_sets.proofs.Lists.{get_index}
 use Rattle.grammar_model.specs.declared.Edge.{Edge as HeldEdge}
 use Rattle.grammar_core.specs.declared.edges.Edge.{Edge}
 use Rattle.grammar_core.specs.Edges.{placed, all_placed, longest_edge, AreOrdered, AreLongOf, ArePlaced, GoFrom}
-use Rattle.grammar_core.proofs.Halving.{index_get, get_index}
-
-pub index_any : {A : Type 0} (xs : List A) (k : ℕ) (d e : A) → k < length xs → get_or xs k d ≡ get_or xs k e
-index_any [] k d e lt = absurd (omega arith)
-index_any (x ∷ xs) zero d e lt = refl
-index_any (x ∷ xs) (suc k) d e lt = index_any xs k d e (omega arith)
 
 module _ {A : Type 0} (xs : List A) where
   pub found_at : (x : A) → Contains xs x → (k : ℕ) × (slice_get xs k ≡ Some x)
-  found_at x (k, lt, e) = (k, get_index xs k x lt ∙ ap Some e)
+  found_at x (k, lt, e) = (k, slice_get-get_or xs k x lt ∙ ap Some e)
 
   pub at_found : (k : ℕ) (x : A) → slice_get xs k ≡ Some x → Contains xs x
-  at_found k x e = let (lt, h) = index_get xs k x x e in (k, lt, h)
+  at_found k x e = let (lt, h) = get_index xs k x x e in (k, lt, h)
 
 -- what stands in a part of a list
 module _ {A : Type 0} (xs : List A) (start end : ℕ) (le : start ≤ end) (bound : end ≤ length xs) where
@@ -32,12 +28,12 @@ module _ {A : Type 0} (xs : List A) (start end : ℕ) (le : start ≤ end) (boun
   part_from x (k, lt, e) =
       let l = part_length in
       let short : k < end - start = omega arith in
-      (start + k, omega arith, omega arith, get_index xs (start + k) x (omega arith) ∙ ap Some (sym (get_or-take (end - start) (drop start xs) k x short ∙ get_or-drop start xs k x) ∙ e))
+      (start + k, omega arith, omega arith, slice_get-get_or xs (start + k) x (omega arith) ∙ ap Some (sym (get_or-take (end - start) (drop start xs) k x short ∙ get_or-drop start xs k x) ∙ e))
 
   pub part_to : (k : ℕ) (x : A) → start ≤ k → k < end → slice_get xs k ≡ Some x → Contains (take (end - start) (drop start xs)) x
   part_to k x from to e =
       let l = part_length in
-      let (lt, h) = index_get xs k x x e in
+      let (lt, h) = get_index xs k x x e in
       let same : start + (k - start) ≡ k = omega arith in
       (k - start, omega arith, get_or-take (end - start) (drop start xs) (k - start) x (omega arith) ∙ (get_or-drop start xs (k - start) x ∙ (ap (λ n. get_or xs n x) same ∙ h)))
 
@@ -74,7 +70,7 @@ placed_more (q ∷ ps) (x ∷ es) p e s = ap (λ l. placed q x ∷ l) (placed_mo
 
 module _ (places : List ℕ) (ordered : AreOrdered places) (at : ℕ) where
   at_any : (k d : ℕ) → k < length places → get_or places k d ≡ slice_index places k
-  at_any k d lt = index_any places k d 0 lt
+  at_any k d lt = get_or_default places k d 0 lt
 
   pub before_partitioned : IsPartitionedBy (λ p. nat_lt p at) places
   before_partitioned i j d le lt e =
@@ -138,7 +134,7 @@ module _ (places : List ℕ) (edges : List Edge) (long : List HeldEdge) (are : A
           let x = a1 k from lt in
           let y = b2 k to in
           let same : slice_index places k ≡ at = omega arith in
-          at_found (all_placed places edges) k (placed at e) (placed_at places edges k at e (get_index places k 0 lt ∙ ap Some same) is)
+          at_found (all_placed places edges) k (placed at e) (placed_at places edges k at e (slice_get-get_or places k 0 lt ∙ ap Some same) is)
 
       back : (e : Edge) → Contains (all_placed places edges) (placed at e) → Contains (take (end - start) (drop start edges)) e
       back e h =
@@ -149,7 +145,7 @@ module _ (places : List ℕ) (edges : List Edge) (long : List HeldEdge) (are : A
           let size : e.length ≡ r.edge.length = omega arith in
           let symbol : e.symbol ≡ r.edge.symbol = ap (λ (z : HeldEdge). z.symbol) r.same in
           let edge : e ≡ r.edge = λ i. record { symbol = symbol i; length = size i } in
-          let (lt, is') = index_get places k 0 r.place r.at in
+          let (lt, is') = get_index places k 0 r.place r.at in
           part_to edges start end le bound k e (first k lt is' from) (last k lt is' from) (r.is ∙ ap Some (sym edge))
         where
           first : (k : ℕ) {p : ℕ} → k < length places → slice_index places k ≡ p → at ≡ p → start ≤ k
@@ -185,8 +181,8 @@ module _ (places : List ℕ) (edges : List Edge) (long : List HeldEdge) (are : A
           let a = above (start + k) (omega arith) in_places in
           let b = below (start + k) (omega arith) in
           let there : slice_index places (start + k) ≡ at = omega arith in
-          let held = placed_at places edges (start + k) at x (get_index places (start + k) 0 in_places ∙ ap Some there) (get_index edges (start + k) d (omega arith)) in
-          let (below_all, is) = index_get (all_placed places edges) (start + k) (placed at d) (placed at x) held in
+          let held = placed_at places edges (start + k) at x (slice_get-get_or places (start + k) 0 in_places ∙ ap Some there) (slice_get-get_or edges (start + k) d (omega arith)) in
+          let (below_all, is) = get_index (all_placed places edges) (start + k) (placed at d) (placed at x) held in
           is ∙ ap (placed at) (sym (get_or-take (end - start) (drop start edges) k d lt' ∙ get_or-drop start edges k d))
 
   -- each goes forward, and not too far
@@ -206,25 +202,25 @@ module _ (places : List ℕ) (edges : List Edge) (long : List HeldEdge) (are : A
   placed_order i j d lt end =
       let n = placed_length places edges are.same in
       let same = are.same in
-      let (lt_i, at_i) = from_at i (slice_index_or (all_placed places edges) i d) (get_index (all_placed places edges) i d (omega arith)) in
-      let (lt_j, at_j) = from_at j (slice_index_or (all_placed places edges) j d) (get_index (all_placed places edges) j d end) in
+      let (lt_i, at_i) = from_at i (slice_index_or (all_placed places edges) i d) (slice_get-get_or (all_placed places edges) i d (omega arith)) in
+      let (lt_j, at_j) = from_at j (slice_index_or (all_placed places edges) j d) (slice_get-get_or (all_placed places edges) j d end) in
       let o = are.order i j (omega arith) lt_j in
       omega arith
     where
       from_at : (k : ℕ) (h : HeldEdge) → slice_get (all_placed places edges) k ≡ Some h → (k < length places) × (slice_index places k ≡ h.from)
       from_at k h is =
           let r = at_placed places edges k h is in
-          let (lt, at) = index_get places k 0 r.place r.at in
+          let (lt, at) = get_index places k 0 r.place r.at in
           (lt, at ∙ sym (ap (λ (z : HeldEdge). z.from) r.same))
 
   pub placed_from : (at : ℕ) → GoFrom (all_placed places edges) at → (p : ℕ) → Contains places p → p ≤ at
   placed_from at all p h =
       let (k, is) = found_at places p h in
-      let (lt, is') = index_get places k 0 p is in
+      let (lt, is') = get_index places k 0 p is in
       let s = are.same in
       let lt' : k < length edges = omega arith in
       let d : Edge = record { symbol = 0; length = 0 } in
-      all (placed p (get_or edges k d)) (at_found (all_placed places edges) k (placed p (get_or edges k d)) (placed_at places edges k p (get_or edges k d) is (get_index edges k d lt')))
+      all (placed p (get_or edges k d)) (at_found (all_placed places edges) k (placed p (get_or edges k d)) (placed_at places edges k p (get_or edges k d) is (slice_get-get_or edges k d lt')))
 
   -- one more
   pub are_more : (at : ℕ) (e : Edge) (longer : List HeldEdge) → GoFrom (all_placed places edges) at → at ≤ 16777216 → 0 < e.length → e.length ≤ longest_edge → (¬ Contains (all_placed places edges) (placed at e)) →
@@ -236,7 +232,7 @@ module _ (places : List ℕ) (edges : List Edge) (long : List HeldEdge) (are : A
     some = λ x h. ⊎_elim (are.some x) (λ s. subst (λ (z : Edge). 0 < z.length) s some) (Contains-push_cases edges e x h);
     short = λ x h. ⊎_elim (are.short x) (λ s. subst (λ (z : Edge). z.length ≤ longest_edge) s up) (Contains-push_cases edges e x h);
     once = subst (AllPairs (λ a b. a ≢ b)) (sym more) (all_pairs_push (λ a b. a ≢ b) (all_placed places edges) (placed at e) are.once
-        (λ k d lt same. new (k, lt, index_any (all_placed places edges) k (placed at e) d lt ∙ same)));
+        (λ k d lt same. new (k, lt, get_or_default (all_placed places edges) k (placed at e) d lt ∙ same)));
     long = subst (λ l. AreLongOf l longer) (sym more) is_long;
   }
     where

@@ -1,35 +1,24 @@
 -- Whether a terminal is acceptable at a place of a checked grammar is decided, over edges that are decided and go forward. What
 -- comes behind the terminal is not told: there each productive slot may span nothing.
 use Rattle.std.proofs.Common.{arith, ◌≡◌, ◌⊎◌, inl, inr, ℕ, zero, suc, ◌+◌, ◌<◌, ◌≤◌, IsTrue, IsFalse, List, [], ◌∷◌, ◌++◌, length, Option, Some, None, slice_get, refl, sym, ◌∙◌, ap, subst, length-append, true≢false}
+use Rattle.finite_sets.proofs.Lists.{get_left, get_right}
 use Rattle.grammar_model.specs.Grammar.{WrittenRule, SequenceRule, Plain, Sequence, Grammar, Slot, slot_of, rule_at, IsTerminal, Fits, child_slot, ends_with_separator, IsChildCount, EachChildSlot}
 use Rattle.grammar_model.specs.Trees.{Tree, Children, Leaf, Nulled, Node, NoChild, Child, child_count}
 use Rattle.grammar_model.specs.Analysis.{IsNullable, IsProductiveIn, IsProductive, EachNeeded}
-use Rattle.grammar_model.specs.Derives.{Edges, Held, Line, Derives, DerivesFront}
+use Rattle.grammar_model.specs.Derives.{Edges, Held, Line, Derives, DerivesPrefix}
 use Rattle.grammar_model.specs.Checked.{ItemsSpan}
 use Rattle.grammar_model.specs.Acceptable.{Spells, IsAcceptable}
-use Rattle.grammar_model.proofs.Productive.{nullable_by}
-use Rattle.recognizer_model.proofs.Moved.{moved as moved_tree, moved_all, count-moved, tree_moved, front_moved}
+use Rattle.grammar_model.proofs.Productive.{nullable_by, item_first}
+use Rattle.recognizer_model.proofs.Moved.{moved as moved_tree, moved_all, count-moved, tree_moved, prefix_moved}
 use Rattle.recognizer_model.proofs.Words.{line_forward, spells-append}
-use Rattle.slot_analysis.proofs.Rounds.{item_first}
 use Rattle.finite_sets.specs.Decided.{IsDecided}
 use Rattle.finite_sets.proofs.Deciding.{both, one_of, moved, equal, at_most, is_true}
 use Rattle.grammar_laws.specs.Laws.{GoForward, Told, AcceptableAreDecided, ToldAcceptableAreDecided}
 use Rattle.grammar_laws.proofs.Tests.{nullable_decided, productive_decided}
-use Rattle.grammar_laws.proofs.Facts.{class, after, class_zero, class_after, class_count, slot_same, Fact, TreeOf, FrontOf, Base, Next, In, tree_in, fact_decided}
+use Rattle.grammar_laws.proofs.Facts.{class, after, class_zero, class_after, class_count, slot_same, Fact, TreeOf, PrefixOf, Base, Next, In, tree_in, fact_decided}
 use Rattle.grammar_laws.proofs.ItemSets.{AreEdgesDecided, held_decided}
 
 -- ---- words
-
-get_left : (xs ys : List ℕ) (k s : ℕ) → slice_get xs k ≡ Some s → slice_get (xs ++ ys) k ≡ Some s
-get_left [] ys k s e = absurd (cc)
-get_left (x ∷ xs) ys zero s e = e
-get_left (x ∷ xs) ys (suc k) s e = get_left xs ys k s e
-
-get_right : (xs ys : List ℕ) (k s : ℕ) → slice_get ys k ≡ Some s → slice_get (xs ++ ys) (length xs + k) ≡ Some s
-get_right [] ys k s e = let z : 0 + k ≡ k = omega arith in subst (λ j. slice_get ys j ≡ Some s) (sym z) e
-get_right (x ∷ xs) ys k s e =
-    let z : length (x ∷ xs) + k ≡ suc (length xs + k) = omega arith in
-    subst (λ j. slice_get (x ∷ (xs ++ ys)) j ≡ Some s) (sym z) (get_right xs ys k s e)
 
 none_some : (s : ℕ) → Path (Option ℕ) None (Some s) → ⊥
 none_some s e = absurd (cc)
@@ -38,8 +27,8 @@ module _ (g : Grammar) where
   abbrev HasWord : Slot → List ℕ → Type 0
   HasWord s ws = (tree : Tree) × Derives g (Line ws) s 0 (length ws) tree
 
-  abbrev HasFront : WrittenRule → ℕ → List ℕ → Type 0
-  HasFront rule n ws = (cs : Children) × DerivesFront g (Line ws) rule 0 (length ws) cs × (child_count cs ≡ n)
+  abbrev HasPrefix : WrittenRule → ℕ → List ℕ → Type 0
+  HasPrefix rule n ws = (cs : Children) × DerivesPrefix g (Line ws) rule 0 (length ws) cs × (child_count cs ≡ n)
 
   no_word : (s : Slot) (q : ℕ) → IsNullable g s → HasWord s []
   no_word s q h = (Nulled s.symbol 0, record { symbol_is = refl; from_is = refl; to_is = refl; nullable = h })
@@ -48,12 +37,12 @@ module _ (g : Grammar) where
   one_word s h = (Leaf s.symbol 0 1, record { symbol_is = refl; from_is = refl; to_is = refl; terminal = h; held = (refl, refl) })
 
   -- one child more
-  longer : (rule : WrittenRule) (n : ℕ) (ws vs : List ℕ) → HasFront rule n ws → HasWord (child_slot rule n) vs → HasFront rule (suc n) (ws ++ vs)
+  longer : (rule : WrittenRule) (n : ℕ) (ws vs : List ℕ) → HasPrefix rule n ws → HasWord (child_slot rule n) vs → HasPrefix rule (suc n) (ws ++ vs)
   longer rule n ws vs (cs, f, e) (tree, d) =
       let ends : length ws + length vs ≡ length (ws ++ vs) = sym (length-append ws vs) in
       let starts : length ws + 0 ≡ length ws = omega arith in
-      let front =
-      front_moved g (Line ws) (Line (ws ++ vs)) (λ k. k) (length ws) (line_forward ws) (λ a b lt le. lt) (λ s a b h le. (get_left ws vs a s h.0, h.1)) cs rule 0 (length ws) (omega arith) f in
+      let prefix =
+      prefix_moved g (Line ws) (Line (ws ++ vs)) (λ k. k) (length ws) (line_forward ws) (λ a b lt le. lt) (λ s a b h le. (get_left ws vs a s h.0, h.1)) cs rule 0 (length ws) (omega arith) f in
       let last =
       tree_moved g (Line vs) (Line (ws ++ vs)) (λ k. length ws + k) (length vs) (line_forward vs) (λ a b lt le. omega (arith, lt)) (λ s a b h le. (get_right ws vs a s h.0, (let z = h.1 in omega (arith, z)))) tree (child_slot rule n) 0 (length vs) (omega arith) d in
       let placed =
@@ -61,14 +50,14 @@ module _ (g : Grammar) where
       (subst (λ a. Derives g (Line (ws ++ vs)) (child_slot rule n) a (length ws + length vs) (moved_tree (λ k. length ws + k) tree)) starts last) in
       let count : child_count (moved_all (λ k. k) cs) ≡ n = count-moved (λ k. k) cs ∙ e in (
         Child (moved_all (λ k. k) cs) (moved_tree (λ k. length ws + k) tree),
-        (length ws, front, subst (λ m. Derives g (Line (ws ++ vs)) (child_slot rule m) (length ws) (length (ws ++ vs)) (moved_tree (λ k. length ws + k) tree)) (sym count) placed),
+        (length ws, prefix, subst (λ m. Derives g (Line (ws ++ vs)) (child_slot rule m) (length ws) (length (ws ++ vs)) (moved_tree (λ k. length ws + k) tree)) (sym count) placed),
         ap suc count,
       )
 
-  no_front : (rule : WrittenRule) → HasFront rule 0 []
-  no_front rule = (NoChild, refl, refl)
+  no_prefix : (rule : WrittenRule) → HasPrefix rule 0 []
+  no_prefix rule = (NoChild, refl, refl)
 
-  node_word : (i n : ℕ) (s : Slot) (ws : List ℕ) → i < length g.rules → Fits (rule_at g i) s → IsChildCount (rule_at g i) n → 0 < length ws → HasFront (rule_at g i) n ws → HasWord s ws
+  node_word : (i n : ℕ) (s : Slot) (ws : List ℕ) → i < length g.rules → Fits (rule_at g i) s → IsChildCount (rule_at g i) n → 0 < length ws → HasPrefix (rule_at g i) n ws → HasWord s ws
   node_word i n s ws lt fits count some (cs, d, e) = (
     Node i cs 0 (length ws),
     record {
@@ -78,7 +67,7 @@ module _ (g : Grammar) where
       in_range = lt;
       fits = fits;
       complete = subst (IsChildCount (rule_at g i)) (sym e) count;
-      front = d;
+      prefix = d;
     },
   )
 
@@ -92,23 +81,23 @@ module _ (g : Grammar) where
 
   -- the first parts of a rule, which are nullable where they have no word
   abbrev HasParts : WrittenRule → ℕ → Type 0
-  HasParts rule n = (ws : List ℕ) × HasFront rule n ws × (length ws ≡ 0 → (j : ℕ) → j < n → IsNullable g (child_slot rule j))
+  HasParts rule n = (ws : List ℕ) × HasPrefix rule n ws × (length ws ≡ 0 → (j : ℕ) → j < n → IsNullable g (child_slot rule j))
 
   nil_of : (ws : List ℕ) → length ws ≡ 0 → ws ≡ []
   nil_of [] e = refl
   nil_of (x ∷ ws) e = absurd (omega (arith, e))
 
   parts_word : (rule : WrittenRule) (n : ℕ) → ((j : ℕ) → j < n → (ws : List ℕ) × HasWord (child_slot rule j) ws) → HasParts rule n
-  parts_word rule zero h = ([], no_front rule, λ e j lt. absurd (omega (arith, lt)))
+  parts_word rule zero h = ([], no_prefix rule, λ e j lt. absurd (omega (arith, lt)))
   parts_word rule (suc n) h = go (parts_word rule n (λ j lt. h j (omega (arith, lt)))) (h n (omega arith))
     where
       or_last : (j n : ℕ) → j < suc n → (j < n) ⊎ (n ≡ j)
       or_last j n lt = grind arith
 
       go : HasParts rule n → (ws : List ℕ) × HasWord (child_slot rule n) ws → HasParts rule (suc n)
-      go (ws, front, null) (vs, word) = (
+      go (ws, prefix, null) (vs, word) = (
         ws ++ vs,
-        longer rule n ws vs front word,
+        longer rule n ws vs prefix word,
         λ e j lt. let long = length-append ws vs in elim (or_last j n lt) [
           | inl less ↦ null (omega (arith, e, long)) j less
           | inr same ↦ subst (λ m. IsNullable g (child_slot rule m)) same (empty_null (child_slot rule n) (subst (HasWord (child_slot rule n)) (nil_of vs (omega (arith, e, long))) word))
@@ -130,17 +119,17 @@ module _ (g : Grammar) where
     rule_word i s (Plain r) e lt fits each = go (parts_word (Plain r) (length r.rhs) each)
       where
         go : HasParts (Plain r) (length r.rhs) → (ws : List ℕ) × HasWord s ws
-        go (ws, front, null) = elim (some_or (length ws)) [
+        go (ws, prefix, null) = elim (some_or (length ws)) [
           | inl none ↦ ([], no_word s 0 (nullable_by g i s lt fits (subst (EachChildSlot (IsNullable g)) (sym e) (null none))))
-          | inr some ↦ (ws, node_word i (length r.rhs) s ws lt fits (subst (λ rule. IsChildCount rule (length r.rhs)) (sym e) refl) some (subst (λ rule. HasFront rule (length r.rhs) ws) (sym e) front))
+          | inr some ↦ (ws, node_word i (length r.rhs) s ws lt fits (subst (λ rule. IsChildCount rule (length r.rhs)) (sym e) refl) some (subst (λ rule. HasPrefix rule (length r.rhs) ws) (sym e) prefix))
         ]
     rule_word i s (Sequence r) e lt fits (ws, word) =
         let item : slot_of r.item ≡ child_slot (Sequence r) 0 = ap slot_of (sym (item_first r.item r.separator)) in
         let first = subst (λ t. HasWord t ws) item word in
-        let front = longer (Sequence r) 0 [] ws (no_front (Sequence r)) first in
+        let prefix = longer (Sequence r) 0 [] ws (no_prefix (Sequence r)) first in
         elim (some_or (length ws)) [
           | inl none ↦ absurd (span i lt (r, e, (0, omega arith, empty_null (child_slot (Sequence r) 0) (subst (HasWord (child_slot (Sequence r) 0)) (nil_of ws none) first))))
-          | inr some ↦ (ws, node_word i 1 s ws lt fits (subst (λ rule. IsChildCount rule 1) (sym e) (one_child r)) some (subst (λ rule. HasFront rule 1 ws) (sym e) front))
+          | inr some ↦ (ws, node_word i 1 s ws lt fits (subst (λ rule. IsChildCount rule 1) (sym e) (one_child r)) some (subst (λ rule. HasPrefix rule 1 ws) (sym e) prefix))
         ]
 
     needed_words : (k : ℕ) (rule : WrittenRule) → ((t : Slot) → IsProductiveIn k g t → (ws : List ℕ) × HasWord t ws) → EachNeeded (IsProductiveIn k g) rule → EachNeeded (λ t. (ws : List ℕ) × HasWord t ws) rule
@@ -169,7 +158,7 @@ module _ (g : Grammar) (E : Edges) (forward : GoForward E) (t p : ℕ) where
 
   abbrev Made : Fact → Type 0
   Made (TreeOf s a b) = (ws : List ℕ) × Spells Open a b ws × HasWord g s ws
-  Made (FrontOf i c a b) = (ws : List ℕ) × Spells Open a b ws × ((n : ℕ) × HasFront g (rule_at g i) n ws × (class (rule_at g i) n ≡ c))
+  Made (PrefixOf i c a b) = (ws : List ℕ) × Spells Open a b ws × ((n : ℕ) × HasPrefix g (rule_at g i) n ws × (class (rule_at g i) n ≡ c))
 
   stays : (ws : List ℕ) → Spells Open (suc p) (suc p) ws
   stays [] = refl
@@ -187,19 +176,19 @@ module _ (g : Grammar) (E : Edges) (forward : GoForward E) (t p : ℕ) where
     base_made : (x : Fact) → Base g Before Free x → Made x
     base_made (TreeOf s a b) (inl (terminal, h)) = (s.symbol ∷ [], (b, inl h, refl), one_word g s terminal)
     base_made (TreeOf s a b) (inr (e, free)) = let (ws, path, word) = free_word a s free in (ws, subst (λ q. Spells Open a q ws) e path, word)
-    base_made (FrontOf i c a b) (z, e) = ([], e, (0, no_front g (rule_at g i), class_zero (rule_at g i) ∙ sym z))
+    base_made (PrefixOf i c a b) (z, e) = ([], e, (0, no_prefix g (rule_at g i), class_zero (rule_at g i) ∙ sym z))
 
     next_made : (R : Fact → Type 0) → ((x : Fact) → R x → Made x) → (x : Fact) → Next g Before Free R x → Made x
     next_made R f (TreeOf s a b) (lt, (i, il, (fits, (c, cl, (count, h))))) =
-        let (ws, path, (n, front, e)) = f (FrontOf i c a b) h in
-        (ws, path, node_word g i n s ws il fits (class_count (rule_at g i) n (subst (IsChildCount (rule_at g i)) (sym e) count)) (some_word a b ws path lt) front)
-    next_made R f (FrontOf i c a b) (d, dl, ((e, le), (r, rl, (h, k)))) =
-        let (ws, path, (n, front, m)) = f (FrontOf i d a r) h in
+        let (ws, path, (n, prefix, e)) = f (PrefixOf i c a b) h in
+        (ws, path, node_word g i n s ws il fits (class_count (rule_at g i) n (subst (IsChildCount (rule_at g i)) (sym e) count)) (some_word a b ws path lt) prefix)
+    next_made R f (PrefixOf i c a b) (d, dl, ((e, le), (r, rl, (h, k)))) =
+        let (ws, path, (n, prefix, m)) = f (PrefixOf i d a r) h in
         let (vs, more, word) = f (TreeOf (child_slot (rule_at g i) d) r b) k in
         let same : child_slot (rule_at g i) d ≡ child_slot (rule_at g i) n = ap (child_slot (rule_at g i)) (sym m) ∙ slot_same (rule_at g i) n in (
           ws ++ vs,
           spells-append Open a r b ws vs path more,
-          (suc n, longer g (rule_at g i) n ws vs front (subst (λ s. HasWord g s vs) same word), class_after (rule_at g i) n ∙ (ap (after (rule_at g i)) m ∙ e)),
+          (suc n, longer g (rule_at g i) n ws vs prefix (subst (λ s. HasWord g s vs) same word), class_after (rule_at g i) n ∙ (ap (after (rule_at g i)) m ∙ e)),
         )
 
     made : (k : ℕ) (x : Fact) → In g Before Free k x → Made x

@@ -5,7 +5,7 @@ use Rattle.grammar_model.specs.declared.Edge.{Edge}
 use Rattle.grammar_model.specs.Grammar.{slot_of, lhs_of, rule_at, IsTerminal, child_slot}
 use Rattle.grammar_model.specs.Analysis.{IsAccessible, IsProductive, LeadsTo}
 use Rattle.grammar_model.specs.Cycles.{IsCycle}
-use Rattle.grammar_model.specs.Checked.{IsChecked, Refusal, Refuses}
+use Rattle.grammar_model.specs.Checked.{Refusal, Refuses}
 use Rattle.grammar_model.specs.Derives.{Held}
 use Rattle.recognizer_model.specs.Flat.{FlatGrammar}
 use Rattle.recognizer_model.specs.FlatForm.{IsRuleOf, named}
@@ -13,8 +13,7 @@ use Rattle.recognizer_model.specs.Counts.{IsCountOf}
 use Rattle.flat_model.specs.Flattened.{IsFlattened, HasTooMany}
 use Rattle.flat_model.specs.Flatten.{flat_of}
 use Rattle.flat_model.specs.Lists.{lists, flat_lists}
-use Rattle.flat_rules.proofs.ListsChecked.{lists_have_flat_grammar}
-use Rattle.grammar_check.proofs.Uniqueness.{not_refused}
+use Rattle.flat_rules.proofs.ListsChecked.{lists_have_flat_grammar, checked}
 use Rattle.grammar_laws.specs.Laws.{GoForward, Told}
 use Rattle.grammar_laws.specs.Applied.{sums, loops, is_at, tokens, LawsApply}
 use Rattle.grammar_laws.proofs.Checks.{checks_decide}
@@ -48,14 +47,11 @@ refused = elim (checks_decide loops) [ inl checked ↦ absurd (checked.acyclic (
 
 -- ---- lists
 
-passed : IsChecked lists
-passed = elim (checks_decide lists) [ inl checked ↦ checked | inr (r, is) ↦ absurd (not_refused lists r lists_have_flat_grammar.checked is) ]
-
 counted : IsCountOf (IsRuleOf lists) 14
 counted = (map (named flat_lists) flat_lists.rules, lists_have_flat_grammar.made.rules, refl)
 
 flattened : (f : FlatGrammar) × IsFlattened lists f
-flattened = elim (flattening_decides lists passed) [ inl f ↦ f | inr many ↦ absurd (too_many many) ]
+flattened = elim (flattening_decides lists checked) [ inl f ↦ f | inr many ↦ absurd (too_many many) ]
   where
     too_many : HasTooMany lists → ⊥
     too_many m =
@@ -63,7 +59,7 @@ flattened = elim (flattening_decides lists passed) [ inl f ↦ f | inr many ↦ 
         let few : length (flat_of lists lists_have_flat_grammar.decided).rules ≡ 14 = ap (λ (f : FlatGrammar). length f.rules) lists_have_flat_grammar.listed in
         omega (arith, lt, few)
 
-forward : GoForward (Held tokens)
+pub forward : GoForward (Held tokens)
 forward s p q (zero, lt, e) = subst (λ (t : Edge). t.from < t.to) e (lit< tt)
 forward s p q (suc zero, lt, e) = subst (λ (t : Edge). t.from < t.to) e (lit< tt)
 forward s p q (suc (suc zero), lt, e) = subst (λ (t : Edge). t.from < t.to) e (lit< tt)
@@ -77,11 +73,11 @@ told_forward input s p q t = let next = eqb-true q (suc p) (and_parts (q == suc 
 pub laws_apply : LawsApply
 laws_apply = record {
   loops_refused = refused;
-  lists_pass = passed;
+  lists_pass = checked;
   lists_counted = counted;
   lists_flattened = flattened;
   lists_placed = item_sets_exist flat_lists tokens 13 3 forward;
-  lists_acceptable = acceptable_are_decided lists tokens 0 4 3 passed forward;
+  lists_acceptable = acceptable_are_decided lists tokens 0 4 3 checked forward;
   lists_spanned = trees_are_decided lists tokens (slot_of 0) 0 3 forward;
   sums_spanned = told_trees_are_decided sums (is_at (2 ∷ 1 ∷ 2 ∷ 1 ∷ 2 ∷ [])) (slot_of 0) 0 5 (told_forward (2 ∷ 1 ∷ 2 ∷ 1 ∷ 2 ∷ []));
 }

@@ -6,7 +6,7 @@ use Rattle.grammar_model.specs.Grammar.{WrittenRule, SequenceRule, Plain, Sequen
 use Rattle.grammar_model.specs.Trees.{Tree, Children, Leaf, Nulled, Node, NoChild, Child, child_count}
 use Rattle.grammar_model.specs.Analysis.{IsNullable, IsProductive}
 use Rattle.grammar_model.proofs.Productive.{productive}
-use Rattle.grammar_model.specs.Derives.{Edges, Derives, DerivesFront}
+use Rattle.grammar_model.specs.Derives.{Edges, Derives, DerivesPrefix}
 use Rattle.finite_sets.specs.Decided.{IsDecided}
 use Rattle.finite_sets.proofs.Deciding.{both, both_then, one_of, equal, less, at_most, implied, some_below, is_true}
 use Rattle.finite_sets.proofs.Members.{Among, among_left, among_right, among_either, among_flat_map, among_flat_map_from, values, among_values, among_values_from}
@@ -127,27 +127,27 @@ class_less (Sequence r) n le = squash_most n
 
 pub data Fact : Type 0 where
   TreeOf : (slot : Slot) (p q : ℕ) → Fact
-  FrontOf : (i c p q : ℕ) → Fact
+  PrefixOf : (i c p q : ℕ) → Fact
 
 -- over edges, and where what slots may span nothing
 module _ (g : Grammar) (E : Edges) (Free : ℕ → Slot → Type 0) where
   abbrev pub Base : Fact → Type 0
   Base (TreeOf s p q) = (IsTerminal g s.symbol × E s.symbol p q) ⊎ ((p ≡ q) × Free p s)
-  Base (FrontOf i c p q) = (c ≡ 0) × (p ≡ q)
+  Base (PrefixOf i c p q) = (c ≡ 0) × (p ≡ q)
 
   -- a node over all children of a rule, and one child more
   abbrev pub Next : (Fact → Type 0) → Fact → Type 0
-  Next R (TreeOf s p q) = (p < q) × ((i : ℕ) × (i < length g.rules) × (Fits (rule_at g i) s × ((c : ℕ) × (c < suc (most (rule_at g i))) × (IsChildCount (rule_at g i) c × R (FrontOf i c p q)))))
-  Next R (FrontOf i c p q) =
-      (b : ℕ) × (b < suc (most (rule_at g i))) × (((after (rule_at g i) b ≡ c) × (c ≤ most (rule_at g i))) × ((r : ℕ) × (r < suc q) × (R (FrontOf i b p r) × R (TreeOf (child_slot (rule_at g i) b) r q))))
+  Next R (TreeOf s p q) = (p < q) × ((i : ℕ) × (i < length g.rules) × (Fits (rule_at g i) s × ((c : ℕ) × (c < suc (most (rule_at g i))) × (IsChildCount (rule_at g i) c × R (PrefixOf i c p q)))))
+  Next R (PrefixOf i c p q) =
+      (b : ℕ) × (b < suc (most (rule_at g i))) × (((after (rule_at g i) b ≡ c) × (c ≤ most (rule_at g i))) × ((r : ℕ) × (r < suc q) × (R (PrefixOf i b p r) × R (TreeOf (child_slot (rule_at g i) b) r q))))
 
   abbrev pub In : ℕ → Fact → Type 0
   In zero x = Base x
   In (suc k) x = Base x ⊎ Next (In k) x
 
   next_on : (R S : Fact → Type 0) → ((x : Fact) → R x → S x) → (x : Fact) → Next R x → Next S x
-  next_on R S f (TreeOf s p q) (lt, (i, il, (fits, (c, cl, (count, h))))) = (lt, (i, il, (fits, (c, cl, (count, f (FrontOf i c p q) h)))))
-  next_on R S f (FrontOf i c p q) (b, bl, (e, (r, rl, (h, t)))) = (b, bl, (e, (r, rl, (f (FrontOf i b p r) h, f (TreeOf (child_slot (rule_at g i) b) r q) t))))
+  next_on R S f (TreeOf s p q) (lt, (i, il, (fits, (c, cl, (count, h))))) = (lt, (i, il, (fits, (c, cl, (count, f (PrefixOf i c p q) h)))))
+  next_on R S f (PrefixOf i c p q) (b, bl, (e, (r, rl, (h, t)))) = (b, bl, (e, (r, rl, (f (PrefixOf i b p r) h, f (TreeOf (child_slot (rule_at g i) b) r q) t))))
 
   grows : (k : ℕ) (x : Fact) → In k x → In (suc k) x
   grows zero x b = inl b
@@ -179,9 +179,9 @@ module _ (g : Grammar) (E : Edges) (Free : ℕ → Slot → Type 0) where
       pub tree_in : (t : Tree) (s : Slot) (p q : ℕ) → Derives g D s p q t → (k : ℕ) × In k (TreeOf s (move p) (move q))
       tree_in (Leaf x a b) s p q d = (0, leaf_in x p q s d.symbol_is d.terminal (subst (λ n. D x n q) d.from_is (subst (λ n. D x a n) d.to_is d.held)))
       tree_in (Nulled x a) s p q d = (0, inr (ap move (sym d.from_is ∙ d.to_is), none (move p) s d.nullable))
-      tree_in (Node i cs a b) s p q d = over (front_in cs i p q (count_most (rule_at g i) (child_count cs) d.complete) d.front)
+      tree_in (Node i cs a b) s p q d = over (prefix_in cs i p q (count_most (rule_at g i) (child_count cs) d.complete) d.prefix)
         where
-          over : (k : ℕ) × In k (FrontOf i (class (rule_at g i) (child_count cs)) (move p) (move q)) → (k : ℕ) × In k (TreeOf s (move p) (move q))
+          over : (k : ℕ) × In k (PrefixOf i (class (rule_at g i) (child_count cs)) (move p) (move q)) → (k : ℕ) × In k (TreeOf s (move p) (move q))
           over (k, h) =
               let le = count_most (rule_at g i) (child_count cs) d.complete in
               elim (node p q d.spans) [
@@ -189,27 +189,27 @@ module _ (g : Grammar) (E : Edges) (Free : ℕ → Slot → Type 0) where
                 | inr (same, free) ↦ (0, inr (same, free s (productive g D (Node i cs a b) s p q d)))
               ]
 
-      front_in : (cs : Children) (i p q : ℕ) → class (rule_at g i) (child_count cs) ≤ most (rule_at g i) → DerivesFront g D (rule_at g i) p q cs → (k : ℕ) × In k (FrontOf i (class (rule_at g i) (child_count cs)) (move p) (move q))
-      front_in NoChild i p q le e = (0, (class_zero (rule_at g i), ap move e))
-      front_in (Child front last) i p q le (r, f, d) =
-          let low = class_less (rule_at g i) (child_count front) le in
-          let (j, a) = front_in front i p r low f in
-          let (k, b) = tree_in last (child_slot (rule_at g i) (child_count front)) r q d in
-          let order = rise r q (tree_order last (child_slot (rule_at g i) (child_count front)) r q d) in
-          let b' = subst (λ s. In k (TreeOf s (move r) (move q))) (sym (slot_same (rule_at g i) (child_count front))) b in (
+      prefix_in : (cs : Children) (i p q : ℕ) → class (rule_at g i) (child_count cs) ≤ most (rule_at g i) → DerivesPrefix g D (rule_at g i) p q cs → (k : ℕ) × In k (PrefixOf i (class (rule_at g i) (child_count cs)) (move p) (move q))
+      prefix_in NoChild i p q le e = (0, (class_zero (rule_at g i), ap move e))
+      prefix_in (Child prefix last) i p q le (r, f, d) =
+          let low = class_less (rule_at g i) (child_count prefix) le in
+          let (j, a) = prefix_in prefix i p r low f in
+          let (k, b) = tree_in last (child_slot (rule_at g i) (child_count prefix)) r q d in
+          let order = rise r q (tree_order last (child_slot (rule_at g i) (child_count prefix)) r q d) in
+          let b' = subst (λ s. In k (TreeOf s (move r) (move q))) (sym (slot_same (rule_at g i) (child_count prefix))) b in (
             suc (j + k),
             inr (
-              class (rule_at g i) (child_count front),
+              class (rule_at g i) (child_count prefix),
               omega (arith, low),
               (
-                (sym (class_after (rule_at g i) (child_count front)), le),
+                (sym (class_after (rule_at g i) (child_count prefix)), le),
                 (
                   move r,
                   omega (arith, order),
                   (
-                    grown j k (FrontOf i (class (rule_at g i) (child_count front)) (move p) (move r)) a,
-                    subst (λ n. In n (TreeOf (child_slot (rule_at g i) (class (rule_at g i) (child_count front))) (move r) (move q))) (let e : k + j ≡ j + k = omega arith in e)
-                        (grown k j (TreeOf (child_slot (rule_at g i) (class (rule_at g i) (child_count front))) (move r) (move q)) b'),
+                    grown j k (PrefixOf i (class (rule_at g i) (child_count prefix)) (move p) (move r)) a,
+                    subst (λ n. In n (TreeOf (child_slot (rule_at g i) (class (rule_at g i) (child_count prefix))) (move r) (move q))) (let e : k + j ≡ j + k = omega arith in e)
+                        (grown k j (TreeOf (child_slot (rule_at g i) (class (rule_at g i) (child_count prefix))) (move r) (move q)) b'),
                   ),
                 ),
               ),
@@ -227,21 +227,21 @@ module _ (g : Grammar) (E : Edges) (Free : ℕ → Slot → Type 0) where
   trees_of : (end : ℕ) (s : Slot) → List Fact
   trees_of end s = flat_map (trees_at end s) (numbers end)
 
-  fronts_at : (end i c p : ℕ) → List Fact
-  fronts_at end i c p = values (λ q. FrontOf i c p q) (suc end)
+  prefixes_at : (end i c p : ℕ) → List Fact
+  prefixes_at end i c p = values (λ q. PrefixOf i c p q) (suc end)
 
-  fronts_by : (end i c : ℕ) → List Fact
-  fronts_by end i c = flat_map (fronts_at end i c) (numbers end)
+  prefixes_by : (end i c : ℕ) → List Fact
+  prefixes_by end i c = flat_map (prefixes_at end i c) (numbers end)
 
-  fronts_of : (end i : ℕ) → List Fact
-  fronts_of end i = flat_map (fronts_by end i) (numbers (most (rule_at g i)))
+  prefixes_of : (end i : ℕ) → List Fact
+  prefixes_of end i = flat_map (prefixes_by end i) (numbers (most (rule_at g i)))
 
   facts : ℕ → List Fact
-  facts end = flat_map (trees_of end) (slots g) ++ flat_map (fronts_of end) (values (λ i. i) (length g.rules))
+  facts end = flat_map (trees_of end) (slots g) ++ flat_map (prefixes_of end) (values (λ i. i) (length g.rules))
 
   abbrev pub Known : ℕ → Fact → Type 0
   Known end (TreeOf s p q) = (p ≤ end) × (q ≤ end)
-  Known end (FrontOf i c p q) = (i < length g.rules) × (c ≤ most (rule_at g i)) × (p ≤ end) × (q ≤ end)
+  Known end (PrefixOf i c p q) = (i < length g.rules) × (c ≤ most (rule_at g i)) × (p ≤ end) × (q ≤ end)
 
   number_among : (n k : ℕ) → k ≤ n → Among k (numbers n)
   unfolding numbers
@@ -254,19 +254,19 @@ module _ (g : Grammar) (E : Edges) (Free : ℕ → Slot → Type 0) where
   tree_among : (end : ℕ) (s : Slot) (p q : ℕ) → Among s (slots g) → p ≤ end → q ≤ end → Among (TreeOf s p q) (facts end)
   unfolding facts trees_of trees_at
   tree_among end s p q m pl ql =
-      among_left (TreeOf s p q) (flat_map (trees_of end) (slots g)) (flat_map (fronts_of end) (values (λ i. i) (length g.rules)))
+      among_left (TreeOf s p q) (flat_map (trees_of end) (slots g)) (flat_map (prefixes_of end) (values (λ i. i) (length g.rules)))
       (among_flat_map (trees_of end) s (TreeOf s p q) (slots g) m
       (among_flat_map (trees_at end s) p (TreeOf s p q) (numbers end) (number_among end p pl)
       (among_values (λ q. TreeOf s p q) (suc end) q (omega (arith, ql)))))
 
-  front_among : (end i c p q : ℕ) → i < length g.rules → c ≤ most (rule_at g i) → p ≤ end → q ≤ end → Among (FrontOf i c p q) (facts end)
-  unfolding facts fronts_of fronts_by fronts_at
-  front_among end i c p q il cl pl ql =
-      among_right (FrontOf i c p q) (flat_map (trees_of end) (slots g)) (flat_map (fronts_of end) (values (λ i. i) (length g.rules)))
-      (among_flat_map (fronts_of end) i (FrontOf i c p q) (values (λ i. i) (length g.rules)) (among_values (λ i. i) (length g.rules) i il)
-      (among_flat_map (fronts_by end i) c (FrontOf i c p q) (numbers (most (rule_at g i))) (number_among (most (rule_at g i)) c cl)
-      (among_flat_map (fronts_at end i c) p (FrontOf i c p q) (numbers end) (number_among end p pl)
-      (among_values (λ q. FrontOf i c p q) (suc end) q (omega (arith, ql))))))
+  prefix_among : (end i c p q : ℕ) → i < length g.rules → c ≤ most (rule_at g i) → p ≤ end → q ≤ end → Among (PrefixOf i c p q) (facts end)
+  unfolding facts prefixes_of prefixes_by prefixes_at
+  prefix_among end i c p q il cl pl ql =
+      among_right (PrefixOf i c p q) (flat_map (trees_of end) (slots g)) (flat_map (prefixes_of end) (values (λ i. i) (length g.rules)))
+      (among_flat_map (prefixes_of end) i (PrefixOf i c p q) (values (λ i. i) (length g.rules)) (among_values (λ i. i) (length g.rules) i il)
+      (among_flat_map (prefixes_by end i) c (PrefixOf i c p q) (numbers (most (rule_at g i))) (number_among (most (rule_at g i)) c cl)
+      (among_flat_map (prefixes_at end i c) p (PrefixOf i c p q) (numbers end) (number_among end p pl)
+      (among_values (λ q. PrefixOf i c p q) (suc end) q (omega (arith, ql))))))
 
   known_tree : (end : ℕ) (x : Fact) → Among x (flat_map (trees_of end) (slots g)) → Known end x
   unfolding trees_of trees_at
@@ -276,24 +276,24 @@ module _ (g : Grammar) (E : Edges) (Free : ℕ → Slot → Type 0) where
       let (q, ql, e) = among_values_from (λ q. TreeOf s p q) (suc end) x m in
       subst (Known end) e (among_number end p pm, omega (arith, ql))
 
-  front_known : (end i c p q : ℕ) (x : Fact) → FrontOf i c p q ≡ x → i < length g.rules → c ≤ most (rule_at g i) → p ≤ end → q ≤ end → Known end x
-  front_known end i c p q x e il cl pl ql = subst (Known end) e (il, cl, pl, ql)
+  prefix_known : (end i c p q : ℕ) (x : Fact) → PrefixOf i c p q ≡ x → i < length g.rules → c ≤ most (rule_at g i) → p ≤ end → q ≤ end → Known end x
+  prefix_known end i c p q x e il cl pl ql = subst (Known end) e (il, cl, pl, ql)
 
-  known_front : (end : ℕ) (x : Fact) → Among x (flat_map (fronts_of end) (values (λ i. i) (length g.rules))) → Known end x
-  unfolding fronts_of fronts_by fronts_at
-  known_front end x m =
-      let (i, im, mi) = among_flat_map_from (fronts_of end) x (values (λ i. i) (length g.rules)) m in
+  known_prefix : (end : ℕ) (x : Fact) → Among x (flat_map (prefixes_of end) (values (λ i. i) (length g.rules))) → Known end x
+  unfolding prefixes_of prefixes_by prefixes_at
+  known_prefix end x m =
+      let (i, im, mi) = among_flat_map_from (prefixes_of end) x (values (λ i. i) (length g.rules)) m in
       let (j, jl, same) = among_values_from (λ i. i) (length g.rules) i im in
-      let (c, cm, mc) = among_flat_map_from (fronts_by end i) x (numbers (most (rule_at g i))) mi in
-      let (p, pm, mp) = among_flat_map_from (fronts_at end i c) x (numbers end) mc in
-      let (q, ql, e) = among_values_from (λ q. FrontOf i c p q) (suc end) x mp in
-      front_known end i c p q x e (omega (arith, jl, same)) (among_number (most (rule_at g i)) c cm) (among_number end p pm) (omega (arith, ql))
+      let (c, cm, mc) = among_flat_map_from (prefixes_by end i) x (numbers (most (rule_at g i))) mi in
+      let (p, pm, mp) = among_flat_map_from (prefixes_at end i c) x (numbers end) mc in
+      let (q, ql, e) = among_values_from (λ q. PrefixOf i c p q) (suc end) x mp in
+      prefix_known end i c p q x e (omega (arith, jl, same)) (among_number (most (rule_at g i)) c cm) (among_number end p pm) (omega (arith, ql))
 
   known_among : (end : ℕ) (x : Fact) → Among x (facts end) → Known end x
   unfolding facts
-  known_among end x m = elim (among_either x (flat_map (trees_of end) (slots g)) (flat_map (fronts_of end) (values (λ i. i) (length g.rules))) m) [
+  known_among end x m = elim (among_either x (flat_map (trees_of end) (slots g)) (flat_map (prefixes_of end) (values (λ i. i) (length g.rules))) m) [
     | inl t ↦ known_tree end x t
-    | inr f ↦ known_front end x f
+    | inr f ↦ known_prefix end x f
   ]
 
   -- the child slot of a class is a member
@@ -302,8 +302,8 @@ module _ (g : Grammar) (E : Edges) (Free : ℕ → Slot → Type 0) where
 
   next_in : (end : ℕ) (R S : Fact → Type 0) → ((x : Fact) → Among x (facts end) → R x → S x) → (x : Fact) → Known end x → Next R x → Next S x
   next_in end R S f (TreeOf s p q) (pl, ql) (lt, (i, il, (fits, (c, cl, (count, h))))) =
-      (lt, (i, il, (fits, (c, cl, (count, f (FrontOf i c p q) (front_among end i c p q il (omega (arith, cl)) pl ql) h)))))
-  next_in end R S f (FrontOf i c p q) (il, cl, pl, ql) (b, bl, ((e, le), (r, rl, (h, t)))) = (
+      (lt, (i, il, (fits, (c, cl, (count, f (PrefixOf i c p q) (prefix_among end i c p q il (omega (arith, cl)) pl ql) h)))))
+  next_in end R S f (PrefixOf i c p q) (il, cl, pl, ql) (b, bl, ((e, le), (r, rl, (h, t)))) = (
     b,
     bl,
     (
@@ -312,7 +312,7 @@ module _ (g : Grammar) (E : Edges) (Free : ℕ → Slot → Type 0) where
         r,
         rl,
         (
-          f (FrontOf i b p r) (front_among end i b p r il (omega (arith, bl)) pl (omega (arith, rl, ql))) h,
+          f (PrefixOf i b p r) (prefix_among end i b p r il (omega (arith, bl)) pl (omega (arith, rl, ql))) h,
           f (TreeOf (child_slot (rule_at g i) b) r q) (tree_among end (child_slot (rule_at g i) b) r q (child_member i b il (omega (arith, e, le))) (omega (arith, rl, ql)) ql) t,
         ),
       ),
@@ -322,20 +322,20 @@ module _ (g : Grammar) (E : Edges) (Free : ℕ → Slot → Type 0) where
   module _ (edge : (x p q : ℕ) → IsDecided (E x p q)) (free : (p : ℕ) (s : Slot) → IsDecided (Free p s)) where
     base_decided : (x : Fact) → IsDecided (Base x)
     base_decided (TreeOf s p q) = one_of (both (terminal_decided g s.symbol) (edge s.symbol p q)) (both (equal p q) (free p s))
-    base_decided (FrontOf i c p q) = both (equal c 0) (equal p q)
+    base_decided (PrefixOf i c p q) = both (equal c 0) (equal p q)
 
     next_decided : (end : ℕ) (R : Fact → Type 0) → ((x : Fact) → Among x (facts end) → IsDecided (R x)) → (x : Fact) → Known end x → IsDecided (Next R x)
     next_decided end R d (TreeOf s p q) (pl, ql) =
         both (less p q)
-        (some_below (λ i. Fits (rule_at g i) s × ((c : ℕ) × (c < suc (most (rule_at g i))) × (IsChildCount (rule_at g i) c × R (FrontOf i c p q)))) (length g.rules)
+        (some_below (λ i. Fits (rule_at g i) s × ((c : ℕ) × (c < suc (most (rule_at g i))) × (IsChildCount (rule_at g i) c × R (PrefixOf i c p q)))) (length g.rules)
         (λ i il. both (fits_decided (rule_at g i) s)
-        (some_below (λ c. IsChildCount (rule_at g i) c × R (FrontOf i c p q)) (suc (most (rule_at g i)))
-        (λ c cl. both (count_decided (rule_at g i) c) (d (FrontOf i c p q) (front_among end i c p q il (omega (arith, cl)) pl ql))))))
-    next_decided end R d (FrontOf i c p q) (il, cl, pl, ql) =
-        some_below (λ b. ((after (rule_at g i) b ≡ c) × (c ≤ most (rule_at g i))) × ((r : ℕ) × (r < suc q) × (R (FrontOf i b p r) × R (TreeOf (child_slot (rule_at g i) b) r q)))) (suc (most (rule_at g i)))
+        (some_below (λ c. IsChildCount (rule_at g i) c × R (PrefixOf i c p q)) (suc (most (rule_at g i)))
+        (λ c cl. both (count_decided (rule_at g i) c) (d (PrefixOf i c p q) (prefix_among end i c p q il (omega (arith, cl)) pl ql))))))
+    next_decided end R d (PrefixOf i c p q) (il, cl, pl, ql) =
+        some_below (λ b. ((after (rule_at g i) b ≡ c) × (c ≤ most (rule_at g i))) × ((r : ℕ) × (r < suc q) × (R (PrefixOf i b p r) × R (TreeOf (child_slot (rule_at g i) b) r q)))) (suc (most (rule_at g i)))
         (λ b bl. both_then (both (equal (after (rule_at g i) b) c) (at_most c (most (rule_at g i))))
-        (λ (e, le). some_below (λ r. R (FrontOf i b p r) × R (TreeOf (child_slot (rule_at g i) b) r q)) (suc q)
-        (λ r rl. both (d (FrontOf i b p r) (front_among end i b p r il (omega (arith, bl)) pl (omega (arith, rl, ql))))
+        (λ (e, le). some_below (λ r. R (PrefixOf i b p r) × R (TreeOf (child_slot (rule_at g i) b) r q)) (suc q)
+        (λ r rl. both (d (PrefixOf i b p r) (prefix_among end i b p r il (omega (arith, bl)) pl (omega (arith, rl, ql))))
         (d (TreeOf (child_slot (rule_at g i) b) r q) (tree_among end (child_slot (rule_at g i) b) r q (child_member i b il (omega (arith, e, le))) (omega (arith, rl, ql)) ql)))))
 
     rounds : (end : ℕ) → AreRounds (facts end) (Known end) In

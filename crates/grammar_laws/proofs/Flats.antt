@@ -1,17 +1,16 @@
 -- What flattening takes from a check exists, and its named rules are all flat rules.
-use Rattle.std.proofs.Common.{arith, ◌≡◌, inl, inr, ℕ, suc, ◌+◌, ◌<◌, ◌≤◌, List, [], ◌∷◌, length, refl, ap}
+use Rattle.std.proofs.Common.{arith, inl, inr, ℕ, suc, ◌+◌, ◌<◌, List, [], ◌∷◌, length, refl, ap}
 use Rattle.grammar_model.specs.Grammar.{Slot}
 use Rattle.recognizer_model.specs.FlatForm.{IsRuleOf}
-use Rattle.recognizer_model.specs.Counts.{IsListOf, IsCountOf}
 use Rattle.flat_model.specs.Flatten.{named_rules}
-use Rattle.flat_rules.proofs.Once.{listed}
 use Rattle.flat_rules.proofs.Rules.{named_in}
 use Rattle.flat_rules.proofs.Whole.{in_named, once_named}
 use Rattle.finite_sets.proofs.Deciding.{both, test_of, test_true, true_test}
-use Rattle.finite_sets.proofs.Members.{Among, among_from, contains_from, pairs_once, once_most}
+use Rattle.finite_sets.proofs.Members.{Among}
 use Rattle.grammar_laws.specs.Laws.{DecisionsExist, NamedRulesAreAll, RulesAreCounted, RuleCountIsOne}
 use Rattle.grammar_laws.proofs.Slots.{slots}
 use Rattle.grammar_laws.proofs.Tests.{nullable_decided, productive_decided, accessible_decided, accessible_member}
+use Rattle.recognizer_model.proofs.Counting.{list_is, one_count}
 
 -- past the numbers of all members
 abbrev past : (Slot → ℕ) → List Slot → ℕ
@@ -38,20 +37,10 @@ decisions_exist g = record {
 }
 
 pub named_rules_are_all : NamedRulesAreAll
-named_rules_are_all w d = listed (IsRuleOf w) (named_rules w d) (once_named w d) (λ n m. (named_in w d n m).0) (in_named w d)
+named_rules_are_all w d = list_is (IsRuleOf w) (named_rules w d) (once_named w d) (λ n m. (named_in w d n m).0) (in_named w d)
 
 pub rules_are_counted : RulesAreCounted
 rules_are_counted w = let d = decisions_exist w in (length (named_rules w d), (named_rules w d, named_rules_are_all w d, refl))
-
--- there is one number of values with a property
-pub one_count : {A : Type 0} (P : A → Type 0) (m n : ℕ) → IsCountOf P m → IsCountOf P n → m ≡ n
-one_count {A} P m n (xs, x, long) (ys, y, long') =
-    let a = most xs ys x y in
-    let b = most ys xs y x in
-    omega (arith, a, b, long, long')
-  where
-    most : (us vs : List A) → IsListOf P us → IsListOf P vs → length us ≤ length vs
-    most us vs u v = once_most us vs (pairs_once us u.once) (λ z m. among_from vs z ((v.exact z).1 ((u.exact z).0 (contains_from us z m))))
 
 pub rule_count_is_one : RuleCountIsOne
 rule_count_is_one w m n a b = one_count (IsRuleOf w) m n a b

@@ -19,7 +19,7 @@ use Rattle.flat_model.specs.Flattened.{IsFlattened, HasTooMany}
 use Rattle.flat_model.specs.Flattened.{most_rules}
 use Rattle.flat_rules.proofs.Listing.{same_test, filter_bound, filter_none, flat_bound}
 use Rattle.flat_rules.proofs.FlatOf.{is_flat_of}
-use Rattle.finite_sets.proofs.Deciding.{lt_or}
+use Rattle.std.proofs.lemmas.Bool.{cases_lt}
 use Rattle.grammar_laws.specs.Laws.{FlatteningDecides}
 use Rattle.grammar_laws.proofs.Flats.{decisions_exist}
 
@@ -149,7 +149,7 @@ module _ (w : Grammar) (d e : Decided w) where
   }
 
 pub flattening_decides : FlatteningDecides
-flattening_decides w c = go (lt_or most_rules (length (flat_of w d).rules))
+flattening_decides w c = go (cases_lt most_rules (length (flat_of w d).rules))
   where
     d : Decided w
     d = decisions_exist w

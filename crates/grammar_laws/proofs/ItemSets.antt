@@ -1,5 +1,6 @@
 -- Each place has a list of its items, over edges that are decided and go forward.
 use Rattle.std.proofs.Common.{arith, ◌≡◌, ◌⊎◌, inl, inr, ℕ, zero, suc, ◌<◌, ◌≤◌, List, ◌∷◌, length, flat_map, Option, Some, None, slice_get, refl, sym, ◌∙◌, ap, subst}
+use Rattle.std.proofs.lemmas.Option.{slice_get_within}
 use Rattle.grammar_model.specs.Derives.{Edges, Held}
 use Rattle.grammar_model.specs.declared.Edge.{Edge}
 use Rattle.recognizer_model.specs.declared.Item.{Item}
@@ -14,9 +15,9 @@ use Rattle.finite_sets.proofs.Deciding.{both, both_then, one_of, moved, equal, l
 use Rattle.finite_sets.proofs.Members.{Among, among_from, contains_from, among_flat_map, values, among_values, some_among, member, once_pairs, listed}
 use Rattle.finite_sets.proofs.Rounds.{AreRounds, decided}
 use Rattle.grammar_laws.specs.Laws.{GoForward, ItemSetsExist}
-use Rattle.grammar_laws.proofs.Options.{some_held, same_option, some_true, got_short}
+use Rattle.grammar_laws.proofs.Options.{some_held, same_option, some_true}
 
-same_item : (x y : Item) → IsDecided (x ≡ y)
+pub same_item : (x y : Item) → IsDecided (x ≡ y)
 same_item x y =
     moved (λ (a, (b, c)) i. record { rule = a i; dot = b i; origin = c i }) (λ e. (ap (λ (u : Item). u.rule) e, (ap (λ (u : Item). u.dot) e, ap (λ (u : Item). u.origin) e)))
     (both (equal x.rule y.rule) (both (equal x.dot y.dot) (equal x.origin y.origin)))
@@ -56,7 +57,7 @@ module _ (g : FlatGrammar) (E : Edges) (top : ℕ) (forward : (x p q : ℕ) → 
   more : (j k x : ℕ) (item : Item) → MayBe j item → j ≤ k → after g item ≡ Some x → MayBe k (advanced item)
   more j k x item m le e = record {
     rule = m.rule;
-    dot = (let lt = got_short (rhs_of g item.rule) item.dot x e in omega (arith, lt));
+    dot = (let lt = slice_get_within (rhs_of g item.rule) item.dot x e in omega (arith, lt));
     origin = (let o = m.origin in omega (arith, o, le));
   }
 

@@ -4,6 +4,7 @@ use Rattle.std.specs.declared.cmp.Ordering.{Ordering}
 use Rattle.std.specs.declared.cmp.Ordering.TheVariants.{Less, Equal, Greater}
 use Rattle.std.specs.Ordering.{ordering_then, nat_cmp}
 use Rattle.std.specs.Cmp.Lexicographic.{slice_cmp}
+use Rattle.finite_sets.proofs.Clauses.{nat_cmp-Equal, then_equal}
 use Rattle.grammar_model.specs.Grammar.{WrittenRule, Plain, Sequence, Grammar, Slot, slot_of, rule_at, child_slot}
 use Rattle.grammar_model.specs.Analysis.{IsNullable, IsProductive, IsAccessible, IsAlone, LeadsTo}
 use Rattle.grammar_model.specs.Cycles.{IsWalk, IsCycle, IsCyclic, IsLeastCycle, HasHeights, slot_cmp, cycle_cmp}
@@ -43,18 +44,6 @@ less_equal e = absurd (cc)
 greater_equal : Path Ordering Greater Equal → ⊥
 greater_equal e = absurd (cc)
 
-nat_same : (a b : ℕ) → nat_cmp a b ≡ Equal → a ≡ b
-nat_same a b e = elim (nat_cases a b) [
-  | inl (f, lt) ↦ absurd (less_equal (sym f ∙ e))
-  | inr (inl (f, same)) ↦ same
-  | inr (inr (f, gt)) ↦ absurd (greater_equal (sym f ∙ e))
-]
-
-then_equal : (a b : Ordering) → ordering_then a b ≡ Equal → (a ≡ Equal) × (b ≡ Equal)
-then_equal Less b e = absurd (less_equal e)
-then_equal Equal b e = (refl, e)
-then_equal Greater b e = absurd (greater_equal e)
-
 -- by symbol and then by level
 abbrev Low : Slot → Slot → Type 0
 Low s t = (s.symbol < t.symbol) ⊎ ((s.symbol ≡ t.symbol) × (s.level ≤ t.level))
@@ -72,14 +61,14 @@ low_through s t u (inr a) (inl b) = let e = a.0 in inl (omega (arith, e, b))
 low_through s t u (inr a) (inr b) = inr (a.0 ∙ b.0, (let x = a.1 in let y = b.1 in omega (arith, x, y)))
 
 low_slots : (s t : Slot) → Low s t → slot_cmp s t ≢ Greater
-low_slots s t (inl lt) = then_low (nat_cmp s.symbol t.symbol) (nat_cmp s.level t.level) (nat_low s.symbol t.symbol (omega arith)) (λ e. let same = nat_same s.symbol t.symbol e in absurd (omega (arith, same, lt)))
+low_slots s t (inl lt) = then_low (nat_cmp s.symbol t.symbol) (nat_cmp s.level t.level) (nat_low s.symbol t.symbol (omega arith)) (λ e. let same = nat_cmp-Equal s.symbol t.symbol e in absurd (omega (arith, same, lt)))
 low_slots s t (inr (e, le)) = then_low (nat_cmp s.symbol t.symbol) (nat_cmp s.level t.level) (nat_low s.symbol t.symbol (omega (arith, e))) (λ f. nat_low s.level t.level le)
 
 slots_same : (s t : Slot) → slot_cmp s t ≡ Equal → s ≡ t
 slots_same s t e =
     let (a, b) = then_equal (nat_cmp s.symbol t.symbol) (nat_cmp s.level t.level) e in
-    let p = nat_same s.symbol t.symbol a in
-    let q = nat_same s.level t.level b in
+    let p = nat_cmp-Equal s.symbol t.symbol a in
+    let q = nat_cmp-Equal s.level t.level b in
     λ i. record { symbol = p i; level = q i }
 
 -- ---- steps
@@ -248,7 +237,7 @@ module _ (g : Grammar) where
                   let b = path_long (suc k) s s ws q' in
                   then_low (nat_cmp (length (s ∷ zs)) (length (t ∷ ws))) (slice_cmp slot_cmp (s ∷ zs) (t ∷ ws)) (nat_low (length (s ∷ zs)) (length (t ∷ ws)) (omega (arith, le, a, b)))
                   (λ f.
-                  let long = nat_same (length (s ∷ zs)) (length (t ∷ ws)) f in
+                  let long = nat_cmp-Equal (length (s ∷ zs)) (length (t ∷ ws)) f in
                   let kn : k ≡ n = omega (arith, long, a, b) in
                   then_low (slot_cmp s t) (slice_cmp slot_cmp zs ws) (low_slots s t (low t (k, path_walk (suc k) t t ws q)))
                   (λ _. least ws (subst (λ r. Path' (suc r) s s ws) kn q'))))

@@ -27,10 +27,10 @@ reduced_sets_agree g edges top place is_top forward =
 
 -- ---- A ::= a, S ::= A, and the top of S
 
-E : Edges
+abbrev pub E : Edges
 E = FlatEdges chain (Held one_token)
 
-parts : (P : (r position x : ℕ) → Type 0) → P 0 0 0 → P 1 0 1 → P 2 0 2 → (r position x : ℕ) → part_of chain r position ≡ Some x → P r position x
+pub parts : (P : (r position x : ℕ) → Type 0) → P 0 0 0 → P 1 0 1 → P 2 0 2 → (r position x : ℕ) → part_of chain r position ≡ Some x → P r position x
 parts P a b c zero zero x e = let h : 0 ≡ x = cc in subst (P 0 0) h a
 parts P a b c zero (suc k) x e = absurd (cc)
 parts P a b c (suc zero) zero x e = let h : 1 ≡ x = cc in subst (P 1 0) h b
@@ -39,14 +39,14 @@ parts P a b c (suc (suc zero)) zero x e = let h : 2 ≡ x = cc in subst (P 2 0) 
 parts P a b c (suc (suc zero)) (suc k) x e = absurd (cc)
 parts P a b c (suc (suc (suc r))) k x e = absurd (cc)
 
-none_nullable : (x : ℕ) → IsNullable chain x → ⊥
+pub none_nullable : (x : ℕ) → IsNullable chain x → ⊥
 none_nullable zero e = absurd (cc)
 none_nullable (suc zero) e = absurd (cc)
 none_nullable (suc (suc zero)) e = absurd (cc)
 none_nullable (suc (suc (suc zero))) e = absurd (cc)
 none_nullable (suc (suc (suc (suc x)))) e = absurd (cc)
 
-is_top : IsTop chain 2
+pub is_top : IsTop chain 2
 is_top = record { is_rule = lit< tt; alone = alone; outermost = λ r position e. parts (λ r position x. x ≡ 3 → ⊥) (λ h. omega arith) (λ h. omega arith) (λ h. omega arith) r position 3 e refl }
   where
     alone : (r : ℕ) → IsRule chain r → lhs_of chain r ≡ 3 → r ≡ 2
@@ -59,8 +59,7 @@ forward : GoForward (Held one_token)
 forward s p q (zero, lt, e) = subst (λ (t : Edge). t.from < t.to) e (lit< tt)
 forward s p q (suc k, lt, e) = absurd (omega arith)
 
-goes : GoesForward E
-unfolding E
+pub goes : GoesForward E
 goes = flat_forward chain (Held one_token) forward
 
 -- the only item of the first set that waits for the left side of an inner rule
@@ -70,29 +69,28 @@ one_waits r item s e (same, start) = let le = origin_below chain E 2 is_top goes
 waits_in : (r : ℕ) (item : Item) → after chain item ≡ Some r → (item.rule ≡ r) × (item.dot ≡ 0)
 waits_in r item e = parts (λ rule dot x. (rule ≡ x) × (dot ≡ 0)) (refl, refl) (refl, refl) (refl, refl) item.rule item.dot r e
 
-set_s : InSet chain E 2 0 (first_item 1 0)
-set_s = InSet.Predict {x = 2} {r = 1} InSet.Start refl (lit< tt) refl
+pub begun_s : InSet chain E 2 0 (first_item 1 0)
+begun_s = InSet.Predict {x = 2} {r = 1} InSet.Start refl (lit< tt) refl
 
-first_pair : IsLeo chain E 2 0 1 (first_item 1 0)
-first_pair = record { inside = set_s; waits = refl; last = refl; only = λ o s e. one_waits 1 o s e (waits_in 1 o e) }
+pub first_pair : IsLeo chain E 2 0 1 (first_item 1 0)
+first_pair = record { inside = begun_s; waits = refl; last = refl; only = λ o s e. one_waits 1 o s e (waits_in 1 o e) }
 
-second_pair : IsLeo chain E 2 0 2 (first_item 2 0)
+pub second_pair : IsLeo chain E 2 0 2 (first_item 2 0)
 second_pair = record { inside = InSet.Start; waits = refl; last = refl; only = λ o s e. one_waits 2 o s e (waits_in 2 o e) }
 
-none_above : IsNotLeo chain E 2 0 3
+pub none_above : IsNotLeo chain E 2 0 3
 none_above item leo = is_top.outermost item.rule item.dot leo.waits
 
-leads : LeadsTo chain E 2 0 1 (advanced (first_item 2 0))
+pub leads : LeadsTo chain E 2 0 1 (advanced (first_item 2 0))
 leads = LeadsTo.On {item = first_item 1 0} first_pair (LeadsTo.Last {item = first_item 2 0} second_pair none_above)
 
-kept_a : InReduced chain E 2 1 (advanced (first_item 0 0))
-unfolding E
-kept_a =
+pub ended_a : InReduced chain E 2 1 (advanced (first_item 0 0))
+ended_a =
     InReduced.Scan {i = 0} {j = 1} {x = 0} {item = first_item 0 0}
     (InReduced.Predict {x = 1} {r = 0} (InReduced.Predict {x = 2} {r = 1} InReduced.Start refl (lit< tt) refl) refl (lit< tt) refl) refl (0, refl, (0, lit< tt, refl))
 
-kept : InReduced chain E 2 1 (advanced (first_item 2 0))
-kept = InReduced.Leap {whole = advanced (first_item 0 0)} kept_a refl (lit< tt) leads
+pub ended_top : InReduced chain E 2 1 (advanced (first_item 2 0))
+ended_top = InReduced.Leap {whole = advanced (first_item 0 0)} ended_a refl (lit< tt) leads
 
 -- from the first set every chain ends at the top
 ends_at_top : {i x : ℕ} {t : Item} → LeadsTo chain E 2 i x t → i ≡ 0 → t.rule ≡ 2
@@ -105,7 +103,6 @@ ends_at_top (LeadsTo.On {item = item} leo more) here =
     let le = origin_below chain E 2 is_top goes leo.inside in ends_at_top more (omega arith)
 
 not_kept : {j : ℕ} {item : Item} → InReduced chain E 2 j item → j ≡ 1 → item.rule ≡ 1 → item.dot ≡ 1 → ⊥
-unfolding E
 not_kept InReduced.Start p r d = omega arith
 not_kept (InReduced.Predict i e rule l) p r d = omega arith
 not_kept (InReduced.Skip {x = x} i e n) p r d = none_nullable x n
@@ -123,8 +120,7 @@ not_kept (InReduced.Leap {j = j} {whole = w} c whole lt leads) p r d =
     let first : w.origin ≡ 0 = omega arith in let top = ends_at_top leads first in omega arith
 
 hidden : IsHidden chain E 2 1 (advanced (first_item 1 0))
-hidden = (InExpanded.Step {whole = advanced (first_item 0 0)} {item = first_item 1 0} (InExpanded.Kept kept_a) refl (lit< tt) first_pair, λ k. not_kept k refl refl refl)
+hidden = (InExpanded.Step {whole = advanced (first_item 0 0)} {item = first_item 1 0} (InExpanded.Kept ended_a) refl (lit< tt) first_pair, λ k. not_kept k refl refl refl)
 
 pub reduced_sets_apply : ReducedSetsApply
-unfolding E
-reduced_sets_apply = record { first_pair = first_pair; second_pair = second_pair; leads = leads; kept = kept; hidden = hidden; agree = reduced_sets_agree chain one_token 2 1 is_top forward }
+reduced_sets_apply = record { first_pair = first_pair; second_pair = second_pair; leads = leads; kept = ended_top; hidden = hidden; agree = reduced_sets_agree chain one_token 2 1 is_top forward }

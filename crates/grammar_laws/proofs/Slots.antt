@@ -2,10 +2,10 @@
 use Rattle.std.proofs.Common.{arith, ◌≡◌, ◌≢◌, inl, inr, ℕ, ◌<◌, Bool, true, false, IsFalse, List, ◌++◌, length, map, flat_map, Contains, refl, sym, ap, subst}
 use Rattle.grammar_model.specs.Grammar.{WrittenRule, Plain, Sequence, Grammar, Slot, slot_of, rule_at, lhs_of, level_of, IsTerminal, Fits, child_slot, slot_count, EachChildSlot, IsChildSlot}
 use Rattle.grammar_model.specs.Analysis.{SomeRule, IsStar, EachNeeded}
-use Rattle.slot_analysis.proofs.Rounds.{item_first}
 use Rattle.finite_sets.specs.Decided.{IsDecided}
 use Rattle.finite_sets.proofs.Deciding.{both, negated, moved, equal, at_most, some_below, each_below}
 use Rattle.finite_sets.proofs.Members.{Among, among_from, among_left, among_right, among_map, among_flat_map, values, among_values}
+use Rattle.grammar_model.proofs.Productive.{item_first}
 
 pub same_slot : (s t : Slot) → IsDecided (s ≡ t)
 same_slot s t =

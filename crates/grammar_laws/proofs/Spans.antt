@@ -3,11 +3,11 @@ use Rattle.std.proofs.Common.{arith, ◌≡◌, inl, inr, ℕ, zero, suc, ◌+�
 use Rattle.grammar_model.specs.Grammar.{Grammar, Slot, rule_at, child_slot, IsChildCount}
 use Rattle.grammar_model.specs.Trees.{Tree, Children, Leaf, Nulled, Node, NoChild, Child, child_count}
 use Rattle.grammar_model.specs.Analysis.{IsNullable}
-use Rattle.grammar_model.specs.Derives.{Edges, Held, Derives, DerivesFront}
+use Rattle.grammar_model.specs.Derives.{Edges, Held, Derives, DerivesPrefix}
 use Rattle.finite_sets.specs.Decided.{IsDecided}
 use Rattle.finite_sets.proofs.Deciding.{moved, is_true}
 use Rattle.grammar_laws.specs.Laws.{GoForward, Told, TreesAreDecided, ToldTreesAreDecided}
-use Rattle.grammar_laws.proofs.Facts.{class, after, class_zero, class_after, class_count, slot_same, Fact, TreeOf, FrontOf, Base, Next, In, tree_in, fact_decided}
+use Rattle.grammar_laws.proofs.Facts.{class, after, class_zero, class_after, class_count, slot_same, Fact, TreeOf, PrefixOf, Base, Next, In, tree_in, fact_decided}
 use Rattle.grammar_laws.proofs.Tests.{nullable_decided}
 use Rattle.grammar_laws.proofs.ItemSets.{AreEdgesDecided, held_decided}
 
@@ -17,16 +17,16 @@ module _ (g : Grammar) (E : Edges) where
 
   abbrev Made : Fact → Type 0
   Made (TreeOf s p q) = (t : Tree) × Derives g E s p q t
-  Made (FrontOf i c p q) = (cs : Children) × DerivesFront g E (rule_at g i) p q cs × (class (rule_at g i) (child_count cs) ≡ c)
+  Made (PrefixOf i c p q) = (cs : Children) × DerivesPrefix g E (rule_at g i) p q cs × (class (rule_at g i) (child_count cs) ≡ c)
 
   base_made : (x : Fact) → Base g E Free x → Made x
   base_made (TreeOf s p q) (inl (terminal, h)) = (Leaf s.symbol p q, record { symbol_is = refl; from_is = refl; to_is = refl; terminal = terminal; held = h })
   base_made (TreeOf s p q) (inr (e, nullable)) = (Nulled s.symbol p, record { symbol_is = refl; from_is = refl; to_is = e; nullable = nullable })
-  base_made (FrontOf i c p q) (z, e) = (NoChild, e, class_zero (rule_at g i) ∙ sym z)
+  base_made (PrefixOf i c p q) (z, e) = (NoChild, e, class_zero (rule_at g i) ∙ sym z)
 
   next_made : (R : Fact → Type 0) → ((x : Fact) → R x → Made x) → (x : Fact) → Next g E Free R x → Made x
   next_made R f (TreeOf s p q) (lt, (i, il, (fits, (c, cl, (count, h))))) =
-      let (cs, d, e) = f (FrontOf i c p q) h in (
+      let (cs, d, e) = f (PrefixOf i c p q) h in (
         Node i cs p q,
         record {
           from_is = refl;
@@ -35,11 +35,11 @@ module _ (g : Grammar) (E : Edges) where
           in_range = il;
           fits = fits;
           complete = class_count (rule_at g i) (child_count cs) (subst (IsChildCount (rule_at g i)) (sym e) count);
-          front = d;
+          prefix = d;
         },
       )
-  next_made R f (FrontOf i c p q) (b, bl, ((e, le), (r, rl, (h, t)))) =
-      let (cs, d, m) = f (FrontOf i b p r) h in
+  next_made R f (PrefixOf i c p q) (b, bl, ((e, le), (r, rl, (h, t)))) =
+      let (cs, d, m) = f (PrefixOf i b p r) h in
       let (tree, dt) = f (TreeOf (child_slot (rule_at g i) b) r q) t in
       let same : child_slot (rule_at g i) b ≡ child_slot (rule_at g i) (child_count cs) = ap (child_slot (rule_at g i)) (sym m) ∙ slot_same (rule_at g i) (child_count cs) in
       (Child cs tree, (r, d, subst (λ s. Derives g E s r q tree) same dt), class_after (rule_at g i) (child_count cs) ∙ (ap (after (rule_at g i)) m ∙ e))

@@ -6,7 +6,7 @@ use Rattle.std.proofs.lemmas.Slice.Eq.{bytes_eq-Decides}
 use Rattle.std.specs.Str.{bytes_eq}
 use Rattle.grammar_model.specs.Grammar.{Grammar, WrittenRule, Slot, rule_at, slot_of, child_slot}
 use Rattle.grammar_model.specs.Trees.{Tree, Children, Leaf, Nulled, Node, NoChild, Child, child_count}
-use Rattle.grammar_model.specs.Derives.{Edges, Derives, DerivesFront}
+use Rattle.grammar_model.specs.Derives.{Edges, Derives, DerivesPrefix}
 use Rattle.grammar_model.specs.Order.{RuleOrder, RuleRanks, rank_order}
 use Rattle.grammar_model.specs.All.{IsAll}
 use Rattle.grammar_model.specs.Simple.{IsSimple, Tested, simple_trees}
@@ -28,12 +28,12 @@ module _ (g : Grammar) (e f : Edges) (holds : (s i j : ℕ) → e s i j → f s 
       in_range = d.in_range;
       fits = d.fits;
       complete = d.complete;
-      front = front_so (rule_at g i) p q children d.front;
+      prefix = prefix_so (rule_at g i) p q children d.prefix;
     }
 
-    front_so : (rule : WrittenRule) (p q : ℕ) (children : Children) → DerivesFront g e rule p q children → DerivesFront g f rule p q children
-    front_so rule p q NoChild d = d
-    front_so rule p q (Child front last) d = (d.0, front_so rule p d.0 front d.1, derives_so (child_slot rule (child_count front)) d.0 q last d.2)
+    prefix_so : (rule : WrittenRule) (p q : ℕ) (children : Children) → DerivesPrefix g e rule p q children → DerivesPrefix g f rule p q children
+    prefix_so rule p q NoChild d = d
+    prefix_so rule p q (Child prefix last) d = (d.0, prefix_so rule p d.0 prefix d.1, derives_so (child_slot rule (child_count prefix)) d.0 q last d.2)
 
 pub all_so : (g : Grammar) (e f : Edges) (order : RuleOrder) (slot : Slot) (p q : ℕ) (trees : List Tree)
     → ((s i j : ℕ) → e s i j → f s i j) → ((s i j : ℕ) → f s i j → e s i j) → IsAll g e order slot p q trees → IsAll g f order slot p q trees

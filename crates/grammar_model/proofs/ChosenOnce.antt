@@ -1,12 +1,13 @@
 -- The list of the chosen derivations is one; and where all rules have one rank, every derivation is chosen.
 use Rattle.std.proofs.Common.{◌≡◌, ℕ, ℤ, ◌≤ℤ◌, List, sym, ◌∙◌, subst, arith}
 use Rattle.std.proofs.lemmas.Int.{ints}
+use Rattle.finite_sets.proofs.Members.{among_from, contains_from}
 use Rattle.grammar_model.specs.Grammar.{WrittenRule, Grammar, Slot, rule_at, rank_of, child_slot}
 use Rattle.grammar_model.specs.Trees.{Tree, Children, Leaf, Nulled, Node, NoChild, Child, child_count}
 use Rattle.grammar_model.specs.Derives.{Edges}
 use Rattle.grammar_model.specs.Order.{Ranking, NoRanks, RuleRanks, HighRanks, rank_order, tree_cmp}
-use Rattle.grammar_model.specs.Chosen.{AreBest, AreBestFront, IsChosen, AreChosen}
-use Rattle.grammar_model.proofs.Lists.{among_from, contains_from, one_sorted}
+use Rattle.grammar_model.specs.Chosen.{AreBest, AreBestPrefix, IsChosen, AreChosen}
+use Rattle.grammar_model.proofs.Lists.{one_sorted}
 use Rattle.grammar_model.proofs.Sorting.{ranks_order}
 use Rattle.grammar_model.proofs.Total.{derivations_ordered}
 
@@ -30,11 +31,11 @@ module _ (g : Grammar) (edge : Edges) (rank : ℤ) (alike : (i : ℕ) → rank_o
     alike_best : (slot : Slot) (t : Tree) → AreBest g edge slot t
     alike_best slot (Leaf symbol from to) = tt
     alike_best slot (Nulled symbol at) = tt
-    alike_best slot (Node rule children from to) = ((λ other cs d. no_higher other rule), alike_front (rule_at g rule) children)
+    alike_best slot (Node rule children from to) = ((λ other cs d. no_higher other rule), alike_prefix (rule_at g rule) children)
 
-    alike_front : (rule : WrittenRule) (cs : Children) → AreBestFront g edge rule cs
-    alike_front rule NoChild = tt
-    alike_front rule (Child front last) = (alike_front rule front, alike_best (child_slot rule (child_count front)) last)
+    alike_prefix : (rule : WrittenRule) (cs : Children) → AreBestPrefix g edge rule cs
+    alike_prefix rule NoChild = tt
+    alike_prefix rule (Child prefix last) = (alike_prefix rule prefix, alike_best (child_slot rule (child_count prefix)) last)
 
   pub alike_chosen : (ranking : Ranking) (slot : Slot) (t : Tree) → IsChosen ranking g edge slot t
   alike_chosen NoRanks slot t = tt

@@ -1,25 +1,25 @@
 -- The definitions at grammars of a few rules.
-use Rattle.std.proofs.Common.{◌≡◌, ℕ, zero, suc, ◌<◌, Bool, true, false, List, [], ◌∷◌, ◌++◌, ◌⊎◌, inl, inr, Option, Some, None, refl, sym, ap, ◌∙◌, subst, arith, lit<, lit≤, ◌≤ℤ◌}
-use Rattle.std.specs.Prelude.{ℤ, pos, codes, slice_get, Contains}
+use Rattle.std.proofs.Common.{◌≡◌, ℕ, zero, suc, ◌<◌, Bool, true, false, List, [], ◌∷◌, ◌++◌, ◌⊎◌, inl, inr, Some, None, refl, sym, ap, ◌∙◌, subst, arith, lit<, lit≤, ◌≤ℤ◌}
+use Rattle.std.specs.Prelude.{pos, codes, slice_get}
 use Rattle.std.specs.Int.Signed.{le_z_yes}
 use Rattle.std.specs.List.Sorted.{IsStrictlySortedBy}
 use Rattle.std.specs.Str.{chars}
 use Rattle.std.specs.Char.{encode_utf8}
 use Rattle.std.specs.Fmt.{digits}
 use Rattle.std.specs.declared.cmp.Ordering.TheVariants.{Greater}
+use Rattle.finite_sets.proofs.Members.{among_from, contains_from, Among}
 use Rattle.grammar_model.specs.Grammar.{Assoc, Left, Right, Group, SequenceRule, WrittenRule, Plain, Sequence, Grammar, Slot, slot_of, rule_at, rank_of, lhs_of, child_slot, IsTerminal, IsChildCount}
 use Rattle.grammar_model.specs.Trees.{Tree, Children, Leaf, Nulled, Node, NoChild, Child, child_count}
-use Rattle.grammar_model.specs.Derives.{Edges, Line, Derives, DerivesFront}
+use Rattle.grammar_model.specs.Derives.{Edges, Line, Derives, DerivesPrefix}
 use Rattle.grammar_model.specs.declared.Ranking.TheVariants.{None as NoRanks, Rule as RuleRanks, High as HighRanks}
 use Rattle.grammar_model.specs.declared.DescItem.TheVariants.{Name as ItemName, Symbol as ItemSymbol, Start as ItemStart, Length as ItemLength, G1Start as ItemG1Start, G1Length as ItemG1Length, Values as ItemValues}
 use Rattle.grammar_model.specs.declared.Show.TheVariants.{Array as ShowArray, Tree as ShowTree}
 use Rattle.grammar_model.specs.Order.{rank_order, tree_cmp, Before}
 use Rattle.grammar_model.specs.All.{IsAll}
 use Rattle.grammar_model.specs.Chosen.{IsBest, AreBest, AreChosen}
-use Rattle.grammar_model.proofs.Lists.{Among, among_from, contains_from}
 use Rattle.grammar_model.specs.Values.{Text, value_of, Meaning, RuleMeaning, MakeArray, MakeItems, Token}
 use Rattle.grammar_model.specs.Text.{text_of}
-use Rattle.grammar_model.specs.Analysis.{IsNullable, IsNullableIn, IsProductive, IsAccessible}
+use Rattle.grammar_model.specs.Analysis.{IsProductive, IsAccessible}
 use Rattle.grammar_model.specs.Cycles.{IsCycle}
 
 abbrev pub rule : (lhs : ℕ) (rhs : List ℕ) (level groups : ℕ) → Assoc → WrittenRule
@@ -178,11 +178,11 @@ unary (Leaf y a b) s d =
 unary (Nulled y a) s d = let e = d.from_is in let e' = d.to_is in absurd (omega arith)
 unary (Node i cs a b) s d =
     let (x, slot, one) = part_at i d.in_range in
-    go cs x slot (one (child_count cs) d.complete) d.front
+    go cs x slot (one (child_count cs) d.complete) d.prefix
   where
-    go : (cs : Children) (x : ℕ) → child_slot (rule_at ranked i) 0 ≡ slot_of x → child_count cs ≡ 1 → DerivesFront ranked one_x (rule_at ranked i) 0 1 cs → Unary s (Node i cs a b)
+    go : (cs : Children) (x : ℕ) → child_slot (rule_at ranked i) 0 ≡ slot_of x → child_count cs ≡ 1 → DerivesPrefix ranked one_x (rule_at ranked i) 0 1 cs → Unary s (Node i cs a b)
     go NoChild x slot c fr = absurd (omega arith)
-    go (Child (Child front v) u) x slot c fr = absurd (omega arith)
+    go (Child (Child prefix v) u) x slot c fr = absurd (omega arith)
     go (Child NoChild u) x slot c (m, e, fr) =
         let under : Derives ranked one_x (slot_of x) 0 1 u = subst (λ z. Derives ranked one_x z 0 1 u) slot (subst (λ z. Derives ranked one_x (child_slot (rule_at ranked i) 0) z 1 u) (sym e) fr) in
         subst (Unary s) (λ k. Node i (Child NoChild u) (sym d.from_is k) (sym d.to_is k)) (ByRule i x u d.fits.0 d.in_range slot under)
@@ -223,16 +223,16 @@ x_derives : Derives ranked one_x (slot_of 3) 0 1 (Leaf 3 0 1)
 x_derives = record { symbol_is = refl; from_is = refl; to_is = refl; terminal = x_terminal; held = (refl, refl) }
 
 by_low : Derives ranked one_x (slot_of 0) 0 1 (by_rule 0 2)
-by_low = record { from_is = refl; to_is = refl; spans = lit< tt; in_range = lit< tt; fits = (refl, lit≤ tt); complete = refl; front = (0, refl, under) }
+by_low = record { from_is = refl; to_is = refl; spans = lit< tt; in_range = lit< tt; fits = (refl, lit≤ tt); complete = refl; prefix = (0, refl, under) }
   where
     under : Derives ranked one_x (slot_of 1) 0 1 (one_part 2)
-    under = record { from_is = refl; to_is = refl; spans = lit< tt; in_range = lit< tt; fits = (refl, lit≤ tt); complete = refl; front = (0, refl, x_derives) }
+    under = record { from_is = refl; to_is = refl; spans = lit< tt; in_range = lit< tt; fits = (refl, lit≤ tt); complete = refl; prefix = (0, refl, x_derives) }
 
 by_high : Derives ranked one_x (slot_of 0) 0 1 (by_rule 1 3)
-by_high = record { from_is = refl; to_is = refl; spans = lit< tt; in_range = lit< tt; fits = (refl, lit≤ tt); complete = refl; front = (0, refl, under) }
+by_high = record { from_is = refl; to_is = refl; spans = lit< tt; in_range = lit< tt; fits = (refl, lit≤ tt); complete = refl; prefix = (0, refl, under) }
   where
     under : Derives ranked one_x (slot_of 2) 0 1 (one_part 3)
-    under = record { from_is = refl; to_is = refl; spans = lit< tt; in_range = lit< tt; fits = (refl, lit≤ tt); complete = refl; front = (0, refl, x_derives) }
+    under = record { from_is = refl; to_is = refl; spans = lit< tt; in_range = lit< tt; fits = (refl, lit≤ tt); complete = refl; prefix = (0, refl, x_derives) }
 
 both_listed : IsAll ranked one_x (rank_order ranked HighRanks) (slot_of 0) 0 1 (by_rule 1 3 ∷ by_rule 0 2 ∷ [])
 unfolding IsStrictlySortedBy
@@ -321,7 +321,7 @@ last_separator_derives = record {
   in_range = omega arith;
   fits = (refl, omega arith);
   complete = (omega arith, λ e. refl);
-  front = (3, (2, (1, (0, refl, item 0 refl), comma 1 refl), item 2 refl), comma 3 refl);
+  prefix = (3, (2, (1, (0, refl, item 0 refl), comma 1 refl), item 2 refl), comma 3 refl);
 }
   where
     item : (p : ℕ) → Rattle.std.specs.Prelude.slice_get {X = ℕ} (1 ∷ 2 ∷ 1 ∷ 2 ∷ []) p ≡ Some 1 → Derives commas (Line (1 ∷ 2 ∷ 1 ∷ 2 ∷ [])) (slot_of 1) p (suc p) (Leaf 1 p (suc p))

@@ -1,11 +1,12 @@
 -- Heights at a small grammar: a star without separator, a separated list, levels, and a start that is nullable.
-use Rattle.std.proofs.Common.{◌≡◌, ◌≢◌, ℕ, zero, suc, ◌<◌, Bool, true, false, List, [], ◌∷◌, length, ◌⊎◌, inl, inr, Option, Some, None, refl, sym, ap, subst, arith, lit<, lit≤}
+use Rattle.std.proofs.Common.{◌≡◌, ◌≢◌, ℕ, zero, suc, ◌<◌, Bool, true, false, List, [], ◌∷◌, inl, inr, Some, None, refl, sym, ap, subst, arith, lit<, lit≤}
 use Rattle.std.specs.Prelude.{pos, ◌==◌, ◌&&◌, IsTrue}
 use Rattle.std.specs.List.Sorted.{IsStrictlySortedBy}
 use Rattle.std.specs.declared.cmp.Ordering.{Ordering}
 use Rattle.std.proofs.lemmas.Bool.{true≢false, eqb-true, and_parts}
-use Rattle.grammar_model.specs.Grammar.{Assoc, Left, SequenceRule, WrittenRule, Plain, Sequence, Grammar, Slot, slot_of, rule_at, child_slot, lhs_of, IsTerminal, Fits, slot_count, IsPlain}
-use Rattle.grammar_model.specs.Analysis.{IsNullable, IsNullableIn, IsAccessible, IsProductive, LeadsTo}
+use Rattle.finite_sets.proofs.Members.{among_from, contains_from, Among}
+use Rattle.grammar_model.specs.Grammar.{Left, Sequence, Grammar, Slot, slot_of, rule_at, child_slot, IsTerminal, Fits, slot_count, IsPlain}
+use Rattle.grammar_model.specs.Analysis.{IsNullable, IsNullableIn, LeadsTo}
 use Rattle.grammar_model.specs.Cycles.{HasHeights}
 use Rattle.grammar_model.specs.Listable.{IsListable}
 use Rattle.grammar_model.specs.Order.{rank_order}
@@ -13,7 +14,6 @@ use Rattle.grammar_model.specs.declared.Ranking.TheVariants.{Rule as RuleRanks}
 use Rattle.grammar_model.specs.Simple.{is_terminal}
 use Rattle.grammar_model.proofs.Simple.{terminal_from, is_terminal_from}
 use Rattle.grammar_model.proofs.Sorting.{ranks_order}
-use Rattle.grammar_model.proofs.Lists.{Among, among_from, contains_from}
 use Rattle.grammar_model.proofs.Examples.{rule}
 use Rattle.grammar_model.proofs.Total.{nullable_not_terminal}
 
@@ -33,7 +33,7 @@ height_of_symbol (suc zero) = 3
 height_of_symbol (suc (suc zero)) = 2
 height_of_symbol (suc (suc (suc n))) = 1
 
-terminal : (n : ℕ) → IsTerminal lists (suc (suc (suc n)))
+pub terminal : (n : ℕ) → IsTerminal lists (suc (suc (suc n)))
 terminal n zero lt e = omega arith
 terminal n (suc zero) lt e = omega arith
 terminal n (suc (suc zero)) lt e = omega arith
@@ -71,7 +71,7 @@ falls s t (suc (suc (suc (suc zero))), lt, f, (suc (suc zero), k, e, others)) = 
 falls s t (suc (suc (suc (suc zero))), lt, f, (suc (suc (suc j)), k, e, others)) = omega arith
 falls s t (suc (suc (suc (suc (suc i)))), lt, f, w) = omega arith
 
-heights : HasHeights lists
+pub heights : HasHeights lists
 heights = record { height = λ s. height_of_symbol s.symbol; falls = λ s t a p l. falls s t l }
 
 -- the start is nullable, by its star

@@ -8,17 +8,18 @@ use Rattle.std.specs.declared.cmp.Ordering.{Ordering}
 use Rattle.std.specs.declared.cmp.Ordering.TheVariants.{Less}
 use Rattle.std.specs.Ordering.{ordering_then, nat_cmp}
 use Rattle.std.proofs.lemmas.Bool.{eqb-true, eqb-false, eq-eqb, ne_eqb, ltb-true, ltb-false, cond_both, true≢false, cases_eq, cases_lt, and_parts, and_from}
+use Rattle.finite_sets.proofs.Members.{among_from, contains_from, among_left, among_right, among_either, Among}
 use Rattle.grammar_model.specs.Grammar.{Grammar, IsPlain, Slot, WrittenRule, Plain, Sequence, rule_at, Fits, IsChildCount, IsTerminal, slot_count, child_slot}
 use Rattle.grammar_model.specs.Trees.{Tree, Children, Leaf, Nulled, Node, NoChild, Child, child_count}
 use Rattle.grammar_model.specs.Analysis.{IsNullable}
-use Rattle.grammar_model.specs.Derives.{Edges, Derives, DerivesFront}
+use Rattle.grammar_model.specs.Derives.{Edges, Derives, DerivesPrefix}
 use Rattle.grammar_model.specs.Order.{IsRuleOrder, RuleOrder}
 use Rattle.grammar_model.specs.All.{IsAll}
 use Rattle.grammar_model.specs.Simple.{Tested, places, Below}
 use Rattle.grammar_model.proofs.Total.{nullable_not_terminal}
-use Rattle.grammar_model.proofs.Lists.{Among, among_from, contains_from, among_left, among_right, among_either, sorted_append, each_from}
+use Rattle.grammar_model.proofs.Lists.{sorted_append, each_from}
 use Rattle.grammar_model.proofs.Simple.{among_places_from, among_places, places_sorted}
-use Rattle.grammar_model.proofs.Compose.{GoForward, at_cmp, place_of, IsAllFront, all_with_last, all_nodes}
+use Rattle.grammar_model.proofs.Compose.{GoForward, at_cmp, place_of, IsAllPrefix, all_with_last, all_nodes}
 
 -- ---- the definition
 
@@ -36,10 +37,10 @@ module _ (g : Grammar) (test : ℕ → ℕ → ℕ → Bool) (null terminal : Sl
   abbrev starts_of : WrittenRule → Bool → (n p q : ℕ) → List ℕ
   starts_of rule high n p q = put_null high (null (child_slot rule n)) q (places (cond (nulls_before rule n) p (suc p)) q)
 
-  abbrev fronts : Below → WrittenRule → Bool → (n p q : ℕ) → List Children
-  fronts below rule high zero p q = cond (p == q) (NoChild ∷ []) []
-  fronts below rule high (suc n) p q =
-      flat_map (λ r. flat_map (λ front. map (Child front) (below (child_slot rule n) r q)) (fronts below rule high n p r)) (starts_of rule high n p q)
+  abbrev prefixes : Below → WrittenRule → Bool → (n p q : ℕ) → List Children
+  prefixes below rule high zero p q = cond (p == q) (NoChild ∷ []) []
+  prefixes below rule high (suc n) p q =
+      flat_map (λ r. flat_map (λ prefix. map (Child prefix) (below (child_slot rule n) r q)) (prefixes below rule high n p r)) (starts_of rule high n p q)
 
   module _ (high_of : ℕ → Bool) where
     abbrev within : Below → Below → ℕ → ℕ → Below
@@ -50,7 +51,7 @@ module _ (g : Grammar) (test : ℕ → ℕ → ℕ → Bool) (null terminal : Sl
     spread smaller zero slot p q = []
     spread smaller (suc h) slot p q =
         cond (nat_lt p q) (cond (terminal slot) (cond (test slot.symbol p q) (Leaf slot.symbol p q ∷ []) [])
-        (flat_map (λ i. map (λ children. Node i children p q) (fronts (within smaller (spread smaller h) p q) (rule_at g i) (high_of i) (slot_count (rule_at g i)) p q)) (rules_of slot)))
+        (flat_map (λ i. map (λ children. Node i children p q) (prefixes (within smaller (spread smaller h) p q) (rule_at g i) (high_of i) (slot_count (rule_at g i)) p q)) (rules_of slot)))
         (cond ((p == q) && null slot) (Nulled slot.symbol p ∷ []) [])
 
     abbrev pub all_trees : ℕ → ℕ → Below
@@ -74,16 +75,16 @@ module _ (g : Grammar) (test : ℕ → ℕ → ℕ → Bool) (null terminal : Sl
     nulled slot p q (Nulled s a) d z = d.nullable
     nulled slot p q (Node i cs a b) d z = let h = d.spans in absurd (omega arith)
 
-    front_ahead : (rule : WrittenRule) (p q : ℕ) (cs : Children) → DerivesFront g edge rule p q cs → p ≤ q
-    front_ahead rule p q NoChild d = omega arith
-    front_ahead rule p q (Child front t) (r, f, d) = let a = front_ahead rule p r front f in let b = ahead _ r q t d in omega arith
+    prefix_ahead : (rule : WrittenRule) (p q : ℕ) (cs : Children) → DerivesPrefix g edge rule p q cs → p ≤ q
+    prefix_ahead rule p q NoChild d = omega arith
+    prefix_ahead rule p q (Child prefix t) (r, f, d) = let a = prefix_ahead rule p r prefix f in let b = ahead _ r q t d in omega arith
 
-    front_nulled : (rule : WrittenRule) (p q : ℕ) (cs : Children) → DerivesFront g edge rule p q cs → p ≡ q → (j : ℕ) → j < child_count cs → IsNullable g (child_slot rule j)
-    front_nulled rule p q NoChild d z j lt = absurd (omega arith)
-    front_nulled rule p q (Child front t) (r, f, d) z j lt = pick (λ h. front_nulled rule p r front f (omega (arith, front_ahead rule p r front f, ahead _ r q t d)) j h) (cases_eq j (child_count front))
+    prefix_nulled : (rule : WrittenRule) (p q : ℕ) (cs : Children) → DerivesPrefix g edge rule p q cs → p ≡ q → (j : ℕ) → j < child_count cs → IsNullable g (child_slot rule j)
+    prefix_nulled rule p q NoChild d z j lt = absurd (omega arith)
+    prefix_nulled rule p q (Child prefix t) (r, f, d) z j lt = pick (λ h. prefix_nulled rule p r prefix f (omega (arith, prefix_ahead rule p r prefix f, ahead _ r q t d)) j h) (cases_eq j (child_count prefix))
       where
-        pick : (j < child_count front → IsNullable g (child_slot rule j)) → (j ≡ child_count front) ⊎ (j ≡ child_count front → ⊥) → IsNullable g (child_slot rule j)
-        pick ih (inl e) = subst (λ k. IsNullable g (child_slot rule k)) (sym e) (nulled _ r q t d (omega (arith, front_ahead rule p r front f, ahead _ r q t d)))
+        pick : (j < child_count prefix → IsNullable g (child_slot rule j)) → (j ≡ child_count prefix) ⊎ (j ≡ child_count prefix → ⊥) → IsNullable g (child_slot rule j)
+        pick ih (inl e) = subst (λ k. IsNullable g (child_slot rule k)) (sym e) (nulled _ r q t d (omega (arith, prefix_ahead rule p r prefix f, ahead _ r q t d)))
         pick ih (inr ne) = ih (omega arith)
 
     nulls_from : (rule : WrittenRule) (n : ℕ) → nulls_before rule n ≡ true → (j : ℕ) → j < n → IsNullable g (child_slot rule j)
@@ -160,16 +161,16 @@ module _ (g : Grammar) (test : ℕ → ℕ → ℕ → Bool) (null terminal : Sl
         (λ r m. (among_places_from (cond (nulls_before rule n) p (suc p)) q r m).1)
 
     -- a start of a derivation is among them
-    start_found : (rule : WrittenRule) (high : Bool) (n p q r : ℕ) (cs : Children) (t : Tree) → DerivesFront g edge rule p r cs → child_count cs ≡ n → Derives g edge (child_slot rule n) r q t → Among r (starts_of rule high n p q)
+    start_found : (rule : WrittenRule) (high : Bool) (n p q r : ℕ) (cs : Children) (t : Tree) → DerivesPrefix g edge rule p r cs → child_count cs ≡ n → Derives g edge (child_slot rule n) r q t → Among r (starts_of rule high n p q)
     start_found rule high n p q r cs t f c d = pick (cases_eq r q)
       where
         later : r < q → (b : Bool) → nulls_before rule n ≡ b → Among r (places (cond b p (suc p)) q)
-        later lt true e = among_places p q r (front_ahead rule p r cs f) lt
+        later lt true e = among_places p q r (prefix_ahead rule p r cs f) lt
         later lt false e = among_places (suc p) q r (strict (cases_eq p r)) lt
           where
             strict : (p ≡ r) ⊎ (p ≡ r → ⊥) → suc p ≤ r
-            strict (inl z) = absurd (true≢false (sym (from_nulls rule n (λ j lt. front_nulled rule p r cs f z j (omega arith))) ∙ e))
-            strict (inr z) = let h = front_ahead rule p r cs f in omega arith
+            strict (inl z) = absurd (true≢false (sym (from_nulls rule n (λ j lt. prefix_nulled rule p r cs f z j (omega arith))) ∙ e))
+            strict (inr z) = let h = prefix_ahead rule p r cs f in omega arith
 
         pick : (r ≡ q) ⊎ (r ≡ q → ⊥) → Among r (starts_of rule high n p q)
         pick (inl z) = subst (λ w. Among w (starts_of rule high n p q)) (sym z) (put_new high (null (child_slot rule n)) q (places (cond (nulls_before rule n) p (suc p)) q) ((nulls (child_slot rule n)).1 (nulled _ r q t d z)))
@@ -179,21 +180,21 @@ module _ (g : Grammar) (test : ℕ → ℕ → ℕ → Bool) (null terminal : Sl
       abbrev Exactly : ℕ → ℕ → Type 0
       Exactly n m = m ≡ n
 
-      no_front : (below : Below) (rule : WrittenRule) (high : Bool) (p q : ℕ) → IsAllFront g edge forward order laws rule high (Exactly 0) p q (fronts below rule high 0 p q)
+      no_prefix : (below : Below) (rule : WrittenRule) (high : Bool) (p q : ℕ) → IsAllPrefix g edge forward order laws rule high (Exactly 0) p q (prefixes below rule high 0 p q)
       unfolding IsStrictlySortedBy
-      no_front below rule high p q = cond_both (p == q) (NoChild ∷ []) [] (IsAllFront g edge forward order laws rule high (Exactly 0) p q) here nowhere
+      no_prefix below rule high p q = cond_both (p == q) (NoChild ∷ []) [] (IsAllPrefix g edge forward order laws rule high (Exactly 0) p q) here nowhere
         where
-          only : (cs : Children) → DerivesFront g edge rule p q cs × Exactly 0 (child_count cs) → (NoChild ≡ cs) × (p ≡ q)
+          only : (cs : Children) → DerivesPrefix g edge rule p q cs × Exactly 0 (child_count cs) → (NoChild ≡ cs) × (p ≡ q)
           only NoChild d = (refl, d.0)
           only (Child cs t) d = let e = d.1 in absurd (omega arith)
 
-          here : (p == q) ≡ true → IsAllFront g edge forward order laws rule high (Exactly 0) p q (NoChild ∷ [])
+          here : (p == q) ≡ true → IsAllPrefix g edge forward order laws rule high (Exactly 0) p q (NoChild ∷ [])
           here e = record {
             sorted = (tt, tt);
-            each = λ cs. (λ m. elim m [ inl h ↦ subst (λ x. DerivesFront g edge rule p q x × Exactly 0 (child_count x)) h (eqb-true p q e, refl) | inr b ↦ absurd b ], λ d. inl (only cs d).0);
+            each = λ cs. (λ m. elim m [ inl h ↦ subst (λ x. DerivesPrefix g edge rule p q x × Exactly 0 (child_count x)) h (eqb-true p q e, refl) | inr b ↦ absurd b ], λ d. inl (only cs d).0);
           }
 
-          nowhere : (p == q) ≡ false → IsAllFront g edge forward order laws rule high (Exactly 0) p q []
+          nowhere : (p == q) ≡ false → IsAllPrefix g edge forward order laws rule high (Exactly 0) p q []
           nowhere e = record { sorted = tt; each = λ cs. (λ m. absurd m, λ d. eqb-false p q e (only cs d).1) }
 
       -- a child of a tree over p to q spans less, or what is beside it is nullable
@@ -202,20 +203,20 @@ module _ (g : Grammar) (test : ℕ → ℕ → ℕ → Bool) (null terminal : Sl
 
       module _ (below : Below) (rule : WrittenRule) (high : Bool) (p q : ℕ) (spans : p < q)
           (known : (k r s : ℕ) → k < slot_count rule → p ≤ r → r ≤ s → s ≤ q → Smaller rule p q k r s → IsAll g edge order (child_slot rule k) r s (below (child_slot rule k) r s)) where
-        -- the rest from place n on is nullable where the front reaches the end
+        -- the rest from place n on is nullable where the prefix reaches the end
         abbrev Rest : ℕ → ℕ → Type 0
         Rest n s = s ≡ q → (j : ℕ) → n ≤ j → j < slot_count rule → IsNullable g (child_slot rule j)
 
-        fronts_all : (n s : ℕ) → p ≤ s → s ≤ q → n ≤ slot_count rule → Rest n s → IsAllFront g edge forward order laws rule high (Exactly n) p s (fronts below rule high n p s)
-        fronts_all zero s g0 h c rest = no_front below rule high p s
-        fronts_all (suc n) s g0 h c rest =
+        prefixes_all : (n s : ℕ) → p ≤ s → s ≤ q → n ≤ slot_count rule → Rest n s → IsAllPrefix g edge forward order laws rule high (Exactly n) p s (prefixes below rule high n p s)
+        prefixes_all zero s g0 h c rest = no_prefix below rule high p s
+        prefixes_all (suc n) s g0 h c rest =
             exactly (all_with_last g edge forward order laws rule high (Exactly n) (child_slot rule n) (λ m e. ap (child_slot rule) e) p s (starts_of rule high n p s)
-            (λ r. fronts below rule high n p r) (λ r. below (child_slot rule n) r s) (starts_sorted rule high n p s)
-            (λ r m. fronts_all n r (bound r (among_starts rule high n p s r m)).0 (bound r (among_starts rule high n p s r m)).1 (omega arith) (rest_of r (among_starts rule high n p s r m)))
+            (λ r. prefixes below rule high n p r) (λ r. below (child_slot rule n) r s) (starts_sorted rule high n p s)
+            (λ r m. prefixes_all n r (bound r (among_starts rule high n p s r m)).0 (bound r (among_starts rule high n p s r m)).1 (omega arith) (rest_of r (among_starts rule high n p s r m)))
             (λ r m. last_all r (among_starts rule high n p s r m))
             (λ r cs t f e d. start_found rule high n p s r cs t f e d))
           where
-            exactly : {ds : List Children} → IsAllFront g edge forward order laws rule high (λ m. (k : ℕ) × Exactly n k × (m ≡ suc k)) p s ds → IsAllFront g edge forward order laws rule high (Exactly (suc n)) p s ds
+            exactly : {ds : List Children} → IsAllPrefix g edge forward order laws rule high (λ m. (k : ℕ) × Exactly n k × (m ≡ suc k)) p s ds → IsAllPrefix g edge forward order laws rule high (Exactly (suc n)) p s ds
             exactly {ds} a = record {
               sorted = a.sorted;
               each = λ cs. (λ m. (let r = (a.each cs).0 m in (r.0, r.1.2 ∙ ap suc r.1.1)), λ d. (a.each cs).1 (d.0, (n, refl, d.1)));
@@ -313,16 +314,16 @@ module _ (g : Grammar) (test : ℕ → ℕ → ℕ → Bool) (null terminal : Sl
             (λ e. null_listed slot p q (ltb-false p q e))
           where
             nodes_listed : ((s : Slot) (a b : ℕ) → b ≤ a + d → height s < h → IsAll g edge order s a b (spread order.null_high smaller h s a b)) → p < q → terminal slot ≡ false →
-                IsAll g edge order slot p q (flat_map (λ i. map (λ children. Node i children p q) (fronts (within order.null_high smaller (spread order.null_high smaller h) p q) (rule_at g i) (order.null_high i) (parts i) p q)) (rules_of slot))
+                IsAll g edge order slot p q (flat_map (λ i. map (λ children. Node i children p q) (prefixes (within order.null_high smaller (spread order.null_high smaller h) p q) (rule_at g i) (order.null_high i) (parts i) p q)) (rules_of slot))
             nodes_listed ih spans inner =
                 all_nodes g edge forward order laws ℕ key_cmp (λ i. i) (λ i. Exactly (parts i)) slot p q spans
                 (λ t. true≢false (sym ((terminals slot).1 t) ∙ inner)) (rules_of slot)
-                (λ i. fronts (within order.null_high smaller (spread order.null_high smaller h) p q) (rule_at g i) (order.null_high i) (parts i) p q)
+                (λ i. prefixes (within order.null_high smaller (spread order.null_high smaller h) p q) (rule_at g i) (order.null_high i) (parts i) p q)
                 (rules_sorted slot)
                 (λ i j m n a b e e'. (λ z. order.cmp i (e z) j (e' z)))
                 (λ i a. (let r = (rules_are slot i).0 a in (r.0, r.1, λ n e. (plain_count (rule_at g i) n (plain i r.0)).1 e)))
                 (λ i a. (let r = (rules_are slot i).0 a in
-                fronts_all (within order.null_high smaller (spread order.null_high smaller h) p q) (rule_at g i) (order.null_high i) p q spans (known i r.0 r.1) (parts i) q (omega arith) (omega arith) (omega arith) (λ z j lo hi. absurd (omega arith))))
+                prefixes_all (within order.null_high smaller (spread order.null_high smaller h) p q) (rule_at g i) (order.null_high i) p q spans (known i r.0 r.1) (parts i) q (omega arith) (omega arith) (omega arith) (λ z j lo hi. absurd (omega arith))))
                 (λ i n a f c. (i, (rules_are slot i).1 (a, f), refl, (plain_count (rule_at g i) n (plain i a)).0 c))
               where
                 known : (i : ℕ) → i < length g.rules → Fits (rule_at g i) slot → (k r s : ℕ) → k < parts i → p ≤ r → r ≤ s → s ≤ q → Smaller (rule_at g i) p q k r s → IsAll g edge order (child_slot (rule_at g i) k) r s (within order.null_high smaller (spread order.null_high smaller h) p q (child_slot (rule_at g i) k) r s)

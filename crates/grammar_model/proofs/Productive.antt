@@ -4,7 +4,7 @@ use Rattle.std.proofs.lemmas.Bool.{cases_eq}
 use Rattle.grammar_model.specs.Grammar.{Grammar, Slot, WrittenRule, Plain, Sequence, slot_of, rule_at, child_slot, sequence_symbol, IsTerminal, IsChildCount, EachChildSlot, Fits, slot_count}
 use Rattle.grammar_model.specs.Trees.{Tree, Children, Leaf, Nulled, Node, NoChild, Child, child_count}
 use Rattle.grammar_model.specs.Analysis.{IsNullableIn, IsProductive, IsProductiveIn, EachNeeded, IsLive, IsNullable}
-use Rattle.grammar_model.specs.Derives.{Edges, Derives, DerivesFront}
+use Rattle.grammar_model.specs.Derives.{Edges, Derives, DerivesPrefix}
 
 each_needed : (P Q : Slot → Type 0) (rule : WrittenRule) → ((s : Slot) → P s → Q s) → EachNeeded P rule → EachNeeded Q rule
 each_needed P Q (Plain r) h e = λ k lt. h (child_slot (Plain r) k) (e k lt)
@@ -56,19 +56,19 @@ module _ (g : Grammar) where
       productive (Leaf s a b) slot p q d = (0, subst (IsTerminal g) d.symbol_is d.terminal)
       productive (Nulled s a) slot p q d = (d.nullable.0, nullable_productive d.nullable.0 slot d.nullable.1)
       productive (Node i cs a b) slot p q d =
-          let w = front_productive cs (rule_at g i) p q d.front in
+          let w = prefix_productive cs (rule_at g i) p q d.prefix in
           (suc w.0, inr (i, d.in_range, d.fits, inr (needed_within (rule_at g i) (child_count cs) w.0 d.complete w.1)))
 
-      pub front_productive : (cs : Children) (rule : WrittenRule) (p q : ℕ) → DerivesFront g edge rule p q cs → (k : ℕ) × Within rule (child_count cs) k
-      front_productive NoChild rule p q d = (0, λ j lt. absurd (omega arith))
-      front_productive (Child front last) rule p q (m, f, l) =
-          let w = front_productive front rule p m f in
-          let u = productive last (child_slot rule (child_count front)) m q l in
-          (u.0 + w.0, widen rule (child_count front) w.0 u.0 w.1 u.1)
+      pub prefix_productive : (cs : Children) (rule : WrittenRule) (p q : ℕ) → DerivesPrefix g edge rule p q cs → (k : ℕ) × Within rule (child_count cs) k
+      prefix_productive NoChild rule p q d = (0, λ j lt. absurd (omega arith))
+      prefix_productive (Child prefix last) rule p q (m, f, l) =
+          let w = prefix_productive prefix rule p m f in
+          let u = productive last (child_slot rule (child_count prefix)) m q l in
+          (u.0 + w.0, widen rule (child_count prefix) w.0 u.0 w.1 u.1)
 
-    pub node_live : (rule : WrittenRule) (p q : ℕ) (cs : Children) → IsChildCount rule (child_count cs) → DerivesFront g edge rule p q cs → IsLive g rule
+    pub node_live : (rule : WrittenRule) (p q : ℕ) (cs : Children) → IsChildCount rule (child_count cs) → DerivesPrefix g edge rule p q cs → IsLive g rule
     node_live rule p q cs c d =
-        let w = front_productive cs rule p q d in
+        let w = prefix_productive cs rule p q d in
         each_needed (IsProductiveIn w.0 g) (IsProductive g) rule (λ s h. (w.0, h)) (needed_within rule (child_count cs) w.0 c w.1)
 
 -- ---- nullable by one number of rounds

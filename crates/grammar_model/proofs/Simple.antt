@@ -1,37 +1,31 @@
 -- The plain lister of simple grammars lists all derivations.
 use Rattle.std.proofs.Common.{◌≡◌, ◌≢◌, ℕ, zero, suc, ◌<◌, ◌≤◌, ◌+◌, Bool, true, false, cond, List, [], ◌∷◌, ◌++◌, length, ◌⊎◌, inl, inr, refl, sym, ap, ◌∙◌, subst, ⊎_elim, arith}
-use Rattle.std.specs.Prelude.{◌↔◌, ◌==◌, nat_lt, nat_le, slice_index, slice_index_or, filter, pos}
+use Rattle.std.specs.Prelude.{◌↔◌, ◌==◌, nat_lt, nat_le, slice_index, slice_index_or, pos}
 use Rattle.std.specs.List.{list_any}
 use Rattle.std.specs.List.Sorted.{IsStrictlySortedBy}
 use Rattle.std.specs.declared.cmp.Ordering.{Ordering}
 use Rattle.std.specs.declared.cmp.Ordering.TheVariants.{Less, Equal, Greater}
-use Rattle.std.specs.Ordering.{ordering_then, nat_cmp, int_cmp, bool_cmp, MatchOrdering}
+use Rattle.std.specs.Ordering.{ordering_then, nat_cmp, int_cmp, bool_cmp}
 use Rattle.std.specs.Cmp.{ranks}
 use Rattle.std.proofs.lemmas.Bool.{eqb-true, eqb-false, eq-eqb, ne_eqb, leb-true, le-leb, ltb-true, ltb-false, not-true, not-false, and_parts, and_from, or_cases, or_parts, cond_both, true≢false, cases_eq}
 use Rattle.std.proofs.lemmas.List.Kept.{IsStrictlySortedBy-filter}
+use Rattle.finite_sets.proofs.Clauses.{nat_cmp-less}
+use Rattle.finite_sets.proofs.Members.{among_filter, among_filter_from, among_from, contains_from, among_left, among_right, among_either, Among}
 use Rattle.grammar_model.specs.Grammar.{Grammar, Slot, WrittenRule, Plain, Sequence, lhs_of, rule_at, no_rule, Fits, IsChildCount, IsTerminal, child_slot, slot_count, EachChildSlot, has_trailing}
 use Rattle.grammar_model.specs.Trees.{Tree, Children, Leaf, Nulled, Node, NoChild, Child, child_count}
 use Rattle.grammar_model.specs.Analysis.{IsNullableIn, IsStar}
-use Rattle.grammar_model.specs.Derives.{Edges, Derives, DerivesFront}
+use Rattle.grammar_model.specs.Derives.{Edges, Derives, DerivesPrefix}
 use Rattle.grammar_model.specs.Order.{Ranking, NoRanks, RuleRanks, HighRanks, RuleOrder, rank_by, rank_order}
 use Rattle.grammar_model.specs.All.{IsAll}
-use Rattle.grammar_model.specs.Simple.{IsSimple, IsSimpleRule, Tested, is_terminal, fits, numbers, places, part_count, Below, simple_fronts, simple_leaves, fitting, simple_nodes, simple_trees}
+use Rattle.grammar_model.specs.Simple.{IsSimple, IsSimpleRule, Tested, is_terminal, fits, numbers, places, part_count, Below, simple_prefixes, simple_leaves, fitting, simple_nodes, simple_trees}
 use Rattle.grammar_model.proofs.Sorting.{ranks_order}
 use Rattle.grammar_model.proofs.Total.{all_unique}
-use Rattle.grammar_model.proofs.Lists.{Among, among_from, contains_from, among_left, among_right, among_either, sorted_append, each_from}
-use Rattle.grammar_model.proofs.Compose.{GoForward, at_cmp, place_of, IsAllFront, all_with_last, all_nodes}
+use Rattle.grammar_model.proofs.Lists.{sorted_append, each_from}
+use Rattle.grammar_model.proofs.Compose.{GoForward, at_cmp, place_of, IsAllPrefix, all_with_last, all_nodes}
 
 -- ---- numbers, places, filters
 
-pub nat_cmp-less : (a b : ℕ) → a < b → nat_cmp a b ≡ Less
-nat_cmp-less a b h = go (nat_cmp a b) (ranks a b)
-  where
-    go : (o : Ordering) → MatchOrdering o (a < b) (a ≡ b) (b < a) → o ≡ Less
-    go Less m = refl
-    go Equal m = absurd (omega arith)
-    go Greater m = absurd (omega arith)
-
-among_numbers_from : (n i : ℕ) → Among i (numbers n) → i < n
+pub among_numbers_from : (n i : ℕ) → Among i (numbers n) → i < n
 among_numbers_from zero i m = absurd m
 among_numbers_from (suc n) i m = below (λ k. among_numbers_from n i k) (among_either i (numbers n) (n ∷ []) m)
   where
@@ -40,7 +34,7 @@ among_numbers_from (suc n) i m = below (λ k. among_numbers_from n i k) (among_e
     below ih (inr (inl e)) = omega arith
     below ih (inr (inr b)) = absurd b
 
-among_numbers : (n i : ℕ) → i < n → Among i (numbers n)
+pub among_numbers : (n i : ℕ) → i < n → Among i (numbers n)
 among_numbers zero i h = absurd (omega arith)
 among_numbers (suc n) i h = pick (λ k. among_numbers n i k) (cases_eq i n)
   where
@@ -56,27 +50,6 @@ numbers_sorted (suc n) = sorted_append nat_cmp (numbers n) (n ∷ []) (numbers_s
     less : (x y : ℕ) → Among x (numbers n) → Among y (n ∷ []) → nat_cmp x y ≡ Less
     less x y m (inl e) = let h = among_numbers_from n x m in nat_cmp-less x y (omega arith)
     less x y m (inr b) = absurd b
-
-among_filter_from : {X : Type 0} (test : X → Bool) (x : X) (xs : List X) → Among x (filter test xs) → Among x xs × (test x ≡ true)
-among_filter_from test x [] m = absurd m
-among_filter_from {X} test x (y ∷ ys) m = split (λ k. among_filter_from test x ys k) (test y) refl m
-  where
-    split : (Among x (filter test ys) → Among x ys × (test x ≡ true)) → (b : Bool) → test y ≡ b → Among x (cond b (y ∷ filter test ys) (filter test ys)) → Among x (y ∷ ys) × (test x ≡ true)
-    split ih true e (inl h) = (inl h, subst (λ z. test z ≡ true) h e)
-    split ih true e (inr k) = let r = ih k in (inr r.0, r.1)
-    split ih false e k = let r = ih k in (inr r.0, r.1)
-
-among_filter : {X : Type 0} (test : X → Bool) (x : X) (xs : List X) → Among x xs → test x ≡ true → Among x (filter test xs)
-among_filter test x [] m e = absurd m
-among_filter {X} test x (y ∷ ys) m e = cond_both (test y) (y ∷ filter test ys) (filter test ys) (λ l. Among x l) (λ t. kept (λ k. among_filter test x ys k e) m) (λ f. left (λ k. among_filter test x ys k e) f m)
-  where
-    kept : (Among x ys → Among x (filter test ys)) → (y ≡ x) ⊎ Among x ys → Among x (y ∷ filter test ys)
-    kept ih (inl h) = inl h
-    kept ih (inr k) = inr (ih k)
-
-    left : (Among x ys → Among x (filter test ys)) → test y ≡ false → (y ≡ x) ⊎ Among x ys → Among x (filter test ys)
-    left ih f (inl h) = absurd (true≢false (sym (subst (λ z. test z ≡ true) (sym h) e) ∙ f))
-    left ih f (inr k) = ih k
 
 pub among_places_from : (p q r : ℕ) → Among r (places p q) → (p ≤ r) × (r < q)
 among_places_from p zero r m = absurd m
@@ -193,51 +166,51 @@ module _ (g : Grammar) (test : ℕ → ℕ → ℕ → Bool) (ranking : Ranking)
   spans slot p q (Nulled s a) d = absurd (none_nullable d.nullable.0 slot d.nullable.1)
   spans slot p q (Node i cs a b) d = d.spans
 
-  front_spans : (rule : WrittenRule) (p q : ℕ) (cs : Children) → DerivesFront g edge rule p q cs → p + child_count cs ≤ q
-  front_spans rule p q NoChild d = omega arith
-  front_spans rule p q (Child cs t) (r, f, d) =
-      let a = front_spans rule p r cs f in
+  prefix_spans : (rule : WrittenRule) (p q : ℕ) (cs : Children) → DerivesPrefix g edge rule p q cs → p + child_count cs ≤ q
+  prefix_spans rule p q NoChild d = omega arith
+  prefix_spans rule p q (Child cs t) (r, f, d) =
+      let a = prefix_spans rule p r cs f in
       let b = spans (child_slot rule (child_count cs)) r q t d in
       omega arith
 
   abbrev Exactly : ℕ → ℕ → Type 0
   Exactly n m = m ≡ n
 
-  no_front : (rule : WrittenRule) (high : Bool) (p q : ℕ) → IsAllFront g edge forward order (ranks_order g ranking) rule high (Exactly 0) p q (simple_fronts (λ s a b. []) rule 0 p q)
+  no_prefix : (rule : WrittenRule) (high : Bool) (p q : ℕ) → IsAllPrefix g edge forward order (ranks_order g ranking) rule high (Exactly 0) p q (simple_prefixes (λ s a b. []) rule 0 p q)
   unfolding IsStrictlySortedBy
-  no_front rule high p q = cond_both (p == q) (NoChild ∷ []) [] (IsAllFront g edge forward order (ranks_order g ranking) rule high (Exactly 0) p q) here nowhere
+  no_prefix rule high p q = cond_both (p == q) (NoChild ∷ []) [] (IsAllPrefix g edge forward order (ranks_order g ranking) rule high (Exactly 0) p q) here nowhere
     where
-      only : (cs : Children) → DerivesFront g edge rule p q cs × Exactly 0 (child_count cs) → NoChild ≡ cs
+      only : (cs : Children) → DerivesPrefix g edge rule p q cs × Exactly 0 (child_count cs) → NoChild ≡ cs
       only NoChild d = refl
       only (Child cs t) d = let e = d.1 in absurd (omega arith)
 
-      end : (cs : Children) → DerivesFront g edge rule p q cs × Exactly 0 (child_count cs) → p ≡ q
+      end : (cs : Children) → DerivesPrefix g edge rule p q cs × Exactly 0 (child_count cs) → p ≡ q
       end NoChild d = d.0
       end (Child cs t) d = let e = d.1 in absurd (omega arith)
 
-      here : (p == q) ≡ true → IsAllFront g edge forward order (ranks_order g ranking) rule high (Exactly 0) p q (NoChild ∷ [])
+      here : (p == q) ≡ true → IsAllPrefix g edge forward order (ranks_order g ranking) rule high (Exactly 0) p q (NoChild ∷ [])
       here e = record {
         sorted = (tt, tt);
-        each = λ cs. (λ m. elim m [ inl h ↦ subst (λ x. DerivesFront g edge rule p q x × Exactly 0 (child_count x)) h (eqb-true p q e, refl) | inr b ↦ absurd b ], λ d. inl (only cs d));
+        each = λ cs. (λ m. elim m [ inl h ↦ subst (λ x. DerivesPrefix g edge rule p q x × Exactly 0 (child_count x)) h (eqb-true p q e, refl) | inr b ↦ absurd b ], λ d. inl (only cs d));
       }
 
-      nowhere : (p == q) ≡ false → IsAllFront g edge forward order (ranks_order g ranking) rule high (Exactly 0) p q []
+      nowhere : (p == q) ≡ false → IsAllPrefix g edge forward order (ranks_order g ranking) rule high (Exactly 0) p q []
       nowhere e = record { sorted = tt; each = λ cs. (λ m. absurd m, λ d. eqb-false p q e (end cs d)) }
 
   -- the first n children, where what is listed below is all at the parts that are short enough
-  fronts_all : (below : Below) (rule : WrittenRule) (high : Bool) (p n q : ℕ) →
+  prefixes_all : (below : Below) (rule : WrittenRule) (high : Bool) (p n q : ℕ) →
       ((k r s : ℕ) → k < n → p + k ≤ r → r < s → s + n ≤ q + suc k → IsAll g edge order (child_slot rule k) r s (below (child_slot rule k) r s)) →
-      IsAllFront g edge forward order (ranks_order g ranking) rule high (Exactly n) p q (simple_fronts below rule n p q)
-  fronts_all below rule high p zero q h = no_front rule high p q
-  fronts_all below rule high p (suc n) q h =
+      IsAllPrefix g edge forward order (ranks_order g ranking) rule high (Exactly n) p q (simple_prefixes below rule n p q)
+  prefixes_all below rule high p zero q h = no_prefix rule high p q
+  prefixes_all below rule high p (suc n) q h =
       exactly (all_with_last g edge forward order (ranks_order g ranking) rule high (Exactly n) (child_slot rule n) (λ m e. ap (child_slot rule) e) p q (places (p + n) q)
-      (λ r. simple_fronts below rule n p r) (λ r. below (child_slot rule n) r q) (places_sorted high (p + n) q q (omega arith))
-      (λ r m. let b = among_places_from (p + n) q r m in fronts_all below rule high p n r (λ k r' s lt a c d. h k r' s (omega arith) a c (omega arith)))
+      (λ r. simple_prefixes below rule n p r) (λ r. below (child_slot rule n) r q) (places_sorted high (p + n) q q (omega arith))
+      (λ r m. let b = among_places_from (p + n) q r m in prefixes_all below rule high p n r (λ k r' s lt a c d. h k r' s (omega arith) a c (omega arith)))
       (λ r m. let b = among_places_from (p + n) q r m in h n r q (omega arith) b.0 b.1 (omega arith))
-      (λ r cs t f e d. let a = front_spans rule p r cs f in let c = spans (child_slot rule n) r q t d in among_places (p + n) q r (omega arith) c))
+      (λ r cs t f e d. let a = prefix_spans rule p r cs f in let c = spans (child_slot rule n) r q t d in among_places (p + n) q r (omega arith) c))
     where
-      exactly : {fronts : List Children} → IsAllFront g edge forward order (ranks_order g ranking) rule high (λ m. (k : ℕ) × Exactly n k × (m ≡ suc k)) p q fronts → IsAllFront g edge forward order (ranks_order g ranking) rule high (Exactly (suc n)) p q fronts
-      exactly {fronts} a = record {
+      exactly : {prefixes : List Children} → IsAllPrefix g edge forward order (ranks_order g ranking) rule high (λ m. (k : ℕ) × Exactly n k × (m ≡ suc k)) p q prefixes → IsAllPrefix g edge forward order (ranks_order g ranking) rule high (Exactly (suc n)) p q prefixes
+      exactly {prefixes} a = record {
         sorted = a.sorted;
         each = λ cs. (λ m. (let r = (a.each cs).0 m in (r.0, r.1.2 ∙ ap suc r.1.1)), λ d. (a.each cs).1 (d.0, (n, refl, d.1)));
       }
@@ -318,11 +291,11 @@ module _ (g : Grammar) (test : ℕ → ℕ → ℕ → Bool) (ranking : Ranking)
       IsAll g edge order slot p q (simple_nodes g below slot p q)
   nodes_all below slot p q lt inner parts =
       all_nodes g edge forward order (ranks_order g ranking) ℕ nat_cmp (λ i. i) (λ i. Exactly (part_count (rule_at g i))) slot p q lt
-      (no_terminal_from g slot.symbol inner) (fitting g slot) (λ i. simple_fronts below (rule_at g i) (part_count (rule_at g i)) p q)
+      (no_terminal_from g slot.symbol inner) (fitting g slot) (λ i. simple_prefixes below (rule_at g i) (part_count (rule_at g i)) p q)
       (IsStrictlySortedBy-filter nat_cmp (λ i. fits (rule_at g i) slot) (numbers (length g.rules)) (numbers_sorted (length g.rules)))
       (λ i j m n a b e e'. by_number i j m n (in_fitting slot i a).0 (in_fitting slot j b).0)
       (λ i a. (let f = in_fitting slot i a in (f.0, f.1, λ n e. (count_is g (rule_at g i) n (simple i f.0)).1 e)))
-      (λ i a. (let f = in_fitting slot i a in fronts_all below (rule_at g i) (order.null_high i) p (part_count (rule_at g i)) q (parts i f.0)))
+      (λ i a. (let f = in_fitting slot i a in prefixes_all below (rule_at g i) (order.null_high i) p (part_count (rule_at g i)) q (parts i f.0)))
       (λ i n a f c. (i, among_filter (λ i. fits (rule_at g i) slot) i (numbers (length g.rules)) (among_numbers (length g.rules) i a) (from_fits (rule_at g i) slot f), refl, (count_is g (rule_at g i) n (simple i a)).0 c))
 
   pub trees_all : (d : ℕ) (slot : Slot) (p q : ℕ) → q < p + d → IsAll g edge order slot p q (simple_trees g test d slot p q)

@@ -1,13 +1,14 @@
 -- Comparing trees is a total order, up to ties.
-use Rattle.std.proofs.Common.{◌≡◌, ℕ, ◌<◌, Bool, refl, subst}
+use Rattle.std.proofs.Common.{◌≡◌, ℕ, Bool, refl, subst}
 use Rattle.std.specs.declared.cmp.Ordering.{Ordering}
 use Rattle.std.specs.declared.cmp.Ordering.TheVariants.{Less, Equal, Greater}
-use Rattle.std.specs.Ordering.{ordering_reverse, nat_cmp, MatchOrdering}
-use Rattle.std.specs.Cmp.{IsTotalOrder, nat_cmp_total, int_cmp_total, bool_cmp_total, then_total, on_total, back_total, ranks}
+use Rattle.std.specs.Ordering.{ordering_reverse}
+use Rattle.std.specs.Cmp.{IsTotalOrder, nat_cmp_total, int_cmp_total, bool_cmp_total, then_total, on_total, back_total}
+use Rattle.finite_sets.proofs.Clauses.{nat_cmp-Equal, then_equal}
 use Rattle.grammar_model.specs.Grammar.{Grammar, rule_at, has_trailing}
 use Rattle.grammar_model.specs.Trees.{Tree, Children, Leaf, Nulled, Node, NoChild, Child, child_count, from_of}
 use Rattle.grammar_model.specs.Order.{Ranking, RuleOrder, IsRuleOrder, rank_by, rule_cmp, rank_order, null_place, start_cmp, tree_cmp, children_cmp}
-use Rattle.grammar_model.proofs.Chains.{Chains, chains_of, Chains-then, reverse-then, both_Equal, total_from_chains}
+use Rattle.grammar_model.proofs.Chains.{Chains, chains_of, Chains-then, reverse-then, total_from_chains}
 
 -- a rule with the number of its children
 abbrev pub Made : Type 0
@@ -21,11 +22,8 @@ rules_total g ranking =
 pub start_total : (high : Bool) → IsTotalOrder (start_cmp high)
 start_total high = then_total (on_total (null_place high) nat_cmp_total) (on_total from_of (back_total nat_cmp_total))
 
-pub nat_cmp-Equal : (x y : ℕ) → nat_cmp x y ≡ Equal → x ≡ y
-nat_cmp-Equal x y e = subst (λ o. MatchOrdering o (x < y) (x ≡ y) (y < x)) e (ranks x y)
-
 pub rule_cmp-Equal : (g : Grammar) (ranking : Ranking) (i m j n : ℕ) → rule_cmp g ranking i m j n ≡ Equal → i ≡ j
-rule_cmp-Equal g ranking i m j n e = nat_cmp-Equal i j (both_Equal _ _ (both_Equal _ _ e).1).0
+rule_cmp-Equal g ranking i m j n e = nat_cmp-Equal i j (then_equal _ _ (then_equal _ _ e).1).0
 
 pub ranks_order : (g : Grammar) (ranking : Ranking) → IsRuleOrder (rank_order g ranking)
 ranks_order g ranking = record { total = rules_total g ranking; same_rule = rule_cmp-Equal g ranking }

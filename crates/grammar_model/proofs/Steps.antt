@@ -6,7 +6,7 @@ use Rattle.grammar_model.specs.Steps.{Step, RuleStep, steps_of, steps_of_all, be
 -- the children of one list after those of another
 abbrev pub join : Children → Children → Children
 join stack NoChild = stack
-join stack (Child front last) = Child (join stack front) last
+join stack (Child prefix last) = Child (join stack prefix) last
 
 pub after_steps-append : (stack : Children) (xs ys : List Step) → after_steps stack (xs ++ ys) ≡ after_steps (after_steps stack xs) ys
 after_steps-append stack [] ys = refl
@@ -14,11 +14,11 @@ after_steps-append stack (x ∷ xs) ys = after_steps-append (after_step stack x)
 
 pub below_newest-join : (stack cs : Children) → below_newest (child_count cs) (join stack cs) ≡ stack
 below_newest-join stack NoChild = refl
-below_newest-join stack (Child front last) = below_newest-join stack front
+below_newest-join stack (Child prefix last) = below_newest-join stack prefix
 
 pub newest-join : (stack cs : Children) → newest (child_count cs) (join stack cs) ≡ cs
 newest-join stack NoChild = refl
-newest-join stack (Child front last) = ap (λ cs. Child cs last) (newest-join stack front)
+newest-join stack (Child prefix last) = ap (λ cs. Child cs last) (newest-join stack prefix)
 
 mutual
   pub steps_make : (t : Tree) (stack : Children) → after_steps stack (steps_of t) ≡ Child stack t
@@ -31,10 +31,10 @@ mutual
 
   pub steps_make_all : (cs : Children) (stack : Children) → after_steps stack (steps_of_all cs) ≡ join stack cs
   steps_make_all NoChild stack = refl
-  steps_make_all (Child front last) stack =
-      after_steps-append stack (steps_of_all front) (steps_of last)
-      ∙ ap (λ x. after_steps x (steps_of last)) (steps_make_all front stack)
-      ∙ steps_make last (join stack front)
+  steps_make_all (Child prefix last) stack =
+      after_steps-append stack (steps_of_all prefix) (steps_of last)
+      ∙ ap (λ x. after_steps x (steps_of last)) (steps_make_all prefix stack)
+      ∙ steps_make last (join stack prefix)
 
 pub steps_tell : (t u : Tree) → steps_of t ≡ steps_of u → t ≡ u
 steps_tell t u e =

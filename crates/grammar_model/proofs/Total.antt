@@ -5,14 +5,15 @@ use Rattle.std.specs.declared.cmp.Ordering.TheVariants.{Less, Equal, Greater}
 use Rattle.grammar_model.specs.Grammar.{Grammar, Slot, WrittenRule, rule_at, IsTerminal, child_slot}
 use Rattle.grammar_model.specs.Trees.{Tree, Children, Leaf, Nulled, Node, NoChild, Child, child_count, from_of}
 use Rattle.grammar_model.specs.Analysis.{IsNullable}
-use Rattle.grammar_model.specs.Derives.{Edges, Derives, DerivesFront}
+use Rattle.grammar_model.specs.Derives.{Edges, Derives, DerivesPrefix}
 use Rattle.grammar_model.specs.Order.{IsRuleOrder, RuleOrder, start_cmp, tree_cmp, children_cmp, Before}
-use Rattle.grammar_model.proofs.Chains.{both_Equal}
-use Rattle.grammar_model.proofs.Sorting.{nat_cmp-Equal, trees_total}
-use Rattle.grammar_model.proofs.Lists.{among_from, contains_from, one_sorted}
+use Rattle.grammar_model.proofs.Sorting.{trees_total}
+use Rattle.grammar_model.proofs.Lists.{one_sorted}
 use Rattle.grammar_model.specs.All.{IsOrdered, IsAll}
 use Rattle.std.specs.Ordering.{ordering_reverse}
 use Rattle.std.specs.Cmp.{tied_itself}
+use Rattle.finite_sets.proofs.Members.{among_from, contains_from}
+use Rattle.finite_sets.proofs.Clauses.{nat_cmp-Equal, then_equal}
 
 pub nullable_not_terminal : (g : Grammar) (slot : Slot) → IsNullable g slot → IsTerminal g slot.symbol → ⊥
 nullable_not_terminal g slot (zero, n) t = n
@@ -38,23 +39,23 @@ module _ (g : Grammar) (edge : Edges) where
       same_tree (Node i cs a b) (Leaf s' a' b') slot p q e d d' = cc
       same_tree (Node i cs a b) (Nulled s' a') slot p q e d d' = cc
       same_tree (Node i cs a b) (Node j ds a' b') slot p q e d d' =
-          let both = both_Equal (order.cmp i (child_count cs) j (child_count ds)) _ e in
+          let both = then_equal (order.cmp i (child_count cs) j (child_count ds)) _ e in
           let i_is : i ≡ j = laws.same_rule i _ j _ both.0 in
-          let front' : DerivesFront g edge (rule_at g i) p q ds = subst (λ n. DerivesFront g edge (rule_at g n) p q ds) (sym i_is) d'.front in
-          let cs_is : cs ≡ ds = same_children cs ds _ (rule_at g i) p q both.1 d.front front' in
+          let prefix' : DerivesPrefix g edge (rule_at g i) p q ds = subst (λ n. DerivesPrefix g edge (rule_at g n) p q ds) (sym i_is) d'.prefix in
+          let cs_is : cs ≡ ds = same_children cs ds _ (rule_at g i) p q both.1 d.prefix prefix' in
           λ k. Node (i_is k) (cs_is k) ((d.from_is ∙ sym d'.from_is) k) ((d.to_is ∙ sym d'.to_is) k)
 
-      pub same_children : (cs ds : Children) (high : Bool) (rule : WrittenRule) (p q : ℕ) → children_cmp order high cs ds ≡ Equal → DerivesFront g edge rule p q cs → DerivesFront g edge rule p q ds → cs ≡ ds
+      pub same_children : (cs ds : Children) (high : Bool) (rule : WrittenRule) (p q : ℕ) → children_cmp order high cs ds ≡ Equal → DerivesPrefix g edge rule p q cs → DerivesPrefix g edge rule p q ds → cs ≡ ds
       same_children NoChild NoChild high rule p q e d d' = refl
       same_children NoChild (Child ds u) high rule p q e d d' = cc
       same_children (Child cs t) NoChild high rule p q e d d' = cc
       same_children (Child cs t) (Child ds u) high rule p q e d d' =
-          let both = both_Equal (start_cmp high t u) _ e in
-          let rest = both_Equal (children_cmp order high cs ds) _ both.1 in
-          let from : from_of u ≡ from_of t = nat_cmp-Equal _ _ (both_Equal _ _ both.0).1 in
+          let both = then_equal (start_cmp high t u) _ e in
+          let rest = then_equal (children_cmp order high cs ds) _ both.1 in
+          let from : from_of u ≡ from_of t = nat_cmp-Equal _ _ (then_equal _ _ both.0).1 in
           let r_is : d'.0 ≡ d.0 = sym (from_is _ d'.0 q u d'.2) ∙ from ∙ from_is _ d.0 q t d.2 in
-          let front' : DerivesFront g edge rule p d.0 ds = subst (λ r. DerivesFront g edge rule p r ds) r_is d'.1 in
-          let cs_is : cs ≡ ds = same_children cs ds high rule p d.0 rest.0 d.1 front' in
+          let prefix' : DerivesPrefix g edge rule p d.0 ds = subst (λ r. DerivesPrefix g edge rule p r ds) r_is d'.1 in
+          let cs_is : cs ≡ ds = same_children cs ds high rule p d.0 rest.0 d.1 prefix' in
           let last' : Derives g edge (child_slot rule (child_count ds)) d.0 q u = subst (λ r. Derives g edge (child_slot rule (child_count ds)) r q u) r_is d'.2 in
           let last'' : Derives g edge (child_slot rule (child_count cs)) d.0 q u = subst (λ xs. Derives g edge (child_slot rule (child_count xs)) d.0 q u) (sym cs_is) last' in
           let t_is : t ≡ u = same_tree t u _ d.0 q rest.1 d.2 last'' in

@@ -1,24 +1,17 @@
 -- The steps of a tree leave its value on top of a list of values.
 use Rattle.std.proofs.Common.{◌≡◌, ℕ, ◌-◌, List, [], ◌∷◌, ◌++◌, length, take, drop, refl, sym, ap, ◌∙◌, arith, append_assoc, length-append}
+use Rattle.std.proofs.Math.Seq.{take-append_seam, drop-append_seam}
 use Rattle.grammar_model.specs.Grammar.{Grammar}
 use Rattle.grammar_model.specs.Trees.{Tree, Children, Leaf, Nulled, Node, NoChild, Child, child_count}
 use Rattle.grammar_model.specs.Steps.{Step, RuleStep, steps_of, steps_of_all}
 use Rattle.grammar_model.specs.Values.{Value, Show, Meaning, Token, value_of_rule, value_of, values_of_all, told, told_all}
 
-take-append_same : {X : Type 0} (xs ys : List X) → take (length xs) (xs ++ ys) ≡ xs
-take-append_same [] ys = refl
-take-append_same (x ∷ xs) ys = ap (λ l. x ∷ l) (take-append_same xs ys)
-
-drop-append_same : {X : Type 0} (xs ys : List X) → drop (length xs) (xs ++ ys) ≡ ys
-drop-append_same [] ys = refl
-drop-append_same (x ∷ xs) ys = drop-append_same xs ys
-
 module _ (show : Show) (g : Grammar) (meaning : Meaning) (tokens : List Token) where
   length-values : (cs : Children) → length (values_of_all show g meaning tokens cs) ≡ child_count cs
   length-values NoChild = refl
-  length-values (Child front last) =
-      let e = length-values front in
-      omega (arith, length-append (values_of_all show g meaning tokens front) (value_of show g meaning tokens last ∷ []))
+  length-values (Child prefix last) =
+      let e = length-values prefix in
+      omega (arith, length-append (values_of_all show g meaning tokens prefix) (value_of show g meaning tokens last ∷ []))
 
   told_all-append : (vs : List Value) (xs ys : List Step) → told_all show g meaning tokens vs (xs ++ ys) ≡ told_all show g meaning tokens (told_all show g meaning tokens vs xs) ys
   told_all-append vs [] ys = refl
@@ -28,7 +21,7 @@ module _ (show : Show) (g : Grammar) (meaning : Meaning) (tokens : List Token) w
   told_rule vs ws i n from to e =
       let l : length (vs ++ ws) - n ≡ length vs = omega (arith, length-append vs ws) in
       (λ j. take (l j) (vs ++ ws) ++ value_of_rule show g meaning tokens i n from to (drop (l j) (vs ++ ws)) ∷ [])
-      ∙ (λ j. take-append_same vs ws j ++ value_of_rule show g meaning tokens i n from to (drop-append_same vs ws j) ∷ [])
+      ∙ (λ j. take-append_seam vs ws j ++ value_of_rule show g meaning tokens i n from to (drop-append_seam vs ws j) ∷ [])
 
   mutual
     pub steps_tell_value : (t : Tree) (vs : List Value) → told_all show g meaning tokens vs (steps_of t) ≡ vs ++ value_of show g meaning tokens t ∷ []
@@ -41,8 +34,8 @@ module _ (show : Show) (g : Grammar) (meaning : Meaning) (tokens : List Token) w
 
     pub steps_tell_values : (cs : Children) (vs : List Value) → told_all show g meaning tokens vs (steps_of_all cs) ≡ vs ++ values_of_all show g meaning tokens cs
     steps_tell_values NoChild vs = sym (Rattle.std.proofs.lemmas.List.append-nil vs)
-    steps_tell_values (Child front last) vs =
-        told_all-append vs (steps_of_all front) (steps_of last)
-        ∙ ap (λ ws. told_all show g meaning tokens ws (steps_of last)) (steps_tell_values front vs)
-        ∙ steps_tell_value last (vs ++ values_of_all show g meaning tokens front)
-        ∙ append_assoc vs (values_of_all show g meaning tokens front) (value_of show g meaning tokens last ∷ [])
+    steps_tell_values (Child prefix last) vs =
+        told_all-append vs (steps_of_all prefix) (steps_of last)
+        ∙ ap (λ ws. told_all show g meaning tokens ws (steps_of last)) (steps_tell_values prefix vs)
+        ∙ steps_tell_value last (vs ++ values_of_all show g meaning tokens prefix)
+        ∙ append_assoc vs (values_of_all show g meaning tokens prefix) (value_of show g meaning tokens last ∷ [])

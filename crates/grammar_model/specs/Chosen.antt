@@ -19,12 +19,12 @@ abbrev mutual
   pub AreBest : Grammar → Edges → Slot → Tree → Type 0
   AreBest g edge slot (Leaf symbol from to) = ⊤
   AreBest g edge slot (Nulled symbol at) = ⊤
-  AreBest g edge slot (Node rule children from to) = IsBest g edge slot from to rule × AreBestFront g edge (rule_at g rule) children
+  AreBest g edge slot (Node rule children from to) = IsBest g edge slot from to rule × AreBestPrefix g edge (rule_at g rule) children
 
   -- the same of the first children of a rule
-  pub AreBestFront : Grammar → Edges → WrittenRule → Children → Type 0
-  AreBestFront g edge rule NoChild = ⊤
-  AreBestFront g edge rule (Child front last) = AreBestFront g edge rule front × AreBest g edge (child_slot rule (child_count front)) last
+  pub AreBestPrefix : Grammar → Edges → WrittenRule → Children → Type 0
+  AreBestPrefix g edge rule NoChild = ⊤
+  AreBestPrefix g edge rule (Child prefix last) = AreBestPrefix g edge rule prefix × AreBest g edge (child_slot rule (child_count prefix)) last
 
 -- the ranking chooses this derivation of the slot
 abbrev pub IsChosen : Ranking → Grammar → Edges → Slot → Tree → Type 0

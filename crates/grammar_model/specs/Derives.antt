@@ -41,17 +41,17 @@ pub record IsNode (g : Grammar) (slot : Slot) (p q i count from to : ℕ) (child
   pub in_range : i < length g.rules
   pub fits : Fits (rule_at g i) slot
   pub complete : IsChildCount (rule_at g i) count
-  pub front : children
+  pub prefix : children
 
 abbrev mutual
   pub Derives : Grammar → Edges → Slot → ℕ → ℕ → Tree → Type 0
   Derives g edge slot p q (Leaf symbol from to) = IsLeaf g edge slot p q symbol from to
   Derives g edge slot p q (Nulled symbol at) = IsNulled g slot p q symbol at
   Derives g edge slot p q (Node i children from to) =
-      IsNode g slot p q i (child_count children) from to (DerivesFront g edge (rule_at g i) p q children)
+      IsNode g slot p q i (child_count children) from to (DerivesPrefix g edge (rule_at g i) p q children)
 
   -- the first children of a rule
-  pub DerivesFront : Grammar → Edges → WrittenRule → ℕ → ℕ → Children → Type 0
-  DerivesFront g edge rule p q NoChild = p ≡ q
-  DerivesFront g edge rule p q (Child front last) =
-      (r : ℕ) × DerivesFront g edge rule p r front × Derives g edge (child_slot rule (child_count front)) r q last
+  pub DerivesPrefix : Grammar → Edges → WrittenRule → ℕ → ℕ → Children → Type 0
+  DerivesPrefix g edge rule p q NoChild = p ≡ q
+  DerivesPrefix g edge rule p q (Child prefix last) =
+      (r : ℕ) × DerivesPrefix g edge rule p r prefix × Derives g edge (child_slot rule (child_count prefix)) r q last

@@ -59,10 +59,10 @@ abbrev mutual
 
   pub children_cmp : RuleOrder → Bool → Children → Children → Ordering
   children_cmp order high NoChild NoChild = Equal
-  children_cmp order high NoChild (Child front last) = Less
-  children_cmp order high (Child front last) NoChild = Greater
-  children_cmp order high (Child front last) (Child front' last') =
-      ordering_then (start_cmp high last last') (ordering_then (children_cmp order high front front') (tree_cmp order last last'))
+  children_cmp order high NoChild (Child prefix last) = Less
+  children_cmp order high (Child prefix last) NoChild = Greater
+  children_cmp order high (Child prefix last) (Child prefix' last') =
+      ordering_then (start_cmp high last last') (ordering_then (children_cmp order high prefix prefix') (tree_cmp order last last'))
 
 abbrev pub Before : RuleOrder → Tree → Tree → Type 0
 Before order t u = tree_cmp order t u ≡ Less

@@ -45,10 +45,10 @@ abbrev pub Below : Type 0
 Below = Slot → ℕ → ℕ → List Tree
 
 -- the first n children
-abbrev pub simple_fronts : Below → WrittenRule → (n p q : ℕ) → List Children
-simple_fronts below rule zero p q = if p == q then NoChild ∷ [] else []
-simple_fronts below rule (suc n) p q =
-    flat_map (λ r. flat_map (λ front. map (Child front) (below (child_slot rule n) r q)) (simple_fronts below rule n p r)) (places (p + n) q)
+abbrev pub simple_prefixes : Below → WrittenRule → (n p q : ℕ) → List Children
+simple_prefixes below rule zero p q = if p == q then NoChild ∷ [] else []
+simple_prefixes below rule (suc n) p q =
+    flat_map (λ r. flat_map (λ prefix. map (Child prefix) (below (child_slot rule n) r q)) (simple_prefixes below rule n p r)) (places (p + n) q)
 
 abbrev pub simple_leaves : (ℕ → ℕ → ℕ → Bool) → Below
 simple_leaves test slot p q = if test slot.symbol p q then Leaf slot.symbol p q ∷ [] else []
@@ -58,7 +58,7 @@ fitting g slot = filter (λ i. fits (rule_at g i) slot) (numbers (length g.rules
 
 abbrev pub simple_nodes : Grammar → Below → Below
 simple_nodes g below slot p q =
-    flat_map (λ i. map (λ children. Node i children p q) (simple_fronts below (rule_at g i) (part_count (rule_at g i)) p q)) (fitting g slot)
+    flat_map (λ i. map (λ children. Node i children p q) (simple_prefixes below (rule_at g i) (part_count (rule_at g i)) p q)) (fitting g slot)
 
 -- all derivations that span fewer than d places
 abbrev pub simple_trees : Grammar → (ℕ → ℕ → ℕ → Bool) → ℕ → Below

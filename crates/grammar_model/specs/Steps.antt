@@ -17,18 +17,18 @@ abbrev mutual
 
   pub steps_of_all : Children → List Step
   steps_of_all NoChild = []
-  steps_of_all (Child front last) = steps_of_all front ++ steps_of last
+  steps_of_all (Child prefix last) = steps_of_all prefix ++ steps_of last
 
 -- the stack without its newest n trees, and those, in their order
 abbrev pub below_newest : ℕ → Children → Children
 below_newest zero stack = stack
 below_newest (suc n) NoChild = NoChild
-below_newest (suc n) (Child front last) = below_newest n front
+below_newest (suc n) (Child prefix last) = below_newest n prefix
 
 abbrev pub newest : ℕ → Children → Children
 newest zero stack = NoChild
 newest (suc n) NoChild = NoChild
-newest (suc n) (Child front last) = Child (newest n front) last
+newest (suc n) (Child prefix last) = Child (newest n prefix) last
 
 abbrev pub after_step : Children → Step → Children
 after_step stack (TokenStep symbol from to) = Child stack (Leaf symbol from to)

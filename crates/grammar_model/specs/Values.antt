@@ -161,7 +161,7 @@ module _ (show : Show) (g : Grammar) (meaning : Meaning) (tokens : List Token) w
 
     pub values_of_all : Children → List Value
     values_of_all NoChild = []
-    values_of_all (Child front last) = values_of_all front ++ value_of last ∷ []
+    values_of_all (Child prefix last) = values_of_all prefix ++ value_of last ∷ []
 
   -- what a step does to a list of values, the newest last
   abbrev pub told : List Value → Step → List Value

@@ -1,5 +1,5 @@
-// Definitions that the crates of the rewrite cite: grammars, trees, their order and their values.
-// Nothing here computes for a program. Each function below is a law, which its contract states.
+//! Definitions of grammars, derivations, their order and their values; and the types that stand for these in programs.
+//! Nothing here computes for a program. Each function below is a law, which its contract states.
 #![tactic(auto)]
 
 ghost use Rattle.grammar_model.specs.All.{DerivationsAreOrdered, ListIsUnique};

@@ -8,17 +8,17 @@ use grammar_core::{Assoc, CoreRefusal, Flat, Rule, RuleId, SeqRule, SymbolId, Wr
 use std::alloc::Global;
 
 /// A left side and its parts, by the numbers of symbols.
-pub type Line = (u32, &'static [u32]);
+pub(crate) type Line = (u32, &'static [u32]);
 
 /// The names of the symbols, of which the first is the start, and the rules.
 #[derive(Clone, Copy)]
-pub struct Language {
+pub(crate) struct Language {
     pub names: &'static [&'static str],
     pub lines: &'static [Line],
 }
 
 /// Adds symbols of these names.
-pub fn add_names(w: &mut Written, names: &[&str]) -> Result<(), CoreRefusal> {
+pub(crate) fn add_names(w: &mut Written, names: &[&str]) -> Result<(), CoreRefusal> {
     for name in names {
         w.symbol_new(name)?;
     }
@@ -26,7 +26,7 @@ pub fn add_names(w: &mut Written, names: &[&str]) -> Result<(), CoreRefusal> {
 }
 
 /// Adds a rule that stands at a level of so many.
-pub fn add_rule(
+pub(crate) fn add_rule(
     alloc: Global,
     w: &mut Written,
     line: Line,
@@ -47,7 +47,7 @@ pub fn add_rule(
 }
 
 /// Symbol 0 becomes a list.
-pub fn add_list(
+pub(crate) fn add_list(
     w: &mut Written,
     item: u32,
     plus: bool,
@@ -75,18 +75,22 @@ fn add_all(alloc: Global, w: &mut Written, language: &Language) -> Result<(), Co
 }
 
 /// The grammar of the rules.
-pub fn written_of(alloc: Global, language: &Language) -> Result<Written, CoreRefusal> {
+pub(crate) fn written_of(alloc: Global, language: &Language) -> Result<Written, CoreRefusal> {
     let mut w = Written::new(alloc);
     add_all(alloc, &mut w, language)?;
     Ok(w)
 }
 
 /// The flat grammar of a grammar that passes the check.
-pub fn flat_of(alloc: Global, w: &Written) -> Result<Flat, anyhow::Error>
+pub(crate) fn flat_of(alloc: Global, w: &Written) -> Result<Flat, anyhow::Error>
     ensures { IfOk result (λ f. 0 < length f.tops) }
 {
     match check(alloc, w) {
-        Ok(checked) => Ok(flatten(alloc, &checked)?),
+        Ok(checked) => {
+            let flat = flatten(alloc, &checked);
+            drop(checked);
+            Ok(flat?)
+        }
         Err(_) => bail!("the check refuses the grammar"),
     }
 }

@@ -1,5 +1,6 @@
 //! Steps of a recognizer, and what is seen of its sets on the way, by tables.
 ghost use Rattle.std.specs.Prelude.{◌≡◌, ◌<◌, length};
+ghost use Rattle.earley_sets.specs.Recognizer.{earleme_of};
 
 use crate::grammars::{Language, flat_of, written_of};
 use anyhow::bail;
@@ -11,11 +12,11 @@ use std::marker::Brand;
 use std::sync::ledger::{Blank, Ledger};
 
 /// The length of the longest token.
-pub const LONGEST: u32 = 1_048_576;
+pub(crate) const LONGEST: u32 = 1_048_576;
 
 /// A step of a table.
 #[derive(Clone, Copy)]
-pub enum Step {
+pub(crate) enum Step {
     /// a terminal, its length, and the answer
     Push(u32, u32, Result<(), AlternativeRefusal>),
     /// so many places on
@@ -49,6 +50,13 @@ fn pass<L: Ledger>(
     Ok(())
 }
 
+// Takes a terminal.
+fn push(recce: &mut Recce<'_>, t: u32, length: u32) -> Result<(), AlternativeRefusal>
+    requires { earleme_of recce.old < 16777216 }
+{
+    recce.alternative(SymbolId(t), length)
+}
+
 // Whether a terminal is answered so.
 fn answers(
     recce: &mut Recce<'_>,
@@ -56,7 +64,7 @@ fn answers(
     length: u32,
     wanted: Result<(), AlternativeRefusal>,
 ) -> bool {
-    recce.place() < LONGEST && recce.alternative(SymbolId(t), length) == wanted
+    recce.place() < LONGEST && push(recce, t, length) == wanted
 }
 
 // Reads tokens, and tells whether each is taken.
@@ -177,7 +185,7 @@ fn does_all<L: Ledger>(
 }
 
 /// Whether all steps go as wanted with a new recognizer.
-pub fn is_so<L: Ledger>(
+pub(crate) fn is_so<L: Ledger>(
     blank: Blank,
     alloc: Global,
     flat: &Flat,
@@ -194,7 +202,11 @@ pub fn is_so<L: Ledger>(
 }
 
 /// Whether all steps go as wanted with a grammar.
-pub fn goes(alloc: Global, language: &Language, table: &[Step]) -> Result<bool, anyhow::Error> {
+pub(crate) fn goes(
+    alloc: Global,
+    language: &Language,
+    table: &[Step],
+) -> Result<bool, anyhow::Error> {
     let written = written_of(alloc, language)?;
     let flat = flat_of(alloc, &written)?;
     is_so::<Brand>(Blank::new(1), alloc, &flat, table)

@@ -1,7 +1,7 @@
 -- Lists of clauses, from their heads and their bodies.
 use Rattle.std.proofs.Common.{arith, ◌≡◌, ℕ, zero, suc, List, [], ◌∷◌, ◌++◌, length, slice_index, refl, ap}
 use Rattle.horn_clauses.specs.Least.{Clause, clause_at, clauses_of}
-use Rattle.horn_clauses.specs.Rows.{row_at}
+use Rattle.jagged.specs.Rows.{row_at}
 
 pub clauses_long : (heads : List ℕ) (bodies : List (List ℕ)) → length heads ≡ length bodies → length (clauses_of heads bodies) ≡ length heads
 clauses_long [] bodies e = refl

@@ -10,9 +10,6 @@ more_rounds zero m cs x le h = absurd h
 more_rounds (suc n) zero cs x le h = absurd (omega arith)
 more_rounds (suc n) (suc m) cs x le (i, lt, e, all) = (i, lt, e, λ k d l. more_rounds n m cs (slice_index_or (clause_at cs i).body k d) (omega arith) (all k d l))
 
-pub Contains-none : (x : ℕ) → Contains [] x → ⊥
-Contains-none x (k, lt, e) = omega arith
-
 -- a number is added whose clause has all of its body in the set
 pub adds_derived : (cs : List Clause) (old new : List ℕ) (i : ℕ) → ((x : ℕ) → Contains old x → IsDerivedIn (length old) cs x) → i < length cs → All (Contains old) (clause_at cs i).body → Adds old new (clause_at cs i).head →
     (x : ℕ) → Contains new x → IsDerivedIn (length new) cs x

@@ -7,9 +7,10 @@ use Rattle.std.proofs.lemmas.Bool.{eqb-true}
 use Rattle.std.proofs.lemmas.List.{get_or-map, get_or_append_left, get_or_push, get_or_default, get_or-set_same, get_or-set_other}
 use Rattle.std.proofs.lemmas.List.FromFn.{length-map-range_with_len, length-range_with_len, get_or-range_with_len}
 use Rattle.std.proofs.lemmas.List.Elements.{Contains-append_left, Contains-push, Contains-push_cases}
-use Rattle.horn_clauses.specs.Rows.{row_at, HasAdded, HasSameRows}
+use Rattle.finite_sets.proofs.Lists.{Contains-none}
+use Rattle.horn_clauses.specs.Rows.{HasAdded, HasSameRows}
+use Rattle.jagged.specs.Rows.{row_at}
 use Rattle.horn_clauses.specs.Gathered.{pair_at, numbers_of, gathered, AreWithin, HasFrom, IsLast, AreLinks}
-use Rattle.horn_clauses.proofs.Found.{Contains-none}
 use Rattle.horn_clauses.proofs.Search.{same_or_below, same_or_other}
 
 pub gathered_long : (count : ℕ) (pairs : List (ℕ × ℕ)) → length (gathered count pairs) ≡ count

@@ -2,7 +2,6 @@ pub mod Found
 pub mod Search
 pub mod Results
 pub mod RowLemmas
-pub mod Cutting
 pub mod Gathering
 pub mod Marks
 pub mod ClauseLists

@@ -5,8 +5,8 @@ use Rattle.std.specs.Result.{is_ok}
 use Rattle.std.proofs.Math.ListN.{replicate, get_or-eq_default}
 use Rattle.std.proofs.lemmas.List.{take_all, get_or-replicate, length-replicate, get_or-set_same, get_or-set_other}
 use Rattle.std.proofs.lemmas.List.Elements.{Contains-append_left, Contains-push, Contains-push_cases}
+use Rattle.finite_sets.proofs.Lists.{Contains-none}
 use Rattle.horn_clauses.specs.Marks.{AreMarks}
-use Rattle.horn_clauses.proofs.Found.{Contains-none}
 use Rattle.horn_clauses.proofs.Search.{same_or_other}
 
 pub no_marks : AreMarks [] []

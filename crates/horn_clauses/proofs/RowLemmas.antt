@@ -2,7 +2,8 @@
 use Rattle.std.proofs.Common.{arith, ◌≡◌, inl, inr, ℕ, ◌+◌, ◌<◌, List, [], ◌∷◌, ◌++◌, length, take, Contains, slice_index, refl, sym, ◌∙◌, ap, subst}
 use Rattle.horn_clauses.specs.Least.{Clause, clause_at}
 use Rattle.std.proofs.lemmas.List.{get_or-take, length-take-le, get_or_append_left, get_or_push}
-use Rattle.horn_clauses.specs.Rows.{row_at, HasAdded, HasAddedAll, HasPlacesTo, HasPlaces, HasSameRows}
+use Rattle.horn_clauses.specs.Rows.{HasAdded, HasAddedAll, HasPlacesTo, HasPlaces, HasSameRows}
+use Rattle.jagged.specs.Rows.{row_at}
 use Rattle.horn_clauses.proofs.Search.{same_or_below}
 
 -- what holds of each row holds of one more

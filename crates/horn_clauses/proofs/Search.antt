@@ -2,9 +2,11 @@
 use Rattle.std.proofs.Common.{arith, ◌≡◌, ◌≢◌, ◌⊎◌, inl, inr, ℕ, zero, suc, ◌+◌, ◌<◌, ◌≤◌, List, [], ◌∷◌, ◌++◌, length, take, All, Contains, slice_index, slice_set, slice_get, Option, Some, None, sym, ◌∙◌, ap, subst, length-append, length-set, append-nil, append_assoc}
 use Rattle.std.proofs.lemmas.List.{get_or-set_same, get_or-set_other, get_or_default, get_or_append_left, take_more}
 use Rattle.std.proofs.lemmas.List.Elements.{Contains-push_cases, Contains-get_or}
+use Rattle.finite_sets.proofs.Lists.{Contains-none}
 use Rattle.horn_clauses.specs.Least.{Clause, clause_at, part_at, IsDerivedIn, IsLeastSet, AreBelow, IsSearch, Waits, Adds, Advances, HasVisited, Extends}
-use Rattle.horn_clauses.specs.Rows.{HasPlaces, row_at}
-use Rattle.horn_clauses.proofs.Found.{Contains-none, adds_derived, adds_made, adds_extends, adds_has, extends_keeps}
+use Rattle.horn_clauses.specs.Rows.{HasPlaces}
+use Rattle.jagged.specs.Rows.{row_at}
+use Rattle.horn_clauses.proofs.Found.{adds_derived, adds_made, adds_extends, adds_has, extends_keeps}
 
 pub same_or_below : (m k : ℕ) → m < k + 1 → (m < k) ⊎ (m ≡ k)
 same_or_below m k lt = grind arith

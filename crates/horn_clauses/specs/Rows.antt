@@ -1,23 +1,7 @@
 -- Rows of numbers, and which clauses stand in them.
-use Rattle.std.specs.Prelude.{◌≡◌, ℕ, ◌<◌, ◌≤◌, List, [], ◌∷◌, length, take, drop, slice_index, slice_index_or, Contains, ◌⊎◌, ◌↔◌}
+use Rattle.std.specs.Prelude.{◌≡◌, ℕ, ◌<◌, List, length, slice_index, Contains, ◌⊎◌, ◌↔◌}
+use Rattle.jagged.specs.Rows.{row_at}
 use Rattle.horn_clauses.specs.Least.{Clause, clause_at}
-
--- rows by the places where each ends
-abbrev pub cut : ℕ → List ℕ → List ℕ → List (List ℕ)
-cut from [] items = []
-cut from (end ∷ ends) items = drop from (take end items) ∷ cut end ends items
-
--- the ends rise, up to at most the length
-abbrev pub AreEnds : ℕ → List ℕ → (length : ℕ) → Type 0
-AreEnds from [] n = from ≤ n
-AreEnds from (end ∷ ends) n = (from ≤ end) × AreEnds end ends n
-
-abbrev pub last_end : ℕ → List ℕ → ℕ
-last_end from [] = from
-last_end from (end ∷ ends) = last_end end ends
-
-abbrev pub row_at : List (List ℕ) → ℕ → List ℕ
-row_at rows x = slice_index_or rows x []
 
 -- each row has numbers of clauses, and each number of a body has its clause in its row
 pub record HasPlaces (clauses : List Clause) (rows : List (List ℕ)) : Type 0 where

@@ -2,7 +2,7 @@
 ghost use Rattle.std.specs.Prelude.{◌≡◌, ◌<◌, ◌++◌, ◌∷◌, [], length, OnOk, OnErr};
 ghost use Rattle.horn_clauses.specs.Least.{clause_at};
 
-use crate::rows::Rows;
+use jagged::Jagged;
 use std::alloc::{AllocError, Global};
 use std::marker::Model;
 
@@ -10,7 +10,7 @@ use std::marker::Model;
 #[derive(Drop)]
 pub struct Clauses {
     heads: Vec<u32>,
-    bodies: Rows,
+    bodies: Jagged<u32>,
 }
 
 impl Model for Clauses {
@@ -31,7 +31,7 @@ impl Clauses {
     {
         Clauses {
             heads: Vec::new(alloc),
-            bodies: Rows::new(alloc),
+            bodies: Jagged::new(alloc),
         }
     }
 

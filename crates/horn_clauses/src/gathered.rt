@@ -1,9 +1,10 @@
 //! Numbers that are put into rows, in any order of the rows.
 ghost use Rattle.std.specs.Prelude.{◌≡◌, ℕ, ◌<◌, ◌↔◌, [], length, Contains, IfOk, OnOk, OnErr};
-ghost use Rattle.horn_clauses.specs.Rows.{row_at, HasAdded, HasSameRows};
+ghost use Rattle.horn_clauses.specs.Rows.{HasAdded, HasSameRows};
+ghost use Rattle.jagged.specs.Rows.{row_at};
 ghost use Rattle.horn_clauses.specs.Gathered.{gathered, AreWithin, AreLinks, HasFrom};
 
-use crate::rows::Rows;
+use jagged::Jagged;
 use std::alloc::{AllocError, Global};
 use std::marker::Model;
 
@@ -55,7 +56,7 @@ impl Gathered {
     }
 
     /// The rows, one after the other.
-    pub fn rows(&self, alloc: Global) -> Result<Rows, AllocError>
+    pub fn rows(&self, alloc: Global) -> Result<Jagged<u32>, AllocError>
         ensures { IfOk result (λ rows. HasSameRows self.now rows) }
     {
         rows_of(alloc, self.count, &self.pairs)
@@ -103,12 +104,12 @@ fn collect(
     Ok(())
 }
 
-fn rows_of(alloc: Global, count: usize, pairs: &[(u32, u32)]) -> Result<Rows, AllocError>
+fn rows_of(alloc: Global, count: usize, pairs: &[(u32, u32)]) -> Result<Jagged<u32>, AllocError>
     requires { AreWithin count pairs.now }
     ensures { IfOk result (λ rows. HasSameRows (gathered count pairs.now) rows) }
 {
     let links = links_of(alloc, count, pairs)?;
-    let mut rows = Rows::new(alloc);
+    let mut rows = Jagged::new(alloc);
     let mut row = Vec::new(alloc);
     for x in 0..count {
         collect(pairs, &links, x, &mut row)?;

@@ -6,7 +6,7 @@ ghost use Rattle.horn_clauses.specs.Rows.{HasPlaces, HasAddedAll};
 use crate::clause_list::Clauses;
 use crate::gathered::Gathered;
 use crate::number_set::NumberSet;
-use crate::rows::Rows;
+use jagged::Jagged;
 use std::alloc::{AllocError, Global};
 
 // The first place, not before the given one, whose number is not found yet.
@@ -37,7 +37,7 @@ fn add_clause(rows: &mut Gathered, body: &[u32], clause: u32) -> Result<(), Allo
 }
 
 // Where each number stands: the clauses that have it in their bodies.
-fn occurrences(alloc: Global, clauses: &Clauses, bound: usize) -> Result<Rows, AllocError>
+fn occurrences(alloc: Global, clauses: &Clauses, bound: usize) -> Result<Jagged<u32>, AllocError>
     requires few { length clauses.now < 2 ^ 32 }
     requires below { AreBelow bound clauses.now }
     ensures length { IfOk result (λ rows. length rows ≡ bound) }
@@ -102,19 +102,19 @@ fn visit(
     Ok(())
 }
 
-// Goes on from each number found, in the order of finding.
+// Begins with each clause, and goes on from each number found, in the order of finding.
 fn close(
     clauses: &Clauses,
-    rows: &Rows,
+    rows: &Jagged<u32>,
     found: &mut NumberSet,
     places: &mut [usize],
 ) -> Result<(), AllocError>
     requires below { AreBelow (length rows.now) clauses.now }
     requires rows { HasPlaces clauses.now rows.now }
     requires search { IsSearch clauses.now found.old places.old }
-    requires waits { (i : ℕ) → i < length clauses.now → Waits clauses.now found.old places.old 0 i }
     ensures { OnOk result (IsLeastSet clauses.now found.new) }
 {
+    begin(clauses, found, places)?;
     for k in 0..usize::MAX {
         let Some(x) = found.get(k) else {
             return Ok(());
@@ -126,14 +126,17 @@ fn close(
 }
 
 // The search, from rows of where each number stands.
-fn search_rows(alloc: Global, clauses: &Clauses, rows: &Rows) -> Result<NumberSet, AllocError>
+fn search_rows(
+    alloc: Global,
+    clauses: &Clauses,
+    rows: &Jagged<u32>,
+) -> Result<NumberSet, AllocError>
     requires below { AreBelow (length rows.now) clauses.now }
     requires rows { HasPlaces clauses.now rows.now }
     ensures { IfOk result (λ found. IsLeastSet clauses.now found) }
 {
     let mut places = vec![in alloc; 0usize; clauses.len()]?;
     let mut found = NumberSet::new(alloc);
-    begin(clauses, &mut found, &mut places)?;
     close(clauses, rows, &mut found, &mut places)?;
     Ok(found)
 }

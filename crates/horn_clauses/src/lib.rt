@@ -5,10 +5,8 @@ mod clause_list;
 mod gathered;
 mod least;
 mod number_set;
-mod rows;
 
 pub use clause_list::Clauses;
 pub use gathered::Gathered;
 pub use least::least_set;
 pub use number_set::NumberSet;
-pub use rows::Rows;

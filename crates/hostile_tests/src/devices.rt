@@ -5,13 +5,13 @@ use crate::runs::{ends, run_of};
 use run_scenes::{Device, Ended, Given};
 use std::alloc::{AllocError, Global};
 
-pub const CANNOT_READ: &[u8] = b"slif: read fault\n";
+pub(crate) const CANNOT_READ: &[u8] = b"slif: read fault\n";
 
-pub const CANNOT_WRITE: &[u8] = b"slif: write fault\n";
+pub(crate) const CANNOT_WRITE: &[u8] = b"slif: write fault\n";
 
 /// A run whose devices do not fail: how it ends, and how many calls the files and the input get.
 #[derive(Clone, Copy)]
-pub struct Case<'a> {
+pub(crate) struct Case<'a> {
     pub given: Given<'a>,
     pub status: u8,
     pub out: &'a [u8],
@@ -54,10 +54,10 @@ fn writes_of(lines: &[u8]) -> u8 {
 
 // Whether a text is what so many writes write of lines, and then another line.
 fn is_cut(text: &[u8], lines: &[u8], writes: u8, behind: &[u8]) -> bool {
-    let Some(front) = text.strip_suffix(behind) else {
+    let Some(prefix) = text.strip_suffix(behind) else {
         return false;
     };
-    match lines.strip_prefix(front) {
+    match lines.strip_prefix(prefix) {
         Some(left) => left == left_behind(lines, writes),
         None => false,
     }
@@ -117,7 +117,11 @@ fn calls_of(case: &Case<'_>, device: Device) -> u8 {
 }
 
 /// Whether each call of a device fails as it should, and no more calls are made.
-pub fn all_break(alloc: Global, case: &Case<'_>, device: Device) -> Result<bool, AllocError> {
+pub(crate) fn all_break(
+    alloc: Global,
+    case: &Case<'_>,
+    device: Device,
+) -> Result<bool, AllocError> {
     let calls = calls_of(case, device);
     for before in 0..calls {
         if !breaks(alloc, case, device, before)? {
@@ -128,7 +132,7 @@ pub fn all_break(alloc: Global, case: &Case<'_>, device: Device) -> Result<bool,
 }
 
 /// Whether a run ends so, and each call that fails ends it as it should.
-pub fn is_so(alloc: Global, case: &Case<'_>) -> Result<bool, AllocError> {
+pub(crate) fn is_so(alloc: Global, case: &Case<'_>) -> Result<bool, AllocError> {
     for device in [Device::Files, Device::Input, Device::Out, Device::Err] {
         if !all_break(alloc, case, device)? {
             return Ok(false);
@@ -138,7 +142,11 @@ pub fn is_so(alloc: Global, case: &Case<'_>) -> Result<bool, AllocError> {
 }
 
 /// Whether, where a call fails, so does each write of the line that tells it.
-pub fn line_breaks(alloc: Global, given: &Given<'_>, line: &[u8]) -> Result<bool, AllocError> {
+pub(crate) fn line_breaks(
+    alloc: Global,
+    given: &Given<'_>,
+    line: &[u8],
+) -> Result<bool, AllocError> {
     let case = Case {
         given: *given,
         status: 4,

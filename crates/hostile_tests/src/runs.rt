@@ -19,17 +19,17 @@ fn both_tellers(alloc: Global) -> Result<Vec<Box<dyn Teller>>, AllocError>
     Ok(tellers)
 }
 
-pub fn run_of(alloc: Global, given: &Given<'_>) -> Result<Ended, AllocError> {
+pub(crate) fn run_of(alloc: Global, given: &Given<'_>) -> Result<Ended, AllocError> {
     run_with(alloc, given, both_tellers(alloc)?)
 }
 
 /// How many names of files a run asks for.
-pub fn asked(alloc: Global, given: &Given<'_>) -> Result<usize, AllocError> {
+pub(crate) fn asked(alloc: Global, given: &Given<'_>) -> Result<usize, AllocError> {
     Ok(run_of(alloc, given)?.asked())
 }
 
 /// Whether a run ends so.
-pub fn ends(
+pub(crate) fn ends(
     alloc: Global,
     given: &Given<'_>,
     status: u8,

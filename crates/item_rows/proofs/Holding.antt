@@ -10,7 +10,8 @@ use Rattle.std.proofs.lemmas.List.Sums.{sum_by-cons}
 use Rattle.recognizer_model.specs.declared.Item.{Item}
 use Rattle.recognizer_model.specs.Flat.{FlatGrammar}
 use Rattle.recognizer_model.specs.Counts.{IsListOf}
-use Rattle.item_rows.specs.Rows.{ItemRows, row_at, shared_at, with_row, list_at, IsBegunAt}
+use Rattle.item_rows.specs.Rows.{ItemRows, row_at, shared_at, with_row, IsBegunAt}
+use Rattle.jagged.specs.Rows.{row_at as list_at}
 use Rattle.item_rows.specs.Dotted.{dotted_at, unpacked, begun_at, DifferInDots, IsPackedRow, AreDotted, row_items, IsRowOfParts}
 use Rattle.item_rows.specs.Held.{shared_by, rows_from, lists_from, AreHeld}
 use Rattle.item_rows.proofs.Listed.{index_any}

@@ -6,16 +6,14 @@ use Rattle.std.proofs.lemmas.Bool.{cases_lt}
 use Rattle.std.proofs.lemmas.List.{get_or-map, get_or-append_right}
 use Rattle.std.proofs.Math.ListN.{get_or-append}
 use Rattle.std.proofs.lemmas.List.Elements.{Contains-append_left, Contains-append_right, Contains-append_cases}
-use Rattle.grammar_core.proofs.Halving.{get_index}
+use Rattle.std.proofs.lemmas.Option.{slice_get-get_or}
 use Rattle.recognizer_model.specs.declared.Item.{Item}
-use Rattle.recognizer_model.specs.Flat.{FlatGrammar, part_of}
 use Rattle.recognizer_model.specs.Counts.{IsListOf}
 use Rattle.item_rows.specs.declared.dotted.Span.{Span}
 use Rattle.item_rows.specs.Rows.{IsBegunAt}
-use Rattle.item_rows.specs.Kept.{IsAwaited}
-use Rattle.item_rows.specs.Dotted.{dotted_at, unpacked, begun_at, row_items, IsPacked, Rises, IsPackedRow, AreDotted, IsRowOfParts, DifferInDots, IsSpanOf, IsSpan, AreWithin}
+use Rattle.item_rows.specs.Dotted.{dotted_at, unpacked, begun_at, row_items, IsPacked, Rises, IsPackedRow, AreDotted, IsRowOfParts, DifferInDots, IsSpanOf, AreWithin}
 use Rattle.item_rows.proofs.Listed.{index_any}
-use Rattle.item_rows.proofs.Packing.{map_length, map_has, map_from, part_of_kind, packed_there, packed_absent, of_kind}
+use Rattle.item_rows.proofs.Packing.{map_length, map_has, map_from, part_of_kind, packed_there, packed_absent}
 
 -- two lists of different values
 module _ {A : Type 0} where
@@ -67,7 +65,7 @@ module _ (rules : List Item) (place : ℕ) (packed begun : List ℕ) where
       let l = map_length (unpacked rules) packed in
       let all = row_length in
       let u = unpacked rules d in
-      get_index (row_items rules place packed begun) k u (omega arith)
+      slice_get-get_or (row_items rules place packed begun) k u (omega arith)
       ∙ ap Some (get_or-append (map (unpacked rules) packed) (map (begun_at rules place) begun) u k (omega arith) ∙ get_or-map (unpacked rules) packed k d u lt)
 
   pub at_second : (k d : ℕ) → length packed ≤ k → k < length (row_items rules place packed begun) → slice_get (row_items rules place packed begun) k ≡ Some (begun_at rules place (slice_index_or begun (k - length packed) d))
@@ -75,7 +73,7 @@ module _ (rules : List Item) (place : ℕ) (packed begun : List ℕ) where
       let l = map_length (unpacked rules) packed in
       let all = row_length in
       let u = begun_at rules place d in
-      get_index (row_items rules place packed begun) k u lt
+      slice_get-get_or (row_items rules place packed begun) k u lt
       ∙ ap Some (get_or-append_right (map (unpacked rules) packed) (map (begun_at rules place) begun) (length packed) k u l le ∙ get_or-map (begun_at rules place) begun (k - length packed) d u (omega arith))
 
 -- dotted rules of the span, begun at a place
@@ -148,23 +146,6 @@ module _ (rules : List Item) (differ : DifferInDots rules) (place : ℕ) where
               let (from, to) = (begun_kind rules place begun is Kind span is_span k item h e).1 w in
               subst (Contains (map (begun_at rules place) part)) e (map_has (begun_at rules place) part k ((exact k).1 (h, from, to)))
 
--- whether one waits for a symbol
-module _ (rules : List Item) (g : FlatGrammar) (x : ℕ) (span : Span) (is_span : IsSpan g rules x span) where
-  abbrev Waits : (rule dot : ℕ) → Type 0
-  Waits rule dot = part_of g rule dot ≡ Some x
-
-  pub packed_awaited : (row : List ℕ) → IsPackedRow (length rules) row → ((n : ℕ) × Contains row n × (span.start ≤ n / 4294967296) × (n / 4294967296 < span.end)) ↔ IsAwaited g (map (unpacked rules) row) x
-  packed_awaited row is = (
-    λ (n, h, from, to). (unpacked rules n, map_has (unpacked rules) row n h, (of_kind rules row is Waits span is_span n (unpacked rules n) h refl).0 (from, to)),
-    λ (item, c, w). (let (n, h, e) = map_from (unpacked rules) row item c in let (from, to) = (of_kind rules row is Waits span is_span n item h e).1 w in (n, h, from, to)),
-  )
-
-  pub begun_awaited : (place : ℕ) (begun : List ℕ) → AreDotted (length rules) begun → ((k : ℕ) × Contains begun k × (span.start ≤ k) × (k < span.end)) ↔ IsAwaited g (map (begun_at rules place) begun) x
-  begun_awaited place begun is = (
-    λ (k, h, from, to). (begun_at rules place k, map_has (begun_at rules place) begun k h, (begun_kind rules place begun is Waits span is_span k (begun_at rules place k) h refl).0 (from, to)),
-    λ (item, c, w). (let (k, h, e) = map_from (begun_at rules place) begun item c in let (from, to) = (begun_kind rules place begun is Waits span is_span k item h e).1 w in (k, h, from, to)),
-  )
-
 -- a row of two parts
 module _ (rules : List Item) (place : ℕ) (packed begun : List ℕ) (is : IsRowOfParts rules place packed begun) where
   pub parts_apart : (item : Item) → Contains (map (unpacked rules) packed) item → ¬ Contains (map (begun_at rules place) begun) item
@@ -195,20 +176,6 @@ module _ (rules : List Item) (place : ℕ) (packed begun : List ℕ) (is : IsRow
     second = record { rises = within.others_rise; within = λ k h. is.second.within k ((within.others_exact k).0 h).0 };
     apart = λ n k a b. is.apart n k ((within.own_exact n).0 a).0 ((within.others_exact k).0 b).0;
   }
-
-  module _ (g : FlatGrammar) (x : ℕ) (span : Span) (is_span : IsSpan g rules x span) where
-    pub awaited_first : ((n : ℕ) × Contains packed n × (span.start ≤ n / 4294967296) × (n / 4294967296 < span.end)) → IsAwaited g (row_items rules place packed begun) x
-    awaited_first h = let (item, c, w) = (packed_awaited rules g x span is_span packed is.first).0 h in (item, Contains-append_left (map (unpacked rules) packed) (map (begun_at rules place) begun) item c, w)
-
-    pub awaited_second : ((k : ℕ) × Contains begun k × (span.start ≤ k) × (k < span.end)) → IsAwaited g (row_items rules place packed begun) x
-    awaited_second h = let (item, c, w) = (begun_awaited rules g x span is_span place begun is.second).0 h in (item, Contains-append_right (map (unpacked rules) packed) (map (begun_at rules place) begun) item c, w)
-
-    pub awaited_either : IsAwaited g (row_items rules place packed begun) x →
-        ((n : ℕ) × Contains packed n × (span.start ≤ n / 4294967296) × (n / 4294967296 < span.end)) ⊎ ((k : ℕ) × Contains begun k × (span.start ≤ k) × (k < span.end))
-    awaited_either (item, c, w) = elim (Contains-append_cases (map (unpacked rules) packed) (map (begun_at rules place) begun) item c) [
-      | inl a ↦ inl ((packed_awaited rules g x span is_span packed is.first).1 (item, a, w))
-      | inr b ↦ inr ((begun_awaited rules g x span is_span place begun is.second).1 (item, b, w))
-    ]
 
   module _ (differ : DifferInDots rules) (item : Item) (n : ℕ) (number : IsPacked rules n item) where
     pub contains_first : Contains packed n → Contains (row_items rules place packed begun) item

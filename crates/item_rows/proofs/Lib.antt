@@ -1,5 +1,3 @@
-pub mod Awaiting
-pub mod Cutting
 pub mod Holding
 pub mod Items
 pub mod Joined

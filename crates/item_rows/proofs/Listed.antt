@@ -3,16 +3,17 @@ use Rattle.std.proofs.Common.{◌≡◌, ◌≢◌, ◌⊎◌, inl, inr, ℕ, ze
 use Rattle.std.specs.Prelude.{slice_index_or}
 use Rattle.std.specs.List.{AllPairs}
 use Rattle.std.proofs.lemmas.Bool.{cases_lt}
-use Rattle.std.proofs.lemmas.Option.{slice_get_past}
-use Rattle.grammar_core.proofs.Halving.{index_get, get_index}
+use Rattle.std.proofs.lemmas.Option.{slice_get_past, slice_get-get_or}
+use Rattle.finite_sets.proofs.Lists.{get_none, get_index}
 use Rattle.recognizer_model.specs.declared.Item.{Item}
-use Rattle.recognizer_model.specs.Flat.{FlatGrammar, FlatRule, no_rule, IsRule, rhs_of}
+use Rattle.recognizer_model.specs.Flat.{FlatGrammar, IsRule, rhs_of}
 use Rattle.recognizer_model.specs.Items.{after}
 use Rattle.recognizer_model.specs.Invariant.{IsFlat}
 use Rattle.item_rows.specs.declared.dotted.Span.{Span}
 use Rattle.item_rows.specs.Kept.{IsItem}
 use Rattle.item_rows.specs.Order.{or_end, symbol_or_end}
 use Rattle.item_rows.specs.Dotted.{no_item, dotted_at, DifferInDots, AddsDots, IsListedAt, AreListed, AreNumbers, IsNumbered, IsSpan, IsWholeSpan, AreSpans}
+use Rattle.recognizer_model.proofs.Sources.{rule_there}
 
 module _ {A : Type 0} where
   pub get_more : (xs ys : List A) (k : ℕ) (x : A) → slice_get xs k ≡ Some x → slice_get (xs ++ ys) k ≡ Some x
@@ -44,7 +45,7 @@ module _ {A : Type 0} where
   index_any (x ∷ xs) (suc k) d e lt = index_any xs k d e (omega arith)
 
   pub within : (xs : List A) (k : ℕ) (x : A) → slice_get xs k ≡ Some x → k < length xs
-  within xs k x e = (index_get xs k x x e).0
+  within xs k x e = (get_index xs k x x e).0
 
 -- the dotted rules of one rule
 pub no_dots : (r : ℕ) (xs : List Item) → AddsDots r 0 xs xs
@@ -125,8 +126,8 @@ module _ (g : FlatGrammar) (listed : List Item) (firsts : List ℕ) (n : ℕ) (a
   pub listed_once : AllPairs (λ x y. x ≢ y) listed
   listed_once i j d lt below e =
       let x = slice_index_or listed i d in
-      let (a, _, _) = are.told i x (get_index listed i d (omega arith)) in
-      let (b, _, _) = are.told j x (get_index listed j d below ∙ ap Some (sym e)) in
+      let (a, _, _) = are.told i x (slice_get-get_or listed i d (omega arith)) in
+      let (b, _, _) = are.told j x (slice_get-get_or listed j d below ∙ ap Some (sym e)) in
       let same : a.first ≡ b.first = some_same _ _ (sym a.begins ∙ b.begins) in
       let p = a.at in
       let q = b.at in
@@ -136,12 +137,12 @@ module _ (g : FlatGrammar) (listed : List Item) (firsts : List ℕ) (n : ℕ) (a
     begins_at_first : (k : ℕ) → k < length rules → (dotted_at rules k).origin ≡ 0
     begins_at_first k lt =
         let (j, below, e) = same (dotted_at rules k) (k, lt, index_any rules k (dotted_at rules k) no_item lt) in
-        (are.told j (dotted_at rules k) (get_index listed j (dotted_at rules k) below ∙ ap Some e)).1
+        (are.told j (dotted_at rules k) (slice_get-get_or listed j (dotted_at rules k) below ∙ ap Some e)).1
 
     pub dots_within : (k : ℕ) → k < length rules → (dotted_at rules k).dot ≤ length (rhs_of g (dotted_at rules k).rule)
     dots_within k lt =
         let (j, below, e) = same (dotted_at rules k) (k, lt, index_any rules k (dotted_at rules k) no_item lt) in
-        (are.told j (dotted_at rules k) (get_index listed j (dotted_at rules k) below ∙ ap Some e)).2
+        (are.told j (dotted_at rules k) (slice_get-get_or listed j (dotted_at rules k) below ∙ ap Some e)).2
 
     pub rules_differ : DifferInDots rules
     rules_differ j k a b r d =
@@ -169,7 +170,7 @@ module _ (g : FlatGrammar) (listed : List Item) (firsts : List ℕ) (n : ℕ) (a
       pub each_numbered : (k : ℕ) → k < length rules → IsNumbered rules firsts numbers (dotted_at rules k)
       each_numbered k lt =
           let (j, below, e) = same (dotted_at rules k) (k, lt, index_any rules k (dotted_at rules k) no_item lt) in
-          numbered (dotted_at rules k) j (are.told j (dotted_at rules k) (get_index listed j (dotted_at rules k) below ∙ ap Some e)).0
+          numbered (dotted_at rules k) j (are.told j (dotted_at rules k) (slice_get-get_or listed j (dotted_at rules k) below ∙ ap Some e)).0
 
 -- what is numbered is found
 module _ (rules : List Item) (firsts numbers : List ℕ) (item : Item) (is : IsNumbered rules firsts numbers item) (found : Option ℕ)
@@ -185,17 +186,6 @@ numbered_as rules firsts numbers x item r d is = record {
   has_number = subst (λ z. slice_get numbers (is.first + z) ≡ Some is.number) d is.has_number;
   is = is.is ∙ ap Some (λ i. record { rule = r i; dot = d i; origin = 0 });
 }
-
--- no dotted rule waits for a number that no symbol has
-get_none : {A : Type 0} (xs : List A) (k : ℕ) → slice_get xs k ≡ None → length xs ≤ k
-get_none [] k e = omega arith
-get_none (x ∷ xs) zero e = absurd (cc)
-get_none (x ∷ xs) (suc k) e = let h = get_none xs k e in omega arith
-
-rule_there : (rules : List FlatRule) (r k x : ℕ) → slice_get (slice_index_or rules r no_rule).rhs k ≡ Some x → r < length rules
-rule_there [] r k x e = absurd (cc)
-rule_there (y ∷ ys) zero k x e = omega arith
-rule_there (y ∷ ys) (suc r) k x e = let h = rule_there ys r k x e in omega arith
 
 -- a rule with a part is one of the grammar
 pub part_of_rule : (g : FlatGrammar) (item : Item) (x : ℕ) → after g item ≡ Some x → IsRule g item.rule

@@ -11,7 +11,8 @@ use Rattle.std.proofs.lemmas.Bool.{ltb-true, lt-ltb, cases_lt, true≢false}
 use Rattle.std.proofs.lemmas.Cmp.{then_total, on_total, nat_cmp_total}
 use Rattle.std.proofs.lemmas.Map.Lookups.{exact_unsigned}
 use Rattle.std.proofs.lemmas.List.Sorted.{searchable_from_sorted, IsNonDecreasingBy-from_all_adjacent}
-use Rattle.grammar_core.proofs.Halving.{get_index}
+use Rattle.std.proofs.lemmas.Option.{slice_get-get_or}
+use Rattle.finite_sets.proofs.Clauses.{then_equal}
 use Rattle.recognizer_model.specs.declared.Item.{Item}
 use Rattle.recognizer_model.specs.Flat.{FlatGrammar}
 use Rattle.recognizer_model.specs.Items.{after}
@@ -24,11 +25,6 @@ key_total =
     then_total (on_total (λ (k : RowKey). k.symbol) nat_cmp_total)
     (then_total (on_total (λ (k : RowKey). k.rule) nat_cmp_total)
     (then_total (on_total (λ (k : RowKey). k.dot) nat_cmp_total) (on_total (λ (k : RowKey). k.origin) nat_cmp_total)))
-
-then_equal : (a b : Ordering) → ordering_then a b ≡ Equal → (a ≡ Equal) × (b ≡ Equal)
-then_equal Less b e = absurd (cc)
-then_equal Equal b e = (refl, e)
-then_equal Greater b e = absurd (cc)
 
 -- items of one key are the same
 same_key : (g : FlatGrammar) (x y : Item) → key_cmp (row_key g x) (row_key g y) ≡ Equal → x ≡ y
@@ -106,7 +102,7 @@ module _ (g : FlatGrammar) (row : List Item) (order : IsInOrder g row) where
 
   -- what a search tells
   pub found : (item : Item) (k : ℕ) → k < length row → ((d : Item) → key_cmp (row_key g (slice_index_or row k d)) (row_key g item) ≡ Equal) → slice_get row k ≡ Some item
-  found item k lt same = get_index row k item lt ∙ ap Some (same_key g _ _ (same item))
+  found item k lt same = slice_get-get_or row k item lt ∙ ap Some (same_key g _ _ (same item))
 
   pub searched : (item : Item) (key : RowKey) (r : Result ℕ ℕ) → key ≡ row_key g item → IsSearchInRange r (length row) → IsBinarySearchResult (λ y. key_cmp (row_key g y) key) row r →
       IsFound item (result_ok r)

@@ -12,8 +12,8 @@ use Rattle.std.proofs.lemmas.List.Sorted.{searched, Contains-permutation, IsPerm
 use Rattle.std.proofs.lemmas.List.Kept.{AllPairs-from_increasing}
 use Rattle.std.proofs.lemmas.Map.Keys.{IsDistinct-IsPermutation}
 use Rattle.std.proofs.lemmas.Map.Made.{AllPairs-from_IsDistinct, IsDistinct-from_AllPairs}
+use Rattle.finite_sets.proofs.Lists.{get_index}
 use Rattle.grammar_core.proofs.Placed.{part_from, part_to, part_length, found_at, at_found}
-use Rattle.grammar_core.proofs.Halving.{index_get}
 use Rattle.recognizer_model.specs.declared.Item.{Item}
 use Rattle.recognizer_model.specs.Counts.{IsListOf}
 use Rattle.item_rows.specs.declared.dotted.Span.{Span}
@@ -81,7 +81,7 @@ module _ (row : List ℕ) (rises : Rises row) where
         there : Contains (take (end - start) (drop start row)) n → Contains row n × (low ≤ n) × (n < high)
         there h =
             let (k, from, to, is) = part_from row start end part_order be n h in
-            let (lt, same) = index_get row k 0 n is in
+            let (lt, same) = get_index row k 0 n is in
             let p = a1 k from lt in
             let q = b2 k to in
             (at_found row k n is, omega arith, omega arith)
@@ -89,7 +89,7 @@ module _ (row : List ℕ) (rises : Rises row) where
         back : Contains row n × (low ≤ n) × (n < high) → Contains (take (end - start) (drop start row)) n
         back (c, from, to) =
             let (k, is) = found_at row n c in
-            let (lt, same) = index_get row k 0 n is in
+            let (lt, same) = get_index row k 0 n is in
             part_to row start end part_order be k n
             (elim (cases_lt k start) [ inr l ↦ l | inl l ↦ let p = b1 k l in absurd (omega arith) ])
             (elim (cases_lt k end) [ inl l ↦ l | inr l ↦ let p = a2 k l lt in absurd (omega arith) ]) is
@@ -181,6 +181,20 @@ nat_eq-laws = search (comparing, rules)
 decides : (m n : ℕ) → ((m == n) ≡ true → m ≡ n) × (m ≡ n → (m == n) ≡ true)
 decides m n = (eqb-true m n, eq-eqb m n)
 
+-- different numbers rise where they are sorted
+module _ (old sorted : List ℕ) (once : AllPairs (λ m n. m ≢ n) old) (moved : IsPermutation old sorted) (order : IsSorted nat_cmp sorted) where
+  sorted_apart : AllPairs (λ m n. m ≢ n) sorted
+  sorted_apart = AllPairs-from_IsDistinct decides sorted (IsDistinct-IsPermutation (λ m n. m == n) nat_eq-laws.symm old sorted moved (IsDistinct-from_AllPairs decides old once))
+
+  increasing : IsStrictlyIncreasing sorted
+  increasing k lt =
+      let up = IsNonDecreasingBy-from_sort (λ (n : ℕ). n) sorted order k (k + 1) 0 (omega arith) lt in
+      let apart : slice_index sorted k ≢ slice_index sorted (k + 1) = sorted_apart k (k + 1) 0 (omega arith) lt in
+      elim (cases_lt (slice_index sorted k) (slice_index sorted (k + 1))) [ inl l ↦ l | inr l ↦ absurd (apart (omega arith)) ]
+
+  pub sorted_rises : Rises sorted
+  sorted_rises = AllPairs-from_increasing sorted increasing
+
 module _ (rules : List Item) (items : List Item) (packed sorted : List ℕ) (is : map (unpacked rules) packed ≡ items) (within : (n : ℕ) → Contains packed n → n / 4294967296 < length rules)
     (once : AllPairs (λ x y. x ≢ y) items) (moved : IsPermutation packed sorted) (order : IsSorted nat_cmp sorted) where
   packed_once : AllPairs (λ m n. m ≢ n) packed
@@ -191,17 +205,8 @@ module _ (rules : List Item) (items : List Item) (packed sorted : List ℕ) (is 
       let at : (k : ℕ) → k < length packed → slice_index_or items k u ≡ unpacked rules (slice_index_or packed k d) = λ k b. ap (λ z. slice_index_or z k u) (sym is) ∙ get_or-map (unpacked rules) packed k d u b in
       once i j u lt (omega arith) (at i (omega arith) ∙ (ap (unpacked rules) e ∙ sym (at j below)))
 
-  sorted_apart : AllPairs (λ m n. m ≢ n) sorted
-  sorted_apart = AllPairs-from_IsDistinct decides sorted (IsDistinct-IsPermutation (λ m n. m == n) nat_eq-laws.symm packed sorted moved (IsDistinct-from_AllPairs decides packed packed_once))
-
-  increasing : IsStrictlyIncreasing sorted
-  increasing k lt =
-      let up = IsNonDecreasingBy-from_sort (λ (n : ℕ). n) sorted order k (k + 1) 0 (omega arith) lt in
-      let apart : slice_index sorted k ≢ slice_index sorted (k + 1) = sorted_apart k (k + 1) 0 (omega arith) lt in
-      elim (cases_lt (slice_index sorted k) (slice_index sorted (k + 1))) [ inl l ↦ l | inr l ↦ absurd (apart (omega arith)) ]
-
   pub sorted_row : IsPackedRow (length rules) sorted
-  sorted_row = record { rises = AllPairs-from_increasing sorted increasing; within = λ n h. within n (Contains-permutation sorted packed n (IsPermutation-sym packed sorted moved) h) }
+  sorted_row = record { rises = sorted_rises packed sorted packed_once moved order; within = λ n h. within n (Contains-permutation sorted packed n (IsPermutation-sym packed sorted moved) h) }
 
   permuted : IsPermutation items (map (unpacked rules) sorted)
   permuted = subst (λ (l : List Item). IsPermutation l (map (unpacked rules) sorted)) is (IsPermutation-map (unpacked rules) packed sorted moved)

@@ -1,7 +1,7 @@
 -- Rows as they are held: the packed items of each, and the list that it shares.
 use Rattle.std.specs.Prelude.{◌≡◌, ℕ, suc, ◌<◌, ◌≤◌, ◌^◌, List, [], ◌∷◌, length, map, sum, slice_index_or, Contains}
 use Rattle.recognizer_model.specs.declared.Item.{Item}
-use Rattle.item_rows.specs.Rows.{list_at}
+use Rattle.jagged.specs.Rows.{row_at as list_at}
 use Rattle.item_rows.specs.Dotted.{dotted_at, AreDotted, row_items, IsRowOfParts}
 
 -- the list that a row shares, by the row's number

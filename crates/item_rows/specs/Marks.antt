@@ -1,26 +1,33 @@
--- Marks of the terminals that a row waits for.
-use Rattle.std.specs.Prelude.{◌≡◌, ℕ, ◌+◌, ◌≤◌, ◌↔◌, ◌⊎◌, List, length, Some, slice_get}
+-- Marks of the terminals that a row waits for, and their list.
+use Rattle.std.specs.Prelude.{◌≡◌, ◌≢◌, ℕ, ◌+◌, ◌≤◌, ◌↔◌, List, length, Some, slice_get, vec_capacity, Contains}
+use Rattle.std.specs.List.{AllPairs}
 use Rattle.recognizer_model.specs.declared.flat.FlatSymbol.TheVariants.{Terminal}
 use Rattle.recognizer_model.specs.declared.Item.{Item}
 use Rattle.recognizer_model.specs.Flat.{FlatGrammar}
 use Rattle.recognizer_model.specs.Items.{after}
 use Rattle.item_rows.specs.Kept.{IsAwaitedTerminal}
+use Rattle.item_rows.specs.declared.marks.Marks.{Marks}
 
 -- an item waits for the terminal
 abbrev pub WaitsFor : FlatGrammar → Item → (t : ℕ) → Type 0
 WaitsFor g item t = (x : ℕ) × (after g item ≡ Some x) × (slice_get g.symbols x ≡ Some (Terminal t))
 
 abbrev pub AreAtMost : (bound : ℕ) → (marks : List ℕ) → Type 0
-AreAtMost bound marks = (t m : ℕ) → slice_get marks t ≡ Some m → m ≤ bound
+AreAtMost bound marks = (x m : ℕ) → slice_get marks x ≡ Some m → m ≤ bound
 
--- those with the property have the mark, and no mark is greater
-abbrev pub AreMarked : (Marked : ℕ → Type 0) → (mark : ℕ) → (marks : List ℕ) → Type 0
-AreMarked Marked mark marks = (t m : ℕ) → slice_get marks t ≡ Some m → (m ≤ mark) × ((m ≡ mark) ↔ Marked t)
+-- each symbol has a mark, and all may be listed
+pub record HasRoom (g : FlatGrammar) (marks : Marks) : Type 0 where
+  pub all : length marks.rows.items ≡ length g.symbols
+  pub room : length g.symbols ≤ vec_capacity marks.listed
 
--- just the terminals that the row waits for are marked as its own
-abbrev pub AreMarksOf : FlatGrammar → (row : List Item) → (place : ℕ) → (marks : List ℕ) → Type 0
-AreMarksOf g row j marks = AreMarked (IsAwaitedTerminal g row (length g.symbols)) (j + 1) marks
+-- the symbols of the terminals that are listed have the mark, and no other; no mark is greater
+pub record AreMarked (g : FlatGrammar) (mark : ℕ) (marks listed : List ℕ) : Type 0 where
+  pub most : AreAtMost mark marks
+  pub exact : (x m t : ℕ) → slice_get marks x ≡ Some m → slice_get g.symbols x ≡ Some (Terminal t) → (m ≡ mark) ↔ Contains listed t
+  pub known : (t : ℕ) → Contains listed t → (x : ℕ) × (slice_get g.symbols x ≡ Some (Terminal t))
+  pub once : AllPairs (λ s t. s ≢ t) listed
 
--- those with the property get the mark, and no other changes
-abbrev pub Marks : (Marked : ℕ → Type 0) → (mark : ℕ) → (old new : List ℕ) → Type 0
-Marks Marked mark old new = (t m : ℕ) → slice_get new t ≡ Some m → (Marked t × (m ≡ mark)) ⊎ ((¬ Marked t) × (slice_get old t ≡ Some m))
+-- just the terminals that the row waits for are listed, and marked as its own
+pub record AreMarksOf (g : FlatGrammar) (row : List Item) (place : ℕ) (marks listed : List ℕ) : Type 0 where
+  pub marked : AreMarked g (place + 1) marks listed
+  pub exact : (t : ℕ) → Contains listed t ↔ IsAwaitedTerminal g row (length g.symbols) t

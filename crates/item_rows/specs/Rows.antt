@@ -1,5 +1,5 @@
 -- Rows that are kept end to end, told apart by the places where each ends; and lists that several rows share.
-use Rattle.std.specs.Prelude.{◌≡◌, ℕ, ◌≤◌, ◌++◌, List, [], ◌∷◌, take, drop, slice_index_or, Contains}
+use Rattle.std.specs.Prelude.{◌≡◌, ℕ, ◌++◌, List, [], ◌∷◌, slice_index_or, Contains}
 use Rattle.recognizer_model.specs.declared.Item.{Item}
 use Rattle.recognizer_model.specs.Flat.{FlatGrammar}
 
@@ -22,19 +22,3 @@ IsBegunAt list place item = (item.origin ≡ place) × Contains list (record ite
 -- one row more
 abbrev pub with_row : ItemRows → List Item → ItemRows
 with_row rows row = record rows { sets = rows.sets ++ row ∷ [] }
-
-abbrev pub list_at : {A : Type 0} → List (List A) → ℕ → List A
-list_at lists i = slice_index_or lists i []
-
-abbrev pub cut : {A : Type 0} → ℕ → List ℕ → List A → List (List A)
-cut from [] items = []
-cut from (end ∷ ends) items = drop from (take end items) ∷ cut end ends items
-
--- the ends rise, up to at most the length
-abbrev pub AreEnds : ℕ → List ℕ → (length : ℕ) → Type 0
-AreEnds from [] n = from ≤ n
-AreEnds from (end ∷ ends) n = (from ≤ end) × AreEnds end ends n
-
-abbrev pub last_end : ℕ → List ℕ → ℕ
-last_end from [] = from
-last_end from (end ∷ ends) = last_end end ends

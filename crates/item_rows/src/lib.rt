@@ -6,10 +6,9 @@ mod expected;
 mod marks;
 mod order;
 mod packed;
-mod parts;
 mod rows;
 
-pub use expected::list_expected;
+pub use expected::ascending;
 pub use marks::{Marks, is_marked, mark_row, new_marks, take_marks};
 pub use packed::Row;
 pub use rows::Rows;

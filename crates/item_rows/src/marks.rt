@@ -1,10 +1,9 @@
-//! Marks of the terminals that a row waits for, so that none has to be looked for.
-ghost use Rattle.std.specs.Prelude.{◌≡◌, ◌≢◌, ℕ, ◌+◌, ◌<◌, ◌≤◌, ◌↔◌, length, slice_get, Some, IsTrue, IfOk, IfSome, IsNone, Contains};
+//! Marks of the terminals that a row waits for, so that none has to be looked for, and their list.
+ghost use Rattle.std.specs.Prelude.{◌≡◌, ◌≢◌, ℕ, ◌+◌, ◌<◌, ◌≤◌, ◌↔◌, ◌⊎◌, length, slice_get, Some, IsTrue, IfOk, IfSome, IsNone, Contains};
 ghost use Rattle.recognizer_model.specs.declared.Item.{Item as TheItem};
 ghost use Rattle.recognizer_model.specs.declared.flat.FlatSymbol.TheVariants.{Terminal};
 ghost use Rattle.item_rows.specs.Rows.{row_at};
-ghost use Rattle.item_rows.specs.Kept.{IsAwaitedTerminal};
-ghost use Rattle.item_rows.specs.Marks.{WaitsFor, AreAtMost, AreMarked, AreMarksOf, Marks as PutsMarks};
+ghost use Rattle.item_rows.specs.Marks.{WaitsFor, HasRoom, AreAtMost, AreMarked, AreMarksOf};
 
 use crate::packed::Row;
 use crate::rows::Rows;
@@ -12,13 +11,12 @@ use grammar_core::{Flat, FlatSymbol, SymbolId};
 use recognizer_model::Item;
 use std::alloc::{AllocError, Global};
 
-// How many terminals have marks at most, by their numbers.
-const MARKED: usize = 65_536;
-
-/// A mark for each of the first terminals, by their numbers: the row that was marked last with it, counted from 1.
+/// The terminals that the row waits for that was marked last, each once, and a mark for each symbol, by their numbers: the row
+/// that was marked last with it, counted from 1. A symbol of a terminal is marked where the terminal is listed.
 #[derive(Drop)]
 pub struct Marks {
     pub rows: Vec<u32>,
+    pub listed: Vec<SymbolId>,
 }
 
 // The terminal of a symbol.
@@ -33,110 +31,95 @@ fn terminal_of(flat: &Flat, symbol: u32) -> Option<SymbolId>
     }
 }
 
-// How many terminals get marks, by their numbers.
-fn mark_count(flat: &Flat) -> usize
-    ensures { result ≤ 65536 }
-{
-    flat.known();
-    let mut count = 0;
-    for symbol in 0..flat.symbol_count() {
-        if let Some(t) = terminal_of(flat, symbol as u32) {
-            count = MARKED.min(t.0 as usize + 1);
-        }
-    }
-    count
-}
-
-/// No terminal is marked.
+/// No terminal is marked, and there is room for all.
 pub fn new_marks(alloc: Global, flat: &Flat) -> Result<Marks, AllocError>
-    ensures { IfOk result (λ marks. AreAtMost 0 marks.rows.items) }
+    ensures none { IfOk result (λ marks. AreAtMost 0 marks.rows.items) }
+    ensures room { IfOk result (HasRoom flat.now) }
 {
+    let count = flat.symbol_count();
     let mut rows = Vec::new(alloc);
-    rows.resize(mark_count(flat), 0)?;
-    Ok(Marks { rows })
+    rows.resize(count, 0)?;
+    let listed = Vec::with_capacity(alloc, count)?;
+    Ok(Marks { rows, listed })
 }
 
 /// Takes all marks away.
 pub fn take_marks(marks: &mut Marks)
-    ensures { AreAtMost 0 marks.new.rows.items }
+    ensures none { AreAtMost 0 marks.new.rows.items }
+    ensures same { (length marks.new.rows.items ≡ length marks.old.rows.items) × (marks.new.listed ≡ marks.old.listed) }
 {
     for t in 0..marks.rows.len() {
         marks.rows[t] = 0;
     }
 }
 
-fn put_mark(marks: &mut Vec<u32>, t: SymbolId, mark: u32)
-    ensures { PutsMarks (λ k. k ≡ t) mark marks.old.items marks.new.items }
+// Marks the symbol of a terminal, and lists the terminal, unless that is done.
+fn put_mark(flat: &Flat, symbol: u32, t: SymbolId, mark: u32, marks: &mut Marks)
+    requires symbol { slice_get flat.now.symbols symbol ≡ Some (Terminal t) }
+    requires room { HasRoom flat.now marks.old }
+    requires marked { AreMarked flat.now mark marks.old.rows.items marks.old.listed.items }
+    ensures room { HasRoom flat.now marks.new }
+    ensures marked { AreMarked flat.now mark marks.new.rows.items marks.new.listed.items }
+    ensures listed { (s : ℕ) → Contains marks.new.listed.items s ↔ (Contains marks.old.listed.items s ⊎ (t ≡ s)) }
 {
-    let place = t.0 as usize;
-    if place < marks.len() {
-        marks[place] = mark;
+    flat.known();
+    let place = symbol as usize;
+    if marks.rows[place] != mark {
+        marks.rows[place] = mark;
+        marks.listed.push_reserved(t);
     }
 }
 
-// Marks the terminal that an item waits for.
-fn mark_item(flat: &Flat, item: Item, mark: u32, marks: &mut Vec<u32>)
-    ensures { PutsMarks (WaitsFor flat.now item) mark marks.old.items marks.new.items }
+// Marks and lists the terminal that an item waits for.
+fn mark_item(flat: &Flat, item: Item, mark: u32, marks: &mut Marks)
+    requires room { HasRoom flat.now marks.old }
+    requires marked { AreMarked flat.now mark marks.old.rows.items marks.old.listed.items }
+    ensures room { HasRoom flat.now marks.new }
+    ensures marked { AreMarked flat.now mark marks.new.rows.items marks.new.listed.items }
+    ensures listed { (t : ℕ) → Contains marks.new.listed.items t ↔ (Contains marks.old.listed.items t ⊎ WaitsFor flat.now item t) }
 {
     flat.known();
     if let Some(symbol) = flat.part(item.rule, item.dot) {
         if let Some(t) = terminal_of(flat, symbol) {
-            put_mark(marks, t, mark);
+            put_mark(flat, symbol, t, mark, marks);
         }
     }
 }
 
-// Marks the terminals that items wait for.
-fn mark_items(flat: &Flat, items: &Row<'_>, mark: u32, marks: &mut Vec<u32>)
-    requires { (t m : ℕ) → slice_get marks.old.items t ≡ Some m → m < mark }
-    ensures { AreMarked (λ t. (item : TheItem) × Contains items.now item × WaitsFor flat.now item t) mark marks.new.items }
+// Marks and lists the terminals that items wait for.
+fn mark_items(flat: &Flat, items: &Row<'_>, mark: u32, marks: &mut Marks)
+    requires room { HasRoom flat.now marks.old }
+    requires older { (x m : ℕ) → slice_get marks.old.rows.items x ≡ Some m → m < mark }
+    ensures room { HasRoom flat.now marks.new }
+    ensures marked { AreMarked flat.now mark marks.new.rows.items marks.new.listed.items }
+    ensures listed { (t : ℕ) → Contains marks.new.listed.items t ↔ ((item : TheItem) × Contains items.now item × WaitsFor flat.now item t) }
 {
+    marks.listed.clear();
     for k in 0..items.len() {
         mark_item(flat, items.at(k), mark, marks);
     }
 }
 
-/// Marks the terminals that a row waits for as its own, where no row behind it has marked any.
+/// Marks the terminals that a row waits for as its own, where no row behind it has marked any, and lists them in place of those of the row before.
 pub fn mark_row(flat: &Flat, rows: &Rows<'_>, j: usize, marks: &mut Marks)
     requires flat { rows.now.flat ≡ flat.now }
     requires place { j < length rows.now.sets }
     requires few { j < 4294967295 }
+    requires room { HasRoom flat.now marks.old }
     requires older { AreAtMost j marks.old.rows.items }
-    ensures { AreMarksOf flat.now (row_at rows.now.sets j) j marks.new.rows.items }
+    ensures room { HasRoom flat.now marks.new }
+    ensures marks { AreMarksOf flat.now (row_at rows.now.sets j) j marks.new.rows.items marks.new.listed.items }
 {
     let items = rows.scanned(j);
-    mark_items(flat, &items, j as u32 + 1, &mut marks.rows);
+    mark_items(flat, &items, j as u32 + 1, marks);
 }
 
-// Looks whether an item of a row waits for a terminal.
-fn awaits(flat: &Flat, rows: &Rows<'_>, j: usize, t: SymbolId) -> bool
-    requires flat { rows.now.flat ≡ flat.now }
-    requires place { j < length rows.now.sets }
-    ensures { IsTrue result ↔ IsAwaitedTerminal flat.now (row_at rows.now.sets j) (length flat.now.symbols) t }
+/// Whether the row that was marked last waits for the terminal of a symbol.
+pub fn is_marked(flat: &Flat, marks: &Marks, mark: u32, symbol: u32, t: SymbolId) -> bool
+    requires symbol { slice_get flat.now.symbols symbol ≡ Some (Terminal t) }
+    requires room { HasRoom flat.now marks.now }
+    requires marked { AreMarked flat.now mark marks.now.rows.items marks.now.listed.items }
+    ensures { IsTrue result ↔ Contains marks.now.listed.items t }
 {
-    flat.known();
-    match flat.terminal(t) {
-        Some(symbol) => rows.is_awaited(j, symbol),
-        None => false,
-    }
-}
-
-fn mark_at(marks: &[u32], place: usize) -> Option<u32>
-    ensures { result ≡ slice_get marks.now place }
-{
-    marks.get(place).copied()
-}
-
-/// Whether an item of a row waits for a terminal, by the row's marks, as far as there are any.
-pub fn is_marked(flat: &Flat, rows: &Rows<'_>, j: usize, marks: &Marks, t: SymbolId) -> bool
-    requires flat { rows.now.flat ≡ flat.now }
-    requires place { j < length rows.now.sets }
-    requires few { j < 4294967295 }
-    requires marks { AreMarksOf flat.now (row_at rows.now.sets j) j marks.now.rows.items }
-    ensures { IsTrue result ↔ IsAwaitedTerminal flat.now (row_at rows.now.sets j) (length flat.now.symbols) t }
-{
-    match mark_at(&marks.rows, t.0 as usize) {
-        Some(mark) => mark as usize == j + 1,
-        None => awaits(flat, rows, j, t),
-    }
+    marks.rows[symbol as usize] == mark
 }

@@ -8,7 +8,6 @@ ghost use Rattle.item_rows.specs.Kept.{AreItems, IsAwaited, WaitsForTerminal};
 ghost use Rattle.item_rows.specs.Dotted.{unpacked, IsPackedRow, AreDotted, IsRowOfParts, AreWithin, row_items, Rises};
 
 use crate::dotted::{DottedRules, Span, begin, unpack};
-use crate::parts::between;
 use recognizer_model::Item;
 use std::alloc::{AllocError, AllocFailed};
 use std::marker::Model;
@@ -116,6 +115,24 @@ pub fn list_dotted(packed: &[u64], numbers: &mut Vec<u32>) -> Result<(), AllocFa
     Ok(())
 }
 
+// Of so many numbers the first that is not below a bound is found by going through them, and of more by halving.
+const FEW: usize = 8;
+
+// How many numbers are below a bound, of a few.
+fn count_few_below(packed: &[u64], bound: u64) -> usize
+    requires { Rises packed.now }
+    ensures bound { result ≤ length packed.now }
+    ensures below { (k : ℕ) → k < result → slice_index packed.now k < bound }
+    ensures above { (k : ℕ) → result ≤ k → k < length packed.now → bound ≤ slice_index packed.now k }
+{
+    for place in 0..packed.len() {
+        if packed[place] >= bound {
+            return place;
+        }
+    }
+    packed.len()
+}
+
 // How many numbers are below a bound.
 fn count_below(packed: &[u64], bound: u64) -> usize
     requires { Rises packed.now }
@@ -123,17 +140,40 @@ fn count_below(packed: &[u64], bound: u64) -> usize
     ensures below { (k : ℕ) → k < result → slice_index packed.now k < bound }
     ensures above { (k : ℕ) → result ≤ k → k < length packed.now → bound ≤ slice_index packed.now k }
 {
-    packed.partition_point(|n| *n < bound)
+    if packed.len() <= FEW {
+        count_few_below(packed, bound)
+    } else {
+        packed.partition_point(|n| *n < bound)
+    }
 }
 
-// The same of dotted rules.
+// How many dotted rules are before a bound, of a few.
+fn count_few_before(begun: &[u32], bound: u32) -> usize
+    requires { Rises begun.now }
+    ensures bound { result ≤ length begun.now }
+    ensures below { (k : ℕ) → k < result → slice_index begun.now k < bound }
+    ensures above { (k : ℕ) → result ≤ k → k < length begun.now → bound ≤ slice_index begun.now k }
+{
+    for place in 0..begun.len() {
+        if begun[place] >= bound {
+            return place;
+        }
+    }
+    begun.len()
+}
+
+// How many dotted rules are before a bound.
 fn count_before(begun: &[u32], bound: u32) -> usize
     requires { Rises begun.now }
     ensures bound { result ≤ length begun.now }
     ensures below { (k : ℕ) → k < result → slice_index begun.now k < bound }
     ensures above { (k : ℕ) → result ≤ k → k < length begun.now → bound ≤ slice_index begun.now k }
 {
-    begun.partition_point(|k| *k < bound)
+    if begun.len() <= FEW {
+        count_few_before(begun, bound)
+    } else {
+        begun.partition_point(|k| *k < bound)
+    }
 }
 
 // The packed items whose dotted rules are of a span.
@@ -160,6 +200,14 @@ fn dotted_within(begun: &[u32], span: Span) -> &[u32]
     let start = count_before(begun, span.start);
     let end = count_before(begun, span.end);
     between(begun, start, end)
+}
+
+fn between<T>(items: &[T], start: usize, end: usize) -> &[T]
+    requires order { start ≤ end }
+    requires bound { end ≤ length items.now }
+    ensures { result.now ≡ take (end - start) (drop start items.now) }
+{
+    &items[start..end]
 }
 
 // The least number that an item with a dotted rule is packed into.
@@ -227,55 +275,6 @@ pub fn scanned<'r>(
 {
     dotted.known();
     narrowed(dotted, packed, begun, place, dotted.scanned())
-}
-
-fn is_there(packed: &[u64], place: usize, end: u64) -> bool
-    ensures { IsTrue result ↔ ((place < length packed.now) × (slice_index packed.now place < end)) }
-{
-    place < packed.len() && packed[place] < end
-}
-
-// Whether a packed item has a dotted rule of a span.
-fn is_packed_within(packed: &[u64], span: Span) -> bool
-    requires row { Rises packed.now }
-    requires order { span.start ≤ span.end }
-    ensures { IsTrue result ↔ ((n : ℕ) × Contains packed.now n × (span.start ≤ n / 4294967296) × (n / 4294967296 < span.end)) }
-{
-    let low = first_of(span.start);
-    let high = first_of(span.end);
-    let place = count_below(packed, low);
-    is_there(packed, place, high)
-}
-
-fn is_dotted_there(begun: &[u32], place: usize, end: u32) -> bool
-    ensures { IsTrue result ↔ ((place < length begun.now) × (slice_index begun.now place < end)) }
-{
-    place < begun.len() && begun[place] < end
-}
-
-// Whether a dotted rule is of a span.
-fn is_dotted_within(begun: &[u32], span: Span) -> bool
-    requires row { Rises begun.now }
-    requires order { span.start ≤ span.end }
-    ensures { IsTrue result ↔ ((k : ℕ) × Contains begun.now k × (span.start ≤ k) × (k < span.end)) }
-{
-    let place = count_before(begun, span.start);
-    is_dotted_there(begun, place, span.end)
-}
-
-/// Whether an item of a row waits for a symbol.
-pub fn is_awaited(
-    dotted: &DottedRules<'_>,
-    packed: &[u64],
-    begun: &[u32],
-    place: u32,
-    symbol: u32,
-) -> bool
-    requires { IsRowOfParts dotted.now.rules place packed.now begun.now }
-    ensures { IsTrue result ↔ IsAwaited dotted.now.flat (row_items dotted.now.rules place packed.now begun.now) symbol }
-{
-    let span = dotted.span(symbol);
-    is_packed_within(packed, span) || is_dotted_within(begun, span)
 }
 
 fn has_packed(packed: &[u64], number: u64) -> bool

@@ -9,11 +9,9 @@ ghost use Rattle.item_rows.specs.Held.{shared_by};
 ghost use Rattle.item_rows.specs.Kept.{AreItems, IsAwaited, WaitsForTerminal};
 
 use crate::dotted::DottedRules;
-use crate::packed::{
-    Row, contains, is_awaited, list_dotted, pack_row, row_of, scanned, waiting, whole,
-};
-use crate::parts::Parts;
+use crate::packed::{Row, contains, list_dotted, pack_row, row_of, scanned, waiting, whole};
 use grammar_core::Flat;
+use jagged::Jagged;
 use recognizer_model::Item;
 use std::alloc::{AllocError, Global};
 use std::marker::Model;
@@ -23,11 +21,11 @@ use std::marker::Model;
 pub struct Rows<'g> {
     dotted: DottedRules<'g>,
     // the packed items that are a row's own, row by row
-    kernels: Parts<u64>,
+    kernels: Jagged<u64>,
     // the number of the list that a row shares, row by row
     begun: Vec<u32>,
     // the lists that rows share
-    lists: Parts<u32>,
+    lists: Jagged<u32>,
     // how many items the rows have together
     count: usize,
     // what is put last
@@ -51,11 +49,11 @@ impl<'g> Rows<'g> {
         ensures { IfOk result (λ r. (r.flat ≡ flat.now) × (r.sets ≡ []) × (r.shared ≡ [] ∷ [])) }
     {
         let dotted = DottedRules::new(alloc, flat)?;
-        let mut lists = Parts::new(alloc);
+        let mut lists = Jagged::new(alloc);
         lists.push(&[])?;
         Ok(Rows {
             dotted,
-            kernels: Parts::new(alloc),
+            kernels: Jagged::new(alloc),
             begun: Vec::new(alloc),
             lists,
             count: 0,
@@ -82,7 +80,7 @@ impl<'g> Rows<'g> {
         requires { j < length self.now.sets }
         ensures { result ≡ row_at self.now.sets j }
     {
-        let packed = self.kernels.at(j);
+        let packed = self.kernels.row(j);
         let begun = list_of(&self.lists, &self.begun, j);
         row_of(self.dotted.rules(), packed, begun, j as u32)
     }
@@ -92,7 +90,7 @@ impl<'g> Rows<'g> {
         requires { j < length self.now.sets }
         ensures { IsListOf (λ item. Contains (row_at self.now.sets j) item × (after self.now.flat item ≡ Some symbol)) result }
     {
-        let packed = self.kernels.at(j);
+        let packed = self.kernels.row(j);
         let begun = list_of(&self.lists, &self.begun, j);
         waiting(&self.dotted, packed, begun, j as u32, symbol)
     }
@@ -102,7 +100,7 @@ impl<'g> Rows<'g> {
         requires { j < length self.now.sets }
         ensures { IsListOf (λ item. Contains (row_at self.now.sets j) item × IsWhole self.now.flat item) result }
     {
-        let packed = self.kernels.at(j);
+        let packed = self.kernels.row(j);
         let begun = list_of(&self.lists, &self.begun, j);
         whole(&self.dotted, packed, begun, j as u32)
     }
@@ -112,19 +110,9 @@ impl<'g> Rows<'g> {
         requires { j < length self.now.sets }
         ensures { IsListOf (λ item. Contains (row_at self.now.sets j) item × WaitsForTerminal self.now.flat item) result }
     {
-        let packed = self.kernels.at(j);
+        let packed = self.kernels.row(j);
         let begun = list_of(&self.lists, &self.begun, j);
         scanned(&self.dotted, packed, begun, j as u32)
-    }
-
-    /// Whether an item of a row waits for a symbol.
-    pub fn is_awaited(&self, j: usize, symbol: u32) -> bool
-        requires { j < length self.now.sets }
-        ensures { IsTrue result ↔ IsAwaited self.now.flat (row_at self.now.sets j) symbol }
-    {
-        let packed = self.kernels.at(j);
-        let begun = list_of(&self.lists, &self.begun, j);
-        is_awaited(&self.dotted, packed, begun, j as u32, symbol)
     }
 
     /// Whether an item is in a row.
@@ -132,7 +120,7 @@ impl<'g> Rows<'g> {
         requires { j < length self.now.sets }
         ensures { IsTrue result ↔ Contains (row_at self.now.sets j) item }
     {
-        let packed = self.kernels.at(j);
+        let packed = self.kernels.row(j);
         let begun = list_of(&self.lists, &self.begun, j);
         contains(&self.dotted, packed, begun, j as u32, item)
     }
@@ -142,7 +130,7 @@ impl<'g> Rows<'g> {
         requires { 0 < length self.old.sets }
         ensures { self.new ≡ record self.old { sets = row_at self.old.sets 0 ∷ [] } }
     {
-        let own = self.kernels.at(0).len();
+        let own = self.kernels.row(0).len();
         let count = own + list_of(&self.lists, &self.begun, 0).len();
         self.kernels.keep_first();
         self.count = count;
@@ -184,7 +172,7 @@ impl<'g> Rows<'g> {
             return Err(AllocError);
         }
         pack_row(&self.dotted, items, &mut self.next)?;
-        let size = self.next.len() + self.lists.at(begun as usize).len();
+        let size = self.next.len() + self.lists.row(begun as usize).len();
         let count = add(self.count, size)?;
         put_number(&mut self.begun, place, begun)?;
         self.kernels.push(&self.next)?;
@@ -194,12 +182,12 @@ impl<'g> Rows<'g> {
 }
 
 // The list that a row shares.
-fn list_of<'r>(lists: &'r Parts<u32>, begun: &[u32], j: usize) -> &'r [u32]
+fn list_of<'r>(lists: &'r Jagged<u32>, begun: &[u32], j: usize) -> &'r [u32]
     requires place { j < length begun.now }
     requires known { (k : ℕ) → k ≤ j → slice_index_or begun.now k 0 < length lists.now }
     ensures { result.now ≡ shared_by lists.now begun.now j }
 {
-    lists.at(begun[j] as usize)
+    lists.row(begun[j] as usize)
 }
 
 fn add(count: usize, more: usize) -> Result<usize, AllocError>

@@ -13,7 +13,7 @@ use std::alloc::Global;
 use std::test::Fail;
 
 /// What characters say.
-pub fn parsed(alloc: Global, chars: &Chars) -> Result<Description, StatementRefusal>
+pub(crate) fn parsed(alloc: Global, chars: &Chars) -> Result<Description, StatementRefusal>
     ensures { IfOk result (λ d. (ts : List Token) × AreTokens chars.now ts × Describes d (map (spelled_at chars.now) ts)) }
 {
     let Ok(tokens) = tokens(alloc, chars) else {
@@ -35,7 +35,7 @@ fn described(alloc: Global, text: &[u8]) -> Result<Description, Fail>
 }
 
 /// What is built of a text.
-pub fn built(alloc: Global, text: &[u8]) -> Result<Built, Fail>
+pub(crate) fn built(alloc: Global, text: &[u8]) -> Result<Built, Fail>
     ensures { IfOk result (λ b. IsBuilt b) }
 {
     let d = described(alloc, text)?;

@@ -1,6 +1,7 @@
 -- Chains of pairs end: from each pair to the next the place falls, or stays and the symbol has a greater height.
 use Rattle.std.proofs.Common.{◌≡◌, inl, inr, ℕ, zero, suc, ◌+◌, ◌*◌, ◌<◌, ◌≤◌, length, List, Some, refl, sym, subst, arith}
 use Rattle.std.proofs.lemmas.Bool.{cases_lt}
+use Rattle.std.proofs.lemmas.Option.{slice_get_within}
 use Rattle.finite_sets.proofs.Deciding.{less}
 use Rattle.finite_sets.proofs.Members.{values, among_values}
 use Rattle.finite_sets.proofs.Choosing.{count, count_less}
@@ -10,7 +11,6 @@ use Rattle.recognizer_model.specs.Invariant.{IsFlat, LeadsOver}
 use Rattle.item_rows.specs.Kept.{AreRows}
 use Rattle.leo_items.specs.ByRows.{IsLeoIn, IsStepIn, AreNulled}
 use Rattle.leo_items.proofs.Chains.{leo_inside}
-use Rattle.leo_items.proofs.Single.{part_within}
 
 all_counted : (n : ℕ) → count (λ (z : ℕ). Unit {0}) (λ z. inl tt) (values (λ k. k) n) ≡ n
 all_counted zero = refl
@@ -49,7 +49,7 @@ module _ (g : FlatGrammar) (flat : IsFlat g) where
     over : (i x : ℕ) (item : Item) → IsLeoIn g rows i x item → item.origin ≡ i → LeadsOver g item.rule item.dot
     over i x item leo here other y differs e = elim (cases_lt other item.dot) [
       | inl before ↦ nulled i item leo.there here other y before e
-      | inr le ↦ (let lt = part_within (rhs_of g item.rule) other y e in let last = leo.last in absurd (differs (omega (arith, le, lt, last))))
+      | inr le ↦ (let lt = slice_get_within (rhs_of g item.rule) other y e in let last = leo.last in absurd (differs (omega (arith, le, lt, last))))
     ]
 
     falls : (i x : ℕ) (item : Item) → IsLeoIn g rows i x item → far item.origin (lhs_of g item.rule) < far i x

@@ -1,5 +1,5 @@
 -- Of the items of a set that wait for a symbol, the only one.
-use Rattle.std.proofs.Common.{◌≡◌, ◌≢◌, ℕ, zero, suc, ◌<◌, ◌≤◌, length, List, [], ◌∷◌, Option, Some, None, Contains, slice_get, refl, sym, ◌∙◌, ap, subst, arith}
+use Rattle.std.proofs.Common.{◌≡◌, ◌≢◌, ℕ, zero, suc, length, List, [], ◌∷◌, Option, Some, None, Contains, slice_get, refl, sym, ◌∙◌, ap, subst, arith}
 use Rattle.std.specs.Prelude.{IfSome, IsNone}
 use Rattle.std.specs.List.{AllPairs}
 use Rattle.recognizer_model.specs.declared.Item.{Item}
@@ -55,19 +55,3 @@ module _ (g : FlatGrammar) (P : Item → Type 0) (x : ℕ) (waiting : List Item)
   pub step_none : IsStep g waiting None → (item : Item) → ¬ IsOnly item
   step_none none item o =
       none item (only_one waiting item lists.once ((lists.exact item).1 (o.inside, o.waits)) (λ y c. let (p, e) = (lists.exact y).0 c in o.only y p e)) o.last
-
--- nothing is behind the end, and something is before it
-pub ends_there : (xs : List ℕ) (n : ℕ) → n ≤ length xs → slice_get xs n ≡ None → n ≡ length xs
-ends_there [] n le e = omega arith
-ends_there (y ∷ ys) zero le e = absurd (cc)
-ends_there (y ∷ ys) (suc n) le e = ap suc (ends_there ys n (omega arith) e)
-
-pub nothing_there : (xs : List ℕ) (n : ℕ) → n ≡ length xs → slice_get xs n ≡ None
-nothing_there [] n e = refl
-nothing_there (y ∷ ys) zero e = absurd (omega arith)
-nothing_there (y ∷ ys) (suc n) e = nothing_there ys n (omega arith)
-
-pub part_within : (xs : List ℕ) (k x : ℕ) → slice_get xs k ≡ Some x → k < length xs
-part_within [] k x e = absurd (cc)
-part_within (y ∷ ys) zero x e = omega arith
-part_within (y ∷ ys) (suc k) x e = let h = part_within ys k x e in omega arith

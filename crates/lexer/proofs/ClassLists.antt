@@ -3,7 +3,8 @@ use Rattle.std.proofs.Common.{◌≡◌, ◌⊎◌, inl, inr, ℕ, ◌+◌, ◌<
 use Rattle.std.proofs.lemmas.Bool.{cases_lt}
 use Rattle.std.proofs.lemmas.List.{get_or_append_left, get_or-append-add}
 use Rattle.language_model.specs.Classes.{Class}
-use Rattle.lexer.specs.Terminals.{AreTerminalsOf, IsClassOf, row_at}
+use Rattle.lexer.specs.Terminals.{AreTerminalsOf, IsClassOf}
+use Rattle.jagged.specs.Rows.{row_at}
 
 pub rows_added : (old new : List (List ℕ)) (row : List ℕ) → (new ≡ old) ⊎ (new ≡ old ++ row ∷ []) → (more : List (List ℕ)) × (new ≡ old ++ more)
 rows_added old new row (inl e) = ([], e ∙ sym (append-nil old))

@@ -3,12 +3,13 @@ use Rattle.std.proofs.Common.{◌≡◌, ◌↔◌, ◌⊎◌, inl, inr, ℕ, �
 use Rattle.std.specs.List.Sorted.{IsStrictlySortedBy}
 use Rattle.std.specs.Ordering.{nat_cmp}
 use Rattle.std.proofs.lemmas.List.{take_more}
+use Rattle.finite_sets.proofs.Lists.{Contains-none}
 use Rattle.recognizer_model.specs.declared.thread.Thread.{Thread}
 use Rattle.recognizer_model.specs.Flat.{FlatGrammar}
-use Rattle.threads.proofs.Listing.{Contains-none, contains_next, contains_pushed}
+use Rattle.threads.proofs.Listing.{contains_next, contains_pushed}
 use Rattle.lexer.specs.Machines.{IsMatch}
 use Rattle.lexer.specs.Reading.{IsDoneIn}
-use Rattle.lexer.proofs.Sorted.{sorted_front, sorted_last, sorted_push, sorted_none}
+use Rattle.lexer.proofs.Sorted.{sorted_prefix, sorted_last, sorted_push, sorted_none}
 
 module _ (g : FlatGrammar) (old : List ℕ) where
   abbrev pub DoneTo : List Thread → List ℕ → Type 0
@@ -58,8 +59,8 @@ module _ (g : FlatGrammar) (done : List ℕ) where
   }
 
   module _ (candidates : List ℕ) (i : ℕ) (lt : i < length candidates) (mid : List ℕ) (h : MatchedTo (take i candidates) mid) where
-    front : IsStrictlySortedBy nat_cmp (take (i + 1) candidates) → IsStrictlySortedBy nat_cmp (take i candidates)
-    front s = sorted_front (take i candidates) (get_or candidates i 0) (subst (IsStrictlySortedBy nat_cmp) (take_more candidates i 0 lt) s)
+    prefix : IsStrictlySortedBy nat_cmp (take (i + 1) candidates) → IsStrictlySortedBy nat_cmp (take i candidates)
+    prefix s = sorted_prefix (take i candidates) (get_or candidates i 0) (subst (IsStrictlySortedBy nat_cmp) (take_more candidates i 0 lt) s)
 
     pub matched_more : IsDoneBy (get_or candidates i 0) → (new : List ℕ) → new ≡ mid ++ get_or candidates i 0 ∷ [] → MatchedTo (take (i + 1) candidates) new
     matched_more d new e = record {
@@ -70,7 +71,7 @@ module _ (g : FlatGrammar) (done : List ℕ) where
         ],
         λ (c, b). (contains_pushed mid new (get_or candidates i 0) k e).1 (elim ((contains_next candidates i 0 k lt).0 c) [ inl o ↦ inl ((h.exact k).1 (o, b)) | inr s ↦ inr s ]),
       );
-      order = λ s. subst (IsStrictlySortedBy nat_cmp) (sym e) (sorted_push mid (get_or candidates i 0) (h.order (front s))
+      order = λ s. subst (IsStrictlySortedBy nat_cmp) (sym e) (sorted_push mid (get_or candidates i 0) (h.order (prefix s))
           (λ x c. sorted_last (take i candidates) (get_or candidates i 0) x (subst (IsStrictlySortedBy nat_cmp) (take_more candidates i 0 lt) s) ((h.exact x).0 c).0));
     }
 
@@ -80,7 +81,7 @@ module _ (g : FlatGrammar) (done : List ℕ) where
         λ c. (let (a, b) = (h.exact k).0 c in ((contains_next candidates i 0 k lt).1 (inl a), b)),
         λ (c, b). elim ((contains_next candidates i 0 k lt).0 c) [ inl o ↦ (h.exact k).1 (o, b) | inr s ↦ absurd (none (subst IsDoneBy (sym s) b)) ],
       );
-      order = λ s. h.order (front s);
+      order = λ s. h.order (prefix s);
     }
 
 -- rules that are done in a row are those of starts that are

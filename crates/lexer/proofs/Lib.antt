@@ -1,7 +1,5 @@
 pub mod Listing
 pub mod Sorted
-pub mod Cutting
-pub mod Starts
 pub mod Matching
 pub mod Moving
 pub mod Runs

@@ -1,15 +1,11 @@
 -- Loops over lists: one element more.
-use Rattle.std.proofs.Common.{◌≡◌, ◌↔◌, ◌⊎◌, inl, inr, ℕ, zero, suc, ◌+◌, ◌<◌, ◌++◌, List, [], ◌∷◌, length, take, map, get_or, Contains, refl, sym, ap, ◌∙◌, subst, arith, length-append}
+use Rattle.std.proofs.Common.{◌≡◌, ◌↔◌, ◌⊎◌, inl, inr, ℕ, zero, suc, ◌+◌, ◌<◌, ◌++◌, List, [], ◌∷◌, length, take, map, get_or, Contains, sym, ap, ◌∙◌, subst, arith, length-append}
 use Rattle.std.proofs.lemmas.Bool.{cases_lt}
-use Rattle.std.proofs.lemmas.List.{take_more, get_or_append_left, get_or-append-add}
+use Rattle.std.proofs.lemmas.List.{take_more, get_or_append_left, get_or-append-add, get_or_default}
 use Rattle.std.proofs.lemmas.List.Elements.{Contains-append_left, Contains-push, Contains-push_cases}
 use Rattle.language_model.specs.Classes.{Class, HasMember}
-use Rattle.lexer.specs.Terminals.{HasTerminal, AreTerminalsOf, row_at}
-
-pub get_or-default : {X : Type 0} (xs : List X) (k : ℕ) (d e : X) → k < length xs → get_or xs k d ≡ get_or xs k e
-get_or-default [] k d e lt = absurd (omega arith)
-get_or-default (x ∷ xs) zero d e lt = refl
-get_or-default (x ∷ xs) (suc k) d e lt = get_or-default xs k d e (omega arith)
+use Rattle.lexer.specs.Terminals.{HasTerminal, AreTerminalsOf}
+use Rattle.jagged.specs.Rows.{row_at}
 
 -- the first elements with one more, which a loop has at hand
 pub next_is : {X : Type 0} (xs : List X) (i : ℕ) (y : X) → i < length xs → y ≡ get_or xs i y → take (i + 1) xs ≡ take i xs ++ y ∷ []
@@ -68,12 +64,9 @@ module _ {X : Type 0} (P : ℕ → X → Type 0) (xs xs' : List X) (x : X) (is :
 
 pub rows_more : (P : ℕ → List ℕ → Type 0) (rows rows' : List (List ℕ)) (row : List ℕ) → rows' ≡ rows ++ row ∷ [] → ((k : ℕ) → k < length rows → P k (row_at rows k)) → P (length rows) row →
     (k : ℕ) → k < length rows' → P k (row_at rows' k)
-rows_more P rows rows' row is before here k lt = each_more P rows rows' row is (λ k d lt. subst (P k) (get_or-default rows k [] d lt) (before k lt)) here k [] lt
+rows_more P rows rows' row is before here k lt = each_more P rows rows' row is (λ k d lt. subst (P k) (get_or_default rows k [] d lt) (before k lt)) here k [] lt
 
 map_at : {X Y : Type 0} (f : X → Y) (x : X) (xs : List X) (k : ℕ) → k < length xs → get_or xs k x ≡ x → Contains (map f xs) (f x)
 map_at f x [] k lt e = absurd (omega arith)
 map_at f x (y ∷ ys) zero lt e = (0, omega arith, ap f e)
 map_at f x (y ∷ ys) (suc k) lt e = let (j, jl, je) = map_at f x ys k (omega arith) e in (suc j, omega arith, je)
-
-pub Contains-map : {X Y : Type 0} (f : X → Y) (xs : List X) (x : X) → Contains xs x → Contains (map f xs) (f x)
-Contains-map f xs x (k, lt, e) = map_at f x xs k lt e

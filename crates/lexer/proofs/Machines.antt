@@ -4,15 +4,16 @@ use Rattle.std.specs.declared.vec.Vec.{Vec}
 use Rattle.std.specs.declared.alloc.Global.{Global}
 use Rattle.std.proofs.lemmas.Bool.{cases_lt}
 use Rattle.std.proofs.lemmas.List.{get_or_append_left, get_or-append-add}
+use Rattle.finite_sets.proofs.Lists.{Contains-none}
 use Rattle.recognizer_model.specs.declared.thread.Thread.{Thread}
 use Rattle.recognizer_model.specs.Flat.{FlatGrammar}
 use Rattle.threads.specs.Lists.{list_at, IsGrown, AreThreads, AreParts}
 use Rattle.threads.specs.Steps.{IsReadBy, IsNext, IsBegin}
-use Rattle.threads.proofs.Listing.{Contains-none}
 use Rattle.threads.proofs.Parts.{grown_same, grown_on, grown_long, grown_at, grown_added, threads_later}
 use Rattle.lexer.specs.declared.kinds.Kind.{Kind}
 use Rattle.lexer.specs.declared.machine.Machine.{Machine}
-use Rattle.lexer.specs.Terminals.{ClassRows, row_at}
+use Rattle.lexer.specs.Terminals.{ClassRows}
+use Rattle.jagged.specs.Rows.{row_at}
 use Rattle.lexer.specs.Machines.{IsNoted, HasBegin, AreKinds, IsStepBy, IsNotedStep, IsMachine, Goes}
 
 -- ---- lists of rows

@@ -2,22 +2,23 @@
 use Rattle.std.proofs.Common.{◌≡◌, inl, inr, ℕ, ◌<◌, ◌++◌, List, [], ◌∷◌, length, Some, Contains, slice_get, subst, arith}
 use Rattle.std.specs.Prelude.{slice_index}
 use Rattle.std.proofs.lemmas.List.Elements.{Contains-append_left, Contains-append_right, Contains-append_cases, Contains-push, Contains-push_cases}
+use Rattle.std.proofs.lemmas.Option.{slice_get-get_or}
+use Rattle.finite_sets.proofs.Lists.{Contains-none}
 use Rattle.grammar_model.specs.declared.Edge.{Edge as HeldEdge}
 use Rattle.grammar_model.specs.declared.Ranking.TheVariants.{None}
 use Rattle.grammar_model.specs.Grammar.{Grammar, Slot, WrittenRule, slot_of, rule_at, child_slot}
 use Rattle.grammar_model.specs.Trees.{Tree, Children, Leaf, Nulled, Node, NoChild, Child, child_count}
 use Rattle.grammar_model.specs.Checked.{IsChecked}
-use Rattle.grammar_model.specs.Derives.{Edges, Held, Derives, DerivesFront}
+use Rattle.grammar_model.specs.Derives.{Edges, Held, Derives, DerivesPrefix}
 use Rattle.recognizer_model.specs.Flat.{FlatGrammar, rhs_of}
 use Rattle.recognizer_model.specs.Invariant.{IsFlat}
 use Rattle.recognizer_model.specs.FlatForm.{FlatEdges, IsFlatOf, IsFlatForm, FlatGrammarsAreFlatForms, tree_of}
 use Rattle.recognizer_model.specs.View.{grammar_view}
-use Rattle.threads.proofs.Listing.{Contains-none, get_at}
 use Rattle.language_model.specs.Building.{Built}
 use Rattle.reading_model.specs.Matches.{CharacterEdges, Matches}
 use Rattle.lexer.specs.Lexical.{SetEdges, HasMatch}
 use Rattle.lexer.specs.Laws.{MatchesAreTheGrammars}
-use Rattle.lexer.proofs.Starts.{part_in_range, part_stands}
+use Rattle.recognizer_model.proofs.Starts.{part_in_range, part_stands}
 
 -- ---- the edges of a tree
 
@@ -29,7 +30,7 @@ mutual
 
   edges_of_all : Children → List HeldEdge
   edges_of_all NoChild = []
-  edges_of_all (Child front last) = edges_of_all front ++ edges_of last
+  edges_of_all (Child prefix last) = edges_of_all prefix ++ edges_of last
 
 abbrev AreAll : Edges → List HeldEdge → Type 0
 AreAll E edges = (e : HeldEdge) → Contains edges e → E e.symbol e.from e.to
@@ -44,13 +45,13 @@ module _ (g : Grammar) (E : Edges) where
       | inr same ↦ subst (λ (z : HeldEdge). E z.symbol z.from z.to) same d.held
     ]
     tree_edges (Nulled s a) slot p q d e h = absurd (Contains-none e h)
-    tree_edges (Node i cs a b) slot p q d e h = front_edges cs (rule_at g i) p q d.front e h
+    tree_edges (Node i cs a b) slot p q d e h = prefix_edges cs (rule_at g i) p q d.prefix e h
 
-    front_edges : (cs : Children) (rule : WrittenRule) (p q : ℕ) → DerivesFront g E rule p q cs → AreAll E (edges_of_all cs)
-    front_edges NoChild rule p q d e h = absurd (Contains-none e h)
-    front_edges (Child front last) rule p q (r, f, d) e h = elim (Contains-append_cases (edges_of_all front) (edges_of last) e h) [
-      | inl a ↦ front_edges front rule p r f e a
-      | inr b ↦ tree_edges last (child_slot rule (child_count front)) r q d e b
+    prefix_edges : (cs : Children) (rule : WrittenRule) (p q : ℕ) → DerivesPrefix g E rule p q cs → AreAll E (edges_of_all cs)
+    prefix_edges NoChild rule p q d e h = absurd (Contains-none e h)
+    prefix_edges (Child prefix last) rule p q (r, f, d) e h = elim (Contains-append_cases (edges_of_all prefix) (edges_of last) e h) [
+      | inl a ↦ prefix_edges prefix rule p r f e a
+      | inr b ↦ tree_edges last (child_slot rule (child_count prefix)) r q d e b
     ]
 
 -- a derivation holds over other edges that have those of its tree
@@ -74,15 +75,15 @@ module _ (g : Grammar) (E F : Edges) where
       in_range = d.in_range;
       fits = d.fits;
       complete = d.complete;
-      front = front_over cs (rule_at g i) p q has d.front;
+      prefix = prefix_over cs (rule_at g i) p q has d.prefix;
     }
 
-    front_over : (cs : Children) (rule : WrittenRule) (p q : ℕ) → AreAll F (edges_of_all cs) → DerivesFront g E rule p q cs → DerivesFront g F rule p q cs
-    front_over NoChild rule p q has d = d
-    front_over (Child front last) rule p q has (r, f, d) = (
+    prefix_over : (cs : Children) (rule : WrittenRule) (p q : ℕ) → AreAll F (edges_of_all cs) → DerivesPrefix g E rule p q cs → DerivesPrefix g F rule p q cs
+    prefix_over NoChild rule p q has d = d
+    prefix_over (Child prefix last) rule p q has (r, f, d) = (
       r,
-      front_over front rule p r (λ e h. has e (Contains-append_left (edges_of_all front) (edges_of last) e h)) f,
-      tree_over last (child_slot rule (child_count front)) r q (λ e h. has e (Contains-append_right (edges_of_all front) (edges_of last) e h)) d,
+      prefix_over prefix rule p r (λ e h. has e (Contains-append_left (edges_of_all prefix) (edges_of last) e h)) f,
+      tree_over last (child_slot rule (child_count prefix)) r q (λ e h. has e (Contains-append_right (edges_of_all prefix) (edges_of last) e h)) d,
     )
 
 -- ---- edges of flat symbols are those of a list of terminals
@@ -127,11 +128,11 @@ module _ (forms : FlatGrammarsAreFlatForms) (b : Built) (f : FlatGrammar) (text 
   from_set s p q (e, (c, get, (set, i, m))) = (e, (c, get, record { set = set; is_set = i; member = m }))
 
   at : slice_get b.l0.starts k ≡ Some (slice_index b.l0.starts k)
-  at = get_at b.l0.starts k 0 inside
+  at = slice_get-get_or b.l0.starts k 0 inside
 
   -- the start has a top
   top : slice_get f.tops k ≡ Some (slice_index f.tops k)
-  top = get_at f.tops k 0 (let c = made.tops_all in omega arith)
+  top = slice_get-get_or f.tops k 0 (let c = made.tops_all in omega arith)
 
   module _ (edges : List HeldEdge) (forward : (e : HeldEdge) → Contains edges e → e.from < e.to) where
     form : IsFlatForm f b.l0 (Held edges) None

@@ -3,7 +3,7 @@ use Rattle.std.proofs.Common.{◌≡◌, ℕ, suc, ◌+◌, ◌-◌, ◌<◌, �
 use Rattle.std.specs.Prelude.{slice_index}
 use Rattle.grammar_model.specs.Grammar.{Grammar, Slot, WrittenRule, slot_of, rule_at, child_slot, IsChildCount}
 use Rattle.grammar_model.specs.Trees.{Tree, Children, Leaf, Nulled, Node, NoChild, Child, child_count}
-use Rattle.grammar_model.specs.Derives.{Edges, Derives, DerivesFront}
+use Rattle.grammar_model.specs.Derives.{Edges, Derives, DerivesPrefix}
 use Rattle.recognizer_model.specs.Flat.{rhs_of}
 use Rattle.recognizer_model.specs.FlatForm.{FlatEdges}
 use Rattle.recognizer_model.specs.View.{grammar_view}
@@ -19,9 +19,9 @@ module _ (g : Grammar) (old new : Edges) (at : ℕ) (forward : (s p q : ℕ) →
   behind slot p q (Nulled s a) d = let e = d.from_is in let e' = d.to_is in omega arith
   behind slot p q (Node i cs a b) d = let h = d.spans in omega arith
 
-  front_behind : (cs : Children) (rule : WrittenRule) (p q : ℕ) → DerivesFront g old rule p q cs → p ≤ q
-  front_behind NoChild rule p q e = omega arith
-  front_behind (Child front last) rule p q (r, f, d) = let a = front_behind front rule p r f in let b = behind _ r q last d in omega arith
+  prefix_behind : (cs : Children) (rule : WrittenRule) (p q : ℕ) → DerivesPrefix g old rule p q cs → p ≤ q
+  prefix_behind NoChild rule p q e = omega arith
+  prefix_behind (Child prefix last) rule p q (r, f, d) = let a = prefix_behind prefix rule p r f in let b = behind _ r q last d in omega arith
 
   mutual
     pub tree_back : (t : Tree) (slot : Slot) (p q : ℕ) → at ≤ p → Derives g old slot p q t → Derives g new slot (p - at) (q - at) (moved (λ z. z - at) t)
@@ -40,14 +40,14 @@ module _ (g : Grammar) (old new : Edges) (at : ℕ) (forward : (s p q : ℕ) →
       in_range = d.in_range;
       fits = d.fits;
       complete = subst (IsChildCount (rule_at g i)) (sym (count-moved (λ z. z - at) cs)) d.complete;
-      front = front_back cs (rule_at g i) p q le d.front;
+      prefix = prefix_back cs (rule_at g i) p q le d.prefix;
     }
 
-    front_back : (cs : Children) (rule : WrittenRule) (p q : ℕ) → at ≤ p → DerivesFront g old rule p q cs → DerivesFront g new rule (p - at) (q - at) (moved_all (λ z. z - at) cs)
-    front_back NoChild rule p q le d = ap (λ z. z - at) d
-    front_back (Child front last) rule p q le (r, fr, d) =
-        let h = front_behind front rule p r fr in
-        (r - at, front_back front rule p r le fr, subst (λ k. Derives g new (child_slot rule k) (r - at) (q - at) (moved (λ z. z - at) last)) (sym (count-moved (λ z. z - at) front)) (tree_back last (child_slot rule (child_count front)) r q (omega arith) d))
+    prefix_back : (cs : Children) (rule : WrittenRule) (p q : ℕ) → at ≤ p → DerivesPrefix g old rule p q cs → DerivesPrefix g new rule (p - at) (q - at) (moved_all (λ z. z - at) cs)
+    prefix_back NoChild rule p q le d = ap (λ z. z - at) d
+    prefix_back (Child prefix last) rule p q le (r, fr, d) =
+        let h = prefix_behind prefix rule p r fr in
+        (r - at, prefix_back prefix rule p r le fr, subst (λ k. Derives g new (child_slot rule k) (r - at) (q - at) (moved (λ z. z - at) last)) (sym (count-moved (λ z. z - at) prefix)) (tree_back last (child_slot rule (child_count prefix)) r q (omega arith) d))
 
 -- ---- matches over the edges from a place on
 

@@ -2,6 +2,8 @@
 use Rattle.std.proofs.Common.{◌≡◌, ◌↔◌, ◌⊎◌, inl, inr, ℕ, suc, ◌+◌, ◌<◌, ◌≤◌, List, length, get_or, Some, Contains, slice_get, refl, sym, ◌∙◌, subst, arith}
 use Rattle.std.specs.Prelude.{slice_index}
 use Rattle.std.proofs.lemmas.Bool.{cases_lt}
+use Rattle.std.proofs.lemmas.Option.{slice_get-get_or}
+use Rattle.finite_sets.proofs.Lists.{got_at}
 use Rattle.recognizer_model.specs.declared.thread.Thread.{Thread}
 use Rattle.recognizer_model.specs.Flat.{FlatGrammar}
 use Rattle.recognizer_model.specs.Invariant.{IsFlat}
@@ -10,7 +12,6 @@ use Rattle.recognizer_model.proofs.Threads.{rows_tell}
 use Rattle.language_model.specs.Classes.{HasMember}
 use Rattle.threads.specs.Lists.{IsGrown}
 use Rattle.threads.specs.Steps.{Keeps, IsReadBy, IsNext, IsBegin}
-use Rattle.threads.proofs.Listing.{get_at, got_at}
 use Rattle.threads.proofs.Parts.{grown_same, grown_on}
 use Rattle.lexer.specs.Lexical.{LexicalForm, HasMatch}
 use Rattle.lexer.specs.Terminals.{AreTerminalsOf}
@@ -130,7 +131,7 @@ module _ (l : LexicalForm) (text : List ℕ) (at : ℕ) (starts : List ℕ) wher
       where
         both : (x : ℕ) → IsReadBy l.flat ts x ↔ EdgesFrom l text at x n (suc n)
         both x = (
-          λ (t, e, c). (let (set, k, m) = (exact t).0 c in (t, e, (omega arith, (slice_index text (at + n), get_at text (at + n) 0 inside, (set, k, m))))),
+          λ (t, e, c). (let (set, k, m) = (exact t).0 c in (t, e, (omega arith, (slice_index text (at + n), slice_get-get_or text (at + n) 0 inside, (set, k, m))))),
           λ (t, e, (to, (c, get, (set, k, m)))). (t, e, (exact t).1 (set, k, subst (HasMember set) (sym (got_at text (at + n) c 0 (sym get)).1) m)),
         )
 
@@ -183,7 +184,7 @@ module _ (l : LexicalForm) (text : List ℕ) (at : ℕ) (starts : List ℕ) wher
 
   module _ (flat : IsFlat l.flat) (known : (k : ℕ) → Contains starts k → k < length l.flat.tops) (parts : List (List Thread)) (row : List Thread) where
     top : (k : ℕ) → Contains starts k → slice_get l.flat.tops k ≡ Some (get_or l.flat.tops k 0)
-    top k c = get_at l.flat.tops k 0 (known k c)
+    top k c = slice_get-get_or l.flat.tops k 0 (known k c)
 
     module _ (p : ℕ) (h : HasRun l text at starts parts row (suc p)) where
       pub best_here : ((th : Thread) × Contains row th × IsMatch l.flat th) → IsBestTo l text at starts (suc p) row (suc p)

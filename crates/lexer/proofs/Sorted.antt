@@ -3,12 +3,11 @@ use Rattle.std.proofs.Common.{◌≡◌, ◌⊎◌, inl, inr, ℕ, ◌+◌, ◌<
 use Rattle.std.specs.List.Sorted.{IsStrictlySortedBy}
 use Rattle.std.specs.Ordering.{nat_cmp}
 use Rattle.std.proofs.lemmas.Bool.{cases_lt}
-use Rattle.std.proofs.lemmas.List.{get_or_append_left, get_or-append-add}
+use Rattle.std.proofs.lemmas.List.{get_or_append_left, get_or-append-add, get_or_default}
 use Rattle.std.proofs.lemmas.Map.Keys.{below_from_sorted, sorted_from_strictly_increasing}
-use Rattle.lexer.proofs.Listing.{get_or-default}
 
-pub sorted_front : (cs : List ℕ) (k : ℕ) → IsStrictlySortedBy nat_cmp (cs ++ k ∷ []) → IsStrictlySortedBy nat_cmp cs
-sorted_front cs k h = sorted_from_strictly_increasing cs (λ i lt.
+pub sorted_prefix : (cs : List ℕ) (k : ℕ) → IsStrictlySortedBy nat_cmp (cs ++ k ∷ []) → IsStrictlySortedBy nat_cmp cs
+sorted_prefix cs k h = sorted_from_strictly_increasing cs (λ i lt.
     let below = below_from_sorted (cs ++ k ∷ []) i (i + 1) 0 h (omega arith) (let l = length-append cs (k ∷ []) in omega arith) in
     let a = get_or_append_left cs (k ∷ []) 0 i (omega arith) in
     let b = get_or_append_left cs (k ∷ []) 0 (i + 1) lt in
@@ -19,7 +18,7 @@ sorted_last cs k x h (i, lt, e) =
     let below = below_from_sorted (cs ++ k ∷ []) i (length cs + 0) 0 h (omega arith) (let l = length-append cs (k ∷ []) in omega arith) in
     let a = get_or_append_left cs (k ∷ []) 0 i lt in
     let b = get_or-append-add cs (k ∷ []) 0 0 in
-    let d = get_or-default cs i 0 x lt in
+    let d = get_or_default cs i 0 x lt in
     omega arith
 
 pub sorted_push : (ms : List ℕ) (k : ℕ) → IsStrictlySortedBy nat_cmp ms → ((x : ℕ) → Contains ms x → x < k) → IsStrictlySortedBy nat_cmp (ms ++ k ∷ [])
@@ -37,7 +36,7 @@ sorted_push ms k h below = sorted_from_strictly_increasing (ms ++ k ∷ []) (λ 
         let inside : i < length ms = omega arith in
         let a = get_or_append_left ms (k ∷ []) 0 i inside in
         let last : get_or (ms ++ k ∷ []) (i + 1) 0 ≡ k = subst (λ z. get_or (ms ++ k ∷ []) z 0 ≡ k) at (get_or-append-add ms (k ∷ []) 0 0) in
-        let b = below (get_or ms i 0) (i, inside, get_or-default ms i (get_or ms i 0) 0 inside) in
+        let b = below (get_or ms i 0) (i, inside, get_or_default ms i (get_or ms i 0) 0 inside) in
         omega arith
 
 pub sorted_none : IsStrictlySortedBy nat_cmp []

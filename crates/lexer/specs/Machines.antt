@@ -11,7 +11,8 @@ use Rattle.threads.specs.Steps.{IsReadBy, IsNext, IsBegin}
 use Rattle.lexer.specs.declared.kinds.Kind.{Kind}
 use Rattle.lexer.specs.declared.machine.Machine.{Machine}
 use Rattle.lexer.specs.Lexical.{LexicalForm}
-use Rattle.lexer.specs.Terminals.{AreTerminalsOf, row_at}
+use Rattle.lexer.specs.Terminals.{AreTerminalsOf}
+use Rattle.jagged.specs.Rows.{row_at}
 
 -- the state that follows by a class stands in the state's row of the table
 abbrev pub IsNoted : List ℕ → (state class to : ℕ) → Type 0

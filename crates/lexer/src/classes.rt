@@ -1,10 +1,12 @@
 //! Characters by the terminals that have them.
 ghost use Rattle.std.specs.Prelude.{◌≡◌, ℕ, ◌<◌, ◌⊎◌, ◌++◌, ◌∷◌, [], List, length, slice_index, IfOk, IfSome, IsTrue, ◌↔◌};
-ghost use Rattle.lexer.specs.Terminals.{AreTerminalsOf, IsClassOf, row_at};
+ghost use Rattle.lexer.specs.Terminals.{AreTerminalsOf, IsClassOf};
+ghost use Rattle.jagged.specs.Rows.{row_at};
 
-use crate::terminals::{TerminalRows, list_terminals};
+use crate::terminals::list_terminals;
 use char_class::CharSet;
 use grammar_core::SymbolId;
+use jagged::Jagged;
 use std::alloc::{AllocError, Global};
 use std::marker::Model;
 
@@ -12,7 +14,7 @@ use std::marker::Model;
 #[derive(Drop)]
 pub struct Classes<'g> {
     sets: &'g [(SymbolId, CharSet)],
-    rows: TerminalRows,
+    rows: Jagged<SymbolId>,
     // the class of each ASCII character
     ascii: Vec<usize>,
     // room that is used again
@@ -37,7 +39,7 @@ fn is_same(row: &[SymbolId], terminals: &[SymbolId]) -> bool
 }
 
 // The place of a row with just these terminals.
-fn find(rows: &TerminalRows, terminals: &[SymbolId]) -> Option<usize>
+fn find(rows: &Jagged<SymbolId>, terminals: &[SymbolId]) -> Option<usize>
     ensures there { IfSome result (λ k. k < length rows.now) }
     ensures row { IfSome result (λ k. row_at rows.now k ≡ terminals.now) }
 {
@@ -50,7 +52,7 @@ fn find(rows: &TerminalRows, terminals: &[SymbolId]) -> Option<usize>
 }
 
 // The place of the row of these terminals, which goes last where it is new.
-fn place_of(rows: &mut TerminalRows, terminals: &[SymbolId]) -> Result<usize, AllocError>
+fn place_of(rows: &mut Jagged<SymbolId>, terminals: &[SymbolId]) -> Result<usize, AllocError>
     ensures added { (rows.new ≡ rows.old) ⊎ (rows.new ≡ rows.old ++ terminals.now ∷ []) }
     ensures there { IfOk result (λ k. k < length rows.new) }
     ensures row { IfOk result (λ k. row_at rows.new k ≡ terminals.now) }
@@ -68,7 +70,7 @@ fn class_of(
     sets: &[(SymbolId, CharSet)],
     c: char,
     terminals: &mut Vec<SymbolId>,
-    rows: &mut TerminalRows,
+    rows: &mut Jagged<SymbolId>,
 ) -> Result<usize, AllocError>
     ensures grown { (more : List (List ℕ)) × (rows.new ≡ rows.old ++ more) }
     ensures class { IfOk result (IsClassOf sets.now rows.new c) }
@@ -83,7 +85,7 @@ fn ascii_classes(
     alloc: Global,
     sets: &[(SymbolId, CharSet)],
     terminals: &mut Vec<SymbolId>,
-    rows: &mut TerminalRows,
+    rows: &mut Jagged<SymbolId>,
 ) -> Result<Vec<usize>, AllocError>
     ensures long { IfOk result (λ ascii. length ascii.items ≡ 128) }
     ensures exact { IfOk result (λ ascii. (c : ℕ) → c < 128 → IsClassOf sets.now rows.new c (slice_index ascii.items c)) }
@@ -101,7 +103,7 @@ impl<'g> Classes<'g> {
     pub fn new(alloc: Global, sets: &'g [(SymbolId, CharSet)]) -> Result<Classes<'g>, AllocError>
         ensures { IfOk result (λ classes. classes.sets ≡ sets.now) }
     {
-        let mut rows = TerminalRows::new(alloc);
+        let mut rows = Jagged::new(alloc);
         let mut terminals = Vec::new(alloc);
         let ascii = ascii_classes(alloc, sets, &mut terminals, &mut rows)?;
         Ok(Classes {

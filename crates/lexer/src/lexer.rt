@@ -31,6 +31,8 @@ pub struct LexAnswer {
 #[derive(Drop)]
 pub struct Lexer<'g> {
     machine: Machine<'g>,
+    // room that is used again
+    done: Vec<u32>,
 }
 
 impl<'g> Model for Lexer<'g> {
@@ -138,41 +140,44 @@ fn list_matched(
     Ok(())
 }
 
-// The candidates that are done in a row, in their order.
-fn matched_of(
-    alloc: Global,
+// Lists the candidates that are done in a row, in their order, in place of what the lists held.
+fn match_row(
     flat: &Flat,
     row: &[Thread],
     candidates: &[u32],
-) -> Result<Vec<u32>, AllocError>
+    done: &mut Vec<u32>,
+    matched: &mut Vec<u32>,
+) -> Result<(), AllocError>
     requires row { (th : AThread) → Contains row.now th → IsRule flat.now th.rule }
     requires candidates { (k : ℕ) → Contains candidates.now k → k < length flat.now.tops }
-    ensures exact { IfOk result (λ matched. (k : ℕ) → Contains matched.items k ↔ (Contains candidates.now k × IsDoneIn flat.now row.now k)) }
-    ensures sorted { IfOk result (λ matched. IsStrictlySortedBy nat_cmp candidates.now → IsStrictlySortedBy nat_cmp matched.items) }
+    ensures exact { OnOk result ((k : ℕ) → Contains matched.new.items k ↔ (Contains candidates.now k × IsDoneIn flat.now row.now k)) }
+    ensures sorted { OnOk result (IsStrictlySortedBy nat_cmp candidates.now → IsStrictlySortedBy nat_cmp matched.new.items) }
 {
-    let mut done = Vec::new(alloc);
-    list_done(flat, row, &mut done)?;
-    let mut matched = Vec::new(alloc);
-    list_matched(flat, &done, candidates, &mut matched)?;
-    Ok(matched)
+    done.clear();
+    list_done(flat, row, done)?;
+    matched.clear();
+    list_matched(flat, done, candidates, matched)?;
+    Ok(())
 }
 
-// The longest match, by the states of a machine.
+// The length of the longest match, by the states of a machine, and the candidates that have it.
 fn longest_by(
     machine: &mut Machine<'_>,
     alloc: Global,
     chars: &Chars,
     at: usize,
     candidates: &[u32],
-) -> Result<Option<LexAnswer>, AllocError>
+    done: &mut Vec<u32>,
+    matched: &mut Vec<u32>,
+) -> Result<Option<u32>, AllocError>
     requires is { IsMachine machine.old }
     requires at { at ≤ length chars.now }
     requires few { length chars.now ≤ 16777216 }
     requires starts { (k : ℕ) → Contains candidates.now k → k < length machine.old.flat.now.tops }
     ensures is { IsMachine machine.new }
     ensures form { form_of machine.new ≡ form_of machine.old }
-    ensures none { IfOk result (λ answer. IsNone answer → IsUnmatched (form_of machine.old) chars.now at candidates.now) }
-    ensures some { IfOk result (λ answer. IfSome answer (λ a. IsLongestMatch (form_of machine.old) chars.now at candidates.now a.length a.matched.items)) }
+    ensures none { IfOk result (λ longest. IsNone longest → IsUnmatched (form_of machine.old) chars.now at candidates.now) }
+    ensures some { IfOk result (λ longest. IfSome longest (λ n. IsLongestMatch (form_of machine.old) chars.now at candidates.now n matched.new.items)) }
 {
     forget_if_full(machine);
     let first = begin(machine, alloc, candidates)?;
@@ -180,16 +185,9 @@ fn longest_by(
     if best.length == 0 {
         return Ok(None);
     }
-    let matched = matched_of(
-        alloc,
-        machine.flat,
-        machine.rows.list(best.state),
-        candidates,
-    )?;
-    Ok(Some(LexAnswer {
-        length: best.length as u32,
-        matched,
-    }))
+    let row = machine.rows.list(best.state);
+    match_row(machine.flat, row, candidates, done, matched)?;
+    Ok(Some(best.length as u32))
 }
 
 impl<'g> Lexer<'g> {
@@ -205,7 +203,10 @@ impl<'g> Lexer<'g> {
         ensures { IfOk result (λ l. l ≡ l0.entry) }
     {
         let machine = new_machine(alloc, l0, limit)?;
-        Ok(Lexer { machine })
+        Ok(Lexer {
+            machine,
+            done: Vec::new(alloc),
+        })
     }
 
     /// The longest match of the candidates, which are starts by their places, at a place of the text; none where no candidate
@@ -224,7 +225,39 @@ impl<'g> Lexer<'g> {
         ensures none { IfOk result (λ answer. IsNone answer → IsUnmatched self.old chars.now at candidates.now) }
         ensures some { IfOk result (λ answer. IfSome answer (λ a. IsLongestMatch self.old chars.now at candidates.now a.length a.matched.items)) }
     {
-        longest_by(&mut self.machine, alloc, chars, at, candidates)
+        let mut matched = Vec::new(alloc);
+        match self.find_longest(alloc, chars, at, candidates, &mut matched)? {
+            Some(length) => Ok(Some(LexAnswer { length, matched })),
+            None => Ok(None),
+        }
+    }
+
+    /// The length of the longest match, and every candidate that has it, in the order of the candidates, in place of what
+    /// `matched` held; none where no candidate matches a character.
+    pub fn find_longest(
+        &mut self,
+        alloc: Global,
+        chars: &Chars,
+        at: usize,
+        candidates: &[u32],
+        matched: &mut Vec<u32>,
+    ) -> Result<Option<u32>, AllocError>
+        requires at { at ≤ length chars.now }
+        requires few { length chars.now ≤ 16777216 }
+        requires starts { (k : ℕ) → Contains candidates.now k → k < length self.old.flat.tops }
+        ensures same { self.new ≡ self.old }
+        ensures none { IfOk result (λ longest. IsNone longest → IsUnmatched self.old chars.now at candidates.now) }
+        ensures some { IfOk result (λ longest. IfSome longest (λ n. IsLongestMatch self.old chars.now at candidates.now n matched.new.items)) }
+    {
+        longest_by(
+            &mut self.machine,
+            alloc,
+            chars,
+            at,
+            candidates,
+            &mut self.done,
+            matched,
+        )
     }
 }
 

@@ -2,29 +2,24 @@
 use Rattle.std.proofs.Common.{arith, ◌≡◌, inl, inr, ℕ, zero, suc, ◌+◌, ◌*◌, ◌<◌, ◌≤◌, List, [], ◌∷◌, length, Some, slice_get, refl, sym, ◌∙◌, ap, subst, lit<}
 use Rattle.grammar_model.specs.declared.Edge.{Edge}
 use Rattle.grammar_model.specs.Trees.{Tree, Children, Leaf, Nulled, Node, NoChild, Child}
-use Rattle.grammar_model.specs.Derives.{Edges, Held}
 use Rattle.recognizer_model.specs.declared.Item.{Item}
 use Rattle.recognizer_model.specs.declared.NodeKey.{NodeKey}
 use Rattle.recognizer_model.specs.declared.flat.FlatSymbol.TheVariants.{Terminal}
-use Rattle.recognizer_model.specs.Flat.{IsRule, IsNullable, lhs_of, rhs_of, part_of}
-use Rattle.recognizer_model.specs.FlatForm.{FlatEdges}
+use Rattle.recognizer_model.specs.Flat.{IsRule, lhs_of, rhs_of}
 use Rattle.recognizer_model.specs.FlatDerives.{Derives, Spans, Token, Rule, More, Nothing}
 use Rattle.recognizer_model.specs.Acceptable.{OnlyTerminals, NoTerminalHasRules}
 use Rattle.recognizer_model.specs.Items.{after, first_item, advanced, InSet}
-use Rattle.recognizer_model.specs.Contexts.{IsTop}
 use Rattle.recognizer_model.specs.Counts.{IsListOf}
-use Rattle.recognizer_model.specs.Leo.{IsLeo, IsNotLeo, LeadsTo, InReduced, InExpanded, IsHidden, GoesForward}
+use Rattle.recognizer_model.specs.Leo.{IsNotLeo, LeadsTo, InReduced, InExpanded, IsHidden}
 use Rattle.recognizer_model.specs.Chosen.{AreAllowed, AreAllowedIn, LeavesSome}
 use Rattle.recognizer_model.specs.Nodes.{Has, All, Inside, IsUsed, IsMet, Whole, Before, Last, Placed, IsExpanded}
 use Rattle.recognizer_model.proofs.Leo.{reduced_inside, expanded_inside}
 use Rattle.recognizer_model.proofs.Nodes.{used_are_met}
 use Rattle.finite_sets.proofs.Members.{Among, Once}
-use Rattle.grammar_laws.specs.Reduced.{chain, one_token}
-use Rattle.number_laws.proofs.Lists.{list_is}
+use Rattle.grammar_laws.specs.Reduced.{chain}
 use Rattle.number_laws.specs.Applied.{any_rule, NumbersApply}
-
-abbrev E : Edges
-E = FlatEdges chain (Held one_token)
+use Rattle.recognizer_model.proofs.Counting.{list_is}
+use Rattle.grammar_laws.proofs.Reduced.{parts, none_nullable, is_top, goes, first_pair, second_pair, leads, ended_a, ended_top, E}
 
 -- elements with numbers that rise are each there once
 abbrev Rises : {X : Type 0} → (X → ℕ) → ℕ → List X → Type 0
@@ -39,23 +34,6 @@ not_below number least (y ∷ ys) x (le, h) (inr m) = let more = not_below numbe
 once_rising : {X : Type 0} (number : X → ℕ) (least : ℕ) (xs : List X) → Rises number least xs → Once xs
 once_rising number least [] h = tt
 once_rising number least (x ∷ xs) (le, h) = ((λ m. let lt = not_below number (suc (number x)) xs x h m in absurd (omega (arith, lt))), once_rising number (suc (number x)) xs h)
-
--- the parts of the rules
-parts : (P : (r position x : ℕ) → Type 0) → P 0 0 0 → P 1 0 1 → P 2 0 2 → (r position x : ℕ) → part_of chain r position ≡ Some x → P r position x
-parts P a b c zero zero x e = let h : 0 ≡ x = cc in subst (P 0 0) h a
-parts P a b c zero (suc k) x e = absurd (cc)
-parts P a b c (suc zero) zero x e = let h : 1 ≡ x = cc in subst (P 1 0) h b
-parts P a b c (suc zero) (suc k) x e = absurd (cc)
-parts P a b c (suc (suc zero)) zero x e = let h : 2 ≡ x = cc in subst (P 2 0) h c
-parts P a b c (suc (suc zero)) (suc k) x e = absurd (cc)
-parts P a b c (suc (suc (suc r))) k x e = absurd (cc)
-
-none_nullable : (x : ℕ) → IsNullable chain x → ⊥
-none_nullable zero e = absurd (cc)
-none_nullable (suc zero) e = absurd (cc)
-none_nullable (suc (suc zero)) e = absurd (cc)
-none_nullable (suc (suc (suc zero))) e = absurd (cc)
-none_nullable (suc (suc (suc (suc x)))) e = absurd (cc)
 
 waits_in : (item : Item) (x : ℕ) → after chain item ≡ Some x → (item.rule ≡ x) × (item.dot ≡ 0) × (x < 3)
 waits_in item x e = parts (λ rule dot y. (rule ≡ y) × (dot ≡ 0) × (y < 3)) (refl, refl, lit< tt) (refl, refl, lit< tt) (refl, refl, lit< tt) item.rule item.dot x e
@@ -85,16 +63,6 @@ edge_is x p q (t, is, (zero, lt, e)) =
     symbol_is (suc (suc (suc zero))) t is = absurd (cc)
     symbol_is (suc (suc (suc (suc x)))) t is = absurd (cc)
 edge_is x p q (t, is, (suc k, lt, e)) = absurd (omega (arith, lt))
-
-is_top : IsTop chain 2
-is_top = record {
-  is_rule = lit< tt;
-  alone = λ r rule e. (let l = (left_is r rule).0 in omega (arith, l, e));
-  outermost = λ r position e. parts (λ r position x. x ≡ 3 → ⊥) (λ h. omega arith) (λ h. omega arith) (λ h. omega arith) r position 3 e refl;
-}
-
-goes : GoesForward E
-goes x p q e = let (a, b, c) = edge_is x p q e in omega (arith, b, c)
 
 only : OnlyTerminals chain E
 only x p q e = (e.0, e.1)
@@ -142,26 +110,6 @@ item_is {item = item} here = let dot = here.dot in let origin = here.origin in �
 
 -- ---- Leo items
 
-only_one : (x : ℕ) (item : Item) → InSet chain E 2 0 item → after chain item ≡ Some x → item ≡ first_item x 0
-only_one x item s e =
-    let rule = (waits_in item x e).0 in
-    sym (item_is (at s)) ∙ (λ i. first_item (rule i) 0)
-
-begun_s : InSet chain E 2 0 (first_item 1 0)
-begun_s = InSet.Predict {x = 2} {r = 1} InSet.Start refl (lit< tt) refl
-
-first_pair : IsLeo chain E 2 0 1 (first_item 1 0)
-first_pair = record { inside = begun_s; waits = refl; last = refl; only = λ o s e. only_one 1 o s e }
-
-second_pair : IsLeo chain E 2 0 2 (first_item 2 0)
-second_pair = record { inside = InSet.Start; waits = refl; last = refl; only = λ o s e. only_one 2 o s e }
-
-none_above : IsNotLeo chain E 2 0 3
-none_above item leo = is_top.outermost item.rule item.dot leo.waits
-
-leads : LeadsTo chain E 2 0 1 (advanced (first_item 2 0))
-leads = LeadsTo.On {item = first_item 1 0} first_pair (LeadsTo.Last {item = first_item 2 0} second_pair none_above)
-
 -- every chain ends at the top
 ends_at_top : {i x : ℕ} {t : Item} → LeadsTo chain E 2 i x t → t.rule ≡ 2
 ends_at_top (LeadsTo.Last {item = item} leo none) =
@@ -180,12 +128,6 @@ kept_s = InReduced.Predict {x = 2} {r = 1} kept_top refl (lit< tt) refl
 
 kept_a : InReduced chain E 2 0 (first_item 0 0)
 kept_a = InReduced.Predict {x = 1} {r = 0} kept_s refl (lit< tt) refl
-
-ended_a : InReduced chain E 2 1 (advanced (first_item 0 0))
-ended_a = InReduced.Scan {i = 0} {j = 1} {x = 0} {item = first_item 0 0} kept_a refl (0, refl, (0, lit< tt, refl))
-
-ended_top : InReduced chain E 2 1 (advanced (first_item 2 0))
-ended_top = InReduced.Leap {whole = advanced (first_item 0 0)} ended_a refl (lit< tt) leads
 
 not_kept : {j : ℕ} {item : Item} → InReduced chain E 2 j item → j ≡ 1 → item.rule ≡ 1 → ⊥
 not_kept InReduced.Start p r = omega (arith, p)
@@ -258,11 +200,11 @@ mutual
   any_tree : (t : Tree) → AreAllowed any_rule t
   any_tree (Leaf x p q) = tt
   any_tree (Nulled x p) = tt
-  any_tree (Node r cs p q) = (tt, any_front cs)
+  any_tree (Node r cs p q) = (tt, any_prefix cs)
 
-  any_front : (cs : Children) → AreAllowedIn any_rule cs
-  any_front NoChild = tt
-  any_front (Child front last) = (any_front front, any_tree last)
+  any_prefix : (cs : Children) → AreAllowedIn any_rule cs
+  any_prefix NoChild = tt
+  any_prefix (Child prefix last) = (any_prefix prefix, any_tree last)
 
 leaves : LeavesSome chain E any_rule
 leaves x p q t d = (t, d, any_tree t)

@@ -1,5 +1,6 @@
 -- A reading by an accepted grammar has the counts that bound its steps, and no others.
 use Rattle.std.proofs.Common.{◌≡◌, ℕ, List, length, Some, slice_get, sym, ◌∙◌, subst}
+use Rattle.std.proofs.lemmas.Option.{same_Some}
 use Rattle.grammar_model.specs.Derives.{Held}
 use Rattle.recognizer_model.specs.declared.Item.{Item}
 use Rattle.grammar_model.specs.Grammar.{Grammar}
@@ -12,8 +13,7 @@ use Rattle.recognizer_model.specs.Counts.{IsListOf, IsCountOf}
 use Rattle.recognizer_model.specs.Nodes.{IsExpanded}
 use Rattle.grammar_laws.proofs.ItemSets.{flat_forward, flat_decided, held_decided, item_sets_exist}
 use Rattle.language_model.specs.Building.{Built}
-use Rattle.reading_model.specs.Reading.{Piece, edges_of, place_after}
-use Rattle.reading_model.proofs.Counting.{one_count}
+use Rattle.reading_model.specs.Reading.{Piece, edges_of, earleme_after}
 use Rattle.reading_laws.proofs.Candidates.{pieces_forward}
 use Rattle.reading_laws.proofs.Short.{built_are_short}
 use Rattle.run_model.specs.Steps.{IsPlacedLink, IsLeoPair}
@@ -22,7 +22,8 @@ use Rattle.number_laws.proofs.Exist.{numbers_exist}
 use Rattle.number_laws.proofs.Flat.{is_flat}
 use Rattle.number_laws.proofs.Linked.{link_list, pair_list}
 use Rattle.number_laws.proofs.Lists.{count_of}
-use Rattle.number_laws.proofs.One.{same_top, one_flat}
+use Rattle.number_laws.proofs.One.{one_flat}
+use Rattle.recognizer_model.proofs.Counting.{one_count}
 
 pub counts_exist : CountsExist
 counts_exist b ranking pieces built accepted =
@@ -35,25 +36,25 @@ counts_exist b ranking pieces built accepted =
     let goes = flat_forward f (Held edges) (pieces_forward pieces) in
     let edge = flat_decided f (Held edges) (held_decided edges) in
     let sets : (j : ℕ) → (items : List Item) × IsListOf (InSet f E h.top j) items = λ j. item_sets_exist f edges h.top j (pieces_forward pieces) in
-    let (links, links_are) = link_list f E h.top is_top goes edge sets (place_after pieces) in
-    let (pairs, pairs_are) = pair_list f E h.top is_top goes edge sets (place_after pieces) in (
+    let (links, links_are) = link_list f E h.top is_top goes edge sets (earleme_after pieces) in
+    let (pairs, pairs_are) = pair_list f E h.top is_top goes edge sets (earleme_after pieces) in (
       record { links = length links; pairs = length pairs; expanded = n.expanded },
       record {
         flat = f;
         is = h.is;
         top = h.top;
         top_is = h.top_is;
-        links = count_of (IsPlacedLink f E h.top (place_after pieces)) links links_are;
-        pairs = count_of (IsLeoPair f E h.top (place_after pieces)) pairs pairs_are;
+        links = count_of (IsPlacedLink f E h.top (earleme_after pieces)) links links_are;
+        pairs = count_of (IsLeoPair f E h.top (earleme_after pieces)) pairs pairs_are;
         expanded = h.numbers.hidden_items;
       },
     )
 
 -- the counts by a flat grammar, whose first top it is
 record IsCounted (w : Grammar) (ranking : Ranking) (pieces : List Piece) (n : Counts) (f : FlatGrammar) (top : ℕ) : Type 0 where
-  links : IsCountOf (IsPlacedLink f (FlatEdges f (Held (edges_of pieces))) top (place_after pieces)) n.links
-  pairs : IsCountOf (IsLeoPair f (FlatEdges f (Held (edges_of pieces))) top (place_after pieces)) n.pairs
-  expanded : IsCountOf (IsExpanded f (FlatEdges f (Held (edges_of pieces))) (allowed_by w ranking f (FlatEdges f (Held (edges_of pieces)))) top (place_after pieces)) n.expanded
+  links : IsCountOf (IsPlacedLink f (FlatEdges f (Held (edges_of pieces))) top (earleme_after pieces)) n.links
+  pairs : IsCountOf (IsLeoPair f (FlatEdges f (Held (edges_of pieces))) top (earleme_after pieces)) n.pairs
+  expanded : IsCountOf (IsExpanded f (FlatEdges f (Held (edges_of pieces))) (allowed_by w ranking f (FlatEdges f (Held (edges_of pieces)))) top (earleme_after pieces)) n.expanded
 
 counted : (b : Built) (ranking : Ranking) (pieces : List Piece) (n : Counts) (h : HasCounts b ranking pieces n) → IsCounted b.g1 ranking pieces n h.flat h.top
 counted b ranking pieces n h = record { links = h.links; pairs = h.pairs; expanded = h.expanded }
@@ -61,7 +62,7 @@ counted b ranking pieces n h = record { links = h.links; pairs = h.pairs; expand
 -- what holds of a flat grammar and its first top holds of the same grammar's
 moved_to : (P : FlatGrammar → ℕ → Type 0) (f g : FlatGrammar) (s t : ℕ) → f ≡ g → slice_get f.tops 0 ≡ Some s → slice_get g.tops 0 ≡ Some t → P f s → P g t
 moved_to P f g s t same s_is t_is p =
-    let top : s ≡ t = same_top s t (sym s_is ∙ (λ i. slice_get (same i).tops 0) ∙ t_is) in
+    let top : s ≡ t = same_Some s t (sym s_is ∙ (λ i. slice_get (same i).tops 0) ∙ t_is) in
     subst (λ x. P g x) top (subst (λ f. P f s) same p)
 
 pub counts_are_one : CountsAreOne
@@ -69,9 +70,9 @@ counts_are_one b ranking pieces m n x y =
     let same = one_flat b x.flat y.flat x.is y.is in
     let moved = moved_to (IsCounted b.g1 ranking pieces m) x.flat y.flat x.top y.top same x.top_is y.top_is (counted b ranking pieces m x) in
     let E = FlatEdges y.flat (Held (edges_of pieces)) in
-    let links : m.links ≡ n.links = one_count (IsPlacedLink y.flat E y.top (place_after pieces)) m.links n.links moved.links y.links in
-    let pairs : m.pairs ≡ n.pairs = one_count (IsLeoPair y.flat E y.top (place_after pieces)) m.pairs n.pairs moved.pairs y.pairs in
-    let expanded : m.expanded ≡ n.expanded = one_count (IsExpanded y.flat E (allowed_by b.g1 ranking y.flat E) y.top (place_after pieces)) m.expanded n.expanded moved.expanded y.expanded in
+    let links : m.links ≡ n.links = one_count (IsPlacedLink y.flat E y.top (earleme_after pieces)) m.links n.links moved.links y.links in
+    let pairs : m.pairs ≡ n.pairs = one_count (IsLeoPair y.flat E y.top (earleme_after pieces)) m.pairs n.pairs moved.pairs y.pairs in
+    let expanded : m.expanded ≡ n.expanded = one_count (IsExpanded y.flat E (allowed_by b.g1 ranking y.flat E) y.top (earleme_after pieces)) m.expanded n.expanded moved.expanded y.expanded in
     λ i. record { links = links i; pairs = pairs i; expanded = expanded i }
 
 pub counts_bound_steps : CountsBoundSteps

@@ -1,6 +1,7 @@
 -- A reading by an accepted grammar has its numbers.
 use Rattle.std.proofs.Common.{arith, ◌≡◌, ℕ, List, length, Some, slice_get, refl}
 use Rattle.std.specs.Prelude.{slice_index_or}
+use Rattle.std.proofs.lemmas.Option.{slice_get-get_or}
 use Rattle.grammar_model.specs.declared.Edge.{Edge}
 use Rattle.grammar_model.specs.Derives.{Edges, Held}
 use Rattle.grammar_model.specs.Grammar.{Grammar}
@@ -15,10 +16,9 @@ use Rattle.recognizer_model.specs.Contexts.{IsTop}
 use Rattle.recognizer_model.specs.Counts.{IsListOf}
 use Rattle.recognizer_model.specs.Invariant.{IsFlat}
 use Rattle.recognizer_model.specs.Nodes.{IsStats}
-use Rattle.recognizer_model.proofs.FlatNamed.{index_get}
 use Rattle.grammar_laws.specs.Laws.{GoForward}
 use Rattle.grammar_laws.proofs.ItemSets.{flat_forward, flat_decided, held_decided, item_sets_exist}
-use Rattle.reading_model.specs.Reading.{edges_of, place_after}
+use Rattle.reading_model.specs.Reading.{edges_of, earleme_after}
 use Rattle.reading_laws.proofs.Candidates.{pieces_forward}
 use Rattle.reading_laws.proofs.Short.{built_are_short}
 use Rattle.run_model.specs.Numbers.{Numbers}
@@ -36,7 +36,7 @@ module _ (w : Grammar) (checked : IsChecked w) (f : FlatGrammar) (flat : IsFlat 
   top = slice_index_or f.tops 0 0
 
   pub top_is : slice_get f.tops 0 ≡ Some (slice_index_or f.tops 0 0)
-  top_is = index_get f.tops 0 0 (let some = checked.some_start in let all = made.tops_all in omega (arith, some, all))
+  top_is = slice_get-get_or f.tops 0 0 (let some = checked.some_start in let all = made.tops_all in omega (arith, some, all))
 
   is_top : IsTop f (slice_index_or f.tops 0 0)
   is_top = (flat.tops 0 top top_is).is_top
@@ -60,5 +60,5 @@ numbers_exist b ranking pieces built accepted =
     let checked = accepted.checked.structural in
     let (f, is) = flattened b.g1 checked accepted.structural in
     let flat = is_flat b.g1 checked accepted.structural (built_are_short b built) f is in
-    let (n, stats) = told b.g1 checked f flat is.made (edges_of pieces) (pieces_forward pieces) ranking (place_after pieces) in
-    (n, record { flat = f; is = is; top = slice_index_or f.tops 0 0; top_is = top_is b.g1 checked f flat is.made (edges_of pieces) (pieces_forward pieces) ranking (place_after pieces); numbers = stats })
+    let (n, stats) = told b.g1 checked f flat is.made (edges_of pieces) (pieces_forward pieces) ranking (earleme_after pieces) in
+    (n, record { flat = f; is = is; top = slice_index_or f.tops 0 0; top_is = top_is b.g1 checked f flat is.made (edges_of pieces) (pieces_forward pieces) ranking (earleme_after pieces); numbers = stats })

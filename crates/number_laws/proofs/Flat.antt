@@ -1,11 +1,11 @@
 -- An accepted grammar is flattened, and its flat grammar is numbered by few numbers.
 use Rattle.std.proofs.Common.{arith, ◌≡◌, length, map, inl, inr, refl, sym, subst}
+use Rattle.std.proofs.lemmas.List.{length-map}
 use Rattle.grammar_model.specs.Grammar.{Grammar}
 use Rattle.grammar_model.specs.Checked.{IsChecked}
 use Rattle.recognizer_model.specs.Flat.{FlatGrammar}
 use Rattle.recognizer_model.specs.FlatForm.{IsSymbolOf, named}
 use Rattle.recognizer_model.specs.Invariant.{IsFlat}
-use Rattle.recognizer_model.proofs.FlatNamed.{map_length}
 use Rattle.flat_model.specs.Flatten.{AreFew, flat_of}
 use Rattle.flat_model.specs.Flattened.{IsFlattened, HasTooMany}
 use Rattle.flat_rules.proofs.FlatOf.{is_flat_of}
@@ -13,16 +13,16 @@ use Rattle.flat_rules.proofs.Law.{flat_grammars_exist}
 use Rattle.grammar_laws.proofs.Flats.{rule_count_is_one}
 use Rattle.grammar_laws.proofs.Flattening.{flattening_decides}
 use Rattle.reading_model.specs.Accepted.{HasFewRules}
-use Rattle.reading_model.proofs.Counting.{one_count}
 use Rattle.reading_laws.specs.Lists.{HasShortRules}
 use Rattle.reading_laws.proofs.Lists.{flat_form_exists}
+use Rattle.recognizer_model.proofs.Counting.{one_count}
 
 module _ (g : Grammar) (checked : IsChecked g) (few : HasFewRules g) where
   too_many : HasTooMany g → ⊥
   too_many many =
       let d = many.decided in
       let f = flat_of g d in
-      let same = rule_count_is_one g few.count (length f.rules) few.counted (map (named f) f.rules, (is_flat_of g d checked).rules, map_length (named f) f.rules) in
+      let same = rule_count_is_one g few.count (length f.rules) few.counted (map (named f) f.rules, (is_flat_of g d checked).rules, length-map f.rules (named f)) in
       let most = few.few in
       let less = many.many d in
       omega (arith, same, most, less)

@@ -15,11 +15,7 @@ use Rattle.finite_sets.specs.Decided.{IsDecided}
 use Rattle.grammar_laws.proofs.Options.{some_held, same_option, some_true}
 use Rattle.finite_sets.proofs.Deciding.{both, one_of, negated, moved, equal, less, some_below}
 use Rattle.finite_sets.proofs.Members.{Among, among_from, contains_from, some_among, member}
-
-pub same_item : (x y : Item) → IsDecided (x ≡ y)
-same_item x y =
-    moved (λ (a, (b, c)) i. record { rule = a i; dot = b i; origin = c i }) (λ e. (ap (λ (u : Item). u.rule) e, (ap (λ (u : Item). u.dot) e, ap (λ (u : Item). u.origin) e)))
-    (both (equal x.rule y.rule) (both (equal x.dot y.dot) (equal x.origin y.origin)))
+use Rattle.grammar_laws.proofs.ItemSets.{same_item}
 
 module _ (g : FlatGrammar) (E : Edges) (top : ℕ) (is_top : IsTop g top) (forward : GoesForward E) (edge : (x p q : ℕ) → IsDecided (E x p q))
     (sets : (j : ℕ) → (items : List Item) × IsListOf (InSet g E top j) items) where

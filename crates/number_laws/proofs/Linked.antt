@@ -15,7 +15,8 @@ use Rattle.finite_sets.proofs.Deciding.{both, moved, equal, less, at_most}
 use Rattle.finite_sets.proofs.Members.{Among, among_left, among_right, among_map, among_flat_map, values, among_values}
 use Rattle.grammar_laws.proofs.Options.{some_held, same_option, some_true}
 use Rattle.number_laws.proofs.Lists.{list_of}
-use Rattle.number_laws.proofs.Kept.{same_item, known, in_set, none_decided, leads_on, kept_decided}
+use Rattle.number_laws.proofs.Kept.{known, in_set, none_decided, leads_on, kept_decided}
+use Rattle.grammar_laws.proofs.ItemSets.{same_item}
 
 -- ---- links are told apart by their kind, their items and their number
 

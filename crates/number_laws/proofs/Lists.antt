@@ -2,7 +2,7 @@
 use Rattle.std.proofs.Common.{◌≡◌, List, length, refl}
 use Rattle.recognizer_model.specs.Counts.{IsListOf, IsCountOf}
 use Rattle.finite_sets.specs.Decided.{IsDecided}
-use Rattle.finite_sets.proofs.Members.{Among, among_from, contains_from, Once, once_pairs, listed}
+use Rattle.finite_sets.proofs.Members.{Among, among_from, contains_from, once_pairs, listed}
 
 -- where it is decided, among those of a list that has them all
 pub list_of : {X : Type 0} (P : X → Type 0) → ((x y : X) → IsDecided (x ≡ y)) → ((x : X) → IsDecided (P x)) → (xs : List X) → ((x : X) → P x → Among x xs) → (ys : List X) × IsListOf P ys
@@ -17,7 +17,3 @@ list_of P same decided xs within =
 
 pub count_of : {X : Type 0} (P : X → Type 0) (xs : List X) → IsListOf P xs → IsCountOf P (length xs)
 count_of P xs is = (xs, is, refl)
-
--- a list of distinct values that has exactly those
-pub list_is : {X : Type 0} (P : X → Type 0) (xs : List X) → Once xs → ((x : X) → Among x xs → P x) → ((x : X) → P x → Among x xs) → IsListOf P xs
-list_is P xs once from to = record { once = once_pairs xs once; exact = λ x. ((λ c. from x (among_from xs x c)), (λ p. contains_from xs x (to x p))) }

@@ -1,5 +1,6 @@
 -- The numbers of a reading are one: a grammar is flattened in one way, and there is one number of values with a property.
 use Rattle.std.proofs.Common.{◌≡◌, ℕ, ◌≤◌, List, Some, slice_get, sym, ◌∙◌, subst}
+use Rattle.std.proofs.lemmas.Option.{same_Some}
 use Rattle.grammar_model.specs.Derives.{Edges, Held}
 use Rattle.grammar_model.specs.declared.Ranking.{Ranking}
 use Rattle.recognizer_model.specs.Flat.{FlatGrammar}
@@ -9,10 +10,10 @@ use Rattle.recognizer_model.specs.Chosen.{Allowed, allowed_by}
 use Rattle.recognizer_model.specs.Nodes.{IsUsed, Placed, IsExpanded, IsStats}
 use Rattle.flat_model.specs.Flattened.{IsFlattened}
 use Rattle.language_model.specs.Building.{Built}
-use Rattle.reading_model.specs.Reading.{Piece, edges_of, place_after}
-use Rattle.reading_model.proofs.Counting.{one_count}
+use Rattle.reading_model.specs.Reading.{Piece, edges_of, earleme_after}
 use Rattle.run_model.specs.Numbers.{Numbers}
 use Rattle.number_laws.specs.Laws.{NumbersAreOne}
+use Rattle.recognizer_model.proofs.Counting.{one_count}
 
 abbrev Tells : (g : FlatGrammar) (E : Edges) (allowed : Allowed) (top place : ℕ) → Numbers → Type 0
 Tells g E allowed top place n = IsStats g E allowed top place n.tokens n.kept n.nodes n.expanded
@@ -29,16 +30,13 @@ one_told g E allowed top place m n x y =
 record IsTold (b : Built) (ranking : Ranking) (pieces : List Piece) (n : Numbers) (f : FlatGrammar) : Type 0 where
   top : ℕ
   top_is : slice_get f.tops 0 ≡ Some top
-  tells : Tells f (FlatEdges f (Held (edges_of pieces))) (allowed_by b.g1 ranking f (FlatEdges f (Held (edges_of pieces)))) top (place_after pieces) n
-
-pub same_top : (x y : ℕ) → Some x ≡ Some y → x ≡ y
-same_top x y e = cc
+  tells : Tells f (FlatEdges f (Held (edges_of pieces))) (allowed_by b.g1 ranking f (FlatEdges f (Held (edges_of pieces)))) top (earleme_after pieces) n
 
 one_by : (b : Built) (ranking : Ranking) (pieces : List Piece) (m n : Numbers) (f : FlatGrammar) → IsTold b ranking pieces m f → IsTold b ranking pieces n f → m ≡ n
 one_by b ranking pieces m n f x y =
-    let same : x.top ≡ y.top = same_top x.top y.top (sym x.top_is ∙ y.top_is) in
-    one_told f (FlatEdges f (Held (edges_of pieces))) (allowed_by b.g1 ranking f (FlatEdges f (Held (edges_of pieces)))) y.top (place_after pieces) m n
-    (subst (λ t. Tells f (FlatEdges f (Held (edges_of pieces))) (allowed_by b.g1 ranking f (FlatEdges f (Held (edges_of pieces)))) t (place_after pieces) m) same x.tells) y.tells
+    let same : x.top ≡ y.top = same_Some x.top y.top (sym x.top_is ∙ y.top_is) in
+    one_told f (FlatEdges f (Held (edges_of pieces))) (allowed_by b.g1 ranking f (FlatEdges f (Held (edges_of pieces)))) y.top (earleme_after pieces) m n
+    (subst (λ t. Tells f (FlatEdges f (Held (edges_of pieces))) (allowed_by b.g1 ranking f (FlatEdges f (Held (edges_of pieces)))) t (earleme_after pieces) m) same x.tells) y.tells
 
 pub one_flat : (b : Built) (f g : FlatGrammar) → IsFlattened b.g1 f → IsFlattened b.g1 g → f ≡ g
 one_flat b f g x y = x.listed x.decided ∙ sym (y.listed x.decided)

@@ -16,7 +16,8 @@ use Rattle.finite_sets.specs.Decided.{IsDecided}
 use Rattle.finite_sets.proofs.Deciding.{both, moved, equal, at_most}
 use Rattle.finite_sets.proofs.Members.{Among, among_from, contains_from, among_map, among_flat_map, values, among_values, some_among}
 use Rattle.number_laws.proofs.Lists.{list_of}
-use Rattle.number_laws.proofs.Kept.{same_item, in_set, kept_decided, hidden_decided, hidden_inside}
+use Rattle.number_laws.proofs.Kept.{in_set, kept_decided, hidden_decided, hidden_inside}
+use Rattle.grammar_laws.proofs.ItemSets.{same_item}
 
 same_placed : (x y : Placed) → IsDecided (x ≡ y)
 same_placed x y =

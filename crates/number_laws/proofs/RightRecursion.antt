@@ -12,11 +12,10 @@ use Rattle.recognizer_model.specs.Leo.{IsLeo, IsNotLeo, LeadsTo, InReduced, Goes
 use Rattle.recognizer_model.specs.Links.{Link, Predicts, Skips, Scans, Completes, Leaps, IsLink}
 use Rattle.recognizer_model.proofs.Leo.{reduced_inside, leo_of}
 use Rattle.recognizer_model.proofs.Once.{leads_one}
-use Rattle.reading_model.proofs.Counting.{one_count}
 use Rattle.run_model.specs.Steps.{PlacedLink, IsPlacedLink, PlacedSymbol, IsLeoPair}
 use Rattle.finite_sets.proofs.Members.{Among, among_from, contains_from, Once}
-use Rattle.number_laws.proofs.Lists.{list_is}
 use Rattle.number_laws.specs.RightRecursion.{right, tokens, RightRecursionCounts, RightRecursionRow}
+use Rattle.recognizer_model.proofs.Counting.{list_is, one_count}
 
 -- ---- the grammar
 

@@ -8,7 +8,6 @@ use Rattle.grammar_model.specs.Trees.{Tree}
 use Rattle.grammar_model.specs.Derives.{Edges, Held}
 use Rattle.grammar_model.specs.All.{IsAll}
 use Rattle.grammar_model.specs.Checked.{IsChecked}
-use Rattle.grammar_model.proofs.Lists.{Among, among_from, contains_from}
 use Rattle.recognizer_model.specs.declared.NodeKey.{NodeKey}
 use Rattle.recognizer_model.specs.Flat.{FlatGrammar, lhs_of}
 use Rattle.recognizer_model.specs.FlatForm.{IsFlatOf, FlatEdges, flat_order}
@@ -22,7 +21,7 @@ use Rattle.recognizer_model.specs.Nodes.{IsUsed}
 use Rattle.recognizer_model.proofs.Views.{symbol_viewed, symbol_back}
 use Rattle.recognizer_model.proofs.FlatListed.{flat_list}
 use Rattle.finite_sets.proofs.Members as sets
-use Rattle.finite_sets.proofs.Members.{once_pairs}
+use Rattle.finite_sets.proofs.Members.{once_pairs, among_from, contains_from, Among}
 use Rattle.forest_model.specs.Forest.{Forest, IsDerived}
 use Rattle.forest_laws.proofs.Existing.{forests_exist}
 

@@ -15,7 +15,7 @@ use Rattle.flat_model.specs.Flattened.{IsFlattened}
 use Rattle.language_model.specs.Building.{Built}
 use Rattle.language_model.specs.Texts.{IsBuilt}
 use Rattle.reading_model.specs.Accepted.{IsAccepted}
-use Rattle.reading_model.specs.Reading.{Piece, edges_of, place_after}
+use Rattle.reading_model.specs.Reading.{Piece, edges_of, earleme_after}
 use Rattle.run_model.specs.Steps.{IsPlacedLink, IsLeoPair, IsWithinSteps}
 
 pub record Counts : Type 0 where
@@ -29,9 +29,9 @@ pub record HasCounts (b : Built) (ranking : Ranking) (pieces : List Piece) (n : 
   pub is : IsFlattened b.g1 flat
   pub top : ℕ
   pub top_is : slice_get flat.tops 0 ≡ Some top
-  pub links : IsCountOf (IsPlacedLink flat (FlatEdges flat (Held (edges_of pieces))) top (place_after pieces)) n.links
-  pub pairs : IsCountOf (IsLeoPair flat (FlatEdges flat (Held (edges_of pieces))) top (place_after pieces)) n.pairs
-  pub expanded : IsCountOf (IsExpanded flat (FlatEdges flat (Held (edges_of pieces))) (allowed_by b.g1 ranking flat (FlatEdges flat (Held (edges_of pieces)))) top (place_after pieces)) n.expanded
+  pub links : IsCountOf (IsPlacedLink flat (FlatEdges flat (Held (edges_of pieces))) top (earleme_after pieces)) n.links
+  pub pairs : IsCountOf (IsLeoPair flat (FlatEdges flat (Held (edges_of pieces))) top (earleme_after pieces)) n.pairs
+  pub expanded : IsCountOf (IsExpanded flat (FlatEdges flat (Held (edges_of pieces))) (allowed_by b.g1 ranking flat (FlatEdges flat (Held (edges_of pieces)))) top (earleme_after pieces)) n.expanded
 
 -- a reading has its counts
 abbrev pub CountsExist : Type 0

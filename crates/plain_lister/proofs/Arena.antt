@@ -9,7 +9,7 @@ use Rattle.std.proofs.lemmas.List.Elements.{All-weaker, All-append}
 use Rattle.plain_lister.specs.declared.Cell.{Cell}
 use Rattle.plain_lister.specs.Arena.{Meant, nothing, meant, meant_at, meanings_from, meanings}
 use Rattle.grammar_model.specs.Trees.{Child}
-use Rattle.plain_lister.specs.Adding.{at, as_front, Within, Keeps, Adds}
+use Rattle.plain_lister.specs.Adding.{at, as_prefix, Within, Keeps, Adds}
 
 from_push : (earlier : List Meant) (cells : List Cell) (c : Cell) → meanings_from earlier (cells ++ c ∷ []) ≡ meanings_from earlier cells ++ meant (meanings_from earlier cells) c ∷ []
 from_push earlier [] c = refl
@@ -92,14 +92,11 @@ step_flat_map f xs i h =
     ap (λ z. flat_map f (take i xs) ++ z) (sym (append-nil (f (get_or xs i 0))))
     ∙ sym (flat_map-append f (take i xs) (get_or xs i 0 ∷ [])) ∙ ap (flat_map f) (sym (take_more xs i 0 h))
 
-pub whole_take : (xs : List ℕ) (n : ℕ) → length xs ≤ n → take n xs ≡ xs
-whole_take xs n h = take_all n xs h
-
 pub adds_whole_map : (a b : List Cell) (ys zs : List ℕ) (f : ℕ → Meant) (xs : List ℕ) (n : ℕ) → length xs ≤ n → Adds a b ys zs (map f (take n xs)) → Adds a b ys zs (map f xs)
-adds_whole_map a b ys zs f xs n h s = adds_same a b ys zs _ _ (ap (map f) (whole_take xs n h)) s
+adds_whole_map a b ys zs f xs n h s = adds_same a b ys zs _ _ (ap (map f) (take_all n xs h)) s
 
 pub adds_whole_flat_map : (a b : List Cell) (ys zs : List ℕ) (f : ℕ → List Meant) (xs : List ℕ) (n : ℕ) → length xs ≤ n → Adds a b ys zs (flat_map f (take n xs)) → Adds a b ys zs (flat_map f xs)
-adds_whole_flat_map a b ys zs f xs n h s = adds_same a b ys zs _ _ (ap (flat_map f) (whole_take xs n h)) s
+adds_whole_flat_map a b ys zs f xs n h s = adds_same a b ys zs _ _ (ap (flat_map f) (take_all n xs h)) s
 
 -- one more cell, whose meaning is told in the cells at the beginning
 pub adds_cell : (a b b' : List Cell) (ys zs zs' : List ℕ) (f : ℕ → Meant) (xs : List ℕ) (i : ℕ) (m : Meant) → i < length xs → m ≡ f (get_or xs i 0) →
@@ -115,6 +112,6 @@ pub map_same : (f g : ℕ → Meant) (xs : List ℕ) → ((k : ℕ) → k < leng
 map_same f g [] h = refl
 map_same f g (x ∷ xs) h = λ i. h 0 (omega arith) i ∷ map_same f g xs (λ k lt. h (suc k) (omega arith)) i
 
-pub lasts_keep : (a b : List Cell) (front : ℕ) (lasts : List ℕ) → Keeps a b → front < length a → Within a lasts →
-    map (λ k. as_front (Child ((at b front).front) ((at b k).tree))) lasts ≡ map (λ k. as_front (Child ((at a front).front) ((at a k).tree))) lasts
-lasts_keep a b front lasts s h w = map_same _ _ lasts (λ i lt z. as_front (Child ((s.same front h z).front) ((s.same (get_or lasts i 0) (w i 0 lt) z).tree)))
+pub lasts_keep : (a b : List Cell) (prefix : ℕ) (lasts : List ℕ) → Keeps a b → prefix < length a → Within a lasts →
+    map (λ k. as_prefix (Child ((at b prefix).prefix) ((at b k).tree))) lasts ≡ map (λ k. as_prefix (Child ((at a prefix).prefix) ((at a k).tree))) lasts
+lasts_keep a b prefix lasts s h w = map_same _ _ lasts (λ i lt z. as_prefix (Child ((s.same prefix h z).prefix) ((s.same (get_or lasts i 0) (w i 0 lt) z).tree)))

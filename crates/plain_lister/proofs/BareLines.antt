@@ -27,7 +27,7 @@ module _ (g : Grammar) (tokens : List Token) where
 
     same_values : (cs : Children) → values_of_all ShowTree (bare g) no_meaning tokens cs ≡ values_of_all ShowTree g no_meaning tokens cs
     same_values NoChild = refl
-    same_values (Child front last) = λ z. same_values front z ++ same_value last z ∷ []
+    same_values (Child prefix last) = λ z. same_values prefix z ++ same_value last z ∷ []
 
 pub same_line : (g : Grammar) (input : List ℕ) (names : List (List ℕ)) (lefts copy : List ℕ) (t : Tree) → names ≡ g.names → lefts ≡ map lhs_of g.rules → copy ≡ input →
     tree_line (record { names = names; rules = map bare_rule lefts; starts = [] }) copy t ≡ tree_line g input t

@@ -13,14 +13,15 @@ use Rattle.grammar_model.specs.Simple.{IsSimple, IsSimpleRule, places, numbers, 
 use Rattle.grammar_model.specs.Characters.{is_quoted, is_named}
 use Rattle.grammar_model.proofs.Simple.{trees_again, among_places_from, is_terminal_from}
 use Rattle.grammar_model.proofs.Characters.{quoted_forward}
-use Rattle.grammar_model.proofs.Lists.{Among}
 use Rattle.plain_lister.specs.declared.store.Store.{Store}
 use Rattle.plain_lister.specs.declared.Cell.{Cell}
 use Rattle.plain_lister.specs.Arena.{Meant, tree_at}
-use Rattle.plain_lister.specs.Adding.{at, as_tree, as_front, Within, Keeps, Adds}
-use Rattle.plain_lister.specs.Table.{same_key, IsKey, rank, listed, fronts_listed, nodes_below, fronts_from, value_at, Holds, Grows, IsSound, IsListed, IsBuilt}
+use Rattle.plain_lister.specs.Adding.{at, as_tree, as_prefix, Within, Keeps, Adds}
+use Rattle.plain_lister.specs.Table.{same_key, IsKey, rank, listed, prefixes_listed, nodes_below, prefixes_from, value_at, Holds, Grows, IsSound, IsListed, IsBuilt}
 use Rattle.grammar_core.specs.Written.{IsWritten, symbols_of}
 use Rattle.std.proofs.lemmas.Option.{get_or_from_slice_get, slice_get_within}
+use Rattle.std.proofs.lemmas.Simd.{map-map}
+use Rattle.finite_sets.proofs.Members.{Among}
 use Rattle.plain_lister.proofs.Arena.{within_keeps, map_keeps}
 use Rattle.plain_lister.proofs.Held.{grows_none, grows_then, holds_grow}
 
@@ -66,50 +67,46 @@ built_cells g input a b c places others values more lists memo s t =
 
 -- ---- values
 
-pub map_map : {X Y Z : Type 0} (f : Y → Z) (h : X → Y) (xs : List X) → map f (map h xs) ≡ map (λ x. f (h x)) xs
-map_map f h [] = refl
-map_map f h (x ∷ xs) = ap (λ l. f (h x) ∷ l) (map_map f h xs)
-
-pub front_value : (g : Grammar) (input : List ℕ) (x n p q : ℕ) → 0 < n → value_at g input x n p q ≡ map as_front (fronts_listed g input x n p q)
-front_value g input x zero p q h = absurd (omega arith)
-front_value g input x (suc n) p q h = refl
+pub prefix_value : (g : Grammar) (input : List ℕ) (x n p q : ℕ) → 0 < n → value_at g input x n p q ≡ map as_prefix (prefixes_listed g input x n p q)
+prefix_value g input x zero p q h = absurd (omega arith)
+prefix_value g input x (suc n) p q h = refl
 
 pub whole_key : (g : Grammar) (i n : ℕ) → i < length g.rules → n ≡ part_count (rule_at g i) → 0 < n → IsKey g i n
 whole_key g i zero lt e h = absurd (omega arith)
 whole_key g i (suc n) lt e h = (lt, omega arith)
 
-pub nodes_value : (cells : List Cell) (ps : List ℕ) (fs : List Children) (i p q : ℕ) → map (at cells) ps ≡ map as_front fs →
-    map (λ k. as_tree (Node i ((at cells k).front) p q)) ps ≡ map as_tree (map (λ children. Node i children p q) fs)
+pub nodes_value : (cells : List Cell) (ps : List ℕ) (fs : List Children) (i p q : ℕ) → map (at cells) ps ≡ map as_prefix fs →
+    map (λ k. as_tree (Node i ((at cells k).prefix) p q)) ps ≡ map as_tree (map (λ children. Node i children p q) fs)
 nodes_value cells ps fs i p q e =
-    sym (map_map (λ (m : Meant). as_tree (Node i m.front p q)) (at cells) ps)
-    ∙ ap (map (λ (m : Meant). as_tree (Node i m.front p q))) e
-    ∙ map_map (λ (m : Meant). as_tree (Node i m.front p q)) as_front fs
-    ∙ sym (map_map as_tree (λ children. Node i children p q) fs)
+    sym (map-map (λ (m : Meant). as_tree (Node i m.prefix p q)) (at cells) ps)
+    ∙ ap (map (λ (m : Meant). as_tree (Node i m.prefix p q))) e
+    ∙ map-map (λ (m : Meant). as_tree (Node i m.prefix p q)) as_prefix fs
+    ∙ sym (map-map as_tree (λ children. Node i children p q) fs)
 
 pub firsts_value : (cells : List Cell) (ps : List ℕ) (ts : List Tree) → map (at cells) ps ≡ map as_tree ts →
-    map (λ k. as_front (Child NoChild ((at cells k).tree))) ps ≡ map as_front (map (Child NoChild) ts)
+    map (λ k. as_prefix (Child NoChild ((at cells k).tree))) ps ≡ map as_prefix (map (Child NoChild) ts)
 firsts_value cells ps ts e =
-    sym (map_map (λ (m : Meant). as_front (Child NoChild m.tree)) (at cells) ps)
-    ∙ ap (map (λ (m : Meant). as_front (Child NoChild m.tree))) e
-    ∙ map_map (λ (m : Meant). as_front (Child NoChild m.tree)) as_tree ts
-    ∙ sym (map_map as_front (Child NoChild) ts)
+    sym (map-map (λ (m : Meant). as_prefix (Child NoChild m.tree)) (at cells) ps)
+    ∙ ap (map (λ (m : Meant). as_prefix (Child NoChild m.tree))) e
+    ∙ map-map (λ (m : Meant). as_prefix (Child NoChild m.tree)) as_tree ts
+    ∙ sym (map-map as_prefix (Child NoChild) ts)
 
-pub pairs_value : (cells : List Cell) (js ks : List ℕ) (fs : List Children) (ts : List Tree) → map (at cells) js ≡ map as_front fs → map (at cells) ks ≡ map as_tree ts →
-    flat_map (λ j. map (λ k. as_front (Child ((at cells j).front) ((at cells k).tree))) ks) js ≡ map as_front (flat_map (λ front. map (Child front) ts) fs)
+pub pairs_value : (cells : List Cell) (js ks : List ℕ) (fs : List Children) (ts : List Tree) → map (at cells) js ≡ map as_prefix fs → map (at cells) ks ≡ map as_tree ts →
+    flat_map (λ j. map (λ k. as_prefix (Child ((at cells j).prefix) ((at cells k).tree))) ks) js ≡ map as_prefix (flat_map (λ prefix. map (Child prefix) ts) fs)
 pairs_value cells js ks fs ts e f =
-    over js ∙ ap (flat_map (λ (m : Meant). map (λ (o : Meant). as_front (Child m.front o.tree)) (map (at cells) ks))) e
-    ∙ ap (λ (l : List Meant). flat_map (λ (m : Meant). map (λ (o : Meant). as_front (Child m.front o.tree)) l) (map as_front fs)) f
+    over js ∙ ap (flat_map (λ (m : Meant). map (λ (o : Meant). as_prefix (Child m.prefix o.tree)) (map (at cells) ks))) e
+    ∙ ap (λ (l : List Meant). flat_map (λ (m : Meant). map (λ (o : Meant). as_prefix (Child m.prefix o.tree)) l) (map as_prefix fs)) f
     ∙ inside fs
   where
-    over : (xs : List ℕ) → flat_map (λ j. map (λ k. as_front (Child ((at cells j).front) ((at cells k).tree))) ks) xs ≡ flat_map (λ (m : Meant). map (λ (o : Meant). as_front (Child m.front o.tree)) (map (at cells) ks)) (map (at cells) xs)
+    over : (xs : List ℕ) → flat_map (λ j. map (λ k. as_prefix (Child ((at cells j).prefix) ((at cells k).tree))) ks) xs ≡ flat_map (λ (m : Meant). map (λ (o : Meant). as_prefix (Child m.prefix o.tree)) (map (at cells) ks)) (map (at cells) xs)
     over [] = refl
-    over (x ∷ xs) = λ i. sym (map_map (λ (o : Meant). as_front (Child ((at cells x).front) o.tree)) (at cells) ks) i ++ over xs i
+    over (x ∷ xs) = λ i. sym (map-map (λ (o : Meant). as_prefix (Child ((at cells x).prefix) o.tree)) (at cells) ks) i ++ over xs i
 
-    inside : (xs : List Children) → flat_map (λ (m : Meant). map (λ (o : Meant). as_front (Child m.front o.tree)) (map as_tree ts)) (map as_front xs) ≡ map as_front (flat_map (λ front. map (Child front) ts) xs)
+    inside : (xs : List Children) → flat_map (λ (m : Meant). map (λ (o : Meant). as_prefix (Child m.prefix o.tree)) (map as_tree ts)) (map as_prefix xs) ≡ map as_prefix (flat_map (λ prefix. map (Child prefix) ts) xs)
     inside [] = refl
     inside (x ∷ xs) =
-        (λ i. (map_map (λ (o : Meant). as_front (Child x o.tree)) as_tree ts ∙ sym (map_map as_front (Child x) ts)) i ++ inside xs i)
-        ∙ sym (map-append as_front (map (Child x) ts) (flat_map (λ front. map (Child front) ts) xs))
+        (λ i. (map-map (λ (o : Meant). as_prefix (Child x o.tree)) as_tree ts ∙ sym (map-map as_prefix (Child x) ts)) i ++ inside xs i)
+        ∙ sym (map-append as_prefix (map (Child x) ts) (flat_map (λ prefix. map (Child prefix) ts) xs))
 
 -- ---- places
 
@@ -172,7 +169,7 @@ pub nodes_listed : (g : Grammar) (input : List ℕ) (x p q : ℕ) → IsSimple g
 nodes_listed g input x p q simple inner lt within = trees_again g (is_quoted g input) RuleRanks simple (quoted_forward g input) (suc (length input)) (slot_of x) p q lt (omega arith) inner
 
 nodes_push : (g : Grammar) (input : List ℕ) (x p q n : ℕ) (b : Bool) → fits (rule_at g n) (slot_of x) ≡ b →
-    nodes_below g input x p q (n + 1) ≡ nodes_below g input x p q n ++ cond b (map (λ children. Node n children p q) (fronts_listed g input n (part_count (rule_at g n)) p q)) []
+    nodes_below g input x p q (n + 1) ≡ nodes_below g input x p q n ++ cond b (map (λ children. Node n children p q) (prefixes_listed g input n (part_count (rule_at g n)) p q)) []
 nodes_push g input x p q n b e =
     let next : n + 1 ≡ suc n = omega arith in
     ap (nodes_below g input x p q) next
@@ -180,17 +177,17 @@ nodes_push g input x p q n b e =
     ∙ go b
   where
     nodes : ℕ → List Tree
-    nodes i = map (λ children. Node i children p q) (fronts_listed g input i (part_count (rule_at g i)) p q)
+    nodes i = map (λ children. Node i children p q) (prefixes_listed g input i (part_count (rule_at g i)) p q)
 
     go : (t : Bool) → flat_map nodes (filter (λ i. fits (rule_at g i) (slot_of x)) (numbers n) ++ cond t (n ∷ []) []) ≡ nodes_below g input x p q n ++ cond t (nodes n) []
     go true = flat_map_push nodes (filter (λ i. fits (rule_at g i) (slot_of x)) (numbers n)) n
     go false = ap (flat_map nodes) (append-nil (filter (λ i. fits (rule_at g i) (slot_of x)) (numbers n))) ∙ sym (append-nil (nodes_below g input x p q n))
 
 pub nodes_more : (g : Grammar) (input : List ℕ) (x p q n : ℕ) → lhs_of (rule_at g n) ≡ x →
-    map as_tree (nodes_below g input x p q n) ++ map as_tree (map (λ children. Node n children p q) (fronts_listed g input n (part_count (rule_at g n)) p q)) ≡ map as_tree (nodes_below g input x p q (n + 1))
+    map as_tree (nodes_below g input x p q n) ++ map as_tree (map (λ children. Node n children p q) (prefixes_listed g input n (part_count (rule_at g n)) p q)) ≡ map as_tree (nodes_below g input x p q (n + 1))
 nodes_more g input x p q n e =
     let f : fits (rule_at g n) (slot_of x) ≡ true = λ i. eq-eqb (lhs_of (rule_at g n)) x e i && le-leb 0 (level_of (rule_at g n)) (omega arith) i in
-    sym (map-append as_tree (nodes_below g input x p q n) (map (λ children. Node n children p q) (fronts_listed g input n (part_count (rule_at g n)) p q)))
+    sym (map-append as_tree (nodes_below g input x p q n) (map (λ children. Node n children p q) (prefixes_listed g input n (part_count (rule_at g n)) p q)))
     ∙ ap (map as_tree) (sym (nodes_push g input x p q n true f))
 
 pub nodes_as_before : (g : Grammar) (input : List ℕ) (x p q n : ℕ) → (lhs_of (rule_at g n) ≡ x → ⊥) → map as_tree (nodes_below g input x p q n) ≡ map as_tree (nodes_below g input x p q (n + 1))
@@ -204,46 +201,46 @@ pub slot_is : (g : Grammar) (rule : WrittenRule) (k : ℕ) → IsSimpleRule g ru
 slot_is g (Plain r) k s = λ i. record { symbol = slice_index r.rhs k; level = cond (nat_lt 1 (s.0 i) && (slice_index r.rhs k == r.lhs)) (own_level r.assoc r k) 0 }
 slot_is g (Sequence r) k s = absurd s
 
-pub firsts_listed : (g : Grammar) (input : List ℕ) (i p q : ℕ) → p < q → fronts_listed g input i 1 p q ≡ map (Child NoChild) (listed g input (child_slot (rule_at g i) 0) p q)
+pub firsts_listed : (g : Grammar) (input : List ℕ) (i p q : ℕ) → p < q → prefixes_listed g input i 1 p q ≡ map (Child NoChild) (listed g input (child_slot (rule_at g i) 0) p q)
 firsts_listed g input i p q lt =
     let none : p + 0 ≡ p = omega arith in
     ap (λ z. flat_map from (places z q)) none ∙ ap (flat_map from) (places_more p q lt) ∙ flat_map_push from (places (suc p) q) p
     ∙ (λ z. flat_map_none from (places (suc p) q) later z ++ here z)
   where
     from : ℕ → List Children
-    from r = flat_map (λ front. map (Child front) (listed g input (child_slot (rule_at g i) 0) r q)) (cond (p == r) (NoChild ∷ []) [])
+    from r = flat_map (λ prefix. map (Child prefix) (listed g input (child_slot (rule_at g i) 0) r q)) (cond (p == r) (NoChild ∷ []) [])
 
     later : (r : ℕ) → Among r (places (suc p) q) → from r ≡ []
     later r m =
         let b = among_places_from (suc p) q r m in
-        ap (λ t. flat_map (λ front. map (Child front) (listed g input (child_slot (rule_at g i) 0) r q)) (cond t (NoChild ∷ []) [])) (ne_eqb p r (λ e. omega arith))
+        ap (λ t. flat_map (λ prefix. map (Child prefix) (listed g input (child_slot (rule_at g i) 0) r q)) (cond t (NoChild ∷ []) [])) (ne_eqb p r (λ e. omega arith))
 
     here : from p ≡ map (Child NoChild) (listed g input (child_slot (rule_at g i) 0) p q)
-    here = ap (λ t. flat_map (λ front. map (Child front) (listed g input (child_slot (rule_at g i) 0) p q)) (cond t (NoChild ∷ []) [])) (eq-eqb p p refl) ∙ append-nil (map (Child NoChild) (listed g input (child_slot (rule_at g i) 0) p q))
+    here = ap (λ t. flat_map (λ prefix. map (Child prefix) (listed g input (child_slot (rule_at g i) 0) p q)) (cond t (NoChild ∷ []) [])) (eq-eqb p p refl) ∙ append-nil (map (Child NoChild) (listed g input (child_slot (rule_at g i) 0) p q))
 
 pub pairs_more : (g : Grammar) (input : List ℕ) (i n p q r s : ℕ) → r ≡ suc s → s < q →
-    map as_front (flat_map (fronts_from g input i n p q) (places r q)) ++ map as_front (fronts_from g input i n p q s) ≡ map as_front (flat_map (fronts_from g input i n p q) (places s q))
+    map as_prefix (flat_map (prefixes_from g input i n p q) (places r q)) ++ map as_prefix (prefixes_from g input i n p q s) ≡ map as_prefix (flat_map (prefixes_from g input i n p q) (places s q))
 pairs_more g input i n p q r s e lt =
-    sym (map-append as_front (flat_map (fronts_from g input i n p q) (places r q)) (fronts_from g input i n p q s))
-    ∙ ap (λ z. map as_front (flat_map (fronts_from g input i n p q) (places z q) ++ fronts_from g input i n p q s)) e
-    ∙ ap (map as_front) (sym (ap (flat_map (fronts_from g input i n p q)) (places_more s q lt) ∙ flat_map_push (fronts_from g input i n p q) (places (suc s) q) s))
+    sym (map-append as_prefix (flat_map (prefixes_from g input i n p q) (places r q)) (prefixes_from g input i n p q s))
+    ∙ ap (λ z. map as_prefix (flat_map (prefixes_from g input i n p q) (places z q) ++ prefixes_from g input i n p q s)) e
+    ∙ ap (map as_prefix) (sym (ap (flat_map (prefixes_from g input i n p q)) (places_more s q lt) ∙ flat_map_push (prefixes_from g input i n p q) (places (suc s) q) s))
 
-pub pairs_as_before : (g : Grammar) (input : List ℕ) (i n p q r s : ℕ) → r ≡ suc s → s < q → fronts_from g input i n p q s ≡ [] →
-    map as_front (flat_map (fronts_from g input i n p q) (places r q)) ≡ map as_front (flat_map (fronts_from g input i n p q) (places s q))
+pub pairs_as_before : (g : Grammar) (input : List ℕ) (i n p q r s : ℕ) → r ≡ suc s → s < q → prefixes_from g input i n p q s ≡ [] →
+    map as_prefix (flat_map (prefixes_from g input i n p q) (places r q)) ≡ map as_prefix (flat_map (prefixes_from g input i n p q) (places s q))
 pairs_as_before g input i n p q r s e lt none =
-    sym (append-nil (map as_front (flat_map (fronts_from g input i n p q) (places r q)))) ∙ ap (λ l. map as_front (flat_map (fronts_from g input i n p q) (places r q)) ++ map as_front l) (sym none) ∙ pairs_more g input i n p q r s e lt
+    sym (append-nil (map as_prefix (flat_map (prefixes_from g input i n p q) (places r q)))) ∙ ap (λ l. map as_prefix (flat_map (prefixes_from g input i n p q) (places r q)) ++ map as_prefix l) (sym none) ∙ pairs_more g input i n p q r s e lt
 
 -- a terminal spans one place, and so stands nowhere else as a last child
-pub no_last : (g : Grammar) (input : List ℕ) (i n p q s : ℕ) → IsSimpleRule g (rule_at g i) → is_terminal g (child_slot (rule_at g i) n).symbol ≡ true → s < q → (q ≡ suc s → ⊥) → fronts_from g input i n p q s ≡ []
+pub no_last : (g : Grammar) (input : List ℕ) (i n p q s : ℕ) → IsSimpleRule g (rule_at g i) → is_terminal g (child_slot (rule_at g i) n).symbol ≡ true → s < q → (q ≡ suc s → ⊥) → prefixes_from g input i n p q s ≡ []
 no_last g input i n p q s simple terminal lt ne =
-    ap (λ (l : List Tree). flat_map (λ front. map (Child front) l) (fronts_listed g input i n p s))
+    ap (λ (l : List Tree). flat_map (λ prefix. map (Child prefix) l) (prefixes_listed g input i n p s))
     (ap (λ z. listed g input z s q) (slot_is g (rule_at g i) n simple) ∙ leaf_value g input (child_slot (rule_at g i) n).symbol s q false terminal lt (not_near g input (child_slot (rule_at g i) n).symbol s q ne))
-    ∙ flat_map_none (λ front. map (Child front) []) (fronts_listed g input i n p s) (λ x m. refl)
+    ∙ flat_map_none (λ prefix. map (Child prefix) []) (prefixes_listed g input i n p s) (λ x m. refl)
 
-pub no_front : (g : Grammar) (input : List ℕ) (i n p q s : ℕ) (cells : List Cell) (ps : List ℕ) → ps ≡ [] → map (at cells) ps ≡ map as_front (fronts_listed g input i n p s) → fronts_from g input i n p q s ≡ []
-no_front g input i n p q s cells ps e f = ap (flat_map (λ front. map (Child front) (listed g input (child_slot (rule_at g i) n) s q))) (go (fronts_listed g input i n p s) (sym (ap (map (at cells)) e) ∙ f))
+pub no_prefix : (g : Grammar) (input : List ℕ) (i n p q s : ℕ) (cells : List Cell) (ps : List ℕ) → ps ≡ [] → map (at cells) ps ≡ map as_prefix (prefixes_listed g input i n p s) → prefixes_from g input i n p q s ≡ []
+no_prefix g input i n p q s cells ps e f = ap (flat_map (λ prefix. map (Child prefix) (listed g input (child_slot (rule_at g i) n) s q))) (go (prefixes_listed g input i n p s) (sym (ap (map (at cells)) e) ∙ f))
   where
-    go : (l : List Children) → [] ≡ map as_front l → l ≡ []
+    go : (l : List Children) → [] ≡ map as_prefix l → l ≡ []
     go [] h = refl
     go (x ∷ l) h = cc
 
@@ -307,24 +304,20 @@ pub key_rule : (g : Grammar) (i n : ℕ) → IsKey g i n → 0 < n → i < lengt
 key_rule g i zero k h = absurd (omega arith)
 key_rule g i (suc n) k h = k.0
 
-pub fronts_step : (g : Grammar) (input : List ℕ) (i n p q : ℕ) → 0 < n → fronts_listed g input i n p q ≡ flat_map (fronts_from g input i (n - 1) p q) (places (p + (n - 1)) q)
-fronts_step g input i zero p q h = absurd (omega arith)
-fronts_step g input i (suc m) p q h = let e : suc m - 1 ≡ m = omega arith in sym (ap (λ z. flat_map (fronts_from g input i z p q) (places (p + z) q)) e)
+pub prefixes_step : (g : Grammar) (input : List ℕ) (i n p q : ℕ) → 0 < n → prefixes_listed g input i n p q ≡ flat_map (prefixes_from g input i (n - 1) p q) (places (p + (n - 1)) q)
+prefixes_step g input i zero p q h = absurd (omega arith)
+prefixes_step g input i (suc m) p q h = let e : suc m - 1 ≡ m = omega arith in sym (ap (λ z. flat_map (prefixes_from g input i z p q) (places (p + z) q)) e)
 
 -- at the end of the loop over starts
 pub starts_end : (i p q r n : ℕ) → (p + n ≤ r) ⊎ (r ≡ q) → r ≤ p + n → r ≤ q → places r q ≡ places (p + n) q
 starts_end i p q r n (inl a) b c = let e : r ≡ p + n = omega arith in ap (λ z. places z q) e
 starts_end i p q r n (inr e) b c = places_none r q (omega arith) ∙ sym (places_none (p + n) q (omega arith))
 
-pub empty_list : (xs : List ℕ) → length xs ≡ 0 → xs ≡ []
-empty_list [] e = refl
-empty_list (x ∷ xs) e = absurd (omega arith)
-
 -- ---- the whole
 
 pub trees_told : (cells : List Cell) (places : List ℕ) (ts : List Tree) → map (at cells) places ≡ map as_tree ts → map (tree_at cells) places ≡ ts
 trees_told cells places ts e =
-    sym (map_map (λ (m : Meant). m.tree) (at cells) places) ∙ ap (map (λ (m : Meant). m.tree)) e ∙ map_map (λ (m : Meant). m.tree) as_tree ts ∙ same ts
+    sym (map-map (λ (m : Meant). m.tree) (at cells) places) ∙ ap (map (λ (m : Meant). m.tree)) e ∙ map-map (λ (m : Meant). m.tree) as_tree ts ∙ same ts
   where
     same : (l : List Tree) → map (λ t. t) l ≡ l
     same [] = refl

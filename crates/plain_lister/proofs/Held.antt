@@ -1,8 +1,9 @@
 -- The table grows, and what it holds stays held.
-use Rattle.std.proofs.Common.{◌≡◌, ℕ, zero, suc, Bool, true, false, cond, List, [], ◌∷◌, ◌++◌, length, map, Some, refl, sym, ◌∙◌, subst}
+use Rattle.std.proofs.Common.{◌≡◌, ℕ, Bool, true, false, cond, List, [], ◌∷◌, ◌++◌, length, map, Some, refl, sym, ◌∙◌, subst}
 use Rattle.std.specs.Prelude.{slice_get}
 use Rattle.std.specs.Map.{lookup}
 use Rattle.std.proofs.lemmas.Bool.{and_parts, eqb-true}
+use Rattle.finite_sets.proofs.Lists.{get_left, get_last}
 use Rattle.grammar_model.specs.Grammar.{Grammar}
 use Rattle.plain_lister.specs.declared.store.Store.{Store}
 use Rattle.plain_lister.specs.Adding.{at, Within, Keeps}
@@ -22,15 +23,6 @@ holds_grow g input old new k x n p q s h = record {
   within = within_keeps old.cells.items new.cells.items h.places s.keeps h.within;
   told = map_keeps old.cells.items new.cells.items h.places s.keeps h.within ∙ h.told;
 }
-
-get_front : {X : Type 0} (xs ys : List X) (k : ℕ) (y : X) → slice_get xs k ≡ Some y → slice_get (xs ++ ys) k ≡ Some y
-get_front [] ys k y e = cc
-get_front (x ∷ xs) ys zero y e = e
-get_front (x ∷ xs) ys (suc k) y e = get_front xs ys k y e
-
-get_end : {X : Type 0} (xs : List X) (x : X) → slice_get (xs ++ x ∷ []) (length xs) ≡ Some x
-get_end [] x = refl
-get_end (y ∷ ys) x = get_end ys x
 
 -- keys that pass the test are the same
 keys_same : (g : Grammar) (input : List ℕ) (s : Store) (k x n p q x' n' p' q' : ℕ) → same_key (x, n, p, q) (x', n', p', q') ≡ true → Holds g input s k x n p q → Holds g input s k x' n' p' q'
@@ -53,13 +45,13 @@ kept g input old new x n p q number places cells lists number_is updates sound w
     grown : Grows old new
     grown = record {
       keeps = subst (Keeps old.cells.items) (sym cells) (keeps_all old.cells.items);
-      lists = λ k ps e. subst (λ l. slice_get l k ≡ Some ps) (sym lists) (get_front old.lists.items (places ∷ []) k ps e);
+      lists = λ k ps e. subst (λ l. slice_get l k ≡ Some ps) (sym lists) (get_left old.lists.items (places ∷ []) k ps e);
     }
 
     here : Holds g input new number x n p q
     here = record {
       places = places;
-      found = (λ i. slice_get (lists i) (number_is i)) ∙ get_end old.lists.items places;
+      found = (λ i. slice_get (lists i) (number_is i)) ∙ get_last old.lists.items places;
       within = subst (λ cs. Within cs places) (sym cells) within;
       told = subst (λ cs. map (at cs) places ≡ value_at g input x n p q) (sym cells) told;
     }

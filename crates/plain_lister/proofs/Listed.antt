@@ -1,7 +1,8 @@
 -- The lines of a list are those of its trees.
-use Rattle.std.proofs.Common.{◌≡◌, ℕ, zero, suc, ◌+◌, List, [], ◌∷◌, ◌++◌, Some, map, length, ◌⊎◌, inl, inr, refl, sym, ap, ◌∙◌, subst, arith, length-append}
+use Rattle.std.proofs.Common.{◌≡◌, ℕ, suc, ◌+◌, List, [], ◌∷◌, ◌++◌, Some, map, length, ◌⊎◌, inl, inr, refl, sym, ap, ◌∙◌, subst, arith, length-append}
 use Rattle.std.specs.Prelude.{slice_get, slice_index_or}
 use Rattle.std.proofs.lemmas.Option.{slice_get-get_or}
+use Rattle.finite_sets.proofs.Lists.{get_left, get_last, get_pushed}
 use Rattle.grammar_model.specs.Values.{Value}
 use Rattle.grammar_model.specs.Text.{text_of}
 use Rattle.value_text.specs.Pool.{AreIds}
@@ -13,28 +14,13 @@ use Rattle.plain_lister.specs.Listing.{trees_of, line_of}
 use Rattle.plain_lister.specs.Lines.{value_line}
 use Rattle.plain_lister.proofs.Pooled.{value_of_told}
 
-get_last : (xs : List ℕ) (x i y : ℕ) → slice_get (xs ++ x ∷ []) i ≡ Some y → (slice_get xs i ≡ Some y) ⊎ ((i ≡ length xs) × (x ≡ y))
-get_last [] x zero y e = inr (refl, cc)
-get_last [] x (suc i) y e = cc
-get_last (z ∷ zs) x zero y e = inl e
-get_last (z ∷ zs) x (suc i) y e = elim (get_last zs x i y e) [ inl h ↦ inl h | inr h ↦ inr (ap suc h.0, h.1) ]
-
-get_front : (xs ys : List ℕ) (i y : ℕ) → slice_get xs i ≡ Some y → slice_get (xs ++ ys) i ≡ Some y
-get_front [] ys i y e = cc
-get_front (x ∷ xs) ys zero y e = e
-get_front (x ∷ xs) ys (suc i) y e = get_front xs ys i y e
-
-get_end : (xs : List ℕ) (x : ℕ) → slice_get (xs ++ x ∷ []) (length xs) ≡ Some x
-get_end [] x = refl
-get_end (y ∷ ys) x = get_end ys x
-
 -- one more value that was told
 pub values_more : (xs : List Told) (trees ids : List ℕ) (k id : ℕ) → AreValuesTold xs trees ids → IsValueTold xs k id → AreValuesTold xs (trees ++ k ∷ []) (ids ++ id ∷ [])
-values_more xs trees ids k id all v = (length-append ids (id ∷ []) ∙ ap (λ n. n + 1) all.0 ∙ sym (length-append trees (k ∷ [])), λ j y e. go j y (get_last ids id j y e))
+values_more xs trees ids k id all v = (length-append ids (id ∷ []) ∙ ap (λ n. n + 1) all.0 ∙ sym (length-append trees (k ∷ [])), λ j y e. go j y (get_pushed ids id j y e))
   where
     go : (j y : ℕ) → (slice_get ids j ≡ Some y) ⊎ ((j ≡ length ids) × (id ≡ y)) → (n : ℕ) × (slice_get (trees ++ k ∷ []) j ≡ Some n) × IsValueTold xs n y
-    go j y (inl e) = let (n, at, t) = all.1 j y e in (n, get_front trees (k ∷ []) j n at, t)
-    go j y (inr (e, same)) = (k, ap (slice_get (trees ++ k ∷ [])) (e ∙ all.0) ∙ get_end trees k, subst (IsValueTold xs k) same v)
+    go j y (inl e) = let (n, at, t) = all.1 j y e in (n, get_left trees (k ∷ []) j n at, t)
+    go j y (inr (e, same)) = (k, ap (slice_get (trees ++ k ∷ [])) (e ∙ all.0) ∙ get_last trees k, subst (IsValueTold xs k) same v)
 
 pointwise : (f g : ℕ → List ℕ) (ids trees : List ℕ) → length ids ≡ length trees → ((j id : ℕ) → slice_get ids j ≡ Some id → (k : ℕ) × (slice_get trees j ≡ Some k) × (f id ≡ g k)) → map f ids ≡ map g trees
 pointwise f g [] [] len h = refl
@@ -60,7 +46,3 @@ pub ids_are : (d : Derivations) (pool : List Value) (xs : List Told) (ids : List
 ids_are d pool xs ids all values k e lt =
     let (n, at, t) = values.1 k (slice_index_or ids k e) (slice_get-get_or ids k e lt) in
     (value_of_told d pool xs d.cells.items n (slice_index_or ids k e) all t).0
-
-pub same_map : {A : Type 0} (f h : A → List ℕ) → ((x : A) → f x ≡ h x) → (xs : List A) → map f xs ≡ map h xs
-same_map f h same [] = refl
-same_map f h same (x ∷ xs) = λ i. same x i ∷ same_map f h same xs i

@@ -17,9 +17,10 @@ use Rattle.plain_lister.specs.declared.lines.Told.TheVariants as told
 use Rattle.plain_lister.specs.Arena.{Meant, meant, meanings}
 use Rattle.plain_lister.specs.Adding.{at}
 use Rattle.plain_lister.specs.Listing.{bare_rule}
-use Rattle.plain_lister.specs.Told.{Puts, Stays, IsTold, AllTold, IsFrontTold, IsValueTold, AreFrontIds, IsValueId, front_values, tree_value}
+use Rattle.plain_lister.specs.Told.{Puts, Stays, IsTold, AllTold, IsPrefixTold, IsValueTold, ArePrefixIds, IsValueId, prefix_values, tree_value}
 use Rattle.grammar_model.specs.Trees.{Child, NoChild}
 use Rattle.std.proofs.lemmas.Option.{slice_get_within}
+use Rattle.finite_sets.proofs.Lists.{get_pushed}
 use Rattle.plain_lister.proofs.Arena.{keeps_push, at_new}
 
 pub put_puts : (old new : List Value) (id : ℕ) (v : Value) → IsPut old new id v → Puts old new id v
@@ -75,18 +76,18 @@ bare_lhs (x ∷ xs) (suc i) d h = bare_lhs xs i d (omega arith)
 
 pub told_stays : (list : Derivations) (a b : List Value) (x : Told) (m : Meant) → Stays a b → IsTold list a x m → IsTold list b x m
 told_stays list a b (told.Value id) m s t = let l = s.longer in let h = t.0 in (omega arith, s.same id t.0 ∙ t.1)
-told_stays list a b (told.Front ids) m s t = (ids_stay a b ids.items s t.0, map_stays a b ids.items s t.0 ∙ t.1)
+told_stays list a b (told.Prefix ids) m s t = (ids_stay a b ids.items s t.0, map_stays a b ids.items s t.0 ∙ t.1)
 
 pub stays_all : (p : List Value) → Stays p p
 stays_all p = record { longer = omega arith; same = λ k h. refl }
 
-pub front_of : (list : Derivations) (pool : List Value) (xs : List Told) (cells : List Cell) (k : ℕ) (ids : List ℕ) → AllTold list pool xs cells → IsFrontTold xs k ids →
-    AreIds pool ids × (map (value_at pool) ids ≡ front_values list (at cells k).front)
-front_of list pool xs cells k ids all f = go f.cell (all.1 k f.cell f.found) f.front
+pub prefix_of : (list : Derivations) (pool : List Value) (xs : List Told) (cells : List Cell) (k : ℕ) (ids : List ℕ) → AllTold list pool xs cells → IsPrefixTold xs k ids →
+    AreIds pool ids × (map (value_at pool) ids ≡ prefix_values list (at cells k).prefix)
+prefix_of list pool xs cells k ids all f = go f.cell (all.1 k f.cell f.found) f.prefix
   where
-    go : (x : Told) → IsTold list pool x (at cells k) → AreFrontIds x ids → AreIds pool ids × (map (value_at pool) ids ≡ front_values list (at cells k).front)
+    go : (x : Told) → IsTold list pool x (at cells k) → ArePrefixIds x ids → AreIds pool ids × (map (value_at pool) ids ≡ prefix_values list (at cells k).prefix)
     go (told.Value id) t e = absurd e
-    go (told.Front v) t e = subst (λ l. AreIds pool l × (map (value_at pool) l ≡ front_values list (at cells k).front)) (sym e) t
+    go (told.Prefix v) t e = subst (λ l. AreIds pool l × (map (value_at pool) l ≡ prefix_values list (at cells k).prefix)) (sym e) t
 
 pub value_of_told : (list : Derivations) (pool : List Value) (xs : List Told) (cells : List Cell) (k id : ℕ) → AllTold list pool xs cells → IsValueTold xs k id →
     (id < length pool) × (value_at pool id ≡ tree_value list (at cells k).tree)
@@ -94,34 +95,28 @@ value_of_told list pool xs cells k id all f = go f.cell (all.1 k f.cell f.found)
   where
     go : (x : Told) → IsTold list pool x (at cells k) → IsValueId x id → (id < length pool) × (value_at pool id ≡ tree_value list (at cells k).tree)
     go (told.Value j) t e = subst (λ l. (l < length pool) × (value_at pool l ≡ tree_value list (at cells k).tree)) (sym e) t
-    go (told.Front v) t e = absurd e
+    go (told.Prefix v) t e = absurd e
 
 one_id : (pool : List Value) (id : ℕ) → id < length pool → AreIds pool (id ∷ [])
 one_id pool id h zero d lt = h
 one_id pool id h (suc k) d lt = absurd (omega arith)
 
 pub told_first : (list : Derivations) (pool : List Value) (xs : List Told) (cells : List Cell) (k id : ℕ) (items : List ℕ) → AllTold list pool xs cells → IsValueTold xs k id → items ≡ id ∷ [] →
-    AreIds pool items × (map (value_at pool) items ≡ front_values list (Child NoChild (at cells k).tree))
+    AreIds pool items × (map (value_at pool) items ≡ prefix_values list (Child NoChild (at cells k).tree))
 told_first list pool xs cells k id items all v e =
     let t = value_of_told list pool xs cells k id all v in
-    subst (λ l. AreIds pool l × (map (value_at pool) l ≡ front_values list (Child NoChild (at cells k).tree))) (sym e) (one_id pool id t.0, ap (λ w. w ∷ []) t.1)
+    subst (λ l. AreIds pool l × (map (value_at pool) l ≡ prefix_values list (Child NoChild (at cells k).tree))) (sym e) (one_id pool id t.0, ap (λ w. w ∷ []) t.1)
 
-pub told_next : (list : Derivations) (pool : List Value) (xs : List Told) (cells : List Cell) (j k id : ℕ) (ids items : List ℕ) → AllTold list pool xs cells → IsFrontTold xs j ids → IsValueTold xs k id → items ≡ ids ++ id ∷ [] →
-    AreIds pool items × (map (value_at pool) items ≡ front_values list (Child (at cells j).front (at cells k).tree))
+pub told_next : (list : Derivations) (pool : List Value) (xs : List Told) (cells : List Cell) (j k id : ℕ) (ids items : List ℕ) → AllTold list pool xs cells → IsPrefixTold xs j ids → IsValueTold xs k id → items ≡ ids ++ id ∷ [] →
+    AreIds pool items × (map (value_at pool) items ≡ prefix_values list (Child (at cells j).prefix (at cells k).tree))
 told_next list pool xs cells j k id ids items all f v e =
-    let s = front_of list pool xs cells j ids all f in
+    let s = prefix_of list pool xs cells j ids all f in
     let t = value_of_told list pool xs cells k id all v in
-    subst (λ l. AreIds pool l × (map (value_at pool) l ≡ front_values list (Child (at cells j).front (at cells k).tree))) (sym e)
+    subst (λ l. AreIds pool l × (map (value_at pool) l ≡ prefix_values list (Child (at cells j).prefix (at cells k).tree))) (sym e)
     (All-append (λ n. n < length pool) ids (id ∷ []) s.0 (one_id pool id t.0), map-append (value_at pool) ids (id ∷ []) ∙ (λ i. s.1 i ++ t.1 i ∷ []))
 
-get_either : (xs : List Told) (x : Told) (i : ℕ) (y : Told) → slice_get (xs ++ x ∷ []) i ≡ Some y → (slice_get xs i ≡ Some y) ⊎ ((i ≡ length xs) × (x ≡ y))
-get_either [] x zero y e = inr (refl, cc)
-get_either [] x (suc i) y e = cc
-get_either (z ∷ zs) x zero y e = inl e
-get_either (z ∷ zs) x (suc i) y e = elim (get_either zs x i y e) [ inl h ↦ inl h | inr h ↦ inr (ap suc h.0, h.1) ]
-
 pub all_more : (list : Derivations) (p q : List Value) (xs : List Told) (x : Told) (cells : List Cell) (c : Cell) → AllTold list p xs cells → Stays p q → IsTold list q x (meant (meanings cells) c) → AllTold list q (xs ++ x ∷ []) (cells ++ c ∷ [])
-all_more list p q xs x cells c all s t = (length-append xs (x ∷ []) ∙ ap (λ n. n + 1) all.0 ∙ sym (length-append cells (c ∷ [])), λ j y e. go j y (get_either xs x j y e))
+all_more list p q xs x cells c all s t = (length-append xs (x ∷ []) ∙ ap (λ n. n + 1) all.0 ∙ sym (length-append cells (c ∷ [])), λ j y e. go j y (get_pushed xs x j y e))
   where
     go : (j : ℕ) (y : Told) → (slice_get xs j ≡ Some y) ⊎ ((j ≡ length xs) × (x ≡ y)) → IsTold list q y (at (cells ++ c ∷ []) j)
     go j y (inl e) =

@@ -8,10 +8,10 @@ abbrev pub at : List Cell → ℕ → Meant
 at cells k = meant_at (meanings cells) k
 
 abbrev pub as_tree : Tree → Meant
-as_tree t = record { tree = t; front = NoChild }
+as_tree t = record { tree = t; prefix = NoChild }
 
-abbrev pub as_front : Children → Meant
-as_front cs = record { tree = Nulled 0 0; front = cs }
+abbrev pub as_prefix : Children → Meant
+as_prefix cs = record { tree = Nulled 0 0; prefix = cs }
 
 abbrev pub Within : List Cell → List ℕ → Type 0
 Within cells places = All (λ k. k < length cells) places

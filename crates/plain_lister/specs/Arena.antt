@@ -7,19 +7,19 @@ use Rattle.plain_lister.specs.declared.Cell.TheVariants as cell
 -- what a cell stands for: a tree, or children
 pub record Meant : Type 0 where
   pub tree : Tree
-  pub front : Children
+  pub prefix : Children
 
 abbrev pub nothing : Meant
-nothing = record { tree = Nulled 0 0; front = NoChild }
+nothing = record { tree = Nulled 0 0; prefix = NoChild }
 
 abbrev pub meant_at : List Meant → ℕ → Meant
 meant_at earlier k = slice_index_or earlier k nothing
 
 abbrev pub meant : List Meant → Cell → Meant
-meant earlier (cell.Leaf symbol from) = record { tree = Leaf symbol from (suc from); front = NoChild }
-meant earlier (cell.Node rule front from to) = record { tree = Node rule ((meant_at earlier front).front) from to; front = NoChild }
-meant earlier (cell.First last) = record { tree = Nulled 0 0; front = Child NoChild ((meant_at earlier last).tree) }
-meant earlier (cell.Next front last) = record { tree = Nulled 0 0; front = Child ((meant_at earlier front).front) ((meant_at earlier last).tree) }
+meant earlier (cell.Leaf symbol from) = record { tree = Leaf symbol from (suc from); prefix = NoChild }
+meant earlier (cell.Node rule prefix from to) = record { tree = Node rule ((meant_at earlier prefix).prefix) from to; prefix = NoChild }
+meant earlier (cell.First last) = record { tree = Nulled 0 0; prefix = Child NoChild ((meant_at earlier last).tree) }
+meant earlier (cell.Next prefix last) = record { tree = Nulled 0 0; prefix = Child ((meant_at earlier prefix).prefix) ((meant_at earlier last).tree) }
 
 abbrev pub meanings_from : List Meant → List Cell → List Meant
 meanings_from earlier [] = earlier
@@ -31,5 +31,5 @@ meanings cells = meanings_from [] cells
 abbrev pub tree_at : List Cell → ℕ → Tree
 tree_at cells k = (meant_at (meanings cells) k).tree
 
-abbrev pub front_at : List Cell → ℕ → Children
-front_at cells k = (meant_at (meanings cells) k).front
+abbrev pub prefix_at : List Cell → ℕ → Children
+prefix_at cells k = (meant_at (meanings cells) k).prefix

@@ -4,11 +4,11 @@ use Rattle.std.specs.Map.{lookup}
 use Rattle.std.specs.List.{flat_map}
 use Rattle.grammar_model.specs.Grammar.{Grammar, rule_at, slot_of, child_slot}
 use Rattle.grammar_model.specs.Trees.{Tree, Children, Node, Child}
-use Rattle.grammar_model.specs.Simple.{Below, part_count, is_terminal, fits, numbers, simple_fronts, simple_trees}
+use Rattle.grammar_model.specs.Simple.{Below, part_count, is_terminal, fits, numbers, simple_prefixes, simple_trees}
 use Rattle.grammar_model.specs.Characters.{is_quoted}
 use Rattle.plain_lister.specs.declared.store.Store.{Store}
 use Rattle.plain_lister.specs.Arena.{Meant}
-use Rattle.plain_lister.specs.Adding.{at, as_tree, as_front, Within, Keeps}
+use Rattle.plain_lister.specs.Adding.{at, as_tree, as_prefix, Within, Keeps}
 
 abbrev pub Key : Type 0
 Key = ℕ × ℕ × ℕ × ℕ
@@ -21,13 +21,13 @@ abbrev pub listed : Grammar → List ℕ → Below
 listed g input slot p q = simple_trees g (is_quoted g input) (suc (length input)) slot p q
 
 -- all first n children of a rule over a span
-abbrev pub fronts_listed : Grammar → List ℕ → (i n p q : ℕ) → List Children
-fronts_listed g input i n p q = simple_fronts (listed g input) (rule_at g i) n p q
+abbrev pub prefixes_listed : Grammar → List ℕ → (i n p q : ℕ) → List Children
+prefixes_listed g input i n p q = simple_prefixes (listed g input) (rule_at g i) n p q
 
 -- the trees of the symbol x, or the first n children of the rule x
 abbrev pub value_at : Grammar → List ℕ → (x n p q : ℕ) → List Meant
 value_at g input x zero p q = map as_tree (listed g input (slot_of x) p q)
-value_at g input x (suc n) p q = map as_front (fronts_listed g input x (suc n) p q)
+value_at g input x (suc n) p q = map as_prefix (prefixes_listed g input x (suc n) p q)
 
 -- a symbol, or a rule with at least so many parts
 abbrev pub IsKey : Grammar → (x n : ℕ) → Type 0
@@ -68,11 +68,11 @@ IsTold g input old new places x n p q = IsBuilt g input old new places (value_at
 -- the nodes of the symbol x by its rules below n
 abbrev pub nodes_below : Grammar → List ℕ → (x p q n : ℕ) → List Tree
 nodes_below g input x p q n =
-    flat_map (λ i. map (λ children. Node i children p q) (fronts_listed g input i (part_count (rule_at g i)) p q)) (filter (λ i. fits (rule_at g i) (slot_of x)) (numbers n))
+    flat_map (λ i. map (λ children. Node i children p q) (prefixes_listed g input i (part_count (rule_at g i)) p q)) (filter (λ i. fits (rule_at g i) (slot_of x)) (numbers n))
 
 -- the first suc n children of the rule i whose last one starts at r
-abbrev pub fronts_from : Grammar → List ℕ → (i n p q r : ℕ) → List Children
-fronts_from g input i n p q r = flat_map (λ front. map (Child front) (listed g input (child_slot (rule_at g i) n) r q)) (fronts_listed g input i n p r)
+abbrev pub prefixes_from : Grammar → List ℕ → (i n p q r : ℕ) → List Children
+prefixes_from g input i n p q r = flat_map (λ prefix. map (Child prefix) (listed g input (child_slot (rule_at g i) n) r q)) (prefixes_listed g input i n p r)
 
 -- how far a key is from those that need no other
 abbrev pub rank : Grammar → (x n : ℕ) → ℕ

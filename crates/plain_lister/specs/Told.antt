@@ -21,8 +21,8 @@ grammar_of list = record { names = map string_bytes list.names.items; rules = ma
 abbrev pub tree_value : Derivations → Tree → Value
 tree_value list t = value_of ShowTree (grammar_of list) no_meaning (character_tokens 0 list.input.items) t
 
-abbrev pub front_values : Derivations → Children → List Value
-front_values list cs = values_of_all ShowTree (grammar_of list) no_meaning (character_tokens 0 list.input.items) cs
+abbrev pub prefix_values : Derivations → Children → List Value
+prefix_values list cs = values_of_all ShowTree (grammar_of list) no_meaning (character_tokens 0 list.input.items) cs
 
 -- the values of a pool stay
 pub record Stays (old new : List Value) : Type 0 where
@@ -35,23 +35,23 @@ pub record Puts (old new : List Value) (id : ℕ) (value : Value) : Type 0 where
   pub within : id < length new
   pub stands : value_at new id ≡ value
 
-abbrev pub AreFrontIds : Told → List ℕ → Type 0
-AreFrontIds (told.Value id) ids = ⊥
-AreFrontIds (told.Front v) ids = ids ≡ v.items
+abbrev pub ArePrefixIds : Told → List ℕ → Type 0
+ArePrefixIds (told.Value id) ids = ⊥
+ArePrefixIds (told.Prefix v) ids = ids ≡ v.items
 
 abbrev pub IsValueId : Told → ℕ → Type 0
 IsValueId (told.Value k) id = id ≡ k
-IsValueId (told.Front v) id = ⊥
+IsValueId (told.Prefix v) id = ⊥
 
 -- what was told of a cell
 abbrev pub IsTold : Derivations → List Value → Told → Meant → Type 0
 IsTold list pool (told.Value id) m = (id < length pool) × (value_at pool id ≡ tree_value list m.tree)
-IsTold list pool (told.Front ids) m = AreIds pool ids.items × (map (value_at pool) ids.items ≡ front_values list m.front)
+IsTold list pool (told.Prefix ids) m = AreIds pool ids.items × (map (value_at pool) ids.items ≡ prefix_values list m.prefix)
 
-pub record IsFrontTold (xs : List Told) (k : ℕ) (ids : List ℕ) : Type 0 where
+pub record IsPrefixTold (xs : List Told) (k : ℕ) (ids : List ℕ) : Type 0 where
   pub cell : Told
   pub found : slice_get xs k ≡ Some cell
-  pub front : AreFrontIds cell ids
+  pub prefix : ArePrefixIds cell ids
 
 pub record IsValueTold (xs : List Told) (k id : ℕ) : Type 0 where
   pub cell : Told

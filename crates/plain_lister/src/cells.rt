@@ -3,7 +3,7 @@ ghost use Rattle.std.specs.Prelude.{◌≡◌, ◌<◌, ℕ, [], ◌∷◌, leng
 ghost use Rattle.std.specs.List.{flat_map};
 ghost use Rattle.grammar_model.specs.Trees.{Node, NoChild, Child};
 ghost use Rattle.plain_lister.specs.Arena.{meant, meanings};
-ghost use Rattle.plain_lister.specs.Adding.{at, as_tree, as_front, Within, Adds};
+ghost use Rattle.plain_lister.specs.Adding.{at, as_tree, as_prefix, Within, Adds};
 
 use crate::Cell;
 use std::alloc::AllocError;
@@ -28,17 +28,17 @@ pub fn add_cell(cells: &mut Vec<Cell>, out: &mut Vec<u32>, cell: Cell) -> Result
 pub fn add_nodes(
     cells: &mut Vec<Cell>,
     out: &mut Vec<u32>,
-    fronts: &[u32],
+    prefixes: &[u32],
     rule: u32,
     from: u32,
     to: u32,
 ) -> Result<(), AllocError>
     requires out { Within cells.old.items out.old.items }
-    requires fronts { Within cells.old.items fronts.now }
-    ensures { OnOk result (Adds cells.old.items cells.new.items out.old.items out.new.items (map (λ k. as_tree (Node rule ((at cells.old.items k).front) from to)) fronts.now)) }
+    requires prefixes { Within cells.old.items prefixes.now }
+    ensures { OnOk result (Adds cells.old.items cells.new.items out.old.items out.new.items (map (λ k. as_tree (Node rule ((at cells.old.items k).prefix) from to)) prefixes.now)) }
 {
-    for front in fronts {
-        add_cell(cells, out, Cell::Node(rule, *front, from, to))?;
+    for prefix in prefixes {
+        add_cell(cells, out, Cell::Node(rule, *prefix, from, to))?;
     }
     Ok(())
 }
@@ -51,7 +51,7 @@ pub fn add_firsts(
 ) -> Result<(), AllocError>
     requires out { Within cells.old.items out.old.items }
     requires lasts { Within cells.old.items lasts.now }
-    ensures { OnOk result (Adds cells.old.items cells.new.items out.old.items out.new.items (map (λ k. as_front (Child NoChild ((at cells.old.items k).tree))) lasts.now)) }
+    ensures { OnOk result (Adds cells.old.items cells.new.items out.old.items out.new.items (map (λ k. as_prefix (Child NoChild ((at cells.old.items k).tree))) lasts.now)) }
 {
     for last in lasts {
         add_cell(cells, out, Cell::First(*last))?;
@@ -63,16 +63,16 @@ pub fn add_firsts(
 pub fn add_lasts(
     cells: &mut Vec<Cell>,
     out: &mut Vec<u32>,
-    front: u32,
+    prefix: u32,
     lasts: &[u32],
 ) -> Result<(), AllocError>
     requires out { Within cells.old.items out.old.items }
-    requires front { front < length cells.old.items }
+    requires prefix { prefix < length cells.old.items }
     requires lasts { Within cells.old.items lasts.now }
-    ensures { OnOk result (Adds cells.old.items cells.new.items out.old.items out.new.items (map (λ k. as_front (Child ((at cells.old.items front).front) ((at cells.old.items k).tree))) lasts.now)) }
+    ensures { OnOk result (Adds cells.old.items cells.new.items out.old.items out.new.items (map (λ k. as_prefix (Child ((at cells.old.items prefix).prefix) ((at cells.old.items k).tree))) lasts.now)) }
 {
     for last in lasts {
-        add_cell(cells, out, Cell::Next(front, *last))?;
+        add_cell(cells, out, Cell::Next(prefix, *last))?;
     }
     Ok(())
 }
@@ -81,16 +81,16 @@ pub fn add_lasts(
 pub fn add_pairs(
     cells: &mut Vec<Cell>,
     out: &mut Vec<u32>,
-    fronts: &[u32],
+    prefixes: &[u32],
     lasts: &[u32],
 ) -> Result<(), AllocError>
     requires out { Within cells.old.items out.old.items }
-    requires fronts { Within cells.old.items fronts.now }
+    requires prefixes { Within cells.old.items prefixes.now }
     requires lasts { Within cells.old.items lasts.now }
-    ensures { OnOk result (Adds cells.old.items cells.new.items out.old.items out.new.items (flat_map (λ j. map (λ k. as_front (Child ((at cells.old.items j).front) ((at cells.old.items k).tree))) lasts.now) fronts.now)) }
+    ensures { OnOk result (Adds cells.old.items cells.new.items out.old.items out.new.items (flat_map (λ j. map (λ k. as_prefix (Child ((at cells.old.items j).prefix) ((at cells.old.items k).tree))) lasts.now) prefixes.now)) }
 {
-    for front in fronts {
-        add_lasts(cells, out, *front, lasts)?;
+    for prefix in prefixes {
+        add_lasts(cells, out, *prefix, lasts)?;
     }
     Ok(())
 }

@@ -6,7 +6,7 @@ ghost use Rattle.grammar_model.specs.Trees.{Leaf};
 ghost use Rattle.grammar_model.specs.Values.{Text, Number, name_of, list_of};
 ghost use Rattle.value_text.specs.Nodes.{value_at};
 ghost use Rattle.value_text.specs.Pool.{AreIds};
-ghost use Rattle.plain_lister.specs.Told.{grammar_of, tree_value, Puts, Stays, IsTold, IsFrontTold, IsValueTold, AllTold};
+ghost use Rattle.plain_lister.specs.Told.{grammar_of, tree_value, Puts, Stays, IsTold, IsPrefixTold, IsValueTold, AllTold};
 ghost use Rattle.plain_lister.specs.Arena.{meant, meanings};
 
 use crate::{Cell, Derivations};
@@ -17,7 +17,7 @@ use value_text::{Pool, ValueId, append_text};
 #[derive(Drop)]
 pub enum Told {
     Value(ValueId),
-    Front(Vec<ValueId>),
+    Prefix(Vec<ValueId>),
 }
 
 // The name of a symbol, as a value.
@@ -108,11 +108,11 @@ fn number_value(pool: &mut Pool, n: u64) -> Result<ValueId, AllocError>
 }
 
 // The values of the children that a cell stands for.
-fn front_told(told: &[Told], k: usize) -> Result<&[ValueId], AllocError>
-    ensures { IfOk result (λ s. IsFrontTold told.now k s.now) }
+fn prefix_told(told: &[Told], k: usize) -> Result<&[ValueId], AllocError>
+    ensures { IfOk result (λ s. IsPrefixTold told.now k s.now) }
 {
     match told.get(k) {
-        Some(Told::Front(ids)) => Ok(ids.as_slice()),
+        Some(Told::Prefix(ids)) => Ok(ids.as_slice()),
         _ => Err(AllocError),
     }
 }
@@ -141,20 +141,20 @@ fn told_of(
 {
     match cell {
         Cell::Leaf(symbol, from) => Ok(Told::Value(leaf_value(list, pool, symbol, from)?)),
-        Cell::Node(rule, front, _, _) => {
-            let children = front_told(told, front as usize)?;
+        Cell::Node(rule, prefix, _, _) => {
+            let children = prefix_told(told, prefix as usize)?;
             Ok(Told::Value(node_value(alloc, list, pool, rule, children)?))
         }
         Cell::First(last) => {
             let mut ids = Vec::new(alloc);
             ids.push(value_told(told, last as usize)?)?;
-            Ok(Told::Front(ids))
+            Ok(Told::Prefix(ids))
         }
-        Cell::Next(front, last) => {
+        Cell::Next(prefix, last) => {
             let mut ids = Vec::new(alloc);
-            ids.extend_from_slice(front_told(told, front as usize)?)?;
+            ids.extend_from_slice(prefix_told(told, prefix as usize)?)?;
             ids.push(value_told(told, last as usize)?)?;
-            Ok(Told::Front(ids))
+            Ok(Told::Prefix(ids))
         }
     }
 }

@@ -2,6 +2,7 @@
 use Rattle.std.proofs.Common.{◌≡◌, ℕ, ◌<◌, ◌≤◌, ◌+◌, ◌++◌, ◌↔◌, inl, inr, Contains, List, [], ◌∷◌, length, slice_get, Option, Some, None, refl, sym, ◌∙◌, ap, subst, arith}
 use Rattle.std.proofs.lemmas.Bool.{cases_lt}
 use Rattle.std.proofs.lemmas.List.Elements.{Contains-append_left, Contains-push, Contains-push_cases}
+use Rattle.finite_sets.proofs.Lists.{Contains-none, got_item, got_at}
 use Rattle.recognizer_model.specs.declared.Item.{Item}
 use Rattle.grammar_model.specs.Grammar.{Grammar}
 use Rattle.recognizer_model.specs.declared.ReportLine.{ReportLine}
@@ -10,7 +11,7 @@ use Rattle.recognizer_model.specs.Flat.{FlatGrammar, IsRule}
 use Rattle.recognizer_model.specs.Items.{InSet}
 use Rattle.recognizer_model.proofs.Earley.{items_are_found}
 use Rattle.earley_sets.specs.Recognizer.{Recognizer, IsRecognizer, edges_of, top_of}
-use Rattle.earley_sets.proofs.Membership.{Contains-none, got_at, got_item, found_at}
+use Rattle.earley_sets.proofs.Membership.{found_at}
 use Rattle.earley_sets.proofs.Recognizing.{top_is_top}
 
 module _ {X Y : Type 0} (f : X → Option Y) (xs : List X) where

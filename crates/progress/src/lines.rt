@@ -10,7 +10,7 @@ ghost use Rattle.recognizer_model.specs.FlatForm.{IsFlatOf};
 ghost use Rattle.recognizer_model.specs.Report.{IsLine, line_of as line_of_item, written_dot as dot_by};
 ghost use Rattle.report_model.specs.Report.{line_cmp};
 ghost use Rattle.report_model.specs.FlatReport.{IsFlatReport};
-ghost use Rattle.earley_sets.specs.Recognizer.{IsRecognizer, edges_of, place_of, top_of};
+ghost use Rattle.earley_sets.specs.Recognizer.{IsRecognizer, edges_of, earleme_of, top_of};
 ghost use Rattle.progress.specs.declared.refusal.ProgressRefusal.TheVariants.{NoSuchSet};
 
 use crate::ProgressRefusal;
@@ -63,7 +63,7 @@ fn items_of<L: Ledger>(
     requires parts { blank.parts ≡ L.parts }
     requires some { 0 < blank.parts }
     requires is { IsRecognizer recce.now }
-    requires place { j ≤ place_of recce.now }
+    requires place { j ≤ earleme_of recce.now }
     ensures { IfOk result (λ items. (item : TheItem) → Contains items.items item ↔
         InSet recce.now.flat (edges_of recce.now) (top_of recce.now) j item) }
 {
@@ -116,7 +116,7 @@ pub fn report(
 ) -> Result<Vec<ReportLine>, ProgressRefusal>
     requires { IsFlatOf recce.now.flat w.now }
     ensures report { IfOk result (λ lines. IsFlatReport w.now recce.now.flat recce.now.edges recce.now.start j lines.items) }
-    ensures no_such_set { (result ≡ Err NoSuchSet) ↔ (place_of recce.now < j) }
+    ensures no_such_set { (result ≡ Err NoSuchSet) ↔ (earleme_of recce.now < j) }
 {
     if j > recce.place() {
         return Err(ProgressRefusal::NoSuchSet);

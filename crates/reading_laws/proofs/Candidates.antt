@@ -1,6 +1,5 @@
 -- What could come next is decided: candidates, the longest match, and what is kept of it, skipped, found and expected.
-use Rattle.std.proofs.Common.{arith, ◌≡◌, ◌⊎◌, ◌↔◌, inl, inr, ℕ, suc, ◌+◌, ◌<◌, Bool, true, false, ℤ, ◌≤ℤ◌, T, IsFalse, List, [], ◌∷◌, ◌++◌, length, map, Contains, slice_index, refl, sym, ◌∙◌, ap, subst}
-use Rattle.std.specs.Int.Signed.{le_z, le_z_yes}
+use Rattle.std.proofs.Common.{arith, ◌≡◌, ◌⊎◌, ◌↔◌, inl, inr, ℕ, suc, ◌+◌, ◌<◌, ◌≤ℤ◌, IsFalse, List, [], ◌∷◌, ◌++◌, length, map, Contains, slice_index, refl, sym, ◌∙◌, ap, subst}
 use Rattle.std.specs.List.Sorted.{IsStrictlySortedBy}
 use Rattle.std.specs.declared.cmp.Ordering.{Ordering}
 use Rattle.std.specs.declared.cmp.Ordering.TheVariants.{Less, Equal, Greater}
@@ -16,9 +15,9 @@ use Rattle.grammar_model.specs.Values.{name_of}
 use Rattle.grammar_model.specs.Checked.{IsChecked}
 use Rattle.language_model.specs.Building.{Built, LexemeRow}
 use Rattle.reading_model.specs.Matches.{Matches}
-use Rattle.reading_model.specs.Reading.{Piece, Token, Skipped, place_after, edges_from, edges_of, IsNext, IsCandidate, ADiscard, ALexeme, IsLongest, IsFitting, IsKept, IsSkipped, AreSorted, AreExpected, IsFound, AreFound}
+use Rattle.reading_model.specs.Reading.{Piece, Token, Skipped, earleme_after, edges_from, edges_of, IsNext, IsCandidate, ADiscard, ALexeme, IsLongest, IsFitting, IsKept, IsSkipped, AreSorted, AreExpected, IsFound, AreFound}
 use Rattle.finite_sets.specs.Decided.{IsDecided}
-use Rattle.finite_sets.proofs.Deciding.{both, one_of, moved, implied, equal, less, greatest_below}
+use Rattle.finite_sets.proofs.Deciding.{both, one_of, moved, implied, equal, less, greatest_below, most_decided}
 use Rattle.finite_sets.proofs.Members.{Among, among_from, contains_from, among_left, among_right, among_either, among_map, among_map_from, some_among, each_among, member}
 use Rattle.finite_sets.proofs.Sorting.{sorted_listed}
 use Rattle.grammar_laws.specs.Laws.{GoForward}
@@ -30,13 +29,6 @@ use Rattle.reading_model.proofs.Within.{match_within}
 use Rattle.reading_laws.proofs.Matching.{matches_decided}
 
 -- ---- orders
-
-most_decided : (a b : ℤ) → IsDecided (a ≤ℤ b)
-most_decided a b = go (le_z a b) refl
-  where
-    go : (t : Bool) → le_z a b ≡ t → IsDecided (a ≤ℤ b)
-    go true e = inl (le_z_yes (subst T (sym e) tt))
-    go false e = inr (λ h. subst T e h.le)
 
 nat_three : (a b : ℕ) → (nat_cmp a b ≡ Less) ⊎ ((a ≡ b) ⊎ (nat_cmp b a ≡ Less))
 nat_three a b = elim (nat_cases a b) [
@@ -63,7 +55,7 @@ pieces_forward pieces s p q h = edges_forward 0 pieces (record { symbol = s; fro
 module _ (b : Built) (checked : IsChecked b.g1) (text : List ℕ) (pieces : List Piece) (at : ℕ) where
   next_decided : (symbol : ℕ) → IsDecided (IsNext b pieces symbol)
   next_decided symbol =
-      acceptable_decided b.g1 (Held (edges_of pieces)) (pieces_forward pieces) symbol (place_after pieces) checked.items_span (held_decided (edges_of pieces)) (slice_index b.g1.starts 0)
+      acceptable_decided b.g1 (Held (edges_of pieces)) (pieces_forward pieces) symbol (earleme_after pieces) checked.items_span (held_decided (edges_of pieces)) (slice_index b.g1.starts 0)
 
   contained : (xs : List ℕ) (x : ℕ) → IsDecided (Contains xs x)
   contained xs x = moved (contains_from xs x) (among_from xs x) (member equal x xs)

@@ -1,6 +1,10 @@
 -- The derivations of what is read have a list: of their flat grammar they have one, and that stands for theirs.
 use Rattle.std.proofs.Common.{arith, inl, inr, ℕ, ◌*◌, ◌<◌, ◌≤◌, ◌^◌, List, [], ◌∷◌, length, map, slice_index_or, refl, sym, ap, subst}
 use Rattle.std.specs.Prelude.{flat_map}
+use Rattle.std.proofs.lemmas.List.{length-map, length-append}
+use Rattle.std.proofs.lemmas.Option.{slice_get-get_or}
+use Rattle.finite_sets.proofs.Members.{among_from, contains_from, among_map_from, among_flat_map, among_at, Among}
+use Rattle.finite_sets.proofs.Lists.{get_among, get_index}
 use Rattle.grammar_model.specs.declared.Edge.{Edge}
 use Rattle.grammar_model.specs.declared.Ranking.{Ranking}
 use Rattle.grammar_model.specs.Grammar.{Grammar, slot_of}
@@ -9,20 +13,17 @@ use Rattle.grammar_model.specs.Trees.{Tree}
 use Rattle.grammar_model.specs.Derives.{Held}
 use Rattle.grammar_model.specs.Chosen.{AreChosen}
 use Rattle.grammar_model.specs.Checked.{IsChecked}
-use Rattle.grammar_model.proofs.Lists.{Among, among_from, contains_from, among_map_from, among_flat_map}
 use Rattle.recognizer_model.specs.Flat.{FlatGrammar, FlatRule, lhs_of, rhs_of, no_rule}
 use Rattle.recognizer_model.specs.declared.flat.FlatSymbol.TheVariants.{Top}
 use Rattle.recognizer_model.specs.FlatForm.{NamedRule, IsRuleOf, OfPlain, OfList, OfTrailing, OfItem, OfItems, OfSeparated, OfTop, IsFlatOf, StandsFor, symbol_at, tree_of}
 use Rattle.recognizer_model.specs.Invariant.{IsFlat, IsTopOf, IsAccessible, Outermost, Below}
-use Rattle.recognizer_model.proofs.FlatNamed.{get_index, index_get, among_at, map_length}
 use Rattle.recognizer_model.proofs.ChosenListed.{chosen_list}
 use Rattle.recognizer_model.proofs.FlatChosen.{written_chosen}
 use Rattle.flat_model.specs.Flatten.{Decided, AreFew, flat_of, named_rules, number_of, numbered}
-use Rattle.flat_rules.proofs.FlatOf.{append_length, numbers_length, rules_length, split, front, top_made, is_flat_of}
+use Rattle.flat_rules.proofs.FlatOf.{numbers_length, rules_length, split, prefix, top_made, is_flat_of}
 use Rattle.flat_rules.proofs.Law.{flat_grammars_exist}
-use Rattle.flat_rules.proofs.Named.{differ, get_among}
-use Rattle.flat_rules.proofs.Once as flat_once
-use Rattle.flat_rules.proofs.Once.{among_numbers_from, once_numbers}
+use Rattle.flat_rules.proofs.Named.{differ}
+use Rattle.flat_rules.proofs.Once.{once_numbers}
 use Rattle.flat_rules.proofs.Ranges.{tops, all_tops}
 use Rattle.flat_rules.proofs.Reach.{accessible}
 use Rattle.flat_rules.proofs.Rules.{named_in}
@@ -30,10 +31,11 @@ use Rattle.finite_sets.proofs.Members as sets
 use Rattle.grammar_laws.specs.Laws.{GoForward}
 use Rattle.grammar_laws.proofs.Flats.{decisions_exist, named_rules_are_all, rule_count_is_one}
 use Rattle.reading_model.specs.Accepted.{HasFewRules}
-use Rattle.reading_model.specs.Reading.{edges_of, place_after}
+use Rattle.reading_model.specs.Reading.{edges_of, earleme_after}
 use Rattle.reading_laws.specs.Lists.{HasShortRules, StartsAreListed, DerivationsAreListed}
 use Rattle.reading_laws.proofs.Candidates.{pieces_forward}
 use Rattle.reading_laws.proofs.Short.{built_are_short}
+use Rattle.grammar_model.proofs.Simple.{among_numbers_from}
 
 -- ---- lengths
 
@@ -42,13 +44,13 @@ flat_most f [] short = omega arith
 flat_most f (x ∷ xs) short =
     let here = short x (inl refl) in
     let rest = flat_most f xs (λ y m. short y (inr m)) in
-    let both = append_length (f x) (flat_map f xs) in
+    let both = length-append (f x) (flat_map f xs) in
     omega (arith, here, rest, both)
 
 -- numbers that are each in a list are no more than it has
 numbers_most : (n : ℕ) (xs : List ℕ) → ((x : ℕ) → x < n → Among x xs) → n ≤ length xs
 numbers_most n xs inside =
-    let le = sets.once_most (numbers n) xs (sets.pairs_once (numbers n) (flat_once.once_pairs (numbers n) (once_numbers n)))
+    let le = sets.once_most (numbers n) xs (sets.pairs_once (numbers n) (sets.once_pairs (numbers n) (once_numbers n)))
     (λ x m. sets.among_from xs x (contains_from xs x (inside x (number_below x m)))) in
     let same = numbers_length n in
     omega (arith, le, same)
@@ -89,14 +91,14 @@ module _ (w : Grammar) (checked : IsChecked w) (few : HasFewRules w) (short : Ha
       let (n, among, is) = among_map_from (numbered w d) r (named_rules w d) m in
       let le = short_named n (named_in w d n among).0 in
       let same = ap (λ (z : FlatRule). length z.rhs) is in
-      let all = map_length (number_of w d) n.right in
+      let all = length-map n.right (number_of w d) in
       omega (arith, le, same, all)
 
   -- each symbol stands in a rule
   in_rule : (x : ℕ) → IsAccessible f x → Among x (flat_map symbols_in f.rules)
   in_rule x (Outermost {k = k} at) =
       let r = slice_index_or f.tops k 0 in
-      let top : IsTopOf f k r = tops w d checked k r (index_get f.tops k 0 (all_tops w d checked x k at)) in
+      let top : IsTopOf f k r = tops w d checked k r (slice_get-get_or f.tops k 0 (all_tops w d checked x k at)) in
       among_flat_map symbols_in (slice_index_or f.rules r no_rule) x f.rules (among_at f.rules r no_rule top.is_top.is_rule) (inl (differ w d (lhs_of f r) x (Top k) top.symbol at))
   in_rule x (Below {r = r} position rule above part) =
       among_flat_map symbols_in (slice_index_or f.rules r no_rule) x f.rules (among_at f.rules r no_rule rule) (inr (get_among (rhs_of f r) position x part))
@@ -111,8 +113,8 @@ module _ (w : Grammar) (checked : IsChecked w) (few : HasFewRules w) (short : Ha
   few_starts : length w.starts < 2 ^ 32
   few_starts =
       let all = ap length (split w d) in
-      let parts = append_length (front w d) (map (top_made w d) (numbers (length w.starts))) in
-      let made = map_length (top_made w d) (numbers (length w.starts)) in
+      let parts = length-append (prefix w d) (map (top_made w d) (numbers (length w.starts))) in
+      let made = length-map (numbers (length w.starts)) (top_made w d) in
       let count = numbers_length (length w.starts) in
       let le = few_named in
       omega (arith, all, parts, made, count, le)
@@ -140,7 +142,7 @@ module _ (w : Grammar) (checked : IsChecked w) (few : HasFewRules w) (short : Ha
   top = slice_index_or f.tops 0 0
 
   is_top : IsTopOf f 0 top
-  is_top = flat.tops 0 top (index_get f.tops 0 0 some_top)
+  is_top = flat.tops 0 top (slice_get-get_or f.tops 0 0 some_top)
 
   abbrev first : ℕ
   first = slice_index_or w.starts 0 0
@@ -149,7 +151,7 @@ module _ (w : Grammar) (checked : IsChecked w) (few : HasFewRules w) (short : Ha
   stands : StandsFor w (symbol_at f (lhs_of f top)) (slot_of first)
   stands =
       subst (λ s. StandsFor w s (slot_of first)) (sym (get_index f.symbols (lhs_of f top) (Top 0) (Top 0) is_top.symbol).1)
-      (first, index_get w.starts 0 0 checked.some_start, refl)
+      (first, slice_get-get_or w.starts 0 0 checked.some_start, refl)
 
   pub first_listed : (ranking : Ranking) (edges : List Edge) (p q : ℕ) → GoForward (Held edges) → (trees : List Tree) × AreChosen w (Held edges) ranking (slot_of first) p q trees
   first_listed ranking edges p q forward =
@@ -168,4 +170,4 @@ starts_listed g ranking edges p q checked few short forward = first_listed g che
 
 pub derivations_listed : DerivationsAreListed
 derivations_listed b ranking pieces built accepted =
-    starts_listed b.g1 ranking (edges_of pieces) 0 (place_after pieces) accepted.checked.structural accepted.structural (built_are_short b built) (pieces_forward pieces)
+    starts_listed b.g1 ranking (edges_of pieces) 0 (earleme_after pieces) accepted.checked.structural accepted.structural (built_are_short b built) (pieces_forward pieces)

@@ -6,7 +6,7 @@ use Rattle.grammar_model.specs.Checked.{IsChecked}
 use Rattle.language_model.specs.Building.{Built}
 use Rattle.reading_model.specs.Reading.{Piece, Token, Skipped, IsLongest, IsKept, IsKeptNone, IsSkipped, Reads, Begin, Take, Skip, Ending, End, Stopped, IsReading, HasEnded, HasStopped}
 use Rattle.finite_sets.specs.Decided.{IsDecided}
-use Rattle.finite_sets.proofs.Deciding.{lt_or}
+use Rattle.std.proofs.lemmas.Bool.{cases_lt}
 use Rattle.reading_laws.specs.Laws.{LexemesAreNamed, ReadingExists}
 use Rattle.reading_model.proofs.Within.{match_within}
 use Rattle.reading_laws.proofs.Candidates.{longest_or, one_longest, kept_list, skipped_decided, found_list, expected_list}
@@ -51,7 +51,7 @@ module _ (b : Built) (checked : IsChecked b.g1) (names : LexemesAreNamed b) (tex
 
   read : (fuel at : ℕ) (pieces : List Piece) → Reads b text at pieces → at ≤ length text → length text ≤ at + fuel → Result
   read zero at pieces r le enough = ended at pieces r (omega (arith, le, enough))
-  read (suc fuel) at pieces r le enough = go (λ m ps s a e. read fuel m ps s a e) (lt_or at (length text))
+  read (suc fuel) at pieces r le enough = go (λ m ps s a e. read fuel m ps s a e) (cases_lt at (length text))
     where
       go : ((m : ℕ) (ps : List Piece) → Reads b text m ps → m ≤ length text → length text ≤ m + fuel → Result) → (at < length text) ⊎ (length text ≤ at) → Result
       go rec (inr ge) = ended at pieces r (omega (arith, le, ge))

@@ -1,54 +1,24 @@
 -- What is built of a text has right sides of at most a thousand parts.
-use Rattle.std.proofs.Common.{arith, ◌≡◌, inl, inr, ℕ, ◌+◌, ◌≤◌, ◌==◌, Bool, true, false, List, [], ◌∷◌, ◌++◌, length, map, refl, sym, subst}
-use Rattle.std.specs.Prelude.{flat_map, filter, ◌||◌, ◌&&◌, nat_lt}
-use Rattle.std.proofs.lemmas.Bool.{true≢false, eqb-false}
+use Rattle.std.proofs.Common.{arith, ◌≡◌, inl, inr, ℕ, ◌+◌, ◌≤◌, false, List, [], ◌∷◌, ◌++◌, length, map, sym, subst}
+use Rattle.std.specs.Prelude.{flat_map, filter}
 use Rattle.std.proofs.lemmas.List.{length-map}
+use Rattle.finite_sets.proofs.Members.{among_filter_from, among_left, among_right, among_either, among_map, among_map_from, among_flat_map_from, among_at, Among}
+use Rattle.finite_sets.proofs.Lists.{map_empty, prefix_empty, back_empty}
 use Rattle.grammar_model.specs.Grammar.{WrittenRule, Plain, Sequence, no_rule, rule_at}
-use Rattle.grammar_model.proofs.Lists.{Among, among_left, among_right, among_either, among_map, among_map_from, among_flat_map_from}
-use Rattle.recognizer_model.proofs.FlatNamed.{among_at}
-use Rattle.flat_rules.proofs.Once.{among_filter_from}
 use Rattle.language_model.specs.Tokens.{Spelled}
 use Rattle.language_model.specs.Description.{Alternative, Statement, Start, Default, LexemeDefault, Lexeme, Discard, Empty, Quantified, Rules}
-use Rattle.language_model.specs.Building.{Built, Fault, BadAdverb, RepeatedAdverb, LexemeNotDefined, InBoth, NotALexeme, BadClass, TwoStarts, NumberRange, TooLong, faults_of, bad_adverbs, repeated, not_defined, in_both, lefts, not_lexemes, bad_classes, second_starts, big_numbers, too_long, long_parts, right_sides, at_most, fault_at, is_quote, quoted, parts_of, alternatives_of, place_in, plain_rule, rules_of_groups, rules_of, is_of_level, symbols_g1, grammar_g1}
+use Rattle.language_model.specs.Building.{Built, BadAdverb, RepeatedAdverb, LexemeNotDefined, InBoth, NotALexeme, BadClass, TwoStarts, NumberRange, TooLong, faults_of, bad_adverbs, repeated, not_defined, in_both, lefts, not_lexemes, bad_classes, second_starts, big_numbers, too_long, long_parts, right_sides, parts_of, alternatives_of, place_in, plain_rule, rules_of_groups, rules_of, is_of_level, symbols_g1, grammar_g1}
 use Rattle.reading_laws.specs.Lists.{HasShortRules, BuiltAreShort}
+use Rattle.language_model.proofs.Short.{not_long}
 
 -- ---- no faults
 
-front_empty : {A : Type 0} (xs ys : List A) → xs ++ ys ≡ [] → xs ≡ []
-front_empty [] ys e = refl
-front_empty (x ∷ xs) ys e = cc
-
-back_empty : {A : Type 0} (xs ys : List A) → xs ++ ys ≡ [] → ys ≡ []
-back_empty [] ys e = e
-back_empty (x ∷ xs) ys e = cc
-
-map_empty : {A B : Type 0} (f : A → B) (xs : List A) → map f xs ≡ [] → xs ≡ []
-map_empty f [] e = refl
-map_empty f (x ∷ xs) e = cc
-
 each_empty : {A B : Type 0} (f : A → List B) (xs : List A) (x : A) → flat_map f xs ≡ [] → Among x xs → f x ≡ []
 each_empty f [] x e m = absurd m
-each_empty f (y ∷ ys) x e (inl same) = subst (λ z. f z ≡ []) same (front_empty (f y) (flat_map f ys) e)
+each_empty f (y ∷ ys) x e (inl same) = subst (λ z. f z ≡ []) same (prefix_empty (f y) (flat_map f ys) e)
 each_empty f (y ∷ ys) x e (inr m) = each_empty f ys x (back_empty (f y) (flat_map f ys) e) m
 
-no_fault : (b : Bool) (f : Fault) → at_most b f ≡ [] → b ≡ false
-no_fault true f e = cc
-no_fault false f e = refl
-
 -- ---- right sides
-
-short_side : (before : ℕ) (ts : List Spelled) → before ≤ 1000 → long_parts before ts ≡ [] → before + length ts ≤ 1000
-short_side before [] le e = omega (arith, le)
-short_side before (t ∷ ts) le e =
-    let quote = is_quote t && nat_lt 1000 (length (quoted t.content)) in
-    let here = at_most (before == 1000 || quote) (fault_at t) in
-    let last : (before == 1000 || quote) ≡ false = no_fault (before == 1000 || quote) (fault_at t) (front_empty here (long_parts (before + 1) ts) e) in
-    let rest = short_side (before + 1) ts (go before le (before == 1000) refl quote last) (back_empty here (long_parts (before + 1) ts) e) in
-    omega (arith, rest)
-  where
-    go : (n : ℕ) → n ≤ 1000 → (b : Bool) → (n == 1000) ≡ b → (c : Bool) → (b || c) ≡ false → n + 1 ≤ 1000
-    go n le true is c f = absurd (true≢false f)
-    go n le false is c f = let other = eqb-false n 1000 is in omega (arith, le, other)
 
 -- ---- rules
 
@@ -87,7 +57,7 @@ module _ (names : List (List ℕ)) (rule : WrittenRule) where
       short : (a : Alternative) → Among a (alternatives_of groups) → length (parts_of a) ≤ 1000
       short a among =
           let none = each_empty (long_parts 0) (map parts_of (alternatives_of groups)) (parts_of a) e (among_map parts_of a (alternatives_of groups) among) in
-          let le = short_side 0 (parts_of a) (omega arith) none in
+          let le = not_long 0 (parts_of a) (omega arith) none in
           omega (arith, le)
 
   rules_short : (d : List Statement) → too_long d ≡ [] → Among rule (flat_map (rules_of names) (filter (is_of_level false) d)) → IsShort rule

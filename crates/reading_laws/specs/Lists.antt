@@ -11,7 +11,7 @@ use Rattle.grammar_model.specs.Checked.{IsChecked}
 use Rattle.language_model.specs.Building.{Built}
 use Rattle.language_model.specs.Texts.{IsBuilt}
 use Rattle.reading_model.specs.Accepted.{HasFewRules, IsAccepted}
-use Rattle.reading_model.specs.Reading.{Piece, Token, Skipped, edges_of, place_after}
+use Rattle.reading_model.specs.Reading.{Piece, Token, Skipped, edges_of, earleme_after}
 use Rattle.flat_model.specs.Lists.{lists}
 use Rattle.grammar_laws.specs.Laws.{GoForward}
 
@@ -31,7 +31,7 @@ StartsAreListed = (g : Grammar) (ranking : Ranking) (edges : List Edge) (p q : �
 -- the chosen derivations of any pieces have a list, in the declared order
 abbrev pub DerivationsAreListed : Type 0
 DerivationsAreListed = (b : Built) (ranking : Ranking) (pieces : List Piece) → IsBuilt b → IsAccepted b →
-    (trees : List Tree) × AreChosen b.g1 (Held (edges_of pieces)) ranking (slot_of (slice_index_or b.g1.starts 0 0)) 0 (place_after pieces) trees
+    (trees : List Tree) × AreChosen b.g1 (Held (edges_of pieces)) ranking (slot_of (slice_index_or b.g1.starts 0 0)) 0 (earleme_after pieces) trees
 
 -- N, layout, a comma and N
 abbrev pub commas : List Piece

@@ -8,7 +8,7 @@ use Rattle.recognizer_model.specs.FlatForm.{IsRuleOf}
 use Rattle.language_model.specs.Building.{Built}
 use Rattle.reading_model.specs.Accepted.{IsLexical, HasFewRules, HasTooManyRules, AreChecked, IsAccepted, GrammarFault, Structural, Lexical, TooManyRules, HasGrammarFault}
 use Rattle.reading_model.specs.Laws.{AcceptedHaveNoFault, GrammarFaultIsOne}
-use Rattle.reading_model.proofs.Counting.{one_count}
+use Rattle.recognizer_model.proofs.Counting.{one_count}
 
 -- what is needed of checks: a grammar passes, or is refused in one way, and its flat rules have a count
 pub record CheckLaws : Type 0 where

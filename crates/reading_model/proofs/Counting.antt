@@ -1,8 +1,7 @@
 -- Lists of exactly the values with a property, each once, have one length.
-use Rattle.std.proofs.Common.{◌≡◌, ◌≢◌, ℕ, suc, ◌≤◌, List, [], ◌∷◌, length, inl, inr, refl, sym, ap, ◌∙◌, subst, arith}
+use Rattle.std.proofs.Common.{◌≡◌, ◌≢◌, suc, ◌≤◌, List, [], ◌∷◌, length, inl, inr, refl, sym, ap, ◌∙◌, subst, arith}
 use Rattle.std.specs.List.{AllPairs}
-use Rattle.grammar_model.proofs.Lists.{Among, among_from, contains_from}
-use Rattle.recognizer_model.specs.Counts.{IsCountOf}
+use Rattle.finite_sets.proofs.Members.{Among}
 use Rattle.recognizer_model.proofs.FlatNamed.{at_among}
 
 -- the list without one of its elements
@@ -23,9 +22,3 @@ no_longer {A} (x ∷ xs) ys once among =
   where
     first_once : Among x xs → ⊥
     first_once m = let (k, lt, e) = at_among xs x x m in once 0 (suc k) x (omega arith) (omega (arith, lt)) (sym e)
-
-pub one_count : {A : Type 0} (P : A → Type 0) (n m : ℕ) → IsCountOf P n → IsCountOf P m → n ≡ m
-one_count {A} P n m (xs, xs_are, xs_count) (ys, ys_are, ys_count) =
-    let there = no_longer xs ys xs_are.once (λ x h. among_from ys x ((ys_are.exact x).1 ((xs_are.exact x).0 (contains_from xs x h)))) in
-    let back = no_longer ys xs ys_are.once (λ y h. among_from xs y ((xs_are.exact y).1 ((ys_are.exact y).0 (contains_from ys y h)))) in
-    omega (arith, there, back, xs_count, ys_count)

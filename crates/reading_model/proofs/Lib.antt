@@ -2,3 +2,4 @@ pub mod Counting
 pub mod Accepting
 pub mod Within
 pub mod One
+pub mod Characters

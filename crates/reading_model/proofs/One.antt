@@ -6,8 +6,9 @@ use Rattle.std.specs.Ordering.{nat_cmp, ordering_reverse}
 use Rattle.std.specs.declared.cmp.Ordering.{Ordering}
 use Rattle.std.specs.declared.cmp.Ordering.TheVariants.{Less, Greater}
 use Rattle.std.specs.Cmp.Lexicographic.{slice_cmp}
+use Rattle.finite_sets.proofs.Members.{among_from, contains_from}
 use Rattle.grammar_model.specs.Values.{name_of}
-use Rattle.grammar_model.proofs.Lists.{among_from, contains_from, one_sorted}
+use Rattle.grammar_model.proofs.Lists.{one_sorted}
 use Rattle.language_model.specs.Building.{Built}
 use Rattle.reading_model.specs.Reading.{Piece, Token, Skipped, IsLongest, IsKept, IsKeptNone, IsSkipped, Reads, Begin, Take, Skip, Ending, End, Stopped, IsReading, HasEnded, HasStopped, AreFound, AreExpected, AreSorted}
 use Rattle.reading_model.specs.Laws.{ReadingIsOne}

@@ -19,10 +19,10 @@ pub data Piece : Type 0 where
   Skipped : (length : ℕ) → Piece
 
 -- each token has one place more
-abbrev pub place_after : List Piece → ℕ
-place_after [] = 0
-place_after (Token n symbols ∷ pieces) = suc (place_after pieces)
-place_after (Skipped n ∷ pieces) = place_after pieces
+abbrev pub earleme_after : List Piece → ℕ
+earleme_after [] = 0
+earleme_after (Token n symbols ∷ pieces) = suc (earleme_after pieces)
+earleme_after (Skipped n ∷ pieces) = earleme_after pieces
 
 -- the edges of the tokens, of which the first begins at the place
 abbrev pub edges_from : ℕ → List Piece → List Edge
@@ -43,7 +43,7 @@ spans_from at (Skipped n ∷ pieces) = spans_from (at + n) pieces
 
 -- the symbol is acceptable behind the pieces
 abbrev pub IsNext : Built → List Piece → ℕ → Type 0
-IsNext b pieces symbol = IsAcceptable b.g1 (Held (edges_of pieces)) (slice_index b.g1.starts 0) symbol (place_after pieces)
+IsNext b pieces symbol = IsAcceptable b.g1 (Held (edges_of pieces)) (slice_index b.g1.starts 0) symbol (earleme_after pieces)
 
 -- what is looked for, by its place among the starts: each discard, each lexeme that is always looked for, and the acceptable ones
 pub data IsCandidate (b : Built) (pieces : List Piece) (start : ℕ) : Type 0 where

@@ -74,19 +74,19 @@ const ROWS: &[Row<'static>] = &[
 const SUMS: [usize; 9] = [1, 1, 2, 5, 14, 42, 132, 429, 1430];
 
 /// A sum of nine operands, of which a beginning is a sum too.
-pub const OPERANDS: [u32; 17] = [1, 2, 1, 2, 1, 2, 1, 2, 1, 2, 1, 2, 1, 2, 1, 2, 1];
+pub(crate) const OPERANDS: [u32; 17] = [1, 2, 1, 2, 1, 2, 1, 2, 1, 2, 1, 2, 1, 2, 1, 2, 1];
 
 const MOST_TREES: usize = 10_000;
 
 /// How derivations are told: by short texts, or by lines of values.
 #[derive(Clone, Copy)]
-pub enum Style {
+pub(crate) enum Style {
     Short,
     Line,
 }
 
 /// The name of a symbol, or `?` where the grammar has none of that number.
-pub fn name_of(w: &Written, symbol: SymbolId) -> &str {
+pub(crate) fn name_of(w: &Written, symbol: SymbolId) -> &str {
     if (symbol.0 as usize) < w.symbol_count() {
         w.name(symbol)
     } else {
@@ -222,7 +222,7 @@ fn put_texts<L: Ledger>(
 }
 
 /// The texts of all derivations.
-pub fn texts_of<L: Ledger>(
+pub(crate) fn texts_of<L: Ledger>(
     alloc: Global,
     w: &Written,
     forest: &Forest<'_>,
@@ -253,7 +253,7 @@ fn are_texts(texts: &[String], wanted: &[&str]) -> bool {
 }
 
 /// Whether the derivations have these texts, in this order.
-pub fn have_texts<L: Ledger>(
+pub(crate) fn have_texts<L: Ledger>(
     alloc: Global,
     w: &Written,
     forest: &Forest<'_>,
@@ -265,7 +265,7 @@ pub fn have_texts<L: Ledger>(
 }
 
 /// Whether there are so many derivations, and no two that follow each other have the same text.
-pub fn have_count<L: Ledger>(
+pub(crate) fn have_count<L: Ledger>(
     alloc: Global,
     w: &Written,
     forest: &Forest<'_>,
@@ -298,6 +298,6 @@ fn sums_have_as_many_as_is_known(rt: HostRuntime) -> Result<(), Fail> {
 
 /// Each of the two derivations of a sum of three operands has 52 choices, so the calls that give them take at most 52 steps each. It
 /// does nothing.
-pub fn sums_have_few_choices()
+pub(crate) fn sums_have_few_choices()
     ensures { (choices left_first ≡ 52) × (choices right_first ≡ 52) }
 {}

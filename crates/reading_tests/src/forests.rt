@@ -4,7 +4,7 @@ ghost use Rattle.std.specs.Prelude.{◌≡◌, ◌+◌, ◌<◌, length};
 
 use crate::grammars::{COMMAS, HIGH, LOW, Language, PIECES, SUM};
 use crate::readings::{Input, Row, Wanted, are_rows};
-use bocage::{Alternatives, Forest, LastPart};
+use bocage::{Alternatives, Cause, Forest};
 use grammar_core::{FlatSource, RuleId};
 use grammar_model::Ranking;
 use slif_base::Steps;
@@ -13,10 +13,10 @@ use std::sync::ledger::Ledger;
 use std::test::Fail;
 
 /// A number of a written rule, and where its last part may begin.
-pub type Starts = (u32, &'static [u32]);
+pub(crate) type Starts = (u32, &'static [u32]);
 
 /// S -> P | Q with a higher rank, P -> x, Q -> x
-pub const RANKED: Language = Language {
+pub(crate) const RANKED: Language = Language {
     names: &["S", "P", "Q", "x"],
     lines: &[
         (0, &[1], 0, false),
@@ -28,14 +28,14 @@ pub const RANKED: Language = Language {
 };
 
 const ROWS: &[Row<'static>] = &[
-    // Three operands. The whole: top, three sums, three fronts of two parts, three of one, three numbers.
+    // Three operands. The whole: top, three sums, three predecessors of two parts, three of one, three numbers.
     (
         SUM,
         Input::Row(&[1, 2, 1, 2, 1]),
         Ranking::Rule,
         Wanted::Forest(13, 14, 2, &[(0, &[4, 2])]),
     ),
-    // Four operands: top, six sums, six fronts of two parts, six of one, four numbers; sums have 10 alternatives.
+    // Four operands: top, six sums, six predecessors of two parts, six of one, four numbers; sums have 10 alternatives.
     (
         SUM,
         Input::Row(&[1, 2, 1, 2, 1, 2, 1]),
@@ -135,10 +135,10 @@ fn count_at(counts: &[u64], node: u32) -> u64 {
 }
 
 // How many ways the last part of an alternative has, by those of the nodes.
-fn last_count(counts: &[u64], last: LastPart<'_>) -> u64 {
+fn last_count(counts: &[u64], last: Cause<'_>) -> u64 {
     match last {
-        LastPart::Edge | LastPart::Nothing => 1,
-        LastPart::Wholes(nodes) => {
+        Cause::Edge | Cause::Nothing => 1,
+        Cause::Wholes(nodes) => {
             let mut sum: u64 = 0;
             for node in nodes {
                 sum = sum.saturating_add(count_at(counts, *node));
@@ -151,12 +151,12 @@ fn last_count(counts: &[u64], last: LastPart<'_>) -> u64 {
 fn node_count(counts: &[u64], alternatives: &Alternatives<'_>) -> u64 {
     let mut sum: u64 = 0;
     for k in 0..alternatives.len() {
-        let front = match alternatives.front(k) {
+        let predecessor = match alternatives.predecessor(k) {
             Some(node) => count_at(counts, node),
             None => 1,
         };
-        let last = last_count(counts, alternatives.last(k));
-        sum = sum.saturating_add(front.saturating_mul(last));
+        let last = last_count(counts, alternatives.cause(k));
+        sum = sum.saturating_add(predecessor.saturating_mul(last));
     }
     sum
 }
@@ -227,7 +227,7 @@ fn has_rules<L: Ledger>(forest: &Forest<'_>, wanted: &[Starts], steps: &mut Step
     if top.len() != 1 || top.start(0) != 0 {
         return false;
     }
-    let LastPart::Wholes(nodes) = top.last(0) else {
+    let Cause::Wholes(nodes) = top.cause(0) else {
         return false;
     };
     let mut same = nodes.len() == wanted.len();
@@ -238,7 +238,7 @@ fn has_rules<L: Ledger>(forest: &Forest<'_>, wanted: &[Starts], steps: &mut Step
 }
 
 /// Whether a forest has so many nodes, alternatives and derivations, and these rules.
-pub fn has_size<L: Ledger>(
+pub(crate) fn has_size<L: Ledger>(
     alloc: Global,
     forest: &Forest<'_>,
     counts: (usize, usize, u64),

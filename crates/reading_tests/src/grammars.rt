@@ -15,28 +15,28 @@ use std::sync::ledger::Ledger;
 const MOST_PLACES: u32 = 16_777_216;
 
 /// A left side, its parts, a rank, and whether a nulled last part comes first.
-pub type Line = (u32, &'static [u32], i32, bool);
+pub(crate) type Line = (u32, &'static [u32], i32, bool);
 
 /// A left side, its item, and its separator.
-pub type List = (u32, u32, Option<u32>);
+pub(crate) type List = (u32, u32, Option<u32>);
 
 /// The names of the symbols, of which the first is the start, the rules and the lists.
 #[derive(Clone, Copy)]
-pub struct Language {
+pub(crate) struct Language {
     pub names: &'static [&'static str],
     pub lines: &'static [Line],
     pub lists: &'static [List],
 }
 
 /// E -> E '+' E | N
-pub const SUM: Language = Language {
+pub(crate) const SUM: Language = Language {
     names: &["E", "N", "+"],
     lines: &[(0, &[0, 2, 0], 0, false), (0, &[1], 0, false)],
     lists: &[],
 };
 
 /// S -> B B, B -> a, B ->
-pub const LOW: Language = Language {
+pub(crate) const LOW: Language = Language {
     names: &["S", "B", "a"],
     lines: &[
         (0, &[1, 1], 0, false),
@@ -47,7 +47,7 @@ pub const LOW: Language = Language {
 };
 
 /// The same, with nulled last parts first.
-pub const HIGH: Language = Language {
+pub(crate) const HIGH: Language = Language {
     names: &["S", "B", "a"],
     lines: &[
         (0, &[1, 1], 0, true),
@@ -58,14 +58,14 @@ pub const HIGH: Language = Language {
 };
 
 /// L is a list of x, with a comma between each two
-pub const COMMAS: Language = Language {
+pub(crate) const COMMAS: Language = Language {
     names: &["L", "x", ","],
     lines: &[],
     lists: &[(0, 1, Some(2))],
 };
 
 /// L is a list of I; I -> a | a a
-pub const PIECES: Language = Language {
+pub(crate) const PIECES: Language = Language {
     names: &["L", "I", "a"],
     lines: &[(1, &[2], 0, false), (1, &[2, 2], 0, false)],
     lists: &[(0, 1, None)],
@@ -97,7 +97,7 @@ fn add_list(w: &mut Written, list: &List) -> Result<RuleId, CoreRefusal> {
 }
 
 /// The grammar of the rules.
-pub fn written_of(alloc: Global, language: &Language) -> Result<Written, CoreRefusal> {
+pub(crate) fn written_of(alloc: Global, language: &Language) -> Result<Written, CoreRefusal> {
     let mut w = Written::new(alloc);
     for name in language.names {
         w.symbol_new(name)?;
@@ -113,19 +113,23 @@ pub fn written_of(alloc: Global, language: &Language) -> Result<Written, CoreRef
 }
 
 /// The flat grammar of a grammar that passes the check.
-pub fn flat_of(alloc: Global, w: &Written) -> Result<Flat, anyhow::Error>
+pub(crate) fn flat_of(alloc: Global, w: &Written) -> Result<Flat, anyhow::Error>
     ensures checked { OnOk result (IsChecked w.now) }
     ensures flat { IfOk result (λ f. IsFlatOf f w.now) }
     ensures start { IfOk result (λ f. 0 < length f.tops) }
 {
     match check(alloc, w) {
-        Ok(checked) => Ok(flatten(alloc, &checked)?),
+        Ok(checked) => {
+            let flat = flatten(alloc, &checked);
+            drop(checked);
+            Ok(flat?)
+        }
         Err(_) => bail!("the check refuses the grammar"),
     }
 }
 
 /// Takes a token that begins at the place.
-pub fn take(recce: &mut Recce<'_>, token: u32, length: u32) -> Result<(), anyhow::Error>
+pub(crate) fn take(recce: &mut Recce<'_>, token: u32, length: u32) -> Result<(), anyhow::Error>
     ensures { recce.new.flat ≡ recce.old.flat }
 {
     if recce.place() >= MOST_PLACES {
@@ -136,7 +140,10 @@ pub fn take(recce: &mut Recce<'_>, token: u32, length: u32) -> Result<(), anyhow
 }
 
 /// Goes on to the next place.
-pub fn go_on<L: Ledger>(recce: &mut Recce<'_>, steps: &mut Steps<L>) -> Result<(), anyhow::Error>
+pub(crate) fn go_on<L: Ledger>(
+    recce: &mut Recce<'_>,
+    steps: &mut Steps<L>,
+) -> Result<(), anyhow::Error>
     ensures { recce.new.flat ≡ recce.old.flat }
 {
     if recce.place() >= MOST_PLACES {
@@ -147,7 +154,7 @@ pub fn go_on<L: Ledger>(recce: &mut Recce<'_>, steps: &mut Steps<L>) -> Result<(
 }
 
 /// Reads tokens that are one place long.
-pub fn read_all<L: Ledger>(
+pub(crate) fn read_all<L: Ledger>(
     recce: &mut Recce<'_>,
     tokens: &[u32],
     steps: &mut Steps<L>,

@@ -10,7 +10,7 @@ use std::sync::ledger::Ledger;
 use std::test::Fail;
 
 /// A terminal, where it begins, and how many places it spans.
-pub type Token = (u32, u32, u32);
+pub(crate) type Token = (u32, u32, u32);
 
 // S -> a b | c
 const SHORT_CUT: Language = Language {
@@ -55,7 +55,7 @@ fn take_here(recce: &mut Recce<'_>, tokens: &[Token]) -> Result<(), anyhow::Erro
 }
 
 /// Reads the tokens up to a place.
-pub fn read_to<L: Ledger>(
+pub(crate) fn read_to<L: Ledger>(
     recce: &mut Recce<'_>,
     tokens: &[Token],
     end: u32,

@@ -70,7 +70,7 @@ fn left_name(w: &Written, rule: RuleId) -> &str {
 }
 
 /// The text of a leaf, or how that of a rule begins.
-pub fn line_text(alloc: Global, w: &Written, step: &TreeStep) -> Result<String, AllocError> {
+pub(crate) fn line_text(alloc: Global, w: &Written, step: &TreeStep) -> Result<String, AllocError> {
     match step {
         TreeStep::Token { symbol, .. } => {
             let name = name_of(w, *symbol);
@@ -95,7 +95,7 @@ fn lines_of(alloc: Global, texts: &[String]) -> Result<Vec<u8>, AllocError> {
 }
 
 /// Whether the derivations have these lines, in this order.
-pub fn have_lines<L: Ledger>(
+pub(crate) fn have_lines<L: Ledger>(
     alloc: Global,
     w: &Written,
     forest: &Forest<'_>,

@@ -21,14 +21,14 @@ use std::sync::ledger::{Blank, Ledger};
 
 /// What is read: tokens that are one place long, or tokens with their places, up to a place.
 #[derive(Clone, Copy)]
-pub enum Input<'a> {
+pub(crate) enum Input<'a> {
     Row(&'a [u32]),
     Spans(&'a [Token], u32),
 }
 
 /// What a reading has.
 #[derive(Clone, Copy)]
-pub enum Wanted<'a> {
+pub(crate) enum Wanted<'a> {
     NoParse,
     /// how many nodes, alternatives and derivations a forest has, and the rules of the start over the whole, in order
     Forest(usize, usize, u64, &'a [Starts]),
@@ -41,7 +41,7 @@ pub enum Wanted<'a> {
 }
 
 /// A grammar, what is read by it, the ranking, and what the reading has.
-pub type Row<'a> = (Language, Input<'a>, Ranking, Wanted<'a>);
+pub(crate) type Row<'a> = (Language, Input<'a>, Ranking, Wanted<'a>);
 
 fn read<L: Ledger>(
     recce: &mut Recce<'_>,
@@ -98,12 +98,33 @@ fn reading_is_so<L: Ledger>(
     }
     let arena = Bump::new(alloc);
     match Forest::build(alloc, &arena, recce, w, ranking, steps) {
-        Ok(forest) => forest_is_so(alloc, w, &forest, wanted, steps),
+        Ok(forest) => {
+            let so = forest_is_so(alloc, w, &forest, wanted, steps);
+            drop(forest);
+            so
+        }
         Err(refusal) => Ok(refusal == ForestRefusal::NoParse && matches!(wanted, Wanted::NoParse)),
     }
 }
 
 // Reads, and tells whether the reading is as it is told.
+fn goes_on<L: Ledger>(
+    alloc: Global,
+    w: &Written,
+    recce: &mut Recce<'_>,
+    input: &Input<'_>,
+    ranking: Ranking,
+    wanted: &Wanted<'_>,
+    steps: &mut Steps<L>,
+) -> Result<bool, anyhow::Error>
+    requires checked { IsChecked w.now }
+    requires flat { IsFlatOf recce.old.flat w.now }
+{
+    read(recce, input, steps)?;
+    reading_is_so(alloc, w, recce, ranking, wanted, steps)
+}
+
+// Whether what a new recognizer reads is as it is told.
 fn reads<L: Ledger>(
     alloc: Global,
     w: &Written,
@@ -118,8 +139,9 @@ fn reads<L: Ledger>(
     requires start { 0 < length flat.now.tops }
 {
     let mut recce = Recce::new(alloc, flat, 0)?;
-    read(&mut recce, input, steps)?;
-    reading_is_so(alloc, w, &recce, ranking, wanted, steps)
+    let so = goes_on(alloc, w, &mut recce, input, ranking, wanted, steps);
+    drop(recce);
+    so
 }
 
 fn reads_with<L: Ledger>(
@@ -143,7 +165,7 @@ fn reads_with<L: Ledger>(
 }
 
 /// Whether what is read by a grammar is as it is told.
-pub fn is_so(
+pub(crate) fn is_so(
     alloc: Global,
     w: &Written,
     input: &Input<'_>,
@@ -151,18 +173,22 @@ pub fn is_so(
     wanted: &Wanted<'_>,
 ) -> Result<bool, anyhow::Error> {
     let flat = flat_of(alloc, w)?;
-    reads_with::<Brand>(Blank::new(1), alloc, w, &flat, input, ranking, wanted)
+    let so = reads_with::<Brand>(Blank::new(1), alloc, w, &flat, input, ranking, wanted);
+    drop(flat);
+    so
 }
 
 /// Whether a row is as it is told.
-pub fn is_row(alloc: Global, row: &Row<'_>) -> Result<bool, anyhow::Error> {
+pub(crate) fn is_row(alloc: Global, row: &Row<'_>) -> Result<bool, anyhow::Error> {
     let (language, input, ranking, wanted) = row;
     let w = written_of(alloc, language)?;
-    is_so(alloc, &w, input, *ranking, wanted)
+    let so = is_so(alloc, &w, input, *ranking, wanted);
+    drop(w);
+    so
 }
 
 /// Whether all rows are as they are told.
-pub fn are_rows(alloc: Global, rows: &[Row<'_>]) -> Result<bool, anyhow::Error> {
+pub(crate) fn are_rows(alloc: Global, rows: &[Row<'_>]) -> Result<bool, anyhow::Error> {
     for row in rows {
         if !is_row(alloc, row)? {
             return Ok(false);

@@ -11,7 +11,7 @@ use std::alloc::Global;
 use std::test::Fail;
 
 /// A rule, a dot and an origin.
-pub type Line = (u32, u32, u32);
+pub(crate) type Line = (u32, u32, u32);
 
 const OF_SUM: Row<'static> = (
     SUM,
@@ -65,7 +65,7 @@ fn has_lines(lines: &[ReportLine], wanted: &[Line]) -> bool {
 }
 
 /// Whether the reports of all places are these, and the place behind them has none.
-pub fn has_reports(
+pub(crate) fn has_reports(
     alloc: Global,
     w: &Written,
     recce: &Recce<'_>,

@@ -1,5 +1,6 @@
 use Rattle.std.proofs.Common.{◌≡◌, ◌⊎◌, inl, inr, ℕ, zero, suc, ◌+◌, ◌-◌, ◌<◌, ◌≤◌, length, Option, Some, List, [], ◌∷◌, ◌++◌, slice_get, refl, sym, ◌∙◌, ap, subst, arith, length-append}
 use Rattle.std.specs.List.{AllByRecursion}
+use Rattle.std.proofs.lemmas.Option.{slice_get_within}
 use Rattle.recognizer_model.specs.declared.Item.{Item}
 use Rattle.grammar_model.specs.Trees.{Tree, Leaf, Nulled, Node, Children, NoChild, Child}
 use Rattle.recognizer_model.specs.Flat.{FlatGrammar, IsRule, lhs_of, rhs_of, part_of, IsNullable}
@@ -128,11 +129,6 @@ module _ (g : FlatGrammar) (E : Edges) (top : ℕ) (is_top : IsTop g top) (forwa
         back y a b le (inl (s, le')) = s
         back y a b le (inr l) = let k = laid_from p (t ∷ ts) y a b l in let k' = laid_forward p (t ∷ ts) y a b l in absurd (omega arith)
 
-part_within : (xs : List ℕ) (k x : ℕ) → slice_get xs k ≡ Some x → k < length xs
-part_within [] k x e = absurd (cc)
-part_within (y ∷ ys) zero x e = omega arith
-part_within (y ∷ ys) (suc k) x e = let h = part_within ys k x e in omega arith
-
 part_there : (xs : List ℕ) (k : ℕ) → k < length xs → (x : ℕ) × (slice_get xs k ≡ Some x)
 part_there [] k l = absurd (omega arith)
 part_there (y ∷ ys) zero l = (y, refl)
@@ -178,7 +174,7 @@ module _ (g : FlatGrammar) (closed : MarksAreClosed g) where
       go : (ts : List ℕ) → parts.terms ≡ ts → Lays x
       go [] e =
           let s : Spans g (Laid 0 []) r (length (rhs_of g r)) 0 0 (parts.children 0) = subst (λ us. Spans g (Laid 0 us) r (length (rhs_of g r)) 0 (0 + length us) (parts.children 0)) e (parts.spans 0) in
-          let n : IsNullable g x = subst (IsNullable g) l (closed r rule (λ k y e'. empty_parts (Laid 0 []) (laid_forward 0 []) s (omega arith) k y (part_within (rhs_of g r) k y e') e')) in
+          let n : IsNullable g x = subst (IsNullable g) l (closed r rule (λ k y e'. empty_parts (Laid 0 []) (laid_forward 0 []) s (omega arith) k y (slice_get_within (rhs_of g r) k y e') e')) in
           record { terms = []; terminals = tt; tree = Nulled x; derives = λ q. subst (λ k. Derives g (Laid q []) x q k (Nulled x q)) (omega arith) (Null n) }
       go (t ∷ ts) e = record {
         terms = parts.terms;
@@ -267,7 +263,7 @@ module _ (g : FlatGrammar) (E : Edges) (top : ℕ) (is_top : IsTop g top) (forwa
   close (AtStart e) le ws terminals {tree = tree} d = record { more = ws; terminals = terminals; tree = tree; derives = subst (λ x. Derives g (Word ws) x 0 (end_of ws) tree) (sym e) d }
   close (Next {y = y} {p = start} {r = r} {d = k} {q = from} {cs = cs} m rule l s e) le ws terminals {tree = tree} d =
       let before = parts_forward g E forward s in
-      let within = part_within (rhs_of g r) k _ e in
+      let within = slice_get_within (rhs_of g r) k _ e in
       let b : IsBegun r (suc k) start = record {
         word = ws;
         terminals = terminals;
@@ -280,7 +276,7 @@ module _ (g : FlatGrammar) (E : Edges) (top : ℕ) (is_top : IsTop g top) (forwa
   acceptable : (item : Item) → InSet g E top p item → after g item ≡ Some t → IsContinued g E top p t
   acceptable item i e =
       let f = found g E top is_top i in
-      let within = part_within (rhs_of g item.rule) item.dot t e in
+      let within = slice_get_within (rhs_of g item.rule) item.dot t e in
       let before = parts_forward g E forward f.spans in
       let b : IsBegun item.rule (suc item.dot) item.origin = record {
         word = [];

@@ -1,20 +1,21 @@
 -- The chosen derivations of a flat grammar have a list: of the finite list of all trees, those that are chosen can be told.
-use Rattle.std.proofs.Common.{◌≡◌, ℕ, ◌<◌, ◌≤ℤ◌, List, [], ◌∷◌, length, ◌⊎◌, inl, inr, refl, sym, ◌∙◌, subst, arith}
+use Rattle.std.proofs.Common.{◌≡◌, ℕ, ◌<◌, ◌≤ℤ◌, List, [], ◌∷◌, ◌⊎◌, inl, inr, refl, sym, ◌∙◌, subst, arith}
 use Rattle.std.specs.Prelude.{◌↔◌, Contains}
 use Rattle.std.specs.List.Sorted.{IsStrictlySortedBy}
 use Rattle.std.specs.declared.cmp.Ordering.{Ordering}
 use Rattle.std.specs.declared.cmp.Ordering.TheVariants.{Less}
 use Rattle.std.proofs.lemmas.Int.{by_lt_z, ints}
+use Rattle.finite_sets.proofs.Members.{among_from, contains_from, Among}
 use Rattle.grammar_model.specs.Grammar.{Grammar, slot_of}
-use Rattle.grammar_model.specs.Trees.{Tree, Children, Leaf, Nulled, Node, NoChild, Child}
+use Rattle.grammar_model.specs.Trees.{Tree, Children, Leaf, Nulled, Node, Child}
 use Rattle.grammar_model.specs.Derives.{Held}
 use Rattle.grammar_model.specs.Derives
 use Rattle.grammar_model.specs.declared.Edge.{Edge}
 use Rattle.grammar_model.specs.declared.Ranking.{Ranking}
 use Rattle.grammar_model.specs.declared.Ranking.TheVariants.{None as NoRanks, Rule as RuleRanks, High as HighRanks}
 use Rattle.grammar_model.specs.Order.{tree_cmp}
-use Rattle.grammar_model.proofs.Lists.{Among, among_from, contains_from, each_from, each_at}
-use Rattle.recognizer_model.specs.Flat.{FlatGrammar, IsRule, lhs_of, rhs_of}
+use Rattle.grammar_model.proofs.Lists.{each_from, each_at}
+use Rattle.recognizer_model.specs.Flat.{FlatGrammar, IsRule, lhs_of}
 use Rattle.recognizer_model.specs.FlatDerives.{Derives, Token, Null, Rule, Spans, Nothing, More}
 use Rattle.recognizer_model.specs.FlatForm.{FlatEdges, flat_order}
 use Rattle.recognizer_model.specs.Acceptable.{OnlyTerminals}

@@ -1,26 +1,27 @@
 -- What is acceptable over a flat grammar is so over the written one.
-use Rattle.std.proofs.Common.{◌≡◌, ℕ, zero, suc, ◌<◌, ◌≤◌, ◌+◌, Bool, true, false, cond, List, [], ◌∷◌, ◌++◌, map, length, ◌⊎◌, inl, inr, ⊎_elim, Option, Some, None, refl, sym, ap, ◌∙◌, subst, arith, length-append}
-use Rattle.std.specs.Prelude.{◌==◌, slice_get, slice_index_or}
+use Rattle.std.proofs.Common.{◌≡◌, ℕ, zero, suc, ◌<◌, ◌≤◌, ◌+◌, true, false, cond, List, [], ◌∷◌, ◌++◌, map, length, ◌⊎◌, inl, inr, ⊎_elim, Some, None, refl, sym, ap, ◌∙◌, subst, arith}
+use Rattle.std.specs.Prelude.{◌==◌, slice_get}
 use Rattle.std.proofs.lemmas.Bool.{cases_Bool, eqb-true, eq-eqb, cases_lt}
+use Rattle.std.proofs.lemmas.List.{map-append, length-map}
+use Rattle.std.proofs.lemmas.Option.{slice_get_within}
+use Rattle.finite_sets.proofs.Lists.{get_map, get_left, get_index}
 use Rattle.grammar_model.specs.Grammar.{WrittenRule, Grammar, Slot, slot_of, rule_at, child_slot}
 use Rattle.grammar_model.specs.Grammar
 use Rattle.grammar_model.specs.Trees.{Tree, Children, Leaf, Nulled, Node, NoChild, Child, child_count}
-use Rattle.grammar_model.specs.Derives.{Edges, Line, Derives, DerivesFront}
+use Rattle.grammar_model.specs.Derives.{Edges, Line, Derives, DerivesPrefix}
 use Rattle.grammar_model.specs.Acceptable.{Spells, IsAcceptable}
-use Rattle.grammar_model.specs.Checked.{IsChecked}
 use Rattle.grammar_model.proofs.Compose.{GoForward}
-use Rattle.recognizer_model.specs.Flat.{FlatGrammar, IsRule, lhs_of, part_of}
+use Rattle.recognizer_model.specs.Flat.{FlatGrammar, lhs_of}
 use Rattle.recognizer_model.specs.declared.flat.FlatSymbol.{FlatSymbol}
 use Rattle.recognizer_model.specs.declared.flat.FlatSymbol.TheVariants.{Terminal, Slot as AtLevel, Sequence, Top}
 use Rattle.recognizer_model.specs.View.{grammar_view}
 use Rattle.recognizer_model.specs.Invariant.{IsFlat}
 use Rattle.recognizer_model.specs.Acceptable
-use Rattle.recognizer_model.specs.FlatForm.{IsFlatOf, IsFlatForm, StandsFor, symbol_at, FlatEdges, tree_of}
+use Rattle.recognizer_model.specs.FlatForm.{IsFlatForm, StandsFor, symbol_at, FlatEdges, tree_of}
 use Rattle.recognizer_model.proofs.Moved.{moved, tree_moved}
 use Rattle.recognizer_model.proofs.Words.{line_forward}
 use Rattle.recognizer_model.proofs.Paths.{tree_covers}
 use Rattle.recognizer_model.proofs.Views.{in_view, rule_viewed}
-use Rattle.recognizer_model.proofs.FlatNamed.{get_index, index_get}
 
 -- ---- the flat symbol of a terminal, by the first place where it stands
 
@@ -54,23 +55,10 @@ number_there (Top k ∷ xs) s (suc y) e = number_there xs s y e
 
 -- ---- lists
 
-get_map : (g : ℕ → ℕ) (xs : List ℕ) (k x : ℕ) → slice_get xs k ≡ Some x → slice_get (map g xs) k ≡ Some (g x)
-get_map g [] k x e = cc
-get_map g (y ∷ ys) zero x e = let same : y ≡ x = cc in ap (λ z. Some (g z)) same
-get_map g (y ∷ ys) (suc k) x e = get_map g ys k x e
-
 map_get : (g : ℕ → ℕ) (xs : List ℕ) (k y : ℕ) → slice_get (map g xs) k ≡ Some y → (x : ℕ) × (slice_get xs k ≡ Some x) × (g x ≡ y)
 map_get g [] k y e = cc
 map_get g (x ∷ xs) zero y e = let same : g x ≡ y = cc in (x, refl, same)
 map_get g (x ∷ xs) (suc k) y e = map_get g xs k y e
-
-map_append : (g : ℕ → ℕ) (xs ys : List ℕ) → map g (xs ++ ys) ≡ map g xs ++ map g ys
-map_append g [] ys = refl
-map_append g (x ∷ xs) ys = ap (λ z. g x ∷ z) (map_append g xs ys)
-
-length_map : (g : ℕ → ℕ) (xs : List ℕ) → length (map g xs) ≡ length xs
-length_map g [] = refl
-length_map g (x ∷ xs) = ap suc (length_map g xs)
 
 some_at : (xs : List ℕ) (k : ℕ) → k < length xs → (x : ℕ) × (slice_get xs k ≡ Some x)
 some_at [] k lt = absurd (omega arith)
@@ -80,16 +68,6 @@ some_at (x ∷ xs) (suc k) lt = some_at xs k (omega arith)
 at_seam : (xs : List ℕ) (t : ℕ) (ys : List ℕ) → slice_get (xs ++ t ∷ ys) (length xs) ≡ Some t
 at_seam [] t ys = refl
 at_seam (x ∷ xs) t ys = at_seam xs t ys
-
-at_left : (xs ys : List ℕ) (k s : ℕ) → slice_get xs k ≡ Some s → slice_get (xs ++ ys) k ≡ Some s
-at_left [] ys k s e = cc
-at_left (x ∷ xs) ys zero s e = e
-at_left (x ∷ xs) ys (suc k) s e = at_left xs ys k s e
-
-below_length : (xs : List ℕ) (k x : ℕ) → slice_get xs k ≡ Some x → k < length xs
-below_length [] k x e = cc
-below_length (y ∷ ys) zero x e = omega arith
-below_length (y ∷ ys) (suc k) x e = let h = below_length ys k x e in omega arith
 
 -- a path whose symbols all have their like over other edges
 path_mapped : (edge other : Edges) (g : ℕ → ℕ) (w : List ℕ) (p q : ℕ) → ((k s a b : ℕ) → slice_get w k ≡ Some s → edge s a b → other (g s) a b) → Spells edge p q w → Spells other p q (map g w)
@@ -103,12 +81,12 @@ module _ (g : Grammar) (edge : Edges) where
     tree_edges : (t : Tree) (slot : Slot) (a b : ℕ) → Derives g edge slot a b t → (k : ℕ) → a ≤ k → k < b → (s : ℕ) × (c : ℕ) × (d : ℕ) × edge s c d × (c ≤ k) × (k < d)
     tree_edges (Leaf s c d) slot a b der k lo hi = let f = der.from_is in let f' = der.to_is in (s, c, d, der.held, omega arith, omega arith)
     tree_edges (Nulled s c) slot a b der k lo hi = let f = der.from_is in let f' = der.to_is in absurd (omega arith)
-    tree_edges (Node i cs c d) slot a b der k lo hi = front_edges cs (rule_at g i) a b der.front k lo hi
+    tree_edges (Node i cs c d) slot a b der k lo hi = prefix_edges cs (rule_at g i) a b der.prefix k lo hi
 
-    front_edges : (cs : Children) (rule : WrittenRule) (a b : ℕ) → DerivesFront g edge rule a b cs → (k : ℕ) → a ≤ k → k < b → (s : ℕ) × (c : ℕ) × (d : ℕ) × edge s c d × (c ≤ k) × (k < d)
-    front_edges NoChild rule a b e k lo hi = absurd (omega arith)
-    front_edges (Child front last) rule a b (m, f, d) k lo hi =
-        ⊎_elim (λ before. front_edges front rule a m f k lo before) (λ after. tree_edges last (child_slot rule (child_count front)) m b d k after hi) (cases_lt k m)
+    prefix_edges : (cs : Children) (rule : WrittenRule) (a b : ℕ) → DerivesPrefix g edge rule a b cs → (k : ℕ) → a ≤ k → k < b → (s : ℕ) × (c : ℕ) × (d : ℕ) × edge s c d × (c ≤ k) × (k < d)
+    prefix_edges NoChild rule a b e k lo hi = absurd (omega arith)
+    prefix_edges (Child prefix last) rule a b (m, f, d) k lo hi =
+        ⊎_elim (λ before. prefix_edges prefix rule a m f k lo before) (λ after. tree_edges last (child_slot rule (child_count prefix)) m b d k after hi) (cases_lt k m)
 
 -- ---- the law
 
@@ -131,8 +109,8 @@ module _ (f : FlatGrammar) (w : Grammar) (flat : IsFlat f) (edge : Edges) (forwa
         let words = a.before ++ t ∷ a.after in
         let (u, d, e) = (form_of words Rattle.grammar_model.specs.declared.Ranking.TheVariants.None).whole (lhs_of f r) 0 (length words) (slot_of start) a.tree left_in stands a.derived in
         let there = numbered words u d in
-        let mapped : map number words ≡ map number a.before ++ number t ∷ map number a.after = map_append number a.before (t ∷ a.after) in
-        let len : length (map number words) ≡ length words = length_map number words in
+        let mapped : map number words ≡ map number a.before ++ number t ∷ map number a.after = map-append number a.before (t ∷ a.after) in
+        let len : length (map number words) ≡ length words = length-map words number in
         let over = tree_moved (grammar_view f) (FlatEdges f (Line words)) (Line (map number words)) (λ z. z) (length words) (flat_line words) (λ x y lt le. lt) (lines words there) u (slot_of (lhs_of f r)) 0 (length words) (omega arith) d in
         let over' = subst (λ z. Derives (grammar_view f) (Line (map number words)) (slot_of (lhs_of f r)) 0 z (moved (λ z. z) u)) (sym len) over in (
           number t,
@@ -141,7 +119,7 @@ module _ (f : FlatGrammar) (w : Grammar) (flat : IsFlat f) (edge : Edges) (forwa
             before = map number a.before;
             after = map number a.after;
             tree = moved (λ z. z) u;
-            spelled = path_mapped edge (FlatEdges f edge) number a.before 0 place (λ j s x y at' h. (s, there j s (at_left a.before (t ∷ a.after) j s at'), h)) a.spelled;
+            spelled = path_mapped edge (FlatEdges f edge) number a.before 0 place (λ j s x y at' h. (s, there j s (get_left a.before (t ∷ a.after) j s at'), h)) a.spelled;
             derived = subst (λ z. Derives (grammar_view f) (Line z) (slot_of (lhs_of f r)) 0 (length z) (moved (λ z. z) u)) mapped over';
           },
         )
@@ -152,7 +130,7 @@ module _ (f : FlatGrammar) (w : Grammar) (flat : IsFlat f) (edge : Edges) (forwa
         -- each of the words has its flat symbol
         numbered : (words : List ℕ) (u : Tree) → Derives (grammar_view f) (FlatEdges f (Line words)) (slot_of (lhs_of f r)) 0 (length words) u → (j s : ℕ) → slice_get words j ≡ Some s → slice_get f.symbols (number s) ≡ Some (Terminal s)
         numbered words u d j s at' =
-            let (x, c, e, (s', is, l), lo, hi) = tree_edges (grammar_view f) (FlatEdges f (Line words)) u (slot_of (lhs_of f r)) 0 (length words) d j (omega arith) (below_length words j s at') in
+            let (x, c, e, (s', is, l), lo, hi) = tree_edges (grammar_view f) (FlatEdges f (Line words)) u (slot_of (lhs_of f r)) 0 (length words) d j (omega arith) (slice_get_within words j s at') in
             let z = l.1 in
             let here : c ≡ j = omega arith in
             let both : Some s' ≡ Some s = sym l.0 ∙ ap (slice_get words) here ∙ at' in
@@ -185,10 +163,10 @@ module _ (f : FlatGrammar) (w : Grammar) (flat : IsFlat f) (edge : Edges) (forwa
         let words = a.before ++ x ∷ a.after in
         let covers = tree_covers f flat.marks productive words a.tree (slot_of (lhs_of f r)) 0 (length words)
         (λ h. absurd (h r (in_view f r (flat.tops k r top).is_top.is_rule) (ap Grammar.lhs_of (rule_viewed f r (flat.tops k r top).is_top.is_rule)))) a.derived in
-        let mapped : map terminal_at words ≡ map terminal_at a.before ++ t ∷ map terminal_at a.after = map_append terminal_at a.before (x ∷ a.after) ∙ ap (λ z. map terminal_at a.before ++ z ∷ map terminal_at a.after) (terminal_is x t is) in
-        let len : length (map terminal_at words) ≡ length words = length_map terminal_at words in
+        let mapped : map terminal_at words ≡ map terminal_at a.before ++ t ∷ map terminal_at a.after = map-append terminal_at a.before (x ∷ a.after) ∙ ap (λ z. map terminal_at a.before ++ z ∷ map terminal_at a.after) (terminal_is x t is) in
+        let len : length (map terminal_at words) ≡ length words = length-map words terminal_at in
         let over = tree_moved (grammar_view f) (Line words) (FlatEdges f (Line (map terminal_at words))) (λ z. z) (length words) (line_forward words) (λ x y lt le. lt)
-        (λ s c d l le. (let (s', e) = covers c s (omega arith) (below_length words c s l.0) l.0 in (s', e, (get_map terminal_at words c s l.0 ∙ ap Some (terminal_is s s' e), l.1))))
+        (λ s c d l le. (let (s', e) = covers c s (omega arith) (slice_get_within words c s l.0) l.0 in (s', e, (get_map terminal_at words c s l.0 ∙ ap Some (terminal_is s s' e), l.1))))
         a.tree (slot_of (lhs_of f r)) 0 (length words) (omega arith) a.derived in
         let sound = (form_of (map terminal_at words) Rattle.grammar_model.specs.declared.Ranking.TheVariants.None).sound (lhs_of f r) 0 (length words) (slot_of start) (moved (λ z. z) a.tree) left_in stands over in
         let sound' = subst (λ z. Derives w (Line (map terminal_at words)) (slot_of start) 0 z (tree_of w f (moved (λ z. z) a.tree))) (sym len) sound in

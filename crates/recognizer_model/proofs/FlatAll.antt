@@ -1,6 +1,7 @@
 -- A flat grammar's list of all derivations, as what they stand for, is the written grammar's.
 use Rattle.std.proofs.Common.{◌≡◌, ℕ, List, map, Option, Some, None, refl, sym, ◌∙◌, subst}
 use Rattle.std.specs.Ordering.{ordering_then, nat_cmp, int_cmp, bool_cmp}
+use Rattle.finite_sets.proofs.Members.{among_from, contains_from, among_map, among_map_from, Among}
 use Rattle.grammar_model.specs.Grammar.{Grammar, Slot, WrittenRule, Plain, Sequence, slot_of, rule_at, has_trailing, is_item, ends_with_separator}
 use Rattle.grammar_model.specs.Trees.{Tree}
 use Rattle.grammar_model.specs.Derives.{Edges, Derives}
@@ -9,7 +10,7 @@ use Rattle.grammar_model.specs.Order.{IsRuleOrder, RuleOrder, rank_by, rank_orde
 use Rattle.grammar_model.specs.All.{IsAll}
 use Rattle.recognizer_model.proofs.Forms.{FlatNames, IsFlatOf, KeepsOrder, HasFlatRules, StandsFor, tree_of}
 use Rattle.grammar_model.proofs.Compose.{GoForward}
-use Rattle.grammar_model.proofs.Lists.{Among, among_from, contains_from, among_map, among_map_from, sorted_map}
+use Rattle.grammar_model.proofs.Lists.{sorted_map}
 use Rattle.recognizer_model.proofs.FlatSound.{Alike, tree_sound}
 use Rattle.recognizer_model.proofs.FlatOrder.{tree_same}
 use Rattle.recognizer_model.proofs.FlatWhole.{tree_whole}

@@ -3,6 +3,7 @@ use Rattle.std.proofs.Common.{◌≡◌, ℕ, ◌<◌, ℤ, ◌≤ℤ◌, List, 
 use Rattle.std.specs.Prelude.{◌↔◌, slice_get, Contains}
 use Rattle.std.specs.List.Sorted.{IsStrictlySortedBy}
 use Rattle.std.proofs.lemmas.Int.{ints}
+use Rattle.finite_sets.proofs.Members.{among_from, contains_from, among_map, among_map_from, Among}
 use Rattle.grammar_model.specs.Grammar.{Grammar, slot_of, rule_at, rank_of}
 use Rattle.grammar_model.specs.Grammar
 use Rattle.grammar_model.specs.Trees.{Tree, Children, Leaf, Nulled, Node}
@@ -15,7 +16,7 @@ use Rattle.grammar_model.specs.All.{IsAll}
 use Rattle.grammar_model.specs.Chosen.{IsBest, AreBest, IsChosen, AreChosen}
 use Rattle.grammar_model.specs.Checked.{IsChecked}
 use Rattle.grammar_model.proofs.Compose.{GoForward}
-use Rattle.grammar_model.proofs.Lists.{Among, among_from, contains_from, among_map, among_map_from, sorted_map}
+use Rattle.grammar_model.proofs.Lists.{sorted_map}
 use Rattle.recognizer_model.specs.Flat.{FlatGrammar, IsRule, lhs_of, rhs_of}
 use Rattle.recognizer_model.specs.declared.flat.FlatSymbol.TheVariants.{Top}
 use Rattle.recognizer_model.specs.FlatDerives.{Spans, Rule}

@@ -1,18 +1,19 @@
 -- The derivations of a flat grammar stand for those of its checked written grammar, one to one and in order, tops included.
-use Rattle.std.proofs.Common.{◌≡◌, ◌≢◌, ℕ, zero, suc, ◌<◌, ◌≤◌, ◌+◌, Bool, true, false, cond, List, [], ◌∷◌, map, length, ◌⊎◌, inl, inr, Option, Some, None, refl, sym, ap, ◌∙◌, subst, arith, lit<, lit≤}
+use Rattle.std.proofs.Common.{◌≡◌, ℕ, ◌<◌, ◌≤◌, Bool, false, cond, [], ◌∷◌, length, ◌⊎◌, inl, inr, Some, refl, sym, ap, ◌∙◌, subst, arith, lit≤}
 use Rattle.std.specs.Prelude.{slice_get, slice_index, slice_index_or}
-use Rattle.std.specs.declared.cmp.Ordering.{Ordering}
-use Rattle.std.specs.declared.cmp.Ordering.TheVariants.{Less, Equal, Greater}
+use Rattle.std.specs.declared.cmp.Ordering.TheVariants.{Equal}
 use Rattle.std.specs.Ordering.{ordering_then, nat_cmp}
 use Rattle.std.specs.Cmp.{nat_cmp_total, tied_itself}
-use Rattle.std.proofs.lemmas.Bool.{true≢false, cond-false}
-use Rattle.grammar_model.specs.Grammar.{WrittenRule, Grammar, rule_at, slot_of, child_slot, Fits, IsChildCount}
+use Rattle.std.proofs.lemmas.Bool.{cond-false}
+use Rattle.std.proofs.lemmas.Option.{slice_get-get_or}
+use Rattle.finite_sets.proofs.Lists.{get_index}
+use Rattle.grammar_model.specs.Grammar.{Grammar, rule_at, slot_of, child_slot, Fits, IsChildCount}
 use Rattle.grammar_model.specs.Grammar
-use Rattle.grammar_model.specs.Trees.{Tree, Children, Leaf, Nulled, Node, NoChild, Child, child_count, from_of}
+use Rattle.grammar_model.specs.Trees.{Tree, Children, Leaf, Nulled, Node, NoChild, Child, child_count}
 use Rattle.grammar_model.specs.Analysis
-use Rattle.grammar_model.specs.Derives.{Edges, Derives, DerivesFront}
+use Rattle.grammar_model.specs.Derives.{Edges, Derives, DerivesPrefix}
 use Rattle.grammar_model.specs.declared.Ranking.{Ranking}
-use Rattle.grammar_model.specs.Order.{RuleOrder, rank_order, tree_cmp, children_cmp, null_place, start_cmp}
+use Rattle.grammar_model.specs.Order.{rank_order, tree_cmp, children_cmp, null_place, start_cmp}
 use Rattle.grammar_model.specs.Checked.{IsChecked}
 use Rattle.grammar_model.proofs.Sorting.{ranks_order, trees_total}
 use Rattle.grammar_model.proofs.Total.{same_tree, from_is}
@@ -22,18 +23,17 @@ use Rattle.recognizer_model.specs.declared.flat.FlatSymbol.{FlatSymbol}
 use Rattle.recognizer_model.specs.declared.flat.FlatSymbol.TheVariants.{Terminal, Slot, Sequence, Top}
 use Rattle.recognizer_model.specs.declared.flat.FlatSource.{FlatSource}
 use Rattle.recognizer_model.specs.declared.flat.FlatSource.TheVariants.{Written, Top as OfStart}
-use Rattle.recognizer_model.specs.View.{plain_rule, grammar_view}
 use Rattle.recognizer_model.specs.Invariant.{IsFlat, IsTopOf, HasSource}
 use Rattle.recognizer_model.specs.FlatForm
 use Rattle.recognizer_model.specs.FlatForm.{Stands, NamedRule, IsRuleOf, OfPlain, OfList, OfTrailing, OfItem, OfItems, OfSeparated, OfTop, IsFlatOf, SpansNothing, IsFlatForm, symbol_at, named, source_number, is_list, is_list_node, node_by, join, tree_of, children_of, inside, written_symbol, flat_order, FlatEdges}
 use Rattle.recognizer_model.proofs.Forms
-use Rattle.recognizer_model.proofs.Forms.{FlatTerminal, FlatSlot, FlatList, FlatNames, IsInner, IsPart}
+use Rattle.recognizer_model.proofs.Forms.{FlatNames, IsInner, IsPart}
 use Rattle.recognizer_model.proofs.FlatSound
 use Rattle.recognizer_model.proofs.FlatOrder
 use Rattle.recognizer_model.proofs.FlatWhole
 use Rattle.recognizer_model.proofs.FlatAll
-use Rattle.recognizer_model.proofs.FlatNamed.{form, get_index, index_get, stands_for, stand_one}
-use Rattle.recognizer_model.proofs.FlatJoin.{view, names, told, at_symbol, form_slot, form_terminal, flat_at, is_rule, left_is, source_is, right_is, length_is, part_is, real, lhs_is, rhs_is, view_part, view_leaf, view_nulled, reads, has}
+use Rattle.recognizer_model.proofs.FlatNamed.{form}
+use Rattle.recognizer_model.proofs.FlatJoin.{view, names, told, at_symbol, form_slot, form_terminal, flat_at, is_rule, left_is, source_is, length_is, part_is, real, lhs_is, rhs_is, view_part, view_leaf, view_nulled, reads, has}
 use Rattle.recognizer_model.proofs.FlatKeeps.{flat_order_laws, keeps}
 use Rattle.recognizer_model.proofs.Views.{in_view, nullable_viewed, marked_back, rule_viewed}
 
@@ -129,15 +129,15 @@ module _ (f : FlatGrammar) (w : Grammar) (flat : IsFlat f) (made : IsFlatOf f w)
         let rule = is_real r d.in_range hp.2 in
         let left = inner_left x r hp.1 inner in
         ap (λ o. node_by o (children_of w f cs) a b) (written_source r rule left)
-        ∙ ap (λ c. Node (n.source r) c a b) (agree_front cs r p q rule left (omega (arith, hp.0)) d.front)
+        ∙ ap (λ c. Node (n.source r) c a b) (agree_prefix cs r p q rule left (omega (arith, hp.0)) d.prefix)
 
-    agree_front : (cs : Children) (r p q : ℕ) → IsRule f r → IsInner (n.symbol (n.lhs r)) → child_count cs ≤ length (n.rhs r) → DerivesFront F E (rule_at F r) p q cs → children_of w f cs ≡ Forms.children_of n cs
-    agree_front NoChild r p q rule inner le d = refl
-    agree_front (Child front last) r p q rule inner le (m, fr, l) =
-        let l' = last_at r (child_count front) m q last rule l in
-        let y : ℕ = slice_index (n.rhs r) (child_count front) in
-        let part = part_inner w (symbol_at f y) (n.source r) (child_count front) (view_part f w flat made checked r (child_count front) (in_view f r rule) (omega arith) inner) in
-        let A = agree_front front r p m rule inner (omega arith) fr in
+    agree_prefix : (cs : Children) (r p q : ℕ) → IsRule f r → IsInner (n.symbol (n.lhs r)) → child_count cs ≤ length (n.rhs r) → DerivesPrefix F E (rule_at F r) p q cs → children_of w f cs ≡ Forms.children_of n cs
+    agree_prefix NoChild r p q rule inner le d = refl
+    agree_prefix (Child prefix last) r p q rule inner le (m, fr, l) =
+        let l' = last_at r (child_count prefix) m q last rule l in
+        let y : ℕ = slice_index (n.rhs r) (child_count prefix) in
+        let part = part_inner w (symbol_at f y) (n.source r) (child_count prefix) (view_part f w flat made checked r (child_count prefix) (in_view f r rule) (omega arith) inner) in
+        let A = agree_prefix prefix r p m rule inner (omega arith) fr in
         let T = agree_tree last y m q part l' in
         let I = agree_inside last y m q part l' in
         let b = same_test y m q last l' in
@@ -148,7 +148,7 @@ module _ (f : FlatGrammar) (w : Grammar) (flat : IsFlat f) (made : IsFlatOf f w)
     agree_inside (Nulled y a) x p q inner d = refl
     agree_inside (Node r cs a b) x p q inner d =
         let hp = has_parts x p q r cs a b d in
-        agree_front cs r p q (is_real r d.in_range hp.2) (inner_left x r hp.1 inner) (omega (arith, hp.0)) d.front
+        agree_prefix cs r p q (is_real r d.in_range hp.2) (inner_left x r hp.1 inner) (omega (arith, hp.0)) d.prefix
 
   -- ---- symbols that are no tops
 
@@ -204,9 +204,9 @@ module _ (f : FlatGrammar) (w : Grammar) (flat : IsFlat f) (made : IsFlatOf f w)
       let same : l ≡ k = cc in
       record { start = start; symbol = s; source = ap OfStart same; right = refl; at = subst (λ z. slice_get w.starts z ≡ Some start) same at; stands = st }
 
-  only_child : (r p q : ℕ) (cs : Children) → child_count cs ≡ 1 → DerivesFront F E (rule_at F r) p q cs → (u : Tree) × (cs ≡ Child NoChild u) × Derives F E (child_slot (rule_at F r) 0) p q u
+  only_child : (r p q : ℕ) (cs : Children) → child_count cs ≡ 1 → DerivesPrefix F E (rule_at F r) p q cs → (u : Tree) × (cs ≡ Child NoChild u) × Derives F E (child_slot (rule_at F r) 0) p q u
   only_child r p q NoChild c d = absurd (omega arith)
-  only_child r p q (Child (Child front v) u) c d = absurd (omega arith)
+  only_child r p q (Child (Child prefix v) u) c d = absurd (omega arith)
   only_child r p q (Child NoChild u) c (m, e, d) = (u, refl, subst (λ z. Derives F E (child_slot (rule_at F r) 0) z q u) (sym e) d)
 
   -- the one part of a top's rule
@@ -247,7 +247,7 @@ module _ (f : FlatGrammar) (w : Grammar) (flat : IsFlat f) (made : IsFlatOf f w)
       let hp = has_parts x p q r cs a b d in
       let rule = is_real r d.in_range hp.2 in
       let t = top_rule k r rule (ap (symbol_at f) (sym (lhs_is f w flat made checked r rule) ∙ hp.1) ∙ is) in
-      let (u, e, l) = only_child r p q cs (hp.0 ∙ t.one) d.front in (
+      let (u, e, l) = only_child r p q cs (hp.0 ∙ t.one) d.prefix in (
         rule,
         hp.1,
         record {
@@ -278,7 +278,7 @@ module _ (f : FlatGrammar) (w : Grammar) (flat : IsFlat f) (made : IsFlatOf f w)
       ∙ ap (λ c. node_by (OfStart k) c a b) (cond-false _ (join NoChild (inside w f t.child)) (Child NoChild (tree_of w f t.child)) other)
 
   pub top_told : (x k : ℕ) → x < length f.symbols → symbol_at f x ≡ Top k → slice_get f.symbols x ≡ Some (Top k)
-  top_told x k lt is = index_get f.symbols x (Top 0) lt ∙ ap Some is
+  top_told x k lt is = slice_get-get_or f.symbols x (Top 0) lt ∙ ap Some is
 
   pub no_top_leaf : (x k p q y a b : ℕ) → symbol_at f x ≡ Top k → Derives F E (slot_of x) p q (Leaf y a b) → ⊥
   no_top_leaf x k p q y a b is d =
@@ -308,7 +308,7 @@ module _ (f : FlatGrammar) (w : Grammar) (flat : IsFlat f) (made : IsFlatOf f w)
   pub only_top : (k r r' : ℕ) → IsRule f r → IsRule f r' → symbol_at f (lhs_of f r) ≡ Top k → symbol_at f (lhs_of f r') ≡ Top k → lhs_of f r' ≡ lhs_of f r → r' ≡ r
   only_top k r r' rule rule' s s' same =
       let in_tops = flat.all_tops (lhs_of f r) k (top_told (lhs_of f r) k (flat.in_range.left r rule) s) in
-      let at = index_get f.tops k 0 in_tops in
+      let at = slice_get-get_or f.tops k 0 in_tops in
       let top = flat.tops k (slice_index_or f.tops k 0) at in
       let there : lhs_of f r ≡ lhs_of f (slice_index_or f.tops k 0) = flat.differ (lhs_of f r) (lhs_of f (slice_index_or f.tops k 0)) (Top k) (top_told (lhs_of f r) k (flat.in_range.left r rule) s) top.symbol in
       top.is_top.alone r' rule' (same ∙ there) ∙ sym (top.is_top.alone r rule there)
@@ -363,7 +363,7 @@ module _ (f : FlatGrammar) (w : Grammar) (flat : IsFlat f) (made : IsFlatOf f w)
       r = slice_index_or f.tops k 0
 
       top : IsTopOf f k r
-      top = flat.tops k r (index_get f.tops k 0 k_in)
+      top = flat.tops k r (slice_get-get_or f.tops k 0 k_in)
 
       left : lhs_of f r ≡ x
       left = flat.differ (lhs_of f r) x (Top k) top.symbol (top_told x k lt is)
@@ -389,7 +389,7 @@ module _ (f : FlatGrammar) (w : Grammar) (flat : IsFlat f) (made : IsFlatOf f w)
             in_range = in_view f r rule;
             fits = subst (λ z. Fits z (slot_of x)) (sym viewed) (left, lit≤ tt);
             complete = subst (λ z. IsChildCount z 1) (sym viewed) (sym one);
-            front = (p, refl, subst (λ z. Derives F E z p q v) (sym here) dv);
+            prefix = (p, refl, subst (λ z. Derives F E z p q v) (sym here) dv);
           } in
           let (rule', left', t') = top_node x k p q r (Child NoChild v) p q is node in
           let same_child : Child NoChild v ≡ Child NoChild t'.child = t'.is_child in

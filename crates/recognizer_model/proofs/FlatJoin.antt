@@ -1,40 +1,32 @@
 -- The flat grammar of a checked grammar is its flat form.
-use Rattle.std.proofs.Common.{◌≡◌, ◌≢◌, ℕ, zero, suc, ◌<◌, ◌≤◌, ◌+◌, Bool, true, false, cond, List, [], ◌∷◌, map, length, ◌⊎◌, inl, inr, ⊎_elim, Option, Some, None, refl, sym, ap, ◌∙◌, subst, arith, lit<, lit≤}
-use Rattle.std.specs.Prelude.{slice_get, slice_index, slice_index_or, IsFalse, Contains}
-use Rattle.std.specs.declared.cmp.Ordering.{Ordering}
-use Rattle.std.specs.declared.cmp.Ordering.TheVariants.{Less, Equal, Greater}
-use Rattle.std.specs.Ordering.{ordering_then, ordering_reverse, nat_cmp}
-use Rattle.std.specs.Cmp.{IsTotalOrder, nat_cmp_total, then_total, on_total, back_total, tied_itself}
-use Rattle.std.proofs.lemmas.Bool.{true≢false, cases_lt, cond-true, cond-false}
-use Rattle.grammar_model.specs.Grammar.{PlainRule, SequenceRule, WrittenRule, Plain, Grammar, rule_at, slot_of, Fits, child_slot, slot_count, has_trailing, ends_with_separator, is_even, is_item, sequence_symbol, IsTerminal, EachChildSlot}
+use Rattle.std.proofs.Common.{◌≡◌, ◌≢◌, ℕ, suc, ◌<◌, Bool, true, false, cond, List, [], ◌∷◌, map, length, ◌⊎◌, inl, inr, Option, Some, None, refl, sym, ap, ◌∙◌, subst, arith}
+use Rattle.std.specs.Prelude.{slice_get, slice_index, slice_index_or, IsFalse}
+use Rattle.std.proofs.lemmas.Bool.{true≢false}
+use Rattle.std.proofs.lemmas.List.{length-map}
+use Rattle.std.proofs.lemmas.Option.{slice_get-get_or}
+use Rattle.finite_sets.proofs.Lists.{get_index}
+use Rattle.finite_sets.proofs.Members.{among_from, contains_from, among_map, among_map_from, among_at, Among}
+use Rattle.grammar_model.specs.Grammar.{PlainRule, SequenceRule, WrittenRule, Plain, Grammar, rule_at, slot_of, Fits, child_slot, slot_count, has_trailing, ends_with_separator, is_even, sequence_symbol, IsTerminal, EachChildSlot}
 use Rattle.grammar_model.specs.Grammar
-use Rattle.grammar_model.specs.Trees.{Tree, Children, Leaf, Nulled, Node, NoChild, Child, child_count}
 use Rattle.grammar_model.specs.Analysis.{IsProductive, IsLive}
 use Rattle.grammar_model.specs.Analysis
-use Rattle.grammar_model.specs.Derives.{Edges, Derives, DerivesFront}
-use Rattle.grammar_model.specs.declared.Ranking.{Ranking}
-use Rattle.grammar_model.specs.Order.{RuleOrder, IsRuleOrder, rule_cmp, rank_order, tree_cmp}
+use Rattle.grammar_model.specs.Derives.{Edges}
 use Rattle.grammar_model.specs.Checked.{IsChecked}
-use Rattle.grammar_model.proofs.Sorting.{nat_cmp-Equal, rule_cmp-Equal, rules_total, Made}
-use Rattle.grammar_model.proofs.Chains.{both_Equal}
-use Rattle.grammar_model.proofs.Lists.{Among, among_from, contains_from, among_map, among_map_from}
 use Rattle.grammar_model.proofs.Productive.{item_first}
-use Rattle.grammar_model.proofs.Simple.{nat_cmp-less}
 use Rattle.recognizer_model.specs.Flat.{FlatGrammar, FlatRule, no_rule, IsRule, lhs_of, rhs_of, source_of, IsNullable}
 use Rattle.recognizer_model.specs.declared.flat.FlatSymbol.{FlatSymbol}
 use Rattle.recognizer_model.specs.declared.flat.FlatSymbol.TheVariants.{Terminal, Slot, Sequence, Top}
-use Rattle.recognizer_model.specs.declared.flat.FlatSource.{FlatSource}
-use Rattle.recognizer_model.specs.declared.flat.FlatSource.TheVariants.{Written, Top as OfStart}
+use Rattle.recognizer_model.specs.declared.flat.FlatSource.TheVariants.{Written}
 use Rattle.recognizer_model.specs.View.{plain_rule, grammar_view}
 use Rattle.recognizer_model.specs.Acceptable
 use Rattle.recognizer_model.specs.Acceptable.{OnlyTerminals}
 use Rattle.recognizer_model.specs.Invariant.{IsFlat}
 use Rattle.recognizer_model.specs.FlatForm
-use Rattle.recognizer_model.specs.FlatForm.{IsSymbolOf, Stands, StandAll, NamedRule, IsRuleOf, OfPlain, OfList, OfTrailing, OfItem, OfItems, OfSeparated, IsFlatOf, SpansNothing, symbol_at, named, source_number, list_length, is_list, flat_order, FlatEdges}
+use Rattle.recognizer_model.specs.FlatForm.{IsSymbolOf, NamedRule, IsRuleOf, OfPlain, OfList, OfTrailing, OfItem, OfItems, OfSeparated, IsFlatOf, SpansNothing, symbol_at, named, source_number, FlatEdges}
 use Rattle.recognizer_model.proofs.Forms
-use Rattle.recognizer_model.proofs.Forms.{FlatTerminal, FlatSlot, FlatList, FlatTop, FlatNames, IsInner, IsHead, IsPart, IsLong, StandsFor, IsSequence, EndsWithItem, KeepsOrder, HasFlatRules, HasRule, HasListRule}
+use Rattle.recognizer_model.proofs.Forms.{FlatTerminal, FlatSlot, FlatList, FlatNames, IsInner, IsHead, IsPart, StandsFor, IsSequence, HasFlatRules, HasRule, HasListRule}
 use Rattle.recognizer_model.proofs.Views.{IsKindOf, kind_of, rule_viewed, in_view, nullable_viewed, marked_back, terminal_viewed}
-use Rattle.recognizer_model.proofs.FlatNamed.{form, index_any, get_or, get_index, index_get, among_at, at_among, map_at, map_length, one_place, stand_some, stand_one, all_some, stands_for, head_of, part_of, SlotRight, slot_right, one_right, ListRight, ByItem, ByItems, BySeparated, list_right, one_list}
+use Rattle.recognizer_model.proofs.FlatNamed.{form, get_or, at_among, map_at, one_place, stand_some, all_some, stands_for, head_of, part_of}
 
 abbrev pub parts : WrittenRule → List ℕ
 parts (Plain p) = p.rhs
@@ -66,7 +58,7 @@ module _ (f : FlatGrammar) (w : Grammar) (flat : IsFlat f) (made : IsFlatOf f w)
   pub has_symbol : (s : FlatSymbol) → IsSymbolOf w s → (x : ℕ) × (slice_get f.symbols x ≡ Some s)
   has_symbol s h =
       let (x, lt, e) = at_among f.symbols s (Top 0) (among_from f.symbols s ((made.symbols.exact s).1 h)) in
-      (x, index_get f.symbols x (Top 0) lt ∙ ap Some e)
+      (x, slice_get-get_or f.symbols x (Top 0) lt ∙ ap Some e)
 
   pub at_symbol : (x : ℕ) (s : FlatSymbol) → slice_get f.symbols x ≡ Some s → symbol_at f x ≡ s
   at_symbol x s e = (get_index f.symbols x (Top 0) s e).1
@@ -120,7 +112,7 @@ module _ (f : FlatGrammar) (w : Grammar) (flat : IsFlat f) (made : IsFlatOf f w)
   pub same_place : (r s : ℕ) → IsRule f r → IsRule f s → named f (flat_at r) ≡ named f (flat_at s) → r ≡ s
   unfolding flat_at
   same_place r s lr ls e =
-      let len : length (map (named f) f.rules) ≡ length f.rules = map_length (named f) f.rules in
+      let len : length (map (named f) f.rules) ≡ length f.rules = length-map f.rules (named f) in
       let d : NamedRule = named f no_rule in
       one_place (map (named f) f.rules) made.rules.once r s d (omega arith) (omega arith)
       (map_at (named f) f.rules r no_rule d lr ∙ e ∙ sym (map_at (named f) f.rules s no_rule d ls))
@@ -138,7 +130,7 @@ module _ (f : FlatGrammar) (w : Grammar) (flat : IsFlat f) (made : IsFlatOf f w)
   right_is r = refl
 
   pub length_is : (r : ℕ) → length (named f (flat_at r)).right ≡ length (rhs_of f r)
-  length_is r = ap length (right_is r) ∙ map_length (symbol_at f) (rhs_of f r)
+  length_is r = ap length (right_is r) ∙ length-map (rhs_of f r) (symbol_at f)
 
   pub part_is : (r k : ℕ) → k < length (rhs_of f r) → slice_index_or (named f (flat_at r)).right k (Top 0) ≡ symbol_at f (slice_index (rhs_of f r) k)
   part_is r k lt = ap (λ z. slice_index_or z k (Top 0)) (right_is r) ∙ map_at (symbol_at f) (rhs_of f r) k 0 (Top 0) lt

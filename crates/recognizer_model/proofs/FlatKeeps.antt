@@ -1,31 +1,29 @@
 -- The order of flat rules is that of what they come from.
-use Rattle.std.proofs.Common.{◌≡◌, ◌≢◌, ℕ, zero, suc, ◌<◌, ◌≤◌, ◌+◌, Bool, true, false, cond, List, [], ◌∷◌, map, length, ◌⊎◌, inl, inr, Option, Some, None, refl, sym, ap, ◌∙◌, subst, arith}
-use Rattle.std.specs.Prelude.{slice_get, slice_index, slice_index_or}
+use Rattle.std.proofs.Common.{◌≡◌, ℕ, suc, ◌<◌, ◌≤◌, Bool, true, false, cond, length, ◌⊎◌, inl, inr, Some, None, refl, sym, ap, ◌∙◌, subst, arith}
+use Rattle.std.specs.Prelude.{slice_index, slice_index_or}
 use Rattle.std.specs.declared.cmp.Ordering.{Ordering}
 use Rattle.std.specs.declared.cmp.Ordering.TheVariants.{Less, Equal, Greater}
 use Rattle.std.specs.Ordering.{ordering_then, ordering_reverse, nat_cmp, bool_cmp}
-use Rattle.std.specs.Cmp.{IsTotalOrder, nat_cmp_total, then_total, on_total, back_total, tied_itself}
-use Rattle.std.proofs.lemmas.Bool.{true≢false}
-use Rattle.grammar_model.specs.Grammar.{SequenceRule, WrittenRule, Grammar, rule_at, slot_of, child_slot, has_trailing}
+use Rattle.std.specs.Cmp.{nat_cmp_total, then_total, on_total, back_total, tied_itself}
+use Rattle.finite_sets.proofs.Clauses.{nat_cmp-Equal, then_equal, nat_cmp-less}
+use Rattle.grammar_model.specs.Grammar.{SequenceRule, Grammar, rule_at, slot_of, child_slot, has_trailing}
 use Rattle.grammar_model.specs.Grammar
 use Rattle.grammar_model.specs.Analysis
 use Rattle.grammar_model.specs.Derives.{Edges}
 use Rattle.grammar_model.specs.declared.Ranking.{Ranking}
 use Rattle.grammar_model.specs.Order.{IsRuleOrder, rule_cmp, rank_order}
 use Rattle.grammar_model.specs.Checked.{IsChecked}
-use Rattle.grammar_model.proofs.Sorting.{nat_cmp-Equal, rules_total, Made}
-use Rattle.grammar_model.proofs.Chains.{both_Equal}
-use Rattle.grammar_model.proofs.Simple.{nat_cmp-less}
+use Rattle.grammar_model.proofs.Sorting.{rules_total, Made}
 use Rattle.grammar_model.proofs.Productive.{item_first}
 use Rattle.recognizer_model.specs.Flat.{FlatGrammar, IsRule, lhs_of, rhs_of, source_of}
 use Rattle.recognizer_model.specs.declared.flat.FlatSymbol.{FlatSymbol}
-use Rattle.recognizer_model.specs.declared.flat.FlatSymbol.TheVariants.{Terminal, Slot, Sequence, Top}
+use Rattle.recognizer_model.specs.declared.flat.FlatSymbol.TheVariants.{Slot, Sequence, Top}
 use Rattle.recognizer_model.specs.declared.flat.FlatSource.TheVariants.{Written}
 use Rattle.recognizer_model.specs.Invariant.{IsFlat}
-use Rattle.recognizer_model.specs.FlatForm.{Stands, AsTerminal, AsSlot, NamedRule, IsFlatOf, symbol_at, named, source_number, list_length, is_list, flat_order, FlatEdges}
-use Rattle.recognizer_model.proofs.Forms.{FlatTerminal, FlatSlot, FlatList, FlatTop, IsInner, IsLong, StandsFor, KeepsOrder}
+use Rattle.recognizer_model.specs.FlatForm.{Stands, AsTerminal, AsSlot, NamedRule, IsFlatOf, symbol_at, named, source_number, list_length, is_list, flat_order}
+use Rattle.recognizer_model.proofs.Forms.{FlatTerminal, FlatSlot, FlatList, IsInner, IsLong, StandsFor, KeepsOrder}
 use Rattle.recognizer_model.proofs.FlatNamed.{form, SlotRight, slot_right, one_right, ListRight, ByItem, ByItems, BySeparated, list_right, one_list, stands_for}
-use Rattle.recognizer_model.proofs.FlatJoin.{view, names, told, form_slot, form_list, flat_at, is_rule, same_place, left_is, source_is, right_is, length_is, part_is, real, lhs_is, rhs_is, slot_told, list_told, view_nulled, sequence_in_range}
+use Rattle.recognizer_model.proofs.FlatJoin.{view, names, form_slot, form_list, flat_at, is_rule, same_place, left_is, source_is, length_is, part_is, real, lhs_is, rhs_is, view_nulled, sequence_in_range}
 
 then_tie : (a b : Ordering) → (a ≡ Equal → b ≡ Equal) → ordering_then a b ≡ a
 then_tie Less b h = refl
@@ -48,9 +46,9 @@ pub flat_order_laws : (w : Grammar) (ranking : Ranking) (f : FlatGrammar) → Is
 flat_order_laws w ranking f = record {
   total = then_total (on_total (λ (x : Made). lhs_of f x.0) nat_cmp_total) (then_total (on_total (λ (x : Made). list_length f x.0) (back_total nat_cmp_total))
       (then_total (on_total (λ (x : Made). (source_number w (source_of f x.0), x.1)) (rules_total w ranking)) (on_total (λ (x : Made). x.0) nat_cmp_total)));
-  same_rule = λ i m j n e. nat_cmp-Equal i j (both_Equal (rule_cmp w ranking (source_number w (source_of f i)) m (source_number w (source_of f j)) n) (nat_cmp i j)
-      (both_Equal (nat_cmp (list_length f j) (list_length f i)) (ordering_then (rule_cmp w ranking (source_number w (source_of f i)) m (source_number w (source_of f j)) n) (nat_cmp i j))
-      (both_Equal (nat_cmp (lhs_of f i) (lhs_of f j)) (ordering_then (nat_cmp (list_length f j) (list_length f i)) (ordering_then (rule_cmp w ranking (source_number w (source_of f i)) m (source_number w (source_of f j)) n) (nat_cmp i j))) e).1).1).1;
+  same_rule = λ i m j n e. nat_cmp-Equal i j (then_equal (rule_cmp w ranking (source_number w (source_of f i)) m (source_number w (source_of f j)) n) (nat_cmp i j)
+      (then_equal (nat_cmp (list_length f j) (list_length f i)) (ordering_then (rule_cmp w ranking (source_number w (source_of f i)) m (source_number w (source_of f j)) n) (nat_cmp i j))
+      (then_equal (nat_cmp (lhs_of f i) (lhs_of f j)) (ordering_then (nat_cmp (list_length f j) (list_length f i)) (ordering_then (rule_cmp w ranking (source_number w (source_of f i)) m (source_number w (source_of f j)) n) (nat_cmp i j))) e).1).1).1;
 }
 
 module _ (f : FlatGrammar) (w : Grammar) (flat : IsFlat f) (made : IsFlatOf f w) (checked : IsChecked w) (edge : Edges) (ranking : Ranking) where
@@ -93,7 +91,7 @@ module _ (f : FlatGrammar) (w : Grammar) (flat : IsFlat f) (made : IsFlatOf f w)
       let (j, lt', src', right') = slot_right w (name_at r') (is_rule f w flat made checked r' rule') s k (left_is f w flat made checked r' ∙ ap (symbol_at f) (sym l) ∙ is) in
       let si = sym (source_is f w flat made checked r) ∙ src in
       let sj = sym (source_is f w flat made checked r') ∙ src' in
-      let parts = both_Equal _ _ (both_Equal _ _ e).1 in
+      let parts = then_equal _ _ (then_equal _ _ e).1 in
       let ij : i ≡ j = sym (ap (source_number w) si) ∙ nat_cmp-Equal _ _ parts.0 ∙ ap (source_number w) sj in
       let trailing = bool_cmp-Equal _ _ parts.1 in
       let trailing' : has_trailing (rule_at w i) (length (name_at r).right) ≡ has_trailing (rule_at w i) (length (name_at r').right) =

@@ -1,37 +1,37 @@
 -- A flat grammar's derivations have a list, and so have those of its written grammar.
-use Rattle.std.proofs.Common.{◌≡◌, ◌≢◌, ℕ, zero, suc, ◌<◌, ◌≤◌, ◌+◌, Bool, true, false, cond, List, [], ◌∷◌, map, length, ◌⊎◌, inl, inr, ⊎_elim, Option, Some, None, refl, sym, ap, ◌∙◌, subst, arith, lit≤}
-use Rattle.std.specs.Prelude.{◌==◌, ◌&&◌, ◌||◌, ◌↔◌, nat_lt, slice_get, slice_index, slice_index_or, IsTrue, Contains}
+use Rattle.std.proofs.Common.{◌≡◌, ◌≢◌, ℕ, zero, suc, ◌<◌, ◌≤◌, ◌+◌, Bool, true, false, cond, List, [], ◌∷◌, map, length, ◌⊎◌, inl, inr, ⊎_elim, Some, refl, sym, ap, ◌∙◌, subst, arith}
+use Rattle.std.specs.Prelude.{◌==◌, ◌&&◌, ◌||◌, ◌↔◌, nat_lt, slice_get, slice_index, slice_index_or}
 use Rattle.std.specs.List.{list_any}
 use Rattle.std.specs.List.Sorted.{IsStrictlySortedBy}
 use Rattle.std.specs.declared.cmp.Ordering.{Ordering}
 use Rattle.std.specs.declared.cmp.Ordering.TheVariants.{Less, Equal, Greater}
 use Rattle.std.specs.Ordering.{ordering_reverse}
-use Rattle.std.specs.Cmp.{IsTotalOrder}
-use Rattle.std.proofs.lemmas.Bool.{true≢false, cases_Bool, cases_lt, cases_eq, cond_both, cond-true, cond-false, eqb-true, eq-eqb, lt-ltb, and_parts, and_from, or_cases, ltb-true}
+use Rattle.std.proofs.lemmas.Bool.{true≢false, cases_eq, cond_both, cond-true, eqb-true, eq-eqb, lt-ltb, and_parts, and_from, or_cases, ltb-true}
 use Rattle.std.proofs.Math.Bool.{or-true}
-use Rattle.grammar_model.specs.Grammar.{WrittenRule, Plain, Grammar, Slot, slot_of, rule_at, Fits, child_slot, slot_count, IsPlain}
+use Rattle.finite_sets.proofs.Lists.{get_index}
+use Rattle.finite_sets.proofs.Members.{among_from, contains_from, among_map, among_map_from, Among}
+use Rattle.grammar_model.specs.Grammar.{Grammar, Slot, slot_of, rule_at, Fits, child_slot, slot_count, IsPlain}
 use Rattle.grammar_model.specs.Grammar
 use Rattle.grammar_model.specs.Trees.{Tree}
 use Rattle.grammar_model.specs.Analysis
-use Rattle.grammar_model.specs.Derives.{Edges, Held, Derives}
+use Rattle.grammar_model.specs.Derives.{Held, Derives}
 use Rattle.grammar_model.specs.declared.Edge.{Edge}
 use Rattle.grammar_model.specs.declared.Ranking.{Ranking}
-use Rattle.grammar_model.specs.Order.{RuleOrder, IsRuleOrder, rank_order, tree_cmp}
+use Rattle.grammar_model.specs.Order.{RuleOrder, rank_order, tree_cmp}
 use Rattle.grammar_model.specs.All.{IsAll}
-use Rattle.grammar_model.specs.Checked.{IsChecked}
 use Rattle.grammar_model.specs.Simple.{Tested, is_terminal, fits}
 use Rattle.grammar_model.proofs.Simple.{terminal_from, is_terminal_from, fits_from, from_fits}
-use Rattle.grammar_model.proofs.Lists.{Among, among_from, contains_from, each_from, each_at, among_map, among_map_from, sorted_map}
+use Rattle.grammar_model.proofs.Lists.{each_from, each_at, sorted_map}
 use Rattle.grammar_model.proofs.Lister.{a_list}
 use Rattle.grammar_model.proofs.Characters.{all_so}
-use Rattle.recognizer_model.specs.Flat.{FlatGrammar, IsRule, lhs_of, rhs_of, part_of, IsNullable}
+use Rattle.recognizer_model.specs.Flat.{FlatGrammar, lhs_of, rhs_of, part_of, IsNullable}
 use Rattle.recognizer_model.specs.declared.flat.FlatSymbol.{FlatSymbol}
 use Rattle.recognizer_model.specs.declared.flat.FlatSymbol.TheVariants.{Terminal, Slot as AtLevel, Sequence, Top}
 use Rattle.recognizer_model.specs.View.{plain_rule, grammar_view}
 use Rattle.recognizer_model.specs.Invariant.{IsFlat, LeadsOver}
-use Rattle.recognizer_model.specs.FlatForm.{IsFlatOf, IsFlatForm, StandsFor, symbol_at, flat_order, FlatEdges, tree_of}
+use Rattle.recognizer_model.specs.FlatForm.{IsFlatForm, StandsFor, symbol_at, flat_order, FlatEdges, tree_of}
 use Rattle.recognizer_model.proofs.Views.{IsKindOf, kind_of, rule_viewed, nullable_viewed, marked_back, index_get}
-use Rattle.recognizer_model.proofs.FlatNamed.{get_or, get_index}
+use Rattle.recognizer_model.proofs.FlatNamed.{get_or}
 use Rattle.recognizer_model.proofs.FlatKeeps.{flat_order_laws}
 
 -- ---- sorting by insertion

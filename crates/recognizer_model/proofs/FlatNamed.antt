@@ -1,21 +1,18 @@
 -- The symbols and rules of a flat grammar, by what they are of the written one.
 use Rattle.std.proofs.Common.{◌≡◌, ◌≢◌, ℕ, zero, suc, ◌<◌, ◌≤◌, ◌+◌, Bool, true, false, cond, not, List, [], ◌∷◌, map, length, ◌⊎◌, inl, inr, Option, Some, None, refl, sym, ap, ◌∙◌, subst, arith, lit<, lit≤}
-use Rattle.std.specs.Prelude.{◌&&◌, ◌==◌, nat_lt, slice_get, slice_index, slice_index_or, IsFalse, Contains}
+use Rattle.std.specs.Prelude.{◌&&◌, ◌==◌, nat_lt, slice_get, slice_index, slice_index_or, IsFalse}
 use Rattle.std.specs.List.{AllPairs}
-use Rattle.std.proofs.lemmas.Bool.{true≢false, cases_Bool, cases_lt, ne_eqb, cond-false}
-use Rattle.grammar_model.specs.Grammar.{PlainRule, SequenceRule, WrittenRule, Plain, Grammar, rule_at, slot_of, Fits, child_slot, child_level, own_level, is_even, is_item, has_trailing, ends_with_separator, sequence_symbol, IsChildCount, IsTerminal, slot_count}
+use Rattle.std.proofs.lemmas.Bool.{true≢false, cases_Bool, cases_lt, ne_eqb}
+use Rattle.finite_sets.proofs.Members.{Among}
+use Rattle.grammar_model.specs.Grammar.{PlainRule, SequenceRule, WrittenRule, Plain, Grammar, rule_at, slot_of, Fits, child_slot, own_level, is_item, has_trailing, ends_with_separator, sequence_symbol, IsChildCount, IsTerminal}
 use Rattle.grammar_model.specs.Grammar
-use Rattle.grammar_model.specs.Analysis.{IsProductive, IsLive}
 use Rattle.grammar_model.specs.Simple.{is_terminal}
 use Rattle.grammar_model.proofs.Simple.{terminal_from, no_terminal_from}
-use Rattle.grammar_model.proofs.Lists.{Among, among_from, contains_from, among_map, among_map_from}
-use Rattle.grammar_model.proofs.Productive.{item_first}
-use Rattle.recognizer_model.specs.Flat.{FlatGrammar, FlatRule, no_rule, IsRule, lhs_of, rhs_of, source_of}
+use Rattle.recognizer_model.specs.Flat.{lhs_of}
 use Rattle.recognizer_model.specs.declared.flat.FlatSymbol.{FlatSymbol}
 use Rattle.recognizer_model.specs.declared.flat.FlatSymbol.TheVariants.{Terminal, Slot, Sequence, Top}
-use Rattle.recognizer_model.specs.declared.flat.FlatSource.{FlatSource}
-use Rattle.recognizer_model.specs.declared.flat.FlatSource.TheVariants.{Written, Top as OfStart}
-use Rattle.recognizer_model.specs.FlatForm.{IsUsedSlot, IsSymbolOf, Stands, AsTerminal, AsSlot, StandAll, NamedRule, IsRuleOf, OfPlain, OfList, OfTrailing, OfItem, OfItems, OfSeparated, OfTop, symbol_at, named, source_number}
+use Rattle.recognizer_model.specs.declared.flat.FlatSource.TheVariants.{Written}
+use Rattle.recognizer_model.specs.FlatForm.{Stands, AsTerminal, AsSlot, StandAll, NamedRule, IsRuleOf, OfPlain, OfList, OfTrailing, OfItem, OfItems, OfSeparated, OfTop, source_number}
 use Rattle.recognizer_model.proofs.Forms
 use Rattle.recognizer_model.proofs.Forms.{FlatTerminal, FlatSlot, FlatList, FlatTop, IsInner, IsHead, IsPart, StandsFor, IsSequence, EndsWithItem}
 
@@ -27,30 +24,10 @@ form (Top k) = FlatTop k
 
 -- ---- lists
 
-pub index_any : {A : Type 0} (xs : List A) (k : ℕ) (d e : A) → k < length xs → slice_index_or xs k d ≡ slice_index_or xs k e
-index_any [] k d e lt = absurd (omega arith)
-index_any (x ∷ xs) zero d e lt = refl
-index_any (x ∷ xs) (suc k) d e lt = index_any xs k d e (omega arith)
-
 pub get_or : {A : Type 0} (xs : List A) (k : ℕ) (d : A) → (slice_get xs k ≡ Some (slice_index_or xs k d)) ⊎ (slice_index_or xs k d ≡ d)
 get_or [] k d = inr refl
 get_or (x ∷ xs) zero d = inl refl
 get_or (x ∷ xs) (suc k) d = get_or xs k d
-
-pub get_index : {A : Type 0} (xs : List A) (k : ℕ) (d x : A) → slice_get xs k ≡ Some x → (k < length xs) × (slice_index_or xs k d ≡ x)
-get_index [] k d x e = cc
-get_index (y ∷ ys) zero d x e = (omega arith, cc)
-get_index (y ∷ ys) (suc k) d x e = let (lt, h) = get_index ys k d x e in (omega arith, h)
-
-pub index_get : {A : Type 0} (xs : List A) (k : ℕ) (d : A) → k < length xs → slice_get xs k ≡ Some (slice_index_or xs k d)
-index_get [] k d lt = absurd (omega arith)
-index_get (y ∷ ys) zero d lt = refl
-index_get (y ∷ ys) (suc k) d lt = index_get ys k d (omega arith)
-
-pub among_at : {A : Type 0} (xs : List A) (k : ℕ) (d : A) → k < length xs → Among (slice_index_or xs k d) xs
-among_at [] k d lt = absurd (omega arith)
-among_at (x ∷ xs) zero d lt = inl refl
-among_at (x ∷ xs) (suc k) d lt = inr (among_at xs k d (omega arith))
 
 pub at_among : {A : Type 0} (xs : List A) (x d : A) → Among x xs → (k : ℕ) × (k < length xs) × (slice_index_or xs k d ≡ x)
 at_among [] x d h = absurd h
@@ -61,10 +38,6 @@ pub map_at : {A B : Type 0} (g : A → B) (xs : List A) (k : ℕ) (d : A) (e : B
 map_at g [] k d e lt = absurd (omega arith)
 map_at g (x ∷ xs) zero d e lt = refl
 map_at g (x ∷ xs) (suc k) d e lt = map_at g xs k d e (omega arith)
-
-pub map_length : {A B : Type 0} (g : A → B) (xs : List A) → length (map g xs) ≡ length xs
-map_length g [] = refl
-map_length g (x ∷ xs) = ap suc (map_length g xs)
 
 -- where no two are the same, equal elements stand at one place
 pub one_place : {A : Type 0} (xs : List A) → AllPairs (λ x y. x ≢ y) xs → (i j : ℕ) (d : A) → i < length xs → j < length xs → slice_index_or xs i d ≡ slice_index_or xs j d → i ≡ j

@@ -6,20 +6,17 @@ use Rattle.std.specs.declared.cmp.Ordering.{Ordering}
 use Rattle.std.specs.declared.cmp.Ordering.TheVariants.{Less, Equal, Greater}
 use Rattle.std.specs.Ordering.{ordering_then, ordering_reverse, nat_cmp}
 use Rattle.std.specs.Cmp.{tied_itself}
+use Rattle.finite_sets.proofs.Clauses.{nat_cmp-Equal, then_equal, nat_cmp-less}
 use Rattle.grammar_model.specs.Grammar.{Grammar, Slot, slot_of, rule_at, child_slot}
 use Rattle.grammar_model.specs.Trees.{Tree, Children, Leaf, Nulled, Node, NoChild, Child, child_count, from_of}
 use Rattle.grammar_model.specs.Analysis.{IsNullable}
-use Rattle.grammar_model.specs.Derives.{Edges, Derives, DerivesFront}
+use Rattle.grammar_model.specs.Derives.{Edges, Derives, DerivesPrefix}
 use Rattle.grammar_model.specs.Order.{IsRuleOrder, RuleOrder, null_place, start_cmp, tree_cmp, children_cmp}
 use Rattle.recognizer_model.specs.FlatForm.{join}
-use Rattle.recognizer_model.specs.View.{plain_rule}
-use Rattle.recognizer_model.proofs.Forms.{FlatSymbol, FlatTerminal, FlatSlot, FlatList, FlatTop, FlatNames, IsFlatOf, IsHead, IsInner, IsPart, StandsFor, is_list_node, is_list_symbol, tree_of, children_of, inside, KeepsOrder, IsLong}
-use Rattle.grammar_model.proofs.Chains.{both_Equal}
-use Rattle.grammar_model.proofs.Sorting.{nat_cmp-Equal}
+use Rattle.recognizer_model.proofs.Forms.{FlatSymbol, FlatTerminal, FlatSlot, FlatList, FlatTop, FlatNames, IsFlatOf, IsHead, IsInner, IsPart, StandsFor, tree_of, children_of, inside, KeepsOrder, IsLong}
 use Rattle.grammar_model.proofs.Total.{from_is}
 use Rattle.grammar_model.proofs.Compose.{GoForward}
-use Rattle.grammar_model.proofs.Simple.{nat_cmp-less}
-use Rattle.recognizer_model.proofs.FlatSound.{Alike, has_parts, not_list, list_node, join-NoChild, front_sound, inner_from, inner_list}
+use Rattle.recognizer_model.proofs.FlatSound.{Alike, has_parts, not_list, list_node, join-NoChild, prefix_sound, inner_from, inner_list}
 
 then_same : (a a' b b' : Ordering) → a ≡ a' → (a ≡ Equal → b ≡ b') → ordering_then a b ≡ ordering_then a' b'
 then_same Less a' b b' e h = ap (λ o. ordering_then o b') e
@@ -43,8 +40,8 @@ same_start high n t u = λ i. ordering_then (nat_cmp (same_place high n t i) (sa
 module _ (f g : Grammar) (n : FlatNames) (flat_edge edge : Edges) (laws : IsFlatOf f g n flat_edge edge) (forward : GoForward flat_edge)
     (flat written : RuleOrder) (flat_laws : IsRuleOrder flat) (keeps : KeepsOrder f g n flat written)
     (trailing : (i m m' j k k' : ℕ) → Alike (rule_at g i) m m' → Alike (rule_at g j) k k' → written.cmp i m j k ≡ written.cmp i m' j k') where
-  rule_front : (r p q : ℕ) (cs : Children) (r' : ℕ) → r ≡ r' → DerivesFront f flat_edge (rule_at f r') p q cs → DerivesFront f flat_edge (rule_at f r) p q cs
-  rule_front r p q cs r' e d = subst (λ z. DerivesFront f flat_edge (rule_at f z) p q cs) (sym e) d
+  rule_prefix : (r p q : ℕ) (cs : Children) (r' : ℕ) → r ≡ r' → DerivesPrefix f flat_edge (rule_at f r') p q cs → DerivesPrefix f flat_edge (rule_at f r) p q cs
+  rule_prefix r p q cs r' e d = subst (λ z. DerivesPrefix f flat_edge (rule_at f z) p q cs) (sym e) d
 
   -- the rules of two nodes of one slot
   rules_same : (x p q r r' : ℕ) (cs ds : Children) (a b a' b' : ℕ) (symbol : FlatSymbol) (slot : Slot) → n.symbol x ≡ symbol → StandsFor symbol slot → Derives f flat_edge (slot_of x) p q (Node r cs a b) → Derives f flat_edge (slot_of x) p q (Node r' ds a' b') →
@@ -55,8 +52,8 @@ module _ (f g : Grammar) (n : FlatNames) (flat_edge edge : Edges) (laws : IsFlat
   rules_same x p q r r' cs ds a b a' b' (FlatSlot s) slot e st d d' =
       let h = has_parts f g n flat_edge edge laws x p q r cs a b d in
       let h' = has_parts f g n flat_edge edge laws x p q r' ds a' b' d' in
-      let s1 = front_sound f g n flat_edge edge laws cs r p q d.in_range (subst IsInner (sym (ap n.symbol h.1 ∙ e)) tt) (omega (arith, h.0)) d.front in
-      let s2 = front_sound f g n flat_edge edge laws ds r' p q d'.in_range (subst IsInner (sym (ap n.symbol h'.1 ∙ e)) tt) (omega (arith, h'.0)) d'.front in
+      let s1 = prefix_sound f g n flat_edge edge laws cs r p q d.in_range (subst IsInner (sym (ap n.symbol h.1 ∙ e)) tt) (omega (arith, h.0)) d.prefix in
+      let s2 = prefix_sound f g n flat_edge edge laws ds r' p q d'.in_range (subst IsInner (sym (ap n.symbol h'.1 ∙ e)) tt) (omega (arith, h'.0)) d'.prefix in
       (λ i. flat.cmp r (h.0 i) r' (h'.0 i))
       ∙ keeps.slot_rules s r r' d.in_range d'.in_range h.2 h'.2 (ap n.symbol h.1 ∙ e) (h.1 ∙ sym h'.1)
       ∙ (λ i. written.cmp (n.source r) (sym h.0 i) (n.source r') (sym h'.0 i))
@@ -66,18 +63,18 @@ module _ (f g : Grammar) (n : FlatNames) (flat_edge edge : Edges) (laws : IsFlat
 
   starts_same : (x m m' q : ℕ) (high : Bool) (t u : Tree) → Derives f flat_edge (slot_of x) m q t → Derives f flat_edge (slot_of x) m' q u → start_cmp high t u ≡ Equal → m ≡ m'
   starts_same x m m' q high t u d d' e =
-      sym (from_is f flat_edge (slot_of x) m q t d) ∙ sym (nat_cmp-Equal _ _ (both_Equal _ _ e).1) ∙ from_is f flat_edge (slot_of x) m' q u d'
+      sym (from_is f flat_edge (slot_of x) m q t d) ∙ sym (nat_cmp-Equal _ _ (then_equal _ _ e).1) ∙ from_is f flat_edge (slot_of x) m' q u d'
 
   -- two lists of a rule's first children whose last ones stand for slots
-  step_same : (front front' : Children) (t u : Tree) (high : Bool) (x m m' q : ℕ) (slot : Slot) → StandsFor (n.symbol x) slot → Derives f flat_edge (slot_of x) m q t → Derives f flat_edge (slot_of x) m' q u →
-      (m ≡ m' → children_cmp flat high front front' ≡ children_cmp written high (children_of n front) (children_of n front')) →
+  step_same : (prefix prefix' : Children) (t u : Tree) (high : Bool) (x m m' q : ℕ) (slot : Slot) → StandsFor (n.symbol x) slot → Derives f flat_edge (slot_of x) m q t → Derives f flat_edge (slot_of x) m' q u →
+      (m ≡ m' → children_cmp flat high prefix prefix' ≡ children_cmp written high (children_of n prefix) (children_of n prefix')) →
       (m ≡ m' → tree_cmp flat t u ≡ tree_cmp written (tree_of n t) (tree_of n u)) →
-      children_cmp flat high (Child front t) (Child front' u) ≡ children_cmp written high (children_of n (Child front t)) (children_of n (Child front' u))
-  step_same front front' t u high x m m' q slot s d d' ih ih' =
+      children_cmp flat high (Child prefix t) (Child prefix' u) ≡ children_cmp written high (children_of n (Child prefix t)) (children_of n (Child prefix' u))
+  step_same prefix prefix' t u high x m m' q slot s d d' ih ih' =
       then_same _ _ _ _ (same_start high n t u) (λ e. let same = starts_same x m m' q high t u d d' e in (λ i. ordering_then (ih same i) (ih' same i)))
       ∙ (λ i. children_cmp written high
-      (sym (cond-false _ (join (children_of n front) (inside n t)) (Child (children_of n front) (tree_of n t)) (not_list f g n flat_edge edge laws x m q slot t d s)) i)
-      (sym (cond-false _ (join (children_of n front') (inside n u)) (Child (children_of n front') (tree_of n u)) (not_list f g n flat_edge edge laws x m' q slot u d' s)) i))
+      (sym (cond-false _ (join (children_of n prefix) (inside n t)) (Child (children_of n prefix) (tree_of n t)) (not_list f g n flat_edge edge laws x m q slot t d s)) i)
+      (sym (cond-false _ (join (children_of n prefix') (inside n u)) (Child (children_of n prefix') (tree_of n u)) (not_list f g n flat_edge edge laws x m' q slot u d' s)) i))
 
   nat_cmp-greater : (a b : ℕ) → b < a → nat_cmp a b ≡ Greater
   nat_cmp-greater a b h = Rattle.std.specs.Cmp.nat_cmp_total.antisymm a b ∙ ap ordering_reverse (nat_cmp-less b a h)
@@ -102,13 +99,13 @@ module _ (f g : Grammar) (n : FlatNames) (flat_edge edge : Edges) (laws : IsFlat
   flat_last r k m q t lt d = subst (λ rule. Derives f flat_edge (child_slot rule k) m q t) (laws.flat r lt) d
 
   -- the first children of a list's longer rule span a place
-  long_spans : (i r p m : ℕ) (front : Children) → r < length f.rules → n.symbol (slice_index (n.rhs r) 0) ≡ FlatList i → DerivesFront f flat_edge (rule_at f r) p m front → 0 < child_count front → p < m
+  long_spans : (i r p m : ℕ) (prefix : Children) → r < length f.rules → n.symbol (slice_index (n.rhs r) 0) ≡ FlatList i → DerivesPrefix f flat_edge (rule_at f r) p m prefix → 0 < child_count prefix → p < m
   long_spans i r p m NoChild lt e d h = absurd (omega arith)
   long_spans i r p m (Child NoChild t) lt e d h =
       let s = list_spans (slice_index (n.rhs r) 0) d.0 m i t (flat_last r 0 d.0 m t lt d.2) e in
       let z = d.1 in omega arith
-  long_spans i r p m (Child (Child front c) t) lt e d h =
-      let a = long_spans i r p d.0 (Child front c) lt e d.1 (omega arith) in
+  long_spans i r p m (Child (Child prefix c) t) lt e d h =
+      let a = long_spans i r p d.0 (Child prefix c) lt e d.1 (omega arith) in
       let b = goes_on _ d.0 m t d.2 in
       omega arith
 
@@ -130,7 +127,7 @@ module _ (f g : Grammar) (n : FlatNames) (flat_edge edge : Edges) (laws : IsFlat
   long_short i x r r' p q cs ds a b a' b' high e long short d d' =
       let h = has_parts f g n flat_edge edge laws x p q r cs a b d in
       let h' = has_parts f g n flat_edge edge laws x p q r' ds a' b' d' in
-      go cs ds h.0 h'.0 (ap n.symbol h.1 ∙ e) (ap n.symbol h'.1 ∙ e) d.front d'.front
+      go cs ds h.0 h'.0 (ap n.symbol h.1 ∙ e) (ap n.symbol h'.1 ∙ e) d.prefix d'.prefix
     where
       stands : (k : ℕ) → k < length (n.rhs r) → 1 ≤ k → IsPart g (n.symbol (slice_index (n.rhs r) k)) (n.source r) k → StandsFor (n.symbol (slice_index (n.rhs r) k)) (child_slot (rule_at g (n.source r)) k)
       stands k lt one (inl s) = s
@@ -145,39 +142,39 @@ module _ (f g : Grammar) (n : FlatNames) (flat_edge edge : Edges) (laws : IsFlat
       only_is (inr l) = let z = l.0 in absurd (omega arith)
 
       go : (cs ds : Children) → child_count cs ≡ length (n.rhs r) → child_count ds ≡ length (n.rhs r') → n.symbol (n.lhs r) ≡ FlatList i → n.symbol (n.lhs r') ≡ FlatList i →
-          DerivesFront f flat_edge (rule_at f r) p q cs → DerivesFront f flat_edge (rule_at f r') p q ds →
+          DerivesPrefix f flat_edge (rule_at f r) p q cs → DerivesPrefix f flat_edge (rule_at f r') p q ds →
           (children_cmp written high (children_of n cs) (children_of n ds) ≡ Less) × (children_cmp written high (children_of n ds) (children_of n cs) ≡ Greater)
       go NoChild ds c c' y y' fr fr' = absurd (omega arith)
-      go (Child front t) NoChild c c' y y' fr fr' = absurd (omega arith)
-      go (Child front t) (Child (Child front' v) u) c c' y y' fr fr' = absurd (omega arith)
-      go (Child front t) (Child NoChild u) c c' y y' (m, fr, l) (m', fr', l') =
-          let k = child_count front in
+      go (Child prefix t) NoChild c c' y y' fr fr' = absurd (omega arith)
+      go (Child prefix t) (Child (Child prefix' v) u) c c' y y' fr fr' = absurd (omega arith)
+      go (Child prefix t) (Child NoChild u) c c' y y' (m, fr, l) (m', fr', l') =
+          let k = child_count prefix in
           let t' = flat_last r k m q t d.in_range l in
           let u' = subst (λ z. Derives f flat_edge (slot_of (slice_index (n.rhs r') 0)) z q u) (sym fr') (flat_last r' 0 m' q u d'.in_range l') in
           let s = stands k (omega arith) (omega arith) (laws.part r k d.in_range (omega arith) (inner_list (n.symbol (n.lhs r)) i y)) in
           let s' = only_is (keeps.list_rules i r' d'.in_range (omega arith) y') in
           let at = lasts_at i r r' p m q k high t u d.in_range d'.in_range y y' (sym c) short t' u' in
-          let pm = long_spans i r p m front d.in_range (first_is (keeps.list_rules i r d.in_range (omega arith) y)) fr (omega arith) in
-          let one = cond-false _ (join (children_of n front) (inside n t)) (Child (children_of n front) (tree_of n t)) (not_list f g n flat_edge edge laws _ m q _ t t' s) in
+          let pm = long_spans i r p m prefix d.in_range (first_is (keeps.list_rules i r d.in_range (omega arith) y)) fr (omega arith) in
+          let one = cond-false _ (join (children_of n prefix) (inside n t)) (Child (children_of n prefix) (tree_of n t)) (not_list f g n flat_edge edge laws _ m q _ t t' s) in
           let two = cond-false _ (join NoChild (inside n u)) (Child NoChild (tree_of n u)) (not_list f g n flat_edge edge laws _ p q _ u u' s') in (
-            (λ j. children_cmp written high (one j) (two j)) ∙ ap (λ o. ordering_then o (ordering_then (children_cmp written high (children_of n front) NoChild) (tree_cmp written (tree_of n t) (tree_of n u)))) (sym (same_start high n t u) ∙ at.0 ∙ nat_cmp-less p m pm),
-            (λ j. children_cmp written high (two j) (one j)) ∙ ap (λ o. ordering_then o (ordering_then (children_cmp written high NoChild (children_of n front)) (tree_cmp written (tree_of n u) (tree_of n t)))) (sym (same_start high n u t) ∙ at.1 ∙ nat_cmp-greater m p pm),
+            (λ j. children_cmp written high (one j) (two j)) ∙ ap (λ o. ordering_then o (ordering_then (children_cmp written high (children_of n prefix) NoChild) (tree_cmp written (tree_of n t) (tree_of n u)))) (sym (same_start high n t u) ∙ at.0 ∙ nat_cmp-less p m pm),
+            (λ j. children_cmp written high (two j) (one j)) ∙ ap (λ o. ordering_then o (ordering_then (children_cmp written high NoChild (children_of n prefix)) (tree_cmp written (tree_of n u) (tree_of n t)))) (sym (same_start high n u t) ∙ at.1 ∙ nat_cmp-greater m p pm),
           )
 
   -- a rule's own children, and the high flag under which they compare
   abbrev own_high : ℕ → Bool
   own_high r = written.null_high (n.source r)
 
-  front_cases : (cs ds : Children) (t u : Tree) (r p q m m' : ℕ) → DerivesFront f flat_edge (rule_at f r) p m cs → DerivesFront f flat_edge (rule_at f r) p m' ds →
+  prefix_cases : (cs ds : Children) (t u : Tree) (r p q m m' : ℕ) → DerivesPrefix f flat_edge (rule_at f r) p m cs → DerivesPrefix f flat_edge (rule_at f r) p m' ds →
       Derives f flat_edge (slot_of (slice_index (n.rhs r) (child_count cs))) m q t → Derives f flat_edge (slot_of (slice_index (n.rhs r) (child_count cs))) m' q u → child_count ds ≡ child_count cs →
       IsPart g (n.symbol (slice_index (n.rhs r) (child_count cs))) (n.source r) (child_count cs) →
       (m ≡ m' → children_cmp flat (own_high r) cs ds ≡ children_cmp written (own_high r) (children_of n cs) (children_of n ds)) →
       (m ≡ m' → (slot : Slot) → StandsFor (n.symbol (slice_index (n.rhs r) (child_count cs))) slot → tree_cmp flat t u ≡ tree_cmp written (tree_of n t) (tree_of n u)) →
       (m ≡ m' → n.symbol (slice_index (n.rhs r) (child_count cs)) ≡ FlatList (n.source r) → tree_cmp flat t u ≡ children_cmp written (own_high r) (inside n t) (inside n u)) →
       children_cmp flat (own_high r) (Child cs t) (Child ds u) ≡ children_cmp written (own_high r) (children_of n (Child cs t)) (children_of n (Child ds u))
-  front_cases cs ds t u r p q m m' fr fr' d d' c (inl s) ih as_tree as_list =
+  prefix_cases cs ds t u r p q m m' fr fr' d d' c (inl s) ih as_tree as_list =
       step_same cs ds t u (own_high r) (slice_index (n.rhs r) (child_count cs)) m m' q _ s d d' ih (λ z. as_tree z _ s)
-  front_cases NoChild NoChild t u r p q m m' fr fr' d d' c (inr e) ih as_tree as_list =
+  prefix_cases NoChild NoChild t u r p q m m' fr fr' d d' c (inr e) ih as_tree as_list =
       let same : m ≡ m' = sym fr ∙ fr' in
       let a = list_full t m d e.1 in
       let b = list_full u m' d' e.1 in
@@ -192,8 +189,8 @@ module _ (f g : Grammar) (n : FlatNames) (flat_edge edge : Edges) (laws : IsFlat
       list_full (Leaf s a b) w d e = refl
       list_full (Nulled s a) w d e = absurd (true≢false (sym (list_node f g n flat_edge edge laws _ w q _ (Nulled s a) d e)))
       list_full (Node i cs a b) w d e = refl
-  front_cases NoChild (Child ds v) t u r p q m m' fr fr' d d' c (inr e) ih as_tree as_list = absurd (omega arith)
-  front_cases (Child cs v) ds t u r p q m m' fr fr' d d' c (inr e) ih as_tree as_list = let z = e.0 in absurd (omega arith)
+  prefix_cases NoChild (Child ds v) t u r p q m m' fr fr' d d' c (inr e) ih as_tree as_list = absurd (omega arith)
+  prefix_cases (Child cs v) ds t u r p q m m' fr fr' d d' c (inr e) ih as_tree as_list = let z = e.0 in absurd (omega arith)
 
   list_source : (i : ℕ) (r len : ℕ) (symbol : FlatSymbol) → symbol ≡ FlatList i → IsHead g symbol (n.source r) len → n.source r ≡ i
   list_source i r len symbol e h = (subst (λ z. IsHead g z (n.source r) len) e h).0
@@ -232,7 +229,7 @@ module _ (f g : Grammar) (n : FlatNames) (flat_edge edge : Edges) (laws : IsFlat
         let h' = has_parts f g n flat_edge edge laws x p q r' ds a' b' d' in
         let len : length (n.rhs r) ≡ length (n.rhs r') = ap (λ z. length (n.rhs z)) r_is in
         ap (λ hi. children_cmp flat hi cs ds) (keeps.null_high r)
-        ∙ front_same cs ds r p q d.in_range (subst (λ z. IsInner (n.symbol z)) (sym h.1) (inner_from (n.symbol x) slot s)) (omega (arith, h.0)) (h.0 ∙ len ∙ sym h'.0) d.front (rule_front r p q ds r' r_is d'.front)))
+        ∙ prefix_same cs ds r p q d.in_range (subst (λ z. IsInner (n.symbol z)) (sym h.1) (inner_from (n.symbol x) slot s)) (omega (arith, h.0)) (h.0 ∙ len ∙ sym h'.0) d.prefix (rule_prefix r p q ds r' r_is d'.prefix)))
     tree_same (Leaf y a b) (Leaf y' a' b') x p q slot s d d' = refl
     tree_same (Leaf y a b) (Nulled y' a') x p q slot s d d' = refl
     tree_same (Leaf y a b) (Node r' ds a' b') x p q slot s d d' = refl
@@ -242,18 +239,18 @@ module _ (f g : Grammar) (n : FlatNames) (flat_edge edge : Edges) (laws : IsFlat
     tree_same (Node r cs a b) (Leaf y' a' b') x p q slot s d d' = refl
     tree_same (Node r cs a b) (Nulled y' a') x p q slot s d d' = refl
 
-    pub front_same : (cs ds : Children) (r p q : ℕ) → r < length f.rules → IsInner (n.symbol (n.lhs r)) → child_count cs ≤ length (n.rhs r) → child_count cs ≡ child_count ds → DerivesFront f flat_edge (rule_at f r) p q cs → DerivesFront f flat_edge (rule_at f r) p q ds →
+    pub prefix_same : (cs ds : Children) (r p q : ℕ) → r < length f.rules → IsInner (n.symbol (n.lhs r)) → child_count cs ≤ length (n.rhs r) → child_count cs ≡ child_count ds → DerivesPrefix f flat_edge (rule_at f r) p q cs → DerivesPrefix f flat_edge (rule_at f r) p q ds →
         children_cmp flat (own_high r) cs ds ≡ children_cmp written (own_high r) (children_of n cs) (children_of n ds)
-    front_same NoChild NoChild r p q lt inner c e d d' = refl
-    front_same NoChild (Child ds u) r p q lt inner c e d d' = absurd (omega arith)
-    front_same (Child cs t) NoChild r p q lt inner c e d d' = absurd (omega arith)
-    front_same (Child cs t) (Child ds u) r p q lt inner c e (m, fr, l) (m', fr', l') =
+    prefix_same NoChild NoChild r p q lt inner c e d d' = refl
+    prefix_same NoChild (Child ds u) r p q lt inner c e d d' = absurd (omega arith)
+    prefix_same (Child cs t) NoChild r p q lt inner c e d d' = absurd (omega arith)
+    prefix_same (Child cs t) (Child ds u) r p q lt inner c e (m, fr, l) (m', fr', l') =
         let k = child_count cs in
         let same : child_count ds ≡ k = omega arith in
         let t' = flat_last r k m q t lt l in
         let u' = flat_last r k m' q u lt (subst (λ j. Derives f flat_edge (child_slot (rule_at f r) j) m' q u) same l') in
-        front_cases cs ds t u r p q m m' fr fr' t' u' same (laws.part r k lt (omega arith) inner)
-        (λ z. front_same cs ds r p m lt inner (omega arith) (sym same) fr (subst (λ w. DerivesFront f flat_edge (rule_at f r) p w ds) (sym z) fr'))
+        prefix_cases cs ds t u r p q m m' fr fr' t' u' same (laws.part r k lt (omega arith) inner)
+        (λ z. prefix_same cs ds r p m lt inner (omega arith) (sym same) fr (subst (λ w. DerivesPrefix f flat_edge (rule_at f r) p w ds) (sym z) fr'))
         (λ z slot s. tree_same t u (slice_index (n.rhs r) k) m q slot s t' (subst (λ w. Derives f flat_edge (slot_of (slice_index (n.rhs r) k)) w q u) (sym z) u'))
         (λ z e. list_same t u (slice_index (n.rhs r) k) (n.source r) m q e t' (subst (λ w. Derives f flat_edge (slot_of (slice_index (n.rhs r) k)) w q u) (sym z) u'))
 
@@ -263,7 +260,7 @@ module _ (f g : Grammar) (n : FlatNames) (flat_edge edge : Edges) (laws : IsFlat
         (let h = has_parts f g n flat_edge edge laws x p q r cs a b d in
         let h' = has_parts f g n flat_edge edge laws x p q r' ds a' b' d' in
         let len : length (n.rhs r) ≡ length (n.rhs r') = ap (λ z. length (n.rhs z)) r_is in
-        front_same cs ds r p q d.in_range (subst (λ z. IsInner (n.symbol z)) (sym h.1) (inner_list (n.symbol x) i e)) (omega (arith, h.0)) (h.0 ∙ len ∙ sym h'.0) d.front (rule_front r p q ds r' r_is d'.front)))
+        prefix_same cs ds r p q d.in_range (subst (λ z. IsInner (n.symbol z)) (sym h.1) (inner_list (n.symbol x) i e)) (omega (arith, h.0)) (h.0 ∙ len ∙ sym h'.0) d.prefix (rule_prefix r p q ds r' r_is d'.prefix)))
     list_same (Leaf y a b) u x i p q e d d' = absurd (true≢false (sym (list_node f g n flat_edge edge laws x p q i (Leaf y a b) d e)))
     list_same (Nulled y a) u x i p q e d d' = absurd (true≢false (sym (list_node f g n flat_edge edge laws x p q i (Nulled y a) d e)))
     list_same (Node r cs a b) (Leaf y' a' b') x i p q e d d' = absurd (true≢false (sym (list_node f g n flat_edge edge laws x p q i (Leaf y' a' b') d' e)))

@@ -5,7 +5,7 @@ use Rattle.std.proofs.lemmas.Bool.{true≢false, cond-true, cond-false}
 use Rattle.grammar_model.specs.Grammar.{Grammar, Slot, WrittenRule, Plain, Sequence, slot_of, rule_at, Fits, IsChildCount, IsTerminal, child_slot, is_item, sequence_symbol, ends_with_separator}
 use Rattle.grammar_model.specs.Trees.{Tree, Children, Leaf, Nulled, Node, NoChild, Child, child_count}
 use Rattle.grammar_model.specs.Analysis.{IsNullable}
-use Rattle.grammar_model.specs.Derives.{Edges, Derives, DerivesFront}
+use Rattle.grammar_model.specs.Derives.{Edges, Derives, DerivesPrefix}
 use Rattle.recognizer_model.specs.FlatForm.{join}
 use Rattle.recognizer_model.specs.View.{plain_rule}
 use Rattle.recognizer_model.proofs.Forms.{FlatSymbol, FlatTerminal, FlatSlot, FlatList, FlatTop, FlatNames, IsFlatOf, IsHead, IsInner, IsPart, StandsFor, written_symbol, is_list_symbol, is_list_node, tree_of, children_of, inside, EndsWithItem}
@@ -62,7 +62,7 @@ ends_alike (Sequence r) m n a e = (a.0 e.0, sym (trailing_alike r.separator m n 
 
 pub join-NoChild : (cs : Children) → join NoChild cs ≡ cs
 join-NoChild NoChild = refl
-join-NoChild (Child front last) = ap (λ c. Child c last) (join-NoChild front)
+join-NoChild (Child prefix last) = ap (λ c. Child c last) (join-NoChild prefix)
 
 pub inner_from : (symbol : FlatSymbol) (slot : Slot) → StandsFor symbol slot → IsInner symbol
 inner_from (FlatTerminal s) slot e = tt
@@ -86,11 +86,11 @@ module _ (f g : Grammar) (n : FlatNames) (flat_edge edge : Edges) (laws : IsFlat
       let e = laws.flat r d.in_range in
       let count : child_count cs ≡ length (n.rhs r) = subst (λ rule. IsChildCount rule (child_count cs)) e d.complete in
       let fits : Fits (plain_rule (n.lhs r) (n.rhs r)) (slot_of x) = subst (λ rule. Fits rule (slot_of x)) e d.fits in
-      (count, fits.0, go cs count d.front)
+      (count, fits.0, go cs count d.prefix)
     where
-      go : (cs : Children) → child_count cs ≡ length (n.rhs r) → DerivesFront f flat_edge (rule_at f r) p q cs → 0 < length (n.rhs r)
+      go : (cs : Children) → child_count cs ≡ length (n.rhs r) → DerivesPrefix f flat_edge (rule_at f r) p q cs → 0 < length (n.rhs r)
       go NoChild c fr = let s = d.spans in absurd (omega arith)
-      go (Child front last) c fr = omega arith
+      go (Child prefix last) c fr = omega arith
 
   -- a node of a symbol that stands for a slot is no list's
   pub not_list : (x p q : ℕ) (slot : Slot) (t : Tree) → Derives f flat_edge (slot_of x) p q t → StandsFor (n.symbol x) slot → is_list_node n t ≡ false
@@ -99,7 +99,7 @@ module _ (f g : Grammar) (n : FlatNames) (flat_edge edge : Edges) (laws : IsFlat
   not_list x p q slot (Node r cs a b) d s = ap (λ y. is_list_symbol (n.symbol y)) (has_parts x p q r cs a b d).1 ∙ no_list (n.symbol x) slot s
 
   node_sound : (symbol : FlatSymbol) (slot : Slot) (r : ℕ) (cs : Children) (a b p q : ℕ) → StandsFor symbol slot → IsHead g symbol (n.source r) (length (n.rhs r)) → child_count cs ≡ length (n.rhs r) → a ≡ p → b ≡ q → p < q →
-      DerivesFront g edge (rule_at g (n.source r)) p q (children_of n cs) × Alike (rule_at g (n.source r)) (child_count cs) (child_count (children_of n cs)) → Derives g edge slot p q (Node (n.source r) (children_of n cs) a b)
+      DerivesPrefix g edge (rule_at g (n.source r)) p q (children_of n cs) × Alike (rule_at g (n.source r)) (child_count cs) (child_count (children_of n cs)) → Derives g edge slot p q (Node (n.source r) (children_of n cs) a b)
   node_sound (FlatTerminal t) slot r cs a b p q s h c e e' lt d = absurd h
   node_sound (FlatSlot t) slot r cs a b p q s h c e e' lt d = record {
     from_is = e;
@@ -108,7 +108,7 @@ module _ (f g : Grammar) (n : FlatNames) (flat_edge edge : Edges) (laws : IsFlat
     in_range = h.0;
     fits = subst (Fits (rule_at g (n.source r))) (sym s) h.1;
     complete = count_alike (rule_at g (n.source r)) _ _ d.1 (subst (IsChildCount (rule_at g (n.source r))) (sym c) h.2);
-    front = d.0;
+    prefix = d.0;
   }
   node_sound (FlatList i) slot r cs a b p q s h c e e' lt d = absurd s
   node_sound (FlatTop k) slot r cs a b p q s h c e e' lt d = absurd s
@@ -124,30 +124,30 @@ module _ (f g : Grammar) (n : FlatNames) (flat_edge edge : Edges) (laws : IsFlat
 
   -- what a rule's first children stand for, and how many they are
   abbrev Sound : ℕ → ℕ → ℕ → ℕ → Children → Type 0
-  Sound i count p q cs = DerivesFront g edge (rule_at g i) p q cs × Alike (rule_at g i) count (child_count cs)
+  Sound i count p q cs = DerivesPrefix g edge (rule_at g i) p q cs × Alike (rule_at g i) count (child_count cs)
 
-  front_step : (front : Children) (last : Tree) (r p q m x : ℕ) → DerivesFront f flat_edge (rule_at f r) p m front → Derives f flat_edge (slot_of x) m q last →
-      Sound (n.source r) (child_count front) p m (children_of n front) → IsPart g (n.symbol x) (n.source r) (child_count front) →
+  prefix_step : (prefix : Children) (last : Tree) (r p q m x : ℕ) → DerivesPrefix f flat_edge (rule_at f r) p m prefix → Derives f flat_edge (slot_of x) m q last →
+      Sound (n.source r) (child_count prefix) p m (children_of n prefix) → IsPart g (n.symbol x) (n.source r) (child_count prefix) →
       ((slot : Slot) → StandsFor (n.symbol x) slot → Derives g edge slot m q (tree_of n last)) →
-      (n.symbol x ≡ FlatList (n.source r) → DerivesFront g edge (rule_at g (n.source r)) m q (inside n last) × EndsWithItem (rule_at g (n.source r)) (child_count (inside n last))) →
-      Sound (n.source r) (suc (child_count front)) p q (children_of n (Child front last))
-  front_step front last r p q m x fr d ih (inl s) as_tree as_list =
+      (n.symbol x ≡ FlatList (n.source r) → DerivesPrefix g edge (rule_at g (n.source r)) m q (inside n last) × EndsWithItem (rule_at g (n.source r)) (child_count (inside n last))) →
+      Sound (n.source r) (suc (child_count prefix)) p q (children_of n (Child prefix last))
+  prefix_step prefix last r p q m x fr d ih (inl s) as_tree as_list =
       let rule = rule_at g (n.source r) in
-      let here = as_tree (child_slot rule (child_count front)) s in
-      subst (Sound (n.source r) (suc (child_count front)) p q) (sym (cond-false _ _ _ (not_list x m q _ last d s)))
+      let here = as_tree (child_slot rule (child_count prefix)) s in
+      subst (Sound (n.source r) (suc (child_count prefix)) p q) (sym (cond-false _ _ _ (not_list x m q _ last d s)))
       ((m, ih.0, subst (λ slot. Derives g edge slot m q (tree_of n last)) (slot_alike rule _ _ ih.1) here), alike_next rule _ _ ih.1)
-  front_step NoChild last r p q m x fr d ih (inr e) as_tree as_list =
+  prefix_step NoChild last r p q m x fr d ih (inr e) as_tree as_list =
       let rule = rule_at g (n.source r) in
       let l = as_list e.1 in
       subst (Sound (n.source r) 1 p q) (sym (join-NoChild (inside n last)) ∙ sym (cond-true _ _ _ (list_node x m q _ last d e.1)))
-      (subst (λ z. DerivesFront g edge rule z q (inside n last)) (sym fr) l.0, alike_one rule _ l.1)
-  front_step (Child front more) last r p q m x fr d ih (inr e) as_tree as_list = let z = e.0 in absurd (omega arith)
+      (subst (λ z. DerivesPrefix g edge rule z q (inside n last)) (sym fr) l.0, alike_one rule _ l.1)
+  prefix_step (Child prefix more) last r p q m x fr d ih (inr e) as_tree as_list = let z = e.0 in absurd (omega arith)
 
-  list_head : (i r len count : ℕ) (symbol : FlatSymbol) (p q : ℕ) (cs : Children) → symbol ≡ FlatList i → IsHead g symbol (n.source r) len → count ≡ len → Sound (n.source r) count p q cs → DerivesFront g edge (rule_at g i) p q cs × EndsWithItem (rule_at g i) (child_count cs)
+  list_head : (i r len count : ℕ) (symbol : FlatSymbol) (p q : ℕ) (cs : Children) → symbol ≡ FlatList i → IsHead g symbol (n.source r) len → count ≡ len → Sound (n.source r) count p q cs → DerivesPrefix g edge (rule_at g i) p q cs × EndsWithItem (rule_at g i) (child_count cs)
   list_head i r len count symbol p q cs e h c s =
       let head = subst (λ z. IsHead g z (n.source r) len) e h in
       let ends : EndsWithItem (rule_at g (n.source r)) count = subst (EndsWithItem (rule_at g (n.source r))) (sym c) head.1 in
-      subst (λ j. DerivesFront g edge (rule_at g j) p q cs × EndsWithItem (rule_at g j) (child_count cs)) head.0
+      subst (λ j. DerivesPrefix g edge (rule_at g j) p q cs × EndsWithItem (rule_at g j) (child_count cs)) head.0
       (s.0, ends_alike (rule_at g (n.source r)) _ _ s.1 ends)
 
   mutual
@@ -175,27 +175,27 @@ module _ (f g : Grammar) (n : FlatNames) (flat_edge edge : Edges) (laws : IsFlat
         }
     tree_sound (Node r cs a b) x p q slot s d =
         let h = has_parts x p q r cs a b d in
-        let front = front_sound cs r p q d.in_range (subst (λ z. IsInner (n.symbol z)) (sym h.1) (inner_from (n.symbol x) slot s)) (omega (arith, h.0)) d.front in
+        let prefix = prefix_sound cs r p q d.in_range (subst (λ z. IsInner (n.symbol z)) (sym h.1) (inner_from (n.symbol x) slot s)) (omega (arith, h.0)) d.prefix in
         let head = subst (λ z. IsHead g (n.symbol z) (n.source r) (length (n.rhs r))) h.1 (laws.head r d.in_range h.2) in
-        node_sound (n.symbol x) slot r cs a b p q s head h.0 d.from_is d.to_is d.spans front
+        node_sound (n.symbol x) slot r cs a b p q s head h.0 d.from_is d.to_is d.spans prefix
 
     -- a rule's first flat children: what they stand for are its first children, and go on alike
-    pub front_sound : (cs : Children) (r p q : ℕ) → r < length f.rules → IsInner (n.symbol (n.lhs r)) → child_count cs ≤ length (n.rhs r) → DerivesFront f flat_edge (rule_at f r) p q cs → DerivesFront g edge (rule_at g (n.source r)) p q (children_of n cs) × Alike (rule_at g (n.source r)) (child_count cs) (child_count (children_of n cs))
-    front_sound NoChild r p q lt inner c d = (d, alike_same (rule_at g (n.source r)) 0)
-    front_sound (Child front last) r p q lt inner c (m, fr, l) =
-        let ih = front_sound front r p m lt inner (omega arith) fr in
-        let k = child_count front in
+    pub prefix_sound : (cs : Children) (r p q : ℕ) → r < length f.rules → IsInner (n.symbol (n.lhs r)) → child_count cs ≤ length (n.rhs r) → DerivesPrefix f flat_edge (rule_at f r) p q cs → DerivesPrefix g edge (rule_at g (n.source r)) p q (children_of n cs) × Alike (rule_at g (n.source r)) (child_count cs) (child_count (children_of n cs))
+    prefix_sound NoChild r p q lt inner c d = (d, alike_same (rule_at g (n.source r)) 0)
+    prefix_sound (Child prefix last) r p q lt inner c (m, fr, l) =
+        let ih = prefix_sound prefix r p m lt inner (omega arith) fr in
+        let k = child_count prefix in
         let l' : Derives f flat_edge (slot_of (slice_index (n.rhs r) k)) m q last = subst (λ rule. Derives f flat_edge (child_slot rule k) m q last) (laws.flat r lt) l in
-        front_step front last r p q m (slice_index (n.rhs r) k) fr l' ih (laws.part r k lt (omega arith) inner)
+        prefix_step prefix last r p q m (slice_index (n.rhs r) k) fr l' ih (laws.part r k lt (omega arith) inner)
         (λ slot s. tree_sound last (slice_index (n.rhs r) k) m q slot s l')
         (λ e. list_sound last (slice_index (n.rhs r) k) (n.source r) m q e l')
 
     -- a list's node stands for children that end with an item
-    pub list_sound : (t : Tree) (x i p q : ℕ) → n.symbol x ≡ FlatList i → Derives f flat_edge (slot_of x) p q t → DerivesFront g edge (rule_at g i) p q (inside n t) × EndsWithItem (rule_at g i) (child_count (inside n t))
+    pub list_sound : (t : Tree) (x i p q : ℕ) → n.symbol x ≡ FlatList i → Derives f flat_edge (slot_of x) p q t → DerivesPrefix g edge (rule_at g i) p q (inside n t) × EndsWithItem (rule_at g i) (child_count (inside n t))
     list_sound (Leaf y a b) x i p q e d = absurd (true≢false (sym (list_node x p q i (Leaf y a b) d e)))
     list_sound (Nulled y a) x i p q e d = absurd (true≢false (sym (list_node x p q i (Nulled y a) d e)))
     list_sound (Node r cs a b) x i p q e d =
         let h = has_parts x p q r cs a b d in
-        let front = front_sound cs r p q d.in_range (subst (λ z. IsInner (n.symbol z)) (sym h.1) (inner_list (n.symbol x) i e)) (omega (arith, h.0)) d.front in
+        let prefix = prefix_sound cs r p q d.in_range (subst (λ z. IsInner (n.symbol z)) (sym h.1) (inner_list (n.symbol x) i e)) (omega (arith, h.0)) d.prefix in
         let head = subst (λ z. IsHead g (n.symbol z) (n.source r) (length (n.rhs r))) h.1 (laws.head r d.in_range h.2) in
-        list_head i r (length (n.rhs r)) (child_count cs) (n.symbol x) p q (children_of n cs) e head h.0 front
+        list_head i r (length (n.rhs r)) (child_count cs) (n.symbol x) p q (children_of n cs) e head h.0 prefix

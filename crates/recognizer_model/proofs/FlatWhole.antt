@@ -5,21 +5,21 @@ use Rattle.std.proofs.lemmas.Bool.{true≢false, cond-true, cond-false, cases_Bo
 use Rattle.grammar_model.specs.Grammar.{PlainRule, Grammar, Slot, WrittenRule, Plain, Sequence, slot_of, rule_at, slot_count, child_slot, Fits, IsTerminal, IsChildCount, EachChildSlot, is_even, is_item, has_trailing, ends_with_separator}
 use Rattle.grammar_model.specs.Trees.{Tree, Children, Leaf, Nulled, Node, NoChild, Child, child_count}
 use Rattle.grammar_model.specs.Analysis.{IsNullable, IsProductive, IsLive}
-use Rattle.grammar_model.specs.Derives.{Edges, Derives, DerivesFront}
+use Rattle.grammar_model.specs.Derives.{Edges, Derives, DerivesPrefix}
 use Rattle.recognizer_model.specs.FlatForm.{join}
 use Rattle.recognizer_model.proofs.Forms.{FlatSymbol, FlatTerminal, FlatSlot, FlatList, FlatTop, FlatNames, IsFlatOf, HasFlatRules, HasListRule, IsPart, IsInner, StandsFor, written_symbol, tree_of, children_of, inside, IsSequence, EndsWithItem}
 use Rattle.grammar_model.proofs.Total.{nullable_not_terminal}
 use Rattle.grammar_model.proofs.Compose.{GoForward}
 use Rattle.recognizer_model.proofs.FlatSound.{Alike, alike_one, slot_alike, not_list, list_node, join-NoChild, inner_from, inner_list}
-use Rattle.grammar_model.proofs.Productive.{front_productive, node_live}
+use Rattle.grammar_model.proofs.Productive.{prefix_productive, node_live}
 
 module _ (f g : Grammar) (n : FlatNames) (flat_edge edge : Edges) (laws : IsFlatOf f g n flat_edge edge) (has : HasFlatRules f g n flat_edge edge) (forward : GoForward edge) where
   abbrev TreeFlat : ℕ → ℕ → ℕ → Tree → Type 0
   TreeFlat x p q t = (u : Tree) × Derives f flat_edge (slot_of x) p q u × (tree_of n u ≡ t)
 
   -- first flat children of the flat rule r, so many
-  abbrev FrontFlat : ℕ → ℕ → ℕ → Children → ℕ → Type 0
-  FrontFlat r p q cs j = (ds : Children) × DerivesFront f flat_edge (rule_at f r) p q ds × (child_count ds ≡ j) × (children_of n ds ≡ cs)
+  abbrev PrefixFlat : ℕ → ℕ → ℕ → Children → ℕ → Type 0
+  PrefixFlat r p q cs j = (ds : Children) × DerivesPrefix f flat_edge (rule_at f r) p q ds × (child_count ds ≡ j) × (children_of n ds ≡ cs)
 
   abbrev ListFlat : ℕ → ℕ → ℕ → Children → Type 0
   ListFlat y p q cs = (u : Tree) × Derives f flat_edge (slot_of y) p q u × (inside n u ≡ cs)
@@ -27,21 +27,21 @@ module _ (f g : Grammar) (n : FlatNames) (flat_edge edge : Edges) (laws : IsFlat
   part_of : ℕ → ℕ → ℕ
   part_of r j = slice_index (n.rhs r) j
 
-  no_children : (r p q : ℕ) → p ≡ q → FrontFlat r p q NoChild 0
+  no_children : (r p q : ℕ) → p ≡ q → PrefixFlat r p q NoChild 0
   no_children r p q e = (NoChild, e, refl, refl)
 
   at_rule : (r j m q : ℕ) (u : Tree) → r < length f.rules → Derives f flat_edge (slot_of (slice_index (n.rhs r) j)) m q u → Derives f flat_edge (child_slot (rule_at f r) j) m q u
   at_rule r j m q u lt d = subst (λ rule. Derives f flat_edge (child_slot rule j) m q u) (sym (laws.flat r lt)) d
 
-  add_last : (r j p m q : ℕ) (front : Children) (t : Tree) (slot : Slot) → r < length f.rules → FrontFlat r p m front j → StandsFor (n.symbol (slice_index (n.rhs r) j)) slot → TreeFlat (slice_index (n.rhs r) j) m q t → FrontFlat r p q (Child front t) (suc j)
-  add_last r j p m q front t slot lt (ds, d, c, e) s (u, du, eu) = (
+  add_last : (r j p m q : ℕ) (prefix : Children) (t : Tree) (slot : Slot) → r < length f.rules → PrefixFlat r p m prefix j → StandsFor (n.symbol (slice_index (n.rhs r) j)) slot → TreeFlat (slice_index (n.rhs r) j) m q t → PrefixFlat r p q (Child prefix t) (suc j)
+  add_last r j p m q prefix t slot lt (ds, d, c, e) s (u, du, eu) = (
     Child ds u,
     (m, d, subst (λ k. Derives f flat_edge (child_slot (rule_at f r) k) m q u) (sym c) (at_rule r j m q u lt du)),
     ap suc c,
     cond-false _ (join (children_of n ds) (inside n u)) (Child (children_of n ds) (tree_of n u)) (not_list f g n flat_edge edge laws _ m q slot u du s) ∙ (λ i. Child (e i) (eu i)),
   )
 
-  add_list : (r p q y i : ℕ) (cs : Children) → r < length f.rules → slice_index (n.rhs r) 0 ≡ y → n.symbol y ≡ FlatList i → ListFlat y p q cs → FrontFlat r p q cs 1
+  add_list : (r p q y i : ℕ) (cs : Children) → r < length f.rules → slice_index (n.rhs r) 0 ≡ y → n.symbol y ≡ FlatList i → ListFlat y p q cs → PrefixFlat r p q cs 1
   add_list r p q y i cs lt first s (u, du, eu) = (
     Child NoChild u,
     (p, refl, at_rule r 0 p q u lt (subst (λ z. Derives f flat_edge (slot_of z) p q u) (sym first) du)),
@@ -49,7 +49,7 @@ module _ (f g : Grammar) (n : FlatNames) (flat_edge edge : Edges) (laws : IsFlat
     cond-true _ (join NoChild (inside n u)) (Child NoChild (tree_of n u)) (list_node f g n flat_edge edge laws y p q i u du s) ∙ join-NoChild (inside n u) ∙ eu,
   )
 
-  flat_node : (x r p q : ℕ) (cs : Children) → r < length f.rules → n.lhs r ≡ x → p < q → (w : FrontFlat r p q cs (length (n.rhs r))) → Derives f flat_edge (slot_of x) p q (Node r w.0 p q)
+  flat_node : (x r p q : ℕ) (cs : Children) → r < length f.rules → n.lhs r ≡ x → p < q → (w : PrefixFlat r p q cs (length (n.rhs r))) → Derives f flat_edge (slot_of x) p q (Node r w.0 p q)
   flat_node x r p q cs lt l spans (ds, d, c, e) = record {
     from_is = refl;
     to_is = refl;
@@ -57,7 +57,7 @@ module _ (f g : Grammar) (n : FlatNames) (flat_edge edge : Edges) (laws : IsFlat
     in_range = lt;
     fits = subst (λ rule. Fits rule (slot_of x)) (sym (laws.flat r lt)) (l, omega arith);
     complete = subst (λ rule. IsChildCount rule (child_count ds)) (sym (laws.flat r lt)) c;
-    front = d;
+    prefix = d;
   }
 
   -- the part at place j stands for the child slot of a place that is like it
@@ -80,17 +80,17 @@ module _ (f g : Grammar) (n : FlatNames) (flat_edge edge : Edges) (laws : IsFlat
   spans_of i k m q (Nulled s a) sq d = absurd (has.items i k sq d.nullable)
   spans_of i k m q (Node r cs a b) sq d = d.spans
 
-  front_spans : (i p q : ℕ) (cs : Children) → IsSequence (rule_at g i) → DerivesFront g edge (rule_at g i) p q cs → p + child_count cs ≤ q
-  front_spans i p q NoChild sq d = omega arith
-  front_spans i p q (Child front t) sq (m, fr, l) =
-      let a = front_spans i p m front sq fr in
-      let b = spans_of i (child_count front) m q t sq l in
+  prefix_spans : (i p q : ℕ) (cs : Children) → IsSequence (rule_at g i) → DerivesPrefix g edge (rule_at g i) p q cs → p + child_count cs ≤ q
+  prefix_spans i p q NoChild sq d = omega arith
+  prefix_spans i p q (Child prefix t) sq (m, fr, l) =
+      let a = prefix_spans i p m prefix sq fr in
+      let b = spans_of i (child_count prefix) m q t sq l in
       omega arith
 
   -- the children of a sequence, as a list where they end with an item, and else as a list and a separator
   record SequenceFlat (i y p q : ℕ) (cs : Children) : Type 0 where
     ended : EndsWithItem (rule_at g i) (child_count cs) → ListFlat y p q cs
-    parted : 0 < child_count cs → has_trailing (rule_at g i) (child_count cs) ≡ true → (r : ℕ) → r < length f.rules → IsInner (n.symbol (n.lhs r)) → n.source r ≡ i → slice_index (n.rhs r) 0 ≡ y → 2 ≤ length (n.rhs r) → FrontFlat r p q cs 2
+    parted : 0 < child_count cs → has_trailing (rule_at g i) (child_count cs) ≡ true → (r : ℕ) → r < length f.rules → IsInner (n.symbol (n.lhs r)) → n.source r ≡ i → slice_index (n.rhs r) 0 ≡ y → 2 ≤ length (n.rhs r) → PrefixFlat r p q cs 2
 
   -- what the recursion gives of a tree
   abbrev Trees : ℕ → ℕ → Tree → Type 0
@@ -139,8 +139,8 @@ module _ (f g : Grammar) (n : FlatNames) (flat_edge edge : Edges) (laws : IsFlat
       go None h = absurd (true≢false (sym h))
       go (Some c) h = let e : is_even k ≡ false = turn (is_even k) h in (some k e, e)
 
-  each_productive : (i p q : ℕ) (cs : Children) → DerivesFront g edge (rule_at g i) p q cs → slot_count (rule_at g i) ≤ child_count cs → EachChildSlot (IsProductive g) (rule_at g i)
-  each_productive i p q cs d h = let w = front_productive g edge cs (rule_at g i) p q d in (λ k lt. (w.0, w.1 k (omega arith)))
+  each_productive : (i p q : ℕ) (cs : Children) → DerivesPrefix g edge (rule_at g i) p q cs → slot_count (rule_at g i) ≤ child_count cs → EachChildSlot (IsProductive g) (rule_at g i)
+  each_productive i p q cs d h = let w = prefix_productive g edge cs (rule_at g i) p q d in (λ k lt. (w.0, w.1 k (omega arith)))
 
   long_rule : (y i : ℕ) → IsSequence (rule_at g i) → n.symbol y ≡ FlatList i → EachChildSlot (IsProductive g) (rule_at g i) → HasListRule f n y i (suc (slot_count (rule_at g i))) y
   long_rule y i sq s each = go (rule_at g i) refl sq
@@ -158,33 +158,33 @@ module _ (f g : Grammar) (n : FlatNames) (flat_edge edge : Edges) (laws : IsFlat
           let a = has.short y i r s is in
           (a.0, a.1, a.2, a.3, a.4, subst (λ rule. StandsFor (n.symbol (slice_index (n.rhs a.0) 0)) (child_slot rule 0)) (sym is) a.5)
 
-  list_of_front : (y r p q : ℕ) (cs : Children) → r < length f.rules → n.lhs r ≡ y → p < q → FrontFlat r p q cs (length (n.rhs r)) → ListFlat y p q cs
-  list_of_front y r p q cs lt l spans w = (Node r w.0 p q, flat_node y r p q cs lt l spans w, w.3)
+  list_of_prefix : (y r p q : ℕ) (cs : Children) → r < length f.rules → n.lhs r ≡ y → p < q → PrefixFlat r p q cs (length (n.rhs r)) → ListFlat y p q cs
+  list_of_prefix y r p q cs lt l spans w = (Node r w.0 p q, flat_node y r p q cs lt l spans w, w.3)
 
-  long_enough : (r p q k : ℕ) (cs : Children) → length (n.rhs r) ≡ k → FrontFlat r p q cs k → FrontFlat r p q cs (length (n.rhs r))
-  long_enough r p q k cs e w = subst (FrontFlat r p q cs) (sym e) w
+  long_enough : (r p q k : ℕ) (cs : Children) → length (n.rhs r) ≡ k → PrefixFlat r p q cs k → PrefixFlat r p q cs (length (n.rhs r))
+  long_enough r p q k cs e w = subst (PrefixFlat r p q cs) (sym e) w
 
-  sequence_step : (i y p m q : ℕ) (front : Children) (t : Tree) → IsSequence (rule_at g i) → n.symbol y ≡ FlatList i → DerivesFront g edge (rule_at g i) p m front → Derives g edge (child_slot (rule_at g i) (child_count front)) m q t →
-      SequenceFlat i y p m front → Trees m q t → SequenceFlat i y p q (Child front t)
-  sequence_step i y p m q front t sq s fr d ih trees = record {
-    ended = λ h. ended front fr d ih h;
+  sequence_step : (i y p m q : ℕ) (prefix : Children) (t : Tree) → IsSequence (rule_at g i) → n.symbol y ≡ FlatList i → DerivesPrefix g edge (rule_at g i) p m prefix → Derives g edge (child_slot (rule_at g i) (child_count prefix)) m q t →
+      SequenceFlat i y p m prefix → Trees m q t → SequenceFlat i y p q (Child prefix t)
+  sequence_step i y p m q prefix t sq s fr d ih trees = record {
+    ended = λ h. ended prefix fr d ih h;
     parted = λ z h r lt inner src first long.
-        (let e = before_separator (rule_at g i) (child_count front) h in
-        let slot = child_slot (rule_at g i) (child_count front) in
-        let st = stands_at r 1 (child_count front) i lt inner src (omega arith) (omega arith) (alike_one (rule_at g i) (child_count front) e) in
-        add_last r 1 p m q front t slot lt (add_list r p m y i front lt first s (ih.ended e)) st (trees _ slot st d));
+        (let e = before_separator (rule_at g i) (child_count prefix) h in
+        let slot = child_slot (rule_at g i) (child_count prefix) in
+        let st = stands_at r 1 (child_count prefix) i lt inner src (omega arith) (omega arith) (alike_one (rule_at g i) (child_count prefix) e) in
+        add_last r 1 p m q prefix t slot lt (add_list r p m y i prefix lt first s (ih.ended e)) st (trees _ slot st d));
   }
     where
-      ended : (front : Children) → DerivesFront g edge (rule_at g i) p m front → Derives g edge (child_slot (rule_at g i) (child_count front)) m q t → SequenceFlat i y p m front → EndsWithItem (rule_at g i) (suc (child_count front)) → ListFlat y p q (Child front t)
+      ended : (prefix : Children) → DerivesPrefix g edge (rule_at g i) p m prefix → Derives g edge (child_slot (rule_at g i) (child_count prefix)) m q t → SequenceFlat i y p m prefix → EndsWithItem (rule_at g i) (suc (child_count prefix)) → ListFlat y p q (Child prefix t)
       ended NoChild fr d ih h =
           let a = short_rule y i sq s in
           let lt = spans_of i 0 m q t sq d in
-          list_of_front y a.0 p q (Child NoChild t) a.1 a.2 (omega arith) (long_enough a.0 p q 1 (Child NoChild t) a.4
+          list_of_prefix y a.0 p q (Child NoChild t) a.1 a.2 (omega arith) (long_enough a.0 p q 1 (Child NoChild t) a.4
           (add_last a.0 0 p m q NoChild t (child_slot (rule_at g i) 0) a.1 (no_children a.0 p m fr) a.5 (trees _ (child_slot (rule_at g i) 0) a.5 d)))
       ended (Child more last) fr d ih h = pick (before_item (rule_at g i) (suc (child_count more)) (omega arith) h)
         where
           spans : p < q
-          spans = let z = front_spans i p q (Child (Child more last) t) sq (m, fr, d) in omega arith
+          spans = let z = prefix_spans i p q (Child (Child more last) t) sq (m, fr, d) in omega arith
 
           pick : (EndsWithItem (rule_at g i) (suc (child_count more)) × (slot_count (rule_at g i) ≡ 1) × Alike (rule_at g i) 1 (suc (child_count more)))
               ⊎ ((has_trailing (rule_at g i) (suc (child_count more)) ≡ true) × (slot_count (rule_at g i) ≡ 2) × (2 ≤ suc (child_count more)) × Alike (rule_at g i) 2 (suc (child_count more))) → ListFlat y p q (Child (Child more last) t)
@@ -193,19 +193,19 @@ module _ (f g : Grammar) (n : FlatNames) (flat_edge edge : Edges) (laws : IsFlat
               let len : length (n.rhs l.0) ≡ 2 = l.4 ∙ ap suc count in
               let st = stands_at l.0 1 (suc (child_count more)) i l.1 (subst (λ z. IsInner (n.symbol z)) (sym l.2) (inner_list (n.symbol y) i s)) l.3 (omega arith) (omega arith) a in
               let sl = child_slot (rule_at g i) (suc (child_count more)) in
-              list_of_front y l.0 p q (Child (Child more last) t) l.1 l.2 spans (long_enough l.0 p q 2 (Child (Child more last) t) len
+              list_of_prefix y l.0 p q (Child (Child more last) t) l.1 l.2 spans (long_enough l.0 p q 2 (Child (Child more last) t) len
               (add_last l.0 1 p m q (Child more last) t sl l.1 (add_list l.0 p m y i (Child more last) l.1 l.5 s (ih.ended e)) st (trees _ sl st d)))
           pick (inr (e, count, two, a)) =
               let l = long_rule y i sq s (each_productive i p q (Child (Child more last) t) (m, fr, d) (omega arith)) in
               let len : length (n.rhs l.0) ≡ 3 = l.4 ∙ ap suc count in
               let st = stands_at l.0 2 (suc (child_count more)) i l.1 (subst (λ z. IsInner (n.symbol z)) (sym l.2) (inner_list (n.symbol y) i s)) l.3 (omega arith) (omega arith) a in
               let sl = child_slot (rule_at g i) (suc (child_count more)) in
-              list_of_front y l.0 p q (Child (Child more last) t) l.1 l.2 spans (long_enough l.0 p q 3 (Child (Child more last) t) len
+              list_of_prefix y l.0 p q (Child (Child more last) t) l.1 l.2 spans (long_enough l.0 p q 3 (Child (Child more last) t) len
               (add_last l.0 2 p m q (Child more last) t sl l.1 (ih.parted (omega arith) e l.0 l.1 (subst (λ z. IsInner (n.symbol z)) (sym l.2) (inner_list (n.symbol y) i s)) l.3 l.5 (omega arith)) st (trees _ sl st d)))
 
   -- what the recursion gives of children
   abbrev PlainFlat : ℕ → ℕ → ℕ → Children → Type 0
-  PlainFlat i p q cs = (r : ℕ) (rule : PlainRule) → r < length f.rules → IsInner (n.symbol (n.lhs r)) → n.source r ≡ i → rule_at g i ≡ Plain rule → child_count cs ≤ length (n.rhs r) → FrontFlat r p q cs (child_count cs)
+  PlainFlat i p q cs = (r : ℕ) (rule : PlainRule) → r < length f.rules → IsInner (n.symbol (n.lhs r)) → n.source r ≡ i → rule_at g i ≡ Plain rule → child_count cs ≤ length (n.rhs r) → PrefixFlat r p q cs (child_count cs)
 
   abbrev SequencesFlat : ℕ → ℕ → ℕ → Children → Type 0
   SequencesFlat i p q cs = (y : ℕ) → IsSequence (rule_at g i) → n.symbol y ≡ FlatList i → SequenceFlat i y p q cs
@@ -213,18 +213,18 @@ module _ (f g : Grammar) (n : FlatNames) (flat_edge edge : Edges) (laws : IsFlat
   node_flat : (x i p q a b : ℕ) (cs : Children) (slot : Slot) → StandsFor (n.symbol x) slot → Derives g edge slot p q (Node i cs a b) → PlainFlat i p q cs → SequencesFlat i p q cs → TreeFlat x p q (Node i cs a b)
   node_flat x i p q a b cs slot s d plain sequence = by_symbol (n.symbol x) refl s
     where
-      same : (r : ℕ) (w : FrontFlat r p q cs (length (n.rhs r))) → n.source r ≡ i → tree_of n (Node r w.0 p q) ≡ Node i cs a b
+      same : (r : ℕ) (w : PrefixFlat r p q cs (length (n.rhs r))) → n.source r ≡ i → tree_of n (Node r w.0 p q) ≡ Node i cs a b
       same r w src = λ j. Node (src j) (w.3 j) (sym d.from_is j) (sym d.to_is j)
 
-      some_child : p < q → (cs : Children) → DerivesFront g edge (rule_at g i) p q cs → 0 < child_count cs
+      some_child : p < q → (cs : Children) → DerivesPrefix g edge (rule_at g i) p q cs → 0 < child_count cs
       some_child lt NoChild fr = absurd (omega arith)
-      some_child lt (Child front t) fr = omega arith
+      some_child lt (Child prefix t) fr = omega arith
 
       by_rule : (slot' : Slot) → n.symbol x ≡ FlatSlot slot' → slot ≡ slot' → (rule : WrittenRule) → rule_at g i ≡ rule → TreeFlat x p q (Node i cs a b)
       by_rule slot' e same_slot (Plain r) is =
-          let live = node_live g edge (rule_at g i) p q cs d.complete d.front in
+          let live = node_live g edge (rule_at g i) p q cs d.complete d.prefix in
           let count : child_count cs ≡ length r.rhs = subst (λ rule. IsChildCount rule (child_count cs)) is d.complete in
-          let some = some_child d.spans cs d.front in
+          let some = some_child d.spans cs d.prefix in
           let fits : Fits (Plain r) slot' = subst (λ z. Fits (Plain r) z) same_slot (subst (λ rule. Fits rule slot) is d.fits) in
           let k = has.plain x i slot' r e d.in_range is fits (subst (IsLive g) is live) (omega arith) in
           let len = k.4 in
@@ -249,7 +249,7 @@ module _ (f g : Grammar) (n : FlatNames) (flat_edge edge : Edges) (laws : IsFlat
 
           by_end : (ends_with_separator r.separator (child_count cs) ≡ false) ⊎ (ends_with_separator r.separator (child_count cs) ≡ true) → TreeFlat x p q (Node i cs a b)
           by_end (inl h) =
-              let live = node_live g edge (rule_at g i) p q cs d.complete d.front in
+              let live = node_live g edge (rule_at g i) p q cs d.complete d.prefix in
               let k = has.whole x i slot' r e d.in_range is fits (subst (IsLive g) is live) in
               let rule = k.2 in
               let ends : EndsWithItem (rule_at g i) (child_count cs) = subst (λ z. EndsWithItem z (child_count cs)) (sym is) (complete.0, h) in
@@ -259,7 +259,7 @@ module _ (f g : Grammar) (n : FlatNames) (flat_edge edge : Edges) (laws : IsFlat
           by_end (inr h) =
               let two = two_children r.separator (child_count cs) complete.0 h in
               let enough : slot_count (rule_at g i) ≤ child_count cs = subst (λ z. slot_count z ≤ child_count cs) (sym is) two.0 in
-              let each = subst (EachChildSlot (IsProductive g)) is (each_productive i p q cs d.front enough) in
+              let each = subst (EachChildSlot (IsProductive g)) is (each_productive i p q cs d.prefix enough) in
               let proper = complete.1 h in
               let k = has.trailing x i slot' r e d.in_range is fits each two.1 proper in
               let rule = k.2 in
@@ -315,19 +315,19 @@ module _ (f g : Grammar) (n : FlatNames) (flat_edge edge : Edges) (laws : IsFlat
     tree_whole (Leaf s a b) x p q slot st d = leaf_flat x p q s a b slot st d
     tree_whole (Nulled s a) x p q slot st d = nulled_flat x p q s a slot st d
     tree_whole (Node i cs a b) x p q slot st d =
-        node_flat x i p q a b cs slot st d (plain_whole cs i p q d.front) (λ y sq s. sequence_whole cs i y p q sq s d.front)
+        node_flat x i p q a b cs slot st d (plain_whole cs i p q d.prefix) (λ y sq s. sequence_whole cs i y p q sq s d.prefix)
 
-    plain_whole : (cs : Children) (i p q : ℕ) → DerivesFront g edge (rule_at g i) p q cs → PlainFlat i p q cs
+    plain_whole : (cs : Children) (i p q : ℕ) → DerivesPrefix g edge (rule_at g i) p q cs → PlainFlat i p q cs
     plain_whole NoChild i p q d r rule lt inner src is h = no_children r p q d
-    plain_whole (Child front t) i p q (m, fr, l) r rule lt inner src is h =
-        let st = plain_at r (child_count front) i rule lt inner src is (omega arith) in
-        add_last r (child_count front) p m q front t (child_slot (rule_at g i) (child_count front)) lt (plain_whole front i p m fr r rule lt inner src is (omega arith)) st
-        (tree_whole t (slice_index (n.rhs r) (child_count front)) m q (child_slot (rule_at g i) (child_count front)) st l)
+    plain_whole (Child prefix t) i p q (m, fr, l) r rule lt inner src is h =
+        let st = plain_at r (child_count prefix) i rule lt inner src is (omega arith) in
+        add_last r (child_count prefix) p m q prefix t (child_slot (rule_at g i) (child_count prefix)) lt (plain_whole prefix i p m fr r rule lt inner src is (omega arith)) st
+        (tree_whole t (slice_index (n.rhs r) (child_count prefix)) m q (child_slot (rule_at g i) (child_count prefix)) st l)
 
-    sequence_whole : (cs : Children) (i y p q : ℕ) → IsSequence (rule_at g i) → n.symbol y ≡ FlatList i → DerivesFront g edge (rule_at g i) p q cs → SequenceFlat i y p q cs
+    sequence_whole : (cs : Children) (i y p q : ℕ) → IsSequence (rule_at g i) → n.symbol y ≡ FlatList i → DerivesPrefix g edge (rule_at g i) p q cs → SequenceFlat i y p q cs
     sequence_whole NoChild i y p q sq s d = record {
       ended = λ h. absurd (nothing (rule_at g i) h);
       parted = λ z. absurd (omega arith);
     }
-    sequence_whole (Child front t) i y p q sq s (m, fr, l) =
-        sequence_step i y p m q front t sq s fr l (sequence_whole front i y p m sq s fr) (λ x slot st d. tree_whole t x m q slot st d)
+    sequence_whole (Child prefix t) i y p q sq s (m, fr, l) =
+        sequence_step i y p m q prefix t sq s fr l (sequence_whole prefix i y p m sq s fr) (λ x slot st d. tree_whole t x m q slot st d)

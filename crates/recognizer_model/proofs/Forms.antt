@@ -58,8 +58,8 @@ abbrev mutual
 
   pub children_of : FlatNames → Children → Children
   children_of n NoChild = NoChild
-  children_of n (Child front last) =
-      cond (is_list_node n last) (join (children_of n front) (inside n last)) (Child (children_of n front) (tree_of n last))
+  children_of n (Child prefix last) =
+      cond (is_list_node n last) (join (children_of n prefix) (inside n last)) (Child (children_of n prefix) (tree_of n last))
 
   -- what a list's node stands for
   pub inside : FlatNames → Tree → Children

@@ -4,13 +4,14 @@ use Rattle.std.proofs.Common.{◌≡◌, ◌≢◌, ℕ, zero, suc, ◌+◌, ◌
 use Rattle.std.specs.Prelude.{slice_get}
 use Rattle.std.proofs.lemmas.Bool.{cases_lt, cases_eq}
 use Rattle.std.proofs.lemmas.Int.{by_lt_z, ints}
+use Rattle.finite_sets.proofs.Deciding.{most_itself, most_through}
+use Rattle.finite_sets.proofs.Members.{among_from, contains_from, Among}
 use Rattle.grammar_model.specs.Grammar.{Grammar, slot_of}
 use Rattle.grammar_model.specs.Trees.{Tree, Children, Leaf, Nulled, Node, NoChild, Child}
 use Rattle.grammar_model.specs.Derives.{Edges, Held}
 use Rattle.grammar_model.specs.declared.Edge.{Edge}
 use Rattle.grammar_model.specs.declared.Ranking.{Ranking}
 use Rattle.grammar_model.specs.declared.Ranking.TheVariants.{None as NoRanks, Rule as RuleRanks, High as HighRanks}
-use Rattle.grammar_model.proofs.Lists.{Among, among_from, contains_from}
 use Rattle.recognizer_model.specs.Flat.{FlatGrammar, IsRule, lhs_of, rhs_of, part_of, IsNullable}
 use Rattle.recognizer_model.specs.FlatDerives.{Derives, Token, Null, Rule, Spans, Nothing, More}
 use Rattle.recognizer_model.specs.FlatForm.{FlatEdges}
@@ -19,12 +20,6 @@ use Rattle.recognizer_model.specs.Invariant.{IsFlat, LeadsOver}
 use Rattle.recognizer_model.specs.Chosen.{Allowed, AreAllowed, AreAllowedIn, LeavesSome, flat_rank, allowed_by}
 use Rattle.recognizer_model.proofs.Views.{symbol_viewed, symbol_back}
 use Rattle.recognizer_model.proofs.FlatListed.{flat_list}
-
-most_itself : (x : ℤ) → x ≤ℤ x
-most_itself x = omega (arith, ints)
-
-most_through : (x y z : ℤ) → x ≤ℤ y → y ≤ℤ z → x ≤ℤ z
-most_through x y z a b = omega (arith, ints, a, b)
 
 -- of a list's elements one has the highest rank
 module _ {X : Type 0} (rank : X → ℤ) where
@@ -52,10 +47,10 @@ module _ {X : Type 0} (rank : X → ℤ) where
   highest_of (y ∷ ys) x m = highest y ys
 
 -- so have the first parts of a rule
-pub front_some : (g : FlatGrammar) (E : Edges) (allowed : Allowed) → LeavesSome g E allowed → {r d p q : ℕ} {cs : Children} → Spans g E r d p q cs → (ds : Children) × Spans g E r d p q ds × AreAllowedIn allowed ds
-front_some g E allowed leaves Nothing = (NoChild, Nothing, tt)
-front_some g E allowed leaves (More {m = m} {q = q} {x = x} {t = t} s e d) =
-    let (ds, s', c) = front_some g E allowed leaves s in
+pub prefix_some : (g : FlatGrammar) (E : Edges) (allowed : Allowed) → LeavesSome g E allowed → {r d p q : ℕ} {cs : Children} → Spans g E r d p q cs → (ds : Children) × Spans g E r d p q ds × AreAllowedIn allowed ds
+prefix_some g E allowed leaves Nothing = (NoChild, Nothing, tt)
+prefix_some g E allowed leaves (More {m = m} {q = q} {x = x} {t = t} s e d) =
+    let (ds, s', c) = prefix_some g E allowed leaves s in
     let (u, d', c') = leaves x m q t d in
     (Child ds u, More s' e d', (c, c'))
 
@@ -67,7 +62,7 @@ mutual
 
   all_alike_in : (w : Grammar) (g : FlatGrammar) (E : Edges) (cs : Children) → AreAllowedIn (allowed_by w NoRanks g E) cs
   all_alike_in w g E NoChild = tt
-  all_alike_in w g E (Child front last) = (all_alike_in w g E front, all_alike w g E last)
+  all_alike_in w g E (Child prefix last) = (all_alike_in w g E prefix, all_alike w g E last)
 
 mutual
   pub all_ruled : (w : Grammar) (g : FlatGrammar) (E : Edges) (t : Tree) → AreAllowed (allowed_by w RuleRanks g E) t
@@ -77,7 +72,7 @@ mutual
 
   all_ruled_in : (w : Grammar) (g : FlatGrammar) (E : Edges) (cs : Children) → AreAllowedIn (allowed_by w RuleRanks g E) cs
   all_ruled_in w g E NoChild = tt
-  all_ruled_in w g E (Child front last) = (all_ruled_in w g E front, all_ruled w g E last)
+  all_ruled_in w g E (Child prefix last) = (all_ruled_in w g E prefix, all_ruled w g E last)
 
 module _ (f : FlatGrammar) (w : Grammar) (flat : IsFlat f) (edges : List Edge) (forward : (s p q : ℕ) → Held edges s p q → p < q) where
   abbrev E : Edges
@@ -141,13 +136,13 @@ module _ (f : FlatGrammar) (w : Grammar) (flat : IsFlat f) (edges : List Edge) (
             beside a b other z ne is (inl lt) = all_nothing s a other z lt is
             beside a b other z ne is (inr ge') = behind b other z (omega (arith, ne)) is
 
-    front_chosen : {d n : ℕ} {cs : Children} → Spans f E r d p n cs → n ≤ q → (n ≡ q → (position z : ℕ) → d ≤ position → part_of f r position ≡ Some z → IsNullable f z) →
+    prefix_chosen : {d n : ℕ} {cs : Children} → Spans f E r d p n cs → n ≤ q → (n ≡ q → (position z : ℕ) → d ≤ position → part_of f r position ≡ Some z → IsNullable f z) →
         (ds : Children) × Spans f E r d p n ds × AreAllowedIn (allowed_by w HighRanks f E) ds
-    front_chosen Nothing le behind = (NoChild, Nothing, tt)
-    front_chosen (More {d = d} {m = m} {q = n} {x = y} {cs = cs} {t = t} s at t') le behind =
+    prefix_chosen Nothing le behind = (NoChild, Nothing, tt)
+    prefix_chosen (More {d = d} {m = m} {q = n} {x = y} {cs = cs} {t = t} s at t') le behind =
         let a = all_ahead s in
         let b = ahead t' in
-        let (ds, s', c) = front_chosen s (omega arith) (λ same position z le' is. beside (omega (arith, same)) (omega (arith, same)) position z is (cases_lt d position) le') in
+        let (ds, s', c) = prefix_chosen s (omega arith) (λ same position z le' is. beside (omega (arith, same)) (omega (arith, same)) position z is (cases_lt d position) le') in
         let (u, d', c') = last_chosen d y m n cs t s at t' a le (λ same position z lt is. behind same position z (omega arith) is) in
         (Child ds u, More s' at d', (c, c'))
       where
@@ -176,7 +171,7 @@ module _ (f : FlatGrammar) (w : Grammar) (flat : IsFlat f) (edges : List Edge) (
   from_highest (Null {x = x} {p = p} n) most smaller lower = (Nulled x p, Null n, tt)
   from_highest (Rule {p = p} {q = q} {r = r} rule l lt s) most smaller lower =
       let none : (position z : ℕ) → length (rhs_of f r) ≤ position → part_of f r position ≡ Some z → IsNullable f z = λ position z le is. absurd (past (rhs_of f r) position z le is) in
-      let (ds, s', c) = front_chosen p q r rule smaller (λ y t less d. lower y t (subst (λ k. flat.heights.height y < flat.heights.height k) l less) d) s (omega arith) (λ same. none) in
+      let (ds, s', c) = prefix_chosen p q r rule smaller (λ y t less d. lower y t (subst (λ k. flat.heights.height y < flat.heights.height k) l less) d) s (omega arith) (λ same. none) in
       (Node r ds p q, Rule rule l lt s', ((λ other children is same over. most (Node other children p q) (Rule is (same ∙ l) lt over)), c))
 
   module _ (p q : ℕ) (smaller : (y m n : ℕ) (t : Tree) → n + p < m + q → Derives f E y m n t → Chosen y m n) where

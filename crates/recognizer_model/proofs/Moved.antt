@@ -3,7 +3,7 @@ use Rattle.std.proofs.Common.{◌≡◌, ℕ, zero, suc, ◌<◌, ◌≤◌, Lis
 use Rattle.std.specs.Prelude.{slice_get}
 use Rattle.grammar_model.specs.Grammar.{Grammar, Slot, WrittenRule, slot_of, rule_at, slot_count, child_slot, Fits, IsTerminal, IsChildCount}
 use Rattle.grammar_model.specs.Trees.{Tree, Children, Leaf, Nulled, Node, NoChild, Child, child_count}
-use Rattle.grammar_model.specs.Derives.{Edges, Line, Derives, DerivesFront}
+use Rattle.grammar_model.specs.Derives.{Edges, Line, Derives, DerivesPrefix}
 use Rattle.grammar_model.specs.Acceptable.{Spells, IsAcceptable}
 use Rattle.grammar_model.proofs.Compose.{GoForward}
 
@@ -15,11 +15,11 @@ abbrev mutual
 
   pub moved_all : (ℕ → ℕ) → Children → Children
   moved_all f NoChild = NoChild
-  moved_all f (Child front last) = Child (moved_all f front) (moved f last)
+  moved_all f (Child prefix last) = Child (moved_all f prefix) (moved f last)
 
 pub count-moved : (f : ℕ → ℕ) (cs : Children) → child_count (moved_all f cs) ≡ child_count cs
 count-moved f NoChild = refl
-count-moved f (Child front last) = ap suc (count-moved f front)
+count-moved f (Child prefix last) = ap suc (count-moved f prefix)
 
 -- edges up to a place, and how they move
 module _ (g : Grammar) (old new : Edges) (f : ℕ → ℕ) (top : ℕ) (forward : GoForward old) (rises : (a b : ℕ) → a < b → b ≤ top → f a < f b) (moves : (s a b : ℕ) → old s a b → b ≤ top → new s (f a) (f b)) where
@@ -45,14 +45,14 @@ module _ (g : Grammar) (old new : Edges) (f : ℕ → ℕ) (top : ℕ) (forward 
       in_range = d.in_range;
       fits = d.fits;
       complete = subst (IsChildCount (rule_at g i)) (sym (count-moved f cs)) d.complete;
-      front = front_moved cs (rule_at g i) p q le d.front;
+      prefix = prefix_moved cs (rule_at g i) p q le d.prefix;
     }
 
-    pub front_moved : (cs : Children) (rule : WrittenRule) (p q : ℕ) → q ≤ top → DerivesFront g old rule p q cs → DerivesFront g new rule (f p) (f q) (moved_all f cs)
-    front_moved NoChild rule p q le d = ap f d
-    front_moved (Child front last) rule p q le (r, fr, d) =
+    pub prefix_moved : (cs : Children) (rule : WrittenRule) (p q : ℕ) → q ≤ top → DerivesPrefix g old rule p q cs → DerivesPrefix g new rule (f p) (f q) (moved_all f cs)
+    prefix_moved NoChild rule p q le d = ap f d
+    prefix_moved (Child prefix last) rule p q le (r, fr, d) =
         let h = ahead _ r q last d in
-        (f r, front_moved front rule p r (omega arith) fr, subst (λ k. Derives g new (child_slot rule k) (f r) (f q) (moved f last)) (sym (count-moved f front)) (tree_moved last (child_slot rule (child_count front)) r q le d))
+        (f r, prefix_moved prefix rule p r (omega arith) fr, subst (λ k. Derives g new (child_slot rule k) (f r) (f q) (moved f last)) (sym (count-moved f prefix)) (tree_moved last (child_slot rule (child_count prefix)) r q le d))
 
 -- the places on the path that spells a word
 pub nodes : (edge : Edges) (w : List ℕ) (p q : ℕ) → Spells edge p q w → ℕ → ℕ

@@ -7,7 +7,7 @@ use Rattle.recognizer_model.specs.FlatDerives.{Derives, Token, Null, Rule, Spans
 use Rattle.recognizer_model.specs.Contexts.{IsTop}
 use Rattle.recognizer_model.specs.Acceptable.{IsTerminal, OnlyTerminals, NoTerminalHasRules}
 use Rattle.recognizer_model.specs.Chosen.{Allowed, AreAllowed, AreAllowedIn, LeavesSome}
-use Rattle.recognizer_model.proofs.Leaving.{front_some}
+use Rattle.recognizer_model.proofs.Leaving.{prefix_some}
 use Rattle.recognizer_model.specs.Nodes.{Has, All, Fewer, Inside, IsUsed, IsMet, Whole, Before, Last, UsedAreMet}
 
 module _ (g : FlatGrammar) (E : Edges) (allowed : Allowed) (top : ℕ) (is_top : IsTop g top) (only : OnlyTerminals g E) (no_rules : NoTerminalHasRules g) where
@@ -46,11 +46,11 @@ module _ (g : FlatGrammar) (E : Edges) (allowed : Allowed) (top : ℕ) (is_top :
           chosen = c;
         }
 
-    backed_fewer : {r d p q : ℕ} {front : Children} {last : Tree} → Spans g E r d p q (Child front last) → IsMet g E allowed top place r d p q → AreAllowedIn allowed front → IsBacked r p (from_of last) front
-    backed_fewer (More {r = r} {d = d} {p = p} {cs = front} s e t) m c =
-        subst (λ k. IsBacked r p k front) (sym (from_is t)) (record { dot = d; spans = s; met = Before m s e t; chosen = c })
+    backed_fewer : {r d p q : ℕ} {prefix : Children} {last : Tree} → Spans g E r d p q (Child prefix last) → IsMet g E allowed top place r d p q → AreAllowedIn allowed prefix → IsBacked r p (from_of last) prefix
+    backed_fewer (More {r = r} {d = d} {p = p} {cs = prefix} s e t) m c =
+        subst (λ k. IsBacked r p k prefix) (sym (from_is t)) (record { dot = d; spans = s; met = Before m s e t; chosen = c })
 
-    backed_inside : {r d p q r' p' q' : ℕ} {front cs : Children} → Spans g E r d p q (Child front (Node r' cs p' q')) → IsMet g E allowed top place r d p q → AreAllowed allowed (Node r' cs p' q') → IsBacked r' p' q' cs
+    backed_inside : {r d p q r' p' q' : ℕ} {prefix cs : Children} → Spans g E r d p q (Child prefix (Node r' cs p' q')) → IsMet g E allowed top place r d p q → AreAllowed allowed (Node r' cs p' q') → IsBacked r' p' q' cs
     backed_inside (More s e (Rule {r = r'} rule l lt s')) m c =
         record { dot = length (rhs_of g r'); spans = s'; met = Last m s (e ∙ ap Some (sym l)) rule lt s' c.0; chosen = c.1 }
 
@@ -77,8 +77,8 @@ module _ (g : FlatGrammar) (E : Edges) (allowed : Allowed) (top : ℕ) (is_top :
           let k = in_tree met (Child cs u) (More s e d') (c, c') in
           record { tree = k.tree; derives = k.derives; chosen = k.chosen; has = subst (λ b. Has k.tree r p b cs) (from_is d') (Fewer k.has) }
       in_tree (Last {r' = r'} {m = m} {q = q} met s' e rule lt s'' is) cs s c =
-          let (ds, front, c') = front_some g E allowed leaves s' in
-          let k = in_tree met (Child ds (Node r' cs m q)) (More front e (Rule rule refl lt s)) (c', (is, c)) in
+          let (ds, prefix, c') = prefix_some g E allowed leaves s' in
+          let k = in_tree met (Child ds (Node r' cs m q)) (More prefix e (Rule rule refl lt s)) (c', (is, c)) in
           record { tree = k.tree; derives = k.derives; chosen = k.chosen; has = Inside k.has }
 
     pub met_spans : {r d p q : ℕ} → IsMet g E allowed top place r d p q → (cs : Children) × Spans g E r d p q cs
@@ -95,7 +95,7 @@ module _ (g : FlatGrammar) (E : Edges) (allowed : Allowed) (top : ℕ) (is_top :
   met_used : LeavesSome g E allowed → (place : ℕ) (n : NodeKey) → (0 < n.dot) × IsMet g E allowed top place n.rule n.dot n.origin n.end → IsUsed g E allowed top place n
   met_used leaves place n (lt, m) =
       let (cs, s) = met_spans place m in
-      let (ds, s', c) = front_some g E allowed leaves s in
+      let (ds, s', c) = prefix_some g E allowed leaves s in
       let k = in_tree place leaves m ds s' c in
       record { tree = k.tree; derives = k.derives; chosen = k.chosen; children = ds; has = k.has; dot_is = sym (count_is s'); some = lt }
 

@@ -6,7 +6,7 @@ use Rattle.std.proofs.lemmas.Bool.{cases_lt}
 use Rattle.grammar_model.specs.Grammar.{Grammar, WrittenRule, Slot, slot_of, rule_at, child_slot}
 use Rattle.grammar_model.specs.Grammar
 use Rattle.grammar_model.specs.Trees.{Tree, Leaf, Nulled, Node, Children, NoChild, Child, child_count}
-use Rattle.grammar_model.specs.Derives.{Edges, Line, DerivesFront}
+use Rattle.grammar_model.specs.Derives.{Edges, Line, DerivesPrefix}
 use Rattle.grammar_model.specs.Derives
 use Rattle.grammar_model.specs.Acceptable.{Spells, IsAcceptable}
 use Rattle.grammar_model.proofs.Compose.{GoForward}
@@ -131,11 +131,11 @@ module _ (g : FlatGrammar) (marks : MarksAreClosed g) (productive : PartsAreProd
           let same : s ≡ x = cc in
           subst (IsTerminal g) (sym der.symbol_is ∙ same) (h (subst (Grammar.IsTerminal (grammar_view g)) der.symbol_is der.terminal))
       tree_covers (Nulled s c) slot a b h der k x lo hi e = let f = der.from_is in let f' = der.to_is in absurd (omega arith)
-      tree_covers (Node i cs c d) slot a b h der k x lo hi e = go (λ rule le. front_covers cs i rule a b le der.front) (kind_of g i der.in_range) k x lo hi e
+      tree_covers (Node i cs c d) slot a b h der k x lo hi e = go (λ rule le. prefix_covers cs i rule a b le der.prefix) (kind_of g i der.in_range) k x lo hi e
         where
-          no_children : (cs : Children) → child_count cs ≡ 0 → DerivesFront (grammar_view g) (Line w) (rule_at (grammar_view g) i) a b cs → ⊥
+          no_children : (cs : Children) → child_count cs ≡ 0 → DerivesPrefix (grammar_view g) (Line w) (rule_at (grammar_view g) i) a b cs → ⊥
           no_children NoChild count f = let lt = der.spans in omega arith
-          no_children (Child front last) count f = omega arith
+          no_children (Child prefix last) count f = omega arith
 
           go : ((rule : IsRule g i) → child_count cs ≤ length (rhs_of g i) → Covers a b) → IsKindOf g i → Covers a b
           go inside (inl rule) =
@@ -143,16 +143,16 @@ module _ (g : FlatGrammar) (marks : MarksAreClosed g) (productive : PartsAreProd
               inside rule (omega (arith, count))
           go inside (inr (x, m, e)) =
               let count : child_count cs ≡ 0 = subst (λ z. Grammar.IsChildCount z (child_count cs)) e der.complete in
-              absurd (no_children cs count der.front)
+              absurd (no_children cs count der.prefix)
 
-      pub front_covers : (cs : Children) (i : ℕ) (rule : IsRule g i) (a b : ℕ) → child_count cs ≤ length (rhs_of g i) → DerivesFront (grammar_view g) (Line w) (rule_at (grammar_view g) i) a b cs → Covers a b
-      front_covers NoChild i rule a b le f k x lo hi e = absurd (omega arith)
-      front_covers (Child front last) i rule a b le (m, f, d) k x lo hi e =
-          let part : ℕ = slice_index (rhs_of g i) (child_count front) in
-          let is : child_slot (rule_at (grammar_view g) i) (child_count front) ≡ slot_of part = ap (λ z. child_slot z (child_count front)) (rule_viewed g i rule) in
-          let p = productive i (child_count front) part rule (index_get (rhs_of g i) (child_count front) (omega arith)) in
+      pub prefix_covers : (cs : Children) (i : ℕ) (rule : IsRule g i) (a b : ℕ) → child_count cs ≤ length (rhs_of g i) → DerivesPrefix (grammar_view g) (Line w) (rule_at (grammar_view g) i) a b cs → Covers a b
+      prefix_covers NoChild i rule a b le f k x lo hi e = absurd (omega arith)
+      prefix_covers (Child prefix last) i rule a b le (m, f, d) k x lo hi e =
+          let part : ℕ = slice_index (rhs_of g i) (child_count prefix) in
+          let is : child_slot (rule_at (grammar_view g) i) (child_count prefix) ≡ slot_of part = ap (λ z. child_slot z (child_count prefix)) (rule_viewed g i rule) in
+          let p = productive i (child_count prefix) part rule (index_get (rhs_of g i) (child_count prefix) (omega arith)) in
           ⊎_elim
-          (λ before. front_covers front i rule a m (omega arith) f k x lo before e)
+          (λ before. prefix_covers prefix i rule a m (omega arith) f k x lo before e)
           (λ after. tree_covers last (slot_of part) m b (terminal_of part p) (subst (λ z. Derives.Derives (grammar_view g) (Line w) z m b last) is d) k x after hi e)
           (cases_lt k m)
 

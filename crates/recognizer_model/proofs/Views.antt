@@ -6,7 +6,7 @@ use Rattle.grammar_model.specs.Grammar
 use Rattle.grammar_model.specs.Trees.{Tree, Leaf, Nulled, Node, Children, NoChild, Child, child_count}
 use Rattle.grammar_model.specs.Analysis.{IsNullableIn, IsStar}
 use Rattle.grammar_model.specs.Analysis
-use Rattle.grammar_model.specs.Derives.{Edges, DerivesFront}
+use Rattle.grammar_model.specs.Derives.{Edges, DerivesPrefix}
 use Rattle.grammar_model.specs.Derives
 use Rattle.recognizer_model.specs.Flat.{FlatGrammar, FlatRule, no_rule, IsRule, lhs_of, rhs_of, part_of, IsNullable}
 use Rattle.recognizer_model.specs.FlatDerives.{Derives, Token, Null, Rule, Spans, Nothing, More}
@@ -145,10 +145,10 @@ module _ (g : FlatGrammar) where
               in_range = in_view r rule;
               fits = subst (λ z. Grammar.Fits z (slot_of x)) (sym (rule_viewed r rule)) (l, lit≤ tt);
               complete = subst (λ z. Grammar.IsChildCount z (child_count cs)) (sym (rule_viewed r rule)) w.1;
-              front = w.0;
+              prefix = w.0;
             }
 
-        pub parts_viewed : {r d p q : ℕ} {cs : Children} → IsRule g r → Spans g E r d p q cs → DerivesFront (grammar_view g) E (rule_at (grammar_view g) r) p q cs × (child_count cs ≡ d)
+        pub parts_viewed : {r d p q : ℕ} {cs : Children} → IsRule g r → Spans g E r d p q cs → DerivesPrefix (grammar_view g) E (rule_at (grammar_view g) r) p q cs × (child_count cs ≡ d)
         parts_viewed rule Nothing = (refl, refl)
         parts_viewed rule (More {r = r} {d = d} {p = p} {m = m} {q = q} {x = x} {cs = cs} {t = t} s e h) =
             let w = parts_viewed rule s in
@@ -163,7 +163,7 @@ module _ (g : FlatGrammar) where
         symbol_back (Nulled s a) slot p q d =
             subst (λ z. Derives g E z p q (Nulled s a)) d.symbol_is (subst (λ z. Derives g E s z q (Nulled s a)) d.from_is (subst (λ z. Derives g E s a z (Nulled s a)) d.to_is
             (Null (subst (IsNullable g) (sym d.symbol_is) (marked_back d.nullable.0 slot d.nullable.1)))))
-        symbol_back (Node i cs a b) slot p q d = go (λ rule le. parts_back cs i rule p q le d.front) (kind_of i d.in_range)
+        symbol_back (Node i cs a b) slot p q d = go (λ rule le. parts_back cs i rule p q le d.prefix) (kind_of i d.in_range)
           where
             go : ((rule : IsRule g i) → child_count cs ≤ length (rhs_of g i) → Spans g E i (child_count cs) p q cs) → IsKindOf i → Derives g E slot.symbol p q (Node i cs a b)
             go back (inl rule) =
@@ -176,15 +176,15 @@ module _ (g : FlatGrammar) where
                 (subst (λ z. Spans g E i (length (rhs_of g i)) z b cs) (sym d.from_is) (subst (λ z. Spans g E i (length (rhs_of g i)) p z cs) (sym d.to_is) spans))))
             go back (inr (x, m, e)) =
                 let count : child_count cs ≡ 0 = subst (λ z. Grammar.IsChildCount z (child_count cs)) e d.complete in
-                absurd (no_children cs count d.front)
+                absurd (no_children cs count d.prefix)
               where
-                no_children : (cs : Children) → child_count cs ≡ 0 → DerivesFront (grammar_view g) E (rule_at (grammar_view g) i) p q cs → ⊥
+                no_children : (cs : Children) → child_count cs ≡ 0 → DerivesPrefix (grammar_view g) E (rule_at (grammar_view g) i) p q cs → ⊥
                 no_children NoChild c f = let lt = d.spans in omega arith
-                no_children (Child front last) c f = omega arith
+                no_children (Child prefix last) c f = omega arith
 
-        pub parts_back : (cs : Children) (r : ℕ) → IsRule g r → (p q : ℕ) → child_count cs ≤ length (rhs_of g r) → DerivesFront (grammar_view g) E (rule_at (grammar_view g) r) p q cs → Spans g E r (child_count cs) p q cs
+        pub parts_back : (cs : Children) (r : ℕ) → IsRule g r → (p q : ℕ) → child_count cs ≤ length (rhs_of g r) → DerivesPrefix (grammar_view g) E (rule_at (grammar_view g) r) p q cs → Spans g E r (child_count cs) p q cs
         parts_back NoChild r rule p q le f = subst (λ z. Spans g E r 0 p z NoChild) f Nothing
-        parts_back (Child front last) r rule p q le (m, f, d) =
-            let is : child_slot (rule_at (grammar_view g) r) (child_count front) ≡ slot_of (slice_index (rhs_of g r) (child_count front)) = ap (λ z. child_slot z (child_count front)) (rule_viewed r rule) in
-            let here = symbol_back last (child_slot (rule_at (grammar_view g) r) (child_count front)) m q d in
-            More (parts_back front r rule p m (omega arith) f) (index_get (rhs_of g r) (child_count front) (omega arith)) (subst (λ (z : Slot). Derives g E z.symbol m q last) is here)
+        parts_back (Child prefix last) r rule p q le (m, f, d) =
+            let is : child_slot (rule_at (grammar_view g) r) (child_count prefix) ≡ slot_of (slice_index (rhs_of g r) (child_count prefix)) = ap (λ z. child_slot z (child_count prefix)) (rule_viewed r rule) in
+            let here = symbol_back last (child_slot (rule_at (grammar_view g) r) (child_count prefix)) m q d in
+            More (parts_back prefix r rule p m (omega arith) f) (index_get (rhs_of g r) (child_count prefix) (omega arith)) (subst (λ (z : Slot). Derives g E z.symbol m q last) is here)

@@ -1,3 +1,4 @@
+-- Terminals that are acceptable at a place: some more make what is there a whole.
 use Rattle.std.specs.Prelude.{◌≡◌, ℕ, suc, ◌+◌, ◌≤◌, ◌⊎◌, ◌↔◌, List, [], ◌∷◌, length, Some, slice_get}
 use Rattle.std.specs.List.{AllByRecursion}
 use Rattle.recognizer_model.specs.declared.Item.{Item}

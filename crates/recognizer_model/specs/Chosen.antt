@@ -26,7 +26,7 @@ abbrev mutual
 
   pub AreAllowedIn : Allowed → Children → Type 0
   AreAllowedIn allowed NoChild = ⊤
-  AreAllowedIn allowed (Child front last) = AreAllowedIn allowed front × AreAllowed allowed last
+  AreAllowedIn allowed (Child prefix last) = AreAllowedIn allowed prefix × AreAllowed allowed last
 
 -- whatever derives has a derivation of allowed rules
 abbrev pub LeavesSome : FlatGrammar → Edges → Allowed → Type 0

@@ -1,3 +1,4 @@
+-- Where symbols may stand, what is found there, and Earley's theorem, which says the same of items.
 use Rattle.std.specs.Prelude.{◌≡◌, ℕ, Some, ◌↔◌, ◌≢◌}
 use Rattle.recognizer_model.specs.declared.Item.{Item}
 use Rattle.grammar_model.specs.Trees.{Children}

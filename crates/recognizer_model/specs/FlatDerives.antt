@@ -1,3 +1,4 @@
+-- Derivations over a flat grammar.
 use Rattle.grammar_model.specs.Derives.{Edges}
 use Rattle.std.specs.Prelude.{◌≡◌, ℕ, suc, ◌<◌, length, Some}
 use Rattle.grammar_model.specs.Trees.{Tree, Leaf, Nulled, Node, Children, NoChild, Child}

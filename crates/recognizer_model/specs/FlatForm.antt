@@ -118,8 +118,8 @@ is_list _ = false
 
 -- the children of one list after those of another
 abbrev pub join : Children → Children → Children
-join front NoChild = front
-join front (Child more last) = Child (join front more) last
+join prefix NoChild = prefix
+join prefix (Child more last) = Child (join prefix more) last
 
 abbrev pub is_list_node : FlatGrammar → Tree → Bool
 is_list_node f (Leaf x from to) = false
@@ -130,7 +130,7 @@ is_list_node f (Node r children from to) = is_list (symbol_at f (lhs_of f r))
 abbrev pub node_by : FlatSource → Children → (from to : ℕ) → Tree
 node_by (Written i) children from to = Node i children from to
 node_by (OfStart k) NoChild from to = Nulled 0 from
-node_by (OfStart k) (Child front last) from to = last
+node_by (OfStart k) (Child prefix last) from to = last
 
 abbrev mutual
   pub tree_of : Grammar → FlatGrammar → Tree → Tree
@@ -141,8 +141,8 @@ abbrev mutual
   -- a list's node stands for its children, which join those beside it
   pub children_of : Grammar → FlatGrammar → Children → Children
   children_of w f NoChild = NoChild
-  children_of w f (Child front last) =
-      cond (is_list_node f last) (join (children_of w f front) (inside w f last)) (Child (children_of w f front) (tree_of w f last))
+  children_of w f (Child prefix last) =
+      cond (is_list_node f last) (join (children_of w f prefix) (inside w f last)) (Child (children_of w f prefix) (tree_of w f last))
 
   -- what a list's node stands for
   pub inside : Grammar → FlatGrammar → Tree → Children

@@ -1,3 +1,4 @@
+-- The theorems of flat grammars, over edges of terminals that go forward.
 use Rattle.std.specs.Prelude.{ℕ, List, ◌<◌, Contains}
 use Rattle.grammar_model.specs.declared.Edge.{Edge}
 use Rattle.recognizer_model.specs.Flat.{FlatGrammar}

@@ -1,3 +1,4 @@
+-- Leo items, reduced sets, and what they hide. Source: Leo 1991.
 use Rattle.std.specs.Prelude.{◌≡◌, ℕ, ◌<◌, Some, ◌↔◌, ◌⊎◌}
 use Rattle.recognizer_model.specs.declared.Item.{Item}
 use Rattle.recognizer_model.specs.Flat.{FlatGrammar, IsRule, lhs_of, IsNullable}

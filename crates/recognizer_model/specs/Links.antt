@@ -1,3 +1,4 @@
+-- The links between items, and what they are counted by.
 use Rattle.std.specs.Prelude.{◌≡◌, ℕ, ◌+◌, ◌*◌, ◌<◌, Some}
 use Rattle.recognizer_model.specs.declared.Item.{Item}
 use Rattle.grammar_model.specs.Trees.{Tree, Children, Leaf, Nulled, Node, NoChild, Child, child_count}
@@ -15,7 +16,7 @@ abbrev mutual
 
   pub choices_among : Children → ℕ
   choices_among NoChild = 0
-  choices_among (Child front last) = choices_among front + choices last
+  choices_among (Child prefix last) = choices_among prefix + choices last
 
 -- the ways in which items lead to the items of a set
 pub data Link : Type 0 where

@@ -1,3 +1,4 @@
+-- Nodes that derivations of the whole have, and what is met on the way back from it.
 use Rattle.std.specs.Prelude.{◌≡◌, ℕ, suc, ◌<◌, ◌≤◌, ◌↔◌, length, Some}
 use Rattle.recognizer_model.specs.declared.Item.{Item}
 use Rattle.recognizer_model.specs.declared.NodeKey.{NodeKey}
@@ -12,8 +13,8 @@ use Rattle.recognizer_model.specs.Chosen.{Allowed, AreAllowed}
 -- a node of the tree, of that rule and begin, has these first children, and they end there
 pub data Has : Tree → (rule from to : ℕ) → Children → Type 0 where
   All : {r p q : ℕ} {cs : Children} → Has (Node r cs p q) r p q cs
-  Fewer : {t last : Tree} {r p q : ℕ} {front : Children} → Has t r p q (Child front last) → Has t r p (from_of last) front
-  Inside : {t : Tree} {r p q r' p' q' : ℕ} {front cs : Children} → Has t r p q (Child front (Node r' cs p' q')) → Has t r' p' q' cs
+  Fewer : {t last : Tree} {r p q : ℕ} {prefix : Children} → Has t r p q (Child prefix last) → Has t r p (from_of last) prefix
+  Inside : {t : Tree} {r p q r' p' q' : ℕ} {prefix cs : Children} → Has t r p q (Child prefix (Node r' cs p' q')) → Has t r' p' q' cs
 
 -- some derivation of the whole, of allowed rules, has such first children
 pub record IsUsed (g : FlatGrammar) (E : Edges) (allowed : Allowed) (top place : ℕ) (n : NodeKey) : Type 0 where

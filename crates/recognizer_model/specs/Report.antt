@@ -1,3 +1,4 @@
+-- Lines of a progress report, by a flat form.
 use Rattle.std.specs.Prelude.{◌≡◌, ℕ, Option, Some, None, is_some, ◌==◌, ◌&&◌, if◌then◌else◌, slice_index_or}
 use Rattle.recognizer_model.specs.declared.Item.{Item}
 use Rattle.recognizer_model.specs.declared.ReportLine.{ReportLine}

@@ -1,4 +1,4 @@
-//! Definitions that several crates cite.
+//! Definitions of flat grammars, their items and nodes, and laws of them; and the types that stand for these in programs.
 #![tactic(auto)]
 
 mod flat;

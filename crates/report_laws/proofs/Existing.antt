@@ -1,7 +1,8 @@
 -- A place's items are finitely many, so their lines are sorted, each once; and a report at a grammar of lists.
-use Rattle.std.proofs.Common.{arith, ◌≡◌, ℕ, zero, suc, ◌<◌, List, [], ◌∷◌, flat_map, inl, inr, Option, Some, None, refl, sym, ap, subst, lit<}
+use Rattle.std.proofs.Common.{arith, ◌≡◌, ℕ, ◌<◌, List, [], ◌∷◌, flat_map, inl, inr, Option, Some, None, refl, sym, ap, subst, lit<}
 use Rattle.std.specs.Prelude.{◌↔◌, slice_index_or, Contains}
 use Rattle.std.specs.List.Sorted.{IsStrictlySortedBy}
+use Rattle.std.proofs.lemmas.Option.{slice_get-get_or}
 use Rattle.grammar_model.specs.Grammar.{Grammar}
 use Rattle.grammar_model.specs.Derives.{Held}
 use Rattle.grammar_model.specs.declared.Edge.{Edge}
@@ -11,7 +12,6 @@ use Rattle.recognizer_model.specs.Flat.{FlatGrammar}
 use Rattle.recognizer_model.specs.FlatForm.{FlatEdges}
 use Rattle.recognizer_model.specs.Items.{InSet, Start, Predict, Scan, Complete}
 use Rattle.recognizer_model.specs.Report.{line_of, IsLine}
-use Rattle.recognizer_model.proofs.FlatNamed.{index_get}
 use Rattle.finite_sets.proofs.Members.{Among, among_from, contains_from, among_flat_map, among_flat_map_from}
 use Rattle.finite_sets.proofs.Sorting.{sorted_listed}
 use Rattle.flat_model.specs.Lists.{lists, flat_lists}
@@ -23,6 +23,7 @@ use Rattle.report_model.specs.Report.{line_cmp}
 use Rattle.report_laws.proofs.Flat.{report_of_flat}
 use Rattle.report_laws.specs.Laws.{ReportsExist, ReportsApply}
 use Rattle.report_model.proofs.Order.{lines_total, line_three}
+use Rattle.grammar_laws.proofs.Applied.{forward}
 
 -- ---- what an option holds
 
@@ -63,17 +64,11 @@ pub reports_exist : ReportsExist
 reports_exist w f edges start place is_flat form checked forward lt =
     let top = slice_index_or f.tops start 0 in
     let count = form.tops_all in
-    let top_is = index_get f.tops start 0 (omega (arith, lt, count)) in
+    let top_is = slice_get-get_or f.tops start 0 (omega (arith, lt, count)) in
     let (lines, s, exact) = placed w f edges top place forward in
     (lines, report_of_flat w f edges start place lines is_flat form checked forward (record { top = top; top_is = top_is; sorted = s; exact = exact }))
 
 -- ---- a list of two, behind its first item and the separator
-
-forward : GoForward (Held tokens)
-forward s p q (zero, lt, e) = subst (λ (t : Edge). t.from < t.to) e (lit< tt)
-forward s p q (suc zero, lt, e) = subst (λ (t : Edge). t.from < t.to) e (lit< tt)
-forward s p q (suc (suc zero), lt, e) = subst (λ (t : Edge). t.from < t.to) e (lit< tt)
-forward s p q (suc (suc (suc k)), lt, e) = absurd (omega arith)
 
 abbrev At : (place rule dot : ℕ) → Type 0
 At place rule dot = InSet flat_lists (FlatEdges flat_lists (Held tokens)) 13 place (record { rule = rule; dot = dot; origin = 0 })

@@ -1,6 +1,7 @@
 -- The report of a place tells its item set, by any flat form.
 use Rattle.std.proofs.Common.{◌≡◌, ℕ, ◌<◌, List, Some, ◌↔◌, length, arith}
 use Rattle.std.specs.Prelude.{slice_get, slice_index_or}
+use Rattle.std.proofs.lemmas.Option.{slice_get-get_or}
 use Rattle.grammar_model.specs.Grammar.{Grammar}
 use Rattle.grammar_model.specs.Derives.{Held}
 use Rattle.grammar_model.specs.Checked.{IsChecked}
@@ -11,7 +12,6 @@ use Rattle.recognizer_model.specs.FlatForm.{FlatEdges, IsFlatOf}
 use Rattle.recognizer_model.specs.Invariant.{IsFlat}
 use Rattle.recognizer_model.specs.Report
 use Rattle.recognizer_model.proofs.Earley.{items_are_found}
-use Rattle.recognizer_model.proofs.FlatNamed.{index_get}
 use Rattle.grammar_laws.specs.Laws.{GoForward}
 use Rattle.report_model.specs.Report.{IsLine, IsReport}
 use Rattle.report_model.specs.FlatReport.{IsFlatReport}
@@ -32,7 +32,7 @@ pub flat_of_report : (w : Grammar) (f : FlatGrammar) (edges : List Edge) (start 
 flat_of_report w f edges start place lines is_flat form checked forward lt r =
     let top = slice_index_or f.tops start 0 in
     let count = form.tops_all in
-    let top_is = index_get f.tops start 0 (omega (arith, lt, count)) in
+    let top_is = slice_get-get_or f.tops start 0 (omega (arith, lt, count)) in
     let same = lines_are_flat w f edges is_flat form checked forward start top top_is place in
     record { top = top; top_is = top_is; sorted = r.sorted; exact = λ line. (λ c. (same line).0 ((r.exact line).0 c), λ l. (r.exact line).1 ((same line).1 l)) }
 

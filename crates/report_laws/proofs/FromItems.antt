@@ -2,7 +2,9 @@
 use Rattle.std.proofs.Common.{◌≡◌, ℕ, zero, suc, ◌<◌, ◌≤◌, ◌+◌, Bool, true, false, cond, not, length, ◌⊎◌, inl, inr, Option, Some, None, refl, sym, ap, ◌∙◌, subst, arith}
 use Rattle.std.specs.Prelude.{◌==◌, ◌&&◌, is_some, slice_get, slice_index, slice_index_or}
 use Rattle.std.proofs.lemmas.Bool.{true≢false, ne_eqb}
-use Rattle.grammar_model.specs.Grammar.{Grammar, WrittenRule, Plain, Slot, slot_of, rule_at, lhs_of, level_of, Fits, child_slot, is_even, is_item, ends_with_separator, IsChildCount}
+use Rattle.std.proofs.lemmas.Option.{slice_get-get_or}
+use Rattle.finite_sets.proofs.Lists.{get_index}
+use Rattle.grammar_model.specs.Grammar.{Grammar, WrittenRule, Plain, Slot, slot_of, rule_at, lhs_of, Fits, child_slot, is_even, is_item, ends_with_separator, IsChildCount}
 use Rattle.grammar_model.specs.Grammar
 use Rattle.grammar_model.specs.Trees.{Children, NoChild, Child, child_count}
 use Rattle.grammar_model.specs.Analysis.{IsLive}
@@ -25,9 +27,9 @@ use Rattle.recognizer_model.specs.Report.{written_dot, line_by, line_of}
 use Rattle.recognizer_model.proofs.Forms
 use Rattle.recognizer_model.proofs.Forms.{FlatTerminal, FlatSlot, FlatList, FlatTop, FlatNames, IsInner, IsHead, IsPart, StandsFor, IsSequence, EndsWithItem, children_of}
 use Rattle.recognizer_model.proofs.Views.{in_view, parts_viewed}
-use Rattle.recognizer_model.proofs.FlatNamed.{form, get_index, index_get}
+use Rattle.recognizer_model.proofs.FlatNamed.{form}
 use Rattle.recognizer_model.proofs.FlatJoin.{view, names, at_symbol, flat_at, is_rule, left_is, source_is, length_is, part_is, lhs_is, rhs_is, view_part, only, reads}
-use Rattle.recognizer_model.proofs.FlatSound.{Alike, slot_alike, front_sound}
+use Rattle.recognizer_model.proofs.FlatSound.{Alike, slot_alike, prefix_sound}
 use Rattle.report_model.specs.Report.{AreFirst, MayStand, AtStart, Next, dot_behind, IsLine}
 
 -- ---- the dots of sequences
@@ -112,7 +114,7 @@ inner_or_top (Top k) = inr (k, refl)
 
 no_children : (cs : Children) → child_count cs ≡ 0 → cs ≡ NoChild
 no_children NoChild e = refl
-no_children (Child front last) e = absurd (omega arith)
+no_children (Child prefix last) e = absurd (omega arith)
 
 -- ---- flat rules that are no top's
 
@@ -215,7 +217,7 @@ module _ (f : FlatGrammar) (w : Grammar) (flat : IsFlat f) (made : IsFlatOf f w)
         let same = ap length (rhs_is f w flat made checked r rule) in
         let some = flat.some r rule in
         let count = v.1 in
-        let fs = front_sound F w n E edge laws cs r p q (in_view f r rule) inner (omega (arith, le, same, count)) v.0 in
+        let fs = prefix_sound F w n E edge laws cs r p q (in_view f r rule) inner (omega (arith, le, same, count)) v.0 in
         let head = laws.head r (in_view f r rule) (omega (arith, same, some)) in
         let u = under (n.symbol (n.lhs r)) (n.source r) p (length (n.rhs r)) head inner st in
         let src = source_at r rule inner in
@@ -234,7 +236,7 @@ module _ (f : FlatGrammar) (w : Grammar) (flat : IsFlat f) (made : IsFlatOf f w)
             complete = o.complete;
             some = o.some;
             first = o.first;
-            front = fs.0;
+            prefix = fs.0;
           };
           more = o.more;
           alike = alike;
@@ -319,7 +321,7 @@ module _ (f : FlatGrammar) (w : Grammar) (flat : IsFlat f) (made : IsFlatOf f w)
         in_line i is same (inr (k, top)) =
             let left = lhs_is f w flat made checked item.rule found.is_rule in
             let symbol : slice_get f.symbols (Flat.lhs_of f item.rule) ≡ Some (Top k) =
-            index_get f.symbols (Flat.lhs_of f item.rule) (Top 0) (flat.in_range.left item.rule found.is_rule) ∙ ap Some (ap (symbol_at f) (sym left) ∙ top) in
+            slice_get-get_or f.symbols (Flat.lhs_of f item.rule) (Top 0) (flat.in_range.left item.rule found.is_rule) ∙ ap Some (ap (symbol_at f) (sym left) ∙ top) in
             absurd (subst (HasSource (Top k)) is (flat.sources item.rule (Top k) found.is_rule symbol))
 
         by_source : (o : FlatSource) → source_of f item.rule ≡ o → line_by w o item ≡ Some line → IsLine w edge start place line

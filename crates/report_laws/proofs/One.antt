@@ -1,8 +1,9 @@
 -- A place has one report.
-use Rattle.grammar_model.proofs.Lists.{among_from, contains_from, one_sorted}
+use Rattle.grammar_model.proofs.Lists.{one_sorted}
 use Rattle.report_model.specs.Report.{line_cmp}
 use Rattle.report_laws.specs.Laws.{ReportIsOne}
 use Rattle.report_model.proofs.Order.{line_asym}
+use Rattle.finite_sets.proofs.Members.{among_from, contains_from}
 
 pub report_is_one : ReportIsOne
 report_is_one g edges start place xs ys a b =

@@ -3,14 +3,15 @@ use Rattle.std.proofs.Common.{◌≡◌, ℕ, zero, suc, ◌<◌, ◌≤◌, ◌
 use Rattle.std.specs.Prelude.{is_some, slice_get, slice_index, slice_index_or}
 use Rattle.std.specs.Option.{option_to_list}
 use Rattle.std.proofs.lemmas.Bool.{true≢false, cases_Bool}
-use Rattle.grammar_model.specs.Grammar.{Grammar, PlainRule, SequenceRule, WrittenRule, Plain, Slot, slot_of, rule_at, lhs_of, Fits, child_slot, slot_count, EachChildSlot, is_even, is_item, sequence_symbol, ends_with_separator, has_trailing, IsTerminal, IsChildCount}
+use Rattle.std.proofs.lemmas.Option.{slice_get-get_or}
+use Rattle.grammar_model.specs.Grammar.{Grammar, PlainRule, SequenceRule, WrittenRule, Plain, Slot, slot_of, rule_at, lhs_of, Fits, child_slot, slot_count, EachChildSlot, is_even, is_item, sequence_symbol, ends_with_separator, IsChildCount}
 use Rattle.grammar_model.specs.Grammar
 use Rattle.grammar_model.specs.Trees.{Tree, Leaf, Nulled, Node, Children, NoChild, Child, child_count}
 use Rattle.grammar_model.specs.Analysis.{IsProductive, IsLive}
-use Rattle.grammar_model.specs.Derives.{Edges, Derives, DerivesFront}
+use Rattle.grammar_model.specs.Derives.{Edges, Derives, DerivesPrefix}
 use Rattle.grammar_model.specs.Checked.{IsChecked}
 use Rattle.grammar_model.proofs.Compose.{GoForward}
-use Rattle.grammar_model.proofs.Productive.{item_first, front_productive}
+use Rattle.grammar_model.proofs.Productive.{item_first, prefix_productive}
 use Rattle.recognizer_model.specs.declared.Item.{Item}
 use Rattle.recognizer_model.specs.declared.ReportLine.{ReportLine}
 use Rattle.recognizer_model.specs.Flat.{FlatGrammar, IsRule, rhs_of, source_of, part_of}
@@ -23,9 +24,9 @@ use Rattle.recognizer_model.specs.Items.{after, first_item, advanced, InSet, Sta
 use Rattle.recognizer_model.specs.FlatForm.{NamedRule, IsRuleOf, OfPlain, OfList, OfTrailing, OfItem, OfItems, OfSeparated, OfTop, IsFlatOf, named, source_number, FlatEdges}
 use Rattle.recognizer_model.specs.Report.{written_dot, line_by, line_of}
 use Rattle.recognizer_model.proofs.Forms
-use Rattle.recognizer_model.proofs.Forms.{FlatTerminal, FlatSlot, FlatList, FlatTop, FlatNames, HasFlatRules, HasRule, HasListRule, IsInner, IsPart, StandsFor, IsSequence, EndsWithItem}
+use Rattle.recognizer_model.proofs.Forms.{FlatTerminal, FlatSlot, FlatList, FlatTop, FlatNames, HasFlatRules, HasRule, IsInner, IsPart, StandsFor, IsSequence, EndsWithItem}
 use Rattle.recognizer_model.proofs.Views.{symbol_back}
-use Rattle.recognizer_model.proofs.FlatNamed.{form, index_get, stands_for}
+use Rattle.recognizer_model.proofs.FlatNamed.{form, stands_for}
 use Rattle.recognizer_model.proofs.FlatJoin.{view, names, at_symbol, flat_at, is_rule, left_is, part_is, real, lhs_is, rhs_is, only, reads, has}
 use Rattle.recognizer_model.proofs.FlatSound.{Alike, alike_same, alike_one, slot_alike}
 use Rattle.recognizer_model.proofs.FlatWhole.{tree_whole}
@@ -46,15 +47,15 @@ data Ends (r : SequenceRule) : Children → Type 0 where
 
 ends : (r : SequenceRule) (cs : Children) → Ends r cs
 ends r NoChild = Empty
-ends r (Child front last) = go (omega arith) r.separator refl
+ends r (Child prefix last) = go (omega arith) r.separator refl
   where
-    even : 0 < child_count (Child front last) → (c : ℕ) → r.separator ≡ Some c → (is_even (child_count (Child front last)) ≡ true) ⊎ (is_even (child_count (Child front last)) ≡ false) → Ends r (Child front last)
+    even : 0 < child_count (Child prefix last) → (c : ℕ) → r.separator ≡ Some c → (is_even (child_count (Child prefix last)) ≡ true) ⊎ (is_even (child_count (Child prefix last)) ≡ false) → Ends r (Child prefix last)
     even pos c is (inl e) = WithSeparator pos is e
-    even pos c is (inr e) = WithItem pos (ap (λ z. ends_with_separator z (child_count (Child front last))) is ∙ e)
+    even pos c is (inr e) = WithItem pos (ap (λ z. ends_with_separator z (child_count (Child prefix last))) is ∙ e)
 
-    go : 0 < child_count (Child front last) → (o : Option ℕ) → r.separator ≡ o → Ends r (Child front last)
-    go pos None is = WithItem pos (ap (λ z. ends_with_separator z (child_count (Child front last))) is)
-    go pos (Some c) is = even pos c is (cases_Bool (is_even (child_count (Child front last))))
+    go : 0 < child_count (Child prefix last) → (o : Option ℕ) → r.separator ≡ o → Ends r (Child prefix last)
+    go pos None is = WithItem pos (ap (λ z. ends_with_separator z (child_count (Child prefix last))) is)
+    go pos (Some c) is = even pos c is (cases_Bool (is_even (child_count (Child prefix last))))
 
 odd_before : (m : ℕ) → is_even (suc m) ≡ false → is_even m ≡ true
 odd_before m e = go (is_even m) e
@@ -160,7 +161,7 @@ module _ (f : FlatGrammar) (w : Grammar) (flat : IsFlat f) (made : IsFlatOf f w)
   part_at : {x i parts : ℕ} (u : RuleOf x i parts) (j : ℕ) → j < parts → part_of f u.rule j ≡ Some (part u j)
   part_at u j lt =
       let c = u.count in
-      index_get (rhs_of f u.rule) j 0 (omega (arith, c, lt)) ∙ ap (λ z. Some (slice_index z j)) (sym (rhs_is f w flat made checked u.rule u.is))
+      slice_get-get_or (rhs_of f u.rule) j 0 (omega (arith, c, lt)) ∙ ap (λ z. Some (slice_index z j)) (sym (rhs_is f w flat made checked u.rule u.is))
 
   -- a part that is no list stands for the child slot of a place like it
   part_stands : {x i parts : ℕ} (u : RuleOf x i parts) (j k : ℕ) → IsInner (n.symbol x) → j < parts → (IsSequence (rule_at w i) → 0 < j) → Alike (rule_at w i) j k → StandsFor (n.symbol (part u j)) (child_slot (rule_at w i) k)
@@ -192,11 +193,11 @@ module _ (f : FlatGrammar) (w : Grammar) (flat : IsFlat f) (made : IsFlatOf f w)
   child_spans i k m q (Nulled s a) sq d = absurd (all_rules.items i k sq d.nullable)
   child_spans i k m q (Node r cs a b) sq d = d.spans
 
-  children_span : (i p q : ℕ) (cs : Children) → IsSequence (rule_at w i) → DerivesFront w edge (rule_at w i) p q cs → p + child_count cs ≤ q
+  children_span : (i p q : ℕ) (cs : Children) → IsSequence (rule_at w i) → DerivesPrefix w edge (rule_at w i) p q cs → p + child_count cs ≤ q
   children_span i p q NoChild sq d = omega (arith, d)
-  children_span i p q (Child front t) sq (m, fr, l) =
-      let a = children_span i p m front sq fr in
-      let b = child_spans i (child_count front) m q t sq l in
+  children_span i p q (Child prefix t) sq (m, fr, l) =
+      let a = children_span i p m prefix sq fr in
+      let b = child_spans i (child_count prefix) m q t sq l in
       omega arith
 
   module _ (start top : ℕ) (top_is : slice_get f.tops start ≡ Some top) where
@@ -237,11 +238,11 @@ module _ (f : FlatGrammar) (w : Grammar) (flat : IsFlat f) (made : IsFlatOf f w)
       plain_part : (j : ℕ) → j < length r.rhs → StandsFor (n.symbol (part plain j)) (child_slot (rule_at w i) j)
       plain_part j lt = part_stands plain j j (subst IsInner (sym s.slot_is) tt) lt (λ q. absurd (subst IsSequence is q)) (alike_same (rule_at w i) j)
 
-      plain_at : (cs : Children) (q : ℕ) → DerivesFront w edge (rule_at w i) p q cs → child_count cs ≤ length r.rhs → In q (record { rule = plain.rule; dot = child_count cs; origin = p })
+      plain_at : (cs : Children) (q : ℕ) → DerivesPrefix w edge (rule_at w i) p q cs → child_count cs ≤ length r.rhs → In q (record { rule = plain.rule; dot = child_count cs; origin = p })
       plain_at NoChild q d le = subst (λ z. In z (first_item plain.rule p)) d (Predict s.inside s.waits plain.is plain.left)
-      plain_at (Child front t) q (m, fr, l) le =
-          over t m q (child_slot (rule_at w i) (child_count front)) (part plain (child_count front)) (record { rule = plain.rule; dot = child_count front; origin = p })
-          (plain_part (child_count front) (omega arith)) l (plain_at front m fr (omega arith)) (part_at plain (child_count front) (omega arith))
+      plain_at (Child prefix t) q (m, fr, l) le =
+          over t m q (child_slot (rule_at w i) (child_count prefix)) (part plain (child_count prefix)) (record { rule = plain.rule; dot = child_count prefix; origin = p })
+          (plain_part (child_count prefix) (omega arith)) l (plain_at prefix m fr (omega arith)) (part_at plain (child_count prefix) (omega arith))
 
     -- ---- sequence rules
 
@@ -320,9 +321,9 @@ module _ (f : FlatGrammar) (w : Grammar) (flat : IsFlat f) (made : IsFlatOf f w)
           (subst (λ z. Alike z 2 k) (sym is) ((λ z. pos), ap (λ z. is_item z 2) sep ∙ sym even ∙ sym (ap (λ z. is_item z k) sep)))
 
       -- the separator is productive where one is among the children
-      separated : (c q : ℕ) (cs : Children) → DerivesFront w edge (rule_at w i) p q cs → r.separator ≡ Some c → 2 ≤ child_count cs → Longer
-      separated c q cs front sep two =
-          let (k, each) = front_productive w edge cs (rule_at w i) p q front in
+      separated : (c q : ℕ) (cs : Children) → DerivesPrefix w edge (rule_at w i) p q cs → r.separator ≡ Some c → 2 ≤ child_count cs → Longer
+      separated c q cs prefix sep two =
+          let (k, each) = prefix_productive w edge cs (rule_at w i) p q prefix in
           longer (each_slot r live (λ c' sep'. (let here : child_slot (rule_at w i) 1 ≡ slot_of c' = ap (λ z. child_slot z 1) is ∙ ap (λ z. slot_of (sequence_symbol r.item z 1)) sep' in
           subst (IsProductive w) here (k, each 1 (omega (arith, two))))))
 
@@ -331,8 +332,8 @@ module _ (f : FlatGrammar) (w : Grammar) (flat : IsFlat f) (made : IsFlatOf f w)
         ended : 0 < child_count cs → ends_with_separator r.separator (child_count cs) ≡ false → IsListed q
         parted : (c : ℕ) → 0 < child_count cs → r.separator ≡ Some c → is_even (child_count cs) ≡ true → (b : Longer) → In q (record { rule = b.rule.rule; dot = 2; origin = p })
 
-      further : (m k : ℕ) (front : Children) → DerivesFront w edge (rule_at w i) p m front → child_count front ≡ k → 0 < k → p < m
-      further m k front fr e pos = let h = children_span i p m front sq fr in omega (arith, h, e, pos)
+      further : (m k : ℕ) (prefix : Children) → DerivesPrefix w edge (rule_at w i) p m prefix → child_count prefix ≡ k → 0 < k → p < m
+      further m k prefix fr e pos = let h = children_span i p m prefix sq fr in omega (arith, h, e, pos)
 
       short : RuleOf list i 1
       unfolding rule_of all_rules has_list
@@ -350,47 +351,47 @@ module _ (f : FlatGrammar) (w : Grammar) (flat : IsFlat f) (made : IsFlatOf f w)
       alone : r.separator ≡ None → Longer
       alone sep = longer (each_slot r live (λ c sep'. (let bad : None ≡ Some c = sym sep ∙ sep' in absurd (cc))))
 
-      ended_step : (front : Children) (t : Tree) (m q : ℕ) → Ends r front → DerivesFront w edge (rule_at w i) p m front → Derives w edge (child_slot (rule_at w i) (child_count front)) m q t → Gone front m →
-          ends_with_separator r.separator (suc (child_count front)) ≡ false → IsListed q
-      ended_step front t m q (Empty) fr l g end =
+      ended_step : (prefix : Children) (t : Tree) (m q : ℕ) → Ends r prefix → DerivesPrefix w edge (rule_at w i) p m prefix → Derives w edge (child_slot (rule_at w i) (child_count prefix)) m q t → Gone prefix m →
+          ends_with_separator r.separator (suc (child_count prefix)) ≡ false → IsListed q
+      ended_step prefix t m q (Empty) fr l g end =
           listed q short (over t m q (child_slot (rule_at w i) 0) (part short 0) (first_item short.rule p) short_part l (subst (λ z. In z (first_item short.rule p)) fr short_in) (part_at short 0 (omega arith)))
-      ended_step front t m q (WithItem pos before) fr l g end = go r.separator refl
+      ended_step prefix t m q (WithItem pos before) fr l g end = go r.separator refl
         where
           go : (o : Option ℕ) → r.separator ≡ o → IsListed q
           go None sep =
               let b = alone sep in
               let count = count_of r None sep in
-              let there = over t m q (child_slot (rule_at w i) (child_count front)) (part b.rule 1) (record { rule = b.rule.rule; dot = 1; origin = p }) (item_part b (child_count front) pos sep) l
-              (past_longer m b (further m (child_count front) front fr refl pos) (g.ended pos before)) (part_at b.rule 1 (omega (arith, count))) in
+              let there = over t m q (child_slot (rule_at w i) (child_count prefix)) (part b.rule 1) (record { rule = b.rule.rule; dot = 1; origin = p }) (item_part b (child_count prefix) pos sep) l
+              (past_longer m b (further m (child_count prefix) prefix fr refl pos) (g.ended pos before)) (part_at b.rule 1 (omega (arith, count))) in
               listed q b.rule (subst (λ z. In q (record { rule = b.rule.rule; dot = z; origin = p })) (sym (ap suc count)) there)
           go (Some c) sep =
-              let a : is_even (child_count front) ≡ false = sym (ap (λ z. ends_with_separator z (child_count front)) sep) ∙ before in
-              let e : not (is_even (child_count front)) ≡ false = sym (ap (λ z. ends_with_separator z (suc (child_count front))) sep) ∙ end in
+              let a : is_even (child_count prefix) ≡ false = sym (ap (λ z. ends_with_separator z (child_count prefix)) sep) ∙ before in
+              let e : not (is_even (child_count prefix)) ≡ false = sym (ap (λ z. ends_with_separator z (suc (child_count prefix))) sep) ∙ end in
               absurd (true≢false (sym (ap not a) ∙ e))
-      ended_step front t m q (WithSeparator {c = c} pos sep even) fr l g end =
-          let b = separated c m front fr sep (two_at_least (child_count front) pos even) in
+      ended_step prefix t m q (WithSeparator {c = c} pos sep even) fr l g end =
+          let b = separated c m prefix fr sep (two_at_least (child_count prefix) pos even) in
           let count = count_of r (Some c) sep in
-          let there = over t m q (child_slot (rule_at w i) (child_count front)) (part b.rule 2) (record { rule = b.rule.rule; dot = 2; origin = p }) (item_behind b c (child_count front) pos sep even) l
+          let there = over t m q (child_slot (rule_at w i) (child_count prefix)) (part b.rule 2) (record { rule = b.rule.rule; dot = 2; origin = p }) (item_behind b c (child_count prefix) pos sep even) l
           (g.parted c pos sep even b) (part_at b.rule 2 (omega (arith, count))) in
           listed q b.rule (subst (λ z. In q (record { rule = b.rule.rule; dot = z; origin = p })) (sym (ap suc count)) there)
 
-      gone : (cs : Children) (q : ℕ) → DerivesFront w edge (rule_at w i) p q cs → Gone cs q
+      gone : (cs : Children) (q : ℕ) → DerivesPrefix w edge (rule_at w i) p q cs → Gone cs q
       gone NoChild q d = record { ended = λ pos. absurd (omega arith); parted = λ c pos. absurd (omega arith) }
-      gone (Child front t) q (m, fr, l) =
-          let g = gone front m fr in
+      gone (Child prefix t) q (m, fr, l) =
+          let g = gone prefix m fr in
           record {
-            ended = λ pos end. ended_step front t m q (ends r front) fr l g end;
+            ended = λ pos end. ended_step prefix t m q (ends r prefix) fr l g end;
             parted = λ c pos sep even b.
-                (let odd = even_before (child_count front) even in
-                let end : ends_with_separator r.separator (child_count front) ≡ false = ap (λ z. ends_with_separator z (child_count front)) sep ∙ odd in
-                let some = odd_some (child_count front) odd in
+                (let odd = even_before (child_count prefix) even in
+                let end : ends_with_separator r.separator (child_count prefix) ≡ false = ap (λ z. ends_with_separator z (child_count prefix)) sep ∙ odd in
+                let some = odd_some (child_count prefix) odd in
                 let count = count_of r (Some c) sep in
-                over t m q (child_slot (rule_at w i) (child_count front)) (part b.rule 1) (record { rule = b.rule.rule; dot = 1; origin = p }) (separator_part b c (child_count front) some end sep) l
-                (past_longer m b (further m (child_count front) front fr refl some) (g.ended some end)) (part_at b.rule 1 (omega (arith, count))));
+                over t m q (child_slot (rule_at w i) (child_count prefix)) (part b.rule 1) (record { rule = b.rule.rule; dot = 1; origin = p }) (separator_part b c (child_count prefix) some end sep) l
+                (past_longer m b (further m (child_count prefix) prefix fr refl some) (g.ended some end)) (part_at b.rule 1 (omega (arith, count))));
           }
 
       -- what comes behind them
-      sequence_next : (cs : Children) (q : ℕ) → Ends r cs → DerivesFront w edge (rule_at w i) p q cs → IsProductive w (child_slot (rule_at w i) (child_count cs)) → IsAwaited (child_slot (rule_at w i) (child_count cs)) q
+      sequence_next : (cs : Children) (q : ℕ) → Ends r cs → DerivesPrefix w edge (rule_at w i) p q cs → IsProductive w (child_slot (rule_at w i) (child_count cs)) → IsAwaited (child_slot (rule_at w i) (child_count cs)) q
       sequence_next cs q (Empty) fr prod = record {
         symbol = part short 0;
         stands = short_part;
@@ -429,7 +430,7 @@ module _ (f : FlatGrammar) (w : Grammar) (flat : IsFlat f) (made : IsFlatOf f w)
           }
 
       -- an item of the rule, with its dot behind them
-      sequence_line : (cs : Children) (q : ℕ) → Ends r cs → DerivesFront w edge (rule_at w i) p q cs →
+      sequence_line : (cs : Children) (q : ℕ) → Ends r cs → DerivesPrefix w edge (rule_at w i) p q cs →
           (item : Item) × In q item × (source_of f item.rule ≡ Written i) × (item.origin ≡ p) × (written_dot (rule_at w i) item.dot ≡ dot_behind (rule_at w i) (child_count cs))
       sequence_line cs q (Empty) fr = (
         first_item has_list.whole.rule p,
@@ -481,7 +482,7 @@ module _ (f : FlatGrammar) (w : Grammar) (flat : IsFlat f) (made : IsFlatOf f w)
           stands = subst (λ z. StandsFor (form z) (slot_of symbol)) (part_is f w flat made checked top 0 (omega (arith, one))) st;
           item = first_item top 0;
           inside = Start;
-          waits = index_get (rhs_of f top) 0 0 (omega (arith, one));
+          waits = slice_get-get_or (rhs_of f top) 0 0 (omega (arith, one));
         }
 
     in_slot : (slot : Slot) (i all p q : ℕ) (cs : Children) → AreFirst w edge slot i all p q cs → IsAwaited slot p → InSlot i p slot
@@ -508,10 +509,10 @@ module _ (f : FlatGrammar) (w : Grammar) (flat : IsFlat f) (made : IsFlatOf f w)
               symbol = part u (child_count cs);
               stands = plain_part i p slot r is s (omega (arith, lt)) (child_count cs) lt;
               item = record { rule = u.rule; dot = child_count cs; origin = p };
-              inside = plain_at i p slot r is s (omega (arith, lt)) cs q a.front (omega (arith, lt));
+              inside = plain_at i p slot r is s (omega (arith, lt)) cs q a.prefix (omega (arith, lt));
               waits = part_at u (child_count cs) lt;
             }
-        go (Grammar.Sequence r) is = sequence_next i p slot r is s cs q (ends r cs) a.front prod
+        go (Grammar.Sequence r) is = sequence_next i p slot r is s cs q (ends r cs) a.prefix prod
 
     awaited : {slot : Slot} {p : ℕ} → MayStand w edge start slot p → IsProductive w slot → IsAwaited slot p
     awaited (AtStart {symbol = symbol} at) prod = at_start symbol at
@@ -542,9 +543,9 @@ module _ (f : FlatGrammar) (w : Grammar) (flat : IsFlat f) (made : IsFlatOf f w)
             let u = plain line.rule line.origin l.slot r is s pos in
             let item : Item = record { rule = u.rule; dot = child_count l.children; origin = line.origin } in (
               item,
-              plain_at line.rule line.origin l.slot r is s pos l.children place a.front (omega (arith, c, first)),
+              plain_at line.rule line.origin l.slot r is s pos l.children place a.prefix (omega (arith, c, first)),
               as_line item u.source refl (ap (λ z. written_dot z (child_count l.children)) is ∙ sym (ap (λ z. dot_behind z (child_count l.children)) is)),
             )
         go (Grammar.Sequence r) is =
-            let (item, i, src, origin, dot) = sequence_line line.rule line.origin l.slot r is s l.children place (ends r l.children) a.front in
+            let (item, i, src, origin, dot) = sequence_line line.rule line.origin l.slot r is s l.children place (ends r l.children) a.prefix in
             (item, i, as_line item src origin dot)

@@ -4,8 +4,7 @@ use Rattle.std.specs.declared.cmp.Ordering.{Ordering}
 use Rattle.std.specs.declared.cmp.Ordering.TheVariants.{Less, Equal, Greater}
 use Rattle.std.specs.Ordering.{ordering_then, ordering_reverse, nat_cmp}
 use Rattle.std.specs.Cmp.{IsTotalOrder, nat_cmp_total, then_total, on_total}
-use Rattle.grammar_model.proofs.Chains.{both_Equal}
-use Rattle.grammar_model.proofs.Sorting.{nat_cmp-Equal}
+use Rattle.finite_sets.proofs.Clauses.{nat_cmp-Equal, then_equal}
 use Rattle.recognizer_model.specs.declared.ReportLine.{ReportLine}
 use Rattle.report_model.specs.Report.{line_cmp}
 
@@ -16,8 +15,8 @@ lines_total =
 
 tied : (x y : ReportLine) → line_cmp x y ≡ Equal → x ≡ y
 tied x y e =
-    let (a, rest) = both_Equal (nat_cmp x.rule y.rule) (ordering_then (nat_cmp x.dot y.dot) (nat_cmp x.origin y.origin)) e in
-    let (b, c) = both_Equal (nat_cmp x.dot y.dot) (nat_cmp x.origin y.origin) rest in
+    let (a, rest) = then_equal (nat_cmp x.rule y.rule) (ordering_then (nat_cmp x.dot y.dot) (nat_cmp x.origin y.origin)) e in
+    let (b, c) = then_equal (nat_cmp x.dot y.dot) (nat_cmp x.origin y.origin) rest in
     let p = nat_cmp-Equal x.rule y.rule a in
     let q = nat_cmp-Equal x.dot y.dot b in
     let r = nat_cmp-Equal x.origin y.origin c in

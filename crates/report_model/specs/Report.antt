@@ -8,7 +8,7 @@ use Rattle.std.specs.declared.cmp.Ordering.{Ordering}
 use Rattle.grammar_model.specs.Grammar.{WrittenRule, Plain, Sequence, Grammar, Slot, slot_of, rule_at, Fits, child_slot, is_item, IsChildCount}
 use Rattle.grammar_model.specs.Trees.{Children, child_count}
 use Rattle.grammar_model.specs.Analysis.{IsLive}
-use Rattle.grammar_model.specs.Derives.{Edges, Held, DerivesFront}
+use Rattle.grammar_model.specs.Derives.{Edges, Held, DerivesPrefix}
 use Rattle.grammar_model.specs.declared.Edge.{Edge}
 use Rattle.recognizer_model.specs.declared.ReportLine.{ReportLine}
 
@@ -20,7 +20,7 @@ pub record AreFirst (g : Grammar) (edge : Edges) (slot : Slot) (i all from to : 
   pub complete : IsChildCount (rule_at g i) all
   pub some : 0 < all
   pub first : child_count children ≤ all
-  pub front : DerivesFront g edge (rule_at g i) from to children
+  pub prefix : DerivesPrefix g edge (rule_at g i) from to children
 
 -- the slot may stand at the place: it is the start's at 0, or the next child of a rule whose own slot may stand where the rule begins
 pub data MayStand (g : Grammar) (edge : Edges) (start : ℕ) : Slot → (place : ℕ) → Type 0 where

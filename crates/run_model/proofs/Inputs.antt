@@ -38,8 +38,8 @@ text_or bytes = by_length (nat_le (length bytes) 16777216) refl
     by_utf8 : length bytes ≤ 16777216 → (t : Bool) → is_utf8 bytes ≡ t → IsInputText bytes ⊎ ((b : Built) → (text : List ℕ) × IsInputRefused b bytes text)
     by_utf8 within true e = inl (record { within = within; utf8 = IsUtf8-from_is_utf8 bytes e })
     by_utf8 within false e =
-        let (at, broken, front) = broken_at bytes e in
-        inr (λ b. (codes "input is not UTF-8 at byte " ++ decimal at, NotUtf8 at (record { within = within; broken = broken; front = front }) refl))
+        let (at, broken, prefix) = broken_at bytes e in
+        inr (λ b. (codes "input is not UTF-8 at byte " ++ decimal at, NotUtf8 at (record { within = within; broken = broken; prefix = prefix }) refl))
 
     by_length : (t : Bool) → nat_le (length bytes) 16777216 ≡ t → IsInputText bytes ⊎ ((b : Built) → (text : List ℕ) × IsInputRefused b bytes text)
     by_length true e = by_utf8 (leb-true _ _ e) (is_utf8 bytes) refl
@@ -88,7 +88,7 @@ module _ (laws : ReadingLaws) (b : Built) (bytes : List ℕ) where
   one_refused x y (TooLong long is) (ReadingStops pieces at found expected text reading is') = let w = text.within in absurd (omega (arith, w, long))
   one_refused x y (NotUtf8 at broken is) (TooLong long is') = let w = broken.within in absurd (omega (arith, w, long))
   one_refused x y (NotUtf8 at broken is) (NotUtf8 at' broken' is') =
-      is ∙ ap (λ k. codes "input is not UTF-8 at byte " ++ decimal k) (sym (utf8_valid_len-IsValidUpTo bytes at broken.front) ∙ utf8_valid_len-IsValidUpTo bytes at' broken'.front) ∙ sym is'
+      is ∙ ap (λ k. codes "input is not UTF-8 at byte " ++ decimal k) (sym (utf8_valid_len-IsValidUpTo bytes at broken.prefix) ∙ utf8_valid_len-IsValidUpTo bytes at' broken'.prefix) ∙ sym is'
   one_refused x y (NotUtf8 at broken is) (ReadingStops pieces at' found expected text reading is') = absurd (broken.broken text.utf8)
   one_refused x y (ReadingStops pieces at found expected text reading is) (TooLong long is') = let w = text.within in absurd (omega (arith, w, long))
   one_refused x y (ReadingStops pieces at found expected text reading is) (NotUtf8 at' broken is') = absurd (broken.broken text.utf8)

@@ -10,7 +10,7 @@ use Rattle.recognizer_model.specs.declared.ReportLine.{ReportLine}
 use Rattle.language_model.specs.Building.{Built}
 use Rattle.language_model.specs.Texts.{IsBuilt}
 use Rattle.reading_model.specs.Accepted.{IsAccepted}
-use Rattle.reading_model.specs.Reading.{Piece, edges_of, place_after}
+use Rattle.reading_model.specs.Reading.{Piece, edges_of, earleme_after}
 use Rattle.words_model.specs.Words.{ValuesAsked, Telling}
 use Rattle.words_model.specs.Words.Telling.{Values, Expected, Report}
 use Rattle.run_model.specs.Listing.{AreDerivations}
@@ -31,7 +31,7 @@ module _ (laws : ReadingLaws) (b : Built) (pieces : List Piece) where
 
   same_trees : (ranking : Ranking) (ts us : List Tree) → AreDerivations b ranking pieces ts → AreDerivations b ranking pieces us → ts ≡ us
   same_trees ranking ts us p q =
-      chosen_unique b.g1 (Held (edges_of pieces)) ranking (slot_of (slice_index_or b.g1.starts 0 0)) 0 (place_after pieces) ts us p q
+      chosen_unique b.g1 (Held (edges_of pieces)) ranking (slot_of (slice_index_or b.g1.starts 0 0)) 0 (earleme_after pieces) ts us p q
 
   no_tree : (ranking : Ranking) (t : Tree) (ts : List Tree) → AreDerivations b ranking pieces [] → AreDerivations b ranking pieces (t ∷ ts) → ⊥
   no_tree ranking t ts p q = let e : [] ≡ t ∷ ts = same_trees ranking [] (t ∷ ts) p q in cc e
@@ -80,11 +80,11 @@ module _ (laws : ReadingLaws) (b : Built) (built : IsBuilt b) (accepted : IsAcce
   some_values asked cs = let (trees, are) = laws.derivations b asked.ranking pieces built accepted in of_trees asked cs trees are
 
   some_report : (at : ℕ) → (outcome : Outcome) × TellsReport b at pieces outcome
-  some_report at = by (nat_le at (place_after pieces)) refl
+  some_report at = by (nat_le at (earleme_after pieces)) refl
     where
-      by : (t : Bool) → nat_le at (place_after pieces) ≡ t → (outcome : Outcome) × TellsReport b at pieces outcome
+      by : (t : Bool) → nat_le at (earleme_after pieces) ≡ t → (outcome : Outcome) × TellsReport b at pieces outcome
       by true e = let (lines, are) = laws.report b pieces at built accepted in (done (map (report_line b.g1 at) lines), Reported lines (leb-true _ _ e) are refl)
-      by false e = (refused 1 (no_set_text at (place_after pieces)), NoSuchSet (leb-false _ _ e) refl)
+      by false e = (refused 1 (no_set_text at (earleme_after pieces)), NoSuchSet (leb-false _ _ e) refl)
 
   pub some_told : (what : Telling) (cs : List ℕ) → (outcome : Outcome) × Tells what b cs pieces outcome
   some_told (Values asked) cs = some_values asked cs

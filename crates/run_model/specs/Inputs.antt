@@ -13,11 +13,11 @@ pub record IsInputText (bytes : List ℕ) : Type 0 where
   pub within : length bytes ≤ 16777216
   pub utf8 : IsUtf8 bytes
 
--- the first so many bytes are the longest front that is UTF-8
+-- the first so many bytes are the longest prefix that is UTF-8
 pub record IsBrokenInput (bytes : List ℕ) (at : ℕ) : Type 0 where
   pub within : length bytes ≤ 16777216
   pub broken : ¬ (IsUtf8 bytes)
-  pub front : IsValidUpTo bytes at
+  pub prefix : IsValidUpTo bytes at
 
 abbrev pub names_text : Grammar → List ℕ → List ℕ
 names_text g symbols = listed (map (name_of g) symbols)

@@ -11,7 +11,7 @@ use Rattle.grammar_model.specs.declared.Show.{Show}
 use Rattle.grammar_model.specs.Values.{Token, value_of}
 use Rattle.grammar_model.specs.Text.{text_of}
 use Rattle.language_model.specs.Building.{Built}
-use Rattle.reading_model.specs.Reading.{Piece, edges_of, place_after, spans_from}
+use Rattle.reading_model.specs.Reading.{Piece, edges_of, earleme_after, spans_from}
 
 -- a token, by the characters where it begins and how many it has
 abbrev pub token_at_span : List ℕ → ℕ × ℕ → Token
@@ -22,7 +22,7 @@ tokens_in cs pieces = map (token_at_span cs) (spans_from 0 pieces)
 
 -- the derivations of the tokens from the start symbol that the ranking chooses, in order
 abbrev pub AreDerivations : Built → Ranking → List Piece → List Tree → Type 0
-AreDerivations b ranking pieces trees = AreChosen b.g1 (Held (edges_of pieces)) ranking (slot_of (slice_index_or b.g1.starts 0 0)) 0 (place_after pieces) trees
+AreDerivations b ranking pieces trees = AreChosen b.g1 (Held (edges_of pieces)) ranking (slot_of (slice_index_or b.g1.starts 0 0)) 0 (earleme_after pieces) trees
 
 -- the line of a derivation
 abbrev pub line_of : Built → Show → List ℕ → List Piece → Tree → List ℕ

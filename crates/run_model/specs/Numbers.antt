@@ -10,7 +10,7 @@ use Rattle.recognizer_model.specs.FlatForm.{FlatEdges}
 use Rattle.recognizer_model.specs.Nodes.{IsStats}
 use Rattle.flat_model.specs.Flattened.{IsFlattened}
 use Rattle.language_model.specs.Building.{Built}
-use Rattle.reading_model.specs.Reading.{Piece, edges_of, place_after}
+use Rattle.reading_model.specs.Reading.{Piece, edges_of, earleme_after}
 
 pub record Numbers : Type 0 where
   pub tokens : ℕ
@@ -24,4 +24,4 @@ pub record HasNumbers (b : Built) (ranking : Ranking) (pieces : List Piece) (n :
   pub is : IsFlattened b.g1 flat
   pub top : ℕ
   pub top_is : slice_get flat.tops 0 ≡ Some top
-  pub numbers : IsStats flat (FlatEdges flat (Held (edges_of pieces))) (allowed_by b.g1 ranking flat (FlatEdges flat (Held (edges_of pieces)))) top (place_after pieces) n.tokens n.kept n.nodes n.expanded
+  pub numbers : IsStats flat (FlatEdges flat (Held (edges_of pieces))) (allowed_by b.g1 ranking flat (FlatEdges flat (Held (edges_of pieces)))) top (earleme_after pieces) n.tokens n.kept n.nodes n.expanded

@@ -29,10 +29,10 @@ pub record MayEnd (words : List (List ℕ)) (file : List ℕ → ToldFile) (left
   pub supplied : Supplied words file left grammar input
   pub is_outcome : IsOutcome words grammar input outcome
 
--- the text is a front of that part of an outcome, or empty
-pub data IsFrontOf (words : List (List ℕ)) (file : List ℕ → ToldFile) (left : Option (List ℕ)) (part : Outcome → List ℕ) (text : List ℕ) : Type 0 where
-  Nothing : text ≡ [] → IsFrontOf words file left part text
-  Front : (may : MayEnd words file left) (rest : List ℕ) → part may.outcome ≡ text ++ rest → IsFrontOf words file left part text
+-- the text is a prefix of that part of an outcome, or empty
+pub data IsPrefixOf (words : List (List ℕ)) (file : List ℕ → ToldFile) (left : Option (List ℕ)) (part : Outcome → List ℕ) (text : List ℕ) : Type 0 where
+  Nothing : text ≡ [] → IsPrefixOf words file left part text
+  Prefix : (may : MayEnd words file left) (rest : List ℕ) → part may.outcome ≡ text ++ rest → IsPrefixOf words file left part text
 
 -- the status and the texts are those of an outcome
 pub record Answers (words : List (List ℕ)) (before after : Outside) (status : ℕ) : Type 0 where
@@ -68,17 +68,17 @@ HasCauseOf words before after (CannotOpen name) = Rose before.files.faults after
 HasCauseOf words before after CannotRead = Rose before.files.faults after.files.faults ⊎ Rose before.input.faults after.input.faults
 HasCauseOf words before after CannotWrite = Rose before.out.faults after.out.faults ⊎ Rose before.err.faults after.err.faults
 
--- the standard output got nothing, or its count rose and it got a front of the text
+-- the standard output got nothing, or its count rose and it got a prefix of the text
 pub data OutAtFault (words : List (List ℕ)) (before after : Outside) : Type 0 where
   OutEmpty : Appends before.out.bytes after.out.bytes [] → OutAtFault words before after
-  OutBroken : Rose before.out.faults after.out.faults → (text : List ℕ) → IsFrontOf words before.files.file before.input.bytes (λ o. o.out) text → Appends before.out.bytes after.out.bytes text
+  OutBroken : Rose before.out.faults after.out.faults → (text : List ℕ) → IsPrefixOf words before.files.file before.input.bytes (λ o. o.out) text → Appends before.out.bytes after.out.bytes text
       → OutAtFault words before after
 
--- the standard error got the line, or its count rose and it got a front of the outcome's line and then a front of this one
+-- the standard error got the line, or its count rose and it got a prefix of the outcome's line and then a prefix of this one
 pub data ErrAtFault (words : List (List ℕ)) (before after : Outside) (line : List ℕ) : Type 0 where
   ErrWhole : Appends before.err.bytes after.err.bytes line → ErrAtFault words before after line
-  ErrBroken : Rose before.err.faults after.err.faults → (text front rest : List ℕ) → IsFrontOf words before.files.file before.input.bytes (λ o. o.line) text → line ≡ front ++ rest
-      → Appends before.err.bytes after.err.bytes (text ++ front) → ErrAtFault words before after line
+  ErrBroken : Rose before.err.faults after.err.faults → (text prefix rest : List ℕ) → IsPrefixOf words before.files.file before.input.bytes (λ o. o.line) text → line ≡ prefix ++ rest
+      → Appends before.err.bytes after.err.bytes (text ++ prefix) → ErrAtFault words before after line
 
 pub record Faults (words : List (List ℕ)) (before after : Outside) : Type 0 where
   pub fault : Fault
@@ -89,10 +89,10 @@ pub record Faults (words : List (List ℕ)) (before after : Outside) : Type 0 wh
 abbrev pub memory_line : List ℕ
 memory_line = message (codes "out of memory")
 
--- the standard output got a front of the text, and the standard error the line or, where its count rose, a front of it
+-- the standard output got a prefix of the text, and the standard error the line or, where its count rose, a prefix of it
 pub record RunsOut (words : List (List ℕ)) (before after : Outside) : Type 0 where
   pub text : List ℕ
-  pub front : IsFrontOf words before.files.file before.input.bytes (λ o. o.out) text
+  pub prefix : IsPrefixOf words before.files.file before.input.bytes (λ o. o.out) text
   pub out : Appends before.out.bytes after.out.bytes text
   pub err : Appends before.err.bytes after.err.bytes memory_line
       ⊎ (Rose before.err.faults after.err.faults × AppendsPrefix before.err.bytes after.err.bytes memory_line)
@@ -112,7 +112,7 @@ pub record Runs (words : List (List ℕ)) (before after : Outside) (status : ℕ
   -- where no count rose, only want of memory keeps the outcome back
   pub complete : IsQuiet before after → status ≢ 5 → Answers words before after status
 
--- the run asks for these names, in this order: none, or a front of those of the grammar's file and of the input's, the latter
+-- the run asks for these names, in this order: none, or a prefix of those of the grammar's file and of the input's, the latter
 -- where the job goes on to its input
 pub data MayAsk (words : List (List ℕ)) (file : List ℕ → ToldFile) (names : List (List ℕ)) : Type 0 where
   ForNothing : names ≡ [] → MayAsk words file names

@@ -18,7 +18,7 @@ use Rattle.recognizer_model.specs.Counts.{IsCountOf}
 use Rattle.flat_model.specs.Flattened.{IsFlattened}
 use Rattle.outside_model.specs.Told.{ToldFile}
 use Rattle.language_model.specs.Building.{Built}
-use Rattle.reading_model.specs.Reading.{Piece, edges_of, place_after}
+use Rattle.reading_model.specs.Reading.{Piece, edges_of, earleme_after}
 use Rattle.words_model.specs.Words.{Telling, Task, Job, Asks, values_of}
 use Rattle.words_model.specs.Words.Task.{Check, Tell, Work}
 use Rattle.run_model.specs.Refused.{Accepted}
@@ -51,9 +51,9 @@ pub record IsWithinSteps (b : Built) (ranking : Ranking) (pieces : List Piece) (
   pub top : ℕ
   pub top_is : slice_get flat.tops 0 ≡ Some top
   pub few : (links pairs expanded : ℕ) →
-      IsCountOf (IsPlacedLink flat (FlatEdges flat (Held (edges_of pieces))) top (place_after pieces)) links →
-      IsCountOf (IsLeoPair flat (FlatEdges flat (Held (edges_of pieces))) top (place_after pieces)) pairs →
-      IsCountOf (IsExpanded flat (FlatEdges flat (Held (edges_of pieces))) (allowed_by b.g1 ranking flat (FlatEdges flat (Held (edges_of pieces)))) top (place_after pieces)) expanded →
+      IsCountOf (IsPlacedLink flat (FlatEdges flat (Held (edges_of pieces))) top (earleme_after pieces)) links →
+      IsCountOf (IsLeoPair flat (FlatEdges flat (Held (edges_of pieces))) top (earleme_after pieces)) pairs →
+      IsCountOf (IsExpanded flat (FlatEdges flat (Held (edges_of pieces))) (allowed_by b.g1 ranking flat (FlatEdges flat (Held (edges_of pieces)))) top (earleme_after pieces)) expanded →
       after ≤ before + links + pairs + expanded + sum_by choices given
 
 -- the input is read to its end, and so many of the first of its derivations are given

@@ -11,7 +11,7 @@ use Rattle.grammar_model.specs.Text.{is_control, escaped}
 use Rattle.recognizer_model.specs.declared.ReportLine.{ReportLine}
 use Rattle.report_model.specs.Report.{IsReport}
 use Rattle.language_model.specs.Building.{Built}
-use Rattle.reading_model.specs.Reading.{Piece, AreExpected, edges_of, place_after}
+use Rattle.reading_model.specs.Reading.{Piece, AreExpected, edges_of, earleme_after}
 use Rattle.words_model.specs.Words.{ValuesAsked, Telling}
 use Rattle.words_model.specs.Words.Telling.{Values, Expected, Report}
 use Rattle.run_model.specs.Inputs.{names_text}
@@ -93,8 +93,8 @@ pub data TellsValues (asked : ValuesAsked) (b : Built) (cs : List ℕ) (pieces :
 
 -- the report at a place; or it is past the last
 pub data TellsReport (b : Built) (at : ℕ) (pieces : List Piece) (outcome : Outcome) : Type 0 where
-  NoSuchSet : place_after pieces < at → outcome ≡ refused 1 (no_set_text at (place_after pieces)) → TellsReport b at pieces outcome
-  Reported : (lines : List ReportLine) → at ≤ place_after pieces → IsReport b.g1 (edges_of pieces) 0 at lines → outcome ≡ done (map (report_line b.g1 at) lines) →
+  NoSuchSet : earleme_after pieces < at → outcome ≡ refused 1 (no_set_text at (earleme_after pieces)) → TellsReport b at pieces outcome
+  Reported : (lines : List ReportLine) → at ≤ earleme_after pieces → IsReport b.g1 (edges_of pieces) 0 at lines → outcome ≡ done (map (report_line b.g1 at) lines) →
       TellsReport b at pieces outcome
 
 -- what is told of these characters, which were read in these pieces

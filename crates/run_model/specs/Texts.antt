@@ -14,11 +14,11 @@ pub data TextFault : Type 0 where
   BadToken : (at : ℕ) → TextFault
   BadStatement : (at : ℕ) → TextFault
 
--- the first so many bytes are the longest front that is UTF-8
+-- the first so many bytes are the longest prefix that is UTF-8
 pub record IsBroken (bytes : List ℕ) (at : ℕ) : Type 0 where
   pub within : length bytes ≤ 1048576
   pub broken : ¬ (IsUtf8 bytes)
-  pub front : IsValidUpTo bytes at
+  pub prefix : IsValidUpTo bytes at
 
 pub record HasBadToken (bytes : List ℕ) (at : ℕ) : Type 0 where
   pub text : IsText bytes

@@ -206,10 +206,15 @@ fn scene_of(alloc: Global, given: &Given<'_>) -> Result<Scene, AllocError> {
     })
 }
 
+// The status of a run. Each part of the outside is lent by itself.
 fn status_of<L: Ledger>(
     blank: Blank,
     alloc: Global,
-    scene: &mut Scene,
+    words: &[String],
+    files: &mut MemFiles,
+    input: &mut MemSource,
+    out: &mut MemSink,
+    err: &mut MemSink,
     tellers: Vec<Box<dyn Teller>>,
 ) -> u8
     requires name { blank.name ≡ L.name }
@@ -218,16 +223,7 @@ fn status_of<L: Ledger>(
     requires tellers { AreBothTellers (states tellers.items shows held) }
 {
     let mut steps = Steps::<L>::of_blank(blank);
-    run(
-        alloc,
-        &scene.words,
-        &mut scene.files,
-        &mut scene.input,
-        &mut scene.out,
-        &mut scene.err,
-        tellers,
-        &mut steps,
-    )
+    run(alloc, words, files, input, out, err, tellers, &mut steps)
 }
 
 /// Runs with these tellers.
@@ -239,6 +235,15 @@ pub fn run_with(
     requires { AreBothTellers (states tellers.items shows held) }
 {
     let mut scene = scene_of(alloc, given)?;
-    let status = status_of::<Brand>(Blank::new(1), alloc, &mut scene, tellers);
+    let status = status_of::<Brand>(
+        Blank::new(1),
+        alloc,
+        &scene.words,
+        &mut scene.files,
+        &mut scene.input,
+        &mut scene.out,
+        &mut scene.err,
+        tellers,
+    );
     Ok(Ended { status, scene })
 }

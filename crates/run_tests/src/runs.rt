@@ -20,20 +20,20 @@ fn both_tellers(alloc: Global) -> Result<Vec<Box<dyn Teller>>, AllocError>
 }
 
 /// Runs what is given, with a teller of each kind.
-pub fn run_of(alloc: Global, given: &Given<'_>) -> Result<Ended, AllocError> {
+pub(crate) fn run_of(alloc: Global, given: &Given<'_>) -> Result<Ended, AllocError> {
     run_with(alloc, given, both_tellers(alloc)?)
 }
 
 /// A run that ends well, and what it tells.
-pub type Told<'a> = (Given<'a>, &'a [u8]);
+pub(crate) type Told<'a> = (Given<'a>, &'a [u8]);
 
 /// Whether a run ends well and tells these lines.
-pub fn tells(alloc: Global, given: &Given<'_>, lines: &[u8]) -> Result<bool, AllocError> {
+pub(crate) fn tells(alloc: Global, given: &Given<'_>, lines: &[u8]) -> Result<bool, AllocError> {
     Ok(run_of(alloc, given)?.is(0, lines, b""))
 }
 
 /// Whether each run ends well and tells its lines.
-pub fn all_tell(alloc: Global, rows: &[Told<'_>]) -> Result<bool, AllocError> {
+pub(crate) fn all_tell(alloc: Global, rows: &[Told<'_>]) -> Result<bool, AllocError> {
     for (given, lines) in rows {
         if !tells(alloc, given, lines)? {
             return Ok(false);
@@ -43,7 +43,7 @@ pub fn all_tell(alloc: Global, rows: &[Told<'_>]) -> Result<bool, AllocError> {
 }
 
 /// Whether a job tells the lines of each grammar and input.
-pub fn all_told(
+pub(crate) fn all_told(
     alloc: Global,
     job: &Given<'_>,
     rows: &[(&[u8], &[u8], &[u8])],

@@ -5,6 +5,9 @@ use Rattle.std.specs.List.Sorted.{IsStrictlySortedBy}
 use Rattle.std.specs.Ordering.{nat_cmp}
 use Rattle.std.specs.Prelude.{slice_get, option_map}
 use Rattle.std.proofs.lemmas.Option.{slice_get-map}
+use Rattle.std.proofs.lemmas.Simd.{map-map}
+use Rattle.finite_sets.proofs.Deciding.{most_twice}
+use Rattle.finite_sets.proofs.Lists.{Contains-none, Contains-map}
 use Rattle.language_model.specs.Building.{Built, LexemeRow}
 use Rattle.dsl_build.specs.declared.built.LexemeRow.{LexemeRow as HeldRow}
 use Rattle.dsl_build.specs.Tables.{row_of}
@@ -12,9 +15,7 @@ use Rattle.reading_model.specs.Matches.{Matches}
 use Rattle.reading_model.specs.Reading.{Piece, IsNext, IsCandidate, ADiscard, ALexeme, IsLongest, IsFitting, IsKept, IsSkipped, IsFound, AreFound, AreSorted, AreExpected}
 use Rattle.reading_model.proofs.Within.{match_within}
 use Rattle.earley_sets.specs.Recognizer.{Recognizer, IsExpected}
-use Rattle.earley_sets.proofs.Membership.{Contains-none, Contains-map, Contains-map_from}
-use Rattle.scanless.proofs.Highest.{most_twice}
-use Rattle.scanless.proofs.Ordered.{map_map}
+use Rattle.earley_sets.proofs.Membership.{Contains-map_from}
 use Rattle.scanless.specs.Pieces.{AreInOrder, AreCandidates, ArePlaced, AreMatched, IsLongestBy, IsHighestOf, IsFit, Gathers, AreLexemes}
 
 -- ---- the longest match
@@ -49,6 +50,28 @@ one_longest b text pieces at m n l k = let x = l.longest k.start n k.candidate k
 pub skipped_is : (b : Built) (text : List ℕ) (pieces : List Piece) (at n : ℕ) (matched : List ℕ) → IsLongestBy b text pieces at n matched → ((k : ℕ) × Contains b.discards k × Contains matched k) ↔ IsSkipped b text pieces at n
 skipped_is b text pieces at n matched by = ((λ (k, c, mk). (k, c, ((by.exact k).0 mk).1)), (λ (k, c, h). (k, c, (by.exact k).1 (ADiscard c, h))))
 
+-- ---- the starts that are looked for
+
+module _ (b : Built) (P : LexemeRow → Type 0) (xs list : List ℕ) (g : Gathers P (λ (l : LexemeRow). l.start) b.lexemes xs) (e : list ≡ xs ++ b.discards) where
+  pub candidates_known : All (λ (l : LexemeRow). l.start < length b.l0.starts) b.lexemes → All (λ k. k < length b.l0.starts) b.discards → (k : ℕ) → Contains list k → k < length b.l0.starts
+  candidates_known starts within k c = elim (Contains-append_cases xs b.discards k (subst (λ l. Contains l k) e c)) [
+    | inr d ↦ All-contains (λ i. i < length b.l0.starts) b.discards k within d
+    | inl o ↦ (let (l, m, p, is) = (g k).0 o in subst (λ z. z < length b.l0.starts) is (All-contains (λ (l : LexemeRow). l.start < length b.l0.starts) b.lexemes l starts m))
+  ]
+
+  pub candidates_are : (pieces : List Piece) → ((l : LexemeRow) → P l ↔ (IsFalse l.latm ⊎ IsNext b pieces l.symbol)) → AreCandidates b pieces list
+  candidates_are pieces means start = (there, back)
+    where
+      there : Contains list start → IsCandidate b pieces start
+      there c = elim (Contains-append_cases xs b.discards start (subst (λ l. Contains l start) e c)) [
+        | inr d ↦ ADiscard d
+        | inl o ↦ (let (l, m, q, is) = (g start).0 o in ALexeme l m is ((means l).0 q))
+      ]
+
+      back : IsCandidate b pieces start → Contains list start
+      back (ADiscard d) = subst (λ l. Contains l start) (sym e) (Contains-append_right xs b.discards start d)
+      back (ALexeme l c is h) = subst (λ l. Contains l start) (sym e) (Contains-append_left xs b.discards start ((g start).1 (l, c, (means l).1 h, is)))
+
 -- ---- the rows are those of the lexemes
 
 module _ (b : Built) (rows : List HeldRow) (rows_are : map row_of rows ≡ b.lexemes) where
@@ -60,7 +83,7 @@ module _ (b : Built) (rows : List HeldRow) (rows_are : map row_of rows ≡ b.lex
 
   pub rows_ascend : AreInOrder b → IsStrictlySortedBy nat_cmp (map (λ (r : HeldRow). r.symbol) rows)
   rows_ascend order =
-      subst (IsStrictlySortedBy nat_cmp) (map_map (λ (l : LexemeRow). l.symbol) row_of rows) (subst (λ ls. IsStrictlySortedBy nat_cmp (map (λ (l : LexemeRow). l.symbol) ls)) (sym rows_are) order.ascend)
+      subst (IsStrictlySortedBy nat_cmp) (map-map (λ (l : LexemeRow). l.symbol) row_of rows) (subst (λ ls. IsStrictlySortedBy nat_cmp (map (λ (l : LexemeRow). l.symbol) ls)) (sym rows_are) order.ascend)
 
   pub rows_placed : AreInOrder b → ArePlaced rows
   rows_placed order k r e = order.places k (row_of r) (subst (λ ls. slice_get ls k ≡ Some (row_of r)) rows_are (slice_get-map row_of rows k ∙ ap (option_map row_of) e))
@@ -68,31 +91,7 @@ module _ (b : Built) (rows : List HeldRow) (rows_are : map row_of rows ≡ b.lex
   pub gathered_lexemes : (P : HeldRow → Type 0) (xs : List ℕ) → Gathers P (λ (r : HeldRow). r.symbol) rows xs → AreLexemes b xs
   gathered_lexemes P xs g s c = let (r, m, p, is) = (g s).0 c in (row_of r, in_lexemes r m, is)
 
-  pub candidates_known : (P : HeldRow → Type 0) (xs list : List ℕ) → All (λ (l : LexemeRow). l.start < length b.l0.starts) b.lexemes → All (λ k. k < length b.l0.starts) b.discards →
-      Gathers P (λ (r : HeldRow). r.start) rows xs → list ≡ xs ++ b.discards → (k : ℕ) → Contains list k → k < length b.l0.starts
-  candidates_known P xs list starts within g e k c = elim (Contains-append_cases xs b.discards k (subst (λ l. Contains l k) e c)) [
-    | inr d ↦ All-contains (λ i. i < length b.l0.starts) b.discards k within d
-    | inl o ↦ (let (r, m, p, is) = (g k).0 o in subst (λ z. z < length b.l0.starts) is (All-contains (λ (l : LexemeRow). l.start < length b.l0.starts) b.lexemes (row_of r) starts (in_lexemes r m)))
-  ]
-
   module _ (pieces : List Piece) (recce : Recognizer) (next : (t : ℕ) → IsExpected recce t ↔ IsNext b pieces t) where
-    pub candidates_are : (xs list : List ℕ) → Gathers (λ (r : HeldRow). IsFalse r.latm ⊎ IsExpected recce r.symbol) (λ (r : HeldRow). r.start) rows xs → list ≡ xs ++ b.discards → AreCandidates b pieces list
-    candidates_are xs list g e start = (there, back)
-      where
-        there : Contains list start → IsCandidate b pieces start
-        there c = elim (Contains-append_cases xs b.discards start (subst (λ l. Contains l start) e c)) [
-          | inr d ↦ ADiscard d
-          | inl o ↦ (let (r, m, q, is) = (g start).0 o in ALexeme (row_of r) (in_lexemes r m) is (elim q [ inl never ↦ inl never | inr h ↦ inr ((next r.symbol).0 h) ]))
-        ]
-
-        back : IsCandidate b pieces start → Contains list start
-        back (ADiscard d) = subst (λ l. Contains l start) (sym e) (Contains-append_right xs b.discards start d)
-        back (ALexeme l c is h) =
-            let (r, m, same) = from_lexemes l c in
-            let q : IsFalse r.latm ⊎ IsNext b pieces r.symbol = subst (λ (k : LexemeRow). IsFalse k.latm ⊎ IsNext b pieces k.symbol) same h in
-            let s : r.start ≡ start = subst (λ (k : LexemeRow). k.start ≡ start) same is in
-            subst (λ l. Contains l start) (sym e) (Contains-append_left xs b.discards start ((g start).1 (r, m, (elim q [ inl never ↦ inl never | inr n ↦ inr ((next r.symbol).1 n) ]), s)))
-
     pub expected_are : (xs ys : List ℕ) → Gathers (λ (r : HeldRow). IsExpected recce r.symbol) (λ (r : HeldRow). r.symbol) rows xs → AreSorted b ys → ((s : ℕ) → Contains ys s ↔ Contains xs s) → AreExpected b pieces ys
     expected_are xs ys g sorted same = record { sorted = sorted; exact = λ symbol. (there symbol, back symbol) }
       where

@@ -11,7 +11,7 @@ use Rattle.grammar_model.specs.Derives.{Edges}
 use Rattle.grammar_model.specs.Acceptable.{Spells}
 use Rattle.recognizer_model.specs.declared.Item.{Item}
 use Rattle.recognizer_model.specs.Links.{Link, IsLink}
-use Rattle.earley_sets.specs.Recognizer.{Recognizer, IsRecognizer, IsExpected, place_of, edges_of, top_of, made, new_edge}
+use Rattle.earley_sets.specs.Recognizer.{Recognizer, IsRecognizer, IsExpected, earleme_of, edges_of, top_of, made, new_edge}
 use Rattle.earley_sets.specs.Counted.{CountsFrom}
 use Rattle.earley_sets.proofs.Counting.{counts_set, counts_more}
 use Rattle.earley_sets.proofs.Membership.{Contains-map_from}
@@ -22,7 +22,7 @@ spells_more E F more p q [] e = e
 spells_more E F more p q (s ∷ ss) (r, edge, rest) = (r, more s p r edge, spells_more E F more r q ss rest)
 
 module _ (old new : Recognizer) (keeps : Keeps old new) where
-  pub same_place : place_of new ≡ place_of old
+  pub same_place : earleme_of new ≡ earleme_of old
   same_place = ap (λ (sets : List (List Item)). length sets - 1) keeps.sets
 
   with_edges : Recognizer
@@ -42,10 +42,10 @@ module _ (old new : Recognizer) (keeps : Keeps old new) where
     expected_more t (x, is, a) = subst (λ r. IsExpected r t) is_new (unfold with_edges in (
       x,
       is,
-      record { before = a.before; after = a.after; tree = a.tree; spelled = spells_more (edges_of old) (edges_of with_edges) more_edges 0 (place_of old) a.before a.spelled; derived = a.derived },
+      record { before = a.before; after = a.after; tree = a.tree; spelled = spells_more (edges_of old) (edges_of with_edges) more_edges 0 (earleme_of old) a.before a.spelled; derived = a.derived },
     ))
 
-  module _ (symbols : List ℕ) (ascend : IsStrictlySortedBy nat_cmp symbols) (i : ℕ) (s : ℕ) (lt : i < length symbols) (is : s ≡ get_or symbols i s) (edges_are : new.edges ≡ old.edges ++ token_edges (place_of old) (take i symbols)) where
+  module _ (symbols : List ℕ) (ascend : IsStrictlySortedBy nat_cmp symbols) (i : ℕ) (s : ℕ) (lt : i < length symbols) (is : s ≡ get_or symbols i s) (edges_are : new.edges ≡ old.edges ++ token_edges (earleme_of old) (take i symbols)) where
     earlier : (x : ℕ) → Contains (take i symbols) x → x < s
     earlier x (k, k_lt, e) =
         let short = length-take-le i symbols (omega (arith, lt)) in
@@ -55,25 +55,25 @@ module _ (old new : Recognizer) (keeps : Keeps old new) where
         let same = get_or_default symbols k s x (omega (arith, k_lt_i, lt)) in
         omega (arith, rises, x_is, same, is)
 
-    pub fresh : ((e : Edge) → Contains old.edges e → e.from < place_of old) → Contains new.edges (new_edge new s 1) → ⊥
-    fresh begun c = elim (Contains-append_cases old.edges (token_edges (place_of old) (take i symbols)) (new_edge new s 1) (subst (λ es. Contains es (new_edge new s 1)) edges_are c)) [
+    pub fresh : ((e : Edge) → Contains old.edges e → e.from < earleme_of old) → Contains new.edges (new_edge new s 1) → ⊥
+    fresh begun c = elim (Contains-append_cases old.edges (token_edges (earleme_of old) (take i symbols)) (new_edge new s 1) (subst (λ es. Contains es (new_edge new s 1)) edges_are c)) [
       | inl o ↦ (let b = begun (new_edge new s 1) o in let p = same_place in omega (arith, b, p))
       | inr t ↦ (
-          let (x, m, edge) = Contains-map_from (λ x. record { symbol = x; from = place_of old; to = suc (place_of old) }) (take i symbols) (new_edge new s 1) t in
+          let (x, m, edge) = Contains-map_from (λ x. record { symbol = x; from = earleme_of old; to = suc (earleme_of old) }) (take i symbols) (new_edge new s 1) t in
           let s_is : s ≡ x = ap (λ (e : Edge). e.symbol) edge in
           let before = earlier x m in
           omega (arith, s_is, before))
     ]
 
-    pub edges_more : (next : Recognizer) → next.edges ≡ new.edges ++ new_edge new s 1 ∷ [] → next.edges ≡ old.edges ++ token_edges (place_of old) (take (i + 1) symbols)
+    pub edges_more : (next : Recognizer) → next.edges ≡ new.edges ++ new_edge new s 1 ∷ [] → next.edges ≡ old.edges ++ token_edges (earleme_of old) (take (i + 1) symbols)
     edges_more next e =
         let place = same_place in
-        let to : place_of new + 1 ≡ suc (place_of old) = omega (arith, place) in
-        let edge_is : Path Edge (new_edge new s 1) (record { symbol = s; from = place_of old; to = suc (place_of old) }) = λ j. record { symbol = s; from = place j; to = to j } in
+        let to : earleme_of new + 1 ≡ suc (earleme_of old) = omega (arith, place) in
+        let edge_is : Path Edge (new_edge new s 1) (record { symbol = s; from = earleme_of old; to = suc (earleme_of old) }) = λ j. record { symbol = s; from = place j; to = to j } in
         e ∙ (ap (λ es. es ++ new_edge new s 1 ∷ []) edges_are
-        ∙ (ap (λ (x : Edge). (old.edges ++ token_edges (place_of old) (take i symbols)) ++ x ∷ []) edge_is
-        ∙ (append_assoc old.edges (token_edges (place_of old) (take i symbols)) (record { symbol = s; from = place_of old; to = suc (place_of old) } ∷ [])
-        ∙ ap (λ es. old.edges ++ es) (sym (subst (λ z. token_edges (place_of old) (take (i + 1) symbols) ≡ token_edges (place_of old) (take i symbols) ++ record { symbol = z; from = place_of old; to = suc (place_of old) } ∷ []) (sym is) (map_more (λ x. record { symbol = x; from = place_of old; to = suc (place_of old) }) symbols i s lt))))))
+        ∙ (ap (λ (x : Edge). (old.edges ++ token_edges (earleme_of old) (take i symbols)) ++ x ∷ []) edge_is
+        ∙ (append_assoc old.edges (token_edges (earleme_of old) (take i symbols)) (record { symbol = s; from = earleme_of old; to = suc (earleme_of old) } ∷ [])
+        ∙ ap (λ es. old.edges ++ es) (sym (subst (λ z. token_edges (earleme_of old) (take (i + 1) symbols) ≡ token_edges (earleme_of old) (take i symbols) ++ record { symbol = z; from = earleme_of old; to = suc (earleme_of old) } ∷ []) (sym is) (map_more (λ x. record { symbol = x; from = earleme_of old; to = suc (earleme_of old) }) symbols i s lt))))))
 
 pub no_edges : (r : Recognizer) → r.edges ≡ r.edges ++ []
 no_edges r = sym (append-nil r.edges)
@@ -92,10 +92,10 @@ behind place symbols e c =
     omega (arith, to_is)
 
 -- the steps of a token are those of its set
-module _ (old mid new : Recognizer) (symbols : List ℕ) (is : IsRecognizer mid) (keeps : Keeps old mid) (edges : mid.edges ≡ old.edges ++ token_edges (place_of old) symbols)
+module _ (old mid new : Recognizer) (symbols : List ℕ) (is : IsRecognizer mid) (keeps : Keeps old mid) (edges : mid.edges ≡ old.edges ++ token_edges (earleme_of old) symbols)
     (flat : new.flat ≡ mid.flat) (start : new.start ≡ mid.start) (same : new.edges ≡ mid.edges) (set : List Item) (sets : new.sets ≡ mid.sets ++ set ∷ []) where
   pub counts_token : (middle after : ℕ) (tried : List Link) → AllPairs (λ a b. a ≢ b) tried → ((l : Link) → Contains tried l → IsLink mid.flat (edges_of mid) (top_of mid) (length mid.sets) l) →
       after + made mid ≡ middle + length tried + made new → (before : ℕ) → CountsFrom old before middle → CountsFrom new before after
   counts_token middle after tried once are count before counts =
       counts_set mid new flat start same is.some set sets before middle after tried once are count
-      (counts_more old mid is keeps.flat keeps.start keeps.sets keeps.noted (token_edges (place_of old) symbols) edges (behind (place_of old) symbols) before middle counts)
+      (counts_more old mid is keeps.flat keeps.start keeps.sets keeps.noted (token_edges (earleme_of old) symbols) edges (behind (earleme_of old) symbols) before middle counts)

@@ -1,14 +1,15 @@
 -- Lists that gather what rows have, row after row.
-use Rattle.std.proofs.Common.{arith, ◌≡◌, ◌↔◌, ◌⊎◌, inl, inr, ℕ, suc, ◌+◌, ◌<◌, ◌≤◌, List, [], ◌∷◌, ◌++◌, length, map, take, get_or, Contains, refl, sym, ◌∙◌, ap, subst}
+use Rattle.std.proofs.Common.{arith, ◌≡◌, ◌↔◌, ◌⊎◌, inl, inr, ℕ, ◌+◌, ◌<◌, ◌≤◌, List, [], ◌∷◌, ◌++◌, length, map, take, get_or, Contains, sym, ◌∙◌, ap, subst}
 use Rattle.std.specs.List.{AllByRecursion}
 use Rattle.std.specs.List.Sorted.{IsStrictlySortedBy}
 use Rattle.std.specs.declared.cmp.Ordering.TheVariants.{Less}
 use Rattle.std.specs.Ordering.{nat_cmp}
-use Rattle.std.specs.Cmp.{nat_cmp_is}
 use Rattle.std.proofs.lemmas.List.{take_more, take_all, get_or-take, get_or-map, length-take-le, length-map}
 use Rattle.std.proofs.lemmas.List.Elements.{Contains-append_left, Contains-push, Contains-push_cases}
 use Rattle.std.proofs.lemmas.Map.Keys.{below_from_sorted}
+use Rattle.finite_sets.proofs.Clauses.{nat_cmp-less}
 use Rattle.scanless.specs.Pieces.{AddsIf, Gathers}
+use Rattle.lexer.proofs.Sorted.{sorted_push}
 
 -- ---- one element more
 
@@ -60,25 +61,12 @@ module _ {A B : Type 0} (f : A → B) (rows : List A) (P : A → Type 0) where
 
 -- ---- in ascending order
 
-pub below : (x y : ℕ) → x < y → nat_cmp x y ≡ Less
-below x y lt = sym (nat_cmp_is x y Less lt)
-
 under_push : (x : ℕ) (xs : List ℕ) (y : ℕ) → AllByRecursion (λ z. nat_cmp x z ≡ Less) xs → x < y → AllByRecursion (λ z. nat_cmp x z ≡ Less) (xs ++ y ∷ [])
-under_push x [] y h lt = (below x y lt, tt)
+under_push x [] y h lt = (nat_cmp-less x y lt, tt)
 under_push x (z ∷ zs) y h lt = (h.0, under_push x zs y h.1 lt)
 
-sorted_push : (xs : List ℕ) (y : ℕ) → IsStrictlySortedBy nat_cmp xs → ((x : ℕ) → Contains xs x → x < y) → IsStrictlySortedBy nat_cmp (xs ++ y ∷ [])
-unfolding IsStrictlySortedBy
-sorted_push [] y s above = (tt, tt)
-sorted_push (x ∷ xs) y s above =
-    (under_push x xs y s.0 (above x (0, omega arith, refl)), sorted_push xs y s.1 (λ z (k, lt, e). above z (suc k, omega (arith, lt), e)))
-
-pub sorted_none : IsStrictlySortedBy nat_cmp []
-unfolding IsStrictlySortedBy
-sorted_none = tt
-
 module _ {A : Type 0} (P : A → Type 0) (f : A → ℕ) (rows : List A) (ascend : IsStrictlySortedBy nat_cmp (map f rows)) (i : ℕ) (row : A) (lt : i < length rows) (is : row ≡ get_or rows i row) where
-  above : (r : A) → Contains (take i rows) r → f r < f row
+  pub above : (r : A) → Contains (take i rows) r → f r < f row
   above r (k, k_lt, e) =
       let short = length-take-le i rows (omega (arith, lt)) in
       let k_lt_i : k < i = omega (arith, k_lt, short) in

@@ -1,20 +1,11 @@
 -- Lexemes that fit, with one start more, and one of the highest priority.
-use Rattle.std.proofs.Common.{arith, ◌≡◌, ◌⊎◌, inl, inr, ℕ, ℤ, ◌≤ℤ◌, List, [], ◌∷◌, ◌++◌, Contains, Option, Some, None, sym, subst}
-use Rattle.std.proofs.lemmas.Int.{ints}
+use Rattle.std.proofs.Common.{◌≡◌, ◌⊎◌, inl, inr, ℕ, ◌≤ℤ◌, List, [], ◌∷◌, ◌++◌, Contains, Option, Some, None, sym, subst}
 use Rattle.std.proofs.lemmas.List.Elements.{Contains-append_left, Contains-push, Contains-push_cases}
+use Rattle.finite_sets.proofs.Deciding.{most_itself, most_through}
+use Rattle.finite_sets.proofs.Lists.{Contains-none}
 use Rattle.dsl_build.specs.declared.built.LexemeRow.{LexemeRow as HeldRow}
 use Rattle.earley_sets.specs.Recognizer.{Recognizer, IsExpected}
-use Rattle.earley_sets.proofs.Membership.{Contains-none}
 use Rattle.scanless.specs.Pieces.{IsRowAt, IsHighestOf, IsFit}
-
-most_itself : (x : ℤ) → x ≤ℤ x
-most_itself x = omega (arith, ints)
-
-most_through : (x y z : ℤ) → x ≤ℤ y → y ≤ℤ z → x ≤ℤ z
-most_through x y z a b = omega (arith, ints, a, b)
-
-pub most_twice : (x y : ℤ) → x ≤ℤ y → y ≤ℤ x → x ≡ y
-most_twice x y a b = omega (arith, ints, a, b)
 
 module _ (recce : Recognizer) (rows : List HeldRow) where
   pub highest_none : IsHighestOf (IsFit recce []) rows None

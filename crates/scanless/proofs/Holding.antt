@@ -1,47 +1,31 @@
 -- What pieces hold with one piece more.
-use Rattle.std.proofs.Common.{arith, ◌≡◌, inl, inr, ℕ, suc, ◌+◌, ◌<◌, ◌≤◌, List, [], ◌∷◌, ◌++◌, Contains, append_assoc, append-nil, zero-add, refl, sym, ◌∙◌, ap, subst}
+use Rattle.std.proofs.Common.{arith, ◌≡◌, inl, inr, ℕ, suc, ◌+◌, ◌<◌, ◌≤◌, List, [], ◌∷◌, ◌++◌, Contains, append_assoc, append-nil, refl, sym, ◌∙◌, ap, subst}
 use Rattle.std.proofs.lemmas.List.Elements.{Contains-append_cases}
+use Rattle.finite_sets.proofs.Lists.{Contains-none}
 use Rattle.grammar_model.specs.declared.Edge.{Edge}
 use Rattle.language_model.specs.Building.{Built}
-use Rattle.reading_model.specs.Reading.{Piece, Token, Skipped, place_after, edges_from, edges_of, spans_from, Reads, Begin, Take, Skip}
+use Rattle.reading_model.specs.Reading.{Piece, Token, Skipped, earleme_after, edges_from, edges_of, spans_from, Reads, Begin, Take, Skip}
 use Rattle.flat_model.specs.Flattened.{IsFlattened}
-use Rattle.earley_sets.specs.Recognizer.{Recognizer, place_of}
-use Rattle.earley_sets.proofs.Membership.{Contains-none, Contains-map_from}
+use Rattle.earley_sets.specs.Recognizer.{Recognizer, earleme_of}
+use Rattle.earley_sets.proofs.Membership.{Contains-map_from}
 use Rattle.scanless.specs.Taking.{token_edges, Takes}
 use Rattle.scanless.specs.Reading.{HoldsPieces}
+use Rattle.reading_model.proofs.Characters.{characters, characters_are}
 
 -- ---- places
 
-place_token : (ps : List Piece) (n : ℕ) (ss : List ℕ) → place_after (ps ++ Token n ss ∷ []) ≡ suc (place_after ps)
+place_token : (ps : List Piece) (n : ℕ) (ss : List ℕ) → earleme_after (ps ++ Token n ss ∷ []) ≡ suc (earleme_after ps)
 place_token [] n ss = refl
 place_token (Token k qs ∷ ps) n ss = ap suc (place_token ps n ss)
 place_token (Skipped k ∷ ps) n ss = place_token ps n ss
 
-place_skipped : (ps : List Piece) (n : ℕ) → place_after (ps ++ Skipped n ∷ []) ≡ place_after ps
+place_skipped : (ps : List Piece) (n : ℕ) → earleme_after (ps ++ Skipped n ∷ []) ≡ earleme_after ps
 place_skipped [] n = refl
 place_skipped (Token k qs ∷ ps) n = ap suc (place_skipped ps n)
 place_skipped (Skipped k ∷ ps) n = place_skipped ps n
 
--- how many characters the pieces have
-abbrev characters : List Piece → ℕ
-characters [] = 0
-characters (Token n ss ∷ ps) = n + characters ps
-characters (Skipped n ∷ ps) = n + characters ps
-
-characters_more : (ps : List Piece) (p : Piece) → characters (ps ++ p ∷ []) ≡ characters ps + characters (p ∷ [])
-characters_more [] p = sym (zero-add (characters (p ∷ [])))
-characters_more (Token n ss ∷ ps) p = let e = characters_more ps p in omega (arith, e)
-characters_more (Skipped n ∷ ps) p = let e = characters_more ps p in omega (arith, e)
-
-characters_are : {b : Built} {text : List ℕ} {at : ℕ} {pieces : List Piece} → Reads b text at pieces → characters pieces ≡ at
-characters_are Begin = refl
-characters_are (Take {at = at} {n = n} {pieces = pieces} first others r lt longest sorted exact) =
-    let e = characters_more pieces (Token n (first ∷ others)) in let f = characters_are r in omega (arith, e, f)
-characters_are (Skip {at = at} {n = n} {pieces = pieces} r lt longest none skipped) =
-    let e = characters_more pieces (Skipped n) in let f = characters_are r in omega (arith, e, f)
-
 -- a token has a character at least
-pub place_within : {b : Built} {text : List ℕ} {at : ℕ} {pieces : List Piece} → Reads b text at pieces → place_after pieces ≤ at
+pub place_within : {b : Built} {text : List ℕ} {at : ℕ} {pieces : List Piece} → Reads b text at pieces → earleme_after pieces ≤ at
 place_within Begin = omega arith
 place_within (Take {at = at} {n = n} {pieces = pieces} first others r lt longest sorted exact) =
     let e = place_token pieces n (first ∷ others) in let f = place_within r in let some = longest.some in omega (arith, e, f, some)
@@ -50,11 +34,11 @@ place_within (Skip {at = at} {n = n} {pieces = pieces} r lt longest none skipped
 
 -- ---- edges
 
-edges_token : (place : ℕ) (ps : List Piece) (n : ℕ) (ss : List ℕ) → edges_from place (ps ++ Token n ss ∷ []) ≡ edges_from place ps ++ token_edges (place + place_after ps) ss
+edges_token : (place : ℕ) (ps : List Piece) (n : ℕ) (ss : List ℕ) → edges_from place (ps ++ Token n ss ∷ []) ≡ edges_from place ps ++ token_edges (place + earleme_after ps) ss
 edges_token place [] n ss = append-nil (token_edges place ss) ∙ ap (λ k. token_edges k ss) (let e : place ≡ place + 0 = omega arith in e)
 edges_token place (Token k qs ∷ ps) n ss =
-    ap (λ es. token_edges place qs ++ es) (edges_token (suc place) ps n ss) ∙ (sym (append_assoc (token_edges place qs) (edges_from (suc place) ps) (token_edges (suc place + place_after ps) ss))
-    ∙ ap (λ k. (token_edges place qs ++ edges_from (suc place) ps) ++ token_edges k ss) (let e : suc place + place_after ps ≡ place + suc (place_after ps) = omega arith in e))
+    ap (λ es. token_edges place qs ++ es) (edges_token (suc place) ps n ss) ∙ (sym (append_assoc (token_edges place qs) (edges_from (suc place) ps) (token_edges (suc place + earleme_after ps) ss))
+    ∙ ap (λ k. (token_edges place qs ++ edges_from (suc place) ps) ++ token_edges k ss) (let e : suc place + earleme_after ps ≡ place + suc (earleme_after ps) = omega arith in e))
 edges_token place (Skipped k ∷ ps) n ss = edges_token place ps n ss
 
 edges_skipped : (place : ℕ) (ps : List Piece) (n : ℕ) → edges_from place (ps ++ Skipped n ∷ []) ≡ edges_from place ps
@@ -62,7 +46,7 @@ edges_skipped place [] n = refl
 edges_skipped place (Token k qs ∷ ps) n = ap (λ es. token_edges place qs ++ es) (edges_skipped (suc place) ps n)
 edges_skipped place (Skipped k ∷ ps) n = edges_skipped place ps n
 
-edges_begun : (place : ℕ) (ps : List Piece) (e : Edge) → Contains (edges_from place ps) e → e.from < place + place_after ps
+edges_begun : (place : ℕ) (ps : List Piece) (e : Edge) → Contains (edges_from place ps) e → e.from < place + earleme_after ps
 edges_begun place [] e c = absurd (Contains-none e c)
 edges_begun place (Token k qs ∷ ps) e c = elim (Contains-append_cases (token_edges place qs) (edges_from (suc place) ps) e c) [
   | inl here ↦ (let (s, m, is) = Contains-map_from (λ s. record { symbol = s; from = place; to = suc place }) qs e here in let from_is : e.from ≡ place = ap (λ (d : Edge). d.from) is in omega (arith, from_is))
@@ -93,7 +77,7 @@ spans_with_skipped pieces n = spans_skipped 0 pieces n
 -- ---- a recognizer
 
 module _ (b : Built) (pieces : List Piece) (old : Recognizer) (holds : HoldsPieces b pieces old) where
-  pub holds_begun : (e : Edge) → Contains old.edges e → e.from < place_of old
+  pub holds_begun : (e : Edge) → Contains old.edges e → e.from < earleme_of old
   holds_begun e c =
       let lt = edges_begun 0 pieces e (subst (λ es. Contains es e) holds.edges c) in
       let p = holds.place in
@@ -103,7 +87,7 @@ module _ (b : Built) (pieces : List Piece) (old : Recognizer) (holds : HoldsPiec
   holds_token new n ss t = record {
     flat = subst (IsFlattened b.g1) (sym t.flat) holds.flat;
     start = t.start ∙ holds.start;
-    edges = t.edges ∙ (ap (λ es. es ++ token_edges (place_of old) ss) holds.edges ∙ (ap (λ k. edges_of pieces ++ token_edges k ss) (let p = holds.place in let e : place_of old ≡ 0 + place_after pieces = omega (arith, p) in e) ∙ sym (edges_token 0 pieces n ss)));
+    edges = t.edges ∙ (ap (λ es. es ++ token_edges (earleme_of old) ss) holds.edges ∙ (ap (λ k. edges_of pieces ++ token_edges k ss) (let p = holds.place in let e : earleme_of old ≡ 0 + earleme_after pieces = omega (arith, p) in e) ∙ sym (edges_token 0 pieces n ss)));
     place = t.place ∙ (ap suc holds.place ∙ sym (place_token pieces n ss));
   }
 

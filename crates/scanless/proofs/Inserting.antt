@@ -8,11 +8,11 @@ use Rattle.std.proofs.lemmas.Bool.{cases_lt}
 use Rattle.std.proofs.lemmas.List.Elements.{Contains-get_or}
 use Rattle.std.proofs.lemmas.List.Sorted.{searched, Contains-permutation, IsPermutation-insert, IsPermutation-sym}
 use Rattle.std.proofs.lemmas.Map.Keys.{below_from_sorted}
-use Rattle.scanless.proofs.Gathering.{below}
+use Rattle.finite_sets.proofs.Clauses.{nat_cmp-less}
 
 all_above : (xs : List ℕ) (y : ℕ) → ((k : ℕ) → k < length xs → y < get_or xs k 0) → AllByRecursion (λ z. nat_cmp y z ≡ Less) xs
 all_above [] y high = tt
-all_above (x ∷ xs) y high = (below y x (high 0 (omega arith)), all_above xs y (λ k lt. high (suc k) (omega (arith, lt))))
+all_above (x ∷ xs) y high = (nat_cmp-less y x (high 0 (omega arith)), all_above xs y (λ k lt. high (suc k) (omega (arith, lt))))
 
 all_with : (x y : ℕ) (xs : List ℕ) (i : ℕ) → nat_cmp x y ≡ Less → AllByRecursion (λ z. nat_cmp x z ≡ Less) xs → AllByRecursion (λ z. nat_cmp x z ≡ Less) (insert xs i y)
 all_with x y [] zero e all = (e, tt)
@@ -26,7 +26,7 @@ sorted_insert [] zero y s low high = (tt, tt)
 sorted_insert [] (suc i) y s low high = (tt, tt)
 sorted_insert (x ∷ xs) zero y s low high = (all_above (x ∷ xs) y (λ k lt. high k (omega arith) lt), s)
 sorted_insert (x ∷ xs) (suc i) y s low high =
-    (all_with x y xs i (below x y (low 0 (omega arith))) s.0, sorted_insert xs i y s.1 (λ k lt. low (suc k) (omega (arith, lt))) (λ k le lt. high (suc k) (omega (arith, le)) (omega (arith, lt))))
+    (all_with x y xs i (nat_cmp-less x y (low 0 (omega arith))) s.0, sorted_insert xs i y s.1 (λ k lt. low (suc k) (omega (arith, lt))) (λ k le lt. high (suc k) (omega (arith, le)) (omega (arith, lt))))
 
 -- ---- the search for the place
 

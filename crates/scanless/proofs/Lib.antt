@@ -1,6 +1,7 @@
 pub mod Listed
 pub mod Faults
 mod Gathering
+mod Finding
 mod Inserting
 mod Nexts
 mod Highest

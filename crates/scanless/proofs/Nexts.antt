@@ -1,5 +1,6 @@
 -- What a recognizer expects that holds the edges of pieces are the symbols that are acceptable behind them.
 use Rattle.std.proofs.Common.{arith, ◌↔◌, ℕ, ◌<◌, List, length, slice_index, subst}
+use Rattle.std.proofs.lemmas.Option.{slice_get-get_or}
 use Rattle.grammar_model.specs.Checked.{IsChecked}
 use Rattle.grammar_model.specs.declared.Ranking.{Ranking}
 use Rattle.grammar_model.specs.Derives.{Held, Line}
@@ -10,8 +11,7 @@ use Rattle.recognizer_model.proofs.FlatFormLaw.{flat_form}
 use Rattle.recognizer_model.proofs.Expected.{to_flat, from_flat}
 use Rattle.language_model.specs.Building.{Built}
 use Rattle.reading_model.specs.Reading.{Piece, edges_of, IsNext}
-use Rattle.earley_sets.specs.Recognizer.{Recognizer, IsRecognizer, IsExpected, top_of, place_of}
-use Rattle.earley_sets.proofs.Membership.{get_at}
+use Rattle.earley_sets.specs.Recognizer.{Recognizer, IsRecognizer, IsExpected, top_of, earleme_of}
 use Rattle.scanless.specs.Reading.{HoldsPieces}
 
 module _ (b : Built) (checked : IsChecked b.g1) (pieces : List Piece) (recce : Recognizer) (is : IsRecognizer recce) (holds : HoldsPieces b pieces recce) where
@@ -24,16 +24,16 @@ module _ (b : Built) (checked : IsChecked b.g1) (pieces : List Piece) (recce : R
   start_within : recce.start < length b.g1.starts
   start_within = let e = holds.flat.made.tops_all in omega (arith, e, is.start)
 
-  law : (t : ℕ) → IsExpected recce t ↔ IsAcceptable b.g1 (Held recce.edges) (slice_index b.g1.starts recce.start) t (place_of recce)
+  law : (t : ℕ) → IsExpected recce t ↔ IsAcceptable b.g1 (Held recce.edges) (slice_index b.g1.starts recce.start) t (earleme_of recce)
   law t =
-      let at = get_at b.g1.starts recce.start 0 start_within in
-      let top = get_at recce.flat.tops recce.start 0 is.start in (
-        (λ h. from_flat recce.flat b.g1 is.flat (Held recce.edges) forward forms recce.start (slice_index b.g1.starts recce.start) (top_of recce) at top t (place_of recce) h.0 h.1 h.2),
-        (λ a. to_flat recce.flat b.g1 is.flat (Held recce.edges) forward forms recce.start (slice_index b.g1.starts recce.start) (top_of recce) at top t (place_of recce) a),
+      let at = slice_get-get_or b.g1.starts recce.start 0 start_within in
+      let top = slice_get-get_or recce.flat.tops recce.start 0 is.start in (
+        (λ h. from_flat recce.flat b.g1 is.flat (Held recce.edges) forward forms recce.start (slice_index b.g1.starts recce.start) (top_of recce) at top t (earleme_of recce) h.0 h.1 h.2),
+        (λ a. to_flat recce.flat b.g1 is.flat (Held recce.edges) forward forms recce.start (slice_index b.g1.starts recce.start) (top_of recce) at top t (earleme_of recce) a),
       )
 
   pub next_is : (t : ℕ) → IsExpected recce t ↔ IsNext b pieces t
   next_is t =
       subst (λ place. IsExpected recce t ↔ IsAcceptable b.g1 (Held (edges_of pieces)) (slice_index b.g1.starts 0) t place) holds.place
-      (subst (λ edges. IsExpected recce t ↔ IsAcceptable b.g1 (Held edges) (slice_index b.g1.starts 0) t (place_of recce)) holds.edges
-      (subst (λ start. IsExpected recce t ↔ IsAcceptable b.g1 (Held recce.edges) (slice_index b.g1.starts start) t (place_of recce)) holds.start (law t)))
+      (subst (λ edges. IsExpected recce t ↔ IsAcceptable b.g1 (Held edges) (slice_index b.g1.starts 0) t (earleme_of recce)) holds.edges
+      (subst (λ start. IsExpected recce t ↔ IsAcceptable b.g1 (Held recce.edges) (slice_index b.g1.starts start) t (earleme_of recce)) holds.start (law t)))

@@ -1,36 +1,23 @@
 -- The lexemes of a text are in order of their symbols, which have names of their own.
-use Rattle.std.proofs.Common.{arith, ◌≡◌, ℕ, zero, suc, ◌+◌, ◌≤◌, Bool, true, false, cond, List, [], ◌∷◌, ◌++◌, map, Some, Contains, refl, sym, ◌∙◌, ap, subst}
-use Rattle.std.specs.Prelude.{filter, not, ◌||◌, bytes_eq, slice_get}
+use Rattle.std.proofs.Common.{arith, ◌≡◌, ℕ, zero, suc, ◌+◌, ◌≤◌, Bool, true, false, cond, List, [], ◌∷◌, map, Some, Contains, refl, sym, ◌∙◌, subst}
+use Rattle.std.specs.Prelude.{filter, not, slice_get}
 use Rattle.std.specs.List.{AllByRecursion}
 use Rattle.std.specs.List.Sorted.{IsStrictlySortedBy}
 use Rattle.std.specs.declared.cmp.Ordering.TheVariants.{Less}
 use Rattle.std.specs.Ordering.{nat_cmp}
 use Rattle.std.specs.Cmp.{nat_cmp_is}
-use Rattle.std.proofs.lemmas.Slice.Eq.{bytes_eq-Decides}
+use Rattle.std.proofs.lemmas.Simd.{map-map}
+use Rattle.finite_sets.proofs.Lists.{get_left, get_mapped, got_at}
 use Rattle.language_model.specs.Description.{Statement}
 use Rattle.language_model.specs.Building.{Built, LexemeRow, built_of, is_one_of, symbols_g1, lexemes, lexeme_row, left_names, discarded, start_texts, place_in}
 use Rattle.language_model.specs.Texts.{IsBuilt}
 use Rattle.dsl_build.specs.Texts.{AllNew}
 use Rattle.dsl_build.proofs.Differing.{differ, symbols_new, starts_new}
-use Rattle.dsl_build.proofs.Known.{place_known}
-use Rattle.grammar_core.proofs.Growth.{named}
-use Rattle.flat_rules.proofs.Named.{map_get}
-use Rattle.earley_sets.proofs.Membership.{Contains-map_from, found_at, got_at}
+use Rattle.earley_sets.proofs.Membership.{Contains-map_from, found_at}
 use Rattle.scanless.specs.Pieces.{AreInOrder}
+use Rattle.dsl_build.proofs.Terminals.{place_at}
 
 -- ---- places of names
-
-or_true : (b : Bool) → (b || true) ≡ true
-or_true true = refl
-or_true false = refl
-
-get_in : (names : List (List ℕ)) (i : ℕ) (t : List ℕ) → slice_get names i ≡ Some t → is_one_of names t ≡ true
-get_in [] i t e = cc
-get_in (n ∷ ns) zero t e = let same : n ≡ t = cc in ap (λ b. b || is_one_of ns t) ((bytes_eq-Decides n t).1 same)
-get_in (n ∷ ns) (suc i) t e = ap (λ b. bytes_eq n t || b) (get_in ns i t e) ∙ or_true (bytes_eq n t)
-
-place_at : (names : List (List ℕ)) (i : ℕ) (t : List ℕ) → AllNew [] names → slice_get names i ≡ Some t → place_in names t ≡ i
-place_at names i t new e = differ [] names (place_in names t) i t new (named t names (place_known names t (get_in names i t e))) e
 
 -- ---- those of the names that are left over a filter ascend
 
@@ -64,10 +51,6 @@ module _ (names : List (List ℕ)) (new : AllNew [] names) (p : List ℕ → Boo
         (let e = here in omega (arith, e), weaker k (suc k) (map symbol (filter p ts)) (omega arith) h),
       )
 
-pub map_map : {A B C : Type 0} (g : B → C) (f : A → B) (xs : List A) → map g (map f xs) ≡ map (λ x. g (f x)) xs
-map_map g f [] = refl
-map_map g f (x ∷ xs) = ap (λ ys. g (f x) ∷ ys) (map_map g f xs)
-
 -- a symbol of a lexeme is the place of its text
 lexeme_text : (d : List Statement) (l : LexemeRow) → Contains (map (lexeme_row d) (lexemes d)) l → (t : List ℕ) × (slice_get (symbols_g1 d) l.symbol ≡ Some t)
 lexeme_text d l c =
@@ -87,14 +70,9 @@ lexeme_text d l c =
             by true (suc i) e rest = let (j, f) = rest i e in (suc j, f)
             by false i e rest = let (j, f) = rest i e in (suc j, f)
 
-get_front : (xs ys : List (List ℕ)) (k : ℕ) (t : List ℕ) → slice_get xs k ≡ Some t → slice_get (xs ++ ys) k ≡ Some t
-get_front [] ys k t e = absurd (cc)
-get_front (x ∷ xs) ys zero t e = e
-get_front (x ∷ xs) ys (suc k) t e = get_front xs ys k t e
-
 built_order : (d : List Statement) → AreInOrder (built_of d)
 built_order d = record {
-  ascend = subst (IsStrictlySortedBy nat_cmp) (sym (map_map (λ (l : LexemeRow). l.symbol) (lexeme_row d) (lexemes d)))
+  ascend = subst (IsStrictlySortedBy nat_cmp) (sym (map-map (λ (l : LexemeRow). l.symbol) (lexeme_row d) (lexemes d)))
       (ascending (symbols_g1 d) (symbols_new d) (λ t. not (is_one_of (left_names false d) t)) (λ t. (lexeme_row d t).symbol) (λ t. refl) 0 (symbols_g1 d)
       (λ j t e. subst (λ i. slice_get (symbols_g1 d) i ≡ Some t) (let s : j ≡ 0 + j = omega arith in s) e)).0;
   differ = λ l m c k same.
@@ -105,8 +83,8 @@ built_order d = record {
       let e : t ≡ u = sym t_is ∙ (same ∙ u_is) in
       differ [] (symbols_g1 d) l.symbol m.symbol t (symbols_new d) at (subst (λ x. slice_get (symbols_g1 d) m.symbol ≡ Some x) (sym e) on);
   places = λ k l e.
-      let (t, at, is) = map_get (lexeme_row d) (lexemes d) k l e in
-      subst (λ (r : LexemeRow). r.start ≡ k) is (place_at (start_texts d) k t (starts_new d) (get_front (lexemes d) (filter (λ u. not (is_one_of (lexemes d) u)) (discarded d)) k t at));
+      let (t, at, is) = get_mapped (lexeme_row d) (lexemes d) k l e in
+      subst (λ (r : LexemeRow). r.start ≡ k) is (place_at (start_texts d) k t (starts_new d) (get_left (lexemes d) (filter (λ u. not (is_one_of (lexemes d) u)) (discarded d)) k t at));
 }
 
 pub in_order : (b : Built) → IsBuilt b → AreInOrder b

@@ -1,5 +1,5 @@
 -- What results tell.
-use Rattle.std.proofs.Common.{◌≡◌, ℕ, cond, List, ◌++◌, Option, Some, None, Result, Ok, Err, OnOk, IfOk, refl, subst}
+use Rattle.std.proofs.Common.{◌≡◌, ℕ, cond, List, ◌++◌, Option, Some, None, Result, Ok, Err, OnOk, IfOk, refl}
 use Rattle.std.specs.Prelude.{IsNone, IfSome, is_ok}
 use Rattle.std.specs.Option.{IsSomeAnd}
 use Rattle.std.proofs.lemmas.Bool.{true≢false}
@@ -25,13 +25,6 @@ pub some_if : {A E : Type 0} (r : Result (Option A) E) (P : A → Type 0) → If
 some_if (Ok (Some x)) P h = h
 some_if (Ok None) P h = absurd h
 some_if (Err x) P h = tt
-
-pub at_some : {A : Type 0} (P : A → Type 0) (o : Option A) (x : A) → o ≡ Some x → IfSome o P → P x
-at_some P o x e h = subst (λ p. IfSome p P) e h
-
-pub if_ok : {T E : Type 0} (r : Result T E) (P Q : T → Type 0) → ((x : T) → P x → Q x) → IfOk r P → IfOk r Q
-if_ok (Ok x) P Q f h = f x h
-if_ok (Err e) P Q f h = tt
 
 pub if_some : {T : Type 0} (o : Option T) (P Q : T → Type 0) → ((x : T) → P x → Q x) → IfSome o P → IfSome o Q
 if_some (Some x) P Q f h = f x h

@@ -2,13 +2,13 @@
 use Rattle.std.proofs.Common.{arith, ◌≡◌, ◌↔◌, ℕ, ◌+◌, ◌<◌, ◌≤◌, List, [], ◌∷◌, ◌++◌, length, map, Contains, refl, sym, ◌∙◌, ap, subst}
 use Rattle.std.specs.List.Sorted.{IsStrictlySortedBy}
 use Rattle.std.specs.Ordering.{nat_cmp}
+use Rattle.finite_sets.proofs.Lists.{Contains-none}
 use Rattle.grammar_core.specs.declared.steps.Span.{Span}
 use Rattle.flat_model.specs.Flattened.{IsFlattened}
 use Rattle.language_model.specs.Building.{Built}
 use Rattle.reading_model.specs.Reading as model
-use Rattle.reading_model.specs.Reading.{Piece, Token, Skipped, IsLongest, IsKept, IsFound, AreFound, AreSorted, AreExpected, Reads, Begin, Take, Skip, IsReading, HasEnded, HasStopped}
+use Rattle.reading_model.specs.Reading.{Piece, Token, Skipped, IsLongest, IsKept, AreFound, AreExpected, Reads, Begin, Take, Skip, IsReading, HasEnded, HasStopped}
 use Rattle.earley_sets.specs.Recognizer.{Recognizer}
-use Rattle.earley_sets.proofs.Membership.{Contains-none}
 use Rattle.scanless.specs.declared.reading.Ending.TheVariants.{End}
 use Rattle.scanless.specs.declared.kept.Choice.TheVariants as choice
 use Rattle.scanless.specs.Pieces.{IsLongestBy}

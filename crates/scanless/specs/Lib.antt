@@ -3,4 +3,5 @@ pub mod Faults
 pub mod Prepared
 pub mod Reading
 pub mod Pieces
+pub mod Lookups
 pub mod Taking

@@ -8,6 +8,8 @@ use Rattle.language_model.specs.Texts.{IsBuilt}
 use Rattle.reading_model.specs.Accepted.{IsLexical, IsAccepted}
 use Rattle.scanless.specs.declared.abilities.Ability.{Ability}
 use Rattle.scanless.specs.Abilities.{AreAbilities}
+use Rattle.scanless.specs.declared.lookups.Lookups.{Lookups}
+use Rattle.scanless.specs.Lookups.{AreLookups}
 
 -- the flat form of the lexical grammar, which there is exactly where there is a lexeme or a discard
 abbrev pub IsLexicalForm : Built → Option FlatGrammar → Type 0
@@ -20,6 +22,7 @@ pub record AreParts (b : Built) (flat : FlatGrammar) (lexical : Option FlatGramm
   pub lexical_form : IsLexicalForm b lexical
   pub are_abilities : AreAbilities b.g1 abilities
 
-pub record IsPrepared (b : Built) (flat : FlatGrammar) (lexical : Option FlatGrammar) (abilities : List Ability) : Type 0 where
+pub record IsPrepared (b : Built) (flat : FlatGrammar) (lexical : Option FlatGrammar) (abilities : List Ability) (lookups : Lookups) : Type 0 where
   pub built : IsBuilt b
   pub parts : AreParts b flat lexical abilities
+  pub are_lookups : AreLookups b lookups.always.items lookups.starts.items

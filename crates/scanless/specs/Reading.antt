@@ -2,10 +2,10 @@
 use Rattle.std.specs.Prelude.{◌≡◌, ℕ, ◌<◌, ◌≤◌, ◌↔◌, List, length, map, Contains}
 use Rattle.grammar_core.specs.declared.steps.Span.{Span}
 use Rattle.flat_model.specs.Flattened.{IsFlattened}
-use Rattle.earley_sets.specs.Recognizer.{Recognizer, place_of}
+use Rattle.earley_sets.specs.Recognizer.{Recognizer, earleme_of}
 use Rattle.language_model.specs.Building.{Built}
 use Rattle.reading_model.specs.Reading as model
-use Rattle.reading_model.specs.Reading.{Piece, place_after, edges_of, spans_from, IsLongest, AreFound, IsKept, IsKeptNone, IsSkipped, Reads, IsReading}
+use Rattle.reading_model.specs.Reading.{Piece, earleme_after, edges_of, spans_from, IsLongest, AreFound, IsKept, IsKeptNone, IsSkipped, Reads, IsReading}
 use Rattle.scanless.specs.declared.reading.Ending.{Ending}
 use Rattle.scanless.specs.declared.reading.Ending.TheVariants.{End, Stopped}
 use Rattle.scanless.specs.declared.reading.Reader.{Reader}
@@ -26,7 +26,7 @@ pub record HoldsPieces (b : Built) (pieces : List Piece) (recce : Recognizer) : 
   pub flat : IsFlattened b.g1 recce.flat
   pub start : recce.start ≡ 0
   pub edges : recce.edges ≡ edges_of pieces
-  pub place : place_of recce ≡ place_after pieces
+  pub place : earleme_of recce ≡ earleme_after pieces
 
 -- the reading of a text
 pub record IsReadingOf (b : Built) (text : List ℕ) (recce : Recognizer) (spans : List Span) (ending : Ending) : Type 0 where

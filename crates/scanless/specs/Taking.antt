@@ -1,7 +1,7 @@
 -- What a recognizer holds when it takes a token.
 use Rattle.std.specs.Prelude.{◌≡◌, ℕ, suc, ◌++◌, List, map}
 use Rattle.grammar_model.specs.declared.Edge.{Edge}
-use Rattle.earley_sets.specs.Recognizer.{Recognizer, place_of}
+use Rattle.earley_sets.specs.Recognizer.{Recognizer, earleme_of}
 
 -- the edges of a token that begins at the place
 abbrev pub token_edges : ℕ → List ℕ → List Edge
@@ -18,5 +18,5 @@ pub record Keeps (old new : Recognizer) : Type 0 where
 pub record Takes (old new : Recognizer) (symbols : List ℕ) : Type 0 where
   pub flat : new.flat ≡ old.flat
   pub start : new.start ≡ old.start
-  pub edges : new.edges ≡ old.edges ++ token_edges (place_of old) symbols
-  pub place : place_of new ≡ suc (place_of old)
+  pub edges : new.edges ≡ old.edges ++ token_edges (earleme_of old) symbols
+  pub place : earleme_of new ≡ suc (earleme_of old)

@@ -1,19 +1,19 @@
 //! What can come next in a text: the starts that are looked for, and their longest match.
-ghost use Rattle.std.specs.Prelude.{◌≡◌, ℕ, ◌+◌, ◌<◌, ◌≤◌, ◌⊎◌, ◌↔◌, List, length, IsFalse, IsTrue, IfOk, IfSome, IsNone, OnOk, Contains};
+ghost use Rattle.std.specs.Prelude.{◌≡◌, ℕ, ◌+◌, ◌<◌, ◌≤◌, ◌⊎◌, List, length, IsFalse, IfOk, IfSome, IsNone, OnOk, Contains};
 ghost use Rattle.earley_sets.specs.Recognizer.{IsExpected};
-ghost use Rattle.dsl_build.specs.declared.built.LexemeRow.{LexemeRow as HeldRow};
+ghost use Rattle.language_model.specs.Building.{LexemeRow as TheRow};
 ghost use Rattle.reading_model.specs.Matches.{Matches};
 ghost use Rattle.reading_model.specs.Reading.{Piece, IsLongest};
 ghost use Rattle.scanless.specs.Reading.{HoldsPieces};
-ghost use Rattle.scanless.specs.Pieces.{IsLexerOf, AreCandidates, AreMatched, IsLongestBy, AddsIf, Gathers};
+ghost use Rattle.scanless.specs.Pieces.{IsLexerOf, AreCandidates, AreMatched, IsLongestBy, Gathers};
 
 use crate::Prepared;
-use dsl_build::LexemeRow;
+use crate::lookups::add_starts;
 use earley_sets::Recce;
 use grammar_core::SymbolId;
-use lexer::{LexAnswer, Lexer, Lexical, matches_are_the_grammars};
+use lexer::{Lexer, Lexical, matches_are_the_grammars};
 use slif_base::Chars;
-use std::alloc::{AllocError, AllocFailed, Global};
+use std::alloc::{AllocError, Global};
 
 /// What is used from place to place: the lexer, if the lexical grammar has a start, and room for what is found.
 #[derive(Drop)]
@@ -70,45 +70,22 @@ pub fn list_candidates(
 {
     p.known();
     let _place = recce.place();
-    list_lexemes(p.lexemes(), recce, candidates)?;
+    list_lexemes(p, recce, candidates)?;
     candidates.extend_from_slice(p.discards())
 }
 
 // The starts of the lexemes that are looked for.
-fn list_lexemes(
-    rows: &[LexemeRow],
-    recce: &Recce<'_>,
-    starts: &mut Vec<u32>,
-) -> Result<(), AllocFailed<u32>>
-    ensures { OnOk result (Gathers (λ (r : HeldRow). IsFalse r.latm ⊎ IsExpected recce.now r.symbol) (λ (r : HeldRow). r.start) rows.now starts.new.items) }
+fn list_lexemes(p: &Prepared, recce: &Recce<'_>, starts: &mut Vec<u32>) -> Result<(), AllocError>
+    ensures { OnOk result (Gathers (λ (l : TheRow). IsFalse l.latm ⊎ IsExpected recce.now l.symbol) (λ (l : TheRow). l.start) p.now.lexemes starts.new.items) }
 {
+    let lookups = p.lookups();
     starts.clear();
-    for row in rows {
-        add_candidate(row, recce, starts)?;
-    }
+    starts.extend_from_slice(&lookups.always)?;
+    add_starts(&lookups.starts, recce.expected_terminals(), starts)?;
     Ok(())
 }
 
-fn is_looked_for(row: &LexemeRow, recce: &Recce<'_>) -> bool
-    ensures { IsTrue result ↔ (IsFalse row.now.latm ⊎ IsExpected recce.now row.now.symbol) }
-{
-    !row.latm || recce.is_expected(row.symbol)
-}
-
-fn add_candidate(
-    row: &LexemeRow,
-    recce: &Recce<'_>,
-    starts: &mut Vec<u32>,
-) -> Result<(), AllocFailed<u32>>
-    ensures { OnOk result (AddsIf (IsFalse row.now.latm ⊎ IsExpected recce.now row.now.symbol) row.now.start starts.old.items starts.new.items) }
-{
-    if is_looked_for(row, recce) {
-        starts.push(row.start)?;
-    }
-    Ok(())
-}
-
-// The longest match of the starts, where one matches a character.
+// The length of the longest match of the starts, where one matches a character; then just the starts that have it are listed.
 fn longest(
     lexer: &mut Option<Lexer<'_>>,
     alloc: Global,
@@ -116,20 +93,21 @@ fn longest(
     chars: &Chars,
     at: usize,
     starts: &[u32],
-) -> Result<Option<LexAnswer>, AllocError>
+    matched: &mut Vec<u32>,
+) -> Result<Option<u32>, AllocError>
     requires lexer { IsLexerOf p.now lexer.old }
     requires at { at ≤ length chars.now }
     requires few { length chars.now ≤ 16777216 }
     requires starts { (k : ℕ) → Contains starts.now k → k < length p.now.l0.starts }
     ensures same { lexer.new ≡ lexer.old }
     ensures none { IfOk result (λ answer. IsNone answer → (k m : ℕ) → Contains starts.now k → 0 < m → Matches p.now chars.now k at (at + m) → ⊥) }
-    ensures some { IfOk result (λ answer. IfSome answer (λ a. AreMatched p.now chars.now at starts.now a.length a.matched.items)) }
+    ensures some { IfOk result (λ answer. IfSome answer (λ n. AreMatched p.now chars.now at starts.now n matched.new.items)) }
 {
     p.known();
     matches_are_the_grammars();
     match lexer {
         None => Ok(None),
-        Some(lexer) => lexer.longest(alloc, chars, at, starts),
+        Some(lexer) => lexer.find_longest(alloc, chars, at, starts, matched),
     }
 }
 
@@ -154,11 +132,6 @@ pub fn look(
     p.known();
     list_candidates(p, recce, &mut work.candidates)?;
     let starts = work.candidates.as_slice();
-    match longest(&mut work.lexer, alloc, p, chars, at, starts)? {
-        None => Ok(None),
-        Some(answer) => {
-            work.matched = answer.matched;
-            Ok(Some(answer.length))
-        }
-    }
+    let matched = &mut work.matched;
+    longest(&mut work.lexer, alloc, p, chars, at, starts, matched)
 }

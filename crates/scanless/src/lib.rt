@@ -4,6 +4,7 @@
 mod abilities;
 mod candidates;
 mod kept;
+mod lookups;
 mod names;
 mod parts;
 mod prepared;

@@ -97,7 +97,7 @@ fn flattened(alloc: Global, c: &Checked<'_>, lexical: bool) -> Result<Flat, Faul
     }
 }
 
-/// That of the lexical grammar, where it was checked.
+/// The flat form of the lexical grammar, where that was checked.
 fn flattened_lexical(alloc: Global, c: &Option<Checked<'_>>) -> Result<Option<Flat>, Fault>
     ensures ok { IfOk result (IsFlatLexical c.now) }
     ensures err { IfErr result (IsLexicalOverfull c.now) }

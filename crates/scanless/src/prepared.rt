@@ -14,11 +14,13 @@ ghost use Rattle.reading_model.specs.Accepted.{IsAccepted};
 ghost use Rattle.scanless.specs.Abilities.{IsAbility};
 ghost use Rattle.scanless.specs.Faults.{IsFault, IsRefusal};
 ghost use Rattle.scanless.specs.Pieces.{AreInOrder};
-ghost use Rattle.scanless.specs.Prepared.{IsLexicalForm};
+ghost use Rattle.scanless.specs.Prepared.{AreParts, IsLexicalForm};
+ghost use Rattle.scanless.specs.Lookups.{AreLookups};
 
 use crate::PrepareRefusal;
 use crate::abilities::Ability;
-use crate::parts::{Fault, parts_of};
+use crate::lookups::{Lookups, lookups_of};
+use crate::parts::{Fault, Parts, parts_of};
 use char_class::CharSet;
 use dsl_build::{Built, LexemeRow};
 use grammar_core::{Flat, SymbolId, Written};
@@ -33,6 +35,7 @@ pub struct Prepared {
     flat: Flat,
     lexical: Option<Flat>,
     abilities: Vec<Ability>,
+    lookups: Lookups,
 }
 
 impl Model for Prepared {
@@ -43,7 +46,7 @@ impl Model for Prepared {
 
     ghost view = { λ p. p.built };
 
-    ghost invariant = { λ p. IsPrepared p.built p.flat p.lexical p.abilities.items };
+    ghost invariant = { λ p. IsPrepared p.built p.flat p.lexical p.abilities.items p.lookups };
 }
 
 fn structural_grammar(built: Built) -> Written
@@ -83,6 +86,18 @@ fn refusal_of(built: Built, fault: Fault) -> PrepareRefusal
     }
 }
 
+// What is made of the grammars once, where they are accepted.
+fn tables_of(alloc: Global, built: &Built) -> Result<(Parts, Lookups), Fault>
+    requires { IsBuilt built.now }
+    ensures parts { IfOk result (λ made. AreParts built.now made.0.flat made.0.lexical made.0.abilities.items) }
+    ensures lookups { IfOk result (λ made. AreLookups built.now made.1.always.items made.1.starts.items) }
+    ensures err { IfErr result (IsFault built.now) }
+{
+    let parts = parts_of(alloc, built)?;
+    let lookups = lookups_of(alloc, built)?;
+    Ok((parts, lookups))
+}
+
 /// The grammars, ready to read with, where they are accepted; else their first fault, in the order of `PrepareRefusal`.
 /// Both grammars are checked before either is flattened.
 pub fn prepare(alloc: Global, built: Built) -> Result<Prepared, PrepareRefusal>
@@ -91,12 +106,13 @@ pub fn prepare(alloc: Global, built: Built) -> Result<Prepared, PrepareRefusal>
     ensures accepted { OnOk result (IsAccepted built) }
     ensures err { IfErr result (IsRefusal built) }
 {
-    match parts_of(alloc, &built) {
-        Ok(parts) => Ok(Prepared {
+    match tables_of(alloc, &built) {
+        Ok((parts, lookups)) => Ok(Prepared {
             built,
             flat: parts.flat,
             lexical: parts.lexical,
             abilities: parts.abilities,
+            lookups,
         }),
         Err(fault) => Err(refusal_of(built, fault)),
     }
@@ -174,6 +190,13 @@ impl Prepared {
         ensures { map row_of result.now ≡ self.now.lexemes }
     {
         self.built.lexemes.as_slice()
+    }
+
+    /// What is looked for, by tables.
+    pub(crate) fn lookups(&self) -> &Lookups
+        ensures { AreLookups self.now result.now.always.items result.now.starts.items }
+    {
+        &self.lookups
     }
 
     /// How many discards there are.

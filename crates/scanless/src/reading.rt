@@ -5,7 +5,7 @@ ghost use Rattle.std.specs.List.Sorted.{IsStrictlySortedBy};
 ghost use Rattle.std.specs.Ordering.{nat_cmp};
 ghost use Rattle.grammar_model.specs.declared.Edge.{Edge as HeldEdge};
 ghost use Rattle.reading_model.specs.Reading.{Piece};
-ghost use Rattle.earley_sets.specs.Recognizer.{place_of, IsExpected};
+ghost use Rattle.earley_sets.specs.Recognizer.{earleme_of, IsExpected};
 ghost use Rattle.earley_sets.specs.Counted.{CountsFrom, TakesAtMost};
 ghost use Rattle.scanless.specs.Taking.{Takes};
 ghost use Rattle.scanless.specs.Reading.{span_of, IsReadingOf, HasRead, IsReader, IsStuck};
@@ -73,10 +73,10 @@ impl<'p> Reader<'p> {
     // Takes a token of so many characters, as each of the lexemes that are kept.
     fn take<L: Ledger>(&mut self, length: u32, steps: &mut Steps<L>) -> Result<(), AllocError>
         requires at { self.old.at + length ≤ 16777216 }
-        requires place { place_of self.old.recce < 16777216 }
+        requires place { earleme_of self.old.recce < 16777216 }
         requires expected { (s : ℕ) → Contains self.old.work.kept.items s → IsExpected self.old.recce s }
         requires order { IsStrictlySortedBy nat_cmp self.old.work.kept.items }
-        requires begun { (e : HeldEdge) → Contains self.old.recce.edges e → e.from < place_of self.old.recce }
+        requires begun { (e : HeldEdge) → Contains self.old.recce.edges e → e.from < earleme_of self.old.recce }
         ensures lexer { OnOk result (self.new.work.lexer ≡ self.old.work.lexer) }
         ensures at { OnOk result (self.new.at ≡ self.old.at + length) }
         ensures span { OnOk result (map span_of self.new.spans.items ≡ map span_of self.old.spans.items ++ (self.old.at, length) ∷ []) }

@@ -8,23 +8,23 @@ use Rattle.std.proofs.lemmas.List.{reverse-append, length-reverse}
 use Rattle.std.proofs.lemmas.List.Sums.{sum_by-append, count_by-le-length, take_while-cons}
 use Rattle.outside_model.specs.Places.{line_after, column_after}
 
-pub line_break : (front : List ℕ) (c : ℕ) → c ≡ 10 → line_after (front ++ c ∷ []) ≡ line_after front + 1
-line_break front c e = ap (λ c. line_after (front ++ c ∷ [])) e ∙ omega (arith, sum_by-append (λ c. cond (c == 10) 1 0) front (10 ∷ []))
+pub line_break : (prefix : List ℕ) (c : ℕ) → c ≡ 10 → line_after (prefix ++ c ∷ []) ≡ line_after prefix + 1
+line_break prefix c e = ap (λ c. line_after (prefix ++ c ∷ [])) e ∙ omega (arith, sum_by-append (λ c. cond (c == 10) 1 0) prefix (10 ∷ []))
 
-pub line_same : (front : List ℕ) (c : ℕ) → (c == 10) ≡ false → line_after (front ++ c ∷ []) ≡ line_after front
-line_same front c e =
+pub line_same : (prefix : List ℕ) (c : ℕ) → (c == 10) ≡ false → line_after (prefix ++ c ∷ []) ≡ line_after prefix
+line_same prefix c e =
     let one : count_by (λ c. c == 10) (c ∷ []) ≡ 0 = ap (λ b. 0 + cond b 1 0) e in
-    omega (arith, one, sum_by-append (λ c. cond (c == 10) 1 0) front (c ∷ []))
+    omega (arith, one, sum_by-append (λ c. cond (c == 10) 1 0) prefix (c ∷ []))
 
-pub column_break : (front : List ℕ) (c : ℕ) → c ≡ 10 → column_after (front ++ c ∷ []) ≡ 1
-column_break front c e = ap (λ c. column_after (front ++ c ∷ [])) e ∙ ap (λ (cs : List ℕ). suc (length (take_while (λ c. not (c == 10)) cs))) (reverse-append front (10 ∷ []))
+pub column_break : (prefix : List ℕ) (c : ℕ) → c ≡ 10 → column_after (prefix ++ c ∷ []) ≡ 1
+column_break prefix c e = ap (λ c. column_after (prefix ++ c ∷ [])) e ∙ ap (λ (cs : List ℕ). suc (length (take_while (λ c. not (c == 10)) cs))) (reverse-append prefix (10 ∷ []))
 
-pub column_same : (front : List ℕ) (c : ℕ) → (c == 10) ≡ false → column_after (front ++ c ∷ []) ≡ column_after front + 1
-column_same front c e =
+pub column_same : (prefix : List ℕ) (c : ℕ) → (c == 10) ≡ false → column_after (prefix ++ c ∷ []) ≡ column_after prefix + 1
+column_same prefix c e =
     let other : ℕ → Bool = λ c. not (c == 10) in
-    let turned : column_after (front ++ c ∷ []) ≡ suc (length (take_while other (c ∷ reverse front))) = ap (λ (cs : List ℕ). suc (length (take_while other cs))) (reverse-append front (c ∷ [])) in
-    let step : take_while other (c ∷ reverse front) ≡ cond (other c) (c ∷ take_while other (reverse front)) [] = take_while-cons other c (reverse front) in
-    let kept : suc (length (cond (other c) (c ∷ take_while other (reverse front)) [])) ≡ suc (suc (length (take_while other (reverse front)))) = ap (λ b. suc (length (cond (not b) (c ∷ take_while other (reverse front)) []))) e in
+    let turned : column_after (prefix ++ c ∷ []) ≡ suc (length (take_while other (c ∷ reverse prefix))) = ap (λ (cs : List ℕ). suc (length (take_while other cs))) (reverse-append prefix (c ∷ [])) in
+    let step : take_while other (c ∷ reverse prefix) ≡ cond (other c) (c ∷ take_while other (reverse prefix)) [] = take_while-cons other c (reverse prefix) in
+    let kept : suc (length (cond (other c) (c ∷ take_while other (reverse prefix)) [])) ≡ suc (suc (length (take_while other (reverse prefix)))) = ap (λ b. suc (length (cond (not b) (c ∷ take_while other (reverse prefix)) []))) e in
     omega (arith, turned, ap length step, kept)
 
 by_test : (p : ℕ → Bool) (c : ℕ) (cs : List ℕ) (b : Bool) → length (take_while p cs) ≤ length cs → length (cond b (c ∷ take_while p cs) []) ≤ suc (length cs)
@@ -35,15 +35,15 @@ length-take_while : (p : ℕ → Bool) (cs : List ℕ) → length (take_while p 
 length-take_while p [] = omega arith
 length-take_while p (c ∷ cs) = omega (arith, by_test p c cs (p c) (length-take_while p cs), ap length (take_while-cons p c cs))
 
-pub line_small : (front : List ℕ) → line_after front ≤ length front + 1
-line_small front = omega (arith, count_by-le-length (λ c. c == 10) front)
+pub line_small : (prefix : List ℕ) → line_after prefix ≤ length prefix + 1
+line_small prefix = omega (arith, count_by-le-length (λ c. c == 10) prefix)
 
-pub column_small : (front : List ℕ) → column_after front ≤ length front + 1
-column_small front = omega (arith, length-take_while (λ c. not (c == 10)) (reverse front), length-reverse front)
+pub column_small : (prefix : List ℕ) → column_after prefix ≤ length prefix + 1
+column_small prefix = omega (arith, length-take_while (λ c. not (c == 10)) (reverse prefix), length-reverse prefix)
 
-pub read_on : (front bytes rest whole : List ℕ) (c : ℕ) → IsUtf8 bytes → bytes ≡ encode_utf8 c ++ rest → front ++ chars bytes ≡ whole → (front ++ c ∷ []) ++ chars rest ≡ whole
-read_on front bytes rest whole c utf8 e w = append_assoc front (c ∷ []) (chars rest) ∙ ap (λ cs. front ++ cs) (sym (chars_past_char bytes rest c utf8 e)) ∙ w
+pub read_on : (prefix bytes rest whole : List ℕ) (c : ℕ) → IsUtf8 bytes → bytes ≡ encode_utf8 c ++ rest → prefix ++ chars bytes ≡ whole → (prefix ++ c ∷ []) ++ chars rest ≡ whole
+read_on prefix bytes rest whole c utf8 e w = append_assoc prefix (c ∷ []) (chars rest) ∙ ap (λ cs. prefix ++ cs) (sym (chars_past_char bytes rest c utf8 e)) ∙ w
 
-pub read_all : (front bytes whole : List ℕ) → length bytes ≡ 0 → front ++ chars bytes ≡ whole → front ≡ whole
-read_all front [] whole e w = sym (append-nil front) ∙ ap (λ cs. front ++ cs) (sym chars-nil) ∙ w
-read_all front (b ∷ bytes) whole e w = absurd (omega arith)
+pub read_all : (prefix bytes whole : List ℕ) → length bytes ≡ 0 → prefix ++ chars bytes ≡ whole → prefix ≡ whole
+read_all prefix [] whole e w = sym (append-nil prefix) ∙ ap (λ cs. prefix ++ cs) (sym chars-nil) ∙ w
+read_all prefix (b ∷ bytes) whole e w = absurd (omega arith)

@@ -49,29 +49,29 @@ pub record IsCut (cs : List ℕ) (from to : ℕ) : Type 0 where
 
 pub is_cut : (cs : List ℕ) (from to : ℕ) → scalars cs ≡ true → from ≤ to → to ≤ length cs → IsCut cs from to
 is_cut cs from to s h l =
-    let front = take from cs in
+    let prefix = take from cs in
     let part = take (to - from) (drop from cs) in
     let back = drop (to - from) (drop from cs) in
-    let whole : front ++ (part ++ back) ≡ cs = ap (λ x. front ++ x) (take-append-drop (to - from) (drop from cs)) ∙ take-append-drop from cs in
+    let whole : prefix ++ (part ++ back) ≡ cs = ap (λ x. prefix ++ x) (take-append-drop (to - from) (drop from cs)) ∙ take-append-drop from cs in
     let at : from + (to - from) ≡ to = omega arith in
-    let until : take to cs ≡ front ++ part = sym (ap (λ n. take n cs) at) ∙ take-add from (to - from) cs in
-    let bytes : encode_utf8_all cs ≡ encode_utf8_all front ++ (encode_utf8_all part ++ encode_utf8_all back) =
-    ap encode_utf8_all (sym whole) ∙ encodes-append front (part ++ back) ∙ ap (λ x. encode_utf8_all front ++ x) (encodes-append part back) in
-    let to_bytes : encode_utf8_all (take to cs) ≡ encode_utf8_all front ++ encode_utf8_all part = ap encode_utf8_all until ∙ encodes-append front part in
+    let until : take to cs ≡ prefix ++ part = sym (ap (λ n. take n cs) at) ∙ take-add from (to - from) cs in
+    let bytes : encode_utf8_all cs ≡ encode_utf8_all prefix ++ (encode_utf8_all part ++ encode_utf8_all back) =
+    ap encode_utf8_all (sym whole) ∙ encodes-append prefix (part ++ back) ∙ ap (λ x. encode_utf8_all prefix ++ x) (encodes-append part back) in
+    let to_bytes : encode_utf8_all (take to cs) ≡ encode_utf8_all prefix ++ encode_utf8_all part = ap encode_utf8_all until ∙ encodes-append prefix part in
     let rest_utf8 : IsUtf8 (encode_utf8_all part ++ encode_utf8_all back) =
     (drop from cs, (scalars-drop from cs s, sym (ap encode_utf8_all (take-append-drop (to - from) (drop from cs))) ∙ encodes-append part back)) in
     let back_utf8 : IsUtf8 (encode_utf8_all back) = (back, (scalars-drop (to - from) (drop from cs) (scalars-drop from cs s), refl)) in
     record {
-      start = omega (arith, ap length to_bytes, length-append (encode_utf8_all front) (encode_utf8_all part));
-      from_boundary = IsCharBoundary-at_seam (encode_utf8_all cs) (encode_utf8_all front) (encode_utf8_all part ++ encode_utf8_all back) bytes rest_utf8;
+      start = omega (arith, ap length to_bytes, length-append (encode_utf8_all prefix) (encode_utf8_all part));
+      from_boundary = IsCharBoundary-at_seam (encode_utf8_all cs) (encode_utf8_all prefix) (encode_utf8_all part ++ encode_utf8_all back) bytes rest_utf8;
       to_boundary = subst (λ (xs : List ℕ). IsCharBoundary (encode_utf8_all cs) (length xs)) (sym to_bytes)
-          (IsCharBoundary-at_seam (encode_utf8_all cs) (encode_utf8_all front ++ encode_utf8_all part) (encode_utf8_all back)
-          (bytes ∙ sym (append_assoc (encode_utf8_all front) (encode_utf8_all part) (encode_utf8_all back))) back_utf8);
+          (IsCharBoundary-at_seam (encode_utf8_all cs) (encode_utf8_all prefix ++ encode_utf8_all part) (encode_utf8_all back)
+          (bytes ∙ sym (append_assoc (encode_utf8_all prefix) (encode_utf8_all part) (encode_utf8_all back))) back_utf8);
       part =
-          let count : length (encode_utf8_all (take to cs)) - length (encode_utf8_all front) ≡ length (encode_utf8_all part) =
-          omega (arith, ap length to_bytes, length-append (encode_utf8_all front) (encode_utf8_all part)) in
-          (λ i. take (count i) (drop (length (encode_utf8_all front)) (bytes i)))
-          ∙ ap (take (length (encode_utf8_all part))) (drop-append_seam (encode_utf8_all front) (encode_utf8_all part ++ encode_utf8_all back))
+          let count : length (encode_utf8_all (take to cs)) - length (encode_utf8_all prefix) ≡ length (encode_utf8_all part) =
+          omega (arith, ap length to_bytes, length-append (encode_utf8_all prefix) (encode_utf8_all part)) in
+          (λ i. take (count i) (drop (length (encode_utf8_all prefix)) (bytes i)))
+          ∙ ap (take (length (encode_utf8_all part))) (drop-append_seam (encode_utf8_all prefix) (encode_utf8_all part ++ encode_utf8_all back))
           ∙ take-append_seam (encode_utf8_all part) (encode_utf8_all back);
     }
 

@@ -10,7 +10,7 @@ abbrev pub starts_from : ℕ → List ℕ → List ℕ
 starts_from at [] = at ∷ []
 starts_from at (c ∷ cs) = at ∷ starts_from (at + len_utf8 c) cs
 
--- bytes are refused where they are not UTF-8, with the length of their longest front that is; or for want of memory
+-- bytes are refused where they are not UTF-8, with the length of their longest prefix that is; or for want of memory
 abbrev pub RefusesText : List ℕ → TextRefusal → Type 0
 RefusesText bytes (NotUtf8 at) = ¬ (IsUtf8 bytes) × IsValidUpTo bytes at
 RefusesText bytes NoMemory = Unit {0}

@@ -11,7 +11,7 @@ use thiserror::Error;
 /// Why bytes are no text.
 #[derive(Clone, Copy, Debug, PartialEq, Eq, Error)]
 pub enum TextRefusal {
-    /// The first `at` bytes are the longest front that is UTF-8.
+    /// The first `at` bytes are the longest prefix that is UTF-8.
     #[error("not UTF-8 at byte {at}")]
     NotUtf8 { at: usize },
     /// There was no memory, or the text has 4,294,967,296 bytes or more.

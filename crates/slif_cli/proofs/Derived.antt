@@ -1,8 +1,9 @@
 -- What a forest tells of the derivations of a reading.
-use Rattle.std.proofs.Common.{Bool, true, false, Result, ◌≡◌, ℕ, ◌≤◌, List, [], ◌∷◌, ◌++◌, Option, refl, ap, subst, arith, Contains}
+use Rattle.std.proofs.Common.{Bool, true, false, Result, ◌≡◌, ℕ, ◌≤◌, List, [], ◌∷◌, ◌++◌, Option, refl, ap, subst}
 use Rattle.std.specs.Prelude.{IfErr}
 use Rattle.std.specs.List.{concat}
 use Rattle.std.specs.Io.KnownBytes.{Appends}
+use Rattle.finite_sets.proofs.Lists.{Contains-none}
 use Rattle.grammar_model.specs.Trees.{Tree}
 use Rattle.grammar_core.specs.declared.steps.Span.{Span}
 use Rattle.forest_model.specs.Forest.{Forest}
@@ -26,11 +27,8 @@ use Rattle.slif_cli.specs.Stops.{Does, WriteStops, LinesStop}
 use Rattle.slif_cli.specs.Tasks.{TellsReading, HasForest}
 use Rattle.slif_cli.specs.declared.stop.Stop.{Stop}
 use Rattle.slif_cli.specs.declared.stop.Stop.TheVariants.{WriteFault, NoMemory}
-use Rattle.slif_cli.proofs.Lines.{appends_both, front_of_both, stops_behind}
+use Rattle.slif_cli.proofs.Lines.{appends_both, prefix_of_both, stops_behind}
 use Rattle.slif_cli.proofs.Stopping.{lines_done, lines_stop}
-
-no_element : {X : Type 0} (x : X) → Contains [] x → ⊥
-no_element x (k, lt, e) = omega (arith, lt)
 
 -- JOB run
 
@@ -45,7 +43,7 @@ module _ (asked : ValuesAsked) (b : Built) (cs : List ℕ) (spans : List Span) (
   value_told trees l = record { pieces = has.pieces; reading = has.of.reading; tells = by trees (listed b asked.ranking cs spans f has trees l) }
     where
       by : (ts : List Tree) → AreDerivations b asked.ranking has.pieces ts → TellsValues asked b cs has.pieces (done (values ts ++ stats_lines asked.stats n))
-      by [] all = absurd (no_element has.tree ((all.each has.tree).1 has.chosen))
+      by [] all = absurd (Contains-none has.tree ((all.each has.tree).1 has.chosen))
       by (t ∷ ts) all = Derived t ts n all numbers refl
 
   -- the numbers were written behind the values
@@ -64,10 +62,10 @@ module _ (asked : ValuesAsked) (b : Built) (cs : List ℕ) (spans : List Span) (
   pub values_stop : (before after : Stream) (refusal : WriteRefusal) → TextHas b asked.show cs spans f asked.first (λ text. TextStops before after refusal text) → WriteStops Told before after (write_stop refusal)
   values_stop before after WriteFailed text =
       let (trees, l, stops) = text has.pieces has.of in
-      lines_stop Told (values trees ++ stats_lines asked.stats n) (value_told trees l) before after WriteFault (stops.0, front_of_both (values trees) (stats_lines asked.stats n) before.bytes after.bytes stops.1)
+      lines_stop Told (values trees ++ stats_lines asked.stats n) (value_told trees l) before after WriteFault (stops.0, prefix_of_both (values trees) (stats_lines asked.stats n) before.bytes after.bytes stops.1)
   values_stop before after NoRoom text =
       let (trees, l, stops) = text has.pieces has.of in
-      lines_stop Told (values trees ++ stats_lines asked.stats n) (value_told trees l) before after NoMemory (front_of_both (values trees) (stats_lines asked.stats n) before.bytes after.bytes stops)
+      lines_stop Told (values trees ++ stats_lines asked.stats n) (value_told trees l) before after NoMemory (prefix_of_both (values trees) (stats_lines asked.stats n) before.bytes after.bytes stops)
 
 -- the line of the numbers that is asked for was not written
 pub asked_stops : {T : Type 0} (asked : Bool) (n : Numbers) → asked ≡ true → (line : List ℕ) → line ≡ stats_line n → (before after : Stream) (r : Result T Stop)

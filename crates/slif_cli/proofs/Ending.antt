@@ -12,14 +12,14 @@ use Rattle.run_model.specs.Outcome.IsOutcome.{NoJob, OfJob}
 use Rattle.run_model.specs.Outcome.IsGrammarOutcome.{GrammarRefused, GrammarAccepted}
 use Rattle.run_model.specs.Outcome.IsInputOutcome.{InputRefused, InputRead}
 use Rattle.run_model.specs.Outside.{Outside}
-use Rattle.run_model.specs.Runs.{Answers, Fault, fault_line, memory_line, HasCauseOf, ErrAtFault, Faults, RunsOut, IsQuiet, IsFrontOf, Runs}
-use Rattle.run_model.specs.Runs.IsFrontOf.{Nothing, Front}
+use Rattle.run_model.specs.Runs.{Answers, Fault, fault_line, memory_line, HasCauseOf, ErrAtFault, Faults, RunsOut, IsQuiet, IsPrefixOf, Runs}
+use Rattle.run_model.specs.Runs.IsPrefixOf.{Nothing, Prefix}
 use Rattle.run_model.specs.Runs.Fault.{CannotOpen, CannotRead, CannotWrite}
 use Rattle.run_model.specs.Runs.OutAtFault.{OutEmpty, OutBroken}
 use Rattle.run_model.specs.Runs.ErrAtFault.{ErrWhole, ErrBroken}
 use Rattle.run_model.proofs.Told.{IsPlain, plain_at, plain_told}
-use Rattle.slif_cli.specs.Stops.{Does, MayHave, IsFront, WorkStops, Tells, Reports, refusal_outcome}
-use Rattle.slif_cli.specs.Stops.IsFront.{Nothing as NothingYet, Front as FrontYet}
+use Rattle.slif_cli.specs.Stops.{Does, MayHave, IsPrefix, WorkStops, Tells, Reports, refusal_outcome}
+use Rattle.slif_cli.specs.Stops.IsPrefix.{Nothing as NothingYet, Prefix as PrefixYet}
 use Rattle.slif_cli.specs.Stops.Tells.{Whole, Part}
 use Rattle.slif_cli.specs.declared.stop.Refusal.{Refusal}
 use Rattle.slif_cli.specs.declared.stop.Refusal.TheVariants.{Usage, Grammar as BadGrammar, Input as BadInput}
@@ -59,10 +59,10 @@ module _ (words : List (List ℕ)) (before after : Outside) where
   memory_told (Whole whole) = inl whole
   memory_told (Part rose part) = inr (rose, part)
 
-  -- a front of the text of an outcome that a run may have
-  front_of : (text : List ℕ) → IsFront (MayHave words before.files.file before.input.bytes) text → IsFrontOf words before.files.file before.input.bytes (λ o. o.out) text
-  front_of text (NothingYet e) = Nothing e
-  front_of text (FrontYet outcome has rest e) = Front has.0 rest (ap (λ (o : Outcome). o.out) has.1 ∙ e)
+  -- a prefix of the text of an outcome that a run may have
+  prefix_of : (text : List ℕ) → IsPrefix (MayHave words before.files.file before.input.bytes) text → IsPrefixOf words before.files.file before.input.bytes (λ o. o.out) text
+  prefix_of text (NothingYet e) = Nothing e
+  prefix_of text (PrefixYet outcome has rest e) = Prefix has.0 rest (ap (λ (o : Outcome). o.out) has.1 ∙ e)
 
   -- the work was done, and nothing was told
   ends_done : Does (MayHave words before.files.file before.input.bytes) before.out.bytes after.out.bytes → before.err.bytes ≡ after.err.bytes → Ends words before after 0
@@ -91,13 +91,13 @@ module _ (words : List (List ℕ)) (before after : Outside) where
     out = subst (Appends before.out.bytes after.out.bytes) (sym (ap (λ (o : Outcome). o.out) stops.0.1 ∙ refused_out refusal)) stops.1;
     err = subst (λ (o : Outcome). Appends before.err.bytes after.err.bytes o.line) (sym stops.0.1) told.1;
   })
-  ends_stop status (Refused refusal) stops (inr (inr told)) = RanOut told.0 (record { text = []; front = Nothing refl; out = stops.1; err = memory_told told.1 })
+  ends_stop status (Refused refusal) stops (inr (inr told)) = RanOut told.0 (record { text = []; prefix = Nothing refl; out = stops.1; err = memory_told told.1 })
   ends_stop status (Refused refusal) stops (inr (inl told)) = Faulted told.0 (record {
     fault = CannotWrite;
     cause = inr told.1.rose;
     out = OutEmpty stops.1;
     err = ErrBroken told.1.rose told.1.text told.1.other_text told.1.other_rest
-        (Front stops.0.0 told.1.rest (ap (λ (o : Outcome). o.line) stops.0.1 ∙ told.1.split)) told.1.other_split told.1.appends;
+        (Prefix stops.0.0 told.1.rest (ap (λ (o : Outcome). o.line) stops.0.1 ∙ told.1.split)) told.1.other_split told.1.appends;
   })
   ends_stop status (OpenFault name) stops (inl told) = Faulted told.0 (record {
     fault = CannotOpen name.now;
@@ -105,7 +105,7 @@ module _ (words : List (List ℕ)) (before after : Outside) where
     out = OutEmpty stops.1;
     err = err_told (fault_line (CannotOpen name.now)) told.1;
   })
-  ends_stop status (OpenFault name) stops (inr told) = RanOut told.0 (record { text = []; front = Nothing refl; out = stops.1; err = memory_told told.1 })
+  ends_stop status (OpenFault name) stops (inr told) = RanOut told.0 (record { text = []; prefix = Nothing refl; out = stops.1; err = memory_told told.1 })
   ends_stop status ReadFault stops told = Faulted told.0 (record {
     fault = CannotRead;
     cause = stops.0;
@@ -115,10 +115,10 @@ module _ (words : List (List ℕ)) (before after : Outside) where
   ends_stop status WriteFault stops told = Faulted told.0 (record {
     fault = CannotWrite;
     cause = inl stops.0;
-    out = OutBroken stops.0 stops.1.text (front_of stops.1.text stops.1.front) stops.1.appends;
+    out = OutBroken stops.0 stops.1.text (prefix_of stops.1.text stops.1.prefix) stops.1.appends;
     err = err_told (fault_line CannotWrite) told.1;
   })
-  ends_stop status NoMemory stops told = RanOut told.0 (record { text = stops.text; front = front_of stops.text stops.front; out = stops.appends; err = memory_told told.1 })
+  ends_stop status NoMemory stops told = RanOut told.0 (record { text = stops.text; prefix = prefix_of stops.text stops.prefix; out = stops.appends; err = memory_told told.1 })
 
   -- whose count rose at a fault, if none did
   not_quiet : Faults words before after → IsQuiet before after → ⊥

@@ -9,7 +9,7 @@ use Rattle.text_reading.specs.Parts.{IsBrokenText, IsStopText}
 
 module _ (b : Built) (bytes : List ℕ) (within : length bytes ≤ 16777216) where
   pub refused_broken : (text : List ℕ) (place : Option Place) (expected : List ℕ) → IsBrokenText bytes text place expected → IsInputRefused b bytes text
-  refused_broken text place expected broken = NotUtf8 broken.at (record { within = within; broken = broken.broken; front = broken.front }) broken.told
+  refused_broken text place expected broken = NotUtf8 broken.at (record { within = within; broken = broken.broken; prefix = broken.prefix }) broken.told
 
   pub refused_stop : IsUtf8 bytes → (text : List ℕ) (place : Option Place) (expected : List ℕ) → IsStopText b (chars bytes) text place expected → IsInputRefused b bytes text
   refused_stop utf8 text place expected stop = ReadingStops stop.pieces stop.at stop.found expected (record { within = within; utf8 = utf8 }) stop.reading stop.told

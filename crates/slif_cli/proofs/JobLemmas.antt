@@ -120,16 +120,16 @@ module _ (words : List (List ℕ)) (job : Job) (asks : Asks words job) (file : L
       (λ x. (inl x, appends_none out.bytes)) (λ x. absurd x) (λ x. nothing_appended (MayHave words file left) out.bytes)
       stop stops
 
-  front_of_one : (asked rest : List (List ℕ)) (one : List ℕ) → one ∷ [] ≡ asked ++ rest → (asked ≡ []) ⊎ (asked ≡ one ∷ [])
-  front_of_one [] rest one e = inl refl
-  front_of_one (a ∷ []) rest one e = inr (cc)
-  front_of_one (a ∷ b ∷ asked) rest one e = absurd (cc)
+  prefix_of_one : (asked rest : List (List ℕ)) (one : List ℕ) → one ∷ [] ≡ asked ++ rest → (asked ≡ []) ⊎ (asked ≡ one ∷ [])
+  prefix_of_one [] rest one e = inl refl
+  prefix_of_one (a ∷ []) rest one e = inr (cc)
+  prefix_of_one (a ∷ b ∷ asked) rest one e = absurd (cc)
 
   pub asks_names : (old new : Option (List (List ℕ))) → AsksAmong old new (name ∷ []) → AsksNames words file old new
   asks_names old new among = record {
     names = among.asked;
     adds = among.adds;
-    may_ask = elim (front_of_one among.asked among.rest name among.split) [ inl e ↦ ForNothing e | inr e ↦ ForGrammar job name asks named e ];
+    may_ask = elim (prefix_of_one among.asked among.rest name among.split) [ inl e ↦ ForNothing e | inr e ↦ ForGrammar job name asks named e ];
   }
 
 -- CHECK

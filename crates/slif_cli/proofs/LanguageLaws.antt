@@ -29,7 +29,7 @@ same_fault bytes TooLong (NotUtf8 at) a b = let w = b.within in absurd (omega (a
 same_fault bytes TooLong (BadToken at) a b = let w = b.text.within in absurd (omega (arith, a, w))
 same_fault bytes TooLong (BadStatement at) a b = let w = b.has.text.within in absurd (omega (arith, a, w))
 same_fault bytes (NotUtf8 at) TooLong a b = let w = a.within in absurd (omega (arith, b, w))
-same_fault bytes (NotUtf8 at) (NotUtf8 at') a b = ap NotUtf8 (sym (utf8_valid_len-IsValidUpTo bytes at a.front) ∙ utf8_valid_len-IsValidUpTo bytes at' b.front)
+same_fault bytes (NotUtf8 at) (NotUtf8 at') a b = ap NotUtf8 (sym (utf8_valid_len-IsValidUpTo bytes at a.prefix) ∙ utf8_valid_len-IsValidUpTo bytes at' b.prefix)
 same_fault bytes (NotUtf8 at) (BadToken at') a b = absurd (a.broken b.text.utf8)
 same_fault bytes (NotUtf8 at) (BadStatement at') a b = absurd (a.broken b.has.text.utf8)
 same_fault bytes (BadToken at) TooLong a b = let w = a.text.within in absurd (omega (arith, b, w))
@@ -71,7 +71,7 @@ module _ (bytes : List ℕ) where
 
   of_bytes : length bytes ≤ 1048576 → (b : Bool) → is_utf8 bytes ≡ b → Read bytes
   of_bytes within true e = of_text (record { within = within; utf8 = IsUtf8-from_is_utf8 bytes e })
-  of_bytes within false e = let at = broken_at bytes e in inr (NotUtf8 at.0, record { within = within; broken = at.1; front = at.2 })
+  of_bytes within false e = let at = broken_at bytes e in inr (NotUtf8 at.0, record { within = within; broken = at.1; prefix = at.2 })
 
   read : Read bytes
   read = by_length (nat_le (length bytes) 1048576) refl

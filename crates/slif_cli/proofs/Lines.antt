@@ -1,5 +1,5 @@
 -- Lines that are written one after the other.
-use Rattle.std.proofs.Common.{◌≡◌, ℕ, zero, suc, ◌+◌, ◌≤◌, List, [], ◌∷◌, ◌++◌, Option, Some, take, refl, sym, ap, ◌∙◌, append_assoc, append-nil, slice_get, slice_index_or, map, length, ◌<◌, arith, subst, Result, Ok, Err, OnOk}
+use Rattle.std.proofs.Common.{◌≡◌, ℕ, zero, suc, ◌+◌, ◌≤◌, List, [], ◌∷◌, ◌++◌, Option, Some, take, refl, sym, ap, ◌∙◌, append_assoc, append-nil, slice_get, slice_index_or, map, length, ◌<◌, arith, subst}
 use Rattle.std.specs.List.{concat}
 use Rattle.std.specs.Io.KnownBytes.{Appends}
 use Rattle.outside_model.specs.Told.{AppendsPrefix}
@@ -16,21 +16,21 @@ one_line_more [] k line e = absurd (cc e)
 one_line_more (first ∷ others) zero line e = let same : first ≡ line = cc e in append-nil first ∙ same
 one_line_more (first ∷ others) (suc k) line e = ap (λ t. first ++ t) (one_line_more others k line e) ∙ sym (append_assoc first (concat (take k others)) line)
 
--- what is left of the text behind a line's front
-text_behind : (lines : List (List ℕ)) (k : ℕ) (line front rest : List ℕ) → slice_get lines k ≡ Some line → line ≡ front ++ rest
-    → (tail : List ℕ) × (concat lines ≡ (concat (take k lines) ++ front) ++ tail)
-text_behind [] k line front rest e split = absurd (cc e)
-text_behind (first ∷ others) zero line front rest e split =
+-- what is left of the text behind a line's prefix
+text_behind : (lines : List (List ℕ)) (k : ℕ) (line prefix rest : List ℕ) → slice_get lines k ≡ Some line → line ≡ prefix ++ rest
+    → (tail : List ℕ) × (concat lines ≡ (concat (take k lines) ++ prefix) ++ tail)
+text_behind [] k line prefix rest e split = absurd (cc e)
+text_behind (first ∷ others) zero line prefix rest e split =
     let same : first ≡ line = cc e in
-    (rest ++ concat others, ap (λ l. l ++ concat others) (same ∙ split) ∙ append_assoc front rest (concat others))
-text_behind (first ∷ others) (suc k) line front rest e split =
-    let behind = text_behind others k line front rest e split in
-    (behind.0, ap (λ t. first ++ t) behind.1 ∙ sym (append_assoc first (concat (take k others) ++ front) behind.0) ∙ ap (λ t. t ++ behind.0) (sym (append_assoc first (concat (take k others)) front)))
+    (rest ++ concat others, ap (λ l. l ++ concat others) (same ∙ split) ∙ append_assoc prefix rest (concat others))
+text_behind (first ∷ others) (suc k) line prefix rest e split =
+    let behind = text_behind others k line prefix rest e split in
+    (behind.0, ap (λ t. first ++ t) behind.1 ∙ sym (append_assoc first (concat (take k others) ++ prefix) behind.0) ∙ ap (λ t. t ++ behind.0) (sym (append_assoc first (concat (take k others)) prefix)))
 
--- a front of a line behind whole lines is a front of the text
-pub front_of_text : (lines : List (List ℕ)) (k : ℕ) (line : List ℕ) (before middle after : Option (List ℕ)) → slice_get lines k ≡ Some line
+-- a prefix of a line behind whole lines is a prefix of the text
+pub prefix_of_text : (lines : List (List ℕ)) (k : ℕ) (line : List ℕ) (before middle after : Option (List ℕ)) → slice_get lines k ≡ Some line
     → Appends before middle (concat (take k lines)) → AppendsPrefix middle after line → AppendsPrefix before after (concat lines)
-front_of_text lines k line before middle after e whole part =
+prefix_of_text lines k line before middle after e whole part =
     let behind = text_behind lines k line part.bytes part.rest e part.split in
     record {
       bytes = concat (take k lines) ++ part.bytes;
@@ -39,9 +39,9 @@ front_of_text lines k line before middle after e whole part =
       appends = appends_twice before middle after (concat (take k lines)) part.bytes whole part.appends;
     }
 
--- whole lines are a front of the text
-pub lines_in_front : (lines : List (List ℕ)) (k : ℕ) (before after : Option (List ℕ)) → Appends before after (concat (take k lines)) → AppendsPrefix before after (concat lines)
-lines_in_front lines k before after whole = let behind = behind_lines lines k in record { bytes = concat (take k lines); rest = behind.0; split = behind.1; appends = whole }
+-- whole lines are a prefix of the text
+pub lines_in_prefix : (lines : List (List ℕ)) (k : ℕ) (before after : Option (List ℕ)) → Appends before after (concat (take k lines)) → AppendsPrefix before after (concat lines)
+lines_in_prefix lines k before after whole = let behind = behind_lines lines k in record { bytes = concat (take k lines); rest = behind.0; split = behind.1; appends = whole }
   where
     behind_lines : (lines : List (List ℕ)) (k : ℕ) → (tail : List ℕ) × (concat lines ≡ concat (take k lines) ++ tail)
     behind_lines [] zero = ([], refl)
@@ -50,11 +50,6 @@ lines_in_front lines k before after whole = let behind = behind_lines lines k in
     behind_lines (first ∷ others) (suc k) =
         let behind = behind_lines others k in
         (behind.0, ap (λ t. first ++ t) behind.1 ∙ sym (append_assoc first (concat (take k others)) behind.0))
-
--- two facts of an Ok
-pub on_ok_both : {T E : Type 0} {A B C : Type 0} (result : Result T E) → (A → B → C) → OnOk result A → OnOk result B → OnOk result C
-on_ok_both (Ok v) f a b = f a b
-on_ok_both (Err e) f a b = tt
 
 -- a line behind those before it
 pub one_more_written : (lines : List (List ℕ)) (k : ℕ) (line : List ℕ) (before middle after : Option (List ℕ)) → slice_get lines k ≡ Some line
@@ -75,16 +70,16 @@ module _ (xs ys : List (List ℕ)) where
   pub appends_both : (before middle after : Option (List ℕ)) → Appends before middle (concat xs) → Appends middle after (concat ys) → Appends before after (concat (xs ++ ys))
   appends_both before middle after first second = subst (Appends before after) (sym (concat-append xs ys)) (appends_twice before middle after (concat xs) (concat ys) first second)
 
-  pub front_of_both : (before after : Option (List ℕ)) → AppendsPrefix before after (concat xs) → AppendsPrefix before after (concat (xs ++ ys))
-  front_of_both before after part = record {
+  pub prefix_of_both : (before after : Option (List ℕ)) → AppendsPrefix before after (concat xs) → AppendsPrefix before after (concat (xs ++ ys))
+  prefix_of_both before after part = record {
     bytes = part.bytes;
     rest = part.rest ++ concat ys;
     split = concat-append xs ys ∙ ap (λ t. t ++ concat ys) part.split ∙ append_assoc part.bytes part.rest (concat ys);
     appends = part.appends;
   }
 
-  front_behind : (before middle after : Option (List ℕ)) → Appends before middle (concat xs) → AppendsPrefix middle after (concat ys) → AppendsPrefix before after (concat (xs ++ ys))
-  front_behind before middle after first part = record {
+  prefix_behind : (before middle after : Option (List ℕ)) → Appends before middle (concat xs) → AppendsPrefix middle after (concat ys) → AppendsPrefix before after (concat (xs ++ ys))
+  prefix_behind before middle after first part = record {
     bytes = concat xs ++ part.bytes;
     rest = part.rest;
     split = concat-append xs ys ∙ ap (λ t. concat xs ++ t) part.split ∙ sym (append_assoc (concat xs) part.bytes part.rest);
@@ -94,4 +89,4 @@ module _ (xs ys : List (List ℕ)) where
   -- the lines behind those that were written are not all written
   pub stops_behind : (before middle after : Stream) (stop : Stop) → Appends before.bytes middle.bytes (concat xs) → before.faults ≤ middle.faults → LinesStop ys middle after stop → LinesStop (xs ++ ys) before after stop
   stops_behind before middle after stop first later stops =
-      stops_as (λ r x. x) (λ n x. x) (λ x. x) (λ x. (let rose = x.0 in omega (arith, later, rose), front_behind before.bytes middle.bytes after.bytes first x.1)) (front_behind before.bytes middle.bytes after.bytes first) stop stops
+      stops_as (λ r x. x) (λ n x. x) (λ x. x) (λ x. (let rose = x.0 in omega (arith, later, rose), prefix_behind before.bytes middle.bytes after.bytes first x.1)) (prefix_behind before.bytes middle.bytes after.bytes first) stop stops

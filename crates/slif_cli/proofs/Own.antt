@@ -14,12 +14,12 @@ use Rattle.recognizer_model.specs.Counts.{IsCountOf}
 use Rattle.recognizer_model.specs.Links.{choices}
 use Rattle.recognizer_model.specs.Chosen.{allowed_by}
 use Rattle.recognizer_model.specs.Nodes.{IsExpanded}
-use Rattle.earley_sets.specs.Recognizer.{Recognizer, IsRecognizer, edges_of as held_edges, top_of, place_of}
+use Rattle.earley_sets.specs.Recognizer.{Recognizer, IsRecognizer, edges_of as held_edges, top_of, earleme_of}
 use Rattle.earley_sets.specs.Counted.{TakesAtMost}
 use Rattle.scanless.specs.Reading.{HoldsPieces, IsReadingOf}
 use Rattle.scanless.specs.declared.reading.Ending.TheVariants.{End as AtEnd}
 use Rattle.language_model.specs.Building.{Built}
-use Rattle.reading_model.specs.Reading.{Piece, End, Stopped, IsReading, edges_of, place_after}
+use Rattle.reading_model.specs.Reading.{Piece, End, Stopped, IsReading, edges_of, earleme_after}
 use Rattle.reading_model.proofs.One.{reading_is_one}
 use Rattle.forest_model.specs.Forest.{Forest, IsForest}
 use Rattle.forest_model.specs.Listing.{IsListing}
@@ -107,7 +107,7 @@ module _ (size : ℕ) (sized : size ≤ 100000) where
 
       same_list : (ranking : Ranking) (pieces : List Piece) (ts us : List Tree) → AreDerivations b ranking pieces ts → AreDerivations b ranking pieces us → ts ≡ us
       same_list ranking pieces ts us p q =
-          chosen_unique b.g1 (Held (edges_of pieces)) ranking (slot_of (slice_index_or b.g1.starts 0 0)) 0 (place_after pieces) ts us p q
+          chosen_unique b.g1 (Held (edges_of pieces)) ranking (slot_of (slice_index_or b.g1.starts 0 0)) 0 (earleme_after pieces) ts us p q
 
       pub own_derived : (ranking : Ranking) (text : List ℕ) (place : Option Place) (expected : List ℕ) → IsNoDerivation b ranking cs text place expected → ⊥
       own_derived ranking text place expected none =
@@ -140,7 +140,7 @@ module _ (size : ℕ) (sized : size ≤ 100000) where
             }
 
         pub own_within : (recce : Recognizer) → IsRecognizer recce → (held_spans : List Span) → IsReadingOf b cs recce held_spans AtEnd → (before read built after : ℕ)
-            → ((n : ℕ) → IsCountOf (IsExpanded recce.flat (held_edges recce) (allowed_by b.g1 RuleRanks recce.flat (held_edges recce)) (top_of recce) (place_of recce)) n → built ≤ read + n)
+            → ((n : ℕ) → IsCountOf (IsExpanded recce.flat (held_edges recce) (allowed_by b.g1 RuleRanks recce.flat (held_edges recce)) (top_of recce) (earleme_of recce)) n → built ≤ read + n)
             → ((trees : List Tree) → IsListing f trees → after ≤ built + sum_by choices (take 4294967295 trees))
             → TakesAtMost recce before read → GivesWithin b (work_input size) RuleRanks None before after
         own_within recce recognizes held_spans reading before read built after builds gives reads =

@@ -10,7 +10,7 @@ use Rattle.report_model.specs.Report.{IsReport}
 use Rattle.report_model.specs.FlatReport.{IsFlatReport}
 use Rattle.report_laws.proofs.Flat.{report_of_flat}
 use Rattle.grammar_laws.specs.Laws.{GoForward}
-use Rattle.earley_sets.specs.Recognizer.{Recognizer, IsRecognizer, place_of}
+use Rattle.earley_sets.specs.Recognizer.{Recognizer, IsRecognizer, earleme_of}
 use Rattle.language_model.specs.Building.{Built}
 use Rattle.reading_model.specs.Accepted.{IsAccepted}
 use Rattle.reading_model.specs.Reading.{edges_of}
@@ -39,7 +39,7 @@ module _ (b : Built) (cs : List ℕ) (recce : Recognizer) (spans : List Span) (r
       (subst (λ (g : Grammar). IsFlatReport g recce.flat recce.edges recce.start at items) same r) in
       subst (λ (es : List Edge). IsReport b.g1 es 0 at items) read.holds.edges (subst (λ n. IsReport b.g1 recce.edges n at items) read.holds.start here)
 
-  pub reported : (v : Grammar) (items shown : List ReportLine) (lines : List (List ℕ)) → v ≡ b.g1 → at ≤ place_of recce → IsReport b.g1 (edges_of read.pieces) 0 at items → shown ≡ items
+  pub reported : (v : Grammar) (items shown : List ReportLine) (lines : List (List ℕ)) → v ≡ b.g1 → at ≤ earleme_of recce → IsReport b.g1 (edges_of read.pieces) 0 at items → shown ≡ items
       → lines ≡ map (report_line v at) shown → TellsReading (Report at) b cs (done lines)
   reported v items shown lines same_v within r is e = record {
     pieces = read.pieces;
@@ -48,7 +48,7 @@ module _ (b : Built) (cs : List ℕ) (recce : Recognizer) (spans : List Span) (r
         (ap done (e ∙ ap (λ (g : Grammar). map (report_line g at) shown) same_v ∙ ap (map (report_line b.g1 at)) is));
   }
 
-  pub past_last : (text : List ℕ) (last : ℕ) → place_of recce < at → last ≡ place_of recce → text ≡ no_set_text at last → TellsReading (Report at) b cs (refused 1 text)
+  pub past_last : (text : List ℕ) (last : ℕ) → earleme_of recce < at → last ≡ earleme_of recce → text ≡ no_set_text at last → TellsReading (Report at) b cs (refused 1 text)
   past_last text last past is e = record {
     pieces = read.pieces;
     reading = read.is_reading;

@@ -7,8 +7,8 @@ use Rattle.outside_model.specs.Told.{AppendsPrefix}
 use Rattle.slif_base.proofs.Bytes.{appends_none}
 use Rattle.run_model.specs.Outcome.{Outcome, done}
 use Rattle.run_model.specs.Outside.{Stream}
-use Rattle.slif_cli.specs.Stops.{StopsBy, OfGrammar, OfInput, IsFront, AppendsFront, Does, StopsAt, WriteStops, LinesStop, refusal_outcome}
-use Rattle.slif_cli.specs.Stops.IsFront.{Nothing, Front}
+use Rattle.slif_cli.specs.Stops.{StopsBy, OfGrammar, OfInput, IsPrefix, AppendsPrefixOf, Does, StopsAt, WriteStops, LinesStop, refusal_outcome}
+use Rattle.slif_cli.specs.Stops.IsPrefix.{Nothing, Prefix}
 use Rattle.slif_cli.specs.declared.stop.Refusal.{Refusal}
 use Rattle.slif_cli.specs.declared.stop.Refusal.TheVariants.{Usage, Grammar as BadGrammar, Input as BadInput}
 use Rattle.slif_cli.specs.declared.stop.Stop.{Stop}
@@ -39,12 +39,12 @@ passed_on P (Ok x) e is holds = tt
 passed_on P (Err x) e is holds = subst P (sym is) holds
 
 module _ (P Q : Outcome → Type 0) (f : (o : Outcome) → P o → Q o) where
-  front_weaker : (text : List ℕ) → IsFront P text → IsFront Q text
-  front_weaker text (Nothing e) = Nothing e
-  front_weaker text (Front o p rest e) = Front o (f o p) rest e
+  prefix_weaker : (text : List ℕ) → IsPrefix P text → IsPrefix Q text
+  prefix_weaker text (Nothing e) = Nothing e
+  prefix_weaker text (Prefix o p rest e) = Prefix o (f o p) rest e
 
-  pub appends_weaker : (before after : Option (List ℕ)) → AppendsFront P before after → AppendsFront Q before after
-  appends_weaker before after a = record { text = a.text; front = front_weaker a.text a.front; appends = a.appends }
+  pub appends_weaker : (before after : Option (List ℕ)) → AppendsPrefixOf P before after → AppendsPrefixOf Q before after
+  appends_weaker before after a = record { text = a.text; prefix = prefix_weaker a.text a.prefix; appends = a.appends }
 
   pub does_weaker : (before after : Option (List ℕ)) → Does P before after → Does Q before after
   does_weaker before after d = record { outcome = d.outcome; is = f d.outcome d.is; status_is = d.status_is; line_is = d.line_is; out = d.out }
@@ -55,8 +55,8 @@ module _ (P Q : Outcome → Type 0) (f : (o : Outcome) → P o → Q o) where
       stops_as (λ r x. (f (refusal_outcome r) x.0, x.1)) (λ n x. (g n x.0, x.1)) (λ x. (h x.0, x.1)) (λ x. (x.0, appends_weaker before.bytes after.bytes x.1))
       (appends_weaker before.bytes after.bytes)
 
-pub nothing_appended : (P : Outcome → Type 0) (before : Option (List ℕ)) → AppendsFront P before before
-nothing_appended P before = record { text = []; front = Nothing refl; appends = appends_none before }
+pub nothing_appended : (P : Outcome → Type 0) (before : Option (List ℕ)) → AppendsPrefixOf P before before
+nothing_appended P before = record { text = []; prefix = Nothing refl; appends = appends_none before }
 
 -- a call that found no memory, and nothing was written
 pub memory_stops : {T : Type 0} (P : Outcome → Type 0) (before : Stream) (r : Result T Stop) → IsErrAnd r (λ stop. stop ≡ NoMemory) → IfErr r (WriteStops P before before)
@@ -68,8 +68,8 @@ module _ (P : Outcome → Type 0) (lines : List (List ℕ)) (is : P (done lines)
   pub lines_done : (before after : Option (List ℕ)) → Appends before after (concat lines) → Does P before after
   lines_done before after written = record { outcome = done lines; is = is; status_is = refl; line_is = refl; out = written }
 
-  part_done : (before after : Option (List ℕ)) → AppendsPrefix before after (concat lines) → AppendsFront P before after
-  part_done before after part = record { text = part.bytes; front = Front (done lines) is part.rest part.split; appends = part.appends }
+  part_done : (before after : Option (List ℕ)) → AppendsPrefix before after (concat lines) → AppendsPrefixOf P before after
+  part_done before after part = record { text = part.bytes; prefix = Prefix (done lines) is part.rest part.split; appends = part.appends }
 
   pub lines_stop : (before after : Stream) (stop : Stop) → LinesStop lines before after stop → WriteStops P before after stop
   lines_stop before after =

@@ -2,6 +2,7 @@
 use Rattle.std.proofs.Common.{◌≡◌, ℕ, ◌+◌, ◌≤◌, List, [], ◌∷◌, Option, Some, None, IfSome, inl, inr, map, refl, sym, ap, subst, ◌∙◌, arith, chars, slice_get}
 use Rattle.std.specs.List.{sum_by}
 use Rattle.std.proofs.lemmas.List.{length-map}
+use Rattle.std.proofs.lemmas.Option.{slice_get-get_or}
 use Rattle.outside_model.specs.Told.{ToldFile}
 use Rattle.finite_sets.proofs.Members.{Among, Once, among_from, contains_from, among_map, among_map_from, once_pairs, pairs_once}
 use Rattle.grammar_model.specs.Trees.{Tree}
@@ -14,15 +15,14 @@ use Rattle.recognizer_model.specs.Counts.{IsCountOf}
 use Rattle.recognizer_model.specs.Links.{choices}
 use Rattle.recognizer_model.specs.Chosen.{allowed_by}
 use Rattle.recognizer_model.specs.Nodes.{IsExpanded}
-use Rattle.recognizer_model.proofs.FlatNamed.{index_get}
 use Rattle.earley_sets.specs.Recognizer as held
-use Rattle.earley_sets.specs.Recognizer.{Recognizer, IsRecognizer, edges_of, top_of, place_of}
+use Rattle.earley_sets.specs.Recognizer.{Recognizer, IsRecognizer, edges_of, top_of, earleme_of}
 use Rattle.earley_sets.specs.Counted.{TakesAtMost, IsLinkOf}
 use Rattle.forest_model.specs.Forest.{Forest, IsForest}
 use Rattle.forest_model.specs.Listing.{IsListing}
 use Rattle.language_model.specs.Building.{Built}
 use Rattle.reading_model.specs.Reading as model
-use Rattle.reading_model.specs.Reading.{Piece, End, place_after}
+use Rattle.reading_model.specs.Reading.{Piece, End, earleme_after}
 use Rattle.reading_model.proofs.One.{reading_is_one}
 use Rattle.scanless.specs.Reading.{HoldsPieces, IsReadingOf}
 use Rattle.scanless.specs.declared.reading.Ending.TheVariants.{End as AtEnd}
@@ -67,29 +67,29 @@ module _ {X Y : Type 0} (P : X → Type 0) (Q : Y → Type 0) (f : X → Y) (g :
 
 module _ (b : Built) (recce : Recognizer) (is : IsRecognizer recce) (pieces : List Piece) (holds : HoldsPieces b pieces recce) where
   -- what is so of the edges and the place of the pieces is so of those that are held
-  as_held : (P : List Edge → ℕ → Type 0) → P (model.edges_of pieces) (place_after pieces) → P recce.edges (place_of recce)
-  as_held P p = subst (λ (es : List Edge). P es (place_of recce)) (sym holds.edges) (subst (P (model.edges_of pieces)) (sym holds.place) p)
+  as_held : (P : List Edge → ℕ → Type 0) → P (model.edges_of pieces) (earleme_after pieces) → P recce.edges (earleme_of recce)
+  as_held P p = subst (λ (es : List Edge). P es (earleme_of recce)) (sym holds.edges) (subst (P (model.edges_of pieces)) (sym holds.place) p)
 
-  links_held : (n : ℕ) → IsCountOf (IsPlacedLink recce.flat (edges_of recce) (top_of recce) (place_of recce)) n → IsCountOf (IsLinkOf recce) n
+  links_held : (n : ℕ) → IsCountOf (IsPlacedLink recce.flat (edges_of recce) (top_of recce) (earleme_of recce)) n → IsCountOf (IsLinkOf recce) n
   links_held n count =
-      counts_over (IsPlacedLink recce.flat (edges_of recce) (top_of recce) (place_of recce)) (IsLinkOf recce)
+      counts_over (IsPlacedLink recce.flat (edges_of recce) (top_of recce) (earleme_of recce)) (IsLinkOf recce)
       (λ p. record { place = p.place; link = p.link }) (λ q. record { place = q.place; link = q.link })
       (λ p l. l) (λ q l. l) (λ p. refl) (λ q. refl) n count
 
-  pairs_held : (n : ℕ) → IsCountOf (IsLeoPair recce.flat (edges_of recce) (top_of recce) (place_of recce)) n → IsCountOf (held.IsLeoPair recce) n
+  pairs_held : (n : ℕ) → IsCountOf (IsLeoPair recce.flat (edges_of recce) (top_of recce) (earleme_of recce)) n → IsCountOf (held.IsLeoPair recce) n
   pairs_held n count =
-      counts_over (IsLeoPair recce.flat (edges_of recce) (top_of recce) (place_of recce)) (held.IsLeoPair recce)
+      counts_over (IsLeoPair recce.flat (edges_of recce) (top_of recce) (earleme_of recce)) (held.IsLeoPair recce)
       (λ p. record { set = p.place; symbol = p.symbol }) (λ q. record { place = q.set; symbol = q.symbol })
       (λ p l. l) (λ q l. l) (λ p. refl) (λ q. refl) n count
 
   pub within : (ranking : Ranking) (given : List Tree) (before read built after : ℕ) → TakesAtMost recce before read
-      → ((n : ℕ) → IsCountOf (IsExpanded recce.flat (edges_of recce) (allowed_by b.g1 ranking recce.flat (edges_of recce)) (top_of recce) (place_of recce)) n → built ≤ read + n)
+      → ((n : ℕ) → IsCountOf (IsExpanded recce.flat (edges_of recce) (allowed_by b.g1 ranking recce.flat (edges_of recce)) (top_of recce) (earleme_of recce)) n → built ≤ read + n)
       → after ≤ built + sum_by choices given → IsWithinSteps b ranking pieces given before after
   within ranking given before read built after reads builds gives = record {
     flat = recce.flat;
     is = holds.flat;
     top = top_of recce;
-    top_is = subst (λ n. slice_get recce.flat.tops n ≡ Some (top_of recce)) holds.start (index_get recce.flat.tops recce.start 0 is.start);
+    top_is = subst (λ n. slice_get recce.flat.tops n ≡ Some (top_of recce)) holds.start (slice_get-get_or recce.flat.tops recce.start 0 is.start);
     few = λ links pairs expanded l p e.
         let links_are = as_held (λ es place. IsCountOf (IsPlacedLink recce.flat (FlatEdges recce.flat (Held es)) (top_of recce) place) links) l in
         let pairs_are = as_held (λ es place. IsCountOf (IsLeoPair recce.flat (FlatEdges recce.flat (Held es)) (top_of recce) place) pairs) p in
@@ -101,7 +101,7 @@ module _ (b : Built) (recce : Recognizer) (is : IsRecognizer recce) (pieces : Li
 
 module _ (b : Built) (asked : ValuesAsked) (cs : List ℕ) (spans : List Span) (f : Forest) (has : HasForest b asked.ranking cs spans f) (forest : IsForest f) where
   pub lists_within : (recce : Recognizer) (held_spans : List Span) → IsRecognizer recce → IsReadingOf b cs recce held_spans AtEnd → (before read built after : ℕ)
-      → ((n : ℕ) → IsCountOf (IsExpanded recce.flat (edges_of recce) (allowed_by b.g1 asked.ranking recce.flat (edges_of recce)) (top_of recce) (place_of recce)) n → built ≤ read + n)
+      → ((n : ℕ) → IsCountOf (IsExpanded recce.flat (edges_of recce) (allowed_by b.g1 asked.ranking recce.flat (edges_of recce)) (top_of recce) (earleme_of recce)) n → built ≤ read + n)
       → ((trees : List Tree) → IsListing f trees → after ≤ built + sum_by choices (first_of asked.first trees))
       → TakesAtMost recce before read → ListsWithin b asked cs before after
   lists_within recce held_spans is reading before read built after builds gives reads =

@@ -89,14 +89,14 @@ MayRead P from file left outcome = InputHolds from file left (λ bytes. P bytes 
 
 -- OUTCOMES. One of those with P comes about.
 
--- the text is a front of that of an outcome, or nothing
-pub data IsFront (P : Outcome → Type 0) (text : List ℕ) : Type 0 where
-  Nothing : text ≡ [] → IsFront P text
-  Front : (outcome : Outcome) → P outcome → (rest : List ℕ) → outcome.out ≡ text ++ rest → IsFront P text
+-- the text is a prefix of that of an outcome, or nothing
+pub data IsPrefix (P : Outcome → Type 0) (text : List ℕ) : Type 0 where
+  Nothing : text ≡ [] → IsPrefix P text
+  Prefix : (outcome : Outcome) → P outcome → (rest : List ℕ) → outcome.out ≡ text ++ rest → IsPrefix P text
 
-pub record AppendsFront (P : Outcome → Type 0) (before after : Option (List ℕ)) : Type 0 where
+pub record AppendsPrefixOf (P : Outcome → Type 0) (before after : Option (List ℕ)) : Type 0 where
   pub text : List ℕ
-  pub front : IsFront P text
+  pub prefix : IsPrefix P text
   pub appends : Appends before after text
 
 -- the whole text of an outcome was written, and nothing is refused
@@ -111,13 +111,13 @@ pub record Does (P : Outcome → Type 0) (before after : Option (List ℕ)) : Ty
 abbrev pub StopsAt : (P : Outcome → Type 0) (Unopened : List ℕ → Type 0) (Unread : Type 0) → Stream → Stream → Stop → Type 0
 StopsAt P Unopened Unread before after =
     StopsBy (λ refusal. P (refusal_outcome refusal) × Appends before.bytes after.bytes []) (λ name. Unopened name × Appends before.bytes after.bytes [])
-    (Unread × Appends before.bytes after.bytes []) (Rose before.faults after.faults × AppendsFront P before.bytes after.bytes) (AppendsFront P before.bytes after.bytes)
+    (Unread × Appends before.bytes after.bytes []) (Rose before.faults after.faults × AppendsPrefixOf P before.bytes after.bytes) (AppendsPrefixOf P before.bytes after.bytes)
 
 -- where only writing and memory may have failed
 abbrev pub WriteStops : (P : Outcome → Type 0) → Stream → Stream → Stop → Type 0
 WriteStops P before after stop = StopsAt P (λ name. ⊥) ⊥ before after stop
 
--- lines were not all written: a front of their text was
+-- lines were not all written: a prefix of their text was
 abbrev pub LinesStop : List (List ℕ) → Stream → Stream → Stop → Type 0
 LinesStop lines before after =
     StopsBy (λ refusal. ⊥) (λ name. ⊥) ⊥ (Rose before.faults after.faults × AppendsPrefix before.bytes after.bytes (concat lines))
@@ -142,7 +142,7 @@ JobStops job files files_after input input_after before after stop =
 
 -- TELLING
 
--- the line was written, or the count rose and a front of it was
+-- the line was written, or the count rose and a prefix of it was
 pub data Tells (before after : Stream) (line : List ℕ) : Type 0 where
   Whole : Appends before.bytes after.bytes line → Tells before after line
   Part : Rose before.faults after.faults → AppendsPrefix before.bytes after.bytes line → Tells before after line

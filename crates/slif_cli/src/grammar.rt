@@ -9,9 +9,7 @@ use crate::stop::{Refusal, Stop};
 use scanless::Prepared;
 use slif_base::{FileRefusal, Files, read_named};
 use std::alloc::Global;
-use text_reading::read_grammar;
-
-const LIMIT: usize = 1_048_576;
+use text_reading::{GRAMMAR_LIMIT, read_grammar};
 
 /// Reads the grammar from the named file.
 pub fn load_grammar<'a, F: Files>(
@@ -26,7 +24,7 @@ pub fn load_grammar<'a, F: Files>(
     ensures asks { AsksAmong (F.asked files.old) (F.asked files.new) (name.now ∷ []) }
     ensures asked { OnOk result (AddsNames (F.asked files.old) (F.asked files.new) (name.now ∷ [])) }
 {
-    match read_named(alloc, files, name, LIMIT) {
+    match read_named(alloc, files, name, GRAMMAR_LIMIT) {
         Ok(bytes) => Ok(read_grammar(alloc, &bytes)?),
         Err(FileRefusal::OpenFault) => Err(Stop::OpenFault(name)),
         Err(FileRefusal::ReadFault) => Err(Stop::ReadFault),

@@ -11,8 +11,7 @@ use crate::stop::{Refusal, Stop};
 use command_line::InputFrom;
 use slif_base::{FileRefusal, Files, ReadRefusal, Source, read_all, read_named};
 use std::alloc::{AllocError, Global};
-
-const LIMIT: usize = 16_777_216;
+use text_reading::INPUT_LIMIT;
 
 /// The bytes of the input, which is somewhere.
 pub fn read_bytes<'a, F: Files, I: Source>(
@@ -51,7 +50,7 @@ fn file_bytes<'a, F: Files>(
     ensures held { SameFiles (F.told files.old) (F.told files.new) }
     ensures asks { AsksAmong (F.asked files.old) (F.asked files.new) (name.now ∷ []) }
 {
-    match read_named(alloc, files, name, LIMIT) {
+    match read_named(alloc, files, name, INPUT_LIMIT) {
         Ok(bytes) => Ok(bytes),
         Err(FileRefusal::OpenFault) => Err(Stop::OpenFault(name)),
         Err(FileRefusal::ReadFault) => Err(Stop::ReadFault),
@@ -68,7 +67,7 @@ fn standard_bytes<'a, I: Source>(alloc: Global, input: &mut I) -> Result<Vec<u8>
     ensures stops { IfErr result (SourceStops (I.left input.old) (Rose (I.fault_count input.old) (I.fault_count input.new))) }
     ensures later { I.fault_count input.old ≤ I.fault_count input.new }
 {
-    match read_all(alloc, input, LIMIT) {
+    match read_all(alloc, input, INPUT_LIMIT) {
         Ok(bytes) => Ok(bytes),
         Err(ReadRefusal::ReadFault) => Err(Stop::ReadFault),
         Err(ReadRefusal::TooLarge) => Err(Stop::Refused(Refusal::Input {

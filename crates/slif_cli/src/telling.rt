@@ -80,7 +80,9 @@ fn tell_bytes<'a, O: Sink, L: Ledger>(
 {
     let chars = input_chars(alloc, bytes)?;
     let reading = read_text(alloc, prepared, &chars, steps)?;
-    tell_reading(alloc, prepared, what, &chars, &reading, out, tellers, steps)
+    let told = tell_reading(alloc, prepared, what, &chars, &reading, out, tellers, steps);
+    drop(reading);
+    told
 }
 
 // Writes what is told of characters that are read to their end.

@@ -150,7 +150,9 @@ fn check_grammar<'a, F: Files, O: Sink>(
     ensures held { SameFiles (F.told files.old) (F.told files.new) }
 {
     let prepared = load_grammar(alloc, name, files)?;
-    write_check(alloc, &prepared, out)
+    let written = write_check(alloc, &prepared, out);
+    drop(prepared);
+    written
 }
 
 // Reads the grammar of that name and the input, and writes what is told of the input.
@@ -182,7 +184,9 @@ fn tell_by<'a, F: Files, I: Source, O: Sink, L: Ledger>(
     ensures held { SameFiles (F.told files.old) (F.told files.new) }
 {
     let prepared = load_grammar(alloc, grammar, files)?;
-    tell_input(
+    let told = tell_input(
         alloc, &prepared, what, from, files, input, out, tellers, steps,
-    )
+    );
+    drop(prepared);
+    told
 }

@@ -53,7 +53,9 @@ fn line_of_size<L: Ledger>(
     ensures counted { OnOk result (WorksWithin size steps.old steps.new) }
 {
     let prepared = own_grammar(alloc)?;
-    line_by(alloc, size, &prepared, steps)
+    let line = line_by(alloc, size, &prepared, steps);
+    drop(prepared);
+    line
 }
 
 fn line_by<L: Ledger>(
@@ -85,7 +87,9 @@ fn line_of_chars<L: Ledger>(
     ensures counted { OnOk result (WorksWithin size steps.old steps.new) }
 {
     let reading = own_reading(alloc, size, prepared, chars, steps)?;
-    line_of_reading(alloc, size, prepared, chars, &reading, steps)
+    let line = line_of_reading(alloc, size, prepared, chars, &reading, steps);
+    drop(reading);
+    line
 }
 
 // What stops job `work`.

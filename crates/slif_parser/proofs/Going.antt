@@ -15,7 +15,7 @@ use Rattle.value_lines.proofs.Fitting as fitting
 use Rattle.text_reading.specs.Parts.{HasForest}
 use Rattle.text_reading.proofs.Derived.{listed}
 use Rattle.slif_parser.specs.Views.{DerivationsOf, IsUnderWay}
-use Rattle.slif_parser.specs.Readings.{AreAll, IsNext, IsFrontOfAll}
+use Rattle.slif_parser.specs.Readings.{AreAll, IsNext, IsPrefixOfAll}
 
 -- THE BEGINNING
 
@@ -66,8 +66,8 @@ module _ (b : Built) (cs : List ℕ) (spans : List Span) (it : Iteration) (way :
   pub all_of : (trees : List Tree) → IsListing it.forest trees → AreAll seen trees
   all_of trees l = record { pieces = way.has.pieces; reading = way.has.of.reading; all = listed b it.forest.ranking cs spans it.forest way.has trees l }
 
-  pub front_of_all : (given : List Tree) → AreGiven it given → IsFrontOfAll seen given
-  front_of_all given are = (are.first.rest, all_of (given ++ are.first.rest) are.first.listing)
+  pub prefix_of_all : (given : List Tree) → AreGiven it given → IsPrefixOfAll seen given
+  prefix_of_all given are = (are.first.rest, all_of (given ++ are.first.rest) are.first.listing)
 
   next_of : (given : List Tree) (more : Bool) → IsAnswer it given more → IsNext seen given more
   next_of given true answer = answer

@@ -41,8 +41,8 @@ pub record AreAll (d : DerivationsOf) (trees : List Tree) : Type 0 where
   pub all : AreDerivations d.read.grammar d.iteration.forest.ranking pieces trees
 
 -- these are the first of them
-abbrev pub IsFrontOfAll : DerivationsOf → List Tree → Type 0
-IsFrontOfAll d given = (rest : List Tree) × AreAll d (given ++ rest)
+abbrev pub IsPrefixOfAll : DerivationsOf → List Tree → Type 0
+IsPrefixOfAll d given = (rest : List Tree) × AreAll d (given ++ rest)
 
 -- behind those given before, one more is given, at which it then stands; or those were all
 abbrev pub IsNext : (new : DerivationsOf) → (given : List Tree) → Bool → Type 0

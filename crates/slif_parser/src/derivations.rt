@@ -5,7 +5,7 @@ ghost use Rattle.grammar_core.specs.Steps.{step_of};
 ghost use Rattle.tree_iter.specs.Iteration.{AreGiven, IsAnswer, between, begun};
 ghost use Rattle.text_reading.specs.Parts.{HasForest};
 ghost use Rattle.tree_fold.specs.Failing.{IsFailure};
-ghost use Rattle.slif_parser.specs.Readings.{IsNext, IsFrontOfAll, ValueBy, FailsBy};
+ghost use Rattle.slif_parser.specs.Readings.{IsNext, IsPrefixOfAll, ValueBy, FailsBy};
 
 use crate::{FoldError, NoMemory, Semantics, Span, TreeStep};
 use scanless::Prepared;
@@ -89,7 +89,7 @@ impl<'f> Derivations<'f> {
 
     /// States that those given are the first of all derivations.
     pub fn known(&self)
-        ensures { (given : List Tree) → AreGiven self.now.iteration given → IsFrontOfAll self.now given }
+        ensures { (given : List Tree) → AreGiven self.now.iteration given → IsPrefixOfAll self.now given }
     {
         let _ = &self.iter;
     }

@@ -14,9 +14,7 @@ use slif_base::{Chars, Steps};
 use std::alloc::Global;
 use std::marker::{Brand, Model};
 use std::sync::ledger::{Blank, Ledger};
-use text_reading::{Refusal, input_chars, input_too_long, read_text};
-
-const LIMIT: usize = 16_777_216;
+use text_reading::{INPUT_LIMIT, Refusal, input_chars, input_too_long, read_text};
 
 /// An input that is read to its end. It is seen as the grammar, the characters, and the spans of the tokens.
 #[derive(Drop)]
@@ -59,7 +57,7 @@ pub fn read_bytes<'g, L: Ledger>(
     ensures read { IfOk result (IsReadAs prepared.now input.now) }
     ensures refused { IfErr result (TellsRefusal (IsInputRefusedAt prepared.now input.now)) }
 {
-    if input.len() > LIMIT {
+    if input.len() > INPUT_LIMIT {
         return Err(input_too_long(alloc));
     }
     let chars = match copied_chars(alloc, input) {

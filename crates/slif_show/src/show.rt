@@ -20,7 +20,7 @@ struct Lines<'t> {
     taken: usize,
 }
 
-/// The front of some bytes up to a line feed, and what is behind it.
+/// The prefix of some bytes up to a line feed, and what is behind it.
 fn split_line(bytes: &[u8]) -> (&[u8], &[u8]) {
     let end = match bytes.iter().position(|b| *b == b'\n') {
         Some(end) => end,
@@ -59,12 +59,12 @@ impl<'t> Lines<'t> {
     }
 }
 
-/// The column behind the longest front of a line that is UTF-8.
+/// The column behind the longest prefix of a line that is UTF-8.
 fn column_behind(line: &[u8], len: usize) -> usize {
-    let Some(front) = line.get(..len) else {
+    let Some(prefix) = line.get(..len) else {
         return 1;
     };
-    match std::str::from_utf8(front) {
+    match std::str::from_utf8(prefix) {
         Ok(text) => text.chars().count().saturating_add(1),
         Err(_) => 1,
     }

@@ -4,7 +4,7 @@ use Rattle.std.specs.Bool.{IsTrue}
 use Rattle.grammar_model.specs.Grammar.{Grammar, Slot}
 use Rattle.grammar_model.specs.Analysis.{IsNullable, IsProductive, IsAccessible}
 use Rattle.grammar_model.specs.Checked.{IsLeft}
-use Rattle.horn_clauses.specs.Rows.{row_at}
+use Rattle.jagged.specs.Rows.{row_at}
 use Rattle.slot_analysis.specs.Packed.{place, packed, packed_slot, Occurs}
 use Rattle.slot_analysis.specs.Slots.{end_of}
 use Rattle.slot_analysis.specs.Tables.{IsAnalysed}

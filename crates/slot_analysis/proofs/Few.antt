@@ -5,6 +5,7 @@ use Rattle.std.specs.List.{AllByRecursion, AllPairs, IsDistinct, list_any}
 use Rattle.std.proofs.lemmas.Bool.{eqb-true}
 use Rattle.std.proofs.lemmas.List.{length-map}
 use Rattle.std.proofs.lemmas.Map.Steps.{length-le_from_distinct_below}
+use Rattle.std.proofs.lemmas.List.Elements.{All-tail}
 use Rattle.grammar_model.specs.Grammar.{Grammar, Slot}
 use Rattle.grammar_model.specs.Analysis.{IsAccessible}
 use Rattle.slot_analysis.specs.Packed.{place, packed, packed_slot, Occurs}
@@ -14,9 +15,6 @@ use Rattle.slot_analysis.specs.Few.{FewAreAccessible}
 use Rattle.slot_analysis.proofs.Rounds.{bases_rise, one_symbol}
 use Rattle.slot_analysis.proofs.Beyond.{accessible_numbered}
 use Rattle.slot_analysis.proofs.Transfer.{accessible_to, accessible_occurs, same_slots}
-
-all_tail : {X : Type 0} (P : X → Type 0) (x : X) (xs : List X) → All P (x ∷ xs) → All P xs
-all_tail P x xs all k d lt = all (suc k) d (omega (arith, lt))
 
 module _ (g : Grammar) (rows : List (List ℕ)) (bases : List ℕ) (lefts : List Bool) (nullables productives reach : List ℕ) (t : IsAnalysed g rows bases lefts nullables productives reach) where
   abbrev total : ℕ
@@ -47,7 +45,7 @@ module _ (g : Grammar) (rows : List (List ℕ)) (bases : List ℕ) (lefts : List
 
   apart : (s : Slot) → IsAccessible g s → (slots : List Slot) → All (λ u. s ≢ u) slots → All (IsAccessible g) slots → AllByRecursion (λ y. eqb (number_at s) y ≡ false) (map number_at slots)
   apart s a [] ne all = tt
-  apart s a (u ∷ us) ne all = (by (eqb (number_at s) (number_at u)) refl, apart s a us (all_tail (λ u. s ≢ u) u us ne) (all_tail (IsAccessible g) u us all))
+  apart s a (u ∷ us) ne all = (by (eqb (number_at s) (number_at u)) refl, apart s a us (All-tail (λ u. s ≢ u) u us ne) (All-tail (IsAccessible g) u us all))
     where
       by : (b : Bool) → eqb (number_at s) (number_at u) ≡ b → b ≡ false
       by true e = absurd (ne 0 u (omega arith) (same s u a (all 0 u (omega arith)) (eqb-true (number_at s) (number_at u) e)))
@@ -57,13 +55,13 @@ module _ (g : Grammar) (rows : List (List ℕ)) (bases : List ℕ) (lefts : List
   unfolding IsDistinct
   distinct [] pairs all = tt
   distinct (s ∷ ss) pairs all = (
-    apart s (all 0 s (omega arith)) ss (λ k d lt. pairs 0 (suc k) d (omega arith) (omega (arith, lt))) (all_tail (IsAccessible g) s ss all),
-    distinct ss (λ i j d lt jl. pairs (suc i) (suc j) d (omega (arith, lt)) (omega (arith, jl))) (all_tail (IsAccessible g) s ss all),
+    apart s (all 0 s (omega arith)) ss (λ k d lt. pairs 0 (suc k) d (omega arith) (omega (arith, lt))) (All-tail (IsAccessible g) s ss all),
+    distinct ss (λ i j d lt jl. pairs (suc i) (suc j) d (omega (arith, lt)) (omega (arith, jl))) (All-tail (IsAccessible g) s ss all),
   )
 
   each : (slots : List Slot) → All (IsAccessible g) slots → (q : ℕ) → list_any (eqb q) (map number_at slots) ≡ true → q < total
   each [] all q h = absurd (true≢false (sym h))
-  each (s ∷ ss) all q h = by (eqb q (number_at s)) refl (each ss (all_tail (IsAccessible g) s ss all) q) h
+  each (s ∷ ss) all q h = by (eqb q (number_at s)) refl (each ss (All-tail (IsAccessible g) s ss all) q) h
     where
       by : (b : Bool) → eqb q (number_at s) ≡ b → (list_any (eqb q) (map number_at ss) ≡ true → q < total) → (b || list_any (eqb q) (map number_at ss)) ≡ true → q < total
       by true e rest h = subst (λ x. x < total) (sym (eqb-true q (number_at s) e)) (below s (all 0 s (omega arith)))

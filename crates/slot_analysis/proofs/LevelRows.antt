@@ -3,7 +3,8 @@ use Rattle.std.proofs.Common.{arith, ◌≡◌, ◌↔◌, inl, inr, ℕ, suc, �
 use Rattle.std.proofs.Math.ListN.{get_or-eq_default}
 use Rattle.std.specs.List.Sorted.{IsStrictlyIncreasing}
 use Rattle.grammar_model.specs.Grammar.{Grammar, rule_at, lhs_of, level_of}
-use Rattle.horn_clauses.specs.Rows.{row_at, HasAdded, HasSameRows}
+use Rattle.horn_clauses.specs.Rows.{HasAdded, HasSameRows}
+use Rattle.jagged.specs.Rows.{row_at}
 use Rattle.slot_analysis.specs.Packed.{HasFirsts, HasBoth, HoldsLevels, IsLevelTable}
 use Rattle.horn_clauses.proofs.Search.{same_or_below}
 

@@ -6,7 +6,7 @@ use Rattle.grammar_model.specs.declared.Assoc.{Assoc}
 use Rattle.grammar_model.specs.declared.Assoc.TheVariants.{Left, Right, Group}
 use Rattle.grammar_model.specs.Grammar.{WrittenRule, Plain, Sequence, PlainRule, slot_of, lhs_of, level_of, tighter, occurs, own_level, child_level, slot_count}
 use Rattle.grammar_model.specs.Analysis.{IsStar}
-use Rattle.horn_clauses.specs.Rows.{row_at}
+use Rattle.jagged.specs.Rows.{row_at}
 use Rattle.slot_analysis.specs.Packed.{place, packed_rule, packed_slot}
 use Rattle.slot_analysis.proofs.Counting.{below_rises, below_zero, below_next}
 

@@ -1,9 +1,9 @@
 -- The least set of a grammar's clauses is what its slots can do by rounds.
-use Rattle.std.proofs.Common.{arith, ◌≡◌, ◌⊎◌, inl, inr, ℕ, zero, suc, ◌+◌, ◌-◌, ◌<◌, ◌≤◌, Bool, true, false, if◌then◌else◌, Option, Some, None, option_to_list, List, [], ◌∷◌, length, All, Contains, get_or, slice_index, refl, sym, ◌∙◌, ap, subst}
+use Rattle.std.proofs.Common.{arith, ◌≡◌, ◌⊎◌, inl, inr, ℕ, zero, suc, ◌+◌, ◌-◌, ◌<◌, ◌≤◌, Bool, true, false, if◌then◌else◌, option_to_list, List, [], ◌∷◌, length, All, Contains, get_or, slice_index, refl, sym, ◌∙◌, ap, subst}
 use Rattle.std.proofs.lemmas.List.{get_or_default}
 use Rattle.std.proofs.lemmas.List.Elements.{Contains-get_or}
 use Rattle.std.proofs.lemmas.List.FromFn.{get_or-map-range_with_len, length-map-range_with_len}
-use Rattle.grammar_model.specs.Grammar.{WrittenRule, Plain, Sequence, Grammar, Slot, slot_of, rule_at, lhs_of, level_of, child_slot, EachChildSlot, sequence_symbol}
+use Rattle.grammar_model.specs.Grammar.{WrittenRule, Plain, Sequence, Grammar, Slot, slot_of, rule_at, lhs_of, level_of, child_slot, EachChildSlot}
 use Rattle.grammar_model.specs.Analysis.{SomeRule, IsStar, IsNullableIn, EachNeeded, IsProductiveIn}
 use Rattle.grammar_core.specs.Written.{IsWritten}
 use Rattle.horn_clauses.specs.Least.{Clause, clause_at, IsDerivedIn, IsClosed}
@@ -12,6 +12,7 @@ use Rattle.slot_analysis.specs.Clauses.{IsFact, HasClauses}
 use Rattle.grammar_core.proofs.Known.{lhs_known}
 use Rattle.slot_analysis.proofs.Known.{head_numbered, child_numbered, body_small}
 use Rattle.horn_clauses.proofs.Search.{same_or_below}
+use Rattle.grammar_model.proofs.Productive.{item_first}
 
 -- both analyses at once
 abbrev pub CanIn : Bool → ℕ → Grammar → Slot → Type 0
@@ -42,10 +43,6 @@ to_nullable (suc n) g slot (inr (i, lt, fits, h)) = (i, lt, fits, each (rule_at 
         by : (b : Bool) → r.plus ≡ b → IsStar (Sequence r) ⊎ EachChildSlot (IsNullableIn n g) (Sequence r)
         by true e = inr (λ k l. h k (subst (λ b. k < (if b then suc (length (option_to_list r.separator)) else 0)) (sym e) l))
         by false e = inl e
-
-pub item_first : (item : ℕ) (separator : Option ℕ) → sequence_symbol item separator 0 ≡ item
-item_first item None = refl
-item_first item (Some separator) = refl
 
 pub from_productive : (n : ℕ) (g : Grammar) (slot : Slot) → IsProductiveIn n g slot → CanIn false n g slot
 from_productive zero g slot h = h

@@ -10,7 +10,8 @@ use Rattle.slot_analysis.specs.Clauses.{IsAnalysis}
 use Rattle.slot_analysis.specs.Steps.{HasMore, head_of, IsOfStart, IsOfUse, IsOfNexts, IsOfParts, IsStep}
 use Rattle.grammar_core.proofs.Known.{lhs_known}
 use Rattle.slot_analysis.proofs.Known.{child_numbered, head_numbered}
-use Rattle.slot_analysis.proofs.Rounds.{item_first, bases_rise}
+use Rattle.slot_analysis.proofs.Rounds.{bases_rise}
+use Rattle.grammar_model.proofs.Productive.{item_first}
 
 pub productive_found : (g : Grammar) (bases keys : List ℕ) (i k x : ℕ) (b : Bool) → IsWritten g → IsNumbering g bases → i < length g.rules → k < slot_count (rule_at g i) → IsAnalysis false g bases keys →
     x ≡ number bases (child_slot (rule_at g i) k) → (IsTrue b ↔ Contains keys x) → IsTrue b ↔ IsProductive g (child_slot (rule_at g i) k)

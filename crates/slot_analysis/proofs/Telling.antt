@@ -3,9 +3,9 @@ use Rattle.std.proofs.Common.{arith, ◌≡◌, ◌⊎◌, inl, inr, ℕ, zero, 
 use Rattle.std.specs.Prelude.{◌↔◌, ◌&&◌, ◌||◌, ◌==◌, not, nat_lt, Contains, slice_index, slice_index_or}
 use Rattle.std.specs.List.{list_any}
 use Rattle.std.proofs.lemmas.Bool.{and_parts, ltb-true, lt-ltb, eqb-true, eq-eqb}
+use Rattle.finite_sets.proofs.Members.{among_from, contains_from, Among}
 use Rattle.grammar_model.specs.Grammar.{Grammar, Slot, WrittenRule, IsTerminal, EachChildSlot}
 use Rattle.grammar_model.specs.Analysis.{SomeRule, IsStar, EachNeeded, IsNullableIn, IsNullable, IsProductiveIn, IsProductive, IsAccessible}
-use Rattle.grammar_model.proofs.Lists.{Among, among_from, contains_from}
 use Rattle.slot_analysis.specs.Slots.{number, end_of, IsNumbered}
 use Rattle.slot_analysis.specs.Tables.{AreTables}
 use Rattle.slot_analysis.specs.Tested.{HasTests}

@@ -7,7 +7,7 @@ use Rattle.grammar_model.specs.Analysis.{SomeRule, IsStar, IsNullableIn, IsNulla
 use Rattle.grammar_model.specs.Checked.{IsLeft}
 use Rattle.grammar_core.specs.Written.{IsWritten, IsLevelled, symbols_of}
 use Rattle.grammar_core.proofs.Known.{lhs_known}
-use Rattle.horn_clauses.specs.Rows.{row_at}
+use Rattle.jagged.specs.Rows.{row_at}
 use Rattle.slot_analysis.specs.Packed.{place, packed_rule, packed, packed_slot, Occurs, IsLevelTable}
 use Rattle.grammar_core.specs.Rules.{groups_of}
 use Rattle.slot_analysis.proofs.Counting.{below_rises, below_zero, below_next, same_level}
@@ -255,6 +255,6 @@ module _ (g : Grammar) (rows : List (List ℕ)) (w : IsWritten g) (t : IsLevelTa
     pub part_within : (k : ℕ) → k < slot_count (rule_at h i) → k < slot_count (rule_at g i)
     part_within k kl = omega (arith, kl, slots_are rows (rule_at g i), ap slot_count same_rule)
 
-    pub part_told : (k s l q : ℕ) → k < slot_count (rule_at h i) → s ≡ (child_slot (rule_at g i) k).symbol → l ≡ (child_slot (rule_at g i) k).level → q ≡ place rows s l → q ≡ (child_slot (rule_at h i) k).level
-    part_told k s l q kl es el eq =
+    pub cause_told : (k s l q : ℕ) → k < slot_count (rule_at h i) → s ≡ (child_slot (rule_at g i) k).symbol → l ≡ (child_slot (rule_at g i) k).level → q ≡ place rows s l → q ≡ (child_slot (rule_at h i) k).level
+    cause_told k s l q kl es el eq =
         eq ∙ (ap (λ s. place rows s l) es ∙ (ap (place rows (child_slot (rule_at g i) k).symbol) el ∙ (ap (λ x. x.level) (sym (child_is i k rule_within (part_within k kl))) ∙ ap (λ r. (child_slot r k).level) same_rule)))

@@ -2,7 +2,7 @@
 -- at its symbol are below it: a few numbers are enough for all slots, however large the levels are.
 use Rattle.std.specs.Prelude.{ℕ, suc, ◌<◌, nat_lt, if◌then◌else◌, List, [], ◌∷◌, length, map, slice_index, Contains, ◌≡◌}
 use Rattle.std.specs.List.Sorted.{IsStrictlyIncreasing}
-use Rattle.horn_clauses.specs.Rows.{row_at}
+use Rattle.jagged.specs.Rows.{row_at}
 use Rattle.grammar_model.specs.Grammar.{WrittenRule, Plain, Sequence, Grammar, Slot, rule_at, lhs_of, level_of}
 
 -- how many of the levels are below this one

@@ -17,7 +17,8 @@ use crate::packed::{Packed, is_level_at, place_at};
 use crate::slots::bases_of;
 use crate::steps::reach_of;
 use grammar_core::{SymbolId, Written};
-use horn_clauses::{NumberSet, Rows};
+use horn_clauses::NumberSet;
+use jagged::Jagged;
 use std::alloc::{AllocError, Global};
 use std::marker::Model;
 
@@ -34,7 +35,7 @@ pub struct Tables {
 /// The levels of a grammar, and the tables of its packed slots.
 #[derive(Clone, Copy)]
 pub struct Slots<'a> {
-    pub levels: &'a Rows,
+    pub levels: &'a Jagged<u32>,
     pub bases: &'a [u32],
     pub nullable: &'a NumberSet,
     pub productive: &'a NumberSet,
@@ -45,7 +46,7 @@ pub struct Slots<'a> {
 #[derive(Drop)]
 pub struct Analysis<'a> {
     written: &'a Written,
-    levels: Rows,
+    levels: Jagged<u32>,
     tables: Tables,
 }
 
@@ -114,7 +115,7 @@ fn tables_of(alloc: Global, w: &Packed<'_>) -> Result<Tables, AllocError>
     })
 }
 
-fn packed_tables(alloc: Global, w: &Written, levels: &Rows) -> Result<Tables, AllocError>
+fn packed_tables(alloc: Global, w: &Written, levels: &Jagged<u32>) -> Result<Tables, AllocError>
     requires { IsLevelTable w.now levels.now }
     ensures tables { IfOk result (λ t. AreTables (packed levels.now w.now) t.bases.items t.lefts.items t.nullable t.productive t.reach) }
 {
@@ -137,7 +138,7 @@ impl<'a> Analysis<'a> {
         })
     }
 
-    /// The grammar.
+    /// The grammar whose slots these are.
     pub fn written(&self) -> &Written
         ensures { result.now ≡ self.now }
     {

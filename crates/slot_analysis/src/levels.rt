@@ -4,11 +4,13 @@ ghost use Rattle.grammar_model.specs.Grammar.{lhs_of, level_of};
 ghost use Rattle.grammar_core.specs.Written.{rule_of};
 ghost use Rattle.grammar_core.specs.Rules.{groups_of};
 ghost use Rattle.std.specs.List.Sorted.{IsStrictlyIncreasing};
-ghost use Rattle.horn_clauses.specs.Rows.{row_at, HasSameRows};
+ghost use Rattle.horn_clauses.specs.Rows.{HasSameRows};
+ghost use Rattle.jagged.specs.Rows.{row_at};
 ghost use Rattle.slot_analysis.specs.Packed.{count_below, HasFirsts, HasBoth, HoldsLevels, IsLevelTable};
 
 use grammar_core::{Written, WrittenRule};
-use horn_clauses::{Gathered, Rows};
+use horn_clauses::Gathered;
+use jagged::Jagged;
 use std::alloc::{AllocError, Global};
 
 /// How many of the levels are below this one.
@@ -50,11 +52,11 @@ fn put_sorted(row: &[u32], levels: &mut Vec<u32>) -> Result<(), AllocError>
 }
 
 // The rows, each of them sorted.
-fn sort_all(alloc: Global, rows: &Rows) -> Result<Rows, AllocError>
+fn sort_all(alloc: Global, rows: &Jagged<u32>) -> Result<Jagged<u32>, AllocError>
     ensures same { IfOk result (λ sorted. HasSameRows rows.now sorted) }
     ensures sorted { IfOk result (λ sorted. (s : ℕ) → IsStrictlyIncreasing (row_at sorted s)) }
 {
-    let mut sorted = Rows::new(alloc);
+    let mut sorted = Jagged::new(alloc);
     let mut levels = Vec::new(alloc);
     for s in 0..rows.len() {
         put_sorted(rows.row(s), &mut levels)?;
@@ -100,7 +102,7 @@ fn push_rules(w: &Written, rows: &mut Gathered) -> Result<(), AllocError>
 }
 
 /// For each symbol, in order, the levels 0, of its rules, and next to those.
-pub fn levels_of(alloc: Global, w: &Written) -> Result<Rows, AllocError>
+pub fn levels_of(alloc: Global, w: &Written) -> Result<Jagged<u32>, AllocError>
     ensures { IfOk result (λ rows. IsLevelTable w.now rows) }
 {
     let mut gathered = Gathered::new(alloc, w.symbol_count());

@@ -3,7 +3,7 @@ ghost use Rattle.std.specs.Prelude.{◌≡◌, Some, ◌<◌, ◌↔◌, IsTrue,
 ghost use Rattle.grammar_model.specs.Grammar.{rule_at, lhs_of, level_of, child_slot, slot_count};
 ghost use Rattle.grammar_core.specs.Written.{IsWritten};
 ghost use Rattle.std.specs.List.Sorted.{IsStrictlyIncreasing};
-ghost use Rattle.horn_clauses.specs.Rows.{row_at};
+ghost use Rattle.jagged.specs.Rows.{row_at};
 ghost use Rattle.slot_analysis.specs.Packed.{packed, packed_slot, place};
 ghost use Rattle.grammar_core.specs.Rules.{groups_of};
 ghost use Rattle.slot_analysis.specs.Slots.{body_count, needed_of};
@@ -11,14 +11,14 @@ ghost use Rattle.slot_analysis.specs.Slots.{body_count, needed_of};
 use crate::rules::{body_len, needed_count, part_count};
 use crate::{children, levels};
 use grammar_core::{SymbolId, Written};
-use horn_clauses::Rows;
+use jagged::Jagged;
 use std::marker::Model;
 
 /// A grammar whose levels are replaced by their places among those that occur.
 #[derive(Drop)]
 pub struct Packed<'a> {
     pub written: &'a Written,
-    pub levels: &'a Rows,
+    pub levels: &'a Jagged<u32>,
 }
 
 impl<'a> Model for Packed<'a> {
@@ -139,7 +139,7 @@ impl<'a> Packed<'a> {
 }
 
 /// The place of a level among those of a symbol.
-pub fn place_at(rows: &Rows, symbol: u32, level: u32) -> u32
+pub fn place_at(rows: &Jagged<u32>, symbol: u32, level: u32) -> u32
     requires known { symbol < length rows.now }
     requires rising { IsStrictlyIncreasing (row_at rows.now symbol) }
     ensures { result ≡ place rows.now symbol level }
@@ -148,7 +148,7 @@ pub fn place_at(rows: &Rows, symbol: u32, level: u32) -> u32
 }
 
 /// Whether the level is among those of a symbol.
-pub fn is_level_at(rows: &Rows, symbol: u32, level: u32) -> bool
+pub fn is_level_at(rows: &Jagged<u32>, symbol: u32, level: u32) -> bool
     requires known { symbol < length rows.now }
     requires rising { IsStrictlyIncreasing (row_at rows.now symbol) }
     ensures { IsTrue result ↔ Contains (row_at rows.now symbol) level }

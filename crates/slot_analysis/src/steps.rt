@@ -24,7 +24,7 @@ fn push_fact(x: u32, clauses: &mut Clauses) -> Result<(), AllocError>
     clauses.push(x, &[])
 }
 
-// The starts.
+// The slots of the starts are facts.
 fn push_starts(w: &Packed<'_>, bases: &[u32], clauses: &mut Clauses) -> Result<(), AllocError>
     requires { IsNumbering w.now bases.now }
     ensures { OnOk result (HasMore clauses.old clauses.new (IsOfStart w.now bases.now (length w.now.starts))) }

@@ -1,6 +1,8 @@
 -- What a forest tells of the derivations of a reading.
-use Rattle.std.proofs.Common.{◌≡◌, ℕ, ◌+◌, ◌≤◌, List, [], Option, Some, None, length, refl, sym, subst, ◌∙◌, arith, Contains, slice_get, slice_index_or}
+use Rattle.std.proofs.Common.{◌≡◌, ℕ, ◌+◌, ◌≤◌, List, [], Option, Some, None, length, refl, sym, subst, ◌∙◌, arith, slice_get, slice_index_or}
 use Rattle.std.specs.List.Sorted.{IsStrictlySortedBy}
+use Rattle.std.proofs.lemmas.Option.{slice_get-get_or}
+use Rattle.finite_sets.proofs.Lists.{Contains-none, get_index}
 use Rattle.grammar_model.specs.Grammar.{Grammar, slot_of}
 use Rattle.grammar_model.specs.Trees.{Tree}
 use Rattle.grammar_model.specs.Derives.{Held, Derives}
@@ -17,19 +19,18 @@ use Rattle.recognizer_model.specs.Flat.{lhs_of}
 use Rattle.recognizer_model.specs.Nodes.{IsExpanded}
 use Rattle.flat_model.specs.Flattened.{IsFlattened}
 use Rattle.recognizer_model.specs.FlatForm.{StandsFor, symbol_at, tree_of}
-use Rattle.recognizer_model.proofs.FlatNamed.{get_index, index_get}
 use Rattle.recognizer_model.proofs.FlatFormLaw.{flat_form}
 use Rattle.recognizer_model.proofs.FlatChosen.{chosen_form}
 use Rattle.recognizer_model.proofs.Leaving.{leaves_some}
 use Rattle.earley_sets.specs.Laws.{TreesAreDerivations}
-use Rattle.earley_sets.specs.Recognizer.{Recognizer, IsRecognizer, HasTree, place_of, edges_of as held_edges, top_of as held_top}
+use Rattle.earley_sets.specs.Recognizer.{Recognizer, IsRecognizer, HasTree, earleme_of, edges_of as held_edges, top_of as held_top}
 use Rattle.forest_model.specs.Forest.{Forest, IsForest, top_of}
 use Rattle.forest_model.specs.Listing.{IsListing}
 use Rattle.forest_laws.specs.Lists.{trees_by}
 use Rattle.forest_laws.proofs.Exact.{forests_have_lists}
 use Rattle.forest_laws.proofs.Reading as reading
 use Rattle.language_model.specs.Building.{Built}
-use Rattle.reading_model.specs.Reading.{edges_of, place_after}
+use Rattle.reading_model.specs.Reading.{edges_of, earleme_after}
 use Rattle.scanless.specs.Reading.{IsReadingOf}
 use Rattle.scanless.specs.declared.reading.Ending.TheVariants.{End as AtEnd}
 use Rattle.run_model.specs.Listing.{AreDerivations}
@@ -38,9 +39,6 @@ use Rattle.text_reading.specs.declared.refusal.Place.{Place}
 use Rattle.text_reading.specs.Refusals.{IsNoDerivation}
 use Rattle.text_reading.specs.Parts.{IsChosenOf, HasForest, AreExpectedOf}
 
-no_element : {X : Type 0} (x : X) → Contains [] x → ⊥
-no_element x (k, lt, e) = omega (arith, lt)
-
 -- A FOREST HAS A DERIVATION
 
 module _ (f : Forest) (is : IsForest f) where
@@ -48,7 +46,7 @@ module _ (f : Forest) (is : IsForest f) where
   whole = lhs_of f.flat (top_of f)
 
   top_symbol : slice_get f.flat.symbols whole ≡ Some (Top f.start)
-  top_symbol = (is.derived.flat.tops f.start (top_of f) (index_get f.flat.tops f.start 0 is.derived.start)).symbol
+  top_symbol = (is.derived.flat.tops f.start (top_of f) (slice_get-get_or f.flat.tops f.start 0 is.derived.start)).symbol
 
   stands : StandsFor f.written (symbol_at f.flat whole) (slot_of (slice_index_or f.written.starts f.start 0))
   stands =
@@ -56,7 +54,7 @@ module _ (f : Forest) (is : IsForest f) where
       let all = is.derived.flat_of.tops_all in
       let lt = is.derived.start in
       subst (λ s. StandsFor f.written s (slot_of (slice_index_or f.written.starts f.start 0))) (sym e)
-      (slice_index_or f.written.starts f.start 0, index_get f.written.starts f.start 0 (omega (arith, all, lt)), refl)
+      (slice_index_or f.written.starts f.start 0, slice_get-get_or f.written.starts f.start 0 (omega (arith, all, lt)), refl)
 
   -- some derivation is chosen
   pub has_derivation : (t : Tree) × IsChosenOf f.written f.edges f.ranking f.start f.place t
@@ -93,7 +91,7 @@ all_as w v es gs r s k p q ts same_w same_e same_r same_k same_p d =
 -- WHERE THE FOREST IS BUILT
 
 module _ (b : Built) (ranking : Ranking) (cs : List ℕ) (recce : Recognizer) (spans : List Span) (few : length cs ≤ 16777216) (read : IsReadingOf b cs recce spans AtEnd) where
-  pub has_forest : (f : Forest) → IsForest f → (w : Grammar) → w ≡ b.g1 → f.written ≡ w → f.flat ≡ recce.flat → f.start ≡ recce.start → f.edges ≡ recce.edges → f.place ≡ place_of recce → f.ranking ≡ ranking
+  pub has_forest : (f : Forest) → IsForest f → (w : Grammar) → w ≡ b.g1 → f.written ≡ w → f.flat ≡ recce.flat → f.start ≡ recce.start → f.edges ≡ recce.edges → f.place ≡ earleme_of recce → f.ranking ≡ ranking
       → HasForest b ranking cs spans f
   has_forest f is w same written flat start edges place ranked =
       let start_is = start ∙ read.holds.start in
@@ -114,19 +112,19 @@ module _ (b : Built) (ranking : Ranking) (cs : List ℕ) (recce : Recognizer) (s
         };
         ranking_is = ranked;
         tree = some.0;
-        chosen = chosen_as f.written b.g1 f.edges (edges_of read.pieces) f.ranking ranking f.start f.place (place_after read.pieces) some.0 (written ∙ same) edges_are ranked start_is place_is some.1;
+        chosen = chosen_as f.written b.g1 f.edges (edges_of read.pieces) f.ranking ranking f.start f.place (earleme_after read.pieces) some.0 (written ∙ same) edges_are ranked start_is place_is some.1;
       }
 
   -- no tree, no derivation
   start_get : IsRecognizer recce → slice_get b.g1.starts recce.start ≡ Some (slice_index_or b.g1.starts recce.start 0)
-  start_get is = let all = read.holds.flat.made.tops_all in let lt = is.start in index_get b.g1.starts recce.start 0 (omega (arith, all, lt))
+  start_get is = let all = read.holds.flat.made.tops_all in let lt = is.start in slice_get-get_or b.g1.starts recce.start 0 (omega (arith, all, lt))
 
   none_derived : TreesAreDerivations → IsChecked b.g1 → IsRecognizer recce → (HasTree recce → ⊥) → (t : Tree)
-      → Derives b.g1 (Held (edges_of read.pieces)) (slot_of (slice_index_or b.g1.starts 0 0)) 0 (place_after read.pieces) t → ⊥
+      → Derives b.g1 (Held (edges_of read.pieces)) (slot_of (slice_index_or b.g1.starts 0 0)) 0 (earleme_after read.pieces) t → ⊥
   none_derived law checked is none t d =
-      let here : Derives b.g1 (Held recce.edges) (slot_of (slice_index_or b.g1.starts recce.start 0)) 0 (place_of recce) t =
-      subst (λ (l : List Edge). Derives b.g1 (Held l) (slot_of (slice_index_or b.g1.starts recce.start 0)) 0 (place_of recce) t) (sym read.holds.edges)
-      (subst (λ n. Derives b.g1 (Held (edges_of read.pieces)) (slot_of (slice_index_or b.g1.starts n 0)) 0 (place_of recce) t) (sym read.holds.start)
+      let here : Derives b.g1 (Held recce.edges) (slot_of (slice_index_or b.g1.starts recce.start 0)) 0 (earleme_of recce) t =
+      subst (λ (l : List Edge). Derives b.g1 (Held l) (slot_of (slice_index_or b.g1.starts recce.start 0)) 0 (earleme_of recce) t) (sym read.holds.edges)
+      (subst (λ n. Derives b.g1 (Held (edges_of read.pieces)) (slot_of (slice_index_or b.g1.starts n 0)) 0 (earleme_of recce) t) (sym read.holds.start)
       (subst (λ n. Derives b.g1 (Held (edges_of read.pieces)) (slot_of (slice_index_or b.g1.starts 0 0)) 0 n t) (sym read.holds.place) d)) in
       none ((law b.g1 recce (slice_index_or b.g1.starts recce.start 0) checked read.holds.flat.made is (start_get is)).1 (t, here))
 
@@ -139,7 +137,7 @@ module _ (b : Built) (ranking : Ranking) (cs : List ℕ) (recce : Recognizer) (s
   no_derivation law checked is none text place expected are told where_is = record {
     pieces = read.pieces;
     reading = read.is_reading;
-    none = record { sorted = none_sorted; each = λ t. (λ among. absurd (no_element t among), λ (d, c). absurd (none_derived law checked is none t d)) };
+    none = record { sorted = none_sorted; each = λ t. (λ among. absurd (Contains-none t among), λ (d, c). absurd (none_derived law checked is none t d)) };
     are = are read.pieces read.holds;
     told = told;
     place_is = where_is;
@@ -148,7 +146,7 @@ module _ (b : Built) (ranking : Ranking) (cs : List ℕ) (recce : Recognizer) (s
 -- the steps of a forest, by an equal grammar
 abbrev StepsWithin : Recognizer → Ranking → Grammar → (before after : ℕ) → Type 0
 StepsWithin recce ranking w before after =
-    (n : ℕ) → IsCountOf (IsExpanded recce.flat (held_edges recce) (allowed_by w ranking recce.flat (held_edges recce)) (held_top recce) (place_of recce)) n → after ≤ before + n
+    (n : ℕ) → IsCountOf (IsExpanded recce.flat (held_edges recce) (allowed_by w ranking recce.flat (held_edges recce)) (held_top recce) (earleme_of recce)) n → after ≤ before + n
 
 pub steps_within : (recce : Recognizer) (ranking : Ranking) (w g : Grammar) (before after : ℕ) → w ≡ g → StepsWithin recce ranking w before after → StepsWithin recce ranking g before after
 steps_within recce ranking w g before after same within = subst (λ (x : Grammar). StepsWithin recce ranking x before after) same within
@@ -158,7 +156,7 @@ steps_within recce ranking w g before after same within = subst (λ (x : Grammar
 module _ (b : Built) (ranking : Ranking) (cs : List ℕ) (spans : List Span) (f : Forest) (has : HasForest b ranking cs spans f) where
   pub listed : (trees : List Tree) → IsListing f trees → AreDerivations b ranking has.pieces trees
   listed trees l =
-      all_as f.written b.g1 f.edges (edges_of has.pieces) f.ranking ranking f.start f.place (place_after has.pieces) trees
+      all_as f.written b.g1 f.edges (edges_of has.pieces) f.ranking ranking f.start f.place (earleme_after has.pieces) trees
       has.of.written has.of.edges has.ranking_is has.of.start has.of.place l
 
   -- the forest has a list

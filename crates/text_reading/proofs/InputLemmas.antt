@@ -71,7 +71,7 @@ pub broken_input : (bytes text : List ℕ) (e : TextRefusal) (at : ℕ) → e �
     IsBrokenText bytes text None expected
 broken_input bytes text e at is refuses told expected none =
     let broken = subst (RefusesText bytes) is refuses in
-    record { at = at; broken = broken.0; front = broken.1; told = told; place_is = refl; expected_is = none }
+    record { at = at; broken = broken.0; prefix = broken.1; told = told; place_is = refl; expected_is = none }
 
 -- AN INPUT THAT IS REFUSED
 
@@ -86,7 +86,7 @@ module _ (b : Built) (bytes text : List ℕ) (place : Option Place) (expected : 
 
   pub refused_broken : length bytes ≤ 16777216 → IsBrokenText bytes text place expected → IsInputRefusedAt b bytes text place expected
   refused_broken within broken = record {
-    refused = NotUtf8 broken.at (record { within = within; broken = broken.broken; front = broken.front }) broken.told;
+    refused = NotUtf8 broken.at (record { within = within; broken = broken.broken; prefix = broken.prefix }) broken.told;
     place_is = broken.place_is;
     expected_is = broken.expected_is;
   }

@@ -117,7 +117,7 @@ if_refused P Q f (Err refusal) tells = tells_weaker P Q f refusal tells
 pub refused_bytes : (bytes text : List ℕ) (e : TextRefusal) (at : ℕ) → length bytes ≤ 1048576 → e ≡ BrokenText at → RefusesText bytes e → text ≡ fault_text bytes (NotUtf8 at) → IsRefusedAt bytes text None
 refused_bytes bytes text e at within is refuses told =
     let broken = subst (RefusesText bytes) is refuses in
-    record { refused = ByText (NotUtf8 at) (record { within = within; broken = broken.0; front = broken.1 }) told; place_is = refl }
+    record { refused = ByText (NotUtf8 at) (record { within = within; broken = broken.0; prefix = broken.1 }) told; place_is = refl }
 
 pub bad_token : (cs text : List ℕ) (e : TokenRefusal) (at : ℕ) → e ≡ BadSpelling at → RefusesTokens cs e → text ≡ codes "grammar: bad token at " ++ place_text cs at → IsBadText cs text (Some (place_in cs at))
 bad_token cs text e at is refuses told = OfTokens at (subst (RefusesTokens cs) is refuses) told refl

@@ -15,7 +15,7 @@ use Rattle.language_model.specs.Description.{Statement, Describes, IsBadStatemen
 use Rattle.language_model.specs.Building.{Built, BuildFault, faults_of}
 use Rattle.language_model.specs.Texts.{IsBuiltOf}
 use Rattle.reading_model.specs.Accepted.{GrammarFault, HasGrammarFault}
-use Rattle.reading_model.specs.Reading.{Piece, Stopped, IsReading, AreExpected, edges_of, place_after}
+use Rattle.reading_model.specs.Reading.{Piece, Stopped, IsReading, AreExpected, edges_of, earleme_after}
 use Rattle.forest_model.specs.Forest.{Forest}
 use Rattle.run_model.specs.Texts.{place_text}
 use Rattle.run_model.specs.Refused.{build_text, grammar_text}
@@ -62,7 +62,7 @@ pub data IsBadDescription (cs : List ℕ) (d : List Statement) (text : List ℕ)
 pub record IsBrokenText (bytes text : List ℕ) (place : Option Place) (expected : List ℕ) : Type 0 where
   pub at : ℕ
   pub broken : ¬ (IsUtf8 bytes)
-  pub front : IsValidUpTo bytes at
+  pub prefix : IsValidUpTo bytes at
   pub told : text ≡ codes "input is not UTF-8 at byte " ++ decimal at
   pub place_is : place ≡ None
   pub expected_is : expected ≡ []
@@ -97,4 +97,4 @@ pub record HasForest (b : Built) (ranking : Ranking) (cs : List ℕ) (spans : Li
   pub of : IsForestOf b cs spans f pieces
   pub ranking_is : f.ranking ≡ ranking
   pub tree : Tree
-  pub chosen : IsChosenOf b.g1 (edges_of pieces) ranking 0 (place_after pieces) tree
+  pub chosen : IsChosenOf b.g1 (edges_of pieces) ranking 0 (earleme_after pieces) tree

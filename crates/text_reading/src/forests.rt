@@ -3,7 +3,7 @@ ghost use Rattle.std.specs.Prelude.{◌≡◌, ◌≤◌, ◌+◌, ℕ, None, le
 ghost use Rattle.recognizer_model.specs.Counts.{IsCountOf};
 ghost use Rattle.recognizer_model.specs.Chosen.{allowed_by};
 ghost use Rattle.recognizer_model.specs.Nodes.{IsExpanded};
-ghost use Rattle.earley_sets.specs.Recognizer.{edges_of, top_of, place_of};
+ghost use Rattle.earley_sets.specs.Recognizer.{edges_of, top_of, earleme_of};
 ghost use Rattle.scanless.specs.Reading.{IsReadingOf};
 ghost use Rattle.scanless.specs.declared.reading.Ending.TheVariants.{End};
 ghost use Rattle.run_model.specs.Telling.{no_derivation_text};
@@ -35,7 +35,7 @@ pub fn forest_of<'r, L: Ledger>(
     requires read { IsReadingOf prepared.now chars.now reading.now.recce reading.now.spans.items End }
     ensures forest { IfOk result (λ f. HasForest prepared.now ranking chars.now reading.now.spans.items f) }
     ensures refused { IfErr result (TellsInput (IsNoDerivation prepared.now ranking chars.now)) }
-    ensures counted { (n : ℕ) → IsCountOf (IsExpanded reading.now.recce.flat (edges_of reading.now.recce) (allowed_by prepared.now.g1 ranking reading.now.recce.flat (edges_of reading.now.recce)) (top_of reading.now.recce) (place_of reading.now.recce)) n → steps.new ≤ steps.old + n }
+    ensures counted { (n : ℕ) → IsCountOf (IsExpanded reading.now.recce.flat (edges_of reading.now.recce) (allowed_by prepared.now.g1 ranking reading.now.recce.flat (edges_of reading.now.recce)) (top_of reading.now.recce) (earleme_of reading.now.recce)) n → steps.new ≤ steps.old + n }
 {
     trees_are_derivations();
     prepared.known();

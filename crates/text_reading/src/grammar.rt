@@ -18,14 +18,15 @@ use scanless::{Prepared, prepare};
 use slif_base::{Chars, TextRefusal, chars_of};
 use std::alloc::Global;
 
-const LIMIT: usize = 1_048_576;
+/// The greatest length of a grammar, in bytes.
+pub const GRAMMAR_LIMIT: usize = 1_048_576;
 
 /// The grammars of a text, whatever its length.
 pub fn grammar_of(alloc: Global, bytes: &[u8]) -> Result<Prepared, Refusal>
     ensures read { IfOk result (Accepted bytes.now) }
     ensures refused { IfErr result (TellsGrammar (IsRefusedAt bytes.now)) }
 {
-    if bytes.len() > LIMIT {
+    if bytes.len() > GRAMMAR_LIMIT {
         let text = Vec::from_slice(alloc, b"grammar: longer than 1048576 bytes")?;
         return Err(Refusal::Grammar { text, place: None });
     }

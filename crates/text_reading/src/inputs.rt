@@ -19,6 +19,9 @@ use std::alloc::{AllocError, Global};
 use std::sync::ledger::Ledger;
 use value_text::NoMemory;
 
+/// The greatest length of an input, in bytes.
+pub const INPUT_LIMIT: usize = 16_777_216;
+
 /// The refusal of an input that is longer than 16,777,216 bytes.
 pub fn input_too_long(alloc: Global) -> Refusal
     ensures { (bytes : List ℕ) (b : Built) → 16777216 < length bytes → TellsInput (IsInputRefusedAt b bytes) result }

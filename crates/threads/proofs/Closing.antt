@@ -2,6 +2,8 @@
 use Rattle.std.proofs.Common.{◌≡◌, ◌↔◌, ◌⊎◌, inl, inr, ℕ, zero, suc, ◌+◌, ◌<◌, ◌≤◌, ◌++◌, List, [], ◌∷◌, length, take, get_or, slice_get, Some, None, Contains, refl, sym, ap, ◌∙◌, subst, arith, length-append, append_assoc, append-nil}
 use Rattle.std.proofs.lemmas.Bool.{cases_lt}
 use Rattle.std.proofs.lemmas.List.{get_or_append_left}
+use Rattle.std.proofs.lemmas.Option.{slice_get_within}
+use Rattle.finite_sets.proofs.Lists.{Contains-none, got_item, get_end, none_at_end, got_at}
 use Rattle.recognizer_model.specs.declared.thread.Label.{Label}
 use Rattle.recognizer_model.specs.declared.thread.Thread.{Thread}
 use Rattle.recognizer_model.specs.Flat.{FlatGrammar, IsRule, lhs_of, rhs_of, IsNullable}
@@ -9,7 +11,7 @@ use Rattle.recognizer_model.specs.Threads.{Row, next, begun, step, Reached, Begi
 use Rattle.threads.specs.Lists.{list_at, IsThread, AreThreads}
 use Rattle.threads.specs.Steps.{LeavesIn, LeadsTo, Predicts, Skips, Completes, HasNext, IsClosedIn}
 use Rattle.threads.specs.Closing.{Adds, Grows, IsBegun, AreCompleted, IsFollowed, IsClosedTo}
-use Rattle.threads.proofs.Listing.{Contains-none, got_at, got_item, contains_next, contains_pushed}
+use Rattle.threads.proofs.Listing.{contains_next, contains_pushed}
 
 -- ---- threads that are added
 
@@ -95,25 +97,9 @@ module _ (g : FlatGrammar) (x : ℕ) (th : Thread) (old mid : List Thread) (has 
 
 -- ---- what follows from a thread
 
--- a thread with nothing behind the dot has it at the end
-done_from : (xs : List ℕ) (n : ℕ) → n ≤ length xs → slice_get xs n ≡ None → n ≡ length xs
-done_from [] n le e = omega arith
-done_from (y ∷ ys) zero le e = absurd (cc)
-done_from (y ∷ ys) (suc n) le e = ap suc (done_from ys n (omega arith) e)
-
-done_past : (xs : List ℕ) (n : ℕ) → n ≡ length xs → slice_get xs n ≡ None
-done_past [] n e = refl
-done_past (y ∷ ys) zero e = absurd (omega arith)
-done_past (y ∷ ys) (suc n) e = done_past ys n (omega arith)
-
-pub part_within : (xs : List ℕ) (k x : ℕ) → slice_get xs k ≡ Some x → k < length xs
-part_within [] k x e = absurd (cc)
-part_within (y ∷ ys) zero x e = omega arith
-part_within (y ∷ ys) (suc k) x e = let h = part_within ys k x e in omega arith
-
 -- advanced, with a label that is known
 pub stepped : (g : FlatGrammar) (n m : ℕ) (th : Thread) (x : ℕ) (l : Label) → IsThread g n th → next g th ≡ Some x → l.part < m → IsThread g m (step th (Some l))
-stepped g n m th x l is e known = record { is_rule = is.is_rule; within = part_within (rhs_of g th.rule) th.dot x e; known = λ k s. (let same : l ≡ k = cc in subst (λ (z : Label). z.part < m) same known) }
+stepped g n m th x l is e known = record { is_rule = is.is_rule; within = slice_get_within (rhs_of g th.rule) th.dot x e; known = λ k s. (let same : l ≡ k = cc in subst (λ (z : Label). z.part < m) same known) }
 
 module _ (g : FlatGrammar) (parts : List (List Thread)) (th : Thread) (is : IsThread g (length parts) th) where
   pub begun_followed : (x : ℕ) → next g th ≡ Some x → (new : List Thread) → ((other : Thread) → Contains new other ↔ ((Contains [] other ⊎ IsBegun g x other) ⊎ (IsNullable g x × (other ≡ step th th.label)))) → IsFollowed g parts th new
@@ -127,12 +113,12 @@ module _ (g : FlatGrammar) (parts : List (List Thread)) (th : Thread) (is : IsTh
         | inl none ↦ absurd (Contains-none other none)
         | inr (r, rule, l, s) ↦ subst (IsThread g (length parts)) (sym s) (record { is_rule = rule; within = omega arith; known = λ k a. absurd (cc) })
       ]
-      | inr (n, s) ↦ subst (IsThread g (length parts)) (sym s) (record { is_rule = is.is_rule; within = part_within (rhs_of g th.rule) th.dot x e; known = is.known })
+      | inr (n, s) ↦ subst (IsThread g (length parts)) (sym s) (record { is_rule = is.is_rule; within = slice_get_within (rhs_of g th.rule) th.dot x e; known = is.known })
     ];
     whole = record {
       predicts = λ y r e' rule l. (let s : y ≡ x = cc in (has (begun r)).1 (inl (inr (r, rule, l ∙ s, refl))));
       skips = λ y e' n. (let s : y ≡ x = cc in (has (step th th.label)).1 (inr (subst (IsNullable g) s n, refl)));
-      completes = λ w l done. (let n = done_past (rhs_of g th.rule) th.dot done in absurd (cc));
+      completes = λ w l done. (let n = none_at_end (rhs_of g th.rule) th.dot done in absurd (cc));
     };
   }
 
@@ -149,7 +135,7 @@ module _ (g : FlatGrammar) (parts : List (List Thread)) (th : Thread) (is : IsTh
 
   pub completed_followed : next g th ≡ None → (l : Label) → th.label ≡ Some l → (new : List Thread) → AreCompleted g parts l [] new → IsFollowed g parts th new
   completed_followed e l at new c =
-      let done = done_from (rhs_of g th.rule) th.dot is.within e in
+      let done = get_end (rhs_of g th.rule) th.dot is.within e in
       record {
         sound = λ other h. elim (c.sound other h) [
           | inl none ↦ absurd (Contains-none other none)

@@ -6,20 +6,15 @@ use Rattle.std.specs.List.{list_any}
 use Rattle.std.specs.Option.{option_eq}
 use Rattle.std.specs.declared.vec.Vec.{Vec}
 use Rattle.std.specs.declared.alloc.Global.{Global}
-use Rattle.std.proofs.lemmas.Bool.Decides.{Decides-eqb}
+use Rattle.std.proofs.lemmas.Bool.Decides.{Decides-eqb, Decides-and}
 use Rattle.std.proofs.lemmas.Slice.Eq.{slice_eq-Decides}
 use Rattle.std.proofs.lemmas.List.{map-append}
+use Rattle.finite_sets.proofs.Lists.{Contains-none}
 use Rattle.indexmap.specs.IndexSet.{insert_key}
 use Rattle.recognizer_model.specs.declared.thread.Label.{Label}
 use Rattle.recognizer_model.specs.declared.thread.Thread.{Thread}
 use Rattle.threads.specs.Lists.{lists_of, list_at}
 use Rattle.threads.specs.Closing.{Adds}
-use Rattle.threads.proofs.Listing.{Contains-none}
-
-both_decide : (a b : Bool) {P Q : Type 0} → Decides a P → Decides b Q → Decides (a && b) (P × Q)
-both_decide true true p q = (λ t. (p.0 refl, q.0 refl), λ h. refl)
-both_decide true false p q = (λ t. absurd (true≢false (sym t)), λ (x, y). absurd (true≢false (sym (q.1 y))))
-both_decide false b p q = (λ t. absurd (true≢false (sym t)), λ (x, y). absurd (true≢false (sym (p.1 x))))
 
 option_decides : {X : Type 0} (E : X → X → Bool) → ((a b : X) → Decides (E a b) (a ≡ b)) → (x y : Option X) → Decides (option_eq E x y) (x ≡ y)
 option_decides E same None None = (λ t. refl, λ h. refl)
@@ -35,15 +30,15 @@ thread_eq x y = (x.rule == y.rule) && ((x.dot == y.dot) && option_eq label_eq x.
 
 labels_decide : (x y : Label) → Decides (label_eq x y) (x ≡ y)
 labels_decide x y =
-    let d = both_decide (x.part == y.part) (x.goal == y.goal) (Decides-eqb x.part y.part) (Decides-eqb x.goal y.goal) in (
+    let d = Decides-and (x.part == y.part) (x.goal == y.goal) (Decides-eqb x.part y.part) (Decides-eqb x.goal y.goal) in (
       λ t. (let (a, b) = d.0 t in λ i. record { part = a i; goal = b i }),
       λ e. d.1 (ap (λ (z : Label). z.part) e, ap (λ (z : Label). z.goal) e),
     )
 
 pub threads_decide : (x y : Thread) → Decides (thread_eq x y) (x ≡ y)
 threads_decide x y =
-    let d = both_decide (x.rule == y.rule) ((x.dot == y.dot) && option_eq label_eq x.label y.label) (Decides-eqb x.rule y.rule)
-    (both_decide (x.dot == y.dot) (option_eq label_eq x.label y.label) (Decides-eqb x.dot y.dot) (option_decides label_eq labels_decide x.label y.label)) in (
+    let d = Decides-and (x.rule == y.rule) ((x.dot == y.dot) && option_eq label_eq x.label y.label) (Decides-eqb x.rule y.rule)
+    (Decides-and (x.dot == y.dot) (option_eq label_eq x.label y.label) (Decides-eqb x.dot y.dot) (option_decides label_eq labels_decide x.label y.label)) in (
       λ t. (let (a, bc) = d.0 t in let (b, c) = bc in λ i. record { rule = a i; dot = b i; label = c i }),
       λ e. d.1 (ap (λ (z : Thread). z.rule) e, (ap (λ (z : Thread). z.dot) e, ap (λ (z : Thread). z.label) e)),
     )

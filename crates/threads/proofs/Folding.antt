@@ -2,6 +2,8 @@
 use Rattle.std.proofs.Common.{◌≡◌, inl, inr, ℕ, ◌+◌, ◌<◌, List, [], length, take, get_or, slice_get, Option, Some, None, false, true≢false, Contains, refl, sym, ap, ◌∙◌, subst}
 use Rattle.std.specs.Option.{IfSome, is_some}
 use Rattle.std.proofs.lemmas.List.Elements.{Contains-get_or}
+use Rattle.std.proofs.lemmas.Option.{slice_get-get_or}
+use Rattle.finite_sets.proofs.Lists.{Contains-none}
 use Rattle.recognizer_model.specs.declared.thread.Thread.{Thread}
 use Rattle.recognizer_model.specs.declared.flat.FlatSymbol.{FlatSymbol}
 use Rattle.recognizer_model.specs.declared.flat.FlatSymbol.TheVariants.{Terminal, Slot, Sequence, Top}
@@ -10,7 +12,7 @@ use Rattle.recognizer_model.specs.Flat.{FlatGrammar, IsRule, lhs_of, source_of}
 use Rattle.recognizer_model.specs.Invariant.{IsFlat, HasSource}
 use Rattle.recognizer_model.specs.Threads.{next, IsTopRule}
 use Rattle.threads.specs.Folding.{IsOnly}
-use Rattle.threads.proofs.Listing.{Contains-none, get_at, contains_next}
+use Rattle.threads.proofs.Listing.{contains_next}
 
 module _ (g : FlatGrammar) (row : List Thread) (x : ℕ) where
   -- what was found among some of the row's threads
@@ -47,14 +49,14 @@ none_of (Some x) e = absurd (true≢false e)
 
 module _ (g : FlatGrammar) (flat : IsFlat g) (r : ℕ) where
   pub top_of_source : (k : ℕ) → IsRule g r → source_of g r ≡ OfStart k → IsTopRule g r
-  top_of_source k rule e = go (get_or g.symbols (lhs_of g r) (Top 0)) (get_at g.symbols (lhs_of g r) (Top 0) (flat.in_range.left r rule))
+  top_of_source k rule e = go (get_or g.symbols (lhs_of g r) (Top 0)) (slice_get-get_or g.symbols (lhs_of g r) (Top 0) (flat.in_range.left r rule))
     where
       go : (s : FlatSymbol) → slice_get g.symbols (lhs_of g r) ≡ Some s → IsTopRule g r
       go (Terminal t) at = absurd (subst (HasSource (Terminal t)) e (flat.sources r (Terminal t) rule at))
       go (Slot s level) at = absurd (subst (HasSource (Slot s level)) e (flat.sources r (Slot s level) rule at))
       go (Sequence i) at = absurd (subst (HasSource (Sequence i)) e (flat.sources r (Sequence i) rule at))
       go (Top j) at =
-          let top = get_at g.tops j 0 (flat.all_tops (lhs_of g r) j at) in
+          let top = slice_get-get_or g.tops j 0 (flat.all_tops (lhs_of g r) j at) in
           let is = flat.tops j (get_or g.tops j 0) top in
           let same = is.is_top.alone r rule (flat.differ (lhs_of g r) (lhs_of g (get_or g.tops j 0)) (Top j) at is.symbol) in
           (j, top ∙ ap Some (sym same))

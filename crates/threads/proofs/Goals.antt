@@ -4,12 +4,13 @@ use Rattle.std.specs.Option.{is_some}
 use Rattle.std.proofs.lemmas.Bool.{cases_lt}
 use Rattle.std.proofs.lemmas.List.{get_or_append_left}
 use Rattle.std.proofs.lemmas.List.Elements.{Contains-append_left}
+use Rattle.finite_sets.proofs.Lists.{Contains-none, got_at}
 use Rattle.recognizer_model.specs.declared.thread.Thread.{Thread}
 use Rattle.recognizer_model.specs.Flat.{FlatGrammar, lhs_of}
 use Rattle.recognizer_model.specs.Threads.{next}
 use Rattle.threads.specs.Goals.{HasAdded, HasAddedLefts}
 use Rattle.threads.specs.Steps.{HasLefts}
-use Rattle.threads.proofs.Listing.{Contains-none, got_at, contains_next, contains_pushed}
+use Rattle.threads.proofs.Listing.{contains_next, contains_pushed}
 
 pub not_none : {X : Type 0} (o : Option X) (b : Bool) → is_some o ≡ not b → b ≡ false → o ≡ None → ⊥
 not_none None b e f n = true≢false (sym (e ∙ ap not f))

@@ -2,14 +2,14 @@
 use Rattle.std.proofs.Common.{◌≡◌, ◌⊎◌, inl, inr, ◌↔◌, ℕ, ◌+◌, ◌-◌, ◌<◌, ◌≤◌, List, [], Option, Some, None, length, take, drop, Contains, refl, sym, ◌∙◌, ap, subst, arith}
 use Rattle.std.specs.Prelude.{slice_index_or}
 use Rattle.std.proofs.lemmas.Bool.{cases_lt}
-use Rattle.grammar_core.proofs.Halving.{index_get}
+use Rattle.finite_sets.proofs.Lists.{Contains-none, get_index}
 use Rattle.grammar_core.proofs.Placed.{part_from, part_to, found_at, at_found}
 use Rattle.recognizer_model.specs.declared.thread.Thread.{Thread}
 use Rattle.recognizer_model.specs.Flat.{FlatGrammar}
 use Rattle.recognizer_model.specs.Threads.{next, Waiting}
 use Rattle.threads.specs.Steps.{IsLoneIn}
 use Rattle.threads.specs.Goals.{HasAddedLefts}
-use Rattle.threads.proofs.Listing.{Contains-none, contains_next}
+use Rattle.threads.proofs.Listing.{contains_next}
 use Rattle.threads.specs.Order.{or_end, awaited, IsOrderOf}
 
 or_end_is : (o : Option ℕ) (x : ℕ) → x < 4294967296 → or_end o ≡ x → o ≡ Some x
@@ -35,7 +35,7 @@ module _ (g : FlatGrammar) (row : List Thread) (x : ℕ) (few : x < 4294967296) 
       there' : Contains (take (end - start) (drop start row)) th → Contains row th × (next g th ≡ Some x)
       there' h =
           let (k, from, to, is) = part_from row start end start_first be th h in
-          let (lt, same) = index_get row k th th is in
+          let (lt, same) = get_index row k th th is in
           let p = a1 k th from lt in
           let q = b2 k th to in
           let s = ap (λ (z : Thread). awaited g z) same in
@@ -44,7 +44,7 @@ module _ (g : FlatGrammar) (row : List Thread) (x : ℕ) (few : x < 4294967296) 
       back : Contains row th × (next g th ≡ Some x) → Contains (take (end - start) (drop start row)) th
       back (c, e) =
           let (k, is) = found_at row th c in
-          let (lt, same) = index_get row k th th is in
+          let (lt, same) = get_index row k th th is in
           let s = ap (λ (z : Thread). awaited g z) same in
           let it : awaited g th ≡ x = ap or_end e in
           part_to row start end start_first be k th (first k lt (s ∙ it)) (last k lt (s ∙ it)) is

@@ -2,6 +2,7 @@
 use Rattle.std.proofs.Common.{◌≡◌, ◌↔◌, ◌⊎◌, inl, inr, ℕ, zero, suc, ◌+◌, ◌<◌, ◌≤◌, ◌++◌, List, [], ◌∷◌, length, take, get_or, slice_get, Some, Contains, refl, sym, ap, ◌∙◌, subst, arith, length-append, append_assoc, append-nil}
 use Rattle.std.proofs.lemmas.Bool.{cases_lt}
 use Rattle.std.proofs.lemmas.List.{get_or_append_left, get_or-append-add}
+use Rattle.finite_sets.proofs.Lists.{Contains-none}
 use Rattle.recognizer_model.specs.declared.thread.Label.{Label}
 use Rattle.recognizer_model.specs.declared.thread.Thread.{Thread}
 use Rattle.recognizer_model.specs.Flat.{FlatGrammar, lhs_of}
@@ -10,7 +11,7 @@ use Rattle.recognizer_model.specs.Threads.{Row, next, begun, step, IsClosed, IsS
 use Rattle.recognizer_model.proofs.Threads.{closed_grown}
 use Rattle.threads.specs.Lists.{list_at, IsGrown, IsThread, AreThreads, AreParts}
 use Rattle.threads.specs.Steps.{IsPartIn, LeavesIn, HasLefts, AreSeeds, IsReadBy, IsClosedIn, Keeps, IsNext, IsBegin}
-use Rattle.threads.proofs.Listing.{Contains-none, contains_next, contains_pushed}
+use Rattle.threads.proofs.Listing.{contains_next, contains_pushed}
 use Rattle.threads.proofs.Closing.{stepped}
 
 pub grown_same : (parts : List (List Thread)) → IsGrown parts parts

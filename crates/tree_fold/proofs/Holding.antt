@@ -56,8 +56,8 @@ module _ (g : Grammar) (places : ℕ) where
   length_behind held (TokenStep symbol from to) v can = omega (arith, length-append held (v ∷ []))
   length_behind held (NulledStep symbol at) v can = omega (arith, length-append held (v ∷ []))
   length_behind held (RuleStep rule n from to) v can =
-      let front : length (take (length held - n) held) ≡ length held - n = length-take-le (length held - n) held (omega arith) in
-      omega (arith, front, length-append (take (length held - n) held) (v ∷ []))
+      let prefix : length (take (length held - n) held) ≡ length held - n = length-take-le (length held - n) held (omega arith) in
+      omega (arith, prefix, length-append (take (length held - n) held) (v ∷ []))
 
   pub can_go_on : {V : Type 0} (held left new : List V) (v : V) (list : List TreeStep) (i : ℕ) (s : TreeStep) → i < length list → s ≡ get_or list i s → CanTellAll g places (length held) (map step_of (drop i list)) →
       left ≡ left_of held (step_of s) → new ≡ left ++ v ∷ [] → CanTellAll g places (length new) (map step_of (drop (i + 1) list))
@@ -88,15 +88,15 @@ module _ {V E : Type 0} (token_gives : List ℕ → Token → Result V E → Typ
       none_left (suc k) [] b = refl
       none_left (suc k) (x ∷ xs) b = none_left k xs (omega (arith, b))
   newest_have (suc n) NoChild vs le h = absurd (omega (arith, le, ap length h))
-  newest_have (suc n) (Child front last) vs le (ws, v, e, h, has) =
+  newest_have (suc n) (Child prefix last) vs le (ws, v, e, h, has) =
       let count : length vs ≡ suc (length ws) = ap length e ∙ omega (arith, length-append ws (v ∷ [])) in
       let at : length vs - suc n ≡ length ws - n = omega (arith, count) in
-      let (below, top) = newest_have n front ws (omega (arith, le, count)) h in
+      let (below, top) = newest_have n prefix ws (omega (arith, le, count)) h in
       let kept : take (length vs - suc n) vs ≡ take (length ws - n) ws =
       ap (λ k. take k vs) at ∙ ap (take (length ws - n)) e ∙ take-append-le (length ws - n) ws (v ∷ []) (omega arith) in
       let taken : drop (length vs - suc n) vs ≡ drop (length ws - n) ws ++ v ∷ [] =
       ap (λ k. drop k vs) at ∙ ap (drop (length ws - n)) e ∙ drop-append-le (length ws - n) ws (v ∷ []) (omega arith) in
-      (subst (Have (below_newest n front)) (sym kept) below, (drop (length ws - n) ws, v, taken, top, has))
+      (subst (Have (below_newest n prefix)) (sym kept) below, (drop (length ws - n) ws, v, taken, top, has))
 
   have_behind : (places : ℕ) (stack : Children) (held left new : List V) (step : Step) (v : V) → CanTell g places (length held) step → Have stack held → Given held step (Ok v) → left ≡ left_of held step → new ≡ left ++ v ∷ [] →
       Have (after_step stack step) new

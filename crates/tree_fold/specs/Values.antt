@@ -26,7 +26,7 @@ module _ {V E : Type 0} (token_gives : List ℕ → Token → Result V E → Typ
 
     pub HaveValues : Children → List V → Type 0
     HaveValues NoChild vs = vs ≡ []
-    HaveValues (Child front last) vs = (ws : List V) × (v : V) × (vs ≡ ws ++ v ∷ []) × HaveValues front ws × HasValue last v
+    HaveValues (Child prefix last) vs = (ws : List V) × (v : V) × (vs ≡ ws ++ v ∷ []) × HaveValues prefix ws × HasValue last v
 
   -- what comes of a step over the values held, of which the newest are its children's
   abbrev pub Gives : (held : List V) → Step → Result V E → Type 0

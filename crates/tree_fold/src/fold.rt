@@ -1,4 +1,4 @@
-// The fold of a derivation's steps.
+//! The fold of a derivation's steps.
 ghost use Rattle.std.specs.Prelude.{◌≡◌, ◌<◌, Ok, Err, length, map, IfOk, IfErr, OnOk};
 ghost use Rattle.grammar_model.specs.Grammar.{lhs_of};
 ghost use Rattle.grammar_model.specs.Trees.{Tree};

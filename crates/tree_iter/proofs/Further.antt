@@ -3,9 +3,9 @@ use Rattle.std.proofs.Common.{◌≡◌, ℕ, zero, suc, ◌+◌, ◌-◌, ◌*�
 use Rattle.std.specs.Prelude.{slice_get}
 use Rattle.std.specs.declared.vec.Vec.{Vec}
 use Rattle.grammar_model.specs.Steps.{Step}
-use Rattle.forest_model.specs.Forest.{Last, AnEdge, Nothing, Wholes, ForestNode, Forest}
-use Rattle.forest_laws.specs.Lists.{last_symbol}
-use Rattle.forest_laws.specs.Goals.{Goal, Parts, OneOf, Write, front_goals, last_goals, whole_goals, alternative_goals, node_options, options}
+use Rattle.forest_model.specs.Forest.{Cause, AnEdge, Nothing, Wholes, ForestNode, Forest}
+use Rattle.forest_laws.specs.Lists.{cause_symbol}
+use Rattle.forest_laws.specs.Goals.{Goal, Parts, OneOf, Write, predecessor_goals, cause_goals, whole_goals, alternative_goals, node_options, options}
 use Rattle.tree_iter.specs.declared.goals.GoalRow.{GoalRow}
 use Rattle.tree_iter.specs.declared.goals.Put.{Put}
 use Rattle.tree_iter.specs.declared.walk.Walk.{Walk}
@@ -21,7 +21,7 @@ weights_both (x ∷ a) b = let h = weights_both a b in omega arith
 
 -- an option is further than its goal
 
-last_weights : (symbol start end : ℕ) (last : Last) → 0 < weights (last_goals symbol start end last)
+last_weights : (symbol start end : ℕ) (last : Cause) → 0 < weights (cause_goals symbol start end last)
 last_weights symbol start end AnEdge = omega arith
 last_weights symbol start end Nothing = omega arith
 last_weights symbol start end (Wholes nodes) = omega arith
@@ -30,11 +30,11 @@ parts_further : (f : Forest) (node : Option ForestNode) (k : ℕ) (option : List
 parts_further f None k option there = cc
 parts_further f (Some node) k option there =
     let r = mapped_at (alternative_goals f node) node.alternatives k option there in
-    let fronts = front_goals r.x.front in
-    let lasts = last_goals (last_symbol f node.key) r.x.start node.key.end r.x.last in
-    let both = weights_both fronts lasts in
-    let some = last_weights (last_symbol f node.key) r.x.start node.key.end r.x.last in
-    let more : 0 < weights (fronts ++ lasts) = omega arith in
+    let predecessors = predecessor_goals r.x.predecessor in
+    let causes = cause_goals (cause_symbol f node.key) r.x.start node.key.end r.x.cause in
+    let both = weights_both predecessors causes in
+    let some = last_weights (cause_symbol f node.key) r.x.start node.key.end r.x.cause in
+    let more : 0 < weights (predecessors ++ causes) = omega arith in
     subst (λ o. 0 < weights o) r.is more
 
 option_further : (f : Forest) (goal : Goal) (k : ℕ) (option : List Goal) → slice_get (options f goal) k ≡ Some option → weight goal < weights option

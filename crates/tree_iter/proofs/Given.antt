@@ -6,13 +6,15 @@ use Rattle.grammar_model.specs.Steps.{Step, steps_of}
 use Rattle.grammar_model.proofs.ChosenOnce.{chosen_unique}
 use Rattle.grammar_model.specs.Derives.{Held}
 use Rattle.std.specs.Prelude.{slice_get, slice_index_or}
+use Rattle.std.proofs.lemmas.List.{map-append, length-map}
+use Rattle.finite_sets.proofs.Lists.{get_last}
 use Rattle.recognizer_model.specs.Links.{choices}
 use Rattle.forest_model.specs.Forest.{Forest, IsForest}
 use Rattle.forest_model.specs.Listing.{IsListing, AreFirst}
 use Rattle.forest_laws.specs.Lists.{Lists, roots_by}
 use Rattle.forest_laws.specs.Laws.{AreAllLists}
 use Rattle.forest_laws.specs.Written.{steps_written}
-use Rattle.forest_laws.proofs.Taken.{fronts_are_taken}
+use Rattle.forest_laws.proofs.Taken.{prefixes_are_taken}
 use Rattle.tree_iter.specs.declared.walk.Walk.{Walk}
 use Rattle.tree_iter.specs.declared.walk.Place.{Place}
 use Rattle.tree_iter.specs.declared.walk.Place.TheVariants.{Walking, Between}
@@ -21,49 +23,36 @@ use Rattle.tree_iter.specs.declared.iter.Current.TheVariants.{Nothing, Walked}
 use Rattle.tree_iter.specs.Iteration.{Iteration, AreGiven, IsAnswer, AreFew}
 use Rattle.grammar_core.specs.declared.steps.TreeStep.{TreeStep}
 use Rattle.tree_iter.specs.Walk.{AreFewLooks, Remain, Advances, Reaches, current_of, IsUnderWay}
-use Rattle.tree_iter.proofs.Linked.{get_behind}
 use Rattle.tree_iter.proofs.Trails.{same_ends}
 
-append_nil : {X : Type 0} (xs : List X) → xs ++ [] ≡ xs
-append_nil [] = refl
-append_nil (x ∷ xs) = ap (λ l. x ∷ l) (append_nil xs)
-
-map_both : {X Y : Type 0} (f : X → Y) (xs ys : List X) → map f (xs ++ ys) ≡ map f xs ++ map f ys
-map_both f [] ys = refl
-map_both f (x ∷ xs) ys = ap (λ l. f x ∷ l) (map_both f xs ys)
-
-map_length : {X Y : Type 0} (f : X → Y) (xs : List X) → length (map f xs) ≡ length xs
-map_length f [] = refl
-map_length f (x ∷ xs) = ap suc (map_length f xs)
-
-same_fronts : {X : Type 0} (xs ys us vs : List X) → xs ++ us ≡ ys ++ vs → length xs ≡ length ys → xs ≡ ys
-same_fronts [] [] us vs e l = refl
-same_fronts [] (y ∷ ys) us vs e l = absurd (omega arith)
-same_fronts (x ∷ xs) [] us vs e l = absurd (omega arith)
-same_fronts (x ∷ xs) (y ∷ ys) us vs e l =
+same_prefixes : {X : Type 0} (xs ys us vs : List X) → xs ++ us ≡ ys ++ vs → length xs ≡ length ys → xs ≡ ys
+same_prefixes [] [] us vs e l = refl
+same_prefixes [] (y ∷ ys) us vs e l = absurd (omega arith)
+same_prefixes (x ∷ xs) [] us vs e l = absurd (omega arith)
+same_prefixes (x ∷ xs) (y ∷ ys) us vs e l =
     let tails : xs ++ us ≡ ys ++ vs = cc in
     let heads : x ≡ y = cc in
-    let r = same_fronts xs ys us vs tails (omega arith) in
+    let r = same_prefixes xs ys us vs tails (omega arith) in
     λ i. heads i ∷ r i
 
 record IsEnded {X : Type 0} (xs : List X) : Type 0 where
-  front : List X
+  prefix : List X
   last : X
-  is : xs ≡ front ++ last ∷ []
+  is : xs ≡ prefix ++ last ∷ []
 
 ended : {X : Type 0} (n : ℕ) (xs : List X) → length xs ≡ suc n → IsEnded xs
 ended n [] e = absurd (omega arith)
-ended zero (x ∷ []) e = record { front = []; last = x; is = refl }
+ended zero (x ∷ []) e = record { prefix = []; last = x; is = refl }
 ended zero (x ∷ y ∷ xs) e = absurd (omega arith)
 ended (suc n) (x ∷ xs) e =
     let r = ended n xs (omega arith) in
-    record { front = x ∷ r.front; last = r.last; is = ap (λ l. x ∷ l) r.is }
+    record { prefix = x ∷ r.prefix; last = r.last; is = ap (λ l. x ∷ l) r.is }
 
 listings_same : (f : Forest) (ts us : List Tree) → IsListing f ts → IsListing f us → ts ≡ us
 listings_same f ts us a b = chosen_unique f.written (Held f.edges) f.ranking (slot_of (slice_index_or f.written.starts f.start 0)) 0 f.place ts us a b
 
-pub fronts_same : (f : Forest) (a b : List Tree) → AreFirst f a → AreFirst f b → length a ≡ length b → a ≡ b
-fronts_same f a b g h l = same_fronts a b g.rest h.rest (listings_same f (a ++ g.rest) (b ++ h.rest) g.listing h.listing) l
+pub prefixes_same : (f : Forest) (a b : List Tree) → AreFirst f a → AreFirst f b → length a ≡ length b → a ≡ b
+prefixes_same f a b g h l = same_prefixes a b g.rest h.rest (listings_same f (a ++ g.rest) (b ++ h.rest) g.listing h.listing) l
 
 -- behind those given before, this one is next
 record IsNext (f : Forest) (given : List Tree) (first : List Step) : Type 0 where
@@ -76,29 +65,29 @@ next_is : (f : Forest) (lists : Lists) → IsForest f → AreAllLists f lists �
     (given : List Tree) → AreFirst f given → length given ≡ length taken → IsNext f given first
 next_is f lists is all taken later first e given g l =
     let W : List Step → List Step = steps_written f.written f.flat [] in
-    let t = fronts_are_taken f lists (taken ++ first ∷ []) later is all (e ∙ sym (append_assoc taken (first ∷ []) later)) in
+    let t = prefixes_are_taken f lists (taken ++ first ∷ []) later is all (e ∙ sym (append_assoc taken (first ∷ []) later)) in
     let sizes : length t.given ≡ suc (length taken) =
-    sym (map_length steps_of t.given) ∙ ap (λ (x : List (List Step)). length x) (sym t.steps) ∙ map_length W (taken ++ first ∷ []) ∙ length-append taken (first ∷ []) ∙ (let n : length taken + 1 ≡ suc (length taken) = omega arith in n) in
+    sym (length-map t.given steps_of) ∙ ap (λ (x : List (List Step)). length x) (sym t.steps) ∙ length-map (taken ++ first ∷ []) W ∙ length-append taken (first ∷ []) ∙ (let n : length taken + 1 ≡ suc (length taken) = omega arith in n) in
     let r = ended (length taken) t.given sizes in
-    let longer : length t.given ≡ length (r.front ++ r.last ∷ []) = ap (λ (x : List Tree). length x) r.is in
-    let parts = length-append r.front (r.last ∷ []) in
-    let whole : AreFirst f (r.front ++ r.last ∷ []) = subst (AreFirst f) r.is t.first in
-    let front : AreFirst f r.front = record { rest = r.last ∷ whole.rest; listing = subst (IsListing f) (append_assoc r.front (r.last ∷ []) whole.rest) whole.listing } in
-    let count : length given ≡ length r.front = omega arith in
-    let same : r.front ≡ given = sym (fronts_same f given r.front g front count) in
-    let ends = same_ends (map W taken) (map steps_of r.front) (W first) (steps_of r.last)
-    (sym (map_both W taken (first ∷ [])) ∙ t.steps ∙ ap (map steps_of) r.is ∙ map_both steps_of r.front (r.last ∷ [])) in
-    let few = t.few (length taken) first r.last (get_behind taken first)
-    (subst (λ l. slice_get l (length taken) ≡ Some r.last) (sym r.is) (subst (λ k. slice_get (r.front ++ r.last ∷ []) k ≡ Some r.last) (let at : length r.front ≡ length taken = omega arith in at) (get_behind r.front r.last))) in
+    let longer : length t.given ≡ length (r.prefix ++ r.last ∷ []) = ap (λ (x : List Tree). length x) r.is in
+    let parts = length-append r.prefix (r.last ∷ []) in
+    let whole : AreFirst f (r.prefix ++ r.last ∷ []) = subst (AreFirst f) r.is t.first in
+    let prefix : AreFirst f r.prefix = record { rest = r.last ∷ whole.rest; listing = subst (IsListing f) (append_assoc r.prefix (r.last ∷ []) whole.rest) whole.listing } in
+    let count : length given ≡ length r.prefix = omega arith in
+    let same : r.prefix ≡ given = sym (prefixes_same f given r.prefix g prefix count) in
+    let ends = same_ends (map W taken) (map steps_of r.prefix) (W first) (steps_of r.last)
+    (sym (map-append W taken (first ∷ [])) ∙ t.steps ∙ ap (map steps_of) r.is ∙ map-append steps_of r.prefix (r.last ∷ [])) in
+    let few = t.few (length taken) first r.last (get_last taken first)
+    (subst (λ l. slice_get l (length taken) ≡ Some r.last) (sym r.is) (subst (λ k. slice_get (r.prefix ++ r.last ∷ []) k ≡ Some r.last) (let at : length r.prefix ≡ length taken = omega arith in at) (get_last r.prefix r.last))) in
     record { tree = r.last; are_first = subst (λ g'. AreFirst f (g' ++ r.last ∷ [])) same whole; steps = ends.lasts; few = few }
 
 all_given : (f : Forest) (lists : Lists) → IsForest f → AreAllLists f lists → (taken rest : List (List Step)) → map steps_of (roots_by f lists f.root) ≡ taken ++ rest → rest ≡ [] →
     (given : List Tree) → AreFirst f given → length given ≡ length taken → IsListing f given
 all_given f lists is all taken rest e none given g l =
-    let t = fronts_are_taken f lists taken rest is all e in
+    let t = prefixes_are_taken f lists taken rest is all e in
     let W : List Step → List Step = steps_written f.written f.flat [] in
-    let sizes : length t.given ≡ length taken = sym (map_length steps_of t.given) ∙ ap (λ (x : List (List Step)). length x) (sym t.steps) ∙ map_length W taken in
-    subst (IsListing f) (fronts_same f t.given given t.first g (sizes ∙ sym l)) (t.all none)
+    let sizes : length t.given ≡ length taken = sym (length-map t.given steps_of) ∙ ap (λ (x : List (List Step)). length x) (sym t.steps) ∙ length-map taken W in
+    subst (IsListing f) (prefixes_same f t.given given t.first g (sizes ∙ sym l)) (t.all none)
 
 -- ---- the iterator
 
@@ -139,7 +128,7 @@ few_more w n given place current old copy forest u r before after few trees g = 
     let same : w.forest.now ≡ n.forest.now = ap (λ (x : _). x.now) (sym forest) in
     let next = next_is w.forest.now u.lists (is_forest w u.rest place u.remain) u.all u.taken r.later r.first (u.both ∙ ap (λ l. u.taken ++ l) r.rest_is) trees g.first (g.count ∙ sym u.count) in
     let held : AreFirst w.forest.now (trees ++ tree ∷ []) = subst (λ f. AreFirst f (trees ++ tree ∷ [])) (sym same) h.first in
-    let one = same_ends trees trees tree next.tree (fronts_same w.forest.now (trees ++ tree ∷ []) (trees ++ next.tree ∷ []) held next.are_first (length-append trees (tree ∷ []) ∙ sym (length-append trees (next.tree ∷ [])))) in
+    let one = same_ends trees trees tree next.tree (prefixes_same w.forest.now (trees ++ tree ∷ []) (trees ++ next.tree ∷ []) held next.are_first (length-append trees (tree ∷ []) ∙ sym (length-append trees (next.tree ∷ [])))) in
     let bound : length r.first ≤ suc (choices tree) = subst (λ t. length r.first ≤ suc (choices t)) (sym one.lasts) next.few in
     let counts = r.counts in
     omega arith

@@ -1,20 +1,22 @@
 -- Goals that are put on stacks, and what is always so of a forest's goals.
 use Rattle.std.proofs.Common.{◌≡◌, ℕ, zero, suc, ◌+◌, ◌-◌, ◌<◌, ◌≤◌, List, [], ◌∷◌, ◌++◌, length, map, Option, Some, None, refl, sym, ap, ◌∙◌, subst, append_assoc, arith}
 use Rattle.std.specs.Prelude.{slice_get, slice_index_or, Contains}
-use Rattle.std.proofs.lemmas.Option.{slice_get_within}
+use Rattle.std.proofs.lemmas.Option.{slice_get_within, slice_get-get_or}
+use Rattle.std.proofs.lemmas.List.{length-map}
+use Rattle.finite_sets.proofs.Members.{contains_from}
+use Rattle.finite_sets.proofs.Lists.{get_map, get_among}
 use Rattle.grammar_model.specs.Steps.{NulledStep, RuleStep}
-use Rattle.grammar_model.proofs.Lists.{contains_from}
 use Rattle.recognizer_model.specs.declared.NodeKey.{NodeKey}
-use Rattle.recognizer_model.specs.Flat.{FlatGrammar, FlatRule, no_rule, IsRule, rhs_of, lhs_of}
-use Rattle.forest_model.specs.Forest.{Last, AnEdge, Nothing, Wholes, Alternative, ForestNode, Forest, top_of, AreAlternatives, IsForest, IsRoot}
-use Rattle.forest_laws.specs.Lists.{Lists, last_symbol, rule_of}
-use Rattle.forest_laws.specs.Goals.{Goal, Parts, OneOf, Write, count_of, front_goals, last_goals, whole_goals, alternative_goals, node_options, options, IsGoal, AreGoals, root_goals, GoalsAreChosen}
-use Rattle.forest_laws.proofs.Lists.{get_among}
+use Rattle.recognizer_model.specs.Flat.{FlatGrammar, IsRule, rhs_of, lhs_of}
+use Rattle.forest_model.specs.Forest.{Cause, AnEdge, Nothing, Wholes, Alternative, ForestNode, Forest, top_of, AreAlternatives, IsForest, IsRoot}
+use Rattle.forest_laws.specs.Lists.{Lists, cause_symbol, rule_of}
+use Rattle.forest_laws.specs.Goals.{Goal, Parts, OneOf, Write, count_of, predecessor_goals, cause_goals, whole_goals, alternative_goals, node_options, options, IsGoal, AreGoals, root_goals, GoalsAreChosen}
 use Rattle.bocage.specs.Readers.{alternative_at, node_at}
 use Rattle.tree_iter.specs.declared.goals.GoalRow.{GoalRow}
 use Rattle.tree_iter.specs.declared.goals.Put.{Put}
 use Rattle.tree_iter.specs.Goals.{goal_of, IsStack, IsReady, AreReady, unit, units, look, Puts, PutsOption}
 use Rattle.tree_iter.proofs.Linked.{linked_push, grows_then}
+use Rattle.recognizer_model.proofs.Sources.{rule_there}
 
 -- ---- stacks
 
@@ -46,11 +48,6 @@ pub ready_both : (f : Forest) (a b : List Goal) → AreReady f a → AreReady f 
 ready_both f [] b h g = g
 ready_both f (x ∷ a) b (is, backed, h) g = let both = units_both a b in (is, omega (arith, both, backed), ready_both f a b h g)
 
-part_is_rule : (rules : List FlatRule) (r d x : ℕ) → slice_get (slice_index_or rules r no_rule).rhs d ≡ Some x → r < length rules
-part_is_rule [] r d x e = cc
-part_is_rule (rule ∷ rules) zero d x e = omega arith
-part_is_rule (rule ∷ rules) (suc r) d x e = let h = part_is_rule rules r d x e in omega arith
-
 pub index_is : {X : Type 0} (xs : List X) (k : ℕ) (x d : X) → slice_get xs k ≡ Some x → slice_index_or xs k d ≡ x
 index_is [] k x d e = cc
 index_is (y ∷ xs) zero x d e = cc
@@ -60,15 +57,15 @@ pub record IsSound (f : Forest) (node : ForestNode) : Type 0 where
   pub some : 0 < node.key.dot
   pub rule : IsRule f.flat node.key.rule
   pub place : node.key.dot - 1 < length (rhs_of f.flat node.key.rule)
-  pub symbol : last_symbol f node.key < length f.flat.symbols
+  pub symbol : cause_symbol f node.key < length f.flat.symbols
 
 pub node_sound : (f : Forest) → IsForest f → (node : ForestNode) → Contains f.nodes node → IsSound f node
 node_sound f is node m =
     let a : AreAlternatives f node.key node.alternatives = is.alternatives node m in
     let some = a.dot_is in
-    let rule = part_is_rule f.flat.rules node.key.rule a.dot a.symbol a.part in
+    let rule = rule_there f.flat.rules node.key.rule a.dot a.symbol a.part in
     let place : node.key.dot - 1 ≡ a.dot = omega arith in
-    let same : last_symbol f node.key ≡ a.symbol = ap (λ k. slice_index_or (rhs_of f.flat node.key.rule) k 0) place ∙ index_is (rhs_of f.flat node.key.rule) a.dot a.symbol 0 a.part in
+    let same : cause_symbol f node.key ≡ a.symbol = ap (λ k. slice_index_or (rhs_of f.flat node.key.rule) k 0) place ∙ index_is (rhs_of f.flat node.key.rule) a.dot a.symbol 0 a.part in
     let here = is.derived.flat.in_range.parts node.key.rule a.dot a.symbol rule a.part in
     let within = slice_get_within (rhs_of f.flat node.key.rule) a.dot a.symbol a.part in
     record {
@@ -78,26 +75,26 @@ node_sound f is node m =
       symbol = omega arith;
     }
 
-last_unit : (symbol start end : ℕ) (last : Last) → units (last_goals symbol start end last) ≡ 1
-last_unit symbol start end AnEdge = refl
-last_unit symbol start end Nothing = refl
-last_unit symbol start end (Wholes nodes) = refl
+cause_unit : (symbol start end : ℕ) (cause : Cause) → units (cause_goals symbol start end cause) ≡ 1
+cause_unit symbol start end AnEdge = refl
+cause_unit symbol start end Nothing = refl
+cause_unit symbol start end (Wholes nodes) = refl
 
-front_ready : (f : Forest) (front : Option ℕ) (lasts : List Goal) → units lasts ≡ 1 → AreGoals f (front_goals front) → AreReady f lasts → AreReady f (front_goals front ++ lasts)
-front_ready f None lasts one h g = g
-front_ready f (Some n) lasts one h g = (h.0, omega (arith, one), g)
+predecessor_ready : (f : Forest) (predecessor : Option ℕ) (causes : List Goal) → units causes ≡ 1 → AreGoals f (predecessor_goals predecessor) → AreReady f causes → AreReady f (predecessor_goals predecessor ++ causes)
+predecessor_ready f None causes one h g = g
+predecessor_ready f (Some n) causes one h g = (h.0, omega (arith, one), g)
 
-last_ready : (f : Forest) (symbol start end : ℕ) (last : Last) → symbol < length f.flat.symbols → AreGoals f (last_goals symbol start end last) → AreReady f (last_goals symbol start end last)
-last_ready f symbol start end AnEdge lt h = (lt, omega arith, tt)
-last_ready f symbol start end Nothing lt h = (lt, omega arith, tt)
-last_ready f symbol start end (Wholes nodes) lt h = (h.0, omega arith, tt)
+cause_ready : (f : Forest) (symbol start end : ℕ) (cause : Cause) → symbol < length f.flat.symbols → AreGoals f (cause_goals symbol start end cause) → AreReady f (cause_goals symbol start end cause)
+cause_ready f symbol start end AnEdge lt h = (lt, omega arith, tt)
+cause_ready f symbol start end Nothing lt h = (lt, omega arith, tt)
+cause_ready f symbol start end (Wholes nodes) lt h = (h.0, omega arith, tt)
 
 pub alternative_ready : (f : Forest) → IsForest f → (node : ForestNode) → Contains f.nodes node → (a : Alternative) → AreGoals f (alternative_goals f node a) → AreReady f (alternative_goals f node a)
 alternative_ready f is node m a h =
     let s = node_sound f is node m in
-    let g = goals_split f (front_goals a.front) (last_goals (last_symbol f node.key) a.start node.key.end a.last) h in
-    front_ready f a.front (last_goals (last_symbol f node.key) a.start node.key.end a.last) (last_unit (last_symbol f node.key) a.start node.key.end a.last) g.0
-    (last_ready f (last_symbol f node.key) a.start node.key.end a.last s.symbol g.1)
+    let g = goals_split f (predecessor_goals a.predecessor) (cause_goals (cause_symbol f node.key) a.start node.key.end a.cause) h in
+    predecessor_ready f a.predecessor (cause_goals (cause_symbol f node.key) a.start node.key.end a.cause) (cause_unit (cause_symbol f node.key) a.start node.key.end a.cause) g.0
+    (cause_ready f (cause_symbol f node.key) a.start node.key.end a.cause s.symbol g.1)
 
 whole_ready_at : (f : Forest) → IsForest f → (start end n : ℕ) (node : Option ForestNode) → slice_get f.nodes n ≡ node → n < length f.nodes → IsRule f.flat (rule_of node)
 whole_ready_at f is start end n None e lt = absurd (none_there f.nodes n e lt)
@@ -150,20 +147,20 @@ root_ready f is (Some n) (lt, (node, e, same)) = whole_ready f is 0 f.place n (s
 
 -- ---- an option becomes as many steps as its goal, and one more for a look
 
-front_unit : (front : Option ℕ) → units (front_goals front) ≡ 0
-front_unit None = refl
-front_unit (Some n) = refl
+predecessor_unit : (predecessor : Option ℕ) → units (predecessor_goals predecessor) ≡ 0
+predecessor_unit None = refl
+predecessor_unit (Some n) = refl
 
 parts_units : (f : Forest) (node : Option ForestNode) (k : ℕ) (option : List Goal) → slice_get (node_options f node) k ≡ Some option → units option ≡ 1
 parts_units f None k option there = cc
 parts_units f (Some node) k option there =
     let r = mapped_at (alternative_goals f node) node.alternatives k option there in
-    let fronts = front_goals r.x.front in
-    let lasts = last_goals (last_symbol f node.key) r.x.start node.key.end r.x.last in
-    let both = units_both fronts lasts in
-    let none = front_unit r.x.front in
-    let one = last_unit (last_symbol f node.key) r.x.start node.key.end r.x.last in
-    let sum : units (fronts ++ lasts) ≡ 1 = omega arith in
+    let predecessors = predecessor_goals r.x.predecessor in
+    let causes = cause_goals (cause_symbol f node.key) r.x.start node.key.end r.x.cause in
+    let both = units_both predecessors causes in
+    let none = predecessor_unit r.x.predecessor in
+    let one = cause_unit (cause_symbol f node.key) r.x.start node.key.end r.x.cause in
+    let sum : units (predecessors ++ causes) ≡ 1 = omega arith in
     subst (λ o. units o ≡ 1) r.is sum
 
 pub option_units : (f : Forest) (goal : Goal) (k : ℕ) (option : List Goal) → slice_get (options f goal) k ≡ Some option → units option ≡ unit goal + look goal
@@ -181,13 +178,8 @@ is_goal f (Write step) k h lt = tt
 
 -- ---- nodes by their numbers
 
-node_there : (nodes : List ForestNode) (none : ForestNode) (k : ℕ) → k < length nodes → slice_get nodes k ≡ Some (slice_index_or nodes k none)
-node_there [] none k lt = absurd (omega arith)
-node_there (x ∷ nodes) none zero lt = refl
-node_there (x ∷ nodes) none (suc k) lt = node_there nodes none k (omega arith)
-
 pub at_node : (f : Forest) (n : ℕ) → n < length f.nodes → slice_get f.nodes n ≡ Some (node_at f n)
-at_node f n lt = node_there f.nodes (record { key = record { rule = 0; dot = 0; origin = 0; end = 0 }; alternatives = [] }) n lt
+at_node f n lt = slice_get-get_or f.nodes n (record { key = record { rule = 0; dot = 0; origin = 0; end = 0 }; alternatives = [] }) lt
 
 pub record IsKeySound (g : FlatGrammar) (key : NodeKey) : Type 0 where
   pub some : 1 ≤ key.dot
@@ -201,12 +193,12 @@ key_sound f is n lt g same key k =
 
 -- ---- options that are put
 
--- the front on top of the last part
-pub alternative_put : (f : Forest) (node : ForestNode) (a : Alternative) (rows mid new : List GoalRow) (behind under top : ℕ) (last : Goal) (front : ℕ) →
-    last ∷ [] ≡ last_goals (last_symbol f node.key) a.start node.key.end a.last → Some front ≡ a.front → Puts rows mid behind under (last ∷ []) → Puts mid new under top (Parts front ∷ []) →
+-- the predecessor on top of the cause
+pub alternative_put : (f : Forest) (node : ForestNode) (a : Alternative) (rows mid new : List GoalRow) (behind under top : ℕ) (cause : Goal) (predecessor : ℕ) →
+    cause ∷ [] ≡ cause_goals (cause_symbol f node.key) a.start node.key.end a.cause → Some predecessor ≡ a.predecessor → Puts rows mid behind under (cause ∷ []) → Puts mid new under top (Parts predecessor ∷ []) →
     Puts rows new behind top (alternative_goals f node a)
-alternative_put f node a rows mid new behind under top last front e some g h =
-    subst (Puts rows new behind top) (λ i. front_goals (some i) ++ e i) (puts_then rows mid new behind under top (last ∷ []) (Parts front ∷ []) g h)
+alternative_put f node a rows mid new behind under top cause predecessor e some g h =
+    subst (Puts rows new behind top) (λ i. predecessor_goals (some i) ++ e i) (puts_then rows mid new behind under top (cause ∷ []) (Parts predecessor ∷ []) g h)
 
 pub whole_put : (f : Forest) (start end n : ℕ) (key : NodeKey) (rows mid new : List GoalRow) (behind under top : ℕ) → n < length f.nodes → key ≡ (node_at f n).key →
     Puts rows mid behind under (Write (RuleStep key.rule key.dot start end) ∷ []) → Puts mid new under top (Parts n ∷ []) → Puts rows new behind top (whole_goals f start end n)
@@ -218,15 +210,6 @@ whole_put f start end n key rows mid new behind under top lt k g h =
 
     count : key.dot ≡ count_of (slice_get f.nodes n)
     count = ap (λ (x : NodeKey). x.dot) k ∙ sym (ap count_of (at_node f n lt))
-
-map_at : {X Y : Type 0} (h : X → Y) (xs : List X) (k : ℕ) (x : X) → slice_get xs k ≡ Some x → slice_get (map h xs) k ≡ Some (h x)
-map_at h [] k x e = cc
-map_at h (y ∷ xs) zero x e = ap (λ z. Some (h z)) (let same : y ≡ x = cc in same)
-map_at h (y ∷ xs) (suc k) x e = map_at h xs k x e
-
-map_size : {X Y : Type 0} (h : X → Y) (xs : List X) → length (map h xs) ≡ length xs
-map_size h [] = refl
-map_size h (x ∷ xs) = ap suc (map_size h xs)
 
 there : (xs : List ℕ) (k : ℕ) → k < length xs → slice_get xs k ≡ Some (slice_index_or xs k 0)
 there [] k lt = absurd (omega arith)
@@ -241,7 +224,7 @@ alternative_there (x ∷ xs) (suc k) lt = alternative_there xs k (omega arith)
 -- how many options the parts of a node have
 pub parts_count : (f : Forest) (n : ℕ) (alternatives : List Alternative) → n < length f.nodes → alternatives ≡ (node_at f n).alternatives → length (options f (Parts n)) ≡ length alternatives
 parts_count f n alternatives lt same =
-    ap (λ x. length (node_options f x)) (at_node f n lt) ∙ map_size (alternative_goals f (node_at f n)) (node_at f n).alternatives ∙ ap (λ (x : List Alternative). length x) (sym same)
+    ap (λ x. length (node_options f x)) (at_node f n lt) ∙ length-map (node_at f n).alternatives (alternative_goals f (node_at f n)) ∙ ap (λ (x : List Alternative). length x) (sym same)
 
 pub parts_option : (f : Forest) (goal : Goal) (n at behind : ℕ) (alternatives : List Alternative) (rows new : List GoalRow) (put : Put) → goal ≡ Parts n → n < length f.nodes → alternatives ≡ (node_at f n).alternatives →
     at < length (options f goal) → put.count ≡ length alternatives → Puts rows new behind put.top (alternative_goals f (node_at f n) (alternative_at alternatives at)) → PutsOption f goal rows new at behind put
@@ -251,7 +234,7 @@ parts_option f goal n at behind alternatives rows new put e lt same within count
     subst (λ g. PutsOption f g rows new at behind put) (sym e) (record {
       option = alternative_goals f (node_at f n) (alternative_at alternatives at);
       option_is = ap (λ x. slice_get (node_options f x) at) (at_node f n lt)
-          ∙ map_at (alternative_goals f (node_at f n)) (node_at f n).alternatives at (alternative_at alternatives at) (subst (λ x. slice_get x at ≡ Some (alternative_at alternatives at)) same (alternative_there alternatives at within'));
+          ∙ get_map (alternative_goals f (node_at f n)) (node_at f n).alternatives at (alternative_at alternatives at) (subst (λ x. slice_get x at ≡ Some (alternative_at alternatives at)) same (alternative_there alternatives at within'));
       count = count ∙ sym sizes;
       puts = puts;
     })
@@ -259,11 +242,11 @@ parts_option f goal n at behind alternatives rows new put e lt same within count
 pub whole_option : (f : Forest) (goal : Goal) (start end at behind : ℕ) (nodes : List ℕ) (rows new : List GoalRow) (put : Put) → goal ≡ OneOf start end nodes →
     at < length (options f goal) → put.count ≡ length nodes → Puts rows new behind put.top (whole_goals f start end (slice_index_or nodes at 0)) → PutsOption f goal rows new at behind put
 whole_option f goal start end at behind nodes rows new put e within count puts =
-    let sizes = map_size (whole_goals f start end) nodes in
+    let sizes = length-map nodes (whole_goals f start end) in
     let within' : at < length nodes = subst (λ k. at < k) sizes (subst (λ g. at < length (options f g)) e within) in
     subst (λ g. PutsOption f g rows new at behind put) (sym e) (record {
       option = whole_goals f start end (slice_index_or nodes at 0);
-      option_is = map_at (whole_goals f start end) nodes at (slice_index_or nodes at 0) (there nodes at within');
+      option_is = get_map (whole_goals f start end) nodes at (slice_index_or nodes at 0) (there nodes at within');
       count = count ∙ sym sizes;
       puts = puts;
     })
@@ -271,7 +254,7 @@ whole_option f goal start end at behind nodes rows new put e within count puts =
 -- the node of a whole rule to be chosen
 pub whole_within : (f : Forest) (goal : Goal) (start end at : ℕ) (nodes : List ℕ) → goal ≡ OneOf start end nodes → IsGoal f goal → at < length (options f goal) → slice_index_or nodes at 0 < length f.nodes
 whole_within f goal start end at nodes e is within =
-    let sizes = map_size (whole_goals f start end) nodes in
+    let sizes = length-map nodes (whole_goals f start end) in
     let within' : at < length nodes = subst (λ k. at < k) sizes (subst (λ g. at < length (options f g)) e within) in
     let is' : IsGoal f (OneOf start end nodes) = subst (IsGoal f) e is in
     is'.1 (slice_index_or nodes at 0) (contains_from nodes (slice_index_or nodes at 0) (get_among nodes at (slice_index_or nodes at 0) (there nodes at within')))

@@ -2,26 +2,15 @@
 use Rattle.std.proofs.Common.{◌≡◌, ℕ, zero, suc, ◌<◌, ◌≤◌, List, [], ◌∷◌, ◌++◌, length, take, drop, Some, refl, sym, ap, ◌∙◌, subst, append_assoc, arith}
 use Rattle.std.specs.Prelude.{slice_get}
 use Rattle.std.proofs.lemmas.Option.{slice_get_within}
+use Rattle.std.proofs.lemmas.List.{append-nil}
+use Rattle.finite_sets.proofs.Lists.{get_left, get_last}
 use Rattle.tree_iter.specs.Linked.{IsLinked, Grows}
-
-pub append_none : {X : Type 0} (xs : List X) → xs ++ [] ≡ xs
-append_none [] = refl
-append_none (x ∷ xs) = ap (λ l. x ∷ l) (append_none xs)
-
-pub get_more : {X : Type 0} (xs ys : List X) (n : ℕ) (x : X) → slice_get xs n ≡ Some x → slice_get (xs ++ ys) n ≡ Some x
-get_more [] ys n x e = cc
-get_more (y ∷ xs) ys zero x e = e
-get_more (y ∷ xs) ys (suc n) x e = get_more xs ys n x e
 
 pub get_taken : {X : Type 0} (xs : List X) (k n : ℕ) (x : X) → n < k → slice_get xs n ≡ Some x → slice_get (take k xs) n ≡ Some x
 get_taken [] k n x lt e = cc
 get_taken (y ∷ xs) zero n x lt e = absurd (omega arith)
 get_taken (y ∷ xs) (suc k) zero x lt e = e
 get_taken (y ∷ xs) (suc k) (suc n) x lt e = get_taken xs k n x (omega arith) e
-
-pub get_behind : {X : Type 0} (xs : List X) (x : X) → slice_get (xs ++ x ∷ []) (length xs) ≡ Some x
-get_behind [] x = refl
-get_behind (y ∷ xs) x = get_behind xs x
 
 pub drop_from : {X : Type 0} (xs : List X) (k : ℕ) (x : X) → slice_get xs k ≡ Some x → drop k xs ≡ x ∷ drop (suc k) xs
 drop_from [] k x e = cc
@@ -31,7 +20,7 @@ drop_from (y ∷ xs) (suc k) x e = drop_from xs k x e
 pub linked_more : {R V : Type 0} (value : R → V) (below : R → ℕ) (rows more : List R) (top : ℕ) (vs : List V) → IsLinked value below rows top vs → IsLinked value below (rows ++ more) top vs
 linked_more value below rows more top [] h = h
 linked_more value below rows more top (v ∷ vs) (t, h) = (
-  record { place = t.place; row = t.row; top_is = t.top_is; row_is = get_more rows more t.place t.row t.row_is; value_is = t.value_is; under = t.under },
+  record { place = t.place; row = t.row; top_is = t.top_is; row_is = get_left rows more t.place t.row t.row_is; value_is = t.value_is; under = t.under },
   linked_more value below rows more (below t.row) vs h,
 )
 
@@ -55,7 +44,7 @@ linked_bound value below rows top (v ∷ vs) (t, h) =
 
 pub linked_push : {R V : Type 0} (value : R → V) (below : R → ℕ) (rows : List R) (row : R) (vs : List V) → IsLinked value below rows (below row) vs → IsLinked value below (rows ++ row ∷ []) (suc (length rows)) (value row ∷ vs)
 linked_push value below rows row vs h = (
-  record { place = length rows; row = row; top_is = refl; row_is = get_behind rows row; value_is = refl; under = linked_bound value below rows (below row) vs h },
+  record { place = length rows; row = row; top_is = refl; row_is = get_last rows row; value_is = refl; under = linked_bound value below rows (below row) vs h },
   linked_more value below rows (row ∷ []) (below row) vs h,
 )
 
@@ -87,7 +76,7 @@ linked_top value below rows place row (v ∷ vs) e (t, h) =
     }
 
 pub grows_none : {R : Type 0} (rows : List R) → Grows rows rows
-grows_none rows = record { more = []; is = sym (append_none rows) }
+grows_none rows = record { more = []; is = sym (append-nil rows) }
 
 pub grows_then : {R : Type 0} (a b c : List R) → Grows a b → Grows b c → Grows a c
 grows_then a b c g h = record { more = g.more ++ h.more; is = h.is ∙ ap (λ l. l ++ h.more) g.is ∙ append_assoc a g.more h.more }

@@ -1,6 +1,6 @@
 -- Trails: what was done along them, and the choices on them.
 use Rattle.std.proofs.Common.{◌≡◌, inl, inr, ℕ, zero, suc, ◌≤◌, List, [], ◌∷◌, ◌++◌, length, take, drop, refl, sym, ap, ◌∙◌, subst, append_assoc, length-append, arith}
-use Rattle.std.proofs.lemmas.List.{take-append-le}
+use Rattle.std.proofs.lemmas.List.{take-append-le, take-take, append-nil}
 use Rattle.grammar_model.specs.Steps.{Step}
 use Rattle.forest_model.specs.Forest.{Forest}
 use Rattle.forest_laws.specs.Lists.{Lists}
@@ -16,16 +16,12 @@ written_both [] b = refl
 written_both (Goals.Wrote step ∷ a) b = ap (λ l. step ∷ l) (written_both a b)
 written_both (Goals.Chose later behind ∷ a) b = written_both a b
 
-append_nil : {X : Type 0} (xs : List X) → xs ++ [] ≡ xs
-append_nil [] = refl
-append_nil (x ∷ xs) = ap (λ l. x ∷ l) (append_nil xs)
-
 -- the steps on a trail are those that were written
 pub steps_are : (f : Forest) (trail : Trail) → written (done_of f trail) ≡ steps_on trail
 steps_are f Begun = refl
 steps_are f (Wrote trail step) = written_both (done_of f trail) (Goals.Wrote step ∷ []) ∙ ap (λ l. l ++ step ∷ []) (steps_are f trail)
 steps_are f (Chose trail goal chosen behind) =
-    written_both (done_of f trail) (Goals.Chose (drop (suc chosen) (options f goal)) behind ∷ []) ∙ append_nil (written (done_of f trail)) ∙ steps_are f trail
+    written_both (done_of f trail) (Goals.Chose (drop (suc chosen) (options f goal)) behind ∷ []) ∙ append-nil (written (done_of f trail)) ∙ steps_are f trail
 
 -- ---- a choice stays one when rows are added
 
@@ -55,12 +51,6 @@ choices_more f rows more choices (Chose trail goal chosen behind) (inl (before, 
     let le = is.goals in
     inl (before, c, e, choice_in f rows (rows ++ more) trail goal chosen behind c (omega arith) same is, subst (λ r. AreChoices f r before trail) (sym same) h)
 
-take_within : {X : Type 0} (n k : ℕ) (xs : List X) → n ≤ k → take n (take k xs) ≡ take n xs
-take_within zero k xs le = refl
-take_within (suc n) zero xs le = absurd (omega arith)
-take_within (suc n) (suc k) [] le = refl
-take_within (suc n) (suc k) (x ∷ xs) le = ap (λ l. x ∷ l) (take_within n k xs (omega arith))
-
 size_taken : {X : Type 0} (n k : ℕ) (xs : List X) → n ≤ k → n ≤ length xs → n ≤ length (take k xs)
 size_taken zero k xs le h = omega arith
 size_taken (suc n) zero xs le h = absurd (omega arith)
@@ -75,7 +65,7 @@ choices_cut f rows k choices (Wrote trail step) within h = choices_cut f rows k 
 choices_cut f rows k choices (Chose trail goal chosen behind) within (inr (spent, h)) = inr (spent, choices_cut f rows k choices trail within h)
 choices_cut f rows k choices (Chose trail goal chosen behind) within (inl (before, c, e, is, h)) =
     let le = within before c e in
-    let same = take_within c.goals k rows le in
+    let same = take-take c.goals k rows le in
     inl (before, c, e, choice_in f rows (take k rows) trail goal chosen behind c (size_taken c.goals k rows le is.goals) same is, subst (λ r. AreChoices f r before trail) (sym same) h)
 
 -- ---- the last choice
@@ -85,19 +75,19 @@ no_more [] x e = cc
 no_more (y ∷ xs) x e = cc
 
 pub record IsSame {X : Type 0} (xs ys : List X) (x y : X) : Type 0 where
-  pub fronts : xs ≡ ys
+  pub prefixes : xs ≡ ys
   pub lasts : x ≡ y
 
 pub same_ends : {X : Type 0} (xs ys : List X) (x y : X) → xs ++ x ∷ [] ≡ ys ++ y ∷ [] → IsSame xs ys x y
-same_ends [] [] x y e = record { fronts = refl; lasts = cc }
+same_ends [] [] x y e = record { prefixes = refl; lasts = cc }
 same_ends [] (z ∷ ys) x y e = let gone : ys ++ y ∷ [] ≡ [] = cc in absurd (no_more ys y gone)
 same_ends (z ∷ xs) [] x y e = let gone : xs ++ x ∷ [] ≡ [] = cc in absurd (no_more xs x gone)
 same_ends (z ∷ xs) (v ∷ ys) x y e =
     let tails : xs ++ x ∷ [] ≡ ys ++ y ∷ [] = cc in
     let heads : z ≡ v = cc in
     let r = same_ends xs ys x y tails in
-    let fronts = r.fronts in
-    record { fronts = λ i. heads i ∷ fronts i; lasts = r.lasts }
+    let prefixes = r.prefixes in
+    record { prefixes = λ i. heads i ∷ prefixes i; lasts = r.lasts }
 
 -- the trail up to the last choice
 pub record IsCut (f : Forest) (lists : Lists) (rows : List GoalRow) (before : List Choice) (c : Choice) (trail : Trail) : Type 0 where
@@ -148,9 +138,9 @@ cut_at f lists walks rows before c (Chose trail goal chosen behind) (inl (others
       chosen = chosen;
       behind = behind;
       is = subst (IsChoice f rows trail goal chosen behind) s.lasts is;
-      earlier = subst (λ l. AreChoices f (take c.goals rows) l trail) s.fronts (subst (λ (x : Choice). AreChoices f (take x.goals rows) others trail) s.lasts h);
+      earlier = subst (λ l. AreChoices f (take c.goals rows) l trail) s.prefixes (subst (λ (x : Choice). AreChoices f (take x.goals rows) others trail) s.lasts h);
       more = [];
-      steps = sym (append_nil (steps_on trail));
+      steps = sym (append-nil (steps_on trail));
       same = refl;
     }
 

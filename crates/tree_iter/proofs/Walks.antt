@@ -1,8 +1,9 @@
 -- Walks: what is still to come when a goal is done, and when the last choice is taken again.
-use Rattle.std.proofs.Common.{◌≡◌, inl, inr, ℕ, zero, suc, ◌+◌, ◌-◌, ◌<◌, ◌≤◌, List, [], ◌∷◌, ◌++◌, length, map, take, drop, Option, Some, None, Result, Ok, Err, refl, sym, ap, ◌∙◌, subst, length-append, arith}
-use Rattle.std.specs.Prelude.{slice_get, slice_set, slice_index_or, OnOk, OnErr}
+use Rattle.std.proofs.Common.{◌≡◌, inl, inr, ℕ, zero, suc, ◌+◌, ◌-◌, ◌<◌, ◌≤◌, List, [], ◌∷◌, ◌++◌, length, map, take, drop, Option, Some, None, refl, sym, ap, ◌∙◌, subst, length-append, arith}
+use Rattle.std.specs.Prelude.{slice_get, slice_set, slice_index_or}
 use Rattle.std.proofs.Math.Seq.{take-append_seam}
 use Rattle.std.proofs.lemmas.Option.{slice_get_within}
+use Rattle.std.proofs.lemmas.List.{append-nil, length-map, drop_all}
 use Rattle.grammar_core.specs.declared.steps.TreeStep.{TreeStep}
 use Rattle.grammar_core.specs.Steps.{step_of}
 use Rattle.grammar_model.specs.Grammar.{Grammar}
@@ -11,7 +12,7 @@ use Rattle.recognizer_model.specs.Flat.{FlatGrammar}
 use Rattle.forest_model.specs.Forest.{Forest, IsForest}
 use Rattle.forest_laws.specs.Lists.{Lists, roots_by}
 use Rattle.forest_laws.specs.Laws.{AreAllLists}
-use Rattle.forest_laws.specs.Goals.{Goal, Write, IsGoal, options, written, to_come, stands, steps_from, root_goals, WalksGoOn}
+use Rattle.forest_laws.specs.Goals.{Goal, Write, IsGoal, options, written, to_come, stands, steps_from, root_goals}
 use Rattle.forest_laws.specs.Goals
 use Rattle.forest_laws.specs.Walked.{IsWalked}
 use Rattle.forest_laws.specs.Written.{steps_written}
@@ -29,7 +30,7 @@ use Rattle.tree_iter.specs.Linked.{Grows}
 use Rattle.tree_iter.specs.Goals.{fork_of, goal_of, IsStack, IsReady, IsBacked, AreReady, unit, units, look, Puts, PutsOption}
 use Rattle.tree_iter.specs.Writing.{IsStepOf, AreDone, IsCounted, counts_behind}
 use Rattle.tree_iter.specs.Walk.{IsKept, IsLast, HasLeft, KeepsLeft, HasSteps, Looks, Trail, Begun, Wrote, Chose, done_of, steps_on, IsChoice, AreChoices, IsTrail, StandsBefore, StandsBehind, Reaches, IsAbout, IsBack, IsUnderWay}
-use Rattle.tree_iter.proofs.Linked.{append_none, drop_from, linked_top, linked_none, linked_more, linked_taken, linked_bound}
+use Rattle.tree_iter.proofs.Linked.{drop_from, linked_top, linked_none, linked_more, linked_taken, linked_bound}
 use Rattle.tree_iter.proofs.Written.{done_taken}
 use Rattle.tree_iter.proofs.GoalLemmas.{units_both, ready_both, option_ready, option_units, root_ready, is_goal}
 use Rattle.tree_iter.proofs.Trails.{no_more, same_ends, steps_are, choice_in, choices_more, choices_cut, cut_at, none_to_come}
@@ -40,14 +41,8 @@ take_all zero (x ∷ xs) e = absurd (omega arith)
 take_all (suc k) [] e = absurd (omega arith)
 take_all (suc k) (x ∷ xs) e = ap (λ l. x ∷ l) (take_all k xs (omega arith))
 
-drop_past : {X : Type 0} (k : ℕ) (xs : List X) → length xs ≤ k → drop k xs ≡ []
-drop_past zero [] le = refl
-drop_past zero (x ∷ xs) le = absurd (omega arith)
-drop_past (suc k) [] le = refl
-drop_past (suc k) (x ∷ xs) le = drop_past k xs (omega arith)
-
-take_front : {X : Type 0} (xs before : List X) (c : X) → xs ≡ before ++ c ∷ [] → take (length xs - 1) xs ≡ before
-take_front xs before c e =
+take_before : {X : Type 0} (xs before : List X) (c : X) → xs ≡ before ++ c ∷ [] → take (length xs - 1) xs ≡ before
+take_before xs before c e =
     let size : length xs - 1 ≡ length before = (let a = ap (λ (l : List _). length l) e in let b = length-append before (c ∷ []) in omega arith) in
     (λ i. take (size i) (e i)) ∙ take-append_seam before (c ∷ [])
 
@@ -68,18 +63,6 @@ pub get_last : {X : Type 0} (xs before : List X) (c d : X) → xs ≡ before ++ 
 get_last xs before c d e =
     let size : length xs - 1 ≡ length before = (let a = ap (λ (l : List _). length l) e in let b = length-append before (c ∷ []) in omega arith) in
     (λ i. slice_index_or (e i) (size i) d) ∙ get_behind before c d
-
-pub any_ok : {T E A : Type 0} (r : Result T E) → A → OnOk r A
-any_ok (Ok x) a = a
-any_ok (Err e) a = tt
-
-pub ok_weaker : {T E A B : Type 0} (r : Result T E) → (A → B) → OnOk r A → OnOk r B
-ok_weaker (Ok x) f a = f a
-ok_weaker (Err e) f a = tt
-
-pub any_err : {T E A : Type 0} (r : Result T E) → A → OnErr r A
-any_err (Ok x) a = tt
-any_err (Err e) a = a
 
 -- a stack has one list of goals
 pub stack_one : (rows : List GoalRow) (top : ℕ) (a b : List Goal) → IsStack rows top a → IsStack rows top b → a ≡ b
@@ -244,10 +227,6 @@ pub record IsMarked (w : Walk) (goal : Goal) (chosen behind : ℕ) (c : Choice) 
   pub steps : c.steps ≡ length w.steps.items
   pub counts : c.counts ≡ length w.counts.items
 
-map_length : {X Y : Type 0} (f : X → Y) (xs : List X) → length (map f xs) ≡ length xs
-map_length f [] = refl
-map_length f (x ∷ xs) = ap suc (map_length f xs)
-
 -- the first option of a goal was chosen
 pub chose_one : (w n : Walk) (rest : List (List Step)) (goal : Goal) (behind : ℕ) (c : Choice) (put : Put) → IsFirst w rest goal behind → IsMarked w goal 0 behind c →
     c.count ≡ put.count → n.choices.items ≡ w.choices.items ++ c ∷ [] → PutsOption w.forest.now goal w.goals.items n.goals.items 0 behind put →
@@ -270,7 +249,7 @@ chose_one w n rest goal behind c put h mark count choices p =
       behind_is = subst (λ g. IsStack g c.behind h.others) (sym old) (subst (λ k. IsStack w.goals.items k h.others) (sym mark.behind_is) h.linked);
       backed = h.backed;
       are_ready = h.are_ready;
-      steps = mark.steps ∙ sym (map_length step_of w.steps.items) ∙ ap (λ (l : List Step). length l) h.is.done.written;
+      steps = mark.steps ∙ sym (length-map w.steps.items step_of) ∙ ap (λ (l : List Step). length l) h.is.done.written;
       counts = mark.counts ∙ h.is.done.counted.all;
     } in
     record {
@@ -298,7 +277,7 @@ chose_only w n rest goal behind put h one choices p =
     let opened : options F goal ≡ p.option ∷ drop 1 (options F goal) = drop_from (options F goal) 0 p.option p.option_is in
     let within = slice_get_within (options F goal) 0 p.option p.option_is in
     let count = p.count in
-    let spent : drop 1 (options F goal) ≡ [] = drop_past 1 (options F goal) (omega arith) in
+    let spent : drop 1 (options F goal) ≡ [] = drop_all 1 (options F goal) (omega arith) in
     let more = choices_more F w.goals.items p.puts.grows.more w.choices.items h.trail h.is.choices in
     let grown : AreChoices F n.goals.items n.choices.items h.trail =
     subst (λ c. AreChoices F n.goals.items c h.trail) (sym choices) (subst (λ g. AreChoices F g w.choices.items h.trail) (sym p.puts.grows.is) more) in
@@ -317,8 +296,8 @@ chose_only w n rest goal behind put h one choices p =
 -- ---- rows that nothing needs are cut off
 
 pub last_within : (choices : List Choice) (last : Choice) (k : ℕ) → IsLast choices last → last.goals ≤ k → (before : List Choice) (c : Choice) → choices ≡ before ++ c ∷ [] → c.goals ≤ k
-last_within choices last k (front, e) le before c e' =
-    let same = same_ends front before last c (sym e ∙ e') in
+last_within choices last k (predecessor, e) le before c e' =
+    let same = same_ends predecessor before last c (sym e ∙ e') in
     subst (λ (x : Choice). x.goals ≤ k) same.lasts le
 
 pub none_within : (choices : List Choice) (k : ℕ) → choices ≡ [] → (before : List Choice) (c : Choice) → choices ≡ before ++ c ∷ [] → c.goals ≤ k
@@ -538,16 +517,16 @@ back_behind w n rest c grows h =
 pub gave_up : (w n : Walk) (rest : List (List Step)) (c : Choice) → n.choices.items ≡ take (length w.choices.items - 1) w.choices.items → c.count ≤ suc c.chosen → IsBack w c rest → StandsBehind (record w { choices = n.choices }) rest
 gave_up w n rest c choices last h =
     let F : Forest = w.forest.now in
-    let front : h.before ≡ n.choices.items = sym (choices ∙ take_front w.choices.items h.before c h.choices) in
+    let predecessor : h.before ≡ n.choices.items = sym (choices ∙ take_before w.choices.items h.before c h.choices) in
     let a = h.is.count in
     let b = h.is.chosen_is in
-    let none : drop (suc h.chosen) (options F h.goal) ≡ [] = drop_past (suc h.chosen) (options F h.goal) (omega arith) in
+    let none : drop (suc h.chosen) (options F h.goal) ≡ [] = drop_all (suc h.chosen) (options F h.goal) (omega arith) in
     let known = forests_are_walked F h.lists h.forest h.all in
     record {
       lists = h.lists;
       all = h.all;
       trail = h.trail;
-      is = record { forest = h.forest; choices = subst (λ l. AreChoices F w.goals.items l h.trail) front h.earlier; done = h.done };
+      is = record { forest = h.forest; choices = subst (λ l. AreChoices F w.goals.items l h.trail) predecessor h.earlier; done = h.done };
       rest_is = h.rest_is ∙ ap (λ l. to_come F h.lists (done_of F h.trail ++ Goals.Chose l h.behind ∷ [])) none ∙ known.walks.is_spent (done_of F h.trail) h.behind;
     }
 
@@ -654,9 +633,9 @@ begun_walk w is choices counts steps puts =
           };
         };
         left = goals;
-        left_is = subst (IsStack w.goals.items w.left) (append_none goals) (puts.stack [] refl);
+        left_is = subst (IsStack w.goals.items w.left) (append-nil goals) (puts.stack [] refl);
         ready = root_ready F is F.root is.root;
         some = (let own = root_units F F.root in omega arith);
-        rest_is = sym known.root ∙ sym (append_none (map (λ x. x) (steps_from F l.0 goals)) ∙ map_id (steps_from F l.0 goals));
+        rest_is = sym known.root ∙ sym (append-nil (map (λ x. x) (steps_from F l.0 goals)) ∙ map_id (steps_from F l.0 goals));
       };
     }

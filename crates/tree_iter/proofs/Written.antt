@@ -1,19 +1,19 @@
 -- Steps that are written and counted, when one more is, or when some are undone.
 use Rattle.std.proofs.Common.{◌≡◌, ℕ, zero, suc, ◌+◌, ◌<◌, ◌≤◌, List, [], ◌∷◌, ◌++◌, length, map, take, inl, inr, ◌⊎◌, Some, refl, sym, ap, ◌∙◌, subst, append_assoc, length-append, arith}
 use Rattle.std.specs.Prelude.{Bool, true, false, cond, sum, slice_get, option_to_list}
-use Rattle.std.proofs.Math.Seq.{take-append_seam}
-use Rattle.std.proofs.lemmas.List.{take-append-le}
+use Rattle.std.proofs.Math.Seq.{take-append_seam, take-length}
+use Rattle.std.proofs.lemmas.List.{take-append-le, append_assoc, map-append, length-take-le}
 use Rattle.std.proofs.lemmas.List.Sums.{sum_by-cons}
+use Rattle.finite_sets.proofs.Members.{contains_from}
+use Rattle.finite_sets.proofs.Lists.{get_among}
 use Rattle.grammar_core.specs.declared.steps.TreeStep.{TreeStep}
 use Rattle.grammar_core.specs.Steps.{step_of}
 use Rattle.grammar_model.specs.Grammar.{Grammar}
 use Rattle.grammar_model.specs.Steps.{Step, TokenStep, NulledStep, RuleStep}
-use Rattle.grammar_model.proofs.Lists.{contains_from}
 use Rattle.recognizer_model.specs.declared.flat.FlatSymbol.{FlatSymbol}
 use Rattle.recognizer_model.specs.declared.flat.FlatSymbol.TheVariants.{Sequence, Top}
 use Rattle.recognizer_model.specs.Flat.{FlatGrammar}
 use Rattle.recognizer_model.specs.FlatForm.{IsFlatOf, symbol_at, written_symbol}
-use Rattle.forest_laws.proofs.Lists.{get_among}
 use Rattle.forest_laws.specs.Written.{sum_newest, older, is_list_rule, step_written, counts_after, steps_written}
 use Rattle.tree_iter.specs.declared.writing.CountRow.{CountRow}
 use Rattle.tree_iter.specs.declared.writing.Effect.{Effect}
@@ -21,36 +21,20 @@ use Rattle.tree_iter.specs.Writing.{IsCounted, AreOnTop, AreTakenOff, IsEffect, 
 use Rattle.tree_iter.proofs.Linked.{linked_more, linked_taken, linked_push, linked_top, linked_none, linked_bound}
 use Rattle.tree_iter.proofs.GoalLemmas.{index_is}
 
-assoc : {X : Type 0} (xs ys zs : List X) → (xs ++ ys) ++ zs ≡ xs ++ (ys ++ zs)
-assoc xs ys zs = append_assoc xs ys zs
-
 pub written_both : (w : Grammar) (g : FlatGrammar) (counts : List ℕ) (a b : List Step) → steps_written w g counts (a ++ b) ≡ steps_written w g counts a ++ steps_written w g (counts_behind g counts a) b
 written_both w g counts [] b = refl
 written_both w g counts (s ∷ a) b =
     ap (λ l. step_written w g counts s ++ l) (written_both w g (counts_after g counts s) a b)
-    ∙ sym (assoc (step_written w g counts s) (steps_written w g (counts_after g counts s) a) (steps_written w g (counts_behind g (counts_after g counts s) a) b))
+    ∙ sym (append_assoc (step_written w g counts s) (steps_written w g (counts_after g counts s) a) (steps_written w g (counts_behind g (counts_after g counts s) a) b))
 
 pub counts_both : (g : FlatGrammar) (counts : List ℕ) (a b : List Step) → counts_behind g counts (a ++ b) ≡ counts_behind g (counts_behind g counts a) b
 counts_both g counts [] b = refl
 counts_both g counts (s ∷ a) b = counts_both g (counts_after g counts s) a b
 
-map_both : {X Y : Type 0} (f : X → Y) (xs ys : List X) → map f (xs ++ ys) ≡ map f xs ++ map f ys
-map_both f [] ys = refl
-map_both f (x ∷ xs) ys = ap (λ l. f x ∷ l) (map_both f xs ys)
-
 map_taken : {X Y : Type 0} (f : X → Y) (k : ℕ) (xs : List X) → map f (take k xs) ≡ take k (map f xs)
 map_taken f zero xs = refl
 map_taken f (suc k) [] = refl
 map_taken f (suc k) (x ∷ xs) = ap (λ l. f x ∷ l) (map_taken f k xs)
-
-take_whole : {X : Type 0} (xs : List X) → take (length xs) xs ≡ xs
-take_whole [] = refl
-take_whole (x ∷ xs) = ap (λ l. x ∷ l) (take_whole xs)
-
-length_taken : {X : Type 0} (k : ℕ) (xs : List X) → k ≤ length xs → length (take k xs) ≡ k
-length_taken zero xs le = refl
-length_taken (suc k) [] le = absurd (omega arith)
-length_taken (suc k) (x ∷ xs) le = ap suc (length_taken k xs (omega arith))
 
 upto : (n m : ℕ) → n ≤ suc m → (n ≤ m) ⊎ (n ≡ suc m)
 upto zero m le = inl (omega arith)
@@ -60,7 +44,7 @@ upto (suc n) (suc m) le = elim (upto n m (omega arith)) as (λ _. (suc n ≤ suc
 -- the counts that stand there now
 pub counted_now : (g : FlatGrammar) (rows : List CountRow) (done : List Step) → AreCounted g rows done → IsCounted rows (length rows) (counts_behind g [] done)
 counted_now g rows done h =
-    let here : IsCounted rows (length done) (counts_behind g [] done) = subst (λ d. IsCounted rows (length done) (counts_behind g [] d)) (take_whole done) (h.each (length done) (omega arith)) in
+    let here : IsCounted rows (length done) (counts_behind g [] done) = subst (λ d. IsCounted rows (length done) (counts_behind g [] d)) (take-length done) (h.each (length done) (omega arith)) in
     subst (λ n. IsCounted rows n (counts_behind g [] done)) (sym h.all) here
 
 counted_more : (w : Grammar) (g : FlatGrammar) (rows : List CountRow) (done : List Step) (step : Step) (effect : Effect) → AreCounted g rows done →
@@ -78,7 +62,7 @@ counted_more w g rows done step effect h is = record {
     at n (inl le) = subst (λ l. IsCounted (rows ++ effect.row ∷ []) n (counts_behind g [] l)) (sym (take-append-le n done (step ∷ []) le))
         (linked_more (λ (row : CountRow). row.count) (λ row. row.below) rows (effect.row ∷ []) n (counts_behind g [] (take n done)) (h.each n le))
     at n (inr e) =
-        let whole : take n (done ++ step ∷ []) ≡ done ++ step ∷ [] = ap (λ k. take k (done ++ step ∷ [])) (let b = length-append done (step ∷ []) in let c : n ≡ length (done ++ step ∷ []) = omega arith in c) ∙ take_whole (done ++ step ∷ []) in
+        let whole : take n (done ++ step ∷ []) ≡ done ++ step ∷ [] = ap (λ k. take k (done ++ step ∷ [])) (let b = length-append done (step ∷ []) in let c : n ≡ length (done ++ step ∷ []) = omega arith in c) ∙ take-length (done ++ step ∷ []) in
         let place : suc (length rows) ≡ n = ap suc h.all ∙ sym e in
         subst (λ l. IsCounted (rows ++ effect.row ∷ []) n (counts_behind g [] l)) (sym whole) (subst (λ k. IsCounted (rows ++ effect.row ∷ []) k (counts_behind g [] (done ++ step ∷ []))) place last)
 
@@ -87,7 +71,7 @@ pub done_more : (w : Grammar) (g : FlatGrammar) (rows : List CountRow) (steps : 
     IsEffect w g rows (counts_behind g [] done) step effect → AreDone w g (rows ++ effect.row ∷ []) (steps ++ option_to_list effect.step) (done ++ step ∷ [])
 done_more w g rows steps done step effect h is = record {
   counted = counted_more w g rows done step effect h.counted is;
-  written = map_both step_of steps (option_to_list effect.step) ∙ (let a = h.written in let b = is.written in λ i. a i ++ b i)
+  written = map-append step_of steps (option_to_list effect.step) ∙ (let a = h.written in let b = is.written in λ i. a i ++ b i)
       ∙ sym (written_both w g [] done (step ∷ []) ∙ ap (λ l. steps_written w g [] done ++ l) (append_nil (step_written w g (counts_behind g [] done) step)));
 }
   where
@@ -103,7 +87,7 @@ done_taken w g rows steps a b h =
     let d = length-append a b in
     record {
       counted = record {
-        all = length_taken (length a) rows (omega arith);
+        all = length-take-le (length a) rows (omega arith);
         each = λ n le. linked_taken (λ (row : CountRow). row.count) (λ row. row.below) rows (length a) n (counts_behind g [] (take n a)) le
             (subst (λ l. IsCounted rows n (counts_behind g [] l)) (take-append-le n a b le) (h.counted.each n (omega arith)));
       };

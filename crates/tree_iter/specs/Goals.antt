@@ -1,4 +1,4 @@
--- Goals as they are kept, and the stacks of them.
+-- Goals as they are kept, and the stacks of them. A goal is what a walk has left to do, as in Prolog.
 use Rattle.std.specs.Prelude.{◌≡◌, ℕ, ◌+◌, ◌<◌, List, [], ◌∷◌, ◌++◌, length, Some, slice_get}
 use Rattle.forest_model.specs.Forest.{Forest}
 use Rattle.forest_laws.specs.Goals.{Goal, Parts, OneOf, Write, options, IsGoal}

@@ -19,12 +19,14 @@ use Rattle.tree_iter.specs.declared.iter.Current.TheVariants.{Nothing, Walked, C
 use Rattle.tree_iter.specs.Writing.{AreDone}
 use Rattle.tree_iter.specs.Goals.{fork_of, goal_of, IsStack, IsReady, IsBacked, AreReady, units, weights}
 
--- what a walk has done, the newest last: it wrote a step, or chose an option of a goal, with other goals behind that goal
+-- the trail of a walk, which in Prolog tells what going back undoes: what it has done, the newest last; it wrote a step, or chose an option
+-- of a goal, with other goals behind that goal
 pub data Trail : Type 0 where
   Begun : Trail
   Wrote : (trail : Trail) (step : Step) → Trail
   Chose : (trail : Trail) (goal : Goal) (chosen : ℕ) (behind : List Goal) → Trail
 
+-- the trail, with the later options in place of those that were chosen
 abbrev pub done_of : Forest → Trail → List Done
 done_of f Begun = []
 done_of f (Wrote trail step) = done_of f trail ++ Goals.Wrote step ∷ []
@@ -92,6 +94,7 @@ Shows w steps = map step_of w.steps.items ≡ steps_written w.forest.now.written
 abbrev pub HasLeft : Walk → List Goal → Type 0
 HasLeft w left = IsStack w.goals.items w.left left
 
+-- what was left is left
 abbrev pub KeepsLeft : (old new : Walk) → Type 0
 KeepsLeft old new = (left : List Goal) → HasLeft old left → HasLeft new left
 
@@ -159,6 +162,7 @@ pub record IsAbout (w : Walk) (goal : Goal) (behind : ℕ) : Type 0 where
 abbrev pub IsKept : Walk → (left k : ℕ) → Type 0
 IsKept w left k = (left ≤ k) × ((before : List Choice) (c : Choice) → w.choices.items ≡ before ++ c ∷ [] → c.goals ≤ k)
 
+-- it is the last of the choices
 abbrev pub IsLast : List Choice → Choice → Type 0
 IsLast choices choice = (before : List Choice) × (choices ≡ before ++ choice ∷ [])
 

@@ -1,14 +1,14 @@
 //! What a walk through a forest has left to do: goals, in stacks that share what lies below.
 ghost use Rattle.std.specs.Prelude.{◌≡◌, ◌+◌, ◌<◌, ◌≤◌, ◌∷◌, [], length, slice_get, vec_len, vec_capacity, Some, IfOk, OnErr};
-ghost use Rattle.forest_laws.specs.Goals.{IsGoal, options, alternative_goals, last_goals, whole_goals, root_goals};
-ghost use Rattle.forest_laws.specs.Lists.{last_symbol as symbol_of_last};
-ghost use Rattle.bocage.specs.Rows.{part_told};
+ghost use Rattle.forest_laws.specs.Goals.{IsGoal, options, alternative_goals, cause_goals, whole_goals, root_goals};
+ghost use Rattle.forest_laws.specs.Lists.{cause_symbol as symbol_of_cause};
+ghost use Rattle.bocage.specs.Rows.{cause_told};
 ghost use Rattle.bocage.specs.Readers.{alternative_at, node_at};
 ghost use Rattle.tree_iter.specs.Linked.{Grows};
 ghost use Rattle.tree_iter.specs.Goals.{fork_of, goal_of, look, Puts, PutsOption};
 
 use crate::writing::FlatStep;
-use bocage::{Alternatives, Forest, LastPart};
+use bocage::{Alternatives, Cause, Forest};
 use slif_base::Steps;
 use std::sync::ledger::Ledger;
 use value_text::NoMemory;
@@ -26,7 +26,7 @@ pub enum Fork<'f> {
     },
 }
 
-/// What is left to do.
+/// What is left to do, as a goal of Prolog's: it is done by choosing an option, which is goals again, or is a step to be written.
 #[derive(Clone, Copy)]
 pub enum Goal<'f> {
     Choose(Fork<'f>),
@@ -74,32 +74,32 @@ fn push_goal<'f>(
     Ok(rows.as_slice().len())
 }
 
-// The symbol of a node's last part.
-fn last_symbol(forest: &Forest<'_>, node: u32) -> u32
+// The symbol that the causes of a node derive.
+fn cause_symbol(forest: &Forest<'_>, node: u32) -> u32
     requires { node < length forest.now.nodes }
-    ensures { result ≡ symbol_of_last forest.now (node_at forest.now node).key }
+    ensures { result ≡ symbol_of_cause forest.now (node_at forest.now node).key }
 {
     forest.known();
     let key = forest.key(node);
     forest.flat().rhs(key.rule)[key.dot as usize - 1]
 }
 
-// The goal of a last part.
-fn last_goal(symbol: u32, start: u32, end: u32, last: LastPart<'_>) -> Goal<'_>
-    ensures { goal_of result ∷ [] ≡ last_goals symbol start end (part_told last.entry) }
+// The goal of a cause.
+fn cause_goal(symbol: u32, start: u32, end: u32, cause: Cause<'_>) -> Goal<'_>
+    ensures { goal_of result ∷ [] ≡ cause_goals symbol start end (cause_told cause.entry) }
 {
-    match last {
-        LastPart::Edge => Goal::Write(FlatStep::Token {
+    match cause {
+        Cause::Edge => Goal::Write(FlatStep::Token {
             symbol,
             from: start,
             to: end,
         }),
-        LastPart::Nothing => Goal::Write(FlatStep::Nulled { symbol, at: start }),
-        LastPart::Wholes(nodes) => Goal::Choose(Fork::OneOf { start, end, nodes }),
+        Cause::Nothing => Goal::Write(FlatStep::Nulled { symbol, at: start }),
+        Cause::Wholes(nodes) => Goal::Choose(Fork::OneOf { start, end, nodes }),
     }
 }
 
-// Puts the goals of an alternative, the front on top.
+// Puts the goals of an alternative, the predecessor on top.
 fn put_alternative<'f>(
     rows: &mut Vec<GoalRow<'f>>,
     forest: &'f Forest<'f>,
@@ -115,15 +115,15 @@ fn put_alternative<'f>(
     ensures err { OnErr result (Grows rows.old.items rows.new.items) }
     ensures full { OnErr result (vec_capacity rows.old < vec_len rows.old + 2) }
 {
-    let last = last_goal(
-        last_symbol(forest, node),
+    let cause = cause_goal(
+        cause_symbol(forest, node),
         alternatives.start(at),
         forest.key(node).end,
-        alternatives.last(at),
+        alternatives.cause(at),
     );
-    let top = push_goal(rows, last, behind)?;
-    match alternatives.front(at) {
-        Some(front) => push_goal(rows, Goal::Choose(Fork::Parts(front)), top),
+    let top = push_goal(rows, cause, behind)?;
+    match alternatives.predecessor(at) {
+        Some(predecessor) => push_goal(rows, Goal::Choose(Fork::Parts(predecessor)), top),
         None => Ok(top),
     }
 }

@@ -17,7 +17,8 @@ use std::alloc::Global;
 use std::sync::ledger::Ledger;
 use value_text::NoMemory;
 
-/// An option that was chosen, of so many, with the place of the goals behind it, and how many goals, steps and counts there were.
+/// A choice point, as Prolog calls it: an option that was chosen, of so many, with the place of the goals behind it, and how many goals,
+/// steps and counts there were, so that what was done since can be undone.
 #[derive(Clone, Copy)]
 pub struct Choice<'f> {
     pub fork: Fork<'f>,

@@ -1,16 +1,14 @@
 //! Steps of flat derivations, written one after another as steps of what they stand for.
 ghost use Rattle.std.specs.Prelude.{◌≡◌, ◌^◌, ◌<◌, ◌∷◌, ◌++◌, [], ℕ, List, length, map, slice_get, vec_len, vec_capacity, Some, option_to_list, OnOk, OnErr, false};
 ghost use Rattle.grammar_core.specs.Steps.{step_of};
-ghost use Rattle.grammar_model.specs.Grammar.{Grammar, lhs_of as written_lhs, rule_at};
+ghost use Rattle.grammar_model.specs.Grammar.{Grammar};
 ghost use Rattle.grammar_model.specs.Steps.{Step, RuleStep};
 ghost use Rattle.recognizer_model.specs.Flat.{IsRule, source_of};
 ghost use Rattle.recognizer_model.specs.FlatForm.{IsFlatOf, symbol_at, written_symbol as stands_for};
 ghost use Rattle.forest_laws.specs.Written.{is_list_rule as is_rule_of_list, rule_written};
 ghost use Rattle.tree_iter.specs.Writing.{flat_step, IsStepOf, IsCounted, AreOnTop, AreTakenOff, IsEffect, AreDone};
 
-use grammar_core::{
-    Flat, FlatSource, FlatSymbol, RuleId, SymbolId, TreeStep, Written, WrittenRule,
-};
+use grammar_core::{Flat, FlatSource, FlatSymbol, SymbolId, TreeStep, Written};
 use value_text::NoMemory;
 
 /// A step of a flat derivation, by the numbers of flat symbols and rules.
@@ -47,17 +45,6 @@ pub struct Effect {
     pub step: Option<TreeStep>,
 }
 
-// The left side of a written rule.
-fn left_of(written: &Written, rule: RuleId) -> SymbolId
-    requires { rule < length written.now.rules }
-    ensures { result ≡ written_lhs (rule_at written.now rule) }
-{
-    match written.written_rule(rule) {
-        WrittenRule::Plain(rule) => rule.lhs,
-        WrittenRule::Sequence(rule) => rule.lhs,
-    }
-}
-
 // The written symbol that a flat one stands for.
 fn written_symbol(flat: &Flat, written: &Written, x: u32) -> SymbolId
     requires flat_of { IsFlatOf flat.now written.now }
@@ -67,7 +54,7 @@ fn written_symbol(flat: &Flat, written: &Written, x: u32) -> SymbolId
     match flat.symbol(x) {
         FlatSymbol::Terminal(symbol) => symbol,
         FlatSymbol::Slot { symbol, .. } => symbol,
-        FlatSymbol::Sequence(rule) => left_of(written, rule),
+        FlatSymbol::Sequence(rule) => written.written_rule(rule).lhs(),
         FlatSymbol::Top(k) => written.start(k as usize),
     }
 }

@@ -5,7 +5,7 @@ use Rattle.std.proofs.lemmas.Str.{encode_same, encode_ascii, length-encode, len_
 use Rattle.std.proofs.lemmas.Bool.{eqb-true}
 use Rattle.std.proofs.lemmas.Bool.Decides.{nat_tests}
 use Rattle.grammar_model.specs.Text.{escaped, hex_digit, is_control}
-use Rattle.tree_text.specs.Fronts.{NeverBegins, HasNoCharacter, has_code}
+use Rattle.tree_text.specs.Prefixes.{NeverBegins, HasNoCharacter, has_code}
 
 -- a text that begins with a character begins with no other
 pub never_empty : (text : List ℕ) (c : ℕ) → text ≡ [] → NeverBegins text (encode_utf8 c)

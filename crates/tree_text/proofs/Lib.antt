@@ -1,5 +1,5 @@
 pub mod Escapes
-pub mod Fronts
+pub mod Prefixes
 pub mod Numbers
 pub mod Quoted
 pub mod Reading

@@ -5,18 +5,18 @@ use Rattle.std.specs.Fmt.{decimal}
 use Rattle.std.specs.Str.Parse.{AllDigits, digits_value, ParsesUnsigned}
 use Rattle.std.proofs.lemmas.Str.Parse.{IsNumeralModel, numerals_by_value, tells_digits, parse_digits, digit_from_value}
 use Rattle.std.proofs.lemmas.Fmt.{digits_decimal, digits_value-decimal, decimal-digits_value, decimal_nonempty, first_decimal, decimal_digit, decimal_injective}
-use Rattle.tree_text.specs.Fronts.{IsNumberEnd, IsNumber, HasNoNumber}
+use Rattle.tree_text.specs.Prefixes.{IsNumberEnd, IsNumber, HasNoNumber}
 
 own : IsNumeralModel (AllDigits 10) (digits_value 10)
 own = numerals_by_value (AllDigits 10) tells_digits
 
 -- a text is cut behind its first digits in one way
 record Cut (xs ys r s : List ℕ) : Type 0 where
-  front : xs ≡ ys
+  prefix : xs ≡ ys
   back : r ≡ s
 
 cut : (xs ys r s : List ℕ) → AllDigits 10 xs → AllDigits 10 ys → IsNumberEnd r → IsNumberEnd s → xs ++ r ≡ ys ++ s → Cut xs ys r s
-cut [] [] r s dx dy er es e = record { front = refl; back = e }
+cut [] [] r s dx dy er es e = record { prefix = refl; back = e }
 cut [] (y ∷ ys) r s dx dy er es e =
     let first : get_or r 0 0 ≡ y = ap (λ b. get_or b 0 0) e in
     absurd (er (subst (IsInRange 48 57) (sym first) (digit_from_value y dy.0)))
@@ -27,12 +27,12 @@ cut (x ∷ xs) (y ∷ ys) r s dx dy er es e =
     let rest : xs ++ r ≡ ys ++ s = cc in
     let first : x ≡ y = cc in
     let more = cut xs ys r s dx.1 dy.1 er es rest in
-    record { front = λ i. first i ∷ more.front i; back = more.back }
+    record { prefix = λ i. first i ∷ more.prefix i; back = more.back }
 
 -- the digits of a number that a text begins with are all its first digits
 digits_are : (text ds rest : List ℕ) → text ≡ ds ++ rest → AllDigits 10 ds → IsNumberEnd rest → (n : ℕ) (r : List ℕ) → IsNumber text n r → ds ≡ decimal n
 digits_are text ds rest e digits end n r is =
-    (cut ds (decimal n) rest r digits (digits_decimal own n is.small) end is.ends (sym e ∙ is.is)).front
+    (cut ds (decimal n) rest r digits (digits_decimal own n is.small) end is.ends (sym e ∙ is.is)).prefix
 
 no_zero_first : (n : ℕ) → n < 2 ^ 64 → 1 < length (decimal n) → get_or (decimal n) 0 0 ≡ 48 → ⊥
 no_zero_first zero small long first =
@@ -76,7 +76,7 @@ first_digit n rest small = first_digit_of (decimal n) rest (digits_decimal own n
 pub same_number : (text : List ℕ) (m n : ℕ) (r s : List ℕ) → IsNumber text m r → IsNumber text n s → (m ≡ n) × (r ≡ s)
 same_number text m n r s is it =
     let both = cut (decimal m) (decimal n) r s (digits_decimal own m is.small) (digits_decimal own n it.small) is.ends it.ends (sym is.is ∙ it.is) in
-    (decimal_injective m n is.small it.small both.front, both.back)
+    (decimal_injective m n is.small it.small both.prefix, both.back)
 
 -- some digit is read
 pub number_shorter : (text rest : List ℕ) (n : ℕ) → IsNumber text n rest → length rest < length text

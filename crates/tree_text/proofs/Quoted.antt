@@ -6,7 +6,7 @@ use Rattle.std.specs.List.{flat_map}
 use Rattle.std.proofs.lemmas.Grind.{flat_map-append}
 use Rattle.std.proofs.lemmas.Str.{encodes_same, encodes-chars, encodes-append, chars-nil}
 use Rattle.grammar_model.specs.Text.{escaped}
-use Rattle.tree_text.specs.Fronts.{NeverBegins, HasNoCharacter, quoted, IsQuoted}
+use Rattle.tree_text.specs.Prefixes.{NeverBegins, HasNoCharacter, quoted, IsQuoted}
 use Rattle.tree_text.proofs.Escapes.{escaped_same, no_quote, escaped_some}
 use lib.Utf8.{encodes}
 

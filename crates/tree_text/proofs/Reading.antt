@@ -6,15 +6,15 @@ use Rattle.tree_text.specs.declared.read.Place.{Place}
 use Rattle.tree_text.specs.declared.read.Place.TheVariants.{Value as ValueNext, Items as ItemsNext, After}
 use Rattle.std.specs.String.{string_bytes}
 use Rattle.std.proofs.lemmas.Bool.{eqb-true}
-use Rattle.std.proofs.lemmas.List.{map-append}
+use Rattle.std.proofs.lemmas.List.{map-append, nil_from_length}
 use Rattle.tree_text.specs.declared.part.Part.{Part as PartCode}
 use Rattle.tree_text.specs.declared.part.Part.TheVariants.{Undefined as UndefinedCode, Number as NumberCode, Text as TextCode, Open as OpenCode, Close as CloseCode}
 use Rattle.tree_text.specs.Parts.{Part, part_of, Opens, Closes, Atom, parts_of, parts_of_all, IsHeld, AreHeld}
-use Rattle.tree_text.specs.Fronts.{NeverBegins, IsNumberEnd, IsAtom, BeginsWith, IsFrontOf, CanEnd, RefusesFront}
+use Rattle.tree_text.specs.Prefixes.{NeverBegins, IsNumberEnd, IsAtom, BeginsWith, IsPrefixOf, CanEnd, RefusesPrefix}
 use Rattle.tree_text.specs.Reading.{IsRead, IsNoText, RefusesText}
 use Rattle.tree_text.specs.declared.part.ReadRefusal.{ReadRefusal}
 use Rattle.tree_text.specs.declared.part.ReadRefusal.TheVariants.{NotValue, NoMemory}
-use Rattle.tree_text.proofs.Fronts.{Kind, IsOpen, IsUndefined, IsTextOf, IsNumberOf, kind}
+use Rattle.tree_text.proofs.Prefixes.{Kind, IsOpen, IsUndefined, IsTextOf, IsNumberOf, kind}
 
 -- what is left of each open list, the innermost first, as text and as parts
 abbrev behind_text : List Values → List ℕ
@@ -73,17 +73,13 @@ pub record Reading (text : List ℕ) (place : Place) (depth : ℕ) (parts : List
   only : (w : Value) → IsHeld w → text_of w ≡ text → Coming whole place depth rest w
   begun : IsOpenAt place depth
 
-no_lists : (lists : List Values) → length lists ≡ 0 → lists ≡ []
-no_lists [] e = refl
-no_lists (items ∷ lists) e = absurd (omega arith)
-
 pub begin : (text : List ℕ) (parts : List Part) → parts ≡ [] → Reading text ValueNext 0 parts text
 begin text parts none = record {
   taken = [];
   cut = refl;
   whole = λ v lists. v;
-  text_is = λ v lists e. sym (ap (λ l. text_of v ++ behind_text l) (no_lists lists e) ∙ append-nil (text_of v));
-  parts_are = λ v lists e. sym ((λ i. none i ++ (parts_of v ++ behind_parts (no_lists lists e i))) ∙ append-nil (parts_of v));
+  text_is = λ v lists e. sym (ap (λ l. text_of v ++ behind_text l) (nil_from_length lists e) ∙ append-nil (text_of v));
+  parts_are = λ v lists e. sym ((λ i. none i ++ (parts_of v ++ behind_parts (nil_from_length lists e i))) ∙ append-nil (parts_of v));
   held = λ v lists e h all. h;
   only = λ w h e. record { value = w; lists = []; count = refl; held = h; all_held = tt; plain = tt; made = refl; is = sym e ∙ sym (append-nil (text_of w)) };
   begun = tt;
@@ -98,10 +94,10 @@ list_text : (items : Values) (after : List ℕ) → text_of (ListOf items) ++ af
 list_text items after = ap (λ b. 91 ∷ b) (append_assoc (texts_of items) (93 ∷ []) after)
 
 begins_by : (rest : List ℕ) (v : Value) (after : List ℕ) → IsHeld v → IsNumberEnd after → rest ≡ text_of v ++ after → Begins rest v after
-begins_by rest Undefined after held end is = AtomBegins (record { is = is; front = (tt, tt); ends = tt }) refl
-begins_by rest (Number n) after held end is = AtomBegins (record { is = is; front = (held, tt); ends = end }) refl
-begins_by rest (Text bytes) after held end is = AtomBegins (record { is = is; front = (held, tt); ends = tt }) refl
-begins_by rest (ListOf items) after held end is = ListBegins items refl held (record { is = is ∙ list_text items after; front = tt; ends = tt })
+begins_by rest Undefined after held end is = AtomBegins (record { is = is; prefix = (tt, tt); ends = tt }) refl
+begins_by rest (Number n) after held end is = AtomBegins (record { is = is; prefix = (held, tt); ends = end }) refl
+begins_by rest (Text bytes) after held end is = AtomBegins (record { is = is; prefix = (held, tt); ends = tt }) refl
+begins_by rest (ListOf items) after held end is = ListBegins items refl held (record { is = is ∙ list_text items after; prefix = tt; ends = tt })
 
 -- behind a value comes no digit
 end_by : (items : Values) (more : List ℕ) → IsNumberEnd (texts_after items ++ 93 ∷ more)
@@ -212,10 +208,10 @@ atom_parts (ListOf items) h = absurd h
 same_atom : (v x : Value) → Atom v ≡ Atom x → v ≡ x
 same_atom v x e = cc
 
-atom_only : (whole : Value → List Values → Value) (depth : ℕ) (rest left : List ℕ) (w x value : Value) (lists : List Values) → IsFrontOf rest (Atom x) left → length lists ≡ depth → AllHeld lists → w ≡ whole value lists →
+atom_only : (whole : Value → List Values → Value) (depth : ℕ) (rest left : List ℕ) (w x value : Value) (lists : List Values) → IsPrefixOf rest (Atom x) left → length lists ≡ depth → AllHeld lists → w ≡ whole value lists →
     Begins rest value (behind_text lists) → Coming (λ v ls. whole x ls) After depth left w
-atom_only whole depth rest left w x value lists front count all made (AtomBegins begins one) =
-    let same = front.only (Atom value) (behind_text lists) begins in
+atom_only whole depth rest left w x value lists prefix count all made (AtomBegins begins one) =
+    let same = prefix.only (Atom value) (behind_text lists) begins in
     record {
       value = Undefined;
       lists = lists;
@@ -226,22 +222,22 @@ atom_only whole depth rest left w x value lists front count all made (AtomBegins
       made = made ∙ ap (λ v. whole v lists) (same_atom value x same.0);
       is = sym same.1;
     }
-atom_only whole depth rest left w x value lists front count all made (ListBegins items is held begins) =
-    let same = front.only Opens (texts_of items ++ 93 ∷ behind_text lists) begins in
+atom_only whole depth rest left w x value lists prefix count all made (ListBegins items is held begins) =
+    let same = prefix.only Opens (texts_of items ++ 93 ∷ behind_text lists) begins in
     let bad : Opens ≡ Atom x = same.0 in cc
 
-pub atom_step : (text : List ℕ) (depth : ℕ) (parts : List Part) (rest left : List ℕ) (x : Value) → Reading text ValueNext depth parts rest → IsFrontOf rest (Atom x) left → Reading text After depth (parts ++ Atom x ∷ []) left
-atom_step text depth parts rest left x reading front = record {
+pub atom_step : (text : List ℕ) (depth : ℕ) (parts : List Part) (rest left : List ℕ) (x : Value) → Reading text ValueNext depth parts rest → IsPrefixOf rest (Atom x) left → Reading text After depth (parts ++ Atom x ∷ []) left
+atom_step text depth parts rest left x reading prefix = record {
   taken = reading.taken ++ text_of x;
-  cut = reading.cut ∙ ap (λ b. reading.taken ++ b) front.begins.is ∙ sym (append_assoc reading.taken (text_of x) left);
+  cut = reading.cut ∙ ap (λ b. reading.taken ++ b) prefix.begins.is ∙ sym (append_assoc reading.taken (text_of x) left);
   whole = λ v lists. reading.whole x lists;
   text_is = λ v lists e. reading.text_is x lists e ∙ sym (append_assoc reading.taken (text_of x) (behind_text lists));
   parts_are = λ v lists e.
-      reading.parts_are x lists e ∙ ap (λ b. parts ++ (b ++ behind_parts lists)) (atom_parts x front.begins.front.1) ∙ sym (append_assoc parts (Atom x ∷ []) (behind_parts lists));
-  held = λ v lists e h all. reading.held x lists e front.begins.front.0 all;
+      reading.parts_are x lists e ∙ ap (λ b. parts ++ (b ++ behind_parts lists)) (atom_parts x prefix.begins.prefix.1) ∙ sym (append_assoc parts (Atom x ∷ []) (behind_parts lists));
+  held = λ v lists e h all. reading.held x lists e prefix.begins.prefix.0 all;
   only = λ w h e.
       let k = reading.only w h e in
-      atom_only reading.whole depth rest left w x k.value k.lists front k.count k.all_held k.made (begins_by rest k.value (behind_text k.lists) k.held (ends k.lists) k.is);
+      atom_only reading.whole depth rest left w x k.value k.lists prefix k.count k.all_held k.made (begins_by rest k.value (behind_text k.lists) k.held (ends k.lists) k.is);
   begun = tt;
 }
 
@@ -253,13 +249,13 @@ with_list whole (items ∷ lists) = whole (ListOf items) lists
 list_parts : (items : Values) (more : List Part) → parts_of (ListOf items) ++ more ≡ Opens ∷ (parts_of_all items ++ Closes ∷ more)
 list_parts items more = ap (λ b. Opens ∷ b) (append_assoc (parts_of_all items) (Closes ∷ []) more)
 
-open_only : (whole : Value → List Values → Value) (depth deeper : ℕ) (rest left : List ℕ) (w value : Value) (lists : List Values) → deeper ≡ depth + 1 → IsFrontOf rest Opens left → length lists ≡ depth → AllHeld lists → w ≡ whole value lists →
+open_only : (whole : Value → List Values → Value) (depth deeper : ℕ) (rest left : List ℕ) (w value : Value) (lists : List Values) → deeper ≡ depth + 1 → IsPrefixOf rest Opens left → length lists ≡ depth → AllHeld lists → w ≡ whole value lists →
     Begins rest value (behind_text lists) → Coming (λ v ls. with_list whole ls) ItemsNext deeper left w
-open_only whole depth deeper rest left w value lists more front count all made (AtomBegins begins one) =
-    let same = front.only (Atom value) (behind_text lists) begins in
+open_only whole depth deeper rest left w value lists more prefix count all made (AtomBegins begins one) =
+    let same = prefix.only (Atom value) (behind_text lists) begins in
     let bad : Atom value ≡ Opens = same.0 in cc
-open_only whole depth deeper rest left w value lists more front count all made (ListBegins items is held begins) =
-    let same = front.only Opens (texts_of items ++ 93 ∷ behind_text lists) begins in
+open_only whole depth deeper rest left w value lists more prefix count all made (ListBegins items is held begins) =
+    let same = prefix.only Opens (texts_of items ++ 93 ∷ behind_text lists) begins in
     record {
       value = Undefined;
       lists = items ∷ lists;
@@ -290,17 +286,17 @@ open_held : (text : List ℕ) (depth deeper : ℕ) (parts : List Part) (rest : L
 open_held text depth deeper parts rest reading more v [] e all = tt
 open_held text depth deeper parts rest reading more v (items ∷ lists) e all = reading.held (ListOf items) lists (omega arith) all.0 all.1
 
-pub open_step : (text : List ℕ) (depth deeper : ℕ) (parts : List Part) (rest left : List ℕ) → deeper ≡ depth + 1 → Reading text ValueNext depth parts rest → IsFrontOf rest Opens left → Reading text ItemsNext deeper (parts ++ Opens ∷ []) left
-open_step text depth deeper parts rest left more reading front = record {
+pub open_step : (text : List ℕ) (depth deeper : ℕ) (parts : List Part) (rest left : List ℕ) → deeper ≡ depth + 1 → Reading text ValueNext depth parts rest → IsPrefixOf rest Opens left → Reading text ItemsNext deeper (parts ++ Opens ∷ []) left
+open_step text depth deeper parts rest left more reading prefix = record {
   taken = reading.taken ++ 91 ∷ [];
-  cut = reading.cut ∙ ap (λ b. reading.taken ++ b) front.begins.is ∙ sym (append_assoc reading.taken (91 ∷ []) left);
+  cut = reading.cut ∙ ap (λ b. reading.taken ++ b) prefix.begins.is ∙ sym (append_assoc reading.taken (91 ∷ []) left);
   whole = λ v lists. with_list reading.whole lists;
   text_is = open_text text depth deeper parts rest reading more;
   parts_are = open_parts text depth deeper parts rest reading more;
   held = λ v lists e h all. open_held text depth deeper parts rest reading more v lists e all;
   only = λ w h e.
       let k = reading.only w h e in
-      open_only reading.whole depth deeper rest left w k.value k.lists more front k.count k.all_held k.made (begins_by rest k.value (behind_text k.lists) k.held (ends k.lists) k.is);
+      open_only reading.whole depth deeper rest left w k.value k.lists more prefix k.count k.all_held k.made (begins_by rest k.value (behind_text k.lists) k.held (ends k.lists) k.is);
   begun = omega arith;
 }
 
@@ -396,14 +392,14 @@ comma_step text depth parts rest left some reading e = record {
 }
 
 -- nothing can come
-never_front : (rest : List ℕ) (v : Value) (after : List ℕ) → ((p : Part) (r : List ℕ) → ¬ (BeginsWith rest p r)) → Begins rest v after → ⊥
-never_front rest v after none (AtomBegins begins one) = none (Atom v) after begins
-never_front rest v after none (ListBegins items is held begins) = none Opens (texts_of items ++ 93 ∷ after) begins
+never_prefix : (rest : List ℕ) (v : Value) (after : List ℕ) → ((p : Part) (r : List ℕ) → ¬ (BeginsWith rest p r)) → Begins rest v after → ⊥
+never_prefix rest v after none (AtomBegins begins one) = none (Atom v) after begins
+never_prefix rest v after none (ListBegins items is held begins) = none Opens (texts_of items ++ 93 ∷ after) begins
 
-pub no_value : (text : List ℕ) (depth : ℕ) (parts : List Part) (rest : List ℕ) (why : ReadRefusal) → Reading text ValueNext depth parts rest → RefusesFront rest why → RefusesText text why
+pub no_value : (text : List ℕ) (depth : ℕ) (parts : List Part) (rest : List ℕ) (why : ReadRefusal) → Reading text ValueNext depth parts rest → RefusesPrefix rest why → RefusesText text why
 no_value text depth parts rest (NotValue left) reading none = λ w h e.
     let k = reading.only w h e in
-    never_front rest k.value (behind_text k.lists) none (begins_by rest k.value (behind_text k.lists) k.held (ends k.lists) k.is)
+    never_prefix rest k.value (behind_text k.lists) none (begins_by rest k.value (behind_text k.lists) k.held (ends k.lists) k.is)
 no_value text depth parts rest NoMemory reading none = tt
 
 after_by : (depth : ℕ) (rest : List ℕ) (lists : List Values) → (depth ≡ 0 → rest ≢ []) → (0 < depth → NeverBegins rest (93 ∷ [])) → (0 < depth → NeverBegins rest (44 ∷ [])) → length lists ≡ depth → rest ≡ behind_text lists → ⊥
@@ -424,17 +420,17 @@ done text depth parts rest reading none all = record {
   is = reading.text_is Undefined [] (sym none) ∙ sym (reading.cut ∙ ap (λ b. reading.taken ++ b) all);
   only = λ v h e.
       let k = reading.only v h e in
-      k.made ∙ (λ i. reading.whole (k.plain i) (no_lists k.lists (k.count ∙ none) i));
+      k.made ∙ (λ i. reading.whole (k.plain i) (nil_from_length k.lists (k.count ∙ none) i));
   told = sym (reading.parts_are Undefined [] (sym none) ∙ append-nil parts);
 }
 
 -- the part that a value begins with is read, where it is no list's
-pub part_step : (text : List ℕ) (depth : ℕ) (parts : List Part) (rest left : List ℕ) (part : PartCode) → part ≢ OpenCode → Reading text ValueNext depth parts rest → IsFrontOf rest (part_of part) left → Reading text After depth (parts ++ part_of part ∷ []) left
-part_step text depth parts rest left UndefinedCode other reading front = atom_step text depth parts rest left Undefined reading front
-part_step text depth parts rest left (NumberCode n) other reading front = atom_step text depth parts rest left (Number n) reading front
-part_step text depth parts rest left (TextCode t) other reading front = atom_step text depth parts rest left (Text (string_bytes t)) reading front
-part_step text depth parts rest left OpenCode other reading front = absurd (other refl)
-part_step text depth parts rest left CloseCode other reading front = absurd front.begins.front
+pub part_step : (text : List ℕ) (depth : ℕ) (parts : List Part) (rest left : List ℕ) (part : PartCode) → part ≢ OpenCode → Reading text ValueNext depth parts rest → IsPrefixOf rest (part_of part) left → Reading text After depth (parts ++ part_of part ∷ []) left
+part_step text depth parts rest left UndefinedCode other reading prefix = atom_step text depth parts rest left Undefined reading prefix
+part_step text depth parts rest left (NumberCode n) other reading prefix = atom_step text depth parts rest left (Number n) reading prefix
+part_step text depth parts rest left (TextCode t) other reading prefix = atom_step text depth parts rest left (Text (string_bytes t)) reading prefix
+part_step text depth parts rest left OpenCode other reading prefix = absurd (other refl)
+part_step text depth parts rest left CloseCode other reading prefix = absurd prefix.begins.prefix
 
 pub at_place : (text : List ℕ) (place other : Place) (depth : ℕ) (parts more : List Part) (rest : List ℕ) → place ≡ other → more ≡ parts → Reading text place depth parts rest → Reading text other depth more rest
 at_place text place other depth parts more rest e f reading = subst (λ q. Reading text q depth more rest) e (subst (λ ps. Reading text place depth ps rest) (sym f) reading)

@@ -2,7 +2,7 @@
 use Rattle.std.proofs.Common.{◌≡◌, ℕ, ◌<◌, List, [], ◌∷◌, ◌++◌, sym, ap, ◌∙◌, Option, Some, None, MatchOption, arith, codes}
 use denote.Bor.{Bor}
 use Rattle.std.specs.Char.{encode_utf8}
-use Rattle.tree_text.specs.Fronts.{NeverBegins}
+use Rattle.tree_text.specs.Prefixes.{NeverBegins}
 use Rattle.tree_text.proofs.Escapes.{encode_small, begins_small, never_small}
 
 pub word_first : (text : List ℕ) (c : ℕ) (word : List ℕ) → c < 128 → NeverBegins text (encode_utf8 c) → NeverBegins text (c ∷ word)

@@ -1,5 +1,5 @@
 pub mod Parts
-pub mod Fronts
+pub mod Prefixes
 pub mod Reading
 pub mod Looks
 pub mod Differences

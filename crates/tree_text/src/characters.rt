@@ -2,8 +2,8 @@
 ghost use Rattle.std.specs.Prelude.{◌≡◌, ◌≢◌, ◌<◌, ℕ, [], ◌∷◌, ◌++◌, length, encode_utf8, MatchOption};
 ghost use Rattle.grammar_model.specs.Text as text_model;
 ghost use Rattle.grammar_model.specs.Text.{escaped, hex_digit};
-ghost use Rattle.tree_text.specs.Fronts as fronts;
-ghost use Rattle.tree_text.specs.Fronts.{NeverBegins, HasNoCharacter};
+ghost use Rattle.tree_text.specs.Prefixes as prefixes;
+ghost use Rattle.tree_text.specs.Prefixes.{NeverBegins, HasNoCharacter};
 
 /// The first character of a text, and what is behind it.
 pub(crate) fn split_first(text: &str) -> Option<(char, &str)>
@@ -43,7 +43,7 @@ fn is_control(c: char) -> bool
 
 /// Whether a character's escape has its code.
 fn has_code(c: char) -> bool
-    ensures { result ≡ fronts.has_code c }
+    ensures { result ≡ prefixes.has_code c }
 {
     is_control(c) && !matches!(c, '\n' | '\r' | '\t')
 }

@@ -37,40 +37,43 @@ struct Open {
     below: Option<usize>,
 }
 
+/// The label of a node of this name, by the parts behind the name, and what is behind it.
+fn label_named<'p>(name: &'p str, parts: &'p [Part]) -> Option<(Label<'p>, &'p [Part])> {
+    let (first, behind) = parts.split_first()?;
+    match first {
+        Part::Number(rule) => Some((Label::Rule { name, rule: *rule }, behind)),
+        Part::Close => Some((Label::Nulled { name }, behind)),
+        Part::Text(text) => match behind.split_first()? {
+            (Part::Close, rest) => {
+                let text = text.as_str();
+                Some((Label::Token { name, text }, rest))
+            }
+            _ => None,
+        },
+        _ => None,
+    }
+}
+
+/// The label of what is open in front of some parts, and what is behind it.
+fn label_within(parts: &[Part]) -> (Label<'_>, &[Part]) {
+    let named = match parts.split_first() {
+        Some((Part::Text(name), behind)) => label_named(name.as_str(), behind),
+        _ => None,
+    };
+    named.unwrap_or((Label::List, parts))
+}
+
 /// The label at the front of some parts, and what is behind it.
 fn label_at(parts: &[Part]) -> (Label<'_>, &[Part]) {
-    match parts {
-        [Part::Open, Part::Text(name), Part::Number(rule), rest @ ..] => (
-            Label::Rule {
-                name: name.as_str(),
-                rule: *rule,
-            },
-            rest,
-        ),
-        [
-            Part::Open,
-            Part::Text(name),
-            Part::Text(text),
-            Part::Close,
-            rest @ ..,
-        ] => (
-            Label::Token {
-                name: name.as_str(),
-                text: text.as_str(),
-            },
-            rest,
-        ),
-        [Part::Open, Part::Text(name), Part::Close, rest @ ..] => (
-            Label::Nulled {
-                name: name.as_str(),
-            },
-            rest,
-        ),
-        [Part::Number(n), rest @ ..] => (Label::Number(*n), rest),
-        [Part::Text(text), rest @ ..] => (Label::Text(text.as_str()), rest),
-        [Part::Undefined, rest @ ..] => (Label::Undefined, rest),
-        [_, rest @ ..] => (Label::List, rest),
-        [] => (Label::List, parts),
+    let Some((first, rest)) = parts.split_first() else {
+        return (Label::List, parts);
+    };
+    match first {
+        Part::Open => label_within(rest),
+        Part::Number(n) => (Label::Number(*n), rest),
+        Part::Text(text) => (Label::Text(text.as_str()), rest),
+        Part::Undefined => (Label::Undefined, rest),
+        _ => (Label::List, rest),
     }
 }
 

@@ -2,7 +2,7 @@
 ghost use Rattle.std.specs.Prelude.{◌≡◌, ◌≢◌, ◌<◌, ◌≤◌, ◌++◌, ℕ, [], ◌∷◌, length, slice_index, MatchBool, map, chars, codes, string_bytes, IfOk, IfErr, MatchOption};
 ghost use Rattle.std.specs.Str.Parse.{AllDigits};
 ghost use Rattle.tree_text.specs.Parts.{part_of};
-ghost use Rattle.tree_text.specs.Fronts.{IsNumberEnd, IsNumber, HasNoNumber, NeverBegins, CanEnd, IsQuoted, RefusesQuoted, IsFrontOf, RefusesFront};
+ghost use Rattle.tree_text.specs.Prefixes.{IsNumberEnd, IsNumber, HasNoNumber, NeverBegins, CanEnd, IsQuoted, RefusesQuoted, IsPrefixOf, RefusesPrefix};
 ghost use Rattle.tree_text.specs.Reading.{IsRead, RefusesText};
 
 use crate::characters::{behind, read_character};
@@ -87,9 +87,9 @@ fn behind_undef(text: &str) -> Option<&str>
 }
 
 /// The part that a value begins with, and what is behind it.
-fn read_front(alloc: Global, text: &str) -> Result<(Part, &str), ReadRefusal>
-    ensures ok { IfOk result (λ x. IsFrontOf text.now (part_of x.0) x.1.now) }
-    ensures err { IfErr result (RefusesFront text.now) }
+fn read_prefix(alloc: Global, text: &str) -> Result<(Part, &str), ReadRefusal>
+    ensures ok { IfOk result (λ x. IsPrefixOf text.now (part_of x.0) x.1.now) }
+    ensures err { IfErr result (RefusesPrefix text.now) }
 {
     if let Some(rest) = behind('[', text) {
         return Ok((Part::Open, rest));
@@ -167,7 +167,7 @@ pub fn read_value(alloc: Global, text: &str) -> Result<Vec<Part>, ReadRefusal>
             place = Place::Value;
             continue;
         }
-        let (part, left) = read_front(alloc, rest)?;
+        let (part, left) = read_prefix(alloc, rest)?;
         rest = left;
         if let Part::Open = part {
             parts.push(Part::Open)?;

@@ -5,7 +5,7 @@ use Rattle.std.proofs.lemmas.List.{append-nil}
 use Rattle.grammar_model.specs.declared.Show.{Show}
 use Rattle.grammar_model.specs.Grammar.{Grammar, WrittenRule, Plain, Sequence, SequenceRule, rule_at, lhs_of, Slot, child_slot, sequence_symbol, is_even, IsChildCount}
 use Rattle.grammar_model.specs.Trees.{Tree, Children, Leaf, Nulled, Node, NoChild, Child, child_count}
-use Rattle.grammar_model.specs.Derives.{Derives, DerivesFront}
+use Rattle.grammar_model.specs.Derives.{Derives, DerivesPrefix}
 use Rattle.grammar_model.specs.Steps.{Step, RuleStep, steps_of, steps_of_all}
 use Rattle.grammar_model.specs.Values.{Value, Meaning, Token, value_of, told_all}
 use Rattle.grammar_model.proofs.Values.{steps_tell_value}
@@ -49,19 +49,19 @@ module _ (g : Grammar) (written : IsWritten g) (places : ℕ) where
         let end : b ≤ places = (let e' = d.to_is in omega arith) in
         let same : held + n - n ≡ held = omega arith in
         subst (CanTellAll g places held) (sym (append_assoc (steps_of_all cs) (RuleStep i n a b ∷ []) rest))
-        (can_tell_children (rule_at g i) p q cs (known_child (length g.names) (rule_at g i) n each d.complete) inside d.front held (RuleStep i n a b ∷ rest)
+        (can_tell_children (rule_at g i) p q cs (known_child (length g.names) (rule_at g i) n each d.complete) inside d.prefix held (RuleStep i n a b ∷ rest)
         ((d.in_range, lhs, d.complete, order, end, omega arith), subst (λ m. CanTellAll g places (suc m) rest) (sym same) after))
 
-    can_tell_children : (rule : WrittenRule) (p q : ℕ) (cs : Children) → ((k : ℕ) → k < child_count cs → (child_slot rule k).symbol < length g.names) → q ≤ places → DerivesFront g OnePlace rule p q cs →
+    can_tell_children : (rule : WrittenRule) (p q : ℕ) (cs : Children) → ((k : ℕ) → k < child_count cs → (child_slot rule k).symbol < length g.names) → q ≤ places → DerivesPrefix g OnePlace rule p q cs →
         (held : ℕ) (rest : List Step) → CanTellAll g places (held + child_count cs) rest → CanTellAll g places held (steps_of_all cs ++ rest)
     can_tell_children rule p q NoChild known inside d held rest after =
         let same : held + 0 ≡ held = omega arith in subst (λ m. CanTellAll g places m rest) same after
-    can_tell_children rule p q (Child front last) known inside (r, f, d) held rest after =
+    can_tell_children rule p q (Child prefix last) known inside (r, f, d) held rest after =
         let before = ahead g _ r q last d in
-        let same : held + suc (child_count front) ≡ suc (held + child_count front) = omega arith in
-        subst (CanTellAll g places held) (sym (append_assoc (steps_of_all front) (steps_of last) rest))
-        (can_tell_children rule p r front (λ k b. known k (omega arith)) (omega arith) f held (steps_of last ++ rest)
-        (can_tell_tree (child_slot rule (child_count front)) r q last (known (child_count front) (omega arith)) inside d (held + child_count front) rest
+        let same : held + suc (child_count prefix) ≡ suc (held + child_count prefix) = omega arith in
+        subst (CanTellAll g places held) (sym (append_assoc (steps_of_all prefix) (steps_of last) rest))
+        (can_tell_children rule p r prefix (λ k b. known k (omega arith)) (omega arith) f held (steps_of last ++ rest)
+        (can_tell_tree (child_slot rule (child_count prefix)) r q last (known (child_count prefix) (omega arith)) inside d (held + child_count prefix) rest
         (subst (λ m. CanTellAll g places m rest) same after)))
 
   can_tell_steps : (steps : List Step) → AreSteps g places steps → (held : ℕ) → CanTellAll g places held steps

@@ -1,17 +1,15 @@
 -- The first rules that null their symbols, as they are found.
-use Rattle.std.proofs.Common.{◌≡◌, ◌≢◌, ℕ, ◌+◌, ◌<◌, Bool, true, false, ◌&&◌, Option, Some, None, List, length, get_or, set, ◌⊎◌, inl, inr, refl, sym, ap, ◌∙◌, subst, arith, replicate}
-use Rattle.std.specs.Prelude.{slice_get}
+use Rattle.std.proofs.Common.{◌≡◌, ◌≢◌, ℕ, ◌+◌, ◌<◌, Bool, true, false, ◌&&◌, Option, Some, None, List, length, get_or, set, ◌⊎◌, inl, inr, sym, ap, ◌∙◌, subst, arith, replicate}
 use Rattle.std.proofs.lemmas.Bool.{eq-eqb, ne_eqb, cases_eq}
 use Rattle.std.proofs.lemmas.List.{get_or-set_same, get_or-set_other, get_or-replicate, length-replicate, length-set, get_or_default}
 use borrow.Author.Count.{below_more}
 use Rattle.grammar_model.specs.Grammar.{Grammar, WrittenRule, lhs_of, rule_at}
 use Rattle.grammar_model.specs.Values.{is_nulling, nulled_action}
-use Rattle.grammar_core.specs.Written.{IsWritten, symbols_of}
 use Rattle.value_text.specs.declared.meaning.Meaning.{Meaning as MeaningCode}
 use Rattle.value_text.specs.declared.meaning.RuleMeaning.{RuleMeaning as RuleMeaningCode}
 use Rattle.value_text.specs.Meaning.{meaning_of, action_of}
 use Rattle.valuator.specs.Nulling.{nulls_symbol, IsFirst, AreFirst, first_with}
-use Rattle.valuator.proofs.Played.{nulled_found, nulled_none, read_rule}
+use Rattle.valuator.proofs.Played.{nulled_found, nulled_none}
 
 -- a rule that does not null the symbol
 first_past : (g : Grammar) (s n : ℕ) (o : Option ℕ) → nulls_symbol s (rule_at g n) ≡ false → IsFirst g s n o → IsFirst g s (n + 1) o
@@ -29,7 +27,7 @@ first_other g s n ne = ap (λ b. b && is_nulling (rule_at g n)) (ne_eqb (lhs_of 
 pub none_first : (g : Grammar) (n : ℕ) → n ≡ length g.names → AreFirst g 0 (replicate n None)
 none_first g n e = (length-replicate n None ∙ e, λ s b. subst (IsFirst g s 0) (sym (get_or-replicate n s None None (omega (arith, e, b)))) (λ j l. absurd (omega arith)))
 
-pub more_first : (g : Grammar) (n symbol : ℕ) (rule : WrittenRule) (rules : List (Option ℕ)) (known : Option ℕ) → slice_get g.rules n ≡ Some rule → symbol ≡ lhs_of rule → symbol < length rules →
+pub more_first : (g : Grammar) (n symbol : ℕ) (rule : WrittenRule) (rules : List (Option ℕ)) (known : Option ℕ) → rule ≡ rule_at g n → symbol ≡ lhs_of (rule_at g n) → symbol < length rules →
     known ≡ get_or rules symbol known → AreFirst g n rules → AreFirst g (n + 1) (set rules symbol (first_with known (is_nulling rule) n))
 more_first g n symbol rule rules known read l inside at f = (length-set rules symbol entry ∙ f.0, each)
   where
@@ -37,31 +35,20 @@ more_first g n symbol rule rules known read l inside at f = (length-set rules sy
     entry = first_with known (is_nulling rule) n
 
     same : rule_at g n ≡ rule
-    same = read_rule g n rule read
+    same = sym read
 
     each : (s : ℕ) → s < length g.names → IsFirst g s (n + 1) (get_or (set rules symbol entry) s None)
     each s b = pick (cases_eq s symbol)
       where
         pick : (s ≡ symbol) ⊎ (s ≡ symbol → ⊥) → IsFirst g s (n + 1) (get_or (set rules symbol entry) s None)
         pick (inl e) =
-            let own : lhs_of (rule_at g n) ≡ s = ap lhs_of same ∙ sym l ∙ sym e in
+            let own : lhs_of (rule_at g n) ≡ s = sym l ∙ sym e in
             let held : get_or rules s None ≡ known = ap (λ k. get_or rules k None) e ∙ get_or_default rules symbol None known inside ∙ sym at in
             subst (IsFirst g s (n + 1)) (sym (ap (λ k. get_or (set rules symbol entry) k None) e ∙ get_or-set_same rules symbol entry None inside))
             (first_own g s n known (is_nulling rule) own (ap is_nulling same) (subst (IsFirst g s n) held (f.1 s b)))
         pick (inr ne) =
             subst (IsFirst g s (n + 1)) (sym (get_or-set_other rules symbol s entry None ne))
-            (first_past g s n _ (first_other g s n (λ e. ne (e ∙ ap lhs_of same ∙ sym l))) (f.1 s b))
-
-pub known_left : (g : Grammar) (n symbol : ℕ) (rule : WrittenRule) → IsWritten g → n < length g.rules → slice_get g.rules n ≡ Some rule → symbol ≡ lhs_of rule → symbol < length g.names
-known_left g n symbol rule w b read l = subst (λ s. s < length g.names) (sym (left (rule_at g n)) ∙ ap lhs_of (read_rule g n rule read) ∙ sym l) ((w.rules_known n b).0 0 0 (some (rule_at g n)))
-  where
-    left : (r : WrittenRule) → lhs_of r ≡ get_or (symbols_of r) 0 0
-    left (Rattle.grammar_model.specs.Grammar.Plain r) = refl
-    left (Rattle.grammar_model.specs.Grammar.Sequence r) = refl
-
-    some : (r : WrittenRule) → 0 < length (symbols_of r)
-    some (Rattle.grammar_model.specs.Grammar.Plain r) = omega arith
-    some (Rattle.grammar_model.specs.Grammar.Sequence r) = omega arith
+            (first_past g s n _ (first_other g s n (λ e. ne (e ∙ sym l))) (f.1 s b))
 
 -- the action of a nulled symbol, by the first rules
 pub first_inside : (g : Grammar) (rules : List (Option ℕ)) (at symbol : ℕ) (o d : Option ℕ) → AreFirst g (length g.rules) rules → symbol < length g.names → at ≡ symbol → d ≡ get_or rules at d → d ≡ o →

@@ -16,8 +16,8 @@ module _ (g : Grammar) (m : Meaning) (tokens : List Token) where
   length-told show values (TokenStep symbol from to) = omega (arith, length-append values (value_of_token show g m tokens symbol from ∷ []))
   length-told show values (NulledStep symbol at) = omega (arith, length-append values (value_of_nulled show g m tokens symbol at ∷ []))
   length-told show values (RuleStep i n from to) =
-      let front : length (take (length values - n) values) ≡ length values - n = length-take-le (length values - n) values (omega arith) in
-      omega (arith, front, length-append (take (length values - n) values) (value_of_rule show g m tokens i n from to (drop (length values - n) values) ∷ []))
+      let prefix : length (take (length values - n) values) ≡ length values - n = length-take-le (length values - n) values (omega arith) in
+      omega (arith, prefix, length-append (take (length values - n) values) (value_of_rule show g m tokens i n from to (drop (length values - n) values) ∷ []))
 
   told_all-push : (show : Show) (values : List Value) (steps : List Step) (step : Step) → told_all show g m tokens values (steps ++ step ∷ []) ≡ told show g m tokens (told_all show g m tokens values steps) step
   told_all-push show values [] step = refl

@@ -1,12 +1,12 @@
 -- What is told of a derivation's steps.
-use Rattle.std.proofs.Common.{◌≡◌, ℕ, zero, suc, ◌+◌, ◌-◌, ◌<◌, ◌≤◌, Bool, true, false, List, [], ◌∷◌, ◌++◌, length, map, get_or, refl, sym, ap, ◌∙◌, arith, length-append, Option, Some, None, cond, nat_lt}
+use Rattle.std.proofs.Common.{◌≡◌, ℕ, zero, suc, ◌+◌, ◌-◌, ◌<◌, ◌≤◌, Bool, true, false, List, [], ◌∷◌, ◌++◌, length, get_or, refl, sym, ap, ◌∙◌, arith, length-append, Option, Some, None, cond, nat_lt}
 use Rattle.grammar_core.specs.declared.steps.Span.{Span}
 use Rattle.grammar_model.specs.Values.{Value, RuleMeaning, is_nulling, Meaning, Action, MakeUndefined, meaning_at, Token, token_at, end_before, name_of, nulled_action, items_shown, shown_of, rule_value, value_of_rule, token_value, nulling_value, value_of_token, value_of_nulled}
 use Rattle.grammar_model.specs.declared.Show.{Show}
 use Rattle.grammar_model.specs.Grammar.{Grammar, Plain, Sequence, IsChildCount, is_item, is_even, WrittenRule, rule_at, no_rule, lhs_of}
 use Rattle.std.proofs.lemmas.List.Sums.{position_or_len_is}
 use Rattle.std.proofs.lemmas.Bool.{lt-ltb, le-ltb}
-use Rattle.std.proofs.lemmas.List.{length-map}
+use Rattle.std.proofs.lemmas.List.{length-map, get_or-map}
 use Rattle.std.proofs.lemmas.Option.{get_or_from_slice_get}
 use Rattle.std.specs.List.{position, position_or_len}
 use Rattle.std.specs.Prelude.{slice_get, option_map, ◌==◌, ◌&&◌, is_some, if◌then◌else◌}
@@ -16,25 +16,20 @@ use Rattle.value_text.specs.Meaning.{meaning_of, rule_meaning_of, action_of}
 use Rattle.valuator.specs.Play.{token_of, tokens_of, Suits}
 use Rattle.valuator.specs.Told.{replace_newest}
 
-pub get_or-mapped : {X Y : Type 0} (f : X → Y) (xs : List X) (i : ℕ) (d : X) (e : Y) → i < length xs → get_or (map f xs) i e ≡ f (get_or xs i d)
-get_or-mapped f [] i d e b = absurd (omega arith)
-get_or-mapped f (x ∷ xs) zero d e b = refl
-get_or-mapped f (x ∷ xs) (suc i) d e b = get_or-mapped f xs i d e (omega arith)
-
 pub end_of_span : (chars : List ℕ) (spans : List Span) (p : ℕ) (d : Span) → 0 < p → p ≤ length spans →
     (get_or spans (p - 1) d).start + (get_or spans (p - 1) d).length ≡ end_before (tokens_of chars spans) p
 end_of_span chars spans zero d some b = absurd (omega arith)
 end_of_span chars spans (suc p) d some b =
     let at : suc p - 1 ≡ p = omega arith in
     ap (λ k. (get_or spans k d).start + (get_or spans k d).length) at
-    ∙ sym (ap (λ (t : Token). t.start + t.length) (get_or-mapped (token_of chars) spans p d (record { start = 0; length = 0; text = [] }) (omega arith)))
+    ∙ sym (ap (λ (t : Token). t.start + t.length) (get_or-map (token_of chars) spans p d (record { start = 0; length = 0; text = [] }) (omega arith)))
 
 pub told_token : (show : Show) (g : Grammar) (m : Meaning) (chars : List ℕ) (spans : List Span) (old new : List Value) (symbol from : ℕ) (name text : List ℕ) (d : Span) (action : Option Action) →
     name ≡ name_of g symbol → text ≡ (token_at (tokens_of chars spans) from).text → from < length spans → action ≡ m.lexeme →
     new ≡ old ++ token_value show name text (get_or spans from d).start (get_or spans from d).length from action ∷ [] →
     new ≡ old ++ value_of_token show g m (tokens_of chars spans) symbol from ∷ []
 told_token show g m chars spans old new symbol from name text d action n t b a e =
-    let at : token_at (tokens_of chars spans) from ≡ token_of chars (get_or spans from d) = get_or-mapped (token_of chars) spans from d (record { start = 0; length = 0; text = [] }) b in
+    let at : token_at (tokens_of chars spans) from ≡ token_of chars (get_or spans from d) = get_or-map (token_of chars) spans from d (record { start = 0; length = 0; text = [] }) b in
     e ∙ (λ i. old ++ token_value show (n i) (t i) (sym at i).start (sym at i).length from (a i) ∷ [])
 
 pub told_nulled : (show : Show) (g : Grammar) (m : Meaning) (tokens : List Token) (old new : List Value) (symbol at : ℕ) (name : List ℕ) (start : ℕ) (action : Option Action) →
@@ -58,7 +53,7 @@ pub read_rule : (g : Grammar) (i : ℕ) (rule : WrittenRule) → slice_get g.rul
 read_rule g i rule e = get_or_from_slice_get g.rules i rule no_rule e
 
 pub meaning_read : (m : MeaningCode) (i : ℕ) (d : RuleMeaningCode) → i < length m.rules → meaning_at (meaning_of m) i ≡ rule_meaning_of (get_or m.rules i d)
-meaning_read m i d b = get_or-mapped rule_meaning_of m.rules i d (record { action = MakeUndefined; shown = []; sequence = false; separated = false }) b
+meaning_read m i d b = get_or-map rule_meaning_of m.rules i d (record { action = MakeUndefined; shown = []; sequence = false; separated = false }) b
 
 -- the action of a nulled symbol, by the first rule that nulls it
 abbrev pub nulls_symbol : ℕ → WrittenRule → Bool
@@ -106,7 +101,7 @@ pub told_rule : (show : Show) (g : Grammar) (m : Meaning) (chars : List ℕ) (sp
     new ≡ replace_newest n (value_of_rule show g m (tokens_of chars spans) rule n from to) old
 told_rule show g m chars spans old new rule n from to name shown d end action nm sh b en ac count e =
     let at : (get_or spans from d).start ≡ (token_at (tokens_of chars spans) from).start =
-    ap (λ (t : Token). t.start) (sym (get_or-mapped (token_of chars) spans from d (record { start = 0; length = 0; text = [] }) b)) in
+    ap (λ (t : Token). t.start) (sym (get_or-map (token_of chars) spans from d (record { start = 0; length = 0; text = [] }) b)) in
     e ∙ (λ i. replace_newest (count i) (rule_value show rule (nm i) (sh i) (at i) (en i - at i) from (to - from) (ac i)) old)
 
 pub meaning_found : (m : MeaningCode) (all : List RuleMeaningCode) (i j : ℕ) (item : RuleMeaningCode) → all ≡ m.rules → i ≡ j → j < length m.rules → item ≡ get_or all i item → meaning_at (meaning_of m) j ≡ rule_meaning_of item

@@ -1,4 +1,4 @@
-// The teller that makes the values of actions.
+//! The teller that makes the values of actions.
 ghost use Rattle.std.specs.Prelude.{◌≡◌, ◌<◌, [], length, IfOk};
 ghost use Rattle.grammar_model.specs.declared.Show.TheVariants.{Array as ShowArray};
 ghost use Rattle.grammar_model.specs.Values.{made_by_option};

@@ -1,4 +1,4 @@
-// The values that actions make, in a pool.
+//! The values that actions make, in a pool.
 ghost use Rattle.std.specs.Prelude.{◌≡◌, [], ◌∷◌, ◌++◌, length, IfOk, OnOk};
 ghost use Rattle.std.specs.List.{flat_map};
 ghost use Rattle.grammar_model.specs.Values.{Text, Number, item_values, made_by};

@@ -1,6 +1,5 @@
-// Which rules null their symbols.
+//! Which rules null their symbols.
 ghost use Rattle.std.specs.Prelude.{◌≡◌, ◌<◌, length, IfOk};
-ghost use Rattle.grammar_model.specs.Grammar.{lhs_of};
 ghost use Rattle.grammar_model.specs.Values.{is_nulling, nulled_action};
 ghost use Rattle.grammar_core.specs.Written.{IsWritten, rule_of};
 ghost use Rattle.value_text.specs.Meaning.{meaning_of};
@@ -11,16 +10,6 @@ ghost use Rattle.valuator.specs.Nulling.{AreFirst, first_with};
 use grammar_core::{RuleId, SymbolId, Written, WrittenRule};
 use std::alloc::Global;
 use value_text::{Action, Meaning, NoMemory};
-
-/// A rule's left side.
-pub fn left_side(rule: &WrittenRule) -> SymbolId
-    ensures { result ≡ lhs_of (rule_of rule.now) }
-{
-    match rule {
-        WrittenRule::Plain(rule) => rule.lhs,
-        WrittenRule::Sequence(rule) => rule.lhs,
-    }
-}
 
 /// Whether a rule is empty or a star.
 fn spans_nothing(rule: &WrittenRule) -> bool
@@ -55,10 +44,8 @@ pub fn nulling_rules(alloc: Global, w: &Written) -> Result<Vec<Option<RuleId>>, 
 {
     let mut rules = vec![in alloc; None; w.symbol_count()]?;
     for i in 0..w.rule_count() {
-        let next = RuleId(i as u32);
-        let rule = w.written_rule(next);
-        let symbol = left_side(rule).0 as usize;
-        rules[symbol] = first_of(rules[symbol], rule, next);
+        let symbol = w.lhs(i).0 as usize;
+        rules[symbol] = first_of(rules[symbol], w.rule(i), RuleId(i as u32));
     }
     Ok(rules)
 }

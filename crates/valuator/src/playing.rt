@@ -1,4 +1,4 @@
-// Playing a derivation's steps to tellers.
+//! Playing a derivation's steps to tellers.
 ghost use Rattle.std.specs.Prelude.{◌≡◌, ◌+◌, ◌-◌, ◌^◌, ◌==◌, ◌&&◌, ◌<◌, ◌≤◌, Bool, Some, None, is_some, map, option_map, option_copied, length, if◌then◌else◌, [], ◌∷◌, ◌++◌, slice_index_or, slice_range, encode_utf8_all, IfOk, OnOk, OnErr};
 ghost use Rattle.grammar_model.specs.Grammar.{lhs_of, rule_at};
 ghost use Rattle.grammar_model.specs.Steps.{TokenStep, NulledStep, RuleStep, steps_of};
@@ -12,7 +12,7 @@ ghost use Rattle.valuator.specs.Nulling.{AreFirst};
 ghost use Rattle.valuator.specs.Play.{AreSpans, AreSteps, CanTell, EachCanTell, EachCanTellAll, IsMeaningOf, tokens_of};
 
 use crate::Teller;
-use crate::nulling::{left_side, nulling_action, nulling_rules};
+use crate::nulling::{nulling_action, nulling_rules};
 use grammar_core::{RuleId, Span, SymbolId, TreeStep, Written};
 use slif_base::Chars;
 use std::alloc::Global;
@@ -194,8 +194,7 @@ fn tell_rule(
     ensures ok { OnOk result (held teller.new ≡ replace_newest children (value_of_rule (shows teller.old) p.now.w.now (meaning_of p.now.meaning.now) (tokens_of p.now.chars.now p.now.spans.now) rule children from to) (held teller.old)) }
     ensures kind { shows teller.new ≡ shows teller.old }
 {
-    let written = p.w.written_rule(rule);
-    let name = name_in(p.w, left_side(written));
+    let name = name_in(p.w, p.w.written_rule(rule).lhs());
     let start = p.spans[from as usize].start;
     let end = end_of(p.spans, p.chars, to);
     let meaning = &p.meaning.rules.as_slice()[rule.0 as usize];

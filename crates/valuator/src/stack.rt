@@ -1,4 +1,4 @@
-// The ids of the values that a teller holds, the newest last.
+//! The ids of the values that a teller holds, the newest last.
 ghost use Rattle.std.specs.Prelude.{◌≡◌, ◌+◌, ◌-◌, ◌<◌, ◌≤◌, [], ◌∷◌, ◌++◌, length, take, drop, OnOk, OnErr};
 ghost use Rattle.std.specs.List.{items_where_true};
 ghost use Rattle.grammar_model.specs.Text.{text_of};

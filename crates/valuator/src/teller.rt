@@ -1,4 +1,4 @@
-// Who is told of a derivation.
+//! Who is told of a derivation.
 ghost use Rattle.std.specs.Prelude.{◌≡◌, List, [], ◌∷◌, ◌++◌, OnOk, OnErr};
 ghost use Rattle.grammar_model.specs.Values.{Value, token_value, nulling_value, rule_value};
 ghost use Rattle.grammar_model.specs.declared.Show.{Show};

@@ -1,4 +1,4 @@
-// The teller that makes trees of a derivation.
+//! The teller that makes trees of a derivation.
 ghost use Rattle.std.specs.Prelude.{◌≡◌, ◌∷◌, ◌++◌, [], IfOk};
 ghost use Rattle.grammar_model.specs.declared.Show.TheVariants.{Tree as ShowTree};
 ghost use Rattle.grammar_model.specs.Values.{Text, Number, list_of};

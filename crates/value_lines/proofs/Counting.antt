@@ -3,6 +3,7 @@ use Rattle.std.proofs.Common.{◌≡◌, ℕ, ◌+◌, ◌≤◌, List, [], ◌�
 use Rattle.std.specs.List.{sum_by}
 use Rattle.std.proofs.lemmas.List.{take_all, take_at}
 use Rattle.std.proofs.lemmas.List.Sums.{sum_by_push}
+use Rattle.std.proofs.lemmas.Option.{slice_get-get_or}
 use Rattle.grammar_model.specs.Grammar.{Grammar, slot_of}
 use Rattle.grammar_model.specs.Trees.{Tree}
 use Rattle.grammar_model.specs.Derives.{Held}
@@ -14,9 +15,8 @@ use Rattle.recognizer_model.specs.Chosen.{allowed_by}
 use Rattle.recognizer_model.specs.FlatForm.{FlatEdges}
 use Rattle.recognizer_model.specs.Links.{choices}
 use Rattle.recognizer_model.specs.Nodes.{IsStats}
-use Rattle.recognizer_model.proofs.FlatNamed.{index_get}
 use Rattle.language_model.specs.Building.{Built}
-use Rattle.reading_model.specs.Reading.{Piece, edges_of, place_after}
+use Rattle.reading_model.specs.Reading.{Piece, edges_of, earleme_after}
 use Rattle.forest_model.specs.Forest as forest
 use Rattle.forest_model.specs.Forest.{Forest, IsForest, top_of}
 use Rattle.forest_model.specs.Listing.{IsListing}
@@ -48,11 +48,11 @@ module _ (f : Forest) (most : ℕ) where
 
   pub counts_most : (given rest trees : List Tree) → IsListing f (given ++ rest) → IsListing f trees → length given ≡ most → most ≡ length (take most trees)
   counts_most given rest trees p q is =
-      sym is ∙ ap length (sym (take_front given rest)) ∙ ap (λ n. length (take n (given ++ rest))) is ∙ ap (λ (ts : List Tree). length (take most ts)) (one_list f (given ++ rest) trees p q)
+      sym is ∙ ap length (sym (take_before given rest)) ∙ ap (λ n. length (take n (given ++ rest))) is ∙ ap (λ (ts : List Tree). length (take most ts)) (one_list f (given ++ rest) trees p q)
     where
-      take_front : (xs ys : List Tree) → take (length xs) (xs ++ ys) ≡ xs
-      take_front [] ys = refl
-      take_front (x ∷ xs) ys = ap (λ (l : List Tree). x ∷ l) (take_front xs ys)
+      take_before : (xs ys : List Tree) → take (length xs) (xs ++ ys) ≡ xs
+      take_before [] ys = refl
+      take_before (x ∷ xs) ys = ap (λ (l : List Tree). x ∷ l) (take_before xs ys)
 
 -- STEPS
 
@@ -99,7 +99,7 @@ has_numbers b cs spans f pieces of ranking ranked is s stats =
       flat = f.flat;
       is = of.flat;
       top = top_of f;
-      top_is = subst (λ n. slice_get f.flat.tops n ≡ Some (top_of f)) of.start (index_get f.flat.tops f.start 0 lt);
-      numbers = subst (λ (g : Grammar). told g ranking (edges_of pieces) (place_after pieces)) of.written (subst (λ (r : Ranking). told f.written r (edges_of pieces) (place_after pieces)) ranked
-          (subst (λ (es : List Edge). told f.written f.ranking es (place_after pieces)) of.edges (subst (told f.written f.ranking f.edges) of.place stats)));
+      top_is = subst (λ n. slice_get f.flat.tops n ≡ Some (top_of f)) of.start (slice_get-get_or f.flat.tops f.start 0 lt);
+      numbers = subst (λ (g : Grammar). told g ranking (edges_of pieces) (earleme_after pieces)) of.written (subst (λ (r : Ranking). told f.written r (edges_of pieces) (earleme_after pieces)) ranked
+          (subst (λ (es : List Edge). told f.written f.ranking es (earleme_after pieces)) of.edges (subst (told f.written f.ranking f.edges) of.place stats)));
     }

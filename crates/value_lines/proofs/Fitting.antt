@@ -12,7 +12,7 @@ use Rattle.grammar_model.specs.Checked.{IsChecked}
 use Rattle.grammar_core.specs.declared.steps.Span.{Span}
 use Rattle.language_model.specs.Building.{Built}
 use Rattle.dsl_build.specs.Ranges.{IsInRange}
-use Rattle.reading_model.specs.Reading.{Piece, edges_of, place_after}
+use Rattle.reading_model.specs.Reading.{Piece, edges_of, earleme_after}
 use Rattle.forest_model.specs.Forest.{Forest}
 use Rattle.tree_iter.specs.Iteration.{Iteration, AreGiven, IsAnswer}
 use Rattle.valuator.specs.Play.{AreSteps, AreSpans, tokens_of}
@@ -59,13 +59,13 @@ module _ (b : Built) (checked : IsChecked b.g1) (ranges : IsInRange b) (cs : Lis
   last_in : (given rest : List Tree) (tree : Tree) → Contains ((given ++ tree ∷ []) ++ rest) tree
   last_in given rest tree = Contains-append_left (given ++ tree ∷ []) rest tree (Contains-append_right given (tree ∷ []) tree (0, omega arith, refl))
 
-  derived : (new : Iteration) → new.forest ≡ f → (given : List Tree) (tree : Tree) → AreGiven new (given ++ tree ∷ []) → Derives b.g1 (Held (edges_of pieces)) (slot_of start) 0 (place_after pieces) tree
+  derived : (new : Iteration) → new.forest ≡ f → (given : List Tree) (tree : Tree) → AreGiven new (given ++ tree ∷ []) → Derives b.g1 (Held (edges_of pieces)) (slot_of start) 0 (earleme_after pieces) tree
   unfolding start
   derived new same given tree are =
       let d = ((are.first.listing.each tree).0 (last_in given are.first.rest tree)).0 in
       let of_f : Derives f.written (Held f.edges) (slot_of (slice_index_or f.written.starts f.start 0)) 0 f.place tree =
       subst (λ (g : Forest). Derives g.written (Held g.edges) (slot_of (slice_index_or g.written.starts g.start 0)) 0 g.place tree) same d in
-      subst (λ n. Derives b.g1 (Held (edges_of pieces)) (slot_of (slice_index_or b.g1.starts n 0)) 0 (place_after pieces) tree) of.start
+      subst (λ n. Derives b.g1 (Held (edges_of pieces)) (slot_of (slice_index_or b.g1.starts n 0)) 0 (earleme_after pieces) tree) of.start
       (subst (λ n. Derives b.g1 (Held (edges_of pieces)) (slot_of (slice_index_or b.g1.starts f.start 0)) 0 n tree) of.place
       (subst (λ es. Derives b.g1 (Held es) (slot_of (slice_index_or b.g1.starts f.start 0)) 0 f.place tree) of.edges
       (subst (λ (g : Grammar). Derives g (Held f.edges) (slot_of (slice_index_or g.starts f.start 0)) 0 f.place tree) of.written of_f)))
@@ -76,7 +76,7 @@ module _ (b : Built) (checked : IsChecked b.g1) (ranges : IsInRange b) (cs : Lis
   steps_are : (new : Iteration) → new.forest ≡ f → (given : List Tree) (tree : Tree) → AreGiven new (given ++ tree ∷ []) → AreSteps b.g1 (length spans) (steps_of tree)
   steps_are new same given tree are =
       let count = (spans_fit b cs pieces spans of.few of.reading of.spans_are).1 in
-      steps_fit b pieces start (place_after pieces) (length spans) tree start_known (omega (arith, count)) (derived new same given tree are)
+      steps_fit b pieces start (earleme_after pieces) (length spans) tree start_known (omega (arith, count)) (derived new same given tree are)
 
   -- what the iterator told of where it stands
   told : (new : Iteration) (given : List Tree) (more : Given new given) (list : List Step) → IfSome new.current (λ steps. list ≡ steps) → list ≡ steps_of more.0

@@ -1,40 +1,23 @@
 -- What a reading gives fits what is played: its tokens' spans, their texts, and the steps of derivations over its edges.
-use Rattle.std.proofs.Common.{arith, ◌≡◌, inl, inr, ℕ, zero, suc, ◌+◌, ◌<◌, ◌≤◌, List, [], ◌∷◌, ◌++◌, length, map, Contains, zero-add, refl, sym, ◌∙◌, ap, subst}
+use Rattle.std.proofs.Common.{arith, ◌≡◌, inl, inr, ℕ, zero, suc, ◌+◌, ◌<◌, ◌≤◌, List, [], ◌∷◌, length, map, Contains, refl, sym, ◌∙◌, ap, subst}
 use Rattle.std.proofs.lemmas.List.{length-map}
 use Rattle.std.proofs.lemmas.List.Elements.{Contains-append_cases}
+use Rattle.finite_sets.proofs.Lists.{Contains-none}
 use Rattle.grammar_model.specs.declared.Edge.{Edge}
 use Rattle.grammar_model.specs.Grammar.{Grammar, Slot, WrittenRule, slot_of, rule_at, child_slot}
 use Rattle.grammar_model.specs.Trees.{Tree, Children, Leaf, Nulled, Node, NoChild, Child, child_count}
-use Rattle.grammar_model.specs.Derives.{Edges, Held, Derives, DerivesFront}
+use Rattle.grammar_model.specs.Derives.{Edges, Held, Derives, DerivesPrefix}
 use Rattle.grammar_model.specs.Steps.{steps_of}
 use Rattle.grammar_core.specs.declared.steps.Span.{Span}
-use Rattle.earley_sets.proofs.Membership.{Contains-none, Contains-map_from}
+use Rattle.earley_sets.proofs.Membership.{Contains-map_from}
 use Rattle.language_model.specs.Building.{Built}
-use Rattle.reading_model.specs.Reading.{Piece, Token, Skipped, place_after, edges_from, edges_of, spans_from, Reads, Begin, Take, Skip, End, IsReading, HasEnded}
+use Rattle.reading_model.specs.Reading.{Piece, Token, Skipped, earleme_after, edges_from, edges_of, spans_from, End, IsReading, HasEnded}
 use Rattle.run_model.specs.Listing.{token_at_span}
 use Rattle.scanless.specs.Reading.{span_of}
 use Rattle.valuator.specs.Play.{tokens_of, AreSpans, OnePlace, AreSteps}
+use Rattle.reading_model.proofs.Characters.{characters, characters_are}
 
 -- ---- spans
-
--- how many characters the pieces have
-abbrev characters : List Piece → ℕ
-characters [] = 0
-characters (Token n symbols ∷ pieces) = n + characters pieces
-characters (Skipped n ∷ pieces) = n + characters pieces
-
-characters_more : (ps : List Piece) (p : Piece) → characters (ps ++ p ∷ []) ≡ characters ps + characters (p ∷ [])
-characters_more [] p = sym (zero-add (characters (p ∷ [])))
-characters_more (Token n ss ∷ ps) p = let e = characters_more ps p in omega (arith, e)
-characters_more (Skipped n ∷ ps) p = let e = characters_more ps p in omega (arith, e)
-
--- reading is before the character behind them
-characters_are : {b : Built} {text : List ℕ} {at : ℕ} {pieces : List Piece} → Reads b text at pieces → characters pieces ≡ at
-characters_are Begin = refl
-characters_are (Take {at = at} {n = n} {pieces = pieces} first others r lt longest sorted exact) =
-    let e = characters_more pieces (Token n (first ∷ others)) in let f = characters_are r in omega (arith, e, f)
-characters_are (Skip {at = at} {n = n} {pieces = pieces} r lt longest none skipped) =
-    let e = characters_more pieces (Skipped n) in let f = characters_are r in omega (arith, e, f)
 
 -- each ends at so many characters or before
 abbrev AreInside : ℕ → List (ℕ × ℕ) → Type 0
@@ -52,13 +35,13 @@ inside_fit count (s ∷ spans) few (le, inside) zero d lt = (le, omega (arith, l
 inside_fit count (s ∷ spans) few (le, inside) (suc k) d lt = inside_fit count spans few inside k d (omega (arith, lt))
 
 -- one for each token
-spans_count : (at : ℕ) (pieces : List Piece) → length (spans_from at pieces) ≡ place_after pieces
+spans_count : (at : ℕ) (pieces : List Piece) → length (spans_from at pieces) ≡ earleme_after pieces
 spans_count at [] = refl
 spans_count at (Token n symbols ∷ pieces) = ap suc (spans_count (at + n) pieces)
 spans_count at (Skipped n ∷ pieces) = spans_count (at + n) pieces
 
 pub spans_fit : (b : Built) (cs : List ℕ) (pieces : List Piece) (spans : List Span) → length cs ≤ 16777216 → IsReading b cs pieces End → map span_of spans ≡ spans_from 0 pieces →
-    AreSpans (length cs) spans × (length spans ≡ place_after pieces)
+    AreSpans (length cs) spans × (length spans ≡ earleme_after pieces)
 spans_fit b cs pieces spans few (HasEnded r) are = (
   inside_fit (length cs) spans few (subst (AreInside (length cs)) (sym are) (spans_inside (length cs) 0 pieces (let e = characters_are r in omega (arith, e)))),
   sym (length-map spans span_of) ∙ (ap length are ∙ spans_count 0 pieces),
@@ -88,12 +71,12 @@ module _ (g : Grammar) (old new : Edges) (weaker : (s p q : ℕ) → old s p q �
       in_range = d.in_range;
       fits = d.fits;
       complete = d.complete;
-      front = front_over cs (rule_at g i) p q d.front;
+      prefix = prefix_over cs (rule_at g i) p q d.prefix;
     }
 
-    front_over : (cs : Children) (rule : WrittenRule) (p q : ℕ) → DerivesFront g old rule p q cs → DerivesFront g new rule p q cs
-    front_over NoChild rule p q d = d
-    front_over (Child front last) rule p q (r, f, d) = (r, front_over front rule p r f, tree_over last (child_slot rule (child_count front)) r q d)
+    prefix_over : (cs : Children) (rule : WrittenRule) (p q : ℕ) → DerivesPrefix g old rule p q cs → DerivesPrefix g new rule p q cs
+    prefix_over NoChild rule p q d = d
+    prefix_over (Child prefix last) rule p q (r, f, d) = (r, prefix_over prefix rule p r f, tree_over last (child_slot rule (child_count prefix)) r q d)
 
 edges_one : (place : ℕ) (pieces : List Piece) (e : Edge) → Contains (edges_from place pieces) e → e.to ≡ suc e.from
 edges_one place [] e c = absurd (Contains-none e c)

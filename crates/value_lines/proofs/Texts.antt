@@ -37,14 +37,14 @@ pub so_many_is : (first : Option ℕ) (m limit n : ℕ) → first ≡ Some m →
 so_many_is None m limit n e is le ge = absurd (cc e)
 so_many_is (Some k) m limit n e is le ge = let same : k ≡ n = omega (arith, is, le, ge) in ap Some same
 
-front_of_take : {X : Type 0} (m : ℕ) (xs rest : List X) → length xs ≤ m → (tail : List X) × (take m (xs ++ rest) ≡ xs ++ tail)
-front_of_take m [] rest le = (take m rest, refl)
-front_of_take zero (x ∷ xs) rest le = absurd (omega (arith, le))
-front_of_take (suc m) (x ∷ xs) rest le = let r = front_of_take m xs rest (omega (arith, le)) in (r.0, ap (λ l. x ∷ l) r.1)
+prefix_of_take : {X : Type 0} (m : ℕ) (xs rest : List X) → length xs ≤ m → (tail : List X) × (take m (xs ++ rest) ≡ xs ++ tail)
+prefix_of_take m [] rest le = (take m rest, refl)
+prefix_of_take zero (x ∷ xs) rest le = absurd (omega (arith, le))
+prefix_of_take (suc m) (x ∷ xs) rest le = let r = prefix_of_take m xs rest (omega (arith, le)) in (r.0, ap (λ l. x ∷ l) r.1)
 
-front_of_first : {X : Type 0} (first : Option ℕ) (xs rest : List X) → IsWithin first (length xs) → (tail : List X) × (first_of first (xs ++ rest) ≡ xs ++ tail)
-front_of_first None xs rest within = (rest, refl)
-front_of_first (Some m) xs rest within = front_of_take m xs rest within
+prefix_of_first : {X : Type 0} (first : Option ℕ) (xs rest : List X) → IsWithin first (length xs) → (tail : List X) × (first_of first (xs ++ rest) ≡ xs ++ tail)
+prefix_of_first None xs rest within = (rest, refl)
+prefix_of_first (Some m) xs rest within = prefix_of_take m xs rest within
 
 pub all_of_first : {X : Type 0} (first : Option ℕ) (xs : List X) → IsWithin first (length xs) → first_of first xs ≡ xs
 all_of_first None xs within = refl
@@ -79,16 +79,16 @@ module _ (b : Built) (show : Show) (cs : List ℕ) (pieces : List Piece) (f : Fo
       let trees = trees_by f (forests_have_lists f is).0 in
       (trees, listing, record { bytes = []; rest = text (first_of first trees); split = refl; appends = appends_none before })
 
-  -- a front of the text of those that were given, and perhaps of others
-  front_of : (given rest : List Tree) → IsWithin first (length given) → (tail : List ℕ) × (text (first_of first (given ++ rest)) ≡ text given ++ tail)
-  front_of given rest within =
-      let r = front_of_first first given rest within in
+  -- a prefix of the text of those that were given, and perhaps of others
+  prefix_of : (given rest : List Tree) → IsWithin first (length given) → (tail : List ℕ) × (text (first_of first (given ++ rest)) ≡ text given ++ tail)
+  prefix_of given rest within =
+      let r = prefix_of_first first given rest within in
       (text r.0, ap text r.1 ∙ text_of_both given r.0)
 
   module _ (it : Iteration) (same : it.forest ≡ f) where
-    pub front_written : (count : ℕ) (before after : Option (List ℕ)) → HasWritten b show cs pieces it count before after → IsWithin first count → Has (AppendsPrefix before after)
-    front_written count before after w within =
-        let r = front_of w.given w.are.first.rest (subst (IsWithin first) (sym w.count_is) within) in (
+    pub prefix_written : (count : ℕ) (before after : Option (List ℕ)) → HasWritten b show cs pieces it count before after → IsWithin first count → Has (AppendsPrefix before after)
+    prefix_written count before after w within =
+        let r = prefix_of w.given w.are.first.rest (subst (IsWithin first) (sym w.count_is) within) in (
           w.given ++ w.are.first.rest,
           subst (λ (g : Forest). IsListing g (w.given ++ w.are.first.rest)) same w.are.first.listing,
           record { bytes = text w.given; rest = r.0; split = r.1; appends = w.appends },
@@ -128,12 +128,12 @@ module _ (b : Built) (show : Show) (cs : List ℕ) (pieces : List Piece) (f : Fo
       appends = line_is before middle after w l;
     }
 
-    pub line_in_front : (same : new.forest ≡ f) (count : ℕ) (before middle after : Option (List ℕ)) → length given ≡ count → IsWithin first (count + 1) → Appends before middle (text given) →
+    pub line_in_prefix : (same : new.forest ≡ f) (count : ℕ) (before middle after : Option (List ℕ)) → length given ≡ count → IsWithin first (count + 1) → Appends before middle (text given) →
         AppendsPrefix middle after line → Has (AppendsPrefix before after)
-    line_in_front same count before middle after is within w part =
+    line_in_prefix same count before middle after is within w part =
         let longer : length (given ++ tree ∷ []) ≡ count + 1 = length-append given (tree ∷ []) ∙ ap (λ n. n + 1) is in
         let rest = more.1.first.rest in
-        let r = front_of (given ++ tree ∷ []) rest (subst (IsWithin first) (sym longer) within) in
+        let r = prefix_of (given ++ tree ∷ []) rest (subst (IsWithin first) (sym longer) within) in
         let line_split : text (given ++ tree ∷ []) ≡ (text given ++ part.bytes) ++ part.rest =
         text_of_one given tree ∙ ap (λ l. text given ++ l) (sym more.2 ∙ part.split) ∙ sym (append_assoc (text given) part.bytes part.rest) in (
           (given ++ tree ∷ []) ++ rest,

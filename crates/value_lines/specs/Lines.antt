@@ -4,7 +4,7 @@ use Rattle.grammar_model.specs.Trees.{Tree}
 use Rattle.grammar_model.specs.declared.Show.{Show}
 use Rattle.grammar_core.specs.declared.steps.Span.{Span}
 use Rattle.language_model.specs.Building.{Built}
-use Rattle.reading_model.specs.Reading.{Piece, End, IsReading, edges_of, place_after, spans_from}
+use Rattle.reading_model.specs.Reading.{Piece, End, IsReading, edges_of, earleme_after, spans_from}
 use Rattle.flat_model.specs.Flattened.{IsFlattened}
 use Rattle.forest_model.specs.Forest.{Forest}
 use Rattle.forest_model.specs.Listing.{IsListing}
@@ -26,7 +26,7 @@ pub record IsForestOf (b : Built) (cs : List ℕ) (spans : List Span) (f : Fores
   pub flat : IsFlattened b.g1 f.flat
   pub start : f.start ≡ 0
   pub edges : f.edges ≡ edges_of pieces
-  pub place : f.place ≡ place_after pieces
+  pub place : f.place ≡ earleme_after pieces
 
 -- one more is given, and this is its line; or those given are all
 abbrev pub IsLineOf : Built → Show → List ℕ → List Piece → (new : Iteration) → (given : List Tree) → (line : List ℕ) → Bool → Type 0

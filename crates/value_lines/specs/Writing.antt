@@ -27,7 +27,7 @@ abbrev pub TextHas : (b : Built) (show : Show) (cs : List ℕ) (spans : List Spa
 TextHas b show cs spans f first P =
     (pieces : List Piece) → IsForestOf b cs spans f pieces → (trees : List Tree) × IsListing f trees × P (concat (map (line_of b show cs pieces) (first_of first trees)))
 
--- a text was not all written: a front of it was
+-- a text was not all written: a prefix of it was
 abbrev pub TextStops : (before after : Stream) → WriteRefusal → (text : List ℕ) → Type 0
 TextStops before after WriteFault text = Rose before.faults after.faults × AppendsPrefix before.bytes after.bytes text
 TextStops before after NoMemory text = AppendsPrefix before.bytes after.bytes text

@@ -1,7 +1,7 @@
 -- The parts of a descriptor between commas, one after the other.
 use Rattle.std.proofs.Common.{◌≡◌, ℕ, suc, ◌+◌, ◌≤◌, ◌<◌, Bool, true, false, cond, List, [], ◌∷◌, ◌++◌, length, take, drop, Option, Some, None, refl, sym, ap, ◌∙◌, arith, length-drop, append_assoc, ◌-◌}
 use Rattle.std.proofs.lemmas.Bool.{lt-leb, le-leb, ltb-true, ltb-false}
-use Rattle.std.proofs.lemmas.List.{take_all, drop-drop}
+use Rattle.std.proofs.lemmas.List.{drop-drop, take_rest}
 use Rattle.std.proofs.Math.Dec.{leb-suc-suc, leb-zero}
 use Rattle.std.specs.Prelude.{not, ◌==◌, option_map, nat_lt, nat_le}
 use Rattle.std.specs.List.{list_all, prefix_len}
@@ -34,8 +34,8 @@ parts (c ∷ cs) = go (c == 44) (parts cs)
 abbrev pub left_items : List ℕ → ℕ → Option (List DescItem)
 left_items text from = cond (nat_le from (length text)) (items_named (between_commas (drop from text))) (Some [])
 
-abbrev pub with_front : List DescItem → Option (List DescItem) → Option (List DescItem)
-with_front items left = option_map (λ is. items ++ is) left
+abbrev pub with_prefix : List DescItem → Option (List DescItem) → Option (List DescItem)
+with_prefix items left = option_map (λ is. items ++ is) left
 
 past_end : (text : List ℕ) (from : ℕ) → length text < from → left_items text from ≡ Some []
 past_end text from lt = ap (λ b. cond b (items_named (between_commas (drop from text))) (Some [])) (lt-leb from (length text) lt)
@@ -66,30 +66,27 @@ next_items : (text : List ℕ) (from : ℕ) → from ≤ length text → left_it
 next_items text from le =
     within text from le ∙ ap items_named (parts (drop from text)) ∙ ap (item_and (first_part (drop from text))) (left_behind text from le)
 
-whole : (text : List ℕ) (from : ℕ) → take (length text - from) (drop from text) ≡ drop from text
-whole text from = let long = length-drop from text in take_all (length text - from) (drop from text) (omega arith)
-
 part_is : (text : List ℕ) (from len : ℕ) → len ≡ commas (take (length text - from) (drop from text)) →
     item_named (spaced (take (from + len - from) (drop from text)) false false) ≡ first_part (drop from text)
 part_is text from len e =
-    let same : from + len - from ≡ commas (drop from text) = omega (arith, e, ap commas (whole text from)) in
+    let same : from + len - from ≡ commas (drop from text) = omega (arith, e, ap commas (take_rest text from)) in
     ap (λ k. item_named (spaced (take k (drop from text)) false false)) same
 
 pub no_item : (text : List ℕ) (items : List DescItem) (from len : ℕ) (found : Option DescItem) → from ≤ length text → len ≡ commas (take (length text - from) (drop from text)) →
-    found ≡ item_named (spaced (take (from + len - from) (drop from text)) false false) → found ≡ None → with_front items (left_items text from) ≡ None
+    found ≡ item_named (spaced (take (from + len - from) (drop from text)) false false) → found ≡ None → with_prefix items (left_items text from) ≡ None
 no_item text items from len found le e is none =
     let none' : first_part (drop from text) ≡ None = sym (part_is text from len e) ∙ sym is ∙ none in
-    ap (with_front items) (next_items text from le ∙ ap (λ o. item_and o (left_items text (from + (commas (drop from text) + 1)))) none')
+    ap (with_prefix items) (next_items text from le ∙ ap (λ o. item_and o (left_items text (from + (commas (drop from text) + 1)))) none')
 
-front_moves : (items : List DescItem) (i : DescItem) (left : Option (List DescItem)) → with_front (items ++ i ∷ []) left ≡ with_front items (item_and (Some i) left)
-front_moves items i None = refl
-front_moves items i (Some is) = ap Some (append_assoc items (i ∷ []) is)
+prefix_moves : (items : List DescItem) (i : DescItem) (left : Option (List DescItem)) → with_prefix (items ++ i ∷ []) left ≡ with_prefix items (item_and (Some i) left)
+prefix_moves items i None = refl
+prefix_moves items i (Some is) = ap Some (append_assoc items (i ∷ []) is)
 
 pub one_item : (text : List ℕ) (items : List DescItem) (from len : ℕ) (found : Option DescItem) (i : DescItem) → from ≤ length text → len ≡ commas (take (length text - from) (drop from text)) →
-    found ≡ item_named (spaced (take (from + len - from) (drop from text)) false false) → found ≡ Some i → with_front (items ++ i ∷ []) (left_items text (from + (len + 1))) ≡ with_front items (left_items text from)
+    found ≡ item_named (spaced (take (from + len - from) (drop from text)) false false) → found ≡ Some i → with_prefix (items ++ i ∷ []) (left_items text (from + (len + 1))) ≡ with_prefix items (left_items text from)
 one_item text items from len found i le e is some =
     let some' : first_part (drop from text) ≡ Some i = sym (part_is text from len e) ∙ sym is ∙ some in
-    let same : len ≡ commas (drop from text) = e ∙ ap commas (whole text from) in
-    front_moves items i (left_items text (from + (len + 1)))
-    ∙ ap (λ k. with_front items (item_and (Some i) (left_items text (from + (k + 1))))) same
-    ∙ sym (ap (with_front items) (next_items text from le ∙ ap (λ o. item_and o (left_items text (from + (commas (drop from text) + 1)))) some'))
+    let same : len ≡ commas (drop from text) = e ∙ ap commas (take_rest text from) in
+    prefix_moves items i (left_items text (from + (len + 1)))
+    ∙ ap (λ k. with_prefix items (item_and (Some i) (left_items text (from + (k + 1))))) same
+    ∙ sym (ap (with_prefix items) (next_items text from le ∙ ap (λ o. item_and o (left_items text (from + (commas (drop from text) + 1)))) some'))

@@ -14,7 +14,7 @@ use Rattle.value_text.specs.Nodes.{value_at, value_of_node, values_from, IsNode,
 use Rattle.value_text.specs.Pool.{IsPut, AreIds}
 use Rattle.grammar_model.specs.Values.{Value, Undefined, Text, list_of}
 
--- a part of a front
+-- a part of a prefix
 pub slice_range-append : {X : Type 0} (xs ys : List X) (from to : ℕ) → from ≤ to → to ≤ length xs → slice_range (xs ++ ys) from to ≡ slice_range xs from to
 slice_range-append xs ys from to h l =
     let from_in : from ≤ length xs = omega arith in

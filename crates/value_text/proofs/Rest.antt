@@ -35,17 +35,17 @@ quoted_rest_char bytes rest c utf8 e =
 
 -- of a text in its quotes, the bytes from one place to another are still to be appended, and then the rest
 pub record IsQuoting (text : List ℕ) (from at : ℕ) (rest out whole : List ℕ) : Type 0 where
-  pub front : List ℕ
+  pub prefix : List ℕ
   pub pending : List ℕ
-  pub text_is : text ≡ front ++ (pending ++ rest)
-  pub from_is : from ≡ length front
+  pub text_is : text ≡ prefix ++ (pending ++ rest)
+  pub from_is : from ≡ length prefix
   pub at_is : at ≡ from + length pending
   pub utf8 : IsUtf8 rest
   pub written : out ++ (pending ++ quoted_rest rest) ≡ whole
 
 pub quoting_begun : (text rest out out' : List ℕ) (at : ℕ) → IsUtf8 text → rest ≡ text → at ≡ 0 → out' ≡ out ++ 34 ∷ [] → IsQuoting text 0 at rest out' (out ++ 34 ∷ quoted_rest text)
 quoting_begun text rest out out' at utf8 same zero e = record {
-  front = [];
+  prefix = [];
   pending = [];
   text_is = sym same;
   from_is = refl;
@@ -57,25 +57,25 @@ quoting_begun text rest out out' at utf8 same zero e = record {
 quoting_bounds : (text : List ℕ) (from at : ℕ) (rest out whole : List ℕ) → IsQuoting text from at rest out whole → (from ≤ at) × (at + length rest ≡ length text)
 quoting_bounds text from at rest out whole h =
     let e = ap length h.text_is in
-    (omega (arith, h.at_is), omega (arith, e, h.from_is, h.at_is, length-append h.front (h.pending ++ rest), length-append h.pending rest))
+    (omega (arith, h.at_is), omega (arith, e, h.from_is, h.at_is, length-append h.prefix (h.pending ++ rest), length-append h.pending rest))
 
 -- what is still to be appended is that part of the text
-middle_part : (front pending rest : List ℕ) → slice_range (front ++ (pending ++ rest)) (length front) (length front + length pending) ≡ pending
-middle_part front pending rest =
-    let n : length front + length pending - length front ≡ length pending = omega arith in
-    (λ i. take (n i) (drop-append_seam front (pending ++ rest) i)) ∙ take-append_seam pending rest
+middle_part : (prefix pending rest : List ℕ) → slice_range (prefix ++ (pending ++ rest)) (length prefix) (length prefix + length pending) ≡ pending
+middle_part prefix pending rest =
+    let n : length prefix + length pending - length prefix ≡ length pending = omega arith in
+    (λ i. take (n i) (drop-append_seam prefix (pending ++ rest) i)) ∙ take-append_seam pending rest
 
 quoting_part : (text : List ℕ) (from at : ℕ) (rest out whole : List ℕ) (h : IsQuoting text from at rest out whole) → slice_range text from at ≡ h.pending
 quoting_part text from at rest out whole h =
-    (λ i. slice_range (h.text_is i) (h.from_is i) ((h.at_is ∙ ap (λ n. n + length h.pending) h.from_is) i)) ∙ middle_part h.front h.pending rest
+    (λ i. slice_range (h.text_is i) (h.from_is i) ((h.at_is ∙ ap (λ n. n + length h.pending) h.from_is) i)) ∙ middle_part h.prefix h.pending rest
 
 -- a character stands as it is
 pub quoting_plain : (text : List ℕ) (from at next : ℕ) (rest rest' out whole : List ℕ) (c : ℕ) → IsQuoting text from at rest out whole → rest ≡ encode_utf8 c ++ rest' → next ≡ at + length (encode_utf8 c) → escaped c ≡ encode_utf8 c →
     IsQuoting text from next rest' out whole
 quoting_plain text from at next rest rest' out whole c h e n same = record {
-  front = h.front;
+  prefix = h.prefix;
   pending = h.pending ++ encode_utf8 c;
-  text_is = h.text_is ∙ ap (λ b. h.front ++ (h.pending ++ b)) e ∙ ap (λ b. h.front ++ b) (sym (append_assoc h.pending (encode_utf8 c) rest'));
+  text_is = h.text_is ∙ ap (λ b. h.prefix ++ (h.pending ++ b)) e ∙ ap (λ b. h.prefix ++ b) (sym (append_assoc h.pending (encode_utf8 c) rest'));
   from_is = h.from_is;
   at_is = omega (arith, n, h.at_is, length-append h.pending (encode_utf8 c));
   utf8 = IsUtf8-past_char rest rest' c h.utf8 e;
@@ -91,17 +91,17 @@ pub quoting_escaped : (text : List ℕ) (from at past next : ℕ) (rest rest' ou
     past ≡ at + length (encode_utf8 c) → next ≡ at + length (encode_utf8 c) → escaped c ≡ escape → part ≡ slice_range text from at → out' ≡ out ++ part → out'' ≡ out' ++ escape →
     IsQuoting text past next rest' out'' whole
 quoting_escaped text from at past next rest rest' out out' out'' part whole escape c h e p n by is first second =
-    let front : length (h.front ++ (h.pending ++ encode_utf8 c)) ≡ length h.front + (length h.pending + length (encode_utf8 c)) =
-    omega (arith, length-append h.front (h.pending ++ encode_utf8 c), length-append h.pending (encode_utf8 c)) in
+    let prefix : length (h.prefix ++ (h.pending ++ encode_utf8 c)) ≡ length h.prefix + (length h.pending + length (encode_utf8 c)) =
+    omega (arith, length-append h.prefix (h.pending ++ encode_utf8 c), length-append h.pending (encode_utf8 c)) in
     let pending : part ≡ h.pending = is ∙ quoting_part text from at rest out whole h in
     record {
-      front = h.front ++ (h.pending ++ encode_utf8 c);
+      prefix = h.prefix ++ (h.pending ++ encode_utf8 c);
       pending = [];
       text_is =
-          h.text_is ∙ ap (λ b. h.front ++ (h.pending ++ b)) e
-          ∙ ap (λ b. h.front ++ b) (sym (append_assoc h.pending (encode_utf8 c) rest'))
-          ∙ sym (append_assoc h.front (h.pending ++ encode_utf8 c) rest');
-      from_is = omega (arith, p, h.at_is, h.from_is, front);
+          h.text_is ∙ ap (λ b. h.prefix ++ (h.pending ++ b)) e
+          ∙ ap (λ b. h.prefix ++ b) (sym (append_assoc h.pending (encode_utf8 c) rest'))
+          ∙ sym (append_assoc h.prefix (h.pending ++ encode_utf8 c) rest');
+      from_is = omega (arith, p, h.at_is, h.from_is, prefix);
       at_is = omega (arith, p, n);
       utf8 = IsUtf8-past_char rest rest' c h.utf8 e;
       written =
@@ -133,9 +133,9 @@ pub are_open-push : (values : List Value) (ls : List Open) (l : Open) → AreOpe
 are_open-push values [] l are ids = (ids, tt)
 are_open-push values (m ∷ ls) l are ids = (are.0, are_open-push values ls l are.1 ids)
 
-pub are_open_front : (values : List Value) (ls : List Open) (l : Open) → AreOpen values (ls ++ l ∷ []) → AreOpen values ls
-are_open_front values [] l are = tt
-are_open_front values (m ∷ ls) l are = (are.0, are_open_front values ls l are.1)
+pub are_open_prefix : (values : List Value) (ls : List Open) (l : Open) → AreOpen values (ls ++ l ∷ []) → AreOpen values ls
+are_open_prefix values [] l are = tt
+are_open_prefix values (m ∷ ls) l are = (are.0, are_open_prefix values ls l are.1)
 
 pub are_open_last : (values : List Value) (ls : List Open) (l : Open) → AreOpen values (ls ++ l ∷ []) → AreIds values l.rest.now
 are_open_last values [] l are = are.0
@@ -210,7 +210,7 @@ pub open_lists_again : (values : List Value) (ls ls0 ls1 : List Open) (l more : 
     AreOpen values ls → AreOpen values ls1
 open_lists_again values ls ls0 ls1 l more first p e q are =
     let all : AreOpen values (ls0 ++ l ∷ []) = subst (AreOpen values) p are in
-    subst (AreOpen values) (sym q) (are_open-push values ls0 more (are_open_front values ls0 l all) (rest_ids values l.rest.now more.rest.now first e (are_open_last values ls0 l all)))
+    subst (AreOpen values) (sym q) (are_open-push values ls0 more (are_open_prefix values ls0 l all) (rest_ids values l.rest.now more.rest.now first e (are_open_last values ls0 l all)))
 
 pub first_open_id : (values : List Value) (ls ls0 : List Open) (l : Open) (first : ℕ) (rest : List ℕ) → ls ≡ ls0 ++ l ∷ [] → l.rest.now ≡ first ∷ rest → AreOpen values ls → first < length values
 first_open_id values ls ls0 l first rest p e are =
@@ -218,7 +218,7 @@ first_open_id values ls ls0 l first rest p e are =
     first_id values l.rest.now rest first e (are_open_last values ls0 l all)
 
 pub lists_below : (values : List Value) (ls ls0 : List Open) (l : Open) → ls ≡ ls0 ++ l ∷ [] → AreOpen values ls → AreOpen values ls0
-lists_below values ls ls0 l p are = are_open_front values ls0 l (subst (AreOpen values) p are)
+lists_below values ls ls0 l p are = are_open_prefix values ls0 l (subst (AreOpen values) p are)
 
 pub one_longer : (xs ys : List ℕ) (x : ℕ) → ys ≡ xs ++ x ∷ [] → length xs < length ys
 one_longer xs ys x e = omega (arith, ap length e, length-append xs (x ∷ []))

@@ -163,7 +163,7 @@ impl Pool {
     }
 }
 
-/// A part of a text.
+/// The text between two places.
 fn text_part(text: &str, from: usize, to: usize) -> &str
     requires order { from ≤ to }
     requires from { IsCharBoundary text.now from }
@@ -173,7 +173,7 @@ fn text_part(text: &str, from: usize, to: usize) -> &str
     &text[from..to]
 }
 
-/// A part of a list.
+/// The values between two places.
 fn list_part(items: &[ValueId], from: usize, to: usize) -> &[ValueId]
     requires order { from ≤ to }
     requires to { to ≤ length items.now }

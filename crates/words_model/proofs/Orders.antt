@@ -50,7 +50,7 @@ word_goes behind before after goes word ts e = go (starts_with nat_eq word (code
     go false true e = cc
     go false false e = then_goes behind (set_job word) (before None) (after None) (goes None) ts e
 
-behind_all : (front back : List (List ℕ)) → has_no_end front ≡ true → Goes (words_set back None) (words_set front) (words_set (front ++ back))
+behind_all : (prefix back : List (List ℕ)) → has_no_end prefix ≡ true → Goes (words_set back None) (words_set prefix) (words_set (prefix ++ back))
 behind_all [] back n None ts e =
     let same : [] ≡ ts = cc in
     all (words_set back None) ∙ ap (λ l. option_map (λ us. l ++ us) (words_set back None)) same
@@ -59,18 +59,18 @@ behind_all [] back n None ts e =
     all None = refl
     all (Some us) = refl
 behind_all [] back n (Some name) ts e = cc
-behind_all (word ∷ front) back n w ts e = go (bytes_eq word (codes "--")) refl (behind_all front back) w e
+behind_all (word ∷ prefix) back n w ts e = go (bytes_eq word (codes "--")) refl (behind_all prefix back) w e
   where
-    value_goes : Goes (words_set back None) (words_set front) (words_set (front ++ back)) → (name : List ℕ) (d : Bool)
-        → (if d then None else and_then (set name word) (words_set front None)) ≡ Some ts
-        → (if d then None else and_then (set name word) (words_set (front ++ back) None)) ≡ option_map (λ us. ts ++ us) (words_set back None)
+    value_goes : Goes (words_set back None) (words_set prefix) (words_set (prefix ++ back)) → (name : List ℕ) (d : Bool)
+        → (if d then None else and_then (set name word) (words_set prefix None)) ≡ Some ts
+        → (if d then None else and_then (set name word) (words_set (prefix ++ back) None)) ≡ option_map (λ us. ts ++ us) (words_set back None)
     value_goes goes name true e = cc
-    value_goes goes name false e = then_goes (words_set back None) (set name word) (words_set front None) (words_set (front ++ back) None) (goes None) ts e
+    value_goes goes name false e = then_goes (words_set back None) (set name word) (words_set prefix None) (words_set (prefix ++ back) None) (goes None) ts e
 
-    go : (b : Bool) → bytes_eq word (codes "--") ≡ b → (has_no_end front ≡ true → Goes (words_set back None) (words_set front) (words_set (front ++ back)))
-        → (w : Option (List ℕ)) → words_set (word ∷ front) w ≡ Some ts → words_set ((word ∷ front) ++ back) w ≡ option_map (λ us. ts ++ us) (words_set back None)
+    go : (b : Bool) → bytes_eq word (codes "--") ≡ b → (has_no_end prefix ≡ true → Goes (words_set back None) (words_set prefix) (words_set (prefix ++ back)))
+        → (w : Option (List ℕ)) → words_set (word ∷ prefix) w ≡ Some ts → words_set ((word ∷ prefix) ++ back) w ≡ option_map (λ us. ts ++ us) (words_set back None)
     go true i more w e = absurd (true≢false (sym (rw i at n)))
-    go false i more None e = rw i (word_goes (words_set back None) (words_set front) (words_set (front ++ back)) (more (rw i at n)) word ts (rw i at e))
+    go false i more None e = rw i (word_goes (words_set back None) (words_set prefix) (words_set (prefix ++ back)) (more (rw i at n)) word ts (rw i at e))
     go false i more (Some name) e = value_goes (more (rw i at n)) name (is_dashed word) e
 
 judged : (ts us : List Setting) → (if are_set_once (ts ++ us) then job_given (value_of (ts ++ us)) else None) ≡ (if are_set_once (us ++ ts) then job_given (value_of (us ++ ts)) else None)
@@ -86,10 +86,10 @@ judged ts us = go (are_set_once (ts ++ us)) refl (are_set_once (us ++ ts)) refl
     go false e true f = absurd (true≢false (sym (swapped us ts f).0 ∙ e))
     go false e false f = refl
 
-pub orders : (front back : List (List ℕ)) (ts us : List Setting) → has_no_end front ≡ true → has_no_end back ≡ true → words_set front None ≡ Some ts → words_set back None ≡ Some us
-    → job_asked (front ++ back) ≡ job_asked (back ++ front)
-orders front back ts us n m e f =
-    let one : words_set (front ++ back) None ≡ Some (ts ++ us) = behind_all front back n None ts e ∙ ap (option_map (λ l. ts ++ l)) f in
-    let two : words_set (back ++ front) None ≡ Some (us ++ ts) = behind_all back front m None us f ∙ ap (option_map (λ l. us ++ l)) e in
+pub orders : (prefix back : List (List ℕ)) (ts us : List Setting) → has_no_end prefix ≡ true → has_no_end back ≡ true → words_set prefix None ≡ Some ts → words_set back None ≡ Some us
+    → job_asked (prefix ++ back) ≡ job_asked (back ++ prefix)
+orders prefix back ts us n m e f =
+    let one : words_set (prefix ++ back) None ≡ Some (ts ++ us) = behind_all prefix back n None ts e ∙ ap (option_map (λ l. ts ++ l)) f in
+    let two : words_set (back ++ prefix) None ≡ Some (us ++ ts) = behind_all back prefix m None us f ∙ ap (option_map (λ l. us ++ l)) e in
     ap (option_and_then (λ l. if are_set_once l then job_given (value_of l) else None)) one ∙ judged ts us
     ∙ sym (ap (option_and_then (λ l. if are_set_once l then job_given (value_of l) else None)) two)

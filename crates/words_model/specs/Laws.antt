@@ -31,5 +31,5 @@ has_no_end words = list_all (λ word. not (bytes_eq word (codes "--"))) words
 
 -- two parts of the words that each set something may change places
 abbrev pub PartsChangePlaces : Type 0
-PartsChangePlaces = (front back : List (List ℕ)) (settings more : List Setting) → has_no_end front ≡ true → has_no_end back ≡ true
-    → words_set front None ≡ Some settings → words_set back None ≡ Some more → job_asked (front ++ back) ≡ job_asked (back ++ front)
+PartsChangePlaces = (prefix back : List (List ℕ)) (settings more : List Setting) → has_no_end prefix ≡ true → has_no_end back ≡ true
+    → words_set prefix None ≡ Some settings → words_set back None ≡ Some more → job_asked (prefix ++ back) ≡ job_asked (back ++ prefix)

@@ -1,5 +1,6 @@
 -- The lexical grammar of the job is checked, and has six flat rules.
 use Rattle.std.proofs.Common.{◌≡◌, ◌≢◌, ◌∙◌, inr, ℕ, zero, suc, ◌+◌, ◌<◌, ◌≤◌, List, [], ◌∷◌, length, Contains, AllPairs, slice_index_or, refl, sym, ap, subst, arith, lit<, lit≤}
+use Rattle.std.proofs.lemmas.Option.{same_Some, none-some}
 use Rattle.grammar_model.specs.Grammar.{WrittenRule, Plain, Sequence, IsPlain, Slot, slot_of, rule_at, lhs_of, level_of, slot_count, child_slot, IsTerminal, Fits}
 use Rattle.grammar_model.specs.Analysis.{IsProductive, IsAlone, LeadsTo}
 use Rattle.grammar_model.specs.Cycles.{HasHeights}
@@ -13,7 +14,7 @@ use Rattle.recognizer_model.specs.FlatForm.{NamedRule, IsRuleOf, OfPlain, OfList
 use Rattle.recognizer_model.specs.Counts.{IsListOf}
 use Rattle.reading_model.specs.Accepted.{HasFewRules}
 use Rattle.work_laws.proofs.Building.{work_l0}
-use Rattle.work_laws.proofs.Plain.{IsSolid, alone, items_span, no_sequence, zero_level, some_is, none_is, as_terminal, as_slot}
+use Rattle.work_laws.proofs.Plain.{IsSolid, alone, items_span, no_sequence, zero_level, as_terminal, as_slot}
 
 -- ---- symbols and rules
 
@@ -246,10 +247,10 @@ in_flat x (OfTrailing n t r c of is e p q s) = absurd (no_sequence (rule_at work
 in_flat x (OfItem n r b of is s) = absurd (no_sequence (rule_at work_l0 n) r (plain n) is)
 in_flat x (OfItems n r b of is e s) = absurd (no_sequence (rule_at work_l0 n) r (plain n) is)
 in_flat x (OfSeparated n t r b c of is e p sc sb) = absurd (no_sequence (rule_at work_l0 n) r (plain n) is)
-in_flat x (OfTop zero start s e stands) = top_in 0 start s (lit< tt) (some_is e) stands
-in_flat x (OfTop (suc zero) start s e stands) = top_in 1 start s (lit< tt) (some_is e) stands
-in_flat x (OfTop (suc (suc zero)) start s e stands) = top_in 2 start s (lit< tt) (some_is e) stands
-in_flat x (OfTop (suc (suc (suc k))) start s e stands) = absurd (none_is e)
+in_flat x (OfTop zero start s e stands) = top_in 0 start s (lit< tt) (same_Some _ _ e) stands
+in_flat x (OfTop (suc zero) start s e stands) = top_in 1 start s (lit< tt) (same_Some _ _ e) stands
+in_flat x (OfTop (suc (suc zero)) start s e stands) = top_in 2 start s (lit< tt) (same_Some _ _ e) stands
+in_flat x (OfTop (suc (suc (suc k))) start s e stands) = absurd (none-some _ e)
 
 listed : IsListOf (IsRuleOf work_l0) flat
 listed = record { once = once; exact = λ x. ((λ (n, lt, e). rule_of n x lt e), in_flat x) }

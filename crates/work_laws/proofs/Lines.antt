@@ -16,10 +16,6 @@ get_copy zero x i lt = absurd (omega arith)
 get_copy (suc n) x zero lt = refl
 get_copy (suc n) x (suc i) lt = get_copy n x i (omega (arith, lt))
 
-pub length_copy : (n x : ℕ) → length (replicate n x) ≡ n
-length_copy zero x = refl
-length_copy (suc n) x = ap suc (length_copy n x)
-
 pub get_past : {X : Type 0} (xs : List X) (i : ℕ) (x : X) → length xs ≤ i → slice_get xs i ≡ Some x → ⊥
 get_past [] i x le e = cc
 get_past (y ∷ ys) zero x le e = omega arith

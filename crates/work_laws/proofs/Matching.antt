@@ -3,7 +3,7 @@ use Rattle.std.proofs.Common.{◌≡◌, ℕ, zero, suc, ◌+◌, ◌<◌, ◌&&
 use Rattle.std.proofs.lemmas.Bool.{and_parts}
 use Rattle.grammar_model.specs.Grammar.{WrittenRule, Plain, Sequence, IsPlain, slot_of, rule_at, slot_count, IsChildCount, IsTerminal}
 use Rattle.grammar_model.specs.Trees.{Tree, Children, Leaf, Nulled, Node, NoChild, Child, child_count}
-use Rattle.grammar_model.specs.Derives.{Derives, DerivesFront}
+use Rattle.grammar_model.specs.Derives.{Derives, DerivesPrefix}
 use Rattle.language_model.specs.Classes.{Class, HasMember}
 use Rattle.reading_model.specs.Matches.{IsInSet, CharacterEdges, Matches}
 use Rattle.work_laws.proofs.Building.{work_l0, work_built, character}
@@ -87,7 +87,7 @@ module _ (text : List ℕ) where
           in_range = lt;
           fits = fits n lt;
           complete = number_child (rule_at work_l0 n) 1 (plain n) (sym (one_part n lt));
-          front = (from, refl, subst (λ s. Derives work_l0 (CharacterEdges work_built text) s from to (Leaf (3 + n) from to)) (sym (part_is n lt)) leaf);
+          prefix = (from, refl, subst (λ s. Derives work_l0 (CharacterEdges work_built text) s from to (Leaf (3 + n) from to)) (sym (part_is n lt)) leaf);
         },
   )
     where
@@ -102,11 +102,11 @@ module _ (text : List ℕ) where
   part_matched n p q (Nulled s at) d = absurd (none_nullable work_l0 solid (slot_of (3 + n)) d.nullable)
   part_matched n p q (Node i children from to) d = absurd (terminal (3 + n) (omega arith) i d.in_range d.fits.0)
 
-  front_matched : (n p q : ℕ) (children : Children) → n < 3 → child_count children ≡ 1 → DerivesFront work_l0 (CharacterEdges work_built text) (rule_at work_l0 n) p q children → (suc p ≡ q) × (slice_get text p ≡ Some (spelling n))
-  front_matched n p q NoChild lt e d = absurd (omega (arith, e))
-  front_matched n p q (Child NoChild t) lt e (r, here, d) =
+  prefix_matched : (n p q : ℕ) (children : Children) → n < 3 → child_count children ≡ 1 → DerivesPrefix work_l0 (CharacterEdges work_built text) (rule_at work_l0 n) p q children → (suc p ≡ q) × (slice_get text p ≡ Some (spelling n))
+  prefix_matched n p q NoChild lt e d = absurd (omega (arith, e))
+  prefix_matched n p q (Child NoChild t) lt e (r, here, d) =
       part_matched n p q t (subst (λ z. Derives work_l0 (CharacterEdges work_built text) (slot_of (3 + n)) z q t) (sym here) (subst (λ s. Derives work_l0 (CharacterEdges work_built text) s r q t) (part_is n lt) d))
-  front_matched n p q (Child (Child front u) t) lt e d = absurd (omega (arith, e))
+  prefix_matched n p q (Child (Child prefix u) t) lt e d = absurd (omega (arith, e))
 
   tree_matched : (n p q : ℕ) (t : Tree) → n < 3 → Derives work_l0 (CharacterEdges work_built text) (slot_of n) p q t → (suc p ≡ q) × (slice_get text p ≡ Some (spelling n))
   tree_matched n p q (Leaf s from to) lt d = absurd (no_terminal n lt (subst (IsTerminal work_l0) d.symbol_is d.terminal))
@@ -114,7 +114,7 @@ module _ (text : List ℕ) where
   tree_matched n p q (Node i children from to) lt d =
       let same : i ≡ n = sym (left_is i d.in_range) ∙ d.fits.0 in
       let count = child_number (rule_at work_l0 i) (child_count children) (plain i) d.complete ∙ one_part i d.in_range in
-      front_matched n p q children lt count (subst (λ z. DerivesFront work_l0 (CharacterEdges work_built text) (rule_at work_l0 z) p q children) same d.front)
+      prefix_matched n p q children lt count (subst (λ z. DerivesPrefix work_l0 (CharacterEdges work_built text) (rule_at work_l0 z) p q children) same d.prefix)
 
   pub matched : (n from to : ℕ) → n < 3 → Matches work_built text n from to → (suc from ≡ to) × (slice_get text from ≡ Some (spelling n))
   matched n from to lt (t, d) = tree_matched n from to t lt (subst (λ s. Derives work_l0 (CharacterEdges work_built text) (slot_of s) from to t) (start_number n lt) d)

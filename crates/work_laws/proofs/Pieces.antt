@@ -1,11 +1,11 @@
 -- Pieces that are one token each, of one symbol and one character: their edges are those of a line.
 use Rattle.std.proofs.Common.{◌≡◌, ℕ, zero, suc, ◌+◌, ◌<◌, List, [], ◌∷◌, ◌++◌, length, map, slice_get, slice_index_or, Contains, Some, refl, sym, ap, subst, arith}
 use Rattle.std.proofs.lemmas.List.{map-append}
+use Rattle.std.proofs.lemmas.Option.{same_Some, none-some}
 use Rattle.grammar_model.specs.Acceptable.{Spells}
 use Rattle.grammar_model.specs.declared.Edge.{Edge}
 use Rattle.grammar_model.specs.Derives.{Edges, Held, Line}
-use Rattle.reading_model.specs.Reading.{Piece, Token, place_after, edges_from, edges_of}
-use Rattle.work_laws.proofs.Plain.{some_is, none_is}
+use Rattle.reading_model.specs.Reading.{Piece, Token, earleme_after, edges_from, edges_of}
 use Rattle.work_laws.proofs.Shapes.{At, AreEdges}
 
 abbrev pub one : ℕ → Piece
@@ -14,7 +14,7 @@ one symbol = Token 1 (symbol ∷ [])
 abbrev pub ones : List ℕ → List Piece
 ones w = map one w
 
-pub place_after_ones : (w : List ℕ) → place_after (ones w) ≡ length w
+pub place_after_ones : (w : List ℕ) → earleme_after (ones w) ≡ length w
 place_after_ones [] = refl
 place_after_ones (s ∷ w) = ap suc (place_after_ones w)
 
@@ -27,8 +27,8 @@ abbrev edge_at : ℕ → ℕ → Edge
 edge_at symbol p = record { symbol = symbol; from = p; to = suc p }
 
 held_at : (w : List ℕ) (place k p s : ℕ) → slice_get w k ≡ Some s → place + k ≡ p → Contains (edges_from place (ones w)) (edge_at s p)
-held_at [] place k p s e at = absurd (none_is e)
-held_at (x ∷ w) place zero p s e at = (0, omega arith, λ j. edge_at (some_is e j) (here j))
+held_at [] place k p s e at = absurd (none-some _ e)
+held_at (x ∷ w) place zero p s e at = (0, omega arith, λ j. edge_at (same_Some _ _ e j) (here j))
   where
     here : place ≡ p
     here = omega (arith, at)
@@ -66,7 +66,7 @@ spelled_from w edge are (s ∷ rest) p q h e = (
   spelled_from w edge are rest (suc p) q (λ k t is. subst (λ z. At w z t) (let here : p + suc k ≡ suc p + k = omega arith in here) (h (suc k) t is)) (omega (arith, e)),
 )
 
-pub ones_spelled : (w : List ℕ) → Spells (Held (edges_of (ones w))) 0 (place_after (ones w)) w
+pub ones_spelled : (w : List ℕ) → Spells (Held (edges_of (ones w))) 0 (earleme_after (ones w)) w
 ones_spelled w =
     let long = place_after_ones w in
-    spelled_from w (Held (edges_of (ones w))) (edges_of_ones w) w 0 (place_after (ones w)) (λ k s is. subst (λ z. At w z s) (let here : k ≡ 0 + k = omega arith in here) is) (omega (arith, long))
+    spelled_from w (Held (edges_of (ones w))) (edges_of_ones w) w 0 (earleme_after (ones w)) (λ k s is. subst (λ z. At w z s) (let here : k ≡ 0 + k = omega arith in here) is) (omega (arith, long))

@@ -1,5 +1,5 @@
 -- Grammars whose rules are plain and not empty: nothing is nullable, and no condition on sequences is broken.
-use Rattle.std.proofs.Common.{◌≡◌, inl, inr, ℕ, zero, suc, ◌<◌, ◌≤◌, length, Some, None, refl, subst, arith}
+use Rattle.std.proofs.Common.{◌≡◌, inl, inr, ℕ, zero, suc, ◌<◌, ◌≤◌, length, refl, subst, arith}
 use Rattle.grammar_model.specs.Grammar.{SequenceRule, WrittenRule, Plain, Sequence, IsPlain, Grammar, Slot, rule_at, slot_count, child_slot, IsTerminal}
 use Rattle.grammar_model.specs.Analysis.{IsStar, IsNullableIn, IsNullable}
 use Rattle.grammar_model.specs.Checked.{SequencesAreAlone, ItemsSpan}
@@ -17,12 +17,6 @@ no_star (Sequence r) plain star = plain
 
 pub zero_level : (k : ℕ) → k ≤ 0 → 0 ≡ k
 zero_level k le = omega arith
-
-pub some_is : {a b : ℕ} → Some a ≡ Some b → a ≡ b
-some_is e = cc
-
-pub none_is : {a : ℕ} → None ≡ Some a → ⊥
-none_is e = cc
 
 -- all rules are plain and have a part
 pub record IsSolid (g : Grammar) : Type 0 where

@@ -2,6 +2,7 @@
 use Rattle.std.proofs.Common.{◌≡◌, ◌↔◌, inl, ℕ, zero, suc, ◌+◌, ◌<◌, ◌≤ℤ◌, pos, List, [], ◌∷◌, ◌++◌, length, slice_get, slice_index_or, Contains, Some, refl, sym, ◌∙◌, ap, subst, arith, lit<, append_assoc, append-nil, length-append}
 use Rattle.std.specs.List.Sorted.{IsStrictlySortedBy}
 use Rattle.std.specs.Int.Signed.{≤ℤ_refl}
+use Rattle.std.proofs.lemmas.Option.{same_Some}
 use Rattle.grammar_model.specs.Grammar.{slot_of}
 use Rattle.grammar_model.specs.Trees.{Tree}
 use Rattle.grammar_model.specs.Derives.{Line, Derives}
@@ -9,7 +10,6 @@ use Rattle.language_model.specs.Building.{LexemeRow}
 use Rattle.reading_model.specs.Matches.{Matches}
 use Rattle.reading_model.specs.Reading.{Piece, IsNext, IsCandidate, ADiscard, ALexeme, IsLongest, IsFitting, IsKept, Reads, Begin, Take}
 use Rattle.work_laws.proofs.Building.{work_g1, work_built, row}
-use Rattle.work_laws.proofs.Plain.{some_is}
 use Rattle.work_laws.proofs.Lines.{get_right}
 use Rattle.work_laws.proofs.Shapes.{At}
 use Rattle.work_laws.proofs.Pieces.{one, ones, one_more, ones_spelled}
@@ -58,7 +58,7 @@ module _ (text : List ℕ) (pieces : List Piece) (at n : ℕ) (below : n < 3) (h
       let (m, lt, e) = is_row l f.lexeme in
       let start : l.start ≡ m = sym (ap (λ (r : LexemeRow). r.start) e) in
       let (next, is) = matched text m at (at + 1) lt (subst (λ z. Matches work_built text z at (at + 1)) start f.matches) in
-      let same : n ≡ m = one_spelling n m below lt (some_is (sym here ∙ is)) in
+      let same : n ≡ m = one_spelling n m below lt (same_Some _ _ (sym here ∙ is)) in
       ap (λ z. row (2 + z) z) same ∙ e
 
   kept : IsNext work_built pieces (2 + n) → IsKept work_built text pieces at 1 (2 + n)

@@ -1,11 +1,12 @@
 -- The derivations of the structural grammar over a line of terminals, by their shapes: a run is an item, or an item and a run; an
 -- item is a letter, or a run in brackets. From one place there is one item, and one run up to a place where no item begins.
 use Rattle.std.proofs.Common.{◌≡◌, ℕ, zero, suc, ◌<◌, ◌≤◌, List, slice_get, Some, refl, sym, ◌∙◌, ap, subst, arith, lit<, lit≤}
+use Rattle.std.proofs.lemmas.Option.{same_Some}
 use Rattle.grammar_model.specs.Grammar.{slot_of, IsTerminal}
 use Rattle.grammar_model.specs.Trees.{Tree, Leaf, Nulled, Node, NoChild, Child}
 use Rattle.grammar_model.specs.Derives.{Edges, Derives}
 use Rattle.work_laws.proofs.Building.{work_g1}
-use Rattle.work_laws.proofs.Plain.{none_nullable, some_is}
+use Rattle.work_laws.proofs.Plain.{none_nullable}
 use Rattle.work_laws.proofs.Structural.{solid, terminal, no_terminal}
 
 -- the terminal stands at the place
@@ -35,7 +36,7 @@ pub record Stops (w : List ℕ) (p : ℕ) : Type 0 where
   pub bracket : At w p 3 → ⊥
 
 other_terminal : (w : List ℕ) (p s t : ℕ) → s < t → At w p s → At w p t → ⊥
-other_terminal w p s t lt a b = let e = some_is (sym a ∙ b) in omega (arith, lt, e)
+other_terminal w p s t lt a b = let e = same_Some _ _ (sym a ∙ b) in omega (arith, lt, e)
 
 closing_stops : (w : List ℕ) (p : ℕ) → At w p 4 → Stops w p
 closing_stops w p c = record { letter = λ a. other_terminal w p 2 4 (lit< tt) a c; bracket = λ a. other_terminal w p 3 4 (lit< tt) a c }
@@ -89,7 +90,7 @@ module _ (w : List ℕ) (edge : Edges) (are : AreEdges w edge) where
   mutual
     item_derives : {p q : ℕ} {t : Tree} → IsItem w p q t → Derives work_g1 edge (slot_of 1) p q t
     item_derives {p} (Letter a) =
-        record { from_is = refl; to_is = refl; spans = omega arith; in_range = lit< tt; fits = (refl, lit≤ tt); complete = refl; front = (p, refl, leaf 2 p (lit≤ tt) a) }
+        record { from_is = refl; to_is = refl; spans = omega arith; in_range = lit< tt; fits = (refl, lit≤ tt); complete = refl; prefix = (p, refl, leaf 2 p (lit≤ tt) a) }
     item_derives {p} (Bracket {q = m} a r c) =
         let lt = run_forward r in
         record {
@@ -99,16 +100,16 @@ module _ (w : List ℕ) (edge : Edges) (are : AreEdges w edge) where
           in_range = lit< tt;
           fits = (refl, lit≤ tt);
           complete = refl;
-          front = (m, (suc p, (p, refl, leaf 3 p (lit≤ tt) a), run_derives r), leaf 4 m (lit≤ tt) c);
+          prefix = (m, (suc p, (p, refl, leaf 3 p (lit≤ tt) a), run_derives r), leaf 4 m (lit≤ tt) c);
         }
 
     pub run_derives : {p q : ℕ} {t : Tree} → IsRun w p q t → Derives work_g1 edge (slot_of 0) p q t
     run_derives {p} (Last a) =
-        record { from_is = refl; to_is = refl; spans = item_forward a; in_range = lit< tt; fits = (refl, lit≤ tt); complete = refl; front = (p, refl, item_derives a) }
+        record { from_is = refl; to_is = refl; spans = item_forward a; in_range = lit< tt; fits = (refl, lit≤ tt); complete = refl; prefix = (p, refl, item_derives a) }
     run_derives {p} (More {m = m} a r) =
         let lt = item_forward a in
         let lt' = run_forward r in
-        record { from_is = refl; to_is = refl; spans = omega (arith, lt, lt'); in_range = lit< tt; fits = (refl, lit≤ tt); complete = refl; front = (m, (p, refl, item_derives a), run_derives r) }
+        record { from_is = refl; to_is = refl; spans = omega (arith, lt, lt'); in_range = lit< tt; fits = (refl, lit≤ tt); complete = refl; prefix = (m, (p, refl, item_derives a), run_derives r) }
 
   -- a terminal's derivation is a leaf
   leaf_of : (n p q : ℕ) (t : Tree) → 2 ≤ n → Derives work_g1 edge (slot_of n) p q t → At w p n × (suc p ≡ q) × (Leaf n p (suc p) ≡ t)
@@ -128,20 +129,20 @@ module _ (w : List ℕ) (edge : Edges) (are : AreEdges w edge) where
     item_of (Node (suc zero) children from to) p q d = absurd (let e = d.fits.0 in omega (arith, e))
     item_of (Node (suc (suc zero)) NoChild from to) p q d = absurd (let e = d.complete in omega (arith, e))
     item_of (Node (suc (suc zero)) (Child NoChild t) from to) p q d =
-        let (r, here, dt) = d.front in
+        let (r, here, dt) = d.prefix in
         let (a, next, is) = leaf_of 2 p q t (lit≤ tt) (subst (λ z. Derives work_g1 edge (slot_of 2) z q t) (sym here) dt) in
         subst (λ (x : ℕ × Tree). IsItem w p x.0 x.1) (λ j. (next j, Node 2 (Child NoChild (is j)) (sym d.from_is j) ((next ∙ sym d.to_is) j))) (Letter a)
-    item_of (Node (suc (suc zero)) (Child (Child front u) t) from to) p q d = absurd (let e = d.complete in omega (arith, e))
+    item_of (Node (suc (suc zero)) (Child (Child prefix u) t) from to) p q d = absurd (let e = d.complete in omega (arith, e))
     item_of (Node (suc (suc (suc zero))) NoChild from to) p q d = absurd (let e = d.complete in omega (arith, e))
     item_of (Node (suc (suc (suc zero))) (Child NoChild t) from to) p q d = absurd (let e = d.complete in omega (arith, e))
     item_of (Node (suc (suc (suc zero))) (Child (Child NoChild u) t) from to) p q d = absurd (let e = d.complete in omega (arith, e))
     item_of (Node (suc (suc (suc zero))) (Child (Child (Child NoChild v) u) t) from to) p q d =
-        let (m, (n, (r, here, dv), du), dt) = d.front in
+        let (m, (n, (r, here, dv), du), dt) = d.prefix in
         let (a, next, is) = leaf_of 3 p n v (lit≤ tt) (subst (λ z. Derives work_g1 edge (slot_of 3) z n v) (sym here) dv) in
         let (c, after, closed) = leaf_of 4 m q t (lit≤ tt) dt in
         let inner = run_of u (suc p) m (subst (λ z. Derives work_g1 edge (slot_of 0) z m u) (sym next) du) in
         subst (λ (x : ℕ × Tree). IsItem w p x.0 x.1) (λ j. (after j, Node 3 (Child (Child (Child NoChild (is j)) u) (closed j)) (sym d.from_is j) ((after ∙ sym d.to_is) j))) (Bracket a inner c)
-    item_of (Node (suc (suc (suc zero))) (Child (Child (Child (Child front x) v) u) t) from to) p q d = absurd (let e = d.complete in omega (arith, e))
+    item_of (Node (suc (suc (suc zero))) (Child (Child (Child (Child prefix x) v) u) t) from to) p q d = absurd (let e = d.complete in omega (arith, e))
     item_of (Node (suc (suc (suc (suc i)))) children from to) p q d = absurd (let lt = d.in_range in omega (arith, lt))
 
     pub run_of : (t : Tree) (p q : ℕ) → Derives work_g1 edge (slot_of 0) p q t → IsRun w p q t
@@ -150,16 +151,16 @@ module _ (w : List ℕ) (edge : Edges) (are : AreEdges w edge) where
     run_of (Node zero NoChild from to) p q d = absurd (let e = d.complete in omega (arith, e))
     run_of (Node zero (Child NoChild t) from to) p q d = absurd (let e = d.complete in omega (arith, e))
     run_of (Node zero (Child (Child NoChild t) u) from to) p q d =
-        let (m, (r, here, dt), du) = d.front in
+        let (m, (r, here, dt), du) = d.prefix in
         subst (IsRun w p q) (λ j. Node 0 (Child (Child NoChild t) u) (sym d.from_is j) (sym d.to_is j))
         (More (item_of t p m (subst (λ z. Derives work_g1 edge (slot_of 1) z m t) (sym here) dt)) (run_of u m q du))
-    run_of (Node zero (Child (Child (Child front x) t) u) from to) p q d = absurd (let e = d.complete in omega (arith, e))
+    run_of (Node zero (Child (Child (Child prefix x) t) u) from to) p q d = absurd (let e = d.complete in omega (arith, e))
     run_of (Node (suc zero) NoChild from to) p q d = absurd (let e = d.complete in omega (arith, e))
     run_of (Node (suc zero) (Child NoChild t) from to) p q d =
-        let (r, here, dt) = d.front in
+        let (r, here, dt) = d.prefix in
         subst (IsRun w p q) (λ j. Node 1 (Child NoChild t) (sym d.from_is j) (sym d.to_is j))
         (Last (item_of t p q (subst (λ z. Derives work_g1 edge (slot_of 1) z q t) (sym here) dt)))
-    run_of (Node (suc zero) (Child (Child front u) t) from to) p q d = absurd (let e = d.complete in omega (arith, e))
+    run_of (Node (suc zero) (Child (Child prefix u) t) from to) p q d = absurd (let e = d.complete in omega (arith, e))
     run_of (Node (suc (suc zero)) children from to) p q d = absurd (let e = d.fits.0 in omega (arith, e))
     run_of (Node (suc (suc (suc zero))) children from to) p q d = absurd (let e = d.fits.0 in omega (arith, e))
     run_of (Node (suc (suc (suc (suc i)))) children from to) p q d = absurd (let lt = d.in_range in omega (arith, lt))

@@ -1,6 +1,7 @@
 -- The structural grammar of the job is checked, and has five flat rules.
 use Rattle.std.proofs.Common.{◌≡◌, ◌≢◌, ◌∙◌, inr, ℕ, zero, suc, ◌+◌, ◌*◌, ◌<◌, ◌≤◌, ◌==◌, List, [], ◌∷◌, length, Contains, AllPairs, slice_index, slice_index_or, refl, sym, ap, subst, arith, lit<, lit≤}
 use Rattle.std.specs.List.{position_or_len}
+use Rattle.std.proofs.lemmas.Option.{same_Some, none-some}
 use Rattle.grammar_model.specs.Grammar.{WrittenRule, Plain, Sequence, IsPlain, Slot, slot_of, rule_at, slot_count, child_slot, IsTerminal, Fits}
 use Rattle.grammar_model.specs.Analysis.{IsProductive, IsProductiveIn, IsAccessibleIn, LeadsTo}
 use Rattle.grammar_model.specs.Cycles.{HasHeights}
@@ -14,7 +15,7 @@ use Rattle.recognizer_model.specs.FlatForm.{NamedRule, IsRuleOf, OfPlain, OfList
 use Rattle.recognizer_model.specs.Counts.{IsListOf}
 use Rattle.reading_model.specs.Accepted.{HasFewRules}
 use Rattle.work_laws.proofs.Building.{work_g1}
-use Rattle.work_laws.proofs.Plain.{IsSolid, none_nullable, alone, items_span, no_sequence, zero_level, some_is, none_is, as_terminal, as_slot}
+use Rattle.work_laws.proofs.Plain.{IsSolid, none_nullable, alone, items_span, no_sequence, zero_level, as_terminal, as_slot}
 
 -- ---- symbols and rules
 
@@ -255,10 +256,10 @@ in_flat x (OfItem n r b of is s) = absurd (no_sequence (rule_at work_g1 n) r (pl
 in_flat x (OfItems n r b of is e s) = absurd (no_sequence (rule_at work_g1 n) r (plain n) is)
 in_flat x (OfSeparated n t r b c of is e p sc sb) = absurd (no_sequence (rule_at work_g1 n) r (plain n) is)
 in_flat x (OfTop zero start s e stands) =
-    let is : 0 ≡ start = some_is e in
+    let is : 0 ≡ start = same_Some _ _ e in
     let here = subst (λ z. Stands work_g1 (slot_of z) s) (sym is) stands in
     (4, lit< tt, λ j. named (Top 0) (as_slot work_g1 (slot_of 0) s (no_terminal 0 (lit< tt)) here j ∷ []) (OfStart 0))
-in_flat x (OfTop (suc k) start s e stands) = absurd (none_is e)
+in_flat x (OfTop (suc k) start s e stands) = absurd (none-some _ e)
 
 listed : IsListOf (IsRuleOf work_g1) flat
 listed = record { once = once; exact = λ x. ((λ (n, lt, e). rule_of n x lt e), in_flat x) }

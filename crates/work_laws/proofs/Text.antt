@@ -17,7 +17,7 @@ use Rattle.language_model.specs.Layout.{layout_len}
 use Rattle.language_model.specs.Description.{Statement, Rules, Bare, Alternative, Element, Describes, cut, tokens_of}
 use Rattle.language_model.specs.Texts.{IsText, HasDescription}
 use Rattle.dsl_tokens.specs.Scanning.{token_at, word_at, quote_at, colon_at, mark_at, modifier_at}
-use Rattle.dsl_tokens.proofs.LongestLemmas.{IsLongest-found}
+use Rattle.dsl_tokens.proofs.LongestLemmas.{IsLongest-found, not_word}
 use Rattle.run_model.specs.Jobs.{work_grammar}
 
 -- ---- the characters
@@ -44,9 +44,6 @@ abbrev pub work_tokens : List Token
 work_tokens =
     token Word 0 1 ∷ token Mark 2 5 ∷ token Word 6 7 ∷ token Word 8 9 ∷ token Mark 10 11 ∷ token Word 12 13
     ∷ token Word 14 15 ∷ token Mark 16 19 ∷ token Quote 20 23 ∷ token Mark 24 25 ∷ token Quote 26 29 ∷ token Word 30 31 ∷ token Quote 32 35 ∷ []
-
-not_word : (c : ℕ) → c < 128 → is_word_byte c ≡ false → is_word c ≡ false
-not_word c below no_byte = is_word_char-ascii c below ∙ no_byte
 
 a_word : (c : ℕ) → c < 128 → is_word_byte c ≡ true → is_word c ≡ true
 a_word c below byte = is_word_char-ascii c below ∙ byte

@@ -1,7 +1,8 @@
 -- The terminals of the job's own input, and the derivation that they have.
 use Rattle.std.proofs.Common.{◌≡◌, ℕ, zero, suc, ◌+◌, ◌*◌, ◌-◌, ◌<◌, ◌≤◌, List, ◌∷◌, ◌++◌, length, replicate, slice_get, refl, ◌∙◌, subst, arith, length-append}
+use Rattle.std.proofs.lemmas.List.{length-replicate}
 use Rattle.grammar_model.specs.Trees.{Tree, Node}
-use Rattle.work_laws.proofs.Lines.{get_left, get_right, get_copy, length_copy, get_past}
+use Rattle.work_laws.proofs.Lines.{get_left, get_right, get_copy, get_past}
 use Rattle.work_laws.proofs.Shapes.{At, IsRun, Last, More, Letter, Bracket, Stops}
 
 -- so many letters, so many open brackets, a letter, and the brackets closed
@@ -13,23 +14,23 @@ module _ (size : ℕ) where
   word_length =
       let a = length-append {A = ℕ} (replicate size 2) (replicate size 3 ++ (2 ∷ replicate size 4)) in
       let b = length-append {A = ℕ} (replicate size 3) (2 ∷ replicate size 4) in
-      let c = length_copy size 2 in
-      let d = length_copy size 3 in
-      let e = length_copy size 4 in
+      let c = length-replicate {A = ℕ} size 2 in
+      let d = length-replicate {A = ℕ} size 3 in
+      let e = length-replicate {A = ℕ} size 4 in
       omega (arith, a, b, c, d, e)
 
   letter_at : (i : ℕ) → i < size → At (word size) i 2
-  letter_at i lt = get_left (replicate size 2) (replicate size 3 ++ (2 ∷ replicate size 4)) i (let c = length_copy size 2 in omega (arith, lt, c)) ∙ get_copy size 2 i lt
+  letter_at i lt = get_left (replicate size 2) (replicate size 3 ++ (2 ∷ replicate size 4)) i (let c = length-replicate {A = ℕ} size 2 in omega (arith, lt, c)) ∙ get_copy size 2 i lt
 
   behind : (i j : ℕ) → j ≡ size + i → slice_get (word size) j ≡ slice_get (replicate size 3 ++ (2 ∷ replicate size 4)) i
-  behind i j e = get_right (replicate size 2) (replicate size 3 ++ (2 ∷ replicate size 4)) i j (let c = length_copy size 2 in omega (arith, e, c))
+  behind i j e = get_right (replicate size 2) (replicate size 3 ++ (2 ∷ replicate size 4)) i j (let c = length-replicate {A = ℕ} size 2 in omega (arith, e, c))
 
   open_at : (i j : ℕ) → j ≡ size + i → i < size → At (word size) j 3
   open_at i j e lt =
-      behind i j e ∙ get_left (replicate size 3) (2 ∷ replicate size 4) i (let c = length_copy size 3 in omega (arith, lt, c)) ∙ get_copy size 3 i lt
+      behind i j e ∙ get_left (replicate size 3) (2 ∷ replicate size 4) i (let c = length-replicate {A = ℕ} size 3 in omega (arith, lt, c)) ∙ get_copy size 3 i lt
 
   far : (i j : ℕ) → j ≡ 2 * size + i → slice_get (word size) j ≡ slice_get (2 ∷ replicate size 4) i
-  far i j e = behind (size + i) j (omega (arith, e)) ∙ get_right (replicate size 3) (2 ∷ replicate size 4) i (size + i) (let c = length_copy size 3 in omega (arith, c))
+  far i j e = behind (size + i) j (omega (arith, e)) ∙ get_right (replicate size 3) (2 ∷ replicate size 4) i (size + i) (let c = length-replicate {A = ℕ} size 3 in omega (arith, c))
 
   close_at : (i j : ℕ) → j ≡ 2 * size + suc i → i < size → At (word size) j 4
   close_at i j e lt = far (suc i) j e ∙ get_copy size 4 i lt

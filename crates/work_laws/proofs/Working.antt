@@ -7,7 +7,7 @@ use Rattle.grammar_model.specs.Trees.{Tree}
 use Rattle.grammar_model.specs.Derives.{Held, Line, Derives}
 use Rattle.grammar_model.specs.Chosen.{AreChosen}
 use Rattle.grammar_model.proofs.ChosenOnce.{alike_chosen}
-use Rattle.reading_model.specs.Reading.{End, HasEnded, IsReading, place_after, edges_of}
+use Rattle.reading_model.specs.Reading.{End, HasEnded, IsReading, earleme_after, edges_of}
 use Rattle.run_model.specs.Jobs.{work_grammar, work_input}
 use Rattle.run_model.specs.Refused.{Accepted}
 use Rattle.run_model.specs.Inputs.{IsRead}
@@ -30,7 +30,7 @@ no_ranks (suc (suc (suc zero))) = refl
 no_ranks (suc (suc (suc (suc i)))) = refl
 
 module _ (size : ℕ) where
-  pub work_place : place_after (ones (word size)) ≡ 3 * size + 1
+  pub work_place : earleme_after (ones (word size)) ≡ 3 * size + 1
   work_place = place_after_ones (word size) ∙ word_length size
 
   line_derived : (t : Tree) × Derives work_g1 (Line (word size)) (slot_of 0) 0 (length (word size)) t
@@ -44,10 +44,10 @@ module _ (size : ℕ) where
       (HasEnded (all_read (word size) (work_input size) (input_spelled size) line_derived))
 
   abbrev D : Tree → Type 0
-  D = Derives work_g1 (Held (edges_of (ones (word size)))) (slot_of 0) 0 (place_after (ones (word size)))
+  D = Derives work_g1 (Held (edges_of (ones (word size)))) (slot_of 0) 0 (earleme_after (ones (word size)))
 
   pub work_derivations : (ranking : Ranking) →
-      (t : Tree) × AreChosen work_g1 (Held (edges_of (ones (word size)))) ranking (slot_of (slice_index_or work_g1.starts 0 0)) 0 (place_after (ones (word size))) (t ∷ [])
+      (t : Tree) × AreChosen work_g1 (Held (edges_of (ones (word size)))) ranking (slot_of (slice_index_or work_g1.starts 0 0)) 0 (earleme_after (ones (word size))) (t ∷ [])
   unfolding IsStrictlySortedBy
   work_derivations ranking = (t, record { sorted = (tt, tt); each = λ u. ((λ c. (to u c, alike_chosen work_g1 (Held (edges_of (ones (word size)))) (pos 0) no_ranks ranking (slot_of 0) u)), (λ (d, c). from u d)) })
     where
@@ -64,7 +64,7 @@ module _ (size : ℕ) where
 
       from : (u : Tree) → D u → Contains (t ∷ []) u
       from u d =
-          let r : IsRun (word size) 0 (3 * size + 1) u = subst (λ z. IsRun (word size) 0 z u) work_place (run_of (word size) (Held (edges_of (ones (word size)))) (edges_of_ones (word size)) u 0 (place_after (ones (word size))) d) in
+          let r : IsRun (word size) 0 (3 * size + 1) u = subst (λ z. IsRun (word size) 0 z u) work_place (run_of (word size) (Held (edges_of (ones (word size)))) (edges_of_ones (word size)) u 0 (earleme_after (ones (word size))) d) in
           (0, lit< tt, (same_run (word_run size).1 r (word_stops size) (word_stops size)).1)
 
 work_accepted : Accepted work_grammar work_built

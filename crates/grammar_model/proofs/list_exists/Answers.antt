@@ -1,6 +1,6 @@
 use Rattle.grammar_model.proofs.Lister.{a_list}
-use Rattle.grammar_model.proofs.Lists.{among_from, contains_from}
 use Rattle.grammar_model.proofs.list_exists.Goals as goal
+use Rattle.finite_sets.proofs.Members.{among_from, contains_from}
 
 pub returns : goal.returns
 returns c = λ g test order l slot p q.

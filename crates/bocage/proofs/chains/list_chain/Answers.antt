@@ -1,6 +1,7 @@
 use Rattle.std.proofs.Common.{◌≡◌, ◌<◌, ◌-◌, ◌++◌, ℕ, List, length, slice_index_or, sym, ◌∙◌, ap, subst, arith}
+use Rattle.std.proofs.lemmas.List.{append-nil}
 use Rattle.bocage.specs.Chains.{IsChain}
-use Rattle.bocage.proofs.Chained.{chain_first, chain_end, push_through, append_none}
+use Rattle.bocage.proofs.Chained.{chain_first, chain_end, push_through}
 use Rattle.bocage.proofs.chains.list_chain.Goals as goal
 
 pub chain-init : goal.chain-init
@@ -33,4 +34,4 @@ pub returns : goal.returns
 returns c = λ ns h.
     let (rest, is, e) = c.chain.invariant ns h in
     let none = c.chain-test.false in
-    sym (e ∙ ap (λ l. c.chain.nodes.items ++ l) (chain_end c.args.chains.now.below.items c.chain.head rest is (omega arith)) ∙ append_none c.chain.nodes.items)
+    sym (e ∙ ap (λ l. c.chain.nodes.items ++ l) (chain_end c.args.chains.now.below.items c.chain.head rest is (omega arith)) ∙ append-nil c.chain.nodes.items)

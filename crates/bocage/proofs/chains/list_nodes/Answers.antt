@@ -1,9 +1,9 @@
 use Rattle.std.proofs.Common.{◌≡◌, ◌∙◌, ◌+◌, ◌<◌, ◌↔◌, ℕ, List, Some, Contains, length, slice_get, sym, ap, subst, arith}
 use Rattle.std.proofs.lemmas.Result.{on_ok_weaker}
+use Rattle.std.proofs.lemmas.List.{length_push}
 use Rattle.recognizer_model.specs.declared.NodeKey.{NodeKey}
 use Rattle.bocage.specs.Chains.{EndsAt}
 use Rattle.bocage.proofs.Chained.{linked}
-use Rattle.bocage.proofs.Visiting.{push_long}
 use Rattle.bocage.proofs.chains.list_nodes.Goals as goal
 
 pub loop-node-preserved : goal.loop-node-preserved
@@ -12,7 +12,7 @@ loop-node-preserved c =
     let at = subst (λ n. slice_get c.args.keys.now.keys n ≡ Some c.key_at.result) (sym i.long) (subst (λ (l : List NodeKey). slice_get l c.loop-node.node ≡ Some c.key_at.result) c.as_slice.ensures.keys c.key_at.ensures) in
     record {
       chained = linked c.args.keys.now.keys c.loop-node.chains.heads.items c.loop-node.chains.below.items c.link.new.chains.heads.items c.link.new.chains.below.items c.key_at.result i.chained at c.in_ok-link.ensures.below c.in_ok-link.ensures.sets c.in_ok-link.ensures.same;
-      long = ap (λ (l : List ℕ). length l) c.in_ok-link.ensures.below ∙ push_long c.loop-node.chains.below.items _ ∙ ap (λ n. n + 1) i.long;
+      long = ap (λ (l : List ℕ). length l) c.in_ok-link.ensures.below ∙ length_push c.loop-node.chains.below.items _ ∙ ap (λ n. n + 1) i.long;
     }
 
 pub list_chain-requires : goal.list_chain-requires

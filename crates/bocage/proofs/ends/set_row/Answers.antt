@@ -1,6 +1,7 @@
 use Rattle.std.proofs.Common.{◌≡◌, ◌∙◌, ◌+◌, ◌<◌, Some, length, map, slice_get, sym, ap, subst, arith}
+use Rattle.std.proofs.lemmas.List.{length_push}
 use Rattle.bocage.specs.Ends.{SetsRow}
-use Rattle.bocage.proofs.Visiting.{push_long, more_pushed, sets_pushed, sets_there}
+use Rattle.bocage.proofs.Visiting.{more_pushed, sets_pushed, sets_there}
 use Rattle.bocage.proofs.ends.set_row.Goals as goal
 
 pub loop-k-preserved : goal.loop-k-preserved
@@ -8,7 +9,7 @@ loop-k-preserved c =
     let i = c.loop-k.invariant in
     let e = c.in_ok-push.ensures.items in
     record {
-      long = ap (λ n. n + 1) i.long ∙ sym (push_long c.loop-k.table.items _) ∙ ap (λ l. length l) (sym e);
+      long = ap (λ n. n + 1) i.long ∙ sym (length_push c.loop-k.table.items _) ∙ ap (λ l. length l) (sym e);
       same = λ m held h. subst (λ l. slice_get (map (λ r. r.now) l) m ≡ Some held) (sym e) (more_pushed (λ r. r.now) (map (λ r. r.now) c.args.table.now.items) c.loop-k.table.items i.same _ m held h);
     }
 

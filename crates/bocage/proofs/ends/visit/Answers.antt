@@ -1,7 +1,7 @@
 use Rattle.std.proofs.Common.{◌≡◌, ◌∙◌, ◌<◌, List, Some, length, map, slice_get, refl, sym, subst}
 use Rattle.std.proofs.lemmas.Result.{on_ok_weaker}
+use Rattle.finite_sets.proofs.Lists.{got_at}
 use Rattle.recognizer_model.specs.declared.NodeKey.{NodeKey}
-use Rattle.earley_sets.proofs.Membership.{got_at}
 use Rattle.bocage.specs.declared.rows.AlternativeRow.{AlternativeRow}
 use Rattle.bocage.specs.Ends.{SetsRow}
 use Rattle.bocage.proofs.Visiting.{ready_key, one_visited}

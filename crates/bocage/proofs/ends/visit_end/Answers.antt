@@ -1,14 +1,15 @@
 use Rattle.std.proofs.Common.{◌≡◌, ◌∙◌, ◌<◌, ◌↔◌, ◌==◌, Bool, false, true≢false, zero, suc, List, ℕ, Contains, length, map, sym, subst, arith}
 use Rattle.std.proofs.lemmas.Bool.{eqb-true}
 use Rattle.std.proofs.lemmas.Result.{on_ok_weaker}
+use Rattle.std.proofs.lemmas.List.{nil_from_length}
+use Rattle.finite_sets.proofs.Lists.{Contains-none}
 use Rattle.recognizer_model.specs.declared.Item.{Item}
-use Rattle.earley_sets.proofs.Membership.{Contains-none}
 use Rattle.forest_parts.specs.Hidden.{IsHiddenFrom, RisesBy}
 use Rattle.bocage.specs.Chains.{EndsAt}
 use Rattle.bocage.specs.Expanded.{IsExpandedAt}
 use Rattle.bocage.specs.Walk.{IsUsedIn}
 use Rattle.bocage.proofs.Chained.{chained_more}
-use Rattle.bocage.proofs.Visiting.{none_of, none_visited}
+use Rattle.bocage.proofs.Visiting.{none_visited}
 use Rattle.bocage.proofs.Counting.{rises_of, rises_by_of, rises_none_by}
 use Rattle.bocage.proofs.Expanding.{none_expanded, given_expanded}
 use Rattle.bocage.proofs.ends.visit_end.Goals.{then-whole, else-whole, else-is_empty-via-then-is_empty+else-not-whole, else-is_empty-via-else-is_empty}
@@ -49,7 +50,7 @@ returns-then-not-whole-clause-expanded g c =
     rises_none_by (IsExpandedAt c.args.w.now c.args.ranking c.args.recce.now c.args.end) c.args.work.now.expanded
     (none_expanded c.args.w.now c.args.ranking c.args.recce.now c.requires.read c.args.end c.args.first c.args.found.now (map (λ r. r.now) c.args.table.now.items) c.requires.going c.list_nodes.new.nodes.items c.in_ok-list_nodes.ensures.listed
     (λ e. c.if-not-whole.true (e ∙ sym c.place.ensures.place))
-    (λ n h. Contains-none n (subst (λ (l : List ℕ). Contains l n) (sym c.as_slice.ensures.value ∙ none_of c.as_slice.result.now (eqb-true (length c.as_slice.result.now) 0 (sym c.is_empty.ensures ∙ c.if-is_empty.true))) h)))
+    (λ n h. Contains-none n (subst (λ (l : List ℕ). Contains l n) (sym c.as_slice.ensures.value ∙ nil_from_length c.as_slice.result.now (eqb-true (length c.as_slice.result.now) 0 (sym c.is_empty.ensures ∙ c.if-is_empty.true))) h)))
 
 positive : (b : Bool) (n : ℕ) → b ≡ (n == 0) → b ≡ false → 0 < n
 positive b zero e f = absurd (true≢false (sym e ∙ f))

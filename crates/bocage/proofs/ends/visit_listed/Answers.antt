@@ -1,6 +1,7 @@
 use Rattle.std.proofs.Common.{List, ℕ, Contains, map, sym, subst}
-use Rattle.earley_sets.proofs.Membership.{Contains-none}
-use Rattle.forest_parts.proofs.RowLemmas.{there, taken_whole}
+use Rattle.std.proofs.lemmas.List.Elements.{Contains-get_or}
+use Rattle.std.proofs.lemmas.List.{take_all}
+use Rattle.finite_sets.proofs.Lists.{Contains-none}
 use Rattle.bocage.proofs.Visiting.{goes_none, still_ready, listed_more}
 use Rattle.bocage.proofs.ends.visit_listed.Goals as goal
 
@@ -10,7 +11,7 @@ loop-node-init c = record { goes = goes_none c.args.known.now c.args.found.now (
 pub visit-requires-clause-node : goal.visit-requires-clause-node
 visit-requires-clause-node c =
     still_ready c.args.known.now c.args.found.now c.loop-node.found (map (λ r. r.now) c.args.table.now.items) (map (λ r. r.now) c.loop-node.table.items) c.loop-node.invariant.goes _
-    (c.requires.nodes _ (there c.args.nodes.now c.loop-node.node-index 0 c.loop-node-test.true))
+    (c.requires.nodes _ (Contains-get_or c.args.nodes.now c.loop-node.node-index 0 c.loop-node-test.true))
 
 pub visit-requires-clause-noted : goal.visit-requires-clause-noted
 visit-requires-clause-noted c = c.loop-node.invariant.goes.noted
@@ -22,4 +23,4 @@ loop-node-preserved c =
     record { goes = goes; have = have }
 
 pub returns-clause-have : goal.returns-clause-have
-returns-clause-have c n key h e = c.loop-node.invariant.have n key (subst (λ (l : List ℕ). Contains l n) (sym (taken_whole c.args.nodes.now c.loop-node.node-index c.loop-node-test.false)) h) e
+returns-clause-have c n key h e = c.loop-node.invariant.have n key (subst (λ (l : List ℕ). Contains l n) (sym (take_all c.loop-node.node-index c.args.nodes.now c.loop-node-test.false)) h) e

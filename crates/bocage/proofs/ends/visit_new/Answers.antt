@@ -1,5 +1,5 @@
 use Rattle.std.proofs.Common.{◌∙◌, map, sym, arith}
-use Rattle.earley_sets.proofs.Membership.{got_at}
+use Rattle.finite_sets.proofs.Lists.{got_at}
 use Rattle.bocage.specs.Walk.{IsNew}
 use Rattle.bocage.proofs.Visiting.{goes_none, goes_then, ready_at, longer, new_more, new_all}
 use Rattle.bocage.proofs.ends.visit_new.Goals as goal

@@ -1,7 +1,8 @@
 use Rattle.std.proofs.Common.{◌≡◌, ◌∙◌, ℕ, List, [], Some, inl, inr, get_or, slice_get, sym, subst, arith}
-use Rattle.earley_sets.proofs.Membership.{Contains-none, got_at, get_at}
+use Rattle.std.proofs.lemmas.List.Elements.{Contains-get_or}
+use Rattle.std.proofs.lemmas.Option.{slice_get-get_or}
+use Rattle.finite_sets.proofs.Lists.{Contains-none, got_at}
 use Rattle.forest_parts.specs.declared.groups.Group.{Group}
-use Rattle.forest_parts.proofs.RowLemmas.{there}
 use Rattle.forest_parts.proofs.Gathering.{Gains, ByBelow, gains_same, below_none, below_more}
 use Rattle.bocage.specs.declared.joins.Join.{Join}
 use Rattle.bocage.specs.Joins.{IsJoinOf}
@@ -12,11 +13,11 @@ pub loop-k-init : goal.loop-k-init
 loop-k-init c = subst (λ (l : List Join). Gains (ByBelow (λ (k : ℕ) (j : Join). (g : Group) × (slice_get c.args.groups.now k ≡ Some g) × (j.group ≡ k) × IsJoinOf c.args.recce.now c.args.least g j) 0) [] l) (sym c.clear.ensures.items) (below_none (λ (k : ℕ) (j : Join). (g : Group) × (slice_get c.args.groups.now k ≡ Some g) × (j.group ≡ k) × IsJoinOf c.args.recce.now c.args.least g j) [])
 
 pub put_joins-requires : goal.put_joins-requires
-put_joins-requires c = c.requires _ (there c.args.groups.now c.loop-k.k no_group c.loop-k-test.true)
+put_joins-requires c = c.requires _ (Contains-get_or c.args.groups.now c.loop-k.k no_group c.loop-k-test.true)
 
 pub loop-k-preserved : goal.loop-k-preserved
 loop-k-preserved c =
-    let at = get_at c.args.groups.now c.loop-k.k no_group c.loop-k-test.true in
+    let at = slice_get-get_or c.args.groups.now c.loop-k.k no_group c.loop-k-test.true in
     below_more (λ (k : ℕ) (j : Join). (g : Group) × (slice_get c.args.groups.now k ≡ Some g) × (j.group ≡ k) × IsJoinOf c.args.recce.now c.args.least g j) c.loop-k.k [] c.loop-k.joins.items c.put_joins.new.joins.items c.loop-k.invariant
     (gains_same (λ (j : Join). (j.group ≡ c.in_ok-at.at) × IsJoinOf c.args.recce.now c.args.least (get_or c.args.groups.now c.loop-k.k no_group) j)
     (λ (j : Join). (g : Group) × (slice_get c.args.groups.now c.loop-k.k ≡ Some g) × (j.group ≡ c.loop-k.k) × IsJoinOf c.args.recce.now c.args.least g j) c.loop-k.joins.items c.put_joins.new.joins.items c.in_ok-put_joins.ensures

@@ -8,8 +8,8 @@ use Rattle.bocage.proofs.walk.put_key.Goals as goal
 pub rhs-requires : goal.rhs-requires
 rhs-requires c = subst (λ (g : FlatGrammar). c.args.key.rule < length g.rules) (sym c.flat.ensures) (used_within c.args.known.now.written.now c.args.known.now.ranking c.args.known.now.recce.now (read_of c.args.known.now c.requires.knows) c.args.key c.requires.used).is_rule
 
-pub bounds-rhs-front : goal.bounds-rhs-front
-bounds-rhs-front c =
+pub bounds-rhs-predecessor : goal.bounds-rhs-predecessor
+bounds-rhs-predecessor c =
     let w = used_within c.args.known.now.written.now c.args.known.now.ranking c.args.known.now.recce.now (read_of c.args.known.now c.requires.knows) c.args.key c.requires.used in
     let a = w.some in
     let b = w.parts in

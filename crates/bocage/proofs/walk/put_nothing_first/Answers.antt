@@ -11,10 +11,10 @@ put_alternatives-requires-clause-noted c = c.in_ok-put_nothing.ensures.noted
 
 pub returns : goal.returns
 returns c =
-    let h : is_high c.args.known.now c.args.front ≡ true = search rules in
+    let h : is_high c.args.known.now c.args.predecessor ≡ true = search rules in
     on_ok_weaker c.put_alternatives.result
-    (λ g. lists_then c.args.known.now c.args.front c.args.symbol (λ (m : ℕ). (m ≡ c.args.known.now.end) × IsNullable c.args.known.now.recce.now.flat c.args.symbol) (BeginsIn c.args.known.now c.args.joins.now) (MayBegin c.args.known.now c.args.symbol)
+    (λ g. lists_then c.args.known.now c.args.predecessor c.args.symbol (λ (m : ℕ). (m ≡ c.args.known.now.end) × IsNullable c.args.known.now.recce.now.flat c.args.symbol) (BeginsIn c.args.known.now c.args.joins.now) (MayBegin c.args.known.now c.args.symbol)
     c.args.found.now c.put_nothing.new.found c.put_alternatives.new.found c.in_ok-put_nothing.ensures g
-    (λ m n d b. nothing_first c.args.known.now c.requires.knows c.args.front c.args.symbol c.requires.next c.args.joins.now c.requires.joins (is_high c.args.known.now c.args.front) h m n d.0 b)
-    (may_begin c.args.known.now c.requires.knows c.args.front c.args.symbol c.requires.next c.args.joins.now c.requires.joins))
+    (λ m n d b. nothing_first c.args.known.now c.requires.knows c.args.predecessor c.args.symbol c.requires.next c.args.joins.now c.requires.joins (is_high c.args.known.now c.args.predecessor) h m n d.0 b)
+    (may_begin c.args.known.now c.requires.knows c.args.predecessor c.args.symbol c.requires.next c.args.joins.now c.requires.joins))
     c.put_alternatives.ensures

@@ -1,12 +1,12 @@
 use Rattle.std.proofs.Common.{◌≡◌, [], arith, ap, length, length-append}
 use Rattle.grammar_model.specs.Grammar.{Grammar}
 use Rattle.language_model.specs.Building.{set_names}
-use Rattle.dsl_build.proofs.Differing.{front_new}
+use Rattle.dsl_build.proofs.Differing.{prefix_new}
 use Rattle.dsl_build.proofs.SetNames.{sets_long}
 use Rattle.dsl_build.proofs.writing.written.Goals as goal
 
 pub named-requires-clause-differ : goal.named-requires-clause-differ
-named-requires-clause-differ c = front_new [] c.args.names.now (set_names c.args.sets) c.requires.differ
+named-requires-clause-differ c = prefix_new [] c.args.names.now (set_names c.args.sets) c.requires.differ
 
 pub add_sets-requires-clause-room : goal.add_sets-requires-clause-room
 add_sets-requires-clause-room c =

@@ -1,14 +1,17 @@
-use Rattle.std.proofs.Common.{◌≡◌, ap, sym, ◌∙◌, arith, true}
-use Rattle.std.specs.Prelude.{bytes_eq}
-use Rattle.dsl_faults.proofs.Firsts.{first_there, none_at_all}
-use Rattle.dsl_faults.proofs.Pairs.{values_in, value_of_first, value_here}
+use Rattle.std.proofs.Common.{◌≡◌, [], ◌∷◌, sym, ◌∙◌, rules, Bor}
+use Rattle.std.proofs.lemmas.Iterator.{YieldsList-from_slice}
+use Rattle.std.specs.Prelude.{option_copied}
+use Rattle.language_model.specs.Building.{value_of}
+use Rattle.dsl_statement.specs.Statements.{adverb_of}
+use Rattle.dsl_faults.proofs.Firsts.{first_of_option}
+use Rattle.dsl_faults.proofs.Pairs.{values_in, value_of_first}
+use Rattle.dsl_faults.proofs.Searches.{first_in}
+use Rattle.language_model.specs.Tokens.{Spelled}
 use Rattle.dsl_faults.proofs.adverbs.value_of.Goals as goal
 
-pub returns-then-eq : goal.returns-then-eq
-returns-then-eq c =
-    let name = c.args.name.now in
-    let named : bytes_eq c.in-Pair.held.content name ≡ true = sym (ap (λ t. bytes_eq t name) (c.as_str.ensures.value ∙ ap (λ h. h.content) c.held.view_is)) ∙ sym c.eq.ensures ∙ c.if-eq.true in
-    sym (value_of_first name c.args.adverbs.now ∙ first_there (values_in name) c.args.adverbs.now c.loop-adverb.adverb-index c.adverb-item.result c.in-Pair.value (omega arith) c.adverb-item.is c.loop-adverb.invariant (value_here name _ c.in-Pair.held c.in-Pair.value c.in-Pair.is named))
-
 pub returns : goal.returns
-returns c = sym (value_of_first c.args.name.now c.args.adverbs.now ∙ none_at_all (values_in c.args.name.now) c.args.adverbs.now c.loop-adverb.adverb-index (omega arith) c.loop-adverb.invariant)
+returns c =
+    let name = c.args.name.now in
+    let found = first_in (λ (t : Bor Spelled). t.now) (values_in name) c.args.adverbs.now _ _ _ c.find_map.ensures.ran c.find_map.ensures.runs (YieldsList-from_slice c.args.adverbs.now cc)
+    (λ x o q e. (search rules, let h : option_copied o ≡ value_of name (adverb_of x.now ∷ []) = search rules in h ∙ first_of_option _)) in
+    found ∙ sym (value_of_first name c.args.adverbs.now)

@@ -1,9 +1,15 @@
-use Rattle.std.proofs.Common.{arith, sym, ◌∙◌}
-use Rattle.dsl_faults.proofs.Repeats.{repeat_goes_on, repeat_stops}
+use Rattle.std.proofs.Common.{sym, ap, ◌∙◌, arith, refl, rules}
+use Rattle.std.specs.List.{slice_get, range_with_len}
+use Rattle.std.specs.Prelude.{take, length}
+use Rattle.std.proofs.lemmas.Iterator.{YieldsList-from_range}
+use Rattle.dsl_faults.specs.Found.{fault_of, first_of}
+use Rattle.dsl_faults.specs.Adverbs.{repeat_of}
+use Rattle.dsl_faults.proofs.Repeats.{repeats_by_place}
+use Rattle.dsl_faults.proofs.Searches.{first_in}
 use Rattle.dsl_faults.proofs.checks.repeated.Goals as goal
 
-pub returns-then-is_some : goal.returns-then-is_some
-returns-then-is_some c = repeat_stops c.args.adverbs.now c.loop-i.i c.index-adverbs-i.result c.repeated_adverb-found.result (omega arith) c.index-adverbs-i.is c.loop-i.invariant c.repeated_adverb-found.ensures (sym c.is_some.ensures ∙ c.if-is_some.true)
-
-pub loop-i-preserved : goal.loop-i-preserved
-loop-i-preserved c = repeat_goes_on c.args.adverbs.now c.loop-i.i c.index-adverbs-i.result c.repeated_adverb-found.result (omega arith) c.index-adverbs-i.is c.loop-i.invariant c.repeated_adverb-found.ensures (sym c.is_some.ensures ∙ c.if-is_some.false)
+pub returns : goal.returns
+returns c =
+    let adverbs = c.args.adverbs.now in
+    first_in {v = λ i. i} fault_of (λ i. repeat_of (take i adverbs) (slice_get adverbs i)) (range_with_len 0 (length adverbs)) _ _ _ c.find_map.ensures.ran c.find_map.ensures.runs (YieldsList-from_range 0 (length adverbs) (length adverbs) refl (omega arith)) (λ x o q e. search rules)
+    ∙ ap first_of (sym (repeats_by_place adverbs))

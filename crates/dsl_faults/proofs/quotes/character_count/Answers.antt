@@ -1,7 +1,7 @@
 use Rattle.std.proofs.Common.{◌≡◌, ◌+◌, arith, sym, ◌∙◌, ap, length, drop, get_or}
 use Rattle.std.specs.Str.{chars}
-use Rattle.std.proofs.lemmas.List.{drop_all}
-use Rattle.dsl_faults.proofs.Counting.{count_behind, count_none, count_ends, count_goes_on, drop_next}
+use Rattle.std.proofs.lemmas.List.{drop_all, drop_more}
+use Rattle.dsl_faults.proofs.Counting.{count_behind, count_none, count_ends, count_goes_on}
 use Rattle.dsl_faults.proofs.quotes.character_count.Goals as goal
 use Rattle.dsl_faults.proofs.quotes.character_count.Goals.{then-rest-eq0, else-rest-eq0}
 
@@ -11,7 +11,7 @@ loop-byte-preserved c =
     let i = c.loop-byte.byte-index in
     let count = c.loop-byte.count in
     let rest = c.bytes_after-rest.result in
-    let here = ap (λ bs. count + count_behind c.loop-byte.rest bs) (sym (drop_next text i (omega arith))) ∙ c.loop-byte.invariant.counted in
+    let here = ap (λ bs. count + count_behind c.loop-byte.rest bs) (sym (drop_more text i 0 (omega arith))) ∙ c.loop-byte.invariant.counted in
     let n = c.loop-byte.rest in
     let b = get_or text i 0 in
     let bs = drop (i + 1) text in

@@ -1,19 +1,16 @@
-use Rattle.std.proofs.Common.{[], arith, sym, ◌∙◌, ap}
-use Rattle.std.proofs.lemmas.List.{take_all}
-use Rattle.dsl_faults.specs.Found.{first_of}
-use Rattle.dsl_faults.proofs.Firsts.{no_first}
-use Rattle.dsl_faults.proofs.Scans.{scan, scan_goes_on, scan_stops}
-use Rattle.dsl_faults.proofs.SecondLemmas.{long_before, long_scan, long_known}
+use Rattle.std.proofs.Common.{sym, ap, ◌∙◌, rules, ℕ, Bor}
+use Rattle.std.specs.List.{enumerate_from}
+use Rattle.std.proofs.lemmas.Iterator.{YieldsList-from_slice}
+use Rattle.std.proofs.lemmas.Iterator.Consumers.{YieldsList-from_enumerate}
+use Rattle.language_model.specs.Tokens.{Spelled}
+use Rattle.dsl_faults.specs.Found.{fault_of, first_of}
+use Rattle.dsl_faults.specs.Faults.{long_fault}
+use Rattle.dsl_faults.proofs.SecondLemmas.{long_numbered}
+use Rattle.dsl_faults.proofs.Searches.{first_in}
 use Rattle.dsl_faults.proofs.seconds.long_part.Goals as goal
 
-pub returns-then-is_some : goal.returns-then-is_some
-returns-then-is_some c =
-    scan_stops long_before c.args.parts.now c.loop-i.i c.index-parts-i.result c.long_fault-found.result (omega arith) c.index-parts-i.is c.loop-i.invariant
-    (c.long_fault-found.ensures ∙ ap first_of (long_known c.args.parts.now c.loop-i.i c.index-parts-i.result (omega arith))) (sym c.is_some.ensures ∙ c.if-is_some.true) ∙ ap first_of (sym (long_scan [] c.args.parts.now))
-
-pub loop-i-preserved : goal.loop-i-preserved
-loop-i-preserved c = scan_goes_on long_before c.args.parts.now c.loop-i.i c.index-parts-i.result c.long_fault-found.result (omega arith) c.index-parts-i.is c.loop-i.invariant
-    (c.long_fault-found.ensures ∙ ap first_of (long_known c.args.parts.now c.loop-i.i c.index-parts-i.result (omega arith))) (sym c.is_some.ensures ∙ c.if-is_some.false)
-
 pub returns : goal.returns
-returns c = sym (no_first _ (ap (scan long_before []) (sym (take_all c.loop-i.i c.args.parts.now (omega arith))) ∙ c.loop-i.invariant)) ∙ ap first_of (sym (long_scan [] c.args.parts.now))
+returns c =
+    let parts = c.args.parts.now in
+    first_in {v = λ p. (p.0, p.1.now)} fault_of (λ (p : ℕ × Bor Spelled). long_fault p.0 p.1.now) (enumerate_from 0 parts) _ _ _ c.find_map.ensures.ran c.find_map.ensures.runs (YieldsList-from_enumerate (YieldsList-from_slice parts cc) c.enumerate.ensures.count) (λ x o q e. search rules)
+    ∙ ap first_of (sym (long_numbered 0 parts))

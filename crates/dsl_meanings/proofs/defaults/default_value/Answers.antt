@@ -1,17 +1,17 @@
-use Rattle.std.proofs.Common.{arith, sym, ◌∙◌, ap}
-use Rattle.language_model.specs.Building.{value_of}
-use Rattle.dsl_meanings.proofs.DefaultLemmas.{default_on, default_here, default_nowhere}
+use Rattle.std.proofs.Common.{◌≡◌, sym, ◌∙◌, rules, Bor}
+use Rattle.std.specs.Prelude.{option_copied}
+use Rattle.std.proofs.lemmas.Iterator.{YieldsList-from_slice}
+use Rattle.language_model.specs.Tokens.{Spelled}
+use Rattle.language_model.specs.Building.{value_of, lexeme_default_adverbs}
+use Rattle.dsl_statement.specs.Statements.{statement_of}
+use Rattle.dsl_faults.proofs.Firsts.{first_of_option}
+use Rattle.dsl_faults.proofs.Searches.{first_in}
+use Rattle.dsl_meanings.proofs.DefaultLemmas.{values_in, default_first}
 use Rattle.dsl_meanings.proofs.defaults.default_value.Goals as goal
 
-pub returns-then-is_some : goal.returns-then-is_some
-returns-then-is_some c =
-    default_here c.args.name.now c.args.statements.now c.loop-s.s-index c.s-item.result c.value_of-value.result (omega arith) c.s-item.is c.loop-s.invariant
-    (c.value_of-value.ensures ∙ ap (value_of c.args.name.now) c.default_adverbs.ensures) (sym c.is_some.ensures ∙ c.if-is_some.true)
-
-pub loop-s-preserved : goal.loop-s-preserved
-loop-s-preserved c =
-    default_on c.args.name.now c.args.statements.now c.loop-s.s-index c.s-item.result c.value_of-value.result (omega arith) c.s-item.is c.loop-s.invariant
-    (c.value_of-value.ensures ∙ ap (value_of c.args.name.now) c.default_adverbs.ensures) (sym c.is_some.ensures ∙ c.if-is_some.false)
-
 pub returns : goal.returns
-returns c = default_nowhere c.args.name.now c.args.statements.now c.loop-s.s-index (omega arith) c.loop-s.invariant
+returns c =
+    let name = c.args.name.now in
+    let found = first_in (λ (t : Bor Spelled). t.now) (values_in name) c.args.statements.now _ _ _ c.find_map.ensures.ran c.find_map.ensures.runs (YieldsList-from_slice c.args.statements.now cc)
+    (λ x o q e. (search rules, let h : option_copied o ≡ value_of name (lexeme_default_adverbs (statement_of x.now)) = search rules in h ∙ first_of_option _)) in
+    found ∙ sym (default_first name c.args.statements.now)

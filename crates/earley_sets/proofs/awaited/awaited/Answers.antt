@@ -1,5 +1,5 @@
 use Rattle.std.proofs.Common.{sym, arith, ◌∙◌}
-use Rattle.earley_sets.proofs.Symbols.{some_same}
+use Rattle.std.proofs.lemmas.Option.{same_Some}
 use Rattle.earley_sets.proofs.awaited.awaited.Goals as goal
 
 pub returns-then-rules-clause-some : goal.returns-then-rules-clause-some
@@ -10,7 +10,7 @@ returns-then-rules-clause-some c =
 
 pub returns-else-rules-clause-none : goal.returns-else-rules-clause-none
 returns-else-rules-clause-none c = λ none x e (r, rule, l).
-    let same = some_same (c.in_ok-symbol.ensures.value ∙ e) in
+    let same = same_Some _ _ (c.in_ok-symbol.ensures.value ∙ e) in
     let (lo, hi) = (c.rules_of-rules.ensures r).1 (rule, l ∙ sym same) in
     let le = c.if-rules.false in
     omega (arith, lo, hi, le)

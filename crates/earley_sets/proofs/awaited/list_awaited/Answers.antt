@@ -1,6 +1,7 @@
 use Rattle.std.proofs.Common.{sym, ap, refl, subst, ℕ, ◌+◌, Vec, Global}
+use Rattle.std.proofs.lemmas.Option.{slice_get-get_or}
+use Rattle.finite_sets.proofs.Lists.{got_item}
 use Rattle.recognizer_model.specs.declared.Item.{Item}
-use Rattle.earley_sets.proofs.Membership.{get_at, got_item}
 use Rattle.earley_sets.proofs.Symbols.{AwaitedTo, awaited_none, awaited_more, awaited_same, awaited_all}
 use Rattle.earley_sets.proofs.awaited.list_awaited.Goals.{in-Some+in_ok-push, in_default}
 use Rattle.earley_sets.proofs.awaited.list_awaited.Goals as goal
@@ -12,11 +13,11 @@ pub loop-item-init : goal.loop-item-init
 loop-item-init c = awaited_none c.args.flat.now c.args.items.now c.clear.new.self.items c.clear.ensures.items
 
 pub awaited-requires-clause-item : goal.awaited-requires-clause-item
-awaited-requires-clause-item c = c.requires.items _ (got_item c.args.items.now c.loop-item.item-index _ (sym (get_at c.args.items.now c.loop-item.item-index no_item c.loop-item-test.true)))
+awaited-requires-clause-item c = c.requires.items _ (got_item c.args.items.now c.loop-item.item-index _ (sym (slice_get-get_or c.args.items.now c.loop-item.item-index no_item c.loop-item-test.true)))
 
 pub loop-item-preserved : goal.loop-item-preserved
 loop-item-preserved c =
-    let at = sym (get_at c.args.items.now c.loop-item.item-index no_item c.loop-item-test.true) in
+    let at = sym (slice_get-get_or c.args.items.now c.loop-item.item-index no_item c.loop-item-test.true) in
     elim c.match-awaited.branch [
       | in-Some+in_ok-push w ↦
           subst (λ l. AwaitedTo c.args.flat.now c.args.items.now l (c.loop-item.item-index + 1)) (ap (λ (v : Vec ℕ Global). v.items) (sym w.symbols-is))

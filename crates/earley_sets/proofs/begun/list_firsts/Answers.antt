@@ -1,5 +1,5 @@
 use Rattle.std.proofs.Common.{sym}
-use Rattle.earley_sets.proofs.Membership.{get_at}
+use Rattle.std.proofs.lemmas.Option.{slice_get-get_or}
 use Rattle.earley_sets.proofs.Starting.{firsts_none, rules_none, firsts_more, rules_more, firsts_all, rules_all}
 use Rattle.earley_sets.proofs.begun.list_firsts.Goals as goal
 
@@ -11,7 +11,7 @@ loop-symbol-init c = record {
 
 pub loop-symbol-preserved : goal.loop-symbol-preserved
 loop-symbol-preserved c =
-    let at = sym (get_at c.args.symbols.now c.loop-symbol.symbol-index 0 c.loop-symbol-test.true) in
+    let at = sym (slice_get-get_or c.args.symbols.now c.loop-symbol.symbol-index 0 c.loop-symbol-test.true) in
     record {
       listed = firsts_more c.args.flat.now c.args.symbols.now c.loop-symbol.symbol-index _ at c.loop-symbol.next.items c.list_rules.new.next.items c.loop-symbol.invariant.listed c.in_ok-list_rules.ensures.listed;
       tried = rules_more c.args.flat.now c.args.symbols.now c.loop-symbol.symbol-index _ at c.loop-symbol.next.items c.list_rules.new.next.items c.requires.once c.loop-symbol.invariant.tried c.in_ok-list_rules.ensures.links;

@@ -1,6 +1,6 @@
 use Rattle.std.proofs.Common.{inl, inr, subst, Contains}
 use Rattle.std.proofs.lemmas.Result.{on_ok_weaker}
-use Rattle.earley_sets.proofs.Membership.{Contains-none}
+use Rattle.finite_sets.proofs.Lists.{Contains-none}
 use Rattle.earley_sets.proofs.begun.list_unbegun.Goals as goal
 
 pub returns-clause-only : goal.returns-clause-only

@@ -1,10 +1,10 @@
 use Rattle.std.proofs.Common.{arith, ◌+◌, inl, inr, refl, ap, subst, length, List, [], Contains, ◌↔◌, ◌⊎◌}
+use Rattle.finite_sets.proofs.Lists.{Contains-none, got_item}
 use Rattle.recognizer_model.specs.declared.Item.{Item}
 use Rattle.leo_items.proofs.Chains.{no_more, more_on}
 use Rattle.earley_sets.specs.Closing.{GoesOn, Grows}
 use Rattle.earley_sets.specs.Tried.{MakesLink}
 use Rattle.earley_sets.proofs.Loops.{closed_init, closed_done, closed_more, got_none}
-use Rattle.earley_sets.proofs.Membership.{Contains-none, got_item}
 use Rattle.earley_sets.proofs.Following.{follows_item}
 use Rattle.earley_sets.proofs.Rising.{rises_moved}
 use Rattle.earley_sets.proofs.Trying.{tried_none, tried_more, tried_all, same_maker}

@@ -1,7 +1,8 @@
 use Rattle.std.proofs.Common.{ℕ, ◌≢◌, ◌≡◌, ◌↔◌, List, Contains, get_or, length, sym, subst}
 use Rattle.std.specs.Prelude.{AllPairs}
+use Rattle.std.proofs.lemmas.Option.{slice_get-get_or}
+use Rattle.finite_sets.proofs.Lists.{got_item}
 use Rattle.grammar_model.specs.declared.Edge.{Edge as HeldEdge}
-use Rattle.earley_sets.proofs.Membership.{got_item, get_at}
 use Rattle.earley_sets.proofs.Scanning.{scanned_none, scanned_more, scanned_all, has_ending}
 use Rattle.earley_sets.proofs.Trying.{scans_none, scans_more, scans_all, scans_ending}
 use Rattle.earley_sets.proofs.close.list_scanned.Goals as goal
@@ -20,7 +21,7 @@ pub list_by_edge-requires-clause-from : goal.list_by_edge-requires-clause-from
 list_by_edge-requires-clause-from c =
     let listed = c.deref-edge-items.result.now in
     let edge = get_or listed c.loop-edge.edge-index (record { symbol = 0; from = 0; to = 0 }) in
-    c.requires.begun edge ((are_ending c.args.place c.args.edges.now c.list_to.new.edges.items c.deref-edge-items.result.now c.deref-edge-items.ensures.value c.in_ok-list_to.ensures.exact edge).0 (got_item listed c.loop-edge.edge-index edge (sym (get_at listed c.loop-edge.edge-index (record { symbol = 0; from = 0; to = 0 }) c.loop-edge-test.true)))).0
+    c.requires.begun edge ((are_ending c.args.place c.args.edges.now c.list_to.new.edges.items c.deref-edge-items.result.now c.deref-edge-items.ensures.value c.in_ok-list_to.ensures.exact edge).0 (got_item listed c.loop-edge.edge-index edge (sym (slice_get-get_or listed c.loop-edge.edge-index (record { symbol = 0; from = 0; to = 0 }) c.loop-edge-test.true)))).0
 
 pub loop-edge-preserved : goal.loop-edge-preserved
 loop-edge-preserved c =
@@ -30,7 +31,7 @@ loop-edge-preserved c =
     let listed = c.deref-edge-items.result.now in
     let k = c.loop-edge.edge-index in
     let edge = get_or listed k (record { symbol = 0; from = 0; to = 0 }) in
-    let at = get_at listed k (record { symbol = 0; from = 0; to = 0 }) c.loop-edge-test.true in
+    let at = slice_get-get_or listed k (record { symbol = 0; from = 0; to = 0 }) c.loop-edge-test.true in
     let ends = ((are_ending c.args.place c.args.edges.now c.list_to.new.edges.items c.deref-edge-items.result.now c.deref-edge-items.ensures.value c.in_ok-list_to.ensures.exact edge).0 (got_item listed k edge (sym at))).1 in
     let once = subst (AllPairs (λ (d e : HeldEdge). d ≢ e)) (sym c.deref-edge-items.ensures.value) c.in_ok-list_to.ensures.once in
     record {

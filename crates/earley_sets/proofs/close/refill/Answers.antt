@@ -1,8 +1,8 @@
 use Rattle.std.proofs.Common.{inl, inr, List, Contains, subst}
 use Rattle.std.proofs.lemmas.Result.{on_ok_weaker}
+use Rattle.finite_sets.proofs.Lists.{Contains-none}
 use Rattle.recognizer_model.specs.declared.Item.{Item}
 use Rattle.earley_sets.specs.Closing.{Grows}
-use Rattle.earley_sets.proofs.Membership.{Contains-none}
 use Rattle.earley_sets.proofs.close.refill.Goals as goal
 
 pub returns-clause-same : goal.returns-clause-same

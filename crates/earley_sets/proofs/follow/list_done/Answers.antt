@@ -1,11 +1,12 @@
 use Rattle.std.proofs.Common.{Some, None, inl, inr, ap, arith, length, length-append, ◌∙◌}
+use Rattle.std.proofs.lemmas.Option.{slice_get_within}
 use Rattle.recognizer_model.specs.Flat.{rhs_of}
 use Rattle.recognizer_model.specs.Items.{advanced}
 use Rattle.item_rows.specs.Rows.{row_at}
 use Rattle.item_rows.proofs.Viewing.{waits_over}
 use Rattle.leo_items.proofs.Chains.{step_by_row}
 use Rattle.earley_sets.specs.Tried.{IsWaiting}
-use Rattle.earley_sets.proofs.Following.{done_none, done_leo, has_advanced, part_within}
+use Rattle.earley_sets.proofs.Following.{done_none, done_leo, has_advanced}
 use Rattle.earley_sets.proofs.Trying.{rises_listed}
 use Rattle.earley_sets.proofs.follow.list_done.Goals as goal
 
@@ -20,7 +21,7 @@ pub list_advanced-requires : goal.list_advanced-requires
 list_advanced-requires g c w h =
     let (there, e) = ((waits_over c.args.rows.now c.args.flat.now (row_at c.args.rows.now.sets c.args.pair.set) c.waiting-waiting.result c.args.pair.symbol c.requires.rows.flat c.waiting-waiting.ensures).exact w).0 h in
     let is = (c.requires.rows.are c.args.pair.set).items w there in
-    let lt = part_within (rhs_of c.args.flat.now w.rule) w.dot c.args.pair.symbol e in
+    let lt = slice_get_within (rhs_of c.args.flat.now w.rule) w.dot c.args.pair.symbol e in
     let short = c.known.ensures.flat.in_range.short w.rule is.is_rule in
     omega arith
 

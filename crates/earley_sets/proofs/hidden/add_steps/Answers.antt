@@ -1,4 +1,5 @@
 use Rattle.std.proofs.Common.{◌≡◌, ◌∙◌, ◌+◌, ◌++◌, [], List, sym, ap, refl, subst, append-nil, append_assoc, HashSet, BuildHasherDefault}
+use Rattle.finite_sets.proofs.Lists.{got_item}
 use Rattle.recognizer_model.specs.declared.Item.{Item}
 use Rattle.leo_items.specs.declared.near.NearHasher.{NearHasher}
 use Rattle.earley_sets.specs.Hidden.{IsSingleStep}
@@ -7,7 +8,6 @@ use Rattle.earley_sets.proofs.Adding.{adds_key}
 use Rattle.earley_sets.proofs.Growing.{Adds-begins}
 use Rattle.earley_sets.proofs.Hiding.{step_added, none_added}
 use Rattle.earley_sets.proofs.Loops.{closed_init, closed_done, got_none}
-use Rattle.earley_sets.proofs.Membership.{got_item}
 use Rattle.earley_sets.proofs.hidden.add_steps.Goals.{in-Some-single_step+in_ok-insert, in_default-single_step}
 use Rattle.earley_sets.proofs.hidden.add_steps.Goals as goal
 

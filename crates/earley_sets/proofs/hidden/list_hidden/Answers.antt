@@ -1,6 +1,7 @@
 use Rattle.std.proofs.Common.{◌≡◌, ◌≢◌, ◌↔◌, ◌∙◌, ◌++◌, List, drop, Contains, true≢false, sym, ap, subst}
 use Rattle.std.specs.List.{AllPairs}
 use Rattle.std.proofs.Math.Seq.{drop-append_seam}
+use Rattle.std.proofs.lemmas.Result.{IfOk-weaker}
 use Rattle.recognizer_model.specs.declared.Item.{Item}
 use Rattle.recognizer_model.specs.Counts.{IsListOf}
 use Rattle.item_rows.specs.Rows.{row_at}
@@ -8,7 +9,6 @@ use Rattle.item_rows.proofs.Viewing.{whole_over}
 use Rattle.earley_sets.specs.Closing.{IsReached}
 use Rattle.earley_sets.specs.Hidden.{IsSingleStep, IsHiddenIn}
 use Rattle.earley_sets.proofs.Adding.{all_differ}
-use Rattle.earley_sets.proofs.Cutting.{if_ok_weaker}
 use Rattle.earley_sets.proofs.Hiding.{whole_from, hidden_listed, none_hidden}
 use Rattle.earley_sets.proofs.hidden.list_hidden.Goals as goal
 
@@ -29,7 +29,7 @@ pub returns : goal.returns
 returns c =
     let (more, e) = c.in_ok-add_steps.ensures.begins in
     let kept = c.put_from.new.set.keys in
-    if_ok_weaker c.list_behind.result
+    IfOk-weaker c.list_behind.result _ _
     (λ v is.
     let same : v.items ≡ more = is ∙ (ap (λ (l : List Item). drop c.len-kept.result l) (c.as_slice.ensures.keys ∙ e) ∙ (ap (λ n. drop n (kept ++ more)) c.len-kept.ensures.len ∙ drop-append_seam kept more)) in
     subst (λ (l : List Item). IsListOf (IsHiddenIn c.args.flat.now c.args.rows.now.sets c.args.place c.args.from) l) (sym same)

@@ -1,9 +1,9 @@
 use Rattle.std.proofs.Common.{sym, ap, subst, arith, ◌+◌, ◌↔◌, take, Contains, HashSet, BuildHasherDefault}
+use Rattle.std.proofs.lemmas.List.{take_all}
 use Rattle.recognizer_model.specs.declared.Item.{Item}
 use Rattle.leo_items.specs.declared.near.NearHasher.{NearHasher}
 use Rattle.earley_sets.specs.Hidden.{IsFrom}
 use Rattle.earley_sets.proofs.Adding.{adds_key}
-use Rattle.earley_sets.proofs.Cutting.{take_all}
 use Rattle.earley_sets.proofs.Hiding.{AreFrom, from_none, from_add, from_skip}
 use Rattle.earley_sets.proofs.hidden.put_from.Goals.{then-from-item+in_ok-insert, else-from-item}
 use Rattle.earley_sets.proofs.hidden.put_from.Goals as goal

@@ -1,9 +1,9 @@
 use Rattle.std.proofs.Common.{true≢false, sym, ◌∙◌, subst, arith}
+use Rattle.std.proofs.lemmas.List.{take_all}
+use Rattle.finite_sets.proofs.Lists.{Contains-none}
 use Rattle.grammar_core.proofs.Placed.{at_found}
 use Rattle.earley_sets.specs.Hidden.{NoneLeadsOn}
-use Rattle.earley_sets.proofs.Cutting.{take_all}
 use Rattle.earley_sets.proofs.Hiding.{none_more}
-use Rattle.earley_sets.proofs.Membership.{Contains-none}
 use Rattle.earley_sets.proofs.hidden.some_leads_on.Goals as goal
 
 pub loop-k-init : goal.loop-k-init

@@ -1,4 +1,5 @@
 use Rattle.std.proofs.Common.{◌≡◌, ◌++◌, [], List, map, length, sym, ◌∙◌, subst, append_assoc, Err, Ok}
+use Rattle.std.proofs.lemmas.List.{append-nil}
 use Rattle.grammar_model.specs.Grammar.{Grammar}
 use Rattle.grammar_model.specs.Simple.{numbers}
 use Rattle.recognizer_model.specs.Flat.{FlatRule}
@@ -38,7 +39,7 @@ returns-in_err-push_tops c = λ d.
     let b = from_symbols w d t (map Sequence t.lists) in
     let e = from_symbols w d t (map Top (numbers (length w.starts))) in
     let none : List FlatRule = [] in
-    let all : (flat_of w d).rules ≡ ((a ++ b) ++ e) ++ none = sym (Rattle.flat_rules.proofs.Rows.append_none ((a ++ b) ++ e) ∙ append_assoc a b e ∙ parts_named w d t c.requires.numbers ∙ numbered_agree w d t c.requires.numbers c.known.ensures.checked) in
+    let all : (flat_of w d).rules ≡ ((a ++ b) ++ e) ++ none = sym (append-nil ((a ++ b) ++ e) ∙ append_assoc a b e ∙ parts_named w d t c.requires.numbers ∙ numbered_agree w d t c.requires.numbers c.known.ensures.checked) in
     let so_far = adds_two {T = Unit {0}} {U = Unit {0}} c.new-rules.result.items c.push_slots.new.rules.items c.push_lists.new.rules.items a b tt (Ok tt) (c.in_ok-push_slots.ensures d) (c.in_ok-push_lists.ensures d) in
     let last = subst (λ (g : Grammar). (d : Decided g) → Adds {T = Unit {0}} c.push_lists.new.rules.items c.push_tops.new.rules.items (from_symbols g d t (map Top (numbers (length g.starts)))) (Err c.in_err-push_tops.field-0.0)) c.written.ensures c.in_err-push_tops.ensures in
     let whole = adds_two {T = Unit {0}} {U = Unit {0}} c.new-rules.result.items c.push_lists.new.rules.items c.push_tops.new.rules.items (a ++ b) e tt (Err c.in_err-push_tops.field-0.0) so_far (last d) in

@@ -1,13 +1,14 @@
 use Rattle.std.proofs.Common.{map, sym, ◌∙◌, ap, arith, ◌++◌, subst}
+use Rattle.std.proofs.lemmas.List.{take_all}
+use Rattle.std.proofs.lemmas.Simd.{map-map}
+use Rattle.finite_sets.proofs.Members.{Among}
+use Rattle.finite_sets.proofs.Lists.{get_among, get_index}
 use Rattle.grammar_model.specs.Grammar.{Slot}
 use Rattle.grammar_core.specs.Written.{IsWritten}
-use Rattle.grammar_model.proofs.Lists.{Among}
-use Rattle.recognizer_model.proofs.FlatNamed.{get_index}
 use Rattle.flat_model.specs.Flatten.{Decided, is_marked, symbol_for}
 use Rattle.flat_rules.specs.Tables.{told_slot, rows_of, row_at}
-use Rattle.flat_rules.proofs.Adding.{take_step, take_all}
-use Rattle.flat_rules.proofs.Deciding.{decided_of, slots_known, map_twice}
-use Rattle.flat_rules.proofs.Named.{get_among}
+use Rattle.flat_rules.proofs.Adding.{take_step}
+use Rattle.flat_rules.proofs.Deciding.{decided_of, slots_known}
 use Rattle.flat_rules.proofs.Rows.{rows_length}
 use Rattle.flat_rules.proofs.SymbolRules.{symbol_told, mark_told}
 use Rattle.flat_rules.proofs.flattening.list_slots.Goals as goal
@@ -45,11 +46,11 @@ loop-x-preserved c =
 pub returns-clause-list : goal.returns-clause-list
 returns-clause-list c = λ d.
     let slots = c.args.symbols.now.slots in
-    c.loop-x.invariant.list d ∙ ap (λ l. c.args.list.now.items ++ map (symbol_for c.args.c.now d) l) (take_all slots c.loop-x.x (omega (arith, c.loop-x-test.false, c.slot_count-x-end.ensures)))
+    c.loop-x.invariant.list d ∙ ap (λ l. c.args.list.now.items ++ map (symbol_for c.args.c.now d) l) (take_all c.loop-x.x slots (omega (arith, c.loop-x-test.false, c.slot_count-x-end.ensures)))
 
 pub returns-clause-marks : goal.returns-clause-marks
 returns-clause-marks c = λ d.
     let w = c.args.c.now in
     let slots = c.args.symbols.now.slots in
-    c.loop-x.invariant.marks d ∙ ap (λ l. c.args.marks.now.items ++ map (λ s. is_marked w d (symbol_for w d s)) l) (take_all slots c.loop-x.x (omega (arith, c.loop-x-test.false, c.slot_count-x-end.ensures)))
-    ∙ ap (λ l. c.args.marks.now.items ++ l) (sym (map_twice (is_marked w d) (symbol_for w d) slots))
+    c.loop-x.invariant.marks d ∙ ap (λ l. c.args.marks.now.items ++ map (λ s. is_marked w d (symbol_for w d s)) l) (take_all c.loop-x.x slots (omega (arith, c.loop-x-test.false, c.slot_count-x-end.ensures)))
+    ∙ ap (λ l. c.args.marks.now.items ++ l) (sym (map-map (is_marked w d) (symbol_for w d) slots))

@@ -1,10 +1,10 @@
 use Rattle.std.proofs.Common.{◌≡◌, map, length, sym, ◌∙◌, ap, refl, arith, ◌++◌}
+use Rattle.std.proofs.lemmas.Simd.{map-map}
 use Rattle.grammar_model.specs.Grammar.{Grammar}
 use Rattle.grammar_model.specs.Simple.{numbers}
 use Rattle.recognizer_model.specs.declared.flat.FlatSymbol.TheVariants.{Top}
 use Rattle.flat_model.specs.Flatten.{is_marked}
 use Rattle.flat_rules.proofs.Adding.{numbers_step}
-use Rattle.flat_rules.proofs.Deciding.{map_twice}
 use Rattle.flat_rules.proofs.SymbolRules.{top_told}
 use Rattle.flat_rules.proofs.flattening.list_tops.Goals as goal
 
@@ -26,4 +26,4 @@ returns-clause-marks c = λ d.
     let same = ap (λ (g : Grammar). length g.starts) c.written-w.ensures in
     let all : c.loop-k.k ≡ length c.args.c.now.starts = omega (arith, c.loop-k-test.false, c.loop-k.auto.k-end, c.start_count-k-end.ensures.count, same) in
     c.loop-k.invariant.marks d ∙ ap (λ n. c.args.marks.now.items ++ map (λ k. is_marked c.args.c.now d (Top k)) (numbers n)) all
-    ∙ ap (λ l. c.args.marks.now.items ++ l) (sym (map_twice (is_marked c.args.c.now d) Top (numbers (length c.args.c.now.starts))))
+    ∙ ap (λ l. c.args.marks.now.items ++ l) (sym (map-map (is_marked c.args.c.now d) Top (numbers (length c.args.c.now.starts))))

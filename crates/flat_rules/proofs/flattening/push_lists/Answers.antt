@@ -1,10 +1,10 @@
 use Rattle.std.proofs.Common.{◌≤◌, List, arith, get_or, map, length, subst, ◌∙◌, ap, Ok, Err}
+use Rattle.std.proofs.lemmas.List.{length-map}
 use Rattle.grammar_model.specs.Grammar.{rule_at}
 use Rattle.grammar_core.specs.Written.{IsWritten}
 use Rattle.recognizer_model.specs.Flat.{FlatRule}
 use Rattle.recognizer_model.specs.declared.flat.FlatSymbol.{FlatSymbol}
 use Rattle.recognizer_model.specs.declared.flat.FlatSymbol.TheVariants.{Sequence}
-use Rattle.recognizer_model.proofs.FlatNamed.{map_length}
 use Rattle.flat_model.specs.Flatten.{Decided, rules_of}
 use Rattle.flat_rules.specs.Tables.{numbered_in}
 use Rattle.flat_rules.specs.Added.{from_symbols, items_by, counts_separator}
@@ -51,7 +51,7 @@ pub returns : goal.returns
 returns c = λ d.
     let g : FlatSymbol → List FlatRule = λ x. map (numbered_in c.args.symbols.now) (rules_of c.args.c.now d x) in
     let xs = c.lists-lists.result.now in
-    let long = map_length Sequence xs in
+    let long = length-map xs Sequence in
     let le : length (map Sequence xs) ≤ c.loop-i.i-index = omega (arith, long, c.loop-i-test.false) in
     adds_to {T = Unit {0}} c.args.rules.now.items c.loop-i.rules.items (from_symbols c.args.c.now d c.args.symbols.now (map Sequence xs)) (from_symbols c.args.c.now d c.args.symbols.now (map Sequence c.args.symbols.now.lists)) (Ok tt)
     (ap (λ l. from_symbols c.args.c.now d c.args.symbols.now (map Sequence l)) c.lists-lists.ensures)

@@ -1,17 +1,17 @@
 use Rattle.std.proofs.Common.{◌≤◌, List, arith, map, length, subst, ◌∙◌, ap, Ok, Err}
+use Rattle.std.proofs.lemmas.List.{length-map}
+use Rattle.finite_sets.proofs.Members.{among_from, Among}
+use Rattle.finite_sets.proofs.Lists.{get_among}
 use Rattle.grammar_model.specs.Grammar.{Slot}
 use Rattle.grammar_core.specs.Written.{IsWritten}
-use Rattle.grammar_model.proofs.Lists.{Among, among_from}
 use Rattle.recognizer_model.specs.Flat.{FlatRule}
 use Rattle.recognizer_model.specs.declared.flat.FlatSymbol.{FlatSymbol}
-use Rattle.recognizer_model.proofs.FlatNamed.{map_length}
 use Rattle.flat_model.specs.Flatten.{Decided, rules_of, symbol_for}
 use Rattle.flat_rules.specs.Tables.{numbered_in, told_slot}
 use Rattle.flat_rules.specs.Added.{from_rules}
 use Rattle.flat_rules.proofs.Adding.{adds_to, loop_stop, loop_next, loop_end, at_slot}
 use Rattle.flat_rules.proofs.Deciding.{decided_of, slots_known}
 use Rattle.flat_rules.proofs.Listing.{among_rule}
-use Rattle.flat_rules.proofs.Named.{get_among}
 use Rattle.flat_rules.proofs.Rows.{rows_length}
 use Rattle.flat_rules.proofs.SymbolRules.{row_rules, row_of_slot}
 use Rattle.flat_rules.proofs.flattening.push_slots.Goals as goal
@@ -58,6 +58,6 @@ pub returns : goal.returns
 returns c = λ d.
     let g : FlatSymbol → List FlatRule = λ x. map (numbered_in c.args.symbols.now) (rules_of c.args.c.now d x) in
     let slots = c.args.symbols.now.slots in
-    let long = map_length (symbol_for c.args.c.now d) slots in
+    let long = length-map slots (symbol_for c.args.c.now d) in
     let le : length (map (symbol_for c.args.c.now d) slots) ≤ c.loop-x.x = omega (arith, long, c.loop-x-test.false, c.slot_count-x-end.ensures) in
     loop_end g (map (symbol_for c.args.c.now d) slots) c.loop-x.x c.args.rules.now.items c.loop-x.rules.items le (c.loop-x.invariant d)

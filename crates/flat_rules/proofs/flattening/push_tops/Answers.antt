@@ -1,10 +1,10 @@
 use Rattle.std.proofs.Common.{◌≤◌, List, [], ◌∷◌, arith, map, length, Ok, Err}
 use Rattle.std.specs.Prelude.{slice_index}
+use Rattle.std.proofs.lemmas.List.{length-map}
 use Rattle.grammar_model.specs.Simple.{numbers}
 use Rattle.recognizer_model.specs.Flat.{FlatRule}
 use Rattle.recognizer_model.specs.declared.flat.FlatSymbol.{FlatSymbol}
 use Rattle.recognizer_model.specs.declared.flat.FlatSymbol.TheVariants.{Top}
-use Rattle.recognizer_model.proofs.FlatNamed.{map_length}
 use Rattle.flat_model.specs.Flatten.{rules_of}
 use Rattle.flat_rules.specs.Tables.{numbered_in}
 use Rattle.flat_rules.specs.Added.{top_by}
@@ -33,7 +33,7 @@ pub returns : goal.returns
 returns c = λ d.
     let w = c.args.w.now in
     let g : FlatSymbol → List FlatRule = λ x. map (numbered_in c.args.symbols.now) (rules_of w d x) in
-    let long = map_length Top (numbers (length w.starts)) in
+    let long = length-map (numbers (length w.starts)) Top in
     let count = numbers_length (length w.starts) in
     let le : length (map Top (numbers (length w.starts))) ≤ c.loop-k.k = omega (arith, long, count, c.loop-k-test.false, c.start_count-k-end.ensures.count) in
     loop_end g (map Top (numbers (length w.starts))) c.loop-k.k c.args.rules.now.items c.loop-k.rules.items le (c.loop-k.invariant d)

@@ -1,8 +1,8 @@
 use Rattle.std.proofs.Common.{◌≡◌, ◌<◌, ap, ◌∙◌, sym, subst, ◌++◌, map, arith, length, append_assoc}
 use Rattle.std.specs.List.{flat_map}
+use Rattle.finite_sets.proofs.Members.{among_from, contains_from, Among}
 use Rattle.grammar_model.specs.Grammar.{Grammar, rule_at, level_of}
 use Rattle.grammar_model.specs.Simple.{numbers}
-use Rattle.grammar_model.proofs.Lists.{Among, among_from, contains_from}
 use Rattle.grammar_core.specs.Written.{IsWritten}
 use Rattle.flat_model.specs.Flatten.{levels_of}
 use Rattle.flat_rules.specs.Tables.{told_slot, slot_at}

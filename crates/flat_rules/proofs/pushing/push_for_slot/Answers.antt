@@ -1,18 +1,18 @@
 use Rattle.std.proofs.Common.{ap, ◌∙◌, sym, ◌++◌}
 use Rattle.std.specs.Prelude.{not, ◌&&◌}
+use Rattle.std.proofs.lemmas.List.{append-nil}
 use Rattle.grammar_model.specs.Grammar.{rule_at}
 use Rattle.grammar_core.specs.Rules.{is_sequence}
 use Rattle.flat_rules.specs.Tables.{told_slot}
 use Rattle.flat_rules.specs.Added.{from_rule, lists_by, plain_by, is_proper_rule, counts_separator}
 use Rattle.flat_rules.proofs.Adding.{adds_to}
-use Rattle.flat_rules.proofs.Rows.{append_none}
 use Rattle.flat_rules.proofs.SlotRules.{none_of, plain_of, lists_of}
 use Rattle.flat_rules.proofs.pushing.push_for_slot.Goals as goal
 
 pub returns-then-not-makes_rules : goal.returns-then-not-makes_rules
 returns-then-not-makes_rules c = λ d.
     let none = none_of c.args.c.now d c.args.symbols.now c.args.i c.args.slot.symbol c.args.slot.level c.requires.left (sym (c.makes_rules.ensures d) ∙ c.if-not-makes_rules.true) in
-    (sym (append_none c.args.rules.now.items) ∙ ap (λ l. c.args.rules.now.items ++ l) none, (λ le. le))
+    (sym (append-nil c.args.rules.now.items) ∙ ap (λ l. c.args.rules.now.items ++ l) none, (λ le. le))
 
 pub returns-then-is_sequence : goal.returns-then-is_sequence
 returns-then-is_sequence c = λ d.

@@ -1,7 +1,7 @@
 use Rattle.std.proofs.Common.{◌≡◌, ◌↔◌, inl, inr, List, Contains, sym, subst}
 use Rattle.std.proofs.lemmas.Result.{on_ok_weaker}
+use Rattle.finite_sets.proofs.Lists.{Contains-none}
 use Rattle.grammar_model.specs.declared.Edge.{Edge}
-use Rattle.earley_sets.proofs.Membership.{Contains-none}
 use Rattle.forest_parts.specs.declared.parts.Part.{Part}
 use Rattle.forest_parts.proofs.Gathering.{parts_are}
 use Rattle.forest_parts.proofs.gather.list_parts.Goals as goal

@@ -1,6 +1,6 @@
 use Rattle.std.proofs.Common.{◌≤◌, inl, inr, length, sym, subst}
+use Rattle.finite_sets.proofs.Lists.{got_item}
 use Rattle.recognizer_model.specs.declared.Item.{Item}
-use Rattle.earley_sets.proofs.Membership.{got_item}
 use Rattle.forest_parts.specs.declared.parts.Part.{Part}
 use Rattle.forest_parts.specs.Parts.{IsWholeOf}
 use Rattle.forest_parts.proofs.Sets.{kept_inside, found_item}

@@ -1,14 +1,15 @@
 use Rattle.std.proofs.Common.{◌≡◌, ◌∙◌, ◌+◌, ℕ, List, Some, slice_get, sym, ap, subst, arith, Contains}
-use Rattle.earley_sets.proofs.Membership.{got_at, found_at}
+use Rattle.std.proofs.lemmas.List.Elements.{Contains-get_or}
+use Rattle.finite_sets.proofs.Lists.{got_at}
+use Rattle.earley_sets.proofs.Membership.{found_at}
 use Rattle.forest_parts.specs.declared.parts.Part.{Part}
 use Rattle.forest_parts.specs.declared.groups.Group.{Group}
 use Rattle.forest_parts.specs.Parts.{no_part, part_at}
-use Rattle.forest_parts.proofs.RowLemmas.{there}
 use Rattle.forest_parts.proofs.Spans.{more_are, more_all, more_order, more_longer}
 use Rattle.forest_parts.proofs.groups.list_groups.Goals as goal
 
 pub overflow_sub-end : goal.overflow_sub-end
-overflow_sub-end c = (c.requires.ends _ (there c.args.parts.now c.loop-k.k no_part c.loop-k-test.true)).1
+overflow_sub-end c = (c.requires.ends _ (Contains-get_or c.args.parts.now c.loop-k.k no_part c.loop-k-test.true)).1
 
 pub loop-k-preserved : goal.loop-k-preserved
 loop-k-preserved c =

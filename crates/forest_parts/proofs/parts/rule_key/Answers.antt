@@ -6,8 +6,9 @@ use Rattle.grammar_model.specs.Order.{rank_by}
 use Rattle.grammar_core.specs.Written.{rule_of}
 use Rattle.recognizer_model.specs.Flat.{source_of}
 use Rattle.recognizer_model.specs.FlatForm.{source_number}
-use Rattle.forest_parts.proofs.Sources.{source_within, rule_is}
+use Rattle.forest_parts.proofs.Sources.{rule_is}
 use Rattle.forest_parts.proofs.parts.rule_key.Goals as goal
+use Rattle.recognizer_model.proofs.Sources.{source_within}
 
 pub written_rule-written-requires : goal.written_rule-written-requires
 written_rule-written-requires c = source_within c.args.flat.now c.args.w.now c.args.rule c.in-Written.source c.requires.flat c.requires.rule (sym c.in-Written.ensures)

@@ -2,29 +2,11 @@ use Rattle.std.proofs.Common.{arith, ◌≡◌, ◌⊎◌, ◌↔◌, inl, inr, 
 use Rattle.std.specs.Option.{IfSome, IsNone}
 use Rattle.std.specs.declared.vec.Vec.{Vec}
 use Rattle.std.specs.declared.alloc.Global.{Global}
-use Rattle.horn_clauses.specs.Least.{Clause, AreBelow}
 use Rattle.grammar_check.specs.Links.{Walks, AreRows, IsLeastPath}
-use Rattle.grammar_check.specs.Settled.{IsOfNodes, IsOfUses}
 use Rattle.horn_clauses.proofs.Search.{same_or_below}
-use Rattle.grammar_check.proofs.Settling.{settled_none, all_rise, all_settled, settling_below}
+use Rattle.grammar_check.proofs.Settling.{settled_none, all_rise, all_settled}
 use Rattle.grammar_check.proofs.cycles.least_cycle.Goals as goal
 use Rattle.grammar_check.proofs.cycles.least_cycle.Goals.{then-not-has+in_ok-path+in_default, else-not-has}
-
--- the clauses by how many rows there are
-module _ (rows : List (List ℕ)) (floors : List ℕ) (cs : List Clause) where
-  abbrev AreSettling : ℕ → Type 0
-  AreSettling n = (d : Clause) → Contains cs d ↔ (IsOfNodes rows n n d ⊎ IsOfUses floors n n d)
-
-  settling_at : (n : ℕ) → n ≡ length rows → AreSettling n → AreSettling (length rows)
-  settling_at n e h = subst AreSettling e h
-
-pub settling-requires-clause-rows : goal.settling-requires-clause-rows
-settling-requires-clause-rows c = subst (λ n. AreRows n c.args.rows.now) (sym c.len-total.ensures) c.requires.rows
-
-pub least_set-requires : goal.least_set-requires
-least_set-requires c =
-    let told = settling_at c.args.rows.now c.args.floors.now c.in_ok-clauses.clauses c.len-total.result c.len-total.ensures c.in_ok-clauses.ensures in
-    subst (λ n. AreBelow (n + n) c.in_ok-clauses.clauses) (sym c.len-total.ensures) (settling_below c.args.rows.now c.args.floors.now c.in_ok-clauses.clauses c.requires.rows told)
 
 pub cycle_through-requires-clause-rows : goal.cycle_through-requires-clause-rows
 cycle_through-requires-clause-rows c = subst (λ n. AreRows n c.args.rows.now) c.requires.sized c.requires.rows
@@ -38,8 +20,8 @@ loop-x-preserved c = λ x m lt walk. elim (same_or_below x c.loop-x.x lt) [
     through : (m : ℕ) → Walks c.args.rows.now c.args.floors.now c.loop-x.x (suc m) c.loop-x.x → ⊥
     through m = elim c.if-not-has.branch [
       | then-not-has+in_ok-path+in_default w ↦ subst (λ r. IsNone r → (m : ℕ) → Walks c.args.rows.now c.args.floors.now c.loop-x.x (suc m) c.loop-x.x → ⊥) w.in_default.is w.in_ok-path.ensures.none refl m
-      | else-not-has w ↦ settled_none c.args.rows.now c.args.floors.now c.in_ok-clauses.clauses c.in_ok-settled.settled c.requires.sized c.requires.rows c.requires.floors
-          (settling_at c.args.rows.now c.args.floors.now c.in_ok-clauses.clauses c.len-total.result c.len-total.ensures c.in_ok-clauses.ensures) c.in_ok-settled.ensures
+      | else-not-has w ↦ settled_none c.args.rows.now c.args.floors.now c.in_ok-settled.ensures.0 c.in_ok-settled.settled c.requires.sized c.requires.rows c.requires.floors
+          c.in_ok-settled.ensures.1 c.in_ok-settled.ensures.2
           c.loop-x.x (omega (arith, c.loop-x-test.true, c.len-total.ensures)) (c.has.ensures.0 w.if-not-has.false) m
     ]
 
@@ -52,7 +34,7 @@ pub returns-clause-none : goal.returns-clause-none
 returns-clause-none c = λ _.
     let rows = c.args.rows.now in
     let floors = c.args.floors.now in
-    let told = settling_at rows floors c.in_ok-clauses.clauses c.len-total.result c.len-total.ensures c.in_ok-clauses.ensures in
-    all_rise rows floors c.in_ok-clauses.clauses c.in_ok-settled.settled c.requires.sized c.requires.rows c.requires.floors told c.in_ok-settled.ensures
-    (all_settled rows floors c.in_ok-clauses.clauses c.in_ok-settled.settled c.requires.sized c.requires.rows c.requires.floors told c.in_ok-settled.ensures
+    let (clauses, told, least) = c.in_ok-settled.ensures in
+    all_rise rows floors clauses c.in_ok-settled.settled c.requires.sized c.requires.rows c.requires.floors told least
+    (all_settled rows floors clauses c.in_ok-settled.settled c.requires.sized c.requires.rows c.requires.floors told least
     (λ x m lt. c.loop-x.invariant x m (omega (arith, lt, c.loop-x-test.false, c.len-total.ensures))))

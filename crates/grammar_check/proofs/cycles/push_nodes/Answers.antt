@@ -1,5 +1,5 @@
 use Rattle.std.proofs.Common.{arith, ◌≡◌, ℕ, ◌<◌, ◌+◌, ◌++◌, ◌∷◌, [], List, subst, sym, ap, ◌∙◌, All, map}
-use Rattle.horn_clauses.specs.Rows.{row_at}
+use Rattle.jagged.specs.Rows.{row_at}
 use Rattle.grammar_check.specs.Settled.{node_clause, IsOfNodes}
 use Rattle.grammar_check.proofs.Gaining.{row_known}
 use Rattle.slot_analysis.proofs.More.{more_none, more_by, more_pushed}

@@ -1,5 +1,5 @@
-use Rattle.std.proofs.Common.{refl}
+use Rattle.std.proofs.lemmas.Result.{IfOk-weaker}
 use Rattle.grammar_check.proofs.shortest.cycle_through.Goals as goal
 
-pub returns-in_default-clause-none : goal.returns-in_default-clause-none
-returns-in_default-clause-none c = λ _ m w. c.in_default.ensures.none refl (c.in_ok-found.ensures.all m c.args.to w)
+pub returns-clause-none : goal.returns-clause-none
+returns-clause-none c = IfOk-weaker c.cycle_within.result _ _ (λ r here none m w. here none (c.in_ok-found.ensures.all m c.args.to w)) c.cycle_within.ensures.none

@@ -2,10 +2,10 @@ use Rattle.std.proofs.Common.{◌≡◌, ◌≢◌, ◌+◌, ◌-◌, ◌++◌, 
 use Rattle.std.specs.Prelude.{AllPairs}
 use Rattle.std.specs.declared.vec.Vec.{Vec}
 use Rattle.std.specs.declared.alloc.Global.{Global}
+use Rattle.std.proofs.lemmas.Option.{slice_get-get_or}
 use Rattle.grammar_model.specs.declared.Edge.{Edge as HeldEdge}
 use Rattle.grammar_core.specs.declared.edges.Edge.{Edge}
 use Rattle.grammar_core.specs.Edges.{placed}
-use Rattle.grammar_core.proofs.Halving.{get_index}
 use Rattle.grammar_core.proofs.Listing.{AreShortTo, no_short, one_short, one_short_once, no_more_short, all_short}
 use Rattle.grammar_core.proofs.edges.list_short.Goals.{then-edge-eq1+in_ok-push, else-edge-eq1}
 use Rattle.grammar_core.proofs.edges.list_short.Goals as goal
@@ -19,7 +19,7 @@ loop-edge-preserved c =
     let k = c.loop-edge.edge-index in
     let start = c.args.edges.now.items in
     let x = c.edge-item.result in
-    let at : slice_get begun k ≡ Some x = get_index begun k x c.loop-edge-test.true ∙ ap Some (sym c.edge-item.is) in
+    let at : slice_get begun k ≡ Some x = slice_get-get_or begun k x c.loop-edge-test.true ∙ ap Some (sym c.edge-item.is) in
     let size = ap (λ (z : Edge). z.length) c.edge.view_is in
     let symbol = ap (λ (z : Edge). z.symbol) c.edge.view_is in
     elim c.if-edge-eq1.branch [

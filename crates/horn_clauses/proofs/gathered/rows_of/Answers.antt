@@ -1,5 +1,5 @@
 use Rattle.std.proofs.Common.{arith, ◌≡◌, ◌↔◌, ◌<◌, ◌∙◌, ◌+◌, ◌++◌, ◌∷◌, [], ℕ, List, Contains, length, length-append, ap, sym, subst}
-use Rattle.horn_clauses.specs.Rows.{row_at}
+use Rattle.jagged.specs.Rows.{row_at}
 use Rattle.horn_clauses.specs.Gathered.{HasFrom}
 use Rattle.horn_clauses.proofs.RowLemmas.{each_more}
 use Rattle.horn_clauses.proofs.Gathering.{collected_rows}

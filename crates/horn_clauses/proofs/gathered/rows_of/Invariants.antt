@@ -1,5 +1,5 @@
 use Rattle.std.proofs.Common.{◌≡◌, ◌↔◌, ◌<◌, ℕ, length, Contains}
-use Rattle.horn_clauses.specs.Rows.{row_at}
+use Rattle.jagged.specs.Rows.{row_at}
 use Rattle.horn_clauses.specs.Gathered.{HasFrom}
 use Rattle.horn_clauses.proofs.gathered.rows_of.Given as goal
 

@@ -5,8 +5,8 @@ use Rattle.std.proofs.lemmas.Bool.{ltb-true, ltb-false}
 use Rattle.item_rows.proofs.Packing.{below_parted}
 use Rattle.item_rows.proofs.packed.count_below.Goals as goal
 
-pub returns : goal.returns
-returns c =
+pub returns-else-packed-le-FEW : goal.returns-else-packed-le-FEW
+returns-else-packed-le-FEW c =
     let point = c.partition_point.ensures.partitioned (λ n. nat_lt n c.args.bound) (always_returns_same _ _ _ (λ a r f k. search (rules, of_calls))) (below_parted c.args.packed.now c.requires c.args.bound) in
     let bound = c.partition_point.ensures.bound in
     record {

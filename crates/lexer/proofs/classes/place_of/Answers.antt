@@ -1,5 +1,5 @@
 use Rattle.std.proofs.Common.{◌≡◌, ◌<◌, length, subst, sym}
-use Rattle.lexer.specs.Terminals.{row_at}
+use Rattle.jagged.specs.Rows.{row_at}
 use Rattle.lexer.proofs.ClassLists.{row_last}
 use Rattle.lexer.proofs.classes.place_of.Goals as goal
 

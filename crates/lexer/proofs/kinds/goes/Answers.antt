@@ -1,8 +1,10 @@
 use Rattle.std.proofs.Common.{◌≡◌, ℕ, Some, None, inl, inr, Contains, sym, subst, refl, arith}
 use Rattle.std.proofs.lemmas.List.Elements.{Contains-get_or}
+use Rattle.std.proofs.lemmas.List.{take_all}
+use Rattle.finite_sets.proofs.Lists.{Contains-none}
 use Rattle.recognizer_model.specs.declared.thread.Thread.{Thread}
 use Rattle.recognizer_model.specs.Threads.{next}
-use Rattle.threads.proofs.Listing.{Contains-none, contains_next, take_all}
+use Rattle.threads.proofs.Listing.{contains_next}
 use Rattle.lexer.proofs.kinds.goes.Goals as goal
 
 pub waits-requires : goal.waits-requires

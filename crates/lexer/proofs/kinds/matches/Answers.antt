@@ -1,6 +1,8 @@
 use Rattle.std.proofs.Common.{None, inl, inr, Contains, sym, subst, refl, arith}
 use Rattle.std.proofs.lemmas.List.Elements.{Contains-get_or}
-use Rattle.threads.proofs.Listing.{Contains-none, contains_next, take_all}
+use Rattle.std.proofs.lemmas.List.{take_all}
+use Rattle.finite_sets.proofs.Lists.{Contains-none}
+use Rattle.threads.proofs.Listing.{contains_next}
 use Rattle.lexer.specs.Machines.{IsMatch}
 use Rattle.lexer.proofs.kinds.matches.Goals as goal
 

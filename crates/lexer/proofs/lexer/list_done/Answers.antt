@@ -2,7 +2,7 @@ use Rattle.std.proofs.Common.{None, ℕ, ◌+◌, take, sym, subst, arith}
 use Rattle.std.specs.declared.vec.Vec.{Vec}
 use Rattle.std.specs.declared.alloc.Global.{Global}
 use Rattle.std.proofs.lemmas.List.Elements.{Contains-get_or}
-use Rattle.threads.proofs.Listing.{take_all}
+use Rattle.std.proofs.lemmas.List.{take_all}
 use Rattle.lexer.proofs.Done.{DoneTo, done_none, done_more, done_skip}
 use Rattle.lexer.proofs.lexer.list_done.Goals.{then-is_match+in_ok-push, else-is_match}
 use Rattle.lexer.proofs.lexer.list_done.Goals as goal

@@ -2,7 +2,7 @@ use Rattle.std.proofs.Common.{ℕ, ◌+◌, take, sym, subst, arith}
 use Rattle.std.specs.declared.vec.Vec.{Vec}
 use Rattle.std.specs.declared.alloc.Global.{Global}
 use Rattle.std.proofs.lemmas.List.Elements.{Contains-get_or}
-use Rattle.threads.proofs.Listing.{take_all}
+use Rattle.std.proofs.lemmas.List.{take_all}
 use Rattle.lexer.proofs.Done.{MatchedTo, matched_none, matched_more, matched_skip}
 use Rattle.lexer.proofs.lexer.list_matched.Goals.{then-is_done+in_ok-push, else-is_done}
 use Rattle.lexer.proofs.lexer.list_matched.Goals as goal

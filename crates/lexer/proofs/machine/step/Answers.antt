@@ -1,5 +1,6 @@
 use Rattle.std.proofs.Common.{ℕ, List, sym, subst}
-use Rattle.lexer.specs.Terminals.{ClassRows, AreTerminalsOf, row_at}
+use Rattle.lexer.specs.Terminals.{ClassRows, AreTerminalsOf}
+use Rattle.jagged.specs.Rows.{row_at}
 use Rattle.lexer.specs.Machines.{IsNoted}
 use Rattle.lexer.proofs.Machines.{with_classes, made_classes}
 use Rattle.lexer.proofs.ReadOn.{goes_on}

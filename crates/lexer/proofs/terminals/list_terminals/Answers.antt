@@ -1,6 +1,6 @@
 use Rattle.std.proofs.Common.{◌≡◌, ◌++◌, ◌∷◌, [], ◌+◌, sym, subst, take}
+use Rattle.std.proofs.lemmas.List.{take_all}
 use Rattle.lexer.specs.Terminals.{AreTerminalsOf}
-use Rattle.threads.proofs.Listing.{take_all}
 use Rattle.lexer.proofs.Listing.{terminals_more, terminals_same}
 use Rattle.lexer.proofs.terminals.list_terminals.Goals.{then-contains+in_ok-push, else-contains}
 use Rattle.lexer.proofs.terminals.list_terminals.Goals as goal

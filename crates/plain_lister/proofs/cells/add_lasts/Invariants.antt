@@ -1,7 +1,7 @@
 use Rattle.std.proofs.Common.{map, take}
 use Rattle.grammar_model.specs.Trees.{Child}
-use Rattle.plain_lister.specs.Adding.{at, as_front, Adds}
+use Rattle.plain_lister.specs.Adding.{at, as_prefix, Adds}
 use Rattle.plain_lister.proofs.cells.add_lasts.Given as goal
 
 abbrev pub invariant-loop-last : goal.invariant-loop-last
-invariant-loop-last l = Adds l.initial.cells.items l.cells.items l.initial.out.items l.out.items (map (λ k. as_front (Child ((at l.initial.cells.items l.front).front) ((at l.initial.cells.items k).tree))) (take l.last-index l.lasts))
+invariant-loop-last l = Adds l.initial.cells.items l.cells.items l.initial.out.items l.out.items (map (λ k. as_prefix (Child ((at l.initial.cells.items l.prefix).prefix) ((at l.initial.cells.items k).tree))) (take l.last-index l.lasts))

@@ -4,12 +4,13 @@ use Rattle.plain_lister.proofs.Held.{holds_grow}
 use Rattle.grammar_model.specs.Grammar.{lhs_of, rule_at, child_slot, slot_of}
 use Rattle.grammar_model.specs.Trees.{NoChild, Child}
 use Rattle.grammar_model.specs.Simple.{part_count, places, is_terminal}
-use Rattle.plain_lister.specs.Adding.{as_tree, as_front}
+use Rattle.plain_lister.specs.Adding.{as_tree, as_prefix}
 use Rattle.plain_lister.specs.declared.store.Store.{Store}
-use Rattle.plain_lister.specs.Table.{rank, listed, fronts_listed, fronts_from, nodes_below}
-use Rattle.plain_lister.proofs.Building.{built_none, built_cells, built_same, built_list, nodes_value, firsts_value, pairs_value, front_value, nodes_listed, nodes_more, firsts_listed, slot_is, pairs_more, pairs_as_before, no_last, no_front, places_none, within_read, told_read, in_lists, first_rank, weight_less, rank_low, key_rule, fronts_step, starts_end, empty_list}
+use Rattle.plain_lister.specs.Table.{rank, listed, prefixes_listed, prefixes_from, nodes_below}
+use Rattle.plain_lister.proofs.Building.{built_none, built_cells, built_same, built_list, nodes_value, firsts_value, pairs_value, prefix_value, nodes_listed, nodes_more, firsts_listed, slot_is, pairs_more, pairs_as_before, no_last, no_prefix, places_none, within_read, told_read, in_lists, first_rank, weight_less, rank_low, key_rule, prefixes_step, starts_end}
 use Rattle.std.specs.Prelude.{not}
 use Rattle.std.proofs.lemmas.Bool.{eqb-true}
+use Rattle.std.proofs.lemmas.List.{nil_from_length}
 use Rattle.grammar_model.proofs.Simple.{simple_parts}
 use Rattle.plain_lister.proofs.lister.+lister.Goals as goal
 
@@ -39,8 +40,8 @@ firsts_at-returns t c =
     let told = told_read g input s c.in_ok-k.k c.part_of.result 0 c.args.p c.args.q c.index.result.now c.as_slice.result.now c.in_ok-k.ensures.holds c.index.ensures c.as_slice.ensures in
     built_same g input c.args.store.now (firsts_after t c) c.add_firsts.new.out.items _ _
     (firsts_value s.cells.items c.as_slice.result.now (listed g input (slot_of c.part_of.result) c.args.p c.args.q) told
-    ∙ ap (λ z. map as_front (map (Child NoChild) (listed g input z c.args.p c.args.q))) (ap slot_of c.part_of.ensures.part ∙ sym slot)
-    ∙ sym (ap (map as_front) (firsts_listed g input c.args.i c.args.p c.args.q c.requires.spans)))
+    ∙ ap (λ z. map as_prefix (map (Child NoChild) (listed g input z c.args.p c.args.q))) (ap slot_of c.part_of.ensures.part ∙ sym slot)
+    ∙ sym (ap (map as_prefix) (firsts_listed g input c.args.i c.args.p c.args.q c.requires.spans)))
     (built_cells g input c.args.store.now s (firsts_after t c) c.new-out.result.items c.add_firsts.new.out.items [] _ refl refl
     (built_list g input c.args.store.now c.args.store.now s c.new-out.result.items [] c.in_ok-k.k c.part_of.result 0 c.args.p c.args.q
     (built_none g input c.args.store.now c.new-out.result.items [] c.requires.sound c.new-out.ensures.items refl) c.in_ok-k.ensures) c.in_ok-add_firsts.ensures)
@@ -57,9 +58,9 @@ nodes_at-loop-i-preserved t c =
     let some : 0 < c.parts_of.result = omega (arith, c.parts_of.ensures, simple_parts g (rule_at g i) (c.requires.simple i lt)) in
     let left : lhs_of (rule_at g i) ≡ c.args.x = omega (arith, c.lhs-in-loop-i.view_is, c.lhs.ensures.is) in
     let told = told_read g input s c.in_ok-k.k i c.parts_of.result p q c.index.result.now c.as_slice.result.now c.in_ok-k.ensures.holds c.index.ensures c.as_slice.ensures
-    ∙ front_value g input i c.parts_of.result p q some ∙ ap (λ n. map as_front (fronts_listed g input i n p q)) c.parts_of.ensures in
+    ∙ prefix_value g input i c.parts_of.result p q some ∙ ap (λ n. map as_prefix (prefixes_listed g input i n p q)) c.parts_of.ensures in
     built_same g input c.args.store.now (record { cells = c.add_nodes.new.cells; lists = s.lists; memo = s.memo }) c.add_nodes.new.out.items _ _
-    (ap (λ l. map as_tree (nodes_below g input c.args.x p q i) ++ l) (nodes_value s.cells.items c.as_slice.result.now (fronts_listed g input i (part_count (rule_at g i)) p q) i p q told) ∙ nodes_more g input c.args.x p q i left)
+    (ap (λ l. map as_tree (nodes_below g input c.args.x p q i) ++ l) (nodes_value s.cells.items c.as_slice.result.now (prefixes_listed g input i (part_count (rule_at g i)) p q) i p q told) ∙ nodes_more g input c.args.x p q i left)
     (built_cells g input c.args.store.now s (record { cells = c.add_nodes.new.cells; lists = s.lists; memo = s.memo }) c.loop-i.out.items c.add_nodes.new.out.items _ _ refl refl
     (built_list g input c.args.store.now c.loop-i.store s c.loop-i.out.items _ c.in_ok-k.k i c.parts_of.result p q c.loop-i.invariant c.in_ok-k.ensures) c.in_ok-add_nodes.ensures)
 
@@ -77,7 +78,7 @@ pairs_at-loop-r-init t c = (
   omega arith,
   omega arith,
   built_none c.args.w.now c.args.input.now c.args.store.now c.new-out.result.items _ c.requires.sound c.new-out.ensures.items
-      (ap (λ l. map as_front (flat_map (fronts_from c.args.w.now c.args.input.now c.args.i (c.args.n - 1) c.args.p c.args.q) l)) (places_none c.args.q c.args.q (omega arith))),
+      (ap (λ l. map as_prefix (flat_map (prefixes_from c.args.w.now c.args.input.now c.args.i (c.args.n - 1) c.args.p c.args.q) l)) (places_none c.args.q c.args.q (omega arith))),
 )
 
 pub pairs_at-index-requires : goal.pairs_at-index-requires
@@ -100,8 +101,8 @@ pairs_at-index-requires-then-not-is_empty-2 t c =
     let s = c.list_at-then-not-is_empty.new.store in
     omega (arith, s.lists.ok, in_lists c.args.w.now c.args.input.now s c.in_ok-b.b c.part_of-last.result 0 (c.loop-r.r - 1) c.args.q c.in_ok-b.ensures.holds)
 
-pub pairs_at-add_pairs-requires-clause-fronts : goal.pairs_at-add_pairs-requires-clause-fronts
-pairs_at-add_pairs-requires-clause-fronts t c =
+pub pairs_at-add_pairs-requires-clause-prefixes : goal.pairs_at-add_pairs-requires-clause-prefixes
+pairs_at-add_pairs-requires-clause-prefixes t c =
     let s = c.list_at-then-not-is_empty.new.store in
     let h = holds_grow c.args.w.now c.args.input.now c.list_at.new.store s c.in_ok-a.a c.args.i (c.args.n - 1) c.args.p (c.loop-r.r - 1) c.in_ok-b.ensures.grows c.in_ok-a.ensures.holds in
     within_read c.args.w.now c.args.input.now s c.in_ok-a.a c.args.i (c.args.n - 1) c.args.p (c.loop-r.r - 1) c.index-then-not-is_empty.result.now c.as_slice-then-not-is_empty.result.now h c.index-then-not-is_empty.ensures c.as_slice-then-not-is_empty.ensures
@@ -127,15 +128,15 @@ pairs_at-loop-r-preserved-in_ok-add_pairs t c =
     let some : 0 < m = omega arith in
     let rule = c.requires.simple i (key_rule g i c.args.n c.requires.key (omega arith)) in
     let h = holds_grow g input s1 s c.in_ok-a.a i m p r c.in_ok-b.ensures.grows c.in_ok-a.ensures.holds in
-    let fronts = told_read g input s c.in_ok-a.a i m p r c.index-then-not-is_empty.result.now c.as_slice-then-not-is_empty.result.now h c.index-then-not-is_empty.ensures c.as_slice-then-not-is_empty.ensures ∙ front_value g input i m p r some in
+    let prefixes = told_read g input s c.in_ok-a.a i m p r c.index-then-not-is_empty.result.now c.as_slice-then-not-is_empty.result.now h c.index-then-not-is_empty.ensures c.as_slice-then-not-is_empty.ensures ∙ prefix_value g input i m p r some in
     let lasts = told_read g input s c.in_ok-b.b c.part_of-last.result 0 r q c.index-then-not-is_empty-2.result.now c.as_slice-then-not-is_empty-2.result.now c.in_ok-b.ensures.holds c.index-then-not-is_empty-2.ensures c.as_slice-then-not-is_empty-2.ensures
     ∙ ap (λ z. map as_tree (listed g input z r q)) (ap slot_of c.part_of-last.ensures.part ∙ sym (slot_is g (rule_at g i) m rule)) in (
       inl (omega arith),
       omega arith,
       omega (arith, c.loop-r.invariant.2),
       built_same g input c.args.store.now (record { cells = c.add_pairs.new.cells; lists = s.lists; memo = s.memo }) c.add_pairs.new.out.items _ _
-          (ap (λ l. map as_front (flat_map (fronts_from g input i m p q) (places c.loop-r.r q)) ++ l)
-          (pairs_value s.cells.items c.as_slice-then-not-is_empty.result.now c.as_slice-then-not-is_empty-2.result.now (fronts_listed g input i m p r) (listed g input (child_slot (rule_at g i) m) r q) fronts lasts)
+          (ap (λ l. map as_prefix (flat_map (prefixes_from g input i m p q) (places c.loop-r.r q)) ++ l)
+          (pairs_value s.cells.items c.as_slice-then-not-is_empty.result.now c.as_slice-then-not-is_empty-2.result.now (prefixes_listed g input i m p r) (listed g input (child_slot (rule_at g i) m) r q) prefixes lasts)
           ∙ pairs_more g input i m p q c.loop-r.r r next lt)
           (built_cells g input c.args.store.now s (record { cells = c.add_pairs.new.cells; lists = s.lists; memo = s.memo }) c.loop-r.out.items c.add_pairs.new.out.items _ _ refl refl
           (built_list g input c.args.store.now s1 s c.loop-r.out.items _ c.in_ok-b.b c.part_of-last.result 0 r q
@@ -156,13 +157,13 @@ pairs_at-loop-r-preserved-else-not-is_empty t c =
     let lt : r < q = omega (arith, c.loop-r.invariant.2) in
     let next : c.loop-r.r ≡ suc r = omega arith in
     let some : 0 < m = omega arith in
-    let empty : ps ≡ [] = empty_list ps (eqb-true (length ps) 0 (sym c.if-not-is_empty.ensures)) in
-    let fronts = told_read g input s c.in_ok-a.a i m p r c.index.result.now ps c.in_ok-a.ensures.holds c.index.ensures c.as_slice.ensures ∙ front_value g input i m p r some in (
+    let empty : ps ≡ [] = nil_from_length ps (eqb-true (length ps) 0 (sym c.if-not-is_empty.ensures)) in
+    let prefixes = told_read g input s c.in_ok-a.a i m p r c.index.result.now ps c.in_ok-a.ensures.holds c.index.ensures c.as_slice.ensures ∙ prefix_value g input i m p r some in (
       inl (omega arith),
       omega arith,
       omega (arith, c.loop-r.invariant.2),
       built_same g input c.args.store.now s c.loop-r.out.items _ _
-          (pairs_as_before g input i m p q c.loop-r.r r next lt (no_front g input i m p q r s.cells.items ps empty fronts))
+          (pairs_as_before g input i m p q c.loop-r.r r next lt (no_prefix g input i m p q r s.cells.items ps empty prefixes))
           (built_list g input c.args.store.now c.loop-r.store s c.loop-r.out.items _ c.in_ok-a.a i m p r c.loop-r.invariant.3 c.in_ok-a.ensures),
     )
 
@@ -190,6 +191,6 @@ pub pairs_at-returns : goal.pairs_at-returns
 pairs_at-returns t c =
     let g = c.args.w.now in
     built_same g c.args.input.now c.args.store.now c.loop-r.store c.loop-r.out.items _ _
-    (ap (λ l. map as_front (flat_map (fronts_from g c.args.input.now c.args.i (c.args.n - 1) c.args.p c.args.q) l)) (starts_end c.args.i c.args.p c.args.q c.loop-r.r (c.args.n - 1) c.loop-r.invariant.0 (omega arith) c.loop-r.invariant.2)
-    ∙ sym (ap (map as_front) (fronts_step g c.args.input.now c.args.i c.args.n c.args.p c.args.q (omega arith))) ∙ sym (front_value g c.args.input.now c.args.i c.args.n c.args.p c.args.q (omega arith)))
+    (ap (λ l. map as_prefix (flat_map (prefixes_from g c.args.input.now c.args.i (c.args.n - 1) c.args.p c.args.q) l)) (starts_end c.args.i c.args.p c.args.q c.loop-r.r (c.args.n - 1) c.loop-r.invariant.0 (omega arith) c.loop-r.invariant.2)
+    ∙ sym (ap (map as_prefix) (prefixes_step g c.args.input.now c.args.i c.args.n c.args.p c.args.q (omega arith))) ∙ sym (prefix_value g c.args.input.now c.args.i c.args.n c.args.p c.args.q (omega arith)))
     c.loop-r.invariant.3

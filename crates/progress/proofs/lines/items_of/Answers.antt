@@ -1,10 +1,9 @@
 use Rattle.std.proofs.Common.{◌≡◌, ◌≤◌, ◌∙◌, ◌++◌, ◌∷◌, [], inl, inr, Some, Contains, List, length, take, slice_get, sym, ap, subst, arith, append_assoc}
-use Rattle.std.proofs.lemmas.List.{take_more}
+use Rattle.std.proofs.lemmas.List.{take_more, take_all}
 use Rattle.std.proofs.lemmas.List.Elements.{Contains-append_left, Contains-append_right, Contains-append_cases}
+use Rattle.finite_sets.proofs.Lists.{got_at}
 use Rattle.recognizer_model.specs.declared.Item.{Item}
 use Rattle.earley_sets.specs.Recognizer.{set_at}
-use Rattle.earley_sets.proofs.Cutting.{take_all}
-use Rattle.earley_sets.proofs.Membership.{got_at}
 use Rattle.earley_sets.proofs.Exact.{full_exact}
 use Rattle.progress.proofs.lines.items_of.Goals as goal
 

@@ -1,8 +1,8 @@
 use Rattle.std.proofs.Common.{sym, subst, List, Contains}
+use Rattle.std.proofs.lemmas.Option.{slice_get-get_or}
 use Rattle.recognizer_model.specs.declared.Item.{Item}
 use Rattle.recognizer_model.specs.Flat.{FlatGrammar, IsRule}
 use Rattle.earley_sets.specs.Recognizer.{top_of}
-use Rattle.earley_sets.proofs.Membership.{get_at}
 use Rattle.progress.proofs.Telling.{has_rule, lines_told}
 use Rattle.progress.proofs.lines.report.Goals as goal
 
@@ -16,7 +16,7 @@ returns-clause-report c =
     let told = lines_told c.args.w.now c.args.recce.now c.args.j c.flat.result.now c.flat.ensures c.in_ok-items.items.items c.deref.result.now c.deref.ensures.value c.in_ok-lines.lines.items c.in_ok-items.ensures c.in_ok-lines.ensures in
     record {
       top = top_of c.args.recce.now;
-      top_is = get_at c.args.recce.now.flat.tops c.args.recce.now.start 0 c.place.ensures.is.start;
+      top_is = slice_get-get_or c.args.recce.now.flat.tops c.args.recce.now.start 0 c.place.ensures.is.start;
       sorted = c.in_ok-sort.ensures.sorted;
       exact = λ line. (
         λ h. (told line).0 ((c.in_ok-sort.ensures.same line).0 h),

@@ -1,15 +1,13 @@
-use Rattle.std.proofs.Common.{arith, ◌⊎◌, IsFalse, [], subst, sym}
+use Rattle.std.proofs.Common.{◌++◌, ap, subst, ◌∙◌}
 use Rattle.earley_sets.specs.Recognizer.{IsExpected}
-use Rattle.dsl_build.specs.declared.built.LexemeRow.{LexemeRow as HeldRow}
-use Rattle.scanless.specs.Pieces.{Gathers}
-use Rattle.scanless.proofs.Gathering.{gathers_none, gathers_more, gathers_all}
+use Rattle.scanless.proofs.Finding.{AddsStarts, gathers_found}
 use Rattle.scanless.proofs.candidates.list_lexemes.Goals as goal
 
-pub loop-row-init : goal.loop-row-init
-loop-row-init c = subst (Gathers (λ (r : HeldRow). IsFalse r.latm ⊎ IsExpected c.args.recce.now r.symbol) (λ (r : HeldRow). r.start) []) (sym c.clear.ensures.items) (gathers_none (λ (r : HeldRow). IsFalse r.latm ⊎ IsExpected c.args.recce.now r.symbol) (λ (r : HeldRow). r.start))
-
-pub loop-row-preserved : goal.loop-row-preserved
-loop-row-preserved c = gathers_more (λ (r : HeldRow). IsFalse r.latm ⊎ IsExpected c.args.recce.now r.symbol) (λ (r : HeldRow). r.start) c.args.rows.now c.loop-row.row-index c.row-item.result c.loop-row.starts.items c.add_candidate.new.starts.items (omega arith) c.row-item.is c.loop-row.invariant c.in_ok-add_candidate.ensures
-
 pub returns : goal.returns
-returns c = gathers_all (λ (r : HeldRow). IsFalse r.latm ⊎ IsExpected c.args.recce.now r.symbol) (λ (r : HeldRow). r.start) c.args.rows.now c.loop-row.row-index c.loop-row.starts.items c.loop-row-test.false c.loop-row.invariant
+returns c =
+    let begun = c.in_ok-extend_from_slice.ensures.items ∙ (ap (λ l. l ++ c.deref.result.now) c.clear.ensures.items ∙ c.deref.ensures.value) in
+    let adds : AddsStarts c.lookups-lookups.result.now.starts.items c.expected_terminals.result.now c.lookups-lookups.result.now.always.items c.add_starts.new.found.items =
+    subst (λ old. AddsStarts c.lookups-lookups.result.now.starts.items c.expected_terminals.result.now old c.add_starts.new.found.items) begun
+    (subst (λ starts. AddsStarts starts c.expected_terminals.result.now c.extend_from_slice.new.self.items c.add_starts.new.found.items) c.deref-2.ensures.value c.in_ok-add_starts.ensures) in
+    gathers_found c.args.p.now.lexemes c.lookups-lookups.result.now.always.items c.lookups-lookups.result.now.starts.items (IsExpected c.args.recce.now) c.expected_terminals.result.now c.add_starts.new.found.items
+    c.lookups-lookups.ensures.are_always c.lookups-lookups.ensures.are_starts c.expected_terminals.ensures.exact adds

@@ -2,11 +2,12 @@ use Rattle.std.proofs.Common.{arith, [], take, subst, sym}
 use Rattle.std.specs.List.Sorted.{IsStrictlySortedBy}
 use Rattle.std.specs.Ordering.{nat_cmp}
 use Rattle.std.proofs.lemmas.List.{take_more, take_all}
+use Rattle.finite_sets.proofs.Lists.{Contains-none}
 use Rattle.dsl_build.specs.declared.built.LexemeRow.{LexemeRow as HeldRow}
-use Rattle.earley_sets.proofs.Membership.{Contains-none}
 use Rattle.scanless.specs.Pieces.{Gathers, IsBest}
-use Rattle.scanless.proofs.Gathering.{gathers_never, sorted_none}
+use Rattle.scanless.proofs.Gathering.{gathers_never}
 use Rattle.scanless.proofs.kept.keep_all.Goals as goal
+use Rattle.lexer.proofs.Sorted.{sorted_none}
 
 pub loop-start-init : goal.loop-start-init
 loop-start-init c = (

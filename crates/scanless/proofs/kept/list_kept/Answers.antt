@@ -6,10 +6,10 @@ use Rattle.std.proofs.lemmas.Result.{on_ok_weaker}
 use Rattle.earley_sets.specs.Recognizer.{IsExpected}
 use Rattle.reading_model.specs.Reading.{IsKept}
 use Rattle.scanless.specs.Pieces.{IsHighestOf, IsFit}
-use Rattle.scanless.proofs.Gathering.{sorted_none}
 use Rattle.scanless.proofs.Nexts.{next_is}
 use Rattle.scanless.proofs.Choosing.{rows_placed, kept_are, none_kept}
 use Rattle.scanless.proofs.kept.list_kept.Goals as goal
+use Rattle.lexer.proofs.Sorted.{sorted_none}
 
 pub highest-requires : goal.highest-requires
 highest-requires c = rows_placed c.args.p.now c.lexemes-rows.result.now c.lexemes-rows.ensures c.in_order.ensures

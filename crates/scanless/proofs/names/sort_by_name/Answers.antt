@@ -3,7 +3,7 @@ use Rattle.std.specs.Ordering.{is_lt}
 use Rattle.std.proofs.lemmas.Fn.{always_returns_same}
 use Rattle.std.proofs.lemmas.Result.{on_ok_weaker}
 use Rattle.std.proofs.lemmas.List.Sorted.{Contains-permutation, IsPermutation-sym}
-use Rattle.earley_sets.proofs.Cutting.{on_ok}
+use Rattle.finite_sets.proofs.Clauses.{on_ok}
 use Rattle.scanless.proofs.Naming.{by_name, name_ranks, strictly_by_name}
 use Rattle.scanless.proofs.names.sort_by_name.Goals as goal
 

@@ -1,6 +1,6 @@
 use Rattle.std.proofs.Common.{arith, take, Contains, refl, sym, subst}
 use Rattle.std.proofs.lemmas.List.Elements.{Contains-get_or}
-use Rattle.earley_sets.specs.Recognizer.{place_of}
+use Rattle.earley_sets.specs.Recognizer.{earleme_of}
 use Rattle.scanless.specs.Taking.{token_edges}
 use Rattle.scanless.proofs.Edges.{same_place, expected_more, fresh, edges_more, no_edges, keeps_through}
 use Rattle.scanless.proofs.taking.take_lexemes.Goals as goal
@@ -10,7 +10,7 @@ take_lexeme-requires-clause-place c = let p = same_place c.args.recce.now c.loop
 
 pub take_lexeme-requires-clause-expected : goal.take_lexeme-requires-clause-expected
 take_lexeme-requires-clause-expected c =
-    expected_more c.args.recce.now c.loop-symbol.recce c.loop-symbol.invariant.0 (token_edges (place_of c.args.recce.now) (take c.loop-symbol.symbol-index c.args.symbols.now)) c.loop-symbol.invariant.1
+    expected_more c.args.recce.now c.loop-symbol.recce c.loop-symbol.invariant.0 (token_edges (earleme_of c.args.recce.now) (take c.loop-symbol.symbol-index c.args.symbols.now)) c.loop-symbol.invariant.1
     c.symbol-item.result
     (c.requires.expected c.symbol-item.result (subst (Contains c.args.symbols.now) (sym c.symbol-item.is) (Contains-get_or c.args.symbols.now c.loop-symbol.symbol-index c.symbol-item.result (omega arith))))
 

@@ -1,6 +1,6 @@
-use Rattle.earley_sets.proofs.Cutting.{on_ok_both}
 use Rattle.scanless.proofs.Edges.{counts_token}
 use Rattle.scanless.proofs.taking.take_token.Goals as goal
+use Rattle.finite_sets.proofs.Clauses.{on_ok_both}
 
 pub returns-clause-counted : goal.returns-clause-counted
 returns-clause-counted g c =

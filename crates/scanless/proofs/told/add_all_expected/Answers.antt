@@ -4,8 +4,9 @@ use Rattle.std.specs.Ordering.{nat_cmp}
 use Rattle.earley_sets.specs.Recognizer.{IsExpected}
 use Rattle.dsl_build.specs.declared.built.LexemeRow.{LexemeRow as HeldRow}
 use Rattle.scanless.specs.Pieces.{Gathers}
-use Rattle.scanless.proofs.Gathering.{gathers_none, gathers_more, gathers_all, sorted_none, sorted_more}
+use Rattle.scanless.proofs.Gathering.{gathers_none, gathers_more, gathers_all, sorted_more}
 use Rattle.scanless.proofs.told.add_all_expected.Goals as goal
+use Rattle.lexer.proofs.Sorted.{sorted_none}
 
 pub loop-row-init : goal.loop-row-init
 loop-row-init c = (

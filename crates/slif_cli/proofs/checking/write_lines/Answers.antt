@@ -1,7 +1,7 @@
 use Rattle.std.proofs.Common.{◌≡◌, List, ℕ, Some, slice_get, map, arith, subst}
 use Rattle.std.specs.Io.KnownBytes.{Appends}
 use Rattle.outside_model.specs.Told.{AppendsPrefix}
-use Rattle.slif_cli.proofs.Lines.{one_more_written, front_of_text, mapped_item}
+use Rattle.slif_cli.proofs.Lines.{one_more_written, prefix_of_text, mapped_item}
 use Rattle.slif_cli.proofs.checking.write_lines.Goals as goal
 
 pub returns-in_default-clause-stops : goal.returns-in_default-clause-stops
@@ -11,8 +11,8 @@ returns-in_default-clause-stops g c =
     let e : slice_get lines c.loop-line.line-index ≡ Some line =
     mapped_item (λ v. v.items) c.args.lines.now c.loop-line.line-index c.line-item.result (omega (arith, c.loop-line-test.true, c.loop-line.auto.line-index-end)) c.line-item.is in (
       omega (arith, c.loop-line.invariant.later, c.in_default.ensures.cause.failed),
-      front_of_text lines c.loop-line.line-index line _ _ _ e c.loop-line.invariant.written
-          (subst (AppendsPrefix (g.O.Sink.contents c.loop-line.out) (g.O.Sink.contents c.write_all.new.sink)) c.deref.ensures.value c.in_default.ensures.front),
+      prefix_of_text lines c.loop-line.line-index line _ _ _ e c.loop-line.invariant.written
+          (subst (AppendsPrefix (g.O.Sink.contents c.loop-line.out) (g.O.Sink.contents c.write_all.new.sink)) c.deref.ensures.value c.in_default.ensures.prefix),
     )
 
 pub loop-line-preserved : goal.loop-line-preserved

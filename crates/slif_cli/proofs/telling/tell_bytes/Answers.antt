@@ -45,8 +45,8 @@ pub read_text-requires : goal.read_text-requires
 read_text-requires g c =
     omega (arith, ap length c.in_ok-chars.ensures.ok, length-le-encodes (chars c.args.bytes.items), ap length (encodes-chars c.args.bytes.items c.in_ok-chars.ensures.utf8), c.requires.few)
 
-pub tell_reading-requires-clause-few : goal.tell_reading-requires-clause-few
-tell_reading-requires-clause-few g c =
+pub tell_reading-told-requires-clause-few : goal.tell_reading-told-requires-clause-few
+tell_reading-told-requires-clause-few g c =
     omega (arith, ap length c.in_ok-chars.ensures.ok, length-le-encodes (chars c.args.bytes.items), ap length (encodes-chars c.args.bytes.items c.in_ok-chars.ensures.utf8), c.requires.few)
 
 pub returns-clause-done : goal.returns-clause-done
@@ -55,10 +55,10 @@ returns-clause-done g c =
     let bytes = c.args.bytes.items in
     let what = telling_of c.args.what in
     let text : IsInputText bytes = record { within = c.requires.few; utf8 = c.in_ok-chars.ensures.utf8 } in
-    on_ok_weaker c.tell_reading.result
+    on_ok_weaker c.tell_reading-told.result
     (does_weaker (TellsReading what b c.in_ok-chars.chars) (IsInputOutcome what b bytes)
     (λ o told. input_told what b bytes text o (subst (λ (cs : List ℕ). TellsReading what b cs o) c.in_ok-chars.ensures.ok told)) _ _)
-    c.tell_reading.ensures.done
+    c.tell_reading-told.ensures.done
 
 pub returns-clause-stops : goal.returns-clause-stops
 returns-clause-stops g c =
@@ -66,18 +66,18 @@ returns-clause-stops g c =
     let bytes = c.args.bytes.items in
     let what = telling_of c.args.what in
     let text : IsInputText bytes = record { within = c.requires.few; utf8 = c.in_ok-chars.ensures.utf8 } in
-    MatchResult-weaker c.tell_reading.result c.tell_reading.ensures.stops (λ _ x. x)
+    MatchResult-weaker c.tell_reading-told.result c.tell_reading-told.ensures.stops (λ _ x. x)
     (stops_weaker (TellsReading what b c.in_ok-chars.chars) (IsInputOutcome what b bytes)
     (λ o told. input_told what b bytes text o (subst (λ (cs : List ℕ). TellsReading what b cs o) c.in_ok-chars.ensures.ok told))
     (λ name. ⊥) (λ name. ⊥) ⊥ ⊥ (λ name x. x) (λ x. x)
-    (stream g.O.Sink.contents g.O.Sink.fault_count c.args.out.now) (stream g.O.Sink.contents g.O.Sink.fault_count c.tell_reading.new.out))
+    (stream g.O.Sink.contents g.O.Sink.fault_count c.args.out.now) (stream g.O.Sink.contents g.O.Sink.fault_count c.tell_reading-told.new.out))
 
 pub returns-clause-counted : goal.returns-clause-counted
 returns-clause-counted g c =
     let b = c.args.prepared.now in
     let what = telling_of c.args.what in
     let text : IsInputText c.args.bytes.items = record { within = c.requires.few; utf8 = c.in_ok-chars.ensures.utf8 } in
-    on_ok_weaker c.tell_reading.result
-    (λ goes. bytes_within what b c.args.bytes.items text c.args.steps.now c.tell_reading.new.steps
-    (subst (λ (cs : List ℕ). TellsWithin what b cs c.args.steps.now c.tell_reading.new.steps) c.in_ok-chars.ensures.ok (goes c.args.steps.now c.in_ok-reading.ensures.counted)))
-    c.tell_reading.ensures.counted
+    on_ok_weaker c.tell_reading-told.result
+    (λ goes. bytes_within what b c.args.bytes.items text c.args.steps.now c.tell_reading-told.new.steps
+    (subst (λ (cs : List ℕ). TellsWithin what b cs c.args.steps.now c.tell_reading-told.new.steps) c.in_ok-chars.ensures.ok (goes c.args.steps.now c.in_ok-reading.ensures.counted)))
+    c.tell_reading-told.ensures.counted

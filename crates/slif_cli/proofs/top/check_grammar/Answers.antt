@@ -15,9 +15,9 @@ pub returns-clause-done : goal.returns-clause-done
 returns-clause-done g c =
     let file = g.F.Files.told c.args.files.now in
     let b = c.in_ok-prepared.prepared in
-    on_ok_weaker c.write_check.result
+    on_ok_weaker c.write_check-written.result
     (λ does job is_job left words asks. does_weaker (IsCheckOutcome b) (MayHave words file left) (checked words job c.args.name.now is_job asks file left b c.in_ok-prepared.ensures.read) _ _ does)
-    c.write_check.ensures.done
+    c.write_check-written.ensures.done
 
 pub returns-clause-stops : goal.returns-clause-stops
 returns-clause-stops g c =
@@ -25,10 +25,10 @@ returns-clause-stops g c =
     let b = c.in_ok-prepared.prepared in
     let before = g.F.Files.fault_count c.args.files.now in
     let after = g.F.Files.fault_count c.load_grammar.new.files in
-    MatchResult-weaker c.write_check.result c.write_check.ensures.stops (λ _ x. x)
+    MatchResult-weaker c.write_check-written.result c.write_check-written.ensures.stops (λ _ x. x)
     (λ stop stops job is_job input words asks. stops_weaker (IsCheckOutcome b) (MayHave words file input.bytes) (checked words job c.args.name.now is_job asks file input.bytes b c.in_ok-prepared.ensures.read)
     (λ name. ⊥) (λ name. Rose before after × MayOpen words file name) ⊥ (Rose before after ⊎ Rose input.faults input.faults) (λ name x. absurd x) (λ x. absurd x)
-    (stream g.O.Sink.contents g.O.Sink.fault_count c.args.out.now) (stream g.O.Sink.contents g.O.Sink.fault_count c.write_check.new.out) stop stops)
+    (stream g.O.Sink.contents g.O.Sink.fault_count c.args.out.now) (stream g.O.Sink.contents g.O.Sink.fault_count c.write_check-written.new.out) stop stops)
 
 pub returns-in_err-prepared-clause-stops : goal.returns-in_err-prepared-clause-stops
 returns-in_err-prepared-clause-stops g c =

@@ -22,11 +22,11 @@ returns-clause-done g c =
     let b = c.in_ok-prepared.prepared in
     let from = input_of c.args.from in
     let what = telling_of c.args.what in
-    on_ok_weaker c.tell_input.result
+    on_ok_weaker c.tell_input-told.result
     (λ does job is_job words asks. does_weaker (MayRead (IsInputOutcome what b) from (g.F.Files.told c.load_grammar.new.files) left) (MayHave words file left)
     (λ o may. told words job c.args.grammar.now from what is_job asks file left b c.in_ok-prepared.ensures.read o
     (read_before (IsInputOutcome what b) from file (g.F.Files.told c.load_grammar.new.files) c.in_ok-prepared.ensures.held left o may)) _ _ does)
-    c.tell_input.ensures.done
+    c.tell_input-told.ensures.done
 
 pub returns-clause-stops : goal.returns-clause-stops
 returns-clause-stops g c =
@@ -37,26 +37,26 @@ returns-clause-stops g c =
     let what = telling_of c.args.what in
     let before = g.F.Files.fault_count c.args.files.now in
     let middle = g.F.Files.fault_count c.load_grammar.new.files in
-    let after = g.F.Files.fault_count c.tell_input.new.files in
-    let read = Rose (g.I.Source.fault_count c.args.input.now) (g.I.Source.fault_count c.tell_input.new.input) in
+    let after = g.F.Files.fault_count c.tell_input-told.new.files in
+    let read = Rose (g.I.Source.fault_count c.args.input.now) (g.I.Source.fault_count c.tell_input-told.new.input) in
     let earlier = rose_earlier before middle after c.in_ok-prepared.ensures.later in
-    MatchResult-weaker c.tell_input.result c.tell_input.ensures.stops (λ _ x. x)
+    MatchResult-weaker c.tell_input-told.result c.tell_input-told.ensures.stops (λ _ x. x)
     (λ stop stops job is_job words asks. stops_weaker (MayRead (IsInputOutcome what b) from (g.F.Files.told c.load_grammar.new.files) left) (MayHave words file left)
     (λ o may. told words job c.args.grammar.now from what is_job asks file left b c.in_ok-prepared.ensures.read o
     (read_before (IsInputOutcome what b) from file (g.F.Files.told c.load_grammar.new.files) c.in_ok-prepared.ensures.held left o may))
     (λ asked. Rose middle after × (from ≡ FileNamed asked)) (λ asked. Rose before after × MayOpen words file asked) (Rose middle after ⊎ read) (Rose before after ⊎ read)
     (λ asked x. (earlier x.0, opens_input words job c.args.grammar.now from what is_job asks file left b c.in_ok-prepared.ensures.read asked x.1))
     (λ x. elim x [ inl rose ↦ inl (earlier rose) | inr rose ↦ inr rose ])
-    (stream g.O.Sink.contents g.O.Sink.fault_count c.args.out.now) (stream g.O.Sink.contents g.O.Sink.fault_count c.tell_input.new.out) stop stops)
+    (stream g.O.Sink.contents g.O.Sink.fault_count c.args.out.now) (stream g.O.Sink.contents g.O.Sink.fault_count c.tell_input-told.new.out) stop stops)
 
 pub returns-clause-asks : goal.returns-clause-asks
 returns-clause-asks g c =
     λ job is_job words asks. asks_both words job c.args.grammar.now (input_of c.args.from) (telling_of c.args.what) is_job asks (g.F.Files.told c.args.files.now) (g.I.Source.left c.args.input.now) c.in_ok-prepared.prepared c.in_ok-prepared.ensures.read
-    _ _ _ c.in_ok-prepared.ensures.asked c.tell_input.ensures.asks
+    _ _ _ c.in_ok-prepared.ensures.asked c.tell_input-told.ensures.asks
 
 pub returns-clause-input : goal.returns-clause-input
 returns-clause-input g c =
-    elim c.tell_input.ensures.input [
+    elim c.tell_input-told.ensures.input [
       | inl same ↦ inl same
       | inr standard ↦ inr (λ job is_job words asks. reads_input words job c.args.grammar.now (input_of c.args.from) (telling_of c.args.what) is_job asks (g.F.Files.told c.args.files.now) (g.I.Source.left c.args.input.now) c.in_ok-prepared.prepared c.in_ok-prepared.ensures.read standard)
     ]
@@ -85,7 +85,7 @@ returns-clause-counted g c =
     let b = c.in_ok-prepared.prepared in
     let from = input_of c.args.from in
     let what = telling_of c.args.what in
-    on_ok_weaker c.tell_input.result
-    (λ within job is_job words asks. tells_within words job c.args.grammar.now from what is_job asks file left b c.in_ok-prepared.ensures.read c.args.steps.now c.tell_input.new.steps
-    (held_before from file (g.F.Files.told c.load_grammar.new.files) c.in_ok-prepared.ensures.held left (λ bytes. InputWithin what b bytes c.args.steps.now c.tell_input.new.steps) within))
-    c.tell_input.ensures.counted
+    on_ok_weaker c.tell_input-told.result
+    (λ within job is_job words asks. tells_within words job c.args.grammar.now from what is_job asks file left b c.in_ok-prepared.ensures.read c.args.steps.now c.tell_input-told.new.steps
+    (held_before from file (g.F.Files.told c.load_grammar.new.files) c.in_ok-prepared.ensures.held left (λ bytes. InputWithin what b bytes c.args.steps.now c.tell_input-told.new.steps) within))
+    c.tell_input-told.ensures.counted

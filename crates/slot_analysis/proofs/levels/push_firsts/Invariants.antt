@@ -1,5 +1,5 @@
 use Rattle.std.proofs.Common.{◌≡◌, ℕ, ◌<◌, length, Contains}
-use Rattle.horn_clauses.specs.Rows.{row_at}
+use Rattle.jagged.specs.Rows.{row_at}
 use Rattle.slot_analysis.proofs.levels.push_firsts.Given as goal
 
 abbrev pub invariant-loop-s : goal.invariant-loop-s

@@ -1,5 +1,5 @@
 use Rattle.std.proofs.Common.{arith, ◌≡◌, ◌↔◌, ◌+◌, ◌++◌, ◌∷◌, [], ℕ, ◌<◌, List, Contains, length, length-append, sym, ◌∙◌, ap, subst}
-use Rattle.horn_clauses.specs.Rows.{row_at}
+use Rattle.jagged.specs.Rows.{row_at}
 use Rattle.horn_clauses.proofs.RowLemmas.{each_more}
 use Rattle.slot_analysis.proofs.LevelRows.{IsSortedFrom, all_sorted}
 use Rattle.slot_analysis.proofs.levels.sort_all.Goals as goal

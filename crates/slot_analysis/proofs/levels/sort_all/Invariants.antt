@@ -1,5 +1,5 @@
 use Rattle.std.proofs.Common.{◌≡◌, ℕ, ◌<◌, length}
-use Rattle.horn_clauses.specs.Rows.{row_at}
+use Rattle.jagged.specs.Rows.{row_at}
 use Rattle.slot_analysis.proofs.LevelRows.{IsSortedFrom}
 use Rattle.slot_analysis.proofs.levels.sort_all.Given as goal
 

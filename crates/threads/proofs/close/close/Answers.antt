@@ -1,7 +1,8 @@
 use Rattle.std.proofs.Common.{◌∙◌, subst}
+use Rattle.finite_sets.proofs.Lists.{got_item}
 use Rattle.threads.specs.Closing.{Grows}
 use Rattle.threads.proofs.Closing.{closed_init, closed_done, closed_more}
-use Rattle.threads.proofs.Listing.{got_item, got_none}
+use Rattle.threads.proofs.Listing.{got_none}
 use Rattle.threads.proofs.close.close.Goals as goal
 
 pub loop-k-init : goal.loop-k-init

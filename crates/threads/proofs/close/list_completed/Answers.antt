@@ -2,8 +2,8 @@ use Rattle.std.proofs.Common.{◌≡◌, ◌++◌, ◌∷◌, [], None, ◌+◌,
 use Rattle.std.specs.declared.vec.Vec.{Vec}
 use Rattle.std.specs.declared.alloc.Global.{Global}
 use Rattle.std.proofs.lemmas.List.Elements.{Contains-get_or}
+use Rattle.std.proofs.lemmas.List.{take_all}
 use Rattle.recognizer_model.specs.declared.thread.Thread.{Thread}
-use Rattle.threads.proofs.Listing.{take_all}
 use Rattle.threads.proofs.Closing.{CompletedTo, completed_none, completed_more, completed_skip, completed_done}
 use Rattle.threads.proofs.close.list_completed.Goals.{then-waits_for+in_ok-push, else-waits_for}
 use Rattle.threads.proofs.close.list_completed.Goals as goal

@@ -1,6 +1,6 @@
 use Rattle.std.proofs.Common.{◌+◌, None, take, sym, subst, arith}
 use Rattle.std.proofs.lemmas.List.Elements.{Contains-get_or}
-use Rattle.threads.proofs.Listing.{take_all}
+use Rattle.std.proofs.lemmas.List.{take_all}
 use Rattle.threads.proofs.Folding.{OnlyIn, only_none, only_skip, only_first, only_done, none_of}
 use Rattle.threads.proofs.fold.only_waiting.Goals.{then-waits_for+else-is_some, else-waits_for}
 use Rattle.threads.proofs.fold.only_waiting.Goals as goal

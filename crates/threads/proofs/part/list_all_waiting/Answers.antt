@@ -1,7 +1,7 @@
 use Rattle.std.proofs.Common.{◌≡◌, ◌↔◌, ℕ, Some, List, Contains, subst}
+use Rattle.std.proofs.lemmas.List.{take_all}
 use Rattle.recognizer_model.specs.declared.thread.Thread.{Thread}
 use Rattle.recognizer_model.specs.Threads.{next}
-use Rattle.threads.proofs.Listing.{take_all}
 use Rattle.threads.proofs.Ordered.{none_waiting, more_waiting}
 use Rattle.threads.proofs.part.list_all_waiting.Goals as goal
 

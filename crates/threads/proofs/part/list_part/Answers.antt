@@ -1,8 +1,8 @@
 use Rattle.std.proofs.Common.{◌≡◌, ◌↔◌, ◌⊎◌, inl, inr, ℕ, Some, List, [], Contains, sym, subst}
 use Rattle.std.proofs.lemmas.List.Elements.{Contains-push}
+use Rattle.finite_sets.proofs.Lists.{Contains-none}
 use Rattle.recognizer_model.specs.declared.thread.Thread.{Thread}
 use Rattle.recognizer_model.specs.Threads.{next}
-use Rattle.threads.proofs.Listing.{Contains-none}
 use Rattle.threads.proofs.Parts.{is_part}
 use Rattle.threads.proofs.part.list_part.Goals as goal
 

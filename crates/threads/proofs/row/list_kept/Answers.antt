@@ -2,9 +2,9 @@ use Rattle.std.proofs.Common.{None, [], ◌+◌, List, take, sym, subst, arith}
 use Rattle.std.specs.declared.vec.Vec.{Vec}
 use Rattle.std.specs.declared.alloc.Global.{Global}
 use Rattle.std.proofs.lemmas.List.Elements.{Contains-get_or}
+use Rattle.std.proofs.lemmas.List.{take_all}
 use Rattle.recognizer_model.specs.declared.thread.Thread.{Thread}
 use Rattle.threads.specs.Steps.{Keeps}
-use Rattle.threads.proofs.Listing.{take_all}
 use Rattle.threads.proofs.Parts.{keeps_none, keeps_more, keeps_skip}
 use Rattle.threads.proofs.row.list_kept.Goals.{then-is_kept+in_ok-push, else-is_kept}
 use Rattle.threads.proofs.row.list_kept.Goals as goal

@@ -1,6 +1,6 @@
 use Rattle.std.proofs.Common.{subst, arith}
 use Rattle.std.proofs.lemmas.List.Elements.{Contains-get_or}
-use Rattle.threads.proofs.Listing.{take_all}
+use Rattle.std.proofs.lemmas.List.{take_all}
 use Rattle.threads.proofs.Parts.{StartsTo, starts_none, starts_more}
 use Rattle.threads.proofs.row.list_starts.Goals as goal
 

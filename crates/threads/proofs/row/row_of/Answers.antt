@@ -1,7 +1,8 @@
 use Rattle.std.proofs.Common.{inl, inr, List, Contains, subst}
+use Rattle.finite_sets.proofs.Clauses.{on_ok}
+use Rattle.finite_sets.proofs.Lists.{Contains-none}
 use Rattle.recognizer_model.specs.declared.thread.Thread.{Thread}
 use Rattle.threads.specs.Steps.{Keeps}
-use Rattle.threads.proofs.Listing.{Contains-none, on_ok}
 use Rattle.threads.proofs.Closing.{closed_from}
 use Rattle.threads.proofs.row.row_of.Goals as goal
 

@@ -1,8 +1,10 @@
 use Rattle.std.proofs.Common.{◌≡◌, inl, inr, Some, None, List, Contains, sym, subst, arith}
 use Rattle.std.proofs.lemmas.List.Elements.{Contains-get_or}
+use Rattle.std.proofs.lemmas.List.{take_all}
+use Rattle.finite_sets.proofs.Lists.{Contains-none}
 use Rattle.recognizer_model.specs.declared.thread.Thread.{Thread}
 use Rattle.recognizer_model.specs.Threads.{next}
-use Rattle.threads.proofs.Listing.{Contains-none, contains_next, take_all}
+use Rattle.threads.proofs.Listing.{contains_next}
 use Rattle.threads.proofs.scan.is_read_at_begin.Goals as goal
 
 pub is_read_here-requires : goal.is_read_here-requires

@@ -2,9 +2,9 @@ use Rattle.std.proofs.Common.{◌≡◌, ◌++◌, ◌∷◌, [], None, ◌+◌,
 use Rattle.std.specs.declared.vec.Vec.{Vec}
 use Rattle.std.specs.declared.alloc.Global.{Global}
 use Rattle.std.proofs.lemmas.List.Elements.{Contains-get_or}
+use Rattle.std.proofs.lemmas.List.{take_all}
 use Rattle.recognizer_model.specs.declared.thread.Thread.{Thread}
 use Rattle.threads.specs.Order.{IsOrderOf}
-use Rattle.threads.proofs.Listing.{take_all}
 use Rattle.threads.proofs.Parts.{grown_long, threads_later, ScannedTo, scanned_none, scanned_more, scanned_skip}
 use Rattle.threads.proofs.scan.scan.Goals.{then-is_read+in_ok-label+in_ok-push, else-is_read}
 use Rattle.threads.proofs.scan.scan.Goals as goal

@@ -1,10 +1,10 @@
 use Rattle.std.proofs.Common.{◌+◌, ◌-◌, ◌≡◌, length, map, subst, arith, rules, refl, ap}
 use Rattle.std.proofs.lemmas.Result.{err_from_is_err_and}
 use Rattle.tree_text.specs.Parts.{part_of}
-use Rattle.tree_text.specs.Fronts.{IsFrontOf}
+use Rattle.tree_text.specs.Prefixes.{IsPrefixOf}
 use Rattle.tree_text.specs.declared.part.Part.TheVariants.{Open as OpenCode, Close as CloseCode}
 use Rattle.tree_text.proofs.Reading.{begin, to_value, open_step, end_step, end_depth, comma_step, part_step, no_value, no_after, done, at_place, pushed, is_empty, not_empty, ends_at}
-use Rattle.tree_text.proofs.Fronts.{front_shorter}
+use Rattle.tree_text.proofs.Prefixes.{prefix_shorter}
 use Rattle.tree_text.proofs.read.read_value.Goals as goal
 use Rattle.tree_text.proofs.read.read_value.Goals.{else-depth-eq0-via-then-depth-eq0+else-is_empty, else-depth-eq0-via-else-depth-eq0}
 
@@ -61,12 +61,12 @@ loop-left-preserved-in-Open c = record {
       at_place _ _ _ _ _ _ _ refl (pushed c.loop-left.parts.items c.push-in-Open.new.self.items OpenCode c.in_ok-push-2.ensures.items)
       (open_step _ c.loop-left.depth (c.loop-left.depth + 1) _ c.loop-left.rest.now c.in_ok-part.left.now refl
       (to_value _ c.loop-left.place _ _ _ c.loop-left.invariant.reading c.in_default-place.not-After c.in_default.ensures)
-      (subst (λ p. IsFrontOf c.loop-left.rest.now (part_of p) c.in_ok-part.left.now) c.in-Open.is c.in_ok-part.ensures.ok));
-  room = omega (arith, front_shorter _ _ _ c.in_ok-part.ensures.ok);
+      (subst (λ p. IsPrefixOf c.loop-left.rest.now (part_of p) c.in_ok-part.left.now) c.in-Open.is c.in_ok-part.ensures.ok));
+  room = omega (arith, prefix_shorter _ _ _ c.in_ok-part.ensures.ok);
 }
 
 pub loop-left-smaller : goal.loop-left-smaller
-loop-left-smaller c = front_shorter _ _ _ c.in_ok-part.ensures.ok
+loop-left-smaller c = prefix_shorter _ _ _ c.in_ok-part.ensures.ok
 
 pub loop-left-preserved : goal.loop-left-preserved
 loop-left-preserved c = record {
@@ -76,5 +76,5 @@ loop-left-preserved c = record {
       (part_step _ _ _ c.loop-left.rest.now c.in_ok-part.left.now c.in_ok-part.part c.in_default-part.not-Open
       (to_value _ c.loop-left.place _ _ _ c.loop-left.invariant.reading c.in_default-place.not-After c.in_default.ensures)
       c.in_ok-part.ensures.ok);
-  room = omega (arith, front_shorter _ _ _ c.in_ok-part.ensures.ok);
+  room = omega (arith, prefix_shorter _ _ _ c.in_ok-part.ensures.ok);
 }

@@ -21,7 +21,7 @@ pub returns-in_ok-list_items-clause-ok : goal.returns-in_ok-list_items-clause-ok
 returns-in_ok-list_items-clause-ok g c =
     let inside = rules_count c.args.p.now.meaning.now _ c.args.rule c.requires.meaning.count c.requires.step.0 in
     let meant = meaning_found c.args.p.now.meaning.now _ _ c.args.rule c.index-as_slice-rule.result c.as_slice.ensures c.rule.view_is inside c.index-as_slice-rule.is in
-    let name = c.name_in-name.ensures ∙ ap (name_of c.args.p.now.w.now) (c.left_side.ensures ∙ ap lhs_of (sym (read_rule c.args.p.now.w.now c.args.rule _ c.written_rule-written.ensures))) in
+    let name = c.name_in-name.ensures ∙ ap (name_of c.args.p.now.w.now) (c.lhs.ensures ∙ ap lhs_of (sym (read_rule c.args.p.now.w.now c.args.rule _ c.written_rule.ensures))) in
     let from : c.args.from < length c.args.p.now.spans.now = omega (arith, c.requires.step.3, c.requires.step.4) in
     let suits = c.requires.meaning.suits c.args.rule c.requires.step.0 in
     let items = c.as_slice-then-meaning.ensures.value ∙ c.in_ok-list_items.ensures in
@@ -37,7 +37,7 @@ pub returns-else-meaning-clause-ok : goal.returns-else-meaning-clause-ok
 returns-else-meaning-clause-ok g c =
     let inside = rules_count c.args.p.now.meaning.now _ c.args.rule c.requires.meaning.count c.requires.step.0 in
     let meant = meaning_found c.args.p.now.meaning.now _ _ c.args.rule c.index-as_slice-rule.result c.as_slice.ensures c.rule.view_is inside c.index-as_slice-rule.is in
-    let name = c.name_in-name.ensures ∙ ap (name_of c.args.p.now.w.now) (c.left_side.ensures ∙ ap lhs_of (sym (read_rule c.args.p.now.w.now c.args.rule _ c.written_rule-written.ensures))) in
+    let name = c.name_in-name.ensures ∙ ap (name_of c.args.p.now.w.now) (c.lhs.ensures ∙ ap lhs_of (sym (read_rule c.args.p.now.w.now c.args.rule _ c.written_rule.ensures))) in
     let from : c.args.from < length c.args.p.now.spans.now = omega (arith, c.requires.step.3, c.requires.step.4) in
     let suits = c.requires.meaning.suits c.args.rule c.requires.step.0 in
     let plain = plain_shown _ _ c.args.children suits (ap (λ (r : RuleMeaning). r.sequence) meant ∙ c.if-meaning.false) c.requires.step.2 in

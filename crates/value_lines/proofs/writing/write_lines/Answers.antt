@@ -3,7 +3,7 @@ use Rattle.std.specs.Io.KnownBytes.{Appends}
 use Rattle.outside_model.specs.Told.{AppendsPrefix}
 use Rattle.tree_iter.specs.Iteration.{AreFew}
 use Rattle.value_lines.specs.Lines.{IsLineOf}
-use Rattle.value_lines.proofs.Texts.{IsWithin, so_many_is, within_next, within_less, front_written, enough_written, all_written, one_more_written, line_in_front}
+use Rattle.value_lines.proofs.Texts.{IsWithin, so_many_is, within_next, within_less, prefix_written, enough_written, all_written, one_more_written, line_in_prefix}
 use Rattle.value_lines.proofs.Fitting.{line_played}
 use Rattle.value_lines.proofs.Counting.{one_more_counted, all_counted, enough_counted}
 use Rattle.value_lines.proofs.writing.write_lines.Goals as goal
@@ -12,7 +12,7 @@ pub returns-in_default-clause-stops : goal.returns-in_default-clause-stops
 returns-in_default-clause-stops g c =
     λ show alone pieces of.
     let within = within_less c.args.first c.loop-k._k (within_next c.args.first c.limit_of-limit.result c.loop-k._k c.limit_of-limit.ensures c.loop-k-test.true) in
-    front_written c.args.prepared.now show c.args.player.now.chars pieces c.args.iter.now.forest c.args.first c.loop-k.iter c.loop-k.invariant.forest c.loop-k._k _ _ (c.loop-k.invariant.written show pieces alone of) within
+    prefix_written c.args.prepared.now show c.args.player.now.chars pieces c.args.iter.now.forest c.args.first c.loop-k.iter c.loop-k.invariant.forest c.loop-k._k _ _ (c.loop-k.invariant.written show pieces alone of) within
 
 pub returns-in_default-write_all-clause-stops : goal.returns-in_default-write_all-clause-stops
 returns-in_default-write_all-clause-stops g c =
@@ -22,8 +22,8 @@ returns-in_default-write_all-clause-stops g c =
     let line = line_played b show _ _ _ _ pieces _ w.given _ _ c.loop-k.invariant.player c.loop-k.invariant.forest of (λ h. c.in-Ok.ensures.line show pieces w.given (c.loop-k.invariant.tellers ∙ alone) h w.are) in
     let more = subst (IsLineOf b show c.args.player.now.chars pieces c.next_line.new.iter w.given c.next_line.new.line.items) c.if-not-more.false line in
     let within = within_next c.args.first c.limit_of-limit.result c.loop-k._k c.limit_of-limit.ensures c.loop-k-test.true in
-    let part = subst (AppendsPrefix (g.O.Sink.contents c.loop-k.out) (g.O.Sink.contents c.write_all.new.sink)) c.deref.ensures.value c.in_default-write_all.ensures.front in
-    let r = line_in_front b show c.args.player.now.chars pieces c.args.iter.now.forest c.args.first c.next_line.new.iter w.given c.next_line.new.line.items more
+    let part = subst (AppendsPrefix (g.O.Sink.contents c.loop-k.out) (g.O.Sink.contents c.write_all.new.sink)) c.deref.ensures.value c.in_default-write_all.ensures.prefix in
+    let r = line_in_prefix b show c.args.player.now.chars pieces c.args.iter.now.forest c.args.first c.next_line.new.iter w.given c.next_line.new.line.items more
     (c.in-Ok.ensures.forest ∙ c.loop-k.invariant.forest) c.loop-k._k _ _ _ w.count_is within w.appends part in
     (r.0, r.1, (omega (arith, c.loop-k.invariant.later, c.in_default-write_all.ensures.cause.failed), r.2))
 
@@ -89,4 +89,4 @@ pub returns-in-None-clause-stops : goal.returns-in-None-clause-stops
 returns-in-None-clause-stops g c =
     λ show alone pieces of.
     let within = subst (λ o. IsWithin o c.loop-k._k) (sym c.in-None.is) tt in
-    front_written c.args.prepared.now show c.args.player.now.chars pieces c.args.iter.now.forest c.args.first c.loop-k.iter c.loop-k.invariant.forest c.loop-k._k _ _ (c.loop-k.invariant.written show pieces alone of) within
+    prefix_written c.args.prepared.now show c.args.player.now.chars pieces c.args.iter.now.forest c.args.first c.loop-k.iter c.loop-k.invariant.forest c.loop-k._k _ _ (c.loop-k.invariant.written show pieces alone of) within

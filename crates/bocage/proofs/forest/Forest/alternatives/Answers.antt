@@ -2,7 +2,7 @@ use Rattle.std.proofs.Common.{◌≡◌, ◌∙◌, ◌<◌, List, ℕ, Some, le
 use Rattle.std.proofs.lemmas.List.{length-map}
 use Rattle.forest_model.specs.Forest.{Forest}
 use Rattle.bocage.specs.Readers.{node_at}
-use Rattle.bocage.specs.Rows.{alternative_of, IsLastWithin}
+use Rattle.bocage.specs.Rows.{alternative_of, IsCauseWithin}
 use Rattle.bocage.proofs.Telling.{nodes_long, rows_told}
 use Rattle.bocage.proofs.forest.Forest.alternatives.Goals as goal
 
@@ -21,7 +21,7 @@ invariant_of-result g c a h =
     let v = ap (λ (f : Forest). length f.nodes) c.self.view_is in
     let r = c.requires in
     let at = subst (λ l. slice_get (map (λ r. r.now) l) c.args.node ≡ Some c.rows_at.result.now) c.deref.ensures.value c.rows_at.ensures in
-    subst (λ (l : List ℕ). IsLastWithin l a.last) (sym c.deref-2.ensures.value) (c.self.invariant.1.within c.args.node c.rows_at.result.now (omega arith) at a h)
+    subst (λ (l : List ℕ). IsCauseWithin l a.cause) (sym c.deref-2.ensures.value) (c.self.invariant.1.within c.args.node c.rows_at.result.now (omega arith) at a h)
 
 pub returns-clause-value : goal.returns-clause-value
 returns-clause-value g c =

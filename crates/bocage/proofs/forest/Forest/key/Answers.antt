@@ -1,6 +1,6 @@
 use Rattle.std.proofs.Common.{◌≡◌, ◌∙◌, List, Some, length, map, slice_get, sym, ap, subst, arith}
+use Rattle.std.proofs.lemmas.Option.{slice_get-get_or}
 use Rattle.recognizer_model.specs.declared.NodeKey.{NodeKey}
-use Rattle.earley_sets.proofs.Membership.{get_at}
 use Rattle.forest_model.specs.Forest.{Forest}
 use Rattle.bocage.specs.Readers.{node_at}
 use Rattle.bocage.proofs.Telling.{nodes_long, key_told}
@@ -24,4 +24,4 @@ pub returns-clause-value : goal.returns-clause-value
 returns-clause-value c = sym (told c)
 
 pub returns-clause-node : goal.returns-clause-node
-returns-clause-node c = (node_at c.args.self.now c.args.node, get_at c.args.self.now.nodes c.args.node _ c.requires, told c)
+returns-clause-node c = (node_at c.args.self.now c.args.node, slice_get-get_or c.args.self.now.nodes c.args.node _ c.requires, told c)

@@ -1,5 +1,5 @@
 use Rattle.std.proofs.Common.{rules, ◌∙◌, sym, ap, subst, arith}
-use Rattle.earley_sets.specs.Recognizer.{Recognizer, place_of, IsExpected}
+use Rattle.earley_sets.specs.Recognizer.{Recognizer, earleme_of, IsExpected}
 use Rattle.earley_sets.proofs.Recognizing.{edge_kept}
 use Rattle.earley_sets.proofs.recce.Recce.alternative.Goals as goal
 
@@ -7,13 +7,13 @@ pub push-requires-clause-order : goal.push-requires-clause-order
 push-requires-clause-order c e h =
     let b = c.self.invariant.0.is.begun e h in
     let p = c.place-place.ensures.place in
-    let v = ap (λ (r : Recognizer). place_of r) c.self.view_is in
+    let v = ap (λ (r : Recognizer). earleme_of r) c.self.view_is in
     omega arith
 
 pub invariant_of-self : goal.invariant_of-self
 invariant_of-self c = (
   edge_kept c.self.inside.flat.now c.self.inside.start c.self.inside.edges c.self.inside.rows.sets c.self.inside.top c.self.inside.memo c.self.invariant.0 c.args.t c.place-place.result c.args.length
-      (c.place-place.ensures.place ∙ sym (ap (λ (r : Recognizer). place_of r) c.self.view_is))
+      (c.place-place.ensures.place ∙ sym (ap (λ (r : Recognizer). earleme_of r) c.self.view_is))
       (subst (λ (r : Recognizer). IsExpected r c.args.t) (sym c.self.view_is) (c.is_expected.ensures.0 (search rules)))
       c.push.result c.push.new.self c.push.ensures.ok c.push.ensures.err c.push.ensures.duplicate c.push.ensures.bad_length,
   c.self.invariant.1,

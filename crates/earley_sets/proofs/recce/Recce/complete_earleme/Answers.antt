@@ -30,7 +30,7 @@ invariant_of-self g c =
       c.self.invariant.1,
       c.add_row.ensures.flat,
       c.add_row.ensures.lists,
-      subst (λ (l : List (List Item)). AreLastMarks c.self.inside.flat.now l c.self.inside.marks.rows.items) (sym c.in_err-add_row.ensures.err.0) c.self.invariant.4,
+      subst (λ (l : List (List Item)). AreLastMarks c.self.inside.flat.now l c.self.inside.marks) (sym c.in_err-add_row.ensures.err.0) c.self.invariant.4,
     )
 
 pub invariant_of-self-2 : goal.invariant_of-self-2
@@ -43,7 +43,7 @@ invariant_of-self-2 g c =
       c.self.invariant.1,
       c.add_row.ensures.flat,
       c.add_row.ensures.lists,
-      marks_at c.self.inside.flat.now c.add_row.new.rows.sets c.mark_row.new.marks.rows.items (c.len-last.result - 1) (ap (λ n. n - 1) c.len-last.ensures) c.mark_row.ensures,
+      marks_at c.self.inside.flat.now c.add_row.new.rows.sets c.mark_row.new.marks (c.len-last.result - 1) (ap (λ n. n - 1) c.len-last.ensures) c.mark_row.ensures.room c.mark_row.ensures.marks,
     )
 
 pub mark_row-requires-clause-flat : goal.mark_row-requires-clause-flat
@@ -66,7 +66,10 @@ mark_row-requires-clause-older g c =
     let (row, more, _, _) = c.in_ok-add_row.ensures.ok in
     let l = row_longer c.self.inside.rows.sets c.add_row.new.rows.sets row more in
     let e = c.len-last.ensures in
-    older_marks c.self.inside.flat.now c.self.inside.rows.sets c.self.inside.marks.rows.items (c.len-last.result - 1) c.self.invariant.0.is.some (omega arith) c.self.invariant.4
+    older_marks c.self.inside.flat.now c.self.inside.rows.sets c.self.inside.marks (c.len-last.result - 1) c.self.invariant.0.is.some (omega arith) c.self.invariant.4
+
+pub mark_row-requires-clause-room : goal.mark_row-requires-clause-room
+mark_row-requires-clause-room g c = c.self.invariant.4.room
 
 pub returns-clause-ok : goal.returns-clause-ok
 returns-clause-ok g c =

@@ -1,5 +1,5 @@
 use Rattle.std.proofs.Common.{sym, arith}
-use Rattle.earley_sets.proofs.Membership.{got_at}
+use Rattle.finite_sets.proofs.Lists.{got_at}
 use Rattle.earley_sets.proofs.Marked.{marks_at, one_row}
 use Rattle.earley_sets.proofs.Recognizing.{first_kept, top_is_top}
 use Rattle.earley_sets.proofs.Sharing.{no_lists}
@@ -16,7 +16,7 @@ invariant_of-result c =
       c.in_ok-heads.ensures,
       c.add_first.ensures.flat,
       c.add_first.ensures.lists,
-      marks_at c.args.flat.now c.add_first.new.rows.sets c.mark_row.new.marks.rows.items 0 (let l = one_row c.add_first.new.rows.sets kept rows in omega arith) c.mark_row.ensures,
+      marks_at c.args.flat.now c.add_first.new.rows.sets c.mark_row.new.marks 0 (let l = one_row c.add_first.new.rows.sets kept rows in omega arith) c.mark_row.ensures.room c.mark_row.ensures.marks,
     )
 
 pub mark_row-requires-clause-flat : goal.mark_row-requires-clause-flat

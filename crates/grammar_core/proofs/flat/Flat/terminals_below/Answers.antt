@@ -1,11 +1,12 @@
 use Rattle.std.proofs.Common.{rules, of_calls, ◌≡◌, ◌≤◌, true, false, length, sym, ap, ◌∙◌, subst, arith}
 use Rattle.std.specs.List.Sorted.{IsPartitionPoint, IsPartitionedBy}
 use Rattle.std.proofs.lemmas.Fn.{always_returns_same}
+use Rattle.finite_sets.proofs.Lists.{get_index}
 use Rattle.recognizer_model.specs.Flat.{FlatGrammar}
 use Rattle.recognizer_model.specs.declared.flat.FlatSymbol.TheVariants.{Top}
 use Rattle.recognizer_model.specs.Invariant.{IsFlat, IsArranged}
 use Rattle.grammar_core.specs.Flat.{terminal_below}
-use Rattle.grammar_core.proofs.Halving.{terminals_partitioned, index_get}
+use Rattle.grammar_core.proofs.Halving.{terminals_partitioned}
 use Rattle.grammar_core.proofs.flat.Flat.terminals_below.Goals as goal
 
 pub returns : goal.returns
@@ -23,6 +24,6 @@ returns c =
       bound = bound';
       fits = omega arith;
       arranged = arranged;
-      below = λ x s lt e. (let h = index_get c.args.self.now.symbols x (Top 0) s e in subst (λ z. terminal_below c.args.t z ≡ true) h.1 (point'.0 x (Top 0) (omega arith) lt));
-      above = λ x s le e. (let h = index_get c.args.self.now.symbols x (Top 0) s e in subst (λ z. terminal_below c.args.t z ≡ false) h.1 (point'.1 x (Top 0) le h.0));
+      below = λ x s lt e. (let h = get_index c.args.self.now.symbols x (Top 0) s e in subst (λ z. terminal_below c.args.t z ≡ true) h.1 (point'.0 x (Top 0) (omega arith) lt));
+      above = λ x s le e. (let h = get_index c.args.self.now.symbols x (Top 0) s e in subst (λ z. terminal_below c.args.t z ≡ false) h.1 (point'.1 x (Top 0) le h.0));
     }

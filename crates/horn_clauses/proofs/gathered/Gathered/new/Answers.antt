@@ -1,5 +1,5 @@
 use Rattle.std.proofs.Common.{◌∙◌, ap, sym, subst, List, ℕ}
-use Rattle.horn_clauses.specs.Rows.{row_at}
+use Rattle.jagged.specs.Rows.{row_at}
 use Rattle.horn_clauses.specs.Gathered.{gathered, AreWithin}
 use Rattle.horn_clauses.proofs.Gathering.{gathered_long, none_gathered, none_within}
 use Rattle.horn_clauses.proofs.gathered.Gathered.new.Goals as goal

@@ -4,8 +4,8 @@ use Rattle.recognizer_model.specs.declared.Item.{Item}
 use Rattle.item_rows.proofs.Holding.{in_kernels, in_begun, numbers_below, fits, parts_here, items_here}
 use Rattle.item_rows.proofs.rows.Rows.contains.Goals as goal
 
-pub at-packed-requires : goal.at-packed-requires
-at-packed-requires c = in_kernels c.self.inside.dotted.flat c.self.inside.dotted.rules c.self.inside.lists c.self.inside.begun.items c.self.inside.kernels c.args.self.now c.self.view_is c.args.j c.requires
+pub row-packed-requires : goal.row-packed-requires
+row-packed-requires c = in_kernels c.self.inside.dotted.flat c.self.inside.dotted.rules c.self.inside.lists c.self.inside.begun.items c.self.inside.kernels c.args.self.now c.self.view_is c.args.j c.requires
 
 pub list_of-begun-requires-clause-place : goal.list_of-begun-requires-clause-place
 list_of-begun-requires-clause-place c = in_begun c.self.inside.dotted.flat c.self.inside.dotted.rules c.self.inside.lists c.self.inside.begun.items c.self.inside.kernels c.args.self.now c.self.view_is c.self.inside.count c.self.invariant c.args.j c.requires c.deref.result.now c.deref.ensures.value
@@ -19,10 +19,10 @@ overflow_cast-j c = let f = fits c.self.inside.dotted.flat c.self.inside.dotted.
 pub contains-requires : goal.contains-requires
 contains-requires c =
     parts_here c.self.inside.dotted.flat c.self.inside.dotted.rules c.self.inside.lists c.self.inside.begun.items c.self.inside.kernels c.args.self.now c.self.view_is c.self.inside.count c.self.invariant c.args.j c.requires c.deref.result.now c.deref.ensures.value
-    c.at-packed.result.now c.list_of-begun.result.now c.at-packed.ensures c.list_of-begun.ensures
+    c.row-packed.result.now c.list_of-begun.result.now c.row-packed.ensures c.list_of-begun.ensures
 
 pub returns : goal.returns
 returns c =
     subst (λ (l : List Item). IsTrue c.contains.result ↔ Contains l c.args.item)
     (items_here c.self.inside.dotted.flat c.self.inside.dotted.rules c.self.inside.lists c.self.inside.begun.items c.self.inside.kernels c.args.self.now c.self.view_is c.self.inside.count c.self.invariant c.args.j c.requires c.deref.result.now c.deref.ensures.value
-    c.at-packed.result.now c.list_of-begun.result.now c.at-packed.ensures c.list_of-begun.ensures) c.contains.ensures
+    c.row-packed.result.now c.list_of-begun.result.now c.row-packed.ensures c.list_of-begun.ensures) c.contains.ensures

@@ -7,10 +7,10 @@ use Rattle.item_rows.proofs.rows.Rows.keep_first.Goals as goal
 
 pub invariant_of-self : goal.invariant_of-self
 invariant_of-self c =
-    subst (λ (k : List (List ℕ)). AreHeld c.self.inside.dotted.rules c.self.inside.lists c.self.inside.begun.items k (length c.at-own.result.now + length c.list_of.result.now)) (sym c.keep_first.ensures)
-    (held_first c.self.inside.dotted.flat c.self.inside.dotted.rules c.self.inside.lists c.self.inside.begun.items c.self.inside.kernels c.args.self.now c.self.view_is c.self.inside.count c.self.invariant c.requires (length c.at-own.result.now + length c.list_of.result.now)
-    (sym (row_length c.self.inside.dotted.rules 0 c.at-own.result.now c.list_of.result.now)
-    ∙ ap (λ (l : List Item). length l) (items_here c.self.inside.dotted.flat c.self.inside.dotted.rules c.self.inside.lists c.self.inside.begun.items c.self.inside.kernels c.args.self.now c.self.view_is c.self.inside.count c.self.invariant 0 c.requires c.deref.result.now c.deref.ensures.value c.at-own.result.now c.list_of.result.now c.at-own.ensures c.list_of.ensures)))
+    subst (λ (k : List (List ℕ)). AreHeld c.self.inside.dotted.rules c.self.inside.lists c.self.inside.begun.items k (length c.row-own.result.now + length c.list_of.result.now)) (sym c.keep_first.ensures)
+    (held_first c.self.inside.dotted.flat c.self.inside.dotted.rules c.self.inside.lists c.self.inside.begun.items c.self.inside.kernels c.args.self.now c.self.view_is c.self.inside.count c.self.invariant c.requires (length c.row-own.result.now + length c.list_of.result.now)
+    (sym (row_length c.self.inside.dotted.rules 0 c.row-own.result.now c.list_of.result.now)
+    ∙ ap (λ (l : List Item). length l) (items_here c.self.inside.dotted.flat c.self.inside.dotted.rules c.self.inside.lists c.self.inside.begun.items c.self.inside.kernels c.args.self.now c.self.view_is c.self.inside.count c.self.invariant 0 c.requires c.deref.result.now c.deref.ensures.value c.row-own.result.now c.list_of.result.now c.row-own.ensures c.list_of.ensures)))
 
 pub returns : goal.returns
 returns c =

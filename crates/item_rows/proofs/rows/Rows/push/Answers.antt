@@ -1,9 +1,10 @@
 use Rattle.std.proofs.Common.{◌≡◌, ◌≤◌, ◌++◌, ◌∷◌, [], ◌∙◌, sym, ap, subst, ℕ, List, length, take, arith}
-use Rattle.item_rows.specs.Rows.{ItemRows, list_at}
+use Rattle.item_rows.specs.Rows.{ItemRows}
+use Rattle.jagged.specs.Rows.{row_at as list_at}
 use Rattle.item_rows.specs.Kept.{AreItems}
 use Rattle.item_rows.specs.Dotted.{row_items}
 use Rattle.item_rows.specs.Held.{AreHeld}
-use Rattle.item_rows.proofs.Cutting.{on_err}
+use Rattle.finite_sets.proofs.Clauses.{on_err}
 use Rattle.item_rows.proofs.Joined.{row_length}
 use Rattle.item_rows.proofs.Holding.{seen, in_lists, held_same, seen_same, row_pushed, items_pushed, held_more, seen_more}
 use Rattle.item_rows.proofs.rows.Rows.push.Goals as goal
@@ -46,7 +47,7 @@ invariant_of-self-2 c =
     (row_pushed c.self.inside.dotted.flat c.self.inside.dotted.rules c.self.inside.lists c.self.inside.begun.items c.self.inside.kernels c.args.self.now c.self.view_is c.self.inside.count c.self.invariant c.known.ensures.differ c.known.ensures.zero c.args.items.now c.pack_row.new.packed.items c.in_ok-pack_row.ensures.row c.in_ok-pack_row.ensures.same c.args.begun c.requires.begun c.requires.apart)
     c.in_ok-count.count
     (let all = row_length c.self.inside.dotted.rules (length c.self.inside.kernels) c.pack_row.new.packed.items (list_at c.self.inside.lists c.args.begun) in
-    let list = ap (λ (l : List ℕ). length l) c.at.ensures in
+    let list = ap (λ (l : List ℕ). length l) c.row.ensures in
     let sum = c.in_ok-count.ensures in
     let own = c.len.ensures in
     omega arith))

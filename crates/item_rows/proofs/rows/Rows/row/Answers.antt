@@ -4,8 +4,8 @@ use Rattle.item_rows.specs.Dotted.{row_items, IsRowOfParts}
 use Rattle.item_rows.proofs.Holding.{in_kernels, in_begun, numbers_below, fits, parts_here, items_here}
 use Rattle.item_rows.proofs.rows.Rows.row.Goals as goal
 
-pub at-packed-requires : goal.at-packed-requires
-at-packed-requires c = in_kernels c.self.inside.dotted.flat c.self.inside.dotted.rules c.self.inside.lists c.self.inside.begun.items c.self.inside.kernels c.args.self.now c.self.view_is c.args.j c.requires
+pub row-packed-requires : goal.row-packed-requires
+row-packed-requires c = in_kernels c.self.inside.dotted.flat c.self.inside.dotted.rules c.self.inside.lists c.self.inside.begun.items c.self.inside.kernels c.args.self.now c.self.view_is c.args.j c.requires
 
 pub list_of-begun-requires-clause-place : goal.list_of-begun-requires-clause-place
 list_of-begun-requires-clause-place c = in_begun c.self.inside.dotted.flat c.self.inside.dotted.rules c.self.inside.lists c.self.inside.begun.items c.self.inside.kernels c.args.self.now c.self.view_is c.self.inside.count c.self.invariant c.args.j c.requires c.deref.result.now c.deref.ensures.value
@@ -18,13 +18,13 @@ overflow_cast-j c = let f = fits c.self.inside.dotted.flat c.self.inside.dotted.
 
 pub row_of-requires : goal.row_of-requires
 row_of-requires c =
-    subst (λ (l : List Item). IsRowOfParts l c.args.j c.at-packed.result.now c.list_of-begun.result.now) (sym c.rules.ensures)
+    subst (λ (l : List Item). IsRowOfParts l c.args.j c.row-packed.result.now c.list_of-begun.result.now) (sym c.rules.ensures)
     (parts_here c.self.inside.dotted.flat c.self.inside.dotted.rules c.self.inside.lists c.self.inside.begun.items c.self.inside.kernels c.args.self.now c.self.view_is c.self.inside.count c.self.invariant c.args.j c.requires c.deref.result.now c.deref.ensures.value
-    c.at-packed.result.now c.list_of-begun.result.now c.at-packed.ensures c.list_of-begun.ensures)
+    c.row-packed.result.now c.list_of-begun.result.now c.row-packed.ensures c.list_of-begun.ensures)
 
 pub returns : goal.returns
 returns c =
     c.row_of.ensures
-    ∙ (ap (λ (l : List Item). row_items l c.args.j c.at-packed.result.now c.list_of-begun.result.now) c.rules.ensures
+    ∙ (ap (λ (l : List Item). row_items l c.args.j c.row-packed.result.now c.list_of-begun.result.now) c.rules.ensures
     ∙ items_here c.self.inside.dotted.flat c.self.inside.dotted.rules c.self.inside.lists c.self.inside.begun.items c.self.inside.kernels c.args.self.now c.self.view_is c.self.inside.count c.self.invariant c.args.j c.requires c.deref.result.now c.deref.ensures.value
-    c.at-packed.result.now c.list_of-begun.result.now c.at-packed.ensures c.list_of-begun.ensures)
+    c.row-packed.result.now c.list_of-begun.result.now c.row-packed.ensures c.list_of-begun.ensures)

@@ -7,8 +7,8 @@ use Rattle.item_rows.specs.Rows.{row_at}
 use Rattle.item_rows.proofs.Holding.{same_flat, in_kernels, in_begun, numbers_below, fits, parts_here, items_here}
 use Rattle.item_rows.proofs.rows.Rows.scanned.Goals as goal
 
-pub at-packed-requires : goal.at-packed-requires
-at-packed-requires c = in_kernels c.self.inside.dotted.flat c.self.inside.dotted.rules c.self.inside.lists c.self.inside.begun.items c.self.inside.kernels c.args.self.now c.self.view_is c.args.j c.requires
+pub row-packed-requires : goal.row-packed-requires
+row-packed-requires c = in_kernels c.self.inside.dotted.flat c.self.inside.dotted.rules c.self.inside.lists c.self.inside.begun.items c.self.inside.kernels c.args.self.now c.self.view_is c.args.j c.requires
 
 pub list_of-begun-requires-clause-place : goal.list_of-begun-requires-clause-place
 list_of-begun-requires-clause-place c = in_begun c.self.inside.dotted.flat c.self.inside.dotted.rules c.self.inside.lists c.self.inside.begun.items c.self.inside.kernels c.args.self.now c.self.view_is c.self.inside.count c.self.invariant c.args.j c.requires c.deref.result.now c.deref.ensures.value
@@ -22,7 +22,7 @@ overflow_cast-j c = let f = fits c.self.inside.dotted.flat c.self.inside.dotted.
 pub scanned-requires : goal.scanned-requires
 scanned-requires c =
     parts_here c.self.inside.dotted.flat c.self.inside.dotted.rules c.self.inside.lists c.self.inside.begun.items c.self.inside.kernels c.args.self.now c.self.view_is c.self.inside.count c.self.invariant c.args.j c.requires c.deref.result.now c.deref.ensures.value
-    c.at-packed.result.now c.list_of-begun.result.now c.at-packed.ensures c.list_of-begun.ensures
+    c.row-packed.result.now c.list_of-begun.result.now c.row-packed.ensures c.list_of-begun.ensures
 
 pub returns : goal.returns
 returns c =
@@ -30,4 +30,4 @@ returns c =
     (same_flat c.self.inside.dotted.flat c.self.inside.dotted.rules c.self.inside.lists c.self.inside.begun.items c.self.inside.kernels c.args.self.now c.self.view_is)
     (subst (λ (l : List Item). IsListOf (λ item. Contains l item × WaitsForTerminal c.self.inside.dotted.flat item) c.scanned.result)
     (items_here c.self.inside.dotted.flat c.self.inside.dotted.rules c.self.inside.lists c.self.inside.begun.items c.self.inside.kernels c.args.self.now c.self.view_is c.self.inside.count c.self.invariant c.args.j c.requires c.deref.result.now c.deref.ensures.value
-    c.at-packed.result.now c.list_of-begun.result.now c.at-packed.ensures c.list_of-begun.ensures) c.scanned.ensures)
+    c.row-packed.result.now c.list_of-begun.result.now c.row-packed.ensures c.list_of-begun.ensures) c.scanned.ensures)

@@ -1,15 +1,6 @@
-use Rattle.std.proofs.Common.{◌<◌, ℕ, sym, subst, length, IfOk, Contains}
-use Rattle.std.specs.Prelude.{IsNone, IfSome}
-use Rattle.lexer.specs.declared.lexer.LexAnswer.{LexAnswer}
-use Rattle.lexer.specs.Lexical.{LexicalForm, IsLongestMatch, IsUnmatched}
+use Rattle.std.proofs.Common.{refl, sym, subst}
+use Rattle.std.specs.Prelude.{IsNone}
 use Rattle.lexer.proofs.lexer.Lexer.longest.Goals as goal
 
-pub longest_by-requires-clause-starts : goal.longest_by-requires-clause-starts
-longest_by-requires-clause-starts c = subst (λ (l : LexicalForm). (k : ℕ) → Contains c.args.candidates.now k → k < length l.flat.tops) (sym c.self.view_is) c.requires.starts
-
-pub returns-clause-none : goal.returns-clause-none
-returns-clause-none c = subst (λ (l : LexicalForm). IfOk c.longest_by.result (λ answer. IsNone answer → IsUnmatched l c.args.chars.now c.args.at c.args.candidates.now)) c.self.view_is c.longest_by.ensures.none
-
-pub returns-clause-some : goal.returns-clause-some
-returns-clause-some c =
-    subst (λ (l : LexicalForm). IfOk c.longest_by.result (λ answer. IfSome answer (λ (a : LexAnswer). IsLongestMatch l c.args.chars.now c.args.at c.args.candidates.now a.length a.matched.items))) c.self.view_is c.longest_by.ensures.some
+pub returns-in-None-clause-none : goal.returns-in-None-clause-none
+returns-in-None-clause-none c = λ none. c.in_ok-length.ensures.none (subst (λ o. IsNone o) (sym c.in-None.is) refl)

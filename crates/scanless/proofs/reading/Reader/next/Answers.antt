@@ -1,11 +1,11 @@
 use Rattle.std.proofs.Common.{arith, ◌<◌, ◌≤◌, ◌+◌, ◌++◌, ◌∷◌, [], length, List, sym, ◌∙◌, subst}
+use Rattle.finite_sets.proofs.Clauses.{on_ok, at_some}
 use Rattle.reading_model.specs.Reading.{Piece, Token, Skipped}
 use Rattle.scanless.specs.Pieces.{IsLexerOf, IsLongestBy}
 use Rattle.scanless.specs.Reading.{HoldsPieces, HasRead, IsStuck, IsChosen, IsReadingOf}
-use Rattle.earley_sets.proofs.Cutting.{on_ok}
 use Rattle.scanless.proofs.Holding.{place_within, holds_begun}
 use Rattle.scanless.proofs.Steps.{reads_token, reads_skipped, stuck_at, stuck_without}
-use Rattle.scanless.proofs.Results.{is_none, at_some, not_none, some_if}
+use Rattle.scanless.proofs.Results.{is_none, not_none, some_if}
 use Rattle.scanless.proofs.reading.Reader.next.Goals as goal
 
 pub returns-in_default-clause-goes_on : goal.returns-in_default-clause-goes_on

@@ -4,12 +4,13 @@ use Rattle.tree_iter.specs.declared.walk.Walk.{Walk}
 use Rattle.tree_iter.specs.Goals.{fork_of}
 use Rattle.std.specs.Prelude.{slice_set, slice_index_or}
 use Rattle.std.specs.Vec.{with_item}
+use Rattle.finite_sets.proofs.Clauses.{on_err}
 use Rattle.tree_iter.specs.Goals.{PutsOption}
-use Rattle.tree_iter.proofs.Walks.{back_behind, chose_next, next_leaves, set_last, get_last, any_err}
+use Rattle.tree_iter.proofs.Walks.{back_behind, chose_next, next_leaves, set_last, get_last}
 use Rattle.tree_iter.proofs.walk.Walk.choose_next.Goals as goal
 
 pub returns-in_err-put-clause-err : goal.returns-in_err-put-clause-err
-returns-in_err-put-clause-err g c = any_err c.from_residual.result
+returns-in_err-put-clause-err g c = on_err c.from_residual.result
     (λ rest h. back_behind c.args.self.now (record c.args.self.now { goals = c.put_option.new.rows }) rest c.args.choice c.in_err-put.ensures.err h)
 
 pub returns-clause-ok : goal.returns-clause-ok

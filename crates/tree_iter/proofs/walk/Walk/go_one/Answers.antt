@@ -1,9 +1,10 @@
 use Rattle.std.proofs.Common.{◌≡◌, ◌+◌, ◌-◌, ◌<◌, length, Some, refl, sym, ap, subst, arith}
 use Rattle.std.specs.Prelude.{slice_get}
+use Rattle.std.proofs.lemmas.Result.{on_ok_weaker}
 use Rattle.tree_iter.specs.declared.walk.Walk.{Walk}
 use Rattle.tree_iter.specs.Goals.{goal_of}
 use Rattle.tree_iter.specs.Walk.{HasSteps}
-use Rattle.tree_iter.proofs.Walks.{left_within, ok_weaker}
+use Rattle.tree_iter.proofs.Walks.{left_within}
 use Rattle.tree_iter.proofs.walk.Walk.go_one.Goals as goal
 
 pub goal_row-row-requires : goal.goal_row-row-requires
@@ -45,5 +46,5 @@ write-requires g c =
     }
 
 pub returns-in-Write-clause-looks : goal.returns-in-Write-clause-looks
-returns-in-Write-clause-looks g c = ok_weaker c.write.result (λ keeps k h.
+returns-in-Write-clause-looks g c = on_ok_weaker c.write.result (λ keeps k h.
     (0, subst (HasSteps c.write.new.self) (let e : k ≡ k + 0 = omega arith in e) (keeps k h), (let e : c.args.steps.now ≡ c.args.steps.now + 0 = omega arith in e))) c.write.ensures.keeps

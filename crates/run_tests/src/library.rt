@@ -1,0 +1,5 @@
+//! The library's front.
+mod cases;
+mod differences;
+mod read;
+mod refused;
