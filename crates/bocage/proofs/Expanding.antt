@@ -99,7 +99,7 @@ module _ (w : Grammar) (ranking : Ranking) (r : Recognizer) (read : IsRead w r) 
       ],
     )
 
-  -- what was given for the place is what is expanded Contains-get_or
+  -- what was given for the place is what is expanded there
   pub given_expanded : (lowest least : ℕ) → ((n : ℕ) (key : NodeKey) → Contains nodes n → slice_get f.keys.keys n ≡ Some key → least ≤ key.origin) → least ≤ lowest →
       (least ≡ lowest) ⊎ ((n : ℕ) × (key : NodeKey) × Contains nodes n × (slice_get f.keys.keys n ≡ Some key) × (key.origin ≡ least)) →
       (end ≡ earleme_of r → lowest ≡ 0) → (end ≢ earleme_of r → (lowest ≡ end) × (0 < length nodes)) → (item : Item) → IsHiddenFrom r end least item ↔ IsExpandedAt w ranking r end item

@@ -55,7 +55,7 @@ module _ (k : Known) (knows : Knows k) (predecessor : Item) (symbol m : ℕ) (le
         (used_met k.written.now k.ranking k.recce.now (read_of k knows) (record { rule = rule; dot = length (rhs_of k.recce.now.flat rule); origin = m; end = k.end })).1
         (some, Last met found_predecessor.spans (next.part ∙ ap Some same) is lt s best)
 
-    -- the alternative goes cause
+    -- the alternative goes last
     pub put_one : (D : ℕ → Type 0) (old new : Found) (o : Option ℕ) (cause : CauseRow) (more : List ℕ) → D m → ((n : ℕ) → D n → n ≡ m) →
         new.alternatives.items ≡ old.alternatives.items ++ record { start = m; predecessor = o; cause = cause } ∷ [] → new.wholes.items ≡ old.wholes.items ++ more → GrowsBy (IsNew k) old.keys.keys new.keys.keys →
         IsPredecessorFound new.keys.keys predecessor m o → IsCause (seen_by k new.keys.keys) symbol m k.end (cause_of new.wholes.items cause) → IsCauseWithin new.wholes.items cause → AreNoted k new → Lists k predecessor symbol D old new

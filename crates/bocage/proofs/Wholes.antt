@@ -161,7 +161,7 @@ fits_part k knows p h = go ((knows.gathered.parts p).0 h).0
         let e = is.end in
         (omega arith, subst (λ o. HasRule k.recce.now.flat o) (sym is.whole) ((in_full k.recce.now knows.is place item).0 i).is_rule)
 
--- a number at a place is that of the key Contains-get_or
+-- a number at a place is that of the key there
 number_at : (keys : List NodeKey) (ns : List ℕ) (f : ℕ → NodeKey) (rs : List ℕ) → AreNumbers keys ns (map f rs) → (i n r : ℕ) → slice_get ns i ≡ Some n → slice_get rs i ≡ Some r → slice_get keys n ≡ Some (f r)
 number_at keys [] f rs h i n r a b = absurd (cc)
 number_at keys (m ∷ ns) f [] h i n r a b = absurd (cc)

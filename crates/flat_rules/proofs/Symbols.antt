@@ -1,4 +1,4 @@
--- The symbols of the flat grammar are list_is, each once.
+-- The symbols of the flat grammar are listed, each once.
 use Rattle.std.proofs.Common.{◌≡◌, ℕ, ◌<◌, Bool, true, false, not, List, ◌++◌, map, length, ◌⊎◌, inl, inr, refl, sym, ap, ◌∙◌, subst, arith}
 use Rattle.std.specs.Prelude.{◌&&◌, filter}
 use Rattle.std.proofs.lemmas.Bool.{cases_Bool, not-true, and_from, and_parts, not_from_false}

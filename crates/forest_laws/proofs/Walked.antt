@@ -224,7 +224,7 @@ module _ (f : Forest) (lists : Lists) (is : IsForest f) (all : AreAllLists f lis
       go (x ∷ xs) zero lt = refl
       go (x ∷ xs) (suc k) lt = go xs k (omega arith)
 
-  -- the first parts of a used node are get_some
+  -- the first parts of a used node are there
   met_spans : {r d p q : ℕ} → IsMet f.flat (edges_of f) (allowed_of f) (top_of f) f.place r d p q → (cs : Children) × Spans f.flat (edges_of f) r d p q cs
   met_spans (Whole {cs = cs} lt s) = (cs, s)
   met_spans (Before {cs = cs} m s e d) = (cs, s)

@@ -270,6 +270,7 @@ fn pack_with(rules: &[Item], number: u32, item: Item) -> Option<u64>
 }
 
 impl<'g> DottedRules<'g> {
+    /// All dotted rules of the grammar, in the order of rows.
     pub fn new(alloc: Global, flat: &'g Flat) -> Result<DottedRules<'g>, AllocError>
         ensures { IfOk result (λ d. d.flat ≡ flat.now) }
     {

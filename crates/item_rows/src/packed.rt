@@ -34,6 +34,7 @@ impl<'r> Model for Row<'r> {
 }
 
 impl<'r> Row<'r> {
+    /// How many items there are.
     pub fn len(&self) -> usize
         ensures { result ≡ length self.now }
     {

@@ -45,6 +45,7 @@ impl<'g> Model for Rows<'g> {
 }
 
 impl<'g> Rows<'g> {
+    /// No rows, and one shared list: the empty one.
     pub fn new(alloc: Global, flat: &'g Flat) -> Result<Rows<'g>, AllocError>
         ensures { IfOk result (λ r. (r.flat ≡ flat.now) × (r.sets ≡ []) × (r.shared ≡ [] ∷ [])) }
     {
@@ -62,6 +63,7 @@ impl<'g> Rows<'g> {
         })
     }
 
+    /// How many rows there are.
     pub fn len(&self) -> usize
         ensures { result ≡ length self.now.sets }
     {
