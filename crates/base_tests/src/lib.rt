@@ -1,10 +1,6 @@
-//! Tests of the outside, of character classes, of values, and of trees as text. There is nothing else here.
+//! Tests of tellers, of texts of values that are read back, and of trees as text. There is nothing else here.
 #![tactic(auto)]
 
-#[cfg(test)]
-mod classes;
-#[cfg(test)]
-mod outside;
 #[cfg(test)]
 mod pictures;
 #[cfg(test)]
@@ -15,5 +11,3 @@ mod read_values;
 mod tellers;
 #[cfg(test)]
 mod trees;
-#[cfg(test)]
-mod values;

@@ -15,15 +15,14 @@ use std::test::Fail;
 use valuator::{ArrayTeller, Teller, TreeTeller, play};
 use value_text::{Action, DescItem, Items, Meaning, NoMemory, RuleMeaning};
 
-// A grammar of symbols with these names and without rules.
-fn named(alloc: Global, names: &[&str]) -> Result<Written, CoreRefusal>
-    ensures { IfOk result (λ w. w.rules ≡ []) }
+// Adds symbols of these names.
+fn add_names(w: &mut Written, names: &[&str]) -> Result<(), CoreRefusal>
+    ensures { OnOk result (w.new.rules ≡ w.old.rules) }
 {
-    let mut w = Written::new(alloc);
     for name in names {
         w.symbol_new(name)?;
     }
-    Ok(w)
+    Ok(())
 }
 
 fn symbols(alloc: Global, parts: &[u32]) -> Result<Vec<SymbolId>, CoreRefusal>
@@ -198,14 +197,24 @@ const ONE_EACH: [Span; 5] = [
 ];
 
 // S ::= B B; B ::= 'a'; B is empty: the numbers 0 S, 1 B, 2 'a'.
+fn add_nulled_at_the_beginning(alloc: Global, w: &mut Written) -> Result<(), CoreRefusal>
+    requires { w.old.rules ≡ [] }
+    ensures rules { OnOk result (w.new.rules ≡ begins_nulled) }
+    ensures sound { OnOk result (IsWritten w.new) }
+{
+    add_names(w, &["S", "B", "'a'"])?;
+    add_rule(alloc, w, 0, &[1, 1])?;
+    add_rule(alloc, w, 1, &[2])?;
+    add_rule(alloc, w, 1, &[])?;
+    Ok(())
+}
+
 fn nulled_at_the_beginning(alloc: Global) -> Result<Written, CoreRefusal>
     ensures rules { IfOk result (λ w. w.rules ≡ begins_nulled) }
     ensures sound { IfOk result (λ w. IsWritten w) }
 {
-    let mut w = named(alloc, &["S", "B", "'a'"])?;
-    add_rule(alloc, &mut w, 0, &[1, 1])?;
-    add_rule(alloc, &mut w, 1, &[2])?;
-    add_rule(alloc, &mut w, 1, &[])?;
+    let mut w = Written::new(alloc);
+    add_nulled_at_the_beginning(alloc, &mut w)?;
     Ok(w)
 }
 
@@ -262,14 +271,26 @@ fn tree_line(alloc: Global, meaning: &Meaning, w: &Written, wanted: &[u8]) -> Re
         &ONE_EACH[..1],
         &chars,
         teller,
-    )?;
-    Ok(line.as_slice() == wanted)
+    );
+    drop(chars);
+    Ok(line?.as_slice() == wanted)
+}
+
+fn tells_tree_of(alloc: Global, w: &Written, line: &[u8]) -> Result<bool, Fail>
+    requires rules { w.now.rules ≡ begins_nulled }
+    requires sound { IsWritten w.now }
+{
+    let meaning = none_made(alloc)?;
+    let told = tree_line(alloc, &meaning, w, line);
+    drop(meaning);
+    told
 }
 
 fn tells_a_tree(alloc: Global, line: &[u8]) -> Result<bool, Fail> {
     let w = nulled_at_the_beginning(alloc)?;
-    let meaning = none_made(alloc)?;
-    tree_line(alloc, &meaning, &w, line)
+    let told = tells_tree_of(alloc, &w, line);
+    drop(w);
+    told
 }
 
 #[test]
@@ -283,15 +304,25 @@ fn trees_name_nulled_symbols(rt: HostRuntime) -> Result<(), Fail> {
     Ok(())
 }
 
+fn add_nulled_at_the_end(alloc: Global, w: &mut Written) -> Result<(), CoreRefusal>
+    requires { w.old.rules ≡ [] }
+    ensures rules { OnOk result (w.new.rules ≡ ends_nulled) }
+    ensures sound { OnOk result (IsWritten w.new) }
+{
+    add_names(w, &["S", "B", "C", "x"])?;
+    add_rule(alloc, w, 0, &[1, 2])?;
+    add_rule(alloc, w, 1, &[3])?;
+    add_rule(alloc, w, 2, &[])?;
+    Ok(())
+}
+
 /// S ::= B C; B ::= x; C is empty: the numbers 0 S, 1 B, 2 C, 3 x.
 pub(crate) fn nulled_at_the_end(alloc: Global) -> Result<Written, CoreRefusal>
     ensures rules { IfOk result (λ w. w.rules ≡ ends_nulled) }
     ensures sound { IfOk result (λ w. IsWritten w) }
 {
-    let mut w = named(alloc, &["S", "B", "C", "x"])?;
-    add_rule(alloc, &mut w, 0, &[1, 2])?;
-    add_rule(alloc, &mut w, 1, &[3])?;
-    add_rule(alloc, &mut w, 2, &[])?;
+    let mut w = Written::new(alloc);
+    add_nulled_at_the_end(alloc, &mut w)?;
     Ok(w)
 }
 
@@ -385,8 +416,9 @@ fn line_of_nulled(
         &ONE_EACH[1..2],
         &chars,
         teller,
-    )?;
-    Ok(line.as_slice() == wanted)
+    );
+    drop(chars);
+    Ok(line?.as_slice() == wanted)
 }
 
 /// Plays the derivation of `nulled_at_the_end`, in which the last symbol is nulled.
@@ -413,10 +445,21 @@ pub(crate) fn play_nulled(
     )
 }
 
+fn tells_items_of(alloc: Global, w: &Written, line: &[u8]) -> Result<bool, Fail>
+    requires rules { w.now.rules ≡ ends_nulled }
+    requires sound { IsWritten w.now }
+{
+    let meaning = all_described(alloc)?;
+    let told = line_of_nulled(alloc, &meaning, w, line);
+    drop(meaning);
+    told
+}
+
 fn tells_all_items(alloc: Global, line: &[u8]) -> Result<bool, Fail> {
     let w = nulled_at_the_end(alloc)?;
-    let meaning = all_described(alloc)?;
-    line_of_nulled(alloc, &meaning, &w, line)
+    let told = tells_items_of(alloc, &w, line);
+    drop(w);
+    told
 }
 
 #[test]
@@ -431,13 +474,23 @@ fn descriptors_tell_all_items(rt: HostRuntime) -> Result<(), Fail> {
 }
 
 // E ::= ('(') L (')'); L ::= N+ separator => comma: the numbers 0 E, 1 '(', 2 L, 3 ')', 4 N, 5 comma.
+fn add_in_brackets(alloc: Global, w: &mut Written) -> Result<(), CoreRefusal>
+    requires { w.old.rules ≡ [] }
+    ensures rules { OnOk result (w.new.rules ≡ list_in_brackets) }
+    ensures sound { OnOk result (IsWritten w.new) }
+{
+    add_names(w, &["E", "'('", "L", "')'", "N", "comma"])?;
+    add_rule(alloc, w, 0, &[1, 2, 3])?;
+    add_list(w, 2, 4, 5)?;
+    Ok(())
+}
+
 fn in_brackets(alloc: Global) -> Result<Written, CoreRefusal>
     ensures rules { IfOk result (λ w. w.rules ≡ list_in_brackets) }
     ensures sound { IfOk result (λ w. IsWritten w) }
 {
-    let mut w = named(alloc, &["E", "'('", "L", "')'", "N", "comma"])?;
-    add_rule(alloc, &mut w, 0, &[1, 2, 3])?;
-    add_list(&mut w, 2, 4, 5)?;
+    let mut w = Written::new(alloc);
+    add_in_brackets(alloc, &mut w)?;
     Ok(w)
 }
 
@@ -499,14 +552,26 @@ fn brackets_line(alloc: Global, meaning: &Meaning, w: &Written, wanted: &[u8]) -
 {
     let chars = chars_told(alloc, b"(1,2)")?;
     let teller = Box::new(alloc, ArrayTeller::new(alloc))?;
-    let line = line_of(alloc, &IN_BRACKETS, meaning, w, &ONE_EACH, &chars, teller)?;
-    Ok(line.as_slice() == wanted)
+    let line = line_of(alloc, &IN_BRACKETS, meaning, w, &ONE_EACH, &chars, teller);
+    drop(chars);
+    Ok(line?.as_slice() == wanted)
+}
+
+fn tells_shown_of(alloc: Global, w: &Written, line: &[u8]) -> Result<bool, Fail>
+    requires rules { w.now.rules ≡ list_in_brackets }
+    requires sound { IsWritten w.now }
+{
+    let meaning = brackets_hidden(alloc)?;
+    let told = brackets_line(alloc, &meaning, w, line);
+    drop(meaning);
+    told
 }
 
 fn tells_what_is_shown(alloc: Global, line: &[u8]) -> Result<bool, Fail> {
     let w = in_brackets(alloc)?;
-    let meaning = brackets_hidden(alloc)?;
-    brackets_line(alloc, &meaning, &w, line)
+    let told = tells_shown_of(alloc, &w, line);
+    drop(w);
+    told
 }
 
 #[test]
@@ -516,12 +581,22 @@ fn hidden_parts_and_separators_are_not_shown(rt: HostRuntime) -> Result<(), Fail
 }
 
 // S ::= 'a': the numbers 0 S, 1 'a'.
+fn add_one_part(alloc: Global, w: &mut Written) -> Result<(), CoreRefusal>
+    requires { w.old.rules ≡ [] }
+    ensures rules { OnOk result (w.new.rules ≡ one_part) }
+    ensures sound { OnOk result (IsWritten w.new) }
+{
+    add_names(w, &["S", "'a'"])?;
+    add_rule(alloc, w, 0, &[1])?;
+    Ok(())
+}
+
 fn of_one_part(alloc: Global) -> Result<Written, CoreRefusal>
     ensures rules { IfOk result (λ w. w.rules ≡ one_part) }
     ensures sound { IfOk result (λ w. IsWritten w) }
 {
-    let mut w = named(alloc, &["S", "'a'"])?;
-    add_rule(alloc, &mut w, 0, &[1])?;
+    let mut w = Written::new(alloc);
+    add_one_part(alloc, &mut w)?;
     Ok(w)
 }
 
@@ -574,14 +649,26 @@ fn line_behind(alloc: Global, meaning: &Meaning, w: &Written, wanted: &[u8]) -> 
         &ONE_EACH[..1],
         &chars,
         teller,
-    )?;
-    Ok(line.as_slice() == wanted)
+    );
+    drop(chars);
+    Ok(line?.as_slice() == wanted)
+}
+
+fn tells_both_of(alloc: Global, w: &Written, line: &[u8]) -> Result<bool, Fail>
+    requires rules { w.now.rules ≡ one_part }
+    requires sound { IsWritten w.now }
+{
+    let meaning = one_shown(alloc)?;
+    let told = line_behind(alloc, &meaning, w, line);
+    drop(meaning);
+    told
 }
 
 fn tells_both(alloc: Global, line: &[u8]) -> Result<bool, Fail> {
     let w = of_one_part(alloc)?;
-    let meaning = one_shown(alloc)?;
-    line_behind(alloc, &meaning, &w, line)
+    let told = tells_both_of(alloc, &w, line);
+    drop(w);
+    told
 }
 
 #[test]

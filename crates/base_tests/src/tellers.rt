@@ -30,22 +30,22 @@ fn tell_described(
     teller.finish(out)
 }
 
-// The line of a derivation of which all items are told.
-fn described_line(alloc: Global, made: &Action, seen: &Action) -> Result<Vec<u8>, NoMemory> {
+// Puts the line of a derivation of which all items are told.
+fn put_described(alloc: Global, out: &mut Vec<u8>) -> Result<(), NoMemory> {
+    let made = described_by(alloc, &MADE)?;
+    let seen = described_by(alloc, &SEEN)?;
     let mut teller = ArrayTeller::new(alloc);
-    let mut out = Vec::new(alloc);
-    tell_described(&mut teller, made, seen, &mut out)?;
-    Ok(out)
+    let told = tell_described(&mut teller, &made, &seen, out);
+    drop(teller);
+    told
 }
 
 #[test]
 fn descriptors_tell_all(rt: HostRuntime) -> Result<(), Fail> {
-    let made = described_by(rt.alloc(), &MADE)?;
-    let seen = described_by(rt.alloc(), &SEEN)?;
-    assert_eq!(rt;
-        described_line(rt.alloc(), &made, &seen)?.as_slice(),
-        b"[\"S\",1,1,0,1,[\"B\",1,1,0,1,[\"x\",1,1,\"x\"]],[\"C\",2,0,1,0]]\n".as_slice()
-    );
+    let line = b"[\"S\",1,1,0,1,[\"B\",1,1,0,1,[\"x\",1,1,\"x\"]],[\"C\",2,0,1,0]]\n";
+    let mut out = Vec::new(rt.alloc());
+    put_described(rt.alloc(), &mut out)?;
+    assert!(rt; out.as_slice() == line.as_slice());
     Ok(())
 }
 
@@ -64,12 +64,18 @@ fn tell_in_brackets(teller: &mut ArrayTeller, out: &mut Vec<u8>) -> Result<(), N
     teller.finish(out)
 }
 
+fn put_in_brackets(alloc: Global, out: &mut Vec<u8>) -> Result<(), NoMemory> {
+    let mut teller = ArrayTeller::new(alloc);
+    let told = tell_in_brackets(&mut teller, out);
+    drop(teller);
+    told
+}
+
 #[test]
 fn separators_and_hidden_parts_are_left_out(rt: HostRuntime) -> Result<(), Fail> {
-    let mut teller = ArrayTeller::new(rt.alloc());
     let mut out = Vec::new(rt.alloc());
-    tell_in_brackets(&mut teller, &mut out)?;
-    assert_eq!(rt; out.as_slice(), b"[[\"1\",\"2\"]]\n".as_slice());
+    put_in_brackets(rt.alloc(), &mut out)?;
+    assert!(rt; out.as_slice() == b"[[\"1\",\"2\"]]\n".as_slice());
     Ok(())
 }
 
@@ -83,15 +89,18 @@ fn tell_tree(teller: &mut TreeTeller, out: &mut Vec<u8>) -> Result<(), NoMemory>
     teller.finish(out)
 }
 
+fn put_tree(alloc: Global, out: &mut Vec<u8>) -> Result<(), NoMemory> {
+    let mut teller = TreeTeller::new(alloc);
+    let told = tell_tree(&mut teller, out);
+    drop(teller);
+    told
+}
+
 #[test]
 fn trees_name_their_rules(rt: HostRuntime) -> Result<(), Fail> {
-    let mut teller = TreeTeller::new(rt.alloc());
     let mut out = Vec::new(rt.alloc());
-    tell_tree(&mut teller, &mut out)?;
-    assert_eq!(rt;
-        out.as_slice(),
-        b"[\"S\",0,[\"B\"],[\"B\",1,[\"'a'\",\"a\"]]]\n".as_slice()
-    );
+    put_tree(rt.alloc(), &mut out)?;
+    assert!(rt; out.as_slice() == b"[\"S\",0,[\"B\"],[\"B\",1,[\"'a'\",\"a\"]]]\n".as_slice());
     Ok(())
 }
 
@@ -212,16 +221,43 @@ fn play_token(alloc: Global, tellers: &mut Vec<Box<dyn Teller>>) -> Result<bool,
     play_symbol(alloc, &w, symbol, tellers)
 }
 
+// What is left behind a play: whether all were told, how many tellers, their calls, and who holds the count.
+type Left = (bool, usize, u32, usize);
+
+// Whether this is left behind a play of one token.
+fn leaves(
+    alloc: Global,
+    calls: &Rc<Cell<u32>>,
+    tellers: &mut Vec<Box<dyn Teller>>,
+    wanted: Left,
+) -> Result<bool, Fail> {
+    let told = play_token(alloc, tellers)?;
+    Ok((told, tellers.len(), calls.get(), Rc::strong_count(calls)) == wanted)
+}
+
+// Whether a teller is told once, and let go at the second call.
+fn is_told_once(
+    alloc: Global,
+    calls: &Rc<Cell<u32>>,
+    tellers: &mut Vec<Box<dyn Teller>>,
+) -> Result<bool, Fail> {
+    Ok(
+        leaves(alloc, calls, tellers, (true, 1, 1, 2))?
+            && leaves(alloc, calls, tellers, (false, 0, 2, 1))?,
+    )
+}
+
+fn refuses_second(alloc: Global, calls: &Rc<Cell<u32>>) -> Result<bool, Fail> {
+    let mut tellers = counted(alloc, 1, calls)?;
+    let once = is_told_once(alloc, calls, &mut tellers);
+    drop(tellers);
+    once
+}
+
 #[test]
 fn no_teller_is_left_where_one_refuses(rt: HostRuntime) -> Result<(), Fail> {
     let calls = Rc::new(rt.alloc(), Cell::new(0))?;
-    let mut tellers = counted(rt.alloc(), 1, &calls)?;
-    let told = play_token(rt.alloc(), &mut tellers)?;
-    assert_eq!(rt; (told, tellers.len(), calls.get()), (true, 1, 1));
-    assert_eq!(rt; Rc::strong_count(&calls), 2);
-    let refused = play_token(rt.alloc(), &mut tellers)?;
-    assert_eq!(rt; (refused, tellers.len(), calls.get()), (false, 0, 2));
-    assert_eq!(rt; Rc::strong_count(&calls), 1);
+    assert!(rt; refuses_second(rt.alloc(), &calls)?);
     Ok(())
 }
 
@@ -249,24 +285,46 @@ fn play_four(
     requires meaning { IsMeaningOf w.now (meaning_of meaning.now) }
 {
     let chars = chars_of(alloc, b" x")?;
-    Ok(chars.len() >= 2 && play_nulled(alloc, meaning, w, &chars, tellers).is_ok())
+    let told = chars.len() >= 2 && play_nulled(alloc, meaning, w, &chars, tellers).is_ok();
+    drop(chars);
+    Ok(told)
 }
 
-// Plays to a teller that counts: whether all were told, how many tellers are left, its calls, and who holds their count.
-fn play_counted(
+// Whether this is left behind a play of four steps to a teller that counts.
+fn leaves_counted(
     alloc: Global,
     w: &Written,
     meaning: &Meaning,
     most: u32,
-) -> Result<(bool, usize, u32, usize), Fail>
+    calls: &Rc<Cell<u32>>,
+    wanted: Left,
+) -> Result<bool, Fail>
+    requires rules { w.now.rules ≡ ends_nulled }
+    requires sound { IsWritten w.now }
+    requires meaning { IsMeaningOf w.now (meaning_of meaning.now) }
+{
+    let mut tellers = counted(alloc, most, calls)?;
+    let told = play_four(alloc, w, meaning, &mut tellers);
+    let (left, made, holders) = (tellers.len(), calls.get(), Rc::strong_count(calls));
+    drop(tellers);
+    Ok((told?, left, made, holders) == wanted)
+}
+
+fn is_left(
+    alloc: Global,
+    w: &Written,
+    meaning: &Meaning,
+    most: u32,
+    wanted: Left,
+) -> Result<bool, Fail>
     requires rules { w.now.rules ≡ ends_nulled }
     requires sound { IsWritten w.now }
     requires meaning { IsMeaningOf w.now (meaning_of meaning.now) }
 {
     let calls = Rc::new(alloc, Cell::new(0))?;
-    let mut tellers = counted(alloc, most, &calls)?;
-    let told = play_four(alloc, w, meaning, &mut tellers)?;
-    Ok((told, tellers.len(), calls.get(), Rc::strong_count(&calls)))
+    let left = leaves_counted(alloc, w, meaning, most, &calls, wanted);
+    drop(calls);
+    left
 }
 
 // Whether a play ends with the first call that is refused, whichever it is.
@@ -276,17 +334,26 @@ fn ends_refused(alloc: Global, w: &Written, meaning: &Meaning) -> Result<bool, F
     requires meaning { IsMeaningOf w.now (meaning_of meaning.now) }
 {
     for most in 0..4 {
-        if play_counted(alloc, w, meaning, most)? != (false, 0, most + 1, 1) {
+        if !is_left(alloc, w, meaning, most, (false, 0, most + 1, 1))? {
             return Ok(false);
         }
     }
-    Ok(play_counted(alloc, w, meaning, 4)? == (true, 1, 4, 2))
+    is_left(alloc, w, meaning, 4, (true, 1, 4, 2))
+}
+
+fn each_refused(alloc: Global, w: &Written) -> Result<bool, Fail>
+    requires rules { w.now.rules ≡ ends_nulled }
+    requires sound { IsWritten w.now }
+{
+    let meaning = all_described(alloc)?;
+    let ends = ends_refused(alloc, w, &meaning);
+    drop(meaning);
+    ends
 }
 
 #[test]
 fn each_refused_call_ends_the_play(rt: HostRuntime) -> Result<(), Fail> {
     let w = nulled_at_the_end(rt.alloc())?;
-    let meaning = all_described(rt.alloc())?;
-    assert!(rt; ends_refused(rt.alloc(), &w, &meaning)?);
+    assert!(rt; each_refused(rt.alloc(), &w)?);
     Ok(())
 }

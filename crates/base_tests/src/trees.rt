@@ -1,9 +1,83 @@
-//! Trees as lines and JSON, and where two of them differ.
-use std::alloc::Global;
+//! Values as JSON, and where two trees differ.
+use std::alloc::{AllocError, Global};
 use std::test::Fail;
 use tree_text::{
-    Difference, first_difference, nodes_of, push_difference, push_indented, push_json, read_value,
+    Difference, Node, Part, ReadRefusal, first_difference, nodes_of, push_difference, push_json,
+    read_value,
 };
+
+fn json_is(alloc: Global, parts: &[Part], wanted: &str) -> Result<bool, AllocError> {
+    let mut out = String::new(alloc);
+    push_json(parts, &mut out)?;
+    Ok(out.as_str() == wanted)
+}
+
+// Whether a value is this JSON.
+fn is_json(alloc: Global, text: &str, wanted: &str) -> Result<bool, ReadRefusal> {
+    let parts = read_value(alloc, text)?;
+    let same = json_is(alloc, &parts, wanted);
+    drop(parts);
+    Ok(same?)
+}
+
+#[test]
+fn a_value_is_json(rt: HostRuntime) -> Result<(), Fail> {
+    let value = "[[\"n\"],undef,[],7,\"a\\n\\\"\\$\\@\\x{00}\u{e4}\"]";
+    let json = "[[\"n\"],null,[],7,\"a\\n\\\"$@\\u0000\u{e4}\"]\n";
+    assert!(rt; is_json(rt.alloc(), value, json)?);
+    Ok(())
+}
+
+fn put_difference(
+    one: &[Node<'_>],
+    other: &[Node<'_>],
+    out: &mut String,
+) -> Result<(), AllocError> {
+    match first_difference(one, other) {
+        Difference::Same => out.push_str("the same"),
+        Difference::Within(at) => push_difference(one, other, at, out),
+        Difference::Apart => out.push_str("nothing in common"),
+    }
+}
+
+fn nodes_differ(
+    alloc: Global,
+    one: &[Node<'_>],
+    other: &[Node<'_>],
+    wanted: &str,
+) -> Result<bool, AllocError> {
+    let mut out = String::new(alloc);
+    put_difference(one, other, &mut out)?;
+    Ok(out.as_str() == wanted)
+}
+
+fn parts_differ(
+    alloc: Global,
+    one: &[Part],
+    other: &[Part],
+    wanted: &str,
+) -> Result<bool, AllocError> {
+    let one = nodes_of(alloc, one)?;
+    let other = nodes_of(alloc, other)?;
+    nodes_differ(alloc, &one, &other, wanted)
+}
+
+fn differs(alloc: Global, one: &[Part], other: &str, wanted: &str) -> Result<bool, ReadRefusal> {
+    let other = read_value(alloc, other)?;
+    let told = parts_differ(alloc, one, &other, wanted);
+    drop(other);
+    Ok(told?)
+}
+
+// Two values, and what is told of how they differ.
+type Row = (&'static str, &'static str, &'static str);
+
+fn is_told(alloc: Global, row: &Row) -> Result<bool, ReadRefusal> {
+    let one = read_value(alloc, row.0)?;
+    let told = differs(alloc, &one, row.1, row.2);
+    drop(one);
+    told
+}
 
 // Both derivations of 1+1+1 by E ::= E '+' E | '1'.
 const LEFT: &str =
@@ -12,91 +86,46 @@ const LEFT: &str =
 const RIGHT: &str =
     "[\"E\",0,[\"E\",1,[\"'1'\",\"1\"]],[\"'+'\",\"+\"],[\"E\",0,[\"E\",1,[\"'1'\",\"1\"]],[\"'+'\",\"+\"],[\"E\",1,[\"'1'\",\"1\"]]]]";
 
-fn indented(alloc: Global, text: &str) -> Result<String, Fail> {
-    let parts = read_value(alloc, text)?;
-    let mut out = String::new(alloc);
-    push_indented(alloc, &nodes_of(alloc, &parts)?, &mut out)?;
-    Ok(out)
-}
-
-fn difference(alloc: Global, one: &str, other: &str) -> Result<String, Fail> {
-    let one = read_value(alloc, one)?;
-    let other = read_value(alloc, other)?;
-    let one = nodes_of(alloc, &one)?;
-    let other = nodes_of(alloc, &other)?;
-    let mut out = String::new(alloc);
-    match first_difference(&one, &other) {
-        Difference::Same => out.push_str("the same")?,
-        Difference::Within(at) => push_difference(&one, &other, at, &mut out)?,
-        Difference::Apart => out.push_str("nothing in common")?,
-    }
-    Ok(out)
-}
-
-#[test]
-fn a_tree_is_indented(rt: HostRuntime) -> Result<(), Fail> {
-    let lines = indented(rt.alloc(), LEFT)?;
-    assert_eq!(rt;
-        lines.as_str(),
-        "E 0\n├ E 0\n│ ├ E 1\n│ │ └ '1' \"1\"\n│ ├ '+' \"+\"\n│ └ E 1\n│   └ '1' \"1\"\n├ '+' \"+\"\n└ E 1\n  └ '1' \"1\"\n"
-    );
-    Ok(())
-}
-
-#[test]
-fn other_values_are_indented(rt: HostRuntime) -> Result<(), Fail> {
-    let lines = indented(rt.alloc(), "[[\"n\"],undef,[],7,\"a\\n\\\"\"]")?;
-    assert_eq!(rt;
-        lines.as_str(),
-        "[]\n├ n\n├ undef\n├ []\n├ 7\n└ \"a\\n\\\"\"\n"
-    );
-    Ok(())
-}
-
-#[test]
-fn a_value_is_json(rt: HostRuntime) -> Result<(), Fail> {
-    let parts = read_value(
-        rt.alloc(),
-        "[[\"n\"],undef,[],7,\"a\\n\\\"\\$\\@\\x{00}\u{e4}\"]",
-    )?;
-    let mut out = String::new(rt.alloc());
-    push_json(&parts, &mut out)?;
-    assert_eq!(rt;
-        out.as_str(),
-        "[[\"n\"],null,[],7,\"a\\n\\\"$@\\u0000\u{e4}\"]\n"
-    );
-    Ok(())
-}
+const ROWS: &[Row] = &[
+    (
+        LEFT,
+        RIGHT,
+        "E from 0 to 5: rule 0 (3+1+1), rule 0 (1+1+3)\n",
+    ),
+    (LEFT, LEFT, "the same"),
+    ("[\"A\",0]", "[\"B\",0]", "nothing in common"),
+];
 
 #[test]
 fn differences_are_told(rt: HostRuntime) -> Result<(), Fail> {
-    let told = difference(rt.alloc(), LEFT, RIGHT)?;
-    let wanted = "E from 0 to 5: rule 0 (3+1+1), rule 0 (1+1+3)\n";
-    assert_eq!(rt; told.as_str(), wanted);
-    let told = difference(rt.alloc(), LEFT, LEFT)?;
-    assert_eq!(rt; told.as_str(), "the same");
-    let told = difference(rt.alloc(), "[\"A\",0]", "[\"B\",0]")?;
-    assert_eq!(rt; told.as_str(), "nothing in common");
+    for row in ROWS {
+        assert!(rt; is_told(rt.alloc(), row)?);
+    }
     Ok(())
 }
 
 // The second B, over the third token, is by another rule; the first, and what is above both, look the same.
+const SMALLEST: &Row = &(
+    "[\"S\",0,[\"A\",1,[\"B\",2,[\"x\",\"x\"]],[\"y\",\"y\"]],[\"B\",2,[\"x\",\"x\"]]]",
+    "[\"S\",0,[\"A\",1,[\"B\",2,[\"x\",\"x\"]],[\"y\",\"y\"]],[\"B\",3,[\"C\",4,[\"x\",\"x\"]]]]",
+    "B from 2 to 3: rule 2 (1), rule 3 (1)\n",
+);
+
 #[test]
 fn the_smallest_node_is_told(rt: HostRuntime) -> Result<(), Fail> {
-    let one = "[\"S\",0,[\"A\",1,[\"B\",2,[\"x\",\"x\"]],[\"y\",\"y\"]],[\"B\",2,[\"x\",\"x\"]]]";
-    let other =
-        "[\"S\",0,[\"A\",1,[\"B\",2,[\"x\",\"x\"]],[\"y\",\"y\"]],[\"B\",3,[\"C\",4,[\"x\",\"x\"]]]]";
-    let told = difference(rt.alloc(), one, other)?;
-    assert_eq!(rt; told.as_str(), "B from 2 to 3: rule 2 (1), rule 3 (1)\n");
+    assert!(rt; is_told(rt.alloc(), SMALLEST)?);
     Ok(())
 }
 
 // One more nulled part at the end: the list is the same to its last token.
+const ONE_MORE: &Row = &(
+    "[\"S\",0,[\"L\",1,[\"x\",\"x\"]],[\"y\",\"y\"]]",
+    "[\"S\",0,[\"L\",1,[\"x\",\"x\"],[\"n\"]],[\"y\",\"y\"]]",
+    "L from 0 to 1: rule 1 (1), rule 1 (1+0)\n",
+);
+
 #[test]
 fn a_part_more_is_told(rt: HostRuntime) -> Result<(), Fail> {
-    let one = "[\"S\",0,[\"L\",1,[\"x\",\"x\"]],[\"y\",\"y\"]]";
-    let other = "[\"S\",0,[\"L\",1,[\"x\",\"x\"],[\"n\"]],[\"y\",\"y\"]]";
-    let told = difference(rt.alloc(), one, other)?;
-    assert_eq!(rt; told.as_str(), "L from 0 to 1: rule 1 (1), rule 1 (1+0)\n");
+    assert!(rt; is_told(rt.alloc(), ONE_MORE)?);
     Ok(())
 }

@@ -10,14 +10,14 @@ use grammar_core::{Assoc, CoreRefusal, Flat, Rule, RuleId, SymbolId, Written};
 use std::alloc::Global;
 
 /// A left side and its parts, by the numbers of symbols.
-pub type Line = (u32, &'static [u32]);
+pub(crate) type Line = (u32, &'static [u32]);
 
 /// The group of an operator, the loosest being 0, of so many, and how it associates.
 #[derive(Clone, Copy)]
-pub struct Group {
-    pub level: u32,
-    pub groups: u32,
-    pub assoc: Assoc,
+pub(crate) struct Group {
+    pub(crate) level: u32,
+    pub(crate) groups: u32,
+    pub(crate) assoc: Assoc,
 }
 
 /// The one group of rules that are no operators.
@@ -29,10 +29,10 @@ const ALONE: Group = Group {
 
 /// The names of the symbols, of which the first is the start, the rules, and the groups of the rules where they are operators.
 #[derive(Clone, Copy)]
-pub struct Language {
-    pub names: &'static [&'static str],
-    pub lines: &'static [Line],
-    pub groups: &'static [Group],
+pub(crate) struct Language {
+    pub(crate) names: &'static [&'static str],
+    pub(crate) lines: &'static [Line],
+    pub(crate) groups: &'static [Group],
 }
 
 impl Language {
@@ -61,7 +61,7 @@ fn add_line(
 }
 
 /// The grammar of the rules.
-pub fn written_of(alloc: Global, language: &Language) -> Result<Written, CoreRefusal> {
+pub(crate) fn written_of(alloc: Global, language: &Language) -> Result<Written, CoreRefusal> {
     let mut w = Written::new(alloc);
     for name in language.names {
         w.symbol_new(name)?;
@@ -74,7 +74,7 @@ pub fn written_of(alloc: Global, language: &Language) -> Result<Written, CoreRef
 }
 
 /// The flat grammar of a grammar that passes the check.
-pub fn flat_of(alloc: Global, w: &Written) -> Result<Flat, anyhow::Error>
+pub(crate) fn flat_of(alloc: Global, w: &Written) -> Result<Flat, anyhow::Error>
     ensures checked { OnOk result (IsChecked w.now) }
     ensures flat { IfOk result (λ f. IsFlatOf f w.now) }
     ensures start { IfOk result (λ f. 0 < length f.tops) }

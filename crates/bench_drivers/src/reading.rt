@@ -24,8 +24,8 @@ const SUM: Language = Language {
     groups: &[],
 };
 
-/// E -> E '+' E | N
-pub const TWICE: Language = Language {
+// E -> E '+' E | N
+const TWICE: Language = Language {
     names: &["E", "N", "+"],
     lines: &[(0, &[0, 2, 0]), (0, &[1])],
     groups: &[],
@@ -131,7 +131,7 @@ const TERMS: &[u32] = &[1, 8, 1, 6, 5, 1, 4, 1, 5, 2, 1, 7, 1, 3, 8];
 
 /// What is read.
 #[derive(Clone, Copy)]
-pub enum Word {
+pub(crate) enum Word {
     Left,
     Right,
     Sum,
@@ -152,7 +152,7 @@ struct Begun {
 
 impl Word {
     /// The word with this name.
-    pub fn named(name: &str) -> Result<Word, anyhow::Error> {
+    pub(crate) fn named(name: &str) -> Result<Word, anyhow::Error> {
         match name {
             "left" => Ok(Word::Left),
             "right" => Ok(Word::Right),
@@ -172,7 +172,7 @@ impl Word {
     }
 
     /// The grammar that is read for the word.
-    pub fn language(self) -> Language {
+    pub(crate) fn language(self) -> Language {
         match self {
             Word::Left => LEFT,
             Word::Right => RIGHT,
@@ -186,7 +186,7 @@ impl Word {
     }
 
     /// How many places are gone over, for a count of tokens, of operands, of objects, of arrays, of brackets, of rounds of operators or of places.
-    pub fn places(self, count: u32) -> u32 {
+    pub(crate) fn places(self, count: u32) -> u32 {
         match self {
             Word::Left | Word::Right | Word::Sum | Word::Long => count,
             Word::Twice => count.saturating_mul(2).saturating_sub(1),
@@ -247,7 +247,7 @@ fn read<L: Ledger>(
 }
 
 /// Goes over so many places.
-pub fn read_all<L: Ledger>(
+pub(crate) fn read_all<L: Ledger>(
     recce: &mut Recce<'_>,
     word: Word,
     count: u32,
@@ -262,7 +262,7 @@ pub fn read_all<L: Ledger>(
 }
 
 /// How many items all sets have.
-pub fn item_count(recce: &Recce<'_>) -> usize {
+pub(crate) fn item_count(recce: &Recce<'_>) -> usize {
     let mut count: usize = 0;
     for j in 0..=recce.place() {
         count = count.saturating_add(recce.kept(j).len());

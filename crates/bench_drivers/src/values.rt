@@ -18,7 +18,7 @@ fn put_numbers(alloc: Global, pool: &mut Pool, count: u32) -> Result<ValueId, No
 }
 
 /// Puts the list, appends its text, and prints its length, and in which time.
-pub fn write_values(rt: &HostRuntime, count: u32, timed: bool) -> Result<(), anyhow::Error> {
+pub(crate) fn write_values(rt: &HostRuntime, count: u32, timed: bool) -> Result<(), anyhow::Error> {
     let begun = Instant::now(rt)?;
     let mut pool = Pool::new(rt.alloc());
     let list = put_numbers(rt.alloc(), &mut pool, count)?;

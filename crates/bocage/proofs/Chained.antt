@@ -9,13 +9,6 @@ use Rattle.bocage.specs.Walk.{GrowsBy}
 use Rattle.bocage.specs.Chains.{EndsAt, IsChain, AreChained}
 use Rattle.bocage.proofs.Visiting.{longer, still_at, was_at}
 
--- a list that is widened by what stands for none
-pub widened : (xs : List ℕ) (e : ℕ) → get_or (xs ++ 0 ∷ []) e 0 ≡ get_or xs e 0
-widened [] zero = refl
-widened [] (suc e) = refl
-widened (x ∷ xs) zero = refl
-widened (x ∷ xs) (suc e) = widened xs e
-
 pub none_at : (e : ℕ) → get_or {A = ℕ} [] e 0 ≡ 0
 none_at zero = refl
 none_at (suc e) = refl

@@ -55,14 +55,14 @@ module _ (k : Known) (knows : Knows k) (key : NodeKey) (used : IsUsedIn k.writte
             tree = Leaf symbol m k.end;
             cause = Token (edge.symbol, ap (slice_get k.recce.now.flat.symbols) (sym s) ∙ is.symbol, subst (λ (y : HeldEdge). Contains k.recce.now.edges y) (λ j. record { symbol = edge.symbol; from = from j; to = (sym is.end ∙ end) j }) h);
           }
-      go end (inr (place, item, le, h, is)) =
+      go end (inr (earleme, item, le, h, is)) =
           let a = is.start in
           let b = is.end in
           let c = is.spans in
           let origin : item.origin ≡ m = omega arith in
-          let same : place ≡ k.end = sym is.end ∙ end in
+          let same : earleme ≡ k.end = sym is.end ∙ end in
           let f = (predecessor_found m (omega arith)).0 at in
-          let g = (in_full k.recce.now knows.is place item).0 h in
+          let g = (in_full k.recce.now knows.is earleme item).0 h in
           record {
             children = f.children;
             predecessor = f.spans;
@@ -70,7 +70,7 @@ module _ (k : Known) (knows : Knows k) (key : NodeKey) (used : IsUsedIn k.writte
             cause = Rule g.is_rule (sym is.symbol ∙ s) (omega arith)
                 (subst (λ d. Spans k.recce.now.flat (edges_of k.recce.now) item.rule d m k.end g.children) is.dot
                 (subst (λ q. Spans k.recce.now.flat (edges_of k.recce.now) item.rule item.dot m q g.children) same
-                (subst (λ q. Spans k.recce.now.flat (edges_of k.recce.now) item.rule item.dot q place g.children) origin g.spans)));
+                (subst (λ q. Spans k.recce.now.flat (edges_of k.recce.now) item.rule item.dot q earleme g.children) origin g.spans)));
           }
 
   split_predecessor : (F : List NodeKey) (m : ℕ) → IsSplit (seen_by k F) key.rule (key.dot - 1) key.origin symbol m k.end → Contains (set_at k.recce.now m) (predecessor_of_key key)

@@ -187,21 +187,6 @@ module _ (k : Known) (predecessor : Item) (symbol : ℕ) where
     noted = g.noted;
   }
 
-  pub lists_same : (D D' : ℕ → Type 0) (old new : Found) → Lists k predecessor symbol D old new → ((m : ℕ) → Contains (set_at k.recce.now m) predecessor → D m ↔ D' m) → Lists k predecessor symbol D' old new
-  lists_same D D' old new h iff = record {
-    rows = h.rows;
-    is = h.is;
-    listed = record {
-      exact = λ m. ((λ i. let (d, s) = (h.listed.exact m).0 i in ((iff m s).0 d, s)), (λ (d, s). (h.listed.exact m).1 ((iff m s).1 d, s)));
-      sorted = h.listed.sorted;
-      each = h.listed.each;
-    };
-    keys = h.keys;
-    more = h.more;
-    wholes = h.wholes;
-    noted = h.noted;
-  }
-
 -- THE NODES OF WHOLE RULES
 
 pub keys_both : (g : FlatGrammar) (ps qs : List Part) → whole_keys g (ps ++ qs) ≡ whole_keys g ps ++ whole_keys g qs

@@ -45,7 +45,7 @@ long_part k knows p h = go ((knows.gathered.parts p).0 h).0
   where
     go : IsPart k.written.now k.ranking k.recce.now p → 0 < p.length
     go (inl (e, i, is)) = let f = knows.is.forward e i in let s = is.start in let t = is.end in omega arith
-    go (inr (place, item, le, i, is)) = let f = is.spans in let s = is.start in omega arith
+    go (inr (earleme, item, le, i, is)) = let f = is.spans in let s = is.start in omega arith
 
 -- a group begins before the end
 pub group_before : (k : Known) → Knows k → (g : Group) → Contains k.groups.now g → (p : Part) × Contains k.parts.now p × (p.symbol ≡ g.symbol) × (g.start + p.length ≡ k.end) × (g.start < k.end)

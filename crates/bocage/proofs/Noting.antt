@@ -1,6 +1,5 @@
 -- What is noted of groups.
-use Rattle.std.proofs.Common.{◌≡◌, ◌≢◌, ◌⊎◌, inl, inr, ℕ, zero, suc, ◌++◌, Contains, List, [], ◌∷◌, Option, Some, None, IfSome, length, slice_get, refl, sym, ◌∙◌, ap, subst, arith}
-use Rattle.std.proofs.Math.ListN.{set}
+use Rattle.std.proofs.Common.{◌≡◌, ◌⊎◌, inl, inr, ℕ, ◌++◌, Contains, List, [], Some, length, slice_get, refl, sym, ◌∙◌, ap, subst, arith}
 use Rattle.std.proofs.lemmas.List.{append-nil, length-append}
 use Rattle.recognizer_model.specs.declared.NodeKey.{NodeKey}
 use Rattle.recognizer_model.specs.Flat.{FlatGrammar}
@@ -34,25 +33,6 @@ held_more g parts keys mk wholes mw (row.Wholes first' end') (key, whole, a, b, 
 held_grown : (g : FlatGrammar) (parts : List Part) (keys keys' mk : List NodeKey) (wholes wholes' mw : List ℕ) (cause : CauseRow) → keys' ≡ keys ++ mk → wholes' ≡ wholes ++ mw → IsCauseHeld g parts keys wholes cause → IsCauseHeld g parts keys' wholes' cause
 held_grown g parts keys keys' mk wholes wholes' mw cause ek ew h =
     subst (λ z. IsCauseHeld g parts z wholes' cause) (sym ek) (subst (λ z. IsCauseHeld g parts (keys ++ mk) z cause) (sym ew) (held_more g parts keys mk wholes mw cause h))
-
--- where nothing is noted, one more place has nothing noted
-pub none_pushed : (xs : List (Option CauseRow)) → ((n : ℕ) (cause : CauseRow) → slice_get xs n ≢ Some (Some cause)) → (n : ℕ) (cause : CauseRow) → slice_get (xs ++ None ∷ []) n ≢ Some (Some cause)
-none_pushed [] h zero cause e = absurd (cc)
-none_pushed [] h (suc n) cause e = absurd (cc)
-none_pushed (x ∷ xs) h zero cause e = h 0 cause e
-none_pushed (x ∷ xs) h (suc n) cause e = none_pushed xs (λ m l. h (suc m) l) n cause e
-
--- one place is noted
-pub set_noted : (xs : List (Option CauseRow)) (at n : ℕ) (cause held : CauseRow) → slice_get (set xs at (Some cause)) n ≡ Some (Some held) → (slice_get xs n ≡ Some (Some held)) ⊎ ((n ≡ at) × (held ≡ cause))
-set_noted [] at n cause held e = inl e
-set_noted (x ∷ xs) zero zero cause held e = let q : held ≡ cause = cc in inr (refl, q)
-set_noted (x ∷ xs) zero (suc n) cause held e = inl e
-set_noted (x ∷ xs) (suc at) zero cause held e = inl e
-set_noted (x ∷ xs) (suc at) (suc n) cause held e = elim (set_noted xs at n cause held e) [ inl a ↦ inl a | inr (a, b) ↦ inr (ap suc a, b) ]
-
-pub noted_is : (xs : List (Option CauseRow)) (at : ℕ) (noted : Option CauseRow) → slice_get xs at ≡ Some noted → IfSome noted (λ cause. slice_get xs at ≡ Some (Some cause))
-noted_is xs at None e = tt
-noted_is xs at (Some cause) e = e
 
 module _ (k : Known) where
   -- what is noted stays so where more is found

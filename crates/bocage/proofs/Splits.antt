@@ -1,6 +1,5 @@
 -- What the sets of a recognizer say of derivations.
 use Rattle.std.proofs.Common.{◌≡◌, ℕ, ◌<◌, ◌≤◌, ◌↔◌, Contains, Some, length, refl, arith}
-use Rattle.std.proofs.lemmas.Option.{slice_get-get_or}
 use Rattle.grammar_model.specs.Trees.{Tree, Children}
 use Rattle.recognizer_model.specs.declared.Item.{Item}
 use Rattle.recognizer_model.specs.declared.NodeKey.{NodeKey}
@@ -50,11 +49,6 @@ module _ (r : Recognizer) (is : IsRecognizer r) where
   met_within (Before m s e t) = let w = met_within m in let b = derives_forward t in (spans_within s, spans_forward s, (let x = w.2 in omega arith))
   met_within (Last m s e rule lt s' best) = let w = met_within m in (spans_within s', spans_forward s', w.2)
 
-  pub met_spans : {allowed : Allowed} {rule d p q : ℕ} → IsMet r.flat (edges_of r) allowed (top_of r) (earleme_of r) rule d p q → (cs : Children) × Spans r.flat (edges_of r) rule d p q cs
-  met_spans (Whole {cs = cs} lt s) = (cs, s)
-  met_spans (Before {cs = cs} m s e t) = (cs, s)
-  met_spans (Last {cs' = cs'} m s e rule lt s' best) = (cs', s')
-
 -- where a used node lies
 pub record IsKeyWithin (r : Recognizer) (n : NodeKey) : Type 0 where
   pub some : 0 < n.dot
@@ -80,11 +74,3 @@ module _ (w : Grammar) (ranking : Ranking) (r : Recognizer) (read : IsRead w r) 
       let inside = met_within r read.is m in
       let (rule, stands) = met_stands r read.is m in
       record { some = lt; is_rule = rule; stands = stands; parts = inside.0; forward = inside.1; inside = inside.2 }
-
-  -- a used node that waits is one of a kept item
-  pub used_waits : (n : NodeKey) → IsUsedIn w ranking r n → n.dot < length (rhs_of r.flat n.rule) → Contains (set_at r n.end) (record { rule = n.rule; dot = n.dot; origin = n.origin })
-  used_waits n u lt =
-      let m = ((used_met n).0 u).1 in
-      let inside = used_within n u in
-      let (cs, s) = met_spans r read.is m in
-      (waits_in r read.is n.end (record { rule = n.rule; dot = n.dot; origin = n.origin }) _ inside.inside (slice_get-get_or (rhs_of r.flat n.rule) n.dot 0 lt)).1 (record { is_rule = inside.is_rule; may_stand = inside.stands; children = cs; spans = s })

@@ -156,10 +156,10 @@ fits_part k knows p h = go ((knows.gathered.parts p).0 h).0
   where
     go : IsPart k.written.now k.ranking k.recce.now p → FitsPart k.recce.now.flat p
     go (inl (e, i, is)) = let s = is.start in (omega arith, subst (λ o. HasRule k.recce.now.flat o) (sym is.whole) tt)
-    go (inr (place, item, le, i, is)) =
+    go (inr (earleme, item, le, i, is)) =
         let s = is.start in
         let e = is.end in
-        (omega arith, subst (λ o. HasRule k.recce.now.flat o) (sym is.whole) ((in_full k.recce.now knows.is place item).0 i).is_rule)
+        (omega arith, subst (λ o. HasRule k.recce.now.flat o) (sym is.whole) ((in_full k.recce.now knows.is earleme item).0 i).is_rule)
 
 -- a number at a place is that of the key there
 number_at : (keys : List NodeKey) (ns : List ℕ) (f : ℕ → NodeKey) (rs : List ℕ) → AreNumbers keys ns (map f rs) → (i n r : ℕ) → slice_get ns i ≡ Some n → slice_get rs i ≡ Some r → slice_get keys n ≡ Some (f r)
@@ -197,24 +197,24 @@ module _ (k : Known) (knows : Knows k) (predecessor : Item) (parts : List Part) 
           let s = is.start in
           let from : e.from ≡ m = omega arith in
           (e.symbol, is.symbol, subst (λ (z : HeldEdge). Contains k.recce.now.edges z) (λ i. record { symbol = e.symbol; from = from i; to = (sym is.end ∙ end) i }) h)
-      go end (inr (place, item, le, h, is)) = let w = is.whole in absurd (cc)
+      go end (inr (earleme, item, le, h, is)) = let w = is.whole in absurd (cc)
 
   tidy_part : (p : Part) → p.end ≡ k.end → p.symbol ≡ (part_at parts 0).symbol → p.length ≡ (part_at parts 0).length →
-      (place : ℕ) (item : Item) → InSet k.recce.now.flat (edges_of k.recce.now) (top_of k.recce.now) place item → IsWholeOf k.written.now k.ranking k.recce.now.flat place item p →
+      (earleme : ℕ) (item : Item) → InSet k.recce.now.flat (edges_of k.recce.now) (top_of k.recce.now) earleme item → IsWholeOf k.written.now k.ranking k.recce.now.flat earleme item p →
       IsTidy k (part_at parts 0).symbol m k.end (part_at parts 0).length p
-  tidy_part p e s l place item h is =
-      let f = (in_full k.recce.now knows.is place item).0 h in
+  tidy_part p e s l earleme item h is =
+      let f = (in_full k.recce.now knows.is earleme item).0 h in
       let a = is.start in
       let b = is.end in
       let origin : item.origin ≡ m = omega arith in
-      let same : place ≡ k.end = sym is.end ∙ e in
+      let same : earleme ≡ k.end = sym is.end ∙ e in
       record {
         rule = item.rule;
         is_rule = f.is_rule;
         left = sym is.symbol ∙ s;
         whole = is.whole;
         in_place = subst (λ z. InSet k.recce.now.flat (edges_of k.recce.now) (top_of k.recce.now) z (record { rule = item.rule; dot = length (rhs_of k.recce.now.flat item.rule); origin = m })) same
-            (subst (λ (z : Item). InSet k.recce.now.flat (edges_of k.recce.now) (top_of k.recce.now) place z) (λ i. record { rule = item.rule; dot = is.dot i; origin = origin i }) h);
+            (subst (λ (z : Item). InSet k.recce.now.flat (edges_of k.recce.now) (top_of k.recce.now) earleme z) (λ i. record { rule = item.rule; dot = is.dot i; origin = origin i }) h);
         end_is = e;
         symbol_is = s;
         length_is = l;
@@ -262,7 +262,7 @@ module _ (k : Known) (knows : Knows k) (predecessor : Item) (parts : List Part) 
       where
         go : (part_at parts 0).end ≡ k.end → IsPart k.written.now k.ranking k.recce.now (part_at parts 0) → IsTidy k (part_at parts 0).symbol m k.end (part_at parts 0).length (part_at parts 0)
         go end (inl (e, h, is)) = let w = is.whole in absurd (cc)
-        go end (inr (place, item, le, h, is)) = tidy_part (part_at parts 0) end refl refl place item h is
+        go end (inr (earleme, item, le, h, is)) = tidy_part (part_at parts 0) end refl refl earleme item h is
 
     no_edge : (t : ℕ) → slice_get k.recce.now.flat.symbols (part_at parts 0).symbol ≡ Some (Terminal t) → ⊥
     no_edge t e = knows.is.flat.no_rules first_tidy.rule first_tidy.is_rule (t, ap (slice_get k.recce.now.flat.symbols) first_tidy.left ∙ e)
@@ -272,7 +272,7 @@ module _ (k : Known) (knows : Knows k) (predecessor : Item) (parts : List Part) 
       where
         go : p.end ≡ k.end → IsPart k.written.now k.ranking k.recce.now p → IsTidy k (part_at parts 0).symbol m k.end (part_at parts 0).length p
         go end (inl (e, i, is)) = absurd (no_edge e.symbol (ap (slice_get k.recce.now.flat.symbols) (sym ((span.exact p).0 h).1) ∙ is.symbol))
-        go end (inr (place, item, le, i, is)) = let g = (span.exact p).0 h in tidy_part p end g.1 g.2 place item i is
+        go end (inr (earleme, item, le, i, is)) = let g = (span.exact p).0 h in tidy_part p end g.1 g.2 earleme item i is
 
     pub tidy_spans : (p : Part) (t : IsTidy k (part_at parts 0).symbol m k.end (part_at parts 0).length p) →
         (cs : Children) × Spans k.recce.now.flat (edges_of k.recce.now) t.rule (length (rhs_of k.recce.now.flat t.rule)) m k.end cs
@@ -283,7 +283,7 @@ module _ (k : Known) (knows : Knows k) (predecessor : Item) (parts : List Part) 
       where
         go : (part_at parts 0).end ≡ k.end → IsPart k.written.now k.ranking k.recce.now (part_at parts 0) → m < k.end
         go end (inl (e, h, is)) = let w = is.whole in absurd (cc)
-        go end (inr (place, item, le, h, is)) = let a = is.start in let b = is.end in let c = is.spans in omega arith
+        go end (inr (earleme, item, le, h, is)) = let a = is.start in let b = is.end in let c = is.spans in omega arith
 
     module _ (keys : List NodeKey) where
       rule_over : Contains (set_at k.recce.now m) predecessor → (r : ℕ) → Contains (rules_of parts) r → IsWholeOver (seen_by k keys) (part_at parts 0).symbol m k.end r × allowed_by k.written.now k.ranking k.recce.now.flat (edges_of k.recce.now) r m k.end
@@ -350,9 +350,9 @@ module _ (k : Known) (knows : Knows k) (predecessor : Item) (parts : List Part) 
       go : (p : Part) → Contains parts p → (key : RuleKey) → p.whole ≡ Some key → n ≡ record { rule = key.rule; dot = length (rhs_of k.recce.now.flat key.rule); origin = p.end - p.length; end = p.end } →
           p.end ≡ k.end → p.length + k.least ≤ k.end → IsPart k.written.now k.ranking k.recce.now p → IsNew k n
       go p i key e q end bound (inl (f, h, is)) = let w = is.whole in absurd (cc)
-      go p i key e q end bound (inr (place, item, le', h, is)) =
+      go p i key e q end bound (inr (earleme, item, le', h, is)) =
           let g = (span.exact p).0 i in
-          let t = tidy_part p end g.1 g.2 place item h is in
+          let t = tidy_part p end g.1 g.2 earleme item h is in
           let s = (in_full k.recce.now knows.is k.end _).0 t.in_place in
           let (tree, derives) = has_tree in
           let one : Some (rule_key_of k.written.now k.ranking k.recce.now.flat t.rule) ≡ Some key = sym t.whole ∙ e in

@@ -54,10 +54,10 @@ fn link(chains: &mut Chains, end: u32) -> Result<(), AllocError>
     ensures sets { OnOk result (slice_index_or chains.new.heads.items end 0 ≡ length chains.new.below.items) }
     ensures same { OnOk result ((e : ℕ) → e ≢ end → slice_index_or chains.new.heads.items e 0 ≡ slice_index_or chains.old.heads.items e 0) }
 {
-    let place = end as usize;
-    widen(&mut chains.heads, place + 1)?;
+    let end = end as usize;
+    widen(&mut chains.heads, end + 1)?;
     let head = number(chains.below.as_slice().len() + 1)?;
-    let below = replace(&mut chains.heads, place, head);
+    let below = replace(&mut chains.heads, end, head);
     chains.below.push(below)?;
     Ok(())
 }

@@ -219,6 +219,29 @@ fn gather(
     list_joins(recce, least, &work.groups, &mut work.joins)
 }
 
+// Finds the alternatives of the nodes that are given, which are the first that end here, and of all that are met here.
+fn visit_gathered<'a>(
+    known: &Known<'_>,
+    arena: &'a Bump,
+    nodes: &[usize],
+    first: usize,
+    found: &mut Found,
+    table: &mut Vec<&'a [AlternativeRow]>,
+) -> Result<(), AllocError>
+    requires knows { Knows known.now }
+    requires going { IsGoing known.now.written.now known.now.ranking known.now.recce.now known.now.end first found.old (map (λ r. r.now) table.old.items) }
+    requires nodes { (n : ℕ) → Contains nodes.now n ↔ ((n < first) × EndsAt found.old.keys.keys known.now.end n) }
+    requires least { (n : ℕ) (key : TheKey) → Contains nodes.now n → slice_get found.old.keys.keys n ≡ Some key → known.now.least ≤ key.origin }
+    requires whole { known.now.end ≡ earleme_of known.now.recce.now → known.now.least ≡ 0 }
+    ensures visited { OnOk result (AreVisited known.now.written.now known.now.ranking known.now.recce.now known.now.end found.new (map (λ r. r.now) table.new.items)) }
+    ensures grows { OnOk result (GrowsBy (IsUsedIn known.now.written.now known.now.ranking known.now.recce.now) found.old.keys.keys found.new.keys.keys) }
+{
+    forget(known.groups.len(), &mut found.causes)?;
+    visit_listed(known, arena, nodes, found, table)?;
+    visit_new(known, arena, first, found, table)?;
+    Ok(())
+}
+
 // Finds the alternatives of all nodes that end at a place: those of the first ones that do, and all that are met here. They begin at
 // `least` or behind it, if it is no greater than the origin of one of the first.
 fn visit_from<'a>(
@@ -256,10 +279,7 @@ fn visit_from<'a>(
         groups: &work.groups,
         joins: &work.joins,
     };
-    forget(work.groups.as_slice().len(), &mut found.causes)?;
-    visit_listed(&known, arena, &work.nodes, found, table)?;
-    visit_new(&known, arena, first, found, table)?;
-    Ok(())
+    visit_gathered(&known, arena, &work.nodes, first, found, table)
 }
 
 // Finds the alternatives of all nodes that end at a place.
@@ -323,14 +343,14 @@ pub fn walk<'a, L: Ledger>(
 {
     let mut table = Vec::new(alloc);
     let mut chains = new_chains(alloc);
-    let place = recce.place();
+    let earleme = recce.place();
     visit_end(
         alloc,
         recce,
         w,
         ranking,
         arena,
-        place,
+        earleme,
         0,
         &mut chains,
         found,
@@ -338,9 +358,9 @@ pub fn walk<'a, L: Ledger>(
         work,
         steps,
     )?;
-    for back in 0..place {
+    for back in 0..earleme {
         let first = found.keys.as_slice().len();
-        let end = place - 1 - back;
+        let end = earleme - 1 - back;
         visit_end(
             alloc,
             recce,

@@ -23,7 +23,7 @@ const DIFFERENCE: RuleId = RuleId(7);
 
 /// The value of a part: a number; or a function or a sign, with its column.
 #[derive(Clone, Copy, Debug)]
-pub enum Value {
+pub(crate) enum Value {
     Number(i64),
     Function { function: Function, column: u32 },
     Sign { column: u32 },
@@ -31,7 +31,7 @@ pub enum Value {
 
 impl Value {
     /// The number, where it is one.
-    pub fn number(self) -> Result<i64, CalculationError> {
+    pub(crate) fn number(self) -> Result<i64, CalculationError> {
         match self {
             Value::Number(number) => Ok(number),
             Value::Function { column, .. } | Value::Sign { column } => {
@@ -43,7 +43,7 @@ impl Value {
 
 /// Arithmetic of whole numbers of 64 bits.
 #[derive(Clone, Copy)]
-pub struct Arithmetic;
+pub(crate) struct Arithmetic;
 
 impl Semantics for Arithmetic {
     type Value = Value;

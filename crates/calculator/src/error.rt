@@ -5,7 +5,7 @@ use thiserror::Error;
 
 /// Why an expression has no value. A column counts characters from 1.
 #[derive(Debug, Drop, Error)]
-pub enum CalculationError {
+pub(crate) enum CalculationError {
     #[error(transparent)]
     Parse(#[from] ParseError),
     #[error("division by zero at column {column}")]

@@ -3,7 +3,7 @@
 use crate::error::CalculationError;
 
 #[derive(Clone, Copy, Debug)]
-pub enum Function {
+pub(crate) enum Function {
     /// `abs`: the number without its sign.
     Magnitude,
     /// `sqrt`: the whole number whose square it is.
@@ -12,7 +12,7 @@ pub enum Function {
 
 impl Function {
     /// The function of that name.
-    pub fn named(name: &str) -> Option<Function> {
+    pub(crate) fn named(name: &str) -> Option<Function> {
         match name {
             "abs" => Some(Function::Magnitude),
             "sqrt" => Some(Function::Root),
@@ -21,7 +21,7 @@ impl Function {
     }
 
     /// What it makes of a number. Its name stands in that column.
-    pub fn of(self, number: i64, column: u32) -> Result<i64, CalculationError> {
+    pub(crate) fn of(self, number: i64, column: u32) -> Result<i64, CalculationError> {
         match self {
             Function::Magnitude => number
                 .checked_abs()

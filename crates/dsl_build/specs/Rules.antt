@@ -1,6 +1,7 @@
 -- A grammar with more rules, and with more symbols.
 use Rattle.std.specs.Prelude.{ℕ, List, ◌++◌}
 use Rattle.grammar_model.specs.Grammar.{WrittenRule, Grammar}
+use Rattle.language_model.specs.Building.{set_names}
 
 abbrev pub with_rules : Grammar → List WrittenRule → Grammar
 with_rules g rules = record { names = g.names; rules = g.rules ++ rules; starts = g.starts }
@@ -10,3 +11,7 @@ with_names g names = record { names = g.names ++ names; rules = g.rules; starts 
 
 abbrev pub with_starts : Grammar → List ℕ → Grammar
 with_starts g starts = record { names = g.names; rules = g.rules; starts = g.starts ++ starts }
+
+-- a grammar of these names, with symbols of so many sets behind them
+abbrev pub grammar_with : (names : List (List ℕ)) (sets : ℕ) → List WrittenRule → (starts : List ℕ) → Grammar
+grammar_with names sets rules starts = record { names = names ++ set_names sets; rules = rules; starts = starts }

@@ -1,12 +1,12 @@
 //! The lexical grammar.
 ghost use Rattle.std.specs.Prelude.{◌≡◌, ◌≤◌, ◌<◌, ◌+◌, ◌++◌, map, flat_map, length, All, IfOk, OnOk};
-ghost use Rattle.language_model.specs.Building.{sets_of, set_names, added_rules};
+ghost use Rattle.language_model.specs.Building.{sets_of, added_rules, numbered_from};
 ghost use Rattle.grammar_core.specs.Written.{rule_of};
-ghost use Rattle.dsl_build.specs.Lexical.{added_rule, added_of};
+ghost use Rattle.dsl_build.specs.Lexical.{added_rule, added_of, lexical_with};
 ghost use Rattle.dsl_build.specs.Ready.{IsReadable, IsWritable};
 
 use crate::placed::is_quote_or_bracket;
-use crate::sets::{numbers_from, push_sets};
+use crate::sets::{numbered, numbers_from, push_sets};
 use crate::writing::written;
 use char_class::CharSet;
 use dsl_faults::Names;
@@ -14,11 +14,11 @@ use dsl_statement::Spelled;
 use grammar_core::{Assoc, Rule, SymbolId, Written, WrittenRule};
 use std::alloc::{AllocError, Global};
 
-/// The lexical grammar, and the sets of its last symbols.
+/// The lexical grammar, and the sets of its last symbols, each with its symbol.
 #[derive(Drop)]
-pub struct Lexical {
+pub(crate) struct Lexical {
     pub grammar: Written,
-    pub sets: Vec<CharSet>,
+    pub sets: Vec<(SymbolId, CharSet)>,
 }
 
 fn push_token_rule(
@@ -90,7 +90,7 @@ fn push_tokens(
 }
 
 /// The grammar of these rules, of the tokens with a place and of these starts.
-pub fn lexical_grammar(
+pub(crate) fn lexical_grammar(
     alloc: Global,
     names: &Names,
     tokens: &[&Spelled],
@@ -100,21 +100,14 @@ pub fn lexical_grammar(
     requires readable { All (λ t. IsReadable t.now) tokens.now }
     requires placed { length tokens.now ≤ length names.now }
     requires room { length names.now + length (flat_map sets_of (map (λ t. t.now) tokens.now)) ≤ 16777215 }
-    requires writable { IsWritable (record {
-      names = names.now ++ set_names (length (flat_map sets_of (map (λ t. t.now) tokens.now)));
-      rules = map rule_of rules.items ++ added_rules 0 (length names.now) (map (λ t. t.now) tokens.now);
-      starts = starts.now;
-    }) }
-    ensures sets { IfOk result (λ l. l.sets.items ≡ flat_map sets_of (map (λ t. t.now) tokens.now)) }
-    ensures grammar { IfOk result (λ l. l.grammar ≡ record {
-      names = names.now ++ set_names (length (flat_map sets_of (map (λ t. t.now) tokens.now)));
-      rules = map rule_of rules.items ++ added_rules 0 (length names.now) (map (λ t. t.now) tokens.now);
-      starts = starts.now;
-    }) }
+    requires writable { IsWritable (lexical_with names.now (map rule_of rules.items) (map (λ t. t.now) tokens.now) starts.now) }
+    ensures sets { IfOk result (λ l. l.sets.items ≡ numbered_from (length names.now) (flat_map sets_of (map (λ t. t.now) tokens.now))) }
+    ensures grammar { IfOk result (λ l. l.grammar ≡ lexical_with names.now (map rule_of rules.items) (map (λ t. t.now) tokens.now) starts.now) }
 {
-    let sets = push_tokens(alloc, &mut rules, names.len(), tokens)?;
-    Ok(Lexical {
-        grammar: written(alloc, names, sets.len(), rules, starts)?,
-        sets,
-    })
+    let first = names.len();
+    let classes = push_tokens(alloc, &mut rules, first, tokens)?;
+    let count = classes.len();
+    let sets = numbered(alloc, first, classes)?;
+    let grammar = written(alloc, names, count, rules, starts)?;
+    Ok(Lexical { grammar, sets })
 }

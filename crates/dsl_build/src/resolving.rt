@@ -11,6 +11,7 @@ use crate::lexemes::lexeme_rows;
 use crate::rules::{Rules, rules_of};
 use crate::symbols::{places_of, start_of, starts_of, symbols_of};
 use crate::texts::Texts;
+use dsl_faults::Named;
 use dsl_statement::Statement;
 use grammar_core::SymbolId;
 use std::alloc::{AllocError, Global};
@@ -34,26 +35,27 @@ pub struct Resolved {
 pub fn resolve(
     alloc: Global,
     statements: &[Statement],
+    named: &Named<'_>,
     texts: &Texts<'_>,
 ) -> Result<Resolved, AllocError>
     requires described { IsDescription (map statement_of statements.now) }
     requires faultless { faults_of (map statement_of statements.now) ≡ [] }
-    requires texts { AreTexts (map statement_of statements.now) texts.now }
+    requires texts { AreTexts (map statement_of statements.now) named.now texts.now }
     ensures { IfOk result (IsResolved (map statement_of statements.now)) }
 {
-    let named = &texts.starts;
+    let starts = &texts.starts;
     let lexical = &texts.placed.names;
     Ok(Resolved {
         rules: rules_of(alloc, statements, &named.symbols, lexical)?,
-        start: starts_of(alloc, &named.symbols, start_of(&texts.uses))?,
-        starts: symbols_of(alloc, lexical, &named.texts)?,
+        start: starts_of(alloc, &named.symbols, start_of(&named.uses))?,
+        starts: symbols_of(alloc, lexical, &starts.texts)?,
         lexemes: lexeme_rows(
             alloc,
             statements,
             &named.symbols,
-            &named.texts,
-            &named.lexemes,
+            &starts.texts,
+            &starts.lexemes,
         )?,
-        discards: places_of(alloc, &named.texts, &named.discards)?,
+        discards: places_of(alloc, &starts.texts, &starts.discards)?,
     })
 }

@@ -1,5 +1,5 @@
 //! The character sets of quoted texts and classes, and their numbers.
-ghost use Rattle.std.specs.Prelude.{◌≡◌, ◌≤◌, ◌+◌, ◌-◌, ◌++◌, length, map, nat_lt, chars, IfOk, OnOk};
+ghost use Rattle.std.specs.Prelude.{◌≡◌, ◌≤◌, ◌+◌, ◌++◌, length, map, nat_lt, chars, IfOk, OnOk};
 ghost use Rattle.language_model.specs.Classes.{class_of, class_of_char};
 ghost use Rattle.language_model.specs.Classes as classes;
 ghost use Rattle.language_model.specs.Building.{sets_of, count_from, numbered_from};
@@ -10,7 +10,7 @@ use crate::quoted::quoted;
 use char_class::{CharSet, ClassRefusal, read_class, set_of_char};
 use dsl_faults::{is_bracket, is_quote, modifier_len};
 use dsl_statement::Spelled;
-use grammar_core::{SymbolId, Written};
+use grammar_core::SymbolId;
 use std::alloc::{AllocError, Global};
 
 fn push_characters(
@@ -75,16 +75,15 @@ pub fn numbers_from(alloc: Global, from: usize, count: usize) -> Result<Vec<Symb
     Ok(numbers)
 }
 
-/// The sets, each with its symbol, which are the last symbols of the grammar.
+/// The sets, each with its symbol. The first one's has this number.
 pub fn numbered(
     alloc: Global,
-    grammar: &Written,
+    first: usize,
     mut sets: Vec<CharSet>,
 ) -> Result<Vec<(SymbolId, CharSet)>, AllocError>
-    requires { length sets.items ≤ length grammar.now.names }
-    ensures { IfOk result (λ numbered. numbered.items ≡ numbered_from (length grammar.now.names - length sets.items) sets.items) }
+    requires { first + length sets.items ≤ 16777215 }
+    ensures { IfOk result (λ numbered. numbered.items ≡ numbered_from first sets.items) }
 {
-    let first = grammar.symbol_count() - sets.len();
     let mut numbered = Vec::new(alloc);
     while let Some(set) = sets.pop() {
         let number = first + sets.len();

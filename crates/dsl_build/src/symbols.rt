@@ -28,7 +28,8 @@ pub fn symbols_of(alloc: Global, names: &Names, texts: &Names) -> Result<Vec<Sym
 {
     let mut symbols = Vec::new(alloc);
     for place in 0..texts.len() {
-        symbols.push(symbol_of(names, texts.text(place)))?;
+        let symbol = symbol_of(names, texts.text(place));
+        symbols.push(symbol)?;
     }
     Ok(symbols)
 }

@@ -8,7 +8,7 @@ ghost use Rattle.grammar_core.specs.declared.refusal.CoreRefusal.TheVariants.{No
 ghost use Rattle.dsl_faults.specs.Texts.{AllNew};
 ghost use Rattle.dsl_build.specs.Lexical.{set_name};
 ghost use Rattle.dsl_build.specs.Ready.{IsGood, IsWritable};
-ghost use Rattle.dsl_build.specs.Rules.{with_rules, with_names, with_starts};
+ghost use Rattle.dsl_build.specs.Rules.{grammar_with, with_rules, with_names, with_starts};
 
 use dsl_faults::Names;
 use grammar_core::{CoreRefusal, Rule, SeqRule, SymbolId, Written, WrittenRule};
@@ -134,6 +134,24 @@ fn add_starts(w: &mut Written, starts: &[SymbolId]) -> Result<(), AllocError>
     Ok(())
 }
 
+// Puts symbols of so many sets, rules and starts behind the names of a grammar that has no more.
+fn fill(
+    alloc: Global,
+    w: &mut Written,
+    sets: usize,
+    rules: Vec<WrittenRule>,
+    starts: &[SymbolId],
+) -> Result<(), AllocError>
+    requires no_rules { w.old.rules ≡ [] }
+    requires no_starts { w.old.starts ≡ [] }
+    requires writable { IsWritable (grammar_with w.old.names sets (map rule_of rules.items) starts.now) }
+    ensures { OnOk result (w.new ≡ grammar_with w.old.names sets (map rule_of rules.items) starts.now) }
+{
+    add_sets(alloc, w, sets)?;
+    add_rules(w, rules)?;
+    add_starts(w, starts)
+}
+
 /// The grammar with these names, symbols of so many sets behind them, and these rules and starts.
 pub fn written(
     alloc: Global,
@@ -142,12 +160,15 @@ pub fn written(
     rules: Vec<WrittenRule>,
     starts: &[SymbolId],
 ) -> Result<Written, AllocError>
-    requires { IsWritable (record { names = names.now ++ set_names sets; rules = map rule_of rules.items; starts = starts.now }) }
-    ensures { IfOk result (λ w. w ≡ record { names = names.now ++ set_names sets; rules = map rule_of rules.items; starts = starts.now }) }
+    requires { IsWritable (grammar_with names.now sets (map rule_of rules.items) starts.now) }
+    ensures { IfOk result (λ w. w ≡ grammar_with names.now sets (map rule_of rules.items) starts.now) }
 {
     let mut w = named(alloc, names)?;
-    add_sets(alloc, &mut w, sets)?;
-    add_rules(&mut w, rules)?;
-    add_starts(&mut w, starts)?;
-    Ok(w)
+    match fill(alloc, &mut w, sets, rules, starts) {
+        Ok(()) => Ok(w),
+        Err(error) => {
+            drop(w);
+            Err(error)
+        }
+    }
 }

@@ -9,7 +9,7 @@ use Rattle.std.proofs.Math.Seq.{take-append_seam}
 use Rattle.language_model.specs.Tokens.{Spelled}
 use Rattle.language_model.specs.Description as description
 use Rattle.language_model.specs.Description.{Adverb}
-use Rattle.language_model.specs.Building.{value_of, pairs_of, repeated_in, is_one_of, at_most, fault_at, Fault}
+use Rattle.language_model.specs.Building.{value_of, pairs_of, repeated_in, is_one_of, at_most, fault_at}
 use Rattle.dsl_statement.specs.declared.statement.Adverb.{Adverb as HeldAdverb}
 use Rattle.dsl_statement.specs.declared.statement.Adverb.TheVariants.{Comma, Pair}
 use Rattle.dsl_statement.specs.Statements.{adverb_of, adverbs_of}

@@ -32,14 +32,11 @@ pub fn named_of(alloc: Global, statements: &[Statement]) -> Result<Named<'_>, Al
     ensures tables { IfOk result AreTables }
 {
     let uses = uses_of(alloc, statements)?;
-    let symbols = names_of(alloc, Which::Structural, &uses)?;
-    let structural = names_of(alloc, Which::StructuralLeft, &uses)?;
-    let lexical = names_of(alloc, Which::LexicalLeft, &uses)?;
     Ok(Named {
+        symbols: names_of(alloc, Which::Structural, &uses)?,
+        structural: names_of(alloc, Which::StructuralLeft, &uses)?,
+        lexical: names_of(alloc, Which::LexicalLeft, &uses)?,
         uses,
-        symbols,
-        structural,
-        lexical,
     })
 }
 

@@ -8,9 +8,15 @@ use std::alloc::{AllocError, Global};
 use std::marker::Model;
 
 /// A table of texts.
-#[derive(Drop)]
 pub struct Names {
     names: IndexSet<String>,
+}
+
+// Written out, so that a table is let go by one call.
+impl Drop for Names {
+    fn drop(self) {
+        let Names { names: _ } = self;
+    }
 }
 
 impl Model for Names {

@@ -43,12 +43,6 @@ pub fn is_left(used: &Use<'_>) -> bool
     matches!(used.role, Role::Left)
 }
 
-fn fault_at_use<'a>(used: &Use<'a>) -> Found<'a>
-    ensures { fault_of result ≡ building.fault_at (used_of used.now).token }
-{
-    fault_at(used.token)
-}
-
 fn is_undefined(used: &Use<'_>, structural: &Names, lexical: &Names) -> bool
     ensures { result ≡ is_undefined structural.now lexical.now (used_of used.now) }
 {
@@ -61,7 +55,7 @@ fn is_undefined(used: &Use<'_>, structural: &Names, lexical: &Names) -> bool
 fn undefined_use<'a>(used: &Use<'a>, structural: &Names, lexical: &Names) -> Option<Found<'a>>
     ensures { option_map fault_of result ≡ first_of (undefined_fault structural.now lexical.now (used_of used.now)) }
 {
-    is_undefined(used, structural, lexical).then_some(fault_at_use(used))
+    is_undefined(used, structural, lexical).then_some(fault_at(used.token))
 }
 
 /// The first name that no rule defines, or in a lexical place no lexical rule. The tables have the left sides.
@@ -86,7 +80,7 @@ fn bad_class_use<'a>(alloc: Global, used: &Use<'a>) -> Result<Option<Found<'a>>,
     ensures { IfOk result (λ found. option_map fault_of found ≡ first_of (class_fault (used_of used.now))) }
 {
     let bad = is_right(used) && is_bracket(used.token) && is_bad_text(alloc, text_of(used))?;
-    Ok(bad.then_some(fault_at_use(used)))
+    Ok(bad.then_some(fault_at(used.token)))
 }
 
 /// The first class that cannot be read.
@@ -117,7 +111,7 @@ fn both_fault<'a>(used: &Use<'a>, lefts: &Lefts) -> Option<Found<'a>>
     ensures { option_map fault_of result ≡ first_of (both_fault lefts.now.structural lefts.now.lexical (used_of used.now)) }
 {
     let both = is_left(used) && is_of_other_level(used, lefts);
-    both.then_some(fault_at_use(used))
+    both.then_some(fault_at(used.token))
 }
 
 fn keep_left(lefts: &mut Lefts, used: &Use<'_>) -> Result<(), AllocError>

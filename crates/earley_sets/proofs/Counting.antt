@@ -18,15 +18,15 @@ use Rattle.earley_sets.proofs.Recognizing.{top_is_top}
 use Rattle.earley_sets.proofs.Rising.{rises_none, rises_as, rises_over, rises_on, rises_moved, different_are_few}
 
 -- links over edges that are the same up to the place
-same_link : (g : FlatGrammar) (top : ℕ) (is_top : IsTop g top) (E F : Edges) → GoesForward E → GoesForward F → (place : ℕ) (link : Link) → AgreeTo place E F → IsLink g E top place link → IsLink g F top place link
-same_link g top is_top E F fe ff place (Predicts item r) a (x, i, waits, rule, l) = (x, same_reduced g top is_top E F fe ff a i, waits, rule, l)
-same_link g top is_top E F fe ff place (Skips item) a (x, i, waits, n) = (x, same_reduced g top is_top E F fe ff a i, waits, n)
-same_link g top is_top E F fe ff place (Scans item from) a (x, i, waits, e) =
-    let lt = fe x from place e in
-    (x, same_reduced g top is_top E F fe ff (agree_below (omega (arith, lt)) a) i, waits, (a x from place (omega arith)).0 e)
-same_link g top is_top E F fe ff place (Completes whole item) a ((i, w, lt), none, there, waits) =
+same_link : (g : FlatGrammar) (top : ℕ) (is_top : IsTop g top) (E F : Edges) → GoesForward E → GoesForward F → (earleme : ℕ) (link : Link) → AgreeTo earleme E F → IsLink g E top earleme link → IsLink g F top earleme link
+same_link g top is_top E F fe ff earleme (Predicts item r) a (x, i, waits, rule, l) = (x, same_reduced g top is_top E F fe ff a i, waits, rule, l)
+same_link g top is_top E F fe ff earleme (Skips item) a (x, i, waits, n) = (x, same_reduced g top is_top E F fe ff a i, waits, n)
+same_link g top is_top E F fe ff earleme (Scans item from) a (x, i, waits, e) =
+    let lt = fe x from earleme e in
+    (x, same_reduced g top is_top E F fe ff (agree_below (omega (arith, lt)) a) i, waits, (a x from earleme (omega arith)).0 e)
+same_link g top is_top E F fe ff earleme (Completes whole item) a ((i, w, lt), none, there, waits) =
     ((same_reduced g top is_top E F fe ff a i, w, lt), same_none g top is_top E F fe ff (agree_below (omega (arith, lt)) a) none, same_reduced g top is_top E F fe ff (agree_below (omega (arith, lt)) a) there, waits)
-same_link g top is_top E F fe ff place (Leaps whole) a ((i, w, lt), (topmost, leads)) =
+same_link g top is_top E F fe ff earleme (Leaps whole) a ((i, w, lt), (topmost, leads)) =
     ((same_reduced g top is_top E F fe ff a i, w, lt), (topmost, same_leads g top is_top E F fe ff (agree_below (omega (arith, lt)) a) leads))
 
 pub counts_first : (r : Recognizer) (before : ℕ) → r.noted ≡ [] → CountsFrom r before before

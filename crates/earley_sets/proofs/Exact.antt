@@ -6,7 +6,6 @@ use Rattle.recognizer_model.specs.Contexts.{IsTop}
 use Rattle.recognizer_model.specs.Leo.{IsHidden, GoesForward, LeoIsKnown}
 use Rattle.recognizer_model.specs.Counts.{IsListOf}
 use Rattle.recognizer_model.proofs.Leo.{reduced_inside, expanded_inside, keeps_waiting, expands_to_all}
-use Rattle.recognizer_model.proofs.Over.{top_kept}
 use Rattle.earley_sets.specs.Scanning.{AreReduced}
 use Rattle.earley_sets.specs.Recognizer.{Recognizer, IsRecognizer, set_at, edges_of, top_of}
 use Rattle.earley_sets.proofs.ByRows.{goes_forward, known}
@@ -32,14 +31,6 @@ module _ (r : Recognizer) (is : IsRecognizer r) where
       let kept = keeps_waiting r.flat (edges_of r) (top_of r) is_top goes j (known_to j lt) item x e in
       let there = reduced j lt item in
       ((λ c. kept.0 (there.0 c)), (λ i. there.1 (kept.1 i)))
-
-  -- and so is an item of the top's rule
-  pub top_exact : (j : ℕ) (item : Item) → j < length r.sets → item.rule ≡ top_of r → Contains (set_at r j) item ↔ InSet r.flat (edges_of r) (top_of r) j item
-  top_exact j item lt e =
-      let there = reduced j lt item in (
-        λ c. reduced_inside r.flat (edges_of r) (top_of r) is_top goes (there.0 c),
-        λ i. there.1 (top_kept r.flat (edges_of r) (top_of r) is_top goes j (known_to j lt) item e i),
-      )
 
   -- with the hidden items the sets are full
   pub full_exact : (j : ℕ) (hidden : List Item) → j < length r.sets → IsListOf (λ item. IsHidden r.flat (edges_of r) (top_of r) j item × (0 ≤ item.origin)) hidden →

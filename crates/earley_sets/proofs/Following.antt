@@ -82,54 +82,54 @@ pub leads_later : {g : FlatGrammar} {rows : List (List Item)} {i x : ℕ} {t : I
 leads_later (LeadsIn.Last leo none) e = omega (arith, e)
 leads_later (LeadsIn.On leo more) e = leads_later more e
 
-module _ (g : FlatGrammar) (rows : List (List Item)) (place : ℕ) (item : Item) where
+module _ (g : FlatGrammar) (rows : List (List Item)) (earleme : ℕ) (item : Item) where
   module _ (x : ℕ) (e : after g item ≡ Some x) where
-    skipped_on : (other : Item) → IsSkipped g item x other → GoesOn g rows place item other
-    skipped_on other (n, same) = (subst (Follows g rows place item) (sym same) (Skips e n), λ start. (let d = ap (λ (t : Item). t.dot) same in omega (arith, d, start)))
+    skipped_on : (other : Item) → IsSkipped g item x other → GoesOn g rows earleme item other
+    skipped_on other (n, same) = (subst (Follows g rows earleme item) (sym same) (Skips e n), λ start. (let d = ap (λ (t : Item). t.dot) same in omega (arith, d, start)))
 
-    on_skipped : (other : Item) → Follows g rows place item other → other.dot ≢ 0 → IsSkipped g item x other
+    on_skipped : (other : Item) → Follows g rows earleme item other → other.dot ≢ 0 → IsSkipped g item x other
     on_skipped other (Predicts {x = y} {r = r} e' rule l) behind = absurd (behind refl)
     on_skipped other (Skips {x = y} e' n) behind = let s : y ≡ x = cc in (subst (IsNullable g) s n, refl)
     on_skipped other (Completes whole lt none w e') behind = let n = none_at_end (rhs_of g item.rule) item.dot whole in absurd (cc)
     on_skipped other (Leaps whole lt leads) behind = let n = none_at_end (rhs_of g item.rule) item.dot whole in absurd (cc)
 
     pub goes_skipped : (old new : List Item) → ((other : Item) → Contains new other ↔ (Contains old other ⊎ IsSkipped g item x other)) →
-        (other : Item) → Contains new other ↔ (Contains old other ⊎ GoesOn g rows place item other)
+        (other : Item) → Contains new other ↔ (Contains old other ⊎ GoesOn g rows earleme item other)
     goes_skipped old new h other = (
       λ n. elim ((h other).0 n) [ inl o ↦ inl o | inr f ↦ inr (skipped_on other f) ],
       λ n. (h other).1 (elim n [ inl o ↦ inl o | inr (f, behind) ↦ inr (on_skipped other f behind) ]),
     )
 
   module _ (e : after g item ≡ None) where
-    done_from : (other : Item) → Follows g rows place item other → (item.origin < place) × IsDone g rows item.origin (lhs_of g item.rule) other
+    done_from : (other : Item) → Follows g rows earleme item other → (item.origin < earleme) × IsDone g rows item.origin (lhs_of g item.rule) other
     done_from other (Predicts {x = y} e' rule l) = absurd (cc)
     done_from other (Skips {x = y} e' n) = absurd (cc)
     done_from other (Completes {waiting = w} whole lt none i e') = (lt, inl (none, (w, i, e', refl)))
     done_from other (Leaps whole lt leads) = (lt, inr leads)
 
-    pub goes_done : (old new : List Item) → IsItem g item → item.origin < place → (pair : Pair) → pair ≡ pair_of g item →
+    pub goes_done : (old new : List Item) → IsItem g item → item.origin < earleme → (pair : Pair) → pair ≡ pair_of g item →
         ((other : Item) → Contains new other ↔ (Contains old other ⊎ IsDone g rows pair.set pair.symbol other)) →
-        (other : Item) → Contains new other ↔ (Contains old other ⊎ GoesOn g rows place item other)
+        (other : Item) → Contains new other ↔ (Contains old other ⊎ GoesOn g rows earleme item other)
     goes_done old new is lt pair same h other = (
       λ n. elim ((h other).0 n) [ inl o ↦ inl o | inr d ↦ inr (follows (subst (λ (p : Pair). IsDone g rows p.set p.symbol other) same d)) ],
       λ n. (h other).1 (elim n [ inl o ↦ inl o | inr (f, behind) ↦ inr (subst (λ (p : Pair). IsDone g rows p.set p.symbol other) (sym same) (done_from other f).1) ]),
     )
       where
-        follows : IsDone g rows item.origin (lhs_of g item.rule) other → GoesOn g rows place item other
+        follows : IsDone g rows item.origin (lhs_of g item.rule) other → GoesOn g rows earleme item other
         follows (inl (none, (w, i, e', s))) = (
-          subst (Follows g rows place item) (sym s) (Completes (get_end (rhs_of g item.rule) item.dot is.within e) lt none i e'),
+          subst (Follows g rows earleme item) (sym s) (Completes (get_end (rhs_of g item.rule) item.dot is.within e) lt none i e'),
           λ start. (let d = ap (λ (t : Item). t.dot) s in omega (arith, d, start)),
         )
         follows (inr leads) = (Leaps (get_end (rhs_of g item.rule) item.dot is.within e) lt leads, λ start. leads_later leads start)
 
-    pub goes_nowhere : (old : List Item) → place ≤ item.origin → (other : Item) → Contains old other ↔ (Contains old other ⊎ GoesOn g rows place item other)
+    pub goes_nowhere : (old : List Item) → earleme ≤ item.origin → (other : Item) → Contains old other ↔ (Contains old other ⊎ GoesOn g rows earleme item other)
     goes_nowhere old le other = (λ o. inl o, λ h. elim h [ inl o ↦ o | inr (f, behind) ↦ let (lt, c) = done_from other f in absurd (omega arith) ])
 
 -- what follows from an item is one
-pub follows_item : (g : FlatGrammar) (rows : List (List Item)) (place : ℕ) (item : Item) → IsItem g item → AreRows g rows →
-    (other : Item) → Follows g rows place item other → IsItem g other
-follows_item g rows place item is are other (Predicts e rule l) = record { is_rule = rule; within = omega arith }
-follows_item g rows place item is are other (Skips {x = x} e n) = record { is_rule = is.is_rule; within = slice_get_within (rhs_of g item.rule) item.dot x e }
-follows_item g rows place item is are other (Leaps whole lt leads) = leads_item g rows are leads
-follows_item g rows place item is are other (Completes {waiting = w} whole lt none i e) =
+pub follows_item : (g : FlatGrammar) (rows : List (List Item)) (earleme : ℕ) (item : Item) → IsItem g item → AreRows g rows →
+    (other : Item) → Follows g rows earleme item other → IsItem g other
+follows_item g rows earleme item is are other (Predicts e rule l) = record { is_rule = rule; within = omega arith }
+follows_item g rows earleme item is are other (Skips {x = x} e n) = record { is_rule = is.is_rule; within = slice_get_within (rhs_of g item.rule) item.dot x e }
+follows_item g rows earleme item is are other (Leaps whole lt leads) = leads_item g rows are leads
+follows_item g rows earleme item is are other (Completes {waiting = w} whole lt none i e) =
     let is' = (are item.origin).items w i in record { is_rule = is'.is_rule; within = slice_get_within (rhs_of g w.rule) w.dot _ e }

@@ -78,19 +78,19 @@ module _ (g : FlatGrammar) (from : ℕ) where
   )
 
 -- single steps
-module _ (g : FlatGrammar) (rows : List (List Item)) (are : AreRows g rows) (place from : ℕ) where
-  step_item : (item other : Item) → IsSingleStep g rows place from item other → IsItem g other
+module _ (g : FlatGrammar) (rows : List (List Item)) (are : AreRows g rows) (earleme from : ℕ) where
+  step_item : (item other : Item) → IsSingleStep g rows earleme from item other → IsItem g other
   step_item item other (lt, (leo, l, same), le) =
       subst (IsItem g) (sym same) (record { is_rule = (leo_inside g rows are l).0; within = let w = l.last in omega arith })
 
-  step_one : (item a b : Item) → IsSingleStep g rows place from item a → IsSingleStep g rows place from item b → a ≡ b
+  step_one : (item a b : Item) → IsSingleStep g rows earleme from item a → IsSingleStep g rows earleme from item b → a ≡ b
   step_one item a b (lt, (x, l, e), le) (lt', (y, l', e'), le') = e ∙ (ap advanced (l'.only x l.there l.waits) ∙ sym e')
 
-  module _ (seeds keys : List Item) (k : ℕ) (inv : IsClosedTo g (IsSingleStep g rows place from) seeds keys k) (item : Item) (at : Some item ≡ slice_get keys k) where
-    pub step_added : (step : Item) (new : List Item) → IsSingleStep g rows place from item step → Adds keys new step → IsClosedTo g (IsSingleStep g rows place from) seeds new (k + 1)
+  module _ (seeds keys : List Item) (k : ℕ) (inv : IsClosedTo g (IsSingleStep g rows earleme from) seeds keys k) (item : Item) (at : Some item ≡ slice_get keys k) where
+    pub step_added : (step : Item) (new : List Item) → IsSingleStep g rows earleme from item step → Adds keys new step → IsClosedTo g (IsSingleStep g rows earleme from) seeds new (k + 1)
     step_added step new is adds =
-        closed_more g (IsSingleStep g rows place from) seeds keys k inv item (step ∷ []) new at (step_item item)
-        (λ other h. elim (Contains-push_cases [] step other h) [ inl none ↦ absurd (Contains-none other none) | inr e ↦ subst (IsSingleStep g rows place from item) e is ])
+        closed_more g (IsSingleStep g rows earleme from) seeds keys k inv item (step ∷ []) new at (step_item item)
+        (λ other h. elim (Contains-push_cases [] step other h) [ inl none ↦ absurd (Contains-none other none) | inr e ↦ subst (IsSingleStep g rows earleme from item) e is ])
         (λ other f. inr (subst (Contains (step ∷ [])) (step_one item step other is f) (Contains-push [] step)))
         (record {
           begins = Adds-begins keys new step adds;
@@ -103,23 +103,23 @@ module _ (g : FlatGrammar) (rows : List (List Item)) (are : AreRows g rows) (pla
           );
         })
 
-    pub none_added : ((step : Item) → ¬ IsSingleStep g rows place from item step) → IsClosedTo g (IsSingleStep g rows place from) seeds keys (k + 1)
+    pub none_added : ((step : Item) → ¬ IsSingleStep g rows earleme from item step) → IsClosedTo g (IsSingleStep g rows earleme from) seeds keys (k + 1)
     none_added none =
-        closed_more g (IsSingleStep g rows place from) seeds keys k inv item [] keys at (step_item item) (λ other h. absurd (Contains-none other h)) (λ other f. absurd (none other f))
+        closed_more g (IsSingleStep g rows earleme from) seeds keys k inv item [] keys at (step_item item) (λ other h. absurd (Contains-none other h)) (λ other f. absurd (none other f))
         (record { begins = ([], sym (append-nil keys)); has = λ other. (λ h. inl h, λ h. elim h [ inl o ↦ o | inr n ↦ absurd (Contains-none other n) ]) })
 
-  pub stepped_whole : {item : Item} → IsStepped g rows place from item → IsWhole g item × (from ≤ item.origin)
+  pub stepped_whole : {item : Item} → IsStepped g rows earleme from item → IsWhole g item × (from ≤ item.origin)
   stepped_whole (Kept (c, w, le)) = (w, le)
   stepped_whole (Step {item = item} {other = other} s (lt, (leo, l, same), le)) = (subst (IsWhole g) (sym same) l.last, le)
 
   -- a list of what is reached, of which the first are those of the row
-  module _ (kept more : List Item) (whole : AreWhole g from (row_at rows place) kept) (reached : (item : Item) → Contains (kept ++ more) item ↔ IsReached (IsSingleStep g rows place from) kept item)
+  module _ (kept more : List Item) (whole : AreWhole g from (row_at rows earleme) kept) (reached : (item : Item) → Contains (kept ++ more) item ↔ IsReached (IsSingleStep g rows earleme from) kept item)
       (once : AllPairs (λ x y. x ≢ y) (kept ++ more)) where
-    to_stepped : (item : Item) → IsReached (IsSingleStep g rows place from) kept item → IsStepped g rows place from item
+    to_stepped : (item : Item) → IsReached (IsSingleStep g rows earleme from) kept item → IsStepped g rows earleme from item
     to_stepped item (Seed h) = Kept ((whole item).0 h)
     to_stepped item (closing.Step {item = before} r f) = Step (to_stepped before r) f
 
-    from_stepped : {item : Item} → IsStepped g rows place from item → IsReached (IsSingleStep g rows place from) kept item
+    from_stepped : {item : Item} → IsStepped g rows earleme from item → IsReached (IsSingleStep g rows earleme from) kept item
     from_stepped {item} (Kept w) = Seed ((whole item).1 w)
     from_stepped (Step s f) = closing.Step (from_stepped s) f
 
@@ -133,7 +133,7 @@ module _ (g : FlatGrammar) (rows : List (List Item)) (are : AreRows g rows) (pla
         let l = length-append kept more in
         once (length kept + i) (length kept + j) d (omega arith) (omega arith) (get_or-append-add kept more i d ∙ (e ∙ sym (get_or-append-add kept more j d)))
 
-    pub hidden_listed : IsListOf (IsHiddenIn g rows place from) more
+    pub hidden_listed : IsListOf (IsHiddenIn g rows earleme from) more
     hidden_listed = record {
       once = more_once;
       exact = λ item. (
@@ -146,59 +146,59 @@ module _ (g : FlatGrammar) (rows : List (List Item)) (are : AreRows g rows) (pla
     }
 
 -- where no single step leads on from a whole item of the row, nothing is hidden
-module _ (g : FlatGrammar) (rows : List (List Item)) (place from : ℕ) where
-  pub none_more : (items : List Item) (k : ℕ) (x : Item) → slice_get items k ≡ Some x → NoneLeadsOn g rows place from (take k items) → (from ≤ x.origin → (step : Item) → ¬ IsSingleStep g rows place from x step) →
-      NoneLeadsOn g rows place from (take (k + 1) items)
+module _ (g : FlatGrammar) (rows : List (List Item)) (earleme from : ℕ) where
+  pub none_more : (items : List Item) (k : ℕ) (x : Item) → slice_get items k ≡ Some x → NoneLeadsOn g rows earleme from (take k items) → (from ≤ x.origin → (step : Item) → ¬ IsSingleStep g rows earleme from x step) →
+      NoneLeadsOn g rows earleme from (take (k + 1) items)
   none_more items k x e none here item step (h, le) s =
       let (lt, same) = get_index items k x x e in
       elim (Contains-push_cases (take k items) (get_or items k x) item (subst (λ l. Contains l item) (take_more items k x lt) h)) [
         | inl o ↦ none item step (o, le) s
-        | inr is ↦ subst (λ z. from ≤ z.origin → (step : Item) → ¬ IsSingleStep g rows place from z step) (sym same ∙ is) here le step s
+        | inr is ↦ subst (λ z. from ≤ z.origin → (step : Item) → ¬ IsSingleStep g rows earleme from z step) (sym same ∙ is) here le step s
       ]
 
-  pub none_hidden : (items : List Item) → IsListOf (λ item. Contains (row_at rows place) item × IsWhole g item) items → NoneLeadsOn g rows place from items → IsListOf (IsHiddenIn g rows place from) []
+  pub none_hidden : (items : List Item) → IsListOf (λ item. Contains (row_at rows earleme) item × IsWhole g item) items → NoneLeadsOn g rows earleme from items → IsListOf (IsHiddenIn g rows earleme from) []
   none_hidden items lists none = record {
     once = λ i j d lt below e. absurd (omega arith);
     exact = λ item. (λ h. absurd (Contains-none item h), λ (s, out). absurd (out (kept s).0));
   }
     where
-      kept : {item : Item} → IsStepped g rows place from item → IsWholeFrom g (row_at rows place) from item
+      kept : {item : Item} → IsStepped g rows earleme from item → IsWholeFrom g (row_at rows earleme) from item
       kept (Kept w) = w
       kept (Step {item = before} {other = other} s f) = let (r, w, le) = kept s in absurd (none before other ((lists.exact before).1 (r, w), le) f)
 
 -- over reduced sets these are the hidden items
 module _ (g : FlatGrammar) (edges : List HeldEdge) (top : ℕ) (is_top : IsTop g top) (forward : GoForward edges) (rows : List (List Item)) (are : AreRows g rows) (sets : AreReduced g edges top rows (length rows))
-    (place from : ℕ) (here : place < length rows) where
-  in_expanded : {item : Item} → IsStepped g rows place from item → InExpanded g (FlatEdges g (Held edges)) top place item
-  in_expanded {item} (Kept (c, w, le)) = InExpanded.Kept ((sets place here item).0 c)
+    (earleme from : ℕ) (here : earleme < length rows) where
+  in_expanded : {item : Item} → IsStepped g rows earleme from item → InExpanded g (FlatEdges g (Held edges)) top earleme item
+  in_expanded {item} (Kept (c, w, le)) = InExpanded.Kept ((sets earleme here item).0 c)
   in_expanded (Step {item = before} s (lt, (leo, l, same), le)) =
-      subst (InExpanded g (FlatEdges g (Held edges)) top place) (sym same)
-      (InExpanded.Step (in_expanded s) (stepped_whole g rows are place from s).0 lt (to_leo g edges top is_top forward rows (length rows) sets before.origin (lhs_of g before.rule) leo (omega arith) l))
+      subst (InExpanded g (FlatEdges g (Held edges)) top earleme) (sym same)
+      (InExpanded.Step (in_expanded s) (stepped_whole g rows are earleme from s).0 lt (to_leo g edges top is_top forward rows (length rows) sets before.origin (lhs_of g before.rule) leo (omega arith) l))
 
-  in_stepped : {j : ℕ} {item : Item} → InExpanded g (FlatEdges g (Held edges)) top j item → j ≡ place → IsWhole g item → from ≤ item.origin → IsStepped g rows place from item
-  in_stepped {item = item} (InExpanded.Kept k) e w le = Kept ((sets place here item).1 (subst (λ p. InReduced g (FlatEdges g (Held edges)) top p item) e k), w, le)
+  in_stepped : {j : ℕ} {item : Item} → InExpanded g (FlatEdges g (Held edges)) top j item → j ≡ earleme → IsWhole g item → from ≤ item.origin → IsStepped g rows earleme from item
+  in_stepped {item = item} (InExpanded.Kept k) e w le = Kept ((sets earleme here item).1 (subst (λ p. InReduced g (FlatEdges g (Held edges)) top p item) e k), w, le)
   in_stepped (InExpanded.Step {whole = before} {item = leo} x whole lt l) e w le =
       let b = origin_below g (FlatEdges g (Held edges)) top is_top (goes_forward g edges top is_top forward) l.inside in
       Step (in_stepped x e whole (omega arith)) (omega arith, (leo, from_leo g edges top is_top forward rows (length rows) sets before.origin (lhs_of g before.rule) leo (omega arith) l, refl), le)
 
-  pub hidden_is : (item : Item) → IsHiddenIn g rows place from item ↔ (IsHidden g (FlatEdges g (Held edges)) top place item × (from ≤ item.origin))
+  pub hidden_is : (item : Item) → IsHiddenIn g rows earleme from item ↔ (IsHidden g (FlatEdges g (Held edges)) top earleme item × (from ≤ item.origin))
   hidden_is item = (
-    λ (s, none). ((in_expanded s, λ k. none ((sets place here item).1 k)), (stepped_whole g rows are place from s).1),
+    λ (s, none). ((in_expanded s, λ k. none ((sets earleme here item).1 k)), (stepped_whole g rows are earleme from s).1),
     λ (h, le). (
       in_stepped h.0 refl (hidden_whole g (FlatEdges g (Held edges)) top is_top (goes_forward g edges top is_top forward) h).0 le,
-      λ c. h.1 ((sets place here item).0 c),
+      λ c. h.1 ((sets earleme here item).0 c),
     ),
   )
 
-  pub all_there : (items : List Item) → IsListOf (IsHiddenIn g rows place from) items → (item : Item) → IsWhole g item → from ≤ item.origin →
-      (Contains (row_at rows place) item ⊎ Contains items item) ↔ InSet g (FlatEdges g (Held edges)) top place item
+  pub all_there : (items : List Item) → IsListOf (IsHiddenIn g rows earleme from) items → (item : Item) → IsWhole g item → from ≤ item.origin →
+      (Contains (row_at rows earleme) item ⊎ Contains items item) ↔ InSet g (FlatEdges g (Held edges)) top earleme item
   all_there items lists item w le = (
     λ h. elim h [
-      | inl c ↦ reduced_inside g (FlatEdges g (Held edges)) top is_top (goes_forward g edges top is_top forward) ((sets place here item).0 c)
+      | inl c ↦ reduced_inside g (FlatEdges g (Held edges)) top is_top (goes_forward g edges top is_top forward) ((sets earleme here item).0 c)
       | inr m ↦ expanded_inside g (FlatEdges g (Held edges)) top is_top (goes_forward g edges top is_top forward) (in_expanded ((lists.exact item).0 m).0)
     ],
     λ s. (
-        let x = (expands_to_all g (FlatEdges g (Held edges)) top is_top (goes_forward g edges top is_top forward) place (λ i y l. known g edges top is_top forward rows (length rows) sets i y (omega arith)) item).1 s in
-        elim (decide (row_at rows place) item) [ inl c ↦ inl c | inr none ↦ inr ((lists.exact item).1 (in_stepped x refl w le, none)) ]
+        let x = (expands_to_all g (FlatEdges g (Held edges)) top is_top (goes_forward g edges top is_top forward) earleme (λ i y l. known g edges top is_top forward rows (length rows) sets i y (omega arith)) item).1 s in
+        elim (decide (row_at rows earleme) item) [ inl c ↦ inl c | inr none ↦ inr ((lists.exact item).1 (in_stepped x refl w le, none)) ]
         ),
   )

@@ -24,4 +24,3 @@ pub mod Recognizing
 pub mod Exact
 pub mod Counting
 pub mod Expanding
-pub mod Ruled

@@ -12,17 +12,17 @@ use Rattle.earley_sets.proofs.Rising.{rises_none, rises_over, rises_on, rises_mo
 
 -- a link with its items at a place
 moved : ℕ → Link → Link
-moved place (Predicts item r) = Predicts (record item { origin = place }) r
-moved place (Skips item) = Skips (record item { origin = place })
-moved place (Scans item from) = Scans item from
-moved place (Completes whole item) = Completes whole item
-moved place (Leaps whole) = Leaps whole
+moved earleme (Predicts item r) = Predicts (record item { origin = earleme }) r
+moved earleme (Skips item) = Skips (record item { origin = earleme })
+moved earleme (Scans item from) = Scans item from
+moved earleme (Completes whole item) = Completes whole item
+moved earleme (Leaps whole) = Leaps whole
 
-module _ (g : FlatGrammar) (place : ℕ) (items : List Item) where
+module _ (g : FlatGrammar) (earleme : ℕ) (items : List Item) where
   -- the links of what begins at the place
   abbrev pub MakesBegun : Link → Type 0
-  MakesBegun (Predicts before r) = (Contains items before ⊎ IsBegun g place items before) × ((x : ℕ) × (after g before ≡ Some x) × IsRule g r × (lhs_of g r ≡ x))
-  MakesBegun (Skips before) = IsBegun g place items before × ((x : ℕ) × (after g before ≡ Some x) × IsNullable g x)
+  MakesBegun (Predicts before r) = (Contains items before ⊎ IsBegun g earleme items before) × ((x : ℕ) × (after g before ≡ Some x) × IsRule g r × (lhs_of g r ≡ x))
+  MakesBegun (Skips before) = IsBegun g earleme items before × ((x : ℕ) × (after g before ≡ Some x) × IsNullable g x)
   MakesBegun (Scans before from) = ⊥
   MakesBegun (Completes whole waiting) = ⊥
   MakesBegun (Leaps whole) = ⊥
@@ -44,7 +44,7 @@ module _ (g : FlatGrammar) (place : ℕ) (items : List Item) where
     starts : {a b : ℕ} → RisesBy (IsRuleOf g symbols) a b → RisesBy IsStarted a b
     starts r = rises_chosen (IsRuleOf g symbols) IsStart start start_apart r
 
-    here : (item : Item) → Contains list item → IsBegun g place items (record item { origin = place })
+    here : (item : Item) → Contains list item → IsBegun g earleme items (record item { origin = earleme })
     here item c =
         let b = (begun item).0 c in
         let zero = (begins_item b).1 in
@@ -52,12 +52,12 @@ module _ (g : FlatGrammar) (place : ℕ) (items : List Item) where
 
     -- a link of what begins, at the place
     abbrev IsMoved : Link → Type 0
-    IsMoved link = (before : Link) × MakesOneLater g list before × (link ≡ moved place before)
+    IsMoved link = (before : Link) × MakesOneLater g list before × (link ≡ moved earleme before)
 
     zero_of : (item : Item) → Contains list item → item.origin ≡ 0
     zero_of item c = (begins_item ((begun item).0 c)).1
 
-    back_moved : (link : Link) → MakesOneLater g list link → moved 0 (moved place link) ≡ link
+    back_moved : (link : Link) → MakesOneLater g list link → moved 0 (moved earleme link) ≡ link
     unfolding moved
     back_moved (Predicts before r) (item, c, (e, more)) = let zero = zero_of before (subst (Contains list) (sym e) c) in λ i. Predicts (record before { origin = sym zero i }) r
     back_moved (Skips before) (item, c, (e, more)) = let zero = zero_of before (subst (Contains list) (sym e) c) in λ i. Skips (record before { origin = sym zero i })
@@ -66,12 +66,12 @@ module _ (g : FlatGrammar) (place : ℕ) (items : List Item) where
     back_moved (Leaps whole) (item, c, m) = absurd m
 
     laters : {a b : ℕ} → RisesBy (MakesOneLater g list) a b → RisesBy IsMoved a b
-    laters r = rises_over IsMoved (moved place) (λ link m. (link, m, refl)) (λ l k m n e. sym (back_moved l m) ∙ (ap (moved 0) e ∙ back_moved k n)) r
+    laters r = rises_over IsMoved (moved earleme) (λ link m. (link, m, refl)) (λ l k m n e. sym (back_moved l m) ∙ (ap (moved 0) e ∙ back_moved k n)) r
 
     started_makes : (link : Link) → IsStarted link → MakesBegun link
     started_makes link (r, (rule, s), (w, there, waits, e)) = subst MakesBegun (sym e) (inl there, (lhs_of g r, waits, rule, refl))
 
-    moved_makes : (before : Link) → MakesOneLater g list before → MakesBegun (moved place before)
+    moved_makes : (before : Link) → MakesOneLater g list before → MakesBegun (moved earleme before)
     unfolding moved
     moved_makes (Predicts before r) (item, c, (e, more)) = (inr (here before (subst (Contains list) (sym e) c)), subst (λ (b : Item). (x : ℕ) × (after g b ≡ Some x) × IsRule g r × (lhs_of g r ≡ x)) (sym e) more)
     moved_makes (Skips before) (item, c, (e, more)) = (here before (subst (Contains list) (sym e) c), subst (λ (b : Item). (x : ℕ) × (after g b ≡ Some x) × IsNullable g x) (sym e) more)
@@ -79,22 +79,22 @@ module _ (g : FlatGrammar) (place : ℕ) (items : List Item) where
     moved_makes (Completes whole waiting) (item, c, m) = absurd m
     moved_makes (Leaps whole) (item, c, m) = absurd m
 
-    never_moved : ((item : Item) → Contains items item → ¬ IsBegun g place items item) → (w : Item) (r : ℕ) (before : Link) → Contains items w → MakesOneLater g list before → Predicts w r ≡ moved place before → ⊥
+    never_moved : ((item : Item) → Contains items item → ¬ IsBegun g earleme items item) → (w : Item) (r : ℕ) (before : Link) → Contains items w → MakesOneLater g list before → Predicts w r ≡ moved earleme before → ⊥
     unfolding moved
     never_moved apart w r (Predicts before q) there (item, c, (e, more)) same =
-        let is : w ≡ record before { origin = place } = cc in
-        apart w there (subst (IsBegun g place items) (sym is) (here before (subst (Contains list) (sym e) c)))
+        let is : w ≡ record before { origin = earleme } = cc in
+        apart w there (subst (IsBegun g earleme items) (sym is) (here before (subst (Contains list) (sym e) c)))
     never_moved apart w r (Skips before) there m same = absurd (cc)
     never_moved apart w r (Scans before from) there (item, c, m) same = absurd m
     never_moved apart w r (Completes whole waiting) there (item, c, m) same = absurd m
     never_moved apart w r (Leaps whole) there (item, c, m) same = absurd m
 
-    pub begun_tried : ((item : Item) → Contains items item → ¬ IsBegun g place items item) → (a b : ℕ) → TriesBegun g symbols list a b → RisesBy MakesBegun a b
+    pub begun_tried : ((item : Item) → Contains items item → ¬ IsBegun g earleme items item) → (a b : ℕ) → TriesBegun g symbols list a b → RisesBy MakesBegun a b
     begun_tried apart a b (mid, firsts, later) =
         rises_on MakesBegun started_makes (λ link (before, m, e). subst MakesBegun (sym e) (moved_makes before m))
         (λ link (r, rule, (w, there, waits, e)) (before, m, e'). never_moved apart w r before there m (sym e ∙ e')) (starts firsts) (laters later)
 
-  pub list_tried : (list : List Item) → AreBegun g (IsAwaited g items) list → ((item : Item) → Contains items item → ¬ IsBegun g place items item) → (a b : ℕ) → TriesList g items list a b → RisesBy MakesBegun a b
+  pub list_tried : (list : List Item) → AreBegun g (IsAwaited g items) list → ((item : Item) → Contains items item → ¬ IsBegun g earleme items item) → (a b : ℕ) → TriesList g items list a b → RisesBy MakesBegun a b
   list_tried list begun apart a b (inl e) = rises_none MakesBegun a b e
   list_tried list begun apart a b (inr (symbols, awaited, tries)) = begun_tried symbols list awaited begun apart a b tries
 

@@ -39,9 +39,9 @@ module _ (g : FlatGrammar) (E : Edges) (forward : GoesForward E) where
             subst (IsNullable g) (sym (same_Some _ _ (sym at ∙ (ap (part_of g r) here ∙ part)))) (null_there t (omega (arith, a, b, e)))
       ]
 
-module _ (g : FlatGrammar) (edges : List HeldEdge) (top : ℕ) (is_top : IsTop g top) (forward : GoForward edges) (rows : List (List Item)) (place : ℕ) (are : AreReduced g edges top rows place) where
-  pub nulled_rows : place ≡ length rows → AreNulled g rows
-  nulled_rows all i item there here d x lt at = elim (cases_lt i place) [
+module _ (g : FlatGrammar) (edges : List HeldEdge) (top : ℕ) (is_top : IsTop g top) (forward : GoForward edges) (rows : List (List Item)) (earleme : ℕ) (are : AreReduced g edges top rows earleme) where
+  pub nulled_rows : earleme ≡ length rows → AreNulled g rows
+  nulled_rows all i item there here d x lt at = elim (cases_lt i earleme) [
     | inl inside ↦
         let goes = goes_forward g edges top is_top forward in
         let f = found g (FlatEdges g (Held edges)) top is_top (reduced_inside g (FlatEdges g (Held edges)) top is_top goes ((are i inside item).0 there)) in

@@ -87,9 +87,6 @@ module _ (g : FlatGrammar) (start : ℕ) (edges : List HeldEdge) (rows : List (L
   pub kept_begun : (e : HeldEdge) → Contains edges e → e.from < length rows
   kept_begun e h = let b = k.is.begun e h in let s = k.is.some in omega arith
 
-  pub kept_small : length rows ≤ 16777217
-  kept_small = let b = k.is.in_range in let s = k.is.some in omega arith
-
   -- the pairs that were noted have Leo items
   leo_noted : (more : List Note) → IsMemo g rows more → (pair : Pair) → Contains (pairs_of more) pair →
       (pair.set < length rows) × ((item : Item) × IsLeo g (FlatEdges g (Held edges)) (slice_index g.tops start) pair.set pair.symbol item)
@@ -245,10 +242,6 @@ module _ (g : FlatGrammar) (start : ℕ) (edges : List HeldEdge) (rows : List (L
     λ (x, is, acc). (x, (got_at g.symbols x (Terminal t) (Terminal t) (sym is)).0, is, (awaited_expected x t is).1 (x, is, acc)),
   )
 
-  -- a symbol that is no terminal is never expected
-  pub never_expected : (t : ℕ) → ((x : ℕ) → slice_get g.symbols x ≢ Some (Terminal t)) → ¬ IsExpected (recognizer g start edges rows notes) t
-  never_expected t none (x, is, a) = none x is
-
   whole : Item
   whole = record { rule = top; dot = 1; origin = 0 }
 
@@ -290,34 +283,31 @@ module _ (g : FlatGrammar) (start : ℕ) (edges : List HeldEdge) (rows : List (L
           let flat = symbol_back g k.is.flat.marks (FlatEdges g (Held edges)) (only g edges k.is.flat k.is.forward) k.is.flat.no_rules k.is.flat.terminals_span t (slot_of (slice_index (rhs_of g top) 0)) 0 (length rows - 1) d' in
           found.1 (record { is_rule = is_top.is_rule; may_stand = AtStart refl; children = Child NoChild t; spans = More Nothing part flat })
 
-  pub kept_exact : (j : ℕ) → j ≤ length rows - 1 → IsListOf (InReduced g (edges_of (recognizer g start edges rows notes)) (top_of (recognizer g start edges rows notes)) j) (row_at rows j)
-  kept_exact j le = k.is.exact j (let s = k.is.some in omega arith)
-
-  module _ (t place n : ℕ) (here : place ≡ earleme_of (recognizer g start edges rows notes)) (there : IsExpected (recognizer g start edges rows notes) t) where
+  module _ (t earleme n : ℕ) (here : earleme ≡ earleme_of (recognizer g start edges rows notes)) (there : IsExpected (recognizer g start edges rows notes) t) where
     edge : HeldEdge
-    edge = record { symbol = t; from = place; to = place + n }
+    edge = record { symbol = t; from = earleme; to = earleme + n }
 
-    more_forward : 0 < n → GoForward (edges ++ record { symbol = t; from = place; to = place + n } ∷ [])
-    more_forward some e h = elim (Contains-push_cases edges (record { symbol = t; from = place; to = place + n }) e h) [
+    more_forward : 0 < n → GoForward (edges ++ record { symbol = t; from = earleme; to = earleme + n } ∷ [])
+    more_forward some e h = elim (Contains-push_cases edges (record { symbol = t; from = earleme; to = earleme + n }) e h) [
       | inl o ↦ k.is.forward e o
       | inr s ↦ subst (λ (z : HeldEdge). z.from < z.to) s (omega arith)
     ]
 
-    one_more_edge : 0 < n → ¬ Contains edges (record { symbol = t; from = place; to = place + n }) → IsKept (recognizer g start (edges ++ record { symbol = t; from = place; to = place + n } ∷ []) rows notes) top notes
+    one_more_edge : 0 < n → ¬ Contains edges (record { symbol = t; from = earleme; to = earleme + n }) → IsKept (recognizer g start (edges ++ record { symbol = t; from = earleme; to = earleme + n } ∷ []) rows notes) top notes
     one_more_edge some fresh = record {
       is = record {
         flat = k.is.flat;
         start = k.is.start;
         some = k.is.some;
         in_range = k.is.in_range;
-        once = all_pairs_push (λ d e. d ≢ e) edges (record { symbol = t; from = place; to = place + n }) k.is.once
-            (λ i d lt same. fresh (i, lt, get_or_default edges i (record { symbol = t; from = place; to = place + n }) d lt ∙ same));
+        once = all_pairs_push (λ d e. d ≢ e) edges (record { symbol = t; from = earleme; to = earleme + n }) k.is.once
+            (λ i d lt same. fresh (i, lt, get_or_default edges i (record { symbol = t; from = earleme; to = earleme + n }) d lt ∙ same));
         forward = more_forward some;
-        begun = λ e h. elim (Contains-push_cases edges (record { symbol = t; from = place; to = place + n }) e h) [
+        begun = λ e h. elim (Contains-push_cases edges (record { symbol = t; from = earleme; to = earleme + n }) e h) [
           | inl o ↦ k.is.begun e o
           | inr s ↦ subst (λ (z : HeldEdge). z.from ≤ earleme_of (recognizer g start edges rows notes)) s (omega arith)
         ];
-        known = λ e h. elim (Contains-push_cases edges (record { symbol = t; from = place; to = place + n }) e h) [
+        known = λ e h. elim (Contains-push_cases edges (record { symbol = t; from = earleme; to = earleme + n }) e h) [
           | inl o ↦ k.is.known e o
           | inr s ↦ let (x, is, a) = there in subst (λ (z : HeldEdge). (x : ℕ) × (slice_get g.symbols x ≡ Some (Terminal z.symbol))) s (x, is)
         ];
@@ -326,42 +316,42 @@ module _ (g : FlatGrammar) (start : ℕ) (edges : List HeldEdge) (rows : List (L
         noted_leo = λ pair c. (
             let (le, (item, leo)) = k.is.noted_leo pair c in
             let s = k.is.some in
-            (le, (item, same_leo g (slice_index g.tops start) top_is (FlatEdges g (Held edges)) (FlatEdges g (Held (edges ++ record { symbol = t; from = place; to = place + n } ∷ []))) (goes g edges k.is.flat k.is.forward) goes_more (agree pair.set (omega (arith, le, s))) leo)));
+            (le, (item, same_leo g (slice_index g.tops start) top_is (FlatEdges g (Held edges)) (FlatEdges g (Held (edges ++ record { symbol = t; from = earleme; to = earleme + n } ∷ []))) (goes g edges k.is.flat k.is.forward) goes_more (agree pair.set (omega (arith, le, s))) leo)));
       };
       rows = k.rows;
       memo = k.memo;
       top_is = k.top_is;
     }
       where
-        goes_more : GoesForward (FlatEdges g (Held (edges ++ record { symbol = t; from = place; to = place + n } ∷ [])))
-        goes_more = goes g (edges ++ record { symbol = t; from = place; to = place + n } ∷ []) k.is.flat (more_forward some)
+        goes_more : GoesForward (FlatEdges g (Held (edges ++ record { symbol = t; from = earleme; to = earleme + n } ∷ [])))
+        goes_more = goes g (edges ++ record { symbol = t; from = earleme; to = earleme + n } ∷ []) k.is.flat (more_forward some)
 
         top_is : IsTop g (slice_index g.tops start)
         top_is = subst (IsTop g) k.top_is is_top
 
-        agree : (j : ℕ) → j < length rows → AgreeTo j (FlatEdges g (Held edges)) (FlatEdges g (Held (edges ++ record { symbol = t; from = place; to = place + n } ∷ [])))
+        agree : (j : ℕ) → j < length rows → AgreeTo j (FlatEdges g (Held edges)) (FlatEdges g (Held (edges ++ record { symbol = t; from = earleme; to = earleme + n } ∷ [])))
         agree j lt y a b le = (
-          λ (s, is, h). (s, is, Contains-append_left edges (record { symbol = t; from = place; to = place + n } ∷ []) (record { symbol = s; from = a; to = b }) h),
-          λ (s, is, h). elim (Contains-push_cases edges (record { symbol = t; from = place; to = place + n }) (record { symbol = s; from = a; to = b }) h) [
+          λ (s, is, h). (s, is, Contains-append_left edges (record { symbol = t; from = earleme; to = earleme + n } ∷ []) (record { symbol = s; from = a; to = b }) h),
+          λ (s, is, h). elim (Contains-push_cases edges (record { symbol = t; from = earleme; to = earleme + n }) (record { symbol = s; from = a; to = b }) h) [
             | inl o ↦ (s, is, o)
-            | inr e ↦ let end : place + n ≡ b = ap (λ (z : HeldEdge). z.to) e in let w = k.is.some in absurd (omega arith)
+            | inr e ↦ let end : earleme + n ≡ b = ap (λ (z : HeldEdge). z.to) e in let w = k.is.some in absurd (omega arith)
           ],
         )
 
-        to_more : (j : ℕ) {item : Item} → j < length rows → InReduced g (FlatEdges g (Held edges)) (slice_index g.tops start) j item → InReduced g (FlatEdges g (Held (edges ++ record { symbol = t; from = place; to = place + n } ∷ []))) (slice_index g.tops start) j item
-        to_more j lt i = same_reduced g (slice_index g.tops start) top_is (FlatEdges g (Held edges)) (FlatEdges g (Held (edges ++ record { symbol = t; from = place; to = place + n } ∷ []))) (goes g edges k.is.flat k.is.forward) goes_more (agree j lt) i
+        to_more : (j : ℕ) {item : Item} → j < length rows → InReduced g (FlatEdges g (Held edges)) (slice_index g.tops start) j item → InReduced g (FlatEdges g (Held (edges ++ record { symbol = t; from = earleme; to = earleme + n } ∷ []))) (slice_index g.tops start) j item
+        to_more j lt i = same_reduced g (slice_index g.tops start) top_is (FlatEdges g (Held edges)) (FlatEdges g (Held (edges ++ record { symbol = t; from = earleme; to = earleme + n } ∷ []))) (goes g edges k.is.flat k.is.forward) goes_more (agree j lt) i
 
-        from_more : (j : ℕ) {item : Item} → j < length rows → InReduced g (FlatEdges g (Held (edges ++ record { symbol = t; from = place; to = place + n } ∷ []))) (slice_index g.tops start) j item → InReduced g (FlatEdges g (Held edges)) (slice_index g.tops start) j item
-        from_more j lt i = same_reduced g (slice_index g.tops start) top_is (FlatEdges g (Held (edges ++ record { symbol = t; from = place; to = place + n } ∷ []))) (FlatEdges g (Held edges)) goes_more (goes g edges k.is.flat k.is.forward) (agree_back (agree j lt)) i
+        from_more : (j : ℕ) {item : Item} → j < length rows → InReduced g (FlatEdges g (Held (edges ++ record { symbol = t; from = earleme; to = earleme + n } ∷ []))) (slice_index g.tops start) j item → InReduced g (FlatEdges g (Held edges)) (slice_index g.tops start) j item
+        from_more j lt i = same_reduced g (slice_index g.tops start) top_is (FlatEdges g (Held (edges ++ record { symbol = t; from = earleme; to = earleme + n } ∷ []))) (FlatEdges g (Held edges)) goes_more (goes g edges k.is.flat k.is.forward) (agree_back (agree j lt)) i
 
     -- after a try to hold the edge
-    pub edge_kept : (r : Result (Unit {0}) EdgeRefusal) (edges' : List HeldEdge) → OnOk r (edges' ≡ edges ++ record { symbol = t; from = place; to = place + n } ∷ []) → OnErr r (edges' ≡ edges) →
-        ((r ≡ Err Duplicate) ↔ Contains edges (record { symbol = t; from = place; to = place + n })) →
-        ((r ≡ Err BadLength) ↔ ((¬ Contains edges (record { symbol = t; from = place; to = place + n })) × ((n ≡ 0) ⊎ (longest_edge < n)))) →
+    pub edge_kept : (r : Result (Unit {0}) EdgeRefusal) (edges' : List HeldEdge) → OnOk r (edges' ≡ edges ++ record { symbol = t; from = earleme; to = earleme + n } ∷ []) → OnErr r (edges' ≡ edges) →
+        ((r ≡ Err Duplicate) ↔ Contains edges (record { symbol = t; from = earleme; to = earleme + n })) →
+        ((r ≡ Err BadLength) ↔ ((¬ Contains edges (record { symbol = t; from = earleme; to = earleme + n })) × ((n ≡ 0) ⊎ (longest_edge < n)))) →
         IsKept (recognizer g start edges' rows notes) top notes
     edge_kept (Ok x) edges' ok err dup bad = subst (λ z. IsKept (recognizer g start z rows notes) top notes) (sym ok) (one_more_edge some fresh)
       where
-        fresh : ¬ Contains edges (record { symbol = t; from = place; to = place + n })
+        fresh : ¬ Contains edges (record { symbol = t; from = earleme; to = earleme + n })
         fresh c = let e = dup.1 c in cc
 
         some : 0 < n

@@ -22,44 +22,44 @@ use Rattle.earley_sets.proofs.Rising.{rises_on}
 use Rattle.earley_sets.proofs.Scanning.{kernel_inside, reached_is_reduced, reduced_items}
 use Rattle.earley_sets.proofs.Trying.{kernel_link}
 
-module _ (g : FlatGrammar) (edges : List HeldEdge) (top : ℕ) (is_top : IsTop g top) (forward : GoForward edges) (rows : List (List Item)) (are_rows : AreRows g rows) (place : ℕ) (are : AreReduced g edges top rows place)
-    (kernel : List Item) (is : IsKernel g rows top place edges kernel) (list : List Item) (begun : AreBegun g (IsAwaited g kernel) list) where
-  pub kernel_apart : (item : Item) → Contains kernel item → ¬ IsBegunAt list place item
-  kernel_apart item k = apart g rows are_rows top place is_top edges forward is.seeds kernel is.are is.exact list begun item k
+module _ (g : FlatGrammar) (edges : List HeldEdge) (top : ℕ) (is_top : IsTop g top) (forward : GoForward edges) (rows : List (List Item)) (are_rows : AreRows g rows) (earleme : ℕ) (are : AreReduced g edges top rows earleme)
+    (kernel : List Item) (is : IsKernel g rows top earleme edges kernel) (list : List Item) (begun : AreBegun g (IsAwaited g kernel) list) where
+  pub kernel_apart : (item : Item) → Contains kernel item → ¬ IsBegunAt list earleme item
+  kernel_apart item k = apart g rows are_rows top earleme is_top edges forward is.seeds kernel is.are is.exact list begun item k
 
-  never_begun : (item : Item) → Contains kernel item → ¬ IsBegun g place kernel item
+  never_begun : (item : Item) → Contains kernel item → ¬ IsBegun g earleme kernel item
   never_begun item k (here, b) = kernel_apart item k (here, (begun (record item { origin = 0 })).1 b)
 
-  in_kernel : (item : Item) → Contains kernel item → InReduced g (FlatEdges g (Held edges)) top place item
-  in_kernel item k = kernel_inside g edges top is_top forward rows place are is.seeds is.are kernel is.exact item k
+  in_kernel : (item : Item) → Contains kernel item → InReduced g (FlatEdges g (Held edges)) top earleme item
+  in_kernel item k = kernel_inside g edges top is_top forward rows earleme are is.seeds is.are kernel is.exact item k
 
-  in_begun : (item : Item) → IsBegun g place kernel item → InReduced g (FlatEdges g (Held edges)) top place item
-  in_begun item b = (reached_is_reduced g edges top is_top forward rows place are is.seeds is.are item).0 (begun_at_place g rows place is.seeds kernel list is.exact begun item b)
+  in_begun : (item : Item) → IsBegun g earleme kernel item → InReduced g (FlatEdges g (Held edges)) top earleme item
+  in_begun item b = (reached_is_reduced g edges top is_top forward rows earleme are is.seeds is.are item).0 (begun_at_place g rows earleme is.seeds kernel list is.exact begun item b)
 
-  whole : (item : Item) → (Contains kernel item ⊎ IsBegunAt list place item) ↔ InReduced g (FlatEdges g (Held edges)) top place item
+  whole : (item : Item) → (Contains kernel item ⊎ IsBegunAt list earleme item) ↔ InReduced g (FlatEdges g (Held edges)) top earleme item
   whole item =
-      let split = splits g rows place is.seeds kernel list is.exact begun item in
-      let reduced = reached_is_reduced g edges top is_top forward rows place are is.seeds is.are item in
+      let split = splits g rows earleme is.seeds kernel list is.exact begun item in
+      let reduced = reached_is_reduced g edges top is_top forward rows earleme are is.seeds is.are item in
       ((λ h. reduced.0 (split.0 h)), (λ i. split.1 (reduced.1 i)))
 
   -- the row of the kernel and the list
-  pub row_made : (row : List Item) → IsListOf (λ item. Contains kernel item ⊎ IsBegunAt list place item) row → IsRowOf g place row × IsListOf (InReduced g (FlatEdges g (Held edges)) top place) row
+  pub row_made : (row : List Item) → IsListOf (λ item. Contains kernel item ⊎ IsBegunAt list earleme item) row → IsRowOf g earleme row × IsListOf (InReduced g (FlatEdges g (Held edges)) top earleme) row
   row_made row lists = (
     record {
-      items = λ item h. reduced_items g edges top is_top forward rows place are is.seeds is.are ((whole item).0 ((lists.exact item).0 h));
+      items = λ item h. reduced_items g edges top is_top forward rows earleme are is.seeds is.are ((whole item).0 ((lists.exact item).0 h));
       begun = λ item h. origin_below g (FlatEdges g (Held edges)) top is_top (goes_forward g edges top is_top forward) (reduced_inside g (FlatEdges g (Held edges)) top is_top (goes_forward g edges top is_top forward) ((whole item).0 ((lists.exact item).0 h)));
     },
     record { once = lists.once; exact = λ item. ((λ h. (whole item).0 ((lists.exact item).0 h)), (λ i. (lists.exact item).1 ((whole item).1 i))) },
   )
 
-  begun_link : (link : Link) → MakesBegun g place kernel link → IsLink g (FlatEdges g (Held edges)) top place link
+  begun_link : (link : Link) → MakesBegun g earleme kernel link → IsLink g (FlatEdges g (Held edges)) top earleme link
   begun_link (Predicts before r) (from, (x, waits, rule, l)) = (x, elim from [ inl k ↦ in_kernel before k | inr b ↦ in_begun before b ], waits, rule, l)
   begun_link (Skips before) (b, (x, waits, n)) = (x, in_begun before b, waits, n)
   begun_link (Scans before from) m = absurd m
   begun_link (Completes done waiting) m = absurd m
   begun_link (Leaps done) m = absurd m
 
-  links_apart : (link : Link) → MakesKernel g rows place edges kernel link → MakesBegun g place kernel link → ⊥
+  links_apart : (link : Link) → MakesKernel g rows earleme edges kernel link → MakesBegun g earleme kernel link → ⊥
   links_apart (Predicts before r) (inl (edge, held, ends, (item, w, e))) m = absurd (cc)
   links_apart (Predicts before r) (inr (item, there, none)) m = absurd none
   links_apart (Skips before) (inl (edge, held, ends, (item, w, e))) m = absurd (cc)
@@ -69,6 +69,6 @@ module _ (g : FlatGrammar) (edges : List HeldEdge) (top : ℕ) (is_top : IsTop g
   links_apart (Leaps done) k m = absurd m
 
   -- the kernel's links, and then those of what begins
-  pub set_links : (a b c : ℕ) → RisesBy (MakesKernel g rows place edges kernel) a b → TriesList g kernel list b c → RisesBy (IsLink g (FlatEdges g (Held edges)) top place) a c
+  pub set_links : (a b c : ℕ) → RisesBy (MakesKernel g rows earleme edges kernel) a b → TriesList g kernel list b c → RisesBy (IsLink g (FlatEdges g (Held edges)) top earleme) a c
   set_links a b c own tries =
-      rises_on (IsLink g (FlatEdges g (Held edges)) top place) (kernel_link g edges top is_top forward rows place are kernel in_kernel) begun_link links_apart own (list_tried g place kernel list begun never_begun b c tries)
+      rises_on (IsLink g (FlatEdges g (Held edges)) top earleme) (kernel_link g edges top is_top forward rows earleme are kernel in_kernel) begun_link links_apart own (list_tried g earleme kernel list begun never_begun b c tries)

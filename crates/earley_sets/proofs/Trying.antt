@@ -60,31 +60,31 @@ module _ (g : FlatGrammar) (item : Item) where
         (λ l (n, s). subst (MakesLater g item) (sym s) (refl, (x, waits, n)))
         (λ l (r, rule, i, s) (n', t). absurd (let d : Predicts item r ≡ Skips item = sym s ∙ t in cc)) (predicted rules) skip
 
-module _ (g : FlatGrammar) (rows : List (List Item)) (place : ℕ) (item : Item) where
-  pub links_skipped : (x a b : ℕ) → after g item ≡ Some x → RisesBy (MakesSkip g item x) a b → RisesBy (MakesLink g rows place item) a b
-  links_skipped x a b e r = rises_as (MakesLink g rows place item) (λ l (n, s). subst (MakesLink g rows place item) (sym s) (refl, (x, e, n))) r
+module _ (g : FlatGrammar) (rows : List (List Item)) (earleme : ℕ) (item : Item) where
+  pub links_skipped : (x a b : ℕ) → after g item ≡ Some x → RisesBy (MakesSkip g item x) a b → RisesBy (MakesLink g rows earleme item) a b
+  links_skipped x a b e r = rises_as (MakesLink g rows earleme item) (λ l (n, s). subst (MakesLink g rows earleme item) (sym s) (refl, (x, e, n))) r
 
-  module _ (none : after g item ≡ None) (is : IsItem g item) (lt : item.origin < place) where
+  module _ (none : after g item ≡ None) (is : IsItem g item) (lt : item.origin < earleme) where
     whole : IsWhole g item
     whole = get_end (rhs_of g item.rule) item.dot is.within none
 
-    done : (a b : ℕ) → RisesByDone g rows item.origin (lhs_of g item.rule) a b → RisesBy (MakesLink g rows place item) a b
-    done a b (inl (never, r)) = rises_over (MakesLink g rows place item) (Completes item) (λ w h. (refl, whole, lt, never, h)) (λ v w h i e. cc) r
-    done a b (inr ((topmost, leads), e)) = rises_one (MakesLink g rows place item) (Leaps item) a b (refl, whole, lt, (topmost, leads)) e
+    done : (a b : ℕ) → RisesByDone g rows item.origin (lhs_of g item.rule) a b → RisesBy (MakesLink g rows earleme item) a b
+    done a b (inl (never, r)) = rises_over (MakesLink g rows earleme item) (Completes item) (λ w h. (refl, whole, lt, never, h)) (λ v w h i e. cc) r
+    done a b (inr ((topmost, leads), e)) = rises_one (MakesLink g rows earleme item) (Leaps item) a b (refl, whole, lt, (topmost, leads)) e
 
-    pub links_done : (pair : Pair) → pair ≡ pair_of g item → (a b : ℕ) → RisesByDone g rows pair.set pair.symbol a b → RisesBy (MakesLink g rows place item) a b
+    pub links_done : (pair : Pair) → pair ≡ pair_of g item → (a b : ℕ) → RisesByDone g rows pair.set pair.symbol a b → RisesBy (MakesLink g rows earleme item) a b
     links_done pair same a b r = done a b (subst (λ (p : Pair). RisesByDone g rows p.set p.symbol a b) same r)
 
   -- a link names the item that makes it
-  pub same_maker : (link : Link) (other : Item) → MakesLink g rows place item link → MakesLink g rows place other link → item ≡ other
+  pub same_maker : (link : Link) (other : Item) → MakesLink g rows earleme item link → MakesLink g rows earleme other link → item ≡ other
   same_maker (Predicts before r) other m n = absurd m
   same_maker (Skips before) other m n = sym m.0 ∙ n.0
   same_maker (Scans before from) other m n = absurd m
   same_maker (Completes done waiting) other m n = sym m.0 ∙ n.0
   same_maker (Leaps done) other m n = sym m.0 ∙ n.0
 
-  never_scans : (link : Link) (before : Item) (from : ℕ) → link ≡ Scans before from → MakesLink g rows place item link → ⊥
-  never_scans link before from e m = subst (MakesLink g rows place item) e m
+  never_scans : (link : Link) (before : Item) (from : ℕ) → link ≡ Scans before from → MakesLink g rows earleme item link → ⊥
+  never_scans link before from e m = subst (MakesLink g rows earleme item) e m
 
 -- an item that begins makes no link of another
 pub same_later : (g : FlatGrammar) (item : Item) (link : Link) (other : Item) → MakesLater g item link → MakesLater g other link → item ≡ other
@@ -115,24 +115,24 @@ module _ (M : Item → Link → Type 0) (same : (item : Item) (link : Link) (oth
   pub tried_all : (keys : List Item) (k a b : ℕ) → length keys ≤ k → RisesBy (MakesAny (take k keys)) a b → RisesBy (MakesAny keys) a b
   tried_all keys k a b le r = subst (λ l. RisesBy (MakesAny l) a b) (take_all k keys le) r
 
-module _ (g : FlatGrammar) (rows : List (List Item)) (place : ℕ) where
+module _ (g : FlatGrammar) (rows : List (List Item)) (earleme : ℕ) where
   -- the links of no edge
-  pub scans_none : (edges : List HeldEdge) (a : ℕ) → RisesBy (MakesScan g rows place (take 0 edges)) a a
-  scans_none edges a = rises_none (MakesScan g rows place (take 0 edges)) a a refl
+  pub scans_none : (edges : List HeldEdge) (a : ℕ) → RisesBy (MakesScan g rows earleme (take 0 edges)) a a
+  scans_none edges a = rises_none (MakesScan g rows earleme (take 0 edges)) a a refl
 
   -- the links of one edge more
-  pub scans_more : (edges : List HeldEdge) (k : ℕ) (edge : HeldEdge) (a b c : ℕ) → AllPairs (λ x y. x ≢ y) edges → slice_get edges k ≡ Some edge → edge.to ≡ place →
-      RisesBy (MakesScan g rows place (take k edges)) a b → RisesBy (AwaitsEdge g rows edge) b c → RisesBy (MakesScan g rows place (take (k + 1) edges)) a c
+  pub scans_more : (edges : List HeldEdge) (k : ℕ) (edge : HeldEdge) (a b c : ℕ) → AllPairs (λ x y. x ≢ y) edges → slice_get edges k ≡ Some edge → edge.to ≡ earleme →
+      RisesBy (MakesScan g rows earleme (take k edges)) a b → RisesBy (AwaitsEdge g rows edge) b c → RisesBy (MakesScan g rows earleme (take (k + 1) edges)) a c
   scans_more edges k edge a b c once at ends before now =
-      subst (λ l. RisesBy (MakesScan g rows place l) a c) (sym (ap (take (k + 1)) (sym (append-nil edges)) ∙ take_next edges [] k edge (sym at)))
-      (rises_on (MakesScan g rows place (take k edges ++ edge ∷ []))
+      subst (λ l. RisesBy (MakesScan g rows earleme l) a c) (sym (ap (take (k + 1)) (sym (append-nil edges)) ∙ take_next edges [] k edge (sym at)))
+      (rises_on (MakesScan g rows earleme (take k edges ++ edge ∷ []))
       (λ link (other, there, ends, m). (other, Contains-append_left (take k edges) (edge ∷ []) other there, ends, m))
       (λ link (item, m, e). (edge, Contains-push (take k edges) edge, ends, (item, m, e)))
       (λ link (other, there, ends', (item', m', e')) (item, m, e).
       not_before edges k edge once (sym at) (subst (Contains (take k edges)) (same_edge other item' item ends' m' m (sym e' ∙ e)) there))
       before (rises_over (λ l. (item : Item) × AwaitsEdge g rows edge item × (l ≡ Scans item edge.from)) (λ item. Scans item edge.from) (λ item m. (item, m, refl)) (λ v w h i e. cc) now))
     where
-      same_edge : (other : HeldEdge) (item' item : Item) → other.to ≡ place → AwaitsEdge g rows other item' → AwaitsEdge g rows edge item → Scans item' other.from ≡ Scans item edge.from → other ≡ edge
+      same_edge : (other : HeldEdge) (item' item : Item) → other.to ≡ earleme → AwaitsEdge g rows other item' → AwaitsEdge g rows edge item → Scans item' other.from ≡ Scans item edge.from → other ≡ edge
       same_edge other item' item ends' (x', is', (there', waits')) (x, is, (there, waits)) e =
           let items : item' ≡ item = cc in
           let froms : other.from ≡ edge.from = cc in
@@ -141,36 +141,36 @@ module _ (g : FlatGrammar) (rows : List (List Item)) (place : ℕ) where
           let tos : other.to ≡ edge.to = ends' ∙ sym ends in
           λ i. record { symbol = terminals i; from = froms i; to = tos i }
 
-  pub scans_all : (edges : List HeldEdge) (k a b : ℕ) → length edges ≤ k → RisesBy (MakesScan g rows place (take k edges)) a b → RisesBy (MakesScan g rows place edges) a b
-  scans_all edges k a b le r = subst (λ l. RisesBy (MakesScan g rows place l) a b) (take_all k edges le) r
+  pub scans_all : (edges : List HeldEdge) (k a b : ℕ) → length edges ≤ k → RisesBy (MakesScan g rows earleme (take k edges)) a b → RisesBy (MakesScan g rows earleme edges) a b
+  scans_all edges k a b le r = subst (λ l. RisesBy (MakesScan g rows earleme l) a b) (take_all k edges le) r
 
   -- the links of those that end at the place, of all edges
-  pub scans_ending : (edges ending : List HeldEdge) (a b : ℕ) → ((e : HeldEdge) → Contains ending e ↔ (Contains edges e × (e.to ≡ place))) → RisesBy (MakesScan g rows place ending) a b → RisesBy (MakesScan g rows place edges) a b
-  scans_ending edges ending a b are r = rises_as (MakesScan g rows place edges) (λ link (edge, there, ends, m). (edge, ((are edge).0 there).0, ends, m)) r
+  pub scans_ending : (edges ending : List HeldEdge) (a b : ℕ) → ((e : HeldEdge) → Contains ending e ↔ (Contains edges e × (e.to ≡ earleme))) → RisesBy (MakesScan g rows earleme ending) a b → RisesBy (MakesScan g rows earleme edges) a b
+  scans_ending edges ending a b are r = rises_as (MakesScan g rows earleme edges) (λ link (edge, there, ends, m). (edge, ((are edge).0 there).0, ends, m)) r
 
 -- what was tried while a set was made are links of the set
-module _ (g : FlatGrammar) (edges : List HeldEdge) (top : ℕ) (is_top : IsTop g top) (forward : GoForward edges) (rows : List (List Item)) (place : ℕ) (are : AreReduced g edges top rows place) where
-  scan_link : (link : Link) → MakesScan g rows place edges link → IsLink g (FlatEdges g (Held edges)) top place link
+module _ (g : FlatGrammar) (edges : List HeldEdge) (top : ℕ) (is_top : IsTop g top) (forward : GoForward edges) (rows : List (List Item)) (earleme : ℕ) (are : AreReduced g edges top rows earleme) where
+  scan_link : (link : Link) → MakesScan g rows earleme edges link → IsLink g (FlatEdges g (Held edges)) top earleme link
   scan_link link (edge, held, ends, (item, (x, is, (there, waits)), e)) =
       let lt = forward edge held in
-      subst (IsLink g (FlatEdges g (Held edges)) top place) (sym e)
+      subst (IsLink g (FlatEdges g (Held edges)) top earleme) (sym e)
       (x, (are edge.from (omega (arith, lt, ends)) item).0 there, waits, (edge.symbol, is, subst (λ k. Held edges edge.symbol edge.from k) ends held))
 
-  item_link : (item : Item) → InReduced g (FlatEdges g (Held edges)) top place item → (link : Link) → MakesLink g rows place item link → IsLink g (FlatEdges g (Held edges)) top place link
+  item_link : (item : Item) → InReduced g (FlatEdges g (Held edges)) top earleme item → (link : Link) → MakesLink g rows earleme item link → IsLink g (FlatEdges g (Held edges)) top earleme link
   item_link item i (Predicts before r) m = absurd m
-  item_link item i (Skips before) (s, (x, e, n)) = subst (λ b. IsLink g (FlatEdges g (Held edges)) top place (Skips b)) (sym s) (x, i, e, n)
+  item_link item i (Skips before) (s, (x, e, n)) = subst (λ b. IsLink g (FlatEdges g (Held edges)) top earleme (Skips b)) (sym s) (x, i, e, n)
   item_link item i (Scans before from) m = absurd m
   item_link item i (Completes done waiting) (s, whole, lt, none, (there, waits)) =
-      subst (λ b. IsLink g (FlatEdges g (Held edges)) top place (Completes b waiting)) (sym s)
-      ((i, whole, lt), to_none g edges top is_top forward rows place are item.origin (lhs_of g item.rule) lt none, (are item.origin lt waiting).0 there, waits)
+      subst (λ b. IsLink g (FlatEdges g (Held edges)) top earleme (Completes b waiting)) (sym s)
+      ((i, whole, lt), to_none g edges top is_top forward rows earleme are item.origin (lhs_of g item.rule) lt none, (are item.origin lt waiting).0 there, waits)
   item_link item i (Leaps done) (s, whole, lt, (topmost, leads)) =
-      subst (λ b. IsLink g (FlatEdges g (Held edges)) top place (Leaps b)) (sym s) ((i, whole, lt), (topmost, to_leads g edges top is_top forward rows place are lt leads))
+      subst (λ b. IsLink g (FlatEdges g (Held edges)) top earleme (Leaps b)) (sym s) ((i, whole, lt), (topmost, to_leads g edges top is_top forward rows earleme are lt leads))
 
-  pub kernel_link : (keys : List Item) → ((item : Item) → Contains keys item → InReduced g (FlatEdges g (Held edges)) top place item) → (link : Link) → MakesKernel g rows place edges keys link → IsLink g (FlatEdges g (Held edges)) top place link
+  pub kernel_link : (keys : List Item) → ((item : Item) → Contains keys item → InReduced g (FlatEdges g (Held edges)) top earleme item) → (link : Link) → MakesKernel g rows earleme edges keys link → IsLink g (FlatEdges g (Held edges)) top earleme link
   kernel_link keys inside link (inl scan) = scan_link link scan
   kernel_link keys inside link (inr (item, there, m)) = item_link item (inside item there) link m
 
 -- the edges' links and then those of all items
-pub all_links : (g : FlatGrammar) (edges : List HeldEdge) (rows : List (List Item)) (place : ℕ) (keys : List Item) (a b c : ℕ) → RisesBy (MakesScan g rows place edges) a b → RisesBy (MakesOne g rows place keys) b c → RisesBy (MakesKernel g rows place edges keys) a c
-all_links g edges rows place keys a b c scans made =
-    rises_on (MakesKernel g rows place edges keys) (λ link m. inl m) (λ link m. inr m) (λ link (edge, held, ends, (from, w, e)) (item, there, m). never_scans g rows place item link from edge.from e m) scans made
+pub all_links : (g : FlatGrammar) (edges : List HeldEdge) (rows : List (List Item)) (earleme : ℕ) (keys : List Item) (a b c : ℕ) → RisesBy (MakesScan g rows earleme edges) a b → RisesBy (MakesOne g rows earleme keys) b c → RisesBy (MakesKernel g rows earleme edges keys) a c
+all_links g edges rows earleme keys a b c scans made =
+    rises_on (MakesKernel g rows earleme edges keys) (λ link m. inl m) (λ link m. inr m) (λ link (edge, held, ends, (from, w, e)) (item, there, m). never_scans g rows earleme item link from edge.from e m) scans made

@@ -27,8 +27,8 @@ abbrev pub AreBegun : FlatGrammar → (ℕ → Type 0) → List Item → Type 0
 AreBegun g Awaited items = (item : Item) → Contains items item ↔ Begins g Awaited item
 
 -- an item begins at a place where items wait
-abbrev pub IsBegun : FlatGrammar → (place : ℕ) → List Item → Item → Type 0
-IsBegun g place items item = (item.origin ≡ place) × Begins g (IsAwaited g items) (record item { origin = 0 })
+abbrev pub IsBegun : FlatGrammar → (earleme : ℕ) → List Item → Item → Type 0
+IsBegun g earleme items item = (item.origin ≡ earleme) × Begins g (IsAwaited g items) (record item { origin = 0 })
 
 -- a number is noted for the symbols
 abbrev pub IsNoted : List (Vec ℕ Global × ℕ) → List ℕ → ℕ → Type 0

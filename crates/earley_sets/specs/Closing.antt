@@ -19,16 +19,16 @@ abbrev pub IsDone : FlatGrammar → (rows : List (List Item)) → (i x : ℕ) �
 IsDone g rows i x other = (IsNotLeoIn g rows i x × IsAdvancedOver g (row_at rows i) x other) ⊎ LeadsIn g rows i x other
 
 -- one item leads to another in the same set
-pub data Follows (g : FlatGrammar) (rows : List (List Item)) (place : ℕ) (item : Item) : Item → Type 0 where
-  Predicts : {x r : ℕ} → after g item ≡ Some x → IsRule g r → lhs_of g r ≡ x → Follows g rows place item (first_item r place)
-  Skips : {x : ℕ} → after g item ≡ Some x → IsNullable g x → Follows g rows place item (advanced item)
-  Completes : {waiting : Item} → IsWhole g item → item.origin < place → IsNotLeoIn g rows item.origin (lhs_of g item.rule) →
-      Contains (row_at rows item.origin) waiting → after g waiting ≡ Some (lhs_of g item.rule) → Follows g rows place item (advanced waiting)
-  Leaps : {topmost : Item} → IsWhole g item → item.origin < place → LeadsIn g rows item.origin (lhs_of g item.rule) topmost → Follows g rows place item topmost
+pub data Follows (g : FlatGrammar) (rows : List (List Item)) (earleme : ℕ) (item : Item) : Item → Type 0 where
+  Predicts : {x r : ℕ} → after g item ≡ Some x → IsRule g r → lhs_of g r ≡ x → Follows g rows earleme item (first_item r earleme)
+  Skips : {x : ℕ} → after g item ≡ Some x → IsNullable g x → Follows g rows earleme item (advanced item)
+  Completes : {waiting : Item} → IsWhole g item → item.origin < earleme → IsNotLeoIn g rows item.origin (lhs_of g item.rule) →
+      Contains (row_at rows item.origin) waiting → after g waiting ≡ Some (lhs_of g item.rule) → Follows g rows earleme item (advanced waiting)
+  Leaps : {topmost : Item} → IsWhole g item → item.origin < earleme → LeadsIn g rows item.origin (lhs_of g item.rule) topmost → Follows g rows earleme item topmost
 
 -- what follows from an item, without the rules that begin
-abbrev pub GoesOn : FlatGrammar → (rows : List (List Item)) → (place : ℕ) → Item → Item → Type 0
-GoesOn g rows place item other = Follows g rows place item other × (other.dot ≢ 0)
+abbrev pub GoesOn : FlatGrammar → (rows : List (List Item)) → (earleme : ℕ) → Item → Item → Type 0
+GoesOn g rows earleme item other = Follows g rows earleme item other × (other.dot ≢ 0)
 
 -- what some items lead to
 pub data IsReached (F : Item → Item → Type 0) (seeds : List Item) : Item → Type 0 where

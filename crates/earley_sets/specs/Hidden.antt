@@ -11,23 +11,23 @@ abbrev pub IsWholeFrom : FlatGrammar → List Item → (from : ℕ) → Item →
 IsWholeFrom g row from item = Contains row item × IsWhole g item × (from ≤ item.origin)
 
 -- the single step of a whole item, if it begins at `from` or behind it
-abbrev pub IsSingleStep : FlatGrammar → List (List Item) → (place from : ℕ) → Item → Item → Type 0
-IsSingleStep g rows place from item other =
-    (item.origin < place) × ((leo : Item) × IsLeoIn g rows item.origin (lhs_of g item.rule) leo × (other ≡ advanced leo)) × (from ≤ other.origin)
+abbrev pub IsSingleStep : FlatGrammar → List (List Item) → (earleme from : ℕ) → Item → Item → Type 0
+IsSingleStep g rows earleme from item other =
+    (item.origin < earleme) × ((leo : Item) × IsLeoIn g rows item.origin (lhs_of g item.rule) leo × (other ≡ advanced leo)) × (from ≤ other.origin)
 
 -- an item of a list that begins at `from` or behind it
 abbrev pub IsFrom : List Item → (from : ℕ) → Item → Type 0
 IsFrom items from item = Contains items item × (from ≤ item.origin)
 
 -- no single step leads on from those
-abbrev pub NoneLeadsOn : FlatGrammar → List (List Item) → (place from : ℕ) → List Item → Type 0
-NoneLeadsOn g rows place from items = (item step : Item) → IsFrom items from item → ¬ IsSingleStep g rows place from item step
+abbrev pub NoneLeadsOn : FlatGrammar → List (List Item) → (earleme from : ℕ) → List Item → Type 0
+NoneLeadsOn g rows earleme from items = (item step : Item) → IsFrom items from item → ¬ IsSingleStep g rows earleme from item step
 
 -- what single steps lead to from the whole items of a row
-pub data IsStepped (g : FlatGrammar) (rows : List (List Item)) (place from : ℕ) : Item → Type 0 where
-  Kept : {item : Item} → IsWholeFrom g (row_at rows place) from item → IsStepped g rows place from item
-  Step : {item other : Item} → IsStepped g rows place from item → IsSingleStep g rows place from item other → IsStepped g rows place from other
+pub data IsStepped (g : FlatGrammar) (rows : List (List Item)) (earleme from : ℕ) : Item → Type 0 where
+  Kept : {item : Item} → IsWholeFrom g (row_at rows earleme) from item → IsStepped g rows earleme from item
+  Step : {item other : Item} → IsStepped g rows earleme from item → IsSingleStep g rows earleme from item other → IsStepped g rows earleme from other
 
 -- of that, what is not in the row
-abbrev pub IsHiddenIn : FlatGrammar → List (List Item) → (place from : ℕ) → Item → Type 0
-IsHiddenIn g rows place from item = IsStepped g rows place from item × (¬ Contains (row_at rows place) item)
+abbrev pub IsHiddenIn : FlatGrammar → List (List Item) → (earleme from : ℕ) → Item → Type 0
+IsHiddenIn g rows earleme from item = IsStepped g rows earleme from item × (¬ Contains (row_at rows earleme) item)

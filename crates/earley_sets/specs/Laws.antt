@@ -22,5 +22,5 @@ TreesAreDerivations = (w : Grammar) (r : Recognizer) (start : ℕ) → IsChecked
 
 -- the links that are tried, each once, are no more than the set has
 abbrev pub TriesAreFew : Type 0
-TriesAreFew = (r : Recognizer) (place links : ℕ) (tried : List Link) → AllPairs (λ a b. a ≢ b) tried →
-    ((l : Link) → Contains tried l → IsLink r.flat (edges_of r) (top_of r) place l) → IsCountOf (IsLink r.flat (edges_of r) (top_of r) place) links → length tried ≤ links
+TriesAreFew = (r : Recognizer) (earleme links : ℕ) (tried : List Link) → AllPairs (λ a b. a ≢ b) tried →
+    ((l : Link) → Contains tried l → IsLink r.flat (edges_of r) (top_of r) earleme l) → IsCountOf (IsLink r.flat (edges_of r) (top_of r) earleme) links → length tried ≤ links

@@ -6,6 +6,5 @@ pub mod Scanning
 pub mod Tried
 pub mod Recognizer
 pub mod Counted
-pub mod Heads
 pub mod Hidden
 pub mod Laws

@@ -21,22 +21,22 @@ pub record IsScannedBy (g : FlatGrammar) (rows : List (List Item)) (edge : HeldE
   pub same : other ≡ advanced waiting
 
 -- one of the edges that end at the place does
-abbrev pub IsScanned : FlatGrammar → List (List Item) → (place : ℕ) → List HeldEdge → Item → Type 0
-IsScanned g rows place edges other = (edge : HeldEdge) × Contains edges edge × (edge.to ≡ place) × IsScannedBy g rows edge other
+abbrev pub IsScanned : FlatGrammar → List (List Item) → (earleme : ℕ) → List HeldEdge → Item → Type 0
+IsScanned g rows earleme edges other = (edge : HeldEdge) × Contains edges edge × (edge.to ≡ earleme) × IsScannedBy g rows edge other
 
 -- what a set begins with
-abbrev pub IsSeed : FlatGrammar → List (List Item) → (top place : ℕ) → List HeldEdge → Item → Type 0
-IsSeed g rows top place edges item = ((place ≡ 0) × (item ≡ first_item top 0)) ⊎ IsScanned g rows place edges item
+abbrev pub IsSeed : FlatGrammar → List (List Item) → (top earleme : ℕ) → List HeldEdge → Item → Type 0
+IsSeed g rows top earleme edges item = ((earleme ≡ 0) × (item ≡ first_item top 0)) ⊎ IsScanned g rows earleme edges item
 
 -- a kernel: what a set begins with, and what goes on from that
-pub record IsKernel (g : FlatGrammar) (rows : List (List Item)) (top place : ℕ) (edges : List HeldEdge) (items : List Item) : Type 0 where
+pub record IsKernel (g : FlatGrammar) (rows : List (List Item)) (top earleme : ℕ) (edges : List HeldEdge) (items : List Item) : Type 0 where
   pub seeds : List Item
-  pub are : (item : Item) → Contains seeds item ↔ IsSeed g rows top place edges item
-  pub exact : (item : Item) → Contains items item ↔ IsReached (GoesOn g rows place) seeds item
+  pub are : (item : Item) → Contains seeds item ↔ IsSeed g rows top earleme edges item
+  pub exact : (item : Item) → Contains items item ↔ IsReached (GoesOn g rows earleme) seeds item
 
 abbrev pub GoForward : List HeldEdge → Type 0
 GoForward edges = (e : HeldEdge) → Contains edges e → e.from < e.to
 
 -- the rows before a place are the reduced sets
-abbrev pub AreReduced : FlatGrammar → List HeldEdge → (top : ℕ) → List (List Item) → (place : ℕ) → Type 0
-AreReduced g edges top rows place = (i : ℕ) → i < place → (item : Item) → Contains (row_at rows i) item ↔ InReduced g (FlatEdges g (Held edges)) top i item
+abbrev pub AreReduced : FlatGrammar → List HeldEdge → (top : ℕ) → List (List Item) → (earleme : ℕ) → Type 0
+AreReduced g edges top rows earleme = (i : ℕ) → i < earleme → (item : Item) → Contains (row_at rows i) item ↔ InReduced g (FlatEdges g (Held edges)) top i item

@@ -26,9 +26,9 @@ abbrev pub AwaitsEdge : FlatGrammar → List (List Item) → HeldEdge → Item �
 AwaitsEdge g rows edge item = (x : ℕ) × (slice_get g.symbols x ≡ Some (Terminal edge.symbol)) × IsWaiting g (row_at rows edge.from) x item
 
 -- the link that one of the edges to a place makes
-abbrev pub MakesScan : FlatGrammar → List (List Item) → (place : ℕ) → List HeldEdge → Link → Type 0
-MakesScan g rows place edges link =
-    (edge : HeldEdge) × Contains edges edge × (edge.to ≡ place) × ((item : Item) × AwaitsEdge g rows edge item × (link ≡ Scans item edge.from))
+abbrev pub MakesScan : FlatGrammar → List (List Item) → (earleme : ℕ) → List HeldEdge → Link → Type 0
+MakesScan g rows earleme edges link =
+    (edge : HeldEdge) × Contains edges edge × (edge.to ≡ earleme) × ((item : Item) × AwaitsEdge g rows edge item × (link ≡ Scans item edge.from))
 
 -- the link of an item that waits for the symbol with what skipping makes of it
 abbrev pub MakesSkip : FlatGrammar → Item → (symbol : ℕ) → Link → Type 0
@@ -39,21 +39,21 @@ abbrev pub RisesByDone : FlatGrammar → (rows : List (List Item)) → (i x : �
 RisesByDone g rows i x old new = (IsNotLeoIn g rows i x × RisesBy (IsWaiting g (row_at rows i) x) old new) ⊎ (((topmost : Item) × LeadsIn g rows i x topmost) × (new ≡ old + 1))
 
 -- the links that an item of a set makes with what goes on from it, by the rows of the places before
-abbrev pub MakesLink : FlatGrammar → (rows : List (List Item)) → (place : ℕ) → Item → Link → Type 0
-MakesLink g rows place item (Predicts before r) = ⊥
-MakesLink g rows place item (Skips before) = (before ≡ item) × ((x : ℕ) × (after g item ≡ Some x) × IsNullable g x)
-MakesLink g rows place item (Scans before from) = ⊥
-MakesLink g rows place item (Completes whole waiting) = (whole ≡ item) × IsWhole g item × (item.origin < place) ×
+abbrev pub MakesLink : FlatGrammar → (rows : List (List Item)) → (earleme : ℕ) → Item → Link → Type 0
+MakesLink g rows earleme item (Predicts before r) = ⊥
+MakesLink g rows earleme item (Skips before) = (before ≡ item) × ((x : ℕ) × (after g item ≡ Some x) × IsNullable g x)
+MakesLink g rows earleme item (Scans before from) = ⊥
+MakesLink g rows earleme item (Completes whole waiting) = (whole ≡ item) × IsWhole g item × (item.origin < earleme) ×
     IsNotLeoIn g rows item.origin (lhs_of g item.rule) × IsWaiting g (row_at rows item.origin) (lhs_of g item.rule) waiting
-MakesLink g rows place item (Leaps whole) = (whole ≡ item) × IsWhole g item × (item.origin < place) × ((topmost : Item) × LeadsIn g rows item.origin (lhs_of g item.rule) topmost)
+MakesLink g rows earleme item (Leaps whole) = (whole ≡ item) × IsWhole g item × (item.origin < earleme) × ((topmost : Item) × LeadsIn g rows item.origin (lhs_of g item.rule) topmost)
 
 -- one of the items makes the link
-abbrev pub MakesOne : FlatGrammar → (rows : List (List Item)) → (place : ℕ) → List Item → Link → Type 0
-MakesOne g rows place items link = (item : Item) × Contains items item × MakesLink g rows place item link
+abbrev pub MakesOne : FlatGrammar → (rows : List (List Item)) → (earleme : ℕ) → List Item → Link → Type 0
+MakesOne g rows earleme items link = (item : Item) × Contains items item × MakesLink g rows earleme item link
 
 -- an edge to the place makes the link, or an item of the kernel
-abbrev pub MakesKernel : FlatGrammar → (rows : List (List Item)) → (place : ℕ) → List HeldEdge → List Item → Link → Type 0
-MakesKernel g rows place edges items link = MakesScan g rows place edges link ⊎ MakesOne g rows place items link
+abbrev pub MakesKernel : FlatGrammar → (rows : List (List Item)) → (earleme : ℕ) → List HeldEdge → List Item → Link → Type 0
+MakesKernel g rows earleme edges items link = MakesScan g rows earleme edges link ⊎ MakesOne g rows earleme items link
 
 -- the links that an item makes that begins
 abbrev pub MakesLater : FlatGrammar → Item → Link → Type 0

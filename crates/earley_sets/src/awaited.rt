@@ -3,12 +3,12 @@ ghost use Rattle.std.specs.Prelude.{◌≡◌, ◌≢◌, ℕ, ◌↔◌, Some, 
 ghost use Rattle.std.specs.List.{AllPairs};
 ghost use Rattle.recognizer_model.specs.Items.{after};
 ghost use Rattle.item_rows.specs.Kept.{IsItem, AreItems};
-ghost use Rattle.earley_sets.specs.Heads.{AreHeads};
+ghost use Rattle.item_rows.specs.Heads.{AreHeads};
 ghost use Rattle.earley_sets.specs.Begun.{HasRule, AreAwaited};
 
 use crate::follow::next_symbol;
-use crate::heads::{Heads, rules_of};
 use grammar_core::Flat;
+use item_rows::{Heads, rules_of};
 use recognizer_model::Item;
 use std::alloc::AllocFailed;
 

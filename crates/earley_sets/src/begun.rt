@@ -5,16 +5,16 @@ ghost use Rattle.recognizer_model.specs.declared.Item.{Item};
 ghost use Rattle.recognizer_model.specs.Flat.{IsRule, lhs_of};
 ghost use Rattle.recognizer_model.specs.Items.{first_item};
 ghost use Rattle.item_rows.specs.Kept.{IsItem, AreItems};
-ghost use Rattle.earley_sets.specs.Heads.{AreHeads};
+ghost use Rattle.item_rows.specs.Heads.{AreHeads};
 ghost use Rattle.earley_sets.specs.Closing.{Follows, IsReached};
 ghost use Rattle.earley_sets.specs.Begun.{IsPredicted, IsFirst, BeginTogether, AreBegun};
 ghost use Rattle.earley_sets.specs.Tried.{RisesBy, MakesLater, MakesOneLater, IsRuleOf, TriesBegun};
 
 use crate::close::{add_items, item_at, refill};
 use crate::follow::{list_skipped, next_symbol};
-use crate::heads::{Heads, rules_of};
 use grammar_core::Flat;
 use indexmap::IndexSet;
+use item_rows::{Heads, rules_of};
 use recognizer_model::Item;
 use slif_base::Steps;
 use std::alloc::{AllocError, AllocFailed};
@@ -134,7 +134,7 @@ fn close_begun<L: Ledger>(
         add_items(set, next, steps)?;
     }
     let _len = set.len();
-    Ok(())
+    unreachable!()
 }
 
 // Lists the first items of the symbols' rules, in place of what it held.

@@ -7,21 +7,20 @@ ghost use Rattle.recognizer_model.specs.Contexts.{IsTop};
 ghost use Rattle.recognizer_model.specs.Items.{first_item};
 ghost use Rattle.leo_items.specs.ByRows.{IsMemo, NotesMore, AreNulled};
 ghost use Rattle.earley_sets.specs.Kept.{IsItem, AreItems, HasRows};
-ghost use Rattle.earley_sets.specs.Heads.{AreHeads};
+ghost use Rattle.item_rows.specs.Heads.{AreHeads};
 ghost use Rattle.earley_sets.specs.Closing.{Adds, GoesOn, IsReached, Grows};
 ghost use Rattle.earley_sets.specs.Scanning.{IsScanned, IsScannedBy, IsSeed, IsKernel, GoForward, AreReduced};
 ghost use Rattle.earley_sets.specs.Tried.{RisesBy, AwaitsEdge, MakesScan, MakesOne, MakesKernel};
 
 use crate::follow::{list_completed, list_next};
-use crate::heads::{Heads, symbol_of};
 use grammar_core::{Flat, SymbolId, TokenEdges};
 use grammar_model::Edge as HeldEdge;
 use indexmap::IndexSet;
-use item_rows::Rows;
+use item_rows::{Heads, Rows, symbol_of};
 use leo_items::Memo;
 use recognizer_model::Item;
 use slif_base::Steps;
-use std::alloc::{AllocError, AllocFailed};
+use std::alloc::{AllocError, AllocFailed, Global};
 use std::sync::ledger::Ledger;
 
 /// Tries to add an item, and counts the try.
@@ -68,7 +67,7 @@ fn close<L: Ledger>(
     flat: &Flat,
     rows: &Rows<'_>,
     memo: &mut Memo,
-    place: u32,
+    earleme: u32,
     set: &mut IndexSet<Item>,
     next: &mut Vec<Item>,
     steps: &mut Steps<L>,
@@ -77,23 +76,23 @@ fn close<L: Ledger>(
     requires rows { HasRows flat.now rows.now }
     requires nulled { AreNulled flat.now rows.now.sets }
     requires memo { IsMemo flat.now rows.now.sets memo.old }
-    requires place { place ≤ length rows.now.sets }
+    requires earleme { earleme ≤ length rows.now.sets }
     ensures items { OnOk result (AreItems flat.now set.new.keys) }
     ensures memo { NotesMore flat.now rows.now.sets memo.old memo.new }
     ensures closed { OnOk result ((item : Item) → Contains set.new.keys item ↔
-        IsReached (GoesOn flat.now rows.now.sets place) set.old.keys item) }
-    ensures counted { OnOk result (RisesBy (MakesOne flat.now rows.now.sets place set.new.keys) (steps.old + length memo.new) (steps.new + length memo.old)) }
+        IsReached (GoesOn flat.now rows.now.sets earleme) set.old.keys item) }
+    ensures counted { OnOk result (RisesBy (MakesOne flat.now rows.now.sets earleme set.new.keys) (steps.old + length memo.new) (steps.new + length memo.old)) }
 {
     for k in 0..usize::MAX {
         let Some(item) = item_at(set, k) else {
             return Ok(());
         };
         next.clear();
-        list_next(flat, rows, memo, place, item, next, steps)?;
+        list_next(flat, rows, memo, earleme, item, next, steps)?;
         add_items(set, next, steps)?;
     }
     let _len = set.len();
-    Ok(())
+    unreachable!()
 }
 
 // Lists the items that an edge of a terminal advances.
@@ -124,7 +123,7 @@ fn list_scanned(
     heads: &Heads,
     rows: &Rows<'_>,
     edges: &TokenEdges,
-    place: u32,
+    earleme: u32,
     ending: &mut Vec<HeldEdge>,
     next: &mut Vec<Item>,
 ) -> Result<(), AllocError>
@@ -132,10 +131,10 @@ fn list_scanned(
     requires rows { HasRows flat.now rows.now }
     requires begun { (e : HeldEdge) → Contains edges.now e → e.from < length rows.now.sets }
     ensures listed { OnOk result ((other : Item) → Contains next.new.items other ↔
-        (Contains next.old.items other ⊎ IsScanned flat.now rows.now.sets place edges.now other)) }
-    ensures links { OnOk result (RisesBy (MakesScan flat.now rows.now.sets place edges.now) (length next.old.items) (length next.new.items)) }
+        (Contains next.old.items other ⊎ IsScanned flat.now rows.now.sets earleme edges.now other)) }
+    ensures links { OnOk result (RisesBy (MakesScan flat.now rows.now.sets earleme edges.now) (length next.old.items) (length next.new.items)) }
 {
-    edges.list_to(place, ending)?;
+    edges.list_to(earleme, ending)?;
     for edge in &*ending {
         list_by_edge(flat, heads, rows, *edge, next)?;
     }
@@ -143,12 +142,12 @@ fn list_scanned(
 }
 
 // Lists the item that the first place begins with.
-fn list_first(top: u32, place: u32, next: &mut Vec<Item>) -> Result<(), AllocFailed<Item>>
-    ensures listed { OnOk result ((item : Item) → Contains next.new.items item ↔ ((place ≡ 0) × (item ≡ first_item top 0))) }
-    ensures none { OnOk result (0 < place → length next.new.items ≡ 0) }
+fn list_first(top: u32, earleme: u32, next: &mut Vec<Item>) -> Result<(), AllocFailed<Item>>
+    ensures listed { OnOk result ((item : Item) → Contains next.new.items item ↔ ((earleme ≡ 0) × (item ≡ first_item top 0))) }
+    ensures none { OnOk result (0 < earleme → length next.new.items ≡ 0) }
 {
     next.clear();
-    if place == 0 {
+    if earleme == 0 {
         next.push(Item {
             rule: top,
             dot: 0,
@@ -165,18 +164,18 @@ fn list_seeds(
     top: u32,
     rows: &Rows<'_>,
     edges: &TokenEdges,
-    place: u32,
+    earleme: u32,
     ending: &mut Vec<HeldEdge>,
     next: &mut Vec<Item>,
 ) -> Result<(), AllocError>
     requires heads { AreHeads flat.now heads.now }
     requires rows { HasRows flat.now rows.now }
     requires begun { (e : HeldEdge) → Contains edges.now e → e.from < length rows.now.sets }
-    ensures listed { OnOk result ((item : Item) → Contains next.new.items item ↔ IsSeed flat.now rows.now.sets top place edges.now item) }
-    ensures links { OnOk result (0 < place → RisesBy (MakesScan flat.now rows.now.sets place edges.now) 0 (length next.new.items)) }
+    ensures listed { OnOk result ((item : Item) → Contains next.new.items item ↔ IsSeed flat.now rows.now.sets top earleme edges.now item) }
+    ensures links { OnOk result (0 < earleme → RisesBy (MakesScan flat.now rows.now.sets earleme edges.now) 0 (length next.new.items)) }
 {
-    list_first(top, place, next)?;
-    list_scanned(flat, heads, rows, edges, place, ending, next)
+    list_first(top, earleme, next)?;
+    list_scanned(flat, heads, rows, edges, earleme, ending, next)
 }
 
 // Lets all items go. An empty set costs no more than a look.
@@ -209,6 +208,17 @@ pub struct Work {
     pub ending: Vec<HeldEdge>,
 }
 
+impl Work {
+    /// Nothing done yet.
+    pub(crate) fn new(alloc: Global) -> Work {
+        Work {
+            set: IndexSet::new(alloc),
+            next: Vec::new(alloc),
+            ending: Vec::new(alloc),
+        }
+    }
+}
+
 /// Makes the kernel of the set of a place. Nothing is known of the set after an error.
 pub fn make_kernel<L: Ledger>(
     flat: &Flat,
@@ -217,23 +227,23 @@ pub fn make_kernel<L: Ledger>(
     rows: &Rows<'_>,
     memo: &mut Memo,
     edges: &TokenEdges,
-    place: u32,
+    earleme: u32,
     work: &mut Work,
     steps: &mut Steps<L>,
 ) -> Result<(), AllocError>
     requires heads { AreHeads flat.now heads.now }
     requires top { IsTop flat.now top }
-    requires sets { AreReduced flat.now edges.now top rows.now.sets place }
+    requires sets { AreReduced flat.now edges.now top rows.now.sets earleme }
     requires rows { HasRows flat.now rows.now }
     requires memo { IsMemo flat.now rows.now.sets memo.old }
-    requires place { place ≡ length rows.now.sets }
+    requires earleme { earleme ≡ length rows.now.sets }
     requires begun { (e : HeldEdge) → Contains edges.now e → e.from < length rows.now.sets }
     requires forward { GoForward edges.now }
     ensures items { OnOk result (AreItems flat.now work.new.set.keys) }
     ensures memo { NotesMore flat.now rows.now.sets memo.old memo.new }
-    ensures kernel { OnOk result (IsKernel flat.now rows.now.sets top place edges.now work.new.set.keys) }
-    ensures counted { OnOk result (0 < place →
-        RisesBy (MakesKernel flat.now rows.now.sets place edges.now work.new.set.keys) (steps.old + length memo.new) (steps.new + length memo.old)) }
+    ensures kernel { OnOk result (IsKernel flat.now rows.now.sets top earleme edges.now work.new.set.keys) }
+    ensures counted { OnOk result (0 < earleme →
+        RisesBy (MakesKernel flat.now rows.now.sets earleme edges.now work.new.set.keys) (steps.old + length memo.new) (steps.new + length memo.old)) }
 {
     list_seeds(
         flat,
@@ -241,7 +251,7 @@ pub fn make_kernel<L: Ledger>(
         top,
         rows,
         edges,
-        place,
+        earleme,
         &mut work.ending,
         &mut work.next,
     )?;
@@ -250,7 +260,7 @@ pub fn make_kernel<L: Ledger>(
         flat,
         rows,
         memo,
-        place,
+        earleme,
         &mut work.set,
         &mut work.next,
         steps,

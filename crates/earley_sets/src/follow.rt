@@ -120,7 +120,7 @@ pub fn list_next<L: Ledger>(
     flat: &Flat,
     rows: &Rows<'_>,
     memo: &mut Memo,
-    place: u32,
+    earleme: u32,
     item: Item,
     next: &mut Vec<Item>,
     steps: &mut Steps<L>,
@@ -129,10 +129,10 @@ pub fn list_next<L: Ledger>(
     requires rows { HasRows flat.now rows.now }
     requires nulled { AreNulled flat.now rows.now.sets }
     requires memo { IsMemo flat.now rows.now.sets memo.old }
-    requires place { place ≤ length rows.now.sets }
+    requires earleme { earleme ≤ length rows.now.sets }
     ensures listed { OnOk result ((other : Item) → Contains next.new.items other ↔
-        (Contains next.old.items other ⊎ GoesOn flat.now rows.now.sets place item other)) }
-    ensures links { OnOk result (RisesBy (MakesLink flat.now rows.now.sets place item) (length next.old.items) (length next.new.items)) }
+        (Contains next.old.items other ⊎ GoesOn flat.now rows.now.sets earleme item other)) }
+    ensures links { OnOk result (RisesBy (MakesLink flat.now rows.now.sets earleme item) (length next.old.items) (length next.new.items)) }
     ensures memo { NotesMore flat.now rows.now.sets memo.old memo.new }
     ensures counted { steps.new + length memo.old ≡ steps.old + length memo.new }
 {
@@ -140,7 +140,7 @@ pub fn list_next<L: Ledger>(
     match next_symbol(flat, item) {
         Some(x) => Ok(list_skipped(flat, item, x, next)?),
         None => {
-            if item.origin < place {
+            if item.origin < earleme {
                 list_done(flat, rows, memo, pair_above(flat, item), next, steps)
             } else {
                 Ok(())

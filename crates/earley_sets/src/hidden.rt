@@ -33,14 +33,14 @@ fn put_from(items: &Row<'_>, from: u32, set: &mut ItemSet) -> Result<(), AllocFa
 }
 
 // The single step that a whole item leads to, if it begins at a place or behind it.
-fn single_step(flat: &Flat, rows: &Rows<'_>, place: u32, from: u32, item: Item) -> Option<Item>
+fn single_step(flat: &Flat, rows: &Rows<'_>, earleme: u32, from: u32, item: Item) -> Option<Item>
     requires rows { HasRows flat.now rows.now }
-    requires place { place < length rows.now.sets }
+    requires earleme { earleme < length rows.now.sets }
     requires rule { IsRule flat.now item.rule }
-    ensures some { IfSome result (λ step. IsSingleStep flat.now rows.now.sets place from item step) }
-    ensures none { IsNone result → (step : TheItem) → ¬ IsSingleStep flat.now rows.now.sets place from item step }
+    ensures some { IfSome result (λ step. IsSingleStep flat.now rows.now.sets earleme from item step) }
+    ensures none { IsNone result → (step : TheItem) → ¬ IsSingleStep flat.now rows.now.sets earleme from item step }
 {
-    if item.origin >= place {
+    if item.origin >= earleme {
         return None;
     }
     let step = step_in(flat, rows, pair_above(flat, item))?;
@@ -52,24 +52,24 @@ fn single_step(flat: &Flat, rows: &Rows<'_>, place: u32, from: u32, item: Item) 
 }
 
 // Whether a single step leads on from an item, if it begins at a place or behind it.
-fn leads_on(flat: &Flat, rows: &Rows<'_>, place: u32, from: u32, item: Item) -> bool
+fn leads_on(flat: &Flat, rows: &Rows<'_>, earleme: u32, from: u32, item: Item) -> bool
     requires rows { HasRows flat.now rows.now }
-    requires place { place < length rows.now.sets }
+    requires earleme { earleme < length rows.now.sets }
     requires rule { IsRule flat.now item.rule }
-    ensures { ¬ IsTrue result → from ≤ item.origin → (step : TheItem) → ¬ IsSingleStep flat.now rows.now.sets place from item step }
+    ensures { ¬ IsTrue result → from ≤ item.origin → (step : TheItem) → ¬ IsSingleStep flat.now rows.now.sets earleme from item step }
 {
-    from <= item.origin && single_step(flat, rows, place, from, item).is_some()
+    from <= item.origin && single_step(flat, rows, earleme, from, item).is_some()
 }
 
 // Whether single steps lead on from one of the items that begin at a place or behind it.
-fn some_leads_on(flat: &Flat, rows: &Rows<'_>, items: &Row<'_>, place: u32, from: u32) -> bool
+fn some_leads_on(flat: &Flat, rows: &Rows<'_>, items: &Row<'_>, earleme: u32, from: u32) -> bool
     requires rows { HasRows flat.now rows.now }
-    requires place { place < length rows.now.sets }
+    requires earleme { earleme < length rows.now.sets }
     requires items { AreItems flat.now items.now }
-    ensures { ¬ IsTrue result → NoneLeadsOn flat.now rows.now.sets place from items.now }
+    ensures { ¬ IsTrue result → NoneLeadsOn flat.now rows.now.sets earleme from items.now }
 {
     for k in 0..items.len() {
-        if leads_on(flat, rows, place, from, items.at(k)) {
+        if leads_on(flat, rows, earleme, from, items.at(k)) {
             return true;
         }
     }
@@ -80,21 +80,21 @@ fn some_leads_on(flat: &Flat, rows: &Rows<'_>, items: &Row<'_>, place: u32, from
 fn add_steps(
     flat: &Flat,
     rows: &Rows<'_>,
-    place: u32,
+    earleme: u32,
     from: u32,
     set: &mut ItemSet,
 ) -> Result<(), AllocFailed<Item>>
     requires rows { HasRows flat.now rows.now }
-    requires place { place < length rows.now.sets }
+    requires earleme { earleme < length rows.now.sets }
     requires items { AreItems flat.now set.old.keys }
     ensures begins { OnOk result ((more : List TheItem) × (set.new.keys ≡ set.old.keys ++ more)) }
-    ensures closed { OnOk result ((item : TheItem) → Contains set.new.keys item ↔ IsReached (IsSingleStep flat.now rows.now.sets place from) set.old.keys item) }
+    ensures closed { OnOk result ((item : TheItem) → Contains set.new.keys item ↔ IsReached (IsSingleStep flat.now rows.now.sets earleme from) set.old.keys item) }
 {
     for k in 0..usize::MAX {
         let Some(item) = set.get_index(k).copied() else {
             return Ok(());
         };
-        if let Some(step) = single_step(flat, rows, place, from, item) {
+        if let Some(step) = single_step(flat, rows, earleme, from, item) {
             set.insert(step)?;
         }
     }
@@ -117,20 +117,22 @@ pub fn list_hidden(
     alloc: Global,
     flat: &Flat,
     rows: &Rows<'_>,
-    place: u32,
+    earleme: u32,
     from: u32,
 ) -> Result<Vec<Item>, AllocError>
     requires rows { HasRows flat.now rows.now }
-    requires place { place < length rows.now.sets }
-    ensures { IfOk result (λ items. IsListOf (IsHiddenIn flat.now rows.now.sets place from) items.items) }
+    requires earleme { earleme < length rows.now.sets }
+    ensures { IfOk result (λ items. IsListOf (IsHiddenIn flat.now rows.now.sets earleme from) items.items) }
 {
-    let whole = rows.whole(place as usize);
-    if !some_leads_on(flat, rows, &whole, place, from) {
+    let whole = rows.whole(earleme as usize);
+    if !some_leads_on(flat, rows, &whole, earleme, from) {
         return Ok(Vec::new(alloc));
     }
     let mut set = IndexSet::with_hasher(alloc, BuildHasherDefault::new());
     put_from(&whole, from, &mut set)?;
     let kept = set.len();
-    add_steps(flat, rows, place, from, &mut set)?;
-    list_behind(alloc, set.as_slice(), kept)
+    add_steps(flat, rows, earleme, from, &mut set)?;
+    let behind = list_behind(alloc, set.as_slice(), kept);
+    drop(set);
+    behind
 }

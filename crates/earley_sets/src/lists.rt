@@ -3,16 +3,15 @@ ghost use Rattle.std.specs.Prelude.{◌≡◌, ◌≢◌, ℕ, ◌<◌, ◌⊎�
 ghost use Rattle.std.specs.List.{AllPairs};
 ghost use Rattle.item_rows.specs.Rows.{shared_at};
 ghost use Rattle.item_rows.specs.Kept.{AreItems, IsAwaited};
-ghost use Rattle.earley_sets.specs.Heads.{AreHeads};
+ghost use Rattle.item_rows.specs.Heads.{AreHeads};
 ghost use Rattle.earley_sets.specs.Begun.{AreBegun, IsNoted, AreLists, KeepsSets};
 ghost use Rattle.earley_sets.specs.Tried.{TriesBegun, TriesList};
 
 use crate::awaited::list_awaited;
 use crate::begun::fill_begun;
-use crate::heads::Heads;
 use grammar_core::Flat;
 use indexmap::{IndexMap, IndexSet};
-use item_rows::Rows;
+use item_rows::{Heads, Rows};
 use recognizer_model::Item;
 use slif_base::Steps;
 use std::alloc::{AllocError, Global};

@@ -1,7 +1,8 @@
 //! The recognizer: its edges, and the sets of the places so far.
-ghost use Rattle.std.specs.Prelude.{◌≡◌, ◌≢◌, ℕ, List, ◌+◌, ◌-◌, ◌<◌, ◌≤◌, ◌↔◌, ◌⊎◌, ◌++◌, ◌∷◌, [], length, map, sum, slice_get, slice_index, Some, Err, IsTrue, IfOk, OnOk, OnErr, Contains};
+ghost use Rattle.std.specs.Prelude.{◌≡◌, ◌≢◌, ℕ, List, ◌+◌, ◌-◌, ◌<◌, ◌≤◌, ◌↔◌, ◌⊎◌, ◌++◌, ◌∷◌, [], length, map, sum, slice_get, slice_index, Some, Err, IsTrue, IfOk, IfSome, IsNone, OnOk, OnErr, Contains};
 ghost use Rattle.std.specs.List.{AllPairs};
 ghost use Rattle.recognizer_model.specs.declared.Item.{Item};
+ghost use Rattle.recognizer_model.specs.declared.flat.FlatSymbol.TheVariants.{Terminal};
 ghost use Rattle.grammar_model.specs.declared.Edge.{Edge as HeldEdge};
 ghost use Rattle.grammar_model.specs.Derives.{Held};
 ghost use Rattle.recognizer_model.specs.Contexts.{IsTop};
@@ -13,7 +14,7 @@ ghost use Rattle.recognizer_model.specs.Links.{Link, IsLink};
 ghost use Rattle.leo_items.specs.ByRows.{IsMemo, NotesMore};
 ghost use Rattle.grammar_core.specs.Edges.{longest_edge};
 ghost use Rattle.earley_sets.specs.Kept.{HasRows, IsRowOf};
-ghost use Rattle.earley_sets.specs.Heads.{AreHeads};
+ghost use Rattle.item_rows.specs.Heads.{AreHeads};
 ghost use Rattle.earley_sets.specs.Begun.{AreLists};
 ghost use Rattle.earley_sets.specs.Scanning.{GoForward, AreReduced};
 ghost use Rattle.earley_sets.specs.Tried.{RisesBy};
@@ -21,12 +22,13 @@ ghost use Rattle.earley_sets.specs.Recognizer.{Recognizer, earleme_of, set_at, e
 ghost use Rattle.earley_sets.specs.declared.recce.AlternativeRefusal.TheVariants.{Unexpected, Duplicate, BadLength};
 
 use crate::close::{Work, make_kernel};
-use crate::heads::{Heads, list_heads, symbol_of};
 use crate::hidden::list_hidden;
 use crate::lists::{Lists, find_list, new_lists};
 use grammar_core::{EdgeRefusal, Flat, SymbolId, TokenEdges};
-use indexmap::IndexSet;
-use item_rows::{Marks, Row, Rows, ascending, is_marked, mark_row, new_marks, take_marks};
+use item_rows::{
+    Heads, Marks, Row, Rows, ascending, is_marked, list_heads, mark_row, new_marks, symbol_of,
+    take_marks,
+};
 use leo_items::Memo;
 use recognizer_model::Item;
 use slif_base::Steps;
@@ -53,7 +55,7 @@ fn make_row<L: Ledger>(
     requires rows { HasRows flat.now rows.old }
     requires lists { AreLists flat.now rows.old.shared lists.old.numbers.entries }
     requires memo { IsMemo flat.now rows.old.sets memo.old }
-    requires place { length rows.old.sets ≤ 16777216 }
+    requires earleme { length rows.old.sets ≤ 16777216 }
     requires begun { (e : HeldEdge) → Contains edges.now e → e.from < length rows.old.sets }
     requires forward { GoForward edges.now }
     ensures lists { AreLists flat.now rows.new.shared lists.new.numbers.entries }
@@ -65,8 +67,8 @@ fn make_row<L: Ledger>(
     ensures counted { OnOk result (0 < length rows.old.sets →
         RisesBy (IsLink flat.now (FlatEdges flat.now (Held edges.now)) top (length rows.old.sets)) (steps.old + length memo.new) (steps.new + length memo.old)) }
 {
-    let place = rows.len() as u32;
-    make_kernel(flat, heads, top, rows, memo, edges, place, work, steps)?;
+    let earleme = rows.len() as u32;
+    make_kernel(flat, heads, top, rows, memo, edges, earleme, work, steps)?;
     let kernel = work.set.as_slice();
     let begun = find_list(flat, heads, rows, lists, kernel, steps)?;
     rows.push(kernel, begun)
@@ -90,7 +92,7 @@ fn add_row<L: Ledger>(
     requires rows { HasRows flat.now rows.old }
     requires lists { AreLists flat.now rows.old.shared lists.old.numbers.entries }
     requires memo { IsMemo flat.now rows.old.sets memo.old }
-    requires place { length rows.old.sets ≤ 16777216 }
+    requires earleme { length rows.old.sets ≤ 16777216 }
     requires begun { (e : HeldEdge) → Contains edges.now e → e.from < length rows.old.sets }
     requires forward { GoForward edges.now }
     ensures lists { AreLists flat.now rows.new.shared lists.new.numbers.entries }
@@ -144,6 +146,44 @@ fn add_first<L: Ledger>(
     add_row(flat, heads, top, rows, lists, memo, edges, work, &mut steps)
 }
 
+// The row of the first place.
+fn first_rows<'g>(
+    alloc: Global,
+    flat: &'g Flat,
+    heads: &Heads,
+    top: u32,
+    lists: &mut Lists,
+) -> Result<Rows<'g>, AllocError>
+    requires heads { AreHeads flat.now heads.now }
+    requires top { IsTop flat.now top }
+    requires lists { lists.old.numbers.entries ≡ [] }
+    ensures lists { IfOk result (λ rows. AreLists flat.now rows.shared lists.new.numbers.entries) }
+    ensures flat { IfOk result (λ rows. rows.flat ≡ flat.now) }
+    ensures ok { IfOk result (λ rows. (row : List Item) × (rows.sets ≡ row ∷ []) × IsRowOf flat.now 0 row ×
+        IsListOf (InReduced flat.now (FlatEdges flat.now (Held [])) top 0) row) }
+{
+    let mut rows = Rows::new(alloc, flat)?;
+    let mut memo = Memo::new(alloc);
+    let edges = TokenEdges::new(alloc);
+    let mut work = Work::new(alloc);
+    let added = add_first::<Brand>(
+        Blank::new(1),
+        flat,
+        heads,
+        top,
+        &mut rows,
+        lists,
+        &mut memo,
+        &edges,
+        &mut work,
+    );
+    drop(memo);
+    drop(edges);
+    drop(work);
+    added?;
+    Ok(rows)
+}
+
 /// Why an alternative is not taken. Of several reasons the first in this order is told, but want of memory may come at any point.
 #[derive(Clone, Copy, Debug, PartialEq, Eq, Error)]
 pub enum AlternativeRefusal {
@@ -162,7 +202,6 @@ pub enum AlternativeRefusal {
 }
 
 /// A recognizer for one start of a flat grammar.
-#[derive(Drop)]
 pub struct Recce<'g> {
     flat: &'g Flat,
     heads: Heads,
@@ -176,11 +215,29 @@ pub struct Recce<'g> {
     work: Work,
 }
 
+// Written out once, so that whoever lets a recognizer go does so by one call.
+impl<'g> Drop for Recce<'g> {
+    fn drop(self) {
+        let Recce {
+            flat: _,
+            heads: _,
+            start: _,
+            top: _,
+            edges: _,
+            rows: _,
+            lists: _,
+            memo: _,
+            marks: _,
+            work: _,
+        } = self;
+    }
+}
+
 impl<'g> Model for Recce<'g> {
     ghost use Rattle.std.specs.Prelude.{◌≡◌};
     ghost use Rattle.leo_items.specs.Memo.{pairs_of};
     ghost use Rattle.earley_sets.specs.Recognizer.{Recognizer, IsKept};
-    ghost use Rattle.earley_sets.specs.Heads.{AreHeads};
+    ghost use Rattle.item_rows.specs.Heads.{AreHeads};
     ghost use Rattle.earley_sets.specs.Begun.{AreLists};
     ghost use Rattle.earley_sets.specs.Kept.{AreLastMarks};
 
@@ -207,6 +264,7 @@ impl<'r> Model for SetView<'r> {
 }
 
 impl<'r> SetView<'r> {
+    /// How many items there are.
     pub fn len(&self) -> usize
         ensures { result ≡ length self.now }
     {
@@ -238,29 +296,13 @@ impl<'g> Recce<'g> {
         ensures { IfOk result (λ r. (r.flat ≡ flat.now) × (r.start ≡ start) × (r.edges ≡ []) × (length r.sets ≡ 1) × (r.noted ≡ [])) }
     {
         let top = flat.top(start);
-        let heads = list_heads(alloc, flat)?;
-        let edges = TokenEdges::new(alloc);
-        let mut rows = Rows::new(alloc, flat)?;
-        let mut lists = new_lists(alloc);
-        let mut memo = Memo::new(alloc);
         let mut marks = new_marks(alloc, flat)?;
-        let mut work = Work {
-            set: IndexSet::new(alloc),
-            next: Vec::new(alloc),
-            ending: Vec::new(alloc),
-        };
-        add_first::<Brand>(
-            Blank::new(1),
-            flat,
-            &heads,
-            top,
-            &mut rows,
-            &mut lists,
-            &mut memo,
-            &edges,
-            &mut work,
-        )?;
+        let heads = list_heads(alloc, flat)?;
+        let mut lists = new_lists(alloc);
+        let rows = first_rows(alloc, flat, &heads, top, &mut lists)?;
         mark_row(flat, &rows, 0, &mut marks);
+        let edges = TokenEdges::new(alloc);
+        let memo = Memo::new(alloc);
         Ok(Recce {
             flat,
             heads,
@@ -271,7 +313,7 @@ impl<'g> Recce<'g> {
             lists,
             memo,
             marks,
-            work,
+            work: Work::new(alloc),
         })
     }
 
@@ -329,6 +371,14 @@ impl<'g> Recce<'g> {
         let last = self.rows.len() - 1;
         mark_row(self.flat, &self.rows, last, &mut self.marks);
         Ok(())
+    }
+
+    /// The symbol that stands for a terminal, if there is one.
+    pub fn symbol_of(&self, t: SymbolId) -> Option<u32>
+        ensures some { IfSome result (λ x. slice_get self.now.flat.symbols x ≡ Some (Terminal t)) }
+        ensures none { IsNone result → (x : ℕ) → slice_get self.now.flat.symbols x ≢ Some (Terminal t) }
+    {
+        symbol_of(self.flat, &self.heads, t)
     }
 
     /// Whether a terminal is acceptable at the place.
@@ -461,11 +511,11 @@ impl<'g> Recce<'g> {
         ensures bad_length { (result ≡ Err BadLength) ↔
             (IsExpected self.old t × (¬ Contains self.old.edges (new_edge self.old t length)) × ((length ≡ 0) ⊎ (longest_edge < length))) }
     {
-        let place = self.place();
+        let earleme = self.place();
         if !self.is_expected(t) {
             return Err(AlternativeRefusal::Unexpected);
         }
-        match self.edges.push(place, t, length) {
+        match self.edges.push(earleme, t, length) {
             Ok(()) => Ok(()),
             Err(EdgeRefusal::Duplicate) => Err(AlternativeRefusal::Duplicate),
             Err(EdgeRefusal::BadLength) => Err(AlternativeRefusal::BadLength),

@@ -110,6 +110,21 @@ gains_edge g least symbol e v old new flat le is to same from none grown =
       λ q. (le, subst (IsEdgeOf g e) (sym q) (record { symbol = subst (λ x. slice_get g.symbols x ≡ Some (Terminal e.symbol)) (sym same) is; end = to; start = from ∙ sym to; whole = none })),
     ))
 
+-- the part of a whole rule goes in
+pub gains_whole : (w : Grammar) (ranking : Ranking) (g : FlatGrammar) (end least : ℕ) (item : Item) (v : Part) (old new : List Part) → least ≤ item.origin → IsWholeOf w ranking g end item v → new ≡ old ++ v ∷ [] →
+    Gains (λ p. (least ≤ item.origin) × IsWholeOf w ranking g end item p) old new
+gains_whole w ranking g end least item v old new le is grown =
+    gains_push (λ p. (least ≤ item.origin) × IsWholeOf w ranking g end item p) old new v grown (λ p. (
+      λ (l, r). (
+          let a : p.end ≡ v.end = r.end ∙ sym is.end in
+          let s : p.symbol ≡ v.symbol = r.symbol ∙ sym is.symbol in
+          let n : p.length ≡ v.length = (let x = r.start in let y = is.start in omega arith) in
+          let o : p.whole ≡ v.whole = r.whole ∙ sym is.whole in
+          λ i. record { end = a i; symbol = s i; length = n i; whole = o i }
+          ),
+      λ q. (le, subst (IsWholeOf w ranking g end item) (sym q) is),
+    ))
+
 -- what was put are the parts that end at the place and do not begin too early
 pub parts_are : (w : Grammar) (ranking : Ranking) (r : Recognizer) (end least : ℕ) (edges : List HeldEdge) → end ≤ earleme_of r → ((e : HeldEdge) → Contains edges e ↔ (Contains r.edges e × (e.to ≡ end))) → (p : Part) →
     (((e : HeldEdge) × Contains edges e × ((least ≤ e.from) × IsEdgeOf r.flat e p)) ⊎ ((item : Item) × InSet r.flat (edges_of r) (top_of r) end item × ((least ≤ item.origin) × IsWholeOf w ranking r.flat end item p)))
@@ -130,7 +145,7 @@ parts_are w ranking r end least edges le are p = (to, from)
     from (inl (e, held, is), here, bound) =
         let s = is.start in
         inl (e, (are e).1 (held, sym is.end ∙ here), (omega arith, is))
-    from (inr (place, item, le', h, is), here, bound) =
-        let same : place ≡ end = sym is.end ∙ here in
+    from (inr (earleme, item, le', h, is), here, bound) =
+        let same : earleme ≡ end = sym is.end ∙ here in
         let s = is.start in
         inr (item, subst (λ z. InSet r.flat (edges_of r) (top_of r) z item) same h, (omega arith, subst (λ z. IsWholeOf w ranking r.flat z item p) same is))

@@ -1,13 +1,13 @@
 -- Lists in order: those with one first number, one second or one third stand together.
 use Rattle.std.proofs.Common.{◌≡◌, ℕ, zero, suc, ◌<◌, ◌≤◌, ◌-◌, ◌⊎◌, inl, inr, ◌↔◌, Contains, List, [], ◌∷◌, length, get_or, take, drop, ◌∙◌, ap, subst, arith}
-use Rattle.std.specs.Prelude.{nat_lt, nat_le, slice_index_or}
+use Rattle.std.specs.Prelude.{nat_lt, slice_index_or}
 use Rattle.std.specs.declared.cmp.Ordering.{Ordering}
 use Rattle.std.specs.declared.cmp.Ordering.TheVariants.{Less, Equal}
 use Rattle.std.specs.Ordering.{ordering_then, nat_cmp}
 use Rattle.std.specs.Cmp.{nat_cmp_is}
 use Rattle.std.specs.List.{AllByRecursion}
 use Rattle.std.specs.List.Sorted.{IsPartitionedBy, IsNonDecreasingBy, IsStrictlySortedBy}
-use Rattle.std.proofs.lemmas.Bool.{ltb-true, leb-true, lt-ltb, le-leb, cases_lt}
+use Rattle.std.proofs.lemmas.Bool.{ltb-true, lt-ltb, cases_lt}
 use Rattle.std.proofs.lemmas.Map.Keys.{Less-from_sorted}
 use Rattle.std.proofs.lemmas.List.Elements.{Contains-get_or}
 use Rattle.finite_sets.proofs.Lists.{get_index}
@@ -19,9 +19,6 @@ use Rattle.forest_parts.specs.Lists.{between}
 module _ {X : Type 0} (n : X → ℕ) (row : List X) (order : IsNonDecreasingBy n row) (x : ℕ) where
   pub below_parted : IsPartitionedBy (λ w. nat_lt (n w) x) row
   below_parted i j d le lt e = let h = ltb-true _ _ e in let o = order i j d le lt in lt-ltb _ _ (omega arith)
-
-  pub up_to_parted : IsPartitionedBy (λ w. nat_le (n w) x) row
-  up_to_parted i j d le lt e = let h = leb-true _ _ e in let o = order i j d le lt in le-leb _ _ (omega arith)
 
   module _ (start end : ℕ) (bs : start ≤ length row) (be : end ≤ length row)
       (b1 : (k : ℕ) (d : X) → k < start → n (slice_index_or row k d) < x) (a1 : (k : ℕ) (d : X) → start ≤ k → k < length row → x ≤ n (slice_index_or row k d))
@@ -104,12 +101,6 @@ module _ {X : Type 0} (f g h : X → ℕ) (rest : X → X → Ordering) where
     less : (i j : ℕ) (d : X) → i < j → j < length row → by_first (get_or row i d) (get_or row j d) ≡ Less
     less i j d lt below = Less-from_sorted by_first row i j d sorted lt below
 
-    pub firsts_rise : IsNonDecreasingBy f row
-    firsts_rise i j d le below = elim (cases_lt i j) [
-      | inl lt ↦ then_at_most _ _ _ (less i j d lt below)
-      | inr ge ↦ let same : i ≡ j = omega arith in subst (λ k. f (get_or row i d) ≤ f (get_or row k d)) same (omega arith)
-    ]
-
     module _ (firsts : SameFirst) where
       after_firsts : (i j : ℕ) (d : X) → i < j → j < length row → by_second (get_or row i d) (get_or row j d) ≡ Less
       after_firsts i j d lt below = then_rest _ _ _ (less i j d lt below) (firsts (get_or row i d) (get_or row j d) (Contains-get_or row i d (omega arith)) (Contains-get_or row j d below))
@@ -128,9 +119,6 @@ module _ {X : Type 0} (f g h : X → ℕ) (rest : X → X → Ordering) where
       ]
 
       module _ (seconds : SameSecond) where
-        pub all_thirds_rise : IsNonDecreasingBy h row
-        all_thirds_rise i j d le below = thirds_rise i j d le below (seconds (get_or row i d) (get_or row j d) (Contains-get_or row i d (omega arith)) (Contains-get_or row j d below))
-
         -- where all three are the same, the rest is in order
         pub rest_less : (i j : ℕ) (d : X) → i < j → j < length row → h (get_or row i d) ≡ h (get_or row j d) → rest (get_or row i d) (get_or row j d) ≡ Less
         rest_less i j d lt below e = then_rest _ _ _ (then_rest _ _ _ (after_firsts i j d lt below) (seconds (get_or row i d) (get_or row j d) (Contains-get_or row i d (omega arith)) (Contains-get_or row j d below))) e

@@ -1,5 +1,4 @@
 pub mod Sets
-pub mod RowLemmas
 pub mod InOrder
 pub mod Sources
 pub mod Gathering

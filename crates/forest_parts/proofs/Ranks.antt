@@ -75,12 +75,12 @@ ranks_fall w ranking r known end least all exact sorted i j lt below (symbol, lo
   where
     go : IsPart w ranking r (part_at all i) → IsPart w ranking r (part_at all j) → option_cmp key_cmp (part_at all i).whole (part_at all j).whole ≡ Less → rank_in (part_at all j).whole ≤ℤ rank_in (part_at all i).whole
     go (inl (e, h, is)) (inl (e', h', is')) less = let f : Equal ≡ Less = (λ n. option_cmp key_cmp (sym is.whole n) (sym is'.whole n)) ∙ less in absurd (cc)
-    go (inl (e, h, is)) (inr (place, item, le, h', is')) less =
-        absurd (known.flat.no_rules item.rule ((in_full r known place item).0 h').is_rule (e.symbol, ap (slice_get r.flat.symbols) (sym is'.symbol ∙ sym symbol) ∙ is.symbol))
-    go (inr (place, item, le, h, is)) (inl (e, h', is')) less = let f : Greater ≡ Less = (λ n. option_cmp key_cmp (sym is.whole n) (sym is'.whole n)) ∙ less in absurd (cc)
-    go (inr (place, item, le, h, is)) (inr (place', item', le', h', is')) less =
+    go (inl (e, h, is)) (inr (earleme, item, le, h', is')) less =
+        absurd (known.flat.no_rules item.rule ((in_full r known earleme item).0 h').is_rule (e.symbol, ap (slice_get r.flat.symbols) (sym is'.symbol ∙ sym symbol) ∙ is.symbol))
+    go (inr (earleme, item, le, h, is)) (inl (e, h', is')) less = let f : Greater ≡ Less = (λ n. option_cmp key_cmp (sym is.whole n) (sym is'.whole n)) ∙ less in absurd (cc)
+    go (inr (earleme, item, le, h, is)) (inr (earleme', item', le', h', is')) less =
         let k : key_cmp (rule_key_of w ranking r.flat item.rule) (rule_key_of w ranking r.flat item'.rule) ≡ Less = (λ n. option_cmp key_cmp (sym is.whole n) (sym is'.whole n)) ∙ less in
-        let falls = rank_falls w ranking r.flat known.flat item.rule item'.rule ((in_full r known place item).0 h).is_rule ((in_full r known place' item').0 h').is_rule (sym is.symbol ∙ symbol ∙ is'.symbol) k in
+        let falls = rank_falls w ranking r.flat known.flat item.rule item'.rule ((in_full r known earleme item).0 h).is_rule ((in_full r known earleme' item').0 h').is_rule (sym is.symbol ∙ symbol ∙ is'.symbol) k in
         subst (λ z. rank_in (part_at all j).whole ≤ℤ rank_in z) (sym is.whole) (subst (λ z. rank_in z ≤ℤ flat_rank w ranking r.flat item.rule) (sym is'.whole) falls)
 
 -- what the ranking keeps is what it allows

@@ -197,6 +197,3 @@ module _ (ranking : Ranking) (end : ℕ) (parts : List Part) (sorted : IsStrictl
               | inl gt ↦ ranks g.first i gt lt (e ∙ sym one, omega arith)
               | inr le ↦ let q : g.first ≡ i = omega arith in subst (λ n. rank_in (part_at parts n).whole ≤ℤ rank_in (part_at parts g.first).whole) q (≤ℤ_refl (rank_in (part_at parts g.first).whole))
             ]))
-
-    pub group_starts : g.start ≤ end
-    group_starts = let (s, l) = is.each g.first (omega arith) is.some in omega arith

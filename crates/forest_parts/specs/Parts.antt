@@ -46,11 +46,11 @@ pub record IsEdgeOf (g : FlatGrammar) (e : HeldEdge) (p : Part) : Type 0 where
   pub whole : p.whole ≡ None
 
 -- the part is the rule of an item that is whole at the end
-pub record IsWholeOf (w : Grammar) (ranking : Ranking) (g : FlatGrammar) (place : ℕ) (item : Item) (p : Part) : Type 0 where
+pub record IsWholeOf (w : Grammar) (ranking : Ranking) (g : FlatGrammar) (earleme : ℕ) (item : Item) (p : Part) : Type 0 where
   pub dot : item.dot ≡ length (rhs_of g item.rule)
-  pub end : p.end ≡ place
-  pub spans : item.origin < place
-  pub start : item.origin + p.length ≡ place
+  pub end : p.end ≡ earleme
+  pub spans : item.origin < earleme
+  pub start : item.origin + p.length ≡ earleme
   pub symbol : p.symbol ≡ lhs_of g item.rule
   pub whole : p.whole ≡ Some (rule_key_of w ranking g item.rule)
 

@@ -53,10 +53,9 @@ fn put_edge(
     ensures { OnOk result ((p : ThePart) → Contains parts.new.items p ↔
         (Contains parts.old.items p ⊎ ((least ≤ edge.from) × IsEdgeOf recce.now.flat edge p))) }
 {
-    let flat = recce.flat();
-    flat.known();
+    recce.flat().known();
     if least <= edge.from {
-        if let Some(symbol) = flat.terminal(SymbolId(edge.symbol)) {
+        if let Some(symbol) = recce.symbol_of(SymbolId(edge.symbol)) {
             parts.push(Part {
                 end: edge.to,
                 symbol,

@@ -131,11 +131,8 @@ impl TokenEdges {
         ensures err { OnErr result (self.new ≡ self.old) }
         ensures memory { OnErr result (result ≡ Err NoMemory) }
     {
-        self.edges.push(Edge { symbol: t, length })?;
-        if let Err(failed) = self.places.push(at) {
-            self.edges.pop();
-            return Err(EdgeRefusal::from(failed));
-        }
+        let short = Edge { symbol: t, length };
+        push_both(&mut self.places, &mut self.edges, at, short)?;
         let edge = HeldEdge {
             symbol: t.0,
             from: at,
@@ -180,6 +177,26 @@ impl TokenEdges {
         self.long.list_to(place, edges)?;
         Ok(())
     }
+}
+
+// One more edge with its place, or neither.
+fn push_both(
+    places: &mut Vec<u32>,
+    edges: &mut Vec<Edge>,
+    at: u32,
+    edge: Edge,
+) -> Result<(), EdgeRefusal>
+    ensures places { OnOk result (places.new.items ≡ places.old.items ++ at ∷ []) }
+    ensures edges { OnOk result (edges.new.items ≡ edges.old.items ++ edge ∷ []) }
+    ensures err { OnErr result ((places.new.items ≡ places.old.items) × (edges.new.items ≡ edges.old.items)) }
+    ensures memory { OnErr result (result ≡ Err NoMemory) }
+{
+    edges.push(edge)?;
+    if let Err(failed) = places.push(at) {
+        edges.pop();
+        return Err(EdgeRefusal::from(failed));
+    }
+    Ok(())
 }
 
 // Lists the edges of length one to a place, of those that begin just before it, behind what the list holds.

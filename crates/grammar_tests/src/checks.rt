@@ -100,33 +100,35 @@ fn has_star(c: &Checked<'_>) -> bool {
     nulled && levels && c.accessible(SymbolId(X)) && c.accessible(SymbolId(Y))
 }
 
-fn are_levels(alloc: Global) -> Result<bool, CoreRefusal> {
-    let mut w = Written::new(alloc);
-    add_all(alloc, &mut w, LEVELS, &STARTS[..1], List::No)?;
-    match check(alloc, &w) {
-        Ok(c) => Ok(has_levels(&c)),
-        Err(_) => Ok(false),
+// Whether the slots of a grammar that is accepted can do what they should.
+fn is_accepted(alloc: Global, w: &Written, list: List) -> bool {
+    match check(alloc, w) {
+        Ok(c) => match list {
+            List::Star => has_star(&c),
+            _ => has_levels(&c),
+        },
+        Err(_) => false,
     }
 }
 
-fn is_star(alloc: Global) -> Result<bool, CoreRefusal> {
+// Whether the rules are accepted, with S as the start and the list.
+fn are_accepted(alloc: Global, rules: &[Plain], list: List) -> Result<bool, CoreRefusal> {
     let mut w = Written::new(alloc);
-    add_all(alloc, &mut w, NULLED, &STARTS[..1], List::Star)?;
-    match check(alloc, &w) {
-        Ok(c) => Ok(has_star(&c)),
-        Err(_) => Ok(false),
-    }
+    add_all(alloc, &mut w, rules, &STARTS[..1], list)?;
+    let accepted = is_accepted(alloc, &w, list);
+    drop(w);
+    Ok(accepted)
 }
 
 #[test]
 fn levels_and_dead_rules(rt: HostRuntime) -> Result<(), Fail> {
-    assert!(rt; are_levels(rt.alloc())?);
+    assert!(rt; are_accepted(rt.alloc(), LEVELS, List::No)?);
     Ok(())
 }
 
 #[test]
 fn stars_are_nullable(rt: HostRuntime) -> Result<(), Fail> {
-    assert!(rt; is_star(rt.alloc())?);
+    assert!(rt; are_accepted(rt.alloc(), NULLED, List::Star)?);
     Ok(())
 }
 
@@ -224,12 +226,18 @@ const FAULTS: &[Case] = &[
 
 const UNPRODUCTIVE: Case = (ENDLESS, &[X, T], "start symbol T is unproductive");
 
+// Appends what is told of a grammar.
+fn tell(alloc: Global, w: &Written, out: &mut Vec<u8>) -> Result<(), NoMemory> {
+    match check(alloc, w) {
+        Ok(_) => Ok(()),
+        Err(refusal) => append_refusal(w, &refusal, out),
+    }
+}
+
 // Whether this is told of a grammar.
 fn is_told(alloc: Global, w: &Written, text: &str) -> Result<bool, NoMemory> {
     let mut out = Vec::new(alloc);
-    if let Err(refusal) = check(alloc, w) {
-        append_refusal(w, &refusal, &mut out)?;
-    }
+    tell(alloc, w, &mut out)?;
     Ok(out.as_slice() == text.as_bytes())
 }
 
@@ -237,7 +245,9 @@ fn is_told(alloc: Global, w: &Written, text: &str) -> Result<bool, NoMemory> {
 fn tells(alloc: Global, case: &Case, list: List) -> Result<bool, Fail> {
     let mut w = Written::new(alloc);
     add_all(alloc, &mut w, case.0, case.1, list)?;
-    Ok(is_told(alloc, &w, case.2)?)
+    let told = is_told(alloc, &w, case.2);
+    drop(w);
+    Ok(told?)
 }
 
 fn tell_all(alloc: Global, cases: &[Case], list: List) -> Result<bool, Fail> {

@@ -142,7 +142,9 @@ fn has_lines(flat: &Flat, lines: &[Line]) -> bool {
 // Whether the flat rules are these.
 fn makes(alloc: Global, w: &Written, lines: &[Line]) -> Result<bool, anyhow::Error> {
     let flat = flat_of(alloc, w)?;
-    Ok(has_lines(&flat, lines))
+    let same = has_lines(&flat, lines);
+    drop(flat);
+    Ok(same)
 }
 
 // Whether the flat rules of the alternatives are these.
@@ -155,7 +157,9 @@ fn levels_make(
 ) -> Result<bool, anyhow::Error> {
     let mut w = Written::new(alloc);
     add_levels(alloc, &mut w, names, alternatives, groups)?;
-    makes(alloc, &w, lines)
+    let made = makes(alloc, &w, lines);
+    drop(w);
+    made
 }
 
 // Whether the flat rules of a list and of further rules are these.
@@ -167,7 +171,9 @@ fn list_makes(
 ) -> Result<bool, anyhow::Error> {
     let mut w = Written::new(alloc);
     add_listed(alloc, &mut w, list, rules)?;
-    makes(alloc, &w, lines)
+    let made = makes(alloc, &w, lines);
+    drop(w);
+    made
 }
 
 const STAR: List = (false, None, false);

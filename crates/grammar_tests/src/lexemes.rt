@@ -5,8 +5,8 @@ use crate::grammars::{Language, flat_of, written_of};
 use anyhow::bail;
 use char_class::{CharSet, ClassRefusal, read_class};
 use grammar_core::{CoreRefusal, Flat, SymbolId, Written};
-use lexer::{Lexer, Lexical};
-use slif_base::chars_of;
+use lexer::{LexAnswer, Lexer, Lexical};
+use slif_base::{Chars, TextRefusal, chars_of};
 use std::alloc::{AllocError, Global};
 use std::test::Fail;
 
@@ -40,13 +40,23 @@ fn grammar(alloc: Global) -> Result<Written, CoreRefusal> {
     Ok(w)
 }
 
+fn put_set(
+    alloc: Global,
+    terminal: u32,
+    class: &str,
+    sets: &mut Vec<(SymbolId, CharSet)>,
+) -> Result<(), ClassRefusal> {
+    let set = read_class(alloc, class)?;
+    match sets.push((SymbolId(terminal), set)) {
+        Ok(()) => Ok(()),
+        Err(_) => Err(ClassRefusal::NoMemory),
+    }
+}
+
 fn sets(alloc: Global) -> Result<Vec<(SymbolId, CharSet)>, ClassRefusal> {
     let mut sets = Vec::new(alloc);
     for (terminal, class) in SETS {
-        let set = read_class(alloc, class)?;
-        if sets.push((SymbolId(*terminal), set)).is_err() {
-            return Err(ClassRefusal::NoMemory);
-        }
+        put_set(alloc, *terminal, class, &mut sets)?;
     }
     Ok(sets)
 }
@@ -63,33 +73,7 @@ fn are_starts(candidates: &[u32], starts: usize) -> bool
     true
 }
 
-// The length of the longest match and the candidates that have it; nothing where there is none.
-fn found(
-    alloc: Global,
-    lexer: &mut Lexer<'_>,
-    starts: usize,
-    text: &[u8],
-    at: usize,
-    candidates: &[u32],
-) -> Result<Vec<u32>, AllocError>
-    requires { starts ≡ length lexer.old.flat.tops }
-    ensures { lexer.new ≡ lexer.old }
-{
-    let Ok(chars) = chars_of(alloc, text) else {
-        return Err(AllocError);
-    };
-    let mut found = Vec::new(alloc);
-    if !are_starts(candidates, starts) || at > chars.len() || chars.len() > 100 {
-        return Ok(found);
-    }
-    if let Some(answer) = lexer.longest(alloc, &chars, at, candidates)? {
-        found.push(answer.length)?;
-        found.extend_from_slice(&answer.matched)?;
-    }
-    Ok(found)
-}
-
-// A text, a place, candidates, and what is found.
+// A text, a place, candidates, and what is found: the length of the longest match and the candidates that have it, or nothing.
 type Case = (&'static str, usize, &'static [u32], &'static [u32]);
 
 const CASES: &[Case] = &[
@@ -108,19 +92,51 @@ const CASES: &[Case] = &[
     ("1!β 2", 1, &[1, 3], &[2, 3]),
 ];
 
+fn is_answer(answer: &Option<LexAnswer>, expected: &[u32]) -> bool {
+    match (answer, expected.split_first()) {
+        (None, None) => true,
+        (Some(answer), Some((length, matched))) => {
+            answer.length == *length && answer.matched.as_slice() == matched
+        }
+        _ => false,
+    }
+}
+
+// Whether a lexer finds that at a place of a text.
+fn finds_at(
+    alloc: Global,
+    lexer: &mut Lexer<'_>,
+    starts: usize,
+    chars: &Chars,
+    at: usize,
+    candidates: &[u32],
+    expected: &[u32],
+) -> Result<bool, AllocError>
+    requires { starts ≡ length lexer.old.flat.tops }
+    ensures { lexer.new ≡ lexer.old }
+{
+    if !are_starts(candidates, starts) || at > chars.len() || chars.len() > 100 {
+        return Ok(false);
+    }
+    let answer = lexer.longest(alloc, chars, at, candidates)?;
+    Ok(is_answer(&answer, expected))
+}
+
 // Whether a lexer finds what the case tells.
 fn is_found(
     alloc: Global,
     lexer: &mut Lexer<'_>,
     starts: usize,
     case: &Case,
-) -> Result<bool, AllocError>
+) -> Result<bool, TextRefusal>
     requires { starts ≡ length lexer.old.flat.tops }
     ensures { lexer.new ≡ lexer.old }
 {
     let (text, at, candidates, expected) = case;
-    let found = found(alloc, lexer, starts, text.as_bytes(), *at, candidates)?;
-    Ok(found.as_slice() == *expected)
+    let chars = chars_of(alloc, text.as_bytes())?;
+    let found = finds_at(alloc, lexer, starts, &chars, *at, candidates, expected);
+    drop(chars);
+    Ok(found?)
 }
 
 // Whether one lexer finds all that.
@@ -147,15 +163,25 @@ fn lexes(
     cases: &[Case],
 ) -> Result<bool, anyhow::Error> {
     let mut lexer = Lexer::new(alloc, Lexical { flat, sets })?;
-    are_found(alloc, &mut lexer, flat.start_count(), cases)
+    let found = are_found(alloc, &mut lexer, flat.start_count(), cases);
+    drop(lexer);
+    found
+}
+
+fn finds_by(alloc: Global, flat: &Flat, cases: &[Case]) -> Result<bool, anyhow::Error> {
+    let Ok(sets) = sets(alloc) else {
+        bail!("a class is refused");
+    };
+    let found = lexes(alloc, flat, &sets, cases);
+    drop(sets);
+    found
 }
 
 fn finds(alloc: Global, w: &Written, cases: &[Case]) -> Result<bool, anyhow::Error> {
     let flat = flat_of(alloc, w)?;
-    let Ok(sets) = sets(alloc) else {
-        bail!("a class is refused");
-    };
-    lexes(alloc, &flat, &sets, cases)
+    let found = finds_by(alloc, &flat, cases);
+    drop(flat);
+    found
 }
 
 #[test]

@@ -5,7 +5,7 @@ ghost use Rattle.earley_sets.specs.Recognizer.{earleme_of};
 use crate::grammars::{Language, flat_of, written_of};
 use anyhow::bail;
 use earley_sets::{AlternativeRefusal, Recce};
-use grammar_core::{Flat, SymbolId};
+use grammar_core::{Flat, SymbolId, Written};
 use slif_base::Steps;
 use std::alloc::{AllocError, Global};
 use std::marker::Brand;
@@ -198,7 +198,16 @@ pub(crate) fn is_so<L: Ledger>(
 {
     let mut steps = Steps::<L>::of_blank(blank);
     let mut recce = Recce::new(alloc, flat, 0)?;
-    does_all(alloc, &mut recce, table, &mut steps)
+    let done = does_all(alloc, &mut recce, table, &mut steps);
+    drop(recce);
+    done
+}
+
+fn goes_by(alloc: Global, w: &Written, table: &[Step]) -> Result<bool, anyhow::Error> {
+    let flat = flat_of(alloc, w)?;
+    let so = is_so::<Brand>(Blank::new(1), alloc, &flat, table);
+    drop(flat);
+    so
 }
 
 /// Whether all steps go as wanted with a grammar.
@@ -207,7 +216,8 @@ pub(crate) fn goes(
     language: &Language,
     table: &[Step],
 ) -> Result<bool, anyhow::Error> {
-    let written = written_of(alloc, language)?;
-    let flat = flat_of(alloc, &written)?;
-    is_so::<Brand>(Blank::new(1), alloc, &flat, table)
+    let w = written_of(alloc, language)?;
+    let so = goes_by(alloc, &w, table);
+    drop(w);
+    so
 }

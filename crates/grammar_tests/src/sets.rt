@@ -81,7 +81,9 @@ fn sum_grammar(alloc: Global) -> Result<Flat, AllocError>
 // Whether all steps go as wanted with the sum.
 fn sum_goes(alloc: Global, table: &[Step]) -> Result<bool, anyhow::Error> {
     let flat = sum_grammar(alloc)?;
-    is_so::<Brand>(Blank::new(1), alloc, &flat, table)
+    let so = is_so::<Brand>(Blank::new(1), alloc, &flat, table);
+    drop(flat);
+    so
 }
 
 const SUM_SIZES: &[Step] = &[

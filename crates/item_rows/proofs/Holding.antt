@@ -66,23 +66,23 @@ module _ (rules : List Item) (lists : List (List ℕ)) (begun : List ℕ) where
 -- a row of different items, and of a list that begins at its place
 module _ (rules : List Item) (differ : DifferInDots rules) (zero : (k : ℕ) → k < length rules → (dotted_at rules k).origin ≡ 0)
     (items : List Item) (packed : List ℕ) (is : IsPackedRow (length rules) packed) (same : IsListOf (Contains items) (map (unpacked rules) packed))
-    (place : ℕ) (list : List ℕ) (dotted : AreDotted (length rules) list) (shared : List Item) (shared_is : map (dotted_at rules) list ≡ shared)
-    (apart : (item : Item) → Contains items item → ¬ IsBegunAt shared place item) where
-  told : (item : Item) → Contains (map (begun_at rules place) list) item ↔ IsBegunAt shared place item
-  told item = subst (λ l. Contains (map (begun_at rules place) list) item ↔ IsBegunAt l place item) shared_is (begun_told rules differ place zero list dotted item)
+    (earleme : ℕ) (list : List ℕ) (dotted : AreDotted (length rules) list) (shared : List Item) (shared_is : map (dotted_at rules) list ≡ shared)
+    (apart : (item : Item) → Contains items item → ¬ IsBegunAt shared earleme item) where
+  told : (item : Item) → Contains (map (begun_at rules earleme) list) item ↔ IsBegunAt shared earleme item
+  told item = subst (λ l. Contains (map (begun_at rules earleme) list) item ↔ IsBegunAt l earleme item) shared_is (begun_told rules differ earleme zero list dotted item)
 
-  pushed_row : IsRowOfParts rules place packed list
+  pushed_row : IsRowOfParts rules earleme packed list
   pushed_row = record {
     first = is;
     second = dotted;
     apart = λ n k a b e. apart (unpacked rules n) ((same.exact (unpacked rules n)).0 (map_has (unpacked rules) packed n a))
-        ((told (unpacked rules n)).0 (subst (Contains (map (begun_at rules place) list)) (sym e) (map_has (begun_at rules place) list k b)));
+        ((told (unpacked rules n)).0 (subst (Contains (map (begun_at rules earleme) list)) (sym e) (map_has (begun_at rules earleme) list k b)));
   }
 
-  pushed_items : IsListOf (λ item. Contains items item ⊎ IsBegunAt shared place item) (row_items rules place packed list)
+  pushed_items : IsListOf (λ item. Contains items item ⊎ IsBegunAt shared earleme item) (row_items rules earleme packed list)
   pushed_items =
-      join_lists (Contains items) (IsBegunAt shared place) (map (unpacked rules) packed) (map (begun_at rules place) list) same
-      (record { once = once_begun rules differ place list dotted; exact = told }) apart
+      join_lists (Contains items) (IsBegunAt shared earleme) (map (unpacked rules) packed) (map (begun_at rules earleme) list) same
+      (record { once = once_begun rules differ earleme list dotted; exact = told }) apart
 
 abbrev pub rows_over : FlatGrammar → (sets shared : List (List Item)) → ItemRows
 rows_over g sets shared = record { flat = g; sets = sets; shared = shared }
@@ -124,9 +124,6 @@ module _ (g : FlatGrammar) (rules : List Item) (lists : List (List ℕ)) (begun 
   list_seen j lt = sym (get_or-map (map (dotted_at rules)) lists j [] [] (in_lists j lt)) ∙ ap (λ s. shared_at s j) same_shared
 
   module _ (count : ℕ) (held : AreHeld rules lists begun kernels count) where
-    pub count_seen : count ≡ sum (map length r.sets)
-    count_seen = held.all ∙ ap (λ (s : List (List Item)). sum (map length s)) same_sets
-
     pub fits : (j : ℕ) → j < length r.sets → j < 2 ^ 32
     fits j lt = let k = in_kernels j lt in let f = held.few in omega arith
 
@@ -295,19 +292,3 @@ module _ (g : FlatGrammar) (rules : List Item) (lists : List (List ℕ)) (begun 
 
       pub seen_first : seen g rules lists begun (take 1 kernels) ≡ record r { sets = row_at r.sets 0 ∷ [] }
       seen_first = seen_as same_flat rows_first same_shared
-
--- no rows, and the empty list alone
-module _ (rules : List Item) where
-  pub held_none : AreHeld rules ([] ∷ []) [] [] 0
-  held_none = record {
-    few = omega arith;
-    enough = omega arith;
-    known = λ j lt. absurd (omega arith);
-    dotted = λ list h. (let (k, lt, e) = h in subst (AreDotted (length rules)) (empty k lt list e) (record { rises = λ i j d a b. absurd (omega arith); within = λ k (j, b, _). absurd (omega arith) }));
-    rows = λ j lt. absurd (omega arith);
-    all = refl;
-  }
-    where
-      empty : (k : ℕ) → k < 1 → (list : List ℕ) → slice_index_or ([] ∷ []) k list ≡ list → [] ≡ list
-      empty zero lt list e = e
-      empty (suc k) lt list e = absurd (omega arith)

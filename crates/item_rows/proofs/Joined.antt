@@ -52,67 +52,67 @@ module _ {A : Type 0} where
   list_as P Q xs same is = record { once = is.once; exact = λ x. (λ h. (same x).0 ((is.exact x).0 h), λ q. (is.exact x).1 ((same x).1 q)) }
 
 -- a row, read item by item
-module _ (rules : List Item) (place : ℕ) (packed begun : List ℕ) where
-  pub row_length : length (row_items rules place packed begun) ≡ length packed + length begun
+module _ (rules : List Item) (earleme : ℕ) (packed begun : List ℕ) where
+  pub row_length : length (row_items rules earleme packed begun) ≡ length packed + length begun
   row_length =
-      let a = length-append (map (unpacked rules) packed) (map (begun_at rules place) begun) in
+      let a = length-append (map (unpacked rules) packed) (map (begun_at rules earleme) begun) in
       let b = map_length (unpacked rules) packed in
-      let c = map_length (begun_at rules place) begun in
+      let c = map_length (begun_at rules earleme) begun in
       omega arith
 
-  pub at_first : (k d : ℕ) → k < length packed → slice_get (row_items rules place packed begun) k ≡ Some (unpacked rules (slice_index_or packed k d))
+  pub at_first : (k d : ℕ) → k < length packed → slice_get (row_items rules earleme packed begun) k ≡ Some (unpacked rules (slice_index_or packed k d))
   at_first k d lt =
       let l = map_length (unpacked rules) packed in
       let all = row_length in
       let u = unpacked rules d in
-      slice_get-get_or (row_items rules place packed begun) k u (omega arith)
-      ∙ ap Some (get_or-append (map (unpacked rules) packed) (map (begun_at rules place) begun) u k (omega arith) ∙ get_or-map (unpacked rules) packed k d u lt)
+      slice_get-get_or (row_items rules earleme packed begun) k u (omega arith)
+      ∙ ap Some (get_or-append (map (unpacked rules) packed) (map (begun_at rules earleme) begun) u k (omega arith) ∙ get_or-map (unpacked rules) packed k d u lt)
 
-  pub at_second : (k d : ℕ) → length packed ≤ k → k < length (row_items rules place packed begun) → slice_get (row_items rules place packed begun) k ≡ Some (begun_at rules place (slice_index_or begun (k - length packed) d))
+  pub at_second : (k d : ℕ) → length packed ≤ k → k < length (row_items rules earleme packed begun) → slice_get (row_items rules earleme packed begun) k ≡ Some (begun_at rules earleme (slice_index_or begun (k - length packed) d))
   at_second k d le lt =
       let l = map_length (unpacked rules) packed in
       let all = row_length in
-      let u = begun_at rules place d in
-      slice_get-get_or (row_items rules place packed begun) k u lt
-      ∙ ap Some (get_or-append_right (map (unpacked rules) packed) (map (begun_at rules place) begun) (length packed) k u l le ∙ get_or-map (begun_at rules place) begun (k - length packed) d u (omega arith))
+      let u = begun_at rules earleme d in
+      slice_get-get_or (row_items rules earleme packed begun) k u lt
+      ∙ ap Some (get_or-append_right (map (unpacked rules) packed) (map (begun_at rules earleme) begun) (length packed) k u l le ∙ get_or-map (begun_at rules earleme) begun (k - length packed) d u (omega arith))
 
 -- dotted rules of the span, begun at a place
-module _ (rules : List Item) (place : ℕ) (begun : List ℕ) (is : AreDotted (length rules) begun) (Kind : (rule dot : ℕ) → Type 0) (span : Span) (is_span : IsSpanOf Kind rules span) where
-  begun_kind : (k : ℕ) (item : Item) → Contains begun k → begun_at rules place k ≡ item → ((span.start ≤ k) × (k < span.end)) ↔ Kind item.rule item.dot
+module _ (rules : List Item) (earleme : ℕ) (begun : List ℕ) (is : AreDotted (length rules) begun) (Kind : (rule dot : ℕ) → Type 0) (span : Span) (is_span : IsSpanOf Kind rules span) where
+  begun_kind : (k : ℕ) (item : Item) → Contains begun k → begun_at rules earleme k ≡ item → ((span.start ≤ k) × (k < span.end)) ↔ Kind item.rule item.dot
   begun_kind k item h e =
       let (to, from) = is_span.exact k (is.within k h) in
       ((λ p. subst (λ (z : Item). Kind z.rule z.dot) e (to p)), (λ w. from (subst (λ (z : Item). Kind z.rule z.dot) (sym e) w)))
 
 -- dotted rules that begin at a place
-module _ (rules : List Item) (differ : DifferInDots rules) (place : ℕ) where
-  begun_one : (j k : ℕ) → j < length rules → k < length rules → begun_at rules place j ≡ begun_at rules place k → j ≡ k
+module _ (rules : List Item) (differ : DifferInDots rules) (earleme : ℕ) where
+  begun_one : (j k : ℕ) → j < length rules → k < length rules → begun_at rules earleme j ≡ begun_at rules earleme k → j ≡ k
   begun_one j k a b e = differ j k a b (ap (λ (z : Item). z.rule) e) (ap (λ (z : Item). z.dot) e)
 
-  pub once_begun : (begun : List ℕ) → AreDotted (length rules) begun → AllPairs (λ x y. x ≢ y) (map (begun_at rules place) begun)
+  pub once_begun : (begun : List ℕ) → AreDotted (length rules) begun → AllPairs (λ x y. x ≢ y) (map (begun_at rules earleme) begun)
   once_begun begun is i j d lt below e =
-      let l = map_length (begun_at rules place) begun in
+      let l = map_length (begun_at rules earleme) begun in
       let m = get_or begun i 0 in
       let n = get_or begun j 0 in
-      let h : begun_at rules place m ≡ begun_at rules place n = sym (get_or-map (begun_at rules place) begun i 0 d (omega arith)) ∙ (e ∙ get_or-map (begun_at rules place) begun j 0 d (omega arith)) in
+      let h : begun_at rules earleme m ≡ begun_at rules earleme n = sym (get_or-map (begun_at rules earleme) begun i 0 d (omega arith)) ∙ (e ∙ get_or-map (begun_at rules earleme) begun j 0 d (omega arith)) in
       let same = begun_one m n (is.within m (i, omega arith, index_any begun i m 0 (omega arith))) (is.within n (j, omega arith, index_any begun j n 0 (omega arith))) h in
       let r = is.rises i j 0 lt (omega arith) in
       absurd (omega arith)
 
-  pub begun_there : (begun : List ℕ) → AreDotted (length rules) begun → (item : Item) (n : ℕ) → IsPacked rules n item → ((item.origin ≡ place) × Contains begun (n / 4294967296)) ↔ Contains (map (begun_at rules place) begun) item
+  pub begun_there : (begun : List ℕ) → AreDotted (length rules) begun → (item : Item) (n : ℕ) → IsPacked rules n item → ((item.origin ≡ earleme) × Contains begun (n / 4294967296)) ↔ Contains (map (begun_at rules earleme) begun) item
   begun_there begun is item n (lt, e) = (
-    λ (o, h). subst (Contains (map (begun_at rules place) begun)) (λ i. record { rule = ap (λ (z : Item). z.rule) e i; dot = ap (λ (z : Item). z.dot) e i; origin = sym o i }) (map_has (begun_at rules place) begun (n / 4294967296) h),
+    λ (o, h). subst (Contains (map (begun_at rules earleme) begun)) (λ i. record { rule = ap (λ (z : Item). z.rule) e i; dot = ap (λ (z : Item). z.dot) e i; origin = sym o i }) (map_has (begun_at rules earleme) begun (n / 4294967296) h),
     λ c. (
-        let (k, h, same) = map_from (begun_at rules place) begun item c in
+        let (k, h, same) = map_from (begun_at rules earleme) begun item c in
         let r : (dotted_at rules k).rule ≡ (dotted_at rules (n / 4294967296)).rule = ap (λ (z : Item). z.rule) same ∙ sym (ap (λ (z : Item). z.rule) e) in
         let d : (dotted_at rules k).dot ≡ (dotted_at rules (n / 4294967296)).dot = ap (λ (z : Item). z.dot) same ∙ sym (ap (λ (z : Item). z.dot) e) in
         (sym (ap (λ (z : Item). z.origin) same), subst (Contains begun) (differ k (n / 4294967296) (is.within k h) lt r d) h)),
   )
 
   -- the dotted rules of a list, as its items tell them
-  pub begun_told : ((k : ℕ) → k < length rules → (dotted_at rules k).origin ≡ 0) → (begun : List ℕ) → AreDotted (length rules) begun → (item : Item) → Contains (map (begun_at rules place) begun) item ↔ IsBegunAt (map (dotted_at rules) begun) place item
+  pub begun_told : ((k : ℕ) → k < length rules → (dotted_at rules k).origin ≡ 0) → (begun : List ℕ) → AreDotted (length rules) begun → (item : Item) → Contains (map (begun_at rules earleme) begun) item ↔ IsBegunAt (map (dotted_at rules) begun) earleme item
   begun_told zero begun is item = (
     λ c. (
-        let (k, h, same) = map_from (begun_at rules place) begun item c in
+        let (k, h, same) = map_from (begun_at rules earleme) begun item c in
         let r = ap (λ (z : Item). z.rule) same in
         let d = ap (λ (z : Item). z.dot) same in
         let o = zero k (is.within k h) in
@@ -122,8 +122,8 @@ module _ (rules : List Item) (differ : DifferInDots rules) (place : ℕ) where
         let (k, h, same) = map_from (dotted_at rules) begun (record item { origin = 0 }) c in
         let r : (dotted_at rules k).rule ≡ item.rule = ap (λ (z : Item). z.rule) same in
         let d : (dotted_at rules k).dot ≡ item.dot = ap (λ (z : Item). z.dot) same in
-        let e : begun_at rules place k ≡ item = λ i. record { rule = r i; dot = d i; origin = sym o i } in
-        subst (Contains (map (begun_at rules place) begun)) e (map_has (begun_at rules place) begun k h)),
+        let e : begun_at rules earleme k ≡ item = λ i. record { rule = r i; dot = d i; origin = sym o i } in
+        subst (Contains (map (begun_at rules earleme) begun)) e (map_has (begun_at rules earleme) begun k h)),
   )
 
   module _ (begun : List ℕ) (is : AreDotted (length rules) begun) (Kind : (rule dot : ℕ) → Type 0) (span : Span) (is_span : IsSpanOf Kind rules span) where
@@ -131,46 +131,46 @@ module _ (rules : List Item) (differ : DifferInDots rules) (place : ℕ) where
       pub part_dotted : AreDotted (length rules) part
       part_dotted = record { rises = rises; within = λ k h. is.within k ((exact k).0 h).0 }
 
-      pub part_begun : IsListOf (λ item. Contains (map (begun_at rules place) begun) item × Kind item.rule item.dot) (map (begun_at rules place) part)
+      pub part_begun : IsListOf (λ item. Contains (map (begun_at rules earleme) begun) item × Kind item.rule item.dot) (map (begun_at rules earleme) part)
       part_begun = record { once = once_begun part part_dotted; exact = λ item. (there item, back item) }
         where
-          there : (item : Item) → Contains (map (begun_at rules place) part) item → Contains (map (begun_at rules place) begun) item × Kind item.rule item.dot
+          there : (item : Item) → Contains (map (begun_at rules earleme) part) item → Contains (map (begun_at rules earleme) begun) item × Kind item.rule item.dot
           there item c =
-              let (k, h, e) = map_from (begun_at rules place) part item c in
+              let (k, h, e) = map_from (begun_at rules earleme) part item c in
               let (in_row, from, to) = (exact k).0 h in
-              (subst (Contains (map (begun_at rules place) begun)) e (map_has (begun_at rules place) begun k in_row), (begun_kind rules place begun is Kind span is_span k item in_row e).0 (from, to))
+              (subst (Contains (map (begun_at rules earleme) begun)) e (map_has (begun_at rules earleme) begun k in_row), (begun_kind rules earleme begun is Kind span is_span k item in_row e).0 (from, to))
 
-          back : (item : Item) → Contains (map (begun_at rules place) begun) item × Kind item.rule item.dot → Contains (map (begun_at rules place) part) item
+          back : (item : Item) → Contains (map (begun_at rules earleme) begun) item × Kind item.rule item.dot → Contains (map (begun_at rules earleme) part) item
           back item (c, w) =
-              let (k, h, e) = map_from (begun_at rules place) begun item c in
-              let (from, to) = (begun_kind rules place begun is Kind span is_span k item h e).1 w in
-              subst (Contains (map (begun_at rules place) part)) e (map_has (begun_at rules place) part k ((exact k).1 (h, from, to)))
+              let (k, h, e) = map_from (begun_at rules earleme) begun item c in
+              let (from, to) = (begun_kind rules earleme begun is Kind span is_span k item h e).1 w in
+              subst (Contains (map (begun_at rules earleme) part)) e (map_has (begun_at rules earleme) part k ((exact k).1 (h, from, to)))
 
 -- a row of two parts
-module _ (rules : List Item) (place : ℕ) (packed begun : List ℕ) (is : IsRowOfParts rules place packed begun) where
-  pub parts_apart : (item : Item) → Contains (map (unpacked rules) packed) item → ¬ Contains (map (begun_at rules place) begun) item
+module _ (rules : List Item) (earleme : ℕ) (packed begun : List ℕ) (is : IsRowOfParts rules earleme packed begun) where
+  pub parts_apart : (item : Item) → Contains (map (unpacked rules) packed) item → ¬ Contains (map (begun_at rules earleme) begun) item
   parts_apart item a b =
       let (n, hn, en) = map_from (unpacked rules) packed item a in
-      let (k, hk, ek) = map_from (begun_at rules place) begun item b in
+      let (k, hk, ek) = map_from (begun_at rules earleme) begun item b in
       is.apart n k hn hk (en ∙ sym ek)
 
   module _ (differ : DifferInDots rules) (Kind : (rule dot : ℕ) → Type 0) (span : Span) (is_span : IsSpanOf Kind rules span) (own others : List ℕ) (within : AreWithin packed begun span own others) where
-    pub row_of_kind : IsListOf (λ item. Contains (row_items rules place packed begun) item × Kind item.rule item.dot) (row_items rules place own others)
+    pub row_of_kind : IsListOf (λ item. Contains (row_items rules earleme packed begun) item × Kind item.rule item.dot) (row_items rules earleme own others)
     row_of_kind =
-        list_as (λ item. (Contains (map (unpacked rules) packed) item × Kind item.rule item.dot) ⊎ (Contains (map (begun_at rules place) begun) item × Kind item.rule item.dot))
-        (λ item. Contains (row_items rules place packed begun) item × Kind item.rule item.dot) (row_items rules place own others)
+        list_as (λ item. (Contains (map (unpacked rules) packed) item × Kind item.rule item.dot) ⊎ (Contains (map (begun_at rules earleme) begun) item × Kind item.rule item.dot))
+        (λ item. Contains (row_items rules earleme packed begun) item × Kind item.rule item.dot) (row_items rules earleme own others)
         (λ item. (
           λ s. elim s [
-            | inl (c, w) ↦ (Contains-append_left (map (unpacked rules) packed) (map (begun_at rules place) begun) item c, w)
-            | inr (c, w) ↦ (Contains-append_right (map (unpacked rules) packed) (map (begun_at rules place) begun) item c, w)
+            | inl (c, w) ↦ (Contains-append_left (map (unpacked rules) packed) (map (begun_at rules earleme) begun) item c, w)
+            | inr (c, w) ↦ (Contains-append_right (map (unpacked rules) packed) (map (begun_at rules earleme) begun) item c, w)
           ],
-          λ (c, w). elim (Contains-append_cases (map (unpacked rules) packed) (map (begun_at rules place) begun) item c) [ inl a ↦ inl (a, w) | inr b ↦ inr (b, w) ],
+          λ (c, w). elim (Contains-append_cases (map (unpacked rules) packed) (map (begun_at rules earleme) begun) item c) [ inl a ↦ inl (a, w) | inr b ↦ inr (b, w) ],
         ))
-        (join_lists (λ item. Contains (map (unpacked rules) packed) item × Kind item.rule item.dot) (λ item. Contains (map (begun_at rules place) begun) item × Kind item.rule item.dot)
-        (map (unpacked rules) own) (map (begun_at rules place) others) (part_of_kind rules differ packed is.first Kind span is_span own within.own_rises within.own_exact)
-        (part_begun rules differ place begun is.second Kind span is_span others within.others_rise within.others_exact) (λ item (a, _) (b, _). parts_apart item a b))
+        (join_lists (λ item. Contains (map (unpacked rules) packed) item × Kind item.rule item.dot) (λ item. Contains (map (begun_at rules earleme) begun) item × Kind item.rule item.dot)
+        (map (unpacked rules) own) (map (begun_at rules earleme) others) (part_of_kind rules differ packed is.first Kind span is_span own within.own_rises within.own_exact)
+        (part_begun rules differ earleme begun is.second Kind span is_span others within.others_rise within.others_exact) (λ item (a, _) (b, _). parts_apart item a b))
 
-  pub parts_within : (span : Span) (own others : List ℕ) → AreWithin packed begun span own others → IsRowOfParts rules place own others
+  pub parts_within : (span : Span) (own others : List ℕ) → AreWithin packed begun span own others → IsRowOfParts rules earleme own others
   parts_within span own others within = record {
     first = record { rises = within.own_rises; within = λ n h. is.first.within n ((within.own_exact n).0 h).0 };
     second = record { rises = within.others_rise; within = λ k h. is.second.within k ((within.others_exact k).0 h).0 };
@@ -178,28 +178,25 @@ module _ (rules : List Item) (place : ℕ) (packed begun : List ℕ) (is : IsRow
   }
 
   module _ (differ : DifferInDots rules) (item : Item) (n : ℕ) (number : IsPacked rules n item) where
-    pub contains_first : Contains packed n → Contains (row_items rules place packed begun) item
-    contains_first h = Contains-append_left (map (unpacked rules) packed) (map (begun_at rules place) begun) item ((packed_there rules differ packed is.first item n number).0 h)
+    pub contains_second : item.origin ≡ earleme → Contains begun (n / 4294967296) → Contains (row_items rules earleme packed begun) item
+    contains_second o h = Contains-append_right (map (unpacked rules) packed) (map (begun_at rules earleme) begun) item ((begun_there rules differ earleme begun is.second item n number).0 (o, h))
 
-    pub contains_second : item.origin ≡ place → Contains begun (n / 4294967296) → Contains (row_items rules place packed begun) item
-    contains_second o h = Contains-append_right (map (unpacked rules) packed) (map (begun_at rules place) begun) item ((begun_there rules differ place begun is.second item n number).0 (o, h))
-
-    pub contains_either : Contains (row_items rules place packed begun) item → Contains packed n ⊎ ((item.origin ≡ place) × Contains begun (n / 4294967296))
-    contains_either c = elim (Contains-append_cases (map (unpacked rules) packed) (map (begun_at rules place) begun) item c) [
+    pub contains_either : Contains (row_items rules earleme packed begun) item → Contains packed n ⊎ ((item.origin ≡ earleme) × Contains begun (n / 4294967296))
+    contains_either c = elim (Contains-append_cases (map (unpacked rules) packed) (map (begun_at rules earleme) begun) item c) [
       | inl a ↦ inl ((packed_there rules differ packed is.first item n number).1 a)
-      | inr b ↦ inr ((begun_there rules differ place begun is.second item n number).1 b)
+      | inr b ↦ inr ((begun_there rules differ earleme begun is.second item n number).1 b)
     ]
 
-  pub contains_none : place < 4294967296 → (item : Item) → ((n : ℕ) → ¬ IsPacked rules n item) → ¬ Contains (row_items rules place packed begun) item
-  contains_none small item none c = elim (Contains-append_cases (map (unpacked rules) packed) (map (begun_at rules place) begun) item c) [
+  pub contains_none : earleme < 4294967296 → (item : Item) → ((n : ℕ) → ¬ IsPacked rules n item) → ¬ Contains (row_items rules earleme packed begun) item
+  contains_none small item none c = elim (Contains-append_cases (map (unpacked rules) packed) (map (begun_at rules earleme) begun) item c) [
     | inl a ↦ packed_absent rules packed is.first item none a
     | inr b ↦
-        let (k, h, e) = map_from (begun_at rules place) begun item b in
-        let q : (k * 4294967296 + place) / 4294967296 ≡ k = omega arith in
-        let o : (k * 4294967296 + place) % 4294967296 ≡ place = omega arith in
+        let (k, h, e) = map_from (begun_at rules earleme) begun item b in
+        let q : (k * 4294967296 + earleme) / 4294967296 ≡ k = omega arith in
+        let o : (k * 4294967296 + earleme) % 4294967296 ≡ earleme = omega arith in
         let w = is.second.within k h in
-        let u : unpacked rules (k * 4294967296 + place) ≡ begun_at rules place k = λ i. record { rule = (dotted_at rules (q i)).rule; dot = (dotted_at rules (q i)).dot; origin = o i } in
-        none (k * 4294967296 + place) (omega arith, u ∙ e)
+        let u : unpacked rules (k * 4294967296 + earleme) ≡ begun_at rules earleme k = λ i. record { rule = (dotted_at rules (q i)).rule; dot = (dotted_at rules (q i)).dot; origin = o i } in
+        none (k * 4294967296 + earleme) (omega arith, u ∙ e)
   ]
 
 -- a list of dotted rules, of packed items that begin at the place 0

@@ -5,5 +5,6 @@ pub mod Listed
 pub mod Marking
 pub mod Ordered
 pub mod Packing
+pub mod Ruled
 pub mod Sorting
 pub mod Viewing

@@ -33,12 +33,6 @@ module _ {A : Type 0} where
   some_same : (a b : A) → Some a ≡ Some b → a ≡ b
   some_same a b e = cc
 
-  pub got_push : (xs : List A) (x : A) (k : ℕ) (y : A) → slice_get (xs ++ x ∷ []) k ≡ Some y → (slice_get xs k ≡ Some y) ⊎ ((k ≡ length xs) × (x ≡ y))
-  got_push [] x zero y e = inr (refl, some_same x y e)
-  got_push [] x (suc k) y e = absurd (cc)
-  got_push (z ∷ xs) x zero y e = inl e
-  got_push (z ∷ xs) x (suc k) y e = elim (got_push xs x k y e) [ inl a ↦ inl a | inr (n, same) ↦ inr (ap suc n, same) ]
-
   pub index_any : (xs : List A) (k : ℕ) (d e : A) → k < length xs → slice_index_or xs k d ≡ slice_index_or xs k e
   index_any [] k d e lt = absurd (omega arith)
   index_any (x ∷ xs) zero d e lt = refl
@@ -63,8 +57,8 @@ more_dots r n old mid new adds is = subst (AddsDots r (suc n) old) (sym is) (rec
     dot d (inr le) lt =
         let same : d ≡ n = omega arith in
         let s = adds.size in
-        let place : length mid ≡ length old + d = omega arith in
-        subst (λ k. slice_get (mid ++ record { rule = r; dot = n; origin = 0 } ∷ []) k ≡ Some (record { rule = r; dot = d; origin = 0 })) place
+        let here : length mid ≡ length old + d = omega arith in
+        subst (λ k. slice_get (mid ++ record { rule = r; dot = n; origin = 0 } ∷ []) k ≡ Some (record { rule = r; dot = d; origin = 0 })) here
         (get_last mid (record { rule = r; dot = n; origin = 0 }) ∙ ap (λ z. Some (record { rule = r; dot = z; origin = 0 })) (sym same))
 
 -- those of the first rules
@@ -172,20 +166,18 @@ module _ (g : FlatGrammar) (listed : List Item) (firsts : List ℕ) (n : ℕ) (a
           let (j, below, e) = same (dotted_at rules k) (k, lt, index_any rules k (dotted_at rules k) no_item lt) in
           numbered (dotted_at rules k) j (are.told j (dotted_at rules k) (slice_get-get_or listed j (dotted_at rules k) below ∙ ap Some e)).0
 
--- what is numbered is found
-module _ (rules : List Item) (firsts numbers : List ℕ) (item : Item) (is : IsNumbered rules firsts numbers item) (found : Option ℕ)
-    (find : (first : ℕ) → slice_get firsts item.rule ≡ Some first → found ≡ slice_get numbers (first + item.dot)) where
-  pub number_found : found ≡ Some is.number
-  number_found = find is.first is.begins ∙ is.has_number
-
-pub numbered_as : (rules : List Item) (firsts numbers : List ℕ) (x item : Item) → x.rule ≡ item.rule → x.dot ≡ item.dot → IsNumbered rules firsts numbers x → IsNumbered rules firsts numbers item
-numbered_as rules firsts numbers x item r d is = record {
-  first = is.first;
-  begins = subst (λ z. slice_get firsts z ≡ Some is.first) r is.begins;
-  number = is.number;
-  has_number = subst (λ z. slice_get numbers (is.first + z) ≡ Some is.number) d is.has_number;
-  is = is.is ∙ ap Some (λ i. record { rule = r i; dot = d i; origin = 0 });
-}
+-- one number more
+pub numbers_more : (listed rules : List Item) (numbers : List ℕ) (k : ℕ) (item : Item) (n : ℕ) (new : List ℕ) → length numbers ≡ k →
+    ((j : ℕ) (x : Item) → j < k → slice_get listed j ≡ Some x → (m : ℕ) × (slice_get numbers j ≡ Some m) × (slice_get rules m ≡ Some x)) →
+    slice_get listed k ≡ Some item → slice_get rules n ≡ Some item → new ≡ numbers ++ n ∷ [] →
+    (j : ℕ) (x : Item) → j < k + 1 → slice_get listed j ≡ Some x → (m : ℕ) × (slice_get new j ≡ Some m) × (slice_get rules m ≡ Some x)
+numbers_more listed rules numbers k item n new size are at found is j x lt e = elim (cases_lt j k) [
+  | inl l ↦ let (m, a, b) = are j x l e in (m, subst (λ z. slice_get z j ≡ Some m) (sym is) (get_more numbers (n ∷ []) j m a), b)
+  | inr ge ↦
+      let same : j ≡ k = omega arith in
+      let one : Some item ≡ Some x = sym at ∙ (ap (slice_get listed) (sym same) ∙ e) in
+      (n, subst (λ z. slice_get z j ≡ Some n) (sym is) (ap (slice_get (numbers ++ n ∷ [])) (same ∙ sym size) ∙ get_last numbers n), found ∙ one)
+]
 
 -- a rule with a part is one of the grammar
 pub part_of_rule : (g : FlatGrammar) (item : Item) (x : ℕ) → after g item ≡ Some x → IsRule g item.rule

@@ -94,18 +94,6 @@ module _ (row : List ℕ) (rises : Rises row) where
             (elim (cases_lt k start) [ inr l ↦ l | inl l ↦ let p = b1 k l in absurd (omega arith) ])
             (elim (cases_lt k end) [ inl l ↦ l | inr l ↦ let p = a2 k l lt in absurd (omega arith) ]) is
 
-  -- the first that is not below a bound tells whether one is within two
-  pub one_within : (low high place : ℕ) → ((k : ℕ) → k < place → slice_index row k < low) → ((k : ℕ) → place ≤ k → k < length row → low ≤ slice_index row k) →
-      ((place < length row) × (slice_index row place < high)) ↔ ((n : ℕ) × Contains row n × (low ≤ n) × (n < high))
-  one_within low high place below above = (
-    λ (lt, top). (slice_index row place, (place, lt, index_any row place (slice_index row place) 0 lt), above place (omega arith) lt, top),
-    λ (n, (k, lt, at), from, to). (
-        let same : get_or row k 0 ≡ n = index_any row k 0 n lt ∙ at in
-        let first : place ≤ k = elim (cases_lt k place) [ inr l ↦ l | inl l ↦ let b = below k l in absurd (omega arith) ] in
-        let o = in_order place k first lt in
-        (omega arith, omega arith)),
-  )
-
   pub search_tells : (n : ℕ) (r : Result ℕ ℕ) → IsBinarySearchResult (λ y. nat_cmp y n) row r → IsTrue (is_ok r) ↔ Contains row n
   search_tells n r h = go r (searched row n r h in_order)
     where

@@ -38,18 +38,18 @@ pub record AreDotted (count : ℕ) (numbers : List ℕ) : Type 0 where
   pub within : (k : ℕ) → Contains numbers k → k < count
 
 -- the dotted rule of that number, begun at the place
-abbrev pub begun_at : List Item → (place : ℕ) → ℕ → Item
-begun_at rules place k = record (dotted_at rules k) { origin = place }
+abbrev pub begun_at : List Item → (earleme : ℕ) → ℕ → Item
+begun_at rules earleme k = record (dotted_at rules k) { origin = earleme }
 
 -- the items that are packed, and the dotted rules that begin at the place
-abbrev pub row_items : List Item → (place : ℕ) → (packed begun : List ℕ) → List Item
-row_items rules place packed begun = map (unpacked rules) packed ++ map (begun_at rules place) begun
+abbrev pub row_items : List Item → (earleme : ℕ) → (packed begun : List ℕ) → List Item
+row_items rules earleme packed begun = map (unpacked rules) packed ++ map (begun_at rules earleme) begun
 
 -- no item stands in both parts
-pub record IsRowOfParts (rules : List Item) (place : ℕ) (packed begun : List ℕ) : Type 0 where
+pub record IsRowOfParts (rules : List Item) (earleme : ℕ) (packed begun : List ℕ) : Type 0 where
   pub first : IsPackedRow (length rules) packed
   pub second : AreDotted (length rules) begun
-  pub apart : (n k : ℕ) → Contains packed n → Contains begun k → unpacked rules n ≢ begun_at rules place k
+  pub apart : (n k : ℕ) → Contains packed n → Contains begun k → unpacked rules n ≢ begun_at rules earleme k
 
 -- dotted rules with different numbers are different
 abbrev pub DifferInDots : List Item → Type 0

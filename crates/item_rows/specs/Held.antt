@@ -10,8 +10,8 @@ shared_by lists begun j = list_at lists (slice_index_or begun j 0)
 
 -- the rows from a place on
 abbrev pub rows_from : List Item → (lists : List (List ℕ)) → (begun : List ℕ) → ℕ → List (List ℕ) → List (List Item)
-rows_from rules lists begun place [] = []
-rows_from rules lists begun place (packed ∷ kernels) = row_items rules place packed (shared_by lists begun place) ∷ rows_from rules lists begun (suc place) kernels
+rows_from rules lists begun earleme [] = []
+rows_from rules lists begun earleme (packed ∷ kernels) = row_items rules earleme packed (shared_by lists begun earleme) ∷ rows_from rules lists begun (suc earleme) kernels
 
 abbrev pub lists_from : List Item → List (List ℕ) → List (List Item)
 lists_from rules lists = map (map (dotted_at rules)) lists

@@ -29,9 +29,9 @@ abbrev pub IsAwaitedTerminal : FlatGrammar → List Item → (symbols t : ℕ) �
 IsAwaitedTerminal g row n t = (x : ℕ) × (x < n) × (slice_get g.symbols x ≡ Some (Terminal t)) × IsAwaited g row x
 
 -- the row of a place
-pub record IsRowOf (g : FlatGrammar) (place : ℕ) (row : List Item) : Type 0 where
+pub record IsRowOf (g : FlatGrammar) (earleme : ℕ) (row : List Item) : Type 0 where
   pub items : AreItems g row
-  pub begun : (item : Item) → Contains row item → item.origin ≤ place
+  pub begun : (item : Item) → Contains row item → item.origin ≤ earleme
 
 abbrev pub AreRows : FlatGrammar → List (List Item) → Type 0
 AreRows g rows = (i : ℕ) → IsRowOf g i (row_at rows i)

@@ -28,6 +28,6 @@ pub record AreMarked (g : FlatGrammar) (mark : ℕ) (marks listed : List ℕ) : 
   pub once : AllPairs (λ s t. s ≢ t) listed
 
 -- just the terminals that the row waits for are listed, and marked as its own
-pub record AreMarksOf (g : FlatGrammar) (row : List Item) (place : ℕ) (marks listed : List ℕ) : Type 0 where
-  pub marked : AreMarked g (place + 1) marks listed
+pub record AreMarksOf (g : FlatGrammar) (row : List Item) (earleme : ℕ) (marks listed : List ℕ) : Type 0 where
+  pub marked : AreMarked g (earleme + 1) marks listed
   pub exact : (t : ℕ) → Contains listed t ↔ IsAwaitedTerminal g row (length g.symbols) t

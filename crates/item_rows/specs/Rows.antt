@@ -17,7 +17,7 @@ shared_at lists i = slice_index_or lists i []
 
 -- an item of the list, begun at the place
 abbrev pub IsBegunAt : List Item → ℕ → Item → Type 0
-IsBegunAt list place item = (item.origin ≡ place) × Contains list (record item { origin = 0 })
+IsBegunAt list earleme item = (item.origin ≡ earleme) × Contains list (record item { origin = 0 })
 
 -- one row more
 abbrev pub with_row : ItemRows → List Item → ItemRows

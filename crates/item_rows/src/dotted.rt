@@ -236,15 +236,15 @@ pub fn unpack(rules: &[Item], packed: u64) -> Item
 }
 
 /// The item with the dotted rule of that number that begins at a place.
-pub fn begin(rules: &[Item], number: u32, place: u32) -> Item
+pub fn begin(rules: &[Item], number: u32, earleme: u32) -> Item
     requires { number < length rules.now }
-    ensures { result ≡ begun_at rules.now place number }
+    ensures { result ≡ begun_at rules.now earleme number }
 {
     let dotted = rules[number as usize];
     Item {
         rule: dotted.rule,
         dot: dotted.dot,
-        origin: place,
+        origin: earleme,
     }
 }
 

@@ -1,14 +1,17 @@
-//! Sets of items, each a row in one order, so that the items that wait for a symbol stand together, and an item is found by halving.
+//! Sets of items, each a row in one order, so that the items that wait for a symbol stand together, and an item is found by halving. Also the
+//! rules of each symbol and the symbol of each terminal, looked up.
 #![tactic(auto)]
 
 mod dotted;
 mod expected;
+mod heads;
 mod marks;
 mod order;
 mod packed;
 mod rows;
 
 pub use expected::ascending;
+pub use heads::{Heads, Rules, list_heads, rules_of, symbol_of};
 pub use marks::{Marks, is_marked, mark_row, new_marks, take_marks};
 pub use packed::Row;
 pub use rows::Rows;

@@ -18,7 +18,7 @@ pub struct Row<'r> {
     rules: &'r [Item],
     packed: &'r [u64],
     begun: &'r [u32],
-    place: u32,
+    earleme: u32,
 }
 
 impl<'r> Model for Row<'r> {
@@ -28,9 +28,9 @@ impl<'r> Model for Row<'r> {
 
     ghost Value = { List Item };
 
-    ghost view = { λ r. row_items r.rules.now r.place r.packed.now r.begun.now };
+    ghost view = { λ r. row_items r.rules.now r.earleme r.packed.now r.begun.now };
 
-    ghost invariant = { λ r. IsRowOfParts r.rules.now r.place r.packed.now r.begun.now };
+    ghost invariant = { λ r. IsRowOfParts r.rules.now r.earleme r.packed.now r.begun.now };
 }
 
 impl<'r> Row<'r> {
@@ -50,21 +50,21 @@ impl<'r> Row<'r> {
         if k < own {
             unpack(self.rules, self.packed[k])
         } else {
-            begin(self.rules, self.begun[k - own], self.place)
+            begin(self.rules, self.begun[k - own], self.earleme)
         }
     }
 }
 
 /// A row of two parts.
-pub fn row_of<'r>(rules: &'r [Item], packed: &'r [u64], begun: &'r [u32], place: u32) -> Row<'r>
-    requires { IsRowOfParts rules.now place packed.now begun.now }
-    ensures { result ≡ row_items rules.now place packed.now begun.now }
+pub fn row_of<'r>(rules: &'r [Item], packed: &'r [u64], begun: &'r [u32], earleme: u32) -> Row<'r>
+    requires { IsRowOfParts rules.now earleme packed.now begun.now }
+    ensures { result ≡ row_items rules.now earleme packed.now begun.now }
 {
     Row {
         rules,
         packed,
         begun,
-        place,
+        earleme,
     }
 }
 
@@ -223,16 +223,16 @@ fn narrowed<'r>(
     dotted: &'r DottedRules<'_>,
     packed: &'r [u64],
     begun: &'r [u32],
-    place: u32,
+    earleme: u32,
     span: Span,
 ) -> Row<'r>
-    requires row { IsRowOfParts dotted.now.rules place packed.now begun.now }
+    requires row { IsRowOfParts dotted.now.rules earleme packed.now begun.now }
     requires order { span.start ≤ span.end }
-    ensures { (own others : List ℕ) × AreWithin packed.now begun.now span own others × (result ≡ row_items dotted.now.rules place own others) }
+    ensures { (own others : List ℕ) × AreWithin packed.now begun.now span own others × (result ≡ row_items dotted.now.rules earleme own others) }
 {
     let own = within_span(packed, span);
     let others = dotted_within(begun, span);
-    row_of(dotted.rules(), own, others, place)
+    row_of(dotted.rules(), own, others, earleme)
 }
 
 /// The items of a row that wait for a symbol.
@@ -240,14 +240,14 @@ pub fn waiting<'r>(
     dotted: &'r DottedRules<'_>,
     packed: &'r [u64],
     begun: &'r [u32],
-    place: u32,
+    earleme: u32,
     symbol: u32,
 ) -> Row<'r>
-    requires { IsRowOfParts dotted.now.rules place packed.now begun.now }
-    ensures { IsListOf (λ item. Contains (row_items dotted.now.rules place packed.now begun.now) item × (after dotted.now.flat item ≡ Some symbol)) result }
+    requires { IsRowOfParts dotted.now.rules earleme packed.now begun.now }
+    ensures { IsListOf (λ item. Contains (row_items dotted.now.rules earleme packed.now begun.now) item × (after dotted.now.flat item ≡ Some symbol)) result }
 {
     dotted.known();
-    narrowed(dotted, packed, begun, place, dotted.span(symbol))
+    narrowed(dotted, packed, begun, earleme, dotted.span(symbol))
 }
 
 /// The items of a row with the dot at the end.
@@ -255,13 +255,13 @@ pub fn whole<'r>(
     dotted: &'r DottedRules<'_>,
     packed: &'r [u64],
     begun: &'r [u32],
-    place: u32,
+    earleme: u32,
 ) -> Row<'r>
-    requires { IsRowOfParts dotted.now.rules place packed.now begun.now }
-    ensures { IsListOf (λ item. Contains (row_items dotted.now.rules place packed.now begun.now) item × IsWhole dotted.now.flat item) result }
+    requires { IsRowOfParts dotted.now.rules earleme packed.now begun.now }
+    ensures { IsListOf (λ item. Contains (row_items dotted.now.rules earleme packed.now begun.now) item × IsWhole dotted.now.flat item) result }
 {
     dotted.known();
-    narrowed(dotted, packed, begun, place, dotted.whole())
+    narrowed(dotted, packed, begun, earleme, dotted.whole())
 }
 
 /// The items of a row that wait for terminals.
@@ -269,13 +269,13 @@ pub fn scanned<'r>(
     dotted: &'r DottedRules<'_>,
     packed: &'r [u64],
     begun: &'r [u32],
-    place: u32,
+    earleme: u32,
 ) -> Row<'r>
-    requires { IsRowOfParts dotted.now.rules place packed.now begun.now }
-    ensures { IsListOf (λ item. Contains (row_items dotted.now.rules place packed.now begun.now) item × WaitsForTerminal dotted.now.flat item) result }
+    requires { IsRowOfParts dotted.now.rules earleme packed.now begun.now }
+    ensures { IsListOf (λ item. Contains (row_items dotted.now.rules earleme packed.now begun.now) item × WaitsForTerminal dotted.now.flat item) result }
 {
     dotted.known();
-    narrowed(dotted, packed, begun, place, dotted.scanned())
+    narrowed(dotted, packed, begun, earleme, dotted.scanned())
 }
 
 fn has_packed(packed: &[u64], number: u64) -> bool
@@ -297,17 +297,17 @@ pub fn contains(
     dotted: &DottedRules<'_>,
     packed: &[u64],
     begun: &[u32],
-    place: u32,
+    earleme: u32,
     item: Item,
 ) -> bool
-    requires { IsRowOfParts dotted.now.rules place packed.now begun.now }
-    ensures { IsTrue result ↔ Contains (row_items dotted.now.rules place packed.now begun.now) item }
+    requires { IsRowOfParts dotted.now.rules earleme packed.now begun.now }
+    ensures { IsTrue result ↔ Contains (row_items dotted.now.rules earleme packed.now begun.now) item }
 {
     dotted.known();
     match dotted.pack(item) {
         Some(number) => {
             has_packed(packed, number)
-                || item.origin == place && has_dotted(begun, (number / 4_294_967_296) as u32)
+                || item.origin == earleme && has_dotted(begun, (number / 4_294_967_296) as u32)
         }
         None => false,
     }

@@ -169,14 +169,14 @@ impl<'g> Rows<'g> {
         ensures err { OnErr result (self.new ≡ self.old) }
     {
         self.dotted.known();
-        let place = self.kernels.len();
-        if place >= 4_294_967_296 {
+        let earleme = self.kernels.len();
+        if earleme >= 4_294_967_296 {
             return Err(AllocError);
         }
         pack_row(&self.dotted, items, &mut self.next)?;
         let size = self.next.len() + self.lists.row(begun as usize).len();
         let count = add(self.count, size)?;
-        put_number(&mut self.begun, place, begun)?;
+        put_number(&mut self.begun, earleme, begun)?;
         self.kernels.push(&self.next)?;
         self.count = count;
         Ok(())

@@ -38,7 +38,7 @@ module _ (g : FlatGrammar) (flat : IsFlat g) where
       (values (λ k. k) (length g.symbols)) y (among_values (λ k. k) (length g.symbols) y lt) (λ h. omega (arith, h)) rises
 
   -- how far a pair is from the end of its chain, at most
-  pub far : (place symbol : ℕ) → ℕ
+  pub far : (earleme symbol : ℕ) → ℕ
   far i x = i * 4294967295 + above x
 
   pub far_bound : (i x : ℕ) → i < 4294967296 → x < length g.symbols → far i x ≤ 18446744069414584319

@@ -16,11 +16,11 @@ IsStep g waiting (Some step) = (item : Item) × (waiting ≡ item ∷ []) × IsW
 IsStep g waiting None = (item : Item) → waiting ≡ item ∷ [] → ¬ IsWhole g (advanced item)
 
 -- the step is the Leo item of the set and the symbol with its dot advanced; where there is none, neither is a Leo item
-abbrev pub IsLeoStep : FlatGrammar → List Edge → (top place symbol : ℕ) → Option Item → Type 0
-IsLeoStep g edges top place symbol (Some step) = (item : Item) × IsLeo g (FlatEdges g (Held edges)) top place symbol item × (step ≡ advanced item)
-IsLeoStep g edges top place symbol None = IsNotLeo g (FlatEdges g (Held edges)) top place symbol
+abbrev pub IsLeoStep : FlatGrammar → List Edge → (top earleme symbol : ℕ) → Option Item → Type 0
+IsLeoStep g edges top earleme symbol (Some step) = (item : Item) × IsLeo g (FlatEdges g (Held edges)) top earleme symbol item × (step ≡ advanced item)
+IsLeoStep g edges top earleme symbol None = IsNotLeo g (FlatEdges g (Held edges)) top earleme symbol
 
 abbrev pub StepsAreLeo : Type 0
-StepsAreLeo = (g : FlatGrammar) (edges : List Edge) (top place symbol : ℕ) (waiting : List Item) (step : Option Item) →
-    IsListOf (λ item. InSet g (FlatEdges g (Held edges)) top place item × (after g item ≡ Some symbol)) waiting →
-    IsStep g waiting step → IsLeoStep g edges top place symbol step
+StepsAreLeo = (g : FlatGrammar) (edges : List Edge) (top earleme symbol : ℕ) (waiting : List Item) (step : Option Item) →
+    IsListOf (λ item. InSet g (FlatEdges g (Held edges)) top earleme item × (after g item ≡ Some symbol)) waiting →
+    IsStep g waiting step → IsLeoStep g edges top earleme symbol step

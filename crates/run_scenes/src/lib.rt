@@ -1,9 +1,11 @@
 //! Whole runs over forms in memory, for tests: what they are given, and how they end.
 #![tactic(auto)]
 
-ghost use Rattle.std.specs.Prelude.{◌≡◌, ◌<◌};
+ghost use Rattle.std.specs.Prelude.{◌≡◌, ◌<◌, ◌↔◌, length, map, string_bytes, IfOk, IsTrue};
 ghost use Rattle.valuator.specs.Told.{states};
 ghost use Rattle.value_lines.specs.Writing.{AreBothTellers};
+ghost use Rattle.run_model.specs.Runs.{Runs};
+ghost use Rattle.run_scenes.specs.Scenes.{texts_of, failing_of, files_given, input_given, sink_given, IsSceneOf, outside_of, before_of, after_of, out_of, err_of, asked_of};
 
 use slif_base::{MemFiles, MemSink, MemSource, Steps};
 use slif_cli::run;
@@ -38,15 +40,27 @@ pub enum Device {
 
 impl<'a> Given<'a> {
     /// The same, where these calls of a device fail and no other of its calls does.
-    pub fn failing(self, device: Device, calls: &'a [u64]) -> Given<'a> {
-        let mut given = self;
+    pub fn failing(self, device: Device, calls: &'a [u64]) -> Given<'a>
+        ensures { result ≡ failing_of self.entry device calls.entry }
+    {
         match device {
-            Device::Files => given.files_fail = calls,
-            Device::Input => given.input_fails = calls,
-            Device::Out => given.out_fails = calls,
-            Device::Err => given.err_fails = calls,
+            Device::Files => Given {
+                files_fail: calls,
+                ..self
+            },
+            Device::Input => Given {
+                input_fails: calls,
+                ..self
+            },
+            Device::Out => Given {
+                out_fails: calls,
+                ..self
+            },
+            Device::Err => Given {
+                err_fails: calls,
+                ..self
+            },
         }
-        given
     }
 }
 
@@ -61,30 +75,47 @@ struct Scene {
 }
 
 /// What a run does.
-#[derive(Drop)]
 pub struct Ended {
     pub status: u8,
     scene: Scene,
 }
 
+// Written out, so that whoever lets it go does so by one call.
+impl Drop for Ended {
+    fn drop(self) {
+        let Ended {
+            status: _,
+            scene: _,
+        } = self;
+    }
+}
+
 impl Ended {
     /// What stands on the standard output.
-    pub fn out(&self) -> &[u8] {
+    pub fn out(&self) -> &[u8]
+        ensures { result.now ≡ out_of self.now }
+    {
         self.scene.out.written()
     }
 
     /// What stands on the standard error.
-    pub fn err(&self) -> &[u8] {
+    pub fn err(&self) -> &[u8]
+        ensures { result.now ≡ err_of self.now }
+    {
         self.scene.err.written()
     }
 
     /// Whether it ended so.
-    pub fn is(&self, status: u8, out: &[u8], err: &[u8]) -> bool {
+    pub fn is(&self, status: u8, out: &[u8], err: &[u8]) -> bool
+        ensures { IsTrue result ↔ ((self.now.status ≡ status) × (out_of self.now ≡ out.now) × (err_of self.now ≡ err.now)) }
+    {
         self.status == status && self.out() == out && self.err() == err
     }
 
     /// How many names of files it asked for.
-    pub fn asked(&self) -> usize {
+    pub fn asked(&self) -> usize
+        ensures { result ≡ length (asked_of self.now) }
+    {
         self.scene.files.asked().len()
     }
 }
@@ -165,7 +196,9 @@ pub const WORKED: Given<'static> = Given {
 pub const WORKED_LINES: &[u8] = b"work 2: tokens 7 kept 55 nodes 17 expanded 2 values 1\n";
 
 /// The words of a command line.
-pub fn words_of(alloc: Global, texts: &[&str]) -> Result<Vec<String>, AllocError> {
+pub fn words_of(alloc: Global, texts: &[&str]) -> Result<Vec<String>, AllocError>
+    ensures { IfOk result (λ words. map string_bytes words.items ≡ texts_of texts.now) }
+{
     let mut words = Vec::new(alloc);
     for text in texts {
         words.push(String::from_str(alloc, text)?)?;
@@ -174,29 +207,39 @@ pub fn words_of(alloc: Global, texts: &[&str]) -> Result<Vec<String>, AllocError
 }
 
 // A file with its name.
-fn file_of(alloc: Global, name: &str, text: &[u8]) -> Result<(String, Vec<u8>), AllocError> {
+fn file_of(alloc: Global, name: &str, text: &[u8]) -> Result<(String, Vec<u8>), AllocError>
+    ensures { IfOk result (λ file. (string_bytes file.0 ≡ name.now) × (file.1.items ≡ text.now)) }
+{
     Ok((String::from_str(alloc, name)?, text.to_vec(alloc)?))
 }
 
 // The files, which fail as it is given.
-fn files_of(alloc: Global, given: &Given<'_>) -> Result<MemFiles, AllocError> {
+fn files_of(alloc: Global, given: &Given<'_>) -> Result<MemFiles, AllocError>
+    ensures { IfOk result (λ files. files ≡ files_given given.now) }
+{
     let mut held = Vec::new(alloc);
     held.push(file_of(alloc, "g.slif", given.grammar)?)?;
     held.push(file_of(alloc, "i.txt", given.file)?)?;
     Ok(MemFiles::new(alloc, held, given.files_fail.to_vec(alloc)?))
 }
 
-fn input_of(alloc: Global, given: &Given<'_>) -> Result<MemSource, AllocError> {
+fn input_of(alloc: Global, given: &Given<'_>) -> Result<MemSource, AllocError>
+    ensures { IfOk result (λ input. input ≡ input_given given.now) }
+{
     let fails = given.input_fails.to_vec(alloc)?;
     Ok(MemSource::new(given.input.to_vec(alloc)?, given.gives.max(1), fails))
 }
 
 // A stream that takes ten bytes at once.
-fn sink_of(alloc: Global, fails: &[u64]) -> Result<MemSink, AllocError> {
+fn sink_of(alloc: Global, fails: &[u64]) -> Result<MemSink, AllocError>
+    ensures { IfOk result (λ sink. sink ≡ sink_given fails.now) }
+{
     Ok(MemSink::new(alloc, 10, fails.to_vec(alloc)?))
 }
 
-fn scene_of(alloc: Global, given: &Given<'_>) -> Result<Scene, AllocError> {
+fn scene_of(alloc: Global, given: &Given<'_>) -> Result<Scene, AllocError>
+    ensures { IfOk result (IsSceneOf given.now) }
+{
     Ok(Scene {
         words: words_of(alloc, given.words)?,
         files: files_of(alloc, given)?,
@@ -221,18 +264,20 @@ fn status_of<L: Ledger>(
     requires parts { blank.parts ≡ L.parts }
     requires some { 0 < blank.parts }
     requires tellers { AreBothTellers (states tellers.items shows held) }
+    ensures { Runs (map string_bytes words.now) (outside_of files.old input.old out.old err.old) (outside_of files.new input.new out.new err.new) result }
 {
     let mut steps = Steps::<L>::of_blank(blank);
     run(alloc, words, files, input, out, err, tellers, &mut steps)
 }
 
-/// Runs with these tellers.
+/// Runs with these tellers. What the run does is what `slif_cli` promises.
 pub fn run_with(
     alloc: Global,
     given: &Given<'_>,
     tellers: Vec<Box<dyn Teller>>,
 ) -> Result<Ended, AllocError>
     requires { AreBothTellers (states tellers.items shows held) }
+    ensures { IfOk result (λ end. Runs (texts_of given.now.words.now) (before_of given.now) (after_of end) end.status) }
 {
     let mut scene = scene_of(alloc, given)?;
     let status = status_of::<Brand>(

@@ -81,8 +81,14 @@ fn refusal_of(built: Built, fault: Fault) -> PrepareRefusal
             w: lexical_grammar(built),
             refusal,
         },
-        Fault::TooManyRules { lexical } => PrepareRefusal::TooManyRules { lexical },
-        Fault::NoMemory => PrepareRefusal::NoMemory,
+        Fault::TooManyRules { lexical } => {
+            drop(built);
+            PrepareRefusal::TooManyRules { lexical }
+        }
+        Fault::NoMemory => {
+            drop(built);
+            PrepareRefusal::NoMemory
+        }
     }
 }
 

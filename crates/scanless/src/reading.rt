@@ -62,12 +62,18 @@ impl<'p> Reader<'p> {
     {
         p.known();
         let recce = Recce::new(alloc, p.flat(), 0)?;
-        Ok(Reader {
-            recce,
-            spans: Vec::new(alloc),
-            at: 0,
-            work: Work::new(alloc, p)?,
-        })
+        match Work::new(alloc, p) {
+            Ok(work) => Ok(Reader {
+                recce,
+                spans: Vec::new(alloc),
+                at: 0,
+                work,
+            }),
+            Err(error) => {
+                drop(recce);
+                Err(error)
+            }
+        }
     }
 
     // Takes a token of so many characters, as each of the lexemes that are kept.
@@ -168,6 +174,7 @@ impl<'p> Reader<'p> {
         ensures counted { (before after : ℕ) → CountsFrom self.entry.recce before after → TakesAtMost result.recce before after }
     {
         let _place = self.recce.place();
+        drop(self.work);
         Reading {
             recce: self.recce,
             spans: self.spans,
@@ -188,6 +195,11 @@ pub fn read_input<'p, L: Ledger>(
     ensures counted { IfOk result (λ r. TakesAtMost r.recce steps.old steps.new) }
 {
     let mut reader = Reader::new(alloc, p)?;
-    let ending = reader.read(alloc, p, chars, steps)?;
-    Ok(reader.ended(ending))
+    match reader.read(alloc, p, chars, steps) {
+        Ok(ending) => Ok(reader.ended(ending)),
+        Err(error) => {
+            drop(reader);
+            Err(error)
+        }
+    }
 }

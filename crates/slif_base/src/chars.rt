@@ -1,6 +1,6 @@
 // The characters of a text.
-ghost use Rattle.std.specs.Prelude.{◌≡◌, ◌^◌, ◌<◌, ◌≤◌, length, take, slice_range, slice_index, encode_utf8_all, string_bytes, IsUtf8, IfOk, IfErr, OnOk};
-ghost use Rattle.std.specs.Str.{IsCharBoundary, chars};
+ghost use Rattle.std.specs.Prelude.{◌≡◌, ◌^◌, ◌<◌, ◌≤◌, length, take, slice_range, slice_index, encode_utf8_all, string_bytes, IsUtf8, MatchOption, IfOk, IfErr, OnOk};
+ghost use Rattle.std.specs.Str.{IsAscii, IsCharBoundary, chars};
 ghost use Rattle.slif_base.specs.Characters.{starts_from, RefusesText};
 ghost use Rattle.outside_model.specs.Places.{line_after, column_after};
 
@@ -65,21 +65,26 @@ fn starts_of(alloc: Global, text: &str) -> Result<Vec<u32>, AllocError>
     Ok(starts)
 }
 
-/// The characters of a text.
-fn characters(alloc: Global, text: String) -> Result<Chars, AllocError>
-    ensures { IfOk result (λ all. all ≡ chars (string_bytes text)) }
+/// Where each character begins, and where the text ends; none where each character is one byte.
+fn known_starts(alloc: Global, text: &str) -> Result<Option<Vec<u32>>, AllocError>
+    ensures { IfOk result (λ known. MatchOption known (IsAscii text.now) (λ starts. starts.items ≡ starts_from 0 (chars text.now))) }
 {
     if text.is_ascii() {
-        return Ok(Chars { text, starts: None });
+        return Ok(None);
     }
     if text.len() > u32::MAX as usize {
         return Err(AllocError);
     }
-    let starts = starts_of(alloc, text.as_str())?;
-    Ok(Chars {
-        text,
-        starts: Some(starts),
-    })
+    let starts = starts_of(alloc, text)?;
+    Ok(Some(starts))
+}
+
+/// The characters of a text.
+fn characters(alloc: Global, text: String) -> Result<Chars, AllocError>
+    ensures { IfOk result (λ all. all ≡ chars (string_bytes text)) }
+{
+    let starts = known_starts(alloc, text.as_str())?;
+    Ok(Chars { text, starts })
 }
 
 /// The characters of these bytes.

@@ -162,7 +162,12 @@ fn show_difference<K: Sink>(
 }
 
 /// Writes the lines of the input in this form.
-pub fn show<K: Sink>(alloc: Global, form: Form, input: &[u8], sink: &mut K) -> Result<(), Stop> {
+pub(crate) fn show<K: Sink>(
+    alloc: Global,
+    form: Form,
+    input: &[u8],
+    sink: &mut K,
+) -> Result<(), Stop> {
     let mut lines = Lines {
         rest: input,
         taken: 0,

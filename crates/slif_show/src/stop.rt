@@ -4,7 +4,7 @@ use std::alloc::{AllocError, AllocFailed};
 use thiserror::Error;
 
 #[derive(Clone, Copy, Debug, PartialEq, Eq, Error)]
-pub enum Stop {
+pub(crate) enum Stop {
     #[error("usage: slif_show [--json | --dot | --svg | --diff]")]
     Usage,
     #[error("line {line} column {column}: not a value")]
@@ -21,7 +21,7 @@ pub enum Stop {
 
 impl Stop {
     /// The status that the program ends with.
-    pub fn status(self) -> u8 {
+    pub(crate) fn status(self) -> u8 {
         match self {
             Stop::NotValue { .. } | Stop::NoTwoTrees => 1,
             Stop::Usage => 2,

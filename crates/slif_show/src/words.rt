@@ -4,7 +4,7 @@ use std::{env, io};
 
 /// How trees are shown.
 #[derive(Clone, Copy, Debug, PartialEq, Eq)]
-pub enum Form {
+pub(crate) enum Form {
     Indent,
     Json,
     Dot,
@@ -41,7 +41,7 @@ fn words_of(rt: &HostRuntime) -> io::Result<Vec<String>> {
 }
 
 /// The form that the words of the command line ask for.
-pub fn form_of(rt: &HostRuntime) -> Result<Form, Stop> {
+pub(crate) fn form_of(rt: &HostRuntime) -> Result<Form, Stop> {
     match words_of(rt) {
         Ok(words) => form_of_words(&words).ok_or(Stop::Usage),
         Err(error) if error.kind() == io::ErrorKind::OutOfMemory => Err(Stop::NoMemory),

@@ -1,22 +1,26 @@
 // The grammars of a text.
-ghost use Rattle.std.specs.Prelude.{◌≡◌, ◌≤◌, ◌<◌, IfOk, IfErr, OnOk, None, IsUtf8, chars as chars_in, length};
+ghost use Rattle.std.specs.Prelude.{◌≡◌, ◌≤◌, ◌<◌, IfOk, IfErr, OnOk, None, IsUtf8, chars as chars_in, length, option_map};
+ghost use Rattle.dsl_faults.specs.Found.{refused_fault};
+ghost use Rattle.language_model.specs.Building.{Built};
 ghost use Rattle.language_model.specs.Texts.{IsDescription, IsBuilt, IsBuiltOf};
 ghost use Rattle.reading_model.specs.Accepted.{IsAccepted};
 ghost use Rattle.run_model.specs.Refused.{Accepted};
-ghost use Rattle.text_reading.specs.Refusals.{TellsGrammar, IsRefusedAt};
-ghost use Rattle.text_reading.specs.Parts.{IsDescriptionOf, IsBadText, IsBadDescription, IsGrammarText};
+ghost use Rattle.scanless.specs.Faults.{IsRefusal};
+ghost use Rattle.text_reading.specs.Refusals.{TellsGrammar, IsRefusedAt, place_in, fault_at};
+ghost use Rattle.text_reading.specs.Parts.{IsDescriptionOf, IsBadText, IsBadDescription, IsFaultText, IsGrammarText};
 
 use crate::Refusal;
 use crate::phrases::{
     description_place, description_text, grammars_text, not_utf8_text, phrase, place_in,
 };
-use dsl_build::{Built, build};
+use dsl_build::{BuildRefusal, Built, build};
 use dsl_reader::{StatementRefusal, parse};
 use dsl_statement::Description;
 use dsl_tokens::{TokenRefusal, tokens};
-use scanless::{Prepared, prepare};
+use scanless::{PrepareRefusal, Prepared, prepare};
 use slif_base::{Chars, TextRefusal, chars_of};
 use std::alloc::Global;
+use value_text::NoMemory;
 
 /// The greatest length of a grammar, in bytes.
 pub const GRAMMAR_LIMIT: usize = 1_048_576;
@@ -107,32 +111,27 @@ fn accept(alloc: Global, chars: &Chars, description: &Description) -> Result<Pre
     ensures accepted { IfOk result IsAccepted }
     ensures refused { IfErr result (TellsGrammar (IsBadDescription chars.now description.now)) }
 {
-    match build_description(alloc, chars, description) {
+    match build(alloc, description) {
         Ok(built) => prepare_built(alloc, built),
-        Err(refusal) => Err(refusal),
+        Err(refusal) => {
+            let told = tell_description(alloc, chars, &refusal);
+            drop(refusal);
+            Err(told)
+        }
     }
 }
 
-// What a description is built to.
-fn build_description(
-    alloc: Global,
-    chars: &Chars,
-    description: &Description,
-) -> Result<Built, Refusal>
-    requires small { length chars.now < 4294967295 }
-    requires read { IsDescription description.now }
-    ensures built { IfOk result (λ b. IsBuiltOf description.now b) }
-    ensures refused { IfErr result (TellsGrammar (IsBadDescription chars.now description.now)) }
+// The refusal of a description that has a fault.
+fn tell_description(alloc: Global, chars: &Chars, refusal: &BuildRefusal) -> Refusal
+    requires { length chars.now < 4294967295 }
+    ensures { TellsGrammar (λ text place. IsFaultText chars.now (refused_fault refusal.now) text × (place ≡ option_map (λ fault. place_in chars.now (fault_at fault)) (refused_fault refusal.now))) result }
 {
-    match build(alloc, description) {
-        Ok(built) => Ok(built),
-        Err(refusal) => {
-            let text = description_text(alloc, chars, &refusal)?;
-            Err(Refusal::Grammar {
-                text,
-                place: description_place(chars, &refusal),
-            })
-        }
+    match description_text(alloc, chars, refusal) {
+        Ok(text) => Refusal::Grammar {
+            text,
+            place: description_place(chars, refusal),
+        },
+        Err(NoMemory) => Refusal::NoMemory,
     }
 }
 
@@ -146,8 +145,20 @@ fn prepare_built(alloc: Global, built: Built) -> Result<Prepared, Refusal>
     match prepare(alloc, built) {
         Ok(prepared) => Ok(prepared),
         Err(refusal) => {
-            let text = grammars_text(alloc, &refusal)?;
-            Err(Refusal::Grammar { text, place: None })
+            let told = tell_grammars(alloc, &refusal);
+            drop(refusal);
+            Err(told)
         }
+    }
+}
+
+// The refusal of grammars that are not accepted.
+fn tell_grammars(alloc: Global, refusal: &PrepareRefusal) -> Refusal
+    requires { (b : Built) × IsRefusal b refusal.now }
+    ensures { (b : Built) → IsRefusal b refusal.now → TellsGrammar (λ text place. IsGrammarText b text × (place ≡ None)) result }
+{
+    match grammars_text(alloc, refusal) {
+        Ok(text) => Refusal::Grammar { text, place: None },
+        Err(NoMemory) => Refusal::NoMemory,
     }
 }

@@ -1,5 +1,5 @@
 //! The rows of a text, one after another.
-ghost use Rattle.std.specs.Prelude.{◌≡◌, ℕ, ◌<◌, ◌↔◌, ◌⊎◌, List, length, IsTrue, OnOk, Contains, Some};
+ghost use Rattle.std.specs.Prelude.{◌≡◌, ℕ, ◌<◌, ◌↔◌, ◌⊎◌, [], List, length, IsTrue, OnOk, Contains, Some};
 ghost use Rattle.recognizer_model.specs.Flat.{IsRule};
 ghost use Rattle.recognizer_model.specs.declared.thread.Thread.{Thread as AThread};
 ghost use Rattle.recognizer_model.specs.Threads.{next, begun, IsChosen, IsTopRule};
@@ -43,6 +43,26 @@ fn sort(row: &mut Vec<Thread>) -> Result<(), AllocError>
     row.sort()
 }
 
+// Closes a set with these threads, and lists those that a row keeps, in order. The set is empty before.
+fn list_closed(
+    flat: &Flat,
+    parts: &Lists,
+    seeds: &[Thread],
+    set: &mut IndexSet<Thread>,
+    row: &mut Vec<Thread>,
+) -> Result<(), AllocError>
+    requires parts { AreParts flat.now parts.now }
+    requires seeds { AreThreads flat.now (length parts.now) seeds.now }
+    requires empty { set.old.keys ≡ [] }
+    ensures threads { OnOk result (AreThreads flat.now (length parts.now) row.new.items) }
+    ensures closed { OnOk result ((set : List AThread) × IsClosedIn flat.now parts.now seeds.now set × ((th : AThread) → Contains seeds.now th → Contains set th) × Keeps flat.now set row.new.items) }
+{
+    add_threads(set, seeds)?;
+    close(flat, parts, set, row)?;
+    list_kept(flat, set.as_slice(), row)?;
+    sort(row)
+}
+
 // Closes a set that begins with these threads, and lists those that a row keeps, in order.
 fn row_of(
     alloc: Global,
@@ -57,10 +77,9 @@ fn row_of(
     ensures closed { OnOk result ((set : List AThread) × IsClosedIn flat.now parts.now seeds.now set × ((th : AThread) → Contains seeds.now th → Contains set th) × Keeps flat.now set row.new.items) }
 {
     let mut set = IndexSet::new(alloc);
-    add_threads(&mut set, seeds)?;
-    close(flat, parts, &mut set, row)?;
-    list_kept(flat, set.as_slice(), row)?;
-    sort(row)
+    let listed = list_closed(flat, parts, seeds, &mut set, row);
+    drop(set);
+    listed
 }
 
 // Lists the rules of starts, at their begin.

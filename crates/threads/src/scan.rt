@@ -107,6 +107,34 @@ fn list_ordered_for(
     Ok(ordered)
 }
 
+// Lists what the threads of a row lead to, with the row in order for those that begin in it.
+fn list_seeds(
+    alloc: Global,
+    flat: &Flat,
+    parts: &mut Lists,
+    row: &[Thread],
+    ordered: &[Thread],
+    terminals: &[SymbolId],
+    seeds: &mut Vec<Thread>,
+) -> Result<(), AllocError>
+    requires parts { AreParts flat.now parts.old }
+    requires row { AreThreads flat.now (length parts.old) row.now }
+    requires order { (th : AThread) (x : ℕ) → Contains row.now th → th.label ≡ None → next flat.now th ≡ Some x → IsReadBy flat.now terminals.now x → IsOrderOf flat.now row.now ordered.now }
+    ensures grown { IsGrown parts.old parts.new }
+    ensures parts { AreParts flat.now parts.new }
+    ensures threads { OnOk result (AreThreads flat.now (length parts.new) seeds.new.items) }
+    ensures seeds { OnOk result ((later : List (List AThread)) → IsGrown parts.new later → AreSeeds flat.now later (IsReadBy flat.now terminals.now) row.now row.now seeds.new.items) }
+{
+    seeds.clear();
+    for thread in row {
+        if is_read(flat, *thread, terminals) {
+            let label = label_behind(alloc, flat, parts, row, ordered, *thread)?;
+            seeds.push(advanced(*thread, Some(label)))?;
+        }
+    }
+    Ok(())
+}
+
 /// Lists what a row leads to by terminals.
 pub fn scan(
     alloc: Global,
@@ -124,12 +152,7 @@ pub fn scan(
     ensures seeds { OnOk result ((later : List (List AThread)) → IsGrown parts.new later → AreSeeds flat.now later (IsReadBy flat.now terminals.now) row.now row.now seeds.new.items) }
 {
     let ordered = list_ordered_for(alloc, flat, row, terminals)?;
-    seeds.clear();
-    for thread in row {
-        if is_read(flat, *thread, terminals) {
-            let label = label_behind(alloc, flat, parts, row, &ordered, *thread)?;
-            seeds.push(advanced(*thread, Some(label)))?;
-        }
-    }
-    Ok(())
+    let listed = list_seeds(alloc, flat, parts, row, &ordered, terminals, seeds);
+    drop(ordered);
+    listed
 }

@@ -5,3 +5,5 @@ pub mod Quoted
 pub mod Reading
 pub mod Words
 pub mod Differences
+pub mod Texts
+pub mod Nested

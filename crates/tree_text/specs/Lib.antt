@@ -3,3 +3,5 @@ pub mod Prefixes
 pub mod Reading
 pub mod Looks
 pub mod Differences
+pub mod Texts
+pub mod Nested

@@ -1,4 +1,8 @@
 // The nodes of a value that is shown as a tree.
+ghost use Rattle.std.specs.Prelude.{◌≡◌, map, IfOk, OnOk};
+ghost use Rattle.std.specs.Option.{option_map};
+ghost use Rattle.tree_text.specs.Nested.{level_of, node_of, last_of, IsGrowing, AreNested};
+
 use crate::Part;
 use std::alloc::{AllocError, Global};
 
@@ -77,6 +81,38 @@ fn label_at(parts: &[Part]) -> (Label<'_>, &[Part]) {
     }
 }
 
+/// Tells a node, if there is one, that another one comes behind it.
+fn follow(nodes: &mut Vec<Node<'_>>, earlier: Option<usize>)
+    ensures { map level_of nodes.new.items ≡ map level_of nodes.old.items }
+{
+    let Some(earlier) = earlier else {
+        return;
+    };
+    if let Some(node) = nodes.get_mut(earlier) {
+        node.last = false;
+    }
+}
+
+/// Tells a node how many tokens are in it, where so many were counted up to its end.
+fn count_tokens(nodes: &mut Vec<Node<'_>>, place: usize, counted: usize)
+    ensures { map level_of nodes.new.items ≡ map level_of nodes.old.items }
+{
+    if let Some(node) = nodes.get_mut(place) {
+        node.tokens = counted.saturating_sub(node.before);
+    }
+}
+
+/// Puts a node below the one that was opened last, if there is one, and gives that one as it was.
+fn put_below(opened: &mut Vec<Open>, node: usize) -> Option<Open>
+    ensures nodes { map node_of opened.new.items ≡ map node_of opened.old.items }
+    ensures was { option_map node_of result ≡ last_of (map node_of opened.old.items) }
+{
+    let last = opened.last_mut()?;
+    let was = *last;
+    last.below = Some(node);
+    Some(was)
+}
+
 /// The nodes so far.
 #[derive(Drop)]
 struct Growing<'p> {
@@ -87,7 +123,10 @@ struct Growing<'p> {
 
 impl<'p> Growing<'p> {
     /// Appends a node of this label under the one that is open.
-    fn add(&mut self, label: Label<'p>) -> Result<(), AllocError> {
+    fn add(&mut self, label: Label<'p>) -> Result<(), AllocError>
+        requires { IsGrowing self.old }
+        ensures { OnOk result (IsGrowing self.new) }
+    {
         let node = self.nodes.len();
         let above = self.under_open(node);
         let tokens = match label {
@@ -103,58 +142,69 @@ impl<'p> Growing<'p> {
             tokens,
         })?;
         self.tokens = self.tokens.saturating_add(tokens);
-        if let Label::Rule { .. } | Label::List = label {
-            self.open.push(Open { node, below: None })?;
+        match label {
+            Label::Rule { .. } | Label::List => {
+                self.open.push(Open { node, below: None })?;
+                Ok(())
+            }
+            _ => Ok(()),
         }
-        Ok(())
     }
 
     /// The node that a new one stands under. The one that came last there is no longer the last.
-    fn under_open(&mut self, node: usize) -> Option<usize> {
-        let open = self.open.last_mut()?;
-        let above = open.node;
-        let earlier = open.below;
-        open.below = Some(node);
-        if let Some(earlier) = earlier {
-            if let Some(earlier) = self.nodes.get_mut(earlier) {
-                earlier.last = false;
-            }
-        }
-        Some(above)
+    fn under_open(&mut self, node: usize) -> Option<usize>
+        ensures nodes { map level_of self.new.nodes.items ≡ map level_of self.old.nodes.items }
+        ensures opened { map node_of self.new.open.items ≡ map node_of self.old.open.items }
+        ensures above { result ≡ last_of (map node_of self.old.open.items) }
+    {
+        let open = put_below(&mut self.open, node)?;
+        follow(&mut self.nodes, open.below);
+        Some(open.node)
     }
 
-    fn close(&mut self) {
-        let tokens = self.tokens;
-        if let Some(open) = self.open.pop() {
-            if let Some(node) = self.nodes.get_mut(open.node) {
-                node.tokens = tokens.saturating_sub(node.before);
+    fn close(&mut self)
+        requires { IsGrowing self.old }
+        ensures { IsGrowing self.new }
+    {
+        let Some(open) = self.open.pop() else {
+            return;
+        };
+        count_tokens(&mut self.nodes, open.node, self.tokens);
+    }
+
+    /// Reads the node, or the end of a list, at the front of some parts, and gives what is behind it.
+    fn read(&mut self, parts: &'p [Part]) -> Result<&'p [Part], AllocError>
+        requires { IsGrowing self.old }
+        ensures { OnOk result (IsGrowing self.new) }
+    {
+        match parts.split_first() {
+            Some((Part::Close, behind)) => {
+                self.close();
+                Ok(behind)
             }
+            Some(_) => {
+                let (label, behind) = label_at(parts);
+                self.add(label)?;
+                Ok(behind)
+            }
+            None => Ok(parts),
         }
     }
 }
 
 /// The nodes of the values of these parts, one after another. A list of a name, a number and more is a rule's node, one of a name and a text is a token's, and
 /// one of a name alone is a nulled symbol's; any other value is shown as it is.
-pub fn nodes_of(alloc: Global, parts: &[Part]) -> Result<Vec<Node<'_>>, AllocError> {
+pub fn nodes_of(alloc: Global, parts: &[Part]) -> Result<Vec<Node<'_>>, AllocError>
+    ensures { IfOk result (λ nodes. AreNested nodes.items) }
+{
     let mut growing = Growing {
         nodes: Vec::new(alloc),
         open: Vec::new(alloc),
         tokens: 0,
     };
     let mut rest = parts;
-    for _ in 0..parts.len() {
-        match rest.split_first() {
-            Some((Part::Close, behind)) => {
-                growing.close();
-                rest = behind;
-            }
-            Some(_) => {
-                let (label, behind) = label_at(rest);
-                growing.add(label)?;
-                rest = behind;
-            }
-            None => break,
-        }
+    for _k in 0..parts.len() {
+        rest = growing.read(rest)?;
     }
     Ok(growing.nodes)
 }

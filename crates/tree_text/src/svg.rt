@@ -1,4 +1,7 @@
 // A tree as a picture.
+ghost use Rattle.std.specs.Prelude.{OnOk, string_bytes};
+ghost use Rattle.tree_text.specs.Texts.{Extends};
+
 use crate::{Node, push_label};
 use std::alloc::{AllocError, Global};
 use std::fmt::Write;
@@ -113,14 +116,23 @@ fn place(nodes: &[Node<'_>], spots: &mut [Spot]) -> usize {
     end
 }
 
-fn push_escaped(text: &str, out: &mut String) -> Result<(), AllocError> {
+/// Appends a character of a text.
+fn push_character(c: char, out: &mut String) -> Result<(), AllocError>
+    ensures { OnOk result (Extends (string_bytes out.old) (string_bytes out.new)) }
+{
+    match c {
+        '&' => out.push_str("&amp;"),
+        '<' => out.push_str("&lt;"),
+        '>' => out.push_str("&gt;"),
+        _ => out.push(c),
+    }
+}
+
+fn push_escaped(text: &str, out: &mut String) -> Result<(), AllocError>
+    ensures { OnOk result (Extends (string_bytes out.old) (string_bytes out.new)) }
+{
     for c in text.chars() {
-        match c {
-            '&' => out.push_str("&amp;")?,
-            '<' => out.push_str("&lt;")?,
-            '>' => out.push_str("&gt;")?,
-            _ => out.push(c)?,
-        }
+        push_character(c, out)?;
     }
     Ok(())
 }
@@ -131,7 +143,9 @@ fn push_line(
     to: &Spot,
     bottom: usize,
     out: &mut String,
-) -> Result<(), AllocError> {
+) -> Result<(), AllocError>
+    ensures { OnOk result (Extends (string_bytes out.old) (string_bytes out.new)) }
+{
     let x1 = from.middle();
     let x2 = to.middle();
     write!(
@@ -140,15 +154,22 @@ fn push_line(
     )
 }
 
-fn push_box(spot: &Spot, top: usize, out: &mut String) -> Result<(), AllocError> {
-    let middle = spot.middle();
-    let width = spot.box_width;
+fn push_frame(middle: usize, top: usize, width: usize, out: &mut String) -> Result<(), AllocError>
+    ensures { OnOk result (Extends (string_bytes out.old) (string_bytes out.new)) }
+{
     let left = middle.saturating_sub(width / 2);
-    let base = top.saturating_add(18);
     write!(
         out,
         "<rect x=\"{left}\" y=\"{top}\" width=\"{width}\" height=\"{BOX}\" rx=\"4\" fill=\"#fff\" stroke=\"#888\"/>\n"
-    )?;
+    )
+}
+
+fn push_box(spot: &Spot, top: usize, out: &mut String) -> Result<(), AllocError>
+    ensures { OnOk result (Extends (string_bytes out.old) (string_bytes out.new)) }
+{
+    let middle = spot.middle();
+    let base = top.saturating_add(18);
+    push_frame(middle, top, spot.box_width, out)?;
     write!(
         out,
         "<text x=\"{middle}\" y=\"{base}\" text-anchor=\"middle\">"
@@ -157,34 +178,79 @@ fn push_box(spot: &Spot, top: usize, out: &mut String) -> Result<(), AllocError>
     out.push_str("</text>\n")
 }
 
-fn push_lines(nodes: &[Node<'_>], spots: &[Spot], out: &mut String) -> Result<(), AllocError> {
+/// Appends the line from the node right above, if there is one.
+fn push_edge(
+    node: &Node<'_>,
+    spot: &Spot,
+    spots: &[Spot],
+    out: &mut String,
+) -> Result<(), AllocError>
+    ensures { OnOk result (Extends (string_bytes out.old) (string_bytes out.new)) }
+{
+    let Some(above) = node.above else {
+        return Ok(());
+    };
+    let Some(above) = spots.get(above) else {
+        return Ok(());
+    };
+    let top = row_top(node);
+    push_line(above, top.saturating_sub(ROW - BOX), spot, top, out)
+}
+
+fn push_edges(nodes: &[Node<'_>], spots: &[Spot], out: &mut String) -> Result<(), AllocError>
+    ensures { OnOk result (Extends (string_bytes out.old) (string_bytes out.new)) }
+{
     for (node, spot) in nodes.iter().zip(spots) {
-        let Some(above) = node.above else { continue };
-        if let Some(above) = spots.get(above) {
-            let top = row_top(node);
-            push_line(above, top.saturating_sub(ROW - BOX), spot, top, out)?;
-        }
+        push_edge(node, spot, spots, out)?;
     }
     Ok(())
 }
 
-/// Appends a picture: a box for each node, in rows by depth, the leaves in their order, and one tree beside the other.
-pub fn push_svg(alloc: Global, nodes: &[Node<'_>], out: &mut String) -> Result<(), AllocError> {
-    let mut spots = spots_of(alloc, nodes)?;
-    widen(nodes, &mut spots);
-    let width = place(nodes, &mut spots).saturating_add(MARGIN);
+fn push_boxes(nodes: &[Node<'_>], spots: &[Spot], out: &mut String) -> Result<(), AllocError>
+    ensures { OnOk result (Extends (string_bytes out.old) (string_bytes out.new)) }
+{
+    for (node, spot) in nodes.iter().zip(spots) {
+        push_box(spot, row_top(node), out)?;
+    }
+    Ok(())
+}
+
+fn height_of(nodes: &[Node<'_>]) -> usize {
     let mut height = 0usize;
     for node in nodes {
         height = height.max(row_top(node).saturating_add(BOX + MARGIN));
     }
+    height
+}
+
+/// Appends the picture of nodes that have their places.
+fn push_picture(
+    nodes: &[Node<'_>],
+    spots: &[Spot],
+    width: usize,
+    out: &mut String,
+) -> Result<(), AllocError>
+    ensures { OnOk result (Extends (string_bytes out.old) (string_bytes out.new)) }
+{
+    let height = height_of(nodes);
     write!(
         out,
         "<svg xmlns=\"http://www.w3.org/2000/svg\" width=\"{width}\" height=\"{height}\" font-family=\"monospace\" font-size=\"14\">\n"
     )?;
     out.push_str("<rect width=\"100%\" height=\"100%\" fill=\"#fff\"/>\n")?;
-    push_lines(nodes, &spots, out)?;
-    for (node, spot) in nodes.iter().zip(&spots) {
-        push_box(spot, row_top(node), out)?;
-    }
+    push_edges(nodes, spots, out)?;
+    push_boxes(nodes, spots, out)?;
     out.push_str("</svg>\n")
+}
+
+/// Appends a picture: a box for each node, in rows by depth, the leaves in their order, and one tree beside the other.
+pub fn push_svg(alloc: Global, nodes: &[Node<'_>], out: &mut String) -> Result<(), AllocError>
+    ensures { OnOk result (Extends (string_bytes out.old) (string_bytes out.new)) }
+{
+    let mut spots = spots_of(alloc, nodes)?;
+    widen(nodes, &mut spots);
+    let width = place(nodes, &mut spots).saturating_add(MARGIN);
+    let pushed = push_picture(nodes, &spots, width, out);
+    drop(spots);
+    pushed
 }

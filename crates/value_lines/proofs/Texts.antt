@@ -8,6 +8,8 @@ use Rattle.std.proofs.lemmas.List.Folds.{concat-append}
 use Rattle.outside_model.specs.Told.{AppendsPrefix}
 use Rattle.slif_base.proofs.Bytes.{appends_none, appends_twice}
 use Rattle.grammar_model.specs.Trees.{Tree}
+use Rattle.grammar_model.specs.Text.{text_of}
+use Rattle.grammar_model.specs.Values.{value_of}
 use Rattle.grammar_model.specs.declared.Show.{Show}
 use Rattle.language_model.specs.Building.{Built}
 use Rattle.reading_model.specs.Reading.{Piece}
@@ -15,9 +17,10 @@ use Rattle.forest_model.specs.Forest.{Forest, IsForest}
 use Rattle.forest_model.specs.Listing.{IsListing}
 use Rattle.forest_laws.specs.Lists.{trees_by}
 use Rattle.forest_laws.proofs.Exact.{forests_have_lists}
-use Rattle.run_model.specs.Listing.{line_of, first_of}
+use Rattle.run_model.specs.Listing.{line_of, first_of, tokens_in}
 use Rattle.tree_iter.specs.Iteration.{Iteration, AreGiven}
 use Rattle.value_lines.specs.Lines.{IsLineOf}
+use Rattle.value_lines.specs.Writing.{IsWholeLine}
 
 -- ---- of a list, so many of the first
 
@@ -51,6 +54,10 @@ all_of_first None xs within = refl
 all_of_first (Some m) xs within = take_all m xs within
 
 -- ---- what was written
+
+-- the line of a derivation is a whole one
+pub whole_line : (b : Built) (show : Show) (cs : List ℕ) (pieces : List Piece) (new : Iteration) (given : List Tree) (line : List ℕ) → IsLineOf b show cs pieces new given line true → IsWholeLine line
+whole_line b show cs pieces new given line more = record { text = text_of (value_of show b.g1 b.meaning (tokens_in cs pieces) more.0); ended = more.2 }
 
 -- so many lines were written, those of the derivations that the iterator gave
 pub record HasWritten (b : Built) (show : Show) (cs : List ℕ) (pieces : List Piece) (it : Iteration) (count : ℕ) (before after : Option (List ℕ)) : Type 0 where

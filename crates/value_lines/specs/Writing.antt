@@ -1,5 +1,5 @@
 -- Writing the lines of the first derivations of a forest.
-use Rattle.std.specs.Prelude.{◌≡◌, ℕ, List, [], ◌∷◌, ◌⊎◌, Option, map}
+use Rattle.std.specs.Prelude.{◌≡◌, ℕ, List, [], ◌∷◌, ◌++◌, ◌⊎◌, Option, map}
 use Rattle.std.specs.List.{concat}
 use Rattle.outside_model.specs.Causes.{Rose}
 use Rattle.outside_model.specs.Told.{AppendsPrefix}
@@ -26,6 +26,11 @@ AreBothTellers tellers = (tellers ≡ (ShowArray, []) ∷ (ShowTree, []) ∷ [])
 abbrev pub TextHas : (b : Built) (show : Show) (cs : List ℕ) (spans : List Span) (f : Forest) (first : Option ℕ) → (List ℕ → Type 0) → Type 0
 TextHas b show cs spans f first P =
     (pieces : List Piece) → IsForestOf b cs spans f pieces → (trees : List Tree) × IsListing f trees × P (concat (map (line_of b show cs pieces) (first_of first trees)))
+
+-- a text and the line feed behind it
+pub record IsWholeLine (piece : List ℕ) : Type 0 where
+  pub text : List ℕ
+  pub ended : piece ≡ text ++ 10 ∷ []
 
 -- a text was not all written: a prefix of it was
 abbrev pub TextStops : (before after : Stream) → WriteRefusal → (text : List ℕ) → Type 0

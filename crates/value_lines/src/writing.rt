@@ -1,5 +1,5 @@
 // Writing the lines of the derivations of a reading.
-ghost use Rattle.std.specs.Prelude.{◌≡◌, ◌≤◌, ◌+◌, ◌↔◌, ◌∷◌, [], List, IfErr, IfOk, IfSome, IsTrue, OnOk};
+ghost use Rattle.std.specs.Prelude.{◌≡◌, ◌≤◌, ◌+◌, ◌↔◌, ◌∷◌, [], List, IfErr, IfOk, IfSome, IsTrue, OnErr, OnOk};
 ghost use Rattle.std.specs.List.{sum_by};
 ghost use Rattle.std.specs.Io.KnownBytes.{Appends};
 ghost use Rattle.grammar_model.specs.Trees.{Tree};
@@ -8,18 +8,20 @@ ghost use Rattle.reading_model.specs.Reading.{Piece};
 ghost use Rattle.forest_model.specs.Forest.{Forest as Shared};
 ghost use Rattle.forest_model.specs.Listing.{IsListing};
 ghost use Rattle.run_model.specs.Listing.{first_of};
+ghost use Rattle.outside_model.specs.Causes.{HasCause};
+ghost use Rattle.outside_model.specs.Told.{AppendsPrefix};
 ghost use Rattle.run_model.specs.Outside.{stream};
 ghost use Rattle.valuator.specs.Told.{states};
 ghost use Rattle.tree_iter.specs.Iteration.{AreGiven};
 ghost use Rattle.grammar_model.specs.declared.Show.{Show};
 ghost use Rattle.value_lines.specs.Lines.{score_of, IsForestOf};
-ghost use Rattle.value_lines.specs.Writing.{AreBothTellers, TextHas, TextStops};
+ghost use Rattle.value_lines.specs.Writing.{AreBothTellers, IsWholeLine, TextHas, TextStops};
 
 use crate::next_line;
 use bocage::Forest;
 use grammar_core::Span;
 use scanless::Prepared;
-use slif_base::{Chars, Sink, Steps, write_all};
+use slif_base::{Chars, Sink, Steps, WriteFault, write_all};
 use std::alloc::Global;
 use std::sync::ledger::Ledger;
 use thiserror::Error;
@@ -94,6 +96,16 @@ fn player_of<'p>(
     Player::new(alloc, prepared.meaning(), prepared.written(), spans, chars)
 }
 
+// Hands a line to the sink as one piece.
+fn write_line<O: Sink>(out: &mut O, line: &[u8]) -> Result<(), WriteFault>
+    requires { IsWholeLine line.now }
+    ensures written { OnOk result (Appends (O.contents out.old) (O.contents out.new) line.now) }
+    ensures prefix { OnErr result (AppendsPrefix (O.contents out.old) (O.contents out.new) line.now) }
+    ensures cause { HasCause (O.fault_count out.old) (O.fault_count out.new) result }
+{
+    write_all(out, line)
+}
+
 // Writes the lines of so many derivations from the first on, or of all.
 fn write_lines<O: Sink, L: Ledger>(
     prepared: &Prepared,
@@ -124,7 +136,7 @@ fn write_lines<O: Sink, L: Ledger>(
         if !more {
             return Ok(());
         }
-        let Ok(()) = write_all(out, line) else {
+        let Ok(()) = write_line(out, line) else {
             return Err(WriteRefusal::WriteFault);
         };
     }

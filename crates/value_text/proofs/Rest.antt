@@ -25,13 +25,12 @@ extended_through xs ys zs p q = record { more = p.more ++ q.more; is = q.is ∙ 
 pub take-extended : (xs ys : List ℕ) (n : ℕ) → n ≡ length xs → IsExtended xs ys → take n ys ≡ xs
 take-extended xs ys n e p = (λ i. take (e i) (p.is i)) ∙ take-append_seam xs p.more
 
--- a text's characters, and its last quote
-abbrev pub quoted_rest : List ℕ → List ℕ
-quoted_rest bytes = flat_map escaped (chars bytes) ++ 34 ∷ []
+-- a text's characters as they stand in quotes
+abbrev pub escaped_rest : List ℕ → List ℕ
+escaped_rest bytes = flat_map escaped (chars bytes)
 
-pub quoted_rest_char : (bytes rest : List ℕ) (c : ℕ) → IsUtf8 bytes → bytes ≡ encode_utf8 c ++ rest → quoted_rest bytes ≡ escaped c ++ quoted_rest rest
-quoted_rest_char bytes rest c utf8 e =
-    ap (λ cs. flat_map escaped cs ++ 34 ∷ []) (chars_past_char bytes rest c utf8 e) ∙ append_assoc (escaped c) (flat_map escaped (chars rest)) (34 ∷ [])
+escaped_rest_char : (bytes rest : List ℕ) (c : ℕ) → IsUtf8 bytes → bytes ≡ encode_utf8 c ++ rest → escaped_rest bytes ≡ escaped c ++ escaped_rest rest
+escaped_rest_char bytes rest c utf8 e = ap (λ cs. flat_map escaped cs) (chars_past_char bytes rest c utf8 e)
 
 -- of a text in its quotes, the bytes from one place to another are still to be appended, and then the rest
 pub record IsQuoting (text : List ℕ) (from at : ℕ) (rest out whole : List ℕ) : Type 0 where
@@ -41,17 +40,17 @@ pub record IsQuoting (text : List ℕ) (from at : ℕ) (rest out whole : List �
   pub from_is : from ≡ length prefix
   pub at_is : at ≡ from + length pending
   pub utf8 : IsUtf8 rest
-  pub written : out ++ (pending ++ quoted_rest rest) ≡ whole
+  pub written : out ++ (pending ++ escaped_rest rest) ≡ whole
 
-pub quoting_begun : (text rest out out' : List ℕ) (at : ℕ) → IsUtf8 text → rest ≡ text → at ≡ 0 → out' ≡ out ++ 34 ∷ [] → IsQuoting text 0 at rest out' (out ++ 34 ∷ quoted_rest text)
-quoting_begun text rest out out' at utf8 same zero e = record {
+pub quoting_begun : (text rest out : List ℕ) (at : ℕ) → IsUtf8 text → rest ≡ text → at ≡ 0 → IsQuoting text 0 at rest out (out ++ escaped_rest text)
+quoting_begun text rest out at utf8 same zero = record {
   prefix = [];
   pending = [];
   text_is = sym same;
   from_is = refl;
   at_is = zero;
   utf8 = subst IsUtf8 (sym same) utf8;
-  written = (λ i. e i ++ quoted_rest (same i)) ∙ append_assoc out (34 ∷ []) (quoted_rest text);
+  written = ap (λ r. out ++ escaped_rest r) same;
 }
 
 quoting_bounds : (text : List ℕ) (from at : ℕ) (rest out whole : List ℕ) → IsQuoting text from at rest out whole → (from ≤ at) × (at + length rest ≡ length text)
@@ -80,17 +79,17 @@ quoting_plain text from at next rest rest' out whole c h e n same = record {
   at_is = omega (arith, n, h.at_is, length-append h.pending (encode_utf8 c));
   utf8 = IsUtf8-past_char rest rest' c h.utf8 e;
   written =
-      ap (λ b. out ++ b) (append_assoc h.pending (encode_utf8 c) (quoted_rest rest'))
-      ∙ ap (λ b. out ++ (h.pending ++ (b ++ quoted_rest rest'))) (sym same)
-      ∙ ap (λ b. out ++ (h.pending ++ b)) (sym (quoted_rest_char rest rest' c h.utf8 e))
+      ap (λ b. out ++ b) (append_assoc h.pending (encode_utf8 c) (escaped_rest rest'))
+      ∙ ap (λ b. out ++ (h.pending ++ (b ++ escaped_rest rest'))) (sym same)
+      ∙ ap (λ b. out ++ (h.pending ++ b)) (sym (escaped_rest_char rest rest' c h.utf8 e))
       ∙ h.written;
 }
 
 -- a character is escaped
-pub quoting_escaped : (text : List ℕ) (from at past next : ℕ) (rest rest' out out' out'' part whole escape : List ℕ) (c : ℕ) → IsQuoting text from at rest out whole → rest ≡ encode_utf8 c ++ rest' →
-    past ≡ at + length (encode_utf8 c) → next ≡ at + length (encode_utf8 c) → escaped c ≡ escape → part ≡ slice_range text from at → out' ≡ out ++ part → out'' ≡ out' ++ escape →
-    IsQuoting text past next rest' out'' whole
-quoting_escaped text from at past next rest rest' out out' out'' part whole escape c h e p n by is first second =
+pub quoting_escaped : (text : List ℕ) (from at past next : ℕ) (rest rest' out out' part whole escape : List ℕ) (c : ℕ) → IsQuoting text from at rest out whole → rest ≡ encode_utf8 c ++ rest' →
+    past ≡ at + length (encode_utf8 c) → next ≡ at + length (encode_utf8 c) → escaped c ≡ escape → part ≡ slice_range text from at → out' ≡ out ++ (part ++ escape) →
+    IsQuoting text past next rest' out' whole
+quoting_escaped text from at past next rest rest' out out' part whole escape c h e p n by is more =
     let prefix : length (h.prefix ++ (h.pending ++ encode_utf8 c)) ≡ length h.prefix + (length h.pending + length (encode_utf8 c)) =
     omega (arith, length-append h.prefix (h.pending ++ encode_utf8 c), length-append h.pending (encode_utf8 c)) in
     let pending : part ≡ h.pending = is ∙ quoting_part text from at rest out whole h in
@@ -105,23 +104,26 @@ quoting_escaped text from at past next rest rest' out out' out'' part whole esca
       at_is = omega (arith, p, n);
       utf8 = IsUtf8-past_char rest rest' c h.utf8 e;
       written =
-          ap (λ b. b ++ quoted_rest rest') (second ∙ ap (λ b. b ++ escape) (first ∙ ap (λ b. out ++ b) pending))
-          ∙ append_assoc (out ++ h.pending) escape (quoted_rest rest')
-          ∙ append_assoc out h.pending (escape ++ quoted_rest rest')
-          ∙ ap (λ b. out ++ (h.pending ++ (b ++ quoted_rest rest'))) (sym by)
-          ∙ ap (λ b. out ++ (h.pending ++ b)) (sym (quoted_rest_char rest rest' c h.utf8 e))
+          ap (λ b. b ++ escaped_rest rest') (more ∙ ap (λ b. out ++ (b ++ escape)) pending)
+          ∙ append_assoc out (h.pending ++ escape) (escaped_rest rest')
+          ∙ ap (λ b. out ++ b) (append_assoc h.pending escape (escaped_rest rest'))
+          ∙ ap (λ b. out ++ (h.pending ++ (b ++ escaped_rest rest'))) (sym by)
+          ∙ ap (λ b. out ++ (h.pending ++ b)) (sym (escaped_rest_char rest rest' c h.utf8 e))
           ∙ h.written;
     }
 
--- the end of the text, and the last quote
-pub quoting_ended : (text : List ℕ) (from at : ℕ) (rest out out' out'' part whole : List ℕ) → IsQuoting text from at rest out whole → length rest ≡ 0 → part ≡ slice_range text from (length text) → out' ≡ out ++ part → out'' ≡ out' ++ 34 ∷ [] →
-    out'' ≡ whole
-quoting_ended text from at [] out out' out'' part whole h none is first second =
+-- the end of the text
+pub quoting_ended : (text : List ℕ) (from at : ℕ) (rest out out' part whole : List ℕ) → IsQuoting text from at rest out whole → length rest ≡ 0 → part ≡ slice_range text from (length text) → out' ≡ out ++ part → out' ≡ whole
+quoting_ended text from at [] out out' part whole h none is more =
     let end : length text ≡ at = omega (arith, (quoting_bounds text from at [] out whole h).1) in
     let pending : part ≡ h.pending = is ∙ ap (slice_range text from) end ∙ quoting_part text from at [] out whole h in
-    second ∙ ap (λ b. b ++ 34 ∷ []) (first ∙ ap (λ b. out ++ b) pending) ∙ append_assoc out h.pending (34 ∷ [])
-    ∙ ap (λ cs. out ++ (h.pending ++ (flat_map escaped cs ++ 34 ∷ []))) (sym chars-nil) ∙ h.written
-quoting_ended text from at (b ∷ rest) out out' out'' part whole h none is first second = absurd (omega arith)
+    more ∙ ap (λ b. out ++ b) pending ∙ ap (λ b. out ++ b) (sym (append-nil h.pending)) ∙ ap (λ cs. out ++ (h.pending ++ flat_map escaped cs)) (sym chars-nil) ∙ h.written
+quoting_ended text from at (b ∷ rest) out out' part whole h none is more = absurd (omega arith)
+
+-- a text in its quotes
+pub quoted_whole : (out first inside last : List ℕ) (text : List ℕ) → first ≡ out ++ 34 ∷ [] → inside ≡ first ++ escaped_rest text → last ≡ inside ++ 34 ∷ [] → last ≡ out ++ 34 ∷ (escaped_rest text ++ 34 ∷ [])
+quoted_whole out first inside last text a b c =
+    c ∙ ap (λ l. l ++ 34 ∷ []) (b ∙ ap (λ l. l ++ escaped_rest text) a ∙ append_assoc out (34 ∷ []) (escaped_rest text)) ∙ append_assoc out (34 ∷ escaped_rest text) (34 ∷ [])
 
 -- the list that was opened last is written first
 pub rest_text-push : (values : List Value) (ls : List Open) (l : Open) → rest_text values (ls ++ l ∷ []) ≡ open_text values l ++ rest_text values ls

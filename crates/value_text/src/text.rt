@@ -1,5 +1,6 @@
 // The text of a value.
-ghost use Rattle.std.specs.Prelude.{◌≡◌, ◌<◌, ◌++◌, ◌∷◌, [], length, decimal, OnOk, OnErr};
+ghost use Rattle.std.specs.Prelude.{◌≡◌, ◌<◌, ◌++◌, ◌∷◌, [], length, chars, decimal, OnOk, OnErr};
+ghost use Rattle.std.specs.List.{flat_map};
 ghost use Rattle.grammar_model.specs.Values.{Text};
 ghost use Rattle.grammar_model.specs.Text.{escaped, hex_digit, text_of};
 ghost use Rattle.value_text.specs.Nodes.{value_at};
@@ -80,22 +81,38 @@ fn append_escape(escape: Escape, out: &mut Vec<u8>) -> Result<(), NoMemory>
     }
 }
 
-/// Appends a text in its quotes. What stands between two escapes is appended at once.
+/// Appends what stands before an escape, and the escape.
+fn append_escaped(plain: &[u8], escape: Escape, out: &mut Vec<u8>) -> Result<(), NoMemory>
+    ensures ok { OnOk result (out.new.items ≡ out.old.items ++ (plain.now ++ bytes_of escape)) }
+    ensures extended { IsExtended out.old.items out.new.items }
+{
+    append(plain, out)?;
+    append_escape(escape, out)
+}
+
+/// Appends a text as it stands in its quotes. What stands between two escapes is appended at once.
+fn append_inside(text: &str, out: &mut Vec<u8>) -> Result<(), NoMemory>
+    ensures ok { OnOk result (out.new.items ≡ out.old.items ++ flat_map escaped (chars text.now)) }
+    ensures extended { IsExtended out.old.items out.new.items }
+{
+    let bytes = text.as_bytes();
+    let mut from = 0;
+    for (at, c) in text.char_indices() {
+        if let Some(escape) = escape_of(c) {
+            append_escaped(&bytes[from..at], escape, out)?;
+            from = at + c.len_utf8();
+        }
+    }
+    append(&bytes[from..], out)
+}
+
+/// Appends a text in its quotes.
 fn append_quoted(text: &str, out: &mut Vec<u8>) -> Result<(), NoMemory>
     ensures ok { OnOk result (out.new.items ≡ out.old.items ++ text_of (Text text.now)) }
     ensures extended { IsExtended out.old.items out.new.items }
 {
     append_byte(b'"', out)?;
-    let bytes = text.as_bytes();
-    let mut from = 0;
-    for (at, c) in text.char_indices() {
-        if let Some(escape) = escape_of(c) {
-            append(&bytes[from..at], out)?;
-            append_escape(escape, out)?;
-            from = at + c.len_utf8();
-        }
-    }
-    append(&bytes[from..], out)?;
+    append_inside(text, out)?;
     append_byte(b'"', out)
 }
 

@@ -4,4 +4,4 @@ use Rattle.earley_sets.proofs.Rising.{different_are_few}
 use Rattle.earley_sets.proofs.tries_are_few.Goals as goal
 
 pub returns : goal.returns
-returns c = λ r place links tried once are count. different_are_few (IsLink r.flat (edges_of r) (top_of r) place) tried links once are count
+returns c = λ r earleme links tried once are count. different_are_few (IsLink r.flat (edges_of r) (top_of r) earleme) tried links once are count

@@ -13,34 +13,34 @@ use Rattle.bocage.proofs.ends.walk.Goals as goal
 
 pub visit_end-requires-clause-going : goal.visit_end-requires-clause-going
 visit_end-requires-clause-going g c =
-    subst (λ p. IsGoing c.args.w.now c.args.ranking c.args.recce.now p 0 c.args.found.now (map (λ r. r.now) c.new-table.result.items)) (sym c.place-place.ensures.place)
+    subst (λ p. IsGoing c.args.w.now c.args.ranking c.args.recce.now p 0 c.args.found.now (map (λ r. r.now) c.new-table.result.items)) (sym c.place-earleme.ensures.place)
     (going_first c.args.w.now c.args.ranking c.args.recce.now c.args.found.now (map (λ r. r.now) c.new-table.result.items) c.requires.used c.requires.top)
 
 pub loop-back-init : goal.loop-back-init
 loop-back-init g c =
-    let e : c.place-place.result ≡ c.place-place.result - 0 = omega arith in
+    let e : c.place-earleme.result ≡ c.place-earleme.result - 0 = omega arith in
     record {
       visited = subst (λ p. AreVisited c.args.w.now c.args.ranking c.args.recce.now p c.visit_end.new.found (map (λ r. r.now) c.visit_end.new.table.items)) e c.in_ok-visit_end.ensures.visited;
       chained = c.in_ok-visit_end.ensures.chained;
       grows = c.in_ok-visit_end.ensures.grows;
-      counted = subst (λ p. RisesWithin (IsExpandedFrom c.args.w.now c.args.ranking c.args.recce.now p) c.args.steps.now c.visit_end.new.steps) e (within_first c.args.w.now c.args.ranking c.args.recce.now c.place-place.result c.args.steps.now c.visit_end.new.steps c.place-place.ensures.place c.in_ok-visit_end.ensures.counted);
-      expanded = subst (λ p. IsCountOf (IsExpandedFrom c.args.w.now c.args.ranking c.args.recce.now p) c.visit_end.new.work.expanded) e (count_first c.args.w.now c.args.ranking c.args.recce.now c.requires.read c.place-place.result c.args.work.now.expanded c.visit_end.new.work.expanded c.place-place.ensures.place c.requires.start c.in_ok-visit_end.ensures.expanded);
+      counted = subst (λ p. RisesWithin (IsExpandedFrom c.args.w.now c.args.ranking c.args.recce.now p) c.args.steps.now c.visit_end.new.steps) e (within_first c.args.w.now c.args.ranking c.args.recce.now c.place-earleme.result c.args.steps.now c.visit_end.new.steps c.place-earleme.ensures.place c.in_ok-visit_end.ensures.counted);
+      expanded = subst (λ p. IsCountOf (IsExpandedFrom c.args.w.now c.args.ranking c.args.recce.now p) c.visit_end.new.work.expanded) e (count_first c.args.w.now c.args.ranking c.args.recce.now c.requires.read c.place-earleme.result c.args.work.now.expanded c.visit_end.new.work.expanded c.place-earleme.ensures.place c.requires.start c.in_ok-visit_end.ensures.expanded);
     }
 
 pub visit_end-requires-in-loop-back-clause-going : goal.visit_end-requires-in-loop-back-clause-going
 visit_end-requires-in-loop-back-clause-going g c =
     let t = c.loop-back-test.true in
-    let e : c.place-place.result - c.loop-back.back ≡ suc (c.place-place.result - 1 - c.loop-back.back) = omega arith in
-    subst (λ (l : List NodeKey). IsGoing c.args.w.now c.args.ranking c.args.recce.now (c.place-place.result - 1 - c.loop-back.back) (length l) c.loop-back.found (map (λ r. r.now) c.loop-back.table.items)) (sym c.as_slice-first.ensures.keys)
-    (going_next c.args.w.now c.args.ranking c.args.recce.now (c.place-place.result - 1 - c.loop-back.back) c.loop-back.found (map (λ r. r.now) c.loop-back.table.items)
+    let e : c.place-earleme.result - c.loop-back.back ≡ suc (c.place-earleme.result - 1 - c.loop-back.back) = omega arith in
+    subst (λ (l : List NodeKey). IsGoing c.args.w.now c.args.ranking c.args.recce.now (c.place-earleme.result - 1 - c.loop-back.back) (length l) c.loop-back.found (map (λ r. r.now) c.loop-back.table.items)) (sym c.as_slice-first.ensures.keys)
+    (going_next c.args.w.now c.args.ranking c.args.recce.now (c.place-earleme.result - 1 - c.loop-back.back) c.loop-back.found (map (λ r. r.now) c.loop-back.table.items)
     (subst (λ p. AreVisited c.args.w.now c.args.ranking c.args.recce.now p c.loop-back.found (map (λ r. r.now) c.loop-back.table.items)) e c.loop-back.invariant.visited))
 
 pub loop-back-preserved : goal.loop-back-preserved
 loop-back-preserved g c =
     let t = c.loop-back-test.true in
-    let e : c.place-place.result - 1 - c.loop-back.back ≡ c.place-place.result - (c.loop-back.back + 1) = omega arith in
-    let q : c.place-place.result - c.loop-back.back ≡ suc (c.place-place.result - 1 - c.loop-back.back) = omega arith in
-    let end = c.place-place.result - 1 - c.loop-back.back in
+    let e : c.place-earleme.result - 1 - c.loop-back.back ≡ c.place-earleme.result - (c.loop-back.back + 1) = omega arith in
+    let q : c.place-earleme.result - c.loop-back.back ≡ suc (c.place-earleme.result - 1 - c.loop-back.back) = omega arith in
+    let end = c.place-earleme.result - 1 - c.loop-back.back in
     record {
       visited = subst (λ p. AreVisited c.args.w.now c.args.ranking c.args.recce.now p c.visit_end-in-loop-back.new.found (map (λ r. r.now) c.visit_end-in-loop-back.new.table.items)) e c.in_ok-visit_end-2.ensures.visited;
       chained = c.in_ok-visit_end-2.ensures.chained;
@@ -52,28 +52,28 @@ loop-back-preserved g c =
 pub returns-clause-visited : goal.returns-clause-visited
 returns-clause-visited g c =
     let f = c.loop-back-test.false in
-    let e : c.place-place.result - c.loop-back.back ≡ 0 = omega arith in
+    let e : c.place-earleme.result - c.loop-back.back ≡ 0 = omega arith in
     subst (λ p. AreVisited c.args.w.now c.args.ranking c.args.recce.now p c.loop-back.found (map (λ r. r.now) c.loop-back.table.items)) e c.loop-back.invariant.visited
 
 pub returns-clause-expanded : goal.returns-clause-expanded
 returns-clause-expanded g c =
     let f = c.loop-back-test.false in
-    let e : c.place-place.result - c.loop-back.back ≡ 0 = omega arith in
+    let e : c.place-earleme.result - c.loop-back.back ≡ 0 = omega arith in
     count_all c.args.w.now c.args.ranking c.args.recce.now c.loop-back.work.expanded (subst (λ p. IsCountOf (IsExpandedFrom c.args.w.now c.args.ranking c.args.recce.now p) c.loop-back.work.expanded) e c.loop-back.invariant.expanded)
 
 pub returns-clause-counted : goal.returns-clause-counted
-returns-clause-counted g c = within_all c.args.w.now c.args.ranking c.args.recce.now (c.place-place.result - c.loop-back.back) c.args.steps.now c.loop-back.steps c.loop-back.invariant.counted
+returns-clause-counted g c = within_all c.args.w.now c.args.ranking c.args.recce.now (c.place-earleme.result - c.loop-back.back) c.args.steps.now c.loop-back.steps c.loop-back.invariant.counted
 
 pub returns-in_err-visit_end-clause-counted : goal.returns-in_err-visit_end-clause-counted
 returns-in_err-visit_end-clause-counted g c =
-    within_all c.args.w.now c.args.ranking c.args.recce.now c.place-place.result c.args.steps.now c.visit_end.new.steps
-    (within_first c.args.w.now c.args.ranking c.args.recce.now c.place-place.result c.args.steps.now c.visit_end.new.steps c.place-place.ensures.place c.in_err-visit_end.ensures.counted)
+    within_all c.args.w.now c.args.ranking c.args.recce.now c.place-earleme.result c.args.steps.now c.visit_end.new.steps
+    (within_first c.args.w.now c.args.ranking c.args.recce.now c.place-earleme.result c.args.steps.now c.visit_end.new.steps c.place-earleme.ensures.place c.in_err-visit_end.ensures.counted)
 
 pub returns-in_err-visit_end-2-clause-counted : goal.returns-in_err-visit_end-2-clause-counted
 returns-in_err-visit_end-2-clause-counted g c =
     let t = c.loop-back-test.true in
-    let q : c.place-place.result - c.loop-back.back ≡ suc (c.place-place.result - 1 - c.loop-back.back) = omega arith in
-    let end = c.place-place.result - 1 - c.loop-back.back in
+    let q : c.place-earleme.result - c.loop-back.back ≡ suc (c.place-earleme.result - 1 - c.loop-back.back) = omega arith in
+    let end = c.place-earleme.result - 1 - c.loop-back.back in
     within_all c.args.w.now c.args.ranking c.args.recce.now end c.args.steps.now c.visit_end-in-loop-back.new.steps
     (within_more c.args.w.now c.args.ranking c.args.recce.now end c.args.steps.now c.loop-back.steps c.visit_end-in-loop-back.new.steps (subst (λ p. RisesWithin (IsExpandedFrom c.args.w.now c.args.ranking c.args.recce.now p) c.args.steps.now c.loop-back.steps) q c.loop-back.invariant.counted) c.in_err-visit_end-2.ensures.counted)
 

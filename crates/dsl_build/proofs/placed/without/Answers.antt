@@ -1,5 +1,6 @@
-use Rattle.std.proofs.Common.{[], ◌∷◌, ◌++◌, sym, ◌∙◌, ap, ℕ, List, cond, take}
-use Rattle.std.specs.Prelude.{not}
+use Rattle.std.proofs.Common.{[], ◌∷◌, ◌++◌, arith, sym, ◌∙◌, ap, ℕ, List, cond, take}
+use Rattle.std.specs.Prelude.{filter, not}
+use Rattle.std.proofs.lemmas.List.{take_all}
 use Rattle.language_model.specs.Building.{is_one_of}
 use Rattle.dsl_build.proofs.Differing.{unseen, unseen_kept}
 use Rattle.dsl_build.proofs.PlacedLemmas.{filter_more}
@@ -16,3 +17,6 @@ add_unless-requires c =
     let texts = c.args.texts.now in
     let t = c.text.result.now in
     ap (λ ns. is_one_of ns t) c.loop-place.invariant ∙ unseen_kept p (take c.loop-place.place texts) t (unseen [] texts c.loop-place.place t c.requires c.text.ensures)
+
+pub returns : goal.returns
+returns c = c.loop-place.invariant ∙ ap (filter (λ (t : List ℕ). not (is_one_of c.args.others.now t))) (take_all c.loop-place.place c.args.texts.now (omega arith))

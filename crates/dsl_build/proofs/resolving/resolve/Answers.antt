@@ -113,8 +113,8 @@ returns c =
     record {
       structural = c.in_ok-rules_of.ensures.structural ∙ ap (λ (ns : List (List ℕ)). flat_map (rules_of ns) (filter (is_of_level false) d)) g1;
       lexical = c.in_ok-rules_of.ensures.lexical ∙ ap (λ (ns : List (List ℕ)). flat_map (rules_of ns) (filter (is_of_level true) d)) l0;
-      start = c.in_ok-starts_of.ensures ∙ ap (map (place_in texts.starts.symbols)) start ∙ ap (λ (ns : List (List ℕ)). map (place_in ns) (start_of d)) g1;
+      start = c.in_ok-starts_of.ensures ∙ ap (map (place_in c.args.named.now.symbols)) start ∙ ap (λ (ns : List (List ℕ)). map (place_in ns) (start_of d)) g1;
       starts = c.in_ok-symbols_of.ensures ∙ ap (map (place_in texts.placed.names)) c.requires.texts.starts ∙ ap (λ (ns : List (List ℕ)). map (place_in ns) (start_texts d)) l0;
-      lexemes = c.in_ok-lexeme_rows.ensures ∙ rows_are d texts.starts.lexemes texts.starts.symbols texts.starts.texts (faultless d c.requires.faultless).repeats g1 c.requires.texts.starts ∙ ap (map (lexeme_row d)) c.requires.texts.lexemes;
+      lexemes = c.in_ok-lexeme_rows.ensures ∙ rows_are d texts.starts.lexemes c.args.named.now.symbols texts.starts.texts (faultless d c.requires.faultless).repeats g1 c.requires.texts.starts ∙ ap (map (lexeme_row d)) c.requires.texts.lexemes;
       discards = c.in_ok-places_of.ensures ∙ ap (map (place_in texts.starts.texts)) c.requires.texts.discards ∙ ap (λ (ns : List (List ℕ)). map (place_in ns) (discarded d)) c.requires.texts.starts;
     }

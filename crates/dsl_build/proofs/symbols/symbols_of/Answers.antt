@@ -1,5 +1,5 @@
-use Rattle.std.proofs.Common.{sym, ◌∙◌, ap, ◌∷◌, [], ◌++◌, map, take}
-use Rattle.std.proofs.lemmas.List.{map-append}
+use Rattle.std.proofs.Common.{arith, sym, ◌∙◌, ap, ◌∷◌, [], ◌++◌, map, take}
+use Rattle.std.proofs.lemmas.List.{map-append, take_all}
 use Rattle.language_model.specs.Building.{place_in}
 use Rattle.dsl_faults.proofs.Lists.{take_get}
 use Rattle.dsl_build.proofs.symbols.symbols_of.Goals as goal
@@ -8,5 +8,8 @@ pub loop-place-preserved : goal.loop-place-preserved
 loop-place-preserved c =
     let number = place_in c.args.names.now in
     let before = take c.loop-place.place c.args.texts.now in
-    c.in_ok-push.ensures.items ∙ ap (λ ps. ps ++ c.symbol_of.result ∷ []) c.loop-place.invariant ∙ ap (λ n. map number before ++ n ∷ []) c.symbol_of.ensures
+    c.in_ok-push.ensures.items ∙ ap (λ ps. ps ++ c.symbol_of-symbol.result ∷ []) c.loop-place.invariant ∙ ap (λ n. map number before ++ n ∷ []) c.symbol_of-symbol.ensures
     ∙ sym (ap (map number) (take_get c.args.texts.now c.loop-place.place c.text.result.now c.text.ensures) ∙ map-append number before (c.text.result.now ∷ []))
+
+pub returns : goal.returns
+returns c = c.loop-place.invariant ∙ ap (map (place_in c.args.names.now)) (take_all c.loop-place.place c.args.texts.now (omega arith))

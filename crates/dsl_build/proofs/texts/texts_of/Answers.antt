@@ -13,25 +13,22 @@ use Rattle.dsl_faults.proofs.Bridges.{symbols_are}
 use Rattle.dsl_build.proofs.TextLemmas.{lexemes_are, discards_are, placed_are}
 use Rattle.dsl_build.proofs.texts.texts_of.Goals as goal
 
-pub starts_of-requires-clause-symbols : goal.starts_of-requires-clause-symbols
-starts_of-requires-clause-symbols c = c.requires.symbols ∙ ap (λ (xs : List Use). new_texts [] (flat_map (texts_asked Structural) (map used_of xs))) (sym c.deref.ensures.value)
-
-pub starts_of-requires-clause-left : goal.starts_of-requires-clause-left
-starts_of-requires-clause-left c = c.requires.structural ∙ ap (λ (xs : List Use). new_texts [] (flat_map (texts_asked StructuralLeft) (map used_of xs))) (sym c.deref.ensures.value)
+pub starts_of-requires : goal.starts_of-requires
+starts_of-requires c = subst (λ (ns : List (List ℕ)). AllNew [] ns) (sym c.requires.symbols) (new_all [] _)
 
 pub placed_of-requires : goal.placed_of-requires
 placed_of-requires c =
-    let starts = c.in_ok-starts.starts in
-    subst (λ (ns : List (List ℕ)). AllNew [] ns) (sym c.in_ok-starts.ensures.lexemes) (filter_new _ [] starts.symbols (subst (λ (ns : List (List ℕ)). AllNew [] ns) (sym c.in_ok-starts.ensures.symbols) (new_all [] _)))
+    subst (λ (ns : List (List ℕ)). AllNew [] ns) (sym c.in_ok-starts.ensures.lexemes) (filter_new _ [] c.args.named.now.symbols (subst (λ (ns : List (List ℕ)). AllNew [] ns) (sym c.requires.symbols) (new_all [] _)))
 
 pub returns : goal.returns
 returns c = λ (d : List Statement) used.
+    let named = c.args.named.now in
     let starts = c.in_ok-starts.starts in
     let seen : map used_of c.deref.result.now ≡ flat_map uses_of d = ap (λ (xs : List Use). map used_of xs) c.deref.ensures.value ∙ used in
     let again : map used_of c.deref-2.result.now ≡ flat_map uses_of d = ap (λ (xs : List Use). map used_of xs) c.deref-2.ensures.value ∙ used in
-    let symbols : starts.symbols ≡ symbols_g1 d = c.in_ok-starts.ensures.symbols ∙ ap (λ (us : List Used). new_texts [] (flat_map (texts_asked Structural) us)) seen ∙ sym (symbols_are d) in
-    let left = ap (λ (us : List Used). new_texts [] (flat_map (texts_asked StructuralLeft) us)) seen in
-    let lexical : starts.lexemes ≡ lexemes d = c.in_ok-starts.ensures.lexemes ∙ lexemes_are d starts.symbols (new_texts [] (flat_map (texts_asked StructuralLeft) (map used_of c.deref.result.now))) symbols left in
+    let symbols : named.symbols ≡ symbols_g1 d = c.requires.symbols ∙ ap (λ (us : List Used). new_texts [] (flat_map (texts_asked Structural) us)) used ∙ sym (symbols_are d) in
+    let left = c.requires.structural ∙ ap (λ (us : List Used). new_texts [] (flat_map (texts_asked StructuralLeft) us)) used in
+    let lexical : starts.lexemes ≡ lexemes d = c.in_ok-starts.ensures.lexemes ∙ lexemes_are d named.symbols named.structural symbols left in
     let discards : starts.discards ≡ discarded d = c.in_ok-starts.ensures.discards ∙ ap (λ (us : List Used). new_texts [] (flat_map (texts_asked Discarded) us)) seen ∙ discards_are d in
     let texts : starts.texts ≡ start_texts d =
     c.in_ok-starts.ensures.texts ∙ ap (λ (ns : List (List ℕ)). ns ++ filter (λ t. not (is_one_of ns t)) starts.discards) lexical

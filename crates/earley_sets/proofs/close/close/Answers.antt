@@ -12,19 +12,19 @@ use Rattle.earley_sets.proofs.close.close.Goals as goal
 
 pub loop-k-init : goal.loop-k-init
 loop-k-init g c = record {
-  closed = closed_init c.args.flat.now (GoesOn c.args.flat.now c.args.rows.now.sets c.args.place) c.args.set.now.keys c.requires.items;
+  closed = closed_init c.args.flat.now (GoesOn c.args.flat.now c.args.rows.now.sets c.args.earleme) c.args.set.now.keys c.requires.items;
   memo = no_more c.args.flat.now c.args.rows.now.sets c.args.memo.now c.requires.memo;
-  counted = tried_none (MakesLink c.args.flat.now c.args.rows.now.sets c.args.place) (same_maker c.args.flat.now c.args.rows.now.sets c.args.place) c.args.set.now.keys (c.args.steps.now + length c.args.memo.now) (c.args.steps.now + length c.args.memo.now) refl;
+  counted = tried_none (MakesLink c.args.flat.now c.args.rows.now.sets c.args.earleme) (same_maker c.args.flat.now c.args.rows.now.sets c.args.earleme) c.args.set.now.keys (c.args.steps.now + length c.args.memo.now) (c.args.steps.now + length c.args.memo.now) refl;
 }
 
 pub returns-in_default-clause-closed : goal.returns-in_default-clause-closed
 returns-in_default-clause-closed g c =
-    closed_done c.args.flat.now (GoesOn c.args.flat.now c.args.rows.now.sets c.args.place) c.args.set.now.keys c.loop-k.set.keys c.loop-k.k c.loop-k.invariant.closed
+    closed_done c.args.flat.now (GoesOn c.args.flat.now c.args.rows.now.sets c.args.earleme) c.args.set.now.keys c.loop-k.set.keys c.loop-k.k c.loop-k.invariant.closed
     (got_none c.loop-k.set.keys c.loop-k.k c.in_default.ensures.item)
 
 pub returns-in_default-clause-counted : goal.returns-in_default-clause-counted
 returns-in_default-clause-counted g c =
-    tried_all (MakesLink c.args.flat.now c.args.rows.now.sets c.args.place) (same_maker c.args.flat.now c.args.rows.now.sets c.args.place) c.loop-k.set.keys c.loop-k.k (c.args.steps.now + length c.loop-k.memo) (c.loop-k.steps + length c.args.memo.now)
+    tried_all (MakesLink c.args.flat.now c.args.rows.now.sets c.args.earleme) (same_maker c.args.flat.now c.args.rows.now.sets c.args.earleme) c.loop-k.set.keys c.loop-k.k (c.args.steps.now + length c.loop-k.memo) (c.loop-k.steps + length c.args.memo.now)
     (got_none c.loop-k.set.keys c.loop-k.k c.in_default.ensures.item) c.loop-k.invariant.counted
 
 pub list_next-requires-clause-item : goal.list_next-requires-clause-item
@@ -36,24 +36,41 @@ loop-k-preserved g c =
     let is = c.loop-k.invariant.closed.items c.in-Some.item (got_item c.loop-k.set.keys c.loop-k.k c.in-Some.item at) in
     let grows : Grows c.loop-k.set.keys c.add_items.new.set.keys c.list_next.new.next.items = subst (λ next. Grows c.loop-k.set.keys c.add_items.new.set.keys next) c.deref.ensures.value c.in_ok-add_items.ensures.grows in
     let (more, begins) = grows.begins in
-    let goes : (other : Item) → Contains c.list_next.new.next.items other ↔ (Contains [] other ⊎ GoesOn c.args.flat.now c.args.rows.now.sets c.args.place c.in-Some.item other) =
-    subst (λ (old : List Item). (other : Item) → Contains c.list_next.new.next.items other ↔ (Contains old other ⊎ GoesOn c.args.flat.now c.args.rows.now.sets c.args.place c.in-Some.item other)) c.clear.ensures.items c.in_ok-list_next.ensures.listed
+    let goes : (other : Item) → Contains c.list_next.new.next.items other ↔ (Contains [] other ⊎ GoesOn c.args.flat.now c.args.rows.now.sets c.args.earleme c.in-Some.item other) =
+    subst (λ (old : List Item). (other : Item) → Contains c.list_next.new.next.items other ↔ (Contains old other ⊎ GoesOn c.args.flat.now c.args.rows.now.sets c.args.earleme c.in-Some.item other)) c.clear.ensures.items c.in_ok-list_next.ensures.listed
     in
     let noted = c.list_next.ensures.counted in
     let counted = c.in_ok-add_items.ensures.counted in
     let listed = ap (λ (l : List Item). length l) c.deref.ensures.value in
     let empty = ap (λ (l : List Item). length l) c.clear.ensures.items in
     record {
-      closed = closed_more c.args.flat.now (GoesOn c.args.flat.now c.args.rows.now.sets c.args.place) c.args.set.now.keys c.loop-k.set.keys c.loop-k.k c.loop-k.invariant.closed
+      closed = closed_more c.args.flat.now (GoesOn c.args.flat.now c.args.rows.now.sets c.args.earleme) c.args.set.now.keys c.loop-k.set.keys c.loop-k.k c.loop-k.invariant.closed
           c.in-Some.item c.list_next.new.next.items c.add_items.new.set.keys at
-          (λ other (f, behind). follows_item c.args.flat.now c.args.rows.now.sets c.args.place c.in-Some.item is c.requires.rows.are other f)
+          (λ other (f, behind). follows_item c.args.flat.now c.args.rows.now.sets c.args.earleme c.in-Some.item is c.requires.rows.are other f)
           (λ other n. elim ((goes other).0 n) [ inl none ↦ absurd (Contains-none other none) | inr f ↦ f ])
           (λ other f. inr ((goes other).1 (inr f)))
           grows;
       memo = more_on c.args.flat.now c.args.rows.now.sets c.args.memo.now c.loop-k.memo c.list_next.new.memo c.loop-k.invariant.memo c.list_next.ensures.memo;
-      counted = tried_more (MakesLink c.args.flat.now c.args.rows.now.sets c.args.place) (same_maker c.args.flat.now c.args.rows.now.sets c.args.place) c.loop-k.set.keys c.add_items.new.set.keys more c.loop-k.k c.in-Some.item
+      counted = tried_more (MakesLink c.args.flat.now c.args.rows.now.sets c.args.earleme) (same_maker c.args.flat.now c.args.rows.now.sets c.args.earleme) c.loop-k.set.keys c.add_items.new.set.keys more c.loop-k.k c.in-Some.item
           (c.args.steps.now + length c.list_next.new.memo) (c.list_next.new.steps + length c.args.memo.now) (c.add_items.new.steps + length c.args.memo.now)
           c.in-Some.ensures.once at begins
           (rises_moved (c.args.steps.now + length c.list_next.new.memo) (c.list_next.new.steps + length c.args.memo.now) (omega (arith, noted)) c.loop-k.invariant.counted)
           (rises_moved (c.list_next.new.steps + length c.args.memo.now) (c.add_items.new.steps + length c.args.memo.now) (omega (arith, counted, listed, empty)) c.in_ok-list_next.ensures.links);
     }
+
+pub list_next-requires-clause-memo : goal.list_next-requires-clause-memo
+list_next-requires-clause-memo g c = c.loop-k.invariant.memo.is
+
+pub returns-in_err-list_next-clause-memo : goal.returns-in_err-list_next-clause-memo
+returns-in_err-list_next-clause-memo g c = more_on c.args.flat.now c.args.rows.now.sets c.args.memo.now c.loop-k.memo c.list_next.new.memo c.loop-k.invariant.memo c.list_next.ensures.memo
+
+pub returns-in_err-add_items-clause-memo : goal.returns-in_err-add_items-clause-memo
+returns-in_err-add_items-clause-memo g c = more_on c.args.flat.now c.args.rows.now.sets c.args.memo.now c.loop-k.memo c.list_next.new.memo c.loop-k.invariant.memo c.list_next.ensures.memo
+
+pub unreachable-requires : goal.unreachable-requires
+unreachable-requires g c =
+    let len = c.len-len.ensures.len in
+    let small = c.len-len.ensures.small in
+    let within = c.loop-k.invariant.closed.within in
+    let end = c.loop-k-test.false in
+    omega (arith, len, small, within, end)

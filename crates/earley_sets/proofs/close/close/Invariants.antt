@@ -7,7 +7,7 @@ use Rattle.earley_sets.proofs.close.close.Given as goal
 
 abbrev pub invariant-loop-k : goal.invariant-loop-k
 invariant-loop-k g l = record {
-  closed : IsClosedTo l.flat (GoesOn l.flat l.rows.sets l.place) l.initial.set.keys l.set.keys l.k;
+  closed : IsClosedTo l.flat (GoesOn l.flat l.rows.sets l.earleme) l.initial.set.keys l.set.keys l.k;
   memo : NotesMore l.flat l.rows.sets l.initial.memo l.memo;
-  counted : RisesBy (MakesOne l.flat l.rows.sets l.place (take l.k l.set.keys)) (l.initial.steps + length l.memo) (l.steps + length l.initial.memo);
+  counted : RisesBy (MakesOne l.flat l.rows.sets l.earleme (take l.k l.set.keys)) (l.initial.steps + length l.memo) (l.steps + length l.initial.memo);
 }

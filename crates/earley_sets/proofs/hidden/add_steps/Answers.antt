@@ -12,14 +12,14 @@ use Rattle.earley_sets.proofs.hidden.add_steps.Goals.{in-Some-single_step+in_ok-
 use Rattle.earley_sets.proofs.hidden.add_steps.Goals as goal
 
 pub loop-k-init : goal.loop-k-init
-loop-k-init c = (closed_init c.args.flat.now (IsSingleStep c.args.flat.now c.args.rows.now.sets c.args.place c.args.from) c.args.set.now.keys c.requires.items, ([], sym (append-nil c.args.set.now.keys)))
+loop-k-init c = (closed_init c.args.flat.now (IsSingleStep c.args.flat.now c.args.rows.now.sets c.args.earleme c.args.from) c.args.set.now.keys c.requires.items, ([], sym (append-nil c.args.set.now.keys)))
 
 pub returns-in_default-clause-begins : goal.returns-in_default-clause-begins
 returns-in_default-clause-begins c = c.loop-k.invariant.1
 
 pub returns-in_default-clause-closed : goal.returns-in_default-clause-closed
 returns-in_default-clause-closed c =
-    closed_done c.args.flat.now (IsSingleStep c.args.flat.now c.args.rows.now.sets c.args.place c.args.from) c.args.set.now.keys c.loop-k.set.keys c.loop-k.k c.loop-k.invariant.0
+    closed_done c.args.flat.now (IsSingleStep c.args.flat.now c.args.rows.now.sets c.args.earleme c.args.from) c.args.set.now.keys c.loop-k.set.keys c.loop-k.k c.loop-k.invariant.0
     (got_none c.loop-k.set.keys c.loop-k.k (c.in_default.ensures ∙ c.get_index.ensures.key))
 
 pub single_step-requires-clause-rule : goal.single_step-requires-clause-rule
@@ -33,15 +33,15 @@ loop-k-preserved c =
       | in-Some-single_step+in_ok-insert w ↦
           let adds = adds_key c.loop-k.set.keys w.insert.new.self.keys w.in-Some-single_step.step w.in_ok-insert.ensures.keys in
           let (more', e') = Adds-begins c.loop-k.set.keys w.insert.new.self.keys w.in-Some-single_step.step adds in
-          subst (λ (keys : List Item). IsClosedTo c.args.flat.now (IsSingleStep c.args.flat.now c.args.rows.now.sets c.args.place c.args.from) c.args.set.now.keys keys (c.loop-k.k + 1) × ((more : List Item) × (keys ≡ c.args.set.now.keys ++ more)))
+          subst (λ (keys : List Item). IsClosedTo c.args.flat.now (IsSingleStep c.args.flat.now c.args.rows.now.sets c.args.earleme c.args.from) c.args.set.now.keys keys (c.loop-k.k + 1) × ((more : List Item) × (keys ≡ c.args.set.now.keys ++ more)))
           (ap (λ (s : HashSet Item (BuildHasherDefault NearHasher)). s.keys) (sym w.set-is)) (
-            step_added c.args.flat.now c.args.rows.now.sets c.requires.rows.are c.args.place c.args.from c.args.set.now.keys c.loop-k.set.keys c.loop-k.k c.loop-k.invariant.0 c.in-Some.item at w.in-Some-single_step.step w.insert.new.self.keys w.in-Some-single_step.ensures.some adds,
+            step_added c.args.flat.now c.args.rows.now.sets c.requires.rows.are c.args.earleme c.args.from c.args.set.now.keys c.loop-k.set.keys c.loop-k.k c.loop-k.invariant.0 c.in-Some.item at w.in-Some-single_step.step w.insert.new.self.keys w.in-Some-single_step.ensures.some adds,
             (more ++ more', e' ∙ (ap (λ l. l ++ more') e ∙ append_assoc c.args.set.now.keys more more')),
           )
       | in_default-single_step w ↦
-          subst (λ (keys : List Item). IsClosedTo c.args.flat.now (IsSingleStep c.args.flat.now c.args.rows.now.sets c.args.place c.args.from) c.args.set.now.keys keys (c.loop-k.k + 1) × ((more : List Item) × (keys ≡ c.args.set.now.keys ++ more)))
+          subst (λ (keys : List Item). IsClosedTo c.args.flat.now (IsSingleStep c.args.flat.now c.args.rows.now.sets c.args.earleme c.args.from) c.args.set.now.keys keys (c.loop-k.k + 1) × ((more : List Item) × (keys ≡ c.args.set.now.keys ++ more)))
           (ap (λ (s : HashSet Item (BuildHasherDefault NearHasher)). s.keys) (sym w.set-is)) (
-            none_added c.args.flat.now c.args.rows.now.sets c.requires.rows.are c.args.place c.args.from c.args.set.now.keys c.loop-k.set.keys c.loop-k.k c.loop-k.invariant.0 c.in-Some.item at (w.in_default-single_step.ensures.none refl),
+            none_added c.args.flat.now c.args.rows.now.sets c.requires.rows.are c.args.earleme c.args.from c.args.set.now.keys c.loop-k.set.keys c.loop-k.k c.loop-k.invariant.0 c.in-Some.item at (w.in_default-single_step.ensures.none refl),
             (more, e),
           )
     ]

@@ -14,9 +14,9 @@ leads_on-requires-clause-rule c = (c.requires.items c.at.result (at_found c.args
 
 pub loop-k-preserved : goal.loop-k-preserved
 loop-k-preserved c =
-    none_more c.args.flat.now c.args.rows.now.sets c.args.place c.args.from c.args.items.now c.loop-k.k c.at.result c.at.ensures c.loop-k.invariant
+    none_more c.args.flat.now c.args.rows.now.sets c.args.earleme c.args.from c.args.items.now c.loop-k.k c.at.result c.at.ensures c.loop-k.invariant
     (c.leads_on.ensures (λ t. true≢false (sym t ∙ c.if-leads_on.false)))
 
 pub returns : goal.returns
 returns c none =
-    subst (NoneLeadsOn c.args.flat.now c.args.rows.now.sets c.args.place c.args.from) (take_all c.loop-k.k c.args.items.now (let n = c.len-k-end.ensures in let f = c.loop-k-test.false in omega arith)) c.loop-k.invariant
+    subst (NoneLeadsOn c.args.flat.now c.args.rows.now.sets c.args.earleme c.args.from) (take_all c.loop-k.k c.args.items.now (let n = c.len-k-end.ensures in let f = c.loop-k-test.false in omega arith)) c.loop-k.invariant

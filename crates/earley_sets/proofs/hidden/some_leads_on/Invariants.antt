@@ -3,4 +3,4 @@ use Rattle.earley_sets.specs.Hidden.{NoneLeadsOn}
 use Rattle.earley_sets.proofs.hidden.some_leads_on.Given as goal
 
 abbrev pub invariant-loop-k : goal.invariant-loop-k
-invariant-loop-k l = NoneLeadsOn l.flat l.rows.sets l.place l.from (take l.k l.items)
+invariant-loop-k l = NoneLeadsOn l.flat l.rows.sets l.earleme l.from (take l.k l.items)

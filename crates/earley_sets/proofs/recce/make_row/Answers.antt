@@ -31,26 +31,26 @@ find_list-requires-clause-items g c = subst (λ (l : List Item). AreItems c.args
 
 pub push-requires-clause-apart : goal.push-requires-clause-apart
 push-requires-clause-apart g c item k =
-    subst (λ n. ¬ IsBegunAt (shared_at c.find_list.new.rows.shared c.in_ok-begun.begun) n item) (c.len-place.ensures ∙ sym (ap (λ (l : List (List Item)). length l) c.find_list.ensures.kept.sets))
-    (kernel_apart c.args.flat.now c.args.edges.now c.args.top c.requires.top c.requires.forward c.args.rows.now.sets c.requires.rows.are c.len-place.result
-    (subst (AreReduced c.args.flat.now c.args.edges.now c.args.top c.args.rows.now.sets) (sym c.len-place.ensures) c.requires.sets)
-    c.as_slice-kernel.result.now (subst (IsKernel c.args.flat.now c.args.rows.now.sets c.args.top c.len-place.result c.args.edges.now) (sym c.as_slice-kernel.ensures.keys) c.in_ok-make_kernel.ensures.kernel)
+    subst (λ n. ¬ IsBegunAt (shared_at c.find_list.new.rows.shared c.in_ok-begun.begun) n item) (c.len-earleme.ensures ∙ sym (ap (λ (l : List (List Item)). length l) c.find_list.ensures.kept.sets))
+    (kernel_apart c.args.flat.now c.args.edges.now c.args.top c.requires.top c.requires.forward c.args.rows.now.sets c.requires.rows.are c.len-earleme.result
+    (subst (AreReduced c.args.flat.now c.args.edges.now c.args.top c.args.rows.now.sets) (sym c.len-earleme.ensures) c.requires.sets)
+    c.as_slice-kernel.result.now (subst (IsKernel c.args.flat.now c.args.rows.now.sets c.args.top c.len-earleme.result c.args.edges.now) (sym c.as_slice-kernel.ensures.keys) c.in_ok-make_kernel.ensures.kernel)
     (shared_at c.find_list.new.rows.shared c.in_ok-begun.begun) c.in_ok-begun.ensures.begun item k)
 
 pub returns-clause-ok : goal.returns-clause-ok
 returns-clause-ok g c =
     on_ok_weaker c.push.result
     (λ (row, same, lists).
-    let made = row_made c.args.flat.now c.args.edges.now c.args.top c.requires.top c.requires.forward c.args.rows.now.sets c.requires.rows.are c.len-place.result
-    (subst (AreReduced c.args.flat.now c.args.edges.now c.args.top c.args.rows.now.sets) (sym c.len-place.ensures) c.requires.sets)
-    c.as_slice-kernel.result.now (subst (IsKernel c.args.flat.now c.args.rows.now.sets c.args.top c.len-place.result c.args.edges.now) (sym c.as_slice-kernel.ensures.keys) c.in_ok-make_kernel.ensures.kernel)
+    let made = row_made c.args.flat.now c.args.edges.now c.args.top c.requires.top c.requires.forward c.args.rows.now.sets c.requires.rows.are c.len-earleme.result
+    (subst (AreReduced c.args.flat.now c.args.edges.now c.args.top c.args.rows.now.sets) (sym c.len-earleme.ensures) c.requires.sets)
+    c.as_slice-kernel.result.now (subst (IsKernel c.args.flat.now c.args.rows.now.sets c.args.top c.len-earleme.result c.args.edges.now) (sym c.as_slice-kernel.ensures.keys) c.in_ok-make_kernel.ensures.kernel)
     (shared_at c.find_list.new.rows.shared c.in_ok-begun.begun) c.in_ok-begun.ensures.begun row
     (subst (λ n. IsListOf (λ item. Contains c.as_slice-kernel.result.now item ⊎ IsBegunAt (shared_at c.find_list.new.rows.shared c.in_ok-begun.begun) n item) row)
-    (sym (c.len-place.ensures ∙ sym (ap (λ (l : List (List Item)). length l) c.find_list.ensures.kept.sets))) lists) in (
+    (sym (c.len-earleme.ensures ∙ sym (ap (λ (l : List (List Item)). length l) c.find_list.ensures.kept.sets))) lists) in (
       row,
       ap (λ (r : ItemRows). r.sets) same ∙ ap (λ (l : List (List Item)). l ++ row ∷ []) c.find_list.ensures.kept.sets,
-      subst (λ n. IsRowOf c.args.flat.now n row) c.len-place.ensures made.0,
-      subst (λ n. IsListOf (InReduced c.args.flat.now (FlatEdges c.args.flat.now (Held c.args.edges.now)) c.args.top n) row) c.len-place.ensures made.1,
+      subst (λ n. IsRowOf c.args.flat.now n row) c.len-earleme.ensures made.0,
+      subst (λ n. IsListOf (InReduced c.args.flat.now (FlatEdges c.args.flat.now (Held c.args.edges.now)) c.args.top n) row) c.len-earleme.ensures made.1,
     ))
     c.push.ensures.ok
 
@@ -58,13 +58,13 @@ pub returns-clause-counted : goal.returns-clause-counted
 returns-clause-counted g c =
     on_ok_weaker c.push.result
     (λ p some.
-    subst (λ n. RisesBy (IsLink c.args.flat.now (FlatEdges c.args.flat.now (Held c.args.edges.now)) c.args.top n) (c.args.steps.now + length c.make_kernel.new.memo) (c.find_list.new.steps + length c.args.memo.now)) c.len-place.ensures
-    (set_links c.args.flat.now c.args.edges.now c.args.top c.requires.top c.requires.forward c.args.rows.now.sets c.requires.rows.are c.len-place.result
-    (subst (AreReduced c.args.flat.now c.args.edges.now c.args.top c.args.rows.now.sets) (sym c.len-place.ensures) c.requires.sets)
-    c.as_slice-kernel.result.now (subst (IsKernel c.args.flat.now c.args.rows.now.sets c.args.top c.len-place.result c.args.edges.now) (sym c.as_slice-kernel.ensures.keys) c.in_ok-make_kernel.ensures.kernel)
+    subst (λ n. RisesBy (IsLink c.args.flat.now (FlatEdges c.args.flat.now (Held c.args.edges.now)) c.args.top n) (c.args.steps.now + length c.make_kernel.new.memo) (c.find_list.new.steps + length c.args.memo.now)) c.len-earleme.ensures
+    (set_links c.args.flat.now c.args.edges.now c.args.top c.requires.top c.requires.forward c.args.rows.now.sets c.requires.rows.are c.len-earleme.result
+    (subst (AreReduced c.args.flat.now c.args.edges.now c.args.top c.args.rows.now.sets) (sym c.len-earleme.ensures) c.requires.sets)
+    c.as_slice-kernel.result.now (subst (IsKernel c.args.flat.now c.args.rows.now.sets c.args.top c.len-earleme.result c.args.edges.now) (sym c.as_slice-kernel.ensures.keys) c.in_ok-make_kernel.ensures.kernel)
     (shared_at c.find_list.new.rows.shared c.in_ok-begun.begun) c.in_ok-begun.ensures.begun
     (c.args.steps.now + length c.make_kernel.new.memo) (c.make_kernel.new.steps + length c.args.memo.now) (c.find_list.new.steps + length c.args.memo.now)
-    (subst (λ (l : List Item). RisesBy (MakesKernel c.args.flat.now c.args.rows.now.sets c.len-place.result c.args.edges.now l) (c.args.steps.now + length c.make_kernel.new.memo) (c.make_kernel.new.steps + length c.args.memo.now)) (sym c.as_slice-kernel.ensures.keys)
-    (c.in_ok-make_kernel.ensures.counted (let e = c.len-place.ensures in omega (arith, e, some))))
+    (subst (λ (l : List Item). RisesBy (MakesKernel c.args.flat.now c.args.rows.now.sets c.len-earleme.result c.args.edges.now l) (c.args.steps.now + length c.make_kernel.new.memo) (c.make_kernel.new.steps + length c.args.memo.now)) (sym c.as_slice-kernel.ensures.keys)
+    (c.in_ok-make_kernel.ensures.counted (let e = c.len-earleme.ensures in omega (arith, e, some))))
     (list_moved c.args.flat.now c.as_slice-kernel.result.now (shared_at c.find_list.new.rows.shared c.in_ok-begun.begun) c.make_kernel.new.steps c.find_list.new.steps (length c.args.memo.now) c.in_ok-begun.ensures.tried)))
     c.push.ensures.ok

@@ -1,8 +1,6 @@
-use Rattle.std.proofs.Common.{◌≡◌, ◌-◌, Some, None, subst, refl, arith}
-use Rattle.recognizer_model.specs.declared.flat.FlatSymbol.TheVariants.{Terminal}
+use Rattle.std.proofs.Common.{◌-◌, None, subst, refl, arith}
 use Rattle.recognizer_model.specs.Flat.{FlatGrammar}
 use Rattle.recognizer_model.specs.Invariant.{IsFlat}
-use Rattle.std.proofs.Common.{slice_get}
 use Rattle.forest_parts.proofs.Gathering.{gains_edge}
 use Rattle.forest_parts.proofs.gather.put_edge.Goals as goal
 
@@ -11,6 +9,4 @@ returns-in_ok-push c =
     let b = c.requires in
     gains_edge c.args.recce.now.flat c.args.least c.in-Some.symbol c.args.edge
     (record { end = c.args.edge.to; symbol = c.in-Some.symbol; length = c.args.edge.to - c.args.edge.from; whole = None }) c.args.parts.now.items c.push.new.self.items
-    (subst (λ (g : FlatGrammar). IsFlat g) c.flat-flat.ensures c.known.ensures.flat) c.if-least-edge.true
-    (subst (λ (g : FlatGrammar). slice_get g.symbols c.in-Some.symbol ≡ Some (Terminal c.args.edge.symbol)) c.flat-flat.ensures c.in-Some.ensures.some)
-    refl refl (omega arith) refl c.in_ok-push.ensures.items
+    (subst (λ (g : FlatGrammar). IsFlat g) c.flat.ensures c.known.ensures.flat) c.if-least-edge.true c.in-Some.ensures.some refl refl (omega arith) refl c.in_ok-push.ensures.items

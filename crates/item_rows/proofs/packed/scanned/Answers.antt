@@ -10,5 +10,5 @@ use Rattle.item_rows.proofs.packed.scanned.Goals as goal
 pub returns : goal.returns
 returns c =
     let (own, others, within, is) = c.narrowed.ensures in
-    subst (λ (l : List Item). IsListOf (λ item. Contains (row_items c.args.dotted.now.rules c.args.place c.args.packed.now c.args.begun.now) item × WaitsForTerminal c.args.dotted.now.flat item) l) (sym is)
-    (row_of_kind c.args.dotted.now.rules c.args.place c.args.packed.now c.args.begun.now c.requires c.known.ensures.differ (λ rule dot. (x : ℕ) × (part_of c.args.dotted.now.flat rule dot ≡ Some x) × StandsForTerminal c.args.dotted.now.flat x) c.scanned.result c.scanned.ensures own others within)
+    subst (λ (l : List Item). IsListOf (λ item. Contains (row_items c.args.dotted.now.rules c.args.earleme c.args.packed.now c.args.begun.now) item × WaitsForTerminal c.args.dotted.now.flat item) l) (sym is)
+    (row_of_kind c.args.dotted.now.rules c.args.earleme c.args.packed.now c.args.begun.now c.requires c.known.ensures.differ (λ rule dot. (x : ℕ) × (part_of c.args.dotted.now.flat rule dot ≡ Some x) × StandsForTerminal c.args.dotted.now.flat x) c.scanned.result c.scanned.ensures own others within)

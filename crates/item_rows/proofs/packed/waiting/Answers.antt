@@ -10,5 +10,5 @@ use Rattle.item_rows.proofs.packed.waiting.Goals as goal
 pub returns : goal.returns
 returns c =
     let (own, others, within, is) = c.narrowed.ensures in
-    subst (λ (l : List Item). IsListOf (λ item. Contains (row_items c.args.dotted.now.rules c.args.place c.args.packed.now c.args.begun.now) item × (after c.args.dotted.now.flat item ≡ Some c.args.symbol)) l) (sym is)
-    (row_of_kind c.args.dotted.now.rules c.args.place c.args.packed.now c.args.begun.now c.requires c.known.ensures.differ (λ rule dot. part_of c.args.dotted.now.flat rule dot ≡ Some c.args.symbol) c.span.result c.span.ensures own others within)
+    subst (λ (l : List Item). IsListOf (λ item. Contains (row_items c.args.dotted.now.rules c.args.earleme c.args.packed.now c.args.begun.now) item × (after c.args.dotted.now.flat item ≡ Some c.args.symbol)) l) (sym is)
+    (row_of_kind c.args.dotted.now.rules c.args.earleme c.args.packed.now c.args.begun.now c.requires c.known.ensures.differ (λ rule dot. part_of c.args.dotted.now.flat rule dot ≡ Some c.args.symbol) c.span.result c.span.ensures own others within)

@@ -37,3 +37,15 @@ loop-list-preserved c = record {
   extended = extended_through _ _ _ (extended_through _ _ _ c.loop-list.invariant.extended c.append_comma.ensures.extended) c.append_start-in-Some.ensures.extended;
   lists = c.append_start-in-Some.ensures.lists;
 }
+
+pub returns-in_err-append_byte-clause-extended : goal.returns-in_err-append_byte-clause-extended
+returns-in_err-append_byte-clause-extended c = extended_through _ _ _ c.loop-list.invariant.extended c.append_byte.ensures.extended
+
+pub returns-in_err-append_comma-clause-extended : goal.returns-in_err-append_comma-clause-extended
+returns-in_err-append_comma-clause-extended c = extended_through _ _ _ c.loop-list.invariant.extended c.append_comma.ensures.extended
+
+pub returns-in_err-push-clause-extended : goal.returns-in_err-push-clause-extended
+returns-in_err-push-clause-extended c = extended_through _ _ _ c.loop-list.invariant.extended c.append_comma.ensures.extended
+
+pub returns-in_err-append_start-2-clause-extended : goal.returns-in_err-append_start-2-clause-extended
+returns-in_err-append_start-2-clause-extended c = extended_through _ _ _ (extended_through _ _ _ c.loop-list.invariant.extended c.append_comma.ensures.extended) c.append_start-in-Some.ensures.extended

@@ -6,14 +6,14 @@ use Rattle.earley_sets.proofs.recce.Recce.alternative.Goals as goal
 pub push-requires-clause-order : goal.push-requires-clause-order
 push-requires-clause-order c e h =
     let b = c.self.invariant.0.is.begun e h in
-    let p = c.place-place.ensures.place in
+    let p = c.place-earleme.ensures.place in
     let v = ap (λ (r : Recognizer). earleme_of r) c.self.view_is in
     omega arith
 
 pub invariant_of-self : goal.invariant_of-self
 invariant_of-self c = (
-  edge_kept c.self.inside.flat.now c.self.inside.start c.self.inside.edges c.self.inside.rows.sets c.self.inside.top c.self.inside.memo c.self.invariant.0 c.args.t c.place-place.result c.args.length
-      (c.place-place.ensures.place ∙ sym (ap (λ (r : Recognizer). earleme_of r) c.self.view_is))
+  edge_kept c.self.inside.flat.now c.self.inside.start c.self.inside.edges c.self.inside.rows.sets c.self.inside.top c.self.inside.memo c.self.invariant.0 c.args.t c.place-earleme.result c.args.length
+      (c.place-earleme.ensures.place ∙ sym (ap (λ (r : Recognizer). earleme_of r) c.self.view_is))
       (subst (λ (r : Recognizer). IsExpected r c.args.t) (sym c.self.view_is) (c.is_expected.ensures.0 (search rules)))
       c.push.result c.push.new.self c.push.ensures.ok c.push.ensures.err c.push.ensures.duplicate c.push.ensures.bad_length,
   c.self.invariant.1,

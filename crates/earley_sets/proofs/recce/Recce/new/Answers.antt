@@ -1,29 +1,31 @@
-use Rattle.std.proofs.Common.{sym, arith}
+use Rattle.std.proofs.Common.{List, sym, subst, arith}
 use Rattle.finite_sets.proofs.Lists.{got_at}
+use Rattle.grammar_model.specs.declared.Edge.{Edge as HeldEdge}
+use Rattle.grammar_model.specs.Derives.{Held}
+use Rattle.recognizer_model.specs.Counts.{IsListOf}
+use Rattle.recognizer_model.specs.FlatForm.{FlatEdges}
+use Rattle.recognizer_model.specs.Leo.{InReduced}
 use Rattle.earley_sets.proofs.Marked.{marks_at, one_row}
 use Rattle.earley_sets.proofs.Recognizing.{first_kept, top_is_top}
-use Rattle.earley_sets.proofs.Sharing.{no_lists}
 use Rattle.earley_sets.proofs.recce.Recce.new.Goals as goal
 
-pub add_first-requires-clause-top : goal.add_first-requires-clause-top
-add_first-requires-clause-top c = top_is_top c.args.flat.now c.args.start c.top-top.result c.top-top.ensures.flat c.requires (sym (got_at c.args.flat.now.tops c.args.start c.top-top.result 0 (sym c.top-top.ensures.value)).1)
+pub first_rows-requires-clause-top : goal.first_rows-requires-clause-top
+first_rows-requires-clause-top c = top_is_top c.args.flat.now c.args.start c.top-top.result c.top-top.ensures.flat c.requires (sym (got_at c.args.flat.now.tops c.args.start c.top-top.result 0 (sym c.top-top.ensures.value)).1)
 
 pub invariant_of-result : goal.invariant_of-result
 invariant_of-result c =
-    let (kept, rows, indexed, exact) = c.in_ok-add_first.ensures.ok in (
-      first_kept c.args.flat.now c.args.start c.new-edges.result c.add_first.new.rows.sets c.top-top.result kept c.add_first.new.memo c.new-edges.ensures rows c.top-top.ensures.flat c.requires
-          (sym (got_at c.args.flat.now.tops c.args.start c.top-top.result 0 (sym c.top-top.ensures.value)).1) indexed exact c.add_first.ensures.memo,
+    let (kept, rows, indexed, exact) = c.in_ok-rows.ensures.ok in (
+      first_kept c.args.flat.now c.args.start c.new-edges.result c.in_ok-rows.rows.sets c.top-top.result kept c.new-memo.result c.new-edges.ensures rows c.top-top.ensures.flat c.requires
+          (sym (got_at c.args.flat.now.tops c.args.start c.top-top.result 0 (sym c.top-top.ensures.value)).1) indexed
+          (subst (λ (l : List HeldEdge). IsListOf (InReduced c.args.flat.now (FlatEdges c.args.flat.now (Held l)) c.top-top.result 0) kept) (sym c.new-edges.ensures) exact) c.new-memo.ensures,
       c.in_ok-heads.ensures,
-      c.add_first.ensures.flat,
-      c.add_first.ensures.lists,
-      marks_at c.args.flat.now c.add_first.new.rows.sets c.mark_row.new.marks 0 (let l = one_row c.add_first.new.rows.sets kept rows in omega arith) c.mark_row.ensures.room c.mark_row.ensures.marks,
+      c.in_ok-rows.ensures.flat,
+      c.in_ok-rows.ensures.lists,
+      marks_at c.args.flat.now c.in_ok-rows.rows.sets c.mark_row.new.marks 0 (let l = one_row c.in_ok-rows.rows.sets kept rows in omega arith) c.mark_row.ensures.room c.mark_row.ensures.marks,
     )
 
 pub mark_row-requires-clause-flat : goal.mark_row-requires-clause-flat
-mark_row-requires-clause-flat c = c.add_first.ensures.flat
+mark_row-requires-clause-flat c = c.in_ok-rows.ensures.flat
 
 pub mark_row-requires-clause-place : goal.mark_row-requires-clause-place
-mark_row-requires-clause-place c = let (row, one, _, _) = c.in_ok-add_first.ensures.ok in let l = one_row c.add_first.new.rows.sets row one in omega arith
-
-pub add_first-requires-clause-lists : goal.add_first-requires-clause-lists
-add_first-requires-clause-lists c = no_lists c.args.flat.now c.in_ok-rows.rows.shared c.new_lists-lists.result.numbers.entries c.in_ok-rows.ensures.2 c.new_lists-lists.ensures
+mark_row-requires-clause-place c = let (row, one, _, _) = c.in_ok-rows.ensures.ok in let l = one_row c.in_ok-rows.rows.sets row one in omega arith

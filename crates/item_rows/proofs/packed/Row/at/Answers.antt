@@ -7,7 +7,7 @@ use Rattle.item_rows.proofs.packed.Row.at.Goals as goal
 
 pub begin-requires : goal.begin-requires
 begin-requires c =
-    let all = row_length c.self.inside.rules.now c.self.inside.place c.self.inside.packed.now c.self.inside.begun.now in
+    let all = row_length c.self.inside.rules.now c.self.inside.earleme c.self.inside.packed.now c.self.inside.begun.now in
     let seen = ap (λ (l : List Item). length l) c.self.view_is in
     let lt = c.requires in
     let k = c.args.k - length c.self.inside.packed.now in
@@ -16,11 +16,11 @@ begin-requires c =
 pub returns-then-k-own : goal.returns-then-k-own
 returns-then-k-own c =
     ap (λ (l : List Item). slice_get l c.args.k) (sym c.self.view_is)
-    ∙ (at_first c.self.inside.rules.now c.self.inside.place c.self.inside.packed.now c.self.inside.begun.now c.args.k 0 (omega arith) ∙ ap Some (sym c.unpack.ensures))
+    ∙ (at_first c.self.inside.rules.now c.self.inside.earleme c.self.inside.packed.now c.self.inside.begun.now c.args.k 0 (omega arith) ∙ ap Some (sym c.unpack.ensures))
 
 pub returns-else-k-own : goal.returns-else-k-own
 returns-else-k-own c =
     let seen = ap (λ (l : List Item). length l) c.self.view_is in
     let lt = c.requires in
     ap (λ (l : List Item). slice_get l c.args.k) (sym c.self.view_is)
-    ∙ (at_second c.self.inside.rules.now c.self.inside.place c.self.inside.packed.now c.self.inside.begun.now c.args.k 0 (omega arith) (omega arith) ∙ ap Some (sym c.begin.ensures))
+    ∙ (at_second c.self.inside.rules.now c.self.inside.earleme c.self.inside.packed.now c.self.inside.begun.now c.args.k 0 (omega arith) (omega arith) ∙ ap Some (sym c.begin.ensures))

@@ -1,0 +1,13 @@
+use Rattle.std.proofs.Common.{arith, ◌∙◌, ◌++◌, ap, map}
+use Rattle.std.specs.Prelude.{flat_map}
+use Rattle.std.proofs.lemmas.List.{take_all}
+use Rattle.language_model.specs.Building.{parts_of}
+use Rattle.dsl_statement.specs.Statements.{is_lexical}
+use Rattle.dsl_faults.specs.Uses.{used, used_of}
+use Rattle.dsl_faults.specs.declared.uses.Role.TheVariants.{Right}
+use Rattle.dsl_faults.proofs.uses.push_group.Goals as goal
+
+pub returns : goal.returns
+returns c =
+    c.loop-alternative.invariant
+    ∙ ap (λ xs. map used_of c.args.uses.now.items ++ flat_map (λ a. map (used Right (is_lexical c.args.level)) (parts_of a)) xs) (take_all c.loop-alternative.alternative-index c.args.group.now (omega arith))

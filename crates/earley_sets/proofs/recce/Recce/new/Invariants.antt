@@ -1,4 +1,0 @@
-use Rattle.earley_sets.proofs.recce.Recce.new.Given as goal
-
-abbrev pub ghosts-add_first : goal.ghosts-add_first
-ghosts-add_first a = record { name = a.blank.name; parts = a.blank.parts }
