@@ -61,7 +61,7 @@ fn a_deep_list_is_read(rt: HostRuntime) -> Result<(), Fail> {
 }
 
 // Texts, and how much is left where each is refused.
-const REFUSED: &[(&str, usize)] = &[
+static REFUSED: &[(&str, usize)] = &[
     ("", 0),
     ("01", 2),
     ("18446744073709551616", 20),

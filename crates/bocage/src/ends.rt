@@ -28,6 +28,7 @@ use std::sync::ledger::Ledger;
 /// What is used again for each place.
 #[derive(Drop)]
 pub struct Work {
+    pub chains: Chains,
     pub edges: Vec<Edge>,
     pub parts: Vec<Part>,
     pub groups: Vec<Group>,
@@ -40,9 +41,12 @@ pub struct Work {
 impl Work {
     /// Nothing done yet.
     pub fn new(alloc: Global) -> Work
-        ensures { result.expanded ≡ 0 }
+        ensures heads { result.chains.heads.items ≡ [] }
+        ensures below { result.chains.below.items ≡ [] }
+        ensures expanded { result.expanded ≡ 0 }
     {
         Work {
+            chains: new_chains(alloc),
             edges: Vec::new(alloc),
             parts: Vec::new(alloc),
             groups: Vec::new(alloc),
@@ -202,6 +206,7 @@ fn gather(
     requires end { end ≤ earleme_of recce.now }
     requires hidden { AreHidden recce.now end least hidden.now }
     ensures gathered { OnOk result (AreGathered w.now ranking recce.now end least work.new.parts.items work.new.groups.items work.new.joins.items) }
+    ensures chains { work.new.chains ≡ work.old.chains }
     ensures nodes { work.new.nodes ≡ work.old.nodes }
     ensures expanded { work.new.expanded ≡ work.old.expanded }
 {
@@ -266,6 +271,7 @@ fn visit_from<'a>(
     requires whole { end ≡ earleme_of recce.now → least ≡ 0 }
     ensures visited { OnOk result (AreVisited w.now ranking recce.now end found.new (map (λ r. r.now) table.new.items)) }
     ensures grows { OnOk result (GrowsBy (IsUsedIn w.now ranking recce.now) found.old.keys.keys found.new.keys.keys) }
+    ensures chains { work.new.chains ≡ work.old.chains }
     ensures expanded { work.new.expanded ≡ work.old.expanded }
 {
     gather(recce, w, ranking, end, least, hidden, work)?;
@@ -291,7 +297,6 @@ fn visit_end<'a, L: Ledger>(
     arena: &'a Bump,
     end: u32,
     first: usize,
-    chains: &mut Chains,
     found: &mut Found,
     table: &mut Vec<&'a [AlternativeRow]>,
     work: &mut Work,
@@ -300,15 +305,15 @@ fn visit_end<'a, L: Ledger>(
     requires read { IsRead w.now recce.now }
     requires end { end ≤ earleme_of recce.now }
     requires going { IsGoing w.now ranking recce.now end first found.old (map (λ r. r.now) table.old.items) }
-    requires few { length chains.old.below.items ≤ first }
-    requires chained { AreChained found.old.keys.keys chains.old.heads.items chains.old.below.items }
-    ensures chained { OnOk result (AreChained found.new.keys.keys chains.new.heads.items chains.new.below.items) }
+    requires few { length work.old.chains.below.items ≤ first }
+    requires chained { AreChained found.old.keys.keys work.old.chains.heads.items work.old.chains.below.items }
+    ensures chained { OnOk result (AreChained found.new.keys.keys work.new.chains.heads.items work.new.chains.below.items) }
     ensures visited { OnOk result (AreVisited w.now ranking recce.now end found.new (map (λ r. r.now) table.new.items)) }
     ensures grows { OnOk result (GrowsBy (IsUsedIn w.now ranking recce.now) found.old.keys.keys found.new.keys.keys) }
     ensures expanded { OnOk result (RisesBy (IsExpandedAt w.now ranking recce.now end) work.old.expanded work.new.expanded) }
     ensures counted { RisesWithin (IsExpandedAt w.now ranking recce.now end) steps.old steps.new }
 {
-    list_nodes(&found.keys, first, end, chains, &mut work.nodes)?;
+    list_nodes(&found.keys, first, end, &mut work.chains, &mut work.nodes)?;
     let whole = end == recce.place();
     if work.nodes.as_slice().is_empty() && !whole {
         return Ok(());
@@ -335,6 +340,8 @@ pub fn walk<'a, L: Ledger>(
     requires read { IsRead w.now recce.now }
     requires used { (key : TheKey) → Contains found.old.keys.keys key → IsUsedIn w.now ranking recce.now key × (key.end ≡ earleme_of recce.now) }
     requires top { 0 < earleme_of recce.now → Contains found.old.keys.keys (top_key recce.now) }
+    requires heads { work.old.chains.heads.items ≡ [] }
+    requires below { work.old.chains.below.items ≡ [] }
     requires start { work.old.expanded ≡ 0 }
     ensures visited { IfOk result (λ table. AreVisited w.now ranking recce.now 0 found.new (map (λ r. r.now) table.items)) }
     ensures grows { OnOk result (GrowsBy (IsUsedIn w.now ranking recce.now) found.old.keys.keys found.new.keys.keys) }
@@ -342,38 +349,15 @@ pub fn walk<'a, L: Ledger>(
     ensures counted { RisesWithin (IsExpandedIn w.now ranking recce.now) steps.old steps.new }
 {
     let mut table = Vec::new(alloc);
-    let mut chains = new_chains(alloc);
     let earleme = recce.place();
     visit_end(
-        alloc,
-        recce,
-        w,
-        ranking,
-        arena,
-        earleme,
-        0,
-        &mut chains,
-        found,
-        &mut table,
-        work,
-        steps,
+        alloc, recce, w, ranking, arena, earleme, 0, found, &mut table, work, steps,
     )?;
     for back in 0..earleme {
         let first = found.keys.as_slice().len();
         let end = earleme - 1 - back;
         visit_end(
-            alloc,
-            recce,
-            w,
-            ranking,
-            arena,
-            end,
-            first,
-            &mut chains,
-            found,
-            &mut table,
-            work,
-            steps,
+            alloc, recce, w, ranking, arena, end, first, found, &mut table, work, steps,
         )?;
     }
     Ok(table)

@@ -91,7 +91,6 @@ pub struct Stats {
 }
 
 /// The shared packed forest of a reading.
-#[derive(Drop)]
 pub struct Forest<'a> {
     recce: &'a Recce<'a>,
     written: &'a Written,
@@ -103,6 +102,21 @@ pub struct Forest<'a> {
     root: Option<u32>,
     // how many hidden items were given
     expanded: u64,
+}
+
+impl<'a> Drop for Forest<'a> {
+    fn drop(self) {
+        let Forest {
+            recce: _,
+            written: _,
+            ranking: _,
+            keys: _,
+            table: _,
+            wholes: _,
+            root: _,
+            expanded: _,
+        } = self;
+    }
 }
 
 impl<'a> Model for Forest<'a> {
@@ -162,10 +176,13 @@ impl<'a> Forest<'a> {
         ensures counted { RisesWithin (IsExpandedIn w.now ranking recce.now) steps.old steps.new }
     {
         let mut found = Found::new(alloc);
-        Forest::grow_in(alloc, arena, recce, w, ranking, &mut found, steps)
+        let mut work = Work::new(alloc);
+        Forest::grow_in(
+            alloc, arena, recce, w, ranking, &mut found, &mut work, steps,
+        )
     }
 
-    // The same, where there is a place for what is found, with nothing in it yet.
+    // The same, where there is room for what is found and for the work, with nothing in it yet.
     fn grow_in<L: Ledger>(
         alloc: Global,
         arena: &'a Bump,
@@ -173,21 +190,22 @@ impl<'a> Forest<'a> {
         w: &'a Written,
         ranking: Ranking,
         found: &mut Found,
+        work: &mut Work,
         steps: &mut Steps<L>,
     ) -> Result<Forest<'a>, AllocError>
         requires checked { IsChecked w.now }
         requires flat { IsFlatOf recce.now.flat w.now }
         requires tree { HasTree recce.now }
         requires none { found.old.keys.keys ≡ [] }
+        requires heads { work.old.chains.heads.items ≡ [] }
+        requires below { work.old.chains.below.items ≡ [] }
+        requires start { work.old.expanded ≡ 0 }
         ensures reading { IfOk result (λ f. (f.written ≡ w.now) × (f.flat ≡ recce.now.flat) × (f.start ≡ recce.now.start) × (f.edges ≡ recce.now.edges) × (f.place ≡ earleme_of recce.now) × (f.ranking ≡ ranking)) }
         ensures forest { IfOk result (λ f. IsForest f) }
         ensures counted { RisesWithin (IsExpandedIn w.now ranking recce.now) steps.old steps.new }
     {
         let root = begin(recce, &mut found.keys)?;
-        let mut work = Work::new(alloc);
-        let table = walk(alloc, recce, w, ranking, arena, found, &mut work, steps)?;
-        let expanded = work.expanded;
-        drop(work);
+        let table = walk(alloc, recce, w, ranking, arena, found, work, steps)?;
         differ(&found.keys);
         let keys = Vec::from_slice(alloc, found.keys.as_slice())?;
         Ok(Forest {
@@ -198,7 +216,7 @@ impl<'a> Forest<'a> {
             table,
             wholes: replace(&mut found.wholes, Vec::new(alloc)),
             root,
-            expanded,
+            expanded: work.expanded,
         })
     }
 

@@ -1,11 +1,14 @@
 // The command as clap reads it.
-ghost use Rattle.std.specs.Prelude.{◌≡◌, false, Some, IfOk, codes};
-ghost use Rattle.clap.specs.Words.{app_of, new_rule, rule_of};
+ghost use Rattle.std.specs.Prelude.{◌≡◌, false, Some, IfOk, fold, codes};
+ghost use Rattle.clap.specs.Words.{app_of, new_rule, rule_of, with_rule};
 ghost use Rattle.clap.specs.declared.builder.action.ArgAction.TheVariants.{SetTrue};
-ghost use Rattle.command_line.specs.Command.{with_options, slif_app};
+ghost use Rattle.command_line.specs.Command.{option_rule, slif_app};
 
 use clap::{Arg, ArgAction, Command};
 use std::alloc::{AllocError, Global};
+
+// The options with a value, by their long names.
+const WITH_VALUE: &[&str] = &["grammar", "input", "first", "rank", "show", "at", "size"];
 
 // An option with a value, by its long name.
 fn option<'a>(alloc: Global, name: &'a str) -> Arg<'a>
@@ -30,15 +33,19 @@ fn operand<'a>(alloc: Global, name: &'a str) -> Arg<'a>
     Arg::new(alloc, name)
 }
 
-// Adds the options of what is read, and of which derivations are told.
-fn with_options<'a>(alloc: Global, command: Command<'a>) -> Result<Command<'a>, AllocError>
-    ensures { IfOk result (λ r. app_of r ≡ with_options (app_of command.entry)) }
+// Adds an option with a value for each of the names.
+fn with_options<'a>(
+    alloc: Global,
+    command: Command<'a>,
+    names: &[&'a str],
+) -> Result<Command<'a>, AllocError>
+    ensures { IfOk result (λ r. app_of r ≡ fold (λ app name. with_rule app (option_rule name.now)) (app_of command.entry) names.now) }
 {
-    command
-        .arg(option(alloc, "grammar"))?
-        .arg(option(alloc, "input"))?
-        .arg(option(alloc, "first"))?
-        .arg(option(alloc, "rank"))
+    let mut command = command;
+    for name in names {
+        command = command.arg(option(alloc, *name))?;
+    }
+    Ok(command)
 }
 
 /// The operand JOB, and the options of all jobs.
@@ -50,10 +57,8 @@ pub fn slif_command<'a>(alloc: Global) -> Result<Command<'a>, AllocError>
         Command::new(alloc, "slif")
             .no_binary_name(true)
             .disable_help_flag(true),
+        WITH_VALUE,
     )?
-    .arg(option(alloc, "show"))?
-    .arg(option(alloc, "at"))?
-    .arg(option(alloc, "size"))?
     .arg(flag(alloc, "stats"))?
     .arg(operand(alloc, "JOB"))
 }

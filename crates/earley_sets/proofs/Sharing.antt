@@ -6,7 +6,7 @@ use Rattle.recognizer_model.specs.declared.Item.{Item}
 use Rattle.recognizer_model.specs.Flat.{FlatGrammar}
 use Rattle.recognizer_model.specs.Counts.{IsListOf}
 use Rattle.item_rows.specs.Rows.{ItemRows, shared_at}
-use Rattle.earley_sets.specs.Begun.{AreBegun, IsNoted, AreLists}
+use Rattle.earley_sets.specs.Begun.{AreBegun, IsNoted, AreLists, KeepsSets}
 use Rattle.earley_sets.specs.Tried.{MakesOneLater, TriesBegun}
 use Rattle.earley_sets.proofs.Noting.{Entries}
 use Rattle.earley_sets.proofs.Rising.{rises_as}
@@ -63,6 +63,9 @@ module _ (g : FlatGrammar) (old new : ItemRows) (items : List Item) (ok : (list 
   lists_are : new.shared ≡ old.shared ++ ok.0 ∷ []
   lists_are = ap (λ (r : ItemRows). r.shared) ok.1
 
+  pub shared_keeps : KeepsSets old new
+  shared_keeps = record { flat = ap (λ (r : ItemRows). r.flat) ok.1; sets = ap (λ (r : ItemRows). r.sets) ok.1 }
+
   pub shared_more : (notes : Entries) → AreLists g old.shared notes → AreLists g new.shared notes
   shared_more notes are = subst (λ l. AreLists g l notes) (sym lists_are) (lists_more g old.shared ok.0 notes are)
 
@@ -70,7 +73,7 @@ module _ (g : FlatGrammar) (old new : ItemRows) (items : List Item) (ok : (list 
     last_is : shared_at new.shared number ≡ ok.0
     last_is = ap (λ l. shared_at l number) lists_are ∙ (ap (shared_at (old.shared ++ ok.0 ∷ [])) last ∙ list_last g old.shared ok.0)
 
-    last_below : number < length new.shared
+    pub last_below : number < length new.shared
     last_below = let l = ap (λ (l : List (List Item)). length l) lists_are in let k = last_there g old.shared ok.0 in omega (arith, l, k, last)
 
     pub shared_begun : (A : ℕ → Type 0) → AreBegun g A items → AreBegun g A (shared_at new.shared number)

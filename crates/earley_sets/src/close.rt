@@ -201,11 +201,20 @@ pub fn refill<L: Ledger>(
 }
 
 /// What is used while a set is made.
-#[derive(Drop)]
 pub struct Work {
     pub set: IndexSet<Item>,
     pub next: Vec<Item>,
     pub ending: Vec<HeldEdge>,
+}
+
+impl Drop for Work {
+    fn drop(self) {
+        let Work {
+            set: _,
+            next: _,
+            ending: _,
+        } = self;
+    }
 }
 
 impl Work {

@@ -18,12 +18,22 @@ use std::alloc::{AllocError, Global};
 use std::sync::ledger::Ledger;
 
 /// The numbers of the lists, by the symbols that are awaited, and what is used while one is made.
-#[derive(Drop)]
 pub struct Lists {
     pub numbers: IndexMap<Vec<u32>, u32>,
     symbols: Vec<u32>,
     set: IndexSet<Item>,
     next: Vec<Item>,
+}
+
+impl Drop for Lists {
+    fn drop(self) {
+        let Lists {
+            numbers: _,
+            symbols: _,
+            set: _,
+            next: _,
+        } = self;
+    }
 }
 
 /// No list is made.

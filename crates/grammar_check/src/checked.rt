@@ -76,8 +76,13 @@ pub fn check(alloc: Global, w: &Written) -> Result<Checked<'_>, GrammarRefusal>
     ensures of { IfErr result (IsOf w.now) }
 {
     let analysis = Analysis::analyse(alloc, w)?;
-    first_fault(alloc, &analysis)?;
-    Ok(Checked { analysis })
+    match first_fault(alloc, &analysis) {
+        Ok(()) => Ok(Checked { analysis }),
+        Err(refusal) => {
+            drop(analysis);
+            Err(refusal)
+        }
+    }
 }
 
 impl<'a> Checked<'a> {

@@ -31,12 +31,24 @@ impl Model for FlatParts {
 }
 
 /// A flat grammar: plain rules without levels and without empty ones, over symbols that may be nullable.
-#[derive(Debug, Drop)]
+#[derive(Debug)]
 pub struct Flat {
     symbols: Vec<FlatSymbol>,
     nullable: Vec<bool>,
     rules: Vec<FlatRule>,
     tops: Vec<u32>,
+}
+
+// Written out, so that whoever lets it go does so by one call.
+impl Drop for Flat {
+    fn drop(self) {
+        let Flat {
+            symbols: _,
+            nullable: _,
+            rules: _,
+            tops: _,
+        } = self;
+    }
 }
 
 impl Model for Flat {

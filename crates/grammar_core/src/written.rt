@@ -15,11 +15,21 @@ const MOST: usize = 16_777_215;
 const MOST_PARTS: usize = 1_000;
 
 /// A grammar. Its symbols have different names, and its rules and starts name its own symbols.
-#[derive(Drop)]
 pub struct Written {
     names: IndexSet<String>,
     rules: Vec<WrittenRule>,
     starts: Vec<SymbolId>,
+}
+
+// Written out, so that whoever lets it go does so by one call.
+impl Drop for Written {
+    fn drop(self) {
+        let Written {
+            names: _,
+            rules: _,
+            starts: _,
+        } = self;
+    }
 }
 
 impl Model for Written {

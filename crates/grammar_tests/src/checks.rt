@@ -135,7 +135,7 @@ fn stars_are_nullable(rt: HostRuntime) -> Result<(), Fail> {
 // Rules, starts, and what the check tells.
 type Case = (&'static [Plain], &'static [u32], &'static str);
 
-const CASES: &[Case] = &[
+static CASES: &[Case] = &[
     (&[], &[S], "no rules"),
     (&[(S, &[Y], 0)], &[], "no start symbol"),
     (
@@ -162,7 +162,7 @@ const CASES: &[Case] = &[
 ];
 
 // Of several cycles the least, and none that cannot be met.
-const CYCLES: &[Case] = &[
+static CYCLES: &[Case] = &[
     (
         &[(S, &[Y], 0), (T, &[X], 0), (X, &[T], 0), (X, &[Y], 0)],
         &[S],
@@ -199,7 +199,7 @@ const CYCLES: &[Case] = &[
 ];
 
 // With S ::= X+
-const SEQUENCES: &[Case] = &[
+static SEQUENCES: &[Case] = &[
     (&[(X, &[Y], 0)], &[S], ""),
     (
         &[(S, &[Y], 0)],
@@ -215,7 +215,7 @@ const SEQUENCES: &[Case] = &[
 ];
 
 // With S ::= X+
-const FAULTS: &[Case] = &[
+static FAULTS: &[Case] = &[
     (ENDLESS, STARTS, "start symbol Y has no rule"),
     (
         ENDLESS,

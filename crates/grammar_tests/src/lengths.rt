@@ -13,7 +13,7 @@ const SHORT_CUT: Language = Language {
 };
 
 // No token ends at the second place.
-const PLACES: &[Step] = &[
+static PLACES: &[Step] = &[
     Step::Keeps(3),
     Step::Expects(&[1, 3]),
     Step::Push(1, 2, Ok(())),
@@ -34,7 +34,7 @@ const PLACES: &[Step] = &[
 ];
 
 // Nothing ends before the end of a long token.
-const FAR: &[Step] = &[
+static FAR: &[Step] = &[
     Step::Push(3, LONG, Ok(())),
     Step::Pass(LONG - 1),
     Step::Keeps(0),
@@ -45,7 +45,7 @@ const FAR: &[Step] = &[
     Step::Ends(true),
 ];
 
-const ANSWERS: &[Step] = &[
+static ANSWERS: &[Step] = &[
     Step::Push(2, LONGEST + 1, Err(AlternativeRefusal::Unexpected)),
     Step::Push(1, LONGEST + 1, Err(AlternativeRefusal::BadLength)),
     Step::Push(1, u32::MAX, Err(AlternativeRefusal::BadLength)),

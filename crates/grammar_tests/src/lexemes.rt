@@ -76,7 +76,7 @@ fn are_starts(candidates: &[u32], starts: usize) -> bool
 // A text, a place, candidates, and what is found: the length of the longest match and the candidates that have it, or nothing.
 type Case = (&'static str, usize, &'static [u32], &'static [u32]);
 
-const CASES: &[Case] = &[
+static CASES: &[Case] = &[
     ("12ab 7", 0, &[0, 1, 2], &[4, 1]),
     ("12ab 7", 0, &[0, 2], &[2, 0]),
     ("12ab 7", 5, &[0, 1, 2, 3], &[1, 0, 1]),

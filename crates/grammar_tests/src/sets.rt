@@ -86,7 +86,7 @@ fn sum_goes(alloc: Global, table: &[Step]) -> Result<bool, anyhow::Error> {
     so
 }
 
-const SUM_SIZES: &[Step] = &[
+static SUM_SIZES: &[Step] = &[
     Step::Read(&[2, 1, 2, 1, 2]),
     Step::Ends(true),
     Step::AllKeep(&[3, 3, 3, 5, 4, 7]),
@@ -100,7 +100,7 @@ fn sets_of_a_sum(rt: HostRuntime) -> Result<(), Fail> {
 }
 
 // What is answered behind a number, and what is expected there.
-const SUM_ANSWERS: &[Step] = &[
+static SUM_ANSWERS: &[Step] = &[
     Step::Read(&[2]),
     Step::Push(2, 0, Err(AlternativeRefusal::Unexpected)),
     Step::Push(1, 0, Err(AlternativeRefusal::BadLength)),
@@ -139,7 +139,7 @@ const PAIR: Language = Language {
 // A grammar, the tokens that are read, and how many items each set keeps and hides. Some tree spans them all.
 type Row = (Language, &'static [Step]);
 
-const ROWS: &[Row] = &[
+static ROWS: &[Row] = &[
     (
         TWICE,
         &[
@@ -169,7 +169,7 @@ const ROWS: &[Row] = &[
     ),
 ];
 
-const ANSWERS: &[Step] = &[
+static ANSWERS: &[Step] = &[
     Step::Read(&[1]),
     Step::Push(2, 0, Err(AlternativeRefusal::BadLength)),
     Step::Push(1, 1, Err(AlternativeRefusal::Unexpected)),

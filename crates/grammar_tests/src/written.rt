@@ -13,7 +13,7 @@ fn two_symbols(alloc: Global) -> Result<Written, CoreRefusal> {
 // A left side, a part and how often it stands there, a level, and the answer, which is the number of the rule.
 type Row = (u32, u32, usize, u32, Result<u32, CoreRefusal>);
 
-const ROWS: &[Row] = &[
+static ROWS: &[Row] = &[
     (2, 0, 1, 5, Err(CoreRefusal::BadSymbol)),
     (0, 2, 1001, 1, Err(CoreRefusal::BadSymbol)),
     (0, 1, 1001, 2, Err(CoreRefusal::BadLevel)),

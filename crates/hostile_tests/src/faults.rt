@@ -27,7 +27,9 @@ const NAMED_REPORTED: Given<'static> = Given {
 
 // Runs that end well, what they tell, and how many calls the files and the input get: a file three, an input one for two bytes and one
 // that finds nothing.
-const JOBS: [(Given<'static>, &[u8], u8, u8); 10] = [
+type Job = (Given<'static>, &'static [u8], u8, u8);
+
+static JOBS: [Job; 10] = [
     (SUM, SUM_LINES, 3, 4),
     (COUNTED, COUNTED_LINES, 3, 4),
     (TREES, TREE_LINES, 3, 4),
@@ -40,18 +42,24 @@ const JOBS: [(Given<'static>, &[u8], u8, u8); 10] = [
     (NAMED_REPORTED, REPORTED_LINES, 6, 0),
 ];
 
+// Whether each call of a device fails as it should in a job.
+fn job_breaks(alloc: Global, job: &Job, device: Device) -> Result<bool, AllocError> {
+    let (given, out, files, input) = job;
+    let case = Case {
+        given: *given,
+        status: 0,
+        out,
+        err: b"",
+        files: *files,
+        input: *input,
+    };
+    all_break(alloc, &case, device)
+}
+
 // Whether each call of a device fails as it should in each job.
 fn fail_in_turn(alloc: Global, device: Device) -> Result<bool, AllocError> {
-    for (given, out, files, input) in &JOBS {
-        let case = Case {
-            given: *given,
-            status: 0,
-            out,
-            err: b"",
-            files: *files,
-            input: *input,
-        };
-        if !all_break(alloc, &case, device)? {
+    for job in &JOBS {
+        if !job_breaks(alloc, job, device)? {
             return Ok(false);
         }
     }
@@ -111,7 +119,7 @@ const NOT_OPENED: Given<'static> = Given {
 };
 
 // Runs, the calls on the standard error that fail, and what stands there.
-const ERR_ROWS: [(Given<'static>, &[u64], &[u8]); 5] = [
+static ERR_ROWS: [(Given<'static>, &[u64], &[u8]); 5] = [
     (NO_GRAMMAR, &[1], CANNOT_WRITE),
     (NO_GRAMMAR, &[2], b"slif: usagslif: write fault\n"),
     (NO_GRAMMAR, &[1, 2], b""),
@@ -119,17 +127,25 @@ const ERR_ROWS: [(Given<'static>, &[u64], &[u8]); 5] = [
     (NOT_OPENED, &[2], b"slif: cann"),
 ];
 
-#[test]
-fn the_line_of_a_refusal_fails_in_turn(rt: HostRuntime) -> Result<(), Fail> {
+// Whether the line of a refusal fails as it should.
+fn refusals_fail(alloc: Global) -> Result<bool, AllocError> {
     for (given, calls, told) in &ERR_ROWS {
         let broken = given.failing(Device::Err, calls);
-        assert!(rt; ends(rt.alloc(), &broken, 4, b"", told)?);
+        if !ends(alloc, &broken, 4, b"", told)? {
+            return Ok(false);
+        }
     }
+    Ok(true)
+}
+
+#[test]
+fn the_line_of_a_refusal_fails_in_turn(rt: HostRuntime) -> Result<(), Fail> {
+    assert!(rt; refusals_fail(rt.alloc())?);
     Ok(())
 }
 
 // Runs of which the first call of a device fails, and the line that tells it.
-const FAULT_ROWS: [(Given<'static>, Device, &[u8]); 8] = [
+static FAULT_ROWS: [(Given<'static>, Device, &[u8]); 8] = [
     (SUM, Device::Files, b"slif: cannot open g.slif\n"),
     (SUM, Device::Input, CANNOT_READ),
     (SUM, Device::Out, CANNOT_WRITE),
@@ -140,11 +156,19 @@ const FAULT_ROWS: [(Given<'static>, Device, &[u8]); 8] = [
     (WORKED, Device::Out, CANNOT_WRITE),
 ];
 
-#[test]
-fn the_line_of_a_fault_fails_in_turn(rt: HostRuntime) -> Result<(), Fail> {
+// Whether the line of a fault fails as it should.
+fn faults_fail(alloc: Global) -> Result<bool, AllocError> {
     for (given, device, line) in &FAULT_ROWS {
         let broken = given.failing(*device, &[1]);
-        assert!(rt; line_breaks(rt.alloc(), &broken, line)?);
+        if !line_breaks(alloc, &broken, line)? {
+            return Ok(false);
+        }
     }
+    Ok(true)
+}
+
+#[test]
+fn the_line_of_a_fault_fails_in_turn(rt: HostRuntime) -> Result<(), Fail> {
+    assert!(rt; faults_fail(rt.alloc())?);
     Ok(())
 }

@@ -101,7 +101,7 @@ fn a_grammar_is_as_long_as_it_may_be(rt: HostRuntime) -> Result<(), Fail> {
 }
 
 // Jobs whose input is a file.
-const FILED: [Given<'static>; 3] = [
+static FILED: [Given<'static>; 3] = [
     Given {
         words: &["run", "--grammar", "g.slif", "--input", "i.txt"],
         ..SUM

@@ -9,7 +9,7 @@ use std::test::Fail;
 
 const USAGE: &[u8] = b"slif: usage: slif JOB [options]; jobs: run, check, expect, progress, work\n";
 
-const WRONG_WORDS: [&[&str]; 12] = [
+static WRONG_WORDS: [&[&str]; 12] = [
     &[],
     &["run"],
     &["jump", "--grammar", "g.slif"],
@@ -59,7 +59,7 @@ fn other_words_are_refused(rt: HostRuntime) -> Result<(), Fail> {
 }
 
 // Texts that have no description, and faults of descriptions, in the order in which they are sought.
-const TEXT_ROWS: [(&[u8], &[u8]); 17] = [
+static TEXT_ROWS: [(&[u8], &[u8]); 17] = [
     (b"S ::= \xFF", b"slif: grammar: not UTF-8 at byte 6\n"),
     (
         b"S ::= 'a",
@@ -125,7 +125,7 @@ const TEXT_ROWS: [(&[u8], &[u8]); 17] = [
 ];
 
 // What a check refuses of the structural grammar, and then of the lexical one.
-const CHECK_ROWS: [(&[u8], &[u8]); 8] = [
+static CHECK_ROWS: [(&[u8], &[u8]); 8] = [
     (
         b":start ::= T\nS ::= 'a'",
         b"slif: grammar: start symbol T has no rule\n",
@@ -197,7 +197,7 @@ fn bad_grammars_are_refused(rt: HostRuntime) -> Result<(), Fail> {
 }
 
 // Grammars, inputs that are not read to their end, how many reads an input takes, and the line of each.
-const STOP_ROWS: [(&[u8], &[u8], u8, &[u8]); 7] = [
+static STOP_ROWS: [(&[u8], &[u8], u8, &[u8]); 7] = [
     (
         SUMS,
         b"x",
@@ -269,7 +269,7 @@ fn inputs_are_refused_alike_by_all_jobs(rt: HostRuntime) -> Result<(), Fail> {
 }
 
 // Jobs whose input is a file that is not read to its end.
-const FILED: [Given<'static>; 3] = [
+static FILED: [Given<'static>; 3] = [
     Given {
         words: &["run", "--grammar", "g.slif", "--input", "i.txt"],
         file: b"x",
@@ -297,7 +297,7 @@ fn inputs_of_files_are_refused_alike(rt: HostRuntime) -> Result<(), Fail> {
 }
 
 // Grammars, inputs that end without a derivation, how many reads an input takes, and what is expected behind it.
-const END_ROWS: [(&[u8], &[u8], u8, &[u8]); 5] = [
+static END_ROWS: [(&[u8], &[u8], u8, &[u8]); 5] = [
     (
         SUMS,
         b"",
@@ -360,7 +360,7 @@ fn places_past_the_last_set_are_refused(rt: HostRuntime) -> Result<(), Fail> {
 }
 
 // A file of the grammar that has no such name is asked for alone; one of the input is asked for behind the grammar's.
-const NAME_ROWS: [(&[&str], &[u8], usize); 3] = [
+static NAME_ROWS: [(&[&str], &[u8], usize); 3] = [
     (
         &["expect", "--grammar", "h\n\x1B.slif"],
         b"slif: cannot open h\\n\\x{1b}.slif\n",

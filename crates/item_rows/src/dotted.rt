@@ -24,7 +24,6 @@ pub struct Span {
 }
 
 /// The dotted rules of a flat grammar. Each is an item with the origin 0.
-#[derive(Drop)]
 pub struct DottedRules<'g> {
     flat: &'g Flat,
     // in the order of rows
@@ -39,6 +38,20 @@ pub struct DottedRules<'g> {
     whole: Span,
     // those that wait for terminals
     scanned: Span,
+}
+
+impl<'g> Drop for DottedRules<'g> {
+    fn drop(self) {
+        let DottedRules {
+            flat: _,
+            rules: _,
+            firsts: _,
+            numbers: _,
+            spans: _,
+            whole: _,
+            scanned: _,
+        } = self;
+    }
 }
 
 impl<'g> Model for DottedRules<'g> {

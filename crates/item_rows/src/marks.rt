@@ -13,10 +13,15 @@ use std::alloc::{AllocError, Global};
 
 /// The terminals that the row waits for that was marked last, each once, and a mark for each symbol, by their numbers: the row
 /// that was marked last with it, counted from 1. A symbol of a terminal is marked where the terminal is listed.
-#[derive(Drop)]
 pub struct Marks {
     pub rows: Vec<u32>,
     pub listed: Vec<SymbolId>,
+}
+
+impl Drop for Marks {
+    fn drop(self) {
+        let Marks { rows: _, listed: _ } = self;
+    }
 }
 
 // The terminal of a symbol.

@@ -17,7 +17,6 @@ use std::alloc::{AllocError, Global};
 use std::marker::Model;
 
 /// Rows of items of a flat grammar. A row is a list of its own and one that rows share.
-#[derive(Drop)]
 pub struct Rows<'g> {
     dotted: DottedRules<'g>,
     // the packed items that are a row's own, row by row
@@ -31,6 +30,20 @@ pub struct Rows<'g> {
     // what is put last
     next: Vec<u64>,
     numbers: Vec<u32>,
+}
+
+impl<'g> Drop for Rows<'g> {
+    fn drop(self) {
+        let Rows {
+            dotted: _,
+            kernels: _,
+            begun: _,
+            lists: _,
+            count: _,
+            next: _,
+            numbers: _,
+        } = self;
+    }
 }
 
 impl<'g> Model for Rows<'g> {

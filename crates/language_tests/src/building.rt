@@ -97,7 +97,11 @@ fn tells(alloc: Global, lines: &[Line], wanted: (Fault, usize, &str)) -> Result<
     let d = described(alloc, lines)?;
     match check(alloc, &d) {
         Ok(()) => Ok(false),
-        Err(refusal) => Ok(fault_of(&refusal) == Some(wanted)),
+        Err(refusal) => {
+            let told = fault_of(&refusal) == Some(wanted);
+            drop(refusal);
+            Ok(told)
+        }
     }
 }
 
@@ -251,10 +255,12 @@ fn is_as(alloc: Global, built: &Built, expected: &Expected) -> Result<bool, Allo
 
 fn is_built(alloc: Global, expected: &Expected) -> Result<bool, Fail> {
     let built = built(alloc, expected.text.as_bytes())?;
-    Ok(is_as(alloc, &built, expected)?)
+    let told = is_as(alloc, &built, expected);
+    drop(built);
+    Ok(told?)
 }
 
-const BUILT: &[Expected] = &[
+static BUILT: &[Expected] = &[
     // Quoted texts and classes of structural rules are lexemes with rules of their own.
     Expected {
         text: "S ::= 'ab' [c] 'ab' ('d')",

@@ -16,7 +16,7 @@ fn refusal(alloc: Global, class: &str) -> Option<ClassRefusal> {
     }
 }
 
-const MEMBERS: &[(&str, char, bool)] = &[
+static MEMBERS: &[(&str, char, bool)] = &[
     ("[a-c]", 'b', true),
     ("[a-c]", '-', false),
     ("[+-]", '-', true),
@@ -32,7 +32,7 @@ const MEMBERS: &[(&str, char, bool)] = &[
     ("[^]", 'λ', true),
 ];
 
-const REFUSALS: &[(&str, ClassRefusal)] = &[
+static REFUSALS: &[(&str, ClassRefusal)] = &[
     ("[z-a]", ClassRefusal::BadRange),
     ("[\\q]", ClassRefusal::BadEscape),
     ("[[:cntrl:]]", ClassRefusal::BadPosix),

@@ -170,7 +170,7 @@ const JSON_INPUT: &[u8] = br#"{"name": "Ada", "tags": ["x", 10, -2.5e3], # note
  "ok": true, "none": null, "empty": {}}"#;
 
 /// Grammars and inputs.
-pub(crate) const EXAMPLES: [(&[u8], &[u8]); 7] = [
+pub(crate) static EXAMPLES: [(&[u8], &[u8]); 7] = [
     (SUM_GRAMMAR, SUM_INPUT),
     (OPERATORS_GRAMMAR, OPERATORS_INPUT),
     (INI_GRAMMAR, INI_INPUT),

@@ -25,11 +25,13 @@ fn are_starts(candidates: &[u32], starts: usize) -> bool
 }
 
 fn are_equal(answer: &Option<LexAnswer>, other: &Option<LexAnswer>) -> bool {
-    match (answer, other) {
-        (None, None) => true,
-        (Some(a), Some(b)) => a.length == b.length && a.matched.as_slice() == b.matched.as_slice(),
-        _ => false,
-    }
+    let Some(a) = answer else {
+        return other.is_none();
+    };
+    let Some(b) = other else {
+        return false;
+    };
+    a.length == b.length && a.matched.as_slice() == b.matched.as_slice()
 }
 
 // Whether both find the same of some starts at a place.
@@ -119,7 +121,9 @@ fn agrees(
 {
     let flat = l0.flat;
     let mut high = Lexer::new(alloc, l0)?;
-    agree(alloc, low, &mut high, flat.start_count(), chars, all)
+    let told = agree(alloc, low, &mut high, flat.start_count(), chars, all);
+    drop(high);
+    told
 }
 
 // Whether the lexers of a grammar agree on a text.
@@ -130,16 +134,35 @@ fn lexers_agree(alloc: Global, p: &Prepared, chars: &Chars) -> Result<bool, Allo
     let all = all_starts(alloc, p)?;
     let sets = p.sets();
     let mut low = Lexer::with_limit(alloc, Lexical { flat, sets }, LIMIT)?;
-    agrees(alloc, &mut low, Lexical { flat, sets }, chars, &all)
+    let told = agrees(alloc, &mut low, Lexical { flat, sets }, chars, &all);
+    drop(low);
+    told
+}
+
+// The grammar of a text, which is accepted.
+fn accepted(alloc: Global, grammar: &[u8]) -> Result<Prepared, Fail> {
+    match prepare(alloc, built(alloc, grammar)?) {
+        Ok(p) => Ok(p),
+        Err(refusal) => {
+            drop(refusal);
+            Err(Fail::new("the grammar is refused"))
+        }
+    }
+}
+
+fn agree_on_input(alloc: Global, p: &Prepared, input: &[u8]) -> Result<bool, Fail> {
+    let chars = chars_of(alloc, input)?;
+    let told = lexers_agree(alloc, p, &chars);
+    drop(chars);
+    Ok(told?)
 }
 
 // Whether they agree on the input of an example.
 fn is_so(alloc: Global, grammar: &[u8], input: &[u8]) -> Result<bool, Fail> {
-    let chars = chars_of(alloc, input)?;
-    match prepare(alloc, built(alloc, grammar)?) {
-        Ok(p) => Ok(lexers_agree(alloc, &p, &chars)?),
-        Err(_) => Ok(false),
-    }
+    let p = accepted(alloc, grammar)?;
+    let told = agree_on_input(alloc, &p, input);
+    drop(p);
+    told
 }
 
 #[test]

@@ -176,7 +176,7 @@ fn is_place(text: &Chars, at: usize, line: u32, column: u32) -> bool {
     at <= text.len() && at < 100 && text.line_column(at) == (line, column)
 }
 
-const PLACES: [(usize, u32, u32); 5] = [(0, 1, 1), (1, 1, 2), (2, 1, 3), (3, 2, 1), (5, 3, 1)];
+static PLACES: [(usize, u32, u32); 5] = [(0, 1, 1), (1, 1, 2), (2, 1, 3), (3, 2, 1), (5, 3, 1)];
 
 fn are_places(text: &Chars) -> bool {
     for (at, line, column) in &PLACES {

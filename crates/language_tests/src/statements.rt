@@ -17,7 +17,7 @@ fn read(alloc: Global, text: &str) -> Result<usize, StatementRefusal> {
     }
 }
 
-const ACCEPTED: &[(&str, usize)] = &[
+static ACCEPTED: &[(&str, usize)] = &[
     ("", 0),
     ("; ;", 0),
     (":start ::= <a  b>", 1),
@@ -38,7 +38,7 @@ const ACCEPTED: &[(&str, usize)] = &[
     ("S ::= T lexeme default = :start ::= S", 3),
 ];
 
-const REFUSED: &[(&str, usize)] = &[
+static REFUSED: &[(&str, usize)] = &[
     ("S ::= 'a'*", 0),
     ("S ::= 'a' ; 'b'", 12),
     ("S ~ 'a' || 'b'", 0),

@@ -30,15 +30,17 @@ fn described(alloc: Global, text: &[u8]) -> Result<Description, Fail>
         return Err(Fail::new("too long"));
     }
     let chars = chars_of(alloc, text)?;
-    let d = parsed(alloc, &chars)?;
-    Ok(d)
+    let said = parsed(alloc, &chars);
+    drop(chars);
+    Ok(said?)
 }
 
 /// What is built of a text.
 pub(crate) fn built(alloc: Global, text: &[u8]) -> Result<Built, Fail>
     ensures { IfOk result (λ b. IsBuilt b) }
 {
-    let d = described(alloc, text)?;
-    let b = build(alloc, &d)?;
-    Ok(b)
+    let description = described(alloc, text)?;
+    let said = build(alloc, &description);
+    drop(description);
+    Ok(said?)
 }

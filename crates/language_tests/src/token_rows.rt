@@ -7,7 +7,7 @@ use std::alloc::Global;
 // A token's kind, and where it begins and ends.
 type Row = (TokenKind, usize, usize);
 
-const ROWS: &[Row] = &[
+static ROWS: &[Row] = &[
     (TokenKind::Word, 0, 1),
     (TokenKind::Mark, 2, 5),
     (TokenKind::Quote, 6, 11),

@@ -100,7 +100,7 @@ fn descriptors_tell_actions(rt: HostRuntime) {
     assert!(rt; matches!(read_descriptor(rt.alloc(), "::first"), Ok(Action::First)));
 }
 
-const OTHERS: &[&str] = &["[name,]", "[Name]", "name", "::last", "[", ""];
+static OTHERS: &[&str] = &["[name,]", "[Name]", "name", "::last", "[", ""];
 
 #[test]
 fn other_texts_tell_no_action(rt: HostRuntime) {

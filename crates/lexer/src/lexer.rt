@@ -28,11 +28,19 @@ pub struct LexAnswer {
 }
 
 /// The states of a lexical grammar that were met. It is seen as the grammar.
-#[derive(Drop)]
 pub struct Lexer<'g> {
     machine: Machine<'g>,
     // room that is used again
     done: Vec<u32>,
+}
+
+impl<'g> Drop for Lexer<'g> {
+    fn drop(self) {
+        let Lexer {
+            machine: _,
+            done: _,
+        } = self;
+    }
 }
 
 impl<'g> Model for Lexer<'g> {

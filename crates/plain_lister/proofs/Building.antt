@@ -300,6 +300,16 @@ rank_high g x (suc zero) = go (part_count (rule_at g x) == 1)
     go false = omega arith
 rank_high g x (suc (suc n)) = omega arith
 
+pub whole_rank : (g : Grammar) (i n : ℕ) → n ≡ part_count (rule_at g i) → 0 < n → rank g i n ≤ 1
+whole_rank g i zero e h = absurd (omega arith)
+whole_rank g i (suc zero) e h = subst (λ m. cond (m == 1) 1 3 ≤ 1) e (omega arith)
+whole_rank g i (suc (suc n)) e h = omega arith
+
+pub key_before : (g : Grammar) (i n : ℕ) → IsKey g i n → 2 ≤ n → IsKey g i (n - 1)
+key_before g i zero k h = absurd (omega arith)
+key_before g i (suc zero) k h = absurd (omega arith)
+key_before g i (suc (suc m)) k h = let e : suc (suc m) - 1 ≡ suc m = omega arith in rw e (k.0, omega (arith, k.1))
+
 pub key_rule : (g : Grammar) (i n : ℕ) → IsKey g i n → 0 < n → i < length g.rules
 key_rule g i zero k h = absurd (omega arith)
 key_rule g i (suc n) k h = k.0

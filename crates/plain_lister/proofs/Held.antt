@@ -10,6 +10,12 @@ use Rattle.plain_lister.specs.Adding.{at, Within, Keeps}
 use Rattle.plain_lister.specs.Table.{Key, same_key, value_at, Holds, Grows, IsSound, IsListed}
 use Rattle.plain_lister.proofs.Arena.{keeps_all, keeps_then, within_keeps, map_keeps}
 
+-- a store with no lists is sound
+pub sound_none : (g : Grammar) (input : List ℕ) (s : Store) → s.memo.entries ≡ [] → IsSound g input s
+sound_none g input s e x n p q k found =
+    let none = subst (λ l. lookup (same_key (x, n, p, q)) l ≡ Some k) e found in
+    absurd cc
+
 pub grows_none : (s : Store) → Grows s s
 grows_none s = record { keeps = keeps_all s.cells.items; lists = λ k places e. e }
 

@@ -1,5 +1,5 @@
 -- The lines of a list are those of its trees.
-use Rattle.std.proofs.Common.{◌≡◌, ℕ, suc, ◌+◌, List, [], ◌∷◌, ◌++◌, Some, map, length, ◌⊎◌, inl, inr, refl, sym, ap, ◌∙◌, subst, arith, length-append}
+use Rattle.std.proofs.Common.{◌≡◌, ℕ, zero, suc, ◌<◌, ◌+◌, List, [], ◌∷◌, ◌++◌, Some, map, length, ◌⊎◌, inl, inr, refl, sym, ap, ◌∙◌, subst, arith, length-append}
 use Rattle.std.specs.Prelude.{slice_get, slice_index_or}
 use Rattle.std.proofs.lemmas.Option.{slice_get-get_or}
 use Rattle.finite_sets.proofs.Lists.{get_left, get_last, get_pushed}
@@ -13,6 +13,9 @@ use Rattle.plain_lister.specs.Told.{AllTold, IsValueTold, AreValuesTold}
 use Rattle.plain_lister.specs.Listing.{trees_of, line_of}
 use Rattle.plain_lister.specs.Lines.{value_line}
 use Rattle.plain_lister.proofs.Pooled.{value_of_told}
+
+pub values_none : (xs : List Told) (ids : List ℕ) → ids ≡ [] → AreValuesTold xs [] ids
+values_none xs ids e = subst (AreValuesTold xs []) (sym e) (refl, λ j id some. absurd cc)
 
 -- one more value that was told
 pub values_more : (xs : List Told) (trees ids : List ℕ) (k id : ℕ) → AreValuesTold xs trees ids → IsValueTold xs k id → AreValuesTold xs (trees ++ k ∷ []) (ids ++ id ∷ [])
@@ -46,3 +49,8 @@ pub ids_are : (d : Derivations) (pool : List Value) (xs : List Told) (ids : List
 ids_are d pool xs ids all values k e lt =
     let (n, at, t) = values.1 k (slice_index_or ids k e) (slice_get-get_or ids k e lt) in
     (value_of_told d pool xs d.cells.items n (slice_index_or ids k e) all t).0
+
+pub line_at : (f : ℕ → List ℕ) (ids : List ℕ) (k id : ℕ) → k < length ids → id ≡ slice_index_or ids k id → slice_get (map f ids) k ≡ Some (f id)
+line_at f [] k id lt at = absurd (omega arith)
+line_at f (x ∷ xs) zero id lt at = ap (λ n. Some (f n)) (sym at)
+line_at f (x ∷ xs) (suc k) id lt at = line_at f xs k id (omega arith) at

@@ -4,7 +4,7 @@
 ghost use Rattle.std.specs.Prelude.{◌≡◌, ◌<◌, ◌≤◌, ℕ, length, All, IfOk, slice_get, Some, map, string_bytes};
 ghost use Rattle.grammar_model.specs.Grammar.{lhs_of, slot_of};
 ghost use Rattle.plain_lister.specs.Arena.{tree_at};
-ghost use Rattle.plain_lister.specs.Table.{listed};
+ghost use Rattle.plain_lister.specs.Table.{listed, IsSound};
 ghost use Rattle.grammar_model.specs.Trees.{Tree};
 ghost use Rattle.grammar_model.specs.Simple.{IsSimple};
 ghost use Rattle.grammar_model.specs.Characters.{IsAllOfCharacters, tree_line};
@@ -81,6 +81,28 @@ fn copied_bytes(alloc: Global, bytes: &[u8]) -> Result<Vec<u8>, AllocError>
     bytes.iter().copied().collect(alloc)
 }
 
+// The trees of the first start over the input, as places in the store's cells.
+fn trees_of_start(
+    alloc: Global,
+    w: &Written,
+    input: &[u8],
+    store: &mut Store,
+) -> Result<Vec<u32>, AllocError>
+    requires simple { IsSimple w.now }
+    requires started { 0 < length w.now.starts }
+    requires short { length input.now ≤ 1000 }
+    requires sound { IsSound w.now input.now store.old }
+    ensures { IfOk result (λ trees. (start : ℕ) × (slice_get w.now.starts 0 ≡ Some start) × (map (tree_at store.new.cells.items) trees.items ≡ listed w.now input.now (slot_of start) 0 (length input.now))) }
+{
+    w.known();
+    let start = w.start(0);
+    if input.is_empty() {
+        return Ok(Vec::new(alloc));
+    }
+    let k = list_at(alloc, w, input, store, start.0 as usize, 0, 0, input.len())?;
+    copied(alloc, store.lists[k].as_slice())
+}
+
 // The trees of the first start over the input, in cells.
 fn trees_in_cells(
     alloc: Global,
@@ -92,27 +114,12 @@ fn trees_in_cells(
     requires short { length input.now ≤ 1000 }
     ensures { IfOk result (λ r. (start : ℕ) × (slice_get w.now.starts 0 ≡ Some start) × (map (tree_at r.0.items) r.1.items ≡ listed w.now input.now (slot_of start) 0 (length input.now))) }
 {
-    w.known();
-    let start = w.start(0);
     let mut store = Store {
         cells: Vec::new(alloc),
         lists: Vec::new(alloc),
         memo: IndexMap::new(alloc),
     };
-    if input.is_empty() {
-        return Ok((store.cells, Vec::new(alloc)));
-    }
-    let k = list_at(
-        alloc,
-        w,
-        input,
-        &mut store,
-        start.0 as usize,
-        0,
-        0,
-        input.len(),
-    )?;
-    let trees = copied(alloc, store.lists[k].as_slice())?;
+    let trees = trees_of_start(alloc, w, input, &mut store)?;
     Ok((store.cells, trees))
 }
 

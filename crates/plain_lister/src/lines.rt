@@ -127,6 +127,22 @@ pub fn value_told(told: &[Told], k: usize) -> Result<ValueId, AllocError>
     }
 }
 
+// These values, and behind them the value of the tree that a cell stands for.
+fn with_last(
+    alloc: Global,
+    told: &[Told],
+    children: &[ValueId],
+    last: usize,
+) -> Result<Vec<ValueId>, AllocError>
+    ensures { IfOk result (λ ids. (id : ℕ) × IsValueTold told.now last id × (ids.items ≡ children.now ++ id ∷ [])) }
+{
+    let id = value_told(told, last)?;
+    let mut ids = Vec::new(alloc);
+    ids.extend_from_slice(children)?;
+    ids.push(id)?;
+    Ok(ids)
+}
+
 // What a cell stands for, from what earlier ones do.
 fn told_of(
     alloc: Global,
@@ -145,16 +161,10 @@ fn told_of(
             let children = prefix_told(told, prefix as usize)?;
             Ok(Told::Value(node_value(alloc, list, pool, rule, children)?))
         }
-        Cell::First(last) => {
-            let mut ids = Vec::new(alloc);
-            ids.push(value_told(told, last as usize)?)?;
-            Ok(Told::Prefix(ids))
-        }
+        Cell::First(last) => Ok(Told::Prefix(with_last(alloc, told, &[], last as usize)?)),
         Cell::Next(prefix, last) => {
-            let mut ids = Vec::new(alloc);
-            ids.extend_from_slice(prefix_told(told, prefix as usize)?)?;
-            ids.push(value_told(told, last as usize)?)?;
-            Ok(Told::Prefix(ids))
+            let children = prefix_told(told, prefix as usize)?;
+            Ok(Told::Prefix(with_last(alloc, told, children, last as usize)?))
         }
     }
 }

@@ -31,7 +31,7 @@ const DEEP: Language = Language {
     lists: &[],
 };
 
-const ROWS: &[Row<'static>] = &[
+static ROWS: &[Row<'static>] = &[
     (
         RANKED,
         Input::Row(&[3]),

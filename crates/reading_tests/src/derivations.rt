@@ -14,10 +14,11 @@ use std::alloc::{AllocError, Global};
 use std::sync::ledger::Ledger;
 use std::test::Fail;
 use tree_iter::TreeIter;
+use value_text::NoMemory;
 
 // The texts of derivations: a token with its place, or with both its ends where it is longer, a nulled symbol as `B@0`, a rule as
 // `0(..)`.
-const ROWS: &[Row<'static>] = &[
+static ROWS: &[Row<'static>] = &[
     (
         SUM,
         Input::Row(&[1]),
@@ -192,7 +193,7 @@ fn text_now(
     w: &Written,
     iter: &TreeIter<'_>,
     style: Style,
-) -> Result<String, anyhow::Error>
+) -> Result<String, NoMemory>
     requires { IsSome iter.now.current }
 {
     let mut tree = Vec::with_capacity(alloc, iter.steps_needed())?;
@@ -208,7 +209,7 @@ fn put_texts<L: Ledger>(
     style: Style,
     texts: &mut Vec<String>,
     steps: &mut Steps<L>,
-) -> Result<(), anyhow::Error> {
+) -> Result<(), NoMemory> {
     for _ in 0..MOST_TREES {
         if !iter.next(steps)? {
             break;
@@ -228,7 +229,7 @@ pub(crate) fn texts_of<L: Ledger>(
     forest: &Forest<'_>,
     style: Style,
     steps: &mut Steps<L>,
-) -> Result<Vec<String>, anyhow::Error> {
+) -> Result<Vec<String>, NoMemory> {
     let mut iter = TreeIter::new(alloc, forest)?;
     let mut texts = Vec::new(alloc);
     put_texts(alloc, w, &mut iter, style, &mut texts, steps)?;
@@ -259,7 +260,7 @@ pub(crate) fn have_texts<L: Ledger>(
     forest: &Forest<'_>,
     wanted: &[&str],
     steps: &mut Steps<L>,
-) -> Result<bool, anyhow::Error> {
+) -> Result<bool, NoMemory> {
     let texts = texts_of(alloc, w, forest, Style::Short, steps)?;
     Ok(are_texts(&texts, wanted))
 }
@@ -271,7 +272,7 @@ pub(crate) fn have_count<L: Ledger>(
     forest: &Forest<'_>,
     count: usize,
     steps: &mut Steps<L>,
-) -> Result<bool, anyhow::Error> {
+) -> Result<bool, NoMemory> {
     let texts = texts_of(alloc, w, forest, Style::Short, steps)?;
     Ok(texts.len() == count && do_differ(&texts))
 }

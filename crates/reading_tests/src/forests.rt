@@ -8,7 +8,7 @@ use bocage::{Alternatives, Cause, Forest};
 use grammar_core::{FlatSource, RuleId};
 use grammar_model::Ranking;
 use slif_base::Steps;
-use std::alloc::Global;
+use std::alloc::{AllocError, Global};
 use std::sync::ledger::Ledger;
 use std::test::Fail;
 
@@ -27,7 +27,7 @@ pub(crate) const RANKED: Language = Language {
     lists: &[],
 };
 
-const ROWS: &[Row<'static>] = &[
+static ROWS: &[Row<'static>] = &[
     // Three operands. The whole: top, three sums, three predecessors of two parts, three of one, three numbers.
     (
         SUM,
@@ -166,7 +166,7 @@ fn counts_of<L: Ledger>(
     alloc: Global,
     forest: &Forest<'_>,
     steps: &mut Steps<L>,
-) -> Result<Vec<u64>, anyhow::Error> {
+) -> Result<Vec<u64>, AllocError> {
     let mut counts = vec![in alloc; 0; forest.node_count()]?;
     for _ in 0..forest.node_count() {
         for n in 0..forest.node_count().min(counts.len()) {
@@ -182,7 +182,7 @@ fn derivation_count<L: Ledger>(
     alloc: Global,
     forest: &Forest<'_>,
     steps: &mut Steps<L>,
-) -> Result<u64, anyhow::Error> {
+) -> Result<u64, AllocError> {
     let counts = counts_of(alloc, forest, steps)?;
     Ok(match forest.root() {
         Some(root) => count_at(&counts, root),
@@ -244,7 +244,7 @@ pub(crate) fn has_size<L: Ledger>(
     counts: (usize, usize, u64),
     rules: &[Starts],
     steps: &mut Steps<L>,
-) -> Result<bool, anyhow::Error> {
+) -> Result<bool, AllocError> {
     let same = forest.node_count() == counts.0
         && alternative_count(forest, steps) == counts.1
         && derivation_count(alloc, forest, steps)? == counts.2

@@ -26,7 +26,7 @@ const PAIR: Language = Language {
     lists: &[],
 };
 
-const ROWS: &[Row<'static>] = &[
+static ROWS: &[Row<'static>] = &[
     (
         SHORT_CUT,
         Input::Spans(&[(1, 0, 2), (3, 0, 3), (2, 2, 1)], 3),

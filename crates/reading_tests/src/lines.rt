@@ -14,6 +14,7 @@ use slif_base::Steps;
 use std::alloc::{AllocError, Global};
 use std::sync::ledger::Ledger;
 use std::test::Fail;
+use value_text::NoMemory;
 
 const SUM: &[u8] = b"1+1+1+1+1+1+1+1+1";
 
@@ -101,12 +102,12 @@ pub(crate) fn have_lines<L: Ledger>(
     forest: &Forest<'_>,
     wanted: &[u8],
     steps: &mut Steps<L>,
-) -> Result<bool, anyhow::Error> {
+) -> Result<bool, NoMemory> {
     let texts = texts_of(alloc, w, forest, Style::Line, steps)?;
     Ok(lines_of(alloc, &texts)?.as_slice() == wanted)
 }
 
-fn put_lines(list: &SlowList, lines: &mut Vec<u8>) -> Result<(), anyhow::Error> {
+fn put_lines(list: &SlowList, lines: &mut Vec<u8>) -> Result<(), NoMemory> {
     for k in 0..list.len() {
         list.append_line(k, lines)?;
     }
@@ -126,6 +127,22 @@ fn plain_lines(alloc: Global, w: &Written, input: &[u8]) -> Result<Vec<u8>, anyh
     Ok(lines)
 }
 
+fn has_plain_lines(
+    alloc: Global,
+    w: &Written,
+    input: &[u8],
+    tokens: &[u32],
+) -> Result<bool, anyhow::Error>
+    requires simple { IsSimple w.now }
+    requires started { 0 < length w.now.starts }
+    requires bytes { All (λ b. b < 128) input.now }
+    requires short { length input.now ≤ 1000 }
+{
+    let lines = plain_lines(alloc, w, input)?;
+    let wanted = Wanted::Lines(&lines);
+    is_so(alloc, w, &Input::Row(tokens), Ranking::Rule, &wanted)
+}
+
 fn has_same_lines(alloc: Global, input: &[u8], tokens: &[u32]) -> Result<bool, anyhow::Error>
     requires short { length input.now ≤ 1000 }
 {
@@ -133,14 +150,9 @@ fn has_same_lines(alloc: Global, input: &[u8], tokens: &[u32]) -> Result<bool, a
         bail!("no characters of one byte");
     }
     let w = sum_grammar(alloc)?;
-    let lines = plain_lines(alloc, &w, input)?;
-    is_so(
-        alloc,
-        &w,
-        &Input::Row(tokens),
-        Ranking::Rule,
-        &Wanted::Lines(&lines),
-    )
+    let so = has_plain_lines(alloc, &w, input, tokens);
+    drop(w);
+    so
 }
 
 #[test]

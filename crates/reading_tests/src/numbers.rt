@@ -34,7 +34,7 @@ const MIXED: Language = Language {
     lists: &[],
 };
 
-const ROWS: &[Row<'static>] = &[
+static ROWS: &[Row<'static>] = &[
     (
         SUM,
         Input::Row(&[1, 2, 1, 2, 1]),

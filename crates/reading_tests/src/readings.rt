@@ -18,6 +18,7 @@ use slif_base::Steps;
 use std::alloc::Global;
 use std::marker::Brand;
 use std::sync::ledger::{Blank, Ledger};
+use value_text::NoMemory;
 
 /// What is read: tokens that are one place long, or tokens with their places, up to a place.
 #[derive(Clone, Copy)]
@@ -67,11 +68,11 @@ fn forest_is_so<L: Ledger>(
     forest: &Forest<'_>,
     wanted: &Wanted<'_>,
     steps: &mut Steps<L>,
-) -> Result<bool, anyhow::Error> {
+) -> Result<bool, NoMemory> {
     match wanted {
         Wanted::Forest(nodes, alternatives, derivations, rules) => {
             let counts = (*nodes, *alternatives, *derivations);
-            has_size(alloc, forest, counts, rules, steps)
+            Ok(has_size(alloc, forest, counts, rules, steps)?)
         }
         Wanted::Numbers(numbers) => Ok(numbers_of(&forest.stats()) == *numbers),
         Wanted::Trees(trees) => have_texts(alloc, w, forest, trees, steps),
@@ -94,14 +95,14 @@ fn reading_is_so<L: Ledger>(
     requires flat { IsFlatOf recce.now.flat w.now }
 {
     if let Wanted::Reports(reports) = wanted {
-        return has_reports(alloc, w, recce, reports);
+        return Ok(has_reports(alloc, w, recce, reports)?);
     }
     let arena = Bump::new(alloc);
     match Forest::build(alloc, &arena, recce, w, ranking, steps) {
         Ok(forest) => {
             let so = forest_is_so(alloc, w, &forest, wanted, steps);
             drop(forest);
-            so
+            Ok(so?)
         }
         Err(refusal) => Ok(refusal == ForestRefusal::NoParse && matches!(wanted, Wanted::NoParse)),
     }

@@ -70,7 +70,7 @@ pub(crate) fn has_reports(
     w: &Written,
     recce: &Recce<'_>,
     wanted: &[&[Line]],
-) -> Result<bool, anyhow::Error>
+) -> Result<bool, ProgressRefusal>
     requires { IsFlatOf recce.now.flat w.now }
 {
     let end = recce.place() + 1;

@@ -209,7 +209,7 @@ const JSON_LINES: &[u8] =
 "#;
 
 // Grammars, inputs, and the lines of all derivations.
-const EXAMPLES: [(&[u8], &[u8], &[u8]); 6] = [
+static EXAMPLES: [(&[u8], &[u8], &[u8]); 6] = [
     (OPERATORS_GRAMMAR, OPERATORS_INPUT, OPERATORS_LINES),
     (INI_GRAMMAR, INI_INPUT, INI_LINES),
     (CSV_GRAMMAR, CSV_INPUT, CSV_LINES),
@@ -243,7 +243,7 @@ fn examples_give_their_values(rt: HostRuntime) -> Result<(), Fail> {
 }
 
 // The sum is shown as trees. Of the sentence the first reading by no rank is that of the first rule.
-const OTHER_WORDS: [Told<'static>; 2] = [
+static OTHER_WORDS: [Told<'static>; 2] = [
     (
         Given {
             words: &[

@@ -28,7 +28,7 @@ const DIVIDED: Given<'static> = Given {
 const DIVIDED_LINES: &[u8] =
     b"[\"S\",[\"T\",\"x\",\"x\"],[\"T\",\"x\"]]\n[\"S\",[\"T\",\"x\"],[\"T\",\"x\",\"x\"]]\n";
 
-const RANK_ROWS: [Told<'static>; 7] = [
+static RANK_ROWS: [Told<'static>; 7] = [
     (
         Given {
             words: &["run", "--grammar", "g.slif"],
@@ -87,7 +87,7 @@ fn derivations_are_told_by_rank(rt: HostRuntime) -> Result<(), Fail> {
     Ok(())
 }
 
-const SHOW_ROWS: [Told<'static>; 3] = [
+static SHOW_ROWS: [Told<'static>; 3] = [
     (SUM, SUM_LINES),
     (TREES, TREE_LINES),
     (
@@ -105,7 +105,7 @@ fn all_derivations_are_told_as_arrays_or_trees(rt: HostRuntime) -> Result<(), Fa
     Ok(())
 }
 
-const FIRST_ROWS: [Told<'static>; 2] = [
+static FIRST_ROWS: [Told<'static>; 2] = [
     (
         Given {
             words: &["run", "--grammar", "g.slif", "--first", "2"],
@@ -150,7 +150,7 @@ fn the_input_is_read_from_its_file(rt: HostRuntime) -> Result<(), Fail> {
 }
 
 // Grammars, inputs, and the values of their derivations.
-const VALUE_ROWS: [(&[u8], &[u8], &[u8]); 7] = [
+static VALUE_ROWS: [(&[u8], &[u8], &[u8]); 7] = [
     (
         b":default ::= action => ::array\nS ::= X*\nX ~ 'a'\n",
         b"",
@@ -190,7 +190,7 @@ fn values_are_told(rt: HostRuntime) -> Result<(), Fail> {
     Ok(())
 }
 
-const CHECK_ROWS: [Told<'static>; 3] = [
+static CHECK_ROWS: [Told<'static>; 3] = [
     // The input is left alone.
     (
         Given {
@@ -222,7 +222,7 @@ fn accepted_grammars_are_told(rt: HostRuntime) -> Result<(), Fail> {
     Ok(())
 }
 
-const EXPECT_ROWS: [(&[u8], &[u8], &[u8]); 5] = [
+static EXPECT_ROWS: [(&[u8], &[u8], &[u8]); 5] = [
     (SUMS, b"1", b"'+'\n"),
     (SUMS, b"", b"N\n"),
     (OPERATORS, b"1+", EXPECTED_LINES),
@@ -245,7 +245,7 @@ fn what_is_expected_is_told(rt: HostRuntime) -> Result<(), Fail> {
 }
 
 // The report of the sum `1+` at each place, and that of a list behind its first separator.
-const REPORT_ROWS: [Told<'static>; 4] = [
+static REPORT_ROWS: [Told<'static>; 4] = [
     (
         Given {
             words: &["progress", "--at", "0", "--grammar", "g.slif"],
@@ -278,7 +278,7 @@ fn reports_are_told(rt: HostRuntime) -> Result<(), Fail> {
 }
 
 // The numbers are those of the whole forest, however many values are told. Of a start that spans nothing there is no node.
-const NUMBER_ROWS: [Told<'static>; 3] = [
+static NUMBER_ROWS: [Told<'static>; 3] = [
     (COUNTED, COUNTED_LINES),
     (
         Given {
@@ -328,7 +328,7 @@ const ALONE: Given<'static> = Given {
     ..WORKED
 };
 
-const WORK_ROWS: [Told<'static>; 3] = [
+static WORK_ROWS: [Told<'static>; 3] = [
     (ALONE, WORKED_LINES),
     (
         Given {

@@ -91,7 +91,7 @@ fn all_ask(alloc: Global, rows: &[(&[&str], Asked)]) -> Result<bool, AllocError>
     Ok(true)
 }
 
-const OPTIONS: [(&[&str], Asked); 2] = [
+static OPTIONS: [(&[&str], Asked); 2] = [
     (
         &[
             "--first=07",
@@ -115,7 +115,7 @@ fn options_stand_in_any_order_and_spelling(rt: HostRuntime) -> Result<(), Fail> 
     Ok(())
 }
 
-const JOBS: [(&[&str], Asked); 4] = [
+static JOBS: [(&[&str], Asked); 4] = [
     (&["check", "--grammar", "g"], Asked::Check),
     (&["expect", "--input=-x", "--grammar=--"], Asked::Expect),
     (
@@ -131,7 +131,7 @@ fn each_job_is_read(rt: HostRuntime) -> Result<(), Fail> {
     Ok(())
 }
 
-const NOTHING: [&[&str]; 16] = [
+static NOTHING: [&[&str]; 16] = [
     &[],
     &["run"],
     &["--grammar", "g"],

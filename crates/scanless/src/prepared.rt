@@ -29,13 +29,25 @@ use std::marker::Model;
 use value_text::Meaning;
 
 /// Grammars and tables of a text that are accepted, and the flat forms of the grammars. It is seen as what was built.
-#[derive(Drop)]
 pub struct Prepared {
     built: Built,
     flat: Flat,
     lexical: Option<Flat>,
     abilities: Vec<Ability>,
     lookups: Lookups,
+}
+
+// Written out, so that whoever lets it go does so by one call.
+impl Drop for Prepared {
+    fn drop(self) {
+        let Prepared {
+            built: _,
+            flat: _,
+            lexical: _,
+            abilities: _,
+            lookups: _,
+        } = self;
+    }
 }
 
 impl Model for Prepared {

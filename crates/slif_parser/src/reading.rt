@@ -17,12 +17,23 @@ use std::sync::ledger::{Blank, Ledger};
 use text_reading::{INPUT_LIMIT, Refusal, input_chars, input_too_long, read_text};
 
 /// An input that is read to its end. It is seen as the grammar, the characters, and the spans of the tokens.
-#[derive(Drop)]
 pub struct Reading<'g> {
     pub(crate) prepared: &'g Prepared,
     pub(crate) chars: Chars,
     pub(crate) tokens: scanless::Reading<'g>,
     pub(crate) arena: Bump,
+}
+
+// Written out, so that whoever lets it go does so by one call.
+impl<'g> Drop for Reading<'g> {
+    fn drop(self) {
+        let Reading {
+            prepared: _,
+            chars: _,
+            tokens: _,
+            arena: _,
+        } = self;
+    }
 }
 
 impl<'g> Model for Reading<'g> {

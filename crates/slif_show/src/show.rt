@@ -6,7 +6,7 @@ ghost use Rattle.tree_text.specs.Reading.{IsRead};
 use crate::stop::Stop;
 use crate::words::Form;
 use slif_base::{Sink, write_all};
-use std::alloc::Global;
+use std::alloc::{AllocError, Global};
 use tree_text::{
     Difference, Part, ReadRefusal, first_difference, nodes_of, push_difference, push_dot,
     push_indented, push_json, push_svg, read_value,
@@ -84,6 +84,24 @@ fn value_of(alloc: Global, line: usize, text: &str) -> Result<Vec<Part>, Stop>
     }
 }
 
+/// Appends a tree in this form, behind an empty line where it is not the first.
+fn push_tree(
+    alloc: Global,
+    form: Form,
+    first: bool,
+    parts: &[Part],
+    out: &mut String,
+) -> Result<(), AllocError> {
+    if let Form::Json = form {
+        return push_json(parts, out);
+    }
+    if !first {
+        out.push('\n')?;
+    }
+    let nodes = nodes_of(alloc, parts)?;
+    push_indented(alloc, &nodes, out)
+}
+
 fn show_each<K: Sink>(
     alloc: Global,
     form: Form,
@@ -97,66 +115,82 @@ fn show_each<K: Sink>(
             break;
         };
         out.clear();
-        if let Form::Json = form {
-            push_json(&parts, &mut out)?;
-        } else {
-            if !first {
-                out.push('\n')?;
-            }
-            push_indented(alloc, &nodes_of(alloc, &parts)?, &mut out)?;
-        }
+        let pushed = push_tree(alloc, form, first, &parts, &mut out);
+        drop(parts);
+        pushed?;
         first = false;
         write_all(sink, out.as_bytes())?;
     }
     Ok(())
 }
 
-/// Writes all trees in one picture.
+/// The parts of the values on all lines.
+fn all_parts(alloc: Global, lines: &mut Lines<'_>) -> Result<Vec<Part>, Stop> {
+    let mut all = Vec::new(alloc);
+    for _ in 0..u64::MAX {
+        let Some(mut parts) = lines.next_value(alloc)? else {
+            break;
+        };
+        all.append(&mut parts)?;
+    }
+    Ok(all)
+}
+
+/// Appends one picture of all trees.
+fn push_picture(
+    alloc: Global,
+    form: Form,
+    lines: &mut Lines<'_>,
+    out: &mut String,
+) -> Result<(), Stop> {
+    let parts = all_parts(alloc, lines)?;
+    let nodes = nodes_of(alloc, &parts)?;
+    let pushed = if let Form::Dot = form {
+        push_dot(alloc, &nodes, out)
+    } else {
+        push_svg(alloc, &nodes, out)
+    };
+    Ok(pushed?)
+}
+
+/// Appends where two trees first differ.
+fn push_first_difference(
+    alloc: Global,
+    one: &[Part],
+    other: &[Part],
+    out: &mut String,
+) -> Result<(), AllocError> {
+    let one = nodes_of(alloc, one)?;
+    let other = nodes_of(alloc, other)?;
+    match first_difference(&one, &other) {
+        Difference::Same => out.push_str("the same\n"),
+        Difference::Within(at) => push_difference(&one, &other, at, out),
+        Difference::Apart => out.push_str("nothing in common\n"),
+    }
+}
+
+/// Appends where the trees on the first two lines first differ.
+fn push_comparison(alloc: Global, lines: &mut Lines<'_>, out: &mut String) -> Result<(), Stop> {
+    let one = lines.next_value(alloc)?.ok_or(Stop::NoTwoTrees)?;
+    let other = lines.next_value(alloc)?.ok_or(Stop::NoTwoTrees)?;
+    push_first_difference(alloc, &one, &other, out)?;
+    Ok(())
+}
+
+/// Writes what this form tells of all trees together.
 fn show_all<K: Sink>(
     alloc: Global,
     form: Form,
     lines: &mut Lines<'_>,
     sink: &mut K,
 ) -> Result<(), Stop> {
-    let mut all = Vec::new(alloc);
-    for _ in 0..u64::MAX {
-        let Some(parts) = lines.next_value(alloc)? else {
-            break;
-        };
-        for part in parts {
-            all.push(part)?;
-        }
-    }
-    let nodes = nodes_of(alloc, &all)?;
     let mut out = String::new(alloc);
-    if let Form::Dot = form {
-        push_dot(alloc, &nodes, &mut out)?;
+    let pushed = if let Form::Difference = form {
+        push_comparison(alloc, lines, &mut out)
     } else {
-        push_svg(alloc, &nodes, &mut out)?;
-    }
-    write_all(sink, out.as_bytes())?;
-    Ok(())
-}
-
-fn show_difference<K: Sink>(
-    alloc: Global,
-    lines: &mut Lines<'_>,
-    sink: &mut K,
-) -> Result<(), Stop> {
-    let Some(one) = lines.next_value(alloc)? else {
-        return Err(Stop::NoTwoTrees);
+        push_picture(alloc, form, lines, &mut out)
     };
-    let Some(other) = lines.next_value(alloc)? else {
-        return Err(Stop::NoTwoTrees);
-    };
-    let one = nodes_of(alloc, &one)?;
-    let other = nodes_of(alloc, &other)?;
-    let mut out = String::new(alloc);
-    match first_difference(&one, &other) {
-        Difference::Same => out.push_str("the same\n")?,
-        Difference::Within(at) => push_difference(&one, &other, at, &mut out)?,
-        Difference::Apart => out.push_str("nothing in common\n")?,
-    }
+    pushed?;
     write_all(sink, out.as_bytes())?;
     Ok(())
 }
@@ -174,7 +208,6 @@ pub(crate) fn show<K: Sink>(
     };
     match form {
         Form::Indent | Form::Json => show_each(alloc, form, &mut lines, sink),
-        Form::Dot | Form::Svg => show_all(alloc, form, &mut lines, sink),
-        Form::Difference => show_difference(alloc, &mut lines, sink),
+        Form::Dot | Form::Svg | Form::Difference => show_all(alloc, form, &mut lines, sink),
     }
 }

@@ -43,11 +43,20 @@ pub struct Slots<'a> {
 }
 
 /// A grammar, and which of its slots are nullable, productive and accessible.
-#[derive(Drop)]
 pub struct Analysis<'a> {
     written: &'a Written,
     levels: Jagged<u32>,
     tables: Tables,
+}
+
+impl<'a> Drop for Analysis<'a> {
+    fn drop(self) {
+        let Analysis {
+            written: _,
+            levels: _,
+            tables: _,
+        } = self;
+    }
 }
 
 impl<'a> Model for Analysis<'a> {

@@ -1,5 +1,5 @@
 //! Steps from the starts, as clauses.
-ghost use Rattle.std.specs.Prelude.{◌≡◌, ℕ, suc, ◌+◌, ◌-◌, ◌<◌, ◌≤◌, ◌^◌, length, slice_index, false, Contains, IfOk, OnOk, IsTrue, ◌↔◌};
+ghost use Rattle.std.specs.Prelude.{◌≡◌, ℕ, suc, ◌+◌, ◌-◌, ◌<◌, ◌≤◌, ◌^◌, [], length, slice_index, false, Contains, IfOk, OnOk, IsTrue, ◌↔◌};
 ghost use Rattle.grammar_model.specs.Grammar.{rule_at, lhs_of, level_of, child_slot, slot_count};
 ghost use Rattle.grammar_model.specs.Analysis.{IsLive};
 ghost use Rattle.slot_analysis.specs.Slots.{number, end_of, IsNumbering, fact_clause};
@@ -150,6 +150,26 @@ fn push_parts(
     Ok(())
 }
 
+fn push_steps(
+    w: &Packed<'_>,
+    bases: &[u32],
+    productive: &NumberSet,
+    total: u32,
+    clauses: &mut Clauses,
+) -> Result<(), AllocError>
+    requires numbering { IsNumbering w.now bases.now }
+    requires productive { IsAnalysis false w.now bases.now productive.now }
+    requires total { total ≡ slice_index bases.now (length w.now.names) }
+    requires small { total + total < 2 ^ 32 }
+    requires empty { clauses.old ≡ [] }
+    ensures { OnOk result ((c : Clause) → Contains clauses.new c ↔ IsStep w.now bases.now total c) }
+{
+    push_starts(w, bases, clauses)?;
+    push_uses(total, clauses)?;
+    push_nexts(w, bases, total, clauses)?;
+    push_parts(w, bases, productive, total, clauses)
+}
+
 fn steps_of(
     alloc: Global,
     w: &Packed<'_>,
@@ -164,10 +184,7 @@ fn steps_of(
     ensures { IfOk result (λ clauses. (c : Clause) → Contains clauses c ↔ IsStep w.now bases.now total c) }
 {
     let mut clauses = Clauses::new(alloc);
-    push_starts(w, bases, &mut clauses)?;
-    push_uses(total, &mut clauses)?;
-    push_nexts(w, bases, total, &mut clauses)?;
-    push_parts(w, bases, productive, total, &mut clauses)?;
+    push_steps(w, bases, productive, total, &mut clauses)?;
     Ok(clauses)
 }
 

@@ -29,7 +29,7 @@ pub fn next_symbol(flat: &Flat, thread: Thread) -> Option<u32>
     ensures symbol { IfSome result (λ x. x < length flat.now.symbols) }
 {
     flat.known();
-    flat.rhs(thread.rule).get(thread.dot as usize).copied()
+    flat.part(thread.rule, thread.dot)
 }
 
 /// Whether the thread waits for the symbol.

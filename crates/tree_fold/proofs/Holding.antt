@@ -1,5 +1,6 @@
 -- What is held while the steps of a derivation are folded.
 use Rattle.std.proofs.Common.{◌≡◌, ℕ, zero, suc, ◌+◌, ◌-◌, ◌<◌, ◌≤◌, List, [], ◌∷◌, ◌++◌, Result, Ok, Err, length, map, take, drop, get_or, refl, sym, ap, ◌∙◌, arith, subst, length-append}
+use Rattle.std.specs.Prelude.{IfOk, IfErr, OnOk, IsErrAnd, MatchResult}
 use Rattle.std.proofs.lemmas.List.{take_more, take_all, take-append-le, drop-append-le, take-append-drop, map-append, length-take-le}
 use Rattle.std.proofs.Math.Seq.{drop-cons}
 use Rattle.grammar_model.specs.declared.Show.TheVariants.{Array as ShowArray}
@@ -21,6 +22,21 @@ use Rattle.tree_fold.specs.Failing.{IsFailure}
 pub failure_weaker : {E : Type 0} (P Q : E → Type 0) → ((e : E) → P e → Q e) → (e : FoldError E) → IsFailure P e → IsFailure Q e
 failure_weaker P Q f (Semantics e) p = f e p
 failure_weaker P Q f NoMemory p = p
+
+-- what is so of what a semantics made is so of a value, and of an error as the failure that it is
+pub value_kept : {V E D : Type 0} (made : Result V E) (result : Result V D) (post : E → D → Type 0) (P : Result V E → Type 0) → MatchResult made (λ v. result ≡ Ok v) (λ e. IsErrAnd result (post e)) → P made → IfOk result (λ v. P (Ok v))
+value_kept (Ok v) result post P told p = subst (λ r. IfOk r (λ v. P (Ok v))) (sym told) p
+value_kept (Err e) (Ok v) post P told p = absurd told
+value_kept (Err e) (Err d) post P told p = tt
+
+pub failure_kept : {V E : Type 0} (made : Result V E) (result : Result V (FoldError E)) (P : Result V E → Type 0) → MatchResult made (λ v. result ≡ Ok v) (λ e. IsErrAnd result (λ d. d ≡ Semantics e)) → P made → IfErr result (IsFailure (λ e. P (Err e)))
+failure_kept (Ok v) result P told p = subst (λ r. IfErr r (IsFailure (λ e. P (Err e)))) (sym told) tt
+failure_kept (Err e) (Ok v) P told p = absurd told
+failure_kept (Err e) (Err d) P told p = subst (IsFailure (λ e. P (Err e))) (sym told) p
+
+pub left_kept : {V D : Type 0} (result : Result V D) (P : Type 0) → P → OnOk result P
+left_kept (Ok v) P p = p
+left_kept (Err d) P p = tt
 
 -- THE STEPS THAT ARE LEFT
 

@@ -5,15 +5,16 @@ use Rattle.std.proofs.Math.Seq.{take-append_seam, take-length}
 use Rattle.std.proofs.lemmas.List.{take-append-le, append_assoc, map-append, length-take-le}
 use Rattle.std.proofs.lemmas.List.Sums.{sum_by-cons}
 use Rattle.finite_sets.proofs.Members.{contains_from}
-use Rattle.finite_sets.proofs.Lists.{get_among}
+use Rattle.finite_sets.proofs.Lists.{get_among, got_at}
 use Rattle.grammar_core.specs.declared.steps.TreeStep.{TreeStep}
 use Rattle.grammar_core.specs.Steps.{step_of}
+use Rattle.grammar_model.specs.declared.id.RuleId.{RuleId}
 use Rattle.grammar_model.specs.Grammar.{Grammar}
 use Rattle.grammar_model.specs.Steps.{Step, TokenStep, NulledStep, RuleStep}
 use Rattle.recognizer_model.specs.declared.flat.FlatSymbol.{FlatSymbol}
-use Rattle.recognizer_model.specs.declared.flat.FlatSymbol.TheVariants.{Sequence, Top}
-use Rattle.recognizer_model.specs.Flat.{FlatGrammar}
-use Rattle.recognizer_model.specs.FlatForm.{IsFlatOf, symbol_at, written_symbol}
+use Rattle.recognizer_model.specs.declared.flat.FlatSymbol.TheVariants.{Terminal, Slot, Sequence, Top}
+use Rattle.recognizer_model.specs.Flat.{FlatGrammar, lhs_of}
+use Rattle.recognizer_model.specs.FlatForm.{IsFlatOf, symbol_at, written_symbol, is_list}
 use Rattle.forest_laws.specs.Written.{sum_newest, older, is_list_rule, step_written, counts_after, steps_written}
 use Rattle.tree_iter.specs.declared.writing.CountRow.{CountRow}
 use Rattle.tree_iter.specs.declared.writing.Effect.{Effect}
@@ -185,3 +186,16 @@ on_top g rows done h = record {
 
 pub taken_bound : (rows : List CountRow) (counts : List ℕ) (n : ℕ) (row : CountRow) → AreTakenOff rows n counts row → row.below ≤ length rows
 taken_bound rows counts n row h = linked_bound (λ (r : CountRow). r.count) (λ r. r.below) rows row.below (older n counts) h.rest
+
+-- whether a rule is a list's is told by its left side's symbol
+pub list_by : (g : FlatGrammar) (r x : ℕ) (s : FlatSymbol) → x ≡ lhs_of g r → slice_get g.symbols x ≡ Some s → is_list s ≡ is_list_rule g r
+list_by g r x s same at = ap is_list (sym (got_at g.symbols x s (Top 0) (sym at)).1 ∙ ap (symbol_at g) same)
+
+pub no_list_by : (g : FlatGrammar) (r x : ℕ) (s : FlatSymbol) → x ≡ lhs_of g r → slice_get g.symbols x ≡ Some s → ((i : RuleId) → ¬ (s ≡ Sequence i)) → false ≡ is_list_rule g r
+no_list_by g r x s same at other = no_list s other ∙ list_by g r x s same at
+  where
+    no_list : (s : FlatSymbol) → ((i : RuleId) → ¬ (s ≡ Sequence i)) → false ≡ is_list s
+    no_list (Terminal t) never = refl
+    no_list (Slot symbol level) never = refl
+    no_list (Sequence i) never = absurd (never i refl)
+    no_list (Top k) never = refl

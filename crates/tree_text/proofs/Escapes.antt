@@ -179,6 +179,33 @@ no_escape_end text e c r is =
       | LongEscape begins long small ↦ let bad : [] ≡ 120 ∷ 123 ∷ hex_digit (c / 16) ∷ hex_digit (c % 16) ∷ 125 ∷ r = sym e ∙ begins in cc
     ]
 
+-- a letter behind a backslash
+pub letter_begins : (text rest : List ℕ) (d letter : ℕ) → text ≡ encode_utf8 d ++ rest → d ≡ letter → letter < 128 → text ≡ letter ∷ rest
+letter_begins text rest d letter e same small = begins_small text rest letter small (e ∙ ap (λ c. encode_utf8 c ++ rest) same)
+
+pub letter_escape : (text rest : List ℕ) (d letter c : ℕ) → text ≡ encode_utf8 d ++ rest → d ≡ letter → letter < 128 → escaped c ≡ 92 ∷ letter ∷ [] → 92 ∷ text ≡ escaped c ++ rest
+letter_escape text rest d letter c e same small is = ap (λ l. 92 ∷ l) (letter_begins text rest d letter e same small) ∙ ap (λ l. l ++ rest) (sym is)
+
+marked_small : (c : ℕ) → is_marked c ≡ true → c < 128
+marked_small c e = grind (arith, nat_tests)
+
+pub marked_escape : (text rest : List ℕ) (d : ℕ) → text ≡ encode_utf8 d ++ rest → is_marked d ≡ true → 92 ∷ text ≡ escaped d ++ rest
+marked_escape text rest d e marked = letter_escape text rest d d d e refl (marked_small d marked) (λ i. escaped_by (marked i) (d == 10) (d == 13) (d == 9) (is_control d) d)
+
+plain_not_lf : (c : ℕ) → is_control c ≡ false → (c == 10) ≡ false
+plain_not_lf c e = grind (arith, nat_tests)
+
+plain_not_cr : (c : ℕ) → is_control c ≡ false → (c == 13) ≡ false
+plain_not_cr c e = grind (arith, nat_tests)
+
+plain_not_tab : (c : ℕ) → is_control c ≡ false → (c == 9) ≡ false
+plain_not_tab c e = grind (arith, nat_tests)
+
+-- a character that stands for itself
+pub plain_escape : (text rest : List ℕ) (d : ℕ) → text ≡ encode_utf8 d ++ rest → is_marked d ≡ false → is_control d ≡ false → text ≡ escaped d ++ rest
+plain_escape text rest d e marked control =
+    e ∙ ap (λ l. l ++ rest) (sym (λ i. escaped_by (marked i) (plain_not_lf d control i) (plain_not_cr d control i) (plain_not_tab d control i) (control i) d))
+
 -- what is behind `\x` where an escape begins with it
 pub record Code (text : List ℕ) (c : ℕ) (rest : List ℕ) : Type 0 where
   pub high : ℕ

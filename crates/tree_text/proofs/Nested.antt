@@ -1,5 +1,5 @@
 -- Nodes that are added stand below those that are open.
-use Rattle.std.proofs.Common.{◌≡◌, ℕ, zero, suc, ◌+◌, ◌-◌, ◌<◌, ◌≤◌, List, [], ◌∷◌, ◌++◌, length, map, take, get_or, Option, None, Some, MatchOption, slice_get, refl, sym, ap, ◌∙◌, subst, inl, inr, ◌⊎◌, length-append, length-take, get_or-take, arith}
+use Rattle.std.proofs.Common.{◌≡◌, ℕ, zero, suc, ◌+◌, ◌-◌, ◌<◌, List, [], ◌∷◌, ◌++◌, length, map, take, get_or, Option, None, Some, MatchOption, slice_get, refl, sym, ap, ◌∙◌, subst, inl, inr, ◌⊎◌, length-append, length-take, get_or-take, arith}
 use Rattle.std.proofs.lemmas.Bool.{cases_lt}
 use Rattle.std.proofs.lemmas.List.{get_or_append_left, length-map, map-append, take-map}
 use Rattle.std.specs.Option.{option_map}

@@ -1,9 +1,9 @@
 -- Ids stand for the same values in a pool that has grown.
-use Rattle.std.proofs.Common.{◌≡◌, ℕ, suc, ◌<◌, List, [], ◌∷◌, ◌++◌, length, take, drop, ◌+◌, ◌-◌, ◌≤◌, Bool, true, false, get_or, refl, sym, ap, ◌∙◌, arith, append_assoc, append-nil, length-append, subst}
+use Rattle.std.proofs.Common.{◌≡◌, ℕ, suc, ◌<◌, List, [], ◌∷◌, ◌++◌, length, take, drop, ◌+◌, ◌-◌, ◌≤◌, Bool, true, false, get_or, refl, sym, ap, ◌∙◌, arith, append_assoc, append-nil, length-append, subst, Result, Ok, Err, IfOk, OnErr}
 use Rattle.std.proofs.Math.ListN.{get_or-append}
 use Rattle.std.proofs.Math.Seq.{get_or-append_seam}
 use Rattle.std.proofs.lemmas.List.{map-append, flat_map_more, take_more, take-map, drop-map, length-map}
-use Rattle.std.proofs.lemmas.List.Elements.{All-take, All-drop}
+use Rattle.std.proofs.lemmas.List.Elements.{All-take, All-drop, All-push, All-append}
 use Rattle.std.proofs.lemmas.Grind.{elements, get_or_picked}
 use Rattle.std.specs.List.{flat_map, items_where_true}
 use Rattle.grammar_model.specs.Values.{Value, Undefined, Text, Number, item_values}
@@ -22,6 +22,15 @@ grown_through xs ys zs p q = record { more = p.more ++ q.more; is = q.is ∙ ap 
 
 pub grown_put : (old new : List Value) (id : ℕ) (v : Value) → IsPut old new id v → IsGrown old new
 grown_put old new id v p = record { more = v ∷ []; is = p.values }
+
+-- the pool is as it was
+pub grown_kept : (old new : List Value) → new ≡ old → IsGrown old new
+grown_kept old new e = record { more = []; is = e ∙ sym (append-nil old) }
+
+-- a value was put in, or the pool is as it was
+pub grown_tried : {E : Type 0} (old new : List Value) (v : Value) (r : Result ℕ E) → IfOk r (λ id. IsPut old new id v) → OnErr r (new ≡ old) → IsGrown old new
+grown_tried old new v (Ok id) put kept = grown_put old new id v put
+grown_tried old new v (Err e) put kept = grown_kept old new kept
 
 pub stands_put : (old new : List Value) (id : ℕ) (v : Value) → IsPut old new id v → StandsFor new id v
 stands_put old new id v p = record {
@@ -84,6 +93,19 @@ held_more old new ids ids' id v w g are s e same = values_at-push old new ids id
 
 pub ids_more : (old new : List Value) (ids ids' : List ℕ) (id : ℕ) (v : Value) → IsGrown old new → AreIds old ids → StandsFor new id v → ids' ≡ ids ++ id ∷ [] → AreIds new ids'
 ids_more old new ids ids' id v g are s e = are_ids-push new ids ids' id v s (are_ids-grown old new ids g are) e
+
+-- the ids are the same
+pub ids_kept : (old new : List Value) (ids ids' : List ℕ) → IsGrown old new → AreIds old ids → ids' ≡ ids → AreIds new ids'
+ids_kept old new ids ids' g are e = subst (AreIds new) (sym e) (are_ids-grown old new ids g are)
+
+pub ids_none : (values : List Value) → AreIds values []
+ids_none values k d b = absurd (omega arith)
+
+pub ids_one : (values : List Value) (id : ℕ) (v : Value) → StandsFor values id v → AreIds values (id ∷ [])
+ids_one values id v s = All-push (λ k. k < length values) [] id (ids_none values) s.inside
+
+pub ids_both : (values : List Value) (ids more all : List ℕ) → AreIds values ids → AreIds values more → all ≡ ids ++ more → AreIds values all
+ids_both values ids more all p q e = subst (AreIds values) (sym e) (All-append (λ id. id < length values) ids more p q)
 
 are_ids-take : (values : List Value) (ids : List ℕ) (n : ℕ) → AreIds values ids → AreIds values (take n ids)
 are_ids-take values ids n are = All-take (λ id. id < length values) n ids are

@@ -1,18 +1,8 @@
-use Rattle.std.proofs.Common.{map, length, ap, ◌∙◌}
-use Rattle.grammar_model.specs.Grammar.{slot_of}
-use Rattle.plain_lister.specs.Adding.{at, as_tree}
-use Rattle.plain_lister.specs.Table.{listed}
-use Rattle.plain_lister.proofs.Building.{told_read, trees_told}
+use Rattle.plain_lister.proofs.Held.{sound_none}
 use Rattle.plain_lister.proofs.trees_in_cells.Goals as goal
 
 pub returns : goal.returns
-returns c =
-    let g = c.args.w.now in
-    let input = c.args.input.now in
-    let s = c.list_at.new.store in
-    let told = told_read g input s c.in_ok-k.k c.start.inside.0 0 0 (length input) c.index.result.now c.as_slice.result.now c.in_ok-k.ensures.holds c.index.ensures c.as_slice.ensures in (
-      c.start-start.result,
-      c.start-start.ensures,
-      trees_told s.cells.items c.in_ok-trees.trees.items (listed g input (slot_of c.start-start.result) 0 (length input))
-          (ap (map (at s.cells.items)) c.in_ok-trees.ensures ∙ told ∙ ap (λ z. map as_tree (listed g input (slot_of z) 0 (length input))) c.start.view_is),
-    )
+returns c = c.in_ok-trees.ensures
+
+pub trees_of_start-requires-clause-sound : goal.trees_of_start-requires-clause-sound
+trees_of_start-requires-clause-sound c = sound_none c.args.w.now c.args.input.now (record { cells = c.new.result; lists = c.new-2.result; memo = c.new-3.result }) c.new-3.ensures.empty

@@ -8,7 +8,7 @@ const DIFFERENCES: Case = Case {
 };
 
 // Inputs, and the values of all their derivations: that with the later right operand comes first.
-const ROWS: [(&[u8], &[i64]); 2] = [(b"9-3-2", &[4, 8]), (b"7--2", &[9])];
+static ROWS: [(&[u8], &[i64]); 2] = [(b"9-3-2", &[4, 8]), (b"7--2", &[9])];
 
 #[test]
 fn each_derivation_has_its_value(rt: HostRuntime) -> Result<(), Fail> {

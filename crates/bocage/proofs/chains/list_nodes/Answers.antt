@@ -4,6 +4,7 @@ use Rattle.std.proofs.lemmas.List.{length_push}
 use Rattle.recognizer_model.specs.declared.NodeKey.{NodeKey}
 use Rattle.bocage.specs.Chains.{EndsAt}
 use Rattle.bocage.proofs.Chained.{linked}
+use Rattle.std.proofs.lemmas.Result.{IfOk-from_err}
 use Rattle.bocage.proofs.chains.list_nodes.Goals as goal
 
 pub loop-node-preserved : goal.loop-node-preserved
@@ -28,3 +29,9 @@ returns-clause-listed c =
     on_ok_weaker c.list_chain.result
     (λ same n. subst (λ m. Contains c.list_chain.new.nodes.items n ↔ ((n < m) × EndsAt c.args.keys.now.keys c.args.end n)) long (subst (λ (l : List ℕ). Contains l n ↔ ((n < length c.loop-node.chains.below.items) × EndsAt c.args.keys.now.keys c.args.end n)) (sym (same ns is)) (exact n)))
     c.list_chain.ensures
+
+pub returns-in_err-link-clause-listed : goal.returns-in_err-link-clause-listed
+returns-in_err-link-clause-listed c = IfOk-from_err _ _ c.from_residual.ensures.0
+
+pub returns-in_err-link-clause-chained : goal.returns-in_err-link-clause-chained
+returns-in_err-link-clause-chained c = IfOk-from_err _ _ c.from_residual.ensures.0

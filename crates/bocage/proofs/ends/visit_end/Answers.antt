@@ -1,19 +1,21 @@
 use Rattle.std.proofs.Common.{◌≡◌, ◌∙◌, ◌<◌, ◌↔◌, ◌==◌, Bool, false, true≢false, zero, suc, List, ℕ, Contains, length, map, sym, subst, arith}
 use Rattle.std.proofs.lemmas.Bool.{eqb-true}
-use Rattle.std.proofs.lemmas.Result.{on_ok_weaker}
+use Rattle.std.proofs.lemmas.Result.{on_ok_weaker, IfOk-from_err}
 use Rattle.std.proofs.lemmas.List.{nil_from_length}
 use Rattle.finite_sets.proofs.Lists.{Contains-none}
 use Rattle.recognizer_model.specs.declared.Item.{Item}
 use Rattle.forest_parts.specs.Hidden.{IsHiddenFrom, RisesBy}
-use Rattle.bocage.specs.Chains.{EndsAt}
+use Rattle.bocage.specs.declared.chains.Chains.{Chains}
+use Rattle.bocage.specs.Chains.{EndsAt, AreChained}
 use Rattle.bocage.specs.Expanded.{IsExpandedAt}
 use Rattle.bocage.specs.Walk.{IsUsedIn}
 use Rattle.bocage.proofs.Chained.{chained_more}
 use Rattle.bocage.proofs.Visiting.{none_visited}
-use Rattle.bocage.proofs.Counting.{rises_of, rises_by_of, rises_none_by}
+use Rattle.bocage.proofs.Counting.{rises_of, rises_by_of, rises_none, rises_none_by}
 use Rattle.bocage.proofs.Expanding.{none_expanded, given_expanded}
 use Rattle.bocage.proofs.ends.visit_end.Goals.{then-whole, else-whole, else-is_empty-via-then-is_empty+else-not-whole, else-is_empty-via-else-is_empty}
 use Rattle.bocage.proofs.ends.visit_end.Given as given
+use Rattle.bocage.proofs.Growing.{grows_none}
 use Rattle.bocage.proofs.ends.visit_end.Goals as goal
 
 pub returns-then-not-whole-clause-visited : goal.returns-then-not-whole-clause-visited
@@ -101,5 +103,56 @@ returns-clause-counted g c =
 pub returns-clause-chained : goal.returns-clause-chained
 returns-clause-chained g c =
     on_ok_weaker c.visit_from.result
-    (λ grows. chained_more (IsUsedIn c.args.w.now c.args.ranking c.args.recce.now) c.args.found.now.keys.keys c.visit_from.new.found.keys.keys c.list_nodes.new.chains.heads.items c.list_nodes.new.chains.below.items grows c.in_ok-list_nodes.ensures.chained)
+    (λ grows. chained_more (IsUsedIn c.args.w.now c.args.ranking c.args.recce.now) c.args.found.now.keys.keys c.visit_from.new.found.keys.keys c.visit_from.new.work.chains.heads.items c.visit_from.new.work.chains.below.items grows (subst (λ (s : Chains). AreChained c.args.found.now.keys.keys s.heads.items s.below.items) (sym c.visit_from.ensures.chains) c.in_ok-list_nodes.ensures.chained))
     c.visit_from.ensures.grows
+
+pub returns-in_err-list_nodes-clause-chained : goal.returns-in_err-list_nodes-clause-chained
+returns-in_err-list_nodes-clause-chained g c = IfOk-from_err _ _ c.from_residual.ensures.0
+
+pub returns-in_err-hidden-clause-chained : goal.returns-in_err-hidden-clause-chained
+returns-in_err-hidden-clause-chained g c = IfOk-from_err _ _ c.from_residual-in_err-hidden.ensures.0
+
+pub returns-in_err-list_nodes-clause-visited : goal.returns-in_err-list_nodes-clause-visited
+returns-in_err-list_nodes-clause-visited g c = IfOk-from_err _ _ c.from_residual.ensures.0
+
+pub returns-in_err-hidden-clause-visited : goal.returns-in_err-hidden-clause-visited
+returns-in_err-hidden-clause-visited g c = IfOk-from_err _ _ c.from_residual-in_err-hidden.ensures.0
+
+pub returns-in_err-list_nodes-clause-grows : goal.returns-in_err-list_nodes-clause-grows
+returns-in_err-list_nodes-clause-grows g c = IfOk-from_err _ _ c.from_residual.ensures.0
+
+pub returns-in_err-hidden-clause-grows : goal.returns-in_err-hidden-clause-grows
+returns-in_err-hidden-clause-grows g c = IfOk-from_err _ _ c.from_residual-in_err-hidden.ensures.0
+
+pub returns-in_err-list_nodes-clause-expanded : goal.returns-in_err-list_nodes-clause-expanded
+returns-in_err-list_nodes-clause-expanded g c = IfOk-from_err _ _ c.from_residual.ensures.0
+
+pub returns-in_err-hidden-clause-expanded : goal.returns-in_err-hidden-clause-expanded
+returns-in_err-hidden-clause-expanded g c = IfOk-from_err _ _ c.from_residual-in_err-hidden.ensures.0
+
+pub returns-then-not-whole-clause-chained : goal.returns-then-not-whole-clause-chained
+returns-then-not-whole-clause-chained g c = c.in_ok-list_nodes.ensures.chained
+
+pub returns-then-not-whole-clause-grows : goal.returns-then-not-whole-clause-grows
+returns-then-not-whole-clause-grows g c = grows_none (IsUsedIn c.args.w.now c.args.ranking c.args.recce.now) c.args.found.now.keys.keys
+
+pub visit_from-requires-clause-read : goal.visit_from-requires-clause-read
+visit_from-requires-clause-read g c = c.requires.read
+
+pub visit_from-requires-clause-end : goal.visit_from-requires-clause-end
+visit_from-requires-clause-end g c = c.requires.end
+
+pub visit_from-requires-clause-going : goal.visit_from-requires-clause-going
+visit_from-requires-clause-going g c = c.requires.going
+
+pub returns-clause-visited : goal.returns-clause-visited
+returns-clause-visited g c = c.visit_from.ensures.visited
+
+pub returns-clause-grows : goal.returns-clause-grows
+returns-clause-grows g c = c.visit_from.ensures.grows
+
+pub returns-in_err-list_nodes-clause-counted : goal.returns-in_err-list_nodes-clause-counted
+returns-in_err-list_nodes-clause-counted g c = rises_none (IsExpandedAt c.args.w.now c.args.ranking c.args.recce.now c.args.end) c.args.steps.now
+
+pub returns-then-not-whole-clause-counted : goal.returns-then-not-whole-clause-counted
+returns-then-not-whole-clause-counted g c = rises_none (IsExpandedAt c.args.w.now c.args.ranking c.args.recce.now c.args.end) c.args.steps.now

@@ -2,6 +2,7 @@ use Rattle.std.proofs.Common.{map}
 use Rattle.bocage.specs.Walk.{IsUsedIn, IsNew}
 use Rattle.bocage.proofs.Growing.{grows_weaker}
 use Rattle.bocage.proofs.Visiting.{goes_then, listed_ready, new_ready, all_visited}
+use Rattle.std.proofs.lemmas.Result.{IfOk-from_err}
 use Rattle.bocage.proofs.ends.visit_gathered.Goals as goal
 
 pub visit_listed-requires-clause-nodes : goal.visit_listed-requires-clause-nodes
@@ -27,3 +28,21 @@ visit_listed-requires-clause-noted c = record { long = c.in_ok-forget.ensures.lo
 
 pub visit_new-requires-clause-noted : goal.visit_new-requires-clause-noted
 visit_new-requires-clause-noted c = c.in_ok-visit_listed.ensures.goes.noted
+
+pub returns-in_err-forget-clause-visited : goal.returns-in_err-forget-clause-visited
+returns-in_err-forget-clause-visited c = IfOk-from_err _ _ c.from_residual.ensures.0
+
+pub returns-in_err-forget-clause-grows : goal.returns-in_err-forget-clause-grows
+returns-in_err-forget-clause-grows c = IfOk-from_err _ _ c.from_residual.ensures.0
+
+pub returns-in_err-visit_listed-clause-visited : goal.returns-in_err-visit_listed-clause-visited
+returns-in_err-visit_listed-clause-visited c = IfOk-from_err _ _ c.from_residual-in_err-visit_listed.ensures.0
+
+pub returns-in_err-visit_listed-clause-grows : goal.returns-in_err-visit_listed-clause-grows
+returns-in_err-visit_listed-clause-grows c = IfOk-from_err _ _ c.from_residual-in_err-visit_listed.ensures.0
+
+pub returns-in_err-visit_new-clause-visited : goal.returns-in_err-visit_new-clause-visited
+returns-in_err-visit_new-clause-visited c = IfOk-from_err _ _ c.from_residual-in_err-visit_new.ensures.0
+
+pub returns-in_err-visit_new-clause-grows : goal.returns-in_err-visit_new-clause-grows
+returns-in_err-visit_new-clause-grows c = IfOk-from_err _ _ c.from_residual-in_err-visit_new.ensures.0

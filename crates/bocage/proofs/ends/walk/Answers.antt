@@ -9,6 +9,7 @@ use Rattle.bocage.proofs.Expanding.{within_first, within_more, within_all, count
 use Rattle.bocage.proofs.Growing.{grows_then}
 use Rattle.bocage.proofs.Chained.{none_chained}
 use Rattle.bocage.proofs.Visiting.{going_first, going_next}
+use Rattle.std.proofs.lemmas.Result.{IfOk-from_err}
 use Rattle.bocage.proofs.ends.walk.Goals as goal
 
 pub visit_end-requires-clause-going : goal.visit_end-requires-clause-going
@@ -78,13 +79,34 @@ returns-in_err-visit_end-2-clause-counted g c =
     (within_more c.args.w.now c.args.ranking c.args.recce.now end c.args.steps.now c.loop-back.steps c.visit_end-in-loop-back.new.steps (subst (λ p. RisesWithin (IsExpandedFrom c.args.w.now c.args.ranking c.args.recce.now p) c.args.steps.now c.loop-back.steps) q c.loop-back.invariant.counted) c.in_err-visit_end-2.ensures.counted)
 
 pub visit_end-requires-clause-few : goal.visit_end-requires-clause-few
-visit_end-requires-clause-few g c = let e = ap (λ (l : List ℕ). length l) c.new_chains-chains.ensures.below in omega arith
+visit_end-requires-clause-few g c = let e = ap (λ (l : List ℕ). length l) c.requires.below in omega arith
 
 pub visit_end-requires-clause-chained : goal.visit_end-requires-clause-chained
-visit_end-requires-clause-chained g c = none_chained c.args.found.now.keys.keys c.new_chains-chains.result.heads.items c.new_chains-chains.result.below.items c.new_chains-chains.ensures.heads c.new_chains-chains.ensures.below
+visit_end-requires-clause-chained g c = none_chained c.args.found.now.keys.keys c.args.work.now.chains.heads.items c.args.work.now.chains.below.items c.requires.heads c.requires.below
 
 pub visit_end-requires-in-loop-back-clause-few : goal.visit_end-requires-in-loop-back-clause-few
-visit_end-requires-in-loop-back-clause-few g c = subst (λ (l : List NodeKey). length c.loop-back.chains.below.items ≤ length l) (sym c.as_slice-first.ensures.keys) c.loop-back.invariant.chained.few
+visit_end-requires-in-loop-back-clause-few g c = subst (λ (l : List NodeKey). length c.loop-back.work.chains.below.items ≤ length l) (sym c.as_slice-first.ensures.keys) c.loop-back.invariant.chained.few
 
 pub visit_end-requires-in-loop-back-clause-chained : goal.visit_end-requires-in-loop-back-clause-chained
 visit_end-requires-in-loop-back-clause-chained g c = c.loop-back.invariant.chained
+
+pub returns-in_err-visit_end-clause-visited : goal.returns-in_err-visit_end-clause-visited
+returns-in_err-visit_end-clause-visited g c = IfOk-from_err _ _ c.from_residual.ensures.0
+
+pub returns-in_err-visit_end-2-clause-visited : goal.returns-in_err-visit_end-2-clause-visited
+returns-in_err-visit_end-2-clause-visited g c = IfOk-from_err _ _ c.from_residual-in_err-visit_end-2.ensures.0
+
+pub returns-in_err-visit_end-clause-grows : goal.returns-in_err-visit_end-clause-grows
+returns-in_err-visit_end-clause-grows g c = IfOk-from_err _ _ c.from_residual.ensures.0
+
+pub returns-in_err-visit_end-2-clause-grows : goal.returns-in_err-visit_end-2-clause-grows
+returns-in_err-visit_end-2-clause-grows g c = IfOk-from_err _ _ c.from_residual-in_err-visit_end-2.ensures.0
+
+pub returns-in_err-visit_end-clause-expanded : goal.returns-in_err-visit_end-clause-expanded
+returns-in_err-visit_end-clause-expanded g c = IfOk-from_err _ _ c.from_residual.ensures.0
+
+pub returns-in_err-visit_end-2-clause-expanded : goal.returns-in_err-visit_end-2-clause-expanded
+returns-in_err-visit_end-2-clause-expanded g c = IfOk-from_err _ _ c.from_residual-in_err-visit_end-2.ensures.0
+
+pub returns-clause-grows : goal.returns-clause-grows
+returns-clause-grows g c = c.loop-back.invariant.grows

@@ -10,7 +10,7 @@ use Rattle.bocage.proofs.ends.walk.Given as goal
 abbrev pub invariant-loop-back : goal.invariant-loop-back
 invariant-loop-back g l = record {
   visited : AreVisited l.w l.ranking l.recce (l.earleme - l.back) l.found (map (λ r. r.now) l.table.items);
-  chained : AreChained l.found.keys.keys l.chains.heads.items l.chains.below.items;
+  chained : AreChained l.found.keys.keys l.work.chains.heads.items l.work.chains.below.items;
   grows : GrowsBy (IsUsedIn l.w l.ranking l.recce) l.fn.found.keys.keys l.found.keys.keys;
   counted : RisesWithin (IsExpandedFrom l.w l.ranking l.recce (l.earleme - l.back)) l.fn.steps l.steps;
   expanded : IsCountOf (IsExpandedFrom l.w l.ranking l.recce (l.earleme - l.back)) l.work.expanded;

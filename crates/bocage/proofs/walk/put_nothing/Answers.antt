@@ -11,6 +11,7 @@ use Rattle.bocage.proofs.Growing.{lists_none, grows_weaker}
 use Rattle.bocage.proofs.Noting.{noted_more}
 use Rattle.bocage.proofs.Putting.{put_one, prefix_new}
 use Rattle.bocage.proofs.walk.put_nothing.Goals.{else-nullable-via-then-nullable+else-has, else-nullable-via-else-nullable}
+use Rattle.std.proofs.lemmas.Result.{IfOk-from_err}
 use Rattle.bocage.proofs.walk.put_nothing.Goals as goal
 
 pub returns-in_ok-push : goal.returns-in_ok-push
@@ -32,3 +33,9 @@ returns-else-nullable c =
       | else-nullable-via-else-nullable w ↦ (let t = c.nullable.ensures.1 (subst (λ (g : FlatGrammar). IsNullable g c.args.symbol) (sym c.flat.ensures) null) in absurd (search rules))
     ])
     c.requires.noted
+
+pub returns-in_err-predecessor : goal.returns-in_err-predecessor
+returns-in_err-predecessor c = IfOk-from_err _ _ c.from_residual.ensures.0
+
+pub returns-in_err-push : goal.returns-in_err-push
+returns-in_err-push c = IfOk-from_err _ _ c.from_residual-in_err-push.ensures.0

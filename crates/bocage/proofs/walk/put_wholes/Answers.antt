@@ -6,6 +6,7 @@ use Rattle.forest_parts.specs.declared.parts.Part.{Part}
 use Rattle.forest_parts.specs.Parts.{no_part}
 use Rattle.bocage.specs.Walk.{whole_keys, AddsWholes, GrowsBy}
 use Rattle.bocage.proofs.Growing.{grows_none, grows_then, grows_weaker, wholes_none, wholes_then, keys_both}
+use Rattle.std.proofs.lemmas.Result.{IfOk-from_err}
 use Rattle.bocage.proofs.walk.put_wholes.Goals as goal
 
 pub loop-part-init : goal.loop-part-init
@@ -35,3 +36,9 @@ loop-part-preserved c =
 pub returns-clause-grows : goal.returns-clause-grows
 returns-clause-grows c =
     subst (λ (l : List Part). GrowsBy (λ (k : NodeKey). Contains (whole_keys c.args.flat.now l) k) c.args.keys.now.keys c.loop-part.keys.keys) (take_all c.loop-part.part-index c.args.parts.now c.loop-part-test.false) c.loop-part.invariant.grows
+
+pub returns-in_err-put_whole-clause-numbers : goal.returns-in_err-put_whole-clause-numbers
+returns-in_err-put_whole-clause-numbers c = IfOk-from_err _ _ c.from_residual.ensures.0
+
+pub returns-in_err-put_whole-clause-grows : goal.returns-in_err-put_whole-clause-grows
+returns-in_err-put_whole-clause-grows c = IfOk-from_err _ _ c.from_residual.ensures.0

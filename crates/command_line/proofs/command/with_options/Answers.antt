@@ -1,11 +1,10 @@
-use Rattle.std.proofs.Common.{ap, ap₂, ◌∙◌}
-use Rattle.std.proofs.lemmas.Result.{IfOk-weaker}
+use Rattle.std.proofs.Common.{◌∙◌, ap₂, sym, arith}
+use Rattle.std.proofs.lemmas.List.Sums.{fold_more}
 use Rattle.clap.specs.Words.{app_of, with_rule}
+use Rattle.command_line.specs.Command.{option_rule}
 use Rattle.command_line.proofs.command.with_options.Goals as goal
 
-pub returns : goal.returns
-returns c =
-    let first = c.in_ok-arg.ensures.shape c.option.ensures.local ∙ ap (with_rule (app_of c.args.command)) c.option.ensures.rule in
-    let second = c.in_ok-arg-2.ensures.shape c.option-2.ensures.local ∙ ap₂ with_rule first c.option-2.ensures.rule in
-    let third = c.in_ok-arg-3.ensures.shape c.option-3.ensures.local ∙ ap₂ with_rule second c.option-3.ensures.rule in
-    IfOk-weaker c.arg-4.result _ _ (λ command h. h.shape c.option-4.ensures.local ∙ ap₂ with_rule third c.option-4.ensures.rule) c.arg-4.ensures
+pub loop-name-preserved : goal.loop-name-preserved
+loop-name-preserved c =
+    c.in_ok-command.ensures.shape c.option.ensures.local ∙ ap₂ with_rule c.loop-name.invariant c.option.ensures.rule
+    ∙ sym (fold_more (λ app name. with_rule app (option_rule name.now)) (app_of c.args.command) c.args.names.now c.loop-name.name-index _ (omega arith))

@@ -8,7 +8,7 @@ use Rattle.earley_sets.specs.Begun.{AreBegun}
 use Rattle.earley_sets.specs.Tried.{TriesBegun}
 use Rattle.earley_sets.proofs.Adding.{all_differ}
 use Rattle.earley_sets.proofs.Begins.{begins_item}
-use Rattle.earley_sets.proofs.Sharing.{shared_more, shared_noted, shared_begun, shared_tried}
+use Rattle.earley_sets.proofs.Sharing.{last_below, shared_keeps, shared_more, shared_noted, shared_begun, shared_tried}
 use Rattle.earley_sets.proofs.lists.make_list.Goals as goal
 
 pub share-requires-clause-items : goal.share-requires-clause-items
@@ -45,3 +45,15 @@ pub returns-clause-tried : goal.returns-clause-tried
 returns-clause-tried g c =
     shared_tried c.args.flat.now c.args.rows.now c.share.new.self c.as_slice.result.now c.in_ok-number.ensures.ok c.in_ok-number.number c.in_ok-number.ensures.number c.args.lists.now.symbols.items c.args.steps.now c.fill_begun.new.steps
     (subst (λ l. TriesBegun c.args.flat.now l c.as_slice.result.now c.args.steps.now c.fill_begun.new.steps) c.deref.ensures.value (subst (λ (l : List Item). TriesBegun c.args.flat.now c.deref.result.now l c.args.steps.now c.fill_begun.new.steps) (sym c.as_slice.ensures.keys) c.in_ok-fill_begun.ensures.tried))
+
+pub returns-in_err-symbols-clause-kept : goal.returns-in_err-symbols-clause-kept
+returns-in_err-symbols-clause-kept g c = shared_keeps c.args.flat.now c.args.rows.now c.share.new.self c.as_slice.result.now c.in_ok-number.ensures.ok
+
+pub returns-in_err-note-clause-kept : goal.returns-in_err-note-clause-kept
+returns-in_err-note-clause-kept g c = shared_keeps c.args.flat.now c.args.rows.now c.share.new.self c.as_slice.result.now c.in_ok-number.ensures.ok
+
+pub returns-clause-kept : goal.returns-clause-kept
+returns-clause-kept g c = shared_keeps c.args.flat.now c.args.rows.now c.share.new.self c.as_slice.result.now c.in_ok-number.ensures.ok
+
+pub returns-clause-there : goal.returns-clause-there
+returns-clause-there g c = last_below c.args.flat.now c.args.rows.now c.share.new.self c.as_slice.result.now c.in_ok-number.ensures.ok c.in_ok-number.number c.in_ok-number.ensures.number

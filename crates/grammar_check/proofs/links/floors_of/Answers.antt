@@ -13,3 +13,11 @@ loop-s-preserved c =
       floor = filled_more (slice_index c.args.bases.now) c.args.w.now c.args.bases.now c.loop-s.floors.items c.resize.new.self.items c.loop-s.s c.requires (omega (arith, lt, c.symbol_count-s-end.ensures.count)) size (size' ∙ sym next)
           (λ k d a b. c.in_ok-resize.ensures.by_index.0 k d (omega (arith, a, next)) (omega (arith, b))) (λ k d a b. c.in_ok-resize.ensures.by_index.1 k d refl (omega (arith, a)) (omega (arith, b, next))) c.loop-s.invariant.floor;
     }
+
+pub returns : goal.returns
+returns c =
+    let same : c.loop-s.s ≡ length c.args.w.now.names = (let done = c.loop-s-test.false in let count = c.symbol_count-s-end.ensures.count in omega arith) in
+    record {
+      sized = c.loop-s.invariant.sized ∙ ap (slice_index c.args.bases.now) same;
+      floor = λ s x lt a b. c.loop-s.invariant.floor s x (omega (arith, lt, same)) a b;
+    }

@@ -1,4 +1,5 @@
-use Rattle.std.proofs.Common.{◌∷◌, [], ◌∙◌, ap, List, length, length-append, arith}
+use Rattle.std.proofs.Common.{◌∷◌, [], ◌∙◌, ap, List, length, length-append, arith, ◌≡◌, subst}
+use Rattle.item_rows.specs.Dotted.{AreListed}
 use Rattle.item_rows.proofs.Listed.{listed_more}
 use Rattle.item_rows.proofs.dotted.list_all.Goals as goal
 
@@ -8,3 +9,8 @@ loop-rule-preserved c = record {
       (c.in_ok-first.ensures ∙ ap (λ (l : List _). length l) c.as_slice.ensures.value) c.push.new.self.items c.in_ok-push.ensures.items;
   size = let s = c.loop-rule.invariant.size in let p = ap length c.in_ok-push.ensures.items in let l = length-append c.loop-rule.firsts.items (c.in_ok-first.first ∷ []) in omega arith;
 }
+
+pub returns : goal.returns
+returns c =
+    let same : c.loop-rule.rule ≡ length c.args.flat.now.rules = (let done = c.loop-rule-test.false in let count = c.rule_count-rule-end.ensures in omega arith) in
+    subst (AreListed c.args.flat.now c.loop-rule.listed.items c.loop-rule.firsts.items) same c.loop-rule.invariant.listed

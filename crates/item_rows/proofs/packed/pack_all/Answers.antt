@@ -1,4 +1,5 @@
-use Rattle.std.proofs.Common.{◌/◌, ◌<◌, inl, inr, List, ℕ, subst, length, Contains, arith}
+use Rattle.std.proofs.Common.{◌/◌, ◌<◌, inl, inr, List, ℕ, subst, length, Contains, arith, ◌∙◌}
+use Rattle.std.proofs.lemmas.List.{take_all}
 use Rattle.std.proofs.lemmas.List.Elements.{Contains-push_cases}
 use Rattle.item_rows.proofs.Packing.{pack_more}
 use Rattle.item_rows.proofs.packed.pack_all.Goals as goal
@@ -11,3 +12,9 @@ loop-item-preserved c = record {
     | inr same ↦ subst (λ z. z / 4294967296 < length c.args.dotted.now.rules) same c.in-Some.ensures.some.0
   ];
 }
+
+pub returns-clause-items : goal.returns-clause-items
+returns-clause-items c = c.loop-item.invariant.items ∙ take_all c.loop-item.item-index c.args.items.now c.loop-item-test.false
+
+pub returns-clause-within : goal.returns-clause-within
+returns-clause-within c = c.loop-item.invariant.within

@@ -7,6 +7,12 @@ use Rattle.plain_lister.specs.Arena.{meant, meanings}
 use Rattle.plain_lister.proofs.Pooled.{all_more}
 use Rattle.plain_lister.proofs.lines.tell_cells.Goals as goal
 
+pub told_of-requires : goal.told_of-requires
+told_of-requires c =
+    let i = c.loop-i.i in
+    subst (λ (cs : List Cell). AllTold c.args.list.now c.loop-i.pool c.deref-in-loop-i.result.now (take i cs)) (sym c.deref.ensures.value)
+    (subst (λ (l : List Told). AllTold c.args.list.now c.loop-i.pool l (take i c.args.list.now.cells.items)) (sym c.deref-in-loop-i.ensures.value) c.loop-i.invariant)
+
 pub loop-i-preserved : goal.loop-i-preserved
 loop-i-preserved c =
     let cells = c.args.list.now.cells.items in

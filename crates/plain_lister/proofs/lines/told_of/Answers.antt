@@ -1,4 +1,4 @@
-use Rattle.std.proofs.Common.{[], ◌∷◌, ◌++◌, List, ap, ◌∙◌}
+use Rattle.std.proofs.Common.{◌∷◌, List, ap, ◌∙◌}
 use Rattle.grammar_model.specs.Grammar.{lhs_of, rule_at}
 use Rattle.grammar_model.specs.Values.{Value, Text, Number, list_of, name_of}
 use Rattle.plain_lister.specs.Told.{grammar_of}
@@ -15,19 +15,19 @@ returns-in_ok-node_value-in-Node c =
     let g = grammar_of c.args.list.now in
     rw c.in-Node.is (put.stays, (put.within, put.stands ∙ ap (λ (l : List Value). list_of (Text (name_of g (lhs_of (rule_at g c.in-Node.rule))) ∷ Number c.in-Node.rule ∷ l)) prefix.1))
 
-pub returns-in_ok-push-in-First : goal.returns-in_ok-push-in-First
-returns-in_ok-push-in-First c =
+pub returns-in_ok-with_last-in-First : goal.returns-in_ok-with_last-in-First
+returns-in_ok-with_last-in-First c =
+    let (id, told, items) = c.in_ok-with_last-in-First.ensures in
     rw c.in-First.is (
       stays_all c.args.pool.now,
-      told_first c.args.list.now c.args.pool.now c.args.told.now c.args.done.now c.in-First.last c.in_ok-value_told-in-First.field-0 c.push.new.self.items c.requires c.in_ok-value_told-in-First.ensures
-          (c.in_ok-push-in-First.ensures.items ∙ ap (λ l. l ++ c.in_ok-value_told-in-First.field-0 ∷ []) c.new-ids.ensures.items),
+      told_first c.args.list.now c.args.pool.now c.args.told.now c.args.done.now c.in-First.last id c.in_ok-with_last-in-First.field-0.items c.requires told items,
     )
 
-pub returns-in_ok-push-in-Next : goal.returns-in_ok-push-in-Next
-returns-in_ok-push-in-Next c =
+pub returns-in_ok-with_last-in-Next : goal.returns-in_ok-with_last-in-Next
+returns-in_ok-with_last-in-Next c =
+    let (id, told, items) = c.in_ok-with_last-in-Next.ensures in
     rw c.in-Next.is (
       stays_all c.args.pool.now,
-      told_next c.args.list.now c.args.pool.now c.args.told.now c.args.done.now c.in-Next.prefix c.in-Next.last c.in_ok-value_told-in-Next.field-0 c.in_ok-prefix_told-in-Next.field-0.now c.push-in-Next.new.self.items
-          c.requires c.in_ok-prefix_told-in-Next.ensures c.in_ok-value_told-in-Next.ensures
-          (c.in_ok-push-in-Next.ensures.items ∙ ap (λ l. l ++ c.in_ok-value_told-in-Next.field-0 ∷ []) (c.in_ok-extend_from_slice-in-Next.ensures.items ∙ ap (λ l. l ++ c.in_ok-prefix_told-in-Next.field-0.now) c.new-ids-in-Next.ensures.items)),
+      told_next c.args.list.now c.args.pool.now c.args.told.now c.args.done.now c.in-Next.prefix c.in-Next.last id c.in_ok-children-in-Next.children.now c.in_ok-with_last-in-Next.field-0.items
+          c.requires c.in_ok-children-in-Next.ensures told items,
     )

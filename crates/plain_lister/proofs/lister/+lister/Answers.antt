@@ -1,18 +1,21 @@
-use Rattle.std.proofs.Common.{◌≡◌, ℕ, suc, ◌<◌, ◌-◌, inl, inr, true, [], ◌++◌, length, map, refl, sym, ap, ◌∙◌, subst, arith}
+use Rattle.std.proofs.Common.{◌≡◌, ℕ, suc, ◌<◌, ◌-◌, inl, inr, true, cond, [], ◌++◌, length, map, refl, sym, ap, ◌∙◌, subst, arith}
 use Rattle.std.specs.List.{flat_map}
-use Rattle.plain_lister.proofs.Held.{holds_grow}
+use Rattle.plain_lister.proofs.Arena.{within_keeps}
+use Rattle.plain_lister.proofs.Held.{grows_none, grows_then, holds_grow}
 use Rattle.grammar_model.specs.Grammar.{lhs_of, rule_at, child_slot, slot_of}
 use Rattle.grammar_model.specs.Trees.{NoChild, Child}
 use Rattle.grammar_model.specs.Simple.{part_count, places, is_terminal}
 use Rattle.plain_lister.specs.Adding.{as_tree, as_prefix}
 use Rattle.plain_lister.specs.declared.store.Store.{Store}
-use Rattle.plain_lister.specs.Table.{rank, listed, prefixes_listed, prefixes_from, nodes_below}
-use Rattle.plain_lister.proofs.Building.{built_none, built_cells, built_same, built_list, nodes_value, firsts_value, pairs_value, prefix_value, nodes_listed, nodes_more, firsts_listed, slot_is, pairs_more, pairs_as_before, no_last, no_prefix, places_none, within_read, told_read, in_lists, first_rank, weight_less, rank_low, key_rule, prefixes_step, starts_end}
+use Rattle.plain_lister.specs.Table.{IsKey, Grows, IsListed, weight, rank, listed, prefixes_listed, prefixes_from, nodes_below}
+use Rattle.plain_lister.proofs.Building.{built_none, built_cells, built_same, built_list, nodes_value, firsts_value, pairs_value, prefix_value, nodes_listed, nodes_more, nodes_as_before, firsts_listed, slot_is, pairs_more, pairs_as_before, no_last, no_prefix, places_none, within_read, told_read, in_lists, first_rank, weight_less, rank_low, rank_high, whole_rank, whole_key, key_before, key_rule, prefixes_step, starts_end}
 use Rattle.std.specs.Prelude.{not}
 use Rattle.std.proofs.lemmas.Bool.{eqb-true}
+use Rattle.std.proofs.lemmas.Result.{IfOk-weaker}
 use Rattle.std.proofs.lemmas.List.{nil_from_length}
 use Rattle.grammar_model.proofs.Simple.{simple_parts}
 use Rattle.plain_lister.proofs.lister.+lister.Goals as goal
+use Rattle.plain_lister.proofs.lister.+lister.Goals.{list_at-in-0+then-is_inner+in_ok-places-in-0, list_at-in-0+else-is_inner+in_ok-places-in-0-2, list_at-in-1+in_ok-places-in-1, list_at-in_default-n+in_ok-places-in_default-n}
 
 pub firsts_at-list_at-requires : goal.firsts_at-list_at-requires
 firsts_at-list_at-requires t c =
@@ -194,3 +197,104 @@ pairs_at-returns t c =
     (ap (λ l. map as_prefix (flat_map (prefixes_from g c.args.input.now c.args.i (c.args.n - 1) c.args.p c.args.q) l)) (starts_end c.args.i c.args.p c.args.q c.loop-r.r (c.args.n - 1) c.loop-r.invariant.0 (omega arith) c.loop-r.invariant.2)
     ∙ sym (ap (map as_prefix) (prefixes_step g c.args.input.now c.args.i c.args.n c.args.p c.args.q (omega arith))) ∙ sym (prefix_value g c.args.input.now c.args.i c.args.n c.args.p c.args.q (omega arith)))
     c.loop-r.invariant.3
+
+pub list_at-returns-in-Some : goal.list_at-returns-in-Some
+list_at-returns-in-Some t c = record {
+  sound = c.requires.sound;
+  grows = grows_none c.args.store.now;
+  holds = c.requires.sound c.args.x c.args.n c.args.p c.args.q c.in-Some.k (sym c.find_list.ensures ∙ c.in-Some.is);
+}
+
+pub list_at-nodes_at-requires : goal.list_at-nodes_at-requires
+list_at-nodes_at-requires t c =
+    let same = ap (λ n. weight c.args.w.now c.args.x n c.args.p c.args.q) c.in-0.is in
+    (omega (arith, c.decreases, same), (c.requires.simple, (c.requires.sound, (ap not (sym c.if-is_inner.ensures), (c.requires.spans, (c.requires.within, c.requires.short))))))
+
+pub list_at-firsts_at-requires : goal.list_at-firsts_at-requires
+list_at-firsts_at-requires t c =
+    let same = ap (λ n. weight c.args.w.now c.args.x n c.args.p c.args.q) c.in-1.is in
+    (omega (arith, c.decreases, same), (c.requires.simple, (c.requires.sound, (subst (IsKey c.args.w.now c.args.x) c.in-1.is c.requires.key, (c.requires.spans, (c.requires.within, c.requires.short))))))
+
+pub list_at-pairs_at-requires : goal.list_at-pairs_at-requires
+list_at-pairs_at-requires t c =
+    (omega (arith, c.decreases), (c.requires.simple, (c.requires.sound, (c.requires.key, (omega arith, (c.requires.spans, (c.requires.within, c.requires.short)))))))
+
+pub list_at-keep_list-requires-clause-sound : goal.list_at-keep_list-requires-clause-sound
+list_at-keep_list-requires-clause-sound t c =
+    elim c.match-n.branch [
+      | list_at-in-0+then-is_inner+in_ok-places-in-0 w ↦ rw w.store-is w.in_ok-places-in-0.ensures.sound
+      | list_at-in-0+else-is_inner+in_ok-places-in-0-2 w ↦ rw w.store-is w.in_ok-places-in-0-2.ensures.sound
+      | list_at-in-1+in_ok-places-in-1 w ↦ rw w.store-is w.in_ok-places-in-1.ensures.sound
+      | list_at-in_default-n+in_ok-places-in_default-n w ↦ rw w.store-is w.in_ok-places-in_default-n.ensures.sound
+    ]
+
+pub list_at-keep_list-requires-clause-within : goal.list_at-keep_list-requires-clause-within
+list_at-keep_list-requires-clause-within t c =
+    elim c.match-n.branch [
+      | list_at-in-0+then-is_inner+in_ok-places-in-0 w ↦ rw (w.store-is, w.places-is) w.in_ok-places-in-0.ensures.within
+      | list_at-in-0+else-is_inner+in_ok-places-in-0-2 w ↦ rw (w.store-is, w.places-is) w.in_ok-places-in-0-2.ensures.within
+      | list_at-in-1+in_ok-places-in-1 w ↦ rw (w.store-is, w.places-is) w.in_ok-places-in-1.ensures.within
+      | list_at-in_default-n+in_ok-places-in_default-n w ↦ rw (w.store-is, w.places-is) w.in_ok-places-in_default-n.ensures.within
+    ]
+
+pub list_at-keep_list-requires-clause-told : goal.list_at-keep_list-requires-clause-told
+list_at-keep_list-requires-clause-told t c =
+    elim c.match-n.branch [
+      | list_at-in-0+then-is_inner+in_ok-places-in-0 w ↦ rw (w.store-is, w.places-is, w.in-0.is) w.in_ok-places-in-0.ensures.told
+      | list_at-in-0+else-is_inner+in_ok-places-in-0-2 w ↦ rw (w.store-is, w.places-is, w.in-0.is) w.in_ok-places-in-0-2.ensures.told
+      | list_at-in-1+in_ok-places-in-1 w ↦ rw (w.store-is, w.places-is, w.in-1.is) w.in_ok-places-in-1.ensures.told
+      | list_at-in_default-n+in_ok-places-in_default-n w ↦ rw (w.store-is, w.places-is) w.in_ok-places-in_default-n.ensures.told
+    ]
+
+pub list_at-returns : goal.list_at-returns
+list_at-returns t c =
+    let grows : Grows c.args.store.now c.match-n.store =
+    elim c.match-n.branch [
+      | list_at-in-0+then-is_inner+in_ok-places-in-0 w ↦ rw w.store-is w.in_ok-places-in-0.ensures.grows
+      | list_at-in-0+else-is_inner+in_ok-places-in-0-2 w ↦ rw w.store-is w.in_ok-places-in-0-2.ensures.grows
+      | list_at-in-1+in_ok-places-in-1 w ↦ rw w.store-is w.in_ok-places-in-1.ensures.grows
+      | list_at-in_default-n+in_ok-places-in_default-n w ↦ rw w.store-is w.in_ok-places-in_default-n.ensures.grows
+    ] in
+    IfOk-weaker c.keep_list.result (λ k. IsListed c.args.w.now c.args.input.now c.match-n.store c.keep_list.new.store k c.args.x c.args.n c.args.p c.args.q) _
+    (λ k listed. record { sound = listed.sound; grows = grows_then c.args.store.now c.match-n.store c.keep_list.new.store grows listed.grows; holds = listed.holds })
+    c.keep_list.ensures
+
+pub nodes_at-loop-i-init : goal.nodes_at-loop-i-init
+nodes_at-loop-i-init t c = built_none c.args.w.now c.args.input.now c.args.store.now c.new-out.result.items [] c.requires.sound c.new-out.ensures.items refl
+
+pub nodes_at-loop-i-preserved-then-lhs-x : goal.nodes_at-loop-i-preserved-then-lhs-x
+nodes_at-loop-i-preserved-then-lhs-x t c =
+    built_same c.args.w.now c.args.input.now c.args.store.now c.loop-i.store c.loop-i.out.items _ _
+    (nodes_as_before c.args.w.now c.args.input.now c.args.x c.args.p c.args.q c.loop-i.i (λ e. c.if-lhs-x.true (c.lhs-in-loop-i.view_is ∙ c.lhs.ensures.is ∙ e)))
+    c.loop-i.invariant
+
+pub nodes_at-list_at-requires : goal.nodes_at-list_at-requires
+nodes_at-list_at-requires t c =
+    let g = c.args.w.now in
+    let i = c.loop-i.i in
+    let lt : i < length g.rules = omega (arith, c.rule_count-i-end.ensures.count) in
+    let some : 0 < c.parts_of.result = omega (arith, c.parts_of.ensures, simple_parts g (rule_at g i) (c.requires.simple i lt)) in
+    let inner : rank g c.args.x 0 ≡ 2 = ap (λ b. cond b 0 2) c.requires.inner in
+    let w = weight_less (c.args.q - c.args.p) (rank g i c.parts_of.result) (rank g c.args.x 0) (omega (arith, inner, whole_rank g i c.parts_of.result c.parts_of.ensures some)) in
+    (omega (arith, w, c.decreases), (c.requires.simple, (c.loop-i.invariant.sound, (whole_key g i c.parts_of.result lt c.parts_of.ensures some, (c.requires.spans, (c.requires.within, c.requires.short))))))
+
+pub nodes_at-index-requires : goal.nodes_at-index-requires
+nodes_at-index-requires t c = omega (arith, c.list_at.new.store.lists.ok, in_lists c.args.w.now c.args.input.now c.list_at.new.store c.in_ok-k.k c.loop-i.i c.parts_of.result c.args.p c.args.q c.in_ok-k.ensures.holds)
+
+pub nodes_at-add_nodes-requires-clause-out : goal.nodes_at-add_nodes-requires-clause-out
+nodes_at-add_nodes-requires-clause-out t c = within_keeps c.loop-i.store.cells.items c.list_at.new.store.cells.items c.loop-i.out.items c.in_ok-k.ensures.grows.keeps c.loop-i.invariant.within
+
+pub nodes_at-add_nodes-requires-clause-prefixes : goal.nodes_at-add_nodes-requires-clause-prefixes
+nodes_at-add_nodes-requires-clause-prefixes t c =
+    within_read c.args.w.now c.args.input.now c.list_at.new.store c.in_ok-k.k c.loop-i.i c.parts_of.result c.args.p c.args.q c.index.result.now c.as_slice.result.now c.in_ok-k.ensures.holds c.index.ensures c.as_slice.ensures
+
+pub pairs_at-list_at-requires : goal.pairs_at-list_at-requires
+pairs_at-list_at-requires t c =
+    let high = rank_high c.args.w.now c.args.i (c.args.n - 1) in
+    let r = c.loop-r.invariant.2 in
+    (omega (arith, high, r, c.decreases), (c.requires.simple, (c.loop-r.invariant.3.sound, (key_before c.args.w.now c.args.i c.args.n c.requires.key c.requires.more, (omega arith, (omega (arith, r, c.requires.within), c.requires.short))))))
+
+pub pairs_at-add_pairs-requires-clause-out : goal.pairs_at-add_pairs-requires-clause-out
+pairs_at-add_pairs-requires-clause-out t c =
+    within_keeps c.list_at.new.store.cells.items c.list_at-then-not-is_empty.new.store.cells.items c.loop-r.out.items c.in_ok-b.ensures.grows.keeps
+    (within_keeps c.loop-r.store.cells.items c.list_at.new.store.cells.items c.loop-r.out.items c.in_ok-a.ensures.grows.keeps c.loop-r.invariant.3.within)

@@ -4,6 +4,7 @@ use Rattle.recognizer_model.specs.declared.Item.{Item}
 use Rattle.recognizer_model.specs.Flat.{FlatGrammar, IsRule}
 use Rattle.earley_sets.specs.Recognizer.{top_of}
 use Rattle.progress.proofs.Telling.{has_rule, lines_told}
+use Rattle.std.proofs.lemmas.Result.{IfOk-from_err}
 use Rattle.progress.proofs.lines.report.Goals as goal
 
 pub lines_of-requires-clause-rules : goal.lines_of-requires-clause-rules
@@ -23,3 +24,12 @@ returns-clause-report c =
         λ h. (c.in_ok-sort.ensures.same line).1 ((told line).1 h),
       );
     }
+
+pub returns-in_err-items-clause-report : goal.returns-in_err-items-clause-report
+returns-in_err-items-clause-report c = IfOk-from_err _ _ c.from_residual.ensures.0
+
+pub returns-in_err-lines-clause-report : goal.returns-in_err-lines-clause-report
+returns-in_err-lines-clause-report c = IfOk-from_err _ _ c.from_residual-in_err-lines.ensures.0
+
+pub returns-in_err-sort-clause-report : goal.returns-in_err-sort-clause-report
+returns-in_err-sort-clause-report c = IfOk-from_err _ _ c.from_residual-in_err-sort.ensures.0

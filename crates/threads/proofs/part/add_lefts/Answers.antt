@@ -5,6 +5,7 @@ use Rattle.std.proofs.lemmas.List.Elements.{Contains-get_or}
 use Rattle.threads.specs.Goals.{HasAdded, HasAddedLefts}
 use Rattle.threads.proofs.Goals.{lefts_none, lefts_more, lefts_skip, not_none}
 use Rattle.threads.proofs.part.add_lefts.Goals.{then-is_none+then-waits_for+in_ok-add_goal, else-is_none, else-is_none-via-then-is_none+else-waits_for, else-is_none-via-else-is_none}
+use Rattle.std.proofs.lemmas.List.{take_all}
 use Rattle.threads.proofs.part.add_lefts.Goals as goal
 
 pub waits_for-requires : goal.waits_for-requires
@@ -35,3 +36,6 @@ loop-thread-preserved c =
             | else-is_none-via-else-is_none w' ↦ not_none _ c.is_none.result c.is_none.ensures w'.if-is_none.false none
           ]))
     ]
+
+pub returns : goal.returns
+returns c = subst (λ l. HasAddedLefts c.args.flat.now l c.args.goal c.args.goals.now.items c.loop-thread.goals.items) (take_all c.loop-thread.thread-index c.args.row.now c.loop-thread-test.false) c.loop-thread.invariant

@@ -1,4 +1,5 @@
 use Rattle.std.proofs.Common.{true, ◌+◌, ◌<◌, length, arith, sym, subst}
+use Rattle.std.proofs.lemmas.Result.{IfOk-from_err}
 use Rattle.tree_iter.specs.Goals.{units}
 use Rattle.tree_iter.specs.Walk.{StandsBefore, StandsBehind, Turns, HasSteps, LeavesSome, Remain}
 use Rattle.tree_iter.proofs.Walks.{has_steps, all_looked}
@@ -24,3 +25,15 @@ returns-clause-few g c =
           all_looked c.match-place.walk c.go_on.new.self c.match-place.steps c.go_on.new.steps c.args.steps.now n
           c.in_ok-go_on.ensures.looks c.in_ok-go_on.ensures.none (subst (λ x. HasSteps x n) (sym w.walk-is) has) (subst (λ k. k < c.args.steps.now + n) (sym w.steps-is) (leaves n has))
     ]
+
+pub returns-in_err-go_back-in-Between-clause-ok : goal.returns-in_err-go_back-in-Between-clause-ok
+returns-in_err-go_back-in-Between-clause-ok g c = IfOk-from_err _ _ c.from_residual.ensures.0
+
+pub returns-in_err-go_back-in-Between-clause-few : goal.returns-in_err-go_back-in-Between-clause-few
+returns-in_err-go_back-in-Between-clause-few g c = IfOk-from_err _ _ c.from_residual.ensures.0
+
+pub returns-in_err-go_on-clause-ok : goal.returns-in_err-go_on-clause-ok
+returns-in_err-go_on-clause-ok g c = IfOk-from_err _ _ c.from_residual-in_err-go_on.ensures.0
+
+pub returns-in_err-go_on-clause-few : goal.returns-in_err-go_on-clause-few
+returns-in_err-go_on-clause-few g c = IfOk-from_err _ _ c.from_residual-in_err-go_on.ensures.0

@@ -1,5 +1,5 @@
 use Rattle.std.proofs.Common.{arith, length}
-use Rattle.std.proofs.lemmas.Result.{on_ok_weaker}
+use Rattle.std.proofs.lemmas.Result.{on_ok_weaker, IfOk-from_err}
 use Rattle.std.specs.List.{slice_range}
 use Rattle.value_text.proofs.Rest.{quoting_plain, quoting_escaped, quoting_ended, extended_through}
 use Rattle.value_text.proofs.text.append_inside.Goals as goal
@@ -33,3 +33,6 @@ returns-in_err-append_escaped-clause-extended c = extended_through _ _ _ c.loop-
 
 pub returns-clause-extended : goal.returns-clause-extended
 returns-clause-extended c = extended_through _ _ _ c.loop-at.invariant.extended c.append.ensures.extended
+
+pub returns-in_err-append_escaped-clause-ok : goal.returns-in_err-append_escaped-clause-ok
+returns-in_err-append_escaped-clause-ok c = IfOk-from_err _ _ c.from_residual.ensures.0

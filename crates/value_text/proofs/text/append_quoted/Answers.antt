@@ -1,5 +1,6 @@
 use Rattle.std.proofs.lemmas.Result.{on_ok_weaker}
 use Rattle.value_text.proofs.Rest.{quoted_whole, extended_through}
+use Rattle.std.proofs.lemmas.Result.{IfOk-from_err}
 use Rattle.value_text.proofs.text.append_quoted.Goals as goal
 
 pub returns-clause-ok : goal.returns-clause-ok
@@ -10,3 +11,9 @@ returns-in_err-append_inside-clause-extended c = extended_through _ _ _ c.append
 
 pub returns-clause-extended : goal.returns-clause-extended
 returns-clause-extended c = extended_through _ _ _ (extended_through _ _ _ c.append_byte.ensures.extended c.append_inside.ensures.extended) c.append_byte-2.ensures.extended
+
+pub returns-in_err-append_byte-clause-ok : goal.returns-in_err-append_byte-clause-ok
+returns-in_err-append_byte-clause-ok c = IfOk-from_err _ _ c.from_residual.ensures.0
+
+pub returns-in_err-append_inside-clause-ok : goal.returns-in_err-append_inside-clause-ok
+returns-in_err-append_inside-clause-ok c = IfOk-from_err _ _ c.from_residual-in_err-append_inside.ensures.0

@@ -1,5 +1,6 @@
 use Rattle.std.proofs.Common.{refl}
 use Rattle.value_text.proofs.Rest.{close_list, next_item, less_left, open_lists_again, first_open_id, lists_below, extended_through, one_longer, longer_through}
+use Rattle.std.proofs.lemmas.Result.{IfOk-from_err}
 use Rattle.value_text.proofs.text.append_value.Goals as goal
 
 pub loop-list-smaller-in_default-split_first : goal.loop-list-smaller-in_default-split_first
@@ -49,3 +50,18 @@ returns-in_err-push-clause-extended c = extended_through _ _ _ c.loop-list.invar
 
 pub returns-in_err-append_start-2-clause-extended : goal.returns-in_err-append_start-2-clause-extended
 returns-in_err-append_start-2-clause-extended c = extended_through _ _ _ (extended_through _ _ _ c.loop-list.invariant.extended c.append_comma.ensures.extended) c.append_start-in-Some.ensures.extended
+
+pub returns-in_err-append_start-clause-ok : goal.returns-in_err-append_start-clause-ok
+returns-in_err-append_start-clause-ok c = IfOk-from_err _ _ c.from_residual.ensures.0
+
+pub returns-in_err-append_byte-clause-ok : goal.returns-in_err-append_byte-clause-ok
+returns-in_err-append_byte-clause-ok c = IfOk-from_err _ _ c.from_residual-in_err-append_byte.ensures.0
+
+pub returns-in_err-append_comma-clause-ok : goal.returns-in_err-append_comma-clause-ok
+returns-in_err-append_comma-clause-ok c = IfOk-from_err _ _ c.from_residual-in_err-append_comma.ensures.0
+
+pub returns-in_err-push-clause-ok : goal.returns-in_err-push-clause-ok
+returns-in_err-push-clause-ok c = IfOk-from_err _ _ c.from_residual-in_err-push.ensures.0
+
+pub returns-in_err-append_start-2-clause-ok : goal.returns-in_err-append_start-2-clause-ok
+returns-in_err-append_start-2-clause-ok c = IfOk-from_err _ _ c.from_residual-in_err-append_start-2.ensures.0

@@ -1,5 +1,6 @@
 use Rattle.bocage.specs.Expanded.{IsExpandedIn}
 use Rattle.bocage.proofs.Counting.{rises_most}
+use Rattle.std.proofs.lemmas.Result.{IfOk-from_err}
 use Rattle.bocage.proofs.forest.Forest.build.Goals as goal
 
 pub returns-clause-counted : goal.returns-clause-counted
@@ -7,3 +8,21 @@ returns-clause-counted g c n all = rises_most (IsExpandedIn c.args.w.now c.args.
 
 pub returns-in_err-grow-clause-counted : goal.returns-in_err-grow-clause-counted
 returns-in_err-grow-clause-counted g c n all = rises_most (IsExpandedIn c.args.w.now c.args.ranking c.args.recce.now) c.args.steps.now c.grow.new.steps n c.grow.ensures.counted all
+
+pub returns-in_err-grow-clause-forest : goal.returns-in_err-grow-clause-forest
+returns-in_err-grow-clause-forest g c = IfOk-from_err _ _ c.from_residual.ensures.0
+
+pub returns-in_err-grow-clause-reading : goal.returns-in_err-grow-clause-reading
+returns-in_err-grow-clause-reading g c = IfOk-from_err _ _ c.from_residual.ensures.0
+
+pub grow-requires-clause-checked : goal.grow-requires-clause-checked
+grow-requires-clause-checked g c = c.requires.checked
+
+pub grow-requires-clause-flat : goal.grow-requires-clause-flat
+grow-requires-clause-flat g c = c.requires.flat
+
+pub returns-clause-forest : goal.returns-clause-forest
+returns-clause-forest g c = c.in_ok-grow.ensures.forest
+
+pub returns-clause-reading : goal.returns-clause-reading
+returns-clause-reading g c = c.in_ok-grow.ensures.reading

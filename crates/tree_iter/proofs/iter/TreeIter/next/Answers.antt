@@ -1,4 +1,5 @@
 use Rattle.std.proofs.Common.{true, false, sym, subst}
+use Rattle.std.proofs.lemmas.Result.{IfOk-from_err}
 use Rattle.tree_iter.specs.Iteration.{AreGiven, IsAnswer, AreFew}
 use Rattle.tree_iter.specs.declared.walk.Place.TheVariants.{Between}
 use Rattle.tree_iter.specs.declared.iter.Current.TheVariants.{Walked}
@@ -46,3 +47,27 @@ returns-clause-few g c = λ given h.
     subst (λ k. AreFew (seen c.advance.new.walk k Walked c.keep.new.copy.items) given true c.args.steps.now c.advance.new.steps) (sym c.in-Some.ensures)
     (few_more c.self.inside.walk c.advance.new.walk c.self.inside.given c.self.inside.place c.self.inside.current c.self.inside.copy.items c.keep.new.copy.items c.advance.ensures.forest u more c.args.steps.now c.advance.new.steps few given
     (subst (λ it. AreGiven it given) (sym c.self.view_is) h))
+
+pub returns-in_err-keep-clause-answer : goal.returns-in_err-keep-clause-answer
+returns-in_err-keep-clause-answer g c = IfOk-from_err _ _ c.from_residual.ensures.0
+
+pub returns-in_err-keep-clause-stands : goal.returns-in_err-keep-clause-stands
+returns-in_err-keep-clause-stands g c = IfOk-from_err _ _ c.from_residual.ensures.0
+
+pub returns-in_err-keep-clause-end : goal.returns-in_err-keep-clause-end
+returns-in_err-keep-clause-end g c = IfOk-from_err _ _ c.from_residual.ensures.0
+
+pub returns-in_err-keep-clause-few : goal.returns-in_err-keep-clause-few
+returns-in_err-keep-clause-few g c = IfOk-from_err _ _ c.from_residual.ensures.0
+
+pub returns-in_err-advance-clause-answer : goal.returns-in_err-advance-clause-answer
+returns-in_err-advance-clause-answer g c = IfOk-from_err _ _ c.from_residual-in_err-advance.ensures.0
+
+pub returns-in_err-advance-clause-stands : goal.returns-in_err-advance-clause-stands
+returns-in_err-advance-clause-stands g c = IfOk-from_err _ _ c.from_residual-in_err-advance.ensures.0
+
+pub returns-in_err-advance-clause-end : goal.returns-in_err-advance-clause-end
+returns-in_err-advance-clause-end g c = IfOk-from_err _ _ c.from_residual-in_err-advance.ensures.0
+
+pub returns-in_err-advance-clause-few : goal.returns-in_err-advance-clause-few
+returns-in_err-advance-clause-few g c = IfOk-from_err _ _ c.from_residual-in_err-advance.ensures.0

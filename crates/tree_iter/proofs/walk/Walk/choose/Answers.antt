@@ -1,10 +1,13 @@
 use Rattle.std.proofs.Common.{◌≡◌, ◌∙◌, ℕ, ◌+◌, List, length, take, refl, sym, ap, subst, arith}
+use Rattle.std.proofs.lemmas.Result.{IfOk-from_err}
 use Rattle.tree_iter.specs.declared.goals.GoalRow.{GoalRow}
 use Rattle.tree_iter.specs.declared.walk.Choice.{Choice}
 use Rattle.tree_iter.specs.declared.walk.Walk.{Walk}
 use Rattle.tree_iter.specs.Goals.{fork_of, look, PutsOption}
 use Rattle.tree_iter.specs.Walk.{StandsBefore, HasSteps, GoesFurther}
-use Rattle.tree_iter.proofs.Walks.{first_of, fork_goal, fork_some, cut_first, chose_one, chose_only, put_steps}
+use Rattle.tree_iter.proofs.Walks.{grown_before, first_of, fork_goal, fork_some, cut_first, chose_one, chose_only, put_steps}
+use Rattle.tree_iter.specs.Linked.{Grows}
+use Rattle.tree_iter.proofs.Linked.{grows_none}
 use Rattle.tree_iter.proofs.Further.{put_further}
 use Rattle.tree_iter.proofs.walk.Walk.choose.Goals.{then-put-gt1+in-Ok-push, else-put-gt1}
 use Rattle.tree_iter.proofs.walk.Walk.choose.Goals as goal
@@ -62,4 +65,33 @@ returns-clause-further g c =
     elim c.if-put-gt1.branch as (λ _. GoesFurther w (record c.if-put-gt1.self { left = c.in-Ok.put.top })) [
       | then-put-gt1+in-Ok-push b ↦ put (record c.if-put-gt1.self { left = c.in-Ok.put.top }) (ap (λ (x : Walk). x.counts.items) b.self-is) refl (ap (λ (x : Walk). x.goals.items) b.self-is)
       | else-put-gt1 b ↦ put (record c.if-put-gt1.self { left = c.in-Ok.put.top }) (ap (λ (x : Walk). x.counts.items) b.self-is) refl (ap (λ (x : Walk). x.goals.items) b.self-is)
+    ]
+
+pub returns-in_err-reserve-clause-goes : goal.returns-in_err-reserve-clause-goes
+returns-in_err-reserve-clause-goes g c = λ rest h.
+    let w : Walk = c.args.self.now in
+    grown_before w (record w { goals = c.reserve.new.self }) rest (subst (Grows w.goals.items) (sym c.reserve.ensures.items) (grows_none w.goals.items)) refl h
+
+pub returns-in_err-reserve-clause-looks : goal.returns-in_err-reserve-clause-looks
+returns-in_err-reserve-clause-looks g c = IfOk-from_err _ _ c.from_residual.ensures.0
+
+pub returns-in_err-reserve-clause-further : goal.returns-in_err-reserve-clause-further
+returns-in_err-reserve-clause-further g c = IfOk-from_err _ _ c.from_residual.ensures.0
+
+pub returns-in_err-reserve-2-clause-goes : goal.returns-in_err-reserve-2-clause-goes
+returns-in_err-reserve-2-clause-goes g c = λ rest h.
+    let w : Walk = c.args.self.now in
+    grown_before w (record w { goals = c.reserve.new.self; choices = c.reserve-2.new.self }) rest (subst (Grows w.goals.items) (sym c.reserve.ensures.items) (grows_none w.goals.items)) c.reserve-2.ensures.items h
+
+pub returns-in_err-reserve-2-clause-looks : goal.returns-in_err-reserve-2-clause-looks
+returns-in_err-reserve-2-clause-looks g c = IfOk-from_err _ _ c.from_residual-in_err-reserve-2.ensures.0
+
+pub returns-in_err-reserve-2-clause-further : goal.returns-in_err-reserve-2-clause-further
+returns-in_err-reserve-2-clause-further g c = IfOk-from_err _ _ c.from_residual-in_err-reserve-2.ensures.0
+
+pub returns-clause-forest : goal.returns-clause-forest
+returns-clause-forest g c =
+    elim c.if-put-gt1.branch as (λ _. c.if-put-gt1.self.forest ≡ c.args.self.now.forest) [
+      | then-put-gt1+in-Ok-push b ↦ ap (λ (x : Walk). x.forest) b.self-is
+      | else-put-gt1 b ↦ ap (λ (x : Walk). x.forest) b.self-is
     ]

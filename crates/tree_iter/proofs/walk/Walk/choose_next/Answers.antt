@@ -4,6 +4,7 @@ use Rattle.tree_iter.specs.declared.walk.Walk.{Walk}
 use Rattle.tree_iter.specs.Goals.{fork_of}
 use Rattle.std.specs.Prelude.{slice_set, slice_index_or}
 use Rattle.std.specs.Vec.{with_item}
+use Rattle.std.proofs.lemmas.Result.{IfOk-from_err}
 use Rattle.finite_sets.proofs.Clauses.{on_err}
 use Rattle.tree_iter.specs.Goals.{PutsOption}
 use Rattle.tree_iter.proofs.Walks.{back_behind, chose_next, next_leaves, set_last, get_last}
@@ -37,3 +38,9 @@ returns-clause-looks g c = λ k h.
     let n : Walk = record w { goals = c.put_option.new.rows; left = c.in_ok-put.put.top; choices = with_item w.choices (length c.as_slice.result.now - 1) next } in
     next_leaves w n c.requires.back.0 last c.in_ok-put.put c.args.steps.now c.put_option.new.steps c.put_option.ensures.looks c.requires.back.1
     (subst (λ i. PutsOption w.forest.now (fork_of last.fork) w.goals.items n.goals.items i last.behind c.in_ok-put.put) (add-one last.chosen) c.in_ok-put.ensures.ok) refl k h
+
+pub returns-in_err-put-clause-ok : goal.returns-in_err-put-clause-ok
+returns-in_err-put-clause-ok g c = IfOk-from_err _ _ c.from_residual.ensures.0
+
+pub returns-in_err-put-clause-looks : goal.returns-in_err-put-clause-looks
+returns-in_err-put-clause-looks g c = IfOk-from_err _ _ c.from_residual.ensures.0

@@ -2,6 +2,8 @@ use Rattle.std.proofs.Common.{◌≡◌, ◌+◌, ◌-◌, ◌<◌, List, [], �
 use Rattle.std.specs.Prelude.{vec_len}
 use Rattle.tree_iter.specs.declared.walk.Choice.{Choice}
 use Rattle.tree_iter.specs.declared.walk.Walk.{Walk}
+use Rattle.std.proofs.lemmas.Result.{IfOk-from_err}
+use Rattle.finite_sets.proofs.Clauses.{on_err}
 use Rattle.tree_iter.proofs.Walks.{gave_up, none_left}
 use Rattle.tree_iter.proofs.walk.Walk.go_back.Goals as goal
 
@@ -57,3 +59,33 @@ returns-then-choice-gt1-clause-looks g c = λ k h.
     let less = c.in_ok-choose_next.ensures.looks k h in
     let same = c.back.invariant.none in
     omega arith
+
+pub back-init : goal.back-init
+back-init g c = record { forest = refl; goes = λ rest h. h; none = refl }
+
+pub cut-requires-clause-last : goal.cut-requires-clause-last
+cut-requires-clause-last g c = c.in-Some.ensures.some
+
+pub returns-in_err-choose_next-clause-ok : goal.returns-in_err-choose_next-clause-ok
+returns-in_err-choose_next-clause-ok g c = IfOk-from_err _ _ c.from_residual.ensures.0
+
+pub returns-in_err-choose_next-clause-looks : goal.returns-in_err-choose_next-clause-looks
+returns-in_err-choose_next-clause-looks g c = IfOk-from_err _ _ c.from_residual.ensures.0
+
+pub returns-in_err-choose_next-clause-err : goal.returns-in_err-choose_next-clause-err
+returns-in_err-choose_next-clause-err g c = on_err c.from_residual.result (λ rest h. c.in_err-choose_next.ensures.err rest (c.cut.ensures.back rest (c.back.invariant.goes rest h)))
+
+pub returns-in_err-choose_next-clause-forest : goal.returns-in_err-choose_next-clause-forest
+returns-in_err-choose_next-clause-forest g c = c.choose_next.ensures.forest ∙ c.cut.ensures.forest ∙ c.back.invariant.forest
+
+pub returns-then-choice-gt1-clause-ok : goal.returns-then-choice-gt1-clause-ok
+returns-then-choice-gt1-clause-ok g c = λ rest h. c.in_ok-choose_next.ensures.ok rest (c.cut.ensures.back rest (c.back.invariant.goes rest h))
+
+pub returns-then-choice-gt1-clause-forest : goal.returns-then-choice-gt1-clause-forest
+returns-then-choice-gt1-clause-forest g c = c.choose_next.ensures.forest ∙ c.cut.ensures.forest ∙ c.back.invariant.forest
+
+pub returns-clause-looks : goal.returns-clause-looks
+returns-clause-looks g c = c.back.invariant.none
+
+pub returns-clause-forest : goal.returns-clause-forest
+returns-clause-forest g c = c.back.invariant.forest

@@ -4,6 +4,8 @@ use Rattle.tree_iter.specs.declared.walk.Walk.{Walk}
 use Rattle.tree_iter.specs.Writing.{IsStepOf, flat_step}
 use Rattle.tree_iter.proofs.Walks.{first_of, step_ready, done_on, wrote_one, wrote_longer, write_steps, steps_kept}
 use Rattle.tree_iter.proofs.Further.{write_further, further_kept}
+use Rattle.std.proofs.lemmas.Result.{IfOk-from_err}
+use Rattle.tree_iter.proofs.Walks.{same_before}
 use Rattle.tree_iter.proofs.walk.Walk.write.Goals as goal
 
 pub write_step-requires-clause-step : goal.write_step-requires-clause-step
@@ -34,3 +36,13 @@ returns-clause-further c =
     c.written.ensures c.flat.ensures c.in_ok-write_step.ensures.ok in
     let longer = wrote_longer w n (flat_step c.args.step) c.args.behind c.requires done in
     further_kept w n c.let_go.new.self (write_further w n (flat_step c.args.step) c.args.behind c.requires longer refl refl) c.let_go.ensures.keeps c.let_go.ensures.counts
+
+pub returns-in_err-write_step-clause-goes : goal.returns-in_err-write_step-clause-goes
+returns-in_err-write_step-clause-goes c = λ rest h.
+    same_before c.args.self.now (record c.args.self.now { counts = c.write_step.new.counts; steps = c.write_step.new.steps }) rest c.in_err-write_step.ensures.err.0 c.in_err-write_step.ensures.err.1 h
+
+pub returns-in_err-write_step-clause-keeps : goal.returns-in_err-write_step-clause-keeps
+returns-in_err-write_step-clause-keeps c = IfOk-from_err _ _ c.from_residual.ensures.0
+
+pub returns-in_err-write_step-clause-further : goal.returns-in_err-write_step-clause-further
+returns-in_err-write_step-clause-further c = IfOk-from_err _ _ c.from_residual.ensures.0

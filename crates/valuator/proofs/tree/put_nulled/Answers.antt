@@ -1,0 +1,15 @@
+use Rattle.std.proofs.lemmas.Result.{IfOk-from_err}
+use Rattle.valuator.proofs.Grown.{grown_put, grown_kept, grown_through, grown_tried, stands_put, ids_one}
+use Rattle.valuator.proofs.tree.put_nulled.Goals as goal
+
+pub list-requires : goal.list-requires
+list-requires c = ids_one _ _ _ (stands_put _ _ _ _ c.in_ok-name.ensures.ok)
+
+pub returns-in_err-name-clause-ok : goal.returns-in_err-name-clause-ok
+returns-in_err-name-clause-ok c = IfOk-from_err _ _ c.from_residual.ensures.0
+
+pub returns-in_err-name-clause-grown : goal.returns-in_err-name-clause-grown
+returns-in_err-name-clause-grown c = grown_kept _ _ c.in_err-name.ensures.err
+
+pub returns-clause-grown : goal.returns-clause-grown
+returns-clause-grown c = grown_through _ _ _ (grown_put _ _ _ _ c.in_ok-name.ensures.ok) (grown_tried _ _ _ c.list.result c.list.ensures.ok c.list.ensures.err)
