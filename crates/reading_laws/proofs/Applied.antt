@@ -15,4 +15,4 @@ named : LexemesAreNamed numbers
 named l m c d e = sym (symbol_is l c) ∙ symbol_is m d
 
 pub reading_applies : ReadingApplies
-reading_applies = reading_exists numbers (49 ∷ 44 ∷ []) lists_have_flat_grammar.checked named
+reading_applies = reading_exists numbers [] (49 ∷ 44 ∷ []) lists_have_flat_grammar.checked named

@@ -1,4 +1,5 @@
 pub mod Accepted
+pub mod First
 pub mod Matches
 pub mod Reading
 pub mod Laws

@@ -1,5 +1,5 @@
 -- The bytes of an input are read to their end, or refused, in one way.
-use Rattle.std.proofs.Common.{◌≡◌, ℕ, ◌≤◌, ◌++◌, List, Bool, true, false, ◌⊎◌, inl, inr, refl, sym, ap, ◌∙◌, arith, length, chars, codes, decimal, nat_le, leb-true}
+use Rattle.std.proofs.Common.{[], ◌≡◌, ℕ, ◌≤◌, ◌++◌, List, Bool, true, false, ◌⊎◌, inl, inr, refl, sym, ap, ◌∙◌, arith, length, chars, codes, decimal, nat_le, leb-true}
 use Rattle.std.proofs.lemmas.Bool.{leb-false}
 use Rattle.std.specs.Str.{is_utf8}
 use Rattle.std.proofs.lemmas.Str.{utf8_valid_len-IsValidUpTo, IsUtf8-from_is_utf8}
@@ -65,18 +65,18 @@ end_or_stopped at found expected e = cc e
 
 module _ (laws : ReadingLaws) (b : Built) (bytes : List ℕ) where
   pub one_read : (xs ys : List Piece) → IsRead b bytes xs → IsRead b bytes ys → xs ≡ ys
-  one_read xs ys p q = (laws.one b (chars bytes) xs ys End End p.reading q.reading).0
+  one_read xs ys p q = (laws.one b [] (chars bytes) xs ys End End p.reading q.reading).0
 
   pub not_both : (pieces : List Piece) (text : List ℕ) → IsRead b bytes pieces → IsInputRefused b bytes text → ⊥
   not_both pieces text read (TooLong long is) = let w = read.text.within in absurd (omega (arith, w, long))
   not_both pieces text read (NotUtf8 at broken is) = broken.broken read.text.utf8
   not_both pieces text read (ReadingStops others at found expected is_text reading is) =
-      end_or_stopped at found expected (laws.one b (chars bytes) pieces others End (Stopped at found expected) read.reading reading).1
+      end_or_stopped at found expected (laws.one b [] (chars bytes) pieces others End (Stopped at found expected) read.reading reading).1
 
   same_stop : (xs ys : List Piece) (at at' : ℕ) (found found' expected expected' : List ℕ) → IsReading b (chars bytes) xs (Stopped at found expected) →
       IsReading b (chars bytes) ys (Stopped at' found' expected') → stop_text b.g1 (chars bytes) at found expected ≡ stop_text b.g1 (chars bytes) at' found' expected'
   same_stop xs ys at at' found found' expected expected' p q =
-      let same = (laws.one b (chars bytes) xs ys _ _ p q).1 in
+      let same = (laws.one b [] (chars bytes) xs ys _ _ p q).1 in
       let one : at ≡ at' = cc same in
       let two : found ≡ found' = cc same in
       let three : expected ≡ expected' = cc same in

@@ -4,13 +4,14 @@ use Rattle.std.proofs.lemmas.List.Elements.{Contains-append_cases}
 use Rattle.finite_sets.proofs.Lists.{Contains-none}
 use Rattle.grammar_model.specs.declared.Edge.{Edge}
 use Rattle.language_model.specs.Building.{Built}
-use Rattle.reading_model.specs.Reading.{Piece, Token, Skipped, earleme_after, edges_from, edges_of, spans_from, Reads, Begin, Take, Skip}
+use Rattle.reading_model.specs.Reading.{Piece, Token, Skipped, earleme_after, edges_from, edges_of, spans_from, Reads, Begin, Take, Skip, Supply}
 use Rattle.flat_model.specs.Flattened.{IsFlattened}
 use Rattle.earley_sets.specs.Recognizer.{Recognizer, earleme_of}
 use Rattle.earley_sets.proofs.Membership.{Contains-map_from}
 use Rattle.scanless.specs.Taking.{token_edges, Takes}
 use Rattle.scanless.specs.Reading.{HoldsPieces}
 use Rattle.reading_model.proofs.Characters.{characters, characters_are}
+use Rattle.reading_model.proofs.One.{contains_first}
 
 -- ---- places
 
@@ -31,6 +32,7 @@ place_within (Take {at = at} {n = n} {pieces = pieces} first others r lt longest
     let e = place_token pieces n (first ∷ others) in let f = place_within r in let some = longest.some in omega (arith, e, f, some)
 place_within (Skip {at = at} {n = n} {pieces = pieces} r lt longest none skipped) =
     let e = place_skipped pieces n in let f = place_within r in omega (arith, e, f)
+place_within (Supply symbol r stuck first) = absurd (Contains-none symbol (contains_first first))
 
 -- ---- edges
 

@@ -1,5 +1,5 @@
 -- Reading piece by piece: what is read goes on, or ends.
-use Rattle.std.proofs.Common.{arith, ◌≡◌, ◌↔◌, ℕ, ◌+◌, ◌<◌, ◌≤◌, List, [], ◌∷◌, ◌++◌, length, map, Contains, refl, sym, ◌∙◌, ap, subst}
+use Rattle.std.proofs.Common.{arith, inr, ◌≡◌, ◌↔◌, ℕ, ◌+◌, ◌<◌, ◌≤◌, List, [], ◌∷◌, ◌++◌, length, map, Contains, refl, sym, ◌∙◌, ap, subst}
 use Rattle.std.specs.List.Sorted.{IsStrictlySortedBy}
 use Rattle.std.specs.Ordering.{nat_cmp}
 use Rattle.finite_sets.proofs.Lists.{Contains-none}
@@ -66,12 +66,12 @@ module _ (b : Built) (text : List ℕ) where
     stuck_without more none = record { more = more; none = λ n l. absurd (none n l); are_found = found_none none }
 
     pub has_stopped : (found expected : List ℕ) → IsStuck b text pieces at found → AreExpected b pieces expected → IsReading b text pieces (model.Stopped at found expected)
-    has_stopped found expected stuck are = HasStopped read.reads stuck.more stuck.none stuck.are_found are
+    has_stopped found expected stuck are = HasStopped read.reads stuck.more stuck.none (λ s c may. Contains-none s c) stuck.are_found are
 
     pub has_ended : length text ≤ at → IsReadingOf b text recce spans End
     has_ended all = record {
       pieces = pieces;
-      is_reading = HasEnded (subst (λ k. Reads b text k pieces) (let le = read.within in let e : at ≡ length text = omega (arith, le, all) in e) read.reads);
+      is_reading = HasEnded (subst (λ k. Reads b text k pieces) (let le = read.within in let e : at ≡ length text = omega (arith, le, all) in e) read.reads) (inr (λ s c may. Contains-none s c));
       holds = read.holds;
       spans_are = read.spans_are;
     }

@@ -83,7 +83,7 @@ some_report b pieces at built accepted =
 
 pub reading_laws : ReadingLaws
 reading_laws = record {
-  read = λ b text built accepted. reading_exists b text accepted.checked.structural (lexemes_named b built);
+  read = λ b text built accepted. reading_exists b [] text accepted.checked.structural (lexemes_named b built);
   one = reading_is_one;
   expected = λ b pieces built accepted. expected_list b accepted.checked.structural [] pieces 0 (lexemes_named b built);
   one_expected = one_expected;

@@ -97,12 +97,12 @@ module _ (size : ℕ) (sized : size ≤ 100000) where
       own_reading = subst (λ (l : List ℕ). IsReading b l own.0 End) (sym is) own.1.0.reading
 
       pub own_read : (text : List ℕ) (place : Option Place) (expected : List ℕ) → IsStopText b cs text place expected → ⊥
-      own_read text place expected stop = let (same, ends) = reading_is_one b cs own.0 stop.pieces End (Stopped stop.at stop.found expected) own_reading stop.reading in absurd (cc ends)
+      own_read text place expected stop = let (same, ends) = reading_is_one b [] cs own.0 stop.pieces End (Stopped stop.at stop.found expected) own_reading stop.reading in absurd (cc ends)
 
       -- the one derivation
       only : (pieces : List Piece) → IsReading b cs pieces End → (ranking : Ranking) → (tree : Tree) × AreDerivations b ranking pieces (tree ∷ [])
       only pieces reading ranking =
-          let (same, ends) = reading_is_one b cs own.0 pieces End End own_reading reading in
+          let (same, ends) = reading_is_one b [] cs own.0 pieces End End own_reading reading in
           subst (λ (ps : List Piece). (tree : Tree) × AreDerivations b ranking ps (tree ∷ [])) same (own.1.1 ranking)
 
       same_list : (ranking : Ranking) (pieces : List Piece) (ts us : List Tree) → AreDerivations b ranking pieces ts → AreDerivations b ranking pieces us → ts ≡ us
@@ -149,7 +149,7 @@ module _ (size : ℕ) (sized : size ≤ 100000) where
             let (tree, one) = only has.pieces has.of.reading RuleRanks in
             let same = same_list RuleRanks has.pieces trees (tree ∷ []) all one in
             let few : take 4294967295 trees ≡ trees = ap (λ (ts : List Tree). take 4294967295 ts) same ∙ take_all 4294967295 (tree ∷ []) (omega arith) ∙ sym same in
-            let (pieces, ends) = reading_is_one b cs reading.pieces has.pieces End End reading.is_reading has.of.reading in
+            let (pieces, ends) = reading_is_one b [] cs reading.pieces has.pieces End End reading.is_reading has.of.reading in
             let holds : HoldsPieces b has.pieces recce = subst (λ (ps : List Piece). HoldsPieces b ps recce) pieces reading.holds in
             record {
               pieces = has.pieces;

@@ -106,7 +106,7 @@ module _ (b : Built) (asked : ValuesAsked) (cs : List ℕ) (spans : List Span) (
       → TakesAtMost recce before read → ListsWithin b asked cs before after
   lists_within recce held_spans is reading before read built after builds gives reads =
       let (trees, l) = some_listing b asked.ranking cs spans f has forest in
-      let (same, ends) = reading_is_one b cs reading.pieces has.pieces End End reading.is_reading has.of.reading in
+      let (same, ends) = reading_is_one b [] cs reading.pieces has.pieces End End reading.is_reading has.of.reading in
       let holds : HoldsPieces b has.pieces recce = subst (λ (ps : List Piece). HoldsPieces b ps recce) same reading.holds in
       record {
         pieces = has.pieces;

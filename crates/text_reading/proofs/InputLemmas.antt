@@ -44,7 +44,7 @@ module _ (b : Built) (ranges : IsInRange b) where
       all_known symbols (λ s among. let f = (are.exact s).0 among in subst Known f.symbol_is (row_known f.row f.lexeme))
 
   pub stopped_known : (text : List ℕ) (pieces : List Piece) (at : ℕ) (found expected : List ℕ) → IsReading b text pieces (Stopped at found expected) → All Known found × All Known expected
-  stopped_known text pieces at found expected (HasStopped reads below stuck are_found are_expected) =
+  stopped_known text pieces at found expected (HasStopped reads below nothing none are_found are_expected) =
       (found_known text pieces at found are_found, expected_known pieces expected are_expected)
 
   pub stops_known : (text : List ℕ) (recce : Recognizer) (spans : List Span) (ending : HeldEnding) (at : ℕ) (found expected : Vec ℕ Global) → ending ≡ Stops at found expected → IsReadingOf b text recce spans ending →

@@ -42,7 +42,7 @@ spans_count at (Skipped n ∷ pieces) = spans_count (at + n) pieces
 
 pub spans_fit : (b : Built) (cs : List ℕ) (pieces : List Piece) (spans : List Span) → length cs ≤ 16777216 → IsReading b cs pieces End → map span_of spans ≡ spans_from 0 pieces →
     AreSpans (length cs) spans × (length spans ≡ earleme_after pieces)
-spans_fit b cs pieces spans few (HasEnded r) are = (
+spans_fit b cs pieces spans few (HasEnded r end) are = (
   inside_fit (length cs) spans few (subst (AreInside (length cs)) (sym are) (spans_inside (length cs) 0 pieces (let e = characters_are r in omega (arith, e)))),
   sym (length-map spans span_of) ∙ (ap length are ∙ spans_count 0 pieces),
 )

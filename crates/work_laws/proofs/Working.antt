@@ -1,6 +1,7 @@
 -- The job's own grammar is accepted, and its own input is read to its end and has one derivation.
-use Rattle.std.proofs.Common.{◌≡◌, ℕ, zero, suc, ◌+◌, ◌*◌, ◌<◌, pos, [], ◌∷◌, length, chars, slice_index_or, Contains, sym, ◌∙◌, refl, subst, arith, lit<}
+use Rattle.std.proofs.Common.{◌≡◌, inr, ℕ, zero, suc, ◌+◌, ◌*◌, ◌<◌, pos, [], ◌∷◌, length, chars, slice_index_or, Contains, sym, ◌∙◌, refl, subst, arith, lit<}
 use Rattle.std.specs.List.Sorted.{IsStrictlySortedBy}
+use Rattle.finite_sets.proofs.Lists.{Contains-none}
 use Rattle.grammar_model.specs.declared.Ranking.{Ranking}
 use Rattle.grammar_model.specs.Grammar.{slot_of, rule_at, rank_of}
 use Rattle.grammar_model.specs.Trees.{Tree}
@@ -41,7 +42,7 @@ module _ (size : ℕ) where
   pub work_read : IsReading work_built (chars (work_input size)) (ones (word size)) End
   work_read =
       subst (λ text. IsReading work_built text (ones (word size)) End) (sym (input_chars size))
-      (HasEnded (all_read (word size) (work_input size) (input_spelled size) line_derived))
+      (HasEnded (all_read (word size) (work_input size) (input_spelled size) line_derived) (inr (λ symbol c may. Contains-none symbol c)))
 
   abbrev D : Tree → Type 0
   D = Derives work_g1 (Held (edges_of (ones (word size)))) (slot_of 0) 0 (earleme_after (ones (word size)))
