@@ -5,6 +5,7 @@ use Rattle.grammar_model.specs.Checked as model
 use Rattle.grammar_model.specs.Checked.{IsChecked}
 use Rattle.recognizer_model.specs.Flat.{FlatGrammar}
 use Rattle.recognizer_model.specs.FlatForm.{IsFlatOf}
+use Rattle.flat_model.specs.Flattened.{IsFlattened}
 pub use Rattle.flat_rules.proofs.Counted.{few_rules, many_rules}
 use Rattle.language_model.specs.Building.{Built}
 use Rattle.grammar_check.specs.declared.refusal.GrammarRefusal.{GrammarRefusal}
