@@ -4,12 +4,13 @@
 use Rattle.std.specs.Prelude.{◌≡◌, ℕ, ◌<◌, ◌≤◌, ◌==◌, ◌++◌, if◌then◌else◌, Bool, List, [], ◌∷◌, map, flat_map, codes, chars, encode_utf8, decimal}
 use Rattle.std.specs.List.{concat}
 use Rattle.std.specs.Str.Lossy.{utf8_lossy}
-use Rattle.grammar_model.specs.Grammar.{Grammar, rule_at, lhs_of}
+use Rattle.grammar_model.specs.Grammar.{Grammar}
 use Rattle.grammar_model.specs.Trees.{Tree}
 use Rattle.grammar_model.specs.Values.{name_of}
 use Rattle.grammar_model.specs.Text.{is_control, escaped}
 use Rattle.recognizer_model.specs.declared.ReportLine.{ReportLine}
 use Rattle.report_model.specs.Report.{IsReport}
+pub use Rattle.report_model.specs.Lines.{report_line}
 use Rattle.language_model.specs.Building.{Built}
 use Rattle.reading_model.specs.Reading.{Piece, AreExpected, edges_of, earleme_after}
 use Rattle.words_model.specs.Words.{ValuesAsked, Telling}
@@ -64,11 +65,6 @@ stats_lines asked n = if asked then stats_line n ∷ [] else []
 
 abbrev pub work_line : (size : ℕ) → Numbers → (values : ℕ) → List ℕ
 work_line size n values = codes "work " ++ (decimal size ++ (codes ": " ++ (numbers_text n ++ (codes " values " ++ (decimal values ++ 10 ∷ [])))))
-
--- an item by its written rule, its dot, its origin, the place of the report, and the rule's left side
-abbrev pub report_line : Grammar → (at : ℕ) → ReportLine → List ℕ
-report_line g at l =
-    decimal l.rule ++ (codes ":" ++ (decimal l.dot ++ (codes " @" ++ (decimal l.origin ++ (codes "-" ++ (decimal at ++ (codes " " ++ (name_of g (lhs_of (rule_at g l.rule)) ++ 10 ∷ []))))))))
 
 -- WHAT IS TOLD
 
