@@ -12,7 +12,7 @@ use Rattle.slif_base.proofs.Bytes.{appends_none}
 use Rattle.slif_cli.specs.Tasks.{TellsReading}
 use Rattle.slif_cli.proofs.Stopping.{lines_done, lines_stop}
 use Rattle.slif_cli.proofs.Reported.{report_as, report_known, reported, past_last, within_from}
-use Rattle.slif_cli.proofs.reporting.write_report.Goals as goal
+use Rattle.slif_cli.proofs.telling.reporting.write_report.Goals as goal
 
 pub report-requires : goal.report-requires
 report-requires g c = subst (λ (w : Grammar). IsFlatOf c.args.reading.now.recce.flat w) (sym c.written.ensures) c.requires.holds.flat.made

@@ -5,7 +5,7 @@ use Rattle.words_model.specs.Words.Telling.{Expected}
 use Rattle.run_model.specs.Telling.{done}
 use Rattle.slif_cli.specs.Tasks.{TellsReading}
 use Rattle.slif_cli.proofs.Stopping.{lines_done, lines_stop}
-use Rattle.slif_cli.proofs.expecting.write_expected.Goals as goal
+use Rattle.slif_cli.proofs.telling.expecting.write_expected.Goals as goal
 
 pub returns-clause-done : goal.returns-clause-done
 returns-clause-done g c =

@@ -5,7 +5,7 @@ use Rattle.words_model.specs.Words.{job_asked}
 use Rattle.command_line.specs.Jobs.{job_of}
 use Rattle.command_line.specs.declared.job.Job.{Job}
 use Rattle.slif_cli.proofs.JobLemmas.{not_asked}
-use Rattle.slif_cli.proofs.top.work.Goals as goal
+use Rattle.slif_cli.proofs.top.do_words.Goals as goal
 
 pub returns-in-Ok-None-clause-stops : goal.returns-in-Ok-None-clause-stops
 returns-in-Ok-None-clause-stops g c =

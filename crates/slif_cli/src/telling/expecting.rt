@@ -9,7 +9,7 @@ ghost use Rattle.scanless.specs.declared.reading.Ending.TheVariants.{End};
 ghost use Rattle.slif_cli.specs.Stops.{Does, WriteStops};
 ghost use Rattle.slif_cli.specs.Tasks.{TellsReading};
 
-use crate::checking::write_lines;
+use crate::lines::write_lines;
 use crate::stop::Stop;
 use grammar_core::{SymbolId, Written};
 use scanless::{Prepared, Reading, expected_lexemes};
@@ -44,6 +44,7 @@ fn expected_lines(
     requires { IsReadingOf prepared.now chars.now reading.now.recce reading.now.spans.items End }
     ensures { IfOk result (λ lines. TellsReading Expected prepared.now chars.now (done (map (λ l. l.items) lines.items))) }
 {
+    // The characters stand in the contract alone.
     let _ = chars;
     prepared.known();
     let symbols = expected_lexemes(alloc, prepared, &reading.recce)?;

@@ -14,7 +14,7 @@ ghost use Rattle.scanless.specs.declared.reading.Ending.TheVariants.{End};
 ghost use Rattle.slif_cli.specs.Stops.{Does, WriteStops, LinesStop};
 ghost use Rattle.slif_cli.specs.Tasks.{TellsReading, GoesOnWithin};
 
-use crate::checking::write_lines;
+use crate::lines::write_lines;
 use crate::stop::Stop;
 use bocage::Stats;
 use bumpalo::Bump;

@@ -14,7 +14,7 @@ use Rattle.slif_cli.proofs.Derived.{values_done, values_stop, stats_stop, no_val
 use Rattle.slif_cli.proofs.Refusing.{input_stops_for}
 use Rattle.slif_cli.proofs.Stopping.{passed_on}
 use Rattle.slif_cli.proofs.Within.{lists_within}
-use Rattle.slif_cli.proofs.values.write_values.Goals as goal
+use Rattle.slif_cli.proofs.telling.values.write_values.Goals as goal
 
 pub write_derivations-requires-clause-forest : goal.write_derivations-requires-clause-forest
 write_derivations-requires-clause-forest g c =
@@ -72,6 +72,6 @@ returns-clause-counted g c =
     let read = c.args.reading.now in
     let has = subst (λ (spans : List Span). HasForest b c.args.asked.ranking cs spans c.in_ok-forest.forest) (sym c.deref.ensures.value) c.in_ok-forest.ensures.forest in
     on_ok_weaker c.write_stats.result
-    (λ _ before reads. lists_within b (asked_of c.args.asked) cs c.deref.result.now c.in_ok-forest.forest has c.known.ensures read.recce read.spans.items c.place-place.ensures.is c.requires.read before _ _ _
-    c.forest_of.ensures.counted c.in_ok-write_derivations.ensures.counted reads)
+    (λ _. lists_within b (asked_of c.args.asked) cs c.deref.result.now c.in_ok-forest.forest has c.known.ensures read.recce read.spans.items c.place-place.ensures.is c.requires.read _ _ _
+    c.forest_of.ensures.counted c.in_ok-write_derivations.ensures.counted)
     c.write_stats.ensures.written

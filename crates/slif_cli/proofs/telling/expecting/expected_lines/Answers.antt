@@ -6,7 +6,7 @@ use Rattle.run_model.specs.Telling.{done}
 use Rattle.text_reading.proofs.InputLemmas.{expected_known, known_in}
 use Rattle.slif_cli.specs.Tasks.{TellsReading}
 use Rattle.slif_cli.proofs.InputLemmas.{names_as}
-use Rattle.slif_cli.proofs.expecting.expected_lines.Goals as goal
+use Rattle.slif_cli.proofs.telling.expecting.expected_lines.Goals as goal
 
 pub name_lines-requires : goal.name_lines-requires
 name_lines-requires c =

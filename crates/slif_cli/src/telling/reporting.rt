@@ -8,7 +8,7 @@ ghost use Rattle.scanless.specs.declared.reading.Ending.TheVariants.{End};
 ghost use Rattle.slif_cli.specs.Stops.{Does, WriteStops};
 ghost use Rattle.slif_cli.specs.Tasks.{TellsReading};
 
-use crate::checking::write_lines;
+use crate::lines::write_lines;
 use crate::stop::{Refusal, Stop};
 use grammar_core::Written;
 use progress::{ProgressRefusal, ReportLine, report};
@@ -33,6 +33,7 @@ pub fn write_report<'a, O: Sink>(
 {
     prepared.known();
     let last = reading.recce.place();
+    // The characters stand in the contract alone.
     let _ = chars;
     match report(alloc, prepared.written(), &reading.recce, at) {
         Ok(items) => {

@@ -1,7 +1,7 @@
 use Rattle.run_model.specs.Outside.{stream}
 use Rattle.value_lines.specs.Counts.{numbers_of}
 use Rattle.slif_cli.proofs.Derived.{asked_stops}
-use Rattle.slif_cli.proofs.values.write_stats.Goals as goal
+use Rattle.slif_cli.proofs.telling.values.write_stats.Goals as goal
 
 pub returns-clause-stops : goal.returns-clause-stops
 returns-clause-stops g c =
