@@ -6,7 +6,7 @@ use Rattle.cursor_model.specs.Cursor.{numeral, step_text, cursor_text}
 use Rattle.cursor_model.proofs.Numerals.{AreDigits, numeral_digits, numerals_tell}
 
 -- no byte of it is that one
-abbrev Lacks : ℕ → List ℕ → Type 0
+abbrev pub Lacks : ℕ → List ℕ → Type 0
 Lacks c [] = Unit {0}
 Lacks c (x ∷ xs) = (x ≢ c) × Lacks c xs
 
@@ -19,11 +19,11 @@ lacks_both c [] ys a b = b
 lacks_both c (x ∷ xs) ys a b = (a.0, lacks_both c xs ys a.1 b)
 
 -- what stands before the first of a byte, and after it
-record AreHalves (a b x y : List ℕ) : Type 0 where
-  first : a ≡ b
-  second : x ≡ y
+pub record AreHalves (a b x y : List ℕ) : Type 0 where
+  pub first : a ≡ b
+  pub second : x ≡ y
 
-halves : (c : ℕ) (a b x y : List ℕ) → Lacks c a → Lacks c b → a ++ c ∷ x ≡ b ++ c ∷ y → AreHalves a b x y
+pub halves : (c : ℕ) (a b x y : List ℕ) → Lacks c a → Lacks c b → a ++ c ∷ x ≡ b ++ c ∷ y → AreHalves a b x y
 halves c [] [] x y la lb e = record { first = refl; second = cc }
 halves c [] (k ∷ b) x y la lb e = let same : c ≡ k = cc in absurd (lb.0 (sym same))
 halves c (k ∷ a) [] x y la lb e = let same : k ≡ c = cc in absurd (la.0 same)
@@ -35,13 +35,13 @@ halves c (k ∷ a) (l ∷ b) x y la lb e =
     record { first = λ i. heads i ∷ f i; second = r.second }
 
 -- one has it, and the other does not
-half : (c : ℕ) (a b x : List ℕ) → Lacks c b → a ++ c ∷ x ≡ b → ⊥
+pub half : (c : ℕ) (a b x : List ℕ) → Lacks c b → a ++ c ∷ x ≡ b → ⊥
 half c [] [] x lb e = cc
 half c [] (k ∷ b) x lb e = let same : c ≡ k = cc in lb.0 (sym same)
 half c (k ∷ a) [] x lb e = cc
 half c (k ∷ a) (l ∷ b) x lb e = let tails : a ++ c ∷ x ≡ b = cc in half c a b x lb.1 tails
 
-abbrev AllLack : ℕ → List (List ℕ) → Type 0
+abbrev pub AllLack : ℕ → List (List ℕ) → Type 0
 AllLack c [] = Unit {0}
 AllLack c (x ∷ xs) = Lacks c x × AllLack c xs
 
@@ -65,16 +65,16 @@ bare_step (TokenStep symbol from to) = TokenStep symbol 0 0
 bare_step (NulledStep symbol at) = NulledStep symbol 0
 bare_step (RuleStep rule children from to) = RuleStep rule children 0 0
 
-numeral_lacks : (c n : ℕ) → c < 48 → Lacks c (numeral n)
+pub numeral_lacks : (c n : ℕ) → c < 48 → Lacks c (numeral n)
 numeral_lacks c n low = digits_lack c low (numeral n) (numeral_digits n)
 
-step_lacks : (s : Step) → Lacks 46 (step_text s)
+pub step_lacks : (s : Step) → Lacks 46 (step_text s)
 step_lacks (TokenStep symbol from to) = ((λ e. omega (arith, e)), numeral_lacks 46 symbol (omega arith))
 step_lacks (NulledStep symbol at) = ((λ e. omega (arith, e)), numeral_lacks 46 symbol (omega arith))
 step_lacks (RuleStep rule children from to) =
     ((λ e. omega (arith, e)), lacks_both 46 (numeral rule) (44 ∷ numeral children) (numeral_lacks 46 rule (omega arith)) ((λ e. omega (arith, e)), numeral_lacks 46 children (omega arith)))
 
-steps_lack : (ss : List Step) → AllLack 46 (map step_text ss)
+pub steps_lack : (ss : List Step) → AllLack 46 (map step_text ss)
 steps_lack [] = tt
 steps_lack (s ∷ ss) = (step_lacks s, steps_lack ss)
 
@@ -85,7 +85,7 @@ differ a b xs ys other e = let heads : a ≡ b = cc in other heads
 same_tail : (a : ℕ) (xs ys : List ℕ) → a ∷ xs ≡ a ∷ ys → xs ≡ ys
 same_tail a xs ys e = cc
 
-step_told : (s t : Step) → step_text s ≡ step_text t → bare_step s ≡ bare_step t
+pub step_told : (s t : Step) → step_text s ≡ step_text t → bare_step s ≡ bare_step t
 step_told (TokenStep x a b) (TokenStep y c d) e = let tails : numeral x ≡ numeral y = same_tail 116 (numeral x) (numeral y) e in ap (λ z. TokenStep z 0 0) (numerals_tell x y tails)
 step_told (TokenStep x a b) (NulledStep y c) e = absurd (differ 116 110 _ _ (λ h. omega (arith, h)) e)
 step_told (TokenStep x a b) (RuleStep r n c d) e = absurd (differ 116 114 _ _ (λ h. omega (arith, h)) e)
@@ -101,7 +101,7 @@ step_told (RuleStep r n a b) (RuleStep r' n' c d) e =
     let counts = numerals_tell n n' h.second in
     λ i. RuleStep (rules i) (counts i) 0 0
 
-texts_told : (ss ts : List Step) → map step_text ss ≡ map step_text ts → map bare_step ss ≡ map bare_step ts
+pub texts_told : (ss ts : List Step) → map step_text ss ≡ map step_text ts → map bare_step ss ≡ map bare_step ts
 texts_told [] [] e = refl
 texts_told [] (t ∷ ts) e = absurd (cc e)
 texts_told (s ∷ ss) [] e = absurd (cc e)
