@@ -1,5 +1,6 @@
 -- What a supplier gives is what the definition supplies.
-use Rattle.std.proofs.Common.{arith, ◌≡◌, ◌⊎◌, inl, inr, ◌↔◌, ℕ, ◌+◌, ◌*◌, ◌<◌, ◌≤◌, ◌==◌, if◌then◌else◌, Bool, true, List, [], ◌∷◌, ◌++◌, length, length-append, Option, Some, None, Contains, Vec, Global, refl, sym, ap, subst, ◌∙◌}
+use Rattle.std.proofs.Common.{arith, ◌≡◌, inl, inr, ◌↔◌, ℕ, ◌+◌, ◌*◌, ◌<◌, ◌≤◌, ◌==◌, if◌then◌else◌, Bool, true, false, not, List, [], ◌∷◌, ◌++◌, length, length-append, Option, Some, None, Contains, Vec, Global, refl, sym, ap, subst, ◌∙◌}
+use Rattle.std.specs.Option.{is_some}
 use Rattle.std.proofs.Math.Nat.{mul-le-mul_left}
 use Rattle.std.proofs.lemmas.Bool.{eq-eqb}
 use Rattle.finite_sets.proofs.Clauses.{less_differs}
@@ -9,10 +10,11 @@ use Rattle.reading_model.specs.First.{IsFirstWith, HasNone}
 use Rattle.reading_model.specs.Reading.{Piece, supplied, supplied_behind, IsNext, IsStuck, Within, Ended, HasDerivation, MaySupply}
 use Rattle.reading_model.proofs.Few.{tokens_are_few}
 use Rattle.reading_model.proofs.Behind.{behind_supplied}
-use Rattle.earley_sets.specs.Recognizer.{Recognizer, earleme_of, IsExpected}
-use Rattle.scanless.specs.Reading.{HasRead, ReadSoFar, IsSameOrLonger, IsResting, RestsWith, IsOver}
-use Rattle.slippers.specs.Stock.{Stock, given_at, MayGive}
-use Rattle.slippers.specs.Supplied.{Remembers, IsReadOver}
+use Rattle.earley_sets.specs.Recognizer.{Recognizer, earleme_of}
+use Rattle.scanless.specs.declared.reading.Ending.{Ending}
+use Rattle.scanless.specs.Reading.{IsReadingOfWith, HasRead, ReadSoFar, IsSameOrLonger, ComesToRest, IsResting, IsOver}
+use Rattle.slippers.specs.Stock.{Stock, told, given_at, MayGive, Offers}
+use Rattle.slippers.specs.Supplied.{Remembers, IsSupplied, IsReadOver}
 
 -- ---- how many tokens there are
 
@@ -76,6 +78,26 @@ module _ (b : Built) (stock : Stock) (at : ℕ) (expected : List ℕ) (pieces : 
     none_before = λ y c may. first.none_before y c (to_give y may);
   }
 
+module _ (b : Built) (stock new : Stock) (at asked : ℕ) (asked_is : asked ≡ at) (expected : List ℕ) (pieces : List Piece) (remembers : Remembers stock at pieces) (next : (t : ℕ) → Contains expected t ↔ IsNext b pieces t) (offered : Option ℕ)
+    (offers : Offers stock asked expected offered new) where
+  pub offered_none : offered ≡ None → HasNone (MaySupply b pieces) stock.names
+  offered_none is = none_supplied b stock at expected pieces remembers next (subst (λ k. HasNone (MayGive stock k expected) stock.names) asked_is (subst (λ o. Offers stock asked expected o new) is offers).0)
+
+  pub offered_first : (x : ℕ) → offered ≡ Some x → IsFirstWith (MaySupply b pieces) stock.names x
+  offered_first x is = first_supplied b stock at expected pieces remembers next x (subst (λ k. IsFirstWith (MayGive stock k expected) stock.names x) asked_is (subst (λ o. Offers stock asked expected o new) is offers).0)
+
+  pub offered_stock : (x : ℕ) → offered ≡ Some x → new ≡ record { names = stock.names; place = at; given = given_at stock at ++ x ∷ [] }
+  offered_stock x is = subst (λ k. new ≡ record { names = stock.names; place = k; given = given_at stock k ++ x ∷ [] }) asked_is (subst (λ o. Offers stock asked expected o new) is offers).1
+
+pub some_not_none : {A : Type 0} (o : Option A) (t : Bool) → is_some o ≡ not t → t ≡ false → o ≡ None → ⊥
+some_not_none None true e f none = absurd (cc)
+some_not_none None false e f none = absurd (cc)
+some_not_none (Some x) t e f none = absurd (cc)
+
+pub none_of : {A : Type 0} (o : Option A) → is_some o ≡ false → o ≡ None
+none_of None e = refl
+none_of (Some x) e = absurd (cc)
+
 -- ---- where reading rests
 
 module _ (given text : List ℕ) (r : ReadSoFar) where
@@ -90,3 +112,50 @@ module _ (given text : List ℕ) (r : ReadSoFar) where
   pub over_with : (found : Option (Vec ℕ Global)) → found ≡ None → (rests : IsResting given text r found) → HasDerivation r.grammar rests.pieces → IsReadOver given text r None
   over_with None e rests some = (rests, inl some)
   over_with (Some f) e rests some = absurd (cc)
+
+-- ---- a turn
+
+module _ (text : List ℕ) (old new : ReadSoFar) (stock : Stock) (found : Option (Vec ℕ Global)) (so_far : IsSupplied text old stock) (comes : ComesToRest stock.names text so_far.pieces old new found) where
+  pub rests_remembered : Remembers stock new.at comes.0.pieces
+  rests_remembered = remembers_on stock old.at new.at so_far.pieces comes.0.pieces so_far.remembers comes.1
+
+  pub rests_turns : (turns : ℕ) → length text ≤ 1048576 → length stock.names ≤ 8 → turns ≤ old.at * 8 + length (given_at stock old.at) → turns ≤ new.at * 8 + length (supplied_behind comes.0.pieces)
+  rests_turns turns short eight le =
+      turns_on stock old.at new.at so_far.pieces comes.0.pieces so_far.remembers comes.1 turns (few_supplied old.grammar stock.names text so_far.pieces old.at old.recce old.spans so_far.has_read short eight) le
+
+module _ (text : List ℕ) (r next : ReadSoFar) (stock new : Stock) (x : ℕ) (pieces : List Piece) (at_is : next.at ≡ r.at) (remembers : Remembers stock r.at pieces)
+    (is : new ≡ record { names = stock.names; place = r.at; given = given_at stock r.at ++ x ∷ [] }) where
+  next_remembered : Remembers new next.at (pieces ++ supplied x ∷ [])
+  next_remembered = subst (λ k. Remembers new k (pieces ++ supplied x ∷ [])) (sym at_is) (remembers_given stock new r.at x pieces remembers is)
+
+  pub next_supplied : (b : Built) → next.grammar ≡ b → HasRead b stock.names text (pieces ++ supplied x ∷ []) next.at next.recce next.spans → IsSupplied text next new
+  next_supplied b grammar read = record {
+    pieces = pieces ++ supplied x ∷ [];
+    has_read = subst (λ (s : Stock). HasRead next.grammar s.names text (pieces ++ supplied x ∷ []) next.at next.recce next.spans) (sym is)
+        (subst (λ (b : Built). HasRead b stock.names text (pieces ++ supplied x ∷ []) next.at next.recce next.spans) (sym grammar) read);
+    remembers = next_remembered;
+  }
+
+  pub next_turns : (turns : ℕ) → turns ≤ r.at * 8 + length (supplied_behind pieces) → turns + 1 ≤ next.at * 8 + length (given_at new next.at)
+  next_turns turns le =
+      let l = ap length (next_remembered.same ∙ behind_supplied pieces x) in
+      let more = length-append (supplied_behind pieces) (x ∷ []) in
+      omega (arith, le, l, more, at_is)
+
+none_either : (t : Bool) → Path (List ℕ) (if t then [] else []) []
+none_either true = refl
+none_either false = refl
+
+-- a reader and a supplier that begin
+pub supplied_first : (text : List ℕ) (b : Built) (r : ReadSoFar) (stock : Stock) → r.grammar ≡ b → stock ≡ told stock.names → HasRead b stock.names text [] r.at r.recce r.spans → IsSupplied text r stock
+supplied_first text b r stock grammar is read = record {
+  pieces = [];
+  has_read = subst (λ (b : Built). HasRead b stock.names text [] r.at r.recce r.spans) (sym grammar) read;
+  remembers = record {
+    so_far = (let e : stock.place ≡ 0 = ap (λ (s : Stock). s.place) is in omega (arith, e));
+    same = subst (λ (s : Stock). given_at s r.at ≡ []) (sym is) (none_either (0 == r.at));
+  };
+}
+
+pub as_read : (b other : Built) (given text : List ℕ) (recce : Recognizer) (spans : List Span) (ending : Ending) → other ≡ b → IsReadingOfWith other given text recce spans ending → IsReadingOfWith b given text recce spans ending
+as_read b other given text recce spans ending e is = subst (λ (b : Built). IsReadingOfWith b given text recce spans ending) e is

@@ -4,7 +4,7 @@ ghost use Rattle.reading_model.specs.Reading.{Piece};
 ghost use Rattle.earley_sets.specs.Recognizer.{earleme_of};
 ghost use Rattle.earley_sets.specs.Counted.{CountsFrom, TakesAtMost};
 ghost use Rattle.scanless.specs.Reading.{HasRead, IsReadingOfWith};
-ghost use Rattle.slippers.specs.Stock.{told};
+ghost use Rattle.slippers.specs.Stock.{told, Offers};
 ghost use Rattle.slippers.specs.Supplied.{IsSupplied, IsReadOver};
 
 use crate::Supplier;
@@ -16,6 +16,17 @@ use std::sync::ledger::Ledger;
 
 /// More tokens than a text of 1,048,576 characters can have with eight lexemes given.
 const MOST_TOKENS: u32 = 16_777_216;
+
+// Asks for a lexeme at a place.
+fn ask(
+    supplier: &mut Box<dyn Supplier>,
+    at: u32,
+    expected: &[SymbolId],
+) -> Result<Option<SymbolId>, AllocError>
+    ensures { IfOk result (λ offered. Offers (stock supplier.old) at expected.now offered (stock supplier.new)) }
+{
+    supplier.offer(at, expected)
+}
 
 // Reads on, and takes what is supplied where reading is stuck, until reading is over. It tells the lexemes that are found where reading
 // stops.
@@ -38,7 +49,7 @@ fn read_over<L: Ledger>(
         if found.is_none() && reader.has_derivation() {
             return Ok(None);
         }
-        let Some(symbol) = supplier.offer(reader.at() as u32, reader.expected())? else {
+        let Some(symbol) = ask(supplier, reader.at() as u32, reader.expected())? else {
             return Ok(found);
         };
         reader.supply(symbol, steps)?;

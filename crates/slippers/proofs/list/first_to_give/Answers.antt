@@ -1,4 +1,4 @@
-use Rattle.std.proofs.Common.{◌≡◌, ℕ, Contains}
+use Rattle.std.proofs.Common.{Contains}
 use Rattle.reading_model.proofs.First.{first_at, none_more, none_all}
 use Rattle.slippers.proofs.list.first_to_give.Goals as goal
 

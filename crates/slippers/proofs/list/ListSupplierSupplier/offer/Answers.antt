@@ -1,6 +1,5 @@
-use Rattle.std.proofs.Common.{rules, ◌≡◌, ℕ, Contains, subst, sym, ap, refl, ◌∙◌}
+use Rattle.std.proofs.Common.{rules, ◌≡◌, Contains, subst, refl}
 use Rattle.reading_model.specs.First.{IsFirstWith, HasNone}
-use Rattle.slippers.specs.Stock.{MayGive, given_at}
 use Rattle.slippers.proofs.list.ListSupplierSupplier.offer.Goals as goal
 
 pub returns-in_default-clause-ok : goal.returns-in_default-clause-ok
