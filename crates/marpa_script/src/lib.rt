@@ -6,6 +6,7 @@ mod building;
 mod commands;
 mod lines;
 mod number;
+mod playing;
 mod precomputing;
 mod refusal;
 
@@ -13,5 +14,6 @@ pub use answers::end_line;
 pub use building::answer_building;
 pub use commands::{Command, command_by};
 pub use lines::{are_words, first_line, list_words};
+pub use playing::answer_line;
 pub use precomputing::answer_precompute;
 pub use refusal::ScriptRefusal;
