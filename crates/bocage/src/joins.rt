@@ -57,13 +57,12 @@ fn put_joins(
     Ok(())
 }
 
-fn sort(joins: &mut Vec<Join>) -> Result<(), AllocError>
-    ensures sorted { OnOk result (IsStrictlySortedBy join_cmp joins.new.items) }
-    ensures same { OnOk result ((j : TheJoin) → Contains joins.new.items j ↔ Contains joins.old.items j) }
+fn sort(joins: &mut Vec<Join>)
+    ensures sorted { IsStrictlySortedBy join_cmp joins.new.items }
+    ensures same { (j : TheJoin) → Contains joins.new.items j ↔ Contains joins.old.items j }
 {
-    joins.sort()?;
+    joins.sort_unstable();
     joins.dedup();
-    Ok(())
 }
 
 /// Lists the joins of groups, in order.
@@ -81,7 +80,7 @@ pub fn list_joins(
         let at = number(k)?;
         put_joins(recce, least, groups[k], at, joins)?;
     }
-    sort(joins)?;
+    sort(joins);
     Ok(())
 }
 

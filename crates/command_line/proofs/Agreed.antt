@@ -18,7 +18,7 @@ use Rattle.clap.specs.declared.parser.matches.ValueSource.TheVariants.{DefaultVa
 use Rattle.words_model.specs.Words.{Setting, are_set_once, job_asked, job_given, stats, value_of, with_value, words_set}
 use Rattle.command_line.specs.Command.{slif_app}
 use Rattle.command_line.specs.Given.{flag_given, given_in}
-use Rattle.command_line.proofs.Options.{clean, clean-or, flag, job, opt, shape}
+use Rattle.command_line.proofs.Options.{all_rules, clean, clean-or, flag, job, opt, shape}
 use Rattle.words_model.proofs.Settings.{has_name, same_test}
 use Rattle.command_line.proofs.Rows.{at_row-none, has_row-rows, row, rows}
 use Rattle.command_line.proofs.Walked.{AllUtf8, Agrees, agrees, are_fine, once, total, walk_on}
@@ -97,10 +97,6 @@ ended_rows rs = with_default rs flag
 options_default : (rs : List Row) (names : List Text) (c : List Rule) → fold with_default rs (map opt names ++ c) ≡ fold with_default rs c
 options_default rs [] c = refl
 options_default rs (n ∷ ns) c = ap (λ l. fold with_default l (map opt ns ++ c)) (plain_default rs (opt n) refl) ∙ options_default rs ns c
-
-all_rules : shape.rules ≡ map opt with_value ++ flag ∷ job ∷ []
-unfolding shape
-all_rules = refl
 
 default_rows_are : (rs : List Row) → fold with_default rs shape.rules ≡ ended_rows rs
 default_rows_are rs =

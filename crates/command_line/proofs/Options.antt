@@ -1,5 +1,5 @@
 -- What the tests of names say.
-use Rattle.std.proofs.Common.{◌≡◌, ℕ, Bool, true, false, ◌&&◌, refl, sym, List, [], ◌∷◌, Option, Some, None, codes, bytes_eq, true≢false}
+use Rattle.std.proofs.Common.{◌≡◌, ◌∙◌, ℕ, Bool, true, false, not, ◌&&◌, refl, sym, ap, List, [], ◌∷◌, ◌++◌, map, Option, Some, None, codes, bytes_eq, true≢false}
 use Rattle.language_model.specs.Building.{is_one_of}
 use Rattle.clap.specs.Kinds.{Kinds, or_else}
 use Rattle.clap.specs.Walk.{Rule, Row, Text, arg_by_long, arg_by_id, arg_by_short, arg_by_index}
@@ -7,7 +7,8 @@ use Rattle.clap.specs.Simple.{Shape, built, filled, with_index}
 use Rattle.clap.specs.Faults.{use_fault}
 use Rattle.clap.specs.Walk.{has_row}
 use Rattle.words_model.specs.Words.{with_value, stats}
-use Rattle.words_model.proofs.Spellings.{Each, among}
+use Rattle.words_model.proofs.Spellings.{of_each}
+use Rattle.std.proofs.lemmas.Slice.Eq.{bytes_eq-Decides}
 use Rattle.command_line.specs.Command.{slif_app, option_rule, stats_rule, job_rule}
 
 -- ---- kinds as tests
@@ -26,13 +27,15 @@ clean_none (k ∷ ks) e = absurd (true≢false (sym e))
 
 -- ---- names of options
 
-pub none_of : (us : List Text) (name : Text) → is_one_of us name ≡ false → Each (λ u. bytes_eq u name ≡ false) us
-none_of [] name h = tt
-none_of (u ∷ us) name h = go (bytes_eq u name) refl (none_of us name)
-  where
-    go : (b : Bool) → bytes_eq u name ≡ b → (is_one_of us name ≡ false → Each (λ v. bytes_eq v name ≡ false) us) → Each (λ v. bytes_eq v name ≡ false) (u ∷ us)
-    go true e next = absurd (true≢false (rw e at h))
-    go false e next = (e, next (rw e at h))
+no : (b : Bool) → not b ≡ true → b ≡ false
+no false e = refl
+no true e = sym e
+
+pub not_stats : (name : Text) → is_one_of with_value name ≡ true → bytes_eq name stats ≡ false
+not_stats name h = no (bytes_eq name stats) (of_each (λ n. not (bytes_eq n stats)) with_value refl name h)
+
+pub not_job : (name : Text) → is_one_of with_value name ≡ true → bytes_eq name (codes "JOB") ≡ false
+not_job name h = no (bytes_eq name (codes "JOB")) (of_each (λ n. not (bytes_eq n (codes "JOB"))) with_value refl name h)
 
 -- ---- the command as it is built
 
@@ -48,13 +51,40 @@ flag = filled stats_rule
 abbrev pub job : Rule
 job = with_index 1 (filled job_rule)
 
-pub option_by_long : (name : Text) → is_one_of with_value name ≡ true → arg_by_long shape.rules name ≡ Some (opt name)
+pub all_rules : shape.rules ≡ map opt with_value ++ flag ∷ job ∷ []
 unfolding shape
-option_by_long name h = among (λ n. arg_by_long shape.rules n ≡ Some (opt n)) with_value (refl, (refl, (refl, (refl, (refl, (refl, (refl, tt))))))) name h
+all_rules = refl
+
+-- of rules of options by their names, that of a name
+long_found : (us : List Text) (rest : List Rule) (name : Text) → is_one_of us name ≡ true → arg_by_long (map opt us ++ rest) name ≡ Some (opt name)
+long_found [] rest name h = absurd (true≢false (sym h))
+long_found (u ∷ us) rest name h = go (bytes_eq u name) refl (long_found us rest name)
+  where
+    go : (b : Bool) → bytes_eq u name ≡ b → (is_one_of us name ≡ true → arg_by_long (map opt us ++ rest) name ≡ Some (opt name)) → arg_by_long (map opt (u ∷ us) ++ rest) name ≡ Some (opt name)
+    go true e more = rw e (ap (λ n. Some (opt n)) ((bytes_eq-Decides u name).0 e))
+    go false e more = rw e (more (rw e at h))
+
+long_missing : (us : List Text) (rest : List Rule) (name : Text) → is_one_of us name ≡ false → arg_by_long (map opt us ++ rest) name ≡ arg_by_long rest name
+long_missing [] rest name h = refl
+long_missing (u ∷ us) rest name h = go (bytes_eq u name) refl (long_missing us rest name)
+  where
+    go : (b : Bool) → bytes_eq u name ≡ b → (is_one_of us name ≡ false → arg_by_long (map opt us ++ rest) name ≡ arg_by_long rest name) → arg_by_long (map opt (u ∷ us) ++ rest) name ≡ arg_by_long rest name
+    go true e more = absurd (true≢false (rw e at h))
+    go false e more = rw e (more (rw e at h))
+
+id_found : (us : List Text) (rest : List Rule) (name : Text) → is_one_of us name ≡ true → arg_by_id (map opt us ++ rest) name ≡ Some (opt name)
+id_found [] rest name h = absurd (true≢false (sym h))
+id_found (u ∷ us) rest name h = go (bytes_eq u name) refl (id_found us rest name)
+  where
+    go : (b : Bool) → bytes_eq u name ≡ b → (is_one_of us name ≡ true → arg_by_id (map opt us ++ rest) name ≡ Some (opt name)) → arg_by_id (map opt (u ∷ us) ++ rest) name ≡ Some (opt name)
+    go true e more = rw e (ap (λ n. Some (opt n)) ((bytes_eq-Decides u name).0 e))
+    go false e more = rw e (more (rw e at h))
+
+pub option_by_long : (name : Text) → is_one_of with_value name ≡ true → arg_by_long shape.rules name ≡ Some (opt name)
+option_by_long name h = ap (λ rules. arg_by_long rules name) all_rules ∙ long_found with_value (flag ∷ job ∷ []) name h
 
 pub option_by_id : (name : Text) → is_one_of with_value name ≡ true → arg_by_id shape.rules name ≡ Some (opt name)
-unfolding shape
-option_by_id name h = among (λ n. arg_by_id shape.rules n ≡ Some (opt n)) with_value (refl, (refl, (refl, (refl, (refl, (refl, (refl, tt))))))) name h
+option_by_id name h = ap (λ rules. arg_by_id rules name) all_rules ∙ id_found with_value (flag ∷ job ∷ []) name h
 
 pub stats_by_long : arg_by_long shape.rules stats ≡ Some flag
 unfolding shape
@@ -65,10 +95,7 @@ unfolding shape
 job_by_id = refl
 
 pub other_by_long : (name : Text) → is_one_of with_value name ≡ false → bytes_eq stats name ≡ false → arg_by_long shape.rules name ≡ None
-unfolding shape
-other_by_long name h e =
-    let es = none_of with_value name h in
-    rw (es.0, es.1.0, es.1.1.0, es.1.1.1.0, es.1.1.1.1.0, es.1.1.1.1.1.0, es.1.1.1.1.1.1.0, e) refl
+other_by_long name h e = ap (λ rules. arg_by_long rules name) all_rules ∙ long_missing with_value (flag ∷ job ∷ []) name h ∙ rw e refl
 
 pub none_by_short : (x : ℕ) → arg_by_short shape.rules x ≡ None
 unfolding shape

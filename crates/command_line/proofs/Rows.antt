@@ -8,9 +8,8 @@ use Rattle.clap.specs.declared.builder.value_parser.Reading.{Reading}
 use Rattle.clap.specs.declared.builder.value_parser.ValueParser.TheVariants as vp
 use Rattle.clap.specs.declared.parser.matches.ValueSource.TheVariants.{CommandLine}
 use Rattle.words_model.specs.Words.{Setting, set, set_job, with_value, stats}
-use Rattle.words_model.proofs.Spellings.{among}
 use Rattle.words_model.proofs.Settings.{has_name}
-use Rattle.command_line.proofs.Options.{flag, job, opt}
+use Rattle.command_line.proofs.Options.{flag, job, not_stats, opt}
 
 abbrev pub reading_for : Text → Reading
 reading_for name = if bytes_eq name stats then reading_of vp.Bool else reading_of vp.String
@@ -44,7 +43,7 @@ with_new name how v rs e =
     ap (with_values name how CommandLine (v ∷ [])) same ∙ at_row-none name (more_values CommandLine (v ∷ [])) (record { id = name; values = v ∷ []; count = None; source = Some CommandLine; reading = how } ∷ []) rs e
 
 option_reading : (name : Text) → is_one_of with_value name ≡ true → reading_by (opt name) ≡ reading_for name
-option_reading name h = among (λ n. reading_by (opt n) ≡ reading_for n) with_value (refl, (refl, (refl, (refl, (refl, (refl, (refl, tt))))))) name h
+option_reading name h = ap (λ b. if b then reading_of vp.Bool else reading_of vp.String) (sym (not_stats name h))
 
 pub option_used : (name v : Text) (ts : List Setting) → is_one_of with_value name ≡ true → has_name name ts ≡ false
     → used (opt name) (v ∷ []) (rows ts) ≡ rows (ts ++ set name v ∷ [])

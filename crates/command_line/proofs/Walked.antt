@@ -12,9 +12,8 @@ use Rattle.clap.specs.Lexer.{name_and_value}
 use Rattle.clap.specs.Kinds.{Kinds, or_else}
 use Rattle.clap.specs.Faults.{long_fault, option_fault, positional_fault, react_fault, settle_fault, step_fault, stray_fault, turn_fault, use_fault, walk_fault, word_fault}
 use Rattle.words_model.specs.Words.{Setting, set, set_job, with_value, stats, and_then, are_set_once, words_set, option_sets, is_dashed}
-use Rattle.command_line.proofs.Options.{clean, clean-or, flag, flag_clash, flag_clean, job, job_by_id, job_clean, once_only, opt, option_by_id, option_by_long, other_by_long, by_place, place, shape, stats_by_long, use_clash, use_clean}
+use Rattle.command_line.proofs.Options.{clean, clean-or, flag, flag_clash, flag_clean, job, job_by_id, job_clean, not_job, not_stats, once_only, opt, option_by_id, option_by_long, other_by_long, by_place, place, shape, stats_by_long, use_clash, use_clean}
 use Rattle.words_model.proofs.Settings.{given_once, given_twice, has_name, has_name-push, same_test}
-use Rattle.words_model.proofs.Spellings.{among}
 use Rattle.command_line.proofs.Rows.{flag_used, has_row-rows, job_used, option_used, rows}
 use Rattle.command_line.proofs.Looks.{utf8_behind, Dashed, Plain, by_look, dashed_fault}
 
@@ -118,12 +117,11 @@ fine-push (s ∷ ss) t h e = go (is_fine s) refl (fine-push ss t)
     go false i more = absurd (true≢false (sym (rw i at h)))
 
 fine_option : (name v : Text) → is_one_of with_value name ≡ true → is_fine (set name v) ≡ true
-fine_option name v h = among (λ n. is_fine (set n v) ≡ true) with_value (refl, (refl, (refl, (refl, (refl, (refl, (refl, tt))))))) name h
+fine_option name v h = ap (λ b. not b || bytes_eq v (codes "true")) (not_stats name h)
 
 no_job : (name v : Text) (ts : List Setting) → is_one_of with_value name ≡ true → has_job (ts ++ set name v ∷ []) ≡ has_job ts
 no_job name v ts h =
-    let not_job : bytes_eq name (codes "JOB") ≡ false = among (λ n. bytes_eq n (codes "JOB") ≡ false) with_value (refl, (refl, (refl, (refl, (refl, (refl, (refl, tt))))))) name h in
-    has_name-push (codes "JOB") ts (set name v ∷ []) ∙ ap (λ b. has_job ts || (b || false)) not_job ∙ or_false (has_job ts)
+    has_name-push (codes "JOB") ts (set name v ∷ []) ∙ ap (λ b. has_job ts || (b || false)) (not_job name h) ∙ or_false (has_job ts)
 
 after-then : (ts : List Setting) (t : Setting) (o : Option (List Setting)) → after (ts ++ t ∷ []) o ≡ after ts (and_then t o)
 after-then ts t None = refl

@@ -1,13 +1,14 @@
-// The job that matches ask for.
+// What the matches give to a job.
 ghost use Rattle.std.specs.Prelude.{◌≡◌, not, ◌||◌, is_some, option_map, option_copied, None, codes, bytes_eq};
 ghost use Rattle.std.specs.List.{list_all, list_any};
 ghost use Rattle.clap.specs.Words.{found_of, first_value};
 ghost use Rattle.language_model.specs.Building.{is_one_of};
 ghost use Rattle.words_model.specs.Words as model;
 ghost use Rattle.words_model.specs.Words.{stats, read_or};
-ghost use Rattle.command_line.specs.Jobs.{task_of, input_of, job_of, names_of};
+ghost use Rattle.command_line.specs.Jobs.{telling_of, task_of, input_of, job_of, names_of};
 ghost use Rattle.command_line.specs.Given.{given_in};
 
+use crate::command::WITH_VALUE;
 use crate::job::{InputFrom, Job, Task, Telling, ValuesAsked};
 use crate::value::{file_name, number_from, ranking_of, show_of};
 use clap::ArgMatches;
@@ -19,6 +20,7 @@ const LAST_EARLEME: u32 = 16_777_216;
 // the greatest size of job `work`
 const LARGEST_WORK: u32 = 100_000;
 
+// The contract of `any` speaks of the names as they are lent.
 fn stands_in(names: &[&str], name: &str) -> bool
     ensures { result ≡ list_any (λ other. bytes_eq other.now name.now) names.now }
 {
@@ -54,12 +56,7 @@ fn allows(matches: &ArgMatches<'_>, options: &[&str], all: &[&str]) -> bool
 fn gives_only(matches: &ArgMatches<'_>, options: &[&str]) -> bool
     ensures { result ≡ model.gives_only (names_of options.now) (given_in (found_of matches.now)) }
 {
-    (is_among(options, "stats") || !has_stats(matches))
-        && allows(
-            matches,
-            options,
-            &["grammar", "input", "first", "rank", "show", "at", "size"],
-        )
+    (is_among(options, "stats") || !has_stats(matches)) && allows(matches, options, WITH_VALUE)
 }
 
 // The grammar's file, of a job that has the option; None where its name has no meaning.
@@ -86,8 +83,12 @@ fn input_given<'a>(matches: &ArgMatches<'a>, options: &[&str]) -> Option<InputFr
     }
 }
 
-// The job of a task that has these options.
-fn job_with<'a>(matches: &ArgMatches<'a>, options: &[&str], task: Option<Task>) -> Option<Job<'a>>
+/// The job of a task that has these options; None where others are given, or one has no meaning.
+pub fn job_with<'a>(
+    matches: &ArgMatches<'a>,
+    options: &[&str],
+    task: Option<Task>,
+) -> Option<Job<'a>>
     ensures { option_map job_of result ≡ model.job_with (names_of options.now) (option_map task_of task) (given_in (found_of matches.now)) }
 {
     if !gives_only(matches, options) {
@@ -127,57 +128,30 @@ fn first_given(matches: &ArgMatches<'_>) -> Option<Option<u32>>
     }
 }
 
-fn values_asked(matches: &ArgMatches<'_>) -> Option<Task>
-    ensures { option_map task_of result ≡ model.values_asked (given_in (found_of matches.now)) }
+/// The values that are asked for; None where an option has no meaning.
+pub fn values_asked(matches: &ArgMatches<'_>) -> Option<Telling>
+    ensures { option_map telling_of result ≡ model.values_asked (given_in (found_of matches.now)) }
 {
-    Some(Task::Tell(Telling::Values(ValuesAsked {
+    Some(Telling::Values(ValuesAsked {
         show: show_given(matches)?,
         ranking: ranking_given(matches)?,
         first: first_given(matches)?,
         stats: has_stats(matches),
-    })))
+    }))
 }
 
-fn report_asked(matches: &ArgMatches<'_>) -> Option<Task>
-    ensures { option_map task_of result ≡ model.report_asked (given_in (found_of matches.now)) }
+/// The report that is asked for; None where its place is not given or has no meaning.
+pub fn report_asked(matches: &ArgMatches<'_>) -> Option<Telling>
+    ensures { option_map telling_of result ≡ model.report_asked (given_in (found_of matches.now)) }
 {
     let at = number_from(0, LAST_EARLEME, matches.get_str("at")?)?;
-    Some(Task::Tell(Telling::Report { at }))
+    Some(Telling::Report { at })
 }
 
-fn work_asked(matches: &ArgMatches<'_>) -> Option<Task>
+/// The work that is asked for; None where its size is not given or has no meaning.
+pub fn work_asked(matches: &ArgMatches<'_>) -> Option<Task>
     ensures { option_map task_of result ≡ model.work_asked (given_in (found_of matches.now)) }
 {
     let size = number_from(1, LARGEST_WORK, matches.get_str("size")?)?;
     Some(Task::Work { size })
-}
-
-// The table of jobs: the options that each may have, and its task.
-fn job_named<'a>(matches: &ArgMatches<'a>, name: &str) -> Option<Job<'a>>
-    ensures { option_map job_of result ≡ model.job_named name.now (given_in (found_of matches.now)) }
-{
-    match name {
-        "run" => job_with(
-            matches,
-            &["grammar", "input", "first", "rank", "show", "stats"],
-            values_asked(matches),
-        ),
-        "check" => job_with(matches, &["grammar"], Some(Task::Check)),
-        "expect" => job_with(
-            matches,
-            &["grammar", "input"],
-            Some(Task::Tell(Telling::Expected)),
-        ),
-        "progress" => job_with(matches, &["grammar", "input", "at"], report_asked(matches)),
-        "work" => job_with(matches, &["size"], work_asked(matches)),
-        _ => None,
-    }
-}
-
-/// The job that is asked for, where the values of its options have a meaning.
-pub fn job_given<'a>(matches: &ArgMatches<'a>) -> Option<Job<'a>>
-    ensures { option_map job_of result ≡ model.job_given (given_in (found_of matches.now)) }
-{
-    let name = matches.get_str("JOB")?;
-    job_named(matches, name)
 }

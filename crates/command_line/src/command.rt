@@ -7,8 +7,8 @@ ghost use Rattle.command_line.specs.Command.{option_rule, slif_app};
 use clap::{Arg, ArgAction, Command};
 use std::alloc::{AllocError, Global};
 
-// The options with a value, by their long names.
-const WITH_VALUE: &[&str] = &["grammar", "input", "first", "rank", "show", "at", "size"];
+/// The options with a value, by their long names.
+pub const WITH_VALUE: &[&str] = &["grammar", "input", "first", "rank", "show", "at", "size"];
 
 // An option with a value, by its long name.
 fn option<'a>(alloc: Global, name: &'a str) -> Arg<'a>

@@ -1,4 +1,12 @@
-// The jobs that words ask for.
+// The jobs: what each is, its name, and the options that it may have.
+ghost use Rattle.std.specs.Prelude.{◌≡◌, Some, option_map};
+ghost use Rattle.clap.specs.Words.{found_of};
+ghost use Rattle.words_model.specs.Words as model;
+ghost use Rattle.command_line.specs.Jobs.{telling_of, task_of, job_of, names_of};
+ghost use Rattle.command_line.specs.Given.{given_in};
+
+use crate::asked::{job_with, report_asked, values_asked, work_asked};
+use clap::ArgMatches;
 use grammar_model::{Ranking, Show};
 
 /// Which values are shown, and how.
@@ -49,4 +57,47 @@ pub struct Job<'a> {
     pub grammar: Option<&'a str>,
     pub input: InputFrom<'a>,
     pub task: Task,
+}
+
+/// What is told where the words ask for no job.
+pub const USAGE: &[u8] = b"usage: slif JOB [options]; jobs: run, check, expect, progress, work";
+
+fn told(what: Option<Telling>) -> Option<Task>
+    ensures { option_map task_of result ≡ option_map model.Tell (option_map telling_of what) }
+{
+    Some(Task::Tell(what?))
+}
+
+// The table of jobs: the options that each may have, and its task.
+fn job_named<'a>(matches: &ArgMatches<'a>, name: &str) -> Option<Job<'a>>
+    ensures { option_map job_of result ≡ model.job_named name.now (given_in (found_of matches.now)) }
+{
+    match name {
+        "run" => job_with(
+            matches,
+            &["grammar", "input", "first", "rank", "show", "stats"],
+            told(values_asked(matches)),
+        ),
+        "check" => job_with(matches, &["grammar"], Some(Task::Check)),
+        "expect" => job_with(
+            matches,
+            &["grammar", "input"],
+            told(Some(Telling::Expected)),
+        ),
+        "progress" => job_with(
+            matches,
+            &["grammar", "input", "at"],
+            told(report_asked(matches)),
+        ),
+        "work" => job_with(matches, &["size"], work_asked(matches)),
+        _ => None,
+    }
+}
+
+/// The job that is asked for, where the values of its options have a meaning.
+pub fn job_given<'a>(matches: &ArgMatches<'a>) -> Option<Job<'a>>
+    ensures { option_map job_of result ≡ model.job_given (given_in (found_of matches.now)) }
+{
+    let name = matches.get_str("JOB")?;
+    job_named(matches, name)
 }

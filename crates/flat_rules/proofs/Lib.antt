@@ -21,3 +21,4 @@ pub mod SlotRules
 pub mod SymbolRules
 pub mod Symbols
 pub mod Whole
+pub mod Counted

@@ -175,13 +175,12 @@ fn put_wholes(
     put_given(recce, w, ranking, end, least, hidden, parts)
 }
 
-fn sort(parts: &mut Vec<Part>) -> Result<(), AllocError>
-    ensures sorted { OnOk result (IsStrictlySortedBy part_cmp parts.new.items) }
-    ensures same { OnOk result ((p : ThePart) → Contains parts.new.items p ↔ Contains parts.old.items p) }
+fn sort(parts: &mut Vec<Part>)
+    ensures sorted { IsStrictlySortedBy part_cmp parts.new.items }
+    ensures same { (p : ThePart) → Contains parts.new.items p ↔ Contains parts.old.items p }
 {
-    parts.sort()?;
+    parts.sort_unstable();
     parts.dedup();
-    Ok(())
 }
 
 /// Lists the edges and whole rules that end at a place and begin at another or behind it, in order.
@@ -206,5 +205,6 @@ pub fn list_parts(
     recce.edges().list_to(end, edges)?;
     put_edges(recce, least, edges, parts)?;
     put_wholes(recce, w, ranking, end, least, hidden, parts)?;
-    sort(parts)
+    sort(parts);
+    Ok(())
 }

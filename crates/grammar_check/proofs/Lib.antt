@@ -10,3 +10,4 @@ pub mod Uniqueness
 pub mod Linking
 pub mod SlotCycles
 pub mod Around
+pub mod Saying

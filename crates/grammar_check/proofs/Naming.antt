@@ -1,8 +1,9 @@
 -- The text of a cycle, name by name.
-use Rattle.std.proofs.Common.{arith, ◌≡◌, ℕ, zero, suc, ◌+◌, ◌-◌, ◌<◌, List, [], ◌∷◌, ◌++◌, length, codes, get_or, refl, sym, ◌∙◌, ap, append_assoc, append-nil}
+use Rattle.std.proofs.Common.{arith, ◌≡◌, ℕ, zero, suc, ◌+◌, ◌-◌, ◌<◌, List, [], ◌∷◌, ◌++◌, length, codes, map, get_or, refl, sym, ◌∙◌, ap, append_assoc, append-nil}
 use Rattle.std.specs.List.{flat_map}
 use Rattle.grammar_model.specs.Grammar.{Grammar}
 use Rattle.grammar_model.specs.Values.{name_of}
+use Rattle.grammar_check.specs.Told.{slots_with}
 use Rattle.grammar_check.specs.Message.{cycle_text}
 
 abbrev pub more_names : Grammar → List (ℕ × ℕ) → ℕ → List ℕ
@@ -20,7 +21,7 @@ names_push g [] n d lt = absurd (omega arith)
 names_push g (p ∷ ps) zero d lt = append-nil (codes ", " ++ name_of g p.0)
 names_push g (p ∷ ps) (suc n) d lt = ap (λ l. (codes ", " ++ name_of g p.0) ++ l) (names_push g ps n d (omega arith)) ∙ sym (append_assoc (codes ", " ++ name_of g p.0) (more_names g ps n) (codes ", " ++ name_of g (get_or ps n d).0))
 
-names_all : (g : Grammar) (ps : List (ℕ × ℕ)) → more_names g ps (length ps) ≡ flat_map (λ q. codes ", " ++ name_of g q.0) ps
+names_all : (g : Grammar) (ps : List (ℕ × ℕ)) → more_names g ps (length ps) ≡ flat_map (λ n. codes ", " ++ n) (map (λ slot. name_of g slot.symbol) (slots_with ps))
 names_all g [] = refl
 names_all g (p ∷ ps) = ap (λ l. (codes ", " ++ name_of g p.0) ++ l) (names_all g ps)
 

@@ -7,3 +7,4 @@ pub mod Shared
 pub mod Refused
 pub mod Message
 pub mod Laws
+pub mod Said

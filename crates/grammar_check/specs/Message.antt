@@ -1,8 +1,9 @@
 -- The text that tells why a grammar is refused.
-use Rattle.std.specs.Prelude.{ℕ, ◌<◌, List, [], ◌∷◌, ◌++◌, length, slice_index_or, decimal, codes}
-use Rattle.std.specs.List.{flat_map}
-use Rattle.grammar_model.specs.Grammar.{Grammar, rule_at, lhs_of}
-use Rattle.grammar_model.specs.Values.{name_of}
+use Rattle.std.specs.Prelude.{ℕ, ◌<◌, List, [], length, slice_index_or}
+use Rattle.grammar_model.specs.Grammar.{Grammar}
+use Rattle.grammar_model.specs.Checked as model
+use Rattle.grammar_model.specs.Refusals as refusal
+use Rattle.grammar_check.specs.Told.{slots_with}
 use Rattle.grammar_check.specs.declared.refusal.GrammarRefusal.{GrammarRefusal}
 use Rattle.grammar_check.specs.declared.refusal.GrammarRefusal.TheVariants.{NoRules, NoStart, StartNotLhs, SequenceLhs, Duplicate, CountedNullable, UnproductiveStart, Cyclic, NoMemory}
 
@@ -21,20 +22,18 @@ IsOf g (UnproductiveStart symbol) = symbol < length g.names
 IsOf g (Cyclic cycle) = AreOf g cycle.items
 IsOf g NoMemory = Unit {0}
 
-abbrev pub left_of : Grammar → ℕ → List ℕ
-left_of g rule = name_of g (lhs_of (rule_at g rule))
-
+-- the text of a cycle of slots
 abbrev pub cycle_text : Grammar → List (ℕ × ℕ) → List ℕ
-cycle_text g [] = codes "cyclic: none"
-cycle_text g (p ∷ ps) = codes "cyclic: " ++ (name_of g p.0 ++ flat_map (λ q. codes ", " ++ name_of g q.0) ps)
+cycle_text g cycle = refusal.refusal_text g (model.Cyclic (slots_with cycle))
 
+-- the text of the refusal that is told; of want of memory none
 abbrev pub refusal_text : Grammar → GrammarRefusal → List ℕ
-refusal_text g NoRules = codes "no rules"
-refusal_text g NoStart = codes "no start symbol"
-refusal_text g (StartNotLhs symbol) = codes "start symbol " ++ (name_of g symbol ++ codes " has no rule")
-refusal_text g (SequenceLhs symbol) = name_of g symbol ++ codes " is a sequence and has another rule"
-refusal_text g (Duplicate rule) = codes "rule " ++ (decimal rule ++ (codes " of " ++ (left_of g rule ++ codes " is a duplicate")))
-refusal_text g (CountedNullable rule) = codes "sequence " ++ (left_of g rule ++ codes " has a nullable item or separator")
-refusal_text g (UnproductiveStart symbol) = codes "start symbol " ++ (name_of g symbol ++ codes " is unproductive")
+refusal_text g NoRules = refusal.refusal_text g model.NoRules
+refusal_text g NoStart = refusal.refusal_text g model.NoStart
+refusal_text g (StartNotLhs symbol) = refusal.refusal_text g (model.StartNotLhs symbol)
+refusal_text g (SequenceLhs symbol) = refusal.refusal_text g (model.SequenceLhs symbol)
+refusal_text g (Duplicate rule) = refusal.refusal_text g (model.Duplicate rule)
+refusal_text g (CountedNullable rule) = refusal.refusal_text g (model.CountedNullable rule)
+refusal_text g (UnproductiveStart symbol) = refusal.refusal_text g (model.UnproductiveStart symbol)
 refusal_text g (Cyclic cycle) = cycle_text g cycle.items
 refusal_text g NoMemory = []

@@ -1,8 +1,7 @@
--- Written grammars: what a program holds, as a grammar of the definitions, and how it grows.
-use Rattle.std.specs.Prelude.{◌≡◌, ℕ, ◌<◌, ◌≤◌, Bool, nat_lt, if◌then◌else◌, List, [], ◌∷◌, ◌++◌, length, All, Some, option_to_list, slice_get}
-use Rattle.std.specs.List.{list_any, position_or_len}
-use Rattle.std.specs.Str.{bytes_eq}
+-- Written grammars: what a program holds, as a grammar of the definitions.
+use Rattle.std.specs.Prelude.{◌≡◌, ℕ, ◌<◌, ◌≤◌, Bool, nat_lt, List, ◌∷◌, length, All, Some, option_to_list, slice_get}
 use Rattle.grammar_model.specs.Grammar.{WrittenRule, Plain, Sequence, Grammar, rule_at}
+pub use Rattle.grammar_model.specs.Growth.{has_name, number_of, with_name, with_rule, with_start}
 use Rattle.grammar_core.specs.declared.rule.WrittenRule as held
 use Rattle.grammar_core.specs.declared.rule.WrittenRule.TheVariants as form
 
@@ -32,19 +31,3 @@ pub record IsWritten (g : Grammar) : Type 0 where
   pub names_differ : (i j : ℕ) (name : List ℕ) → slice_get g.names i ≡ Some name → slice_get g.names j ≡ Some name → i ≡ j
   pub rules_known : (i : ℕ) → i < length g.rules → All (λ s. s < length g.names) (symbols_of (rule_at g i)) × IsLevelled (rule_at g i)
   pub starts_known : All (λ s. s < length g.names) g.starts
-
-abbrev pub has_name : Grammar → List ℕ → Bool
-has_name g name = list_any (bytes_eq name) g.names
-
--- the number of the symbol with this name, or the next one
-abbrev pub number_of : Grammar → List ℕ → ℕ
-number_of g name = position_or_len (bytes_eq name) g.names
-
-abbrev pub with_name : Grammar → List ℕ → Grammar
-with_name g name = record { names = (if has_name g name then g.names else g.names ++ name ∷ []); rules = g.rules; starts = g.starts }
-
-abbrev pub with_rule : Grammar → WrittenRule → Grammar
-with_rule g rule = record { names = g.names; rules = g.rules ++ rule ∷ []; starts = g.starts }
-
-abbrev pub with_start : Grammar → ℕ → Grammar
-with_start g symbol = record { names = g.names; rules = g.rules; starts = g.starts ++ symbol ∷ [] }

@@ -1,12 +1,13 @@
 //! Token edges: which terminals span which places.
-ghost use Rattle.std.specs.Prelude.{◌≡◌, ◌≢◌, ℕ, ◌+◌, ◌<◌, ◌≤◌, ◌↔◌, ◌⊎◌, ◌++◌, ◌∷◌, [], length, AllPairs, Contains, IsTrue, Err, OnOk, OnErr, slice_index, take, drop, ◌-◌};
+ghost use Rattle.std.specs.Prelude.{◌≡◌, ◌≢◌, ℕ, ◌+◌, ◌<◌, ◌≤◌, ◌↔◌, ◌⊎◌, ◌++◌, ◌∷◌, [], length, AllPairs, Contains, IsTrue, Err, OnOk, OnErr, slice_index, take, drop, ◌-◌, nat_lt, if◌then◌else◌};
 ghost use Rattle.grammar_model.specs.declared.Edge.{Edge as HeldEdge};
-ghost use Rattle.grammar_core.specs.Edges.{placed, longest_edge, GoFrom, AreOrdered, IsShortTo};
+ghost use Rattle.grammar_core.specs.Edges.{placed, longest_edge, GoFrom, AreOrdered, IsShortTo, edge_key};
 ghost use Rattle.grammar_core.specs.declared.edges.EdgeRefusal.TheVariants.{Duplicate, BadLength, NoMemory};
 
 use crate::SymbolId;
 use crate::long::LongEdges;
 use grammar_model::Edge as HeldEdge;
+use indexmap::IndexMap;
 use std::alloc::{AllocError, AllocFailed, Global};
 use std::marker::Model;
 use thiserror::Error;
@@ -45,6 +46,16 @@ impl<T: Drop> From<AllocFailed<T>> for EdgeRefusal {
     }
 }
 
+impl From<AllocError> for EdgeRefusal {
+    ghost use Rattle.grammar_core.specs.declared.edges.EdgeRefusal.TheVariants.{NoMemory};
+
+    ghost from_gives = { λ _ refusal. refusal ≡ NoMemory };
+
+    fn from(_error: AllocError) -> Self {
+        EdgeRefusal::NoMemory
+    }
+}
+
 /// Edges in the order of the places where they begin, each once.
 #[derive(Debug, Drop)]
 pub struct TokenEdges {
@@ -52,18 +63,21 @@ pub struct TokenEdges {
     edges: Vec<Edge>,
     // those of them that span more than one place
     long: LongEdges,
+    // the last place where an edge with a symbol and a length begins, by its key
+    latest: IndexMap<u64, u32>,
 }
 
 impl Model for TokenEdges {
-    ghost use Rattle.std.specs.Prelude.{List};
+    ghost use Rattle.std.specs.Prelude.{List, nat_eq};
+    ghost use Rattle.indexmap.specs.IndexMap.{get};
     ghost use Rattle.grammar_model.specs.declared.Edge.{Edge as HeldEdge};
-    ghost use Rattle.grammar_core.specs.Edges.{all_placed, ArePlaced};
+    ghost use Rattle.grammar_core.specs.Edges.{all_placed, ArePlaced, AreLatest};
 
     ghost Value = { List HeldEdge };
 
     ghost view = { λ e. all_placed e.places.items e.edges.items };
 
-    ghost invariant = { λ e. ArePlaced e.places.items e.edges.items e.long };
+    ghost invariant = { λ e. ArePlaced e.places.items e.edges.items e.long × AreLatest (all_placed e.places.items e.edges.items) (get nat_eq e.latest) };
 }
 
 impl TokenEdges {
@@ -75,6 +89,7 @@ impl TokenEdges {
             places: Vec::new(alloc),
             edges: Vec::new(alloc),
             long: LongEdges::new(alloc),
+            latest: IndexMap::new(alloc),
         }
     }
 
@@ -111,13 +126,18 @@ impl TokenEdges {
         self.places.clear();
         self.edges.clear();
         self.long.clear();
+        self.latest.clear();
     }
 
-    // Whether that edge is held.
+    // Whether that edge is held, which begins no earlier than another.
     fn holds(&self, at: u32, t: SymbolId, length: u32) -> bool
+        requires { GoFrom self.now at }
         ensures { IsTrue result ↔ Contains self.now (record { symbol = t; from = at; to = at + length }) }
     {
-        self.edges_at(at).contains(&Edge { symbol: t, length })
+        match self.latest.get(&edge_key(t, length)) {
+            Some(place) => *place == at,
+            None => false,
+        }
     }
 
     // One more edge, behind the others.
@@ -131,17 +151,17 @@ impl TokenEdges {
         ensures err { OnErr result (self.new ≡ self.old) }
         ensures memory { OnErr result (result ≡ Err NoMemory) }
     {
-        let short = Edge { symbol: t, length };
-        push_both(&mut self.places, &mut self.edges, at, short)?;
-        let edge = HeldEdge {
-            symbol: t.0,
-            from: at,
-            to: at + length,
-        };
-        if length > 1 && self.long.push(edge).is_err() {
-            self.places.pop();
-            self.edges.pop();
-            return Err(EdgeRefusal::NoMemory);
+        self.latest.reserve(1)?;
+        push_all(
+            &mut self.places,
+            &mut self.edges,
+            &mut self.long,
+            at,
+            t,
+            length,
+        )?;
+        if self.latest.insert(edge_key(t, length), at).is_err() {
+            unreachable!()
         }
         Ok(())
     }
@@ -179,6 +199,13 @@ impl TokenEdges {
     }
 }
 
+// A number for each symbol and length.
+fn edge_key(t: SymbolId, length: u32) -> u64
+    ensures { result ≡ edge_key t length }
+{
+    4_294_967_296 * t.0 as u64 + length as u64
+}
+
 // One more edge with its place, or neither.
 fn push_both(
     places: &mut Vec<u32>,
@@ -195,6 +222,39 @@ fn push_both(
     if let Err(failed) = places.push(at) {
         edges.pop();
         return Err(EdgeRefusal::from(failed));
+    }
+    Ok(())
+}
+
+// One more edge with its place, also among the long ones where it is one of them; or neither.
+fn push_all(
+    places: &mut Vec<u32>,
+    edges: &mut Vec<Edge>,
+    long: &mut LongEdges,
+    at: u32,
+    t: SymbolId,
+    length: u32,
+) -> Result<(), EdgeRefusal>
+    requires room { at + length < 4294967296 }
+    requires new { 1 < length → ¬ Contains long.old (record { symbol = t; from = at; to = at + length }) }
+    ensures places { OnOk result (places.new.items ≡ places.old.items ++ at ∷ []) }
+    ensures edges { OnOk result (edges.new.items ≡ edges.old.items ++ record { symbol = t; length = length } ∷ []) }
+    ensures long { OnOk result (long.new ≡ (if nat_lt 1 length then long.old ++ record { symbol = t; from = at; to = at + length } ∷ [] else long.old)) }
+    ensures err { OnErr result ((places.new.items ≡ places.old.items) × (edges.new.items ≡ edges.old.items) × (long.new ≡ long.old)) }
+    ensures memory { OnErr result (result ≡ Err NoMemory) }
+{
+    push_both(places, edges, at, Edge { symbol: t, length })?;
+    if length > 1 {
+        let edge = HeldEdge {
+            symbol: t.0,
+            from: at,
+            to: at + length,
+        };
+        if long.push(edge).is_err() {
+            places.pop();
+            edges.pop();
+            return Err(EdgeRefusal::NoMemory);
+        }
     }
     Ok(())
 }

@@ -80,8 +80,8 @@ impl Written {
         }
     }
 
-    // The symbol with this name, if there is one.
-    fn symbol_named(&self, name: &str) -> Option<SymbolId>
+    /// The symbol with this name, if there is one.
+    pub fn symbol_named(&self, name: &str) -> Option<SymbolId>
         ensures held { is_some result ≡ has_name self.now name.now }
         ensures number { IfSome result (λ s. s ≡ number_of self.now name.now) }
         ensures named { IfSome result (λ s. slice_get self.now.names s ≡ Some name.now) }

@@ -12,3 +12,4 @@ pub mod Spans
 pub mod Flattening
 pub mod Reduced
 pub mod Applied
+pub mod Lists

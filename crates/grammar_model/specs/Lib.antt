@@ -14,3 +14,6 @@ pub mod Text
 pub mod Listable
 pub mod Characters
 pub mod Checked
+pub mod Growth
+pub mod Refusals
+pub mod Limits

@@ -1,13 +1,14 @@
 -- The two grammars of a description, with their tables, or its first fault.
-use Rattle.std.specs.Prelude.{ℕ, zero, suc, ◌+◌, ◌-◌, ◌*◌, ℤ, pos, neg_ℤ, Bool, true, false, not, ◌&&◌, ◌||◌, ◌==◌, nat_lt, if◌then◌else◌, List, [], ◌∷◌, ◌++◌, length, map, filter, filter_map, flat_map, take, drop, fold, bytes_eq, codes, Option, Some, None, Result, Ok, Err, is_some, is_ok, unwrap_or, option_map, option_to_list, decimal, chars}
+use Rattle.std.specs.Prelude.{ℕ, zero, suc, ◌+◌, ◌-◌, ◌*◌, ℤ, pos, neg_ℤ, Bool, true, false, not, ◌&&◌, ◌||◌, ◌==◌, nat_lt, if◌then◌else◌, List, [], ◌∷◌, ◌++◌, length, map, filter, filter_map, flat_map, take, drop, bytes_eq, codes, Option, Some, None, Result, Ok, Err, is_some, is_ok, unwrap_or, option_map, option_to_list, decimal, chars}
 use Rattle.std.specs.List.{list_all, list_any, position_or_len}
-use Rattle.std.specs.Char.{is_ascii_digit, digit_value}
+use Rattle.std.specs.Char.{is_ascii_digit}
 use Rattle.language_model.specs.declared.token.TokenKind.{TokenKind}
 use Rattle.language_model.specs.declared.token.TokenKind.TheVariants.{Word, Angle, Quote, Bracket, Reserved, Signed}
 use Rattle.grammar_model.specs.declared.Assoc.{Assoc}
 use Rattle.grammar_model.specs.declared.Assoc.TheVariants.{Left, Right, Group}
 use Rattle.grammar_model.specs.Grammar.{WrittenRule, Plain, Sequence, Grammar}
 use Rattle.grammar_model.specs.Values.{Action, MakeUndefined, RuleMeaning, Meaning}
+pub use Rattle.grammar_model.specs.Limits.{digits_number}
 use Rattle.language_model.specs.Tokens.{Spelled}
 use Rattle.language_model.specs.Classes.{Class, class_of, class_of_char, modifier_len}
 use Rattle.language_model.specs.Actions.{action_of}
@@ -81,9 +82,6 @@ right_of (Discard at item adverbs) = (true, item) ∷ []
 right_of _ = []
 
 -- the number of a token of digits, with a sign or without
-abbrev pub digits_number : List ℕ → ℕ
-digits_number digits = fold (λ n d. 10 * n + digit_value d) 0 digits
-
 abbrev pub number_of : List ℕ → ℤ
 number_of [] = pos 0
 number_of (c ∷ cs) =

@@ -16,7 +16,7 @@ use std::alloc::{AllocError, Global};
 use std::marker::Model;
 use threads::{Lists, first_row, next_row};
 
-// How many parts there are at most between two matches.
+// How many parts there are at most between two matches, where the grammar is not large.
 const PARTS: usize = 16384;
 
 /// The rows that were met, as states, and what is known of steps from one to another.
@@ -32,6 +32,18 @@ pub struct Machine<'g> {
     pub begins: Begins,
     /// how many states are noted at most
     pub limit: usize,
+    /// how many parts there are at most between two matches
+    pub part_limit: usize,
+}
+
+// A grammar may have a part for each place in its rules: as many as that, and more, are kept.
+fn part_limit(flat: &Flat) -> usize {
+    flat.known();
+    let mut places: usize = 0;
+    for rule in 0..flat.rule_count() {
+        places = places.saturating_add(flat.rhs(rule as u32).len());
+    }
+    PARTS.max(places.saturating_mul(4))
 }
 
 /// A machine with no states, which notes at most so many.
@@ -53,11 +65,12 @@ pub fn new_machine<'g>(
         next: Vec::new(alloc),
         begins: Begins::new(alloc),
         limit,
+        part_limit: part_limit(l0.flat),
     })
 }
 
 fn is_full(machine: &Machine<'_>) -> bool {
-    machine.rows.count() >= machine.limit || machine.parts.count() >= PARTS
+    machine.rows.count() >= machine.limit || machine.parts.count() >= machine.part_limit
 }
 
 /// Forgets all states where there are too many.

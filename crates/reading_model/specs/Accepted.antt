@@ -4,23 +4,12 @@
 use Rattle.std.specs.Prelude.{ℕ, ◌<◌, ◌≤◌, Bool, true, false, length}
 use Rattle.grammar_model.specs.Grammar.{Grammar}
 use Rattle.grammar_model.specs.Checked.{IsChecked, Refusal, Refuses}
-use Rattle.recognizer_model.specs.Counts.{IsCountOf}
-use Rattle.recognizer_model.specs.FlatForm.{IsRuleOf}
+pub use Rattle.recognizer_model.specs.FewRules.{HasFewRules, HasTooManyRules}
 use Rattle.language_model.specs.Building.{Built}
 
 -- there is a lexeme or a discard: each is a start of the lexical grammar
 abbrev pub IsLexical : Built → Type 0
 IsLexical b = 0 < length b.l0.starts
-
-pub record HasFewRules (g : Grammar) : Type 0 where
-  pub count : ℕ
-  pub counted : IsCountOf (IsRuleOf g) count
-  pub few : count ≤ 65536
-
-pub record HasTooManyRules (g : Grammar) : Type 0 where
-  pub count : ℕ
-  pub counted : IsCountOf (IsRuleOf g) count
-  pub many : 65536 < count
 
 pub record AreChecked (b : Built) : Type 0 where
   pub structural : IsChecked b.g1

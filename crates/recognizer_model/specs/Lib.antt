@@ -17,3 +17,4 @@ pub mod FlatForm
 pub mod Once
 pub mod ChosenLaws
 pub mod Threads
+pub mod FewRules

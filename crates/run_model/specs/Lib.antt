@@ -4,10 +4,11 @@ pub mod Checking
 pub mod Inputs
 pub mod Listing
 pub mod Numbers
+pub mod Steps
 pub mod Telling
 pub mod Jobs
 pub mod Outcome
 pub mod Outside
 pub mod Runs
-pub mod Steps
+pub mod Within
 pub mod Laws

@@ -1,10 +1,10 @@
 -- WHAT A RUN WRITES AND ANSWERS, by its words, the bytes of the grammar and those of the input.
-use Rattle.std.specs.Prelude.{◌≡◌, ℕ, List, [], ◌∷◌, chars, codes}
+use Rattle.std.specs.Prelude.{◌≡◌, ℕ, List, [], ◌∷◌, chars}
 use Rattle.grammar_model.specs.Trees.{Tree}
 use Rattle.grammar_model.specs.declared.Ranking.TheVariants.{Rule as RuleRanks}
 use Rattle.language_model.specs.Building.{Built}
 use Rattle.reading_model.specs.Reading.{Piece}
-use Rattle.words_model.specs.Words.{Telling, Task, Job, Asks, AskNothing}
+use Rattle.words_model.specs.Words.{Telling, Task, Job, Asks, AskNothing, usage_text}
 use Rattle.words_model.specs.Words.Task.{Check, Tell, Work}
 use Rattle.run_model.specs.Refused.{Accepted, IsRefused}
 use Rattle.run_model.specs.Checking.{AreCheckLines}
@@ -16,7 +16,7 @@ use Rattle.run_model.specs.Telling.{work_line}
 pub use Rattle.run_model.specs.Telling.{Outcome, message, refused, done, Tells}
 
 abbrev pub usage : Outcome
-usage = refused 2 (codes "usage: slif JOB [options]; jobs: run, check, expect, progress, work")
+usage = refused 2 usage_text
 
 -- the outcome of `check` over accepted grammars
 pub record IsCheckOutcome (b : Built) (outcome : Outcome) : Type 0 where

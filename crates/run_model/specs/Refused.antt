@@ -1,10 +1,8 @@
 -- What a grammar's bytes have to be, whatever the job is: a text whose description has no fault, and whose grammars are accepted.
 -- Why other bytes are refused is told in one line.
 -- Source: the Libmarpa manual (errors of precomputation); the texts are our own.
-use Rattle.std.specs.Prelude.{◌≡◌, ℕ, ◌++◌, List, [], ◌∷◌, true, false, map, flat_map, chars, codes, decimal}
-use Rattle.grammar_model.specs.Grammar.{Grammar, rule_at, lhs_of}
-use Rattle.grammar_model.specs.Values.{name_of}
-use Rattle.grammar_model.specs.Checked.{Refusal, NoRules, NoStart, StartNotLhs, SequenceLhs, Duplicate, CountedNullable, UnproductiveStart, Cyclic}
+use Rattle.std.specs.Prelude.{◌≡◌, ℕ, ◌++◌, List, ◌∷◌, true, false, chars, codes}
+pub use Rattle.grammar_model.specs.Refusals.{listed, left_name, refusal_text}
 use Rattle.language_model.specs.Description.{Statement}
 use Rattle.language_model.specs.Building.{Built, BuildFault, BadAdverb, RepeatedAdverb, LexemeNotDefined, InBoth, NotALexeme, BadClass, TwoStarts, NumberRange, TooLong, faults_of}
 use Rattle.language_model.specs.Texts.{HasDescription, IsBuiltOf}
@@ -34,25 +32,6 @@ build_text cs (BadClass f) = codes "bad class " ++ (f.name ++ at_place cs f.at)
 build_text cs (TwoStarts f) = codes "second start" ++ at_place cs f.at
 build_text cs (NumberRange f) = codes "number out of range" ++ at_place cs f.at
 build_text cs (TooLong f) = codes "too long" ++ at_place cs f.at
-
--- names, parted by commas
-abbrev pub listed : List (List ℕ) → List ℕ
-listed [] = codes "none"
-listed (name ∷ names) = name ++ flat_map (λ n. codes ", " ++ n) names
-
-abbrev pub left_name : Grammar → ℕ → List ℕ
-left_name g rule = name_of g (lhs_of (rule_at g rule))
-
--- what is told of what a check refuses
-abbrev pub refusal_text : Grammar → Refusal → List ℕ
-refusal_text g NoRules = codes "no rules"
-refusal_text g NoStart = codes "no start symbol"
-refusal_text g (StartNotLhs symbol) = codes "start symbol " ++ (name_of g symbol ++ codes " has no rule")
-refusal_text g (SequenceLhs symbol) = name_of g symbol ++ codes " is a sequence and has another rule"
-refusal_text g (Duplicate rule) = codes "rule " ++ (decimal rule ++ (codes " of " ++ (left_name g rule ++ codes " is a duplicate")))
-refusal_text g (CountedNullable rule) = codes "sequence " ++ (left_name g rule ++ codes " has a nullable item or separator")
-refusal_text g (UnproductiveStart symbol) = codes "start symbol " ++ (name_of g symbol ++ codes " is unproductive")
-refusal_text g (Cyclic cycle) = codes "cyclic: " ++ listed (map (λ slot. name_of g slot.symbol) cycle)
 
 abbrev pub grammar_text : Built → GrammarFault → List ℕ
 grammar_text b (Structural refusal) = codes "grammar: " ++ refusal_text b.g1 refusal

@@ -1,12 +1,11 @@
--- How many steps a run may take. A step is a try to add an item to a set, a Leo pair that is noted, a hidden item that is brought back,
--- or a look at the alternatives of a forest's node.
+-- How many steps a reading and its derivations may take. A step is a try to add an item to a set, a Leo pair that is noted, a
+-- hidden item that is brought back, or a look at the alternatives of a forest's node.
 -- Sources: Leo 1991 (linear work on right recursion); the Libmarpa manual (bocage, tree).
-use Rattle.std.specs.Prelude.{◌≡◌, ℕ, ◌+◌, ◌<◌, ◌≤◌, List, Option, Some, None, IfSome, ⊤, slice_get}
+use Rattle.std.specs.Prelude.{◌≡◌, ℕ, ◌+◌, ◌<◌, ◌≤◌, List, Some, slice_get}
 use Rattle.std.specs.List.{sum_by}
 use Rattle.grammar_model.specs.Trees.{Tree}
 use Rattle.grammar_model.specs.Derives.{Edges, Held}
 use Rattle.grammar_model.specs.declared.Ranking.{Ranking}
-use Rattle.grammar_model.specs.declared.Ranking.TheVariants.{Rule as RuleRanks}
 use Rattle.recognizer_model.specs.declared.Item.{Item}
 use Rattle.recognizer_model.specs.Flat.{FlatGrammar}
 use Rattle.recognizer_model.specs.Chosen.{allowed_by}
@@ -16,22 +15,14 @@ use Rattle.recognizer_model.specs.Links.{Link, IsLink, choices}
 use Rattle.recognizer_model.specs.Nodes.{IsExpanded}
 use Rattle.recognizer_model.specs.Counts.{IsCountOf}
 use Rattle.flat_model.specs.Flattened.{IsFlattened}
-use Rattle.outside_model.specs.Told.{ToldFile}
 use Rattle.language_model.specs.Building.{Built}
 use Rattle.reading_model.specs.Reading.{Piece, edges_of, earleme_after}
-use Rattle.words_model.specs.Words.{Telling, Task, Job, Asks, values_of}
-use Rattle.words_model.specs.Words.Task.{Check, Tell, Work}
-use Rattle.run_model.specs.Refused.{Accepted}
-use Rattle.run_model.specs.Inputs.{IsRead}
-use Rattle.run_model.specs.Listing.{AreDerivations, first_of}
-use Rattle.run_model.specs.Jobs.{work_grammar, work_input}
-use Rattle.run_model.specs.Runs.{Supplied}
 
 pub record PlacedLink : Type 0 where
   pub place : ℕ
   pub link : Link
 
--- a link of the set of a place behind the first
+-- a link of the set of a place after the first
 abbrev pub IsPlacedLink : (g : FlatGrammar) (E : Edges) (top place : ℕ) → PlacedLink → Type 0
 IsPlacedLink g E top place p = (0 < p.place) × (p.place ≤ place) × IsLink g E top p.place p.link
 
@@ -43,7 +34,7 @@ pub record PlacedSymbol : Type 0 where
 abbrev pub IsLeoPair : (g : FlatGrammar) (E : Edges) (top place : ℕ) → PlacedSymbol → Type 0
 IsLeoPair g E top place p = (p.place ≤ place) × ((item : Item) × IsLeo g E top p.place p.symbol item)
 
--- a reading in these pieces, and then the derivations: at most a step for each link of the sets behind the first, for each Leo pair, for
+-- a reading in these pieces, and then the derivations: at most a step for each link of the sets after the first, for each Leo pair, for
 -- each hidden item that the forest brings back, and for each choice of the derivations
 pub record IsWithinSteps (b : Built) (ranking : Ranking) (pieces : List Piece) (given : List Tree) (before after : ℕ) : Type 0 where
   pub flat : FlatGrammar
@@ -55,27 +46,3 @@ pub record IsWithinSteps (b : Built) (ranking : Ranking) (pieces : List Piece) (
       IsCountOf (IsLeoPair flat (FlatEdges flat (Held (edges_of pieces))) top (earleme_after pieces)) pairs →
       IsCountOf (IsExpanded flat (FlatEdges flat (Held (edges_of pieces))) (allowed_by b.g1 ranking flat (FlatEdges flat (Held (edges_of pieces)))) top (earleme_after pieces)) expanded →
       after ≤ before + links + pairs + expanded + sum_by choices given
-
--- the input is read to its end, and so many of the first of its derivations are given
-pub record GivesWithin (b : Built) (input : List ℕ) (ranking : Ranking) (first : Option ℕ) (before after : ℕ) : Type 0 where
-  pub pieces : List Piece
-  pub read : IsRead b input pieces
-  pub trees : List Tree
-  pub all : AreDerivations b ranking pieces trees
-  pub within : IsWithinSteps b ranking pieces (first_of first trees) before after
-
--- what gives derivations is within its bound
-abbrev pub InputWithin : Telling → Built → (input : List ℕ) → (before after : ℕ) → Type 0
-InputWithin what b input before after = IfSome (values_of what) (λ asked. GivesWithin b input asked.ranking asked.first before after)
-
-abbrev pub DoesWithin : Task → (grammar input : List ℕ) → (before after : ℕ) → Type 0
-DoesWithin Check grammar input before after = ⊤
-DoesWithin (Tell what) grammar input before after = (b : Built) × Accepted grammar b × InputWithin what b input before after
-DoesWithin (Work size) grammar input before after = (b : Built) × Accepted work_grammar b × GivesWithin b (work_input size) RuleRanks None before after
-
--- a run by the words over these files and this input
-pub record RunsWithin (words : List (List ℕ)) (file : List ℕ → ToldFile) (left : Option (List ℕ)) (before after : ℕ) : Type 0 where
-  pub grammar : List ℕ
-  pub input : List ℕ
-  pub supplied : Supplied words file left grammar input
-  pub does : (job : Job) → Asks words job → DoesWithin job.task grammar input before after

@@ -1,15 +1,17 @@
--- What the jobs tell of an input that is read to its end, by its pieces.
+-- What the jobs tell of an input that is read to its end, by its pieces, and in how many steps.
 -- Sources: the Libmarpa manual (progress reports; bocage, order, tree, value) and the Marpa::R2 SLIF DSL manual (lexemes that are
 -- expected); the texts are our own.
-use Rattle.std.specs.Prelude.{◌≡◌, ℕ, ◌<◌, ◌≤◌, ◌==◌, ◌++◌, if◌then◌else◌, Bool, List, [], ◌∷◌, map, flat_map, codes, chars, encode_utf8, decimal}
+use Rattle.std.specs.Prelude.{◌≡◌, ℕ, ◌<◌, ◌≤◌, ◌==◌, ◌++◌, if◌then◌else◌, Bool, ⊤, Option, List, [], ◌∷◌, map, flat_map, codes, chars, encode_utf8, decimal}
 use Rattle.std.specs.List.{concat}
 use Rattle.std.specs.Str.Lossy.{utf8_lossy}
-use Rattle.grammar_model.specs.Grammar.{Grammar, rule_at, lhs_of}
+use Rattle.grammar_model.specs.Grammar.{Grammar}
 use Rattle.grammar_model.specs.Trees.{Tree}
 use Rattle.grammar_model.specs.Values.{name_of}
+use Rattle.grammar_model.specs.declared.Ranking.{Ranking}
 use Rattle.grammar_model.specs.Text.{is_control, escaped}
 use Rattle.recognizer_model.specs.declared.ReportLine.{ReportLine}
 use Rattle.report_model.specs.Report.{IsReport}
+pub use Rattle.report_model.specs.Lines.{report_line}
 use Rattle.language_model.specs.Building.{Built}
 use Rattle.reading_model.specs.Reading.{Piece, AreExpected, edges_of, earleme_after}
 use Rattle.words_model.specs.Words.{ValuesAsked, Telling}
@@ -17,6 +19,7 @@ use Rattle.words_model.specs.Words.Telling.{Values, Expected, Report}
 use Rattle.run_model.specs.Inputs.{names_text}
 use Rattle.run_model.specs.Listing.{AreDerivations, line_of, first_of}
 use Rattle.run_model.specs.Numbers.{Numbers, HasNumbers}
+use Rattle.run_model.specs.Steps.{IsWithinSteps}
 
 -- the text for the standard output, the line for the standard error, and the status
 pub record Outcome : Type 0 where
@@ -65,11 +68,6 @@ stats_lines asked n = if asked then stats_line n ∷ [] else []
 abbrev pub work_line : (size : ℕ) → Numbers → (values : ℕ) → List ℕ
 work_line size n values = codes "work " ++ (decimal size ++ (codes ": " ++ (numbers_text n ++ (codes " values " ++ (decimal values ++ 10 ∷ [])))))
 
--- an item by its written rule, its dot, its origin, the place of the report, and the rule's left side
-abbrev pub report_line : Grammar → (at : ℕ) → ReportLine → List ℕ
-report_line g at l =
-    decimal l.rule ++ (codes ":" ++ (decimal l.dot ++ (codes " @" ++ (decimal l.origin ++ (codes "-" ++ (decimal at ++ (codes " " ++ (name_of g (lhs_of (rule_at g l.rule)) ++ 10 ∷ []))))))))
-
 -- WHAT IS TOLD
 
 abbrev pub no_derivation_text : Grammar → List ℕ → List ℕ
@@ -84,7 +82,7 @@ pub record TellsExpected (b : Built) (pieces : List Piece) (outcome : Outcome) :
   pub are : AreExpected b pieces expected
   pub is : outcome ≡ done (map (name_line b.g1) expected)
 
--- the values of the derivations, which are in order, and the numbers behind them; or there is no derivation
+-- the values of the derivations, which are in order, and the numbers after them; or there is no derivation
 pub data TellsValues (asked : ValuesAsked) (b : Built) (cs : List ℕ) (pieces : List Piece) (outcome : Outcome) : Type 0 where
   NoDerivation : (expected : List ℕ) → AreDerivations b asked.ranking pieces [] → AreExpected b pieces expected → outcome ≡ refused 1 (no_derivation_text b.g1 expected) →
       TellsValues asked b cs pieces outcome
@@ -102,3 +100,17 @@ abbrev pub Tells : Telling → Built → (cs : List ℕ) → List Piece → Outc
 Tells (Values asked) b cs pieces outcome = TellsValues asked b cs pieces outcome
 Tells Expected b cs pieces outcome = TellsExpected b pieces outcome
 Tells (Report at) b cs pieces outcome = TellsReport b at pieces outcome
+
+-- HOW MANY STEPS IT MAY TAKE
+
+-- so many of the first of the derivations are given within the bound
+pub record GivesWithin (b : Built) (ranking : Ranking) (first : Option ℕ) (pieces : List Piece) (before after : ℕ) : Type 0 where
+  pub trees : List Tree
+  pub all : AreDerivations b ranking pieces trees
+  pub within : IsWithinSteps b ranking pieces (first_of first trees) before after
+
+-- the steps of the reading in these pieces and of what is told of it, where they have a bound
+abbrev pub TellsWithin : Telling → Built → List Piece → (before after : ℕ) → Type 0
+TellsWithin (Values asked) b pieces before after = GivesWithin b asked.ranking asked.first pieces before after
+TellsWithin Expected b pieces before after = ⊤
+TellsWithin (Report at) b pieces before after = ⊤

@@ -1,20 +1,15 @@
 -- From the faults of each step to those of the grammars.
 use Rattle.std.proofs.Common.{◌≡◌, ◌<◌, true, false, length, map, Option, Some, None, refl, subst, arith, List}
-use Rattle.std.proofs.lemmas.List.{length-map}
 use Rattle.grammar_model.specs.Grammar.{Grammar}
 use Rattle.grammar_model.specs.Checked as model
 use Rattle.grammar_model.specs.Checked.{IsChecked}
 use Rattle.recognizer_model.specs.Flat.{FlatGrammar}
-use Rattle.recognizer_model.specs.FlatForm.{IsFlatOf, named}
-use Rattle.flat_model.specs.Flatten.{flat_of}
-use Rattle.flat_model.specs.Flattened.{IsFlattened, HasTooMany}
-use Rattle.flat_rules.proofs.FlatOf.{is_flat_of}
+use Rattle.recognizer_model.specs.FlatForm.{IsFlatOf}
+use Rattle.flat_model.specs.Flattened.{IsFlattened}
+pub use Rattle.flat_rules.proofs.Counted.{few_rules, many_rules}
 use Rattle.language_model.specs.Building.{Built}
 use Rattle.grammar_check.specs.declared.refusal.GrammarRefusal.{GrammarRefusal}
-use Rattle.grammar_check.specs.declared.refusal.GrammarRefusal.TheVariants.{NoRules, NoStart, StartNotLhs, SequenceLhs, Duplicate, CountedNullable, UnproductiveStart, Cyclic, NoMemory}
-use Rattle.grammar_check.specs.Told.{slots_with}
-use Rattle.grammar_check.specs.Message.{IsOf}
-use Rattle.grammar_check.specs.Refused.{IsTold}
+pub use Rattle.grammar_check.proofs.Saying.{said}
 use Rattle.reading_model.specs.Accepted.{AreChecked, HasFewRules, HasTooManyRules}
 use Rattle.scanless.specs.declared.abilities.Ability.{Ability}
 use Rattle.scanless.specs.declared.parts.Fault.{Fault}
@@ -22,29 +17,6 @@ use Rattle.scanless.specs.declared.parts.Fault.TheVariants.{Refused, TooManyRule
 use Rattle.scanless.specs.Abilities.{AreAbilities}
 use Rattle.scanless.specs.Faults.{IsSaid, IsFault, IsRefusedBy, IsOverfull, IsCheckedLexical, IsFlatLexical, IsLexicalOverfull}
 use Rattle.scanless.specs.Prepared.{AreParts, IsLexicalForm}
-
--- RULES
-
-pub few_rules : (w : Grammar) (f : FlatGrammar) → IsFlattened w f → HasFewRules w
-few_rules w f is = record { count = length f.rules; counted = (map (named f) f.rules, is.made.rules, length-map f.rules (named f)); few = is.few }
-
-pub many_rules : (w : Grammar) → IsChecked w → HasTooMany w → HasTooManyRules w
-many_rules w c many =
-    let f = flat_of w many.decided in
-    record { count = length f.rules; counted = (map (named f) f.rules, (is_flat_of w many.decided c).rules, length-map f.rules (named f)); many = many.many many.decided }
-
--- REFUSALS
-
-pub said : (g : Grammar) (r : GrammarRefusal) → IsTold g r → IsOf g r → (r ≡ NoMemory → ⊥) → IsSaid g r (model.Refuses g)
-said g NoRules told of other = record { of = of; told = model.NoRules; says = refl; fault = told }
-said g NoStart told of other = record { of = of; told = model.NoStart; says = refl; fault = told }
-said g (StartNotLhs symbol) told of other = record { of = of; told = model.StartNotLhs symbol; says = refl; fault = told }
-said g (SequenceLhs symbol) told of other = record { of = of; told = model.SequenceLhs symbol; says = refl; fault = told }
-said g (Duplicate rule) told of other = record { of = of; told = model.Duplicate rule; says = refl; fault = told }
-said g (CountedNullable rule) told of other = record { of = of; told = model.CountedNullable rule; says = refl; fault = told }
-said g (UnproductiveStart symbol) told of other = record { of = of; told = model.UnproductiveStart symbol; says = refl; fault = told }
-said g (Cyclic cycle) told of other = record { of = of; told = model.Cyclic (slots_with cycle.items); says = refl; fault = told }
-said g NoMemory told of other = absurd (other refl)
 
 -- FAULTS
 

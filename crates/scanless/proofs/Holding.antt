@@ -1,38 +1,17 @@
 -- What pieces hold with one piece more.
-use Rattle.std.proofs.Common.{arith, ◌≡◌, inl, inr, ℕ, suc, ◌+◌, ◌<◌, ◌≤◌, List, [], ◌∷◌, ◌++◌, Contains, append_assoc, append-nil, refl, sym, ◌∙◌, ap, subst}
+use Rattle.std.proofs.Common.{arith, ◌≡◌, inl, inr, ℕ, suc, ◌+◌, ◌<◌, List, [], ◌∷◌, ◌++◌, Contains, append_assoc, append-nil, refl, sym, ◌∙◌, ap, subst}
 use Rattle.std.proofs.lemmas.List.Elements.{Contains-append_cases}
 use Rattle.finite_sets.proofs.Lists.{Contains-none}
 use Rattle.grammar_model.specs.declared.Edge.{Edge}
 use Rattle.language_model.specs.Building.{Built}
-use Rattle.reading_model.specs.Reading.{Piece, Token, Skipped, earleme_after, edges_from, edges_of, spans_from, Reads, Begin, Take, Skip, Supply}
+use Rattle.reading_model.specs.Reading.{Piece, Token, Skipped, earleme_after, edges_from, edges_of, spans_from, ReadsWith}
 use Rattle.flat_model.specs.Flattened.{IsFlattened}
 use Rattle.earley_sets.specs.Recognizer.{Recognizer, earleme_of}
 use Rattle.earley_sets.proofs.Membership.{Contains-map_from}
 use Rattle.scanless.specs.Taking.{token_edges, Takes}
 use Rattle.scanless.specs.Reading.{HoldsPieces}
 use Rattle.reading_model.proofs.Characters.{characters, characters_are}
-use Rattle.reading_model.proofs.One.{contains_first}
-
--- ---- places
-
-place_token : (ps : List Piece) (n : ℕ) (ss : List ℕ) → earleme_after (ps ++ Token n ss ∷ []) ≡ suc (earleme_after ps)
-place_token [] n ss = refl
-place_token (Token k qs ∷ ps) n ss = ap suc (place_token ps n ss)
-place_token (Skipped k ∷ ps) n ss = place_token ps n ss
-
-place_skipped : (ps : List Piece) (n : ℕ) → earleme_after (ps ++ Skipped n ∷ []) ≡ earleme_after ps
-place_skipped [] n = refl
-place_skipped (Token k qs ∷ ps) n = ap suc (place_skipped ps n)
-place_skipped (Skipped k ∷ ps) n = place_skipped ps n
-
--- a token has a character at least
-pub place_within : {b : Built} {text : List ℕ} {at : ℕ} {pieces : List Piece} → Reads b text at pieces → earleme_after pieces ≤ at
-place_within Begin = omega arith
-place_within (Take {at = at} {n = n} {pieces = pieces} first others r lt longest sorted exact) =
-    let e = place_token pieces n (first ∷ others) in let f = place_within r in let some = longest.some in omega (arith, e, f, some)
-place_within (Skip {at = at} {n = n} {pieces = pieces} r lt longest none skipped) =
-    let e = place_skipped pieces n in let f = place_within r in omega (arith, e, f)
-place_within (Supply symbol r stuck first) = absurd (Contains-none symbol (contains_first first))
+use Rattle.reading_model.proofs.Behind.{place_token, place_skipped}
 
 -- ---- edges
 
@@ -70,7 +49,7 @@ spans_skipped at [] n = refl
 spans_skipped at (Token k qs ∷ ps) n = ap (λ l. (at, k) ∷ l) (spans_skipped (at + k) ps n)
 spans_skipped at (Skipped k ∷ ps) n = spans_skipped (at + k) ps n
 
-pub spans_with_token : {b : Built} {text : List ℕ} {at : ℕ} {pieces : List Piece} → Reads b text at pieces → (n : ℕ) (ss : List ℕ) → spans_from 0 (pieces ++ Token n ss ∷ []) ≡ spans_from 0 pieces ++ (at, n) ∷ []
+pub spans_with_token : {b : Built} {given text : List ℕ} {at : ℕ} {pieces : List Piece} → ReadsWith b given text at pieces → (n : ℕ) (ss : List ℕ) → spans_from 0 (pieces ++ Token n ss ∷ []) ≡ spans_from 0 pieces ++ (at, n) ∷ []
 spans_with_token {pieces = pieces} r n ss = spans_token 0 pieces n ss ∙ ap (λ k. spans_from 0 pieces ++ (k, n) ∷ []) (let e = characters_are r in omega (arith, e))
 
 pub spans_with_skipped : (pieces : List Piece) (n : ℕ) → spans_from 0 (pieces ++ Skipped n ∷ []) ≡ spans_from 0 pieces

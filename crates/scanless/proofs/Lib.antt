@@ -10,6 +10,7 @@ mod Holding
 pub mod Ordered
 mod Naming
 mod Steps
+mod Ended
 mod Matched
 mod Edges
 mod Results

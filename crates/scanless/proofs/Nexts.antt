@@ -1,17 +1,20 @@
--- What a recognizer expects that holds the edges of pieces are the symbols that are acceptable behind them.
+-- What a recognizer that holds the edges of pieces tells of them: the symbols that are acceptable next, and whether they have a derivation.
 use Rattle.std.proofs.Common.{arith, ◌↔◌, ℕ, ◌<◌, List, length, slice_index, subst}
 use Rattle.std.proofs.lemmas.Option.{slice_get-get_or}
 use Rattle.grammar_model.specs.Checked.{IsChecked}
 use Rattle.grammar_model.specs.declared.Ranking.{Ranking}
-use Rattle.grammar_model.specs.Derives.{Held, Line}
+use Rattle.grammar_model.specs.Grammar.{slot_of}
+use Rattle.grammar_model.specs.Trees.{Tree}
+use Rattle.grammar_model.specs.Derives.{Held, Derives, Line}
 use Rattle.grammar_model.specs.Acceptable.{IsAcceptable}
 use Rattle.recognizer_model.specs.FlatForm.{IsFlatForm}
 use Rattle.recognizer_model.proofs.Words.{line_forward}
 use Rattle.recognizer_model.proofs.FlatFormLaw.{flat_form}
 use Rattle.recognizer_model.proofs.Expected.{to_flat, from_flat}
 use Rattle.language_model.specs.Building.{Built}
-use Rattle.reading_model.specs.Reading.{Piece, edges_of, IsNext}
-use Rattle.earley_sets.specs.Recognizer.{Recognizer, IsRecognizer, IsExpected, top_of, earleme_of}
+use Rattle.reading_model.specs.Reading.{Piece, edges_of, IsNext, HasDerivation}
+use Rattle.earley_sets.specs.Recognizer.{Recognizer, IsRecognizer, IsExpected, HasTree, top_of, earleme_of}
+use Rattle.earley_sets.specs.Laws.{TreesAreDerivations}
 use Rattle.scanless.specs.Reading.{HoldsPieces}
 
 module _ (b : Built) (checked : IsChecked b.g1) (pieces : List Piece) (recce : Recognizer) (is : IsRecognizer recce) (holds : HoldsPieces b pieces recce) where
@@ -37,3 +40,11 @@ module _ (b : Built) (checked : IsChecked b.g1) (pieces : List Piece) (recce : R
       subst (λ place. IsExpected recce t ↔ IsAcceptable b.g1 (Held (edges_of pieces)) (slice_index b.g1.starts 0) t place) holds.place
       (subst (λ edges. IsExpected recce t ↔ IsAcceptable b.g1 (Held edges) (slice_index b.g1.starts 0) t (earleme_of recce)) holds.edges
       (subst (λ start. IsExpected recce t ↔ IsAcceptable b.g1 (Held recce.edges) (slice_index b.g1.starts start) t (earleme_of recce)) holds.start (law t)))
+
+  -- the tokens have a derivation exactly where there is a tree
+  pub derived_is : TreesAreDerivations → HasTree recce ↔ HasDerivation b pieces
+  derived_is trees =
+      subst (λ place. HasTree recce ↔ ((tree : Tree) × Derives b.g1 (Held (edges_of pieces)) (slot_of (slice_index b.g1.starts 0)) 0 place tree)) holds.place
+      (subst (λ edges. HasTree recce ↔ ((tree : Tree) × Derives b.g1 (Held edges) (slot_of (slice_index b.g1.starts 0)) 0 (earleme_of recce) tree)) holds.edges
+      (subst (λ start. HasTree recce ↔ ((tree : Tree) × Derives b.g1 (Held recce.edges) (slot_of (slice_index b.g1.starts start)) 0 (earleme_of recce) tree)) holds.start
+      (trees b.g1 recce (slice_index b.g1.starts recce.start) checked holds.flat.made is (slice_get-get_or b.g1.starts recce.start 0 start_within))))

@@ -7,33 +7,12 @@ use Rattle.recognizer_model.specs.Flat.{FlatGrammar}
 use Rattle.recognizer_model.specs.FlatForm.{IsFlatOf}
 use Rattle.language_model.specs.Building.{Built}
 use Rattle.grammar_check.specs.declared.refusal.GrammarRefusal.{GrammarRefusal}
-use Rattle.grammar_check.specs.declared.refusal.GrammarRefusal.TheVariants.{NoRules, NoStart, StartNotLhs, SequenceLhs, Duplicate, CountedNullable, UnproductiveStart, Cyclic, NoMemory}
-use Rattle.grammar_check.specs.Told.{slots_with}
-use Rattle.grammar_check.specs.Message.{IsOf}
+pub use Rattle.grammar_check.specs.Said.{Says, IsSaid}
 use Rattle.reading_model.specs.Accepted.{Structural, Lexical, TooManyRules, HasGrammarFault, HasFewRules, HasTooManyRules}
 use Rattle.scanless.specs.declared.parts.Fault.{Fault}
 use Rattle.scanless.specs.declared.parts.Fault.TheVariants.{Refused, TooManyRules as FaultTooMany, NoMemory as FaultNoMemory}
 use Rattle.scanless.specs.declared.refusal.PrepareRefusal.{PrepareRefusal}
 use Rattle.scanless.specs.declared.refusal.PrepareRefusal.TheVariants.{Grammar as RefusesGrammar, Lexical as RefusesLexical, TooManyRules as RefusesRules, NoMemory as RefusesMemory}
-
--- a refusal of a check as the definition has it; want of memory is none
-abbrev pub Says : GrammarRefusal → model.Refusal → Type 0
-Says NoRules r = r ≡ model.NoRules
-Says NoStart r = r ≡ model.NoStart
-Says (StartNotLhs symbol) r = r ≡ model.StartNotLhs symbol
-Says (SequenceLhs symbol) r = r ≡ model.SequenceLhs symbol
-Says (Duplicate rule) r = r ≡ model.Duplicate rule
-Says (CountedNullable rule) r = r ≡ model.CountedNullable rule
-Says (UnproductiveStart symbol) r = r ≡ model.UnproductiveStart symbol
-Says (Cyclic cycle) r = r ≡ model.Cyclic (slots_with cycle.items)
-Says NoMemory r = ⊥
-
--- the refusal tells of the grammar what the definition does
-pub record IsSaid (g : Grammar) (refusal : GrammarRefusal) (IsItsFault : model.Refusal → Type 0) : Type 0 where
-  pub of : IsOf g refusal
-  pub told : model.Refusal
-  pub says : Says refusal told
-  pub fault : IsItsFault told
 
 -- WHAT PREPARING REFUSES
 

@@ -5,3 +5,4 @@ pub mod Reading
 pub mod Pieces
 pub mod Lookups
 pub mod Taking
+pub mod Cutting

@@ -124,7 +124,7 @@ pub fn look(
     requires lexer { IsLexerOf p.now work.old.lexer }
     requires at { at ≤ length chars.now }
     requires few { length chars.now ≤ 16777216 }
-    ensures lexer { OnOk result (IsLexerOf p.now work.new.lexer) }
+    ensures lexer { IsLexerOf p.now work.new.lexer }
     ensures none { IfOk result (λ answer. IsNone answer → (pieces : List Piece) → HoldsPieces p.now pieces recce.now → (n : ℕ) → IsLongest p.now chars.now pieces at n → ⊥) }
     ensures some { IfOk result (λ answer. IfSome answer (λ n. (pieces : List Piece) → HoldsPieces p.now pieces recce.now → IsLongestBy p.now chars.now pieces at n work.new.matched.items)) }
     ensures within { IfOk result (λ answer. IfSome answer (λ n. (0 < n) × (at + n ≤ length chars.now))) }

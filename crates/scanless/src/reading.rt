@@ -1,24 +1,21 @@
 //! Reading: a text is cut into tokens and skipped pieces, from the left.
-ghost use Rattle.std.specs.Prelude.{◌≡◌, ℕ, ◌+◌, ◌<◌, ◌≤◌, ◌++◌, ◌∷◌, [], List, length, map, IfOk, IfSome, IsNone, OnOk, Contains};
-ghost use Rattle.std.specs.Option.{IsSomeAnd};
-ghost use Rattle.std.specs.List.Sorted.{IsStrictlySortedBy};
-ghost use Rattle.std.specs.Ordering.{nat_cmp};
-ghost use Rattle.grammar_model.specs.declared.Edge.{Edge as HeldEdge};
-ghost use Rattle.reading_model.specs.Reading.{Piece};
+ghost use Rattle.std.specs.Prelude.{◌≡◌, ℕ, ◌+◌, ◌<◌, ◌≤◌, ◌↔◌, ◌++◌, ◌∷◌, [], List, length, IsTrue, IfOk, IfSome, IsNone, OnOk, Contains};
+ghost use Rattle.reading_model.specs.First.{IsFirstWith};
+ghost use Rattle.reading_model.specs.Reading.{Piece, supplied, IsNext, IsStuck, HasDerivation, MaySupply};
 ghost use Rattle.earley_sets.specs.Recognizer.{earleme_of, IsExpected};
 ghost use Rattle.earley_sets.specs.Counted.{CountsFrom, TakesAtMost};
-ghost use Rattle.scanless.specs.Taking.{Takes};
-ghost use Rattle.scanless.specs.Reading.{span_of, IsReadingOf, HasRead, IsReader, IsStuck};
+ghost use Rattle.scanless.specs.Reading.{HoldsPieces, IsReadingOf, IsReadingOfWith, HasRead, IsReader, GoesOn, StopsWith, ComesToRest, IsResting, IsOver};
 
 use crate::Prepared;
-use crate::candidates::{Work, look};
-use crate::kept::{Choice, choose};
+use crate::candidates::Work;
+use crate::piece::{Cut, take_piece};
 use crate::taking::take_token;
-use crate::told::{expected_lexemes, found_lexemes};
-use earley_sets::Recce;
+use crate::told::expected_lexemes;
+use earley_sets::{Recce, trees_are_derivations};
 use grammar_core::{Span, SymbolId};
 use slif_base::{Chars, Steps};
 use std::alloc::{AllocError, Global};
+use std::marker::Model;
 use std::sync::ledger::Ledger;
 
 /// How reading ends.
@@ -46,24 +43,39 @@ pub struct Reading<'p> {
     pub ending: Ending,
 }
 
-// What is read so far, up to a character.
+/// A text that is being read, from the left, by the tables of one lexer. It is seen as what is read so far. After an `Err` let it go.
 #[derive(Drop)]
-struct Reader<'p> {
+pub struct Reader<'p> {
+    prepared: &'p Prepared,
     recce: Recce<'p>,
     spans: Vec<Span>,
     at: usize,
     work: Work<'p>,
 }
 
+impl<'p> Model for Reader<'p> {
+    ghost use Rattle.scanless.specs.Pieces.{IsLexerOf};
+    ghost use Rattle.scanless.specs.Reading.{ReadSoFar};
+
+    ghost Value = { ReadSoFar };
+
+    ghost view = { λ r. record { grammar = r.prepared.now; recce = r.recce; spans = r.spans.items; at = r.at } };
+
+    ghost invariant = { λ r. IsLexerOf r.prepared.now r.work.lexer };
+}
+
 impl<'p> Reader<'p> {
-    fn new(alloc: Global, p: &'p Prepared) -> Result<Reader<'p>, AllocError>
-        ensures reader { IfOk result (λ r. (text : List ℕ) → IsReader p.now text r) }
+    /// A reader before the first character.
+    pub fn new(alloc: Global, p: &'p Prepared) -> Result<Reader<'p>, AllocError>
+        ensures grammar { IfOk result (λ r. r.grammar ≡ p.now) }
+        ensures begun { IfOk result (λ r. (given text : List ℕ) → HasRead p.now given text [] r.at r.recce r.spans) }
         ensures noted { IfOk result (λ r. r.recce.noted ≡ []) }
     {
         p.known();
         let recce = Recce::new(alloc, p.flat(), 0)?;
         match Work::new(alloc, p) {
             Ok(work) => Ok(Reader {
+                prepared: p,
                 recce,
                 spans: Vec::new(alloc),
                 at: 0,
@@ -76,109 +88,165 @@ impl<'p> Reader<'p> {
         }
     }
 
-    // Takes a token of so many characters, as each of the lexemes that are kept.
-    fn take<L: Ledger>(&mut self, length: u32, steps: &mut Steps<L>) -> Result<(), AllocError>
-        requires at { self.old.at + length ≤ 16777216 }
+    /// The character that comes next, counted from 0.
+    pub fn at(&self) -> usize
+        ensures { result ≡ self.now.at }
+    {
+        self.at
+    }
+
+    /// The terminals that are expected next, each once.
+    pub fn expected(&self) -> &[SymbolId]
+        ensures exact { (t : ℕ) → Contains result.now t ↔ IsExpected self.now.recce t }
+        ensures acceptable { (pieces : List Piece) → HoldsPieces self.now.grammar pieces self.now.recce → (t : ℕ) → IsExpected self.now.recce t ↔ IsNext self.now.grammar pieces t }
+    {
+        self.prepared.known();
+        let _place = self.recce.place();
+        self.recce.expected_terminals()
+    }
+
+    /// Whether the tokens so far have a derivation from the start symbol.
+    pub fn has_derivation(&self) -> bool
+        ensures { (pieces : List Piece) → HoldsPieces self.now.grammar pieces self.now.recce → IsTrue result ↔ HasDerivation self.now.grammar pieces }
+    {
+        self.prepared.known();
+        trees_are_derivations();
+        let _place = self.recce.place();
+        self.recce.at_end()
+    }
+
+    // Takes one piece. Where none can be taken, it tells which lexemes are found.
+    fn step<L: Ledger>(
+        &mut self,
+        alloc: Global,
+        chars: &Chars,
+        steps: &mut Steps<L>,
+    ) -> Result<Option<Vec<SymbolId>>, AllocError>
+        requires reader { (given : List ℕ) × IsReader given chars.now self.old }
+        requires few { length chars.now ≤ 16777216 }
+        requires more { self.old.at < length chars.now }
         requires place { earleme_of self.old.recce < 16777216 }
-        requires expected { (s : ℕ) → Contains self.old.work.kept.items s → IsExpected self.old.recce s }
-        requires order { IsStrictlySortedBy nat_cmp self.old.work.kept.items }
-        requires begun { (e : HeldEdge) → Contains self.old.recce.edges e → e.from < earleme_of self.old.recce }
-        ensures lexer { OnOk result (self.new.work.lexer ≡ self.old.work.lexer) }
-        ensures at { OnOk result (self.new.at ≡ self.old.at + length) }
-        ensures span { OnOk result (map span_of self.new.spans.items ≡ map span_of self.old.spans.items ++ (self.old.at, length) ∷ []) }
-        ensures takes { OnOk result (Takes self.old.recce self.new.recce self.old.work.kept.items) }
+        ensures grammar { self.new.grammar ≡ self.old.grammar }
+        ensures moves { IfOk result (λ found. IsNone found → (given : List ℕ) (pieces : List Piece) → HasRead self.old.grammar given chars.now pieces self.old.at self.old.recce self.old.spans → GoesOn given chars.now pieces self.old self.new) }
+        ensures room { IfOk result (λ found. IsNone found → (self.old.at < self.new.at) × (earleme_of self.new.recce + self.old.at ≤ earleme_of self.old.recce + self.new.at)) }
+        ensures stops { IfOk result (λ found. IfSome found (λ f. (self.new ≡ self.old) × ((pieces : List Piece) → HoldsPieces self.old.grammar pieces self.old.recce → StopsWith self.old.grammar chars.now pieces self.old.at f.items))) }
         ensures counted { OnOk result ((before : ℕ) → CountsFrom self.old.recce before steps.old → CountsFrom self.new.recce before steps.new) }
     {
         let start = self.at as u32;
-        self.spans.push(Span { start, length })?;
-        take_token(&mut self.recce, self.work.kept.as_slice(), steps)?;
-        self.at += length as usize;
-        Ok(())
-    }
-
-    // How reading ends where nothing can be taken.
-    fn stop(
-        &self,
-        alloc: Global,
-        p: &Prepared,
-        found: Vec<SymbolId>,
-    ) -> Result<Option<Ending>, AllocError>
-        ensures { (text : List ℕ) (pieces : List Piece) → HasRead p.now text pieces self.now.at self.now.recce self.now.spans.items → IsStuck p.now text pieces self.now.at found.items →
-            IfOk result (λ e. IsSomeAnd e (λ ending. IsReadingOf p.now text self.now.recce self.now.spans.items ending)) }
-    {
-        let expected = expected_lexemes(alloc, p, &self.recce)?;
-        Ok(Some(Ending::Stopped {
-            at: self.at,
-            found,
-            expected,
-        }))
-    }
-
-    // Reads one piece. Where none can be taken, it tells how reading ends.
-    fn next<L: Ledger>(
-        &mut self,
-        alloc: Global,
-        p: &Prepared,
-        chars: &Chars,
-        steps: &mut Steps<L>,
-    ) -> Result<Option<Ending>, AllocError>
-        requires reader { IsReader p.now chars.now self.old }
-        requires few { length chars.now ≤ 16777216 }
-        requires more { self.old.at < length chars.now }
-        ensures goes_on { IfOk result (λ e. IsNone e → IsReader p.now chars.now self.new × (self.old.at < self.new.at)) }
-        ensures ends { IfOk result (λ e. IfSome e (λ ending. IsReadingOf p.now chars.now self.new.recce self.new.spans.items ending)) }
-        ensures counted { OnOk result ((before : ℕ) → CountsFrom self.old.recce before steps.old → CountsFrom self.new.recce before steps.new) }
-    {
-        let Some(length) = look(&mut self.work, alloc, p, &self.recce, chars, self.at)? else {
-            return self.stop(alloc, p, Vec::new(alloc));
-        };
-        match choose(&mut self.work, p, &self.recce)? {
-            Choice::Token => {
-                self.take(length, steps)?;
-                Ok(None)
-            }
-            Choice::Skipped => {
+        match take_piece(
+            &mut self.work,
+            alloc,
+            self.prepared,
+            &mut self.recce,
+            chars,
+            self.at,
+            steps,
+        )? {
+            Cut::Token { length } => {
+                self.spans.push(Span { start, length })?;
                 self.at += length as usize;
                 Ok(None)
             }
-            Choice::Nothing => {
-                let found = found_lexemes(alloc, p, self.work.matched.as_slice())?;
-                self.stop(alloc, p, found)
+            Cut::Skipped { length } => {
+                self.at += length as usize;
+                Ok(None)
             }
+            Cut::Stuck { found } => Ok(Some(found)),
         }
     }
 
-    // Reads on to the end, or to where nothing can be taken, and tells how reading ends.
-    fn read<L: Ledger>(
+    /// Reads on to the end of the text, or to where nothing can be taken: then it tells which lexemes are found there.
+    pub fn read_on<L: Ledger>(
         &mut self,
         alloc: Global,
-        p: &Prepared,
         chars: &Chars,
         steps: &mut Steps<L>,
-    ) -> Result<Ending, AllocError>
-        requires reader { IsReader p.now chars.now self.old }
+    ) -> Result<Option<Vec<SymbolId>>, AllocError>
+        requires reader { (given : List ℕ) × IsReader given chars.now self.old }
         requires few { length chars.now ≤ 16777216 }
-        ensures ends { IfOk result (λ ending. IsReadingOf p.now chars.now self.new.recce self.new.spans.items ending) }
+        requires room { earleme_of self.old.recce + length chars.now ≤ 16777216 + self.old.at }
+        ensures grammar { self.new.grammar ≡ self.old.grammar }
+        ensures rests { IfOk result (λ found. (given : List ℕ) (pieces : List Piece) → HasRead self.old.grammar given chars.now pieces self.old.at self.old.recce self.old.spans → ComesToRest given chars.now pieces self.old self.new found) }
+        ensures room { OnOk result (earleme_of self.new.recce + self.old.at ≤ earleme_of self.old.recce + self.new.at) }
         ensures counted { OnOk result ((before : ℕ) → CountsFrom self.old.recce before steps.old → CountsFrom self.new.recce before steps.new) }
     {
         while self.at < chars.len() {
-            if let Some(ending) = self.next(alloc, p, chars, steps)? {
-                return Ok(ending);
+            if let Some(found) = self.step(alloc, chars, steps)? {
+                return Ok(Some(found));
             }
         }
-        Ok(Ending::End)
+        Ok(None)
     }
 
+    /// Takes a lexeme that is not in the text, as a token of no characters.
+    pub fn supply<L: Ledger>(
+        &mut self,
+        symbol: SymbolId,
+        steps: &mut Steps<L>,
+    ) -> Result<(), AllocError>
+        requires reader { (given text : List ℕ) × (length text ≤ 16777216) × IsReader given text self.old }
+        requires place { earleme_of self.old.recce < 16777216 }
+        requires expected { IsExpected self.old.recce symbol }
+        ensures grammar { self.new.grammar ≡ self.old.grammar }
+        ensures supplied { OnOk result ((given text : List ℕ) (pieces : List Piece) → HasRead self.old.grammar given text pieces self.old.at self.old.recce self.old.spans →
+            IsStuck self.old.grammar text pieces self.old.at → IsFirstWith (MaySupply self.old.grammar pieces) given symbol →
+            HasRead self.old.grammar given text (pieces ++ supplied symbol ∷ []) self.new.at self.new.recce self.new.spans) }
+        ensures at { self.new.at ≡ self.old.at }
+        ensures counted { OnOk result ((before : ℕ) → CountsFrom self.old.recce before steps.old → CountsFrom self.new.recce before steps.new) }
+    {
+        let start = self.at as u32;
+        let symbols = [symbol];
+        self.spans.push(Span { start, length: 0 })?;
+        take_token(&mut self.recce, &symbols, steps)
+    }
+
+    // What was read, where nothing more is read.
     fn ended(self, ending: Ending) -> Reading<'p>
-        ensures same { (result.recce ≡ self.entry.recce) × (result.spans.items ≡ self.entry.spans.items) × (result.ending ≡ ending) }
+        ensures same { (result.recce ≡ self.entry.recce) × (result.spans.items ≡ self.entry.spans) × (result.ending ≡ ending) }
         ensures counted { (before after : ℕ) → CountsFrom self.entry.recce before after → TakesAtMost result.recce before after }
     {
         let _place = self.recce.place();
-        drop(self.work);
+        let Reader {
+            prepared: _,
+            recce,
+            spans,
+            at: _,
+            work,
+        } = self;
+        drop(work);
         Reading {
-            recce: self.recce,
-            spans: self.spans,
+            recce,
+            spans,
             ending,
+        }
+    }
+
+    /// The reading, where reading rests and nothing is supplied. `found` is what `read_on` told.
+    pub fn finish(
+        self,
+        alloc: Global,
+        found: Option<Vec<SymbolId>>,
+    ) -> Result<Reading<'p>, AllocError>
+        ensures reading { IfOk result (λ r. (given text : List ℕ) (rests : IsResting given text self.entry found) → IsOver self.entry.grammar given rests.pieces found →
+            IsReadingOfWith self.entry.grammar given text r.recce r.spans.items r.ending) }
+        ensures counted { IfOk result (λ r. (before after : ℕ) → CountsFrom self.entry.recce before after → TakesAtMost r.recce before after) }
+    {
+        let Some(found) = found else {
+            return Ok(self.ended(Ending::End));
+        };
+        match expected_lexemes(alloc, self.prepared, &self.recce) {
+            Ok(expected) => {
+                let at = self.at;
+                Ok(self.ended(Ending::Stopped {
+                    at,
+                    found,
+                    expected,
+                }))
+            }
+            Err(error) => {
+                drop(self);
+                Err(error)
+            }
         }
     }
 }
@@ -195,8 +263,8 @@ pub fn read_input<'p, L: Ledger>(
     ensures counted { IfOk result (λ r. TakesAtMost r.recce steps.old steps.new) }
 {
     let mut reader = Reader::new(alloc, p)?;
-    match reader.read(alloc, p, chars, steps) {
-        Ok(ending) => Ok(reader.ended(ending)),
+    match reader.read_on(alloc, chars, steps) {
+        Ok(found) => reader.finish(alloc, found),
         Err(error) => {
             drop(reader);
             Err(error)

@@ -1,11 +1,11 @@
 //! How a recognizer takes a token: an edge for each lexeme that is kept, and the set of the next place.
-ghost use Rattle.std.specs.Prelude.{◌≡◌, ℕ, ◌+◌, ◌<◌, ◌++◌, ◌∷◌, [], OnOk, Contains};
+ghost use Rattle.std.specs.Prelude.{◌≡◌, ℕ, ◌+◌, ◌<◌, ◌++◌, ◌∷◌, [], OnOk, OnErr, Contains};
 ghost use Rattle.std.specs.List.Sorted.{IsStrictlySortedBy};
 ghost use Rattle.std.specs.Ordering.{nat_cmp};
 ghost use Rattle.grammar_model.specs.declared.Edge.{Edge as HeldEdge};
 ghost use Rattle.earley_sets.specs.Recognizer.{earleme_of, new_edge, IsExpected};
 ghost use Rattle.earley_sets.specs.Counted.{CountsFrom};
-ghost use Rattle.scanless.specs.Taking.{token_edges, Keeps, Takes};
+ghost use Rattle.scanless.specs.Taking.{token_edges, Keeps, Takes, TakesSome};
 
 use earley_sets::{AlternativeRefusal, Recce};
 use grammar_core::SymbolId;
@@ -20,6 +20,7 @@ fn take_lexeme(recce: &mut Recce<'_>, symbol: SymbolId) -> Result<(), AllocError
     requires fresh { ¬ Contains recce.old.edges (new_edge recce.old symbol 1) }
     ensures same { Keeps recce.old recce.new }
     ensures ok { OnOk result (recce.new.edges ≡ recce.old.edges ++ new_edge recce.old symbol 1 ∷ []) }
+    ensures err { OnErr result (recce.new.edges ≡ recce.old.edges) }
 {
     match recce.alternative(symbol, 1) {
         Ok(()) => Ok(()),
@@ -37,6 +38,7 @@ fn take_lexemes(recce: &mut Recce<'_>, symbols: &[SymbolId]) -> Result<(), Alloc
     requires begun { (e : HeldEdge) → Contains recce.old.edges e → e.from < earleme_of recce.old }
     ensures same { Keeps recce.old recce.new }
     ensures ok { OnOk result (recce.new.edges ≡ recce.old.edges ++ token_edges (earleme_of recce.old) symbols.now) }
+    ensures err { OnErr result (TakesSome recce.old recce.new) }
 {
     for symbol in symbols {
         take_lexeme(recce, *symbol)?;
@@ -44,7 +46,7 @@ fn take_lexemes(recce: &mut Recce<'_>, symbols: &[SymbolId]) -> Result<(), Alloc
     Ok(())
 }
 
-/// Takes a token, as each of these lexemes, and goes on to the place behind it.
+/// Takes a token, as each of these lexemes, and goes on to the place after it.
 pub fn take_token<L: Ledger>(
     recce: &mut Recce<'_>,
     symbols: &[SymbolId],
@@ -55,6 +57,7 @@ pub fn take_token<L: Ledger>(
     requires order { IsStrictlySortedBy nat_cmp symbols.now }
     requires begun { (e : HeldEdge) → Contains recce.old.edges e → e.from < earleme_of recce.old }
     ensures takes { OnOk result (Takes recce.old recce.new symbols.now) }
+    ensures err { OnErr result (TakesSome recce.old recce.new) }
     ensures counted { OnOk result ((before : ℕ) → CountsFrom recce.old before steps.old → CountsFrom recce.new before steps.new) }
 {
     take_lexemes(recce, symbols)?;

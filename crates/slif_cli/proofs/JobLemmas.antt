@@ -18,7 +18,7 @@ use Rattle.run_model.specs.Outcome.IsOutcome.{NoJob, OfJob}
 use Rattle.run_model.specs.Outcome.IsGrammarOutcome.{GrammarRefused, GrammarAccepted}
 use Rattle.run_model.specs.Outside.{Stream, Disk}
 use Rattle.run_model.specs.Runs.{InputMayBe, Supplied, AsksNames}
-use Rattle.run_model.specs.Steps.{DoesWithin, RunsWithin}
+use Rattle.run_model.specs.Within.{DoesWithin, RunsWithin}
 use Rattle.run_model.specs.Runs.MayOpen.{OfGrammar}
 use Rattle.run_model.specs.Runs.MayAsk.{ForNothing, ForGrammar}
 use Rattle.run_model.proofs.Accepted.{not_refused}

@@ -30,7 +30,7 @@ use Rattle.run_model.specs.Numbers.{Numbers, HasNumbers}
 use Rattle.run_model.specs.Jobs.{work_grammar, work_input}
 use Rattle.run_model.specs.Telling.{work_line}
 use Rattle.run_model.specs.Outcome.{IsWorkOutcome, done}
-use Rattle.run_model.specs.Steps.{GivesWithin}
+use Rattle.run_model.specs.Within.{WorkWithin}
 use Rattle.run_model.proofs.Accepted.{one_built, not_refused}
 use Rattle.work_laws.proofs.Working.{work_has_one}
 use Rattle.text_reading.specs.Refusals.{TellsGrammar, TellsInput, IsRefusedAt, IsNoDerivation}
@@ -142,7 +142,7 @@ module _ (size : ℕ) (sized : size ≤ 100000) where
         pub own_within : (recce : Recognizer) → IsRecognizer recce → (held_spans : List Span) → IsReadingOf b cs recce held_spans AtEnd → (before read built after : ℕ)
             → ((n : ℕ) → IsCountOf (IsExpanded recce.flat (held_edges recce) (allowed_by b.g1 RuleRanks recce.flat (held_edges recce)) (top_of recce) (earleme_of recce)) n → built ≤ read + n)
             → ((trees : List Tree) → IsListing f trees → after ≤ built + sum_by choices (take 4294967295 trees))
-            → TakesAtMost recce before read → GivesWithin b (work_input size) RuleRanks None before after
+            → TakesAtMost recce before read → WorkWithin b size before after
         own_within recce recognizes held_spans reading before read built after builds gives reads =
             let (trees, l) = some_listing b RuleRanks cs spans f has forest in
             let all = listed b RuleRanks cs spans f has trees l in
@@ -154,7 +154,9 @@ module _ (size : ℕ) (sized : size ≤ 100000) where
             record {
               pieces = has.pieces;
               read = record { text = own_text; reading = subst (λ (l : List ℕ). IsReading b l has.pieces End) is has.of.reading };
-              trees = trees;
-              all = all;
-              within = within b recce recognizes has.pieces holds RuleRanks trees before read built after reads builds (subst (λ (ts : List Tree). after ≤ built + sum_by choices ts) few (gives trees l));
+              within = record {
+                trees = trees;
+                all = all;
+                within = within b recce recognizes has.pieces holds RuleRanks trees before read built after reads builds (subst (λ (ts : List Tree). after ≤ built + sum_by choices ts) few (gives trees l));
+              };
             }

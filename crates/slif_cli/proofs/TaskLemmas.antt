@@ -17,7 +17,7 @@ use Rattle.run_model.specs.Outcome.IsGrammarOutcome.{GrammarAccepted}
 use Rattle.run_model.specs.Inputs.{IsInputText, TooLong}
 use Rattle.run_model.specs.Outside.{Stream}
 use Rattle.run_model.specs.Runs.{MayOpen, InputMayBe, Supplied, AsksNames, ReadsInput, GoesOn}
-use Rattle.run_model.specs.Steps.{InputWithin, DoesWithin, RunsWithin}
+use Rattle.run_model.specs.Within.{InputWithin, DoesWithin, RunsWithin}
 use Rattle.run_model.specs.Runs.MayOpen.{OfInput}
 use Rattle.run_model.specs.Runs.MayAsk.{ForGrammar, ForInput}
 use Rattle.slif_cli.specs.Stops.{InputHolds, MayHave, MayRead, ReadStops, StopsAt, names_from, refusal_outcome}

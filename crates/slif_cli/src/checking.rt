@@ -1,17 +1,16 @@
 // What job `check` writes.
 ghost use Rattle.std.specs.Prelude.{◌≡◌, ◌≤◌, ◌<◌, ◌++◌, All, map, length, IfOk, IfErr, OnOk, slice_set, true};
-ghost use Rattle.std.specs.List.{concat};
-ghost use Rattle.std.specs.Io.KnownBytes.{Appends};
 ghost use Rattle.grammar_model.specs.Values.{name_of};
 ghost use Rattle.run_model.specs.Outcome.{IsCheckOutcome};
 ghost use Rattle.run_model.specs.Checking.{IsRowOf, AreRows, AreCheckLines, head_line, row_line, word_if};
 ghost use Rattle.run_model.specs.Outside.{stream};
-ghost use Rattle.slif_cli.specs.Stops.{Does, WriteStops, LinesStop, told_row};
+ghost use Rattle.slif_cli.specs.Stops.{Does, WriteStops, told_row};
 
+use crate::lines::write_lines;
 use crate::stop::Stop;
 use grammar_core::{SymbolId, Written};
 use scanless::Prepared;
-use slif_base::{Sink, write_all};
+use slif_base::Sink;
 use std::alloc::{AllocError, Global};
 
 /// What a left side can do.
@@ -36,21 +35,6 @@ pub fn write_check<'a, O: Sink>(
 {
     let lines = check_lines(alloc, prepared)?;
     write_lines(&lines, out)
-}
-
-/// Writes lines, one piece each.
-pub fn write_lines<'a, O: Sink>(lines: &[Vec<u8>], out: &mut O) -> Result<(), Stop<'a>>
-    ensures written { OnOk result (Appends (O.contents out.old) (O.contents out.new) (concat (map (λ l. l.items) lines.now))) }
-    ensures stops { IfErr result (LinesStop (map (λ l. l.items) lines.now)
-        (stream O.contents O.fault_count out.old) (stream O.contents O.fault_count out.new)) }
-    ensures out_later { O.fault_count out.old ≤ O.fault_count out.new }
-{
-    for line in lines {
-        let Ok(()) = write_all(out, line) else {
-            return Err(Stop::WriteFault);
-        };
-    }
-    Ok(())
 }
 
 fn check_lines(alloc: Global, prepared: &Prepared) -> Result<Vec<Vec<u8>>, AllocError>

@@ -9,7 +9,7 @@ use crate::stop::{Refusal, Stop};
 use scanless::Prepared;
 use slif_base::{FileRefusal, Files, read_named};
 use std::alloc::Global;
-use text_reading::{GRAMMAR_LIMIT, read_grammar};
+use text_reading::{GRAMMAR_LIMIT, long_grammar_text, read_grammar};
 
 /// Reads the grammar from the named file.
 pub fn load_grammar<'a, F: Files>(
@@ -29,7 +29,7 @@ pub fn load_grammar<'a, F: Files>(
         Err(FileRefusal::OpenFault) => Err(Stop::OpenFault(name)),
         Err(FileRefusal::ReadFault) => Err(Stop::ReadFault),
         Err(FileRefusal::TooLarge) => {
-            let text = Vec::from_slice(alloc, b"grammar: longer than 1048576 bytes")?;
+            let text = long_grammar_text(alloc)?;
             Err(Stop::Refused(Refusal::Grammar { text }))
         }
         Err(FileRefusal::NoMemory) => Err(Stop::NoMemory),

@@ -1,5 +1,5 @@
 // The bytes of the input.
-ghost use Rattle.std.specs.Prelude.{◌≡◌, ◌≢◌, ◌≤◌, ◌⊎◌, [], ◌∷◌, length, codes, IfOk, IfErr};
+ghost use Rattle.std.specs.Prelude.{◌≡◌, ◌≢◌, ◌≤◌, ◌⊎◌, [], ◌∷◌, length, IfOk, IfErr};
 ghost use Rattle.outside_model.specs.Causes.{Rose};
 ghost use Rattle.outside_model.specs.Told.{MayBe, MayHold, SameFiles, AsksAmong};
 ghost use Rattle.words_model.specs.Words.InputFrom.{Nowhere, StandardInput};
@@ -10,8 +10,8 @@ ghost use Rattle.slif_cli.specs.Stops.{ReadStops, FileStops, SourceStops, names_
 use crate::stop::{Refusal, Stop};
 use command_line::InputFrom;
 use slif_base::{FileRefusal, Files, ReadRefusal, Source, read_all, read_named};
-use std::alloc::{AllocError, Global};
-use text_reading::INPUT_LIMIT;
+use std::alloc::Global;
+use text_reading::{INPUT_LIMIT, long_input_text};
 
 /// The bytes of the input, which is somewhere.
 pub fn read_bytes<'a, F: Files, I: Source>(
@@ -55,7 +55,7 @@ fn file_bytes<'a, F: Files>(
         Err(FileRefusal::OpenFault) => Err(Stop::OpenFault(name)),
         Err(FileRefusal::ReadFault) => Err(Stop::ReadFault),
         Err(FileRefusal::TooLarge) => Err(Stop::Refused(Refusal::Input {
-            text: too_long_text(alloc)?,
+            text: long_input_text(alloc)?,
         })),
         Err(FileRefusal::NoMemory) => Err(Stop::NoMemory),
     }
@@ -71,14 +71,8 @@ fn standard_bytes<'a, I: Source>(alloc: Global, input: &mut I) -> Result<Vec<u8>
         Ok(bytes) => Ok(bytes),
         Err(ReadRefusal::ReadFault) => Err(Stop::ReadFault),
         Err(ReadRefusal::TooLarge) => Err(Stop::Refused(Refusal::Input {
-            text: too_long_text(alloc)?,
+            text: long_input_text(alloc)?,
         })),
         Err(ReadRefusal::NoMemory) => Err(Stop::NoMemory),
     }
-}
-
-fn too_long_text(alloc: Global) -> Result<Vec<u8>, AllocError>
-    ensures { IfOk result (λ text. text.items ≡ codes "input is longer than 16777216 bytes") }
-{
-    Vec::from_slice(alloc, b"input is longer than 16777216 bytes")
 }

@@ -1,27 +1,27 @@
-//! Laws of what a run means, each shown by a contract alone.
+//! Laws of what a run means. Each is shown by a contract alone, and its function does nothing.
 ghost use Rattle.run_model.specs.Laws.{HasOutcome, HasOneOutcome, HasOneEnd, HasEnd, StatusesOccur};
 
-/// Whatever the words, the grammar and the input are, there is an outcome. It does nothing.
+/// Whatever the words, the grammar and the input are, there is an outcome.
 pub fn has_outcome()
     ensures { HasOutcome }
 {}
 
-/// There is one outcome at most. It does nothing.
+/// There is one outcome at most.
 pub fn one_outcome()
     ensures { HasOneOutcome }
 {}
 
-/// Where the outside tells all that the words need, a run may have one outcome at most. It does nothing.
+/// Where the outside tells all that the words need, a run may have one outcome at most.
 pub fn one_end()
     ensures { HasOneEnd }
 {}
 
-/// Where the outside holds the files that the words need, a run has an outcome. It does nothing.
+/// Where the outside holds the files that the words need, a run has an outcome.
 pub fn has_end()
     ensures { HasEnd }
 {}
 
-/// Each status from 0 to 3 comes up. It does nothing.
+/// Each status from 0 to 3 comes up.
 pub fn statuses_occur()
     ensures { StatusesOccur }
 {}

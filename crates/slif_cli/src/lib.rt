@@ -2,17 +2,16 @@
 #![tactic(auto)]
 
 mod checking;
-mod expecting;
 mod grammar;
 mod inputs;
 mod laws;
+mod lines;
 mod messages;
-mod reporting;
 mod stop;
 mod telling;
 mod top;
-mod values;
 mod working;
 
 pub use laws::{has_end, has_outcome, one_end, one_outcome, statuses_occur};
+pub use messages::{FAULT, OUT_OF_MEMORY};
 pub use top::run;

@@ -7,15 +7,16 @@ ghost use Rattle.run_model.specs.Outcome.{message};
 ghost use Rattle.slif_cli.specs.Stops.{Reports, Tells, refusal_outcome};
 
 use crate::stop::{Refusal, Stop};
+use command_line::USAGE;
 use slif_base::{Sink, write_all};
 use std::alloc::{AllocError, Global};
 use text_reading::append_in_line;
 
-const FAULT: u8 = 4;
+/// The status of a fault of the outside.
+pub const FAULT: u8 = 4;
 
-const OUT_OF_MEMORY: u8 = 5;
-
-const USAGE: &[u8] = b"usage: slif JOB [options]; jobs: run, check, expect, progress, work";
+/// The status where memory ran out.
+pub const OUT_OF_MEMORY: u8 = 5;
 
 /// Writes the line of a stop, and answers the status.
 pub fn report<E: Sink>(alloc: Global, stop: Stop<'_>, err: &mut E) -> u8

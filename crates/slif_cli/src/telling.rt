@@ -4,7 +4,7 @@ ghost use Rattle.outside_model.specs.Causes.{Rose};
 ghost use Rattle.outside_model.specs.Told.{SameFiles, AsksAmong};
 ghost use Rattle.words_model.specs.Words.InputFrom.{Nowhere, StandardInput, FileNamed};
 ghost use Rattle.run_model.specs.Outcome.{IsInputOutcome};
-ghost use Rattle.run_model.specs.Steps.{InputWithin};
+ghost use Rattle.run_model.specs.Within.{InputWithin};
 ghost use Rattle.command_line.specs.Jobs.{telling_of, input_of};
 ghost use Rattle.run_model.specs.Outside.{stream};
 ghost use Rattle.valuator.specs.Told.{states};
@@ -14,11 +14,15 @@ ghost use Rattle.scanless.specs.declared.reading.Ending.TheVariants.{End};
 ghost use Rattle.slif_cli.specs.Stops.{Does, InputHolds, MayRead, StopsAt, WriteStops, names_from};
 ghost use Rattle.slif_cli.specs.Tasks.{TellsReading, GoesOnWithin};
 
-use crate::expecting::write_expected;
+mod expecting;
+mod reporting;
+mod values;
+
 use crate::inputs::read_bytes;
-use crate::reporting::write_report;
 use crate::stop::Stop;
-use crate::values::write_values;
+use crate::telling::expecting::write_expected;
+use crate::telling::reporting::write_report;
+use crate::telling::values::write_values;
 use command_line::{InputFrom, Telling};
 use scanless::{Prepared, Reading};
 use slif_base::{Chars, Files, Sink, Source, Steps};

@@ -5,7 +5,7 @@ ghost use Rattle.words_model.specs.Words as asked_words;
 ghost use Rattle.words_model.specs.Words.{Asks, Nowhere};
 ghost use Rattle.run_model.specs.Outside.{Outside, Stream, stream, disk};
 ghost use Rattle.run_model.specs.Runs.{Runs, AsksNames, ReadsInput};
-ghost use Rattle.run_model.specs.Steps.{RunsWithin};
+ghost use Rattle.run_model.specs.Within.{RunsWithin};
 ghost use Rattle.command_line.specs.Jobs.{job_of, telling_of, input_of};
 ghost use Rattle.valuator.specs.Told.{states};
 ghost use Rattle.value_lines.specs.Writing.{AreBothTellers};
@@ -24,7 +24,7 @@ use std::alloc::Global;
 use std::sync::ledger::Ledger;
 use valuator::Teller;
 
-/// Does what the words ask for, and answers the status. The words are those behind the program's own name. Of the tellers that of
+/// Does what the words ask for, and answers the status. The words are those after the program's own name. Of the tellers that of
 /// the kind asked for is kept, and the other is dropped before any value is told.
 pub fn run<F: Files, I: Source, O: Sink, E: Sink, L: Ledger>(
     alloc: Global,
@@ -55,14 +55,14 @@ pub fn run<F: Files, I: Source, O: Sink, E: Sink, L: Ledger>(
     ensures input { (input.new ≡ input.old) ⊎ ReadsInput (map string_bytes words.now) (F.told files.old) }
     ensures held { SameFiles (F.told files.old) (F.told files.new) }
 {
-    match work(alloc, words, files, input, out, tellers, steps) {
+    match do_words(alloc, words, files, input, out, tellers, steps) {
         Ok(()) => 0,
         Err(stop) => report(alloc, stop, err),
     }
 }
 
-// All but the lines on the standard error.
-fn work<'a, F: Files, I: Source, O: Sink, L: Ledger>(
+// Does what the words ask for.
+fn do_words<'a, F: Files, I: Source, O: Sink, L: Ledger>(
     alloc: Global,
     words: &'a [String],
     files: &mut F,

@@ -1,18 +1,17 @@
 // Job `work`, which has a grammar and an input of its own. None of them is refused.
-ghost use Rattle.std.specs.Prelude.{◌≡◌, ◌≤◌, ◌∷◌, [], ℕ, length, None, chars as chars_in, IfOk, IfErr, OnOk};
-ghost use Rattle.grammar_model.specs.declared.Ranking.TheVariants.{Rule as RuleRanks};
+ghost use Rattle.std.specs.Prelude.{◌≡◌, ◌≤◌, ◌∷◌, [], ℕ, length, chars as chars_in, IfOk, IfErr, OnOk};
 ghost use Rattle.earley_sets.specs.Counted.{TakesAtMost};
 ghost use Rattle.run_model.specs.Jobs.{work_grammar, work_input};
 ghost use Rattle.run_model.specs.Refused.{Accepted};
 ghost use Rattle.run_model.specs.Outcome.{IsWorkOutcome, done};
-ghost use Rattle.run_model.specs.Steps.{GivesWithin};
+ghost use Rattle.run_model.specs.Within.{WorkWithin};
 ghost use Rattle.run_model.specs.Outside.{stream};
 ghost use Rattle.scanless.specs.Reading.{IsReadingOf};
 ghost use Rattle.scanless.specs.declared.reading.Ending.TheVariants.{End};
 ghost use Rattle.slif_cli.specs.Stops.{Does, WriteStops};
 ghost use Rattle.slif_cli.specs.Tasks.{WorksWithin};
 
-use crate::checking::write_lines;
+use crate::lines::write_lines;
 use crate::stop::Stop;
 use bumpalo::Bump;
 use grammar_model::Ranking;
@@ -146,6 +145,7 @@ fn own_reading<'p, L: Ledger>(
     ensures read { IfOk result (λ r. IsReadingOf prepared.now chars.now r.recce r.spans.items End) }
     ensures counted { IfOk result (λ r. TakesAtMost r.recce steps.old steps.new) }
 {
+    // The size stands in the contract alone.
     let _ = size;
     match read_text(alloc, prepared, chars, steps) {
         Ok(reading) => Ok(reading),
@@ -166,7 +166,7 @@ fn line_of_reading<L: Ledger>(
     requires chars { chars.now ≡ chars_in (work_input size) }
     requires read { IsReadingOf prepared.now chars.now reading.now.recce reading.now.spans.items End }
     ensures line { IfOk result (λ line. IsWorkOutcome size (done (line.items ∷ []))) }
-    ensures counted { OnOk result ((before : ℕ) → TakesAtMost reading.now.recce before steps.old → GivesWithin prepared.now (work_input size) RuleRanks None before steps.new) }
+    ensures counted { OnOk result ((before : ℕ) → TakesAtMost reading.now.recce before steps.old → WorkWithin prepared.now size before steps.new) }
 {
     let _place = reading.recce.place();
     let arena = Bump::new(alloc);

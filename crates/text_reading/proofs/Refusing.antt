@@ -1,15 +1,11 @@
 -- What is told of a refused grammar is the text of the definition, with the place of its fault.
 use Rattle.std.proofs.Common.{◌≡◌, ◌∙◌, ℕ, ◌≤◌, ◌<◌, Bool, List, [], ◌∷◌, ◌++◌, Option, Result, Ok, Err, length, Some, None, IfSome, refl, sym, ap, subst, map, option_map, chars, codes}
 use Rattle.std.specs.Prelude.{IfErr}
-use Rattle.std.specs.List.{flat_map}
 use Rattle.grammar_model.specs.Grammar.{Grammar}
-use Rattle.grammar_model.specs.Values.{name_of}
-use Rattle.grammar_model.specs.Checked as model
 use Rattle.grammar_check.specs.declared.refusal.GrammarRefusal.{GrammarRefusal}
-use Rattle.scanless.specs.Faults.{Says, IsSaid}
-use Rattle.grammar_check.specs.declared.refusal.GrammarRefusal.TheVariants.{NoRules, NoStart, StartNotLhs, SequenceLhs, Duplicate, CountedNullable, UnproductiveStart, Cyclic, NoMemory}
+use Rattle.scanless.specs.Faults.{IsSaid}
 use Rattle.grammar_check.specs.Message as check
-use Rattle.grammar_check.specs.Told.{slots_with}
+use Rattle.grammar_check.proofs.Saying.{refusal_told}
 use Rattle.dsl_faults.specs.Found.{first_of, refused_fault}
 use Rattle.dsl_faults.specs.declared.refusal.BuildRefusal.{BuildRefusal}
 use Rattle.language_model.specs.Description.{Statement}
@@ -32,30 +28,10 @@ use Rattle.dsl_tokens.specs.declared.reading.TokenRefusal.TheVariants.{BadToken 
 use Rattle.dsl_reader.specs.Cutting.{Refuses as RefusesStatements}
 use Rattle.dsl_reader.specs.declared.refusal.StatementRefusal.{StatementRefusal}
 use Rattle.dsl_reader.specs.declared.refusal.StatementRefusal.TheVariants.{BadStatement as BadPiece}
-use Rattle.run_model.specs.Refused.{ByText, ByDescription, ByGrammars, refusal_text, grammar_text, listed}
+use Rattle.run_model.specs.Refused.{ByText, ByDescription, ByGrammars, grammar_text}
 use Rattle.text_reading.specs.Parts.{IsFaultText, IsBadText, OfTokens, OfStatements, IsBadDescription, OfBuilding, OfGrammars, IsGrammarText}
 
 -- A CHECK
-
-names_behind : (g : Grammar) (ps : List (ℕ × ℕ)) → flat_map (λ q. codes ", " ++ name_of g q.0) ps ≡ flat_map (λ n. codes ", " ++ n) (map (λ slot. name_of g slot.symbol) (slots_with ps))
-names_behind g [] = refl
-names_behind g (p ∷ ps) = ap (λ rest. (codes ", " ++ name_of g p.0) ++ rest) (names_behind g ps)
-
-cycle_told : (g : Grammar) (ps : List (ℕ × ℕ)) → check.cycle_text g ps ≡ codes "cyclic: " ++ listed (map (λ slot. name_of g slot.symbol) (slots_with ps))
-cycle_told g [] = refl
-cycle_told g (p ∷ ps) = ap (λ rest. codes "cyclic: " ++ (name_of g p.0 ++ rest)) (names_behind g ps)
-
--- the text of what a check tells is that of the refusal that it says
-pub refusal_told : (g : Grammar) (r : GrammarRefusal) (m : model.Refusal) → Says r m → check.refusal_text g r ≡ refusal_text g m
-refusal_told g NoRules m says = ap (refusal_text g) (sym says)
-refusal_told g NoStart m says = ap (refusal_text g) (sym says)
-refusal_told g (StartNotLhs symbol) m says = ap (refusal_text g) (sym says)
-refusal_told g (SequenceLhs symbol) m says = ap (refusal_text g) (sym says)
-refusal_told g (Duplicate rule) m says = ap (refusal_text g) (sym says)
-refusal_told g (CountedNullable rule) m says = ap (refusal_text g) (sym says)
-refusal_told g (UnproductiveStart symbol) m says = ap (refusal_text g) (sym says)
-refusal_told g (Cyclic cycle) m says = cycle_told g cycle.items ∙ ap (refusal_text g) (sym says)
-refusal_told g NoMemory m says = absurd says
 
 pub structural_text : (b : Built) (w : Grammar) (r : GrammarRefusal) → w ≡ b.g1 → IsSaid b.g1 r (λ m. HasGrammarFault b (Structural m)) → (text : List ℕ)
     → text ≡ codes "grammar: " ++ check.refusal_text w r → IsGrammarText b text

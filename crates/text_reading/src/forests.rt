@@ -41,6 +41,7 @@ pub fn forest_of<'r, L: Ledger>(
     prepared.known();
     let _flat = prepared.flat();
     let _place = reading.recce.place();
+    // The characters stand in the contract alone.
     let _ = chars;
     match Forest::build(
         alloc,

@@ -1,5 +1,5 @@
 // The grammars of a text.
-ghost use Rattle.std.specs.Prelude.{◌≡◌, ◌≤◌, ◌<◌, IfOk, IfErr, OnOk, None, IsUtf8, chars as chars_in, length, option_map};
+ghost use Rattle.std.specs.Prelude.{◌≡◌, ◌≤◌, ◌<◌, IfOk, IfErr, OnOk, None, IsUtf8, chars as chars_in, length, codes, option_map};
 ghost use Rattle.dsl_faults.specs.Found.{refused_fault};
 ghost use Rattle.language_model.specs.Building.{Built};
 ghost use Rattle.language_model.specs.Texts.{IsDescription, IsBuilt, IsBuiltOf};
@@ -19,11 +19,18 @@ use dsl_statement::Description;
 use dsl_tokens::{TokenRefusal, tokens};
 use scanless::{PrepareRefusal, Prepared, prepare};
 use slif_base::{Chars, TextRefusal, chars_of};
-use std::alloc::Global;
+use std::alloc::{AllocError, Global};
 use value_text::NoMemory;
 
 /// The greatest length of a grammar, in bytes.
 pub const GRAMMAR_LIMIT: usize = 1_048_576;
+
+/// What is told of a grammar that is longer than 1,048,576 bytes.
+pub fn long_grammar_text(alloc: Global) -> Result<Vec<u8>, AllocError>
+    ensures { IfOk result (λ text. text.items ≡ codes "grammar: longer than 1048576 bytes") }
+{
+    Vec::from_slice(alloc, b"grammar: longer than 1048576 bytes")
+}
 
 /// The grammars of a text, whatever its length.
 pub fn grammar_of(alloc: Global, bytes: &[u8]) -> Result<Prepared, Refusal>
@@ -31,7 +38,7 @@ pub fn grammar_of(alloc: Global, bytes: &[u8]) -> Result<Prepared, Refusal>
     ensures refused { IfErr result (TellsGrammar (IsRefusedAt bytes.now)) }
 {
     if bytes.len() > GRAMMAR_LIMIT {
-        let text = Vec::from_slice(alloc, b"grammar: longer than 1048576 bytes")?;
+        let text = long_grammar_text(alloc)?;
         return Err(Refusal::Grammar { text, place: None });
     }
     read_grammar(alloc, bytes)
@@ -66,7 +73,7 @@ fn characters(alloc: Global, bytes: &[u8]) -> Result<Chars, Refusal>
     match chars_of(alloc, bytes) {
         Ok(chars) => Ok(chars),
         Err(TextRefusal::NotUtf8 { at }) => {
-            let text = not_utf8_text(alloc, at)?;
+            let text = not_utf8_text(alloc, "grammar:", at)?;
             Err(Refusal::Grammar { text, place: None })
         }
         Err(TextRefusal::NoMemory) => Err(Refusal::NoMemory),

@@ -11,7 +11,7 @@ ghost use Rattle.text_reading.specs.Refusals.{TellsInput, IsInputRefusedAt};
 ghost use Rattle.text_reading.specs.Parts.{IsBrokenText, IsStopText};
 
 use crate::Refusal;
-use crate::phrases::{phrase, place_in};
+use crate::phrases::{not_utf8_text, phrase, place_in};
 use grammar_core::{SymbolId, Written};
 use scanless::{Ending, Prepared, Reading, read_input};
 use slif_base::{Chars, Steps, TextRefusal, chars_from};
@@ -22,11 +22,18 @@ use value_text::NoMemory;
 /// The greatest length of an input, in bytes.
 pub const INPUT_LIMIT: usize = 16_777_216;
 
+/// What is told of an input that is longer than 16,777,216 bytes.
+pub fn long_input_text(alloc: Global) -> Result<Vec<u8>, AllocError>
+    ensures { IfOk result (λ text. text.items ≡ codes "input is longer than 16777216 bytes") }
+{
+    Vec::from_slice(alloc, b"input is longer than 16777216 bytes")
+}
+
 /// The refusal of an input that is longer than 16,777,216 bytes.
 pub fn input_too_long(alloc: Global) -> Refusal
     ensures { (bytes : List ℕ) (b : Built) → 16777216 < length bytes → TellsInput (IsInputRefusedAt b bytes) result }
 {
-    match Vec::from_slice(alloc, b"input is longer than 16777216 bytes") {
+    match long_input_text(alloc) {
         Ok(text) => Refusal::Input {
             text,
             place: None,
@@ -45,19 +52,12 @@ pub fn input_chars(alloc: Global, bytes: Vec<u8>) -> Result<Chars, Refusal>
     match chars_from(alloc, bytes) {
         Ok(chars) => Ok(chars),
         Err(TextRefusal::NotUtf8 { at }) => Err(Refusal::Input {
-            text: not_utf8_text(alloc, at)?,
+            text: not_utf8_text(alloc, "input is", at)?,
             place: None,
             expected: Vec::new(alloc),
         }),
         Err(TextRefusal::NoMemory) => Err(Refusal::NoMemory),
     }
-}
-
-fn not_utf8_text(alloc: Global, at: usize) -> Result<Vec<u8>, AllocError>
-    ensures { IfOk result (λ text. text.items ≡ codes "input is not UTF-8 at byte " ++ decimal at) }
-{
-    let text = format!(in alloc; "input is not UTF-8 at byte {at}")?;
-    Ok(text.into_bytes())
 }
 
 /// Reads a text to its end.

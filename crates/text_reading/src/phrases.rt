@@ -18,11 +18,11 @@ use slif_base::Chars;
 use std::alloc::{AllocError, Global};
 use value_text::NoMemory;
 
-/// Bytes that are not UTF-8 from a place on.
-pub fn not_utf8_text(alloc: Global, at: usize) -> Result<Vec<u8>, AllocError>
-    ensures { IfOk result (λ text. text.items ≡ codes "grammar: not UTF-8 at byte " ++ decimal at) }
+/// What is told of bytes that are not UTF-8 from a place on. The words in front say of what.
+pub fn not_utf8_text(alloc: Global, of: &str, at: usize) -> Result<Vec<u8>, AllocError>
+    ensures { IfOk result (λ text. text.items ≡ of.now ++ (codes " not UTF-8 at byte " ++ decimal at)) }
 {
-    let text = format!(in alloc; "grammar: not UTF-8 at byte {at}")?;
+    let text = format!(in alloc; "{of} not UTF-8 at byte {at}")?;
     Ok(text.into_bytes())
 }
 

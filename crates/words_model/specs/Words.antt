@@ -1,9 +1,9 @@
 -- What the words of the command line ask for. They follow POSIX's utility syntax (XBD 12.1 and 12.2) with GNU's long options:
--- a word that begins with `--` names an option, whose value stands behind `=` (61) or is the next word; `--` alone ends the
+-- a word that begins with `--` names an option, whose value stands after `=` (61) or is the next word; `--` alone ends the
 -- options; any other word is an operand. A word is the bytes of its characters.
-use Rattle.std.specs.Prelude.{◌≡◌, ℕ, ◌==◌, Bool, true, false, not, ◌&&◌, ◌||◌, if◌then◌else◌, nat_eq, nat_lt, nat_le, List, [], ◌∷◌, map, length, drop, Option, Some, None, is_some, option_map, option_and_then, find, bytes_eq, codes}
+use Rattle.std.specs.Prelude.{◌≡◌, ℕ, ◌==◌, Bool, true, false, not, ◌&&◌, ◌||◌, if◌then◌else◌, nat_eq, nat_lt, nat_le, List, [], ◌∷◌, ◌++◌, map, length, drop, Option, Some, None, is_some, option_map, option_and_then, find, bytes_eq, codes}
 use Rattle.std.specs.Char.{is_ascii_digit}
-use Rattle.std.specs.List.{list_all, list_any, starts_with, before_first, after_first}
+use Rattle.std.specs.List.{list_all, list_any, starts_with, before_first, after_first, join_by}
 use Rattle.grammar_model.specs.declared.Ranking.{Ranking}
 use Rattle.grammar_model.specs.declared.Ranking.TheVariants.{None as NoRanks, Rule as RuleRanks, High as HighRanks}
 use Rattle.grammar_model.specs.declared.Show.{Show}
@@ -25,12 +25,6 @@ pub data Telling : Type 0 where
   Values : (asked : ValuesAsked) → Telling
   Expected : Telling
   Report : (at : ℕ) → Telling
-
--- the values that are told, if it is values
-abbrev pub values_of : Telling → Option ValuesAsked
-values_of (Values asked) = Some asked
-values_of Expected = None
-values_of (Report at) = None
 
 -- what a job does: it tells what the symbols of its grammar can do, it tells something of its input, or it reads an input of its own, of
 -- that size, by a grammar of its own
@@ -158,23 +152,27 @@ show_of value =
     else (if bytes_eq value (codes "tree") then Some ShowTree
     else None)
 
--- ---- what is given. `given` is the value of each name that was set
+-- ---- what is given
+
+-- the value of each name that was set
+abbrev pub Given : Type 0
+Given = (name : List ℕ) → Option (List ℕ)
 
 -- no option is given but these
-abbrev pub gives_only : List (List ℕ) → (given : List ℕ → Option (List ℕ)) → Bool
+abbrev pub gives_only : List (List ℕ) → Given → Bool
 gives_only names given = list_all (λ option. is_one_of names option || not (is_some (given option))) (stats ∷ with_value)
 
 -- the file of the grammar, of a job that has the option
-abbrev pub grammar_given : (options : List (List ℕ)) (given : List ℕ → Option (List ℕ)) → Option (Option (List ℕ))
+abbrev pub grammar_given : (options : List (List ℕ)) → Given → Option (Option (List ℕ))
 grammar_given options given =
     if is_one_of options (codes "grammar") then option_map (λ name. Some name) (option_and_then file_name (given (codes "grammar"))) else Some None
 
 -- the input is the standard input, where a job that has the option is not given a file
-abbrev pub input_given : (options : List (List ℕ)) (given : List ℕ → Option (List ℕ)) → Option InputFrom
+abbrev pub input_given : (options : List (List ℕ)) → Given → Option InputFrom
 input_given options given = if is_one_of options (codes "input") then read_or StandardInput input_file (given (codes "input")) else Some Nowhere
 
 -- the job of a task that has these options
-abbrev pub job_with : (options : List (List ℕ)) (task : Option Task) (given : List ℕ → Option (List ℕ)) → Option Job
+abbrev pub job_with : (options : List (List ℕ)) (task : Option Task) → Given → Option Job
 job_with options task given =
     if gives_only options given then
     option_and_then (λ grammar.
@@ -184,33 +182,63 @@ job_with options task given =
     (grammar_given options given)
     else None
 
-abbrev pub values_asked : (given : List ℕ → Option (List ℕ)) → Option Task
+abbrev pub values_asked : Given → Option Telling
 values_asked given =
     option_and_then (λ show.
     option_and_then (λ ranking.
-    option_map (λ first. Tell (Values (record { show = show; ranking = ranking; first = first; stats = is_some (given stats) })))
+    option_map (λ first. Values (record { show = show; ranking = ranking; first = first; stats = is_some (given stats) }))
     (read_or None value_count (given (codes "first"))))
     (read_or RuleRanks ranking_of (given (codes "rank"))))
     (read_or ShowArray show_of (given (codes "show")))
 
-abbrev pub report_asked : (given : List ℕ → Option (List ℕ)) → Option Task
-report_asked given = option_map (λ at. Tell (Report at)) (option_and_then (number_from 0 16777216) (given (codes "at")))
+abbrev pub report_asked : Given → Option Telling
+report_asked given = option_map Report (option_and_then (number_from 0 16777216) (given (codes "at")))
 
-abbrev pub work_asked : (given : List ℕ → Option (List ℕ)) → Option Task
+abbrev pub work_asked : Given → Option Task
 work_asked given = option_map Work (option_and_then (number_from 1 100000) (given (codes "size")))
 
--- THE TABLE OF JOBS: the options that each may have, and its task. It needs those whose value has no default
-abbrev pub job_named : (name : List ℕ) (given : List ℕ → Option (List ℕ)) → Option Job
-job_named name given =
-    if bytes_eq name (codes "run") then job_with (codes "grammar" ∷ codes "input" ∷ codes "first" ∷ codes "rank" ∷ codes "show" ∷ stats ∷ []) (values_asked given) given
-    else (if bytes_eq name (codes "check") then job_with (codes "grammar" ∷ []) (Some Check) given
-    else (if bytes_eq name (codes "expect") then job_with (codes "grammar" ∷ codes "input" ∷ []) (Some (Tell Expected)) given
-    else (if bytes_eq name (codes "progress") then job_with (codes "grammar" ∷ codes "input" ∷ codes "at" ∷ []) (report_asked given) given
-    else (if bytes_eq name (codes "work") then job_with (codes "size" ∷ []) (work_asked given) given
-    else None))))
+-- ---- jobs by name
 
-abbrev pub job_given : (given : List ℕ → Option (List ℕ)) → Option Job
+-- what a job of some name does: it checks, it works, or it tells what its values ask for and may have further options
+pub data Does : Type 0 where
+  Checks : Does
+  Tells : (options : List (List ℕ)) (asked : Given → Option Telling) → Does
+  Works : Does
+
+pub record JobRow : Type 0 where
+  pub name : List ℕ
+  pub does : Does
+
+-- THE TABLE OF JOBS
+abbrev pub jobs : List JobRow
+jobs =
+    record { name = codes "run"; does = Tells (codes "first" ∷ codes "rank" ∷ codes "show" ∷ stats ∷ []) values_asked } ∷
+    record { name = codes "check"; does = Checks } ∷
+    record { name = codes "expect"; does = Tells [] (λ given. Some Expected) } ∷
+    record { name = codes "progress"; does = Tells (codes "at" ∷ []) report_asked } ∷
+    record { name = codes "work"; does = Works } ∷ []
+
+-- the options that a job may have; it needs those whose value has no default
+abbrev pub options_of : Does → List (List ℕ)
+options_of Checks = codes "grammar" ∷ []
+options_of (Tells options asked) = codes "grammar" ∷ codes "input" ∷ options
+options_of Works = codes "size" ∷ []
+
+abbrev pub task_asked : Does → Given → Option Task
+task_asked Checks given = Some Check
+task_asked (Tells options asked) given = option_map Tell (asked given)
+task_asked Works given = work_asked given
+
+abbrev pub job_named : (name : List ℕ) → Given → Option Job
+job_named name given =
+    option_and_then (λ row. job_with (options_of row.does) (task_asked row.does given) given) (find (λ row. bytes_eq name row.name) jobs)
+
+abbrev pub job_given : Given → Option Job
 job_given given = option_and_then (λ name. job_named name given) (given (codes "JOB"))
+
+-- what is told where the words ask for no job
+abbrev pub usage_text : List ℕ
+usage_text = codes "usage: slif JOB [options]; jobs: " ++ join_by (λ row. row.name) (codes ", ") jobs
 
 -- THE JOB THAT WORDS ASK FOR
 abbrev pub job_asked : List (List ℕ) → Option Job

@@ -33,15 +33,15 @@ loop-k-preserved c =
 pub returns : goal.returns
 returns c = record {
   exact = λ j. (
-    λ h. elim ((c.loop-k.invariant j).0 ((c.in_ok-sort.ensures.same j).0 h)) [
+    λ h. elim ((c.loop-k.invariant j).0 ((c.sort.ensures.same j).0 h)) [
       | inl n ↦ absurd (Contains-none j n)
       | inr (k, lt, (g, held, e, is)) ↦ (g, subst (λ z. slice_get c.args.groups.now z ≡ Some g) (sym e) held, is)
     ],
     λ (g, held, is). (
         let (lt, same) = got_at c.args.groups.now j.group g no_group (sym held) in
         let f = c.loop-k-test.false in
-        (c.in_ok-sort.ensures.same j).1 ((c.loop-k.invariant j).1 (inr (j.group, omega arith, (g, held, (λ i. j.group), is))))
+        (c.sort.ensures.same j).1 ((c.loop-k.invariant j).1 (inr (j.group, omega arith, (g, held, (λ i. j.group), is))))
         ),
   );
-  sorted = c.in_ok-sort.ensures.sorted;
+  sorted = c.sort.ensures.sorted;
 }

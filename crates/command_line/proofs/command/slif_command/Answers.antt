@@ -4,7 +4,7 @@ use Rattle.clap.specs.Simple.{app_of_fields}
 use Rattle.clap.specs.Words.{App, app_of, new_app, with_rule}
 use Rattle.clap.specs.declared.builder.command.Command.{Command}
 use Rattle.clap.specs.declared.builder.command.Command.TheOpen.{Command-F}
-use Rattle.command_line.specs.Command.{option_rule, with_options}
+use Rattle.command_line.specs.Command.{with_options}
 use Rattle.command_line.proofs.command.slif_command.Goals as goal
 
 abbrev settings : App → App
@@ -13,18 +13,11 @@ settings app = record app { top = record app.top { no_binary_name = true; disabl
 abbrev without_help : Command-F Command → Command-F Command
 without_help fields = record fields { disable_help_flag = true }
 
-abbrev with_names : App → App
-with_names app =
-    with_rule (with_rule (with_rule (with_options app)
-    (option_rule (codes "show")))
-    (option_rule (codes "at")))
-    (option_rule (codes "size"))
-
 pub returns : goal.returns
 returns c =
     let base : app_of c.disable_help_flag.result ≡ settings (new_app (codes "slif")) =
     ap app_of_fields (c.disable_help_flag.ensures ∙ ap without_help c.no_binary_name.ensures)
     ∙ ap settings c.new.ensures.app in
-    let options = c.in_ok-with_options.ensures ∙ ap with_names base in
+    let options = c.in_ok-with_options.ensures ∙ ap with_options base in
     let stats = c.in_ok-arg.ensures.shape c.flag.ensures.local ∙ ap₂ with_rule options c.flag.ensures.rule in
     IfOk-weaker c.arg-2.result _ _ (λ command h. h.shape c.operand.ensures.local ∙ ap₂ with_rule stats c.operand.ensures.rule) c.arg-2.ensures

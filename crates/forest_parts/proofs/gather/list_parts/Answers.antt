@@ -1,5 +1,4 @@
 use Rattle.std.proofs.Common.{◌≡◌, ◌↔◌, inl, inr, List, Contains, sym, subst}
-use Rattle.std.proofs.lemmas.Result.{on_ok_weaker}
 use Rattle.finite_sets.proofs.Lists.{Contains-none}
 use Rattle.grammar_model.specs.declared.Edge.{Edge}
 use Rattle.forest_parts.specs.declared.parts.Part.{Part}
@@ -16,8 +15,8 @@ returns-clause-exact c =
       λ h. (let (a, b) = (c.in_ok-list_to.ensures.exact e).0 (subst (λ (l : List Edge). Contains l e) c.deref.ensures.value h) in (subst (λ (l : List Edge). Contains l e) c.edges.ensures a, b)),
       λ (a, b). subst (λ (l : List Edge). Contains l e) (sym c.deref.ensures.value) ((c.in_ok-list_to.ensures.exact e).1 (subst (λ (l : List Edge). Contains l e) (sym c.edges.ensures) a, b)),
     ) in
-    on_ok_weaker c.sort.result
-    (λ same p. (
+    λ p. (
+    let same = c.sort.ensures.same in
     let are = parts_are c.args.w.now c.args.ranking c.args.recce.now c.args.end c.args.least c.deref.result.now c.requires.end listed p in (
       λ h. are.0 (elim ((c.in_ok-put_wholes.ensures p).0 ((same p).0 h)) [
         | inl o ↦ elim ((c.in_ok-put_edges.ensures p).0 o) [ inl n ↦ absurd (Contains-none p (subst (λ (l : List Part). Contains l p) c.clear.ensures.items n)) | inr q ↦ inl q ]
@@ -27,5 +26,4 @@ returns-clause-exact c =
         | inl q ↦ (c.in_ok-put_wholes.ensures p).1 (inl ((c.in_ok-put_edges.ensures p).1 (inr q)))
         | inr q ↦ (c.in_ok-put_wholes.ensures p).1 (inr q)
       ]),
-    )))
-    c.sort.ensures.same
+    ))

@@ -10,11 +10,11 @@ use Rattle.forest_parts.proofs.gather.sort.Goals as goal
 
 pub returns-clause-sorted : goal.returns-clause-sorted
 returns-clause-sorted c =
-    subst (λ (l : List Part). IsStrictlySortedBy part_cmp l) (sym (dedup_is (same_part same_key key_ties key_exact) c.sort.new.self.items c.dedup.new.self.items c.dedup.ensures.filtered)) (IsStrictlySortedBy-dedup part_total (part_ties same_key key_ties key_exact) c.sort.new.self.items c.in_ok-sort.ensures.sorted)
+    subst (λ (l : List Part). IsStrictlySortedBy part_cmp l) (sym (dedup_is (same_part same_key key_ties key_exact) c.sort_unstable.new.self.items c.dedup.new.self.items c.dedup.ensures.filtered)) (IsStrictlySortedBy-dedup part_total (part_ties same_key key_ties key_exact) c.sort_unstable.new.self.items c.sort_unstable.ensures.sorted)
 
 pub returns-clause-same : goal.returns-clause-same
 returns-clause-same c p =
-    let is = dedup_is (same_part same_key key_ties key_exact) c.sort.new.self.items c.dedup.new.self.items c.dedup.ensures.filtered in (
-      λ h. Contains-permutation c.sort.new.self.items c.args.parts.now.items p (IsPermutation-sym c.args.parts.now.items c.sort.new.self.items c.in_ok-sort.ensures.permutation) (Contains-from_dedup (same_part same_key key_ties key_exact) c.sort.new.self.items p (subst (λ (l : List Part). Contains l p) is h)),
-      λ h. subst (λ (l : List Part). Contains l p) (sym is) (Contains-dedup (part_equiv same_key key_ties key_exact) (part_exact same_key key_ties key_exact) c.sort.new.self.items p (Contains-permutation c.args.parts.now.items c.sort.new.self.items p c.in_ok-sort.ensures.permutation h)),
+    let is = dedup_is (same_part same_key key_ties key_exact) c.sort_unstable.new.self.items c.dedup.new.self.items c.dedup.ensures.filtered in (
+      λ h. Contains-permutation c.sort_unstable.new.self.items c.args.parts.now.items p (IsPermutation-sym c.args.parts.now.items c.sort_unstable.new.self.items c.sort_unstable.ensures.permutation) (Contains-from_dedup (same_part same_key key_ties key_exact) c.sort_unstable.new.self.items p (subst (λ (l : List Part). Contains l p) is h)),
+      λ h. subst (λ (l : List Part). Contains l p) (sym is) (Contains-dedup (part_equiv same_key key_ties key_exact) (part_exact same_key key_ties key_exact) c.sort_unstable.new.self.items p (Contains-permutation c.args.parts.now.items c.sort_unstable.new.self.items p c.sort_unstable.ensures.permutation h)),
     )

@@ -20,4 +20,4 @@ returns-in_err-read_grammar-in-Ok-clause-stops g c =
 pub returns-in_ok-text-in-Err-TooLarge-clause-stops : goal.returns-in_ok-text-in-Err-TooLarge-clause-stops
 returns-in_ok-text-in-Err-TooLarge-clause-stops g c =
     let told = g.F.Files.told c.args.files.now c.args.name.now in
-    too_long_text told c.in_ok-text-in-Err-TooLarge.text.items (c.in-Err-TooLarge.ensures.large (ap Err c.in-Err-TooLarge.field-0-is)) c.in_ok-text-in-Err-TooLarge.ensures.items
+    too_long_text told c.in_ok-text-in-Err-TooLarge.text.items (c.in-Err-TooLarge.ensures.large (ap Err c.in-Err-TooLarge.field-0-is)) c.in_ok-text-in-Err-TooLarge.ensures

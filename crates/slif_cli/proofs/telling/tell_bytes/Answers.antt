@@ -9,7 +9,7 @@ use Rattle.text_reading.specs.Parts.{IsBrokenText, IsStopText}
 use Rattle.text_reading.specs.Refusals.{TellsInput}
 use Rattle.slif_cli.specs.Refusals.{stop_for}
 use Rattle.slif_cli.specs.Stops.{WriteStops}
-use Rattle.slif_cli.specs.Tasks.{TellsReading, TellsWithin}
+use Rattle.slif_cli.specs.Tasks.{TellsReading, GoesOnWithin}
 use Rattle.command_line.specs.Jobs.{telling_of}
 use Rattle.slif_cli.proofs.InputLemmas.{refused_broken, refused_stop}
 use Rattle.slif_cli.proofs.Refusing.{input_stops_for}
@@ -78,6 +78,6 @@ returns-clause-counted g c =
     let what = telling_of c.args.what in
     let text : IsInputText c.args.bytes.items = record { within = c.requires.few; utf8 = c.in_ok-chars.ensures.utf8 } in
     on_ok_weaker c.tell_reading-told.result
-    (λ goes. bytes_within what b c.args.bytes.items text c.args.steps.now c.tell_reading-told.new.steps
-    (subst (λ (cs : List ℕ). TellsWithin what b cs c.args.steps.now c.tell_reading-told.new.steps) c.in_ok-chars.ensures.ok (goes c.args.steps.now c.in_ok-reading.ensures.counted)))
+    (λ goes. bytes_within what b c.args.bytes.items text c.in_ok-reading.reading.recce c.args.steps.now c.read_text.new.steps c.tell_reading-told.new.steps c.in_ok-reading.ensures.counted
+    (subst (λ (cs : List ℕ). GoesOnWithin what b cs c.in_ok-reading.reading.recce c.read_text.new.steps c.tell_reading-told.new.steps) c.in_ok-chars.ensures.ok goes))
     c.tell_reading-told.ensures.counted

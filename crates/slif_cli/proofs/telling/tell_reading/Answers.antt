@@ -1,11 +1,12 @@
 use Rattle.std.proofs.lemmas.Result.{on_ok_weaker}
 use Rattle.slif_cli.proofs.telling.tell_reading.Goals as goal
 
-pub returns-in-Values-clause-counted : goal.returns-in-Values-clause-counted
-returns-in-Values-clause-counted g c = rw c.in-Values.is c.write_values.ensures.counted
-
 pub returns-in-Expected-clause-counted : goal.returns-in-Expected-clause-counted
-returns-in-Expected-clause-counted g c = rw c.in-Expected.is (on_ok_weaker c.write_expected.result (λ _ before reads. tt) c.write_expected.ensures.done)
+returns-in-Expected-clause-counted g c =
+    rw c.in-Expected.is (on_ok_weaker c.write_expected.result
+    (λ _. record { pieces = c.requires.read.pieces; reading = c.requires.read.is_reading; within = λ before reads. tt }) c.write_expected.ensures.done)
 
 pub returns-in-Report-clause-counted : goal.returns-in-Report-clause-counted
-returns-in-Report-clause-counted g c = rw c.in-Report.is (on_ok_weaker c.write_report.result (λ _ before reads. tt) c.write_report.ensures.done)
+returns-in-Report-clause-counted g c =
+    rw c.in-Report.is (on_ok_weaker c.write_report.result
+    (λ _. record { pieces = c.requires.read.pieces; reading = c.requires.read.is_reading; within = λ before reads. tt }) c.write_report.ensures.done)

@@ -4,7 +4,7 @@ use Rattle.outside_model.specs.Causes.{Rose}
 use Rattle.words_model.specs.Words.InputFrom.{FileNamed}
 use Rattle.run_model.specs.Outside.{stream, disk}
 use Rattle.run_model.specs.Outcome.{IsInputOutcome}
-use Rattle.run_model.specs.Steps.{InputWithin}
+use Rattle.run_model.specs.Within.{InputWithin}
 use Rattle.run_model.specs.Runs.{MayOpen}
 use Rattle.words_model.specs.Words.{Job}
 use Rattle.slif_cli.specs.Stops.{MayHave, MayRead, JobStops}

@@ -3,7 +3,7 @@ use Rattle.std.proofs.lemmas.Result.{IfOk-weaker}
 use Rattle.earley_sets.specs.Counted.{TakesAtMost}
 use Rattle.run_model.specs.Jobs.{work_input}
 use Rattle.run_model.specs.Outcome.{IsWorkOutcome, done}
-use Rattle.run_model.specs.Steps.{GivesWithin}
+use Rattle.run_model.specs.Within.{WorkWithin}
 use Rattle.run_model.specs.Telling.{work_line}
 use Rattle.grammar_model.specs.declared.Ranking.TheVariants.{Rule as RuleRanks}
 use Rattle.value_lines.specs.Counts.{numbers_of}
@@ -41,7 +41,7 @@ returns-clause-counted g c =
     let read = c.args.reading.now in
     IfOk-weaker c.work_line.result
     (λ (line : Vec ℕ Global). line.items ≡ work_line c.args.size (numbers_of c.stats-stats.result) c.in-Ok-count_derivations.values)
-    (λ (line : Vec ℕ Global). (before : ℕ) → TakesAtMost read.recce before c.args.steps.now → GivesWithin b (work_input c.args.size) RuleRanks None before c.count_derivations.new.steps)
+    (λ (line : Vec ℕ Global). (before : ℕ) → TakesAtMost read.recce before c.args.steps.now → WorkWithin b c.args.size before c.count_derivations.new.steps)
     (λ line told before reads. own_within c.args.size c.requires.size b c.requires.grammar cs c.requires.chars read.spans.items c.in-Ok.forest c.in-Ok.ensures.forest c.known.ensures
     read.recce c.place-place.ensures.is read.spans.items c.requires.read before _ _ _ c.forest_of.ensures.counted c.in-Ok-count_derivations.ensures.counted reads)
     c.work_line.ensures

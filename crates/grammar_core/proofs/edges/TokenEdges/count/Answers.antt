@@ -6,7 +6,7 @@ use Rattle.grammar_core.proofs.edges.TokenEdges.count.Goals as goal
 
 pub returns : goal.returns
 returns c =
-    let n = placed_length c.self.inside.places.items c.self.inside.edges.items c.self.invariant.same in
+    let n = placed_length c.self.inside.places.items c.self.inside.edges.items c.self.invariant.0.same in
     let v = ap (λ (l : List HeldEdge). length l) c.self.view_is in
     let l = ap (λ (l : List Edge). length l) c.as_slice.ensures.value in
     omega arith

@@ -1,13 +1,16 @@
-use Rattle.std.proofs.Common.{rules, ◌≡◌, ◌∙◌, sym, true}
-use Rattle.std.specs.List.{list_any}
-use Rattle.grammar_core.specs.declared.edges.Edge.{Edge}
-use Rattle.grammar_core.proofs.Holding.{any_there, there_any, edge_eq}
+use Rattle.std.proofs.Common.{sym}
+use Rattle.indexmap.specs.IndexMap.{get}
+use Rattle.std.specs.Prelude.{nat_eq}
+use Rattle.grammar_core.specs.Edges.{all_placed}
+use Rattle.grammar_core.proofs.Latest.{told_some, told_none}
 use Rattle.grammar_core.proofs.edges.TokenEdges.holds.Goals as goal
 
-pub returns : goal.returns
-returns c =
-    let x : Edge = record { symbol = c.args.t; length = c.args.length } in
-    let v : c.contains.result ≡ list_any (λ y. edge_eq y x) c.edges_at.result.now = c.contains.ensures.value in (
-      λ t. (let e : c.contains.result ≡ true = search rules in (c.edges_at.ensures.exact x).0 (any_there c.edges_at.result.now x (sym v ∙ e))),
-      λ h. (let e = v ∙ there_any c.edges_at.result.now x ((c.edges_at.ensures.exact x).1 h) in search rules),
-    )
+pub returns-in-Some : goal.returns-in-Some
+returns-in-Some c =
+    told_some (all_placed c.self.inside.places.items c.self.inside.edges.items) c.args.self.now (get nat_eq c.self.inside.latest) c.self.view_is c.self.invariant.1
+    c.args.t c.args.length c.args.at c.edge_key.result c.ranges.length.fits c.requires c.edge_key.ensures c.in-Some.place.now (sym c.in-Some.ensures.value)
+
+pub returns-in-None : goal.returns-in-None
+returns-in-None c =
+    told_none (all_placed c.self.inside.places.items c.self.inside.edges.items) c.args.self.now (get nat_eq c.self.inside.latest) c.self.view_is c.self.invariant.1
+    c.args.t c.args.length c.args.at c.edge_key.result c.ranges.length.fits c.requires c.edge_key.ensures (sym c.in-None.ensures.value)

@@ -1,0 +1,37 @@
+-- How many steps a run may take, by what it tells.
+use Rattle.std.specs.Prelude.{ℕ, List, Option, None, ⊤}
+use Rattle.grammar_model.specs.declared.Ranking.TheVariants.{Rule as RuleRanks}
+use Rattle.outside_model.specs.Told.{ToldFile}
+use Rattle.language_model.specs.Building.{Built}
+use Rattle.reading_model.specs.Reading.{Piece}
+use Rattle.words_model.specs.Words.{Telling, Task, Job, Asks}
+use Rattle.words_model.specs.Words.Task.{Check, Tell, Work}
+use Rattle.run_model.specs.Refused.{Accepted}
+use Rattle.run_model.specs.Inputs.{IsRead}
+use Rattle.run_model.specs.Telling.{GivesWithin, TellsWithin}
+use Rattle.run_model.specs.Jobs.{work_grammar, work_input}
+use Rattle.run_model.specs.Runs.{Supplied}
+
+-- the input is read to its end, and what is told of it is within its bound
+pub record InputWithin (what : Telling) (b : Built) (input : List ℕ) (before after : ℕ) : Type 0 where
+  pub pieces : List Piece
+  pub read : IsRead b input pieces
+  pub within : TellsWithin what b pieces before after
+
+-- the input of `work` is read to its end, and its derivations are given
+pub record WorkWithin (b : Built) (size before after : ℕ) : Type 0 where
+  pub pieces : List Piece
+  pub read : IsRead b (work_input size) pieces
+  pub within : GivesWithin b RuleRanks None pieces before after
+
+abbrev pub DoesWithin : Task → (grammar input : List ℕ) → (before after : ℕ) → Type 0
+DoesWithin Check grammar input before after = ⊤
+DoesWithin (Tell what) grammar input before after = (b : Built) × Accepted grammar b × InputWithin what b input before after
+DoesWithin (Work size) grammar input before after = (b : Built) × Accepted work_grammar b × WorkWithin b size before after
+
+-- a run by the words over these files and this input
+pub record RunsWithin (words : List (List ℕ)) (file : List ℕ → ToldFile) (left : Option (List ℕ)) (before after : ℕ) : Type 0 where
+  pub grammar : List ℕ
+  pub input : List ℕ
+  pub supplied : Supplied words file left grammar input
+  pub does : (job : Job) → Asks words job → DoesWithin job.task grammar input before after

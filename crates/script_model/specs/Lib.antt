@@ -1,0 +1,5 @@
+pub mod Commands
+pub mod Parsing
+pub mod Machine
+pub mod Replies
+pub mod Script

@@ -1,0 +1,77 @@
+use Rattle.std.proofs.Common.{List, subst, sym}
+use Rattle.std.proofs.lemmas.Result.{on_ok_weaker, MatchResult-weaker}
+use Rattle.run_model.specs.Outside.{stream}
+use Rattle.words_model.specs.Words.Telling.{Values}
+use Rattle.command_line.specs.Jobs.{asked_of}
+use Rattle.value_lines.specs.Counts.{numbers_of}
+use Rattle.value_lines.proofs.Counting.{has_numbers}
+use Rattle.grammar_core.specs.declared.steps.Span.{Span}
+use Rattle.slif_cli.specs.Stops.{WriteStops}
+use Rattle.text_reading.specs.Refusals.{IsNoDerivation}
+use Rattle.slif_cli.specs.Refusals.{stop_for, write_stop}
+use Rattle.slif_cli.specs.Tasks.{TellsReading, HasForest}
+use Rattle.slif_cli.proofs.Derived.{values_done, values_stop, stats_stop, no_values}
+use Rattle.slif_cli.proofs.Refusing.{input_stops_for}
+use Rattle.slif_cli.proofs.Stopping.{passed_on}
+use Rattle.slif_cli.proofs.Within.{lists_within}
+use Rattle.slif_cli.proofs.telling.values.write_values.Goals as goal
+
+pub write_derivations-requires-clause-forest : goal.write_derivations-requires-clause-forest
+write_derivations-requires-clause-forest g c =
+    let has = subst (λ (spans : List Span). HasForest c.args.prepared.now c.args.asked.ranking c.args.chars.now spans c.in_ok-forest.forest) (sym c.deref.ensures.value) c.in_ok-forest.ensures.forest in
+    (has.pieces, has.of)
+
+pub returns-in_err-forest-clause-stops : goal.returns-in_err-forest-clause-stops
+returns-in_err-forest-clause-stops g c =
+    let b = c.args.prepared.now in
+    let cs = c.args.chars.now in
+    let asked = asked_of c.args.asked in
+    let before = stream g.O.Sink.contents g.O.Sink.fault_count c.args.out.now in
+    let refusal = c.in_err-forest.field-0.0 in
+    passed_on (WriteStops (TellsReading (Values asked) b cs) before before) c.from_residual.result (stop_for refusal) c.from_residual.ensures.1
+    (input_stops_for (IsNoDerivation b asked.ranking cs) (TellsReading (Values asked) b cs) (no_values asked b cs) before refusal c.in_err-forest.ensures.refused)
+
+pub returns-clause-done : goal.returns-clause-done
+returns-clause-done g c =
+    let b = c.args.prepared.now in
+    let cs = c.args.chars.now in
+    let has = subst (λ (spans : List Span). HasForest b c.args.asked.ranking cs spans c.in_ok-forest.forest) (sym c.deref.ensures.value) c.in_ok-forest.ensures.forest in
+    let numbers = has_numbers b cs c.deref.result.now c.in_ok-forest.forest has.pieces has.of c.args.asked.ranking has.ranking_is c.known.ensures c.stats-stats.result c.stats-stats.ensures in
+    on_ok_weaker c.write_stats.result
+    (values_done (asked_of c.args.asked) b cs c.deref.result.now c.in_ok-forest.forest has (numbers_of c.stats-stats.result) numbers _ _ _ c.in_ok-write_derivations.ensures.written)
+    c.write_stats.ensures.written
+
+pub returns-clause-stops : goal.returns-clause-stops
+returns-clause-stops g c =
+    let b = c.args.prepared.now in
+    let cs = c.args.chars.now in
+    let has = subst (λ (spans : List Span). HasForest b c.args.asked.ranking cs spans c.in_ok-forest.forest) (sym c.deref.ensures.value) c.in_ok-forest.ensures.forest in
+    let numbers = has_numbers b cs c.deref.result.now c.in_ok-forest.forest has.pieces has.of c.args.asked.ranking has.ranking_is c.known.ensures c.stats-stats.result c.stats-stats.ensures in
+    MatchResult-weaker c.write_stats.result c.write_stats.ensures.stops (λ _ x. x)
+    (λ stop stops. stats_stop (asked_of c.args.asked) b cs c.deref.result.now c.in_ok-forest.forest has (numbers_of c.stats-stats.result) numbers
+    (stream g.O.Sink.contents g.O.Sink.fault_count c.args.out.now) (stream g.O.Sink.contents g.O.Sink.fault_count c.write_derivations.new.out)
+    (stream g.O.Sink.contents g.O.Sink.fault_count c.write_stats.new.out) stop c.in_ok-write_derivations.ensures.written c.in_ok-write_derivations.ensures.later stops)
+
+pub returns-in_err-write_derivations-clause-stops : goal.returns-in_err-write_derivations-clause-stops
+returns-in_err-write_derivations-clause-stops g c =
+    let b = c.args.prepared.now in
+    let cs = c.args.chars.now in
+    let asked = asked_of c.args.asked in
+    let before = stream g.O.Sink.contents g.O.Sink.fault_count c.args.out.now in
+    let after = stream g.O.Sink.contents g.O.Sink.fault_count c.write_derivations.new.out in
+    let has = subst (λ (spans : List Span). HasForest b c.args.asked.ranking cs spans c.in_ok-forest.forest) (sym c.deref.ensures.value) c.in_ok-forest.ensures.forest in
+    let numbers = has_numbers b cs c.deref.result.now c.in_ok-forest.forest has.pieces has.of c.args.asked.ranking has.ranking_is c.known.ensures c.stats-stats.result c.stats-stats.ensures in
+    let refusal = c.in_err-write_derivations.field-0.0 in
+    passed_on (WriteStops (TellsReading (Values asked) b cs) before after) c.from_residual-in_err-write_derivations.result (write_stop refusal) c.from_residual-in_err-write_derivations.ensures.1
+    (values_stop asked b cs c.deref.result.now c.in_ok-forest.forest has (numbers_of c.stats-stats.result) numbers before after refusal c.in_err-write_derivations.ensures.stops)
+
+pub returns-clause-counted : goal.returns-clause-counted
+returns-clause-counted g c =
+    let b = c.args.prepared.now in
+    let cs = c.args.chars.now in
+    let read = c.args.reading.now in
+    let has = subst (λ (spans : List Span). HasForest b c.args.asked.ranking cs spans c.in_ok-forest.forest) (sym c.deref.ensures.value) c.in_ok-forest.ensures.forest in
+    on_ok_weaker c.write_stats.result
+    (λ _. lists_within b (asked_of c.args.asked) cs c.deref.result.now c.in_ok-forest.forest has c.known.ensures read.recce read.spans.items c.place-place.ensures.is c.requires.read _ _ _
+    c.forest_of.ensures.counted c.in_ok-write_derivations.ensures.counted)
+    c.write_stats.ensures.written

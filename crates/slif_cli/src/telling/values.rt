@@ -1,0 +1,95 @@
+// What job `run` writes.
+ghost use Rattle.std.specs.Prelude.{◌≤◌, length, IfErr, OnOk};
+ghost use Rattle.std.specs.List.{concat};
+ghost use Rattle.std.specs.Io.KnownBytes.{Appends};
+ghost use Rattle.run_model.specs.Outside.{stream};
+ghost use Rattle.words_model.specs.Words.Telling.{Values};
+ghost use Rattle.run_model.specs.Telling.{stats_lines};
+ghost use Rattle.command_line.specs.Jobs.{asked_of};
+ghost use Rattle.valuator.specs.Told.{states};
+ghost use Rattle.value_lines.specs.Counts.{numbers_of};
+ghost use Rattle.value_lines.specs.Writing.{AreBothTellers};
+ghost use Rattle.scanless.specs.Reading.{IsReadingOf};
+ghost use Rattle.scanless.specs.declared.reading.Ending.TheVariants.{End};
+ghost use Rattle.slif_cli.specs.Stops.{Does, WriteStops, LinesStop};
+ghost use Rattle.slif_cli.specs.Tasks.{TellsReading, GoesOnWithin};
+
+use crate::lines::write_lines;
+use crate::stop::Stop;
+use bocage::Stats;
+use bumpalo::Bump;
+use command_line::ValuesAsked;
+use scanless::{Prepared, Reading};
+use slif_base::{Chars, Sink, Steps};
+use std::alloc::Global;
+use std::sync::ledger::Ledger;
+use text_reading::forest_of;
+use valuator::Teller;
+use value_lines::{stats_line, write_derivations};
+
+/// Writes the values that are asked for, one a line, and behind them the line of the numbers, where it is asked for.
+pub fn write_values<'a, O: Sink, L: Ledger>(
+    alloc: Global,
+    prepared: &Prepared,
+    asked: ValuesAsked,
+    chars: &Chars,
+    reading: &Reading<'_>,
+    out: &mut O,
+    tellers: Vec<Box<dyn Teller>>,
+    steps: &mut Steps<L>,
+) -> Result<(), Stop<'a>>
+    requires few { length chars.now ≤ 16777216 }
+    requires read { IsReadingOf prepared.now chars.now reading.now.recce reading.now.spans.items End }
+    requires tellers { AreBothTellers (states tellers.items shows held) }
+    ensures done { OnOk result (Does (TellsReading (Values (asked_of asked)) prepared.now chars.now) (O.contents out.old) (O.contents out.new)) }
+    ensures stops { IfErr result (WriteStops (TellsReading (Values (asked_of asked)) prepared.now chars.now)
+        (stream O.contents O.fault_count out.old) (stream O.contents O.fault_count out.new)) }
+    ensures counted { OnOk result (GoesOnWithin (Values (asked_of asked)) prepared.now chars.now reading.now.recce steps.old steps.new) }
+    ensures out_later { O.fault_count out.old ≤ O.fault_count out.new }
+{
+    let _place = reading.recce.place();
+    let arena = Bump::new(alloc);
+    let forest = forest_of(
+        alloc,
+        &arena,
+        prepared,
+        asked.ranking,
+        chars,
+        reading,
+        steps,
+    )?;
+    forest.known();
+    let stats = forest.stats();
+    write_derivations(
+        alloc,
+        prepared,
+        chars,
+        &reading.spans,
+        &forest,
+        asked.show,
+        asked.first,
+        tellers,
+        out,
+        steps,
+    )?;
+    write_stats(alloc, asked.stats, &stats, out)
+}
+
+// Writes the line of the numbers, where it is asked for.
+fn write_stats<'a, O: Sink>(
+    alloc: Global,
+    asked: bool,
+    stats: &Stats,
+    out: &mut O,
+) -> Result<(), Stop<'a>>
+    ensures written { OnOk result (Appends (O.contents out.old) (O.contents out.new) (concat (stats_lines asked (numbers_of stats.now)))) }
+    ensures stops { IfErr result (LinesStop (stats_lines asked (numbers_of stats.now))
+        (stream O.contents O.fault_count out.old) (stream O.contents O.fault_count out.new)) }
+    ensures out_later { O.fault_count out.old ≤ O.fault_count out.new }
+{
+    if !asked {
+        return Ok(());
+    }
+    let line = stats_line(alloc, stats)?;
+    write_lines(&[line], out)
+}
