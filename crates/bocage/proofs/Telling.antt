@@ -1,9 +1,11 @@
 -- Nodes by their numbers.
-use Rattle.std.proofs.Common.{◌≡◌, ℕ, zero, suc, ◌<◌, ◌≤◌, List, [], ◌∷◌, Some, length, map, get_or, slice_get, refl, sym, ap, arith}
+use Rattle.std.proofs.Common.{◌≡◌, ℕ, zero, suc, ◌<◌, ◌≤◌, List, [], ◌∷◌, Some, None, cond, nat_lt, ◌==◌, position, length, map, get_or, slice_get, refl, sym, ap, arith}
+use Rattle.std.proofs.lemmas.List.{length-map}
+use Rattle.grammar_core.proofs.Growth.{position_or_len-map}
 use Rattle.std.proofs.lemmas.Option.{slice_get-get_or}
 use Rattle.finite_sets.proofs.Lists.{got_at}
 use Rattle.recognizer_model.specs.declared.NodeKey.{NodeKey}
-use Rattle.forest_model.specs.Forest.{ForestNode}
+use Rattle.forest_model.specs.Forest.{Alternative, ForestNode}
 use Rattle.bocage.specs.declared.rows.AlternativeRow.{AlternativeRow}
 use Rattle.bocage.specs.Rows.{alternative_of, nodes_of, IsTable}
 
@@ -50,3 +52,10 @@ module _ (wholes : List ℕ) (keys : List NodeKey) (table : List (List Alternati
 
   pub rows_told : (n : ℕ) (rows : List AlternativeRow) (d : ForestNode) → n < length keys → slice_get table n ≡ Some rows → (get_or (nodes_of wholes keys table) n d).alternatives ≡ map (alternative_of wholes) rows
   rows_told n rows d lt b = ap (λ (z : ForestNode). z.alternatives) (node_told wholes keys table n _ rows d (slice_get-get_or keys n (record { rule = 0; dot = 0; origin = 0; end = 0 }) lt) b)
+
+-- where an alternative stands, by the rows that are kept
+pub position_told : (wholes : List ℕ) (rows : List AlternativeRow) (start : ℕ) → position (λ (row : AlternativeRow). row.start == start) rows ≡ position (λ (a : Alternative). a.start == start) (map (alternative_of wholes) rows)
+position_told wholes rows start =
+    let at = sym (position_or_len-map (λ (a : Alternative). a.start == start) (alternative_of wholes) rows) in
+    let long = sym (length-map rows (alternative_of wholes)) in
+    λ i. cond (nat_lt (at i) (long i)) (Some (at i)) None

@@ -1,5 +1,5 @@
 //! The forest, and what is read of it.
-ghost use Rattle.std.specs.Prelude.{◌≡◌, ℕ, ◌+◌, ◌<◌, ◌≤◌, ◌↔◌, [], Err, IfOk, length};
+ghost use Rattle.std.specs.Prelude.{◌≡◌, ℕ, ◌+◌, ◌<◌, ◌≤◌, ◌↔◌, ◌==◌, [], Err, Some, None, IfOk, IfSome, IsNone, length, position};
 ghost use Rattle.grammar_model.specs.Checked.{IsChecked};
 ghost use Rattle.recognizer_model.specs.FlatForm.{IsFlatOf};
 ghost use Rattle.recognizer_model.specs.Counts.{IsCountOf};
@@ -15,7 +15,7 @@ ghost use Rattle.bocage.specs.declared.refusal.ForestRefusal.TheVariants.{NoPars
 
 use crate::ForestRefusal;
 use crate::ends::{Work, walk};
-use crate::rows::{AlternativeRow, Cause, alternative_row, cause_at, key_at, rows_at};
+use crate::rows::{AlternativeRow, Cause, alternative_row, cause_at, key_at, row_from, rows_at};
 use crate::walk::{Found, begin, differ};
 use bumpalo::Bump;
 use earley_sets::Recce;
@@ -61,6 +61,13 @@ impl<'f> Alternatives<'f> {
         ensures { result ≡ (alternative_at self.now k).start }
     {
         alternative_row(self.rows, k).start
+    }
+
+    /// Which of them has its last part begin there, if one does.
+    pub fn position(&self, start: u32) -> Option<usize>
+        ensures { result ≡ position (λ a. a.start == start) self.now }
+    {
+        row_from(self.rows, start)
     }
 
     /// The predecessor: the node of the parts before the last one, if there are any.
@@ -280,6 +287,23 @@ impl<'a> Forest<'a> {
             rows: rows_at(&self.table, node as usize),
             wholes: &self.wholes,
         }
+    }
+
+    /// Where in a node's alternatives the last part begins there, if one does, with the alternatives. Each call counts as one step.
+    pub fn position<L: Ledger>(
+        &self,
+        node: u32,
+        start: u32,
+        steps: &mut Steps<L>,
+    ) -> Option<(usize, Alternatives<'_>)>
+        requires { node < length self.now.nodes }
+        ensures at { IfSome result (λ r. (position (λ a. a.start == start) (node_at self.now node).alternatives ≡ Some r.0) × (r.1 ≡ (node_at self.now node).alternatives)) }
+        ensures none { IsNone result → position (λ a. a.start == start) (node_at self.now node).alternatives ≡ None }
+        ensures counted { steps.new ≡ steps.old + 1 }
+    {
+        let alternatives = self.alternatives(node, steps);
+        let at = alternatives.position(start)?;
+        Some((at, alternatives))
     }
 
     /// The grammar as it was written.

@@ -1,5 +1,5 @@
 //! Alternatives, and the nodes of whole rules that they have.
-ghost use Rattle.std.specs.Prelude.{◌≡◌, ◌<◌, ◌≤◌, length, slice_index_or, slice_get, map, Some, IfOk};
+ghost use Rattle.std.specs.Prelude.{◌≡◌, ◌<◌, ◌≤◌, ◌==◌, length, position, slice_index_or, slice_get, map, Some, IfOk};
 ghost use Rattle.forest_parts.specs.Lists.{between};
 ghost use Rattle.bocage.specs.Rows.{cause_told, cause_of, IsCauseWithin, no_alternative};
 
@@ -40,6 +40,13 @@ pub fn alternative_row(rows: &[AlternativeRow], k: usize) -> AlternativeRow
     ensures { result ≡ slice_index_or rows.now k no_alternative }
 {
     rows[k]
+}
+
+/// Where the row stands whose last part begins there, if there is one.
+pub fn row_from(rows: &[AlternativeRow], start: u32) -> Option<usize>
+    ensures { result ≡ position (λ row. row.start == start) rows.now }
+{
+    rows.iter().position(|row| row.start == start)
 }
 
 /// What a node stands for.

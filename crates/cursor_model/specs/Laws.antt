@@ -26,8 +26,8 @@ CursorsTellTrees = (t u : Tree) (p q r : ℕ) → IsLaid p q t → IsLaid p r u 
 
 -- so different derivations of one reading have different cursors
 abbrev pub CursorsDiffer : Type 0
-CursorsDiffer = (g : Grammar) (edges : List Edge) (slot : Slot) (p q : ℕ) (t u : Tree) → AreUnits edges → Derives g (Held edges) slot p q t → Derives g (Held edges) slot p q u →
-    cursor_of t ≡ cursor_of u → t ≡ u
+CursorsDiffer = (g : Grammar) (edges : List Edge) (slot : Slot) (p q : ℕ) (t u : Tree) → AreUnits edges →
+    Derives g (Held edges) slot p q t → Derives g (Held edges) slot p q u → cursor_of t ≡ cursor_of u → t ≡ u
 
 -- and a text spells one tree at most
 abbrev pub TextsSpellOne : Type 0
@@ -41,19 +41,20 @@ CursorsApply = Spells (codes "t2.n0.r1,2") (Node 1 (Child (Child NoChild (Leaf 2
 
 -- of the chosen derivations of a reading, what is left after a place is one list
 abbrev pub RestIsOne : Type 0
-RestIsOne = (g : Grammar) (edges : List Edge) (ranking : Ranking) (slot : Slot) (p q : ℕ) (trees : List Tree) → AreUnits edges → AreChosen g (Held edges) ranking slot p q trees →
-    (text : List ℕ) (xs ys : List Tree) → IsRest trees text xs → IsRest trees text ys → xs ≡ ys
+RestIsOne = (g : Grammar) (edges : List Edge) (ranking : Ranking) (slot : Slot) (p q : ℕ) (trees : List Tree) → AreUnits edges →
+    AreChosen g (Held edges) ranking slot p q trees → (text : List ℕ) (xs ys : List Tree) → IsRest trees text xs → IsRest trees text ys → xs ≡ ys
 
 -- where the list is cut, the place between is named, where its text is not too long, and what goes on from there is the other part: the
 -- lines up to the place and those after it are all the lines, whatever the line of a derivation is
 pub record GoesOn (trees before rest : List Tree) : Type 0 where
   pub named : IsRest trees (place_after start_text before) rest
   pub alone : (others : List Tree) → IsRest trees (place_after start_text before) others → others ≡ rest
-  pub whole : (line : Tree → List ℕ) (others : List Tree) → IsRest trees (place_after start_text before) others → concat (map line before) ++ concat (map line others) ≡ concat (map line trees)
+  pub whole : (line : Tree → List ℕ) (others : List Tree) → IsRest trees (place_after start_text before) others →
+      concat (map line before) ++ concat (map line others) ≡ concat (map line trees)
 
 abbrev pub PlacesGoOn : Type 0
-PlacesGoOn = (g : Grammar) (edges : List Edge) (ranking : Ranking) (slot : Slot) (p q : ℕ) (trees before rest : List Tree) → AreUnits edges → AreChosen g (Held edges) ranking slot p q trees →
-    trees ≡ before ++ rest → length (place_after start_text before) ≤ 16777216 → GoesOn trees before rest
+PlacesGoOn = (g : Grammar) (edges : List Edge) (ranking : Ranking) (slot : Slot) (p q : ℕ) (trees before rest : List Tree) → AreUnits edges →
+    AreChosen g (Held edges) ranking slot p q trees → trees ≡ before ++ rest → length (place_after start_text before) ≤ 16777216 → GoesOn trees before rest
 
 -- going on from a place twice is going on once
 abbrev pub PlacesFollow : Type 0

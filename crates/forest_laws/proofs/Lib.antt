@@ -12,6 +12,9 @@ pub mod Moved
 pub mod Existing
 pub mod Applied
 pub mod Walked
+pub mod Skips
+pub mod Leads
+pub mod Guide
 pub mod Written
 pub mod Few
 pub mod Taken

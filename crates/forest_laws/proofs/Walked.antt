@@ -80,7 +80,7 @@ module _ (f : Forest) (lists : Lists) where
       let rest = sym (unwrites done step) in
       λ i. same i ++ rest i
 
-  opened : (done : List Done) (option behind : List Goal) (later : List (List Goal)) →
+  pub opened : (done : List Done) (option behind : List Goal) (later : List (List Goal)) →
       map (λ rest. written done ++ rest) (S (option ++ behind) ++ later_steps f lists behind later) ++ to_come f lists done ≡ stands f lists (done ++ Chose later behind ∷ []) (option ++ behind)
   opened done option behind later =
       let first : List (List Step) = S (option ++ behind) in

@@ -3,6 +3,9 @@ pub mod Laws
 pub mod Applied
 pub mod Goals
 pub mod Walked
+pub mod Skips
+pub mod Leads
+pub mod Guide
 pub mod Written
 pub mod Few
 pub mod Taken

@@ -3,7 +3,10 @@
 
 ghost use Rattle.forest_laws.specs.Applied.{ForestsApply};
 ghost use Rattle.forest_laws.specs.Few.{StepsAreFew};
+ghost use Rattle.forest_laws.specs.Guide.{ChoicesPerStep, RowsLead};
 ghost use Rattle.forest_laws.specs.Laws.{ForestsExist, ForestsHaveLists, ListsAreOne};
+ghost use Rattle.forest_laws.specs.Leads.{NodesLead};
+ghost use Rattle.forest_laws.specs.Skips.{WalksSkip};
 ghost use Rattle.forest_laws.specs.Taken.{PrefixesAreTaken};
 ghost use Rattle.forest_laws.specs.Walked.{ForestsAreWalked};
 ghost use Rattle.forest_laws.specs.Written.{StepsAreWritten};
@@ -33,6 +36,26 @@ pub fn forests_apply()
 /// choice that has a later option, changes by nothing but the steps that it gives.
 pub fn forests_are_walked()
     ensures { ForestsAreWalked }
+{}
+
+/// A walk that takes a later option of a goal at once leaves out what the earlier options stand for, and nothing else.
+pub fn walks_skip()
+    ensures { WalksSkip }
+{}
+
+/// Of a node's alternatives, the one that begins where the last child does stands for the children.
+pub fn nodes_lead()
+    ensures { NodesLead }
+{}
+
+/// Of a derivation's steps, the row of a child's last step tells where the child begins, and where those before it end.
+pub fn rows_lead()
+    ensures { RowsLead }
+{}
+
+/// A derivation has at most seven choices for each of its steps.
+pub fn choices_per_step()
+    ensures { ChoicesPerStep }
 {}
 
 /// The steps of a flat derivation are written, one after another, as the steps of what it stands for.

@@ -4,6 +4,8 @@
 #[cfg(test)]
 mod chosen;
 #[cfg(test)]
+mod cursors;
+#[cfg(test)]
 mod derivations;
 #[cfg(test)]
 mod forests;

@@ -3,6 +3,7 @@ ghost use Rattle.std.specs.Prelude.{◌≡◌, ◌<◌, length};
 ghost use Rattle.grammar_model.specs.Checked.{IsChecked};
 ghost use Rattle.recognizer_model.specs.FlatForm.{IsFlatOf};
 
+use crate::cursors::have_cursors;
 use crate::derivations::{have_count, have_texts};
 use crate::forests::{Starts, has_size};
 use crate::grammars::{Language, flat_of, read_all, written_of};
@@ -36,6 +37,7 @@ pub(crate) enum Wanted<'a> {
     /// the places, the kept items, the nodes and the hidden items
     Numbers([u128; 4]),
     Trees(&'a [&'a str]),
+    Cursors(&'a [&'a str]),
     Count(usize),
     Lines(&'a [u8]),
     Reports(&'a [&'a [Line]]),
@@ -76,6 +78,7 @@ fn forest_is_so<L: Ledger>(
         }
         Wanted::Numbers(numbers) => Ok(numbers_of(&forest.stats()) == *numbers),
         Wanted::Trees(trees) => have_texts(alloc, w, forest, trees, steps),
+        Wanted::Cursors(cursors) => have_cursors(alloc, forest, cursors, steps),
         Wanted::Count(count) => have_count(alloc, w, forest, *count, steps),
         Wanted::Lines(lines) => have_lines(alloc, w, forest, lines, steps),
         _ => Ok(false),

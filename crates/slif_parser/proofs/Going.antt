@@ -29,8 +29,8 @@ under_way b cs spans f it has is none = record {
 
 -- GOING ON
 
-given_between : (it new : Iteration) (given : List Tree) → new ≡ between it → AreGiven it given → AreGiven new given
-given_between it new given is are = subst (λ (i : Iteration). AreGiven i given) (sym is) (record { first = are.first; count = are.count })
+given_between : (it new : Iteration) (given : List Tree) → new ≡ between it → IsListing new.forest given → AreGiven it given → AreGiven new given
+given_between it new given is all are = subst (λ (i : Iteration). AreGiven i given) (sym is) (record { first = are.first; are_before = subst (λ (i : Iteration). IsListing i.forest given) is all })
 
 module _ (b : Built) (checked : IsChecked b.g1) (ranges : IsInRange b) (cs : List ℕ) (spans : List Span) where
   module _ (old new : Iteration) (way : IsUnderWay b cs spans old) (same : new.forest ≡ old.forest) where
@@ -48,7 +48,7 @@ module _ (b : Built) (checked : IsChecked b.g1) (ranges : IsInRange b) (cs : Lis
     answered false all end = record {
       has = has_same;
       given = way.given;
-      are = given_between old new way.given (end refl) way.are;
+      are = given_between old new way.given (end refl) all way.are;
       steps = subst (λ o. IfSome o (AreSteps b.g1 (length spans))) (sym (ap (λ (i : Iteration). i.current) (end refl))) tt;
     }
 

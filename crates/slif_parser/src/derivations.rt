@@ -73,7 +73,7 @@ impl<'f> Derivations<'f> {
     }
 
     /// Goes to the next derivation, and answers whether there is one. A call that runs out of memory leaves all as it was, and the next call
-    /// goes on. More than 2^64 - 1 derivations count as too many for memory.
+    /// goes on.
     pub fn next(&mut self) -> Result<bool, NoMemory>
         ensures answer { IfOk result (λ more. (given : List Tree) → AreGiven self.old.iteration given → IsNext self.new given more) }
         ensures stands { IfOk result (λ more. IsTrue more → IsSome self.new.iteration.current) }

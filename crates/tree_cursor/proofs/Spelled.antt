@@ -1,5 +1,5 @@
 -- The pieces of a text, one after another, and the trees that their steps tell.
-use Rattle.std.proofs.Common.{◌≡◌, ℕ, zero, suc, ◌+◌, ◌<◌, ◌≤◌, true, false, eqb, List, [], ◌∷◌, ◌++◌, map, length, Option, Some, None, refl, sym, ap, ◌∙◌, subst, append_assoc, append-nil, length-append, arith}
+use Rattle.std.proofs.Common.{◌≡◌, ℕ, suc, ◌+◌, ◌<◌, ◌≤◌, false, eqb, List, [], ◌∷◌, ◌++◌, map, length, Option, Some, None, refl, sym, ap, ◌∙◌, subst, append_assoc, append-nil, length-append, arith}
 use Rattle.std.proofs.Common.{Bor}
 use Rattle.std.specs.List.{slice_split, join_with_byte, All}
 use Rattle.std.specs.Iterator.{AlwaysYields}
@@ -11,16 +11,16 @@ use Rattle.std.proofs.lemmas.List.Elements.{All-nil, All-cons}
 use Rattle.std.proofs.lemmas.List.Splits.{slice_split_none, slice_split_at, length-slice_split, join_with_byte-slice_split}
 use Rattle.std.proofs.lemmas.List.Sums.{count_by-le-length}
 use Rattle.std.proofs.lemmas.Bool.{ne_eqb}
-use Rattle.grammar_model.specs.Trees.{Tree, Children, Leaf, Nulled, Node, NoChild, Child, child_count}
+use Rattle.grammar_model.specs.Trees.{Tree, Children, NoChild, Child, child_count}
 use Rattle.grammar_model.specs.Steps.{Step, TokenStep, NulledStep, RuleStep, steps_of, steps_of_all, after_step}
 use Rattle.grammar_core.specs.declared.steps.TreeStep.{TreeStep}
 use Rattle.grammar_core.specs.Steps.{step_of}
-use Rattle.cursor_model.specs.Cursor.{step_text, cursor_text, cursor_of}
+use Rattle.cursor_model.specs.Cursor.{step_text, cursor_text}
 use Rattle.cursor_model.specs.Laid.{IsSmall, AreSmall, IsLaid, AreLaid, Spells}
 use Rattle.cursor_model.proofs.Texts.{Lacks, AllLack, steps_lack, bare_step, step_told}
 use Rattle.cursor_model.proofs.Bare.{has_first}
 use Rattle.tree_cursor.specs.declared.stack.Stack.{Stack}
-use Rattle.tree_cursor.specs.Told.{AreTold, IsDone, TakesWrong}
+use Rattle.tree_cursor.specs.Told.{IsDone, TakesWrong}
 use Rattle.tree_cursor.specs.Reading.{AreRead}
 use Rattle.tree_cursor.proofs.Stacks.{starts_count}
 use Rattle.tree_cursor.proofs.Depths.{counts, counts_told, wrong_told, tree_leaves_one, trees_leave, tree_takes_right}

@@ -1,10 +1,10 @@
 -- Trees that are taken off a stack, and the rule that takes them.
-use Rattle.std.proofs.Common.{◌≡◌, ◌⊎◌, ℕ, zero, suc, ◌-◌, ◌<◌, ◌≤◌, List, [], ◌∷◌, ◌++◌, length, take, get_or, refl, sym, ap, ◌∙◌, subst, append_assoc, append-nil, length-append, arith}
+use Rattle.std.proofs.Common.{◌≡◌, ℕ, zero, suc, ◌-◌, ◌<◌, ◌≤◌, List, [], ◌∷◌, ◌++◌, length, take, get_or, refl, sym, ap, ◌∙◌, subst, append_assoc, append-nil, length-append, arith}
 use Rattle.grammar_model.specs.Trees.{Tree, Children, Leaf, Nulled, Node, NoChild, Child, child_count, from_of}
-use Rattle.grammar_model.specs.Steps.{Step, RuleStep, steps_of, steps_of_all, below_newest, newest, after_step}
+use Rattle.grammar_model.specs.Steps.{RuleStep, steps_of, steps_of_all, below_newest, newest}
 use Rattle.cursor_model.specs.Laid.{IsLaid, AreLaid}
 use Rattle.tree_cursor.specs.declared.stack.Stack.{Stack}
-use Rattle.tree_cursor.specs.Told.{starts_of, AreTold, IsDone}
+use Rattle.tree_cursor.specs.Told.{starts_of, IsDone}
 
 begins : (t : Tree) (p q : ℕ) → IsLaid p q t → from_of t ≡ p
 begins (Leaf symbol from to) p q h = h.0

@@ -18,7 +18,8 @@ pub record AreTold (stack : Stack) (trees : Children) : Type 0 where
 -- the step has its places, and is done on the stack
 pub record IsDone (old new : Stack) (step done : Step) : Type 0 where
   pub same_text : step_text done ≡ step_text step
-  pub stands : (trees : Children) → AreTold old trees → AreTold new (after_step trees done) × (steps_of_all (after_step trees done) ≡ steps_of_all trees ++ done ∷ [])
+  pub stands : (trees : Children) → AreTold old trees →
+      AreTold new (after_step trees done) × (steps_of_all (after_step trees done) ≡ steps_of_all trees ++ done ∷ [])
 
 -- the step takes no tree, or more than there are
 abbrev pub TakesWrong : (count : ℕ) → Step → Type 0

@@ -29,7 +29,8 @@ impl Stack {
 
     // Takes the newest so many trees off, of which there is one at least. Answers where the first of them begins.
     fn take(&mut self, count: u32) -> Option<u32>
-        ensures some { IfSome result (λ start. (0 < count) × (count ≤ length self.old.starts.items) × (start ≡ slice_index self.old.starts.items (length self.old.starts.items - count))) }
+        ensures within { IfSome result (λ start. (0 < count) × (count ≤ length self.old.starts.items)) }
+        ensures start { IfSome result (λ start. start ≡ slice_index self.old.starts.items (length self.old.starts.items - count)) }
         ensures none { IsNone result → (count ≡ 0) ⊎ (length self.old.starts.items < count) }
         ensures left { IfSome result (λ start. self.new.starts.items ≡ take (length self.old.starts.items - count) self.old.starts.items) }
         ensures end { self.new.end ≡ self.old.end }
@@ -43,7 +44,9 @@ impl Stack {
     // Puts a token there, or a nulled leaf.
     fn put_leaf(&mut self, length: u32) -> Result<u32, CursorRefusal>
         requires { self.old.end + length ≤ 4294967295 }
-        ensures start { IfOk result (λ start. (start ≡ self.old.end) × (self.new.starts.items ≡ self.old.starts.items ++ self.old.end ∷ []) × (self.new.end ≡ self.old.end + length)) }
+        ensures start { IfOk result (λ start. start ≡ self.old.end) }
+        ensures starts { IfOk result (λ start. self.new.starts.items ≡ self.old.starts.items ++ self.old.end ∷ []) }
+        ensures end { IfOk result (λ start. self.new.end ≡ self.old.end + length) }
         ensures no_bad { IfErr result (λ refusal. refusal ≡ BadCursor → ⊥) }
     {
         let start = self.end;

@@ -26,6 +26,7 @@ use Rattle.tree_iter.specs.declared.writing.CountRow.{CountRow}
 use Rattle.tree_iter.specs.declared.walk.Choice.{Choice}
 use Rattle.tree_iter.specs.declared.walk.Walk.{Walk}
 use Rattle.tree_iter.specs.declared.walk.Place.TheVariants.{Walking}
+use Rattle.tree_iter.specs.declared.iter.Current.TheVariants.{Begun as NotBegun}
 use Rattle.tree_iter.specs.Linked.{Grows}
 use Rattle.tree_iter.specs.Goals.{fork_of, goal_of, IsStack, IsReady, IsBacked, AreReady, unit, units, look, Puts, PutsOption}
 use Rattle.tree_iter.specs.Writing.{IsStepOf, AreDone, IsCounted, counts_behind}
@@ -607,8 +608,8 @@ root_units f None = refl
 root_units f (Some n) = refl
 
 pub begun_walk : (w : Walk) → IsForest w.forest.now → w.choices.items ≡ [] → w.counts.items ≡ [] → w.steps.items ≡ [] →
-    Puts [] w.goals.items 0 w.left (root_goals w.forest.now w.forest.now.root) → IsUnderWay w 0 Walking
-begun_walk w is choices counts steps puts =
+    Puts [] w.goals.items 0 w.left (root_goals w.forest.now w.forest.now.root) → (copied : List TreeStep) → IsUnderWay w Walking NotBegun copied
+begun_walk w is choices counts steps puts copied =
     let F : Forest = w.forest.now in
     let l = forests_have_lists F is in
     let known = forests_are_walked F l.0 is l.1 in
@@ -619,7 +620,7 @@ begun_walk w is choices counts steps puts =
       taken = [];
       rest = map steps_of (roots_by F l.0 F.root);
       both = refl;
-      count = refl;
+      taken_by = refl;
       remain = record {
         lists = l.0;
         all = l.1;

@@ -6,23 +6,36 @@ use Rattle.recognizer_model.specs.Links.{choices}
 use Rattle.forest_model.specs.Forest.{Forest}
 use Rattle.forest_model.specs.Listing.{IsListing, AreFirst}
 
--- how many derivations it gave, and the steps of the one that it stands at, if it stands at one
+-- whether it stands behind the last derivation, and the steps of the one that it stands at, if it stands at one
 pub record Iteration : Type 0 where
   pub forest : Forest
-  pub given : ℕ
+  pub ended : Bool
   pub current : Option (List Step)
 
--- these are the derivations that it gave: the first so many of the list
+-- the last of them has these steps
+pub record EndsAt (given : List Tree) (steps : List Step) : Type 0 where
+  pub front : List Tree
+  pub last : Tree
+  pub is : given ≡ front ++ last ∷ []
+  pub steps_are : steps_of last ≡ steps
+
+-- these lie before the place where the iterator stands: all of them, or none, or those up to and with the one that it stands at
+abbrev pub AreBefore : Forest → (ended : Bool) → (current : Option (List Step)) → (given : List Tree) → Type 0
+AreBefore f true current given = IsListing f given
+AreBefore f false None given = given ≡ []
+AreBefore f false (Some steps) given = EndsAt given steps
+
+-- these are the derivations that count as given: those of the list before the place where the iterator stands
 pub record AreGiven (it : Iteration) (given : List Tree) : Type 0 where
   pub first : AreFirst it.forest given
-  pub count : length given ≡ it.given
+  pub are_before : AreBefore it.forest it.ended it.current given
 
--- the iterator, when it stands at no derivation
+-- the iterator behind the last derivation
 abbrev pub between : Iteration → Iteration
-between it = record { forest = it.forest; given = it.given; current = None }
+between it = record { forest = it.forest; ended = true; current = None }
 
 abbrev pub begun : Forest → Iteration
-begun f = record { forest = f; given = 0; current = None }
+begun f = record { forest = f; ended = false; current = None }
 
 -- behind those given before, one more is given, at which the iterator then stands; or those were all
 abbrev pub IsAnswer : (new : Iteration) → (given : List Tree) → Bool → Type 0

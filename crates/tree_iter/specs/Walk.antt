@@ -15,7 +15,7 @@ use Rattle.tree_iter.specs.declared.walk.Walk.{Walk}
 use Rattle.tree_iter.specs.declared.walk.Place.{Place}
 use Rattle.tree_iter.specs.declared.walk.Place.TheVariants.{Walking, Between}
 use Rattle.tree_iter.specs.declared.iter.Current.{Current}
-use Rattle.tree_iter.specs.declared.iter.Current.TheVariants.{Nothing, Walked, Copied}
+use Rattle.tree_iter.specs.declared.iter.Current.TheVariants.{Begun as NotBegun, Walked, Copied, Ended}
 use Rattle.tree_iter.specs.Writing.{AreDone}
 use Rattle.tree_iter.specs.Goals.{fork_of, goal_of, IsStack, IsReady, IsBacked, AreReady, units, weights}
 
@@ -190,21 +190,48 @@ Remain Between w rest = StandsBehind w rest
 
 -- the steps of the derivation that is stood at, if any
 abbrev pub current_of : Current → (walked copied : List TreeStep) → Option (List Step)
-current_of Nothing walked copied = None
+current_of NotBegun walked copied = None
 current_of Walked walked copied = Some (map step_of walked)
 current_of Copied walked copied = Some (map step_of copied)
+current_of Ended walked copied = None
+
+abbrev pub has_ended : Current → Bool
+has_ended NotBegun = false
+has_ended Walked = false
+has_ended Copied = false
+has_ended Ended = true
+
+-- the last of those taken is written as these steps
+pub record ShowsLast (f : Forest) (steps : List TreeStep) (taken : List (List Step)) : Type 0 where
+  pub front : List (List Step)
+  pub last : List Step
+  pub is : taken ≡ front ++ last ∷ []
+  pub shows : map step_of steps ≡ steps_written f.written f.flat [] last
+
+-- how many were taken, by where the iterator stands
+abbrev pub AreTakenBy : Forest → Current → (walked copied : List TreeStep) → (taken rest : List (List Step)) → Type 0
+AreTakenBy f NotBegun walked copied taken rest = taken ≡ []
+AreTakenBy f Walked walked copied taken rest = ShowsLast f walked taken
+AreTakenBy f Copied walked copied taken rest = ShowsLast f copied taken
+AreTakenBy f Ended walked copied taken rest = rest ≡ []
 
 -- the walk is at one more derivation, or there is none
 abbrev pub Advances : Place → Walk → List (List Step) → Bool → Type 0
 Advances place w rest true = Reaches w rest
 Advances place w rest false = (place ≡ Between) × StandsBehind w rest × (rest ≡ [])
 
--- so many derivations were taken, and the others remain
-pub record IsUnderWay (w : Walk) (given : ℕ) (place : Place) : Type 0 where
+-- the iterator stands where it stood, whatever the walk has written since
+pub record Keeps (old new : Current) (walked others copied kept : List TreeStep) : Type 0 where
+  pub ended : has_ended new ≡ has_ended old
+  pub current : current_of new others kept ≡ current_of old walked copied
+  pub taken : (f : Forest) (taken rest : List (List Step)) → AreTakenBy f old walked copied taken rest → AreTakenBy f new others kept taken rest
+
+-- derivations were taken, and the others remain
+pub record IsUnderWay (w : Walk) (place : Place) (current : Current) (copied : List TreeStep) : Type 0 where
   pub lists : Lists
   pub all : AreAllLists w.forest.now lists
   pub taken : List (List Step)
   pub rest : List (List Step)
   pub both : map steps_of (roots_by w.forest.now lists w.forest.now.root) ≡ taken ++ rest
-  pub count : length taken ≡ given
+  pub taken_by : AreTakenBy w.forest.now current w.steps.items copied taken rest
   pub remain : Remain place w rest

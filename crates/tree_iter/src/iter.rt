@@ -2,8 +2,7 @@
 ghost use Rattle.std.specs.Prelude.{◌≡◌, ◌+◌, ◌<◌, ◌++◌, [], List, length, map, vec_len, vec_capacity, IfOk, OnOk, OnErr, IfSome, IsSome, IsTrue, IsFalse};
 ghost use Rattle.grammar_core.specs.Steps.{step_of};
 ghost use Rattle.grammar_model.specs.Trees.{Tree};
-ghost use Rattle.forest_model.specs.Listing.{IsListing};
-ghost use Rattle.tree_iter.specs.Walk.{current_of};
+ghost use Rattle.tree_iter.specs.Walk.{Keeps};
 ghost use Rattle.tree_iter.specs.Iteration.{AreGiven, IsAnswer, AreFew, between, begun};
 
 use crate::walk::{Place, Walk, advance};
@@ -15,12 +14,14 @@ use std::marker::Model;
 use std::sync::ledger::Ledger;
 use value_text::NoMemory;
 
-/// Where the steps of the current derivation are, if there is one: in the walk, or copied before the walk went on.
+/// Where an iterator stands: before the first derivation, at one whose steps are in the walk or were copied before the walk went on, or
+/// behind the last.
 #[derive(Clone, Copy)]
 pub enum Current {
-    Nothing,
+    Begun,
     Walked,
     Copied,
+    Ended,
 }
 
 /// The derivations of a forest, one after another in the declared order. Two that follow each other share what they have in common at
@@ -29,26 +30,19 @@ pub enum Current {
 pub struct TreeIter<'f> {
     walk: Walk<'f>,
     place: Place,
-    given: u64,
     current: Current,
     copy: Vec<TreeStep>,
 }
 
 impl<'f> Model for TreeIter<'f> {
     ghost use Rattle.tree_iter.specs.Iteration.{Iteration};
-    ghost use Rattle.tree_iter.specs.Walk.{IsUnderWay, current_of};
+    ghost use Rattle.tree_iter.specs.Walk.{IsUnderWay, current_of, has_ended};
 
     ghost Value = { Iteration };
 
-    ghost view = { λ i. record { forest = i.walk.forest.now; given = i.given; current = current_of i.current i.walk.steps.items i.copy.items } };
+    ghost view = { λ i. record { forest = i.walk.forest.now; ended = has_ended i.current; current = current_of i.current i.walk.steps.items i.copy.items } };
 
-    ghost invariant = { λ i. IsUnderWay i.walk i.given i.place };
-}
-
-fn one_more(given: u64) -> Option<u64>
-    ensures { IfSome result (λ more. more ≡ given + 1) }
-{
-    given.checked_add(1)
+    ghost invariant = { λ i. IsUnderWay i.walk i.place i.current i.copy.items };
 }
 
 // Copies steps in place of others.
@@ -70,8 +64,8 @@ fn keep(
     copy: &mut Vec<TreeStep>,
     walked: &[TreeStep],
 ) -> Result<(), NoMemory>
-    ensures ok { OnOk result ((others : List TreeStep) → current_of current.new others copy.new.items ≡ current_of current.old walked.now copy.old.items) }
-    ensures err { OnErr result (current_of current.new walked.now copy.new.items ≡ current_of current.old walked.now copy.old.items) }
+    ensures ok { OnOk result ((others : List TreeStep) → Keeps current.old current.new walked.now others copy.old.items copy.new.items) }
+    ensures err { OnErr result ((current.new ≡ current.old) × (copy.new.items ≡ copy.old.items)) }
 {
     if let Current::Walked = *current {
         replace(copy, walked)?;
@@ -90,25 +84,14 @@ impl<'f> TreeIter<'f> {
         Ok(TreeIter {
             walk,
             place: Place::Walking,
-            given: 0,
-            current: Current::Nothing,
+            current: Current::Begun,
             copy: Vec::new(alloc),
         })
     }
 
-    // Whether the derivations that were given are all, by there being no choice to go back to.
-    fn is_done(&self) -> bool
-        ensures { IsTrue result → (given : List Tree) → AreGiven self.now given → IsListing self.now.forest given }
-    {
-        match self.place {
-            Place::Walking => false,
-            Place::Between => self.walk.is_spent(),
-        }
-    }
-
     /// Goes to the next derivation. Answers whether there is one; behind the last it stands at none. A call that runs out of memory
-    /// leaves the iterator where it stands, and the next call goes on with what it has found; more than 2^64 - 1 derivations, or 2^32
-    /// flat steps of one, count as too many for memory. Only looks at alternatives raise `steps`: what a derivation shares with the one
+    /// leaves the iterator where it stands, and the next call goes on with what it has found; more than 2^32 flat steps of one derivation
+    /// count as too many for memory. Only looks at alternatives raise `steps`: what a derivation shares with the one
     /// before it at its beginning is not looked at again.
     pub fn next<L: Ledger>(&mut self, steps: &mut Steps<L>) -> Result<bool, NoMemory>
         ensures answer { IfOk result (λ more. (given : List Tree) → AreGiven self.old given → IsAnswer self.new given more) }
@@ -118,21 +101,19 @@ impl<'f> TreeIter<'f> {
         ensures forest { self.new.forest ≡ self.old.forest }
         ensures err { OnErr result (self.new ≡ self.old) }
     {
-        let Some(given) = one_more(self.given) else {
-            return Err(NoMemory);
-        };
-        if self.is_done() {
-            self.current = Current::Nothing;
-            return Ok(false);
+        if let Place::Between = self.place {
+            if self.walk.is_spent() {
+                self.current = Current::Ended;
+                return Ok(false);
+            }
         }
         keep(&mut self.current, &mut self.copy, &self.walk.steps)?;
         if !advance(&mut self.walk, &mut self.place, steps)? {
-            self.current = Current::Nothing;
+            self.current = Current::Ended;
             return Ok(false);
         }
         self.place = Place::Between;
         self.current = Current::Walked;
-        self.given = given;
         Ok(true)
     }
 
@@ -142,7 +123,7 @@ impl<'f> TreeIter<'f> {
         ensures { IfSome self.now.current (λ steps. map step_of result.now ≡ steps) }
     {
         match self.current {
-            Current::Nothing => unreachable!(),
+            Current::Begun | Current::Ended => unreachable!(),
             Current::Walked => self.walk.steps.as_slice(),
             Current::Copied => self.copy.as_slice(),
         }

@@ -7,6 +7,7 @@ ghost use Rattle.tree_iter.specs.Writing.{flat_step};
 ghost use Rattle.tree_iter.specs.Goals.{fork_of};
 ghost use Rattle.tree_iter.specs.Walk.{IsKept, KeepsLeft, HasSteps, Looks, GoesFurther, AreFewLooks, LeavesSome, IsAbout, IsBack, Goes, StandsBefore, StandsBehind, Reaches, Turns, Remain, Advances, IsUnderWay, IsLast};
 ghost use Rattle.tree_iter.specs.declared.walk.Place.TheVariants.{Walking};
+ghost use Rattle.tree_iter.specs.declared.iter.Current.TheVariants.{Begun as NotBegun};
 
 use crate::goals::{Fork, Goal, GoalRow, MOST_ROWS, goal_row, put_option, put_root};
 use crate::writing::{CountRow, FlatStep, write_step};
@@ -52,7 +53,7 @@ impl<'f> Walk<'f> {
     /// A walk to the first derivation.
     pub fn begin(alloc: Global, forest: &'f Forest<'f>) -> Result<Walk<'f>, NoMemory>
         ensures forest { IfOk result (λ walk. walk.forest.now ≡ forest.now) }
-        ensures begun { IfOk result (λ walk. IsUnderWay walk 0 Walking) }
+        ensures begun { IfOk result (λ walk. (copied : List TreeStep) → IsUnderWay walk Walking NotBegun copied) }
     {
         forest.known();
         let mut goals = Vec::new(alloc);

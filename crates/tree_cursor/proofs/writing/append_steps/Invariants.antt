@@ -1,4 +1,4 @@
-use Rattle.std.proofs.Common.{◌≡◌, ◌∷◌, ◌++◌, map, take, List, ℕ, length}
+use Rattle.std.proofs.Common.{◌≡◌, ◌++◌, map, take}
 use Rattle.grammar_core.specs.Steps.{step_of}
 use Rattle.cursor_model.specs.Cursor.{cursor_text}
 use Rattle.value_text.specs.Parts.{IsExtended}

@@ -9,9 +9,9 @@ use Rattle.tree_cursor.proofs.stack.Stack.put.Goals as goal
 pub returns-in_ok-push-in-Rule-clause-done : goal.returns-in_ok-push-in-Rule-clause-done
 returns-in_ok-push-in-Rule-clause-done c =
     let new : Stack = record { starts = c.push.new.self; end = c.take.new.self.end } in
-    let some = c.in-Some.ensures.some in
+    let within = c.in-Some.ensures.within in
     let end = c.take.ensures.end in
     subst (λ s. IsDone c.args.self.now new (step_of s) (RuleStep c.in-Rule.rule c.in-Rule.children c.in-Some.from c.take.new.self.end)) (sym c.in-Rule.is)
     (subst (λ e. IsDone c.args.self.now new (RuleStep c.in-Rule.rule c.in-Rule.children c.in-Rule.from c.in-Rule.to) (RuleStep c.in-Rule.rule c.in-Rule.children c.in-Some.from e)) (sym end)
-    (rule_done c.args.self.now new c.in-Rule.rule c.in-Rule.children c.in-Some.from c.in-Rule.from c.in-Rule.to some.0 some.1 some.2
+    (rule_done c.args.self.now new c.in-Rule.rule c.in-Rule.children c.in-Some.from c.in-Rule.from c.in-Rule.to within.0 within.1 c.in-Some.ensures.start
     (c.in_ok-push-in-Rule.ensures.items ∙ ap (λ l. l ++ c.in-Some.from ∷ []) c.in-Some.ensures.left) end))

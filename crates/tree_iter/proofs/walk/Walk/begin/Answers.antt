@@ -7,10 +7,10 @@ use Rattle.std.proofs.lemmas.Result.{IfOk-from_err}
 use Rattle.tree_iter.proofs.walk.Walk.begin.Goals as goal
 
 pub returns-clause-begun : goal.returns-clause-begun
-returns-clause-begun c =
+returns-clause-begun c = λ copied.
     let w : Walk = record { forest = c.args.forest; goals = c.put_root.new.rows; left = c.in_ok-left.left; choices = c.new.result; counts = c.new-2.result; steps = c.new-3.result } in
     begun_walk w c.known.ensures c.new.ensures.items c.new-2.ensures.items c.new-3.ensures.items
-    (subst (λ rows. Puts rows c.put_root.new.rows.items 0 c.in_ok-left.left (root_goals c.args.forest.now c.args.forest.now.root)) c.new-goals.ensures.items c.in_ok-left.ensures)
+    (subst (λ rows. Puts rows c.put_root.new.rows.items 0 c.in_ok-left.left (root_goals c.args.forest.now c.args.forest.now.root)) c.new-goals.ensures.items c.in_ok-left.ensures) copied
 
 pub returns-in_err-left-clause-forest : goal.returns-in_err-left-clause-forest
 returns-in_err-left-clause-forest c = IfOk-from_err _ _ c.from_residual.ensures.0
