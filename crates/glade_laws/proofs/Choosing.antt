@@ -1,5 +1,5 @@
 -- What a node's first two choices are, read off its alternatives; and what follows for the walks.
-use Rattle.std.proofs.Common.{◌≡◌, ℕ, Bool, true, false, List, [], ◌∷◌, ◌++◌, flat_map, inl, inr, Option, Some, None, refl, sym, ap, ◌∙◌, subst}
+use Rattle.std.proofs.Common.{◌≡◌, ℕ, Bool, true, false, List, [], ◌∷◌, ◌++◌, flat_map, inl, inr, Some, None, refl, sym, ap, ◌∙◌, subst}
 use Rattle.std.specs.Prelude.{slice_get}
 use Rattle.std.proofs.lemmas.Bool.{true≢false}
 use Rattle.std.proofs.lemmas.List.{append-nil}
@@ -8,7 +8,7 @@ use Rattle.grammar_model.specs.declared.Ranking.TheVariants.{Rule as RuleRanks}
 use Rattle.forest_model.specs.Forest.{Wholes, Alternative, ForestNode, Forest, IsForest}
 use Rattle.forest_laws.specs.Lists.{Lists, AreLists}
 use Rattle.forest_laws.proofs.Exact.{forests_have_lists}
-use Rattle.glade_laws.specs.Walks.{is_list_part, option_by, options, passed, IsFirst, IsOnly, IsSecond, HasSecond}
+use Rattle.glade_laws.specs.Walks.{is_list_part, option_by, options, before_at, passed, IsFirst, IsOnly, IsSecond, HasSecond}
 use Rattle.glade_laws.specs.Walks.IsFirst.{FirstEnds, FirstGoes}
 use Rattle.glade_laws.specs.Walks.IsOnly.{OnlyEnds, OnlyGoes}
 use Rattle.glade_laws.specs.Walks.IsSecond.{Here, Below}
@@ -16,11 +16,6 @@ use Rattle.glade_laws.proofs.Walked.{Kind, OfList, OfFirst, OfLater, Kinds, list
 use Rattle.glade_laws.proofs.NodeKinds.{kinds}
 use Rattle.glade_laws.proofs.Reaching.{Walks, walks, next_there}
 use Rattle.glade_laws.proofs.Stocked.{stocked}
-
--- the alternative's predecessor; there is none after the last
-abbrev pub before_at : Option Alternative → Option ℕ
-before_at None = None
-before_at (Some a) = a.predecessor
 
 module _ (f : Forest) where
   -- what the first two choices of a node are

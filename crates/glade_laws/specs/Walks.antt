@@ -4,7 +4,7 @@ use Rattle.std.specs.Prelude.{◌≡◌, ℕ, Bool, true, false, cond, List, [],
 use Rattle.std.specs.List.{flat_map}
 use Rattle.recognizer_model.specs.declared.NodeKey.{NodeKey}
 use Rattle.recognizer_model.specs.FlatForm.{symbol_at, is_list}
-use Rattle.forest_model.specs.Forest.{Cause, AnEdge, Nothing, Wholes, ForestNode, Forest}
+use Rattle.forest_model.specs.Forest.{Cause, AnEdge, Nothing, Wholes, Alternative, ForestNode, Forest}
 use Rattle.forest_laws.specs.Lists.{cause_symbol}
 
 -- the last part of the node is a list, which stands at the front of its rule
@@ -23,6 +23,11 @@ option_by list None cause = cond list (whole_nodes cause) []
 
 abbrev pub options : Forest → ForestNode → List ℕ
 options f node = flat_map (λ a. option_by (is_list_part f node.key) a.predecessor a.cause) node.alternatives
+
+-- the alternative's predecessor; there is none after the last
+abbrev pub before_at : Option Alternative → Option ℕ
+before_at None = None
+before_at (Some a) = a.predecessor
 
 abbrev pub end_of : Option ForestNode → ℕ
 end_of None = 0

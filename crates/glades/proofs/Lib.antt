@@ -1,0 +1,9 @@
+pub mod Nodes
+pub mod Walking
+pub mod Sets
+pub mod Passing
+pub mod Noting
+pub mod Visiting
+pub mod Heading
+pub mod HeadOrder
+pub mod Reporting

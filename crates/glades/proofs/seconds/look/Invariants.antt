@@ -1,0 +1,14 @@
+use Rattle.std.proofs.Common.{◌<◌, Bool, length}
+use Rattle.bocage.specs.Readers.{node_at}
+use Rattle.glade_laws.specs.Walks.{HasSecond}
+use Rattle.glade_laws.proofs.Falling.{to_walk}
+use Rattle.glades.proofs.seconds.look.Given as goal
+
+abbrev pub invariant-walk : goal.invariant-walk
+invariant-walk l = record {
+  within : l.at < length l.forest.nodes;
+  back : (b : Bool) → HasSecond l.forest l.at b → HasSecond l.forest l.node b;
+}
+
+abbrev pub decreases-walk : goal.decreases-walk
+decreases-walk l = to_walk l.forest (node_at l.forest l.at).key
