@@ -1,5 +1,5 @@
 -- What the words, the files and the input come to.
-use Rattle.std.proofs.Common.{◌≡◌, ℕ, List, [], ◌∷◌, ◌++◌, Option, inl, inr, ◌⊎◌, refl, subst, Some, None, IfSome, false, ◌∙◌, ap, sym, append-nil}
+use Rattle.std.proofs.Common.{◌≡◌, ℕ, List, [], ◌∷◌, ◌++◌, Option, inl, inr, ◌⊎◌, refl, subst, Some, None, IfSome, ◌∙◌, ap, sym, append-nil}
 use Rattle.std.specs.Prelude.{IsTrue, is_some, option_copied}
 use Rattle.std.specs.Borrow.{Bor}
 use Rattle.std.specs.Io.KnownBytes.{Appends}

@@ -1,5 +1,5 @@
 -- What job `work` comes to: its grammar is accepted, its input is read to its end, and it has one derivation.
-use Rattle.std.proofs.Common.{◌≡◌, ℕ, ◌+◌, ◌*◌, ◌≤◌, List, [], ◌∷◌, ◌++◌, Option, None, replicate, length, take, refl, sym, ap, subst, ◌∙◌, length-append, arith, chars, IsUtf8, slice_index_or}
+use Rattle.std.proofs.Common.{◌≡◌, ℕ, ◌+◌, ◌*◌, ◌≤◌, List, [], ◌∷◌, ◌++◌, Option, replicate, length, take, refl, sym, ap, subst, ◌∙◌, length-append, arith, chars, IsUtf8, slice_index_or}
 use Rattle.std.specs.List.{sum_by}
 use Rattle.std.proofs.lemmas.List.{length-replicate, take_all}
 use Rattle.std.proofs.lemmas.Str.{length-le-encodes, encodes-chars}

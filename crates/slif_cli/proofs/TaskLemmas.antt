@@ -6,11 +6,11 @@ use Rattle.outside_model.specs.Causes.{Rose}
 use Rattle.outside_model.specs.Told.{ToldFile, MayHold, FileHolds, AsksAmong, AddsNames, SameFiles}
 use Rattle.slif_base.proofs.Bytes.{appends_none}
 use Rattle.language_model.specs.Building.{Built}
-use Rattle.words_model.specs.Words.{Telling, Task, Tell, Job, InputFrom, Asks}
+use Rattle.words_model.specs.Words.{Telling, Task, Job, InputFrom, Asks}
 use Rattle.words_model.proofs.Asked.{asks_once}
 use Rattle.words_model.specs.Words.InputFrom.{Nowhere, StandardInput, FileNamed}
 use Rattle.run_model.specs.Refused.{Accepted}
-use Rattle.run_model.specs.Outcome.{Outcome, IsTaskOutcome, IsInputOutcome, refused}
+use Rattle.run_model.specs.Outcome.{Outcome, IsTaskOutcome, IsInputOutcome}
 use Rattle.run_model.specs.Outcome.IsInputOutcome.{InputRefused, InputRead}
 use Rattle.run_model.specs.Outcome.IsOutcome.{OfJob}
 use Rattle.run_model.specs.Outcome.IsGrammarOutcome.{GrammarAccepted}

@@ -6,8 +6,8 @@ ghost use Rattle.run_model.specs.Checking.{IsRowOf, AreRows, AreCheckLines, head
 ghost use Rattle.run_model.specs.Outside.{stream};
 ghost use Rattle.slif_cli.specs.Stops.{Does, WriteStops, told_row};
 
-use crate::lines::write_lines;
 use crate::stop::Stop;
+use crate::writing::write_lines;
 use grammar_core::{SymbolId, Written};
 use scanless::Prepared;
 use slif_base::Sink;

@@ -5,12 +5,12 @@ mod checking;
 mod grammar;
 mod inputs;
 mod laws;
-mod lines;
 mod messages;
 mod stop;
 mod telling;
 mod top;
 mod working;
+mod writing;
 
 pub use laws::{has_end, has_outcome, one_end, one_outcome, statuses_occur};
 pub use messages::{FAULT, OUT_OF_MEMORY};

@@ -11,8 +11,8 @@ ghost use Rattle.scanless.specs.declared.reading.Ending.TheVariants.{End};
 ghost use Rattle.slif_cli.specs.Stops.{Does, WriteStops};
 ghost use Rattle.slif_cli.specs.Tasks.{WorksWithin};
 
-use crate::lines::write_lines;
 use crate::stop::Stop;
+use crate::writing::write_lines;
 use bumpalo::Bump;
 use grammar_model::Ranking;
 use scanless::{Prepared, Reading};

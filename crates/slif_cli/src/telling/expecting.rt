@@ -9,8 +9,8 @@ ghost use Rattle.scanless.specs.declared.reading.Ending.TheVariants.{End};
 ghost use Rattle.slif_cli.specs.Stops.{Does, WriteStops};
 ghost use Rattle.slif_cli.specs.Tasks.{TellsReading};
 
-use crate::lines::write_lines;
 use crate::stop::Stop;
+use crate::writing::write_lines;
 use grammar_core::{SymbolId, Written};
 use scanless::{Prepared, Reading, expected_lexemes};
 use slif_base::{Chars, Sink};

@@ -8,8 +8,8 @@ ghost use Rattle.scanless.specs.declared.reading.Ending.TheVariants.{End};
 ghost use Rattle.slif_cli.specs.Stops.{Does, WriteStops};
 ghost use Rattle.slif_cli.specs.Tasks.{TellsReading};
 
-use crate::lines::write_lines;
 use crate::stop::{Refusal, Stop};
+use crate::writing::write_lines;
 use grammar_core::Written;
 use progress::{ProgressRefusal, ReportLine, report};
 use scanless::{Prepared, Reading};

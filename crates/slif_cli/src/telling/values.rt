@@ -14,8 +14,8 @@ ghost use Rattle.scanless.specs.declared.reading.Ending.TheVariants.{End};
 ghost use Rattle.slif_cli.specs.Stops.{Does, WriteStops, LinesStop};
 ghost use Rattle.slif_cli.specs.Tasks.{TellsReading, GoesOnWithin};
 
-use crate::lines::write_lines;
 use crate::stop::Stop;
+use crate::writing::write_lines;
 use bocage::Stats;
 use bumpalo::Bump;
 use command_line::ValuesAsked;

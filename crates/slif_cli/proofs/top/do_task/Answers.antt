@@ -1,18 +1,12 @@
-use Rattle.std.proofs.Common.{◌≡◌, ◌≢◌, Option, Some, inl, inr, ◌⊎◌, ap, subst}
-use Rattle.std.specs.Prelude.{IsTrue, is_some, option_copied}
-use Rattle.std.specs.Borrow.{Bor}
+use Rattle.std.proofs.Common.{inl, inr, ◌⊎◌, ap}
 use Rattle.std.proofs.lemmas.Result.{on_ok_weaker, MatchResult-weaker}
 use Rattle.outside_model.specs.Causes.{Rose}
 use Rattle.words_model.specs.Words as model
 use Rattle.words_model.specs.Words.{Asks}
-use Rattle.words_model.specs.Laws.{IsFitted}
-use Rattle.words_model.proofs.Fitted.{jobs_are_fitted}
 use Rattle.run_model.specs.Outcome.{IsWorkOutcome}
 use Rattle.run_model.specs.Outside.{stream}
 use Rattle.run_model.specs.Runs.{MayOpen}
 use Rattle.command_line.specs.Jobs.{job_of, task_of, telling_of, input_of}
-use Rattle.command_line.specs.declared.job.Job.{Job}
-use Rattle.command_line.specs.declared.job.Task.{Task}
 use Rattle.slif_cli.specs.Stops.{MayHave}
 use Rattle.slif_cli.specs.Tasks.{IsCheckJob, IsTellJob}
 use Rattle.slif_cli.proofs.JobLemmas.{asks_names, asks_nothing, worked, works_within, checks_within, fitted_as, copied_some}

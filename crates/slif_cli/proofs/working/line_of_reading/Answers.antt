@@ -1,7 +1,6 @@
-use Rattle.std.proofs.Common.{◌≡◌, ℕ, [], ◌∷◌, None, Vec, Global}
+use Rattle.std.proofs.Common.{◌≡◌, ℕ, [], ◌∷◌, Vec, Global}
 use Rattle.std.proofs.lemmas.Result.{IfOk-weaker}
 use Rattle.earley_sets.specs.Counted.{TakesAtMost}
-use Rattle.run_model.specs.Jobs.{work_input}
 use Rattle.run_model.specs.Outcome.{IsWorkOutcome, done}
 use Rattle.run_model.specs.Within.{WorkWithin}
 use Rattle.run_model.specs.Telling.{work_line}

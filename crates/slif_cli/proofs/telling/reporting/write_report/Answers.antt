@@ -1,4 +1,4 @@
-use Rattle.std.proofs.Common.{Err, ℕ, List, Vec, Global, map, sym, subst, ap, ◌∙◌}
+use Rattle.std.proofs.Common.{Err, ℕ, List, Vec, Global, map, sym, subst, ap}
 use Rattle.std.proofs.lemmas.Result.{on_ok_weaker, MatchResult-weaker}
 use Rattle.grammar_model.specs.Grammar.{Grammar}
 use Rattle.recognizer_model.specs.FlatForm.{IsFlatOf}

@@ -2,7 +2,7 @@ use Rattle.std.proofs.Common.{◌≡◌, List, ℕ, Some, slice_get, map, arith,
 use Rattle.std.specs.Io.KnownBytes.{Appends}
 use Rattle.outside_model.specs.Told.{AppendsPrefix}
 use Rattle.slif_cli.proofs.Lines.{one_more_written, prefix_of_text, mapped_item}
-use Rattle.slif_cli.proofs.lines.write_lines.Goals as goal
+use Rattle.slif_cli.proofs.writing.write_lines.Goals as goal
 
 pub returns-in_default-clause-stops : goal.returns-in_default-clause-stops
 returns-in_default-clause-stops g c =
