@@ -1,18 +1,23 @@
 #!/usr/bin/env python3
-"""Runs each example of docs/LANGUAGE.md and docs/LIBRARY.md with the built programs, and compares what it writes.
+"""Runs each example of the README, of docs/LANGUAGE.md, of docs/LIBRARY.md and of the two manual pages with the built programs, and compares
+what it writes. Nothing of the toolchain is needed.
 
-    bench/examples.py [--binary crates/slif/out/slif] [--show crates/slif_show/out/slif_show] [--calculator crates/calculator/out/calculator]
-                      [--page docs/LANGUAGE.md --page docs/LIBRARY.md]
+    bench/examples.py [--programs FOLDER] [--page FILE ..]
 
-An indented block whose first line is a comment with a name, as `# sum.slif`, is a file of that name. A line of a block that begins with
-`$` is a command, and the lines below it are all that it writes, to standard output or standard error. The files of a page are made in a folder of
-their own, where the folder examples/ is that of the repository. Of each examples/NAME.out there has to be a command that names
-examples/NAME.slif and writes just that.
+FOLDER has the programs `slif` and `slif_show`; without it those are taken that were built here, as crates/slif/out/slif. An example that calls
+another program (`calculator`) is left out, and counted, where that program is not there.
+
+An indented block whose first line is a comment with a name, as `# sum.slif`, is a file of that name; of a manual page the blocks between
+`.nf` and `.fi` are taken. A line of a block that begins with `$` is a command, and the lines below it are all that it writes, to standard
+output or standard error. The files of a page are made in a folder of their own, where the folder examples/ is that of the repository. Of each
+examples/NAME.out there has to be a command that names examples/NAME.slif and writes just that.
 """
 import argparse, os, pathlib, re, subprocess, sys, tempfile
 
 INDENT = "    "
 ROOT = pathlib.Path(__file__).resolve().parent.parent
+PAGES = ["README.md", "docs/LANGUAGE.md", "docs/LIBRARY.md", "docs/slif.1", "docs/slif_show.1"]
+PROGRAMS = ["slif", "slif_show", "calculator"]
 
 
 def blocks_of(page):
@@ -28,6 +33,18 @@ def blocks_of(page):
     return blocks
 
 
+def blocks_of_manual(page):
+    """The same of a manual page."""
+    blocks = []
+    for number, line in enumerate(page.splitlines(), 1):
+        if line in (".nf", ".fi"):
+            is_open = line == ".nf"
+            blocks += [(number + 1, [])] if is_open else []
+        elif blocks and is_open:
+            blocks[-1][1].append(line.replace("\\-", "-").replace("\\(aq", "'").replace("\\e", "\\"))
+    return blocks
+
+
 def commands_of(first, lines):
     """The commands of a block, each with the number of its line and what it should write."""
     commands = []
@@ -39,10 +56,10 @@ def commands_of(first, lines):
     return commands
 
 
-def read(page):
+def read(path):
     """The files and the commands of a page, in its order. A name that stands for two files is a mistake of the page."""
     files, commands = {}, []
-    for first, lines in blocks_of(page):
+    for first, lines in (blocks_of if path.suffix == ".md" else blocks_of_manual)(path.read_text()):
         named = re.fullmatch(r"# ([\w-]+\.slif)", lines[0])
         if named:
             text = "\n".join(lines) + "\n"
@@ -68,12 +85,12 @@ def outputs_told(commands):
     return told
 
 
-def failures_of(files, commands, options):
+def failures_of(page, files, commands, programs):
     """How many commands of a page write other than it says."""
     failed = 0
     with tempfile.TemporaryDirectory() as folder, tempfile.TemporaryDirectory() as tools:
-        for name, path in (("slif", options.binary), ("slif_show", options.show), ("calculator", options.calculator)):
-            os.symlink(pathlib.Path(path).resolve(), pathlib.Path(tools) / name)
+        for name, path in programs.items():
+            os.symlink(path, pathlib.Path(tools) / name)
         os.symlink(ROOT / "examples", pathlib.Path(folder) / "examples")
         for name, text in files.items():
             (pathlib.Path(folder) / name).write_text(text)
@@ -81,29 +98,37 @@ def failures_of(files, commands, options):
             got = run(command, folder, tools)
             if got != wanted:
                 failed += 1
-                print(f"line {number}: {command}\n  wanted {wanted!r}\n  got    {got!r}")
+                print(f"{page}:{number}: {command}\n  wanted {wanted!r}\n  got    {got!r}")
     return failed
+
+
+def programs_in(folder):
+    """The path of each program that is there. The two that every page asks for have to be."""
+    paths = {name: (folder / name if folder else ROOT / f"crates/{name}/out/{name}").resolve() for name in PROGRAMS}
+    for name in PROGRAMS[:2]:
+        if not os.access(paths[name], os.X_OK):
+            raise SystemExit(f"there is no program {paths[name]}")
+    return {name: path for name, path in paths.items() if os.access(path, os.X_OK)}
 
 
 def main():
     options = argparse.ArgumentParser()
-    options.add_argument("--binary", default=str(ROOT / "crates/slif/out/slif"))
-    options.add_argument("--show", default=str(ROOT / "crates/slif_show/out/slif_show"))
-    options.add_argument("--calculator", default=str(ROOT / "crates/calculator/out/calculator"))
+    options.add_argument("--programs", type=pathlib.Path)
     options.add_argument("--page", type=pathlib.Path, action="append")
     options = options.parse_args()
-    grammars, told, failed = 0, [], 0
-    for page in options.page or [ROOT / "docs/LANGUAGE.md", ROOT / "docs/LIBRARY.md"]:
-        files, commands = read(page.read_text())
-        wrong = failures_of(files, commands, options)
-        if wrong:
-            print(f"{page.name}: {wrong} failed")
-        grammars, told, failed = grammars + len(files), told + commands, failed + wrong
-    for name, is_told in outputs_told(told):
+    programs = programs_in(options.programs)
+    missing = [name for name in PROGRAMS if name not in programs]
+    grammars, told, failed, left_out = 0, [], 0, 0
+    for page in options.page or [ROOT / name for name in PAGES]:
+        files, commands = read(page)
+        runs = [one for one in commands if not set(missing) & set(re.findall(r"[\w]+", one[1]))]
+        failed += failures_of(page.name, files, runs, programs)
+        grammars, told, left_out = grammars + len(files), told + runs, left_out + len(commands) - len(runs)
+    for name, is_told in outputs_told(told) if not options.page else []:
         if not is_told:
             failed += 1
             print(f"examples/{name}: no command of a page writes this")
-    print(f"{grammars} grammars, {len(told)} commands, {failed} failed")
+    print(f"{grammars} grammars, {len(told)} commands, {failed} failed" + (f", {left_out} left out: no {', '.join(missing)}" if left_out else ""))
     return 1 if failed else 0
 
 

@@ -43,5 +43,5 @@ _slif_show() {
     mapfile -t COMPREPLY < <(compgen -W '--json --dot --svg --diff' -- "${COMP_WORDS[COMP_CWORD]}")
 }
 
-complete -o filenames -F _slif slif
+complete -F _slif slif
 complete -F _slif_show slif_show

@@ -1,5 +1,4 @@
-" Vim syntax of grammars for slif. Put it into ~/.vim/syntax/slif.vim, and this line into ~/.vim/ftdetect/slif.vim:
-"   autocmd BufNewFile,BufRead *.slif setfiletype slif
+" Vim: the syntax of grammars for slif.
 
 if exists('b:current_syntax')
   finish

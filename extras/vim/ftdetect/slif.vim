@@ -1,0 +1,1 @@
+autocmd BufNewFile,BufRead *.slif setfiletype slif
