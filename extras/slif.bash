@@ -1,46 +1,78 @@
-# Completions of slif and slif_show for bash: source this file, or put it into /usr/share/bash-completion/completions.
+# Completions of slif and slif_show for bash. extras/install puts this file where bash-completion looks; anywhere else, source it.
+
+# The options that a job takes.
+_slif_options() {
+    case $1 in
+        run) echo '--grammar --input --first --rank --show --stats' ;;
+        check) echo '--grammar' ;;
+        expect) echo '--grammar --input' ;;
+        progress) echo '--grammar --input --at' ;;
+        work) echo '--size' ;;
+    esac
+}
 
 _slif() {
-    local word=${COMP_WORDS[COMP_CWORD]}
-    local before=${COMP_WORDS[COMP_CWORD - 1]}
-    local job='' other
+    local word=${COMP_WORDS[COMP_CWORD]} before=${COMP_WORDS[COMP_CWORD - 1]}
+    # `--rank=high` reaches this function as three words.
+    if [[ $word == '=' ]]; then
+        word=''
+    elif [[ $before == '=' ]]; then
+        before=${COMP_WORDS[COMP_CWORD - 2]}
+    fi
+    # What stands before the cursor: the job, the options, and whether `--` has ended them. An option's value is none of these.
+    local job='' given='' ended='' last='' other
     for other in "${COMP_WORDS[@]:1:COMP_CWORD - 1}"; do
-        case $other in
-            run | check | expect | progress | work) job=$other ;;
+        case $last:$other in
+            *:=) continue ;;
+            --grammar:* | --input:* | --first:* | --rank:* | --show:* | --at:* | --size:*) other='' ;;
+            *:--) ended=1 ;;
+            *:--*) given+=" $other" ;;
+            *:run | *:check | *:expect | *:progress | *:work) job=$other ;;
         esac
+        last=$other
     done
-    case $before in
-        --grammar | --input)
+    COMPREPLY=()
+    case $ended:$before in
+        :--grammar | :--input)
+            compopt -o filenames 2>/dev/null
             mapfile -t COMPREPLY < <(compgen -f -- "$word")
             return
             ;;
-        --rank)
+        :--rank)
             mapfile -t COMPREPLY < <(compgen -W 'none rule high' -- "$word")
             return
             ;;
-        --show)
+        :--show)
             mapfile -t COMPREPLY < <(compgen -W 'array tree' -- "$word")
             return
             ;;
-        --first | --at | --size)
-            COMPREPLY=()
-            return
-            ;;
+        :--first | :--at | :--size) return ;;
     esac
-    local words
-    case $job in
-        run) words='--grammar --input --first --rank --show --stats' ;;
-        check) words='--grammar' ;;
-        expect) words='--grammar --input' ;;
-        progress) words='--grammar --input --at' ;;
-        work) words='--size' ;;
-        *) words='run check expect progress work' ;;
-    esac
-    mapfile -t COMPREPLY < <(compgen -W "$words" -- "$word")
+    # The jobs that take all options given, and the options that one of them takes and that are not given.
+    local jobs='' left=' ' options fits
+    for other in ${job:-run check expect progress work}; do
+        options=" $(_slif_options "$other") "
+        fits=1
+        for last in $given; do
+            [[ $options == *" $last "* ]] || fits=''
+        done
+        if [[ $fits ]]; then
+            jobs+=" $other"
+            for last in $options; do
+                [[ " $given $left" == *" $last "* ]] || left+="$last "
+            done
+        fi
+    done
+    [[ $job ]] && jobs=''
+    [[ $ended ]] && left=''
+    mapfile -t COMPREPLY < <(compgen -W "$jobs $left" -- "$word")
 }
 
 _slif_show() {
-    mapfile -t COMPREPLY < <(compgen -W '--json --dot --svg --diff' -- "${COMP_WORDS[COMP_CWORD]}")
+    COMPREPLY=()
+    if ((COMP_CWORD == 1)); then
+        mapfile -t COMPREPLY < <(compgen -W '--json --dot --svg --diff' -- "${COMP_WORDS[1]}")
+    fi
 }
 
 complete -F _slif slif
