@@ -92,7 +92,7 @@ def main():
         terminal.send("bind 'set bell-style none' 'set enable-bracketed-paste off' 'set completion-query-items 0' 'set page-completions off'; ")
         terminal.send(f". '{options.file.resolve()}'; ")
         terminal.send("""bind -x '"\\C-x\\C-d": printf "\\002%s\\003" "$READLINE_LINE"'; printf '\\002re%s\\003' ady\n""")
-        terminal.await_mark("\x02(ready)\x03")
+        terminal.await_mark("\x02ready\x03.*?([$] )")
         for typed, key, wanted in CASES:
             line = terminal.line_after(typed, key)
             same = line == wanted if key == TAB else sorted(line.split()) == sorted(wanted.split())
