@@ -7,7 +7,7 @@ FOLDER has the programs `slif` and `slif_show`; without it those that were built
 PATH, the manual pages through man, the completions through bash, and the kind of a file through Vim (each where that program is installed);
 a root before the prefix; that nothing is written where a program is missing; and that the pages and CHANGELOG.md name the same version.
 """
-import argparse, os, pathlib, re, shutil, subprocess, sys, tempfile
+import argparse, json, os, pathlib, re, shutil, subprocess, sys, tempfile
 
 ROOT = pathlib.Path(__file__).resolve().parent.parent
 WANTED = {
@@ -16,6 +16,7 @@ WANTED = {
     "share/bash-completion/completions/slif": 0o644, "share/bash-completion/completions/slif_show": 0o644,
     **{f"share/vim/vimfiles/{part}/slif.vim": 0o644 for part in ("compiler", "ftdetect", "ftplugin", "syntax")},
     "share/slif/slif.slif": 0o644,
+    **{f"share/slif/vscode/{name}": 0o644 for name in ("package.json", "language-configuration.json", "syntaxes/slif.tmLanguage.json")},
     **{f"share/doc/slif/{name}": 0o644 for name in ("LANGUAGE.md", "LICENSE-APACHE", "LICENSE-MIT", "CHANGELOG.md")},
 }
 failures = []
@@ -81,6 +82,8 @@ def main():
         for words in ([], ["--help"], ["a", "b"], ["/a", "b", "c"], ["--programs"], ["--programs", "nowhere", "/a"]):
             tell(f"words that ask for nothing: {words}", output_of([install, *words], cwd=folder)[0] == 2)
     version = re.search(r"^## (\d+\.\d+)", (ROOT / "CHANGELOG.md").read_text(), re.MULTILINE)[1]
+    package = json.loads((ROOT / "extras/vscode/package.json").read_text())
+    tell(f"the files for VS Code name version {version}", package["version"] == f"{version}.0")
     for page in ("slif", "slif_show"):
         head = (ROOT / f"docs/{page}.1").read_text().splitlines()[0]
         tell(f"{page}.1 names version {version}", f'"slif {version}"' in head)
