@@ -7,8 +7,7 @@ ghost use Rattle.grammar_check.specs.Message.{IsOf, cycle_text, refusal_text, Ar
 use crate::GrammarRefusal;
 use grammar_core::{RuleId, SymbolId, Written};
 use itoa::Buffer;
-use std::alloc::{AllocError, Global};
-use value_text::NoMemory;
+use std::alloc::{AllocError, AllocError as NoMemory, Global};
 
 fn phrase(alloc: Global, before: &[u8], name: &str, after: &[u8]) -> Result<Vec<u8>, AllocError>
     ensures { IfOk result (λ text. text.items ≡ before.now ++ (name.now ++ after.now)) }

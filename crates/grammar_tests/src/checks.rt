@@ -2,9 +2,8 @@
 use crate::grammars::{add_list, add_names, add_rule};
 use grammar_check::{Checked, append_refusal, check};
 use grammar_core::{Assoc, CoreRefusal, SymbolId, Written};
-use std::alloc::Global;
+use std::alloc::{AllocError as NoMemory, Global};
 use std::test::Fail;
-use value_text::NoMemory;
 
 // The symbols S, T, X, Y by their numbers.
 const S: u32 = 0;

@@ -10,11 +10,10 @@ use bocage::Forest;
 use grammar_core::{SymbolId, TreeStep, Written};
 use grammar_model::Ranking;
 use slif_base::Steps;
-use std::alloc::{AllocError, Global};
+use std::alloc::{AllocError, AllocError as NoMemory, Global};
 use std::sync::ledger::Ledger;
 use std::test::Fail;
 use tree_iter::TreeIter;
-use value_text::NoMemory;
 
 // The texts of derivations: a token with its place, or with both its ends where it is longer, a nulled symbol as `B@0`, a rule as
 // `0(..)`.

@@ -11,10 +11,9 @@ use grammar_core::{Assoc, Rule, RuleId, SymbolId, TreeStep, Written, WrittenRule
 use grammar_model::Ranking;
 use plain_lister::{SlowList, list_simple};
 use slif_base::Steps;
-use std::alloc::{AllocError, Global};
+use std::alloc::{AllocError, AllocError as NoMemory, Global};
 use std::sync::ledger::Ledger;
 use std::test::Fail;
-use value_text::NoMemory;
 
 const SUM: &[u8] = b"1+1+1+1+1+1+1+1+1";
 

@@ -16,10 +16,9 @@ use earley_sets::Recce;
 use grammar_core::{Flat, Written};
 use grammar_model::Ranking;
 use slif_base::Steps;
-use std::alloc::Global;
+use std::alloc::{AllocError as NoMemory, Global};
 use std::marker::Brand;
 use std::sync::ledger::{Blank, Ledger};
-use value_text::NoMemory;
 
 /// What is read: tokens that are one place long, or tokens with their places, up to a place.
 #[derive(Clone, Copy)]

@@ -188,6 +188,17 @@ impl Chars {
         requires { i < length self.now }
         ensures { result ≡ slice_index self.now i }
     {
+        match &self.starts {
+            Some(_) => self.char_at(i),
+            None => self.text.as_bytes()[i] as char,
+        }
+    }
+
+    // The character at a place, decoded.
+    fn char_at(&self, i: usize) -> char
+        requires { i < length self.now }
+        ensures { result ≡ slice_index self.now i }
+    {
         match self.text(i, self.len()).chars().next() {
             Some(c) => c,
             None => '\0',

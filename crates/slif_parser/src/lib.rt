@@ -15,6 +15,6 @@ pub use grammar::Grammar;
 pub use grammar_core::{RuleId, Span, SymbolId, TreeStep};
 pub use grammar_model::Ranking;
 pub use reading::Reading;
+pub use std::alloc::AllocError as NoMemory;
 pub use text_reading::Place;
 pub use tree_fold::{FoldError, Semantics, Token};
-pub use value_text::NoMemory;

@@ -20,7 +20,6 @@ use dsl_tokens::{TokenRefusal, tokens};
 use scanless::{PrepareRefusal, Prepared, prepare};
 use slif_base::{Chars, TextRefusal, chars_of};
 use std::alloc::{AllocError, Global};
-use value_text::NoMemory;
 
 /// The greatest length of a grammar, in bytes.
 pub const GRAMMAR_LIMIT: usize = 1_048_576;
@@ -138,7 +137,7 @@ fn tell_description(alloc: Global, chars: &Chars, refusal: &BuildRefusal) -> Ref
             text,
             place: description_place(chars, refusal),
         },
-        Err(NoMemory) => Refusal::NoMemory,
+        Err(AllocError) => Refusal::NoMemory,
     }
 }
 
@@ -166,6 +165,6 @@ fn tell_grammars(alloc: Global, refusal: &PrepareRefusal) -> Refusal
 {
     match grammars_text(alloc, refusal) {
         Ok(text) => Refusal::Grammar { text, place: None },
-        Err(NoMemory) => Refusal::NoMemory,
+        Err(AllocError) => Refusal::NoMemory,
     }
 }

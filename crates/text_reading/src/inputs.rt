@@ -17,7 +17,6 @@ use scanless::{Ending, Prepared, Reading, read_input};
 use slif_base::{Chars, Steps, TextRefusal, chars_from};
 use std::alloc::{AllocError, Global};
 use std::sync::ledger::Ledger;
-use value_text::NoMemory;
 
 /// The greatest length of an input, in bytes.
 pub const INPUT_LIMIT: usize = 16_777_216;
@@ -119,7 +118,7 @@ fn stopped_text(
     at: usize,
     found: &[SymbolId],
     expected: &[SymbolId],
-) -> Result<Vec<u8>, NoMemory>
+) -> Result<Vec<u8>, AllocError>
     requires few { length chars.now ≤ 16777216 }
     requires found { All (λ s. s < length w.now.names) found.now }
     requires expected { All (λ s. s < length w.now.names) expected.now }

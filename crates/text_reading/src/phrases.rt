@@ -16,7 +16,6 @@ use grammar_core::Written;
 use scanless::PrepareRefusal;
 use slif_base::Chars;
 use std::alloc::{AllocError, Global};
-use value_text::NoMemory;
 
 /// What is told of bytes that are not UTF-8 from a place on. The words in front say of what.
 pub fn not_utf8_text(alloc: Global, of: &str, at: usize) -> Result<Vec<u8>, AllocError>
@@ -43,7 +42,7 @@ pub fn phrase(
     after: &[u8],
     chars: &Chars,
     at: usize,
-) -> Result<Vec<u8>, NoMemory>
+) -> Result<Vec<u8>, AllocError>
     requires { length chars.now < 4294967295 }
     ensures { IfOk result (λ text. text.items ≡ before.now ++ (name.now ++ (after.now ++ at_place chars.now at))) }
 {
@@ -61,7 +60,7 @@ pub fn description_text(
     alloc: Global,
     chars: &Chars,
     refusal: &BuildRefusal,
-) -> Result<Vec<u8>, NoMemory>
+) -> Result<Vec<u8>, AllocError>
     requires { length chars.now < 4294967295 }
     ensures { IfOk result (λ text. IsFaultText chars.now (refused_fault refusal.now) text.items) }
 {
@@ -94,7 +93,7 @@ pub fn description_text(
         BuildRefusal::TooLong { at, .. } => {
             phrase(alloc, b"grammar: too long", "", b"", chars, *at)
         }
-        BuildRefusal::NoMemory => Err(NoMemory),
+        BuildRefusal::NoMemory => Err(AllocError),
     }
 }
 
@@ -122,7 +121,7 @@ fn check_text(
     before: &[u8],
     w: &Written,
     refusal: &GrammarRefusal,
-) -> Result<Vec<u8>, NoMemory>
+) -> Result<Vec<u8>, AllocError>
     requires { IsOf w.now refusal.now }
     ensures { IfOk result (λ text. text.items ≡ before.now ++ refusal_text w.now refusal.now) }
 {
@@ -142,7 +141,7 @@ fn rules_text(alloc: Global, lexical: bool) -> Result<Vec<u8>, AllocError>
 }
 
 /// Grammars that are not accepted.
-pub fn grammars_text(alloc: Global, refusal: &PrepareRefusal) -> Result<Vec<u8>, NoMemory>
+pub fn grammars_text(alloc: Global, refusal: &PrepareRefusal) -> Result<Vec<u8>, AllocError>
     requires { (b : Built) × IsRefusal b refusal.now }
     ensures { IfOk result (λ text. (b : Built) → IsRefusal b refusal.now → IsGrammarText b text.items) }
 {
@@ -152,6 +151,6 @@ pub fn grammars_text(alloc: Global, refusal: &PrepareRefusal) -> Result<Vec<u8>,
             check_text(alloc, b"lexical grammar: ", w, refusal)
         }
         PrepareRefusal::TooManyRules { lexical } => Ok(rules_text(alloc, *lexical)?),
-        PrepareRefusal::NoMemory => Err(NoMemory),
+        PrepareRefusal::NoMemory => Err(AllocError),
     }
 }

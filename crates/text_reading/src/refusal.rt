@@ -2,7 +2,6 @@
 
 use grammar_core::SymbolId;
 use std::alloc::AllocError;
-use value_text::NoMemory;
 
 /// A place in a text: its line and its column, both from 1. A line ends with LF; columns count characters.
 #[derive(Clone, Copy, Debug, PartialEq, Eq)]
@@ -36,17 +35,6 @@ impl From<AllocError> for Refusal {
     ghost from_gives = { λ _ refusal. refusal ≡ NoMemory };
 
     fn from(_error: AllocError) -> Refusal {
-        Refusal::NoMemory
-    }
-}
-
-impl From<NoMemory> for Refusal {
-    ghost use Rattle.std.specs.Prelude.{◌≡◌};
-    ghost use Rattle.text_reading.specs.declared.refusal.Refusal.TheVariants.{NoMemory};
-
-    ghost from_gives = { λ _ refusal. refusal ≡ NoMemory };
-
-    fn from(_error: NoMemory) -> Refusal {
         Refusal::NoMemory
     }
 }

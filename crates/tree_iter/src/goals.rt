@@ -10,8 +10,8 @@ ghost use Rattle.tree_iter.specs.Goals.{fork_of, goal_of, look, Puts, PutsOption
 use crate::writing::FlatStep;
 use bocage::{Alternatives, Cause, Forest};
 use slif_base::Steps;
+use std::alloc::AllocError as NoMemory;
 use std::sync::ledger::Ledger;
-use value_text::NoMemory;
 
 /// A goal that is done by choosing one of its options.
 #[derive(Clone, Copy)]

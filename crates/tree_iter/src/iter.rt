@@ -9,10 +9,9 @@ use crate::walk::{Place, Walk, advance};
 use bocage::Forest;
 use grammar_core::TreeStep;
 use slif_base::Steps;
-use std::alloc::Global;
+use std::alloc::{AllocError as NoMemory, Global};
 use std::marker::Model;
 use std::sync::ledger::Ledger;
-use value_text::NoMemory;
 
 /// Where an iterator stands: before the first derivation, at one whose steps are in the walk or were copied before the walk went on, or
 /// behind the last.

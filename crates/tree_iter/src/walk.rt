@@ -14,9 +14,8 @@ use crate::writing::{CountRow, FlatStep, write_step};
 use bocage::Forest;
 use grammar_core::TreeStep;
 use slif_base::Steps;
-use std::alloc::Global;
+use std::alloc::{AllocError as NoMemory, Global};
 use std::sync::ledger::Ledger;
-use value_text::NoMemory;
 
 /// A choice point, as Prolog calls it: an option that was chosen, of so many, with the place of the goals behind it, and how many goals,
 /// steps and counts there were, so that what was done since can be undone.

@@ -9,7 +9,7 @@ ghost use Rattle.forest_laws.specs.Written.{is_list_rule as is_rule_of_list, rul
 ghost use Rattle.tree_iter.specs.Writing.{flat_step, IsStepOf, IsCounted, AreOnTop, AreTakenOff, IsEffect, AreDone};
 
 use grammar_core::{Flat, FlatSource, FlatSymbol, SymbolId, TreeStep, Written};
-use value_text::NoMemory;
+use std::alloc::AllocError as NoMemory;
 
 /// A step of a flat derivation, by the numbers of flat symbols and rules.
 #[derive(Clone, Copy)]

@@ -9,10 +9,9 @@ ghost use Rattle.value_lines.specs.Counts.{numbers_of};
 
 use bocage::{Forest, Stats};
 use slif_base::Steps;
-use std::alloc::{AllocError, Global};
+use std::alloc::{AllocError, AllocError as NoMemory, Global};
 use std::sync::ledger::Ledger;
 use tree_iter::TreeIter;
-use value_text::NoMemory;
 
 /// How many derivations there are, or as many as 32 bits tell.
 pub fn count_derivations<L: Ledger>(

@@ -15,10 +15,10 @@ ghost use Rattle.value_lines.specs.Lines.{score_of, IsForestOf, IsLineOf};
 use grammar_core::TreeStep;
 use scanless::Prepared;
 use slif_base::Steps;
+use std::alloc::AllocError as NoMemory;
 use std::sync::ledger::Ledger;
 use tree_iter::TreeIter;
 use valuator::{Player, Teller};
-use value_text::NoMemory;
 
 fn finish(teller: &mut Box<dyn Teller>, line: &mut Vec<u8>) -> Result<(), NoMemory>
     requires { HoldsOne (held teller.old) }

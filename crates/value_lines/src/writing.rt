@@ -22,12 +22,11 @@ use bocage::Forest;
 use grammar_core::Span;
 use scanless::Prepared;
 use slif_base::{Chars, Sink, Steps, WriteFault, write_all};
-use std::alloc::Global;
+use std::alloc::{AllocError as NoMemory, Global};
 use std::sync::ledger::Ledger;
 use thiserror::Error;
 use tree_iter::TreeIter;
 use valuator::{Player, Show, Teller};
-use value_text::NoMemory;
 
 /// Why the lines were not all written.
 #[derive(Clone, Copy, Debug, PartialEq, Eq, Error)]
