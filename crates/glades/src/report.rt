@@ -20,7 +20,6 @@ use grammar_model::{RuleId, SymbolId};
 use slif_base::Steps;
 use std::alloc::{AllocError, Global};
 use std::sync::ledger::Ledger;
-use value_text::NoMemory;
 
 // The written rule of a node.
 fn rule_of(forest: &Forest<'_>, node: u32) -> RuleId
@@ -207,7 +206,7 @@ pub fn report_glades<L: Ledger>(
     forest: &Forest<'_>,
     w: &Written,
     steps: &mut Steps<L>,
-) -> Result<Vec<Glade>, NoMemory>
+) -> Result<Vec<Glade>, AllocError>
     requires ranking { forest.now.ranking ≡ Rule }
     requires built { forest.now.written ≡ w.now }
     ensures report { IfOk result (λ glades. AreGlades forest.now.written forest.now.edges (start_of forest.now) forest.now.place glades.items) }

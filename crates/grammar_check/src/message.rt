@@ -7,7 +7,7 @@ ghost use Rattle.grammar_check.specs.Message.{IsOf, cycle_text, refusal_text, Ar
 use crate::GrammarRefusal;
 use grammar_core::{RuleId, SymbolId, Written};
 use itoa::Buffer;
-use std::alloc::{AllocError, AllocError as NoMemory, Global};
+use std::alloc::{AllocError, Global};
 
 fn phrase(alloc: Global, before: &[u8], name: &str, after: &[u8]) -> Result<Vec<u8>, AllocError>
     ensures { IfOk result (λ text. text.items ≡ before.now ++ (name.now ++ after.now)) }
@@ -97,7 +97,7 @@ fn text_of(alloc: Global, w: &Written, r: &GrammarRefusal) -> Result<Vec<u8>, Al
 
 /// Appends the text of a refusal, and nothing for want of memory. The symbols and rules in it have to be the grammar's.
 /// Where memory runs out nothing is appended.
-pub fn append_refusal(w: &Written, r: &GrammarRefusal, out: &mut Vec<u8>) -> Result<(), NoMemory>
+pub fn append_refusal(w: &Written, r: &GrammarRefusal, out: &mut Vec<u8>) -> Result<(), AllocError>
     requires { IsOf w.now r.now }
     ensures ok { OnOk result (out.new.items ≡ out.old.items ++ refusal_text w.now r.now) }
     ensures err { OnErr result (out.new.items ≡ out.old.items) }

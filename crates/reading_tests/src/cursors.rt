@@ -7,12 +7,11 @@ use bocage::Forest;
 use grammar_core::TreeStep;
 use grammar_model::Ranking;
 use slif_base::Steps;
-use std::alloc::Global;
+use std::alloc::{AllocError as NoMemory, Global};
 use std::sync::ledger::Ledger;
 use std::test::Fail;
 use tree_cursor::{CursorRefusal, read_cursor, write_cursor};
 use tree_iter::TreeIter;
-use value_text::NoMemory;
 
 static ROWS: &[Row<'static>] = &[
     (

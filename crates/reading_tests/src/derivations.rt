@@ -10,7 +10,7 @@ use bocage::Forest;
 use grammar_core::{SymbolId, TreeStep, Written};
 use grammar_model::Ranking;
 use slif_base::Steps;
-use std::alloc::{AllocError, AllocError as NoMemory, Global};
+use std::alloc::{AllocError, Global};
 use std::sync::ledger::Ledger;
 use std::test::Fail;
 use tree_iter::TreeIter;
@@ -192,7 +192,7 @@ fn text_now(
     w: &Written,
     iter: &TreeIter<'_>,
     style: Style,
-) -> Result<String, NoMemory>
+) -> Result<String, AllocError>
     requires { IsSome iter.now.current }
 {
     let mut tree = Vec::with_capacity(alloc, iter.steps_needed())?;
@@ -208,7 +208,7 @@ fn put_texts<L: Ledger>(
     style: Style,
     texts: &mut Vec<String>,
     steps: &mut Steps<L>,
-) -> Result<(), NoMemory> {
+) -> Result<(), AllocError> {
     for _ in 0..MOST_TREES {
         if !iter.next(steps)? {
             break;
@@ -228,7 +228,7 @@ pub(crate) fn texts_of<L: Ledger>(
     forest: &Forest<'_>,
     style: Style,
     steps: &mut Steps<L>,
-) -> Result<Vec<String>, NoMemory> {
+) -> Result<Vec<String>, AllocError> {
     let mut iter = TreeIter::new(alloc, forest)?;
     let mut texts = Vec::new(alloc);
     put_texts(alloc, w, &mut iter, style, &mut texts, steps)?;
@@ -259,7 +259,7 @@ pub(crate) fn have_texts<L: Ledger>(
     forest: &Forest<'_>,
     wanted: &[&str],
     steps: &mut Steps<L>,
-) -> Result<bool, NoMemory> {
+) -> Result<bool, AllocError> {
     let texts = texts_of(alloc, w, forest, Style::Short, steps)?;
     Ok(are_texts(&texts, wanted))
 }
@@ -271,7 +271,7 @@ pub(crate) fn have_count<L: Ledger>(
     forest: &Forest<'_>,
     count: usize,
     steps: &mut Steps<L>,
-) -> Result<bool, NoMemory> {
+) -> Result<bool, AllocError> {
     let texts = texts_of(alloc, w, forest, Style::Short, steps)?;
     Ok(texts.len() == count && do_differ(&texts))
 }

@@ -11,7 +11,7 @@ use grammar_core::{Assoc, Rule, RuleId, SymbolId, TreeStep, Written, WrittenRule
 use grammar_model::Ranking;
 use plain_lister::{SlowList, list_simple};
 use slif_base::Steps;
-use std::alloc::{AllocError, AllocError as NoMemory, Global};
+use std::alloc::{AllocError, Global};
 use std::sync::ledger::Ledger;
 use std::test::Fail;
 
@@ -101,12 +101,12 @@ pub(crate) fn have_lines<L: Ledger>(
     forest: &Forest<'_>,
     wanted: &[u8],
     steps: &mut Steps<L>,
-) -> Result<bool, NoMemory> {
+) -> Result<bool, AllocError> {
     let texts = texts_of(alloc, w, forest, Style::Line, steps)?;
     Ok(lines_of(alloc, &texts)?.as_slice() == wanted)
 }
 
-fn put_lines(list: &SlowList, lines: &mut Vec<u8>) -> Result<(), NoMemory> {
+fn put_lines(list: &SlowList, lines: &mut Vec<u8>) -> Result<(), AllocError> {
     for k in 0..list.len() {
         list.append_line(k, lines)?;
     }

@@ -9,7 +9,7 @@ ghost use Rattle.value_lines.specs.Counts.{numbers_of};
 
 use bocage::{Forest, Stats};
 use slif_base::Steps;
-use std::alloc::{AllocError, AllocError as NoMemory, Global};
+use std::alloc::{AllocError, Global};
 use std::sync::ledger::Ledger;
 use tree_iter::TreeIter;
 
@@ -18,7 +18,7 @@ pub fn count_derivations<L: Ledger>(
     alloc: Global,
     forest: &Forest<'_>,
     steps: &mut Steps<L>,
-) -> Result<u32, NoMemory>
+) -> Result<u32, AllocError>
     ensures count { IfOk result (λ n. (trees : List Tree) → IsListing forest.now trees → n ≡ length (take 4294967295 trees)) }
     ensures counted { OnOk result ((trees : List Tree) → IsListing forest.now trees → steps.new ≤ steps.old + sum_by choices (take 4294967295 trees)) }
 {
