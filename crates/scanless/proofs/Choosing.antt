@@ -16,7 +16,9 @@ use Rattle.reading_model.specs.Reading.{Piece, IsNext, IsCandidate, ADiscard, AL
 use Rattle.reading_model.proofs.Within.{match_within}
 use Rattle.earley_sets.specs.Recognizer.{Recognizer, IsExpected}
 use Rattle.earley_sets.proofs.Membership.{Contains-map_from}
-use Rattle.scanless.specs.Pieces.{AreInOrder, AreCandidates, ArePlaced, AreMatched, IsLongestBy, IsHighestOf, IsFit, Gathers, AreLexemes}
+use Rattle.prepared_grammars.specs.Gathered.{Gathers}
+use Rattle.prepared_grammars.specs.Prepared.{AreInOrder}
+use Rattle.scanless.specs.Pieces.{AreCandidates, ArePlaced, AreMatched, IsLongestBy, IsHighestOf, IsFit, AreLexemes}
 
 -- ---- the longest match
 

@@ -16,7 +16,8 @@ use Rattle.std.proofs.lemmas.Slice.Eq.{bytes_eq-Decides}
 use Rattle.grammar_model.specs.Values.{name_of}
 use Rattle.language_model.specs.Building.{Built}
 use Rattle.reading_model.specs.Reading.{AreSorted}
-use Rattle.scanless.specs.Pieces.{AreInOrder, AreLexemes}
+use Rattle.prepared_grammars.specs.Prepared.{AreInOrder}
+use Rattle.scanless.specs.Pieces.{AreLexemes}
 
 same_either_way : (o p : Ordering) → o ≡ ordering_reverse p → is_eq o ≡ is_eq p
 same_either_way o Less e = ap is_eq e

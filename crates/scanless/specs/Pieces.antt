@@ -13,12 +13,6 @@ use Rattle.dsl_build.specs.declared.built.LexemeRow.{LexemeRow as HeldRow}
 use Rattle.earley_sets.specs.Recognizer.{Recognizer, IsExpected}
 use Rattle.lexer.specs.Lexical.{LexicalForm}
 
--- the lexemes are in order of their symbols, each of which has a name of its own, and the first starts are theirs
-pub record AreInOrder (b : Built) : Type 0 where
-  pub ascend : IsStrictlySortedBy nat_cmp (map (λ (l : LexemeRow). l.symbol) b.lexemes)
-  pub differ : (l m : LexemeRow) → Contains b.lexemes l → Contains b.lexemes m → name_of b.g1 l.symbol ≡ name_of b.g1 m.symbol → l.symbol ≡ m.symbol
-  pub places : (k : ℕ) (l : LexemeRow) → slice_get b.lexemes k ≡ Some l → l.start ≡ k
-
 -- the start of each row is its place
 abbrev pub ArePlaced : List HeldRow → Type 0
 ArePlaced rows = (k : ℕ) (r : HeldRow) → slice_get rows k ≡ Some r → r.start ≡ k
@@ -39,14 +33,6 @@ AreCandidates b pieces starts = (start : ℕ) → Contains starts start ↔ IsCa
 pub record IsLongestBy (b : Built) (text : List ℕ) (pieces : List Piece) (at n : ℕ) (matched : List ℕ) : Type 0 where
   pub longest : IsLongest b text pieces at n
   pub exact : (start : ℕ) → Contains matched start ↔ (IsCandidate b pieces start × Matches b text start at (at + n))
-
--- the element goes last, if P holds
-abbrev pub AddsIf : {A : Type 0} → Type 0 → A → (old new : List A) → Type 0
-AddsIf P x old new = (P × (new ≡ old ++ x ∷ [])) ⊎ ((P → ⊥) × (new ≡ old))
-
--- the list has f of just those rows that have P
-abbrev pub Gathers : {A B : Type 0} → (A → Type 0) → (A → B) → List A → List B → Type 0
-Gathers {A} {B} P f rows xs = (y : B) → Contains xs y ↔ ((r : A) × Contains rows r × P r × (f r ≡ y))
 
 -- each symbol is that of a lexeme
 abbrev pub AreLexemes : Built → List ℕ → Type 0

@@ -5,13 +5,13 @@ ghost use Rattle.language_model.specs.Building.{LexemeRow as TheRow};
 ghost use Rattle.reading_model.specs.Matches.{Matches};
 ghost use Rattle.reading_model.specs.Reading.{Piece, IsLongest};
 ghost use Rattle.scanless.specs.Reading.{HoldsPieces};
-ghost use Rattle.scanless.specs.Pieces.{IsLexerOf, AreCandidates, AreMatched, IsLongestBy, Gathers};
+ghost use Rattle.prepared_grammars.specs.Gathered.{Gathers};
+ghost use Rattle.scanless.specs.Pieces.{IsLexerOf, AreCandidates, AreMatched, IsLongestBy};
 
-use crate::Prepared;
-use crate::lookups::add_starts;
 use earley_sets::Recce;
 use grammar_core::SymbolId;
 use lexer::{Lexer, Lexical, matches_are_the_grammars};
+use prepared_grammars::{Prepared, add_starts};
 use slif_base::Chars;
 use std::alloc::{AllocError, Global};
 

@@ -6,7 +6,8 @@ ghost use Rattle.earley_sets.specs.Recognizer.{IsExpected};
 ghost use Rattle.dsl_build.specs.declared.built.LexemeRow.{LexemeRow as HeldRow};
 ghost use Rattle.reading_model.specs.Reading.{Piece, IsKept, IsSkipped};
 ghost use Rattle.scanless.specs.Reading.{HoldsPieces, IsChosen};
-ghost use Rattle.scanless.specs.Pieces.{ArePlaced, IsLongestBy, IsRowAt, IsHighestOf, IsFit, IsBest, Gathers};
+ghost use Rattle.prepared_grammars.specs.Gathered.{Gathers};
+ghost use Rattle.scanless.specs.Pieces.{ArePlaced, IsLongestBy, IsRowAt, IsHighestOf, IsFit, IsBest};
 
 use crate::Prepared;
 use crate::candidates::Work;

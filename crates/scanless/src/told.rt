@@ -6,7 +6,8 @@ ghost use Rattle.earley_sets.specs.Recognizer.{IsExpected};
 ghost use Rattle.dsl_build.specs.declared.built.LexemeRow.{LexemeRow as HeldRow};
 ghost use Rattle.reading_model.specs.Reading.{Piece, AreFound, AreExpected};
 ghost use Rattle.scanless.specs.Reading.{HoldsPieces};
-ghost use Rattle.scanless.specs.Pieces.{ArePlaced, IsLongestBy, AddsIf, Gathers};
+ghost use Rattle.prepared_grammars.specs.Gathered.{AddsIf, Gathers};
+ghost use Rattle.scanless.specs.Pieces.{ArePlaced, IsLongestBy};
 
 use crate::Prepared;
 use crate::kept::{insert, row_at};

@@ -28,7 +28,7 @@ use Rattle.reading_model.specs.Reading.{Piece, edges_of}
 use Rattle.reading_laws.proofs.Reading.{reading_exists}
 use Rattle.language_model.specs.Building.{Built}
 use Rattle.language_model.specs.Texts.{IsBuilt}
-use Rattle.scanless.proofs.Ordered.{in_order}
+use Rattle.prepared_grammars.proofs.Ordered.{in_order}
 use Rattle.run_model.proofs.Inputs.{ReadingLaws}
 use Rattle.run_model.specs.Checking.{SymbolRow, IsRowOf}
 use Rattle.run_model.proofs.Texts.{GrammarLaws, RunLaws}

@@ -3,7 +3,7 @@ use Rattle.std.proofs.Common.{◌≡◌, ◌∙◌, ℕ, ◌≤◌, ◌<◌, Boo
 use Rattle.std.specs.Prelude.{IfErr}
 use Rattle.grammar_model.specs.Grammar.{Grammar}
 use Rattle.grammar_check.specs.declared.refusal.GrammarRefusal.{GrammarRefusal}
-use Rattle.scanless.specs.Faults.{IsSaid}
+use Rattle.prepared_grammars.specs.Faults.{IsSaid}
 use Rattle.grammar_check.specs.Message as check
 use Rattle.grammar_check.proofs.Saying.{refusal_told}
 use Rattle.dsl_faults.specs.Found.{first_of, refused_fault}

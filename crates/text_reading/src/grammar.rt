@@ -5,7 +5,7 @@ ghost use Rattle.language_model.specs.Building.{Built};
 ghost use Rattle.language_model.specs.Texts.{IsDescription, IsBuilt, IsBuiltOf};
 ghost use Rattle.reading_model.specs.Accepted.{IsAccepted};
 ghost use Rattle.run_model.specs.Refused.{Accepted};
-ghost use Rattle.scanless.specs.Faults.{IsRefusal};
+ghost use Rattle.prepared_grammars.specs.Faults.{IsRefusal};
 ghost use Rattle.text_reading.specs.Refusals.{TellsGrammar, IsRefusedAt, place_in, fault_at};
 ghost use Rattle.text_reading.specs.Parts.{IsDescriptionOf, IsBadText, IsBadDescription, IsFaultText, IsGrammarText};
 

@@ -5,7 +5,7 @@ ghost use Rattle.dsl_faults.specs.Found.{refused_fault};
 ghost use Rattle.language_model.specs.Building.{Built};
 ghost use Rattle.reading_model.specs.Accepted.{TooManyRules as TooMany};
 ghost use Rattle.run_model.specs.Refused.{at_place, grammar_text};
-ghost use Rattle.scanless.specs.Faults.{IsRefusal};
+ghost use Rattle.prepared_grammars.specs.Faults.{IsRefusal};
 ghost use Rattle.text_reading.specs.Refusals.{place_in, fault_at};
 ghost use Rattle.text_reading.specs.Parts.{IsFaultText, IsGrammarText};
 

@@ -1,6 +1,6 @@
 use Rattle.std.proofs.Common.{◌++◌, ap, subst, ◌∙◌}
 use Rattle.earley_sets.specs.Recognizer.{IsExpected}
-use Rattle.scanless.proofs.Finding.{AddsStarts, gathers_found}
+use Rattle.prepared_grammars.proofs.Finding.{AddsStarts, gathers_found}
 use Rattle.scanless.proofs.candidates.list_lexemes.Goals as goal
 
 pub returns : goal.returns

@@ -2,7 +2,7 @@ use Rattle.std.proofs.Common.{◌≡◌, true, ◌++◌, ◌∷◌, [], inl, inr
 use Rattle.std.proofs.lemmas.Result.{on_ok_weaker}
 use Rattle.dsl_build.specs.declared.built.LexemeRow.{LexemeRow as HeldRow}
 use Rattle.scanless.specs.Pieces.{IsBest}
-use Rattle.scanless.proofs.Gathering.{gathers_same, gathers_with}
+use Rattle.prepared_grammars.proofs.Gathering.{gathers_same, gathers_with}
 use Rattle.scanless.proofs.Highest.{fit_still, fit_same, fit_row, fit_more}
 use Rattle.scanless.proofs.Results.{is_none}
 use Rattle.scanless.proofs.kept.keep.Goals as goal

@@ -4,8 +4,9 @@ use Rattle.std.specs.Ordering.{nat_cmp}
 use Rattle.std.proofs.lemmas.List.{take_more, take_all}
 use Rattle.finite_sets.proofs.Lists.{Contains-none}
 use Rattle.dsl_build.specs.declared.built.LexemeRow.{LexemeRow as HeldRow}
-use Rattle.scanless.specs.Pieces.{Gathers, IsBest}
-use Rattle.scanless.proofs.Gathering.{gathers_never}
+use Rattle.prepared_grammars.specs.Gathered.{Gathers}
+use Rattle.scanless.specs.Pieces.{IsBest}
+use Rattle.prepared_grammars.proofs.Gathering.{gathers_never}
 use Rattle.scanless.proofs.kept.keep_all.Goals as goal
 use Rattle.lexer.proofs.Sorted.{sorted_none}
 

@@ -2,7 +2,8 @@ use Rattle.std.proofs.Common.{take}
 use Rattle.std.specs.List.Sorted.{IsStrictlySortedBy}
 use Rattle.std.specs.Ordering.{nat_cmp}
 use Rattle.dsl_build.specs.declared.built.LexemeRow.{LexemeRow as HeldRow}
-use Rattle.scanless.specs.Pieces.{Gathers, IsBest}
+use Rattle.prepared_grammars.specs.Gathered.{Gathers}
+use Rattle.scanless.specs.Pieces.{IsBest}
 use Rattle.scanless.proofs.kept.keep_all.Given as goal
 
 abbrev pub invariant-loop-start : goal.invariant-loop-start

@@ -3,8 +3,9 @@ use Rattle.std.specs.List.Sorted.{IsStrictlySortedBy}
 use Rattle.std.specs.Ordering.{nat_cmp}
 use Rattle.earley_sets.specs.Recognizer.{IsExpected}
 use Rattle.dsl_build.specs.declared.built.LexemeRow.{LexemeRow as HeldRow}
-use Rattle.scanless.specs.Pieces.{Gathers}
-use Rattle.scanless.proofs.Gathering.{gathers_none, gathers_more, gathers_all, sorted_more}
+use Rattle.prepared_grammars.specs.Gathered.{Gathers}
+use Rattle.prepared_grammars.proofs.Gathering.{gathers_none, gathers_more, gathers_all}
+use Rattle.scanless.proofs.Ascending.{sorted_more}
 use Rattle.scanless.proofs.told.add_all_expected.Goals as goal
 use Rattle.lexer.proofs.Sorted.{sorted_none}
 

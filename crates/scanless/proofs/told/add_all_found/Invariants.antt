@@ -2,7 +2,7 @@ use Rattle.std.proofs.Common.{take, Contains}
 use Rattle.std.specs.List.Sorted.{IsStrictlySortedBy}
 use Rattle.std.specs.Ordering.{nat_cmp}
 use Rattle.dsl_build.specs.declared.built.LexemeRow.{LexemeRow as HeldRow}
-use Rattle.scanless.specs.Pieces.{Gathers}
+use Rattle.prepared_grammars.specs.Gathered.{Gathers}
 use Rattle.scanless.proofs.told.add_all_found.Given as goal
 
 abbrev pub invariant-loop-start : goal.invariant-loop-start

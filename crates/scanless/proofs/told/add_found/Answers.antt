@@ -2,7 +2,7 @@ use Rattle.std.proofs.Common.{◌++◌, ◌∷◌, [], inl, inr, Contains, sym, 
 use Rattle.std.proofs.lemmas.List.Elements.{Contains-append_left, Contains-push, Contains-push_cases}
 use Rattle.std.proofs.lemmas.Result.{on_ok_weaker}
 use Rattle.dsl_build.specs.declared.built.LexemeRow.{LexemeRow as HeldRow}
-use Rattle.scanless.proofs.Gathering.{gathers_same, gathers_with}
+use Rattle.prepared_grammars.proofs.Gathering.{gathers_same, gathers_with}
 use Rattle.scanless.proofs.Results.{is_none}
 use Rattle.scanless.proofs.told.add_found.Goals as goal
 

@@ -1,6 +1,6 @@
 use Rattle.std.proofs.Common.{subst}
 use Rattle.std.proofs.lemmas.Result.{IfOk-weaker}
-use Rattle.scanless.specs.Faults.{IsRefusal}
+use Rattle.prepared_grammars.specs.Faults.{IsRefusal}
 use Rattle.text_reading.proofs.Refusing.{structural_text, lexical_text, rules_text}
 use Rattle.text_reading.proofs.phrases.grammars_text.Goals as goal
 

@@ -1,0 +1,5 @@
+pub mod Abilities
+pub mod Faults
+pub mod Gathered
+pub mod Lookups
+pub mod Prepared

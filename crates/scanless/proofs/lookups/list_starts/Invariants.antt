@@ -1,7 +1,0 @@
-use Rattle.std.proofs.Common.{◌≡◌, length, take, map}
-use Rattle.dsl_build.specs.Tables.{row_of}
-use Rattle.scanless.specs.Lookups.{AreStarts}
-use Rattle.scanless.proofs.lookups.list_starts.Given as goal
-
-abbrev pub invariant-loop-row : goal.invariant-loop-row
-invariant-loop-row l = AreStarts (take l.row-index (map row_of l.rows)) l.starts.items × (length l.starts.items ≡ l.count)

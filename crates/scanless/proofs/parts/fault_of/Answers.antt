@@ -1,6 +1,0 @@
-use Rattle.std.proofs.Common.{refl}
-use Rattle.scanless.proofs.Faults.{said}
-use Rattle.scanless.proofs.parts.fault_of.Goals as goal
-
-pub returns-in_default : goal.returns-in_default
-returns-in_default c = λ g told of. (refl, said g c.args.refusal told of c.in_default.not-NoMemory)
