@@ -50,11 +50,11 @@ impl Semantics for Arithmetic {
 
     type Error = CalculationError;
 
-    ghost token_gives = { λ _ _ _. Unit {0} };
+    ghost token_gives = { λ _ _ _ _ _ _. Unit {0} };
 
-    ghost nulled_gives = { λ _ _. Unit {0} };
+    ghost nulled_gives = { λ _ _ _ _ _. Unit {0} };
 
-    ghost rule_gives = { λ _ _ _ _. Unit {0} };
+    ghost rule_gives = { λ _ _ _ _ _ _. Unit {0} };
 
     fn token(&mut self, token: Token<'_>) -> Result<Value, CalculationError> {
         let column = token.start.saturating_add(1);

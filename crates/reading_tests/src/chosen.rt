@@ -1,9 +1,9 @@
 //! Chosen derivations, under a ranking that keeps only the best ranks: their trees, and the numbers of their forests, all worked by
 //! hand.
 use crate::forests::RANKED;
-use crate::grammars::{Language, PIECES};
-use crate::readings::{Input, Row, Wanted, are_rows};
+use crate::readings::{Row, Wanted};
 use grammar_model::Ranking;
+use row_readings::{Input, Language, PIECES, are_rows};
 use std::test::Fail;
 
 // S -> T T, T -> x with a higher rank | x x

@@ -3,12 +3,12 @@ ghost use Rattle.std.specs.Prelude.{◌≡◌, IsSome};
 ghost use Rattle.recognizer_model.specs.Links.{choices};
 ghost use Rattle.reading_tests.specs.Sums.{left_first, right_first};
 
-use crate::grammars::{COMMAS, HIGH, LOW, PIECES, SUM};
 use crate::lines::line_text;
-use crate::readings::{Input, Row, Wanted, are_rows, is_row};
+use crate::readings::{Row, Wanted};
 use bocage::Forest;
 use grammar_core::{SymbolId, TreeStep, Written};
 use grammar_model::Ranking;
+use row_readings::{COMMAS, HIGH, Input, LOW, PIECES, SUM, are_rows, is_row};
 use slif_base::Steps;
 use std::alloc::{AllocError, Global};
 use std::sync::ledger::Ledger;

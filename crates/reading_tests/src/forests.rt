@@ -2,11 +2,11 @@
 //! counted by hand.
 ghost use Rattle.std.specs.Prelude.{◌≡◌, ◌+◌, ◌<◌, length};
 
-use crate::grammars::{COMMAS, HIGH, LOW, Language, PIECES, SUM};
-use crate::readings::{Input, Row, Wanted, are_rows};
+use crate::readings::{Row, Wanted};
 use bocage::{Alternatives, Cause, Forest};
 use grammar_core::{FlatSource, RuleId};
 use grammar_model::Ranking;
+use row_readings::{COMMAS, HIGH, Input, LOW, Language, PIECES, SUM, are_rows};
 use slif_base::Steps;
 use std::alloc::{AllocError, Global};
 use std::sync::ledger::Ledger;

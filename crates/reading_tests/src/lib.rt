@@ -4,13 +4,9 @@
 #[cfg(test)]
 mod chosen;
 #[cfg(test)]
-mod cursors;
-#[cfg(test)]
 mod derivations;
 #[cfg(test)]
 mod forests;
-#[cfg(test)]
-mod grammars;
 #[cfg(test)]
 mod lengths;
 #[cfg(test)]

@@ -4,12 +4,13 @@ ghost use Rattle.grammar_model.specs.Simple.{IsSimple};
 ghost use Rattle.grammar_model.specs.declared.Assoc.TheVariants.{Left as AtLeft};
 
 use crate::derivations::{OPERANDS, Style, name_of, texts_of};
-use crate::readings::{Input, Wanted, is_so};
+use crate::readings::Wanted;
 use anyhow::bail;
 use bocage::Forest;
 use grammar_core::{Assoc, Rule, RuleId, SymbolId, TreeStep, Written, WrittenRule};
 use grammar_model::Ranking;
 use plain_lister::{SlowList, list_simple};
+use row_readings::{Input, is_so};
 use slif_base::Steps;
 use std::alloc::{AllocError, Global};
 use std::sync::ledger::Ledger;

@@ -1,8 +1,8 @@
 //! The numbers of readings: their places, the items that are kept, the nodes of their forests, and the hidden items that are given for
 //! them, all counted from the rules of item sets.
-use crate::grammars::{LOW, Language, SUM};
-use crate::readings::{Input, Row, Wanted, are_rows};
+use crate::readings::{Row, Wanted};
 use grammar_model::Ranking;
+use row_readings::{Input, LOW, Language, SUM, are_rows};
 use std::test::Fail;
 
 // L -> x L | x

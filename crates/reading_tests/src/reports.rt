@@ -1,12 +1,12 @@
 //! Reports of small grammars at each place, which are worked by hand from Earley's sets.
 ghost use Rattle.recognizer_model.specs.FlatForm.{IsFlatOf};
 
-use crate::grammars::{COMMAS, LOW, Language, SUM};
-use crate::readings::{Input, Row, Wanted, is_row};
+use crate::readings::{Row, Wanted};
 use earley_sets::Recce;
 use grammar_core::Written;
 use grammar_model::Ranking;
 use progress::{ProgressRefusal, ReportLine, report};
+use row_readings::{COMMAS, Input, LOW, Language, SUM, is_row};
 use std::alloc::Global;
 use std::test::Fail;
 

@@ -12,7 +12,7 @@ use Rattle.scanless.specs.Reading.{span_of}
 use Rattle.tree_iter.specs.Iteration.{AreGiven, begun}
 use Rattle.text_reading.specs.Parts.{HasForest}
 use Rattle.valuator.specs.Play.{tokens_of}
-use Rattle.tree_fold.specs.Values.{HasValue, Fails}
+use Rattle.tree_fold.specs.Values.{HasValue, Fails, IsAsked}
 use Rattle.slif_parser.specs.Views.{Read, ForestOf, DerivationsOf}
 
 -- the bytes are read to their end in these pieces, and this is seen of it
@@ -51,10 +51,23 @@ IsNext new given false = AreAll new given
 
 -- THE VALUE OF THE CURRENT DERIVATION
 
-module _ {V E : Type 0} (token_gives : List ℕ → Token → Result V E → Type 0) (nulled_gives : List ℕ → Result V E → Type 0)
-    (rule_gives : ℕ → List ℕ → List V → Result V E → Type 0) (d : DerivationsOf) where
-  abbrev pub ValueBy : V → Type 0
-  ValueBy v = (t : Tree) → d.iteration.current ≡ Some (steps_of t) → HasValue token_gives nulled_gives rule_gives d.read.grammar.g1 (tokens_of d.read.characters d.read.spans) t v
+module _ {S V E : Type 0} (token_gives : S → S → ℕ → List ℕ → Token → Result V E → Type 0)
+    (nulled_gives : S → S → ℕ → List ℕ → Result V E → Type 0)
+    (rule_gives : S → S → ℕ → List ℕ → List V → Result V E → Type 0) (d : DerivationsOf) where
+  abbrev tokens : List Token
+  tokens = tokens_of d.read.characters d.read.spans
 
-  abbrev pub FailsBy : E → Type 0
-  FailsBy e = IfSome d.iteration.current (λ steps. Fails token_gives nulled_gives rule_gives d.read.grammar.g1 (tokens_of d.read.characters d.read.spans) steps e)
+  -- the tree of the derivation has the value, and the semantics goes from one state to the other
+  abbrev pub ValueBy : (before : S) → V → (after : S) → Type 0
+  ValueBy before v after = (t : Tree) → d.iteration.current ≡ Some (steps_of t) →
+      HasValue token_gives nulled_gives rule_gives d.read.grammar.g1 tokens t before v after
+
+  -- one of its steps gives the error
+  abbrev pub FailsBy : (before : S) → E → (after : S) → Type 0
+  FailsBy before e after = IfSome d.iteration.current
+      (λ steps. Fails token_gives nulled_gives rule_gives d.read.grammar.g1 tokens steps before e after)
+
+  -- it was asked for the first of its steps
+  abbrev pub IsAskedBy : (before after : S) → Type 0
+  IsAskedBy before after = IfSome d.iteration.current
+      (λ steps. IsAsked token_gives nulled_gives rule_gives d.read.grammar.g1 tokens steps before after)

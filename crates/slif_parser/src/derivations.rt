@@ -5,7 +5,7 @@ ghost use Rattle.grammar_core.specs.Steps.{step_of};
 ghost use Rattle.tree_iter.specs.Iteration.{AreGiven, IsAnswer, between, begun};
 ghost use Rattle.text_reading.specs.Parts.{HasForest};
 ghost use Rattle.tree_fold.specs.Failing.{IsFailure};
-ghost use Rattle.slif_parser.specs.Readings.{IsNext, IsPrefixOfAll, ValueBy, FailsBy};
+ghost use Rattle.slif_parser.specs.Readings.{IsNext, IsPrefixOfAll, ValueBy, FailsBy, IsAskedBy};
 
 use crate::{FoldError, NoMemory, Semantics, Span, TreeStep};
 use scanless::Prepared;
@@ -102,16 +102,18 @@ impl<'f> Derivations<'f> {
         self.iter.current_steps()
     }
 
-    /// The value of the current derivation by a semantics of the caller's own, which is asked for its parts from the left, children before
-    /// their rule. Values wait on one stack.
+    /// The value of the current derivation by a semantics of the caller's own, which is asked once for each of its parts, from the left,
+    /// children before their rule, up to the first error. Values wait on one stack.
     pub fn fold<S: Semantics>(
         &self,
         alloc: Global,
         semantics: &mut S,
     ) -> Result<S::Value, FoldError<S::Error>>
         requires { IsSome self.now.iteration.current }
-        ensures value { IfOk result (ValueBy S.token_gives S.nulled_gives S.rule_gives self.now) }
-        ensures failure { IfErr result (IsFailure (FailsBy S.token_gives S.nulled_gives S.rule_gives self.now)) }
+        ensures value { IfOk result (λ v. ValueBy S.token_gives S.nulled_gives S.rule_gives self.now semantics.old v semantics.new) }
+        ensures failure { IfErr result (IsFailure
+            (λ e. FailsBy S.token_gives S.nulled_gives S.rule_gives self.now semantics.old e semantics.new)
+            (IsAskedBy S.token_gives S.nulled_gives S.rule_gives self.now semantics.old semantics.new)) }
     {
         self.prepared.known();
         fold_steps(

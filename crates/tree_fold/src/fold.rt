@@ -7,7 +7,7 @@ ghost use Rattle.grammar_model.specs.Values.{name_of, token_at};
 ghost use Rattle.grammar_core.specs.Steps.{step_of};
 ghost use Rattle.grammar_core.specs.Written.{rule_of};
 ghost use Rattle.valuator.specs.Play.{AreSpans, AreSteps, CanTell, tokens_of};
-ghost use Rattle.tree_fold.specs.Values.{token_told, HasValue, Gives, Fails, left_of};
+ghost use Rattle.tree_fold.specs.Values.{token_told, HasValue, Gives, Fails, IsAsked, left_of};
 ghost use Rattle.tree_fold.specs.Failing.{IsFailure};
 
 use crate::{FoldError, Semantics, Token};
@@ -27,6 +27,7 @@ fn token_of<'p>(text: &Text<'p>, symbol: SymbolId, from: u32) -> Token<'p>
     requires spans { AreSpans (length text.now.chars.now) text.now.spans.now }
     requires symbol { symbol < length text.now.w.now.names }
     requires from { from < length text.now.spans.now }
+    ensures symbol { result.symbol ≡ symbol }
     ensures name { result.name.now ≡ name_of text.now.w.now symbol }
     ensures token { token_told result ≡ token_at (tokens_of text.now.chars.now text.now.spans.now) from }
 {
@@ -49,9 +50,13 @@ fn make<S: Semantics>(
 ) -> Result<S::Value, FoldError<S::Error>>
     requires spans { AreSpans (length text.now.chars.now) text.now.spans.now }
     requires step { CanTell text.now.w.now (length text.now.spans.now) (length held.old.items) (step_of step) }
-    ensures value { IfOk result (λ v. Gives S.token_gives S.nulled_gives S.rule_gives text.now.w.now (tokens_of text.now.chars.now text.now.spans.now) held.old.items (step_of step) (Ok v)) }
+    ensures value { IfOk result (λ v. Gives S.token_gives S.nulled_gives S.rule_gives text.now.w.now (tokens_of text.now.chars.now text.now.spans.now)
+        semantics.old held.old.items (step_of step) (Ok v) semantics.new) }
     ensures left { OnOk result (held.new.items ≡ left_of held.old.items (step_of step)) }
-    ensures failure { IfErr result (IsFailure (λ e. Gives S.token_gives S.nulled_gives S.rule_gives text.now.w.now (tokens_of text.now.chars.now text.now.spans.now) held.old.items (step_of step) (Err e))) }
+    ensures failure { IfErr result (IsFailure
+        (λ e. Gives S.token_gives S.nulled_gives S.rule_gives text.now.w.now (tokens_of text.now.chars.now text.now.spans.now)
+        semantics.old held.old.items (step_of step) (Err e) semantics.new)
+        (semantics.new ≡ semantics.old)) }
 {
     let made = match step {
         TreeStep::Token { symbol, from, .. } => semantics.token(token_of(text, symbol, from)),
@@ -65,7 +70,8 @@ fn make<S: Semantics>(
     made.map_err(FoldError::Semantics)
 }
 
-/// The value of the derivation that has these steps, over a grammar and the tokens of a text. It holds one stack of values.
+/// The value of the derivation that has these steps, over a grammar and the tokens of a text. The semantics is asked once for each step,
+/// in order, up to the first error. It holds one stack of values.
 pub fn fold_steps<S: Semantics>(
     alloc: Global,
     w: &Written,
@@ -76,8 +82,11 @@ pub fn fold_steps<S: Semantics>(
 ) -> Result<S::Value, FoldError<S::Error>>
     requires spans { AreSpans (length chars.now) spans.now }
     requires steps { AreSteps w.now (length spans.now) (map step_of steps.now) }
-    ensures value { IfOk result (λ v. (t : Tree) → map step_of steps.now ≡ steps_of t → HasValue S.token_gives S.nulled_gives S.rule_gives w.now (tokens_of chars.now spans.now) t v) }
-    ensures failure { IfErr result (IsFailure (Fails S.token_gives S.nulled_gives S.rule_gives w.now (tokens_of chars.now spans.now) (map step_of steps.now))) }
+    ensures value { IfOk result (λ v. (t : Tree) → map step_of steps.now ≡ steps_of t →
+        HasValue S.token_gives S.nulled_gives S.rule_gives w.now (tokens_of chars.now spans.now) t semantics.old v semantics.new) }
+    ensures failure { IfErr result (IsFailure
+        (λ e. Fails S.token_gives S.nulled_gives S.rule_gives w.now (tokens_of chars.now spans.now) (map step_of steps.now) semantics.old e semantics.new)
+        (IsAsked S.token_gives S.nulled_gives S.rule_gives w.now (tokens_of chars.now spans.now) (map step_of steps.now) semantics.old semantics.new)) }
 {
     w.known();
     let text = Text { w, chars, spans };

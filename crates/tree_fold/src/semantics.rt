@@ -15,8 +15,8 @@ pub struct Token<'t> {
     pub length: u32,
 }
 
-/// What is made of the parts of a derivation. `*_gives` say what may come of a part, a value or an error: each is all that a proof knows
-/// of a call. Who proves nothing of a semantics lets them hold of everything.
+/// What is made of the parts of a derivation. `*_gives` say what may come of a part, a value or an error, and to which state the
+/// semantics goes from which: each is all that a proof knows of a call. Who proves nothing of a semantics lets them hold of everything.
 pub trait Semantics {
     ghost use Rattle.std.specs.Prelude.{ℕ, List, Result};
     ghost use Rattle.grammar_model.specs.Values.{Token as TokenOf};
@@ -26,19 +26,19 @@ pub trait Semantics {
 
     type Error: Drop;
 
-    ghost token_gives: { (name : List ℕ) (token : TokenOf) → Result Self.Value Self.Error → Type 0 };
+    ghost token_gives: { (before after : Self) (symbol : ℕ) (name : List ℕ) (token : TokenOf) → Result Self.Value Self.Error → Type 0 };
 
-    ghost nulled_gives: { (name : List ℕ) → Result Self.Value Self.Error → Type 0 };
+    ghost nulled_gives: { (before after : Self) (symbol : ℕ) (name : List ℕ) → Result Self.Value Self.Error → Type 0 };
 
-    ghost rule_gives: { (rule : ℕ) (name : List ℕ) (children : List Self.Value) → Result Self.Value Self.Error → Type 0 };
+    ghost rule_gives: { (before after : Self) (rule : ℕ) (name : List ℕ) (children : List Self.Value) → Result Self.Value Self.Error → Type 0 };
 
     /// Of a token.
     fn token(&mut self, token: Token<'_>) -> Result<Self::Value, Self::Error>
-        ensures { token_gives token.entry.name.now (token_told token.entry) result };
+        ensures { token_gives self.old self.new token.entry.symbol token.entry.name.now (token_told token.entry) result };
 
     /// Of a symbol that spans nothing.
     fn nulled(&mut self, symbol: SymbolId, name: &str) -> Result<Self::Value, Self::Error>
-        ensures { nulled_gives name.now result };
+        ensures { nulled_gives self.old self.new symbol name.now result };
 
     /// Of a rule, with the name of its left side, and the values of its children, from the left.
     fn rule(
@@ -47,7 +47,7 @@ pub trait Semantics {
         name: &str,
         children: Vec<Self::Value>,
     ) -> Result<Self::Value, Self::Error>
-        ensures { rule_gives rule name.now children.items result };
+        ensures { rule_gives self.old self.new rule name.now children.items result };
 }
 
 /// Why a derivation has no value.

@@ -10,11 +10,11 @@ impl Semantics for Differences {
 
     type Error = NoMemory;
 
-    ghost token_gives = { λ _ _ _. Unit {0} };
+    ghost token_gives = { λ _ _ _ _ _ _. Unit {0} };
 
-    ghost nulled_gives = { λ _ _. Unit {0} };
+    ghost nulled_gives = { λ _ _ _ _ _. Unit {0} };
 
-    ghost rule_gives = { λ _ _ _ _. Unit {0} };
+    ghost rule_gives = { λ _ _ _ _ _ _. Unit {0} };
 
     fn token(&mut self, token: Token<'_>) -> Result<i64, NoMemory> {
         Ok(token.text.parse::<i64>().unwrap_or(0))

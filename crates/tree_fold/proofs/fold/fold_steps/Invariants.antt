@@ -6,6 +6,6 @@ use Rattle.tree_fold.proofs.fold.fold_steps.Given as goal
 
 abbrev pub invariant-loop-step : goal.invariant-loop-step
 invariant-loop-step g l = record {
-  holds : Holds g.S.Semantics.token_gives g.S.Semantics.nulled_gives g.S.Semantics.rule_gives l.w (tokens_of l.chars l.spans) l.steps l.step-index l.held.items;
+  holds : Holds g.S.Semantics.token_gives g.S.Semantics.nulled_gives g.S.Semantics.rule_gives l.w (tokens_of l.chars l.spans) l.steps l.step-index l.initial.semantics l.held.items l.semantics;
   can : CanTellAll l.w (length l.spans) (length l.held.items) (map step_of (drop l.step-index l.steps));
 }

@@ -1,11 +1,11 @@
 //! Cursors of derivations, told by hand: written, and read again; and texts that are none.
 ghost use Rattle.std.specs.Prelude.{◌≡◌};
 
-use crate::grammars::{COMMAS, HIGH, LOW, SUM};
-use crate::readings::{Input, Row, Wanted, are_rows};
+use crate::readings::{Row, Wanted};
 use bocage::Forest;
 use grammar_core::TreeStep;
 use grammar_model::Ranking;
+use row_readings::{COMMAS, HIGH, Input, LOW, SUM, are_rows};
 use slif_base::Steps;
 use std::alloc::{AllocError as NoMemory, Global};
 use std::sync::ledger::Ledger;

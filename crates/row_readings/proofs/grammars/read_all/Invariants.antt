@@ -1,5 +1,5 @@
 use Rattle.std.proofs.Common.{◌≡◌}
-use Rattle.reading_tests.proofs.grammars.read_all.Given as goal
+use Rattle.row_readings.proofs.grammars.read_all.Given as goal
 
 abbrev pub invariant-loop-token : goal.invariant-loop-token
 invariant-loop-token g l = l.recce.flat ≡ l.initial.recce.flat

@@ -15,28 +15,28 @@ use std::sync::ledger::Ledger;
 const MOST_PLACES: u32 = 16_777_216;
 
 /// A left side, its parts, a rank, and whether a nulled last part comes first.
-pub(crate) type Line = (u32, &'static [u32], i32, bool);
+pub type Line = (u32, &'static [u32], i32, bool);
 
 /// A left side, its item, and its separator.
-pub(crate) type List = (u32, u32, Option<u32>);
+pub type List = (u32, u32, Option<u32>);
 
 /// The names of the symbols, of which the first is the start, the rules and the lists.
 #[derive(Clone, Copy)]
-pub(crate) struct Language {
+pub struct Language {
     pub names: &'static [&'static str],
     pub lines: &'static [Line],
     pub lists: &'static [List],
 }
 
 /// E -> E '+' E | N
-pub(crate) const SUM: Language = Language {
+pub const SUM: Language = Language {
     names: &["E", "N", "+"],
     lines: &[(0, &[0, 2, 0], 0, false), (0, &[1], 0, false)],
     lists: &[],
 };
 
 /// S -> B B, B -> a, B ->
-pub(crate) const LOW: Language = Language {
+pub const LOW: Language = Language {
     names: &["S", "B", "a"],
     lines: &[
         (0, &[1, 1], 0, false),
@@ -47,7 +47,7 @@ pub(crate) const LOW: Language = Language {
 };
 
 /// The same, with nulled last parts first.
-pub(crate) const HIGH: Language = Language {
+pub const HIGH: Language = Language {
     names: &["S", "B", "a"],
     lines: &[
         (0, &[1, 1], 0, true),
@@ -58,14 +58,14 @@ pub(crate) const HIGH: Language = Language {
 };
 
 /// L is a list of x, with a comma between each two
-pub(crate) const COMMAS: Language = Language {
+pub const COMMAS: Language = Language {
     names: &["L", "x", ","],
     lines: &[],
     lists: &[(0, 1, Some(2))],
 };
 
 /// L is a list of I; I -> a | a a
-pub(crate) const PIECES: Language = Language {
+pub const PIECES: Language = Language {
     names: &["L", "I", "a"],
     lines: &[(1, &[2], 0, false), (1, &[2, 2], 0, false)],
     lists: &[(0, 1, None)],
@@ -97,7 +97,7 @@ fn add_list(w: &mut Written, list: &List) -> Result<RuleId, CoreRefusal> {
 }
 
 /// The grammar of the rules.
-pub(crate) fn written_of(alloc: Global, language: &Language) -> Result<Written, CoreRefusal> {
+pub fn written_of(alloc: Global, language: &Language) -> Result<Written, CoreRefusal> {
     let mut w = Written::new(alloc);
     for name in language.names {
         w.symbol_new(name)?;
@@ -113,7 +113,7 @@ pub(crate) fn written_of(alloc: Global, language: &Language) -> Result<Written, 
 }
 
 /// The flat grammar of a grammar that passes the check.
-pub(crate) fn flat_of(alloc: Global, w: &Written) -> Result<Flat, anyhow::Error>
+pub fn flat_of(alloc: Global, w: &Written) -> Result<Flat, anyhow::Error>
     ensures checked { OnOk result (IsChecked w.now) }
     ensures flat { IfOk result (λ f. IsFlatOf f w.now) }
     ensures start { IfOk result (λ f. 0 < length f.tops) }
@@ -129,7 +129,7 @@ pub(crate) fn flat_of(alloc: Global, w: &Written) -> Result<Flat, anyhow::Error>
 }
 
 /// Takes a token that begins at the place.
-pub(crate) fn take(recce: &mut Recce<'_>, token: u32, length: u32) -> Result<(), anyhow::Error>
+pub fn take(recce: &mut Recce<'_>, token: u32, length: u32) -> Result<(), anyhow::Error>
     ensures { recce.new.flat ≡ recce.old.flat }
 {
     if recce.place() >= MOST_PLACES {
@@ -140,10 +140,7 @@ pub(crate) fn take(recce: &mut Recce<'_>, token: u32, length: u32) -> Result<(),
 }
 
 /// Goes on to the next place.
-pub(crate) fn go_on<L: Ledger>(
-    recce: &mut Recce<'_>,
-    steps: &mut Steps<L>,
-) -> Result<(), anyhow::Error>
+pub fn go_on<L: Ledger>(recce: &mut Recce<'_>, steps: &mut Steps<L>) -> Result<(), anyhow::Error>
     ensures { recce.new.flat ≡ recce.old.flat }
 {
     if recce.place() >= MOST_PLACES {
@@ -154,7 +151,7 @@ pub(crate) fn go_on<L: Ledger>(
 }
 
 /// Reads tokens that are one place long.
-pub(crate) fn read_all<L: Ledger>(
+pub fn read_all<L: Ledger>(
     recce: &mut Recce<'_>,
     tokens: &[u32],
     steps: &mut Steps<L>,

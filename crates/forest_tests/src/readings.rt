@@ -1,0 +1,53 @@
+//! What is asked of forests: the cursors of their derivations, and their glades.
+use crate::cursors::have_cursors;
+use crate::glades::{Told, has_glades};
+use bocage::Forest;
+use earley_sets::Recce;
+use grammar_core::Written;
+use grammar_model::Ranking;
+use row_readings::Question;
+use slif_base::Steps;
+use std::alloc::{AllocError, Global};
+use std::sync::ledger::Ledger;
+
+/// What a forest has.
+#[derive(Clone, Copy)]
+pub(crate) enum Wanted<'a> {
+    Cursors(&'a [&'a str]),
+    Glades(&'a [Told]),
+}
+
+/// A grammar, what is read by it, the ranking, and what the forest has.
+pub(crate) type Row<'a> = row_readings::Row<'a, Wanted<'a>>;
+
+impl<'a, L: Ledger> Question<L> for Wanted<'a> {
+    fn wants_none(&self) -> bool {
+        false
+    }
+
+    fn of_recce(
+        &self,
+        _alloc: Global,
+        _w: &Written,
+        _recce: &Recce<'_>,
+    ) -> Result<Option<bool>, anyhow::Error> {
+        Ok(None)
+    }
+
+    fn of_forest(
+        &self,
+        alloc: Global,
+        w: &Written,
+        ranking: Ranking,
+        forest: &Forest<'_>,
+        steps: &mut Steps<L>,
+    ) -> Result<bool, AllocError> {
+        match self {
+            Wanted::Cursors(cursors) => have_cursors(alloc, forest, cursors, steps),
+            Wanted::Glades(glades) => match ranking {
+                Ranking::Rule => has_glades(alloc, forest, w, glades, steps),
+                _ => Ok(false),
+            },
+        }
+    }
+}
