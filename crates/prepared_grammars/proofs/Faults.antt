@@ -1,21 +1,19 @@
 -- From the faults of each step to those of the grammars.
-use Rattle.std.proofs.Common.{◌≡◌, ◌<◌, true, false, length, map, Option, Some, None, refl, subst, arith, List}
+use Rattle.std.proofs.Common.{◌≡◌, ◌<◌, true, false, length, Option, Some, None, subst, arith, List}
 use Rattle.grammar_model.specs.Grammar.{Grammar}
-use Rattle.grammar_model.specs.Checked as model
 use Rattle.grammar_model.specs.Checked.{IsChecked}
 use Rattle.recognizer_model.specs.Flat.{FlatGrammar}
 use Rattle.recognizer_model.specs.FlatForm.{IsFlatOf}
 use Rattle.flat_model.specs.Flattened.{IsFlattened}
 pub use Rattle.flat_rules.proofs.Counted.{few_rules, many_rules}
 use Rattle.language_model.specs.Building.{Built}
-use Rattle.grammar_check.specs.declared.refusal.GrammarRefusal.{GrammarRefusal}
 pub use Rattle.grammar_check.proofs.Saying.{said}
 use Rattle.reading_model.specs.Accepted.{AreChecked, HasFewRules, HasTooManyRules}
 use Rattle.prepared_grammars.specs.declared.abilities.Ability.{Ability}
 use Rattle.prepared_grammars.specs.declared.parts.Fault.{Fault}
 use Rattle.prepared_grammars.specs.declared.parts.Fault.TheVariants.{Refused, TooManyRules as FaultTooMany, NoMemory as FaultNoMemory}
 use Rattle.prepared_grammars.specs.Abilities.{AreAbilities}
-use Rattle.prepared_grammars.specs.Faults.{IsSaid, IsFault, IsRefusedBy, IsOverfull, IsCheckedLexical, IsFlatLexical, IsLexicalOverfull}
+use Rattle.prepared_grammars.specs.Faults.{IsFault, IsRefusedBy, IsOverfull, IsCheckedLexical, IsFlatLexical, IsLexicalOverfull}
 use Rattle.prepared_grammars.specs.Prepared.{AreParts, IsLexicalForm}
 
 -- FAULTS

@@ -1,7 +1,10 @@
 -- Lists that gather what rows have, row after row.
-use Rattle.std.proofs.Common.{arith, ◌≡◌, ◌↔◌, ◌⊎◌, inl, inr, ℕ, ◌+◌, ◌<◌, ◌≤◌, List, [], ◌∷◌, ◌++◌, length, take, get_or, Contains, sym, ◌∙◌, ap, subst}
-use Rattle.std.proofs.lemmas.List.{take_more, take_all}
+use Rattle.std.proofs.Common.{arith, ◌≡◌, ◌↔◌, ◌⊎◌, inl, inr, ℕ, ◌+◌, ◌<◌, ◌≤◌, List, [], ◌∷◌, ◌++◌, length, map, take, get_or, Contains, sym, ◌∙◌, ap, subst}
+use Rattle.std.proofs.lemmas.List.{take_more, take_all, get_or-take, get_or-map, length-take-le, length-map}
 use Rattle.std.proofs.lemmas.List.Elements.{Contains-append_left, Contains-push, Contains-push_cases}
+use Rattle.std.specs.List.Sorted.{IsStrictlySortedBy}
+use Rattle.std.specs.Ordering.{nat_cmp}
+use Rattle.std.proofs.lemmas.Map.Keys.{below_from_sorted}
 use Rattle.prepared_grammars.specs.Gathered.{AddsIf, Gathers}
 
 -- ---- one element more
@@ -51,3 +54,16 @@ module _ {A B : Type 0} (f : A → B) (rows : List A) (P : A → Type 0) where
       (λ c. elim ((same y).0 c) [ inl o ↦ (let (r, m, p, is) = (g y).0 o in (r, m, on r m p, is)) | inr e ↦ (row, there, q, sym e) ]),
       (λ (r, m, p, is). (same y).1 (elim (back r m p) [ inl o ↦ inl ((g y).1 (r, m, o, is)) | inr e ↦ inr (sym is ∙ ap f e) ])),
     )
+
+-- ---- rows in ascending order
+
+module _ {A : Type 0} (P : A → Type 0) (f : A → ℕ) (rows : List A) (ascend : IsStrictlySortedBy nat_cmp (map f rows)) (i : ℕ) (row : A) (lt : i < length rows) (is : row ≡ get_or rows i row) where
+  pub above : (r : A) → Contains (take i rows) r → f r < f row
+  above r (k, k_lt, e) =
+      let short = length-take-le i rows (omega (arith, lt)) in
+      let k_lt_i : k < i = omega (arith, k_lt, short) in
+      let r_is : get_or rows k r ≡ r = sym (get_or-take i rows k r k_lt_i) ∙ e in
+      let rises = below_from_sorted (map f rows) k i 0 ascend k_lt_i (let l = length-map rows f in omega (arith, l, lt)) in
+      let left : get_or (map f rows) k 0 ≡ f r = get_or-map f rows k r 0 (omega (arith, k_lt_i, lt)) ∙ ap f r_is in
+      let right : get_or (map f rows) i 0 ≡ f row = get_or-map f rows i row 0 lt ∙ ap f (sym is) in
+      omega (arith, rises, left, right)

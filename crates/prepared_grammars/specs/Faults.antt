@@ -6,7 +6,6 @@ use Rattle.grammar_model.specs.Checked.{IsChecked}
 use Rattle.recognizer_model.specs.Flat.{FlatGrammar}
 use Rattle.recognizer_model.specs.FlatForm.{IsFlatOf}
 use Rattle.language_model.specs.Building.{Built}
-use Rattle.grammar_check.specs.declared.refusal.GrammarRefusal.{GrammarRefusal}
 pub use Rattle.grammar_check.specs.Said.{Says, IsSaid}
 use Rattle.reading_model.specs.Accepted.{Structural, Lexical, TooManyRules, HasGrammarFault, HasFewRules, HasTooManyRules}
 use Rattle.prepared_grammars.specs.declared.parts.Fault.{Fault}
