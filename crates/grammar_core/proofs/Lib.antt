@@ -5,4 +5,4 @@ pub mod Holding
 pub mod Listing
 pub mod Chains
 pub mod Known
-pub mod Latest
+pub mod Newest

@@ -1,5 +1,5 @@
 -- Token edges, held by the places where they begin.
-use Rattle.std.specs.Prelude.{◌≡◌, ◌≢◌, ℕ, ◌+◌, ◌*◌, ◌-◌, ◌<◌, ◌≤◌, ◌↔◌, List, [], ◌∷◌, length, Option, Some, AllPairs, Contains, slice_index}
+use Rattle.std.specs.Prelude.{◌≡◌, ◌≢◌, ℕ, ◌+◌, ◌-◌, ◌<◌, ◌≤◌, ◌↔◌, List, [], ◌∷◌, length, Option, Some, AllPairs, Contains, slice_index}
 use Rattle.grammar_model.specs.declared.Edge.{Edge as HeldEdge}
 pub use Rattle.grammar_model.specs.Limits.{longest_edge}
 use Rattle.grammar_core.specs.declared.edges.Edge.{Edge}
@@ -28,14 +28,10 @@ AreLongOf edges long = (e : HeldEdge) → Contains long e ↔ (Contains edges e 
 abbrev pub IsShortTo : List Edge → ℕ → HeldEdge → Type 0
 IsShortTo edges place e = (x : Edge) × Contains edges x × (x.length ≡ 1) × (e ≡ placed (place - 1) x)
 
--- a number for each symbol and length
-abbrev pub edge_key : (symbol length : ℕ) → ℕ
-edge_key symbol length = 4294967296 * symbol + length
-
 -- of a place that no edge begins after it is told whether an edge with a symbol and a length begins there
-abbrev pub AreLatest : List HeldEdge → (ℕ → Option ℕ) → Type 0
+abbrev pub AreLatest : List HeldEdge → (ℕ → ℕ → Option ℕ) → Type 0
 AreLatest edges latest = (symbol length at : ℕ) → length < 4294967296 → GoFrom edges at →
-    (latest (edge_key symbol length) ≡ Some at) ↔ Contains edges (record { symbol = symbol; from = at; to = at + length })
+    (latest symbol length ≡ Some at) ↔ Contains edges (record { symbol = symbol; from = at; to = at + length })
 
 -- the places are in order, each edge is held once, and none is empty or longer than an edge may be
 pub record ArePlaced (places : List ℕ) (edges : List Edge) (longer : List HeldEdge) : Type 0 where

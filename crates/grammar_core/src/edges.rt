@@ -1,13 +1,13 @@
 //! Token edges: which terminals span which places.
 ghost use Rattle.std.specs.Prelude.{◌≡◌, ◌≢◌, ℕ, ◌+◌, ◌<◌, ◌≤◌, ◌↔◌, ◌⊎◌, ◌++◌, ◌∷◌, [], length, AllPairs, Contains, IsTrue, Err, OnOk, OnErr, slice_index, take, drop, ◌-◌, nat_lt, if◌then◌else◌};
 ghost use Rattle.grammar_model.specs.declared.Edge.{Edge as HeldEdge};
-ghost use Rattle.grammar_core.specs.Edges.{placed, longest_edge, GoFrom, AreOrdered, IsShortTo, edge_key};
+ghost use Rattle.grammar_core.specs.Edges.{placed, longest_edge, GoFrom, AreOrdered, IsShortTo};
 ghost use Rattle.grammar_core.specs.declared.edges.EdgeRefusal.TheVariants.{Duplicate, BadLength, NoMemory};
 
 use crate::SymbolId;
+use crate::latest::LatestPlaces;
 use crate::long::LongEdges;
 use grammar_model::Edge as HeldEdge;
-use indexmap::IndexMap;
 use std::alloc::{AllocError, AllocFailed, Global};
 use std::marker::Model;
 use thiserror::Error;
@@ -63,21 +63,21 @@ pub struct TokenEdges {
     edges: Vec<Edge>,
     // those of them that span more than one place
     long: LongEdges,
-    // the last place where an edge with a symbol and a length begins, by its key
-    latest: IndexMap<u64, u32>,
+    // the last place where an edge with a symbol and a length begins
+    latest: LatestPlaces,
 }
 
 impl Model for TokenEdges {
-    ghost use Rattle.std.specs.Prelude.{List, nat_eq};
-    ghost use Rattle.indexmap.specs.IndexMap.{get};
+    ghost use Rattle.std.specs.Prelude.{List};
     ghost use Rattle.grammar_model.specs.declared.Edge.{Edge as HeldEdge};
     ghost use Rattle.grammar_core.specs.Edges.{all_placed, ArePlaced, AreLatest};
+    ghost use Rattle.grammar_core.specs.Latest.{latest_at};
 
     ghost Value = { List HeldEdge };
 
     ghost view = { λ e. all_placed e.places.items e.edges.items };
 
-    ghost invariant = { λ e. ArePlaced e.places.items e.edges.items e.long × AreLatest (all_placed e.places.items e.edges.items) (get nat_eq e.latest) };
+    ghost invariant = { λ e. ArePlaced e.places.items e.edges.items e.long × AreLatest (all_placed e.places.items e.edges.items) (latest_at e.latest) };
 }
 
 impl TokenEdges {
@@ -89,7 +89,7 @@ impl TokenEdges {
             places: Vec::new(alloc),
             edges: Vec::new(alloc),
             long: LongEdges::new(alloc),
-            latest: IndexMap::new(alloc),
+            latest: LatestPlaces::new(alloc),
         }
     }
 
@@ -134,8 +134,8 @@ impl TokenEdges {
         requires { GoFrom self.now at }
         ensures { IsTrue result ↔ Contains self.now (record { symbol = t; from = at; to = at + length }) }
     {
-        match self.latest.get(&edge_key(t, length)) {
-            Some(place) => *place == at,
+        match self.latest.get(t, length) {
+            Some(place) => place == at,
             None => false,
         }
     }
@@ -151,7 +151,7 @@ impl TokenEdges {
         ensures err { OnErr result (self.new ≡ self.old) }
         ensures memory { OnErr result (result ≡ Err NoMemory) }
     {
-        self.latest.reserve(1)?;
+        self.latest.reserve(t, length)?;
         push_all(
             &mut self.places,
             &mut self.edges,
@@ -160,9 +160,7 @@ impl TokenEdges {
             t,
             length,
         )?;
-        if self.latest.insert(edge_key(t, length), at).is_err() {
-            unreachable!()
-        }
+        self.latest.put(t, length, at);
         Ok(())
     }
 
@@ -197,13 +195,6 @@ impl TokenEdges {
         self.long.list_to(place, edges)?;
         Ok(())
     }
-}
-
-// A number for each symbol and length.
-fn edge_key(t: SymbolId, length: u32) -> u64
-    ensures { result ≡ edge_key t length }
-{
-    4_294_967_296 * t.0 as u64 + length as u64
 }
 
 // One more edge with its place, or neither.

@@ -3,6 +3,7 @@
 
 mod edges;
 mod flat;
+mod latest;
 mod long;
 mod refusal;
 mod rule;
