@@ -9,7 +9,7 @@ use Rattle.recognizer_model.proofs.Leo.{reduced_inside, expanded_inside, keeps_w
 use Rattle.earley_sets.specs.Scanning.{AreReduced}
 use Rattle.earley_sets.specs.Recognizer.{Recognizer, IsRecognizer, set_at, edges_of, top_of}
 use Rattle.earley_sets.proofs.ByRows.{goes_forward, known}
-use Rattle.earley_sets.proofs.Adding.{decide}
+use Rattle.leo_items.proofs.Adding.{decide}
 use Rattle.earley_sets.proofs.Recognizing.{top_is_top}
 
 module _ (r : Recognizer) (is : IsRecognizer r) where

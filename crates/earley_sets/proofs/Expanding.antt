@@ -11,7 +11,7 @@ use Rattle.recognizer_model.specs.Leo.{IsHidden}
 use Rattle.recognizer_model.specs.Counts.{IsListOf}
 use Rattle.item_rows.specs.Rows.{row_at}
 use Rattle.leo_items.specs.Memo.{Note}
-use Rattle.earley_sets.specs.Hidden.{IsHiddenIn}
+use Rattle.leo_items.specs.Hidden.{IsHiddenIn}
 use Rattle.earley_sets.specs.Recognizer.{IsKept}
 use Rattle.earley_sets.proofs.Hiding.{hidden_is, all_there}
 use Rattle.earley_sets.proofs.Recognizing.{recognizer, kept_top, kept_sets}

@@ -2,15 +2,12 @@ pub mod Cutting
 pub mod Membership
 pub mod Following
 pub mod Listing
-pub mod Adding
-pub mod Growing
 pub mod Beginning
 pub mod Begins
 pub mod Noting
 pub mod Sharing
 pub mod Symbols
 pub mod Starting
-pub mod Loops
 pub mod ByRows
 pub mod Scanning
 pub mod Rising
@@ -24,3 +21,4 @@ pub mod Recognizing
 pub mod Exact
 pub mod Counting
 pub mod Expanding
+pub mod Below

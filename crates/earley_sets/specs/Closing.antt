@@ -1,10 +1,11 @@
--- What follows from an item in the same set, by rows; and sets that grow.
-use Rattle.std.specs.Prelude.{◌≡◌, ◌≢◌, ℕ, ◌<◌, ◌++◌, ◌∷◌, [], List, Some, Contains, ◌↔◌, ◌⊎◌}
+-- What follows from an item in the same set, by rows.
+use Rattle.std.specs.Prelude.{◌≡◌, ◌≢◌, ℕ, ◌<◌, List, Some, Contains, ◌⊎◌}
 use Rattle.recognizer_model.specs.declared.Item.{Item}
 use Rattle.recognizer_model.specs.Flat.{FlatGrammar, IsRule, lhs_of, IsNullable}
 use Rattle.recognizer_model.specs.Items.{after, IsWhole, first_item, advanced}
 use Rattle.item_rows.specs.Rows.{row_at}
 use Rattle.leo_items.specs.ByRows.{IsNotLeoIn, LeadsIn}
+pub use Rattle.leo_items.specs.Closed.{IsReached, Seed, Step, Adds, Grows}
 
 -- an item that waits for the symbol, with its dot advanced
 abbrev pub IsAdvancedOver : FlatGrammar → List Item → (symbol : ℕ) → Item → Type 0
@@ -29,17 +30,3 @@ pub data Follows (g : FlatGrammar) (rows : List (List Item)) (earleme : ℕ) (it
 -- what follows from an item, without the rules that begin
 abbrev pub GoesOn : FlatGrammar → (rows : List (List Item)) → (earleme : ℕ) → Item → Item → Type 0
 GoesOn g rows earleme item other = Follows g rows earleme item other × (other.dot ≢ 0)
-
--- what some items lead to
-pub data IsReached (F : Item → Item → Type 0) (seeds : List Item) : Item → Type 0 where
-  Seed : {item : Item} → Contains seeds item → IsReached F seeds item
-  Step : {item next : Item} → IsReached F seeds item → F item next → IsReached F seeds next
-
--- an item that was there, or that goes last
-abbrev pub Adds : (old new : List Item) → Item → Type 0
-Adds old new item = ((new ≡ old) × Contains old item) ⊎ ((new ≡ old ++ item ∷ []) × (¬ Contains old item))
-
--- a set after some items were added to it
-pub record Grows (old new items : List Item) : Type 0 where
-  pub begins : (more : List Item) × (new ≡ old ++ more)
-  pub has : (item : Item) → Contains new item ↔ (Contains old item ⊎ Contains items item)

@@ -1,10 +1,9 @@
 pub mod Kept
 pub mod Closing
 pub mod Begun
-pub mod Loops
 pub mod Scanning
 pub mod Tried
 pub mod Recognizer
 pub mod Counted
-pub mod Hidden
+pub mod Below
 pub mod Laws

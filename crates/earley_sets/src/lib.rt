@@ -5,7 +5,6 @@ mod awaited;
 mod begun;
 mod close;
 mod follow;
-mod hidden;
 mod lists;
 mod recce;
 

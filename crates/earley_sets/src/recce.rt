@@ -5,6 +5,7 @@ ghost use Rattle.recognizer_model.specs.declared.Item.{Item};
 ghost use Rattle.recognizer_model.specs.declared.flat.FlatSymbol.TheVariants.{Terminal};
 ghost use Rattle.grammar_model.specs.declared.Edge.{Edge as HeldEdge};
 ghost use Rattle.grammar_model.specs.Derives.{Held};
+ghost use Rattle.recognizer_model.specs.Flat.{IsRule};
 ghost use Rattle.recognizer_model.specs.Contexts.{IsTop};
 ghost use Rattle.recognizer_model.specs.Counts.{IsListOf};
 ghost use Rattle.recognizer_model.specs.FlatForm.{FlatEdges};
@@ -18,18 +19,18 @@ ghost use Rattle.item_rows.specs.Heads.{AreHeads};
 ghost use Rattle.earley_sets.specs.Begun.{AreLists};
 ghost use Rattle.earley_sets.specs.Scanning.{GoForward, AreReduced};
 ghost use Rattle.earley_sets.specs.Tried.{RisesBy};
+ghost use Rattle.earley_sets.specs.Below.{StepsTo, LeadsUp, IsBottom, IsBottomOf, StandsBelowOf};
 ghost use Rattle.earley_sets.specs.Recognizer.{Recognizer, earleme_of, set_at, edges_of, top_of, made, new_edge, IsExpected, HasTree, IsRecognizer};
 ghost use Rattle.earley_sets.specs.declared.recce.AlternativeRefusal.TheVariants.{Unexpected, Duplicate, BadLength};
 
 use crate::close::{Work, make_kernel};
-use crate::hidden::list_hidden;
 use crate::lists::{Lists, find_list, new_lists};
 use grammar_core::{EdgeRefusal, Flat, SymbolId, TokenEdges};
 use item_rows::{
     Heads, Marks, Row, Rows, ascending, is_marked, list_heads, mark_row, new_marks, symbol_of,
     take_marks,
 };
-use leo_items::Memo;
+use leo_items::{Memo, list_below, list_hidden, top_above};
 use recognizer_model::Item;
 use slif_base::Steps;
 use std::alloc::{AllocError, Global};
@@ -484,6 +485,38 @@ impl<'g> Recce<'g> {
         let hidden = list_hidden(alloc, self.flat, &self.rows, j, from)?;
         count(&hidden, steps);
         Ok(hidden)
+    }
+
+    /// The item of a set to which completions of a whole one lead in the end, if one step alone leads on from it.
+    pub fn topmost(&self, j: u32, item: Item) -> Option<Item>
+        requires place { j ≤ earleme_of self.now }
+        requires rule { IsRule self.now.flat item.rule }
+        ensures some { IfSome result (λ top. LeadsUp self.now j item top) }
+        ensures none { IsNone result → (other : Item) → ¬ StepsTo self.now j item other }
+    {
+        top_above(self.flat, &self.rows, &self.memo, j, item)
+    }
+
+    /// The hidden items of a set from which completions lead to one of some items in the end. `bottoms` are the kept ones from which they do.
+    /// Each item that is given counts as a step.
+    pub fn below<L: Ledger>(
+        &self,
+        alloc: Global,
+        j: u32,
+        tops: &[Item],
+        bottoms: &[Item],
+        steps: &mut Steps<L>,
+    ) -> Result<Vec<Item>, AllocError>
+        requires place { j ≤ earleme_of self.now }
+        requires bottoms { (item : Item) → Contains bottoms.now item ↔ IsBottomOf self.now j tops.now item }
+        requires tops { (top : Item) → Contains tops.now top → (item : Item) × IsBottom self.now j top item }
+        ensures below { IfOk result (λ items. IsListOf (StandsBelowOf self.now j tops.now) items.items) }
+        ensures counted { IfOk result (λ items. steps.new ≡ steps.old + length items.items) }
+        ensures err { OnErr result (steps.new ≡ steps.old) }
+    {
+        let below = list_below(alloc, self.flat, &self.rows, j, tops, bottoms)?;
+        count(&below, steps);
+        Ok(below)
     }
 
     /// Goes back to place 0, with no edges.

@@ -2,3 +2,5 @@ pub mod Steps
 pub mod Memo
 pub mod Near
 pub mod ByRows
+pub mod Closed
+pub mod Hidden

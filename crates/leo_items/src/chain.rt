@@ -36,8 +36,8 @@ pub fn pair_above(flat: &Flat, item: Item) -> Pair
     }
 }
 
-// Goes on from a step to the topmost item, or to one that is noted.
-fn find(flat: &Flat, rows: &Rows<'_>, memo: &Memo, pair: Pair, step: Item) -> Item
+/// Goes on from a step to the topmost item, or to one that is noted.
+pub fn find(flat: &Flat, rows: &Rows<'_>, memo: &Memo, pair: Pair, step: Item) -> Item
     requires rows { HasRows flat.now rows.now }
     requires nulled { AreNulled flat.now rows.now.sets }
     requires memo { IsMemo flat.now rows.now.sets memo.now }

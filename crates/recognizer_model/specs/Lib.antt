@@ -18,3 +18,4 @@ pub mod Once
 pub mod ChosenLaws
 pub mod Threads
 pub mod FewRules
+pub mod Below

@@ -37,6 +37,7 @@ ghost use Rattle.recognizer_model.specs.ChosenLaws.{ChosenAreAllowed, AllowedLea
 ghost use Rattle.recognizer_model.specs.Laws.{EarleyLawsHold};
 ghost use Rattle.recognizer_model.specs.Once.{KeptInOneStep, KnownByLists};
 ghost use Rattle.recognizer_model.specs.Threads.{ThreadLawsHold};
+ghost use Rattle.recognizer_model.specs.Below.{HiddenStandBelow};
 
 /// The theorems on item sets, reduced sets, acceptable terminals and used nodes.
 pub fn earley_laws()
@@ -86,6 +87,11 @@ pub fn reduced_in_one_step()
 /// Where the items that wait for a symbol are listed, it is known whether there is a Leo item.
 pub fn leo_by_lists()
     ensures { KnownByLists }
+{}
+
+/// A used node that is hidden stands below one that is kept and used with the same end.
+pub fn hidden_stand_below()
+    ensures { HiddenStandBelow }
 {}
 
 /// What rows of threads along a text tell of its starts.

@@ -4,7 +4,7 @@ use Rattle.recognizer_model.specs.declared.Item.{Item}
 use Rattle.earley_sets.specs.Closing.{Follows, Grows}
 use Rattle.earley_sets.specs.Tried.{MakesLater}
 use Rattle.earley_sets.proofs.Beginning.{still_together, later_origin}
-use Rattle.earley_sets.proofs.Loops.{closed_init, closed_done, closed_more, got_none}
+use Rattle.leo_items.proofs.Loops.{closed_init, closed_done, closed_more, got_none}
 use Rattle.earley_sets.proofs.Following.{follows_item}
 use Rattle.earley_sets.proofs.Recognizing.{no_rows}
 use Rattle.earley_sets.proofs.Rising.{rises_moved}

@@ -2,7 +2,7 @@ use Rattle.std.proofs.Common.{◌≡◌, [], take, Contains}
 use Rattle.recognizer_model.specs.declared.Item.{Item}
 use Rattle.earley_sets.specs.Closing.{Follows}
 use Rattle.earley_sets.specs.Begun.{BeginTogether}
-use Rattle.earley_sets.specs.Loops.{IsClosedTo}
+use Rattle.leo_items.specs.Closed.{IsClosedTo}
 use Rattle.earley_sets.specs.Tried.{RisesBy, MakesOneLater}
 use Rattle.earley_sets.proofs.begun.close_begun.Given as goal
 

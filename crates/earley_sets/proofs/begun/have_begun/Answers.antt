@@ -1,5 +1,5 @@
 use Rattle.recognizer_model.specs.Items.{first_item}
-use Rattle.earley_sets.proofs.Adding.{tells_there}
+use Rattle.leo_items.proofs.Adding.{tells_there}
 use Rattle.earley_sets.proofs.Beginning.{all_begun}
 use Rattle.earley_sets.proofs.begun.have_begun.Goals as goal
 

@@ -1,4 +1,4 @@
-use Rattle.earley_sets.proofs.Adding.{adds_key}
+use Rattle.leo_items.proofs.Adding.{adds_key}
 use Rattle.earley_sets.proofs.close.add_item.Goals as goal
 
 pub returns-clause-added : goal.returns-clause-added

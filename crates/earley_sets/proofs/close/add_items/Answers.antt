@@ -1,5 +1,5 @@
 use Rattle.std.proofs.Common.{arith, subst}
-use Rattle.earley_sets.proofs.Growing.{Grows-more}
+use Rattle.leo_items.proofs.Growing.{Grows-more}
 use Rattle.std.proofs.lemmas.List.{take_all}
 use Rattle.earley_sets.specs.Closing.{Grows}
 use Rattle.earley_sets.proofs.close.add_items.Goals as goal

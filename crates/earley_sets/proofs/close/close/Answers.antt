@@ -4,7 +4,7 @@ use Rattle.recognizer_model.specs.declared.Item.{Item}
 use Rattle.leo_items.proofs.Chains.{no_more, more_on}
 use Rattle.earley_sets.specs.Closing.{GoesOn, Grows}
 use Rattle.earley_sets.specs.Tried.{MakesLink}
-use Rattle.earley_sets.proofs.Loops.{closed_init, closed_done, closed_more, got_none}
+use Rattle.leo_items.proofs.Loops.{closed_init, closed_done, closed_more, got_none}
 use Rattle.earley_sets.proofs.Following.{follows_item}
 use Rattle.earley_sets.proofs.Rising.{rises_moved}
 use Rattle.earley_sets.proofs.Trying.{tried_none, tried_more, tried_all, same_maker}

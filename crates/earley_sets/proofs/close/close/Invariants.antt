@@ -1,7 +1,7 @@
 use Rattle.std.proofs.Common.{◌+◌, length, take}
 use Rattle.leo_items.specs.ByRows.{NotesMore}
 use Rattle.earley_sets.specs.Closing.{GoesOn}
-use Rattle.earley_sets.specs.Loops.{IsClosedTo}
+use Rattle.leo_items.specs.Closed.{IsClosedTo}
 use Rattle.earley_sets.specs.Tried.{RisesBy, MakesOne}
 use Rattle.earley_sets.proofs.close.close.Given as goal
 

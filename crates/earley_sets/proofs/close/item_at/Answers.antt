@@ -1,4 +1,4 @@
-use Rattle.earley_sets.proofs.Adding.{all_differ}
+use Rattle.leo_items.proofs.Adding.{all_differ}
 use Rattle.earley_sets.proofs.close.item_at.Goals as goal
 
 pub returns-clause-once : goal.returns-clause-once

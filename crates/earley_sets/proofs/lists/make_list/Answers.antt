@@ -6,7 +6,7 @@ use Rattle.std.specs.Prelude.{◌≢◌}
 use Rattle.item_rows.specs.Kept.{IsItem}
 use Rattle.earley_sets.specs.Begun.{AreBegun}
 use Rattle.earley_sets.specs.Tried.{TriesBegun}
-use Rattle.earley_sets.proofs.Adding.{all_differ}
+use Rattle.leo_items.proofs.Adding.{all_differ}
 use Rattle.earley_sets.proofs.Begins.{begins_item}
 use Rattle.earley_sets.proofs.Sharing.{last_below, shared_keeps, shared_more, shared_noted, shared_begun, shared_tried}
 use Rattle.earley_sets.proofs.lists.make_list.Goals as goal

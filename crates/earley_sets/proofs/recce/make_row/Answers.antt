@@ -14,7 +14,7 @@ use Rattle.earley_sets.specs.Kept.{AreItems, IsRowOf}
 use Rattle.earley_sets.specs.Scanning.{AreReduced, IsKernel}
 use Rattle.earley_sets.specs.Tried.{RisesBy, MakesKernel}
 use Rattle.earley_sets.proofs.Making.{list_moved}
-use Rattle.earley_sets.proofs.Adding.{all_differ}
+use Rattle.leo_items.proofs.Adding.{all_differ}
 use Rattle.earley_sets.proofs.Splitting.{kernel_apart, row_made, set_links}
 use Rattle.earley_sets.proofs.recce.make_row.Goals as goal
 

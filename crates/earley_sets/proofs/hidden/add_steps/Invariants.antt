@@ -1,8 +1,0 @@
-use Rattle.std.proofs.Common.{◌≡◌, ◌++◌, List}
-use Rattle.recognizer_model.specs.declared.Item.{Item}
-use Rattle.earley_sets.specs.Hidden.{IsSingleStep}
-use Rattle.earley_sets.specs.Loops.{IsClosedTo}
-use Rattle.earley_sets.proofs.hidden.add_steps.Given as goal
-
-abbrev pub invariant-loop-k : goal.invariant-loop-k
-invariant-loop-k l = IsClosedTo l.flat (IsSingleStep l.flat l.rows.sets l.earleme l.from) l.initial.set.keys l.set.keys l.k × ((more : List Item) × (l.set.keys ≡ l.initial.set.keys ++ more))

@@ -1,6 +1,0 @@
-use Rattle.std.proofs.Common.{take}
-use Rattle.earley_sets.proofs.Hiding.{AreFrom}
-use Rattle.earley_sets.proofs.hidden.put_from.Given as goal
-
-abbrev pub invariant-loop-k : goal.invariant-loop-k
-invariant-loop-k l = AreFrom l.from (take l.k l.items) l.set.keys

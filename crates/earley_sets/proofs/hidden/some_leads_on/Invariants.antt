@@ -1,6 +1,0 @@
-use Rattle.std.proofs.Common.{take}
-use Rattle.earley_sets.specs.Hidden.{NoneLeadsOn}
-use Rattle.earley_sets.proofs.hidden.some_leads_on.Given as goal
-
-abbrev pub invariant-loop-k : goal.invariant-loop-k
-invariant-loop-k l = NoneLeadsOn l.flat l.rows.sets l.earleme l.from (take l.k l.items)
