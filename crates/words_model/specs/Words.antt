@@ -1,9 +1,9 @@
 -- What the words of the command line ask for. They follow POSIX's utility syntax (XBD 12.1 and 12.2) with GNU's long options:
 -- a word that begins with `--` names an option, whose value stands after `=` (61) or is the next word; `--` alone ends the
 -- options; any other word is an operand. A word is the bytes of its characters.
-use Rattle.std.specs.Prelude.{◌≡◌, ℕ, ◌==◌, Bool, true, false, not, ◌&&◌, ◌||◌, if◌then◌else◌, nat_eq, nat_lt, nat_le, List, [], ◌∷◌, ◌++◌, map, length, drop, Option, Some, None, is_some, option_map, option_and_then, find, bytes_eq, codes}
+use Rattle.std.specs.Prelude.{◌≡◌, ℕ, ◌==◌, Bool, true, false, not, ◌&&◌, ◌||◌, if◌then◌else◌, nat_eq, nat_lt, nat_le, List, [], ◌∷◌, map, length, drop, Option, Some, None, is_some, option_map, option_and_then, find, bytes_eq, codes}
 use Rattle.std.specs.Char.{is_ascii_digit}
-use Rattle.std.specs.List.{list_all, list_any, starts_with, before_first, after_first, join_by}
+use Rattle.std.specs.List.{list_all, list_any, starts_with, before_first, after_first}
 use Rattle.grammar_model.specs.declared.Ranking.{Ranking}
 use Rattle.grammar_model.specs.declared.Ranking.TheVariants.{None as NoRanks, Rule as RuleRanks, High as HighRanks}
 use Rattle.grammar_model.specs.declared.Show.{Show}
@@ -236,9 +236,9 @@ job_named name given =
 abbrev pub job_given : Given → Option Job
 job_given given = option_and_then (λ name. job_named name given) (given (codes "JOB"))
 
--- what is told where the words ask for no job
+-- what is told where the words ask for no job. It names the rows of the table (a law)
 abbrev pub usage_text : List ℕ
-usage_text = codes "usage: slif JOB [options]; jobs: " ++ join_by (λ row. row.name) (codes ", ") jobs
+usage_text = codes "usage: slif JOB [options]; jobs: run, check, expect, progress, work"
 
 -- THE JOB THAT WORDS ASK FOR
 abbrev pub job_asked : List (List ℕ) → Option Job
