@@ -20,11 +20,13 @@ pub record ValuesAsked : Type 0 where
   pub first : Option ℕ
   pub stats : Bool
 
--- what is told of an input that is read to its end: the values of its derivations, the lexemes that could come next, or the report at a place
+-- what is told of an input that is read to its end: the values of its derivations, the lexemes that could come next, the report at a place,
+-- or where its derivations differ
 pub data Telling : Type 0 where
   Values : (asked : ValuesAsked) → Telling
   Expected : Telling
   Report : (at : ℕ) → Telling
+  Glades : Telling
 
 -- what a job does: it tells what the symbols of its grammar can do, it tells something of its input, or it reads an input of its own, of
 -- that size, by a grammar of its own
@@ -216,7 +218,8 @@ jobs =
     record { name = codes "check"; does = Checks } ∷
     record { name = codes "expect"; does = Tells [] (λ given. Some Expected) } ∷
     record { name = codes "progress"; does = Tells (codes "at" ∷ []) report_asked } ∷
-    record { name = codes "work"; does = Works } ∷ []
+    record { name = codes "work"; does = Works } ∷
+    record { name = codes "glades"; does = Tells [] (λ given. Some Glades) } ∷ []
 
 -- the options that a job may have; it needs those whose value has no default
 abbrev pub options_of : Does → List (List ℕ)
@@ -238,7 +241,7 @@ job_given given = option_and_then (λ name. job_named name given) (given (codes 
 
 -- what is told where the words ask for no job. It names the rows of the table (a law)
 abbrev pub usage_text : List ℕ
-usage_text = codes "usage: slif JOB [options]; jobs: run, check, expect, progress, work"
+usage_text = codes "usage: slif JOB [options]; jobs: run, check, expect, progress, work, glades"
 
 -- THE JOB THAT WORDS ASK FOR
 abbrev pub job_asked : List (List ℕ) → Option Job
