@@ -3,7 +3,7 @@ use Rattle.std.proofs.Common.{◌≡◌, ℕ, ◌+◌, ◌<◌, ◌≤◌, List,
 use Rattle.std.proofs.lemmas.List.{length-map}
 use Rattle.std.proofs.lemmas.List.Elements.{All-weaker, All-contains_itself}
 use Rattle.finite_sets.proofs.Lists.{Contains-none, get_index}
-use Rattle.grammar_model.specs.Grammar.{Grammar, WrittenRule, Plain, Sequence, Slot, Fits, lhs_of, rule_at}
+use Rattle.grammar_model.specs.Grammar.{Grammar, WrittenRule, Plain, Sequence, Slot, Fits, lhs_of, rule_at, no_rule}
 use Rattle.grammar_model.specs.Trees.{Tree, Leaf, Nulled, Node}
 use Rattle.grammar_model.specs.Derives.{Edges, Held, Derives}
 use Rattle.grammar_model.specs.Order.{RuleOrder}
@@ -54,7 +54,7 @@ module _ (g : Grammar) (known : IsKnown g) where
   shaped_known edge slot p q (Leaf s a b) first d e = absurd (no_shape e)
   shaped_known edge slot p q (Nulled s a) first d e = absurd (no_shape e)
   shaped_known edge slot p q (Node i cs a b) first d e =
-      subst (λ s. s < length g.names) d.fits.0 (left_known (rule_at g i) (known.rules i (rule_at g i) d.in_range).0)
+      subst (λ s. s < length g.names) d.fits.0 (left_known (rule_at g i) (known.rules i no_rule d.in_range).0)
 
   pub glades_known : (edges : List Edge) (start place : ℕ) (glades : List Glade) → AreGlades g edges start place glades → All (λ x. x.slot.symbol < length g.names) glades
   glades_known edges start place glades are =

@@ -1,10 +1,11 @@
 // The line of a glade.
 ghost use Rattle.std.specs.Prelude.{◌≡◌, ◌<◌, ◌++◌, codes, decimal, length, OnOk};
 ghost use Rattle.std.specs.List.{flat_map, join_by};
+ghost use Rattle.grammar_model.specs.Values.{name_of};
 ghost use Rattle.run_model.specs.Glades.{glade_line, level_text, place_text, shape_text, shapes_text, span_text};
 
 use glades::{Glade, Shape};
-use grammar_core::Written;
+use grammar_core::{SymbolId, Written};
 use itoa::Buffer;
 use std::alloc::AllocError;
 
@@ -78,11 +79,18 @@ fn append_span(from: u32, to: u32, line: &mut Vec<u8>) -> Result<(), AllocError>
     append_number(to, line)
 }
 
+fn append_name(w: &Written, symbol: SymbolId, line: &mut Vec<u8>) -> Result<(), AllocError>
+    requires { symbol < length w.now.names }
+    ensures { OnOk result (line.new.items ≡ line.old.items ++ name_of w.now symbol) }
+{
+    append(w.name(symbol).as_bytes(), line)
+}
+
 fn append_place(w: &Written, glade: &Glade, line: &mut Vec<u8>) -> Result<(), AllocError>
     requires { glade.now.slot.symbol < length w.now.names }
     ensures { OnOk result (line.new.items ≡ line.old.items ++ place_text w.now glade.now) }
 {
-    append(w.name(glade.symbol).as_bytes(), line)?;
+    append_name(w, glade.symbol, line)?;
     append_level(glade.level, line)?;
     append_span(glade.from, glade.to, line)
 }
