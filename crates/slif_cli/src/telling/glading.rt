@@ -40,6 +40,7 @@ pub fn write_glades<'a, O: Sink, L: Ledger>(
     ensures out_later { O.fault_count out.old ≤ O.fault_count out.new }
 {
     prepared.known();
+    let w = prepared.written();
     let _place = reading.recce.place();
     let arena = Bump::new(alloc);
     let forest = forest_of(
@@ -53,8 +54,8 @@ pub fn write_glades<'a, O: Sink, L: Ledger>(
     )?;
     forest.known();
     let _stats = forest.stats();
-    let glades = report_glades(alloc, &forest, prepared.written(), steps)?;
-    write_lines_of(alloc, prepared.written(), &glades, out)
+    let glades = report_glades(alloc, &forest, w, steps)?;
+    write_lines_of(alloc, w, &glades, out)
 }
 
 // Writes the lines of glades, one piece each.
