@@ -83,6 +83,7 @@ def jobs():
     yield "expect", ["expect", "--grammar", JSON], text[:1000], None
     yield "progress", ["progress", "--at", "3", "--grammar", JSON], text[:1000], None
     yield "work", ["work", "--size", "1000"], b"", 0
+    yield "glades", ["glades", "--grammar", str(ROOT / "examples/sum.slif")], b"1+1+1+1+1+1", 0
     yield "no job", ["nothing"], b"", 2
     yield "stopped", ["run", "--grammar", JSON], b'["a", \x01]', 1
 

@@ -54,6 +54,7 @@ def cases():
     yield "expect", ["expect", "--grammar", json], text[:30], None
     yield "progress", ["progress", "--at", "2", "--grammar", json], text, None
     yield "work", ["work", "--size", "3"], b"", None
+    yield "glades", ["glades", "--grammar", str(examples / "sum.slif")], b"1+1+1+1", None
     yield "usage", ["nothing"], b"", None
     yield "stopped", ["run", "--grammar", json], b"[1, ?]", None
     yield "statement", ["check", "--grammar", "{}"], b"", broken

@@ -5,7 +5,7 @@ use Rattle.std.specs.Borrow.{Bor}
 use Rattle.words_model.specs.Words as model
 use Rattle.command_line.specs.declared.job.ValuesAsked.{ValuesAsked}
 use Rattle.command_line.specs.declared.job.Telling.{Telling}
-use Rattle.command_line.specs.declared.job.Telling.TheVariants.{Values, Expected, Report}
+use Rattle.command_line.specs.declared.job.Telling.TheVariants.{Values, Expected, Report, Glades}
 use Rattle.command_line.specs.declared.job.Task.{Task}
 use Rattle.command_line.specs.declared.job.Task.TheVariants.{Check, Tell, Work}
 use Rattle.command_line.specs.declared.job.InputFrom.{InputFrom}
@@ -19,6 +19,7 @@ abbrev pub telling_of : Telling → model.Telling
 telling_of (Values asked) = model.Values (asked_of asked)
 telling_of Expected = model.Expected
 telling_of (Report at) = model.Report at
+telling_of Glades = model.Glades
 
 abbrev pub task_of : Task → model.Task
 task_of Check = model.Check

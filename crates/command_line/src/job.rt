@@ -29,6 +29,8 @@ pub enum Telling {
     Expected,
     /// The progress report at a place, counted in tokens.
     Report { at: u32 },
+    /// Where its derivations differ.
+    Glades,
 }
 
 /// What a job does.
@@ -60,7 +62,7 @@ pub struct Job<'a> {
 }
 
 /// What is told where the words ask for no job.
-pub const USAGE: &[u8] = b"usage: slif JOB [options]; jobs: run, check, expect, progress, work";
+pub const USAGE: &[u8] = b"usage: slif JOB [options]; jobs: run, check, expect, progress, work, glades";
 
 fn told(what: Option<Telling>) -> Option<Task>
     ensures { option_map task_of result ≡ option_map model.Tell (option_map telling_of what) }
@@ -90,6 +92,7 @@ fn job_named<'a>(matches: &ArgMatches<'a>, name: &str) -> Option<Job<'a>>
             told(report_asked(matches)),
         ),
         "work" => job_with(matches, &["size"], work_asked(matches)),
+        "glades" => job_with(matches, &["grammar", "input"], told(Some(Telling::Glades))),
         _ => None,
     }
 }

@@ -2,8 +2,9 @@
 use crate::devices::{CANNOT_READ, CANNOT_WRITE, Case, all_break, line_breaks};
 use crate::runs::{ends, run_of};
 use run_scenes::{
-    CHECKED, CHECKED_LINES, COUNTED, COUNTED_LINES, Device, EXPECTED, EXPECTED_LINES, Given,
-    OPERATORS, REPORTED, REPORTED_LINES, SUM, SUM_LINES, TREE_LINES, TREES, WORKED, WORKED_LINES,
+    CHECKED, CHECKED_LINES, COMPARED, COMPARED_LINES, COUNTED, COUNTED_LINES, Device, EXPECTED,
+    EXPECTED_LINES, Given, REPORTED, REPORTED_LINES, SUM, SUM_LINES, TREE_LINES, TREES, WORKED,
+    WORKED_LINES,
 };
 use std::alloc::{AllocError, Global};
 use std::test::Fail;
@@ -25,11 +26,17 @@ const NAMED_REPORTED: Given<'static> = Given {
     ..REPORTED
 };
 
+const NAMED_COMPARED: Given<'static> = Given {
+    words: &["glades", "--grammar=g.slif", "--input=i.txt"],
+    file: b"1+2+3",
+    ..COMPARED
+};
+
 // Runs that end well, what they tell, and how many calls the files and the input get: a file three, an input one for two bytes and one
 // that finds nothing.
 type Job = (Given<'static>, &'static [u8], u8, u8);
 
-static JOBS: [Job; 10] = [
+static JOBS: [Job; 12] = [
     (SUM, SUM_LINES, 3, 4),
     (COUNTED, COUNTED_LINES, 3, 4),
     (TREES, TREE_LINES, 3, 4),
@@ -40,6 +47,8 @@ static JOBS: [Job; 10] = [
     (NAMED_SUM, SUM_LINES, 6, 0),
     (NAMED_EXPECTED, EXPECTED_LINES, 6, 0),
     (NAMED_REPORTED, REPORTED_LINES, 6, 0),
+    (COMPARED, COMPARED_LINES, 3, 4),
+    (NAMED_COMPARED, COMPARED_LINES, 6, 0),
 ];
 
 // Whether each call of a device fails as it should in a job.
@@ -145,7 +154,7 @@ fn the_line_of_a_refusal_fails_in_turn(rt: HostRuntime) -> Result<(), Fail> {
 }
 
 // Runs of which the first call of a device fails, and the line that tells it.
-static FAULT_ROWS: [(Given<'static>, Device, &[u8]); 8] = [
+static FAULT_ROWS: [(Given<'static>, Device, &[u8]); 10] = [
     (SUM, Device::Files, b"slif: cannot open g.slif\n"),
     (SUM, Device::Input, CANNOT_READ),
     (SUM, Device::Out, CANNOT_WRITE),
@@ -154,6 +163,8 @@ static FAULT_ROWS: [(Given<'static>, Device, &[u8]); 8] = [
     (EXPECTED, Device::Out, CANNOT_WRITE),
     (REPORTED, Device::Out, CANNOT_WRITE),
     (WORKED, Device::Out, CANNOT_WRITE),
+    (COMPARED, Device::Input, CANNOT_READ),
+    (COMPARED, Device::Out, CANNOT_WRITE),
 ];
 
 // Whether the line of a fault fails as it should.

@@ -1,7 +1,7 @@
 //! Grammars and inputs that are a byte too long, and such as are just not.
 use crate::devices::{CANNOT_READ, Case, all_break};
 use crate::runs::ends;
-use run_scenes::{CHECKED, Device, EXPECTED, Given, REPORTED, SUM, SUMS, TREES};
+use run_scenes::{CHECKED, COMPARED, Device, EXPECTED, Given, REPORTED, SUM, SUMS, TREES};
 use std::alloc::{AllocError, Global};
 use std::test::Fail;
 
@@ -64,7 +64,7 @@ fn refuses_grammar(alloc: Global, given: &Given<'_>) -> Result<bool, AllocError>
 
 // Whether each job refuses a grammar that is a byte too long, whatever it is.
 fn refuse_grammar(alloc: Global, grammar: &[u8]) -> Result<bool, AllocError> {
-    for job in &[CHECKED, SUM, EXPECTED, REPORTED] {
+    for job in &[CHECKED, SUM, EXPECTED, REPORTED, COMPARED] {
         let given = Given { grammar, ..*job };
         if !refuses_grammar(alloc, &given)? {
             return Ok(false);
@@ -101,7 +101,7 @@ fn a_grammar_is_as_long_as_it_may_be(rt: HostRuntime) -> Result<(), Fail> {
 }
 
 // Jobs whose input is a file.
-static FILED: [Given<'static>; 3] = [
+static FILED: [Given<'static>; 4] = [
     Given {
         words: &["run", "--grammar", "g.slif", "--input", "i.txt"],
         ..SUM
@@ -112,6 +112,10 @@ static FILED: [Given<'static>; 3] = [
     },
     Given {
         words: &["progress", "--at=0", "--grammar=g.slif", "--input=i.txt"],
+        ..SUM
+    },
+    Given {
+        words: &["glades", "--grammar=g.slif", "--input=i.txt"],
         ..SUM
     },
 ];
@@ -136,7 +140,7 @@ fn refuses_input(
 
 // Whether each job refuses an input that is a byte too long.
 fn refuse_input(alloc: Global, input: &[u8]) -> Result<bool, AllocError> {
-    for job in &[SUM, TREES, EXPECTED, REPORTED] {
+    for job in &[SUM, TREES, EXPECTED, REPORTED, COMPARED] {
         let given = Given {
             input,
             gives: GIVES,

@@ -2,14 +2,15 @@
 use crate::devices::{Case, is_so, line_breaks};
 use crate::runs::{asked, ends};
 use run_scenes::{
-    CHECKED, EXPECTED, Given, OPERATORS, REPORTED, SUM, SUMS, TREES, WORKED, WORKED_LINES,
+    CHECKED, COMPARED, EXPECTED, Given, OPERATORS, REPORTED, SUM, SUMS, TREES, WORKED, WORKED_LINES,
 };
 use std::alloc::{AllocError, Global};
 use std::test::Fail;
 
-const USAGE: &[u8] = b"slif: usage: slif JOB [options]; jobs: run, check, expect, progress, work\n";
+const USAGE: &[u8] =
+    b"slif: usage: slif JOB [options]; jobs: run, check, expect, progress, work, glades\n";
 
-static WRONG_WORDS: [&[&str]; 12] = [
+static WRONG_WORDS: [&[&str]; 14] = [
     &[],
     &["run"],
     &["jump", "--grammar", "g.slif"],
@@ -22,6 +23,8 @@ static WRONG_WORDS: [&[&str]; 12] = [
     &["work", "--size", "0"],
     &["work", "--size", "100001"],
     &["work", "--size", "2", "--stats"],
+    &["glades", "--input", "i.txt"],
+    &["glades", "--grammar", "g.slif", "--rank", "rule"],
 ];
 
 // Whether a run is refused so, and each call that fails ends it as it should.
@@ -163,7 +166,7 @@ static CHECK_ROWS: [(&[u8], &[u8]); 8] = [
 // All jobs refuse a grammar alike, and the input is left alone. An empty file is read once.
 fn refuse(alloc: Global, grammar: &[u8], line: &[u8]) -> Result<bool, AllocError> {
     let files = if grammar.is_empty() { 2 } else { 3 };
-    for job in &[CHECKED, SUM, EXPECTED, REPORTED] {
+    for job in &[CHECKED, SUM, EXPECTED, REPORTED, COMPARED] {
         let given = Given { grammar, ..*job };
         if !is_refused(alloc, &given, 3, line, files, 0)? {
             return Ok(false);
@@ -261,7 +264,7 @@ fn stop(
 
 #[test]
 fn inputs_are_refused_alike_by_all_jobs(rt: HostRuntime) -> Result<(), Fail> {
-    let jobs = &[SUM, TREES, EXPECTED, REPORTED];
+    let jobs = &[SUM, TREES, EXPECTED, REPORTED, COMPARED];
     for (grammar, input, reads, line) in &STOP_ROWS {
         assert!(rt; stop(rt.alloc(), jobs, grammar, input, *reads, line)?);
     }
@@ -269,7 +272,7 @@ fn inputs_are_refused_alike_by_all_jobs(rt: HostRuntime) -> Result<(), Fail> {
 }
 
 // Jobs whose input is a file that is not read to its end.
-static FILED: [Given<'static>; 3] = [
+static FILED: [Given<'static>; 4] = [
     Given {
         words: &["run", "--grammar", "g.slif", "--input", "i.txt"],
         file: b"x",
@@ -282,6 +285,11 @@ static FILED: [Given<'static>; 3] = [
     },
     Given {
         words: &["progress", "--at=0", "--grammar=g.slif", "--input=i.txt"],
+        file: b"x",
+        ..SUM
+    },
+    Given {
+        words: &["glades", "--grammar=g.slif", "--input=i.txt"],
         file: b"x",
         ..SUM
     },
@@ -332,7 +340,7 @@ static END_ROWS: [(&[u8], &[u8], u8, &[u8]); 5] = [
 
 #[test]
 fn inputs_without_a_derivation_are_refused(rt: HostRuntime) -> Result<(), Fail> {
-    let jobs = &[SUM, TREES];
+    let jobs = &[SUM, TREES, COMPARED];
     for (grammar, input, reads, line) in &END_ROWS {
         assert!(rt; stop(rt.alloc(), jobs, grammar, input, *reads, line)?);
     }

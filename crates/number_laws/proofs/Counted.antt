@@ -76,7 +76,7 @@ counts_are_one b ranking pieces m n x y =
     λ i. record { links = links i; pairs = pairs i; expanded = expanded i }
 
 pub counts_bound_steps : CountsBoundSteps
-counts_bound_steps b ranking pieces n given before after x within =
+counts_bound_steps b ranking pieces n looks before after x within =
     let same = one_flat b x.flat within.flat x.is within.is in
     let moved = moved_to (IsCounted b.g1 ranking pieces n) x.flat within.flat x.top within.top same x.top_is within.top_is (counted b ranking pieces n x) in
     within.few n.links n.pairs n.expanded moved.links moved.pairs moved.expanded

@@ -1,14 +1,11 @@
 -- What the bound on the steps of a run counts: the links of the sets behind the first, the Leo pairs, and the hidden items that the forest
 -- brings back.
 use Rattle.std.specs.Prelude.{◌≡◌, ℕ, ◌+◌, ◌≤◌, List, Some, slice_get}
-use Rattle.std.specs.List.{sum_by}
-use Rattle.grammar_model.specs.Trees.{Tree}
 use Rattle.grammar_model.specs.Derives.{Held}
 use Rattle.grammar_model.specs.declared.Ranking.{Ranking}
 use Rattle.recognizer_model.specs.Flat.{FlatGrammar}
 use Rattle.recognizer_model.specs.Chosen.{allowed_by}
 use Rattle.recognizer_model.specs.FlatForm.{FlatEdges}
-use Rattle.recognizer_model.specs.Links.{choices}
 use Rattle.recognizer_model.specs.Nodes.{IsExpanded}
 use Rattle.recognizer_model.specs.Counts.{IsCountOf}
 use Rattle.flat_model.specs.Flattened.{IsFlattened}
@@ -16,7 +13,7 @@ use Rattle.language_model.specs.Building.{Built}
 use Rattle.language_model.specs.Texts.{IsBuilt}
 use Rattle.reading_model.specs.Accepted.{IsAccepted}
 use Rattle.reading_model.specs.Reading.{Piece, edges_of, earleme_after}
-use Rattle.run_model.specs.Steps.{IsPlacedLink, IsLeoPair, IsWithinSteps}
+use Rattle.run_model.specs.Steps.{IsPlacedLink, IsLeoPair, IsWithinLooks}
 
 pub record Counts : Type 0 where
   pub links : ℕ
@@ -41,7 +38,7 @@ CountsExist = (b : Built) (ranking : Ranking) (pieces : List Piece) → IsBuilt 
 abbrev pub CountsAreOne : Type 0
 CountsAreOne = (b : Built) (ranking : Ranking) (pieces : List Piece) (m n : Counts) → HasCounts b ranking pieces m → HasCounts b ranking pieces n → m ≡ n
 
--- and they bound the steps
+-- and they bound the steps of a reading and what is looked at behind it
 abbrev pub CountsBoundSteps : Type 0
-CountsBoundSteps = (b : Built) (ranking : Ranking) (pieces : List Piece) (n : Counts) (given : List Tree) (before after : ℕ) → HasCounts b ranking pieces n → IsWithinSteps b ranking pieces given before after →
-    after ≤ before + n.links + n.pairs + n.expanded + sum_by choices given
+CountsBoundSteps = (b : Built) (ranking : Ranking) (pieces : List Piece) (n : Counts) (looks before after : ℕ) → HasCounts b ranking pieces n → IsWithinLooks b ranking pieces looks before after →
+    after ≤ before + n.links + n.pairs + n.expanded + looks

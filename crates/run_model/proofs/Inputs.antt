@@ -1,16 +1,18 @@
 -- The bytes of an input are read to their end, or refused, in one way.
-use Rattle.std.proofs.Common.{[], ◌≡◌, ℕ, ◌≤◌, ◌++◌, List, Bool, true, false, ◌⊎◌, inl, inr, refl, sym, ap, ◌∙◌, arith, length, chars, codes, decimal, nat_le, leb-true}
+use Rattle.std.proofs.Common.{[], ◌≡◌, ℕ, ◌≤◌, ◌++◌, List, Bool, true, false, ◌⊎◌, inl, inr, refl, sym, ap, ◌∙◌, arith, length, chars, codes, decimal, nat_le, leb-true, slice_index_or, ◌∷◌}
 use Rattle.std.proofs.lemmas.Bool.{leb-false}
 use Rattle.std.specs.Str.{is_utf8}
 use Rattle.std.proofs.lemmas.Str.{utf8_valid_len-IsValidUpTo, IsUtf8-from_is_utf8}
 use Rattle.grammar_model.specs.Trees.{Tree}
 use Rattle.grammar_model.specs.declared.Ranking.{Ranking}
+use Rattle.grammar_model.specs.declared.Ranking.TheVariants.{Rule as RuleRanks}
 use Rattle.recognizer_model.specs.declared.ReportLine.{ReportLine}
 use Rattle.report_model.specs.Report.{IsReport}
+use Rattle.glade_model.specs.Glades.{Glade, AreGlades}
 use Rattle.language_model.specs.Building.{Built}
 use Rattle.language_model.specs.Texts.{IsBuilt}
 use Rattle.reading_model.specs.Accepted.{IsAccepted}
-use Rattle.reading_model.specs.Reading.{Piece, Ending, End, Stopped, IsReading, AreExpected, edges_of}
+use Rattle.reading_model.specs.Reading.{Piece, Ending, End, Stopped, IsReading, AreExpected, edges_of, earleme_after}
 use Rattle.reading_model.specs.Laws.{ReadingIsOne}
 use Rattle.run_model.specs.Inputs.{IsInputText, IsRead, IsInputRefused, TooLong, NotUtf8, ReadingStops, stop_text}
 use Rattle.run_model.specs.Listing.{AreDerivations}
@@ -18,7 +20,7 @@ use Rattle.run_model.specs.Numbers.{Numbers, HasNumbers}
 use Rattle.run_model.proofs.Utf8.{broken_at}
 
 -- what is needed of readings: a text has one, and what follows its pieces is listed: what is expected, all derivations, the numbers,
--- reports
+-- reports, and glades where there is a derivation
 pub record ReadingLaws : Type 0 where
   pub read : (b : Built) (text : List ℕ) → IsBuilt b → IsAccepted b → (pieces : List Piece) × (ending : Ending) × IsReading b text pieces ending
   pub one : ReadingIsOne
@@ -29,6 +31,8 @@ pub record ReadingLaws : Type 0 where
   pub one_numbers : (b : Built) (ranking : Ranking) (pieces : List Piece) (m n : Numbers) → HasNumbers b ranking pieces m → HasNumbers b ranking pieces n → m ≡ n
   pub report : (b : Built) (pieces : List Piece) (at : ℕ) → IsBuilt b → IsAccepted b → (lines : List ReportLine) × IsReport b.g1 (edges_of pieces) 0 at lines
   pub one_report : (b : Built) (pieces : List Piece) (at : ℕ) (xs ys : List ReportLine) → IsReport b.g1 (edges_of pieces) 0 at xs → IsReport b.g1 (edges_of pieces) 0 at ys → xs ≡ ys
+  pub glades : (b : Built) (pieces : List Piece) (tree : Tree) (trees : List Tree) → IsBuilt b → IsAccepted b → AreDerivations b RuleRanks pieces (tree ∷ trees) →
+      (glades : List Glade) × AreGlades b.g1 (edges_of pieces) (slice_index_or b.g1.starts 0 0) (earleme_after pieces) glades
 
 -- SOME OF ALL
 

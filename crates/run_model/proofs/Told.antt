@@ -5,19 +5,23 @@ use Rattle.grammar_model.specs.Grammar.{slot_of}
 use Rattle.grammar_model.specs.Trees.{Tree}
 use Rattle.grammar_model.specs.Derives.{Held}
 use Rattle.grammar_model.specs.declared.Ranking.{Ranking}
+use Rattle.grammar_model.specs.declared.Ranking.TheVariants.{Rule as RuleRanks}
 use Rattle.grammar_model.proofs.ChosenOnce.{chosen_unique}
 use Rattle.recognizer_model.specs.declared.ReportLine.{ReportLine}
+use Rattle.glade_model.specs.Glades.{Glade}
+use Rattle.glade_model.proofs.Reports.{glades_one}
 use Rattle.language_model.specs.Building.{Built}
 use Rattle.language_model.specs.Texts.{IsBuilt}
 use Rattle.reading_model.specs.Accepted.{IsAccepted}
 use Rattle.reading_model.specs.Reading.{Piece, edges_of, earleme_after}
 use Rattle.words_model.specs.Words.{ValuesAsked, Telling}
-use Rattle.words_model.specs.Words.Telling.{Values, Expected, Report}
+use Rattle.words_model.specs.Words.Telling.{Values, Expected, Report, Glades}
 use Rattle.run_model.specs.Listing.{AreDerivations}
 use Rattle.run_model.specs.Numbers.{Numbers}
-use Rattle.run_model.specs.Telling.{Outcome, refused, done, name_line, report_line, value_lines, stats_lines, no_derivation_text, no_set_text, TellsExpected, TellsValues, TellsReport, Tells}
+use Rattle.run_model.specs.Telling.{Outcome, refused, done, name_line, report_line, glade_line, value_lines, stats_lines, no_derivation_text, no_set_text, TellsExpected, TellsValues, TellsReport, TellsGlades, Tells}
 use Rattle.run_model.specs.Telling.TellsValues.{NoDerivation, Derived}
 use Rattle.run_model.specs.Telling.TellsReport.{NoSuchSet, Reported}
+use Rattle.run_model.specs.Telling.TellsGlades.{Underived, Compared}
 use Rattle.run_model.specs.Outcome.{IsInputOutcome}
 use Rattle.run_model.specs.Outcome.IsInputOutcome.{InputRefused, InputRead}
 use Rattle.run_model.proofs.Inputs.{ReadingLaws, read_or, one_read, not_both, one_refused}
@@ -52,10 +56,20 @@ module _ (laws : ReadingLaws) (b : Built) (pieces : List Piece) where
   one_report at x y (Reported lines within are is) (Reported lines' within' are' is') =
       is ∙ ap (λ (ls : List ReportLine). done (map (report_line b.g1 at) ls)) (laws.one_report b pieces at lines lines' are are') ∙ sym is'
 
+  one_compared : (x y : Outcome) → TellsGlades b pieces x → TellsGlades b pieces y → x ≡ y
+  one_compared x y (Underived expected none are is) (Underived expected' none' are' is') =
+      is ∙ ap (λ symbols. refused 1 (no_derivation_text b.g1 symbols)) (laws.one_expected b pieces expected expected' are are') ∙ sym is'
+  one_compared x y (Underived expected none are is) (Compared t ts glades all are' is') = absurd (no_tree RuleRanks t ts none all)
+  one_compared x y (Compared t ts glades all are is) (Underived expected none are' is') = absurd (no_tree RuleRanks t ts none all)
+  one_compared x y (Compared t ts glades all are is) (Compared t' ts' glades' all' are' is') =
+      is ∙ ap (λ (gs : List Glade). done (map (glade_line b.g1) gs))
+      (glades_one b.g1 (edges_of pieces) (slice_index_or b.g1.starts 0 0) (earleme_after pieces) glades glades' are are') ∙ sym is'
+
   pub one_told : (what : Telling) (cs : List ℕ) (x y : Outcome) → Tells what b cs pieces x → Tells what b cs pieces y → x ≡ y
   one_told (Values asked) cs x y p q = one_values asked cs x y p q
   one_told Expected cs x y p q = one_expected x y p q
   one_told (Report at) cs x y p q = one_report at x y p q
+  one_told Glades cs x y p q = one_compared x y p q
 
 module _ (laws : ReadingLaws) (what : Telling) (b : Built) (input : List ℕ) where
   pub one_of_input : (x y : Outcome) → IsInputOutcome what b input x → IsInputOutcome what b input y → x ≡ y
@@ -86,12 +100,24 @@ module _ (laws : ReadingLaws) (b : Built) (built : IsBuilt b) (accepted : IsAcce
       by true e = let (lines, are) = laws.report b pieces at built accepted in (done (map (report_line b.g1 at) lines), Reported lines (leb-true _ _ e) are refl)
       by false e = (refused 1 (no_set_text at (earleme_after pieces)), NoSuchSet (leb-false _ _ e) refl)
 
+  some_compared : (outcome : Outcome) × TellsGlades b pieces outcome
+  some_compared = let (trees, are) = laws.derivations b RuleRanks pieces built accepted in by trees are
+    where
+      by : (trees : List Tree) → AreDerivations b RuleRanks pieces trees → (outcome : Outcome) × TellsGlades b pieces outcome
+      by [] are =
+          let (expected, e) = laws.expected b pieces built accepted in
+          (refused 1 (no_derivation_text b.g1 expected), Underived expected are e refl)
+      by (tree ∷ trees) are =
+          let (glades, report) = laws.glades b pieces tree trees built accepted are in
+          (done (map (glade_line b.g1) glades), Compared tree trees glades are report refl)
+
   pub some_told : (what : Telling) (cs : List ℕ) → (outcome : Outcome) × Tells what b cs pieces outcome
   some_told (Values asked) cs = some_values asked cs
   some_told Expected cs =
       let (expected, are) = laws.expected b pieces built accepted in
       (done (map (name_line b.g1) expected), record { expected = expected; are = are; is = refl })
   some_told (Report at) cs = some_report at
+  some_told Glades cs = some_compared
 
 pub some_of_input : (laws : ReadingLaws) (b : Built) → IsBuilt b → IsAccepted b → (what : Telling) (input : List ℕ) → (outcome : Outcome) × IsInputOutcome what b input outcome
 some_of_input laws b built accepted what input = elim (read_or laws b built accepted input) [
@@ -117,7 +143,12 @@ plain_report : (b : Built) (at : ℕ) (pieces : List Piece) (outcome : Outcome) 
 plain_report b at pieces outcome (NoSuchSet past is) = plain_at outcome _ is (λ e. omega arith) (λ e. omega arith)
 plain_report b at pieces outcome (Reported lines within are is) = plain_at outcome _ is (λ e. omega arith) (λ e. omega arith)
 
+plain_compared : (b : Built) (pieces : List Piece) (outcome : Outcome) → TellsGlades b pieces outcome → IsPlain outcome
+plain_compared b pieces outcome (Underived expected none are is) = plain_at outcome _ is (λ e. omega arith) (λ e. omega arith)
+plain_compared b pieces outcome (Compared tree trees glades all are is) = plain_at outcome _ is (λ e. omega arith) (λ e. omega arith)
+
 pub plain_told : (what : Telling) (b : Built) (cs : List ℕ) (pieces : List Piece) (outcome : Outcome) → Tells what b cs pieces outcome → IsPlain outcome
 plain_told (Values asked) b cs pieces outcome told = plain_values asked b cs pieces outcome told
 plain_told Expected b cs pieces outcome told = plain_at outcome _ told.is (λ e. omega arith) (λ e. omega arith)
 plain_told (Report at) b cs pieces outcome told = plain_report b at pieces outcome told
+plain_told Glades b cs pieces outcome told = plain_compared b pieces outcome told

@@ -5,6 +5,7 @@ pub mod Inputs
 pub mod Listing
 pub mod Numbers
 pub mod Steps
+pub mod Glades
 pub mod Telling
 pub mod Jobs
 pub mod Outcome

@@ -34,9 +34,9 @@ pub record PlacedSymbol : Type 0 where
 abbrev pub IsLeoPair : (g : FlatGrammar) (E : Edges) (top place : ℕ) → PlacedSymbol → Type 0
 IsLeoPair g E top place p = (p.place ≤ place) × ((item : Item) × IsLeo g E top p.place p.symbol item)
 
--- a reading in these pieces, and then the derivations: at most a step for each link of the sets after the first, for each Leo pair, for
--- each hidden item that the forest brings back, and for each choice of the derivations
-pub record IsWithinSteps (b : Built) (ranking : Ranking) (pieces : List Piece) (given : List Tree) (before after : ℕ) : Type 0 where
+-- a reading in these pieces, and then so many looks: at most a step for each link of the sets after the first, for each Leo pair, for each
+-- hidden item that the forest brings back, and for each look
+pub record IsWithinLooks (b : Built) (ranking : Ranking) (pieces : List Piece) (looks before after : ℕ) : Type 0 where
   pub flat : FlatGrammar
   pub is : IsFlattened b.g1 flat
   pub top : ℕ
@@ -45,4 +45,8 @@ pub record IsWithinSteps (b : Built) (ranking : Ranking) (pieces : List Piece) (
       IsCountOf (IsPlacedLink flat (FlatEdges flat (Held (edges_of pieces))) top (earleme_after pieces)) links →
       IsCountOf (IsLeoPair flat (FlatEdges flat (Held (edges_of pieces))) top (earleme_after pieces)) pairs →
       IsCountOf (IsExpanded flat (FlatEdges flat (Held (edges_of pieces))) (allowed_by b.g1 ranking flat (FlatEdges flat (Held (edges_of pieces)))) top (earleme_after pieces)) expanded →
-      after ≤ before + links + pairs + expanded + sum_by choices given
+      after ≤ before + links + pairs + expanded + looks
+
+-- where derivations are given, there is a look for each of their choices
+abbrev pub IsWithinSteps : Built → Ranking → List Piece → (given : List Tree) → (before after : ℕ) → Type 0
+IsWithinSteps b ranking pieces given before after = IsWithinLooks b ranking pieces (sum_by choices given) before after

@@ -1,25 +1,28 @@
 -- What the jobs tell of an input that is read to its end, by its pieces, and in how many steps.
--- Sources: the Libmarpa manual (progress reports; bocage, order, tree, value) and the Marpa::R2 SLIF DSL manual (lexemes that are
--- expected); the texts are our own.
-use Rattle.std.specs.Prelude.{◌≡◌, ℕ, ◌<◌, ◌≤◌, ◌==◌, ◌++◌, if◌then◌else◌, Bool, ⊤, Option, List, [], ◌∷◌, map, flat_map, codes, chars, encode_utf8, decimal}
+-- Sources: the Libmarpa manual (progress reports; bocage, order, tree, value), the Marpa::R2 SLIF DSL manual (lexemes that are
+-- expected) and the Marpa::R2 documentation of its ambiguity reports; the texts are our own.
+use Rattle.std.specs.Prelude.{◌≡◌, ℕ, ◌<◌, ◌≤◌, ◌==◌, ◌++◌, if◌then◌else◌, Bool, ⊤, Option, List, [], ◌∷◌, map, flat_map, slice_index_or, codes, chars, encode_utf8, decimal}
 use Rattle.std.specs.List.{concat}
 use Rattle.std.specs.Str.Lossy.{utf8_lossy}
 use Rattle.grammar_model.specs.Grammar.{Grammar}
 use Rattle.grammar_model.specs.Trees.{Tree}
 use Rattle.grammar_model.specs.Values.{name_of}
 use Rattle.grammar_model.specs.declared.Ranking.{Ranking}
+use Rattle.grammar_model.specs.declared.Ranking.TheVariants.{Rule as RuleRanks}
 use Rattle.grammar_model.specs.Text.{is_control, escaped}
 use Rattle.recognizer_model.specs.declared.ReportLine.{ReportLine}
 use Rattle.report_model.specs.Report.{IsReport}
 pub use Rattle.report_model.specs.Lines.{report_line}
+use Rattle.glade_model.specs.Glades.{Glade, AreGlades}
 use Rattle.language_model.specs.Building.{Built}
 use Rattle.reading_model.specs.Reading.{Piece, AreExpected, edges_of, earleme_after}
 use Rattle.words_model.specs.Words.{ValuesAsked, Telling}
-use Rattle.words_model.specs.Words.Telling.{Values, Expected, Report}
+use Rattle.words_model.specs.Words.Telling.{Values, Expected, Report, Glades}
+pub use Rattle.run_model.specs.Glades.{glade_line}
 use Rattle.run_model.specs.Inputs.{names_text}
 use Rattle.run_model.specs.Listing.{AreDerivations, line_of, first_of}
 use Rattle.run_model.specs.Numbers.{Numbers, HasNumbers}
-use Rattle.run_model.specs.Steps.{IsWithinSteps}
+use Rattle.run_model.specs.Steps.{IsWithinLooks, IsWithinSteps}
 
 -- the text for the standard output, the line for the standard error, and the status
 pub record Outcome : Type 0 where
@@ -95,11 +98,19 @@ pub data TellsReport (b : Built) (at : ℕ) (pieces : List Piece) (outcome : Out
   Reported : (lines : List ReportLine) → at ≤ earleme_after pieces → IsReport b.g1 (edges_of pieces) 0 at lines → outcome ≡ done (map (report_line b.g1 at) lines) →
       TellsReport b at pieces outcome
 
+-- where the derivations differ; or there is none
+pub data TellsGlades (b : Built) (pieces : List Piece) (outcome : Outcome) : Type 0 where
+  Underived : (expected : List ℕ) → AreDerivations b RuleRanks pieces [] → AreExpected b pieces expected → outcome ≡ refused 1 (no_derivation_text b.g1 expected) →
+      TellsGlades b pieces outcome
+  Compared : (tree : Tree) (trees : List Tree) (glades : List Glade) → AreDerivations b RuleRanks pieces (tree ∷ trees) →
+      AreGlades b.g1 (edges_of pieces) (slice_index_or b.g1.starts 0 0) (earleme_after pieces) glades → outcome ≡ done (map (glade_line b.g1) glades) → TellsGlades b pieces outcome
+
 -- what is told of these characters, which were read in these pieces
 abbrev pub Tells : Telling → Built → (cs : List ℕ) → List Piece → Outcome → Type 0
 Tells (Values asked) b cs pieces outcome = TellsValues asked b cs pieces outcome
 Tells Expected b cs pieces outcome = TellsExpected b pieces outcome
 Tells (Report at) b cs pieces outcome = TellsReport b at pieces outcome
+Tells Glades b cs pieces outcome = TellsGlades b pieces outcome
 
 -- HOW MANY STEPS IT MAY TAKE
 
@@ -109,8 +120,15 @@ pub record GivesWithin (b : Built) (ranking : Ranking) (first : Option ℕ) (pie
   pub all : AreDerivations b ranking pieces trees
   pub within : IsWithinSteps b ranking pieces (first_of first trees) before after
 
+-- each node of the forest is looked at once, at most
+pub record ComparesWithin (b : Built) (pieces : List Piece) (before after : ℕ) : Type 0 where
+  pub numbers : Numbers
+  pub has : HasNumbers b RuleRanks pieces numbers
+  pub within : IsWithinLooks b RuleRanks pieces numbers.nodes before after
+
 -- the steps of the reading in these pieces and of what is told of it, where they have a bound
 abbrev pub TellsWithin : Telling → Built → List Piece → (before after : ℕ) → Type 0
 TellsWithin (Values asked) b pieces before after = GivesWithin b asked.ranking asked.first pieces before after
 TellsWithin Expected b pieces before after = ⊤
 TellsWithin (Report at) b pieces before after = ⊤
+TellsWithin Glades b pieces before after = ComparesWithin b pieces before after

@@ -187,6 +187,14 @@ pub const REPORTED: Given<'static> = Given {
 
 pub const REPORTED_LINES: &[u8] = b"0:0 @2-2 E\n0:2 @0-2 E\n1:0 @2-2 E\n";
 
+/// The sum is divided at its last operator, or at its first.
+pub const COMPARED: Given<'static> = Given {
+    words: &["glades", "--grammar", "g.slif"],
+    ..SUM
+};
+
+pub const COMPARED_LINES: &[u8] = b"E 0-5: 0 at 0,3,4; 0 at 0,1,2\n";
+
 pub const WORKED: Given<'static> = Given {
     words: &["work", "--size", "2"],
     input: b"",

@@ -4,6 +4,8 @@
 #[cfg(test)]
 mod examples;
 #[cfg(test)]
+mod glades;
+#[cfg(test)]
 mod library;
 #[cfg(test)]
 mod runs;

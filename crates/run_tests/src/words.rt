@@ -27,6 +27,7 @@ enum Asked {
     Check,
     Expect,
     Progress,
+    Glades,
     Work,
     Nothing,
 }
@@ -39,6 +40,7 @@ fn is_task(task: Task, wanted: Asked) -> bool {
         (Task::Check, Asked::Check) => true,
         (Task::Tell(Telling::Expected), Asked::Expect) => true,
         (Task::Tell(Telling::Report { at }), Asked::Progress) => at == 16_777_216,
+        (Task::Tell(Telling::Glades), Asked::Glades) => true,
         (Task::Work { size }, Asked::Work) => size == 100_000,
         _ => false,
     }
@@ -47,7 +49,7 @@ fn is_task(task: Task, wanted: Asked) -> bool {
 fn grammar_wanted(wanted: Asked) -> Option<&'static str> {
     match wanted {
         Asked::AllGiven | Asked::AllLeftOut => Some("g.slif"),
-        Asked::Check | Asked::Progress => Some("g"),
+        Asked::Check | Asked::Progress | Asked::Glades => Some("g"),
         Asked::Expect => Some("--"),
         Asked::Work | Asked::Nothing => None,
     }
@@ -58,7 +60,7 @@ fn is_input(input: InputFrom<'_>, wanted: Asked) -> bool {
     match (input, wanted) {
         (InputFrom::FileNamed(name), Asked::AllGiven) => name == "i.txt",
         (InputFrom::FileNamed(name), Asked::Expect) => name == "-x",
-        (InputFrom::StandardInput, Asked::AllLeftOut | Asked::Progress) => true,
+        (InputFrom::StandardInput, Asked::AllLeftOut | Asked::Progress | Asked::Glades) => true,
         (InputFrom::Nowhere, Asked::Check | Asked::Work) => true,
         _ => false,
     }
@@ -115,7 +117,7 @@ fn options_stand_in_any_order_and_spelling(rt: HostRuntime) -> Result<(), Fail> 
     Ok(())
 }
 
-static JOBS: [(&[&str], Asked); 4] = [
+static JOBS: [(&[&str], Asked); 5] = [
     (&["check", "--grammar", "g"], Asked::Check),
     (&["expect", "--input=-x", "--grammar=--"], Asked::Expect),
     (
@@ -123,6 +125,7 @@ static JOBS: [(&[&str], Asked); 4] = [
         Asked::Progress,
     ),
     (&["work", "--size=0000100000"], Asked::Work),
+    (&["--grammar=g", "glades"], Asked::Glades),
 ];
 
 #[test]
@@ -131,7 +134,7 @@ fn each_job_is_read(rt: HostRuntime) -> Result<(), Fail> {
     Ok(())
 }
 
-static NOTHING: [&[&str]; 16] = [
+static NOTHING: [&[&str]; 18] = [
     &[],
     &["run"],
     &["--grammar", "g"],
@@ -148,6 +151,8 @@ static NOTHING: [&[&str]; 16] = [
     &["check", "--grammar", "g", "--input", "i"],
     &["progress", "--grammar", "g", "--at", "16777217"],
     &["work", "--size", "00000000001"],
+    &["glades"],
+    &["glades", "--grammar", "g", "--first", "1"],
 ];
 
 #[test]

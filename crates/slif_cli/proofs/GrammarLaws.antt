@@ -1,7 +1,10 @@
 -- What a run needs to know of grammars, from the laws of grammars and of checks.
-use Rattle.std.proofs.Common.{◌≡◌, ℕ, ◌≤◌, List, [], ◌∷◌, inl, inr, refl, sym, subst, arith}
+use Rattle.std.proofs.Common.{◌≡◌, ℕ, ◌≤◌, List, [], ◌∷◌, inl, inr, refl, sym, subst, arith, slice_index_or}
 use Rattle.grammar_model.specs.Grammar.{Grammar, Slot, slot_of}
+use Rattle.grammar_model.specs.Trees.{Tree}
 use Rattle.grammar_model.specs.Analysis.{IsAccessible}
+use Rattle.glade_model.specs.Glades.{Glade, AreGlades}
+use Rattle.glade_laws.proofs.Existing.{reports_exist as glades_exist}
 use Rattle.finite_sets.specs.Decided.{IsDecided}
 use Rattle.finite_sets.proofs.Deciding.{both, one_of, moved, equal, test_of, test_true, true_test}
 use Rattle.finite_sets.proofs.Members.{Among}
@@ -24,18 +27,20 @@ use Rattle.report_laws.proofs.One.{report_is_one}
 use Rattle.report_laws.proofs.Existing.{reports_exist}
 use Rattle.recognizer_model.specs.declared.ReportLine.{ReportLine}
 use Rattle.reading_model.specs.Accepted.{IsAccepted}
-use Rattle.reading_model.specs.Reading.{Piece, edges_of}
+use Rattle.reading_model.specs.Reading.{Piece, edges_of, earleme_after}
 use Rattle.reading_laws.proofs.Reading.{reading_exists}
 use Rattle.language_model.specs.Building.{Built}
 use Rattle.language_model.specs.Texts.{IsBuilt}
 use Rattle.prepared_grammars.proofs.Ordered.{in_order}
 use Rattle.run_model.proofs.Inputs.{ReadingLaws}
 use Rattle.run_model.specs.Checking.{SymbolRow, IsRowOf}
+use Rattle.run_model.specs.Listing.{AreDerivations}
 use Rattle.run_model.proofs.Texts.{GrammarLaws, RunLaws}
 use Rattle.grammar_model.specs.declared.Ranking.TheVariants.{Rule as RuleRanks}
 use Rattle.run_model.specs.Telling.{work_line}
 use Rattle.run_model.specs.Outcome.{Outcome, IsWorkOutcome, done}
 use Rattle.slif_cli.proofs.LanguageLaws.{text_laws}
+use Rattle.slif_cli.proofs.Derivations.{reading_by, derived_of}
 
 some_slot : (P : Slot → Type 0) → ((s : Slot) → IsDecided (P s)) → (xs : List Slot) → IsDecided ((s : Slot) × Among s xs × P s)
 some_slot P d [] = inr (λ (s, m, p). m)
@@ -81,6 +86,16 @@ some_report b pieces at built accepted =
     let (flat, is_flat, form) = flat_form_exists b.g1 checked accepted.structural (built_are_short b built) in
     reports_exist b.g1 flat (edges_of pieces) 0 at is_flat form checked (pieces_forward pieces) checked.some_start
 
+-- each reading with a derivation has its glades
+some_glades : (b : Built) (pieces : List Piece) (tree : Tree) (trees : List Tree) → IsBuilt b → IsAccepted b → AreDerivations b RuleRanks pieces (tree ∷ trees) →
+    (glades : List Glade) × AreGlades b.g1 (edges_of pieces) (slice_index_or b.g1.starts 0 0) (earleme_after pieces) glades
+some_glades b pieces tree trees built accepted are =
+    let checked = accepted.checked.structural in
+    let (flat, is_flat, made) = flat_form_exists b.g1 checked accepted.structural (built_are_short b built) in
+    let derives = ((are.each tree).0 (0, omega arith, refl)).0 in
+    let derived = derived_of b.g1 flat is_flat made checked (edges_of pieces) (pieces_forward pieces) (earleme_after pieces) tree derives in
+    glades_exist (reading_by b.g1 flat (edges_of pieces) (earleme_after pieces)) derived refl
+
 pub reading_laws : ReadingLaws
 reading_laws = record {
   read = λ b text built accepted. reading_exists b [] text accepted.checked.structural (lexemes_named b built);
@@ -92,6 +107,7 @@ reading_laws = record {
   one_numbers = numbers_are_one;
   report = some_report;
   one_report = λ b pieces at xs ys p q. report_is_one b.g1 (edges_of pieces) 0 at xs ys p q;
+  glades = some_glades;
 }
 
 -- job `work` has an outcome

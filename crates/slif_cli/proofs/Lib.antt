@@ -14,3 +14,5 @@ pub mod Reported
 pub mod Own
 pub mod Within
 pub mod OneLine
+pub mod Derivations
+pub mod Compared

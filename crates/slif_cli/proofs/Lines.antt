@@ -58,6 +58,15 @@ one_more_written lines k line before middle after e whole more =
     let next : k + 1 ≡ suc k = omega arith in
     subst (Appends before after) (sym (ap (λ (n : ℕ). concat (take n lines)) next ∙ one_line_more lines k line e)) (appends_twice before middle after (concat (take k lines)) line whole more)
 
+-- a line behind whole lines is not all written
+pub line_stops : (lines : List (List ℕ)) (k : ℕ) (line : List ℕ) (before middle after : Stream) (stop : Stop) → slice_get lines k ≡ Some line
+    → Appends before.bytes middle.bytes (concat (take k lines)) → before.faults ≤ middle.faults → LinesStop (line ∷ []) middle after stop → LinesStop lines before after stop
+line_stops lines k line before middle after stop e whole later stops =
+    stops_as (λ r x. x) (λ n x. x) (λ x. x) (λ x. (let rose = x.0 in omega (arith, later, rose), behind x.1)) behind stop stops
+  where
+    behind : AppendsPrefix middle.bytes after.bytes (concat (line ∷ [])) → AppendsPrefix before.bytes after.bytes (concat lines)
+    behind part = prefix_of_text lines k line before.bytes middle.bytes after.bytes e whole (subst (AppendsPrefix middle.bytes after.bytes) (append-nil line) part)
+
 -- an item of a list, as a line
 pub mapped_item : {X : Type 0} (f : X → List ℕ) (xs : List X) (k : ℕ) (x : X) → k < length xs → x ≡ slice_index_or xs k x → slice_get (map f xs) k ≡ Some (f x)
 mapped_item f [] k x lt e = absurd (omega arith)

@@ -157,6 +157,6 @@ module _ (size : ℕ) (sized : size ≤ 100000) where
               within = record {
                 trees = trees;
                 all = all;
-                within = within b recce recognizes has.pieces holds RuleRanks trees before read built after reads builds (subst (λ (ts : List Tree). after ≤ built + sum_by choices ts) few (gives trees l));
+                within = within b recce recognizes has.pieces holds RuleRanks (sum_by choices trees) before read built after reads builds (subst (λ (ts : List Tree). after ≤ built + sum_by choices ts) few (gives trees l));
               };
             }

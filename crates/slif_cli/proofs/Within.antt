@@ -33,7 +33,7 @@ use Rattle.run_model.specs.Inputs.{IsInputText}
 use Rattle.run_model.specs.Listing.{first_of}
 use Rattle.run_model.specs.Outside.{Stream}
 use Rattle.run_model.specs.Runs.{Supplied}
-use Rattle.run_model.specs.Steps.{IsPlacedLink, IsLeoPair, IsWithinSteps}
+use Rattle.run_model.specs.Steps.{IsPlacedLink, IsLeoPair, IsWithinLooks}
 use Rattle.run_model.specs.Within.{DoesWithin, RunsWithin, InputWithin}
 use Rattle.slif_cli.specs.Stops.{Reports}
 use Rattle.slif_cli.specs.Tasks.{HasForest, GoesOnWithin}
@@ -84,10 +84,10 @@ module _ (b : Built) (recce : Recognizer) (is : IsRecognizer recce) (pieces : Li
       (λ p. record { set = p.place; symbol = p.symbol }) (λ q. record { place = q.set; symbol = q.symbol })
       (λ p l. l) (λ q l. l) (λ p. refl) (λ q. refl) n count
 
-  pub within : (ranking : Ranking) (given : List Tree) (before read built after : ℕ) → TakesAtMost recce before read
+  pub within : (ranking : Ranking) (looks before read built after : ℕ) → TakesAtMost recce before read
       → ((n : ℕ) → IsCountOf (IsExpanded recce.flat (edges_of recce) (allowed_by b.g1 ranking recce.flat (edges_of recce)) (top_of recce) (earleme_of recce)) n → built ≤ read + n)
-      → after ≤ built + sum_by choices given → IsWithinSteps b ranking pieces given before after
-  within ranking given before read built after reads builds gives = record {
+      → after ≤ built + looks → IsWithinLooks b ranking pieces looks before after
+  within ranking looks before read built after reads builds gives = record {
     flat = recce.flat;
     is = holds.flat;
     top = top_of recce;
@@ -116,7 +116,7 @@ module _ (b : Built) (asked : ValuesAsked) (cs : List ℕ) (spans : List Span) (
         within = λ before reads. record {
           trees = trees;
           all = listed b asked.ranking cs spans f has trees l;
-          within = within b recce is has.pieces holds asked.ranking (first_of asked.first trees) before read built after reads builds (gives trees l);
+          within = within b recce is has.pieces holds asked.ranking (sum_by choices (first_of asked.first trees)) before read built after reads builds (gives trees l);
         };
       }
 

@@ -15,12 +15,15 @@ ghost use Rattle.slif_cli.specs.Stops.{Does, InputHolds, MayRead, StopsAt, Write
 ghost use Rattle.slif_cli.specs.Tasks.{TellsReading, GoesOnWithin};
 
 mod expecting;
+mod glade_lines;
+mod glading;
 mod reporting;
 mod values;
 
 use crate::inputs::read_bytes;
 use crate::stop::Stop;
 use crate::telling::expecting::write_expected;
+use crate::telling::glading::write_glades;
 use crate::telling::reporting::write_report;
 use crate::telling::values::write_values;
 use command_line::{InputFrom, Telling};
@@ -115,5 +118,6 @@ fn tell_reading<'a, O: Sink, L: Ledger>(
         ),
         Telling::Expected => write_expected(alloc, prepared, chars, reading, out),
         Telling::Report { at } => write_report(alloc, prepared, at, chars, reading, out),
+        Telling::Glades => write_glades(alloc, prepared, chars, reading, out, steps),
     }
 }

@@ -4,7 +4,7 @@ use Rattle.grammar_model.specs.declared.Ranking.{Ranking}
 use Rattle.grammar_model.specs.declared.Ranking.TheVariants.{None as NoRanks, Rule as RuleRanks}
 use Rattle.grammar_model.specs.declared.Show.{Show}
 use Rattle.grammar_model.specs.declared.Show.TheVariants.{Array as ShowArray, Tree as ShowTree}
-use Rattle.words_model.specs.Words.{Job, Task, Values, Check, Expected, Report, Tell, Work, InputFrom, Nowhere, StandardInput, FileNamed, job_asked}
+use Rattle.words_model.specs.Words.{Job, Task, Values, Check, Expected, Report, Glades, Tell, Work, InputFrom, Nowhere, StandardInput, FileNamed, job_asked}
 
 abbrev input_in : Option (List ℕ) → InputFrom
 input_in None = StandardInput
@@ -24,6 +24,9 @@ expects grammar input = of_grammar grammar (input_in input) (Tell Expected)
 
 abbrev reports : (grammar : List ℕ) (at : ℕ) (input : Option (List ℕ)) → Job
 reports grammar at input = of_grammar grammar (input_in input) (Tell (Report at))
+
+abbrev shows_glades : (grammar : List ℕ) (input : Option (List ℕ)) → Job
+shows_glades grammar input = of_grammar grammar (input_in input) (Tell Glades)
 
 abbrev works : ℕ → Job
 works size = record { grammar = None; input = Nowhere; task = Work size }
@@ -276,3 +279,15 @@ an_empty_word = refl
 
 a_space_in_a_name : job_asked (codes "check" ∷ codes "--grammar" ∷ codes "a b" ∷ []) ≡ Some (checks (codes "a b"))
 a_space_in_a_name = refl
+
+glades_plain : job_asked (codes "glades" ∷ codes "--grammar" ∷ codes "g.slif" ∷ []) ≡ Some (shows_glades (codes "g.slif") None)
+glades_plain = refl
+
+glades_text : job_asked (codes "glades" ∷ codes "--input=text" ∷ codes "--grammar" ∷ codes "g.slif" ∷ []) ≡ Some (shows_glades (codes "g.slif") (Some (codes "text")))
+glades_text = refl
+
+glades_without_a_grammar : job_asked (codes "glades" ∷ []) ≡ None
+glades_without_a_grammar = refl
+
+rank_for_glades : job_asked (codes "glades" ∷ codes "--grammar" ∷ codes "g.slif" ∷ codes "--rank" ∷ codes "rule" ∷ []) ≡ None
+rank_for_glades = refl

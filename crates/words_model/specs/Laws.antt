@@ -1,8 +1,8 @@
 -- Laws of the definitions.
 use Rattle.std.specs.Prelude.{◌≡◌, ◌≢◌, ℕ, ◌≤◌, Bool, true, false, not, IsTrue, List, ◌∷◌, ◌++◌, ◌⊎◌, Option, Some, None, is_some, bytes_eq, codes}
-use Rattle.std.specs.List.{list_all}
+use Rattle.std.specs.List.{list_all, join_by}
 use Rattle.language_model.specs.Building.{is_one_of}
-use Rattle.words_model.specs.Words.{Job, Task, Check, Tell, Work, InputFrom, Nowhere, Setting, Asks, AskNothing, is_dashed, job_asked, with_value, words_set}
+use Rattle.words_model.specs.Words.{Job, Task, Check, Tell, Work, InputFrom, Nowhere, Setting, Asks, AskNothing, is_dashed, job_asked, jobs, usage_text, with_value, words_set}
 
 -- the words ask for a job or for none, and for one at most
 abbrev pub HasJobOrNone : Type 0
@@ -19,6 +19,10 @@ IsFitted (Work size) grammar input = (grammar ≡ None) × (input ≡ Nowhere) �
 
 abbrev pub JobsAreFitted : Type 0
 JobsAreFitted = (words : List (List ℕ)) (job : Job) → Asks words job → IsFitted job.task job.grammar job.input
+
+-- the usage names the jobs of the table, in order
+abbrev pub UsageNamesJobs : Type 0
+UsageNamesJobs = usage_text ≡ codes "usage: slif JOB [options]; jobs: " ++ join_by (λ row. row.name) (codes ", ") jobs
 
 -- `--name value` and `--name=value` set the same
 abbrev pub SpellingsAgree : Type 0

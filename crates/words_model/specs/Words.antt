@@ -1,9 +1,9 @@
 -- What the words of the command line ask for. They follow POSIX's utility syntax (XBD 12.1 and 12.2) with GNU's long options:
 -- a word that begins with `--` names an option, whose value stands after `=` (61) or is the next word; `--` alone ends the
 -- options; any other word is an operand. A word is the bytes of its characters.
-use Rattle.std.specs.Prelude.{◌≡◌, ℕ, ◌==◌, Bool, true, false, not, ◌&&◌, ◌||◌, if◌then◌else◌, nat_eq, nat_lt, nat_le, List, [], ◌∷◌, ◌++◌, map, length, drop, Option, Some, None, is_some, option_map, option_and_then, find, bytes_eq, codes}
+use Rattle.std.specs.Prelude.{◌≡◌, ℕ, ◌==◌, Bool, true, false, not, ◌&&◌, ◌||◌, if◌then◌else◌, nat_eq, nat_lt, nat_le, List, [], ◌∷◌, map, length, drop, Option, Some, None, is_some, option_map, option_and_then, find, bytes_eq, codes}
 use Rattle.std.specs.Char.{is_ascii_digit}
-use Rattle.std.specs.List.{list_all, list_any, starts_with, before_first, after_first, join_by}
+use Rattle.std.specs.List.{list_all, list_any, starts_with, before_first, after_first}
 use Rattle.grammar_model.specs.declared.Ranking.{Ranking}
 use Rattle.grammar_model.specs.declared.Ranking.TheVariants.{None as NoRanks, Rule as RuleRanks, High as HighRanks}
 use Rattle.grammar_model.specs.declared.Show.{Show}
@@ -20,11 +20,13 @@ pub record ValuesAsked : Type 0 where
   pub first : Option ℕ
   pub stats : Bool
 
--- what is told of an input that is read to its end: the values of its derivations, the lexemes that could come next, or the report at a place
+-- what is told of an input that is read to its end: the values of its derivations, the lexemes that could come next, the report at a place,
+-- or where its derivations differ
 pub data Telling : Type 0 where
   Values : (asked : ValuesAsked) → Telling
   Expected : Telling
   Report : (at : ℕ) → Telling
+  Glades : Telling
 
 -- what a job does: it tells what the symbols of its grammar can do, it tells something of its input, or it reads an input of its own, of
 -- that size, by a grammar of its own
@@ -216,7 +218,8 @@ jobs =
     record { name = codes "check"; does = Checks } ∷
     record { name = codes "expect"; does = Tells [] (λ given. Some Expected) } ∷
     record { name = codes "progress"; does = Tells (codes "at" ∷ []) report_asked } ∷
-    record { name = codes "work"; does = Works } ∷ []
+    record { name = codes "work"; does = Works } ∷
+    record { name = codes "glades"; does = Tells [] (λ given. Some Glades) } ∷ []
 
 -- the options that a job may have; it needs those whose value has no default
 abbrev pub options_of : Does → List (List ℕ)
@@ -236,9 +239,9 @@ job_named name given =
 abbrev pub job_given : Given → Option Job
 job_given given = option_and_then (λ name. job_named name given) (given (codes "JOB"))
 
--- what is told where the words ask for no job
+-- what is told where the words ask for no job. It names the rows of the table (a law)
 abbrev pub usage_text : List ℕ
-usage_text = codes "usage: slif JOB [options]; jobs: " ++ join_by (λ row. row.name) (codes ", ") jobs
+usage_text = codes "usage: slif JOB [options]; jobs: run, check, expect, progress, work, glades"
 
 -- THE JOB THAT WORDS ASK FOR
 abbrev pub job_asked : List (List ℕ) → Option Job

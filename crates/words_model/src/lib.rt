@@ -2,7 +2,7 @@
 //! states.
 #![tactic(auto)]
 
-ghost use Rattle.words_model.specs.Laws.{HasJobOrNone, HasOneJob, JobsAreFitted, PartsChangePlaces, SpellingsAgree};
+ghost use Rattle.words_model.specs.Laws.{HasJobOrNone, HasOneJob, JobsAreFitted, PartsChangePlaces, SpellingsAgree, UsageNamesJobs};
 
 /// Words ask for a job or for none.
 pub fn job_or_none()
@@ -17,6 +17,11 @@ pub fn one_job()
 /// A job that words ask for has what its task needs.
 pub fn jobs_are_fitted()
     ensures { JobsAreFitted }
+{}
+
+/// The line of the usage names the jobs of the table.
+pub fn usage_names_jobs()
+    ensures { UsageNamesJobs }
 {}
 
 /// An option's value may stand in its word or in the next, where that does not begin with a hyphen.

@@ -1,0 +1,71 @@
+use Rattle.std.proofs.Common.{◌∙◌, ◌<◌, List, All, length, map, slice_index_or, sym, subst}
+use Rattle.std.proofs.lemmas.Result.{on_ok_weaker, MatchResult-weaker}
+use Rattle.grammar_model.specs.Grammar.{Grammar}
+use Rattle.grammar_model.specs.declared.Ranking.TheVariants.{Rule as RuleRanks}
+use Rattle.glade_model.specs.Glades.{Glade}
+use Rattle.reading_model.specs.Reading.{edges_of, earleme_after}
+use Rattle.words_model.specs.Words.Telling.{Glades}
+use Rattle.run_model.specs.Glades.{glade_line}
+use Rattle.run_model.specs.Outside.{stream}
+use Rattle.text_reading.specs.Refusals.{IsNoDerivation}
+use Rattle.slif_cli.specs.Refusals.{stop_for}
+use Rattle.slif_cli.specs.Stops.{WriteStops}
+use Rattle.slif_cli.specs.Tasks.{TellsReading}
+use Rattle.slif_cli.proofs.Compared.{compared, compares_within, glades_as, glades_known, none_compared}
+use Rattle.slif_cli.proofs.Refusing.{input_stops_for}
+use Rattle.slif_cli.proofs.Stopping.{lines_done, lines_stop, memory_stops, passed_on}
+use Rattle.slif_cli.proofs.telling.glading.write_glades.Goals as goal
+
+pub returns-in_err-forest-clause-stops : goal.returns-in_err-forest-clause-stops
+returns-in_err-forest-clause-stops g c =
+    let b = c.args.prepared.now in
+    let cs = c.args.chars.now in
+    let before = stream g.O.Sink.contents g.O.Sink.fault_count c.args.out.now in
+    let refusal = c.in_err-forest.field-0.0 in
+    passed_on (WriteStops (TellsReading Glades b cs) before before) c.from_residual.result (stop_for refusal) c.from_residual.ensures.1
+    (input_stops_for (IsNoDerivation b RuleRanks cs) (TellsReading Glades b cs) (none_compared b cs) before refusal c.in_err-forest.ensures.refused)
+
+pub report_glades-requires-clause-built : goal.report_glades-requires-clause-built
+report_glades-requires-clause-built g c = c.in_ok-forest.ensures.forest.of.written ∙ sym c.written-w.ensures
+
+pub returns-in_err-glades-clause-stops : goal.returns-in_err-glades-clause-stops
+returns-in_err-glades-clause-stops g c =
+    memory_stops (TellsReading Glades c.args.prepared.now c.args.chars.now) (stream g.O.Sink.contents g.O.Sink.fault_count c.args.out.now)
+    c.from_residual-in_err-glades.result c.from_residual-in_err-glades.ensures.1
+
+pub write_lines_of-requires : goal.write_lines_of-requires
+write_lines_of-requires g c =
+    let b = c.args.prepared.now in
+    let has = c.in_ok-forest.ensures.forest in
+    let glades = c.in_ok-glades.glades.items in
+    let are = glades_as b c.args.chars.now c.args.reading.now.spans.items c.in_ok-forest.forest has c.known-in_ok-forest.ensures glades c.in_ok-glades.ensures.report in
+    subst (λ (w : Grammar). All (λ (x : Glade). x.slot.symbol < length w.names) c.deref.result.now) (sym c.written-w.ensures)
+    (subst (λ (xs : List Glade). All (λ (x : Glade). x.slot.symbol < length b.g1.names) xs) (sym c.deref.ensures.value)
+    (glades_known b.g1 c.known.ensures.ranges.g1 (edges_of has.pieces) (slice_index_or b.g1.starts 0 0) (earleme_after has.pieces) glades are))
+
+pub returns-clause-done : goal.returns-clause-done
+returns-clause-done g c =
+    let b = c.args.prepared.now in
+    let cs = c.args.chars.now in
+    let told = compared b cs c.args.reading.now.spans.items c.in_ok-forest.forest c.in_ok-forest.ensures.forest c.known-in_ok-forest.ensures c.written-w.result.now c.written-w.ensures
+    c.in_ok-glades.glades.items c.deref.result.now c.in_ok-glades.ensures.report c.deref.ensures.value in
+    on_ok_weaker c.write_lines_of.result
+    (lines_done (TellsReading Glades b cs) (map (glade_line c.written-w.result.now) c.deref.result.now) told _ _) c.write_lines_of.ensures.written
+
+pub returns-clause-stops : goal.returns-clause-stops
+returns-clause-stops g c =
+    let b = c.args.prepared.now in
+    let cs = c.args.chars.now in
+    let told = compared b cs c.args.reading.now.spans.items c.in_ok-forest.forest c.in_ok-forest.ensures.forest c.known-in_ok-forest.ensures c.written-w.result.now c.written-w.ensures
+    c.in_ok-glades.glades.items c.deref.result.now c.in_ok-glades.ensures.report c.deref.ensures.value in
+    MatchResult-weaker c.write_lines_of.result c.write_lines_of.ensures.stops (λ _ x. x)
+    (lines_stop (TellsReading Glades b cs) (map (glade_line c.written-w.result.now) c.deref.result.now) told
+    (stream g.O.Sink.contents g.O.Sink.fault_count c.args.out.now) (stream g.O.Sink.contents g.O.Sink.fault_count c.write_lines_of.new.out))
+
+pub returns-clause-counted : goal.returns-clause-counted
+returns-clause-counted g c =
+    let read = c.args.reading.now in
+    on_ok_weaker c.write_lines_of.result
+    (λ _. compares_within c.args.prepared.now c.args.chars.now read.spans.items c.in_ok-forest.forest c.in_ok-forest.ensures.forest c.known-in_ok-forest.ensures
+    c.stats-stats.result c.stats-stats.ensures read.recce read.spans.items c.place-place.ensures.is c.requires.read _ _ _ c.forest_of.ensures.counted c.report_glades.ensures.counted)
+    c.write_lines_of.ensures.written
