@@ -3,7 +3,8 @@ use Rattle.std.proofs.Common.{◌≡◌, ◌∙◌, ℕ, Bool, true, false, ◌&
 use Rattle.std.specs.Prelude.{OnOk, IfOk, if◌then◌else◌, codes}
 use Rattle.std.specs.List.{list_all}
 use Rattle.grammar_model.specs.Grammar.{Grammar}
-use Rattle.script_model.specs.Commands.{Command, Building, phase_of, words_of, IsCommand}
+use Rattle.script_model.specs.Commands.{Command, phase_of, words_of, IsCommand}
+use Rattle.script_model.specs.Machine.{Machine}
 use Rattle.script_model.specs.Parsing.{command_by, command_in}
 use Rattle.script_model.proofs.Parsed.{commands_are_parsed}
 use Rattle.marpa_script.specs.Told.{texts}
@@ -11,11 +12,11 @@ use Rattle.script_model.specs.Replies.{Reply, says, CommandReplies, Replies, Bad
 use Rattle.marpa_script.specs.Machines.{building, LineReplies}
 use Rattle.marpa_script.proofs.Replying.{on_ok}
 
-pub played : {T E : Type 0} (g : Grammar) (c : Command) (reply : Reply) (r : Result T E) → phase_of c ≡ Building → OnOk r (CommandReplies (building g) c reply) → OnOk r (LineReplies (building g) c reply)
-played g c reply r now ok = on_ok r ok (λ is line command. Played c command now is)
+pub played : {T E : Type 0} (m : Machine) (c : Command) (reply : Reply) (r : Result T E) → phase_of c ≡ m.phase → OnOk r (CommandReplies m c reply) → OnOk r (LineReplies m c reply)
+played m c reply r now ok = on_ok r ok (λ is line command. Played c command now is)
 
-pub not_now : {T E : Type 0} (g : Grammar) (c : Command) (text : List ℕ) (r : Result T E) → (phase_of c ≡ Building → ⊥) → OnOk r (text ≡ codes "not now") → OnOk r (LineReplies (building g) c (says (building g) text))
-not_now g c text r later ok = on_ok r ok (λ is line command. NotNow c command later (ap (says (building g)) is))
+pub not_now : {T E : Type 0} (m : Machine) (c : Command) (text : List ℕ) (r : Result T E) → (phase_of c ≡ m.phase → ⊥) → OnOk r (text ≡ codes "not now") → OnOk r (LineReplies m c (says m text))
+not_now m c text r other ok = on_ok r ok (λ is line command. NotNow c command other (ap (says m) is))
 
 -- ---- LINES
 
@@ -40,9 +41,8 @@ module _ (line : List ℕ) (words : List (Bor (List ℕ))) (b : Bool) (are : tex
   pub by_words : (o : Option Command) → b ≡ true → o ≡ command_by (texts words) → command_in line ≡ o
   by_words o e is = found_by ∙ (ap (λ t. if t then command_by (texts words) else None) e ∙ sym is)
 
-pub bad_line : (g : Grammar) (line text : List ℕ) → command_in line ≡ None → text ≡ codes "bad line" → Replies (building g) line (says (building g) text)
-bad_line g line text none is =
-    BadLine (λ c command. (let never : None ≡ Some c = sym none ∙ (commands_are_parsed line c).1 command in cc never)) (ap (says (building g)) is)
+pub bad_line : (m : Machine) (line text : List ℕ) → command_in line ≡ None → text ≡ codes "bad line" → Replies m line (says m text)
+bad_line m line text none is = BadLine (λ c command. (let never : None ≡ Some c = sym none ∙ (commands_are_parsed line c).1 command in cc never)) (ap (says m) is)
 
 pub is_command : (line : List ℕ) (c : Command) → command_in line ≡ Some c → IsCommand line c
 is_command line c e = (commands_are_parsed line c).0 e

@@ -4,3 +4,12 @@ pub mod Granting
 pub mod Replying
 pub mod Naming
 pub mod Answering
+pub mod Room
+pub mod Writing
+pub mod Hearing
+pub mod Listing
+pub mod Following
+pub mod Reporting
+pub mod Deriving
+pub mod Derivations
+pub mod Whole

@@ -1,2 +1,4 @@
 pub mod Told
 pub mod Machines
+pub mod Written
+pub mod Listed

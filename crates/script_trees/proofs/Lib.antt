@@ -1,0 +1,3 @@
+pub mod Stacking
+pub mod Putting
+pub mod Holding
