@@ -35,24 +35,24 @@ module _ (w : Grammar) (g : FlatGrammar) where
   W = steps_written w g
 
   -- for how many children a tree counts, and what it is written as
-  abbrev count : Tree → ℕ
+  abbrev pub count : Tree → ℕ
   count t = cond (is_list_node g t) (child_count (inside w g t)) 1
 
-  abbrev out : Tree → List Step
+  abbrev pub out : Tree → List Step
   out t = cond (is_list_node g t) (steps_of_all (inside w g t)) (steps_of (tree_of w g t))
 
-  abbrev counts_of : Children → List ℕ → List ℕ
+  abbrev pub counts_of : Children → List ℕ → List ℕ
   counts_of NoChild counts = counts
   counts_of (Child prefix last) counts = count last ∷ counts_of prefix counts
 
   -- each node comes from a written rule
   abbrev mutual
-    IsWritten : Tree → Type 0
+    pub IsWritten : Tree → Type 0
     IsWritten (Leaf x p q) = Unit {0}
     IsWritten (Nulled x p) = Unit {0}
     IsWritten (Node r cs p q) = ((i : ℕ) × (source_of g r ≡ Written i)) × AreWritten cs
 
-    AreWritten : Children → Type 0
+    pub AreWritten : Children → Type 0
     AreWritten NoChild = Unit {0}
     AreWritten (Child prefix last) = AreWritten prefix × IsWritten last
 
@@ -101,14 +101,14 @@ module _ (w : Grammar) (g : FlatGrammar) where
       go false = sym (append_assoc (steps_of_all (children_of w g cs)) (RuleStep i (child_count (children_of w g cs)) p q ∷ []) (W (1 ∷ counts) rest))
 
   mutual
-    tree_written : (t : Tree) → IsWritten t → (counts : List ℕ) (rest : List Step) → W counts (steps_of t ++ rest) ≡ out t ++ W (count t ∷ counts) rest
+    pub tree_written : (t : Tree) → IsWritten t → (counts : List ℕ) (rest : List Step) → W counts (steps_of t ++ rest) ≡ out t ++ W (count t ∷ counts) rest
     tree_written (Leaf x p q) h counts rest = refl
     tree_written (Nulled x p) h counts rest = refl
     tree_written (Node r cs p q) h counts rest =
         ap (W counts) (append_assoc (steps_of_all cs) (RuleStep r (child_count cs) p q ∷ []) rest)
         ∙ children_written cs h.1 counts (RuleStep r (child_count cs) p q ∷ rest) ∙ rule_step r cs p q h.0.0 h.0.1 counts rest
 
-    children_written : (cs : Children) → AreWritten cs → (counts : List ℕ) (rest : List Step) → W counts (steps_of_all cs ++ rest) ≡ steps_of_all (children_of w g cs) ++ W (counts_of cs counts) rest
+    pub children_written : (cs : Children) → AreWritten cs → (counts : List ℕ) (rest : List Step) → W counts (steps_of_all cs ++ rest) ≡ steps_of_all (children_of w g cs) ++ W (counts_of cs counts) rest
     children_written NoChild h counts rest = refl
     children_written (Child prefix last) h counts rest =
         ap (W counts) (append_assoc (steps_of_all prefix) (steps_of last) rest)
@@ -176,16 +176,16 @@ module _ (f : Forest) (derived : IsDerived f) where
       go (Top j) at (OfStart k) e h = absurd (other j at)
 
   mutual
-    tree_is : {x p q : ℕ} {t : Tree} → Derives g E x p q t → IsNoTop x → IsWritten f.written g t
+    pub tree_is : {x p q : ℕ} {t : Tree} → Derives g E x p q t → IsNoTop x → IsWritten f.written g t
     tree_is (Token e) other = tt
     tree_is (Null n) other = tt
     tree_is (Rule {r = r} rule l lt s) other = (source_written r rule (subst IsNoTop (sym l) other), children_are s)
 
-    children_are : {r d p q : ℕ} {cs : Children} → Spans g E r d p q cs → AreWritten f.written g cs
+    pub children_are : {r d p q : ℕ} {cs : Children} → Spans g E r d p q cs → AreWritten f.written g cs
     children_are FlatDerives.Nothing = tt
     children_are (More {r = r} {d = d} {x = x} s e t) = (children_are s, tree_is t (part_no_top r d x e))
 
-  list_node : {x p q : ℕ} {t : Tree} → Derives g E x p q t → is_list (symbol_at g x) ≡ false → is_list_node g t ≡ false
+  pub list_node : {x p q : ℕ} {t : Tree} → Derives g E x p q t → is_list (symbol_at g x) ≡ false → is_list_node g t ≡ false
   list_node (Token e) h = refl
   list_node (Null n) h = refl
   list_node (Rule rule l lt s) h = ap (λ y. is_list (symbol_at g y)) l ∙ h

@@ -1,6 +1,7 @@
-//! What is asked of forests: the cursors of their derivations, and their glades.
+//! What is asked of forests: the cursors of their derivations, their glades, and jumps to their derivations.
 use crate::cursors::have_cursors;
 use crate::glades::{Told, has_glades};
+use crate::jumps::have_jumps;
 use bocage::Forest;
 use earley_sets::Recce;
 use grammar_core::Written;
@@ -15,6 +16,8 @@ use std::sync::ledger::Ledger;
 pub(crate) enum Wanted<'a> {
     Cursors(&'a [&'a str]),
     Glades(&'a [Told]),
+    /// so many derivations, with jumps from each to each
+    Jumps(usize),
 }
 
 /// A grammar, what is read by it, the ranking, and what the forest has.
@@ -48,6 +51,7 @@ impl<'a, L: Ledger> Question<L> for Wanted<'a> {
                 Ranking::Rule => has_glades(alloc, forest, w, glades, steps),
                 _ => Ok(false),
             },
+            Wanted::Jumps(count) => have_jumps(alloc, forest, *count, steps),
         }
     }
 }

@@ -1,5 +1,5 @@
 -- The derivations that were given, when one more is.
-use Rattle.std.proofs.Common.{◌≡◌, ℕ, zero, suc, ◌+◌, ◌≤◌, List, [], ◌∷◌, ◌++◌, length, map, true, false, Some, refl, sym, ap, ◌∙◌, subst, append_assoc, length-append, arith}
+use Rattle.std.proofs.Common.{◌≡◌, inl, inr, ℕ, zero, suc, ◌+◌, ◌≤◌, List, [], ◌∷◌, ◌++◌, length, map, true, false, Some, refl, sym, ap, ◌∙◌, subst, append_assoc, length-append, arith}
 use Rattle.grammar_model.specs.Grammar.{Slot, slot_of}
 use Rattle.grammar_model.specs.Trees.{Tree}
 use Rattle.grammar_model.specs.Steps.{Step, steps_of}
@@ -15,8 +15,8 @@ use Rattle.std.specs.declared.cmp.Ordering.{Ordering}
 use Rattle.std.specs.declared.cmp.Ordering.TheVariants.{Less}
 use Rattle.grammar_model.specs.Derives.{Held}
 use Rattle.std.specs.Prelude.{slice_get, slice_index_or}
-use Rattle.std.proofs.lemmas.List.{map-append, length-map}
-use Rattle.finite_sets.proofs.Lists.{get_last}
+use Rattle.std.proofs.lemmas.List.{append-nil, map-append, length-map}
+use Rattle.finite_sets.proofs.Lists.{get_last, get_among}
 use Rattle.recognizer_model.specs.Links.{choices}
 use Rattle.forest_model.specs.Forest.{Forest, IsForest}
 use Rattle.forest_model.specs.Listing.{IsListing, AreFirst}
@@ -29,9 +29,12 @@ use Rattle.tree_iter.specs.declared.walk.Place.{Place}
 use Rattle.tree_iter.specs.declared.walk.Place.TheVariants.{Walking, Between}
 use Rattle.tree_iter.specs.declared.iter.Current.{Current}
 use Rattle.tree_iter.specs.declared.iter.Current.TheVariants.{Begun as NotBegun, Walked, Copied, Ended}
-use Rattle.tree_iter.specs.Iteration.{Iteration, EndsAt, AreBefore, AreGiven, IsAnswer, AreFew}
+use Rattle.finite_sets.proofs.Members.{Among, among_from, contains_from}
+use Rattle.forest_laws.proofs.Guide.{choices_per_step}
+use Rattle.tree_iter.specs.Iteration.{Iteration, EndsAt, AreBefore, AreGiven, IsAnswer, AreFew, HasNone}
+use Rattle.tree_iter.specs.Leads.{HasNoFlat}
 use Rattle.grammar_core.specs.declared.steps.TreeStep.{TreeStep}
-use Rattle.tree_iter.specs.Walk.{AreFewLooks, Remain, Advances, Reaches, current_of, has_ended, ShowsLast, AreTakenBy, IsUnderWay}
+use Rattle.tree_iter.specs.Walk.{AreFewLooks, Remain, Advances, Reaches, current_of, has_ended, ShowsLast, AreTakenBy, ComesTo, IsUnderWay}
 use Rattle.tree_iter.proofs.Trails.{same_ends}
 
 same_prefixes : {X : Type 0} (xs ys us vs : List X) → xs ++ us ≡ ys ++ vs → length xs ≡ length ys → xs ≡ ys
@@ -231,3 +234,63 @@ module _ (w : Walk) (place : Place) (current : Current) (old : List TreeStep) (u
 
 pub remain_none : (n : Walk) (after : Place) (rest : List (List Step)) → Advances after n rest false → Remain after n rest
 remain_none n after rest (at, behind, none) = subst (λ p. Remain p n rest) (sym at) behind
+
+-- ---- the iterator at a derivation that a walk was led to
+
+-- what was given, where the iterator stands at a derivation
+pub given_past : (w : Walk) (copy : List TreeStep) → IsUnderWay w Between Walked copy → (given : List Tree) × AreGiven (seen w Walked copy) given
+given_past w copy u =
+    let f : Forest = w.forest.now in
+    let t = prefixes_are_taken f u.lists u.taken u.rest (is_forest w u.rest Between u.remain) u.all u.both in
+    let W : List Step → List Step = steps_written f.written f.flat [] in
+    let shows : ShowsLast f w.steps.items u.taken = u.taken_by in
+    let size : length t.given ≡ length u.taken = sym (length-map t.given steps_of) ∙ ap (λ (x : List (List Step)). length x) (sym t.steps) ∙ length-map u.taken W in
+    let count = ap (λ (x : List (List Step)). length x) shows.is in
+    let long = length-append shows.front (shows.last ∷ []) in
+    let r = ended (length shows.front) t.given (omega (arith, count, long, size)) in
+    let ends = same_ends (map W shows.front) (map steps_of r.prefix) (W shows.last) (steps_of r.last)
+    (sym (map-append W shows.front (shows.last ∷ [])) ∙ ap (map W) (sym shows.is) ∙ t.steps ∙ ap (map steps_of) r.is ∙ map-append steps_of r.prefix (r.last ∷ [])) in (
+      t.given,
+      record { first = t.first; are_before = record { front = r.prefix; last = r.last; is = r.is; steps_are = sym (shows.shows ∙ ends.lasts) } },
+    )
+
+-- the derivations before it were skipped, and it is the last that was taken
+pub under_way_past : (w n : Walk) (old copy : List TreeStep) (u : IsUnderWay w Walking NotBegun old) → n.forest ≡ w.forest → ComesTo n u.rest → IsUnderWay n Between Walked copy
+under_way_past w n old copy u forest c =
+    let same : w.forest.now ≡ n.forest.now = ap (λ (x : _). x.now) (sym forest) in
+    let none : u.taken ≡ [] = u.taken_by in
+    record {
+      lists = u.lists;
+      all = subst (λ f. AreAllLists f u.lists) same u.all;
+      taken = c.skipped ++ c.reaches.first ∷ [];
+      rest = c.reaches.later;
+      both = ap (λ (f : Forest). map steps_of (roots_by f u.lists f.root)) (sym same) ∙ u.both ∙ ap (λ l. l ++ u.rest) none ∙ c.rest_is ∙ ap (λ l. c.skipped ++ l) c.reaches.rest_is
+          ∙ sym (append_assoc c.skipped (c.reaches.first ∷ []) c.reaches.later);
+      taken_by = record { front = c.skipped; last = c.reaches.first; is = refl; shows = c.reaches.shows };
+      remain = c.reaches.behind;
+    }
+
+-- the steps of no flat derivation are written as these; each that is has few of its own
+pub none_has : (w : Walk) (old : List TreeStep) (u : IsUnderWay w Walking NotBegun old) (steps : List Step) → HasNoFlat w.forest.now u.rest steps → HasNone w.forest.now steps
+none_has w old u steps none trees listing tree held =
+    let f : Forest = w.forest.now in
+    let W : List Step → List Step = steps_written f.written f.flat [] in
+    let empty : u.taken ≡ [] = u.taken_by in
+    let t = prefixes_are_taken f u.lists u.rest [] (is_forest w u.rest Walking u.remain) u.all (u.both ∙ ap (λ l. l ++ u.rest) empty ∙ sym (append-nil u.rest)) in
+    let same : trees ≡ t.given = listings_same f trees t.given listing (t.all refl) in
+    let (k, there) = got_among t.given tree (subst (Among tree) same (among_from trees tree held)) in
+    let (flat, flat_at, is) = get_mapped W steps_of u.rest t.given t.steps k tree there in
+    λ e. none flat (contains_from u.rest flat (get_among u.rest k flat flat_at))
+    (let few = t.few k flat tree flat_at there in let per = choices_per_step tree in let size : length (steps_of tree) ≡ length steps = ap (λ (l : List Step). length l) e in omega (arith, few, per, size)) (is ∙ e)
+  where
+    got_among : {X : Type 0} (xs : List X) (x : X) → Among x xs → (k : ℕ) × (slice_get xs k ≡ Some x)
+    got_among [] x m = absurd m
+    got_among (y ∷ ys) x (inl e) = (0, ap Some e)
+    got_among (y ∷ ys) x (inr m) = let r = got_among ys x m in (suc r.0, r.1)
+
+    get_mapped : {X Y Z : Type 0} (g : X → Z) (h : Y → Z) (xs : List X) (ys : List Y) → map g xs ≡ map h ys → (k : ℕ) (y : Y) → slice_get ys k ≡ Some y → (x : X) × (slice_get xs k ≡ Some x) × (g x ≡ h y)
+    get_mapped g h [] [] e k y at = cc
+    get_mapped g h [] (v ∷ ys) e k y at = cc
+    get_mapped g h (u ∷ xs) [] e k y at = cc
+    get_mapped g h (u ∷ xs) (v ∷ ys) e zero y at = let heads : g u ≡ h v = cc in let same : v ≡ y = cc in (u, refl, heads ∙ ap h same)
+    get_mapped g h (u ∷ xs) (v ∷ ys) e (suc k) y at = let tails : map g xs ≡ map h ys = cc in get_mapped g h xs ys tails k y at

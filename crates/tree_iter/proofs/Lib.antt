@@ -2,6 +2,16 @@ pub mod Linked
 pub mod Written
 pub mod GoalLemmas
 pub mod Walks
+pub mod Choosing
 pub mod Further
 pub mod Trails
 pub mod Given
+pub mod LeadRows
+pub mod Passing
+pub mod Sizes
+pub mod LedParts
+pub mod LedOn
+pub mod LedWholes
+pub mod LedTold
+pub mod LedWalk
+pub mod LedEnds

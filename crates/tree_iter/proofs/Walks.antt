@@ -1,9 +1,9 @@
 -- Walks: what is still to come when a goal is done, and when the last choice is taken again.
-use Rattle.std.proofs.Common.{◌≡◌, inl, inr, ℕ, zero, suc, ◌+◌, ◌-◌, ◌<◌, ◌≤◌, List, [], ◌∷◌, ◌++◌, length, map, take, drop, Option, Some, None, refl, sym, ap, ◌∙◌, subst, length-append, arith}
+use Rattle.std.proofs.Common.{◌≡◌, inl, ℕ, zero, suc, ◌+◌, ◌-◌, ◌<◌, ◌≤◌, List, [], ◌∷◌, ◌++◌, length, map, take, drop, Option, Some, None, refl, sym, ap, ◌∙◌, subst, length-append, arith}
 use Rattle.std.specs.Prelude.{slice_get, slice_set, slice_index_or}
 use Rattle.std.proofs.Math.Seq.{take-append_seam}
 use Rattle.std.proofs.lemmas.Option.{slice_get_within}
-use Rattle.std.proofs.lemmas.List.{append-nil, length-map, drop_all}
+use Rattle.std.proofs.lemmas.List.{append-nil, drop_all}
 use Rattle.grammar_core.specs.declared.steps.TreeStep.{TreeStep}
 use Rattle.grammar_core.specs.Steps.{step_of}
 use Rattle.grammar_model.specs.Grammar.{Grammar}
@@ -30,10 +30,10 @@ use Rattle.tree_iter.specs.declared.iter.Current.TheVariants.{Begun as NotBegun}
 use Rattle.tree_iter.specs.Linked.{Grows}
 use Rattle.tree_iter.specs.Goals.{fork_of, goal_of, IsStack, IsReady, IsBacked, AreReady, unit, units, look, Puts, PutsOption}
 use Rattle.tree_iter.specs.Writing.{IsStepOf, AreDone, IsCounted, counts_behind}
-use Rattle.tree_iter.specs.Walk.{IsKept, IsLast, HasLeft, KeepsLeft, HasSteps, Looks, Trail, Begun, Wrote, Chose, done_of, steps_on, IsChoice, AreChoices, IsTrail, StandsBefore, StandsBehind, Reaches, IsAbout, IsBack, IsUnderWay}
-use Rattle.tree_iter.proofs.Linked.{drop_from, linked_top, linked_none, linked_more, linked_taken, linked_bound}
+use Rattle.tree_iter.specs.Walk.{IsKept, IsLast, HasLeft, KeepsLeft, HasSteps, Looks, Trail, Begun, Wrote, Chose, done_of, steps_on, IsChoice, AreChoices, IsTrail, StandsBefore, StandsBehind, Reaches, Stays, IsOn, IsAbout, IsBack, IsUnderWay}
+use Rattle.tree_iter.proofs.Linked.{grows_none, drop_from, linked_top, linked_none, linked_more, linked_taken, linked_bound}
 use Rattle.tree_iter.proofs.Written.{done_taken}
-use Rattle.tree_iter.proofs.GoalLemmas.{units_both, ready_both, option_ready, option_units, root_ready, is_goal}
+use Rattle.tree_iter.proofs.GoalLemmas.{units_both, ready_both, option_ready, option_units, root_ready}
 use Rattle.tree_iter.proofs.Trails.{no_more, same_ends, steps_are, choice_in, choices_more, choices_cut, cut_at, none_to_come}
 
 take_all : {X : Type 0} (k : ℕ) (xs : List X) → k ≡ length xs → take k xs ≡ xs
@@ -106,7 +106,7 @@ first_goal w rest place row at e h =
       rest_is = h.rest_is ∙ ap (stands w.forest.now h.lists (done_of w.forest.now h.trail)) on.both;
     }
 
-walked : (w : Walk) (trail : Trail) (lists : Lists) → IsTrail w trail → AreAllLists w.forest.now lists → IsWalked w.forest.now lists
+pub walked : (w : Walk) (trail : Trail) (lists : Lists) → IsTrail w trail → AreAllLists w.forest.now lists → IsWalked w.forest.now lists
 walked w trail lists is all = forests_are_walked w.forest.now lists is.forest all
 
 pub first_of : (w : Walk) (goal : Goal) (behind : ℕ) → IsAbout w goal behind → (rest : List (List Step)) → StandsBefore w rest → IsFirst w rest goal behind
@@ -228,71 +228,39 @@ pub record IsMarked (w : Walk) (goal : Goal) (chosen behind : ℕ) (c : Choice) 
   pub steps : c.steps ≡ length w.steps.items
   pub counts : c.counts ≡ length w.counts.items
 
--- the first option of a goal was chosen
-pub chose_one : (w n : Walk) (rest : List (List Step)) (goal : Goal) (behind : ℕ) (c : Choice) (put : Put) → IsFirst w rest goal behind → IsMarked w goal 0 behind c →
-    c.count ≡ put.count → n.choices.items ≡ w.choices.items ++ c ∷ [] → PutsOption w.forest.now goal w.goals.items n.goals.items 0 behind put →
-    StandsBefore (record w { goals = n.goals; left = put.top; choices = n.choices }) rest
-chose_one w n rest goal behind c put h mark count choices p =
-    let F : Forest = w.forest.now in
-    let known = walked w h.trail h.lists h.is h.all in
-    let opened : options F goal ≡ p.option ∷ drop 1 (options F goal) = drop_from (options F goal) 0 p.option p.option_is in
-    let within = slice_get_within (options F goal) 0 p.option p.option_is in
-    let longer : length n.goals.items ≡ length w.goals.items + length p.puts.grows.more = ap (λ (l : List GoalRow). length l) p.puts.grows.is ∙ length-append w.goals.items p.puts.grows.more in
-    let old : take c.goals n.goals.items ≡ w.goals.items = (λ i. take (mark.goals i) (p.puts.grows.is i)) ∙ take-append_seam w.goals.items p.puts.grows.more in
-    let goals = mark.goals in
-    let is : IsChoice F n.goals.items h.trail goal 0 h.others c = record {
-      goal_is = mark.goal_is;
-      ready = h.ready;
-      chosen_is = mark.chosen_is;
-      count = count ∙ p.count;
-      among = within;
-      goals = omega arith;
-      behind_is = subst (λ g. IsStack g c.behind h.others) (sym old) (subst (λ k. IsStack w.goals.items k h.others) (sym mark.behind_is) h.linked);
-      backed = h.backed;
-      are_ready = h.are_ready;
-      steps = mark.steps ∙ sym (length-map w.steps.items step_of) ∙ ap (λ (l : List Step). length l) h.is.done.written;
-      counts = mark.counts ∙ h.is.done.counted.all;
-    } in
-    record {
-      lists = h.lists;
-      all = h.all;
-      trail = Chose h.trail goal 0 h.others;
-      is = record {
-        forest = h.is.forest;
-        choices = inl (w.choices.items, c, choices, is, subst (λ g. AreChoices F g w.choices.items h.trail) (sym old) h.is.choices);
-        done = h.is.done;
-      };
-      left = p.option ++ h.others;
-      left_is = p.puts.stack h.others h.linked;
-      ready = ready_both F p.option h.others (option_ready F h.lists h.is.forest known.choices goal h.ready 0 p.option p.option_is) h.are_ready;
-      some = (let backed = h.backed in let own = option_units F goal 0 p.option p.option_is in let both = units_both p.option h.others in omega arith);
-      rest_is = h.rest_is ∙ known.walks.chooses (done_of F h.trail) goal h.others p.option (drop 1 (options F goal)) (is_goal F goal 0 h.ready within) opened;
-    }
-
--- so was the only option, and the choice is not kept
-pub chose_only : (w n : Walk) (rest : List (List Step)) (goal : Goal) (behind : ℕ) (put : Put) → IsFirst w rest goal behind → put.count ≤ 1 → n.choices.items ≡ w.choices.items →
-    PutsOption w.forest.now goal w.goals.items n.goals.items 0 behind put → StandsBefore (record w { goals = n.goals; left = put.top; choices = n.choices }) rest
-chose_only w n rest goal behind put h one choices p =
-    let F : Forest = w.forest.now in
-    let known = walked w h.trail h.lists h.is h.all in
-    let opened : options F goal ≡ p.option ∷ drop 1 (options F goal) = drop_from (options F goal) 0 p.option p.option_is in
-    let within = slice_get_within (options F goal) 0 p.option p.option_is in
-    let count = p.count in
-    let spent : drop 1 (options F goal) ≡ [] = drop_all 1 (options F goal) (omega arith) in
-    let more = choices_more F w.goals.items p.puts.grows.more w.choices.items h.trail h.is.choices in
-    let grown : AreChoices F n.goals.items n.choices.items h.trail =
-    subst (λ c. AreChoices F n.goals.items c h.trail) (sym choices) (subst (λ g. AreChoices F g w.choices.items h.trail) (sym p.puts.grows.is) more) in
-    record {
-      lists = h.lists;
-      all = h.all;
-      trail = Chose h.trail goal 0 h.others;
-      is = record { forest = h.is.forest; choices = inr (spent, grown); done = h.is.done };
-      left = p.option ++ h.others;
-      left_is = p.puts.stack h.others h.linked;
-      ready = ready_both F p.option h.others (option_ready F h.lists h.is.forest known.choices goal h.ready 0 p.option p.option_is) h.are_ready;
-      some = (let backed = h.backed in let own = option_units F goal 0 p.option p.option_is in let both = units_both p.option h.others in omega arith);
-      rest_is = h.rest_is ∙ known.walks.chooses (done_of F h.trail) goal h.others p.option (drop 1 (options F goal)) (is_goal F goal 0 h.ready within) opened;
-    }
+-- rows and choices have more room
+pub stays : (w n : Walk) → n.goals.items ≡ w.goals.items → n.choices.items ≡ w.choices.items → Stays w (record w { goals = n.goals; choices = n.choices })
+stays w n goals choices = record {
+  forest = refl;
+  goes = before;
+  about = λ goal behind a. record {
+    rest = a.rest;
+    stands = before a.rest a.stands;
+    place = a.place;
+    row = a.row;
+    left_is = a.left_is;
+    row_is = subst (λ g. slice_get g a.place ≡ Some a.row) (sym goals) a.row_is;
+    goal_is = a.goal_is;
+    behind_is = a.behind_is;
+  };
+  steps = λ k h. record { left = h.left; left_is = subst (λ g. IsStack g w.left h.left) (sym goals) h.left_is; count = h.count };
+  come = λ k h. record { left = h.left; left_is = subst (λ g. IsStack g w.left h.left) (sym goals) h.left_is; count = h.count };
+  on = λ lists trail left h. record {
+    all = h.all;
+    is = record {
+      forest = h.is.forest;
+      choices = subst (λ c. AreChoices w.forest.now n.goals.items c trail) (sym choices) (subst (λ g. AreChoices w.forest.now g w.choices.items trail) (sym goals) h.is.choices);
+      done = h.is.done;
+    };
+    left_is = subst (λ g. IsStack g w.left left) (sym goals) h.left_is;
+    ready = h.ready;
+    some = h.some;
+  };
+  written = refl;
+}
+  where
+    before : (rest : List (List Step)) → StandsBefore w rest → StandsBefore (record w { goals = n.goals; choices = n.choices }) rest
+    before rest h = grown_before w n rest (subst (Grows w.goals.items) (sym goals) (grows_none w.goals.items)) choices h
 
 -- ---- rows that nothing needs are cut off
 
@@ -323,27 +291,23 @@ cut_before w n rest k kept goals h =
       rest_is = h.rest_is;
     }
 
+pub cut_on : (w n : Walk) (lists : Lists) (trail : Trail) (left : List Goal) (k : ℕ) → IsKept w w.left k → n.goals.items ≡ take k w.goals.items → IsOn w lists trail left → IsOn (record w { goals = n.goals }) lists trail left
+cut_on w n lists trail left k kept goals h =
+    let F : Forest = w.forest.now in
+    record {
+      all = h.all;
+      is = record {
+        forest = h.is.forest;
+        choices = subst (λ g. AreChoices F g w.choices.items trail) (sym goals) (choices_cut F w.goals.items k w.choices.items trail kept.1 h.is.choices);
+        done = h.is.done;
+      };
+      left_is = subst (λ g. IsStack g w.left left) (sym goals) (linked_taken (λ (r : GoalRow). goal_of r.goal) (λ r. r.below) w.goals.items k w.left left kept.0 h.left_is);
+      ready = h.ready;
+      some = h.some;
+    }
+
 pub cut_left : (w n : Walk) (k : ℕ) → IsKept w w.left k → n.goals.items ≡ take k w.goals.items → KeepsLeft w (record w { goals = n.goals })
 cut_left w n k kept goals = λ left h. subst (λ g. IsStack g w.left left) (sym goals) (linked_taken (λ (r : GoalRow). goal_of r.goal) (λ r. r.below) w.goals.items k w.left left kept.0 h)
-
--- the row of the topmost goal, and others that only that needs
-pub cut_first : (w n : Walk) (rest : List (List Step)) (goal : Goal) (behind k : ℕ) → IsKept w behind k → n.goals.items ≡ take k w.goals.items → n.choices.items ≡ w.choices.items →
-    IsFirst w rest goal behind → IsFirst (record w { goals = n.goals; choices = n.choices }) rest goal behind
-cut_first w n rest goal behind k kept goals choices h =
-    let F : Forest = w.forest.now in
-    let cut : AreChoices F n.goals.items w.choices.items h.trail = subst (λ g. AreChoices F g w.choices.items h.trail) (sym goals) (choices_cut F w.goals.items k w.choices.items h.trail kept.1 h.is.choices) in
-    record {
-      lists = h.lists;
-      all = h.all;
-      trail = h.trail;
-      is = record { forest = h.is.forest; choices = subst (λ c. AreChoices F n.goals.items c h.trail) (sym choices) cut; done = h.is.done };
-      others = h.others;
-      linked = subst (λ g. IsStack g behind h.others) (sym goals) (linked_taken (λ (r : GoalRow). goal_of r.goal) (λ r. r.below) w.goals.items k behind h.others kept.0 h.linked);
-      ready = h.ready;
-      backed = h.backed;
-      are_ready = h.are_ready;
-      rest_is = h.rest_is;
-    }
 
 -- ---- looks
 
@@ -530,6 +494,13 @@ gave_up w n rest c choices last h =
       is = record { forest = h.forest; choices = subst (λ l. AreChoices F w.goals.items l h.trail) predecessor h.earlier; done = h.done };
       rest_is = h.rest_is ∙ ap (λ l. to_come F h.lists (done_of F h.trail ++ Goals.Chose l h.behind ∷ [])) none ∙ known.walks.is_spent (done_of F h.trail) h.behind;
     }
+
+-- what a choice that was gone back to has yet to choose from
+pub back_goal : (w : Walk) (c : Choice) (rest : List (List Step)) → IsBack w c rest → IsGoal w.forest.now (fork_of c.fork)
+back_goal w c rest h = no_write_goal w.forest.now c.fork (subst (IsReady w.forest.now) (sym h.is.goal_is) h.is.ready)
+
+pub back_at : (w : Walk) (c : Choice) (rest : List (List Step)) → IsBack w c rest → (at : ℕ) → at < c.count → at < length (options w.forest.now (fork_of c.fork))
+back_at w c rest h at lt = subst (λ (g : Goal). at < length (options w.forest.now g)) (sym h.is.goal_is) (subst (λ k. at < k) h.is.count lt)
 
 -- the next option of the choice was chosen
 pub chose_next : (w n : Walk) (rest : List (List Step)) (c d : Choice) (put : Put) → d ≡ record c { chosen = suc c.chosen } → PutsOption w.forest.now (fork_of c.fork) w.goals.items n.goals.items (suc c.chosen) c.behind put →

@@ -7,7 +7,10 @@ use Rattle.tree_iter.specs.declared.goals.Fork.TheVariants as fork
 use Rattle.tree_iter.specs.declared.goals.Goal.{Goal as HeldGoal}
 use Rattle.tree_iter.specs.declared.goals.Goal.TheVariants as goal
 use Rattle.tree_iter.specs.declared.goals.GoalRow.{GoalRow}
+use Rattle.tree_iter.specs.declared.goals.Opened.{Opened}
+use Rattle.tree_iter.specs.declared.goals.Opened.TheVariants as opened
 use Rattle.tree_iter.specs.declared.goals.Put.{Put}
+use Rattle.bocage.specs.Readers.{node_at}
 use Rattle.tree_iter.specs.Linked.{IsLinked, Grows}
 use Rattle.tree_iter.specs.Writing.{flat_step, IsStepOf}
 
@@ -53,6 +56,16 @@ abbrev pub look : Goal → ℕ
 look (Parts node) = 1
 look (OneOf start end nodes) = 0
 look (Write step) = 0
+
+-- the goal whose options lie open
+abbrev pub goal_opened : Opened → Goal
+goal_opened (opened.Parts node alternatives) = Parts node
+goal_opened (opened.OneOf start end nodes) = OneOf start end nodes.now
+
+-- they are those of the forest
+abbrev pub IsOpened : Forest → Opened → Type 0
+IsOpened f (opened.Parts node alternatives) = alternatives ≡ (node_at f node).alternatives
+IsOpened f (opened.OneOf start end nodes) = Unit {0}
 
 -- behind parts there is a goal that becomes a step
 abbrev pub IsBacked : Goal → List Goal → Type 0

@@ -1,5 +1,5 @@
 -- An iterator over the derivations of a forest, as its callers see it.
-use Rattle.std.specs.Prelude.{◌≡◌, ℕ, ◌+◌, ◌≤◌, Bool, true, false, List, [], ◌∷◌, ◌++◌, length, Option, Some, None}
+use Rattle.std.specs.Prelude.{◌≡◌, ◌≢◌, Contains, ℕ, ◌+◌, ◌≤◌, Bool, true, false, List, [], ◌∷◌, ◌++◌, Option, Some, None}
 use Rattle.grammar_model.specs.Trees.{Tree}
 use Rattle.grammar_model.specs.Steps.{Step, steps_of}
 use Rattle.recognizer_model.specs.Links.{choices}
@@ -33,6 +33,14 @@ pub record AreGiven (it : Iteration) (given : List Tree) : Type 0 where
 -- the iterator behind the last derivation
 abbrev pub between : Iteration → Iteration
 between it = record { forest = it.forest; ended = true; current = None }
+
+-- the iterator at the derivation that has these steps
+abbrev pub at_steps : Forest → List Step → Iteration
+at_steps f steps = record { forest = f; ended = false; current = Some steps }
+
+-- no derivation of the forest has these steps
+abbrev pub HasNone : Forest → List Step → Type 0
+HasNone f steps = (trees : List Tree) → IsListing f trees → (t : Tree) → Contains trees t → steps_of t ≢ steps
 
 abbrev pub begun : Forest → Iteration
 begun f = record { forest = f; ended = false; current = None }

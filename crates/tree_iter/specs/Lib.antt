@@ -3,3 +3,4 @@ pub mod Linked
 pub mod Writing
 pub mod Goals
 pub mod Walk
+pub mod Leads

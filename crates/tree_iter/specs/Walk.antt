@@ -6,7 +6,7 @@ use Rattle.grammar_model.specs.Steps.{Step, steps_of}
 use Rattle.forest_model.specs.Forest.{Forest, IsForest}
 use Rattle.forest_laws.specs.Lists.{Lists, roots_by}
 use Rattle.forest_laws.specs.Laws.{AreAllLists}
-use Rattle.forest_laws.specs.Goals.{Goal, options, Done, to_come, stands}
+use Rattle.forest_laws.specs.Goals.{Goal, options, Done, to_come, stands, root_goals}
 use Rattle.forest_laws.specs.Goals
 use Rattle.forest_laws.specs.Written.{steps_written}
 use Rattle.tree_iter.specs.declared.goals.GoalRow.{GoalRow}
@@ -66,6 +66,13 @@ pub record IsTrail (w : Walk) (trail : Trail) : Type 0 where
   pub choices : AreChoices w.forest.now w.goals.items w.choices.items trail
   pub done : AreDone w.forest.now.written w.forest.now.flat w.counts.items w.steps.items (steps_on trail)
 
+-- the walk has done nothing yet
+pub record IsBegun (w : Walk) : Type 0 where
+  pub choices : w.choices.items ≡ []
+  pub counts : w.counts.items ≡ []
+  pub steps : w.steps.items ≡ []
+  pub left : IsStack w.goals.items w.left (root_goals w.forest.now w.forest.now.root)
+
 -- the walk has goals left, and these are the steps of the derivations still to come, from the one that it is on
 pub record StandsBefore (w : Walk) (rest : List (List Step)) : Type 0 where
   pub lists : Lists
@@ -77,6 +84,20 @@ pub record StandsBefore (w : Walk) (rest : List (List Step)) : Type 0 where
   pub ready : AreReady w.forest.now left
   pub some : 0 < length w.counts.items + units left
   pub rest_is : rest ≡ stands w.forest.now lists (done_of w.forest.now trail) left
+
+-- the walk has come along this trail and has these goals left, where the nodes stand for these lists
+pub record IsOn (w : Walk) (lists : Lists) (trail : Trail) (left : List Goal) : Type 0 where
+  pub all : AreAllLists w.forest.now lists
+  pub is : IsTrail w trail
+  pub left_is : IsStack w.goals.items w.left left
+  pub ready : AreReady w.forest.now left
+  pub some : 0 < length w.counts.items + units left
+
+-- the walk has an option of the goal left in place of the goal
+pub record Chooses (f : Forest) (w : Walk) (goal : Goal) (at : ℕ) (lists : Lists) (trail : Trail) (others : List Goal) : Type 0 where
+  pub option : List Goal
+  pub option_is : slice_get (options f goal) at ≡ Some option
+  pub on : IsOn w lists (Chose trail goal at others) (option ++ others)
 
 -- the walk has come to the end of a derivation, and these are those behind it
 pub record StandsBehind (w : Walk) (rest : List (List Step)) : Type 0 where
@@ -147,6 +168,32 @@ Turns w rest false = StandsBehind w rest × (rest ≡ [])
 abbrev pub Goes : (old new : Walk) → Type 0
 Goes old new = (rest : List (List Step)) → StandsBefore old rest → StandsBefore new rest
 
+-- what stood before the walk is what was skipped and what stands before it now; nothing was skipped by a first option
+pub record SkipsTo (w : Walk) (rest : List (List Step)) (at : ℕ) : Type 0 where
+  pub skipped : List (List Step)
+  pub later : List (List Step)
+  pub rest_is : rest ≡ skipped ++ later
+  pub stands : StandsBefore w later
+  pub none : at ≡ 0 → skipped ≡ []
+
+-- what stood before a walk is what was skipped and what stands before this one
+pub record Passes (w : Walk) (rest : List (List Step)) : Type 0 where
+  pub skipped : List (List Step)
+  pub later : List (List Step)
+  pub rest_is : rest ≡ skipped ++ later
+  pub stands : StandsBefore w later
+
+-- what stood before a walk is what was skipped, then the derivation that this one came to the end of, and those behind it
+pub record ComesTo (w : Walk) (rest : List (List Step)) : Type 0 where
+  pub skipped : List (List Step)
+  pub later : List (List Step)
+  pub rest_is : rest ≡ skipped ++ later
+  pub reaches : Reaches w later
+
+-- what stands before one walk stands before the other, but for what is skipped
+abbrev pub GoesPast : (old new : Walk) → Type 0
+GoesPast old new = (rest : List (List Step)) → StandsBefore old rest → Passes new rest
+
 -- the walk has this goal left, and then those behind it
 pub record IsAbout (w : Walk) (goal : Goal) (behind : ℕ) : Type 0 where
   pub rest : List (List Step)
@@ -157,6 +204,16 @@ pub record IsAbout (w : Walk) (goal : Goal) (behind : ℕ) : Type 0 where
   pub row_is : slice_get w.goals.items place ≡ Some row
   pub goal_is : goal_of row.goal ≡ goal
   pub behind_is : row.below ≡ behind
+
+-- the walk stands as it stood, with more room
+pub record Stays (old new : Walk) : Type 0 where
+  pub forest : new.forest ≡ old.forest
+  pub goes : Goes old new
+  pub about : (goal : Goal) (behind : ℕ) → IsAbout old goal behind → IsAbout new goal behind
+  pub steps : (n : ℕ) → HasSteps old n → HasSteps new n
+  pub come : (n : ℕ) → HasCome old n → HasCome new n
+  pub on : (lists : Lists) (trail : Trail) (left : List Goal) → IsOn old lists trail left → IsOn new lists trail left
+  pub written : new.steps ≡ old.steps
 
 -- the rows below that place are all that is left or that a choice goes back to
 abbrev pub IsKept : Walk → (left k : ℕ) → Type 0

@@ -1,11 +1,11 @@
 //! What a walk through a forest has left to do: goals, in stacks that share what lies below.
-ghost use Rattle.std.specs.Prelude.{◌≡◌, ◌+◌, ◌<◌, ◌≤◌, ◌∷◌, [], length, slice_get, vec_len, vec_capacity, Some, IfOk, OnErr};
+ghost use Rattle.std.specs.Prelude.{◌≡◌, ◌+◌, ◌<◌, ◌≤◌, ◌∷◌, [], length, slice_get, slice_index_or, vec_len, vec_capacity, Some, IfOk, OnErr};
 ghost use Rattle.forest_laws.specs.Goals.{IsGoal, options, alternative_goals, cause_goals, whole_goals, root_goals};
 ghost use Rattle.forest_laws.specs.Lists.{cause_symbol as symbol_of_cause};
 ghost use Rattle.bocage.specs.Rows.{cause_told};
 ghost use Rattle.bocage.specs.Readers.{alternative_at, node_at};
 ghost use Rattle.tree_iter.specs.Linked.{Grows};
-ghost use Rattle.tree_iter.specs.Goals.{fork_of, goal_of, look, Puts, PutsOption};
+ghost use Rattle.tree_iter.specs.Goals.{fork_of, goal_of, goal_opened, look, IsOpened, Puts, PutsOption};
 
 use crate::writing::FlatStep;
 use bocage::{Alternatives, Cause, Forest};
@@ -153,33 +153,66 @@ fn put_whole<'f>(
     push_goal(rows, Goal::Choose(Fork::Parts(node)), top)
 }
 
-/// Puts an option of a fork on top of the goals behind it.
-pub fn put_option<'f, L: Ledger>(
-    rows: &mut Vec<GoalRow<'f>>,
+/// A fork whose options were looked at.
+#[derive(Drop)]
+pub enum Opened<'f> {
+    Parts(u32, Alternatives<'f>),
+    OneOf {
+        start: u32,
+        end: u32,
+        nodes: &'f [u32],
+    },
+}
+
+/// Looks at the options of a fork.
+pub fn look_at<'f, L: Ledger>(
     forest: &'f Forest<'f>,
     fork: Fork<'f>,
-    at: usize,
-    behind: usize,
     steps: &mut Steps<L>,
-) -> Result<Put, NoMemory>
-    requires goal { IsGoal forest.now (fork_of fork) }
-    requires at { at < length (options forest.now (fork_of fork)) }
-    ensures ok { IfOk result (λ put. PutsOption forest.now (fork_of fork.entry) rows.old.items rows.new.items at behind put) }
-    ensures err { OnErr result (Grows rows.old.items rows.new.items) }
-    ensures full { OnErr result (vec_capacity rows.old < vec_len rows.old + 2) }
+) -> Opened<'f>
+    requires { IsGoal forest.now (fork_of fork) }
+    ensures goal { goal_opened result ≡ fork_of fork.entry }
+    ensures options { IsOpened forest.now result }
     ensures looks { steps.new ≡ steps.old + look (fork_of fork.entry) }
 {
     match fork {
-        Fork::Parts(node) => {
-            let alternatives = forest.alternatives(node, steps);
-            let top = put_alternative(rows, forest, node, &alternatives, at, behind)?;
+        Fork::Parts(node) => Opened::Parts(node, forest.alternatives(node, steps)),
+        Fork::OneOf { start, end, nodes } => Opened::OneOf { start, end, nodes },
+    }
+}
+
+fn node_of(nodes: &[u32], at: usize) -> u32
+    requires { at < length nodes.now }
+    ensures { result ≡ slice_index_or nodes.now at 0 }
+{
+    nodes[at]
+}
+
+/// Puts an option of a fork on top of the goals behind it.
+pub fn put_option<'f>(
+    rows: &mut Vec<GoalRow<'f>>,
+    forest: &'f Forest<'f>,
+    opened: &Opened<'f>,
+    at: usize,
+    behind: usize,
+) -> Result<Put, NoMemory>
+    requires goal { IsGoal forest.now (goal_opened opened.now) }
+    requires opened { IsOpened forest.now opened.now }
+    requires at { at < length (options forest.now (goal_opened opened.now)) }
+    ensures ok { IfOk result (λ put. PutsOption forest.now (goal_opened opened.now) rows.old.items rows.new.items at behind put) }
+    ensures err { OnErr result (Grows rows.old.items rows.new.items) }
+    ensures full { OnErr result (vec_capacity rows.old < vec_len rows.old + 2) }
+{
+    match opened {
+        Opened::Parts(node, alternatives) => {
+            let top = put_alternative(rows, forest, *node, alternatives, at, behind)?;
             Ok(Put {
                 top,
                 count: alternatives.len(),
             })
         }
-        Fork::OneOf { start, end, nodes } => {
-            let top = put_whole(rows, forest, start, end, nodes[at], behind)?;
+        Opened::OneOf { start, end, nodes } => {
+            let top = put_whole(rows, forest, *start, *end, node_of(nodes, at), behind)?;
             Ok(Put {
                 top,
                 count: nodes.len(),

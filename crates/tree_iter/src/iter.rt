@@ -1,10 +1,11 @@
 //! The iterator over the derivations of a forest.
-ghost use Rattle.std.specs.Prelude.{◌≡◌, ◌+◌, ◌<◌, ◌++◌, [], List, length, map, vec_len, vec_capacity, IfOk, OnOk, OnErr, IfSome, IsSome, IsTrue, IsFalse};
+ghost use Rattle.std.specs.Prelude.{◌≡◌, ◌+◌, ◌*◌, ◌<◌, ◌≤◌, ◌++◌, [], List, length, map, vec_len, vec_capacity, IfOk, OnOk, OnErr, IfSome, IsSome, IsTrue, IsFalse};
 ghost use Rattle.grammar_core.specs.Steps.{step_of};
 ghost use Rattle.grammar_model.specs.Trees.{Tree};
 ghost use Rattle.tree_iter.specs.Walk.{Keeps};
-ghost use Rattle.tree_iter.specs.Iteration.{AreGiven, IsAnswer, AreFew, between, begun};
+ghost use Rattle.tree_iter.specs.Iteration.{AreGiven, IsAnswer, AreFew, HasNone, at_steps, between, begun};
 
+use crate::jump::lead_to;
 use crate::walk::{Place, Walk, advance};
 use bocage::Forest;
 use grammar_core::TreeStep;
@@ -111,6 +112,30 @@ impl<'f> TreeIter<'f> {
             self.current = Current::Ended;
             return Ok(false);
         }
+        self.place = Place::Between;
+        self.current = Current::Walked;
+        Ok(true)
+    }
+
+    /// Goes to the derivation that has these steps. Answers whether there is one: then the derivations up to and with that one, and no
+    /// others, count as given, and `next` goes on with the following one. Without one, or without memory, the iterator stays where it
+    /// stands. It takes at most seven steps of the counter for each entry, whatever the answer is.
+    pub fn jump<L: Ledger>(
+        &mut self,
+        to: &[TreeStep],
+        steps: &mut Steps<L>,
+    ) -> Result<bool, NoMemory>
+        ensures found { IfOk result (λ found. IsTrue found → (self.new ≡ at_steps self.old.forest (map step_of to.now)) × ((given : List Tree) × AreGiven self.new given)) }
+        ensures missed { IfOk result (λ found. IsFalse found → (self.new ≡ self.old) × HasNone self.old.forest (map step_of to.now)) }
+        ensures err { OnErr result (self.new ≡ self.old) }
+        ensures few { steps.new ≤ steps.old + 7 * length to.now }
+    {
+        let alloc = *self.copy.allocator();
+        let mut walk = Walk::begin(alloc, self.walk.forest)?;
+        if !lead_to(alloc, &mut walk, to, steps)? {
+            return Ok(false);
+        }
+        self.walk = walk;
         self.place = Place::Between;
         self.current = Current::Walked;
         Ok(true)

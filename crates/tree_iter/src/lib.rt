@@ -3,6 +3,8 @@
 
 mod goals;
 mod iter;
+mod jump;
+mod leads;
 mod walk;
 mod writing;
 

@@ -1,15 +1,18 @@
 //! A walk through a forest from one derivation to the next. It goes back to the last choice that has a later option, and on by first
 //! options from there, so that what the two derivations share at their beginning is not done again.
-ghost use Rattle.std.specs.Prelude.{◌≡◌, ℕ, true, ◌+◌, ◌<◌, [], List, IfOk, OnOk, OnErr, IfSome, IsNone, IsTrue};
+ghost use Rattle.std.specs.Prelude.{◌≡◌, ℕ, true, ◌+◌, ◌<◌, ◌≤◌, ◌∷◌, [], List, length, vec_len, vec_capacity, IfOk, OnOk, OnErr, IfSome, IsNone, IsTrue};
 ghost use Rattle.grammar_model.specs.Steps.{Step};
-ghost use Rattle.forest_laws.specs.Goals.{Write};
+ghost use Rattle.forest_laws.specs.Lists.{Lists};
+ghost use Rattle.forest_laws.specs.Goals.{Goal as FlatGoal, Write, options};
 ghost use Rattle.tree_iter.specs.Writing.{flat_step};
-ghost use Rattle.tree_iter.specs.Goals.{fork_of};
-ghost use Rattle.tree_iter.specs.Walk.{IsKept, KeepsLeft, HasSteps, Looks, GoesFurther, AreFewLooks, LeavesSome, IsAbout, IsBack, Goes, StandsBefore, StandsBehind, Reaches, Turns, Remain, Advances, IsUnderWay, IsLast};
+ghost use Rattle.tree_iter.specs.Goals.{fork_of, goal_opened, look, IsOpened};
+ghost use Rattle.tree_iter.specs.Walk.{IsKept, KeepsLeft, HasSteps, Looks, GoesFurther, AreFewLooks, LeavesSome, Stays, Trail, Wrote, IsOn, Chooses, IsAbout, IsBack, Goes, StandsBefore, StandsBehind, Reaches, Turns, Remain, Advances, IsBegun, IsUnderWay, IsLast};
 ghost use Rattle.tree_iter.specs.declared.walk.Place.TheVariants.{Walking};
 ghost use Rattle.tree_iter.specs.declared.iter.Current.TheVariants.{Begun as NotBegun};
 
-use crate::goals::{Fork, Goal, GoalRow, MOST_ROWS, goal_row, put_option, put_root};
+use crate::goals::{
+    Fork, Goal, GoalRow, MOST_ROWS, Opened, goal_row, look_at, put_option, put_root,
+};
 use crate::writing::{CountRow, FlatStep, write_step};
 use bocage::Forest;
 use grammar_core::TreeStep;
@@ -53,6 +56,7 @@ impl<'f> Walk<'f> {
     pub fn begin(alloc: Global, forest: &'f Forest<'f>) -> Result<Walk<'f>, NoMemory>
         ensures forest { IfOk result (λ walk. walk.forest.now ≡ forest.now) }
         ensures begun { IfOk result (λ walk. (copied : List TreeStep) → IsUnderWay walk Walking NotBegun copied) }
+        ensures nothing { IfOk result (λ walk. IsBegun walk) }
     {
         forest.known();
         let mut goals = Vec::new(alloc);
@@ -81,18 +85,46 @@ impl<'f> Walk<'f> {
         ensures further { OnOk result (GoesFurther self.old self.new) }
         ensures forest { self.new.forest ≡ self.old.forest }
     {
+        self.reserve()?;
+        let opened = look_at(self.forest, fork, steps);
+        self.choose_opened(fork, &opened, 0, behind);
+        Ok(())
+    }
+
+    /// Makes room for what an option adds.
+    pub fn reserve(&mut self) -> Result<(), NoMemory>
+        ensures room { OnOk result ((vec_len self.new.goals + 2 ≤ vec_capacity self.new.goals) × (vec_len self.new.choices < vec_capacity self.new.choices)) }
+        ensures stays { Stays self.old self.new }
+    {
         self.goals.reserve(MOST_ROWS)?;
         self.choices.reserve(1)?;
+        Ok(())
+    }
+
+    /// Chooses an option of a fork, in place of the row of the fork unless a choice goes back to that, and keeps the choice where there
+    /// is another option.
+    pub fn choose_opened(&mut self, fork: Fork<'f>, opened: &Opened<'f>, at: usize, behind: usize)
+        requires about { IsAbout self.old (fork_of fork) behind }
+        requires is { goal_opened opened.now ≡ fork_of fork }
+        requires opened { IsOpened self.old.forest.now opened.now }
+        requires at { at < length (options self.old.forest.now (fork_of fork)) }
+        requires room { (vec_len self.old.goals + 2 ≤ vec_capacity self.old.goals) × (vec_len self.old.choices < vec_capacity self.old.choices) }
+        ensures chooses { (lists : Lists) (trail : Trail) (others : List FlatGoal) → IsOn self.old lists trail (fork_of fork.entry ∷ others) → Chooses self.old.forest.now self.new (fork_of fork.entry) at lists trail others }
+        ensures steps_kept { (self.new.steps ≡ self.old.steps) × (self.new.counts ≡ self.old.counts) }
+        ensures steps { (m : ℕ) → HasSteps self.old m → HasSteps self.new (m + look (fork_of fork.entry)) }
+        ensures further { GoesFurther self.old self.new }
+        ensures forest { self.new.forest ≡ self.old.forest }
+    {
         let kept = self.kept(behind);
         self.goals.truncate(kept);
         let goals = self.goals.as_slice().len();
-        let Ok(put) = put_option(&mut self.goals, self.forest, fork, 0, behind, steps) else {
+        let Ok(put) = put_option(&mut self.goals, self.forest, opened, at, behind) else {
             unreachable!();
         };
         if put.count > 1 {
             let choice = Choice {
                 fork,
-                chosen: 0,
+                chosen: at,
                 count: put.count,
                 behind,
                 goals,
@@ -104,13 +136,13 @@ impl<'f> Walk<'f> {
             };
         }
         self.left = put.top;
-        Ok(())
     }
 
-    // Writes a step.
-    fn write(&mut self, step: FlatStep, behind: usize) -> Result<(), NoMemory>
+    /// Writes a step.
+    pub fn write(&mut self, step: FlatStep, behind: usize) -> Result<(), NoMemory>
         requires { IsAbout self.old (Write (flat_step step)) behind }
         ensures goes { Goes self.old self.new }
+        ensures on { OnOk result ((lists : Lists) (trail : Trail) (others : List FlatGoal) → IsOn self.old lists trail (Write (flat_step step) ∷ others) → IsOn self.new lists (Wrote trail (flat_step step)) others) }
         ensures keeps { OnOk result ((n : ℕ) → HasSteps self.old n → HasSteps self.new n) }
         ensures further { OnOk result (GoesFurther self.old self.new) }
         ensures forest { self.new.forest ≡ self.old.forest }
@@ -140,6 +172,7 @@ impl<'f> Walk<'f> {
     // Lets go of the goals that are done and that no choice goes back to.
     fn let_go(&mut self)
         ensures goes { Goes self.old self.new }
+        ensures on { (lists : Lists) (trail : Trail) (left : List FlatGoal) → IsOn self.old lists trail left → IsOn self.new lists trail left }
         ensures keeps { KeepsLeft self.old self.new }
         ensures counts { self.new.counts ≡ self.old.counts }
         ensures forest { self.new.forest ≡ self.old.forest }
@@ -213,14 +246,8 @@ impl<'f> Walk<'f> {
         ensures forest { self.new.forest ≡ self.old.forest }
     {
         let chosen = choice.chosen + 1;
-        let put = put_option(
-            &mut self.goals,
-            self.forest,
-            choice.fork,
-            chosen,
-            choice.behind,
-            steps,
-        )?;
+        let opened = look_at(self.forest, choice.fork, steps);
+        let put = put_option(&mut self.goals, self.forest, &opened, chosen, choice.behind)?;
         let last = self.choices.as_slice().len() - 1;
         self.choices[last].chosen = chosen;
         self.left = put.top;

@@ -59,7 +59,8 @@ fn written_symbol(flat: &Flat, written: &Written, x: u32) -> SymbolId
     }
 }
 
-fn is_list_rule(flat: &Flat, rule: u32) -> bool
+/// Whether a flat rule is a list's.
+pub fn is_list_rule(flat: &Flat, rule: u32) -> bool
     requires { IsRule flat.now rule }
     ensures { result ≡ is_rule_of_list flat.now rule }
 {

@@ -1,8 +1,10 @@
 use Rattle.std.proofs.Common.{refl, subst, sym}
 use Rattle.forest_laws.specs.Goals.{Write}
 use Rattle.tree_iter.specs.declared.walk.Walk.{Walk}
+use Rattle.tree_iter.specs.Walk.{Wrote}
 use Rattle.tree_iter.specs.Writing.{IsStepOf, flat_step}
 use Rattle.tree_iter.proofs.Walks.{first_of, step_ready, done_on, wrote_one, wrote_longer, write_steps, steps_kept}
+use Rattle.tree_iter.proofs.Choosing.{first_on, wrote_on}
 use Rattle.tree_iter.proofs.Further.{write_further, further_kept}
 use Rattle.std.proofs.lemmas.Result.{IfOk-from_err}
 use Rattle.tree_iter.proofs.Walks.{same_before}
@@ -46,3 +48,15 @@ returns-in_err-write_step-clause-keeps c = IfOk-from_err _ _ c.from_residual.ens
 
 pub returns-in_err-write_step-clause-further : goal.returns-in_err-write_step-clause-further
 returns-in_err-write_step-clause-further c = IfOk-from_err _ _ c.from_residual.ensures.0
+
+pub returns-clause-on : goal.returns-clause-on
+returns-clause-on c = λ lists trail others h.
+    let w : Walk = c.args.self.now in
+    let done = done_on w.forest.now c.written.result.now c.flat.result.now w.counts.items c.write_step.new.counts.items w.steps.items c.write_step.new.steps.items (flat_step c.args.step)
+    c.written.ensures c.flat.ensures c.in_ok-write_step.ensures.ok in
+    c.let_go.ensures.on lists (Wrote trail (flat_step c.args.step)) others
+    (wrote_on w (record w { counts = c.write_step.new.counts; steps = c.write_step.new.steps }) lists trail (flat_step c.args.step) c.args.behind others
+    (first_on w lists trail (Write (flat_step c.args.step)) c.args.behind others c.requires h) done)
+
+pub returns-in_err-write_step-clause-on : goal.returns-in_err-write_step-clause-on
+returns-in_err-write_step-clause-on c = IfOk-from_err _ _ c.from_residual.ensures.0
