@@ -10,14 +10,13 @@ use Rattle.grammar_model.specs.Order.{RuleOrder}
 use Rattle.grammar_model.specs.declared.Edge.{Edge}
 use Rattle.grammar_model.specs.declared.Ranking.TheVariants.{Rule as RuleRanks}
 use Rattle.grammar_core.specs.declared.steps.Span.{Span}
-use Rattle.grammar_core.specs.Written.{symbols_of}
+use Rattle.grammar_core.specs.Written.{symbols_of, IsLevelled}
 use Rattle.recognizer_model.specs.Counts.{IsCountOf}
 use Rattle.recognizer_model.specs.Chosen.{allowed_by}
 use Rattle.recognizer_model.specs.Nodes.{IsExpanded, IsStats, IsUsed}
 use Rattle.recognizer_model.proofs.Counting.{one_count}
 use Rattle.earley_sets.specs.Recognizer.{Recognizer, IsRecognizer, edges_of as held_edges, top_of as held_top, earleme_of}
 use Rattle.earley_sets.specs.Counted.{TakesAtMost}
-use Rattle.dsl_build.specs.Ranges.{IsKnown}
 use Rattle.language_model.specs.Building.{Built}
 use Rattle.reading_model.specs.Reading.{End, edges_of, earleme_after}
 use Rattle.reading_model.proofs.One.{reading_is_one}
@@ -42,7 +41,7 @@ use Rattle.slif_cli.proofs.Within.{within}
 
 -- THE SYMBOLS OF GLADES
 
-module _ (g : Grammar) (known : IsKnown g) where
+module _ (g : Grammar) (rules : All (λ r. All (λ s. s < length g.names) (symbols_of r) × IsLevelled r) g.rules) where
   left_known : (rule : WrittenRule) → All (λ s. s < length g.names) (symbols_of rule) → lhs_of rule < length g.names
   left_known (Plain r) all = all 0 0 (omega arith)
   left_known (Sequence r) all = all 0 0 (omega arith)
@@ -54,7 +53,7 @@ module _ (g : Grammar) (known : IsKnown g) where
   shaped_known edge slot p q (Leaf s a b) first d e = absurd (no_shape e)
   shaped_known edge slot p q (Nulled s a) first d e = absurd (no_shape e)
   shaped_known edge slot p q (Node i cs a b) first d e =
-      subst (λ s. s < length g.names) d.fits.0 (left_known (rule_at g i) (known.rules i no_rule d.in_range).0)
+      subst (λ s. s < length g.names) d.fits.0 (left_known (rule_at g i) (rules i no_rule d.in_range).0)
 
   pub glades_known : (edges : List Edge) (start place : ℕ) (glades : List Glade) → AreGlades g edges start place glades → All (λ x. x.slot.symbol < length g.names) glades
   glades_known edges start place glades are =

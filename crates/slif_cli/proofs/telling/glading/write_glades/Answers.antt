@@ -38,16 +38,16 @@ write_lines_of-requires g c =
     let b = c.args.prepared.now in
     let has = c.in_ok-forest.ensures.forest in
     let glades = c.in_ok-glades.glades.items in
-    let are = glades_as b c.args.chars.now c.args.reading.now.spans.items c.in_ok-forest.forest has c.known-in_ok-forest.ensures glades c.in_ok-glades.ensures.report in
+    let are = glades_as b c.args.chars.now c.args.reading.now.spans.items c.in_ok-forest.forest has c.known-2.ensures glades c.in_ok-glades.ensures.report in
     subst (λ (w : Grammar). All (λ (x : Glade). x.slot.symbol < length w.names) c.deref.result.now) (sym c.written-w.ensures)
     (subst (λ (xs : List Glade). All (λ (x : Glade). x.slot.symbol < length b.g1.names) xs) (sym c.deref.ensures.value)
-    (glades_known b.g1 c.known.ensures.ranges.g1 (edges_of has.pieces) (slice_index_or b.g1.starts 0 0) (earleme_after has.pieces) glades are))
+    (glades_known b.g1 c.known.ensures.ranges.g1.rules (edges_of has.pieces) (slice_index_or b.g1.starts 0 0) (earleme_after has.pieces) glades are))
 
 pub returns-clause-done : goal.returns-clause-done
 returns-clause-done g c =
     let b = c.args.prepared.now in
     let cs = c.args.chars.now in
-    let told = compared b cs c.args.reading.now.spans.items c.in_ok-forest.forest c.in_ok-forest.ensures.forest c.known-in_ok-forest.ensures c.written-w.result.now c.written-w.ensures
+    let told = compared b cs c.args.reading.now.spans.items c.in_ok-forest.forest c.in_ok-forest.ensures.forest c.known-2.ensures c.written-w.result.now c.written-w.ensures
     c.in_ok-glades.glades.items c.deref.result.now c.in_ok-glades.ensures.report c.deref.ensures.value in
     on_ok_weaker c.write_lines_of.result
     (lines_done (TellsReading Glades b cs) (map (glade_line c.written-w.result.now) c.deref.result.now) told _ _) c.write_lines_of.ensures.written
@@ -56,7 +56,7 @@ pub returns-clause-stops : goal.returns-clause-stops
 returns-clause-stops g c =
     let b = c.args.prepared.now in
     let cs = c.args.chars.now in
-    let told = compared b cs c.args.reading.now.spans.items c.in_ok-forest.forest c.in_ok-forest.ensures.forest c.known-in_ok-forest.ensures c.written-w.result.now c.written-w.ensures
+    let told = compared b cs c.args.reading.now.spans.items c.in_ok-forest.forest c.in_ok-forest.ensures.forest c.known-2.ensures c.written-w.result.now c.written-w.ensures
     c.in_ok-glades.glades.items c.deref.result.now c.in_ok-glades.ensures.report c.deref.ensures.value in
     MatchResult-weaker c.write_lines_of.result c.write_lines_of.ensures.stops (λ _ x. x)
     (lines_stop (TellsReading Glades b cs) (map (glade_line c.written-w.result.now) c.deref.result.now) told
@@ -66,6 +66,6 @@ pub returns-clause-counted : goal.returns-clause-counted
 returns-clause-counted g c =
     let read = c.args.reading.now in
     on_ok_weaker c.write_lines_of.result
-    (λ _. compares_within c.args.prepared.now c.args.chars.now read.spans.items c.in_ok-forest.forest c.in_ok-forest.ensures.forest c.known-in_ok-forest.ensures
+    (λ _. compares_within c.args.prepared.now c.args.chars.now read.spans.items c.in_ok-forest.forest c.in_ok-forest.ensures.forest c.known-2.ensures
     c.stats-stats.result c.stats-stats.ensures read.recce read.spans.items c.place-place.ensures.is c.requires.read _ _ _ c.forest_of.ensures.counted c.report_glades.ensures.counted)
     c.write_lines_of.ensures.written
