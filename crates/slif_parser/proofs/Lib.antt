@@ -1,3 +1,4 @@
 mod Telling
 mod Characters
 mod Going
+mod Differing

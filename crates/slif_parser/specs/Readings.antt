@@ -1,11 +1,13 @@
 -- What is known of an input that is read, of its forest, and of its derivations. The derivations are those of the run.
-use Rattle.std.specs.Prelude.{◌≡◌, ℕ, Bool, true, false, List, [], ◌∷◌, ◌++◌, Some, IfSome, Result, map, chars}
+use Rattle.std.specs.Prelude.{◌≡◌, ℕ, ◌+◌, ◌-◌, ◌<◌, Bool, true, false, List, [], ◌∷◌, ◌++◌, Some, IfSome, Result, length, map, slice_get, slice_index_or, chars}
 use Rattle.grammar_model.specs.Trees.{Tree}
 use Rattle.grammar_model.specs.Steps.{steps_of}
 use Rattle.grammar_model.specs.Values.{Token}
 use Rattle.grammar_model.specs.declared.Ranking.{Ranking}
 use Rattle.language_model.specs.Building.{Built}
-use Rattle.reading_model.specs.Reading.{Piece, End, IsReading, spans_from}
+use Rattle.grammar_core.specs.declared.steps.Span.{Span}
+use Rattle.glade_model.specs.Glades.{Glade, AreGlades}
+use Rattle.reading_model.specs.Reading.{Piece, End, IsReading, earleme_after, edges_of, spans_from}
 use Rattle.run_model.specs.Inputs.{IsRead}
 use Rattle.run_model.specs.Listing.{AreDerivations}
 use Rattle.scanless.specs.Reading.{span_of}
@@ -48,6 +50,22 @@ IsPrefixOfAll d given = (rest : List Tree) × AreAll d (given ++ rest)
 abbrev pub IsNext : (new : DerivationsOf) → (given : List Tree) → Bool → Type 0
 IsNext new given true = (tree : Tree) × AreGiven new.iteration (given ++ tree ∷ []) × (new.iteration.current ≡ Some (steps_of tree))
 IsNext new given false = AreAll new given
+
+-- where the derivations of what is read differ; the places count tokens
+pub record AreGladesOf (r : Read) (glades : List Glade) : Type 0 where
+  pub pieces : List Piece
+  pub reading : IsReading r.grammar r.characters pieces End
+  pub are : AreGlades r.grammar.g1 (edges_of pieces) (slice_index_or r.grammar.g1.starts 0 0) (earleme_after pieces) glades
+
+-- the character where the token before the place ends
+pub record EndsAt (spans : List Span) (place at : ℕ) : Type 0 where
+  pub none : place ≡ 0 → at ≡ 0
+  pub token : (s : Span) → 0 < place → slice_get spans (place - 1) ≡ Some s → at ≡ s.start + s.length
+
+-- the character where the token at the place begins; after the last, where that ends
+pub record StartsAt (spans : List Span) (place at : ℕ) : Type 0 where
+  pub token : (s : Span) → slice_get spans place ≡ Some s → at ≡ s.start
+  pub last : place ≡ length spans → EndsAt spans place at
 
 -- THE VALUE OF THE CURRENT DERIVATION
 

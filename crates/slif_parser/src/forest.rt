@@ -1,14 +1,16 @@
 //! The forest of an input's derivations.
-ghost use Rattle.std.specs.Prelude.{◌≡◌, ◌<◌, IfOk, IfErr};
+ghost use Rattle.std.specs.Prelude.{◌≡◌, ◌+◌, ◌<◌, ◌≤◌, All, length, IfOk, IfErr};
+ghost use Rattle.grammar_model.specs.declared.Ranking.TheVariants.{Rule};
 ghost use Rattle.text_reading.specs.Refusals.{IsNoDerivation, TellsInput};
-ghost use Rattle.slif_parser.specs.Readings.{IsForestAs, IsBegun};
+ghost use Rattle.slif_parser.specs.Readings.{AreGladesOf, IsForestAs, IsBegun, EndsAt, StartsAt};
 
 use crate::{Derivations, NoMemory, Ranking, Reading};
+use glades::{Glade, report_glades};
 use grammar_core::Span;
 use scanless::Prepared;
 use slif_base::{Chars, Steps};
 use std::alloc::Global;
-use std::marker::Model;
+use std::marker::{Brand, Model};
 use std::sync::ledger::{Blank, Ledger};
 use text_reading::{Refusal, forest_of};
 
@@ -65,6 +67,23 @@ pub fn forest_with<'r, L: Ledger>(
     }
 }
 
+// The report of a forest, on a counter of its own.
+fn glades_with<L: Ledger>(
+    blank: Blank,
+    alloc: Global,
+    forest: &Forest<'_>,
+) -> Result<Vec<Glade>, NoMemory>
+    requires name { blank.name ≡ L.name }
+    requires parts { blank.parts ≡ L.parts }
+    requires some { 0 < blank.parts }
+    requires ranking { forest.now.forest.ranking ≡ Rule }
+    ensures { IfOk result (λ glades. AreGladesOf forest.now.read glades.items) }
+{
+    let mut steps = Steps::<L>::of_blank(blank);
+    forest.forest.known();
+    report_glades(alloc, &forest.forest, forest.prepared.written(), &mut steps)
+}
+
 impl<'r> Forest<'r> {
     /// The derivations, one after another; it stands before the first.
     pub fn derivations(&self, alloc: Global) -> Result<Derivations<'_>, NoMemory>
@@ -72,4 +91,46 @@ impl<'r> Forest<'r> {
     {
         Derivations::of(alloc, self.prepared, self.chars, self.spans, &self.forest)
     }
+
+    /// Where the derivations differ: each symbol over tokens that a derivation uses and whose trees have more than one shape, with the first
+    /// two shapes. The places count tokens; `start` and `end` tell their characters. It is empty exactly where there is one derivation.
+    pub fn glades(&self, alloc: Global) -> Result<Vec<Glade>, NoMemory>
+        requires { self.now.forest.ranking ≡ Rule }
+        ensures { IfOk result (λ glades. AreGladesOf self.now.read glades.items) }
+    {
+        glades_with::<Brand>(Blank::new(1), alloc, self)
+    }
+
+    /// The character where the token at a place begins; after the last token, where that ends.
+    pub fn start(&self, place: u32) -> u32
+        requires { place ≤ length self.now.read.spans }
+        ensures { StartsAt self.now.read.spans place result }
+    {
+        match self.spans.get(place as usize) {
+            Some(span) => span.start,
+            None => self.end(place),
+        }
+    }
+
+    /// The character where the token before a place ends.
+    pub fn end(&self, place: u32) -> u32
+        requires { place ≤ length self.now.read.spans }
+        ensures { EndsAt self.now.read.spans place result }
+    {
+        self.prepared.known();
+        if place == 0 {
+            return 0;
+        }
+        end_of(self.spans, place)
+    }
+}
+
+fn end_of(spans: &[Span], place: u32) -> u32
+    requires spans { All (λ s. s.start + s.length < 4294967296) spans.now }
+    requires some { 0 < place }
+    requires place { place ≤ length spans.now }
+    ensures { EndsAt spans.now place result }
+{
+    let span = spans[place as usize - 1];
+    span.start + span.length
 }

@@ -11,6 +11,7 @@ mod reading;
 pub use derivations::Derivations;
 pub use error::ParseError;
 pub use forest::Forest;
+pub use glades::{Glade, Shape, Starts};
 pub use grammar::Grammar;
 pub use grammar_core::{RuleId, Span, SymbolId, TreeStep};
 pub use grammar_model::Ranking;
