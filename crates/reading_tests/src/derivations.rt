@@ -8,7 +8,7 @@ use crate::readings::{Row, Wanted};
 use bocage::Forest;
 use grammar_core::{SymbolId, TreeStep, Written};
 use grammar_model::Ranking;
-use row_readings::{COMMAS, HIGH, Input, LOW, PIECES, SUM, are_rows, is_row};
+use row_readings::{COMMAS, HIGH, Input, LOW, PIECES, SUM, are_rows};
 use slif_base::Steps;
 use std::alloc::{AllocError, Global};
 use std::sync::ledger::Ledger;
@@ -291,7 +291,7 @@ fn sums_have_as_many_as_is_known(rt: HostRuntime) -> Result<(), Fail> {
             Ranking::Rule,
             Wanted::Count(SUMS[k]),
         );
-        assert!(rt; is_row(rt.alloc(), &row)?);
+        assert!(rt; are_rows(rt.alloc(), &[row])?);
     }
     Ok(())
 }

@@ -1,4 +1,6 @@
 //! What is asked of readings: their forests, derivations, numbers and reports.
+ghost use Rattle.std.specs.Prelude.{◌≡◌, ◌<◌};
+
 use crate::derivations::{have_count, have_texts};
 use crate::forests::{Starts, has_size};
 use crate::lines::have_lines;
@@ -10,7 +12,8 @@ use grammar_model::Ranking;
 use row_readings::Question;
 use slif_base::Steps;
 use std::alloc::{AllocError, Global};
-use std::sync::ledger::Ledger;
+use std::marker::Brand;
+use std::sync::ledger::{Blank, Ledger};
 
 /// What a reading has.
 #[derive(Clone, Copy)]
@@ -33,7 +36,7 @@ fn numbers_of(stats: &Stats) -> [u128; 4] {
     [stats.tokens, stats.kept, stats.nodes, stats.expanded]
 }
 
-impl<'a, L: Ledger> Question<L> for Wanted<'a> {
+impl<'a> Question for Wanted<'a> {
     fn wants_none(&self) -> bool {
         matches!(self, Wanted::NoParse)
     }
@@ -56,18 +59,52 @@ impl<'a, L: Ledger> Question<L> for Wanted<'a> {
         w: &Written,
         _ranking: Ranking,
         forest: &Forest<'_>,
-        steps: &mut Steps<L>,
     ) -> Result<bool, AllocError> {
-        match self {
-            Wanted::Forest(nodes, alternatives, derivations, rules) => {
-                let counts = (*nodes, *alternatives, *derivations);
-                Ok(has_size(alloc, forest, counts, rules, steps)?)
-            }
-            Wanted::Numbers(numbers) => Ok(numbers_of(&forest.stats()) == *numbers),
-            Wanted::Trees(trees) => have_texts(alloc, w, forest, trees, steps),
-            Wanted::Count(count) => have_count(alloc, w, forest, *count, steps),
-            Wanted::Lines(lines) => have_lines(alloc, w, forest, lines, steps),
-            _ => Ok(false),
+        forest_as_told(alloc, w, forest, self)
+    }
+}
+
+// Whether a forest is as it is told, on a counter of its own.
+fn forest_as_told(
+    alloc: Global,
+    w: &Written,
+    forest: &Forest<'_>,
+    wanted: &Wanted<'_>,
+) -> Result<bool, AllocError> {
+    told_with::<Brand>(Blank::new(1), alloc, w, forest, wanted)
+}
+
+fn told_with<L: Ledger>(
+    blank: Blank,
+    alloc: Global,
+    w: &Written,
+    forest: &Forest<'_>,
+    wanted: &Wanted<'_>,
+) -> Result<bool, AllocError>
+    requires name { blank.name ≡ L.name }
+    requires parts { blank.parts ≡ L.parts }
+    requires some { 0 < blank.parts }
+{
+    let mut steps = Steps::<L>::of_blank(blank);
+    is_told(alloc, w, forest, wanted, &mut steps)
+}
+
+fn is_told<L: Ledger>(
+    alloc: Global,
+    w: &Written,
+    forest: &Forest<'_>,
+    wanted: &Wanted<'_>,
+    steps: &mut Steps<L>,
+) -> Result<bool, AllocError> {
+    match wanted {
+        Wanted::Forest(nodes, alternatives, derivations, rules) => {
+            let counts = (*nodes, *alternatives, *derivations);
+            Ok(has_size(alloc, forest, counts, rules, steps)?)
         }
+        Wanted::Numbers(numbers) => Ok(numbers_of(&forest.stats()) == *numbers),
+        Wanted::Trees(trees) => have_texts(alloc, w, forest, trees, steps),
+        Wanted::Count(count) => have_count(alloc, w, forest, *count, steps),
+        Wanted::Lines(lines) => have_lines(alloc, w, forest, lines, steps),
+        _ => Ok(false),
     }
 }

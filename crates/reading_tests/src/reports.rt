@@ -6,7 +6,7 @@ use earley_sets::Recce;
 use grammar_core::Written;
 use grammar_model::Ranking;
 use progress::{ProgressRefusal, ReportLine, report};
-use row_readings::{COMMAS, Input, LOW, Language, SUM, is_row};
+use row_readings::{COMMAS, Input, LOW, Language, SUM, are_rows};
 use std::alloc::Global;
 use std::test::Fail;
 
@@ -87,24 +87,24 @@ pub(crate) fn has_reports(
 
 #[test]
 fn reports_of_a_sum(rt: HostRuntime) -> Result<(), Fail> {
-    assert!(rt; is_row(rt.alloc(), &OF_SUM)?);
+    assert!(rt; are_rows(rt.alloc(), &[OF_SUM])?);
     Ok(())
 }
 
 #[test]
 fn reports_with_nulled_parts(rt: HostRuntime) -> Result<(), Fail> {
-    assert!(rt; is_row(rt.alloc(), &OF_LOW)?);
+    assert!(rt; are_rows(rt.alloc(), &[OF_LOW])?);
     Ok(())
 }
 
 #[test]
 fn reports_of_a_separated_list(rt: HostRuntime) -> Result<(), Fail> {
-    assert!(rt; is_row(rt.alloc(), &OF_COMMAS)?);
+    assert!(rt; are_rows(rt.alloc(), &[OF_COMMAS])?);
     Ok(())
 }
 
 #[test]
 fn reports_of_a_bare_list(rt: HostRuntime) -> Result<(), Fail> {
-    assert!(rt; is_row(rt.alloc(), &OF_BARE)?);
+    assert!(rt; are_rows(rt.alloc(), &[OF_BARE])?);
     Ok(())
 }

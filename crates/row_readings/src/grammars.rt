@@ -97,7 +97,7 @@ fn add_list(w: &mut Written, list: &List) -> Result<RuleId, CoreRefusal> {
 }
 
 /// The grammar of the rules.
-pub fn written_of(alloc: Global, language: &Language) -> Result<Written, CoreRefusal> {
+pub(crate) fn written_of(alloc: Global, language: &Language) -> Result<Written, CoreRefusal> {
     let mut w = Written::new(alloc);
     for name in language.names {
         w.symbol_new(name)?;
@@ -113,7 +113,7 @@ pub fn written_of(alloc: Global, language: &Language) -> Result<Written, CoreRef
 }
 
 /// The flat grammar of a grammar that passes the check.
-pub fn flat_of(alloc: Global, w: &Written) -> Result<Flat, anyhow::Error>
+pub(crate) fn flat_of(alloc: Global, w: &Written) -> Result<Flat, anyhow::Error>
     ensures checked { OnOk result (IsChecked w.now) }
     ensures flat { IfOk result (λ f. IsFlatOf f w.now) }
     ensures start { IfOk result (λ f. 0 < length f.tops) }
@@ -129,7 +129,7 @@ pub fn flat_of(alloc: Global, w: &Written) -> Result<Flat, anyhow::Error>
 }
 
 /// Takes a token that begins at the place.
-pub fn take(recce: &mut Recce<'_>, token: u32, length: u32) -> Result<(), anyhow::Error>
+pub(crate) fn take(recce: &mut Recce<'_>, token: u32, length: u32) -> Result<(), anyhow::Error>
     ensures { recce.new.flat ≡ recce.old.flat }
 {
     if recce.place() >= MOST_PLACES {
@@ -140,7 +140,10 @@ pub fn take(recce: &mut Recce<'_>, token: u32, length: u32) -> Result<(), anyhow
 }
 
 /// Goes on to the next place.
-pub fn go_on<L: Ledger>(recce: &mut Recce<'_>, steps: &mut Steps<L>) -> Result<(), anyhow::Error>
+pub(crate) fn go_on<L: Ledger>(
+    recce: &mut Recce<'_>,
+    steps: &mut Steps<L>,
+) -> Result<(), anyhow::Error>
     ensures { recce.new.flat ≡ recce.old.flat }
 {
     if recce.place() >= MOST_PLACES {
@@ -151,7 +154,7 @@ pub fn go_on<L: Ledger>(recce: &mut Recce<'_>, steps: &mut Steps<L>) -> Result<(
 }
 
 /// Reads tokens that are one place long.
-pub fn read_all<L: Ledger>(
+pub(crate) fn read_all<L: Ledger>(
     recce: &mut Recce<'_>,
     tokens: &[u32],
     steps: &mut Steps<L>,

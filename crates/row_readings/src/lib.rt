@@ -5,6 +5,6 @@ mod grammars;
 mod questions;
 mod tokens;
 
-pub use grammars::{COMMAS, HIGH, LOW, Language, Line, List, PIECES, SUM, flat_of, written_of};
-pub use questions::{Question, Row, are_rows, is_row, is_so};
+pub use grammars::{COMMAS, HIGH, LOW, Language, Line, List, PIECES, SUM};
+pub use questions::{Question, Row, are_rows, is_so};
 pub use tokens::{Input, Token};

@@ -1,6 +1,6 @@
 //! What is asked of a reading, and rows of readings. What owns a recognizer, an arena and a forest is dear to prove, so there is one
 //! function of each kind.
-ghost use Rattle.std.specs.Prelude.{◌≡◌, ◌<◌, length};
+ghost use Rattle.std.specs.Prelude.{◌≡◌, ◌<◌, length, IfOk, OnOk, IsTrue};
 ghost use Rattle.grammar_model.specs.Checked.{IsChecked};
 ghost use Rattle.recognizer_model.specs.FlatForm.{IsFlatOf};
 
@@ -17,7 +17,7 @@ use std::marker::Brand;
 use std::sync::ledger::{Blank, Ledger};
 
 /// What is asked of a reading.
-pub trait Question<L: Ledger> {
+pub trait Question {
     /// Whether there is to be no derivation.
     fn wants_none(&self) -> bool;
 
@@ -38,7 +38,6 @@ pub trait Question<L: Ledger> {
         w: &Written,
         ranking: Ranking,
         forest: &Forest<'_>,
-        steps: &mut Steps<L>,
     ) -> Result<bool, AllocError>
         requires written { forest.now.written ≡ w.now }
         requires ranking { forest.now.ranking ≡ ranking };
@@ -48,13 +47,12 @@ pub trait Question<L: Ledger> {
 pub type Row<'a, Q> = (Language, Input<'a>, Ranking, Q);
 
 // Whether what was read is as it is told.
-fn reading_is_so<L: Ledger, Q: Question<L>>(
+fn reading_is_so<Q: Question>(
     alloc: Global,
     w: &Written,
     recce: &Recce<'_>,
     ranking: Ranking,
     question: &Q,
-    steps: &mut Steps<L>,
 ) -> Result<bool, anyhow::Error>
     requires checked { IsChecked w.now }
     requires flat { IsFlatOf recce.now.flat w.now }
@@ -65,7 +63,7 @@ fn reading_is_so<L: Ledger, Q: Question<L>>(
     let arena = Bump::new(alloc);
     match Forest::build(alloc, &arena, recce, w, ranking, steps) {
         Ok(forest) => {
-            let so = question.of_forest(alloc, w, ranking, &forest, steps);
+            let so = question.of_forest(alloc, w, ranking, &forest);
             drop(forest);
             Ok(so?)
         }
@@ -74,7 +72,7 @@ fn reading_is_so<L: Ledger, Q: Question<L>>(
 }
 
 // Reads, and tells whether the reading is as it is told.
-fn goes_on<L: Ledger, Q: Question<L>>(
+fn goes_on<L: Ledger, Q: Question>(
     alloc: Global,
     w: &Written,
     recce: &mut Recce<'_>,
@@ -87,11 +85,11 @@ fn goes_on<L: Ledger, Q: Question<L>>(
     requires flat { IsFlatOf recce.old.flat w.now }
 {
     read(recce, input, steps)?;
-    reading_is_so(alloc, w, recce, ranking, question, steps)
+    reading_is_so(alloc, w, recce, ranking, question)
 }
 
 // Whether what a new recognizer reads is as it is told.
-fn reads<L: Ledger, Q: Question<L>>(
+fn reads<L: Ledger, Q: Question>(
     alloc: Global,
     w: &Written,
     flat: &Flat,
@@ -110,7 +108,7 @@ fn reads<L: Ledger, Q: Question<L>>(
     so
 }
 
-fn reads_with<L: Ledger, Q: Question<L>>(
+fn reads_with<L: Ledger, Q: Question>(
     blank: Blank,
     alloc: Global,
     w: &Written,
@@ -131,21 +129,23 @@ fn reads_with<L: Ledger, Q: Question<L>>(
 }
 
 /// Whether what is read by a grammar is as it is told.
-pub fn is_so<Q: Question<Brand>>(
+pub fn is_so<Q: Question>(
     alloc: Global,
     w: &Written,
     input: &Input<'_>,
     ranking: Ranking,
     question: &Q,
-) -> Result<bool, anyhow::Error> {
+) -> Result<bool, anyhow::Error>
+    ensures checked { OnOk result (IsChecked w.now) }
+{
     let flat = flat_of(alloc, w)?;
     let so = reads_with::<Brand, Q>(Blank::new(1), alloc, w, &flat, input, ranking, question);
     drop(flat);
     so
 }
 
-/// Whether a row is as it is told.
-pub fn is_row<Q: Question<Brand>>(alloc: Global, row: &Row<'_, Q>) -> Result<bool, anyhow::Error> {
+// Whether a row is as it is told.
+fn is_row<Q: Question>(alloc: Global, row: &Row<'_, Q>) -> Result<bool, anyhow::Error> {
     let (language, input, ranking, question) = row;
     let w = written_of(alloc, language)?;
     let so = is_so(alloc, &w, input, *ranking, question);
@@ -154,10 +154,9 @@ pub fn is_row<Q: Question<Brand>>(alloc: Global, row: &Row<'_, Q>) -> Result<boo
 }
 
 /// Whether all rows are as they are told.
-pub fn are_rows<Q: Question<Brand>>(
-    alloc: Global,
-    rows: &[Row<'_, Q>],
-) -> Result<bool, anyhow::Error> {
+pub fn are_rows<Q: Question>(alloc: Global, rows: &[Row<'_, Q>]) -> Result<bool, anyhow::Error>
+    ensures none { IfOk result (λ so. length rows.now ≡ 0 → IsTrue so) }
+{
     for row in rows {
         if !is_row(alloc, row)? {
             return Ok(false);

@@ -43,7 +43,9 @@ fn newest(held: &[ValueId], count: usize) -> &[ValueId]
 
 impl TreeLines {
     /// It takes no memory.
-    pub fn new(alloc: Global) -> TreeLines {
+    pub fn new(alloc: Global) -> TreeLines
+        ensures held { result.held.items ≡ [] }
+    {
         TreeLines {
             pool: Pool::new(alloc),
             held: Vec::new(alloc),
