@@ -108,6 +108,23 @@ fn changed(alloc: Global, list: &[TreeStep], at: usize) -> Result<Vec<TreeStep>,
     Ok(other)
 }
 
+// Whether an iterator goes to the derivation with these steps and to none with the changed ones, and on from there.
+fn leads<L: Ledger>(
+    iter: &mut TreeIter<'_>,
+    list: &[TreeStep],
+    bad: &[TreeStep],
+    following: Option<&Vec<TreeStep>>,
+    steps: &mut Steps<L>,
+) -> Result<bool, NoMemory> {
+    if !iter.jump(list, steps)? {
+        return Ok(false);
+    }
+    if iter.jump(bad, steps)? || iter.jump(&[], steps)? {
+        return Ok(false);
+    }
+    gives(iter, following, steps)
+}
+
 /// Whether there are so many derivations, a jump leads from each to each, and none to steps that are changed.
 pub(crate) fn have_jumps<L: Ledger>(
     alloc: Global,
@@ -120,22 +137,16 @@ pub(crate) fn have_jumps<L: Ledger>(
         return Ok(false);
     }
     for i in 0..count {
+        let from = all[i].as_slice();
+        if from.is_empty() {
+            return Ok(false);
+        }
         let mut iter = TreeIter::new(alloc, forest)?;
         for j in 0..count {
-            if !iter.jump(all[j].as_slice(), steps)? {
-                return Ok(false);
-            }
-            let bad = changed(alloc, all[i].as_slice(), j % all[i].len())?;
-            if iter.jump(bad.as_slice(), steps)? {
-                return Ok(false);
-            }
-            if iter.jump(&[], steps)? {
-                return Ok(false);
-            }
-            if !gives(&mut iter, all.as_slice().get(j + 1), steps)? {
-                return Ok(false);
-            }
-            if !iter.jump(all[i].as_slice(), steps)? {
+            let bad = changed(alloc, from, j % from.len())?;
+            let following = all.as_slice().get(j + 1);
+            let led = leads(&mut iter, all[j].as_slice(), &bad, following, steps)?;
+            if !led || !iter.jump(from, steps)? {
                 return Ok(false);
             }
         }
