@@ -62,7 +62,8 @@ pub struct Job<'a> {
 }
 
 /// What is told where the words ask for no job.
-pub const USAGE: &[u8] = b"usage: slif JOB [options]; jobs: run, check, expect, progress, work, glades";
+pub const USAGE: &[u8] =
+    b"usage: slif JOB [options]; jobs: run, check, expect, progress, work, glades";
 
 fn told(what: Option<Telling>) -> Option<Task>
     ensures { option_map task_of result ≡ option_map model.Tell (option_map telling_of what) }

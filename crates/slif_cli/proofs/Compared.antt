@@ -1,12 +1,11 @@
 -- What a forest tells of where the derivations of a reading differ.
-use Rattle.std.proofs.Common.{◌≡◌, ℕ, ◌+◌, ◌<◌, ◌≤◌, List, [], ◌∷◌, All, Contains, Option, Some, map, length, refl, sym, ap, subst, ◌∙◌, arith, slice_index_or}
+use Rattle.std.proofs.Common.{◌≡◌, ℕ, ◌+◌, ◌<◌, ◌≤◌, List, [], ◌∷◌, All, Contains, Option, Some, map, length, sym, ap, subst, ◌∙◌, arith, slice_index_or}
 use Rattle.std.proofs.lemmas.List.{length-map}
 use Rattle.std.proofs.lemmas.List.Elements.{All-weaker, All-contains_itself}
-use Rattle.finite_sets.proofs.Lists.{Contains-none, get_index}
-use Rattle.grammar_model.specs.Grammar.{Grammar, WrittenRule, Plain, Sequence, Slot, Fits, lhs_of, rule_at, no_rule}
+use Rattle.finite_sets.proofs.Lists.{Contains-none}
+use Rattle.grammar_model.specs.Grammar.{Grammar, WrittenRule, Plain, Sequence, Slot, lhs_of, rule_at, no_rule}
 use Rattle.grammar_model.specs.Trees.{Tree, Leaf, Nulled, Node}
 use Rattle.grammar_model.specs.Derives.{Edges, Held, Derives}
-use Rattle.grammar_model.specs.Order.{RuleOrder}
 use Rattle.grammar_model.specs.declared.Edge.{Edge}
 use Rattle.grammar_model.specs.declared.Ranking.TheVariants.{Rule as RuleRanks}
 use Rattle.grammar_core.specs.declared.steps.Span.{Span}
@@ -16,7 +15,6 @@ use Rattle.recognizer_model.specs.Chosen.{allowed_by}
 use Rattle.recognizer_model.specs.Nodes.{IsExpanded, IsStats, IsUsed}
 use Rattle.recognizer_model.proofs.Counting.{one_count}
 use Rattle.earley_sets.specs.Recognizer.{Recognizer, IsRecognizer, edges_of as held_edges, top_of as held_top, earleme_of}
-use Rattle.earley_sets.specs.Counted.{TakesAtMost}
 use Rattle.language_model.specs.Building.{Built}
 use Rattle.reading_model.specs.Reading.{End, edges_of, earleme_after}
 use Rattle.reading_model.proofs.One.{reading_is_one}
@@ -24,7 +22,7 @@ use Rattle.scanless.specs.Reading.{HoldsPieces, IsReadingOf}
 use Rattle.scanless.specs.declared.reading.Ending.TheVariants.{End as AtEnd}
 use Rattle.forest_model.specs.Forest as forest
 use Rattle.forest_model.specs.Forest.{Forest, IsForest}
-use Rattle.glade_model.specs.Glades.{Shape, Glade, shape_of, HasShapes, AreGlades}
+use Rattle.glade_model.specs.Glades.{Shape, Glade, shape_of, AreGlades}
 use Rattle.glade_laws.specs.Groups.{start_of}
 use Rattle.bocage.specs.declared.forest.Stats.{Stats}
 use Rattle.value_lines.specs.Counts.{numbers_of}

@@ -1,5 +1,5 @@
 -- A derivation of the written grammar is one of the flat grammar, so its reading has a forest.
-use Rattle.std.proofs.Common.{◌≡◌, ℕ, ◌<◌, List, [], length, None, Some, refl, sym, subst, arith, slice_get, slice_index_or}
+use Rattle.std.proofs.Common.{ℕ, ◌<◌, List, [], length, None, refl, sym, subst, arith, slice_index_or}
 use Rattle.std.proofs.lemmas.Option.{slice_get-get_or}
 use Rattle.finite_sets.proofs.Lists.{get_index}
 use Rattle.grammar_model.specs.declared.Edge.{Edge}

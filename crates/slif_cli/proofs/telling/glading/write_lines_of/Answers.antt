@@ -1,5 +1,4 @@
 use Rattle.std.proofs.Common.{◌≡◌, ℕ, List, Some, map, slice_get, arith}
-use Rattle.glade_model.specs.Glades.{Glade}
 use Rattle.run_model.specs.Glades.{glade_line}
 use Rattle.run_model.specs.Outside.{stream}
 use Rattle.slif_cli.specs.Stops.{LinesStop}
