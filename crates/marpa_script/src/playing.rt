@@ -120,7 +120,8 @@ fn play_lines<'t, K: Sink>(
     requires blank { w.old ≡ blank.grammar }
     requires few { length text.now ≤ 67108864 }
     ensures all { IfOk result (λ o. IsNone o → HasPlayed (lines_of text.now) (building w.new) (K.contents out.old) (K.contents out.new)) }
-    ensures ready { IfOk result (λ o. IfSome o (λ ready. HasPlayedTo text.now ready.rest.now (that_reads (building w.new)) (K.contents out.old) (K.contents out.new))) }
+    ensures ready { IfOk result (λ o. IfSome o (λ ready.
+        HasPlayedTo text.now ready.rest.now (that_reads (building w.new)) (K.contents out.old) (K.contents out.new))) }
     ensures flat { IfOk result (λ o. IfSome o (λ ready. IsFlattened w.new ready.flat)) }
     ensures breaks { OnErr result (BreaksOffIn text.now (K.contents out.old) (K.contents out.new)) }
     ensures fault { result ≡ Err WriteFault → Rose (K.fault_count out.old) (K.fault_count out.new) }
@@ -149,7 +150,8 @@ pub fn build_grammar<'t, K: Sink>(
     requires blank { w.old ≡ blank.grammar }
     requires few { length text.now ≤ 67108864 }
     ensures all { IfOk result (λ o. IsNone o → HasPlayed (lines_of text.now) (building w.new) (K.contents out.old) (K.contents out.new)) }
-    ensures ready { IfOk result (λ o. IfSome o (λ ready. HasPlayedTo text.now ready.rest.now (that_reads (building w.new)) (K.contents out.old) (K.contents out.new))) }
+    ensures ready { IfOk result (λ o. IfSome o (λ ready.
+        HasPlayedTo text.now ready.rest.now (that_reads (building w.new)) (K.contents out.old) (K.contents out.new))) }
     ensures flat { IfOk result (λ o. IfSome o (λ ready. IsFlattened w.new ready.flat)) }
     ensures breaks { OnErr result (BreaksOffIn text.now (K.contents out.old) (K.contents out.new)) }
     ensures fault { result ≡ Err WriteFault → Rose (K.fault_count out.old) (K.fault_count out.new) }

@@ -39,7 +39,8 @@ fn play_short<K: Sink, L: Ledger>(
     requires reads { ReadsBy w.now recce.old }
     requires report { (n : ℕ) → told command ≢ Report n }
     requires trees { (n : ℕ) → told command ≢ Trees n }
-    ensures played { OnOk result (Replied (LineReplies (reading w.now recce.old) (told command.entry)) (reading w.now recce.new) (K.contents out.old) (K.contents out.new)) }
+    ensures played { OnOk result (Replied (LineReplies (reading w.now recce.old) (told command.entry)) (reading w.now recce.new)
+        (K.contents out.old) (K.contents out.new)) }
     ensures breaks { OnErr result (BreaksOff (LineReplies (reading w.now recce.old) (told command.entry)) (K.contents out.old) (K.contents out.new)) }
     ensures reads { ReadsBy w.now recce.new }
     ensures fault { result ≡ Err WriteFault → Rose (K.fault_count out.old) (K.fault_count out.new) }
@@ -62,7 +63,8 @@ fn play_command<K: Sink, L: Ledger>(
     steps: &mut Steps<L>,
 ) -> Result<(), ScriptRefusal>
     requires { ReadsBy w.now recce.old }
-    ensures played { OnOk result (Replied (LineReplies (reading w.now recce.old) (told command.entry)) (reading w.now recce.new) (K.contents out.old) (K.contents out.new)) }
+    ensures played { OnOk result (Replied (LineReplies (reading w.now recce.old) (told command.entry)) (reading w.now recce.new)
+        (K.contents out.old) (K.contents out.new)) }
     ensures breaks { OnErr result (BreaksOff (LineReplies (reading w.now recce.old) (told command.entry)) (K.contents out.old) (K.contents out.new)) }
     ensures reads { ReadsBy w.now recce.new }
     ensures fault { result ≡ Err WriteFault → Rose (K.fault_count out.old) (K.fault_count out.new) }
@@ -130,10 +132,10 @@ fn read_lines<'t, K: Sink, L: Ledger>(
     steps: &mut Steps<L>,
 ) -> Result<(), ScriptRefusal>
     requires { ReadsBy w.now recce.old }
-    ensures played { OnOk result ((whole : List ℕ) (first : Option (List ℕ)) → HasPlayedTo whole text.now (reading w.now recce.old) first (K.contents out.old) →
-        Answered whole first (K.contents out.new)) }
-    ensures breaks { OnErr result ((whole : List ℕ) (first : Option (List ℕ)) → HasPlayedTo whole text.now (reading w.now recce.old) first (K.contents out.old) →
-        BreaksOffIn whole first (K.contents out.new)) }
+    ensures played { OnOk result ((whole : List ℕ) (first : Option (List ℕ)) →
+        HasPlayedTo whole text.now (reading w.now recce.old) first (K.contents out.old) → Answered whole first (K.contents out.new)) }
+    ensures breaks { OnErr result ((whole : List ℕ) (first : Option (List ℕ)) →
+        HasPlayedTo whole text.now (reading w.now recce.old) first (K.contents out.old) → BreaksOffIn whole first (K.contents out.new)) }
     ensures fault { result ≡ Err WriteFault → Rose (K.fault_count out.old) (K.fault_count out.new) }
     ensures later { K.fault_count out.old ≤ K.fault_count out.new }
 {
@@ -157,7 +159,8 @@ fn read_by<K: Sink, L: Ledger>(
     steps: &mut Steps<L>,
 ) -> Result<(), ScriptRefusal>
     requires flat { IsFlattened w.now ready.now.flat }
-    requires built { (whole : List ℕ) × (first : Option (List ℕ)) × HasPlayedTo whole ready.now.rest.now (that_reads (building w.now)) first (K.contents out.old) }
+    requires built { (whole : List ℕ) × (first : Option (List ℕ)) ×
+        HasPlayedTo whole ready.now.rest.now (that_reads (building w.now)) first (K.contents out.old) }
     ensures played { OnOk result ((whole : List ℕ) (first : Option (List ℕ)) →
         HasPlayedTo whole ready.now.rest.now (that_reads (building w.now)) first (K.contents out.old) → Answered whole first (K.contents out.new)) }
     ensures breaks { OnErr result ((whole : List ℕ) (first : Option (List ℕ)) →

@@ -58,7 +58,8 @@ fn write_trees<K: Sink, L: Ledger>(
 ) -> Result<u32, ScriptRefusal>
     requires over { IsOver w.now iter.old.forest }
     requires begun { AreGiven iter.old [] }
-    ensures told { IfOk result (λ n. TellsTrees w.now iter.old.forest count (λ told text. (n ≡ told) × Appends (K.contents out.old) (K.contents out.new) text)) }
+    ensures told { IfOk result (λ n. TellsTrees w.now iter.old.forest count
+        (λ told text. (n ≡ told) × Appends (K.contents out.old) (K.contents out.new) text)) }
     ensures breaks { OnErr result (TellsTrees w.now iter.old.forest count (λ _ text. AppendsPrefix (K.contents out.old) (K.contents out.new) text)) }
     ensures fault { result ≡ Err WriteFault → Rose (K.fault_count out.old) (K.fault_count out.new) }
     ensures later { K.fault_count out.old ≤ K.fault_count out.new }

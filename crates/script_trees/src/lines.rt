@@ -56,7 +56,8 @@ impl TreeLines {
     // A token is held.
     fn token(&mut self, name: &str, from: u32, to: u32) -> Result<(), AllocError>
         requires { AreIds self.old.pool self.old.held.items }
-        ensures { OnOk result (Holds self.new.pool self.new.held.items (values_at self.old.pool self.old.held.items ++ list_of (Text name.now ∷ Number from ∷ Number to ∷ []) ∷ [])) }
+        ensures { OnOk result (Holds self.new.pool self.new.held.items
+            (values_at self.old.pool self.old.held.items ++ list_of (Text name.now ∷ Number from ∷ Number to ∷ []) ∷ [])) }
     {
         let id = put_token(&mut self.pool, name, from, to)?;
         self.held.push(id)?;
