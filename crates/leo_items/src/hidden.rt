@@ -35,7 +35,13 @@ fn put_from(items: &Row<'_>, from: u32, set: &mut ItemSet) -> Result<(), AllocFa
 }
 
 /// The single step that a whole item leads to, if it begins at a place or behind it.
-pub fn single_step(flat: &Flat, rows: &Rows<'_>, earleme: u32, from: u32, item: Item) -> Option<Item>
+pub fn single_step(
+    flat: &Flat,
+    rows: &Rows<'_>,
+    earleme: u32,
+    from: u32,
+    item: Item,
+) -> Option<Item>
     requires rows { HasRows flat.now rows.now }
     requires earleme { earleme < length rows.now.sets }
     requires rule { IsRule flat.now item.rule }

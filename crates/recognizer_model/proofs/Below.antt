@@ -61,7 +61,7 @@ module _ (g : FlatGrammar) (E : Edges) (allowed : Allowed) (top : ℕ) (is_top :
   climbed known (IsMet.Last {r = r} {r' = r'} {d = d} {p = p} {m = m} {q = q} met s e rule lt s' is) whole other leo =
       let there : InSet g E top m (record { rule = r; dot = d; origin = p }) = over_parts g E top is_top s (met_begun met) in
       let here : IsLeo g E top m (lhs_of g r') (record { rule = r; dot = d; origin = p }) =
-          subst (IsLeo g E top m (lhs_of g r')) (sym (leo.only (record { rule = r; dot = d; origin = p }) there e)) leo in
+      subst (IsLeo g E top m (lhs_of g r')) (sym (leo.only (record { rule = r; dot = d; origin = p }) there e)) leo in
       let le : p ≤ m = origin_below g E top is_top forward there in
       let earlier : p < q = omega arith in
       topped known here met (climbed known met here.last) (known p (lhs_of g r) earlier)

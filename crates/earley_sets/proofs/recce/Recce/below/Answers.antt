@@ -14,9 +14,11 @@ list_below-requires-clause-bottoms g c =
 
 pub list_below-requires-clause-tops : goal.list_below-requires-clause-tops
 list_below-requires-clause-tops g c t h =
-    let (item, is) = c.requires.tops t h in
-    (item, bottom_there c.self.inside.flat.now c.self.inside.start c.self.inside.edges c.self.inside.rows.sets c.self.inside.top c.self.inside.memo c.self.invariant.0 c.args.j
-    (subst (λ (r : Recognizer). c.args.j ≤ earleme_of r) (sym c.self.view_is) c.requires.place) t item (subst (λ (r : Recognizer). IsBottom r c.args.j t item) (sym c.self.view_is) is))
+    let (item, is) = c.requires.tops t h in (
+      item,
+      bottom_there c.self.inside.flat.now c.self.inside.start c.self.inside.edges c.self.inside.rows.sets c.self.inside.top c.self.inside.memo c.self.invariant.0 c.args.j
+          (subst (λ (r : Recognizer). c.args.j ≤ earleme_of r) (sym c.self.view_is) c.requires.place) t item (subst (λ (r : Recognizer). IsBottom r c.args.j t item) (sym c.self.view_is) is),
+    )
 
 pub returns-clause-below : goal.returns-clause-below
 returns-clause-below g c =
