@@ -2,9 +2,9 @@
 #![tactic(auto)]
 
 #[cfg(test)]
-mod cursors;
+mod ambiguities;
 #[cfg(test)]
-mod glades;
+mod cursors;
 #[cfg(test)]
 mod jumps;
 #[cfg(test)]

@@ -1,8 +1,8 @@
 //! What is asked of forests: the cursors of their derivations, their glades, and jumps to their derivations.
 ghost use Rattle.std.specs.Prelude.{◌≡◌, ◌<◌};
 
+use crate::ambiguities::{Told, has_glades};
 use crate::cursors::have_cursors;
-use crate::glades::{Told, has_glades};
 use crate::jumps::have_jumps;
 use bocage::Forest;
 use earley_sets::Recce;

@@ -2,9 +2,9 @@
 #![tactic(auto)]
 
 #[cfg(test)]
-mod examples;
+mod ambiguities;
 #[cfg(test)]
-mod glades;
+mod examples;
 #[cfg(test)]
 mod library;
 #[cfg(test)]
