@@ -47,12 +47,13 @@ pub trait Question {
 pub type Row<'a, Q> = (Language, Input<'a>, Ranking, Q);
 
 // Whether what was read is as it is told.
-fn reading_is_so<Q: Question>(
+fn reading_is_so<L: Ledger, Q: Question>(
     alloc: Global,
     w: &Written,
     recce: &Recce<'_>,
     ranking: Ranking,
     question: &Q,
+    steps: &mut Steps<L>,
 ) -> Result<bool, anyhow::Error>
     requires checked { IsChecked w.now }
     requires flat { IsFlatOf recce.now.flat w.now }
@@ -85,7 +86,7 @@ fn goes_on<L: Ledger, Q: Question>(
     requires flat { IsFlatOf recce.old.flat w.now }
 {
     read(recce, input, steps)?;
-    reading_is_so(alloc, w, recce, ranking, question)
+    reading_is_so(alloc, w, recce, ranking, question, steps)
 }
 
 // Whether what a new recognizer reads is as it is told.
