@@ -16,6 +16,14 @@ from measuring import BINARY, HERE, ROOT, best, document, has_marpa
 FIRST = ":default ::= action => ::first\n"
 RIGHT = FIRST + "L ::= x L | x\nx ~ 'x'\n"
 LEFT = FIRST + "L ::= L x | x\nx ~ 'x'\n"
+BOTH = FIRST + "S ::= A 'y' | L 'z'\nA ::= A x | x\nL ::= x L | x\nx ~ 'x'\n"
+STATEMENTS = FIRST + """statement ::= exprs ';' | names '=' exprs ';'
+exprs ::= expr+ separator => comma
+names ::= name comma names | name
+expr ::= name
+comma ~ ','
+name ~ 'n'
+"""
 SUM = ":default ::= action => ::array\nE ::= E '+' E | N\nN ~ [\\d]\n"
 BRACKETS = FIRST + "B ::= ('(') B (')') | 'x'\n"
 
@@ -51,6 +59,10 @@ def cases():
         yield f"keywords {count:,}", *inputs.keywords(count, 1000), 1
     for count in (20, 40, 80):
         yield f"levels {count}", *inputs.levels(count, 1600), 1
+    for length in (50_000, 100_000):
+        yield f"left or right {length:,}, left", BOTH, "x" * length + "y", 1
+        yield f"left or right {length:,}, right", BOTH, "x" * length + "z", 1
+        yield f"names of a statement {length:,}", STATEMENTS, ",".join("n" * length) + ";", 1
     yield "left recursion 1,000,000", LEFT, "x" * 1_000_000, 1
     yield "sum of 11 operands", SUM, "+".join("12345678901"), 16_796
     yield "sum of 12 operands", SUM, "+".join("123456789012"), 58_786

@@ -1,5 +1,5 @@
 -- What a walk found is the forest.
-use Rattle.std.proofs.Common.{◌≡◌, ℕ, suc, ◌<◌, ◌≤◌, ◌-◌, inl, inr, Contains, List, Some, None, length, map, ◌↔◌, get_or, slice_get, refl, sym, ◌∙◌, ap, subst, arith}
+use Rattle.std.proofs.Common.{◌≡◌, ℕ, suc, ◌<◌, ◌≤◌, ◌+◌, ◌-◌, inl, inr, Contains, List, Some, None, length, map, ◌↔◌, get_or, slice_get, refl, sym, ◌∙◌, ap, subst, arith}
 use Rattle.std.specs.List.Sorted.{IsStrictlySortedBy}
 use Rattle.std.proofs.lemmas.Simd.{map-map}
 use Rattle.std.proofs.lemmas.Option.{slice_get-get_or}
@@ -19,6 +19,7 @@ use Rattle.bocage.specs.declared.walk.Known.{Known}
 use Rattle.bocage.specs.Rows.{alternative_of}
 use Rattle.bocage.specs.Walk.{seen_by, IsUsedIn, predecessor_of_key, IsNext, MayBegin, AreListed, Knows}
 use Rattle.bocage.proofs.Splits.{waits_in, used_within, derives_forward, spans_forward, read_of}
+use Rattle.bocage.proofs.Needing.{is_needed}
 
 pub next_of_key : (k : Known) → Knows k → (key : NodeKey) → IsUsedIn k.written.now k.ranking k.recce.now key → key.end ≡ k.end → k.least ≤ key.origin → (symbol : ℕ) → symbol ≡ get_or (rhs_of k.recce.now.flat key.rule) (key.dot - 1) 0 → IsNext k (predecessor_of_key key) symbol
 next_of_key k knows key used end least symbol e =
@@ -41,7 +42,7 @@ module _ (k : Known) (knows : Knows k) (key : NodeKey) (used : IsUsedIn k.writte
   splits F m (inl (e, null), at) =
       let f = (predecessor_found m (omega arith)).0 at in
       record { children = f.children; predecessor = f.spans; tree = Nulled symbol m; cause = subst (λ z. Derives k.recce.now.flat (edges_of k.recce.now) symbol m z (Nulled symbol m)) e (Null null) }
-  splits F m (inr (p, all, s, sum), at) = let (part, end, bound) = (knows.gathered.parts p).0 all in go end part
+  splits F m (inr (p, all, s, sum), at) = let (part, end, bound) = knows.gathered.are p all in go end part
     where
       go : p.end ≡ k.end → IsPart k.written.now k.ranking k.recce.now p → IsSplit (seen_by k F) key.rule (key.dot - 1) key.origin symbol m k.end
       go end (inl (edge, h, is)) =
@@ -89,7 +90,8 @@ module _ (k : Known) (knows : Knows k) (key : NodeKey) (used : IsUsedIn k.writte
       go {q = q} same (Token (t, e, i)) =
           let f = knows.is.forward (record { symbol = t; from = m; to = q }) i in
           let l = late in
-          let all = (knows.gathered.parts (record { end = q; symbol = symbol; length = q - m; whole = None })).1 (inl (record { symbol = t; from = m; to = q }, i, record { symbol = e; end = refl; start = omega arith; whole = refl }), same, omega arith) in
+          let sum : m + (q - m) ≡ k.end = omega arith in
+          let all = knows.gathered.all (record { end = q; symbol = symbol; length = q - m; whole = None }) (inl (record { symbol = t; from = m; to = q }, i, record { symbol = e; end = refl; start = omega arith; whole = refl }), same, omega arith) (m, sum, inl refl) in
           inr (record { end = q; symbol = symbol; length = q - m; whole = None }, all, refl, omega arith)
       go same (Null null) = inl (same, null)
       go {q = q} same (Rule {r = rule} {cs = cs} is l lt s) =
@@ -100,7 +102,8 @@ module _ (k : Known) (knows : Knows k) (key : NodeKey) (used : IsUsedIn k.writte
           let held = (in_full k.recce.now knows.is q (record { rule = rule; dot = length (rhs_of k.recce.now.flat rule); origin = m })).1 found in
           let e = knows.end in
           let late' = late in
-          let all = (knows.gathered.parts (record { end = q; symbol = symbol; length = q - m; whole = Some (rule_key_of k.written.now k.ranking k.recce.now.flat rule) })).1 (
+          let sum : m + (q - m) ≡ k.end = omega arith in
+          let all = knows.gathered.all (record { end = q; symbol = symbol; length = q - m; whole = Some (rule_key_of k.written.now k.ranking k.recce.now.flat rule) }) (
             inr (
               q,
               record { rule = rule; dot = length (rhs_of k.recce.now.flat rule); origin = m },
@@ -110,7 +113,7 @@ module _ (k : Known) (knows : Knows k) (key : NodeKey) (used : IsUsedIn k.writte
             ),
             same,
             omega arith,
-          ) in
+          ) (is_needed k knows (predecessor_of_key key) symbol next m (omega arith) (split_predecessor F m h) (record { end = q; symbol = symbol; length = q - m; whole = Some (rule_key_of k.written.now k.ranking k.recce.now.flat rule) }) refl sum) in
           inr (record { end = q; symbol = symbol; length = q - m; whole = Some (rule_key_of k.written.now k.ranking k.recce.now.flat rule) }, all, refl, omega arith)
 
   -- what was listed for a node are its alternatives

@@ -41,7 +41,7 @@ starts_less high end m n lt below =
 
 -- a part spans something
 pub long_part : (k : Known) → Knows k → (p : Part) → Contains k.parts.now p → 0 < p.length
-long_part k knows p h = go ((knows.gathered.parts p).0 h).0
+long_part k knows p h = go (knows.gathered.are p h).0
   where
     go : IsPart k.written.now k.ranking k.recce.now p → 0 < p.length
     go (inl (e, i, is)) = let f = knows.is.forward e i in let s = is.start in let t = is.end in omega arith
@@ -61,7 +61,7 @@ group_before k knows g h =
 
 -- the parts end here
 pub part_ends : (k : Known) → Knows k → (p : Part) → Contains k.parts.now p → (p.end ≡ k.end) × (p.length ≤ k.end)
-part_ends k knows p h = let (part, end, bound) = (knows.gathered.parts p).0 h in (end, omega arith)
+part_ends k knows p h = let (part, end, bound) = knows.gathered.are p h in (end, omega arith)
 
 abbrev pub no_group : Group
 no_group = record { symbol = 0; start = 0; first = 0; past = 0 }

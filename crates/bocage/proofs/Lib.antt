@@ -13,5 +13,7 @@ pub mod Telling
 pub mod Counting
 pub mod Asking
 pub mod Expanding
+pub mod Needing
 pub mod Whole
 pub mod NodeKeys
+pub mod Lowest

@@ -37,6 +37,7 @@ use Rattle.forest_parts.specs.Groups.{rank_in, IsSpan}
 use Rattle.forest_parts.proofs.Ranks.{kept_allowed, allowed_kept}
 use Rattle.forest_parts.proofs.InOrder.{then_rest}
 use Rattle.forest_parts.proofs.Sets.{in_full}
+use Rattle.bocage.proofs.Needing.{is_needed}
 use Rattle.bocage.specs.Walk.{seen_by, IsUsedIn, node_of_item, node_after, whole_keys, whole_keys_by, AreNumbers, IsCauseHeld, AreNoted, IsNew, IsNext, Knows, Lists, GrowsBy, IsPredecessorFound, FitsPart, HasRule}
 use Rattle.bocage.specs.declared.walk.Found.{Found}
 use Rattle.bocage.proofs.Putting.{found_predecessor, whole_used, prefix_new, put_one}
@@ -152,7 +153,7 @@ predecessor_stays keys keys' more e predecessor m (Some n) (lt, h) = (lt, subst 
 
 -- a part lies where it can
 pub fits_part : (k : Known) → Knows k → (p : Part) → Contains k.parts.now p → FitsPart k.recce.now.flat p
-fits_part k knows p h = go ((knows.gathered.parts p).0 h).0
+fits_part k knows p h = go (knows.gathered.are p h).0
   where
     go : IsPart k.written.now k.ranking k.recce.now p → FitsPart k.recce.now.flat p
     go (inl (e, i, is)) = let s = is.start in (omega arith, subst (λ o. HasRule k.recce.now.flat o) (sym is.whole) tt)
@@ -186,7 +187,7 @@ module _ (k : Known) (knows : Knows k) (predecessor : Item) (parts : List Part) 
   first_there = Contains-get_or parts 0 no_part span.some
 
   part_is : (p : Part) → Contains parts p → IsPartAt k.written.now k.ranking k.recce.now k.end k.least p
-  part_is p h = (knows.gathered.parts p).0 ((span.exact p).0 h).0
+  part_is p h = knows.gathered.are p ((span.exact p).0 h).0
 
   -- an edge
   pub edge_over : (part_at parts 0).whole ≡ None → edges_of k.recce.now (part_at parts 0).symbol m k.end
@@ -234,7 +235,7 @@ module _ (k : Known) (knows : Knows k) (predecessor : Item) (parts : List Part) 
       record { is_rule = is_rule; may_stand = Next stands is refl f.spans (next.part ∙ ap Some (sym left)); children = cs; spans = spans } in
       let there' = (in_full k.recce.now knows.is k.end (record { rule = r; dot = length (rhs_of k.recce.now.flat r); origin = m })).1 found in
       let (first, end, bound) = part_is (part_at parts 0) first_there in
-      (knows.gathered.parts (part_by r)).1 (
+      knows.gathered.all (part_by r) (
         inr (
           k.end,
           record { rule = r; dot = length (rhs_of k.recce.now.flat r); origin = m },
@@ -244,7 +245,7 @@ module _ (k : Known) (knows : Knows k) (predecessor : Item) (parts : List Part) 
         ),
         refl,
         bound,
-      )
+      ) (is_needed k knows predecessor (part_at parts 0).symbol next m lt at (part_by r) refl sum)
 
   -- the rule of a part is allowed
   allowed : Contains (set_at k.recce.now m) predecessor → m < k.end → (p : Part) → Contains parts p → (r : ℕ) → lhs_of k.recce.now.flat r ≡ (part_at parts 0).symbol → p.whole ≡ Some (rule_key_of k.written.now k.ranking k.recce.now.flat r) →

@@ -25,6 +25,7 @@ use Rattle.bocage.specs.declared.walk.Known.{Known}
 use Rattle.bocage.specs.declared.walk.Found.{Found}
 use Rattle.bocage.specs.declared.joins.Join.{Join}
 use Rattle.bocage.specs.Joins.{join_cmp, predecessor_of_join, AreJoins}
+use Rattle.bocage.specs.Needed.{IsNeeded}
 use Rattle.bocage.specs.Rows.{alternative_of, IsCauseWithin}
 
 -- a recognizer over the flat grammar of a checked one
@@ -33,12 +34,13 @@ pub record IsRead (w : Grammar) (r : Recognizer) : Type 0 where
   pub flat_of : IsFlatOf r.flat w
   pub is : IsRecognizer r
 
--- what may be the cause in nodes that end at a place and do not begin too early, and what may stand before it
-pub record AreGathered (w : Grammar) (ranking : Ranking) (r : Recognizer) (end least : ℕ) (all : List Part) (spans : List Group) (predecessors : List Join) : Type 0 where
-  pub parts : (p : Part) → Contains all p ↔ IsPartAt w ranking r end least p
-  pub sorted : IsStrictlySortedBy part_cmp all
-  pub ranks : RanksFall all
-  pub groups : AreGroups ranking end all spans
+-- what may be the cause in nodes that end at a place and do not begin too early, and what may stand before it: parts, and all that are needed
+pub record AreGathered (w : Grammar) (ranking : Ranking) (r : Recognizer) (end least : ℕ) (parts : List Part) (spans : List Group) (predecessors : List Join) : Type 0 where
+  pub are : (p : Part) → Contains parts p → IsPartAt w ranking r end least p
+  pub all : (p : Part) → IsPartAt w ranking r end least p → IsNeeded w ranking r end p → Contains parts p
+  pub sorted : IsStrictlySortedBy part_cmp parts
+  pub ranks : RanksFall parts
+  pub groups : AreGroups ranking end parts spans
   pub joins : AreJoins r least spans predecessors
 
 -- with all of this for one place

@@ -1,10 +1,10 @@
 //! The walk over the places where nodes end, from the last to the first.
 ghost use Rattle.std.specs.Prelude.{◌≡◌, ◌≢◌, AllPairs, ℕ, ◌<◌, ◌≤◌, ◌+◌, ◌-◌, ◌↔◌, ◌⊎◌, [], length, map, IfOk, OnOk, IfSome, IsNone, Contains, slice_get, Some};
 ghost use Rattle.recognizer_model.specs.declared.NodeKey.{NodeKey as TheKey};
-ghost use Rattle.recognizer_model.specs.Counts.{IsCountOf};
 ghost use Rattle.earley_sets.specs.Recognizer.{IsRecognizer, earleme_of, set_at};
-ghost use Rattle.forest_parts.specs.Hidden.{AreHidden, RisesBy, RisesWithin};
+ghost use Rattle.forest_parts.specs.Hidden.{RisesWithin};
 ghost use Rattle.bocage.specs.Expanded.{IsExpandedIn, IsExpandedAt};
+ghost use Rattle.bocage.specs.Needed.{AreNeeded};
 ghost use Rattle.bocage.specs.Walk.{Knows, IsUsedIn, IsRead, GrowsBy, top_key};
 ghost use Rattle.bocage.specs.Chains.{AreChained, EndsAt};
 ghost use Rattle.bocage.specs.Ends.{SetsRow, Visits, Goes, HasRow, IsReady, IsGoing, AreVisited};
@@ -13,11 +13,12 @@ ghost use Rattle.bocage.specs.declared.rows.CauseRow.{CauseRow as TheCauseRow};
 
 use crate::chains::{Chains, list_nodes, new_chains};
 use crate::joins::{Join, list_joins};
+use crate::needed::list_needed;
 use crate::rows::{AlternativeRow, CauseRow, key_at};
 use crate::walk::{Found, Known, NodeKeys, put_key};
 use bumpalo::Bump;
 use earley_sets::Recce;
-use forest_parts::{Group, Part, list_groups, list_hidden, list_parts};
+use forest_parts::{Group, Part, list_groups, list_parts};
 use grammar_core::Written;
 use grammar_model::{Edge, Ranking};
 use recognizer_model::{Item, NodeKey};
@@ -34,8 +35,8 @@ pub struct Work {
     pub groups: Vec<Group>,
     pub joins: Vec<Join>,
     pub nodes: Vec<usize>,
-    /// how many hidden items were given at the places so far
-    pub expanded: u64,
+    pub tops: Vec<Item>,
+    pub bottoms: Vec<Item>,
 }
 
 impl Work {
@@ -43,7 +44,6 @@ impl Work {
     pub fn new(alloc: Global) -> Work
         ensures heads { result.chains.heads.items ≡ [] }
         ensures below { result.chains.below.items ≡ [] }
-        ensures expanded { result.expanded ≡ 0 }
     {
         Work {
             chains: new_chains(alloc),
@@ -52,7 +52,8 @@ impl Work {
             groups: Vec::new(alloc),
             joins: Vec::new(alloc),
             nodes: Vec::new(alloc),
-            expanded: 0,
+            tops: Vec::new(alloc),
+            bottoms: Vec::new(alloc),
         }
     }
 }
@@ -204,11 +205,10 @@ fn gather(
 ) -> Result<(), AllocError>
     requires read { IsRead w.now recce.now }
     requires end { end ≤ earleme_of recce.now }
-    requires hidden { AreHidden recce.now end least hidden.now }
+    requires hidden { AreNeeded w.now ranking recce.now end least hidden.now }
     ensures gathered { OnOk result (AreGathered w.now ranking recce.now end least work.new.parts.items work.new.groups.items work.new.joins.items) }
     ensures chains { work.new.chains ≡ work.old.chains }
     ensures nodes { work.new.nodes ≡ work.old.nodes }
-    ensures expanded { work.new.expanded ≡ work.old.expanded }
 {
     list_parts(
         recce,
@@ -264,7 +264,7 @@ fn visit_from<'a>(
 ) -> Result<(), AllocError>
     requires read { IsRead w.now recce.now }
     requires end { end ≤ earleme_of recce.now }
-    requires hidden { AreHidden recce.now end least hidden.now }
+    requires hidden { AreNeeded w.now ranking recce.now end least hidden.now }
     requires going { IsGoing w.now ranking recce.now end first found.old (map (λ r. r.now) table.old.items) }
     requires nodes { (n : ℕ) → Contains work.old.nodes.items n ↔ ((n < first) × EndsAt found.old.keys.keys end n) }
     requires least { (n : ℕ) (key : TheKey) → Contains work.old.nodes.items n → slice_get found.old.keys.keys n ≡ Some key → least ≤ key.origin }
@@ -272,7 +272,6 @@ fn visit_from<'a>(
     ensures visited { OnOk result (AreVisited w.now ranking recce.now end found.new (map (λ r. r.now) table.new.items)) }
     ensures grows { OnOk result (GrowsBy (IsUsedIn w.now ranking recce.now) found.old.keys.keys found.new.keys.keys) }
     ensures chains { work.new.chains ≡ work.old.chains }
-    ensures expanded { work.new.expanded ≡ work.old.expanded }
 {
     gather(recce, w, ranking, end, least, hidden, work)?;
     let known = Known {
@@ -310,7 +309,6 @@ fn visit_end<'a, L: Ledger>(
     ensures chained { OnOk result (AreChained found.new.keys.keys work.new.chains.heads.items work.new.chains.below.items) }
     ensures visited { OnOk result (AreVisited w.now ranking recce.now end found.new (map (λ r. r.now) table.new.items)) }
     ensures grows { OnOk result (GrowsBy (IsUsedIn w.now ranking recce.now) found.old.keys.keys found.new.keys.keys) }
-    ensures expanded { OnOk result (RisesBy (IsExpandedAt w.now ranking recce.now end) work.old.expanded work.new.expanded) }
     ensures counted { RisesWithin (IsExpandedAt w.now ranking recce.now end) steps.old steps.new }
 {
     list_nodes(&found.keys, first, end, &mut work.chains, &mut work.nodes)?;
@@ -320,7 +318,16 @@ fn visit_end<'a, L: Ledger>(
     }
     let lowest = if whole { 0 } else { end };
     let least = least_origin(&found.keys, &work.nodes, lowest);
-    let hidden = list_hidden(alloc, recce, end, least, &mut work.expanded, steps)?;
+    let hidden = list_needed(
+        alloc,
+        recce,
+        &found.keys,
+        end,
+        least,
+        &mut work.tops,
+        &mut work.bottoms,
+        steps,
+    )?;
     visit_from(
         recce, w, ranking, arena, end, least, first, &hidden, found, table, work,
     )
@@ -342,10 +349,8 @@ pub fn walk<'a, L: Ledger>(
     requires top { 0 < earleme_of recce.now → Contains found.old.keys.keys (top_key recce.now) }
     requires heads { work.old.chains.heads.items ≡ [] }
     requires below { work.old.chains.below.items ≡ [] }
-    requires start { work.old.expanded ≡ 0 }
     ensures visited { IfOk result (λ table. AreVisited w.now ranking recce.now 0 found.new (map (λ r. r.now) table.items)) }
     ensures grows { OnOk result (GrowsBy (IsUsedIn w.now ranking recce.now) found.old.keys.keys found.new.keys.keys) }
-    ensures expanded { OnOk result (IsCountOf (IsExpandedIn w.now ranking recce.now) work.new.expanded) }
     ensures counted { RisesWithin (IsExpandedIn w.now ranking recce.now) steps.old steps.new }
 {
     let mut table = Vec::new(alloc);

@@ -14,6 +14,7 @@ ghost use Rattle.bocage.specs.Readers.{alternative_at, node_at};
 ghost use Rattle.bocage.specs.declared.refusal.ForestRefusal.TheVariants.{NoParse};
 
 use crate::ForestRefusal;
+use crate::counts::count_expanded;
 use crate::ends::{Work, walk};
 use crate::rows::{AlternativeRow, Cause, alternative_row, cause_at, key_at, row_from, rows_at};
 use crate::walk::{Found, begin, differ};
@@ -107,8 +108,6 @@ pub struct Forest<'a> {
     table: Vec<&'a [AlternativeRow]>,
     wholes: Vec<u32>,
     root: Option<u32>,
-    // how many hidden items were given
-    expanded: u64,
 }
 
 impl<'a> Drop for Forest<'a> {
@@ -121,7 +120,6 @@ impl<'a> Drop for Forest<'a> {
             table: _,
             wholes: _,
             root: _,
-            expanded: _,
         } = self;
     }
 }
@@ -130,15 +128,13 @@ impl<'a> Model for Forest<'a> {
     ghost use Rattle.std.specs.Prelude.{map};
     ghost use Rattle.earley_sets.specs.Recognizer.{earleme_of};
     ghost use Rattle.forest_model.specs.Forest.{Forest, IsForest};
-    ghost use Rattle.recognizer_model.specs.Counts.{IsCountOf};
     ghost use Rattle.bocage.specs.Rows.{nodes_of, IsTable};
-    ghost use Rattle.bocage.specs.Expanded.{IsExpandedIn};
 
     ghost Value = { Forest };
 
     ghost view = { λ f. record { written = f.written.now; flat = f.recce.now.flat; start = f.recce.now.start; edges = f.recce.now.edges; place = earleme_of f.recce.now; ranking = f.ranking; nodes = nodes_of f.wholes.items f.keys.items (map (λ r. r.now) f.table.items); root = f.root } };
 
-    ghost invariant = { λ f. IsForest (record { written = f.written.now; flat = f.recce.now.flat; start = f.recce.now.start; edges = f.recce.now.edges; place = earleme_of f.recce.now; ranking = f.ranking; nodes = nodes_of f.wholes.items f.keys.items (map (λ r. r.now) f.table.items); root = f.root }) × IsTable f.keys.items (map (λ r. r.now) f.table.items) f.wholes.items × IsCountOf (IsExpandedIn f.written.now f.ranking f.recce.now) f.expanded };
+    ghost invariant = { λ f. IsForest (record { written = f.written.now; flat = f.recce.now.flat; start = f.recce.now.start; edges = f.recce.now.edges; place = earleme_of f.recce.now; ranking = f.ranking; nodes = nodes_of f.wholes.items f.keys.items (map (λ r. r.now) f.table.items); root = f.root }) × IsTable f.keys.items (map (λ r. r.now) f.table.items) f.wholes.items };
 }
 
 impl<'a> Forest<'a> {
@@ -206,7 +202,6 @@ impl<'a> Forest<'a> {
         requires none { found.old.keys.keys ≡ [] }
         requires heads { work.old.chains.heads.items ≡ [] }
         requires below { work.old.chains.below.items ≡ [] }
-        requires start { work.old.expanded ≡ 0 }
         ensures reading { IfOk result (λ f. (f.written ≡ w.now) × (f.flat ≡ recce.now.flat) × (f.start ≡ recce.now.start) × (f.edges ≡ recce.now.edges) × (f.place ≡ earleme_of recce.now) × (f.ranking ≡ ranking)) }
         ensures forest { IfOk result (λ f. IsForest f) }
         ensures counted { RisesWithin (IsExpandedIn w.now ranking recce.now) steps.old steps.new }
@@ -223,7 +218,6 @@ impl<'a> Forest<'a> {
             table,
             wholes: replace(&mut found.wholes, Vec::new(alloc)),
             root,
-            expanded: work.expanded,
         })
     }
 
@@ -241,16 +235,19 @@ impl<'a> Forest<'a> {
         self.keys.as_slice().len()
     }
 
-    /// The numbers of the reading: its places, and its items and nodes.
-    pub fn stats(&self) -> Stats
-        ensures { IsStats self.now.flat (forest_edges self.now) (allowed_of self.now) (forest_top self.now) self.now.place result.tokens result.kept result.nodes result.expanded }
+    /// The numbers of the reading: its places, its items and nodes, and the hidden items that end with a node and begin no earlier than one.
+    /// The last are counted here, since a forest asks for no more than it needs.
+    pub fn stats(&self, alloc: Global) -> Result<Stats, AllocError>
+        ensures { IfOk result (λ s. IsStats self.now.flat (forest_edges self.now) (allowed_of self.now) (forest_top self.now) self.now.place s.tokens s.kept s.nodes s.expanded) }
     {
-        Stats {
-            tokens: u128::from(self.recce.place()),
+        let tokens = u128::from(self.recce.place());
+        let expanded = count_expanded(alloc, self.recce, &self.keys)?;
+        Ok(Stats {
+            tokens,
             kept: u128::from(self.recce.item_count()),
             nodes: self.keys.as_slice().len() as u128,
-            expanded: u128::from(self.expanded),
-        }
+            expanded: u128::from(expanded),
+        })
     }
 
     /// The start's place among the starts of the grammar.

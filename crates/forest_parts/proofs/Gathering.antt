@@ -10,11 +10,9 @@ use Rattle.grammar_model.specs.Grammar.{Grammar}
 use Rattle.recognizer_model.specs.declared.Item.{Item}
 use Rattle.recognizer_model.specs.declared.flat.FlatSymbol.TheVariants.{Terminal}
 use Rattle.recognizer_model.specs.Flat.{FlatGrammar}
-use Rattle.recognizer_model.specs.Items.{InSet}
 use Rattle.recognizer_model.specs.Invariant.{IsFlat}
-use Rattle.earley_sets.specs.Recognizer.{Recognizer, earleme_of, edges_of, top_of}
 use Rattle.forest_parts.specs.declared.parts.Part.{Part}
-use Rattle.forest_parts.specs.Parts.{IsEdgeOf, IsWholeOf, IsPartAt}
+use Rattle.forest_parts.specs.Parts.{IsEdgeOf, IsWholeOf}
 
 module _ {X : Type 0} where
   abbrev pub Gains : (X → Type 0) → (old new : List X) → Type 0
@@ -124,28 +122,3 @@ gains_whole w ranking g end least item v old new le is grown =
           ),
       λ q. (le, subst (IsWholeOf w ranking g end item) (sym q) is),
     ))
-
--- what was put are the parts that end at the place and do not begin too early
-pub parts_are : (w : Grammar) (ranking : Ranking) (r : Recognizer) (end least : ℕ) (edges : List HeldEdge) → end ≤ earleme_of r → ((e : HeldEdge) → Contains edges e ↔ (Contains r.edges e × (e.to ≡ end))) → (p : Part) →
-    (((e : HeldEdge) × Contains edges e × ((least ≤ e.from) × IsEdgeOf r.flat e p)) ⊎ ((item : Item) × InSet r.flat (edges_of r) (top_of r) end item × ((least ≤ item.origin) × IsWholeOf w ranking r.flat end item p)))
-    ↔ IsPartAt w ranking r end least p
-parts_are w ranking r end least edges le are p = (to, from)
-  where
-    to : (((e : HeldEdge) × Contains edges e × ((least ≤ e.from) × IsEdgeOf r.flat e p)) ⊎ ((item : Item) × InSet r.flat (edges_of r) (top_of r) end item × ((least ≤ item.origin) × IsWholeOf w ranking r.flat end item p))) → IsPartAt w ranking r end least p
-    to (inl (e, h, (late, is))) =
-        let (held, here) = (are e).0 h in
-        let s = is.start in
-        let t = is.end in
-        (inl (e, held, is), is.end ∙ here, omega arith)
-    to (inr (item, h, (late, is))) =
-        let s = is.start in
-        (inr (end, item, le, h, is), is.end, omega arith)
-
-    from : IsPartAt w ranking r end least p → (((e : HeldEdge) × Contains edges e × ((least ≤ e.from) × IsEdgeOf r.flat e p)) ⊎ ((item : Item) × InSet r.flat (edges_of r) (top_of r) end item × ((least ≤ item.origin) × IsWholeOf w ranking r.flat end item p)))
-    from (inl (e, held, is), here, bound) =
-        let s = is.start in
-        inl (e, (are e).1 (held, sym is.end ∙ here), (omega arith, is))
-    from (inr (earleme, item, le', h, is), here, bound) =
-        let same : earleme ≡ end = sym is.end ∙ here in
-        let s = is.start in
-        inr (item, subst (λ z. InSet r.flat (edges_of r) (top_of r) z item) same h, (omega arith, subst (λ z. IsWholeOf w ranking r.flat z item p) same is))

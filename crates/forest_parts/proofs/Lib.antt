@@ -5,3 +5,4 @@ pub mod Gathering
 pub mod PartOrder
 pub mod Ranks
 pub mod Spans
+pub mod Listed

@@ -67,10 +67,10 @@ module _ (w : Grammar) (ranking : Ranking) (g : FlatGrammar) (flat : IsFlat g) w
           (≤ℤ_refl (flat_rank w ranking g s))
 
 -- the parts that end at a place
-pub ranks_fall : (w : Grammar) (ranking : Ranking) (r : Recognizer) → IsRecognizer r → (end least : ℕ) (all : List Part) → ((p : Part) → Contains all p ↔ IsPartAt w ranking r end least p) → IsStrictlySortedBy part_cmp all → RanksFall all
-ranks_fall w ranking r known end least all exact sorted i j lt below (symbol, long) =
-    let (a, here, _) = (exact (part_at all i)).0 (Contains-get_or all i no_part (omega arith)) in
-    let (b, here', _) = (exact (part_at all j)).0 (Contains-get_or all j no_part below) in
+pub ranks_fall : (w : Grammar) (ranking : Ranking) (r : Recognizer) → IsRecognizer r → (end least : ℕ) (all : List Part) → ((p : Part) → Contains all p → IsPartAt w ranking r end least p) → IsStrictlySortedBy part_cmp all → RanksFall all
+ranks_fall w ranking r known end least all are sorted i j lt below (symbol, long) =
+    let (a, here, _) = are (part_at all i) (Contains-get_or all i no_part (omega arith)) in
+    let (b, here', _) = are (part_at all j) (Contains-get_or all j no_part below) in
     go a b (then_rest _ _ _ (then_rest _ _ _ (then_rest _ _ _ (Less-from_sorted part_cmp all i j no_part sorted lt below) (here ∙ sym here')) symbol) long)
   where
     go : IsPart w ranking r (part_at all i) → IsPart w ranking r (part_at all j) → option_cmp key_cmp (part_at all i).whole (part_at all j).whole ≡ Less → rank_in (part_at all j).whole ≤ℤ rank_in (part_at all i).whole

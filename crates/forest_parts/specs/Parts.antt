@@ -12,7 +12,7 @@ use Rattle.recognizer_model.specs.declared.Item.{Item}
 use Rattle.recognizer_model.specs.Flat.{FlatGrammar, lhs_of, rhs_of, source_of}
 use Rattle.recognizer_model.specs.FlatForm.{source_number, list_length}
 use Rattle.recognizer_model.specs.Items.{InSet}
-use Rattle.earley_sets.specs.Recognizer.{Recognizer, earleme_of, edges_of, top_of}
+use Rattle.earley_sets.specs.Recognizer.{Recognizer, earleme_of, set_at, edges_of, top_of}
 use Rattle.forest_parts.specs.declared.parts.RuleKey.{RuleKey}
 use Rattle.forest_parts.specs.declared.parts.Part.{Part}
 
@@ -66,3 +66,9 @@ IsPart w ranking r p = IsEdgePart r p ⊎ IsWholePart w ranking r p
 -- a part that ends at a place, and begins at another or behind it
 abbrev pub IsPartAt : Grammar → Ranking → Recognizer → (end least : ℕ) → Part → Type 0
 IsPartAt w ranking r end least p = IsPart w ranking r p × (p.end ≡ end) × (p.length + least ≤ end)
+
+-- of these an edge, or the rule of an item that is kept or given
+abbrev pub IsPartBy : Grammar → Ranking → Recognizer → (end least : ℕ) → (given : List Item) → Part → Type 0
+IsPartBy w ranking r end least given p =
+    ((e : HeldEdge) × (Contains r.edges e × (e.to ≡ end)) × ((least ≤ e.from) × IsEdgeOf r.flat e p)) ⊎
+    ((item : Item) × (Contains (set_at r end) item ⊎ Contains given item) × ((least ≤ item.origin) × IsWholeOf w ranking r.flat end item p))

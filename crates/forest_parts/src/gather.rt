@@ -3,13 +3,13 @@ ghost use Rattle.std.specs.Prelude.{◌≡◌, ◌<◌, ◌≤◌, ◌+◌, ◌�
 ghost use Rattle.std.specs.List.Sorted.{IsStrictlySortedBy};
 ghost use Rattle.grammar_model.specs.declared.Edge.{Edge as TheEdge};
 ghost use Rattle.recognizer_model.specs.declared.Item.{Item as TheItem};
-ghost use Rattle.recognizer_model.specs.Items.{InSet};
+ghost use Rattle.recognizer_model.specs.Leo.{IsHidden};
 ghost use Rattle.recognizer_model.specs.FlatForm.{IsFlatOf};
 ghost use Rattle.earley_sets.specs.Kept.{IsItem, AreItems};
 ghost use Rattle.earley_sets.specs.Recognizer.{IsRecognizer, earleme_of, set_at, edges_of, top_of};
 ghost use Rattle.forest_parts.specs.Hidden.{IsHiddenFrom, AreHidden, RisesBy, RisesWithin};
 ghost use Rattle.forest_parts.specs.declared.parts.Part.{Part as ThePart};
-ghost use Rattle.forest_parts.specs.Parts.{part_cmp, IsEdgeOf, IsWholeOf, IsPartAt};
+ghost use Rattle.forest_parts.specs.Parts.{part_cmp, IsEdgeOf, IsWholeOf, IsPartBy};
 
 use crate::parts::{Part, rule_key};
 use earley_sets::Recce;
@@ -154,7 +154,7 @@ fn put_given(
     Ok(())
 }
 
-// Puts the whole rules that end at a place, those of hidden items too.
+// Puts the whole rules that end at a place, those of some hidden items too.
 fn put_wholes(
     recce: &Recce<'_>,
     w: &Written,
@@ -167,9 +167,9 @@ fn put_wholes(
     requires is { IsRecognizer recce.now }
     requires flat { IsFlatOf recce.now.flat w.now }
     requires end { end ≤ earleme_of recce.now }
-    requires hidden { AreHidden recce.now end least hidden.now }
+    requires hidden { (item : TheItem) → Contains hidden.now item → IsHidden recce.now.flat (edges_of recce.now) (top_of recce.now) end item }
     ensures { OnOk result ((p : ThePart) → Contains parts.new.items p ↔
-        (Contains parts.old.items p ⊎ ((item : TheItem) × InSet recce.now.flat (edges_of recce.now) (top_of recce.now) end item × ((least ≤ item.origin) × IsWholeOf w.now ranking recce.now.flat end item p)))) }
+        (Contains parts.old.items p ⊎ ((item : TheItem) × (Contains (set_at recce.now end) item ⊎ Contains hidden.now item) × ((least ≤ item.origin) × IsWholeOf w.now ranking recce.now.flat end item p)))) }
 {
     put_kept(recce, w, ranking, end, least, parts)?;
     put_given(recce, w, ranking, end, least, hidden, parts)
@@ -183,7 +183,8 @@ fn sort(parts: &mut Vec<Part>)
     parts.dedup();
 }
 
-/// Lists the edges and whole rules that end at a place and begin at another or behind it, in order.
+/// Lists the edges and whole rules that end at a place and begin at another or behind it, in order: those of the items that are kept, and of
+/// the hidden ones that are given.
 pub fn list_parts(
     recce: &Recce<'_>,
     w: &Written,
@@ -197,9 +198,9 @@ pub fn list_parts(
     requires is { IsRecognizer recce.now }
     requires flat { IsFlatOf recce.now.flat w.now }
     requires end { end ≤ earleme_of recce.now }
-    requires hidden { AreHidden recce.now end least hidden.now }
+    requires hidden { (item : TheItem) → Contains hidden.now item → IsHidden recce.now.flat (edges_of recce.now) (top_of recce.now) end item }
     ensures sorted { OnOk result (IsStrictlySortedBy part_cmp parts.new.items) }
-    ensures exact { OnOk result ((p : ThePart) → Contains parts.new.items p ↔ IsPartAt w.now ranking recce.now end least p) }
+    ensures exact { OnOk result ((p : ThePart) → Contains parts.new.items p ↔ IsPartBy w.now ranking recce.now end least hidden.now p) }
 {
     parts.clear();
     recce.edges().list_to(end, edges)?;

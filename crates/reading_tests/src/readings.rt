@@ -101,7 +101,7 @@ fn is_told<L: Ledger>(
             let counts = (*nodes, *alternatives, *derivations);
             Ok(has_size(alloc, forest, counts, rules, steps)?)
         }
-        Wanted::Numbers(numbers) => Ok(numbers_of(&forest.stats()) == *numbers),
+        Wanted::Numbers(numbers) => Ok(numbers_of(&forest.stats(alloc)?) == *numbers),
         Wanted::Trees(trees) => have_texts(alloc, w, forest, trees, steps),
         Wanted::Count(count) => have_count(alloc, w, forest, *count, steps),
         Wanted::Lines(lines) => have_lines(alloc, w, forest, lines, steps),

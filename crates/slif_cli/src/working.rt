@@ -183,7 +183,7 @@ fn line_of_reading<L: Ledger>(
         Err(refusal) => return Err(no_memory(refusal)),
     };
     forest.known();
-    let stats = forest.stats();
+    let stats = forest.stats(alloc)?;
     let Ok(values) = count_derivations(alloc, &forest, steps) else {
         return Err(AllocError);
     };

@@ -2,3 +2,4 @@ mod Telling
 mod Characters
 mod Going
 mod Differing
+mod Ruled

@@ -2,3 +2,4 @@ pub mod Errors
 pub mod Messages
 pub mod Views
 pub mod Readings
+pub mod Rules

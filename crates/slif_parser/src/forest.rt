@@ -1,5 +1,5 @@
 //! The forest of an input's derivations.
-ghost use Rattle.std.specs.Prelude.{◌≡◌, ◌+◌, ◌<◌, ◌≤◌, All, length, IfOk, IfErr};
+ghost use Rattle.std.specs.Prelude.{◌≡◌, ◌+◌, ◌<◌, ◌≤◌, All, length, slice_range, IfOk, IfErr, chars as chars_in};
 ghost use Rattle.grammar_model.specs.declared.Ranking.TheVariants.{Rule};
 ghost use Rattle.text_reading.specs.Refusals.{IsNoDerivation, TellsInput};
 ghost use Rattle.slif_parser.specs.Readings.{AreGladesOf, IsForestAs, IsBegun, EndsAt, StartsAt};
@@ -103,7 +103,6 @@ impl<'r> Forest<'r> {
 
     /// The character where the token at a place begins; after the last token, where that ends.
     pub fn start(&self, place: u32) -> u32
-        requires { place ≤ length self.now.read.spans }
         ensures { StartsAt self.now.read.spans place result }
     {
         match self.spans.get(place as usize) {
@@ -114,23 +113,33 @@ impl<'r> Forest<'r> {
 
     /// The character where the token before a place ends.
     pub fn end(&self, place: u32) -> u32
-        requires { place ≤ length self.now.read.spans }
         ensures { EndsAt self.now.read.spans place result }
     {
         self.prepared.known();
-        if place == 0 {
-            return 0;
-        }
         end_of(self.spans, place)
+    }
+
+    /// The text between two characters; none, where these are not in order or not in the input.
+    pub fn text(&self, start: u32, end: u32) -> &str
+        ensures between { start ≤ end → end ≤ length self.now.read.characters →
+            chars_in result.now ≡ slice_range self.now.read.characters start end }
+    {
+        let (start, end) = (start as usize, end as usize);
+        if start > end || end > self.chars.len() {
+            return "";
+        }
+        self.chars.text(start, end)
     }
 }
 
+// Where the token before a place ends, and 0 where there is none.
 fn end_of(spans: &[Span], place: u32) -> u32
-    requires spans { All (λ s. s.start + s.length < 4294967296) spans.now }
-    requires some { 0 < place }
-    requires place { place ≤ length spans.now }
+    requires { All (λ s. s.start + s.length < 4294967296) spans.now }
     ensures { EndsAt spans.now place result }
 {
+    if place == 0 || place as usize > spans.len() {
+        return 0;
+    }
     let span = spans[place as usize - 1];
     span.start + span.length
 }

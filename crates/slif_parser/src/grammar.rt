@@ -1,14 +1,17 @@
 //! A grammar, ready to read with.
-ghost use Rattle.std.specs.Prelude.{◌≡◌, ◌≤◌, ◌↔◌, length, IfOk, IfErr, IfSome, IsNone};
+ghost use Rattle.std.specs.Prelude.{◌≡◌, ◌<◌, ◌≤◌, ◌↔◌, ◌++◌, length, OnOk, IfOk, IfErr, IfSome, IsNone};
+ghost use Rattle.grammar_model.specs.Grammar.{rule_at};
 ghost use Rattle.grammar_model.specs.Values.{name_of};
 ghost use Rattle.run_model.specs.Refused.{Accepted};
 ghost use Rattle.text_reading.specs.Refusals.{IsRefusedAt, IsInputRefusedAt};
 ghost use Rattle.slif_parser.specs.Errors.{TellsGrammar, TellsInput};
 ghost use Rattle.slif_parser.specs.Readings.{IsReadAs};
+ghost use Rattle.slif_parser.specs.Rules.{rule_text};
 
 use crate::error::error_of;
 use crate::reading::read_bytes;
-use crate::{ParseError, Reading, SymbolId};
+use crate::rules::append_rule;
+use crate::{NoMemory, ParseError, Reading, RuleId, SymbolId};
 use scanless::Prepared;
 use std::alloc::Global;
 use std::marker::{Brand, Model};
@@ -51,6 +54,20 @@ impl Grammar {
             return None;
         }
         Some(written.name(symbol))
+    }
+
+    /// Appends a rule as it is written: its left side and the names of its parts; a sequence with its sign, and its separator where it has
+    /// one. Nothing, where there is no such rule.
+    pub fn append_rule(&self, rule: RuleId, line: &mut Vec<u8>) -> Result<(), NoMemory>
+        ensures rule { rule < length self.now.g1.rules →
+            OnOk result (line.new.items ≡ line.old.items ++ rule_text self.now.g1 (rule_at self.now.g1 rule)) }
+        ensures none { length self.now.g1.rules ≤ rule → line.new.items ≡ line.old.items }
+    {
+        let written = self.prepared.written();
+        if rule.0 as usize >= written.rule_count() {
+            return Ok(());
+        }
+        append_rule(written, rule, line)
     }
 
     /// Reads an input, in UTF-8, to its end.

@@ -7,6 +7,7 @@ mod error;
 mod forest;
 mod grammar;
 mod reading;
+mod rules;
 
 pub use derivations::Derivations;
 pub use error::ParseError;

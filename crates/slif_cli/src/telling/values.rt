@@ -48,6 +48,7 @@ pub fn write_values<'a, O: Sink, L: Ledger>(
     ensures out_later { O.fault_count out.old ≤ O.fault_count out.new }
 {
     let _place = reading.recce.place();
+    prepared.known();
     let arena = Bump::new(alloc);
     let forest = forest_of(
         alloc,
@@ -59,7 +60,6 @@ pub fn write_values<'a, O: Sink, L: Ledger>(
         steps,
     )?;
     forest.known();
-    let stats = forest.stats();
     write_derivations(
         alloc,
         prepared,
@@ -72,6 +72,10 @@ pub fn write_values<'a, O: Sink, L: Ledger>(
         out,
         steps,
     )?;
+    if !asked.stats {
+        return Ok(());
+    }
+    let stats = forest.stats(alloc)?;
     write_stats(alloc, asked.stats, &stats, out)
 }
 

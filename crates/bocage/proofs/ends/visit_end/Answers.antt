@@ -1,18 +1,18 @@
 use Rattle.std.proofs.Common.{◌≡◌, ◌∙◌, ◌<◌, ◌↔◌, ◌==◌, Bool, false, true≢false, zero, suc, List, ℕ, Contains, length, map, sym, subst, arith}
 use Rattle.std.proofs.lemmas.Bool.{eqb-true}
 use Rattle.std.proofs.lemmas.Result.{on_ok_weaker, IfOk-from_err}
-use Rattle.std.proofs.lemmas.List.{nil_from_length}
-use Rattle.finite_sets.proofs.Lists.{Contains-none}
 use Rattle.recognizer_model.specs.declared.Item.{Item}
-use Rattle.forest_parts.specs.Hidden.{IsHiddenFrom, RisesBy}
+use Rattle.forest_parts.specs.Hidden.{IsHiddenFrom}
 use Rattle.bocage.specs.declared.chains.Chains.{Chains}
 use Rattle.bocage.specs.Chains.{EndsAt, AreChained}
 use Rattle.bocage.specs.Expanded.{IsExpandedAt}
+use Rattle.bocage.specs.Needed.{AreNeeded}
 use Rattle.bocage.specs.Walk.{IsUsedIn}
 use Rattle.bocage.proofs.Chained.{chained_more}
 use Rattle.bocage.proofs.Visiting.{none_visited}
-use Rattle.bocage.proofs.Counting.{rises_of, rises_by_of, rises_none, rises_none_by}
-use Rattle.bocage.proofs.Expanding.{none_expanded, given_expanded}
+use Rattle.bocage.proofs.Counting.{rises_of, rises_none}
+use Rattle.bocage.proofs.Expanding.{given_expanded}
+use Rattle.bocage.proofs.Needing.{needed_are}
 use Rattle.bocage.proofs.ends.visit_end.Goals.{then-whole, else-whole, else-is_empty-via-then-is_empty+else-not-whole, else-is_empty-via-else-is_empty}
 use Rattle.bocage.proofs.ends.visit_end.Given as given
 use Rattle.bocage.proofs.Growing.{grows_none}
@@ -47,20 +47,13 @@ visit_from-requires-clause-whole g c e =
       | else-whole w ↦ absurd (w.if-whole.false (e ∙ sym c.place.ensures.place))
     ]
 
-pub returns-then-not-whole-clause-expanded : goal.returns-then-not-whole-clause-expanded
-returns-then-not-whole-clause-expanded g c =
-    rises_none_by (IsExpandedAt c.args.w.now c.args.ranking c.args.recce.now c.args.end) c.args.work.now.expanded
-    (none_expanded c.args.w.now c.args.ranking c.args.recce.now c.requires.read c.args.end c.args.first c.args.found.now (map (λ r. r.now) c.args.table.now.items) c.requires.going c.list_nodes.new.nodes.items c.in_ok-list_nodes.ensures.listed
-    (λ e. c.if-not-whole.true (e ∙ sym c.place.ensures.place))
-    (λ n h. Contains-none n (subst (λ (l : List ℕ). Contains l n) (sym c.as_slice.ensures.value ∙ nil_from_length c.as_slice.result.now (eqb-true (length c.as_slice.result.now) 0 (sym c.is_empty.ensures ∙ c.if-is_empty.true))) h)))
-
 positive : (b : Bool) (n : ℕ) → b ≡ (n == 0) → b ≡ false → 0 < n
 positive b zero e f = absurd (true≢false (sym e ∙ f))
 positive b (suc n) e f = omega arith
 
 pub returns-in_err-hidden-clause-counted : goal.returns-in_err-hidden-clause-counted
 returns-in_err-hidden-clause-counted g c =
-    rises_of (IsHiddenFrom c.args.recce.now c.args.end c.least_origin-least.result) (IsExpandedAt c.args.w.now c.args.ranking c.args.recce.now c.args.end) c.args.steps.now c.list_hidden.new.steps
+    rises_of (IsHiddenFrom c.args.recce.now c.args.end c.least_origin-least.result) (IsExpandedAt c.args.w.now c.args.ranking c.args.recce.now c.args.end) c.args.steps.now c.list_needed.new.steps
     (λ item h. (given_expanded c.args.w.now c.args.ranking c.args.recce.now c.requires.read c.args.end c.args.first c.args.found.now (map (λ r. r.now) c.args.table.now.items) c.requires.going c.deref.result.now
     (λ n. subst (λ (l : List ℕ). Contains l n ↔ ((n < c.args.first) × EndsAt c.args.found.now.keys.keys c.args.end n)) (sym c.deref.ensures.value) (c.in_ok-list_nodes.ensures.listed n))
     c.if-whole.lowest c.least_origin-least.result c.least_origin-least.ensures.nodes c.least_origin-least.ensures.bound c.least_origin-least.ensures.met
@@ -89,16 +82,9 @@ is_given g c =
       ],
     ))
 
-pub returns-clause-expanded : goal.returns-clause-expanded
-returns-clause-expanded g c =
-    on_ok_weaker c.visit_from.result
-    (λ _. subst (λ n. RisesBy (IsExpandedAt c.args.w.now c.args.ranking c.args.recce.now c.args.end) c.args.work.now.expanded n) (sym c.visit_from.ensures.expanded)
-    (rises_by_of (IsHiddenFrom c.args.recce.now c.args.end c.least_origin-least.result) (IsExpandedAt c.args.w.now c.args.ranking c.args.recce.now c.args.end) c.args.work.now.expanded c.list_hidden.new.expanded (is_given g c) c.in_ok-hidden.ensures.expanded))
-    c.visit_from.ensures.grows
-
 pub returns-clause-counted : goal.returns-clause-counted
 returns-clause-counted g c =
-    rises_of (IsHiddenFrom c.args.recce.now c.args.end c.least_origin-least.result) (IsExpandedAt c.args.w.now c.args.ranking c.args.recce.now c.args.end) c.args.steps.now c.list_hidden.new.steps (λ item. (is_given g c item).0) c.in_ok-hidden.ensures.counted
+    rises_of (IsHiddenFrom c.args.recce.now c.args.end c.least_origin-least.result) (IsExpandedAt c.args.w.now c.args.ranking c.args.recce.now c.args.end) c.args.steps.now c.list_needed.new.steps (λ item. (is_given g c item).0) c.in_ok-hidden.ensures.counted
 
 pub returns-clause-chained : goal.returns-clause-chained
 returns-clause-chained g c =
@@ -124,17 +110,26 @@ returns-in_err-list_nodes-clause-grows g c = IfOk-from_err _ _ c.from_residual.e
 pub returns-in_err-hidden-clause-grows : goal.returns-in_err-hidden-clause-grows
 returns-in_err-hidden-clause-grows g c = IfOk-from_err _ _ c.from_residual-in_err-hidden.ensures.0
 
-pub returns-in_err-list_nodes-clause-expanded : goal.returns-in_err-list_nodes-clause-expanded
-returns-in_err-list_nodes-clause-expanded g c = IfOk-from_err _ _ c.from_residual.ensures.0
-
-pub returns-in_err-hidden-clause-expanded : goal.returns-in_err-hidden-clause-expanded
-returns-in_err-hidden-clause-expanded g c = IfOk-from_err _ _ c.from_residual-in_err-hidden.ensures.0
-
 pub returns-then-not-whole-clause-chained : goal.returns-then-not-whole-clause-chained
 returns-then-not-whole-clause-chained g c = c.in_ok-list_nodes.ensures.chained
 
 pub returns-then-not-whole-clause-grows : goal.returns-then-not-whole-clause-grows
 returns-then-not-whole-clause-grows g c = grows_none (IsUsedIn c.args.w.now c.args.ranking c.args.recce.now) c.args.found.now.keys.keys
+
+pub list_needed-requires-clause-is : goal.list_needed-requires-clause-is
+list_needed-requires-clause-is g c = c.requires.read.is
+
+pub visit_from-requires-clause-hidden : goal.visit_from-requires-clause-hidden
+visit_from-requires-clause-hidden g c =
+    subst (λ (l : List Item). AreNeeded c.args.w.now c.args.ranking c.args.recce.now c.args.end c.least_origin-least.result l) (sym c.deref-2.ensures.value)
+    (needed_are c.args.w.now c.args.ranking c.args.recce.now c.requires.read c.args.end c.args.first c.args.found.now (map (λ r. r.now) c.args.table.now.items) c.requires.going c.list_nodes.new.nodes.items c.in_ok-list_nodes.ensures.listed c.least_origin-least.result
+    (λ n key h at. c.least_origin-least.ensures.nodes n key (subst (λ (l : List ℕ). Contains l n) (sym c.deref.ensures.value) h) at)
+    (λ e. (let b = c.least_origin-least.ensures.bound in
+    elim c.if-whole.branch [
+      | then-whole w ↦ let z = w.lowest-is in omega arith
+      | else-whole w ↦ absurd (w.if-whole.false (e ∙ sym c.place.ensures.place))
+    ]))
+    c.in_ok-hidden.hidden.items c.in_ok-hidden.ensures.below)
 
 pub visit_from-requires-clause-read : goal.visit_from-requires-clause-read
 visit_from-requires-clause-read g c = c.requires.read

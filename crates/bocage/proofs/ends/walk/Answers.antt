@@ -1,11 +1,10 @@
 use Rattle.std.proofs.Common.{◌≡◌, ◌≤◌, ◌-◌, ◌+◌, ℕ, suc, List, length, map, sym, ap, subst, arith}
 use Rattle.recognizer_model.specs.declared.NodeKey.{NodeKey}
 use Rattle.bocage.specs.Walk.{IsUsedIn}
-use Rattle.recognizer_model.specs.Counts.{IsCountOf}
 use Rattle.forest_parts.specs.Hidden.{RisesWithin}
 use Rattle.bocage.specs.Ends.{IsGoing, AreVisited}
 use Rattle.bocage.specs.Expanded.{IsExpandedFrom}
-use Rattle.bocage.proofs.Expanding.{within_first, within_more, within_all, count_first, count_more, count_all}
+use Rattle.bocage.proofs.Expanding.{within_first, within_more, within_all}
 use Rattle.bocage.proofs.Growing.{grows_then}
 use Rattle.bocage.proofs.Chained.{none_chained}
 use Rattle.bocage.proofs.Visiting.{going_first, going_next}
@@ -25,7 +24,6 @@ loop-back-init g c =
       chained = c.in_ok-visit_end.ensures.chained;
       grows = c.in_ok-visit_end.ensures.grows;
       counted = subst (λ p. RisesWithin (IsExpandedFrom c.args.w.now c.args.ranking c.args.recce.now p) c.args.steps.now c.visit_end.new.steps) e (within_first c.args.w.now c.args.ranking c.args.recce.now c.place-earleme.result c.args.steps.now c.visit_end.new.steps c.place-earleme.ensures.place c.in_ok-visit_end.ensures.counted);
-      expanded = subst (λ p. IsCountOf (IsExpandedFrom c.args.w.now c.args.ranking c.args.recce.now p) c.visit_end.new.work.expanded) e (count_first c.args.w.now c.args.ranking c.args.recce.now c.requires.read c.place-earleme.result c.args.work.now.expanded c.visit_end.new.work.expanded c.place-earleme.ensures.place c.requires.start c.in_ok-visit_end.ensures.expanded);
     }
 
 pub visit_end-requires-in-loop-back-clause-going : goal.visit_end-requires-in-loop-back-clause-going
@@ -47,7 +45,6 @@ loop-back-preserved g c =
       chained = c.in_ok-visit_end-2.ensures.chained;
       grows = grows_then (IsUsedIn c.args.w.now c.args.ranking c.args.recce.now) c.args.found.now.keys.keys c.loop-back.found.keys.keys c.visit_end-in-loop-back.new.found.keys.keys c.loop-back.invariant.grows c.in_ok-visit_end-2.ensures.grows;
       counted = subst (λ p. RisesWithin (IsExpandedFrom c.args.w.now c.args.ranking c.args.recce.now p) c.args.steps.now c.visit_end-in-loop-back.new.steps) e (within_more c.args.w.now c.args.ranking c.args.recce.now end c.args.steps.now c.loop-back.steps c.visit_end-in-loop-back.new.steps (subst (λ p. RisesWithin (IsExpandedFrom c.args.w.now c.args.ranking c.args.recce.now p) c.args.steps.now c.loop-back.steps) q c.loop-back.invariant.counted) c.in_ok-visit_end-2.ensures.counted);
-      expanded = subst (λ p. IsCountOf (IsExpandedFrom c.args.w.now c.args.ranking c.args.recce.now p) c.visit_end-in-loop-back.new.work.expanded) e (count_more c.args.w.now c.args.ranking c.args.recce.now end c.loop-back.work.expanded c.visit_end-in-loop-back.new.work.expanded (subst (λ p. IsCountOf (IsExpandedFrom c.args.w.now c.args.ranking c.args.recce.now p) c.loop-back.work.expanded) q c.loop-back.invariant.expanded) c.in_ok-visit_end-2.ensures.expanded);
     }
 
 pub returns-clause-visited : goal.returns-clause-visited
@@ -55,12 +52,6 @@ returns-clause-visited g c =
     let f = c.loop-back-test.false in
     let e : c.place-earleme.result - c.loop-back.back ≡ 0 = omega arith in
     subst (λ p. AreVisited c.args.w.now c.args.ranking c.args.recce.now p c.loop-back.found (map (λ r. r.now) c.loop-back.table.items)) e c.loop-back.invariant.visited
-
-pub returns-clause-expanded : goal.returns-clause-expanded
-returns-clause-expanded g c =
-    let f = c.loop-back-test.false in
-    let e : c.place-earleme.result - c.loop-back.back ≡ 0 = omega arith in
-    count_all c.args.w.now c.args.ranking c.args.recce.now c.loop-back.work.expanded (subst (λ p. IsCountOf (IsExpandedFrom c.args.w.now c.args.ranking c.args.recce.now p) c.loop-back.work.expanded) e c.loop-back.invariant.expanded)
 
 pub returns-clause-counted : goal.returns-clause-counted
 returns-clause-counted g c = within_all c.args.w.now c.args.ranking c.args.recce.now (c.place-earleme.result - c.loop-back.back) c.args.steps.now c.loop-back.steps c.loop-back.invariant.counted
@@ -101,12 +92,6 @@ returns-in_err-visit_end-clause-grows g c = IfOk-from_err _ _ c.from_residual.en
 
 pub returns-in_err-visit_end-2-clause-grows : goal.returns-in_err-visit_end-2-clause-grows
 returns-in_err-visit_end-2-clause-grows g c = IfOk-from_err _ _ c.from_residual-in_err-visit_end-2.ensures.0
-
-pub returns-in_err-visit_end-clause-expanded : goal.returns-in_err-visit_end-clause-expanded
-returns-in_err-visit_end-clause-expanded g c = IfOk-from_err _ _ c.from_residual.ensures.0
-
-pub returns-in_err-visit_end-2-clause-expanded : goal.returns-in_err-visit_end-2-clause-expanded
-returns-in_err-visit_end-2-clause-expanded g c = IfOk-from_err _ _ c.from_residual-in_err-visit_end-2.ensures.0
 
 pub returns-clause-grows : goal.returns-clause-grows
 returns-clause-grows g c = c.loop-back.invariant.grows

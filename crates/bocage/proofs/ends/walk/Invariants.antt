@@ -4,7 +4,6 @@ use Rattle.bocage.specs.Walk.{IsUsedIn, GrowsBy}
 use Rattle.bocage.specs.Chains.{AreChained}
 use Rattle.bocage.specs.Ends.{AreVisited}
 use Rattle.bocage.specs.Expanded.{IsExpandedFrom}
-use Rattle.recognizer_model.specs.Counts.{IsCountOf}
 use Rattle.bocage.proofs.ends.walk.Given as goal
 
 abbrev pub invariant-loop-back : goal.invariant-loop-back
@@ -13,5 +12,4 @@ invariant-loop-back g l = record {
   chained : AreChained l.found.keys.keys l.work.chains.heads.items l.work.chains.below.items;
   grows : GrowsBy (IsUsedIn l.w l.ranking l.recce) l.fn.found.keys.keys l.found.keys.keys;
   counted : RisesWithin (IsExpandedFrom l.w l.ranking l.recce (l.earleme - l.back)) l.fn.steps l.steps;
-  expanded : IsCountOf (IsExpandedFrom l.w l.ranking l.recce (l.earleme - l.back)) l.work.expanded;
 }

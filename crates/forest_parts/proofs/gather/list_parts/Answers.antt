@@ -2,7 +2,6 @@ use Rattle.std.proofs.Common.{◌≡◌, ◌↔◌, inl, inr, List, Contains, sy
 use Rattle.finite_sets.proofs.Lists.{Contains-none}
 use Rattle.grammar_model.specs.declared.Edge.{Edge}
 use Rattle.forest_parts.specs.declared.parts.Part.{Part}
-use Rattle.forest_parts.proofs.Gathering.{parts_are}
 use Rattle.forest_parts.proofs.gather.list_parts.Goals as goal
 
 pub put_edges-requires : goal.put_edges-requires
@@ -16,14 +15,13 @@ returns-clause-exact c =
       λ (a, b). subst (λ (l : List Edge). Contains l e) (sym c.deref.ensures.value) ((c.in_ok-list_to.ensures.exact e).1 (subst (λ (l : List Edge). Contains l e) (sym c.edges.ensures) a, b)),
     ) in
     λ p. (
-    let same = c.sort.ensures.same in
-    let are = parts_are c.args.w.now c.args.ranking c.args.recce.now c.args.end c.args.least c.deref.result.now c.requires.end listed p in (
-      λ h. are.0 (elim ((c.in_ok-put_wholes.ensures p).0 ((same p).0 h)) [
-        | inl o ↦ elim ((c.in_ok-put_edges.ensures p).0 o) [ inl n ↦ absurd (Contains-none p (subst (λ (l : List Part). Contains l p) c.clear.ensures.items n)) | inr q ↦ inl q ]
+    let same = c.sort.ensures.same in (
+      λ h. elim ((c.in_ok-put_wholes.ensures p).0 ((same p).0 h)) [
+        | inl o ↦ elim ((c.in_ok-put_edges.ensures p).0 o) [ inl n ↦ absurd (Contains-none p (subst (λ (l : List Part). Contains l p) c.clear.ensures.items n)) | inr (e, a, q) ↦ inl (e, (listed e).0 a, q) ]
         | inr q ↦ inr q
-      ]),
-      λ h. (same p).1 (elim (are.1 h) [
-        | inl q ↦ (c.in_ok-put_wholes.ensures p).1 (inl ((c.in_ok-put_edges.ensures p).1 (inr q)))
+      ],
+      λ h. (same p).1 (elim h [
+        | inl (e, a, q) ↦ (c.in_ok-put_wholes.ensures p).1 (inl ((c.in_ok-put_edges.ensures p).1 (inr (e, (listed e).1 a, q))))
         | inr q ↦ (c.in_ok-put_wholes.ensures p).1 (inr q)
       ]),
     ))

@@ -4,8 +4,8 @@ use Rattle.grammar_core.specs.declared.steps.Span.{Span}
 use Rattle.value_lines.proofs.Fitting as fitting
 use Rattle.slif_parser.proofs.forest.Forest.end.Goals as goal
 
-pub end_of-requires-clause-spans : goal.end_of-requires-clause-spans
-end_of-requires-clause-spans c =
+pub end_of-requires : goal.end_of-requires
+end_of-requires c =
     let b = c.self.inside.prepared.now in
     let cs = c.self.inside.chars.now in
     let spans = c.self.inside.spans.now in
