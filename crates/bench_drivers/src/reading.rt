@@ -5,10 +5,9 @@ use crate::grammar::{Group, Language};
 use anyhow::bail;
 use earley_sets::Recce;
 use grammar_core::{Assoc, SymbolId};
+use grammar_model::LAST_PLACE;
 use slif_base::Steps;
 use std::sync::ledger::Ledger;
-
-const MOST_PLACES: u32 = 16_777_216;
 
 // S -> S a | a
 const LEFT: Language = Language {
@@ -236,7 +235,7 @@ fn read<L: Ledger>(
 ) -> Result<(), anyhow::Error>
     ensures { recce.new.flat ≡ recce.old.flat }
 {
-    if recce.place() >= MOST_PLACES {
+    if recce.place() >= LAST_PLACE {
         bail!("too many tokens");
     }
     if let Some(begun) = begun {

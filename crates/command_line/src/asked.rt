@@ -12,11 +12,9 @@ use crate::command::WITH_VALUE;
 use crate::job::{InputFrom, Job, Task, Telling, ValuesAsked};
 use crate::value::{file_name, number_from, ranking_of, show_of};
 use clap::ArgMatches;
-use grammar_model::{Ranking, Show};
+use grammar_model::{LAST_PLACE, Ranking, Show};
 
 // the last place that an input can have
-const LAST_EARLEME: u32 = 16_777_216;
-
 // the greatest size of job `work`
 const LARGEST_WORK: u32 = 100_000;
 
@@ -144,7 +142,7 @@ pub fn values_asked(matches: &ArgMatches<'_>) -> Option<Telling>
 pub fn report_asked(matches: &ArgMatches<'_>) -> Option<Telling>
     ensures { option_map telling_of result ≡ model.report_asked (given_in (found_of matches.now)) }
 {
-    let at = number_from(0, LAST_EARLEME, matches.get_str("at")?)?;
+    let at = number_from(0, LAST_PLACE, matches.get_str("at")?)?;
     Some(Telling::Report { at })
 }
 

@@ -4,6 +4,7 @@ use Rattle.std.specs.Prelude.{bytes_eq}
 use Rattle.std.proofs.lemmas.Bool.{leb-false}
 use Rattle.std.proofs.lemmas.Slice.Eq.{bytes_eq-Decides}
 use Rattle.grammar_model.specs.Trees.{Tree}
+use Rattle.grammar_model.specs.declared.limits.TheConstants.{LONGEST_CURSOR}
 use Rattle.cursor_model.specs.Cursor.{cursor_of}
 use Rattle.cursor_model.specs.Rest.{start_text, place_after, IsRest, NamesNone}
 use Rattle.cursor_model.specs.Laws.{PlacesAreDecided}
@@ -52,9 +53,9 @@ parted text start [] = none_parted text start (bytes_eq text start) refl
 parted text start (t ∷ trees) = more_parted text start t trees (bytes_eq text start) refl (parted text (cursor_of t) trees)
 
 pub places_are_decided : PlacesAreDecided
-places_are_decided trees text = by (nat_le (length text) 16777216) refl (parted text start_text trees)
+places_are_decided trees text = by (nat_le (length text) LONGEST_CURSOR) refl (parted text start_text trees)
   where
-    by : (b : Bool) → nat_le (length text) 16777216 ≡ b → HasParts text start_text trees ⊎ HasNone text start_text trees → ((rest : List Tree) × IsRest trees text rest) ⊎ NamesNone trees text
-    by true e (inl (before, rest, p)) = inl (rest, (before, record { parts = p.parts; within = leb-true (length text) 16777216 e; is = p.is }))
+    by : (b : Bool) → nat_le (length text) LONGEST_CURSOR ≡ b → HasParts text start_text trees ⊎ HasNone text start_text trees → ((rest : List Tree) × IsRest trees text rest) ⊎ NamesNone trees text
+    by true e (inl (before, rest, p)) = inl (rest, (before, record { parts = p.parts; within = leb-true (length text) LONGEST_CURSOR e; is = p.is }))
     by true e (inr none) = inr (λ before rest p. none before rest (record { parts = p.parts; is = p.is }))
-    by false e found = inr (λ before rest p. (let more = leb-false (length text) 16777216 e in let within = p.within in omega (arith, more, within)))
+    by false e found = inr (λ before rest p. (let more = leb-false (length text) LONGEST_CURSOR e in let within = p.within in omega (arith, more, within)))

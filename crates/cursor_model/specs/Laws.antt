@@ -8,6 +8,7 @@ use Rattle.grammar_model.specs.Derives.{Held, Derives}
 use Rattle.grammar_model.specs.declared.Ranking.{Ranking}
 use Rattle.grammar_model.specs.Chosen.{AreChosen}
 use Rattle.std.specs.Fmt.{decimal}
+use Rattle.grammar_model.specs.declared.limits.TheConstants.{LONGEST_CURSOR}
 use Rattle.cursor_model.specs.Cursor.{numeral, cursor_of}
 use Rattle.cursor_model.specs.Laid.{IsLaid, Spells}
 use Rattle.cursor_model.specs.Rest.{start_text, place_after, IsRest, NamesNone}
@@ -54,7 +55,7 @@ pub record GoesOn (trees before rest : List Tree) : Type 0 where
 
 abbrev pub PlacesGoOn : Type 0
 PlacesGoOn = (g : Grammar) (edges : List Edge) (ranking : Ranking) (slot : Slot) (p q : ℕ) (trees before rest : List Tree) → AreUnits edges →
-    AreChosen g (Held edges) ranking slot p q trees → trees ≡ before ++ rest → length (place_after start_text before) ≤ 16777216 → GoesOn trees before rest
+    AreChosen g (Held edges) ranking slot p q trees → trees ≡ before ++ rest → length (place_after start_text before) ≤ LONGEST_CURSOR → GoesOn trees before rest
 
 -- going on from a place twice is going on once
 abbrev pub PlacesFollow : Type 0

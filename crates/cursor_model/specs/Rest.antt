@@ -1,6 +1,7 @@
 -- Going on from a place in a list of derivations.
 use Rattle.std.specs.Prelude.{◌≡◌, ℕ, ◌≤◌, List, [], ◌∷◌, ◌++◌, length, codes}
 use Rattle.grammar_model.specs.Trees.{Tree}
+use Rattle.grammar_model.specs.declared.limits.TheConstants.{LONGEST_CURSOR}
 use Rattle.cursor_model.specs.Cursor.{cursor_of}
 
 -- the text of the place before the first derivation
@@ -15,7 +16,7 @@ place_after text (tree ∷ trees) = place_after (cursor_of tree) trees
 -- the text names the place in a list between these and the rest: before the first, or after a derivation
 pub record IsPlaceOf (text : List ℕ) (trees before rest : List Tree) : Type 0 where
   pub parts : trees ≡ before ++ rest
-  pub within : length text ≤ 16777216
+  pub within : length text ≤ LONGEST_CURSOR
   pub is : text ≡ place_after start_text before
 
 -- what is left of the list after the place

@@ -9,6 +9,7 @@ use Rattle.std.proofs.Common.{arith}
 use Rattle.std.proofs.lemmas.Option.{same_Some}
 use Rattle.std.proofs.lemmas.Bool.{or_right}
 use Rattle.grammar_model.specs.Grammar.{WrittenRule, Plain, Sequence, Grammar}
+use Rattle.grammar_model.specs.declared.limits.TheConstants.{MOST_ENTRIES}
 use Rattle.grammar_core.specs.Written.{symbols_of, IsLevelled, has_name, has_room, with_name}
 use Rattle.grammar_core.specs.Refusals.{name_refusal, rule_refusal, start_refusal, knows, is_levelled, is_short}
 use Rattle.grammar_core.specs.declared.refusal.CoreRefusal.TheVariants.{BadSymbol, BadLevel, TooMany}
@@ -17,7 +18,7 @@ use Rattle.dsl_build.specs.Rules.{with_names}
 use Rattle.dsl_build.specs.Ready.{IsGood}
 use Rattle.dsl_faults.proofs.Keeping.{is_one_of_any}
 
-room : (n : ℕ) → n < 16777215 → has_room n ≡ true
+room : (n : ℕ) → n < MOST_ENTRIES → has_room n ≡ true
 room n lt = grind (arith, nat_tests)
 
 below : (s n : ℕ) → s < n → nat_lt s n ≡ true
@@ -26,7 +27,7 @@ below s n lt = grind (arith, nat_tests)
 within : (m n : ℕ) → m ≤ n → nat_le m n ≡ true
 within m n le = grind (arith, nat_tests)
 
-pub name_granted : (g : Grammar) (name : List ℕ) → length g.names < 16777215 → name_refusal g name ≡ None
+pub name_granted : (g : Grammar) (name : List ℕ) → length g.names < MOST_ENTRIES → name_refusal g name ≡ None
 name_granted g name lt = ap (λ b. cond b None (Some TooMany)) (or_right (has_name g name) (has_room (length g.names)) (room (length g.names) lt))
 
 all_known : (g : Grammar) (ss : List ℕ) → AllByRecursion (λ s. s < length g.names) ss → list_all (knows g) ss ≡ true
@@ -37,14 +38,14 @@ levelled : (r : WrittenRule) → IsLevelled r → (is_levelled r ≡ true) × (i
 levelled (Plain r) h = (below r.level r.groups h.0, within (length r.rhs) 1000 h.1)
 levelled (Sequence r) h = (refl, refl)
 
-pub rule_granted : (g : Grammar) (r : WrittenRule) → IsGood (length g.names) r → length g.rules < 16777215 → rule_refusal g r ≡ None
+pub rule_granted : (g : Grammar) (r : WrittenRule) → IsGood (length g.names) r → length g.rules < MOST_ENTRIES → rule_refusal g r ≡ None
 rule_granted g r good lt =
     let l = levelled r good.1 in
     ap (λ b. cond b (cond (is_levelled r) (cond (is_short r && has_room (length g.rules)) None (Some TooMany)) (Some BadLevel)) (Some BadSymbol)) (all_known g (symbols_of r) (recursion_from_All (λ s. s < length g.names) (symbols_of r) good.0))
     ∙ ap (λ b. cond b (cond (is_short r && has_room (length g.rules)) None (Some TooMany)) (Some BadLevel)) l.0
     ∙ ap (λ b. cond (b && has_room (length g.rules)) None (Some TooMany)) l.1 ∙ ap (λ b. cond b None (Some TooMany)) (room (length g.rules) lt)
 
-pub start_granted : (g : Grammar) (s : ℕ) → s < length g.names → length g.starts < 16777215 → start_refusal g s ≡ None
+pub start_granted : (g : Grammar) (s : ℕ) → s < length g.names → length g.starts < MOST_ENTRIES → start_refusal g s ≡ None
 start_granted g s known lt =
     ap (λ b. cond b (cond (has_room (length g.starts)) None (Some TooMany)) (Some BadSymbol)) (below s (length g.names) known) ∙ ap (λ b. cond b None (Some TooMany)) (room (length g.starts) lt)
 

@@ -7,6 +7,7 @@ use Rattle.std.proofs.lemmas.List.{length-map}
 use Rattle.std.proofs.lemmas.List.Elements.{All-from_recursion}
 use Rattle.std.proofs.lemmas.Slice.Eq.{bytes_eq-Decides}
 use Rattle.std.proofs.lemmas.Fmt.{decimal_injective}
+use Rattle.grammar_model.specs.declared.limits.TheConstants.{MOST_ENTRIES}
 use Rattle.language_model.specs.declared.token.TokenKind.{TokenKind}
 use Rattle.language_model.specs.declared.token.TokenKind.TheVariants.{Word, Angle, Quote, Bracket, Pseudo, Reserved, Signed, Mark}
 use Rattle.language_model.specs.Tokens.{Spelled}
@@ -265,7 +266,7 @@ sets_apart : (names : List (List ℕ)) (a n : ℕ) → AllByRecursion NoColon na
 sets_apart names a zero h = tt
 sets_apart names a (suc n) h = (absent_name names a h, sets_apart names (a + 1) n h)
 
-all_symbols_new : (d : List Statement) → Faultless d → IsDescription d → length (sets_l0 d) ≤ 16777215 → AllNew [] (grammar_l0 d).names
+all_symbols_new : (d : List Statement) → Faultless d → IsDescription d → length (sets_l0 d) ≤ MOST_ENTRIES → AllNew [] (grammar_l0 d).names
 all_symbols_new d f h le =
     let sets = set_names (length (sets_l0 d)) in
     append_new [] (named_l0 d) sets (named_new d) (sets_new 0 (length (sets_l0 d)) [] (omega (arith, le)) (λ (k : ℕ) (a : 0 ≤ k) (lt : k < 2 ^ 64). refl)) (apart_nothing sets) (sets_apart (named_l0 d) 0 (length (sets_l0 d)) (names_named d f h))

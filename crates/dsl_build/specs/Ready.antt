@@ -4,6 +4,7 @@ use Rattle.language_model.specs.Tokens.{Spelled}
 use Rattle.language_model.specs.Description.{Alternative, Statement, Empty, Quantified, Rules}
 use Rattle.language_model.specs.Building.{is_one_of, is_quote, parts_of, rank_of, separator_of}
 use Rattle.grammar_model.specs.Grammar.{WrittenRule, Grammar}
+use Rattle.grammar_model.specs.declared.limits.TheConstants.{MOST_ENTRIES}
 use Rattle.grammar_core.specs.Written.{symbols_of, IsLevelled}
 use Rattle.dsl_faults.specs.Texts.{AllNew}
 use Rattle.dsl_faults.specs.Quotes.{between_quotes}
@@ -37,8 +38,8 @@ IsGood n r = All (λ s. s < n) (symbols_of r) × IsLevelled r
 -- the symbols differ, the rules and starts name them, and there are not too many
 pub record IsWritable (g : Grammar) : Type 0 where
   pub differ : AllNew [] g.names
-  pub symbols : length g.names ≤ 16777215
+  pub symbols : length g.names ≤ MOST_ENTRIES
   pub good : All (IsGood (length g.names)) g.rules
-  pub rules : length g.rules ≤ 16777215
+  pub rules : length g.rules ≤ MOST_ENTRIES
   pub known : All (λ s. s < length g.names) g.starts
-  pub starts : length g.starts ≤ 16777215
+  pub starts : length g.starts ≤ MOST_ENTRIES

@@ -1,5 +1,6 @@
 //! The grammars and tables of a description.
 ghost use Rattle.std.specs.Prelude.{◌≡◌, ◌≤◌, ◌+◌, [], All, IfOk, flat_map, length, map};
+ghost use Rattle.grammar_model.specs.declared.limits.TheConstants.{MOST_ENTRIES};
 ghost use Rattle.language_model.specs.Building.{faults_of, built_of, sets_of, numbered_from};
 ghost use Rattle.language_model.specs.Texts.{IsDescription};
 ghost use Rattle.grammar_core.specs.Written.{rule_of};
@@ -43,7 +44,7 @@ fn grammars_of(
 ) -> Result<Grammars, AllocError>
     requires readable { All (λ t. IsReadable t.now) tokens.now }
     requires placed { length tokens.now ≤ length names.now }
-    requires room { length names.now + length (flat_map sets_of (map (λ t. t.now) tokens.now)) ≤ 16777215 }
+    requires room { length names.now + length (flat_map sets_of (map (λ t. t.now) tokens.now)) ≤ MOST_ENTRIES }
     requires structural { IsWritable (grammar_with symbols.now 0 (map rule_of rules.structural.items) start.now) }
     requires lexical { IsWritable (lexical_with names.now (map rule_of rules.lexical.items) (map (λ t. t.now) tokens.now) starts.now) }
     ensures structural { IfOk result (λ g. g.g1 ≡ grammar_with symbols.now 0 (map rule_of rules.structural.items) start.now) }

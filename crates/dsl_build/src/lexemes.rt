@@ -1,5 +1,6 @@
 //! What reading knows of lexemes.
 ghost use Rattle.std.specs.Prelude.{◌≡◌, ◌≤◌, ◌++◌, [], map, flat_map, option_copied, option_map, unwrap_or, bytes_eq, codes, length, false, true, All, IfOk, OnOk};
+ghost use Rattle.grammar_model.specs.declared.limits.TheConstants.{MOST_ENTRIES};
 ghost use Rattle.language_model.specs.Building as building;
 ghost use Rattle.language_model.specs.Building.{is_one_of, lexeme_default_adverbs};
 ghost use Rattle.dsl_statement.specs.Statements.{adverbs_of, statement_of};
@@ -96,8 +97,8 @@ fn lexeme_row(
 ) -> LexemeRow
     requires symbol { is_one_of symbols.now name.now ≡ true }
     requires start { is_one_of starts.now name.now ≡ true }
-    requires few { length symbols.now ≤ 16777215 }
-    requires few_starts { length starts.now ≤ 16777215 }
+    requires few { length symbols.now ≤ MOST_ENTRIES }
+    requires few_starts { length starts.now ≤ MOST_ENTRIES }
     requires small { IsSmall (priority_of (adverbs_of adverbs.now)) }
     ensures { row_of result ≡ row_from symbols.now starts.now (adverbs_of adverbs.now) (option_copied default.entry) name.now }
 {
@@ -121,8 +122,8 @@ pub fn lexeme_rows(
     requires small { All (λ p. IsSmall (priority_of p.1)) (flat_map lexeme_parts (map statement_of statements.now)) }
     requires symbols { All (λ t. is_one_of symbols.now t ≡ true) lexemes.now }
     requires starts { All (λ t. is_one_of starts.now t ≡ true) lexemes.now }
-    requires few { length symbols.now ≤ 16777215 }
-    requires few_starts { length starts.now ≤ 16777215 }
+    requires few { length symbols.now ≤ MOST_ENTRIES }
+    requires few_starts { length starts.now ≤ MOST_ENTRIES }
     ensures { IfOk result (λ rows. map row_of rows.items ≡ map (λ name. row_from symbols.now starts.now
         (adverbs_at (map (λ p. p.0) (flat_map lexeme_parts (map statement_of statements.now))) (map (λ p. p.1) (flat_map lexeme_parts (map statement_of statements.now))) name)
         (building.value_of (codes "latm") (flat_map lexeme_default_adverbs (map statement_of statements.now))) name) lexemes.now) }

@@ -1,5 +1,6 @@
 //! The lexical grammar.
 ghost use Rattle.std.specs.Prelude.{◌≡◌, ◌≤◌, ◌<◌, ◌+◌, ◌++◌, map, flat_map, length, All, IfOk, OnOk};
+ghost use Rattle.grammar_model.specs.declared.limits.TheConstants.{MOST_ENTRIES};
 ghost use Rattle.language_model.specs.Building.{sets_of, added_rules, numbered_from};
 ghost use Rattle.grammar_core.specs.Written.{rule_of};
 ghost use Rattle.dsl_build.specs.Lexical.{added_rule, added_of, lexical_with};
@@ -29,8 +30,8 @@ fn push_token_rule(
     count: usize,
     token: &Spelled,
 ) -> Result<(), AllocError>
-    requires number { number < 16777216 }
-    requires sets { next + count ≤ 16777215 }
+    requires number { number ≤ MOST_ENTRIES }
+    requires sets { next + count ≤ MOST_ENTRIES }
     ensures { OnOk result (map rule_of out.new.items ≡ map rule_of out.old.items ++ added_of number next count token.now) }
 {
     if !is_quote_or_bracket(token) {
@@ -58,8 +59,8 @@ fn push_token(
     token: &Spelled,
 ) -> Result<(), AllocError>
     requires readable { IsReadable token.now }
-    requires number { number < 16777216 }
-    requires room { first + (length sets.old.items + length (sets_of token.now)) ≤ 16777215 }
+    requires number { number ≤ MOST_ENTRIES }
+    requires room { first + (length sets.old.items + length (sets_of token.now)) ≤ MOST_ENTRIES }
     ensures sets { OnOk result (sets.new.items ≡ sets.old.items ++ sets_of token.now) }
     ensures rules { OnOk result (map rule_of out.new.items ≡ map rule_of out.old.items ++ added_rule number (first + length sets.old.items) token.now) }
 {
@@ -78,7 +79,7 @@ fn push_tokens(
 ) -> Result<Vec<CharSet>, AllocError>
     requires readable { All (λ t. IsReadable t.now) tokens.now }
     requires numbers { length tokens.now ≤ first }
-    requires room { first + length (flat_map sets_of (map (λ t. t.now) tokens.now)) ≤ 16777215 }
+    requires room { first + length (flat_map sets_of (map (λ t. t.now) tokens.now)) ≤ MOST_ENTRIES }
     ensures sets { IfOk result (λ sets. sets.items ≡ flat_map sets_of (map (λ t. t.now) tokens.now)) }
     ensures rules { OnOk result (map rule_of out.new.items ≡ map rule_of out.old.items ++ added_rules 0 first (map (λ t. t.now) tokens.now)) }
 {
@@ -99,7 +100,7 @@ pub(crate) fn lexical_grammar(
 ) -> Result<Lexical, AllocError>
     requires readable { All (λ t. IsReadable t.now) tokens.now }
     requires placed { length tokens.now ≤ length names.now }
-    requires room { length names.now + length (flat_map sets_of (map (λ t. t.now) tokens.now)) ≤ 16777215 }
+    requires room { length names.now + length (flat_map sets_of (map (λ t. t.now) tokens.now)) ≤ MOST_ENTRIES }
     requires writable { IsWritable (lexical_with names.now (map rule_of rules.items) (map (λ t. t.now) tokens.now) starts.now) }
     ensures sets { IfOk result (λ l. l.sets.items ≡ numbered_from (length names.now) (flat_map sets_of (map (λ t. t.now) tokens.now))) }
     ensures grammar { IfOk result (λ l. l.grammar ≡ lexical_with names.now (map rule_of rules.items) (map (λ t. t.now) tokens.now) starts.now) }

@@ -4,6 +4,7 @@ ghost use Rattle.language_model.specs.Description.{Empty, Quantified};
 ghost use Rattle.language_model.specs.Building as building;
 ghost use Rattle.language_model.specs.Building.{is_one_of, place_in, numbers_in, rules_of_groups, rules_of, is_of_level, parts_of};
 ghost use Rattle.grammar_model.specs.Grammar.{Plain, Sequence};
+ghost use Rattle.grammar_model.specs.declared.limits.TheConstants.{MOST_ENTRIES};
 ghost use Rattle.grammar_core.specs.Written.{rule_of};
 ghost use Rattle.dsl_statement.specs.Statements.{adverbs_of, statement_of};
 ghost use Rattle.dsl_build.specs.Ready.{IsNamed, IsSmall, IsReady, IsReadyAlternative};
@@ -18,7 +19,7 @@ use std::alloc::{AllocError, Global};
 
 fn number_of(names: &Names, token: &Spelled) -> SymbolId
     requires named { IsNamed names.now token.now }
-    requires few { length names.now ≤ 16777215 }
+    requires few { length names.now ≤ MOST_ENTRIES }
     ensures { result ≡ place_in names.now token.now.content }
 {
     symbol_of(names, token.content.as_str())
@@ -26,7 +27,7 @@ fn number_of(names: &Names, token: &Spelled) -> SymbolId
 
 fn numbers_of(alloc: Global, names: &Names, parts: &[&Spelled]) -> Result<Vec<SymbolId>, AllocError>
     requires named { All (λ t. IsNamed names.now t.now) parts.now }
-    requires few { length names.now ≤ 16777215 }
+    requires few { length names.now ≤ MOST_ENTRIES }
     ensures { IfOk result (λ numbers. numbers.items ≡ map (λ t. place_in names.now t.now.content) parts.now) }
 {
     let mut numbers = Vec::new(alloc);
@@ -42,7 +43,7 @@ fn right_side(
     alternative: &Alternative,
 ) -> Result<Vec<SymbolId>, AllocError>
     requires named { All (IsNamed names.now) (parts_of alternative.now) }
-    requires few { length names.now ≤ 16777215 }
+    requires few { length names.now ≤ MOST_ENTRIES }
     ensures { IfOk result (λ numbers. numbers.items ≡ numbers_in names.now (parts_of alternative.now)) }
 {
     let parts = dsl_faults::parts_of(alloc, alternative)?;
@@ -58,7 +59,7 @@ fn plain_rule(
     alternative: &Alternative,
 ) -> Result<WrittenRule, AllocError>
     requires ready { IsReadyAlternative names.now alternative.now }
-    requires few { length names.now ≤ 16777215 }
+    requires few { length names.now ≤ MOST_ENTRIES }
     ensures { IfOk result (λ r. rule_of r ≡ plain_with names.now lhs level groups alternative.now) }
 {
     let adverbs = &alternative.adverbs;
@@ -83,7 +84,7 @@ fn push_group(
     group: &[Alternative],
 ) -> Result<(), AllocError>
     requires ready { All (IsReadyAlternative names.now) group.now }
-    requires few { length names.now ≤ 16777215 }
+    requires few { length names.now ≤ MOST_ENTRIES }
     ensures { OnOk result (map rule_of out.new.items ≡ map rule_of out.old.items ++ map (plain_with names.now lhs level groups) group.now) }
 {
     for alternative in group {
@@ -102,7 +103,7 @@ fn push_groups(
     requires left { IsNamed names.now left.now }
     requires ready { All (λ g. All (IsReadyAlternative names.now) g.items) groups.now }
     requires counted { length groups.now ≤ 4294967295 }
-    requires few { length names.now ≤ 16777215 }
+    requires few { length names.now ≤ MOST_ENTRIES }
     ensures { OnOk result (map rule_of out.new.items ≡ map rule_of out.old.items ++ rules_of_groups names.now left.now (length groups.now) (map (λ g. g.items) groups.now)) }
 {
     let lhs = number_of(names, left);
@@ -118,7 +119,7 @@ fn push_groups(
 fn empty_rule(alloc: Global, names: &Names, left: &Spelled, adverbs: &[Adverb]) -> WrittenRule
     requires left { IsNamed names.now left.now }
     requires small { IsSmall (building.rank_of (adverbs_of adverbs.now)) }
-    requires few { length names.now ≤ 16777215 }
+    requires few { length names.now ≤ MOST_ENTRIES }
     ensures { rule_of result ∷ [] ≡ rules_of names.now (Empty left.now false (adverbs_of adverbs.now)) }
 {
     WrittenRule::Plain(Rule {
@@ -134,7 +135,7 @@ fn empty_rule(alloc: Global, names: &Names, left: &Spelled, adverbs: &[Adverb]) 
 
 fn separator_of(names: &Names, adverbs: &[Adverb]) -> Option<SymbolId>
     requires named { All (IsNamed names.now) (building.separator_of (adverbs_of adverbs.now)) }
-    requires few { length names.now ≤ 16777215 }
+    requires few { length names.now ≤ MOST_ENTRIES }
     ensures { result ≡ option_map (λ t. place_in names.now t.content) (building.value_of (codes "separator") (adverbs_of adverbs.now)) }
 {
     match value_of("separator", adverbs) {
@@ -151,7 +152,7 @@ fn sequence_rule(
     adverbs: &[Adverb],
 ) -> WrittenRule
     requires ready { IsReady names.now (Quantified left.now false item.now plus (adverbs_of adverbs.now)) }
-    requires few { length names.now ≤ 16777215 }
+    requires few { length names.now ≤ MOST_ENTRIES }
     ensures { rule_of result ∷ [] ≡ rules_of names.now (Quantified left.now false item.now plus (adverbs_of adverbs.now)) }
 {
     WrittenRule::Sequence(SeqRule {
@@ -172,7 +173,7 @@ fn push_statement(
     s: &Statement,
 ) -> Result<(), AllocError>
     requires ready { IsReady names.now (statement_of s.now) }
-    requires few { length names.now ≤ 16777215 }
+    requires few { length names.now ≤ MOST_ENTRIES }
     ensures { OnOk result (map rule_of out.new.items ≡ map rule_of out.old.items ++ rules_of names.now (statement_of s.now)) }
 {
     match s {
@@ -224,8 +225,8 @@ fn push_of_level(
 ) -> Result<(), AllocError>
     requires structural { is_of_level false (statement_of s.now) ≡ true → IsReady structural.now (statement_of s.now) }
     requires lexical { is_of_level true (statement_of s.now) ≡ true → IsReady lexical.now (statement_of s.now) }
-    requires few { length structural.now ≤ 16777215 }
-    requires few_lexical { length lexical.now ≤ 16777215 }
+    requires few { length structural.now ≤ MOST_ENTRIES }
+    requires few_lexical { length lexical.now ≤ MOST_ENTRIES }
     ensures structural { OnOk result (map rule_of out.new.structural.items ≡ map rule_of out.old.structural.items ++ rules_at false structural.now (statement_of s.now)) }
     ensures lexical { OnOk result (map rule_of out.new.lexical.items ≡ map rule_of out.old.lexical.items ++ rules_at true lexical.now (statement_of s.now)) }
 {
@@ -245,8 +246,8 @@ pub fn rules_of(
 ) -> Result<Rules, AllocError>
     requires structural { All (λ s. is_of_level false (statement_of s) ≡ true → IsReady structural.now (statement_of s)) statements.now }
     requires lexical { All (λ s. is_of_level true (statement_of s) ≡ true → IsReady lexical.now (statement_of s)) statements.now }
-    requires few { length structural.now ≤ 16777215 }
-    requires few_lexical { length lexical.now ≤ 16777215 }
+    requires few { length structural.now ≤ MOST_ENTRIES }
+    requires few_lexical { length lexical.now ≤ MOST_ENTRIES }
     ensures structural { IfOk result (λ r. map rule_of r.structural.items ≡ flat_map (rules_of structural.now) (filter (is_of_level false) (map statement_of statements.now))) }
     ensures lexical { IfOk result (λ r. map rule_of r.lexical.items ≡ flat_map (rules_of lexical.now) (filter (is_of_level true) (map statement_of statements.now))) }
 {

@@ -1,5 +1,6 @@
 //! The character sets of quoted texts and classes, and their numbers.
 ghost use Rattle.std.specs.Prelude.{◌≡◌, ◌≤◌, ◌+◌, ◌++◌, length, map, nat_lt, chars, IfOk, OnOk};
+ghost use Rattle.grammar_model.specs.declared.limits.TheConstants.{MOST_ENTRIES};
 ghost use Rattle.language_model.specs.Classes.{class_of, class_of_char};
 ghost use Rattle.language_model.specs.Classes as classes;
 ghost use Rattle.language_model.specs.Building.{sets_of, count_from, numbered_from};
@@ -65,7 +66,7 @@ pub fn push_sets(alloc: Global, sets: &mut Vec<CharSet>, token: &Spelled) -> Res
 
 /// Numbers one after another.
 pub fn numbers_from(alloc: Global, from: usize, count: usize) -> Result<Vec<SymbolId>, AllocError>
-    requires { from + count ≤ 16777215 }
+    requires { from + count ≤ MOST_ENTRIES }
     ensures { IfOk result (λ numbers. numbers.items ≡ count_from from count) }
 {
     let mut numbers = Vec::new(alloc);
@@ -81,7 +82,7 @@ pub fn numbered(
     first: usize,
     mut sets: Vec<CharSet>,
 ) -> Result<Vec<(SymbolId, CharSet)>, AllocError>
-    requires { first + length sets.items ≤ 16777215 }
+    requires { first + length sets.items ≤ MOST_ENTRIES }
     ensures { IfOk result (λ numbered. numbered.items ≡ numbered_from first sets.items) }
 {
     let mut numbered = Vec::new(alloc);

@@ -1,5 +1,6 @@
 //! The numbers that texts have in tables of names.
 ghost use Rattle.std.specs.Prelude.{◌≡◌, ◌≤◌, map, length, true, All, IfOk, option_to_list};
+ghost use Rattle.grammar_model.specs.declared.limits.TheConstants.{MOST_ENTRIES};
 ghost use Rattle.language_model.specs.Building.{is_one_of, place_in};
 ghost use Rattle.dsl_faults.specs.Uses.{used_of, starts_asked};
 
@@ -11,7 +12,7 @@ use std::alloc::{AllocError, Global};
 /// The number of the text, which is one of the names.
 pub fn symbol_of(names: &Names, text: &str) -> SymbolId
     requires named { is_one_of names.now text.now ≡ true }
-    requires few { length names.now ≤ 16777215 }
+    requires few { length names.now ≤ MOST_ENTRIES }
     ensures { result ≡ place_in names.now text.now }
 {
     match names.position(text) {
@@ -23,7 +24,7 @@ pub fn symbol_of(names: &Names, text: &str) -> SymbolId
 /// The numbers of texts that are all among the names.
 pub fn symbols_of(alloc: Global, names: &Names, texts: &Names) -> Result<Vec<SymbolId>, AllocError>
     requires named { All (λ t. is_one_of names.now t ≡ true) texts.now }
-    requires few { length names.now ≤ 16777215 }
+    requires few { length names.now ≤ MOST_ENTRIES }
     ensures { IfOk result (λ symbols. symbols.items ≡ map (place_in names.now) texts.now) }
 {
     let mut symbols = Vec::new(alloc);
@@ -37,7 +38,7 @@ pub fn symbols_of(alloc: Global, names: &Names, texts: &Names) -> Result<Vec<Sym
 /// The places of texts that are all among the names.
 pub fn places_of(alloc: Global, names: &Names, texts: &Names) -> Result<Vec<u32>, AllocError>
     requires named { All (λ t. is_one_of names.now t ≡ true) texts.now }
-    requires few { length names.now ≤ 16777215 }
+    requires few { length names.now ≤ MOST_ENTRIES }
     ensures { IfOk result (λ places. places.items ≡ map (place_in names.now) texts.now) }
 {
     let mut places = Vec::new(alloc);
@@ -65,7 +66,7 @@ pub fn starts_of(
     start: Option<&Spelled>,
 ) -> Result<Vec<SymbolId>, AllocError>
     requires named { All (λ t. is_one_of symbols.now t ≡ true) (map (λ t. t.now.content) (option_to_list start)) }
-    requires few { length symbols.now ≤ 16777215 }
+    requires few { length symbols.now ≤ MOST_ENTRIES }
     ensures { IfOk result (λ starts. starts.items ≡ map (place_in symbols.now) (map (λ t. t.now.content) (option_to_list start.entry))) }
 {
     let mut starts = Vec::new(alloc);

@@ -2,6 +2,7 @@
 ghost use Rattle.std.specs.Prelude.{◌≡◌, ◌≤◌, ◌<◌, ◌+◌, ◌++◌, ◌∷◌, [], map, length, All, Err, Ok, IfOk, OnOk, MatchResult, None, false, string_bytes};
 ghost use Rattle.language_model.specs.Building.{is_one_of, count_from, set_names};
 ghost use Rattle.grammar_model.specs.Grammar.{Plain, Sequence};
+ghost use Rattle.grammar_model.specs.declared.limits.TheConstants.{MOST_ENTRIES};
 ghost use Rattle.grammar_core.specs.Written.{rule_of};
 ghost use Rattle.grammar_core.specs.Refusals.{Answers};
 ghost use Rattle.grammar_core.specs.declared.refusal.CoreRefusal.TheVariants.{NoMemory};
@@ -32,7 +33,7 @@ fn granted<T: Copy>(answer: Result<T, CoreRefusal>) -> Result<T, AllocError>
 // One more symbol, whose name no other has.
 fn add_symbol(w: &mut Written, name: &str) -> Result<(), AllocError>
     requires new { is_one_of w.old.names name.now ≡ false }
-    requires room { length w.old.names < 16777215 }
+    requires room { length w.old.names < MOST_ENTRIES }
     ensures { OnOk result (w.new ≡ with_names w.old (name.now ∷ [])) }
 {
     granted(w.symbol_new(name))?;
@@ -42,7 +43,7 @@ fn add_symbol(w: &mut Written, name: &str) -> Result<(), AllocError>
 // A grammar of these symbols, with no rules.
 fn named(alloc: Global, names: &Names) -> Result<Written, AllocError>
     requires differ { AllNew [] names.now }
-    requires room { length names.now ≤ 16777215 }
+    requires room { length names.now ≤ MOST_ENTRIES }
     ensures { IfOk result (λ w. w ≡ record { names = names.now; rules = []; starts = [] }) }
 {
     let mut w = Written::new(alloc);
@@ -64,7 +65,7 @@ fn write_set_name(name: &mut String, number: usize) -> Result<(), AllocError>
 // Symbols of so many sets, named by their numbers.
 fn add_sets(alloc: Global, w: &mut Written, count: usize) -> Result<(), AllocError>
     requires differ { AllNew [] (w.old.names ++ set_names count) }
-    requires room { length w.old.names + count ≤ 16777215 }
+    requires room { length w.old.names + count ≤ MOST_ENTRIES }
     ensures { OnOk result (w.new ≡ with_names w.old (set_names count)) }
 {
     let mut name = String::new(alloc);
@@ -77,7 +78,7 @@ fn add_sets(alloc: Global, w: &mut Written, count: usize) -> Result<(), AllocErr
 
 fn add_plain(w: &mut Written, rule: Rule) -> Result<(), AllocError>
     requires good { IsGood (length w.old.names) (Plain rule) }
-    requires room { length w.old.rules < 16777215 }
+    requires room { length w.old.rules < MOST_ENTRIES }
     ensures { OnOk result (w.new ≡ with_rules w.old (Plain rule ∷ [])) }
 {
     granted(w.rule_new(rule))?;
@@ -86,7 +87,7 @@ fn add_plain(w: &mut Written, rule: Rule) -> Result<(), AllocError>
 
 fn add_sequence(w: &mut Written, rule: SeqRule) -> Result<(), AllocError>
     requires good { IsGood (length w.old.names) (Sequence rule) }
-    requires room { length w.old.rules < 16777215 }
+    requires room { length w.old.rules < MOST_ENTRIES }
     ensures { OnOk result (w.new ≡ with_rules w.old (Sequence rule ∷ [])) }
 {
     granted(w.sequence_new(rule))?;
@@ -95,7 +96,7 @@ fn add_sequence(w: &mut Written, rule: SeqRule) -> Result<(), AllocError>
 
 fn add_rule(w: &mut Written, rule: WrittenRule) -> Result<(), AllocError>
     requires good { IsGood (length w.old.names) (rule_of rule) }
-    requires room { length w.old.rules < 16777215 }
+    requires room { length w.old.rules < MOST_ENTRIES }
     ensures { OnOk result (w.new ≡ with_rules w.old (rule_of rule ∷ [])) }
 {
     match rule {
@@ -106,7 +107,7 @@ fn add_rule(w: &mut Written, rule: WrittenRule) -> Result<(), AllocError>
 
 fn add_rules(w: &mut Written, rules: Vec<WrittenRule>) -> Result<(), AllocError>
     requires good { All (IsGood (length w.old.names)) (map rule_of rules.items) }
-    requires room { length w.old.rules + length rules.items ≤ 16777215 }
+    requires room { length w.old.rules + length rules.items ≤ MOST_ENTRIES }
     ensures { OnOk result (w.new ≡ with_rules w.old (map rule_of rules.items)) }
 {
     for rule in rules {
@@ -117,7 +118,7 @@ fn add_rules(w: &mut Written, rules: Vec<WrittenRule>) -> Result<(), AllocError>
 
 fn add_start(w: &mut Written, symbol: SymbolId) -> Result<(), AllocError>
     requires known { symbol < length w.old.names }
-    requires room { length w.old.starts < 16777215 }
+    requires room { length w.old.starts < MOST_ENTRIES }
     ensures { OnOk result (w.new ≡ with_starts w.old (symbol ∷ [])) }
 {
     granted(w.start_add(symbol))
@@ -125,7 +126,7 @@ fn add_start(w: &mut Written, symbol: SymbolId) -> Result<(), AllocError>
 
 fn add_starts(w: &mut Written, starts: &[SymbolId]) -> Result<(), AllocError>
     requires known { All (λ s. s < length w.old.names) starts.now }
-    requires room { length w.old.starts + length starts.now ≤ 16777215 }
+    requires room { length w.old.starts + length starts.now ≤ MOST_ENTRIES }
     ensures { OnOk result (w.new ≡ with_starts w.old starts.now) }
 {
     for symbol in starts {

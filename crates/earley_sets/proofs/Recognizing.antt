@@ -12,13 +12,13 @@ use Rattle.recognizer_model.specs.declared.flat.FlatSymbol.TheVariants.{Terminal
 use Rattle.std.proofs.lemmas.List.Elements.{Contains-append_left, Contains-push_cases}
 use Rattle.std.proofs.lemmas.Option.{slice_get-get_or}
 use Rattle.finite_sets.proofs.Lists.{Contains-none, got_at}
-use Rattle.grammar_core.specs.Edges.{longest_edge}
 use Rattle.grammar_core.specs.declared.edges.EdgeRefusal.{EdgeRefusal}
 use Rattle.grammar_core.specs.declared.edges.EdgeRefusal.TheVariants.{Duplicate, BadLength}
 use Rattle.grammar_model.specs.Grammar.{slot_of}
 use Rattle.grammar_model.specs.Trees.{Tree, Children, NoChild, Child}
 use Rattle.grammar_model.specs.Derives as View
 use Rattle.grammar_model.specs.Acceptable.{IsAcceptable}
+use Rattle.grammar_model.specs.declared.limits.TheConstants.{LAST_PLACE, LONGEST_EDGE}
 use Rattle.recognizer_model.specs.Flat.{FlatGrammar, lhs_of, rhs_of, part_of}
 use Rattle.recognizer_model.specs.FlatDerives.{Derives, Spans, Nothing, More}
 use Rattle.recognizer_model.specs.View.{grammar_view}
@@ -94,7 +94,7 @@ module _ (g : FlatGrammar) (start : ℕ) (edges : List HeldEdge) (rows : List (L
       let (lt, (item, leo)) = memo_pairs g rows more memo pair c in
       (lt, (item, subst (λ t. IsLeo g (FlatEdges g (Held edges)) t pair.set pair.symbol item) k.top_is (to_leo g edges top kept_top k.is.forward rows (length rows) kept_sets pair.set pair.symbol item lt leo)))
 
-  pub one_more : (row : List Item) (more : List Note) → IsMemo g rows more → length rows ≤ 16777216 → IsRowOf g (length rows) row → IsListOf (InReduced g (FlatEdges g (Held edges)) top (length rows)) row →
+  pub one_more : (row : List Item) (more : List Note) → IsMemo g rows more → length rows ≤ LAST_PLACE → IsRowOf g (length rows) row → IsListOf (InReduced g (FlatEdges g (Held edges)) top (length rows)) row →
       IsKept (recognizer g start edges (rows ++ row ∷ []) more) top more
   one_more row more memo small is_row exact = record {
     is = record {
@@ -152,7 +152,7 @@ module _ (g : FlatGrammar) (start : ℕ) (edges : List HeldEdge) (old new : Item
   abbrev pub Added : Type 0
   Added = (row : List Item) × (new.sets ≡ old.sets ++ row ∷ []) × IsRowOf g (length old.sets) row × IsListOf (InReduced g (FlatEdges g (Held edges)) top (length old.sets)) row
 
-  pub add_kept : {T E : Type 0} (r : Result T E) (more : List Note) → IsMemo g old.sets more → length old.sets ≤ 16777216 → OnOk r Added → OnErr r ((new.sets ≡ old.sets) × (more ≡ notes)) → IsKept (recognizer g start edges new.sets more) top more
+  pub add_kept : {T E : Type 0} (r : Result T E) (more : List Note) → IsMemo g old.sets more → length old.sets ≤ LAST_PLACE → OnOk r Added → OnErr r ((new.sets ≡ old.sets) × (more ≡ notes)) → IsKept (recognizer g start edges new.sets more) top more
   add_kept (Ok x) more memo small (row, e, is_row, exact) err = subst (λ z. IsKept (recognizer g start edges z more) top more) (sym e) (one_more g start edges old.sets top notes k row more memo small is_row exact)
   add_kept (Err x) more memo small ok (same, before) = subst (λ z. IsKept (recognizer g start edges z more) top more) (sym same) (subst (λ z. IsKept (recognizer g start edges old.sets z) top z) (sym before) k)
 
@@ -347,7 +347,7 @@ module _ (g : FlatGrammar) (start : ℕ) (edges : List HeldEdge) (rows : List (L
     -- after a try to hold the edge
     pub edge_kept : (r : Result (Unit {0}) EdgeRefusal) (edges' : List HeldEdge) → OnOk r (edges' ≡ edges ++ record { symbol = t; from = earleme; to = earleme + n } ∷ []) → OnErr r (edges' ≡ edges) →
         ((r ≡ Err Duplicate) ↔ Contains edges (record { symbol = t; from = earleme; to = earleme + n })) →
-        ((r ≡ Err BadLength) ↔ ((¬ Contains edges (record { symbol = t; from = earleme; to = earleme + n })) × ((n ≡ 0) ⊎ (longest_edge < n)))) →
+        ((r ≡ Err BadLength) ↔ ((¬ Contains edges (record { symbol = t; from = earleme; to = earleme + n })) × ((n ≡ 0) ⊎ (LONGEST_EDGE < n)))) →
         IsKept (recognizer g start edges' rows notes) top notes
     edge_kept (Ok x) edges' ok err dup bad = subst (λ z. IsKept (recognizer g start z rows notes) top notes) (sym ok) (one_more_edge some fresh)
       where

@@ -6,6 +6,7 @@ use Rattle.grammar_model.specs.Grammar.{slot_of}
 use Rattle.grammar_model.specs.Trees.{Tree}
 use Rattle.grammar_model.specs.Derives.{Edges, Held, Derives}
 use Rattle.grammar_model.specs.Acceptable.{IsAcceptable}
+use Rattle.grammar_model.specs.declared.limits.TheConstants.{LAST_PLACE}
 use Rattle.recognizer_model.specs.declared.Item.{Item}
 use Rattle.recognizer_model.specs.Flat.{FlatGrammar, lhs_of, rhs_of}
 use Rattle.recognizer_model.specs.declared.flat.FlatSymbol.TheVariants.{Terminal}
@@ -68,7 +69,7 @@ pub record IsRecognizer (r : Recognizer) : Type 0 where
   pub flat : IsFlat r.flat
   pub start : r.start < length r.flat.tops
   pub some : 0 < length r.sets
-  pub in_range : earleme_of r ≤ 16777216
+  pub in_range : earleme_of r ≤ LAST_PLACE
   pub once : AllPairs (λ d e. d ≢ e) r.edges
   pub forward : (e : HeldEdge) → Contains r.edges e → e.from < e.to
   pub begun : (e : HeldEdge) → Contains r.edges e → e.from ≤ earleme_of r

@@ -5,6 +5,7 @@ ghost use Rattle.recognizer_model.specs.declared.Item.{Item};
 ghost use Rattle.recognizer_model.specs.declared.flat.FlatSymbol.TheVariants.{Terminal};
 ghost use Rattle.grammar_model.specs.declared.Edge.{Edge as HeldEdge};
 ghost use Rattle.grammar_model.specs.Derives.{Held};
+ghost use Rattle.grammar_model.specs.declared.limits.TheConstants.{LAST_PLACE, LONGEST_EDGE};
 ghost use Rattle.recognizer_model.specs.Flat.{IsRule};
 ghost use Rattle.recognizer_model.specs.Contexts.{IsTop};
 ghost use Rattle.recognizer_model.specs.Counts.{IsListOf};
@@ -13,7 +14,6 @@ ghost use Rattle.recognizer_model.specs.Items.{InSet, IsWhole, after};
 ghost use Rattle.recognizer_model.specs.Leo.{InReduced, IsHidden};
 ghost use Rattle.recognizer_model.specs.Links.{Link, IsLink};
 ghost use Rattle.leo_items.specs.ByRows.{IsMemo, NotesMore};
-ghost use Rattle.grammar_core.specs.Edges.{longest_edge};
 ghost use Rattle.earley_sets.specs.Kept.{HasRows, IsRowOf};
 ghost use Rattle.item_rows.specs.Heads.{AreHeads};
 ghost use Rattle.earley_sets.specs.Begun.{AreLists};
@@ -56,7 +56,7 @@ fn make_row<L: Ledger>(
     requires rows { HasRows flat.now rows.old }
     requires lists { AreLists flat.now rows.old.shared lists.old.numbers.entries }
     requires memo { IsMemo flat.now rows.old.sets memo.old }
-    requires earleme { length rows.old.sets ≤ 16777216 }
+    requires earleme { length rows.old.sets ≤ LAST_PLACE }
     requires begun { (e : HeldEdge) → Contains edges.now e → e.from < length rows.old.sets }
     requires forward { GoForward edges.now }
     ensures lists { AreLists flat.now rows.new.shared lists.new.numbers.entries }
@@ -93,7 +93,7 @@ fn add_row<L: Ledger>(
     requires rows { HasRows flat.now rows.old }
     requires lists { AreLists flat.now rows.old.shared lists.old.numbers.entries }
     requires memo { IsMemo flat.now rows.old.sets memo.old }
-    requires earleme { length rows.old.sets ≤ 16777216 }
+    requires earleme { length rows.old.sets ≤ LAST_PLACE }
     requires begun { (e : HeldEdge) → Contains edges.now e → e.from < length rows.old.sets }
     requires forward { GoForward edges.now }
     ensures lists { AreLists flat.now rows.new.shared lists.new.numbers.entries }
@@ -349,7 +349,7 @@ impl<'g> Recce<'g> {
 
     /// Makes the set of the next place. After an error the recognizer is as before. Each step is a try of another link, or notes a Leo pair.
     pub fn complete_earleme<L: Ledger>(&mut self, steps: &mut Steps<L>) -> Result<(), AllocError>
-        requires { earleme_of self.old < 16777216 }
+        requires { earleme_of self.old < LAST_PLACE }
         ensures same { (self.new.flat ≡ self.old.flat) × (self.new.start ≡ self.old.start) × (self.new.edges ≡ self.old.edges) }
         ensures ok { OnOk result ((set : List Item) × (self.new.sets ≡ self.old.sets ++ set ∷ []) ×
             IsListOf (InReduced self.old.flat (edges_of self.old) (top_of self.old) (length self.old.sets)) set) }
@@ -535,14 +535,14 @@ impl<'g> Recce<'g> {
 
     /// Takes a terminal that begins at the place and is so many places long.
     pub fn alternative(&mut self, t: SymbolId, length: u32) -> Result<(), AlternativeRefusal>
-        requires { earleme_of self.old < 16777216 }
+        requires { earleme_of self.old < LAST_PLACE }
         ensures same { (self.new.flat ≡ self.old.flat) × (self.new.start ≡ self.old.start) × (self.new.sets ≡ self.old.sets) × (self.new.noted ≡ self.old.noted) }
         ensures ok { OnOk result (self.new.edges ≡ self.old.edges ++ new_edge self.old t length ∷ []) }
         ensures err { OnErr result (self.new ≡ self.old) }
         ensures unexpected { (result ≡ Err Unexpected) ↔ (¬ IsExpected self.old t) }
         ensures duplicate { (result ≡ Err Duplicate) ↔ (IsExpected self.old t × Contains self.old.edges (new_edge self.old t length)) }
         ensures bad_length { (result ≡ Err BadLength) ↔
-            (IsExpected self.old t × (¬ Contains self.old.edges (new_edge self.old t length)) × ((length ≡ 0) ⊎ (longest_edge < length))) }
+            (IsExpected self.old t × (¬ Contains self.old.edges (new_edge self.old t length)) × ((length ≡ 0) ⊎ (LONGEST_EDGE < length))) }
     {
         let earleme = self.place();
         if !self.is_expected(t) {

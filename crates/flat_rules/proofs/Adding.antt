@@ -13,11 +13,11 @@ use Rattle.recognizer_model.specs.Flat.{FlatRule}
 use Rattle.flat_rules.specs.declared.refusal.FlatRefusal.{FlatRefusal}
 use Rattle.flat_rules.specs.declared.refusal.FlatRefusal.TheVariants.{TooManyRules, NoMemory}
 use Rattle.grammar_model.specs.Grammar.{WrittenRule}
+use Rattle.grammar_model.specs.declared.limits.TheConstants.{MOST_FLAT_RULES}
 use Rattle.recognizer_model.specs.declared.flat.FlatSymbol.TheVariants.{Sequence, Top}
 use Rattle.recognizer_model.proofs.FlatNamed.{map_at}
 use Rattle.flat_rules.specs.Tables.{Numbering, number_in}
 use Rattle.flat_rules.specs.Added.{Adds, AreAll, rule_by, part_in, longer_by, has_separator_rule}
-use Rattle.flat_model.specs.Flattened.{most_rules}
 use Rattle.flat_rules.proofs.FlatOf.{numbers_length, numbers_at}
 use Rattle.flat_rules.proofs.Rows.{numbers_next}
 
@@ -116,11 +116,11 @@ all_err T start new a b all e (Err z) none is given h = go e z given h
         omega (arith, many, long, empty)
     go e NoMemory same h = tt
 
-pub all_ok : {T : Type 0} (start new a all : List FlatRule) (x : T) → start ≡ [] → all ≡ a → Adds start new a (Ok x) → (new ≡ all) × (length all ≤ most_rules)
+pub all_ok : {T : Type 0} (start new a all : List FlatRule) (x : T) → start ≡ [] → all ≡ a → Adds start new a (Ok x) → (new ≡ all) × (length all ≤ MOST_FLAT_RULES)
 all_ok start new a all x none is h =
     let same : new ≡ all = h.0 ∙ ap (λ l. l ++ a) none ∙ sym is in
     let empty = ap length none in
-    (same, subst (λ l. length l ≤ most_rules) same (h.1 (omega (arith, empty))))
+    (same, subst (λ l. length l ≤ MOST_FLAT_RULES) same (h.1 (omega (arith, empty))))
 
 pub at_slot : {A B : Type 0} (g : A → B) (xs : List A) (k : ℕ) (x : A) → slice_get xs k ≡ Some x → (k < length (map g xs)) × (g x ≡ get_or (map g xs) k (g x))
 at_slot g xs k x e =

@@ -17,7 +17,6 @@ use Rattle.flat_model.specs.Flatten
 use Rattle.flat_model.specs.Flatten.{Decided, levels_of}
 use Rattle.flat_rules.specs.Tables.{Numbering, number_in, numbered_in, place_of, slot_at, same_slot, slots_of_terminals, slots_of_lefts, lists_to, AreNumbers}
 use Rattle.flat_rules.specs.Added.{from_symbols, AreAll}
-use Rattle.flat_model.specs.Flattened.{most_rules}
 use Rattle.flat_model.specs.Flattened.{HasTooMany}
 use Rattle.flat_rules.specs.declared.refusal.FlatRefusal.{FlatRefusal}
 use Rattle.flat_rules.specs.declared.refusal.FlatRefusal.TheVariants.{TooManyRules}
@@ -27,6 +26,7 @@ use Rattle.std.proofs.lemmas.Option.{slice_get-get_or}
 use Rattle.std.proofs.lemmas.Simd.{map-map}
 use Rattle.finite_sets.proofs.Members.{among_filter, among_left, among_right, among_map, among_flat_map, Among}
 use Rattle.finite_sets.proofs.Lists.{get_map, get_left, get_last, get_right}
+use Rattle.grammar_model.specs.declared.limits.TheConstants.{MOST_FLAT_RULES}
 use Rattle.grammar_core.specs.Written.{IsWritten, IsLevelled}
 use Rattle.flat_rules.proofs.Symbols.{terminal_no}
 use Rattle.flat_rules.proofs.Rules.{named_in}
@@ -224,17 +224,17 @@ module _ (w : Grammar) (d : Decided w) where
 -- ---- refusals
 
 pub err_many : {T : Type 0} (w : Grammar) (r : Result T FlatRefusal) (e : FlatRefusal) → IsErrAnd r (λ z. z ≡ e) → ((d : Decided w) → AreAll (Flatten.flat_of w d).rules (Err e)) →
-    IfErr r (λ x. x ≡ TooManyRules → (d : Decided w) → most_rules < length (Flatten.flat_of w d).rules)
+    IfErr r (λ x. x ≡ TooManyRules → (d : Decided w) → MOST_FLAT_RULES < length (Flatten.flat_of w d).rules)
 err_many w (Ok x) e given h = tt
 err_many w (Err z) e given h = λ same d. subst (λ x. AreAll (Flatten.flat_of w d).rules (Err x)) (sym given ∙ same) (h d)
 
-pub err_too_many : {T : Type 0} (w : Grammar) (d : Decided w) (r : Result T FlatRefusal) (e : FlatRefusal) → IsErrAnd r (λ z. z ≡ e) → (e ≡ TooManyRules → (d : Decided w) → most_rules < length (Flatten.flat_of w d).rules) → IfErr r (λ x. x ≡ TooManyRules → HasTooMany w)
+pub err_too_many : {T : Type 0} (w : Grammar) (d : Decided w) (r : Result T FlatRefusal) (e : FlatRefusal) → IsErrAnd r (λ z. z ≡ e) → (e ≡ TooManyRules → (d : Decided w) → MOST_FLAT_RULES < length (Flatten.flat_of w d).rules) → IfErr r (λ x. x ≡ TooManyRules → HasTooMany w)
 err_too_many w d (Ok x) e given h = tt
 err_too_many w d (Err z) e given h = λ same. record { decided = d; many = h (sym given ∙ same) }
 
 -- ---- few enough to be numbered
 
-pub few_enough : (w : Grammar) (d : Decided w) → IsWritten w → length (Flatten.flat_of w d).symbols < 2 ^ 32 → length (Flatten.flat_of w d).rules ≤ most_rules → Flatten.AreFew w (Flatten.flat_of w d)
+pub few_enough : (w : Grammar) (d : Decided w) → IsWritten w → length (Flatten.flat_of w d).symbols < 2 ^ 32 → length (Flatten.flat_of w d).rules ≤ MOST_FLAT_RULES → Flatten.AreFew w (Flatten.flat_of w d)
 few_enough w d written symbols rules = record {
   symbols = symbols;
   rules = omega (arith, rules);

@@ -8,24 +8,24 @@ use Rattle.recognizer_model.specs.declared.flat.FlatSource.TheVariants.{Written,
 use Rattle.flat_rules.specs.declared.refusal.FlatRefusal.{FlatRefusal}
 use Rattle.flat_rules.specs.declared.refusal.FlatRefusal.TheVariants.{TooManyRules, NoMemory}
 use Rattle.flat_model.specs.Flatten.{Decided, slot_rules, rules_of}
-use Rattle.flat_model.specs.Flattened.{most_rules}
 use Rattle.recognizer_model.specs.declared.flat.FlatSymbol.{FlatSymbol}
 use Rattle.std.specs.List.{flat_map}
 use Rattle.std.specs.declared.vec.Vec.{Vec}
 use Rattle.std.specs.declared.alloc.Global.{Global}
+use Rattle.grammar_model.specs.declared.limits.TheConstants.{MOST_FLAT_RULES}
 use Rattle.flat_rules.specs.Tables.{Numbering, number_in, numbered_in, place_of}
 use Rattle.recognizer_model.specs.declared.flat.FlatSymbol.TheVariants.{Sequence, Top}
 
 -- these were added, or there would be too many, want of memory aside
 abbrev pub Adds : {T : Type 0} → List FlatRule → List FlatRule → List FlatRule → Result T FlatRefusal → Type 0
-Adds old new more (Ok x) = (new ≡ old ++ more) × (length old ≤ most_rules → length new ≤ most_rules)
-Adds old new more (Err TooManyRules) = most_rules < length old + length more
+Adds old new more (Ok x) = (new ≡ old ++ more) × (length old ≤ MOST_FLAT_RULES → length new ≤ MOST_FLAT_RULES)
+Adds old new more (Err TooManyRules) = MOST_FLAT_RULES < length old + length more
 Adds old new more (Err NoMemory) = Unit {0}
 
 -- these are all, or they are too many, want of memory aside
 abbrev pub AreAll : List FlatRule → Result (Vec FlatRule Global) FlatRefusal → Type 0
-AreAll all (Ok rules) = (rules.items ≡ all) × (length all ≤ most_rules)
-AreAll all (Err TooManyRules) = most_rules < length all
+AreAll all (Ok rules) = (rules.items ≡ all) × (length all ≤ MOST_FLAT_RULES)
+AreAll all (Err TooManyRules) = MOST_FLAT_RULES < length all
 AreAll all (Err NoMemory) = Unit {0}
 
 abbrev pub rule_by : ℕ → ℕ → List ℕ → FlatRule

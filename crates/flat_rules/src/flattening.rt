@@ -2,13 +2,13 @@
 ghost use Rattle.std.specs.Prelude.{◌≡◌, ℕ, ◌+◌, ◌-◌, ◌<◌, ◌≤◌, ◌^◌, ◌++◌, ◌∷◌, [], false, length, map, slice_index, Contains, IfOk, IfErr, OnOk};
 ghost use Rattle.grammar_model.specs.Grammar.{Plain, rule_at, lhs_of, slot_of};
 ghost use Rattle.grammar_model.specs.Simple.{numbers};
+ghost use Rattle.grammar_model.specs.declared.limits.TheConstants.{MOST_FLAT_RULES};
 ghost use Rattle.recognizer_model.specs.declared.flat.FlatSymbol.TheVariants.{Terminal, Slot, Sequence, Top};
 ghost use Rattle.flat_rules.specs.declared.refusal.FlatRefusal.TheVariants.{TooManyRules};
 ghost use Rattle.flat_model.specs.Flatten.{Decided, symbol_for, is_marked, flat_of, symbols as symbols_of};
 ghost use Rattle.flat_rules.specs.Tables.{rows_of, row_at, AreLefts, AreLive, AreNumbers, told_slot};
 ghost use Rattle.flat_model.specs.Flattened.{IsFlattened, HasTooMany};
 ghost use Rattle.flat_rules.specs.Added.{Adds, AreAll, from_rules, from_symbols, top_by};
-ghost use Rattle.flat_model.specs.Flattened.{most_rules};
 
 use crate::FlatRefusal;
 use crate::lefts::{live_rules, rules_by_left};
@@ -268,9 +268,9 @@ fn parts_by(
     requires live { AreLive c.now live.now }
     requires numbers { AreNumbers c.now numbers.now }
     ensures flat { IfOk result (λ parts. (d : Decided c.now) → parts ≡ flat_of c.now d) }
-    ensures few { IfOk result (λ parts. length parts.rules ≤ most_rules) }
+    ensures few { IfOk result (λ parts. length parts.rules ≤ MOST_FLAT_RULES) }
     ensures small { IfOk result (λ parts. length parts.symbols < 2 ^ 32) }
-    ensures many { IfErr result (λ e. e ≡ TooManyRules → (d : Decided c.now) → most_rules < length (flat_of c.now d).rules) }
+    ensures many { IfErr result (λ e. e ≡ TooManyRules → (d : Decided c.now) → MOST_FLAT_RULES < length (flat_of c.now d).rules) }
 {
     c.tested();
     c.known();
@@ -290,9 +290,9 @@ fn parts_by(
 // The parts of the flat grammar.
 fn parts_of(alloc: Global, c: &Checked<'_>) -> Result<FlatParts, FlatRefusal>
     ensures flat { IfOk result (λ parts. (d : Decided c.now) → parts ≡ flat_of c.now d) }
-    ensures few { IfOk result (λ parts. length parts.rules ≤ most_rules) }
+    ensures few { IfOk result (λ parts. length parts.rules ≤ MOST_FLAT_RULES) }
     ensures small { IfOk result (λ parts. length parts.symbols < 2 ^ 32) }
-    ensures many { IfErr result (λ e. e ≡ TooManyRules → (d : Decided c.now) → most_rules < length (flat_of c.now d).rules) }
+    ensures many { IfErr result (λ e. e ≡ TooManyRules → (d : Decided c.now) → MOST_FLAT_RULES < length (flat_of c.now d).rules) }
 {
     let rows = rules_by_left(alloc, c.written())?;
     let live = live_rules(alloc, c)?;

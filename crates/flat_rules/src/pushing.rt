@@ -15,16 +15,15 @@ use crate::lefts::is_child_productive;
 use crate::numbering::{SlotKey, Symbols};
 use grammar_check::{Checked, child_at};
 use grammar_core::{RuleId, Written, WrittenRule};
+use grammar_model::MOST_FLAT_RULES;
 use recognizer_model::{FlatRule, FlatSource};
 use std::alloc::{AllocError, Global};
-
-const MOST_RULES: usize = 65_536;
 
 /// One more flat rule, if there is room.
 pub fn push_rule(rules: &mut Vec<FlatRule>, rule: FlatRule) -> Result<(), FlatRefusal>
     ensures { Adds rules.old.items rules.new.items (rule ∷ []) result }
 {
-    if rules.len() >= MOST_RULES {
+    if rules.len() >= MOST_FLAT_RULES {
         return Err(FlatRefusal::TooManyRules);
     }
     match rules.push(rule) {

@@ -12,6 +12,7 @@ use Rattle.std.proofs.Math.ListN.{get_or-append}
 use Rattle.std.proofs.Math.Seq.{get_or-append_seam}
 use Rattle.finite_sets.proofs.Lists.{get_pushed}
 use Rattle.grammar_model.specs.Grammar.{WrittenRule, Grammar, rule_at, no_rule}
+use Rattle.grammar_model.specs.declared.limits.TheConstants.{MOST_ENTRIES}
 use Rattle.grammar_core.specs.Written.{IsWritten, IsLevelled, symbols_of, with_rule, with_start}
 
 -- a test of the elements' images
@@ -78,7 +79,7 @@ differ_more names new free differ i j name a b = go (get_pushed names new i name
     go (inr x) (inl y) = absurd (not_held new names j free (y ∙ ap Some (sym x.1)))
     go (inr x) (inr y) = x.0 ∙ sym y.0
 
-pub with_new_name : (g : Grammar) (name : List ℕ) → IsWritten g → list_any (bytes_eq name) g.names ≡ false → length g.names < 16777215 →
+pub with_new_name : (g : Grammar) (name : List ℕ) → IsWritten g → list_any (bytes_eq name) g.names ≡ false → length g.names < MOST_ENTRIES →
     IsWritten (record { names = g.names ++ name ∷ []; rules = g.rules; starts = g.starts })
 with_new_name g name w free room =
     let long = length-append g.names (name ∷ []) in
@@ -94,7 +95,7 @@ with_new_name g name w free room =
 abbrev Known : Grammar → WrittenRule → Type 0
 Known g r = All (λ s. s < length g.names) (symbols_of r) × IsLevelled r
 
-pub with_new_rule : (g : Grammar) (rule : WrittenRule) → IsWritten g → All (λ s. s < length g.names) (symbols_of rule) → IsLevelled rule → length g.rules < 16777215 → IsWritten (with_rule g rule)
+pub with_new_rule : (g : Grammar) (rule : WrittenRule) → IsWritten g → All (λ s. s < length g.names) (symbols_of rule) → IsLevelled rule → length g.rules < MOST_ENTRIES → IsWritten (with_rule g rule)
 with_new_rule g rule w known levelled room =
     let long = length-append g.rules (rule ∷ []) in
     record {
@@ -117,7 +118,7 @@ all_one : (P : ℕ → Type 0) (x : ℕ) → P x → All P (x ∷ [])
 all_one P x p zero d h = p
 all_one P x p (suc k) d h = absurd (omega arith)
 
-pub with_new_start : (g : Grammar) (symbol : ℕ) → IsWritten g → symbol < length g.names → length g.starts < 16777215 → IsWritten (with_start g symbol)
+pub with_new_start : (g : Grammar) (symbol : ℕ) → IsWritten g → symbol < length g.names → length g.starts < MOST_ENTRIES → IsWritten (with_start g symbol)
 with_new_start g symbol w known room =
     let long = length-append g.starts (symbol ∷ []) in
     record {

@@ -4,8 +4,9 @@ use Rattle.std.specs.Prelude.{nat_eq, nat_lt, if◌then◌else◌, IsTrue}
 use Rattle.std.proofs.lemmas.Bool.{cases_eq, eqb-true, eq-eqb, ltb-true, ltb-false, true≢false}
 use Rattle.std.proofs.lemmas.List.Elements.{Contains-append_left, Contains-push, Contains-push_cases}
 use Rattle.grammar_model.specs.declared.Edge.{Edge as HeldEdge}
+use Rattle.grammar_model.specs.declared.limits.TheConstants.{LAST_PLACE, LONGEST_EDGE}
 use Rattle.grammar_core.specs.declared.edges.Edge.{Edge}
-use Rattle.grammar_core.specs.Edges.{all_placed, longest_edge, ArePlaced, AreLongOf, AreLatest, GoFrom}
+use Rattle.grammar_core.specs.Edges.{all_placed, ArePlaced, AreLongOf, AreLatest, GoFrom}
 use Rattle.grammar_core.proofs.Placed.{placed_more, are_more_as, long_more, long_same}
 
 abbrev pub edge_from : (symbol at length : ℕ) → HeldEdge
@@ -120,7 +121,7 @@ module _ (places : List ℕ) (edges : List Edge) (long held : List HeldEdge) (la
       go false e = long_same held long long_of (edge_from t at n) (let le = ltb-false 1 n e in omega arith)
 
   pub one_more : (longer : List HeldEdge) (newer : ℕ → ℕ → Option ℕ) → longer ≡ (if nat_lt 1 n then long ++ edge_from t at n ∷ [] else long) → newer t n ≡ Some at →
-      ((a b : ℕ) → b < 4294967296 → (a ≢ t) ⊎ (b ≢ n) → newer a b ≡ latest a b) → GoFrom held at → at ≤ 16777216 → 0 < n → n ≤ longest_edge → (Contains held (edge_from t at n) → ⊥) →
+      ((a b : ℕ) → b < 4294967296 → (a ≢ t) ⊎ (b ≢ n) → newer a b ≡ latest a b) → GoFrom held at → at ≤ LAST_PLACE → 0 < n → n ≤ LONGEST_EDGE → (Contains held (edge_from t at n) → ⊥) →
       ArePlaced ps es longer × AreLatest (all_placed ps es) newer
   one_more longer newer is here others from low some up new = (
     are_more_as places edges long are.0 at (record { symbol = t; length = n }) longer held ps es view more_places more_edges from low some up new

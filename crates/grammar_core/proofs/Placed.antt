@@ -9,8 +9,9 @@ use Rattle.std.proofs.lemmas.List.Quantifiers.{all_pairs_push}
 use Rattle.std.proofs.lemmas.Option.{slice_get-get_or}
 use Rattle.finite_sets.proofs.Lists.{get_index}
 use Rattle.grammar_model.specs.declared.Edge.{Edge as HeldEdge}
+use Rattle.grammar_model.specs.declared.limits.TheConstants.{LAST_PLACE, LONGEST_EDGE}
 use Rattle.grammar_core.specs.declared.edges.Edge.{Edge}
-use Rattle.grammar_core.specs.Edges.{placed, all_placed, longest_edge, AreOrdered, AreLongOf, ArePlaced, GoFrom}
+use Rattle.grammar_core.specs.Edges.{placed, all_placed, AreOrdered, AreLongOf, ArePlaced, GoFrom}
 
 module _ {A : Type 0} (xs : List A) where
   pub found_at : (x : A) → Contains xs x → (k : ℕ) × (slice_get xs k ≡ Some x)
@@ -186,7 +187,7 @@ module _ (places : List ℕ) (edges : List Edge) (long : List HeldEdge) (are : A
           is ∙ ap (placed at) (sym (get_or-take (end - start) (drop start edges) k d lt' ∙ get_or-drop start edges k d))
 
   -- each goes forward, and not too far
-  pub placed_bounds : (h : HeldEdge) → Contains (all_placed places edges) h → (h.from < h.to) × (h.to ≤ h.from + longest_edge)
+  pub placed_bounds : (h : HeldEdge) → Contains (all_placed places edges) h → (h.from < h.to) × (h.to ≤ h.from + LONGEST_EDGE)
   placed_bounds h c =
       let (k, is) = found_at (all_placed places edges) h c in
       let r = at_placed places edges k h is in
@@ -223,14 +224,14 @@ module _ (places : List ℕ) (edges : List Edge) (long : List HeldEdge) (are : A
       all (placed p (get_or edges k d)) (at_found (all_placed places edges) k (placed p (get_or edges k d)) (placed_at places edges k p (get_or edges k d) is (slice_get-get_or edges k d lt')))
 
   -- one more
-  pub are_more : (at : ℕ) (e : Edge) (longer : List HeldEdge) → GoFrom (all_placed places edges) at → at ≤ 16777216 → 0 < e.length → e.length ≤ longest_edge → (¬ Contains (all_placed places edges) (placed at e)) →
+  pub are_more : (at : ℕ) (e : Edge) (longer : List HeldEdge) → GoFrom (all_placed places edges) at → at ≤ LAST_PLACE → 0 < e.length → e.length ≤ LONGEST_EDGE → (¬ Contains (all_placed places edges) (placed at e)) →
       AreLongOf (all_placed places edges ++ placed at e ∷ []) longer → ArePlaced (places ++ at ∷ []) (edges ++ e ∷ []) longer
   are_more at e longer from here some up new is_long = record {
     same = let a = length-append places (at ∷ []) in let b = length-append edges (e ∷ []) in let s = are.same in omega arith;
     order = ordered_more places are.order at (placed_from at from);
-    in_range = λ p h. ⊎_elim (are.in_range p) (λ s. subst (λ z. z ≤ 16777216) s here) (Contains-push_cases places at p h);
+    in_range = λ p h. ⊎_elim (are.in_range p) (λ s. subst (λ z. z ≤ LAST_PLACE) s here) (Contains-push_cases places at p h);
     some = λ x h. ⊎_elim (are.some x) (λ s. subst (λ (z : Edge). 0 < z.length) s some) (Contains-push_cases edges e x h);
-    short = λ x h. ⊎_elim (are.short x) (λ s. subst (λ (z : Edge). z.length ≤ longest_edge) s up) (Contains-push_cases edges e x h);
+    short = λ x h. ⊎_elim (are.short x) (λ s. subst (λ (z : Edge). z.length ≤ LONGEST_EDGE) s up) (Contains-push_cases edges e x h);
     once = subst (AllPairs (λ a b. a ≢ b)) (sym more) (all_pairs_push (λ a b. a ≢ b) (all_placed places edges) (placed at e) are.once
         (λ k d lt same. new (k, lt, get_or_default (all_placed places edges) k (placed at e) d lt ∙ same)));
     long = subst (λ l. AreLongOf l longer) (sym more) is_long;
@@ -240,7 +241,7 @@ module _ (places : List ℕ) (edges : List Edge) (long : List HeldEdge) (are : A
       more = placed_more places edges at e are.same
 
   pub are_more_as : (at : ℕ) (e : Edge) (longer held : List HeldEdge) (ps : List ℕ) (es : List Edge) → all_placed places edges ≡ held → ps ≡ places ++ at ∷ [] → es ≡ edges ++ e ∷ [] →
-      GoFrom held at → at ≤ 16777216 → 0 < e.length → e.length ≤ longest_edge → (¬ Contains held (placed at e)) → AreLongOf (held ++ placed at e ∷ []) longer → ArePlaced ps es longer
+      GoFrom held at → at ≤ LAST_PLACE → 0 < e.length → e.length ≤ LONGEST_EDGE → (¬ Contains held (placed at e)) → AreLongOf (held ++ placed at e ∷ []) longer → ArePlaced ps es longer
   are_more_as at e longer held ps es is p q from here some up new is_long =
       subst (λ l. ArePlaced l es longer) (sym p) (subst (λ l. ArePlaced (places ++ at ∷ []) l longer) (sym q)
       (are_more at e longer (subst (λ h. GoFrom h at) (sym is) from) here some up (subst (λ h. ¬ Contains h (placed at e)) (sym is) new) (subst (λ h. AreLongOf (h ++ placed at e ∷ []) longer) (sym is) is_long)))

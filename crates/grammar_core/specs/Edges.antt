@@ -1,7 +1,7 @@
 -- Token edges, held by the places where they begin.
 use Rattle.std.specs.Prelude.{◌≡◌, ◌≢◌, ℕ, ◌+◌, ◌-◌, ◌<◌, ◌≤◌, ◌↔◌, List, [], ◌∷◌, length, Option, Some, AllPairs, Contains, slice_index}
 use Rattle.grammar_model.specs.declared.Edge.{Edge as HeldEdge}
-pub use Rattle.grammar_model.specs.Limits.{longest_edge}
+use Rattle.grammar_model.specs.declared.limits.TheConstants.{LAST_PLACE, LONGEST_EDGE}
 use Rattle.grammar_core.specs.declared.edges.Edge.{Edge}
 
 -- the edge that begins at a place
@@ -37,8 +37,8 @@ AreLatest edges latest = (symbol length at : ℕ) → length < 4294967296 → Go
 pub record ArePlaced (places : List ℕ) (edges : List Edge) (longer : List HeldEdge) : Type 0 where
   pub same : length places ≡ length edges
   pub order : AreOrdered places
-  pub in_range : (p : ℕ) → Contains places p → p ≤ 16777216
+  pub in_range : (p : ℕ) → Contains places p → p ≤ LAST_PLACE
   pub some : (e : Edge) → Contains edges e → 0 < e.length
-  pub short : (e : Edge) → Contains edges e → e.length ≤ longest_edge
+  pub short : (e : Edge) → Contains edges e → e.length ≤ LONGEST_EDGE
   pub once : AllPairs (λ a b. a ≢ b) (all_placed places edges)
   pub long : AreLongOf (all_placed places edges) longer

@@ -1,19 +1,17 @@
 //! Token edges: which terminals span which places.
 ghost use Rattle.std.specs.Prelude.{◌≡◌, ◌≢◌, ℕ, ◌+◌, ◌<◌, ◌≤◌, ◌↔◌, ◌⊎◌, ◌++◌, ◌∷◌, [], length, AllPairs, Contains, IsTrue, Err, OnOk, OnErr, slice_index, take, drop, ◌-◌, nat_lt, if◌then◌else◌};
 ghost use Rattle.grammar_model.specs.declared.Edge.{Edge as HeldEdge};
-ghost use Rattle.grammar_core.specs.Edges.{placed, longest_edge, GoFrom, AreOrdered, IsShortTo};
+ghost use Rattle.grammar_model.specs.declared.limits.TheConstants.{LAST_PLACE, LONGEST_EDGE};
+ghost use Rattle.grammar_core.specs.Edges.{placed, GoFrom, AreOrdered, IsShortTo};
 ghost use Rattle.grammar_core.specs.declared.edges.EdgeRefusal.TheVariants.{Duplicate, BadLength, NoMemory};
 
 use crate::SymbolId;
 use crate::latest::LatestPlaces;
 use crate::long::LongEdges;
-use grammar_model::Edge as HeldEdge;
+use grammar_model::{Edge as HeldEdge, LONGEST_EDGE};
 use std::alloc::{AllocError, AllocFailed, Global};
 use std::marker::Model;
 use thiserror::Error;
-
-/// The greatest length that an edge may have.
-pub const LONGEST_EDGE: u32 = 1_048_576;
 
 /// A terminal and how many places it spans.
 #[derive(Clone, Copy, Debug, PartialEq, Eq)]
@@ -97,7 +95,7 @@ impl TokenEdges {
     pub fn known(&self)
         ensures once { AllPairs (λ a b. a ≢ b) self.now }
         ensures order { AllPairs (λ a b. a.from ≤ b.from) self.now }
-        ensures lengths { (e : HeldEdge) → Contains self.now e → (e.from < e.to) × (e.to ≤ e.from + longest_edge) }
+        ensures lengths { (e : HeldEdge) → Contains self.now e → (e.from < e.to) × (e.to ≤ e.from + LONGEST_EDGE) }
     {
         let _count = self.edges.len();
     }
@@ -143,9 +141,9 @@ impl TokenEdges {
     // One more edge, behind the others.
     fn add(&mut self, at: u32, t: SymbolId, length: u32) -> Result<(), EdgeRefusal>
         requires order { GoFrom self.old at }
-        requires place { at ≤ 16777216 }
+        requires place { at ≤ LAST_PLACE }
         requires some { 0 < length }
-        requires short { length ≤ longest_edge }
+        requires short { length ≤ LONGEST_EDGE }
         requires new { ¬ Contains self.old (record { symbol = t; from = at; to = at + length }) }
         ensures ok { OnOk result (self.new ≡ self.old ++ record { symbol = t; from = at; to = at + length } ∷ []) }
         ensures err { OnErr result (self.new ≡ self.old) }
@@ -167,12 +165,12 @@ impl TokenEdges {
     /// Takes an edge. No edge may begin before an earlier one, or behind place 16,777,216.
     pub fn push(&mut self, at: u32, t: SymbolId, length: u32) -> Result<(), EdgeRefusal>
         requires order { GoFrom self.old at }
-        requires place { at ≤ 16777216 }
+        requires place { at ≤ LAST_PLACE }
         ensures ok { OnOk result (self.new ≡ self.old ++ record { symbol = t; from = at; to = at + length } ∷ []) }
         ensures err { OnErr result (self.new ≡ self.old) }
         ensures duplicate { (result ≡ Err Duplicate) ↔ Contains self.old (record { symbol = t; from = at; to = at + length }) }
         ensures bad_length { (result ≡ Err BadLength) ↔
-            ((¬ Contains self.old (record { symbol = t; from = at; to = at + length })) × ((length ≡ 0) ⊎ (longest_edge < length))) }
+            ((¬ Contains self.old (record { symbol = t; from = at; to = at + length })) × ((length ≡ 0) ⊎ (LONGEST_EDGE < length))) }
     {
         if self.holds(at, t, length) {
             return Err(EdgeRefusal::Duplicate);

@@ -1,5 +1,6 @@
 //! The last place where an edge with a symbol and a length begins.
 ghost use Rattle.std.specs.Prelude.{◌≡◌, ◌≢◌, ℕ, ◌+◌, ◌<◌, ◌≤◌, ◌⊎◌, false, Option, None, Some, length, nat_eq, slice_index_or, OnOk};
+ghost use Rattle.grammar_model.specs.declared.limits.TheConstants.{LAST_PLACE};
 ghost use Rattle.indexmap.specs.IndexMap.{get, spare};
 ghost use Rattle.grammar_core.specs.Latest.{edge_key, HasRoom, is_listed, latest_at, place_of};
 
@@ -64,7 +65,7 @@ impl LatestPlaces {
     /// Notes the place of that symbol and length, for which there is room.
     pub fn put(&mut self, t: SymbolId, length: u32, at: u32)
         requires room { HasRoom self.old t length }
-        requires place { at ≤ 16777216 }
+        requires place { at ≤ LAST_PLACE }
         ensures here { latest_at self.new t length ≡ Some at }
         ensures others { (s m : ℕ) → m < 4294967296 → (s ≢ t) ⊎ (m ≢ length) → latest_at self.new s m ≡ latest_at self.old s m }
     {
@@ -79,7 +80,7 @@ impl LatestPlaces {
 // Notes a place in the list.
 fn put_one(ones: &mut [u32], t: SymbolId, at: u32)
     requires room { t < length ones.old }
-    requires place { at ≤ 16777216 }
+    requires place { at ≤ LAST_PLACE }
     ensures here { slice_index_or ones.new t 0 ≡ at + 1 }
     ensures others { (s : ℕ) → s ≢ t → slice_index_or ones.new s 0 ≡ slice_index_or ones.old s 0 }
 {

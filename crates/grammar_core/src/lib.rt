@@ -10,7 +10,7 @@ mod rule;
 mod steps;
 mod written;
 
-pub use edges::{Edge, EdgeRefusal, LONGEST_EDGE, TokenEdges};
+pub use edges::{Edge, EdgeRefusal, TokenEdges};
 pub use flat::{Flat, FlatParts};
 pub use grammar_model::{Assoc, RuleId, SymbolId};
 pub use recognizer_model::{FlatRule, FlatSource, FlatSymbol, Item};

@@ -2,15 +2,15 @@
 ghost use Rattle.std.specs.Prelude.{◌≡◌, ℕ, ◌<◌, ◌≤◌, [], ◌∷◌, ◌++◌, All, Some, None, length, nat_lt, false, IsTrue, IsOk, IfOk, IfSome, OnErr, is_some, option_to_list, slice_get};
 ghost use Rattle.std.specs.List.{list_all};
 ghost use Rattle.grammar_model.specs.Grammar.{Plain, Sequence, rule_at, lhs_of};
+ghost use Rattle.grammar_model.specs.declared.limits.TheConstants.{MOST_ENTRIES};
 ghost use Rattle.grammar_core.specs.Written.{IsWritten, IsLevelled, symbols_of, rule_of, has_name, number_of, with_name, with_rule, with_start};
 ghost use Rattle.grammar_core.specs.Refusals.{Answers, name_refusal, rule_refusal, start_refusal};
 
 use crate::{CoreRefusal, Rule, RuleId, SeqRule, SymbolId, WrittenRule};
+use grammar_model::MOST_ENTRIES;
 use indexmap::IndexSet;
 use std::alloc::{AllocError, Global};
 use std::marker::Model;
-
-const MOST: usize = 16_777_215;
 
 const MOST_PARTS: usize = 1_000;
 
@@ -93,7 +93,7 @@ impl Written {
     // A new symbol, whose name has to be another than those held.
     fn add_name(&mut self, name: &str) -> Result<SymbolId, AllocError>
         requires new { has_name self.old name.now ≡ false }
-        requires room { length self.old.names < 16777215 }
+        requires room { length self.old.names < MOST_ENTRIES }
         ensures number { IfOk result (λ s. s ≡ number_of self.old name.now) }
         ensures named { IfOk result (λ s. slice_get self.new.names s ≡ Some name.now) }
         ensures ok { IfOk result (λ _. self.new ≡ with_name self.old name.now) }
@@ -118,7 +118,7 @@ impl Written {
         if let Some(symbol) = self.symbol_named(name) {
             return Ok(symbol);
         }
-        if self.names.len() >= MOST {
+        if self.names.len() >= MOST_ENTRIES {
             return Err(CoreRefusal::TooMany);
         }
         match self.add_name(name) {
@@ -131,7 +131,7 @@ impl Written {
     fn add_rule(&mut self, rule: WrittenRule) -> Result<RuleId, AllocError>
         requires known { All (λ s. s < length self.old.names) (symbols_of (rule_of rule)) }
         requires levelled { IsLevelled (rule_of rule) }
-        requires room { length self.old.rules < 16777215 }
+        requires room { length self.old.rules < MOST_ENTRIES }
         ensures number { IfOk result (λ r. r ≡ length self.old.rules) }
         ensures ok { IfOk result (λ _. self.new ≡ with_rule self.old (rule_of rule)) }
         ensures err { OnErr result (self.new ≡ self.old) }
@@ -155,7 +155,7 @@ impl Written {
         if rule.level >= rule.groups {
             return Err(CoreRefusal::BadLevel);
         }
-        if rule.rhs.len() > MOST_PARTS || self.rules.len() >= MOST {
+        if rule.rhs.len() > MOST_PARTS || self.rules.len() >= MOST_ENTRIES {
             return Err(CoreRefusal::TooMany);
         }
         Ok(self.add_rule(WrittenRule::Plain(rule))?)
@@ -175,7 +175,7 @@ impl Written {
         if !knows(lhs, symbols) || !knows(item, symbols) || !knows_any(separator, symbols) {
             return Err(CoreRefusal::BadSymbol);
         }
-        if self.rules.len() >= MOST {
+        if self.rules.len() >= MOST_ENTRIES {
             return Err(CoreRefusal::TooMany);
         }
         Ok(self.add_rule(WrittenRule::Sequence(rule))?)
@@ -190,7 +190,7 @@ impl Written {
         if !knows(s, self.names.len()) {
             return Err(CoreRefusal::BadSymbol);
         }
-        if self.starts.len() >= MOST {
+        if self.starts.len() >= MOST_ENTRIES {
             return Err(CoreRefusal::TooMany);
         }
         match self.starts.push(s) {

@@ -16,10 +16,10 @@ use Rattle.recognizer_model.specs.declared.flat.FlatSource.TheVariants.{Written}
 use Rattle.flat_model.specs.Flatten
 use Rattle.flat_model.specs.Flatten.{Decided, flat_of}
 use Rattle.flat_model.specs.Flattened.{IsFlattened, HasTooMany}
-use Rattle.flat_model.specs.Flattened.{most_rules}
 use Rattle.flat_rules.proofs.Listing.{same_test, filter_bound, filter_none, flat_bound}
 use Rattle.flat_rules.proofs.FlatOf.{is_flat_of}
 use Rattle.std.proofs.lemmas.Bool.{cases_lt}
+use Rattle.grammar_model.specs.declared.limits.TheConstants.{MOST_FLAT_RULES}
 use Rattle.grammar_laws.specs.Laws.{FlatteningDecides}
 use Rattle.grammar_laws.proofs.Flats.{decisions_exist}
 
@@ -149,11 +149,11 @@ module _ (w : Grammar) (d e : Decided w) where
   }
 
 pub flattening_decides : FlatteningDecides
-flattening_decides w c = go (cases_lt most_rules (length (flat_of w d).rules))
+flattening_decides w c = go (cases_lt MOST_FLAT_RULES (length (flat_of w d).rules))
   where
     d : Decided w
     d = decisions_exist w
 
-    go : (most_rules < length (flat_of w d).rules) ⊎ (length (flat_of w d).rules ≤ most_rules) → ((f : FlatGrammar) × IsFlattened w f) ⊎ HasTooMany w
+    go : (MOST_FLAT_RULES < length (flat_of w d).rules) ⊎ (length (flat_of w d).rules ≤ MOST_FLAT_RULES) → ((f : FlatGrammar) × IsFlattened w f) ⊎ HasTooMany w
     go (inl many) = inr (record { decided = d; many = λ e. (let same = ap (λ (f : FlatGrammar). length f.rules) (one_flat w d e) in omega (arith, many, same)) })
     go (inr few) = inl (flat_of w d, record { decided = d; listed = λ e. one_flat w d e; made = is_flat_of w d c; few = few })

@@ -33,6 +33,7 @@ use Rattle.grammar_laws.proofs.Flats.{decisions_exist, named_rules_are_all, rule
 use Rattle.recognizer_model.specs.FewRules.{HasFewRules}
 use Rattle.grammar_laws.specs.Lists.{HasShortRules, StartsAreListed}
 use Rattle.grammar_model.proofs.Simple.{among_numbers_from}
+use Rattle.grammar_model.specs.declared.limits.TheConstants.{MOST_FLAT_RULES}
 
 -- ---- lengths
 
@@ -68,10 +69,10 @@ module _ (w : Grammar) (checked : IsChecked w) (few : HasFewRules w) (short : Ha
   abbrev f : FlatGrammar
   f = flat_of w d
 
-  few_named : length (named_rules w d) ≤ 65536
+  few_named : length (named_rules w d) ≤ MOST_FLAT_RULES
   few_named = let same = rule_count_is_one w (length (named_rules w d)) few.count (named_rules w d, named_rules_are_all w d, refl) few.counted in let le = few.few in omega (arith, same, le)
 
-  few_rules : length f.rules ≤ 65536
+  few_rules : length f.rules ≤ MOST_FLAT_RULES
   few_rules = let same = rules_length w d in let le = few_named in omega (arith, same, le)
 
   short_named : (n : NamedRule) → IsRuleOf w n → length n.right ≤ 1000

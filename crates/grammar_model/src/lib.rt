@@ -12,8 +12,13 @@ ghost use Rattle.grammar_model.specs.Cycles.{HeightsExcludeCycles};
 ghost use Rattle.grammar_model.specs.Listable.{ListExists};
 
 mod id;
+mod limits;
 
 pub use id::{RuleId, SymbolId};
+pub use limits::{
+    LAST_PLACE, LONGEST_CURSOR, LONGEST_EDGE, LONGEST_GIVEN, LONGEST_GRAMMAR, LONGEST_INPUT,
+    MOST_ENTRIES, MOST_FLAT_RULES,
+};
 
 /// Which occurrence of the left side may have the rule's own level again.
 #[derive(Clone, Copy, Debug, PartialEq, Eq)]

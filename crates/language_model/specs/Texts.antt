@@ -1,5 +1,6 @@
 -- What a grammar's bytes say: the characters, the tokens and the description of a text, and what is built of it.
 use Rattle.std.specs.Prelude.{◌≡◌, ℕ, ◌≤◌, List, [], length, map, chars, IsUtf8}
+use Rattle.grammar_model.specs.declared.limits.TheConstants.{LONGEST_GRAMMAR}
 use Rattle.language_model.specs.declared.token.Token.{Token}
 use Rattle.language_model.specs.Tokens.{Spelled, AreTokens, spelled_at}
 use Rattle.language_model.specs.Description.{Statement, Describes}
@@ -7,7 +8,7 @@ use Rattle.language_model.specs.Building.{Built, faults_of, built_of}
 
 -- the bytes are those of a text, and not too many
 pub record IsText (bytes : List ℕ) : Type 0 where
-  pub within : length bytes ≤ 1048576
+  pub within : length bytes ≤ LONGEST_GRAMMAR
   pub utf8 : IsUtf8 bytes
 
 -- the text has these tokens

@@ -2,6 +2,7 @@
 ghost use Rattle.std.specs.Prelude.{◌≡◌, ◌<◌, ◌≤◌, ◌↔◌, ℕ, List, length, Some, Contains, IfOk, IfSome, IsNone, IsTrue, OnOk, ◌⊎◌, [], slice_get};
 ghost use Rattle.std.specs.List.Sorted.{IsStrictlySortedBy};
 ghost use Rattle.std.specs.Ordering.{nat_cmp};
+ghost use Rattle.grammar_model.specs.declared.limits.TheConstants.{LONGEST_INPUT};
 ghost use Rattle.recognizer_model.specs.declared.thread.Thread.{Thread as AThread};
 ghost use Rattle.recognizer_model.specs.Flat.{IsRule};
 ghost use Rattle.threads.specs.Lists.{list_at};
@@ -180,7 +181,7 @@ fn longest_by(
 ) -> Result<Option<u32>, AllocError>
     requires is { IsMachine machine.old }
     requires at { at ≤ length chars.now }
-    requires few { length chars.now ≤ 16777216 }
+    requires few { length chars.now ≤ LONGEST_INPUT }
     requires starts { (k : ℕ) → Contains candidates.now k → k < length machine.old.flat.now.tops }
     ensures is { IsMachine machine.new }
     ensures form { form_of machine.new ≡ form_of machine.old }
@@ -227,7 +228,7 @@ impl<'g> Lexer<'g> {
         candidates: &[u32],
     ) -> Result<Option<LexAnswer>, AllocError>
         requires at { at ≤ length chars.now }
-        requires few { length chars.now ≤ 16777216 }
+        requires few { length chars.now ≤ LONGEST_INPUT }
         requires starts { (k : ℕ) → Contains candidates.now k → k < length self.old.flat.tops }
         ensures same { self.new ≡ self.old }
         ensures none { IfOk result (λ answer. IsNone answer → IsUnmatched self.old chars.now at candidates.now) }
@@ -251,7 +252,7 @@ impl<'g> Lexer<'g> {
         matched: &mut Vec<u32>,
     ) -> Result<Option<u32>, AllocError>
         requires at { at ≤ length chars.now }
-        requires few { length chars.now ≤ 16777216 }
+        requires few { length chars.now ≤ LONGEST_INPUT }
         requires starts { (k : ℕ) → Contains candidates.now k → k < length self.old.flat.tops }
         ensures same { self.new ≡ self.old }
         ensures none { IfOk result (λ longest. IsNone longest → IsUnmatched self.old chars.now at candidates.now) }
@@ -278,7 +279,7 @@ pub fn longest(
     candidates: &[u32],
 ) -> Result<Option<LexAnswer>, AllocError>
     requires at { at ≤ length chars.now }
-    requires few { length chars.now ≤ 16777216 }
+    requires few { length chars.now ≤ LONGEST_INPUT }
     requires starts { (k : ℕ) → Contains candidates.now k → k < length l0.flat.tops }
     ensures none { IfOk result (λ answer. IsNone answer → IsUnmatched l0.entry chars.now at candidates.now) }
     ensures some { IfOk result (λ answer. IfSome answer (λ a. IsLongestMatch l0.entry chars.now at candidates.now a.length a.matched.items)) }

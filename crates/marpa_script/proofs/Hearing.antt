@@ -13,9 +13,9 @@ use Rattle.grammar_model.specs.declared.Edge.{Edge}
 use Rattle.grammar_model.specs.Grammar.{Grammar, Slot, slot_of}
 use Rattle.grammar_model.specs.Analysis.{IsAccessibleIn}
 use Rattle.grammar_model.specs.Growth.{has_name, number_of}
-use Rattle.grammar_model.specs.Limits.{longest_edge}
 use Rattle.grammar_model.specs.Refusals.{listed}
 use Rattle.grammar_model.specs.Values.{name_of}
+use Rattle.grammar_model.specs.declared.limits.TheConstants.{LONGEST_EDGE}
 use Rattle.grammar_core.specs.Written.{IsWritten}
 use Rattle.grammar_core.proofs.Known.{child_known}
 use Rattle.recognizer_model.specs.declared.Item.{Item}
@@ -95,14 +95,14 @@ module _ (law : ExpectedAreAcceptable) (g : Grammar) (r s : Recognizer) (name te
   replies_duplicate same (expected, held) said =
       inr (not_unknown, inr ((λ never. never (to_machine expected)), inl (subst (Contains r.edges) same_edge held, stays (codes "duplicate") same said)))
 
-  pub replies_bad_length : s ≡ r → recce.IsExpected r x × (Contains r.edges (new_edge r x n) → ⊥) × ((n ≡ 0) ⊎ (longest_edge < n)) → text ≡ codes "bad length" →
+  pub replies_bad_length : s ≡ r → recce.IsExpected r x × (Contains r.edges (new_edge r x n) → ⊥) × ((n ≡ 0) ⊎ (LONGEST_EDGE < n)) → text ≡ codes "bad length" →
       AlternativeReplies (reading g r) name n (says (reading g s) text)
   replies_bad_length same (expected, new, bad) said =
       inr (not_unknown, inr ((λ never. never (to_machine expected)), inr ((λ held. new (subst (Contains r.edges) (sym same_edge) held)), inl (bad, stays (codes "bad length") same said))))
 
   pub replies_taken : {T : Type 0} (o : Result T AlternativeRefusal) (v : T) → o ≡ Ok v → (o ≡ Err Unexpected) ↔ (recce.IsExpected r x → ⊥) →
       (o ≡ Err Duplicate) ↔ (recce.IsExpected r x × Contains r.edges (new_edge r x n)) →
-      (o ≡ Err BadLength) ↔ (recce.IsExpected r x × (Contains r.edges (new_edge r x n) → ⊥) × ((n ≡ 0) ⊎ (longest_edge < n))) →
+      (o ≡ Err BadLength) ↔ (recce.IsExpected r x × (Contains r.edges (new_edge r x n) → ⊥) × ((n ≡ 0) ⊎ (LONGEST_EDGE < n))) →
       s.edges ≡ r.edges ++ new_edge r x n ∷ [] → s.sets ≡ r.sets → text ≡ codes "taken" → AlternativeReplies (reading g r) name n (says (reading g s) text)
   replies_taken o v ok unexpected duplicate bad_length more same said =
       inr (not_unknown, inr ((λ never. some (λ h. never (to_machine h))), inr ((λ held. new (subst (Contains r.edges) (sym same_edge) held)), inr (fits, says_taken))))
@@ -113,7 +113,7 @@ module _ (law : ExpectedAreAcceptable) (g : Grammar) (r s : Recognizer) (name te
       new : Contains r.edges (new_edge r x n) → ⊥
       new held = some (λ h. clash o v Duplicate ok (duplicate.1 (h, held)))
 
-      fits : ((n ≡ 0) ⊎ (longest_edge < n)) → ⊥
+      fits : ((n ≡ 0) ⊎ (LONGEST_EDGE < n)) → ⊥
       fits bad = some (λ h. clash o v BadLength ok (bad_length.1 (h, new, bad)))
 
       edges : s.edges ≡ r.edges ++ edge_from (reading g r) (number_of g name) n ∷ []

@@ -11,6 +11,7 @@ use Rattle.outside_model.specs.Told.{AppendsPrefix}
 use Rattle.grammar_model.specs.declared.Edge.{Edge}
 use Rattle.grammar_model.specs.Grammar.{Grammar}
 use Rattle.grammar_model.specs.Checked.{IsChecked}
+use Rattle.grammar_model.specs.declared.limits.TheConstants.{LONGEST_INPUT}
 use Rattle.recognizer_model.specs.Flat.{FlatGrammar}
 use Rattle.recognizer_model.specs.FlatForm.{IsFlatOf}
 use Rattle.flat_model.specs.Flattened.{IsFlattened}
@@ -132,5 +133,5 @@ four_bytes : (chars : List ℕ) → length (encode_utf8_all chars) ≤ 4 * lengt
 four_bytes [] = omega arith
 four_bytes (c ∷ cs) = let rest = four_bytes cs in omega (arith, rest, length-append (encode c) (encode_utf8_all cs), length-encode c, (len_utf8_bounds c).1)
 
-pub few_bytes : (chars text : List ℕ) → text ≡ encode_utf8_all chars → length chars ≤ 16777216 → length text ≤ 67108864
+pub few_bytes : (chars text : List ℕ) → text ≡ encode_utf8_all chars → length chars ≤ LONGEST_INPUT → length text ≤ 67108864
 few_bytes chars text is few = let four = four_bytes chars in let long = ap length is in omega (arith, four, long, few)

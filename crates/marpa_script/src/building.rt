@@ -4,6 +4,7 @@ ghost use Rattle.std.specs.Option.{option_copied};
 ghost use Rattle.std.specs.List.{list_all};
 ghost use Rattle.grammar_model.specs.Grammar.{Plain, Sequence};
 ghost use Rattle.grammar_model.specs.Growth.{has_name, number_of, with_rule};
+ghost use Rattle.grammar_model.specs.declared.limits.TheConstants.{MOST_ENTRIES};
 ghost use Rattle.grammar_core.specs.Refusals.{Answers};
 ghost use Rattle.grammar_core.specs.declared.refusal.CoreRefusal.TheVariants.{NoMemory};
 ghost use Rattle.recognizer_model.specs.View.{plain_rule};
@@ -35,7 +36,7 @@ fn granted<T: Copy>(answer: Result<T, CoreRefusal>) -> Result<T, AllocError>
 
 // `symbol NAME`.
 fn answer_symbol(w: &mut Written, name: &str, line: &mut Vec<u8>) -> Result<(), AllocError>
-    requires room { length w.old.names < 16777215 }
+    requires room { length w.old.names < MOST_ENTRIES }
     ensures { OnOk result (says (building w.new) line.new.items ≡ symbol_reply (building w.old) name.now) }
 {
     let symbol = granted(w.symbol_new(name))?;
@@ -82,7 +83,7 @@ fn add_rule(w: &mut Written, lhs: SymbolId, rhs: Vec<SymbolId>) -> Result<RuleId
     requires lhs { lhs < length w.old.names }
     requires rhs { All (λ s. s < length w.old.names) rhs.items }
     requires short { length rhs.items ≤ 1000 }
-    requires room { length w.old.rules < 16777215 }
+    requires room { length w.old.rules < MOST_ENTRIES }
     ensures number { IfOk result (λ r. r ≡ length w.old.rules) }
     ensures ok { OnOk result (w.new ≡ with_rule w.old (plain_rule lhs rhs.items)) }
 {
@@ -97,7 +98,7 @@ fn answer_rule(
     rhs: &[&str],
     line: &mut Vec<u8>,
 ) -> Result<(), AllocError>
-    requires room { length w.old.rules < 16777215 }
+    requires room { length w.old.rules < MOST_ENTRIES }
     ensures { OnOk result (says (building w.new) line.new.items ≡ rule_reply (building w.old) lhs.now (texts rhs.now)) }
 {
     let Some(left) = w.symbol_named(lhs) else {
@@ -138,7 +139,7 @@ fn answer_sequence(
     proper: bool,
     line: &mut Vec<u8>,
 ) -> Result<(), AllocError>
-    requires room { length w.old.rules < 16777215 }
+    requires room { length w.old.rules < MOST_ENTRIES }
     ensures { OnOk result (says (building w.new) line.new.items ≡ sequence_reply (building w.old) lhs.now item.now plus (option_copied separator.entry) proper) }
 {
     let Some(left) = w.symbol_named(lhs) else {
@@ -183,8 +184,8 @@ pub fn answer_building(
     command: Command<'_>,
     line: &mut Vec<u8>,
 ) -> Result<(), AllocError>
-    requires names { length w.old.names < 16777215 }
-    requires rules { length w.old.rules < 16777215 }
+    requires names { length w.old.names < MOST_ENTRIES }
+    requires rules { length w.old.rules < MOST_ENTRIES }
     requires other { told command ≢ Precompute }
     ensures { OnOk result (LineReplies (building w.old) (told command.entry) (says (building w.new) line.new.items)) }
 {

@@ -1,5 +1,6 @@
 //! Playing the lines of a script by which its grammar is built.
 ghost use Rattle.std.specs.Prelude.{◌≡◌, ◌<◌, ◌≤◌, length, Err, IfOk, IfSome, IsNone, OnOk, OnErr};
+ghost use Rattle.grammar_model.specs.declared.limits.TheConstants.{MOST_ENTRIES};
 ghost use Rattle.outside_model.specs.Causes.{Rose};
 ghost use Rattle.flat_model.specs.Flattened.{IsFlattened};
 ghost use Rattle.script_model.specs.Commands.{lines_of};
@@ -27,8 +28,8 @@ fn answer_command(
     command: Command<'_>,
     line: &mut Vec<u8>,
 ) -> Result<Option<Flat>, AllocError>
-    requires names { length w.old.names < 16777215 }
-    requires rules { length w.old.rules < 16777215 }
+    requires names { length w.old.names < MOST_ENTRIES }
+    requires rules { length w.old.rules < MOST_ENTRIES }
     ensures replies { IfOk result (λ o. LineReplies (building w.old) (told command.entry) (says (after_precompute w.new o) line.new.items)) }
     ensures flat { IfOk result (λ o. IfSome o (λ flat. IsFlattened w.new flat)) }
 {
@@ -50,8 +51,8 @@ pub fn answer_line<'t>(
     words: &mut Vec<&'t str>,
     line: &mut Vec<u8>,
 ) -> Result<Option<Flat>, AllocError>
-    requires names { length w.old.names < 16777215 }
-    requires rules { length w.old.rules < 16777215 }
+    requires names { length w.old.names < MOST_ENTRIES }
+    requires rules { length w.old.rules < MOST_ENTRIES }
     ensures replies { IfOk result (λ o. Replies (building w.old) text.now (says (after_precompute w.new o) line.new.items)) }
     ensures flat { IfOk result (λ o. IfSome o (λ flat. IsFlattened w.new flat)) }
 {
@@ -78,8 +79,8 @@ fn play_line<'t, K: Sink>(
     line: &mut Vec<u8>,
     out: &mut K,
 ) -> Result<Option<Flat>, ScriptRefusal>
-    requires names { length w.old.names < 16777215 }
-    requires rules { length w.old.rules < 16777215 }
+    requires names { length w.old.names < MOST_ENTRIES }
+    requires rules { length w.old.rules < MOST_ENTRIES }
     ensures played { IfOk result (λ o. Replied (Replies (building w.old) text.now) (after_precompute w.new o) (K.contents out.old) (K.contents out.new)) }
     ensures flat { IfOk result (λ o. IfSome o (λ flat. IsFlattened w.new flat)) }
     ensures breaks { OnErr result (BreaksOff (Replies (building w.old) text.now) (K.contents out.old) (K.contents out.new)) }

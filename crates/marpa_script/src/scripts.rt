@@ -1,6 +1,7 @@
 //! Playing whole scripts.
 ghost use Rattle.std.specs.Prelude.{◌≡◌, ◌≢◌, ◌≤◌, ℕ, List, Option, codes, encode_utf8_all, length, Err, OnOk, OnErr};
 ghost use Rattle.std.specs.Io.KnownBytes.{Appends};
+ghost use Rattle.grammar_model.specs.declared.limits.TheConstants.{LONGEST_INPUT};
 ghost use Rattle.outside_model.specs.Causes.{Rose};
 ghost use Rattle.outside_model.specs.Told.{AppendsPrefix};
 ghost use Rattle.flat_model.specs.Flattened.{IsFlattened};
@@ -187,7 +188,7 @@ pub fn play_script<K: Sink, L: Ledger>(
     out: &mut K,
     steps: &mut Steps<L>,
 ) -> Result<(), ScriptRefusal>
-    requires { length chars.now ≤ 16777216 }
+    requires { length chars.now ≤ LONGEST_INPUT }
     ensures played { OnOk result (Answered (encode_utf8_all chars.now) (K.contents out.old) (K.contents out.new)) }
     ensures stops { OnErr result (BreaksOffIn (encode_utf8_all chars.now) (K.contents out.old) (K.contents out.new)) }
     ensures fault { result ≡ Err WriteFault → Rose (K.fault_count out.old) (K.fault_count out.new) }

@@ -3,6 +3,7 @@ use Rattle.std.proofs.Common.{◌≡◌, ℕ, ◌≤◌, true, false, ◌⊎◌,
 use Rattle.std.proofs.lemmas.Bool.{cases_lt}
 use Rattle.grammar_model.specs.Grammar.{Grammar}
 use Rattle.grammar_model.specs.Checked.{IsChecked, Refusal, Refuses}
+use Rattle.grammar_model.specs.declared.limits.TheConstants.{MOST_FLAT_RULES}
 use Rattle.recognizer_model.specs.Counts.{IsCountOf}
 use Rattle.recognizer_model.specs.FlatForm.{IsRuleOf}
 use Rattle.language_model.specs.Building.{Built}
@@ -48,7 +49,7 @@ module _ (laws : CheckLaws) where
   few_or_not : (g : Grammar) → HasFewRules g ⊎ HasTooManyRules g
   few_or_not g =
       let (n, counted) = laws.counted g in
-      elim (cases_lt 65536 n) [
+      elim (cases_lt MOST_FLAT_RULES n) [
         | inl many ↦ inr (record { count = n; counted = counted; many = many })
         | inr few ↦ inl (record { count = n; counted = counted; few = few })
       ]

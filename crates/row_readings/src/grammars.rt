@@ -8,11 +8,10 @@ use earley_sets::Recce;
 use flat_rules::flatten;
 use grammar_check::check;
 use grammar_core::{Assoc, CoreRefusal, Flat, Rule, RuleId, SeqRule, SymbolId, Written};
+use grammar_model::LAST_PLACE;
 use slif_base::Steps;
 use std::alloc::Global;
 use std::sync::ledger::Ledger;
-
-const MOST_PLACES: u32 = 16_777_216;
 
 /// A left side, its parts, a rank, and whether a nulled last part comes first.
 pub type Line = (u32, &'static [u32], i32, bool);
@@ -132,7 +131,7 @@ pub(crate) fn flat_of(alloc: Global, w: &Written) -> Result<Flat, anyhow::Error>
 pub(crate) fn take(recce: &mut Recce<'_>, token: u32, length: u32) -> Result<(), anyhow::Error>
     ensures { recce.new.flat ≡ recce.old.flat }
 {
-    if recce.place() >= MOST_PLACES {
+    if recce.place() >= LAST_PLACE {
         bail!("too many tokens");
     }
     recce.alternative(SymbolId(token), length)?;
@@ -146,7 +145,7 @@ pub(crate) fn go_on<L: Ledger>(
 ) -> Result<(), anyhow::Error>
     ensures { recce.new.flat ≡ recce.old.flat }
 {
-    if recce.place() >= MOST_PLACES {
+    if recce.place() >= LAST_PLACE {
         bail!("too many tokens");
     }
     recce.complete_earleme(steps)?;

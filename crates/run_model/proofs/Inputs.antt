@@ -6,6 +6,7 @@ use Rattle.std.proofs.lemmas.Str.{utf8_valid_len-IsValidUpTo, IsUtf8-from_is_utf
 use Rattle.grammar_model.specs.Trees.{Tree}
 use Rattle.grammar_model.specs.declared.Ranking.{Ranking}
 use Rattle.grammar_model.specs.declared.Ranking.TheVariants.{Rule as RuleRanks}
+use Rattle.grammar_model.specs.declared.limits.TheConstants.{LONGEST_INPUT}
 use Rattle.recognizer_model.specs.declared.ReportLine.{ReportLine}
 use Rattle.report_model.specs.Report.{IsReport}
 use Rattle.glade_model.specs.Glades.{Glade, AreGlades}
@@ -37,15 +38,15 @@ pub record ReadingLaws : Type 0 where
 -- SOME OF ALL
 
 text_or : (bytes : List ℕ) → IsInputText bytes ⊎ ((b : Built) → (text : List ℕ) × IsInputRefused b bytes text)
-text_or bytes = by_length (nat_le (length bytes) 16777216) refl
+text_or bytes = by_length (nat_le (length bytes) LONGEST_INPUT) refl
   where
-    by_utf8 : length bytes ≤ 16777216 → (t : Bool) → is_utf8 bytes ≡ t → IsInputText bytes ⊎ ((b : Built) → (text : List ℕ) × IsInputRefused b bytes text)
+    by_utf8 : length bytes ≤ LONGEST_INPUT → (t : Bool) → is_utf8 bytes ≡ t → IsInputText bytes ⊎ ((b : Built) → (text : List ℕ) × IsInputRefused b bytes text)
     by_utf8 within true e = inl (record { within = within; utf8 = IsUtf8-from_is_utf8 bytes e })
     by_utf8 within false e =
         let (at, broken, prefix) = broken_at bytes e in
         inr (λ b. (codes "input is not UTF-8 at byte " ++ decimal at, NotUtf8 at (record { within = within; broken = broken; prefix = prefix }) refl))
 
-    by_length : (t : Bool) → nat_le (length bytes) 16777216 ≡ t → IsInputText bytes ⊎ ((b : Built) → (text : List ℕ) × IsInputRefused b bytes text)
+    by_length : (t : Bool) → nat_le (length bytes) LONGEST_INPUT ≡ t → IsInputText bytes ⊎ ((b : Built) → (text : List ℕ) × IsInputRefused b bytes text)
     by_length true e = by_utf8 (leb-true _ _ e) (is_utf8 bytes) refl
     by_length false e = inr (λ b. (codes "input is longer than 16777216 bytes", TooLong (leb-false _ _ e) refl))
 

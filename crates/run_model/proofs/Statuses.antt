@@ -3,6 +3,7 @@ use Rattle.std.proofs.Common.{ℕ, ◌<◌, List, [], ◌∷◌, ◌++◌, Some,
 use Rattle.std.specs.Prelude.{chars, codes}
 use Rattle.grammar_model.specs.declared.Ranking.TheVariants.{Rule as RuleRanks}
 use Rattle.grammar_model.specs.declared.Show.TheVariants.{Array as ShowArray}
+use Rattle.grammar_model.specs.declared.limits.TheConstants.{LONGEST_GRAMMAR, LONGEST_INPUT}
 use Rattle.words_model.specs.Words.{ValuesAsked, Job, Tell, Values, StandardInput}
 use Rattle.run_model.specs.Texts.TextFault.{TooLong}
 use Rattle.run_model.specs.Refused.IsRefused.{ByText}
@@ -30,11 +31,11 @@ module _ (outcome : Outcome) (w : IsWorkOutcome 1 outcome) where
   is_written : IsOutcome run_words work_grammar (work_input 1) written
   is_written = OfJob job refl (GrammarAccepted w.built w.accepted (InputRead w.pieces w.read (Derived w.tree [] w.numbers w.one w.has refl)))
 
-  of_long : (input : List ℕ) → 16777216 < length input → IsOutcome run_words work_grammar input (refused 1 (codes "input is longer than 16777216 bytes"))
+  of_long : (input : List ℕ) → LONGEST_INPUT < length input → IsOutcome run_words work_grammar input (refused 1 (codes "input is longer than 16777216 bytes"))
   of_long input long =
       OfJob job refl (GrammarAccepted w.built w.accepted (InputRefused (codes "input is longer than 16777216 bytes") (InputTooLong long refl) refl))
 
-of_long_grammar : (grammar input : List ℕ) → 1048576 < length grammar → IsOutcome run_words grammar input (refused 3 (codes "grammar: longer than 1048576 bytes"))
+of_long_grammar : (grammar input : List ℕ) → LONGEST_GRAMMAR < length grammar → IsOutcome run_words grammar input (refused 3 (codes "grammar: longer than 1048576 bytes"))
 of_long_grammar grammar input long =
     OfJob job refl (GrammarRefused (codes "grammar: longer than 1048576 bytes") (ByText TooLong long refl) refl)
 

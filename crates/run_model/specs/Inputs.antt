@@ -4,18 +4,19 @@ use Rattle.std.specs.Prelude.{◌≡◌, ℕ, ◌++◌, ◌<◌, ◌≤◌, List
 use Rattle.std.specs.Str.{IsValidUpTo}
 use Rattle.grammar_model.specs.Grammar.{Grammar}
 use Rattle.grammar_model.specs.Values.{name_of}
+use Rattle.grammar_model.specs.declared.limits.TheConstants.{LONGEST_INPUT}
 use Rattle.language_model.specs.Building.{Built}
 use Rattle.reading_model.specs.Reading.{Piece, End, Stopped, IsReading}
 use Rattle.run_model.specs.Refused.{at_place, listed}
 
 -- the bytes are a text that is not too long
 pub record IsInputText (bytes : List ℕ) : Type 0 where
-  pub within : length bytes ≤ 16777216
+  pub within : length bytes ≤ LONGEST_INPUT
   pub utf8 : IsUtf8 bytes
 
 -- the first so many bytes are the longest prefix that is UTF-8
 pub record IsBrokenInput (bytes : List ℕ) (at : ℕ) : Type 0 where
-  pub within : length bytes ≤ 16777216
+  pub within : length bytes ≤ LONGEST_INPUT
   pub broken : ¬ (IsUtf8 bytes)
   pub prefix : IsValidUpTo bytes at
 
@@ -34,7 +35,7 @@ pub record IsRead (b : Built) (bytes : List ℕ) (pieces : List Piece) : Type 0 
 
 -- the bytes are not read to their end, as this text tells
 pub data IsInputRefused (b : Built) (bytes text : List ℕ) : Type 0 where
-  TooLong : 16777216 < length bytes → text ≡ codes "input is longer than 16777216 bytes" → IsInputRefused b bytes text
+  TooLong : LONGEST_INPUT < length bytes → text ≡ codes "input is longer than 16777216 bytes" → IsInputRefused b bytes text
   NotUtf8 : (at : ℕ) → IsBrokenInput bytes at → text ≡ codes "input is not UTF-8 at byte " ++ decimal at → IsInputRefused b bytes text
   ReadingStops : (pieces : List Piece) (at : ℕ) (found expected : List ℕ) → IsInputText bytes → IsReading b (chars bytes) pieces (Stopped at found expected) →
       text ≡ stop_text b.g1 (chars bytes) at found expected → IsInputRefused b bytes text

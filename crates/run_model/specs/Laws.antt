@@ -1,5 +1,6 @@
 -- Laws of the definitions.
 use Rattle.std.specs.Prelude.{◌≡◌, ◌≢◌, ℕ, ◌<◌, List, [], ◌∷◌, length, Option, Some, IfSome, codes}
+use Rattle.grammar_model.specs.declared.limits.TheConstants.{LONGEST_GRAMMAR, LONGEST_INPUT}
 use Rattle.outside_model.specs.Told.{ToldFile}
 use Rattle.outside_model.specs.Told.ToldFile.{Untold, Missing}
 use Rattle.words_model.specs.Words.{Job, Asks}
@@ -41,6 +42,6 @@ run_words = codes "run" ∷ codes "--grammar" ∷ codes "g" ∷ []
 -- long, and no words
 pub record StatusesOccur : Type 0 where
   pub done : (outcome : Outcome) × IsOutcome run_words work_grammar (work_input 1) outcome × (outcome.status ≡ 0)
-  pub input_refused : (input : List ℕ) → 16777216 < length input → IsOutcome run_words work_grammar input (refused 1 (codes "input is longer than 16777216 bytes"))
+  pub input_refused : (input : List ℕ) → LONGEST_INPUT < length input → IsOutcome run_words work_grammar input (refused 1 (codes "input is longer than 16777216 bytes"))
   pub no_job : IsOutcome [] [] [] usage
-  pub grammar_refused : (grammar input : List ℕ) → 1048576 < length grammar → IsOutcome run_words grammar input (refused 3 (codes "grammar: longer than 1048576 bytes"))
+  pub grammar_refused : (grammar input : List ℕ) → LONGEST_GRAMMAR < length grammar → IsOutcome run_words grammar input (refused 3 (codes "grammar: longer than 1048576 bytes"))

@@ -1,6 +1,7 @@
 -- Why the bytes of a grammar say nothing: a fault, which is told in one line.
 use Rattle.std.specs.Prelude.{ℕ, ◌≤◌, ◌<◌, ◌++◌, List, length, take, chars, codes, decimal, IsUtf8}
 use Rattle.std.specs.Str.{IsValidUpTo}
+use Rattle.grammar_model.specs.declared.limits.TheConstants.{LONGEST_GRAMMAR}
 use Rattle.outside_model.specs.Places.{line_after, column_after}
 use Rattle.language_model.specs.declared.token.Token.{Token}
 use Rattle.language_model.specs.Tokens.{IsBadPlace}
@@ -16,7 +17,7 @@ pub data TextFault : Type 0 where
 
 -- the first so many bytes are the longest prefix that is UTF-8
 pub record IsBroken (bytes : List ℕ) (at : ℕ) : Type 0 where
-  pub within : length bytes ≤ 1048576
+  pub within : length bytes ≤ LONGEST_GRAMMAR
   pub broken : ¬ (IsUtf8 bytes)
   pub prefix : IsValidUpTo bytes at
 
@@ -30,7 +31,7 @@ pub record HasBadStatement (bytes : List ℕ) (at : ℕ) : Type 0 where
   pub bad : IsBadStatement (spelled bytes tokens) at
 
 abbrev pub HasFault : List ℕ → TextFault → Type 0
-HasFault bytes TooLong = 1048576 < length bytes
+HasFault bytes TooLong = LONGEST_GRAMMAR < length bytes
 HasFault bytes (NotUtf8 at) = IsBroken bytes at
 HasFault bytes (BadToken at) = HasBadToken bytes at
 HasFault bytes (BadStatement at) = HasBadStatement bytes at

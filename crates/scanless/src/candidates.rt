@@ -1,5 +1,6 @@
 //! What can come next in a text: the starts that are looked for, and their longest match.
 ghost use Rattle.std.specs.Prelude.{◌≡◌, ℕ, ◌+◌, ◌<◌, ◌≤◌, ◌⊎◌, List, length, IsFalse, IfOk, IfSome, IsNone, OnOk, Contains};
+ghost use Rattle.grammar_model.specs.declared.limits.TheConstants.{LONGEST_INPUT};
 ghost use Rattle.earley_sets.specs.Recognizer.{IsExpected};
 ghost use Rattle.language_model.specs.Building.{LexemeRow as TheRow};
 ghost use Rattle.reading_model.specs.Matches.{Matches};
@@ -97,7 +98,7 @@ fn longest(
 ) -> Result<Option<u32>, AllocError>
     requires lexer { IsLexerOf p.now lexer.old }
     requires at { at ≤ length chars.now }
-    requires few { length chars.now ≤ 16777216 }
+    requires few { length chars.now ≤ LONGEST_INPUT }
     requires starts { (k : ℕ) → Contains starts.now k → k < length p.now.l0.starts }
     ensures same { lexer.new ≡ lexer.old }
     ensures none { IfOk result (λ answer. IsNone answer → (k m : ℕ) → Contains starts.now k → 0 < m → Matches p.now chars.now k at (at + m) → ⊥) }
@@ -123,7 +124,7 @@ pub fn look(
 ) -> Result<Option<u32>, AllocError>
     requires lexer { IsLexerOf p.now work.old.lexer }
     requires at { at ≤ length chars.now }
-    requires few { length chars.now ≤ 16777216 }
+    requires few { length chars.now ≤ LONGEST_INPUT }
     ensures lexer { IsLexerOf p.now work.new.lexer }
     ensures none { IfOk result (λ answer. IsNone answer → (pieces : List Piece) → HoldsPieces p.now pieces recce.now → (n : ℕ) → IsLongest p.now chars.now pieces at n → ⊥) }
     ensures some { IfOk result (λ answer. IfSome answer (λ n. (pieces : List Piece) → HoldsPieces p.now pieces recce.now → IsLongestBy p.now chars.now pieces at n work.new.matched.items)) }

@@ -1,6 +1,7 @@
 //! One piece of a text: a token that the recognizer takes, or a piece that a discard has; or nothing can be taken.
 ghost use Rattle.std.specs.Prelude.{ℕ, ◌<◌, ◌≤◌, length, IfOk, OnOk, OnErr, List, Contains};
 ghost use Rattle.grammar_model.specs.declared.Edge.{Edge as HeldEdge};
+ghost use Rattle.grammar_model.specs.declared.limits.TheConstants.{LAST_PLACE, LONGEST_INPUT};
 ghost use Rattle.reading_model.specs.Reading.{Piece as ThePiece};
 ghost use Rattle.earley_sets.specs.Recognizer.{earleme_of};
 ghost use Rattle.earley_sets.specs.Counted.{CountsFrom};
@@ -60,8 +61,8 @@ pub fn take_piece<L: Ledger>(
 ) -> Result<Cut, AllocError>
     requires lexer { IsLexerOf p.now work.old.lexer }
     requires more { at < length chars.now }
-    requires few { length chars.now ≤ 16777216 }
-    requires place { earleme_of recce.old < 16777216 }
+    requires few { length chars.now ≤ LONGEST_INPUT }
+    requires place { earleme_of recce.old < LAST_PLACE }
     requires begun { (e : HeldEdge) → Contains recce.old.edges e → e.from < earleme_of recce.old }
     ensures lexer { IsLexerOf p.now work.new.lexer }
     ensures cut { IfOk result (λ cut. (pieces : List ThePiece) → HoldsPieces p.now pieces recce.old → IsCut p.now chars.now pieces at recce.old recce.new cut) }
@@ -98,8 +99,8 @@ pub fn next_piece<L: Ledger>(
     steps: &mut Steps<L>,
 ) -> Result<Piece, AllocError>
     requires more { at < length chars.now }
-    requires few { length chars.now ≤ 16777216 }
-    requires place { earleme_of recce.old < 16777216 }
+    requires few { length chars.now ≤ LONGEST_INPUT }
+    requires place { earleme_of recce.old < LAST_PLACE }
     requires begun { (e : HeldEdge) → Contains recce.old.edges e → e.from < earleme_of recce.old }
     ensures piece { IfOk result (λ piece. (pieces : List ThePiece) → HoldsPieces p.now pieces recce.old → IsPiece p.now chars.now pieces at recce.old recce.new piece) }
     ensures moves { IfOk result (Moves recce.old recce.new) }

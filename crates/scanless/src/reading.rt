@@ -1,5 +1,6 @@
 //! Reading: a text is cut into tokens and skipped pieces, from the left.
 ghost use Rattle.std.specs.Prelude.{◌≡◌, ℕ, ◌+◌, ◌<◌, ◌≤◌, ◌↔◌, ◌++◌, ◌∷◌, [], List, length, IsTrue, IfOk, IfSome, IsNone, OnOk, Contains};
+ghost use Rattle.grammar_model.specs.declared.limits.TheConstants.{LAST_PLACE, LONGEST_INPUT};
 ghost use Rattle.reading_model.specs.First.{IsFirstWith};
 ghost use Rattle.reading_model.specs.Reading.{Piece, supplied, IsNext, IsStuck, HasDerivation, MaySupply};
 ghost use Rattle.earley_sets.specs.Recognizer.{earleme_of, IsExpected};
@@ -123,9 +124,9 @@ impl<'p> Reader<'p> {
         steps: &mut Steps<L>,
     ) -> Result<Option<Vec<SymbolId>>, AllocError>
         requires reader { (given : List ℕ) × IsReader given chars.now self.old }
-        requires few { length chars.now ≤ 16777216 }
+        requires few { length chars.now ≤ LONGEST_INPUT }
         requires more { self.old.at < length chars.now }
-        requires place { earleme_of self.old.recce < 16777216 }
+        requires place { earleme_of self.old.recce < LAST_PLACE }
         ensures grammar { self.new.grammar ≡ self.old.grammar }
         ensures moves { IfOk result (λ found. IsNone found → (given : List ℕ) (pieces : List Piece) → HasRead self.old.grammar given chars.now pieces self.old.at self.old.recce self.old.spans → GoesOn given chars.now pieces self.old self.new) }
         ensures room { IfOk result (λ found. IsNone found → (self.old.at < self.new.at) × (earleme_of self.new.recce + self.old.at ≤ earleme_of self.old.recce + self.new.at)) }
@@ -163,8 +164,8 @@ impl<'p> Reader<'p> {
         steps: &mut Steps<L>,
     ) -> Result<Option<Vec<SymbolId>>, AllocError>
         requires reader { (given : List ℕ) × IsReader given chars.now self.old }
-        requires few { length chars.now ≤ 16777216 }
-        requires room { earleme_of self.old.recce + length chars.now ≤ 16777216 + self.old.at }
+        requires few { length chars.now ≤ LONGEST_INPUT }
+        requires room { earleme_of self.old.recce + length chars.now ≤ LAST_PLACE + self.old.at }
         ensures grammar { self.new.grammar ≡ self.old.grammar }
         ensures rests { IfOk result (λ found. (given : List ℕ) (pieces : List Piece) → HasRead self.old.grammar given chars.now pieces self.old.at self.old.recce self.old.spans → ComesToRest given chars.now pieces self.old self.new found) }
         ensures room { OnOk result (earleme_of self.new.recce + self.old.at ≤ earleme_of self.old.recce + self.new.at) }
@@ -184,8 +185,8 @@ impl<'p> Reader<'p> {
         symbol: SymbolId,
         steps: &mut Steps<L>,
     ) -> Result<(), AllocError>
-        requires reader { (given text : List ℕ) × (length text ≤ 16777216) × IsReader given text self.old }
-        requires place { earleme_of self.old.recce < 16777216 }
+        requires reader { (given text : List ℕ) × (length text ≤ LONGEST_INPUT) × IsReader given text self.old }
+        requires place { earleme_of self.old.recce < LAST_PLACE }
         requires expected { IsExpected self.old.recce symbol }
         ensures grammar { self.new.grammar ≡ self.old.grammar }
         ensures supplied { OnOk result ((given text : List ℕ) (pieces : List Piece) → HasRead self.old.grammar given text pieces self.old.at self.old.recce self.old.spans →
@@ -258,7 +259,7 @@ pub fn read_input<'p, L: Ledger>(
     chars: &Chars,
     steps: &mut Steps<L>,
 ) -> Result<Reading<'p>, AllocError>
-    requires { length chars.now ≤ 16777216 }
+    requires { length chars.now ≤ LONGEST_INPUT }
     ensures reading { IfOk result (λ r. IsReadingOf p.now chars.now r.recce r.spans.items r.ending) }
     ensures counted { IfOk result (λ r. TakesAtMost r.recce steps.old steps.new) }
 {

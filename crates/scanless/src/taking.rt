@@ -3,6 +3,7 @@ ghost use Rattle.std.specs.Prelude.{◌≡◌, ℕ, ◌+◌, ◌<◌, ◌++◌, 
 ghost use Rattle.std.specs.List.Sorted.{IsStrictlySortedBy};
 ghost use Rattle.std.specs.Ordering.{nat_cmp};
 ghost use Rattle.grammar_model.specs.declared.Edge.{Edge as HeldEdge};
+ghost use Rattle.grammar_model.specs.declared.limits.TheConstants.{LAST_PLACE};
 ghost use Rattle.earley_sets.specs.Recognizer.{earleme_of, new_edge, IsExpected};
 ghost use Rattle.earley_sets.specs.Counted.{CountsFrom};
 ghost use Rattle.scanless.specs.Taking.{token_edges, Keeps, Takes, TakesSome};
@@ -15,7 +16,7 @@ use std::sync::ledger::Ledger;
 
 // Takes one lexeme, an edge of one place.
 fn take_lexeme(recce: &mut Recce<'_>, symbol: SymbolId) -> Result<(), AllocError>
-    requires place { earleme_of recce.old < 16777216 }
+    requires place { earleme_of recce.old < LAST_PLACE }
     requires expected { IsExpected recce.old symbol }
     requires fresh { ¬ Contains recce.old.edges (new_edge recce.old symbol 1) }
     ensures same { Keeps recce.old recce.new }
@@ -32,7 +33,7 @@ fn take_lexeme(recce: &mut Recce<'_>, symbol: SymbolId) -> Result<(), AllocError
 }
 
 fn take_lexemes(recce: &mut Recce<'_>, symbols: &[SymbolId]) -> Result<(), AllocError>
-    requires place { earleme_of recce.old < 16777216 }
+    requires place { earleme_of recce.old < LAST_PLACE }
     requires expected { (s : ℕ) → Contains symbols.now s → IsExpected recce.old s }
     requires order { IsStrictlySortedBy nat_cmp symbols.now }
     requires begun { (e : HeldEdge) → Contains recce.old.edges e → e.from < earleme_of recce.old }
@@ -52,7 +53,7 @@ pub fn take_token<L: Ledger>(
     symbols: &[SymbolId],
     steps: &mut Steps<L>,
 ) -> Result<(), AllocError>
-    requires place { earleme_of recce.old < 16777216 }
+    requires place { earleme_of recce.old < LAST_PLACE }
     requires expected { (s : ℕ) → Contains symbols.now s → IsExpected recce.old s }
     requires order { IsStrictlySortedBy nat_cmp symbols.now }
     requires begun { (e : HeldEdge) → Contains recce.old.edges e → e.from < earleme_of recce.old }

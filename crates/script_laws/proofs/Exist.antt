@@ -22,7 +22,6 @@ use Rattle.grammar_model.specs.Values.{name_of}
 use Rattle.recognizer_model.specs.View.{plain_rule}
 use Rattle.recognizer_model.specs.FewRules.{HasFewRules}
 use Rattle.grammar_model.specs.Growth.{has_name, number_of, with_rule, with_start, with_name}
-use Rattle.grammar_model.specs.Limits.{longest_edge}
 use Rattle.grammar_model.specs.Refusals.{listed, refusal_text}
 use Rattle.report_model.specs.Lines.{report_line}
 use Rattle.script_model.specs.Commands.{Command, Symbol, Rule, Sequence, Start, Precompute, Alternative, Complete, Expected, Report, Trees, Phase, Building, Reading, IsCommand, phase_of, lines_of}
@@ -33,6 +32,7 @@ use Rattle.script_model.specs.Script.{Plays, Begins, GoesOn}
 use Rattle.script_laws.specs.Laws.{AnswersExist, AnswersGoOn, MachinesAreSound}
 use Rattle.script_laws.proofs.One.{one_reply}
 use Rattle.grammar_model.specs.declared.Ranking.TheVariants.{Rule as RuleRanks}
+use Rattle.grammar_model.specs.declared.limits.TheConstants.{LONGEST_EDGE, MOST_FLAT_RULES}
 use Rattle.recognizer_model.specs.declared.ReportLine.{ReportLine}
 use Rattle.report_model.specs.Report.{IsReport}
 use Rattle.grammar_laws.specs.Laws.{GoForward}
@@ -172,7 +172,7 @@ module _ (m : Machine) (sound : IsSound m) where
       by_rules : IsChecked m.grammar → SomeOf (PrecomputeReplies m)
       by_rules checked =
           let (n, counted) = rules_are_counted m.grammar in
-          elim (cases_lt 65536 n) [
+          elim (cases_lt MOST_FLAT_RULES n) [
             | inl many ↦ (says m (codes "more than 65536 flat rules"), TooManyRules checked (record { count = n; counted = counted; many = many }) refl, sound)
             | inr few ↦ ready checked (record { count = n; counted = counted; few = few })
           ]
@@ -190,7 +190,7 @@ module _ (m : Machine) (sound : IsSound m) where
         some_case (moved (λ e. e) (λ e. e) (false_or (has_name m.grammar name))) (λ p. unchanged m sound (codes "bad name"))
         (λ known. some_case (negated (expected_decided symbol)) (λ p. unchanged m sound (codes "unexpected"))
         (λ expected. some_case (held_decided m.edges edge) (λ p. unchanged m sound (codes "duplicate"))
-        (λ new. some_case (one_of (equal n 0) (less longest_edge n)) (λ p. unchanged m sound (codes "bad length"))
+        (λ new. some_case (one_of (equal n 0) (less LONGEST_EDGE n)) (λ p. unchanged m sound (codes "bad length"))
         (λ fits. taken fits))))
       where
         symbol : ℕ
@@ -203,7 +203,7 @@ module _ (m : Machine) (sound : IsSound m) where
         false_or true = inr (λ e. cc e)
         false_or false = inl refl
 
-        taken : ((n ≡ 0) ⊎ (longest_edge < n) → ⊥) → SomeOf (λ r. r ≡ says (with_edge m edge) (codes "taken"))
+        taken : ((n ≡ 0) ⊎ (LONGEST_EDGE < n) → ⊥) → SomeOf (λ r. r ≡ says (with_edge m edge) (codes "taken"))
         taken fits = (says (with_edge m edge) (codes "taken"), refl, record { short = sound.short; forward = more; checked = sound.checked; few = sound.few })
           where
             some : 0 < n

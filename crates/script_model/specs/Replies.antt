@@ -16,8 +16,8 @@ use Rattle.grammar_model.specs.declared.Ranking.TheVariants.{Rule as RuleRanks}
 use Rattle.grammar_model.specs.Values.{Value, Text, Number, list_of, name_of}
 use Rattle.grammar_model.specs.Text.{text_of}
 use Rattle.grammar_model.specs.Growth.{has_name, number_of, with_name, with_rule, with_start}
-use Rattle.grammar_model.specs.Limits.{longest_edge}
 use Rattle.grammar_model.specs.Refusals.{listed, refusal_text}
+use Rattle.grammar_model.specs.declared.limits.TheConstants.{LONGEST_EDGE}
 use Rattle.recognizer_model.specs.declared.ReportLine.{ReportLine}
 use Rattle.recognizer_model.specs.View.{plain_rule}
 use Rattle.recognizer_model.specs.FewRules.{HasFewRules, HasTooManyRules}
@@ -104,7 +104,7 @@ AlternativeReplies m name n reply =
     Case (has_name m.grammar name ≡ false) (reply ≡ says m (codes "bad name"))
     (Case (IsExpected m symbol → ⊥) (reply ≡ says m (codes "unexpected"))
     (Case (Contains m.edges edge) (reply ≡ says m (codes "duplicate"))
-    (Case ((n ≡ 0) ⊎ (longest_edge < n)) (reply ≡ says m (codes "bad length"))
+    (Case ((n ≡ 0) ⊎ (LONGEST_EDGE < n)) (reply ≡ says m (codes "bad length"))
     (reply ≡ says (with_edge m edge) (codes "taken")))))
 
 abbrev pub last_place : ℕ

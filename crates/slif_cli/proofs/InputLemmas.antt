@@ -2,12 +2,13 @@
 use Rattle.std.proofs.Common.{◌≡◌, ℕ, ◌≤◌, ◌++◌, [], ◌∷◌, List, Option, length, map, ap, ◌∙◌, chars, IsUtf8}
 use Rattle.grammar_model.specs.Grammar.{Grammar}
 use Rattle.grammar_model.specs.Values.{name_of}
+use Rattle.grammar_model.specs.declared.limits.TheConstants.{LONGEST_INPUT}
 use Rattle.language_model.specs.Building.{Built}
 use Rattle.run_model.specs.Inputs.{IsInputRefused, NotUtf8, ReadingStops}
 use Rattle.text_reading.specs.declared.refusal.Place.{Place}
 use Rattle.text_reading.specs.Parts.{IsBrokenText, IsStopText}
 
-module _ (b : Built) (bytes : List ℕ) (within : length bytes ≤ 16777216) where
+module _ (b : Built) (bytes : List ℕ) (within : length bytes ≤ LONGEST_INPUT) where
   pub refused_broken : (text : List ℕ) (place : Option Place) (expected : List ℕ) → IsBrokenText bytes text place expected → IsInputRefused b bytes text
   refused_broken text place expected broken = NotUtf8 broken.at (record { within = within; broken = broken.broken; prefix = broken.prefix }) broken.told
 

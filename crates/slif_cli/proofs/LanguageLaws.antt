@@ -3,6 +3,7 @@ use Rattle.std.proofs.Common.{◌≡◌, ◌∙◌, ℕ, ◌≤◌, Bool, true, 
 use Rattle.std.proofs.lemmas.Bool.{leb-false}
 use Rattle.std.specs.Str.{is_utf8}
 use Rattle.std.proofs.lemmas.Str.{utf8_valid_len-IsValidUpTo, IsUtf8-from_is_utf8}
+use Rattle.grammar_model.specs.declared.limits.TheConstants.{LONGEST_GRAMMAR}
 use Rattle.language_model.specs.declared.token.Token.{Token}
 use Rattle.language_model.specs.Description.{Statement, Describes, IsBadStatement}
 use Rattle.dsl_tokens.proofs.ExistLemmas as tokens
@@ -69,14 +70,14 @@ module _ (bytes : List ℕ) where
         | inr bad ↦ inr (BadToken bad.0, record { text = text; bad = bad.1 })
       ]
 
-  of_bytes : length bytes ≤ 1048576 → (b : Bool) → is_utf8 bytes ≡ b → Read bytes
+  of_bytes : length bytes ≤ LONGEST_GRAMMAR → (b : Bool) → is_utf8 bytes ≡ b → Read bytes
   of_bytes within true e = of_text (record { within = within; utf8 = IsUtf8-from_is_utf8 bytes e })
   of_bytes within false e = let at = broken_at bytes e in inr (NotUtf8 at.0, record { within = within; broken = at.1; prefix = at.2 })
 
   read : Read bytes
-  read = by_length (nat_le (length bytes) 1048576) refl
+  read = by_length (nat_le (length bytes) LONGEST_GRAMMAR) refl
     where
-      by_length : (b : Bool) → nat_le (length bytes) 1048576 ≡ b → Read bytes
+      by_length : (b : Bool) → nat_le (length bytes) LONGEST_GRAMMAR ≡ b → Read bytes
       by_length true e = of_bytes (leb-true _ _ e) (is_utf8 bytes) refl
       by_length false e = inr (TooLong, leb-false _ _ e)
 

@@ -9,6 +9,7 @@ use Rattle.grammar_model.specs.Derives.{Held}
 use Rattle.grammar_model.specs.declared.Ranking.{Ranking}
 use Rattle.grammar_model.specs.declared.Ranking.TheVariants.{Rule as RuleRanks}
 use Rattle.grammar_model.proofs.ChosenOnce.{chosen_unique}
+use Rattle.grammar_model.specs.declared.limits.TheConstants.{LONGEST_INPUT}
 use Rattle.grammar_core.specs.declared.steps.Span.{Span}
 use Rattle.recognizer_model.specs.Counts.{IsCountOf}
 use Rattle.recognizer_model.specs.Links.{choices}
@@ -81,7 +82,7 @@ module _ (size : ℕ) (sized : size ≤ 100000) where
   pub own_utf8 : (bytes : List ℕ) → bytes ≡ work_input size → (text : List ℕ) (place : Option Place) (expected : List ℕ) → IsBrokenText bytes text place expected → ⊥
   own_utf8 bytes is text place expected broken = broken.broken (subst IsUtf8 (sym is) own_text.utf8)
 
-  pub own_few : (cs : List ℕ) → cs ≡ chars (work_input size) → length cs ≤ 16777216
+  pub own_few : (cs : List ℕ) → cs ≡ chars (work_input size) → length cs ≤ LONGEST_INPUT
   own_few cs is =
       let bytes = work_input size in
       omega (arith, ap length is, length-le-encodes (chars bytes), ap length (encodes-chars bytes own_text.utf8), work_length size, sized)

@@ -1,5 +1,6 @@
 -- How the work stops where a grammar or an input is refused.
 use Rattle.std.proofs.Common.{◌≡◌, ℕ, ◌<◌, List, Option, length, codes}
+use Rattle.grammar_model.specs.declared.limits.TheConstants.{LONGEST_GRAMMAR}
 use Rattle.outside_model.specs.Told.{ToldFile, MayHold, FileHolds}
 use Rattle.slif_base.proofs.Bytes.{appends_none}
 use Rattle.run_model.specs.Texts.{TooLong}
@@ -20,7 +21,7 @@ load_stops_for name told Files bytes held (Grammar text place) tells = record { 
 load_stops_for name told Files bytes held (Input text place expected) tells = absurd tells
 load_stops_for name told Files bytes held NoMemory tells = tt
 
-pub too_long_text : (told : ToldFile) (text : List ℕ) → FileHolds told (λ bytes. 1048576 < length bytes) → text ≡ codes "grammar: longer than 1048576 bytes" → FileHolds told (λ bytes. IsRefused bytes text)
+pub too_long_text : (told : ToldFile) (text : List ℕ) → FileHolds told (λ bytes. LONGEST_GRAMMAR < length bytes) → text ≡ codes "grammar: longer than 1048576 bytes" → FileHolds told (λ bytes. IsRefused bytes text)
 too_long_text told text held is = record { bytes = held.bytes; may_hold = held.may_hold; holds = ByText TooLong held.holds is }
 
 -- the input is refused, and nothing was written

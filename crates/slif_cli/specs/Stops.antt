@@ -2,6 +2,7 @@
 use Rattle.std.specs.Prelude.{◌≡◌, ℕ, List, [], ◌∷◌, ◌++◌, ◌⊎◌, Option, ⊤, ◌<◌, length, codes}
 use Rattle.std.specs.List.{concat}
 use Rattle.std.specs.Io.KnownBytes.{Appends}
+use Rattle.grammar_model.specs.declared.limits.TheConstants.{LONGEST_INPUT}
 use Rattle.outside_model.specs.Causes.{Rose}
 use Rattle.outside_model.specs.Told.{ToldFile, Holds, FileHolds, AppendsPrefix}
 use Rattle.words_model.specs.Words.{Job, InputFrom, Asks}
@@ -68,19 +69,19 @@ names_from (FileNamed name) = name ∷ []
 -- where the bytes of the input were not read
 abbrev pub ReadStops : (from : InputFrom) → (List ℕ → ToldFile) → Option (List ℕ) → (Files Input : Type 0) → Stop → Type 0
 ReadStops from file left Files Input =
-    StopsBy (OfInput (λ text. (text ≡ codes "input is longer than 16777216 bytes") × InputHolds from file left (λ bytes. 16777216 < length bytes)))
+    StopsBy (OfInput (λ text. (text ≡ codes "input is longer than 16777216 bytes") × InputHolds from file left (λ bytes. LONGEST_INPUT < length bytes)))
     (λ asked. Files × (from ≡ FileNamed asked)) (Files ⊎ Input) ⊥ ⊤
 
 -- where those of a file were not read
 abbrev pub FileStops : List ℕ → ToldFile → (Files : Type 0) → Stop → Type 0
 FileStops name told Files =
-    StopsBy (OfInput (λ text. (text ≡ codes "input is longer than 16777216 bytes") × FileHolds told (λ bytes. 16777216 < length bytes)))
+    StopsBy (OfInput (λ text. (text ≡ codes "input is longer than 16777216 bytes") × FileHolds told (λ bytes. LONGEST_INPUT < length bytes)))
     (λ asked. Files × (asked ≡ name)) Files ⊥ ⊤
 
 -- where those of the standard input were not read
 abbrev pub SourceStops : Option (List ℕ) → (Input : Type 0) → Stop → Type 0
 SourceStops left Input =
-    StopsBy (OfInput (λ text. (text ≡ codes "input is longer than 16777216 bytes") × Holds left (λ bytes. 16777216 < length bytes)))
+    StopsBy (OfInput (λ text. (text ≡ codes "input is longer than 16777216 bytes") × Holds left (λ bytes. LONGEST_INPUT < length bytes)))
     (λ name. ⊥) Input ⊥ ⊤
 
 -- an outcome over what may be the input

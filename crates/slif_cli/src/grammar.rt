@@ -6,10 +6,11 @@ ghost use Rattle.run_model.specs.Refused.{Accepted};
 ghost use Rattle.slif_cli.specs.Stops.{LoadStops};
 
 use crate::stop::{Refusal, Stop};
+use grammar_model::LONGEST_GRAMMAR;
 use scanless::Prepared;
 use slif_base::{FileRefusal, Files, read_named};
 use std::alloc::Global;
-use text_reading::{GRAMMAR_LIMIT, long_grammar_text, read_grammar};
+use text_reading::{long_grammar_text, read_grammar};
 
 /// Reads the grammar from the named file.
 pub fn load_grammar<'a, F: Files>(
@@ -24,7 +25,7 @@ pub fn load_grammar<'a, F: Files>(
     ensures asks { AsksAmong (F.asked files.old) (F.asked files.new) (name.now ∷ []) }
     ensures asked { OnOk result (AddsNames (F.asked files.old) (F.asked files.new) (name.now ∷ [])) }
 {
-    match read_named(alloc, files, name, GRAMMAR_LIMIT) {
+    match read_named(alloc, files, name, LONGEST_GRAMMAR) {
         Ok(bytes) => Ok(read_grammar(alloc, &bytes)?),
         Err(FileRefusal::OpenFault) => Err(Stop::OpenFault(name)),
         Err(FileRefusal::ReadFault) => Err(Stop::ReadFault),

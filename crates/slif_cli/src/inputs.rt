@@ -1,5 +1,6 @@
 // The bytes of the input.
 ghost use Rattle.std.specs.Prelude.{◌≡◌, ◌≢◌, ◌≤◌, ◌⊎◌, [], ◌∷◌, length, IfOk, IfErr};
+ghost use Rattle.grammar_model.specs.declared.limits.TheConstants.{LONGEST_INPUT};
 ghost use Rattle.outside_model.specs.Causes.{Rose};
 ghost use Rattle.outside_model.specs.Told.{MayBe, MayHold, SameFiles, AsksAmong};
 ghost use Rattle.words_model.specs.Words.InputFrom.{Nowhere, StandardInput};
@@ -9,9 +10,10 @@ ghost use Rattle.slif_cli.specs.Stops.{ReadStops, FileStops, SourceStops, names_
 
 use crate::stop::{Refusal, Stop};
 use command_line::InputFrom;
+use grammar_model::LONGEST_INPUT;
 use slif_base::{FileRefusal, Files, ReadRefusal, Source, read_all, read_named};
 use std::alloc::Global;
-use text_reading::{INPUT_LIMIT, long_input_text};
+use text_reading::long_input_text;
 
 /// The bytes of the input, which is somewhere.
 pub fn read_bytes<'a, F: Files, I: Source>(
@@ -22,7 +24,7 @@ pub fn read_bytes<'a, F: Files, I: Source>(
 ) -> Result<Vec<u8>, Stop<'a>>
     requires { input_of from ≢ Nowhere }
     ensures read { IfOk result (λ bytes. InputMayBe (input_of from.entry) (F.told files.old) (I.left input.old) bytes.items) }
-    ensures within { IfOk result (λ bytes. length bytes.items ≤ 16777216) }
+    ensures within { IfOk result (λ bytes. length bytes.items ≤ LONGEST_INPUT) }
     ensures stops { IfErr result (ReadStops (input_of from.entry) (F.told files.old) (I.left input.old)
         (Rose (F.fault_count files.old) (F.fault_count files.new)) (Rose (I.fault_count input.old) (I.fault_count input.new))) }
     ensures later { F.fault_count files.old ≤ F.fault_count files.new }
@@ -44,13 +46,13 @@ fn file_bytes<'a, F: Files>(
     files: &mut F,
 ) -> Result<Vec<u8>, Stop<'a>>
     ensures read { IfOk result (λ bytes. MayHold (F.told files.old name.now) bytes.items) }
-    ensures within { IfOk result (λ bytes. length bytes.items ≤ 16777216) }
+    ensures within { IfOk result (λ bytes. length bytes.items ≤ LONGEST_INPUT) }
     ensures stops { IfErr result (FileStops name.now (F.told files.old name.now) (Rose (F.fault_count files.old) (F.fault_count files.new))) }
     ensures later { F.fault_count files.old ≤ F.fault_count files.new }
     ensures held { SameFiles (F.told files.old) (F.told files.new) }
     ensures asks { AsksAmong (F.asked files.old) (F.asked files.new) (name.now ∷ []) }
 {
-    match read_named(alloc, files, name, INPUT_LIMIT) {
+    match read_named(alloc, files, name, LONGEST_INPUT) {
         Ok(bytes) => Ok(bytes),
         Err(FileRefusal::OpenFault) => Err(Stop::OpenFault(name)),
         Err(FileRefusal::ReadFault) => Err(Stop::ReadFault),
@@ -63,11 +65,11 @@ fn file_bytes<'a, F: Files>(
 
 fn standard_bytes<'a, I: Source>(alloc: Global, input: &mut I) -> Result<Vec<u8>, Stop<'a>>
     ensures read { IfOk result (λ bytes. MayBe (I.left input.old) bytes.items) }
-    ensures within { IfOk result (λ bytes. length bytes.items ≤ 16777216) }
+    ensures within { IfOk result (λ bytes. length bytes.items ≤ LONGEST_INPUT) }
     ensures stops { IfErr result (SourceStops (I.left input.old) (Rose (I.fault_count input.old) (I.fault_count input.new))) }
     ensures later { I.fault_count input.old ≤ I.fault_count input.new }
 {
-    match read_all(alloc, input, INPUT_LIMIT) {
+    match read_all(alloc, input, LONGEST_INPUT) {
         Ok(bytes) => Ok(bytes),
         Err(ReadRefusal::ReadFault) => Err(Stop::ReadFault),
         Err(ReadRefusal::TooLarge) => Err(Stop::Refused(Refusal::Input {

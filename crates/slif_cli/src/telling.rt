@@ -1,5 +1,6 @@
 // What is told of an input.
 ghost use Rattle.std.specs.Prelude.{◌≡◌, ◌≢◌, ◌≤◌, ◌⊎◌, length, IfErr, OnOk};
+ghost use Rattle.grammar_model.specs.declared.limits.TheConstants.{LONGEST_INPUT};
 ghost use Rattle.outside_model.specs.Causes.{Rose};
 ghost use Rattle.outside_model.specs.Told.{SameFiles, AsksAmong};
 ghost use Rattle.words_model.specs.Words.InputFrom.{Nowhere, StandardInput, FileNamed};
@@ -77,7 +78,7 @@ fn tell_bytes<'a, O: Sink, L: Ledger>(
     tellers: Vec<Box<dyn Teller>>,
     steps: &mut Steps<L>,
 ) -> Result<(), Stop<'a>>
-    requires few { length bytes.items ≤ 16777216 }
+    requires few { length bytes.items ≤ LONGEST_INPUT }
     requires tellers { AreBothTellers (states tellers.items shows held) }
     ensures done { OnOk result (Does (IsInputOutcome (telling_of what) prepared.now bytes.items) (O.contents out.old) (O.contents out.new)) }
     ensures stops { IfErr result (WriteStops (IsInputOutcome (telling_of what) prepared.now bytes.items)
@@ -103,7 +104,7 @@ fn tell_reading<'a, O: Sink, L: Ledger>(
     tellers: Vec<Box<dyn Teller>>,
     steps: &mut Steps<L>,
 ) -> Result<(), Stop<'a>>
-    requires few { length chars.now ≤ 16777216 }
+    requires few { length chars.now ≤ LONGEST_INPUT }
     requires read { IsReadingOf prepared.now chars.now reading.now.recce reading.now.spans.items End }
     requires tellers { AreBothTellers (states tellers.items shows held) }
     ensures done { OnOk result (Does (TellsReading (telling_of what) prepared.now chars.now) (O.contents out.old) (O.contents out.new)) }

@@ -1,6 +1,7 @@
 -- How an input, its forest and its derivations are seen.
 use Rattle.std.specs.Prelude.{ℕ, ◌≤◌, List, IfSome, length}
 use Rattle.grammar_model.specs.Trees.{Tree}
+use Rattle.grammar_model.specs.declared.limits.TheConstants.{LONGEST_INPUT}
 use Rattle.grammar_core.specs.declared.steps.Span.{Span}
 use Rattle.language_model.specs.Building.{Built}
 use Rattle.earley_sets.specs.Recognizer.{Recognizer}
@@ -27,7 +28,7 @@ pub record DerivationsOf : Type 0 where
 
 -- the recognizer and the spans are those of the characters' reading
 pub record IsHeld (b : Built) (cs : List ℕ) (recce : Recognizer) (spans : List Span) : Type 0 where
-  pub few : length cs ≤ 16777216
+  pub few : length cs ≤ LONGEST_INPUT
   pub reading : IsReadingOf b cs recce spans End
 
 -- the iterator gives derivations of the characters, and stands at one, if at all

@@ -9,12 +9,13 @@ use crate::error::error_of;
 use crate::forest::forest_with;
 use crate::{Forest, ParseError, Ranking};
 use bumpalo::Bump;
+use grammar_model::LONGEST_INPUT;
 use scanless::Prepared;
 use slif_base::{Chars, Steps};
 use std::alloc::Global;
 use std::marker::{Brand, Model};
 use std::sync::ledger::{Blank, Ledger};
-use text_reading::{INPUT_LIMIT, Refusal, input_chars, input_too_long, read_text};
+use text_reading::{Refusal, input_chars, input_too_long, read_text};
 
 /// An input that is read to its end. It is seen as the grammar, the characters, and the spans of the tokens.
 pub struct Reading<'g> {
@@ -68,7 +69,7 @@ pub fn read_bytes<'g, L: Ledger>(
     ensures read { IfOk result (IsReadAs prepared.now input.now) }
     ensures refused { IfErr result (TellsRefusal (IsInputRefusedAt prepared.now input.now)) }
 {
-    if input.len() > INPUT_LIMIT {
+    if input.len() > LONGEST_INPUT {
         return Err(input_too_long(alloc));
     }
     let chars = match copied_chars(alloc, input) {

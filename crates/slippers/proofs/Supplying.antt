@@ -4,6 +4,7 @@ use Rattle.std.specs.Option.{is_some}
 use Rattle.std.proofs.Math.Nat.{mul-le-mul_left}
 use Rattle.std.proofs.lemmas.Bool.{eq-eqb}
 use Rattle.finite_sets.proofs.Clauses.{less_differs}
+use Rattle.grammar_model.specs.declared.limits.TheConstants.{LONGEST_GIVEN}
 use Rattle.grammar_core.specs.declared.steps.Span.{Span}
 use Rattle.language_model.specs.Building.{Built}
 use Rattle.reading_model.specs.First.{IsFirstWith, HasNone}
@@ -18,7 +19,7 @@ use Rattle.slippers.specs.Supplied.{Remembers, IsSupplied, IsReadOver}
 
 -- ---- how many tokens there are
 
-module _ (b : Built) (given text : List ℕ) (pieces : List Piece) (at : ℕ) (recce : Recognizer) (spans : List Span) (read : HasRead b given text pieces at recce spans) (short : length text ≤ 1048576) (eight : length given ≤ 8) where
+module _ (b : Built) (given text : List ℕ) (pieces : List Piece) (at : ℕ) (recce : Recognizer) (spans : List Span) (read : HasRead b given text pieces at recce spans) (short : length text ≤ LONGEST_GIVEN) (eight : length given ≤ 8) where
   pub few_supplied : length (supplied_behind pieces) ≤ 8
   few_supplied = let few = (tokens_are_few b given text at pieces read.reads).1 in omega (arith, few, eight)
 
@@ -119,7 +120,7 @@ module _ (text : List ℕ) (old new : ReadSoFar) (stock : Stock) (found : Option
   pub rests_remembered : Remembers stock new.at comes.0.pieces
   rests_remembered = remembers_on stock old.at new.at so_far.pieces comes.0.pieces so_far.remembers comes.1
 
-  pub rests_turns : (turns : ℕ) → length text ≤ 1048576 → length stock.names ≤ 8 → turns ≤ old.at * 8 + length (given_at stock old.at) → turns ≤ new.at * 8 + length (supplied_behind comes.0.pieces)
+  pub rests_turns : (turns : ℕ) → length text ≤ LONGEST_GIVEN → length stock.names ≤ 8 → turns ≤ old.at * 8 + length (given_at stock old.at) → turns ≤ new.at * 8 + length (supplied_behind comes.0.pieces)
   rests_turns turns short eight le =
       turns_on stock old.at new.at so_far.pieces comes.0.pieces so_far.remembers comes.1 turns (few_supplied old.grammar stock.names text so_far.pieces old.at old.recce old.spans so_far.has_read short eight) le
 

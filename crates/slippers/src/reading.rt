@@ -1,5 +1,6 @@
 //! Reading a text with a supplier.
 ghost use Rattle.std.specs.Prelude.{◌≡◌, ℕ, ◌+◌, ◌≤◌, List, length, IfOk, OnOk, IsTrue};
+ghost use Rattle.grammar_model.specs.declared.limits.TheConstants.{LONGEST_GIVEN};
 ghost use Rattle.reading_model.specs.Reading.{Piece};
 ghost use Rattle.earley_sets.specs.Recognizer.{earleme_of};
 ghost use Rattle.earley_sets.specs.Counted.{CountsFrom, TakesAtMost};
@@ -9,13 +10,11 @@ ghost use Rattle.slippers.specs.Supplied.{IsSupplied, IsReadOver};
 
 use crate::Supplier;
 use grammar_core::SymbolId;
+use grammar_model::LAST_PLACE;
 use scanless::{Prepared, Reader, Reading};
 use slif_base::{Chars, Steps};
 use std::alloc::{AllocError, Global};
 use std::sync::ledger::Ledger;
-
-/// More tokens than a text of 1,048,576 characters can have with eight lexemes given.
-const MOST_TOKENS: u32 = 16_777_216;
 
 // Asks for a lexeme at a place.
 fn ask(
@@ -37,14 +36,14 @@ fn read_over<L: Ledger>(
     supplier: &mut Box<dyn Supplier>,
     steps: &mut Steps<L>,
 ) -> Result<Option<Vec<SymbolId>>, AllocError>
-    requires few { length chars.now ≤ 1048576 }
+    requires few { length chars.now ≤ LONGEST_GIVEN }
     requires names { length (stock supplier.old).names ≤ 8 }
     requires begun { IsSupplied chars.now reader.old (stock supplier.old) }
     ensures grammar { reader.new.grammar ≡ reader.old.grammar }
     ensures over { IfOk result (λ found. IsReadOver (stock supplier.old).names chars.now reader.new found) }
     ensures counted { OnOk result ((before : ℕ) → CountsFrom reader.old.recce before steps.old → CountsFrom reader.new.recce before steps.new) }
 {
-    for _ in 0..MOST_TOKENS {
+    for _ in 0..LAST_PLACE {
         let found = reader.read_on(alloc, chars, steps)?;
         if found.is_none() && reader.has_derivation() {
             return Ok(None);
@@ -66,7 +65,7 @@ pub fn read_slipping<'p, L: Ledger>(
     mut supplier: Box<dyn Supplier>,
     steps: &mut Steps<L>,
 ) -> Result<Reading<'p>, AllocError>
-    requires few { length chars.now ≤ 1048576 }
+    requires few { length chars.now ≤ LONGEST_GIVEN }
     requires names { length (stock supplier).names ≤ 8 }
     requires begun { stock supplier ≡ told (stock supplier).names }
     ensures reading { IfOk result (λ r. IsReadingOfWith p.now (stock supplier).names chars.now r.recce r.spans.items r.ending) }

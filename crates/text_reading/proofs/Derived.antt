@@ -11,6 +11,7 @@ use Rattle.grammar_model.specs.declared.Edge.{Edge}
 use Rattle.grammar_model.specs.declared.Ranking.{Ranking}
 use Rattle.grammar_model.specs.Order.{rank_order, tree_cmp}
 use Rattle.grammar_model.specs.Chosen.{AreChosen}
+use Rattle.grammar_model.specs.declared.limits.TheConstants.{LONGEST_INPUT}
 use Rattle.grammar_core.specs.declared.steps.Span.{Span}
 use Rattle.recognizer_model.specs.declared.flat.FlatSymbol.TheVariants.{Top}
 use Rattle.recognizer_model.specs.Chosen.{allowed_by}
@@ -90,7 +91,7 @@ all_as w v es gs r s k p q ts same_w same_e same_r same_k same_p d =
 
 -- WHERE THE FOREST IS BUILT
 
-module _ (b : Built) (ranking : Ranking) (cs : List ℕ) (recce : Recognizer) (spans : List Span) (few : length cs ≤ 16777216) (read : IsReadingOf b cs recce spans AtEnd) where
+module _ (b : Built) (ranking : Ranking) (cs : List ℕ) (recce : Recognizer) (spans : List Span) (few : length cs ≤ LONGEST_INPUT) (read : IsReadingOf b cs recce spans AtEnd) where
   pub has_forest : (f : Forest) → IsForest f → (w : Grammar) → w ≡ b.g1 → f.written ≡ w → f.flat ≡ recce.flat → f.start ≡ recce.start → f.edges ≡ recce.edges → f.place ≡ earleme_of recce → f.ranking ≡ ranking
       → HasForest b ranking cs spans f
   has_forest f is w same written flat start edges place ranked =

@@ -6,6 +6,7 @@ use Rattle.grammar_model.specs.Grammar.{Grammar}
 use Rattle.std.proofs.lemmas.List.Elements.{All-weaker, All-contains_itself, All-contains}
 use Rattle.grammar_core.specs.declared.steps.Span.{Span}
 use Rattle.grammar_model.specs.Values.{name_of}
+use Rattle.grammar_model.specs.declared.limits.TheConstants.{LONGEST_INPUT}
 use Rattle.language_model.specs.Building.{Built, LexemeRow}
 use Rattle.dsl_build.specs.Ranges.{IsInRange}
 use Rattle.slif_base.specs.Characters.{RefusesText}
@@ -81,17 +82,17 @@ input_weaker P Q f (refusal.Input text place expected) tells = f text.items plac
 input_weaker P Q f refusal.NoMemory tells = tells
 
 module _ (b : Built) (bytes text : List ℕ) (place : Option Place) (expected : List ℕ) where
-  pub refused_long : 16777216 < length bytes → text ≡ codes "input is longer than 16777216 bytes" → place ≡ None → expected ≡ [] → IsInputRefusedAt b bytes text place expected
+  pub refused_long : LONGEST_INPUT < length bytes → text ≡ codes "input is longer than 16777216 bytes" → place ≡ None → expected ≡ [] → IsInputRefusedAt b bytes text place expected
   refused_long long told placed none = record { refused = TooLong long told; place_is = placed; expected_is = none }
 
-  pub refused_broken : length bytes ≤ 16777216 → IsBrokenText bytes text place expected → IsInputRefusedAt b bytes text place expected
+  pub refused_broken : length bytes ≤ LONGEST_INPUT → IsBrokenText bytes text place expected → IsInputRefusedAt b bytes text place expected
   refused_broken within broken = record {
     refused = NotUtf8 broken.at (record { within = within; broken = broken.broken; prefix = broken.prefix }) broken.told;
     place_is = broken.place_is;
     expected_is = broken.expected_is;
   }
 
-  pub refused_stop : length bytes ≤ 16777216 → IsUtf8 bytes → IsStopText b (chars bytes) text place expected → IsInputRefusedAt b bytes text place expected
+  pub refused_stop : length bytes ≤ LONGEST_INPUT → IsUtf8 bytes → IsStopText b (chars bytes) text place expected → IsInputRefusedAt b bytes text place expected
   refused_stop within utf8 stop = record {
     refused = ReadingStops stop.pieces stop.at stop.found expected (record { within = within; utf8 = utf8 }) stop.reading stop.told;
     place_is = stop.place_is;

@@ -2,6 +2,7 @@
 use Rattle.std.proofs.Common.{◌≡◌, ◌∙◌, ℕ, ◌≤◌, ◌<◌, Bool, List, [], ◌∷◌, ◌++◌, Option, Result, Ok, Err, length, Some, None, IfSome, refl, sym, ap, subst, map, option_map, chars, codes}
 use Rattle.std.specs.Prelude.{IfErr}
 use Rattle.grammar_model.specs.Grammar.{Grammar}
+use Rattle.grammar_model.specs.declared.limits.TheConstants.{LONGEST_GRAMMAR}
 use Rattle.grammar_check.specs.declared.refusal.GrammarRefusal.{GrammarRefusal}
 use Rattle.prepared_grammars.specs.Faults.{IsSaid}
 use Rattle.grammar_check.specs.Message as check
@@ -90,7 +91,7 @@ if_refused P Q f (Err refusal) tells = tells_weaker P Q f refusal tells
 
 -- STEPS
 
-pub refused_bytes : (bytes text : List ℕ) (e : TextRefusal) (at : ℕ) → length bytes ≤ 1048576 → e ≡ BrokenText at → RefusesText bytes e → text ≡ fault_text bytes (NotUtf8 at) → IsRefusedAt bytes text None
+pub refused_bytes : (bytes text : List ℕ) (e : TextRefusal) (at : ℕ) → length bytes ≤ LONGEST_GRAMMAR → e ≡ BrokenText at → RefusesText bytes e → text ≡ fault_text bytes (NotUtf8 at) → IsRefusedAt bytes text None
 refused_bytes bytes text e at within is refuses told =
     let broken = subst (RefusesText bytes) is refuses in
     record { refused = ByText (NotUtf8 at) (record { within = within; broken = broken.0; prefix = broken.1 }) told; place_is = refl }
@@ -102,5 +103,5 @@ pub bad_statement : (cs : List ℕ) (ts : List Token) (text : List ℕ) (e : Sta
     → text ≡ codes "grammar: bad statement at " ++ place_text cs at → IsBadText cs text (Some (place_in cs at))
 bad_statement cs ts text e at are is refuses told = OfStatements at ts are (subst (RefusesStatements (map (spelled_at cs) ts)) is refuses) told refl
 
-pub too_long : (bytes text : List ℕ) → 1048576 < length bytes → text ≡ fault_text bytes TooLong → IsRefusedAt bytes text None
+pub too_long : (bytes text : List ℕ) → LONGEST_GRAMMAR < length bytes → text ≡ fault_text bytes TooLong → IsRefusedAt bytes text None
 too_long bytes text long told = record { refused = ByText TooLong long told; place_is = refl }

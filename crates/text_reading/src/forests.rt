@@ -1,5 +1,6 @@
 // The forest of a reading.
 ghost use Rattle.std.specs.Prelude.{◌≡◌, ◌≤◌, ◌+◌, ℕ, None, length, IfOk, IfErr};
+ghost use Rattle.grammar_model.specs.declared.limits.TheConstants.{LONGEST_INPUT};
 ghost use Rattle.recognizer_model.specs.Counts.{IsCountOf};
 ghost use Rattle.recognizer_model.specs.Chosen.{allowed_by};
 ghost use Rattle.recognizer_model.specs.Nodes.{IsExpanded};
@@ -31,7 +32,7 @@ pub fn forest_of<'r, L: Ledger>(
     reading: &'r Reading<'r>,
     steps: &mut Steps<L>,
 ) -> Result<Forest<'r>, Refusal>
-    requires few { length chars.now ≤ 16777216 }
+    requires few { length chars.now ≤ LONGEST_INPUT }
     requires read { IsReadingOf prepared.now chars.now reading.now.recce reading.now.spans.items End }
     ensures forest { IfOk result (λ f. HasForest prepared.now ranking chars.now reading.now.spans.items f) }
     ensures refused { IfErr result (TellsInput (IsNoDerivation prepared.now ranking chars.now)) }

@@ -1,5 +1,6 @@
 // The grammars of a text.
 ghost use Rattle.std.specs.Prelude.{◌≡◌, ◌≤◌, ◌<◌, IfOk, IfErr, OnOk, None, IsUtf8, chars as chars_in, length, codes, option_map};
+ghost use Rattle.grammar_model.specs.declared.limits.TheConstants.{LONGEST_GRAMMAR};
 ghost use Rattle.dsl_faults.specs.Found.{refused_fault};
 ghost use Rattle.language_model.specs.Building.{Built};
 ghost use Rattle.language_model.specs.Texts.{IsDescription, IsBuilt, IsBuiltOf};
@@ -17,12 +18,10 @@ use dsl_build::{BuildRefusal, Built, build};
 use dsl_reader::{StatementRefusal, parse};
 use dsl_statement::Description;
 use dsl_tokens::{TokenRefusal, tokens};
+use grammar_model::LONGEST_GRAMMAR;
 use scanless::{PrepareRefusal, Prepared, prepare};
 use slif_base::{Chars, TextRefusal, chars_of};
 use std::alloc::{AllocError, Global};
-
-/// The greatest length of a grammar, in bytes.
-pub const GRAMMAR_LIMIT: usize = 1_048_576;
 
 /// What is told of a grammar that is longer than 1,048,576 bytes.
 pub fn long_grammar_text(alloc: Global) -> Result<Vec<u8>, AllocError>
@@ -36,7 +35,7 @@ pub fn grammar_of(alloc: Global, bytes: &[u8]) -> Result<Prepared, Refusal>
     ensures read { IfOk result (Accepted bytes.now) }
     ensures refused { IfErr result (TellsGrammar (IsRefusedAt bytes.now)) }
 {
-    if bytes.len() > GRAMMAR_LIMIT {
+    if bytes.len() > LONGEST_GRAMMAR {
         let text = long_grammar_text(alloc)?;
         return Err(Refusal::Grammar { text, place: None });
     }
@@ -45,7 +44,7 @@ pub fn grammar_of(alloc: Global, bytes: &[u8]) -> Result<Prepared, Refusal>
 
 /// The grammars of a text that is not too long.
 pub fn read_grammar(alloc: Global, bytes: &[u8]) -> Result<Prepared, Refusal>
-    requires { length bytes.now ≤ 1048576 }
+    requires { length bytes.now ≤ LONGEST_GRAMMAR }
     ensures read { IfOk result (Accepted bytes.now) }
     ensures refused { IfErr result (TellsGrammar (IsRefusedAt bytes.now)) }
 {
@@ -64,7 +63,7 @@ pub fn read_grammar(alloc: Global, bytes: &[u8]) -> Result<Prepared, Refusal>
 }
 
 fn characters(alloc: Global, bytes: &[u8]) -> Result<Chars, Refusal>
-    requires { length bytes.now ≤ 1048576 }
+    requires { length bytes.now ≤ LONGEST_GRAMMAR }
     ensures utf8 { OnOk result (IsUtf8 bytes.now) }
     ensures ok { IfOk result (λ chars. chars ≡ chars_in bytes.now) }
     ensures refused { IfErr result (TellsGrammar (IsRefusedAt bytes.now)) }

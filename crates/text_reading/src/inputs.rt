@@ -2,6 +2,7 @@
 ghost use Rattle.std.specs.Prelude.{◌≡◌, ◌≤◌, ◌<◌, ◌++◌, ℕ, List, All, IsUtf8, length, chars as chars_in, codes, decimal, IfOk, IfErr, OnOk};
 ghost use Rattle.std.specs.List.{flat_map};
 ghost use Rattle.grammar_model.specs.Values.{name_of};
+ghost use Rattle.grammar_model.specs.declared.limits.TheConstants.{LONGEST_INPUT};
 ghost use Rattle.language_model.specs.Building.{Built};
 ghost use Rattle.earley_sets.specs.Counted.{TakesAtMost};
 ghost use Rattle.run_model.specs.Inputs.{names_text, stop_text};
@@ -13,13 +14,11 @@ ghost use Rattle.text_reading.specs.Parts.{IsBrokenText, IsStopText};
 use crate::Refusal;
 use crate::phrases::{not_utf8_text, phrase, place_in};
 use grammar_core::{SymbolId, Written};
+use grammar_model::LONGEST_INPUT;
 use scanless::{Ending, Prepared, Reading, read_input};
 use slif_base::{Chars, Steps, TextRefusal, chars_from};
 use std::alloc::{AllocError, Global};
 use std::sync::ledger::Ledger;
-
-/// The greatest length of an input, in bytes.
-pub const INPUT_LIMIT: usize = 16_777_216;
 
 /// What is told of an input that is longer than 16,777,216 bytes.
 pub fn long_input_text(alloc: Global) -> Result<Vec<u8>, AllocError>
@@ -30,7 +29,7 @@ pub fn long_input_text(alloc: Global) -> Result<Vec<u8>, AllocError>
 
 /// The refusal of an input that is longer than 16,777,216 bytes.
 pub fn input_too_long(alloc: Global) -> Refusal
-    ensures { (bytes : List ℕ) (b : Built) → 16777216 < length bytes → TellsInput (IsInputRefusedAt b bytes) result }
+    ensures { (bytes : List ℕ) (b : Built) → LONGEST_INPUT < length bytes → TellsInput (IsInputRefusedAt b bytes) result }
 {
     match long_input_text(alloc) {
         Ok(text) => Refusal::Input {
@@ -66,7 +65,7 @@ pub fn read_text<'p, L: Ledger>(
     chars: &Chars,
     steps: &mut Steps<L>,
 ) -> Result<Reading<'p>, Refusal>
-    requires { length chars.now ≤ 16777216 }
+    requires { length chars.now ≤ LONGEST_INPUT }
     ensures read { IfOk result (λ r. IsReadingOf prepared.now chars.now r.recce r.spans.items End) }
     ensures counted { IfOk result (λ r. TakesAtMost r.recce steps.old steps.new) }
     ensures refused { IfErr result (TellsInput (IsStopText prepared.now chars.now)) }
@@ -88,7 +87,7 @@ fn ended(
     chars: &Chars,
     reading: &Reading<'_>,
 ) -> Result<(), Refusal>
-    requires few { length chars.now ≤ 16777216 }
+    requires few { length chars.now ≤ LONGEST_INPUT }
     requires read { IsReadingOf prepared.now chars.now reading.now.recce reading.now.spans.items reading.now.ending }
     ensures end { OnOk result (reading.now.ending ≡ End) }
     ensures refused { IfErr result (TellsInput (IsStopText prepared.now chars.now)) }
@@ -119,7 +118,7 @@ fn stopped_text(
     found: &[SymbolId],
     expected: &[SymbolId],
 ) -> Result<Vec<u8>, AllocError>
-    requires few { length chars.now ≤ 16777216 }
+    requires few { length chars.now ≤ LONGEST_INPUT }
     requires found { All (λ s. s < length w.now.names) found.now }
     requires expected { All (λ s. s < length w.now.names) expected.now }
     ensures { IfOk result (λ text. text.items ≡ stop_text w.now chars.now at found.now expected.now) }

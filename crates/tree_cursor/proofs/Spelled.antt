@@ -13,6 +13,7 @@ use Rattle.std.proofs.lemmas.List.Sums.{count_by-le-length}
 use Rattle.std.proofs.lemmas.Bool.{ne_eqb}
 use Rattle.grammar_model.specs.Trees.{Tree, Children, NoChild, Child, child_count}
 use Rattle.grammar_model.specs.Steps.{Step, TokenStep, NulledStep, RuleStep, steps_of, steps_of_all, after_step}
+use Rattle.grammar_model.specs.declared.limits.TheConstants.{LONGEST_CURSOR}
 use Rattle.grammar_core.specs.declared.steps.TreeStep.{TreeStep}
 use Rattle.grammar_core.specs.Steps.{step_of}
 use Rattle.cursor_model.specs.Cursor.{step_text, cursor_text}
@@ -137,7 +138,7 @@ one_child (Child (Child cs u) t) e = absurd (omega (arith, e))
 laid_one : (t : Tree) (q : ℕ) → AreLaid 0 q (Child NoChild t) → IsLaid 0 q t
 laid_one t q (m, h, k) = subst (λ p. IsLaid p q t) (sym h) k
 
-pub spelled : (text : List ℕ) (stack : Stack) (steps : List TreeStep) (left : List (List ℕ)) → left ≡ [] → AreRead text stack steps left → length text ≤ 16777216 → length stack.starts.items ≡ 1 →
+pub spelled : (text : List ℕ) (stack : Stack) (steps : List TreeStep) (left : List (List ℕ)) → left ≡ [] → AreRead text stack steps left → length text ≤ LONGEST_CURSOR → length stack.starts.items ≡ 1 →
     (t : Tree) × Spells text t × (map step_of steps ≡ steps_of t)
 spelled text stack steps left none r within count =
     let one = one_child r.trees (sym (starts_count r.trees) ∙ ap length (sym r.told.starts) ∙ count) in
@@ -199,7 +200,7 @@ one_read text old new steps longer step done piece rest left left_is r is small 
     }
 
 -- there is room for one more place
-pub has_room : (text : List ℕ) (stack : Stack) (steps : List TreeStep) (piece : List ℕ) (rest left : List (List ℕ)) → left ≡ piece ∷ rest → AreRead text stack steps left → length text ≤ 16777216 → stack.end < 4294967295
+pub has_room : (text : List ℕ) (stack : Stack) (steps : List TreeStep) (piece : List ℕ) (rest left : List (List ℕ)) → left ≡ piece ∷ rest → AreRead text stack steps left → length text ≤ LONGEST_CURSOR → stack.end < 4294967295
 has_room text stack steps piece rest left left_is r within =
     let a = length-slice_split (λ b. eqb b 46) text in
     let b = count_by-le-length (λ b. eqb b 46) text in

@@ -10,17 +10,15 @@ use crate::CursorRefusal;
 use crate::pieces::step_told;
 use crate::stack::Stack;
 use grammar_core::TreeStep;
+use grammar_model::LONGEST_CURSOR;
 use std::alloc::Global;
-
-/// The most bytes of a cursor that is read.
-const MOST_BYTES: usize = 16_777_216;
 
 /// The steps of the tree that a text spells, with their places: the tokens lie one place each from place 0 on.
 pub fn read_cursor(alloc: Global, text: &str) -> Result<Vec<TreeStep>, CursorRefusal>
     ensures ok { IfOk result (λ steps. (tree : Tree) × Spells text.now tree × (map step_of steps.items ≡ steps_of tree)) }
     ensures bad { IfErr result (λ refusal. refusal ≡ BadCursor → (tree : Tree) → Spells text.now tree → ⊥) }
 {
-    if text.len() > MOST_BYTES {
+    if text.len() > LONGEST_CURSOR {
         return Err(CursorRefusal::BadCursor);
     }
     let mut stack = Stack::new(alloc);

@@ -8,6 +8,7 @@ use Rattle.grammar_model.specs.Grammar.{Grammar, Slot, WrittenRule, slot_of, rul
 use Rattle.grammar_model.specs.Trees.{Tree, Children, Leaf, Nulled, Node, NoChild, Child, child_count}
 use Rattle.grammar_model.specs.Derives.{Edges, Held, Derives, DerivesPrefix}
 use Rattle.grammar_model.specs.Steps.{steps_of}
+use Rattle.grammar_model.specs.declared.limits.TheConstants.{LAST_PLACE, LONGEST_INPUT}
 use Rattle.grammar_core.specs.declared.steps.Span.{Span}
 use Rattle.earley_sets.proofs.Membership.{Contains-map_from}
 use Rattle.language_model.specs.Building.{Built}
@@ -29,7 +30,7 @@ spans_inside count at [] le = tt
 spans_inside count at (Token n symbols ∷ pieces) le = (omega (arith, le), spans_inside count (at + n) pieces (omega (arith, le)))
 spans_inside count at (Skipped n ∷ pieces) le = spans_inside count (at + n) pieces (omega (arith, le))
 
-inside_fit : (count : ℕ) (spans : List Span) → count ≤ 16777216 → AreInside count (map span_of spans) → AreSpans count spans
+inside_fit : (count : ℕ) (spans : List Span) → count ≤ LAST_PLACE → AreInside count (map span_of spans) → AreSpans count spans
 inside_fit count [] few inside k d lt = absurd (omega (arith, lt))
 inside_fit count (s ∷ spans) few (le, inside) zero d lt = (le, omega (arith, le, few))
 inside_fit count (s ∷ spans) few (le, inside) (suc k) d lt = inside_fit count spans few inside k d (omega (arith, lt))
@@ -40,7 +41,7 @@ spans_count at [] = refl
 spans_count at (Token n symbols ∷ pieces) = ap suc (spans_count (at + n) pieces)
 spans_count at (Skipped n ∷ pieces) = spans_count (at + n) pieces
 
-pub spans_fit : (b : Built) (cs : List ℕ) (pieces : List Piece) (spans : List Span) → length cs ≤ 16777216 → IsReading b cs pieces End → map span_of spans ≡ spans_from 0 pieces →
+pub spans_fit : (b : Built) (cs : List ℕ) (pieces : List Piece) (spans : List Span) → length cs ≤ LONGEST_INPUT → IsReading b cs pieces End → map span_of spans ≡ spans_from 0 pieces →
     AreSpans (length cs) spans × (length spans ≡ earleme_after pieces)
 spans_fit b cs pieces spans few (HasEnded r end) are = (
   inside_fit (length cs) spans few (subst (AreInside (length cs)) (sym are) (spans_inside (length cs) 0 pieces (let e = characters_are r in omega (arith, e)))),

@@ -2,6 +2,7 @@
 use Rattle.std.specs.Prelude.{◌≡◌, ℕ, ◌≤◌, Bool, true, false, List, [], ◌∷◌, ◌++◌, length, map}
 use Rattle.grammar_model.specs.Trees.{Tree}
 use Rattle.grammar_model.specs.declared.Show.{Show}
+use Rattle.grammar_model.specs.declared.limits.TheConstants.{LONGEST_INPUT}
 use Rattle.grammar_core.specs.declared.steps.Span.{Span}
 use Rattle.language_model.specs.Building.{Built}
 use Rattle.reading_model.specs.Reading.{Piece, End, IsReading, edges_of, earleme_after, spans_from}
@@ -19,7 +20,7 @@ score_of b cs spans = record { grammar = b.g1; meaning = b.meaning; chars = cs; 
 
 -- the forest is that of the pieces, by the flat grammar that is listed, and these are the spans of their tokens
 pub record IsForestOf (b : Built) (cs : List ℕ) (spans : List Span) (f : Forest) (pieces : List Piece) : Type 0 where
-  pub few : length cs ≤ 16777216
+  pub few : length cs ≤ LONGEST_INPUT
   pub reading : IsReading b cs pieces End
   pub spans_are : map span_of spans ≡ spans_from 0 pieces
   pub written : f.written ≡ b.g1

@@ -4,6 +4,7 @@ use Rattle.grammar_model.specs.declared.Ranking.{Ranking}
 use Rattle.grammar_model.specs.declared.Ranking.TheVariants.{None as NoRanks, Rule as RuleRanks}
 use Rattle.grammar_model.specs.declared.Show.{Show}
 use Rattle.grammar_model.specs.declared.Show.TheVariants.{Array as ShowArray, Tree as ShowTree}
+use Rattle.grammar_model.specs.declared.limits.TheConstants.{LAST_PLACE}
 use Rattle.words_model.specs.Words.{Job, Task, Values, Check, Expected, Report, Glades, Tell, Work, InputFrom, Nowhere, StandardInput, FileNamed, job_asked}
 
 abbrev input_in : Option (List ℕ) → InputFrom
@@ -199,7 +200,7 @@ at_for_run = refl
 at_0 : job_asked (codes "progress" ∷ codes "--at" ∷ codes "0" ∷ codes "--grammar" ∷ codes "g.slif" ∷ codes "--input" ∷ codes "text" ∷ []) ≡ Some (reports (codes "g.slif") 0 (Some (codes "text")))
 at_0 = refl
 
-at_most : job_asked (codes "progress" ∷ codes "--at=16777216" ∷ codes "--grammar" ∷ codes "g.slif" ∷ []) ≡ Some (reports (codes "g.slif") 16777216 None)
+at_most : job_asked (codes "progress" ∷ codes "--at=16777216" ∷ codes "--grammar" ∷ codes "g.slif" ∷ []) ≡ Some (reports (codes "g.slif") LAST_PLACE None)
 at_most = refl
 
 at_past_the_most : job_asked (codes "progress" ∷ codes "--at=16777217" ∷ codes "--grammar" ∷ codes "g.slif" ∷ []) ≡ None

@@ -8,6 +8,7 @@ use Rattle.grammar_model.specs.declared.Ranking.{Ranking}
 use Rattle.grammar_model.specs.declared.Ranking.TheVariants.{None as NoRanks, Rule as RuleRanks, High as HighRanks}
 use Rattle.grammar_model.specs.declared.Show.{Show}
 use Rattle.grammar_model.specs.declared.Show.TheVariants.{Array as ShowArray, Tree as ShowTree}
+use Rattle.grammar_model.specs.declared.limits.TheConstants.{LAST_PLACE}
 use Rattle.language_model.specs.Building.{digits_number, is_one_of}
 
 -- ---- jobs
@@ -194,7 +195,7 @@ values_asked given =
     (read_or ShowArray show_of (given (codes "show")))
 
 abbrev pub report_asked : Given → Option Telling
-report_asked given = option_map Report (option_and_then (number_from 0 16777216) (given (codes "at")))
+report_asked given = option_map Report (option_and_then (number_from 0 LAST_PLACE) (given (codes "at")))
 
 abbrev pub work_asked : Given → Option Task
 work_asked given = option_map Work (option_and_then (number_from 1 100000) (given (codes "size")))

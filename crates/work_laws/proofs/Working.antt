@@ -8,6 +8,7 @@ use Rattle.grammar_model.specs.Trees.{Tree}
 use Rattle.grammar_model.specs.Derives.{Held, Line, Derives}
 use Rattle.grammar_model.specs.Chosen.{AreChosen}
 use Rattle.grammar_model.proofs.ChosenOnce.{alike_chosen}
+use Rattle.grammar_model.specs.declared.limits.TheConstants.{LONGEST_INPUT}
 use Rattle.reading_model.specs.Reading.{End, HasEnded, IsReading, earleme_after, edges_of}
 use Rattle.run_model.specs.Jobs.{work_grammar, work_input}
 use Rattle.run_model.specs.Refused.{Accepted}
@@ -71,7 +72,7 @@ module _ (size : ℕ) where
 work_accepted : Accepted work_grammar work_built
 work_accepted = record { description = work_description; has = has_description; built = is_built_of; accepted = is_accepted }
 
-is_read : (size : ℕ) → 3 * size < 16777216 → IsRead work_built (work_input size) (ones (word size))
+is_read : (size : ℕ) → 3 * size < LONGEST_INPUT → IsRead work_built (work_input size) (ones (word size))
 is_read size few =
     let long = input_length size in
     let count = word_length size in

@@ -2,6 +2,7 @@
 ghost use Rattle.std.specs.Prelude.{◌≤◌, ◌<◌, ◌∷◌, [], All, length, map, IfErr, OnOk};
 ghost use Rattle.std.specs.List.{concat};
 ghost use Rattle.std.specs.Io.KnownBytes.{Appends};
+ghost use Rattle.grammar_model.specs.declared.limits.TheConstants.{LONGEST_INPUT};
 ghost use Rattle.run_model.specs.Outside.{stream};
 ghost use Rattle.run_model.specs.Glades.{glade_line};
 ghost use Rattle.words_model.specs.Words.Telling.{Glades};
@@ -31,7 +32,7 @@ pub fn write_glades<'a, O: Sink, L: Ledger>(
     out: &mut O,
     steps: &mut Steps<L>,
 ) -> Result<(), Stop<'a>>
-    requires few { length chars.now ≤ 16777216 }
+    requires few { length chars.now ≤ LONGEST_INPUT }
     requires read { IsReadingOf prepared.now chars.now reading.now.recce reading.now.spans.items End }
     ensures done { OnOk result (Does (TellsReading Glades prepared.now chars.now) (O.contents out.old) (O.contents out.new)) }
     ensures stops { IfErr result (WriteStops (TellsReading Glades prepared.now chars.now)

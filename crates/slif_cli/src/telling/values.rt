@@ -2,6 +2,7 @@
 ghost use Rattle.std.specs.Prelude.{◌≤◌, length, IfErr, OnOk};
 ghost use Rattle.std.specs.List.{concat};
 ghost use Rattle.std.specs.Io.KnownBytes.{Appends};
+ghost use Rattle.grammar_model.specs.declared.limits.TheConstants.{LONGEST_INPUT};
 ghost use Rattle.run_model.specs.Outside.{stream};
 ghost use Rattle.words_model.specs.Words.Telling.{Values};
 ghost use Rattle.run_model.specs.Telling.{stats_lines};
@@ -38,7 +39,7 @@ pub fn write_values<'a, O: Sink, L: Ledger>(
     tellers: Vec<Box<dyn Teller>>,
     steps: &mut Steps<L>,
 ) -> Result<(), Stop<'a>>
-    requires few { length chars.now ≤ 16777216 }
+    requires few { length chars.now ≤ LONGEST_INPUT }
     requires read { IsReadingOf prepared.now chars.now reading.now.recce reading.now.spans.items End }
     requires tellers { AreBothTellers (states tellers.items shows held) }
     ensures done { OnOk result (Does (TellsReading (Values (asked_of asked)) prepared.now chars.now) (O.contents out.old) (O.contents out.new)) }

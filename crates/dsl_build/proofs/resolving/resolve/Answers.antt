@@ -1,6 +1,7 @@
 use Rattle.std.proofs.Common.{◌≡◌, ◌≤◌, ◌∙◌, ap, map, subst, sym, List, ℕ, true, false, length, arith}
 use Rattle.std.specs.Prelude.{flat_map, filter, All}
 use Rattle.std.proofs.lemmas.List.Elements.{All-from_recursion}
+use Rattle.grammar_model.specs.declared.limits.TheConstants.{MOST_ENTRIES}
 use Rattle.language_model.specs.Description.{Adverb, Statement}
 use Rattle.language_model.specs.Texts.{IsDescription}
 use Rattle.language_model.specs.Building.{lexeme_row, rules_of, is_of_level, is_one_of, place_in, lexemes, symbols_g1, named_l0, start_of, start_texts, discarded}
@@ -25,13 +26,13 @@ all_among names others texts ts n t a = subst (λ ns. All (λ x. is_one_of ns x 
 as_few : (names others : List (List ℕ)) (n : ℕ) → names ≡ others → length others ≤ n → length names ≤ n
 as_few names others n e le = subst (λ (ns : List (List ℕ)). length ns ≤ n) (sym e) le
 
-symbols_few : (d : List Statement) → IsDescription d → length (symbols_g1 d) ≤ 16777215
+symbols_few : (d : List Statement) → IsDescription d → length (symbols_g1 d) ≤ MOST_ENTRIES
 symbols_few d h = let few = (modest d h).symbols in omega (arith, few)
 
-named_few : (d : List Statement) → IsDescription d → length (named_l0 d) ≤ 16777215
+named_few : (d : List Statement) → IsDescription d → length (named_l0 d) ≤ MOST_ENTRIES
 named_few d h = let few = (modest d h).named in omega (arith, few)
 
-starts_few : (d : List Statement) → IsDescription d → length (start_texts d) ≤ 16777215
+starts_few : (d : List Statement) → IsDescription d → length (start_texts d) ≤ MOST_ENTRIES
 starts_few d h = let few = (modest d h).starts in omega (arith, few)
 
 pub rules_of-requires-clause-structural : goal.rules_of-requires-clause-structural
@@ -47,10 +48,10 @@ rules_of-requires-clause-lexical c =
     (held_all (λ s. is_of_level true s ≡ true → IsReady (named_l0 d) s) statement_of c.args.statements.now (lexical_ready d (faultless d c.requires.faultless) c.requires.described))
 
 pub rules_of-requires-clause-few : goal.rules_of-requires-clause-few
-rules_of-requires-clause-few c = let d = map statement_of c.args.statements.now in as_few _ (symbols_g1 d) 16777215 c.requires.texts.symbols (symbols_few d c.requires.described)
+rules_of-requires-clause-few c = let d = map statement_of c.args.statements.now in as_few _ (symbols_g1 d) MOST_ENTRIES c.requires.texts.symbols (symbols_few d c.requires.described)
 
 pub rules_of-requires-clause-few_lexical : goal.rules_of-requires-clause-few_lexical
-rules_of-requires-clause-few_lexical c = let d = map statement_of c.args.statements.now in as_few _ (named_l0 d) 16777215 c.requires.texts.named (named_few d c.requires.described)
+rules_of-requires-clause-few_lexical c = let d = map statement_of c.args.statements.now in as_few _ (named_l0 d) MOST_ENTRIES c.requires.texts.named (named_few d c.requires.described)
 
 pub starts_of-requires-clause-named : goal.starts_of-requires-clause-named
 starts_of-requires-clause-named c =
@@ -60,7 +61,7 @@ starts_of-requires-clause-named c =
     all_among _ (symbols_g1 d) _ (start_of d) c.requires.texts.symbols starts (All-from_recursion (λ t. is_one_of (symbols_g1 d) t ≡ true) (start_of d) (start_known d))
 
 pub starts_of-requires-clause-few : goal.starts_of-requires-clause-few
-starts_of-requires-clause-few c = let d = map statement_of c.args.statements.now in as_few _ (symbols_g1 d) 16777215 c.requires.texts.symbols (symbols_few d c.requires.described)
+starts_of-requires-clause-few c = let d = map statement_of c.args.statements.now in as_few _ (symbols_g1 d) MOST_ENTRIES c.requires.texts.symbols (symbols_few d c.requires.described)
 
 pub symbols_of-requires-clause-named : goal.symbols_of-requires-clause-named
 symbols_of-requires-clause-named c =
@@ -68,7 +69,7 @@ symbols_of-requires-clause-named c =
     all_among _ (named_l0 d) _ (start_texts d) c.requires.texts.named c.requires.texts.starts (All-from_recursion (λ t. is_one_of (named_l0 d) t ≡ true) (start_texts d) (starts_named d))
 
 pub symbols_of-requires-clause-few : goal.symbols_of-requires-clause-few
-symbols_of-requires-clause-few c = let d = map statement_of c.args.statements.now in as_few _ (named_l0 d) 16777215 c.requires.texts.named (named_few d c.requires.described)
+symbols_of-requires-clause-few c = let d = map statement_of c.args.statements.now in as_few _ (named_l0 d) MOST_ENTRIES c.requires.texts.named (named_few d c.requires.described)
 
 pub lexeme_rows-requires-clause-once : goal.lexeme_rows-requires-clause-once
 lexeme_rows-requires-clause-once c = let d = map statement_of c.args.statements.now in lexemes_new d (faultless d c.requires.faultless).repeats
@@ -89,10 +90,10 @@ lexeme_rows-requires-clause-starts c =
     all_among _ (start_texts d) _ (lexemes d) c.requires.texts.starts c.requires.texts.lexemes (All-from_recursion (λ t. is_one_of (start_texts d) t ≡ true) (lexemes d) (lexemes_started d))
 
 pub lexeme_rows-requires-clause-few : goal.lexeme_rows-requires-clause-few
-lexeme_rows-requires-clause-few c = let d = map statement_of c.args.statements.now in as_few _ (symbols_g1 d) 16777215 c.requires.texts.symbols (symbols_few d c.requires.described)
+lexeme_rows-requires-clause-few c = let d = map statement_of c.args.statements.now in as_few _ (symbols_g1 d) MOST_ENTRIES c.requires.texts.symbols (symbols_few d c.requires.described)
 
 pub lexeme_rows-requires-clause-few_starts : goal.lexeme_rows-requires-clause-few_starts
-lexeme_rows-requires-clause-few_starts c = let d = map statement_of c.args.statements.now in as_few _ (start_texts d) 16777215 c.requires.texts.starts (starts_few d c.requires.described)
+lexeme_rows-requires-clause-few_starts c = let d = map statement_of c.args.statements.now in as_few _ (start_texts d) MOST_ENTRIES c.requires.texts.starts (starts_few d c.requires.described)
 
 pub places_of-requires-clause-named : goal.places_of-requires-clause-named
 places_of-requires-clause-named c =
@@ -100,7 +101,7 @@ places_of-requires-clause-named c =
     all_among _ (start_texts d) _ (discarded d) c.requires.texts.starts c.requires.texts.discards (All-from_recursion (λ t. is_one_of (start_texts d) t ≡ true) (discarded d) (discards_started d))
 
 pub places_of-requires-clause-few : goal.places_of-requires-clause-few
-places_of-requires-clause-few c = let d = map statement_of c.args.statements.now in as_few _ (start_texts d) 16777215 c.requires.texts.starts (starts_few d c.requires.described)
+places_of-requires-clause-few c = let d = map statement_of c.args.statements.now in as_few _ (start_texts d) MOST_ENTRIES c.requires.texts.starts (starts_few d c.requires.described)
 
 pub returns : goal.returns
 returns c =

@@ -1,10 +1,10 @@
 use Rattle.std.proofs.Common.{◌<◌, ◌≤◌, ◌^◌, length, sym, ◌∙◌, subst}
+use Rattle.grammar_model.specs.declared.limits.TheConstants.{MOST_FLAT_RULES}
 use Rattle.grammar_core.specs.Written.{IsWritten}
 use Rattle.recognizer_model.specs.Flat.{FlatGrammar}
 use Rattle.recognizer_model.specs.Invariant.{IsFlat, IsArranged}
 use Rattle.recognizer_model.specs.FlatForm.{IsFlatOf}
 use Rattle.flat_model.specs.Flatten.{Decided, flat_of, AreFew}
-use Rattle.flat_model.specs.Flattened.{most_rules}
 use Rattle.flat_rules.proofs.Agreeing.{err_too_many, few_enough}
 use Rattle.flat_rules.proofs.Deciding.{decided_of}
 use Rattle.flat_rules.proofs.Law.{flat_grammars_exist}
@@ -21,7 +21,7 @@ from_parts-requires-clause-flat c =
     let written = subst IsWritten c.written.ensures c.known-2.ensures in
     let d : Decided w = decided_of w written c.tested.ensures in
     let same = c.in_ok-parts.ensures.flat d in
-    let few : AreFew w (flat_of w d) = few_enough w d written (subst (λ (f : FlatGrammar). length f.symbols < 2 ^ 32) same c.in_ok-parts.ensures.small) (subst (λ (f : FlatGrammar). length f.rules ≤ most_rules) same c.in_ok-parts.ensures.few) in
+    let few : AreFew w (flat_of w d) = few_enough w d written (subst (λ (f : FlatGrammar). length f.symbols < 2 ^ 32) same c.in_ok-parts.ensures.small) (subst (λ (f : FlatGrammar). length f.rules ≤ MOST_FLAT_RULES) same c.in_ok-parts.ensures.few) in
     subst IsFlat (sym same) (flat_grammars_exist w d c.known.ensures.checked few).1
 
 pub from_parts-requires-clause-arranged : goal.from_parts-requires-clause-arranged
@@ -30,7 +30,7 @@ from_parts-requires-clause-arranged c =
     let written = subst IsWritten c.written.ensures c.known-2.ensures in
     let d : Decided w = decided_of w written c.tested.ensures in
     let same = c.in_ok-parts.ensures.flat d in
-    let few : AreFew w (flat_of w d) = few_enough w d written (subst (λ (f : FlatGrammar). length f.symbols < 2 ^ 32) same c.in_ok-parts.ensures.small) (subst (λ (f : FlatGrammar). length f.rules ≤ most_rules) same c.in_ok-parts.ensures.few) in
+    let few : AreFew w (flat_of w d) = few_enough w d written (subst (λ (f : FlatGrammar). length f.symbols < 2 ^ 32) same c.in_ok-parts.ensures.small) (subst (λ (f : FlatGrammar). length f.rules ≤ MOST_FLAT_RULES) same c.in_ok-parts.ensures.few) in
     subst IsArranged (sym same) (flat_grammars_exist w d c.known.ensures.checked few).2
 
 pub returns-clause-flat : goal.returns-clause-flat
@@ -39,9 +39,9 @@ returns-clause-flat c =
     let written = subst IsWritten c.written.ensures c.known-2.ensures in
     let d : Decided w = decided_of w written c.tested.ensures in
     let same = c.in_ok-parts.ensures.flat d in
-    let few : AreFew w (flat_of w d) = few_enough w d written (subst (λ (f : FlatGrammar). length f.symbols < 2 ^ 32) same c.in_ok-parts.ensures.small) (subst (λ (f : FlatGrammar). length f.rules ≤ most_rules) same c.in_ok-parts.ensures.few) in record {
+    let few : AreFew w (flat_of w d) = few_enough w d written (subst (λ (f : FlatGrammar). length f.symbols < 2 ^ 32) same c.in_ok-parts.ensures.small) (subst (λ (f : FlatGrammar). length f.rules ≤ MOST_FLAT_RULES) same c.in_ok-parts.ensures.few) in record {
       decided = d;
       listed = λ e. c.from_parts.ensures ∙ c.in_ok-parts.ensures.flat e;
       made = subst (λ f. IsFlatOf f w) (sym (c.from_parts.ensures ∙ same)) (flat_grammars_exist w d c.known.ensures.checked few).0;
-      few = subst (λ (f : FlatGrammar). length f.rules ≤ most_rules) (sym c.from_parts.ensures) c.in_ok-parts.ensures.few;
+      few = subst (λ (f : FlatGrammar). length f.rules ≤ MOST_FLAT_RULES) (sym c.from_parts.ensures) c.in_ok-parts.ensures.few;
     }

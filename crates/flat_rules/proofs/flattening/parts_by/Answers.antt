@@ -1,8 +1,8 @@
 use Rattle.std.proofs.Common.{◌≤◌, length, sym, ◌∙◌, ap, subst, arith}
 use Rattle.grammar_model.specs.Grammar.{Grammar}
+use Rattle.grammar_model.specs.declared.limits.TheConstants.{MOST_FLAT_RULES}
 use Rattle.grammar_core.specs.Written.{IsWritten}
 use Rattle.flat_model.specs.Flatten.{Decided}
-use Rattle.flat_model.specs.Flattened.{most_rules}
 use Rattle.flat_rules.proofs.Agreeing.{err_many, tops_as, tops_within, count_symbols}
 use Rattle.flat_rules.proofs.Deciding.{decided_of}
 use Rattle.flat_rules.proofs.flattening.parts_by.Goals as goal
@@ -29,7 +29,7 @@ returns-clause-flat c = λ d.
 pub returns-clause-few : goal.returns-clause-few
 returns-clause-few c =
     let d : Decided c.args.c.now = decided_of c.args.c.now (subst IsWritten c.written-w.ensures c.start_count-starts.ensures.sound) c.tested.ensures in
-    subst (λ l. length l ≤ most_rules) (sym (c.in_ok-rules.ensures d).0) (c.in_ok-rules.ensures d).1
+    subst (λ l. length l ≤ MOST_FLAT_RULES) (sym (c.in_ok-rules.ensures d).0) (c.in_ok-rules.ensures d).1
 
 pub returns-clause-small : goal.returns-clause-small
 returns-clause-small c =

@@ -1,6 +1,7 @@
 use Rattle.std.proofs.Common.{rules, ◌≡◌, ◌∙◌, ◌<◌, ◌≤◌, Err, true, length, sym, ap, subst, arith}
 use Rattle.std.proofs.lemmas.Bool.{eqb-true}
 use Rattle.std.specs.Prelude.{IfSome}
+use Rattle.grammar_model.specs.declared.limits.TheConstants.{MOST_ENTRIES}
 use Rattle.slif_base.proofs.Bytes.{rose_before}
 use Rattle.flat_model.specs.Flattened.{IsFlattened}
 use Rattle.script_model.specs.Machine.{that_reads}
@@ -22,14 +23,14 @@ pub play_line-requires-clause-names : goal.play_line-requires-clause-names
 play_line-requires-clause-names g c =
     let room = c.loop-rest.invariant.building.room.names in
     let few = c.requires.few in
-    let lt : length c.loop-rest.w.names < 16777215 = omega (arith, room, few) in
+    let lt : length c.loop-rest.w.names < MOST_ENTRIES = omega (arith, room, few) in
     lt
 
 pub play_line-requires-clause-rules : goal.play_line-requires-clause-rules
 play_line-requires-clause-rules g c =
     let room = c.loop-rest.invariant.building.room.rules in
     let few = c.requires.few in
-    let lt : length c.loop-rest.w.rules < 16777215 = omega (arith, room, few) in
+    let lt : length c.loop-rest.w.rules < MOST_ENTRIES = omega (arith, room, few) in
     lt
 
 pub loop-rest-preserved : goal.loop-rest-preserved

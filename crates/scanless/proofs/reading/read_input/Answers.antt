@@ -1,5 +1,6 @@
 use Rattle.std.proofs.Common.{◌+◌, ◌≤◌, arith, [], length, sym, subst, ◌∙◌}
 use Rattle.std.proofs.lemmas.Result.{IfOk-weaker}
+use Rattle.grammar_model.specs.declared.limits.TheConstants.{LAST_PLACE}
 use Rattle.language_model.specs.Building.{Built}
 use Rattle.earley_sets.specs.Recognizer.{earleme_of}
 use Rattle.earley_sets.proofs.Counting.{counts_first}
@@ -19,7 +20,7 @@ read_on-requires-clause-reader g c = (
 pub read_on-requires-clause-room : goal.read_on-requires-clause-room
 read_on-requires-clause-room g c =
     let place = (c.in_ok-reader.ensures.begun [] c.args.chars.now).holds.place in
-    let le : earleme_of c.in_ok-reader.reader.recce + length c.args.chars.now ≤ 16777216 + c.in_ok-reader.reader.at = omega (arith, place, c.requires) in le
+    let le : earleme_of c.in_ok-reader.reader.recce + length c.args.chars.now ≤ LAST_PLACE + c.in_ok-reader.reader.at = omega (arith, place, c.requires) in le
 
 pub returns-in-Ok-clause-reading : goal.returns-in-Ok-clause-reading
 returns-in-Ok-clause-reading g c =

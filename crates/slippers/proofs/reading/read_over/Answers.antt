@@ -1,4 +1,5 @@
 use Rattle.std.proofs.Common.{◌<◌, ◌≤◌, ◌+◌, ◌↔◌, arith, ℕ, length, None, Contains, subst, sym, ap, ◌∙◌}
+use Rattle.grammar_model.specs.declared.limits.TheConstants.{LAST_PLACE, LONGEST_INPUT}
 use Rattle.reading_model.specs.Reading.{IsNext}
 use Rattle.earley_sets.specs.Recognizer.{earleme_of}
 use Rattle.slippers.specs.Stock.{Stock}
@@ -17,7 +18,7 @@ read_on-requires-clause-room g c =
     let eight = subst (λ names. length names ≤ 8) (sym c.loop.invariant.names) c.requires.names in
     let few = few_tokens c.loop.reader.grammar _ c.args.chars.now so_far.pieces c.loop.reader.at c.loop.reader.recce c.loop.reader.spans so_far.has_read c.requires.few eight in
     let short = c.requires.few in
-    let le : earleme_of c.loop.reader.recce + length c.args.chars.now ≤ 16777216 + c.loop.reader.at = omega (arith, few, short) in
+    let le : earleme_of c.loop.reader.recce + length c.args.chars.now ≤ LAST_PLACE + c.loop.reader.at = omega (arith, few, short) in
     le
 
 pub returns-then-has_derivation-clause-over : goal.returns-then-has_derivation-clause-over
@@ -47,7 +48,7 @@ pub supply-requires-clause-reader : goal.supply-requires-clause-reader
 supply-requires-clause-reader g c =
     let so_far = c.loop.invariant.supplied in
     let comes = c.in_ok-found.ensures.rests _ so_far.pieces so_far.has_read in
-    let short : length c.args.chars.now ≤ 16777216 = (let few = c.requires.few in omega (arith, few)) in
+    let short : length c.args.chars.now ≤ LONGEST_INPUT = (let few = c.requires.few in omega (arith, few)) in
     (_, c.args.chars.now, short, record { pieces = comes.0.pieces; has_read = comes.0.has_read })
 
 pub supply-requires-clause-place : goal.supply-requires-clause-place
@@ -56,7 +57,7 @@ supply-requires-clause-place g c =
     let comes = c.in_ok-found.ensures.rests _ so_far.pieces so_far.has_read in
     let eight = subst (λ names. length names ≤ 8) (sym c.loop.invariant.names) c.requires.names in
     let few = few_tokens c.read_on.new.self.grammar _ c.args.chars.now comes.0.pieces c.read_on.new.self.at c.read_on.new.self.recce c.read_on.new.self.spans comes.0.has_read c.requires.few eight in
-    let lt : earleme_of c.read_on.new.self.recce < 16777216 = omega (arith, few) in
+    let lt : earleme_of c.read_on.new.self.recce < LAST_PLACE = omega (arith, few) in
     lt
 
 pub supply-requires-clause-expected : goal.supply-requires-clause-expected
