@@ -21,7 +21,7 @@ second_of a b x y r s e = let pair : (let p : _ × _ = (a, x) in p) ≡ (b, y) =
 none_of_one : {A : Type 0} (x : A) (xs : List A) → [] ≡ x ∷ xs → ⊥
 none_of_one x xs e = cc
 
--- one teller holds one value more behind a play
+-- one teller holds one value more after a play
 pub one_more : {T : Type 0} (shows : T → Show) (held : T → List Value) (make : Show → Value) (old new : List T) (t d : T) → old ≡ t ∷ []
     → states new shows held ≡ advanced (λ show values. values ++ make show ∷ []) (states old shows held) → held (get_or new 0 d) ≡ held t ++ make (shows t) ∷ []
 one_more shows held make old [] t d is told =

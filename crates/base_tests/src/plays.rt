@@ -371,7 +371,7 @@ pub(crate) fn all_described(alloc: Global) -> Result<Meaning, NoMemory>
     })
 }
 
-// C is nulled behind the second character.
+// C is nulled after the second character.
 const NULLED_AT_THE_END: [TreeStep; 4] = [
     TreeStep::Token {
         symbol: SymbolId(3),

@@ -221,10 +221,10 @@ fn play_token(alloc: Global, tellers: &mut Vec<Box<dyn Teller>>) -> Result<bool,
     play_symbol(alloc, &w, symbol, tellers)
 }
 
-// What is left behind a play: whether all were told, how many tellers, their calls, and who holds the count.
+// What is left after a play: whether all were told, how many tellers, their calls, and who holds the count.
 type Left = (bool, usize, u32, usize);
 
-// Whether this is left behind a play of one token.
+// Whether this is left after a play of one token.
 fn leaves(
     alloc: Global,
     calls: &Rc<Cell<u32>>,
@@ -290,7 +290,7 @@ fn play_four(
     Ok(told)
 }
 
-// Whether this is left behind a play of four steps to a teller that counts.
+// Whether this is left after a play of four steps to a teller that counts.
 fn leaves_counted(
     alloc: Global,
     w: &Written,

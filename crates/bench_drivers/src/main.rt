@@ -1,6 +1,6 @@
 //! Drivers of single parts, for the clock. Reads so many tokens by one of eight grammars, and prints the number of items of all sets;
 //! or puts a list of so many numbers into a pool, and prints the length of its text. Several can be done in one run. With the
-//! word `time` behind them each prints how long it took; with the word `forest` the forest is built, too, and the number of its
+//! word `time` after them each prints how long it took; with the word `forest` the forest is built, too, and the number of its
 //! nodes and the time that this took are printed.
 //!
 //!     bench_drivers left TOKENS     S -> S a | a

@@ -93,7 +93,7 @@ module _ (w : Grammar) (ranking : Ranking) (r : Recognizer) (read : IsRead w r) 
       Spans r.flat (edges_of r) rule d p m cs → part_of r.flat rule d ≡ Some x → Derives r.flat (edges_of r) x m q t → 0 < d → Contains keys (record { rule = rule; dot = d; origin = p; end = m })
   asked met le s e tr some = before (closed met (omega arith) le) le s e tr some
 
--- a node that ends at a place and begins no later than another, with one that ends behind it and asks for it
+-- a node that ends at a place and begins no later than another, with one that ends after it and asks for it
 pub record IsAsked (allowed : Allowed) (r : Recognizer) (from end : ℕ) : Type 0 where
   pub rule : ℕ
   pub dot : ℕ
@@ -110,7 +110,7 @@ pub record IsAsked (allowed : Allowed) (r : Recognizer) (from end : ℕ) : Type 
   pub part : part_of r.flat rule dot ≡ Some symbol
   pub cause : Derives r.flat (edges_of r) symbol end later tree
 
--- of the nodes that end before the last place, one with the least origin was asked for by one that ends behind it
+-- of the nodes that end before the last place, one with the least origin was asked for by one that ends after it
 pub least_asked : (allowed : Allowed) (r : Recognizer) → IsRecognizer r → {rule d p q : ℕ} → IsMet r.flat (edges_of r) allowed (top_of r) (earleme_of r) rule d p q → 0 < d → (q ≡ earleme_of r) ⊎ IsAsked allowed r p q
 least_asked allowed r is (Whole lt s) some = inl refl
 least_asked allowed r is (Before {r = rule} {d = d} {p = p} {m = m} {q = q} {x = x} {cs = cs} {t = t} met s e tr) some = elim (cases_lt m q) [

@@ -143,7 +143,7 @@ module _ (w : Grammar) (ranking : Ranking) (r : Recognizer) where
       subst (λ z. IsCountOf (IsExpandedFrom w ranking r end) z) (sym e)
       (count_both (IsExpandedFrom w ranking r (suc end)) (at_end end) (IsExpandedFrom w ranking r end) (apart end) (later end) (now end) k n (parted end) some (count_placed end (IsExpandedAt w ranking r end) (at_end end) (here end) n (out end) more))
 
-  -- behind the last place nothing is expanded
+  -- after the last place nothing is expanded
   pub none_behind : IsRead w r → IsCountOf (IsExpandedFrom w ranking r (suc (earleme_of r))) 0
   none_behind read = none_counted (IsExpandedFrom w ranking r (suc (earleme_of r))) (λ p ((hidden, (key, used, same, low)), le). (let w = (used_within w ranking r read key used).inside in absurd (omega arith)))
 

@@ -37,7 +37,7 @@ module _ (k : Known) (knows : Knows k) (key : NodeKey) (used : IsUsedIn k.writte
   predecessor_found : (m : ℕ) → m ≤ k.end → Contains (set_at k.recce.now m) (predecessor_of_key key) ↔ IsFound k.recce.now.flat (edges_of k.recce.now) (top_of k.recce.now) m (predecessor_of_key key)
   predecessor_found m le = let e = knows.end in waits_in k.recce.now knows.is m (predecessor_of_key key) symbol (omega arith) next.part
 
-  -- a cause that may begin derives, behind a predecessor
+  -- a cause that may begin derives, after a predecessor
   splits : (F : List NodeKey) (m : ℕ) → MayBegin k symbol m × Contains (set_at k.recce.now m) (predecessor_of_key key) → IsSplit (seen_by k F) key.rule (key.dot - 1) key.origin symbol m k.end
   splits F m (inl (e, null), at) =
       let f = (predecessor_found m (omega arith)).0 at in

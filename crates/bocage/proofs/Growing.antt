@@ -1,4 +1,4 @@
--- How what is found grows, and lists of alternatives one behind another.
+-- How what is found grows, and lists of alternatives one after another.
 use Rattle.std.proofs.Common.{◌≡◌, ℕ, zero, suc, ◌≤◌, ◌-◌, ◌++◌, ◌⊎◌, inl, inr, ◌↔◌, Bool, Contains, List, [], ◌∷◌, Option, Some, None, length, map, take, drop, slice_get, refl, sym, ◌∙◌, ap, subst, arith}
 use Rattle.std.specs.declared.cmp.Ordering.{Ordering}
 use Rattle.std.specs.declared.cmp.Ordering.TheVariants.{Less}
@@ -137,7 +137,7 @@ module _ (w : Grammar) (ranking : Ranking) (r : Recognizer) (high : Bool) (prede
     );
   }
 
-  -- one list behind another
+  -- one list after another
   pub listed_both : (D D' D'' : ℕ → Type 0) (F : Forest) (wholes : List ℕ) (rows rows' : List AlternativeRow) → AreListed F r high predecessor symbol end D wholes rows → AreListed F r high predecessor symbol end D' wholes rows' →
       ((m n : ℕ) → D m → D' n → starts_cmp high end m n ≡ Less) → ((m : ℕ) → Contains (set_at r m) predecessor → D'' m ↔ (D m ⊎ D' m)) → AreListed F r high predecessor symbol end D'' wholes (rows ++ rows')
   listed_both D D' D'' F wholes rows rows' h g less iff = record {

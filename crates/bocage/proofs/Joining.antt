@@ -160,7 +160,7 @@ module _ (k : Known) (knows : Knows k) (predecessor : Item) (symbol : ℕ) (next
 
   -- NOTHING, AND THE JOINS
 
-  -- behind the predecessor there may begin nothing, or what one of the joins has
+  -- after the predecessor there may begin nothing, or what one of the joins has
   pub may_begin : (m : ℕ) → Contains (set_at k.recce.now m) predecessor → MayBegin k symbol m ↔ (((m ≡ k.end) × IsNullable k.recce.now.flat symbol) ⊎ BeginsIn k joins m)
   may_begin m at = (to, from)
     where

@@ -6,7 +6,7 @@ use Rattle.recognizer_model.specs.declared.NodeKey.{NodeKey}
 abbrev pub EndsAt : List NodeKey → (end : ℕ) → ℕ → Type 0
 EndsAt keys end n = (key : NodeKey) × (slice_get keys n ≡ Some key) × (key.end ≡ end)
 
--- nodes from the one before the head on, each with the place behind the next
+-- nodes from the one before the head on, each with the place after the next
 abbrev pub IsChain : (below : List ℕ) → (head : ℕ) → List ℕ → Type 0
 IsChain below head [] = head ≡ 0
 IsChain below head (n ∷ ns) = (head ≡ suc n) × ((b : ℕ) × (slice_get below n ≡ Some b) × (b ≤ n) × IsChain below b ns)

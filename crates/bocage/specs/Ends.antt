@@ -44,7 +44,7 @@ pub record IsReady (k : Known) (keys : List NodeKey) (n : ℕ) : Type 0 where
   pub end : key.end ≡ k.end
   pub least : k.least ≤ key.origin
 
--- before the nodes that end at a place are visited: those that end behind it have their alternatives, and the first that end there wait
+-- before the nodes that end at a place are visited: those that end after it have their alternatives, and the first that end there wait
 pub record IsGoing (w : Grammar) (ranking : Ranking) (r : Recognizer) (end first : ℕ) (f : Found) (table : List (List AlternativeRow)) : Type 0 where
   pub few : first ≤ length f.keys.keys
   pub visited : (n : ℕ) (key : NodeKey) → slice_get f.keys.keys n ≡ Some key → end < key.end → HasRow w ranking r f.keys.keys f.wholes.items table n key
@@ -53,7 +53,7 @@ pub record IsGoing (w : Grammar) (ranking : Ranking) (r : Recognizer) (end first
   pub begun : (n : ℕ) (key : NodeKey) → slice_get f.keys.keys n ≡ Some key → first ≤ n → key.end ≡ end → end ≡ earleme_of r
   pub top : 0 < earleme_of r → Contains f.keys.keys (top_key r)
 
--- after the nodes that end at a place or behind it were visited: they have their alternatives, and those that end before it wait
+-- after the nodes that end at a place or after it were visited: they have their alternatives, and those that end before it wait
 pub record AreVisited (w : Grammar) (ranking : Ranking) (r : Recognizer) (end : ℕ) (f : Found) (table : List (List AlternativeRow)) : Type 0 where
   pub visited : (n : ℕ) (key : NodeKey) → slice_get f.keys.keys n ≡ Some key → end ≤ key.end → HasRow w ranking r f.keys.keys f.wholes.items table n key
   pub used : (key : NodeKey) → Contains f.keys.keys key → IsUsedIn w ranking r key

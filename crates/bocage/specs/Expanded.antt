@@ -14,6 +14,6 @@ IsExpandedIn w ranking r p = IsExpanded r.flat (edges_of r) (allowed_by w rankin
 abbrev pub IsExpandedAt : Grammar → Ranking → Recognizer → (end : ℕ) → Item → Type 0
 IsExpandedAt w ranking r end item = IsExpandedIn w ranking r (record { place = end; item = item })
 
--- an expanded item of a place or of one behind it
+-- an expanded item of a place or of one after it
 abbrev pub IsExpandedFrom : Grammar → Ranking → Recognizer → (end : ℕ) → Placed → Type 0
 IsExpandedFrom w ranking r end p = IsExpandedIn w ranking r p × (end ≤ p.place)

@@ -1,4 +1,4 @@
--- Items joined with the groups of parts that may stand behind them.
+-- Items joined with the groups of parts that may stand after them.
 use Rattle.std.specs.Prelude.{◌≡◌, ℕ, ◌≤◌, Bool, cond, ◌==◌, nat_lt, List, Some, Contains, ◌↔◌, slice_get}
 use Rattle.std.specs.List.Sorted.{IsStrictlySortedBy}
 use Rattle.std.specs.declared.cmp.Ordering.{Ordering}

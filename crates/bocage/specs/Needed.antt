@@ -25,11 +25,11 @@ IsItemUsed w ranking r end item = IsUsed r.flat (edges_of r) (allowed_by w ranki
 abbrev pub MayGoOn : Recognizer → List NodeKey → (end : ℕ) → Item → Type 0
 MayGoOn r keys end item = Contains keys (node_at_end item end) ⊎ IsWhole r.flat item ⊎ ((x : ℕ) × (after r.flat item ≡ Some x) × IsNullable r.flat x)
 
--- an item waits for the whole one where it begins, and may go on behind it
+-- an item waits for the whole one where it begins, and may go on after it
 abbrev pub IsAwaited : Recognizer → List NodeKey → (end : ℕ) → Item → Type 0
 IsAwaited r keys end item = (waiting : Item) × Contains (set_at r item.origin) waiting × (after r.flat waiting ≡ Some (lhs_of r.flat item.rule)) × MayGoOn r keys end (advanced waiting)
 
--- a whole item that begins at `least` or behind it, and may be that of a node
+-- a whole item that begins at `least` or after it, and may be that of a node
 abbrev pub MayBeUsed : Recognizer → List NodeKey → (end least : ℕ) → Item → Type 0
 MayBeUsed r keys end least item = (least ≤ item.origin) × (Contains keys (node_at_end item end) ⊎ IsAwaited r keys end item)
 
@@ -42,7 +42,7 @@ pub record AreTops (r : Recognizer) (keys : List NodeKey) (end least : ℕ) (abo
   pub tops : (topmost : Item) → Contains above topmost ↔ ((item : Item) × (Contains (set_at r end) item × IsWhole r.flat item) × LeadsOver r keys end least item topmost)
   pub bottoms : (item : Item) → Contains below item ↔ ((other : Item) × (Contains (set_at r end) other × IsWhole r.flat other) × ((item ≡ other) × ((topmost : Item) × LeadsOver r keys end least other topmost)))
 
--- hidden items that begin at `least` or behind it, and all that stand below topmost ones which may be those of nodes
+-- hidden items that begin at `least` or after it, and all that stand below topmost ones which may be those of nodes
 pub record AreBelow (r : Recognizer) (keys : List NodeKey) (end least : ℕ) (items : List Item) : Type 0 where
   pub hidden : (item : Item) → Contains items item → IsHiddenFrom r end least item
   pub all : (topmost item : Item) → StandsBelow r end topmost item → MayBeUsed r keys end least topmost → Contains items item

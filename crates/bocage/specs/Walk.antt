@@ -62,7 +62,7 @@ seen w ranking r keys = record { written = w; flat = r.flat; start = r.start; ed
 abbrev pub IsUsedIn : Grammar → Ranking → Recognizer → NodeKey → Type 0
 IsUsedIn w ranking r key = IsUsed r.flat (edges_of r) (allowed_by w ranking r.flat (edges_of r)) (top_of r) (earleme_of r) key
 
--- more keys stand behind the old ones, each with the property
+-- more keys stand after the old ones, each with the property
 abbrev pub GrowsBy : (NodeKey → Type 0) → (old new : List NodeKey) → Type 0
 GrowsBy P old new = (more : List NodeKey) × (new ≡ old ++ more) × ((key : NodeKey) → Contains more key → P key)
 
@@ -95,7 +95,7 @@ FitsPart g p = (p.length ≤ p.end) × HasRule g p.whole
 abbrev pub AreNumbers : (keys : List NodeKey) → (numbers : List ℕ) → (of : List NodeKey) → Type 0
 AreNumbers keys numbers of = map (slice_get keys) numbers ≡ map Some of
 
--- more nodes of whole rules stand behind the old ones
+-- more nodes of whole rules stand after the old ones
 abbrev pub AddsWholes : (keys of : List NodeKey) → (old new : List ℕ) → Type 0
 AddsWholes keys of old new = (numbers : List ℕ) × (new ≡ old ++ numbers) × AreNumbers keys numbers of
 

@@ -8,7 +8,7 @@ use recognizer_model::NodeKey;
 use std::alloc::{AllocError, AllocFailed, Global};
 
 /// Nodes by the places where they end: the newest of each place, and for each node the one before it that ends at the same place. Each
-/// is told by the place behind its number, and 0 is none.
+/// is told by the place after its number, and 0 is none.
 #[derive(Drop)]
 pub struct Chains {
     pub heads: Vec<u32>,

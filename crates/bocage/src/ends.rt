@@ -248,7 +248,7 @@ fn visit_gathered<'a>(
 }
 
 // Finds the alternatives of all nodes that end at a place: those of the first ones that do, and all that are met here. They begin at
-// `least` or behind it, if it is no greater than the origin of one of the first.
+// `least` or after it, if it is no greater than the origin of one of the first.
 fn visit_from<'a>(
     recce: &Recce<'_>,
     w: &Written,

@@ -1,4 +1,4 @@
-//! Items that wait, joined with the groups of parts that may stand behind them: what may be predecessors, with what may be causes.
+//! Items that wait, joined with the groups of parts that may stand after them: what may be predecessors, with what may be causes.
 ghost use Rattle.std.specs.Prelude.{◌≡◌, ℕ, true, false, ◌<◌, ◌≤◌, ◌↔◌, ◌⊎◌, length, OnOk, IfOk, IsTrue, Contains, Some, slice_get};
 ghost use Rattle.std.specs.List.Sorted.{IsStrictlySortedBy};
 ghost use Rattle.earley_sets.specs.Recognizer.{earleme_of, set_at};

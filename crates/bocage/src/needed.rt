@@ -45,7 +45,7 @@ fn may_go_on(recce: &Recce<'_>, keys: &NodeKeys, end: u32, waiting: Item) -> boo
     }
 }
 
-// Whether an item waits for a whole one where it begins, and may go on behind it.
+// Whether an item waits for a whole one where it begins, and may go on after it.
 fn is_awaited(recce: &Recce<'_>, keys: &NodeKeys, end: u32, item: Item) -> bool
     requires is { IsRecognizer recce.now }
     requires rule { IsRule recce.now.flat item.rule }
@@ -61,7 +61,7 @@ fn is_awaited(recce: &Recce<'_>, keys: &NodeKeys, end: u32, item: Item) -> bool
     false
 }
 
-// Whether a whole item that begins at `least` or behind it may be that of a node.
+// Whether a whole item that begins at `least` or after it may be that of a node.
 fn may_be_used(recce: &Recce<'_>, keys: &NodeKeys, end: u32, least: u32, item: Item) -> bool
     requires is { IsRecognizer recce.now }
     requires rule { IsRule recce.now.flat item.rule }
@@ -119,7 +119,7 @@ fn list_tops(
     Ok(())
 }
 
-/// Lists hidden items that begin at a place or behind it: all that stand below topmost ones which may be those of nodes.
+/// Lists hidden items that begin at a place or after it: all that stand below topmost ones which may be those of nodes.
 pub fn list_needed<L: Ledger>(
     alloc: Global,
     recce: &Recce<'_>,

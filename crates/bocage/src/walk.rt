@@ -23,7 +23,7 @@ use std::hash::BuildHasherDefault;
 /// Keys of nodes, in the order of their numbers. Those of near places are looked up near each other.
 pub type NodeKeys = IndexSet<NodeKey, BuildHasherDefault<NearHasher>>;
 
-/// What is looked up where nodes end at one place: the parts that end there and begin at `least` or behind it.
+/// What is looked up where nodes end at one place: the parts that end there and begin at `least` or after it.
 #[derive(Clone, Copy, Drop)]
 pub struct Known<'k> {
     pub recce: &'k Recce<'k>,

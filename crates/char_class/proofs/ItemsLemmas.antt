@@ -1,4 +1,4 @@
--- Reading on behind an item.
+-- Reading on after an item.
 use Rattle.std.proofs.Common.{◌≡◌, ℕ, ◌<◌, ◌≤◌, ◌+◌, ◌-◌, List, take, Option, append-nil, drop-drop, [], ◌∷◌, ◌++◌, length, drop, refl, sym, subst, ap, Some, None, ◌∙◌, arith, Result, Ok, Err, append_assoc}
 use Rattle.std.proofs.lemmas.List.{take_rest, length-drop}
 use Rattle.std.proofs.Math.ListN.{drop_of_length-le}

@@ -1,4 +1,4 @@
--- Reading on behind a piece.
+-- Reading on after a piece.
 use Rattle.std.proofs.Common.{◌≡◌, ℕ, zero, suc, ◌+◌, ◌-◌, ◌<◌, ◌≤◌, List, [], ◌∷◌, length, drop, refl, sym, subst, ap, ◌∙◌, arith, drop-drop, append_assoc, take, ◌++◌}
 use Rattle.std.proofs.lemmas.List.{take_rest, length-drop}
 use Rattle.std.proofs.Math.ListN.{drop_of_length-le}

@@ -137,7 +137,7 @@ fn one_or_bad(code: u32, len: usize) -> (Piece, usize)
     }
 }
 
-/// What `\x` and the text behind it spell, and how many characters they have.
+/// What `\x` and the text after it spell, and how many characters they have.
 #[tactic(auto, unfolding(language_model::specs::Classes::hex_piece))]
 pub fn hex_piece(text: &[char]) -> (Piece, usize)
     ensures value { result ≡ hex_piece text.now }

@@ -71,7 +71,7 @@ by_look P plain dashed end long (c ∷ d ∷ rest) = go (c == 45) refl (d == 45)
         let also : d ≡ 45 = grind (arith, nat_tests) in
         subst (λ n. P (n ∷ d ∷ rest)) (sym is) (subst (λ n. P (45 ∷ n ∷ rest)) (sym also) (two rest))
 
--- ---- the characters behind one hyphen
+-- ---- the characters after one hyphen
 
 first_char : (x : ℕ) (xs : Text) → IsUtf8 (x ∷ xs) → (y : ℕ) × (slice_get (chars (x ∷ xs)) 0 ≡ Some y)
 first_char x xs u = go (chars (x ∷ xs)) (encodes-chars (x ∷ xs) u)
@@ -88,6 +88,6 @@ dashed_fault x xs again h u skip =
     let first = first_char x xs u in
     rw (skip, first.1, none_by_short first.0) refl
 
--- what stands behind a hyphen is UTF-8 too
+-- what stands after a hyphen is UTF-8 too
 pub utf8_behind : (x : ℕ) (xs : Text) → IsUtf8 (45 ∷ x ∷ xs) → IsUtf8 (x ∷ xs)
 utf8_behind x xs u = IsUtf8-drop (45 ∷ x ∷ xs) 1 u (IsCharBoundary-after_ascii (45 ∷ x ∷ xs) 0 u (omega arith) (omega arith))

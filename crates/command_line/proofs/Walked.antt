@@ -347,7 +347,7 @@ used_walk a values h ts us given s e =
     ap (λ k. at (record { rows = used a values k.rows; pending = None; skip = k.skip }) false given idle) s.to
     ∙ ap (λ (rs : List Row). at (record { rows = rs; pending = None; skip = 0 }) false given idle) e
 
--- what is shown of the words behind
+-- what is shown of the words after
 abbrev Later : List Text → Type 0
 Later rest = (k : Held) (us : List Setting) → Settles k us → Agrees (at k false (has_job us) idle) rest (after us (words_set rest None))
 

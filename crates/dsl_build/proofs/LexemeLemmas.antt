@@ -126,7 +126,7 @@ rows_are d (name ∷ names) symbols starts e s t =
     own : List Adverb
     own = adverbs_at (map (λ p. p.0) (flat_map lexeme_parts d)) (map (λ p. p.1) (flat_map lexeme_parts d)) name
 
--- a text that is not there has the place behind the last
+-- a text that is not there has the place after the last
 pub absent_place : (names : List (List ℕ)) (t : List ℕ) → is_one_of names t ≡ false → place_in names t ≡ length names
 absent_place [] t e = refl
 absent_place (n ∷ ns) t e = go (bytes_eq n t) refl e (λ (f : is_one_of ns t ≡ false). absent_place ns t f)

@@ -46,7 +46,7 @@ placed_on us i u names b lt is e taken =
 pub filter_more : (p : List ℕ → Bool) (xs : List (List ℕ)) (i : ℕ) (x : List ℕ) → slice_get xs i ≡ Some x → filter p (take (i + 1) xs) ≡ filter p (take i xs) ++ cond (p x) (x ∷ []) []
 filter_more p xs i x e = ap (filter p) (take_get xs i x e) ∙ filter-append p (take i xs) (x ∷ [])
 
--- one more text behind the names, unless it is there
+-- one more text after the names, unless it is there
 one_among : (first ys : List (List ℕ)) (t : List ℕ) → is_one_of ys t ≡ false → is_one_of (first ++ ys) t ≡ is_one_of first t
 one_among [] ys t e = e
 one_among (x ∷ xs) ys t e = ap (λ b. bytes_eq x t || b) (one_among xs ys t e)

@@ -12,6 +12,6 @@ with_names g names = record { names = g.names ++ names; rules = g.rules; starts 
 abbrev pub with_starts : Grammar → List ℕ → Grammar
 with_starts g starts = record { names = g.names; rules = g.rules; starts = g.starts ++ starts }
 
--- a grammar of these names, with symbols of so many sets behind them
+-- a grammar of these names, with symbols of so many sets after them
 abbrev pub grammar_with : (names : List (List ℕ)) (sets : ℕ) → List WrittenRule → (starts : List ℕ) → Grammar
 grammar_with names sets rules starts = record { names = names ++ set_names sets; rules = rules; starts = starts }

@@ -75,7 +75,7 @@ pub fn without(alloc: Global, texts: &Names, others: &Names) -> Result<Names, Al
     Ok(names)
 }
 
-/// Puts texts that are not there behind the others.
+/// Puts texts that are not there after the others.
 pub fn append(names: &mut Names, more: &Names) -> Result<(), AllocError>
     requires { AllNew [] (names.old ++ more.now) }
     ensures { OnOk result (names.new ≡ names.old ++ more.now) }
@@ -86,7 +86,7 @@ pub fn append(names: &mut Names, more: &Names) -> Result<(), AllocError>
     Ok(())
 }
 
-/// Puts those of the texts that are not there behind the names.
+/// Puts those of the texts that are not there after the names.
 pub fn add_others(names: &mut Names, texts: &Names) -> Result<(), AllocError>
     requires { AllNew [] texts.now }
     ensures { OnOk result (names.new ≡ names.old ++ filter (λ t. not (is_one_of names.old t)) texts.now) }

@@ -1,4 +1,4 @@
-//! From names to numbers: behind this step no text is looked up.
+//! From names to numbers: after this step no text is looked up.
 ghost use Rattle.std.specs.Prelude.{◌≡◌, [], IfOk, map};
 ghost use Rattle.language_model.specs.Building.{faults_of};
 ghost use Rattle.language_model.specs.Texts.{IsDescription};

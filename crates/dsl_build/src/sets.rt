@@ -48,7 +48,7 @@ fn push_class(alloc: Global, sets: &mut Vec<CharSet>, text: &str) -> Result<(), 
     }
 }
 
-/// Puts the sets of the token behind the others.
+/// Puts the sets of the token after the others.
 pub fn push_sets(alloc: Global, sets: &mut Vec<CharSet>, token: &Spelled) -> Result<(), AllocError>
     requires { IsReadable token.now }
     ensures { OnOk result (sets.new.items ≡ sets.old.items ++ sets_of token.now) }

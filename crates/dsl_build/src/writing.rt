@@ -135,7 +135,7 @@ fn add_starts(w: &mut Written, starts: &[SymbolId]) -> Result<(), AllocError>
     Ok(())
 }
 
-// Puts symbols of so many sets, rules and starts behind the names of a grammar that has no more.
+// Puts symbols of so many sets, rules and starts after the names of a grammar that has no more.
 fn fill(
     alloc: Global,
     w: &mut Written,
@@ -153,7 +153,7 @@ fn fill(
     add_starts(w, starts)
 }
 
-/// The grammar with these names, symbols of so many sets behind them, and these rules and starts.
+/// The grammar with these names, symbols of so many sets after them, and these rules and starts.
 pub fn written(
     alloc: Global,
     names: &Names,

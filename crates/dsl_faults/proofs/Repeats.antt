@@ -1,4 +1,4 @@
--- What stands twice in a list of adverbs, up to a place and behind it.
+-- What stands twice in a list of adverbs, up to a place and after it.
 use Rattle.std.proofs.Common.{◌≡◌, ℕ, ◌+◌, Bool, true, false, cond, List, [], ◌∷◌, ◌++◌, length, take, Option, Some, None, refl, sym, ap, ◌∙◌, map, append_assoc, Bor}
 use Rattle.std.specs.Prelude.{flat_map, option_copied, option_map, is_some, bytes_eq, ◌||◌}
 use Rattle.std.proofs.lemmas.List.{map-append, length-append}
@@ -55,7 +55,7 @@ pairs_append (description.Pair n v ∷ xs) ys = ap (λ ps. (n, v) ∷ ps) (pairs
 held_append : (xs ys : List HeldAdverb) → pairs_of (adverbs_of (xs ++ ys)) ≡ pairs_of (adverbs_of xs) ++ pairs_of (adverbs_of ys)
 held_append xs ys = ap pairs_of (map-append adverb_of xs ys) ∙ pairs_append (adverbs_of xs) (adverbs_of ys)
 
--- the repeats of adverbs and of more behind them
+-- the repeats of adverbs and of more after them
 repeated_behind : (xs ys : List HeldAdverb) → repeated_in [] (pairs_of (adverbs_of (xs ++ ys))) ≡ repeated_in [] (pairs_of (adverbs_of xs)) ++ repeated_in (names_of xs) (pairs_of (adverbs_of ys))
 repeated_behind xs ys =
     let ps = pairs_of (adverbs_of xs) in

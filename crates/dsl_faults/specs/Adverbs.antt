@@ -33,7 +33,7 @@ big_faults adverbs = flat_map (λ p. at_most (is_big p.0.content p.1) (fault_at 
 abbrev pub names_of : List HeldAdverb → List (List ℕ)
 names_of adverbs = map (λ p. p.0.content) (pairs_of (adverbs_of adverbs))
 
--- what an adverb behind these repeats
+-- what an adverb after these repeats
 abbrev pub repeat_of : List HeldAdverb → Option HeldAdverb → List Fault
 repeat_of before None = []
 repeat_of before (Some a) = repeated_in (names_of before) (pairs_of (adverb_of a ∷ []))

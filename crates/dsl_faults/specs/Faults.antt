@@ -26,7 +26,7 @@ class_fault u = at_most (is_bad_class u) (fault_at u.token)
 abbrev pub both_fault : (structural lexical : List (List ℕ)) → Used → List Fault
 both_fault structural lexical u = at_most (is_left u && is_one_of (if u.lexical then structural else lexical) u.token.content) (fault_at u.token)
 
--- the left sides behind one more use
+-- the left sides after one more use
 abbrev pub lefts_after : Lefts → Used → Lefts
 lefts_after lefts u = if is_left u then (if u.lexical then record { structural = lefts.structural; lexical = with_text lefts.lexical u.token.content } else record { structural = with_text lefts.structural u.token.content; lexical = lefts.lexical }) else lefts
 
@@ -57,7 +57,7 @@ abbrev pub is_start : Statement → Bool
 is_start (Start at name) = true
 is_start _ = false
 
--- the part behind so many others, or a quoted text, is too long
+-- the part after so many others, or a quoted text, is too long
 abbrev pub long_fault : ℕ → Spelled → List Fault
 long_fault before t = at_most (before == 1000 || (is_quote t && nat_lt 1000 (length (quoted t.content)))) (fault_at t)
 

@@ -60,7 +60,7 @@ impl Names {
         self.position(name).is_some()
     }
 
-    /// Puts the text behind the others, unless it is there.
+    /// Puts the text after the others, unless it is there.
     pub fn add(&mut self, name: &str) -> Result<(), AllocError>
         ensures ok { IfOk result (λ _. self.new ≡ with_text self.old name.now) }
         ensures err { OnErr result (self.new ≡ self.old) }
@@ -79,7 +79,7 @@ impl Names {
         self.names.as_slice()[place].as_str()
     }
 
-    /// Puts a text that is not there behind the others.
+    /// Puts a text that is not there after the others.
     pub fn add_new(&mut self, name: &str) -> Result<(), AllocError>
         requires { is_one_of self.old name.now ≡ false }
         ensures ok { IfOk result (λ _. self.new ≡ self.old ++ name.now ∷ []) }

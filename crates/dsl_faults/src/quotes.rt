@@ -14,7 +14,7 @@ pub fn is_quote(token: &Spelled) -> bool
     matches!(token.kind, TokenKind::Quote)
 }
 
-/// How long the modifier behind a quoted text or a class is.
+/// How long the modifier after a quoted text or a class is.
 pub fn modifier_len(text: &[u8]) -> usize
     ensures value { result ≡ classes.modifier_len text.now }
     ensures within { result ≤ length text.now }
@@ -64,7 +64,7 @@ pub fn character_count(text: &[u8]) -> usize
     count
 }
 
-// How many bytes of a character are to come behind a byte, where so many were before it.
+// How many bytes of a character are to come after a byte, where so many were before it.
 fn bytes_after(rest: usize, byte: u8) -> usize
     ensures { result ≡ (if rest == 0 then continuation_len byte else rest - 1) }
 {

@@ -189,7 +189,7 @@ fn long_statement(alloc: Global, s: &Statement) -> Result<Option<Found<'_>>, All
     }
 }
 
-/// The first part behind 1,000 others, or quoted text of more than 1,000 characters, on a right side.
+/// The first part after 1,000 others, or quoted text of more than 1,000 characters, on a right side.
 pub fn too_long(alloc: Global, statements: &[Statement]) -> Result<Option<Found<'_>>, AllocError>
     ensures { IfOk result (λ found. option_map fault_of found ≡ first_of (too_long (map statement_of statements.now))) }
 {

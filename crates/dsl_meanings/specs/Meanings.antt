@@ -13,7 +13,7 @@ meanings_of default (Quantified left lexical item plus adverbs) = if lexical the
 meanings_of default (Rules left lexical groups) = if lexical then [] else map (meaning_of_alternative default) (alternatives_of groups)
 meanings_of default _ = []
 
--- the default behind a statement
+-- the default after a statement
 abbrev pub next_default : Action → Statement → Action
 next_default default (Default at adverbs) = unwrap_or (action_in adverbs) default
 next_default default _ = default

@@ -162,7 +162,7 @@ alternative_again (Hidden parts ∷ elements) adverbs (t ∷ ts) ok fine h =
 
 -- WHAT IS READ, PRINTED, IS THE TOKENS
 
--- what was read behind parts of a bracket, if one is open
+-- what was read after parts of a bracket, if one is open
 abbrev Taken : Option (List Spelled) → List Spelled → Option Alternative → Type 0
 Taken state tokens None = Unit {0}
 Taken None tokens (Some a) = (list_all is_element a.elements ≡ true) × (list_all is_adverb a.adverbs ≡ true) × Together PrintedAs (printed a.elements a.adverbs) tokens

@@ -93,7 +93,7 @@ first_piece : (q : List Spelled) (rest : List (List Spelled)) → filter is_some
 first_piece [] rest = refl
 first_piece (t ∷ q) rest = ap (λ x. (t ∷ x) ∷ filter is_some rest) (append-nil q)
 
--- the token at a place, and those behind it
+-- the token at a place, and those after it
 record IsCell (ts : List Spelled) (at : ℕ) : Type 0 where
   pub token : Spelled
   pub is : drop at ts ≡ token ∷ drop (at + 1) ts

@@ -15,7 +15,7 @@ reads piece = by_form (statement_in piece) refl
     by_form (Some s) e = inl (s, statement_takes piece s e)
     by_form None e = inr (λ s spells. let clash : Some s ≡ None = sym (statement_again s piece spells) ∙ e in absurd cc)
 
--- a piece that is no statement, behind some that are
+-- a piece that is no statement, after some that are
 record HasBad (pieces : List (List Spelled)) : Type 0 where
   good : List (List Spelled)
   bad : Spelled

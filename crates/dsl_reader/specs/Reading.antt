@@ -34,7 +34,7 @@ begins_adverb [] = false
 begins_adverb (t ∷ []) = is_mark (codes ",") t
 begins_adverb (t ∷ u ∷ ts) = is_mark (codes ",") t || is_mark (codes "=>") u
 
--- the elements and adverbs that the tokens are; behind `(`, the parts so far
+-- the elements and adverbs that the tokens are; after `(`, the parts so far
 unfoldable pub alternative_of : List Spelled → Option (List Spelled) → Option Alternative
 alternative_of [] None = Some (record { elements = []; adverbs = [] })
 alternative_of [] (Some parts) = None

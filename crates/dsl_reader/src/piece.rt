@@ -49,7 +49,7 @@ impl<'t> Piece<'t> {
         self.tokens.len()
     }
 
-    /// What is left behind some tokens.
+    /// What is left after some tokens.
     pub fn behind(&self, count: usize) -> Piece<'t>
         ensures { result ≡ drop count self.now }
     {
@@ -114,14 +114,14 @@ impl<'t> Piece<'t> {
         i < self.tokens.len() && is_word_token(self.chars, self.tokens[i], content)
     }
 
-    /// Whether the token at a place is this name behind a colon.
+    /// Whether the token at a place is this name after a colon.
     pub fn is_pseudo_of(&self, i: usize, content: &str) -> bool
         ensures { result ≡ first_is (is_pseudo_of content.now) (drop i self.now) }
     {
         i < self.tokens.len() && is_pseudo_token(self.chars, self.tokens[i], content)
     }
 
-    /// Whether the token at a place is a name behind a colon, as `:start`.
+    /// Whether the token at a place is a name after a colon, as `:start`.
     pub fn is_pseudo(&self, i: usize) -> bool
         ensures { result ≡ first_is is_pseudo (drop i self.now) }
     {

@@ -11,7 +11,7 @@ use slif_base::Chars;
 use std::alloc::{AllocError, Global};
 use unicode::properties::is_white_space;
 
-/// A character, behind a space if there is to be one.
+/// A character, after a space if there is to be one.
 fn push_behind(out: &mut String, c: char, space: bool) -> Result<(), AllocError>
     ensures { IfOk result (λ _. string_bytes out.new ≡ string_bytes out.old ++ encode_utf8_all (if space then 32 ∷ c ∷ [] else c ∷ [])) }
 {

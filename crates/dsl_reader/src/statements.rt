@@ -164,7 +164,7 @@ fn read_right(alloc: Global, left: Spelled, level: Level, piece: &Piece<'_>) -> 
     }
 }
 
-// The level that the operator behind the left side tells.
+// The level that the operator after the left side tells.
 fn level_of(piece: &Piece<'_>) -> Level
     ensures { is_lexical result ≡ first_is (is_mark (codes "~")) (drop 1 piece.now) }
 {

@@ -92,7 +92,7 @@ same_at (x ∷ xs) [] k h l = cc
 same_at (x ∷ xs) (y ∷ ys) zero h l = eqb-true x y (and_parts _ _ h).0
 same_at (x ∷ xs) (y ∷ ys) (suc k) h l = same_at xs ys k (and_parts _ _ h).1 (omega arith)
 
--- a text that begins with the long mark has a hyphen behind four characters
+-- a text that begins with the long mark has a hyphen after four characters
 fifth : (text : List ℕ) → starts_with nat_eq text (codes "null-ranking") ≡ true → slice_index text 4 ≡ 45
 fifth text h = sym (get_or-take 12 text 4 0 (omega arith)) ∙ sym (same_at (codes "null-ranking") (take 12 text) 4 h (omega arith))
 
@@ -177,7 +177,7 @@ one_plus n = omega arith
 two_plus : (n : ℕ) → 2 + n ≡ suc (suc n)
 two_plus n = omega arith
 
--- a character behind another
+-- a character after another
 next_is : (a : ℕ) (xs : List ℕ) (y : ℕ) (ys : List ℕ) → (slice_index (a ∷ (xs ++ y ∷ ys)) (1 + length xs) == y) ≡ true
 next_is a xs y ys = eq-eqb _ _ (ap (λ k. slice_index (a ∷ (xs ++ y ∷ ys)) k) (one_plus (length xs)) ∙ behind xs y ys)
 
@@ -414,7 +414,7 @@ there xs n y is = by_order (nat_lt n (length xs)) refl
     by_order true less = ltb-true n _ less
     by_order false more = absurd (omega (arith, get_or_past xs n 0 (ltb-false n _ more)))
 
--- the prefix up to a character behind another
+-- the prefix up to a character after another
 prefix_to : (a : ℕ) (cs : List ℕ) (n y : ℕ) → slice_index (a ∷ cs) (1 + n) ≡ suc y → (n < length cs) × (take (2 + n) (a ∷ cs) ≡ a ∷ (take n cs ++ suc y ∷ []))
 prefix_to a cs n y is =
     let here : slice_index cs n ≡ suc y = ap (slice_index (a ∷ cs)) (sym (one_plus n)) ∙ is in

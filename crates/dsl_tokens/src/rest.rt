@@ -1,4 +1,4 @@
-//! What is left of a text behind a place.
+//! What is left of a text after a place.
 ghost use Rattle.std.specs.Prelude.{◌≡◌, ◌^◌, ◌<◌, ◌≤◌, length, drop, slice_index, nat_eq};
 ghost use Rattle.std.specs.List.{starts_with};
 
@@ -23,7 +23,7 @@ impl<'t> Model for Rest<'t> {
     ghost invariant = { λ r. (r.from ≤ r.end) × (r.end ≡ length r.chars.now) × (r.end < 2 ^ 64) };
 }
 
-/// What is left behind a place.
+/// What is left after a place.
 pub fn rest_of(chars: &Chars, from: usize) -> Rest<'_>
     requires { from ≤ length chars.now }
     ensures { result ≡ drop from chars.now }
@@ -51,7 +51,7 @@ impl<'t> Rest<'t> {
         self.chars.at(self.from + i)
     }
 
-    /// What is left behind some more characters.
+    /// What is left after some more characters.
     pub fn behind(&self, count: usize) -> Rest<'t>
         requires { count ≤ length self.now }
         ensures rest { result ≡ drop count self.now }

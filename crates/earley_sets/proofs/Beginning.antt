@@ -64,7 +64,7 @@ module _ (g : FlatGrammar) (item : Item) where
     later_all all other (Completes whole lt none w e') = absurd (omega (arith, lt))
     later_all all other (Leaps whole lt leads) = absurd (omega (arith, lt))
 
-  -- an item with nothing behind the dot leads nowhere here
+  -- an item with nothing after the dot leads nowhere here
   pub later_none : after g item ≡ None → item.origin ≡ 0 → (other : Item) → Follows g [] 0 item other → ⊥
   later_none e zero other (Predicts {x = y} e' rule l) = absurd (cc)
   later_none e zero other (Skips {x = y} e' n) = absurd (cc)

@@ -32,7 +32,7 @@ same_link g top is_top E F fe ff earleme (Leaps whole) a ((i, w, lt), (topmost, 
 pub counts_first : (r : Recognizer) (before : ℕ) → r.noted ≡ [] → CountsFrom r before before
 counts_first r before none = rises_none (IsLinkOf r) (before + made r) before (let e = ap length none in omega (arith, e))
 
--- more edges that end behind the place leave the links as they are
+-- more edges that end after the place leave the links as they are
 module _ (old new : Recognizer) (is : IsRecognizer new) (flat : new.flat ≡ old.flat) (start : new.start ≡ old.start) (sets : new.sets ≡ old.sets) (noted : new.noted ≡ old.noted)
     (more : List HeldEdge) (edges : new.edges ≡ old.edges ++ more) (behind : (e : HeldEdge) → Contains more e → earleme_of old < e.to) where
   over : Recognizer

@@ -77,7 +77,7 @@ module _ (g : FlatGrammar) (rows : List (List Item)) (i x : ℕ) (old new : List
       one (inl (none, a)) = let (item, leo) = has_leo g rows leads in absurd (none item leo)
       one (inr more) = leads_one g rows leads more
 
--- an advanced item has its dot behind the start
+-- an advanced item has its dot after the start
 pub leads_later : {g : FlatGrammar} {rows : List (List Item)} {i x : ℕ} {t : Item} → LeadsIn g rows i x t → t.dot ≡ 0 → ⊥
 leads_later (LeadsIn.Last leo none) e = omega (arith, e)
 leads_later (LeadsIn.On leo more) e = leads_later more e

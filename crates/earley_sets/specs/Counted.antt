@@ -9,7 +9,7 @@ pub record PlacedLink : Type 0 where
   pub place : ℕ
   pub link : Link
 
--- a link of the set of a place behind the first
+-- a link of the set of a place after the first
 abbrev pub IsLinkOf : Recognizer → PlacedLink → Type 0
 IsLinkOf r p = (0 < p.place) × (p.place ≤ earleme_of r) × IsLink r.flat (edges_of r) (top_of r) p.place p.link
 

@@ -38,7 +38,7 @@ use std::marker::{Brand, Model};
 use std::sync::ledger::{Blank, Ledger};
 use thiserror::Error;
 
-// Makes the set of the place behind the last row, as a row.
+// Makes the set of the place after the last row, as a row.
 fn make_row<L: Ledger>(
     flat: &Flat,
     heads: &Heads,
@@ -467,7 +467,7 @@ impl<'g> Recce<'g> {
         self.rows.item_count() as u64
     }
 
-    /// The hidden items of a set that begin at a place or behind it.
+    /// The hidden items of a set that begin at a place or after it.
     pub fn expand<L: Ledger>(
         &self,
         alloc: Global,

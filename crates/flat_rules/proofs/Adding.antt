@@ -35,7 +35,7 @@ adds_two old mid new a b x (Err TooManyRules) h k =
     omega (arith, e, f, k)
 adds_two old mid new a b x (Err NoMemory) h k = tt
 
--- what comes behind makes no difference to a refusal
+-- what comes after makes no difference to a refusal
 pub adds_err : (T U : Type 0) (old new other a b : List FlatRule) (e : FlatRefusal) → Adds {T = T} old new a (Err e) → Adds {T = U} old other (a ++ b) (Err e)
 adds_err T U old new other a b TooManyRules h = let f = length-append a b in omega (arith, f, h)
 adds_err T U old new other a b NoMemory h = tt

@@ -68,7 +68,7 @@ placed_slot s slots m =
     let is : place_of slots s ≡ position_or_len (same_slot s) slots = ap (λ b. unwrap_or (cond b (Some (position_or_len (same_slot s) slots)) None) 0) (lt-ltb (position_or_len (same_slot s) slots) (length slots) lt) in
     ap (slice_get slots) is ∙ at
 
--- a number that passes stands behind those before it that pass
+-- a number that passes stands after those before it that pass
 ranked : (p : ℕ → Bool) (n i : ℕ) → i < n → p i ≡ true → slice_get (filter p (numbers n)) (length (filter p (numbers i))) ≡ Some i
 ranked p zero i lt t = absurd (omega arith)
 ranked p (suc n) i lt t = go (cases_lt i n) (λ less. ranked p n i less t) (λ b e. (let more : n + 1 ≡ suc n = omega arith in next b e more))

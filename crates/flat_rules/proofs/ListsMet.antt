@@ -44,7 +44,7 @@ form law = law flat_lists lists edges RuleRanks lists_have_flat_grammar.flat lis
 listed : ListsExist → (trees : List Tree) × IsAll lists (Held edges) (rank_order lists RuleRanks) (slot_of 0) 0 3 trees
 listed law = law flat_lists lists edges RuleRanks lists_have_flat_grammar.flat lists_have_flat_grammar.made checked edges_forward 11 (slot_of 0) 0 3 (lit< tt) (0, refl, refl)
 
--- behind the last N a comma
+-- after the last N a comma
 acceptable : AcceptableAreFlat → IsAcceptable lists (Held edges) 0 4 3
     ↔ ((x : ℕ) × (slice_get flat_lists.symbols x ≡ Some (Terminal 4)) × IsAcceptable (grammar_view flat_lists) (FlatEdges flat_lists (Held edges)) (lhs_of flat_lists 13) x 3)
 acceptable law = law flat_lists lists edges 0 0 13 4 3 lists_have_flat_grammar.flat lists_have_flat_grammar.made checked edges_forward refl refl

@@ -80,7 +80,7 @@ module _ (w : Grammar) (g : FlatGrammar) where
   older_is NoChild counts = refl
   older_is (Child prefix last) counts = older_is prefix counts
 
-  -- the rule of a node, behind its children
+  -- the rule of a node, after its children
   rule_step : (r : ℕ) (cs : Children) (p q i : ℕ) → source_of g r ≡ Written i → (counts : List ℕ) (rest : List Step) →
       steps_of_all (children_of w g cs) ++ W (counts_of cs counts) (RuleStep r (child_count cs) p q ∷ rest) ≡ out (Node r cs p q) ++ W (count (Node r cs p q) ∷ counts) rest
   rule_step r cs p q i source counts rest =

@@ -69,7 +69,7 @@ steps_from f lists (Write step ∷ goals) = map (λ rest. step ∷ rest) (steps_
 steps_from f lists (Parts n ∷ goals) = flat_map (λ children. map (λ rest. steps_of_all children ++ rest) (steps_from f lists goals)) (lists n)
 steps_from f lists (OneOf start end nodes ∷ goals) = flat_map (λ tree. map (λ rest. steps_of tree ++ rest) (steps_from f lists goals)) (flat_map (whole_by f lists start end) nodes)
 
--- what a walk has done: it wrote a step, or chose an option of a goal, where later options and the goals behind that goal are left
+-- what a walk has done: it wrote a step, or chose an option of a goal, where later options and the goals after that goal are left
 pub data Done : Type 0 where
   Wrote : (step : Step) → Done
   Chose : (later : List (List Goal)) (behind : List Goal) → Done
@@ -80,17 +80,17 @@ written [] = []
 written (Wrote step ∷ done) = step ∷ written done
 written (Chose later goals ∷ done) = written done
 
--- what options stand for, with the goals behind them
+-- what options stand for, with the goals after them
 abbrev pub later_steps : Forest → Lists → (behind : List Goal) → List (List Goal) → List (List Step)
 later_steps f lists behind later = flat_map (λ option. steps_from f lists (option ++ behind)) later
 
--- what is still to come behind a walk: the later options of its last choice first
+-- what is still to come after a walk: the later options of its last choice first
 abbrev pub to_come : Forest → Lists → List Done → List (List Step)
 to_come f lists [] = []
 to_come f lists (Wrote step ∷ done) = map (λ rest. step ∷ rest) (to_come f lists done)
 to_come f lists (Chose later behind ∷ done) = to_come f lists done ++ later_steps f lists behind later
 
--- what stands before a walk that has done this much and has these goals left: first all that they stand for, behind what is written
+-- what stands before a walk that has done this much and has these goals left: first all that they stand for, after what is written
 abbrev pub stands : Forest → Lists → List Done → List Goal → List (List Step)
 stands f lists done left = map (λ rest. written done ++ rest) (steps_from f lists left) ++ to_come f lists done
 

@@ -17,7 +17,7 @@ sum_newest zero counts = 0
 sum_newest (suc n) [] = 0
 sum_newest (suc n) (c ∷ counts) = sum_newest n counts + c
 
--- those behind them
+-- those after them
 abbrev pub older : ℕ → List ℕ → List ℕ
 older zero counts = counts
 older (suc n) [] = []
@@ -32,7 +32,7 @@ rule_written true source count from to = []
 rule_written false (Written i) count from to = RuleStep i count from to ∷ []
 rule_written false (OfStart k) count from to = []
 
--- what a step writes behind these counts, and the counts that it leaves
+-- what a step writes after these counts, and the counts that it leaves
 abbrev pub step_written : Grammar → FlatGrammar → List ℕ → Step → List Step
 step_written w g counts (TokenStep x from to) = TokenStep (written_symbol w (symbol_at g x)) from to ∷ []
 step_written w g counts (NulledStep x at) = NulledStep (written_symbol w (symbol_at g x)) at ∷ []

@@ -68,7 +68,7 @@ IsNode f n k = (node : ForestNode) × (slice_get f.nodes n ≡ Some node) × (no
 
 -- THE ORDER OF ALTERNATIVES
 
--- a cause that spans nothing stands before all others or behind them
+-- a cause that spans nothing stands before all others or after them
 abbrev pub start_place : Bool → (start end : ℕ) → ℕ
 start_place high start end = if start == end then (if high then 0 else 2) else 1
 

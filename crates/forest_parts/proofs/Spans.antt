@@ -52,7 +52,7 @@ module _ (ranking : Ranking) (end : ℕ) (parts : List Part) (sorted : IsStrictl
   module _ (k past : ℕ) (below : k < length parts) (on : k < past) (bound : past ≤ length parts)
       (same : (i : ℕ) → k ≤ i → i < past → IsSameSpan (part_at parts i) (part_at parts k)) (other : past < length parts → ¬ IsSameSpan (part_at parts past) (part_at parts k))
       (cut : ℕ) (after : k < cut) (inside : cut ≤ past) (kept : (i : ℕ) → k ≤ i → i < cut → IsKept ranking (part_at parts i) (part_at parts k)) (apart : cut < past → ¬ IsKept ranking (part_at parts cut) (part_at parts k)) where
-    -- behind the group the same symbol is over longer spans
+    -- after the group the same symbol is over longer spans
     pub beyond : (i : ℕ) → past ≤ i → i < length parts → (part_at parts i).symbol ≡ (part_at parts k).symbol → (part_at parts k).length < (part_at parts i).length
     beyond i le lt e =
         let a = symbols_rise k past no_part (omega arith) (omega arith) in

@@ -6,7 +6,7 @@ use Rattle.recognizer_model.specs.Items.{InSet, IsWhole}
 use Rattle.recognizer_model.specs.Leo.{IsHidden}
 use Rattle.earley_sets.specs.Recognizer.{Recognizer, set_at, edges_of, top_of}
 
--- a hidden item of a place that begins at another or behind it
+-- a hidden item of a place that begins at another or after it
 abbrev pub IsHiddenFrom : Recognizer → (end least : ℕ) → Item → Type 0
 IsHiddenFrom r end least item = IsHidden r.flat (edges_of r) (top_of r) end item × (least ≤ item.origin)
 

@@ -63,7 +63,7 @@ IsWholePart w ranking r p = (end : ℕ) × (item : Item) × (end ≤ earleme_of 
 abbrev pub IsPart : Grammar → Ranking → Recognizer → Part → Type 0
 IsPart w ranking r p = IsEdgePart r p ⊎ IsWholePart w ranking r p
 
--- a part that ends at a place, and begins at another or behind it
+-- a part that ends at a place, and begins at another or after it
 abbrev pub IsPartAt : Grammar → Ranking → Recognizer → (end least : ℕ) → Part → Type 0
 IsPartAt w ranking r end least p = IsPart w ranking r p × (p.end ≡ end) × (p.length + least ≤ end)
 

@@ -20,7 +20,7 @@ use slif_base::Steps;
 use std::alloc::{AllocError, Global};
 use std::sync::ledger::Ledger;
 
-/// Lists the hidden items of a place that begin at another or behind it, and adds how many they are.
+/// Lists the hidden items of a place that begin at another or after it, and adds how many they are.
 pub fn list_hidden<L: Ledger>(
     alloc: Global,
     recce: &Recce<'_>,
@@ -183,7 +183,7 @@ fn sort(parts: &mut Vec<Part>)
     parts.dedup();
 }
 
-/// Lists the edges and whole rules that end at a place and begin at another or behind it, in order: those of the items that are kept, and of
+/// Lists the edges and whole rules that end at a place and begin at another or after it, in order: those of the items that are kept, and of
 /// the hidden ones that are given.
 pub fn list_parts(
     recce: &Recce<'_>,

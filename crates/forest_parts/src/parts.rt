@@ -18,7 +18,7 @@ pub struct RuleKey {
     /// the length of a list's rule, and 0 of others
     pub length: Reverse<u32>,
     pub rank: Reverse<i32>,
-    /// the number of the written rule; tops come behind them
+    /// the number of the written rule; tops come after them
     pub source: usize,
     /// whether a separator stands last
     pub trailing: bool,

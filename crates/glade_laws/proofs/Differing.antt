@@ -196,7 +196,7 @@ module _ (f : Forest) (is : IsForest f) (lists : Lists) (are : AreLists f lists)
   some_node : {x y : ForestNode} → Some x ≡ Some y → x ≡ y
   some_node e = cc
 
-  -- what is passed behind others that differ
+  -- what is passed after others that differ
   passed_apart : (t : Bool) (xs ys : List ℕ) (x : ℕ) → xs ≢ ys → cond t xs (xs ++ x ∷ []) ≡ cond t ys (ys ++ x ∷ []) → ⊥
   passed_apart true xs ys x other same = other same
   passed_apart false xs ys x other same = other (same_ends xs ys x x same).0

@@ -23,7 +23,7 @@ use Rattle.forest_laws.specs.Lists.{cause_symbol}
 use Rattle.glade_laws.specs.Walks.{is_list_part, option_by, options}
 use Rattle.glade_laws.proofs.NodeKinds.{no_list, all_no_list, none_there, later_no_list, get_map}
 
--- ---- what stands behind a list spans something
+-- ---- what stands after a list spans something
 
 stands_null : (w : Grammar) (slot : WrittenSlot) (s : FlatSymbol) → Stands w slot s → SpansNothing w s → Analysis.IsNullable w slot
 stands_null w slot (Terminal t) (AsTerminal h) null = absurd null
@@ -106,7 +106,7 @@ module _ (f : Forest) (is : IsForest f) where
   spans_some (Null n) some = absurd (some n)
   spans_some (Rule rule l lt s) some = lt
 
-  -- what stands behind a list's part is not marked
+  -- what stands after a list's part is not marked
   behind_spans : (r d x y : ℕ) → part_of g r 0 ≡ Some x → is_list (symbol_at g x) ≡ true → part_of g r (suc d) ≡ Some y → IsNullable g y → ⊥
   behind_spans r d x y front list part null =
       let rule = rule_there g.rules r (suc d) y part in

@@ -1,4 +1,4 @@
--- What the last part of a forest's node is: a list stands at the front of its rule alone, and what stands behind a part is a child.
+-- What the last part of a forest's node is: a list stands at the front of its rule alone, and what stands after a part is a child.
 use Rattle.std.proofs.Common.{◌≡◌, ℕ, zero, suc, ◌<◌, Bool, true, false, List, [], ◌∷◌, map, flat_map, length, inl, inr, Option, Some, None, Contains, refl, sym, ap, ◌∙◌, subst, arith}
 use Rattle.std.specs.Prelude.{slice_get, slice_index_or, ◌-◌}
 use Rattle.std.specs.List.Sorted.{IsStrictlySortedBy}
@@ -48,7 +48,7 @@ all_no_list w rule k (x ∷ xs) h (suc d) s e = all_no_list w rule (suc k) xs h.
 pub none_there : {s : FlatSymbol} → None ≡ Some s → ⊥
 none_there e = cc
 
--- what stands behind the first part is no list
+-- what stands after the first part is no list
 pub later_no_list : (w : Grammar) (n : NamedRule) → IsRuleOf w n → (d : ℕ) (s : FlatSymbol) → slice_get n.right (suc d) ≡ Some s → is_list s ≡ false
 later_no_list w n (OfPlain i t k r right a b c live fits used count all) d s e = all_no_list w (Grammar.Plain r) 0 right all (suc d) s e
 later_no_list w n (OfList i r a b) d s e = absurd (none_there e)

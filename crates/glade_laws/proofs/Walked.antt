@@ -29,7 +29,7 @@ pub record IsChildCause (f : Forest) (lists : Lists) (node : ForestNode) (a : Al
 abbrev pub IsLater : Forest → Lists → ForestNode → Alternative → Type 0
 IsLater f lists node a = (m : ℕ) × (a.predecessor ≡ Some m) × (end_of (slice_get f.nodes m) ≡ a.start) × IsChildCause f lists node a
 
--- what the last part of a node is: a list at the front, a child at the front, or a child behind others
+-- what the last part of a node is: a list at the front, a child at the front, or a child after others
 pub data Kind (f : Forest) (lists : Lists) (node : ForestNode) : Type 0 where
   OfList : (start m : ℕ) (more : List ℕ) → node.alternatives ≡ record { start = start; predecessor = None; cause = Wholes (m ∷ more) } ∷ [] → is_list_part f node.key ≡ true →
       ((m' : ℕ) → Among m' (m ∷ more) → is_list (symbol_at f.flat (lhs_of f.flat (rule_of (slice_get f.nodes m')))) ≡ true) → Kind f lists node
@@ -47,7 +47,7 @@ Begins {X} P xs = (x : X) × (rest : List X) × (xs ≡ x ∷ rest) × P x
 abbrev pub AreAll : {X : Type 0} → (X → Type 0) → List X → Type 0
 AreAll {X} P xs = (x : X) → Among x xs → P x
 
--- elements that are so, and behind them one that is otherwise
+-- elements that are so, and after them one that is otherwise
 abbrev pub Turns : {X : Type 0} → (P Q : X → Type 0) → List X → Type 0
 Turns {X} P Q xs = (front : List X) × (x : X) × (rest : List X) × (xs ≡ front ++ x ∷ rest) × AreAll P front × Q x
 
@@ -102,7 +102,7 @@ module _ (f : Forest) (lists : Lists) (are : AreLists f lists) (kinds : Kinds f 
   abbrev pub Has : List ℕ → Children → Type 0
   Has s cs = written_starts f cs ≡ s
 
-  -- ---- what stands behind a child
+  -- ---- what stands after a child
 
   module _ (node : ForestNode) (a : Alternative) (cause : IsChildCause f lists node a) (s : List ℕ) where
     abbrev trees : List Tree

@@ -56,7 +56,7 @@ module _ (edges : List LongEdge) (y : LongEdge) (place : ℕ) where
     | inr (b, c) ↦ absurd (omega arith)
   ]
 
-  -- one more behind them changes nothing of the first ones
+  -- one more after them changes nothing of the first ones
   newest_kept : (n : ℕ) (o : Option ℕ) → n ≤ length edges → IsNewest edges place n o → IsNewest (edges ++ y ∷ []) place n o
   newest_kept n None le h = λ k e lt is. h k e lt (fewer n k e le lt is)
   newest_kept n (Some number) le h = record {
@@ -198,7 +198,7 @@ module _ (edges : List LongEdge) (place : ℕ) (start : List HeldEdge) where
         ]
       ]
 
-  -- an edge that was listed stands behind, so that the next one is new
+  -- an edge that was listed stands after, so that the next one is new
   pub one_down_once : (newest : ℕ → Option ℕ) → AreChained edges newest → ((e : HeldEdge) → Contains start e → ¬ Contains (all_held edges) e) → (out new : List HeldEdge) (number : ℕ) (x : LongEdge) →
       AreListedFrom out (Some number) → slice_get edges number ≡ Some x → new ≡ out ++ x.edge ∷ [] → AllPairs (λ a b. a ≢ b) out → AllPairs (λ a b. a ≢ b) new
   one_down_once newest are apart out new number x l at is once = subst (AllPairs (λ a b. a ≢ b)) (sym is) (push_once out x.edge once fresh)

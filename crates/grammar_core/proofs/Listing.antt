@@ -28,7 +28,7 @@ module _ (begun : List Edge) (place : ℕ) (start : List HeldEdge) where
     pub one : edge.length ≡ 1
     pub is : e ≡ placed (place - 1) edge
 
-  -- those of the first k are listed behind what the list held
+  -- those of the first k are listed after what the list held
   abbrev pub AreShortTo : List HeldEdge → ℕ → Type 0
   AreShortTo out k = (e : HeldEdge) → Contains out e ↔ (Contains start e ⊎ IsShortBelow k e)
 

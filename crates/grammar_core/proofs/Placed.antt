@@ -111,7 +111,7 @@ module _ (places : List ℕ) (ordered : AreOrdered places) (at : ℕ) where
           here (inr g') = let same : i ≡ j = (let s = size in omega arith) in subst (λ z. slice_index (places ++ at ∷ []) i ≤ slice_index (places ++ at ∷ []) z) same (omega arith)
 
 module _ (places : List ℕ) (edges : List Edge) (long : List HeldEdge) (are : ArePlaced places edges long) where
-  -- the edges between the first that begins at the place and the first behind it
+  -- the edges between the first that begins at the place and the first after it
   pub part_is : (at start end : ℕ) → start ≤ length places → end ≤ length places →
       ((k : ℕ) → k < start → slice_index places k < at) → ((k : ℕ) → start ≤ k → k < length places → at ≤ slice_index places k) →
       ((k : ℕ) → k < end → slice_index places k ≤ at) → ((k : ℕ) → end ≤ k → k < length places → at < slice_index places k) →

@@ -13,7 +13,7 @@ all_placed [] es = []
 all_placed (p ∷ ps) [] = []
 all_placed (p ∷ ps) (e ∷ es) = placed p e ∷ all_placed ps es
 
--- none begins behind the place
+-- none begins after the place
 abbrev pub GoFrom : List HeldEdge → ℕ → Type 0
 GoFrom edges at = (e : HeldEdge) → Contains edges e → e.from ≤ at
 

@@ -138,7 +138,7 @@ impl TokenEdges {
         }
     }
 
-    // One more edge, behind the others.
+    // One more edge, after the others.
     fn add(&mut self, at: u32, t: SymbolId, length: u32) -> Result<(), EdgeRefusal>
         requires order { GoFrom self.old at }
         requires place { at ≤ LAST_PLACE }
@@ -162,7 +162,7 @@ impl TokenEdges {
         Ok(())
     }
 
-    /// Takes an edge. No edge may begin before an earlier one, or behind place 16,777,216.
+    /// Takes an edge. No edge may begin before an earlier one, or after place 16,777,216.
     pub fn push(&mut self, at: u32, t: SymbolId, length: u32) -> Result<(), EdgeRefusal>
         requires order { GoFrom self.old at }
         requires place { at ≤ LAST_PLACE }
@@ -248,7 +248,7 @@ fn push_all(
     Ok(())
 }
 
-// Lists the edges of length one to a place, of those that begin just before it, behind what the list holds.
+// Lists the edges of length one to a place, of those that begin just before it, after what the list holds.
 fn list_short(
     begun: &[Edge],
     place: u32,

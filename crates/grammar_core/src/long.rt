@@ -56,7 +56,7 @@ impl LongEdges {
         self.newest.clear();
     }
 
-    /// One more edge, behind the others.
+    /// One more edge, after the others.
     pub fn push(&mut self, edge: HeldEdge) -> Result<(), AllocError>
         requires { ¬ Contains self.old edge }
         ensures ok { OnOk result (self.new ≡ self.old ++ edge ∷ []) }
@@ -72,7 +72,7 @@ impl LongEdges {
         Ok(())
     }
 
-    /// Lists the edges that end at a place, behind what the list holds.
+    /// Lists the edges that end at a place, after what the list holds.
     pub fn list_to(
         &self,
         place: u32,
@@ -87,7 +87,7 @@ impl LongEdges {
     }
 }
 
-// Lists the edges that end at a place, from the newest down, behind what the list holds.
+// Lists the edges that end at a place, from the newest down, after what the list holds.
 fn list_chain(
     links: &[LongEdge],
     newest: &IndexMap<u32, usize>,

@@ -38,7 +38,7 @@ pub struct SeqRule {
     /// Whether there is at least one item.
     pub plus: bool,
     pub separator: Option<SymbolId>,
-    /// Whether a separator behind the last item is forbidden.
+    /// Whether a separator after the last item is forbidden.
     pub proper: bool,
     pub rank: i32,
     pub null_high: bool,

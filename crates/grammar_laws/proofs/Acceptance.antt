@@ -1,5 +1,5 @@
 -- Whether a terminal is acceptable at a place of a checked grammar is decided, over edges that are decided and go forward. What
--- comes behind the terminal is not told: there each productive slot may span nothing.
+-- comes after the terminal is not told: there each productive slot may span nothing.
 use Rattle.std.proofs.Common.{arith, ◌≡◌, ◌⊎◌, inl, inr, ℕ, zero, suc, ◌+◌, ◌<◌, ◌≤◌, IsTrue, IsFalse, List, [], ◌∷◌, ◌++◌, length, Option, Some, None, slice_get, refl, sym, ◌∙◌, ap, subst, length-append, true≢false}
 use Rattle.finite_sets.proofs.Lists.{get_left, get_right}
 use Rattle.grammar_model.specs.Grammar.{WrittenRule, SequenceRule, Plain, Sequence, Grammar, Slot, slot_of, rule_at, IsTerminal, Fits, child_slot, ends_with_separator, IsChildCount, EachChildSlot}
@@ -145,14 +145,14 @@ module _ (g : Grammar) where
 -- ---- what is found with an open end
 
 module _ (g : Grammar) (E : Edges) (forward : GoForward E) (t p : ℕ) where
-  -- the edges up to the place, and the terminal behind it
+  -- the edges up to the place, and the terminal after it
   abbrev Before : Edges
   Before s a b = (E s a b × (b ≤ p)) ⊎ ((s ≡ t) × (a ≡ p) × (b ≡ suc p))
 
   abbrev Free : ℕ → Slot → Type 0
   Free q s = IsNullable g s ⊎ ((q ≡ suc p) × IsProductive g s)
 
-  -- behind the terminal each word stays
+  -- after the terminal each word stays
   abbrev Open : Edges
   Open s a b = Before s a b ⊎ ((a ≡ suc p) × (b ≡ suc p))
 
@@ -196,7 +196,7 @@ module _ (g : Grammar) (E : Edges) (forward : GoForward E) (t p : ℕ) where
     made (suc k) x (inl b) = base_made x b
     made (suc k) x (inr n) = next_made (In g Before Free k) (λ y h. made k y h) x n
 
-  -- a path to behind the terminal has the terminal
+  -- a path to after the terminal has the terminal
   abbrev Parts : ℕ → List ℕ → Type 0
   Parts a ws = (before : List ℕ) × (rest : List ℕ) × (ws ≡ before ++ t ∷ rest) × Spells E a p before
 
@@ -212,7 +212,7 @@ module _ (g : Grammar) (E : Edges) (forward : GoForward E) (t p : ℕ) where
       let (before, rest, e, s) = parted ws 0 (omega arith) path in
       record { before = before; after = rest; tree = tree; spelled = s; derived = subst (λ w. Derives g (Line w) (slot_of start) 0 (length w) tree) e d }
 
-  -- ---- the places of a word's positions: behind the terminal all are one
+  -- ---- the places of a word's positions: after the terminal all are one
 
   path_low : (w : List ℕ) (a : ℕ) → Spells E a p w → a ≤ p
   path_low [] a e = omega (arith, e)

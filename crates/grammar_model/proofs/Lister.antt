@@ -28,7 +28,7 @@ module _ (g : Grammar) (test : ℕ → ℕ → ℕ → Bool) (null terminal : Sl
   nulls_before rule zero = true
   nulls_before rule (suc n) = nulls_before rule n && null (child_slot rule n)
 
-  -- where the child behind n others may start, in their order
+  -- where the child after n others may start, in their order
   abbrev put_null : Bool → Bool → ℕ → List ℕ → List ℕ
   put_null high false q starts = starts
   put_null true true q starts = q ∷ starts

@@ -1,7 +1,7 @@
 -- Derivations. A tree is a derivation of a slot over the places p to q where it is a token edge of a terminal, a
 -- nulled leaf of a nullable slot, or a node of a rule that fits the slot, whose children abut from p to q and are
 -- derivations of the rule's child slots. The derivation of a rule's first children is what an Earley item with
--- its dot behind them stands for.
+-- its dot after them stands for.
 -- Sources: context-free derivations; Earley 1970 (items); the Libmarpa manual (nulled symbols are one leaf).
 use Rattle.std.specs.Prelude.{◌≡◌, ℕ, suc, ◌<◌, List, length, slice_get, Some, Contains}
 use Rattle.grammar_model.specs.Grammar.{WrittenRule, Grammar, Slot, rule_at, IsTerminal, Fits, child_slot, IsChildCount}

@@ -32,7 +32,7 @@ abbrev mutual
   texts_of NoValue = []
   texts_of (MoreValues first rest) = text_of first ++ texts_after rest
 
-  -- the items after the first, each behind a comma
+  -- the items after the first, each after a comma
   pub texts_after : Values → List ℕ
   texts_after NoValue = []
   texts_after (MoreValues first rest) = 44 ∷ (text_of first ++ texts_after rest)

@@ -47,7 +47,7 @@ const LIST_LINES: &[Line] = &[
     (4, &[2]),
 ];
 
-// The same without a separator behind the list.
+// The same without a separator after the list.
 const PROPER_LINES: &[Line] = &[(2, &[3]), (3, &[3, 1, 0]), (3, &[0]), (4, &[2])];
 
 // The same with a separator that has no tree, and so is no flat symbol.

@@ -99,7 +99,7 @@ fn sets_of_a_sum(rt: HostRuntime) -> Result<(), Fail> {
     Ok(())
 }
 
-// What is answered behind a number, and what is expected there.
+// What is answered after a number, and what is expected there.
 static SUM_ANSWERS: &[Step] = &[
     Step::Read(&[2]),
     Step::Push(2, 0, Err(AlternativeRefusal::Unexpected)),

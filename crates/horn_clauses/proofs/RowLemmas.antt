@@ -1,4 +1,4 @@
--- Rows that numbers are added to, and rows that are put one behind the other.
+-- Rows that numbers are added to, and rows that are put one after the other.
 use Rattle.std.proofs.Common.{arith, ◌≡◌, inl, inr, ℕ, ◌+◌, ◌<◌, List, [], ◌∷◌, ◌++◌, length, take, Contains, slice_index, refl, sym, ◌∙◌, ap, subst}
 use Rattle.horn_clauses.specs.Least.{Clause, clause_at}
 use Rattle.std.proofs.lemmas.List.{get_or-take, length-take-le, get_or_append_left, get_or_push}

@@ -33,7 +33,7 @@ fn write_len(text: &[u8]) -> usize
     most
 }
 
-// What is left of lines behind so many writes.
+// What is left of lines after so many writes.
 fn left_behind(lines: &[u8], writes: u8) -> &[u8] {
     let mut left = lines;
     for _ in 0..writes {
@@ -72,7 +72,7 @@ fn files_line(before: u8) -> &'static [u8] {
     }
 }
 
-// Whether a run ends as it should where the call behind so many of a device fails. A line that cannot be written is told, unless it tells a fault.
+// Whether a run ends as it should where the call after so many of a device fails. A line that cannot be written is told, unless it tells a fault.
 fn is_broken(case: &Case<'_>, device: Device, before: u8, end: &Ended) -> bool {
     let told: &[u8] = if case.status == 4 { b"" } else { CANNOT_WRITE };
     match device {
@@ -87,14 +87,14 @@ fn is_broken(case: &Case<'_>, device: Device, before: u8, end: &Ended) -> bool {
     }
 }
 
-// Whether the call behind so many fails as it should.
+// Whether the call after so many fails as it should.
 fn breaks(alloc: Global, case: &Case<'_>, device: Device, before: u8) -> Result<bool, AllocError> {
     let calls = [u64::from(before) + 1];
     let end = run_of(alloc, &case.given.failing(device, &calls))?;
     Ok(is_broken(case, device, before, &end))
 }
 
-// Whether the run is whole where the call behind so many would fail.
+// Whether the run is whole where the call after so many would fail.
 fn is_whole(
     alloc: Global,
     case: &Case<'_>,

@@ -120,7 +120,7 @@ static FILED: [Given<'static>; 4] = [
     },
 ];
 
-// Whether a run is refused for an input that is read 4,097 times behind so many calls, and no more.
+// Whether a run is refused for an input that is read 4,097 times after so many calls, and no more.
 fn refuses_input(
     alloc: Global,
     given: &Given<'_>,

@@ -304,7 +304,7 @@ fn inputs_of_files_are_refused_alike(rt: HostRuntime) -> Result<(), Fail> {
     Ok(())
 }
 
-// Grammars, inputs that end without a derivation, how many reads an input takes, and what is expected behind it.
+// Grammars, inputs that end without a derivation, how many reads an input takes, and what is expected after it.
 static END_ROWS: [(&[u8], &[u8], u8, &[u8]); 5] = [
     (
         SUMS,
@@ -367,7 +367,7 @@ fn places_past_the_last_set_are_refused(rt: HostRuntime) -> Result<(), Fail> {
     Ok(())
 }
 
-// A file of the grammar that has no such name is asked for alone; one of the input is asked for behind the grammar's.
+// A file of the grammar that has no such name is asked for alone; one of the input is asked for after the grammar's.
 static NAME_ROWS: [(&[&str], &[u8], usize); 3] = [
     (
         &["expect", "--grammar", "h\n\x1B.slif"],

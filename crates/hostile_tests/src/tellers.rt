@@ -118,7 +118,7 @@ fn ends_refusing(
     Ok(end.is(status, out, err))
 }
 
-// Whether a run ends so behind so many calls, and the teller is let go in the end.
+// Whether a run ends so after so many calls, and the teller is let go in the end.
 fn refuses(
     alloc: Global,
     given: &Given<'_>,

@@ -145,7 +145,7 @@ module _ (g : FlatGrammar) (rules : List Item) (lists : List (List ℕ)) (begun 
         pub items_here : row_items rules j packed list ≡ row_at r.sets j
         items_here = (λ i. row_items rules j (p i) (list_here i)) ∙ row_seen j lt
 
-    -- the numbers are others behind those of the rows
+    -- the numbers are others after those of the rows
     module _ (begun' : List ℕ) (enough : length kernels ≤ length begun') (same : take (length kernels) begun' ≡ take (length kernels) begun) where
       number_same : (j : ℕ) → j < length kernels → slice_index_or begun' j 0 ≡ slice_index_or begun j 0
       number_same j lt = sym (get_or-take (length kernels) begun' j 0 lt) ∙ (ap (λ l. get_or l j 0) same ∙ get_or-take (length kernels) begun j 0 lt)

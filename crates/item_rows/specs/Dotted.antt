@@ -83,7 +83,7 @@ pub record AreSpans (g : FlatGrammar) (rules : List Item) (spans : List Span) (c
   pub all : length spans ≡ count
   pub are : (x : ℕ) (span : Span) → slice_get spans x ≡ Some span → IsSpan g rules x span
 
--- the first dotted rules of a rule behind those that were listed
+-- the first dotted rules of a rule after those that were listed
 pub record AddsDots (rule count : ℕ) (old new : List Item) : Type 0 where
   pub size : length new ≡ length old + count
   pub before : (k : ℕ) → k < length old → slice_get new k ≡ slice_get old k

@@ -8,7 +8,7 @@ use Rattle.recognizer_model.specs.Flat.{FlatGrammar}
 use Rattle.recognizer_model.specs.Items.{after}
 use Rattle.item_rows.specs.declared.order.RowKey.{RowKey}
 
--- the end stands behind all symbols
+-- the end stands after all symbols
 abbrev pub or_end : Option ℕ → ℕ
 or_end None = 4294967296
 or_end (Some symbol) = symbol

@@ -105,7 +105,7 @@ fn mark_items(flat: &Flat, items: &Row<'_>, mark: u32, marks: &mut Marks)
     }
 }
 
-/// Marks the terminals that a row waits for as its own, where no row behind it has marked any, and lists them in place of those of the row before.
+/// Marks the terminals that a row waits for as its own, where no row after it has marked any, and lists them in place of those of the row before.
 pub fn mark_row(flat: &Flat, rows: &Rows<'_>, j: usize, marks: &mut Marks)
     requires flat { rows.now.flat ≡ flat.now }
     requires place { j < length rows.now.sets }

@@ -12,7 +12,7 @@ use recognizer_model::Item;
 use std::alloc::{AllocError, AllocFailed};
 use std::marker::Model;
 
-/// Items in two parts, those that rows share behind the others; each part by the symbol after the dot, whole items last, then by rule, dot and origin.
+/// Items in two parts, those that rows share after the others; each part by the symbol after the dot, whole items last, then by rule, dot and origin.
 #[derive(Drop)]
 pub struct Row<'r> {
     rules: &'r [Item],

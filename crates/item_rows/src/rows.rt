@@ -214,7 +214,7 @@ fn add(count: usize, more: usize) -> Result<usize, AllocError>
     }
 }
 
-// Puts the number of a list behind the first numbers.
+// Puts the number of a list after the first numbers.
 fn put_number(numbers: &mut Vec<u32>, first: usize, number: u32) -> Result<(), AllocError>
     requires { first ≤ length numbers.old.items }
     ensures ok { OnOk result (numbers.new.items ≡ take first numbers.old.items ++ number ∷ []) }

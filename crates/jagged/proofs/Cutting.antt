@@ -86,7 +86,7 @@ pub last_index : (s : ℕ) (ends : List ℕ) → (length ends ≡ 0 → ⊥) →
 last_index s [] some = absurd (some refl)
 last_index s (e ∷ es) some = ap (λ k. get_or (e ∷ es) k 0) (let same : suc (length es) - 1 ≡ length es = omega arith in same) ∙ last_get e es
 
--- a row is put behind the last end
+-- a row is put after the last end
 module _ {A : Type 0} (ends : List ℕ) (xs : List A) (h : AreEnds 0 ends (length xs)) (last : ℕ) (is : last ≡ last_end 0 ends) where
   pub put_within : last ≤ length xs
   put_within = let w = last_within 0 ends (length xs) h in omega arith

@@ -72,7 +72,7 @@ impl<T: Copy> Jagged<T> {
     }
 }
 
-// Puts a row behind the first items.
+// Puts a row after the first items.
 fn put<T: Copy>(items: &mut Vec<T>, first: usize, row: &[T]) -> Result<(), AllocError>
     requires { first ≤ length items.old.items }
     ensures ok { OnOk result (items.new.items ≡ take first items.old.items ++ row.now) }
@@ -84,7 +84,7 @@ fn put<T: Copy>(items: &mut Vec<T>, first: usize, row: &[T]) -> Result<(), Alloc
     Ok(())
 }
 
-// Where a row ends that stands behind the last one.
+// Where a row ends that stands after the last one.
 fn end_behind<T>(last: u32, row: &[T]) -> Result<u32, AllocError>
     ensures { IfOk result (λ end. end ≡ last + length row.now) }
 {

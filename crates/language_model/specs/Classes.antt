@@ -92,7 +92,7 @@ hex_number digits = fold (λ n d. n * 16 + digit_value d) 0 digits
 abbrev pub one_or_bad : ℕ → ℕ → Piece × ℕ
 one_or_bad c len = if scalar c then (One c, len) else (Bad BadEscape, len)
 
--- behind `\x`: one to six digits in braces, or two digits
+-- after `\x`: one to six digits in braces, or two digits
 unfoldable pub hex_piece : List ℕ → Piece × ℕ
 hex_piece text =
     let len = prefix_len is_ascii_hexdigit (drop 3 text) in
@@ -104,7 +104,7 @@ hex_piece text =
     then (One (16 * digit_value (slice_index text 2) + digit_value (slice_index text 3)), 4)
     else (Bad BadEscape, 1))
 
--- the letter behind a backslash, other than x: n, r, t, d, s, w, D, S, W
+-- the letter after a backslash, other than x: n, r, t, d, s, w, D, S, W
 unfoldable pub escape_piece : ℕ → Piece
 escape_piece c =
     if c == 110 then One 10
@@ -181,7 +181,7 @@ items_of (p ∷ []) = item_then (item_of p) (Ok [])
 items_of (p ∷ q ∷ []) = item_then (item_of p) (item_then (item_of q) (Ok []))
 items_of (p ∷ q ∷ r ∷ ps) = elim (range_start p q) [ Some low ↦ item_then (range_to low r) (items_of ps) | None ↦ item_then (item_of p) (items_of (q ∷ r ∷ ps)) ]
 
--- `:i` or `:ic` behind a class or a quoted text, which ignores case
+-- `:i` or `:ic` after a class or a quoted text, which ignores case
 abbrev pub modifier_len : List ℕ → ℕ
 modifier_len text = if ends_with nat_eq text (codes ":ic") then 3 else (if ends_with nat_eq text (codes ":i") then 2 else 0)
 

@@ -25,7 +25,7 @@ IsRunOf test text = (0 < length text) × IsTrue (list_all test text)
 abbrev pub IsModifier : List ℕ → Type 0
 IsModifier text = Contains ([] ∷ codes ":i" ∷ codes ":ic" ∷ []) text
 
--- the state behind a character inside a bracket
+-- the state after a character inside a bracket
 abbrev pub state_behind_other : BracketState → ℕ → BracketState
 state_behind_other Opened c = if c == 58 then Colon else Plain
 state_behind_other Colon c = if is_posix_letter c then Named else Plain

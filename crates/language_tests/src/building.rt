@@ -44,9 +44,9 @@ fn groups(alloc: Global, part: &str, at: usize) -> Result<Vec<Vec<Alternative>>,
 // What one of two statements says, and where.
 #[derive(Clone, Copy)]
 enum Line {
-    // a left side and a part, which stands six places behind it, and the level of the rule
+    // a left side and a part, which stands six places after it, and the level of the rule
     Rule(&'static str, &'static str, Level, usize),
-    // a start, whose name stands eleven places behind it
+    // a start, whose name stands eleven places after it
     Start(&'static str, usize),
 }
 
@@ -132,7 +132,7 @@ fn two_starts(rt: HostRuntime) -> Result<(), AllocError> {
     Ok(())
 }
 
-// The names, each with a blank behind it.
+// The names, each with a blank after it.
 fn write_names(out: &mut String, w: &Written) -> Result<(), AllocError> {
     for k in 0..w.symbol_count() {
         out.push_str(w.name(SymbolId(k as u32)))?;
@@ -288,7 +288,7 @@ static BUILT: &[Expected] = &[
         rows: "1 0 0 / 2 1 0 / | 2 1 3 ",
         meaning: "xxU ",
     },
-    // A default holds for the rules behind it.
+    // A default holds for the rules after it.
     Expected {
         text: "S ::= a :default ::= action => ::first T ::= a | a a action => ::array :default ::= action => [name] U ::= :default ::= V ::= a+ a ~ 'x'",
         g1: ["S a T U V ", "0 1 / 2 1 / 2 1 1 / 3 / 4 + 1 / | 0 "],

@@ -109,7 +109,7 @@ fn reads_named(rt: HostRuntime) -> Result<(), Fail> {
     Ok(())
 }
 
-// Whether the current file is read on behind an open and a read that fail.
+// Whether the current file is read on after an open and a read that fail.
 fn reads_on(files: &mut MemFiles) -> Result<bool, Fail> {
     files.open_file("a")?;
     let mut piece = [0u8; 5];

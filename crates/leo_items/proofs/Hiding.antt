@@ -18,7 +18,7 @@ use Rattle.leo_items.specs.Hidden.{IsWholeFrom, IsFrom, IsSingleStep, NoneLeadsO
 use Rattle.leo_items.proofs.Growing.{Adds-begins, Adds-has}
 use Rattle.leo_items.proofs.Loops.{closed_more}
 
--- the items that begin at a place or behind it
+-- the items that begin at a place or after it
 module _ (from : ℕ) where
   abbrev pub AreFrom : List Item → List Item → Type 0
   AreFrom items keys = (item : Item) → Contains keys item ↔ IsFrom items from item

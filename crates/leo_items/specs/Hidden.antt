@@ -6,16 +6,16 @@ use Rattle.recognizer_model.specs.Items.{IsWhole, advanced}
 use Rattle.item_rows.specs.Rows.{row_at}
 use Rattle.leo_items.specs.ByRows.{IsLeoIn, LeadsIn}
 
--- a whole item of the row that begins at the place `from` or behind it
+-- a whole item of the row that begins at the place `from` or after it
 abbrev pub IsWholeFrom : FlatGrammar → List Item → (from : ℕ) → Item → Type 0
 IsWholeFrom g row from item = Contains row item × IsWhole g item × (from ≤ item.origin)
 
--- the single step of a whole item, if it begins at `from` or behind it
+-- the single step of a whole item, if it begins at `from` or after it
 abbrev pub IsSingleStep : FlatGrammar → List (List Item) → (earleme from : ℕ) → Item → Item → Type 0
 IsSingleStep g rows earleme from item other =
     (item.origin < earleme) × ((leo : Item) × IsLeoIn g rows item.origin (lhs_of g item.rule) leo × (other ≡ advanced leo)) × (from ≤ other.origin)
 
--- an item of a list that begins at `from` or behind it
+-- an item of a list that begins at `from` or after it
 abbrev pub IsFrom : List Item → (from : ℕ) → Item → Type 0
 IsFrom items from item = Contains items item × (from ≤ item.origin)
 

@@ -15,7 +15,7 @@ number_in bytes = slice_index_or bytes 0 0 + slice_index_or bytes 1 0 * 256 + sl
 abbrev pub written : NearHasher → List ℕ → NearHasher
 written h bytes = record { mixed = mixed_with h.mixed h.before; before = h.last; last = number_in bytes }
 
--- what keys that stand together have in common: all numbers but the last two, and of these what is behind their lowest two bits
+-- what keys that stand together have in common: all numbers but the last two, and of these what is after their lowest two bits
 abbrev pub block_of : NearHasher → ℕ
 block_of h = mixed_with (mixed_with h.mixed (h.before / 4)) (h.last / 4)
 

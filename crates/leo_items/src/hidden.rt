@@ -20,7 +20,7 @@ use std::hash::BuildHasherDefault;
 // Items, of which those with near origins are looked up near each other.
 type ItemSet = IndexSet<Item, BuildHasherDefault<NearHasher>>;
 
-// Puts the items that begin at a place or behind it.
+// Puts the items that begin at a place or after it.
 fn put_from(items: &Row<'_>, from: u32, set: &mut ItemSet) -> Result<(), AllocFailed<Item>>
     requires { set.old.keys ≡ [] }
     ensures { OnOk result ((item : TheItem) → Contains set.new.keys item ↔ IsFrom items.now from item) }
@@ -34,7 +34,7 @@ fn put_from(items: &Row<'_>, from: u32, set: &mut ItemSet) -> Result<(), AllocFa
     Ok(())
 }
 
-/// The single step that a whole item leads to, if it begins at a place or behind it.
+/// The single step that a whole item leads to, if it begins at a place or after it.
 pub fn single_step(
     flat: &Flat,
     rows: &Rows<'_>,
@@ -59,7 +59,7 @@ pub fn single_step(
     }
 }
 
-// Whether a single step leads on from an item, if it begins at a place or behind it.
+// Whether a single step leads on from an item, if it begins at a place or after it.
 fn leads_on(flat: &Flat, rows: &Rows<'_>, earleme: u32, from: u32, item: Item) -> bool
     requires rows { HasRows flat.now rows.now }
     requires earleme { earleme < length rows.now.sets }
@@ -69,7 +69,7 @@ fn leads_on(flat: &Flat, rows: &Rows<'_>, earleme: u32, from: u32, item: Item) -
     from <= item.origin && single_step(flat, rows, earleme, from, item).is_some()
 }
 
-// Whether single steps lead on from one of the items that begin at a place or behind it.
+// Whether single steps lead on from one of the items that begin at a place or after it.
 fn some_leads_on(flat: &Flat, rows: &Rows<'_>, items: &Row<'_>, earleme: u32, from: u32) -> bool
     requires rows { HasRows flat.now rows.now }
     requires earleme { earleme < length rows.now.sets }
@@ -110,7 +110,7 @@ fn add_steps(
     Ok(())
 }
 
-// Lists the items behind the first ones.
+// Lists the items after the first ones.
 fn list_behind(alloc: Global, items: &[Item], first: usize) -> Result<Vec<Item>, AllocError>
     requires { first ≤ length items.now }
     ensures { IfOk result (λ behind. behind.items ≡ drop first items.now) }
@@ -120,7 +120,7 @@ fn list_behind(alloc: Global, items: &[Item], first: usize) -> Result<Vec<Item>,
     Ok(behind)
 }
 
-/// The items of a set that begin at a place or behind it and are not kept.
+/// The items of a set that begin at a place or after it and are not kept.
 pub fn list_hidden(
     alloc: Global,
     flat: &Flat,

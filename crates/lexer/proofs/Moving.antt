@@ -1,4 +1,4 @@
--- Derivations, moved back to place 0, and matches by places behind where they begin.
+-- Derivations, moved back to place 0, and matches by places after where they begin.
 use Rattle.std.proofs.Common.{◌≡◌, ℕ, suc, ◌+◌, ◌-◌, ◌<◌, ◌≤◌, List, sym, ap, subst, arith}
 use Rattle.std.specs.Prelude.{slice_index}
 use Rattle.grammar_model.specs.Grammar.{Grammar, Slot, WrittenRule, slot_of, rule_at, child_slot, IsChildCount}

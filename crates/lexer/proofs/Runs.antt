@@ -19,7 +19,7 @@ use Rattle.lexer.specs.Machines.{IsMatch}
 use Rattle.lexer.specs.Reading.{EdgesFrom, HasRun, IsDoneIn, IsBestTo, IsBestRow}
 use Rattle.lexer.proofs.Moving.{by_one, terminals, match_derived, derived_match}
 
--- ---- a list more behind a place
+-- ---- a list more after a place
 
 abbrev pick : {P Q : Type 0} → P ⊎ Q → List Thread → List Thread → List Thread
 pick (inl p) a b = a

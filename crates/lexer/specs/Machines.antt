@@ -21,7 +21,7 @@ IsNoted next s c t = (slice_get next (s * 128 + c) ≡ Some t) × (t ≢ 4294967
 abbrev pub HasBegin : List (Vec ℕ Global × ℕ) → List ℕ → ℕ → Type 0
 HasBegin begins starts s = (v : Vec ℕ Global) × Contains begins (v, s) × (v.items ≡ starts)
 
--- a start's rule is done, behind a character or more
+-- a start's rule is done, after a character or more
 abbrev pub IsMatch : FlatGrammar → Thread → Type 0
 IsMatch g th = (th.dot ≡ 1) × ((l : Label) × (th.label ≡ Some l)) × IsTopRule g th.rule
 

@@ -10,11 +10,11 @@ use Rattle.threads.specs.Steps.{Keeps}
 use Rattle.lexer.specs.Lexical.{LexicalForm, SetEdges, HasMatch}
 use Rattle.lexer.specs.Machines.{IsMatch}
 
--- the text's edges, by places behind that place
+-- the text's edges, by places after that place
 abbrev pub EdgesFrom : LexicalForm → List ℕ → (at : ℕ) → Edges
 EdgesFrom l text at x i j = FlatEdges l.flat (SetEdges l.sets text) x (at + i) (at + j)
 
--- the row behind the first characters is that of a run, whatever parts come later
+-- the row after the first characters is that of a run, whatever parts come later
 pub record HasRun (l : LexicalForm) (text : List ℕ) (at : ℕ) (starts : List ℕ) (parts : List (List Thread)) (row : List Thread) (n : ℕ) : Type 0 where
   pub sets : ℕ → List Thread
   pub rows : ℕ → List Thread

@@ -19,7 +19,7 @@ pub struct Kind {
     pub goes: bool,
 }
 
-/// Whether the thread is a start's, done behind a character or more.
+/// Whether the thread is a start's, done after a character or more.
 pub fn is_match(flat: &Flat, thread: Thread) -> bool
     requires { IsRule flat.now thread.rule }
     ensures { IsTrue result ↔ IsMatch flat.now thread }

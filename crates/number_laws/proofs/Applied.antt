@@ -72,7 +72,7 @@ no_rules r rule (t, is) = rule_by (λ r. slice_get chain.symbols (lhs_of chain r
 
 -- ---- the sets
 
--- before the token each rule is begun, behind it each is ended
+-- before the token each rule is begun, after it each is ended
 record IsAt (j : ℕ) (item : Item) : Type 0 where
   rule : IsRule chain item.rule
   dot : item.dot ≡ j

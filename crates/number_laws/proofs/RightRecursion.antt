@@ -208,7 +208,7 @@ module _ (n : ℕ) where
 
   -- ---- the full sets
 
-  -- the top before and behind all, a rule of S before and behind its token, and a list behind its rest
+  -- the top before and after all, a rule of S before and after its token, and a list after its rest
   abbrev At : (j rule dot origin : ℕ) → Type 0
   At j r d o = (j ≤ n) × (((r ≡ 2) × (d ≡ 0) × (o ≡ 0) × (j ≡ 0)) ⊎ ((r ≡ 2) × (d ≡ 1) × (o ≡ 0) × (0 < j)) ⊎ ((r < 2) × (d ≡ 0) × (o ≡ j)) ⊎ ((r < 2) × (d ≡ 1) × (suc o ≡ j)) ⊎ ((r ≡ 0) × (d ≡ 2) × (suc o < j)))
 
@@ -291,7 +291,7 @@ module _ (n : ℕ) where
   leads zero le = LeadsTo.Last {item = first_item 2 0} (leo 0 le) (none_above 0)
   leads (suc j) le = LeadsTo.On {item = advanced (first_item 0 j)} (leo (suc j) le) (leads j (omega (arith, le)))
 
-  -- as in the full sets, but that no list behind its rest is kept
+  -- as in the full sets, but that no list after its rest is kept
   abbrev KeptAt : (j rule dot origin : ℕ) → Type 0
   KeptAt j r d o = (j ≤ n) × (((r ≡ 2) × (d ≡ 0) × (o ≡ 0) × (j ≡ 0)) ⊎ ((r ≡ 2) × (d ≡ 1) × (o ≡ 0) × (0 < j)) ⊎ ((r < 2) × (d ≡ 0) × (o ≡ j)) ⊎ ((r < 2) × (d ≡ 1) × (suc o ≡ j)))
 

@@ -10,6 +10,6 @@ use Rattle.grammar_laws.specs.Reduced.{chain, one_token}
 abbrev pub any_rule : Allowed
 any_rule rule from to = ⊤
 
--- one token; three items are kept before it, and two behind it; the forest has three nodes, and brings back one item
+-- one token; three items are kept before it, and two after it; the forest has three nodes, and brings back one item
 abbrev pub NumbersApply : Type 0
 NumbersApply = IsStats chain (FlatEdges chain (Held one_token)) any_rule 2 1 1 5 3 1

@@ -1,4 +1,4 @@
--- What the bound on the steps of a run counts: the links of the sets behind the first, the Leo pairs, and the hidden items that the forest
+-- What the bound on the steps of a run counts: the links of the sets after the first, the Leo pairs, and the hidden items that the forest
 -- brings back.
 use Rattle.std.specs.Prelude.{◌≡◌, ℕ, ◌+◌, ◌≤◌, List, Some, slice_get}
 use Rattle.grammar_model.specs.Derives.{Held}
@@ -38,7 +38,7 @@ CountsExist = (b : Built) (ranking : Ranking) (pieces : List Piece) → IsBuilt 
 abbrev pub CountsAreOne : Type 0
 CountsAreOne = (b : Built) (ranking : Ranking) (pieces : List Piece) (m n : Counts) → HasCounts b ranking pieces m → HasCounts b ranking pieces n → m ≡ n
 
--- and they bound the steps of a reading and what is looked at behind it
+-- and they bound the steps of a reading and what is looked at after it
 abbrev pub CountsBoundSteps : Type 0
 CountsBoundSteps = (b : Built) (ranking : Ranking) (pieces : List Piece) (n : Counts) (looks before after : ℕ) → HasCounts b ranking pieces n → IsWithinLooks b ranking pieces looks before after →
     after ≤ before + n.links + n.pairs + n.expanded + looks

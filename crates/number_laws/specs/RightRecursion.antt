@@ -1,4 +1,4 @@
--- The steps of a reading by right recursion: of each token the set behind it has five links, and each place has a Leo pair.
+-- The steps of a reading by right recursion: of each token the set after it has five links, and each place has a Leo pair.
 -- Source: Leo 1991 (linear work on right recursion).
 use Rattle.std.specs.Prelude.{◌≡◌, ℕ, suc, zero, ◌+◌, ◌*◌, false, List, [], ◌∷◌}
 use Rattle.grammar_model.specs.declared.Edge.{Edge}
@@ -19,7 +19,7 @@ right = record {
   tops = 2 ∷ [];
 }
 
--- so many tokens, one behind another
+-- so many tokens, one after another
 abbrev pub tokens : ℕ → List Edge
 tokens zero = []
 tokens (suc n) = record { symbol = 0; from = n; to = suc n } ∷ tokens n

@@ -31,7 +31,7 @@ pub fn counts_are_one()
     ensures { CountsAreOne }
 {}
 
-/// The steps of a reading and of so many looks behind it are at most the sum of its counts and the looks.
+/// The steps of a reading and of so many looks after it are at most the sum of its counts and the looks.
 pub fn counts_bound_steps()
     ensures { CountsBoundSteps }
 {}

@@ -21,7 +21,7 @@ pub record Keeps (old new : List Cell) : Type 0 where
   pub longer : length old ≤ length new
   pub same : (k : ℕ) → k < length old → at new k ≡ at old k
 
--- the cells that the places name stand for what they did, and for more behind that
+-- the cells that the places name stand for what they did, and for more after that
 pub record Adds (old new : List Cell) (places others : List ℕ) (more : List Meant) : Type 0 where
   pub keeps : Keeps old new
   pub within : Within new others

@@ -59,7 +59,7 @@ pub fn add_firsts(
     Ok(())
 }
 
-/// These children with each of these trees behind them.
+/// These children with each of these trees after them.
 pub fn add_lasts(
     cells: &mut Vec<Cell>,
     out: &mut Vec<u32>,
@@ -77,7 +77,7 @@ pub fn add_lasts(
     Ok(())
 }
 
-/// Each of these lists of children with each of these trees behind it.
+/// Each of these lists of children with each of these trees after it.
 pub fn add_pairs(
     cells: &mut Vec<Cell>,
     out: &mut Vec<u32>,

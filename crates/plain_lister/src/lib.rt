@@ -33,7 +33,7 @@ pub enum Cell {
     Node(u32, u32, u32, u32),
     /// One child.
     First(u32),
-    /// Children, and one more behind them.
+    /// Children, and one more after them.
     Next(u32, u32),
 }
 

@@ -127,7 +127,7 @@ pub fn value_told(told: &[Told], k: usize) -> Result<ValueId, AllocError>
     }
 }
 
-// These values, and behind them the value of the tree that a cell stands for.
+// These values, and after them the value of the tree that a cell stands for.
 fn with_last(
     alloc: Global,
     told: &[Told],

@@ -107,7 +107,7 @@ fn sort(lines: &mut Vec<ReportLine>) -> Result<(), AllocError>
 }
 
 /// The report of a place: a line for each item of its full set, in terms of written rules, each line once, by rule, dot and origin.
-/// Of a sequence rule the dot is 0 before anything, 1 behind an item and 2 behind a separator.
+/// Of a sequence rule the dot is 0 before anything, 1 after an item and 2 after a separator.
 pub fn report(
     alloc: Global,
     w: &Written,

@@ -7,7 +7,7 @@ use thiserror::Error;
 /// Why there is no report.
 #[derive(Clone, Copy, Debug, PartialEq, Eq, Error)]
 pub enum ProgressRefusal {
-    /// The place lies behind the last one of which the set is made.
+    /// The place lies after the last one of which the set is made.
     #[error("no such set")]
     NoSuchSet,
     /// Memory ran out.

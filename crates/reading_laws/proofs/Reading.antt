@@ -52,7 +52,7 @@ module _ (b : Built) (checked : IsChecked b.g1) (names : LexemesAreNamed b) (giv
   abbrev Result : Type 0
   Result = (pieces : List Piece) × (ending : Ending) × IsReadingWith b given text pieces ending
 
-  -- ---- what is decided behind pieces
+  -- ---- what is decided after pieces
 
   module _ (pieces : List Piece) where
     next_decided : (symbol : ℕ) → IsDecided (IsNext b pieces symbol)

@@ -1,4 +1,4 @@
--- What is supplied behind pieces, with one piece more.
+-- What is supplied after pieces, with one piece more.
 use Rattle.std.proofs.Common.{◌≡◌, ℕ, zero, suc, ◌<◌, List, [], ◌∷◌, ◌++◌, refl, ap, arith}
 use Rattle.reading_model.specs.Reading.{Piece, Token, Skipped, earleme_after}
 use Rattle.reading_model.specs.Reading.{supplied, supplied_from, supplied_behind}

@@ -13,7 +13,7 @@ characters_more [] p = sym (zero-add (characters (p ∷ [])))
 characters_more (Token n ss ∷ ps) p = let e = characters_more ps p in omega (arith, e)
 characters_more (Skipped n ∷ ps) p = let e = characters_more ps p in omega (arith, e)
 
--- reading is before the character behind them
+-- reading is before the character after them
 pub characters_are : {b : Built} {given text : List ℕ} {at : ℕ} {pieces : List Piece} → ReadsWith b given text at pieces → characters pieces ≡ at
 characters_are Begin = refl
 characters_are (Take {at = at} {n = n} {pieces = pieces} first others r lt longest sorted exact) =

@@ -177,6 +177,6 @@ reading_is_one b given text pieces others x y r s =
     let (same, ending) = one_rest b given text [] 0 (pieces ++ []) (others ++ []) x y (goes b given text pieces x r) (goes b given text others y s) in
     (sym (append-nil pieces) ∙ same ∙ append-nil others, ending)
 
--- and one list of what is expected behind its pieces
+-- and one list of what is expected after its pieces
 pub one_expected : (b : Built) (pieces : List Piece) (xs ys : List ℕ) → AreExpected b pieces xs → AreExpected b pieces ys → xs ≡ ys
 one_expected b pieces xs ys p q = one_named b xs ys p.sorted q.sorted (λ z. through (p.exact z) (q.exact z))

@@ -46,7 +46,7 @@ spans_from at (Skipped n ∷ pieces) = spans_from (at + n) pieces
 abbrev pub supplied : ℕ → Piece
 supplied symbol = Token 0 (symbol ∷ [])
 
--- the symbols that are supplied behind the last piece that has characters; `before` are those of the pieces before
+-- the symbols that are supplied after the last piece that has characters; `before` are those of the pieces before
 abbrev pub supplied_from : (before : List ℕ) → List Piece → List ℕ
 supplied_from before [] = before
 supplied_from before (Token zero symbols ∷ pieces) = supplied_from (before ++ symbols) pieces
@@ -58,7 +58,7 @@ supplied_behind pieces = supplied_from [] pieces
 
 -- WHAT CAN COME NEXT
 
--- the symbol is acceptable behind the pieces
+-- the symbol is acceptable after the pieces
 abbrev pub IsNext : Built → List Piece → ℕ → Type 0
 IsNext b pieces symbol = IsAcceptable b.g1 (Held (edges_of pieces)) (slice_index b.g1.starts 0) symbol (earleme_after pieces)
 

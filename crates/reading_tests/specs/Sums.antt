@@ -6,7 +6,7 @@ use Rattle.grammar_model.specs.Trees.{Tree, Children, Leaf, Node, NoChild, Child
 abbrev pub operand : ℕ → Tree
 operand at = Node 1 (Child NoChild (Leaf 2 at (at + 1))) at (at + 1)
 
--- two sides, with the sign behind the first
+-- two sides, with the sign after the first
 abbrev pub sum_of : (left right : Tree) → (from sign to : ℕ) → Tree
 sum_of left right from sign to = Node 0 (Child (Child (Child NoChild left) (Leaf 1 sign (sign + 1))) right) from to
 

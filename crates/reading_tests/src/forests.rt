@@ -161,7 +161,7 @@ fn node_count(counts: &[u64], alternatives: &Alternatives<'_>) -> u64 {
     sum
 }
 
-// How many derivations the nodes have, once each is counted behind those that it stands on.
+// How many derivations the nodes have, once each is counted after those that it stands on.
 fn counts_of<L: Ledger>(
     alloc: Global,
     forest: &Forest<'_>,

@@ -64,7 +64,7 @@ fn has_lines(lines: &[ReportLine], wanted: &[Line]) -> bool {
     same
 }
 
-/// Whether the reports of all places are these, and the place behind them has none.
+/// Whether the reports of all places are these, and the place after them has none.
 pub(crate) fn has_reports(
     alloc: Global,
     w: &Written,

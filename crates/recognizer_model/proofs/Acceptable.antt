@@ -72,7 +72,7 @@ laid_terminal P p [] x a b all l = absurd l
 laid_terminal P p (t ∷ ts) x a b all (inl (e, ea, eb)) = subst P (sym e) all.0
 laid_terminal P p (t ∷ ts) x a b all (inr l) = laid_terminal P (suc p) ts x a b all.1 l
 
--- what is laid stays laid, when more is laid behind it or before it
+-- what is laid stays laid, when more is laid after it or before it
 laid_more : (p : ℕ) (ts us : List ℕ) (x a b : ℕ) → Laid p ts x a b → Laid p (ts ++ us) x a b
 laid_more p [] us x a b l = absurd l
 laid_more p (t ∷ ts) us x a b (inl e) = inl e
@@ -233,7 +233,7 @@ module _ (g : FlatGrammar) (E : Edges) (top : ℕ) (is_top : IsTop g top) (forwa
   word_more ws us x a b (inl s) = inl s
   word_more ws us x a b (inr l) = inr (laid_more p (t ∷ ws) us x a b l)
 
-  -- one more part, laid behind the word
+  -- one more part, laid after the word
   begun_more : {r d x from : ℕ} → (b : IsBegun r d from) → part_of g r d ≡ Some x → (y : Lays g closed x) → IsBegun r (suc d) from
   begun_more {r = r} {d = d} {x = x} {from = from} b e y =
       let long : end_of b.word + length y.terms ≡ end_of (b.word ++ y.terms) = omega (arith, length-append b.word y.terms) in
@@ -247,7 +247,7 @@ module _ (g : FlatGrammar) (E : Edges) (top : ℕ) (is_top : IsTop g top) (forwa
             (λ z m n lo hi l. inr (laid_behind p (t ∷ b.word) y.terms z m n l))));
       }
 
-  -- the rest of a rule is laid behind the word
+  -- the rest of a rule is laid after the word
   finished : (n : ℕ) {r d from : ℕ} → IsRule g r → IsBegun r d from → n + d ≡ length (rhs_of g r) → IsBegun r (length (rhs_of g r)) from
   finished zero {r = r} {from = from} rule b e = subst (λ k. IsBegun r k from) (omega arith) b
   finished (suc n) {r = r} {d = d} rule b e =

@@ -103,7 +103,7 @@ module _ (f g : Grammar) (n : FlatNames) (flat_edge edge : Edges) (laws : IsFlat
       pick (inl e) = inr e
       pick (inr e) = inl e
 
-  -- what precedes an item behind k children: with no separators a list of items, and else such a list and a separator
+  -- what precedes an item after k children: with no separators a list of items, and else such a list and a separator
   before_item : (rule : WrittenRule) (k : ℕ) → 0 < k → EndsWithItem rule (suc k) → (EndsWithItem rule k × (slot_count rule ≡ 1) × Alike rule 1 k) ⊎ ((has_trailing rule k ≡ true) × (slot_count rule ≡ 2) × (2 ≤ k) × Alike rule 2 k)
   before_item (Plain r) k pos e = absurd e
   before_item (Sequence r) k pos e = go r.separator e.1

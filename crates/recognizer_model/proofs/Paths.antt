@@ -1,4 +1,4 @@
--- Acceptable, by a path of edges and a word, is the same as by terminals laid behind the place.
+-- Acceptable, by a path of edges and a word, is the same as by terminals laid after the place.
 use Rattle.std.proofs.Common.{◌≡◌, ℕ, zero, suc, ◌<◌, ◌≤◌, ◌+◌, List, [], ◌∷◌, ◌++◌, length, Some, ◌⊎◌, inl, inr, refl, sym, ap, ◌∙◌, subst, ⊎_elim, arith, length-append}
 use Rattle.std.specs.Prelude.{slice_get, slice_index}
 use Rattle.std.specs.List.{AllByRecursion}
@@ -74,7 +74,7 @@ module _ (E : Edges) (forward : GoForward E) (p t : ℕ) (more : List ℕ) where
   whole_forward s a b (inl e) = forward s a b e.0
   whole_forward s a b (inr l) = let h = laid_one p (t ∷ more) s a b l in omega arith
 
-  -- a path to the place, and what is laid behind it
+  -- a path to the place, and what is laid after it
   pub longer_path : (w : List ℕ) → Spells E 0 p w → Spells whole 0 (p + length (t ∷ more)) (w ++ t ∷ more)
   longer_path w s =
       spells-append whole 0 p (p + length (t ∷ more)) w (t ∷ more) (spells_over E whole forward w 0 p (λ s c d lo hi e. inl (e, hi)) s)

@@ -223,7 +223,7 @@ module _ (g : FlatGrammar) (E : Edges) (IsStart IsKnown Chosen : ℕ → Type 0)
   past r d j q le lt done (inr (lt', (l, folds, inl k))) = (l, folds, λ w. (set q le).completes _ w l k done refl)
   past r d j q le lt done (inr (lt', (l, folds, inr (d', f)))) = (l, folds, f)
 
-  -- what a thread of a set comes to behind a symbol
+  -- what a thread of a set comes to after a symbol
   abbrev GoesOn : (x p q : ℕ) → Type 0
   GoesOn x p q = (th : Thread) → K p th → next g th ≡ Some x → (l : Label) × Leaves g IsStart IsKnown W (R p) th l × Found q th l
 
@@ -266,7 +266,7 @@ module _ (g : FlatGrammar) (E : Edges) (IsStart IsKnown Chosen : ℕ → Type 0)
   null_here (Rule rule l lt s) e = absurd (omega arith)
 
   mutual
-    -- a thread that waits for the symbol goes on behind what it derives
+    -- a thread that waits for the symbol goes on after what it derives
     over_symbol : {x p q : ℕ} {t : Tree} → Derives g E x p q t → q ≤ n → p < q → GoesOn x p q
     over_symbol (Token {x = x} {p = p} {q = q} s) le lt th k e =
         let o = by_one x p q s in

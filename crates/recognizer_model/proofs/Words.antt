@@ -16,7 +16,7 @@ spells-append edge p r q [] y s t = subst (λ z. Spells edge z q y) (sym s) t
 spells-append edge p r q (a ∷ x) y (m, e, s) t = (m, e, spells-append edge m r q x y s t)
 
 module _ (g : Grammar) where
-  -- a derivation over a word, before more words and behind others
+  -- a derivation over a word, before more words and after others
   before : (w y : List ℕ) (slot : Slot) (a b : ℕ) (t : Tree) → b ≤ length w → Derives g (Line w) slot a b t → Derives g (Line (w ++ y)) slot a b (moved (λ k. k) t)
   before w y slot a b t le d = tree_moved g (Line w) (Line (w ++ y)) (λ k. k) (length w) (line_forward w) (λ a b lt h. lt) (λ s a b e h. (get_left w y a s e.0, e.1)) t slot a b le d
 

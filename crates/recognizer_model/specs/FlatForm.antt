@@ -56,7 +56,7 @@ pub data IsRuleOf (w : Grammar) : NamedRule → Type 0 where
   OfPlain : (i s k : ℕ) (r : PlainRule) (right : List FlatSymbol) → i < length w.rules → rule_at w i ≡ Plain r → right ≢ [] → IsLive w (Plain r) → Fits (Plain r) (record { symbol = s; level = k }) →
       IsUsedSlot w (record { symbol = s; level = k }) → length right ≡ length r.rhs → StandAll w (Plain r) 0 right →
       IsRuleOf w (record { left = Slot s k; right = right; source = Written i })
-  -- a list, and a list with a separator behind it
+  -- a list, and a list with a separator after it
   OfList : (i : ℕ) (r : SequenceRule) → IsSymbolOf w (Sequence i) → rule_at w i ≡ Grammar.Sequence r →
       IsRuleOf w (record { left = Slot r.lhs 0; right = Sequence i ∷ []; source = Written i })
   OfTrailing : (i separator : ℕ) (r : SequenceRule) (c : FlatSymbol) → IsSymbolOf w (Sequence i) → rule_at w i ≡ Grammar.Sequence r → r.separator ≡ Some separator → IsFalse r.proper →
@@ -156,7 +156,7 @@ FlatEdges f edge x from to = (t : ℕ) × (slice_get f.symbols x ≡ Some (Termi
 
 -- THE ORDER OF FLAT RULES
 
--- a top's rule counts as a rule behind the last one
+-- a top's rule counts as a rule after the last one
 abbrev pub source_number : Grammar → FlatSource → ℕ
 source_number w (Written i) = i
 source_number w (OfStart k) = length w.rules + k

@@ -7,7 +7,7 @@ use Rattle.recognizer_model.specs.Flat.{FlatGrammar, FlatSource, Written, OfStar
 use Rattle.grammar_model.specs.Derives.{Edges}
 use Rattle.recognizer_model.specs.Items.{InSet}
 
--- of a sequence: 0 before anything, 2 behind a separator, 1 behind an item
+-- of a sequence: 0 before anything, 2 after a separator, 1 after an item
 abbrev pub written_dot : WrittenRule → ℕ → ℕ
 written_dot (Plain r) dot = dot
 written_dot (Sequence r) dot = if dot == 0 then 0 else (if (dot == 2) && is_some r.separator then 2 else 1)

@@ -57,7 +57,7 @@ module _ (g : FlatGrammar) (IsStart IsKnown : ℕ → Type 0) (W : Parts) where
     Up : {x : ℕ} {l : Label} {th : Thread} → IsLone R x th → th.label ≡ Some l → Folds R x l
     On : {x : ℕ} {l : Label} {th : Thread} → IsLone R x th → th.label ≡ None → Folds R (lhs_of g th.rule) l → Folds R x l
 
-  -- the label of a thread of the row behind the place
+  -- the label of a thread of the row after the place
   pub data Leaves (R : Row) (th : Thread) : Label → Type 0 where
     Labelled : {l : Label} → th.label ≡ Some l → Leaves R th l
     Here : {l : Label} → th.label ≡ None → Folds R (lhs_of g th.rule) l → Leaves R th l

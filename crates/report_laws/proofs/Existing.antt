@@ -68,7 +68,7 @@ reports_exist w f edges start place is_flat form checked forward lt =
     let (lines, s, exact) = placed w f edges top place forward in
     (lines, report_of_flat w f edges start place lines is_flat form checked forward (record { top = top; top_is = top_is; sorted = s; exact = exact }))
 
--- ---- a list of two, behind its first item and the separator
+-- ---- a list of two, after its first item and the separator
 
 abbrev At : (place rule dot : ℕ) → Type 0
 At place rule dot = InSet flat_lists (FlatEdges flat_lists (Held tokens)) 13 place (record { rule = rule; dot = dot; origin = 0 })

@@ -390,7 +390,7 @@ module _ (f : FlatGrammar) (w : Grammar) (flat : IsFlat f) (made : IsFlatOf f w)
                 (past_longer m b (further m (child_count prefix) prefix fr refl some) (g.ended some end)) (part_at b.rule 1 (omega (arith, count))));
           }
 
-      -- what comes behind them
+      -- what comes after them
       sequence_next : (cs : Children) (q : ℕ) → Ends r cs → DerivesPrefix w edge (rule_at w i) p q cs → IsProductive w (child_slot (rule_at w i) (child_count cs)) → IsAwaited (child_slot (rule_at w i) (child_count cs)) q
       sequence_next cs q (Empty) fr prod = record {
         symbol = part short 0;
@@ -429,7 +429,7 @@ module _ (f : FlatGrammar) (w : Grammar) (flat : IsFlat f) (made : IsFlatOf f w)
             waits = part_at b.rule 2 (omega (arith, count));
           }
 
-      -- an item of the rule, with its dot behind them
+      -- an item of the rule, with its dot after them
       sequence_line : (cs : Children) (q : ℕ) → Ends r cs → DerivesPrefix w edge (rule_at w i) p q cs →
           (item : Item) × In q item × (source_of f item.rule ≡ Written i) × (item.origin ≡ p) × (written_dot (rule_at w i) item.dot ≡ dot_behind (rule_at w i) (child_count cs))
       sequence_line cs q (Empty) fr = (

@@ -34,6 +34,6 @@ DerivationsAreSeen = (g : Grammar) (edges : List Edge) (start symbol place : ℕ
     Derives g (Held edges) (slot_of symbol) 0 place tree → Has tree rule from to children →
     IsLine g (Held edges) start to (record { rule = rule; dot = dot_behind (rule_at g rule) (child_count children); origin = from })
 
--- a grammar of lists, behind an item and a separator: the line of the list says so
+-- a grammar of lists, after an item and a separator: the line of the list says so
 abbrev pub ReportsApply : Type 0
 ReportsApply = (lines : List ReportLine) × IsReport lists tokens 0 2 lines × Contains lines (record { rule = 1; dot = 2; origin = 0 })

@@ -169,7 +169,7 @@ pub const CHECKED_LINES: &[u8] =
 pub const OPERATORS: &[u8] =
     b":default ::= action => ::array\nE ::= N\n   | ('(') E (')') assoc => group\n  || E '**' E assoc => right\n  || E '*' E\n  || E '+' E\nN ~ [\\d]\n";
 
-/// Behind an operator comes a bracket or a number.
+/// After an operator comes a bracket or a number.
 pub const EXPECTED: Given<'static> = Given {
     words: &["expect", "--grammar", "g.slif"],
     grammar: OPERATORS,

@@ -244,7 +244,7 @@ fn what_is_expected_is_told(rt: HostRuntime) -> Result<(), Fail> {
     Ok(())
 }
 
-// The report of the sum `1+` at each place, and that of a list behind its first separator.
+// The report of the sum `1+` at each place, and that of a list after its first separator.
 static REPORT_ROWS: [Told<'static>; 4] = [
     (
         Given {

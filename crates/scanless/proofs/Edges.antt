@@ -84,7 +84,7 @@ place_more old new set some e = let l = length-append old (set ∷ []) in let k 
 pub keeps_through : (a b c : Recognizer) → Keeps a b → Keeps b c → Keeps a c
 keeps_through a b c k l = record { flat = l.flat ∙ k.flat; start = l.start ∙ k.start; sets = l.sets ∙ k.sets; noted = l.noted ∙ k.noted }
 
--- the edges of a token end behind the place
+-- the edges of a token end after the place
 behind : (place : ℕ) (symbols : List ℕ) (e : Edge) → Contains (token_edges place symbols) e → place < e.to
 behind place symbols e c =
     let (s, there, is) = Contains-map_from (λ s. record { symbol = s; from = place; to = suc place }) symbols e c in

@@ -22,7 +22,7 @@ ending_of (Stopped at found expected) = model.Stopped at found.items expected.it
 abbrev pub span_of : Span → ℕ × ℕ
 span_of s = (s.start, s.length)
 
--- a recognizer for the structural grammar's start holds the edges of the pieces and stands behind them
+-- a recognizer for the structural grammar's start holds the edges of the pieces and stands after them
 pub record HoldsPieces (b : Built) (pieces : List Piece) (recce : Recognizer) : Type 0 where
   pub flat : IsFlattened b.g1 recce.flat
   pub start : recce.start ≡ 0

@@ -37,7 +37,7 @@ pub enum Ending {
 /// What is read of a text.
 #[derive(Drop)]
 pub struct Reading<'p> {
-    /// holds the edges of the tokens, and stands behind the last
+    /// holds the edges of the tokens, and stands after the last
     pub recce: Recce<'p>,
     /// where each token lies
     pub spans: Vec<Span>,

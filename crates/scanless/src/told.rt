@@ -46,7 +46,7 @@ fn add_all_expected(
     Ok(())
 }
 
-/// The lexemes that are acceptable behind what the recognizer holds, by the bytes of their names.
+/// The lexemes that are acceptable after what the recognizer holds, by the bytes of their names.
 pub fn expected_lexemes(
     alloc: Global,
     p: &Prepared,

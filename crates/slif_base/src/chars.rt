@@ -130,7 +130,7 @@ fn refusal_of(bytes: &[u8]) -> TextRefusal
     }
 }
 
-/// The line and the column behind a text.
+/// The line and the column after a text.
 fn line_column_behind(text: &str) -> (u32, u32)
     requires { length (chars text.now) < 4294967295 }
     ensures line { result.0 ≡ line_after (chars text.now) }

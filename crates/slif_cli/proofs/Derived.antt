@@ -46,7 +46,7 @@ module _ (asked : ValuesAsked) (b : Built) (cs : List ℕ) (spans : List Span) (
       by [] all = absurd (Contains-none has.tree ((all.each has.tree).1 has.chosen))
       by (t ∷ ts) all = Derived t ts n all numbers refl
 
-  -- the numbers were written behind the values
+  -- the numbers were written after the values
   pub values_done : (before middle after : Option (List ℕ)) → TextHas b asked.show cs spans f asked.first (λ text. Appends before middle text) → Appends middle after (concat (stats_lines asked.stats n)) → Does Told before after
   values_done before middle after text more =
       let (trees, l, first) = text has.pieces has.of in

@@ -16,7 +16,7 @@ one_line_more [] k line e = absurd (cc e)
 one_line_more (first ∷ others) zero line e = let same : first ≡ line = cc e in append-nil first ∙ same
 one_line_more (first ∷ others) (suc k) line e = ap (λ t. first ++ t) (one_line_more others k line e) ∙ sym (append_assoc first (concat (take k others)) line)
 
--- what is left of the text behind a line's prefix
+-- what is left of the text after a line's prefix
 text_behind : (lines : List (List ℕ)) (k : ℕ) (line prefix rest : List ℕ) → slice_get lines k ≡ Some line → line ≡ prefix ++ rest
     → (tail : List ℕ) × (concat lines ≡ (concat (take k lines) ++ prefix) ++ tail)
 text_behind [] k line prefix rest e split = absurd (cc e)
@@ -27,7 +27,7 @@ text_behind (first ∷ others) (suc k) line prefix rest e split =
     let behind = text_behind others k line prefix rest e split in
     (behind.0, ap (λ t. first ++ t) behind.1 ∙ sym (append_assoc first (concat (take k others) ++ prefix) behind.0) ∙ ap (λ t. t ++ behind.0) (sym (append_assoc first (concat (take k others)) prefix)))
 
--- a prefix of a line behind whole lines is a prefix of the text
+-- a prefix of a line after whole lines is a prefix of the text
 pub prefix_of_text : (lines : List (List ℕ)) (k : ℕ) (line : List ℕ) (before middle after : Option (List ℕ)) → slice_get lines k ≡ Some line
     → Appends before middle (concat (take k lines)) → AppendsPrefix middle after line → AppendsPrefix before after (concat lines)
 prefix_of_text lines k line before middle after e whole part =
@@ -51,14 +51,14 @@ lines_in_prefix lines k before after whole = let behind = behind_lines lines k i
         let behind = behind_lines others k in
         (behind.0, ap (λ t. first ++ t) behind.1 ∙ sym (append_assoc first (concat (take k others)) behind.0))
 
--- a line behind those before it
+-- a line after those before it
 pub one_more_written : (lines : List (List ℕ)) (k : ℕ) (line : List ℕ) (before middle after : Option (List ℕ)) → slice_get lines k ≡ Some line
     → Appends before middle (concat (take k lines)) → Appends middle after line → Appends before after (concat (take (k + 1) lines))
 one_more_written lines k line before middle after e whole more =
     let next : k + 1 ≡ suc k = omega arith in
     subst (Appends before after) (sym (ap (λ (n : ℕ). concat (take n lines)) next ∙ one_line_more lines k line e)) (appends_twice before middle after (concat (take k lines)) line whole more)
 
--- a line behind whole lines is not all written
+-- a line after whole lines is not all written
 pub line_stops : (lines : List (List ℕ)) (k : ℕ) (line : List ℕ) (before middle after : Stream) (stop : Stop) → slice_get lines k ≡ Some line
     → Appends before.bytes middle.bytes (concat (take k lines)) → before.faults ≤ middle.faults → LinesStop (line ∷ []) middle after stop → LinesStop lines before after stop
 line_stops lines k line before middle after stop e whole later stops =
@@ -95,7 +95,7 @@ module _ (xs ys : List (List ℕ)) where
     appends = appends_twice before middle after (concat xs) part.bytes first part.appends;
   }
 
-  -- the lines behind those that were written are not all written
+  -- the lines after those that were written are not all written
   pub stops_behind : (before middle after : Stream) (stop : Stop) → Appends before.bytes middle.bytes (concat xs) → before.faults ≤ middle.faults → LinesStop ys middle after stop → LinesStop (xs ++ ys) before after stop
   stops_behind before middle after stop first later stops =
       stops_as (λ r x. x) (λ n x. x) (λ x. x) (λ x. (let rose = x.0 in omega (arith, later, rose), prefix_behind before.bytes middle.bytes after.bytes first x.1)) (prefix_behind before.bytes middle.bytes after.bytes first) stop stops

@@ -46,7 +46,7 @@ pub record AreAll (d : DerivationsOf) (trees : List Tree) : Type 0 where
 abbrev pub IsPrefixOfAll : DerivationsOf → List Tree → Type 0
 IsPrefixOfAll d given = (rest : List Tree) × AreAll d (given ++ rest)
 
--- behind those given before, one more is given, at which it then stands; or those were all
+-- after those given before, one more is given, at which it then stands; or those were all
 abbrev pub IsNext : (new : DerivationsOf) → (given : List Tree) → Bool → Type 0
 IsNext new given true = (tree : Tree) × AreGiven new.iteration (given ++ tree ∷ []) × (new.iteration.current ≡ Some (steps_of tree))
 IsNext new given false = AreAll new given

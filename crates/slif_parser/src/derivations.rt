@@ -16,7 +16,7 @@ use std::sync::ledger::{Blank, Ledger};
 use tree_fold::fold_steps;
 use tree_iter::TreeIter;
 
-/// The derivations of an input, one after another in the declared order, each once. It stands before the first, at one, or behind the last.
+/// The derivations of an input, one after another in the declared order, each once. It stands before the first, at one, or after the last.
 #[derive(Drop)]
 pub struct Derivations<'f> {
     prepared: &'f Prepared,

@@ -22,7 +22,7 @@ fn append_name(w: &Written, symbol: SymbolId, line: &mut Vec<u8>) -> Result<(), 
     append(w.name(symbol).as_bytes(), line)
 }
 
-// Appends the parts of a rule, each behind a space.
+// Appends the parts of a rule, each after a space.
 fn append_parts(w: &Written, symbols: &[SymbolId], line: &mut Vec<u8>) -> Result<(), NoMemory>
     requires { All (λ s. s < length w.now.names) symbols.now }
     ensures { OnOk result (line.new.items ≡ line.old.items ++ parts_text w.now symbols.now) }

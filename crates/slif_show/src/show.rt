@@ -20,7 +20,7 @@ struct Lines<'t> {
     taken: usize,
 }
 
-/// The prefix of some bytes up to a line feed, and what is behind it.
+/// The prefix of some bytes up to a line feed, and what is after it.
 fn split_line(bytes: &[u8]) -> (&[u8], &[u8]) {
     let end = match bytes.iter().position(|b| *b == b'\n') {
         Some(end) => end,
@@ -59,7 +59,7 @@ impl<'t> Lines<'t> {
     }
 }
 
-/// The column behind the longest prefix of a line that is UTF-8.
+/// The column after the longest prefix of a line that is UTF-8.
 fn column_behind(line: &[u8], len: usize) -> usize {
     let Some(prefix) = line.get(..len) else {
         return 1;
@@ -84,7 +84,7 @@ fn value_of(alloc: Global, line: usize, text: &str) -> Result<Vec<Part>, Stop>
     }
 }
 
-/// Appends a tree in this form, behind an empty line where it is not the first.
+/// Appends a tree in this form, after an empty line where it is not the first.
 fn push_tree(
     alloc: Global,
     form: Form,

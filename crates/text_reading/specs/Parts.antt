@@ -82,7 +82,7 @@ pub record IsStopText (b : Built) (cs text : List ℕ) (place : Option Place) (e
 abbrev pub HoldsSome : Built → Recognizer → Type 0
 HoldsSome b recce = (pieces : List Piece) × HoldsPieces b pieces recce
 
--- these are the lexemes that are expected behind the pieces that the recognizer holds
+-- these are the lexemes that are expected after the pieces that the recognizer holds
 abbrev pub AreExpectedOf : Built → Recognizer → List ℕ → Type 0
 AreExpectedOf b recce expected = (pieces : List Piece) → HoldsPieces b pieces recce → AreExpected b pieces expected
 

@@ -5,7 +5,7 @@ use Rattle.recognizer_model.specs.declared.thread.Thread.{Thread}
 use Rattle.recognizer_model.specs.Flat.{FlatGrammar}
 use Rattle.recognizer_model.specs.Threads.{next}
 
--- the end stands behind all symbols
+-- the end stands after all symbols
 abbrev pub or_end : Option ℕ → ℕ
 or_end None = 4294967296
 or_end (Some symbol) = symbol

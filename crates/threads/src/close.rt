@@ -28,7 +28,7 @@ fn fold_in_part(flat: &Flat, parts: &Lists, part: usize, symbol: u32) -> Label
     }
 }
 
-// The label of a thread of a part behind the place.
+// The label of a thread of a part after the place.
 fn label_in_part(flat: &Flat, parts: &Lists, part: usize, thread: Thread) -> Label
     requires part { part < length parts.now }
     requires parts { AreParts flat.now parts.now }

@@ -42,7 +42,7 @@ fn is_read(flat: &Flat, thread: Thread, terminals: &[SymbolId]) -> bool
     }
 }
 
-// The label of a thread of a row behind the place.
+// The label of a thread of a row after the place.
 fn label_behind(
     alloc: Global,
     flat: &Flat,

@@ -23,7 +23,7 @@ taken_more : (list : List TreeStep) (k : ℕ) (x : TreeStep) → k < length list
 taken_more list k x lt is =
     ap (map step_of) (take_more list k x lt ∙ ap (λ y. take k list ++ y ∷ []) is) ∙ map-append step_of (take k list) (x ∷ [])
 
--- a step was written behind a dot
+-- a step was written after a dot
 pub dotted : (list : List TreeStep) (k : ℕ) (x : TreeStep) (start before dot after : List ℕ) → 0 < k → k < length list → get_or list k x ≡ x → before ≡ start ++ cursor_text (map step_of (take k list)) →
     dot ≡ before ++ 46 ∷ [] → after ≡ dot ++ step_text (step_of x) → after ≡ start ++ cursor_text (map step_of (take (k + 1) list))
 dotted list k x start before dot after some lt is a b c =

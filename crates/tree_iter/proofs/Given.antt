@@ -66,7 +66,7 @@ listings_same f ts us a b = chosen_unique f.written (Held f.edges) f.ranking (sl
 pub prefixes_same : (f : Forest) (a b : List Tree) → AreFirst f a → AreFirst f b → length a ≡ length b → a ≡ b
 prefixes_same f a b g h l = same_prefixes a b g.rest h.rest (listings_same f (a ++ g.rest) (b ++ h.rest) g.listing h.listing) l
 
--- behind those given before, this one is next
+-- after those given before, this one is next
 record IsNext (f : Forest) (given : List Tree) (first : List Step) : Type 0 where
   tree : Tree
   are_first : AreFirst f (given ++ tree ∷ [])

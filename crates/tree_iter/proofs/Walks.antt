@@ -311,7 +311,7 @@ cut_left w n k kept goals = λ left h. subst (λ g. IsStack g w.left left) (sym 
 
 -- ---- looks
 
--- the goals behind the topmost one, which all stay
+-- the goals after the topmost one, which all stay
 pub record HasBehind (w : Walk) (goal : Goal) (behind : ℕ) (left : List Goal) : Type 0 where
   pub others : List Goal
   pub all : left ≡ goal ∷ others
@@ -458,7 +458,7 @@ cut_back w n rest before c choices goals counts steps h =
     length_taken (suc k) [] le = absurd (omega arith)
     length_taken (suc k) (x ∷ xs) le = ap suc (length_taken k xs (omega arith))
 
--- the walk is behind a choice again, with other rows behind those
+-- the walk is after a choice again, with other rows after those
 pub back_behind : (w n : Walk) (rest : List (List Step)) (c : Choice) → Grows w.goals.items n.goals.items → IsBack w c rest → StandsBehind (record w { goals = n.goals }) rest
 back_behind w n rest c grows h =
     let F : Forest = w.forest.now in

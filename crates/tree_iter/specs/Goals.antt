@@ -67,7 +67,7 @@ abbrev pub IsOpened : Forest → Opened → Type 0
 IsOpened f (opened.Parts node alternatives) = alternatives ≡ (node_at f node).alternatives
 IsOpened f (opened.OneOf start end nodes) = Unit {0}
 
--- behind parts there is a goal that becomes a step
+-- after parts there is a goal that becomes a step
 abbrev pub IsBacked : Goal → List Goal → Type 0
 IsBacked goal behind = 0 < unit goal + units behind
 

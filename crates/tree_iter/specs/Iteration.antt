@@ -6,7 +6,7 @@ use Rattle.recognizer_model.specs.Links.{choices}
 use Rattle.forest_model.specs.Forest.{Forest}
 use Rattle.forest_model.specs.Listing.{IsListing, AreFirst}
 
--- whether it stands behind the last derivation, and the steps of the one that it stands at, if it stands at one
+-- whether it stands after the last derivation, and the steps of the one that it stands at, if it stands at one
 pub record Iteration : Type 0 where
   pub forest : Forest
   pub ended : Bool
@@ -30,7 +30,7 @@ pub record AreGiven (it : Iteration) (given : List Tree) : Type 0 where
   pub first : AreFirst it.forest given
   pub are_before : AreBefore it.forest it.ended it.current given
 
--- the iterator behind the last derivation
+-- the iterator after the last derivation
 abbrev pub between : Iteration → Iteration
 between it = record { forest = it.forest; ended = true; current = None }
 
@@ -45,7 +45,7 @@ HasNone f steps = (trees : List Tree) → IsListing f trees → (t : Tree) → C
 abbrev pub begun : Forest → Iteration
 begun f = record { forest = f; ended = false; current = None }
 
--- behind those given before, one more is given, at which the iterator then stands; or those were all
+-- after those given before, one more is given, at which the iterator then stands; or those were all
 abbrev pub IsAnswer : (new : Iteration) → (given : List Tree) → Bool → Type 0
 IsAnswer new given true = (tree : Tree) × AreGiven new (given ++ tree ∷ []) × (new.current ≡ Some (steps_of tree))
 IsAnswer new given false = IsListing new.forest given

@@ -1,4 +1,4 @@
--- Stacks in one list of rows: a row names the place behind the one below it, so that stacks share what lies below. The place 0 is the
+-- Stacks in one list of rows: a row names the place after the one below it, so that stacks share what lies below. The place 0 is the
 -- bottom, and a row names none that is later than itself.
 use Rattle.std.specs.Prelude.{◌≡◌, ℕ, suc, ◌≤◌, List, [], ◌∷◌, ◌++◌, Some, slice_get}
 

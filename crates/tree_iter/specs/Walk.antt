@@ -20,7 +20,7 @@ use Rattle.tree_iter.specs.Writing.{AreDone}
 use Rattle.tree_iter.specs.Goals.{fork_of, goal_of, IsStack, IsReady, IsBacked, AreReady, units, weights}
 
 -- the trail of a walk, which in Prolog tells what going back undoes: what it has done, the newest last; it wrote a step, or chose an option
--- of a goal, with other goals behind that goal
+-- of a goal, with other goals after that goal
 pub data Trail : Type 0 where
   Begun : Trail
   Wrote : (trail : Trail) (step : Step) → Trail
@@ -99,7 +99,7 @@ pub record Chooses (f : Forest) (w : Walk) (goal : Goal) (at : ℕ) (lists : Lis
   pub option_is : slice_get (options f goal) at ≡ Some option
   pub on : IsOn w lists (Chose trail goal at others) (option ++ others)
 
--- the walk has come to the end of a derivation, and these are those behind it
+-- the walk has come to the end of a derivation, and these are those after it
 pub record StandsBehind (w : Walk) (rest : List (List Step)) : Type 0 where
   pub lists : Lists
   pub all : AreAllLists w.forest.now lists
@@ -183,7 +183,7 @@ pub record Passes (w : Walk) (rest : List (List Step)) : Type 0 where
   pub rest_is : rest ≡ skipped ++ later
   pub stands : StandsBefore w later
 
--- what stood before a walk is what was skipped, then the derivation that this one came to the end of, and those behind it
+-- what stood before a walk is what was skipped, then the derivation that this one came to the end of, and those after it
 pub record ComesTo (w : Walk) (rest : List (List Step)) : Type 0 where
   pub skipped : List (List Step)
   pub later : List (List Step)
@@ -194,7 +194,7 @@ pub record ComesTo (w : Walk) (rest : List (List Step)) : Type 0 where
 abbrev pub GoesPast : (old new : Walk) → Type 0
 GoesPast old new = (rest : List (List Step)) → StandsBefore old rest → Passes new rest
 
--- the walk has this goal left, and then those behind it
+-- the walk has this goal left, and then those after it
 pub record IsAbout (w : Walk) (goal : Goal) (behind : ℕ) : Type 0 where
   pub rest : List (List Step)
   pub stands : StandsBefore w rest
@@ -223,7 +223,7 @@ IsKept w left k = (left ≤ k) × ((before : List Choice) (c : Choice) → w.cho
 abbrev pub IsLast : List Choice → Choice → Type 0
 IsLast choices choice = (before : List Choice) × (choices ≡ before ++ choice ∷ [])
 
--- the walk is right behind a choice, and what was done after it is undone
+-- the walk is right after a choice, and what was done after it is undone
 pub record IsBack (w : Walk) (choice : Choice) (rest : List (List Step)) : Type 0 where
   pub forest : IsForest w.forest.now
   pub lists : Lists

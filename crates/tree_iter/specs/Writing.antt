@@ -36,7 +36,7 @@ pub record AreTakenOff (rows : List CountRow) (n : ℕ) (counts : List ℕ) (row
   pub sum : row.count ≡ sum_newest n counts
   pub rest : IsCounted rows row.below (older n counts)
 
--- what a step does behind others that left these counts
+-- what a step does after others that left these counts
 pub record IsEffect (w : Grammar) (g : FlatGrammar) (rows : List CountRow) (counts : List ℕ) (step : Step) (effect : Effect) : Type 0 where
   pub written : map step_of (option_to_list effect.step) ≡ step_written w g counts step
   pub left : List ℕ

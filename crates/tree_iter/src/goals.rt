@@ -33,7 +33,7 @@ pub enum Goal<'f> {
     Write(FlatStep),
 }
 
-/// A goal, and the place behind the row of the one below it; 0 is none.
+/// A goal, and the place after the row of the one below it; 0 is none.
 #[derive(Clone, Copy)]
 pub struct GoalRow<'f> {
     pub goal: Goal<'f>,
@@ -188,7 +188,7 @@ fn node_of(nodes: &[u32], at: usize) -> u32
     nodes[at]
 }
 
-/// Puts an option of a fork on top of the goals behind it.
+/// Puts an option of a fork on top of the goals after it.
 pub fn put_option<'f>(
     rows: &mut Vec<GoalRow<'f>>,
     forest: &'f Forest<'f>,

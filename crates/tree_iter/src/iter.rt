@@ -15,7 +15,7 @@ use std::marker::Model;
 use std::sync::ledger::Ledger;
 
 /// Where an iterator stands: before the first derivation, at one whose steps are in the walk or were copied before the walk went on, or
-/// behind the last.
+/// after the last.
 #[derive(Clone, Copy)]
 pub enum Current {
     Begun,
@@ -89,7 +89,7 @@ impl<'f> TreeIter<'f> {
         })
     }
 
-    /// Goes to the next derivation. Answers whether there is one; behind the last it stands at none. A call that runs out of memory
+    /// Goes to the next derivation. Answers whether there is one; after the last it stands at none. A call that runs out of memory
     /// leaves the iterator where it stands, and the next call goes on with what it has found; more than 2^32 flat steps of one derivation
     /// count as too many for memory. Only looks at alternatives raise `steps`: what a derivation shares with the one
     /// before it at its beginning is not looked at again.

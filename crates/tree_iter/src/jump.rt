@@ -88,7 +88,7 @@ fn rule_of(forest: &Forest<'_>, node: u32) -> Option<RuleId>
     }
 }
 
-// Whether a list's rule with so many parts is the one whose tree lies behind so many steps, where so many are written: the one with
+// Whether a list's rule with so many parts is the one whose tree lies after so many steps, where so many are written: the one with
 // one part, if that is all.
 fn is_list_told(parts: u32, below: u32, done: usize) -> bool
     ensures { IsTrue result ↔ ((parts ≡ 1) ↔ (below ≡ done)) }

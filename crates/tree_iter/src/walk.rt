@@ -20,7 +20,7 @@ use slif_base::Steps;
 use std::alloc::{AllocError as NoMemory, Global};
 use std::sync::ledger::Ledger;
 
-/// A choice point, as Prolog calls it: an option that was chosen, of so many, with the place of the goals behind it, and how many goals,
+/// A choice point, as Prolog calls it: an option that was chosen, of so many, with the place of the goals after it, and how many goals,
 /// steps and counts there were, so that what was done since can be undone.
 #[derive(Clone, Copy)]
 pub struct Choice<'f> {
@@ -33,7 +33,7 @@ pub struct Choice<'f> {
     pub counts: usize,
 }
 
-/// Where a walk is: on the way to the next derivation, or behind those that were given.
+/// Where a walk is: on the way to the next derivation, or after those that were given.
 #[derive(Clone, Copy)]
 pub enum Place {
     Walking,

@@ -31,7 +31,7 @@ pub enum FlatStep {
     },
 }
 
-/// For how many children something counts that is no child yet, and the place behind the row of what was read before it; 0 is none.
+/// For how many children something counts that is no child yet, and the place after the row of what was read before it; 0 is none.
 #[derive(Clone, Copy)]
 pub struct CountRow {
     pub count: u32,
@@ -145,7 +145,7 @@ fn rule_effect(
     }
 }
 
-// What a step does behind those that left these counts.
+// What a step does after those that left these counts.
 fn effect_of(rows: &[CountRow], flat: &Flat, written: &Written, step: FlatStep) -> Effect
     requires flat_of { IsFlatOf flat.now written.now }
     requires step { IsStepOf flat.now (flat_step step) }
@@ -195,7 +195,7 @@ fn make_room<T>(rows: &mut Vec<T>) -> Result<(), NoMemory>
     Ok(())
 }
 
-// Puts what a step does behind the others.
+// Puts what a step does after the others.
 fn put_effect(counts: &mut Vec<CountRow>, steps: &mut Vec<TreeStep>, effect: Effect)
     requires room { vec_len counts.old < vec_capacity counts.old }
     requires room_of_steps { vec_len steps.old < vec_capacity steps.old }
@@ -212,7 +212,7 @@ fn put_effect(counts: &mut Vec<CountRow>, steps: &mut Vec<TreeStep>, effect: Eff
     }
 }
 
-/// Writes a step behind the others. Rows are numbered in 32 bits, and behind room for 2^32 of them one more counts as too many for
+/// Writes a step after the others. Rows are numbered in 32 bits, and after room for 2^32 of them one more counts as too many for
 /// memory.
 pub fn write_step(
     counts: &mut Vec<CountRow>,

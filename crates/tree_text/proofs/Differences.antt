@@ -83,7 +83,7 @@ limit_lower one other first left more limit e there limits less = record {
 same_depth : (one other : List Node) (first i : ℕ) → DifferFirst one other first → i < first → depth_at one i ≡ depth_at other i
 same_depth one other first i differ less = ap depth_in (differ.before i less)
 
--- a node is around the first place exactly if its depth is below all behind it
+-- a node is around the first place exactly if its depth is below all after it
 around_end : (nodes : List Node) (first i more : ℕ) → more ≡ i + 1 → i < first → first < length nodes → ((k : ℕ) → more ≤ k → k < first → depth_at nodes i < depth_at nodes k) → depth_at nodes i < depth_at nodes first → IsAround nodes i first
 around_end nodes first i more e less there behind end = record {
   there = there;

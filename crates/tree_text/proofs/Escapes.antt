@@ -25,11 +25,11 @@ begins_small text rest c h e = e ∙ sym (encode_small c rest h)
 pub never_small : (text : List ℕ) (c : ℕ) → c < 128 → NeverBegins text (encode_utf8 c) → NeverBegins text (c ∷ [])
 never_small text c h never r is = never r (is ∙ encode_small c r h)
 
--- a character that stands behind a backslash in the same way
+-- a character that stands after a backslash in the same way
 abbrev pub is_marked : ℕ → Bool
 is_marked c = (c == 92) || ((c == 34) || ((c == 36) || (c == 64)))
 
--- what stands behind a backslash, but for codes
+-- what stands after a backslash, but for codes
 abbrev pub is_letter : ℕ → Bool
 is_letter c = is_marked c || ((c == 110) || ((c == 114) || (c == 116)))
 
@@ -139,7 +139,7 @@ some_code high low m n code p h q l is some =
     (λ i. escaped_by (code_not_marked code some i) (code_not_lf code some i) (code_not_cr code some i) (code_not_tab code some i) (code_is_control code some i) code)
     ∙ (λ i. coded (hex_digit (first i)) (hex_digit (second i))) ∙ (λ i. coded (h i) (l i))
 
--- what is behind a backslash where an escape begins with it
+-- what is after a backslash where an escape begins with it
 pub data Escape (text : List ℕ) (c : ℕ) (rest : List ℕ) : Type 0 where
   ShortEscape : (letter : ℕ) → text ≡ letter ∷ rest → is_letter letter ≡ true → Escape text c rest
   LongEscape : text ≡ 120 ∷ 123 ∷ hex_digit (c / 16) ∷ hex_digit (c % 16) ∷ 125 ∷ rest → escaped c ≡ coded (hex_digit (c / 16)) (hex_digit (c % 16)) → c < 160 → Escape text c rest
@@ -160,7 +160,7 @@ escape_of text rest c e =
 letter_small : (c : ℕ) → is_letter c ≡ true → c < 128
 letter_small c e = grind (arith, nat_tests)
 
--- the first character behind a backslash
+-- the first character after a backslash
 pub no_escape : (text rest : List ℕ) (d : ℕ) → text ≡ encode_utf8 d ++ rest → is_letter d ≡ false → d ≢ 120 → HasNoCharacter (92 ∷ text)
 unfolding encode_utf8
 no_escape text rest d e unknown other c r is =
@@ -179,7 +179,7 @@ no_escape_end text e c r is =
       | LongEscape begins long small ↦ let bad : [] ≡ 120 ∷ 123 ∷ hex_digit (c / 16) ∷ hex_digit (c % 16) ∷ 125 ∷ r = sym e ∙ begins in cc
     ]
 
--- a letter behind a backslash
+-- a letter after a backslash
 pub letter_begins : (text rest : List ℕ) (d letter : ℕ) → text ≡ encode_utf8 d ++ rest → d ≡ letter → letter < 128 → text ≡ letter ∷ rest
 letter_begins text rest d letter e same small = begins_small text rest letter small (e ∙ ap (λ c. encode_utf8 c ++ rest) same)
 
@@ -206,7 +206,7 @@ pub plain_escape : (text rest : List ℕ) (d : ℕ) → text ≡ encode_utf8 d +
 plain_escape text rest d e marked control =
     e ∙ ap (λ l. l ++ rest) (sym (λ i. escaped_by (marked i) (plain_not_lf d control i) (plain_not_cr d control i) (plain_not_tab d control i) (control i) d))
 
--- what is behind `\x` where an escape begins with it
+-- what is after `\x` where an escape begins with it
 pub record Code (text : List ℕ) (c : ℕ) (rest : List ℕ) : Type 0 where
   pub high : ℕ
   pub low : ℕ
@@ -247,7 +247,7 @@ no_second text t1 t2 high e f none c r is =
     let left : t2 ≡ code.low ∷ 125 ∷ r = (encode_same high code.high t2 (code.low ∷ 125 ∷ r) (sym f ∙ tail_of text t1 c r code e)).1 in
     let bad : [] ≡ code.low ∷ 125 ∷ r = sym none ∙ left in cc
 
--- both digits and what is behind them
+-- both digits and what is after them
 record Digits (t3 : List ℕ) (high low c : ℕ) (r : List ℕ) : Type 0 where
   rest : t3 ≡ 125 ∷ r
   is : escaped c ≡ coded high low

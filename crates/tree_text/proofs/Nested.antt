@@ -55,7 +55,7 @@ module _ (levels : List Level) (nodes : List ℕ) (growing : AreGrowing levels n
       subst (λ o. MatchOption o (depth_of more i ≡ 0) (λ a. IsBelow more a i)) (ap (λ (l : Level). l.1) (sym (old_level i lt)))
       (told (above_of levels i) (depth_of levels i ≡ 0) (depth_of more i ≡ 0) (λ a. IsBelow levels a i) (λ a. IsBelow more a i) (λ e. old_depth i lt ∙ e) (below_still i lt) (growing.nested i lt))
 
-  -- behind a node that is open stands the new one, too
+  -- after a node that is open stands the new one, too
   open_still : (j node : ℕ) → j < length nodes → IsOpenAt levels j node → IsOpenAt more j node
   open_still j node lt is = record {
     there = let n = longer in let there = is.there in omega (arith, n, there);

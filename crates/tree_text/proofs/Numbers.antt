@@ -10,7 +10,7 @@ use Rattle.tree_text.specs.Prefixes.{IsNumberEnd, IsNumber, HasNoNumber}
 own : IsNumeralModel (AllDigits 10) (digits_value 10)
 own = numerals_by_value (AllDigits 10) tells_digits
 
--- a text is cut behind its first digits in one way
+-- a text is cut after its first digits in one way
 record Cut (xs ys r s : List ℕ) : Type 0 where
   prefix : xs ≡ ys
   back : r ≡ s

@@ -10,7 +10,7 @@ use Rattle.tree_text.specs.Prefixes.{NeverBegins, HasNoCharacter, quoted, IsQuot
 use Rattle.tree_text.proofs.Escapes.{escaped_same, no_quote, escaped_some}
 use lib.Utf8.{encodes}
 
--- what is left of a quoted text behind some of its characters
+-- what is left of a quoted text after some of its characters
 pub record IsLeft (before rest cs r : List ℕ) : Type 0 where
   pub more : List ℕ
   pub whole : cs ≡ before ++ more

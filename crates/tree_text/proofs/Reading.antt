@@ -99,7 +99,7 @@ begins_by rest (Number n) after held end is = AtomBegins (record { is = is; pref
 begins_by rest (Text bytes) after held end is = AtomBegins (record { is = is; prefix = (held, tt); ends = tt }) refl
 begins_by rest (ListOf items) after held end is = ListBegins items refl held (record { is = is ∙ list_text items after; prefix = tt; ends = tt })
 
--- behind a value comes no digit
+-- after a value comes no digit
 end_by : (items : Values) (more : List ℕ) → IsNumberEnd (texts_after items ++ 93 ∷ more)
 end_by NoValue more d = omega arith
 end_by (MoreValues first rest) more d = omega arith

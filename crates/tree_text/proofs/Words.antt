@@ -25,7 +25,7 @@ undef_last text t1 t2 t3 t4 (Some x) a b c d e =
     word_some text t1 117 (codes "ndef") x.now (omega arith) a
     (word_some t1 t2 110 (codes "def") x.now (omega arith) b (word_some t2 t3 100 (codes "ef") x.now (omega arith) c (word_some t3 t4 101 (codes "f") x.now (omega arith) d (begins_small t4 x.now 102 (omega arith) e))))
 
--- what is found behind a character, where it may come
+-- what is found after a character, where it may come
 pub found_after : {P : Type 0} (may : P) (text : List ℕ) (c : ℕ) (found : Option (Bor (List ℕ))) → c < 128 →
     MatchOption found (NeverBegins text (encode_utf8 c)) (λ x. text ≡ encode_utf8 c ++ x.now) → MatchOption found (P → NeverBegins text (c ∷ [])) (λ x. P × (text ≡ c ∷ x.now))
 found_after may text c None h e = λ _. never_small text c h e

@@ -43,7 +43,7 @@ pub record IsBelow (levels : List Level) (a i : ℕ) : Type 0 where
   pub deeper : depth_of levels i ≡ depth_of levels a + 1
   pub between : (k : ℕ) → a < k → k ≤ i → depth_of levels a < depth_of levels k
 
--- a node of this depth is open: all behind it are below it
+-- a node of this depth is open: all after it are below it
 pub record IsOpenAt (levels : List Level) (depth node : ℕ) : Type 0 where
   pub there : node < length levels
   pub depth_is : depth_of levels node ≡ depth

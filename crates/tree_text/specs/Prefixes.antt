@@ -22,7 +22,7 @@ HasNoCharacter text = (c : ℕ) → NeverBegins text (escaped c)
 abbrev pub has_code : ℕ → Bool
 has_code c = is_control c && not ((c == 10) || ((c == 13) || (c == 9)))
 
--- a quoted text behind its first quote
+-- a quoted text after its first quote
 abbrev pub quoted : List ℕ → List ℕ → List ℕ
 quoted characters rest = flat_map escaped characters ++ 34 ∷ rest
 

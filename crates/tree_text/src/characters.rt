@@ -5,7 +5,7 @@ ghost use Rattle.grammar_model.specs.Text.{escaped, hex_digit};
 ghost use Rattle.tree_text.specs.Prefixes as prefixes;
 ghost use Rattle.tree_text.specs.Prefixes.{NeverBegins, HasNoCharacter};
 
-/// The first character of a text, and what is behind it.
+/// The first character of a text, and what is after it.
 pub(crate) fn split_first(text: &str) -> Option<(char, &str)>
     ensures { MatchOption result (text.now ≡ []) (λ x. text.now ≡ encode_utf8 x.0 ++ x.1.now) }
 {
@@ -16,7 +16,7 @@ pub(crate) fn split_first(text: &str) -> Option<(char, &str)>
     }
 }
 
-/// What is behind a character, where a text begins with it.
+/// What is after a character, where a text begins with it.
 pub(crate) fn behind(c: char, text: &str) -> Option<&str>
     ensures { MatchOption result (NeverBegins text.now (encode_utf8 c)) (λ rest. text.now ≡ encode_utf8 c ++ rest.now) }
 {
@@ -58,7 +58,7 @@ fn control(high: char, low: char) -> Option<char>
     if has_code(c) { Some(c) } else { None }
 }
 
-/// The control character that `{..}` tells behind `\x`, and what is behind it.
+/// The control character that `{..}` tells after `\x`, and what is after it.
 fn read_control(text: &str) -> Option<(char, &str)>
     ensures { MatchOption result (HasNoCharacter (92 ∷ 120 ∷ text.now)) (λ x. 92 ∷ 120 ∷ text.now ≡ escaped x.0 ++ x.1.now) }
 {
@@ -70,7 +70,7 @@ fn read_control(text: &str) -> Option<(char, &str)>
     Some((c, rest))
 }
 
-/// The character that an escape tells behind its backslash, and what is behind it.
+/// The character that an escape tells after its backslash, and what is after it.
 fn read_escape(text: &str) -> Option<(char, &str)>
     ensures { MatchOption result (HasNoCharacter (92 ∷ text.now)) (λ x. 92 ∷ text.now ≡ escaped x.0 ++ x.1.now) }
 {
@@ -85,7 +85,7 @@ fn read_escape(text: &str) -> Option<(char, &str)>
     }
 }
 
-/// The next character inside quotes, and what is behind it.
+/// The next character inside quotes, and what is after it.
 pub(crate) fn read_character(text: &str) -> Option<(char, &str)>
     ensures { MatchOption result (HasNoCharacter text.now) (λ x. text.now ≡ escaped x.0 ++ x.1.now) }
 {

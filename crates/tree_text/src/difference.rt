@@ -59,7 +59,7 @@ fn smallest_around(one: &[Node<'_>], other: &[Node<'_>], first: usize) -> Option
     if is_in_both(one, other, first) {
         return Some(first);
     }
-    // Nodes above the first place are less deep than all behind them.
+    // Nodes above the first place are less deep than all after them.
     let mut limit = depth_of(one, first).max(depth_of(other, first));
     let mut left = first;
     while left > 0 {

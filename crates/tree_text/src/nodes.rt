@@ -41,7 +41,7 @@ struct Open {
     below: Option<usize>,
 }
 
-/// The label of a node of this name, by the parts behind the name, and what is behind it.
+/// The label of a node of this name, by the parts after the name, and what is after it.
 fn label_named<'p>(name: &'p str, parts: &'p [Part]) -> Option<(Label<'p>, &'p [Part])> {
     let (first, behind) = parts.split_first()?;
     match first {
@@ -58,7 +58,7 @@ fn label_named<'p>(name: &'p str, parts: &'p [Part]) -> Option<(Label<'p>, &'p [
     }
 }
 
-/// The label of what is open in front of some parts, and what is behind it.
+/// The label of what is open in front of some parts, and what is after it.
 fn label_within(parts: &[Part]) -> (Label<'_>, &[Part]) {
     let named = match parts.split_first() {
         Some((Part::Text(name), behind)) => label_named(name.as_str(), behind),
@@ -67,7 +67,7 @@ fn label_within(parts: &[Part]) -> (Label<'_>, &[Part]) {
     named.unwrap_or((Label::List, parts))
 }
 
-/// The label at the front of some parts, and what is behind it.
+/// The label at the front of some parts, and what is after it.
 fn label_at(parts: &[Part]) -> (Label<'_>, &[Part]) {
     let Some((first, rest)) = parts.split_first() else {
         return (Label::List, parts);
@@ -81,7 +81,7 @@ fn label_at(parts: &[Part]) -> (Label<'_>, &[Part]) {
     }
 }
 
-/// Tells a node, if there is one, that another one comes behind it.
+/// Tells a node, if there is one, that another one comes after it.
 fn follow(nodes: &mut Vec<Node<'_>>, earlier: Option<usize>)
     ensures { map level_of nodes.new.items ≡ map level_of nodes.old.items }
 {
@@ -172,7 +172,7 @@ impl<'p> Growing<'p> {
         count_tokens(&mut self.nodes, open.node, self.tokens);
     }
 
-    /// Reads the node, or the end of a list, at the front of some parts, and gives what is behind it.
+    /// Reads the node, or the end of a list, at the front of some parts, and gives what is after it.
     fn read(&mut self, parts: &'p [Part]) -> Result<&'p [Part], AllocError>
         requires { IsGrowing self.old }
         ensures { OnOk result (IsGrowing self.new) }

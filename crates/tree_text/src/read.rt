@@ -21,7 +21,7 @@ fn left_of(rest: &str) -> usize {
     rest.chars().count()
 }
 
-/// The digits that a text begins with, and what is behind them.
+/// The digits that a text begins with, and what is after them.
 fn split_digits(text: &str) -> (&str, &str)
     ensures whole { text.now ≡ result.0.now ++ result.1.now }
     ensures digits { AllDigits 10 result.0.now }
@@ -42,7 +42,7 @@ fn has_leading_zero(digits: &str) -> bool
     digits.len() > 1 && digits.as_bytes()[0] == b'0'
 }
 
-/// The number that a text begins with, and what is behind it.
+/// The number that a text begins with, and what is after it.
 fn read_number(text: &str) -> Option<(u64, &str)>
     ensures { MatchOption result (HasNoNumber text.now) (λ x. IsNumber text.now x.0 x.1.now) }
 {
@@ -56,7 +56,7 @@ fn read_number(text: &str) -> Option<(u64, &str)>
     }
 }
 
-/// The text that is quoted in front of a quote, and what is behind that.
+/// The text that is quoted in front of a quote, and what is after that.
 fn read_quoted(alloc: Global, text: &str) -> Result<(String, &str), ReadRefusal>
     ensures ok { IfOk result (λ x. IsQuoted text.now (chars (string_bytes x.0)) x.1.now) }
     ensures err { IfErr result (RefusesQuoted text.now) }
@@ -75,7 +75,7 @@ fn read_quoted(alloc: Global, text: &str) -> Result<(String, &str), ReadRefusal>
     }
 }
 
-/// What is behind `undef`, where a text begins with it.
+/// What is after `undef`, where a text begins with it.
 fn behind_undef(text: &str) -> Option<&str>
     ensures { MatchOption result (NeverBegins text.now (codes "undef")) (λ rest. text.now ≡ codes "undef" ++ rest.now) }
 {
@@ -86,7 +86,7 @@ fn behind_undef(text: &str) -> Option<&str>
     behind('f', rest)
 }
 
-/// The part that a value begins with, and what is behind it.
+/// The part that a value begins with, and what is after it.
 fn read_prefix(alloc: Global, text: &str) -> Result<(Part, &str), ReadRefusal>
     ensures ok { IfOk result (λ x. IsPrefixOf text.now (part_of x.0) x.1.now) }
     ensures err { IfErr result (RefusesPrefix text.now) }
@@ -119,7 +119,7 @@ fn can_end(place: Place, depth: usize) -> bool
     }
 }
 
-/// What is behind the end of a list, where it comes next.
+/// What is after the end of a list, where it comes next.
 fn behind_end(place: Place, depth: usize, text: &str) -> Option<&str>
     ensures { MatchOption result (CanEnd place depth → NeverBegins text.now (93 ∷ [])) (λ rest. CanEnd place depth × (text.now ≡ 93 ∷ rest.now)) }
 {
@@ -130,7 +130,7 @@ fn behind_end(place: Place, depth: usize, text: &str) -> Option<&str>
     }
 }
 
-/// What is behind a comma, where it comes next in a list.
+/// What is after a comma, where it comes next in a list.
 fn behind_comma(depth: usize, text: &str) -> Option<&str>
     ensures { MatchOption result (0 < depth → NeverBegins text.now (44 ∷ [])) (λ rest. (0 < depth) × (text.now ≡ 44 ∷ rest.now)) }
 {

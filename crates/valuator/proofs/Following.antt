@@ -43,7 +43,7 @@ module _ (g : Grammar) (m : Meaning) (tokens : List Token) where
       ∙ advanced_push first (map step_of (take i list)) (step_of (get_or list i d))
       ∙ ap (λ (xs : List Step). advanced (λ show values. told_all show g m tokens values xs) first) (sym steps)
 
-  -- the next step can be told, and the others behind it
+  -- the next step can be told, and the others after it
   next_steps : (list : List TreeStep) (i : ℕ) (d : TreeStep) → i < length list → map step_of (drop i list) ≡ step_of (get_or list i d) ∷ map step_of (drop (i + 1) list)
   next_steps list i d b = let at : i + 1 ≡ suc i = omega arith in ap (map step_of) (drop-cons list i d b) ∙ ap (λ k. step_of (get_or list i d) ∷ map step_of (drop k list)) (sym at)
 

@@ -15,7 +15,7 @@ IsFirst g symbol n (Some i) = (i < n) × ((j : ℕ) → j < i → nulls_symbol s
 abbrev pub AreFirst : Grammar → (n : ℕ) → List (Option ℕ) → Type 0
 AreFirst g n rules = (length rules ≡ length g.names) × ((symbol : ℕ) → symbol < length g.names → IsFirst g symbol n (slice_index_or rules symbol None))
 
--- what is known of a symbol behind one more of its rules
+-- what is known of a symbol after one more of its rules
 abbrev pub first_with : Option ℕ → Bool → ℕ → Option ℕ
 first_with (Some i) nulls next = Some i
 first_with None true next = Some next

@@ -54,7 +54,7 @@ CanTell g places held (RuleStep i n from to) = (i < length g.rules) × (lhs_of (
 abbrev pub EachCanTell : Grammar → ℕ → List (Show × List Value) → Step → Type 0
 EachCanTell g places tellers step = All (λ (s : Show × List Value). CanTell g places (length s.1) step) tellers
 
--- how many values are held behind a step, and what a teller that holds so many values can be told one after another
+-- how many values are held after a step, and what a teller that holds so many values can be told one after another
 abbrev pub held_after : ℕ → Step → ℕ
 held_after held (TokenStep symbol from to) = suc held
 held_after held (NulledStep symbol at) = suc held

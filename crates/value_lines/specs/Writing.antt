@@ -27,7 +27,7 @@ abbrev pub TextHas : (b : Built) (show : Show) (cs : List ℕ) (spans : List Spa
 TextHas b show cs spans f first P =
     (pieces : List Piece) → IsForestOf b cs spans f pieces → (trees : List Tree) × IsListing f trees × P (concat (map (line_of b show cs pieces) (first_of first trees)))
 
--- a text and the line feed behind it
+-- a text and the line feed after it
 pub record IsWholeLine (piece : List ℕ) : Type 0 where
   pub text : List ℕ
   pub ended : piece ≡ text ++ 10 ∷ []

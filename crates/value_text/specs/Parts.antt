@@ -24,7 +24,7 @@ IsPart values (ListPart ids) = AreIds values ids.now
 abbrev pub comma : Bool → List ℕ
 comma follows = if follows then 44 ∷ [] else []
 
--- the text from a place in a list to its end; a comma is before the next item where one is behind it
+-- the text from a place in a list to its end; a comma is before the next item where one is after it
 abbrev pub items_text : Bool → Values → List ℕ
 items_text follows items = (if follows then texts_after items else texts_of items) ++ 93 ∷ []
 

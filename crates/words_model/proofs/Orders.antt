@@ -10,7 +10,7 @@ use Rattle.words_model.proofs.Settings.{swapped}
 abbrev Settings : Type 0
 Settings = Option (List Setting)
 
--- what stands behind the words that `before` reads is read by `after`
+-- what stands after the words that `before` reads is read by `after`
 abbrev Goes : Settings → (Option (List ℕ) → Settings) → (Option (List ℕ) → Settings) → Type 0
 Goes behind before after = (w : Option (List ℕ)) (ts : List Setting) → before w ≡ Some ts → after w ≡ option_map (λ us. ts ++ us) behind
 

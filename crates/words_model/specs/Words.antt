@@ -68,7 +68,7 @@ set name value = record { name = name; value = value }
 abbrev pub set_job : List ℕ → Setting
 set_job = set (codes "JOB")
 
--- the word sets this, and the words behind it what they set
+-- the word sets this, and the words after it what they set
 abbrev pub and_then : Setting → Option (List Setting) → Option (List Setting)
 and_then setting = option_map (λ settings. setting ∷ settings)
 
@@ -85,7 +85,7 @@ abbrev pub option_value : List ℕ → Option (List ℕ)
 option_value word =
     if list_any (λ c. c == 61) (drop 2 word) then Some (after_first (λ c. c == 61) (drop 2 word)) else None
 
--- a word that names an option; `next` is what the words behind it set, where an option may wait for its value
+-- a word that names an option; `next` is what the words after it set, where an option may wait for its value
 abbrev pub option_sets : (name : List ℕ) (value : Option (List ℕ)) (next : Option (List ℕ) → Option (List Setting)) → Option (List Setting)
 option_sets name (Some value) next = if is_one_of with_value name then and_then (set name value) (next None) else None
 option_sets name None next =

@@ -22,7 +22,7 @@ fn append_number(number: u32, line: &mut Vec<u8>) -> Result<(), AllocError>
     append(Buffer::new().format(number).as_bytes(), line)
 }
 
-// Appends places, each behind a comma.
+// Appends places, each after a comma.
 fn append_more(places: &[u32], line: &mut Vec<u8>) -> Result<(), AllocError>
     ensures { OnOk result (line.new.items ≡ line.old.items ++ flat_map (λ p. codes "," ++ decimal p) places.now) }
 {

@@ -28,7 +28,7 @@ use text_reading::forest_of;
 use valuator::Teller;
 use value_lines::{stats_line, write_derivations};
 
-/// Writes the values that are asked for, one a line, and behind them the line of the numbers, where it is asked for.
+/// Writes the values that are asked for, one a line, and after them the line of the numbers, where it is asked for.
 pub fn write_values<'a, O: Sink, L: Ledger>(
     alloc: Global,
     prepared: &Prepared,
