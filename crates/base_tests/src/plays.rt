@@ -58,7 +58,8 @@ fn add_rule(alloc: Global, w: &mut Written, lhs: u32, parts: &[u32]) -> Result<(
 
 // Adds a rule for one or more items with separators.
 fn add_list(w: &mut Written, lhs: u32, item: u32, separator: u32) -> Result<(), CoreRefusal>
-    ensures added { IfOk result (λ _. w.new.rules ≡ w.old.rules ++ list_rule lhs item separator ∷ []) }
+    ensures added { IfOk result (λ _. w.new.rules ≡
+        w.old.rules ++ list_rule lhs item separator ∷ []) }
     ensures sound { IfOk result (λ _. IsWritten w.new) }
 {
     w.sequence_new(SeqRule {
@@ -219,7 +220,8 @@ fn nulled_at_the_beginning(alloc: Global) -> Result<Written, CoreRefusal>
 }
 
 fn none_made(alloc: Global) -> Result<Meaning, NoMemory>
-    ensures { IfOk result (λ m. (g : Grammar) → g.rules ≡ begins_nulled → IsMeaningOf g (meaning_of m)) }
+    ensures { IfOk result (λ m. (g : Grammar) → g.rules ≡ begins_nulled →
+        IsMeaningOf g (meaning_of m)) }
 {
     let both = plain(alloc, Action::Undef, &[true, true])?;
     let one = plain(alloc, Action::Undef, &[true])?;
@@ -358,7 +360,8 @@ fn described(alloc: Global, shown: &[bool]) -> Result<RuleMeaning, NoMemory>
 
 /// All items of the rules, and of lexemes those that they have.
 pub(crate) fn all_described(alloc: Global) -> Result<Meaning, NoMemory>
-    ensures { IfOk result (λ m. (g : Grammar) → g.rules ≡ ends_nulled → IsMeaningOf g (meaning_of m)) }
+    ensures { IfOk result (λ m. (g : Grammar) → g.rules ≡ ends_nulled →
+        IsMeaningOf g (meaning_of m)) }
 {
     let both = described(alloc, &[true, true])?;
     let one = described(alloc, &[true])?;
@@ -495,7 +498,8 @@ fn in_brackets(alloc: Global) -> Result<Written, CoreRefusal>
 }
 
 fn brackets_hidden(alloc: Global) -> Result<Meaning, NoMemory>
-    ensures { IfOk result (λ m. (g : Grammar) → g.rules ≡ list_in_brackets → IsMeaningOf g (meaning_of m)) }
+    ensures { IfOk result (λ m. (g : Grammar) → g.rules ≡ list_in_brackets →
+        IsMeaningOf g (meaning_of m)) }
 {
     let inner = plain(alloc, Action::Array, &[false, true, false])?;
     let rules = vec![in alloc; inner, separated(alloc, Action::Array)]?;

@@ -118,7 +118,8 @@ fn hex_digit(c: char) -> u32
 
 fn hex_number(digits: &[char]) -> u32
     requires few { length digits.now ≤ 6 }
-    requires hex { (k : ℕ) → k < length digits.now → IsTrue (is_ascii_hexdigit (slice_index digits.now k)) }
+    requires hex { (k : ℕ) → k < length digits.now →
+        IsTrue (is_ascii_hexdigit (slice_index digits.now k)) }
     ensures { result ≡ hex_number digits.now }
 {
     let mut number = 0;

@@ -81,7 +81,8 @@ fn paired_codes(alloc: Global, items: &[ClassItem]) -> Result<Vec<u32>, AllocErr
 
 // The same codes, sorted.
 fn folded_codes(alloc: Global, items: &[ClassItem]) -> Result<Vec<u32>, AllocError>
-    ensures codes { IfOk result (λ folded. (c : ℕ) → has_code folded.items c ≡ folded_has items.now c) }
+    ensures codes { IfOk result (λ folded. (c : ℕ) →
+        has_code folded.items c ≡ folded_has items.now c) }
     ensures sorted { IfOk result (λ folded. Rises folded.items) }
 {
     let mut folded = paired_codes(alloc, items)?;
@@ -104,7 +105,8 @@ fn codes_where(alloc: Global, caseless: bool, items: &[ClassItem]) -> Result<Vec
 fn count_below(pairs: &[(u32, u32)], code: u32) -> usize
     requires { IsPartitionedBy (λ pair. nat_lt pair.0 code) pairs.now }
     ensures bound { result ≤ length pairs.now }
-    ensures split { IsPartitionPoint (λ pair. nat_lt pair.0 code ≡ true) (λ pair. nat_lt pair.0 code ≡ false) pairs.now result }
+    ensures split { IsPartitionPoint (λ pair. nat_lt pair.0 code ≡ true)
+        (λ pair. nat_lt pair.0 code ≡ false) pairs.now result }
 {
     pairs.partition_point(|pair| pair.0 < code)
 }
@@ -118,14 +120,16 @@ fn seconds(
 ) -> Result<Vec<u32>, AllocError>
     requires order { from ≤ to }
     requires fits { to ≤ length pairs.now }
-    ensures { IfOk result (λ v. v.items ≡ map (λ pair. pair.1) (take (to - from) (drop from pairs.now))) }
+    ensures { IfOk result (λ v. v.items ≡
+        map (λ pair. pair.1) (take (to - from) (drop from pairs.now))) }
 {
     pairs[from..to].iter().map(|pair| pair.1).collect(alloc)
 }
 
 // The codes that share their simple folding with another character's, sorted.
 fn codes_of_char(alloc: Global, c: char) -> Result<Vec<u32>, AllocError>
-    ensures codes { IfOk result (λ others. (x : ℕ) → has_code others.items x ≡ folded_has (Span c c ∷ []) x) }
+    ensures codes { IfOk result (λ others. (x : ℕ) →
+        has_code others.items x ≡ folded_has (Span c c ∷ []) x) }
     ensures sorted { IfOk result (λ others. Rises others.items) }
 {
     let pairs = fold_pairs();
@@ -146,7 +150,9 @@ fn is_among(codes: &[u32], code: u32) -> bool
 
 fn class_has(negated: bool, items: &[ClassItem], folded: &[u32], c: char) -> bool
     requires { Rises folded.now }
-    ensures { result ≡ (if negated then not (some_item_has items.now c || has_code folded.now c) else (some_item_has items.now c || has_code folded.now c)) }
+    ensures { result ≡
+        (if negated then not (some_item_has items.now c || has_code folded.now c) else
+        (some_item_has items.now c || has_code folded.now c)) }
 {
     let matches = some_item_has(items, c) || is_among(folded, c as u32);
     if negated { !matches } else { matches }
@@ -154,7 +160,10 @@ fn class_has(negated: bool, items: &[ClassItem], folded: &[u32], c: char) -> boo
 
 fn ascii_bits(negated: bool, items: &[ClassItem], folded: &[u32]) -> u128
     requires { Rises folded.now }
-    ensures { (c : ℕ) → c < 128 → bit_at result c ≡ bit_of (if negated then not (some_item_has items.now c || has_code folded.now c) else (some_item_has items.now c || has_code folded.now c)) }
+    ensures { (c : ℕ) → c < 128 →
+        bit_at result c ≡
+        bit_of (if negated then not (some_item_has items.now c || has_code folded.now c) else
+        (some_item_has items.now c || has_code folded.now c)) }
 {
     let mut bits = 0u128;
     for code in 0..128u8 {
@@ -174,7 +183,8 @@ fn with_bit(bits: u128, code: u32) -> u128
 
 // The bits of one character and of codes.
 fn char_bits(c: char, codes: &[u32]) -> u128
-    ensures { (x : ℕ) → x < 128 → bit_at result x ≡ bit_of (some_item_has (Span c c ∷ []) x || has_code codes.now x) }
+    ensures { (x : ℕ) → x < 128 →
+        bit_at result x ≡ bit_of (some_item_has (Span c c ∷ []) x || has_code codes.now x) }
 {
     let mut bits = with_bit(0, c as u32);
     for code in codes {
@@ -193,7 +203,10 @@ impl CharSet {
     ) -> CharSet
         requires codes { HasCodes caseless items.items folded.items }
         requires sorted { Rises folded.items }
-        requires bits { (c : ℕ) → c < 128 → bit_at ascii c ≡ bit_of (if negated then not (some_item_has items.items c || has_code folded.items c) else (some_item_has items.items c || has_code folded.items c)) }
+        requires bits { (c : ℕ) → c < 128 →
+            bit_at ascii c ≡
+            bit_of (if negated then not (some_item_has items.items c || has_code folded.items c)
+            else (some_item_has items.items c || has_code folded.items c)) }
         ensures { result ≡ record { negated = negated; caseless = caseless; items = items.items } }
     {
         CharSet {

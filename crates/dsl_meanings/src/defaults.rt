@@ -22,21 +22,25 @@ fn default_adverbs(s: &Statement) -> &[Adverb]
 }
 
 fn value_in<'a>(name: &str, s: &'a Statement) -> Option<&'a Spelled>
-    ensures { option_copied result ≡ building.value_of name.now (lexeme_default_adverbs (statement_of s.now)) }
+    ensures { option_copied result ≡
+        building.value_of name.now (lexeme_default_adverbs (statement_of s.now)) }
 {
     value_of(name, default_adverbs(s))
 }
 
 /// The value that `lexeme default` has for the adverb of this name.
 pub fn default_value<'a>(name: &str, statements: &'a [Statement]) -> Option<&'a Spelled>
-    ensures { option_copied result ≡ building.value_of name.now (flat_map lexeme_default_adverbs (map statement_of statements.now)) }
+    ensures { option_copied result ≡
+        building.value_of name.now (flat_map lexeme_default_adverbs (map statement_of
+        statements.now)) }
 {
     statements.iter().find_map(|s| value_in(name, s))
 }
 
 // The action of all lexemes, if there is one.
 fn lexeme_action(alloc: Global, statements: &[Statement]) -> Result<Option<Action>, AllocError>
-    ensures { IfOk result (λ action. option_map action_of action ≡ building.action_in (flat_map lexeme_default_adverbs (map statement_of statements.now))) }
+    ensures { IfOk result (λ action. option_map action_of action ≡
+        building.action_in (flat_map lexeme_default_adverbs (map statement_of statements.now))) }
 {
     match default_value("action", statements) {
         Some(value) => read_action(alloc, value.content.as_str()),

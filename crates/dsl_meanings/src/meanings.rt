@@ -14,7 +14,8 @@ use value_text::{Action, Items, RuleMeaning};
 
 /// The action that adverbs tell, if they tell one.
 pub fn action_in(alloc: Global, adverbs: &[Adverb]) -> Result<Option<Action>, AllocError>
-    ensures { IfOk result (λ action. option_map action_of action ≡ building.action_in (adverbs_of adverbs.now)) }
+    ensures { IfOk result (λ action. option_map action_of action ≡
+        building.action_in (adverbs_of adverbs.now)) }
 {
     match value_of("action", adverbs) {
         Some(value) => read_action(alloc, value.content.as_str()),
@@ -37,7 +38,8 @@ fn copy_of(alloc: Global, action: &Action) -> Result<Action, AllocError>
 }
 
 fn action_or(alloc: Global, default: &Action, adverbs: &[Adverb]) -> Result<Action, AllocError>
-    ensures { IfOk result (λ action. action_of action ≡ unwrap_or (building.action_in (adverbs_of adverbs.now)) (action_of default.now)) }
+    ensures { IfOk result (λ action. action_of action ≡
+        unwrap_or (building.action_in (adverbs_of adverbs.now)) (action_of default.now)) }
 {
     match action_in(alloc, adverbs)? {
         Some(action) => Ok(action),
@@ -55,7 +57,8 @@ fn push_hidden(shown: &mut Vec<bool>, parts: &[Spelled]) -> Result<(), AllocErro
 }
 
 fn push_element(shown: &mut Vec<bool>, element: &Element) -> Result<(), AllocError>
-    ensures { OnOk result (shown.new.items ≡ shown.old.items ++ shown_of_element (element_of element.now)) }
+    ensures { OnOk result (shown.new.items ≡
+        shown.old.items ++ shown_of_element (element_of element.now)) }
 {
     match element {
         Element::Bare(_) => {
@@ -67,7 +70,8 @@ fn push_element(shown: &mut Vec<bool>, element: &Element) -> Result<(), AllocErr
 }
 
 fn shown_of(alloc: Global, elements: &[Element]) -> Result<Vec<bool>, AllocError>
-    ensures { IfOk result (λ shown. shown.items ≡ flat_map shown_of_element (map element_of elements.now)) }
+    ensures { IfOk result (λ shown. shown.items ≡
+        flat_map shown_of_element (map element_of elements.now)) }
 {
     let mut shown = Vec::new(alloc);
     for element in elements {
@@ -81,7 +85,8 @@ fn meaning_of_alternative(
     default: &Action,
     alternative: &Alternative,
 ) -> Result<RuleMeaning, AllocError>
-    ensures { IfOk result (λ m. rule_meaning_of m ≡ meaning_of_alternative (action_of default.now) alternative.now) }
+    ensures { IfOk result (λ m. rule_meaning_of m ≡
+        meaning_of_alternative (action_of default.now) alternative.now) }
 {
     let shown = shown_of(alloc, &alternative.elements)?;
     Ok(RuleMeaning {
@@ -97,7 +102,8 @@ fn meaning_of_empty(
     default: &Action,
     adverbs: &[Adverb],
 ) -> Result<RuleMeaning, AllocError>
-    ensures { IfOk result (λ m. rule_meaning_of m ≡ meaning_of_plain (action_of default.now) [] (adverbs_of adverbs.now)) }
+    ensures { IfOk result (λ m. rule_meaning_of m ≡
+        meaning_of_plain (action_of default.now) [] (adverbs_of adverbs.now)) }
 {
     Ok(RuleMeaning {
         action: action_or(alloc, default, adverbs)?,
@@ -112,7 +118,8 @@ fn meaning_of_quantified(
     default: &Action,
     adverbs: &[Adverb],
 ) -> Result<RuleMeaning, AllocError>
-    ensures { IfOk result (λ m. rule_meaning_of m ≡ meaning_of_quantified (action_of default.now) (adverbs_of adverbs.now)) }
+    ensures { IfOk result (λ m. rule_meaning_of m ≡
+        meaning_of_quantified (action_of default.now) (adverbs_of adverbs.now)) }
 {
     Ok(RuleMeaning {
         action: action_or(alloc, default, adverbs)?,
@@ -128,7 +135,9 @@ fn push_group(
     default: &Action,
     group: &[Alternative],
 ) -> Result<(), AllocError>
-    ensures { OnOk result (map rule_meaning_of out.new.items ≡ map rule_meaning_of out.old.items ++ map (meaning_of_alternative (action_of default.now)) group.now) }
+    ensures { OnOk result (map rule_meaning_of out.new.items ≡
+        map rule_meaning_of out.old.items ++
+        map (meaning_of_alternative (action_of default.now)) group.now) }
 {
     for alternative in group {
         out.push(meaning_of_alternative(alloc, default, alternative)?)?;
@@ -142,7 +151,10 @@ fn push_groups(
     default: &Action,
     groups: &[Vec<Alternative>],
 ) -> Result<(), AllocError>
-    ensures { OnOk result (map rule_meaning_of out.new.items ≡ map rule_meaning_of out.old.items ++ flat_map (λ g. map (meaning_of_alternative (action_of default.now)) g.items) groups.now) }
+    ensures { OnOk result (map rule_meaning_of out.new.items ≡
+        map rule_meaning_of out.old.items ++
+        flat_map (λ g. map (meaning_of_alternative (action_of default.now)) g.items)
+        groups.now) }
 {
     for group in groups {
         push_group(alloc, out, default, group)?;
@@ -157,7 +169,10 @@ fn push_rules(
     level: Level,
     groups: &[Vec<Alternative>],
 ) -> Result<(), AllocError>
-    ensures { OnOk result (map rule_meaning_of out.new.items ≡ map rule_meaning_of out.old.items ++ (if is_lexical level then [] else flat_map (λ g. map (meaning_of_alternative (action_of default.now)) g.items) groups.now)) }
+    ensures { OnOk result (map rule_meaning_of out.new.items ≡
+        map rule_meaning_of out.old.items ++
+        (if is_lexical level then [] else flat_map
+        (λ g. map (meaning_of_alternative (action_of default.now)) g.items) groups.now)) }
 {
     match level {
         Level::Structural => push_groups(alloc, out, default, groups),
@@ -171,7 +186,9 @@ fn push_statement(
     default: &Action,
     s: &Statement,
 ) -> Result<(), AllocError>
-    ensures { OnOk result (map rule_meaning_of out.new.items ≡ map rule_meaning_of out.old.items ++ meanings_of (action_of default.now) (statement_of s.now)) }
+    ensures { OnOk result (map rule_meaning_of out.new.items ≡
+        map rule_meaning_of out.old.items ++
+        meanings_of (action_of default.now) (statement_of s.now)) }
 {
     match s {
         Statement::Empty {
@@ -196,7 +213,8 @@ fn push_statement(
 }
 
 fn next_default(alloc: Global, default: Action, s: &Statement) -> Result<Action, AllocError>
-    ensures { IfOk result (λ action. action_of action ≡ next_default (action_of default) (statement_of s.now)) }
+    ensures { IfOk result (λ action. action_of action ≡
+        next_default (action_of default) (statement_of s.now)) }
 {
     match s {
         Statement::Default { adverbs, .. } => action_or(alloc, &default, adverbs),
@@ -206,7 +224,8 @@ fn next_default(alloc: Global, default: Action, s: &Statement) -> Result<Action,
 
 /// The meanings of the structural rules, in order.
 pub fn meanings(alloc: Global, statements: &[Statement]) -> Result<Vec<RuleMeaning>, AllocError>
-    ensures { IfOk result (λ out. map rule_meaning_of out.items ≡ meanings MakeUndefined (map statement_of statements.now)) }
+    ensures { IfOk result (λ out. map rule_meaning_of out.items ≡
+        meanings MakeUndefined (map statement_of statements.now)) }
 {
     let mut out = Vec::new(alloc);
     let mut default = Action::Undef;

@@ -25,7 +25,8 @@ fn read_pair(alloc: Global, piece: &Piece<'_>) -> Result<Option<Adverb>, AllocEr
 
 /// The adverbs that the tokens are, all of them.
 pub fn read_adverbs(alloc: Global, piece: &Piece<'_>) -> Result<Option<Vec<Adverb>>, AllocError>
-    ensures { IfOk result (λ r. option_map (λ v. map adverb_seen v.items) r ≡ adverbs_of piece.now) }
+    ensures { IfOk result (λ r. option_map (λ v. map adverb_seen v.items) r ≡
+        adverbs_of piece.now) }
 {
     let mut adverbs = Vec::new(alloc);
     let mut at = 0;

@@ -10,7 +10,8 @@ use std::alloc::{AllocError, Global};
 
 /// The parts up to a closing bracket, of which there is one at least.
 fn read_hidden(alloc: Global, piece: &Piece<'_>) -> Result<Option<Vec<Spelled>>, AllocError>
-    ensures read { IfOk result (λ r. hidden_behind (option_map (λ v. v.items) r) piece.now ≡ alternative_of piece.now (Some [])) }
+    ensures read { IfOk result (λ r. hidden_behind (option_map (λ v. v.items) r) piece.now ≡
+        alternative_of piece.now (Some [])) }
     ensures within { IfOk result (λ r. IfSome r (λ v. length v.items < length piece.now)) }
 {
     let mut parts = Vec::new(alloc);
@@ -93,7 +94,8 @@ pub fn read_groups(
     alloc: Global,
     piece: &Piece<'_>,
 ) -> Result<Option<Vec<Vec<Alternative>>>, AllocError>
-    ensures { IfOk result (λ r. option_map (λ v. map (λ g. g.items) v.items) r ≡ groups_of piece.now) }
+    ensures { IfOk result (λ r. option_map (λ v. map (λ g. g.items) v.items) r ≡
+        groups_of piece.now) }
 {
     let mut groups = Vec::new(alloc);
     let mut at = 0;

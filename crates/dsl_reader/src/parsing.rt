@@ -19,7 +19,8 @@ fn add_statement(
     piece: &Piece<'_>,
     statements: &mut Vec<Statement>,
 ) -> Result<(), StatementRefusal>
-    ensures added { IfOk result (λ _. IsAdded (map statement_seen statements.old.items) piece.now (map statement_seen statements.new.items)) }
+    ensures added { IfOk result (λ _. IsAdded (map statement_seen statements.old.items) piece.now
+        (map statement_seen statements.new.items)) }
     ensures refused { IfErr result (λ e. IsNoStatement piece.now e) }
 {
     if piece.len() == 0 {

@@ -13,7 +13,8 @@ use unicode::properties::is_white_space;
 
 /// A character, after a space if there is to be one.
 fn push_behind(out: &mut String, c: char, space: bool) -> Result<(), AllocError>
-    ensures { IfOk result (λ _. string_bytes out.new ≡ string_bytes out.old ++ encode_utf8_all (if space then 32 ∷ c ∷ [] else c ∷ [])) }
+    ensures { IfOk result (λ _. string_bytes out.new ≡
+        string_bytes out.old ++ encode_utf8_all (if space then 32 ∷ c ∷ [] else c ∷ [])) }
 {
     if space {
         out.push(' ')?;
@@ -23,7 +24,8 @@ fn push_behind(out: &mut String, c: char, space: bool) -> Result<(), AllocError>
 
 /// The text without white space at its ends, and with one space for each other run of it.
 fn spaced(alloc: Global, text: &str) -> Result<String, AllocError>
-    ensures { IfOk result (λ s. string_bytes s ≡ encode_utf8_all (spaced (chars text.now) false false)) }
+    ensures { IfOk result (λ s. string_bytes s ≡
+        encode_utf8_all (spaced (chars text.now) false false)) }
 {
     let mut out = String::new(alloc);
     let mut started = false;

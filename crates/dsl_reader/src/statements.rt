@@ -109,7 +109,8 @@ fn read_pseudo(alloc: Global, piece: &Piece<'_>) -> Found
 
 #[tactic(auto, unfolding(crate::specs::Forms::quantified_of))]
 fn read_quantified(alloc: Global, left: Spelled, level: Level, piece: &Piece<'_>) -> Found
-    ensures { IfOk result (λ r. option_map statement_seen r ≡ quantified_of left (is_lexical level) piece.now) }
+    ensures { IfOk result (λ r. option_map statement_seen r ≡
+        quantified_of left (is_lexical level) piece.now) }
 {
     let Some(item) = piece.single(alloc, 2)? else {
         return Ok(None);
@@ -128,7 +129,8 @@ fn read_quantified(alloc: Global, left: Spelled, level: Level, piece: &Piece<'_>
 
 #[tactic(auto, unfolding(crate::specs::Forms::rules_of))]
 fn read_rules(alloc: Global, left: Spelled, level: Level, piece: &Piece<'_>) -> Found
-    ensures { IfOk result (λ r. option_map statement_seen r ≡ rules_of left (is_lexical level) piece.now) }
+    ensures { IfOk result (λ r. option_map statement_seen r ≡
+        rules_of left (is_lexical level) piece.now) }
 {
     let Some(groups) = read_groups(alloc, &piece.behind(2))? else {
         return Ok(None);
@@ -145,7 +147,8 @@ fn read_rules(alloc: Global, left: Spelled, level: Level, piece: &Piece<'_>) -> 
 
 #[tactic(auto, unfolding(crate::specs::Forms::right_of))]
 fn read_right(alloc: Global, left: Spelled, level: Level, piece: &Piece<'_>) -> Found
-    ensures { IfOk result (λ r. option_map statement_seen r ≡ right_of left (is_lexical level) piece.now) }
+    ensures { IfOk result (λ r. option_map statement_seen r ≡
+        right_of left (is_lexical level) piece.now) }
 {
     if piece.ends_elements(2) {
         let Some(adverbs) = read_adverbs(alloc, &piece.behind(2))? else {

@@ -5,17 +5,20 @@ ghost use Rattle.language_model.specs.Tokens.{AreTokens, IsBadPlace};
 
 /// A text has at most one list of tokens.
 pub fn tokens_are_one()
-    ensures { (text : List ℕ) (ts us : List Token) → AreTokens text ts → AreTokens text us → ts ≡ us }
+    ensures { (text : List ℕ) (ts us : List Token) → AreTokens text ts → AreTokens text us →
+        ts ≡ us }
 {}
 
 /// A text with tokens has no bad place.
 pub fn tokens_exclude_bad_places()
-    ensures { (text : List ℕ) (ts : List Token) (at : ℕ) → AreTokens text ts → IsBadPlace text at → ⊥ }
+    ensures { (text : List ℕ) (ts : List Token) (at : ℕ) → AreTokens text ts → IsBadPlace text at →
+        ⊥ }
 {}
 
 /// A text has tokens, or a bad place.
 pub fn tokens_or_bad_place()
-    ensures { (text : List ℕ) → ((ts : List Token) × AreTokens text ts) ⊎ ((at : ℕ) × IsBadPlace text at) }
+    ensures { (text : List ℕ) →
+        ((ts : List Token) × AreTokens text ts) ⊎ ((at : ℕ) × IsBadPlace text at) }
 {}
 
 /// A text has at most one bad place.

@@ -24,7 +24,8 @@ use std::sync::ledger::Ledger;
 fn list_predicted(first: u32, end: u32, next: &mut Vec<Item>) -> Result<(), AllocFailed<Item>>
     ensures listed { OnOk result ((other : Item) → Contains next.new.items other ↔
         (Contains next.old.items other ⊎ ((r : ℕ) × (first ≤ r) × (r < end) × (other ≡ first_item r 0)))) }
-    ensures links { OnOk result (RisesBy (λ (r : ℕ). (first ≤ r) × (r < end)) (length next.old.items) (length next.new.items)) }
+    ensures links { OnOk result (RisesBy (λ (r : ℕ). (first ≤ r) × (r < end))
+        (length next.old.items) (length next.new.items)) }
 {
     for rule in first..end {
         next.push(Item {
@@ -44,8 +45,12 @@ fn list_rules(
     next: &mut Vec<Item>,
 ) -> Result<(), AllocFailed<Item>>
     requires { AreHeads flat.now heads.now }
-    ensures listed { OnOk result ((other : Item) → Contains next.new.items other ↔ (Contains next.old.items other ⊎ IsPredicted flat.now symbol other)) }
-    ensures links { OnOk result (RisesBy (λ (r : ℕ). IsRule flat.now r × (lhs_of flat.now r ≡ symbol)) (length next.old.items) (length next.new.items)) }
+    ensures listed { OnOk result ((other : Item) →
+        Contains next.new.items other ↔
+        (Contains next.old.items other ⊎ IsPredicted flat.now symbol other)) }
+    ensures links { OnOk result (RisesBy
+        (λ (r : ℕ). IsRule flat.now r × (lhs_of flat.now r ≡ symbol)) (length next.old.items)
+        (length next.new.items)) }
 {
     let rules = rules_of(flat, heads, symbol);
     list_predicted(rules.start, rules.end, next)
@@ -55,7 +60,8 @@ fn list_rules(
 fn have_begun(flat: &Flat, heads: &Heads, set: &IndexSet<Item>, symbol: u32) -> bool
     requires heads { AreHeads flat.now heads.now }
     requires together { BeginTogether flat.now set.now.keys }
-    ensures { IsTrue result → (other : Item) → IsPredicted flat.now symbol other → Contains set.now.keys other }
+    ensures { IsTrue result → (other : Item) → IsPredicted flat.now symbol other →
+        Contains set.now.keys other }
 {
     let rules = rules_of(flat, heads, symbol);
     set.contains(&Item {
@@ -76,9 +82,12 @@ fn list_unbegun(
     requires heads { AreHeads flat.now heads.now }
     requires together { BeginTogether flat.now set.now.keys }
     requires empty { next.old.items ≡ [] }
-    ensures only { OnOk result ((other : Item) → Contains next.new.items other → IsPredicted flat.now symbol other) }
-    ensures all { OnOk result ((other : Item) → IsPredicted flat.now symbol other → Contains set.now.keys other ⊎ Contains next.new.items other) }
-    ensures links { OnOk result (RisesBy (λ (r : ℕ). IsRule flat.now r × (lhs_of flat.now r ≡ symbol)) 0 (length next.new.items)) }
+    ensures only { OnOk result ((other : Item) → Contains next.new.items other →
+        IsPredicted flat.now symbol other) }
+    ensures all { OnOk result ((other : Item) → IsPredicted flat.now symbol other →
+        Contains set.now.keys other ⊎ Contains next.new.items other) }
+    ensures links { OnOk result (RisesBy
+        (λ (r : ℕ). IsRule flat.now r × (lhs_of flat.now r ≡ symbol)) 0 (length next.new.items)) }
 {
     if have_begun(flat, heads, set, symbol) {
         return Ok(());
@@ -98,8 +107,10 @@ fn list_later(
     requires origin { item.origin ≡ 0 }
     requires heads { AreHeads flat.now heads.now }
     requires together { BeginTogether flat.now set.now.keys }
-    ensures only { OnOk result ((other : Item) → Contains next.new.items other → Follows flat.now [] 0 item other) }
-    ensures all { OnOk result ((other : Item) → Follows flat.now [] 0 item other → Contains set.now.keys other ⊎ Contains next.new.items other) }
+    ensures only { OnOk result ((other : Item) → Contains next.new.items other →
+        Follows flat.now [] 0 item other) }
+    ensures all { OnOk result ((other : Item) → Follows flat.now [] 0 item other →
+        Contains set.now.keys other ⊎ Contains next.new.items other) }
     ensures links { OnOk result (RisesBy (MakesLater flat.now item) 0 (length next.new.items)) }
 {
     flat.known();
@@ -123,8 +134,10 @@ fn close_begun<L: Ledger>(
     requires items { AreItems flat.now set.old.keys }
     requires origins { (item : Item) → Contains set.old.keys item → item.origin ≡ 0 }
     requires together { BeginTogether flat.now set.old.keys }
-    ensures closed { OnOk result ((item : Item) → Contains set.new.keys item ↔ IsReached (Follows flat.now [] 0) set.old.keys item) }
-    ensures counted { OnOk result (RisesBy (MakesOneLater flat.now set.new.keys) steps.old steps.new) }
+    ensures closed { OnOk result ((item : Item) →
+        Contains set.new.keys item ↔ IsReached (Follows flat.now [] 0) set.old.keys item) }
+    ensures counted { OnOk result (RisesBy (MakesOneLater flat.now set.new.keys) steps.old
+        steps.new) }
 {
     for k in 0..usize::MAX {
         let Some(item) = item_at(set, k) else {
@@ -146,8 +159,10 @@ fn list_firsts(
 ) -> Result<(), AllocFailed<Item>>
     requires heads { AreHeads flat.now heads.now }
     requires once { AllPairs (λ x y. x ≢ y) symbols.now }
-    ensures listed { OnOk result ((item : Item) → Contains next.new.items item ↔ IsFirst flat.now symbols.now item) }
-    ensures tried { OnOk result (RisesBy (IsRuleOf flat.now symbols.now) 0 (length next.new.items)) }
+    ensures listed { OnOk result ((item : Item) →
+        Contains next.new.items item ↔ IsFirst flat.now symbols.now item) }
+    ensures tried { OnOk result (RisesBy (IsRuleOf flat.now symbols.now) 0
+        (length next.new.items)) }
 {
     next.clear();
     for symbol in symbols {

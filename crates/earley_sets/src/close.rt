@@ -81,7 +81,8 @@ fn close<L: Ledger>(
     ensures memo { NotesMore flat.now rows.now.sets memo.old memo.new }
     ensures closed { OnOk result ((item : Item) → Contains set.new.keys item ↔
         IsReached (GoesOn flat.now rows.now.sets earleme) set.old.keys item) }
-    ensures counted { OnOk result (RisesBy (MakesOne flat.now rows.now.sets earleme set.new.keys) (steps.old + length memo.new) (steps.new + length memo.old)) }
+    ensures counted { OnOk result (RisesBy (MakesOne flat.now rows.now.sets earleme set.new.keys)
+        (steps.old + length memo.new) (steps.new + length memo.old)) }
 {
     for k in 0..usize::MAX {
         let Some(item) = item_at(set, k) else {
@@ -108,7 +109,8 @@ fn list_by_edge(
     requires from { edge.from < length rows.now.sets }
     ensures listed { OnOk result ((other : Item) → Contains next.new.items other ↔
         (Contains next.old.items other ⊎ IsScannedBy flat.now rows.now.sets edge other)) }
-    ensures links { OnOk result (RisesBy (AwaitsEdge flat.now rows.now.sets edge) (length next.old.items) (length next.new.items)) }
+    ensures links { OnOk result (RisesBy (AwaitsEdge flat.now rows.now.sets edge)
+        (length next.old.items) (length next.new.items)) }
 {
     flat.known();
     match symbol_of(flat, heads, SymbolId(edge.symbol)) {
@@ -132,7 +134,8 @@ fn list_scanned(
     requires begun { (e : HeldEdge) → Contains edges.now e → e.from < length rows.now.sets }
     ensures listed { OnOk result ((other : Item) → Contains next.new.items other ↔
         (Contains next.old.items other ⊎ IsScanned flat.now rows.now.sets earleme edges.now other)) }
-    ensures links { OnOk result (RisesBy (MakesScan flat.now rows.now.sets earleme edges.now) (length next.old.items) (length next.new.items)) }
+    ensures links { OnOk result (RisesBy (MakesScan flat.now rows.now.sets earleme edges.now)
+        (length next.old.items) (length next.new.items)) }
 {
     edges.list_to(earleme, ending)?;
     for edge in &*ending {
@@ -143,7 +146,8 @@ fn list_scanned(
 
 // Lists the item that the first place begins with.
 fn list_first(top: u32, earleme: u32, next: &mut Vec<Item>) -> Result<(), AllocFailed<Item>>
-    ensures listed { OnOk result ((item : Item) → Contains next.new.items item ↔ ((earleme ≡ 0) × (item ≡ first_item top 0))) }
+    ensures listed { OnOk result ((item : Item) →
+        Contains next.new.items item ↔ ((earleme ≡ 0) × (item ≡ first_item top 0))) }
     ensures none { OnOk result (0 < earleme → length next.new.items ≡ 0) }
 {
     next.clear();
@@ -171,8 +175,10 @@ fn list_seeds(
     requires heads { AreHeads flat.now heads.now }
     requires rows { HasRows flat.now rows.now }
     requires begun { (e : HeldEdge) → Contains edges.now e → e.from < length rows.now.sets }
-    ensures listed { OnOk result ((item : Item) → Contains next.new.items item ↔ IsSeed flat.now rows.now.sets top earleme edges.now item) }
-    ensures links { OnOk result (0 < earleme → RisesBy (MakesScan flat.now rows.now.sets earleme edges.now) 0 (length next.new.items)) }
+    ensures listed { OnOk result ((item : Item) →
+        Contains next.new.items item ↔ IsSeed flat.now rows.now.sets top earleme edges.now item) }
+    ensures links { OnOk result (0 < earleme →
+        RisesBy (MakesScan flat.now rows.now.sets earleme edges.now) 0 (length next.new.items)) }
 {
     list_first(top, earleme, next)?;
     list_scanned(flat, heads, rows, edges, earleme, ending, next)
@@ -193,7 +199,8 @@ pub fn refill<L: Ledger>(
     items: &[Item],
     steps: &mut Steps<L>,
 ) -> Result<(), AllocFailed<Item>>
-    ensures same { OnOk result ((item : Item) → Contains set.new.keys item ↔ Contains items.now item) }
+    ensures same { OnOk result ((item : Item) →
+        Contains set.new.keys item ↔ Contains items.now item) }
     ensures counted { OnOk result (steps.new ≡ steps.old + length items.now) }
 {
     empty(set);
@@ -250,7 +257,8 @@ pub fn make_kernel<L: Ledger>(
     requires forward { GoForward edges.now }
     ensures items { OnOk result (AreItems flat.now work.new.set.keys) }
     ensures memo { NotesMore flat.now rows.now.sets memo.old memo.new }
-    ensures kernel { OnOk result (IsKernel flat.now rows.now.sets top earleme edges.now work.new.set.keys) }
+    ensures kernel { OnOk result (IsKernel flat.now rows.now.sets top earleme edges.now
+        work.new.set.keys) }
     ensures counted { OnOk result (0 < earleme →
         RisesBy (MakesKernel flat.now rows.now.sets earleme edges.now work.new.set.keys) (steps.old + length memo.new) (steps.new + length memo.old)) }
 {

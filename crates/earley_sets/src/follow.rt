@@ -60,7 +60,8 @@ pub fn list_skipped(
     requires symbol { symbol < length flat.now.symbols }
     ensures listed { OnOk result ((other : Item) → Contains next.new.items other ↔
         (Contains next.old.items other ⊎ IsSkipped flat.now item symbol other)) }
-    ensures links { OnOk result (RisesBy (MakesSkip flat.now item symbol) (length next.old.items) (length next.new.items)) }
+    ensures links { OnOk result (RisesBy (MakesSkip flat.now item symbol) (length next.old.items)
+        (length next.new.items)) }
 {
     if flat.nullable(symbol) {
         next.push(advanced(item))?;
@@ -80,7 +81,8 @@ pub fn list_completed(
     requires origin { origin < length rows.now.sets }
     ensures listed { OnOk result ((other : Item) → Contains next.new.items other ↔
         (Contains next.old.items other ⊎ IsAdvancedOver flat.now (row_at rows.now.sets origin) symbol other)) }
-    ensures links { OnOk result (RisesBy (IsWaiting flat.now (row_at rows.now.sets origin) symbol) (length next.old.items) (length next.new.items)) }
+    ensures links { OnOk result (RisesBy (IsWaiting flat.now (row_at rows.now.sets origin) symbol)
+        (length next.old.items) (length next.new.items)) }
 {
     flat.known();
     let waiting = rows.waiting(origin as usize, symbol);
@@ -102,7 +104,8 @@ fn list_done<L: Ledger>(
     requires set { pair.set < length rows.now.sets }
     ensures listed { OnOk result ((other : Item) → Contains next.new.items other ↔
         (Contains next.old.items other ⊎ IsDone flat.now rows.now.sets pair.set pair.symbol other)) }
-    ensures links { OnOk result (RisesByDone flat.now rows.now.sets pair.set pair.symbol (length next.old.items) (length next.new.items)) }
+    ensures links { OnOk result (RisesByDone flat.now rows.now.sets pair.set pair.symbol
+        (length next.old.items) (length next.new.items)) }
     ensures memo { NotesMore flat.now rows.now.sets memo.old memo.new }
     ensures counted { steps.new + length memo.old ≡ steps.old + length memo.new }
 {
@@ -132,7 +135,8 @@ pub fn list_next<L: Ledger>(
     requires earleme { earleme ≤ length rows.now.sets }
     ensures listed { OnOk result ((other : Item) → Contains next.new.items other ↔
         (Contains next.old.items other ⊎ GoesOn flat.now rows.now.sets earleme item other)) }
-    ensures links { OnOk result (RisesBy (MakesLink flat.now rows.now.sets earleme item) (length next.old.items) (length next.new.items)) }
+    ensures links { OnOk result (RisesBy (MakesLink flat.now rows.now.sets earleme item)
+        (length next.old.items) (length next.new.items)) }
     ensures memo { NotesMore flat.now rows.now.sets memo.old memo.new }
     ensures counted { steps.new + length memo.old ≡ steps.old + length memo.new }
 {

@@ -61,7 +61,8 @@ fn note(
     symbols: Vec<u32>,
     number: u32,
 ) -> Result<(), AllocError>
-    ensures { (list : List ℕ) (n : ℕ) → IsNoted numbers.new.entries list n → IsNoted numbers.old.entries list n ⊎ ((list ≡ symbols.items) × (n ≡ number)) }
+    ensures { (list : List ℕ) (n : ℕ) → IsNoted numbers.new.entries list n →
+        IsNoted numbers.old.entries list n ⊎ ((list ≡ symbols.items) × (n ≡ number)) }
 {
     numbers.insert(symbols, number)?;
     Ok(())
@@ -88,8 +89,10 @@ fn make_list<L: Ledger>(
     ensures kept { KeepsSets rows.old rows.new }
     ensures lists { AreLists flat.now rows.new.shared lists.new.numbers.entries }
     ensures there { IfOk result (λ number. number < length rows.new.shared) }
-    ensures begun { IfOk result (λ number. AreBegun flat.now (Contains lists.old.symbols.items) (shared_at rows.new.shared number)) }
-    ensures tried { IfOk result (λ number. TriesBegun flat.now lists.old.symbols.items (shared_at rows.new.shared number) steps.old steps.new) }
+    ensures begun { IfOk result (λ number. AreBegun flat.now (Contains lists.old.symbols.items)
+        (shared_at rows.new.shared number)) }
+    ensures tried { IfOk result (λ number. TriesBegun flat.now lists.old.symbols.items
+        (shared_at rows.new.shared number) steps.old steps.new) }
 {
     fill_begun(
         flat,
@@ -121,8 +124,10 @@ pub fn find_list<L: Ledger>(
     ensures kept { KeepsSets rows.old rows.new }
     ensures lists { AreLists flat.now rows.new.shared lists.new.numbers.entries }
     ensures there { IfOk result (λ number. number < length rows.new.shared) }
-    ensures begun { IfOk result (λ number. AreBegun flat.now (IsAwaited flat.now items.now) (shared_at rows.new.shared number)) }
-    ensures tried { IfOk result (λ number. TriesList flat.now items.now (shared_at rows.new.shared number) steps.old steps.new) }
+    ensures begun { IfOk result (λ number. AreBegun flat.now (IsAwaited flat.now items.now)
+        (shared_at rows.new.shared number)) }
+    ensures tried { IfOk result (λ number. TriesList flat.now items.now
+        (shared_at rows.new.shared number) steps.old steps.new) }
 {
     list_awaited(flat, heads, items, &mut lists.symbols)?;
     if lists.symbols.is_empty() {

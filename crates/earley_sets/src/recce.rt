@@ -294,7 +294,8 @@ impl<'g> Recce<'g> {
     /// A recognizer at place 0, for a start by its place among the starts.
     pub fn new(alloc: Global, flat: &'g Flat, start: usize) -> Result<Recce<'g>, AllocError>
         requires { start < length flat.now.tops }
-        ensures { IfOk result (λ r. (r.flat ≡ flat.now) × (r.start ≡ start) × (r.edges ≡ []) × (length r.sets ≡ 1) × (r.noted ≡ [])) }
+        ensures { IfOk result (λ r. (r.flat ≡ flat.now) × (r.start ≡ start) × (r.edges ≡ []) ×
+            (length r.sets ≡ 1) × (r.noted ≡ [])) }
     {
         let top = flat.top(start);
         let mut marks = new_marks(alloc, flat)?;
@@ -350,7 +351,8 @@ impl<'g> Recce<'g> {
     /// Makes the set of the next place. After an error the recognizer is as before. Each step is a try of another link, or notes a Leo pair.
     pub fn complete_earleme<L: Ledger>(&mut self, steps: &mut Steps<L>) -> Result<(), AllocError>
         requires { earleme_of self.old < LAST_PLACE }
-        ensures same { (self.new.flat ≡ self.old.flat) × (self.new.start ≡ self.old.start) × (self.new.edges ≡ self.old.edges) }
+        ensures same { (self.new.flat ≡ self.old.flat) × (self.new.start ≡ self.old.start) ×
+            (self.new.edges ≡ self.old.edges) }
         ensures ok { OnOk result ((set : List Item) × (self.new.sets ≡ self.old.sets ++ set ∷ []) ×
             IsListOf (InReduced self.old.flat (edges_of self.old) (top_of self.old) (length self.old.sets)) set) }
         ensures err { OnErr result (self.new ≡ self.old) }
@@ -377,7 +379,8 @@ impl<'g> Recce<'g> {
     /// The symbol that stands for a terminal, if there is one.
     pub fn symbol_of(&self, t: SymbolId) -> Option<u32>
         ensures some { IfSome result (λ x. slice_get self.now.flat.symbols x ≡ Some (Terminal t)) }
-        ensures none { IsNone result → (x : ℕ) → slice_get self.now.flat.symbols x ≢ Some (Terminal t) }
+        ensures none { IsNone result → (x : ℕ) →
+            slice_get self.now.flat.symbols x ≢ Some (Terminal t) }
     {
         symbol_of(self.flat, &self.heads, t)
     }
@@ -443,7 +446,9 @@ impl<'g> Recce<'g> {
     /// The items of a set that wait for a symbol.
     pub fn waiting(&self, j: u32, symbol: u32) -> SetView<'_>
         requires { j ≤ earleme_of self.now }
-        ensures { (item : Item) → Contains result item ↔ (Contains (set_at self.now j) item × (after self.now.flat item ≡ Some symbol)) }
+        ensures { (item : Item) →
+            Contains result item ↔
+            (Contains (set_at self.now j) item × (after self.now.flat item ≡ Some symbol)) }
     {
         SetView {
             row: self.rows.waiting(j as usize, symbol),
@@ -453,7 +458,8 @@ impl<'g> Recce<'g> {
     /// The whole items of a set, as far as they are kept.
     pub fn whole(&self, j: u32) -> SetView<'_>
         requires { j ≤ earleme_of self.now }
-        ensures { IsListOf (λ item. Contains (set_at self.now j) item × IsWhole self.now.flat item) result }
+        ensures { IsListOf (λ item. Contains (set_at self.now j) item × IsWhole self.now.flat item)
+            result }
     {
         SetView {
             row: self.rows.whole(j as usize),
@@ -476,7 +482,10 @@ impl<'g> Recce<'g> {
         steps: &mut Steps<L>,
     ) -> Result<Vec<Item>, AllocError>
         requires { j ≤ earleme_of self.now }
-        ensures hidden { IfOk result (λ items. IsListOf (λ item. IsHidden self.now.flat (edges_of self.now) (top_of self.now) j item × (from ≤ item.origin)) items.items) }
+        ensures hidden { IfOk result (λ items. IsListOf
+            (λ item. IsHidden self.now.flat (edges_of self.now) (top_of self.now) j item ×
+            (from ≤ item.origin))
+            items.items) }
         ensures full { IfOk result (λ items. (item : Item) → IsWhole self.now.flat item → from ≤ item.origin →
             (Contains (set_at self.now j) item ⊎ Contains items.items item) ↔ InSet self.now.flat (edges_of self.now) (top_of self.now) j item) }
         ensures counted { IfOk result (λ items. steps.new ≡ steps.old + length items.items) }
@@ -508,9 +517,12 @@ impl<'g> Recce<'g> {
         steps: &mut Steps<L>,
     ) -> Result<Vec<Item>, AllocError>
         requires place { j ≤ earleme_of self.now }
-        requires bottoms { (item : Item) → Contains bottoms.now item ↔ IsBottomOf self.now j tops.now item }
-        requires tops { (top : Item) → Contains tops.now top → (item : Item) × IsBottom self.now j top item }
-        ensures below { IfOk result (λ items. IsListOf (StandsBelowOf self.now j tops.now) items.items) }
+        requires bottoms { (item : Item) →
+            Contains bottoms.now item ↔ IsBottomOf self.now j tops.now item }
+        requires tops { (top : Item) → Contains tops.now top →
+            (item : Item) × IsBottom self.now j top item }
+        ensures below { IfOk result (λ items. IsListOf (StandsBelowOf self.now j tops.now)
+            items.items) }
         ensures counted { IfOk result (λ items. steps.new ≡ steps.old + length items.items) }
         ensures err { OnErr result (steps.new ≡ steps.old) }
     {
@@ -536,11 +548,14 @@ impl<'g> Recce<'g> {
     /// Takes a terminal that begins at the place and is so many places long.
     pub fn alternative(&mut self, t: SymbolId, length: u32) -> Result<(), AlternativeRefusal>
         requires { earleme_of self.old < LAST_PLACE }
-        ensures same { (self.new.flat ≡ self.old.flat) × (self.new.start ≡ self.old.start) × (self.new.sets ≡ self.old.sets) × (self.new.noted ≡ self.old.noted) }
-        ensures ok { OnOk result (self.new.edges ≡ self.old.edges ++ new_edge self.old t length ∷ []) }
+        ensures same { (self.new.flat ≡ self.old.flat) × (self.new.start ≡ self.old.start) ×
+            (self.new.sets ≡ self.old.sets) × (self.new.noted ≡ self.old.noted) }
+        ensures ok { OnOk result (self.new.edges ≡
+            self.old.edges ++ new_edge self.old t length ∷ []) }
         ensures err { OnErr result (self.new ≡ self.old) }
         ensures unexpected { (result ≡ Err Unexpected) ↔ (¬ IsExpected self.old t) }
-        ensures duplicate { (result ≡ Err Duplicate) ↔ (IsExpected self.old t × Contains self.old.edges (new_edge self.old t length)) }
+        ensures duplicate { (result ≡ Err Duplicate) ↔
+            (IsExpected self.old t × Contains self.old.edges (new_edge self.old t length)) }
         ensures bad_length { (result ≡ Err BadLength) ↔
             (IsExpected self.old t × (¬ Contains self.old.edges (new_edge self.old t length)) × ((length ≡ 0) ⊎ (LONGEST_EDGE < length))) }
     {

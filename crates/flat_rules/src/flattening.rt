@@ -29,10 +29,13 @@ fn push_row(
     row: &[u32],
     rules: &mut Vec<FlatRule>,
 ) -> Result<(), FlatRefusal>
-    requires row { (i : ℕ) → Contains row.now i → (i < length c.now.rules) × (lhs_of (rule_at c.now i) ≡ slot.symbol) }
+    requires row { (i : ℕ) → Contains row.now i →
+        (i < length c.now.rules) × (lhs_of (rule_at c.now i) ≡ slot.symbol) }
     requires live { AreLive c.now live.now }
     requires numbers { AreNumbers c.now symbols.now }
-    ensures { (d : Decided c.now) → Adds rules.old.items rules.new.items (from_rules c.now d symbols.now (told_slot slot) row.now) result }
+    ensures { (d : Decided c.now) →
+        Adds rules.old.items rules.new.items
+        (from_rules c.now d symbols.now (told_slot slot) row.now) result }
 {
     for i in row {
         push_for_slot(alloc, c, symbols, live, slot, *i as usize, rules)?;
@@ -51,7 +54,9 @@ fn push_slots(
     requires rows { AreLefts c.now (rows_of rows.now) }
     requires live { AreLive c.now live.now }
     requires numbers { AreNumbers c.now symbols.now }
-    ensures { (d : Decided c.now) → Adds rules.old.items rules.new.items (from_symbols c.now d symbols.now (map (symbol_for c.now d) symbols.now.slots)) result }
+    ensures { (d : Decided c.now) →
+        Adds rules.old.items rules.new.items
+        (from_symbols c.now d symbols.now (map (symbol_for c.now d) symbols.now.slots)) result }
 {
     c.tested();
     c.written().known();
@@ -77,7 +82,9 @@ fn push_lists(
     rules: &mut Vec<FlatRule>,
 ) -> Result<(), FlatRefusal>
     requires { AreNumbers c.now symbols.now }
-    ensures { (d : Decided c.now) → Adds rules.old.items rules.new.items (from_symbols c.now d symbols.now (map Sequence symbols.now.lists)) result }
+    ensures { (d : Decided c.now) →
+        Adds rules.old.items rules.new.items
+        (from_symbols c.now d symbols.now (map Sequence symbols.now.lists)) result }
 {
     c.tested();
     c.written().known();
@@ -97,7 +104,8 @@ fn push_top(
 ) -> Result<(), FlatRefusal>
     requires start { k < length w.now.starts }
     requires numbers { AreNumbers w.now symbols.now }
-    ensures { Adds rules.old.items rules.new.items (top_by symbols.now k (slice_index w.now.starts k) ∷ []) result }
+    ensures { Adds rules.old.items rules.new.items
+        (top_by symbols.now k (slice_index w.now.starts k) ∷ []) result }
 {
     let start = w.start(k);
     let lhs = symbols.top_number(k);
@@ -119,7 +127,9 @@ fn push_tops(
     rules: &mut Vec<FlatRule>,
 ) -> Result<(), FlatRefusal>
     requires { AreNumbers w.now symbols.now }
-    ensures { (d : Decided w.now) → Adds rules.old.items rules.new.items (from_symbols w.now d symbols.now (map Top (numbers (length w.now.starts)))) result }
+    ensures { (d : Decided w.now) →
+        Adds rules.old.items rules.new.items
+        (from_symbols w.now d symbols.now (map Top (numbers (length w.now.starts)))) result }
 {
     for k in 0..w.start_count() {
         push_top(alloc, w, symbols, k, rules)?;
@@ -131,7 +141,8 @@ fn push_tops(
 fn symbol_of(rows: &[Vec<u32>], slot: SlotKey) -> FlatSymbol
     requires { slot.symbol < length rows.now }
     ensures terminal { row_at (rows_of rows.now) slot.symbol ≡ [] → result ≡ Terminal slot.symbol }
-    ensures left { (row_at (rows_of rows.now) slot.symbol ≡ [] → ⊥) → result ≡ Slot slot.symbol slot.level }
+    ensures left { (row_at (rows_of rows.now) slot.symbol ≡ [] → ⊥) →
+        result ≡ Slot slot.symbol slot.level }
 {
     let symbol = SymbolId(slot.symbol);
     if has_none(&rows[slot.symbol as usize]) {
@@ -154,8 +165,12 @@ fn list_slots(
 ) -> Result<(), AllocError>
     requires rows { AreLefts c.now (rows_of rows.now) }
     requires numbers { AreNumbers c.now symbols.now }
-    ensures list { OnOk result ((d : Decided c.now) → list.new.items ≡ list.old.items ++ map (symbol_for c.now d) symbols.now.slots) }
-    ensures marks { OnOk result ((d : Decided c.now) → marks.new.items ≡ marks.old.items ++ map (is_marked c.now d) (map (symbol_for c.now d) symbols.now.slots)) }
+    ensures list { OnOk result ((d : Decided c.now) →
+        list.new.items ≡ list.old.items ++ map (symbol_for c.now d) symbols.now.slots) }
+    ensures marks { OnOk result ((d : Decided c.now) →
+        marks.new.items ≡
+        marks.old.items ++
+        map (is_marked c.now d) (map (symbol_for c.now d) symbols.now.slots)) }
 {
     c.tested();
     c.written().known();
@@ -174,7 +189,8 @@ fn list_lists(
     marks: &mut Vec<bool>,
 ) -> Result<(), AllocError>
     ensures list { OnOk result (list.new.items ≡ list.old.items ++ map Sequence symbols.now.lists) }
-    ensures marks { OnOk result (marks.new.items ≡ marks.old.items ++ map (λ i. false) symbols.now.lists) }
+    ensures marks { OnOk result (marks.new.items ≡
+        marks.old.items ++ map (λ i. false) symbols.now.lists) }
 {
     let lists = symbols.lists();
     for i in lists {
@@ -190,8 +206,11 @@ fn list_tops(
     list: &mut Vec<FlatSymbol>,
     marks: &mut Vec<bool>,
 ) -> Result<(), AllocError>
-    ensures list { OnOk result (list.new.items ≡ list.old.items ++ map Top (numbers (length c.now.starts))) }
-    ensures marks { OnOk result ((d : Decided c.now) → marks.new.items ≡ marks.old.items ++ map (is_marked c.now d) (map Top (numbers (length c.now.starts)))) }
+    ensures list { OnOk result (list.new.items ≡
+        list.old.items ++ map Top (numbers (length c.now.starts))) }
+    ensures marks { OnOk result ((d : Decided c.now) →
+        marks.new.items ≡
+        marks.old.items ++ map (is_marked c.now d) (map Top (numbers (length c.now.starts)))) }
 {
     let w = c.written();
     for k in 0..w.start_count() {
@@ -205,7 +224,8 @@ fn list_tops(
 fn top_rules(alloc: Global, rules: &[FlatRule], count: usize) -> Result<Vec<u32>, AllocError>
     requires count { count ≤ length rules.now }
     requires small { length rules.now < 2 ^ 32 }
-    ensures { IfOk result (λ tops. tops.items ≡ map (λ k. (length rules.now - count) + k) (numbers count)) }
+    ensures { IfOk result (λ tops. tops.items ≡
+        map (λ k. (length rules.now - count) + k) (numbers count)) }
 {
     let before = rules.len() - count;
     let mut tops = Vec::new(alloc);
@@ -246,7 +266,8 @@ fn flat_symbols(
     requires rows { AreLefts c.now (rows_of rows.now) }
     requires numbers { AreNumbers c.now symbols.now }
     ensures list { IfOk result (λ r. (d : Decided c.now) → r.0.items ≡ symbols_of c.now d) }
-    ensures marks { IfOk result (λ r. (d : Decided c.now) → r.1.items ≡ map (is_marked c.now d) (symbols_of c.now d)) }
+    ensures marks { IfOk result (λ r. (d : Decided c.now) →
+        r.1.items ≡ map (is_marked c.now d) (symbols_of c.now d)) }
 {
     let mut list = Vec::new(alloc);
     let mut marks = Vec::new(alloc);
@@ -270,7 +291,8 @@ fn parts_by(
     ensures flat { IfOk result (λ parts. (d : Decided c.now) → parts ≡ flat_of c.now d) }
     ensures few { IfOk result (λ parts. length parts.rules ≤ MOST_FLAT_RULES) }
     ensures small { IfOk result (λ parts. length parts.symbols < 2 ^ 32) }
-    ensures many { IfErr result (λ e. e ≡ TooManyRules → (d : Decided c.now) → MOST_FLAT_RULES < length (flat_of c.now d).rules) }
+    ensures many { IfErr result (λ e. e ≡ TooManyRules → (d : Decided c.now) →
+        MOST_FLAT_RULES < length (flat_of c.now d).rules) }
 {
     c.tested();
     c.known();
@@ -292,7 +314,8 @@ fn parts_of(alloc: Global, c: &Checked<'_>) -> Result<FlatParts, FlatRefusal>
     ensures flat { IfOk result (λ parts. (d : Decided c.now) → parts ≡ flat_of c.now d) }
     ensures few { IfOk result (λ parts. length parts.rules ≤ MOST_FLAT_RULES) }
     ensures small { IfOk result (λ parts. length parts.symbols < 2 ^ 32) }
-    ensures many { IfErr result (λ e. e ≡ TooManyRules → (d : Decided c.now) → MOST_FLAT_RULES < length (flat_of c.now d).rules) }
+    ensures many { IfErr result (λ e. e ≡ TooManyRules → (d : Decided c.now) →
+        MOST_FLAT_RULES < length (flat_of c.now d).rules) }
 {
     let rows = rules_by_left(alloc, c.written())?;
     let live = live_rules(alloc, c)?;

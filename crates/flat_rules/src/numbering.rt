@@ -60,7 +60,9 @@ fn list_terminals(
     slots: &mut Vec<SlotKey>,
 ) -> Result<(), AllocFailed<SlotKey>>
     requires { AreLefts c.now (rows_of rows.now) }
-    ensures { OnOk result ((d : Decided c.now) → map told_slot slots.new.items ≡ map told_slot slots.old.items ++ slots_of_terminals c.now d) }
+    ensures { OnOk result ((d : Decided c.now) →
+        map told_slot slots.new.items ≡
+        map told_slot slots.old.items ++ slots_of_terminals c.now d) }
 {
     for s in 0..c.written().symbol_count() {
         let symbol = s as u32;
@@ -92,7 +94,10 @@ fn list_levels(
     slots: &mut Vec<SlotKey>,
 ) -> Result<(), AllocFailed<SlotKey>>
     requires { s < length c.now.names }
-    ensures { OnOk result ((d : Decided c.now) → map told_slot slots.new.items ≡ map told_slot slots.old.items ++ map (slot_at s) (filter (λ k. d.used (slot_at s k)) (numbers room))) }
+    ensures { OnOk result ((d : Decided c.now) →
+        map told_slot slots.new.items ≡
+        map told_slot slots.old.items ++
+        map (slot_at s) (filter (λ k. d.used (slot_at s k)) (numbers room))) }
 {
     for level in 0..room {
         if is_used(c, s, level) {
@@ -108,7 +113,8 @@ fn list_lefts(
     slots: &mut Vec<SlotKey>,
 ) -> Result<(), AllocFailed<SlotKey>>
     requires { AreLefts c.now (rows_of rows.now) }
-    ensures { OnOk result ((d : Decided c.now) → map told_slot slots.new.items ≡ map told_slot slots.old.items ++ slots_of_lefts c.now d) }
+    ensures { OnOk result ((d : Decided c.now) →
+        map told_slot slots.new.items ≡ map told_slot slots.old.items ++ slots_of_lefts c.now d) }
 {
     let w = c.written();
     for s in 0..w.symbol_count() {
@@ -149,9 +155,12 @@ fn list_lists(
     requires live { AreLive c.now live.now }
     requires no_lists { lists.old.items ≡ [] }
     requires none_before { before.old.items ≡ [] }
-    ensures lists { OnOk result ((d : Decided c.now) → lists.new.items ≡ lists_to c.now d (length c.now.rules)) }
-    ensures before { OnOk result ((d : Decided c.now) (i : ℕ) → i < length c.now.rules → slice_index before.new.items i ≡ length (lists_to c.now d i)) }
-    ensures few { OnOk result ((i : ℕ) → i < length c.now.rules → slice_index before.new.items i ≤ length lists.new.items) }
+    ensures lists { OnOk result ((d : Decided c.now) →
+        lists.new.items ≡ lists_to c.now d (length c.now.rules)) }
+    ensures before { OnOk result ((d : Decided c.now) (i : ℕ) → i < length c.now.rules →
+        slice_index before.new.items i ≡ length (lists_to c.now d i)) }
+    ensures few { OnOk result ((i : ℕ) → i < length c.now.rules →
+        slice_index before.new.items i ≤ length lists.new.items) }
     ensures sized { OnOk result (length before.new.items ≡ length c.now.rules) }
     ensures small { OnOk result (length lists.new.items ≤ length c.now.rules) }
 {

@@ -112,7 +112,8 @@ fn push_plain(
 ) -> Result<(), FlatRefusal>
     requires rule { i < length w.now.rules }
     requires small { length symbols.now.slots < 2 ^ 32 }
-    ensures { Adds rules.old.items rules.new.items (plain_by symbols.now i lhs (rule_at w.now i)) result }
+    ensures { Adds rules.old.items rules.new.items (plain_by symbols.now i lhs (rule_at w.now i))
+        result }
 {
     if count_parts(w.rule(i)) == 0 {
         return Ok(());
@@ -156,7 +157,8 @@ fn push_these(
 // Whether a list may end with a separator.
 fn trails(c: &Checked<'_>, i: usize) -> bool
     requires { i < length c.now.rules }
-    ensures trails { (d : Decided c.now) → result ≡ (not (is_proper_rule (rule_at c.now i)) && counts_separator d (rule_at c.now i)) }
+    ensures trails { (d : Decided c.now) →
+        result ≡ (not (is_proper_rule (rule_at c.now i)) && counts_separator d (rule_at c.now i)) }
     ensures part { IsTrue result → 1 < slot_count (rule_at c.now i) }
 {
     !is_proper(c.written().rule(i)) && has_live_separator(c, i)
@@ -199,7 +201,10 @@ fn push_longer(
     requires rule { i < length c.now.rules }
     requires sequence { is_sequence (rule_at c.now i) ≡ true }
     requires numbers { AreNumbers c.now symbols.now }
-    ensures { (d : Decided c.now) → Adds rules.old.items rules.new.items (longer_by symbols.now i (counts_separator d (rule_at c.now i)) (rule_at c.now i)) result }
+    ensures { (d : Decided c.now) →
+        Adds rules.old.items rules.new.items
+        (longer_by symbols.now i (counts_separator d (rule_at c.now i)) (rule_at c.now i))
+        result }
 {
     let w = c.written();
     let list = symbols.list_number(i);
@@ -225,7 +230,10 @@ pub fn push_items(
     requires rule { i < length c.now.rules }
     requires sequence { is_sequence (rule_at c.now i) ≡ true }
     requires numbers { AreNumbers c.now symbols.now }
-    ensures { (d : Decided c.now) → Adds rules.old.items rules.new.items (items_by symbols.now i (counts_separator d (rule_at c.now i)) (rule_at c.now i)) result }
+    ensures { (d : Decided c.now) →
+        Adds rules.old.items rules.new.items
+        (items_by symbols.now i (counts_separator d (rule_at c.now i)) (rule_at c.now i))
+        result }
 {
     let w = c.written();
     w.known();
@@ -239,7 +247,8 @@ pub fn push_items(
 fn makes_rules(c: &Checked<'_>, live: &[bool], level: u32, i: usize) -> bool
     requires rule { i < length c.now.rules }
     requires live { AreLive c.now live.now }
-    ensures { (d : Decided c.now) → result ≡ (is_live c.now d (rule_at c.now i) && nat_le level (level_of (rule_at c.now i))) }
+    ensures { (d : Decided c.now) →
+        result ≡ (is_live c.now d (rule_at c.now i) && nat_le level (level_of (rule_at c.now i))) }
 {
     live[i] && level <= c.written().rule(i).level()
 }
@@ -258,7 +267,9 @@ pub fn push_for_slot(
     requires left { lhs_of (rule_at c.now i) ≡ slot.symbol }
     requires live { AreLive c.now live.now }
     requires numbers { AreNumbers c.now symbols.now }
-    ensures { (d : Decided c.now) → Adds rules.old.items rules.new.items (from_rule c.now d symbols.now (told_slot slot) i) result }
+    ensures { (d : Decided c.now) →
+        Adds rules.old.items rules.new.items (from_rule c.now d symbols.now (told_slot slot) i)
+        result }
 {
     let w = c.written();
     if !makes_rules(c, live, slot.level, i) {

@@ -162,7 +162,8 @@ pub fn find_heads(
 /// Sorts heads, in the order of their glades.
 pub fn sort(heads: &mut Vec<Head>) -> Result<(), AllocError>
     ensures sorted { OnOk result (IsStrictlySortedBy head_cmp heads.new.items) }
-    ensures same { OnOk result ((head : Head) → Contains heads.new.items head ↔ Contains heads.old.items head) }
+    ensures same { OnOk result ((head : Head) →
+        Contains heads.new.items head ↔ Contains heads.old.items head) }
 {
     heads.sort()?;
     heads.dedup();

@@ -73,8 +73,12 @@ fn predecessor_at(alternatives: &Alternatives<'_>, at: usize) -> Option<u32>
 
 fn first_two(list: bool, alternatives: &Alternatives<'_>) -> Link
     requires { 0 < length alternatives.now }
-    ensures list { list ≡ true → (nodes : List ℕ) → (alternative_at alternatives.now 0).cause ≡ Wholes nodes → result ≡ link_to nodes }
-    ensures child { list ≡ false → result ≡ link_by (before_at (slice_get alternatives.now 0)) (before_at (slice_get alternatives.now 1)) }
+    ensures list { list ≡ true → (nodes : List ℕ) →
+        (alternative_at alternatives.now 0).cause ≡ Wholes nodes → result ≡ link_to nodes }
+    ensures child { list ≡ false →
+        result ≡
+        link_by (before_at (slice_get alternatives.now 0))
+        (before_at (slice_get alternatives.now 1)) }
 {
     if list {
         list_link(alternatives.cause(0))
@@ -95,7 +99,8 @@ fn set_note(notes: &mut Vec<Option<Option<u32>>>, node: u32, next: Option<u32>)
 
 // Notes the first node of a cause, with the next one.
 fn note(cause: Cause<'_>, notes: &mut Vec<Option<Option<u32>>>)
-    requires { (n : ℕ) → slice_get (whole_nodes (cause_told cause)) 0 ≡ Some n → n < length notes.old.items }
+    requires { (n : ℕ) → slice_get (whole_nodes (cause_told cause)) 0 ≡ Some n →
+        n < length notes.old.items }
     ensures { notes.new.items ≡ noted (cause_told cause.entry) notes.old.items }
 {
     if let Cause::Wholes(nodes) = cause {
@@ -126,8 +131,10 @@ fn visit<L: Ledger>(
     requires by_rules { forest.now.ranking ≡ Rule }
     requires node { node < length forest.now.nodes }
     requires long { length found.old.notes.items ≡ length forest.now.nodes }
-    ensures links { OnOk result (found.new.links.items ≡ found.old.links.items ++ link_of forest.now (node_at forest.now node) ∷ []) }
-    ensures notes { OnOk result (found.new.notes.items ≡ all_noted (node_at forest.now node).alternatives found.old.notes.items) }
+    ensures links { OnOk result (found.new.links.items ≡
+        found.old.links.items ++ link_of forest.now (node_at forest.now node) ∷ []) }
+    ensures notes { OnOk result (found.new.notes.items ≡
+        all_noted (node_at forest.now node).alternatives found.old.notes.items) }
     ensures counted { steps.new ≡ steps.old + 1 }
 {
     forest.known();

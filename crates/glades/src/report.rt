@@ -46,7 +46,8 @@ fn first_shape(
     requires node { node < length forest.now.nodes }
     requires rule { HasRule forest.now node }
     requires empty { back.old.items ≡ [] }
-    ensures shape { IfOk result (λ shape. ComesFrom forest.now node shape.rule × IsFirst forest.now node shape.starts) }
+    ensures shape { IfOk result (λ shape. ComesFrom forest.now node shape.rule ×
+        IsFirst forest.now node shape.starts) }
     ensures empty { OnOk result (back.new.items ≡ []) }
 {
     push_first(forest, links, node, back)?;
@@ -70,7 +71,8 @@ fn second_shape(
     requires rule { HasRule forest.now node }
     requires second { HasSecond forest.now node true }
     requires empty { back.old.items ≡ [] }
-    ensures shape { IfOk result (λ shape. ComesFrom forest.now node shape.rule × ((starts : List ℕ) × IsSecond forest.now node starts shape.starts)) }
+    ensures shape { IfOk result (λ shape. ComesFrom forest.now node shape.rule ×
+        ((starts : List ℕ) × IsSecond forest.now node starts shape.starts)) }
     ensures empty { OnOk result (back.new.items ≡ []) }
     ensures known { AreKnown forest.now seconds.new }
 {
@@ -209,7 +211,8 @@ pub fn report_glades<L: Ledger>(
 ) -> Result<Vec<Glade>, AllocError>
     requires ranking { forest.now.ranking ≡ Rule }
     requires built { forest.now.written ≡ w.now }
-    ensures report { IfOk result (λ glades. AreGlades forest.now.written forest.now.edges (start_of forest.now) forest.now.place glades.items) }
+    ensures report { IfOk result (λ glades. AreGlades forest.now.written forest.now.edges
+        (start_of forest.now) forest.now.place glades.items) }
     ensures counted { steps.new ≤ steps.old + length forest.now.nodes }
 {
     forest.known();

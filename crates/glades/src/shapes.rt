@@ -15,7 +15,8 @@ use std::alloc::{AllocError, Global};
 fn pass(forest: &Forest<'_>, node: u32, next: u32, back: &mut Vec<u32>) -> Result<(), AllocError>
     requires node { node < length forest.now.nodes }
     requires next { next < length forest.now.nodes }
-    ensures { OnOk result (back.new.items ≡ back.old.items ++ passed_here forest.now (node_at forest.now node) next) }
+    ensures { OnOk result (back.new.items ≡
+        back.old.items ++ passed_here forest.now (node_at forest.now node) next) }
 {
     if ends_with_list(forest, node) {
         return Ok(());
@@ -45,7 +46,8 @@ pub fn push_first(
 ) -> Result<(), AllocError>
     requires links { AreLinks forest.now links.now }
     requires node { node < length forest.now.nodes }
-    ensures { OnOk result ((starts : List ℕ) × IsFirst forest.now node starts × (back.new.items ≡ back.old.items ++ reverse starts)) }
+    ensures { OnOk result ((starts : List ℕ) × IsFirst forest.now node starts ×
+        (back.new.items ≡ back.old.items ++ reverse starts)) }
 {
     forest.known();
     let mut at = node;

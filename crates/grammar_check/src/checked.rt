@@ -157,7 +157,8 @@ impl<'a> Checked<'a> {
     /// Whether some slot of the symbol stands in a tree of a start.
     pub fn accessible(&self, s: SymbolId) -> bool
         requires { s < length self.now.names }
-        ensures { IsTrue result ↔ ((l : ℕ) × IsAccessible self.now (record { symbol = s; level = l })) }
+        ensures { IsTrue result ↔
+            ((l : ℕ) × IsAccessible self.now (record { symbol = s; level = l })) }
     {
         self.analysis.accessible(s)
     }

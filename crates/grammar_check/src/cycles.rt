@@ -80,7 +80,9 @@ fn settling(
     requires sized { length rows.now ≡ length floors.now }
     requires small { total + total < 2 ^ 32 }
     requires rows { AreRows total rows.now }
-    ensures { IfOk result (λ clauses. (c : Clause) → Contains clauses c ↔ (IsOfNodes rows.now total total c ⊎ IsOfUses floors.now total total c)) }
+    ensures { IfOk result (λ clauses. (c : Clause) →
+        Contains clauses c ↔
+        (IsOfNodes rows.now total total c ⊎ IsOfUses floors.now total total c)) }
 {
     let mut clauses = Clauses::new(alloc);
     push_nodes(alloc, rows, total, &mut clauses)?;
@@ -115,7 +117,8 @@ pub fn least_cycle(
     requires small { length rows.now + length rows.now < 2 ^ 32 }
     requires rows { AreRows (length rows.now) rows.now }
     requires floors { AreFloors floors.now }
-    ensures some { IfOk result (λ r. IfSome r (λ path. (to : ℕ) × (n : ℕ) × IsLeastPath rows.now floors.now to n path.items × NoneBelow rows.now floors.now to)) }
+    ensures some { IfOk result (λ r. IfSome r (λ path. (to : ℕ) × (n : ℕ) ×
+        IsLeastPath rows.now floors.now to n path.items × NoneBelow rows.now floors.now to)) }
     ensures none { IfOk result (λ r. IsNone r → Rises rows.now floors.now) }
 {
     let total = rows.len() as u32;

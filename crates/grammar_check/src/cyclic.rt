@@ -26,8 +26,11 @@ fn cycle_of(
     requires nullable { IsAnalysis true w.now slots.now.bases.now slots.now.nullable.now }
     requires productive { IsAnalysis false w.now slots.now.bases.now slots.now.productive.now }
     requires reach { IsReach w.now slots.now.bases.now slots.now.reach.now }
-    requires small { slice_index slots.now.bases.now (length w.now.names) + slice_index slots.now.bases.now (length w.now.names) < 2 ^ 32 }
-    ensures some { IfOk result (λ r. IfSome r (λ cycle. IsLeastCycle w.now (slots_with cycle.items))) }
+    requires small { slice_index slots.now.bases.now (length w.now.names) +
+        slice_index slots.now.bases.now (length w.now.names) <
+        2 ^ 32 }
+    ensures some { IfOk result (λ r. IfSome r (λ cycle. IsLeastCycle w.now (slots_with
+        cycle.items))) }
     ensures known { IfOk result (λ r. IfSome r (λ cycle. AreOf w.now cycle.items)) }
     ensures none { IfOk result (λ r. IsNone r → HasHeights w.now) }
 {
@@ -71,7 +74,8 @@ pub fn least_cycle_of(
     alloc: Global,
     analysis: &Analysis<'_>,
 ) -> Result<Option<Vec<(SymbolId, u32)>>, AllocError>
-    ensures some { IfOk result (λ r. IfSome r (λ cycle. IsLeastCycle analysis.now (slots_with cycle.items))) }
+    ensures some { IfOk result (λ r. IfSome r (λ cycle. IsLeastCycle analysis.now (slots_with
+        cycle.items))) }
     ensures known { IfOk result (λ r. IfSome r (λ cycle. AreOf analysis.now cycle.items)) }
     ensures none { IfOk result (λ r. IsNone r → HasHeights analysis.now) }
 {

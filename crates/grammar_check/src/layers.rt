@@ -31,7 +31,8 @@ fn gather(floors: &[u32], row: &[u32], found: &mut NumberSet) -> Result<(), Allo
     requires known { All (λ h. h < length floors.now) row.now }
     requires floors { AreFloors floors.now }
     requires down { IsDown floors.now found.old }
-    ensures gains { OnOk result (Gains found.old found.new (λ x. (h : ℕ) × Contains row.now h × Tied floors.now x h)) }
+    ensures gains { OnOk result (Gains found.old found.new (λ x. (h : ℕ) × Contains row.now h ×
+        Tied floors.now x h)) }
     ensures down { OnOk result (IsDown floors.now found.new) }
 {
     for h in row {
@@ -72,7 +73,8 @@ fn grow(
     requires rows { AreRows (length floors.now) rows.now }
     requires floors { AreFloors floors.now }
     requires down { IsDown floors.now found.old }
-    ensures gains { OnOk result (Gains found.old found.new (StepsInto rows.now floors.now found.old from to)) }
+    ensures gains { OnOk result (Gains found.old found.new (StepsInto rows.now floors.now found.old
+        from to)) }
     ensures down { OnOk result (IsDown floors.now found.new) }
 {
     for j in from..to {
@@ -98,8 +100,10 @@ fn add_layers(
     requires first { starts.old.items ≡ 0 ∷ [] }
     ensures layers { OnOk result (AreLayers rows.now floors.now to found.new starts.new.items) }
     ensures known { OnOk result (All (λ x. x < length rows.now) found.new) }
-    ensures ended { OnOk result ((length starts.new.items ≡ suc (length starts.new.items - 1)) × (slice_index starts.new.items (length starts.new.items - 1) ≡ length found.new)) }
-    ensures all { OnOk result ((n x : ℕ) → Walks rows.now floors.now to (suc n) x → Contains found.new x) }
+    ensures ended { OnOk result ((length starts.new.items ≡ suc (length starts.new.items - 1)) ×
+        (slice_index starts.new.items (length starts.new.items - 1) ≡ length found.new)) }
+    ensures all { OnOk result ((n x : ℕ) → Walks rows.now floors.now to (suc n) x →
+        Contains found.new x) }
 {
     spread(rows, floors, to, found)?;
     for n in 0..usize::MAX {
@@ -128,8 +132,10 @@ pub fn layers_of(
     requires floors { AreFloors floors.now }
     ensures layers { IfOk result (λ r. AreLayers rows.now floors.now to r.0 r.1.items) }
     ensures known { IfOk result (λ r. All (λ x. x < length rows.now) r.0) }
-    ensures ended { IfOk result (λ r. (length r.1.items ≡ suc (length r.1.items - 1)) × (slice_index r.1.items (length r.1.items - 1) ≡ length r.0)) }
-    ensures all { IfOk result (λ r. (n x : ℕ) → Walks rows.now floors.now to (suc n) x → Contains r.0 x) }
+    ensures ended { IfOk result (λ r. (length r.1.items ≡ suc (length r.1.items - 1)) ×
+        (slice_index r.1.items (length r.1.items - 1) ≡ length r.0)) }
+    ensures all { IfOk result (λ r. (n x : ℕ) → Walks rows.now floors.now to (suc n) x →
+        Contains r.0 x) }
 {
     let mut found = NumberSet::new(alloc);
     let mut starts = vec![in alloc; 0usize]?;

@@ -31,7 +31,9 @@ fn is_part_used(w: &Packed<'_>, slots: &Slots<'_>, i: usize, k: usize) -> bool
     requires productive { IsAnalysis false w.now slots.now.bases.now slots.now.productive.now }
     requires reach { IsReach w.now slots.now.bases.now slots.now.reach.now }
     requires part { k < needed_of (rule_at w.now i) }
-    ensures { IsTrue result ↔ (IsAccessible w.now (child_slot (rule_at w.now i) k) × IsProductive w.now (child_slot (rule_at w.now i) k)) }
+    ensures { IsTrue result ↔
+        (IsAccessible w.now (child_slot (rule_at w.now i) k) ×
+        IsProductive w.now (child_slot (rule_at w.now i) k)) }
 {
     w.known();
     let child = child_number(w, slots.bases, i, k);
@@ -45,7 +47,8 @@ fn first_solid(w: &Packed<'_>, bases: &[u32], nullable: &NumberSet, i: usize) ->
     requires nullable { IsAnalysis true w.now bases.now nullable.now }
     ensures within { result ≤ needed_of (rule_at w.now i) }
     ensures before { (j : ℕ) → j < result → IsNullable w.now (child_slot (rule_at w.now i) j) }
-    ensures at { result < needed_of (rule_at w.now i) → IsNullable w.now (child_slot (rule_at w.now i) result) → ⊥ }
+    ensures at { result < needed_of (rule_at w.now i) →
+        IsNullable w.now (child_slot (rule_at w.now i) result) → ⊥ }
 {
     let count = w.needed_count(i);
     for k in 0..count {
@@ -62,7 +65,8 @@ fn solid_end(w: &Packed<'_>, bases: &[u32], nullable: &NumberSet, i: usize) -> u
     requires numbering { IsNumbering w.now bases.now }
     requires nullable { IsAnalysis true w.now bases.now nullable.now }
     ensures within { result ≤ needed_of (rule_at w.now i) }
-    ensures behind { (j : ℕ) → result ≤ j → j < needed_of (rule_at w.now i) → IsNullable w.now (child_slot (rule_at w.now i) j) }
+    ensures behind { (j : ℕ) → result ≤ j → j < needed_of (rule_at w.now i) →
+        IsNullable w.now (child_slot (rule_at w.now i) j) }
     ensures last { 0 < result → IsNullable w.now (child_slot (rule_at w.now i) (result - 1)) → ⊥ }
 {
     let mut end = 0;
@@ -94,7 +98,8 @@ fn add_links(
     requires productive { IsAnalysis false w.now slots.now.bases.now slots.now.productive.now }
     requires reach { IsReach w.now slots.now.bases.now slots.now.reach.now }
     requires sized { length rows.old ≡ slice_index slots.now.bases.now (length w.now.names) }
-    ensures { OnOk result (HasPairs rows.old rows.new (IsLinkOf w.now slots.now.bases.now i (needed_of (rule_at w.now i)))) }
+    ensures { OnOk result (HasPairs rows.old rows.new (IsLinkOf w.now slots.now.bases.now i
+        (needed_of (rule_at w.now i)))) }
 {
     w.known();
     let head = head_number(w, slots.bases, i);
@@ -115,8 +120,10 @@ pub fn links_of(alloc: Global, w: &Packed<'_>, slots: &Slots<'_>) -> Result<Jagg
     requires nullable { IsAnalysis true w.now slots.now.bases.now slots.now.nullable.now }
     requires productive { IsAnalysis false w.now slots.now.bases.now slots.now.productive.now }
     requires reach { IsReach w.now slots.now.bases.now slots.now.reach.now }
-    ensures length { IfOk result (λ rows. length rows ≡ slice_index slots.now.bases.now (length w.now.names)) }
-    ensures links { IfOk result (λ rows. (t h : ℕ) → Contains (row_at rows t) h ↔ IsLinkTo w.now slots.now.bases.now (length w.now.rules) t h) }
+    ensures length { IfOk result (λ rows. length rows ≡
+        slice_index slots.now.bases.now (length w.now.names)) }
+    ensures links { IfOk result (λ rows. (t h : ℕ) →
+        Contains (row_at rows t) h ↔ IsLinkTo w.now slots.now.bases.now (length w.now.rules) t h) }
 {
     let bound = slots.bases[w.symbol_count()] as usize;
     let mut links = Gathered::new(alloc, bound);

@@ -35,7 +35,11 @@ fn left_name(w: &Written, rule: RuleId) -> &str
 
 fn duplicate_text(alloc: Global, w: &Written, rule: RuleId) -> Result<Vec<u8>, AllocError>
     requires { rule < length w.now.rules }
-    ensures { IfOk result (λ text. text.items ≡ codes "rule " ++ (decimal rule ++ (codes " of " ++ (name_of w.now (lhs_of (rule_at w.now rule)) ++ codes " is a duplicate")))) }
+    ensures { IfOk result (λ text. text.items ≡
+        codes "rule " ++
+        (decimal rule ++
+        (codes " of " ++
+        (name_of w.now (lhs_of (rule_at w.now rule)) ++ codes " is a duplicate")))) }
 {
     let before = phrase(alloc, b"rule ", Buffer::new().format(rule.0), b" of ")?;
     let text = phrase(alloc, &before, left_name(w, rule), b" is a duplicate")?;

@@ -10,7 +10,8 @@ use std::alloc::{AllocError, AllocFailed, Global};
 
 fn mark(marks: &mut Vec<bool>, x: usize, more: bool)
     requires { x < length marks.old.items }
-    ensures { marks.new.items ≡ slice_set marks.old.items x (slice_index_or marks.old.items x false || more) }
+    ensures { marks.new.items ≡
+        slice_set marks.old.items x (slice_index_or marks.old.items x false || more) }
 {
     marks[x] = marks[x] || more;
 }
@@ -33,7 +34,8 @@ fn twice_left(alloc: Global, w: &Written) -> Result<Vec<bool>, AllocError>
 // Whether each symbol is the left side of a sequence.
 fn sequence_left(alloc: Global, w: &Written) -> Result<Vec<bool>, AllocError>
     ensures length { IfOk result (λ marks. length marks.items ≡ length w.now.names) }
-    ensures marks { IfOk result (λ marks. Marks marks.items (HasSequence w.now (length w.now.rules))) }
+    ensures marks { IfOk result (λ marks. Marks marks.items (HasSequence w.now (length
+        w.now.rules))) }
 {
     let mut marks = vec![in alloc; false; w.symbol_count()]?;
     for i in 0..w.rule_count() {
@@ -72,7 +74,9 @@ fn text_of(alloc: Global, rule: &Rule) -> Result<Vec<u32>, AllocError>
 // Whether the text was there. It is there afterwards.
 fn add_text(texts: &mut IndexSet<Vec<u32>>, text: Vec<u32>) -> Result<bool, AllocFailed<Vec<u32>>>
     ensures was { IfOk result (λ r. IsTrue r ↔ Contains (rows_of texts.old.keys) text.items) }
-    ensures added { OnOk result ((t : List ℕ) → Contains (rows_of texts.new.keys) t ↔ (Contains (rows_of texts.old.keys) t ⊎ (t ≡ text.items))) }
+    ensures added { OnOk result ((t : List ℕ) →
+        Contains (rows_of texts.new.keys) t ↔
+        (Contains (rows_of texts.old.keys) t ⊎ (t ≡ text.items))) }
 {
     let new = texts.insert(text)?;
     Ok(!new)

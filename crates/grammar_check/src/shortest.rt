@@ -70,7 +70,8 @@ fn path_of(
     requires rows { AreRows (length floors.now) rows.now }
     requires layers { AreLayers rows.now floors.now to found.now starts.now }
     requires layer { suc layer < length starts.now }
-    requires here { (j : ℕ) × (slice_index starts.now layer ≤ j) × (j < slice_index starts.now (suc layer)) × (slice_index found.now j ≡ to) }
+    requires here { (j : ℕ) × (slice_index starts.now layer ≤ j) ×
+        (j < slice_index starts.now (suc layer)) × (slice_index found.now j ≡ to) }
     ensures { IfOk result (λ path. IsLeastPath rows.now floors.now to (suc layer) path.items) }
 {
     let mut path = vec![in alloc; to]?;
@@ -130,7 +131,8 @@ fn cycle_within(
     requires known { All (λ x. x < length rows.now) found.now }
     requires some { length starts.now ≡ suc (length starts.now - 1) }
     requires ended { slice_index starts.now (length starts.now - 1) ≡ length found.now }
-    ensures some { IfOk result (λ r. IfSome r (λ path. (n : ℕ) × IsLeastPath rows.now floors.now to n path.items)) }
+    ensures some { IfOk result (λ r. IfSome r (λ path. (n : ℕ) ×
+        IsLeastPath rows.now floors.now to n path.items)) }
     ensures none { IfOk result (λ r. IsNone r → Contains found.now to → ⊥) }
 {
     let Some(place) = place_of(found, to) else {
@@ -153,8 +155,10 @@ pub fn cycle_through(
     requires few { length rows.now < 2 ^ 32 }
     requires rows { AreRows (length floors.now) rows.now }
     requires floors { AreFloors floors.now }
-    ensures some { IfOk result (λ r. IfSome r (λ path. (n : ℕ) × IsLeastPath rows.now floors.now to n path.items)) }
-    ensures none { IfOk result (λ r. IsNone r → (m : ℕ) → Walks rows.now floors.now to (suc m) to → ⊥) }
+    ensures some { IfOk result (λ r. IfSome r (λ path. (n : ℕ) ×
+        IsLeastPath rows.now floors.now to n path.items)) }
+    ensures none { IfOk result (λ r. IsNone r → (m : ℕ) → Walks rows.now floors.now to (suc m) to →
+        ⊥) }
 {
     let (found, starts) = layers_of(alloc, rows, floors, to)?;
     cycle_within(alloc, rows, floors, &found, &starts, to)

@@ -95,7 +95,8 @@ impl TokenEdges {
     pub fn known(&self)
         ensures once { AllPairs (λ a b. a ≢ b) self.now }
         ensures order { AllPairs (λ a b. a.from ≤ b.from) self.now }
-        ensures lengths { (e : HeldEdge) → Contains self.now e → (e.from < e.to) × (e.to ≤ e.from + LONGEST_EDGE) }
+        ensures lengths { (e : HeldEdge) → Contains self.now e →
+            (e.from < e.to) × (e.to ≤ e.from + LONGEST_EDGE) }
     {
         let _count = self.edges.len();
     }
@@ -130,7 +131,8 @@ impl TokenEdges {
     // Whether that edge is held, which begins no earlier than another.
     fn holds(&self, at: u32, t: SymbolId, length: u32) -> bool
         requires { GoFrom self.now at }
-        ensures { IsTrue result ↔ Contains self.now (record { symbol = t; from = at; to = at + length }) }
+        ensures { IsTrue result ↔
+            Contains self.now (record { symbol = t; from = at; to = at + length }) }
     {
         match self.latest.get(t, length) {
             Some(place) => place == at,
@@ -145,7 +147,8 @@ impl TokenEdges {
         requires some { 0 < length }
         requires short { length ≤ LONGEST_EDGE }
         requires new { ¬ Contains self.old (record { symbol = t; from = at; to = at + length }) }
-        ensures ok { OnOk result (self.new ≡ self.old ++ record { symbol = t; from = at; to = at + length } ∷ []) }
+        ensures ok { OnOk result (self.new ≡
+            self.old ++ record { symbol = t; from = at; to = at + length } ∷ []) }
         ensures err { OnErr result (self.new ≡ self.old) }
         ensures memory { OnErr result (result ≡ Err NoMemory) }
     {
@@ -166,9 +169,11 @@ impl TokenEdges {
     pub fn push(&mut self, at: u32, t: SymbolId, length: u32) -> Result<(), EdgeRefusal>
         requires order { GoFrom self.old at }
         requires place { at ≤ LAST_PLACE }
-        ensures ok { OnOk result (self.new ≡ self.old ++ record { symbol = t; from = at; to = at + length } ∷ []) }
+        ensures ok { OnOk result (self.new ≡
+            self.old ++ record { symbol = t; from = at; to = at + length } ∷ []) }
         ensures err { OnErr result (self.new ≡ self.old) }
-        ensures duplicate { (result ≡ Err Duplicate) ↔ Contains self.old (record { symbol = t; from = at; to = at + length }) }
+        ensures duplicate { (result ≡ Err Duplicate) ↔
+            Contains self.old (record { symbol = t; from = at; to = at + length }) }
         ensures bad_length { (result ≡ Err BadLength) ↔
             ((¬ Contains self.old (record { symbol = t; from = at; to = at + length })) × ((length ≡ 0) ⊎ (LONGEST_EDGE < length))) }
     {
@@ -183,7 +188,8 @@ impl TokenEdges {
 
     /// Lists the edges that end at a place, each once, in place of what the list held.
     pub fn list_to(&self, place: u32, edges: &mut Vec<HeldEdge>) -> Result<(), AllocError>
-        ensures exact { OnOk result ((e : HeldEdge) → Contains edges.new.items e ↔ (Contains self.now e × (e.to ≡ place))) }
+        ensures exact { OnOk result ((e : HeldEdge) →
+            Contains edges.new.items e ↔ (Contains self.now e × (e.to ≡ place))) }
         ensures once { OnOk result (AllPairs (λ d e. d ≢ e) edges.new.items) }
     {
         edges.clear();
@@ -204,7 +210,8 @@ fn push_both(
 ) -> Result<(), EdgeRefusal>
     ensures places { OnOk result (places.new.items ≡ places.old.items ++ at ∷ []) }
     ensures edges { OnOk result (edges.new.items ≡ edges.old.items ++ edge ∷ []) }
-    ensures err { OnErr result ((places.new.items ≡ places.old.items) × (edges.new.items ≡ edges.old.items)) }
+    ensures err { OnErr result ((places.new.items ≡ places.old.items) ×
+        (edges.new.items ≡ edges.old.items)) }
     ensures memory { OnErr result (result ≡ Err NoMemory) }
 {
     edges.push(edge)?;
@@ -225,11 +232,16 @@ fn push_all(
     length: u32,
 ) -> Result<(), EdgeRefusal>
     requires room { at + length < 4294967296 }
-    requires new { 1 < length → ¬ Contains long.old (record { symbol = t; from = at; to = at + length }) }
+    requires new { 1 < length →
+        ¬ Contains long.old (record { symbol = t; from = at; to = at + length }) }
     ensures places { OnOk result (places.new.items ≡ places.old.items ++ at ∷ []) }
-    ensures edges { OnOk result (edges.new.items ≡ edges.old.items ++ record { symbol = t; length = length } ∷ []) }
-    ensures long { OnOk result (long.new ≡ (if nat_lt 1 length then long.old ++ record { symbol = t; from = at; to = at + length } ∷ [] else long.old)) }
-    ensures err { OnErr result ((places.new.items ≡ places.old.items) × (edges.new.items ≡ edges.old.items) × (long.new ≡ long.old)) }
+    ensures edges { OnOk result (edges.new.items ≡
+        edges.old.items ++ record { symbol = t; length = length } ∷ []) }
+    ensures long { OnOk result (long.new ≡
+        (if nat_lt 1 length then long.old ++
+        record { symbol = t; from = at; to = at + length } ∷ [] else long.old)) }
+    ensures err { OnErr result ((places.new.items ≡ places.old.items) ×
+        (edges.new.items ≡ edges.old.items) × (long.new ≡ long.old)) }
     ensures memory { OnErr result (result ≡ Err NoMemory) }
 {
     push_both(places, edges, at, Edge { symbol: t, length })?;
@@ -258,7 +270,8 @@ fn list_short(
     requires begun { AllPairs (λ a b. a ≢ b) begun.now }
     requires once { AllPairs (λ d e. d ≢ e) edges.old.items }
     requires apart { (e : HeldEdge) → Contains edges.old.items e → ¬ IsShortTo begun.now place e }
-    ensures listed { OnOk result ((e : HeldEdge) → Contains edges.new.items e ↔ (Contains edges.old.items e ⊎ IsShortTo begun.now place e)) }
+    ensures listed { OnOk result ((e : HeldEdge) →
+        Contains edges.new.items e ↔ (Contains edges.old.items e ⊎ IsShortTo begun.now place e)) }
     ensures once { OnOk result (AllPairs (λ d e. d ≢ e) edges.new.items) }
 {
     for edge in begun {
@@ -287,7 +300,8 @@ fn below(places: &[u32], bound: u64) -> usize
     requires { AreOrdered places.now }
     ensures bound { result ≤ length places.now }
     ensures below { (k : ℕ) → k < result → slice_index places.now k < bound }
-    ensures above { (k : ℕ) → result ≤ k → k < length places.now → bound ≤ slice_index places.now k }
+    ensures above { (k : ℕ) → result ≤ k → k < length places.now →
+        bound ≤ slice_index places.now k }
 {
     let guess = places.len().min(bound as usize);
     if parts_at(places, guess, bound) {

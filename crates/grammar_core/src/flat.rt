@@ -185,7 +185,9 @@ impl Flat {
 
     /// The rules of a symbol, which stand together.
     pub fn rules_of(&self, x: u32) -> Range<u32>
-        ensures { (r : ℕ) → ((result.start ≤ r) × (r < result.end)) ↔ (IsRule self.now r × (lhs_of self.now r ≡ x)) }
+        ensures { (r : ℕ) →
+            ((result.start ≤ r) × (r < result.end)) ↔
+            (IsRule self.now r × (lhs_of self.now r ≡ x)) }
     {
         let start = self.rules_below(x);
         let end = self.rules_up_to(x);
@@ -197,8 +199,10 @@ impl Flat {
         ensures bound { result ≤ length self.now.symbols }
         ensures fits { result < 2 ^ 32 }
         ensures arranged { IsArranged self.now }
-        ensures below { (x : ℕ) (s : FlatSymbol) → x < result → slice_get self.now.symbols x ≡ Some s → terminal_below t s ≡ true }
-        ensures above { (x : ℕ) (s : FlatSymbol) → result ≤ x → slice_get self.now.symbols x ≡ Some s → terminal_below t s ≡ false }
+        ensures below { (x : ℕ) (s : FlatSymbol) → x < result →
+            slice_get self.now.symbols x ≡ Some s → terminal_below t s ≡ true }
+        ensures above { (x : ℕ) (s : FlatSymbol) → result ≤ x →
+            slice_get self.now.symbols x ≡ Some s → terminal_below t s ≡ false }
     {
         self.symbols.partition_point(|s| is_terminal_below(*s, t))
     }

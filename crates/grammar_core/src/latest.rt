@@ -67,7 +67,8 @@ impl LatestPlaces {
         requires room { HasRoom self.old t length }
         requires place { at ≤ LAST_PLACE }
         ensures here { latest_at self.new t length ≡ Some at }
-        ensures others { (s m : ℕ) → m < 4294967296 → (s ≢ t) ⊎ (m ≢ length) → latest_at self.new s m ≡ latest_at self.old s m }
+        ensures others { (s m : ℕ) → m < 4294967296 → (s ≢ t) ⊎ (m ≢ length) →
+            latest_at self.new s m ≡ latest_at self.old s m }
     {
         if is_listed(t, length) {
             put_one(&mut self.ones, t, at);
@@ -91,7 +92,8 @@ fn put_one(ones: &mut [u32], t: SymbolId, at: u32)
 fn put_other(others: &mut IndexMap<u64, u32>, key: u64, at: u32)
     requires room { 1 ≤ spare others.old }
     ensures here { get nat_eq others.new key ≡ Some at }
-    ensures others { (k : ℕ) → nat_eq key k ≡ false → get nat_eq others.new k ≡ get nat_eq others.old k }
+    ensures others { (k : ℕ) → nat_eq key k ≡ false →
+        get nat_eq others.new k ≡ get nat_eq others.old k }
 {
     if others.insert(key, at).is_err() {
         unreachable!()

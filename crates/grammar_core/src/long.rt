@@ -80,7 +80,9 @@ impl LongEdges {
     ) -> Result<(), AllocFailed<HeldEdge>>
         requires once { AllPairs (λ d e. d ≢ e) edges.old.items }
         requires apart { (e : HeldEdge) → Contains edges.old.items e → ¬ Contains self.now e }
-        ensures listed { OnOk result ((e : HeldEdge) → Contains edges.new.items e ↔ (Contains edges.old.items e ⊎ (Contains self.now e × (e.to ≡ place)))) }
+        ensures listed { OnOk result ((e : HeldEdge) →
+            Contains edges.new.items e ↔
+            (Contains edges.old.items e ⊎ (Contains self.now e × (e.to ≡ place)))) }
         ensures once { OnOk result (AllPairs (λ d e. d ≢ e) edges.new.items) }
     {
         list_chain(&self.edges, &self.newest, place, edges)
@@ -96,8 +98,11 @@ fn list_chain(
 ) -> Result<(), AllocFailed<HeldEdge>>
     requires chained { AreChained links.now (get nat_eq newest.now) }
     requires once { AllPairs (λ d e. d ≢ e) edges.old.items }
-    requires apart { (e : HeldEdge) → Contains edges.old.items e → ¬ Contains (all_held links.now) e }
-    ensures listed { OnOk result ((e : HeldEdge) → Contains edges.new.items e ↔ (Contains edges.old.items e ⊎ (Contains (all_held links.now) e × (e.to ≡ place)))) }
+    requires apart { (e : HeldEdge) → Contains edges.old.items e →
+        ¬ Contains (all_held links.now) e }
+    ensures listed { OnOk result ((e : HeldEdge) →
+        Contains edges.new.items e ↔
+        (Contains edges.old.items e ⊎ (Contains (all_held links.now) e × (e.to ≡ place)))) }
     ensures once { OnOk result (AllPairs (λ d e. d ≢ e) edges.new.items) }
 {
     let mut next = newest.get(&place).copied();

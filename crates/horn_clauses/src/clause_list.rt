@@ -60,7 +60,8 @@ impl Clauses {
 
     /// One more rule.
     pub fn push(&mut self, head: u32, body: &[u32]) -> Result<(), AllocError>
-        ensures ok { OnOk result (self.new ≡ self.old ++ record { head = head; body = body.now } ∷ []) }
+        ensures ok { OnOk result (self.new ≡
+            self.old ++ record { head = head; body = body.now } ∷ []) }
         ensures err { OnErr result (self.new ≡ self.old) }
     {
         self.heads.push(head)?;

@@ -72,7 +72,8 @@ struct Links {
 
 fn links_of(alloc: Global, count: usize, pairs: &[(u32, u32)]) -> Result<Links, AllocError>
     requires { AreWithin count pairs.now }
-    ensures { IfOk result (λ links. (length links.last.items ≡ count) × AreLinks pairs.now (length pairs.now) links.last.items links.before.items) }
+    ensures { IfOk result (λ links. (length links.last.items ≡ count) ×
+        AreLinks pairs.now (length pairs.now) links.last.items links.before.items) }
 {
     let mut last = vec![in alloc; 0usize; count]?;
     let mut before = Vec::new(alloc);
@@ -92,7 +93,8 @@ fn collect(
     row: &mut Vec<u32>,
 ) -> Result<(), AllocError>
     requires known { x < length links.now.last.items }
-    requires links { AreLinks pairs.now (length pairs.now) links.now.last.items links.now.before.items }
+    requires links { AreLinks pairs.now (length pairs.now) links.now.last.items
+        links.now.before.items }
     ensures { OnOk result ((n : ℕ) → Contains row.new.items n ↔ HasFrom pairs.now x 0 n) }
 {
     row.clear();

@@ -15,7 +15,8 @@ fn open_place(body: &[u32], found: &NumberSet, from: usize) -> usize
     ensures after { from ≤ result }
     ensures within { result ≤ length body.now }
     ensures passed { (m : ℕ) → from ≤ m → m < result → Contains found.now (slice_index body.now m) }
-    ensures fresh { result < length body.now → Contains found.now (slice_index body.now result) → ⊥ }
+    ensures fresh { result < length body.now → Contains found.now (slice_index body.now result) →
+        ⊥ }
 {
     for place in from..body.len() {
         if !found.has(body[place]) {
@@ -74,7 +75,8 @@ fn advance(
 fn begin(clauses: &Clauses, found: &mut NumberSet, places: &mut [usize]) -> Result<(), AllocError>
     requires search { IsSearch clauses.now found.old places.old }
     ensures search { OnOk result (IsSearch clauses.now found.new places.new) }
-    ensures waits { OnOk result ((i : ℕ) → i < length clauses.now → Waits clauses.now found.new places.new 0 i) }
+    ensures waits { OnOk result ((i : ℕ) → i < length clauses.now →
+        Waits clauses.now found.new places.new 0 i) }
 {
     for i in 0..clauses.len() {
         advance(clauses, found, places, i)?;

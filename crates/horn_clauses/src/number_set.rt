@@ -83,7 +83,8 @@ impl NumberSet {
 // Makes marks for the numbers up to this one, as far as there are none.
 fn lengthen(marks: &mut Vec<bool>, place: usize) -> Result<(), AllocError>
     requires { place < 2 ^ 32 }
-    ensures same { (x : ℕ) → slice_index_or marks.new.items x false ≡ slice_index_or marks.old.items x false }
+    ensures same { (x : ℕ) →
+        slice_index_or marks.new.items x false ≡ slice_index_or marks.old.items x false }
     ensures long { OnOk result (place < length marks.new.items) }
 {
     if place < marks.len() {

@@ -79,7 +79,8 @@ fn count(items: &[Item]) -> Result<u32, AllocError>
 // Lists the dotted rules of a rule.
 fn list_dots(flat: &Flat, rule: u32, listed: &mut Vec<Item>) -> Result<(), AllocFailed<Item>>
     requires { IsRule flat.now rule }
-    ensures { OnOk result (AddsDots rule (suc (length (rhs_of flat.now rule))) listed.old.items listed.new.items) }
+    ensures { OnOk result (AddsDots rule (suc (length (rhs_of flat.now rule))) listed.old.items
+        listed.new.items) }
 {
     flat.known();
     let length = flat.rhs(rule).len() as u32;
@@ -102,7 +103,8 @@ fn list_dots(flat: &Flat, rule: u32, listed: &mut Vec<Item>) -> Result<(), Alloc
 fn list_all(flat: &Flat, listed: &mut Vec<Item>, firsts: &mut Vec<u32>) -> Result<(), AllocError>
     requires listed { listed.old.items ≡ [] }
     requires firsts { firsts.old.items ≡ [] }
-    ensures { OnOk result (AreListed flat.now listed.new.items firsts.new.items (length flat.now.rules)) }
+    ensures { OnOk result (AreListed flat.now listed.new.items firsts.new.items
+        (length flat.now.rules)) }
 {
     flat.known();
     for rule in 0..flat.rule_count() {
@@ -154,7 +156,8 @@ fn find_span(flat: &Flat, rules: &[Item], symbol: u32) -> Span
 fn list_spans(alloc: Global, flat: &Flat, rules: &[Item]) -> Result<Vec<Span>, AllocError>
     requires order { IsInOrder flat.now rules.now }
     requires few { length rules.now < 2 ^ 32 }
-    ensures { IfOk result (λ spans. AreSpans flat.now rules.now spans.items (length flat.now.symbols)) }
+    ensures { IfOk result (λ spans. AreSpans flat.now rules.now spans.items
+        (length flat.now.symbols)) }
 {
     flat.known();
     let mut spans = Vec::new(alloc);
@@ -168,7 +171,8 @@ fn list_spans(alloc: Global, flat: &Flat, rules: &[Item]) -> Result<Vec<Span>, A
 fn find_whole(flat: &Flat, rules: &[Item]) -> Span
     requires order { IsInOrder flat.now rules.now }
     requires few { length rules.now < 2 ^ 32 }
-    requires dots { (k : ℕ) → k < length rules.now → (dotted_at rules.now k).dot ≤ length (rhs_of flat.now (dotted_at rules.now k).rule) }
+    requires dots { (k : ℕ) → k < length rules.now →
+        (dotted_at rules.now k).dot ≤ length (rhs_of flat.now (dotted_at rules.now k).rule) }
     ensures { IsWholeSpan flat.now rules.now result }
 {
     flat.known();
@@ -263,7 +267,8 @@ pub fn begin(rules: &[Item], number: u32, earleme: u32) -> Item
 
 // The number that stands for a rule and a dot, if there is one.
 fn find_number(firsts: &[u32], numbers: &[u32], item: Item) -> Option<u32>
-    ensures { (first : ℕ) → slice_get firsts.now item.rule ≡ Some first → result ≡ slice_get numbers.now (first + item.dot) }
+    ensures { (first : ℕ) → slice_get firsts.now item.rule ≡ Some first →
+        result ≡ slice_get numbers.now (first + item.dot) }
 {
     let first = number_at(firsts, item.rule as usize)?;
     number_at(numbers, first as usize + item.dot as usize)
@@ -272,7 +277,9 @@ fn find_number(firsts: &[u32], numbers: &[u32], item: Item) -> Option<u32>
 // A dotted rule and the origin of an item in one number, if the dotted rule is that of the item.
 fn pack_with(rules: &[Item], number: u32, item: Item) -> Option<u64>
     ensures some { IfSome result (λ n. IsPacked rules.now n item) }
-    ensures none { IsNone result → slice_get rules.now number ≢ Some (record { rule = item.rule; dot = item.dot; origin = 0 }) }
+    ensures none { IsNone result →
+        slice_get rules.now number ≢
+        Some (record { rule = item.rule; dot = item.dot; origin = 0 }) }
 {
     let dotted = item_at(rules, number as usize)?;
     if dotted.rule == item.rule && dotted.dot == item.dot {
@@ -312,7 +319,8 @@ impl<'g> DottedRules<'g> {
     pub fn known(&self)
         ensures differ { DifferInDots self.now.rules }
         ensures few { length self.now.rules < 2 ^ 32 }
-        ensures zero { (k : ℕ) → k < length self.now.rules → (dotted_at self.now.rules k).origin ≡ 0 }
+        ensures zero { (k : ℕ) → k < length self.now.rules →
+            (dotted_at self.now.rules k).origin ≡ 0 }
     {
         let _count = self.rules.len();
     }
@@ -327,7 +335,8 @@ impl<'g> DottedRules<'g> {
     /// The number that an item is packed into, if it is one of the grammar.
     pub fn pack(&self, item: Item) -> Option<u64>
         ensures some { IfSome result (λ n. IsPacked self.now.rules n item) }
-        ensures none { IsNone result → (¬ IsItem self.now.flat item) × ((n : ℕ) → ¬ IsPacked self.now.rules n item) }
+        ensures none { IsNone result →
+            (¬ IsItem self.now.flat item) × ((n : ℕ) → ¬ IsPacked self.now.rules n item) }
     {
         let number = find_number(&self.firsts, &self.numbers, item)?;
         pack_with(&self.rules, number, item)

@@ -51,7 +51,8 @@ pub fn new_marks(alloc: Global, flat: &Flat) -> Result<Marks, AllocError>
 /// Takes all marks away.
 pub fn take_marks(marks: &mut Marks)
     ensures none { AreAtMost 0 marks.new.rows.items }
-    ensures same { (length marks.new.rows.items ≡ length marks.old.rows.items) × (marks.new.listed ≡ marks.old.listed) }
+    ensures same { (length marks.new.rows.items ≡ length marks.old.rows.items) ×
+        (marks.new.listed ≡ marks.old.listed) }
 {
     for t in 0..marks.rows.len() {
         marks.rows[t] = 0;
@@ -65,7 +66,8 @@ fn put_mark(flat: &Flat, symbol: u32, t: SymbolId, mark: u32, marks: &mut Marks)
     requires marked { AreMarked flat.now mark marks.old.rows.items marks.old.listed.items }
     ensures room { HasRoom flat.now marks.new }
     ensures marked { AreMarked flat.now mark marks.new.rows.items marks.new.listed.items }
-    ensures listed { (s : ℕ) → Contains marks.new.listed.items s ↔ (Contains marks.old.listed.items s ⊎ (t ≡ s)) }
+    ensures listed { (s : ℕ) →
+        Contains marks.new.listed.items s ↔ (Contains marks.old.listed.items s ⊎ (t ≡ s)) }
 {
     flat.known();
     let place = symbol as usize;
@@ -81,7 +83,9 @@ fn mark_item(flat: &Flat, item: Item, mark: u32, marks: &mut Marks)
     requires marked { AreMarked flat.now mark marks.old.rows.items marks.old.listed.items }
     ensures room { HasRoom flat.now marks.new }
     ensures marked { AreMarked flat.now mark marks.new.rows.items marks.new.listed.items }
-    ensures listed { (t : ℕ) → Contains marks.new.listed.items t ↔ (Contains marks.old.listed.items t ⊎ WaitsFor flat.now item t) }
+    ensures listed { (t : ℕ) →
+        Contains marks.new.listed.items t ↔
+        (Contains marks.old.listed.items t ⊎ WaitsFor flat.now item t) }
 {
     flat.known();
     if let Some(symbol) = flat.part(item.rule, item.dot) {
@@ -97,7 +101,9 @@ fn mark_items(flat: &Flat, items: &Row<'_>, mark: u32, marks: &mut Marks)
     requires older { (x m : ℕ) → slice_get marks.old.rows.items x ≡ Some m → m < mark }
     ensures room { HasRoom flat.now marks.new }
     ensures marked { AreMarked flat.now mark marks.new.rows.items marks.new.listed.items }
-    ensures listed { (t : ℕ) → Contains marks.new.listed.items t ↔ ((item : TheItem) × Contains items.now item × WaitsFor flat.now item t) }
+    ensures listed { (t : ℕ) →
+        Contains marks.new.listed.items t ↔
+        ((item : TheItem) × Contains items.now item × WaitsFor flat.now item t) }
 {
     marks.listed.clear();
     for k in 0..items.len() {
@@ -113,7 +119,8 @@ pub fn mark_row(flat: &Flat, rows: &Rows<'_>, j: usize, marks: &mut Marks)
     requires room { HasRoom flat.now marks.old }
     requires older { AreAtMost j marks.old.rows.items }
     ensures room { HasRoom flat.now marks.new }
-    ensures marks { AreMarksOf flat.now (row_at rows.now.sets j) j marks.new.rows.items marks.new.listed.items }
+    ensures marks { AreMarksOf flat.now (row_at rows.now.sets j) j marks.new.rows.items
+        marks.new.listed.items }
 {
     let items = rows.scanned(j);
     mark_items(flat, &items, j as u32 + 1, marks);

@@ -74,8 +74,10 @@ pub fn list_sorted(
     row: &mut Vec<Item>,
 ) -> Result<(), AllocError>
     ensures order { OnOk result (IsInOrder flat.now row.new.items) }
-    ensures same { OnOk result ((item : TheItem) → Contains row.new.items item ↔ Contains items.now item) }
-    ensures once { OnOk result (AllPairs (λ x y. x ≢ y) items.now → AllPairs (λ x y. x ≢ y) row.new.items) }
+    ensures same { OnOk result ((item : TheItem) →
+        Contains row.new.items item ↔ Contains items.now item) }
+    ensures once { OnOk result (AllPairs (λ x y. x ≢ y) items.now →
+        AllPairs (λ x y. x ≢ y) row.new.items) }
     ensures length { OnOk result (length row.new.items ≡ length items.now) }
 {
     let mut keys = Vec::new(alloc);
@@ -89,8 +91,10 @@ pub fn list_sorted(
 pub fn below(flat: &Flat, row: &[Item], symbol: u64) -> usize
     requires { IsInOrder flat.now row.now }
     ensures bound { result ≤ length row.now }
-    ensures below { (k : ℕ) (d : TheItem) → k < result → symbol_or_end flat.now (slice_index_or row.now k d) < symbol }
-    ensures above { (k : ℕ) (d : TheItem) → result ≤ k → k < length row.now → symbol ≤ symbol_or_end flat.now (slice_index_or row.now k d) }
+    ensures below { (k : ℕ) (d : TheItem) → k < result →
+        symbol_or_end flat.now (slice_index_or row.now k d) < symbol }
+    ensures above { (k : ℕ) (d : TheItem) → result ≤ k → k < length row.now →
+        symbol ≤ symbol_or_end flat.now (slice_index_or row.now k d) }
 {
     row.partition_point(|item| symbol_after(flat, *item) < symbol)
 }

@@ -76,7 +76,8 @@ fn pack_all(
 ) -> Result<(), AllocFailed<u64>>
     requires { AreItems dotted.now.flat items.now }
     ensures items { OnOk result (map (unpacked dotted.now.rules) packed.new.items ≡ items.now) }
-    ensures within { OnOk result ((n : ℕ) → Contains packed.new.items n → n / 4294967296 < length dotted.now.rules) }
+    ensures within { OnOk result ((n : ℕ) → Contains packed.new.items n →
+        n / 4294967296 < length dotted.now.rules) }
 {
     packed.clear();
     for item in items {
@@ -97,7 +98,8 @@ pub fn pack_row(
     requires items { AreItems dotted.now.flat items.now }
     requires once { AllPairs (λ x y. x ≢ y) items.now }
     ensures row { OnOk result (IsPackedRow (length dotted.now.rules) packed.new.items) }
-    ensures same { OnOk result (IsListOf (Contains items.now) (map (unpacked dotted.now.rules) packed.new.items)) }
+    ensures same { OnOk result (IsListOf (Contains items.now) (map (unpacked dotted.now.rules)
+        packed.new.items)) }
 {
     pack_all(dotted, items, packed)?;
     packed.sort_unstable();
@@ -124,7 +126,8 @@ fn count_few_below(packed: &[u64], bound: u64) -> usize
     requires { Rises packed.now }
     ensures bound { result ≤ length packed.now }
     ensures below { (k : ℕ) → k < result → slice_index packed.now k < bound }
-    ensures above { (k : ℕ) → result ≤ k → k < length packed.now → bound ≤ slice_index packed.now k }
+    ensures above { (k : ℕ) → result ≤ k → k < length packed.now →
+        bound ≤ slice_index packed.now k }
 {
     for place in 0..packed.len() {
         if packed[place] >= bound {
@@ -139,7 +142,8 @@ fn count_below(packed: &[u64], bound: u64) -> usize
     requires { Rises packed.now }
     ensures bound { result ≤ length packed.now }
     ensures below { (k : ℕ) → k < result → slice_index packed.now k < bound }
-    ensures above { (k : ℕ) → result ≤ k → k < length packed.now → bound ≤ slice_index packed.now k }
+    ensures above { (k : ℕ) → result ≤ k → k < length packed.now →
+        bound ≤ slice_index packed.now k }
 {
     if packed.len() <= FEW {
         count_few_below(packed, bound)
@@ -182,7 +186,9 @@ fn within_span(packed: &[u64], span: Span) -> &[u64]
     requires row { Rises packed.now }
     requires order { span.start ≤ span.end }
     ensures rises { Rises result.now }
-    ensures exact { (n : ℕ) → Contains result.now n ↔ (Contains packed.now n × (span.start ≤ n / 4294967296) × (n / 4294967296 < span.end)) }
+    ensures exact { (n : ℕ) →
+        Contains result.now n ↔
+        (Contains packed.now n × (span.start ≤ n / 4294967296) × (n / 4294967296 < span.end)) }
 {
     let low = first_of(span.start);
     let high = first_of(span.end);
@@ -196,7 +202,8 @@ fn dotted_within(begun: &[u32], span: Span) -> &[u32]
     requires row { Rises begun.now }
     requires order { span.start ≤ span.end }
     ensures rises { Rises result.now }
-    ensures exact { (k : ℕ) → Contains result.now k ↔ (Contains begun.now k × (span.start ≤ k) × (k < span.end)) }
+    ensures exact { (k : ℕ) →
+        Contains result.now k ↔ (Contains begun.now k × (span.start ≤ k) × (k < span.end)) }
 {
     let start = count_before(begun, span.start);
     let end = count_before(begun, span.end);
@@ -228,7 +235,8 @@ fn narrowed<'r>(
 ) -> Row<'r>
     requires row { IsRowOfParts dotted.now.rules earleme packed.now begun.now }
     requires order { span.start ≤ span.end }
-    ensures { (own others : List ℕ) × AreWithin packed.now begun.now span own others × (result ≡ row_items dotted.now.rules earleme own others) }
+    ensures { (own others : List ℕ) × AreWithin packed.now begun.now span own others ×
+        (result ≡ row_items dotted.now.rules earleme own others) }
 {
     let own = within_span(packed, span);
     let others = dotted_within(begun, span);
@@ -244,7 +252,10 @@ pub fn waiting<'r>(
     symbol: u32,
 ) -> Row<'r>
     requires { IsRowOfParts dotted.now.rules earleme packed.now begun.now }
-    ensures { IsListOf (λ item. Contains (row_items dotted.now.rules earleme packed.now begun.now) item × (after dotted.now.flat item ≡ Some symbol)) result }
+    ensures { IsListOf
+        (λ item. Contains (row_items dotted.now.rules earleme packed.now begun.now) item ×
+        (after dotted.now.flat item ≡ Some symbol))
+        result }
 {
     dotted.known();
     narrowed(dotted, packed, begun, earleme, dotted.span(symbol))
@@ -258,7 +269,10 @@ pub fn whole<'r>(
     earleme: u32,
 ) -> Row<'r>
     requires { IsRowOfParts dotted.now.rules earleme packed.now begun.now }
-    ensures { IsListOf (λ item. Contains (row_items dotted.now.rules earleme packed.now begun.now) item × IsWhole dotted.now.flat item) result }
+    ensures { IsListOf
+        (λ item. Contains (row_items dotted.now.rules earleme packed.now begun.now) item ×
+        IsWhole dotted.now.flat item)
+        result }
 {
     dotted.known();
     narrowed(dotted, packed, begun, earleme, dotted.whole())
@@ -272,7 +286,10 @@ pub fn scanned<'r>(
     earleme: u32,
 ) -> Row<'r>
     requires { IsRowOfParts dotted.now.rules earleme packed.now begun.now }
-    ensures { IsListOf (λ item. Contains (row_items dotted.now.rules earleme packed.now begun.now) item × WaitsForTerminal dotted.now.flat item) result }
+    ensures { IsListOf
+        (λ item. Contains (row_items dotted.now.rules earleme packed.now begun.now) item ×
+        WaitsForTerminal dotted.now.flat item)
+        result }
 {
     dotted.known();
     narrowed(dotted, packed, begun, earleme, dotted.scanned())
@@ -301,7 +318,8 @@ pub fn contains(
     item: Item,
 ) -> bool
     requires { IsRowOfParts dotted.now.rules earleme packed.now begun.now }
-    ensures { IsTrue result ↔ Contains (row_items dotted.now.rules earleme packed.now begun.now) item }
+    ensures { IsTrue result ↔
+        Contains (row_items dotted.now.rules earleme packed.now begun.now) item }
 {
     dotted.known();
     match dotted.pack(item) {

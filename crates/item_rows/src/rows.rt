@@ -103,7 +103,10 @@ impl<'g> Rows<'g> {
     /// The items of a row that wait for a symbol.
     pub fn waiting(&self, j: usize, symbol: u32) -> Row<'_>
         requires { j < length self.now.sets }
-        ensures { IsListOf (λ item. Contains (row_at self.now.sets j) item × (after self.now.flat item ≡ Some symbol)) result }
+        ensures { IsListOf
+            (λ item. Contains (row_at self.now.sets j) item ×
+            (after self.now.flat item ≡ Some symbol))
+            result }
     {
         let packed = self.kernels.row(j);
         let begun = list_of(&self.lists, &self.begun, j);
@@ -113,7 +116,8 @@ impl<'g> Rows<'g> {
     /// The items of a row with the dot at the end.
     pub fn whole(&self, j: usize) -> Row<'_>
         requires { j < length self.now.sets }
-        ensures { IsListOf (λ item. Contains (row_at self.now.sets j) item × IsWhole self.now.flat item) result }
+        ensures { IsListOf
+            (λ item. Contains (row_at self.now.sets j) item × IsWhole self.now.flat item) result }
     {
         let packed = self.kernels.row(j);
         let begun = list_of(&self.lists, &self.begun, j);
@@ -123,7 +127,9 @@ impl<'g> Rows<'g> {
     /// The items of a row that wait for terminals.
     pub fn scanned(&self, j: usize) -> Row<'_>
         requires { j < length self.now.sets }
-        ensures { IsListOf (λ item. Contains (row_at self.now.sets j) item × WaitsForTerminal self.now.flat item) result }
+        ensures { IsListOf
+            (λ item. Contains (row_at self.now.sets j) item × WaitsForTerminal self.now.flat item)
+            result }
     {
         let packed = self.kernels.row(j);
         let begun = list_of(&self.lists, &self.begun, j);
@@ -157,7 +163,9 @@ impl<'g> Rows<'g> {
         requires once { AllPairs (λ x y. x ≢ y) items.now }
         requires zero { (item : TheItem) → Contains items.now item → item.origin ≡ 0 }
         ensures number { IfOk result (λ k. k ≡ length self.old.shared) }
-        ensures ok { OnOk result ((list : List TheItem) × (self.new ≡ record self.old { shared = self.old.shared ++ list ∷ [] }) × IsListOf (Contains items.now) list) }
+        ensures ok { OnOk result ((list : List TheItem) ×
+            (self.new ≡ record self.old { shared = self.old.shared ++ list ∷ [] }) ×
+            IsListOf (Contains items.now) list) }
         ensures err { OnErr result (self.new ≡ self.old) }
     {
         self.dotted.known();
@@ -176,7 +184,8 @@ impl<'g> Rows<'g> {
         requires items { AreItems self.old.flat items.now }
         requires once { AllPairs (λ x y. x ≢ y) items.now }
         requires begun { begun < length self.old.shared }
-        requires apart { (item : TheItem) → Contains items.now item → ¬ IsBegunAt (shared_at self.old.shared begun) (length self.old.sets) item }
+        requires apart { (item : TheItem) → Contains items.now item →
+            ¬ IsBegunAt (shared_at self.old.shared begun) (length self.old.sets) item }
         ensures ok { OnOk result ((row : List TheItem) × (self.new ≡ with_row self.old row) ×
             IsListOf (λ item. Contains items.now item ⊎ IsBegunAt (shared_at self.old.shared begun) (length self.old.sets) item) row) }
         ensures err { OnErr result (self.new ≡ self.old) }

@@ -14,7 +14,8 @@ use std::test::Fail;
 
 /// What characters say.
 pub(crate) fn parsed(alloc: Global, chars: &Chars) -> Result<Description, StatementRefusal>
-    ensures { IfOk result (λ d. (ts : List Token) × AreTokens chars.now ts × Describes d (map (spelled_at chars.now) ts)) }
+    ensures { IfOk result (λ d. (ts : List Token) × AreTokens chars.now ts ×
+        Describes d (map (spelled_at chars.now) ts)) }
 {
     let Ok(tokens) = tokens(alloc, chars) else {
         return Err(StatementRefusal::NoMemory);

@@ -68,7 +68,8 @@ fn make_leo<L: Ledger>(
     steps: &mut Steps<L>,
 ) -> Result<(), AllocError>
     requires { noted memo.old pair ≡ None }
-    ensures ok { OnOk result ((memo.new ≡ memo.old ++ (pair, top) ∷ []) × (steps.new ≡ steps.old + 1)) }
+    ensures ok { OnOk result ((memo.new ≡ memo.old ++ (pair, top) ∷ []) ×
+        (steps.new ≡ steps.old + 1)) }
     ensures err { OnErr result ((memo.new ≡ memo.old) × (steps.new ≡ steps.old)) }
 {
     memo.put(pair, top)?;

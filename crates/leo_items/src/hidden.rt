@@ -23,7 +23,8 @@ type ItemSet = IndexSet<Item, BuildHasherDefault<NearHasher>>;
 // Puts the items that begin at a place or after it.
 fn put_from(items: &Row<'_>, from: u32, set: &mut ItemSet) -> Result<(), AllocFailed<Item>>
     requires { set.old.keys ≡ [] }
-    ensures { OnOk result ((item : TheItem) → Contains set.new.keys item ↔ IsFrom items.now from item) }
+    ensures { OnOk result ((item : TheItem) →
+        Contains set.new.keys item ↔ IsFrom items.now from item) }
 {
     for k in 0..items.len() {
         let item = items.at(k);
@@ -45,8 +46,10 @@ pub fn single_step(
     requires rows { HasRows flat.now rows.now }
     requires earleme { earleme < length rows.now.sets }
     requires rule { IsRule flat.now item.rule }
-    ensures some { IfSome result (λ step. IsSingleStep flat.now rows.now.sets earleme from item step) }
-    ensures none { IsNone result → (step : TheItem) → ¬ IsSingleStep flat.now rows.now.sets earleme from item step }
+    ensures some { IfSome result (λ step. IsSingleStep flat.now rows.now.sets earleme from item
+        step) }
+    ensures none { IsNone result → (step : TheItem) →
+        ¬ IsSingleStep flat.now rows.now.sets earleme from item step }
 {
     if item.origin >= earleme {
         return None;
@@ -64,7 +67,8 @@ fn leads_on(flat: &Flat, rows: &Rows<'_>, earleme: u32, from: u32, item: Item) -
     requires rows { HasRows flat.now rows.now }
     requires earleme { earleme < length rows.now.sets }
     requires rule { IsRule flat.now item.rule }
-    ensures { ¬ IsTrue result → from ≤ item.origin → (step : TheItem) → ¬ IsSingleStep flat.now rows.now.sets earleme from item step }
+    ensures { ¬ IsTrue result → from ≤ item.origin → (step : TheItem) →
+        ¬ IsSingleStep flat.now rows.now.sets earleme from item step }
 {
     from <= item.origin && single_step(flat, rows, earleme, from, item).is_some()
 }
@@ -96,7 +100,9 @@ fn add_steps(
     requires earleme { earleme < length rows.now.sets }
     requires items { AreItems flat.now set.old.keys }
     ensures begins { OnOk result ((more : List TheItem) × (set.new.keys ≡ set.old.keys ++ more)) }
-    ensures closed { OnOk result ((item : TheItem) → Contains set.new.keys item ↔ IsReached (IsSingleStep flat.now rows.now.sets earleme from) set.old.keys item) }
+    ensures closed { OnOk result ((item : TheItem) →
+        Contains set.new.keys item ↔
+        IsReached (IsSingleStep flat.now rows.now.sets earleme from) set.old.keys item) }
 {
     for k in 0..usize::MAX {
         let Some(item) = set.get_index(k).copied() else {
@@ -130,7 +136,8 @@ pub fn list_hidden(
 ) -> Result<Vec<Item>, AllocError>
     requires rows { HasRows flat.now rows.now }
     requires earleme { earleme < length rows.now.sets }
-    ensures { IfOk result (λ items. IsListOf (IsHiddenIn flat.now rows.now.sets earleme from) items.items) }
+    ensures { IfOk result (λ items. IsListOf (IsHiddenIn flat.now rows.now.sets earleme from)
+        items.items) }
 {
     let whole = rows.whole(earleme as usize);
     if !some_leads_on(flat, rows, &whole, earleme, from) {
@@ -159,7 +166,8 @@ pub fn top_above(
     requires earleme { earleme < length rows.now.sets }
     requires rule { IsRule flat.now item.rule }
     ensures some { IfSome result (λ top. LeadsUpIn flat.now rows.now.sets earleme item top) }
-    ensures none { IsNone result → (step : TheItem) → ¬ IsSingleStep flat.now rows.now.sets earleme 0 item step }
+    ensures none { IsNone result → (step : TheItem) →
+        ¬ IsSingleStep flat.now rows.now.sets earleme 0 item step }
 {
     if item.origin >= earleme {
         return None;
@@ -193,9 +201,12 @@ pub fn list_below(
 ) -> Result<Vec<Item>, AllocError>
     requires rows { HasRows flat.now rows.now }
     requires earleme { earleme < length rows.now.sets }
-    requires bottoms { (item : TheItem) → Contains bottoms.now item ↔ IsBottomOf flat.now rows.now.sets earleme tops.now item }
-    requires tops { (top : TheItem) → Contains tops.now top → (item : TheItem) × IsBottomIn flat.now rows.now.sets earleme top item }
-    ensures { IfOk result (λ items. IsListOf (IsBelowOf flat.now rows.now.sets earleme tops.now) items.items) }
+    requires bottoms { (item : TheItem) →
+        Contains bottoms.now item ↔ IsBottomOf flat.now rows.now.sets earleme tops.now item }
+    requires tops { (top : TheItem) → Contains tops.now top →
+        (item : TheItem) × IsBottomIn flat.now rows.now.sets earleme top item }
+    ensures { IfOk result (λ items. IsListOf (IsBelowOf flat.now rows.now.sets earleme tops.now)
+        items.items) }
 {
     if bottoms.is_empty() {
         return Ok(Vec::new(alloc));

@@ -34,7 +34,8 @@ fn advanced(item: Item) -> Item
 // The item with its dot advanced, if it is at the end then.
 fn step_of(flat: &Flat, item: Item) -> Option<Item>
     requires { (x : ℕ) × (after flat.now item ≡ Some x) }
-    ensures some { IfSome result (λ step. IsWhole flat.now (item_after item) × (step ≡ item_after item)) }
+    ensures some { IfSome result (λ step. IsWhole flat.now (item_after item) ×
+        (step ≡ item_after item)) }
     ensures none { IsNone result → ¬ IsWhole flat.now (item_after item) }
 {
     flat.known();
@@ -47,7 +48,8 @@ fn step_of(flat: &Flat, item: Item) -> Option<Item>
 
 /// The step of a symbol, of the items of a set that wait for it.
 pub fn leo_of(flat: &Flat, waiting: &Row<'_>) -> Option<Item>
-    requires { (item : TheItem) → Contains waiting.now item → (x : ℕ) × (after flat.now item ≡ Some x) }
+    requires { (item : TheItem) → Contains waiting.now item →
+        (x : ℕ) × (after flat.now item ≡ Some x) }
     ensures { IsStep flat.now waiting.now result }
 {
     if waiting.len() != 1 {

@@ -95,7 +95,8 @@ impl Begins {
 
     /// Notes the state of a list of starts.
     pub fn note(&mut self, alloc: Global, starts: &[u32], state: usize) -> Result<(), AllocError>
-        ensures { (list : List ℕ) (s : ℕ) → HasBegin self.new list s → HasBegin self.old list s ⊎ ((list ≡ starts.now) × (s ≡ state)) }
+        ensures { (list : List ℕ) (s : ℕ) → HasBegin self.new list s →
+            HasBegin self.old list s ⊎ ((list ≡ starts.now) × (s ≡ state)) }
     {
         let mut copy = Vec::new(alloc);
         copy.extend_from_slice(starts)?;

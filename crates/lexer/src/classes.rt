@@ -88,7 +88,8 @@ fn ascii_classes(
     rows: &mut Jagged<SymbolId>,
 ) -> Result<Vec<usize>, AllocError>
     ensures long { IfOk result (λ ascii. length ascii.items ≡ 128) }
-    ensures exact { IfOk result (λ ascii. (c : ℕ) → c < 128 → IsClassOf sets.now rows.new c (slice_index ascii.items c)) }
+    ensures exact { IfOk result (λ ascii. (c : ℕ) → c < 128 →
+        IsClassOf sets.now rows.new c (slice_index ascii.items c)) }
 {
     let mut ascii = Vec::new(alloc);
     for code in 0..128u8 {

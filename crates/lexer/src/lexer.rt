@@ -84,11 +84,14 @@ fn read(
     requires at { at ≤ length chars.now }
     requires starts { (k : ℕ) → Contains candidates.now k → k < length machine.old.flat.now.tops }
     requires state { first < length machine.old.rows }
-    requires begins { (set : List AThread) × IsBegin machine.old.flat.now machine.old.parts candidates.now set (list_at machine.old.rows first) }
+    requires begins { (set : List AThread) ×
+        IsBegin machine.old.flat.now machine.old.parts candidates.now set
+        (list_at machine.old.rows first) }
     ensures goes { Goes machine.old machine.new }
     ensures there { IfOk result (λ best. best.state < length machine.new.rows) }
     ensures within { IfOk result (λ best. best.length ≤ length chars.now) }
-    ensures best { IfOk result (λ best. IsBestRow (form_of machine.new) chars.now at candidates.now (list_at machine.new.rows best.state) best.length) }
+    ensures best { IfOk result (λ best. IsBestRow (form_of machine.new) chars.now at candidates.now
+        (list_at machine.new.rows best.state) best.length) }
 {
     machine.flat.known();
     let mut state = first;
@@ -111,7 +114,10 @@ fn read(
 // Lists the rules of starts that are done in a row.
 fn list_done(flat: &Flat, row: &[Thread], done: &mut Vec<u32>) -> Result<(), AllocError>
     requires { (th : AThread) → Contains row.now th → IsRule flat.now th.rule }
-    ensures { OnOk result ((r : ℕ) → Contains done.new.items r ↔ (Contains done.old.items r ⊎ ((th : AThread) × Contains row.now th × IsMatch flat.now th × (th.rule ≡ r)))) }
+    ensures { OnOk result ((r : ℕ) →
+        Contains done.new.items r ↔
+        (Contains done.old.items r ⊎
+        ((th : AThread) × Contains row.now th × IsMatch flat.now th × (th.rule ≡ r)))) }
 {
     for thread in row {
         if is_match(flat, *thread) {
@@ -124,7 +130,8 @@ fn list_done(flat: &Flat, row: &[Thread], done: &mut Vec<u32>) -> Result<(), All
 // Whether the start's rule is one of these.
 fn is_done(flat: &Flat, done: &[u32], candidate: u32) -> bool
     requires { candidate < length flat.now.tops }
-    ensures { IsTrue result ↔ ((r : ℕ) × (slice_get flat.now.tops candidate ≡ Some r) × Contains done.now r) }
+    ensures { IsTrue result ↔
+        ((r : ℕ) × (slice_get flat.now.tops candidate ≡ Some r) × Contains done.now r) }
 {
     done.contains(&flat.top(candidate as usize))
 }
@@ -138,8 +145,12 @@ fn list_matched(
 ) -> Result<(), AllocError>
     requires candidates { (k : ℕ) → Contains candidates.now k → k < length flat.now.tops }
     requires empty { matched.old.items ≡ [] }
-    ensures exact { OnOk result ((k : ℕ) → Contains matched.new.items k ↔ (Contains candidates.now k × ((r : ℕ) × (slice_get flat.now.tops k ≡ Some r) × Contains done.now r))) }
-    ensures sorted { OnOk result (IsStrictlySortedBy nat_cmp candidates.now → IsStrictlySortedBy nat_cmp matched.new.items) }
+    ensures exact { OnOk result ((k : ℕ) →
+        Contains matched.new.items k ↔
+        (Contains candidates.now k ×
+        ((r : ℕ) × (slice_get flat.now.tops k ≡ Some r) × Contains done.now r))) }
+    ensures sorted { OnOk result (IsStrictlySortedBy nat_cmp candidates.now →
+        IsStrictlySortedBy nat_cmp matched.new.items) }
 {
     for candidate in candidates {
         if is_done(flat, done, *candidate) {
@@ -159,8 +170,10 @@ fn match_row(
 ) -> Result<(), AllocError>
     requires row { (th : AThread) → Contains row.now th → IsRule flat.now th.rule }
     requires candidates { (k : ℕ) → Contains candidates.now k → k < length flat.now.tops }
-    ensures exact { OnOk result ((k : ℕ) → Contains matched.new.items k ↔ (Contains candidates.now k × IsDoneIn flat.now row.now k)) }
-    ensures sorted { OnOk result (IsStrictlySortedBy nat_cmp candidates.now → IsStrictlySortedBy nat_cmp matched.new.items) }
+    ensures exact { OnOk result ((k : ℕ) →
+        Contains matched.new.items k ↔ (Contains candidates.now k × IsDoneIn flat.now row.now k)) }
+    ensures sorted { OnOk result (IsStrictlySortedBy nat_cmp candidates.now →
+        IsStrictlySortedBy nat_cmp matched.new.items) }
 {
     done.clear();
     list_done(flat, row, done)?;
@@ -185,8 +198,10 @@ fn longest_by(
     requires starts { (k : ℕ) → Contains candidates.now k → k < length machine.old.flat.now.tops }
     ensures is { IsMachine machine.new }
     ensures form { form_of machine.new ≡ form_of machine.old }
-    ensures none { IfOk result (λ longest. IsNone longest → IsUnmatched (form_of machine.old) chars.now at candidates.now) }
-    ensures some { IfOk result (λ longest. IfSome longest (λ n. IsLongestMatch (form_of machine.old) chars.now at candidates.now n matched.new.items)) }
+    ensures none { IfOk result (λ longest. IsNone longest →
+        IsUnmatched (form_of machine.old) chars.now at candidates.now) }
+    ensures some { IfOk result (λ longest. IfSome longest (λ n. IsLongestMatch (form_of machine.old)
+        chars.now at candidates.now n matched.new.items)) }
 {
     forget_if_full(machine);
     let first = begin(machine, alloc, candidates)?;
@@ -231,8 +246,10 @@ impl<'g> Lexer<'g> {
         requires few { length chars.now ≤ LONGEST_INPUT }
         requires starts { (k : ℕ) → Contains candidates.now k → k < length self.old.flat.tops }
         ensures same { self.new ≡ self.old }
-        ensures none { IfOk result (λ answer. IsNone answer → IsUnmatched self.old chars.now at candidates.now) }
-        ensures some { IfOk result (λ answer. IfSome answer (λ a. IsLongestMatch self.old chars.now at candidates.now a.length a.matched.items)) }
+        ensures none { IfOk result (λ answer. IsNone answer →
+            IsUnmatched self.old chars.now at candidates.now) }
+        ensures some { IfOk result (λ answer. IfSome answer (λ a. IsLongestMatch self.old chars.now
+            at candidates.now a.length a.matched.items)) }
     {
         let mut matched = Vec::new(alloc);
         match self.find_longest(alloc, chars, at, candidates, &mut matched)? {
@@ -255,8 +272,10 @@ impl<'g> Lexer<'g> {
         requires few { length chars.now ≤ LONGEST_INPUT }
         requires starts { (k : ℕ) → Contains candidates.now k → k < length self.old.flat.tops }
         ensures same { self.new ≡ self.old }
-        ensures none { IfOk result (λ longest. IsNone longest → IsUnmatched self.old chars.now at candidates.now) }
-        ensures some { IfOk result (λ longest. IfSome longest (λ n. IsLongestMatch self.old chars.now at candidates.now n matched.new.items)) }
+        ensures none { IfOk result (λ longest. IsNone longest →
+            IsUnmatched self.old chars.now at candidates.now) }
+        ensures some { IfOk result (λ longest. IfSome longest (λ n. IsLongestMatch self.old
+            chars.now at candidates.now n matched.new.items)) }
     {
         longest_by(
             &mut self.machine,
@@ -281,8 +300,10 @@ pub fn longest(
     requires at { at ≤ length chars.now }
     requires few { length chars.now ≤ LONGEST_INPUT }
     requires starts { (k : ℕ) → Contains candidates.now k → k < length l0.flat.tops }
-    ensures none { IfOk result (λ answer. IsNone answer → IsUnmatched l0.entry chars.now at candidates.now) }
-    ensures some { IfOk result (λ answer. IfSome answer (λ a. IsLongestMatch l0.entry chars.now at candidates.now a.length a.matched.items)) }
+    ensures none { IfOk result (λ answer. IsNone answer →
+        IsUnmatched l0.entry chars.now at candidates.now) }
+    ensures some { IfOk result (λ answer. IfSome answer (λ a. IsLongestMatch l0.entry chars.now at
+        candidates.now a.length a.matched.items)) }
 {
     let mut lexer = Lexer::new(alloc, l0)?;
     lexer.longest(alloc, chars, at, candidates)

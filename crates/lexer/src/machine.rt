@@ -94,7 +94,9 @@ pub fn begin(machine: &mut Machine<'_>, alloc: Global, starts: &[u32]) -> Result
     requires starts { (k : ℕ) → Contains starts.now k → k < length machine.old.flat.now.tops }
     ensures goes { Goes machine.old machine.new }
     ensures there { IfOk result (λ s. s < length machine.new.rows) }
-    ensures begins { IfOk result (λ s. (set : List AThread) × IsBegin machine.new.flat.now machine.new.parts starts.now set (list_at machine.new.rows s)) }
+    ensures begins { IfOk result (λ s. (set : List AThread) ×
+        IsBegin machine.new.flat.now machine.new.parts starts.now set
+        (list_at machine.new.rows s)) }
 {
     if let Some(state) = machine.begins.find(starts) {
         return Ok(state);

@@ -55,7 +55,8 @@ pub fn note(
     class: usize,
     to: usize,
 ) -> Result<(), AllocError>
-    ensures { (s c t : ℕ) → c < 128 → IsNoted next.new.items s c t → IsNoted next.old.items s c t ⊎ ((s ≡ state) × (c ≡ class) × (t ≡ to)) }
+    ensures { (s c t : ℕ) → c < 128 → IsNoted next.new.items s c t →
+        IsNoted next.old.items s c t ⊎ ((s ≡ state) × (c ≡ class) × (t ≡ to)) }
 {
     if state >= STATES || class >= CLASSES || to >= STATES || to >= limit {
         return Ok(());

@@ -13,7 +13,8 @@ const MOST_CELLS: usize = 4_000_000_000;
 /// One more cell, and its place at the end of `out`.
 pub fn add_cell(cells: &mut Vec<Cell>, out: &mut Vec<u32>, cell: Cell) -> Result<(), AllocError>
     requires { Within cells.old.items out.old.items }
-    ensures { OnOk result (Adds cells.old.items cells.new.items out.old.items out.new.items (meant (meanings cells.old.items) cell ∷ [])) }
+    ensures { OnOk result (Adds cells.old.items cells.new.items out.old.items out.new.items
+        (meant (meanings cells.old.items) cell ∷ [])) }
 {
     let place = cells.len();
     if place > MOST_CELLS {
@@ -35,7 +36,8 @@ pub fn add_nodes(
 ) -> Result<(), AllocError>
     requires out { Within cells.old.items out.old.items }
     requires prefixes { Within cells.old.items prefixes.now }
-    ensures { OnOk result (Adds cells.old.items cells.new.items out.old.items out.new.items (map (λ k. as_tree (Node rule ((at cells.old.items k).prefix) from to)) prefixes.now)) }
+    ensures { OnOk result (Adds cells.old.items cells.new.items out.old.items out.new.items (map
+        (λ k. as_tree (Node rule ((at cells.old.items k).prefix) from to)) prefixes.now)) }
 {
     for prefix in prefixes {
         add_cell(cells, out, Cell::Node(rule, *prefix, from, to))?;
@@ -51,7 +53,8 @@ pub fn add_firsts(
 ) -> Result<(), AllocError>
     requires out { Within cells.old.items out.old.items }
     requires lasts { Within cells.old.items lasts.now }
-    ensures { OnOk result (Adds cells.old.items cells.new.items out.old.items out.new.items (map (λ k. as_prefix (Child NoChild ((at cells.old.items k).tree))) lasts.now)) }
+    ensures { OnOk result (Adds cells.old.items cells.new.items out.old.items out.new.items (map
+        (λ k. as_prefix (Child NoChild ((at cells.old.items k).tree))) lasts.now)) }
 {
     for last in lasts {
         add_cell(cells, out, Cell::First(*last))?;
@@ -69,7 +72,9 @@ pub fn add_lasts(
     requires out { Within cells.old.items out.old.items }
     requires prefix { prefix < length cells.old.items }
     requires lasts { Within cells.old.items lasts.now }
-    ensures { OnOk result (Adds cells.old.items cells.new.items out.old.items out.new.items (map (λ k. as_prefix (Child ((at cells.old.items prefix).prefix) ((at cells.old.items k).tree))) lasts.now)) }
+    ensures { OnOk result (Adds cells.old.items cells.new.items out.old.items out.new.items (map
+        (λ k. as_prefix (Child ((at cells.old.items prefix).prefix) ((at cells.old.items k).tree)))
+        lasts.now)) }
 {
     for last in lasts {
         add_cell(cells, out, Cell::Next(prefix, *last))?;
@@ -87,7 +92,11 @@ pub fn add_pairs(
     requires out { Within cells.old.items out.old.items }
     requires prefixes { Within cells.old.items prefixes.now }
     requires lasts { Within cells.old.items lasts.now }
-    ensures { OnOk result (Adds cells.old.items cells.new.items out.old.items out.new.items (flat_map (λ j. map (λ k. as_prefix (Child ((at cells.old.items j).prefix) ((at cells.old.items k).tree))) lasts.now) prefixes.now)) }
+    ensures { OnOk result (Adds cells.old.items cells.new.items out.old.items out.new.items (flat_map
+        (λ j. map
+        (λ k. as_prefix (Child ((at cells.old.items j).prefix) ((at cells.old.items k).tree)))
+        lasts.now)
+        prefixes.now)) }
 {
     for prefix in prefixes {
         add_lasts(cells, out, *prefix, lasts)?;

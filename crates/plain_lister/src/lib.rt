@@ -92,7 +92,9 @@ fn trees_of_start(
     requires started { 0 < length w.now.starts }
     requires short { length input.now ≤ 1000 }
     requires sound { IsSound w.now input.now store.old }
-    ensures { IfOk result (λ trees. (start : ℕ) × (slice_get w.now.starts 0 ≡ Some start) × (map (tree_at store.new.cells.items) trees.items ≡ listed w.now input.now (slot_of start) 0 (length input.now))) }
+    ensures { IfOk result (λ trees. (start : ℕ) × (slice_get w.now.starts 0 ≡ Some start) ×
+        (map (tree_at store.new.cells.items) trees.items ≡
+        listed w.now input.now (slot_of start) 0 (length input.now))) }
 {
     w.known();
     let start = w.start(0);
@@ -112,7 +114,9 @@ fn trees_in_cells(
     requires simple { IsSimple w.now }
     requires started { 0 < length w.now.starts }
     requires short { length input.now ≤ 1000 }
-    ensures { IfOk result (λ r. (start : ℕ) × (slice_get w.now.starts 0 ≡ Some start) × (map (tree_at r.0.items) r.1.items ≡ listed w.now input.now (slot_of start) 0 (length input.now))) }
+    ensures { IfOk result (λ r. (start : ℕ) × (slice_get w.now.starts 0 ≡ Some start) ×
+        (map (tree_at r.0.items) r.1.items ≡
+        listed w.now input.now (slot_of start) 0 (length input.now))) }
 {
     let mut store = Store {
         cells: Vec::new(alloc),
@@ -130,7 +134,8 @@ fn derive(alloc: Global, w: &Written, input: &[u8]) -> Result<Derivations, Alloc
     requires short { length input.now ≤ 1000 }
     requires ascii { All (λ b. b < 128) input.now }
     ensures trees { IfOk result (λ list. IsAllOfCharacters w.now input.now (trees_of list)) }
-    ensures lines { IfOk result (λ list. (t : Tree) → line_of list t ≡ tree_line w.now input.now t) }
+    ensures lines { IfOk result (λ list. (t : Tree) →
+        line_of list t ≡ tree_line w.now input.now t) }
 {
     let names = names_of(alloc, w)?;
     let lefts = lefts_of(alloc, w)?;

@@ -22,7 +22,8 @@ pub enum Told {
 
 // The name of a symbol, as a value.
 fn name_value(list: &Derivations, pool: &mut Pool, symbol: usize) -> Result<ValueId, AllocError>
-    ensures { IfOk result (λ id. Puts pool.old pool.new id (Text (name_of (grammar_of list.now) symbol))) }
+    ensures { IfOk result (λ id. Puts pool.old pool.new id (Text (name_of (grammar_of list.now)
+        symbol))) }
 {
     if symbol >= list.names.len() {
         return Err(AllocError);
@@ -40,7 +41,8 @@ fn leaf_value(
     symbol: u32,
     from: u32,
 ) -> Result<ValueId, AllocError>
-    ensures { IfOk result (λ id. Puts pool.old pool.new id (tree_value list.now (Leaf symbol from (suc from)))) }
+    ensures { IfOk result (λ id. Puts pool.old pool.new id (tree_value list.now (Leaf symbol from
+        (suc from)))) }
 {
     let name = name_value(list, pool, symbol as usize)?;
     let place = from as usize;
@@ -66,7 +68,8 @@ fn byte_value(pool: &mut Pool, byte: u8) -> Result<ValueId, AllocError>
 
 fn list_value(pool: &mut Pool, items: &[ValueId]) -> Result<ValueId, AllocError>
     requires { AreIds pool.old items.now }
-    ensures { IfOk result (λ id. Puts pool.old pool.new id (list_of (map (value_at pool.old) items.now))) }
+    ensures { IfOk result (λ id. Puts pool.old pool.new id (list_of (map (value_at pool.old)
+        items.now))) }
 {
     match pool.list(items) {
         Ok(id) => Ok(id),
@@ -83,7 +86,9 @@ fn node_value(
     children: &[ValueId],
 ) -> Result<ValueId, AllocError>
     requires { AreIds pool.old children.now }
-    ensures { IfOk result (λ id. Puts pool.old pool.new id (list_of (Text (name_of (grammar_of list.now) (lhs_of (rule_at (grammar_of list.now) rule))) ∷ Number rule ∷ map (value_at pool.old) children.now))) }
+    ensures { IfOk result (λ id. Puts pool.old pool.new id (list_of (Text (name_of (grammar_of list.now) (lhs_of (rule_at
+        (grammar_of list.now) rule))) ∷
+        Number rule ∷ map (value_at pool.old) children.now))) }
 {
     let place = rule as usize;
     if place >= list.lefts.len() {
@@ -134,7 +139,8 @@ fn with_last(
     children: &[ValueId],
     last: usize,
 ) -> Result<Vec<ValueId>, AllocError>
-    ensures { IfOk result (λ ids. (id : ℕ) × IsValueTold told.now last id × (ids.items ≡ children.now ++ id ∷ [])) }
+    ensures { IfOk result (λ ids. (id : ℕ) × IsValueTold told.now last id ×
+        (ids.items ≡ children.now ++ id ∷ [])) }
 {
     let id = value_told(told, last)?;
     let mut ids = Vec::new(alloc);
@@ -153,7 +159,8 @@ fn told_of(
     cell: Cell,
 ) -> Result<Told, AllocError>
     requires { AllTold list.now pool.old told.now done.now }
-    ensures { IfOk result (λ x. Stays pool.old pool.new × IsTold list.now pool.new x (meant (meanings done.now) cell)) }
+    ensures { IfOk result (λ x. Stays pool.old pool.new ×
+        IsTold list.now pool.new x (meant (meanings done.now) cell)) }
 {
     match cell {
         Cell::Leaf(symbol, from) => Ok(Told::Value(leaf_value(list, pool, symbol, from)?)),
@@ -177,7 +184,8 @@ pub fn append_value_line(
     out: &mut Vec<u8>,
 ) -> Result<(), AllocError>
     requires { id < length pool.now }
-    ensures ok { OnOk result (out.new.items ≡ out.old.items ++ (text_of (value_at pool.now id) ++ 10 ∷ [])) }
+    ensures ok { OnOk result (out.new.items ≡
+        out.old.items ++ (text_of (value_at pool.now id) ++ 10 ∷ [])) }
     ensures err { OnErr result (out.new.items ≡ out.old.items) }
 {
     let mut line = Vec::new(alloc);

@@ -46,7 +46,8 @@ fn values_of(alloc: Global, told: &[Told], trees: &[u32]) -> Result<Vec<ValueId>
 
 // The lines of derivations.
 fn list_lines(alloc: Global, derivations: &Derivations) -> Result<SlowList, AllocError>
-    ensures { IfOk result (λ list. list ≡ map (line_of derivations.now) (trees_of derivations.now)) }
+    ensures { IfOk result (λ list. list ≡
+        map (line_of derivations.now) (trees_of derivations.now)) }
 {
     let mut pool = Pool::new(alloc);
     let told = tell_cells(alloc, derivations, &mut pool)?;
@@ -60,7 +61,8 @@ pub fn list_simple(alloc: Global, w: &Written, input: &[u8]) -> Result<SlowList,
     requires started { 0 < length w.now.starts }
     requires short { length input.now ≤ 1000 }
     requires ascii { All (λ b. b < 128) input.now }
-    ensures { IfOk result (λ list. (trees : List Tree) × IsAllOfCharacters w.now input.now trees × (list ≡ map (tree_line w.now input.now) trees)) }
+    ensures { IfOk result (λ list. (trees : List Tree) × IsAllOfCharacters w.now input.now trees ×
+        (list ≡ map (tree_line w.now input.now) trees)) }
 {
     let derivations = derive(alloc, w, input)?;
     let list = list_lines(alloc, &derivations)?;
@@ -78,7 +80,8 @@ impl SlowList {
     /// Appends the line of a derivation, with its line feed.
     pub fn append_line(&self, k: usize, out: &mut Vec<u8>) -> Result<(), NoMemory>
         requires { k < length self.now }
-        ensures ok { OnOk result ((line : List ℕ) × (slice_get self.now k ≡ Some line) × (out.new.items ≡ out.old.items ++ line)) }
+        ensures ok { OnOk result ((line : List ℕ) × (slice_get self.now k ≡ Some line) ×
+            (out.new.items ≡ out.old.items ++ line)) }
         ensures err { OnErr result (out.new.items ≡ out.old.items) }
     {
         let alloc = *self.values.allocator();

@@ -65,7 +65,8 @@ fn leaves_at(
     requires spans { p < q }
     requires within { q ≤ length input.now }
     requires short { length input.now ≤ 1000 }
-    ensures { IfOk result (λ places. IsTold w.now input.now store.old store.new places.items x 0 p q) }
+    ensures { IfOk result (λ places. IsTold w.now input.now store.old store.new places.items x 0 p
+        q) }
 {
     let mut out = Vec::new(alloc);
     w.known();
@@ -97,7 +98,8 @@ fn nodes_at(
     requires spans { p < q }
     requires within { q ≤ length input.now }
     requires short { length input.now ≤ 1000 }
-    ensures { IfOk result (λ places. IsTold w.now input.now store.old store.new places.items x 0 p q) }
+    ensures { IfOk result (λ places. IsTold w.now input.now store.old store.new places.items x 0 p
+        q) }
 {
     let mut out = Vec::new(alloc);
     for i in 0..w.rule_count() {
@@ -134,7 +136,8 @@ fn firsts_at(
     requires spans { p < q }
     requires within { q ≤ length input.now }
     requires short { length input.now ≤ 1000 }
-    ensures { IfOk result (λ places. IsTold w.now input.now store.old store.new places.items i 1 p q) }
+    ensures { IfOk result (λ places. IsTold w.now input.now store.old store.new places.items i 1 p
+        q) }
 {
     let mut out = Vec::new(alloc);
     let k = list_at(alloc, w, input, store, part_of(w, i, 0) as usize, 0, p, q)?;
@@ -161,7 +164,8 @@ fn pairs_at(
     requires spans { p < q }
     requires within { q ≤ length input.now }
     requires short { length input.now ≤ 1000 }
-    ensures { IfOk result (λ places. IsTold w.now input.now store.old store.new places.items i n p q) }
+    ensures { IfOk result (λ places. IsTold w.now input.now store.old store.new places.items i n p
+        q) }
 {
     let mut out = Vec::new(alloc);
     let last = part_of(w, i, n - 1) as usize;

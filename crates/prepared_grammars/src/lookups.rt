@@ -22,7 +22,8 @@ pub struct Lookups {
 }
 
 fn add_always(row: &LexemeRow, always: &mut Vec<u32>) -> Result<(), AllocFailed<u32>>
-    ensures { OnOk result (AddsIf (IsFalse row.now.latm) row.now.start always.old.items always.new.items) }
+    ensures { OnOk result (AddsIf (IsFalse row.now.latm) row.now.start always.old.items
+        always.new.items) }
 {
     if !row.latm {
         always.push(row.start)?;
@@ -32,7 +33,8 @@ fn add_always(row: &LexemeRow, always: &mut Vec<u32>) -> Result<(), AllocFailed<
 
 // Lists the starts of the lexemes that are always looked for.
 fn list_always(alloc: Global, rows: &[LexemeRow]) -> Result<Vec<u32>, AllocError>
-    ensures { IfOk result (λ always. Gathers (λ (l : TheRow). IsFalse l.latm) (λ (l : TheRow). l.start) (map row_of rows.now) always.items) }
+    ensures { IfOk result (λ always. Gathers (λ (l : TheRow). IsFalse l.latm)
+        (λ (l : TheRow). l.start) (map row_of rows.now) always.items) }
 {
     let mut always = Vec::new(alloc);
     for row in rows {
@@ -43,7 +45,8 @@ fn list_always(alloc: Global, rows: &[LexemeRow]) -> Result<Vec<u32>, AllocError
 
 fn note_start(row: &LexemeRow, starts: &mut Vec<Option<u32>>)
     requires { row.now.symbol < length starts.old.items }
-    ensures { SetsIf (IsTrue row.now.latm) row.now.symbol (Some row.now.start) starts.old.items starts.new.items }
+    ensures { SetsIf (IsTrue row.now.latm) row.now.symbol (Some row.now.start) starts.old.items
+        starts.new.items }
 {
     if row.latm {
         starts[row.symbol.0 as usize] = Some(row.start);
@@ -57,7 +60,8 @@ fn list_starts(
     count: usize,
 ) -> Result<Vec<Option<u32>>, AllocError>
     requires known { All (λ (l : TheRow). l.symbol < count) (map row_of rows.now) }
-    requires order { IsStrictlySortedBy nat_cmp (map (λ (l : TheRow). l.symbol) (map row_of rows.now)) }
+    requires order { IsStrictlySortedBy nat_cmp (map (λ (l : TheRow). l.symbol)
+        (map row_of rows.now)) }
     ensures { IfOk result (λ starts. AreStarts (map row_of rows.now) starts.items) }
 {
     let mut starts = Vec::new(alloc);
@@ -94,7 +98,8 @@ fn add_start(
     symbol: SymbolId,
     found: &mut Vec<u32>,
 ) -> Result<(), AllocFailed<u32>>
-    ensures { OnOk result ((k : ℕ) → Contains found.new.items k ↔ (Contains found.old.items k ⊎ HasStart starts.now symbol k)) }
+    ensures { OnOk result ((k : ℕ) →
+        Contains found.new.items k ↔ (Contains found.old.items k ⊎ HasStart starts.now symbol k)) }
 {
     if let Some(start) = start_at(starts, symbol) {
         found.push(start)?;
@@ -108,7 +113,10 @@ pub fn add_starts(
     symbols: &[SymbolId],
     found: &mut Vec<u32>,
 ) -> Result<(), AllocFailed<u32>>
-    ensures { OnOk result ((k : ℕ) → Contains found.new.items k ↔ (Contains found.old.items k ⊎ ((s : ℕ) × Contains symbols.now s × HasStart starts.now s k))) }
+    ensures { OnOk result ((k : ℕ) →
+        Contains found.new.items k ↔
+        (Contains found.old.items k ⊎
+        ((s : ℕ) × Contains symbols.now s × HasStart starts.now s k))) }
 {
     for symbol in symbols {
         add_start(starts, *symbol, found)?;

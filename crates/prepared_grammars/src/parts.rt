@@ -74,7 +74,8 @@ fn checked(alloc: Global, w: &Written, lexical: bool) -> Result<Checked<'_>, Fau
 /// The lexical grammar, where it has a start. Without a start it is not checked, and matches nothing.
 fn checked_lexical(alloc: Global, l0: &Written) -> Result<Option<Checked<'_>>, Fault>
     ensures ok { IfOk result (IsCheckedLexical l0.now) }
-    ensures err { IfErr result (λ fault. (0 < length l0.now.starts) × IsRefusedBy l0.now true fault) }
+    ensures err { IfErr result (λ fault. (0 < length l0.now.starts) ×
+        IsRefusedBy l0.now true fault) }
 {
     if l0.start_count() == 0 {
         return Ok(None);
@@ -120,7 +121,8 @@ fn flat_parts(
 ) -> Result<Parts, Fault>
     requires structural { structural.now ≡ built.now.g1 }
     requires lexical { IsCheckedLexical built.now.l0 lexical.now }
-    ensures ok { IfOk result (λ parts. AreParts built.now parts.flat parts.lexical parts.abilities.items) }
+    ensures ok { IfOk result (λ parts. AreParts built.now parts.flat parts.lexical
+        parts.abilities.items) }
     ensures err { IfErr result (IsFault built.now) }
 {
     structural.known();
@@ -137,7 +139,8 @@ fn flat_parts(
 /// Checks the lexical grammar, too.
 fn with_lexical(alloc: Global, built: &Built, structural: &Checked<'_>) -> Result<Parts, Fault>
     requires { structural.now ≡ built.now.g1 }
-    ensures ok { IfOk result (λ parts. AreParts built.now parts.flat parts.lexical parts.abilities.items) }
+    ensures ok { IfOk result (λ parts. AreParts built.now parts.flat parts.lexical
+        parts.abilities.items) }
     ensures err { IfErr result (IsFault built.now) }
 {
     structural.known();
@@ -147,7 +150,8 @@ fn with_lexical(alloc: Global, built: &Built, structural: &Checked<'_>) -> Resul
 
 /// Checks the structural grammar, then the lexical one, and flattens them in the same order.
 pub fn parts_of(alloc: Global, built: &Built) -> Result<Parts, Fault>
-    ensures ok { IfOk result (λ parts. AreParts built.now parts.flat parts.lexical parts.abilities.items) }
+    ensures ok { IfOk result (λ parts. AreParts built.now parts.flat parts.lexical
+        parts.abilities.items) }
     ensures err { IfErr result (IsFault built.now) }
 {
     let structural = checked(alloc, &built.g1, false)?;

@@ -106,8 +106,10 @@ fn refusal_of(built: Built, fault: Fault) -> PrepareRefusal
 // What is made of the grammars once, where they are accepted.
 fn tables_of(alloc: Global, built: &Built) -> Result<(Parts, Lookups), Fault>
     requires { IsBuilt built.now }
-    ensures parts { IfOk result (λ made. AreParts built.now made.0.flat made.0.lexical made.0.abilities.items) }
-    ensures lookups { IfOk result (λ made. AreLookups built.now made.1.always.items made.1.starts.items) }
+    ensures parts { IfOk result (λ made. AreParts built.now made.0.flat made.0.lexical
+        made.0.abilities.items) }
+    ensures lookups { IfOk result (λ made. AreLookups built.now made.1.always.items
+        made.1.starts.items) }
     ensures err { IfErr result (IsFault built.now) }
 {
     let parts = parts_of(alloc, built)?;
@@ -197,7 +199,8 @@ impl Prepared {
     /// Whether some slot of the symbol stands in a tree of a start.
     pub fn accessible(&self, s: SymbolId) -> bool
         requires { s < length self.now.g1.names }
-        ensures { IsTrue result ↔ ((l : ℕ) × IsAccessible self.now.g1 (record { symbol = s; level = l })) }
+        ensures { IsTrue result ↔
+            ((l : ℕ) × IsAccessible self.now.g1 (record { symbol = s; level = l })) }
     {
         self.ability(s).accessible
     }

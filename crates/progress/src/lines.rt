@@ -99,7 +99,8 @@ fn lines_of(
 
 fn sort(lines: &mut Vec<ReportLine>) -> Result<(), AllocError>
     ensures sorted { OnOk result (IsStrictlySortedBy line_cmp lines.new.items) }
-    ensures same { OnOk result ((line : ReportLine) → Contains lines.new.items line ↔ Contains lines.old.items line) }
+    ensures same { OnOk result ((line : ReportLine) →
+        Contains lines.new.items line ↔ Contains lines.old.items line) }
 {
     lines.sort()?;
     lines.dedup();
@@ -115,7 +116,8 @@ pub fn report(
     j: u32,
 ) -> Result<Vec<ReportLine>, ProgressRefusal>
     requires { IsFlatOf recce.now.flat w.now }
-    ensures report { IfOk result (λ lines. IsFlatReport w.now recce.now.flat recce.now.edges recce.now.start j lines.items) }
+    ensures report { IfOk result (λ lines. IsFlatReport w.now recce.now.flat recce.now.edges
+        recce.now.start j lines.items) }
     ensures no_such_set { (result ≡ Err NoSuchSet) ↔ (earleme_of recce.now < j) }
 {
     if j > recce.place() {

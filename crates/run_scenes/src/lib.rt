@@ -107,7 +107,9 @@ impl Ended {
 
     /// Whether it ended so.
     pub fn is(&self, status: u8, out: &[u8], err: &[u8]) -> bool
-        ensures { IsTrue result ↔ ((self.now.status ≡ status) × (out_of self.now ≡ out.now) × (err_of self.now ≡ err.now)) }
+        ensures { IsTrue result ↔
+            ((self.now.status ≡ status) × (out_of self.now ≡ out.now) ×
+            (err_of self.now ≡ err.now)) }
     {
         self.status == status && self.out() == out && self.err() == err
     }
@@ -272,7 +274,8 @@ fn status_of<L: Ledger>(
     requires parts { blank.parts ≡ L.parts }
     requires some { 0 < blank.parts }
     requires tellers { AreBothTellers (states tellers.items shows held) }
-    ensures { Runs (map string_bytes words.now) (outside_of files.old input.old out.old err.old) (outside_of files.new input.new out.new err.new) result }
+    ensures { Runs (map string_bytes words.now) (outside_of files.old input.old out.old err.old)
+        (outside_of files.new input.new out.new err.new) result }
 {
     let mut steps = Steps::<L>::of_blank(blank);
     run(alloc, words, files, input, out, err, tellers, &mut steps)
@@ -285,7 +288,8 @@ pub fn run_with(
     tellers: Vec<Box<dyn Teller>>,
 ) -> Result<Ended, AllocError>
     requires { AreBothTellers (states tellers.items shows held) }
-    ensures { IfOk result (λ end. Runs (texts_of given.now.words.now) (before_of given.now) (after_of end) end.status) }
+    ensures { IfOk result (λ end. Runs (texts_of given.now.words.now) (before_of given.now)
+        (after_of end) end.status) }
 {
     let mut scene = scene_of(alloc, given)?;
     let status = status_of::<Brand>(

@@ -67,7 +67,8 @@ fn starts_of(alloc: Global, text: &str) -> Result<Vec<u32>, AllocError>
 
 /// Where each character begins, and where the text ends; none where each character is one byte.
 fn known_starts(alloc: Global, text: &str) -> Result<Option<Vec<u32>>, AllocError>
-    ensures { IfOk result (λ known. MatchOption known (IsAscii text.now) (λ starts. starts.items ≡ starts_from 0 (chars text.now))) }
+    ensures { IfOk result (λ known. MatchOption known (IsAscii text.now) (λ starts. starts.items ≡
+        starts_from 0 (chars text.now))) }
 {
     if text.is_ascii() {
         return Ok(None);

@@ -74,7 +74,8 @@ impl<'a> Model for Analysis<'a> {
 fn number_of(bases: &[u32], s: u32, level: u32) -> Option<u32>
     requires known { s + 1 < length bases.now }
     requires rising { slice_index bases.now s < end_of bases.now s }
-    ensures some { IfSome result (λ x. (x ≡ slice_index bases.now s + level) × (x < end_of bases.now s)) }
+    ensures some { IfSome result (λ x. (x ≡ slice_index bases.now s + level) ×
+        (x < end_of bases.now s)) }
     ensures none { IsNone result → end_of bases.now s ≤ slice_index bases.now s + level }
 {
     let from = bases[s as usize];
@@ -91,7 +92,9 @@ fn last_use(bases: &[u32], s: u32) -> u32
     requires known { s + 1 < length bases.now }
     requires some { 0 < end_of bases.now s }
     requires order { end_of bases.now s ≤ slice_index bases.now (length bases.now - 1) }
-    requires small { slice_index bases.now (length bases.now - 1) + slice_index bases.now (length bases.now - 1) < 2 ^ 32 }
+    requires small { slice_index bases.now (length bases.now - 1) +
+        slice_index bases.now (length bases.now - 1) <
+        2 ^ 32 }
     ensures { result ≡ slice_index bases.now (length bases.now - 1) + (end_of bases.now s - 1) }
 {
     let total = bases[bases.len() - 1];
@@ -107,7 +110,8 @@ fn is_no_left(lefts: &[bool], s: u32) -> bool
 
 // The tables of a packed grammar.
 fn tables_of(alloc: Global, w: &Packed<'_>) -> Result<Tables, AllocError>
-    ensures { IfOk result (λ t. AreTables w.now t.bases.items t.lefts.items t.nullable t.productive t.reach) }
+    ensures { IfOk result (λ t. AreTables w.now t.bases.items t.lefts.items t.nullable t.productive
+        t.reach) }
 {
     w.known();
     let bases = bases_of(alloc, w)?;
@@ -126,7 +130,8 @@ fn tables_of(alloc: Global, w: &Packed<'_>) -> Result<Tables, AllocError>
 
 fn packed_tables(alloc: Global, w: &Written, levels: &Jagged<u32>) -> Result<Tables, AllocError>
     requires { IsLevelTable w.now levels.now }
-    ensures tables { IfOk result (λ t. AreTables (packed levels.now w.now) t.bases.items t.lefts.items t.nullable t.productive t.reach) }
+    ensures tables { IfOk result (λ t. AreTables (packed levels.now w.now) t.bases.items
+        t.lefts.items t.nullable t.productive t.reach) }
 {
     let packed = Packed { written: w, levels };
     tables_of(alloc, &packed)
@@ -234,7 +239,8 @@ impl<'a> Analysis<'a> {
     /// Whether some slot of the symbol stands in a tree of a start.
     pub fn accessible(&self, s: SymbolId) -> bool
         requires { s < length self.now.names }
-        ensures { IsTrue result ↔ ((l : ℕ) × IsAccessible self.now (record { symbol = s; level = l })) }
+        ensures { IsTrue result ↔
+            ((l : ℕ) × IsAccessible self.now (record { symbol = s; level = l })) }
     {
         let x = last_use(&self.tables.bases, s.0);
         self.tables.reach.has(x)
@@ -244,10 +250,15 @@ impl<'a> Analysis<'a> {
     pub fn slots(&self) -> Slots<'_>
         ensures levels { IsLevelTable self.now result.levels.now }
         ensures numbering { IsNumbering (packed result.levels.now self.now) result.bases.now }
-        ensures nullable { IsAnalysis true (packed result.levels.now self.now) result.bases.now result.nullable.now }
-        ensures productive { IsAnalysis false (packed result.levels.now self.now) result.bases.now result.productive.now }
-        ensures reach { IsReach (packed result.levels.now self.now) result.bases.now result.reach.now }
-        ensures small { slice_index result.bases.now (length self.now.names) + slice_index result.bases.now (length self.now.names) < 2 ^ 32 }
+        ensures nullable { IsAnalysis true (packed result.levels.now self.now) result.bases.now
+            result.nullable.now }
+        ensures productive { IsAnalysis false (packed result.levels.now self.now) result.bases.now
+            result.productive.now }
+        ensures reach { IsReach (packed result.levels.now self.now) result.bases.now
+            result.reach.now }
+        ensures small { slice_index result.bases.now (length self.now.names) +
+            slice_index result.bases.now (length self.now.names) <
+            2 ^ 32 }
     {
         Slots {
             levels: &self.levels,

@@ -13,7 +13,8 @@ use std::alloc::{AllocError, Global};
 pub fn head_number(w: &Packed<'_>, bases: &[u32], i: usize) -> u32
     requires rule { i < length w.now.rules }
     requires numbering { IsNumbering w.now bases.now }
-    ensures { result ≡ slice_index bases.now (lhs_of (rule_at w.now i)) + level_of (rule_at w.now i) }
+    ensures { result ≡
+        slice_index bases.now (lhs_of (rule_at w.now i)) + level_of (rule_at w.now i) }
 {
     w.known();
     let symbol = w.left_of(i) as usize;
@@ -45,7 +46,8 @@ fn put_body(
 ) -> Result<(), AllocError>
     requires rule { i < length w.now.rules }
     requires numbering { IsNumbering w.now bases.now }
-    ensures { OnOk result (body.new.items ≡ (rule_clause separators bases.now (rule_at w.now i)).body) }
+    ensures { OnOk result (body.new.items ≡
+        (rule_clause separators bases.now (rule_at w.now i)).body) }
 {
     body.clear();
     for k in 0..w.count_at(i, separators) {
@@ -63,7 +65,8 @@ pub fn push_rules(
     clauses: &mut Clauses,
 ) -> Result<(), AllocError>
     requires { IsNumbering w.now bases.now }
-    ensures { OnOk result (clauses.new ≡ clauses.old ++ map (rule_clause separators bases.now) w.now.rules) }
+    ensures { OnOk result (clauses.new ≡
+        clauses.old ++ map (rule_clause separators bases.now) w.now.rules) }
 {
     let mut body = Vec::new(alloc);
     for i in 0..w.rule_count() {
@@ -76,7 +79,8 @@ pub fn push_rules(
 // One clause, which takes a number to the one before it.
 fn push_link(next: u32, clauses: &mut Clauses) -> Result<(), AllocError>
     requires { 0 < next }
-    ensures { OnOk result (clauses.new ≡ clauses.old ++ record { head = next - 1; body = next ∷ [] } ∷ []) }
+    ensures { OnOk result (clauses.new ≡
+        clauses.old ++ record { head = next - 1; body = next ∷ [] } ∷ []) }
 {
     clauses.push(next - 1, &[next])
 }
@@ -105,7 +109,8 @@ fn push_levels(w: &Packed<'_>, bases: &[u32], clauses: &mut Clauses) -> Result<(
 /// Whether each symbol is the left side of a rule.
 pub fn lefts_of(alloc: Global, w: &Packed<'_>) -> Result<Vec<bool>, AllocError>
     ensures length { IfOk result (λ lefts. length lefts.items ≡ length w.now.names) }
-    ensures left { IfOk result (λ lefts. (s : ℕ) → IsTrue (slice_index_or lefts.items s false) ↔ IsLeft w.now s) }
+    ensures left { IfOk result (λ lefts. (s : ℕ) →
+        IsTrue (slice_index_or lefts.items s false) ↔ IsLeft w.now s) }
 {
     let mut lefts = vec![in alloc; false; w.symbol_count()]?;
     for i in 0..w.rule_count() {
@@ -134,7 +139,8 @@ fn push_terminals(
 ) -> Result<(), AllocError>
     requires numbering { IsNumbering w.now bases.now }
     requires lefts { length lefts.now ≡ length w.now.names }
-    ensures { OnOk result (HasTerminals bases.now lefts.now (length w.now.names) clauses.old clauses.new) }
+    ensures { OnOk result (HasTerminals bases.now lefts.now (length w.now.names) clauses.old
+        clauses.new) }
 {
     for s in 0..w.symbol_count() {
         if !lefts[s] {

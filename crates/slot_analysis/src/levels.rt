@@ -34,7 +34,8 @@ pub fn is_level(levels: &[u32], level: u32) -> bool
 
 fn sort(levels: &mut Vec<u32>) -> Result<(), AllocError>
     ensures sorted { OnOk result (IsStrictlyIncreasing levels.new.items) }
-    ensures same { OnOk result ((l : ℕ) → Contains levels.new.items l ↔ Contains levels.old.items l) }
+    ensures same { OnOk result ((l : ℕ) →
+        Contains levels.new.items l ↔ Contains levels.old.items l) }
 {
     levels.sort()?;
     levels.dedup();
@@ -80,7 +81,8 @@ fn push_firsts(rows: &mut Gathered) -> Result<(), AllocError>
 fn push_rule(rule: &WrittenRule, rows: &mut Gathered) -> Result<(), AllocError>
     requires row { lhs_of (rule_of rule.now) < length rows.old }
     requires level { level_of (rule_of rule.now) < groups_of (rule_of rule.now) }
-    ensures { OnOk result (HasBoth rows.old rows.new (lhs_of (rule_of rule.now)) (level_of (rule_of rule.now))) }
+    ensures { OnOk result (HasBoth rows.old rows.new (lhs_of (rule_of rule.now))
+        (level_of (rule_of rule.now))) }
 {
     // A level is below its groups, so there is a next one.
     let _groups = rule.groups();

@@ -10,8 +10,10 @@ use std::alloc::{AllocError, Global};
 // How many levels each symbol has a number for.
 fn rooms_of(alloc: Global, w: &Packed<'_>) -> Result<Vec<u32>, AllocError>
     ensures length { IfOk result (λ rooms. length rooms.items ≡ length w.now.names) }
-    ensures some { IfOk result (λ rooms. (s : ℕ) → s < length w.now.names → 0 < slice_index rooms.items s) }
-    ensures rules { IfOk result (λ rooms. (i : ℕ) → i < length w.now.rules → groups_of (rule_at w.now i) ≤ slice_index rooms.items (lhs_of (rule_at w.now i))) }
+    ensures some { IfOk result (λ rooms. (s : ℕ) → s < length w.now.names →
+        0 < slice_index rooms.items s) }
+    ensures rules { IfOk result (λ rooms. (i : ℕ) → i < length w.now.rules →
+        groups_of (rule_at w.now i) ≤ slice_index rooms.items (lhs_of (rule_at w.now i))) }
 {
     let mut rooms = vec![in alloc; 1u32; w.symbol_count()]?;
     for i in 0..w.rule_count() {
@@ -26,7 +28,8 @@ fn rooms_of(alloc: Global, w: &Packed<'_>) -> Result<Vec<u32>, AllocError>
 fn sums_of(alloc: Global, rooms: &[u32]) -> Result<Vec<u32>, AllocError>
     ensures length { IfOk result (λ sums. length sums.items ≡ suc (length rooms.now)) }
     ensures begin { IfOk result (λ sums. slice_index sums.items 0 ≡ 0) }
-    ensures steps { IfOk result (λ sums. (s : ℕ) → s < length rooms.now → slice_index sums.items (suc s) ≡ slice_index sums.items s + slice_index rooms.now s) }
+    ensures steps { IfOk result (λ sums. (s : ℕ) → s < length rooms.now →
+        slice_index sums.items (suc s) ≡ slice_index sums.items s + slice_index rooms.now s) }
 {
     let mut sums = Vec::new(alloc);
     let mut sum = 0u32;

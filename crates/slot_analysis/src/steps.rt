@@ -27,7 +27,8 @@ fn push_fact(x: u32, clauses: &mut Clauses) -> Result<(), AllocError>
 // The slots of the starts are facts.
 fn push_starts(w: &Packed<'_>, bases: &[u32], clauses: &mut Clauses) -> Result<(), AllocError>
     requires { IsNumbering w.now bases.now }
-    ensures { OnOk result (HasMore clauses.old clauses.new (IsOfStart w.now bases.now (length w.now.starts))) }
+    ensures { OnOk result (HasMore clauses.old clauses.new (IsOfStart w.now bases.now
+        (length w.now.starts))) }
 {
     for k in 0..w.start_count() {
         let x = start_number(w, bases, k);
@@ -78,7 +79,8 @@ fn push_nexts(
     requires numbering { IsNumbering w.now bases.now }
     requires total { total ≡ slice_index bases.now (length w.now.names) }
     requires small { total + total < 2 ^ 32 }
-    ensures { OnOk result (HasMore clauses.old clauses.new (IsOfNexts bases.now total (length w.now.names))) }
+    ensures { OnOk result (HasMore clauses.old clauses.new (IsOfNexts bases.now total
+        (length w.now.names))) }
 {
     for s in 0..w.symbol_count() {
         push_next(total, bases[s], bases[s + 1], clauses)?;
@@ -116,7 +118,8 @@ fn push_part(
     requires productive { IsAnalysis false w.now bases.now productive.now }
     requires total { total ≡ slice_index bases.now (length w.now.names) }
     requires small { total + total < 2 ^ 32 }
-    ensures { OnOk result (HasMore clauses.old clauses.new (IsOfPart w.now bases.now total i (slot_count (rule_at w.now i)))) }
+    ensures { OnOk result (HasMore clauses.old clauses.new (IsOfPart w.now bases.now total i (slot_count (rule_at
+        w.now i)))) }
 {
     w.known();
     let head = head_number(w, bases, i);
@@ -140,7 +143,8 @@ fn push_parts(
     requires productive { IsAnalysis false w.now bases.now productive.now }
     requires total { total ≡ slice_index bases.now (length w.now.names) }
     requires small { total + total < 2 ^ 32 }
-    ensures { OnOk result (HasMore clauses.old clauses.new (IsOfParts w.now bases.now total (length w.now.rules))) }
+    ensures { OnOk result (HasMore clauses.old clauses.new (IsOfParts w.now bases.now total
+        (length w.now.rules))) }
 {
     for i in 0..w.rule_count() {
         if is_live(w, bases, productive, i) {
@@ -181,7 +185,8 @@ fn steps_of(
     requires productive { IsAnalysis false w.now bases.now productive.now }
     requires total { total ≡ slice_index bases.now (length w.now.names) }
     requires small { total + total < 2 ^ 32 }
-    ensures { IfOk result (λ clauses. (c : Clause) → Contains clauses c ↔ IsStep w.now bases.now total c) }
+    ensures { IfOk result (λ clauses. (c : Clause) →
+        Contains clauses c ↔ IsStep w.now bases.now total c) }
 {
     let mut clauses = Clauses::new(alloc);
     push_steps(w, bases, productive, total, &mut clauses)?;
@@ -198,7 +203,9 @@ pub fn reach_of(
     requires numbering { IsNumbering w.now bases.now }
     requires productive { IsAnalysis false w.now bases.now productive.now }
     ensures reach { IfOk result (λ found. IsReach w.now bases.now found) }
-    ensures small { IfOk result (λ _. slice_index bases.now (length w.now.names) + slice_index bases.now (length w.now.names) < 2 ^ 32) }
+    ensures small { IfOk result (λ _. slice_index bases.now (length w.now.names) +
+        slice_index bases.now (length w.now.names) <
+        2 ^ 32) }
 {
     let total = bases[w.symbol_count()];
     if total > u32::MAX / 2 {

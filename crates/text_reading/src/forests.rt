@@ -33,10 +33,19 @@ pub fn forest_of<'r, L: Ledger>(
     steps: &mut Steps<L>,
 ) -> Result<Forest<'r>, Refusal>
     requires few { length chars.now ≤ LONGEST_INPUT }
-    requires read { IsReadingOf prepared.now chars.now reading.now.recce reading.now.spans.items End }
-    ensures forest { IfOk result (λ f. HasForest prepared.now ranking chars.now reading.now.spans.items f) }
+    requires read { IsReadingOf prepared.now chars.now reading.now.recce reading.now.spans.items
+        End }
+    ensures forest { IfOk result (λ f. HasForest prepared.now ranking chars.now
+        reading.now.spans.items f) }
     ensures refused { IfErr result (TellsInput (IsNoDerivation prepared.now ranking chars.now)) }
-    ensures counted { (n : ℕ) → IsCountOf (IsExpanded reading.now.recce.flat (edges_of reading.now.recce) (allowed_by prepared.now.g1 ranking reading.now.recce.flat (edges_of reading.now.recce)) (top_of reading.now.recce) (earleme_of reading.now.recce)) n → steps.new ≤ steps.old + n }
+    ensures counted { (n : ℕ) →
+        IsCountOf
+        (IsExpanded reading.now.recce.flat (edges_of reading.now.recce)
+        (allowed_by prepared.now.g1 ranking reading.now.recce.flat
+        (edges_of reading.now.recce))
+        (top_of reading.now.recce) (earleme_of reading.now.recce))
+        n →
+        steps.new ≤ steps.old + n }
 {
     trees_are_derivations();
     prepared.known();
@@ -65,7 +74,9 @@ fn no_derivation(
     reading: &Reading<'_>,
 ) -> Result<Refusal, AllocError>
     requires { HoldsSome prepared.now reading.now.recce }
-    ensures { IfOk result (TellsInput (λ text place expected. AreExpectedOf prepared.now reading.now.recce expected × (text ≡ no_derivation_text prepared.now.g1 expected) × (place ≡ None))) }
+    ensures { IfOk result (TellsInput (λ text place expected. AreExpectedOf prepared.now
+        reading.now.recce expected ×
+        (text ≡ no_derivation_text prepared.now.g1 expected) × (place ≡ None))) }
 {
     prepared.known();
     let expected = expected_lexemes(alloc, prepared, &reading.recce)?;

@@ -129,7 +129,12 @@ fn accept(alloc: Global, chars: &Chars, description: &Description) -> Result<Pre
 // The refusal of a description that has a fault.
 fn tell_description(alloc: Global, chars: &Chars, refusal: &BuildRefusal) -> Refusal
     requires { length chars.now < 4294967295 }
-    ensures { TellsGrammar (λ text place. IsFaultText chars.now (refused_fault refusal.now) text × (place ≡ option_map (λ fault. place_in chars.now (fault_at fault)) (refused_fault refusal.now))) result }
+    ensures { TellsGrammar
+        (λ text place. IsFaultText chars.now (refused_fault refusal.now) text ×
+        (place ≡
+        option_map (λ fault. place_in chars.now (fault_at fault))
+        (refused_fault refusal.now)))
+        result }
 {
     match description_text(alloc, chars, refusal) {
         Ok(text) => Refusal::Grammar {
@@ -145,7 +150,8 @@ fn prepare_built(alloc: Global, built: Built) -> Result<Prepared, Refusal>
     requires { IsBuilt built }
     ensures same { IfOk result (λ p. p ≡ built) }
     ensures accepted { OnOk result (IsAccepted built) }
-    ensures refused { IfErr result (TellsGrammar (λ text place. IsGrammarText built text × (place ≡ None))) }
+    ensures refused { IfErr result (TellsGrammar (λ text place. IsGrammarText built text ×
+        (place ≡ None))) }
 {
     match prepare(alloc, built) {
         Ok(prepared) => Ok(prepared),
@@ -160,7 +166,8 @@ fn prepare_built(alloc: Global, built: Built) -> Result<Prepared, Refusal>
 // The refusal of grammars that are not accepted.
 fn tell_grammars(alloc: Global, refusal: &PrepareRefusal) -> Refusal
     requires { (b : Built) × IsRefusal b refusal.now }
-    ensures { (b : Built) → IsRefusal b refusal.now → TellsGrammar (λ text place. IsGrammarText b text × (place ≡ None)) result }
+    ensures { (b : Built) → IsRefusal b refusal.now →
+        TellsGrammar (λ text place. IsGrammarText b text × (place ≡ None)) result }
 {
     match grammars_text(alloc, refusal) {
         Ok(text) => Refusal::Grammar { text, place: None },

@@ -29,7 +29,8 @@ pub fn long_input_text(alloc: Global) -> Result<Vec<u8>, AllocError>
 
 /// The refusal of an input that is longer than 16,777,216 bytes.
 pub fn input_too_long(alloc: Global) -> Refusal
-    ensures { (bytes : List ℕ) (b : Built) → LONGEST_INPUT < length bytes → TellsInput (IsInputRefusedAt b bytes) result }
+    ensures { (bytes : List ℕ) (b : Built) → LONGEST_INPUT < length bytes →
+        TellsInput (IsInputRefusedAt b bytes) result }
 {
     match long_input_text(alloc) {
         Ok(text) => Refusal::Input {
@@ -88,7 +89,8 @@ fn ended(
     reading: &Reading<'_>,
 ) -> Result<(), Refusal>
     requires few { length chars.now ≤ LONGEST_INPUT }
-    requires read { IsReadingOf prepared.now chars.now reading.now.recce reading.now.spans.items reading.now.ending }
+    requires read { IsReadingOf prepared.now chars.now reading.now.recce reading.now.spans.items
+        reading.now.ending }
     ensures end { OnOk result (reading.now.ending ≡ End) }
     ensures refused { IfErr result (TellsInput (IsStopText prepared.now chars.now)) }
 {
@@ -121,7 +123,8 @@ fn stopped_text(
     requires few { length chars.now ≤ LONGEST_INPUT }
     requires found { All (λ s. s < length w.now.names) found.now }
     requires expected { All (λ s. s < length w.now.names) expected.now }
-    ensures { IfOk result (λ text. text.items ≡ stop_text w.now chars.now at found.now expected.now) }
+    ensures { IfOk result (λ text. text.items ≡
+        stop_text w.now chars.now at found.now expected.now) }
 {
     let mut text = phrase(alloc, b"input stopped", "", b"", chars, at)?;
     text.extend_from_slice(b"; found: ")?;
@@ -154,7 +157,8 @@ fn append_name(w: &Written, symbol: SymbolId, text: &mut Vec<u8>) -> Result<(), 
 
 fn append_next(w: &Written, symbol: SymbolId, text: &mut Vec<u8>) -> Result<(), AllocError>
     requires { symbol < length w.now.names }
-    ensures { OnOk result (text.new.items ≡ text.old.items ++ (codes ", " ++ name_of w.now symbol)) }
+    ensures { OnOk result (text.new.items ≡
+        text.old.items ++ (codes ", " ++ name_of w.now symbol)) }
 {
     text.extend_from_slice(b", ")?;
     append_name(w, symbol, text)
@@ -162,7 +166,8 @@ fn append_next(w: &Written, symbol: SymbolId, text: &mut Vec<u8>) -> Result<(), 
 
 fn append_others(w: &Written, symbols: &[SymbolId], text: &mut Vec<u8>) -> Result<(), AllocError>
     requires { All (λ s. s < length w.now.names) symbols.now }
-    ensures { OnOk result (text.new.items ≡ text.old.items ++ flat_map (λ s. codes ", " ++ name_of w.now s) symbols.now) }
+    ensures { OnOk result (text.new.items ≡
+        text.old.items ++ flat_map (λ s. codes ", " ++ name_of w.now s) symbols.now) }
 {
     for symbol in symbols {
         append_next(w, *symbol, text)?;

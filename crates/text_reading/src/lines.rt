@@ -7,7 +7,8 @@ use std::alloc::AllocError;
 
 /// Appends the characters of a text as they stand in a message: one that controls a terminal or ends a line is escaped.
 pub fn append_in_line(text: &str, line: &mut String) -> Result<(), AllocError>
-    ensures { OnOk result (string_bytes line.new ≡ string_bytes line.old ++ flat_map in_line (chars text.now)) }
+    ensures { OnOk result (string_bytes line.new ≡
+        string_bytes line.old ++ flat_map in_line (chars text.now)) }
 {
     for c in text.chars() {
         append_char(c, line)?;

@@ -19,7 +19,8 @@ use std::alloc::{AllocError, Global};
 
 /// What is told of bytes that are not UTF-8 from a place on. The words in front say of what.
 pub fn not_utf8_text(alloc: Global, of: &str, at: usize) -> Result<Vec<u8>, AllocError>
-    ensures { IfOk result (λ text. text.items ≡ of.now ++ (codes " not UTF-8 at byte " ++ decimal at)) }
+    ensures { IfOk result (λ text. text.items ≡
+        of.now ++ (codes " not UTF-8 at byte " ++ decimal at)) }
 {
     let text = format!(in alloc; "{of} not UTF-8 at byte {at}")?;
     Ok(text.into_bytes())
@@ -44,7 +45,8 @@ pub fn phrase(
     at: usize,
 ) -> Result<Vec<u8>, AllocError>
     requires { length chars.now < 4294967295 }
-    ensures { IfOk result (λ text. text.items ≡ before.now ++ (name.now ++ (after.now ++ at_place chars.now at))) }
+    ensures { IfOk result (λ text. text.items ≡
+        before.now ++ (name.now ++ (after.now ++ at_place chars.now at))) }
 {
     let Place { line, column } = place_in(chars, at);
     let place = format!(in alloc; " at line {line} column {column}")?;
@@ -100,7 +102,8 @@ pub fn description_text(
 /// Where a fault of the description lies.
 pub fn description_place(chars: &Chars, refusal: &BuildRefusal) -> Option<Place>
     requires { length chars.now < 4294967295 }
-    ensures { result ≡ option_map (λ fault. place_in chars.now (fault_at fault)) (refused_fault refusal.now) }
+    ensures { result ≡
+        option_map (λ fault. place_in chars.now (fault_at fault)) (refused_fault refusal.now) }
 {
     match refusal {
         BuildRefusal::BadAdverb { at, .. }
@@ -143,7 +146,8 @@ fn rules_text(alloc: Global, lexical: bool) -> Result<Vec<u8>, AllocError>
 /// Grammars that are not accepted.
 pub fn grammars_text(alloc: Global, refusal: &PrepareRefusal) -> Result<Vec<u8>, AllocError>
     requires { (b : Built) × IsRefusal b refusal.now }
-    ensures { IfOk result (λ text. (b : Built) → IsRefusal b refusal.now → IsGrammarText b text.items) }
+    ensures { IfOk result (λ text. (b : Built) → IsRefusal b refusal.now →
+        IsGrammarText b text.items) }
 {
     match refusal {
         PrepareRefusal::Grammar { w, refusal } => check_text(alloc, b"grammar: ", w, refusal),

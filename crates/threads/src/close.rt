@@ -85,7 +85,9 @@ fn list_predicted(
     symbol: u32,
     next: &mut Vec<Thread>,
 ) -> Result<(), AllocFailed<Thread>>
-    ensures { OnOk result ((other : AThread) → Contains next.new.items other ↔ (Contains next.old.items other ⊎ IsBegun flat.now symbol other)) }
+    ensures { OnOk result ((other : AThread) →
+        Contains next.new.items other ↔
+        (Contains next.old.items other ⊎ IsBegun flat.now symbol other)) }
 {
     let rules = flat.rules_of(symbol);
     list_rules(rules.start, rules.end, next)
@@ -161,7 +163,8 @@ pub fn close(
     requires set { AreThreads flat.now (length parts.now) set.old.keys }
     requires parts { AreParts flat.now parts.now }
     ensures threads { OnOk result (AreThreads flat.now (length parts.now) set.new.keys) }
-    ensures begins { OnOk result ((th : AThread) → Contains set.old.keys th → Contains set.new.keys th) }
+    ensures begins { OnOk result ((th : AThread) → Contains set.old.keys th →
+        Contains set.new.keys th) }
     ensures closed { OnOk result (IsClosedIn flat.now parts.now set.old.keys set.new.keys) }
 {
     for k in 0..usize::MAX {

@@ -84,7 +84,8 @@ fn only_waiting(flat: &Flat, row: &[Thread], symbol: u32) -> Option<Thread>
 // The only thread that waits for the symbol, if that is its last part, and it is of no start.
 fn lone(flat: &Flat, row: &[Thread], symbol: u32) -> Option<Thread>
     requires { (th : AThread) → Contains row.now th → IsRule flat.now th.rule }
-    ensures lone { IfSome result (λ th. (parts : List (List AThread)) → IsLoneIn flat.now parts (Waiting flat.now row.now) symbol th) }
+    ensures lone { IfSome result (λ th. (parts : List (List AThread)) →
+        IsLoneIn flat.now parts (Waiting flat.now row.now) symbol th) }
     ensures there { IfSome result (Contains row.now) }
 {
     let thread = only_waiting(flat, row, symbol)?;
@@ -99,7 +100,8 @@ fn lone(flat: &Flat, row: &[Thread], symbol: u32) -> Option<Thread>
 fn lone_ordered(flat: &Flat, row: &[Thread], ordered: &[Thread], symbol: u32) -> Option<Thread>
     requires rules { (th : AThread) → Contains row.now th → IsRule flat.now th.rule }
     requires order { IsOrderOf flat.now row.now ordered.now }
-    ensures lone { IfSome result (λ th. (parts : List (List AThread)) → IsLoneIn flat.now parts (Waiting flat.now row.now) symbol th) }
+    ensures lone { IfSome result (λ th. (parts : List (List AThread)) →
+        IsLoneIn flat.now parts (Waiting flat.now row.now) symbol th) }
     ensures there { IfSome result (Contains row.now) }
 {
     lone(flat, waiting(flat, ordered, symbol), symbol)

@@ -41,8 +41,10 @@ pub fn list_ordered(alloc: Global, flat: &Flat, row: &[Thread]) -> Result<Vec<Th
 fn below(flat: &Flat, ordered: &[Thread], symbol: u64) -> usize
     requires { IsInOrder flat.now ordered.now }
     ensures bound { result ≤ length ordered.now }
-    ensures below { (k : ℕ) (d : AThread) → k < result → awaited flat.now (slice_index_or ordered.now k d) < symbol }
-    ensures above { (k : ℕ) (d : AThread) → result ≤ k → k < length ordered.now → symbol ≤ awaited flat.now (slice_index_or ordered.now k d) }
+    ensures below { (k : ℕ) (d : AThread) → k < result →
+        awaited flat.now (slice_index_or ordered.now k d) < symbol }
+    ensures above { (k : ℕ) (d : AThread) → result ≤ k → k < length ordered.now →
+        symbol ≤ awaited flat.now (slice_index_or ordered.now k d) }
 {
     ordered.partition_point(|thread| awaited_by(flat, *thread) < symbol)
 }
@@ -58,7 +60,8 @@ fn between(threads: &[Thread], start: usize, end: usize) -> &[Thread]
 /// The threads that wait for a symbol.
 pub fn waiting<'r>(flat: &Flat, ordered: &'r [Thread], symbol: u32) -> &'r [Thread]
     requires { IsInOrder flat.now ordered.now }
-    ensures { (th : AThread) → Contains result.now th ↔ (Contains ordered.now th × (next flat.now th ≡ Some symbol)) }
+    ensures { (th : AThread) →
+        Contains result.now th ↔ (Contains ordered.now th × (next flat.now th ≡ Some symbol)) }
 {
     let low = symbol as u64;
     let start = below(flat, ordered, low);

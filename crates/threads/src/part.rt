@@ -91,7 +91,10 @@ fn list_all_waiting(
 ) -> Result<(), AllocError>
     requires order { IsInOrder flat.now ordered.now }
     requires empty { part.old.items ≡ [] }
-    ensures { OnOk result ((th : AThread) → Contains part.new.items th ↔ (Contains ordered.now th × ((x : ℕ) × (next flat.now th ≡ Some x) × Contains goals.now x))) }
+    ensures { OnOk result ((th : AThread) →
+        Contains part.new.items th ↔
+        (Contains ordered.now th ×
+        ((x : ℕ) × (next flat.now th ≡ Some x) × Contains goals.now x))) }
 {
     for goal in goals {
         list_waiting(flat, ordered, *goal, part)?;
@@ -115,7 +118,8 @@ fn list_part(
 ) -> Result<Vec<Thread>, AllocError>
     requires rules { (th : AThread) → Contains row.now th → IsRule flat.now th.rule }
     requires order { IsOrderOf flat.now row.now ordered.now }
-    ensures inside { IfOk result (λ part. (th : AThread) → Contains part.items th → Contains row.now th) }
+    ensures inside { IfOk result (λ part. (th : AThread) → Contains part.items th →
+        Contains row.now th) }
     ensures part { IfOk result (λ part. IsPartList flat.now row.now part.items symbol) }
 {
     let mut goals = vec![in alloc; symbol]?;
@@ -141,7 +145,8 @@ fn part_for(
     ensures grown { IsGrown parts.old parts.new }
     ensures parts { AreParts flat.now parts.new }
     ensures there { IfOk result (λ s. s < length parts.new) }
-    ensures part { IfOk result (λ s. (later : List (List AThread)) → IsGrown parts.new later → IsPartIn flat.now later (Waiting flat.now row.now) s symbol) }
+    ensures part { IfOk result (λ s. (later : List (List AThread)) → IsGrown parts.new later →
+        IsPartIn flat.now later (Waiting flat.now row.now) s symbol) }
 {
     let part = list_part(alloc, flat, row, ordered, symbol)?;
     let number = parts.number(part)?;
@@ -163,7 +168,8 @@ pub fn label_for(
     ensures grown { IsGrown parts.old parts.new }
     ensures parts { AreParts flat.now parts.new }
     ensures there { IfOk result (λ l. l.part < length parts.new) }
-    ensures folds { IfOk result (λ l. (later : List (List AThread)) → IsGrown parts.new later → FoldsIn flat.now later (Waiting flat.now row.now) symbol l) }
+    ensures folds { IfOk result (λ l. (later : List (List AThread)) → IsGrown parts.new later →
+        FoldsIn flat.now later (Waiting flat.now row.now) symbol l) }
 {
     match fold_ordered(flat, row, ordered, symbol) {
         Folded::Up(label) => Ok(label),

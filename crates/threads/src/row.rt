@@ -18,7 +18,8 @@ use std::alloc::{AllocError, Global};
 // Whether a row keeps the thread: it waits, or is of a start.
 fn is_kept(flat: &Flat, thread: Thread) -> bool
     requires { IsRule flat.now thread.rule }
-    ensures { IsTrue result ↔ (((x : ℕ) × (next flat.now thread ≡ Some x)) ⊎ IsTopRule flat.now thread.rule) }
+    ensures { IsTrue result ↔
+        (((x : ℕ) × (next flat.now thread ≡ Some x)) ⊎ IsTopRule flat.now thread.rule) }
 {
     next_symbol(flat, thread).is_some() || is_start(flat, thread.rule)
 }
@@ -55,7 +56,10 @@ fn list_closed(
     requires seeds { AreThreads flat.now (length parts.now) seeds.now }
     requires empty { set.old.keys ≡ [] }
     ensures threads { OnOk result (AreThreads flat.now (length parts.now) row.new.items) }
-    ensures closed { OnOk result ((set : List AThread) × IsClosedIn flat.now parts.now seeds.now set × ((th : AThread) → Contains seeds.now th → Contains set th) × Keeps flat.now set row.new.items) }
+    ensures closed { OnOk result ((set : List AThread) ×
+        IsClosedIn flat.now parts.now seeds.now set ×
+        ((th : AThread) → Contains seeds.now th → Contains set th) ×
+        Keeps flat.now set row.new.items) }
 {
     add_threads(set, seeds)?;
     close(flat, parts, set, row)?;
@@ -74,7 +78,10 @@ fn row_of(
     requires parts { AreParts flat.now parts.now }
     requires seeds { AreThreads flat.now (length parts.now) seeds.now }
     ensures threads { OnOk result (AreThreads flat.now (length parts.now) row.new.items) }
-    ensures closed { OnOk result ((set : List AThread) × IsClosedIn flat.now parts.now seeds.now set × ((th : AThread) → Contains seeds.now th → Contains set th) × Keeps flat.now set row.new.items) }
+    ensures closed { OnOk result ((set : List AThread) ×
+        IsClosedIn flat.now parts.now seeds.now set ×
+        ((th : AThread) → Contains seeds.now th → Contains set th) ×
+        Keeps flat.now set row.new.items) }
 {
     let mut set = IndexSet::new(alloc);
     let listed = list_closed(flat, parts, seeds, &mut set, row);
@@ -85,7 +92,8 @@ fn row_of(
 // Lists the rules of starts, at their begin.
 fn list_starts(flat: &Flat, starts: &[u32], seeds: &mut Vec<Thread>) -> Result<(), AllocError>
     requires { (k : ℕ) → Contains starts.now k → k < length flat.now.tops }
-    ensures { OnOk result ((th : AThread) → Contains seeds.new.items th ↔ ((r : ℕ) × IsChosen flat.now starts.now r × (th ≡ begun r))) }
+    ensures { OnOk result ((th : AThread) →
+        Contains seeds.new.items th ↔ ((r : ℕ) × IsChosen flat.now starts.now r × (th ≡ begun r))) }
 {
     seeds.clear();
     for start in starts {
@@ -109,7 +117,8 @@ pub fn first_row(
     requires parts { AreParts flat.now parts.now }
     requires starts { (k : ℕ) → Contains starts.now k → k < length flat.now.tops }
     ensures threads { OnOk result (AreThreads flat.now (length parts.now) row.new.items) }
-    ensures begins { OnOk result ((set : List AThread) × IsBegin flat.now parts.now starts.now set row.new.items) }
+    ensures begins { OnOk result ((set : List AThread) ×
+        IsBegin flat.now parts.now starts.now set row.new.items) }
 {
     flat.known();
     let mut seeds = Vec::new(alloc);
@@ -131,7 +140,8 @@ pub fn next_row(
     ensures grown { IsGrown parts.old parts.new }
     ensures parts { AreParts flat.now parts.new }
     ensures threads { OnOk result (AreThreads flat.now (length parts.new) new.new.items) }
-    ensures steps { OnOk result ((set : List AThread) × IsNext flat.now parts.new (IsReadBy flat.now terminals.now) row.now set new.new.items) }
+    ensures steps { OnOk result ((set : List AThread) ×
+        IsNext flat.now parts.new (IsReadBy flat.now terminals.now) row.now set new.new.items) }
 {
     let mut seeds = Vec::new(alloc);
     scan(alloc, flat, parts, row, terminals, &mut seeds)?;

@@ -30,7 +30,8 @@ pub fn advanced(thread: Thread, label: Option<Label>) -> Thread
 // Whether the thread waits for one of the terminals.
 fn is_read(flat: &Flat, thread: Thread, terminals: &[SymbolId]) -> bool
     requires { IsRule flat.now thread.rule }
-    ensures read { IsTrue result ↔ ((x : ℕ) × (next flat.now thread ≡ Some x) × IsReadBy flat.now terminals.now x) }
+    ensures read { IsTrue result ↔
+        ((x : ℕ) × (next flat.now thread ≡ Some x) × IsReadBy flat.now terminals.now x) }
     ensures fits { IsTrue result → thread.dot + 1 < 2 ^ 32 }
 {
     match next_symbol(flat, thread) {
@@ -58,7 +59,8 @@ fn label_behind(
     ensures grown { IsGrown parts.old parts.new }
     ensures parts { AreParts flat.now parts.new }
     ensures there { IfOk result (λ l. l.part < length parts.new) }
-    ensures leaves { IfOk result (λ l. (later : List (List AThread)) → IsGrown parts.new later → LeavesIn flat.now later (Waiting flat.now row.now) thread l) }
+    ensures leaves { IfOk result (λ l. (later : List (List AThread)) → IsGrown parts.new later →
+        LeavesIn flat.now later (Waiting flat.now row.now) thread l) }
 {
     match thread.label {
         Some(label) => Ok(label),
@@ -72,7 +74,8 @@ fn label_behind(
 // Whether a thread begins in its row and waits for one of the terminals.
 fn is_read_here(flat: &Flat, thread: Thread, terminals: &[SymbolId]) -> bool
     requires { IsRule flat.now thread.rule }
-    ensures { ¬ IsTrue result → (x : ℕ) → thread.label ≡ None → next flat.now thread ≡ Some x → ¬ IsReadBy flat.now terminals.now x }
+    ensures { ¬ IsTrue result → (x : ℕ) → thread.label ≡ None → next flat.now thread ≡ Some x →
+        ¬ IsReadBy flat.now terminals.now x }
 {
     thread.label.is_none() && is_read(flat, thread, terminals)
 }
@@ -80,7 +83,8 @@ fn is_read_here(flat: &Flat, thread: Thread, terminals: &[SymbolId]) -> bool
 // Whether a thread that begins in a row waits for one of the terminals.
 fn is_read_at_begin(flat: &Flat, row: &[Thread], terminals: &[SymbolId]) -> bool
     requires { (th : AThread) → Contains row.now th → IsRule flat.now th.rule }
-    ensures { ¬ IsTrue result → (th : AThread) (x : ℕ) → Contains row.now th → th.label ≡ None → next flat.now th ≡ Some x → ¬ IsReadBy flat.now terminals.now x }
+    ensures { ¬ IsTrue result → (th : AThread) (x : ℕ) → Contains row.now th → th.label ≡ None →
+        next flat.now th ≡ Some x → ¬ IsReadBy flat.now terminals.now x }
 {
     for thread in row {
         if is_read_here(flat, *thread, terminals) {
@@ -98,7 +102,9 @@ fn list_ordered_for(
     terminals: &[SymbolId],
 ) -> Result<Vec<Thread>, AllocError>
     requires { (th : AThread) → Contains row.now th → IsRule flat.now th.rule }
-    ensures { IfOk result (λ ordered. (th : AThread) (x : ℕ) → Contains row.now th → th.label ≡ None → next flat.now th ≡ Some x → IsReadBy flat.now terminals.now x → IsOrderOf flat.now row.now ordered.items) }
+    ensures { IfOk result (λ ordered. (th : AThread) (x : ℕ) → Contains row.now th →
+        th.label ≡ None → next flat.now th ≡ Some x → IsReadBy flat.now terminals.now x →
+        IsOrderOf flat.now row.now ordered.items) }
 {
     if !is_read_at_begin(flat, row, terminals) {
         return Ok(Vec::new(alloc));
@@ -119,11 +125,14 @@ fn list_seeds(
 ) -> Result<(), AllocError>
     requires parts { AreParts flat.now parts.old }
     requires row { AreThreads flat.now (length parts.old) row.now }
-    requires order { (th : AThread) (x : ℕ) → Contains row.now th → th.label ≡ None → next flat.now th ≡ Some x → IsReadBy flat.now terminals.now x → IsOrderOf flat.now row.now ordered.now }
+    requires order { (th : AThread) (x : ℕ) → Contains row.now th → th.label ≡ None →
+        next flat.now th ≡ Some x → IsReadBy flat.now terminals.now x →
+        IsOrderOf flat.now row.now ordered.now }
     ensures grown { IsGrown parts.old parts.new }
     ensures parts { AreParts flat.now parts.new }
     ensures threads { OnOk result (AreThreads flat.now (length parts.new) seeds.new.items) }
-    ensures seeds { OnOk result ((later : List (List AThread)) → IsGrown parts.new later → AreSeeds flat.now later (IsReadBy flat.now terminals.now) row.now row.now seeds.new.items) }
+    ensures seeds { OnOk result ((later : List (List AThread)) → IsGrown parts.new later →
+        AreSeeds flat.now later (IsReadBy flat.now terminals.now) row.now row.now seeds.new.items) }
 {
     seeds.clear();
     for thread in row {
@@ -149,7 +158,8 @@ pub fn scan(
     ensures grown { IsGrown parts.old parts.new }
     ensures parts { AreParts flat.now parts.new }
     ensures threads { OnOk result (AreThreads flat.now (length parts.new) seeds.new.items) }
-    ensures seeds { OnOk result ((later : List (List AThread)) → IsGrown parts.new later → AreSeeds flat.now later (IsReadBy flat.now terminals.now) row.now row.now seeds.new.items) }
+    ensures seeds { OnOk result ((later : List (List AThread)) → IsGrown parts.new later →
+        AreSeeds flat.now later (IsReadBy flat.now terminals.now) row.now row.now seeds.new.items) }
 {
     let ordered = list_ordered_for(alloc, flat, row, terminals)?;
     let listed = list_seeds(alloc, flat, parts, row, &ordered, terminals, seeds);

@@ -18,7 +18,8 @@ pub(crate) fn split_first(text: &str) -> Option<(char, &str)>
 
 /// What is after a character, where a text begins with it.
 pub(crate) fn behind(c: char, text: &str) -> Option<&str>
-    ensures { MatchOption result (NeverBegins text.now (encode_utf8 c)) (λ rest. text.now ≡ encode_utf8 c ++ rest.now) }
+    ensures { MatchOption result (NeverBegins text.now (encode_utf8 c))
+        (λ rest. text.now ≡ encode_utf8 c ++ rest.now) }
 {
     let (first, rest) = split_first(text)?;
     if first == c { Some(rest) } else { None }
@@ -26,7 +27,8 @@ pub(crate) fn behind(c: char, text: &str) -> Option<&str>
 
 /// What a digit in base 16 stands for. Letters are small.
 fn hex_value(c: char) -> Option<u8>
-    ensures { MatchOption result ((n : ℕ) → n < 16 → hex_digit n ≢ c) (λ n. (n < 16) × (hex_digit n ≡ c)) }
+    ensures { MatchOption result ((n : ℕ) → n < 16 → hex_digit n ≢ c)
+        (λ n. (n < 16) × (hex_digit n ≡ c)) }
 {
     match c {
         '0'..='9' => Some(c as u8 - b'0'),
@@ -50,7 +52,8 @@ fn has_code(c: char) -> bool
 
 /// The control character whose code two digits tell.
 fn control(high: char, low: char) -> Option<char>
-    ensures { MatchOption result ((c : ℕ) → escaped c ≢ 92 ∷ 120 ∷ 123 ∷ high ∷ low ∷ 125 ∷ []) (λ c. escaped c ≡ 92 ∷ 120 ∷ 123 ∷ high ∷ low ∷ 125 ∷ []) }
+    ensures { MatchOption result ((c : ℕ) → escaped c ≢ 92 ∷ 120 ∷ 123 ∷ high ∷ low ∷ 125 ∷ [])
+        (λ c. escaped c ≡ 92 ∷ 120 ∷ 123 ∷ high ∷ low ∷ 125 ∷ []) }
 {
     let first = hex_value(high)?;
     let second = hex_value(low)?;
@@ -60,7 +63,8 @@ fn control(high: char, low: char) -> Option<char>
 
 /// The control character that `{..}` tells after `\x`, and what is after it.
 fn read_control(text: &str) -> Option<(char, &str)>
-    ensures { MatchOption result (HasNoCharacter (92 ∷ 120 ∷ text.now)) (λ x. 92 ∷ 120 ∷ text.now ≡ escaped x.0 ++ x.1.now) }
+    ensures { MatchOption result (HasNoCharacter (92 ∷ 120 ∷ text.now)) (λ x. 92 ∷ 120 ∷ text.now ≡
+        escaped x.0 ++ x.1.now) }
 {
     let inside = behind('{', text)?;
     let (high, more) = split_first(inside)?;
@@ -72,7 +76,8 @@ fn read_control(text: &str) -> Option<(char, &str)>
 
 /// The character that an escape tells after its backslash, and what is after it.
 fn read_escape(text: &str) -> Option<(char, &str)>
-    ensures { MatchOption result (HasNoCharacter (92 ∷ text.now)) (λ x. 92 ∷ text.now ≡ escaped x.0 ++ x.1.now) }
+    ensures { MatchOption result (HasNoCharacter (92 ∷ text.now)) (λ x. 92 ∷ text.now ≡
+        escaped x.0 ++ x.1.now) }
 {
     let (c, rest) = split_first(text)?;
     match c {
@@ -87,7 +92,8 @@ fn read_escape(text: &str) -> Option<(char, &str)>
 
 /// The next character inside quotes, and what is after it.
 pub(crate) fn read_character(text: &str) -> Option<(char, &str)>
-    ensures { MatchOption result (HasNoCharacter text.now) (λ x. text.now ≡ escaped x.0 ++ x.1.now) }
+    ensures { MatchOption result (HasNoCharacter text.now) (λ x. text.now ≡
+        escaped x.0 ++ x.1.now) }
 {
     let (c, rest) = split_first(text)?;
     match c {

@@ -18,7 +18,9 @@ pub enum Difference {
 
 /// The first place where two trees differ.
 fn first_place(one: &[Node<'_>], other: &[Node<'_>]) -> Option<usize>
-    ensures { MatchOption result (AreSame one.now other.now) (λ first. DifferFirst one.now other.now first × (first ≤ length one.now) × (first ≤ length other.now)) }
+    ensures { MatchOption result (AreSame one.now other.now) (λ first. DifferFirst one.now other.now
+        first ×
+        (first ≤ length one.now) × (first ≤ length other.now)) }
 {
     let mut count = 0;
     while count < one.len() && count < other.len() {
@@ -54,7 +56,8 @@ fn depth_of(nodes: &[Node<'_>], i: usize) -> usize
 fn smallest_around(one: &[Node<'_>], other: &[Node<'_>], first: usize) -> Option<usize>
     requires differ { DifferFirst one.now other.now first }
     requires there { first ≤ length one.now }
-    ensures { MatchOption result (AreApart one.now other.now) (λ at. IsSmallest one.now other.now at) }
+    ensures { MatchOption result (AreApart one.now other.now)
+        (λ at. IsSmallest one.now other.now at) }
 {
     if is_in_both(one, other, first) {
         return Some(first);

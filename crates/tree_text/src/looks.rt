@@ -49,7 +49,9 @@ pub(crate) fn is_open(label: Label<'_>) -> bool
 }
 
 fn is_same_text(one: Option<&str>, other: Option<&str>) -> bool
-    ensures { MatchBool result (option_map (λ t. t.now) one.entry ≡ option_map (λ t. t.now) other.entry) (option_map (λ t. t.now) one.entry ≢ option_map (λ t. t.now) other.entry) }
+    ensures { MatchBool result
+        (option_map (λ t. t.now) one.entry ≡ option_map (λ t. t.now) other.entry)
+        (option_map (λ t. t.now) one.entry ≢ option_map (λ t. t.now) other.entry) }
 {
     match one {
         Some(a) => match other {
@@ -73,7 +75,8 @@ fn is_same_number(one: Option<u64>, other: Option<u64>) -> bool
 }
 
 pub(crate) fn looks_same(one: &Node<'_>, other: &Node<'_>) -> bool
-    ensures { MatchBool result (look_of one.now ≡ look_of other.now) (look_of one.now ≢ look_of other.now) }
+    ensures { MatchBool result (look_of one.now ≡ look_of other.now)
+        (look_of one.now ≢ look_of other.now) }
 {
     if one.depth != other.depth {
         return false;
@@ -91,7 +94,8 @@ pub(crate) fn looks_same(one: &Node<'_>, other: &Node<'_>) -> bool
 }
 
 pub(crate) fn has_same_face(one: &Node<'_>, other: &Node<'_>) -> bool
-    ensures { MatchBool result (face_of one.now ≡ face_of other.now) (face_of one.now ≢ face_of other.now) }
+    ensures { MatchBool result (face_of one.now ≡ face_of other.now)
+        (face_of one.now ≢ face_of other.now) }
 {
     if one.depth != other.depth {
         return false;

@@ -37,7 +37,8 @@ fn split_digits(text: &str) -> (&str, &str)
 
 /// Whether there is a zero in front of other digits.
 fn has_leading_zero(digits: &str) -> bool
-    ensures { MatchBool result ((1 < length digits.now) × (slice_index digits.now 0 ≡ 48)) (slice_index digits.now 0 ≡ 48 → length digits.now ≤ 1) }
+    ensures { MatchBool result ((1 < length digits.now) × (slice_index digits.now 0 ≡ 48))
+        (slice_index digits.now 0 ≡ 48 → length digits.now ≤ 1) }
 {
     digits.len() > 1 && digits.as_bytes()[0] == b'0'
 }
@@ -77,7 +78,8 @@ fn read_quoted(alloc: Global, text: &str) -> Result<(String, &str), ReadRefusal>
 
 /// What is after `undef`, where a text begins with it.
 fn behind_undef(text: &str) -> Option<&str>
-    ensures { MatchOption result (NeverBegins text.now (codes "undef")) (λ rest. text.now ≡ codes "undef" ++ rest.now) }
+    ensures { MatchOption result (NeverBegins text.now (codes "undef"))
+        (λ rest. text.now ≡ codes "undef" ++ rest.now) }
 {
     let rest = behind('u', text)?;
     let rest = behind('n', rest)?;
@@ -121,7 +123,8 @@ fn can_end(place: Place, depth: usize) -> bool
 
 /// What is after the end of a list, where it comes next.
 fn behind_end(place: Place, depth: usize, text: &str) -> Option<&str>
-    ensures { MatchOption result (CanEnd place depth → NeverBegins text.now (93 ∷ [])) (λ rest. CanEnd place depth × (text.now ≡ 93 ∷ rest.now)) }
+    ensures { MatchOption result (CanEnd place depth → NeverBegins text.now (93 ∷ []))
+        (λ rest. CanEnd place depth × (text.now ≡ 93 ∷ rest.now)) }
 {
     if can_end(place, depth) {
         behind(']', text)
@@ -132,7 +135,8 @@ fn behind_end(place: Place, depth: usize, text: &str) -> Option<&str>
 
 /// What is after a comma, where it comes next in a list.
 fn behind_comma(depth: usize, text: &str) -> Option<&str>
-    ensures { MatchOption result (0 < depth → NeverBegins text.now (44 ∷ [])) (λ rest. (0 < depth) × (text.now ≡ 44 ∷ rest.now)) }
+    ensures { MatchOption result (0 < depth → NeverBegins text.now (44 ∷ []))
+        (λ rest. (0 < depth) × (text.now ≡ 44 ∷ rest.now)) }
 {
     if depth > 0 { behind(',', text) } else { None }
 }

@@ -102,7 +102,8 @@ fn item_of(alloc: Global, part: &[char]) -> Result<Option<DescItem>, AllocError>
 
 // The items with commas between them, if each part is one.
 fn items_of(alloc: Global, text: &[char]) -> Result<Option<Vec<DescItem>>, AllocError>
-    ensures { IfOk result (λ items. option_map (λ v. v.items) items ≡ items_named (between_commas text.now)) }
+    ensures { IfOk result (λ items. option_map (λ v. v.items) items ≡
+        items_named (between_commas text.now)) }
 {
     let mut items = Vec::new(alloc);
     let mut from = 0;
@@ -184,8 +185,10 @@ fn chars_of(alloc: Global, text: &str) -> Result<Vec<char>, AllocError>
 
 /// The action that the text tells: `::array`, `::first`, `::undef`, or items in brackets, parted by commas.
 pub fn read_descriptor(alloc: Global, text: &str) -> Result<Action, DescriptorRefusal>
-    ensures ok { IfOk result (λ action. actions.action_of (chars text.now) ≡ Some (action_of action)) }
-    ensures bad_item { IfErr result (λ refusal. refusal ≡ BadItem → actions.action_of (chars text.now) ≡ None) }
+    ensures ok { IfOk result (λ action. actions.action_of (chars text.now) ≡
+        Some (action_of action)) }
+    ensures bad_item { IfErr result (λ refusal. refusal ≡ BadItem →
+        actions.action_of (chars text.now) ≡ None) }
 {
     let text = chars_of(alloc, text)?;
     match action_of(alloc, &text)? {

@@ -137,7 +137,8 @@ impl Pool {
     /// Puts in a list of values of this pool.
     pub fn list(&mut self, items: &[ValueId]) -> Result<ValueId, NoMemory>
         requires { AreIds self.old items.now }
-        ensures ok { IfOk result (λ id. IsPut self.old self.new id (list_of (map (value_at self.old) items.now))) }
+        ensures ok { IfOk result (λ id. IsPut self.old self.new id (list_of (map (value_at self.old)
+            items.now))) }
         ensures err { OnErr result (self.new ≡ self.old) }
     {
         let id = ValueId(self.nodes.len());

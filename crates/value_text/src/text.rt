@@ -146,7 +146,8 @@ fn append_start<'p>(
 ) -> Result<(), NoMemory>
     requires id { id < length pool.now }
     requires lists { AreOpen pool.now lists.old.items }
-    ensures ok { OnOk result (out.new.items ++ rest_text pool.now lists.new.items ≡ out.old.items ++ (text_of (value_at pool.now id) ++ rest_text pool.now lists.old.items)) }
+    ensures ok { OnOk result (out.new.items ++ rest_text pool.now lists.new.items ≡
+        out.old.items ++ (text_of (value_at pool.now id) ++ rest_text pool.now lists.old.items)) }
     ensures longer { OnOk result (length out.old.items < length out.new.items) }
     ensures extended { IsExtended out.old.items out.new.items }
     ensures lists { AreOpen pool.now lists.new.items }
