@@ -44,19 +44,12 @@ fn grammars_of(
 ) -> Result<Grammars, AllocError>
     requires readable { All (λ t. IsReadable t.now) tokens.now }
     requires placed { length tokens.now ≤ length names.now }
-    requires room { length names.now + length (flat_map sets_of (map (λ t. t.now) tokens.now)) ≤
-        MOST_ENTRIES }
-    requires structural { IsWritable (grammar_with symbols.now 0
-        (map rule_of rules.structural.items) start.now) }
-    requires lexical { IsWritable (lexical_with names.now (map rule_of rules.lexical.items)
-        (map (λ t. t.now) tokens.now) starts.now) }
-    ensures structural { IfOk result (λ g. g.g1 ≡
-        grammar_with symbols.now 0 (map rule_of rules.structural.items) start.now) }
-    ensures lexical { IfOk result (λ g. g.lexical.grammar ≡
-        lexical_with names.now (map rule_of rules.lexical.items) (map (λ t. t.now) tokens.now)
-        starts.now) }
-    ensures sets { IfOk result (λ g. g.lexical.sets.items ≡
-        numbered_from (length names.now) (flat_map sets_of (map (λ t. t.now) tokens.now))) }
+    requires room { length names.now + length (flat_map sets_of (map (λ t. t.now) tokens.now)) ≤ MOST_ENTRIES }
+    requires structural { IsWritable (grammar_with symbols.now 0 (map rule_of rules.structural.items) start.now) }
+    requires lexical { IsWritable (lexical_with names.now (map rule_of rules.lexical.items) (map (λ t. t.now) tokens.now) starts.now) }
+    ensures structural { IfOk result (λ g. g.g1 ≡ grammar_with symbols.now 0 (map rule_of rules.structural.items) start.now) }
+    ensures lexical { IfOk result (λ g. g.lexical.grammar ≡ lexical_with names.now (map rule_of rules.lexical.items) (map (λ t. t.now) tokens.now) starts.now) }
+    ensures sets { IfOk result (λ g. g.lexical.sets.items ≡ numbered_from (length names.now) (flat_map sets_of (map (λ t. t.now) tokens.now))) }
 {
     let lexical = lexical_grammar(alloc, names, tokens, rules.lexical, starts)?;
     match written(alloc, symbols, 0, rules.structural, start) {
@@ -139,8 +132,7 @@ fn built_by(
 fn built(alloc: Global, statements: &[Statement], named: &Named<'_>) -> Result<Built, AllocError>
     requires described { IsDescription (map statement_of statements.now) }
     requires faultless { faults_of (map statement_of statements.now) ≡ [] }
-    requires uses { map used_of named.now.uses.items ≡
-        flat_map uses_of (map statement_of statements.now) }
+    requires uses { map used_of named.now.uses.items ≡ flat_map uses_of (map statement_of statements.now) }
     requires tables { AreTables named.now }
     ensures { IfOk result (λ b. b ≡ built_of (map statement_of statements.now)) }
 {
@@ -157,8 +149,7 @@ fn checked(
     named: &Named<'_>,
 ) -> Result<Built, BuildRefusal>
     requires described { IsDescription (map statement_of statements.now) }
-    requires uses { map used_of named.now.uses.items ≡
-        flat_map uses_of (map statement_of statements.now) }
+    requires uses { map used_of named.now.uses.items ≡ flat_map uses_of (map statement_of statements.now) }
     requires tables { AreTables named.now }
     ensures built { IfOk result (λ b. b ≡ built_of (map statement_of statements.now)) }
     ensures faults { Tells (faults_of (map statement_of statements.now)) result }

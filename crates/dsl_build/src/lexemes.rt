@@ -25,8 +25,7 @@ struct OwnAdverbs<'a> {
 
 fn push_own<'a>(own: &mut OwnAdverbs<'a>, s: &'a Statement) -> Result<(), AllocError>
     requires { All (λ p. is_one_of own.old.names p.0 ≡ false) (lexeme_parts (statement_of s.now)) }
-    ensures names { OnOk result (own.new.names ≡
-        own.old.names ++ map (λ p. p.0) (lexeme_parts (statement_of s.now))) }
+    ensures names { OnOk result (own.new.names ≡ own.old.names ++ map (λ p. p.0) (lexeme_parts (statement_of s.now))) }
     ensures adverbs { OnOk result (map (λ a. adverbs_of a.now) own.new.adverbs.items ≡
         map (λ a. adverbs_of a.now) own.old.adverbs.items ++
         map (λ p. p.1) (lexeme_parts (statement_of s.now))) }
@@ -43,10 +42,8 @@ fn push_own<'a>(own: &mut OwnAdverbs<'a>, s: &'a Statement) -> Result<(), AllocE
 
 // The adverbs of all `:lexeme` statements.
 fn own_adverbs(alloc: Global, statements: &[Statement]) -> Result<OwnAdverbs<'_>, AllocError>
-    requires { AllNew [] (map (λ p. p.0) (flat_map lexeme_parts (map statement_of
-        statements.now))) }
-    ensures names { IfOk result (λ own. own.names ≡
-        map (λ p. p.0) (flat_map lexeme_parts (map statement_of statements.now))) }
+    requires { AllNew [] (map (λ p. p.0) (flat_map lexeme_parts (map statement_of statements.now))) }
+    ensures names { IfOk result (λ own. own.names ≡ map (λ p. p.0) (flat_map lexeme_parts (map statement_of statements.now))) }
     ensures adverbs { IfOk result (λ own. map (λ a. adverbs_of a.now) own.adverbs.items ≡
         map (λ p. p.1) (flat_map lexeme_parts (map statement_of statements.now))) }
 {
@@ -62,8 +59,7 @@ fn own_adverbs(alloc: Global, statements: &[Statement]) -> Result<OwnAdverbs<'_>
 
 fn adverbs_named<'a>(names: &Names, adverbs: &[&'a [Adverb]], name: &str) -> &'a [Adverb]
     requires { length adverbs.now ≡ length names.now }
-    ensures { adverbs_of result.now ≡
-        adverbs_at names.now (map (λ a. adverbs_of a.now) adverbs.now) name.now }
+    ensures { adverbs_of result.now ≡ adverbs_at names.now (map (λ a. adverbs_of a.now) adverbs.now) name.now }
 {
     match names.position(name) {
         Some(place) => adverbs[place],
@@ -112,9 +108,7 @@ fn lexeme_row(
     requires few { length symbols.now ≤ MOST_ENTRIES }
     requires few_starts { length starts.now ≤ MOST_ENTRIES }
     requires small { IsSmall (priority_of (adverbs_of adverbs.now)) }
-    ensures { row_of result ≡
-        row_from symbols.now starts.now (adverbs_of adverbs.now) (option_copied default.entry)
-        name.now }
+    ensures { row_of result ≡ row_from symbols.now starts.now (adverbs_of adverbs.now) (option_copied default.entry) name.now }
 {
     LexemeRow {
         symbol: symbol_of(symbols, name),
@@ -132,10 +126,8 @@ pub fn lexeme_rows(
     starts: &Names,
     lexemes: &Names,
 ) -> Result<Vec<LexemeRow>, AllocError>
-    requires once { AllNew [] (map (λ p. p.0) (flat_map lexeme_parts (map statement_of
-        statements.now))) }
-    requires small { All (λ p. IsSmall (priority_of p.1)) (flat_map lexeme_parts (map statement_of
-        statements.now)) }
+    requires once { AllNew [] (map (λ p. p.0) (flat_map lexeme_parts (map statement_of statements.now))) }
+    requires small { All (λ p. IsSmall (priority_of p.1)) (flat_map lexeme_parts (map statement_of statements.now)) }
     requires symbols { All (λ t. is_one_of symbols.now t ≡ true) lexemes.now }
     requires starts { All (λ t. is_one_of starts.now t ≡ true) lexemes.now }
     requires few { length symbols.now ≤ MOST_ENTRIES }

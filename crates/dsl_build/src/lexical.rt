@@ -32,8 +32,7 @@ fn push_token_rule(
 ) -> Result<(), AllocError>
     requires number { number ≤ MOST_ENTRIES }
     requires sets { next + count ≤ MOST_ENTRIES }
-    ensures { OnOk result (map rule_of out.new.items ≡
-        map rule_of out.old.items ++ added_of number next count token.now) }
+    ensures { OnOk result (map rule_of out.new.items ≡ map rule_of out.old.items ++ added_of number next count token.now) }
 {
     if !is_quote_or_bracket(token) {
         return Ok(());
@@ -63,8 +62,7 @@ fn push_token(
     requires number { number ≤ MOST_ENTRIES }
     requires room { first + (length sets.old.items + length (sets_of token.now)) ≤ MOST_ENTRIES }
     ensures sets { OnOk result (sets.new.items ≡ sets.old.items ++ sets_of token.now) }
-    ensures rules { OnOk result (map rule_of out.new.items ≡
-        map rule_of out.old.items ++ added_rule number (first + length sets.old.items) token.now) }
+    ensures rules { OnOk result (map rule_of out.new.items ≡ map rule_of out.old.items ++ added_rule number (first + length sets.old.items) token.now) }
 {
     let before = sets.len();
     push_sets(alloc, sets, token)?;
@@ -82,10 +80,8 @@ fn push_tokens(
     requires readable { All (λ t. IsReadable t.now) tokens.now }
     requires numbers { length tokens.now ≤ first }
     requires room { first + length (flat_map sets_of (map (λ t. t.now) tokens.now)) ≤ MOST_ENTRIES }
-    ensures sets { IfOk result (λ sets. sets.items ≡
-        flat_map sets_of (map (λ t. t.now) tokens.now)) }
-    ensures rules { OnOk result (map rule_of out.new.items ≡
-        map rule_of out.old.items ++ added_rules 0 first (map (λ t. t.now) tokens.now)) }
+    ensures sets { IfOk result (λ sets. sets.items ≡ flat_map sets_of (map (λ t. t.now) tokens.now)) }
+    ensures rules { OnOk result (map rule_of out.new.items ≡ map rule_of out.old.items ++ added_rules 0 first (map (λ t. t.now) tokens.now)) }
 {
     let mut sets = Vec::new(alloc);
     for (i, token) in tokens.iter().enumerate() {
@@ -104,14 +100,10 @@ pub(crate) fn lexical_grammar(
 ) -> Result<Lexical, AllocError>
     requires readable { All (λ t. IsReadable t.now) tokens.now }
     requires placed { length tokens.now ≤ length names.now }
-    requires room { length names.now + length (flat_map sets_of (map (λ t. t.now) tokens.now)) ≤
-        MOST_ENTRIES }
-    requires writable { IsWritable (lexical_with names.now (map rule_of rules.items)
-        (map (λ t. t.now) tokens.now) starts.now) }
-    ensures sets { IfOk result (λ l. l.sets.items ≡
-        numbered_from (length names.now) (flat_map sets_of (map (λ t. t.now) tokens.now))) }
-    ensures grammar { IfOk result (λ l. l.grammar ≡
-        lexical_with names.now (map rule_of rules.items) (map (λ t. t.now) tokens.now) starts.now) }
+    requires room { length names.now + length (flat_map sets_of (map (λ t. t.now) tokens.now)) ≤ MOST_ENTRIES }
+    requires writable { IsWritable (lexical_with names.now (map rule_of rules.items) (map (λ t. t.now) tokens.now) starts.now) }
+    ensures sets { IfOk result (λ l. l.sets.items ≡ numbered_from (length names.now) (flat_map sets_of (map (λ t. t.now) tokens.now))) }
+    ensures grammar { IfOk result (λ l. l.grammar ≡ lexical_with names.now (map rule_of rules.items) (map (λ t. t.now) tokens.now) starts.now) }
 {
     let first = names.len();
     let classes = push_tokens(alloc, &mut rules, first, tokens)?;

@@ -32,19 +32,15 @@ fn is_placed(used: &Use<'_>) -> bool
 }
 
 fn is_new(used: &Use<'_>, names: &Names) -> bool
-    ensures { result ≡
-        (is_placed (used_of used.now) &&
-        not (is_one_of names.now (used_of used.now).token.content)) }
+    ensures { result ≡ (is_placed (used_of used.now) && not (is_one_of names.now (used_of used.now).token.content)) }
 {
     is_placed(used) && !names.has(text_of(used))
 }
 
 /// The tokens of lexical rules and discards, and the quoted texts and classes of structural rules.
 pub fn placed_tokens<'a>(alloc: Global, uses: &[Use<'a>]) -> Result<Placed<'a>, AllocError>
-    ensures tokens { IfOk result (λ p. map (λ t. t.now) p.tokens.items ≡
-        new_tokens [] (flat_map placed_part (map used_of uses.now))) }
-    ensures names { IfOk result (λ p. p.names ≡
-        map (λ t. t.content) (new_tokens [] (flat_map placed_part (map used_of uses.now)))) }
+    ensures tokens { IfOk result (λ p. map (λ t. t.now) p.tokens.items ≡ new_tokens [] (flat_map placed_part (map used_of uses.now))) }
+    ensures names { IfOk result (λ p. p.names ≡ map (λ t. t.content) (new_tokens [] (flat_map placed_part (map used_of uses.now)))) }
 {
     let mut tokens = Vec::new(alloc);
     let mut names = Names::new(alloc);
@@ -59,8 +55,7 @@ pub fn placed_tokens<'a>(alloc: Global, uses: &[Use<'a>]) -> Result<Placed<'a>, 
 
 fn add_unless(names: &mut Names, others: &Names, text: &str) -> Result<(), AllocError>
     requires { is_one_of names.old text.now ≡ false }
-    ensures { OnOk result (names.new ≡
-        names.old ++ (if not (is_one_of others.now text.now) then text.now ∷ [] else [])) }
+    ensures { OnOk result (names.new ≡ names.old ++ (if not (is_one_of others.now text.now) then text.now ∷ [] else [])) }
 {
     if !others.has(text) {
         names.add_new(text)?;
@@ -94,8 +89,7 @@ pub fn append(names: &mut Names, more: &Names) -> Result<(), AllocError>
 /// Puts those of the texts that are not there after the names.
 pub fn add_others(names: &mut Names, texts: &Names) -> Result<(), AllocError>
     requires { AllNew [] texts.now }
-    ensures { OnOk result (names.new ≡
-        names.old ++ filter (λ t. not (is_one_of names.old t)) texts.now) }
+    ensures { OnOk result (names.new ≡ names.old ++ filter (λ t. not (is_one_of names.old t)) texts.now) }
 {
     for place in 0..texts.len() {
         names.add(texts.text(place))?;

@@ -28,8 +28,7 @@ fn number_of(names: &Names, token: &Spelled) -> SymbolId
 fn numbers_of(alloc: Global, names: &Names, parts: &[&Spelled]) -> Result<Vec<SymbolId>, AllocError>
     requires named { All (λ t. IsNamed names.now t.now) parts.now }
     requires few { length names.now ≤ MOST_ENTRIES }
-    ensures { IfOk result (λ numbers. numbers.items ≡
-        map (λ t. place_in names.now t.now.content) parts.now) }
+    ensures { IfOk result (λ numbers. numbers.items ≡ map (λ t. place_in names.now t.now.content) parts.now) }
 {
     let mut numbers = Vec::new(alloc);
     for part in parts {
@@ -45,8 +44,7 @@ fn right_side(
 ) -> Result<Vec<SymbolId>, AllocError>
     requires named { All (IsNamed names.now) (parts_of alternative.now) }
     requires few { length names.now ≤ MOST_ENTRIES }
-    ensures { IfOk result (λ numbers. numbers.items ≡
-        numbers_in names.now (parts_of alternative.now)) }
+    ensures { IfOk result (λ numbers. numbers.items ≡ numbers_in names.now (parts_of alternative.now)) }
 {
     let parts = dsl_faults::parts_of(alloc, alternative)?;
     numbers_of(alloc, names, &parts)
@@ -87,8 +85,7 @@ fn push_group(
 ) -> Result<(), AllocError>
     requires ready { All (IsReadyAlternative names.now) group.now }
     requires few { length names.now ≤ MOST_ENTRIES }
-    ensures { OnOk result (map rule_of out.new.items ≡
-        map rule_of out.old.items ++ map (plain_with names.now lhs level groups) group.now) }
+    ensures { OnOk result (map rule_of out.new.items ≡ map rule_of out.old.items ++ map (plain_with names.now lhs level groups) group.now) }
 {
     for alternative in group {
         out.push(plain_rule(alloc, names, lhs, level, groups, alternative)?)?;
@@ -126,8 +123,7 @@ fn empty_rule(alloc: Global, names: &Names, left: &Spelled, adverbs: &[Adverb]) 
     requires left { IsNamed names.now left.now }
     requires small { IsSmall (building.rank_of (adverbs_of adverbs.now)) }
     requires few { length names.now ≤ MOST_ENTRIES }
-    ensures { rule_of result ∷ [] ≡
-        rules_of names.now (Empty left.now false (adverbs_of adverbs.now)) }
+    ensures { rule_of result ∷ [] ≡ rules_of names.now (Empty left.now false (adverbs_of adverbs.now)) }
 {
     WrittenRule::Plain(Rule {
         lhs: number_of(names, left),
@@ -143,9 +139,7 @@ fn empty_rule(alloc: Global, names: &Names, left: &Spelled, adverbs: &[Adverb]) 
 fn separator_of(names: &Names, adverbs: &[Adverb]) -> Option<SymbolId>
     requires named { All (IsNamed names.now) (building.separator_of (adverbs_of adverbs.now)) }
     requires few { length names.now ≤ MOST_ENTRIES }
-    ensures { result ≡
-        option_map (λ t. place_in names.now t.content) (building.value_of (codes "separator")
-        (adverbs_of adverbs.now)) }
+    ensures { result ≡ option_map (λ t. place_in names.now t.content) (building.value_of (codes "separator") (adverbs_of adverbs.now)) }
 {
     match value_of("separator", adverbs) {
         Some(token) => Some(number_of(names, token)),
@@ -160,11 +154,9 @@ fn sequence_rule(
     plus: bool,
     adverbs: &[Adverb],
 ) -> WrittenRule
-    requires ready { IsReady names.now (Quantified left.now false item.now plus
-        (adverbs_of adverbs.now)) }
+    requires ready { IsReady names.now (Quantified left.now false item.now plus (adverbs_of adverbs.now)) }
     requires few { length names.now ≤ MOST_ENTRIES }
-    ensures { rule_of result ∷ [] ≡
-        rules_of names.now (Quantified left.now false item.now plus (adverbs_of adverbs.now)) }
+    ensures { rule_of result ∷ [] ≡ rules_of names.now (Quantified left.now false item.now plus (adverbs_of adverbs.now)) }
 {
     WrittenRule::Sequence(SeqRule {
         lhs: number_of(names, left),
@@ -185,8 +177,7 @@ fn push_statement(
 ) -> Result<(), AllocError>
     requires ready { IsReady names.now (statement_of s.now) }
     requires few { length names.now ≤ MOST_ENTRIES }
-    ensures { OnOk result (map rule_of out.new.items ≡
-        map rule_of out.old.items ++ rules_of names.now (statement_of s.now)) }
+    ensures { OnOk result (map rule_of out.new.items ≡ map rule_of out.old.items ++ rules_of names.now (statement_of s.now)) }
 {
     match s {
         Statement::Empty { left, adverbs, .. } => {
@@ -235,17 +226,14 @@ fn push_of_level(
     lexical: &Names,
     s: &Statement,
 ) -> Result<(), AllocError>
-    requires structural { is_of_level false (statement_of s.now) ≡ true →
-        IsReady structural.now (statement_of s.now) }
-    requires lexical { is_of_level true (statement_of s.now) ≡ true →
-        IsReady lexical.now (statement_of s.now) }
+    requires structural { is_of_level false (statement_of s.now) ≡ true → IsReady structural.now (statement_of s.now) }
+    requires lexical { is_of_level true (statement_of s.now) ≡ true → IsReady lexical.now (statement_of s.now) }
     requires few { length structural.now ≤ MOST_ENTRIES }
     requires few_lexical { length lexical.now ≤ MOST_ENTRIES }
     ensures structural { OnOk result (map rule_of out.new.structural.items ≡
         map rule_of out.old.structural.items ++
         rules_at false structural.now (statement_of s.now)) }
-    ensures lexical { OnOk result (map rule_of out.new.lexical.items ≡
-        map rule_of out.old.lexical.items ++ rules_at true lexical.now (statement_of s.now)) }
+    ensures lexical { OnOk result (map rule_of out.new.lexical.items ≡ map rule_of out.old.lexical.items ++ rules_at true lexical.now (statement_of s.now)) }
 {
     match level_of(s) {
         Some(Level::Structural) => push_statement(alloc, &mut out.structural, structural, s),
@@ -261,12 +249,8 @@ pub fn rules_of(
     structural: &Names,
     lexical: &Names,
 ) -> Result<Rules, AllocError>
-    requires structural { All
-        (λ s. is_of_level false (statement_of s) ≡ true → IsReady structural.now (statement_of s))
-        statements.now }
-    requires lexical { All
-        (λ s. is_of_level true (statement_of s) ≡ true → IsReady lexical.now (statement_of s))
-        statements.now }
+    requires structural { All (λ s. is_of_level false (statement_of s) ≡ true → IsReady structural.now (statement_of s)) statements.now }
+    requires lexical { All (λ s. is_of_level true (statement_of s) ≡ true → IsReady lexical.now (statement_of s)) statements.now }
     requires few { length structural.now ≤ MOST_ENTRIES }
     requires few_lexical { length lexical.now ≤ MOST_ENTRIES }
     ensures structural { IfOk result (λ r. map rule_of r.structural.items ≡

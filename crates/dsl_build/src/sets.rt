@@ -20,8 +20,7 @@ fn push_characters(
     characters: &[char],
     caseless: bool,
 ) -> Result<(), AllocError>
-    ensures { OnOk result (sets.new.items ≡
-        sets.old.items ++ map (λ c. class_of_char c caseless) characters.now) }
+    ensures { OnOk result (sets.new.items ≡ sets.old.items ++ map (λ c. class_of_char c caseless) characters.now) }
 {
     for c in characters {
         sets.push(set_of_char(alloc, *c, caseless)?)?;
@@ -37,8 +36,7 @@ fn is_caseless(text: &str) -> bool
 
 // A class that cannot be read gives no set.
 fn push_class(alloc: Global, sets: &mut Vec<CharSet>, text: &str) -> Result<(), AllocError>
-    ensures { OnOk result (sets.new.items ≡
-        sets.old.items ++ class_sets (class_of (chars text.now))) }
+    ensures { OnOk result (sets.new.items ≡ sets.old.items ++ class_sets (class_of (chars text.now))) }
 {
     match read_class(alloc, text) {
         Ok(set) => {

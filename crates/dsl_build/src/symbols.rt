@@ -51,8 +51,7 @@ pub fn places_of(alloc: Global, names: &Names, texts: &Names) -> Result<Vec<u32>
 
 /// What `:start` names, else the first left side of a structural rule.
 pub fn start_of<'a>(uses: &[Use<'a>]) -> Option<&'a Spelled>
-    ensures { map (λ t. t.now.content) (option_to_list result) ≡
-        starts_asked (map used_of uses.now) }
+    ensures { map (λ t. t.now.content) (option_to_list result) ≡ starts_asked (map used_of uses.now) }
 {
     match first_asked(Which::Started, uses) {
         Some(name) => Some(name),
@@ -66,11 +65,9 @@ pub fn starts_of(
     symbols: &Names,
     start: Option<&Spelled>,
 ) -> Result<Vec<SymbolId>, AllocError>
-    requires named { All (λ t. is_one_of symbols.now t ≡ true) (map (λ t. t.now.content) (option_to_list
-        start)) }
+    requires named { All (λ t. is_one_of symbols.now t ≡ true) (map (λ t. t.now.content) (option_to_list start)) }
     requires few { length symbols.now ≤ MOST_ENTRIES }
-    ensures { IfOk result (λ starts. starts.items ≡
-        map (place_in symbols.now) (map (λ t. t.now.content) (option_to_list start.entry))) }
+    ensures { IfOk result (λ starts. starts.items ≡ map (place_in symbols.now) (map (λ t. t.now.content) (option_to_list start.entry))) }
 {
     let mut starts = Vec::new(alloc);
     if let Some(name) = start {

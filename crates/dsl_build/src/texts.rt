@@ -34,8 +34,7 @@ pub struct Texts<'a> {
 fn start_texts(alloc: Global, lexemes: &Names, discards: &Names) -> Result<Names, AllocError>
     requires lexemes { AllNew [] lexemes.now }
     requires discards { AllNew [] discards.now }
-    ensures { IfOk result (λ texts. texts ≡
-        lexemes.now ++ filter (λ t. not (is_one_of lexemes.now t)) discards.now) }
+    ensures { IfOk result (λ texts. texts ≡ lexemes.now ++ filter (λ t. not (is_one_of lexemes.now t)) discards.now) }
 {
     let mut texts = Names::new(alloc);
     append(&mut texts, lexemes)?;
@@ -64,8 +63,7 @@ fn starts_of(
 
 fn placed_of<'a>(alloc: Global, uses: &[Use<'a>], lexemes: &Names) -> Result<Placed<'a>, AllocError>
     requires { AllNew [] lexemes.now }
-    ensures tokens { IfOk result (λ p. map (λ t. t.now) p.tokens.items ≡
-        new_tokens [] (flat_map placed_part (map used_of uses.now))) }
+    ensures tokens { IfOk result (λ p. map (λ t. t.now) p.tokens.items ≡ new_tokens [] (flat_map placed_part (map used_of uses.now))) }
     ensures names { IfOk result (λ p. p.names ≡ map (λ t. t.content) (new_tokens [] (flat_map placed_part (map used_of uses.now)))
         ++ filter (λ t. not (is_one_of (map (λ u. u.content) (new_tokens [] (flat_map placed_part (map used_of uses.now)))) t)) lexemes.now) }
 {
@@ -77,8 +75,7 @@ fn placed_of<'a>(alloc: Global, uses: &[Use<'a>], lexemes: &Names) -> Result<Pla
 /// The texts of a description with these names.
 pub fn texts_of<'a>(alloc: Global, named: &Named<'a>) -> Result<Texts<'a>, AllocError>
     requires { AreTables named.now }
-    ensures { IfOk result (λ texts. (d : List Statement) →
-        map used_of named.now.uses.items ≡ flat_map uses_of d → AreTexts d named.now texts) }
+    ensures { IfOk result (λ texts. (d : List Statement) → map used_of named.now.uses.items ≡ flat_map uses_of d → AreTexts d named.now texts) }
 {
     let starts = starts_of(alloc, &named.uses, &named.symbols, &named.structural)?;
     let placed = placed_of(alloc, &named.uses, &starts.lexemes)?;

@@ -145,10 +145,8 @@ fn fill(
 ) -> Result<(), AllocError>
     requires no_rules { w.old.rules ≡ [] }
     requires no_starts { w.old.starts ≡ [] }
-    requires writable { IsWritable (grammar_with w.old.names sets (map rule_of rules.items)
-        starts.now) }
-    ensures { OnOk result (w.new ≡
-        grammar_with w.old.names sets (map rule_of rules.items) starts.now) }
+    requires writable { IsWritable (grammar_with w.old.names sets (map rule_of rules.items) starts.now) }
+    ensures { OnOk result (w.new ≡ grammar_with w.old.names sets (map rule_of rules.items) starts.now) }
 {
     add_sets(alloc, w, sets)?;
     add_rules(w, rules)?;
@@ -164,8 +162,7 @@ pub fn written(
     starts: &[SymbolId],
 ) -> Result<Written, AllocError>
     requires { IsWritable (grammar_with names.now sets (map rule_of rules.items) starts.now) }
-    ensures { IfOk result (λ w. w ≡
-        grammar_with names.now sets (map rule_of rules.items) starts.now) }
+    ensures { IfOk result (λ w. w ≡ grammar_with names.now sets (map rule_of rules.items) starts.now) }
 {
     let mut w = named(alloc, names)?;
     match fill(alloc, &mut w, sets, rules, starts) {

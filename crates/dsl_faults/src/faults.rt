@@ -28,8 +28,7 @@ pub struct Named<'a> {
 
 /// The names in statements.
 pub fn named_of(alloc: Global, statements: &[Statement]) -> Result<Named<'_>, AllocError>
-    ensures uses { IfOk result (λ n. map used_of n.uses.items ≡
-        flat_map uses_of (map statement_of statements.now)) }
+    ensures uses { IfOk result (λ n. map used_of n.uses.items ≡ flat_map uses_of (map statement_of statements.now)) }
     ensures tables { IfOk result AreTables }
 {
     let uses = uses_of(alloc, statements)?;
@@ -47,8 +46,7 @@ pub fn check_named(
     statements: &[Statement],
     named: &Named<'_>,
 ) -> Result<(), BuildRefusal>
-    requires uses { map used_of named.now.uses.items ≡
-        flat_map uses_of (map statement_of statements.now) }
+    requires uses { map used_of named.now.uses.items ≡ flat_map uses_of (map statement_of statements.now) }
     requires tables { AreTables named.now }
     ensures { Tells (faults_of (map statement_of statements.now)) result }
 {

@@ -6,8 +6,7 @@ use dsl_statement::{Alternative, Element, Spelled};
 use std::alloc::{AllocError, Global};
 
 fn push_hidden<'a>(parts: &mut Vec<&'a Spelled>, hidden: &'a [Spelled]) -> Result<(), AllocError>
-    ensures { OnOk result (map (λ t. t.now) parts.new.items ≡
-        map (λ t. t.now) parts.old.items ++ hidden.now) }
+    ensures { OnOk result (map (λ t. t.now) parts.new.items ≡ map (λ t. t.now) parts.old.items ++ hidden.now) }
 {
     for part in hidden {
         parts.push(part)?;
@@ -17,8 +16,7 @@ fn push_hidden<'a>(parts: &mut Vec<&'a Spelled>, hidden: &'a [Spelled]) -> Resul
 
 /// The parts of an alternative, in order.
 pub fn parts_of(alloc: Global, alternative: &Alternative) -> Result<Vec<&Spelled>, AllocError>
-    ensures { IfOk result (λ parts. map (λ t. t.now) parts.items ≡
-        building.parts_of alternative.now) }
+    ensures { IfOk result (λ parts. map (λ t. t.now) parts.items ≡ building.parts_of alternative.now) }
 {
     let mut parts = Vec::new(alloc);
     for element in &alternative.elements {

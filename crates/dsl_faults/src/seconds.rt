@@ -19,8 +19,7 @@ use std::alloc::{AllocError, Global};
 const MOST: usize = 1_000;
 
 fn lexeme_fault<'a>(s: &'a Statement, symbols: &Names, left: &Names) -> Option<Found<'a>>
-    ensures { option_map fault_of result ≡
-        first_of (lexeme_fault symbols.now left.now (statement_of s.now)) }
+    ensures { option_map fault_of result ≡ first_of (lexeme_fault symbols.now left.now (statement_of s.now)) }
 {
     match s {
         Statement::Lexeme { name, .. } => {
@@ -38,8 +37,7 @@ pub fn not_a_lexeme<'a>(
     symbols: &Names,
     left: &Names,
 ) -> Option<Found<'a>>
-    ensures { option_map fault_of result ≡
-        first_of (flat_map (lexeme_fault symbols.now left.now) (map statement_of statements.now)) }
+    ensures { option_map fault_of result ≡ first_of (flat_map (lexeme_fault symbols.now left.now) (map statement_of statements.now)) }
 {
     statements
         .iter()
@@ -57,8 +55,7 @@ struct Seen {
 }
 
 fn second_fault<'a>(s: &'a Statement, seen: &Seen) -> Option<Found<'a>>
-    ensures { option_map fault_of result ≡
-        first_of (second_fault seen.now.default seen.now.lexemes (statement_of s.now)) }
+    ensures { option_map fault_of result ≡ first_of (second_fault seen.now.default seen.now.lexemes (statement_of s.now)) }
 {
     match s {
         Statement::LexemeDefault { at, .. } => seen.default.then_some(Found {
@@ -90,9 +87,7 @@ fn see(seen: &mut Seen, s: &Statement) -> Result<(), AllocError>
 }
 
 fn repeated_at<'a>(seen: &mut Seen, s: &'a Statement) -> Result<Option<Found<'a>>, AllocError>
-    ensures found { IfOk result (λ found. option_map fault_of found ≡
-        first_of (second_fault seen.old.default seen.old.lexemes (statement_of s.now) ++
-        statement_faults Once (statement_of s.now))) }
+    ensures found { IfOk result (λ found. option_map fault_of found ≡ first_of (second_fault seen.old.default seen.old.lexemes (statement_of s.now) ++ statement_faults Once (statement_of s.now))) }
     ensures seen { OnOk result (seen.new ≡ seen_after seen.old (statement_of s.now)) }
 {
     let second = second_fault(s, seen);
@@ -105,8 +100,7 @@ fn repeated_at<'a>(seen: &mut Seen, s: &'a Statement) -> Result<Option<Found<'a>
 
 /// The first adverb that stands twice in a list, or second `lexeme default`, or second `:lexeme` of a lexeme.
 pub fn repeated(alloc: Global, statements: &[Statement]) -> Result<Option<Found<'_>>, AllocError>
-    ensures { IfOk result (λ found. option_map fault_of found ≡
-        first_of (building.repeated [] (map statement_of statements.now))) }
+    ensures { IfOk result (λ found. option_map fault_of found ≡ first_of (building.repeated [] (map statement_of statements.now))) }
 {
     let seen = Seen {
         alloc,
@@ -136,16 +130,14 @@ fn start_fault(s: &Statement) -> Option<Found<'_>>
 
 /// The second `:start`.
 pub fn second_start(statements: &[Statement]) -> Option<Found<'_>>
-    ensures { option_map fault_of result ≡
-        first_of (second_starts (map statement_of statements.now)) }
+    ensures { option_map fault_of result ≡ first_of (second_starts (map statement_of statements.now)) }
 {
     let first = statements.iter().position(is_start)?;
     statements[first + 1..].iter().find_map(start_fault)
 }
 
 fn is_long_quote(token: &Spelled) -> bool
-    ensures { result ≡
-        (building.is_quote token.now && nat_lt 1000 (length (building.quoted token.now.content))) }
+    ensures { result ≡ (building.is_quote token.now && nat_lt 1000 (length (building.quoted token.now.content))) }
 {
     is_quote(token) && character_count(between_quotes(token.content.as_bytes())) > MOST
 }
@@ -170,31 +162,26 @@ fn long_alternative(
     alloc: Global,
     alternative: &Alternative,
 ) -> Result<Option<Found<'_>>, AllocError>
-    ensures { IfOk result (λ found. option_map fault_of found ≡
-        first_of (long_parts 0 (building.parts_of alternative.now))) }
+    ensures { IfOk result (λ found. option_map fault_of found ≡ first_of (long_parts 0 (building.parts_of alternative.now))) }
 {
     let parts = parts_of(alloc, alternative)?;
     Ok(long_part(&parts))
 }
 
 fn long_group(alloc: Global, group: &[Alternative]) -> Result<Option<Found<'_>>, AllocError>
-    ensures { IfOk result (λ found. option_map fault_of found ≡
-        first_of (flat_map (λ a. long_parts 0 (building.parts_of a)) group.now)) }
+    ensures { IfOk result (λ found. option_map fault_of found ≡ first_of (flat_map (λ a. long_parts 0 (building.parts_of a)) group.now)) }
 {
     first_found(group, |alternative| long_alternative(alloc, alternative))
 }
 
 fn long_groups(alloc: Global, groups: &[Vec<Alternative>]) -> Result<Option<Found<'_>>, AllocError>
-    ensures { IfOk result (λ found. option_map fault_of found ≡
-        first_of (flat_map (λ g. flat_map (λ a. long_parts 0 (building.parts_of a)) g.items)
-        groups.now)) }
+    ensures { IfOk result (λ found. option_map fault_of found ≡ first_of (flat_map (λ g. flat_map (λ a. long_parts 0 (building.parts_of a)) g.items) groups.now)) }
 {
     first_found(groups, |group| long_group(alloc, group))
 }
 
 fn long_statement(alloc: Global, s: &Statement) -> Result<Option<Found<'_>>, AllocError>
-    ensures { IfOk result (λ found. option_map fault_of found ≡
-        first_of (flat_map (long_parts 0) (building.right_sides (statement_of s.now)))) }
+    ensures { IfOk result (λ found. option_map fault_of found ≡ first_of (flat_map (long_parts 0) (building.right_sides (statement_of s.now)))) }
 {
     match s {
         Statement::Rules { groups, .. } => long_groups(alloc, groups),
@@ -204,8 +191,7 @@ fn long_statement(alloc: Global, s: &Statement) -> Result<Option<Found<'_>>, All
 
 /// The first part after 1,000 others, or quoted text of more than 1,000 characters, on a right side.
 pub fn too_long(alloc: Global, statements: &[Statement]) -> Result<Option<Found<'_>>, AllocError>
-    ensures { IfOk result (λ found. option_map fault_of found ≡
-        first_of (too_long (map statement_of statements.now))) }
+    ensures { IfOk result (λ found. option_map fault_of found ≡ first_of (too_long (map statement_of statements.now))) }
 {
     first_found(statements, |s| long_statement(alloc, s))
 }

@@ -17,8 +17,7 @@ use dsl_statement::Statement;
 use std::alloc::Global;
 
 fn tell_adverbs(alloc: Global, statements: &[Statement]) -> Result<(), BuildRefusal>
-    ensures { Tells (map building.BadAdverb (bad_adverbs (map statement_of statements.now)))
-        result }
+    ensures { Tells (map building.BadAdverb (bad_adverbs (map statement_of statements.now))) result }
 {
     match fault_in_all(alloc, Check::Known, statements)? {
         Some(found) => Err(BuildRefusal::BadAdverb {
@@ -30,9 +29,7 @@ fn tell_adverbs(alloc: Global, statements: &[Statement]) -> Result<(), BuildRefu
 }
 
 fn tell_repeated(alloc: Global, statements: &[Statement]) -> Result<(), BuildRefusal>
-    ensures { Tells
-        (map building.RepeatedAdverb (building.repeated [] (map statement_of statements.now)))
-        result }
+    ensures { Tells (map building.RepeatedAdverb (building.repeated [] (map statement_of statements.now))) result }
 {
     match repeated(alloc, statements)? {
         Some(found) => Err(BuildRefusal::RepeatedAdverb {
@@ -49,10 +46,7 @@ fn tell_undefined(
     structural: &Names,
     lexical: &Names,
 ) -> Result<(), BuildRefusal>
-    ensures { Tells
-        (map building.LexemeNotDefined (flat_map (undefined_fault structural.now lexical.now)
-        (map used_of uses.now)))
-        result }
+    ensures { Tells (map building.LexemeNotDefined (flat_map (undefined_fault structural.now lexical.now) (map used_of uses.now))) result }
 {
     match undefined(uses, structural, lexical) {
         Some(found) => Err(BuildRefusal::LexemeNotDefined {
@@ -64,9 +58,7 @@ fn tell_undefined(
 }
 
 fn tell_both(alloc: Global, uses: &[Use<'_>]) -> Result<(), BuildRefusal>
-    ensures { Tells
-        (map building.InBoth (building.in_both [] (flat_map left_part (map used_of uses.now))))
-        result }
+    ensures { Tells (map building.InBoth (building.in_both [] (flat_map left_part (map used_of uses.now)))) result }
 {
     match in_both(alloc, uses)? {
         Some(found) => Err(BuildRefusal::InBoth {
@@ -83,10 +75,7 @@ fn tell_lexemes(
     symbols: &Names,
     left: &Names,
 ) -> Result<(), BuildRefusal>
-    ensures { Tells
-        (map building.NotALexeme (flat_map (lexeme_fault symbols.now left.now)
-        (map statement_of statements.now)))
-        result }
+    ensures { Tells (map building.NotALexeme (flat_map (lexeme_fault symbols.now left.now) (map statement_of statements.now))) result }
 {
     match not_a_lexeme(statements, symbols, left) {
         Some(found) => Err(BuildRefusal::NotALexeme {
@@ -110,8 +99,7 @@ fn tell_classes(alloc: Global, uses: &[Use<'_>]) -> Result<(), BuildRefusal>
 }
 
 fn tell_starts(alloc: Global, statements: &[Statement]) -> Result<(), BuildRefusal>
-    ensures { Tells (map building.TwoStarts (second_starts (map statement_of statements.now)))
-        result }
+    ensures { Tells (map building.TwoStarts (second_starts (map statement_of statements.now))) result }
 {
     match second_start(statements) {
         Some(found) => Err(BuildRefusal::TwoStarts {
@@ -123,8 +111,7 @@ fn tell_starts(alloc: Global, statements: &[Statement]) -> Result<(), BuildRefus
 }
 
 fn tell_numbers(alloc: Global, statements: &[Statement]) -> Result<(), BuildRefusal>
-    ensures { Tells (map building.NumberRange (big_numbers (map statement_of statements.now)))
-        result }
+    ensures { Tells (map building.NumberRange (big_numbers (map statement_of statements.now))) result }
 {
     match fault_in_all(alloc, Check::Small, statements)? {
         Some(found) => Err(BuildRefusal::NumberRange {
@@ -156,10 +143,7 @@ pub fn tell_all(
     structural: &Names,
     lexical: &Names,
 ) -> Result<(), BuildRefusal>
-    ensures { Tells
-        (all_faults symbols.now structural.now lexical.now (map used_of uses.now)
-        (map statement_of statements.now))
-        result }
+    ensures { Tells (all_faults symbols.now structural.now lexical.now (map used_of uses.now) (map statement_of statements.now)) result }
 {
     tell_adverbs(alloc, statements)?;
     tell_repeated(alloc, statements)?;

@@ -39,8 +39,7 @@ fn push<'a>(
     level: Level,
     token: &'a Spelled,
 ) -> Result<(), AllocError>
-    ensures { OnOk result (map used_of uses.new.items ≡
-        map used_of uses.old.items ++ used role (is_lexical level) token.now ∷ []) }
+    ensures { OnOk result (map used_of uses.new.items ≡ map used_of uses.old.items ++ used role (is_lexical level) token.now ∷ []) }
 {
     uses.push(Use { role, level, token })?;
     Ok(())
@@ -51,8 +50,7 @@ fn push_parts<'a>(
     level: Level,
     parts: &[&'a Spelled],
 ) -> Result<(), AllocError>
-    ensures { OnOk result (map used_of uses.new.items ≡
-        map used_of uses.old.items ++ map (λ t. used Right (is_lexical level) t.now) parts.now) }
+    ensures { OnOk result (map used_of uses.new.items ≡ map used_of uses.old.items ++ map (λ t. used Right (is_lexical level) t.now) parts.now) }
 {
     for part in parts {
         push(uses, Role::Right, level, part)?;
@@ -66,9 +64,7 @@ fn push_alternative<'a>(
     level: Level,
     alternative: &'a Alternative,
 ) -> Result<(), AllocError>
-    ensures { OnOk result (map used_of uses.new.items ≡
-        map used_of uses.old.items ++
-        map (used Right (is_lexical level)) (parts_of alternative.now)) }
+    ensures { OnOk result (map used_of uses.new.items ≡ map used_of uses.old.items ++ map (used Right (is_lexical level)) (parts_of alternative.now)) }
 {
     let parts = parts::parts_of(alloc, alternative)?;
     push_parts(uses, level, &parts)
@@ -80,9 +76,7 @@ fn push_group<'a>(
     level: Level,
     group: &'a [Alternative],
 ) -> Result<(), AllocError>
-    ensures { OnOk result (map used_of uses.new.items ≡
-        map used_of uses.old.items ++
-        flat_map (λ a. map (used Right (is_lexical level)) (parts_of a)) group.now) }
+    ensures { OnOk result (map used_of uses.new.items ≡ map used_of uses.old.items ++ flat_map (λ a. map (used Right (is_lexical level)) (parts_of a)) group.now) }
 {
     for alternative in group {
         push_alternative(alloc, uses, level, alternative)?;
@@ -96,10 +90,7 @@ fn push_groups<'a>(
     level: Level,
     groups: &'a [Vec<Alternative>],
 ) -> Result<(), AllocError>
-    ensures { OnOk result (map used_of uses.new.items ≡
-        map used_of uses.old.items ++
-        flat_map (λ g. flat_map (λ a. map (used Right (is_lexical level)) (parts_of a)) g.items)
-        groups.now) }
+    ensures { OnOk result (map used_of uses.new.items ≡ map used_of uses.old.items ++ flat_map (λ g. flat_map (λ a. map (used Right (is_lexical level)) (parts_of a)) g.items) groups.now) }
 {
     for group in groups {
         push_group(alloc, uses, level, group)?;
@@ -112,9 +103,7 @@ fn push_separator<'a>(
     level: Level,
     adverbs: &'a [Adverb],
 ) -> Result<(), AllocError>
-    ensures { OnOk result (map used_of uses.new.items ≡
-        map used_of uses.old.items ++
-        map (used Right (is_lexical level)) (separator_of (adverbs_of adverbs.now))) }
+    ensures { OnOk result (map used_of uses.new.items ≡ map used_of uses.old.items ++ map (used Right (is_lexical level)) (separator_of (adverbs_of adverbs.now))) }
 {
     match value_of("separator", adverbs) {
         Some(token) => push(uses, Role::Right, level, token),
@@ -127,8 +116,7 @@ fn push_statement<'a>(
     uses: &mut Vec<Use<'a>>,
     s: &'a Statement,
 ) -> Result<(), AllocError>
-    ensures { OnOk result (map used_of uses.new.items ≡
-        map used_of uses.old.items ++ uses_of (statement_of s.now)) }
+    ensures { OnOk result (map used_of uses.new.items ≡ map used_of uses.old.items ++ uses_of (statement_of s.now)) }
 {
     match s {
         Statement::Start { name, .. } => push(uses, Role::Start, Level::Structural, name),
@@ -160,8 +148,7 @@ fn push_statement<'a>(
 
 /// The tokens that name symbols, in order.
 pub fn uses_of(alloc: Global, statements: &[Statement]) -> Result<Vec<Use<'_>>, AllocError>
-    ensures { IfOk result (λ uses. map used_of uses.items ≡
-        flat_map uses_of (map statement_of statements.now)) }
+    ensures { IfOk result (λ uses. map used_of uses.items ≡ flat_map uses_of (map statement_of statements.now)) }
 {
     let mut uses = Vec::new(alloc);
     for s in statements {
@@ -203,8 +190,7 @@ pub fn text_of<'a>(used: &Use<'a>) -> &'a str
 
 /// The texts of the uses that are asked for, each once, in order of their first appearance.
 pub fn names_of(alloc: Global, which: Which, uses: &[Use<'_>]) -> Result<Names, AllocError>
-    ensures { IfOk result (λ names. names ≡
-        new_texts [] (flat_map (texts_asked which) (map used_of uses.now))) }
+    ensures { IfOk result (λ names. names ≡ new_texts [] (flat_map (texts_asked which) (map used_of uses.now))) }
 {
     let mut names = Names::new(alloc);
     for used in uses {
@@ -217,8 +203,7 @@ pub fn names_of(alloc: Global, which: Which, uses: &[Use<'_>]) -> Result<Names, 
 
 /// The token of the first use that is asked for.
 pub fn first_asked<'a>(which: Which, uses: &[Use<'a>]) -> Option<&'a Spelled>
-    ensures { option_map (λ t. t.now.content) result ≡
-        first_of (flat_map (texts_asked which) (map used_of uses.now)) }
+    ensures { option_map (λ t. t.now.content) result ≡ first_of (flat_map (texts_asked which) (map used_of uses.now)) }
 {
     let used = uses.iter().find(|used| is_asked(which, used))?;
     Some(used.token)

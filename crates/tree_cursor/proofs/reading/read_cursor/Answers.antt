@@ -27,7 +27,7 @@ pub put-requires : goal.put-requires
 put-requires c =
     let i = c.loop-piece.invariant in
     let t = turned c.loop-piece.piece-iterator c.next.new.self c.next.result c.in-Some.piece i.0 i.1 c.next.ensures.steps c.in-Some.is in
-    record { room = has_room c.args.text.now c.loop-piece.stack c.loop-piece.steps.items c.in-Some.piece.now t.rest i.0 t.is i.2 (omega (arith, c.if-text-gt-MOST_BYTES.false)) }
+    record { room = has_room c.args.text.now c.loop-piece.stack c.loop-piece.steps.items c.in-Some.piece.now t.rest i.0 t.is i.2 (omega (arith, c.if-text-gt-LONGEST_CURSOR.false)) }
 
 pub returns-in_err-put-clause-bad : goal.returns-in_err-put-clause-bad
 returns-in_err-put-clause-bad c =
@@ -58,4 +58,4 @@ pub returns-clause-ok : goal.returns-clause-ok
 returns-clause-ok c =
     let i = c.loop-piece.invariant in
     let none = ended c.loop-piece.piece-iterator c.next.new.self c.next.result i.0 i.1 c.next.ensures.steps c.in-None.is in
-    spelled c.args.text.now c.loop-piece.stack c.loop-piece.steps.items i.0 none i.2 (omega (arith, c.if-text-gt-MOST_BYTES.false)) (ap (λ (l : List ℕ). length l) (sym c.as_slice.ensures.value) ∙ c.if-as_slice-ne1.false)
+    spelled c.args.text.now c.loop-piece.stack c.loop-piece.steps.items i.0 none i.2 (omega (arith, c.if-text-gt-LONGEST_CURSOR.false)) (ap (λ (l : List ℕ). length l) (sym c.as_slice.ensures.value) ∙ c.if-as_slice-ne1.false)
