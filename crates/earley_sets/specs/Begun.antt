@@ -1,4 +1,4 @@
--- What begins at a place: it depends on the symbols that are awaited there, and on nothing else.
+-- What begins at a place, its predictions: it depends on the symbols that are awaited there, and on nothing else.
 use Rattle.std.specs.Prelude.{◌≡◌, ℕ, ◌<◌, ◌↔◌, List, [], length, Some, slice_get, Contains}
 use Rattle.std.specs.declared.vec.Vec.{Vec}
 use Rattle.std.specs.declared.alloc.Global.{Global}

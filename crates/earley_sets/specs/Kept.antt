@@ -1,4 +1,4 @@
--- What the items of a row wait for.
+-- What the items of a row wait for: their postdot symbols.
 use Rattle.std.specs.Prelude.{◌-◌, List, length}
 use Rattle.recognizer_model.specs.declared.Item.{Item}
 use Rattle.recognizer_model.specs.Flat.{FlatGrammar}

@@ -1,4 +1,4 @@
-//! The symbols with rules that items wait for.
+//! The symbols with rules that items wait for: the postdot symbols that predict something.
 ghost use Rattle.std.specs.Prelude.{◌≡◌, ◌≢◌, ℕ, ◌↔◌, Some, None, IfSome, IsNone, OnOk, Contains};
 ghost use Rattle.std.specs.List.{AllPairs};
 ghost use Rattle.recognizer_model.specs.Items.{after};

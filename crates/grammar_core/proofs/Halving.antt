@@ -1,4 +1,4 @@
--- Searches by halving over what a flat grammar has in order.
+-- Binary searches over what a flat grammar has in order.
 use Rattle.std.proofs.Common.{◌≡◌, ℕ, ◌<◌, ◌≤◌, true, false, ◌⊎◌, inl, inr, Some, sym, ap, ◌∙◌, subst, arith}
 use Rattle.std.specs.Prelude.{nat_lt, nat_le, slice_get, slice_index_or}
 use Rattle.std.specs.List.Sorted.{IsPartitionedBy}

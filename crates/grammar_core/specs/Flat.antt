@@ -1,4 +1,4 @@
--- What a search by halving asks of flat symbols.
+-- What a binary search asks of flat symbols.
 use Rattle.std.specs.Prelude.{ℕ, Bool, false, nat_lt}
 use Rattle.recognizer_model.specs.declared.flat.FlatSymbol.{FlatSymbol}
 use Rattle.recognizer_model.specs.declared.flat.FlatSymbol.TheVariants.{Terminal}

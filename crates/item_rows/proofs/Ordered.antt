@@ -1,4 +1,4 @@
--- Items in order: those that wait for a symbol stand together, and an item is found by halving.
+-- Items in order: those that wait for a symbol stand together, and an item is found by binary search.
 use Rattle.std.proofs.Common.{◌≡◌, ◌⊎◌, inl, inr, ◌↔◌, ℕ, ◌+◌, ◌<◌, ◌≤◌, false, length, List, Option, Some, None, Contains, refl, sym, ◌∙◌, ap, subst, arith}
 use Rattle.std.specs.Prelude.{nat_lt, slice_get, slice_index_or, Result, Ok, Err, IfSome, IsNone}
 use Rattle.std.specs.Result.{result_ok}

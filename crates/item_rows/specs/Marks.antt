@@ -1,4 +1,4 @@
--- Marks of the terminals that a row waits for, and their list.
+-- Marks of the terminals that a row waits for, its postdot terminals, and their list.
 use Rattle.std.specs.Prelude.{◌≡◌, ◌≢◌, ℕ, ◌+◌, ◌≤◌, ◌↔◌, List, length, Some, slice_get, vec_capacity, Contains}
 use Rattle.std.specs.List.{AllPairs}
 use Rattle.recognizer_model.specs.declared.flat.FlatSymbol.TheVariants.{Terminal}

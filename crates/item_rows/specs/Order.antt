@@ -1,4 +1,4 @@
--- The order of a row: by the symbol after the dot, whole items last, then by rule, dot and origin.
+-- The order of a row: by the symbol after the dot (the postdot symbol), whole items, which are completed ones, last, then by rule, dot and origin.
 use Rattle.std.specs.Prelude.{ℕ, List, Option, Some, None}
 use Rattle.std.specs.declared.cmp.Ordering.{Ordering}
 use Rattle.std.specs.Ordering.{ordering_then, nat_cmp}

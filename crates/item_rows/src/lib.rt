@@ -1,5 +1,5 @@
-//! Sets of items, each a row in one order, so that the items that wait for a symbol stand together, and an item is found by halving. Also the
-//! rules of each symbol and the symbol of each terminal, looked up.
+//! Sets of items, each a row in one order, so that the items that wait for a symbol (their postdot symbol, in Libmarpa's word) stand
+//! together, and an item is found by binary search. Also the rules of each symbol and the symbol of each terminal, looked up.
 #![tactic(auto)]
 
 mod dotted;

@@ -1,4 +1,4 @@
-//! Marks of the terminals that a row waits for, so that none has to be looked for, and their list.
+//! Marks of the terminals that a row waits for, its postdot terminals, so that none has to be looked for, and their list.
 ghost use Rattle.std.specs.Prelude.{◌≡◌, ◌≢◌, ℕ, ◌+◌, ◌<◌, ◌≤◌, ◌↔◌, ◌⊎◌, length, slice_get, Some, IsTrue, IfOk, IfSome, IsNone, Contains};
 ghost use Rattle.recognizer_model.specs.declared.Item.{Item as TheItem};
 ghost use Rattle.recognizer_model.specs.declared.flat.FlatSymbol.TheVariants.{Terminal};

@@ -1,4 +1,4 @@
-//! The order of a row: by the symbol after the dot, whole items last, then by rule, dot and origin.
+//! The order of a row: by the symbol after the dot (the postdot symbol), whole items, which are completed ones, last, then by rule, dot and origin.
 ghost use Rattle.std.specs.Prelude.{◌≡◌, ◌≢◌, ◌≤◌, ◌↔◌, ℕ, ◌<◌, Some, length, map, slice_get, slice_index_or, Contains, IfSome, IsNone, OnOk};
 ghost use Rattle.std.specs.List.{AllPairs};
 ghost use Rattle.recognizer_model.specs.declared.Item.{Item as TheItem};

@@ -118,7 +118,7 @@ pub fn list_dotted(packed: &[u64], numbers: &mut Vec<u32>) -> Result<(), AllocFa
     Ok(())
 }
 
-// Of so many numbers the first that is not below a bound is found by going through them, and of more by halving.
+// Of so many numbers the first that is not below a bound is found by going through them, and of more by binary search.
 const FEW: usize = 8;
 
 // How many numbers are below a bound, of a few.

@@ -1,4 +1,4 @@
--- The items of a set that are not kept, by rows: single steps from whole items that are kept.
+-- The items of a set that are not kept, which Leo's sets leave out, by rows: single steps from whole items that are kept.
 use Rattle.std.specs.Prelude.{◌≡◌, ℕ, ◌<◌, ◌≤◌, List, Contains}
 use Rattle.recognizer_model.specs.declared.Item.{Item}
 use Rattle.recognizer_model.specs.Flat.{FlatGrammar, lhs_of}

@@ -57,7 +57,7 @@ pub record IsFlat (f : FlatGrammar) : Type 0 where
   pub productive : (x : ℕ) → x < length f.symbols → IsProductive f x
   pub accessible : (x : ℕ) → x < length f.symbols → IsAccessible f x
 
--- how the symbols and rules are arranged, so that they are found by halving: terminals first, by number, and the rules by left side
+-- how the symbols and rules are arranged, so that they are found by binary search: terminals first, by number, and the rules by left side
 pub record IsArranged (f : FlatGrammar) : Type 0 where
   pub terminals : (x y t : ℕ) → x < y → slice_get f.symbols y ≡ Some (Terminal t) → (s : ℕ) × (slice_get f.symbols x ≡ Some (Terminal s)) × (s < t)
   pub rules : (r s : ℕ) → r < s → IsRule f s → lhs_of f r ≤ lhs_of f s

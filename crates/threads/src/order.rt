@@ -1,4 +1,4 @@
-//! The threads of a row in the order of what they wait for, so that those that wait for a symbol are found by halving.
+//! The threads of a row in the order of what they wait for, so that those that wait for a symbol are found by binary search.
 ghost use Rattle.std.specs.Prelude.{◌≡◌, ℕ, ◌<◌, ◌≤◌, ◌-◌, ◌↔◌, length, take, drop, slice_index_or, Some, IfOk, Contains};
 ghost use Rattle.recognizer_model.specs.declared.thread.Thread.{Thread as AThread};
 ghost use Rattle.recognizer_model.specs.Threads.{next};
