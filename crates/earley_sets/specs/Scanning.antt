@@ -1,8 +1,9 @@
 -- What a set begins with, what goes on from that, and when rows are the reduced sets.
-use Rattle.std.specs.Prelude.{◌≡◌, ℕ, ◌<◌, List, Some, slice_get, Contains, ◌↔◌, ◌⊎◌}
+use Rattle.std.specs.Prelude.{◌≡◌, ℕ, ◌<◌, ◌++◌, ◌∷◌, [], List, Some, length, slice_get, Contains, ◌↔◌, ◌⊎◌}
 use Rattle.grammar_model.specs.declared.Edge.{Edge as HeldEdge}
 use Rattle.grammar_model.specs.Derives.{Held}
 use Rattle.recognizer_model.specs.declared.Item.{Item}
+use Rattle.recognizer_model.specs.Counts.{IsListOf}
 use Rattle.recognizer_model.specs.Flat.{FlatGrammar}
 use Rattle.recognizer_model.specs.declared.flat.FlatSymbol.TheVariants.{Terminal}
 use Rattle.recognizer_model.specs.FlatForm.{FlatEdges}
@@ -10,6 +11,7 @@ use Rattle.recognizer_model.specs.Items.{after, first_item, advanced}
 use Rattle.recognizer_model.specs.Leo.{InReduced}
 use Rattle.item_rows.specs.Rows.{row_at}
 use Rattle.earley_sets.specs.Closing.{GoesOn, IsReached}
+use Rattle.earley_sets.specs.Kept.{IsRowOf}
 
 -- an edge of a terminal leads from an item that waits for it
 pub record IsScannedBy (g : FlatGrammar) (rows : List (List Item)) (edge : HeldEdge) (other : Item) : Type 0 where
@@ -40,3 +42,8 @@ GoForward edges = (e : HeldEdge) → Contains edges e → e.from < e.to
 -- the rows before a place are the reduced sets
 abbrev pub AreReduced : FlatGrammar → List HeldEdge → (top : ℕ) → List (List Item) → (earleme : ℕ) → Type 0
 AreReduced g edges top rows earleme = (i : ℕ) → i < earleme → (item : Item) → Contains (row_at rows i) item ↔ InReduced g (FlatEdges g (Held edges)) top i item
+
+-- one more row, which is the reduced set of its place
+abbrev pub AddsRow : FlatGrammar → List HeldEdge → (top : ℕ) → (old new : List (List Item)) → Type 0
+AddsRow g edges top old new = (row : List Item) × (new ≡ old ++ row ∷ []) × IsRowOf g (length old) row ×
+    IsListOf (InReduced g (FlatEdges g (Held edges)) top (length old)) row

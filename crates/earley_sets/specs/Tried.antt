@@ -1,11 +1,13 @@
 -- The links that are tried while a set is made.
 use Rattle.std.specs.Prelude.{◌≡◌, ◌≢◌, ℕ, ◌+◌, ◌<◌, ◌⊎◌, List, length, Some, slice_get, Contains, AllPairs}
+use Rattle.grammar_model.specs.Derives.{Held}
 use Rattle.grammar_model.specs.declared.Edge.{Edge as HeldEdge}
 use Rattle.recognizer_model.specs.declared.Item.{Item}
 use Rattle.recognizer_model.specs.Flat.{FlatGrammar, IsRule, lhs_of, IsNullable}
 use Rattle.recognizer_model.specs.declared.flat.FlatSymbol.TheVariants.{Terminal}
 use Rattle.recognizer_model.specs.Items.{after, IsWhole}
-use Rattle.recognizer_model.specs.Links.{Link, Predicts, Skips, Scans, Completes, Leaps}
+use Rattle.recognizer_model.specs.FlatForm.{FlatEdges}
+use Rattle.recognizer_model.specs.Links.{Link, Predicts, Skips, Scans, Completes, Leaps, IsLink}
 use Rattle.item_rows.specs.Rows.{row_at}
 use Rattle.leo_items.specs.ByRows.{IsNotLeoIn, LeadsIn}
 use Rattle.earley_sets.specs.Begun.{AreAwaited}
@@ -16,6 +18,10 @@ pub record RisesBy {A : Type 0} (P : A → Type 0) (old new : ℕ) : Type 0 wher
   pub once : AllPairs (λ x y. x ≢ y) values
   pub are : (x : A) → Contains values x → P x
   pub count : new ≡ old + length values
+
+-- the number rises by one for each link of the set of a place
+abbrev pub RisesByLinks : FlatGrammar → List HeldEdge → (top earleme : ℕ) → (old new : ℕ) → Type 0
+RisesByLinks g edges top earleme old new = RisesBy (IsLink g (FlatEdges g (Held edges)) top earleme) old new
 
 -- an item of the row waits for the symbol
 abbrev pub IsWaiting : FlatGrammar → List Item → (symbol : ℕ) → Item → Type 0

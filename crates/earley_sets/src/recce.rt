@@ -4,21 +4,19 @@ ghost use Rattle.std.specs.List.{AllPairs};
 ghost use Rattle.recognizer_model.specs.declared.Item.{Item};
 ghost use Rattle.recognizer_model.specs.declared.flat.FlatSymbol.TheVariants.{Terminal};
 ghost use Rattle.grammar_model.specs.declared.Edge.{Edge as HeldEdge};
-ghost use Rattle.grammar_model.specs.Derives.{Held};
 ghost use Rattle.grammar_model.specs.declared.limits.TheConstants.{LAST_PLACE, LONGEST_EDGE};
 ghost use Rattle.recognizer_model.specs.Flat.{IsRule};
 ghost use Rattle.recognizer_model.specs.Contexts.{IsTop};
 ghost use Rattle.recognizer_model.specs.Counts.{IsListOf};
-ghost use Rattle.recognizer_model.specs.FlatForm.{FlatEdges};
 ghost use Rattle.recognizer_model.specs.Items.{InSet, IsWhole, after};
 ghost use Rattle.recognizer_model.specs.Leo.{InReduced, IsHidden};
 ghost use Rattle.recognizer_model.specs.Links.{Link, IsLink};
 ghost use Rattle.leo_items.specs.ByRows.{IsMemo, NotesMore};
-ghost use Rattle.earley_sets.specs.Kept.{HasRows, IsRowOf};
+ghost use Rattle.earley_sets.specs.Kept.{HasRows};
 ghost use Rattle.item_rows.specs.Heads.{AreHeads};
 ghost use Rattle.earley_sets.specs.Begun.{AreLists};
-ghost use Rattle.earley_sets.specs.Scanning.{GoForward, AreReduced};
-ghost use Rattle.earley_sets.specs.Tried.{RisesBy};
+ghost use Rattle.earley_sets.specs.Scanning.{GoForward, AreReduced, AddsRow};
+ghost use Rattle.earley_sets.specs.Tried.{RisesByLinks};
 ghost use Rattle.earley_sets.specs.Below.{StepsTo, LeadsUp, IsBottom, IsBottomOf, StandsBelowOf};
 ghost use Rattle.earley_sets.specs.Recognizer.{Recognizer, earleme_of, set_at, edges_of, top_of, made, new_edge, IsExpected, HasTree, IsRecognizer};
 ghost use Rattle.earley_sets.specs.declared.recce.AlternativeRefusal.TheVariants.{Unexpected, Duplicate, BadLength};
@@ -61,12 +59,12 @@ fn make_row<L: Ledger>(
     requires forward { GoForward edges.now }
     ensures lists { AreLists flat.now rows.new.shared lists.new.numbers.entries }
     ensures flat { rows.new.flat ≡ flat.now }
-    ensures ok { OnOk result ((row : List Item) × (rows.new.sets ≡ rows.old.sets ++ row ∷ []) × IsRowOf flat.now (length rows.old.sets) row ×
-        IsListOf (InReduced flat.now (FlatEdges flat.now (Held edges.now)) top (length rows.old.sets)) row) }
+    ensures ok { OnOk result (AddsRow flat.now edges.now top rows.old.sets rows.new.sets) }
     ensures memo { NotesMore flat.now rows.old.sets memo.old memo.new }
     ensures err { OnErr result (rows.new.sets ≡ rows.old.sets) }
     ensures counted { OnOk result (0 < length rows.old.sets →
-        RisesBy (IsLink flat.now (FlatEdges flat.now (Held edges.now)) top (length rows.old.sets)) (steps.old + length memo.new) (steps.new + length memo.old)) }
+        RisesByLinks flat.now edges.now top (length rows.old.sets)
+        (steps.old + length memo.new) (steps.new + length memo.old)) }
 {
     let earleme = rows.len() as u32;
     make_kernel(flat, heads, top, rows, memo, edges, earleme, work, steps)?;
@@ -98,12 +96,12 @@ fn add_row<L: Ledger>(
     requires forward { GoForward edges.now }
     ensures lists { AreLists flat.now rows.new.shared lists.new.numbers.entries }
     ensures flat { rows.new.flat ≡ flat.now }
-    ensures ok { OnOk result ((row : List Item) × (rows.new.sets ≡ rows.old.sets ++ row ∷ []) × IsRowOf flat.now (length rows.old.sets) row ×
-        IsListOf (InReduced flat.now (FlatEdges flat.now (Held edges.now)) top (length rows.old.sets)) row) }
+    ensures ok { OnOk result (AddsRow flat.now edges.now top rows.old.sets rows.new.sets) }
     ensures memo { IsMemo flat.now rows.old.sets memo.new }
     ensures err { OnErr result ((rows.new.sets ≡ rows.old.sets) × (memo.new ≡ memo.old)) }
     ensures counted { OnOk result (0 < length rows.old.sets →
-        RisesBy (IsLink flat.now (FlatEdges flat.now (Held edges.now)) top (length rows.old.sets)) (steps.old + length memo.new) (steps.new + length memo.old)) }
+        RisesByLinks flat.now edges.now top (length rows.old.sets)
+        (steps.old + length memo.new) (steps.new + length memo.old)) }
 {
     let noted = memo.len();
     match make_row(flat, heads, top, rows, lists, memo, edges, work, steps) {
@@ -139,8 +137,7 @@ fn add_first<L: Ledger>(
     requires edges { edges.now ≡ [] }
     ensures lists { AreLists flat.now rows.new.shared lists.new.numbers.entries }
     ensures flat { rows.new.flat ≡ flat.now }
-    ensures ok { OnOk result ((row : List Item) × (rows.new.sets ≡ row ∷ []) × IsRowOf flat.now 0 row ×
-        IsListOf (InReduced flat.now (FlatEdges flat.now (Held edges.now)) top 0) row) }
+    ensures ok { OnOk result (AddsRow flat.now edges.now top [] rows.new.sets) }
     ensures memo { memo.new ≡ [] }
 {
     let mut steps = Steps::<L>::of_blank(blank);
@@ -160,8 +157,7 @@ fn first_rows<'g>(
     requires lists { lists.old.numbers.entries ≡ [] }
     ensures lists { IfOk result (λ rows. AreLists flat.now rows.shared lists.new.numbers.entries) }
     ensures flat { IfOk result (λ rows. rows.flat ≡ flat.now) }
-    ensures ok { IfOk result (λ rows. (row : List Item) × (rows.sets ≡ row ∷ []) × IsRowOf flat.now 0 row ×
-        IsListOf (InReduced flat.now (FlatEdges flat.now (Held [])) top 0) row) }
+    ensures ok { IfOk result (λ rows. AddsRow flat.now [] top [] rows.sets) }
 {
     let mut rows = Rows::new(alloc, flat)?;
     let mut memo = Memo::new(alloc);
