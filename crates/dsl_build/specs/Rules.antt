@@ -1,7 +1,13 @@
 -- A grammar with more rules, and with more symbols.
-use Rattle.std.specs.Prelude.{ℕ, List, ◌++◌}
+use Rattle.std.specs.Prelude.{◌≡◌, ℕ, List, ◌++◌, map}
 use Rattle.grammar_model.specs.Grammar.{WrittenRule, Grammar}
+use Rattle.grammar_core.specs.Written.{rule_of}
+use Rattle.grammar_core.specs.declared.rule.WrittenRule as held
 use Rattle.language_model.specs.Building.{set_names}
+
+-- these rules stand after the others
+abbrev pub AddsRules : (old new : List held.WrittenRule) → List WrittenRule → Type 0
+AddsRules old new more = map rule_of new ≡ map rule_of old ++ more
 
 abbrev pub with_rules : Grammar → List WrittenRule → Grammar
 with_rules g rules = record { names = g.names; rules = g.rules ++ rules; starts = g.starts }

@@ -48,7 +48,9 @@ fn grammars_of(
     requires structural { IsWritable (grammar_with symbols.now 0 (map rule_of rules.structural.items) start.now) }
     requires lexical { IsWritable (lexical_with names.now (map rule_of rules.lexical.items) (map (λ t. t.now) tokens.now) starts.now) }
     ensures structural { IfOk result (λ g. g.g1 ≡ grammar_with symbols.now 0 (map rule_of rules.structural.items) start.now) }
-    ensures lexical { IfOk result (λ g. g.lexical.grammar ≡ lexical_with names.now (map rule_of rules.lexical.items) (map (λ t. t.now) tokens.now) starts.now) }
+    ensures lexical { IfOk result (λ g. g.lexical.grammar ≡
+        lexical_with names.now (map rule_of rules.lexical.items) (map (λ t. t.now) tokens.now)
+        starts.now) }
     ensures sets { IfOk result (λ g. g.lexical.sets.items ≡ numbered_from (length names.now) (flat_map sets_of (map (λ t. t.now) tokens.now))) }
 {
     let lexical = lexical_grammar(alloc, names, tokens, rules.lexical, starts)?;

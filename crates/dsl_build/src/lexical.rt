@@ -5,6 +5,7 @@ ghost use Rattle.language_model.specs.Building.{sets_of, added_rules, numbered_f
 ghost use Rattle.grammar_core.specs.Written.{rule_of};
 ghost use Rattle.dsl_build.specs.Lexical.{added_rule, added_of, lexical_with};
 ghost use Rattle.dsl_build.specs.Ready.{IsReadable, IsWritable};
+ghost use Rattle.dsl_build.specs.Rules.{AddsRules};
 
 use crate::placed::is_quote_or_bracket;
 use crate::sets::{numbered, numbers_from, push_sets};
@@ -32,7 +33,7 @@ fn push_token_rule(
 ) -> Result<(), AllocError>
     requires number { number ≤ MOST_ENTRIES }
     requires sets { next + count ≤ MOST_ENTRIES }
-    ensures { OnOk result (map rule_of out.new.items ≡ map rule_of out.old.items ++ added_of number next count token.now) }
+    ensures { OnOk result (AddsRules out.old.items out.new.items (added_of number next count token.now)) }
 {
     if !is_quote_or_bracket(token) {
         return Ok(());
@@ -62,7 +63,7 @@ fn push_token(
     requires number { number ≤ MOST_ENTRIES }
     requires room { first + (length sets.old.items + length (sets_of token.now)) ≤ MOST_ENTRIES }
     ensures sets { OnOk result (sets.new.items ≡ sets.old.items ++ sets_of token.now) }
-    ensures rules { OnOk result (map rule_of out.new.items ≡ map rule_of out.old.items ++ added_rule number (first + length sets.old.items) token.now) }
+    ensures rules { OnOk result (AddsRules out.old.items out.new.items (added_rule number (first + length sets.old.items) token.now)) }
 {
     let before = sets.len();
     push_sets(alloc, sets, token)?;
@@ -81,7 +82,7 @@ fn push_tokens(
     requires numbers { length tokens.now ≤ first }
     requires room { first + length (flat_map sets_of (map (λ t. t.now) tokens.now)) ≤ MOST_ENTRIES }
     ensures sets { IfOk result (λ sets. sets.items ≡ flat_map sets_of (map (λ t. t.now) tokens.now)) }
-    ensures rules { OnOk result (map rule_of out.new.items ≡ map rule_of out.old.items ++ added_rules 0 first (map (λ t. t.now) tokens.now)) }
+    ensures rules { OnOk result (AddsRules out.old.items out.new.items (added_rules 0 first (map (λ t. t.now) tokens.now))) }
 {
     let mut sets = Vec::new(alloc);
     for (i, token) in tokens.iter().enumerate() {

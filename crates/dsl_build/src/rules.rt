@@ -1,5 +1,5 @@
 //! The pass over statements that makes their rules of numbers: each token is looked up once, in the table of its level.
-ghost use Rattle.std.specs.Prelude.{◌≡◌, ◌≤◌, ◌++◌, ◌∷◌, [], map, flat_map, filter, length, IfOk, OnOk, All, option_map, codes, false, true};
+ghost use Rattle.std.specs.Prelude.{◌≡◌, ◌≤◌, ◌∷◌, [], map, flat_map, filter, length, IfOk, OnOk, All, option_map, codes, false, true};
 ghost use Rattle.language_model.specs.Description.{Empty, Quantified};
 ghost use Rattle.language_model.specs.Building as building;
 ghost use Rattle.language_model.specs.Building.{is_one_of, place_in, numbers_in, rules_of_groups, rules_of, is_of_level, parts_of};
@@ -9,6 +9,7 @@ ghost use Rattle.grammar_core.specs.Written.{rule_of};
 ghost use Rattle.dsl_statement.specs.Statements.{adverbs_of, statement_of};
 ghost use Rattle.dsl_build.specs.Ready.{IsNamed, IsSmall, IsReady, IsReadyAlternative};
 ghost use Rattle.dsl_build.specs.Resolving.{is_at, rules_at, plain_with};
+ghost use Rattle.dsl_build.specs.Rules.{AddsRules};
 
 use crate::numbers::{assoc_of, rank_of, says};
 use crate::symbols::symbol_of;
@@ -85,7 +86,7 @@ fn push_group(
 ) -> Result<(), AllocError>
     requires ready { All (IsReadyAlternative names.now) group.now }
     requires few { length names.now ≤ MOST_ENTRIES }
-    ensures { OnOk result (map rule_of out.new.items ≡ map rule_of out.old.items ++ map (plain_with names.now lhs level groups) group.now) }
+    ensures { OnOk result (AddsRules out.old.items out.new.items (map (plain_with names.now lhs level groups) group.now)) }
 {
     for alternative in group {
         out.push(plain_rule(alloc, names, lhs, level, groups, alternative)?)?;
@@ -104,10 +105,8 @@ fn push_groups(
     requires ready { All (λ g. All (IsReadyAlternative names.now) g.items) groups.now }
     requires counted { length groups.now ≤ 4294967295 }
     requires few { length names.now ≤ MOST_ENTRIES }
-    ensures { OnOk result (map rule_of out.new.items ≡
-        map rule_of out.old.items ++
-        rules_of_groups names.now left.now (length groups.now)
-        (map (λ g. g.items) groups.now)) }
+    ensures { OnOk result (AddsRules out.old.items out.new.items (rules_of_groups names.now left.now
+        (length groups.now) (map (λ g. g.items) groups.now))) }
 {
     let lhs = number_of(names, left);
     let count = groups.len() as u32;
@@ -177,7 +176,7 @@ fn push_statement(
 ) -> Result<(), AllocError>
     requires ready { IsReady names.now (statement_of s.now) }
     requires few { length names.now ≤ MOST_ENTRIES }
-    ensures { OnOk result (map rule_of out.new.items ≡ map rule_of out.old.items ++ rules_of names.now (statement_of s.now)) }
+    ensures { OnOk result (AddsRules out.old.items out.new.items (rules_of names.now (statement_of s.now))) }
 {
     match s {
         Statement::Empty { left, adverbs, .. } => {
@@ -230,10 +229,9 @@ fn push_of_level(
     requires lexical { is_of_level true (statement_of s.now) ≡ true → IsReady lexical.now (statement_of s.now) }
     requires few { length structural.now ≤ MOST_ENTRIES }
     requires few_lexical { length lexical.now ≤ MOST_ENTRIES }
-    ensures structural { OnOk result (map rule_of out.new.structural.items ≡
-        map rule_of out.old.structural.items ++
-        rules_at false structural.now (statement_of s.now)) }
-    ensures lexical { OnOk result (map rule_of out.new.lexical.items ≡ map rule_of out.old.lexical.items ++ rules_at true lexical.now (statement_of s.now)) }
+    ensures structural { OnOk result (AddsRules out.old.structural.items out.new.structural.items (rules_at
+        false structural.now (statement_of s.now))) }
+    ensures lexical { OnOk result (AddsRules out.old.lexical.items out.new.lexical.items (rules_at true lexical.now (statement_of s.now))) }
 {
     match level_of(s) {
         Some(Level::Structural) => push_statement(alloc, &mut out.structural, structural, s),

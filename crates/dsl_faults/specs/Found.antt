@@ -1,5 +1,5 @@
 -- What a program's faults and refusals mean.
-use Rattle.std.specs.Prelude.{◌≡◌, List, [], ◌∷◌, ◌++◌, Option, Some, None, Result, IfSome, MatchResult, string_bytes}
+use Rattle.std.specs.Prelude.{◌≡◌, List, [], ◌∷◌, ◌++◌, Option, Some, None, option_map, Result, IfSome, MatchResult, string_bytes}
 use Rattle.std.specs.Borrow.{Bor, MutBor}
 use Rattle.std.specs.Fn.{Shared}
 use Rattle.language_model.specs.Building as building
@@ -14,6 +14,10 @@ fault_of f = record { at = f.at; name = f.name.now }
 abbrev pub first_of : {A : Type 0} → List A → Option A
 first_of [] = None
 first_of (x ∷ xs) = Some x
+
+-- the first of these faults, or none where there are none
+abbrev pub IsFirst : List Fault → Option Found → Type 0
+IsFirst faults found = option_map fault_of found ≡ first_of faults
 
 -- what elements have, each by the state that those before it left
 abbrev pub along : {S A B : Type 0} → (S → A → List B) → (S → A → S) → S → List A → List B

@@ -1,8 +1,9 @@
 -- The tokens that name symbols, in order of the text, and what each is used as.
-use Rattle.std.specs.Prelude.{ℕ, Bool, false, true, List, [], ◌∷◌, ◌++◌, map, flat_map, take, option_to_list, not, ◌&&◌, if◌then◌else◌}
+use Rattle.std.specs.Prelude.{◌≡◌, ℕ, Bool, false, true, List, [], ◌∷◌, ◌++◌, map, flat_map, take, option_to_list, not, ◌&&◌, if◌then◌else◌}
 use Rattle.language_model.specs.Tokens.{Spelled}
 use Rattle.language_model.specs.Description.{Statement, Start, Discard}
 use Rattle.language_model.specs.Building.{left_of, right_of}
+use Rattle.dsl_statement.specs.declared.statement.Level.{Level}
 use Rattle.dsl_statement.specs.Statements.{is_lexical}
 use Rattle.dsl_faults.specs.declared.uses.Role.{Role}
 use Rattle.dsl_faults.specs.declared.uses.Role.TheVariants as role
@@ -20,6 +21,14 @@ used_of u = record { role = u.role; lexical = is_lexical u.level; token = u.toke
 
 abbrev pub used : Role → Bool → Spelled → Used
 used r lexical token = record { role = r; lexical = lexical; token = token }
+
+-- parts of a right side, by the level of its rule
+abbrev pub on_right : Level → List Spelled → List Used
+on_right level parts = map (used role.Right (is_lexical level)) parts
+
+-- these uses stand after the others
+abbrev pub AddsUses : (old new : List Use) → List Used → Type 0
+AddsUses old new more = map used_of new ≡ map used_of old ++ more
 
 abbrev pub start_tokens : Statement → List Spelled
 start_tokens (Start at name) = name ∷ []

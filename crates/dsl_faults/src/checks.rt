@@ -1,9 +1,9 @@
 //! The faults of adverbs.
-ghost use Rattle.std.specs.Prelude.{◌≡◌, ◌<◌, IfOk, option_map, flat_map, map, [], ◌∷◌, if◌then◌else◌, length, take, slice_get};
+ghost use Rattle.std.specs.Prelude.{◌≡◌, ◌<◌, IfOk, flat_map, map, [], ◌∷◌, if◌then◌else◌, length, take, slice_get};
 ghost use Rattle.language_model.specs.Building.{pairs_of, repeated_in, InAlternative, InEmpty, InQuantified, InLexicalQuantified, InOther};
 ghost use Rattle.dsl_faults.specs.declared.checks.Check.TheVariants.{Known};
 ghost use Rattle.dsl_statement.specs.Statements.{adverb_of, adverbs_of, is_lexical, statement_of};
-ghost use Rattle.dsl_faults.specs.Found.{fault_of, first_of};
+ghost use Rattle.dsl_faults.specs.Found.{IsFirst};
 ghost use Rattle.dsl_faults.specs.Adverbs.{place_of, names_of, repeat_of, list_faults, big_faults, statement_faults};
 
 use crate::adverbs::{Place, is_allowed, value_of};
@@ -28,7 +28,7 @@ fn unknown_adverb(
     place: Place,
     adverb: &Adverb,
 ) -> Result<Option<Found<'_>>, AllocError>
-    ensures { IfOk result (λ found. option_map fault_of found ≡ first_of (list_faults Known (place_of place, adverb_of adverb.now ∷ []))) }
+    ensures { IfOk result (IsFirst (list_faults Known (place_of place, adverb_of adverb.now ∷ []))) }
 {
     match adverb {
         Adverb::Comma { .. } => Ok(None),
@@ -41,14 +41,14 @@ fn unknown_adverb(
 }
 
 fn unknown(alloc: Global, place: Place, adverbs: &[Adverb]) -> Result<Option<Found<'_>>, AllocError>
-    ensures { IfOk result (λ found. option_map fault_of found ≡ first_of (list_faults Known (place_of place, adverbs_of adverbs.now))) }
+    ensures { IfOk result (IsFirst (list_faults Known (place_of place, adverbs_of adverbs.now))) }
 {
     first_found(adverbs, |adverb| unknown_adverb(alloc, place, adverb))
 }
 
 // Whether the adverb stands among those before it.
 fn repeated_adverb<'a>(before: &[Adverb], adverb: &'a Adverb) -> Option<Found<'a>>
-    ensures { option_map fault_of result ≡ first_of (repeated_in (names_of before.now) (pairs_of (adverb_of adverb.now ∷ []))) }
+    ensures { IsFirst (repeated_in (names_of before.now) (pairs_of (adverb_of adverb.now ∷ []))) result }
 {
     match adverb {
         Adverb::Comma { .. } => None,
@@ -61,19 +61,19 @@ fn repeated_adverb<'a>(before: &[Adverb], adverb: &'a Adverb) -> Option<Found<'a
 
 fn repeated_at(adverbs: &[Adverb], place: usize) -> Option<Found<'_>>
     requires { place < length adverbs.now }
-    ensures { option_map fault_of result ≡ first_of (repeat_of (take place adverbs.now) (slice_get adverbs.now place)) }
+    ensures { IsFirst (repeat_of (take place adverbs.now) (slice_get adverbs.now place)) result }
 {
     repeated_adverb(&adverbs[..place], &adverbs[place])
 }
 
 fn repeated(adverbs: &[Adverb]) -> Option<Found<'_>>
-    ensures { option_map fault_of result ≡ first_of (repeated_in [] (pairs_of (adverbs_of adverbs.now))) }
+    ensures { IsFirst (repeated_in [] (pairs_of (adverbs_of adverbs.now))) result }
 {
     (0..adverbs.len()).find_map(|place| repeated_at(adverbs, place))
 }
 
 fn big_adverb(adverb: &Adverb) -> Option<Found<'_>>
-    ensures { option_map fault_of result ≡ first_of (big_faults (adverb_of adverb.now ∷ [])) }
+    ensures { IsFirst (big_faults (adverb_of adverb.now ∷ [])) result }
 {
     match adverb {
         Adverb::Comma { .. } => None,
@@ -84,7 +84,7 @@ fn big_adverb(adverb: &Adverb) -> Option<Found<'_>>
 }
 
 fn too_big(adverbs: &[Adverb]) -> Option<Found<'_>>
-    ensures { option_map fault_of result ≡ first_of (big_faults (adverbs_of adverbs.now)) }
+    ensures { IsFirst (big_faults (adverbs_of adverbs.now)) result }
 {
     adverbs.iter().find_map(big_adverb)
 }
@@ -95,7 +95,7 @@ fn fault_in_list(
     place: Place,
     adverbs: &[Adverb],
 ) -> Result<Option<Found<'_>>, AllocError>
-    ensures { IfOk result (λ found. option_map fault_of found ≡ first_of (list_faults check (place_of place, adverbs_of adverbs.now))) }
+    ensures { IfOk result (IsFirst (list_faults check (place_of place, adverbs_of adverbs.now))) }
 {
     match check {
         Check::Known => unknown(alloc, place, adverbs),
@@ -110,7 +110,7 @@ fn fault_in_group(
     place: Place,
     group: &[Alternative],
 ) -> Result<Option<Found<'_>>, AllocError>
-    ensures { IfOk result (λ found. option_map fault_of found ≡ first_of (flat_map (λ a. list_faults check (place_of place, a.adverbs)) group.now)) }
+    ensures { IfOk result (IsFirst (flat_map (λ a. list_faults check (place_of place, a.adverbs)) group.now)) }
 {
     first_found(group, |alternative| {
         fault_in_list(alloc, check, place, &alternative.adverbs)
@@ -123,7 +123,7 @@ fn fault_in_groups(
     place: Place,
     groups: &[Vec<Alternative>],
 ) -> Result<Option<Found<'_>>, AllocError>
-    ensures { IfOk result (λ found. option_map fault_of found ≡ first_of (flat_map (λ g. flat_map (λ a. list_faults check (place_of place, a.adverbs)) g.items) groups.now)) }
+    ensures { IfOk result (IsFirst (flat_map (λ g. flat_map (λ a. list_faults check (place_of place, a.adverbs)) g.items) groups.now)) }
 {
     first_found(groups, |group| fault_in_group(alloc, check, place, group))
 }
@@ -161,7 +161,7 @@ pub fn fault_in_statement(
     check: Check,
     s: &Statement,
 ) -> Result<Option<Found<'_>>, AllocError>
-    ensures { IfOk result (λ found. option_map fault_of found ≡ first_of (statement_faults check (statement_of s.now))) }
+    ensures { IfOk result (IsFirst (statement_faults check (statement_of s.now))) }
 {
     match s {
         Statement::Start { .. } => Ok(None),
@@ -201,7 +201,7 @@ pub fn fault_in_all(
     check: Check,
     statements: &[Statement],
 ) -> Result<Option<Found<'_>>, AllocError>
-    ensures { IfOk result (λ found. option_map fault_of found ≡ first_of (flat_map (statement_faults check) (map statement_of statements.now))) }
+    ensures { IfOk result (IsFirst (flat_map (statement_faults check) (map statement_of statements.now))) }
 {
     first_found(statements, |s| fault_in_statement(alloc, check, s))
 }

@@ -1,8 +1,8 @@
 //! Where a fault stands, and searches for the first.
-ghost use Rattle.std.specs.Prelude.{◌≡◌, List, Ok, IfOk, flat_map, option_map};
+ghost use Rattle.std.specs.Prelude.{◌≡◌, List, Ok, IfOk, flat_map};
 ghost use Rattle.std.specs.Fn.{FnReturnsAt};
 ghost use Rattle.language_model.specs.Building.{Fault, fault_at};
-ghost use Rattle.dsl_faults.specs.Found.{FindsAfter, along, fault_of, first_of};
+ghost use Rattle.dsl_faults.specs.Found.{FindsAfter, along, fault_of, IsFirst};
 
 use dsl_statement::Spelled;
 use std::alloc::AllocError;
@@ -30,7 +30,8 @@ pub fn first_found<'a, T, F: Fn(&'a T) -> Result<Option<Found<'a>>, AllocError>>
     find: F,
 ) -> Result<Option<Found<'a>>, AllocError>
     requires { F.IsAlwaysCallable find }
-    ensures { (each : T → List Fault) → ((x : _) (o : _) → FnReturnsAt F.Fn find x (Ok o) → option_map fault_of o ≡ first_of (each x)) → IfOk result (λ found. option_map fault_of found ≡ first_of (flat_map each xs.now)) }
+    ensures { (each : T → List Fault) → ((x : _) (o : _) → FnReturnsAt F.Fn find x (Ok o) → IsFirst (each x) o) →
+        IfOk result (IsFirst (flat_map each xs.now)) }
 {
     for x in xs {
         let found = find(x)?;
@@ -48,7 +49,9 @@ pub fn first_after<'a, T, S: Drop, F: Fn(&mut S, &'a T) -> Result<Option<Found<'
     find: F,
 ) -> Result<Option<Found<'a>>, AllocError>
     requires { F.IsAlwaysCallable find }
-    ensures { (each : S → T → List Fault) (after : S → T → S) → ((s : _) (x : _) (o : _) (t : _) → FindsAfter F.Fn find s x (Ok o) t → (option_map fault_of o ≡ first_of (each s x)) × (t ≡ after s x)) → IfOk result (λ found. option_map fault_of found ≡ first_of (along each after first xs.now)) }
+    ensures { (each : S → T → List Fault) (after : S → T → S) →
+        ((s : _) (x : _) (o : _) (t : _) → FindsAfter F.Fn find s x (Ok o) t → IsFirst (each s x) o × (t ≡ after s x)) →
+        IfOk result (IsFirst (along each after first xs.now)) }
 {
     let mut state = first;
     for x in xs {

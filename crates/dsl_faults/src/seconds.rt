@@ -1,9 +1,9 @@
 //! Faults of whole statements and of right sides.
-ghost use Rattle.std.specs.Prelude.{◌≡◌, ◌++◌, [], ◌||◌, ◌==◌, ◌&&◌, nat_lt, length, IfOk, OnOk, option_map, map, flat_map};
+ghost use Rattle.std.specs.Prelude.{◌≡◌, ◌++◌, [], ◌||◌, ◌==◌, ◌&&◌, nat_lt, length, IfOk, OnOk, map, flat_map};
 ghost use Rattle.language_model.specs.Building as building;
 ghost use Rattle.language_model.specs.Building.{second_starts, long_parts, too_long};
 ghost use Rattle.dsl_statement.specs.Statements.{statement_of};
-ghost use Rattle.dsl_faults.specs.Found.{fault_of, first_of};
+ghost use Rattle.dsl_faults.specs.Found.{IsFirst};
 ghost use Rattle.dsl_faults.specs.Adverbs.{statement_faults};
 ghost use Rattle.dsl_faults.specs.declared.checks.Check.TheVariants.{Once};
 ghost use Rattle.dsl_faults.specs.Faults.{lexeme_fault, second_fault, seen_after, start_fault, is_start, long_fault};
@@ -19,7 +19,7 @@ use std::alloc::{AllocError, Global};
 const MOST: usize = 1_000;
 
 fn lexeme_fault<'a>(s: &'a Statement, symbols: &Names, left: &Names) -> Option<Found<'a>>
-    ensures { option_map fault_of result ≡ first_of (lexeme_fault symbols.now left.now (statement_of s.now)) }
+    ensures { IsFirst (lexeme_fault symbols.now left.now (statement_of s.now)) result }
 {
     match s {
         Statement::Lexeme { name, .. } => {
@@ -37,7 +37,7 @@ pub fn not_a_lexeme<'a>(
     symbols: &Names,
     left: &Names,
 ) -> Option<Found<'a>>
-    ensures { option_map fault_of result ≡ first_of (flat_map (lexeme_fault symbols.now left.now) (map statement_of statements.now)) }
+    ensures { IsFirst (flat_map (lexeme_fault symbols.now left.now) (map statement_of statements.now)) result }
 {
     statements
         .iter()
@@ -55,7 +55,7 @@ struct Seen {
 }
 
 fn second_fault<'a>(s: &'a Statement, seen: &Seen) -> Option<Found<'a>>
-    ensures { option_map fault_of result ≡ first_of (second_fault seen.now.default seen.now.lexemes (statement_of s.now)) }
+    ensures { IsFirst (second_fault seen.now.default seen.now.lexemes (statement_of s.now)) result }
 {
     match s {
         Statement::LexemeDefault { at, .. } => seen.default.then_some(Found {
@@ -87,7 +87,8 @@ fn see(seen: &mut Seen, s: &Statement) -> Result<(), AllocError>
 }
 
 fn repeated_at<'a>(seen: &mut Seen, s: &'a Statement) -> Result<Option<Found<'a>>, AllocError>
-    ensures found { IfOk result (λ found. option_map fault_of found ≡ first_of (second_fault seen.old.default seen.old.lexemes (statement_of s.now) ++ statement_faults Once (statement_of s.now))) }
+    ensures found { IfOk result (IsFirst (second_fault seen.old.default seen.old.lexemes (statement_of s.now) ++
+        statement_faults Once (statement_of s.now))) }
     ensures seen { OnOk result (seen.new ≡ seen_after seen.old (statement_of s.now)) }
 {
     let second = second_fault(s, seen);
@@ -100,7 +101,7 @@ fn repeated_at<'a>(seen: &mut Seen, s: &'a Statement) -> Result<Option<Found<'a>
 
 /// The first adverb that stands twice in a list, or second `lexeme default`, or second `:lexeme` of a lexeme.
 pub fn repeated(alloc: Global, statements: &[Statement]) -> Result<Option<Found<'_>>, AllocError>
-    ensures { IfOk result (λ found. option_map fault_of found ≡ first_of (building.repeated [] (map statement_of statements.now))) }
+    ensures { IfOk result (IsFirst (building.repeated [] (map statement_of statements.now))) }
 {
     let seen = Seen {
         alloc,
@@ -117,7 +118,7 @@ fn is_start(s: &Statement) -> bool
 }
 
 fn start_fault(s: &Statement) -> Option<Found<'_>>
-    ensures { option_map fault_of result ≡ first_of (start_fault (statement_of s.now)) }
+    ensures { IsFirst (start_fault (statement_of s.now)) result }
 {
     match s {
         Statement::Start { at, .. } => Some(Found {
@@ -130,7 +131,7 @@ fn start_fault(s: &Statement) -> Option<Found<'_>>
 
 /// The second `:start`.
 pub fn second_start(statements: &[Statement]) -> Option<Found<'_>>
-    ensures { option_map fault_of result ≡ first_of (second_starts (map statement_of statements.now)) }
+    ensures { IsFirst (second_starts (map statement_of statements.now)) result }
 {
     let first = statements.iter().position(is_start)?;
     statements[first + 1..].iter().find_map(start_fault)
@@ -143,14 +144,14 @@ fn is_long_quote(token: &Spelled) -> bool
 }
 
 fn long_fault<'a>(before: usize, token: &'a Spelled) -> Option<Found<'a>>
-    ensures { option_map fault_of result ≡ first_of (long_fault before token.now) }
+    ensures { IsFirst (long_fault before token.now) result }
 {
     let long = before == MOST || is_long_quote(token);
     long.then_some(fault_at(token))
 }
 
 fn long_part<'a>(parts: &[&'a Spelled]) -> Option<Found<'a>>
-    ensures { option_map fault_of result ≡ first_of (long_parts 0 (map (λ t. t.now) parts.now)) }
+    ensures { IsFirst (long_parts 0 (map (λ t. t.now) parts.now)) result }
 {
     parts
         .iter()
@@ -162,26 +163,26 @@ fn long_alternative(
     alloc: Global,
     alternative: &Alternative,
 ) -> Result<Option<Found<'_>>, AllocError>
-    ensures { IfOk result (λ found. option_map fault_of found ≡ first_of (long_parts 0 (building.parts_of alternative.now))) }
+    ensures { IfOk result (IsFirst (long_parts 0 (building.parts_of alternative.now))) }
 {
     let parts = parts_of(alloc, alternative)?;
     Ok(long_part(&parts))
 }
 
 fn long_group(alloc: Global, group: &[Alternative]) -> Result<Option<Found<'_>>, AllocError>
-    ensures { IfOk result (λ found. option_map fault_of found ≡ first_of (flat_map (λ a. long_parts 0 (building.parts_of a)) group.now)) }
+    ensures { IfOk result (IsFirst (flat_map (λ a. long_parts 0 (building.parts_of a)) group.now)) }
 {
     first_found(group, |alternative| long_alternative(alloc, alternative))
 }
 
 fn long_groups(alloc: Global, groups: &[Vec<Alternative>]) -> Result<Option<Found<'_>>, AllocError>
-    ensures { IfOk result (λ found. option_map fault_of found ≡ first_of (flat_map (λ g. flat_map (λ a. long_parts 0 (building.parts_of a)) g.items) groups.now)) }
+    ensures { IfOk result (IsFirst (flat_map (λ g. flat_map (λ a. long_parts 0 (building.parts_of a)) g.items) groups.now)) }
 {
     first_found(groups, |group| long_group(alloc, group))
 }
 
 fn long_statement(alloc: Global, s: &Statement) -> Result<Option<Found<'_>>, AllocError>
-    ensures { IfOk result (λ found. option_map fault_of found ≡ first_of (flat_map (long_parts 0) (building.right_sides (statement_of s.now)))) }
+    ensures { IfOk result (IsFirst (flat_map (long_parts 0) (building.right_sides (statement_of s.now)))) }
 {
     match s {
         Statement::Rules { groups, .. } => long_groups(alloc, groups),
@@ -191,7 +192,7 @@ fn long_statement(alloc: Global, s: &Statement) -> Result<Option<Found<'_>>, All
 
 /// The first part after 1,000 others, or quoted text of more than 1,000 characters, on a right side.
 pub fn too_long(alloc: Global, statements: &[Statement]) -> Result<Option<Found<'_>>, AllocError>
-    ensures { IfOk result (λ found. option_map fault_of found ≡ first_of (too_long (map statement_of statements.now))) }
+    ensures { IfOk result (IsFirst (too_long (map statement_of statements.now))) }
 {
     first_found(statements, |s| long_statement(alloc, s))
 }

@@ -1,10 +1,10 @@
 //! The faults of the uses of symbols.
-ghost use Rattle.std.specs.Prelude.{◌≡◌, [], ◌∷◌, IfOk, OnOk, option_map, map, flat_map, if◌then◌else◌, not, is_ok, chars};
+ghost use Rattle.std.specs.Prelude.{◌≡◌, [], ◌∷◌, IfOk, OnOk, map, flat_map, if◌then◌else◌, not, is_ok, chars};
 ghost use Rattle.language_model.specs.Description as description;
 ghost use Rattle.language_model.specs.Building as building;
 ghost use Rattle.language_model.specs.Building.{is_one_of};
 ghost use Rattle.language_model.specs.Classes.{class_of};
-ghost use Rattle.dsl_faults.specs.Found.{fault_of, first_of};
+ghost use Rattle.dsl_faults.specs.Found.{IsFirst};
 ghost use Rattle.dsl_faults.specs.Uses.{used_of, is_right, is_left};
 ghost use Rattle.dsl_faults.specs.Faults.{is_undefined, is_bad_class, undefined_fault, class_fault, both_fault, left_part, lefts_after};
 
@@ -53,14 +53,14 @@ fn is_undefined(used: &Use<'_>, structural: &Names, lexical: &Names) -> bool
 }
 
 fn undefined_use<'a>(used: &Use<'a>, structural: &Names, lexical: &Names) -> Option<Found<'a>>
-    ensures { option_map fault_of result ≡ first_of (undefined_fault structural.now lexical.now (used_of used.now)) }
+    ensures { IsFirst (undefined_fault structural.now lexical.now (used_of used.now)) result }
 {
     is_undefined(used, structural, lexical).then_some(fault_at(used.token))
 }
 
 /// The first name that no rule defines, or in a lexical place no lexical rule. The tables have the left sides.
 pub fn undefined<'a>(uses: &'a [Use<'a>], structural: &Names, lexical: &Names) -> Option<Found<'a>>
-    ensures { option_map fault_of result ≡ first_of (flat_map (undefined_fault structural.now lexical.now) (map used_of uses.now)) }
+    ensures { IsFirst (flat_map (undefined_fault structural.now lexical.now) (map used_of uses.now)) result }
 {
     uses.iter()
         .find_map(|used| undefined_use(used, structural, lexical))
@@ -77,7 +77,7 @@ fn is_bad_text(alloc: Global, text: &str) -> Result<bool, AllocError>
 }
 
 fn bad_class_use<'a>(alloc: Global, used: &Use<'a>) -> Result<Option<Found<'a>>, AllocError>
-    ensures { IfOk result (λ found. option_map fault_of found ≡ first_of (class_fault (used_of used.now))) }
+    ensures { IfOk result (IsFirst (class_fault (used_of used.now))) }
 {
     let bad = is_right(used) && is_bracket(used.token) && is_bad_text(alloc, text_of(used))?;
     Ok(bad.then_some(fault_at(used.token)))
@@ -85,7 +85,7 @@ fn bad_class_use<'a>(alloc: Global, used: &Use<'a>) -> Result<Option<Found<'a>>,
 
 /// The first class that cannot be read.
 pub fn bad_class<'a>(alloc: Global, uses: &'a [Use<'a>]) -> Result<Option<Found<'a>>, AllocError>
-    ensures { IfOk result (λ found. option_map fault_of found ≡ first_of (flat_map class_fault (map used_of uses.now))) }
+    ensures { IfOk result (IsFirst (flat_map class_fault (map used_of uses.now))) }
 {
     first_found(uses, |used| bad_class_use(alloc, used))
 }
@@ -108,7 +108,7 @@ fn is_of_other_level(used: &Use<'_>, lefts: &Lefts) -> bool
 }
 
 fn both_fault<'a>(used: &Use<'a>, lefts: &Lefts) -> Option<Found<'a>>
-    ensures { option_map fault_of result ≡ first_of (both_fault lefts.now.structural lefts.now.lexical (used_of used.now)) }
+    ensures { IsFirst (both_fault lefts.now.structural lefts.now.lexical (used_of used.now)) result }
 {
     let both = is_left(used) && is_of_other_level(used, lefts);
     both.then_some(fault_at(used.token))
@@ -127,7 +127,7 @@ fn keep_left(lefts: &mut Lefts, used: &Use<'_>) -> Result<(), AllocError>
 }
 
 fn both_at<'a>(lefts: &mut Lefts, used: &Use<'a>) -> Result<Option<Found<'a>>, AllocError>
-    ensures found { IfOk result (λ found. option_map fault_of found ≡ first_of (both_fault lefts.old.structural lefts.old.lexical (used_of used.now))) }
+    ensures found { IfOk result (IsFirst (both_fault lefts.old.structural lefts.old.lexical (used_of used.now))) }
     ensures left { OnOk result (lefts.new ≡ lefts_after lefts.old (used_of used.now)) }
 {
     let found = both_fault(used, lefts);
@@ -137,7 +137,7 @@ fn both_at<'a>(lefts: &mut Lefts, used: &Use<'a>) -> Result<Option<Found<'a>>, A
 
 /// The first left side whose name is one of the other level before.
 pub fn in_both<'a>(alloc: Global, uses: &'a [Use<'a>]) -> Result<Option<Found<'a>>, AllocError>
-    ensures { IfOk result (λ found. option_map fault_of found ≡ first_of (building.in_both [] (flat_map left_part (map used_of uses.now)))) }
+    ensures { IfOk result (IsFirst (building.in_both [] (flat_map left_part (map used_of uses.now)))) }
 {
     let lefts = Lefts {
         structural: Names::new(alloc),

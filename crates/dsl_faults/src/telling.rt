@@ -1,4 +1,4 @@
-//! The faults of a description, kind after kind.
+//! The faults of a description, one kind after the other.
 ghost use Rattle.std.specs.Prelude.{◌≡◌, ◌++◌, [], map, flat_map};
 ghost use Rattle.language_model.specs.Building as building;
 ghost use Rattle.language_model.specs.Building.{bad_adverbs, second_starts, big_numbers, too_long};

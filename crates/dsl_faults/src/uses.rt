@@ -1,8 +1,8 @@
 //! The tokens of a description that name symbols.
-ghost use Rattle.std.specs.Prelude.{◌≡◌, ◌++◌, ◌∷◌, [], map, flat_map, option_map, OnOk, IfOk};
+ghost use Rattle.std.specs.Prelude.{◌≡◌, ◌∷◌, [], map, flat_map, option_map, OnOk, IfOk};
 ghost use Rattle.language_model.specs.Building.{parts_of, separator_of, new_texts};
 ghost use Rattle.dsl_statement.specs.Statements.{adverbs_of, is_lexical, statement_of};
-ghost use Rattle.dsl_faults.specs.Uses.{used, used_of, uses_of, is_asked, texts_asked};
+ghost use Rattle.dsl_faults.specs.Uses.{used, used_of, uses_of, is_asked, texts_asked, AddsUses, on_right};
 ghost use Rattle.dsl_faults.specs.Found.{first_of};
 ghost use Rattle.dsl_faults.specs.declared.uses.Role.TheVariants.{Right};
 
@@ -39,7 +39,7 @@ fn push<'a>(
     level: Level,
     token: &'a Spelled,
 ) -> Result<(), AllocError>
-    ensures { OnOk result (map used_of uses.new.items ≡ map used_of uses.old.items ++ used role (is_lexical level) token.now ∷ []) }
+    ensures { OnOk result (AddsUses uses.old.items uses.new.items (used role (is_lexical level) token.now ∷ [])) }
 {
     uses.push(Use { role, level, token })?;
     Ok(())
@@ -50,7 +50,7 @@ fn push_parts<'a>(
     level: Level,
     parts: &[&'a Spelled],
 ) -> Result<(), AllocError>
-    ensures { OnOk result (map used_of uses.new.items ≡ map used_of uses.old.items ++ map (λ t. used Right (is_lexical level) t.now) parts.now) }
+    ensures { OnOk result (AddsUses uses.old.items uses.new.items (map (λ t. used Right (is_lexical level) t.now) parts.now)) }
 {
     for part in parts {
         push(uses, Role::Right, level, part)?;
@@ -64,7 +64,7 @@ fn push_alternative<'a>(
     level: Level,
     alternative: &'a Alternative,
 ) -> Result<(), AllocError>
-    ensures { OnOk result (map used_of uses.new.items ≡ map used_of uses.old.items ++ map (used Right (is_lexical level)) (parts_of alternative.now)) }
+    ensures { OnOk result (AddsUses uses.old.items uses.new.items (on_right level (parts_of alternative.now))) }
 {
     let parts = parts::parts_of(alloc, alternative)?;
     push_parts(uses, level, &parts)
@@ -76,7 +76,7 @@ fn push_group<'a>(
     level: Level,
     group: &'a [Alternative],
 ) -> Result<(), AllocError>
-    ensures { OnOk result (map used_of uses.new.items ≡ map used_of uses.old.items ++ flat_map (λ a. map (used Right (is_lexical level)) (parts_of a)) group.now) }
+    ensures { OnOk result (AddsUses uses.old.items uses.new.items (flat_map (λ a. on_right level (parts_of a)) group.now)) }
 {
     for alternative in group {
         push_alternative(alloc, uses, level, alternative)?;
@@ -90,7 +90,7 @@ fn push_groups<'a>(
     level: Level,
     groups: &'a [Vec<Alternative>],
 ) -> Result<(), AllocError>
-    ensures { OnOk result (map used_of uses.new.items ≡ map used_of uses.old.items ++ flat_map (λ g. flat_map (λ a. map (used Right (is_lexical level)) (parts_of a)) g.items) groups.now) }
+    ensures { OnOk result (AddsUses uses.old.items uses.new.items (flat_map (λ g. flat_map (λ a. on_right level (parts_of a)) g.items) groups.now)) }
 {
     for group in groups {
         push_group(alloc, uses, level, group)?;
@@ -103,7 +103,7 @@ fn push_separator<'a>(
     level: Level,
     adverbs: &'a [Adverb],
 ) -> Result<(), AllocError>
-    ensures { OnOk result (map used_of uses.new.items ≡ map used_of uses.old.items ++ map (used Right (is_lexical level)) (separator_of (adverbs_of adverbs.now))) }
+    ensures { OnOk result (AddsUses uses.old.items uses.new.items (on_right level (separator_of (adverbs_of adverbs.now)))) }
 {
     match value_of("separator", adverbs) {
         Some(token) => push(uses, Role::Right, level, token),
@@ -116,7 +116,7 @@ fn push_statement<'a>(
     uses: &mut Vec<Use<'a>>,
     s: &'a Statement,
 ) -> Result<(), AllocError>
-    ensures { OnOk result (map used_of uses.new.items ≡ map used_of uses.old.items ++ uses_of (statement_of s.now)) }
+    ensures { OnOk result (AddsUses uses.old.items uses.new.items (uses_of (statement_of s.now))) }
 {
     match s {
         Statement::Start { name, .. } => push(uses, Role::Start, Level::Structural, name),
