@@ -79,12 +79,9 @@ fn priority_of(adverbs: &[Adverb]) -> i32
 
 // Whether the lexeme's own adverbs say `latm`, or, where they do not speak of it, the default does.
 fn latm_of(adverbs: &[Adverb], default: Option<&Spelled>) -> bool
-    ensures { result ≡
-        unwrap_or
-        (option_map (λ t. bytes_eq t.content (codes "1")) (or_else
-        (building.value_of (codes "latm") (adverbs_of adverbs.now))
-        (option_copied default.entry)))
-        false }
+    ensures { result ≡ unwrap_or
+        (option_map (λ t. bytes_eq t.content (codes "1"))
+        (or_else (building.value_of (codes "latm") (adverbs_of adverbs.now)) (option_copied default.entry))) false }
 {
     let value = match value_of("latm", adverbs) {
         Some(value) => Some(value),

@@ -105,8 +105,7 @@ fn push_groups(
     requires ready { All (λ g. All (IsReadyAlternative names.now) g.items) groups.now }
     requires counted { length groups.now ≤ 4294967295 }
     requires few { length names.now ≤ MOST_ENTRIES }
-    ensures { OnOk result (AddsRules out.old.items out.new.items (rules_of_groups names.now left.now
-        (length groups.now) (map (λ g. g.items) groups.now))) }
+    ensures { OnOk result (AddsRules out.old.items out.new.items (rules_of_groups names.now left.now (length groups.now) (map (λ g. g.items) groups.now))) }
 {
     let lhs = number_of(names, left);
     let count = groups.len() as u32;
@@ -229,8 +228,7 @@ fn push_of_level(
     requires lexical { is_of_level true (statement_of s.now) ≡ true → IsReady lexical.now (statement_of s.now) }
     requires few { length structural.now ≤ MOST_ENTRIES }
     requires few_lexical { length lexical.now ≤ MOST_ENTRIES }
-    ensures structural { OnOk result (AddsRules out.old.structural.items out.new.structural.items (rules_at
-        false structural.now (statement_of s.now))) }
+    ensures structural { OnOk result (AddsRules out.old.structural.items out.new.structural.items (rules_at false structural.now (statement_of s.now))) }
     ensures lexical { OnOk result (AddsRules out.old.lexical.items out.new.lexical.items (rules_at true lexical.now (statement_of s.now))) }
 {
     match level_of(s) {
@@ -252,11 +250,9 @@ pub fn rules_of(
     requires few { length structural.now ≤ MOST_ENTRIES }
     requires few_lexical { length lexical.now ≤ MOST_ENTRIES }
     ensures structural { IfOk result (λ r. map rule_of r.structural.items ≡
-        flat_map (rules_of structural.now) (filter (is_of_level false) (map statement_of
-        statements.now))) }
+        flat_map (rules_of structural.now) (filter (is_of_level false) (map statement_of statements.now))) }
     ensures lexical { IfOk result (λ r. map rule_of r.lexical.items ≡
-        flat_map (rules_of lexical.now) (filter (is_of_level true) (map statement_of
-        statements.now))) }
+        flat_map (rules_of lexical.now) (filter (is_of_level true) (map statement_of statements.now))) }
 {
     let mut rules = Rules {
         structural: Vec::new(alloc),
