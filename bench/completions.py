@@ -14,7 +14,7 @@ CASES = [
     # What is typed, the key, and the line behind it.
     ("slif che", TAB, "slif check "),
     ("slif r", TAB, "slif run "),
-    ("slif ", ALL, "slif check expect --first glades --grammar --input progress --rank run --show --stats --at --size work"),
+    ("slif ", ALL, "slif check expect --first glades --grammar --input progress --rank run script --show --stats --at --size work"),
     ("slif check ", TAB, "slif check --grammar "),
     ("slif check --grammar s", TAB, "slif check --grammar sum."),
     ("slif check --grammar sum.s", TAB, "slif check --grammar sum.slif "),
@@ -43,6 +43,8 @@ CASES = [
     ("slif progress --grammar sum.slif --a", TAB, "slif progress --grammar sum.slif --at "),
     ("slif work ", TAB, "slif work --size "),
     ("slif gl", TAB, "slif glades "),
+    ("slif sc", TAB, "slif script "),
+    ("slif script ", TAB, "slif script --input "),
     ("slif glades ", ALL, "slif glades --grammar --input"),
     ("slif_show --d", ALL, "slif_show --diff --dot"),
     ("slif_show --j", TAB, "slif_show --json "),

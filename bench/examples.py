@@ -7,8 +7,8 @@ what it writes. Nothing of the toolchain is needed.
 FOLDER has the programs `slif` and `slif_show`; without it those are taken that were built here, as crates/slif/out/slif. An example that calls
 another program (`slif_glades`, `calculator`) is left out, and counted, where that program is not there.
 
-An indented block whose first line is a comment with a name, as `# sum.slif`, is a file of that name; of a manual page the blocks between
-`.nf` and `.fi` are taken. A line of a block that begins with `$` is a command, and the lines below it are all that it writes, to standard
+An indented block whose first line is a comment with a name, as `# sum.slif`, is a file of that name; of one as `# words.script` that line is no
+part. Of a manual page the blocks between `.nf` and `.fi` are taken. A line of a block that begins with `$` is a command, and the lines below it are all that it writes, to standard
 output or standard error. The files of a page are made in a folder of their own, where the folder examples/ is that of the repository. Of each
 examples/NAME.out there has to be a command that names examples/NAME.slif and writes just that.
 """
@@ -60,9 +60,9 @@ def read(path):
     """The files and the commands of a page, in its order. A name that stands for two files is a mistake of the page."""
     files, commands = {}, []
     for first, lines in (blocks_of if path.suffix == ".md" else blocks_of_manual)(path.read_text()):
-        named = re.fullmatch(r"# ([\w-]+\.slif)", lines[0])
+        named = re.fullmatch(r"# ([\w-]+\.(slif|script))", lines[0])
         if named:
-            text = "\n".join(lines) + "\n"
+            text = "\n".join(lines[named[2] == "script":]) + "\n"
             if files.setdefault(named[1], text) != text:
                 raise SystemExit(f"line {first}: {named[1]} is there twice")
         commands += commands_of(first, lines)

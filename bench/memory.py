@@ -37,6 +37,25 @@ void *aligned_alloc(size_t a, size_t n) { return refused() ? NULL : __libc_memal
 int posix_memalign(void **p, size_t a, size_t n) { if (refused()) return ENOMEM; *p = __libc_memalign(a, n); return *p ? 0 : ENOMEM; }
 """
 LINE = b"slif: out of memory\n"
+SCRIPT = b"""symbol S
+symbol a
+symbol b
+rule S a S
+rule S
+sequence a b plus
+precompute
+start S
+precompute
+alternative b 2
+alternative b 1
+expected
+complete
+alternative b 1
+frob
+complete
+report 2
+trees 9
+"""
 
 
 def cases():
@@ -55,6 +74,7 @@ def cases():
     yield "progress", ["progress", "--at", "2", "--grammar", json], text, None
     yield "work", ["work", "--size", "3"], b"", None
     yield "glades", ["glades", "--grammar", str(examples / "sum.slif")], b"1+1+1+1", None
+    yield "script", ["script"], SCRIPT, None
     yield "usage", ["nothing"], b"", None
     yield "stopped", ["run", "--grammar", json], b"[1, ?]", None
     yield "statement", ["check", "--grammar", "{}"], b"", broken

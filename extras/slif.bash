@@ -8,6 +8,7 @@ _slif_options() {
         expect | glades) echo '--grammar --input' ;;
         progress) echo '--grammar --input --at' ;;
         work) echo '--size' ;;
+        script) echo '--input' ;;
     esac
 }
 
@@ -27,7 +28,7 @@ _slif() {
             --grammar:* | --input:* | --first:* | --rank:* | --show:* | --at:* | --size:*) other='' ;;
             *:--) ended=1 ;;
             *:--*) given+=" $other" ;;
-            *:run | *:check | *:expect | *:progress | *:work | *:glades) job=$other ;;
+            *:run | *:check | *:expect | *:progress | *:work | *:script | *:glades) job=$other ;;
         esac
         last=$other
     done
@@ -50,7 +51,7 @@ _slif() {
     esac
     # The jobs that take all options given, and the options that one of them takes and that are not given.
     local jobs='' left=' ' options fits
-    for other in ${job:-run check expect progress work glades}; do
+    for other in ${job:-run check expect progress work script glades}; do
         options=" $(_slif_options "$other") "
         fits=1
         for last in $given; do

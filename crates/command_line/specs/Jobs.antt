@@ -7,7 +7,7 @@ use Rattle.command_line.specs.declared.job.ValuesAsked.{ValuesAsked}
 use Rattle.command_line.specs.declared.job.Telling.{Telling}
 use Rattle.command_line.specs.declared.job.Telling.TheVariants.{Values, Expected, Report, Glades}
 use Rattle.command_line.specs.declared.job.Task.{Task}
-use Rattle.command_line.specs.declared.job.Task.TheVariants.{Check, Tell, Work}
+use Rattle.command_line.specs.declared.job.Task.TheVariants.{Check, Tell, Work, Script}
 use Rattle.command_line.specs.declared.job.InputFrom.{InputFrom}
 use Rattle.command_line.specs.declared.job.InputFrom.TheVariants.{Nowhere, StandardInput, FileNamed}
 use Rattle.command_line.specs.declared.job.Job.{Job}
@@ -25,6 +25,7 @@ abbrev pub task_of : Task → model.Task
 task_of Check = model.Check
 task_of (Tell what) = model.Tell (telling_of what)
 task_of (Work size) = model.Work size
+task_of Script = model.Script
 
 abbrev pub input_of : InputFrom → model.InputFrom
 input_of Nowhere = model.Nowhere

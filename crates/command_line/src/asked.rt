@@ -14,7 +14,6 @@ use crate::value::{file_name, number_from, ranking_of, show_of};
 use clap::ArgMatches;
 use grammar_model::{LAST_PLACE, Ranking, Show};
 
-// the last place that an input can have
 // the greatest size of job `work`
 const LARGEST_WORK: u32 = 100_000;
 

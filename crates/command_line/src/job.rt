@@ -42,6 +42,8 @@ pub enum Task {
     Tell(Telling),
     /// It reads an input of its own, of that size, by a grammar of its own.
     Work { size: u32 },
+    /// It plays its input as a script.
+    Script,
 }
 
 /// Where the input of a job is.
@@ -63,7 +65,7 @@ pub struct Job<'a> {
 
 /// What is told where the words ask for no job.
 pub const USAGE: &[u8] =
-    b"usage: slif JOB [options]; jobs: run, check, expect, progress, work, glades";
+    b"usage: slif JOB [options]; jobs: run, check, expect, progress, work, script, glades";
 
 fn told(what: Option<Telling>) -> Option<Task>
     ensures { option_map task_of result ≡ option_map model.Tell (option_map telling_of what) }
@@ -93,6 +95,7 @@ fn job_named<'a>(matches: &ArgMatches<'a>, name: &str) -> Option<Job<'a>>
             told(report_asked(matches)),
         ),
         "work" => job_with(matches, &["size"], work_asked(matches)),
+        "script" => job_with(matches, &["input"], Some(Task::Script)),
         "glades" => job_with(matches, &["grammar", "input"], told(Some(Telling::Glades))),
         _ => None,
     }

@@ -3,8 +3,8 @@ use crate::devices::{CANNOT_READ, CANNOT_WRITE, Case, all_break, line_breaks};
 use crate::runs::{ends, run_of};
 use run_scenes::{
     CHECKED, CHECKED_LINES, COMPARED, COMPARED_LINES, COUNTED, COUNTED_LINES, Device, EXPECTED,
-    EXPECTED_LINES, Given, REPORTED, REPORTED_LINES, SUM, SUM_LINES, TREE_LINES, TREES, WORKED,
-    WORKED_LINES,
+    EXPECTED_LINES, Given, REPORTED, REPORTED_LINES, SCRIPT, SCRIPTED, SCRIPTED_LINES, SUM,
+    SUM_LINES, TREE_LINES, TREES, WORKED, WORKED_LINES,
 };
 use std::alloc::{AllocError, Global};
 use std::test::Fail;
@@ -32,11 +32,19 @@ const NAMED_COMPARED: Given<'static> = Given {
     ..COMPARED
 };
 
-// Runs that end well, what they tell, and how many calls the files and the input get: a file three, an input one for two bytes and one
-// that finds nothing.
+// A script in the only file that it needs.
+const NAMED_SCRIPTED: Given<'static> = Given {
+    words: &["script", "--input=g.slif"],
+    grammar: SCRIPT,
+    input: b"",
+    ..SCRIPTED
+};
+
+// Runs that end well, what they tell, and how many calls the files and the input get: a file three, an input one for two bytes (of a
+// script eight) and one that finds nothing.
 type Job = (Given<'static>, &'static [u8], u8, u8);
 
-static JOBS: [Job; 12] = [
+static JOBS: [Job; 14] = [
     (SUM, SUM_LINES, 3, 4),
     (COUNTED, COUNTED_LINES, 3, 4),
     (TREES, TREE_LINES, 3, 4),
@@ -49,6 +57,8 @@ static JOBS: [Job; 12] = [
     (NAMED_REPORTED, REPORTED_LINES, 6, 0),
     (COMPARED, COMPARED_LINES, 3, 4),
     (NAMED_COMPARED, COMPARED_LINES, 6, 0),
+    (SCRIPTED, SCRIPTED_LINES, 0, 18),
+    (NAMED_SCRIPTED, SCRIPTED_LINES, 3, 0),
 ];
 
 // Whether each call of a device fails as it should in a job.
@@ -154,7 +164,7 @@ fn the_line_of_a_refusal_fails_in_turn(rt: HostRuntime) -> Result<(), Fail> {
 }
 
 // Runs of which the first call of a device fails, and the line that tells it.
-static FAULT_ROWS: [(Given<'static>, Device, &[u8]); 10] = [
+static FAULT_ROWS: [(Given<'static>, Device, &[u8]); 12] = [
     (SUM, Device::Files, b"slif: cannot open g.slif\n"),
     (SUM, Device::Input, CANNOT_READ),
     (SUM, Device::Out, CANNOT_WRITE),
@@ -165,6 +175,8 @@ static FAULT_ROWS: [(Given<'static>, Device, &[u8]); 10] = [
     (WORKED, Device::Out, CANNOT_WRITE),
     (COMPARED, Device::Input, CANNOT_READ),
     (COMPARED, Device::Out, CANNOT_WRITE),
+    (SCRIPTED, Device::Input, CANNOT_READ),
+    (SCRIPTED, Device::Out, CANNOT_WRITE),
 ];
 
 // Whether the line of a fault fails as it should.

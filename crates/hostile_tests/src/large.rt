@@ -1,7 +1,9 @@
 //! Grammars and inputs that are a byte too long, and such as are just not.
 use crate::devices::{CANNOT_READ, Case, all_break};
 use crate::runs::ends;
-use run_scenes::{CHECKED, COMPARED, Device, EXPECTED, Given, REPORTED, SUM, SUMS, TREES};
+use run_scenes::{
+    CHECKED, COMPARED, Device, EXPECTED, Given, REPORTED, SCRIPTED, SUM, SUMS, TREES,
+};
 use std::alloc::{AllocError, Global};
 use std::test::Fail;
 
@@ -140,7 +142,7 @@ fn refuses_input(
 
 // Whether each job refuses an input that is a byte too long.
 fn refuse_input(alloc: Global, input: &[u8]) -> Result<bool, AllocError> {
-    for job in &[SUM, TREES, EXPECTED, REPORTED, COMPARED] {
+    for job in &[SUM, TREES, EXPECTED, REPORTED, COMPARED, SCRIPTED] {
         let given = Given {
             input,
             gives: GIVES,
@@ -164,6 +166,20 @@ fn refuse_file(alloc: Global, file: &[u8]) -> Result<bool, AllocError> {
     Ok(true)
 }
 
+const FILED_SCRIPT: Given<'static> = Given {
+    words: &["script", "--input=i.txt"],
+    ..SCRIPTED
+};
+
+// Whether job `script`, which opens no other file, refuses one that is a byte too long.
+fn refuse_script(alloc: Global, file: &[u8]) -> Result<bool, AllocError> {
+    let given = Given {
+        file,
+        ..FILED_SCRIPT
+    };
+    refuses_input(alloc, &given, Device::Files, 1)
+}
+
 fn letters(alloc: Global, count: usize) -> Result<Vec<u8>, AllocError> {
     let mut text = Vec::new(alloc);
     text.resize(count, b'x')?;
@@ -183,6 +199,7 @@ fn a_file_is_too_long(rt: HostRuntime) -> Result<(), Fail> {
     let alloc = rt.alloc();
     let file = letters(alloc, LONGEST_INPUT + 1)?;
     assert!(rt; refuse_file(alloc, &file)?);
+    assert!(rt; refuse_script(alloc, &file)?);
     Ok(())
 }
 
@@ -196,5 +213,18 @@ fn an_input_is_as_long_as_it_may_be(rt: HostRuntime) -> Result<(), Fail> {
         ..SUM
     };
     assert!(rt; ends(alloc, &given, 1, b"", STOPPED)?);
+    Ok(())
+}
+
+#[test]
+fn a_script_is_as_long_as_it_may_be(rt: HostRuntime) -> Result<(), Fail> {
+    let alloc = rt.alloc();
+    let input = letters(alloc, LONGEST_INPUT)?;
+    let given = Given {
+        input: &input,
+        gives: GIVES,
+        ..SCRIPTED
+    };
+    assert!(rt; ends(alloc, &given, 0, b"bad line\n", b"")?);
     Ok(())
 }

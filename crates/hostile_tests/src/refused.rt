@@ -2,15 +2,16 @@
 use crate::devices::{Case, is_so, line_breaks};
 use crate::runs::{asked, ends};
 use run_scenes::{
-    CHECKED, COMPARED, EXPECTED, Given, OPERATORS, REPORTED, SUM, SUMS, TREES, WORKED, WORKED_LINES,
+    CHECKED, COMPARED, EXPECTED, Given, OPERATORS, REPORTED, SCRIPTED, SUM, SUMS, TREES, WORKED,
+    WORKED_LINES,
 };
 use std::alloc::{AllocError, Global};
 use std::test::Fail;
 
 const USAGE: &[u8] =
-    b"slif: usage: slif JOB [options]; jobs: run, check, expect, progress, work, glades\n";
+    b"slif: usage: slif JOB [options]; jobs: run, check, expect, progress, work, script, glades\n";
 
-static WRONG_WORDS: [&[&str]; 14] = [
+static WRONG_WORDS: [&[&str]; 16] = [
     &[],
     &["run"],
     &["jump", "--grammar", "g.slif"],
@@ -25,6 +26,8 @@ static WRONG_WORDS: [&[&str]; 14] = [
     &["work", "--size", "2", "--stats"],
     &["glades", "--input", "i.txt"],
     &["glades", "--grammar", "g.slif", "--rank", "rule"],
+    &["script", "--grammar", "g.slif"],
+    &["script", "--input", "-"],
 ];
 
 // Whether a run is refused so, and each call that fails ends it as it should.
@@ -271,6 +274,18 @@ fn inputs_are_refused_alike_by_all_jobs(rt: HostRuntime) -> Result<(), Fail> {
     Ok(())
 }
 
+// No line of a script is played where its text is broken.
+#[test]
+fn scripts_that_are_not_utf8_are_refused(rt: HostRuntime) -> Result<(), Fail> {
+    let given = Given {
+        input: b"symbol a\nsymbol b\xFFc\n",
+        ..SCRIPTED
+    };
+    let line = b"slif: input is not UTF-8 at byte 17\n";
+    assert!(rt; is_refused(rt.alloc(), &given, 1, line, 0, 4)?);
+    Ok(())
+}
+
 // Jobs whose input is a file that is not read to its end.
 static FILED: [Given<'static>; 4] = [
     Given {
@@ -368,7 +383,7 @@ fn places_past_the_last_set_are_refused(rt: HostRuntime) -> Result<(), Fail> {
 }
 
 // A file of the grammar that has no such name is asked for alone; one of the input is asked for after the grammar's.
-static NAME_ROWS: [(&[&str], &[u8], usize); 3] = [
+static NAME_ROWS: [(&[&str], &[u8], usize); 4] = [
     (
         &["expect", "--grammar", "h\n\x1B.slif"],
         b"slif: cannot open h\\n\\x{1b}.slif\n",
@@ -383,6 +398,11 @@ static NAME_ROWS: [(&[&str], &[u8], usize); 3] = [
         &["expect", "--grammar", "g.slif", "--input", "j.txt"],
         b"slif: cannot open j.txt\n",
         2,
+    ),
+    (
+        &["script", "--input", "j.txt"],
+        b"slif: cannot open j.txt\n",
+        1,
     ),
 ];
 

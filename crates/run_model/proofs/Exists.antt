@@ -3,7 +3,7 @@ use Rattle.std.proofs.Common.{ℕ, List, Option, refl, inl, inr}
 use Rattle.language_model.specs.Building.{Built}
 use Rattle.language_model.specs.Texts.{IsBuilt}
 use Rattle.words_model.specs.Words.{Task, InputFrom}
-use Rattle.words_model.specs.Words.Task.{Check, Tell, Work}
+use Rattle.words_model.specs.Words.Task.{Check, Tell, Work, Script}
 use Rattle.words_model.specs.Laws.{IsFitted}
 use Rattle.words_model.proofs.Asked.{asks_or_not}
 use Rattle.words_model.proofs.Fitted.{jobs_are_fitted}
@@ -15,6 +15,7 @@ use Rattle.run_model.proofs.Texts.{RunLaws}
 use Rattle.run_model.proofs.Accepted.{judged}
 use Rattle.run_model.proofs.Checked.{check_outcome}
 use Rattle.run_model.proofs.Told.{some_of_input}
+use Rattle.run_model.proofs.Scripts.{script_outcome}
 
 module _ (laws : RunLaws) where
   over_grammar : (IsOver : Built → Outcome → Type 0) (grammar : List ℕ) → ((b : Built) → Accepted grammar b → (outcome : Outcome) × IsOver b outcome)
@@ -30,6 +31,7 @@ module _ (laws : RunLaws) where
       over_grammar (λ b. IsInputOutcome what b input) grammar
       (λ b accepted. let built : IsBuilt b = (accepted.description, accepted.built) in some_of_input laws.reading b built accepted.accepted what input)
   task_outcome (Work size) file from fitted grammar input = laws.work size fitted.2
+  task_outcome Script file from fitted grammar input = script_outcome laws.scripts input
 
   pub an_outcome : (words : List (List ℕ)) (grammar input : List ℕ) → (outcome : Outcome) × IsOutcome words grammar input outcome
   an_outcome words grammar input = elim (asks_or_not words) [

@@ -1,5 +1,5 @@
 -- The bytes of an input are read to their end, or refused, in one way.
-use Rattle.std.proofs.Common.{[], ◌≡◌, ℕ, ◌≤◌, ◌++◌, List, Bool, true, false, ◌⊎◌, inl, inr, refl, sym, ap, ◌∙◌, arith, length, chars, codes, decimal, nat_le, leb-true, slice_index_or, ◌∷◌}
+use Rattle.std.proofs.Common.{[], ◌≡◌, ℕ, ◌≤◌, ◌<◌, ◌++◌, List, Bool, true, false, ◌⊎◌, inl, inr, refl, sym, ap, ◌∙◌, arith, length, chars, codes, decimal, nat_le, leb-true, slice_index_or, ◌∷◌}
 use Rattle.std.proofs.lemmas.Bool.{leb-false}
 use Rattle.std.specs.Str.{is_utf8}
 use Rattle.std.proofs.lemmas.Str.{utf8_valid_len-IsValidUpTo, IsUtf8-from_is_utf8}
@@ -15,7 +15,7 @@ use Rattle.language_model.specs.Texts.{IsBuilt}
 use Rattle.reading_model.specs.Accepted.{IsAccepted}
 use Rattle.reading_model.specs.Reading.{Piece, Ending, End, Stopped, IsReading, AreExpected, edges_of, earleme_after}
 use Rattle.reading_model.specs.Laws.{ReadingIsOne}
-use Rattle.run_model.specs.Inputs.{IsInputText, IsRead, IsInputRefused, TooLong, NotUtf8, ReadingStops, stop_text}
+use Rattle.run_model.specs.Inputs.{IsInputText, IsBrokenInput, IsRead, IsInputRefused, TooLong, NotUtf8, ReadingStops, stop_text}
 use Rattle.run_model.specs.Listing.{AreDerivations}
 use Rattle.run_model.specs.Numbers.{Numbers, HasNumbers}
 use Rattle.run_model.proofs.Utf8.{broken_at}
@@ -37,18 +37,22 @@ pub record ReadingLaws : Type 0 where
 
 -- SOME OF ALL
 
-text_or : (bytes : List ℕ) → IsInputText bytes ⊎ ((b : Built) → (text : List ℕ) × IsInputRefused b bytes text)
-text_or bytes = by_length (nat_le (length bytes) LONGEST_INPUT) refl
-  where
-    by_utf8 : length bytes ≤ LONGEST_INPUT → (t : Bool) → is_utf8 bytes ≡ t → IsInputText bytes ⊎ ((b : Built) → (text : List ℕ) × IsInputRefused b bytes text)
-    by_utf8 within true e = inl (record { within = within; utf8 = IsUtf8-from_is_utf8 bytes e })
-    by_utf8 within false e =
-        let (at, broken, prefix) = broken_at bytes e in
-        inr (λ b. (codes "input is not UTF-8 at byte " ++ decimal at, NotUtf8 at (record { within = within; broken = broken; prefix = prefix }) refl))
+-- bytes are too long, not UTF-8, or a text
+pub data IsSomeInput (bytes : List ℕ) : Type 0 where
+  Long : LONGEST_INPUT < length bytes → IsSomeInput bytes
+  Broken : (at : ℕ) → IsBrokenInput bytes at → IsSomeInput bytes
+  Text : IsInputText bytes → IsSomeInput bytes
 
-    by_length : (t : Bool) → nat_le (length bytes) LONGEST_INPUT ≡ t → IsInputText bytes ⊎ ((b : Built) → (text : List ℕ) × IsInputRefused b bytes text)
+pub some_input : (bytes : List ℕ) → IsSomeInput bytes
+some_input bytes = by_length (nat_le (length bytes) LONGEST_INPUT) refl
+  where
+    by_utf8 : length bytes ≤ LONGEST_INPUT → (t : Bool) → is_utf8 bytes ≡ t → IsSomeInput bytes
+    by_utf8 within true e = Text (record { within = within; utf8 = IsUtf8-from_is_utf8 bytes e })
+    by_utf8 within false e = let (at, broken, prefix) = broken_at bytes e in Broken at (record { within = within; broken = broken; prefix = prefix })
+
+    by_length : (t : Bool) → nat_le (length bytes) LONGEST_INPUT ≡ t → IsSomeInput bytes
     by_length true e = by_utf8 (leb-true _ _ e) (is_utf8 bytes) refl
-    by_length false e = inr (λ b. (codes "input is longer than 16777216 bytes", TooLong (leb-false _ _ e) refl))
+    by_length false e = Long (leb-false _ _ e)
 
 module _ (laws : ReadingLaws) (b : Built) (built : IsBuilt b) (accepted : IsAccepted b) (bytes : List ℕ) where
   by_ending : IsInputText bytes → (pieces : List Piece) (ending : Ending) → IsReading b (chars bytes) pieces ending →
@@ -57,13 +61,19 @@ module _ (laws : ReadingLaws) (b : Built) (built : IsBuilt b) (accepted : IsAcce
   by_ending text pieces (Stopped at found expected) reading =
       inr (stop_text b.g1 (chars bytes) at found expected, ReadingStops pieces at found expected text reading refl)
 
+  by_input : IsSomeInput bytes → ((pieces : List Piece) × IsRead b bytes pieces) ⊎ ((text : List ℕ) × IsInputRefused b bytes text)
+  by_input (Long long) = inr (codes "input is longer than 16777216 bytes", TooLong long refl)
+  by_input (Broken at broken) = inr (codes "input is not UTF-8 at byte " ++ decimal at, NotUtf8 at broken refl)
+  by_input (Text text) = let (pieces, ending, reading) = laws.read b (chars bytes) built accepted in by_ending text pieces ending reading
+
   pub read_or : ((pieces : List Piece) × IsRead b bytes pieces) ⊎ ((text : List ℕ) × IsInputRefused b bytes text)
-  read_or = elim (text_or bytes) [
-    | inl text ↦ (let (pieces, ending, reading) = laws.read b (chars bytes) built accepted in by_ending text pieces ending reading)
-    | inr other ↦ inr (other b)
-  ]
+  read_or = by_input (some_input bytes)
 
 -- ONE OF EACH
+
+-- bytes are UTF-8 up to one place
+pub one_broken : (bytes : List ℕ) (at at' : ℕ) → IsBrokenInput bytes at → IsBrokenInput bytes at' → at ≡ at'
+one_broken bytes at at' broken broken' = sym (utf8_valid_len-IsValidUpTo bytes at broken.prefix) ∙ utf8_valid_len-IsValidUpTo bytes at' broken'.prefix
 
 end_or_stopped : (at : ℕ) (found expected : List ℕ) → End ≡ Stopped at found expected → ⊥
 end_or_stopped at found expected e = cc e
@@ -93,7 +103,7 @@ module _ (laws : ReadingLaws) (b : Built) (bytes : List ℕ) where
   one_refused x y (TooLong long is) (ReadingStops pieces at found expected text reading is') = let w = text.within in absurd (omega (arith, w, long))
   one_refused x y (NotUtf8 at broken is) (TooLong long is') = let w = broken.within in absurd (omega (arith, w, long))
   one_refused x y (NotUtf8 at broken is) (NotUtf8 at' broken' is') =
-      is ∙ ap (λ k. codes "input is not UTF-8 at byte " ++ decimal k) (sym (utf8_valid_len-IsValidUpTo bytes at broken.prefix) ∙ utf8_valid_len-IsValidUpTo bytes at' broken'.prefix) ∙ sym is'
+      is ∙ ap (λ k. codes "input is not UTF-8 at byte " ++ decimal k) (one_broken bytes at at' broken broken') ∙ sym is'
   one_refused x y (NotUtf8 at broken is) (ReadingStops pieces at' found expected text reading is') = absurd (broken.broken text.utf8)
   one_refused x y (ReadingStops pieces at found expected text reading is) (TooLong long is') = let w = text.within in absurd (omega (arith, w, long))
   one_refused x y (ReadingStops pieces at found expected text reading is) (NotUtf8 at' broken is') = absurd (broken.broken text.utf8)

@@ -6,6 +6,7 @@ pub mod Outcomes
 pub mod OneEnd
 pub mod Exists
 pub mod Inputs
+pub mod Scripts
 pub mod Utf8
 pub mod AnEnd
 pub mod Statuses

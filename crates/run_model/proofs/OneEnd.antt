@@ -6,12 +6,12 @@ use Rattle.outside_model.specs.Told.ToldFile.{Untold, Missing, Told}
 use Rattle.language_model.specs.Building.{Built}
 use Rattle.words_model.specs.Words.{Telling, Task, Job, InputFrom, Asks}
 use Rattle.words_model.specs.Words.InputFrom.{Nowhere, StandardInput, FileNamed}
-use Rattle.words_model.specs.Words.Task.{Check, Tell, Work}
+use Rattle.words_model.specs.Words.Task.{Check, Tell, Work, Script}
 use Rattle.words_model.specs.Laws.{IsFitted}
 use Rattle.words_model.proofs.Fitted.{jobs_are_fitted}
 use Rattle.words_model.proofs.Asked.{asks_once, not_both}
 use Rattle.run_model.specs.Refused.{Accepted}
-use Rattle.run_model.specs.Outcome.{Outcome, IsOutcome, IsTaskOutcome, IsInputOutcome, IsCheckOutcome}
+use Rattle.run_model.specs.Outcome.{Outcome, IsOutcome, IsTaskOutcome, IsInputOutcome, IsCheckOutcome, IsScriptOutcome}
 use Rattle.run_model.specs.Outcome.IsOutcome.{NoJob, OfJob}
 use Rattle.run_model.specs.Runs.{Supplied, MayEnd, InputMayBe}
 use Rattle.run_model.specs.Laws.{TellsFiles}
@@ -19,6 +19,7 @@ use Rattle.run_model.proofs.Texts.{RunLaws}
 use Rattle.run_model.proofs.Checked.{one_check}
 use Rattle.run_model.proofs.Told.{one_of_input}
 use Rattle.run_model.proofs.Outcomes.{one_over, one_work}
+use Rattle.run_model.proofs.Scripts.{one_script}
 
 same_held : (told : ToldFile) (x y : List ℕ) → told ≢ Untold → MayHold told x → MayHold told y → x ≡ y
 same_held Untold x y is_told p q = absurd (is_told refl)
@@ -41,32 +42,38 @@ module _ (laws : RunLaws) (words : List (List ℕ)) (file : List ℕ → ToldFil
   same_input job asks some grammar x y goes p q =
       one_input job.input x y some (λ name e. tells.input job name asks e) (p.input_held job asks goes) (q.input_held job asks goes)
 
+  -- a task that has the file of a grammar
   one_of_task : (task : Task) (grammar x y : List ℕ) (a b : Outcome) → ((what : Telling) → task ≡ Tell what → (c : Built) → Accepted grammar c → y ≡ x)
-      → IsTaskOutcome task grammar x a → IsTaskOutcome task grammar y b → a ≡ b
-  one_of_task Check grammar x y a b same of_x of_y = one_over laws IsCheckOutcome IsCheckOutcome grammar a b (λ c accepted. one_check c a b) of_x of_y
-  one_of_task (Tell what) grammar x y a b same of_x of_y =
+      → (task ≡ Script → ⊥) → IsTaskOutcome task grammar x a → IsTaskOutcome task grammar y b → a ≡ b
+  one_of_task Check grammar x y a b same other of_x of_y = one_over laws IsCheckOutcome IsCheckOutcome grammar a b (λ c accepted. one_check c a b) of_x of_y
+  one_of_task (Tell what) grammar x y a b same other of_x of_y =
       one_over laws (λ c. IsInputOutcome what c x) (λ c. IsInputOutcome what c y) grammar a b
       (λ c accepted in_x in_y. one_of_input laws.reading what c x a b in_x (subst (λ l. IsInputOutcome what c l b) (same what refl c accepted) in_y)) of_x of_y
-  one_of_task (Work size) grammar x y a b same of_x of_y = one_work laws size a b of_x of_y
+  one_of_task (Work size) grammar x y a b same other of_x of_y = one_work laws size a b of_x of_y
+  one_of_task Script grammar x y a b same other of_x of_y = absurd (other refl)
 
   -- what is told is told of an input somewhere, and goes on to it by the grammar of a file
   reads_somewhere : (job : Job) → Asks words job → (what : Telling) → job.task ≡ Tell what → job.input ≢ Nowhere
   reads_somewhere job asks what is = (subst (λ (t : Task). IsFitted t job.grammar job.input) is (jobs_are_fitted words job asks)).1
 
+  has_no_grammar : (job : Job) → Asks words job → job.task ≡ Script → job.grammar ≡ None
+  has_no_grammar job asks is = (subst (λ (t : Task). IsFitted t job.grammar job.input) is (jobs_are_fitted words job asks)).0
+
   goes : (file : Option (List ℕ)) (grammar : List ℕ) (c : Built) → Accepted grammar c → IfSome file (λ _. (b : Built) × Accepted grammar b)
   goes None grammar c accepted = record {}
   goes (Some name) grammar c accepted = (c, accepted)
 
-  one_of_job : (job : Job) → Asks words job → (grammar x y : List ℕ) (a b : Outcome) → Has grammar x → Has grammar y
+  one_of_job : (job : Job) → Asks words job → (name : List ℕ) → job.grammar ≡ Some name → (grammar x y : List ℕ) (a b : Outcome) → Has grammar x → Has grammar y
       → IsTaskOutcome job.task grammar x a → IsTaskOutcome job.task grammar y b → a ≡ b
-  one_of_job job asks grammar x y a b p q of_x of_y =
-      one_of_task job.task grammar x y a b (λ what is c accepted. same_input job asks (reads_somewhere job asks what is) grammar x y (goes job.grammar grammar c accepted) p q) of_x of_y
+  one_of_job job asks name named grammar x y a b p q of_x of_y =
+      one_of_task job.task grammar x y a b (λ what is c accepted. same_input job asks (reads_somewhere job asks what is) grammar x y (goes job.grammar grammar c accepted) p q)
+      (λ is. let bad : None ≡ Some name = sym (has_no_grammar job asks is) ∙ named in cc bad) of_x of_y
 
   -- a job's outcome is of the grammar that its file holds
-  over_same : (job : Job) → Asks words job → (grammar grammar' x y : List ℕ) (a b : Outcome) → grammar' ≡ grammar → Has grammar x → Has grammar' y
+  over_same : (job : Job) → Asks words job → (name : List ℕ) → job.grammar ≡ Some name → (grammar grammar' x y : List ℕ) (a b : Outcome) → grammar' ≡ grammar → Has grammar x → Has grammar' y
       → IsTaskOutcome job.task grammar x a → IsTaskOutcome job.task grammar' y b → a ≡ b
-  over_same job asks grammar grammar' x y a b same p q of of' =
-      one_of_job job asks grammar x y a b p (subst (λ l. Has l y) same q) of (subst (λ l. IsTaskOutcome job.task l y b) same of')
+  over_same job asks name named grammar grammar' x y a b same p q of of' =
+      one_of_job job asks name named grammar x y a b p (subst (λ l. Has l y) same q) of (subst (λ l. IsTaskOutcome job.task l y b) same of')
 
   held_in : (job : Job) (name grammar grammar' x y : List ℕ) → Asks words job → job.grammar ≡ Some name → Has grammar x → Has grammar' y → grammar' ≡ grammar
   held_in job name grammar grammar' x y asks named p q =
@@ -76,20 +83,30 @@ module _ (laws : RunLaws) (words : List (List ℕ)) (file : List ℕ → ToldFil
       of_file : (P : List ℕ → Type 0) → IfSome job.grammar P → P name
       of_file P held = subst (λ (o : Option (List ℕ)). IfSome o P) named held
 
-  -- a task that has no file of a grammar is job `work`, whatever the bytes are
+  -- a task that has no file of a grammar is that of job `work`, whatever the bytes are, or is done over its input alone
   one_of_own : (task : Task) (file : Option (List ℕ)) (from : InputFrom) → IsFitted task file from → file ≡ None → (grammar grammar' x y : List ℕ) (a b : Outcome)
-      → IsTaskOutcome task grammar x a → IsTaskOutcome task grammar' y b → a ≡ b
-  one_of_own Check file from fitted none grammar grammar' x y a b of of' = let bad = subst (λ (o : Option (List ℕ)). IsTrue (is_some o)) none fitted.0 in absurd (true≢false (sym bad))
-  one_of_own (Tell what) file from fitted none grammar grammar' x y a b of of' = let bad = subst (λ (o : Option (List ℕ)). IsTrue (is_some o)) none fitted.0 in absurd (true≢false (sym bad))
-  one_of_own (Work size) file from fitted none grammar grammar' x y a b of of' = one_work laws size a b of of'
+      → (from ≢ Nowhere → y ≡ x) → IsTaskOutcome task grammar x a → IsTaskOutcome task grammar' y b → a ≡ b
+  one_of_own Check file from fitted none grammar grammar' x y a b same of of' = let bad = subst (λ (o : Option (List ℕ)). IsTrue (is_some o)) none fitted.0 in absurd (true≢false (sym bad))
+  one_of_own (Tell what) file from fitted none grammar grammar' x y a b same of of' = let bad = subst (λ (o : Option (List ℕ)). IsTrue (is_some o)) none fitted.0 in absurd (true≢false (sym bad))
+  one_of_own (Work size) file from fitted none grammar grammar' x y a b same of of' = one_work laws size a b of of'
+  one_of_own Script file from fitted none grammar grammar' x y a b same of of' =
+      one_script laws.scripts x a b of (subst (λ l. IsScriptOutcome l b) (same fitted.1) of')
+
+  -- without a grammar the job goes on to its input
+  goes_on : (job : Job) → job.grammar ≡ None → (grammar : List ℕ) → IfSome job.grammar (λ _. (b : Built) × Accepted grammar b)
+  goes_on job none grammar = subst (λ (o : Option (List ℕ)). IfSome o (λ _. (b : Built) × Accepted grammar b)) (sym none) (record {})
+
+  same_of_own : (job : Job) → Asks words job → job.grammar ≡ None → (grammar grammar' x y : List ℕ) → Has grammar x → Has grammar' y → job.input ≢ Nowhere → y ≡ x
+  same_of_own job asks none grammar grammar' x y p q some =
+      one_input job.input x y some (λ name e. tells.input job name asks e) (p.input_held job asks (goes_on job none grammar)) (q.input_held job asks (goes_on job none grammar'))
 
   one_of_jobs : (job : Job) → Asks words job → (grammar grammar' x y : List ℕ) (a b : Outcome) → Has grammar x → Has grammar' y
       → IsTaskOutcome job.task grammar x a → IsTaskOutcome job.task grammar' y b → a ≡ b
   one_of_jobs job asks grammar grammar' x y a b p q of of' = by_file job.grammar refl
     where
       by_file : (file : Option (List ℕ)) → job.grammar ≡ file → a ≡ b
-      by_file None none = one_of_own job.task job.grammar job.input (jobs_are_fitted words job asks) none grammar grammar' x y a b of of'
-      by_file (Some name) named = over_same job asks grammar grammar' x y a b (held_in job name grammar grammar' x y asks named p q) p q of of'
+      by_file None none = one_of_own job.task job.grammar job.input (jobs_are_fitted words job asks) none grammar grammar' x y a b (same_of_own job asks none grammar grammar' x y p q) of of'
+      by_file (Some name) named = over_same job asks name named grammar grammar' x y a b (held_in job name grammar grammar' x y asks named p q) p q of of'
 
   one_of_two : (grammar grammar' x y : List ℕ) (a b : Outcome) → Has grammar x → Has grammar' y → IsOutcome words grammar x a → IsOutcome words grammar' y b → a ≡ b
   one_of_two grammar grammar' x y a b p q (NoJob none is) (NoJob none' is') = is ∙ sym is'

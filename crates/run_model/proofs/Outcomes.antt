@@ -4,7 +4,7 @@ use Rattle.grammar_model.specs.declared.Ranking.TheVariants.{Rule as RuleRanks}
 use Rattle.language_model.specs.Building.{Built}
 use Rattle.reading_model.specs.Reading.{Piece}
 use Rattle.words_model.specs.Words.{Task, Job}
-use Rattle.words_model.specs.Words.Task.{Check, Tell, Work}
+use Rattle.words_model.specs.Words.Task.{Check, Tell, Work, Script}
 use Rattle.words_model.proofs.Asked.{asks_once, not_both}
 use Rattle.run_model.specs.Refused.{Accepted}
 use Rattle.run_model.specs.Inputs.{IsRead}
@@ -19,6 +19,7 @@ use Rattle.run_model.proofs.Inputs.{one_read}
 use Rattle.run_model.proofs.Accepted.{one_built, one_refused, not_refused}
 use Rattle.run_model.proofs.Checked.{one_check}
 use Rattle.run_model.proofs.Told.{one_of_input}
+use Rattle.run_model.proofs.Scripts.{one_script}
 
 module _ (laws : RunLaws) where
   -- two outcomes that come of a grammar are one, where those over what was built of it are
@@ -44,6 +45,7 @@ module _ (laws : RunLaws) where
   one_task (Tell what) grammar input x y p q =
       one_over (λ b. IsInputOutcome what b input) (λ b. IsInputOutcome what b input) grammar x y (λ b accepted. one_of_input laws.reading what b input x y) p q
   one_task (Work size) grammar input x y p q = one_work size x y p q
+  one_task Script grammar input x y p q = one_script laws.scripts input x y p q
 
   pub one_of_all : (words : List (List ℕ)) (grammar input : List ℕ) (a b : Outcome) → IsOutcome words grammar input a → IsOutcome words grammar input b → a ≡ b
   one_of_all words grammar input a b (NoJob none is) (NoJob none' is') = is ∙ sym is'

@@ -4,6 +4,7 @@ use Rattle.language_model.specs.Description.{Statement}
 use Rattle.language_model.specs.Texts.{HasDescription}
 use Rattle.grammar_model.specs.Grammar.{Grammar}
 use Rattle.reading_model.proofs.Accepting.{CheckLaws}
+use Rattle.script_model.specs.Script.{AreAnswers}
 use Rattle.run_model.specs.Texts.{TextFault, HasFault}
 use Rattle.run_model.proofs.Inputs.{ReadingLaws}
 use Rattle.run_model.specs.Checking.{SymbolRow, IsRowOf}
@@ -21,9 +22,15 @@ pub record GrammarLaws : Type 0 where
   pub texts : TextLaws
   pub checks : CheckLaws
 
--- and of the rest: what each symbol can do is decided, texts have one reading, and job `work` has an outcome
+-- each script has answers, and they are one list
+pub record ScriptLaws : Type 0 where
+  pub answers : (text : List ℕ) → (answers : List (List ℕ)) × AreAnswers text answers
+  pub one_list : (text : List ℕ) (xs ys : List (List ℕ)) → AreAnswers text xs → AreAnswers text ys → xs ≡ ys
+
+-- and of the rest: what each symbol can do is decided, texts have one reading, job `work` has an outcome, and scripts have answers
 pub record RunLaws : Type 0 where
   pub grammars : GrammarLaws
   pub reading : ReadingLaws
   pub row : (g : Grammar) (s : ℕ) → (row : SymbolRow) × (row.symbol ≡ s) × IsRowOf g row
   pub work : (size : ℕ) → size ≤ 100000 → (outcome : Outcome) × IsWorkOutcome size outcome
+  pub scripts : ScriptLaws

@@ -1,14 +1,16 @@
 -- WHAT A RUN WRITES AND ANSWERS, by its words, the bytes of the grammar and those of the input.
-use Rattle.std.specs.Prelude.{◌≡◌, ℕ, List, [], ◌∷◌, chars}
+use Rattle.std.specs.Prelude.{◌≡◌, ℕ, ◌<◌, List, [], ◌∷◌, ◌++◌, length, chars, codes, decimal}
 use Rattle.grammar_model.specs.Trees.{Tree}
 use Rattle.grammar_model.specs.declared.Ranking.TheVariants.{Rule as RuleRanks}
+use Rattle.grammar_model.specs.declared.limits.TheConstants.{LONGEST_INPUT}
 use Rattle.language_model.specs.Building.{Built}
 use Rattle.reading_model.specs.Reading.{Piece}
 use Rattle.words_model.specs.Words.{Telling, Task, Job, Asks, AskNothing, usage_text}
-use Rattle.words_model.specs.Words.Task.{Check, Tell, Work}
+use Rattle.words_model.specs.Words.Task.{Check, Tell, Work, Script}
+use Rattle.script_model.specs.Script.{AreAnswers}
 use Rattle.run_model.specs.Refused.{Accepted, IsRefused}
 use Rattle.run_model.specs.Checking.{AreCheckLines}
-use Rattle.run_model.specs.Inputs.{IsRead, IsInputRefused}
+use Rattle.run_model.specs.Inputs.{IsInputText, IsBrokenInput, IsRead, IsInputRefused}
 use Rattle.run_model.specs.Listing.{AreDerivations}
 use Rattle.run_model.specs.Numbers.{Numbers, HasNumbers}
 use Rattle.run_model.specs.Jobs.{work_grammar, work_input}
@@ -46,10 +48,17 @@ pub record IsWorkOutcome (size : ℕ) (outcome : Outcome) : Type 0 where
   pub has : HasNumbers built RuleRanks pieces numbers
   pub is : outcome ≡ done (work_line size numbers 1 ∷ [])
 
+-- the outcome of `script`, by cases in order: the input is no text, or the lines of its text are answered
+pub data IsScriptOutcome (input : List ℕ) (outcome : Outcome) : Type 0 where
+  TooLong : LONGEST_INPUT < length input → outcome ≡ refused 1 (codes "input is longer than 16777216 bytes") → IsScriptOutcome input outcome
+  NotUtf8 : (at : ℕ) → IsBrokenInput input at → outcome ≡ refused 1 (codes "input is not UTF-8 at byte " ++ decimal at) → IsScriptOutcome input outcome
+  Answered : (answers : List (List ℕ)) → IsInputText input → AreAnswers input answers → outcome ≡ done answers → IsScriptOutcome input outcome
+
 abbrev pub IsTaskOutcome : Task → (grammar input : List ℕ) → Outcome → Type 0
 IsTaskOutcome Check grammar input outcome = IsGrammarOutcome grammar IsCheckOutcome outcome
 IsTaskOutcome (Tell what) grammar input outcome = IsGrammarOutcome grammar (λ b. IsInputOutcome what b input) outcome
 IsTaskOutcome (Work size) grammar input outcome = IsWorkOutcome size outcome
+IsTaskOutcome Script grammar input outcome = IsScriptOutcome input outcome
 
 -- the outcome of the words, the grammar and the input, by cases in order
 pub data IsOutcome (words : List (List ℕ)) (grammar input : List ℕ) (outcome : Outcome) : Type 0 where

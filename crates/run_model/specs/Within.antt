@@ -5,7 +5,7 @@ use Rattle.outside_model.specs.Told.{ToldFile}
 use Rattle.language_model.specs.Building.{Built}
 use Rattle.reading_model.specs.Reading.{Piece}
 use Rattle.words_model.specs.Words.{Telling, Task, Job, Asks}
-use Rattle.words_model.specs.Words.Task.{Check, Tell, Work}
+use Rattle.words_model.specs.Words.Task.{Check, Tell, Work, Script}
 use Rattle.run_model.specs.Refused.{Accepted}
 use Rattle.run_model.specs.Inputs.{IsRead}
 use Rattle.run_model.specs.Telling.{GivesWithin, TellsWithin}
@@ -28,6 +28,7 @@ abbrev pub DoesWithin : Task → (grammar input : List ℕ) → (before after : 
 DoesWithin Check grammar input before after = ⊤
 DoesWithin (Tell what) grammar input before after = (b : Built) × Accepted grammar b × InputWithin what b input before after
 DoesWithin (Work size) grammar input before after = (b : Built) × Accepted work_grammar b × WorkWithin b size before after
+DoesWithin Script grammar input before after = ⊤
 
 -- a run by the words over these files and this input
 pub record RunsWithin (words : List (List ℕ)) (file : List ℕ → ToldFile) (left : Option (List ℕ)) (before after : ℕ) : Type 0 where

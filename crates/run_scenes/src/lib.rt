@@ -205,6 +205,21 @@ pub const WORKED: Given<'static> = Given {
 
 pub const WORKED_LINES: &[u8] = b"work 2: tokens 7 kept 55 nodes 17 expanded 2 values 1\n";
 
+pub const SCRIPT: &[u8] =
+    b"symbol S\nsymbol a\nrule S a S\nrule S a\nstart S\nprecompute\nalternative a 2\ncomplete\ncomplete\nexpected\nfrob\nreport 2\ntrees 5\nrule S a a";
+
+/// A token of two places, and what the grammar says of it.
+pub const SCRIPTED: Given<'static> = Given {
+    words: &["script"],
+    grammar: b"",
+    input: SCRIPT,
+    gives: 8,
+    ..SUM
+};
+
+pub const SCRIPTED_LINES: &[u8] =
+    b"symbol 0\nsymbol 1\nrule 0\nrule 1\nstart\nready\ntaken\nplace 1\nplace 2\na\nbad line\n0:0 @2-2 S\n0:1 @0-2 S\n1:0 @2-2 S\n1:1 @0-2 S\nreported 4\n[\"S\",1,[\"a\",0,2]]\ntrees 1\nnot now\n";
+
 /// The words of a command line.
 pub fn words_of(alloc: Global, texts: &[&str]) -> Result<Vec<String>, AllocError>
     ensures { IfOk result (λ words. map string_bytes words.items ≡ texts_of texts.now) }

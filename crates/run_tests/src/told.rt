@@ -2,7 +2,8 @@
 use crate::runs::{Told, all_tell, all_told, run_of, tells};
 use run_scenes::{
     CHECKED, CHECKED_LINES, COUNTED, COUNTED_LINES, EXPECTED, EXPECTED_LINES, Given, OPERATORS,
-    REPORTED, REPORTED_LINES, SUM, SUM_LINES, SUMS, TREE_LINES, TREES, WORKED, WORKED_LINES,
+    REPORTED, REPORTED_LINES, SCRIPT, SCRIPTED, SCRIPTED_LINES, SUM, SUM_LINES, SUMS, TREE_LINES,
+    TREES, WORKED, WORKED_LINES,
 };
 use std::alloc::{AllocError, Global};
 use std::test::Fail;
@@ -349,5 +350,46 @@ static WORK_ROWS: [Told<'static>; 3] = [
 #[test]
 fn work_is_counted(rt: HostRuntime) -> Result<(), Fail> {
     assert!(rt; all_tell(rt.alloc(), &WORK_ROWS)?);
+    Ok(())
+}
+
+// A script needs no other file than its own, and the standard input is left alone where the words name one.
+static SCRIPT_ROWS: [Told<'static>; 4] = [
+    (
+        Given {
+            files_fail: &[1],
+            ..SCRIPTED
+        },
+        SCRIPTED_LINES,
+    ),
+    (
+        Given {
+            words: &["--input=i.txt", "script"],
+            file: SCRIPT,
+            input: b"symbol a\n",
+            input_fails: &[1],
+            ..SCRIPTED
+        },
+        SCRIPTED_LINES,
+    ),
+    (
+        Given {
+            input: b"",
+            ..SCRIPTED
+        },
+        b"",
+    ),
+    (
+        Given {
+            input: b"\nsymbol \xC3\xA9\nprecompute\nstart \xC3\xA9\nprecompute",
+            ..SCRIPTED
+        },
+        b"bad line\nsymbol 0\nno rules\nstart\nno rules\n",
+    ),
+];
+
+#[test]
+fn scripts_are_answered(rt: HostRuntime) -> Result<(), Fail> {
+    assert!(rt; all_tell(rt.alloc(), &SCRIPT_ROWS)?);
     Ok(())
 }

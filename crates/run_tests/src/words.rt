@@ -29,6 +29,7 @@ enum Asked {
     Progress,
     Glades,
     Work,
+    Script,
     Nothing,
 }
 
@@ -42,6 +43,7 @@ fn is_task(task: Task, wanted: Asked) -> bool {
         (Task::Tell(Telling::Report { at }), Asked::Progress) => at == 16_777_216,
         (Task::Tell(Telling::Glades), Asked::Glades) => true,
         (Task::Work { size }, Asked::Work) => size == 100_000,
+        (Task::Script, Asked::Script) => true,
         _ => false,
     }
 }
@@ -51,7 +53,7 @@ fn grammar_wanted(wanted: Asked) -> Option<&'static str> {
         Asked::AllGiven | Asked::AllLeftOut => Some("g.slif"),
         Asked::Check | Asked::Progress | Asked::Glades => Some("g"),
         Asked::Expect => Some("--"),
-        Asked::Work | Asked::Nothing => None,
+        Asked::Work | Asked::Script | Asked::Nothing => None,
     }
 }
 
@@ -60,6 +62,7 @@ fn is_input(input: InputFrom<'_>, wanted: Asked) -> bool {
     match (input, wanted) {
         (InputFrom::FileNamed(name), Asked::AllGiven) => name == "i.txt",
         (InputFrom::FileNamed(name), Asked::Expect) => name == "-x",
+        (InputFrom::FileNamed(name), Asked::Script) => name == "s.txt",
         (InputFrom::StandardInput, Asked::AllLeftOut | Asked::Progress | Asked::Glades) => true,
         (InputFrom::Nowhere, Asked::Check | Asked::Work) => true,
         _ => false,
@@ -117,7 +120,7 @@ fn options_stand_in_any_order_and_spelling(rt: HostRuntime) -> Result<(), Fail> 
     Ok(())
 }
 
-static JOBS: [(&[&str], Asked); 5] = [
+static JOBS: [(&[&str], Asked); 6] = [
     (&["check", "--grammar", "g"], Asked::Check),
     (&["expect", "--input=-x", "--grammar=--"], Asked::Expect),
     (
@@ -126,6 +129,7 @@ static JOBS: [(&[&str], Asked); 5] = [
     ),
     (&["work", "--size=0000100000"], Asked::Work),
     (&["--grammar=g", "glades"], Asked::Glades),
+    (&["--input", "s.txt", "script"], Asked::Script),
 ];
 
 #[test]
@@ -134,7 +138,7 @@ fn each_job_is_read(rt: HostRuntime) -> Result<(), Fail> {
     Ok(())
 }
 
-static NOTHING: [&[&str]; 18] = [
+static NOTHING: [&[&str]; 20] = [
     &[],
     &["run"],
     &["--grammar", "g"],
@@ -153,6 +157,8 @@ static NOTHING: [&[&str]; 18] = [
     &["work", "--size", "00000000001"],
     &["glades"],
     &["glades", "--grammar", "g", "--first", "1"],
+    &["script", "--grammar", "g"],
+    &["script", "--input", ""],
 ];
 
 #[test]

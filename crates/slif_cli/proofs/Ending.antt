@@ -6,11 +6,12 @@ use Rattle.outside_model.specs.Told.{AppendsPrefix}
 use Rattle.slif_base.proofs.Bytes.{appends_none}
 use Rattle.language_model.specs.Building.{Built}
 use Rattle.words_model.specs.Words.{Telling, Task}
-use Rattle.words_model.specs.Words.Task.{Check, Tell, Work}
-use Rattle.run_model.specs.Outcome.{Outcome, IsOutcome, IsGrammarOutcome, IsTaskOutcome, IsInputOutcome, IsCheckOutcome, usage, done, refused}
+use Rattle.words_model.specs.Words.Task.{Check, Tell, Work, Script}
+use Rattle.run_model.specs.Outcome.{Outcome, IsOutcome, IsGrammarOutcome, IsTaskOutcome, IsInputOutcome, IsCheckOutcome, IsScriptOutcome, usage, done, refused}
 use Rattle.run_model.specs.Outcome.IsOutcome.{NoJob, OfJob}
 use Rattle.run_model.specs.Outcome.IsGrammarOutcome.{GrammarRefused, GrammarAccepted}
 use Rattle.run_model.specs.Outcome.IsInputOutcome.{InputRefused, InputRead}
+use Rattle.run_model.specs.Outcome.IsScriptOutcome.{TooLong, NotUtf8, Answered as AnsweredScript}
 use Rattle.run_model.specs.Outside.{Outside}
 use Rattle.run_model.specs.Runs.{Answers, Fault, fault_line, memory_line, HasCauseOf, ErrAtFault, Faults, RunsOut, IsQuiet, IsPrefixOf, Runs}
 use Rattle.run_model.specs.Runs.IsPrefixOf.{Nothing, Prefix}
@@ -40,10 +41,16 @@ plain_over : (IsOver : Built → Outcome → Type 0) (grammar : List ℕ) (outco
 plain_over IsOver grammar outcome each (GrammarRefused text refused_text is) = plain_at outcome (refused 3 text) is (λ e. omega arith) (λ e. omega arith)
 plain_over IsOver grammar outcome each (GrammarAccepted b accepted over) = each b over
 
+plain_script : (input : List ℕ) (outcome : Outcome) → IsScriptOutcome input outcome → IsPlain outcome
+plain_script input outcome (TooLong long is) = plain_at outcome _ is (λ e. omega arith) (λ e. omega arith)
+plain_script input outcome (NotUtf8 at broken is) = plain_at outcome _ is (λ e. omega arith) (λ e. omega arith)
+plain_script input outcome (AnsweredScript answers text are is) = plain_at outcome (done answers) is (λ e. omega arith) (λ e. omega arith)
+
 plain_task : (task : Task) (grammar input : List ℕ) (outcome : Outcome) → IsTaskOutcome task grammar input outcome → IsPlain outcome
 plain_task Check grammar input outcome of = plain_over IsCheckOutcome grammar outcome (λ b over. plain_at outcome (done over.lines) over.is (λ e. omega arith) (λ e. omega arith)) of
 plain_task (Tell what) grammar input outcome of = plain_over (λ b. IsInputOutcome what b input) grammar outcome (λ b over. plain_input what b input outcome over) of
 plain_task (Work size) grammar input outcome of = plain_at outcome _ of.is (λ e. omega arith) (λ e. omega arith)
+plain_task Script grammar input outcome of = plain_script input outcome of
 
 plain : (words : List (List ℕ)) (grammar input : List ℕ) (outcome : Outcome) → IsOutcome words grammar input outcome → IsPlain outcome
 plain words grammar input outcome (NoJob none is) = plain_at outcome usage is (λ e. omega arith) (λ e. omega arith)

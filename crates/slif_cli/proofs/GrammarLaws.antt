@@ -26,6 +26,8 @@ use Rattle.report_model.specs.Report.{IsReport}
 use Rattle.report_laws.proofs.One.{report_is_one}
 use Rattle.report_laws.proofs.Existing.{reports_exist}
 use Rattle.recognizer_model.specs.declared.ReportLine.{ReportLine}
+use Rattle.script_laws.proofs.Exist.{answers_exist}
+use Rattle.script_laws.proofs.One.{answers_are_one}
 use Rattle.reading_model.specs.Accepted.{IsAccepted}
 use Rattle.reading_model.specs.Reading.{Piece, edges_of, earleme_after}
 use Rattle.reading_laws.proofs.Reading.{reading_exists}
@@ -35,7 +37,7 @@ use Rattle.prepared_grammars.proofs.Ordered.{in_order}
 use Rattle.run_model.proofs.Inputs.{ReadingLaws}
 use Rattle.run_model.specs.Checking.{SymbolRow, IsRowOf}
 use Rattle.run_model.specs.Listing.{AreDerivations}
-use Rattle.run_model.proofs.Texts.{GrammarLaws, RunLaws}
+use Rattle.run_model.proofs.Texts.{GrammarLaws, ScriptLaws, RunLaws}
 use Rattle.grammar_model.specs.declared.Ranking.TheVariants.{Rule as RuleRanks}
 use Rattle.run_model.specs.Telling.{work_line}
 use Rattle.run_model.specs.Outcome.{Outcome, IsWorkOutcome, done}
@@ -118,5 +120,8 @@ some_work size most =
     let (n, has) = numbers_exist b RuleRanks pieces (accepted.description, accepted.built) accepted.accepted in
     (done (work_line size n 1 ∷ []), record { built = b; accepted = accepted; pieces = pieces; read = read; tree = tree; one = are; numbers = n; has = has; is = refl })
 
+script_laws : ScriptLaws
+script_laws = record { answers = answers_exist; one_list = answers_are_one }
+
 pub run_laws : RunLaws
-run_laws = record { grammars = grammar_laws; reading = reading_laws; row = row; work = some_work }
+run_laws = record { grammars = grammar_laws; reading = reading_laws; row = row; work = some_work; scripts = script_laws }

@@ -8,7 +8,7 @@ use Rattle.outside_model.specs.Told.{ToldFile, MayHold, FileHolds, AsksAmong, Ad
 use Rattle.slif_base.proofs.Bytes.{appends_none}
 use Rattle.language_model.specs.Building.{Built}
 use Rattle.words_model.specs.Words.{Task, InputFrom, Nowhere, Job, Asks, AskNothing}
-use Rattle.words_model.specs.Words.Task.{Check, Tell, Work}
+use Rattle.words_model.specs.Words.Task.{Check, Tell, Work, Script}
 use Rattle.words_model.specs.Laws.{IsFitted}
 use Rattle.words_model.proofs.Fitted.{jobs_are_fitted}
 use Rattle.words_model.proofs.Asked.{asks_once, not_both}
@@ -70,6 +70,7 @@ refused_of : (task : Task) (file : Option (List ℕ)) (from : InputFrom) → IsF
 refused_of Check file from fitted name named text input told is = GrammarRefused told is refl
 refused_of (Tell what) file from fitted name named text input told is = GrammarRefused told is refl
 refused_of (Work size) file from fitted name named text input told is = let bad : None ≡ Some name = sym fitted.0 ∙ named in absurd (cc bad)
+refused_of Script file from fitted name named text input told is = let bad : None ≡ Some name = sym fitted.0 ∙ named in absurd (cc bad)
 
 -- no job goes on to its input with the text
 abbrev GoesOnWithNone : List ℕ → Type 0

@@ -16,3 +16,4 @@ pub mod Within
 pub mod OneLine
 pub mod Derivations
 pub mod Compared
+pub mod ScriptLemmas

@@ -3,6 +3,8 @@ use Rattle.text_reading.specs.declared.refusal.Refusal as text
 use Rattle.text_reading.specs.declared.refusal.Refusal.TheVariants as refusal
 use Rattle.value_lines.specs.declared.writing.WriteRefusal as lines
 use Rattle.value_lines.specs.declared.writing.WriteRefusal.TheVariants as unwritten
+use Rattle.marpa_script.specs.declared.refusal.ScriptRefusal as script
+use Rattle.marpa_script.specs.declared.refusal.ScriptRefusal.TheVariants as unanswered
 use Rattle.slif_cli.specs.declared.stop.Refusal.TheVariants.{Grammar as BadGrammar, Input as BadInput}
 use Rattle.slif_cli.specs.declared.stop.Stop.{Stop}
 use Rattle.slif_cli.specs.declared.stop.Stop.TheVariants.{Refused, WriteFault, NoMemory}
@@ -17,3 +19,8 @@ stop_for refusal.NoMemory = NoMemory
 abbrev pub write_stop : lines.WriteRefusal → Stop
 write_stop unwritten.WriteFault = WriteFault
 write_stop unwritten.NoMemory = NoMemory
+
+-- answers that were not all written
+abbrev pub script_stop : script.ScriptRefusal → Stop
+script_stop unanswered.WriteFault = WriteFault
+script_stop unanswered.NoMemory = NoMemory

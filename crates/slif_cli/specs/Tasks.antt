@@ -38,3 +38,8 @@ pub record IsTellJob (job : words.Job) (grammar : List ℕ) (from : InputFrom) (
   pub named : job.grammar ≡ Some grammar
   pub input : job.input ≡ from
   pub task : job.task ≡ words.Tell what
+
+-- the job plays the input from there
+pub record IsScriptJob (job : words.Job) (from : InputFrom) : Type 0 where
+  pub input : job.input ≡ from
+  pub task : job.task ≡ words.Script

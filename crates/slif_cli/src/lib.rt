@@ -6,6 +6,7 @@ mod grammar;
 mod inputs;
 mod laws;
 mod messages;
+mod scripting;
 mod stop;
 mod telling;
 mod top;

@@ -15,6 +15,7 @@ ghost use Rattle.slif_cli.specs.Tasks.{IsCheckJob, IsTellJob};
 use crate::checking::write_check;
 use crate::grammar::load_grammar;
 use crate::messages::report;
+use crate::scripting::play_input;
 use crate::stop::{Refusal, Stop};
 use crate::telling::tell_input;
 use crate::working::work_of_size;
@@ -120,6 +121,7 @@ fn do_task<'a, F: Files, I: Source, O: Sink, L: Ledger>(
             )
         }
         Task::Work { size } => work_of_size(alloc, size, out, steps),
+        Task::Script => play_input(alloc, job.input, files, input, out, steps),
     }
 }
 

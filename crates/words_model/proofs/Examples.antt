@@ -5,7 +5,7 @@ use Rattle.grammar_model.specs.declared.Ranking.TheVariants.{None as NoRanks, Ru
 use Rattle.grammar_model.specs.declared.Show.{Show}
 use Rattle.grammar_model.specs.declared.Show.TheVariants.{Array as ShowArray, Tree as ShowTree}
 use Rattle.grammar_model.specs.declared.limits.TheConstants.{LAST_PLACE}
-use Rattle.words_model.specs.Words.{Job, Task, Values, Check, Expected, Report, Glades, Tell, Work, InputFrom, Nowhere, StandardInput, FileNamed, job_asked}
+use Rattle.words_model.specs.Words.{Job, Task, Values, Check, Expected, Report, Glades, Tell, Work, Script, InputFrom, Nowhere, StandardInput, FileNamed, job_asked}
 
 abbrev input_in : Option (List ℕ) → InputFrom
 input_in None = StandardInput
@@ -31,6 +31,9 @@ shows_glades grammar input = of_grammar grammar (input_in input) (Tell Glades)
 
 abbrev works : ℕ → Job
 works size = record { grammar = None; input = Nowhere; task = Work size }
+
+abbrev plays : Option (List ℕ) → Job
+plays input = record { grammar = None; input = input_in input; task = Script }
 
 progress_at : job_asked (codes "progress" ∷ codes "--at" ∷ codes "2" ∷ codes "--grammar" ∷ codes "g.slif" ∷ []) ≡ Some (reports (codes "g.slif") 2 None)
 progress_at = refl
@@ -292,3 +295,18 @@ glades_without_a_grammar = refl
 
 rank_for_glades : job_asked (codes "glades" ∷ codes "--grammar" ∷ codes "g.slif" ∷ codes "--rank" ∷ codes "rule" ∷ []) ≡ None
 rank_for_glades = refl
+
+script_alone : job_asked (codes "script" ∷ []) ≡ Some (plays None)
+script_alone = refl
+
+script_in_a_file : job_asked (codes "--input=s.txt" ∷ codes "script" ∷ []) ≡ Some (plays (Some (codes "s.txt")))
+script_in_a_file = refl
+
+script_with_a_grammar : job_asked (codes "script" ∷ codes "--grammar" ∷ codes "g.slif" ∷ []) ≡ None
+script_with_a_grammar = refl
+
+script_of_a_size : job_asked (codes "script" ∷ codes "--size" ∷ codes "2" ∷ []) ≡ None
+script_of_a_size = refl
+
+script_in_no_file : job_asked (codes "script" ∷ codes "--input" ∷ codes "-" ∷ []) ≡ None
+script_in_no_file = refl

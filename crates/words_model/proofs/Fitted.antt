@@ -4,7 +4,7 @@ use Rattle.std.specs.Prelude.{IsTrue, option_map, option_and_then, codes, bytes_
 use Rattle.std.specs.Char.{is_ascii_digit}
 use Rattle.std.specs.List.{list_all}
 use Rattle.language_model.specs.Building.{digits_number}
-use Rattle.words_model.specs.Words.{Telling, Task, Check, Tell, Work, InputFrom, Nowhere, StandardInput, FileNamed, Job, Setting, Given, Does, Checks, Tells, Works, JobRow, jobs, options_of, task_asked, job_given, job_named, job_with, gives_only, grammar_given, input_given, input_file, work_asked, file_name, number_from, words_set, are_set_once, value_of, read_or}
+use Rattle.words_model.specs.Words.{Telling, Task, Check, Tell, Work, Script, InputFrom, Nowhere, StandardInput, FileNamed, Job, Setting, Given, Does, Checks, Tells, Works, Plays, JobRow, jobs, options_of, task_asked, job_given, job_named, job_with, gives_only, grammar_given, input_given, input_file, work_asked, file_name, number_from, words_set, are_set_once, value_of, read_or}
 use Rattle.words_model.specs.Laws.{IsFitted, JobsAreFitted}
 
 -- ---- values
@@ -82,6 +82,11 @@ module _ (given : Given) where
       let none : None ≡ g = cc eg in
       let where_is : Nowhere ≡ i = cc ei in
       subst (λ (z : Task). IsFitted z g i) is (sym none, sym where_is, few))) job e
+  by_row Plays job e =
+      made Fitted (gives_only (codes "input" ∷ []) given) (Some None) (input_given (codes "input" ∷ []) given) (Some Script) (λ g i t eg ei et.
+      (let is : Script ≡ t = cc et in
+      let none : None ≡ g = cc eg in
+      subst (λ (z : Task). IsFitted z g i) is (sym none, somewhere (given (codes "input")) i ei))) job e
 
   by_rows : (row : Option JobRow) (job : Job) → option_and_then (λ row. job_with (options_of row.does) (task_asked row.does given) given) row ≡ Some job → Fitted job
   by_rows None job e = absurd (cc e)

@@ -2,7 +2,7 @@
 use Rattle.std.specs.Prelude.{◌≡◌, ◌≢◌, ℕ, ◌≤◌, Bool, true, false, not, IsTrue, List, ◌∷◌, ◌++◌, ◌⊎◌, Option, Some, None, is_some, bytes_eq, codes}
 use Rattle.std.specs.List.{list_all, join_by}
 use Rattle.language_model.specs.Building.{is_one_of}
-use Rattle.words_model.specs.Words.{Job, Task, Check, Tell, Work, InputFrom, Nowhere, Setting, Asks, AskNothing, is_dashed, job_asked, jobs, usage_text, with_value, words_set}
+use Rattle.words_model.specs.Words.{Job, Task, Check, Tell, Work, Script, InputFrom, Nowhere, Setting, Asks, AskNothing, is_dashed, job_asked, jobs, usage_text, with_value, words_set}
 
 -- the words ask for a job or for none, and for one at most
 abbrev pub HasJobOrNone : Type 0
@@ -16,6 +16,7 @@ abbrev pub IsFitted : Task → (grammar : Option (List ℕ)) → InputFrom → T
 IsFitted Check grammar input = IsTrue (is_some grammar) × (input ≡ Nowhere)
 IsFitted (Tell what) grammar input = IsTrue (is_some grammar) × (input ≢ Nowhere)
 IsFitted (Work size) grammar input = (grammar ≡ None) × (input ≡ Nowhere) × (size ≤ 100000)
+IsFitted Script grammar input = (grammar ≡ None) × (input ≢ Nowhere)
 
 abbrev pub JobsAreFitted : Type 0
 JobsAreFitted = (words : List (List ℕ)) (job : Job) → Asks words job → IsFitted job.task job.grammar job.input

@@ -29,12 +29,13 @@ pub data Telling : Type 0 where
   Report : (at : ℕ) → Telling
   Glades : Telling
 
--- what a job does: it tells what the symbols of its grammar can do, it tells something of its input, or it reads an input of its own, of
--- that size, by a grammar of its own
+-- what a job does: it tells what the symbols of its grammar can do, it tells something of its input, it reads an input of its own, of
+-- that size, by a grammar of its own, or it plays its input as a script
 pub data Task : Type 0 where
   Check : Task
   Tell : (what : Telling) → Task
   Work : (size : ℕ) → Task
+  Script : Task
 
 -- where the input of a job is
 pub data InputFrom : Type 0 where
@@ -202,11 +203,12 @@ work_asked given = option_map Work (option_and_then (number_from 1 100000) (give
 
 -- ---- jobs by name
 
--- what a job of some name does: it checks, it works, or it tells what its values ask for and may have further options
+-- what a job of some name does: it checks, it works, it plays, or it tells what its values ask for and may have further options
 pub data Does : Type 0 where
   Checks : Does
   Tells : (options : List (List ℕ)) (asked : Given → Option Telling) → Does
   Works : Does
+  Plays : Does
 
 pub record JobRow : Type 0 where
   pub name : List ℕ
@@ -220,6 +222,7 @@ jobs =
     record { name = codes "expect"; does = Tells [] (λ given. Some Expected) } ∷
     record { name = codes "progress"; does = Tells (codes "at" ∷ []) report_asked } ∷
     record { name = codes "work"; does = Works } ∷
+    record { name = codes "script"; does = Plays } ∷
     record { name = codes "glades"; does = Tells [] (λ given. Some Glades) } ∷ []
 
 -- the options that a job may have; it needs those whose value has no default
@@ -227,11 +230,13 @@ abbrev pub options_of : Does → List (List ℕ)
 options_of Checks = codes "grammar" ∷ []
 options_of (Tells options asked) = codes "grammar" ∷ codes "input" ∷ options
 options_of Works = codes "size" ∷ []
+options_of Plays = codes "input" ∷ []
 
 abbrev pub task_asked : Does → Given → Option Task
 task_asked Checks given = Some Check
 task_asked (Tells options asked) given = option_map Tell (asked given)
 task_asked Works given = work_asked given
+task_asked Plays given = Some Script
 
 abbrev pub job_named : (name : List ℕ) → Given → Option Job
 job_named name given =
@@ -242,7 +247,7 @@ job_given given = option_and_then (λ name. job_named name given) (given (codes 
 
 -- what is told where the words ask for no job. It names the rows of the table (a law)
 abbrev pub usage_text : List ℕ
-usage_text = codes "usage: slif JOB [options]; jobs: run, check, expect, progress, work, glades"
+usage_text = codes "usage: slif JOB [options]; jobs: run, check, expect, progress, work, script, glades"
 
 -- THE JOB THAT WORDS ASK FOR
 abbrev pub job_asked : List (List ℕ) → Option Job

@@ -3,13 +3,15 @@ use Rattle.std.proofs.lemmas.Result.{on_ok_weaker, MatchResult-weaker}
 use Rattle.outside_model.specs.Causes.{Rose}
 use Rattle.words_model.specs.Words as model
 use Rattle.words_model.specs.Words.{Asks}
-use Rattle.run_model.specs.Outcome.{IsWorkOutcome}
+use Rattle.words_model.specs.Words.InputFrom.{FileNamed}
+use Rattle.run_model.specs.Outcome.{IsWorkOutcome, IsScriptOutcome}
 use Rattle.run_model.specs.Outside.{stream}
 use Rattle.run_model.specs.Runs.{MayOpen}
 use Rattle.command_line.specs.Jobs.{job_of, task_of, telling_of, input_of}
-use Rattle.slif_cli.specs.Stops.{MayHave}
-use Rattle.slif_cli.specs.Tasks.{IsCheckJob, IsTellJob}
+use Rattle.slif_cli.specs.Stops.{MayHave, MayRead}
+use Rattle.slif_cli.specs.Tasks.{IsCheckJob, IsTellJob, IsScriptJob}
 use Rattle.slif_cli.proofs.JobLemmas.{asks_names, asks_nothing, worked, works_within, checks_within, fitted_as, copied_some}
+use Rattle.slif_cli.proofs.ScriptLemmas.{played, plays_within, reads_input, opens_input, asks_input}
 use Rattle.slif_cli.proofs.Stopping.{does_weaker, stops_weaker}
 use Rattle.slif_cli.proofs.top.do_task.Goals as goal
 
@@ -112,3 +114,52 @@ returns-in-Work-clause-counted g c =
     let left = g.I.Source.left c.args.input.now in
     on_ok_weaker c.work_of_size.result
     (λ within words asks. works_within words (job_of c.args.job) size (ap task_of c.in-Work.is) asks file left c.args.steps.now c.work_of_size.new.steps within) c.work_of_size.ensures.counted
+
+pub play_input-requires : goal.play_input-requires
+play_input-requires g c =
+    let (words, asks) = c.requires.asked in
+    (fitted_as words (job_of c.args.job) asks model.Script (ap task_of c.in-Script.is)).1
+
+pub returns-in-Script-clause-done : goal.returns-in-Script-clause-done
+returns-in-Script-clause-done g c =
+    let is_job : IsScriptJob (job_of c.args.job) (input_of c.args.job.input) = record { input = λ i. input_of c.args.job.input; task = ap task_of c.in-Script.is } in
+    let from = input_of c.args.job.input in
+    let file = g.F.Files.told c.args.files.now in
+    let left = g.I.Source.left c.args.input.now in
+    on_ok_weaker c.play_input.result
+    (λ does words asks. does_weaker (MayRead IsScriptOutcome from file left) (MayHave words file left) (played words (job_of c.args.job) from is_job asks file left) _ _ does) c.play_input.ensures.done
+
+pub returns-in-Script-clause-stops : goal.returns-in-Script-clause-stops
+returns-in-Script-clause-stops g c =
+    let is_job : IsScriptJob (job_of c.args.job) (input_of c.args.job.input) = record { input = λ i. input_of c.args.job.input; task = ap task_of c.in-Script.is } in
+    let from = input_of c.args.job.input in
+    let file = g.F.Files.told c.args.files.now in
+    let left = g.I.Source.left c.args.input.now in
+    let files = Rose (g.F.Files.fault_count c.args.files.now) (g.F.Files.fault_count c.play_input.new.files) in
+    let input = Rose (g.I.Source.fault_count c.args.input.now) (g.I.Source.fault_count c.play_input.new.input) in
+    MatchResult-weaker c.play_input.result c.play_input.ensures.stops (λ _ x. x)
+    (λ stop stops words asks. stops_weaker (MayRead IsScriptOutcome from file left) (MayHave words file left) (played words (job_of c.args.job) from is_job asks file left)
+    (λ asked. files × (from ≡ FileNamed asked)) (λ asked. files × MayOpen words file asked) (files ⊎ input) (files ⊎ input)
+    (λ asked x. (x.0, opens_input words (job_of c.args.job) from is_job asks file left asked x.1)) (λ x. x)
+    (stream g.O.Sink.contents g.O.Sink.fault_count c.args.out.now) (stream g.O.Sink.contents g.O.Sink.fault_count c.play_input.new.out) stop stops)
+
+pub returns-in-Script-clause-asks : goal.returns-in-Script-clause-asks
+returns-in-Script-clause-asks g c =
+    let is_job : IsScriptJob (job_of c.args.job) (input_of c.args.job.input) = record { input = λ i. input_of c.args.job.input; task = ap task_of c.in-Script.is } in
+    λ words asks. asks_input words (job_of c.args.job) (input_of c.args.job.input) is_job asks (g.F.Files.told c.args.files.now) (g.I.Source.left c.args.input.now) _ _ c.play_input.ensures.asks
+
+pub returns-in-Script-clause-input : goal.returns-in-Script-clause-input
+returns-in-Script-clause-input g c =
+    let is_job : IsScriptJob (job_of c.args.job) (input_of c.args.job.input) = record { input = λ i. input_of c.args.job.input; task = ap task_of c.in-Script.is } in
+    elim c.play_input.ensures.input [
+      | inl same ↦ inl same
+      | inr standard ↦ inr (λ words asks. reads_input words (job_of c.args.job) (input_of c.args.job.input) is_job asks (g.F.Files.told c.args.files.now) (g.I.Source.left c.args.input.now) standard)
+    ]
+
+pub returns-in-Script-clause-counted : goal.returns-in-Script-clause-counted
+returns-in-Script-clause-counted g c =
+    let is_job : IsScriptJob (job_of c.args.job) (input_of c.args.job.input) = record { input = λ i. input_of c.args.job.input; task = ap task_of c.in-Script.is } in
+    let file = g.F.Files.told c.args.files.now in
+    let left = g.I.Source.left c.args.input.now in
+    on_ok_weaker c.play_input.result
+    (λ does words asks. plays_within words (job_of c.args.job) (input_of c.args.job.input) is_job asks file left does.outcome c.args.steps.now c.play_input.new.steps does.is) c.play_input.ensures.done

@@ -1,0 +1,48 @@
+use Rattle.std.proofs.Common.{◌⊎◌, ◌≡◌}
+use Rattle.std.proofs.lemmas.Result.{on_ok_weaker, MatchResult-weaker}
+use Rattle.outside_model.specs.Causes.{Rose}
+use Rattle.words_model.specs.Words.InputFrom.{FileNamed}
+use Rattle.run_model.specs.Outside.{stream}
+use Rattle.run_model.specs.Outcome.{IsScriptOutcome}
+use Rattle.run_model.specs.Runs.{InputMayBe}
+use Rattle.slif_cli.specs.Stops.{MayRead, StopsAt}
+use Rattle.command_line.specs.Jobs.{input_of}
+use Rattle.slif_cli.proofs.Stopping.{does_weaker, stops_weaker, passed_on}
+use Rattle.slif_cli.proofs.TaskLemmas.{may_read}
+use Rattle.slif_cli.proofs.ScriptLemmas.{unread}
+use Rattle.slif_cli.proofs.scripting.play_input.Goals as goal
+
+pub returns-clause-done : goal.returns-clause-done
+returns-clause-done g c =
+    let from = input_of c.args.from in
+    let file = g.F.Files.told c.args.files.now in
+    let left = g.I.Source.left c.args.input.now in
+    let may_be : InputMayBe from file left c.in_ok-bytes.bytes.items = c.in_ok-bytes.ensures.read in
+    on_ok_weaker c.play_bytes.result
+    (does_weaker (IsScriptOutcome c.in_ok-bytes.bytes.items) (MayRead IsScriptOutcome from file left) (may_read IsScriptOutcome from file left c.in_ok-bytes.bytes.items may_be) _ _)
+    c.play_bytes.ensures.done
+
+pub returns-clause-stops : goal.returns-clause-stops
+returns-clause-stops g c =
+    let from = input_of c.args.from in
+    let file = g.F.Files.told c.args.files.now in
+    let left = g.I.Source.left c.args.input.now in
+    let may_be : InputMayBe from file left c.in_ok-bytes.bytes.items = c.in_ok-bytes.ensures.read in
+    let files = Rose (g.F.Files.fault_count c.args.files.now) (g.F.Files.fault_count c.read_bytes.new.files) in
+    let input = Rose (g.I.Source.fault_count c.args.input.now) (g.I.Source.fault_count c.read_bytes.new.input) in
+    MatchResult-weaker c.play_bytes.result c.play_bytes.ensures.stops (λ _ x. x)
+    (λ stop. stops_weaker (IsScriptOutcome c.in_ok-bytes.bytes.items) (MayRead IsScriptOutcome from file left) (may_read IsScriptOutcome from file left c.in_ok-bytes.bytes.items may_be)
+    (λ asked. ⊥) (λ asked. files × (from ≡ FileNamed asked)) ⊥ (files ⊎ input) (λ asked x. absurd x) (λ x. absurd x)
+    (stream g.O.Sink.contents g.O.Sink.fault_count c.args.out.now) (stream g.O.Sink.contents g.O.Sink.fault_count c.play_bytes.new.out) stop)
+
+pub returns-in_err-bytes-clause-stops : goal.returns-in_err-bytes-clause-stops
+returns-in_err-bytes-clause-stops g c =
+    let from = input_of c.args.from in
+    let file = g.F.Files.told c.args.files.now in
+    let left = g.I.Source.left c.args.input.now in
+    let files = Rose (g.F.Files.fault_count c.args.files.now) (g.F.Files.fault_count c.read_bytes.new.files) in
+    let input = Rose (g.I.Source.fault_count c.args.input.now) (g.I.Source.fault_count c.read_bytes.new.input) in
+    let before = stream g.O.Sink.contents g.O.Sink.fault_count c.args.out.now in
+    let stop = c.in_err-bytes.field-0.0 in
+    passed_on (StopsAt (MayRead IsScriptOutcome from file left) (λ asked. files × (from ≡ FileNamed asked)) (files ⊎ input) before before)
+    c.from_residual.result stop c.from_residual.ensures.1 (unread from file left files input before stop c.in_err-bytes.ensures.stops)
