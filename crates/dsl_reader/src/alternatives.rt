@@ -76,7 +76,7 @@ fn read_group(alloc: Global, piece: &Piece<'_>) -> Result<Option<Vec<Alternative
 {
     let mut group = Vec::new(alloc);
     let mut at = 0;
-    'parts: loop {
+    'alternatives: loop {
         let to = piece.mark_from(at, "|");
         let Some(alternative) = read_full(alloc, &piece.part(at, to))? else {
             return Ok(None);
@@ -99,7 +99,7 @@ pub fn read_groups(
 {
     let mut groups = Vec::new(alloc);
     let mut at = 0;
-    'parts: loop {
+    'groups: loop {
         let to = piece.mark_from(at, "||");
         let Some(group) = read_group(alloc, &piece.part(at, to))? else {
             return Ok(None);

@@ -23,7 +23,8 @@ use std::sync::ledger::Ledger;
 // Lists the first items of the rules from the first one up to the end.
 fn list_predicted(first: u32, end: u32, next: &mut Vec<Item>) -> Result<(), AllocFailed<Item>>
     ensures listed { OnOk result ((other : Item) → Contains next.new.items other ↔
-        (Contains next.old.items other ⊎ ((r : ℕ) × (first ≤ r) × (r < end) × (other ≡ first_item r 0)))) }
+        (Contains next.old.items other ⊎ ((r : ℕ) × (first ≤ r) × (r < end) ×
+        (other ≡ first_item r 0)))) }
     ensures links { OnOk result (RisesBy (λ (r : ℕ). (first ≤ r) × (r < end))
         (length next.old.items) (length next.new.items)) }
 {

@@ -133,7 +133,8 @@ fn list_scanned(
     requires rows { HasRows flat.now rows.now }
     requires begun { (e : HeldEdge) → Contains edges.now e → e.from < length rows.now.sets }
     ensures listed { OnOk result ((other : Item) → Contains next.new.items other ↔
-        (Contains next.old.items other ⊎ IsScanned flat.now rows.now.sets earleme edges.now other)) }
+        (Contains next.old.items other ⊎ IsScanned flat.now rows.now.sets earleme edges.now
+        other)) }
     ensures links { OnOk result (RisesBy (MakesScan flat.now rows.now.sets earleme edges.now)
         (length next.old.items) (length next.new.items)) }
 {
@@ -260,7 +261,8 @@ pub fn make_kernel<L: Ledger>(
     ensures kernel { OnOk result (IsKernel flat.now rows.now.sets top earleme edges.now
         work.new.set.keys) }
     ensures counted { OnOk result (0 < earleme →
-        RisesBy (MakesKernel flat.now rows.now.sets earleme edges.now work.new.set.keys) (steps.old + length memo.new) (steps.new + length memo.old)) }
+        RisesBy (MakesKernel flat.now rows.now.sets earleme edges.now work.new.set.keys)
+        (steps.old + length memo.new) (steps.new + length memo.old)) }
 {
     list_seeds(
         flat,

@@ -10,7 +10,7 @@ ghost use Rattle.earley_sets.specs.Tried.{RisesBy, IsWaiting, MakesSkip, RisesBy
 
 use grammar_core::Flat;
 use item_rows::{Row, Rows};
-use leo_items::{Memo, Pair, leo_of, pair_above, topmost};
+use leo_items::{Memo, Pair, advanced, leo_of, pair_above, topmost};
 use recognizer_model::Item;
 use slif_base::Steps;
 use std::alloc::{AllocError, AllocFailed};
@@ -24,18 +24,6 @@ pub fn next_symbol(flat: &Flat, item: Item) -> Option<u32>
 {
     flat.known();
     flat.rhs(item.rule).get(item.dot as usize).copied()
-}
-
-/// The item with its dot advanced.
-pub fn advanced(item: Item) -> Item
-    requires { item.dot + 1 < 2 ^ 32 }
-    ensures { result ≡ item_after item }
-{
-    Item {
-        rule: item.rule,
-        dot: item.dot + 1,
-        origin: item.origin,
-    }
 }
 
 /// Lists items with their dots advanced.
@@ -80,7 +68,8 @@ pub fn list_completed(
     requires rows { HasRows flat.now rows.now }
     requires origin { origin < length rows.now.sets }
     ensures listed { OnOk result ((other : Item) → Contains next.new.items other ↔
-        (Contains next.old.items other ⊎ IsAdvancedOver flat.now (row_at rows.now.sets origin) symbol other)) }
+        (Contains next.old.items other ⊎ IsAdvancedOver flat.now (row_at rows.now.sets origin)
+        symbol other)) }
     ensures links { OnOk result (RisesBy (IsWaiting flat.now (row_at rows.now.sets origin) symbol)
         (length next.old.items) (length next.new.items)) }
 {
@@ -103,7 +92,8 @@ fn list_done<L: Ledger>(
     requires memo { IsMemo flat.now rows.now.sets memo.old }
     requires set { pair.set < length rows.now.sets }
     ensures listed { OnOk result ((other : Item) → Contains next.new.items other ↔
-        (Contains next.old.items other ⊎ IsDone flat.now rows.now.sets pair.set pair.symbol other)) }
+        (Contains next.old.items other ⊎ IsDone flat.now rows.now.sets pair.set pair.symbol
+        other)) }
     ensures links { OnOk result (RisesByDone flat.now rows.now.sets pair.set pair.symbol
         (length next.old.items) (length next.new.items)) }
     ensures memo { NotesMore flat.now rows.now.sets memo.old memo.new }

@@ -240,9 +240,23 @@ impl<'g> Model for Recce<'g> {
 
     ghost Value = { Recognizer };
 
-    ghost view = { λ r. record { flat = r.flat.now; start = r.start; edges = r.edges; sets = r.rows.sets; noted = pairs_of r.memo } };
+    ghost view = { λ r. record {
+      flat = r.flat.now;
+      start = r.start;
+      edges = r.edges;
+      sets = r.rows.sets;
+      noted = pairs_of r.memo;
+    } };
 
-    ghost invariant = { λ r. IsKept (record { flat = r.flat.now; start = r.start; edges = r.edges; sets = r.rows.sets; noted = pairs_of r.memo }) r.top r.memo × AreHeads r.flat.now r.heads × (r.rows.flat ≡ r.flat.now) × AreLists r.flat.now r.rows.shared r.lists.numbers.entries × AreLastMarks r.flat.now r.rows.sets r.marks };
+    ghost invariant = { λ r. IsKept (record {
+      flat = r.flat.now;
+      start = r.start;
+      edges = r.edges;
+      sets = r.rows.sets;
+      noted = pairs_of r.memo;
+    }) r.top r.memo × AreHeads r.flat.now r.heads ×
+        (r.rows.flat ≡ r.flat.now) × AreLists r.flat.now r.rows.shared r.lists.numbers.entries ×
+        AreLastMarks r.flat.now r.rows.sets r.marks };
 }
 
 /// Items of a set: those that begin at an earlier place, and then the others; each part by the symbol after the dot, whole items last, then by rule, dot and origin.
@@ -350,10 +364,12 @@ impl<'g> Recce<'g> {
         ensures same { (self.new.flat ≡ self.old.flat) × (self.new.start ≡ self.old.start) ×
             (self.new.edges ≡ self.old.edges) }
         ensures ok { OnOk result ((set : List Item) × (self.new.sets ≡ self.old.sets ++ set ∷ []) ×
-            IsListOf (InReduced self.old.flat (edges_of self.old) (top_of self.old) (length self.old.sets)) set) }
+            IsListOf (InReduced self.old.flat (edges_of self.old) (top_of self.old)
+            (length self.old.sets)) set) }
         ensures err { OnErr result (self.new ≡ self.old) }
         ensures counted { OnOk result ((tried : List Link) × AllPairs (λ a b. a ≢ b) tried ×
-            ((l : Link) → Contains tried l → IsLink self.old.flat (edges_of self.old) (top_of self.old) (length self.old.sets) l) ×
+            ((l : Link) → Contains tried l → IsLink self.old.flat (edges_of self.old)
+            (top_of self.old) (length self.old.sets) l) ×
             (steps.new + made self.old ≡ steps.old + length tried + made self.new)) }
     {
         add_row(
@@ -482,8 +498,10 @@ impl<'g> Recce<'g> {
             (λ item. IsHidden self.now.flat (edges_of self.now) (top_of self.now) j item ×
             (from ≤ item.origin))
             items.items) }
-        ensures full { IfOk result (λ items. (item : Item) → IsWhole self.now.flat item → from ≤ item.origin →
-            (Contains (set_at self.now j) item ⊎ Contains items.items item) ↔ InSet self.now.flat (edges_of self.now) (top_of self.now) j item) }
+        ensures full { IfOk result (λ items. (item : Item) → IsWhole self.now.flat item →
+            from ≤ item.origin →
+            (Contains (set_at self.now j) item ⊎ Contains items.items item) ↔
+            InSet self.now.flat (edges_of self.now) (top_of self.now) j item) }
         ensures counted { IfOk result (λ items. steps.new ≡ steps.old + length items.items) }
         ensures err { OnErr result (steps.new ≡ steps.old) }
     {
@@ -553,7 +571,8 @@ impl<'g> Recce<'g> {
         ensures duplicate { (result ≡ Err Duplicate) ↔
             (IsExpected self.old t × Contains self.old.edges (new_edge self.old t length)) }
         ensures bad_length { (result ≡ Err BadLength) ↔
-            (IsExpected self.old t × (¬ Contains self.old.edges (new_edge self.old t length)) × ((length ≡ 0) ⊎ (LONGEST_EDGE < length))) }
+            (IsExpected self.old t × (¬ Contains self.old.edges (new_edge self.old t length)) ×
+            ((length ≡ 0) ⊎ (LONGEST_EDGE < length))) }
     {
         let earleme = self.place();
         if !self.is_expected(t) {

@@ -35,7 +35,11 @@ impl Model for Symbols {
 
     ghost Value = { Numbering };
 
-    ghost view = { λ s. record { slots = map told_slot s.slots.keys; lists = s.lists.items; before = s.before.items } };
+    ghost view = { λ s. record {
+      slots = map told_slot s.slots.keys;
+      lists = s.lists.items;
+      before = s.before.items;
+    } };
 }
 
 /// Whether there are no rules.

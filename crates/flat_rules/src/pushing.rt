@@ -177,7 +177,8 @@ fn push_lists(
     requires sequence { is_sequence (rule_at c.now i) ≡ true }
     requires numbers { AreNumbers c.now symbols.now }
     ensures { (d : Decided c.now) → Adds rules.old.items rules.new.items
-        (lists_by symbols.now i lhs (not (is_proper_rule (rule_at c.now i)) && counts_separator d (rule_at c.now i)) (rule_at c.now i)) result }
+        (lists_by symbols.now i lhs (not (is_proper_rule (rule_at c.now i)) && counts_separator d
+        (rule_at c.now i)) (rule_at c.now i)) result }
 {
     let w = c.written();
     w.known();

@@ -113,7 +113,8 @@ fn note(cause: Cause<'_>, notes: &mut Vec<Option<Option<u32>>>)
 // Notes the first nodes of all causes.
 fn note_all(alternatives: &Alternatives<'_>, notes: &mut Vec<Option<Option<u32>>>)
     requires { (at n : ℕ) → at < length alternatives.now →
-        slice_get (whole_nodes (alternative_at alternatives.now at).cause) 0 ≡ Some n → n < length notes.old.items }
+        slice_get (whole_nodes (alternative_at alternatives.now at).cause) 0 ≡ Some n →
+        n < length notes.old.items }
     ensures { notes.new.items ≡ all_noted alternatives.now notes.old.items }
 {
     for at in 0..alternatives.len() {

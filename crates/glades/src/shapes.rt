@@ -71,7 +71,8 @@ fn go_over(
     requires node { node < length forest.now.nodes }
     requires fork { fork < length forest.now.nodes }
     ensures { OnOk result ((starts : List ℕ) × IsFirst forest.now fork starts ×
-        (back.new.items ≡ (back.old.items ++ passed_here forest.now (node_at forest.now node) fork) ++ reverse starts)) }
+        (back.new.items ≡ (back.old.items ++ passed_here forest.now (node_at forest.now node)
+        fork) ++ reverse starts)) }
 {
     pass(forest, node, fork, back)?;
     push_first(forest, links, fork, back)
@@ -117,7 +118,8 @@ pub fn push_second(
     requires known { AreKnown forest.now seconds.old }
     requires node { node < length forest.now.nodes }
     requires second { HasSecond forest.now node true }
-    ensures second { OnOk result ((starts : List ℕ) × (others : List ℕ) × IsSecond forest.now node starts others ×
+    ensures second { OnOk result ((starts : List ℕ) × (others : List ℕ) ×
+        IsSecond forest.now node starts others ×
         (back.new.items ≡ back.old.items ++ reverse others)) }
     ensures known { AreKnown forest.now seconds.new }
 {

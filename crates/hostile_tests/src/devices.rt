@@ -132,7 +132,7 @@ pub(crate) fn all_break(
 }
 
 /// Whether a run ends so, and each call that fails ends it as it should.
-pub(crate) fn is_so(alloc: Global, case: &Case<'_>) -> Result<bool, AllocError> {
+pub(crate) fn fails_in_turn(alloc: Global, case: &Case<'_>) -> Result<bool, AllocError> {
     for device in [Device::Files, Device::Input, Device::Out, Device::Err] {
         if !all_break(alloc, case, device)? {
             return Ok(false);

@@ -1,5 +1,5 @@
 //! Words, grammars and inputs that are refused: the status and the line, and nothing on the standard output.
-use crate::devices::{Case, is_so, line_breaks};
+use crate::devices::{Case, fails_in_turn, line_breaks};
 use crate::runs::{asked, ends};
 use run_scenes::{
     CHECKED, COMPARED, EXPECTED, Given, OPERATORS, REPORTED, SCRIPTED, SUM, SUMS, TREES, WORKED,
@@ -47,7 +47,7 @@ fn is_refused(
         files,
         input,
     };
-    is_so(alloc, &case)
+    fails_in_turn(alloc, &case)
 }
 
 // Neither a file nor the input is touched.

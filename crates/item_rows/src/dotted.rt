@@ -61,7 +61,8 @@ impl<'g> Model for DottedRules<'g> {
 
     ghost view = { λ d. record { flat = d.flat.now; rules = d.rules.items } };
 
-    ghost invariant = { λ d. IsTable d.flat.now d.rules.items d.firsts.items d.numbers.items d.spans.items d.whole d.scanned };
+    ghost invariant = { λ d. IsTable d.flat.now d.rules.items d.firsts.items d.numbers.items
+        d.spans.items d.whole d.scanned };
 }
 
 // How many items there are, if 32 bits can tell it.

@@ -52,7 +52,11 @@ impl<'g> Model for Rows<'g> {
 
     ghost Value = { ItemRows };
 
-    ghost view = { λ r. record { flat = r.dotted.flat; sets = rows_from r.dotted.rules r.lists r.begun.items 0 r.kernels; shared = lists_from r.dotted.rules r.lists } };
+    ghost view = { λ r. record {
+      flat = r.dotted.flat;
+      sets = rows_from r.dotted.rules r.lists r.begun.items 0 r.kernels;
+      shared = lists_from r.dotted.rules r.lists;
+    } };
 
     ghost invariant = { λ r. AreHeld r.dotted.rules r.lists r.begun.items r.kernels r.count };
 }
@@ -187,7 +191,8 @@ impl<'g> Rows<'g> {
         requires apart { (item : TheItem) → Contains items.now item →
             ¬ IsBegunAt (shared_at self.old.shared begun) (length self.old.sets) item }
         ensures ok { OnOk result ((row : List TheItem) × (self.new ≡ with_row self.old row) ×
-            IsListOf (λ item. Contains items.now item ⊎ IsBegunAt (shared_at self.old.shared begun) (length self.old.sets) item) row) }
+            IsListOf (λ item. Contains items.now item ⊎
+            IsBegunAt (shared_at self.old.shared begun) (length self.old.sets) item) row) }
         ensures err { OnErr result (self.new ≡ self.old) }
     {
         self.dotted.known();

@@ -19,8 +19,8 @@ pub use memo::{Memo, Pair};
 pub use near::NearHasher;
 use recognizer_model::Item;
 
-// The item with its dot advanced.
-fn advanced(item: Item) -> Item
+/// The item with its dot advanced.
+pub fn advanced(item: Item) -> Item
     requires { item.dot + 1 < 2 ^ 32 }
     ensures { result ≡ item_after item }
 {

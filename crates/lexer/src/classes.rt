@@ -29,7 +29,8 @@ impl<'g> Model for Classes<'g> {
 
     ghost view = { λ t. record { sets = t.sets.now; rows = t.rows } };
 
-    ghost invariant = { λ t. (length t.ascii.items ≡ 128) × ((c : ℕ) → c < 128 → IsClassOf t.sets.now t.rows c (slice_index t.ascii.items c)) };
+    ghost invariant = { λ t. (length t.ascii.items ≡ 128) ×
+        ((c : ℕ) → c < 128 → IsClassOf t.sets.now t.rows c (slice_index t.ascii.items c)) };
 }
 
 fn is_same(row: &[SymbolId], terminals: &[SymbolId]) -> bool

@@ -11,6 +11,7 @@ use grammar_core::Flat;
 use std::alloc::AllocError;
 use threads::{Lists, Thread, is_start, next_symbol};
 
+/// What a state says of the text read so far.
 #[derive(Clone, Copy)]
 pub struct Kind {
     /// Whether a start matches here.

@@ -9,7 +9,7 @@ ghost use Rattle.lexer.specs.Machines.{form_of, IsMachine, Goes, IsStepBy, IsSte
 use crate::begins::Begins;
 use crate::classes::Classes;
 use crate::kinds::{Kind, add_row};
-use crate::next::{known, note};
+use crate::next::{note, state_after};
 use crate::table::Lexical;
 use grammar_core::Flat;
 use std::alloc::{AllocError, Global};
@@ -151,7 +151,7 @@ pub fn step(
     ensures steps { IfOk result (IsStepOver machine.new state c) }
 {
     let class = machine.classes.class(c)?;
-    match known(&machine.next, state, class) {
+    match state_after(&machine.next, state, class) {
         Some(to) => Ok(to),
         None => {
             let made = make(machine, alloc, state, class)?;

@@ -14,7 +14,7 @@ pub const CLASSES: usize = 128;
 const UNKNOWN: u32 = u32::MAX;
 
 /// The state that follows from a state by a class, if it is noted.
-pub fn known(next: &[u32], state: usize, class: usize) -> Option<usize>
+pub fn state_after(next: &[u32], state: usize, class: usize) -> Option<usize>
     ensures class { IfSome result (λ _. class < 128) }
     ensures noted { IfSome result (IsNoted next.now state class) }
 {

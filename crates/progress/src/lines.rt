@@ -86,7 +86,8 @@ fn lines_of(
     requires flat { IsFlatOf flat.now w.now }
     requires rules { (item : TheItem) → Contains items.now item → IsRule flat.now item.rule }
     ensures { IfOk result (λ lines. (line : ReportLine) → Contains lines.items line ↔
-        ((item : TheItem) × Contains items.now item × (line_of_item w.now flat.now item ≡ Some line))) }
+        ((item : TheItem) × Contains items.now item ×
+        (line_of_item w.now flat.now item ≡ Some line))) }
 {
     let mut lines = Vec::new(alloc);
     for item in items {

@@ -66,8 +66,10 @@ pub fn list_candidates(
     recce: &Recce<'_>,
     candidates: &mut Vec<u32>,
 ) -> Result<(), AllocError>
-    ensures known { OnOk result ((k : ℕ) → Contains candidates.new.items k → k < length p.now.l0.starts) }
-    ensures exact { OnOk result ((pieces : List Piece) → HoldsPieces p.now pieces recce.now → AreCandidates p.now pieces candidates.new.items) }
+    ensures known { OnOk result ((k : ℕ) → Contains candidates.new.items k →
+        k < length p.now.l0.starts) }
+    ensures exact { OnOk result ((pieces : List Piece) → HoldsPieces p.now pieces recce.now →
+        AreCandidates p.now pieces candidates.new.items) }
 {
     p.known();
     let _place = recce.place();
@@ -77,7 +79,8 @@ pub fn list_candidates(
 
 // The starts of the lexemes that are looked for.
 fn list_lexemes(p: &Prepared, recce: &Recce<'_>, starts: &mut Vec<u32>) -> Result<(), AllocError>
-    ensures { OnOk result (Gathers (λ (l : TheRow). IsFalse l.latm ⊎ IsExpected recce.now l.symbol) (λ (l : TheRow). l.start) p.now.lexemes starts.new.items) }
+    ensures { OnOk result (Gathers (λ (l : TheRow). IsFalse l.latm ⊎ IsExpected recce.now l.symbol)
+        (λ (l : TheRow). l.start) p.now.lexemes starts.new.items) }
 {
     let lookups = p.lookups();
     starts.clear();
@@ -101,8 +104,10 @@ fn longest(
     requires few { length chars.now ≤ LONGEST_INPUT }
     requires starts { (k : ℕ) → Contains starts.now k → k < length p.now.l0.starts }
     ensures same { lexer.new ≡ lexer.old }
-    ensures none { IfOk result (λ answer. IsNone answer → (k m : ℕ) → Contains starts.now k → 0 < m → Matches p.now chars.now k at (at + m) → ⊥) }
-    ensures some { IfOk result (λ answer. IfSome answer (λ n. AreMatched p.now chars.now at starts.now n matched.new.items)) }
+    ensures none { IfOk result (λ answer. IsNone answer → (k m : ℕ) → Contains starts.now k →
+        0 < m → Matches p.now chars.now k at (at + m) → ⊥) }
+    ensures some { IfOk result (λ answer. IfSome answer
+        (λ n. AreMatched p.now chars.now at starts.now n matched.new.items)) }
 {
     p.known();
     matches_are_the_grammars();
@@ -126,9 +131,13 @@ pub fn look(
     requires at { at ≤ length chars.now }
     requires few { length chars.now ≤ LONGEST_INPUT }
     ensures lexer { IsLexerOf p.now work.new.lexer }
-    ensures none { IfOk result (λ answer. IsNone answer → (pieces : List Piece) → HoldsPieces p.now pieces recce.now → (n : ℕ) → IsLongest p.now chars.now pieces at n → ⊥) }
-    ensures some { IfOk result (λ answer. IfSome answer (λ n. (pieces : List Piece) → HoldsPieces p.now pieces recce.now → IsLongestBy p.now chars.now pieces at n work.new.matched.items)) }
-    ensures within { IfOk result (λ answer. IfSome answer (λ n. (0 < n) × (at + n ≤ length chars.now))) }
+    ensures none { IfOk result (λ answer. IsNone answer → (pieces : List Piece) →
+        HoldsPieces p.now pieces recce.now → (n : ℕ) → IsLongest p.now chars.now pieces at n → ⊥) }
+    ensures some { IfOk result (λ answer. IfSome answer
+        (λ n. (pieces : List Piece) → HoldsPieces p.now pieces recce.now →
+        IsLongestBy p.now chars.now pieces at n work.new.matched.items)) }
+    ensures within { IfOk result (λ answer. IfSome answer
+        (λ n. (0 < n) × (at + n ≤ length chars.now))) }
 {
     p.known();
     list_candidates(p, recce, &mut work.candidates)?;

@@ -38,8 +38,10 @@ pub fn row_at(rows: &[LexemeRow], start: u32) -> Option<&LexemeRow>
 // The row of a start, if it is that of a lexeme that is acceptable.
 fn fitting<'r>(rows: &'r [LexemeRow], recce: &Recce<'_>, start: u32) -> Option<&'r LexemeRow>
     requires { ArePlaced rows.now }
-    ensures some { IfSome result (λ r. IsRowAt rows.now start r.now × IsExpected recce.now r.now.symbol) }
-    ensures none { IsNone result → (r : HeldRow) → Contains rows.now r → r.start ≡ start → IsExpected recce.now r.symbol → ⊥ }
+    ensures some { IfSome result (λ r. IsRowAt rows.now start r.now ×
+        IsExpected recce.now r.now.symbol) }
+    ensures none { IsNone result → (r : HeldRow) → Contains rows.now r → r.start ≡ start →
+        IsExpected recce.now r.symbol → ⊥ }
 {
     let row = row_at(rows, start)?;
     if recce.is_expected(row.symbol) {
@@ -50,7 +52,8 @@ fn fitting<'r>(rows: &'r [LexemeRow], recce: &Recce<'_>, start: u32) -> Option<&
 }
 
 fn greater<'r>(a: &'r LexemeRow, b: &'r LexemeRow) -> &'r LexemeRow
-    ensures bound { (a.now.priority ≤ℤ result.now.priority) × (b.now.priority ≤ℤ result.now.priority) }
+    ensures bound { (a.now.priority ≤ℤ result.now.priority) ×
+        (b.now.priority ≤ℤ result.now.priority) }
     ensures one { (result.now ≡ a.now) ⊎ (result.now ≡ b.now) }
 {
     if a.priority < b.priority { b } else { a }
@@ -64,7 +67,9 @@ fn raised<'r>(
     start: u32,
 ) -> Option<&'r LexemeRow>
     requires { ArePlaced rows.now }
-    ensures { (starts : List ℕ) → IsHighestOf (IsFit recce.now starts) rows.now (option_copied highest.entry) → IsHighestOf (IsFit recce.now (starts ++ start ∷ [])) rows.now (option_copied result) }
+    ensures { (starts : List ℕ) → IsHighestOf (IsFit recce.now starts) rows.now
+        (option_copied highest.entry) → IsHighestOf (IsFit recce.now (starts ++ start ∷ []))
+        rows.now (option_copied result) }
 {
     let Some(row) = fitting(rows, recce, start) else {
         return highest;
@@ -91,7 +96,8 @@ fn highest<'r>(rows: &'r [LexemeRow], recce: &Recce<'_>, matched: &[u32]) -> Opt
 pub fn insert(symbols: &mut Vec<SymbolId>, symbol: SymbolId) -> Result<(), AllocFailed<SymbolId>>
     requires { IsStrictlySortedBy nat_cmp symbols.old.items }
     ensures sorted { OnOk result (IsStrictlySortedBy nat_cmp symbols.new.items) }
-    ensures exact { OnOk result ((s : ℕ) → Contains symbols.new.items s ↔ (Contains symbols.old.items s ⊎ (s ≡ symbol))) }
+    ensures exact { OnOk result ((s : ℕ) → Contains symbols.new.items s ↔
+        (Contains symbols.old.items s ⊎ (s ≡ symbol))) }
 {
     match symbols.binary_search(&symbol) {
         Ok(_) => Ok(()),
@@ -116,8 +122,10 @@ fn keep(
     requires places { ArePlaced rows.now }
     requires sorted { IsStrictlySortedBy nat_cmp kept.old.items }
     ensures sorted { OnOk result (IsStrictlySortedBy nat_cmp kept.new.items) }
-    ensures exact { OnOk result ((starts : List ℕ) → Gathers (IsBest recce.now starts highest.now) (λ (r : HeldRow). r.symbol) rows.now kept.old.items →
-        Gathers (IsBest recce.now (starts ++ start ∷ []) highest.now) (λ (r : HeldRow). r.symbol) rows.now kept.new.items) }
+    ensures exact { OnOk result ((starts : List ℕ) → Gathers (IsBest recce.now starts highest.now)
+        (λ (r : HeldRow). r.symbol) rows.now kept.old.items →
+        Gathers (IsBest recce.now (starts ++ start ∷ []) highest.now)
+        (λ (r : HeldRow). r.symbol) rows.now kept.new.items) }
 {
     let Some(row) = fitting(rows, recce, start) else {
         return Ok(());
@@ -138,7 +146,8 @@ fn keep_all(
     requires places { ArePlaced rows.now }
     requires none { kept.old.items ≡ [] }
     ensures sorted { OnOk result (IsStrictlySortedBy nat_cmp kept.new.items) }
-    ensures exact { OnOk result (Gathers (IsBest recce.now matched.now highest.now) (λ (r : HeldRow). r.symbol) rows.now kept.new.items) }
+    ensures exact { OnOk result (Gathers (IsBest recce.now matched.now highest.now)
+        (λ (r : HeldRow). r.symbol) rows.now kept.new.items) }
 {
     for start in matched {
         keep(rows, recce, *start, highest, kept)?;
@@ -155,7 +164,8 @@ fn list_kept(
 ) -> Result<(), AllocFailed<SymbolId>>
     ensures sorted { OnOk result (IsStrictlySortedBy nat_cmp kept.new.items) }
     ensures expected { OnOk result ((s : ℕ) → Contains kept.new.items s → IsExpected recce.now s) }
-    ensures exact { OnOk result ((text : List ℕ) (pieces : List Piece) (at n : ℕ) → HoldsPieces p.now pieces recce.now → IsLongestBy p.now text pieces at n matched.now →
+    ensures exact { OnOk result ((text : List ℕ) (pieces : List Piece) (at n : ℕ) →
+        HoldsPieces p.now pieces recce.now → IsLongestBy p.now text pieces at n matched.now →
         (s : ℕ) → Contains kept.new.items s ↔ IsKept p.now text pieces at n s) }
 {
     p.known();
@@ -171,7 +181,9 @@ fn list_kept(
 
 // Whether a discard has the longest match.
 fn is_skipped(p: &Prepared, matched: &[u32]) -> bool
-    ensures { (text : List ℕ) (pieces : List Piece) (at n : ℕ) → IsLongestBy p.now text pieces at n matched.now → IsTrue result ↔ IsSkipped p.now text pieces at n }
+    ensures { (text : List ℕ) (pieces : List Piece) (at n : ℕ) →
+        IsLongestBy p.now text pieces at n matched.now → IsTrue result ↔
+        IsSkipped p.now text pieces at n }
 {
     has_one(p.discards(), matched)
 }
@@ -195,10 +207,14 @@ fn has_one(starts: &[u32], matched: &[u32]) -> bool
 
 /// Lists the lexemes that are kept of the longest match, by their numbers, and tells what can be taken.
 pub fn choose(work: &mut Work<'_>, p: &Prepared, recce: &Recce<'_>) -> Result<Choice, AllocError>
-    ensures same { (work.new.lexer ≡ work.old.lexer) × (work.new.matched.items ≡ work.old.matched.items) }
+    ensures same { (work.new.lexer ≡ work.old.lexer) ×
+        (work.new.matched.items ≡ work.old.matched.items) }
     ensures sorted { OnOk result (IsStrictlySortedBy nat_cmp work.new.kept.items) }
-    ensures expected { OnOk result ((s : ℕ) → Contains work.new.kept.items s → IsExpected recce.now s) }
-    ensures chosen { IfOk result (λ choice. (text : List ℕ) (pieces : List Piece) (at n : ℕ) → HoldsPieces p.now pieces recce.now → IsLongestBy p.now text pieces at n work.old.matched.items →
+    ensures expected { OnOk result ((s : ℕ) → Contains work.new.kept.items s →
+        IsExpected recce.now s) }
+    ensures chosen { IfOk result (λ choice. (text : List ℕ) (pieces : List Piece) (at n : ℕ) →
+        HoldsPieces p.now pieces recce.now → IsLongestBy p.now text pieces at n
+        work.old.matched.items →
         IsChosen p.now text pieces at n work.new.kept.items choice) }
 {
     list_kept(p, recce, work.matched.as_slice(), &mut work.kept)?;

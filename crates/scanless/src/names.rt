@@ -35,7 +35,8 @@ pub fn sort_by_name(p: &Prepared, symbols: &mut Vec<SymbolId>) -> Result<(), All
     requires lexemes { AreLexemes p.now symbols.old.items }
     requires order { IsStrictlySortedBy nat_cmp symbols.old.items }
     ensures sorted { OnOk result (AreSorted p.now symbols.new.items) }
-    ensures same { OnOk result ((s : ℕ) → Contains symbols.new.items s ↔ Contains symbols.old.items s) }
+    ensures same { OnOk result ((s : ℕ) → Contains symbols.new.items s ↔
+        Contains symbols.old.items s) }
 {
     p.in_order();
     symbols.sort_by(|a, b| compare(p, *a, *b))

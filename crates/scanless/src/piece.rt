@@ -65,10 +65,13 @@ pub fn take_piece<L: Ledger>(
     requires place { earleme_of recce.old < LAST_PLACE }
     requires begun { (e : HeldEdge) → Contains recce.old.edges e → e.from < earleme_of recce.old }
     ensures lexer { IsLexerOf p.now work.new.lexer }
-    ensures cut { IfOk result (λ cut. (pieces : List ThePiece) → HoldsPieces p.now pieces recce.old → IsCut p.now chars.now pieces at recce.old recce.new cut) }
+    ensures cut { IfOk result (λ cut. (pieces : List ThePiece) →
+        HoldsPieces p.now pieces recce.old → IsCut p.now chars.now pieces at recce.old recce.new
+        cut) }
     ensures moves { IfOk result (CutMoves recce.old recce.new) }
     ensures err { OnErr result (TakesSome recce.old recce.new) }
-    ensures counted { OnOk result ((before : ℕ) → CountsFrom recce.old before steps.old → CountsFrom recce.new before steps.new) }
+    ensures counted { OnOk result ((before : ℕ) → CountsFrom recce.old before steps.old →
+        CountsFrom recce.new before steps.new) }
 {
     let Some(length) = look(work, alloc, p, recce, chars, at)? else {
         return Ok(Cut::Stuck {
@@ -102,10 +105,13 @@ pub fn next_piece<L: Ledger>(
     requires few { length chars.now ≤ LONGEST_INPUT }
     requires place { earleme_of recce.old < LAST_PLACE }
     requires begun { (e : HeldEdge) → Contains recce.old.edges e → e.from < earleme_of recce.old }
-    ensures piece { IfOk result (λ piece. (pieces : List ThePiece) → HoldsPieces p.now pieces recce.old → IsPiece p.now chars.now pieces at recce.old recce.new piece) }
+    ensures piece { IfOk result (λ piece. (pieces : List ThePiece) →
+        HoldsPieces p.now pieces recce.old → IsPiece p.now chars.now pieces at recce.old recce.new
+        piece) }
     ensures moves { IfOk result (Moves recce.old recce.new) }
     ensures err { OnErr result (TakesSome recce.old recce.new) }
-    ensures counted { OnOk result ((before : ℕ) → CountsFrom recce.old before steps.old → CountsFrom recce.new before steps.new) }
+    ensures counted { OnOk result ((before : ℕ) → CountsFrom recce.old before steps.old →
+        CountsFrom recce.new before steps.new) }
 {
     let mut work = Work::new(alloc, p)?;
     match take_piece(&mut work, alloc, p, recce, chars, at, steps)? {

@@ -60,7 +60,12 @@ impl<'p> Model for Reader<'p> {
 
     ghost Value = { ReadSoFar };
 
-    ghost view = { λ r. record { grammar = r.prepared.now; recce = r.recce; spans = r.spans.items; at = r.at } };
+    ghost view = { λ r. record {
+      grammar = r.prepared.now;
+      recce = r.recce;
+      spans = r.spans.items;
+      at = r.at;
+    } };
 
     ghost invariant = { λ r. IsLexerOf r.prepared.now r.work.lexer };
 }
@@ -69,7 +74,8 @@ impl<'p> Reader<'p> {
     /// A reader before the first character.
     pub fn new(alloc: Global, p: &'p Prepared) -> Result<Reader<'p>, AllocError>
         ensures grammar { IfOk result (λ r. r.grammar ≡ p.now) }
-        ensures begun { IfOk result (λ r. (given text : List ℕ) → HasRead p.now given text [] r.at r.recce r.spans) }
+        ensures begun { IfOk result (λ r. (given text : List ℕ) →
+            HasRead p.now given text [] r.at r.recce r.spans) }
         ensures noted { IfOk result (λ r. r.recce.noted ≡ []) }
     {
         p.known();
@@ -99,7 +105,9 @@ impl<'p> Reader<'p> {
     /// The terminals that are expected next, each once.
     pub fn expected(&self) -> &[SymbolId]
         ensures exact { (t : ℕ) → Contains result.now t ↔ IsExpected self.now.recce t }
-        ensures acceptable { (pieces : List Piece) → HoldsPieces self.now.grammar pieces self.now.recce → (t : ℕ) → IsExpected self.now.recce t ↔ IsNext self.now.grammar pieces t }
+        ensures acceptable { (pieces : List Piece) →
+            HoldsPieces self.now.grammar pieces self.now.recce → (t : ℕ) →
+            IsExpected self.now.recce t ↔ IsNext self.now.grammar pieces t }
     {
         self.prepared.known();
         let _place = self.recce.place();
@@ -108,7 +116,8 @@ impl<'p> Reader<'p> {
 
     /// Whether the tokens so far have a derivation from the start symbol.
     pub fn has_derivation(&self) -> bool
-        ensures { (pieces : List Piece) → HoldsPieces self.now.grammar pieces self.now.recce → IsTrue result ↔ HasDerivation self.now.grammar pieces }
+        ensures { (pieces : List Piece) → HoldsPieces self.now.grammar pieces self.now.recce →
+            IsTrue result ↔ HasDerivation self.now.grammar pieces }
     {
         self.prepared.known();
         trees_are_derivations();
@@ -128,10 +137,18 @@ impl<'p> Reader<'p> {
         requires more { self.old.at < length chars.now }
         requires place { earleme_of self.old.recce < LAST_PLACE }
         ensures grammar { self.new.grammar ≡ self.old.grammar }
-        ensures moves { IfOk result (λ found. IsNone found → (given : List ℕ) (pieces : List Piece) → HasRead self.old.grammar given chars.now pieces self.old.at self.old.recce self.old.spans → GoesOn given chars.now pieces self.old self.new) }
-        ensures room { IfOk result (λ found. IsNone found → (self.old.at < self.new.at) × (earleme_of self.new.recce + self.old.at ≤ earleme_of self.old.recce + self.new.at)) }
-        ensures stops { IfOk result (λ found. IfSome found (λ f. (self.new ≡ self.old) × ((pieces : List Piece) → HoldsPieces self.old.grammar pieces self.old.recce → StopsWith self.old.grammar chars.now pieces self.old.at f.items))) }
-        ensures counted { OnOk result ((before : ℕ) → CountsFrom self.old.recce before steps.old → CountsFrom self.new.recce before steps.new) }
+        ensures moves { IfOk result (λ found. IsNone found →
+            (given : List ℕ) (pieces : List Piece) →
+            HasRead self.old.grammar given chars.now pieces self.old.at self.old.recce
+            self.old.spans → GoesOn given chars.now pieces self.old self.new) }
+        ensures room { IfOk result (λ found. IsNone found → (self.old.at < self.new.at) ×
+            (earleme_of self.new.recce + self.old.at ≤ earleme_of self.old.recce + self.new.at)) }
+        ensures stops { IfOk result (λ found. IfSome found
+            (λ f. (self.new ≡ self.old) × ((pieces : List Piece) →
+            HoldsPieces self.old.grammar pieces self.old.recce →
+            StopsWith self.old.grammar chars.now pieces self.old.at f.items))) }
+        ensures counted { OnOk result ((before : ℕ) → CountsFrom self.old.recce before steps.old →
+            CountsFrom self.new.recce before steps.new) }
     {
         let start = self.at as u32;
         match take_piece(
@@ -167,9 +184,13 @@ impl<'p> Reader<'p> {
         requires few { length chars.now ≤ LONGEST_INPUT }
         requires room { earleme_of self.old.recce + length chars.now ≤ LAST_PLACE + self.old.at }
         ensures grammar { self.new.grammar ≡ self.old.grammar }
-        ensures rests { IfOk result (λ found. (given : List ℕ) (pieces : List Piece) → HasRead self.old.grammar given chars.now pieces self.old.at self.old.recce self.old.spans → ComesToRest given chars.now pieces self.old self.new found) }
-        ensures room { OnOk result (earleme_of self.new.recce + self.old.at ≤ earleme_of self.old.recce + self.new.at) }
-        ensures counted { OnOk result ((before : ℕ) → CountsFrom self.old.recce before steps.old → CountsFrom self.new.recce before steps.new) }
+        ensures rests { IfOk result (λ found. (given : List ℕ) (pieces : List Piece) →
+            HasRead self.old.grammar given chars.now pieces self.old.at self.old.recce
+            self.old.spans → ComesToRest given chars.now pieces self.old self.new found) }
+        ensures room { OnOk result (earleme_of self.new.recce + self.old.at ≤ earleme_of
+            self.old.recce + self.new.at) }
+        ensures counted { OnOk result ((before : ℕ) → CountsFrom self.old.recce before steps.old →
+            CountsFrom self.new.recce before steps.new) }
     {
         while self.at < chars.len() {
             if let Some(found) = self.step(alloc, chars, steps)? {
@@ -185,15 +206,20 @@ impl<'p> Reader<'p> {
         symbol: SymbolId,
         steps: &mut Steps<L>,
     ) -> Result<(), AllocError>
-        requires reader { (given text : List ℕ) × (length text ≤ LONGEST_INPUT) × IsReader given text self.old }
+        requires reader { (given text : List ℕ) × (length text ≤ LONGEST_INPUT) ×
+            IsReader given text self.old }
         requires place { earleme_of self.old.recce < LAST_PLACE }
         requires expected { IsExpected self.old.recce symbol }
         ensures grammar { self.new.grammar ≡ self.old.grammar }
-        ensures supplied { OnOk result ((given text : List ℕ) (pieces : List Piece) → HasRead self.old.grammar given text pieces self.old.at self.old.recce self.old.spans →
-            IsStuck self.old.grammar text pieces self.old.at → IsFirstWith (MaySupply self.old.grammar pieces) given symbol →
-            HasRead self.old.grammar given text (pieces ++ supplied symbol ∷ []) self.new.at self.new.recce self.new.spans) }
+        ensures supplied { OnOk result ((given text : List ℕ) (pieces : List Piece) →
+            HasRead self.old.grammar given text pieces self.old.at self.old.recce self.old.spans →
+            IsStuck self.old.grammar text pieces self.old.at →
+            IsFirstWith (MaySupply self.old.grammar pieces) given symbol →
+            HasRead self.old.grammar given text (pieces ++ supplied symbol ∷ []) self.new.at
+            self.new.recce self.new.spans) }
         ensures at { self.new.at ≡ self.old.at }
-        ensures counted { OnOk result ((before : ℕ) → CountsFrom self.old.recce before steps.old → CountsFrom self.new.recce before steps.new) }
+        ensures counted { OnOk result ((before : ℕ) → CountsFrom self.old.recce before steps.old →
+            CountsFrom self.new.recce before steps.new) }
     {
         let start = self.at as u32;
         let symbols = [symbol];
@@ -203,8 +229,10 @@ impl<'p> Reader<'p> {
 
     // What was read, where nothing more is read.
     fn ended(self, ending: Ending) -> Reading<'p>
-        ensures same { (result.recce ≡ self.entry.recce) × (result.spans.items ≡ self.entry.spans) × (result.ending ≡ ending) }
-        ensures counted { (before after : ℕ) → CountsFrom self.entry.recce before after → TakesAtMost result.recce before after }
+        ensures same { (result.recce ≡ self.entry.recce) × (result.spans.items ≡ self.entry.spans) ×
+            (result.ending ≡ ending) }
+        ensures counted { (before after : ℕ) → CountsFrom self.entry.recce before after →
+            TakesAtMost result.recce before after }
     {
         let _place = self.recce.place();
         let Reader {
@@ -228,9 +256,12 @@ impl<'p> Reader<'p> {
         alloc: Global,
         found: Option<Vec<SymbolId>>,
     ) -> Result<Reading<'p>, AllocError>
-        ensures reading { IfOk result (λ r. (given text : List ℕ) (rests : IsResting given text self.entry found) → IsOver self.entry.grammar given rests.pieces found →
+        ensures reading { IfOk result (λ r. (given text : List ℕ)
+            (rests : IsResting given text self.entry found) →
+            IsOver self.entry.grammar given rests.pieces found →
             IsReadingOfWith self.entry.grammar given text r.recce r.spans.items r.ending) }
-        ensures counted { IfOk result (λ r. (before after : ℕ) → CountsFrom self.entry.recce before after → TakesAtMost r.recce before after) }
+        ensures counted { IfOk result (λ r. (before after : ℕ) →
+            CountsFrom self.entry.recce before after → TakesAtMost r.recce before after) }
     {
         let Some(found) = found else {
             return Ok(self.ended(Ending::End));
@@ -260,7 +291,8 @@ pub fn read_input<'p, L: Ledger>(
     steps: &mut Steps<L>,
 ) -> Result<Reading<'p>, AllocError>
     requires { length chars.now ≤ LONGEST_INPUT }
-    ensures reading { IfOk result (λ r. IsReadingOf p.now chars.now r.recce r.spans.items r.ending) }
+    ensures reading { IfOk result (λ r. IsReadingOf p.now chars.now r.recce r.spans.items
+        r.ending) }
     ensures counted { IfOk result (λ r. TakesAtMost r.recce steps.old steps.new) }
 {
     let mut reader = Reader::new(alloc, p)?;

@@ -20,7 +20,8 @@ fn take_lexeme(recce: &mut Recce<'_>, symbol: SymbolId) -> Result<(), AllocError
     requires expected { IsExpected recce.old symbol }
     requires fresh { ¬ Contains recce.old.edges (new_edge recce.old symbol 1) }
     ensures same { Keeps recce.old recce.new }
-    ensures ok { OnOk result (recce.new.edges ≡ recce.old.edges ++ new_edge recce.old symbol 1 ∷ []) }
+    ensures ok { OnOk result (recce.new.edges ≡
+        recce.old.edges ++ new_edge recce.old symbol 1 ∷ []) }
     ensures err { OnErr result (recce.new.edges ≡ recce.old.edges) }
 {
     match recce.alternative(symbol, 1) {
@@ -38,7 +39,8 @@ fn take_lexemes(recce: &mut Recce<'_>, symbols: &[SymbolId]) -> Result<(), Alloc
     requires order { IsStrictlySortedBy nat_cmp symbols.now }
     requires begun { (e : HeldEdge) → Contains recce.old.edges e → e.from < earleme_of recce.old }
     ensures same { Keeps recce.old recce.new }
-    ensures ok { OnOk result (recce.new.edges ≡ recce.old.edges ++ token_edges (earleme_of recce.old) symbols.now) }
+    ensures ok { OnOk result (recce.new.edges ≡ recce.old.edges ++ token_edges
+        (earleme_of recce.old) symbols.now) }
     ensures err { OnErr result (TakesSome recce.old recce.new) }
 {
     for symbol in symbols {
@@ -59,7 +61,8 @@ pub fn take_token<L: Ledger>(
     requires begun { (e : HeldEdge) → Contains recce.old.edges e → e.from < earleme_of recce.old }
     ensures takes { OnOk result (Takes recce.old recce.new symbols.now) }
     ensures err { OnErr result (TakesSome recce.old recce.new) }
-    ensures counted { OnOk result ((before : ℕ) → CountsFrom recce.old before steps.old → CountsFrom recce.new before steps.new) }
+    ensures counted { OnOk result ((before : ℕ) → CountsFrom recce.old before steps.old →
+        CountsFrom recce.new before steps.new) }
 {
     take_lexemes(recce, symbols)?;
     let _place = recce.place();

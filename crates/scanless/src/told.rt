@@ -22,7 +22,8 @@ fn add_expected(
     recce: &Recce<'_>,
     symbols: &mut Vec<SymbolId>,
 ) -> Result<(), AllocFailed<SymbolId>>
-    ensures { OnOk result (AddsIf (IsExpected recce.now row.now.symbol) row.now.symbol symbols.old.items symbols.new.items) }
+    ensures { OnOk result (AddsIf (IsExpected recce.now row.now.symbol) row.now.symbol
+        symbols.old.items symbols.new.items) }
 {
     if recce.is_expected(row.symbol) {
         symbols.push(row.symbol)?;
@@ -38,7 +39,8 @@ fn add_all_expected(
     requires order { IsStrictlySortedBy nat_cmp (map (λ (r : HeldRow). r.symbol) rows.now) }
     requires none { symbols.old.items ≡ [] }
     ensures sorted { OnOk result (IsStrictlySortedBy nat_cmp symbols.new.items) }
-    ensures exact { OnOk result (Gathers (λ (r : HeldRow). IsExpected recce.now r.symbol) (λ (r : HeldRow). r.symbol) rows.now symbols.new.items) }
+    ensures exact { OnOk result (Gathers (λ (r : HeldRow). IsExpected recce.now r.symbol)
+        (λ (r : HeldRow). r.symbol) rows.now symbols.new.items) }
 {
     for row in rows {
         add_expected(row, recce, symbols)?;
@@ -52,7 +54,8 @@ pub fn expected_lexemes(
     p: &Prepared,
     recce: &Recce<'_>,
 ) -> Result<Vec<SymbolId>, AllocError>
-    ensures { IfOk result (λ symbols. (pieces : List Piece) → HoldsPieces p.now pieces recce.now → AreExpected p.now pieces symbols.items) }
+    ensures { IfOk result (λ symbols. (pieces : List Piece) → HoldsPieces p.now pieces recce.now →
+        AreExpected p.now pieces symbols.items) }
 {
     p.known();
     p.in_order();
@@ -72,8 +75,11 @@ fn add_found(
     requires places { ArePlaced rows.now }
     requires sorted { IsStrictlySortedBy nat_cmp symbols.old.items }
     ensures sorted { OnOk result (IsStrictlySortedBy nat_cmp symbols.new.items) }
-    ensures exact { OnOk result ((starts : List ℕ) → Gathers (λ (r : HeldRow). Contains starts r.start) (λ (r : HeldRow). r.symbol) rows.now symbols.old.items →
-        Gathers (λ (r : HeldRow). Contains (starts ++ start ∷ []) r.start) (λ (r : HeldRow). r.symbol) rows.now symbols.new.items) }
+    ensures exact { OnOk result ((starts : List ℕ) →
+        Gathers (λ (r : HeldRow). Contains starts r.start)
+        (λ (r : HeldRow). r.symbol) rows.now symbols.old.items →
+        Gathers (λ (r : HeldRow). Contains (starts ++ start ∷ []) r.start)
+        (λ (r : HeldRow). r.symbol) rows.now symbols.new.items) }
 {
     match row_at(rows, start) {
         Some(row) => insert(symbols, row.symbol),
@@ -89,7 +95,8 @@ fn add_all_found(
     requires places { ArePlaced rows.now }
     requires none { symbols.old.items ≡ [] }
     ensures sorted { OnOk result (IsStrictlySortedBy nat_cmp symbols.new.items) }
-    ensures exact { OnOk result (Gathers (λ (r : HeldRow). Contains matched.now r.start) (λ (r : HeldRow). r.symbol) rows.now symbols.new.items) }
+    ensures exact { OnOk result (Gathers (λ (r : HeldRow). Contains matched.now r.start)
+        (λ (r : HeldRow). r.symbol) rows.now symbols.new.items) }
 {
     for start in matched {
         add_found(rows, *start, symbols)?;
@@ -103,7 +110,9 @@ pub fn found_lexemes(
     p: &Prepared,
     matched: &[u32],
 ) -> Result<Vec<SymbolId>, AllocError>
-    ensures { IfOk result (λ symbols. (text : List ℕ) (pieces : List Piece) (at n : ℕ) → IsLongestBy p.now text pieces at n matched.now → AreFound p.now text pieces at symbols.items) }
+    ensures { IfOk result (λ symbols. (text : List ℕ) (pieces : List Piece) (at n : ℕ) →
+        IsLongestBy p.now text pieces at n matched.now →
+        AreFound p.now text pieces at symbols.items) }
 {
     p.in_order();
     let mut symbols = Vec::new(alloc);

@@ -57,7 +57,8 @@ impl TreeLines {
     fn token(&mut self, name: &str, from: u32, to: u32) -> Result<(), AllocError>
         requires { AreIds self.old.pool self.old.held.items }
         ensures { OnOk result (Holds self.new.pool self.new.held.items
-            (values_at self.old.pool self.old.held.items ++ list_of (Text name.now ∷ Number from ∷ Number to ∷ []) ∷ [])) }
+            (values_at self.old.pool self.old.held.items ++ list_of
+            (Text name.now ∷ Number from ∷ Number to ∷ []) ∷ [])) }
     {
         let id = put_token(&mut self.pool, name, from, to)?;
         self.held.push(id)?;
@@ -67,7 +68,8 @@ impl TreeLines {
     // A symbol that spans nothing is held.
     fn nulled(&mut self, name: &str) -> Result<(), AllocError>
         requires { AreIds self.old.pool self.old.held.items }
-        ensures { OnOk result (Holds self.new.pool self.new.held.items (values_at self.old.pool self.old.held.items ++ list_of (Text name.now ∷ []) ∷ [])) }
+        ensures { OnOk result (Holds self.new.pool self.new.held.items
+            (values_at self.old.pool self.old.held.items ++ list_of (Text name.now ∷ []) ∷ [])) }
     {
         let id = put_nulled(&mut self.pool, name)?;
         self.held.push(id)?;
@@ -79,7 +81,8 @@ impl TreeLines {
         requires held { AreIds self.old.pool self.old.held.items }
         requires enough { children ≤ length self.old.held.items }
         ensures { OnOk result (Holds self.new.pool self.new.held.items
-            (replace_newest children (λ vs. list_of (Text name.now ∷ Number rule ∷ vs)) (values_at self.old.pool self.old.held.items))) }
+            (replace_newest children (λ vs. list_of (Text name.now ∷ Number rule ∷ vs))
+            (values_at self.old.pool self.old.held.items))) }
     {
         let taken = newest(&self.held, children as usize);
         let id = put_rule(&mut self.pool, rule, name, taken, &mut self.parts)?;
@@ -92,7 +95,8 @@ impl TreeLines {
     fn step(&mut self, w: &Written, step: TreeStep) -> Result<(), AllocError>
         requires held { AreIds self.old.pool self.old.held.items }
         requires can { CanPut w.now (length self.old.held.items) (step_of step) }
-        ensures { OnOk result (Holds self.new.pool self.new.held.items (after_step w.now (values_at self.old.pool self.old.held.items) (step_of step))) }
+        ensures { OnOk result (Holds self.new.pool self.new.held.items
+            (after_step w.now (values_at self.old.pool self.old.held.items) (step_of step))) }
     {
         match step {
             TreeStep::Token { symbol, from, to } => self.token(symbol_name(w, symbol), from, to),
@@ -112,7 +116,8 @@ impl TreeLines {
     // Puts the text of the one value, and the end of its line, in place of what the line held.
     fn put_text(&self, line: &mut Vec<u8>) -> Result<(), AllocError>
         requires { (v : Value) × Holds self.now.pool self.now.held.items (v ∷ []) }
-        ensures { OnOk result ((v : Value) → Holds self.now.pool self.now.held.items (v ∷ []) → line.new.items ≡ as_line (text_of v)) }
+        ensures { OnOk result ((v : Value) → Holds self.now.pool self.now.held.items (v ∷ []) →
+            line.new.items ≡ as_line (text_of v)) }
     {
         line.clear();
         append_text(&self.pool, self.held[0], line)?;
@@ -128,7 +133,8 @@ impl TreeLines {
         line: &mut Vec<u8>,
     ) -> Result<(), AllocError>
         requires { AreStepsOf w.now (map step_of steps.now) }
-        ensures { OnOk result ((t : Tree) → map step_of steps.now ≡ steps_of t → line.new.items ≡ tree_line w.now t) }
+        ensures { OnOk result ((t : Tree) → map step_of steps.now ≡ steps_of t →
+            line.new.items ≡ tree_line w.now t) }
     {
         w.known();
         self.pool.clear();

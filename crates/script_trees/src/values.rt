@@ -11,7 +11,8 @@ use value_text::{Pool, ValueId};
 
 /// The list of a token.
 pub fn put_token(pool: &mut Pool, name: &str, from: u32, to: u32) -> Result<ValueId, AllocError>
-    ensures { IfOk result (λ id. IsAdded pool.old pool.new id (list_of (Text name.now ∷ Number from ∷ Number to ∷ []))) }
+    ensures { IfOk result (λ id. IsAdded pool.old pool.new id
+        (list_of (Text name.now ∷ Number from ∷ Number to ∷ []))) }
 {
     let name = pool.text(name)?;
     let from = pool.num(u64::from(from))?;
@@ -36,7 +37,8 @@ pub fn put_rule(
     parts: &mut Vec<ValueId>,
 ) -> Result<ValueId, AllocError>
     requires { AreIds pool.old children.now }
-    ensures { IfOk result (λ id. IsAdded pool.old pool.new id (list_of (Text name.now ∷ Number rule ∷ values_at pool.old children.now))) }
+    ensures { IfOk result (λ id. IsAdded pool.old pool.new id
+        (list_of (Text name.now ∷ Number rule ∷ values_at pool.old children.now))) }
 {
     parts.clear();
     let left = pool.text(name)?;

@@ -30,7 +30,14 @@ impl<'f> Model for Derivations<'f> {
 
     ghost Value = { DerivationsOf };
 
-    ghost view = { λ d. record { read = record { grammar = d.prepared.now; characters = d.chars.now; spans = d.spans.now }; iteration = d.iter } };
+    ghost view = { λ d. record {
+      read = record {
+        grammar = d.prepared.now;
+        characters = d.chars.now;
+        spans = d.spans.now;
+      };
+      iteration = d.iter;
+    } };
 
     ghost invariant = { λ d. IsUnderWay d.prepared.now d.chars.now d.spans.now d.iter };
 }
@@ -40,7 +47,8 @@ fn next_with<L: Ledger>(blank: Blank, iter: &mut TreeIter<'_>) -> Result<bool, N
     requires name { blank.name ≡ L.name }
     requires parts { blank.parts ≡ L.parts }
     requires some { 0 < blank.parts }
-    ensures answer { IfOk result (λ more. (given : List Tree) → AreGiven iter.old given → IsAnswer iter.new given more) }
+    ensures answer { IfOk result (λ more. (given : List Tree) → AreGiven iter.old given →
+        IsAnswer iter.new given more) }
     ensures stands { IfOk result (λ more. IsTrue more → IsSome iter.new.current) }
     ensures end { IfOk result (λ more. IsFalse more → iter.new ≡ between iter.old) }
     ensures forest { iter.new.forest ≡ iter.old.forest }
@@ -60,7 +68,14 @@ impl<'f> Derivations<'f> {
         forest: &'f bocage::Forest<'f>,
     ) -> Result<Derivations<'f>, NoMemory>
         requires { HasForest prepared.now forest.now.ranking chars.now spans.now forest.now }
-        ensures view { IfOk result (λ d. d ≡ record { read = record { grammar = prepared.now; characters = chars.now; spans = spans.now }; iteration = begun forest.now }) }
+        ensures view { IfOk result (λ d. d ≡ record {
+          read = record {
+            grammar = prepared.now;
+            characters = chars.now;
+            spans = spans.now;
+          };
+          iteration = begun forest.now;
+        }) }
         ensures none { IfOk result (λ d. AreGiven d.iteration []) }
     {
         let iter = TreeIter::new(alloc, forest)?;
@@ -75,10 +90,12 @@ impl<'f> Derivations<'f> {
     /// Goes to the next derivation, and answers whether there is one. A call that runs out of memory leaves all as it was, and the next call
     /// goes on.
     pub fn next(&mut self) -> Result<bool, NoMemory>
-        ensures answer { IfOk result (λ more. (given : List Tree) → AreGiven self.old.iteration given → IsNext self.new given more) }
+        ensures answer { IfOk result (λ more. (given : List Tree) →
+            AreGiven self.old.iteration given → IsNext self.new given more) }
         ensures stands { IfOk result (λ more. IsTrue more → IsSome self.new.iteration.current) }
         ensures first { AreGiven self.old.iteration [] → IfOk result IsTrue }
-        ensures end { IfOk result (λ more. IsFalse more → self.new.iteration ≡ between self.old.iteration) }
+        ensures end { IfOk result (λ more. IsFalse more →
+            self.new.iteration ≡ between self.old.iteration) }
         ensures read { self.new.read ≡ self.old.read }
         ensures forest { self.new.iteration.forest ≡ self.old.iteration.forest }
         ensures err { OnErr result (self.new ≡ self.old) }
@@ -89,7 +106,8 @@ impl<'f> Derivations<'f> {
 
     /// States that those given are the first of all derivations.
     pub fn known(&self)
-        ensures { (given : List Tree) → AreGiven self.now.iteration given → IsPrefixOfAll self.now given }
+        ensures { (given : List Tree) → AreGiven self.now.iteration given →
+            IsPrefixOfAll self.now given }
     {
         let _ = &self.iter;
     }
@@ -110,10 +128,13 @@ impl<'f> Derivations<'f> {
         semantics: &mut S,
     ) -> Result<S::Value, FoldError<S::Error>>
         requires { IsSome self.now.iteration.current }
-        ensures value { IfOk result (λ v. ValueBy S.token_gives S.nulled_gives S.rule_gives self.now semantics.old v semantics.new) }
+        ensures value { IfOk result (λ v. ValueBy S.token_gives S.nulled_gives S.rule_gives self.now
+            semantics.old v semantics.new) }
         ensures failure { IfErr result (IsFailure
-            (λ e. FailsBy S.token_gives S.nulled_gives S.rule_gives self.now semantics.old e semantics.new)
-            (IsAskedBy S.token_gives S.nulled_gives S.rule_gives self.now semantics.old semantics.new)) }
+            (λ e. FailsBy S.token_gives S.nulled_gives S.rule_gives self.now semantics.old e
+            semantics.new)
+            (IsAskedBy S.token_gives S.nulled_gives S.rule_gives self.now semantics.old
+            semantics.new)) }
     {
         self.prepared.known();
         fold_steps(

@@ -29,9 +29,17 @@ impl<'r> Model for Forest<'r> {
 
     ghost Value = { ForestOf };
 
-    ghost view = { λ f. record { read = record { grammar = f.prepared.now; characters = f.chars.now; spans = f.spans.now }; forest = f.forest } };
+    ghost view = { λ f. record {
+      read = record {
+        grammar = f.prepared.now;
+        characters = f.chars.now;
+        spans = f.spans.now;
+      };
+      forest = f.forest;
+    } };
 
-    ghost invariant = { λ f. HasForest f.prepared.now f.forest.ranking f.chars.now f.spans.now f.forest };
+    ghost invariant = { λ f. HasForest f.prepared.now f.forest.ranking f.chars.now f.spans.now
+        f.forest };
 }
 
 /// Builds the forest of a reading, on a counter of its own.
@@ -45,7 +53,8 @@ pub fn forest_with<'r, L: Ledger>(
     requires parts { blank.parts ≡ L.parts }
     requires some { 0 < blank.parts }
     ensures forest { IfOk result (IsForestAs reading.now ranking) }
-    ensures refused { IfErr result (TellsInput (IsNoDerivation reading.now.grammar ranking reading.now.characters)) }
+    ensures refused { IfErr result (TellsInput
+        (IsNoDerivation reading.now.grammar ranking reading.now.characters)) }
 {
     let mut steps = Steps::<L>::of_blank(blank);
     match forest_of(

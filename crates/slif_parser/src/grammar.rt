@@ -60,7 +60,8 @@ impl Grammar {
     /// one. Nothing, where there is no such rule.
     pub fn append_rule(&self, rule: RuleId, line: &mut Vec<u8>) -> Result<(), NoMemory>
         ensures rule { rule < length self.now.g1.rules →
-            OnOk result (line.new.items ≡ line.old.items ++ rule_text self.now.g1 (rule_at self.now.g1 rule)) }
+            OnOk result (line.new.items ≡ line.old.items ++ rule_text self.now.g1
+            (rule_at self.now.g1 rule)) }
         ensures none { length self.now.g1.rules ≤ rule → line.new.items ≡ line.old.items }
     {
         let written = self.prepared.written();

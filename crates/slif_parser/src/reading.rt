@@ -42,7 +42,11 @@ impl<'g> Model for Reading<'g> {
 
     ghost Value = { Read };
 
-    ghost view = { λ r. record { grammar = r.prepared.now; characters = r.chars; spans = r.tokens.spans.items } };
+    ghost view = { λ r. record {
+      grammar = r.prepared.now;
+      characters = r.chars;
+      spans = r.tokens.spans.items;
+    } };
 
     ghost invariant = { λ r. IsHeld r.prepared.now r.chars r.tokens.recce r.tokens.spans.items };
 }
@@ -93,7 +97,8 @@ impl<'g> Reading<'g> {
     /// which derivations are chosen.
     pub fn forest(&self, alloc: Global, ranking: Ranking) -> Result<Forest<'_>, ParseError>
         ensures forest { IfOk result (IsForestAs self.now ranking) }
-        ensures refused { IfErr result (TellsInput (IsNoDerivation self.now.grammar ranking self.now.characters)) }
+        ensures refused { IfErr result (TellsInput
+            (IsNoDerivation self.now.grammar ranking self.now.characters)) }
     {
         match forest_with::<Brand>(Blank::new(1), alloc, self, ranking) {
             Ok(forest) => Ok(forest),

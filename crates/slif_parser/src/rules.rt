@@ -87,7 +87,8 @@ fn append_sequence(w: &Written, rule: &SeqRule, line: &mut Vec<u8>) -> Result<()
 /// Appends a rule.
 pub fn append_rule(w: &Written, rule: RuleId, line: &mut Vec<u8>) -> Result<(), NoMemory>
     requires { rule < length w.now.rules }
-    ensures { OnOk result (line.new.items ≡ line.old.items ++ rule_text w.now (rule_at w.now rule)) }
+    ensures { OnOk result (line.new.items ≡ line.old.items ++ rule_text w.now
+        (rule_at w.now rule)) }
 {
     w.known();
     match w.written_rule(rule) {

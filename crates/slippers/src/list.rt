@@ -50,7 +50,11 @@ impl ListSupplier {
     }
 
     fn move_to(&mut self, at: u32)
-        ensures { self.new ≡ record { names = self.old.names; place = at; given = given_at self.old at } }
+        ensures { self.new ≡ record {
+          names = self.old.names;
+          place = at;
+          given = given_at self.old at;
+        } }
     {
         if at != self.place {
             self.place = at;
@@ -67,8 +71,10 @@ fn may_give(expected: &[SymbolId], given: &[SymbolId], symbol: SymbolId) -> bool
 
 // The first name that is expected and was not given.
 fn first_to_give(names: &[SymbolId], expected: &[SymbolId], given: &[SymbolId]) -> Option<SymbolId>
-    ensures none { IsNone result → HasNone (λ s. Contains expected.now s × (Contains given.now s → ⊥)) names.now }
-    ensures some { IfSome result (λ x. IsFirstWith (λ s. Contains expected.now s × (Contains given.now s → ⊥)) names.now x) }
+    ensures none { IsNone result → HasNone (λ s. Contains expected.now s ×
+        (Contains given.now s → ⊥)) names.now }
+    ensures some { IfSome result (λ x. IsFirstWith
+        (λ s. Contains expected.now s × (Contains given.now s → ⊥)) names.now x) }
 {
     for symbol in names {
         if may_give(expected, given, *symbol) {

@@ -22,7 +22,8 @@ fn ask(
     at: u32,
     expected: &[SymbolId],
 ) -> Result<Option<SymbolId>, AllocError>
-    ensures { IfOk result (λ offered. Offers (stock supplier.old) at expected.now offered (stock supplier.new)) }
+    ensures { IfOk result (λ offered. Offers (stock supplier.old) at expected.now offered
+        (stock supplier.new)) }
 {
     supplier.offer(at, expected)
 }
@@ -40,8 +41,10 @@ fn read_over<L: Ledger>(
     requires names { length (stock supplier.old).names ≤ 8 }
     requires begun { IsSupplied chars.now reader.old (stock supplier.old) }
     ensures grammar { reader.new.grammar ≡ reader.old.grammar }
-    ensures over { IfOk result (λ found. IsReadOver (stock supplier.old).names chars.now reader.new found) }
-    ensures counted { OnOk result ((before : ℕ) → CountsFrom reader.old.recce before steps.old → CountsFrom reader.new.recce before steps.new) }
+    ensures over { IfOk result (λ found. IsReadOver (stock supplier.old).names chars.now reader.new
+        found) }
+    ensures counted { OnOk result ((before : ℕ) → CountsFrom reader.old.recce before steps.old →
+        CountsFrom reader.new.recce before steps.new) }
 {
     for _ in 0..LAST_PLACE {
         let found = reader.read_on(alloc, chars, steps)?;
@@ -68,7 +71,8 @@ pub fn read_slipping<'p, L: Ledger>(
     requires few { length chars.now ≤ LONGEST_GIVEN }
     requires names { length (stock supplier).names ≤ 8 }
     requires begun { stock supplier ≡ told (stock supplier).names }
-    ensures reading { IfOk result (λ r. IsReadingOfWith p.now (stock supplier).names chars.now r.recce r.spans.items r.ending) }
+    ensures reading { IfOk result (λ r. IsReadingOfWith p.now (stock supplier).names chars.now
+        r.recce r.spans.items r.ending) }
     ensures counted { IfOk result (λ r. TakesAtMost r.recce steps.old steps.new) }
 {
     let mut reader = match Reader::new(alloc, p) {

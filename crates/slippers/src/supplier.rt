@@ -17,6 +17,7 @@ pub trait Supplier: Drop {
 
     /// The first of its lexemes that is expected and that it has not given at this place, if there is one.
     fn offer(&mut self, at: u32, expected: &[SymbolId]) -> Result<Option<SymbolId>, AllocError>
-        ensures ok { IfOk result (λ offered. Offers (stock self.old) at expected.now offered (stock self.new)) }
+        ensures ok { IfOk result (λ offered. Offers (stock self.old) at expected.now offered
+            (stock self.new)) }
         ensures err { OnErr result (stock self.new ≡ stock self.old) };
 }

@@ -67,7 +67,8 @@ impl<'a> Model for Analysis<'a> {
 
     ghost view = { λ c. c.written.now };
 
-    ghost invariant = { λ c. IsAnalysed c.written.now c.levels c.tables.bases.items c.tables.lefts.items c.tables.nullable c.tables.productive c.tables.reach };
+    ghost invariant = { λ c. IsAnalysed c.written.now c.levels c.tables.bases.items
+        c.tables.lefts.items c.tables.nullable c.tables.productive c.tables.reach };
 }
 
 // The slot's number, if it has one.

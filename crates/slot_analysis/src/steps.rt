@@ -118,7 +118,8 @@ fn push_part(
     requires productive { IsAnalysis false w.now bases.now productive.now }
     requires total { total ≡ slice_index bases.now (length w.now.names) }
     requires small { total + total < 2 ^ 32 }
-    ensures { OnOk result (HasMore clauses.old clauses.new (IsOfPart w.now bases.now total i (slot_count (rule_at
+    ensures { OnOk result (HasMore clauses.old clauses.new
+        (IsOfPart w.now bases.now total i (slot_count (rule_at
         w.now i)))) }
 {
     w.known();

@@ -103,7 +103,8 @@ fn list_begun(
     requires fits { thread.dot + 1 < 2 ^ 32 }
     requires symbol { symbol < length flat.now.symbols }
     ensures { OnOk result ((other : AThread) → Contains next.new.items other ↔
-        ((Contains next.old.items other ⊎ IsBegun flat.now symbol other) ⊎ (IsNullable flat.now symbol × (other ≡ thread_after thread thread.label)))) }
+        ((Contains next.old.items other ⊎ IsBegun flat.now symbol other) ⊎
+        (IsNullable flat.now symbol × (other ≡ thread_after thread thread.label)))) }
 {
     list_predicted(flat, symbol, next)?;
     if flat.nullable(symbol) {

@@ -40,7 +40,8 @@ fn parts(text: &str) -> Option<(&str, &str)>
 fn numbers(text: &str) -> Option<(u32, u32)>
     ensures is { IfSome result (λ ns. text.now ≡ numeral ns.0 ++ 44 ∷ numeral ns.1) }
     ensures small { IfSome result (λ ns. (ns.0 ≤ 4294967295) × (ns.1 ≤ 4294967295)) }
-    ensures none { IsNone result → (m n : ℕ) → m ≤ 4294967295 → n ≤ 4294967295 → text.now ≡ numeral m ++ 44 ∷ numeral n → ⊥ }
+    ensures none { IsNone result → (m n : ℕ) → m ≤ 4294967295 → n ≤ 4294967295 →
+        text.now ≡ numeral m ++ 44 ∷ numeral n → ⊥ }
 {
     let (first, second) = parts(text)?;
     Some((number(first)?, number(second)?))

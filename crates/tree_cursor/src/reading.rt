@@ -15,8 +15,10 @@ use std::alloc::Global;
 
 /// The steps of the tree that a text spells, with their places: the tokens lie one place each from place 0 on.
 pub fn read_cursor(alloc: Global, text: &str) -> Result<Vec<TreeStep>, CursorRefusal>
-    ensures ok { IfOk result (λ steps. (tree : Tree) × Spells text.now tree × (map step_of steps.items ≡ steps_of tree)) }
-    ensures bad { IfErr result (λ refusal. refusal ≡ BadCursor → (tree : Tree) → Spells text.now tree → ⊥) }
+    ensures ok { IfOk result (λ steps. (tree : Tree) × Spells text.now tree ×
+        (map step_of steps.items ≡ steps_of tree)) }
+    ensures bad { IfErr result (λ refusal. refusal ≡ BadCursor → (tree : Tree) →
+        Spells text.now tree → ⊥) }
 {
     if text.len() > LONGEST_CURSOR {
         return Err(CursorRefusal::BadCursor);

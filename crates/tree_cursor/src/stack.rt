@@ -29,10 +29,13 @@ impl Stack {
 
     // Takes the newest so many trees off, of which there is one at least. Answers where the first of them begins.
     fn take(&mut self, count: u32) -> Option<u32>
-        ensures within { IfSome result (λ start. (0 < count) × (count ≤ length self.old.starts.items)) }
-        ensures start { IfSome result (λ start. start ≡ slice_index self.old.starts.items (length self.old.starts.items - count)) }
+        ensures within { IfSome result (λ start. (0 < count) ×
+            (count ≤ length self.old.starts.items)) }
+        ensures start { IfSome result (λ start. start ≡ slice_index self.old.starts.items
+            (length self.old.starts.items - count)) }
         ensures none { IsNone result → (count ≡ 0) ⊎ (length self.old.starts.items < count) }
-        ensures left { IfSome result (λ start. self.new.starts.items ≡ take (length self.old.starts.items - count) self.old.starts.items) }
+        ensures left { IfSome result (λ start. self.new.starts.items ≡
+            take (length self.old.starts.items - count) self.old.starts.items) }
         ensures end { self.new.end ≡ self.old.end }
     {
         let left = self.starts.as_slice().len().checked_sub(count as usize)?;
@@ -45,7 +48,8 @@ impl Stack {
     fn put_leaf(&mut self, length: u32) -> Result<u32, CursorRefusal>
         requires { self.old.end + length ≤ 4294967295 }
         ensures start { IfOk result (λ start. start ≡ self.old.end) }
-        ensures starts { IfOk result (λ start. self.new.starts.items ≡ self.old.starts.items ++ self.old.end ∷ []) }
+        ensures starts { IfOk result (λ start. self.new.starts.items ≡
+            self.old.starts.items ++ self.old.end ∷ []) }
         ensures end { IfOk result (λ start. self.new.end ≡ self.old.end + length) }
         ensures no_bad { IfErr result (λ refusal. refusal ≡ BadCursor → ⊥) }
     {
@@ -58,9 +62,11 @@ impl Stack {
     /// Does a step, and gives it its places.
     pub fn put(&mut self, step: TreeStep) -> Result<TreeStep, CursorRefusal>
         requires room { self.old.end < 4294967295 }
-        ensures done { IfOk result (λ done. IsDone self.old self.new (step_of step) (step_of done)) }
+        ensures done { IfOk result (λ done. IsDone self.old self.new (step_of step)
+            (step_of done)) }
         ensures end { IfOk result (λ done. self.new.end ≤ self.old.end + 1) }
-        ensures bad { IfErr result (λ refusal. refusal ≡ BadCursor → TakesWrong (length self.old.starts.items) (step_of step)) }
+        ensures bad { IfErr result (λ refusal. refusal ≡ BadCursor →
+            TakesWrong (length self.old.starts.items) (step_of step)) }
     {
         match step {
             TreeStep::Token { symbol, .. } => {

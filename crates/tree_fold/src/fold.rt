@@ -29,7 +29,8 @@ fn token_of<'p>(text: &Text<'p>, symbol: SymbolId, from: u32) -> Token<'p>
     requires from { from < length text.now.spans.now }
     ensures symbol { result.symbol ≡ symbol }
     ensures name { result.name.now ≡ name_of text.now.w.now symbol }
-    ensures token { token_told result ≡ token_at (tokens_of text.now.chars.now text.now.spans.now) from }
+    ensures token { token_told result ≡ token_at (tokens_of text.now.chars.now text.now.spans.now)
+        from }
 {
     let Span { start, length } = text.spans[from as usize];
     Token {
@@ -49,12 +50,15 @@ fn make<S: Semantics>(
     semantics: &mut S,
 ) -> Result<S::Value, FoldError<S::Error>>
     requires spans { AreSpans (length text.now.chars.now) text.now.spans.now }
-    requires step { CanTell text.now.w.now (length text.now.spans.now) (length held.old.items) (step_of step) }
-    ensures value { IfOk result (λ v. Gives S.token_gives S.nulled_gives S.rule_gives text.now.w.now (tokens_of text.now.chars.now text.now.spans.now)
+    requires step { CanTell text.now.w.now (length text.now.spans.now) (length held.old.items)
+        (step_of step) }
+    ensures value { IfOk result (λ v. Gives S.token_gives S.nulled_gives S.rule_gives text.now.w.now
+        (tokens_of text.now.chars.now text.now.spans.now)
         semantics.old held.old.items (step_of step) (Ok v) semantics.new) }
     ensures left { OnOk result (held.new.items ≡ left_of held.old.items (step_of step)) }
     ensures failure { IfErr result (IsFailure
-        (λ e. Gives S.token_gives S.nulled_gives S.rule_gives text.now.w.now (tokens_of text.now.chars.now text.now.spans.now)
+        (λ e. Gives S.token_gives S.nulled_gives S.rule_gives text.now.w.now
+        (tokens_of text.now.chars.now text.now.spans.now)
         semantics.old held.old.items (step_of step) (Err e) semantics.new)
         (semantics.new ≡ semantics.old)) }
 {
@@ -83,10 +87,13 @@ pub fn fold_steps<S: Semantics>(
     requires spans { AreSpans (length chars.now) spans.now }
     requires steps { AreSteps w.now (length spans.now) (map step_of steps.now) }
     ensures value { IfOk result (λ v. (t : Tree) → map step_of steps.now ≡ steps_of t →
-        HasValue S.token_gives S.nulled_gives S.rule_gives w.now (tokens_of chars.now spans.now) t semantics.old v semantics.new) }
+        HasValue S.token_gives S.nulled_gives S.rule_gives w.now (tokens_of chars.now spans.now) t
+        semantics.old v semantics.new) }
     ensures failure { IfErr result (IsFailure
-        (λ e. Fails S.token_gives S.nulled_gives S.rule_gives w.now (tokens_of chars.now spans.now) (map step_of steps.now) semantics.old e semantics.new)
-        (IsAsked S.token_gives S.nulled_gives S.rule_gives w.now (tokens_of chars.now spans.now) (map step_of steps.now) semantics.old semantics.new)) }
+        (λ e. Fails S.token_gives S.nulled_gives S.rule_gives w.now (tokens_of chars.now spans.now)
+        (map step_of steps.now) semantics.old e semantics.new)
+        (IsAsked S.token_gives S.nulled_gives S.rule_gives w.now (tokens_of chars.now spans.now)
+        (map step_of steps.now) semantics.old semantics.new)) }
 {
     w.known();
     let text = Text { w, chars, spans };

@@ -34,7 +34,8 @@ pub trait Semantics {
 
     /// Of a token.
     fn token(&mut self, token: Token<'_>) -> Result<Self::Value, Self::Error>
-        ensures { token_gives self.old self.new token.entry.symbol token.entry.name.now (token_told token.entry) result };
+        ensures { token_gives self.old self.new token.entry.symbol token.entry.name.now
+            (token_told token.entry) result };
 
     /// Of a symbol that spans nothing.
     fn nulled(&mut self, symbol: SymbolId, name: &str) -> Result<Self::Value, Self::Error>

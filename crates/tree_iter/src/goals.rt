@@ -64,7 +64,8 @@ fn push_goal<'f>(
     goal: Goal<'f>,
     below: usize,
 ) -> Result<usize, NoMemory>
-    ensures ok { IfOk result (λ top. Puts rows.old.items rows.new.items below top (goal_of goal.entry ∷ [])) }
+    ensures ok { IfOk result (λ top. Puts rows.old.items rows.new.items below top
+        (goal_of goal.entry ∷ [])) }
     ensures err { OnErr result (rows.new.items ≡ rows.old.items) }
     ensures full { OnErr result (vec_capacity rows.old ≤ vec_len rows.old) }
     ensures capacity { vec_capacity rows.old ≤ vec_capacity rows.new }
@@ -111,7 +112,9 @@ fn put_alternative<'f>(
     requires node { node < length forest.now.nodes }
     requires alternatives { alternatives.now ≡ (node_at forest.now node).alternatives }
     requires at { at < length alternatives.now }
-    ensures ok { IfOk result (λ top. Puts rows.old.items rows.new.items behind top (alternative_goals forest.now (node_at forest.now node) (alternative_at alternatives.now at))) }
+    ensures ok { IfOk result (λ top. Puts rows.old.items rows.new.items behind top
+        (alternative_goals forest.now (node_at forest.now node)
+        (alternative_at alternatives.now at))) }
     ensures err { OnErr result (Grows rows.old.items rows.new.items) }
     ensures full { OnErr result (vec_capacity rows.old < vec_len rows.old + 2) }
 {
@@ -138,7 +141,8 @@ fn put_whole<'f>(
     behind: usize,
 ) -> Result<usize, NoMemory>
     requires { node < length forest.now.nodes }
-    ensures ok { IfOk result (λ top. Puts rows.old.items rows.new.items behind top (whole_goals forest.now start end node)) }
+    ensures ok { IfOk result (λ top. Puts rows.old.items rows.new.items behind top
+        (whole_goals forest.now start end node)) }
     ensures err { OnErr result (Grows rows.old.items rows.new.items) }
     ensures full { OnErr result (vec_capacity rows.old < vec_len rows.old + 2) }
 {
@@ -199,7 +203,8 @@ pub fn put_option<'f>(
     requires goal { IsGoal forest.now (goal_opened opened.now) }
     requires opened { IsOpened forest.now opened.now }
     requires at { at < length (options forest.now (goal_opened opened.now)) }
-    ensures ok { IfOk result (λ put. PutsOption forest.now (goal_opened opened.now) rows.old.items rows.new.items at behind put) }
+    ensures ok { IfOk result (λ put. PutsOption forest.now (goal_opened opened.now) rows.old.items
+        rows.new.items at behind put) }
     ensures err { OnErr result (Grows rows.old.items rows.new.items) }
     ensures full { OnErr result (vec_capacity rows.old < vec_len rows.old + 2) }
 {
@@ -223,7 +228,8 @@ pub fn put_option<'f>(
 
 /// Puts the goals of the whole.
 pub fn put_root<'f>(rows: &mut Vec<GoalRow<'f>>, forest: &'f Forest<'f>) -> Result<usize, NoMemory>
-    ensures { IfOk result (λ top. Puts rows.old.items rows.new.items 0 top (root_goals forest.now forest.now.root)) }
+    ensures { IfOk result (λ top. Puts rows.old.items rows.new.items 0 top
+        (root_goals forest.now forest.now.root)) }
 {
     forest.known();
     match forest.root() {

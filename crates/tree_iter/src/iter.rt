@@ -40,7 +40,11 @@ impl<'f> Model for TreeIter<'f> {
 
     ghost Value = { Iteration };
 
-    ghost view = { λ i. record { forest = i.walk.forest.now; ended = has_ended i.current; current = current_of i.current i.walk.steps.items i.copy.items } };
+    ghost view = { λ i. record {
+      forest = i.walk.forest.now;
+      ended = has_ended i.current;
+      current = current_of i.current i.walk.steps.items i.copy.items;
+    } };
 
     ghost invariant = { λ i. IsUnderWay i.walk i.place i.current i.copy.items };
 }
@@ -64,7 +68,8 @@ fn keep(
     copy: &mut Vec<TreeStep>,
     walked: &[TreeStep],
 ) -> Result<(), NoMemory>
-    ensures ok { OnOk result ((others : List TreeStep) → Keeps current.old current.new walked.now others copy.old.items copy.new.items) }
+    ensures ok { OnOk result ((others : List TreeStep) →
+        Keeps current.old current.new walked.now others copy.old.items copy.new.items) }
     ensures err { OnErr result ((current.new ≡ current.old) × (copy.new.items ≡ copy.old.items)) }
 {
     if let Current::Walked = *current {
@@ -94,10 +99,12 @@ impl<'f> TreeIter<'f> {
     /// count as too many for memory. Only looks at alternatives raise `steps`: what a derivation shares with the one
     /// before it at its beginning is not looked at again.
     pub fn next<L: Ledger>(&mut self, steps: &mut Steps<L>) -> Result<bool, NoMemory>
-        ensures answer { IfOk result (λ more. (given : List Tree) → AreGiven self.old given → IsAnswer self.new given more) }
+        ensures answer { IfOk result (λ more. (given : List Tree) → AreGiven self.old given →
+            IsAnswer self.new given more) }
         ensures stands { IfOk result (λ more. IsTrue more → IsSome self.new.current) }
         ensures end { IfOk result (λ more. IsFalse more → self.new ≡ between self.old) }
-        ensures few { IfOk result (λ more. (given : List Tree) → AreGiven self.old given → AreFew self.new given more steps.old steps.new) }
+        ensures few { IfOk result (λ more. (given : List Tree) → AreGiven self.old given →
+            AreFew self.new given more steps.old steps.new) }
         ensures forest { self.new.forest ≡ self.old.forest }
         ensures err { OnErr result (self.new ≡ self.old) }
     {
@@ -125,8 +132,11 @@ impl<'f> TreeIter<'f> {
         to: &[TreeStep],
         steps: &mut Steps<L>,
     ) -> Result<bool, NoMemory>
-        ensures found { IfOk result (λ found. IsTrue found → (self.new ≡ at_steps self.old.forest (map step_of to.now)) × ((given : List Tree) × AreGiven self.new given)) }
-        ensures missed { IfOk result (λ found. IsFalse found → (self.new ≡ self.old) × HasNone self.old.forest (map step_of to.now)) }
+        ensures found { IfOk result (λ found. IsTrue found →
+            (self.new ≡ at_steps self.old.forest (map step_of to.now)) ×
+            ((given : List Tree) × AreGiven self.new given)) }
+        ensures missed { IfOk result (λ found. IsFalse found → (self.new ≡ self.old) ×
+            HasNone self.old.forest (map step_of to.now)) }
         ensures err { OnErr result (self.new ≡ self.old) }
         ensures few { steps.new ≤ steps.old + 7 * length to.now }
     {
@@ -164,9 +174,11 @@ impl<'f> TreeIter<'f> {
     /// Appends the steps of the current derivation, children before their rule. It takes no memory but for room in `out`.
     pub fn steps_of(&self, out: &mut Vec<TreeStep>) -> Result<(), NoMemory>
         requires { IsSome self.now.current }
-        ensures ok { OnOk result (IfSome self.now.current (λ steps. map step_of out.new.items ≡ map step_of out.old.items ++ steps)) }
+        ensures ok { OnOk result (IfSome self.now.current
+            (λ steps. map step_of out.new.items ≡ map step_of out.old.items ++ steps)) }
         ensures err { OnErr result (out.new.items ≡ out.old.items) }
-        ensures full { OnErr result (IfSome self.now.current (λ steps. vec_capacity out.old < vec_len out.old + length steps)) }
+        ensures full { OnErr result (IfSome self.now.current
+            (λ steps. vec_capacity out.old < vec_len out.old + length steps)) }
     {
         out.extend_from_slice(self.current_steps())?;
         Ok(())

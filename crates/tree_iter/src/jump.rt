@@ -76,8 +76,10 @@ fn is_list_node(forest: &Forest<'_>, node: u32) -> bool
 fn rule_of(forest: &Forest<'_>, node: u32) -> Option<RuleId>
     requires { node < length forest.now.nodes }
     ensures within { IfSome result (λ rule. rule < length forest.now.written.rules) }
-    ensures some { IfSome result (λ rule. source_of forest.now.flat (node_at forest.now node).key.rule ≡ Origin rule) }
-    ensures none { IsNone result → (i : ℕ) → source_of forest.now.flat (node_at forest.now node).key.rule ≢ Origin i }
+    ensures some { IfSome result (λ rule. source_of forest.now.flat
+        (node_at forest.now node).key.rule ≡ Origin rule) }
+    ensures none { IsNone result → (i : ℕ) → source_of forest.now.flat
+        (node_at forest.now node).key.rule ≢ Origin i }
 {
     forest.known();
     let key = forest.key(node);
@@ -118,7 +120,8 @@ fn is_rule_told(forest: &Forest<'_>, node: u32, step: TreeStep) -> bool
 // Whether two are one rule, and so many parts of it end like so many.
 fn ends_alike(written: &Written, rule: RuleId, parts: u32, told: RuleId, children: u32) -> bool
     requires { rule < length written.now.rules }
-    ensures { IsTrue result ↔ ((rule ≡ told) × (ends_so (rule_at written.now rule) parts ≡ ends_so (rule_at written.now rule) children)) }
+    ensures { IsTrue result ↔ ((rule ≡ told) ×
+        (ends_so (rule_at written.now rule) parts ≡ ends_so (rule_at written.now rule) children)) }
 {
     let held = written.written_rule(rule);
     rule == told && has_trailing(held, parts) == has_trailing(held, children)
@@ -150,7 +153,8 @@ impl Guide<'_> {
     // Whether the whole rule of a node leads to the steps up to the aim, where so many are written.
     fn fits(&self, forest: &Forest<'_>, node: u32, aim: u32, done: usize) -> bool
         requires { node < length forest.now.nodes }
-        ensures { AtAim self.now aim (λ step row. IsTrue result ↔ IsTold forest.now (node_at forest.now node).key (step_of step) row.below done) }
+        ensures { AtAim self.now aim (λ step row. IsTrue result ↔
+            IsTold forest.now (node_at forest.now node).key (step_of step) row.below done) }
     {
         let Some((step, row)) = self.last(aim) else {
             return false;
@@ -165,7 +169,8 @@ impl Guide<'_> {
     fn node_for(&self, forest: &Forest<'_>, nodes: &[u32], aim: u32, done: usize) -> Option<usize>
         requires { (n : ℕ) → Contains nodes.now n → n < length forest.now.nodes }
         ensures within { IfSome result (λ at. at < length nodes.now) }
-        ensures told { AtAim self.now aim (λ step row. (at n : ℕ) → IsToldAt forest.now nodes.now (step_of step) row.below done at n → result ≡ Some at) }
+        ensures told { AtAim self.now aim (λ step row. (at n : ℕ) →
+            IsToldAt forest.now nodes.now (step_of step) row.below done at n → result ≡ Some at) }
     {
         for (k, node) in nodes.iter().enumerate() {
             if self.fits(forest, *node, aim, done) {
@@ -188,7 +193,8 @@ impl Guide<'_> {
         ensures taken { IsSome result → self.old.looks ≡ self.new.looks + 1 }
         ensures rows { self.new.rows ≡ self.old.rows }
         ensures aims { self.new.aims ≡ self.old.aims }
-        ensures leads { AtAim self.old aim (λ step row. 0 < self.old.looks → LeadsToPart forest.now node row aim result) }
+        ensures leads { AtAim self.old aim (λ step row. 0 < self.old.looks →
+            LeadsToPart forest.now node row aim result) }
         ensures looks { steps.new + self.new.looks ≡ steps.old + self.old.looks }
         ensures to { self.new.to ≡ self.old.to }
     {
@@ -219,8 +225,10 @@ impl Guide<'_> {
         aim: u32,
     ) -> Option<Led<'f>>
         requires { IsGoal walk.now.forest.now (OneOf start end nodes.now) }
-        ensures led { IfSome result (λ led. IsOptionOf walk.now.forest.now (OneOf start end nodes.now) led) }
-        ensures leads { AtAim self.now aim (λ step row. LeadsToNodeOf walk.now nodes.now step row aim result) }
+        ensures led { IfSome result (λ led. IsOptionOf walk.now.forest.now
+            (OneOf start end nodes.now) led) }
+        ensures leads { AtAim self.now aim (λ step row.
+            LeadsToNodeOf walk.now nodes.now step row aim result) }
     {
         let at = self.node_for(walk.forest, nodes, aim, walk.steps.as_slice().len())?;
         let is_list = is_list_node(walk.forest, nodes[at]);
@@ -241,11 +249,14 @@ impl Guide<'_> {
         steps: &mut Steps<L>,
     ) -> Option<Led<'f>>
         requires { IsGoal walk.now.forest.now (fork_of fork) }
-        ensures led { IfSome result (λ led. IsOptionOf walk.now.forest.now (fork_of fork.entry) led) }
-        ensures taken { IsSome result → self.old.looks ≡ self.new.looks + look (fork_of fork.entry) }
+        ensures led { IfSome result (λ led. IsOptionOf walk.now.forest.now
+            (fork_of fork.entry) led) }
+        ensures taken { IsSome result → self.old.looks ≡
+            self.new.looks + look (fork_of fork.entry) }
         ensures rows { self.new.rows ≡ self.old.rows }
         ensures aims { self.new.aims ≡ self.old.aims }
-        ensures leads { AtAim self.old aim (λ step row. 0 < self.old.looks → LeadsOnFrom walk.now (fork_of fork.entry) step row aim result) }
+        ensures leads { AtAim self.old aim (λ step row. 0 < self.old.looks →
+            LeadsOnFrom walk.now (fork_of fork.entry) step row aim result) }
         ensures looks { steps.new + self.new.looks ≡ steps.old + self.old.looks }
         ensures to { self.new.to ≡ self.old.to }
     {
@@ -280,7 +291,8 @@ impl Guide<'_> {
         requires { IsAbout walk.old (fork_of fork) behind }
         ensures goes { IfOk result (λ led. IsTrue led → GoesPast walk.old walk.new) }
         ensures further { IfOk result (λ led. IsTrue led → GoesFurther walk.old walk.new) }
-        ensures kept { IfOk result (λ led. Leads self.old walk.old → IsTrue led × Leads self.new walk.new) }
+        ensures kept { IfOk result (λ led. Leads self.old walk.old → IsTrue led ×
+            Leads self.new walk.new) }
         ensures looks { steps.new + self.new.looks ≡ steps.old + self.old.looks }
         ensures to { self.new.to ≡ self.old.to }
         ensures forest { walk.new.forest ≡ walk.old.forest }
@@ -307,7 +319,8 @@ impl Guide<'_> {
         requires stands { (rest : List (List Step)) × StandsBefore walk.old rest }
         ensures goes { IfOk result (λ led. IsTrue led → GoesPast walk.old walk.new) }
         ensures further { IfOk result (λ led. IsTrue led → GoesFurther walk.old walk.new) }
-        ensures kept { IfOk result (λ led. Leads self.old walk.old → IsTrue led × Leads self.new walk.new) }
+        ensures kept { IfOk result (λ led. Leads self.old walk.old → IsTrue led ×
+            Leads self.new walk.new) }
         ensures looks { steps.new + self.new.looks ≡ steps.old + self.old.looks }
         ensures to { self.new.to ≡ self.old.to }
         ensures forest { walk.new.forest ≡ walk.old.forest }
@@ -330,8 +343,10 @@ impl Guide<'_> {
         steps: &mut Steps<L>,
     ) -> Result<bool, NoMemory>
         requires { (rest : List (List Step)) × StandsBefore walk.old rest }
-        ensures comes { IfOk result (λ led. IsTrue led → (rest : List (List Step)) → StandsBefore walk.old rest → ComesTo walk.new rest) }
-        ensures kept { IfOk result (λ led. Leads self.old walk.old → IsTrue led × Leads self.new walk.new) }
+        ensures comes { IfOk result (λ led. IsTrue led → (rest : List (List Step)) →
+            StandsBefore walk.old rest → ComesTo walk.new rest) }
+        ensures kept { IfOk result (λ led. Leads self.old walk.old → IsTrue led ×
+            Leads self.new walk.new) }
         ensures none { IfOk result (λ led. IsTrue led → walk.new.left ≡ 0) }
         ensures looks { steps.new + self.new.looks ≡ steps.old + self.old.looks }
         ensures to { self.new.to ≡ self.old.to }
@@ -356,9 +371,12 @@ pub fn lead_to<L: Ledger>(
 ) -> Result<bool, NoMemory>
     requires stands { (rest : List (List Step)) × StandsBefore walk.old rest }
     requires begun { IsBegun walk.old }
-    ensures comes { IfOk result (λ found. IsTrue found → (rest : List (List Step)) → StandsBefore walk.old rest → ComesTo walk.new rest) }
-    ensures shows { IfOk result (λ found. IsTrue found → map step_of walk.new.steps.items ≡ map step_of to.now) }
-    ensures missed { IfOk result (λ found. IsFalse found → HasNoFlatBefore walk.old (map step_of to.now)) }
+    ensures comes { IfOk result (λ found. IsTrue found → (rest : List (List Step)) →
+        StandsBefore walk.old rest → ComesTo walk.new rest) }
+    ensures shows { IfOk result (λ found. IsTrue found → map step_of walk.new.steps.items ≡
+        map step_of to.now) }
+    ensures missed { IfOk result (λ found. IsFalse found →
+        HasNoFlatBefore walk.old (map step_of to.now)) }
     ensures few { steps.new ≤ steps.old + 7 * length to.now }
     ensures forest { walk.new.forest ≡ walk.old.forest }
 {

@@ -26,7 +26,8 @@ fn row_at(rows: &[LeadRow], k: usize) -> LeadRow
 fn below_newest(rows: &[LeadRow], count: u32) -> u32
     requires few { length rows.now < 2 ^ 32 }
     requires ends { (ends : List ℕ) × AreEnds rows.now ends × (length rows.now ≡ top_of ends) }
-    ensures { (ends : List ℕ) → AreEnds rows.now ends → length rows.now ≡ top_of ends → result ≡ top_of (drop count ends) }
+    ensures { (ends : List ℕ) → AreEnds rows.now ends → length rows.now ≡ top_of ends →
+        result ≡ top_of (drop count ends) }
 {
     let mut top = rows.len() as u32;
     'newest: for _ in 0..count {
@@ -43,7 +44,9 @@ fn row_of(rows: &[LeadRow], step: TreeStep) -> LeadRow
     requires few { length rows.now < 2 ^ 32 }
     requires rows { (steps : List Step) × AreRows rows.now steps }
     ensures from { result.from ≡ step_from (step_of step) }
-    ensures below { (steps : List Step) → AreRows rows.now steps → result.below ≡ top_of (drop 1 (ends_after (all_ends [] 0 steps) (length steps) (step_of step))) }
+    ensures below { (steps : List Step) → AreRows rows.now steps →
+        result.below ≡ top_of (drop 1 (ends_after (all_ends [] 0 steps) (length steps)
+        (step_of step))) }
 {
     let top = rows.len() as u32;
     match step {

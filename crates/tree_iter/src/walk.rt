@@ -55,7 +55,8 @@ impl<'f> Walk<'f> {
     /// A walk to the first derivation.
     pub fn begin(alloc: Global, forest: &'f Forest<'f>) -> Result<Walk<'f>, NoMemory>
         ensures forest { IfOk result (λ walk. walk.forest.now ≡ forest.now) }
-        ensures begun { IfOk result (λ walk. (copied : List TreeStep) → IsUnderWay walk Walking NotBegun copied) }
+        ensures begun { IfOk result (λ walk. (copied : List TreeStep) →
+            IsUnderWay walk Walking NotBegun copied) }
         ensures nothing { IfOk result (λ walk. IsBegun walk) }
     {
         forest.known();
@@ -93,7 +94,8 @@ impl<'f> Walk<'f> {
 
     /// Makes room for what an option adds.
     pub fn reserve(&mut self) -> Result<(), NoMemory>
-        ensures room { OnOk result ((vec_len self.new.goals + 2 ≤ vec_capacity self.new.goals) × (vec_len self.new.choices < vec_capacity self.new.choices)) }
+        ensures room { OnOk result ((vec_len self.new.goals + 2 ≤ vec_capacity self.new.goals) ×
+            (vec_len self.new.choices < vec_capacity self.new.choices)) }
         ensures stays { Stays self.old self.new }
     {
         self.goals.reserve(MOST_ROWS)?;
@@ -108,10 +110,15 @@ impl<'f> Walk<'f> {
         requires is { goal_opened opened.now ≡ fork_of fork }
         requires opened { IsOpened self.old.forest.now opened.now }
         requires at { at < length (options self.old.forest.now (fork_of fork)) }
-        requires room { (vec_len self.old.goals + 2 ≤ vec_capacity self.old.goals) × (vec_len self.old.choices < vec_capacity self.old.choices) }
-        ensures chooses { (lists : Lists) (trail : Trail) (others : List FlatGoal) → IsOn self.old lists trail (fork_of fork.entry ∷ others) → Chooses self.old.forest.now self.new (fork_of fork.entry) at lists trail others }
-        ensures steps_kept { (self.new.steps ≡ self.old.steps) × (self.new.counts ≡ self.old.counts) }
-        ensures steps { (m : ℕ) → HasSteps self.old m → HasSteps self.new (m + look (fork_of fork.entry)) }
+        requires room { (vec_len self.old.goals + 2 ≤ vec_capacity self.old.goals) ×
+            (vec_len self.old.choices < vec_capacity self.old.choices) }
+        ensures chooses { (lists : Lists) (trail : Trail) (others : List FlatGoal) →
+            IsOn self.old lists trail (fork_of fork.entry ∷ others) →
+            Chooses self.old.forest.now self.new (fork_of fork.entry) at lists trail others }
+        ensures steps_kept { (self.new.steps ≡ self.old.steps) ×
+            (self.new.counts ≡ self.old.counts) }
+        ensures steps { (m : ℕ) → HasSteps self.old m →
+            HasSteps self.new (m + look (fork_of fork.entry)) }
         ensures further { GoesFurther self.old self.new }
         ensures forest { self.new.forest ≡ self.old.forest }
     {
@@ -142,7 +149,9 @@ impl<'f> Walk<'f> {
     pub fn write(&mut self, step: FlatStep, behind: usize) -> Result<(), NoMemory>
         requires { IsAbout self.old (Write (flat_step step)) behind }
         ensures goes { Goes self.old self.new }
-        ensures on { OnOk result ((lists : Lists) (trail : Trail) (others : List FlatGoal) → IsOn self.old lists trail (Write (flat_step step) ∷ others) → IsOn self.new lists (Wrote trail (flat_step step)) others) }
+        ensures on { OnOk result ((lists : Lists) (trail : Trail) (others : List FlatGoal) →
+            IsOn self.old lists trail (Write (flat_step step) ∷ others) →
+            IsOn self.new lists (Wrote trail (flat_step step)) others) }
         ensures keeps { OnOk result ((n : ℕ) → HasSteps self.old n → HasSteps self.new n) }
         ensures further { OnOk result (GoesFurther self.old self.new) }
         ensures forest { self.new.forest ≡ self.old.forest }
@@ -172,7 +181,8 @@ impl<'f> Walk<'f> {
     // Lets go of the goals that are done and that no choice goes back to.
     fn let_go(&mut self)
         ensures goes { Goes self.old self.new }
-        ensures on { (lists : Lists) (trail : Trail) (left : List FlatGoal) → IsOn self.old lists trail left → IsOn self.new lists trail left }
+        ensures on { (lists : Lists) (trail : Trail) (left : List FlatGoal) →
+            IsOn self.old lists trail left → IsOn self.new lists trail left }
         ensures keeps { KeepsLeft self.old self.new }
         ensures counts { self.new.counts ≡ self.old.counts }
         ensures forest { self.new.forest ≡ self.old.forest }
@@ -200,7 +210,8 @@ impl<'f> Walk<'f> {
     // Goes on to the end of a derivation.
     fn go_on<L: Ledger>(&mut self, steps: &mut Steps<L>) -> Result<(), NoMemory>
         requires { (rest : List (List Step)) × StandsBefore self.old rest }
-        ensures ok { OnOk result ((rest : List (List Step)) → StandsBefore self.old rest → Reaches self.new rest) }
+        ensures ok { OnOk result ((rest : List (List Step)) → StandsBefore self.old rest →
+            Reaches self.new rest) }
         ensures looks { OnOk result (Looks self.old self.new steps.old steps.new) }
         ensures none { OnOk result (self.new.left ≡ 0) }
         ensures err { OnErr result (Goes self.old self.new) }
@@ -223,7 +234,8 @@ impl<'f> Walk<'f> {
     fn cut(&mut self, choice: Choice<'f>)
         requires last { IsLast self.old.choices.items choice }
         requires behind { (rest : List (List Step)) × StandsBehind self.old rest }
-        ensures back { (rest : List (List Step)) → StandsBehind self.old rest → IsBack self.new choice.entry rest }
+        ensures back { (rest : List (List Step)) → StandsBehind self.old rest →
+            IsBack self.new choice.entry rest }
         ensures choices { self.new.choices ≡ self.old.choices }
         ensures forest { self.new.forest ≡ self.old.forest }
     {
@@ -240,9 +252,11 @@ impl<'f> Walk<'f> {
     ) -> Result<(), NoMemory>
         requires back { (rest : List (List Step)) × IsBack self.old choice rest }
         requires later { choice.chosen + 1 < choice.count }
-        ensures ok { OnOk result ((rest : List (List Step)) → IsBack self.old choice.entry rest → StandsBefore self.new rest) }
+        ensures ok { OnOk result ((rest : List (List Step)) → IsBack self.old choice.entry rest →
+            StandsBefore self.new rest) }
         ensures looks { OnOk result (LeavesSome self.new true steps.old steps.new) }
-        ensures err { OnErr result ((rest : List (List Step)) → IsBack self.old choice.entry rest → StandsBehind self.new rest) }
+        ensures err { OnErr result ((rest : List (List Step)) → IsBack self.old choice.entry rest →
+            StandsBehind self.new rest) }
         ensures forest { self.new.forest ≡ self.old.forest }
     {
         let chosen = choice.chosen + 1;
@@ -256,7 +270,8 @@ impl<'f> Walk<'f> {
 
     /// Whether there is no choice to go back to.
     pub fn is_spent(&self) -> bool
-        ensures { IsTrue result → (rest : List (List Step)) → StandsBehind self.now rest → rest ≡ [] }
+        ensures { IsTrue result → (rest : List (List Step)) → StandsBehind self.now rest →
+            rest ≡ [] }
     {
         self.choices.as_slice().is_empty()
     }
@@ -264,9 +279,11 @@ impl<'f> Walk<'f> {
     // Goes back to the last choice that has a later option, and takes that. Answers whether there is one.
     fn go_back<L: Ledger>(&mut self, steps: &mut Steps<L>) -> Result<bool, NoMemory>
         requires { (rest : List (List Step)) × StandsBehind self.old rest }
-        ensures ok { IfOk result (λ more. (rest : List (List Step)) → StandsBehind self.old rest → Turns self.new rest more) }
+        ensures ok { IfOk result (λ more. (rest : List (List Step)) → StandsBehind self.old rest →
+            Turns self.new rest more) }
         ensures looks { IfOk result (λ more. LeavesSome self.new more steps.old steps.new) }
-        ensures err { OnErr result ((rest : List (List Step)) → StandsBehind self.old rest → StandsBehind self.new rest) }
+        ensures err { OnErr result ((rest : List (List Step)) → StandsBehind self.old rest →
+            StandsBehind self.new rest) }
         ensures forest { self.new.forest ≡ self.old.forest }
     {
         'back: while let Some(choice) = self.last_choice() {
@@ -288,9 +305,11 @@ pub fn advance<L: Ledger>(
     steps: &mut Steps<L>,
 ) -> Result<bool, NoMemory>
     requires { (rest : List (List Step)) × Remain place.old walk.old rest }
-    ensures ok { IfOk result (λ more. (rest : List (List Step)) → Remain place.old walk.old rest → Advances place.new walk.new rest more) }
+    ensures ok { IfOk result (λ more. (rest : List (List Step)) → Remain place.old walk.old rest →
+        Advances place.new walk.new rest more) }
     ensures few { IfOk result (λ more. AreFewLooks walk.new more steps.old steps.new) }
-    ensures err { OnErr result ((rest : List (List Step)) → Remain place.old walk.old rest → Remain place.new walk.new rest) }
+    ensures err { OnErr result ((rest : List (List Step)) → Remain place.old walk.old rest →
+        Remain place.new walk.new rest) }
     ensures forest { walk.new.forest ≡ walk.old.forest }
 {
     match *place {

@@ -82,7 +82,8 @@ fn row_at(rows: &[CountRow], k: usize) -> CountRow
 fn newest(rows: &[CountRow], count: u32) -> CountRow
     requires few { length rows.now < 2 ^ 32 }
     requires on_top { (counts : List ℕ) × AreOnTop rows.now counts }
-    ensures { (counts : List ℕ) → IsCounted rows.now (length rows.now) counts → AreTakenOff rows.now count counts result }
+    ensures { (counts : List ℕ) → IsCounted rows.now (length rows.now) counts →
+        AreTakenOff rows.now count counts result }
 {
     let mut sum = 0u32;
     let mut top = rows.len() as u32;
@@ -102,7 +103,8 @@ fn newest(rows: &[CountRow], count: u32) -> CountRow
 // A rule that is no list's, as it is written; a top is not.
 fn rule_step(flat: &Flat, rule: u32, children: u32, from: u32, to: u32) -> Option<TreeStep>
     requires { IsRule flat.now rule }
-    ensures { map step_of (option_to_list result) ≡ rule_written false (source_of flat.now rule) children from to }
+    ensures { map step_of (option_to_list result) ≡
+        rule_written false (source_of flat.now rule) children from to }
 {
     match flat.origin_of(rule) {
         FlatSource::Written(rule) => Some(TreeStep::Rule {
@@ -127,7 +129,8 @@ fn rule_effect(
     requires rule { IsRule flat.now rule }
     requires few { length rows.now < 2 ^ 32 }
     requires on_top { (counts : List ℕ) × AreOnTop rows.now counts }
-    ensures { (w : Grammar) (counts : List ℕ) → IsCounted rows.now (length rows.now) counts → IsEffect w flat.now rows.now counts (RuleStep rule children from to) result }
+    ensures { (w : Grammar) (counts : List ℕ) → IsCounted rows.now (length rows.now) counts →
+        IsEffect w flat.now rows.now counts (RuleStep rule children from to) result }
 {
     let newest = newest(rows, children);
     if is_list_rule(flat, rule) {
@@ -151,7 +154,8 @@ fn effect_of(rows: &[CountRow], flat: &Flat, written: &Written, step: FlatStep) 
     requires step { IsStepOf flat.now (flat_step step) }
     requires few { length rows.now < 2 ^ 32 }
     requires on_top { (counts : List ℕ) × AreOnTop rows.now counts }
-    ensures { (counts : List ℕ) → IsCounted rows.now (length rows.now) counts → IsEffect written.now flat.now rows.now counts (flat_step step) result }
+    ensures { (counts : List ℕ) → IsCounted rows.now (length rows.now) counts →
+        IsEffect written.now flat.now rows.now counts (flat_step step) result }
 {
     let row = CountRow {
         count: 1,
@@ -223,9 +227,14 @@ pub fn write_step(
 ) -> Result<(), NoMemory>
     requires flat_of { IsFlatOf flat.now written.now }
     requires step { IsStepOf flat.now (flat_step step) }
-    requires done { (done : List Step) × AreDone written.now flat.now counts.old.items steps.old.items done }
-    ensures ok { OnOk result ((done : List Step) → AreDone written.now flat.now counts.old.items steps.old.items done → AreDone written.now flat.now counts.new.items steps.new.items (done ++ flat_step step ∷ [])) }
-    ensures err { OnErr result ((counts.new.items ≡ counts.old.items) × (steps.new.items ≡ steps.old.items)) }
+    requires done { (done : List Step) × AreDone written.now flat.now counts.old.items
+        steps.old.items done }
+    ensures ok { OnOk result ((done : List Step) →
+        AreDone written.now flat.now counts.old.items steps.old.items done →
+        AreDone written.now flat.now counts.new.items steps.new.items
+        (done ++ flat_step step ∷ [])) }
+    ensures err { OnErr result ((counts.new.items ≡ counts.old.items) ×
+        (steps.new.items ≡ steps.old.items)) }
 {
     make_room(counts)?;
     make_room(steps)?;

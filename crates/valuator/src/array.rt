@@ -66,7 +66,9 @@ fn made_or(
 ) -> Result<ValueId, NoMemory>
     requires otherwise { otherwise < length pool.old }
     requires children { AreIds pool.old parts.now.children.now }
-    ensures ok { IfOk result (λ id. StandsFor pool.new id (made_by_option (action_in action.entry) (value_at pool.old otherwise) (made_of pool.old parts.now))) }
+    ensures ok { IfOk result (λ id. StandsFor pool.new id
+        (made_by_option (action_in action.entry) (value_at pool.old otherwise)
+        (made_of pool.old parts.now))) }
     ensures grown { IsGrown pool.old pool.new }
 {
     match action {

@@ -22,7 +22,8 @@ pub struct Parts<'p> {
 /// Adds a text.
 pub fn add_text(pool: &mut Pool, text: &str, ids: &mut Vec<ValueId>) -> Result<(), NoMemory>
     requires { AreIds pool.old ids.old.items }
-    ensures ok { OnOk result (values_at pool.new ids.new.items ≡ values_at pool.old ids.old.items ++ Text text.now ∷ []) }
+    ensures ok { OnOk result (values_at pool.new ids.new.items ≡
+        values_at pool.old ids.old.items ++ Text text.now ∷ []) }
     ensures ids { AreIds pool.new ids.new.items }
     ensures grown { IsGrown pool.old pool.new }
 {
@@ -34,7 +35,8 @@ pub fn add_text(pool: &mut Pool, text: &str, ids: &mut Vec<ValueId>) -> Result<(
 /// Adds a number.
 pub fn add_num(pool: &mut Pool, n: u32, ids: &mut Vec<ValueId>) -> Result<(), NoMemory>
     requires { AreIds pool.old ids.old.items }
-    ensures ok { OnOk result (values_at pool.new ids.new.items ≡ values_at pool.old ids.old.items ++ Number n ∷ []) }
+    ensures ok { OnOk result (values_at pool.new ids.new.items ≡
+        values_at pool.old ids.old.items ++ Number n ∷ []) }
     ensures ids { AreIds pool.new ids.new.items }
     ensures grown { IsGrown pool.old pool.new }
 {
@@ -52,7 +54,8 @@ fn add_item(
 ) -> Result<(), NoMemory>
     requires children { AreIds pool.old parts.now.children.now }
     requires ids { AreIds pool.old ids.old.items }
-    ensures ok { OnOk result (values_at pool.new ids.new.items ≡ values_at pool.old ids.old.items ++ item_values (made_of pool.old parts.now) of) }
+    ensures ok { OnOk result (values_at pool.new ids.new.items ≡
+        values_at pool.old ids.old.items ++ item_values (made_of pool.old parts.now) of) }
     ensures ids { AreIds pool.new ids.new.items }
     ensures grown { IsGrown pool.old pool.new }
 {
@@ -78,7 +81,9 @@ fn add_items(
 ) -> Result<(), NoMemory>
     requires children { AreIds pool.old parts.now.children.now }
     requires ids { AreIds pool.old ids.old.items }
-    ensures ok { OnOk result (values_at pool.new ids.new.items ≡ values_at pool.old ids.old.items ++ flat_map (item_values (made_of pool.old parts.now)) items.now) }
+    ensures ok { OnOk result (values_at pool.new ids.new.items ≡
+        values_at pool.old ids.old.items ++ flat_map (item_values (made_of pool.old parts.now))
+        items.now) }
     ensures ids { AreIds pool.new ids.new.items }
     ensures grown { IsGrown pool.old pool.new }
 {
@@ -96,7 +101,8 @@ pub fn make(
     ids: &mut Vec<ValueId>,
 ) -> Result<ValueId, NoMemory>
     requires { AreIds pool.old parts.now.children.now }
-    ensures ok { IfOk result (λ id. StandsFor pool.new id (made_by (action_of action.now) (made_of pool.old parts.now))) }
+    ensures ok { IfOk result (λ id. StandsFor pool.new id
+        (made_by (action_of action.now) (made_of pool.old parts.now))) }
     ensures grown { IsGrown pool.old pool.new }
 {
     match action {

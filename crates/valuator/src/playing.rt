@@ -21,7 +21,8 @@ use value_text::{Action, Meaning, NoMemory};
 
 /// Lists of a sequence's first children which are items, in place of what was listed.
 fn list_items(shown: &mut Vec<bool>, separated: bool, count: u32) -> Result<(), NoMemory>
-    ensures { OnOk result (shown.new.items ≡ items_shown (if separated then Some 0 else None) count) }
+    ensures { OnOk result (shown.new.items ≡ items_shown (if separated then Some 0 else None)
+        count) }
 {
     shown.clear();
     let mut is_item = true;
@@ -84,7 +85,9 @@ fn pass_token(
     from: u32,
     action: Option<&Action>,
 ) -> Result<(), NoMemory>
-    ensures ok { OnOk result (held teller.new ≡ held teller.old ++ token_value (shows teller.old) name.now text.now span.start span.length from (action_in action.entry) ∷ []) }
+    ensures ok { OnOk result (held teller.new ≡ held teller.old ++ token_value
+        (shows teller.old) name.now text.now span.start span.length from
+        (action_in action.entry) ∷ []) }
     ensures kind { shows teller.new ≡ shows teller.old }
 {
     teller.token(name, text, span.start, span.length, from, action)
@@ -98,7 +101,8 @@ fn pass_nulling(
     at: u32,
     action: Option<&Action>,
 ) -> Result<(), NoMemory>
-    ensures ok { OnOk result (held teller.new ≡ held teller.old ++ nulling_value (shows teller.old) name.now start at (action_in action.entry) ∷ []) }
+    ensures ok { OnOk result (held teller.new ≡ held teller.old ++ nulling_value
+        (shows teller.old) name.now start at (action_in action.entry) ∷ []) }
     ensures kind { shows teller.new ≡ shows teller.old }
 {
     teller.nulling(name, start, at, action)
@@ -119,7 +123,9 @@ fn pass_rule(
     requires count { length shown.now < 2 ^ 32 }
     requires places { from ≤ to }
     requires held { HoldsAtLeast (length shown.now) (held teller.old) }
-    ensures ok { OnOk result (held teller.new ≡ replace_newest (length shown.now) (rule_value (shows teller.old) rule name.now shown.now start (end - start) from (to - from) (action_of action.now)) (held teller.old)) }
+    ensures ok { OnOk result (held teller.new ≡ replace_newest (length shown.now)
+        (rule_value (shows teller.old) rule name.now shown.now start (end - start) from (to - from)
+        (action_of action.now)) (held teller.old)) }
     ensures kind { shows teller.new ≡ shows teller.old }
 {
     let count = shown.len() as u32;
@@ -147,7 +153,9 @@ fn tell_token(
     requires spans { AreSpans (length p.now.chars.now) p.now.spans.now }
     requires symbol { symbol < length p.now.w.now.names }
     requires from { from < length p.now.spans.now }
-    ensures ok { OnOk result (held teller.new ≡ held teller.old ++ value_of_token (shows teller.old) p.now.w.now (meaning_of p.now.meaning.now) (tokens_of p.now.chars.now p.now.spans.now) symbol from ∷ []) }
+    ensures ok { OnOk result (held teller.new ≡ held teller.old ++ value_of_token
+        (shows teller.old) p.now.w.now (meaning_of p.now.meaning.now)
+        (tokens_of p.now.chars.now p.now.spans.now) symbol from ∷ []) }
     ensures kind { shows teller.new ≡ shows teller.old }
 {
     let name = name_in(p.w, symbol);
@@ -169,7 +177,9 @@ fn tell_nulled(
     requires nulling { AreFirst p.now.w.now (length p.now.w.now.rules) p.now.nulling.now }
     requires symbol { symbol < length p.now.w.now.names }
     requires at { at ≤ length p.now.spans.now }
-    ensures ok { OnOk result (held teller.new ≡ held teller.old ++ value_of_nulled (shows teller.old) p.now.w.now (meaning_of p.now.meaning.now) (tokens_of p.now.chars.now p.now.spans.now) symbol at ∷ []) }
+    ensures ok { OnOk result (held teller.new ≡ held teller.old ++ value_of_nulled
+        (shows teller.old) p.now.w.now (meaning_of p.now.meaning.now)
+        (tokens_of p.now.chars.now p.now.spans.now) symbol at ∷ []) }
     ensures kind { shows teller.new ≡ shows teller.old }
 {
     let name = name_in(p.w, symbol);
@@ -190,8 +200,12 @@ fn tell_rule(
 ) -> Result<(), NoMemory>
     requires meaning { IsMeaningOf p.now.w.now (meaning_of p.now.meaning.now) }
     requires spans { AreSpans (length p.now.chars.now) p.now.spans.now }
-    requires step { CanTell p.now.w.now (length p.now.spans.now) (held_count (held teller.old)) (RuleStep rule children from to) }
-    ensures ok { OnOk result (held teller.new ≡ replace_newest children (value_of_rule (shows teller.old) p.now.w.now (meaning_of p.now.meaning.now) (tokens_of p.now.chars.now p.now.spans.now) rule children from to) (held teller.old)) }
+    requires step { CanTell p.now.w.now (length p.now.spans.now) (held_count (held teller.old))
+        (RuleStep rule children from to) }
+    ensures ok { OnOk result (held teller.new ≡
+        replace_newest children (value_of_rule (shows teller.old) p.now.w.now
+        (meaning_of p.now.meaning.now) (tokens_of p.now.chars.now p.now.spans.now) rule children
+        from to) (held teller.old)) }
     ensures kind { shows teller.new ≡ shows teller.old }
 {
     let name = name_in(p.w, p.w.written_rule(rule).lhs());
@@ -236,8 +250,11 @@ fn tell(
     requires meaning { IsMeaningOf p.now.w.now (meaning_of p.now.meaning.now) }
     requires spans { AreSpans (length p.now.chars.now) p.now.spans.now }
     requires nulling { AreFirst p.now.w.now (length p.now.w.now.rules) p.now.nulling.now }
-    requires step { CanTell p.now.w.now (length p.now.spans.now) (held_count (held teller.old)) (step_of step.now) }
-    ensures ok { OnOk result (held teller.new ≡ told (shows teller.old) p.now.w.now (meaning_of p.now.meaning.now) (tokens_of p.now.chars.now p.now.spans.now) (held teller.old) (step_of step.now)) }
+    requires step { CanTell p.now.w.now (length p.now.spans.now) (held_count (held teller.old))
+        (step_of step.now) }
+    ensures ok { OnOk result (held teller.new ≡ told (shows teller.old) p.now.w.now
+        (meaning_of p.now.meaning.now) (tokens_of p.now.chars.now p.now.spans.now) (held teller.old)
+        (step_of step.now)) }
     ensures kind { shows teller.new ≡ shows teller.old }
 {
     match step {
@@ -262,8 +279,12 @@ fn tell_all(
     requires meaning { IsMeaningOf p.now.w.now (meaning_of p.now.meaning.now) }
     requires spans { AreSpans (length p.now.chars.now) p.now.spans.now }
     requires nulling { AreFirst p.now.w.now (length p.now.w.now.rules) p.now.nulling.now }
-    requires step { EachCanTell p.now.w.now (length p.now.spans.now) (states tellers.old.items shows held) (step_of step.now) }
-    ensures ok { OnOk result (states tellers.new.items shows held ≡ advanced (λ show values. told show p.now.w.now (meaning_of p.now.meaning.now) (tokens_of p.now.chars.now p.now.spans.now) values (step_of step.now)) (states tellers.old.items shows held)) }
+    requires step { EachCanTell p.now.w.now (length p.now.spans.now)
+        (states tellers.old.items shows held) (step_of step.now) }
+    ensures ok { OnOk result (states tellers.new.items shows held ≡ advanced
+        (λ show values. told show p.now.w.now (meaning_of p.now.meaning.now)
+        (tokens_of p.now.chars.now p.now.spans.now) values (step_of step.now))
+        (states tellers.old.items shows held)) }
 {
     for teller in tellers.iter_mut() {
         tell(p, shown, step, teller)?;
@@ -281,8 +302,12 @@ fn tell_steps(
     requires meaning { IsMeaningOf p.now.w.now (meaning_of p.now.meaning.now) }
     requires spans { AreSpans (length p.now.chars.now) p.now.spans.now }
     requires nulling { AreFirst p.now.w.now (length p.now.w.now.rules) p.now.nulling.now }
-    requires steps { EachCanTellAll p.now.w.now (length p.now.spans.now) (states tellers.old.items shows held) (map step_of list.now) }
-    ensures ok { OnOk result (states tellers.new.items shows held ≡ advanced (λ show values. told_all show p.now.w.now (meaning_of p.now.meaning.now) (tokens_of p.now.chars.now p.now.spans.now) values (map step_of list.now)) (states tellers.old.items shows held)) }
+    requires steps { EachCanTellAll p.now.w.now (length p.now.spans.now)
+        (states tellers.old.items shows held) (map step_of list.now) }
+    ensures ok { OnOk result (states tellers.new.items shows held ≡ advanced
+        (λ show values. told_all show p.now.w.now (meaning_of p.now.meaning.now)
+        (tokens_of p.now.chars.now p.now.spans.now) values (map step_of list.now))
+        (states tellers.old.items shows held)) }
 {
     for step in list {
         tell_all(p, shown, step, tellers)?;
@@ -310,9 +335,15 @@ impl<'p> Model for Player<'p> {
 
     ghost Value = { Score };
 
-    ghost view = { λ p. record { grammar = p.w.now; meaning = meaning_of p.meaning.now; chars = p.chars.now; spans = p.spans.now } };
+    ghost view = { λ p. record {
+      grammar = p.w.now;
+      meaning = meaning_of p.meaning.now;
+      chars = p.chars.now;
+      spans = p.spans.now;
+    } };
 
-    ghost invariant = { λ p. IsReady p.w.now (meaning_of p.meaning.now) p.chars.now p.spans.now p.nulling.items };
+    ghost invariant = { λ p. IsReady p.w.now (meaning_of p.meaning.now) p.chars.now p.spans.now
+        p.nulling.items };
 }
 
 impl<'p> Player<'p> {
@@ -326,7 +357,13 @@ impl<'p> Player<'p> {
     ) -> Result<Player<'p>, NoMemory>
         requires meaning { IsMeaningOf w.now (meaning_of meaning.now) }
         requires spans { AreSpans (length chars.now) spans.now }
-        ensures { IfOk result (λ player. player ≡ record { grammar = w.now; meaning = meaning_of meaning.now; chars = chars.now; spans = spans.now }) }
+        ensures { IfOk result (λ player. player ≡
+            record {
+              grammar = w.now;
+              meaning = meaning_of meaning.now;
+              chars = chars.now;
+              spans = spans.now;
+            }) }
     {
         let nulling = nulling_rules(alloc, w)?;
         Ok(Player {
@@ -347,7 +384,11 @@ impl<'p> Player<'p> {
         tellers: &mut Vec<Box<dyn Teller>>,
     ) -> Result<(), NoMemory>
         requires { AreSteps self.old.grammar (length self.old.spans) (map step_of list.now) }
-        ensures ok { (t : Tree) → map step_of list.now ≡ steps_of t → OnOk result (states tellers.new.items shows held ≡ advanced (λ show values. values ++ value_of show self.old.grammar self.old.meaning (tokens_of self.old.chars self.old.spans) t ∷ []) (states tellers.old.items shows held)) }
+        ensures ok { (t : Tree) → map step_of list.now ≡ steps_of t →
+            OnOk result (states tellers.new.items shows held ≡ advanced
+            (λ show values. values ++ value_of show self.old.grammar self.old.meaning
+            (tokens_of self.old.chars self.old.spans) t ∷ [])
+            (states tellers.old.items shows held)) }
         ensures err { OnErr result (tellers.new.items ≡ []) }
         ensures score { self.new ≡ self.old }
     {
@@ -365,7 +406,10 @@ impl<'p> Player<'p> {
         tellers: &mut Vec<Box<dyn Teller>>,
     ) -> Result<(), NoMemory>
         requires { AreSteps self.old.grammar (length self.old.spans) (map step_of list.now) }
-        ensures ok { OnOk result (states tellers.new.items shows held ≡ advanced (λ show values. told_all show self.old.grammar self.old.meaning (tokens_of self.old.chars self.old.spans) values (map step_of list.now)) (states tellers.old.items shows held)) }
+        ensures ok { OnOk result (states tellers.new.items shows held ≡ advanced
+            (λ show values. told_all show self.old.grammar self.old.meaning
+            (tokens_of self.old.chars self.old.spans) values (map step_of list.now))
+            (states tellers.old.items shows held)) }
         ensures score { self.new ≡ self.old }
     {
         let p = Sheet {
@@ -393,7 +437,10 @@ pub fn play(
     requires list { AreSteps w.now (length spans.now) (map step_of list.now) }
     requires meaning { IsMeaningOf w.now (meaning_of meaning.now) }
     requires spans { AreSpans (length chars.now) spans.now }
-    ensures ok { (t : Tree) → map step_of list.now ≡ steps_of t → OnOk result (states tellers.new.items shows held ≡ advanced (λ show values. values ++ value_of show w.now (meaning_of meaning.now) (tokens_of chars.now spans.now) t ∷ []) (states tellers.old.items shows held)) }
+    ensures ok { (t : Tree) → map step_of list.now ≡ steps_of t →
+        OnOk result (states tellers.new.items shows held ≡ advanced
+        (λ show values. values ++ value_of show w.now (meaning_of meaning.now)
+        (tokens_of chars.now spans.now) t ∷ []) (states tellers.old.items shows held)) }
     ensures err { OnErr result (tellers.new.items ≡ []) }
 {
     let Ok(mut player) = Player::new(alloc, meaning, w, spans, chars) else {

@@ -17,7 +17,8 @@ pub fn newest(ids: &[ValueId], count: usize) -> &[ValueId]
 /// Replaces the newest `count` ids by one.
 pub fn replace(ids: &mut Vec<ValueId>, count: usize, id: ValueId) -> Result<(), NoMemory>
     requires { count ≤ length ids.old.items }
-    ensures ok { OnOk result (ids.new.items ≡ take (length ids.old.items - count) ids.old.items ++ id ∷ []) }
+    ensures ok { OnOk result (ids.new.items ≡
+        take (length ids.old.items - count) ids.old.items ++ id ∷ []) }
     ensures err { OnErr result (ids.new.items ≡ ids.old.items) }
 {
     let from = ids.len() - count;
@@ -30,7 +31,8 @@ pub fn replace(ids: &mut Vec<ValueId>, count: usize, id: ValueId) -> Result<(), 
 /// Appends a value's text and the end of its line.
 pub fn append_line(pool: &Pool, id: ValueId, out: &mut Vec<u8>) -> Result<(), NoMemory>
     requires { id < length pool.now }
-    ensures ok { OnOk result (out.new.items ≡ out.old.items ++ (text_of (value_at pool.now id) ++ 10 ∷ [])) }
+    ensures ok { OnOk result (out.new.items ≡
+        out.old.items ++ (text_of (value_at pool.now id) ++ 10 ∷ [])) }
     ensures err { OnErr result (out.new.items ≡ out.old.items) }
 {
     let before = out.len();

@@ -31,7 +31,8 @@ pub trait Teller: Drop {
         g1start: u32,
         action: Option<&Action>,
     ) -> Result<(), NoMemory>
-        ensures ok { OnOk result (held self.new ≡ held self.old ++ token_value (shows self.old) name.now text.now start length g1start (action_in action.entry) ∷ []) }
+        ensures ok { OnOk result (held self.new ≡ held self.old ++ token_value
+            (shows self.old) name.now text.now start length g1start (action_in action.entry) ∷ []) }
         ensures err { OnErr result (held self.new ≡ held self.old) }
         ensures kind { shows self.new ≡ shows self.old };
 
@@ -43,7 +44,8 @@ pub trait Teller: Drop {
         g1start: u32,
         action: Option<&Action>,
     ) -> Result<(), NoMemory>
-        ensures ok { OnOk result (held self.new ≡ held self.old ++ nulling_value (shows self.old) name.now start g1start (action_in action.entry) ∷ []) }
+        ensures ok { OnOk result (held self.new ≡ held self.old ++ nulling_value
+            (shows self.old) name.now start g1start (action_in action.entry) ∷ []) }
         ensures err { OnErr result (held self.new ≡ held self.old) }
         ensures kind { shows self.new ≡ shows self.old };
 
@@ -62,7 +64,9 @@ pub trait Teller: Drop {
     ) -> Result<(), NoMemory>
         requires held { HoldsAtLeast children (held self.old) }
         requires shown { IsOneEach children shown.now }
-        ensures ok { OnOk result (held self.new ≡ replace_newest children (rule_value (shows self.old) rule name.now shown.now start length g1start g1length (action_of action.now)) (held self.old)) }
+        ensures ok { OnOk result (held self.new ≡
+            replace_newest children (rule_value (shows self.old) rule name.now shown.now start
+            length g1start g1length (action_of action.now)) (held self.old)) }
         ensures err { OnErr result (held self.new ≡ held self.old) }
         ensures kind { shows self.new ≡ shows self.old };
 

@@ -55,7 +55,8 @@ impl TreeTeller {
 
 /// A leaf's list.
 fn put_leaf(pool: &mut Pool, name: &str, text: &str) -> Result<ValueId, NoMemory>
-    ensures ok { IfOk result (λ id. StandsFor pool.new id (list_of (Text name.now ∷ Text text.now ∷ []))) }
+    ensures ok { IfOk result (λ id. StandsFor pool.new id
+        (list_of (Text name.now ∷ Text text.now ∷ []))) }
     ensures grown { IsGrown pool.old pool.new }
 {
     let name = pool.text(name)?;
@@ -81,7 +82,8 @@ fn put_node(
     parts: &mut Vec<ValueId>,
 ) -> Result<ValueId, NoMemory>
     requires { AreIds pool.old children.now }
-    ensures ok { IfOk result (λ id. StandsFor pool.new id (list_of (Text name.now ∷ Number rule ∷ values_at pool.old children.now))) }
+    ensures ok { IfOk result (λ id. StandsFor pool.new id
+        (list_of (Text name.now ∷ Number rule ∷ values_at pool.old children.now))) }
     ensures grown { IsGrown pool.old pool.new }
 {
     parts.clear();
