@@ -2,3 +2,5 @@ pub mod Lists
 pub mod Hidden
 pub mod Parts
 pub mod Groups
+pub mod Needed
+pub mod Counts
