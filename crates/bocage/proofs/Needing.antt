@@ -8,7 +8,7 @@ use Rattle.recognizer_model.specs.declared.Item.{Item}
 use Rattle.recognizer_model.specs.declared.NodeKey.{NodeKey}
 use Rattle.recognizer_model.specs.Flat.{lhs_of, rhs_of, IsNullable}
 use Rattle.recognizer_model.specs.FlatDerives.{Derives, Token, Null, Rule}
-use Rattle.recognizer_model.specs.Items.{InSet, IsWhole, advanced}
+use Rattle.recognizer_model.specs.Items.{InSet, IsWhole, after, advanced}
 use Rattle.recognizer_model.specs.Leo.{IsLeo, IsNotLeo, LeadsTo}
 use Rattle.recognizer_model.specs.Chosen.{allowed_by}
 use Rattle.recognizer_model.specs.Nodes.{IsMet, Whole, Before, Last}
@@ -17,10 +17,12 @@ use Rattle.recognizer_model.proofs.Leaving.{leaves_some}
 use Rattle.recognizer_model.specs.Below.{node_of}
 use Rattle.recognizer_model.proofs.Below.{above_used}
 use Rattle.earley_sets.specs.Recognizer.{Recognizer, IsRecognizer, earleme_of, set_at, edges_of, top_of}
+use Rattle.earley_sets.specs.Below.{LeadsUp}
 use Rattle.earley_sets.proofs.Recognizing.{only}
 use Rattle.forest_parts.specs.declared.parts.Part.{Part}
 use Rattle.forest_parts.specs.Parts.{IsPartAt, IsPartBy, IsWholeOf}
-use Rattle.forest_parts.specs.Needed.{MayGoOn, IsAwaited, MayBeUsed, AreBelow}
+use Rattle.forest_parts.specs.Unasked.{AreUnasked}
+use Rattle.forest_parts.specs.Needed.{AreBelowAsked}
 use Rattle.forest_parts.proofs.Sets.{at_top, goes, waits_exact}
 use Rattle.forest_parts.proofs.Listed.{leo_known, kept_or_hidden, stays}
 use Rattle.bocage.specs.declared.rows.AlternativeRow.{AlternativeRow}
@@ -30,7 +32,7 @@ use Rattle.bocage.specs.Walk.{IsRead, IsNext, Knows, node_after}
 use Rattle.bocage.specs.Chains.{EndsAt}
 use Rattle.bocage.specs.Ends.{IsGoing}
 use Rattle.bocage.specs.Needed.{IsItemUsed, AreNeeded, IsNeeded}
-use Rattle.bocage.proofs.Splits.{waits_in, met_stands, met_within, used_met}
+use Rattle.bocage.proofs.Splits.{waits_in, met_stands, met_within, derives_forward, used_met}
 use Rattle.bocage.proofs.Asking.{asked}
 use Rattle.bocage.proofs.Expanding.{reached}
 
@@ -84,30 +86,70 @@ module _ (w : Grammar) (ranking : Ranking) (r : Recognizer) (read : IsRead w r) 
   null_of (Null n) le = n
   null_of (Rule is left lt s) le = absurd (omega arith)
 
-  -- a node that ends here was met, or its item is whole or stands before what may span nothing
-  goes_on : {rule d p q : ℕ} → IsMet r.flat (edges_of r) (allowed_by w ranking r.flat (edges_of r)) (top_of r) (earleme_of r) rule d p q → 0 < d → q ≡ end →
-      MayGoOn r f.keys.keys end (record { rule = rule; dot = d; origin = p })
-  goes_on (Whole lt s) some same = inr (inl refl)
-  goes_on (Last met s e is lt s' best) some same = inr (inl refl)
-  goes_on (Before {r = rule} {d = d} {p = p} {m = m} {q = q} {x = x} {cs = cs} {t = t} met s e tr) some same = elim (cases_lt m q) [
-    | inl lt ↦ inl (subst (λ z. Contains f.keys.keys (record { rule = rule; dot = d; origin = p; end = z })) same
-        (asked w ranking r read (suc end) f.keys.keys f.wholes.items table (λ n k at le. going.visited n k at (omega arith)) (λ k lt' e'. subst (λ z. Contains f.keys.keys z) (sym e') (going.top lt')) met (omega arith) s e tr some))
-    | inr ge ↦ inr (inr (x, e, null_of tr (omega arith)))
-  ]
+  module _ (le : end ≤ earleme_of r) (items : List Item) (un : AreUnasked r f.keys.keys end items) where
+    -- neither the item of a used node that ends here is one without a node, nor is the topmost one that it leads up to
+    record IsFree (item : Item) : Type 0 where
+      free : ¬ Contains items item
+      above : IsWhole r.flat item → (t : Item) → LeadsUp r end item t → ¬ Contains items t
 
-  is_awaited : {rule d p q : ℕ} → IsMet r.flat (edges_of r) (allowed_by w ranking r.flat (edges_of r)) (top_of r) (earleme_of r) rule d p q → d ≡ length (rhs_of r.flat rule) → q ≡ end →
-      Contains f.keys.keys (record { rule = rule; dot = d; origin = p; end = end }) ⊎ IsAwaited r f.keys.keys end (record { rule = rule; dot = d; origin = p })
-  is_awaited (Whole lt s) full same = inl (subst (λ z. Contains f.keys.keys (record { rule = top_of r; dot = length (rhs_of r.flat (top_of r)); origin = 0; end = z })) same (going.top lt))
-  is_awaited (Before {r = rule} {d = d} {x = x} met s e tr) full same = absurd (past_end (rhs_of r.flat rule) d x full e)
-  is_awaited (Last {r = rule} {r' = rule'} {d = d} {p = p} {m = m} {q = q} {cs = cs} met s e is lt s' best) full same =
-      let (is_rule, stands) = met_stands r read.is met in
-      let (a, b, c) = met_within r read.is met in
-      inr (
-        record { rule = rule; dot = d; origin = p },
-        (waits_in r read.is m (record { rule = rule; dot = d; origin = p }) (lhs_of r.flat rule') (omega arith) e).1 (record { is_rule = is_rule; may_stand = stands; children = cs; spans = s }),
-        e,
-        goes_on met (omega arith) same,
-      )
+    -- where a whole item leads, its only parent does
+    led : {m x : ℕ} {t : Item} (parent : Item) → LeadsTo r.flat (edges_of r) (top_of r) m x t → m < end → InSet r.flat (edges_of r) (top_of r) m parent → after r.flat parent ≡ Some x → IsFree (advanced parent) → ¬ Contains items t
+    led {m = m} parent (LeadsTo.Last {item = leo} l none) lt inside e is c =
+        is.free (subst (λ z. Contains items (advanced z)) (sym (l.only parent inside e)) c)
+    led {m = m} {t = t} parent (LeadsTo.On {item = leo} l more) lt inside e is c =
+        let same = l.only parent inside e in
+        let low = origin_below r.flat (edges_of r) (top_of r) (at_top r read.is) (goes r read.is) inside in
+        is.above (subst (λ z. IsWhole r.flat (advanced z)) (sym same) l.last) t (omega arith, subst (λ (z : Item). LeadsTo r.flat (edges_of r) (top_of r) z.origin (lhs_of r.flat z.rule) t) (sym same) more) c
+
+    is_free : {rule d p q : ℕ} → IsMet r.flat (edges_of r) (allowed_by w ranking r.flat (edges_of r)) (top_of r) (earleme_of r) rule d p q → 0 < d → q ≡ end → IsFree (record { rule = rule; dot = d; origin = p })
+    is_free (Whole lt s) some same = record {
+      free = λ c. un.unmet (record { rule = top_of r; dot = length (rhs_of r.flat (top_of r)); origin = 0 }) c (subst (λ z. Contains f.keys.keys (record { rule = top_of r; dot = length (rhs_of r.flat (top_of r)); origin = 0; end = z })) same (going.top lt));
+      above = λ full t up. absurd (outermost up.1);
+    }
+      where
+        outermost : {i : ℕ} {t : Item} → LeadsTo r.flat (edges_of r) (top_of r) i (lhs_of r.flat (top_of r)) t → ⊥
+        outermost (LeadsTo.Last {item = leo} l none) = (at_top r read.is).outermost leo.rule leo.dot l.waits
+        outermost (LeadsTo.On {item = leo} l more) = (at_top r read.is).outermost leo.rule leo.dot l.waits
+    is_free (Before {r = rule} {d = d} {p = p} {m = m} {q = q} {x = x} {cs = cs} {t = tr'} met s e tr) some same = record {
+      free = λ c. elim (cases_lt m q) [
+        | inl lt ↦ un.unmet (record { rule = rule; dot = d; origin = p }) c (subst (λ z. Contains f.keys.keys (record { rule = rule; dot = d; origin = p; end = z })) same
+            (asked w ranking r read (suc end) f.keys.keys f.wholes.items table (λ n k at le. going.visited n k at (omega arith)) (λ k lt' e'. subst (λ z. Contains f.keys.keys z) (sym e') (going.top lt')) met (omega arith) s e tr some))
+        | inr ge ↦
+            let ahead = derives_forward r read.is tr in
+            (is_free met (omega arith) (omega arith)).free (un.closed (record { rule = rule; dot = d; origin = p }) (record { rule = rule; dot = suc d; origin = p }) c (inl ((x, e, null_of tr (omega arith)), refl)))
+      ];
+      above = λ full t up. absurd (past_end (rhs_of r.flat rule) d x full e);
+    }
+    is_free (Last {r = rule} {r' = rule'} {d = d} {p = p} {m = m} {q = q} {cs = cs} {cs' = cs'} met s e is lt s' best) some same =
+        let ih : IsFree (record { rule = rule; dot = suc d; origin = p }) = is_free met (omega arith) same in
+        record {
+          free = λ c. elim (leo_known r read.is end le m (lhs_of r.flat rule') (omega arith)) [
+            | inl (leo, l) ↦
+                let node : NodeKey = record { rule = rule'; dot = length (rhs_of r.flat rule'); origin = m; end = q } in
+                let (t, leads, used) = above_used r.flat (edges_of r) (allowed_by w ranking r.flat (edges_of r)) (top_of r) (at_top r read.is) (goes r read.is) (earleme_of r)
+                (only r.flat r.edges read.is.flat read.is.forward) read.is.flat.no_rules
+                (leaves_some r.flat w read.is.flat r.edges (λ s p q h. read.is.forward (record { symbol = s; from = p; to = q }) h) ranking)
+                node (leo_known r read.is q (omega arith)) ((used_met w ranking r read node).1 (some, Last met s e is lt s' best)) refl leo l in
+                led parent leads (omega arith) inside e ih (un.closed whole t c (inr (refl, inl (omega arith, leads))))
+            | inr none ↦ ih.free (un.closed whole (advanced parent) c (inr (refl, inr (λ other (before, (leo, l, q)). none leo l, (parent, there, e, refl)))))
+          ];
+          above = λ full t (before, leads). led parent leads (omega arith) inside e ih;
+        }
+      where
+        parent : Item
+        parent = record { rule = rule; dot = d; origin = p }
+
+        whole : Item
+        whole = record { rule = rule'; dot = length (rhs_of r.flat rule'); origin = m }
+
+        there : Contains (set_at r m) parent
+        there =
+            let (is_rule, stands) = met_stands r read.is met in
+            let (a, b, c) = met_within r read.is met in
+            (waits_in r read.is m parent (lhs_of r.flat rule') (omega arith) e).1 (record { is_rule = is_rule; may_stand = stands; children = cs; spans = s })
+
+        inside : InSet r.flat (edges_of r) (top_of r) m parent
+        inside = (let (a, b, c) = met_within r read.is met in (waits_exact r read.is m parent (lhs_of r.flat rule') (omega arith) e).0 there)
 
   module _ (nodes : List ℕ) (listed : (n : ℕ) → Contains nodes n ↔ ((n < first) × EndsAt f.keys.keys end n)) (least : ℕ) (low : (n : ℕ) (key : NodeKey) → Contains nodes n → slice_get f.keys.keys n ≡ Some key → least ≤ key.origin)
       (whole : end ≡ earleme_of r → least ≡ 0) where
@@ -117,14 +159,11 @@ module _ (w : Grammar) (ranking : Ranking) (r : Recognizer) (read : IsRead w r) 
       | inr ge ↦ (let (a, b, c) = met_within r read.is ((used_met w ranking r read (node_of t end)).0 used).1 in let z = whole (omega arith) in omega arith)
     ]
 
-    pub may_be_used : (t : Item) → IsWhole r.flat t → IsItemUsed w ranking r end t → MayBeUsed r f.keys.keys end least t
-    may_be_used t full used = (late t used, is_awaited ((used_met w ranking r read (node_of t end)).0 used).1 full refl)
-
     -- so all that is needed is listed
-    pub needed_are : (items : List Item) → AreBelow r f.keys.keys end least items → AreNeeded w ranking r end least items
-    needed_are items below = record {
+    pub needed_are : end ≤ earleme_of r → (items : List Item) → AreBelowAsked r f.keys.keys end least items → AreNeeded w ranking r end least items
+    needed_are le items (unasked, un, below) = record {
       hidden = below.hidden;
-      all = λ t item stands used. below.all t item stands (may_be_used t (leads_whole r stands.1) used);
+      all = λ t item stands used. below.all t item stands (late t used, (is_free le unasked un ((used_met w ranking r read (node_of t end)).0 used).1 ((used_met w ranking r read (node_of t end)).0 used).0 refl).free);
     }
 
 -- THE PARTS THAT ARE LISTED BY IT

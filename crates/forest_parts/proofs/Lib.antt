@@ -10,3 +10,4 @@ pub mod NodeKeys
 pub mod Counting
 pub mod Lowest
 pub mod Tops
+pub mod Taking

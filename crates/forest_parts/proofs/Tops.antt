@@ -2,7 +2,6 @@
 use Rattle.std.proofs.Common.{◌≡◌, ◌↔◌, ℕ, ◌+◌, ◌≤◌, List, length, Contains, refl, sym, subst, arith, Vec, Global, Result, Ok, Err}
 use Rattle.std.specs.Prelude.{IfOk, OnErr}
 use Rattle.recognizer_model.specs.declared.Item.{Item}
-use Rattle.recognizer_model.specs.declared.NodeKey.{NodeKey}
 use Rattle.recognizer_model.specs.Flat.{IsRule}
 use Rattle.recognizer_model.specs.Items.{advanced}
 use Rattle.recognizer_model.specs.Leo.{LeadsTo, IsHidden}
@@ -18,7 +17,7 @@ use Rattle.forest_parts.proofs.Listed.{kept_exact, bottom_of}
 use Rattle.forest_parts.proofs.Counting.{none_at_least}
 
 -- below topmost items that may be those of nodes all is listed
-module _ (r : Recognizer) (is : IsRecognizer r) (keys : List NodeKey) (end least : ℕ) (le : end ≤ earleme_of r) (tops bottoms : List Item) (are : AreTops r keys end least tops bottoms) where
+module _ (r : Recognizer) (is : IsRecognizer r) (unasked : List Item) (end least : ℕ) (le : end ≤ earleme_of r) (tops bottoms : List Item) (are : AreTops r unasked end least tops bottoms) where
   pub top_bottom : (t : Item) → Contains tops t → (item : Item) × IsBottom r end t item
   top_bottom t h = let (item, (c, full), ((lt, leads), may)) = (are.tops t).0 h in (item, (c, full, lt, leads))
 
@@ -38,7 +37,7 @@ module _ (r : Recognizer) (is : IsRecognizer r) (keys : List NodeKey) (end least
   pub below_hidden : (items : List Item) → IsListOf (StandsBelowOf r end tops) items → (item : Item) → Contains items item → IsHidden r.flat (edges_of r) (top_of r) end item × (least ≤ item.origin)
   below_hidden items lists item h = let (t, th, stands) = (lists.exact item).0 h in (stands.0, stands_late item t th stands)
 
-  pub below_are : (items : List Item) → IsListOf (StandsBelowOf r end tops) items → AreBelow r keys end least items
+  pub below_are : (items : List Item) → IsListOf (StandsBelowOf r end tops) items → AreBelow r unasked end least items
   below_are items lists = record {
     hidden = below_hidden items lists;
     all = λ t item stands may. (

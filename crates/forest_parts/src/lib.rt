@@ -7,6 +7,7 @@ mod groups;
 mod keys;
 mod needed;
 mod parts;
+mod unasked;
 
 pub use counts::count_expanded;
 pub use gather::{list_hidden, list_parts};

@@ -129,7 +129,7 @@ visit_from-requires-clause-hidden g c =
       | then-whole w ↦ let z = w.lowest-is in omega arith
       | else-whole w ↦ absurd (w.if-whole.false (e ∙ sym c.place.ensures.place))
     ]))
-    c.in_ok-hidden.hidden.items c.in_ok-hidden.ensures.below)
+    c.requires.end c.in_ok-hidden.hidden.items c.in_ok-hidden.ensures.below)
 
 pub visit_from-requires-clause-read : goal.visit_from-requires-clause-read
 visit_from-requires-clause-read g c = c.requires.read

@@ -6,6 +6,6 @@ use Rattle.forest_parts.proofs.needed.list_tops.Given as goal
 
 abbrev pub invariant-loop-k : goal.invariant-loop-k
 invariant-loop-k l = record {
-  tops : Gains (ByFirst (λ (item x : Item). LeadsOver l.recce l.keys.keys l.end l.least item x) l.set l.k) [] l.tops.items;
-  bottoms : Gains (ByFirst (λ (item x : Item). (x ≡ item) × ((top : Item) × LeadsOver l.recce l.keys.keys l.end l.least item top)) l.set l.k) [] l.bottoms.items;
+  tops : Gains (ByFirst (λ (item x : Item). LeadsOver l.recce l.unasked.keys l.end l.least item x) l.set l.k) [] l.tops.items;
+  bottoms : Gains (ByFirst (λ (item x : Item). (x ≡ item) × ((top : Item) × LeadsOver l.recce l.unasked.keys l.end l.least item top)) l.set l.k) [] l.bottoms.items;
 }
