@@ -1,4 +1,4 @@
-use Rattle.std.proofs.Common.{rules, ◌≡◌, ◌∙◌, ◌++◌, List, length, take, sym, ap, subst, append_assoc}
+use Rattle.std.proofs.Common.{rules, ◌≡◌, ◌∙◌, ◌++◌, List, take, sym, ap, subst, append_assoc}
 use Rattle.finite_sets.proofs.Lists.{got_item}
 use Rattle.recognizer_model.specs.declared.Item.{Item}
 use Rattle.leo_items.proofs.Adding.{adds_key}
