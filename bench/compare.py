@@ -3,8 +3,8 @@
 
     bench/compare.py [--binary crates/slif/out/slif] [--rounds 3] [--only WORD]
 
-JSON, SQL, Lua, CSV, logs, right and left recursion, one long string, languages of many keywords and of many levels, all values of an ambiguous
-sum, expressions by an operator table, nested brackets. All read the same files in turn. The least times and the greatest memory are printed, and the ratio of the processor times: less than 1 is faster than
+JSON, SQL, Lua, CSV, logs, right and left recursion, alone and over the same tokens, one long string, languages of many keywords and of many levels, all values of an
+ambiguous sum, expressions by an operator table, nested brackets. All read the same files in turn. The least times and the greatest memory are printed, and the ratio of the processor times: less than 1 is faster than
 Marpa::R2. The two have to write the same lines, in any order, and as many as there are derivations; bison's parser is a recognizer here. With `--only` those cases are run whose
 name has the word. Debian has Marpa::R2 as libmarpa-r2-perl.
 """
@@ -17,6 +17,7 @@ FIRST = ":default ::= action => ::first\n"
 RIGHT = FIRST + "L ::= x L | x\nx ~ 'x'\n"
 LEFT = FIRST + "L ::= L x | x\nx ~ 'x'\n"
 BOTH = FIRST + "S ::= A 'y' | L 'z'\nA ::= A x | x\nL ::= x L | x\nx ~ 'x'\n"
+WAITED = FIRST + "S ::= A 'y' | M\nM ::= L | L 'z'\nA ::= A x | x\nL ::= x L | x\nx ~ 'x'\n"
 STATEMENTS = FIRST + """statement ::= exprs ';' | names '=' exprs ';'
 exprs ::= expr+ separator => comma
 names ::= name comma names | name
@@ -62,6 +63,7 @@ def cases():
     for length in (50_000, 100_000):
         yield f"left or right {length:,}, left", BOTH, "x" * length + "y", 1
         yield f"left or right {length:,}, right", BOTH, "x" * length + "z", 1
+        yield f"left or waited for {length:,}", WAITED, "x" * length + "y", 1
         yield f"names of a statement {length:,}", STATEMENTS, ",".join("n" * length) + ";", 1
     yield "left recursion 1,000,000", LEFT, "x" * 1_000_000, 1
     yield "sum of 11 operands", SUM, "+".join("12345678901"), 16_796

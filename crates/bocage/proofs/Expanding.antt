@@ -27,7 +27,7 @@ use Rattle.bocage.specs.Ends.{IsGoing}
 use Rattle.bocage.specs.Expanded.{IsExpandedIn, IsExpandedAt, IsExpandedFrom}
 use Rattle.bocage.proofs.Splits.{used_met, used_within}
 use Rattle.bocage.proofs.Asking.{IsAsked, asked, least_asked}
-use Rattle.bocage.proofs.Counting.{at_place, none_at_least, none_counted, at_least_of, count_of, at_least_both, count_both, at_least_placed, count_placed}
+use Rattle.forest_parts.proofs.Counting.{at_place, none_at_least, none_counted, at_least_of, count_of, at_least_both, count_both, at_least_placed, count_placed}
 
 module _ (w : Grammar) (ranking : Ranking) (r : Recognizer) (read : IsRead w r) (end first : ℕ) (f : Found) (table : List (List AlternativeRow)) (going : IsGoing w ranking r end first f table) (nodes : List ℕ)
     (listed : (n : ℕ) → Contains nodes n ↔ ((n < first) × EndsAt f.keys.keys end n)) where

@@ -10,10 +10,7 @@ pub mod Moving
 pub mod Visiting
 pub mod Chained
 pub mod Telling
-pub mod Counting
 pub mod Asking
 pub mod Expanding
 pub mod Needing
 pub mod Whole
-pub mod NodeKeys
-pub mod Lowest

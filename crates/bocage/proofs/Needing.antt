@@ -1,42 +1,40 @@
 -- Which hidden items are needed: those below used topmost items. Where a node is used, all parts that may be its causes are needed ones.
-use Rattle.std.proofs.Common.{◌≡◌, ◌⊎◌, inl, inr, ◌↔◌, ℕ, suc, ◌+◌, ◌<◌, ◌≤◌, List, Some, None, length, Contains, slice_get, refl, sym, ◌∙◌, ap, subst, arith, Vec, Global, Result, Ok, Err}
-use Rattle.std.specs.Prelude.{IfOk, OnErr}
+use Rattle.std.proofs.Common.{◌≡◌, ◌⊎◌, inl, inr, ◌↔◌, ℕ, suc, ◌+◌, ◌<◌, ◌≤◌, List, Some, None, length, Contains, slice_get, refl, sym, ◌∙◌, ap, subst, arith}
 use Rattle.std.proofs.lemmas.Bool.{cases_lt}
 use Rattle.grammar_model.specs.Trees.{Tree}
 use Rattle.grammar_model.specs.declared.Ranking.{Ranking}
 use Rattle.grammar_model.specs.Grammar.{Grammar}
 use Rattle.recognizer_model.specs.declared.Item.{Item}
 use Rattle.recognizer_model.specs.declared.NodeKey.{NodeKey}
-use Rattle.recognizer_model.specs.Flat.{IsRule, lhs_of, rhs_of, IsNullable}
+use Rattle.recognizer_model.specs.Flat.{lhs_of, rhs_of, IsNullable}
 use Rattle.recognizer_model.specs.FlatDerives.{Derives, Token, Null, Rule}
-use Rattle.recognizer_model.specs.Items.{InSet, IsWhole, advanced}
-use Rattle.recognizer_model.specs.Leo.{IsLeo, IsNotLeo, LeadsTo, IsHidden}
-use Rattle.recognizer_model.specs.Counts.{IsListOf}
+use Rattle.recognizer_model.specs.Items.{InSet, IsWhole, after, advanced}
+use Rattle.recognizer_model.specs.Leo.{IsLeo, IsNotLeo, LeadsTo}
 use Rattle.recognizer_model.specs.Chosen.{allowed_by}
 use Rattle.recognizer_model.specs.Nodes.{IsMet, Whole, Before, Last}
 use Rattle.recognizer_model.proofs.Leo.{past_end, origin_below}
 use Rattle.recognizer_model.proofs.Leaving.{leaves_some}
-use Rattle.recognizer_model.proofs.Once.{leads_one}
-use Rattle.recognizer_model.proofs.Below.{above_used, leads_back}
+use Rattle.recognizer_model.specs.Below.{node_of}
+use Rattle.recognizer_model.proofs.Below.{above_used}
 use Rattle.earley_sets.specs.Recognizer.{Recognizer, IsRecognizer, earleme_of, set_at, edges_of, top_of}
-use Rattle.earley_sets.specs.Below.{StepsTo, LeadsUp, IsBottom, IsBottomOf, StandsBelow, StandsBelowOf}
+use Rattle.earley_sets.specs.Below.{LeadsUp}
 use Rattle.earley_sets.proofs.Recognizing.{only}
 use Rattle.forest_parts.specs.declared.parts.Part.{Part}
 use Rattle.forest_parts.specs.Parts.{IsPartAt, IsPartBy, IsWholeOf}
-use Rattle.forest_parts.specs.Hidden.{IsHiddenFrom, RisesWithin}
-use Rattle.forest_parts.proofs.Sets.{at_top, goes, waits_exact, found_item}
-use Rattle.forest_parts.proofs.Listed.{leo_known, kept_exact, kept_or_hidden, stays, bottom_of}
+use Rattle.forest_parts.specs.Unasked.{AreUnasked}
+use Rattle.forest_parts.specs.Needed.{AreBelowAsked}
+use Rattle.forest_parts.proofs.Sets.{at_top, goes, waits_exact}
+use Rattle.forest_parts.proofs.Listed.{leo_known, kept_or_hidden, stays}
 use Rattle.bocage.specs.declared.rows.AlternativeRow.{AlternativeRow}
 use Rattle.bocage.specs.declared.walk.Known.{Known}
 use Rattle.bocage.specs.declared.walk.Found.{Found}
 use Rattle.bocage.specs.Walk.{IsRead, IsNext, Knows, node_after}
 use Rattle.bocage.specs.Chains.{EndsAt}
 use Rattle.bocage.specs.Ends.{IsGoing}
-use Rattle.bocage.specs.Needed.{node_at_end, IsItemUsed, MayGoOn, IsAwaited, MayBeUsed, AreTops, AreBelow, AreNeeded, IsNeeded}
-use Rattle.bocage.proofs.Splits.{waits_in, met_stands, met_within, used_met}
+use Rattle.bocage.specs.Needed.{IsItemUsed, AreNeeded, IsNeeded}
+use Rattle.bocage.proofs.Splits.{waits_in, met_stands, met_within, derives_forward, used_met}
 use Rattle.bocage.proofs.Asking.{asked}
 use Rattle.bocage.proofs.Expanding.{reached}
-use Rattle.bocage.proofs.Counting.{none_at_least}
 
 -- THE PARTS OF A USED NODE
 
@@ -80,63 +78,6 @@ leads_whole : (r : Recognizer) {i x : ℕ} {t : Item} → LeadsTo r.flat (edges_
 leads_whole r (LeadsTo.Last leo none) = leo.last
 leads_whole r (LeadsTo.On leo more) = leads_whole r more
 
--- below topmost items that may be those of nodes all is listed
-module _ (r : Recognizer) (is : IsRecognizer r) (keys : List NodeKey) (end least : ℕ) (le : end ≤ earleme_of r) (tops bottoms : List Item) (are : AreTops r keys end least tops bottoms) where
-  pub top_bottom : (t : Item) → Contains tops t → (item : Item) × IsBottom r end t item
-  top_bottom t h = let (item, (c, full), ((lt, leads), may)) = (are.tops t).0 h in (item, (c, full, lt, leads))
-
-  pub bottoms_are : (item : Item) → Contains bottoms item ↔ IsBottomOf r end tops item
-  bottoms_are item = (
-    λ h. (let (other, (c, full), (e, (t, ((lt, leads), may)))) = (are.bottoms item).0 h in
-        (t, (are.tops t).1 (other, (c, full), ((lt, leads), may)), subst (λ z. IsBottom r end t z) (sym e) (c, full, lt, leads))),
-    λ (t, th, (c, full, lt, leads)). (let (other, kept, (up, may)) = (are.tops t).0 th in (are.bottoms item).1 (item, (c, full), (refl, (t, ((lt, leads), may))))),
-  )
-
-  stands_late : (item t : Item) → Contains tops t → StandsBelow r end t item → least ≤ item.origin
-  stands_late item t th (hidden, leads) =
-      let (other, kept, (up, (late, asked))) = (are.tops t).0 th in
-      let low = leads_back r.flat (edges_of r) (λ a b c. ⊥) (top_of r) (at_top r is) (goes r is) 0 leads in
-      omega arith
-
-  pub below_hidden : (items : List Item) → IsListOf (StandsBelowOf r end tops) items → (item : Item) → Contains items item → IsHidden r.flat (edges_of r) (top_of r) end item × (least ≤ item.origin)
-  below_hidden items lists item h = let (t, th, stands) = (lists.exact item).0 h in (stands.0, stands_late item t th stands)
-
-  pub below_are : (items : List Item) → IsListOf (StandsBelowOf r end tops) items → AreBelow r keys end least items
-  below_are items lists = record {
-    hidden = below_hidden items lists;
-    all = λ t item stands may. (
-        let (b, (c, full, lt, leads)) = bottom_of r is end le {j = end} {item = item} {t = t} refl (stands.0).0 (λ c. (stands.0).1 ((kept_exact r is end le item).0 c)) stands.1 in
-        (lists.exact item).1 (t, (are.tops t).1 (b, (c, full), ((lt, leads), may)), stands)
-        );
-  }
-
-  -- so as many are counted as there are, whether there was memory for them or not
-  pub below_counted : {F : Type 0} (old new : ℕ) (o : Result (Vec Item Global) F) → IfOk o (λ items. IsListOf (StandsBelowOf r end tops) items.items) → IfOk o (λ items. new ≡ old + length items.items) → OnErr o (new ≡ old) →
-      RisesWithin (IsHiddenFrom r end least) old new
-  below_counted old new (Ok items) lists more err = (length items.items, (items.items, lists.once, below_hidden items.items lists, refl), more)
-  below_counted old new (Err e) lists more err = (0, none_at_least (IsHiddenFrom r end least), (let same : new ≡ old = err in omega arith))
-
--- THE TOPMOST ITEM OF ONE
-
-module _ (r : Recognizer) (is : IsRecognizer r) (end : ℕ) where
-  -- it is of a rule, and begins before the end
-  pub top_rule : end ≤ earleme_of r → (item top : Item) → LeadsUp r end item top → IsRule r.flat top.rule × (top.origin ≤ earleme_of r)
-  top_rule le item top (lt, leads) = (
-    leads_rule leads,
-    (let low = leads_back r.flat (edges_of r) (λ a b c. ⊥) (top_of r) (at_top r is) (goes r is) 0 leads in omega arith),
-  )
-    where
-      leads_rule : {i x : ℕ} {t : Item} → LeadsTo r.flat (edges_of r) (top_of r) i x t → IsRule r.flat t.rule
-      leads_rule {i = i} (LeadsTo.Last {item = item} leo none) = (found_item r is i item leo.inside).is_rule
-      leads_rule (LeadsTo.On leo more) = leads_rule more
-
-  pub leads_same : (item s t : Item) → LeadsUp r end item s → LeadsUp r end item t → s ≡ t
-  leads_same item s t (lt, a) (lt', b) = leads_one r.flat (edges_of r) (top_of r) (at_top r is) (goes r is) a b
-
-pub leads_none : (r : Recognizer) (end : ℕ) (item t : Item) → LeadsUp r end item t → ((other : Item) → ¬ StepsTo r end item other) → ⊥
-leads_none r end item t (lt, LeadsTo.Last {item = leo} l none) no_step = no_step (advanced leo) (lt, (leo, l, refl))
-leads_none r end item t (lt, LeadsTo.On {item = leo} l more) no_step = no_step (advanced leo) (lt, (leo, l, refl))
-
 -- WHICH TOPMOST ITEMS MAY BE THOSE OF NODES
 
 module _ (w : Grammar) (ranking : Ranking) (r : Recognizer) (read : IsRead w r) (end first : ℕ) (f : Found) (table : List (List AlternativeRow)) (going : IsGoing w ranking r end first f table) where
@@ -145,47 +86,84 @@ module _ (w : Grammar) (ranking : Ranking) (r : Recognizer) (read : IsRead w r) 
   null_of (Null n) le = n
   null_of (Rule is left lt s) le = absurd (omega arith)
 
-  -- a node that ends here was met, or its item is whole or stands before what may span nothing
-  goes_on : {rule d p q : ℕ} → IsMet r.flat (edges_of r) (allowed_by w ranking r.flat (edges_of r)) (top_of r) (earleme_of r) rule d p q → 0 < d → q ≡ end →
-      MayGoOn r f.keys.keys end (record { rule = rule; dot = d; origin = p })
-  goes_on (Whole lt s) some same = inr (inl refl)
-  goes_on (Last met s e is lt s' best) some same = inr (inl refl)
-  goes_on (Before {r = rule} {d = d} {p = p} {m = m} {q = q} {x = x} {cs = cs} {t = t} met s e tr) some same = elim (cases_lt m q) [
-    | inl lt ↦ inl (subst (λ z. Contains f.keys.keys (record { rule = rule; dot = d; origin = p; end = z })) same
-        (asked w ranking r read (suc end) f.keys.keys f.wholes.items table (λ n k at le. going.visited n k at (omega arith)) (λ k lt' e'. subst (λ z. Contains f.keys.keys z) (sym e') (going.top lt')) met (omega arith) s e tr some))
-    | inr ge ↦ inr (inr (x, e, null_of tr (omega arith)))
-  ]
+  module _ (le : end ≤ earleme_of r) (items : List Item) (un : AreUnasked r f.keys.keys end items) where
+    -- neither the item of a used node that ends here is one without a node, nor is the topmost one that it leads up to
+    record IsFree (item : Item) : Type 0 where
+      free : ¬ Contains items item
+      above : IsWhole r.flat item → (t : Item) → LeadsUp r end item t → ¬ Contains items t
 
-  is_awaited : {rule d p q : ℕ} → IsMet r.flat (edges_of r) (allowed_by w ranking r.flat (edges_of r)) (top_of r) (earleme_of r) rule d p q → d ≡ length (rhs_of r.flat rule) → q ≡ end →
-      Contains f.keys.keys (record { rule = rule; dot = d; origin = p; end = end }) ⊎ IsAwaited r f.keys.keys end (record { rule = rule; dot = d; origin = p })
-  is_awaited (Whole lt s) full same = inl (subst (λ z. Contains f.keys.keys (record { rule = top_of r; dot = length (rhs_of r.flat (top_of r)); origin = 0; end = z })) same (going.top lt))
-  is_awaited (Before {r = rule} {d = d} {x = x} met s e tr) full same = absurd (past_end (rhs_of r.flat rule) d x full e)
-  is_awaited (Last {r = rule} {r' = rule'} {d = d} {p = p} {m = m} {q = q} {cs = cs} met s e is lt s' best) full same =
-      let (is_rule, stands) = met_stands r read.is met in
-      let (a, b, c) = met_within r read.is met in
-      inr (
-        record { rule = rule; dot = d; origin = p },
-        (waits_in r read.is m (record { rule = rule; dot = d; origin = p }) (lhs_of r.flat rule') (omega arith) e).1 (record { is_rule = is_rule; may_stand = stands; children = cs; spans = s }),
-        e,
-        goes_on met (omega arith) same,
-      )
+    -- where a whole item leads, its only parent does
+    led : {m x : ℕ} {t : Item} (parent : Item) → LeadsTo r.flat (edges_of r) (top_of r) m x t → m < end → InSet r.flat (edges_of r) (top_of r) m parent → after r.flat parent ≡ Some x → IsFree (advanced parent) → ¬ Contains items t
+    led {m = m} parent (LeadsTo.Last {item = leo} l none) lt inside e is c =
+        is.free (subst (λ z. Contains items (advanced z)) (sym (l.only parent inside e)) c)
+    led {m = m} {t = t} parent (LeadsTo.On {item = leo} l more) lt inside e is c =
+        let same = l.only parent inside e in
+        let low = origin_below r.flat (edges_of r) (top_of r) (at_top r read.is) (goes r read.is) inside in
+        is.above (subst (λ z. IsWhole r.flat (advanced z)) (sym same) l.last) t (omega arith, subst (λ (z : Item). LeadsTo r.flat (edges_of r) (top_of r) z.origin (lhs_of r.flat z.rule) t) (sym same) more) c
+
+    is_free : {rule d p q : ℕ} → IsMet r.flat (edges_of r) (allowed_by w ranking r.flat (edges_of r)) (top_of r) (earleme_of r) rule d p q → 0 < d → q ≡ end → IsFree (record { rule = rule; dot = d; origin = p })
+    is_free (Whole lt s) some same = record {
+      free = λ c. un.unmet (record { rule = top_of r; dot = length (rhs_of r.flat (top_of r)); origin = 0 }) c (subst (λ z. Contains f.keys.keys (record { rule = top_of r; dot = length (rhs_of r.flat (top_of r)); origin = 0; end = z })) same (going.top lt));
+      above = λ full t up. absurd (outermost up.1);
+    }
+      where
+        outermost : {i : ℕ} {t : Item} → LeadsTo r.flat (edges_of r) (top_of r) i (lhs_of r.flat (top_of r)) t → ⊥
+        outermost (LeadsTo.Last {item = leo} l none) = (at_top r read.is).outermost leo.rule leo.dot l.waits
+        outermost (LeadsTo.On {item = leo} l more) = (at_top r read.is).outermost leo.rule leo.dot l.waits
+    is_free (Before {r = rule} {d = d} {p = p} {m = m} {q = q} {x = x} {cs = cs} {t = tr'} met s e tr) some same = record {
+      free = λ c. elim (cases_lt m q) [
+        | inl lt ↦ un.unmet (record { rule = rule; dot = d; origin = p }) c (subst (λ z. Contains f.keys.keys (record { rule = rule; dot = d; origin = p; end = z })) same
+            (asked w ranking r read (suc end) f.keys.keys f.wholes.items table (λ n k at le. going.visited n k at (omega arith)) (λ k lt' e'. subst (λ z. Contains f.keys.keys z) (sym e') (going.top lt')) met (omega arith) s e tr some))
+        | inr ge ↦
+            let ahead = derives_forward r read.is tr in
+            (is_free met (omega arith) (omega arith)).free (un.closed (record { rule = rule; dot = d; origin = p }) (record { rule = rule; dot = suc d; origin = p }) c (inl ((x, e, null_of tr (omega arith)), refl)))
+      ];
+      above = λ full t up. absurd (past_end (rhs_of r.flat rule) d x full e);
+    }
+    is_free (Last {r = rule} {r' = rule'} {d = d} {p = p} {m = m} {q = q} {cs = cs} {cs' = cs'} met s e is lt s' best) some same =
+        let ih : IsFree (record { rule = rule; dot = suc d; origin = p }) = is_free met (omega arith) same in
+        record {
+          free = λ c. elim (leo_known r read.is end le m (lhs_of r.flat rule') (omega arith)) [
+            | inl (leo, l) ↦
+                let node : NodeKey = record { rule = rule'; dot = length (rhs_of r.flat rule'); origin = m; end = q } in
+                let (t, leads, used) = above_used r.flat (edges_of r) (allowed_by w ranking r.flat (edges_of r)) (top_of r) (at_top r read.is) (goes r read.is) (earleme_of r)
+                (only r.flat r.edges read.is.flat read.is.forward) read.is.flat.no_rules
+                (leaves_some r.flat w read.is.flat r.edges (λ s p q h. read.is.forward (record { symbol = s; from = p; to = q }) h) ranking)
+                node (leo_known r read.is q (omega arith)) ((used_met w ranking r read node).1 (some, Last met s e is lt s' best)) refl leo l in
+                led parent leads (omega arith) inside e ih (un.closed whole t c (inr (refl, inl (omega arith, leads))))
+            | inr none ↦ ih.free (un.closed whole (advanced parent) c (inr (refl, inr (λ other (before, (leo, l, q)). none leo l, (parent, there, e, refl)))))
+          ];
+          above = λ full t (before, leads). led parent leads (omega arith) inside e ih;
+        }
+      where
+        parent : Item
+        parent = record { rule = rule; dot = d; origin = p }
+
+        whole : Item
+        whole = record { rule = rule'; dot = length (rhs_of r.flat rule'); origin = m }
+
+        there : Contains (set_at r m) parent
+        there =
+            let (is_rule, stands) = met_stands r read.is met in
+            let (a, b, c) = met_within r read.is met in
+            (waits_in r read.is m parent (lhs_of r.flat rule') (omega arith) e).1 (record { is_rule = is_rule; may_stand = stands; children = cs; spans = s })
+
+        inside : InSet r.flat (edges_of r) (top_of r) m parent
+        inside = (let (a, b, c) = met_within r read.is met in (waits_exact r read.is m parent (lhs_of r.flat rule') (omega arith) e).0 there)
 
   module _ (nodes : List ℕ) (listed : (n : ℕ) → Contains nodes n ↔ ((n < first) × EndsAt f.keys.keys end n)) (least : ℕ) (low : (n : ℕ) (key : NodeKey) → Contains nodes n → slice_get f.keys.keys n ≡ Some key → least ≤ key.origin)
       (whole : end ≡ earleme_of r → least ≡ 0) where
     late : (t : Item) → IsItemUsed w ranking r end t → least ≤ t.origin
     late t used = elim (cases_lt end (earleme_of r)) [
-      | inl lt ↦ (let (n, k, h, at, below) = reached w ranking r read end first f table going nodes listed (λ e. let q : end ≡ earleme_of r = e in absurd (omega arith)) (node_at_end t end) used refl in let l = low n k h at in omega arith)
-      | inr ge ↦ (let (a, b, c) = met_within r read.is ((used_met w ranking r read (node_at_end t end)).0 used).1 in let z = whole (omega arith) in omega arith)
+      | inl lt ↦ (let (n, k, h, at, below) = reached w ranking r read end first f table going nodes listed (λ e. let q : end ≡ earleme_of r = e in absurd (omega arith)) (node_of t end) used refl in let l = low n k h at in omega arith)
+      | inr ge ↦ (let (a, b, c) = met_within r read.is ((used_met w ranking r read (node_of t end)).0 used).1 in let z = whole (omega arith) in omega arith)
     ]
 
-    pub may_be_used : (t : Item) → IsWhole r.flat t → IsItemUsed w ranking r end t → MayBeUsed r f.keys.keys end least t
-    may_be_used t full used = (late t used, is_awaited ((used_met w ranking r read (node_at_end t end)).0 used).1 full refl)
-
     -- so all that is needed is listed
-    pub needed_are : (items : List Item) → AreBelow r f.keys.keys end least items → AreNeeded w ranking r end least items
-    needed_are items below = record {
+    pub needed_are : end ≤ earleme_of r → (items : List Item) → AreBelowAsked r f.keys.keys end least items → AreNeeded w ranking r end least items
+    needed_are le items (unasked, un, below) = record {
       hidden = below.hidden;
-      all = λ t item stands used. below.all t item stands (may_be_used t (leads_whole r stands.1) used);
+      all = λ t item stands used. below.all t item stands (late t used, (is_free le unasked un ((used_met w ranking r read (node_of t end)).0 used).1 ((used_met w ranking r read (node_of t end)).0 used).0 refl).free);
     }
 
 -- THE PARTS THAT ARE LISTED BY IT

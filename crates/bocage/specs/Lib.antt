@@ -6,4 +6,3 @@ pub mod Needed
 pub mod Walk
 pub mod Chains
 pub mod Ends
-pub mod Counts

@@ -2,8 +2,8 @@
 ghost use Rattle.std.specs.Prelude.{◌≡◌, ◌≢◌, ℕ, List, ◌<◌, ◌≤◌, ◌↔◌, ◌∷◌, ◌++◌, [], length, OnOk, Contains, slice_index_or, slice_set};
 ghost use Rattle.bocage.specs.Chains.{AreChained, EndsAt, IsChain};
 
-use crate::rows::{key_at, number};
-use crate::walk::NodeKeys;
+use crate::rows::number;
+use forest_parts::{NodeKeys, key_at};
 use recognizer_model::NodeKey;
 use std::alloc::{AllocError, AllocFailed, Global};
 

@@ -13,12 +13,11 @@ ghost use Rattle.bocage.specs.declared.rows.CauseRow.{CauseRow as TheCauseRow};
 
 use crate::chains::{Chains, list_nodes, new_chains};
 use crate::joins::{Join, list_joins};
-use crate::needed::list_needed;
-use crate::rows::{AlternativeRow, CauseRow, key_at};
-use crate::walk::{Found, Known, NodeKeys, put_key};
+use crate::rows::{AlternativeRow, CauseRow};
+use crate::walk::{Found, Known, put_key};
 use bumpalo::Bump;
 use earley_sets::Recce;
-use forest_parts::{Group, Part, list_groups, list_parts};
+use forest_parts::{Group, NodeKeys, Part, key_at, list_groups, list_needed, list_parts};
 use grammar_core::Written;
 use grammar_model::{Edge, Ranking};
 use recognizer_model::{Item, NodeKey};

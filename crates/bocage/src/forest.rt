@@ -14,12 +14,12 @@ ghost use Rattle.bocage.specs.Readers.{alternative_at, node_at};
 ghost use Rattle.bocage.specs.declared.refusal.ForestRefusal.TheVariants.{NoParse};
 
 use crate::ForestRefusal;
-use crate::counts::count_expanded;
 use crate::ends::{Work, walk};
-use crate::rows::{AlternativeRow, Cause, alternative_row, cause_at, key_at, row_from, rows_at};
+use crate::rows::{AlternativeRow, Cause, alternative_row, cause_at, row_from, rows_at};
 use crate::walk::{Found, begin, differ};
 use bumpalo::Bump;
 use earley_sets::Recce;
+use forest_parts::{count_expanded, key_at};
 use grammar_core::{Flat, Written};
 use grammar_model::Ranking;
 use recognizer_model::NodeKey;

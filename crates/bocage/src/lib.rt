@@ -2,11 +2,9 @@
 #![tactic(auto)]
 
 mod chains;
-mod counts;
 mod ends;
 mod forest;
 mod joins;
-mod needed;
 mod refusal;
 mod rows;
 mod walk;

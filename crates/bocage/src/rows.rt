@@ -3,7 +3,6 @@ ghost use Rattle.std.specs.Prelude.{◌≡◌, ◌<◌, ◌≤◌, ◌==◌, len
 ghost use Rattle.forest_parts.specs.Lists.{between};
 ghost use Rattle.bocage.specs.Rows.{cause_told, cause_of, IsCauseWithin, no_alternative};
 
-use recognizer_model::NodeKey;
 use std::alloc::AllocError;
 
 /// The cause of an alternative: what the last part is. Nodes of whole rules are in the declared order of their rules.
@@ -47,14 +46,6 @@ pub fn row_from(rows: &[AlternativeRow], start: u32) -> Option<usize>
     ensures { result ≡ position (λ row. row.start == start) rows.now }
 {
     rows.iter().position(|row| row.start == start)
-}
-
-/// What a node stands for.
-pub fn key_at(keys: &[NodeKey], node: usize) -> NodeKey
-    requires { node < length keys.now }
-    ensures { slice_get keys.now node ≡ Some result }
-{
-    keys[node]
 }
 
 /// The alternatives of a node.

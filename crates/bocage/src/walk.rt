@@ -10,18 +10,14 @@ ghost use Rattle.bocage.specs.Walk.{FitsPart, GrowsBy, whole_keys, AddsWholes, I
 use crate::joins::{Join, joins_of};
 use crate::rows::{AlternativeRow, CauseRow, number};
 use earley_sets::Recce;
-use forest_parts::{Group, Part, is_null_high, parts_between};
+use forest_parts::{Group, NodeKeys, Part, is_null_high, parts_between};
 use grammar_core::{Flat, Written};
 use grammar_model::Ranking;
 use indexmap::IndexSet;
-use leo_items::NearHasher;
 use recognizer_model::{Item, NodeKey};
 use smallvec::SmallVec;
 use std::alloc::{AllocError, Global};
 use std::hash::BuildHasherDefault;
-
-/// Keys of nodes, in the order of their numbers. Those of near places are looked up near each other.
-pub type NodeKeys = IndexSet<NodeKey, BuildHasherDefault<NearHasher>>;
 
 /// What is looked up where nodes end at one place: the parts that end there and begin at `least` or after it.
 #[derive(Clone, Copy, Drop)]

@@ -6,3 +6,8 @@ pub mod PartOrder
 pub mod Ranks
 pub mod Spans
 pub mod Listed
+pub mod NodeKeys
+pub mod Counting
+pub mod Lowest
+pub mod Tops
+pub mod Taking

@@ -1,19 +1,18 @@
 -- What is listed of kept and hidden items are parts, and of the parts that no single step leads on from none is left out.
-use Rattle.std.proofs.Common.{◌≡◌, ◌⊎◌, inl, inr, ℕ, ◌+◌, ◌<◌, ◌≤◌, List, length, Contains, sym, ◌∙◌, subst, arith}
-use Rattle.grammar_model.specs.declared.Edge.{Edge as HeldEdge}
+use Rattle.std.proofs.Common.{◌≡◌, ◌⊎◌, inl, inr, ℕ, ◌<◌, ◌≤◌, List, Contains, ◌∙◌, subst, arith}
 use Rattle.grammar_model.specs.declared.Ranking.{Ranking}
 use Rattle.grammar_model.specs.Grammar.{Grammar}
 use Rattle.recognizer_model.specs.declared.Item.{Item}
 use Rattle.recognizer_model.specs.Flat.{lhs_of}
-use Rattle.recognizer_model.specs.Items.{InSet, IsWhole}
-use Rattle.recognizer_model.specs.Leo.{IsLeo, IsNotLeo, LeadsTo, LeoIsKnown, InReduced, InExpanded, Kept, Step, IsHidden}
+use Rattle.recognizer_model.specs.Items.{InSet}
+use Rattle.recognizer_model.specs.Leo.{IsNotLeo, LeadsTo, LeoIsKnown, InReduced, InExpanded, Kept, Step, IsHidden}
 use Rattle.recognizer_model.proofs.Leo.{kept_or_left, whole_kept, expands_to_all}
 use Rattle.recognizer_model.proofs.Once.{known_by_reduced}
 use Rattle.leo_items.proofs.Adding.{decide}
 use Rattle.earley_sets.specs.Recognizer.{Recognizer, IsRecognizer, earleme_of, set_at, edges_of, top_of}
 use Rattle.earley_sets.specs.Below.{IsBottom}
 use Rattle.forest_parts.specs.declared.parts.Part.{Part}
-use Rattle.forest_parts.specs.Parts.{IsEdgeOf, IsWholeOf, IsPart, IsPartAt, IsPartBy}
+use Rattle.forest_parts.specs.Parts.{IsPartAt, IsPartBy}
 use Rattle.forest_parts.proofs.Sets.{at_top, goes, kept_inside, hidden_inside}
 
 module _ (r : Recognizer) (is : IsRecognizer r) (end : ℕ) (le : end ≤ earleme_of r) where

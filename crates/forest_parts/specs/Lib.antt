@@ -2,3 +2,6 @@ pub mod Lists
 pub mod Hidden
 pub mod Parts
 pub mod Groups
+pub mod Unasked
+pub mod Needed
+pub mod Counts

@@ -10,7 +10,7 @@ use Rattle.bocage.specs.Needed.{AreNeeded}
 use Rattle.bocage.specs.Walk.{IsUsedIn}
 use Rattle.bocage.proofs.Chained.{chained_more}
 use Rattle.bocage.proofs.Visiting.{none_visited}
-use Rattle.bocage.proofs.Counting.{rises_of, rises_none}
+use Rattle.forest_parts.proofs.Counting.{rises_of, rises_none}
 use Rattle.bocage.proofs.Expanding.{given_expanded}
 use Rattle.bocage.proofs.Needing.{needed_are}
 use Rattle.bocage.proofs.ends.visit_end.Goals.{then-whole, else-whole, else-is_empty-via-then-is_empty+else-not-whole, else-is_empty-via-else-is_empty}
@@ -129,7 +129,7 @@ visit_from-requires-clause-hidden g c =
       | then-whole w ↦ let z = w.lowest-is in omega arith
       | else-whole w ↦ absurd (w.if-whole.false (e ∙ sym c.place.ensures.place))
     ]))
-    c.in_ok-hidden.hidden.items c.in_ok-hidden.ensures.below)
+    c.requires.end c.in_ok-hidden.hidden.items c.in_ok-hidden.ensures.below)
 
 pub visit_from-requires-clause-read : goal.visit_from-requires-clause-read
 visit_from-requires-clause-read g c = c.requires.read

@@ -1,4 +1,4 @@
-use Rattle.bocage.proofs.NodeKeys.{nodes_differ}
+use Rattle.forest_parts.proofs.NodeKeys.{nodes_differ}
 use Rattle.bocage.proofs.walk.differ.Goals as goal
 
 pub returns : goal.returns

@@ -1,5 +1,5 @@
 use Rattle.bocage.specs.Expanded.{IsExpandedIn}
-use Rattle.bocage.proofs.Counting.{rises_most}
+use Rattle.forest_parts.proofs.Counting.{rises_most}
 use Rattle.std.proofs.lemmas.Result.{IfOk-from_err}
 use Rattle.bocage.proofs.forest.Forest.build.Goals as goal
 

@@ -7,12 +7,12 @@ use Rattle.earley_sets.specs.Recognizer.{earleme_of, edges_of, top_of}
 use Rattle.forest_model.specs.Forest.{Forest, ForestNode}
 use Rattle.forest_model.specs.Forest as model
 use Rattle.bocage.specs.Rows.{nodes_of}
-use Rattle.bocage.specs.Counts.{IsHiddenBy}
+use Rattle.forest_parts.specs.Counts.{IsHiddenBy}
 use Rattle.bocage.specs.Expanded.{IsExpandedIn}
 use Rattle.bocage.specs.Walk.{IsUsedIn}
 use Rattle.bocage.proofs.Telling.{keys_of_nodes}
 use Rattle.bocage.proofs.Expanding.{kept_counted}
-use Rattle.bocage.proofs.Counting.{count_of}
+use Rattle.forest_parts.proofs.Counting.{count_of}
 use Rattle.bocage.proofs.Splits.{used_within}
 use Rattle.bocage.proofs.forest.Forest.stats.Goals as goal
 

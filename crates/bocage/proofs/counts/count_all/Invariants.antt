@@ -1,6 +1,0 @@
-use Rattle.recognizer_model.specs.Counts.{IsCountOf}
-use Rattle.bocage.proofs.Lowest.{IsHiddenBelow}
-use Rattle.bocage.proofs.counts.count_all.Given as goal
-
-abbrev pub invariant-loop-end : goal.invariant-loop-end
-invariant-loop-end g l = IsCountOf (IsHiddenBelow l.recce l.keys l.end) l.expanded

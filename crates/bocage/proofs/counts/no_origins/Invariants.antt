@@ -1,9 +1,0 @@
-use Rattle.std.proofs.Common.{◌≡◌, [], length}
-use Rattle.bocage.specs.Counts.{AreLeast}
-use Rattle.bocage.proofs.counts.no_origins.Given as goal
-
-abbrev pub invariant-loop-k : goal.invariant-loop-k
-invariant-loop-k l = record {
-  long : length l.least.items ≡ l.k;
-  least : AreLeast [] l.least.items;
-}
