@@ -24,17 +24,16 @@ use Rattle.forest_model.specs.Forest as forest
 use Rattle.forest_model.specs.Forest.{Forest, IsForest}
 use Rattle.glade_model.specs.Glades.{Shape, Glade, shape_of, AreGlades}
 use Rattle.glade_laws.specs.Groups.{start_of}
-use Rattle.bocage.specs.declared.forest.Stats.{Stats}
-use Rattle.value_lines.specs.Counts.{numbers_of}
-use Rattle.value_lines.proofs.Counting.{has_numbers}
 use Rattle.words_model.specs.Words.Telling.{Glades}
 use Rattle.run_model.specs.Listing.{AreDerivations}
+use Rattle.run_model.specs.Numbers.{Numbers, HasNumbers}
 use Rattle.run_model.specs.Telling.{TellsGlades, glade_line, done, refused}
 use Rattle.run_model.specs.Telling.TellsGlades.{Underived, Compared}
 use Rattle.text_reading.specs.declared.refusal.Place.{Place}
 use Rattle.text_reading.specs.Refusals.{IsNoDerivation}
 use Rattle.text_reading.proofs.Derived.{listed, some_listing}
 use Rattle.slif_cli.specs.Tasks.{TellsReading, HasForest, GoesOnWithin}
+use Rattle.slif_cli.proofs.Numbered.{nodes_counted}
 use Rattle.slif_cli.proofs.Within.{within}
 
 -- THE SYMBOLS OF GLADES
@@ -80,26 +79,24 @@ module _ (b : Built) (cs : List ℕ) (spans : List Span) (f : Forest) (has : Has
 
   -- STEPS
 
-  module _ (s : Stats) (stats : IsStats f.flat (forest.edges_of f) (forest.allowed_of f) (forest.top_of f) f.place s.tokens s.kept s.nodes s.expanded) where
-    counted : s.nodes ≡ length f.nodes
-    counted =
-        one_count (IsUsed f.flat (forest.edges_of f) (forest.allowed_of f) (forest.top_of f) f.place) s.nodes (length f.nodes) stats.used_nodes
-        (map (λ n. n.key) f.nodes, is.used, length-map f.nodes (λ n. n.key))
+  module _ (n : Numbers) (numbers : HasNumbers b RuleRanks has.pieces n) where
+    counted : n.nodes ≡ length f.nodes
+    counted = nodes_counted b RuleRanks has.pieces cs spans f has.of has.ranking_is is n numbers
 
     pub compares_within : (recce : Recognizer) (held_spans : List Span) → IsRecognizer recce → IsReadingOf b cs recce held_spans AtEnd → (read built after : ℕ)
-        → ((n : ℕ) → IsCountOf (IsExpanded recce.flat (held_edges recce) (allowed_by b.g1 RuleRanks recce.flat (held_edges recce)) (held_top recce) (earleme_of recce)) n → built ≤ read + n)
+        → ((k : ℕ) → IsCountOf (IsExpanded recce.flat (held_edges recce) (allowed_by b.g1 RuleRanks recce.flat (held_edges recce)) (held_top recce) (earleme_of recce)) k → built ≤ read + k)
         → after ≤ built + length f.nodes → GoesOnWithin Glades b cs recce read after
     compares_within recce held_spans recognizes reading read built after builds looks =
         let (same, ends) = reading_is_one b [] cs reading.pieces has.pieces End End reading.is_reading has.of.reading in
         let holds : HoldsPieces b has.pieces recce = subst (λ (ps : List _). HoldsPieces b ps recce) same reading.holds in
-        let few : after ≤ built + s.nodes = subst (λ n. after ≤ built + n) (sym counted) looks in
+        let few : after ≤ built + n.nodes = subst (λ k. after ≤ built + k) (sym counted) looks in
         record {
           pieces = has.pieces;
           reading = has.of.reading;
           within = λ before reads. record {
-            numbers = numbers_of s;
-            has = has_numbers b cs spans f has.pieces has.of RuleRanks has.ranking_is is s stats;
-            within = within b recce recognizes has.pieces holds RuleRanks s.nodes before read built after reads builds few;
+            numbers = n;
+            has = numbers;
+            within = within b recce recognizes has.pieces holds RuleRanks n.nodes before read built after reads builds few;
           };
         }
 

@@ -15,5 +15,6 @@ pub mod Own
 pub mod Within
 pub mod OneLine
 pub mod Derivations
+pub mod Numbered
 pub mod Compared
 pub mod ScriptLemmas

@@ -54,7 +54,6 @@ pub fn write_glades<'a, O: Sink, L: Ledger>(
         steps,
     )?;
     forest.known();
-    let _stats = forest.stats();
     let glades = report_glades(alloc, &forest, w, steps)?;
     write_lines_of(alloc, w, &glades, out)
 }

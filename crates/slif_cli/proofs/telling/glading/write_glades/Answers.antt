@@ -7,6 +7,7 @@ use Rattle.reading_model.specs.Reading.{edges_of, earleme_after}
 use Rattle.words_model.specs.Words.Telling.{Glades}
 use Rattle.run_model.specs.Glades.{glade_line}
 use Rattle.run_model.specs.Outside.{stream}
+use Rattle.number_laws.proofs.Exist.{numbers_exist}
 use Rattle.text_reading.specs.Refusals.{IsNoDerivation}
 use Rattle.slif_cli.specs.Refusals.{stop_for}
 use Rattle.slif_cli.specs.Stops.{WriteStops}
@@ -64,8 +65,11 @@ returns-clause-stops g c =
 
 pub returns-clause-counted : goal.returns-clause-counted
 returns-clause-counted g c =
+    let b = c.args.prepared.now in
     let read = c.args.reading.now in
+    let has = c.in_ok-forest.ensures.forest in
+    let (n, numbers) = numbers_exist b RuleRanks has.pieces c.known.ensures.built c.known.ensures.accepted in
     on_ok_weaker c.write_lines_of.result
-    (λ _. compares_within c.args.prepared.now c.args.chars.now read.spans.items c.in_ok-forest.forest c.in_ok-forest.ensures.forest c.known-2.ensures
-    c.stats-stats.result c.stats-stats.ensures read.recce read.spans.items c.place-place.ensures.is c.requires.read _ _ _ c.forest_of.ensures.counted c.report_glades.ensures.counted)
+    (λ _. compares_within b c.args.chars.now read.spans.items c.in_ok-forest.forest has c.known-2.ensures n numbers
+    read.recce read.spans.items c.place-place.ensures.is c.requires.read _ _ _ c.forest_of.ensures.counted c.report_glades.ensures.counted)
     c.write_lines_of.ensures.written
