@@ -1,5 +1,5 @@
--- How many nodes the forest of a reading has, by the numbers of the reading.
-use Rattle.std.proofs.Common.{◌≡◌, ℕ, List, Some, map, length, sym, ◌∙◌, subst, slice_get}
+-- The numbers of a reading, and what the forest of the reading has of them.
+use Rattle.std.proofs.Common.{◌≡◌, ℕ, List, Some, map, length, refl, sym, ◌∙◌, subst, slice_get}
 use Rattle.std.proofs.lemmas.List.{length-map}
 use Rattle.std.proofs.lemmas.Option.{same_Some, slice_get-get_or}
 use Rattle.grammar_model.specs.Grammar.{Grammar}
@@ -11,14 +11,22 @@ use Rattle.recognizer_model.specs.Flat.{FlatGrammar}
 use Rattle.recognizer_model.specs.FlatForm.{FlatEdges}
 use Rattle.recognizer_model.specs.Counts.{IsCountOf}
 use Rattle.recognizer_model.specs.Chosen.{allowed_by}
-use Rattle.recognizer_model.specs.Nodes.{IsUsed}
+use Rattle.recognizer_model.specs.Nodes.{IsUsed, IsStats}
 use Rattle.recognizer_model.proofs.Counting.{one_count}
 use Rattle.language_model.specs.Building.{Built}
+use Rattle.language_model.specs.Texts.{IsBuilt}
+use Rattle.reading_model.specs.Accepted.{IsAccepted}
 use Rattle.reading_model.specs.Reading.{Piece, edges_of, earleme_after}
+use Rattle.forest_model.specs.Forest as forest
 use Rattle.forest_model.specs.Forest.{Forest, IsForest, top_of}
+use Rattle.bocage.specs.declared.forest.Stats.{Stats}
 use Rattle.run_model.specs.Numbers.{Numbers, HasNumbers}
-use Rattle.number_laws.proofs.One.{one_flat}
+use Rattle.number_laws.proofs.Exist.{numbers_exist}
+use Rattle.number_laws.proofs.One.{numbers_are_one, one_flat}
+use Rattle.value_lines.specs.Counts.{numbers_of}
 use Rattle.value_lines.specs.Lines.{IsForestOf}
+use Rattle.value_lines.proofs.Counting.{has_numbers}
+use Rattle.slif_cli.specs.Tasks.{HasForest, AreNumbersOf}
 
 module _ (b : Built) (ranking : Ranking) (pieces : List Piece) where
   abbrev HasNodes : (g : FlatGrammar) (top count : ℕ) → Type 0
@@ -55,3 +63,16 @@ module _ (b : Built) (ranking : Ranking) (pieces : List Piece) where
     nodes_counted n numbers =
         let told : Counts n.nodes numbers.flat = record { top = numbers.top; top_is = numbers.top_is; nodes = numbers.numbers.used_nodes } in
         one_of n.nodes (length f.nodes) f.flat (subst (Counts n.nodes) (one_flat b numbers.flat f.flat numbers.is of.flat) told) own
+
+-- the numbers that a forest tells are those of its reading
+pub same_numbers : (f : Forest) → IsForest f → (s : Stats) → IsStats f.flat (forest.edges_of f) (forest.allowed_of f) (top_of f) f.place s.tokens s.kept s.nodes s.expanded
+    → (n : Numbers) → AreNumbersOf f n → numbers_of s ≡ n
+same_numbers f is s stats n are =
+    numbers_are_one are.built f.ranking are.pieces (numbers_of s) n (has_numbers are.built are.chars are.spans f are.pieces are.of f.ranking refl is s stats) are.numbers
+
+-- and there are such numbers
+pub some_numbers : (b : Built) (ranking : Ranking) (cs : List ℕ) (spans : List Span) (f : Forest) (has : HasForest b ranking cs spans f) → IsBuilt b → IsAccepted b
+    → (n : Numbers) × (AreNumbersOf f n × HasNumbers b ranking has.pieces n)
+some_numbers b ranking cs spans f has built accepted =
+    let (n, numbers) = numbers_exist b f.ranking has.pieces built accepted in
+    (n, (record { built = b; chars = cs; spans = spans; pieces = has.pieces; of = has.of; numbers = numbers }, subst (λ (r : Ranking). HasNumbers b r has.pieces n) has.ranking_is numbers))

@@ -1,11 +1,15 @@
 -- What is known where something is told of an input.
 use Rattle.std.specs.Prelude.{◌≡◌, ℕ, List, [], Some}
+use Rattle.grammar_core.specs.declared.steps.Span.{Span}
 use Rattle.earley_sets.specs.Recognizer.{Recognizer}
 use Rattle.earley_sets.specs.Counted.{TakesAtMost}
 use Rattle.language_model.specs.Building.{Built}
 use Rattle.reading_model.specs.Reading.{Piece, End, IsReading}
+use Rattle.forest_model.specs.Forest.{Forest}
+use Rattle.value_lines.specs.Lines.{IsForestOf}
 use Rattle.words_model.specs.Words as words
 use Rattle.words_model.specs.Words.{InputFrom}
+use Rattle.run_model.specs.Numbers.{Numbers, HasNumbers}
 use Rattle.run_model.specs.Telling.{Outcome, Tells, TellsWithin}
 use Rattle.run_model.specs.Within.{DoesWithin}
 pub use Rattle.text_reading.specs.Parts.{HasForest}
@@ -15,6 +19,15 @@ pub record TellsReading (what : words.Telling) (b : Built) (cs : List ℕ) (outc
   pub pieces : List Piece
   pub reading : IsReading b cs pieces End
   pub tells : Tells what b cs pieces outcome
+
+-- these are the numbers of the reading that the forest is of
+pub record AreNumbersOf (f : Forest) (n : Numbers) : Type 0 where
+  pub built : Built
+  pub chars : List ℕ
+  pub spans : List Span
+  pub pieces : List Piece
+  pub of : IsForestOf built chars spans f pieces
+  pub numbers : HasNumbers built f.ranking pieces n
 
 -- STEPS
 

@@ -5,19 +5,19 @@ ghost use Rattle.std.specs.Io.KnownBytes.{Appends};
 ghost use Rattle.grammar_model.specs.declared.limits.TheConstants.{LONGEST_INPUT};
 ghost use Rattle.run_model.specs.Outside.{stream};
 ghost use Rattle.words_model.specs.Words.Telling.{Values};
+ghost use Rattle.run_model.specs.Numbers.{Numbers};
 ghost use Rattle.run_model.specs.Telling.{stats_lines};
 ghost use Rattle.command_line.specs.Jobs.{asked_of};
 ghost use Rattle.valuator.specs.Told.{states};
-ghost use Rattle.value_lines.specs.Counts.{numbers_of};
 ghost use Rattle.value_lines.specs.Writing.{AreBothTellers};
 ghost use Rattle.scanless.specs.Reading.{IsReadingOf};
 ghost use Rattle.scanless.specs.declared.reading.Ending.TheVariants.{End};
 ghost use Rattle.slif_cli.specs.Stops.{Does, WriteStops, LinesStop};
-ghost use Rattle.slif_cli.specs.Tasks.{TellsReading, GoesOnWithin};
+ghost use Rattle.slif_cli.specs.Tasks.{TellsReading, GoesOnWithin, AreNumbersOf};
 
 use crate::stop::Stop;
 use crate::writing::write_lines;
-use bocage::Stats;
+use bocage::Forest;
 use bumpalo::Bump;
 use command_line::ValuesAsked;
 use scanless::{Prepared, Reading};
@@ -73,28 +73,28 @@ pub fn write_values<'a, O: Sink, L: Ledger>(
         out,
         steps,
     )?;
-    if !asked.stats {
-        return Ok(());
-    }
-    let stats = forest.stats(alloc)?;
-    write_stats(alloc, asked.stats, &stats, out)
+    write_stats(alloc, asked.stats, &forest, out)
 }
 
 // Writes the line of the numbers, where it is asked for.
 fn write_stats<'a, O: Sink>(
     alloc: Global,
     asked: bool,
-    stats: &Stats,
+    forest: &Forest<'_>,
     out: &mut O,
 ) -> Result<(), Stop<'a>>
-    ensures written { OnOk result (Appends (O.contents out.old) (O.contents out.new) (concat (stats_lines asked (numbers_of stats.now)))) }
-    ensures stops { IfErr result (LinesStop (stats_lines asked (numbers_of stats.now))
-        (stream O.contents O.fault_count out.old) (stream O.contents O.fault_count out.new)) }
+    ensures written { OnOk result ((n : Numbers) → AreNumbersOf forest.now n →
+        Appends (O.contents out.old) (O.contents out.new) (concat (stats_lines asked n))) }
+    ensures stops { IfErr result (λ stop. (n : Numbers) → AreNumbersOf forest.now n →
+        LinesStop (stats_lines asked n) (stream O.contents O.fault_count out.old)
+        (stream O.contents O.fault_count out.new) stop) }
     ensures out_later { O.fault_count out.old ≤ O.fault_count out.new }
 {
     if !asked {
         return Ok(());
     }
-    let line = stats_line(alloc, stats)?;
+    forest.known();
+    let stats = forest.stats(alloc)?;
+    let line = stats_line(alloc, &stats)?;
     write_lines(&[line], out)
 }

@@ -25,11 +25,11 @@ returns-clause-line g c =
     let cs = c.args.chars.now in
     let spans = c.args.reading.now.spans.items in
     let has = c.in-Ok.ensures.forest in
-    let numbers = has_numbers b cs spans c.in-Ok.forest has.pieces has.of RuleRanks has.ranking_is c.known.ensures c.stats-stats.result c.stats-stats.ensures in
+    let numbers = has_numbers b cs spans c.in-Ok.forest has.pieces has.of RuleRanks has.ranking_is c.known.ensures c.in_ok-stats.stats c.in_ok-stats.ensures in
     IfOk-weaker c.work_line.result
-    (λ (line : Vec ℕ Global). line.items ≡ work_line c.args.size (numbers_of c.stats-stats.result) c.in-Ok-count_derivations.values)
+    (λ (line : Vec ℕ Global). line.items ≡ work_line c.args.size (numbers_of c.in_ok-stats.stats) c.in-Ok-count_derivations.values)
     (λ (line : Vec ℕ Global). IsWorkOutcome c.args.size (done (line.items ∷ [])))
-    (λ line told. own_told c.args.size c.requires.size b c.requires.grammar cs c.requires.chars spans c.in-Ok.forest has c.known.ensures (numbers_of c.stats-stats.result) numbers
+    (λ line told. own_told c.args.size c.requires.size b c.requires.grammar cs c.requires.chars spans c.in-Ok.forest has c.known.ensures (numbers_of c.in_ok-stats.stats) numbers
     c.in-Ok-count_derivations.values c.in-Ok-count_derivations.ensures.count line.items told)
     c.work_line.ensures
 
@@ -39,7 +39,7 @@ returns-clause-counted g c =
     let cs = c.args.chars.now in
     let read = c.args.reading.now in
     IfOk-weaker c.work_line.result
-    (λ (line : Vec ℕ Global). line.items ≡ work_line c.args.size (numbers_of c.stats-stats.result) c.in-Ok-count_derivations.values)
+    (λ (line : Vec ℕ Global). line.items ≡ work_line c.args.size (numbers_of c.in_ok-stats.stats) c.in-Ok-count_derivations.values)
     (λ (line : Vec ℕ Global). (before : ℕ) → TakesAtMost read.recce before c.args.steps.now → WorkWithin b c.args.size before c.count_derivations.new.steps)
     (λ line told before reads. own_within c.args.size c.requires.size b c.requires.grammar cs c.requires.chars read.spans.items c.in-Ok.forest c.in-Ok.ensures.forest c.known.ensures
     read.recce c.place-place.ensures.is read.spans.items c.requires.read before _ _ _ c.forest_of.ensures.counted c.in-Ok-count_derivations.ensures.counted reads)

@@ -7,12 +7,12 @@ use Rattle.reading_model.specs.Reading.{edges_of, earleme_after}
 use Rattle.words_model.specs.Words.Telling.{Glades}
 use Rattle.run_model.specs.Glades.{glade_line}
 use Rattle.run_model.specs.Outside.{stream}
-use Rattle.number_laws.proofs.Exist.{numbers_exist}
 use Rattle.text_reading.specs.Refusals.{IsNoDerivation}
 use Rattle.slif_cli.specs.Refusals.{stop_for}
 use Rattle.slif_cli.specs.Stops.{WriteStops}
 use Rattle.slif_cli.specs.Tasks.{TellsReading}
 use Rattle.slif_cli.proofs.Compared.{compared, compares_within, glades_as, glades_known, none_compared}
+use Rattle.slif_cli.proofs.Numbered.{some_numbers}
 use Rattle.slif_cli.proofs.Refusing.{input_stops_for}
 use Rattle.slif_cli.proofs.Stopping.{lines_done, lines_stop, memory_stops, passed_on}
 use Rattle.slif_cli.proofs.telling.glading.write_glades.Goals as goal
@@ -68,7 +68,7 @@ returns-clause-counted g c =
     let b = c.args.prepared.now in
     let read = c.args.reading.now in
     let has = c.in_ok-forest.ensures.forest in
-    let (n, numbers) = numbers_exist b RuleRanks has.pieces c.known.ensures.built c.known.ensures.accepted in
+    let (n, (are, numbers)) = some_numbers b RuleRanks c.args.chars.now read.spans.items c.in_ok-forest.forest has c.known.ensures.built c.known.ensures.accepted in
     on_ok_weaker c.write_lines_of.result
     (λ _. compares_within b c.args.chars.now read.spans.items c.in_ok-forest.forest has c.known-2.ensures n numbers
     read.recce read.spans.items c.place-place.ensures.is c.requires.read _ _ _ c.forest_of.ensures.counted c.report_glades.ensures.counted)

@@ -1,9 +1,32 @@
+use Rattle.std.proofs.Common.{[], ◌∷◌, refl, sym, subst, ap, ◌∙◌}
+use Rattle.std.specs.List.{concat}
+use Rattle.std.specs.Io.KnownBytes.{Appends}
+use Rattle.std.proofs.lemmas.Result.{on_ok_weaker, MatchResult-weaker}
+use Rattle.slif_base.proofs.Bytes.{appends_none}
+use Rattle.run_model.specs.Numbers.{Numbers}
 use Rattle.run_model.specs.Outside.{stream}
+use Rattle.run_model.specs.Telling.{stats_line, stats_lines}
 use Rattle.value_lines.specs.Counts.{numbers_of}
+use Rattle.slif_cli.specs.Stops.{LinesStop}
+use Rattle.slif_cli.specs.Tasks.{AreNumbersOf}
+use Rattle.slif_cli.specs.declared.stop.Stop.TheVariants.{NoMemory}
 use Rattle.slif_cli.proofs.Derived.{asked_stops}
+use Rattle.slif_cli.proofs.Numbered.{same_numbers}
+use Rattle.slif_cli.proofs.Stopping.{passed_on}
 use Rattle.slif_cli.proofs.telling.values.write_stats.Goals as goal
 
-pub returns-clause-stops : goal.returns-clause-stops
-returns-clause-stops g c =
-    asked_stops c.args.asked (numbers_of c.args.stats.now) c.if-not-asked.false c.in_ok-line.line.items c.in_ok-line.ensures
-    (stream g.O.Sink.contents g.O.Sink.fault_count c.args.out.now) (stream g.O.Sink.contents g.O.Sink.fault_count c.write_lines.new.out) c.write_lines.result c.write_lines.ensures.stops
+pub returns-then-not-asked-clause-written : goal.returns-then-not-asked-clause-written
+returns-then-not-asked-clause-written g c n are =
+    subst (λ asked. Appends (g.O.Sink.contents c.args.out.now) (g.O.Sink.contents c.args.out.now) (concat (stats_lines asked n))) (sym c.if-not-asked.true) (appends_none _)
+
+pub returns-in_err-stats-clause-stops : goal.returns-in_err-stats-clause-stops
+returns-in_err-stats-clause-stops g c =
+    let before = stream g.O.Sink.contents g.O.Sink.fault_count c.args.out.now in
+    passed_on (λ stop. (n : Numbers) → AreNumbersOf c.args.forest.now n → LinesStop (stats_lines c.args.asked n) before before stop) c.from_residual.result NoMemory c.from_residual.ensures.1
+    (λ n are. record { bytes = []; rest = concat (stats_lines c.args.asked n); split = refl; appends = appends_none before.bytes })
+
+pub returns-in_err-line-clause-stops : goal.returns-in_err-line-clause-stops
+returns-in_err-line-clause-stops g c =
+    let before = stream g.O.Sink.contents g.O.Sink.fault_count c.args.out.now in
+    passed_on (λ stop. (n : Numbers) → AreNumbersOf c.args.forest.now n → LinesStop (stats_lines c.args.asked n) before before stop) c.from_residual-in_err-line.result NoMemory c.from_residual-in_err-line.ensures.1
+    (λ n are. record { bytes = []; rest = concat (stats_lines c.args.asked n); split = refl; appends = appends_none before.bytes })

@@ -3,8 +3,6 @@ use Rattle.std.proofs.lemmas.Result.{on_ok_weaker, MatchResult-weaker}
 use Rattle.run_model.specs.Outside.{stream}
 use Rattle.words_model.specs.Words.Telling.{Values}
 use Rattle.command_line.specs.Jobs.{asked_of}
-use Rattle.value_lines.specs.Counts.{numbers_of}
-use Rattle.value_lines.proofs.Counting.{has_numbers}
 use Rattle.grammar_core.specs.declared.steps.Span.{Span}
 use Rattle.slif_cli.specs.Stops.{WriteStops}
 use Rattle.text_reading.specs.Refusals.{IsNoDerivation}
@@ -12,6 +10,7 @@ use Rattle.slif_cli.specs.Refusals.{stop_for, write_stop}
 use Rattle.slif_cli.specs.Tasks.{TellsReading, HasForest}
 use Rattle.slif_cli.proofs.Derived.{values_done, values_stop, stats_stop, no_values}
 use Rattle.slif_cli.proofs.Refusing.{input_stops_for}
+use Rattle.slif_cli.proofs.Numbered.{some_numbers}
 use Rattle.slif_cli.proofs.Stopping.{passed_on}
 use Rattle.slif_cli.proofs.Within.{lists_within}
 use Rattle.slif_cli.proofs.telling.values.write_values.Goals as goal
@@ -36,9 +35,9 @@ returns-clause-done g c =
     let b = c.args.prepared.now in
     let cs = c.args.chars.now in
     let has = subst (λ (spans : List Span). HasForest b c.args.asked.ranking cs spans c.in_ok-forest.forest) (sym c.deref.ensures.value) c.in_ok-forest.ensures.forest in
-    let numbers = has_numbers b cs c.deref.result.now c.in_ok-forest.forest has.pieces has.of c.args.asked.ranking has.ranking_is c.known.ensures c.stats-stats.result c.stats-stats.ensures in
+    let (n, (are, numbers)) = some_numbers b c.args.asked.ranking cs c.deref.result.now c.in_ok-forest.forest has c.known.ensures.built c.known.ensures.accepted in
     on_ok_weaker c.write_stats.result
-    (values_done (asked_of c.args.asked) b cs c.deref.result.now c.in_ok-forest.forest has (numbers_of c.stats-stats.result) numbers _ _ _ c.in_ok-write_derivations.ensures.written)
+    (λ more. values_done (asked_of c.args.asked) b cs c.deref.result.now c.in_ok-forest.forest has n numbers _ _ _ c.in_ok-write_derivations.ensures.written (more n are))
     c.write_stats.ensures.written
 
 pub returns-clause-stops : goal.returns-clause-stops
@@ -46,11 +45,11 @@ returns-clause-stops g c =
     let b = c.args.prepared.now in
     let cs = c.args.chars.now in
     let has = subst (λ (spans : List Span). HasForest b c.args.asked.ranking cs spans c.in_ok-forest.forest) (sym c.deref.ensures.value) c.in_ok-forest.ensures.forest in
-    let numbers = has_numbers b cs c.deref.result.now c.in_ok-forest.forest has.pieces has.of c.args.asked.ranking has.ranking_is c.known.ensures c.stats-stats.result c.stats-stats.ensures in
+    let (n, (are, numbers)) = some_numbers b c.args.asked.ranking cs c.deref.result.now c.in_ok-forest.forest has c.known.ensures.built c.known.ensures.accepted in
     MatchResult-weaker c.write_stats.result c.write_stats.ensures.stops (λ _ x. x)
-    (λ stop stops. stats_stop (asked_of c.args.asked) b cs c.deref.result.now c.in_ok-forest.forest has (numbers_of c.stats-stats.result) numbers
+    (λ stop stops. stats_stop (asked_of c.args.asked) b cs c.deref.result.now c.in_ok-forest.forest has n numbers
     (stream g.O.Sink.contents g.O.Sink.fault_count c.args.out.now) (stream g.O.Sink.contents g.O.Sink.fault_count c.write_derivations.new.out)
-    (stream g.O.Sink.contents g.O.Sink.fault_count c.write_stats.new.out) stop c.in_ok-write_derivations.ensures.written c.in_ok-write_derivations.ensures.later stops)
+    (stream g.O.Sink.contents g.O.Sink.fault_count c.write_stats.new.out) stop c.in_ok-write_derivations.ensures.written c.in_ok-write_derivations.ensures.later (stops n are))
 
 pub returns-in_err-write_derivations-clause-stops : goal.returns-in_err-write_derivations-clause-stops
 returns-in_err-write_derivations-clause-stops g c =
@@ -60,10 +59,10 @@ returns-in_err-write_derivations-clause-stops g c =
     let before = stream g.O.Sink.contents g.O.Sink.fault_count c.args.out.now in
     let after = stream g.O.Sink.contents g.O.Sink.fault_count c.write_derivations.new.out in
     let has = subst (λ (spans : List Span). HasForest b c.args.asked.ranking cs spans c.in_ok-forest.forest) (sym c.deref.ensures.value) c.in_ok-forest.ensures.forest in
-    let numbers = has_numbers b cs c.deref.result.now c.in_ok-forest.forest has.pieces has.of c.args.asked.ranking has.ranking_is c.known.ensures c.stats-stats.result c.stats-stats.ensures in
+    let (n, (are, numbers)) = some_numbers b c.args.asked.ranking cs c.deref.result.now c.in_ok-forest.forest has c.known.ensures.built c.known.ensures.accepted in
     let refusal = c.in_err-write_derivations.field-0.0 in
     passed_on (WriteStops (TellsReading (Values asked) b cs) before after) c.from_residual-in_err-write_derivations.result (write_stop refusal) c.from_residual-in_err-write_derivations.ensures.1
-    (values_stop asked b cs c.deref.result.now c.in_ok-forest.forest has (numbers_of c.stats-stats.result) numbers before after refusal c.in_err-write_derivations.ensures.stops)
+    (values_stop asked b cs c.deref.result.now c.in_ok-forest.forest has n numbers before after refusal c.in_err-write_derivations.ensures.stops)
 
 pub returns-clause-counted : goal.returns-clause-counted
 returns-clause-counted g c =
@@ -72,6 +71,6 @@ returns-clause-counted g c =
     let read = c.args.reading.now in
     let has = subst (λ (spans : List Span). HasForest b c.args.asked.ranking cs spans c.in_ok-forest.forest) (sym c.deref.ensures.value) c.in_ok-forest.ensures.forest in
     on_ok_weaker c.write_stats.result
-    (λ _. lists_within b (asked_of c.args.asked) cs c.deref.result.now c.in_ok-forest.forest has c.known.ensures read.recce read.spans.items c.place-place.ensures.is c.requires.read _ _ _
+    (λ _. lists_within b (asked_of c.args.asked) cs c.deref.result.now c.in_ok-forest.forest has c.known-2.ensures read.recce read.spans.items c.place-place.ensures.is c.requires.read _ _ _
     c.forest_of.ensures.counted c.in_ok-write_derivations.ensures.counted)
     c.write_stats.ensures.written
