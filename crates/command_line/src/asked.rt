@@ -86,7 +86,8 @@ pub fn job_with<'a>(
     options: &[&str],
     task: Option<Task<'a>>,
 ) -> Option<Job<'a>>
-    ensures { option_map job_of result ≡ model.job_with (names_of options.now) (option_map task_of task.entry) (given_in (found_of matches.now)) }
+    ensures { option_map job_of result ≡ model.job_with (names_of options.now)
+        (option_map task_of task.entry) (given_in (found_of matches.now)) }
 {
     if !gives_only(matches, options) {
         return None;
@@ -139,7 +140,8 @@ pub fn values_asked<'a>(matches: &ArgMatches<'a>) -> Option<Telling<'a>>
 
 // The text of the place; None where it is not given or has no meaning.
 fn after_given<'a>(matches: &ArgMatches<'a>) -> Option<&'a str>
-    ensures { option_copied result ≡ option_and_then model.name_or_text (given_in (found_of matches.now) (codes "after")) }
+    ensures { option_copied result ≡
+        option_and_then model.name_or_text (given_in (found_of matches.now) (codes "after")) }
 {
     name_or_text(matches.get_str("after")?)
 }

@@ -59,22 +59,30 @@ pub record StatusesOccur : Type 0 where
 
 -- the values of so many of the first derivations, or of all
 abbrev pub values_first : Show → Ranking → Option ℕ → Telling
-values_first show ranking first = Values (record { show = show; ranking = ranking; first = first; stats = false })
+values_first show ranking first =
+    Values (record { show = show; ranking = ranking; first = first; stats = false })
 
 -- all after these
 abbrev pub from_place : Show → Ranking → (before : List Tree) → Telling
-from_place show ranking before = More (record { show = show; ranking = ranking; after = place_after start_text before; first = None })
+from_place show ranking before =
+    More (record { show = show; ranking = ranking; after = place_after start_text before; first = None })
 
 -- what `run` tells of the derivations up to a place, and after it what `more` tells from that place on, are what `run` tells of all, and
 -- a line that nothing is left; so it is at each place whose text is not too long
 abbrev pub GoingOnIsWhole : Type 0
-GoingOnIsWhole = (b : Built) (show : Show) (ranking : Ranking) (cs : List ℕ) (pieces : List Piece) (tree : Tree) (trees before rest : List Tree) →
-    AreDerivations b ranking pieces (tree ∷ trees) → tree ∷ trees ≡ before ++ rest → length (place_after start_text before) ≤ LONGEST_CURSOR →
-    (first more all : Outcome) → Tells (values_first show ranking (Some (length before))) b cs pieces first → Tells (from_place show ranking before) b cs pieces more →
-    Tells (values_first show ranking None) b cs pieces all → first.out ++ more.out ≡ all.out ++ end_line
+GoingOnIsWhole =
+    (b : Built) (show : Show) (ranking : Ranking) (cs : List ℕ) (pieces : List Piece)
+    (tree : Tree) (trees before rest : List Tree) → AreDerivations b ranking pieces (tree ∷ trees) →
+    tree ∷ trees ≡ before ++ rest → length (place_after start_text before) ≤ LONGEST_CURSOR →
+    (first more all : Outcome) →
+    Tells (values_first show ranking (Some (length before))) b cs pieces first →
+    Tells (from_place show ranking before) b cs pieces more →
+    Tells (values_first show ranking None) b cs pieces all →
+    first.out ++ more.out ≡ all.out ++ end_line
 
 -- the last line of a page of at most so many tells the place after all that were given up to it: so pages, each from the place that the
 -- one before it told, follow one another
 abbrev pub PagesFollow : Type 0
-PagesFollow = (after : List ℕ) (before rest : List Tree) (n : ℕ) → after ≡ place_after start_text before →
+PagesFollow =
+    (after : List ℕ) (before rest : List Tree) (n : ℕ) → after ≡ place_after start_text before →
     last_line after (take n rest) (drop n rest) ≡ last_line start_text (before ++ take n rest) (drop n rest)

@@ -18,8 +18,12 @@ last_line after given [] = end_line
 last_line after given (tree ∷ left) = codes "cursor: " ++ (place_after after given ++ 10 ∷ [])
 
 -- so many of those that are left after a place, and a last line
-abbrev pub page_lines : Built → Show → (first : Option ℕ) → (after cs : List ℕ) → List Piece → (rest : List Tree) → List (List ℕ)
-page_lines b show first after cs pieces rest = map (line_of b show cs pieces) (first_of first rest) ++ last_line after (first_of first rest) (beyond first rest) ∷ []
+abbrev pub page_lines :
+    Built → Show → (first : Option ℕ) → (after cs : List ℕ) → List Piece → (rest : List Tree) →
+    List (List ℕ)
+page_lines b show first after cs pieces rest =
+    map (line_of b show cs pieces) (first_of first rest)
+    ++ last_line after (first_of first rest) (beyond first rest) ∷ []
 
 -- how many steps the last of these has, where there is one
 abbrev pub last_steps : List Tree → ℕ

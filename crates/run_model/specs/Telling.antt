@@ -96,12 +96,19 @@ pub data TellsValues (asked : ValuesAsked) (b : Built) (cs : List ℕ) (pieces :
 
 -- the values of the derivations after a place, and where to go on; or there is no derivation; or the text names no place
 pub data TellsMore (asked : MoreAsked) (b : Built) (cs : List ℕ) (pieces : List Piece) (outcome : Outcome) : Type 0 where
-  Ungiven : (expected : List ℕ) → AreDerivations b asked.ranking pieces [] → AreExpected b pieces expected → outcome ≡ refused 1 (no_derivation_text b.g1 expected) →
+  Ungiven : (expected : List ℕ) → AreDerivations b asked.ranking pieces [] →
+      AreExpected b pieces expected → outcome ≡ refused 1 (no_derivation_text b.g1 expected) →
       TellsMore asked b cs pieces outcome
-  NoPlace : (tree : Tree) (trees : List Tree) → AreDerivations b asked.ranking pieces (tree ∷ trees) → NamesNone (tree ∷ trees) asked.after →
-      outcome ≡ refused 1 (codes "the cursor names no derivation") → TellsMore asked b cs pieces outcome
-  GoesOn : (tree : Tree) (trees rest : List Tree) → AreDerivations b asked.ranking pieces (tree ∷ trees) → IsRest (tree ∷ trees) asked.after rest →
-      outcome ≡ done (page_lines b asked.show asked.first asked.after cs pieces rest) → TellsMore asked b cs pieces outcome
+  NoPlace : (tree : Tree) (trees : List Tree) →
+      AreDerivations b asked.ranking pieces (tree ∷ trees) →
+      NamesNone (tree ∷ trees) asked.after →
+      outcome ≡ refused 1 (codes "the cursor names no derivation") →
+      TellsMore asked b cs pieces outcome
+  GoesOn : (tree : Tree) (trees rest : List Tree) →
+      AreDerivations b asked.ranking pieces (tree ∷ trees) →
+      IsRest (tree ∷ trees) asked.after rest →
+      outcome ≡ done (page_lines b asked.show asked.first asked.after cs pieces rest) →
+      TellsMore asked b cs pieces outcome
 
 -- the report at a place; or it is past the last
 pub data TellsReport (b : Built) (at : ℕ) (pieces : List Piece) (outcome : Outcome) : Type 0 where
@@ -140,7 +147,9 @@ pub record MoreWithin (asked : MoreAsked) (b : Built) (pieces : List Piece) (bef
   pub given : List Tree
   pub rest : List Tree
   pub place : IsPlaceOf asked.after trees given rest
-  pub within : IsWithinSteps b asked.ranking pieces (first_of asked.first rest ++ take 1 (beyond asked.first rest)) (before + 7 * last_steps given) after
+  pub within : IsWithinSteps b asked.ranking pieces
+      (first_of asked.first rest ++ take 1 (beyond asked.first rest))
+      (before + 7 * last_steps given) after
 
 -- each node of the forest is looked at once, at most
 pub record ComparesWithin (b : Built) (pieces : List Piece) (before after : ℕ) : Type 0 where

@@ -26,7 +26,9 @@ write_stop unwritten.NoMemory = NoMemory
 
 -- a page that was not all written
 abbrev pub IsPageStop : page.PageRefusal → Stop → Type 0
-IsPageStop unpaged.NoSuchPlace stop = StopsBy (OfInput (λ text. text ≡ codes "the cursor names no derivation")) (λ name. ⊥) ⊥ ⊥ ⊤ stop
+IsPageStop unpaged.NoSuchPlace stop =
+    StopsBy (OfInput (λ text. text ≡ codes "the cursor names no derivation"))
+    (λ name. ⊥) ⊥ ⊥ ⊤ stop
 IsPageStop unpaged.WriteFault stop = stop ≡ WriteFault
 IsPageStop unpaged.NoMemory stop = stop ≡ NoMemory
 

@@ -50,12 +50,17 @@ pub fn write_more<'a, O: Sink, L: Ledger>(
     steps: &mut Steps<L>,
 ) -> Result<(), Stop<'a>>
     requires few { length chars.now ≤ LONGEST_INPUT }
-    requires read { IsReadingOf prepared.now chars.now reading.now.recce reading.now.spans.items End }
+    requires read { IsReadingOf prepared.now chars.now reading.now.recce reading.now.spans.items
+        End }
     requires tellers { AreBothTellers (states tellers.items shows held) }
-    ensures done { OnOk result (Does (TellsReading (More (more_of asked.entry)) prepared.now chars.now) (O.contents out.old) (O.contents out.new)) }
-    ensures stops { IfErr result (WriteStops (TellsReading (More (more_of asked.entry)) prepared.now chars.now)
+    ensures done { OnOk result (Does
+        (TellsReading (More (more_of asked.entry)) prepared.now chars.now)
+        (O.contents out.old) (O.contents out.new)) }
+    ensures stops { IfErr result (WriteStops
+        (TellsReading (More (more_of asked.entry)) prepared.now chars.now)
         (stream O.contents O.fault_count out.old) (stream O.contents O.fault_count out.new)) }
-    ensures counted { OnOk result (GoesOnWithin (More (more_of asked.entry)) prepared.now chars.now reading.now.recce steps.old steps.new) }
+    ensures counted { OnOk result (GoesOnWithin (More (more_of asked.entry)) prepared.now chars.now
+        reading.now.recce steps.old steps.new) }
     ensures out_later { O.fault_count out.old ≤ O.fault_count out.new }
 {
     let _place = reading.recce.place();
@@ -99,14 +104,20 @@ fn write_after<O: Sink, L: Ledger>(
     out: &mut O,
     steps: &mut Steps<L>,
 ) -> Result<(), PageRefusal>
-    requires forest { (pieces : List Piece) × IsForestOf prepared.now chars.now spans.now forest.now pieces }
+    requires forest { (pieces : List Piece) ×
+        IsForestOf prepared.now chars.now spans.now forest.now pieces }
     requires tellers { AreBothTellers (states tellers.items shows held) }
-    ensures written { OnOk result (PageHas prepared.now asked.entry.show asked.entry.first asked.entry.after.now chars.now spans.now forest.now
+    ensures written { OnOk result (PageHas prepared.now asked.entry.show asked.entry.first
+        asked.entry.after.now chars.now spans.now forest.now
         (λ text. Appends (O.contents out.old) (O.contents out.new) text)) }
-    ensures stops { IfErr result (PageStops prepared.now asked.entry.show asked.entry.first asked.entry.after.now chars.now spans.now forest.now
+    ensures stops { IfErr result (PageStops prepared.now asked.entry.show asked.entry.first
+        asked.entry.after.now chars.now spans.now forest.now
         (stream O.contents O.fault_count out.old) (stream O.contents O.fault_count out.new)) }
-    ensures counted { OnOk result ((trees given rest : List Tree) → IsListing forest.now trees → IsPlaceOf asked.entry.after.now trees given rest →
-        steps.new ≤ steps.old + 7 * last_steps given + sum_by choices (first_of asked.entry.first rest ++ take 1 (beyond asked.entry.first rest))) }
+    ensures counted { OnOk result ((trees given rest : List Tree) → IsListing forest.now trees →
+        IsPlaceOf asked.entry.after.now trees given rest →
+        steps.new ≤ steps.old + 7 * last_steps given
+        + sum_by choices
+        (first_of asked.entry.first rest ++ take 1 (beyond asked.entry.first rest))) }
     ensures later { O.fault_count out.old ≤ O.fault_count out.new }
 {
     prepared.known();

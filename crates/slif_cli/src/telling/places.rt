@@ -14,7 +14,8 @@ const START: &str = "0";
 
 /// The steps of the derivation that the place comes after; None for the place before the first.
 pub fn place_of(alloc: Global, text: &str) -> Result<Option<Vec<TreeStep>>, CursorRefusal>
-    ensures told { IfOk result (λ to. IsPlaceTold text.now (option_map (λ steps. map step_of steps.items) to)) }
+    ensures told { IfOk result (λ to. IsPlaceTold text.now
+        (option_map (λ steps. map step_of steps.items) to)) }
     ensures bad { IfErr result (λ refusal. refusal ≡ BadCursor → TellsNoPlace text.now) }
 {
     if text == START {
