@@ -1,13 +1,12 @@
 -- Pages: places in the list of derivations by their texts, and the text of a page.
-use Rattle.std.proofs.Common.{◌≡◌, ℕ, ◌+◌, ◌*◌, ◌<◌, ◌≤◌, ◌⊎◌, inl, inr, List, [], ◌∷◌, ◌++◌, Option, Some, None, Bool, true, false, Result, Ok, Err, Contains, map, take, length, refl, sym, ap, ◌∙◌, subst, append_assoc, append-nil, slice_index_or, arith, lit≤}
-use Rattle.std.specs.Prelude.{codes, IsSome, IfSome, IfErr, IsErrAnd}
+use Rattle.std.proofs.Common.{◌≡◌, ℕ, ◌+◌, ◌*◌, ◌<◌, ◌≤◌, inr, List, [], ◌∷◌, ◌++◌, Option, Some, None, true, false, Result, Ok, Err, Contains, map, take, length, refl, sym, ap, ◌∙◌, subst, append_assoc, append-nil, slice_index_or, arith, lit≤}
+use Rattle.std.specs.Prelude.{IsSome, IfSome, IfErr, IsErrAnd}
 use Rattle.std.specs.List.{concat, sum_by}
 use Rattle.std.specs.Io.KnownBytes.{Appends}
 use Rattle.std.proofs.lemmas.List.{append_cancel_left}
 use Rattle.std.proofs.lemmas.List.Folds.{concat-append}
 use Rattle.std.proofs.lemmas.List.Sums.{sum_by-append}
 use Rattle.std.proofs.lemmas.List.Elements.{Contains-append_right, Contains-append_left}
-use Rattle.outside_model.specs.Causes.{Rose}
 use Rattle.outside_model.specs.Told.{AppendsPrefix}
 use Rattle.slif_base.proofs.Bytes.{appends_none, appends_twice, rose_before}
 use Rattle.grammar_model.specs.Grammar.{slot_of}
@@ -34,10 +33,9 @@ use Rattle.run_model.proofs.Units.{units}
 use Rattle.tree_iter.specs.Iteration.{Iteration, EndsAt, AreBefore, AreGiven, IsAnswer}
 use Rattle.value_lines.specs.declared.writing.WriteRefusal.{WriteRefusal}
 use Rattle.value_lines.specs.declared.writing.WriteRefusal.TheVariants.{WriteFault, NoMemory}
-use Rattle.value_lines.specs.declared.page.PageRefusal.TheVariants as refusal
 use Rattle.value_lines.specs.Paging.{count_at, at_place, page_refusal, IsPlaceTold, LacksPlace, PageHas, PageStops}
 use Rattle.value_lines.specs.Lines.{IsForestOf}
-use Rattle.value_lines.specs.Writing.{AreEnough, AreRest, RestHas, TextStops, WroteLines}
+use Rattle.value_lines.specs.Writing.{RestHas, TextStops}
 use Rattle.value_lines.proofs.Texts.{HasLeft, one_list}
 
 pub passed_on : {T X : Type 0} (P : X → Type 0) (r : Result T X) (e : X) → IsErrAnd r (λ x. x ≡ e) → P e → IfErr r P

@@ -1,5 +1,5 @@
 -- The text of lines that are written one after the other.
-use Rattle.std.proofs.Common.{◌≡◌, ℕ, zero, suc, ◌+◌, ◌<◌, ◌≤◌, List, [], ◌∷◌, ◌++◌, Option, Some, None, Bool, true, false, map, take, drop, length, refl, sym, ap, ◌∙◌, subst, append_assoc, append-nil, length-append, slice_index_or, arith}
+use Rattle.std.proofs.Common.{◌≡◌, ℕ, zero, suc, ◌+◌, ◌<◌, ◌≤◌, List, [], ◌∷◌, ◌++◌, Option, Some, None, Bool, true, false, map, take, length, refl, sym, ap, ◌∙◌, subst, append_assoc, append-nil, length-append, slice_index_or, arith}
 use Rattle.std.specs.Prelude.{IfSome}
 use Rattle.std.specs.List.{concat, sum_by}
 use Rattle.std.specs.Io.KnownBytes.{Appends}

@@ -1,4 +1,4 @@
-use Rattle.std.proofs.Common.{◌≡◌, ◌++◌, IsTrue, List, map, ap, subst, sym, ◌∙◌}
+use Rattle.std.proofs.Common.{◌++◌, IsTrue, map, ap, subst, sym, ◌∙◌}
 use Rattle.std.proofs.lemmas.Result.{on_ok_weaker}
 use Rattle.grammar_core.specs.Steps.{step_of}
 use Rattle.value_lines.proofs.Pages.{some_given, current_known, place_shown}

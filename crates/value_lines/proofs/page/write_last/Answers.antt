@@ -1,13 +1,11 @@
-use Rattle.std.proofs.Common.{◌≡◌, ◌∷◌, [], ◌++◌, List, refl, sym, subst, ap, ◌∙◌, append_assoc, append-nil, arith}
+use Rattle.std.proofs.Common.{◌∷◌, [], ◌++◌, refl, sym, subst, ◌∙◌, append_assoc, arith}
 use Rattle.std.specs.Prelude.{codes}
 use Rattle.std.specs.Io.KnownBytes.{Appends}
 use Rattle.std.proofs.lemmas.Result.{on_ok_weaker, IfErr-weaker}
 use Rattle.cursor_model.specs.Rest.{place_after}
-use Rattle.forest_model.specs.Forest.{Forest}
-use Rattle.forest_model.specs.Listing.{IsListing}
 use Rattle.run_model.specs.Outside.{stream}
 use Rattle.tree_iter.specs.Iteration.{IsAnswer, AreFew}
-use Rattle.value_lines.specs.Writing.{IsWholeLine, TextStops}
+use Rattle.value_lines.specs.Writing.{TextStops}
 use Rattle.value_lines.proofs.Pages.{left_more, left_end, one_few}
 use Rattle.value_lines.proofs.page.write_last.Goals as goal
 

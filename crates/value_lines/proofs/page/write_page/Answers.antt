@@ -1,4 +1,4 @@
-use Rattle.std.proofs.Common.{◌≡◌, ◌≤◌, ◌+◌, ◌++◌, List, Option, ap, refl, subst, sym}
+use Rattle.std.proofs.Common.{◌≡◌, ◌++◌, List, Option, ap, subst, sym}
 use Rattle.std.specs.Prelude.{MatchOption, IfSome, take}
 use Rattle.std.specs.List.{concat, sum_by}
 use Rattle.std.specs.Io.KnownBytes.{Appends}
