@@ -9,6 +9,7 @@ _slif_options() {
         progress) echo '--grammar --input --at' ;;
         work) echo '--size' ;;
         script) echo '--input' ;;
+        more) echo '--grammar --input --after --first --rank --show' ;;
     esac
 }
 
@@ -25,10 +26,10 @@ _slif() {
     for other in "${COMP_WORDS[@]:1:COMP_CWORD - 1}"; do
         case $last:$other in
             *:=) continue ;;
-            --grammar:* | --input:* | --first:* | --rank:* | --show:* | --at:* | --size:*) other='' ;;
+            --grammar:* | --input:* | --first:* | --rank:* | --show:* | --at:* | --size:* | --after:*) other='' ;;
             *:--) ended=1 ;;
             *:--*) given+=" $other" ;;
-            *:run | *:check | *:expect | *:progress | *:work | *:script | *:glades) job=$other ;;
+            *:run | *:check | *:expect | *:progress | *:work | *:script | *:more | *:glades) job=$other ;;
         esac
         last=$other
     done
@@ -47,11 +48,11 @@ _slif() {
             mapfile -t COMPREPLY < <(compgen -W 'array tree' -- "$word")
             return
             ;;
-        :--first | :--at | :--size) return ;;
+        :--first | :--at | :--size | :--after) return ;;
     esac
     # The jobs that take all options given, and the options that one of them takes and that are not given.
     local jobs='' left=' ' options fits
-    for other in ${job:-run check expect progress work script glades}; do
+    for other in ${job:-run check expect progress work script more glades}; do
         options=" $(_slif_options "$other") "
         fits=1
         for last in $given; do

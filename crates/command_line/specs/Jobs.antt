@@ -4,8 +4,9 @@ use Rattle.std.specs.Option.{option_copied}
 use Rattle.std.specs.Borrow.{Bor}
 use Rattle.words_model.specs.Words as model
 use Rattle.command_line.specs.declared.job.ValuesAsked.{ValuesAsked}
+use Rattle.command_line.specs.declared.job.MoreAsked.{MoreAsked}
 use Rattle.command_line.specs.declared.job.Telling.{Telling}
-use Rattle.command_line.specs.declared.job.Telling.TheVariants.{Values, Expected, Report, Glades}
+use Rattle.command_line.specs.declared.job.Telling.TheVariants.{Values, More, Expected, Report, Glades}
 use Rattle.command_line.specs.declared.job.Task.{Task}
 use Rattle.command_line.specs.declared.job.Task.TheVariants.{Check, Tell, Work, Script}
 use Rattle.command_line.specs.declared.job.InputFrom.{InputFrom}
@@ -15,8 +16,12 @@ use Rattle.command_line.specs.declared.job.Job.{Job}
 abbrev pub asked_of : ValuesAsked → model.ValuesAsked
 asked_of asked = record { show = asked.show; ranking = asked.ranking; first = asked.first; stats = asked.stats }
 
+abbrev pub more_of : MoreAsked → model.MoreAsked
+more_of asked = record { show = asked.show; ranking = asked.ranking; after = asked.after.now; first = asked.first }
+
 abbrev pub telling_of : Telling → model.Telling
 telling_of (Values asked) = model.Values (asked_of asked)
+telling_of (More asked) = model.More (more_of asked)
 telling_of Expected = model.Expected
 telling_of (Report at) = model.Report at
 telling_of Glades = model.Glades

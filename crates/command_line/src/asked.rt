@@ -1,5 +1,5 @@
 // What the matches give to a job.
-ghost use Rattle.std.specs.Prelude.{◌≡◌, not, ◌||◌, is_some, option_map, option_copied, None, codes, bytes_eq};
+ghost use Rattle.std.specs.Prelude.{◌≡◌, not, ◌||◌, is_some, option_map, option_and_then, option_copied, None, codes, bytes_eq};
 ghost use Rattle.std.specs.List.{list_all, list_any};
 ghost use Rattle.clap.specs.Words.{found_of, first_value};
 ghost use Rattle.language_model.specs.Building.{is_one_of};
@@ -9,8 +9,8 @@ ghost use Rattle.command_line.specs.Jobs.{telling_of, task_of, input_of, job_of,
 ghost use Rattle.command_line.specs.Given.{given_in};
 
 use crate::command::WITH_VALUE;
-use crate::job::{InputFrom, Job, Task, Telling, ValuesAsked};
-use crate::value::{file_name, number_from, ranking_of, show_of};
+use crate::job::{InputFrom, Job, MoreAsked, Task, Telling, ValuesAsked};
+use crate::value::{name_or_text, number_from, ranking_of, show_of};
 use clap::ArgMatches;
 use grammar_model::{LAST_PLACE, Ranking, Show};
 
@@ -63,7 +63,7 @@ fn grammar_given<'a>(matches: &ArgMatches<'a>, options: &[&str]) -> Option<Optio
     if !is_among(options, "grammar") {
         return Some(None);
     }
-    let name = file_name(matches.get_str("grammar")?)?;
+    let name = name_or_text(matches.get_str("grammar")?)?;
     Some(Some(name))
 }
 
@@ -76,7 +76,7 @@ fn input_given<'a>(matches: &ArgMatches<'a>, options: &[&str]) -> Option<InputFr
     }
     match matches.get_str("input") {
         None => Some(InputFrom::StandardInput),
-        Some(value) => Some(InputFrom::FileNamed(file_name(value)?)),
+        Some(value) => Some(InputFrom::FileNamed(name_or_text(value)?)),
     }
 }
 
@@ -84,9 +84,10 @@ fn input_given<'a>(matches: &ArgMatches<'a>, options: &[&str]) -> Option<InputFr
 pub fn job_with<'a>(
     matches: &ArgMatches<'a>,
     options: &[&str],
-    task: Option<Task>,
+    task: Option<Task<'a>>,
 ) -> Option<Job<'a>>
-    ensures { option_map job_of result ≡ model.job_with (names_of options.now) (option_map task_of task) (given_in (found_of matches.now)) }
+    ensures { option_map job_of result ≡ model.job_with (names_of options.now)
+        (option_map task_of task.entry) (given_in (found_of matches.now)) }
 {
     if !gives_only(matches, options) {
         return None;
@@ -126,7 +127,7 @@ fn first_given(matches: &ArgMatches<'_>) -> Option<Option<u32>>
 }
 
 /// The values that are asked for; None where an option has no meaning.
-pub fn values_asked(matches: &ArgMatches<'_>) -> Option<Telling>
+pub fn values_asked<'a>(matches: &ArgMatches<'a>) -> Option<Telling<'a>>
     ensures { option_map telling_of result ≡ model.values_asked (given_in (found_of matches.now)) }
 {
     Some(Telling::Values(ValuesAsked {
@@ -137,8 +138,28 @@ pub fn values_asked(matches: &ArgMatches<'_>) -> Option<Telling>
     }))
 }
 
+// The text of the place; None where it is not given or has no meaning.
+fn after_given<'a>(matches: &ArgMatches<'a>) -> Option<&'a str>
+    ensures { option_copied result ≡
+        option_and_then model.name_or_text (given_in (found_of matches.now) (codes "after")) }
+{
+    name_or_text(matches.get_str("after")?)
+}
+
+/// The values after a place that are asked for; None where the place is not given, or an option has no meaning.
+pub fn more_asked<'a>(matches: &ArgMatches<'a>) -> Option<Telling<'a>>
+    ensures { option_map telling_of result ≡ model.more_asked (given_in (found_of matches.now)) }
+{
+    Some(Telling::More(MoreAsked {
+        show: show_given(matches)?,
+        ranking: ranking_given(matches)?,
+        after: after_given(matches)?,
+        first: first_given(matches)?,
+    }))
+}
+
 /// The report that is asked for; None where its place is not given or has no meaning.
-pub fn report_asked(matches: &ArgMatches<'_>) -> Option<Telling>
+pub fn report_asked<'a>(matches: &ArgMatches<'a>) -> Option<Telling<'a>>
     ensures { option_map telling_of result ≡ model.report_asked (given_in (found_of matches.now)) }
 {
     let at = number_from(0, LAST_PLACE, matches.get_str("at")?)?;
@@ -146,7 +167,7 @@ pub fn report_asked(matches: &ArgMatches<'_>) -> Option<Telling>
 }
 
 /// The work that is asked for; None where its size is not given or has no meaning.
-pub fn work_asked(matches: &ArgMatches<'_>) -> Option<Task>
+pub fn work_asked<'a>(matches: &ArgMatches<'a>) -> Option<Task<'a>>
     ensures { option_map task_of result ≡ model.work_asked (given_in (found_of matches.now)) }
 {
     let size = number_from(1, LARGEST_WORK, matches.get_str("size")?)?;

@@ -8,7 +8,9 @@ use clap::{Arg, ArgAction, Command};
 use std::alloc::{AllocError, Global};
 
 /// The options with a value, by their long names.
-pub const WITH_VALUE: &[&str] = &["grammar", "input", "first", "rank", "show", "at", "size"];
+pub const WITH_VALUE: &[&str] = &[
+    "grammar", "input", "first", "rank", "show", "at", "size", "after",
+];
 
 // An option with a value, by its long name.
 fn option<'a>(alloc: Global, name: &'a str) -> Arg<'a>

@@ -5,7 +5,7 @@ ghost use Rattle.words_model.specs.Words as model;
 ghost use Rattle.command_line.specs.Jobs.{telling_of, task_of, job_of, names_of};
 ghost use Rattle.command_line.specs.Given.{given_in};
 
-use crate::asked::{job_with, report_asked, values_asked, work_asked};
+use crate::asked::{job_with, more_asked, report_asked, values_asked, work_asked};
 use clap::ArgMatches;
 use grammar_model::{Ranking, Show};
 
@@ -20,11 +20,24 @@ pub struct ValuesAsked {
     pub stats: bool,
 }
 
+/// Which values are shown, and how, of the derivations after a place.
+#[derive(Clone, Copy, Debug)]
+pub struct MoreAsked<'a> {
+    pub show: Show,
+    pub ranking: Ranking,
+    /// The text of the place: a derivation's cursor, or `0` for the place before the first.
+    pub after: &'a str,
+    /// At most so many; None is all of them.
+    pub first: Option<u32>,
+}
+
 /// What is told of an input that is read to its end.
 #[derive(Clone, Copy, Debug)]
-pub enum Telling {
+pub enum Telling<'a> {
     /// The values of its derivations.
     Values(ValuesAsked),
+    /// The values of those after a place.
+    More(MoreAsked<'a>),
     /// The lexemes that could come next.
     Expected,
     /// The progress report at a place, counted in tokens.
@@ -35,11 +48,11 @@ pub enum Telling {
 
 /// What a job does.
 #[derive(Clone, Copy, Debug)]
-pub enum Task {
+pub enum Task<'a> {
     /// It tells what the symbols of its grammar can do.
     Check,
     /// It tells something of its input.
-    Tell(Telling),
+    Tell(Telling<'a>),
     /// It reads an input of its own, of that size, by a grammar of its own.
     Work { size: u32 },
     /// It plays its input as a script.
@@ -60,15 +73,15 @@ pub struct Job<'a> {
     /// The file of the grammar, if the task needs one.
     pub grammar: Option<&'a str>,
     pub input: InputFrom<'a>,
-    pub task: Task,
+    pub task: Task<'a>,
 }
 
 /// What is told where the words ask for no job.
 pub const USAGE: &[u8] =
-    b"usage: slif JOB [options]; jobs: run, check, expect, progress, work, script, glades";
+    b"usage: slif JOB [options]; jobs: run, check, expect, progress, work, script, more, glades";
 
-fn told(what: Option<Telling>) -> Option<Task>
-    ensures { option_map task_of result ≡ option_map model.Tell (option_map telling_of what) }
+fn told<'a>(what: Option<Telling<'a>>) -> Option<Task<'a>>
+    ensures { option_map task_of result ≡ option_map model.Tell (option_map telling_of what.entry) }
 {
     Some(Task::Tell(what?))
 }
@@ -96,6 +109,11 @@ fn job_named<'a>(matches: &ArgMatches<'a>, name: &str) -> Option<Job<'a>>
         ),
         "work" => job_with(matches, &["size"], work_asked(matches)),
         "script" => job_with(matches, &["input"], Some(Task::Script)),
+        "more" => job_with(
+            matches,
+            &["grammar", "input", "after", "first", "rank", "show"],
+            told(more_asked(matches)),
+        ),
         "glades" => job_with(matches, &["grammar", "input"], told(Some(Telling::Glades))),
         _ => None,
     }

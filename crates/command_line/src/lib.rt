@@ -7,5 +7,5 @@ mod job;
 mod value;
 mod words;
 
-pub use job::{InputFrom, Job, Task, Telling, USAGE, ValuesAsked};
+pub use job::{InputFrom, Job, MoreAsked, Task, Telling, USAGE, ValuesAsked};
 pub use words::read_words;

@@ -7,9 +7,9 @@ ghost use Rattle.words_model.specs.Words as model;
 
 use grammar_model::{Ranking, Show};
 
-/// A name that is not empty and not `-`.
-pub fn file_name(value: &str) -> Option<&str>
-    ensures { option_copied result ≡ model.file_name value.now }
+/// A name or a text that is not empty and not `-`.
+pub fn name_or_text(value: &str) -> Option<&str>
+    ensures { option_copied result ≡ model.name_or_text value.now }
 {
     if value.is_empty() || value == "-" {
         None

@@ -20,6 +20,18 @@ static ROWS: &[Row<'static>] = &[
         Ranking::Rule,
         Wanted::Jumps(42),
     ),
+    (
+        SUM,
+        Input::Row(&[1, 2, 1, 2, 1, 2, 1, 2, 1]),
+        Ranking::None,
+        Wanted::Jumps(14),
+    ),
+    (
+        SUM,
+        Input::Row(&[1, 2, 1, 2, 1, 2, 1, 2, 1]),
+        Ranking::High,
+        Wanted::Jumps(14),
+    ),
     (LOW, Input::Row(&[]), Ranking::Rule, Wanted::Jumps(1)),
     (LOW, Input::Row(&[2]), Ranking::Rule, Wanted::Jumps(2)),
     (HIGH, Input::Row(&[2]), Ranking::Rule, Wanted::Jumps(2)),

@@ -1,6 +1,9 @@
 pub mod Texts
 pub mod Accepted
 pub mod Checked
+pub mod Listed
+pub mod Units
+pub mod More
 pub mod Told
 pub mod Outcomes
 pub mod OneEnd

@@ -1,12 +1,8 @@
 -- What is told of the pieces of an input exists, is one, and has a plain status.
 use Rattle.std.proofs.Common.{◌≡◌, ◌≢◌, ℕ, List, [], ◌∷◌, ◌++◌, Bool, true, false, refl, sym, ap, subst, ◌∙◌, arith, inl, inr, map, chars, slice_index_or, nat_le, leb-true}
 use Rattle.std.proofs.lemmas.Bool.{leb-false}
-use Rattle.grammar_model.specs.Grammar.{slot_of}
 use Rattle.grammar_model.specs.Trees.{Tree}
-use Rattle.grammar_model.specs.Derives.{Held}
-use Rattle.grammar_model.specs.declared.Ranking.{Ranking}
 use Rattle.grammar_model.specs.declared.Ranking.TheVariants.{Rule as RuleRanks}
-use Rattle.grammar_model.proofs.ChosenOnce.{chosen_unique}
 use Rattle.recognizer_model.specs.declared.ReportLine.{ReportLine}
 use Rattle.glade_model.specs.Glades.{Glade}
 use Rattle.glade_model.proofs.Reports.{glades_one}
@@ -14,16 +10,19 @@ use Rattle.language_model.specs.Building.{Built}
 use Rattle.language_model.specs.Texts.{IsBuilt}
 use Rattle.reading_model.specs.Accepted.{IsAccepted}
 use Rattle.reading_model.specs.Reading.{Piece, edges_of, earleme_after}
-use Rattle.words_model.specs.Words.{ValuesAsked, Telling}
-use Rattle.words_model.specs.Words.Telling.{Values, Expected, Report, Glades}
+use Rattle.words_model.specs.Words.{ValuesAsked, MoreAsked, Telling}
+use Rattle.words_model.specs.Words.Telling.{Values, More, Expected, Report, Glades}
 use Rattle.run_model.specs.Listing.{AreDerivations}
 use Rattle.run_model.specs.Numbers.{Numbers}
-use Rattle.run_model.specs.Telling.{Outcome, refused, done, name_line, report_line, glade_line, value_lines, stats_lines, no_derivation_text, no_set_text, TellsExpected, TellsValues, TellsReport, TellsGlades, Tells}
+use Rattle.run_model.specs.Telling.{Outcome, refused, done, name_line, report_line, glade_line, value_lines, stats_lines, no_derivation_text, no_set_text, TellsExpected, TellsValues, TellsMore, TellsReport, TellsGlades, Tells}
 use Rattle.run_model.specs.Telling.TellsValues.{NoDerivation, Derived}
+use Rattle.run_model.specs.Telling.TellsMore.{Ungiven, NoPlace, GoesOn}
 use Rattle.run_model.specs.Telling.TellsReport.{NoSuchSet, Reported}
 use Rattle.run_model.specs.Telling.TellsGlades.{Underived, Compared}
 use Rattle.run_model.specs.Outcome.{IsInputOutcome}
 use Rattle.run_model.specs.Outcome.IsInputOutcome.{InputRefused, InputRead}
+use Rattle.run_model.proofs.Listed.{same_trees, no_tree}
+use Rattle.run_model.proofs.More.{one_more, some_more}
 use Rattle.run_model.proofs.Inputs.{ReadingLaws, read_or, one_read, not_both, one_refused}
 
 -- ONE OF EACH
@@ -33,20 +32,13 @@ module _ (laws : ReadingLaws) (b : Built) (pieces : List Piece) where
   one_expected x y p q =
       p.is ∙ ap (λ symbols. done (map (name_line b.g1) symbols)) (laws.one_expected b pieces p.expected q.expected p.are q.are) ∙ sym q.is
 
-  same_trees : (ranking : Ranking) (ts us : List Tree) → AreDerivations b ranking pieces ts → AreDerivations b ranking pieces us → ts ≡ us
-  same_trees ranking ts us p q =
-      chosen_unique b.g1 (Held (edges_of pieces)) ranking (slot_of (slice_index_or b.g1.starts 0 0)) 0 (earleme_after pieces) ts us p q
-
-  no_tree : (ranking : Ranking) (t : Tree) (ts : List Tree) → AreDerivations b ranking pieces [] → AreDerivations b ranking pieces (t ∷ ts) → ⊥
-  no_tree ranking t ts p q = let e : [] ≡ t ∷ ts = same_trees ranking [] (t ∷ ts) p q in cc e
-
   one_values : (asked : ValuesAsked) (cs : List ℕ) (x y : Outcome) → TellsValues asked b cs pieces x → TellsValues asked b cs pieces y → x ≡ y
   one_values asked cs x y (NoDerivation expected none are is) (NoDerivation expected' none' are' is') =
       is ∙ ap (λ symbols. refused 1 (no_derivation_text b.g1 symbols)) (laws.one_expected b pieces expected expected' are are') ∙ sym is'
-  one_values asked cs x y (NoDerivation expected none are is) (Derived t ts n all has is') = absurd (no_tree asked.ranking t ts none all)
-  one_values asked cs x y (Derived t ts n all has is) (NoDerivation expected none are is') = absurd (no_tree asked.ranking t ts none all)
+  one_values asked cs x y (NoDerivation expected none are is) (Derived t ts n all has is') = absurd (no_tree b asked.ranking pieces t ts none all)
+  one_values asked cs x y (Derived t ts n all has is) (NoDerivation expected none are is') = absurd (no_tree b asked.ranking pieces t ts none all)
   one_values asked cs x y (Derived t ts n all has is) (Derived u us m all' has' is') =
-      is ∙ ap (λ trees. done (value_lines b asked cs pieces trees ++ stats_lines asked.stats n)) (same_trees asked.ranking (t ∷ ts) (u ∷ us) all all')
+      is ∙ ap (λ trees. done (value_lines b asked cs pieces trees ++ stats_lines asked.stats n)) (same_trees b asked.ranking pieces (t ∷ ts) (u ∷ us) all all')
       ∙ ap (λ (k : Numbers). done (value_lines b asked cs pieces (u ∷ us) ++ stats_lines asked.stats k)) (laws.one_numbers b asked.ranking pieces n m has has') ∙ sym is'
 
   one_report : (at : ℕ) (x y : Outcome) → TellsReport b at pieces x → TellsReport b at pieces y → x ≡ y
@@ -59,14 +51,15 @@ module _ (laws : ReadingLaws) (b : Built) (pieces : List Piece) where
   one_compared : (x y : Outcome) → TellsGlades b pieces x → TellsGlades b pieces y → x ≡ y
   one_compared x y (Underived expected none are is) (Underived expected' none' are' is') =
       is ∙ ap (λ symbols. refused 1 (no_derivation_text b.g1 symbols)) (laws.one_expected b pieces expected expected' are are') ∙ sym is'
-  one_compared x y (Underived expected none are is) (Compared t ts glades all are' is') = absurd (no_tree RuleRanks t ts none all)
-  one_compared x y (Compared t ts glades all are is) (Underived expected none are' is') = absurd (no_tree RuleRanks t ts none all)
+  one_compared x y (Underived expected none are is) (Compared t ts glades all are' is') = absurd (no_tree b RuleRanks pieces t ts none all)
+  one_compared x y (Compared t ts glades all are is) (Underived expected none are' is') = absurd (no_tree b RuleRanks pieces t ts none all)
   one_compared x y (Compared t ts glades all are is) (Compared t' ts' glades' all' are' is') =
       is ∙ ap (λ (gs : List Glade). done (map (glade_line b.g1) gs))
       (glades_one b.g1 (edges_of pieces) (slice_index_or b.g1.starts 0 0) (earleme_after pieces) glades glades' are are') ∙ sym is'
 
   pub one_told : (what : Telling) (cs : List ℕ) (x y : Outcome) → Tells what b cs pieces x → Tells what b cs pieces y → x ≡ y
   one_told (Values asked) cs x y p q = one_values asked cs x y p q
+  one_told (More asked) cs x y p q = one_more b asked cs pieces (laws.one_expected b pieces) x y p q
   one_told Expected cs x y p q = one_expected x y p q
   one_told (Report at) cs x y p q = one_report at x y p q
   one_told Glades cs x y p q = one_compared x y p q
@@ -113,6 +106,10 @@ module _ (laws : ReadingLaws) (b : Built) (built : IsBuilt b) (accepted : IsAcce
 
   pub some_told : (what : Telling) (cs : List ℕ) → (outcome : Outcome) × Tells what b cs pieces outcome
   some_told (Values asked) cs = some_values asked cs
+  some_told (More asked) cs =
+      let (trees, are) = laws.derivations b asked.ranking pieces built accepted in
+      let (expected, e) = laws.expected b pieces built accepted in
+      some_more b asked cs pieces trees expected are e
   some_told Expected cs =
       let (expected, are) = laws.expected b pieces built accepted in
       (done (map (name_line b.g1) expected), record { expected = expected; are = are; is = refl })
@@ -139,6 +136,11 @@ plain_values : (asked : ValuesAsked) (b : Built) (cs : List ℕ) (pieces : List 
 plain_values asked b cs pieces outcome (NoDerivation expected none are is) = plain_at outcome _ is (λ e. omega arith) (λ e. omega arith)
 plain_values asked b cs pieces outcome (Derived tree trees n are has is) = plain_at outcome _ is (λ e. omega arith) (λ e. omega arith)
 
+plain_more : (asked : MoreAsked) (b : Built) (cs : List ℕ) (pieces : List Piece) (outcome : Outcome) → TellsMore asked b cs pieces outcome → IsPlain outcome
+plain_more asked b cs pieces outcome (Ungiven expected none are is) = plain_at outcome _ is (λ e. omega arith) (λ e. omega arith)
+plain_more asked b cs pieces outcome (NoPlace tree trees are none is) = plain_at outcome _ is (λ e. omega arith) (λ e. omega arith)
+plain_more asked b cs pieces outcome (GoesOn tree trees rest are left is) = plain_at outcome _ is (λ e. omega arith) (λ e. omega arith)
+
 plain_report : (b : Built) (at : ℕ) (pieces : List Piece) (outcome : Outcome) → TellsReport b at pieces outcome → IsPlain outcome
 plain_report b at pieces outcome (NoSuchSet past is) = plain_at outcome _ is (λ e. omega arith) (λ e. omega arith)
 plain_report b at pieces outcome (Reported lines within are is) = plain_at outcome _ is (λ e. omega arith) (λ e. omega arith)
@@ -149,6 +151,7 @@ plain_compared b pieces outcome (Compared tree trees glades all are is) = plain_
 
 pub plain_told : (what : Telling) (b : Built) (cs : List ℕ) (pieces : List Piece) (outcome : Outcome) → Tells what b cs pieces outcome → IsPlain outcome
 plain_told (Values asked) b cs pieces outcome told = plain_values asked b cs pieces outcome told
+plain_told (More asked) b cs pieces outcome told = plain_more asked b cs pieces outcome told
 plain_told Expected b cs pieces outcome told = plain_at outcome _ told.is (λ e. omega arith) (λ e. omega arith)
 plain_told (Report at) b cs pieces outcome told = plain_report b at pieces outcome told
 plain_told Glades b cs pieces outcome told = plain_compared b pieces outcome told

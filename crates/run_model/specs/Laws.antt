@@ -1,12 +1,21 @@
 -- Laws of the definitions.
-use Rattle.std.specs.Prelude.{◌≡◌, ◌≢◌, ℕ, ◌<◌, List, [], ◌∷◌, length, Option, Some, IfSome, codes}
-use Rattle.grammar_model.specs.declared.limits.TheConstants.{LONGEST_GRAMMAR, LONGEST_INPUT}
+use Rattle.std.specs.Prelude.{◌≡◌, ◌≢◌, ℕ, ◌<◌, ◌≤◌, List, [], ◌∷◌, ◌++◌, length, take, drop, false, Option, Some, None, IfSome, codes}
+use Rattle.grammar_model.specs.Trees.{Tree}
+use Rattle.grammar_model.specs.declared.Ranking.{Ranking}
+use Rattle.grammar_model.specs.declared.Show.{Show}
+use Rattle.grammar_model.specs.declared.limits.TheConstants.{LONGEST_CURSOR, LONGEST_GRAMMAR, LONGEST_INPUT}
+use Rattle.cursor_model.specs.Rest.{start_text, place_after}
+use Rattle.language_model.specs.Building.{Built}
+use Rattle.reading_model.specs.Reading.{Piece}
 use Rattle.outside_model.specs.Told.{ToldFile}
 use Rattle.outside_model.specs.Told.ToldFile.{Untold, Missing}
-use Rattle.words_model.specs.Words.{Job, Asks}
+use Rattle.words_model.specs.Words.{Job, Telling, Asks}
 use Rattle.words_model.specs.Words.InputFrom.{FileNamed}
+use Rattle.words_model.specs.Words.Telling.{Values, More}
 use Rattle.run_model.specs.Jobs.{work_grammar, work_input}
-use Rattle.run_model.specs.Outcome.{Outcome, IsOutcome, refused, usage}
+use Rattle.run_model.specs.Listing.{AreDerivations}
+use Rattle.run_model.specs.More.{end_line, last_line}
+use Rattle.run_model.specs.Outcome.{Outcome, IsOutcome, Tells, refused, usage}
 use Rattle.run_model.specs.Runs.{MayEnd}
 
 -- the words, the grammar and the input have an outcome
@@ -45,3 +54,35 @@ pub record StatusesOccur : Type 0 where
   pub input_refused : (input : List ℕ) → LONGEST_INPUT < length input → IsOutcome run_words work_grammar input (refused 1 (codes "input is longer than 16777216 bytes"))
   pub no_job : IsOutcome [] [] [] usage
   pub grammar_refused : (grammar input : List ℕ) → LONGEST_GRAMMAR < length grammar → IsOutcome run_words grammar input (refused 3 (codes "grammar: longer than 1048576 bytes"))
+
+-- GOING ON
+
+-- the values of so many of the first derivations, or of all
+abbrev pub values_first : Show → Ranking → Option ℕ → Telling
+values_first show ranking first =
+    Values (record { show = show; ranking = ranking; first = first; stats = false })
+
+-- all after these
+abbrev pub from_place : Show → Ranking → (before : List Tree) → Telling
+from_place show ranking before =
+    More (record { show = show; ranking = ranking; after = place_after start_text before; first = None })
+
+-- what `run` tells of the derivations up to a place, and after it what `more` tells from that place on, are what `run` tells of all, and
+-- a line that nothing is left; so it is at each place whose text is not too long
+abbrev pub GoingOnIsWhole : Type 0
+GoingOnIsWhole =
+    (b : Built) (show : Show) (ranking : Ranking) (cs : List ℕ) (pieces : List Piece)
+    (tree : Tree) (trees before rest : List Tree) → AreDerivations b ranking pieces (tree ∷ trees) →
+    tree ∷ trees ≡ before ++ rest → length (place_after start_text before) ≤ LONGEST_CURSOR →
+    (first more all : Outcome) →
+    Tells (values_first show ranking (Some (length before))) b cs pieces first →
+    Tells (from_place show ranking before) b cs pieces more →
+    Tells (values_first show ranking None) b cs pieces all →
+    first.out ++ more.out ≡ all.out ++ end_line
+
+-- the last line of a page of at most so many tells the place after all that were given up to it: so pages, each from the place that the
+-- one before it told, follow one another
+abbrev pub PagesFollow : Type 0
+PagesFollow =
+    (after : List ℕ) (before rest : List Tree) (n : ℕ) → after ≡ place_after start_text before →
+    last_line after (take n rest) (drop n rest) ≡ last_line start_text (before ++ take n rest) (drop n rest)

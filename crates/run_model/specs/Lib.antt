@@ -6,6 +6,7 @@ pub mod Listing
 pub mod Numbers
 pub mod Steps
 pub mod Glades
+pub mod More
 pub mod Telling
 pub mod Jobs
 pub mod Outcome

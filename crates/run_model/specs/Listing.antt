@@ -1,7 +1,7 @@
 -- What job `run` tells of an input that is read to its end: the chosen derivations of its tokens from the start symbol, in the
 -- declared order, each with the text of its value.
 -- Source: the Libmarpa manual (bocage, order, tree, value); the order is our own.
-use Rattle.std.specs.Prelude.{ℕ, ◌+◌, ◌++◌, List, [], ◌∷◌, map, take, Option, Some, None, slice_index_or, slice_range, encode_utf8_all}
+use Rattle.std.specs.Prelude.{ℕ, ◌+◌, ◌++◌, List, [], ◌∷◌, map, take, drop, Option, Some, None, slice_index_or, slice_range, encode_utf8_all}
 use Rattle.grammar_model.specs.Grammar.{slot_of}
 use Rattle.grammar_model.specs.Trees.{Tree}
 use Rattle.grammar_model.specs.Derives.{Held}
@@ -32,3 +32,8 @@ line_of b show cs pieces t = text_of (value_of show b.g1 b.meaning (tokens_in cs
 abbrev pub first_of : {X : Type 0} → Option ℕ → List X → List X
 first_of None xs = xs
 first_of (Some n) xs = take n xs
+
+-- those after so many of the first
+abbrev pub beyond : {X : Type 0} → Option ℕ → List X → List X
+beyond None xs = []
+beyond (Some n) xs = drop n xs

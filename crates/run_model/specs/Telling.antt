@@ -1,7 +1,7 @@
 -- What the jobs tell of an input that is read to its end, by its pieces, and in how many steps.
 -- Sources: the Libmarpa manual (progress reports; bocage, order, tree, value), the Marpa::R2 SLIF DSL manual (lexemes that are
 -- expected) and the Marpa::R2 documentation of its ambiguity reports; the texts are our own.
-use Rattle.std.specs.Prelude.{◌≡◌, ℕ, ◌<◌, ◌≤◌, ◌==◌, ◌++◌, if◌then◌else◌, Bool, ⊤, Option, List, [], ◌∷◌, map, flat_map, slice_index_or, codes, chars, encode_utf8, decimal}
+use Rattle.std.specs.Prelude.{◌≡◌, ℕ, ◌+◌, ◌*◌, ◌<◌, ◌≤◌, ◌==◌, ◌++◌, if◌then◌else◌, Bool, ⊤, Option, List, [], ◌∷◌, map, take, flat_map, slice_index_or, codes, chars, encode_utf8, decimal}
 use Rattle.std.specs.List.{concat}
 use Rattle.std.specs.Str.Lossy.{utf8_lossy}
 use Rattle.grammar_model.specs.Grammar.{Grammar}
@@ -14,13 +14,15 @@ use Rattle.recognizer_model.specs.declared.ReportLine.{ReportLine}
 use Rattle.report_model.specs.Report.{IsReport}
 pub use Rattle.report_model.specs.Lines.{report_line}
 use Rattle.glade_model.specs.Glades.{Glade, AreGlades}
+use Rattle.cursor_model.specs.Rest.{IsPlaceOf, IsRest, NamesNone}
 use Rattle.language_model.specs.Building.{Built}
 use Rattle.reading_model.specs.Reading.{Piece, AreExpected, edges_of, earleme_after}
-use Rattle.words_model.specs.Words.{ValuesAsked, Telling}
-use Rattle.words_model.specs.Words.Telling.{Values, Expected, Report, Glades}
+use Rattle.words_model.specs.Words.{ValuesAsked, MoreAsked, Telling}
+use Rattle.words_model.specs.Words.Telling.{Values, More, Expected, Report, Glades}
 pub use Rattle.run_model.specs.Glades.{glade_line}
 use Rattle.run_model.specs.Inputs.{names_text}
-use Rattle.run_model.specs.Listing.{AreDerivations, line_of, first_of}
+use Rattle.run_model.specs.Listing.{AreDerivations, line_of, first_of, beyond}
+use Rattle.run_model.specs.More.{page_lines, last_steps}
 use Rattle.run_model.specs.Numbers.{Numbers, HasNumbers}
 use Rattle.run_model.specs.Steps.{IsWithinLooks, IsWithinSteps}
 
@@ -92,6 +94,22 @@ pub data TellsValues (asked : ValuesAsked) (b : Built) (cs : List ℕ) (pieces :
   Derived : (tree : Tree) (trees : List Tree) (n : Numbers) → AreDerivations b asked.ranking pieces (tree ∷ trees) → HasNumbers b asked.ranking pieces n →
       outcome ≡ done (value_lines b asked cs pieces (tree ∷ trees) ++ stats_lines asked.stats n) → TellsValues asked b cs pieces outcome
 
+-- the values of the derivations after a place, and where to go on; or there is no derivation; or the text names no place
+pub data TellsMore (asked : MoreAsked) (b : Built) (cs : List ℕ) (pieces : List Piece) (outcome : Outcome) : Type 0 where
+  Ungiven : (expected : List ℕ) → AreDerivations b asked.ranking pieces [] →
+      AreExpected b pieces expected → outcome ≡ refused 1 (no_derivation_text b.g1 expected) →
+      TellsMore asked b cs pieces outcome
+  NoPlace : (tree : Tree) (trees : List Tree) →
+      AreDerivations b asked.ranking pieces (tree ∷ trees) →
+      NamesNone (tree ∷ trees) asked.after →
+      outcome ≡ refused 1 (codes "the cursor names no derivation") →
+      TellsMore asked b cs pieces outcome
+  GoesOn : (tree : Tree) (trees rest : List Tree) →
+      AreDerivations b asked.ranking pieces (tree ∷ trees) →
+      IsRest (tree ∷ trees) asked.after rest →
+      outcome ≡ done (page_lines b asked.show asked.first asked.after cs pieces rest) →
+      TellsMore asked b cs pieces outcome
+
 -- the report at a place; or it is past the last
 pub data TellsReport (b : Built) (at : ℕ) (pieces : List Piece) (outcome : Outcome) : Type 0 where
   NoSuchSet : earleme_after pieces < at → outcome ≡ refused 1 (no_set_text at (earleme_after pieces)) → TellsReport b at pieces outcome
@@ -108,6 +126,7 @@ pub data TellsGlades (b : Built) (pieces : List Piece) (outcome : Outcome) : Typ
 -- what is told of these characters, which were read in these pieces
 abbrev pub Tells : Telling → Built → (cs : List ℕ) → List Piece → Outcome → Type 0
 Tells (Values asked) b cs pieces outcome = TellsValues asked b cs pieces outcome
+Tells (More asked) b cs pieces outcome = TellsMore asked b cs pieces outcome
 Tells Expected b cs pieces outcome = TellsExpected b pieces outcome
 Tells (Report at) b cs pieces outcome = TellsReport b at pieces outcome
 Tells Glades b cs pieces outcome = TellsGlades b pieces outcome
@@ -120,6 +139,18 @@ pub record GivesWithin (b : Built) (ranking : Ranking) (first : Option ℕ) (pie
   pub all : AreDerivations b ranking pieces trees
   pub within : IsWithinSteps b ranking pieces (first_of first trees) before after
 
+-- so many of those after a place are given within the bound, and one more is looked for; finding the place takes at most seven steps for
+-- each step of the derivation that it comes after
+pub record MoreWithin (asked : MoreAsked) (b : Built) (pieces : List Piece) (before after : ℕ) : Type 0 where
+  pub trees : List Tree
+  pub all : AreDerivations b asked.ranking pieces trees
+  pub given : List Tree
+  pub rest : List Tree
+  pub place : IsPlaceOf asked.after trees given rest
+  pub within : IsWithinSteps b asked.ranking pieces
+      (first_of asked.first rest ++ take 1 (beyond asked.first rest))
+      (before + 7 * last_steps given) after
+
 -- each node of the forest is looked at once, at most
 pub record ComparesWithin (b : Built) (pieces : List Piece) (before after : ℕ) : Type 0 where
   pub numbers : Numbers
@@ -129,6 +160,7 @@ pub record ComparesWithin (b : Built) (pieces : List Piece) (before after : ℕ)
 -- the steps of the reading in these pieces and of what is told of it, where they have a bound
 abbrev pub TellsWithin : Telling → Built → List Piece → (before after : ℕ) → Type 0
 TellsWithin (Values asked) b pieces before after = GivesWithin b asked.ranking asked.first pieces before after
+TellsWithin (More asked) b pieces before after = MoreWithin asked b pieces before after
 TellsWithin Expected b pieces before after = ⊤
 TellsWithin (Report at) b pieces before after = ⊤
 TellsWithin Glades b pieces before after = ComparesWithin b pieces before after

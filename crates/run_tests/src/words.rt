@@ -1,5 +1,5 @@
 //! Words of the command line, and what they ask for.
-use command_line::{InputFrom, Job, Task, Telling, ValuesAsked, read_words};
+use command_line::{InputFrom, Job, MoreAsked, Task, Telling, ValuesAsked, read_words};
 use grammar_model::{Ranking, Show};
 use run_scenes::words_of;
 use std::alloc::{AllocError, Global};
@@ -30,11 +30,27 @@ enum Asked {
     Glades,
     Work,
     Script,
+    MoreGiven,
+    MoreLeftOut,
     Nothing,
 }
 
+fn is_more_given(asked: MoreAsked<'_>) -> bool {
+    asked.show == Show::Tree
+        && asked.ranking == Ranking::High
+        && asked.first == Some(7)
+        && asked.after == "-x"
+}
+
+fn is_more_left_out(asked: MoreAsked<'_>) -> bool {
+    asked.show == Show::Array
+        && asked.ranking == Ranking::Rule
+        && asked.first.is_none()
+        && asked.after == "0"
+}
+
 // Whether the task is the one that is wanted.
-fn is_task(task: Task, wanted: Asked) -> bool {
+fn is_task(task: Task<'_>, wanted: Asked) -> bool {
     match (task, wanted) {
         (Task::Tell(Telling::Values(asked)), Asked::AllGiven) => is_all_given(asked),
         (Task::Tell(Telling::Values(asked)), Asked::AllLeftOut) => is_all_left_out(asked),
@@ -44,6 +60,8 @@ fn is_task(task: Task, wanted: Asked) -> bool {
         (Task::Tell(Telling::Glades), Asked::Glades) => true,
         (Task::Work { size }, Asked::Work) => size == 100_000,
         (Task::Script, Asked::Script) => true,
+        (Task::Tell(Telling::More(asked)), Asked::MoreGiven) => is_more_given(asked),
+        (Task::Tell(Telling::More(asked)), Asked::MoreLeftOut) => is_more_left_out(asked),
         _ => false,
     }
 }
@@ -52,6 +70,7 @@ fn grammar_wanted(wanted: Asked) -> Option<&'static str> {
     match wanted {
         Asked::AllGiven | Asked::AllLeftOut => Some("g.slif"),
         Asked::Check | Asked::Progress | Asked::Glades => Some("g"),
+        Asked::MoreGiven | Asked::MoreLeftOut => Some("g"),
         Asked::Expect => Some("--"),
         Asked::Work | Asked::Script | Asked::Nothing => None,
     }
@@ -63,7 +82,9 @@ fn is_input(input: InputFrom<'_>, wanted: Asked) -> bool {
         (InputFrom::FileNamed(name), Asked::AllGiven) => name == "i.txt",
         (InputFrom::FileNamed(name), Asked::Expect) => name == "-x",
         (InputFrom::FileNamed(name), Asked::Script) => name == "s.txt",
+        (InputFrom::FileNamed(name), Asked::MoreGiven) => name == "i.txt",
         (InputFrom::StandardInput, Asked::AllLeftOut | Asked::Progress | Asked::Glades) => true,
+        (InputFrom::StandardInput, Asked::MoreLeftOut) => true,
         (InputFrom::Nowhere, Asked::Check | Asked::Work) => true,
         _ => false,
     }
@@ -120,7 +141,7 @@ fn options_stand_in_any_order_and_spelling(rt: HostRuntime) -> Result<(), Fail> 
     Ok(())
 }
 
-static JOBS: [(&[&str], Asked); 6] = [
+static JOBS: [(&[&str], Asked); 8] = [
     (&["check", "--grammar", "g"], Asked::Check),
     (&["expect", "--input=-x", "--grammar=--"], Asked::Expect),
     (
@@ -130,6 +151,22 @@ static JOBS: [(&[&str], Asked); 6] = [
     (&["work", "--size=0000100000"], Asked::Work),
     (&["--grammar=g", "glades"], Asked::Glades),
     (&["--input", "s.txt", "script"], Asked::Script),
+    (
+        &[
+            "more",
+            "--after=-x",
+            "--grammar=g",
+            "--first=7",
+            "--rank=high",
+            "--show=tree",
+            "--input=i.txt",
+        ],
+        Asked::MoreGiven,
+    ),
+    (
+        &["--after", "0", "more", "--grammar", "g"],
+        Asked::MoreLeftOut,
+    ),
 ];
 
 #[test]
@@ -138,7 +175,7 @@ fn each_job_is_read(rt: HostRuntime) -> Result<(), Fail> {
     Ok(())
 }
 
-static NOTHING: [&[&str]; 20] = [
+static NOTHING: [&[&str]; 27] = [
     &[],
     &["run"],
     &["--grammar", "g"],
@@ -159,6 +196,13 @@ static NOTHING: [&[&str]; 20] = [
     &["glades", "--grammar", "g", "--first", "1"],
     &["script", "--grammar", "g"],
     &["script", "--input", ""],
+    &["more", "--grammar", "g", "--first", "1"],
+    &["more", "--grammar", "g", "--after", ""],
+    &["more", "--grammar", "g", "--after=-"],
+    &["more", "--grammar", "g", "--after", "-x"],
+    &["more", "--grammar", "g", "--after", "0", "--stats"],
+    &["more", "--grammar", "g", "--after", "0", "--first", "0"],
+    &["run", "--grammar", "g", "--after", "0"],
 ];
 
 #[test]

@@ -18,3 +18,6 @@ pub mod Derivations
 pub mod Numbered
 pub mod Compared
 pub mod ScriptLemmas
+pub mod Spelled
+pub mod Placed
+pub mod Paged

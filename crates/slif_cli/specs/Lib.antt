@@ -1,3 +1,4 @@
 pub mod Stops
 pub mod Tasks
+pub mod Places
 pub mod Refusals

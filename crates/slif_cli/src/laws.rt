@@ -1,5 +1,5 @@
 //! Laws of what a run means. Each is shown by a contract alone, and its function does nothing.
-ghost use Rattle.run_model.specs.Laws.{HasOutcome, HasOneOutcome, HasOneEnd, HasEnd, StatusesOccur};
+ghost use Rattle.run_model.specs.Laws.{HasOutcome, HasOneOutcome, HasOneEnd, HasEnd, StatusesOccur, GoingOnIsWhole, PagesFollow};
 
 /// Whatever the words, the grammar and the input are, there is an outcome.
 pub fn has_outcome()
@@ -24,4 +24,14 @@ pub fn has_end()
 /// Each status from 0 to 3 comes up.
 pub fn statuses_occur()
     ensures { StatusesOccur }
+{}
+
+/// The values up to a place, and those that job `more` tells from that place on, are all values.
+pub fn going_on_is_whole()
+    ensures { GoingOnIsWhole }
+{}
+
+/// Pages of job `more`, each from the place that the one before it told, follow one another.
+pub fn pages_follow()
+    ensures { PagesFollow }
 {}

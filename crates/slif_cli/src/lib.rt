@@ -13,6 +13,8 @@ mod top;
 mod working;
 mod writing;
 
-pub use laws::{has_end, has_outcome, one_end, one_outcome, statuses_occur};
+pub use laws::{
+    going_on_is_whole, has_end, has_outcome, one_end, one_outcome, pages_follow, statuses_occur,
+};
 pub use messages::{FAULT, OUT_OF_MEMORY};
 pub use top::run;

@@ -18,6 +18,8 @@ ghost use Rattle.slif_cli.specs.Tasks.{TellsReading, GoesOnWithin};
 mod expecting;
 mod glade_lines;
 mod glading;
+mod paging;
+mod places;
 mod reporting;
 mod values;
 
@@ -25,6 +27,7 @@ use crate::inputs::read_bytes;
 use crate::stop::Stop;
 use crate::telling::expecting::write_expected;
 use crate::telling::glading::write_glades;
+use crate::telling::paging::write_more;
 use crate::telling::reporting::write_report;
 use crate::telling::values::write_values;
 use command_line::{InputFrom, Telling};
@@ -39,7 +42,7 @@ use valuator::Teller;
 pub fn tell_input<'a, F: Files, I: Source, O: Sink, L: Ledger>(
     alloc: Global,
     prepared: &Prepared,
-    what: Telling,
+    what: Telling<'_>,
     from: InputFrom<'a>,
     files: &mut F,
     input: &mut I,
@@ -49,14 +52,14 @@ pub fn tell_input<'a, F: Files, I: Source, O: Sink, L: Ledger>(
 ) -> Result<(), Stop<'a>>
     requires somewhere { input_of from ≢ Nowhere }
     requires tellers { AreBothTellers (states tellers.items shows held) }
-    ensures done { OnOk result (Does (MayRead (IsInputOutcome (telling_of what) prepared.now) (input_of from.entry) (F.told files.old) (I.left input.old))
+    ensures done { OnOk result (Does (MayRead (IsInputOutcome (telling_of what.entry) prepared.now) (input_of from.entry) (F.told files.old) (I.left input.old))
         (O.contents out.old) (O.contents out.new)) }
-    ensures stops { IfErr result (StopsAt (MayRead (IsInputOutcome (telling_of what) prepared.now) (input_of from.entry) (F.told files.old) (I.left input.old))
+    ensures stops { IfErr result (StopsAt (MayRead (IsInputOutcome (telling_of what.entry) prepared.now) (input_of from.entry) (F.told files.old) (I.left input.old))
         (λ asked. Rose (F.fault_count files.old) (F.fault_count files.new) × (input_of from.entry ≡ FileNamed asked))
         (Rose (F.fault_count files.old) (F.fault_count files.new) ⊎ Rose (I.fault_count input.old) (I.fault_count input.new))
         (stream O.contents O.fault_count out.old) (stream O.contents O.fault_count out.new)) }
     ensures counted { OnOk result (InputHolds (input_of from.entry) (F.told files.old) (I.left input.old)
-        (λ bytes. InputWithin (telling_of what) prepared.now bytes steps.old steps.new)) }
+        (λ bytes. InputWithin (telling_of what.entry) prepared.now bytes steps.old steps.new)) }
     ensures later { F.fault_count files.old ≤ F.fault_count files.new }
     ensures input_later { I.fault_count input.old ≤ I.fault_count input.new }
     ensures out_later { O.fault_count out.old ≤ O.fault_count out.new }
@@ -72,7 +75,7 @@ pub fn tell_input<'a, F: Files, I: Source, O: Sink, L: Ledger>(
 fn tell_bytes<'a, O: Sink, L: Ledger>(
     alloc: Global,
     prepared: &Prepared,
-    what: Telling,
+    what: Telling<'_>,
     bytes: Vec<u8>,
     out: &mut O,
     tellers: Vec<Box<dyn Teller>>,
@@ -80,10 +83,10 @@ fn tell_bytes<'a, O: Sink, L: Ledger>(
 ) -> Result<(), Stop<'a>>
     requires few { length bytes.items ≤ LONGEST_INPUT }
     requires tellers { AreBothTellers (states tellers.items shows held) }
-    ensures done { OnOk result (Does (IsInputOutcome (telling_of what) prepared.now bytes.items) (O.contents out.old) (O.contents out.new)) }
-    ensures stops { IfErr result (WriteStops (IsInputOutcome (telling_of what) prepared.now bytes.items)
+    ensures done { OnOk result (Does (IsInputOutcome (telling_of what.entry) prepared.now bytes.items) (O.contents out.old) (O.contents out.new)) }
+    ensures stops { IfErr result (WriteStops (IsInputOutcome (telling_of what.entry) prepared.now bytes.items)
         (stream O.contents O.fault_count out.old) (stream O.contents O.fault_count out.new)) }
-    ensures counted { OnOk result (InputWithin (telling_of what) prepared.now bytes.items steps.old steps.new) }
+    ensures counted { OnOk result (InputWithin (telling_of what.entry) prepared.now bytes.items steps.old steps.new) }
     ensures out_later { O.fault_count out.old ≤ O.fault_count out.new }
 {
     let chars = input_chars(alloc, bytes)?;
@@ -97,7 +100,7 @@ fn tell_bytes<'a, O: Sink, L: Ledger>(
 fn tell_reading<'a, O: Sink, L: Ledger>(
     alloc: Global,
     prepared: &Prepared,
-    what: Telling,
+    what: Telling<'_>,
     chars: &Chars,
     reading: &Reading<'_>,
     out: &mut O,
@@ -107,14 +110,17 @@ fn tell_reading<'a, O: Sink, L: Ledger>(
     requires few { length chars.now ≤ LONGEST_INPUT }
     requires read { IsReadingOf prepared.now chars.now reading.now.recce reading.now.spans.items End }
     requires tellers { AreBothTellers (states tellers.items shows held) }
-    ensures done { OnOk result (Does (TellsReading (telling_of what) prepared.now chars.now) (O.contents out.old) (O.contents out.new)) }
-    ensures stops { IfErr result (WriteStops (TellsReading (telling_of what) prepared.now chars.now)
+    ensures done { OnOk result (Does (TellsReading (telling_of what.entry) prepared.now chars.now) (O.contents out.old) (O.contents out.new)) }
+    ensures stops { IfErr result (WriteStops (TellsReading (telling_of what.entry) prepared.now chars.now)
         (stream O.contents O.fault_count out.old) (stream O.contents O.fault_count out.new)) }
-    ensures counted { OnOk result (GoesOnWithin (telling_of what) prepared.now chars.now reading.now.recce steps.old steps.new) }
+    ensures counted { OnOk result (GoesOnWithin (telling_of what.entry) prepared.now chars.now reading.now.recce steps.old steps.new) }
     ensures out_later { O.fault_count out.old ≤ O.fault_count out.new }
 {
     match what {
         Telling::Values(asked) => write_values(
+            alloc, prepared, asked, chars, reading, out, tellers, steps,
+        ),
+        Telling::More(asked) => write_more(
             alloc, prepared, asked, chars, reading, out, tellers, steps,
         ),
         Telling::Expected => write_expected(alloc, prepared, chars, reading, out),

@@ -161,7 +161,7 @@ fn check_grammar<'a, F: Files, O: Sink>(
 fn tell_by<'a, F: Files, I: Source, O: Sink, L: Ledger>(
     alloc: Global,
     grammar: &'a str,
-    what: Telling,
+    what: Telling<'_>,
     from: InputFrom<'a>,
     files: &mut F,
     input: &mut I,
@@ -171,17 +171,17 @@ fn tell_by<'a, F: Files, I: Source, O: Sink, L: Ledger>(
 ) -> Result<(), Stop<'a>>
     requires somewhere { input_of from ≢ Nowhere }
     requires tellers { AreBothTellers (states tellers.items shows held) }
-    ensures done { OnOk result ((job : asked_words.Job) → IsTellJob job grammar.now (input_of from.entry) (telling_of what) →
+    ensures done { OnOk result ((job : asked_words.Job) → IsTellJob job grammar.now (input_of from.entry) (telling_of what.entry) →
         DoesJob job (F.told files.old) (I.left input.old) (O.contents out.old) (O.contents out.new)) }
-    ensures stops { IfErr result (λ stop. (job : asked_words.Job) → IsTellJob job grammar.now (input_of from.entry) (telling_of what) → JobStops job
+    ensures stops { IfErr result (λ stop. (job : asked_words.Job) → IsTellJob job grammar.now (input_of from.entry) (telling_of what.entry) → JobStops job
         (disk F.told F.fault_count files.old) (disk F.told F.fault_count files.new)
         (stream I.left I.fault_count input.old) (stream I.left I.fault_count input.new)
         (stream O.contents O.fault_count out.old) (stream O.contents O.fault_count out.new) stop) }
-    ensures counted { OnOk result ((job : asked_words.Job) → IsTellJob job grammar.now (input_of from.entry) (telling_of what) →
+    ensures counted { OnOk result ((job : asked_words.Job) → IsTellJob job grammar.now (input_of from.entry) (telling_of what.entry) →
         (words : List (List ℕ)) → Asks words job → RunsWithin words (F.told files.old) (I.left input.old) steps.old steps.new) }
-    ensures asks { (job : asked_words.Job) → IsTellJob job grammar.now (input_of from.entry) (telling_of what) →
+    ensures asks { (job : asked_words.Job) → IsTellJob job grammar.now (input_of from.entry) (telling_of what.entry) →
         (words : List (List ℕ)) → Asks words job → AsksNames words (F.told files.old) (F.asked files.old) (F.asked files.new) }
-    ensures input { (input.new ≡ input.old) ⊎ ((job : asked_words.Job) → IsTellJob job grammar.now (input_of from.entry) (telling_of what) →
+    ensures input { (input.new ≡ input.old) ⊎ ((job : asked_words.Job) → IsTellJob job grammar.now (input_of from.entry) (telling_of what.entry) →
         (words : List (List ℕ)) → Asks words job → ReadsInput words (F.told files.old)) }
     ensures held { SameFiles (F.told files.old) (F.told files.new) }
 {

@@ -1,15 +1,14 @@
 -- How many derivations a forest has, how many steps they take, and what the forest's numbers are those of.
-use Rattle.std.proofs.Common.{◌≡◌, ℕ, ◌+◌, ◌≤◌, List, [], ◌∷◌, ◌++◌, true, false, Option, Some, length, length-append, take, refl, sym, ap, subst, ◌∙◌, arith, slice_get, slice_index_or}
+use Rattle.std.proofs.Common.{◌≡◌, ℕ, ◌+◌, ◌≤◌, List, [], ◌∷◌, ◌++◌, true, false, Option, Some, length, length-append, take, refl, sym, ap, subst, ◌∙◌, arith, slice_get}
 use Rattle.std.specs.List.{sum_by}
 use Rattle.std.proofs.lemmas.List.{take_all, take_at}
 use Rattle.std.proofs.lemmas.List.Sums.{sum_by_push}
 use Rattle.std.proofs.lemmas.Option.{slice_get-get_or}
-use Rattle.grammar_model.specs.Grammar.{Grammar, slot_of}
+use Rattle.grammar_model.specs.Grammar.{Grammar}
 use Rattle.grammar_model.specs.Trees.{Tree}
 use Rattle.grammar_model.specs.Derives.{Held}
 use Rattle.grammar_model.specs.declared.Edge.{Edge}
 use Rattle.grammar_model.specs.declared.Ranking.{Ranking}
-use Rattle.grammar_model.proofs.ChosenOnce.{chosen_unique}
 use Rattle.grammar_core.specs.declared.steps.Span.{Span}
 use Rattle.recognizer_model.specs.Chosen.{allowed_by}
 use Rattle.recognizer_model.specs.FlatForm.{FlatEdges}
@@ -26,19 +25,17 @@ use Rattle.tree_iter.specs.Iteration.{Iteration, AreGiven, AreFew}
 use Rattle.bocage.specs.declared.forest.Stats.{Stats}
 use Rattle.value_lines.specs.Lines.{IsForestOf}
 use Rattle.value_lines.specs.Counts.{numbers_of}
-use Rattle.value_lines.proofs.Texts.{IsWithin, all_of_first}
+use Rattle.value_lines.specs.Writing.{IsWithin}
+use Rattle.value_lines.proofs.Texts.{one_list, all_of_first}
 
 module _ (f : Forest) where
-  one_list : (xs ys : List Tree) → IsListing f xs → IsListing f ys → xs ≡ ys
-  one_list xs ys p q = chosen_unique f.written (Held f.edges) f.ranking (slot_of (slice_index_or f.written.starts f.start 0)) 0 f.place xs ys p q
-
   -- those that were given are the first of all
   abbrev IsBounded : Option ℕ → (before after : ℕ) → Type 0
   IsBounded first before after = (trees : List Tree) → IsListing f trees → after ≤ before + sum_by choices (first_of first trees)
 
   bounded_by : (first : Option ℕ) (given all : List Tree) (before after : ℕ) → IsListing f all → first_of first all ≡ given → after ≤ before + sum_by choices given → IsBounded first before after
   bounded_by first given all before after l is few trees q =
-      subst (λ (ts : List Tree). after ≤ before + sum_by choices ts) (sym is ∙ ap (first_of first) (one_list all trees l q)) few
+      subst (λ (ts : List Tree). after ≤ before + sum_by choices ts) (sym is ∙ ap (first_of first) (one_list f all trees l q)) few
 
 -- how many of a list there are, or of the first so many
 module _ (f : Forest) (most : ℕ) where

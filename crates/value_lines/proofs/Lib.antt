@@ -3,3 +3,4 @@ pub mod Playing
 pub mod Fitting
 pub mod Texts
 pub mod Counting
+pub mod Pages

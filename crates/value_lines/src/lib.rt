@@ -3,8 +3,10 @@
 
 mod counts;
 mod lines;
+mod page;
 mod writing;
 
 pub use counts::{count_derivations, stats_line, work_line};
 pub use lines::next_line;
+pub use page::{Page, PageRefusal, write_page};
 pub use writing::{WriteRefusal, write_derivations};

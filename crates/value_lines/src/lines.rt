@@ -9,7 +9,7 @@ ghost use Rattle.grammar_core.specs.Steps.{step_of};
 ghost use Rattle.valuator.specs.Play.{AreSteps, tokens_of};
 ghost use Rattle.valuator.specs.Told.{HoldsOne, states, line_of as line_held};
 ghost use Rattle.reading_model.specs.Reading.{Piece};
-ghost use Rattle.tree_iter.specs.Iteration.{AreGiven, AreFew};
+ghost use Rattle.tree_iter.specs.Iteration.{AreGiven, IsAnswer, AreFew};
 ghost use Rattle.value_lines.specs.Lines.{score_of, IsForestOf, IsLineOf};
 
 use grammar_core::TreeStep;
@@ -72,6 +72,7 @@ pub fn next_line<L: Ledger>(
     requires tellers { (show : Show) × (states tellers.old.items shows held ≡ (show, []) ∷ []) }
     ensures line { IfOk result (λ more. (show : Show) (pieces : List Piece) (given : List Tree) → states tellers.old.items shows held ≡ (show, []) ∷ [] →
         IsForestOf prepared.now player.old.chars player.old.spans iter.old.forest pieces → AreGiven iter.old given → IsLineOf prepared.now show player.old.chars pieces iter.new given line.new.items more) }
+    ensures answer { IfOk result (λ more. (given : List Tree) → AreGiven iter.old given → IsAnswer iter.new given more) }
     ensures counted { IfOk result (λ more. (given : List Tree) → AreGiven iter.old given → AreFew iter.new given more steps.old steps.new) }
     ensures forest { iter.new.forest ≡ iter.old.forest }
     ensures player { player.new ≡ player.old }

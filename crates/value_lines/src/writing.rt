@@ -1,13 +1,13 @@
 // Writing the lines of the derivations of a reading.
-ghost use Rattle.std.specs.Prelude.{◌≡◌, ◌≤◌, ◌+◌, ◌↔◌, ◌∷◌, [], List, IfErr, IfOk, IfSome, IsTrue, OnErr, OnOk};
-ghost use Rattle.std.specs.List.{sum_by};
+ghost use Rattle.std.specs.Prelude.{◌≡◌, ◌≤◌, ◌+◌, ◌↔◌, ◌∷◌, [], List, map, IfErr, IfOk, IfSome, IsTrue, OnErr, OnOk};
+ghost use Rattle.std.specs.List.{concat, sum_by};
 ghost use Rattle.std.specs.Io.KnownBytes.{Appends};
 ghost use Rattle.grammar_model.specs.Trees.{Tree};
 ghost use Rattle.recognizer_model.specs.Links.{choices};
 ghost use Rattle.reading_model.specs.Reading.{Piece};
 ghost use Rattle.forest_model.specs.Forest.{Forest as Shared};
 ghost use Rattle.forest_model.specs.Listing.{IsListing};
-ghost use Rattle.run_model.specs.Listing.{first_of};
+ghost use Rattle.run_model.specs.Listing.{line_of, first_of};
 ghost use Rattle.outside_model.specs.Causes.{HasCause};
 ghost use Rattle.outside_model.specs.Told.{AppendsPrefix};
 ghost use Rattle.run_model.specs.Outside.{stream};
@@ -15,7 +15,7 @@ ghost use Rattle.valuator.specs.Told.{states};
 ghost use Rattle.tree_iter.specs.Iteration.{AreGiven};
 ghost use Rattle.grammar_model.specs.declared.Show.{Show};
 ghost use Rattle.value_lines.specs.Lines.{score_of, IsForestOf};
-ghost use Rattle.value_lines.specs.Writing.{AreBothTellers, IsWholeLine, TextHas, TextStops};
+ghost use Rattle.value_lines.specs.Writing.{AreBothTellers, HaveCome, IsWholeLine, RestHas, TextHas, TextStops, WroteLines};
 
 use crate::next_line;
 use bocage::Forest;
@@ -78,11 +78,12 @@ pub fn write_derivations<O: Sink, L: Ledger>(
         &mut line,
         out,
         steps,
-    )
+    )?;
+    Ok(())
 }
 
-// The player of the derivations of a reading.
-fn player_of<'p>(
+/// The player of the derivations of a reading.
+pub fn player_of<'p>(
     alloc: Global,
     prepared: &'p Prepared,
     chars: &'p Chars,
@@ -95,8 +96,8 @@ fn player_of<'p>(
     Player::new(alloc, prepared.meaning(), prepared.written(), spans, chars)
 }
 
-// Hands a line to the sink as one piece.
-fn write_line<O: Sink>(out: &mut O, line: &[u8]) -> Result<(), WriteFault>
+/// Hands a line to the sink as one piece.
+pub fn write_line<O: Sink>(out: &mut O, line: &[u8]) -> Result<(), WriteFault>
     requires { IsWholeLine line.now }
     ensures written { OnOk result (Appends (O.contents out.old) (O.contents out.new) line.now) }
     ensures prefix { OnErr result (AppendsPrefix (O.contents out.old) (O.contents out.new) line.now) }
@@ -105,8 +106,9 @@ fn write_line<O: Sink>(out: &mut O, line: &[u8]) -> Result<(), WriteFault>
     write_all(out, line)
 }
 
-// Writes the lines of so many derivations from the first on, or of all.
-fn write_lines<O: Sink, L: Ledger>(
+/// Writes the lines of so many derivations after those given, or of all that are left. Answers whether so many as were asked for were
+/// written, so that more may be left.
+pub fn write_lines<O: Sink, L: Ledger>(
     prepared: &Prepared,
     first: Option<u32>,
     player: &mut Player<'_>,
@@ -115,16 +117,20 @@ fn write_lines<O: Sink, L: Ledger>(
     line: &mut Vec<u8>,
     out: &mut O,
     steps: &mut Steps<L>,
-) -> Result<(), WriteRefusal>
+) -> Result<bool, WriteRefusal>
     requires player { player.old ≡ score_of prepared.now player.old.chars player.old.spans }
     requires forest { (pieces : List Piece) × IsForestOf prepared.now player.old.chars player.old.spans iter.old.forest pieces }
-    requires begun { AreGiven iter.old [] }
+    requires begun { (before : List Tree) × AreGiven iter.old before }
     requires tellers { (show : Show) × (states tellers.old.items shows held ≡ (show, []) ∷ []) }
-    ensures written { OnOk result ((show : Show) → states tellers.old.items shows held ≡ (show, []) ∷ [] →
-        TextHas prepared.now show player.old.chars player.old.spans iter.old.forest first (λ text. Appends (O.contents out.old) (O.contents out.new) text)) }
-    ensures stops { IfErr result (λ refusal. (show : Show) → states tellers.old.items shows held ≡ (show, []) ∷ [] → TextHas prepared.now show player.old.chars player.old.spans iter.old.forest first
-        (λ text. TextStops (stream O.contents O.fault_count out.old) (stream O.contents O.fault_count out.new) refusal text)) }
-    ensures counted { OnOk result ((trees : List Tree) → IsListing iter.old.forest trees → steps.new ≤ steps.old + sum_by choices (first_of first trees)) }
+    ensures written { IfOk result (λ enough. (show : Show) (pieces : List Piece) (before : List Tree) → states tellers.old.items shows held ≡ (show, []) ∷ [] →
+        IsForestOf prepared.now player.old.chars player.old.spans iter.old.forest pieces → AreGiven iter.old before →
+        (given : List Tree) × HaveCome before first iter.new given enough ×
+        WroteLines prepared.now show player.old.chars pieces given (O.contents out.old) (O.contents out.new) steps.old steps.new) }
+    ensures stops { IfErr result (λ refusal. (show : Show) (pieces : List Piece) (before : List Tree) → states tellers.old.items shows held ≡ (show, []) ∷ [] →
+        IsForestOf prepared.now player.old.chars player.old.spans iter.old.forest pieces → AreGiven iter.old before → RestHas iter.old.forest before
+        (λ rest. TextStops (stream O.contents O.fault_count out.old) (stream O.contents O.fault_count out.new) refusal
+        (concat (map (line_of prepared.now show player.old.chars pieces) (first_of first rest))))) }
+    ensures forest { iter.new.forest ≡ iter.old.forest }
     ensures later { O.fault_count out.old ≤ O.fault_count out.new }
 {
     let limit = limit_of(first);
@@ -133,14 +139,14 @@ fn write_lines<O: Sink, L: Ledger>(
             return Err(WriteRefusal::NoMemory);
         };
         if !more {
-            return Ok(());
+            return Ok(false);
         }
         let Ok(()) = write_line(out, line) else {
             return Err(WriteRefusal::WriteFault);
         };
     }
     match first {
-        Some(_) => Ok(()),
+        Some(_) => Ok(true),
         None => Err(WriteRefusal::NoMemory),
     }
 }
@@ -152,8 +158,8 @@ fn is_of(show: Show, teller: &Box<dyn Teller>) -> bool
     teller.kind() == show
 }
 
-// Keeps the teller of the kind.
-fn keep_teller(show: Show, tellers: &mut Vec<Box<dyn Teller>>)
+/// Keeps the teller of the kind.
+pub fn keep_teller(show: Show, tellers: &mut Vec<Box<dyn Teller>>)
     requires { AreBothTellers (states tellers.old.items shows held) }
     ensures { states tellers.new.items shows held ≡ (show, []) ∷ [] }
 {

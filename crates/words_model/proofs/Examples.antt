@@ -5,7 +5,7 @@ use Rattle.grammar_model.specs.declared.Ranking.TheVariants.{None as NoRanks, Ru
 use Rattle.grammar_model.specs.declared.Show.{Show}
 use Rattle.grammar_model.specs.declared.Show.TheVariants.{Array as ShowArray, Tree as ShowTree}
 use Rattle.grammar_model.specs.declared.limits.TheConstants.{LAST_PLACE}
-use Rattle.words_model.specs.Words.{Job, Task, Values, Check, Expected, Report, Glades, Tell, Work, Script, InputFrom, Nowhere, StandardInput, FileNamed, job_asked}
+use Rattle.words_model.specs.Words.{Job, Task, Values, More, Check, Expected, Report, Glades, Tell, Work, Script, InputFrom, Nowhere, StandardInput, FileNamed, job_asked}
 
 abbrev input_in : Option (List ℕ) → InputFrom
 input_in None = StandardInput
@@ -28,6 +28,9 @@ reports grammar at input = of_grammar grammar (input_in input) (Tell (Report at)
 
 abbrev shows_glades : (grammar : List ℕ) (input : Option (List ℕ)) → Job
 shows_glades grammar input = of_grammar grammar (input_in input) (Tell Glades)
+
+abbrev goes_on : (grammar : List ℕ) (input : Option (List ℕ)) → Show → Ranking → (after : List ℕ) (first : Option ℕ) → Job
+goes_on grammar input show ranking after first = of_grammar grammar (input_in input) (Tell (More (record { show = show; ranking = ranking; after = after; first = first })))
 
 abbrev works : ℕ → Job
 works size = record { grammar = None; input = Nowhere; task = Work size }
@@ -310,3 +313,40 @@ script_of_a_size = refl
 
 script_in_no_file : job_asked (codes "script" ∷ codes "--input" ∷ codes "-" ∷ []) ≡ None
 script_in_no_file = refl
+
+more_plain : job_asked (codes "more" ∷ codes "--grammar" ∷ codes "g.slif" ∷ codes "--after" ∷ codes "0" ∷ []) ≡ Some (goes_on (codes "g.slif") None ShowArray RuleRanks (codes "0") None)
+more_plain = refl
+
+more_with_all : job_asked (codes "--show=tree" ∷ codes "--rank" ∷ codes "none" ∷ codes "--first=2" ∷ codes "--after=n0" ∷ codes "--input=text" ∷ codes "more" ∷ codes "--grammar" ∷ codes "g.slif" ∷ []) ≡
+    Some (goes_on (codes "g.slif") (Some (codes "text")) ShowTree NoRanks (codes "n0") (Some 2))
+more_with_all = refl
+
+more_without_a_place : job_asked (codes "more" ∷ codes "--grammar" ∷ codes "g.slif" ∷ codes "--first" ∷ codes "1" ∷ []) ≡ None
+more_without_a_place = refl
+
+more_after_nothing : job_asked (codes "more" ∷ codes "--grammar" ∷ codes "g.slif" ∷ codes "--after" ∷ codes "" ∷ []) ≡ None
+more_after_nothing = refl
+
+more_after_a_hyphen : job_asked (codes "more" ∷ codes "--grammar" ∷ codes "g.slif" ∷ codes "--after=-" ∷ []) ≡ None
+more_after_a_hyphen = refl
+
+more_after_a_dashed_word : job_asked (codes "more" ∷ codes "--grammar" ∷ codes "g.slif" ∷ codes "--after" ∷ codes "-x" ∷ []) ≡ None
+more_after_a_dashed_word = refl
+
+more_after_a_dashed_text : job_asked (codes "more" ∷ codes "--grammar" ∷ codes "g.slif" ∷ codes "--after=-x" ∷ []) ≡ Some (goes_on (codes "g.slif") None ShowArray RuleRanks (codes "-x") None)
+more_after_a_dashed_text = refl
+
+stats_for_more : job_asked (codes "more" ∷ codes "--grammar" ∷ codes "g.slif" ∷ codes "--after" ∷ codes "0" ∷ codes "--stats" ∷ []) ≡ None
+stats_for_more = refl
+
+more_first_0 : job_asked (codes "more" ∷ codes "--grammar" ∷ codes "g.slif" ∷ codes "--after" ∷ codes "0" ∷ codes "--first" ∷ codes "0" ∷ []) ≡ None
+more_first_0 = refl
+
+more_without_a_grammar : job_asked (codes "more" ∷ codes "--after" ∷ codes "0" ∷ []) ≡ None
+more_without_a_grammar = refl
+
+after_for_run : job_asked (codes "run" ∷ codes "--grammar" ∷ codes "g.slif" ∷ codes "--after" ∷ codes "0" ∷ []) ≡ None
+after_for_run = refl
+
+after_twice : job_asked (codes "more" ∷ codes "--grammar" ∷ codes "g.slif" ∷ codes "--after=0" ∷ codes "--after=0" ∷ []) ≡ None
+after_twice = refl

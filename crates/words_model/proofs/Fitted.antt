@@ -4,7 +4,7 @@ use Rattle.std.specs.Prelude.{IsTrue, option_map, option_and_then, codes, bytes_
 use Rattle.std.specs.Char.{is_ascii_digit}
 use Rattle.std.specs.List.{list_all}
 use Rattle.language_model.specs.Building.{digits_number}
-use Rattle.words_model.specs.Words.{Telling, Task, Check, Tell, Work, Script, InputFrom, Nowhere, StandardInput, FileNamed, Job, Setting, Given, Does, Checks, Tells, Works, Plays, JobRow, jobs, options_of, task_asked, job_given, job_named, job_with, gives_only, grammar_given, input_given, input_file, work_asked, file_name, number_from, words_set, are_set_once, value_of, read_or}
+use Rattle.words_model.specs.Words.{Telling, Task, Check, Tell, Work, Script, InputFrom, Nowhere, StandardInput, FileNamed, Job, Setting, Given, Does, Checks, Tells, Works, Plays, JobRow, jobs, options_of, task_asked, job_given, job_named, job_with, gives_only, grammar_given, input_given, input_file, work_asked, name_or_text, number_from, words_set, are_set_once, value_of, read_or}
 use Rattle.words_model.specs.Laws.{IsFitted, JobsAreFitted}
 
 -- ---- values
@@ -29,7 +29,7 @@ named (Some name) grammar e = let same : Some name ≡ grammar = cc e in subst (
 
 somewhere : (value : Option (List ℕ)) (input : InputFrom) → read_or StandardInput input_file value ≡ Some input → input ≢ Nowhere
 somewhere None input e nowhere = let same : StandardInput ≡ input = cc e in cc
-somewhere (Some value) input e nowhere = by_name (file_name value) e
+somewhere (Some value) input e nowhere = by_name (name_or_text value) e
   where
     by_name : (o : Option (List ℕ)) → option_map FileNamed o ≡ Some input → ⊥
     by_name None e = absurd (cc e)

@@ -21,10 +21,20 @@ pub record ValuesAsked : Type 0 where
   pub first : Option ℕ
   pub stats : Bool
 
--- what is told of an input that is read to its end: the values of its derivations, the lexemes that could come next, the report at a place,
--- or where its derivations differ
+-- which values are shown, and how, of the derivations after a place
+pub record MoreAsked : Type 0 where
+  pub show : Show
+  pub ranking : Ranking
+  -- the text of the place: a derivation's cursor, or `0` for the place before the first
+  pub after : List ℕ
+  -- at most so many
+  pub first : Option ℕ
+
+-- what is told of an input that is read to its end: the values of its derivations, those after a place, the lexemes that could come next,
+-- the report at a place, or where its derivations differ
 pub data Telling : Type 0 where
   Values : (asked : ValuesAsked) → Telling
+  More : (asked : MoreAsked) → Telling
   Expected : Telling
   Report : (at : ℕ) → Telling
   Glades : Telling
@@ -58,7 +68,7 @@ pub record Setting : Type 0 where
 
 -- the options that take a value, and the one that takes none
 abbrev pub with_value : List (List ℕ)
-with_value = codes "grammar" ∷ codes "input" ∷ codes "first" ∷ codes "rank" ∷ codes "show" ∷ codes "at" ∷ codes "size" ∷ []
+with_value = codes "grammar" ∷ codes "input" ∷ codes "first" ∷ codes "rank" ∷ codes "show" ∷ codes "at" ∷ codes "size" ∷ codes "after" ∷ []
 
 abbrev pub stats : List ℕ
 stats = codes "stats"
@@ -125,9 +135,9 @@ abbrev pub read_or : {T : Type 0} → T → (List ℕ → Option T) → Option (
 read_or default read None = Some default
 read_or default read (Some value) = read value
 
--- a name that is not empty and not '-'
-abbrev pub file_name : List ℕ → Option (List ℕ)
-file_name value = if nat_eq (length value) 0 || bytes_eq value (codes "-") then None else Some value
+-- a name or a text that is not empty and not '-'
+abbrev pub name_or_text : List ℕ → Option (List ℕ)
+name_or_text value = if nat_eq (length value) 0 || bytes_eq value (codes "-") then None else Some value
 
 -- a number of one to ten ASCII digits
 abbrev pub number_from : (least most : ℕ) → List ℕ → Option ℕ
@@ -137,7 +147,7 @@ number_from least most value =
     then Some (digits_number value) else None
 
 abbrev pub input_file : List ℕ → Option InputFrom
-input_file value = option_map FileNamed (file_name value)
+input_file value = option_map FileNamed (name_or_text value)
 
 -- at most so many values
 abbrev pub value_count : List ℕ → Option (Option ℕ)
@@ -169,7 +179,7 @@ gives_only names given = list_all (λ option. is_one_of names option || not (is_
 -- the file of the grammar, of a job that has the option
 abbrev pub grammar_given : (options : List (List ℕ)) → Given → Option (Option (List ℕ))
 grammar_given options given =
-    if is_one_of options (codes "grammar") then option_map (λ name. Some name) (option_and_then file_name (given (codes "grammar"))) else Some None
+    if is_one_of options (codes "grammar") then option_map (λ name. Some name) (option_and_then name_or_text (given (codes "grammar"))) else Some None
 
 -- the input is the standard input, where a job that has the option is not given a file
 abbrev pub input_given : (options : List (List ℕ)) → Given → Option InputFrom
@@ -192,6 +202,17 @@ values_asked given =
     option_and_then (λ ranking.
     option_map (λ first. Values (record { show = show; ranking = ranking; first = first; stats = is_some (given stats) }))
     (read_or None value_count (given (codes "first"))))
+    (read_or RuleRanks ranking_of (given (codes "rank"))))
+    (read_or ShowArray show_of (given (codes "show")))
+
+abbrev pub more_asked : Given → Option Telling
+more_asked given =
+    option_and_then (λ show.
+    option_and_then (λ ranking.
+    option_and_then (λ after.
+    option_map (λ first. More (record { show = show; ranking = ranking; after = after; first = first }))
+    (read_or None value_count (given (codes "first"))))
+    (option_and_then name_or_text (given (codes "after"))))
     (read_or RuleRanks ranking_of (given (codes "rank"))))
     (read_or ShowArray show_of (given (codes "show")))
 
@@ -223,6 +244,7 @@ jobs =
     record { name = codes "progress"; does = Tells (codes "at" ∷ []) report_asked } ∷
     record { name = codes "work"; does = Works } ∷
     record { name = codes "script"; does = Plays } ∷
+    record { name = codes "more"; does = Tells (codes "after" ∷ codes "first" ∷ codes "rank" ∷ codes "show" ∷ []) more_asked } ∷
     record { name = codes "glades"; does = Tells [] (λ given. Some Glades) } ∷ []
 
 -- the options that a job may have; it needs those whose value has no default
@@ -247,7 +269,7 @@ job_given given = option_and_then (λ name. job_named name given) (given (codes 
 
 -- what is told where the words ask for no job. It names the rows of the table (a law)
 abbrev pub usage_text : List ℕ
-usage_text = codes "usage: slif JOB [options]; jobs: run, check, expect, progress, work, script, glades"
+usage_text = codes "usage: slif JOB [options]; jobs: run, check, expect, progress, work, script, more, glades"
 
 -- THE JOB THAT WORDS ASK FOR
 abbrev pub job_asked : List (List ℕ) → Option Job

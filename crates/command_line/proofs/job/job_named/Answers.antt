@@ -16,3 +16,11 @@ returns-in-progress c =
     c.job_with-in-progress.ensures
     ∙ ap (λ task. model.job_with (codes "grammar" ∷ codes "input" ∷ codes "at" ∷ []) task given) (c.told-in-progress.ensures ∙ ap (option_map model.Tell) c.report_asked.ensures)
     ∙ sym (ap (λ name. model.job_named name given) c.in-progress.is)
+
+pub returns-in-more : goal.returns-in-more
+returns-in-more c =
+    let given = given_in (found_of c.args.matches.now) in
+    c.job_with-in-more.ensures
+    ∙ ap (λ task. model.job_with (codes "grammar" ∷ codes "input" ∷ codes "after" ∷ codes "first" ∷ codes "rank" ∷ codes "show" ∷ []) task given)
+    (c.told-in-more.ensures ∙ ap (option_map model.Tell) c.more_asked.ensures)
+    ∙ sym (ap (λ name. model.job_named name given) c.in-more.is)
