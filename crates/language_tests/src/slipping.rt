@@ -305,7 +305,12 @@ impl Supplier for Breaking {
 }
 
 // A supplier of one lexeme that answers so many calls.
-fn breaking(alloc: Global, p: &Prepared, name: &str, left: u32) -> Result<Box<dyn Supplier>, Fail>
+fn supplier_that_breaks(
+    alloc: Global,
+    p: &Prepared,
+    name: &str,
+    left: u32,
+) -> Result<Box<dyn Supplier>, Fail>
     ensures begun { IfOk result (λ s. stock s ≡ told (stock s).names) }
     ensures few { IfOk result (λ s. length (stock s).names ≤ 8) }
 {
@@ -329,7 +334,7 @@ fn breaks_with<L: Ledger>(
     requires some { 0 < blank.parts }
 {
     let chars = own_chars(alloc, "12;3")?;
-    let supplier = breaking(alloc, p, "semi", left)?;
+    let supplier = supplier_that_breaks(alloc, p, "semi", left)?;
     let breaks = read_slipping(
         alloc,
         p,
