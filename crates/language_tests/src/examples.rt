@@ -44,7 +44,7 @@ name ~ [\w.-]+
 value ~ bit+ separator => gap proper => 1
 bit ~ [^\s#]+
 gap ~ [ \t]+
-eol ~ [\n]
+eol ~ [\n] | [\r] [\n]
 :discard ~ gap
 :discard ~ comment
 comment ~ '#' <to the end>
@@ -69,12 +69,12 @@ table ::= line+ separator => eol
 line ::= field+ separator => comma proper => 1
 :default ::= action => ::first
 field ::= bare | quoted
-bare ~ [^,"\n]+
+bare ~ [^,"\r\n]+
 quoted ~ '"' inner '"'
 inner ~ character*
 character ~ [^"] | '""'
 comma ~ ','
-eol ~ [\n]
+eol ~ [\n] | [\r] [\n]
 "#;
 
 const CSV_INPUT: &[u8] = br#"name,born,place

@@ -15,6 +15,8 @@ mod outside;
 #[cfg(test)]
 mod preparing;
 #[cfg(test)]
+mod slipping;
+#[cfg(test)]
 mod statements;
 #[cfg(test)]
 mod texts;

@@ -1,5 +1,5 @@
 -- What a forest tells of the derivations of a reading.
-use Rattle.std.proofs.Common.{Bool, true, false, Result, ◌≡◌, ℕ, ◌≤◌, List, [], ◌∷◌, ◌++◌, Option, refl, ap, subst}
+use Rattle.std.proofs.Common.{Bool, true, false, Result, ◌≡◌, ℕ, ◌≤◌, List, [], ◌∷◌, ◌++◌, Option, refl, ap, subst, ◌∙◌}
 use Rattle.std.specs.Prelude.{IfErr}
 use Rattle.std.specs.List.{concat}
 use Rattle.std.specs.Io.KnownBytes.{Appends}
@@ -67,11 +67,10 @@ module _ (asked : ValuesAsked) (b : Built) (cs : List ℕ) (spans : List Span) (
       let (trees, l, stops) = text has.pieces has.of in
       lines_stop Told (values trees ++ stats_lines asked.stats n) (value_told trees l) before after NoMemory (prefix_of_both (values trees) (stats_lines asked.stats n) before.bytes after.bytes stops)
 
--- the line of the numbers that is asked for was not written
-pub asked_stops : {T : Type 0} (asked : Bool) (n : Numbers) → asked ≡ true → (line : List ℕ) → line ≡ stats_line n → (before after : Stream) (r : Result T Stop)
-    → IfErr r (LinesStop (line ∷ []) before after) → IfErr r (LinesStop (stats_lines asked n) before after)
-asked_stops true n is line e before after r stops = subst (λ l. IfErr r (LinesStop (l ∷ []) before after)) e stops
-asked_stops false n is line e before after r stops = absurd (cc is)
+-- the line of the numbers that is asked for
+pub asked_lines : (asked : Bool) → asked ≡ true → (line : List ℕ) (m n : Numbers) → line ≡ stats_line m → m ≡ n → line ∷ [] ≡ stats_lines asked n
+asked_lines true on line m n is same = ap (λ l. l ∷ []) (is ∙ ap stats_line same)
+asked_lines false on line m n is same = absurd (cc on)
 
 -- NO DERIVATION
 

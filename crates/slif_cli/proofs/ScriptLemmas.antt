@@ -80,16 +80,15 @@ module _ (words : List (List ℕ)) (job : Job) (from : InputFrom) (is_job : IsSc
   fitted = fitted_as words job asks Script is_job.task
 
   -- the job goes on to its input, since it needs no grammar
+  no_grammar : (P : List ℕ → Type 0) → IfSome job.grammar P
+  no_grammar P = subst (λ (o : Option (List ℕ)). IfSome o P) (sym fitted.0) tt
+
   goes_on : GoesOn job file
-  goes_on = record {
-    grammar = [];
-    held = subst (λ (o : Option (List ℕ)). IfSome o (λ n. MayHold (file n) [])) (sym fitted.0) tt;
-    accepted = subst (λ (o : Option (List ℕ)). IfSome o (λ _. (b : Built) × Accepted [] b)) (sym fitted.0) tt;
-  }
+  goes_on = record { grammar = []; held = no_grammar (λ n. MayHold (file n) []); accepted = no_grammar (λ _. (b : Built) × Accepted [] b) }
 
   supplied : (bytes : List ℕ) → InputMayBe from file left bytes → Supplied words file left [] bytes
   supplied bytes may_be = record {
-    grammar_held = λ other others. subst (λ (j : Job). IfSome j.grammar (λ n. MayHold (file n) [])) (asks_once words job other asks others) goes_on.held;
+    grammar_held = λ other others. subst (λ (j : Job). IfSome j.grammar (λ n. MayHold (file n) [])) (asks_once words job other asks others) (no_grammar (λ n. MayHold (file n) []));
     input_held = λ other others goes. subst (λ (j : Job). InputMayBe j.input file left bytes) (asks_once words job other asks others)
         (subst (λ (f : InputFrom). InputMayBe f file left bytes) (sym is_job.input) may_be);
   }

@@ -1,4 +1,4 @@
-use Rattle.std.proofs.Common.{ap, ◌∙◌, arith, length, chars}
+use Rattle.std.proofs.Common.{Err, ap, ◌∙◌, arith, length, chars}
 use Rattle.std.specs.Prelude.{encode_utf8_all}
 use Rattle.std.proofs.lemmas.Str.{length-le-encodes, encodes-chars}
 use Rattle.run_model.specs.Outcome.{IsScriptOutcome}
@@ -39,4 +39,4 @@ returns-in_err-play_script-clause-stops g c =
     let after = stream g.O.Sink.contents g.O.Sink.fault_count c.play_script.new.out in
     let refusal = c.in_err-play_script.field-0.0 in
     passed_on (WriteStops (IsScriptOutcome bytes) before after) c.from_residual-in_err-play_script.result (script_stop refusal) c.from_residual-in_err-play_script.ensures.1
-    (broken_off bytes c.requires utf8 _ same before after refusal c.in_err-play_script.ensures.fault c.in_err-play_script.ensures.stops)
+    (broken_off bytes c.requires utf8 _ same before after refusal (λ e. c.in_err-play_script.ensures.fault (ap Err e)) c.in_err-play_script.ensures.stops)

@@ -1,4 +1,4 @@
-use Rattle.std.proofs.Common.{inl, inr, ◌⊎◌, ap}
+use Rattle.std.proofs.Common.{inl, inr, ◌≡◌, ◌⊎◌, ap}
 use Rattle.std.proofs.lemmas.Result.{on_ok_weaker, MatchResult-weaker}
 use Rattle.outside_model.specs.Causes.{Rose}
 use Rattle.words_model.specs.Words as model

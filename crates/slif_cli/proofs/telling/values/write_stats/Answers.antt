@@ -10,7 +10,7 @@ use Rattle.value_lines.specs.Counts.{numbers_of}
 use Rattle.slif_cli.specs.Stops.{LinesStop}
 use Rattle.slif_cli.specs.Tasks.{AreNumbersOf}
 use Rattle.slif_cli.specs.declared.stop.Stop.TheVariants.{NoMemory}
-use Rattle.slif_cli.proofs.Derived.{asked_stops}
+use Rattle.slif_cli.proofs.Derived.{asked_lines}
 use Rattle.slif_cli.proofs.Numbered.{same_numbers}
 use Rattle.slif_cli.proofs.Stopping.{passed_on}
 use Rattle.slif_cli.proofs.telling.values.write_stats.Goals as goal
@@ -30,3 +30,20 @@ returns-in_err-line-clause-stops g c =
     let before = stream g.O.Sink.contents g.O.Sink.fault_count c.args.out.now in
     passed_on (λ stop. (n : Numbers) → AreNumbersOf c.args.forest.now n → LinesStop (stats_lines c.args.asked n) before before stop) c.from_residual-in_err-line.result NoMemory c.from_residual-in_err-line.ensures.1
     (λ n are. record { bytes = []; rest = concat (stats_lines c.args.asked n); split = refl; appends = appends_none before.bytes })
+
+pub returns-clause-written : goal.returns-clause-written
+returns-clause-written g c =
+    on_ok_weaker c.write_lines.result
+    (λ written n are.
+    let same = same_numbers c.args.forest.now c.known.ensures c.in_ok-stats.stats c.in_ok-stats.ensures n are in
+    subst (λ lines. Appends (g.O.Sink.contents c.args.out.now) (g.O.Sink.contents c.write_lines.new.out) (concat lines))
+    (asked_lines c.args.asked c.if-not-asked.false c.in_ok-line.line.items (numbers_of c.in_ok-stats.stats) n c.in_ok-line.ensures same) written)
+    c.write_lines.ensures.written
+
+pub returns-clause-stops : goal.returns-clause-stops
+returns-clause-stops g c =
+    MatchResult-weaker c.write_lines.result c.write_lines.ensures.stops (λ _ x. x)
+    (λ stop stops n are.
+    let same = same_numbers c.args.forest.now c.known.ensures c.in_ok-stats.stats c.in_ok-stats.ensures n are in
+    subst (λ lines. LinesStop lines (stream g.O.Sink.contents g.O.Sink.fault_count c.args.out.now) (stream g.O.Sink.contents g.O.Sink.fault_count c.write_lines.new.out) stop)
+    (asked_lines c.args.asked c.if-not-asked.false c.in_ok-line.line.items (numbers_of c.in_ok-stats.stats) n c.in_ok-line.ensures same) stops)
