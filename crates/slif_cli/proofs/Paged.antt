@@ -26,7 +26,6 @@ use Rattle.reading_model.specs.Reading.{Piece, End, edges_of, earleme_after}
 use Rattle.reading_model.proofs.One.{reading_is_one}
 use Rattle.scanless.specs.Reading.{HoldsPieces, IsReadingOf}
 use Rattle.scanless.specs.declared.reading.Ending.TheVariants.{End as AtEnd}
-use Rattle.dsl_build.specs.Ranges.{IsInRange}
 use Rattle.words_model.specs.Words.{MoreAsked}
 use Rattle.words_model.specs.Words.Telling.{More}
 use Rattle.run_model.specs.Listing.{AreDerivations, first_of, beyond}
@@ -57,9 +56,9 @@ use Rattle.slif_cli.proofs.Within.{within}
 
 -- NO PLACE
 
-module _ (b : Built) (written : IsWritten b.g1) (ranges : IsInRange b) (checked : IsChecked b.g1) (cs : List ℕ) (spans : List Span) (f : Forest) (pieces : List Piece) (of : IsForestOf b cs spans f pieces) where
+module _ (b : Built) (written : IsWritten b.g1) (checked : IsChecked b.g1) (cs : List ℕ) (spans : List Span) (f : Forest) (pieces : List Piece) (of : IsForestOf b cs spans f pieces) where
   start_known : slice_index_or b.g1.starts 0 0 < length b.g1.names
-  start_known = ranges.g1.starts 0 0 checked.some_start
+  start_known = written.starts_known 0 0 checked.some_start
 
   -- what the forest lists are derivations of the pieces
   derived : (t : Tree) → Derives f.written (Held f.edges) (slot_of (slice_index_or f.written.starts f.start 0)) 0 f.place t

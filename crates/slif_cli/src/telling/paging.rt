@@ -1,5 +1,5 @@
 // What job `more` writes.
-ghost use Rattle.std.specs.Prelude.{◌≤◌, ◌+◌, ◌*◌, ◌++◌, List, length, take, IfErr, OnOk};
+ghost use Rattle.std.specs.Prelude.{◌≡◌, ◌≤◌, ◌+◌, ◌*◌, ◌++◌, List, length, take, IfErr, OnOk};
 ghost use Rattle.std.specs.List.{sum_by};
 ghost use Rattle.std.specs.Io.KnownBytes.{Appends};
 ghost use Rattle.grammar_model.specs.Trees.{Tree};
@@ -28,7 +28,8 @@ use crate::telling::places::place_of;
 use bocage::Forest;
 use bumpalo::Bump;
 use command_line::MoreAsked;
-use grammar_core::Span;
+use grammar_core::{Span, TreeStep};
+use grammar_model::Show;
 use scanless::{Prepared, Reading};
 use slif_base::{Chars, Sink, Steps};
 use std::alloc::Global;
@@ -127,15 +128,26 @@ fn write_after<O: Sink, L: Ledger>(
         Err(CursorRefusal::BadCursor) => return Err(PageRefusal::NoSuchPlace),
         Err(CursorRefusal::NoMemory) => return Err(PageRefusal::NoMemory),
     };
-    let page = Page {
-        show: asked.show,
-        first: asked.first,
-        after: asked.after,
-        to: to.as_deref(),
-    };
+    let page = page_of(asked.show, asked.first, asked.after, to.as_deref());
     write_page(
         alloc, prepared, chars, spans, forest, page, tellers, out, steps,
     )
+}
+
+fn page_of<'p>(
+    show: Show,
+    first: Option<u32>,
+    after: &'p str,
+    to: Option<&'p [TreeStep]>,
+) -> Page<'p>
+    ensures { result ≡ record { show = show; first = first; after = after.entry; to = to.entry } }
+{
+    Page {
+        show,
+        first,
+        after,
+        to,
+    }
 }
 
 // Why the work stops where a page was not all written.
