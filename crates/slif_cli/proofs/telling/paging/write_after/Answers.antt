@@ -12,9 +12,11 @@ use Rattle.slif_cli.proofs.telling.paging.write_after.Goals as goal
 pub returns-in-Err-BadCursor-clause-stops : goal.returns-in-Err-BadCursor-clause-stops
 returns-in-Err-BadCursor-clause-stops g c =
     let b = c.args.prepared.now in
-    let (pieces, of) = c.requires.forest in
-    (none_named b (subst IsWritten c.written.ensures c.known-2.ensures) c.known.ensures.accepted.checked.structural
-    c.args.chars.now c.args.spans.now c.args.forest.now pieces of c.args.asked.after.now (c.in-Err-BadCursor.ensures.bad c.in-Err-BadCursor.field-0-is), appends_none (g.O.Sink.contents c.args.out.now))
+    let (pieces, of) = c.requires.forest in (
+      none_named b (subst IsWritten c.written.ensures c.known-2.ensures) c.known.ensures.accepted.checked.structural
+          c.args.chars.now c.args.spans.now c.args.forest.now pieces of c.args.asked.after.now (c.in-Err-BadCursor.ensures.bad c.in-Err-BadCursor.field-0-is),
+      appends_none (g.O.Sink.contents c.args.out.now),
+    )
 
 pub returns-clause-written : goal.returns-clause-written
 returns-clause-written g c =
