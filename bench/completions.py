@@ -53,6 +53,10 @@ CASES = [
     ("slif_show --d", ALL, "slif_show --diff --dot"),
     ("slif_show --j", TAB, "slif_show --json "),
     ("slif_show --json --", TAB, "slif_show --json --"),
+    ("slif_glades --g", TAB, "slif_glades --grammar "),
+    ("slif_glades --grammar sum.s", TAB, "slif_glades --grammar sum.slif "),
+    ("slif_glades --grammar sum.slif --", ALL, "slif_glades --grammar sum.slif --all --input"),
+    ("slif_glades --all --grammar sum.slif --i", TAB, "slif_glades --all --grammar sum.slif --input "),
 ]
 
 

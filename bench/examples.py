@@ -1,5 +1,5 @@
 #!/usr/bin/env python3
-"""Runs each example of the README, of docs/LANGUAGE.md, of docs/LIBRARY.md and of the two manual pages with the built programs, and compares
+"""Runs each example of the README, of docs/LANGUAGE.md, of docs/LIBRARY.md and of the manual pages with the built programs, and compares
 what it writes. Nothing of the toolchain is needed.
 
     bench/examples.py [--programs FOLDER] [--page FILE ..]
@@ -16,7 +16,7 @@ import argparse, os, pathlib, re, subprocess, sys, tempfile
 
 INDENT = "    "
 ROOT = pathlib.Path(__file__).resolve().parent.parent
-PAGES = ["README.md", "docs/LANGUAGE.md", "docs/LIBRARY.md", "docs/slif.1", "docs/slif_show.1"]
+PAGES = ["README.md", "docs/LANGUAGE.md", "docs/LIBRARY.md", "docs/slif.1", "docs/slif_show.1", "docs/slif_glades.1"]
 PROGRAMS = ["slif", "slif_show", "slif_glades", "calculator"]
 
 

@@ -3,17 +3,18 @@
 
     bench/install.py [--programs FOLDER]
 
-FOLDER has the programs `slif` and `slif_show`; without it those that were built here. Tested are the files and their modes, the programs through
+FOLDER has the programs `slif`, `slif_show` and `slif_glades`; without it those that were built here. Tested are the files and their modes, the programs through
 PATH, the manual pages through man, the completions through bash, and the kind of a file through Vim (each where that program is installed);
 a root before the prefix; that nothing is written where a program is missing; and that the pages and CHANGELOG.md name the same version.
 """
 import argparse, json, os, pathlib, re, shutil, subprocess, sys, tempfile
 
 ROOT = pathlib.Path(__file__).resolve().parent.parent
+PROGRAMS = ("slif", "slif_show", "slif_glades")
 WANTED = {
-    "bin/slif": 0o755, "bin/slif_show": 0o755,
-    "share/man/man1/slif.1": 0o644, "share/man/man1/slif_show.1": 0o644,
-    "share/bash-completion/completions/slif": 0o644, "share/bash-completion/completions/slif_show": 0o644,
+    **{f"bin/{name}": 0o755 for name in PROGRAMS},
+    **{f"share/man/man1/{name}.1": 0o644 for name in PROGRAMS},
+    **{f"share/bash-completion/completions/{name}": 0o644 for name in PROGRAMS},
     **{f"share/vim/vimfiles/{part}/slif.vim": 0o644 for part in ("compiler", "ftdetect", "ftplugin", "syntax")},
     "share/slif/slif.slif": 0o644,
     **{f"share/slif/vscode/{name}": 0o644 for name in ("package.json", "language-configuration.json", "syntaxes/slif.tmLanguage.json")},
@@ -42,13 +43,16 @@ def look_for_files(prefix, home):
     env = {"HOME": str(home), "PATH": f"{prefix}/bin:{os.environ['PATH']}", "TERM": "dumb", "LC_ALL": "C.UTF-8"}
     status, text = output_of(["slif", "work", "--size", "2"], env=env)
     tell("slif runs through PATH", status == 0 and text.startswith("work 2: "))
+    for name in PROGRAMS[1:]:
+        status, text = output_of([name, "--none"], env=env)
+        tell(f"{name} runs through PATH", status == 2 and f"usage: {name} " in text)
     if shutil.which("man"):
-        for name in ("slif", "slif_show"):
+        for name in PROGRAMS:
             status, text = output_of(["man", "-w", name], env=env)
             tell(f"man finds {name}", text.strip() == f"{prefix}/share/man/man1/{name}.1")
             status, text = output_of(["man", "--warnings", "-E", "utf8", name], env={**env, "MANWIDTH": "80"})
             tell(f"man shows {name} without a warning", status == 0 and "NAME" in text and "warning" not in text)
-    for name in ("slif", "slif_show"):
+    for name in PROGRAMS:
         words = f". {prefix}/share/bash-completion/completions/{name} && complete -p {name}"
         tell(f"bash takes the completions of {name}", output_of(["bash", "--norc", "-c", words], env=env)[1] == f"complete -F _{name} {name}\n")
     if shutil.which("vim"):
@@ -84,7 +88,7 @@ def main():
     version = re.search(r"^## (\d+\.\d+)", (ROOT / "CHANGELOG.md").read_text(), re.MULTILINE)[1]
     package = json.loads((ROOT / "extras/vscode/package.json").read_text())
     tell(f"the files for VS Code name version {version}", package["version"] == f"{version}.0")
-    for page in ("slif", "slif_show"):
+    for page in PROGRAMS:
         head = (ROOT / f"docs/{page}.1").read_text().splitlines()[0]
         tell(f"{page}.1 names version {version}", f'"slif {version}"' in head)
     print(f"{len(failures)} failed")

@@ -1,4 +1,4 @@
-# Completions of slif and slif_show for bash. extras/install puts this file where bash-completion looks; anywhere else, source it.
+# Completions of slif, slif_show and slif_glades for bash. extras/install puts this file where bash-completion looks; anywhere else, source it.
 
 # The options that a job takes.
 _slif_options() {
@@ -77,5 +77,23 @@ _slif_show() {
     fi
 }
 
+# Each option of slif_glades stands once.
+_slif_glades() {
+    local word=${COMP_WORDS[COMP_CWORD]} left='' option
+    COMPREPLY=()
+    case ${COMP_WORDS[COMP_CWORD - 1]} in
+        --grammar | --input)
+            compopt -o filenames 2>/dev/null
+            mapfile -t COMPREPLY < <(compgen -f -- "$word")
+            return
+            ;;
+    esac
+    for option in --grammar --input --all; do
+        [[ " ${COMP_WORDS[*]:1:COMP_CWORD - 1} " == *" $option "* ]] || left+=" $option"
+    done
+    mapfile -t COMPREPLY < <(compgen -W "$left" -- "$word")
+}
+
 complete -F _slif slif
 complete -F _slif_show slif_show
+complete -F _slif_glades slif_glades

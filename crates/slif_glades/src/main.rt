@@ -1,7 +1,6 @@
 //! Tells where an input is ambiguous by a grammar, and how, for people.
 #![tactic(auto)]
 
-mod groups;
 mod lines;
 mod stop;
 mod telling;

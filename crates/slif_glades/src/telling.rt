@@ -1,10 +1,10 @@
-// What is told of each group: where it is, its text, and its two shapes.
+// What is told of each glade: where it is, its text, and its two shapes.
 ghost use Rattle.std.specs.Prelude.{◌≡◌};
 ghost use Rattle.grammar_model.specs.declared.Ranking.TheVariants.{Rule};
 
-use crate::groups::{Group, groups_of, single_groups};
 use crate::lines::Lines;
 use crate::stop::Stop;
+use glade_groups::{marks_of, single_marks};
 use itoa::Buffer;
 use slif_base::{Sink, write_all};
 use slif_parser::{Forest, Glade, Grammar, Ranking, Reading, RuleId, Shape};
@@ -65,22 +65,22 @@ fn tell_forest<K: Sink>(
     requires { forest.now.forest.ranking ≡ Rule }
 {
     let glades = forest.glades(alloc)?;
-    let groups = if all {
-        single_groups(alloc, &glades)?
+    let marks = if all {
+        single_marks(alloc, &glades)?
     } else {
-        groups_of(alloc, &glades)?
+        marks_of(alloc, &glades)?
     };
     let lines = Lines::of(alloc, std::str::from_utf8(input).unwrap_or(""))?;
-    for group in &groups {
-        if let Some(glade) = glades.get(group.at) {
-            tell_group(alloc, grammar, forest, &lines, glade, group.more, out)?;
+    for (at, glade) in glades.iter().enumerate() {
+        if let Some(more) = marks.get(at).copied().flatten() {
+            tell_glade(alloc, grammar, forest, &lines, glade, more, out)?;
         }
     }
     Ok(())
 }
 
-// Tells one glade, and how many more there are of its group.
-fn tell_group<K: Sink>(
+// Tells one glade, and how many more there are of its kind.
+fn tell_glade<K: Sink>(
     alloc: Global,
     grammar: &Grammar,
     forest: &Forest<'_>,

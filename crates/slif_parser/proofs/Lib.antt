@@ -3,3 +3,4 @@ mod Characters
 mod Going
 mod Differing
 mod Ruled
+mod Clipping

@@ -1,5 +1,5 @@
 -- What is known of an input that is read, of its forest, and of its derivations. The derivations are those of the run.
-use Rattle.std.specs.Prelude.{◌≡◌, ℕ, ◌+◌, ◌-◌, ◌<◌, Bool, true, false, List, [], ◌∷◌, ◌++◌, Some, IfSome, Result, length, map, slice_get, slice_index_or, chars}
+use Rattle.std.specs.Prelude.{◌≡◌, ℕ, zero, suc, ◌+◌, Bool, true, false, List, [], ◌∷◌, ◌++◌, Option, None, Some, IfSome, Result, length, map, slice_get, slice_index_or, chars}
 use Rattle.grammar_model.specs.Trees.{Tree}
 use Rattle.grammar_model.specs.Steps.{steps_of}
 use Rattle.grammar_model.specs.Values.{Token}
@@ -57,15 +57,24 @@ pub record AreGladesOf (r : Read) (glades : List Glade) : Type 0 where
   pub reading : IsReading r.grammar r.characters pieces End
   pub are : AreGlades r.grammar.g1 (edges_of pieces) (slice_index_or r.grammar.g1.starts 0 0) (earleme_after pieces) glades
 
--- the character where the token before the place ends
-pub record EndsAt (spans : List Span) (place at : ℕ) : Type 0 where
-  pub none : place ≡ 0 → at ≡ 0
-  pub token : (s : Span) → 0 < place → slice_get spans (place - 1) ≡ Some s → at ≡ s.start + s.length
+-- WHERE TOKENS LIE
 
--- the character where the token at the place begins; after the last, where that ends
-pub record StartsAt (spans : List Span) (place at : ℕ) : Type 0 where
-  pub token : (s : Span) → slice_get spans place ≡ Some s → at ≡ s.start
-  pub last : place ≡ length spans → EndsAt spans place at
+abbrev end_of : Option Span → ℕ
+end_of None = 0
+end_of (Some s) = s.start + s.length
+
+abbrev start_or : ℕ → Option Span → ℕ
+start_or none None = none
+start_or none (Some s) = s.start
+
+-- the character where the token before the place ends; 0 where there is no such token
+abbrev pub end_at : List Span → (place : ℕ) → ℕ
+end_at spans zero = 0
+end_at spans (suc k) = end_of (slice_get spans k)
+
+-- the character where the token at the place begins; where there is none, where the one before ends
+abbrev pub start_at : List Span → (place : ℕ) → ℕ
+start_at spans place = start_or (end_at spans place) (slice_get spans place)
 
 -- THE VALUE OF THE CURRENT DERIVATION
 

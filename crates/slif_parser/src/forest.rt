@@ -1,8 +1,8 @@
 //! The forest of an input's derivations.
-ghost use Rattle.std.specs.Prelude.{◌≡◌, ◌+◌, ◌<◌, ◌≤◌, All, length, slice_range, IfOk, IfErr, chars as chars_in};
+ghost use Rattle.std.specs.Prelude.{◌≡◌, ◌+◌, ◌<◌, All, slice_range, IfOk, IfErr, chars as chars_in};
 ghost use Rattle.grammar_model.specs.declared.Ranking.TheVariants.{Rule};
 ghost use Rattle.text_reading.specs.Refusals.{IsNoDerivation, TellsInput};
-ghost use Rattle.slif_parser.specs.Readings.{AreGladesOf, IsForestAs, IsBegun, EndsAt, StartsAt};
+ghost use Rattle.slif_parser.specs.Readings.{AreGladesOf, IsForestAs, IsBegun, end_at, start_at};
 
 use crate::{Derivations, NoMemory, Ranking, Reading};
 use glades::{Glade, report_glades};
@@ -110,9 +110,9 @@ impl<'r> Forest<'r> {
         glades_with::<Brand>(Blank::new(1), alloc, self)
     }
 
-    /// The character where the token at a place begins; after the last token, where that ends.
+    /// The character where the token at a place begins; where there is none, where the one before ends.
     pub fn start(&self, place: u32) -> u32
-        ensures { StartsAt self.now.read.spans place result }
+        ensures { result ≡ start_at self.now.read.spans place }
     {
         match self.spans.get(place as usize) {
             Some(span) => span.start,
@@ -120,23 +120,20 @@ impl<'r> Forest<'r> {
         }
     }
 
-    /// The character where the token before a place ends.
+    /// The character where the token before a place ends; 0 where there is no such token.
     pub fn end(&self, place: u32) -> u32
-        ensures { EndsAt self.now.read.spans place result }
+        ensures { result ≡ end_at self.now.read.spans place }
     {
         self.prepared.known();
         end_of(self.spans, place)
     }
 
-    /// The text between two characters; none, where these are not in order or not in the input.
+    /// The text between two characters, as much of it as is in the input.
     pub fn text(&self, start: u32, end: u32) -> &str
-        ensures between { start ≤ end → end ≤ length self.now.read.characters →
-            chars_in result.now ≡ slice_range self.now.read.characters start end }
+        ensures { chars_in result.now ≡ slice_range self.now.read.characters start end }
     {
-        let (start, end) = (start as usize, end as usize);
-        if start > end || end > self.chars.len() {
-            return "";
-        }
+        let end = (end as usize).min(self.chars.len());
+        let start = (start as usize).min(end);
         self.chars.text(start, end)
     }
 }
@@ -144,7 +141,7 @@ impl<'r> Forest<'r> {
 // Where the token before a place ends, and 0 where there is none.
 fn end_of(spans: &[Span], place: u32) -> u32
     requires { All (λ s. s.start + s.length < 4294967296) spans.now }
-    ensures { EndsAt spans.now place result }
+    ensures { result ≡ end_at spans.now place }
 {
     if place == 0 || place as usize > spans.len() {
         return 0;
