@@ -15,8 +15,6 @@ mod outside;
 #[cfg(test)]
 mod preparing;
 #[cfg(test)]
-mod slipping;
-#[cfg(test)]
 mod statements;
 #[cfg(test)]
 mod texts;

@@ -8,8 +8,6 @@ mod examples;
 #[cfg(test)]
 mod library;
 #[cfg(test)]
-mod pages;
-#[cfg(test)]
 mod runs;
 #[cfg(test)]
 mod told;

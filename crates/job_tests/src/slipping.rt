@@ -2,16 +2,16 @@
 ghost use Rattle.std.specs.Prelude.{◌≡◌, ◌<◌, ◌≤◌, length, IfOk};
 ghost use Rattle.slippers.specs.Stock.{told};
 
-use crate::texts::built;
 use earley_sets::Recce;
 use grammar_core::SymbolId;
-use scanless::{Ending, Piece, Prepared, Reading, next_piece, prepare};
+use scanless::{Ending, Piece, Prepared, Reading, next_piece};
 use slif_base::{Chars, Steps, chars_of};
 use slippers::{ListSupplier, Supplier, read_slipping};
 use std::alloc::{AllocError, Global};
 use std::marker::Brand;
 use std::sync::ledger::{Blank, Ledger};
 use std::test::Fail;
+use text_reading::read_grammar;
 
 // A text that is read with what is given, where its tokens begin and how many characters they have, and where it stops, with what is
 // found and expected there.
@@ -263,11 +263,20 @@ fn is_so_with<L: Ledger>(
     is
 }
 
+// What is prepared of a grammar of this module.
+fn own_grammar(alloc: Global, text: &str) -> Result<Prepared, Fail> {
+    if text.len() > 1_048_576 {
+        return Err(Fail::new("too long"));
+    }
+    match read_grammar(alloc, text.as_bytes()) {
+        Ok(p) => Ok(p),
+        Err(_) => Err(Fail::new("a grammar is refused")),
+    }
+}
+
 // Whether a text is read so.
 fn is_so(alloc: Global, case: &Case) -> Result<bool, Fail> {
-    let Ok(p) = prepare(alloc, built(alloc, case.grammar.as_bytes())?) else {
-        return Ok(false);
-    };
+    let p = own_grammar(alloc, case.grammar)?;
     let is = is_so_with::<Brand>(Blank::new(1), alloc, &p, case);
     drop(p);
     is
@@ -349,9 +358,7 @@ fn breaks_with<L: Ledger>(
 // Two lexemes are supplied, one where the second number stands and one at the end.
 #[test]
 fn reading_ends_where_a_supplier_refuses(rt: HostRuntime) -> Result<(), Fail> {
-    let Ok(p) = prepare(rt.alloc(), built(rt.alloc(), ENDED.as_bytes())?) else {
-        return Err(Fail::new("a grammar is refused"));
-    };
+    let p = own_grammar(rt.alloc(), ENDED)?;
     for left in 0..4 {
         let breaks = breaks_with::<Brand>(Blank::new(1), rt.alloc(), &p, left)?;
         assert!(rt; breaks == (left < 2), "{left}");
@@ -418,9 +425,7 @@ fn begins_with<L: Ledger>(
 
 #[test]
 fn pieces_are_taken_one_by_one(rt: HostRuntime) -> Result<(), Fail> {
-    let Ok(p) = prepare(rt.alloc(), built(rt.alloc(), WORDS.as_bytes())?) else {
-        return Err(Fail::new("a grammar is refused"));
-    };
+    let p = own_grammar(rt.alloc(), WORDS)?;
     for (text, first) in &FIRSTS {
         assert!(rt;
             begins_with::<Brand>(Blank::new(1), rt.alloc(), &p, text, *first)?,

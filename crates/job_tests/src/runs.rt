@@ -1,0 +1,25 @@
+//! Runs with a teller of each kind. A library may not hand out tellers of its own making, so each crate of tests has them here.
+ghost use Rattle.std.specs.Prelude.{IfOk};
+ghost use Rattle.valuator.specs.Told.{states};
+ghost use Rattle.value_lines.specs.Writing.{AreBothTellers};
+
+use run_scenes::{Ended, Given, run_with};
+use std::alloc::{AllocError, Global};
+use valuator::{ArrayTeller, Teller, TreeTeller};
+
+// A teller of each kind.
+fn both_tellers(alloc: Global) -> Result<Vec<Box<dyn Teller>>, AllocError>
+    ensures { IfOk result (λ tellers. AreBothTellers (states tellers.items shows held)) }
+{
+    let array: Box<dyn Teller> = Box::new(alloc, ArrayTeller::new(alloc))?;
+    let tree: Box<dyn Teller> = Box::new(alloc, TreeTeller::new(alloc))?;
+    let mut tellers = Vec::new(alloc);
+    tellers.push(array)?;
+    tellers.push(tree)?;
+    Ok(tellers)
+}
+
+/// Runs what is given, with a teller of each kind.
+pub(crate) fn run_of(alloc: Global, given: &Given<'_>) -> Result<Ended, AllocError> {
+    run_with(alloc, given, both_tellers(alloc)?)
+}
