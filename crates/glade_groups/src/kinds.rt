@@ -13,6 +13,7 @@ pub struct Kind {
     pub second: u32,
 }
 
+/// The kind of a glade.
 pub fn kind_of(glade: &Glade) -> Kind
     ensures { result ≡ kind_of glade.now }
 {
