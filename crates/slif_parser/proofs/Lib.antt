@@ -4,3 +4,4 @@ mod Going
 mod Differing
 mod Ruled
 mod Clipping
+mod Cursors

@@ -1,9 +1,11 @@
 -- What is known of an input that is read, of its forest, and of its derivations. The derivations are those of the run.
-use Rattle.std.specs.Prelude.{◌≡◌, ℕ, zero, suc, ◌+◌, Bool, true, false, List, [], ◌∷◌, ◌++◌, Option, None, Some, IfSome, Result, length, map, slice_get, slice_index_or, chars}
+use Rattle.std.specs.Prelude.{◌≡◌, ℕ, zero, suc, ◌+◌, ◌≤◌, Bool, true, false, List, [], ◌∷◌, ◌++◌, Option, None, Some, IfSome, Result, length, map, slice_get, slice_index_or, chars, Contains}
 use Rattle.grammar_model.specs.Trees.{Tree}
 use Rattle.grammar_model.specs.Steps.{steps_of}
 use Rattle.grammar_model.specs.Values.{Token}
 use Rattle.grammar_model.specs.declared.Ranking.{Ranking}
+use Rattle.grammar_model.specs.declared.limits.TheConstants.{LONGEST_CURSOR}
+use Rattle.cursor_model.specs.Cursor.{cursor_of}
 use Rattle.language_model.specs.Building.{Built}
 use Rattle.grammar_core.specs.declared.steps.Span.{Span}
 use Rattle.glade_model.specs.Glades.{Glade, AreGlades}
@@ -50,6 +52,25 @@ IsPrefixOfAll d given = (rest : List Tree) × AreAll d (given ++ rest)
 abbrev pub IsNext : (new : DerivationsOf) → (given : List Tree) → Bool → Type 0
 IsNext new given true = (tree : Tree) × AreGiven new.iteration (given ++ tree ∷ []) × (new.iteration.current ≡ Some (steps_of tree))
 IsNext new given false = AreAll new given
+
+-- the text is the cursor of the derivation, and not too long
+pub record IsCursorOf (text : List ℕ) (tree : Tree) : Type 0 where
+  pub within : length text ≤ LONGEST_CURSOR
+  pub is : text ≡ cursor_of tree
+
+-- it stands at the derivation that has this cursor, and this one was given last: `next` goes on after it
+pub record IsAt (d : DerivationsOf) (cursor : List ℕ) : Type 0 where
+  pub before : List Tree
+  pub tree : Tree
+  pub is_cursor : IsCursorOf cursor tree
+  pub given : AreGiven d.iteration (before ++ tree ∷ [])
+  pub stands : d.iteration.current ≡ Some (steps_of tree)
+
+-- none of all derivations has this cursor
+pub record LacksCursor (d : DerivationsOf) (cursor : List ℕ) : Type 0 where
+  pub trees : List Tree
+  pub all : AreAll d trees
+  pub none : (tree : Tree) → Contains trees tree → IsCursorOf cursor tree → ⊥
 
 -- where the derivations of what is read differ; the places count tokens
 pub record AreGladesOf (r : Read) (glades : List Glade) : Type 0 where

@@ -1,18 +1,22 @@
 //! The derivations of an input, one after another.
-ghost use Rattle.std.specs.Prelude.{◌≡◌, ◌<◌, [], List, length, map, IfOk, IfErr, OnErr, IfSome, IsSome, IsFalse, IsTrue};
+ghost use Rattle.std.specs.Prelude.{◌≡◌, ◌<◌, ◌++◌, [], List, length, map, IfOk, IfErr, OnOk, OnErr, IfSome, IsSome, IsNone, IsFalse, IsTrue};
 ghost use Rattle.grammar_model.specs.Trees.{Tree};
 ghost use Rattle.grammar_core.specs.Steps.{step_of};
-ghost use Rattle.tree_iter.specs.Iteration.{AreGiven, IsAnswer, between, begun};
+ghost use Rattle.grammar_model.specs.Steps.{steps_of};
+ghost use Rattle.cursor_model.specs.Cursor.{cursor_text};
+ghost use Rattle.cursor_model.specs.Laid.{Spells};
+ghost use Rattle.tree_iter.specs.Iteration.{AreGiven, HasNone, IsAnswer, at_steps, between, begun};
 ghost use Rattle.text_reading.specs.Parts.{HasForest};
 ghost use Rattle.tree_fold.specs.Failing.{IsFailure};
-ghost use Rattle.slif_parser.specs.Readings.{IsNext, IsPrefixOfAll, ValueBy, FailsBy, IsAskedBy};
+ghost use Rattle.slif_parser.specs.Readings.{IsAt, IsNext, IsPrefixOfAll, LacksCursor, ValueBy, FailsBy, IsAskedBy};
 
 use crate::{FoldError, NoMemory, Semantics, Span, TreeStep};
 use scanless::Prepared;
 use slif_base::{Chars, Steps};
-use std::alloc::Global;
+use std::alloc::{AllocError, Global};
 use std::marker::{Brand, Model};
 use std::sync::ledger::{Blank, Ledger};
+use tree_cursor::{CursorRefusal, read_cursor, write_cursor};
 use tree_fold::fold_steps;
 use tree_iter::TreeIter;
 
@@ -56,6 +60,39 @@ fn next_with<L: Ledger>(blank: Blank, iter: &mut TreeIter<'_>) -> Result<bool, N
 {
     let mut steps = Steps::<L>::of_blank(blank);
     iter.next(&mut steps)
+}
+
+// Goes to the derivation that has these steps, on a counter of its own.
+fn jump_with<L: Ledger>(
+    blank: Blank,
+    iter: &mut TreeIter<'_>,
+    to: &[TreeStep],
+) -> Result<bool, NoMemory>
+    requires name { blank.name ≡ L.name }
+    requires parts { blank.parts ≡ L.parts }
+    requires some { 0 < blank.parts }
+    ensures found { IfOk result (λ found. IsTrue found →
+        (iter.new ≡ at_steps iter.old.forest (map step_of to.now)) ×
+        ((given : List Tree) × AreGiven iter.new given)) }
+    ensures missed { IfOk result (λ found. IsFalse found → (iter.new ≡ iter.old) ×
+        HasNone iter.old.forest (map step_of to.now)) }
+    ensures err { OnErr result (iter.new ≡ iter.old) }
+{
+    let mut steps = Steps::<L>::of_blank(blank);
+    iter.jump(to, &mut steps)
+}
+
+// The steps that a text spells, if it spells any.
+fn steps_spelled(alloc: Global, text: &str) -> Result<Option<Vec<TreeStep>>, NoMemory>
+    ensures some { IfOk result (λ found. IfSome found (λ steps. (tree : Tree) ×
+        Spells text.now tree × (map step_of steps.items ≡ steps_of tree))) }
+    ensures none { IfOk result (λ found. IsNone found → (tree : Tree) → Spells text.now tree → ⊥) }
+{
+    match read_cursor(alloc, text) {
+        Ok(steps) => Ok(Some(steps)),
+        Err(CursorRefusal::BadCursor) => Ok(None),
+        Err(CursorRefusal::NoMemory) => Err(AllocError),
+    }
 }
 
 impl<'f> Derivations<'f> {
@@ -118,6 +155,36 @@ impl<'f> Derivations<'f> {
         ensures { IfSome self.now.iteration.current (λ steps. map step_of result.now ≡ steps) }
     {
         self.iter.current_steps()
+    }
+
+    /// Appends the cursor of the current derivation: a text by which `go_to` finds it again, also in another run. It has at least a byte
+    /// for each step.
+    pub fn append_cursor(&self, out: &mut Vec<u8>) -> Result<(), NoMemory>
+        requires { IsSome self.now.iteration.current }
+        ensures ok { OnOk result (IfSome self.now.iteration.current
+            (λ steps. out.new.items ≡ out.old.items ++ cursor_text steps)) }
+        ensures err { OnErr result (out.new.items ≡ out.old.items) }
+    {
+        write_cursor(self.iter.current_steps(), out)
+    }
+
+    /// Goes to the derivation that has this cursor, and answers whether there is one; `next` goes on after it. Nothing before it is listed.
+    /// A text of more than 16,777,216 bytes is the cursor of none. Without one, or without memory, all stays as it was.
+    pub fn go_to(&mut self, alloc: Global, cursor: &str) -> Result<bool, NoMemory>
+        ensures found { IfOk result (λ found. IsTrue found → IsAt self.new cursor.now) }
+        ensures stands { IfOk result (λ found. IsTrue found → IsSome self.new.iteration.current) }
+        ensures missed { IfOk result (λ found. IsFalse found → LacksCursor self.old cursor.now) }
+        ensures stays { IfOk result (λ found. IsFalse found → self.new ≡ self.old) }
+        ensures read { self.new.read ≡ self.old.read }
+        ensures forest { self.new.iteration.forest ≡ self.old.iteration.forest }
+        ensures err { OnErr result (self.new ≡ self.old) }
+    {
+        self.prepared.known();
+        self.prepared.written().known();
+        let Some(steps) = steps_spelled(alloc, cursor)? else {
+            return Ok(false);
+        };
+        jump_with::<Brand>(Blank::new(1), &mut self.iter, &steps)
     }
 
     /// The value of the current derivation by a semantics of the caller's own, which is asked once for each of its parts, from the left,
