@@ -1,17 +1,16 @@
 -- Derivations by their cursors.
-use Rattle.std.proofs.Common.{◌≡◌, ℕ, suc, ◌+◌, ◌-◌, ◌<◌, ◌≤◌, inl, inr, List, [], ◌∷◌, ◌++◌, Bool, true, false, Result, Ok, Err, Option, Some, None, Contains, map, length, refl, sym, ap, ◌∙◌, subst, arith, slice_index_or}
-use Rattle.std.specs.Prelude.{IfOk, OnErr, IsFalse, IsTrue, IsSome}
+use Rattle.std.proofs.Common.{◌≡◌, ℕ, suc, ◌+◌, ◌-◌, ◌<◌, ◌≤◌, inl, inr, List, [], ◌∷◌, ◌++◌, Bool, true, false, Result, Ok, Err, Contains, length, refl, sym, ap, ◌∙◌, subst, arith, slice_index_or}
+use Rattle.std.specs.Prelude.{IfOk, OnErr, IsFalse, IsTrue}
 use Rattle.std.proofs.lemmas.List.{length-append}
 use Rattle.finite_sets.proofs.Members.{Among, among_from}
 use Rattle.grammar_model.specs.Grammar.{Grammar, slot_of}
 use Rattle.grammar_model.specs.Trees.{Tree}
 use Rattle.grammar_model.specs.Steps.{Step, TokenStep, NulledStep, RuleStep, steps_of}
 use Rattle.grammar_model.specs.Checked.{IsChecked}
-use Rattle.grammar_model.specs.declared.Show.{Show}
 use Rattle.grammar_model.specs.declared.Show.TheVariants as show
 use Rattle.grammar_core.specs.Written.{IsWritten}
 use Rattle.grammar_core.specs.declared.steps.Span.{Span}
-use Rattle.cursor_model.specs.Cursor.{step_text, cursor_text, cursor_of}
+use Rattle.cursor_model.specs.Cursor.{step_text, cursor_text}
 use Rattle.cursor_model.specs.Laid.{AreSmall, IsLaid, Spells}
 use Rattle.cursor_model.proofs.Bare.{cursors_tell_trees, derivations_are_laid}
 use Rattle.language_model.specs.Building.{Built}
@@ -24,8 +23,8 @@ use Rattle.valuator.proofs.Derived.{each_can_tell}
 use Rattle.value_lines.proofs.Fitting as fitting
 use Rattle.value_lines.proofs.Pages.{edges_one}
 use Rattle.text_reading.specs.Parts.{HasForest}
-use Rattle.slif_parser.specs.Views.{DerivationsOf, IsUnderWay}
-use Rattle.slif_parser.specs.Readings.{IsAt, IsCursorOf, LacksCursor}
+use Rattle.slif_parser.specs.Views.{IsUnderWay}
+use Rattle.slif_parser.specs.Readings.{IsCursorOf, LacksCursor}
 use Rattle.slif_parser.proofs.Going.{seen, all_of}
 
 -- A CURSOR OF STEPS

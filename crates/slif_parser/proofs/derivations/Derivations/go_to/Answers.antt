@@ -1,4 +1,4 @@
-use Rattle.std.proofs.Common.{◌≡◌, List, map, subst, sym, refl, ap, ◌∙◌}
+use Rattle.std.proofs.Common.{◌≡◌, List, map, subst, sym, refl}
 use Rattle.std.specs.Prelude.{IfOk, IfSome, IsFalse, IsNone}
 use Rattle.grammar_core.specs.Steps.{step_of}
 use Rattle.grammar_core.specs.Written.{IsWritten}

@@ -1,4 +1,4 @@
-use Rattle.std.proofs.Common.{ℕ, ◌+◌, ◌<◌, ◌≤◌, ◌^◌, length}
+use Rattle.std.proofs.Common.{◌+◌, ◌<◌, ◌≤◌, ◌^◌, length}
 use Rattle.std.proofs.lemmas.List.Elements.{All-weaker}
 use Rattle.grammar_core.specs.declared.steps.Span.{Span}
 use Rattle.value_lines.proofs.Fitting as fitting
