@@ -1,5 +1,6 @@
 //! The library's front.
 mod cases;
+mod cursors;
 mod differences;
 mod read;
 mod refused;
