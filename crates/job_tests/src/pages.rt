@@ -1,4 +1,4 @@
-//! Pages of job `more`: what is told after a place, and all pages of a list, joined. The rows were told by another program.
+//! Pages of job `more`: what is told after a place. The rows were told by another program.
 use crate::runs::run_of;
 use run_scenes::{Given, SUM, SUMS};
 use std::alloc::{AllocError, Global};
@@ -455,7 +455,9 @@ static ROWS: [Row<'static>; 35] = [
 ];
 
 // Words, an input by the sums, and the message.
-static REFUSED: [(&[&str], &[u8], &[u8]); 2] = [
+type Refusal<'a> = (&'a [&'a str], &'a [u8], &'a [u8]);
+
+static REFUSED: [Refusal<'static>; 2] = [
     // no derivation comes before a bad cursor
     (
         &["more", "--grammar", "g.slif", "--after", "rubbish"],
@@ -487,12 +489,8 @@ fn is_told(alloc: Global, row: &Row<'_>) -> Result<bool, AllocError> {
 }
 
 // Whether an input by the sums is refused so.
-fn is_refused(
-    alloc: Global,
-    words: &[&str],
-    input: &[u8],
-    message: &[u8],
-) -> Result<bool, AllocError> {
+fn is_refused(alloc: Global, row: &Refusal<'_>) -> Result<bool, AllocError> {
+    let (words, input, message) = *row;
     let given = Given {
         words,
         input,
@@ -511,93 +509,8 @@ fn places_are_gone_on_from(rt: HostRuntime) -> Result<(), Fail> {
 
 #[test]
 fn inputs_are_refused_before_places(rt: HostRuntime) -> Result<(), Fail> {
-    for (words, input, message) in &REFUSED {
-        assert!(rt; is_refused(rt.alloc(), words, input, message)?);
-    }
-    Ok(())
-}
-
-// It has 42 derivations.
-const SIX: &[u8] = b"1+2+3+4+5+6";
-
-// The values of a page, and the text of the place after them, where more is left.
-fn parts_of(page: &str) -> Option<(&str, Option<&str>)> {
-    match page.split_once("cursor: ") {
-        Some((values, place)) => Some((values, Some(place.strip_suffix('\n')?))),
-        None => Some((page.strip_suffix("end\n")?, None)),
-    }
-}
-
-// Adds the values of a page of the sum of six to others. Answers the text of the place after them, where more is left.
-fn add_page(
-    alloc: Global,
-    rank: &str,
-    size: &str,
-    after: &str,
-    values: &mut String,
-) -> Result<Option<String>, AllocError> {
-    let words = [
-        "more",
-        "--grammar",
-        "g.slif",
-        "--rank",
-        rank,
-        "--first",
-        size,
-        "--after",
-        after,
-    ];
-    let given = Given {
-        words: &words,
-        input: SIX,
-        ..SUM
-    };
-    let ended = run_of(alloc, &given)?;
-    let Ok(page) = std::str::from_utf8(ended.out()) else {
-        return Ok(None);
-    };
-    let Some((more, place)) = parts_of(page) else {
-        return Ok(None);
-    };
-    values.push_str(more)?;
-    match place {
-        Some(text) => Ok(Some(String::from_str(alloc, text)?)),
-        None => Ok(None),
-    }
-}
-
-// The values of all pages of the sum of six.
-fn all_pages(alloc: Global, rank: &str, size: &str) -> Result<String, AllocError> {
-    let mut values = String::new(alloc);
-    let mut after = String::from_str(alloc, "0")?;
-    for _ in 0..50 {
-        let Some(place) = add_page(alloc, rank, size, &after, &mut values)? else {
-            break;
-        };
-        after = place;
-    }
-    Ok(values)
-}
-
-// Whether all pages of the sum of six are what is told at once.
-fn are_whole(alloc: Global, rank: &str, size: &str) -> Result<bool, AllocError> {
-    let words = ["run", "--grammar", "g.slif", "--rank", rank];
-    let given = Given {
-        words: &words,
-        input: SIX,
-        ..SUM
-    };
-    let values = all_pages(alloc, rank, size)?;
-    let whole = run_of(alloc, &given)?;
-    Ok(values.lines().count() == 42 && whole.is(0, values.as_bytes(), b""))
-}
-
-#[test]
-fn all_pages_are_the_whole_list(rt: HostRuntime) -> Result<(), Fail> {
-    for rank in ["none", "rule", "high"] {
-        for size in ["1", "2", "5"] {
-            assert!(rt; are_whole(rt.alloc(), rank, size)?);
-        }
+    for row in &REFUSED {
+        assert!(rt; is_refused(rt.alloc(), row)?);
     }
     Ok(())
 }

@@ -355,12 +355,16 @@ fn breaks_with<L: Ledger>(
     Ok(breaks)
 }
 
+fn breaks_after(alloc: Global, p: &Prepared, left: u32) -> Result<bool, Fail> {
+    breaks_with::<Brand>(Blank::new(1), alloc, p, left)
+}
+
 // Two lexemes are supplied, one where the second number stands and one at the end.
 #[test]
 fn reading_ends_where_a_supplier_refuses(rt: HostRuntime) -> Result<(), Fail> {
     let p = own_grammar(rt.alloc(), ENDED)?;
     for left in 0..4 {
-        let breaks = breaks_with::<Brand>(Blank::new(1), rt.alloc(), &p, left)?;
+        let breaks = breaks_after(rt.alloc(), &p, left)?;
         assert!(rt; breaks == (left < 2), "{left}");
     }
     Ok(())
@@ -423,14 +427,15 @@ fn begins_with<L: Ledger>(
     Ok(is_first(alloc, p, &piece, first)? && recce.place() == u32::from(moved))
 }
 
+fn begins_so(alloc: Global, p: &Prepared, text: &str, first: First) -> Result<bool, Fail> {
+    begins_with::<Brand>(Blank::new(1), alloc, p, text, first)
+}
+
 #[test]
 fn pieces_are_taken_one_by_one(rt: HostRuntime) -> Result<(), Fail> {
     let p = own_grammar(rt.alloc(), WORDS)?;
     for (text, first) in &FIRSTS {
-        assert!(rt;
-            begins_with::<Brand>(Blank::new(1), rt.alloc(), &p, text, *first)?,
-            "{text}"
-        );
+        assert!(rt; begins_so(rt.alloc(), &p, text, *first)?, "{text}");
     }
     Ok(())
 }
