@@ -399,43 +399,51 @@ fn is_first(alloc: Global, p: &Prepared, piece: &Piece, first: First) -> Result<
 }
 
 // Whether the first piece is so, and the recognizer stands after it.
+fn is_taken<L: Ledger>(
+    alloc: Global,
+    p: &Prepared,
+    chars: &Chars,
+    first: First,
+    steps: &mut Steps<L>,
+) -> Result<bool, Fail>
+    requires { length chars.now ≤ 1048576 }
+{
+    if chars.len() == 0 || p.flat().start_count() == 0 {
+        return Ok(false);
+    }
+    let mut recce = Recce::new(alloc, p.flat(), 0)?;
+    let piece = next_piece(alloc, p, &mut recce, chars, 0, steps)?;
+    let moved = matches!(first, First::Token(_));
+    let is = is_first(alloc, p, &piece, first)? && recce.place() == u32::from(moved);
+    drop(recce);
+    Ok(is)
+}
+
 fn begins_with<L: Ledger>(
     blank: Blank,
     alloc: Global,
     p: &Prepared,
-    text: &str,
-    first: First,
+    row: &(&str, First),
 ) -> Result<bool, Fail>
     requires name { blank.name ≡ L.name }
     requires parts { blank.parts ≡ L.parts }
     requires some { 0 < blank.parts }
 {
-    let chars = own_chars(alloc, text)?;
-    if chars.len() == 0 || p.flat().start_count() == 0 {
-        return Ok(false);
-    }
-    let mut recce = Recce::new(alloc, p.flat(), 0)?;
-    let piece = next_piece(
-        alloc,
-        p,
-        &mut recce,
-        &chars,
-        0,
-        &mut Steps::<L>::of_blank(blank),
-    )?;
-    let moved = matches!(first, First::Token(_));
-    Ok(is_first(alloc, p, &piece, first)? && recce.place() == u32::from(moved))
+    let chars = own_chars(alloc, row.0)?;
+    let is = is_taken(alloc, p, &chars, row.1, &mut Steps::<L>::of_blank(blank));
+    drop(chars);
+    is
 }
 
-fn begins_so(alloc: Global, p: &Prepared, text: &str, first: First) -> Result<bool, Fail> {
-    begins_with::<Brand>(Blank::new(1), alloc, p, text, first)
+fn begins_so(alloc: Global, p: &Prepared, row: &(&str, First)) -> Result<bool, Fail> {
+    begins_with::<Brand>(Blank::new(1), alloc, p, row)
 }
 
 #[test]
 fn pieces_are_taken_one_by_one(rt: HostRuntime) -> Result<(), Fail> {
     let p = own_grammar(rt.alloc(), WORDS)?;
-    for (text, first) in &FIRSTS {
-        assert!(rt; begins_so(rt.alloc(), &p, text, *first)?, "{text}");
+    for row in &FIRSTS {
+        assert!(rt; begins_so(rt.alloc(), &p, row)?, "{}", row.0);
     }
     Ok(())
 }
