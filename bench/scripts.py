@@ -27,7 +27,7 @@ def lengths(count):
 
 
 def looks(count):
-    return LEFT + (TOKEN + "expected\nreport 1\ntrees 0\n") * count, 6 + 8 * count, "trees 0"
+    return LEFT + (TOKEN + "expected\nreport 1\ntrees 0\n") * count, 6 + 7 * count, "trees 0"
 
 
 # What is read, how much, at most so many seconds and MB for the last, and at most so many times as long for twice as much.
