@@ -88,8 +88,8 @@ impl<'f> Alternatives<'f> {
     }
 }
 
-/// The numbers of a reading: the places that were read, the items that were kept, the nodes, and the hidden items that were given for
-/// them.
+/// The numbers of a reading: the places that were read, the items that were kept, the nodes, and the hidden items that begin no earlier
+/// than a used node with the same end.
 #[derive(Clone, Copy, Debug, PartialEq, Eq)]
 pub struct Stats {
     pub tokens: u128,

@@ -1,4 +1,4 @@
--- The items that the reduced sets of a reading keep, and those that its forest brings back, have lists, where each place has a list of
+-- The items that the reduced sets of a reading keep, and the hidden ones that are counted, have lists, where each place has a list of
 -- its items and the used nodes have a list.
 use Rattle.std.proofs.Common.{arith, ◌≡◌, ℕ, suc, ◌≤◌, List, map, flat_map, ap, subst}
 use Rattle.grammar_model.specs.Derives.{Edges}

@@ -1,4 +1,4 @@
--- The numbers at a small reading: one token of a chain of rules, where the sets leave out one item, which the forest brings back.
+-- The numbers at a small reading: one token of a chain of rules, where the sets leave out one item, which is counted.
 use Rattle.std.specs.Prelude.{⊤}
 use Rattle.grammar_model.specs.Derives.{Held}
 use Rattle.recognizer_model.specs.Chosen.{Allowed}

@@ -1,5 +1,5 @@
--- What the bound on the steps of a run counts: the links of the sets after the first, the Leo pairs, and the hidden items that the forest
--- brings back.
+-- What the bound on the steps of a run counts: the links of the sets after the first, the Leo pairs, and the hidden items that begin no
+-- earlier than a used node with the same end.
 use Rattle.std.specs.Prelude.{◌≡◌, ℕ, ◌+◌, ◌≤◌, List, Some, slice_get}
 use Rattle.grammar_model.specs.Derives.{Held}
 use Rattle.grammar_model.specs.declared.Ranking.{Ranking}

@@ -1,5 +1,5 @@
 -- The four numbers of a reading: how many tokens it has, how many items its sets keep, how many nodes its forest has, and how many
--- items that the sets leave out its forest brings back. They are told of the flat grammar that is listed.
+-- hidden items begin no earlier than a used node with the same end. They are told of the flat grammar that is listed.
 -- Sources: Leo 1991 (reduced sets); the Libmarpa manual (bocage).
 use Rattle.std.specs.Prelude.{◌≡◌, ℕ, List, Some, slice_get}
 use Rattle.grammar_model.specs.Derives.{Held}

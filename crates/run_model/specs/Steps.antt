@@ -35,7 +35,7 @@ abbrev pub IsLeoPair : (g : FlatGrammar) (E : Edges) (top place : ℕ) → Place
 IsLeoPair g E top place p = (p.place ≤ place) × ((item : Item) × IsLeo g E top p.place p.symbol item)
 
 -- a reading in these pieces, and then so many looks: at most a step for each link of the sets after the first, for each Leo pair, for each
--- hidden item that the forest brings back, and for each look
+-- hidden item that begins no earlier than a used node with the same end, and for each look
 pub record IsWithinLooks (b : Built) (ranking : Ranking) (pieces : List Piece) (looks before after : ℕ) : Type 0 where
   pub flat : FlatGrammar
   pub is : IsFlattened b.g1 flat

@@ -14,7 +14,7 @@ HasOneJob = (words : List (List ℕ)) (a b : Job) → Asks words a → Asks word
 -- the task has the grammar and the input that it needs, and no other; job `work` has a size within its bounds
 abbrev pub IsFitted : Task → (grammar : Option (List ℕ)) → InputFrom → Type 0
 IsFitted Check grammar input = IsTrue (is_some grammar) × (input ≡ Nowhere)
-IsFitted (Tell what) grammar input = IsTrue (is_some grammar) × (input ≢ Nowhere)
+IsFitted (Tell given what) grammar input = IsTrue (is_some grammar) × (input ≢ Nowhere) × (length given ≤ 8)
 IsFitted (Work size) grammar input = (grammar ≡ None) × (input ≡ Nowhere) × (size ≤ 100000)
 IsFitted Script grammar input = (grammar ≡ None) × (input ≢ Nowhere)
 

@@ -3,7 +3,7 @@
 -- options; any other word is an operand. A word is the bytes of its characters.
 use Rattle.std.specs.Prelude.{◌≡◌, ℕ, ◌==◌, Bool, true, false, not, ◌&&◌, ◌||◌, if◌then◌else◌, nat_eq, nat_lt, nat_le, List, [], ◌∷◌, map, length, drop, Option, Some, None, is_some, option_map, option_and_then, find, bytes_eq, codes}
 use Rattle.std.specs.Char.{is_ascii_digit}
-use Rattle.std.specs.List.{list_all, list_any, starts_with, before_first, after_first}
+use Rattle.std.specs.List.{list_all, list_any, starts_with, before_first, after_first, slice_split}
 use Rattle.grammar_model.specs.declared.Ranking.{Ranking}
 use Rattle.grammar_model.specs.declared.Ranking.TheVariants.{None as NoRanks, Rule as RuleRanks, High as HighRanks}
 use Rattle.grammar_model.specs.declared.Show.{Show}
@@ -39,11 +39,11 @@ pub data Telling : Type 0 where
   Report : (at : ℕ) → Telling
   Glades : Telling
 
--- what a job does: it tells what the symbols of its grammar can do, it tells something of its input, it reads an input of its own, of
--- that size, by a grammar of its own, or it plays its input as a script
+-- what a job does: it tells what the symbols of its grammar can do, it tells something of its input, where lexemes with the given names
+-- are supplied as reading is stuck, it reads an input of its own, of that size, by a grammar of its own, or it plays its input as a script
 pub data Task : Type 0 where
   Check : Task
-  Tell : (what : Telling) → Task
+  Tell : (given : List (List ℕ)) (what : Telling) → Task
   Work : (size : ℕ) → Task
   Script : Task
 
@@ -68,7 +68,7 @@ pub record Setting : Type 0 where
 
 -- the options that take a value, and the one that takes none
 abbrev pub with_value : List (List ℕ)
-with_value = codes "grammar" ∷ codes "input" ∷ codes "first" ∷ codes "rank" ∷ codes "show" ∷ codes "at" ∷ codes "size" ∷ codes "after" ∷ []
+with_value = codes "grammar" ∷ codes "input" ∷ codes "first" ∷ codes "rank" ∷ codes "show" ∷ codes "at" ∷ codes "size" ∷ codes "after" ∷ codes "give" ∷ []
 
 abbrev pub stats : List ℕ
 stats = codes "stats"
@@ -138,6 +138,21 @@ read_or default read (Some value) = read value
 -- a name or a text that is not empty and not '-'
 abbrev pub name_or_text : List ℕ → Option (List ℕ)
 name_or_text value = if nat_eq (length value) 0 || bytes_eq value (codes "-") then None else Some value
+
+-- no text stands twice in the list
+abbrev pub are_different : List (List ℕ) → Bool
+are_different [] = true
+are_different (t ∷ ts) = not (is_one_of ts t) && are_different ts
+
+-- the pieces between the commas (44): one to eight different names, none of them empty
+abbrev pub are_names : List (List ℕ) → Bool
+are_names names = nat_le (length names) 8 && list_all (λ name. nat_lt 0 (length name)) names && are_different names
+
+abbrev pub names_between : List ℕ → List (List ℕ)
+names_between value = slice_split (λ c. c == 44) value
+
+abbrev pub names_given : List ℕ → Option (List (List ℕ))
+names_given value = option_and_then (λ text. if are_names (names_between text) then Some (names_between text) else None) (name_or_text value)
 
 -- a number of one to ten ASCII digits
 abbrev pub number_from : (least most : ℕ) → List ℕ → Option ℕ
@@ -224,10 +239,12 @@ work_asked given = option_map Work (option_and_then (number_from 1 100000) (give
 
 -- ---- jobs by name
 
--- what a job of some name does: it checks, it works, it plays, or it tells what its values ask for and may have further options
+-- what a job of some name does: it checks, it works, it plays, or it tells what its values ask for and may have further options; where it
+-- supplies, it needs the names of what it supplies
 pub data Does : Type 0 where
   Checks : Does
   Tells : (options : List (List ℕ)) (asked : Given → Option Telling) → Does
+  Supplies : (options : List (List ℕ)) (asked : Given → Option Telling) → Does
   Works : Does
   Plays : Does
 
@@ -245,18 +262,22 @@ jobs =
     record { name = codes "work"; does = Works } ∷
     record { name = codes "script"; does = Plays } ∷
     record { name = codes "more"; does = Tells (codes "after" ∷ codes "first" ∷ codes "rank" ∷ codes "show" ∷ []) more_asked } ∷
+    record { name = codes "slip"; does = Supplies (codes "first" ∷ codes "rank" ∷ codes "show" ∷ []) values_asked } ∷
     record { name = codes "glades"; does = Tells [] (λ given. Some Glades) } ∷ []
 
 -- the options that a job may have; it needs those whose value has no default
 abbrev pub options_of : Does → List (List ℕ)
 options_of Checks = codes "grammar" ∷ []
 options_of (Tells options asked) = codes "grammar" ∷ codes "input" ∷ options
+options_of (Supplies options asked) = codes "grammar" ∷ codes "input" ∷ codes "give" ∷ options
 options_of Works = codes "size" ∷ []
 options_of Plays = codes "input" ∷ []
 
 abbrev pub task_asked : Does → Given → Option Task
 task_asked Checks given = Some Check
-task_asked (Tells options asked) given = option_map Tell (asked given)
+task_asked (Tells options asked) given = option_map (Tell []) (asked given)
+task_asked (Supplies options asked) given =
+    option_and_then (λ names. option_map (Tell names) (asked given)) (option_and_then names_given (given (codes "give")))
 task_asked Works given = work_asked given
 task_asked Plays given = Some Script
 
@@ -269,7 +290,7 @@ job_given given = option_and_then (λ name. job_named name given) (given (codes 
 
 -- what is told where the words ask for no job. It names the rows of the table (a law)
 abbrev pub usage_text : List ℕ
-usage_text = codes "usage: slif JOB [options]; jobs: run, check, expect, progress, work, script, more, glades"
+usage_text = codes "usage: slif JOB [options]; jobs: run, check, expect, progress, work, script, more, slip, glades"
 
 -- THE JOB THAT WORDS ASK FOR
 abbrev pub job_asked : List (List ℕ) → Option Job
