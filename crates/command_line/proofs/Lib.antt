@@ -5,3 +5,4 @@ mod Looks
 mod Walked
 mod Agreed
 mod Named
+mod Different

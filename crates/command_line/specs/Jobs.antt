@@ -1,5 +1,5 @@
 -- What a job stands for.
-use Rattle.std.specs.Prelude.{ℕ, List, map}
+use Rattle.std.specs.Prelude.{ℕ, List, [], Option, Some, None, map}
 use Rattle.std.specs.Option.{option_copied}
 use Rattle.std.specs.Borrow.{Bor}
 use Rattle.words_model.specs.Words as model
@@ -26,9 +26,17 @@ telling_of Expected = model.Expected
 telling_of (Report at) = model.Report at
 telling_of Glades = model.Glades
 
+-- the names that stand between the commas of the text that is given, if one is
+abbrev pub names_in : Bor (List ℕ) → List (List ℕ)
+names_in text = model.names_between text.now
+
+abbrev pub names_told : Option (Bor (List ℕ)) → List (List ℕ)
+names_told None = []
+names_told (Some text) = names_in text
+
 abbrev pub task_of : Task → model.Task
 task_of Check = model.Check
-task_of (Tell what) = model.Tell (telling_of what)
+task_of (Tell given what) = model.Tell (names_told given) (telling_of what)
 task_of (Work size) = model.Work size
 task_of Script = model.Script
 

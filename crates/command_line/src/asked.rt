@@ -1,6 +1,6 @@
 // What the matches give to a job.
-ghost use Rattle.std.specs.Prelude.{◌≡◌, not, ◌||◌, is_some, option_map, option_and_then, option_copied, None, codes, bytes_eq};
-ghost use Rattle.std.specs.List.{list_all, list_any};
+ghost use Rattle.std.specs.Prelude.{◌≡◌, not, ◌||◌, is_some, option_map, option_and_then, option_copied, None, codes};
+ghost use Rattle.std.specs.List.{list_all};
 ghost use Rattle.clap.specs.Words.{found_of, first_value};
 ghost use Rattle.language_model.specs.Building.{is_one_of};
 ghost use Rattle.words_model.specs.Words as model;
@@ -10,25 +10,13 @@ ghost use Rattle.command_line.specs.Given.{given_in};
 
 use crate::command::WITH_VALUE;
 use crate::job::{InputFrom, Job, MoreAsked, Task, Telling, ValuesAsked};
+use crate::names::{is_among, names_given};
 use crate::value::{name_or_text, number_from, ranking_of, show_of};
 use clap::ArgMatches;
 use grammar_model::{LAST_PLACE, Ranking, Show};
 
 // the greatest size of job `work`
 const LARGEST_WORK: u32 = 100_000;
-
-// The contract of `any` speaks of the names as they are lent.
-fn stands_in(names: &[&str], name: &str) -> bool
-    ensures { result ≡ list_any (λ other. bytes_eq other.now name.now) names.now }
-{
-    names.iter().any(|other| *other == name)
-}
-
-fn is_among(names: &[&str], name: &str) -> bool
-    ensures { result ≡ is_one_of (names_of names.now) name.now }
-{
-    stands_in(names, name)
-}
 
 fn has_stats(matches: &ArgMatches<'_>) -> bool
     ensures { result ≡ is_some (given_in (found_of matches.now) stats) }
@@ -156,6 +144,19 @@ pub fn more_asked<'a>(matches: &ArgMatches<'a>) -> Option<Telling<'a>>
         after: after_given(matches)?,
         first: first_given(matches)?,
     }))
+}
+
+/// The task to tell of an input by which lexemes are supplied; None where their names are not given or have no meaning, or nothing is told.
+pub fn supply_asked<'a>(matches: &ArgMatches<'a>, what: Option<Telling<'a>>) -> Option<Task<'a>>
+    ensures { option_map task_of result ≡ option_and_then
+        (λ names. option_map (model.Tell names) (option_map telling_of what.entry))
+        (option_and_then model.names_given (given_in (found_of matches.now) (codes "give"))) }
+{
+    let names = names_given(matches.get_str("give")?)?;
+    Some(Task::Tell {
+        given: Some(names),
+        what: what?,
+    })
 }
 
 /// The report that is asked for; None where its place is not given or has no meaning.

@@ -9,7 +9,7 @@ use std::alloc::{AllocError, Global};
 
 /// The options with a value, by their long names.
 pub const WITH_VALUE: &[&str] = &[
-    "grammar", "input", "first", "rank", "show", "at", "size", "after",
+    "grammar", "input", "first", "rank", "show", "at", "size", "after", "give",
 ];
 
 // An option with a value, by its long name.

@@ -1,11 +1,11 @@
 // The jobs: what each is, its name, and the options that it may have.
-ghost use Rattle.std.specs.Prelude.{◌≡◌, Some, option_map};
+ghost use Rattle.std.specs.Prelude.{◌≡◌, [], Some, option_map};
 ghost use Rattle.clap.specs.Words.{found_of};
 ghost use Rattle.words_model.specs.Words as model;
 ghost use Rattle.command_line.specs.Jobs.{telling_of, task_of, job_of, names_of};
 ghost use Rattle.command_line.specs.Given.{given_in};
 
-use crate::asked::{job_with, more_asked, report_asked, values_asked, work_asked};
+use crate::asked::{job_with, more_asked, report_asked, supply_asked, values_asked, work_asked};
 use clap::ArgMatches;
 use grammar_model::{Ranking, Show};
 
@@ -51,10 +51,16 @@ pub enum Telling<'a> {
 pub enum Task<'a> {
     /// It tells what the symbols of its grammar can do.
     Check,
-    /// It tells something of its input.
-    Tell(Telling<'a>),
+    /// It tells something of its input. Where names are given, with commas between them, lexemes of these names are supplied as reading is
+    /// stuck.
+    Tell {
+        given: Option<&'a str>,
+        what: Telling<'a>,
+    },
     /// It reads an input of its own, of that size, by a grammar of its own.
-    Work { size: u32 },
+    Work {
+        size: u32,
+    },
     /// It plays its input as a script.
     Script,
 }
@@ -78,12 +84,15 @@ pub struct Job<'a> {
 
 /// What is told where the words ask for no job.
 pub const USAGE: &[u8] =
-    b"usage: slif JOB [options]; jobs: run, check, expect, progress, work, script, more, glades";
+    b"usage: slif JOB [options]; jobs: run, check, expect, progress, work, script, more, slip, glades";
 
 fn told<'a>(what: Option<Telling<'a>>) -> Option<Task<'a>>
-    ensures { option_map task_of result ≡ option_map model.Tell (option_map telling_of what.entry) }
+    ensures { option_map task_of result ≡ option_map (model.Tell []) (option_map telling_of what.entry) }
 {
-    Some(Task::Tell(what?))
+    Some(Task::Tell {
+        given: None,
+        what: what?,
+    })
 }
 
 // The table of jobs: the options that each may have, and its task.
@@ -113,6 +122,11 @@ fn job_named<'a>(matches: &ArgMatches<'a>, name: &str) -> Option<Job<'a>>
             matches,
             &["grammar", "input", "after", "first", "rank", "show"],
             told(more_asked(matches)),
+        ),
+        "slip" => job_with(
+            matches,
+            &["grammar", "input", "give", "first", "rank", "show"],
+            supply_asked(matches, values_asked(matches)),
         ),
         "glades" => job_with(matches, &["grammar", "input"], told(Some(Telling::Glades))),
         _ => None,

@@ -4,6 +4,7 @@
 mod asked;
 mod command;
 mod job;
+mod names;
 mod value;
 mod words;
 
