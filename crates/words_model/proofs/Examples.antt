@@ -15,22 +15,25 @@ abbrev of_grammar : (grammar : List ℕ) → InputFrom → Task → Job
 of_grammar grammar input task = record { grammar = Some grammar; input = input; task = task }
 
 abbrev runs : (grammar : List ℕ) (input : Option (List ℕ)) → Show → Ranking → (first : Option ℕ) (stats : Bool) → Job
-runs grammar input show ranking first stats = of_grammar grammar (input_in input) (Tell (Values (record { show = show; ranking = ranking; first = first; stats = stats })))
+runs grammar input show ranking first stats = of_grammar grammar (input_in input) (Tell [] (Values (record { show = show; ranking = ranking; first = first; stats = stats })))
 
 abbrev checks : List ℕ → Job
 checks grammar = of_grammar grammar Nowhere Check
 
 abbrev expects : (grammar : List ℕ) (input : Option (List ℕ)) → Job
-expects grammar input = of_grammar grammar (input_in input) (Tell Expected)
+expects grammar input = of_grammar grammar (input_in input) (Tell [] Expected)
 
 abbrev reports : (grammar : List ℕ) (at : ℕ) (input : Option (List ℕ)) → Job
-reports grammar at input = of_grammar grammar (input_in input) (Tell (Report at))
+reports grammar at input = of_grammar grammar (input_in input) (Tell [] (Report at))
 
 abbrev shows_glades : (grammar : List ℕ) (input : Option (List ℕ)) → Job
-shows_glades grammar input = of_grammar grammar (input_in input) (Tell Glades)
+shows_glades grammar input = of_grammar grammar (input_in input) (Tell [] Glades)
 
 abbrev goes_on : (grammar : List ℕ) (input : Option (List ℕ)) → Show → Ranking → (after : List ℕ) (first : Option ℕ) → Job
-goes_on grammar input show ranking after first = of_grammar grammar (input_in input) (Tell (More (record { show = show; ranking = ranking; after = after; first = first })))
+goes_on grammar input show ranking after first = of_grammar grammar (input_in input) (Tell [] (More (record { show = show; ranking = ranking; after = after; first = first })))
+
+abbrev slips : (grammar : List ℕ) (input : Option (List ℕ)) (given : List (List ℕ)) → Show → Ranking → (first : Option ℕ) → Job
+slips grammar input given show ranking first = of_grammar grammar (input_in input) (Tell given (Values (record { show = show; ranking = ranking; first = first; stats = false })))
 
 abbrev works : ℕ → Job
 works size = record { grammar = None; input = Nowhere; task = Work size }
@@ -350,3 +353,47 @@ after_for_run = refl
 
 after_twice : job_asked (codes "more" ∷ codes "--grammar" ∷ codes "g.slif" ∷ codes "--after=0" ∷ codes "--after=0" ∷ []) ≡ None
 after_twice = refl
+
+slip_plain : job_asked (codes "slip" ∷ codes "--grammar" ∷ codes "g.slif" ∷ codes "--give" ∷ codes "semi" ∷ []) ≡ Some (slips (codes "g.slif") None (codes "semi" ∷ []) ShowArray RuleRanks None)
+slip_plain = refl
+
+slip_with_all : job_asked (codes "--show=tree" ∷ codes "--rank" ∷ codes "none" ∷ codes "--first=2" ∷ codes "--give=semi,end tag" ∷ codes "--input=text" ∷ codes "slip" ∷ codes "--grammar" ∷ codes "g.slif" ∷ []) ≡
+    Some (slips (codes "g.slif") (Some (codes "text")) (codes "semi" ∷ codes "end tag" ∷ []) ShowTree NoRanks (Some 2))
+slip_with_all = refl
+
+slip_of_eight : job_asked (codes "slip" ∷ codes "--grammar" ∷ codes "g.slif" ∷ codes "--give" ∷ codes "a,b,c,d,e,f,g,h" ∷ []) ≡
+    Some (slips (codes "g.slif") None (codes "a" ∷ codes "b" ∷ codes "c" ∷ codes "d" ∷ codes "e" ∷ codes "f" ∷ codes "g" ∷ codes "h" ∷ []) ShowArray RuleRanks None)
+slip_of_eight = refl
+
+slip_of_nine : job_asked (codes "slip" ∷ codes "--grammar" ∷ codes "g.slif" ∷ codes "--give" ∷ codes "a,b,c,d,e,f,g,h,i" ∷ []) ≡ None
+slip_of_nine = refl
+
+slip_of_a_name_twice : job_asked (codes "slip" ∷ codes "--grammar" ∷ codes "g.slif" ∷ codes "--give" ∷ codes "a,b,a" ∷ []) ≡ None
+slip_of_a_name_twice = refl
+
+slip_of_an_empty_name : job_asked (codes "slip" ∷ codes "--grammar" ∷ codes "g.slif" ∷ codes "--give" ∷ codes "a,,b" ∷ []) ≡ None
+slip_of_an_empty_name = refl
+
+slip_of_a_last_comma : job_asked (codes "slip" ∷ codes "--grammar" ∷ codes "g.slif" ∷ codes "--give" ∷ codes "a," ∷ []) ≡ None
+slip_of_a_last_comma = refl
+
+slip_of_a_first_comma : job_asked (codes "slip" ∷ codes "--grammar" ∷ codes "g.slif" ∷ codes "--give" ∷ codes ",a" ∷ []) ≡ None
+slip_of_a_first_comma = refl
+
+slip_of_nothing : job_asked (codes "slip" ∷ codes "--grammar" ∷ codes "g.slif" ∷ codes "--give=" ∷ []) ≡ None
+slip_of_nothing = refl
+
+slip_of_a_hyphen : job_asked (codes "slip" ∷ codes "--grammar" ∷ codes "g.slif" ∷ codes "--give=-" ∷ []) ≡ None
+slip_of_a_hyphen = refl
+
+slip_without_names : job_asked (codes "slip" ∷ codes "--grammar" ∷ codes "g.slif" ∷ []) ≡ None
+slip_without_names = refl
+
+slip_without_a_grammar : job_asked (codes "slip" ∷ codes "--give" ∷ codes "a" ∷ []) ≡ None
+slip_without_a_grammar = refl
+
+stats_for_slip : job_asked (codes "slip" ∷ codes "--grammar" ∷ codes "g.slif" ∷ codes "--give" ∷ codes "a" ∷ codes "--stats" ∷ []) ≡ None
+stats_for_slip = refl
+
+give_for_run : job_asked (codes "run" ∷ codes "--grammar" ∷ codes "g.slif" ∷ codes "--give" ∷ codes "a" ∷ []) ≡ None
+give_for_run = refl

@@ -1,10 +1,10 @@
 -- A job that words ask for has what its task needs.
-use Rattle.std.proofs.Common.{◌≡◌, ◌≢◌, ℕ, ◌≤◌, List, [], ◌∷◌, Bool, true, false, ◌&&◌, if◌then◌else◌, Option, Some, None, refl, sym, subst, nat_le, nat_lt, leb-true, length}
+use Rattle.std.proofs.Common.{◌≡◌, ◌≢◌, ℕ, ◌≤◌, List, [], ◌∷◌, Bool, true, false, ◌&&◌, if◌then◌else◌, Option, Some, None, refl, sym, subst, nat_le, nat_lt, leb-true, length, lit≤}
 use Rattle.std.specs.Prelude.{IsTrue, option_map, option_and_then, codes, bytes_eq, find, is_some}
 use Rattle.std.specs.Char.{is_ascii_digit}
 use Rattle.std.specs.List.{list_all}
 use Rattle.language_model.specs.Building.{digits_number}
-use Rattle.words_model.specs.Words.{Telling, Task, Check, Tell, Work, Script, InputFrom, Nowhere, StandardInput, FileNamed, Job, Setting, Given, Does, Checks, Tells, Works, Plays, JobRow, jobs, options_of, task_asked, job_given, job_named, job_with, gives_only, grammar_given, input_given, input_file, work_asked, name_or_text, number_from, words_set, are_set_once, value_of, read_or}
+use Rattle.words_model.specs.Words.{Telling, Task, Check, Tell, Work, Script, InputFrom, Nowhere, StandardInput, FileNamed, Job, Setting, Given, Does, Checks, Tells, Supplies, Works, Plays, JobRow, jobs, options_of, task_asked, job_given, job_named, job_with, gives_only, grammar_given, input_given, input_file, work_asked, name_or_text, number_from, are_different, are_names, names_between, names_given, words_set, are_set_once, value_of, read_or}
 use Rattle.words_model.specs.Laws.{IsFitted, JobsAreFitted}
 
 -- ---- values
@@ -45,6 +45,37 @@ of_work (Some value) task e = by_number (number_from 1 100000 value) (number_wit
     by_number None sized e = absurd (cc e)
     by_number (Some n) sized e = (n, cc e, sized n refl)
 
+told : (given : List (List ℕ)) (what : Option Telling) (task : Task) → option_map (Tell given) what ≡ Some task → (w : Telling) × (Tell given w ≡ task)
+told given None task e = absurd (cc e)
+told given (Some w) task e = (w, cc e)
+
+-- the names that are given are eight at most
+few_names : (few some once : Bool) (names given : List (List ℕ)) → (few ≡ true → length names ≤ 8)
+    → (if few && some && once then Some names else None) ≡ Some given → length given ≤ 8
+few_names true true true names given short e = let same : names ≡ given = cc e in subst (λ (ns : List (List ℕ)). length ns ≤ 8) same (short refl)
+few_names true true false names given short e = absurd (cc e)
+few_names true false once names given short e = absurd (cc e)
+few_names false some once names given short e = absurd (cc e)
+
+given_few : (value : List ℕ) (given : List (List ℕ)) → names_given value ≡ Some given → length given ≤ 8
+given_few value given e = by_text (name_or_text value) e
+  where
+    by_text : (o : Option (List ℕ)) → option_and_then (λ text. if are_names (names_between text) then Some (names_between text) else None) o ≡ Some given → length given ≤ 8
+    by_text None e = absurd (cc e)
+    by_text (Some text) e =
+        few_names (nat_le (length (names_between text)) 8) (list_all (λ name. nat_lt 0 (length name)) (names_between text)) (are_different (names_between text))
+        (names_between text) given (leb-true (length (names_between text)) 8) e
+
+of_names : (what : Option Telling) (value : Option (List ℕ)) (task : Task) → option_and_then (λ names. option_map (Tell names) what) (option_and_then names_given value) ≡ Some task
+    → (given : List (List ℕ)) × (w : Telling) × (Tell given w ≡ task) × (length given ≤ 8)
+of_names what None task e = absurd (cc e)
+of_names what (Some value) task e = by_names (names_given value) (given_few value) e
+  where
+    by_names : (o : Option (List (List ℕ))) → ((given : List (List ℕ)) → o ≡ Some given → length given ≤ 8) → option_and_then (λ names. option_map (Tell names) what) o ≡ Some task
+        → (given : List (List ℕ)) × (w : Telling) × (Tell given w ≡ task) × (length given ≤ 8)
+    by_names None few e = absurd (cc e)
+    by_names (Some given) few e = let (w, is) = told given what task e in (given, w, is, few given refl)
+
 -- ---- jobs
 
 made : (P : Job → Type 0) (only : Bool) (grammar : Option (Option (List ℕ))) (input : Option InputFrom) (task : Option Task)
@@ -60,10 +91,6 @@ made P true (Some g) (Some i) (Some t) h job e = let same : record { grammar = g
 abbrev Fitted : Job → Type 0
 Fitted job = IsFitted job.task job.grammar job.input
 
-told : (what : Option Telling) (task : Task) → option_map Tell what ≡ Some task → (w : Telling) × (Tell w ≡ task)
-told None task e = absurd (cc e)
-told (Some w) task e = (w, cc e)
-
 module _ (given : Given) where
   by_row : (does : Does) (job : Job) → job_with (options_of does) (task_asked does given) given ≡ Some job → Fitted job
   by_row Checks job e =
@@ -73,9 +100,14 @@ module _ (given : Given) where
       subst (λ (z : Task). IsFitted z g i) is (named _ g eg, sym where_is))) job e
   by_row (Tells options asked) job e =
       made Fitted (gives_only (options_of (Tells options asked)) given) (grammar_given (options_of (Tells options asked)) given) (input_given (options_of (Tells options asked)) given)
-      (option_map Tell (asked given)) (λ g i t eg ei et.
-      (let (what, is) = told (asked given) t et in
-      subst (λ (z : Task). IsFitted z g i) is (named _ g eg, somewhere (given (codes "input")) i ei))) job e
+      (option_map (Tell []) (asked given)) (λ g i t eg ei et.
+      (let (what, is) = told [] (asked given) t et in
+      subst (λ (z : Task). IsFitted z g i) is (named _ g eg, somewhere (given (codes "input")) i ei, lit≤ tt))) job e
+  by_row (Supplies options asked) job e =
+      made Fitted (gives_only (options_of (Supplies options asked)) given) (grammar_given (options_of (Supplies options asked)) given) (input_given (options_of (Supplies options asked)) given)
+      (task_asked (Supplies options asked) given) (λ g i t eg ei et.
+      (let (names, what, is, few) = of_names (asked given) (given (codes "give")) t et in
+      subst (λ (z : Task). IsFitted z g i) is (named _ g eg, somewhere (given (codes "input")) i ei, few))) job e
   by_row Works job e =
       made Fitted (gives_only (codes "size" ∷ []) given) (Some None) (Some Nowhere) (work_asked given) (λ g i t eg ei et.
       (let (size, is, few) = of_work (given (codes "size")) t et in

@@ -1,5 +1,5 @@
 -- Laws of the definitions.
-use Rattle.std.specs.Prelude.{◌≡◌, ◌≢◌, ℕ, ◌≤◌, Bool, true, false, not, IsTrue, List, ◌∷◌, ◌++◌, ◌⊎◌, Option, Some, None, is_some, bytes_eq, codes}
+use Rattle.std.specs.Prelude.{◌≡◌, ◌≢◌, ℕ, ◌≤◌, Bool, true, false, not, IsTrue, List, ◌∷◌, ◌++◌, ◌⊎◌, Option, Some, None, is_some, bytes_eq, codes, length}
 use Rattle.std.specs.List.{list_all, join_by}
 use Rattle.language_model.specs.Building.{is_one_of}
 use Rattle.words_model.specs.Words.{Job, Task, Check, Tell, Work, Script, InputFrom, Nowhere, Setting, Asks, AskNothing, is_dashed, job_asked, jobs, usage_text, with_value, words_set}
