@@ -1,5 +1,5 @@
--- Bytes are accepted or refused, in one way.
-use Rattle.std.proofs.Common.{◌≡◌, ℕ, List, ◌⊎◌, inl, inr, refl, sym, ap, subst, ◌∙◌, chars, [], ◌∷◌, ◌++◌, codes}
+-- Bytes are accepted or refused, in one way, also for a job that is given names.
+use Rattle.std.proofs.Common.{◌≡◌, ℕ, List, ◌⊎◌, inl, inr, refl, sym, ap, subst, ◌∙◌, chars, [], ◌∷◌, ◌++◌, codes, arith}
 use Rattle.language_model.specs.Description.{Statement}
 use Rattle.language_model.specs.Building.{Built, BuildFault, faults_of, built_of}
 use Rattle.language_model.specs.Texts.{HasDescription, IsBuiltOf}
@@ -7,6 +7,11 @@ use Rattle.reading_model.specs.Accepted.{IsAccepted, GrammarFault, HasGrammarFau
 use Rattle.reading_model.proofs.Accepting.{no_fault, one_fault, accepted_or_fault}
 use Rattle.run_model.specs.Texts.{fault_text}
 use Rattle.run_model.specs.Refused.{Accepted, IsRefused, ByText, ByDescription, ByGrammars, build_text, grammar_text}
+use Rattle.reading_model.specs.First.{IsFirstWith}
+use Rattle.reading_model.proofs.One.{one_first, contains_first}
+use Rattle.run_model.specs.Given.{NamesLexeme, NamesNoLexeme, AcceptedFor, IsRefusedFor, ForGrammar, ForName, unnamed_text}
+use Rattle.run_model.specs.Laws.{NoNamesAskNothing}
+use Rattle.run_model.proofs.Given.{all_or_first, all_at, all_none}
 use Rattle.run_model.proofs.Texts.{GrammarLaws}
 
 -- ONE OF EACH
@@ -67,3 +72,50 @@ module _ (laws : GrammarLaws) (bytes : List ℕ) where
     | inl some ↦ of_faults some.0 some.1 (faults_of some.0) refl
     | inr fault ↦ inr (fault_text bytes fault.0, ByText fault.0 fault.1 refl)
   ]
+
+  -- FOR A JOB THAT IS GIVEN NAMES
+
+  module _ (names : List (List ℕ)) where
+    pub one_built_for : (a b : Built) → AcceptedFor names bytes a → AcceptedFor names bytes b → a ≡ b
+    one_built_for a b p q = one_built a b p.accepted q.accepted
+
+    pub one_refused_for : (t u : List ℕ) → IsRefusedFor names bytes t → IsRefusedFor names bytes u → t ≡ u
+    one_refused_for t u (ForGrammar p) (ForGrammar q) = one_refused t u p q
+    one_refused_for t u (ForGrammar p) (ForName b accepted name first is) = absurd (not_refused b t accepted p)
+    one_refused_for t u (ForName b accepted name first is) (ForGrammar q) = absurd (not_refused b u accepted q)
+    one_refused_for t u (ForName a accepted name first is) (ForName b accepted' name' first' is') =
+        let here = subst (λ (c : Built). IsFirstWith (NamesNoLexeme c) names name') (sym (one_built a b accepted accepted')) first' in
+        is ∙ ap unnamed_text (one_first (NamesNoLexeme a) names name name' first here) ∙ sym is'
+
+    pub not_refused_for : (b : Built) (t : List ℕ) → AcceptedFor names bytes b → IsRefusedFor names bytes t → ⊥
+    not_refused_for b t p (ForGrammar q) = not_refused b t p.accepted q
+    not_refused_for b t p (ForName c accepted name first is) =
+        let here = subst (λ (k : Built). IsFirstWith (NamesNoLexeme k) names name) (sym (one_built b c p.accepted accepted)) first in
+        here.has (all_at (NamesLexeme b) names name p.lexemes (contains_first here))
+
+    abbrev JudgedFor : Type 0
+    JudgedFor = ((b : Built) × AcceptedFor names bytes b) ⊎ ((t : List ℕ) × IsRefusedFor names bytes t)
+
+    of_accepted : (b : Built) → Accepted bytes b → JudgedFor
+    of_accepted b accepted = elim (all_or_first b names) [
+      | inl all ↦ inl (b, record { accepted = accepted; lexemes = all })
+      | inr (name, first) ↦ inr (unnamed_text name, ForName b accepted name first refl)
+    ]
+
+    pub judged_for : JudgedFor
+    judged_for = elim judged [ inl (b, accepted) ↦ of_accepted b accepted | inr (t, is) ↦ inr (t, ForGrammar is) ]
+
+-- WITH NO NAMES
+
+pub for_none : (bytes : List ℕ) (b : Built) → Accepted bytes b → AcceptedFor [] bytes b
+for_none bytes b accepted = record { accepted = accepted; lexemes = all_none (NamesLexeme b) }
+
+refused_by_itself : (bytes text : List ℕ) → IsRefusedFor [] bytes text → IsRefused bytes text
+refused_by_itself bytes text (ForGrammar is) = is
+refused_by_itself bytes text (ForName b accepted name first is) = let (k, lt, e) = contains_first first in absurd (omega (arith, lt))
+
+pub no_names_ask_nothing : NoNamesAskNothing
+no_names_ask_nothing = record {
+  accepted = λ bytes b. (λ p. p.accepted, for_none bytes b);
+  refused = λ bytes text. (refused_by_itself bytes text, λ p. ForGrammar p);
+}

@@ -1,4 +1,5 @@
 pub mod Texts
+pub mod Given
 pub mod Accepted
 pub mod Checked
 pub mod Listed

@@ -1,5 +1,5 @@
 -- Told content leaves a run one outcome.
-use Rattle.std.proofs.Common.{◌≡◌, ◌≢◌, ℕ, List, Option, Some, None, IfSome, true≢false, refl, sym, subst, ◌∙◌}
+use Rattle.std.proofs.Common.{◌≡◌, ◌≢◌, ℕ, List, [], Option, Some, None, IfSome, true≢false, refl, sym, subst, ◌∙◌}
 use Rattle.std.specs.Prelude.{IsTrue, is_some}
 use Rattle.outside_model.specs.Told.{ToldFile, MayHold}
 use Rattle.outside_model.specs.Told.ToldFile.{Untold, Missing, Told}
@@ -10,14 +10,14 @@ use Rattle.words_model.specs.Words.Task.{Check, Tell, Work, Script}
 use Rattle.words_model.specs.Laws.{IsFitted}
 use Rattle.words_model.proofs.Fitted.{jobs_are_fitted}
 use Rattle.words_model.proofs.Asked.{asks_once, not_both}
-use Rattle.run_model.specs.Refused.{Accepted}
-use Rattle.run_model.specs.Outcome.{Outcome, IsOutcome, IsTaskOutcome, IsInputOutcome, IsCheckOutcome, IsScriptOutcome}
+use Rattle.run_model.specs.Given.{AcceptedFor, names_of}
+use Rattle.run_model.specs.Outcome.{Outcome, IsOutcome, IsTaskOutcome, IsNamedOutcome, IsCheckOutcome, IsScriptOutcome}
 use Rattle.run_model.specs.Outcome.IsOutcome.{NoJob, OfJob}
-use Rattle.run_model.specs.Runs.{Supplied, MayEnd, InputMayBe}
+use Rattle.run_model.specs.Runs.{Accepts, Supplied, MayEnd, InputMayBe}
 use Rattle.run_model.specs.Laws.{TellsFiles}
 use Rattle.run_model.proofs.Texts.{RunLaws}
 use Rattle.run_model.proofs.Checked.{one_check}
-use Rattle.run_model.proofs.Told.{one_of_input}
+use Rattle.run_model.proofs.Told.{one_of_named}
 use Rattle.run_model.proofs.Outcomes.{one_over, one_work}
 use Rattle.run_model.proofs.Scripts.{one_script}
 
@@ -37,36 +37,37 @@ module _ (laws : RunLaws) (words : List (List ℕ)) (file : List ℕ → ToldFil
   one_input (FileNamed name) x y some told p q = same_held (file name) y x (told name refl) q p
 
   -- an input counts only where the job goes on to it
-  same_input : (job : Job) → Asks words job → job.input ≢ Nowhere → (grammar x y : List ℕ) → IfSome job.grammar (λ _. (b : Built) × Accepted grammar b)
+  same_input : (job : Job) → Asks words job → job.input ≢ Nowhere → (grammar x y : List ℕ) → Accepts job grammar
       → Has grammar x → Has grammar y → y ≡ x
   same_input job asks some grammar x y goes p q =
       one_input job.input x y some (λ name e. tells.input job name asks e) (p.input_held job asks goes) (q.input_held job asks goes)
 
   -- a task that has the file of a grammar
-  one_of_task : (task : Task) (grammar x y : List ℕ) (a b : Outcome) → ((what : Telling) → task ≡ Tell what → (c : Built) → Accepted grammar c → y ≡ x)
+  one_of_task : (task : Task) (grammar x y : List ℕ) (a b : Outcome) → ((names : List (List ℕ)) (what : Telling) → task ≡ Tell names what → (c : Built) → AcceptedFor (names_of task) grammar c → y ≡ x)
       → (task ≡ Script → ⊥) → IsTaskOutcome task grammar x a → IsTaskOutcome task grammar y b → a ≡ b
-  one_of_task Check grammar x y a b same other of_x of_y = one_over laws IsCheckOutcome IsCheckOutcome grammar a b (λ c accepted. one_check c a b) of_x of_y
-  one_of_task (Tell what) grammar x y a b same other of_x of_y =
-      one_over laws (λ c. IsInputOutcome what c x) (λ c. IsInputOutcome what c y) grammar a b
-      (λ c accepted in_x in_y. one_of_input laws.reading what c x a b in_x (subst (λ l. IsInputOutcome what c l b) (same what refl c accepted) in_y)) of_x of_y
+  one_of_task Check grammar x y a b same other of_x of_y = one_over laws IsCheckOutcome IsCheckOutcome [] grammar a b (λ c accepted. one_check c a b) of_x of_y
+  one_of_task (Tell names what) grammar x y a b same other of_x of_y =
+      one_over laws (λ c. IsNamedOutcome what names c x) (λ c. IsNamedOutcome what names c y) names grammar a b
+      (λ c p in_x in_y. one_of_named laws.reading c (p.accepted.description, p.accepted.built) what names x a b in_x
+      (subst (λ l. IsNamedOutcome what names c l b) (same names what refl c p) in_y)) of_x of_y
   one_of_task (Work size) grammar x y a b same other of_x of_y = one_work laws size a b of_x of_y
   one_of_task Script grammar x y a b same other of_x of_y = absurd (other refl)
 
   -- what is told is told of an input somewhere, and goes on to it by the grammar of a file
-  reads_somewhere : (job : Job) → Asks words job → (what : Telling) → job.task ≡ Tell what → job.input ≢ Nowhere
-  reads_somewhere job asks what is = (subst (λ (t : Task). IsFitted t job.grammar job.input) is (jobs_are_fitted words job asks)).1
+  reads_somewhere : (job : Job) → Asks words job → (names : List (List ℕ)) (what : Telling) → job.task ≡ Tell names what → job.input ≢ Nowhere
+  reads_somewhere job asks names what is = (subst (λ (t : Task). IsFitted t job.grammar job.input) is (jobs_are_fitted words job asks)).1
 
   has_no_grammar : (job : Job) → Asks words job → job.task ≡ Script → job.grammar ≡ None
   has_no_grammar job asks is = (subst (λ (t : Task). IsFitted t job.grammar job.input) is (jobs_are_fitted words job asks)).0
 
-  goes : (file : Option (List ℕ)) (grammar : List ℕ) (c : Built) → Accepted grammar c → IfSome file (λ _. (b : Built) × Accepted grammar b)
-  goes None grammar c accepted = record {}
-  goes (Some name) grammar c accepted = (c, accepted)
+  goes : (file : Option (List ℕ)) (names : List (List ℕ)) (grammar : List ℕ) (c : Built) → AcceptedFor names grammar c → IfSome file (λ _. (b : Built) × AcceptedFor names grammar b)
+  goes None names grammar c accepted = record {}
+  goes (Some name) names grammar c accepted = (c, accepted)
 
   one_of_job : (job : Job) → Asks words job → (name : List ℕ) → job.grammar ≡ Some name → (grammar x y : List ℕ) (a b : Outcome) → Has grammar x → Has grammar y
       → IsTaskOutcome job.task grammar x a → IsTaskOutcome job.task grammar y b → a ≡ b
   one_of_job job asks name named grammar x y a b p q of_x of_y =
-      one_of_task job.task grammar x y a b (λ what is c accepted. same_input job asks (reads_somewhere job asks what is) grammar x y (goes job.grammar grammar c accepted) p q)
+      one_of_task job.task grammar x y a b (λ names what is c accepted. same_input job asks (reads_somewhere job asks names what is) grammar x y (goes job.grammar (names_of job.task) grammar c accepted) p q)
       (λ is. let bad : None ≡ Some name = sym (has_no_grammar job asks is) ∙ named in cc bad) of_x of_y
 
   -- a job's outcome is of the grammar that its file holds
@@ -87,14 +88,14 @@ module _ (laws : RunLaws) (words : List (List ℕ)) (file : List ℕ → ToldFil
   one_of_own : (task : Task) (file : Option (List ℕ)) (from : InputFrom) → IsFitted task file from → file ≡ None → (grammar grammar' x y : List ℕ) (a b : Outcome)
       → (from ≢ Nowhere → y ≡ x) → IsTaskOutcome task grammar x a → IsTaskOutcome task grammar' y b → a ≡ b
   one_of_own Check file from fitted none grammar grammar' x y a b same of of' = let bad = subst (λ (o : Option (List ℕ)). IsTrue (is_some o)) none fitted.0 in absurd (true≢false (sym bad))
-  one_of_own (Tell what) file from fitted none grammar grammar' x y a b same of of' = let bad = subst (λ (o : Option (List ℕ)). IsTrue (is_some o)) none fitted.0 in absurd (true≢false (sym bad))
+  one_of_own (Tell names what) file from fitted none grammar grammar' x y a b same of of' = let bad = subst (λ (o : Option (List ℕ)). IsTrue (is_some o)) none fitted.0 in absurd (true≢false (sym bad))
   one_of_own (Work size) file from fitted none grammar grammar' x y a b same of of' = one_work laws size a b of of'
   one_of_own Script file from fitted none grammar grammar' x y a b same of of' =
       one_script laws.scripts x a b of (subst (λ l. IsScriptOutcome l b) (same fitted.1) of')
 
   -- without a grammar the job goes on to its input
-  goes_on : (job : Job) → job.grammar ≡ None → (grammar : List ℕ) → IfSome job.grammar (λ _. (b : Built) × Accepted grammar b)
-  goes_on job none grammar = subst (λ (o : Option (List ℕ)). IfSome o (λ _. (b : Built) × Accepted grammar b)) (sym none) (record {})
+  goes_on : (job : Job) → job.grammar ≡ None → (grammar : List ℕ) → Accepts job grammar
+  goes_on job none grammar = subst (λ (o : Option (List ℕ)). IfSome o (λ _. (b : Built) × AcceptedFor (names_of job.task) grammar b)) (sym none) (record {})
 
   same_of_own : (job : Job) → Asks words job → job.grammar ≡ None → (grammar grammar' x y : List ℕ) → Has grammar x → Has grammar' y → job.input ≢ Nowhere → y ≡ x
   same_of_own job asks none grammar grammar' x y p q some =

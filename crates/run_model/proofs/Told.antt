@@ -1,5 +1,5 @@
 -- What is told of the pieces of an input exists, is one, and has a plain status.
-use Rattle.std.proofs.Common.{◌≡◌, ◌≢◌, ℕ, List, [], ◌∷◌, ◌++◌, Bool, true, false, refl, sym, ap, subst, ◌∙◌, arith, inl, inr, map, chars, slice_index_or, nat_le, leb-true}
+use Rattle.std.proofs.Common.{◌≡◌, ◌≢◌, ℕ, List, [], ◌∷◌, ◌++◌, Bool, true, false, refl, sym, ap, subst, ◌∙◌, arith, inl, inr, map, All, chars, slice_index_or, nat_le, leb-true}
 use Rattle.std.proofs.lemmas.Bool.{leb-false}
 use Rattle.grammar_model.specs.Trees.{Tree}
 use Rattle.grammar_model.specs.declared.Ranking.TheVariants.{Rule as RuleRanks}
@@ -19,10 +19,12 @@ use Rattle.run_model.specs.Telling.TellsValues.{NoDerivation, Derived}
 use Rattle.run_model.specs.Telling.TellsMore.{Ungiven, NoPlace, GoesOn}
 use Rattle.run_model.specs.Telling.TellsReport.{NoSuchSet, Reported}
 use Rattle.run_model.specs.Telling.TellsGlades.{Underived, Compared}
-use Rattle.run_model.specs.Outcome.{IsInputOutcome}
+use Rattle.run_model.specs.Given.{NamesLexeme}
+use Rattle.run_model.specs.Outcome.{IsInputOutcome, IsNamedOutcome}
 use Rattle.run_model.specs.Outcome.IsInputOutcome.{InputRefused, InputRead}
 use Rattle.run_model.proofs.Listed.{same_trees, no_tree}
 use Rattle.run_model.proofs.More.{one_more, some_more}
+use Rattle.run_model.proofs.Given.{some_given, one_given}
 use Rattle.run_model.proofs.Inputs.{ReadingLaws, read_or, one_read, not_both, one_refused}
 
 -- ONE OF EACH
@@ -64,13 +66,13 @@ module _ (laws : ReadingLaws) (b : Built) (pieces : List Piece) where
   one_told (Report at) cs x y p q = one_report at x y p q
   one_told Glades cs x y p q = one_compared x y p q
 
-module _ (laws : ReadingLaws) (what : Telling) (b : Built) (input : List ℕ) where
-  pub one_of_input : (x y : Outcome) → IsInputOutcome what b input x → IsInputOutcome what b input y → x ≡ y
-  one_of_input x y (InputRefused text is of) (InputRefused other is' of') = of ∙ ap (refused 1) (one_refused laws b input text other is is') ∙ sym of'
-  one_of_input x y (InputRefused text is of) (InputRead pieces read tells) = absurd (not_both laws b input pieces text read is)
-  one_of_input x y (InputRead pieces read tells) (InputRefused text is of) = absurd (not_both laws b input pieces text read is)
+module _ (laws : ReadingLaws) (what : Telling) (b : Built) (given input : List ℕ) where
+  pub one_of_input : (x y : Outcome) → IsInputOutcome what b given input x → IsInputOutcome what b given input y → x ≡ y
+  one_of_input x y (InputRefused text is of) (InputRefused other is' of') = of ∙ ap (refused 1) (one_refused laws b given input text other is is') ∙ sym of'
+  one_of_input x y (InputRefused text is of) (InputRead pieces read tells) = absurd (not_both laws b given input pieces text read is)
+  one_of_input x y (InputRead pieces read tells) (InputRefused text is of) = absurd (not_both laws b given input pieces text read is)
   one_of_input x y (InputRead pieces read tells) (InputRead others read' tells') =
-      one_told laws b pieces what (chars input) x y tells (subst (λ (ps : List Piece). Tells what b (chars input) ps y) (one_read laws b input others pieces read' read) tells')
+      one_told laws b pieces what (chars input) x y tells (subst (λ (ps : List Piece). Tells what b (chars input) ps y) (one_read laws b given input others pieces read' read) tells')
 
 -- SOME OF ALL
 
@@ -116,11 +118,26 @@ module _ (laws : ReadingLaws) (b : Built) (built : IsBuilt b) (accepted : IsAcce
   some_told (Report at) cs = some_report at
   some_told Glades cs = some_compared
 
-pub some_of_input : (laws : ReadingLaws) (b : Built) → IsBuilt b → IsAccepted b → (what : Telling) (input : List ℕ) → (outcome : Outcome) × IsInputOutcome what b input outcome
-some_of_input laws b built accepted what input = elim (read_or laws b built accepted input) [
+pub some_of_input : (laws : ReadingLaws) (b : Built) → IsBuilt b → IsAccepted b → (what : Telling) (given input : List ℕ) → (outcome : Outcome) × IsInputOutcome what b given input outcome
+some_of_input laws b built accepted what given input = elim (read_or laws b built accepted given input) [
   | inl (pieces, read) ↦ (let (outcome, tells) = some_told laws b built accepted pieces what (chars input) in (outcome, InputRead pieces read tells))
   | inr (text, is) ↦ (refused 1 text, InputRefused text is refl)
 ]
+
+-- WITH WHAT IS GIVEN
+
+pub one_of_named : (laws : ReadingLaws) (b : Built) → IsBuilt b → (what : Telling) (names : List (List ℕ)) (input : List ℕ) (x y : Outcome) →
+    IsNamedOutcome what names b input x → IsNamedOutcome what names b input y → x ≡ y
+one_of_named laws b built what names input x y (given, are, of) (given', are', of') =
+    let same : given' ≡ given = one_given b (laws.named b built) names given' given are' are in
+    one_of_input laws what b given input x y of (subst (λ (l : List ℕ). IsInputOutcome what b l input y) same of')
+
+pub some_of_named : (laws : ReadingLaws) (b : Built) → IsBuilt b → IsAccepted b → (what : Telling) (names : List (List ℕ)) → All (NamesLexeme b) names → (input : List ℕ) →
+    (outcome : Outcome) × IsNamedOutcome what names b input outcome
+some_of_named laws b built accepted what names all input =
+    let (given, are) = some_given b names all in
+    let (outcome, of) = some_of_input laws b built accepted what given input in
+    (outcome, (given, are, of))
 
 -- THE STATUS
 

@@ -1,5 +1,5 @@
 -- Laws of the definitions.
-use Rattle.std.specs.Prelude.{◌≡◌, ◌≢◌, ℕ, ◌<◌, ◌≤◌, List, [], ◌∷◌, ◌++◌, length, take, drop, false, Option, Some, None, IfSome, codes}
+use Rattle.std.specs.Prelude.{◌≡◌, ◌≢◌, ℕ, ◌<◌, ◌≤◌, List, [], ◌∷◌, ◌++◌, length, take, drop, false, ◌↔◌, Option, Some, None, IfSome, codes}
 use Rattle.grammar_model.specs.Trees.{Tree}
 use Rattle.grammar_model.specs.declared.Ranking.{Ranking}
 use Rattle.grammar_model.specs.declared.Show.{Show}
@@ -13,6 +13,8 @@ use Rattle.words_model.specs.Words.{Job, Telling, Asks}
 use Rattle.words_model.specs.Words.InputFrom.{FileNamed}
 use Rattle.words_model.specs.Words.Telling.{Values, More}
 use Rattle.run_model.specs.Jobs.{work_grammar, work_input}
+use Rattle.run_model.specs.Refused.{Accepted, IsRefused}
+use Rattle.run_model.specs.Given.{AcceptedFor, IsRefusedFor}
 use Rattle.run_model.specs.Listing.{AreDerivations}
 use Rattle.run_model.specs.More.{end_line, last_line}
 use Rattle.run_model.specs.Outcome.{Outcome, IsOutcome, Tells, refused, usage}
@@ -54,6 +56,11 @@ pub record StatusesOccur : Type 0 where
   pub input_refused : (input : List ℕ) → LONGEST_INPUT < length input → IsOutcome run_words work_grammar input (refused 1 (codes "input is longer than 16777216 bytes"))
   pub no_job : IsOutcome [] [] [] usage
   pub grammar_refused : (grammar input : List ℕ) → LONGEST_GRAMMAR < length grammar → IsOutcome run_words grammar input (refused 3 (codes "grammar: longer than 1048576 bytes"))
+
+-- where no names are given, a grammar is accepted and refused as it is by itself
+pub record NoNamesAskNothing : Type 0 where
+  pub accepted : (bytes : List ℕ) (b : Built) → AcceptedFor [] bytes b ↔ Accepted bytes b
+  pub refused : (bytes text : List ℕ) → IsRefusedFor [] bytes text ↔ IsRefused bytes text
 
 -- GOING ON
 

@@ -1,5 +1,6 @@
 pub mod Texts
 pub mod Refused
+pub mod Given
 pub mod Checking
 pub mod Inputs
 pub mod Listing

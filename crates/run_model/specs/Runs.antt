@@ -6,7 +6,7 @@ use Rattle.language_model.specs.Building.{Built}
 use Rattle.outside_model.specs.Told.{ToldFile, MayBe, MayHold, AppendsPrefix, AddsNames}
 use Rattle.words_model.specs.Words.{Job, InputFrom, Asks}
 use Rattle.words_model.specs.Words.InputFrom.{Nowhere, StandardInput, FileNamed}
-use Rattle.run_model.specs.Refused.{Accepted}
+use Rattle.run_model.specs.Given.{AcceptedFor, names_of}
 use Rattle.run_model.specs.Outcome.{Outcome, IsOutcome, message}
 use Rattle.run_model.specs.Outside.{Outside}
 
@@ -16,10 +16,14 @@ InputMayBe Nowhere file left bytes = ⊤
 InputMayBe StandardInput file left bytes = MayBe left bytes
 InputMayBe (FileNamed name) file left bytes = MayHold (file name) bytes
 
+-- the job needs no grammar, or accepts these bytes
+abbrev pub Accepts : Job → (grammar : List ℕ) → Type 0
+Accepts job grammar = IfSome job.grammar (λ _. (b : Built) × AcceptedFor (names_of job.task) grammar b)
+
 -- the bytes that a job needs are those that the outside holds, as far as it tells them
 pub record Supplied (words : List (List ℕ)) (file : List ℕ → ToldFile) (left : Option (List ℕ)) (grammar input : List ℕ) : Type 0 where
   pub grammar_held : (job : Job) → Asks words job → IfSome job.grammar (λ name. MayHold (file name) grammar)
-  pub input_held : (job : Job) → Asks words job → IfSome job.grammar (λ _. (b : Built) × Accepted grammar b) → InputMayBe job.input file left input
+  pub input_held : (job : Job) → Asks words job → Accepts job grammar → InputMayBe job.input file left input
 
 -- an outcome that a run may have over these files and this input
 pub record MayEnd (words : List (List ℕ)) (file : List ℕ → ToldFile) (left : Option (List ℕ)) : Type 0 where
@@ -45,7 +49,7 @@ pub record Answers (words : List (List ℕ)) (before after : Outside) (status : 
 pub record GoesOn (job : Job) (file : List ℕ → ToldFile) : Type 0 where
   pub grammar : List ℕ
   pub held : IfSome job.grammar (λ name. MayHold (file name) grammar)
-  pub accepted : IfSome job.grammar (λ _. (b : Built) × Accepted grammar b)
+  pub accepted : Accepts job grammar
 
 -- the words have the run open the file: that of the job's grammar, or that of its input where the job goes on to it
 pub data MayOpen (words : List (List ℕ)) (file : List ℕ → ToldFile) (name : List ℕ) : Type 0 where

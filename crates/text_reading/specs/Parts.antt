@@ -15,12 +15,13 @@ use Rattle.language_model.specs.Description.{Statement, Describes, IsBadStatemen
 use Rattle.language_model.specs.Building.{Built, BuildFault, faults_of}
 use Rattle.language_model.specs.Texts.{IsBuiltOf}
 use Rattle.reading_model.specs.Accepted.{GrammarFault, HasGrammarFault}
-use Rattle.reading_model.specs.Reading.{Piece, Stopped, IsReading, AreExpected, edges_of, earleme_after}
+use Rattle.reading_model.specs.Reading.{Piece, End, Stopped, IsReadingWith, AreExpected, edges_of, earleme_after}
 use Rattle.forest_model.specs.Forest.{Forest}
 use Rattle.run_model.specs.Texts.{place_text}
 use Rattle.run_model.specs.Refused.{build_text, grammar_text}
 use Rattle.run_model.specs.Inputs.{stop_text}
-use Rattle.scanless.specs.Reading.{HoldsPieces}
+use Rattle.scanless.specs.Reading.{HoldsPieces, IsReadingOfWith}
+use Rattle.scanless.specs.declared.reading.Ending.{Ending}
 use Rattle.value_lines.specs.Lines.{IsForestOf}
 use Rattle.text_reading.specs.declared.refusal.Place.{Place}
 use Rattle.text_reading.specs.Refusals.{place_in, fault_at}
@@ -67,14 +68,22 @@ pub record IsBrokenText (bytes text : List ℕ) (place : Option Place) (expected
   pub place_is : place ≡ None
   pub expected_is : expected ≡ []
 
--- the text tells where reading these characters stops
-pub record IsStopText (b : Built) (cs text : List ℕ) (place : Option Place) (expected : List ℕ) : Type 0 where
+-- the text tells where reading these characters stops, with these lexemes given
+pub record IsStopText (b : Built) (given cs text : List ℕ) (place : Option Place) (expected : List ℕ) : Type 0 where
   pub pieces : List Piece
   pub at : ℕ
   pub found : List ℕ
-  pub reading : IsReading b cs pieces (Stopped at found expected)
+  pub reading : IsReadingWith b given cs pieces (Stopped at found expected)
   pub told : text ≡ stop_text b.g1 cs at found expected
   pub place_is : place ≡ Some (place_in cs at)
+
+-- the characters are read, with some lexemes given
+abbrev pub IsSomeReading : Built → (cs : List ℕ) → Recognizer → List Span → Ending → Type 0
+IsSomeReading b cs recce spans ending = (given : List ℕ) × IsReadingOfWith b given cs recce spans ending
+
+-- P holds of the lexemes with which they are read, whatever these are
+abbrev pub ForGiven : Built → (cs : List ℕ) → Recognizer → List Span → Ending → (P : List ℕ → Type 0) → Type 0
+ForGiven b cs recce spans ending P = (given : List ℕ) → IsReadingOfWith b given cs recce spans ending → P given
 
 -- DERIVATIONS
 
@@ -91,9 +100,10 @@ abbrev pub IsChosenOf : Grammar → List Edge → Ranking → (start place : ℕ
 IsChosenOf g edges ranking start place t =
     Derives g (Held edges) (slot_of (slice_index_or g.starts start 0)) 0 place t × IsChosen ranking g (Held edges) (slot_of (slice_index_or g.starts start 0)) t
 
--- the forest of the characters' chosen derivations, of which there is one
-pub record HasForest (b : Built) (ranking : Ranking) (cs : List ℕ) (spans : List Span) (f : Forest) : Type 0 where
+-- the forest of the characters' chosen derivations, with these lexemes given, of which there is one
+pub record HasForest (b : Built) (given : List ℕ) (ranking : Ranking) (cs : List ℕ) (spans : List Span) (f : Forest) : Type 0 where
   pub pieces : List Piece
+  pub reading : IsReadingWith b given cs pieces End
   pub of : IsForestOf b cs spans f pieces
   pub ranking_is : f.ranking ≡ ranking
   pub tree : Tree

@@ -3,7 +3,7 @@ use Rattle.std.specs.Prelude.{◌≡◌, ℕ, List, [], Option, Some, None, ⊤,
 use Rattle.outside_model.specs.Places.{line_after, column_after}
 use Rattle.grammar_model.specs.declared.Ranking.{Ranking}
 use Rattle.language_model.specs.Building.{Built, BuildFault, BadAdverb, RepeatedAdverb, LexemeNotDefined, InBoth, NotALexeme, BadClass, TwoStarts, NumberRange, TooLong}
-use Rattle.reading_model.specs.Reading.{Piece, End, IsReading, AreExpected}
+use Rattle.reading_model.specs.Reading.{Piece, End, IsReadingWith, AreExpected}
 use Rattle.run_model.specs.Texts as texts
 use Rattle.run_model.specs.Texts.{TextFault}
 use Rattle.run_model.specs.Refused.{IsRefused, ByText, ByDescription, ByGrammars}
@@ -64,26 +64,26 @@ pub record IsRefusedAt (bytes text : List ℕ) (place : Option Place) : Type 0 w
 -- THE INPUT
 
 -- where reading stops, if it does, and what could come there
-abbrev pub stop_place : {b : Built} {bytes text : List ℕ} → IsInputRefused b bytes text → Option Place
-stop_place {b} {bytes} {text} (InputTooLong long told) = None
-stop_place {b} {bytes} {text} (NotUtf8 at broken told) = None
-stop_place {b} {bytes} {text} (ReadingStops pieces at found expected is reading told) = Some (place_in (chars bytes) at)
+abbrev pub stop_place : {b : Built} {given bytes text : List ℕ} → IsInputRefused b given bytes text → Option Place
+stop_place {b} {given} {bytes} {text} (InputTooLong long told) = None
+stop_place {b} {given} {bytes} {text} (NotUtf8 at broken told) = None
+stop_place {b} {given} {bytes} {text} (ReadingStops pieces at found expected is reading told) = Some (place_in (chars bytes) at)
 
-abbrev pub stop_expected : {b : Built} {bytes text : List ℕ} → IsInputRefused b bytes text → List ℕ
-stop_expected {b} {bytes} {text} (InputTooLong long told) = []
-stop_expected {b} {bytes} {text} (NotUtf8 at broken told) = []
-stop_expected {b} {bytes} {text} (ReadingStops pieces at found expected is reading told) = expected
+abbrev pub stop_expected : {b : Built} {given bytes text : List ℕ} → IsInputRefused b given bytes text → List ℕ
+stop_expected {b} {given} {bytes} {text} (InputTooLong long told) = []
+stop_expected {b} {given} {bytes} {text} (NotUtf8 at broken told) = []
+stop_expected {b} {given} {bytes} {text} (ReadingStops pieces at found expected is reading told) = expected
 
--- the bytes are not read to their end, as this text tells
-pub record IsInputRefusedAt (b : Built) (bytes text : List ℕ) (place : Option Place) (expected : List ℕ) : Type 0 where
-  pub refused : IsInputRefused b bytes text
+-- the bytes are not read to their end, with these lexemes given, as this text tells
+pub record IsInputRefusedAt (b : Built) (given bytes text : List ℕ) (place : Option Place) (expected : List ℕ) : Type 0 where
+  pub refused : IsInputRefused b given bytes text
   pub place_is : place ≡ stop_place refused
   pub expected_is : expected ≡ stop_expected refused
 
--- the characters are read to their end, and have no derivation
-pub record IsNoDerivation (b : Built) (ranking : Ranking) (cs text : List ℕ) (place : Option Place) (expected : List ℕ) : Type 0 where
+-- the characters are read to their end, with these lexemes given, and have no derivation
+pub record IsNoDerivation (b : Built) (given : List ℕ) (ranking : Ranking) (cs text : List ℕ) (place : Option Place) (expected : List ℕ) : Type 0 where
   pub pieces : List Piece
-  pub reading : IsReading b cs pieces End
+  pub reading : IsReadingWith b given cs pieces End
   pub none : AreDerivations b ranking pieces []
   pub are : AreExpected b pieces expected
   pub told : text ≡ no_derivation_text b.g1 expected

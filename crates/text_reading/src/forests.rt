@@ -5,11 +5,10 @@ ghost use Rattle.recognizer_model.specs.Counts.{IsCountOf};
 ghost use Rattle.recognizer_model.specs.Chosen.{allowed_by};
 ghost use Rattle.recognizer_model.specs.Nodes.{IsExpanded};
 ghost use Rattle.earley_sets.specs.Recognizer.{edges_of, top_of, earleme_of};
-ghost use Rattle.scanless.specs.Reading.{IsReadingOf};
 ghost use Rattle.scanless.specs.declared.reading.Ending.TheVariants.{End};
 ghost use Rattle.run_model.specs.Telling.{no_derivation_text};
 ghost use Rattle.text_reading.specs.Refusals.{TellsInput, IsNoDerivation};
-ghost use Rattle.text_reading.specs.Parts.{HasForest, HoldsSome, AreExpectedOf};
+ghost use Rattle.text_reading.specs.Parts.{HasForest, HoldsSome, AreExpectedOf, IsSomeReading, ForGiven};
 
 use crate::Refusal;
 use crate::inputs::append_names;
@@ -22,7 +21,7 @@ use slif_base::{Chars, Steps};
 use std::alloc::{AllocError, Global};
 use std::sync::ledger::Ledger;
 
-/// The forest of the derivations, in the arena; or the input ended without one.
+/// The forest of the derivations, in the arena, whatever lexemes were given for the reading; or the input ended without one.
 pub fn forest_of<'r, L: Ledger>(
     alloc: Global,
     arena: &'r Bump,
@@ -33,11 +32,14 @@ pub fn forest_of<'r, L: Ledger>(
     steps: &mut Steps<L>,
 ) -> Result<Forest<'r>, Refusal>
     requires few { length chars.now ≤ LONGEST_INPUT }
-    requires read { IsReadingOf prepared.now chars.now reading.now.recce reading.now.spans.items
-        End }
-    ensures forest { IfOk result (λ f. HasForest prepared.now ranking chars.now
-        reading.now.spans.items f) }
-    ensures refused { IfErr result (TellsInput (IsNoDerivation prepared.now ranking chars.now)) }
+    requires read { IsSomeReading prepared.now chars.now reading.now.recce
+        reading.now.spans.items End }
+    ensures forest { IfOk result (λ f.
+        ForGiven prepared.now chars.now reading.now.recce reading.now.spans.items End
+        (λ given. HasForest prepared.now given ranking chars.now reading.now.spans.items f)) }
+    ensures refused { IfErr result (λ refusal.
+        ForGiven prepared.now chars.now reading.now.recce reading.now.spans.items End
+        (λ given. TellsInput (IsNoDerivation prepared.now given ranking chars.now) refusal)) }
     ensures counted { (n : ℕ) →
         IsCountOf
         (IsExpanded reading.now.recce.flat (edges_of reading.now.recce)

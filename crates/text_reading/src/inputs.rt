@@ -1,15 +1,15 @@
 // The input: its characters, read to their end.
-ghost use Rattle.std.specs.Prelude.{◌≡◌, ◌≤◌, ◌<◌, ◌++◌, ℕ, List, All, IsUtf8, length, chars as chars_in, codes, decimal, IfOk, IfErr, OnOk};
+ghost use Rattle.std.specs.Prelude.{◌≡◌, ◌≤◌, ◌<◌, ◌++◌, ℕ, List, [], All, IsUtf8, length, chars as chars_in, codes, IfOk, IfErr, OnOk};
 ghost use Rattle.std.specs.List.{flat_map};
 ghost use Rattle.grammar_model.specs.Values.{name_of};
 ghost use Rattle.grammar_model.specs.declared.limits.TheConstants.{LONGEST_INPUT};
 ghost use Rattle.language_model.specs.Building.{Built};
 ghost use Rattle.earley_sets.specs.Counted.{TakesAtMost};
-ghost use Rattle.run_model.specs.Inputs.{names_text, stop_text};
+ghost use Rattle.run_model.specs.Inputs.{input_limit, longer_text, names_text, stop_text};
 ghost use Rattle.scanless.specs.Reading.{IsReadingOf};
 ghost use Rattle.scanless.specs.declared.reading.Ending.TheVariants.{End};
 ghost use Rattle.text_reading.specs.Refusals.{TellsInput, IsInputRefusedAt};
-ghost use Rattle.text_reading.specs.Parts.{IsBrokenText, IsStopText};
+ghost use Rattle.text_reading.specs.Parts.{IsBrokenText, IsStopText, IsSomeReading, ForGiven};
 
 use crate::Refusal;
 use crate::phrases::{not_utf8_text, phrase, place_in};
@@ -20,19 +20,20 @@ use slif_base::{Chars, Steps, TextRefusal, chars_from};
 use std::alloc::{AllocError, Global};
 use std::sync::ledger::Ledger;
 
-/// What is told of an input that is longer than 16,777,216 bytes.
-pub fn long_input_text(alloc: Global) -> Result<Vec<u8>, AllocError>
-    ensures { IfOk result (λ text. text.items ≡ codes "input is longer than 16777216 bytes") }
+/// What is told of an input that is longer than so many bytes.
+pub fn long_input_text(alloc: Global, limit: usize) -> Result<Vec<u8>, AllocError>
+    ensures { IfOk result (λ text. text.items ≡ longer_text limit) }
 {
-    Vec::from_slice(alloc, b"input is longer than 16777216 bytes")
+    let text = format!(in alloc; "input is longer than {limit} bytes")?;
+    Ok(text.into_bytes())
 }
 
-/// The refusal of an input that is longer than 16,777,216 bytes.
-pub fn input_too_long(alloc: Global) -> Refusal
-    ensures { (bytes : List ℕ) (b : Built) → LONGEST_INPUT < length bytes →
-        TellsInput (IsInputRefusedAt b bytes) result }
+/// The refusal of an input that is longer than its limit.
+pub fn input_too_long(alloc: Global, limit: usize) -> Refusal
+    ensures { (given bytes : List ℕ) (b : Built) → limit ≡ input_limit given →
+        limit < length bytes → TellsInput (IsInputRefusedAt b given bytes) result }
 {
-    match long_input_text(alloc) {
+    match long_input_text(alloc, limit) {
         Ok(text) => Refusal::Input {
             text,
             place: None,
@@ -69,9 +70,28 @@ pub fn read_text<'p, L: Ledger>(
     requires { length chars.now ≤ LONGEST_INPUT }
     ensures read { IfOk result (λ r. IsReadingOf prepared.now chars.now r.recce r.spans.items End) }
     ensures counted { IfOk result (λ r. TakesAtMost r.recce steps.old steps.new) }
-    ensures refused { IfErr result (TellsInput (IsStopText prepared.now chars.now)) }
+    ensures refused { IfErr result (TellsInput (IsStopText prepared.now [] chars.now)) }
 {
     let reading = read_input(alloc, prepared, chars, steps)?;
+    whole(alloc, prepared, chars, reading)
+}
+
+/// A reading, where it has come to the end of the text, whatever lexemes were given; else the refusal that tells where it stopped.
+pub fn whole<'p>(
+    alloc: Global,
+    prepared: &Prepared,
+    chars: &Chars,
+    reading: Reading<'p>,
+) -> Result<Reading<'p>, Refusal>
+    requires few { length chars.now ≤ LONGEST_INPUT }
+    requires read { IsSomeReading prepared.now chars.now reading.recce reading.spans.items
+        reading.ending }
+    ensures same { IfOk result (λ r. r ≡ reading) }
+    ensures end { OnOk result (reading.ending ≡ End) }
+    ensures refused { IfErr result (λ refusal.
+        ForGiven prepared.now chars.now reading.recce reading.spans.items reading.ending
+        (λ given. TellsInput (IsStopText prepared.now given chars.now) refusal)) }
+{
     match ended(alloc, prepared, chars, &reading) {
         Ok(()) => Ok(reading),
         Err(refusal) => {
@@ -89,10 +109,13 @@ fn ended(
     reading: &Reading<'_>,
 ) -> Result<(), Refusal>
     requires few { length chars.now ≤ LONGEST_INPUT }
-    requires read { IsReadingOf prepared.now chars.now reading.now.recce reading.now.spans.items
-        reading.now.ending }
+    requires read { IsSomeReading prepared.now chars.now reading.now.recce
+        reading.now.spans.items reading.now.ending }
     ensures end { OnOk result (reading.now.ending ≡ End) }
-    ensures refused { IfErr result (TellsInput (IsStopText prepared.now chars.now)) }
+    ensures refused { IfErr result (λ refusal.
+        ForGiven prepared.now chars.now reading.now.recce reading.now.spans.items
+        reading.now.ending
+        (λ given. TellsInput (IsStopText prepared.now given chars.now) refusal)) }
 {
     prepared.known();
     match &reading.ending {

@@ -10,6 +10,6 @@ mod refusal;
 
 pub use forests::forest_of;
 pub use grammar::{grammar_of, long_grammar_text, read_grammar};
-pub use inputs::{append_names, input_chars, input_too_long, long_input_text, read_text};
+pub use inputs::{append_names, input_chars, input_too_long, long_input_text, read_text, whole};
 pub use lines::append_in_line;
 pub use refusal::{Place, Refusal};

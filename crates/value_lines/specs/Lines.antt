@@ -5,7 +5,7 @@ use Rattle.grammar_model.specs.declared.Show.{Show}
 use Rattle.grammar_model.specs.declared.limits.TheConstants.{LONGEST_INPUT}
 use Rattle.grammar_core.specs.declared.steps.Span.{Span}
 use Rattle.language_model.specs.Building.{Built}
-use Rattle.reading_model.specs.Reading.{Piece, End, IsReading, edges_of, earleme_after, spans_from}
+use Rattle.reading_model.specs.Reading.{Piece, End, IsReadingWith, edges_of, earleme_after, spans_from}
 use Rattle.flat_model.specs.Flattened.{IsFlattened}
 use Rattle.forest_model.specs.Forest.{Forest}
 use Rattle.forest_model.specs.Listing.{IsListing}
@@ -18,10 +18,12 @@ use Rattle.run_model.specs.Listing.{line_of}
 abbrev pub score_of : Built → List ℕ → List Span → Score
 score_of b cs spans = record { grammar = b.g1; meaning = b.meaning; chars = cs; spans = spans }
 
--- the forest is that of the pieces, by the flat grammar that is listed, and these are the spans of their tokens
+-- the forest is that of the pieces of a reading, whatever lexemes were given for it, by the flat grammar that is listed, and these are
+-- the spans of their tokens
 pub record IsForestOf (b : Built) (cs : List ℕ) (spans : List Span) (f : Forest) (pieces : List Piece) : Type 0 where
   pub few : length cs ≤ LONGEST_INPUT
-  pub reading : IsReading b cs pieces End
+  pub given : List ℕ
+  pub reading : IsReadingWith b given cs pieces End
   pub spans_are : map span_of spans ≡ spans_from 0 pieces
   pub written : f.written ≡ b.g1
   pub flat : IsFlattened b.g1 f.flat

@@ -72,7 +72,7 @@ module _ (size : ℕ) where
 work_accepted : Accepted work_grammar work_built
 work_accepted = record { description = work_description; has = has_description; built = is_built_of; accepted = is_accepted }
 
-is_read : (size : ℕ) → 3 * size < LONGEST_INPUT → IsRead work_built (work_input size) (ones (word size))
+is_read : (size : ℕ) → 3 * size < LONGEST_INPUT → IsRead work_built [] (work_input size) (ones (word size))
 is_read size few =
     let long = input_length size in
     let count = word_length size in

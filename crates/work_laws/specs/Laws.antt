@@ -13,5 +13,5 @@ use Rattle.run_model.specs.Listing.{AreDerivations}
 
 abbrev pub WorkHasOne : Type 0
 WorkHasOne = (size : ℕ) → 3 * size < LONGEST_INPUT →
-    (b : Built) × Accepted work_grammar b × ((pieces : List Piece) × IsRead b (work_input size) pieces × (earleme_after pieces ≡ 3 * size + 1) ×
+    (b : Built) × Accepted work_grammar b × ((pieces : List Piece) × IsRead b [] (work_input size) pieces × (earleme_after pieces ≡ 3 * size + 1) ×
     ((ranking : Ranking) → (tree : Tree) × AreDerivations b ranking pieces (tree ∷ [])))
