@@ -2,6 +2,7 @@
 #![tactic(auto)]
 
 mod checking;
+mod giving;
 mod grammar;
 mod inputs;
 mod laws;
