@@ -70,7 +70,7 @@ const USAGE: &[u8] =
 /// Words, a grammar, an input, the status, and what is written to each stream.
 type Row<'a> = (&'a [&'a str], &'a [u8], &'a [u8], u8, &'a [u8], &'a [u8]);
 
-static ROWS: [Row<'static>; 37] = [
+static ROWS: [Row<'static>; 32] = [
     // worked 1
     (
         &["slip", "--grammar", "g.slif", "--give", "semi"],
@@ -280,51 +280,6 @@ static ROWS: [Row<'static>; 37] = [
     // words-1
     (
         &["slip", "--grammar", "g.slif", "--give=x,x"],
-        LETTER,
-        b"a",
-        2,
-        b"",
-        USAGE,
-    ),
-    // words-2
-    (
-        &["slip", "--grammar", "g.slif", "--give="],
-        LETTER,
-        b"a",
-        2,
-        b"",
-        USAGE,
-    ),
-    // words-3
-    (
-        &["slip", "--grammar", "g.slif", "--give=x,"],
-        LETTER,
-        b"a",
-        2,
-        b"",
-        USAGE,
-    ),
-    // words-4
-    (
-        &["slip", "--grammar", "g.slif", "--give=,x"],
-        LETTER,
-        b"a",
-        2,
-        b"",
-        USAGE,
-    ),
-    // words-5
-    (
-        &["slip", "--grammar", "g.slif", "--give=a,b,c,d,e,f,g,h,i"],
-        LETTER,
-        b"a",
-        2,
-        b"",
-        USAGE,
-    ),
-    // words-6
-    (
-        &["slip", "--grammar", "g.slif", "--give=-"],
         LETTER,
         b"a",
         2,

@@ -1,6 +1,8 @@
 -- What pieces of a reading name, and what is told of an input.
-use Rattle.std.proofs.Common.{Vec, Global, ◌≡◌, ℕ, ◌<◌, ◌≤◌, ◌++◌, [], ◌∷◌, List, length, map, All, Contains, refl, sym, ap, subst, ◌∙◌, chars, codes, decimal, IsUtf8, drop, Option, Some, None, take, get_or, append_assoc, arith, ◌-◌}
+use Rattle.std.proofs.Common.{Vec, Global, ◌≡◌, ℕ, ◌<◌, ◌≤◌, ◌++◌, [], ◌∷◌, List, length, map, All, Contains, refl, sym, ap, subst, ◌∙◌, chars, codes, decimal, IsUtf8, drop, Option, Some, None, Result, Ok, Err, take, get_or, slice_get, append_assoc, arith, ◌-◌}
+use Rattle.std.specs.Prelude.{IfOk}
 use Rattle.std.proofs.lemmas.List.{take_all}
+use Rattle.std.proofs.lemmas.Option.{get_or_from_slice_get}
 use Rattle.std.specs.List.{flat_map}
 use Rattle.grammar_model.specs.Grammar.{Grammar}
 use Rattle.std.proofs.lemmas.List.Elements.{All-weaker, All-contains_itself, All-contains}
@@ -98,7 +100,15 @@ module _ (b : Built) (given bytes text : List ℕ) (place : Option Place) (expec
     expected_is = refl;
   }
 
+-- what holds of the value that comes back holds of the result
+pub same_ok : {T E : Type 0} (r : Result T E) (x : T) (P : T → Type 0) → IfOk r (λ y. y ≡ x) → P x → IfOk r P
+same_ok (Ok y) x P is p = subst P (sym is) p
+same_ok (Err e) x P is p = is
+
 -- NAMES
+
+pub name_is : (g : Grammar) (symbol : ℕ) (name : List ℕ) → slice_get g.names symbol ≡ Some name → name_of g symbol ≡ name
+name_is g symbol name e = get_or_from_slice_get g.names symbol name [] e
 
 flat_named : (g : Grammar) (symbols : List ℕ) → flat_map (λ n. codes ", " ++ n) (map (name_of g) symbols) ≡ flat_map (λ s. codes ", " ++ name_of g s) symbols
 flat_named g [] = refl
