@@ -1,11 +1,17 @@
 -- What is told of an input that is refused, and the names of symbols.
-use Rattle.std.proofs.Common.{◌≡◌, ℕ, ◌≤◌, ◌++◌, [], ◌∷◌, List, Option, length, map, ap, ◌∙◌, chars, IsUtf8}
+use Rattle.std.proofs.Common.{◌≡◌, ℕ, ◌≤◌, ◌++◌, [], ◌∷◌, List, Option, length, map, ap, ◌∙◌, chars, IsUtf8, lit≤}
 use Rattle.grammar_model.specs.Grammar.{Grammar}
 use Rattle.grammar_model.specs.Values.{name_of}
+use Rattle.grammar_model.specs.declared.limits.TheConstants.{LONGEST_INPUT}
 use Rattle.language_model.specs.Building.{Built}
 use Rattle.run_model.specs.Inputs.{input_limit, IsInputRefused, NotUtf8, ReadingStops}
 use Rattle.text_reading.specs.declared.refusal.Place.{Place}
 use Rattle.text_reading.specs.Parts.{IsBrokenText, IsStopText}
+
+-- each limit is within that of all inputs
+pub within_all : (given : List ℕ) → input_limit given ≤ LONGEST_INPUT
+within_all [] = lit≤ tt
+within_all (x ∷ xs) = lit≤ tt
 
 module _ (b : Built) (given bytes : List ℕ) (within : length bytes ≤ input_limit given) where
   pub refused_broken : (text : List ℕ) (place : Option Place) (expected : List ℕ) → IsBrokenText bytes text place expected → IsInputRefused b given bytes text

@@ -1,5 +1,5 @@
 // The lexemes that job `slip` gives.
-ghost use Rattle.std.specs.Prelude.{◌≡◌, ◌≤◌, ◌<◌, ◌++◌, ◌∷◌, [], ◌↔◌, length, is_some, IsTrue, IfOk, IfErr, OnOk};
+ghost use Rattle.std.specs.Prelude.{◌≡◌, ◌≤◌, ◌<◌, ◌++◌, ◌∷◌, [], ◌↔◌, ⊤, length, is_some, IsTrue, IfOk, IfErr, OnOk};
 ghost use Rattle.words_model.specs.Words.{names_between};
 ghost use Rattle.run_model.specs.Given.{AreGiven, unnamed_text};
 ghost use Rattle.run_model.specs.Inputs.{input_limit};

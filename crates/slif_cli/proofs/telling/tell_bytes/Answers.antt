@@ -1,7 +1,7 @@
 use Rattle.std.proofs.Common.{ℕ, List, ap, subst, arith, length, chars, refl}
 use Rattle.std.proofs.lemmas.Str.{length-le-encodes, encodes-chars}
 use Rattle.std.proofs.lemmas.Result.{on_ok_weaker, MatchResult-weaker}
-use Rattle.run_model.specs.Inputs.{IsInputText}
+use Rattle.run_model.specs.Inputs.{IsInputText, input_limit}
 use Rattle.run_model.specs.Outcome.{IsInputOutcome}
 use Rattle.run_model.specs.Outcome.IsInputOutcome.{InputRefused}
 use Rattle.run_model.specs.Outside.{stream}
@@ -11,7 +11,7 @@ use Rattle.slif_cli.specs.Refusals.{stop_for}
 use Rattle.slif_cli.specs.Stops.{WriteStops}
 use Rattle.slif_cli.specs.Tasks.{TellsReading, GoesOnWithin}
 use Rattle.command_line.specs.Jobs.{telling_of}
-use Rattle.slif_cli.proofs.InputLemmas.{refused_broken, refused_stop}
+use Rattle.slif_cli.proofs.InputLemmas.{refused_broken, refused_stop, within_all}
 use Rattle.slif_cli.proofs.Refusing.{input_stops_for}
 use Rattle.slif_cli.proofs.Stopping.{does_weaker, stops_weaker, passed_on}
 use Rattle.slif_cli.proofs.TaskLemmas.{input_told}
@@ -43,13 +43,13 @@ returns-in_err-reading-clause-stops g c =
     (λ text place expected stop. InputRefused text (refused_stop b given bytes c.requires.few c.in_ok-chars.ensures.utf8 text place expected stop) refl) before refusal
     (subst (λ (cs : List ℕ). TellsInput (IsStopText b given cs) refusal) c.in_ok-chars.ensures.ok c.in_err-reading.ensures.refused))
 
-pub read_text-requires : goal.read_text-requires
-read_text-requires g c =
+pub read_with-requires-clause-few : goal.read_with-requires-clause-few
+read_with-requires-clause-few g c =
     omega (arith, ap length c.in_ok-chars.ensures.ok, length-le-encodes (chars c.args.bytes.items), ap length (encodes-chars c.args.bytes.items c.in_ok-chars.ensures.utf8), c.requires.few)
 
 pub tell_reading-told-requires-clause-few : goal.tell_reading-told-requires-clause-few
 tell_reading-told-requires-clause-few g c =
-    omega (arith, ap length c.in_ok-chars.ensures.ok, length-le-encodes (chars c.args.bytes.items), ap length (encodes-chars c.args.bytes.items c.in_ok-chars.ensures.utf8), c.requires.few)
+    omega (arith, ap length c.in_ok-chars.ensures.ok, length-le-encodes (chars c.args.bytes.items), ap length (encodes-chars c.args.bytes.items c.in_ok-chars.ensures.utf8), c.requires.few, within_all c.args.lexemes.now)
 
 pub returns-clause-done : goal.returns-clause-done
 returns-clause-done g c =

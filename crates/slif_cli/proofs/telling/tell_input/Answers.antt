@@ -1,11 +1,11 @@
-use Rattle.std.proofs.Common.{◌⊎◌, ◌≡◌}
+use Rattle.std.proofs.Common.{◌⊎◌, ◌≡◌, ℕ, subst}
 use Rattle.std.proofs.lemmas.Result.{on_ok_weaker, MatchResult-weaker}
 use Rattle.outside_model.specs.Causes.{Rose}
 use Rattle.words_model.specs.Words.InputFrom.{FileNamed}
 use Rattle.run_model.specs.Outside.{stream}
 use Rattle.run_model.specs.Outcome.{IsInputOutcome}
 use Rattle.run_model.specs.Runs.{InputMayBe}
-use Rattle.slif_cli.specs.Stops.{MayRead, StopsAt}
+use Rattle.slif_cli.specs.Stops.{MayRead, ReadStops, StopsAt}
 use Rattle.command_line.specs.Jobs.{telling_of, input_of}
 use Rattle.slif_cli.proofs.Stopping.{does_weaker, stops_weaker, passed_on}
 use Rattle.slif_cli.proofs.TaskLemmas.{may_read, unread}
@@ -51,7 +51,8 @@ returns-in_err-bytes-clause-stops g c =
     let before = stream g.O.Sink.contents g.O.Sink.fault_count c.args.out.now in
     let stop = c.in_err-bytes.field-0.0 in
     passed_on (StopsAt (MayRead (IsInputOutcome what b given) from file left) (λ asked. files × (from ≡ FileNamed asked)) (files ⊎ input) before before)
-    c.from_residual.result stop c.from_residual.ensures.1 (unread what b given from file left files input before stop c.in_err-bytes.ensures.stops)
+    c.from_residual.result stop c.from_residual.ensures.1 (unread what b given from file left files input before stop
+    (subst (λ (n : ℕ). ReadStops n from file left files input stop) c.limit_with-limit.ensures c.in_err-bytes.ensures.stops))
 
 pub returns-clause-counted : goal.returns-clause-counted
 returns-clause-counted g c =

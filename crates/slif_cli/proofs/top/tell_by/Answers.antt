@@ -5,6 +5,7 @@ use Rattle.outside_model.specs.Causes.{Rose}
 use Rattle.words_model.specs.Words.InputFrom.{FileNamed}
 use Rattle.run_model.specs.Outside.{stream, disk}
 use Rattle.run_model.specs.Outcome.{IsInputOutcome}
+use Rattle.run_model.specs.Given.{AreGiven}
 use Rattle.run_model.specs.Within.{InputWithin}
 use Rattle.run_model.specs.Runs.{MayOpen}
 use Rattle.words_model.specs.Words.{Job}
@@ -25,8 +26,8 @@ returns-clause-done g c =
     let from = input_of c.args.from in
     let what = telling_of c.args.what in
     let names = names_told c.args.names in
-    let given = c.in_ok-lexemes.lexemes.items in
-    let are = c.in_ok-lexemes.ensures.given in
+    let given = c.deref.result.now in
+    let are = subst (λ (xs : List ℕ). AreGiven b names xs) (sym c.deref.ensures.value) c.in_ok-lexemes.ensures.given in
     on_ok_weaker c.tell_input-told.result
     (λ does job is_job words asks. does_weaker (MayRead (IsInputOutcome what b given) from (g.F.Files.told c.load_grammar.new.files) left) (MayHave words file left)
     (λ o may. told words job c.args.grammar.now from names what is_job asks file left b c.in_ok-prepared.ensures.read given are o
@@ -41,8 +42,8 @@ returns-clause-stops g c =
     let from = input_of c.args.from in
     let what = telling_of c.args.what in
     let names = names_told c.args.names in
-    let given = c.in_ok-lexemes.lexemes.items in
-    let are = c.in_ok-lexemes.ensures.given in
+    let given = c.deref.result.now in
+    let are = subst (λ (xs : List ℕ). AreGiven b names xs) (sym c.deref.ensures.value) c.in_ok-lexemes.ensures.given in
     let before = g.F.Files.fault_count c.args.files.now in
     let middle = g.F.Files.fault_count c.load_grammar.new.files in
     let after = g.F.Files.fault_count c.tell_input-told.new.files in
@@ -94,8 +95,8 @@ returns-clause-counted g c =
     let from = input_of c.args.from in
     let what = telling_of c.args.what in
     let names = names_told c.args.names in
-    let given = c.in_ok-lexemes.lexemes.items in
-    let are = c.in_ok-lexemes.ensures.given in
+    let given = c.deref.result.now in
+    let are = subst (λ (xs : List ℕ). AreGiven b names xs) (sym c.deref.ensures.value) c.in_ok-lexemes.ensures.given in
     on_ok_weaker c.tell_input-told.result
     (λ within job is_job words asks. tells_within words job c.args.grammar.now from names what is_job asks file left b c.in_ok-prepared.ensures.read given are c.args.steps.now c.tell_input-told.new.steps
     (held_before from file (g.F.Files.told c.load_grammar.new.files) c.in_ok-prepared.ensures.held left (λ bytes. InputWithin what b given bytes c.args.steps.now c.tell_input-told.new.steps) within))

@@ -26,6 +26,9 @@ returns-in_err-forest-clause-stops g c given is_read =
     passed_on (WriteStops (TellsReading Glades b given cs) before before) c.from_residual.result (stop_for refusal) c.from_residual.ensures.1
     (input_stops_for (IsNoDerivation b given RuleRanks cs) (TellsReading Glades b given cs) (none_compared b given cs) before refusal (c.in_err-forest.ensures.refused given is_read))
 
+pub report_glades-requires-clause-ranking : goal.report_glades-requires-clause-ranking
+report_glades-requires-clause-ranking g c = (c.in_ok-forest.ensures.forest c.requires.read.0 c.requires.read.1).ranking_is
+
 pub report_glades-requires-clause-built : goal.report_glades-requires-clause-built
 report_glades-requires-clause-built g c = (c.in_ok-forest.ensures.forest c.requires.read.0 c.requires.read.1).of.written ∙ sym c.written-w.ensures
 

@@ -12,6 +12,12 @@ use Rattle.slif_cli.proofs.Refusing.{input_stops_for}
 use Rattle.slif_cli.proofs.Stopping.{passed_on}
 use Rattle.slif_cli.proofs.telling.paging.write_more.Goals as goal
 
+pub write_after-requires-clause-forest : goal.write_after-requires-clause-forest
+write_after-requires-clause-forest g c =
+    let has = subst (λ (spans : List Span). HasForest c.args.prepared.now c.requires.read.0 c.args.asked.ranking c.args.chars.now spans c.in_ok-forest.forest) (sym c.deref.ensures.value)
+    (c.in_ok-forest.ensures.forest c.requires.read.0 c.requires.read.1) in
+    (has.pieces, has.of)
+
 pub returns-in_err-forest-clause-stops : goal.returns-in_err-forest-clause-stops
 returns-in_err-forest-clause-stops g c lexemes is_read =
     let b = c.args.prepared.now in
