@@ -10,6 +10,7 @@ _slif_options() {
         work) echo '--size' ;;
         script) echo '--input' ;;
         more) echo '--grammar --input --after --first --rank --show' ;;
+        slip) echo '--grammar --input --give --first --rank --show' ;;
     esac
 }
 
@@ -26,10 +27,10 @@ _slif() {
     for other in "${COMP_WORDS[@]:1:COMP_CWORD - 1}"; do
         case $last:$other in
             *:=) continue ;;
-            --grammar:* | --input:* | --first:* | --rank:* | --show:* | --at:* | --size:* | --after:*) other='' ;;
+            --grammar:* | --input:* | --first:* | --rank:* | --show:* | --at:* | --size:* | --after:* | --give:*) other='' ;;
             *:--) ended=1 ;;
             *:--*) given+=" $other" ;;
-            *:run | *:check | *:expect | *:progress | *:work | *:script | *:more | *:glades) job=$other ;;
+            *:run | *:check | *:expect | *:progress | *:work | *:script | *:more | *:slip | *:glades) job=$other ;;
         esac
         last=$other
     done
@@ -48,11 +49,11 @@ _slif() {
             mapfile -t COMPREPLY < <(compgen -W 'array tree' -- "$word")
             return
             ;;
-        :--first | :--at | :--size | :--after) return ;;
+        :--first | :--at | :--size | :--after | :--give) return ;;
     esac
     # The jobs that take all options given, and the options that one of them takes and that are not given.
     local jobs='' left=' ' options fits
-    for other in ${job:-run check expect progress work script more glades}; do
+    for other in ${job:-run check expect progress work script more slip glades}; do
         options=" $(_slif_options "$other") "
         fits=1
         for last in $given; do

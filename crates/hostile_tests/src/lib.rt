@@ -12,4 +12,6 @@ mod refused;
 #[cfg(test)]
 mod runs;
 #[cfg(test)]
+mod suppliers;
+#[cfg(test)]
 mod tellers;

@@ -9,7 +9,7 @@ use std::alloc::{AllocError, Global};
 use std::test::Fail;
 
 const USAGE: &[u8] =
-    b"slif: usage: slif JOB [options]; jobs: run, check, expect, progress, work, script, more, glades\n";
+    b"slif: usage: slif JOB [options]; jobs: run, check, expect, progress, work, script, more, slip, glades\n";
 
 static WRONG_WORDS: [&[&str]; 16] = [
     &[],

@@ -4,11 +4,12 @@ ghost use Rattle.valuator.specs.Told.{states};
 ghost use Rattle.value_lines.specs.Writing.{AreBothTellers};
 
 use run_scenes::{Ended, Given, run_with};
+use slippers::{ListSupplier, Supplier};
 use std::alloc::{AllocError, Global};
 use valuator::{ArrayTeller, Teller, TreeTeller};
 
-// A teller of each kind.
-fn both_tellers(alloc: Global) -> Result<Vec<Box<dyn Teller>>, AllocError>
+/// A teller of each kind.
+pub(crate) fn both_tellers(alloc: Global) -> Result<Vec<Box<dyn Teller>>, AllocError>
     ensures { IfOk result (λ tellers. AreBothTellers (states tellers.items shows held)) }
 {
     let array: Box<dyn Teller> = Box::new(alloc, ArrayTeller::new(alloc))?;
@@ -19,8 +20,14 @@ fn both_tellers(alloc: Global) -> Result<Vec<Box<dyn Teller>>, AllocError>
     Ok(tellers)
 }
 
+/// A supplier without lexemes, which keeps them in a list.
+pub(crate) fn list_supplier(alloc: Global) -> Result<Box<dyn Supplier>, AllocError> {
+    let supplier: Box<dyn Supplier> = Box::new(alloc, ListSupplier::new(alloc))?;
+    Ok(supplier)
+}
+
 pub(crate) fn run_of(alloc: Global, given: &Given<'_>) -> Result<Ended, AllocError> {
-    run_with(alloc, given, both_tellers(alloc)?)
+    run_with(alloc, given, both_tellers(alloc)?, list_supplier(alloc)?)
 }
 
 /// How many names of files a run asks for.

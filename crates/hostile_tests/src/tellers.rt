@@ -3,6 +3,7 @@ ghost use Rattle.std.specs.Prelude.{IfOk};
 ghost use Rattle.valuator.specs.Told.{states};
 ghost use Rattle.value_lines.specs.Writing.{AreBothTellers};
 
+use crate::runs::list_supplier;
 use grammar_core::RuleId;
 use run_scenes::{Given, SUM, SUM_LINES, TREE_LINES, TREES, run_with};
 use std::alloc::{AllocError, Global};
@@ -114,7 +115,8 @@ fn ends_refusing(
     out: &[u8],
     err: &[u8],
 ) -> Result<bool, AllocError> {
-    let end = run_with(alloc, given, tellers_refusing(alloc, refused, calls)?)?;
+    let tellers = tellers_refusing(alloc, refused, calls)?;
+    let end = run_with(alloc, given, tellers, list_supplier(alloc)?)?;
     Ok(end.is(status, out, err))
 }
 

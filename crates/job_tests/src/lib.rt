@@ -7,3 +7,5 @@ mod pages;
 mod runs;
 #[cfg(test)]
 mod slipping;
+#[cfg(test)]
+mod slips;

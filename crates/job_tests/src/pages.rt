@@ -499,6 +499,91 @@ fn is_refused(alloc: Global, row: &Refusal<'_>) -> Result<bool, AllocError> {
     Ok(run_of(alloc, &given)?.is(1, b"", message))
 }
 
+const SIX: &[u8] = b"1+2+3+4+5+6";
+
+// What a job writes of the sum of six operands.
+fn lines_of<'a>(alloc: Global, words: &'a [&'a str]) -> Result<Vec<u8>, AllocError> {
+    let given = Given {
+        words,
+        input: SIX,
+        ..SUM
+    };
+    let ended = run_of(alloc, &given)?;
+    ended.out().to_vec(alloc)
+}
+
+fn page<'a>(
+    alloc: Global,
+    rank: &'a str,
+    size: &'a str,
+    after: &'a str,
+) -> Result<Vec<u8>, AllocError> {
+    let words = [
+        "more",
+        "--grammar",
+        "g.slif",
+        "--rank",
+        rank,
+        "--first",
+        size,
+        "--after",
+        after,
+    ];
+    lines_of(alloc, &words)
+}
+
+// Appends the values of a page. Answers the place that its last line tells, if there is one.
+fn turned(page: &[u8], values: &mut Vec<u8>) -> Result<Option<String>, AllocError> {
+    let Ok(text) = str::from_utf8(page) else {
+        return Ok(None);
+    };
+    for line in text.split_inclusive('\n') {
+        if let Some(place) = line.strip_prefix("cursor: ") {
+            return Ok(Some(String::from_str(*values.allocator(), place.trim_end())?));
+        }
+        if line != "end\n" {
+            values.extend_from_slice(line.as_bytes())?;
+        }
+    }
+    Ok(None)
+}
+
+// The values of all pages.
+fn joined(alloc: Global, rank: &str, size: &str) -> Result<Vec<u8>, AllocError> {
+    let mut values = Vec::new(alloc);
+    let mut place = String::from_str(alloc, "0")?;
+    for _ in 0..50 {
+        let page = page(alloc, rank, size, &place)?;
+        match turned(&page, &mut values)? {
+            Some(next) => place = next,
+            None => return Ok(values),
+        }
+    }
+    Ok(values)
+}
+
+fn whole_list(alloc: Global, rank: &str) -> Result<Vec<u8>, AllocError> {
+    let words = ["run", "--grammar", "g.slif", "--rank", rank];
+    lines_of(alloc, &words)
+}
+
+fn pages_are_the_list_by(alloc: Global, rank: &str) -> Result<bool, AllocError> {
+    let list = whole_list(alloc, rank)?;
+    let lines = list.iter().filter(|byte| **byte == b'\n').count();
+    let one = joined(alloc, rank, "1")?;
+    let two = joined(alloc, rank, "2")?;
+    let five = joined(alloc, rank, "5")?;
+    Ok(lines == 42 && one == list && two == list && five == list)
+}
+
+#[test]
+fn pages_are_the_list(rt: HostRuntime) -> Result<(), Fail> {
+    for rank in ["none", "rule", "high"] {
+        assert!(rt; pages_are_the_list_by(rt.alloc(), rank)?);
+    }
+    Ok(())
+}
+
 #[test]
 fn places_are_gone_on_from(rt: HostRuntime) -> Result<(), Fail> {
     for row in &ROWS {

@@ -4,6 +4,7 @@ ghost use Rattle.valuator.specs.Told.{states};
 ghost use Rattle.value_lines.specs.Writing.{AreBothTellers};
 
 use run_scenes::{Ended, Given, run_with};
+use slippers::{ListSupplier, Supplier};
 use std::alloc::{AllocError, Global};
 use valuator::{ArrayTeller, Teller, TreeTeller};
 
@@ -19,7 +20,13 @@ fn both_tellers(alloc: Global) -> Result<Vec<Box<dyn Teller>>, AllocError>
     Ok(tellers)
 }
 
-/// Runs what is given, with a teller of each kind.
+// A supplier without lexemes, which keeps them in a list.
+fn list_supplier(alloc: Global) -> Result<Box<dyn Supplier>, AllocError> {
+    let supplier: Box<dyn Supplier> = Box::new(alloc, ListSupplier::new(alloc))?;
+    Ok(supplier)
+}
+
+/// Runs what is given, with a teller of each kind and a supplier.
 pub(crate) fn run_of(alloc: Global, given: &Given<'_>) -> Result<Ended, AllocError> {
-    run_with(alloc, given, both_tellers(alloc)?)
+    run_with(alloc, given, both_tellers(alloc)?, list_supplier(alloc)?)
 }

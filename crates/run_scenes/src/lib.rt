@@ -9,6 +9,7 @@ ghost use Rattle.run_scenes.specs.Scenes.{texts_of, failing_of, files_given, inp
 
 use slif_base::{MemFiles, MemSink, MemSource, Steps};
 use slif_cli::run;
+use slippers::Supplier;
 use std::alloc::{AllocError, Global};
 use std::marker::Brand;
 use std::sync::ledger::{Blank, Ledger};
@@ -284,6 +285,7 @@ fn status_of<L: Ledger>(
     out: &mut MemSink,
     err: &mut MemSink,
     tellers: Vec<Box<dyn Teller>>,
+    supplier: Box<dyn Supplier>,
 ) -> u8
     requires name { blank.name ≡ L.name }
     requires parts { blank.parts ≡ L.parts }
@@ -293,14 +295,17 @@ fn status_of<L: Ledger>(
         (outside_of files.new input.new out.new err.new) result }
 {
     let mut steps = Steps::<L>::of_blank(blank);
-    run(alloc, words, files, input, out, err, tellers, &mut steps)
+    run(
+        alloc, words, files, input, out, err, tellers, supplier, &mut steps,
+    )
 }
 
-/// Runs with these tellers. What the run does is what `slif_cli` promises.
+/// Runs with these tellers and this supplier. What the run does is what `slif_cli` promises.
 pub fn run_with(
     alloc: Global,
     given: &Given<'_>,
     tellers: Vec<Box<dyn Teller>>,
+    supplier: Box<dyn Supplier>,
 ) -> Result<Ended, AllocError>
     requires { AreBothTellers (states tellers.items shows held) }
     ensures { IfOk result (λ end. Runs (texts_of given.now.words.now) (before_of given.now)
@@ -316,6 +321,7 @@ pub fn run_with(
         &mut scene.out,
         &mut scene.err,
         tellers,
+        supplier,
     );
     Ok(Ended { status, scene })
 }

@@ -18,7 +18,7 @@ use Rattle.earley_sets.specs.Recognizer.{Recognizer, IsRecognizer, edges_of as h
 use Rattle.language_model.specs.Building.{Built}
 use Rattle.reading_model.specs.Reading.{End, edges_of, earleme_after}
 use Rattle.reading_model.proofs.One.{reading_is_one}
-use Rattle.scanless.specs.Reading.{HoldsPieces, IsReadingOf}
+use Rattle.scanless.specs.Reading.{HoldsPieces, IsReadingOfWith}
 use Rattle.scanless.specs.declared.reading.Ending.TheVariants.{End as AtEnd}
 use Rattle.forest_model.specs.Forest as forest
 use Rattle.forest_model.specs.Forest.{Forest, IsForest}
@@ -59,7 +59,7 @@ module _ (g : Grammar) (rules : All (λ r. All (λ s. s < length g.names) (symbo
 
 -- WHAT IS TOLD
 
-module _ (b : Built) (cs : List ℕ) (spans : List Span) (f : Forest) (has : HasForest b RuleRanks cs spans f) (is : IsForest f) where
+module _ (b : Built) (given cs : List ℕ) (spans : List Span) (f : Forest) (has : HasForest b given RuleRanks cs spans f) (is : IsForest f) where
   pub glades_as : (glades : List Glade) → AreGlades f.written f.edges (start_of f) f.place glades → AreGlades b.g1 (edges_of has.pieces) (slice_index_or b.g1.starts 0 0) (earleme_after has.pieces) glades
   glades_as glades are =
       subst (λ (g : Grammar). AreGlades g (edges_of has.pieces) (slice_index_or g.starts 0 0) (earleme_after has.pieces) glades) has.of.written
@@ -67,10 +67,10 @@ module _ (b : Built) (cs : List ℕ) (spans : List Span) (f : Forest) (has : Has
       (subst (λ (es : List Edge). AreGlades f.written es (start_of f) (earleme_after has.pieces) glades) has.of.edges
       (subst (λ n. AreGlades f.written f.edges (start_of f) n glades) has.of.place are)))
 
-  pub compared : (w : Grammar) → w ≡ b.g1 → (glades shown : List Glade) → AreGlades f.written f.edges (start_of f) f.place glades → shown ≡ glades → TellsReading Glades b cs (done (map (glade_line w) shown))
+  pub compared : (w : Grammar) → w ≡ b.g1 → (glades shown : List Glade) → AreGlades f.written f.edges (start_of f) f.place glades → shown ≡ glades → TellsReading Glades b given cs (done (map (glade_line w) shown))
   compared w same glades shown are is_shown =
-      let (trees, l) = some_listing b RuleRanks cs spans f has is in
-      record { pieces = has.pieces; reading = has.of.reading; tells = by trees (listed b RuleRanks cs spans f has trees l) }
+      let (trees, l) = some_listing b given RuleRanks cs spans f has is in
+      record { pieces = has.pieces; reading = has.reading; tells = by trees (listed b given RuleRanks cs spans f has trees l) }
     where
       by : (ts : List Tree) → AreDerivations b RuleRanks has.pieces ts → TellsGlades b has.pieces (done (map (glade_line w) shown))
       by [] all = absurd (Contains-none has.tree ((all.each has.tree).1 has.chosen))
@@ -83,16 +83,16 @@ module _ (b : Built) (cs : List ℕ) (spans : List Span) (f : Forest) (has : Has
     counted : n.nodes ≡ length f.nodes
     counted = nodes_counted b RuleRanks has.pieces cs spans f has.of has.ranking_is is n numbers
 
-    pub compares_within : (recce : Recognizer) (held_spans : List Span) → IsRecognizer recce → IsReadingOf b cs recce held_spans AtEnd → (read built after : ℕ)
+    pub compares_within : (recce : Recognizer) (held_spans : List Span) → IsRecognizer recce → IsReadingOfWith b given cs recce held_spans AtEnd → (read built after : ℕ)
         → ((k : ℕ) → IsCountOf (IsExpanded recce.flat (held_edges recce) (allowed_by b.g1 RuleRanks recce.flat (held_edges recce)) (held_top recce) (earleme_of recce)) k → built ≤ read + k)
-        → after ≤ built + length f.nodes → GoesOnWithin Glades b cs recce read after
+        → after ≤ built + length f.nodes → GoesOnWithin Glades b given cs recce read after
     compares_within recce held_spans recognizes reading read built after builds looks =
-        let (same, ends) = reading_is_one b [] cs reading.pieces has.pieces End End reading.is_reading has.of.reading in
+        let (same, ends) = reading_is_one b given cs reading.pieces has.pieces End End reading.is_reading has.reading in
         let holds : HoldsPieces b has.pieces recce = subst (λ (ps : List _). HoldsPieces b ps recce) same reading.holds in
         let few : after ≤ built + n.nodes = subst (λ k. after ≤ built + k) (sym counted) looks in
         record {
           pieces = has.pieces;
-          reading = has.of.reading;
+          reading = has.reading;
           within = λ before reads. record {
             numbers = n;
             has = numbers;
@@ -102,5 +102,5 @@ module _ (b : Built) (cs : List ℕ) (spans : List Span) (f : Forest) (has : Has
 
 -- NO DERIVATION
 
-pub none_compared : (b : Built) (cs text : List ℕ) (place : Option Place) (expected : List ℕ) → IsNoDerivation b RuleRanks cs text place expected → TellsReading Glades b cs (refused 1 text)
-none_compared b cs text place expected is = record { pieces = is.pieces; reading = is.reading; tells = Underived expected is.none is.are (ap (refused 1) is.told) }
+pub none_compared : (b : Built) (given cs text : List ℕ) (place : Option Place) (expected : List ℕ) → IsNoDerivation b given RuleRanks cs text place expected → TellsReading Glades b given cs (refused 1 text)
+none_compared b given cs text place expected is = record { pieces = is.pieces; reading = is.reading; tells = Underived expected is.none is.are (ap (refused 1) is.told) }

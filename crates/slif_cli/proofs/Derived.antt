@@ -32,15 +32,15 @@ use Rattle.slif_cli.proofs.Stopping.{lines_done, lines_stop}
 
 -- JOB run
 
-module _ (asked : ValuesAsked) (b : Built) (cs : List ℕ) (spans : List Span) (f : Forest) (has : HasForest b asked.ranking cs spans f) (n : Numbers) (numbers : HasNumbers b asked.ranking has.pieces n) where
+module _ (asked : ValuesAsked) (b : Built) (given cs : List ℕ) (spans : List Span) (f : Forest) (has : HasForest b given asked.ranking cs spans f) (n : Numbers) (numbers : HasNumbers b asked.ranking has.pieces n) where
   abbrev Told : Outcome → Type 0
-  Told = TellsReading (Values asked) b cs
+  Told = TellsReading (Values asked) b given cs
 
   abbrev values : List Tree → List (List ℕ)
   values = value_lines b asked cs has.pieces
 
   value_told : (trees : List Tree) → IsListing f trees → Told (done (values trees ++ stats_lines asked.stats n))
-  value_told trees l = record { pieces = has.pieces; reading = has.of.reading; tells = by trees (listed b asked.ranking cs spans f has trees l) }
+  value_told trees l = record { pieces = has.pieces; reading = has.reading; tells = by trees (listed b given asked.ranking cs spans f has trees l) }
     where
       by : (ts : List Tree) → AreDerivations b asked.ranking has.pieces ts → TellsValues asked b cs has.pieces (done (values ts ++ stats_lines asked.stats n))
       by [] all = absurd (Contains-none has.tree ((all.each has.tree).1 has.chosen))
@@ -74,5 +74,5 @@ asked_lines false on line m n is same = absurd (cc on)
 
 -- NO DERIVATION
 
-pub no_values : (asked : ValuesAsked) (b : Built) (cs text : List ℕ) (place : Option Place) (expected : List ℕ) → IsNoDerivation b asked.ranking cs text place expected → TellsReading (Values asked) b cs (refused 1 text)
-no_values asked b cs text place expected is = record { pieces = is.pieces; reading = is.reading; tells = NoDerivation expected is.none is.are (ap (refused 1) is.told) }
+pub no_values : (asked : ValuesAsked) (b : Built) (given cs text : List ℕ) (place : Option Place) (expected : List ℕ) → IsNoDerivation b given asked.ranking cs text place expected → TellsReading (Values asked) b given cs (refused 1 text)
+no_values asked b given cs text place expected is = record { pieces = is.pieces; reading = is.reading; tells = NoDerivation expected is.none is.are (ap (refused 1) is.told) }

@@ -7,7 +7,7 @@ use Rattle.slif_base.proofs.Bytes.{appends_none}
 use Rattle.language_model.specs.Building.{Built}
 use Rattle.words_model.specs.Words.{Telling, Task}
 use Rattle.words_model.specs.Words.Task.{Check, Tell, Work, Script}
-use Rattle.run_model.specs.Outcome.{Outcome, IsOutcome, IsGrammarOutcome, IsTaskOutcome, IsInputOutcome, IsCheckOutcome, IsScriptOutcome, usage, done, refused}
+use Rattle.run_model.specs.Outcome.{Outcome, IsOutcome, IsGrammarOutcome, IsTaskOutcome, IsInputOutcome, IsNamedOutcome, IsCheckOutcome, IsScriptOutcome, usage, done, refused}
 use Rattle.run_model.specs.Outcome.IsOutcome.{NoJob, OfJob}
 use Rattle.run_model.specs.Outcome.IsGrammarOutcome.{GrammarRefused, GrammarAccepted}
 use Rattle.run_model.specs.Outcome.IsInputOutcome.{InputRefused, InputRead}
@@ -33,13 +33,13 @@ data Ends (words : List (List ℕ)) (before after : Outside) (status : ℕ) : Ty
   Faulted : status ≡ 4 → Faults words before after → Ends words before after status
   RanOut : status ≡ 5 → RunsOut words before after → Ends words before after status
 
-plain_input : (what : Telling) (b : Built) (input : List ℕ) (outcome : Outcome) → IsInputOutcome what b input outcome → IsPlain outcome
-plain_input what b input outcome (InputRefused text is of) = plain_at outcome (refused 1 text) of (λ e. omega arith) (λ e. omega arith)
-plain_input what b input outcome (InputRead pieces read told) = plain_told what b _ pieces outcome told
+plain_input : (what : Telling) (b : Built) (given input : List ℕ) (outcome : Outcome) → IsInputOutcome what b given input outcome → IsPlain outcome
+plain_input what b given input outcome (InputRefused text is of) = plain_at outcome (refused 1 text) of (λ e. omega arith) (λ e. omega arith)
+plain_input what b given input outcome (InputRead pieces read told) = plain_told what b _ pieces outcome told
 
-plain_over : (IsOver : Built → Outcome → Type 0) (grammar : List ℕ) (outcome : Outcome) → ((b : Built) → IsOver b outcome → IsPlain outcome) → IsGrammarOutcome grammar IsOver outcome → IsPlain outcome
-plain_over IsOver grammar outcome each (GrammarRefused text refused_text is) = plain_at outcome (refused 3 text) is (λ e. omega arith) (λ e. omega arith)
-plain_over IsOver grammar outcome each (GrammarAccepted b accepted over) = each b over
+plain_over : (names : List (List ℕ)) (IsOver : Built → Outcome → Type 0) (grammar : List ℕ) (outcome : Outcome) → ((b : Built) → IsOver b outcome → IsPlain outcome) → IsGrammarOutcome names grammar IsOver outcome → IsPlain outcome
+plain_over names IsOver grammar outcome each (GrammarRefused text refused_text is) = plain_at outcome (refused 3 text) is (λ e. omega arith) (λ e. omega arith)
+plain_over names IsOver grammar outcome each (GrammarAccepted b accepted over) = each b over
 
 plain_script : (input : List ℕ) (outcome : Outcome) → IsScriptOutcome input outcome → IsPlain outcome
 plain_script input outcome (TooLong long is) = plain_at outcome _ is (λ e. omega arith) (λ e. omega arith)
@@ -47,8 +47,8 @@ plain_script input outcome (NotUtf8 at broken is) = plain_at outcome _ is (λ e.
 plain_script input outcome (AnsweredScript answers text are is) = plain_at outcome (done answers) is (λ e. omega arith) (λ e. omega arith)
 
 plain_task : (task : Task) (grammar input : List ℕ) (outcome : Outcome) → IsTaskOutcome task grammar input outcome → IsPlain outcome
-plain_task Check grammar input outcome of = plain_over IsCheckOutcome grammar outcome (λ b over. plain_at outcome (done over.lines) over.is (λ e. omega arith) (λ e. omega arith)) of
-plain_task (Tell what) grammar input outcome of = plain_over (λ b. IsInputOutcome what b input) grammar outcome (λ b over. plain_input what b input outcome over) of
+plain_task Check grammar input outcome of = plain_over [] IsCheckOutcome grammar outcome (λ b over. plain_at outcome (done over.lines) over.is (λ e. omega arith) (λ e. omega arith)) of
+plain_task (Tell names what) grammar input outcome of = plain_over names (λ b. IsNamedOutcome what names b input) grammar outcome (λ b over. plain_input what b over.0 input outcome over.2) of
 plain_task (Work size) grammar input outcome of = plain_at outcome _ of.is (λ e. omega arith) (λ e. omega arith)
 plain_task Script grammar input outcome of = plain_script input outcome of
 

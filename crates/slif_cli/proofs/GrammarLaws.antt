@@ -100,7 +100,8 @@ some_glades b pieces tree trees built accepted are =
 
 pub reading_laws : ReadingLaws
 reading_laws = record {
-  read = λ b text built accepted. reading_exists b [] text accepted.checked.structural (lexemes_named b built);
+  named = lexemes_named;
+  read = λ b given text built accepted. reading_exists b given text accepted.checked.structural (lexemes_named b built);
   one = reading_is_one;
   expected = λ b pieces built accepted. expected_list b accepted.checked.structural [] pieces 0 (lexemes_named b built);
   one_expected = one_expected;

@@ -13,15 +13,16 @@ use Rattle.words_model.specs.Laws.{IsFitted}
 use Rattle.words_model.proofs.Fitted.{jobs_are_fitted}
 use Rattle.words_model.proofs.Asked.{asks_once, not_both}
 use Rattle.run_model.specs.Refused.{Accepted, IsRefused}
+use Rattle.run_model.specs.Given.{AcceptedFor, IsRefusedFor, ForGrammar, names_of}
 use Rattle.run_model.specs.Outcome.{Outcome, IsTaskOutcome, IsCheckOutcome, IsWorkOutcome, usage, refused}
 use Rattle.run_model.specs.Outcome.IsOutcome.{NoJob, OfJob}
 use Rattle.run_model.specs.Outcome.IsGrammarOutcome.{GrammarRefused, GrammarAccepted}
 use Rattle.run_model.specs.Outside.{Stream, Disk}
-use Rattle.run_model.specs.Runs.{InputMayBe, Supplied, AsksNames}
+use Rattle.run_model.specs.Runs.{Accepts, InputMayBe, Supplied, AsksNames}
 use Rattle.run_model.specs.Within.{DoesWithin, RunsWithin}
 use Rattle.run_model.specs.Runs.MayOpen.{OfGrammar}
 use Rattle.run_model.specs.Runs.MayAsk.{ForNothing, ForGrammar}
-use Rattle.run_model.proofs.Accepted.{not_refused}
+use Rattle.run_model.proofs.Accepted.{for_none, not_refused}
 use Rattle.slif_cli.specs.Stops.{LoadStops, MayHave, WorkStops, refusal_outcome}
 use Rattle.slif_cli.specs.Tasks.{WorksWithin, IsCheckJob}
 use Rattle.slif_cli.specs.declared.stop.Stop.{Stop}
@@ -65,16 +66,17 @@ module _ (words : List (List ℕ)) (file : List ℕ → ToldFile) (left : Option
 -- A JOB WITH A GRAMMAR
 
 -- the grammar of a task that has one may be refused
-refused_of : (task : Task) (file : Option (List ℕ)) (from : InputFrom) → IsFitted task file from → (name : List ℕ) → file ≡ Some name → (text input told : List ℕ) → IsRefused text told
+refused_of : (task : Task) (file : Option (List ℕ)) (from : InputFrom) → IsFitted task file from → (name : List ℕ) → file ≡ Some name → (text input told : List ℕ)
+    → IsRefusedFor (names_of task) text told
     → IsTaskOutcome task text input (refused 3 told)
 refused_of Check file from fitted name named text input told is = GrammarRefused told is refl
-refused_of (Tell what) file from fitted name named text input told is = GrammarRefused told is refl
+refused_of (Tell names what) file from fitted name named text input told is = GrammarRefused told is refl
 refused_of (Work size) file from fitted name named text input told is = let bad : None ≡ Some name = sym fitted.0 ∙ named in absurd (cc bad)
 refused_of Script file from fitted name named text input told is = let bad : None ≡ Some name = sym fitted.0 ∙ named in absurd (cc bad)
 
--- no job goes on to its input with the text
-abbrev GoesOnWithNone : List ℕ → Type 0
-GoesOnWithNone text = (b : Built) → Accepted text b → ⊥
+-- the job does not go on to its input with the text
+abbrev pub GoesOnWithNone : Job → List ℕ → Type 0
+GoesOnWithNone job text = (b : Built) → AcceptedFor (names_of job.task) text b → ⊥
 
 module _ (words : List (List ℕ)) (job : Job) (asks : Asks words job) (file : List ℕ → ToldFile) (left : Option (List ℕ))
     (name : List ℕ) (named : job.grammar ≡ Some name) where
@@ -83,16 +85,16 @@ module _ (words : List (List ℕ)) (job : Job) (asks : Asks words job) (file : L
       let here : IfSome job.grammar (λ n. MayHold (file n) grammar) = subst (λ (o : Option (List ℕ)). IfSome o (λ n. MayHold (file n) grammar)) (sym named) held in
       subst (λ (j : Job). IfSome j.grammar (λ n. MayHold (file n) grammar)) (asks_once words job other asks others) here
 
-  -- no job of the words goes on with a text that none goes on with
-  goes_on_with_none : {text : List ℕ} → GoesOnWithNone text → (other : Job) → Asks words other → IfSome other.grammar (λ _. (b : Built) × Accepted text b) → ⊥
+  -- no job of the words goes on with a text that the job does not go on with
+  goes_on_with_none : {text : List ℕ} → GoesOnWithNone job text → (other : Job) → Asks words other → Accepts other text → ⊥
   goes_on_with_none {text} none other others goes =
-      let here : IfSome job.grammar (λ _. (b : Built) × Accepted text b) =
-      subst (λ (j : Job). IfSome j.grammar (λ _. (b : Built) × Accepted text b)) (asks_once words other job others asks) goes in
-      let some : (b : Built) × Accepted text b = subst (λ (o : Option (List ℕ)). IfSome o (λ _. (b : Built) × Accepted text b)) named here in
+      let here : Accepts job text = subst (λ (j : Job). Accepts j text) (asks_once words other job others asks) goes in
+      let some : (b : Built) × AcceptedFor (names_of job.task) text b =
+      subst (λ (o : Option (List ℕ)). IfSome o (λ _. (b : Built) × AcceptedFor (names_of job.task) text b)) named here in
       none some.0 some.1
 
   -- an outcome that asks for no input
-  without_input : (text : List ℕ) → MayHold (file name) text → GoesOnWithNone text → (o : Outcome) → IsTaskOutcome job.task text [] o → MayHave words file left o
+  without_input : (text : List ℕ) → MayHold (file name) text → GoesOnWithNone job text → (o : Outcome) → IsTaskOutcome job.task text [] o → MayHave words file left o
   without_input text held none o is = (
     record {
       grammar = text;
@@ -107,9 +109,13 @@ module _ (words : List (List ℕ)) (job : Job) (asks : Asks words job) (file : L
     refl,
   )
 
+  pub refused_for : (told text : List ℕ) → MayHold (file name) text → GoesOnWithNone job text → IsRefusedFor (names_of job.task) text told → MayHave words file left (refused 3 told)
+  refused_for told text held none is =
+      without_input text held none (refused 3 told) (refused_of job.task job.grammar job.input (jobs_are_fitted words job asks) name named text [] told is)
+
   refused_grammar : (told : List ℕ) → FileHolds (file name) (λ text. IsRefused text told) → MayHave words file left (refused 3 told)
   refused_grammar told held =
-      without_input held.bytes held.may_hold (λ b goes. not_refused grammar_laws held.bytes b told goes held.holds) (refused 3 told) (refused_of job.task job.grammar job.input (jobs_are_fitted words job asks) name named held.bytes [] told held.holds)
+      refused_for told held.bytes held.may_hold (λ b goes. not_refused grammar_laws held.bytes b told goes.accepted held.holds) (ForGrammar held.holds)
 
   pub load_stops : (faults : ℕ) (files_after : Disk) (input_faults : ℕ) (out : Stream) (stop : Stop)
       → LoadStops name (file name) (Rose faults files_after.faults) stop
@@ -150,7 +156,7 @@ module _ (words : List (List ℕ)) (job : Job) (name : List ℕ) (is_job : IsChe
         input_held = λ other others goes. subst (λ (j : Job). InputMayBe j.input file left []) (asks_once words job other asks others)
             (subst (λ (f : InputFrom). InputMayBe f file left []) (sym no_input) tt);
       };
-      is_outcome = OfJob job asks (subst (λ (t : Task). IsTaskOutcome t held.bytes [] o) (sym is_job.task) (GrammarAccepted b held.holds is));
+      is_outcome = OfJob job asks (subst (λ (t : Task). IsTaskOutcome t held.bytes [] o) (sym is_job.task) (GrammarAccepted b (for_none held.bytes b held.holds) is));
     },
     refl,
   )

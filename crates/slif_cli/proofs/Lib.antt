@@ -15,6 +15,7 @@ pub mod Own
 pub mod Within
 pub mod OneLine
 pub mod Derivations
+pub mod Named
 pub mod Numbered
 pub mod Compared
 pub mod ScriptLemmas

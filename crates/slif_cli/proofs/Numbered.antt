@@ -71,8 +71,8 @@ same_numbers f is s stats n are =
     numbers_are_one are.built f.ranking are.pieces (numbers_of s) n (has_numbers are.built are.chars are.spans f are.pieces are.of f.ranking refl is s stats) are.numbers
 
 -- and there are such numbers
-pub some_numbers : (b : Built) (ranking : Ranking) (cs : List ℕ) (spans : List Span) (f : Forest) (has : HasForest b ranking cs spans f) → IsBuilt b → IsAccepted b
+pub some_numbers : (b : Built) (given : List ℕ) (ranking : Ranking) (cs : List ℕ) (spans : List Span) (f : Forest) (has : HasForest b given ranking cs spans f) → IsBuilt b → IsAccepted b
     → (n : Numbers) × (AreNumbersOf f n × HasNumbers b ranking has.pieces n)
-some_numbers b ranking cs spans f has built accepted =
+some_numbers b given ranking cs spans f has built accepted =
     let (n, numbers) = numbers_exist b f.ranking has.pieces built accepted in
     (n, (record { built = b; chars = cs; spans = spans; pieces = has.pieces; of = has.of; numbers = numbers }, subst (λ (r : Ranking). HasNumbers b r has.pieces n) has.ranking_is numbers))

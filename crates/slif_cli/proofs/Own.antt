@@ -73,10 +73,10 @@ own_accepted text place at = let law = work_has_one 1 (omega arith) in not_refus
 
 -- an input that is read, with one derivation
 abbrev IsOwn : (size : ℕ) → Built → List Piece → Type 0
-IsOwn size b pieces = IsRead b (work_input size) pieces × ((ranking : Ranking) → (tree : Tree) × AreDerivations b ranking pieces (tree ∷ []))
+IsOwn size b pieces = IsRead b [] (work_input size) pieces × ((ranking : Ranking) → (tree : Tree) × AreDerivations b ranking pieces (tree ∷ []))
 
 module _ (size : ℕ) (sized : size ≤ 100000) where
-  own_text : IsInputText (work_input size)
+  own_text : IsInputText LONGEST_INPUT (work_input size)
   own_text = let law = work_has_one size (omega (arith, sized)) in law.2.1.text
 
   pub own_utf8 : (bytes : List ℕ) → bytes ≡ work_input size → (text : List ℕ) (place : Option Place) (expected : List ℕ) → IsBrokenText bytes text place expected → ⊥
@@ -97,7 +97,7 @@ module _ (size : ℕ) (sized : size ≤ 100000) where
       own_reading : IsReading b cs own.0 End
       own_reading = subst (λ (l : List ℕ). IsReading b l own.0 End) (sym is) own.1.0.reading
 
-      pub own_read : (text : List ℕ) (place : Option Place) (expected : List ℕ) → IsStopText b cs text place expected → ⊥
+      pub own_read : (text : List ℕ) (place : Option Place) (expected : List ℕ) → IsStopText b [] cs text place expected → ⊥
       own_read text place expected stop = let (same, ends) = reading_is_one b [] cs own.0 stop.pieces End (Stopped stop.at stop.found expected) own_reading stop.reading in absurd (cc ends)
 
       -- the one derivation
@@ -110,29 +110,29 @@ module _ (size : ℕ) (sized : size ≤ 100000) where
       same_list ranking pieces ts us p q =
           chosen_unique b.g1 (Held (edges_of pieces)) ranking (slot_of (slice_index_or b.g1.starts 0 0)) 0 (earleme_after pieces) ts us p q
 
-      pub own_derived : (ranking : Ranking) (text : List ℕ) (place : Option Place) (expected : List ℕ) → IsNoDerivation b ranking cs text place expected → ⊥
+      pub own_derived : (ranking : Ranking) (text : List ℕ) (place : Option Place) (expected : List ℕ) → IsNoDerivation b [] ranking cs text place expected → ⊥
       own_derived ranking text place expected none =
           let (tree, one) = only none.pieces none.reading ranking in
           let e : [] ≡ tree ∷ [] = same_list ranking none.pieces [] (tree ∷ []) none.none one in
           absurd (cc e)
 
-      module _ (spans : List Span) (f : Forest) (has : HasForest b RuleRanks cs spans f) (forest : IsForest f) where
+      module _ (spans : List Span) (f : Forest) (has : HasForest b [] RuleRanks cs spans f) (forest : IsForest f) where
         one_counted : (n : ℕ) → ((trees : List Tree) → IsListing f trees → n ≡ length (take 4294967295 trees)) → n ≡ 1
         one_counted n counted =
-            let (trees, l) = some_listing b RuleRanks cs spans f has forest in
-            let (tree, one) = only has.pieces has.of.reading RuleRanks in
-            let same = same_list RuleRanks has.pieces trees (tree ∷ []) (listed b RuleRanks cs spans f has trees l) one in
+            let (trees, l) = some_listing b [] RuleRanks cs spans f has forest in
+            let (tree, one) = only has.pieces has.reading RuleRanks in
+            let same = same_list RuleRanks has.pieces trees (tree ∷ []) (listed b [] RuleRanks cs spans f has trees l) one in
             counted trees l ∙ ap (λ (ts : List Tree). length (take 4294967295 ts)) same ∙ ap length (take_all 4294967295 (tree ∷ []) (omega arith))
 
         pub own_told : (numbers : Numbers) → HasNumbers b RuleRanks has.pieces numbers → (n : ℕ) → ((trees : List Tree) → IsListing f trees → n ≡ length (take 4294967295 trees)) → (line : List ℕ) →
             line ≡ work_line size numbers n → IsWorkOutcome size (done (line ∷ []))
         own_told numbers has_numbers n counted line told =
-            let (tree, one) = only has.pieces has.of.reading RuleRanks in
+            let (tree, one) = only has.pieces has.reading RuleRanks in
             record {
               built = b;
               accepted = accepted;
               pieces = has.pieces;
-              read = record { text = own_text; reading = subst (λ (l : List ℕ). IsReading b l has.pieces End) is has.of.reading };
+              read = record { text = own_text; reading = subst (λ (l : List ℕ). IsReading b l has.pieces End) is has.reading };
               tree = tree;
               one = one;
               numbers = numbers;
@@ -145,16 +145,16 @@ module _ (size : ℕ) (sized : size ≤ 100000) where
             → ((trees : List Tree) → IsListing f trees → after ≤ built + sum_by choices (take 4294967295 trees))
             → TakesAtMost recce before read → WorkWithin b size before after
         own_within recce recognizes held_spans reading before read built after builds gives reads =
-            let (trees, l) = some_listing b RuleRanks cs spans f has forest in
-            let all = listed b RuleRanks cs spans f has trees l in
-            let (tree, one) = only has.pieces has.of.reading RuleRanks in
+            let (trees, l) = some_listing b [] RuleRanks cs spans f has forest in
+            let all = listed b [] RuleRanks cs spans f has trees l in
+            let (tree, one) = only has.pieces has.reading RuleRanks in
             let same = same_list RuleRanks has.pieces trees (tree ∷ []) all one in
             let few : take 4294967295 trees ≡ trees = ap (λ (ts : List Tree). take 4294967295 ts) same ∙ take_all 4294967295 (tree ∷ []) (omega arith) ∙ sym same in
-            let (pieces, ends) = reading_is_one b [] cs reading.pieces has.pieces End End reading.is_reading has.of.reading in
+            let (pieces, ends) = reading_is_one b [] cs reading.pieces has.pieces End End reading.is_reading has.reading in
             let holds : HoldsPieces b has.pieces recce = subst (λ (ps : List Piece). HoldsPieces b ps recce) pieces reading.holds in
             record {
               pieces = has.pieces;
-              read = record { text = own_text; reading = subst (λ (l : List ℕ). IsReading b l has.pieces End) is has.of.reading };
+              read = record { text = own_text; reading = subst (λ (l : List ℕ). IsReading b l has.pieces End) is has.reading };
               within = record {
                 trees = trees;
                 all = all;

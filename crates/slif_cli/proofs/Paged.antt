@@ -24,7 +24,7 @@ use Rattle.forest_model.specs.Listing.{IsListing}
 use Rattle.language_model.specs.Building.{Built}
 use Rattle.reading_model.specs.Reading.{Piece, End, edges_of, earleme_after}
 use Rattle.reading_model.proofs.One.{reading_is_one}
-use Rattle.scanless.specs.Reading.{HoldsPieces, IsReadingOf}
+use Rattle.scanless.specs.Reading.{HoldsPieces, IsReadingOfWith}
 use Rattle.scanless.specs.declared.reading.Ending.TheVariants.{End as AtEnd}
 use Rattle.words_model.specs.Words.{MoreAsked}
 use Rattle.words_model.specs.Words.Telling.{More}
@@ -76,9 +76,9 @@ module _ (b : Built) (written : IsWritten b.g1) (checked : IsChecked b.g1) (cs :
 
 -- WHAT IS TOLD
 
-module _ (asked : MoreAsked) (b : Built) (cs : List ℕ) (spans : List Span) (f : Forest) (has : HasForest b asked.ranking cs spans f) (is : IsForest f) where
+module _ (asked : MoreAsked) (b : Built) (lexemes cs : List ℕ) (spans : List Span) (f : Forest) (has : HasForest b lexemes asked.ranking cs spans f) (is : IsForest f) where
   abbrev Told : Outcome → Type 0
-  Told = TellsReading (More asked) b cs
+  Told = TellsReading (More asked) b lexemes cs
 
   abbrev page : List Tree → List (List ℕ)
   page rest = page_lines b asked.show asked.first asked.after cs has.pieces rest
@@ -87,7 +87,7 @@ module _ (asked : MoreAsked) (b : Built) (cs : List ℕ) (spans : List Span) (f 
   Paged P = PageHas b asked.show asked.first asked.after cs spans f P
 
   rest_told : (trees given rest : List Tree) → IsListing f trees → IsPlaceOf asked.after trees given rest → Told (done (page rest))
-  rest_told trees given rest l place = record { pieces = has.pieces; reading = has.of.reading; tells = by trees (listed b asked.ranking cs spans f has trees l) place }
+  rest_told trees given rest l place = record { pieces = has.pieces; reading = has.reading; tells = by trees (listed b lexemes asked.ranking cs spans f has trees l) place }
     where
       by : (ts : List Tree) → AreDerivations b asked.ranking has.pieces ts → IsPlaceOf asked.after ts given rest → TellsMore asked b cs has.pieces (done (page rest))
       by [] all place = absurd (Contains-none has.tree ((all.each has.tree).1 has.chosen))
@@ -95,8 +95,8 @@ module _ (asked : MoreAsked) (b : Built) (cs : List ℕ) (spans : List Span) (f 
 
   no_place_told : (text : List ℕ) → text ≡ codes "the cursor names no derivation" → ((trees : List Tree) → IsListing f trees → NamesNone trees asked.after) → Told (refused 1 text)
   no_place_told text is_text none =
-      let (trees, l) = some_listing b asked.ranking cs spans f has is in
-      record { pieces = has.pieces; reading = has.of.reading; tells = by trees (listed b asked.ranking cs spans f has trees l) (none trees l) }
+      let (trees, l) = some_listing b lexemes asked.ranking cs spans f has is in
+      record { pieces = has.pieces; reading = has.reading; tells = by trees (listed b lexemes asked.ranking cs spans f has trees l) (none trees l) }
     where
       by : (ts : List Tree) → AreDerivations b asked.ranking has.pieces ts → NamesNone ts asked.after → TellsMore asked b cs has.pieces (refused 1 text)
       by [] all names = absurd (Contains-none has.tree ((all.each has.tree).1 has.chosen))
@@ -146,22 +146,22 @@ module _ (asked : MoreAsked) (b : Built) (cs : List ℕ) (spans : List Span) (f 
     few = λ links pairs expanded l p e. (let few = w.few links pairs expanded l p e in omega (arith, few));
   }
 
-  pub more_within : (recce : Recognizer) (held_spans : List Span) → IsRecognizer recce → IsReadingOf b cs recce held_spans AtEnd → (read built after : ℕ)
+  pub more_within : (recce : Recognizer) (held_spans : List Span) → IsRecognizer recce → IsReadingOfWith b lexemes cs recce held_spans AtEnd → (read built after : ℕ)
       → ((n : ℕ) → IsCountOf (IsExpanded recce.flat (held_edges recce) (allowed_by b.g1 asked.ranking recce.flat (held_edges recce)) (held_top recce) (earleme_of recce)) n → built ≤ read + n)
       → ((trees given rest : List Tree) → IsListing f trees → IsPlaceOf asked.after trees given rest →
       after ≤ built + 7 * last_steps given + sum_by choices (first_of asked.first rest ++ take 1 (beyond asked.first rest)))
-      → (trees given rest : List Tree) → IsListing f trees → IsPlaceOf asked.after trees given rest → GoesOnWithin (More asked) b cs recce read after
+      → (trees given rest : List Tree) → IsListing f trees → IsPlaceOf asked.after trees given rest → GoesOnWithin (More asked) b lexemes cs recce read after
   more_within recce held_spans recognizes reading read built after builds gives trees given rest l place =
-      let (same, ends) = reading_is_one b [] cs reading.pieces has.pieces End End reading.is_reading has.of.reading in
+      let (same, ends) = reading_is_one b lexemes cs reading.pieces has.pieces End End reading.is_reading has.reading in
       let holds : HoldsPieces b has.pieces recce = subst (λ (ps : List Piece). HoldsPieces b ps recce) same reading.holds in
       let looks : ℕ = sum_by choices (first_of asked.first rest ++ take 1 (beyond asked.first rest)) in
       let few = gives trees given rest l place in
       record {
         pieces = has.pieces;
-        reading = has.of.reading;
+        reading = has.reading;
         within = λ before reads. record {
           trees = trees;
-          all = listed b asked.ranking cs spans f has trees l;
+          all = listed b lexemes asked.ranking cs spans f has trees l;
           given = given;
           rest = rest;
           place = place;
@@ -172,5 +172,5 @@ module _ (asked : MoreAsked) (b : Built) (cs : List ℕ) (spans : List Span) (f 
 
 -- NO DERIVATION
 
-pub none_more : (asked : MoreAsked) (b : Built) (cs text : List ℕ) (place : Option Place) (expected : List ℕ) → IsNoDerivation b asked.ranking cs text place expected → TellsReading (More asked) b cs (refused 1 text)
-none_more asked b cs text place expected is = record { pieces = is.pieces; reading = is.reading; tells = Ungiven expected is.none is.are (ap (refused 1) is.told) }
+pub none_more : (asked : MoreAsked) (b : Built) (lexemes cs text : List ℕ) (place : Option Place) (expected : List ℕ) → IsNoDerivation b lexemes asked.ranking cs text place expected → TellsReading (More asked) b lexemes cs (refused 1 text)
+none_more asked b lexemes cs text place expected is = record { pieces = is.pieces; reading = is.reading; tells = Ungiven expected is.none is.are (ap (refused 1) is.told) }

@@ -15,7 +15,7 @@ use Rattle.language_model.specs.Building.{Built}
 use Rattle.reading_model.specs.Accepted.{IsAccepted}
 use Rattle.reading_model.specs.Reading.{edges_of}
 use Rattle.reading_laws.proofs.Candidates.{pieces_forward}
-use Rattle.scanless.specs.Reading.{IsReadingOf}
+use Rattle.scanless.specs.Reading.{IsReadingOfWith}
 use Rattle.scanless.specs.declared.reading.Ending.TheVariants.{End as AtEnd}
 use Rattle.grammar_core.specs.declared.steps.Span.{Span}
 use Rattle.words_model.specs.Words.Telling.{Report}
@@ -30,7 +30,7 @@ report_known g edges start place lines r =
 
 -- WHAT IS TOLD
 
-module _ (b : Built) (cs : List ℕ) (recce : Recognizer) (spans : List Span) (read : IsReadingOf b cs recce spans AtEnd) (at : ℕ) where
+module _ (b : Built) (given cs : List ℕ) (recce : Recognizer) (spans : List Span) (read : IsReadingOfWith b given cs recce spans AtEnd) (at : ℕ) where
   -- what is told of the items of the recognizer's set is the report of the reading
   pub report_as : IsAccepted b → IsRecognizer recce → (w : Grammar) (items : List ReportLine) → w ≡ b.g1 → IsFlatReport w recce.flat recce.edges recce.start at items → IsReport b.g1 (edges_of read.pieces) 0 at items
   report_as accepted is w items same r =
@@ -40,7 +40,7 @@ module _ (b : Built) (cs : List ℕ) (recce : Recognizer) (spans : List Span) (r
       subst (λ (es : List Edge). IsReport b.g1 es 0 at items) read.holds.edges (subst (λ n. IsReport b.g1 recce.edges n at items) read.holds.start here)
 
   pub reported : (v : Grammar) (items shown : List ReportLine) (lines : List (List ℕ)) → v ≡ b.g1 → at ≤ earleme_of recce → IsReport b.g1 (edges_of read.pieces) 0 at items → shown ≡ items
-      → lines ≡ map (report_line v at) shown → TellsReading (Report at) b cs (done lines)
+      → lines ≡ map (report_line v at) shown → TellsReading (Report at) b given cs (done lines)
   reported v items shown lines same_v within r is e = record {
     pieces = read.pieces;
     reading = read.is_reading;
@@ -48,7 +48,7 @@ module _ (b : Built) (cs : List ℕ) (recce : Recognizer) (spans : List Span) (r
         (ap done (e ∙ ap (λ (g : Grammar). map (report_line g at) shown) same_v ∙ ap (map (report_line b.g1 at)) is));
   }
 
-  pub past_last : (text : List ℕ) (last : ℕ) → earleme_of recce < at → last ≡ earleme_of recce → text ≡ no_set_text at last → TellsReading (Report at) b cs (refused 1 text)
+  pub past_last : (text : List ℕ) (last : ℕ) → earleme_of recce < at → last ≡ earleme_of recce → text ≡ no_set_text at last → TellsReading (Report at) b given cs (refused 1 text)
   past_last text last past is e = record {
     pieces = read.pieces;
     reading = read.is_reading;

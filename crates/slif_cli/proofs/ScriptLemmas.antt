@@ -12,7 +12,7 @@ use Rattle.words_model.specs.Words.{Task, Script, Job, InputFrom, Asks}
 use Rattle.words_model.specs.Words.InputFrom.{Nowhere, StandardInput, FileNamed}
 use Rattle.words_model.specs.Laws.{IsFitted}
 use Rattle.words_model.proofs.Asked.{asks_once}
-use Rattle.run_model.specs.Refused.{Accepted}
+use Rattle.run_model.specs.Given.{AcceptedFor, names_of}
 use Rattle.run_model.specs.Inputs.{IsInputText}
 use Rattle.run_model.specs.Outcome.{Outcome, IsTaskOutcome, IsScriptOutcome, done, refused}
 use Rattle.run_model.specs.Outcome.IsOutcome.{OfJob}
@@ -38,7 +38,7 @@ use Rattle.slif_cli.proofs.Stopping.{stops_as, of_input, nothing_appended}
 -- THE INPUT
 
 -- the bytes were not read
-pub unread : (from : InputFrom) (file : List ℕ → ToldFile) (left : Option (List ℕ)) (Files Input : Type 0) (out : Stream) (stop : Stop) → ReadStops from file left Files Input stop →
+pub unread : (from : InputFrom) (file : List ℕ → ToldFile) (left : Option (List ℕ)) (Files Input : Type 0) (out : Stream) (stop : Stop) → ReadStops LONGEST_INPUT from file left Files Input stop →
     StopsAt (MayRead IsScriptOutcome from file left) (λ asked. Files × (from ≡ FileNamed asked)) (Files ⊎ Input) out out stop
 unread from file left Files Input out stop stops =
     stops_as
@@ -84,7 +84,7 @@ module _ (words : List (List ℕ)) (job : Job) (from : InputFrom) (is_job : IsSc
   no_grammar P = subst (λ (o : Option (List ℕ)). IfSome o P) (sym fitted.0) tt
 
   goes_on : GoesOn job file
-  goes_on = record { grammar = []; held = no_grammar (λ n. MayHold (file n) []); accepted = no_grammar (λ _. (b : Built) × Accepted [] b) }
+  goes_on = record { grammar = []; held = no_grammar (λ n. MayHold (file n) []); accepted = no_grammar (λ _. (b : Built) × AcceptedFor (names_of job.task) [] b) }
 
   supplied : (bytes : List ℕ) → InputMayBe from file left bytes → Supplied words file left [] bytes
   supplied bytes may_be = record {

@@ -10,37 +10,44 @@ use Rattle.words_model.specs.Words.{Telling, Task, Job, InputFrom, Asks}
 use Rattle.words_model.proofs.Asked.{asks_once}
 use Rattle.words_model.specs.Words.InputFrom.{Nowhere, StandardInput, FileNamed}
 use Rattle.run_model.specs.Refused.{Accepted}
-use Rattle.run_model.specs.Outcome.{Outcome, IsTaskOutcome, IsInputOutcome}
+use Rattle.run_model.specs.Given.{NamesLexeme, AreGiven, AcceptedFor, IsRefusedFor, ForName, names_of}
+use Rattle.run_model.specs.Outcome.{Outcome, IsTaskOutcome, IsInputOutcome, refused}
 use Rattle.run_model.specs.Outcome.IsInputOutcome.{InputRefused, InputRead}
 use Rattle.run_model.specs.Outcome.IsOutcome.{OfJob}
 use Rattle.run_model.specs.Outcome.IsGrammarOutcome.{GrammarAccepted}
-use Rattle.run_model.specs.Inputs.{IsInputText, TooLong}
-use Rattle.run_model.specs.Outside.{Stream}
+use Rattle.run_model.specs.Inputs.{input_limit, IsInputText, TooLong}
+use Rattle.run_model.specs.Outside.{Stream, Disk}
 use Rattle.run_model.specs.Runs.{MayOpen, InputMayBe, Supplied, AsksNames, ReadsInput, GoesOn}
 use Rattle.run_model.specs.Within.{InputWithin, DoesWithin, RunsWithin}
 use Rattle.run_model.specs.Runs.MayOpen.{OfInput}
 use Rattle.run_model.specs.Runs.MayAsk.{ForGrammar, ForInput}
-use Rattle.slif_cli.specs.Stops.{InputHolds, MayHave, MayRead, ReadStops, StopsAt, names_from, refusal_outcome}
+use Rattle.run_model.proofs.Accepted.{one_built}
+use Rattle.run_model.proofs.Given.{all_at, given_named}
+use Rattle.slif_cli.specs.Stops.{InputHolds, MayHave, MayRead, ReadStops, StopsAt, WorkStops, names_from, refusal_outcome}
+use Rattle.slif_cli.specs.Giving.{IsUnnamed, NamesStop}
 use Rattle.slif_cli.specs.Tasks.{IsTellJob, TellsReading}
 use Rattle.slif_cli.specs.declared.stop.Stop.{Stop}
-use Rattle.slif_cli.proofs.JobLemmas.{held_by_all}
+use Rattle.slif_cli.proofs.GrammarLaws.{grammar_laws}
+use Rattle.slif_cli.proofs.JobLemmas.{GoesOnWithNone, held_by_all, refused_for}
+use Rattle.slif_cli.proofs.Named.{first_among}
 use Rattle.slif_cli.proofs.Within.{runs_within}
-use Rattle.slif_cli.proofs.Stopping.{stops_as, of_input, nothing_appended}
+use Rattle.slif_cli.proofs.Stopping.{stops_as, of_grammar, of_input, nothing_appended}
 
 -- THE INPUT
 
 -- what is told of the characters is told of the bytes
-pub input_told : (what : Telling) (b : Built) (bytes : List ℕ) → IsInputText bytes → (o : Outcome) → TellsReading what b (chars bytes) o → IsInputOutcome what b bytes o
-input_told what b bytes text o told = InputRead told.pieces (record { text = text; reading = told.reading }) told.tells
+pub input_told : (what : Telling) (b : Built) (given bytes : List ℕ) → IsInputText (input_limit given) bytes → (o : Outcome) → TellsReading what b given (chars bytes) o → IsInputOutcome what b given bytes o
+input_told what b given bytes text o told = InputRead told.pieces (record { text = text; reading = told.reading }) told.tells
 
 -- the bytes were not read
-pub unread : (what : Telling) (b : Built) (from : InputFrom) (file : List ℕ → ToldFile) (left : Option (List ℕ)) (Files Input : Type 0) (out : Stream) (stop : Stop) → ReadStops from file left Files Input stop →
-    StopsAt (MayRead (IsInputOutcome what b) from file left) (λ asked. Files × (from ≡ FileNamed asked)) (Files ⊎ Input) out out stop
-unread what b from file left Files Input out stop stops =
+pub unread : (what : Telling) (b : Built) (given : List ℕ) (from : InputFrom) (file : List ℕ → ToldFile) (left : Option (List ℕ)) (Files Input : Type 0) (out : Stream) (stop : Stop) →
+    ReadStops (input_limit given) from file left Files Input stop →
+    StopsAt (MayRead (IsInputOutcome what b given) from file left) (λ asked. Files × (from ≡ FileNamed asked)) (Files ⊎ Input) out out stop
+unread what b given from file left Files Input out stop stops =
     stops_as
-    (of_input _ (λ r. MayRead (IsInputOutcome what b) from file left (refusal_outcome r) × Appends out.bytes out.bytes [])
+    (of_input _ (λ r. MayRead (IsInputOutcome what b given) from file left (refusal_outcome r) × Appends out.bytes out.bytes [])
     (λ text x. (record { bytes = x.1.bytes; may_be = x.1.may_be; holds = InputRefused text.items (TooLong x.1.holds x.0) refl }, appends_none out.bytes)))
-    (λ name x. (x, appends_none out.bytes)) (λ x. (x, appends_none out.bytes)) (λ x. absurd x) (λ x. nothing_appended (MayRead (IsInputOutcome what b) from file left) out.bytes)
+    (λ name x. (x, appends_none out.bytes)) (λ x. (x, appends_none out.bytes)) (λ x. absurd x) (λ x. nothing_appended (MayRead (IsInputOutcome what b given) from file left) out.bytes)
     stop stops
 
 -- the bytes that were read may be those of the input
@@ -73,13 +80,41 @@ adds_twice (Some k) (Some l) (Some m) xs ys p q = q ∙ ap (λ zs. zs ++ ys) p �
 
 -- THE JOB
 
-module _ (words : List (List ℕ)) (job : Job) (name : List ℕ) (from : InputFrom) (what : Telling) (is_job : IsTellJob job name from what) (asks : Asks words job)
+module _ (words : List (List ℕ)) (job : Job) (name : List ℕ) (from : InputFrom) (names : List (List ℕ)) (what : Telling) (is_job : IsTellJob job name from names what) (asks : Asks words job)
     (file : List ℕ → ToldFile) (left : Option (List ℕ)) (b : Built) (held : FileHolds (file name) (λ bytes. Accepted bytes b)) where
+  -- a name that is no lexeme's is told of
+  pub unnamed_told : (text : List ℕ) → IsUnnamed b names text → MayHave words file left (refused 3 text)
+  unnamed_told text is =
+      let none : GoesOnWithNone job held.bytes = λ c accepted. none_of c
+      (subst (λ (t : Task). AcceptedFor (names_of t) held.bytes c) is_job.task accepted) in
+      refused_for words job asks file left name is_job.named text held.bytes held.may_hold none
+      (subst (λ (t : Task). IsRefusedFor (names_of t) held.bytes text) (sym is_job.task) (ForName b held.holds is.name is.first is.told))
+    where
+      none_of : (c : Built) → AcceptedFor names held.bytes c → ⊥
+      none_of c accepted =
+          let same : c ≡ b = one_built grammar_laws held.bytes c b accepted.accepted held.holds in
+          let named : NamesLexeme c is.name = all_at (NamesLexeme c) names is.name accepted.lexemes (first_among is.first) in
+          is.first.has (subst (λ (d : Built). NamesLexeme d is.name) same named)
+
+  pub unnamed_stops : (faults : ℕ) (files_after : Disk) (input_faults : ℕ) (out : Stream) (stop : Stop) → NamesStop b names stop
+      → WorkStops words (record { file = file; faults = faults }) files_after (record { bytes = left; faults = input_faults }) (record { bytes = left; faults = input_faults }) out out stop
+  unnamed_stops faults files_after input_faults out stop stops =
+      stops_as
+      (of_grammar _ (λ r. MayHave words file left (refusal_outcome r) × Appends out.bytes out.bytes []) (λ text told. (unnamed_told text.items told, appends_none out.bytes)))
+      (λ asked x. absurd x) (λ x. absurd x) (λ x. absurd x) (λ x. nothing_appended (MayHave words file left) out.bytes)
+      stop stops
+
+module _ (words : List (List ℕ)) (job : Job) (name : List ℕ) (from : InputFrom) (names : List (List ℕ)) (what : Telling) (is_job : IsTellJob job name from names what) (asks : Asks words job)
+    (file : List ℕ → ToldFile) (left : Option (List ℕ)) (b : Built) (held : FileHolds (file name) (λ bytes. Accepted bytes b)) (given : List ℕ) (are : AreGiven b names given) where
+  accepted_for : AcceptedFor names held.bytes b
+  accepted_for = record { accepted = held.holds; lexemes = given_named b names given are }
+
   goes_on : GoesOn job file
   goes_on = record {
     grammar = held.bytes;
     held = subst (λ (o : Option (List ℕ)). IfSome o (λ n. MayHold (file n) held.bytes)) (sym is_job.named) held.may_hold;
-    accepted = subst (λ (o : Option (List ℕ)). IfSome o (λ _. (c : Built) × Accepted held.bytes c)) (sym is_job.named) (b, held.holds);
+    accepted = subst (λ (o : Option (List ℕ)). IfSome o (λ _. (c : Built) × AcceptedFor (names_of job.task) held.bytes c)) (sym is_job.named)
+        (b, subst (λ (t : Task). AcceptedFor (names_of t) held.bytes b) (sym is_job.task) accepted_for);
   }
 
   supplied : (bytes : List ℕ) → InputMayBe from file left bytes → Supplied words file left held.bytes bytes
@@ -89,18 +124,18 @@ module _ (words : List (List ℕ)) (job : Job) (name : List ℕ) (from : InputFr
         (subst (λ (f : InputFrom). InputMayBe f file left bytes) (sym is_job.input) may_be);
   }
 
-  pub tells_within : (before after : ℕ) → InputHolds from file left (λ bytes. InputWithin what b bytes before after) → RunsWithin words file left before after
+  pub tells_within : (before after : ℕ) → InputHolds from file left (λ bytes. InputWithin what b given bytes before after) → RunsWithin words file left before after
   tells_within before after may =
-      runs_within words job asks file left before after held.bytes may.bytes (supplied may.bytes may.may_be) (subst (λ (t : Task). DoesWithin t held.bytes may.bytes before after) (sym is_job.task) (b, held.holds, may.holds))
+      runs_within words job asks file left before after held.bytes may.bytes (supplied may.bytes may.may_be) (subst (λ (t : Task). DoesWithin t held.bytes may.bytes before after) (sym is_job.task) (b, accepted_for, (given, are, may.holds)))
 
-  pub told : (o : Outcome) → MayRead (IsInputOutcome what b) from file left o → MayHave words file left o
+  pub told : (o : Outcome) → MayRead (IsInputOutcome what b given) from file left o → MayHave words file left o
   told o may = (
     record {
       grammar = held.bytes;
       input = may.bytes;
       outcome = o;
       supplied = supplied may.bytes may.may_be;
-      is_outcome = OfJob job asks (subst (λ (t : Task). IsTaskOutcome t held.bytes may.bytes o) (sym is_job.task) (GrammarAccepted b held.holds may.holds));
+      is_outcome = OfJob job asks (subst (λ (t : Task). IsTaskOutcome t held.bytes may.bytes o) (sym is_job.task) (GrammarAccepted b accepted_for (given, are, may.holds)));
     },
     refl,
   )

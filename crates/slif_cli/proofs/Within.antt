@@ -24,12 +24,12 @@ use Rattle.language_model.specs.Building.{Built}
 use Rattle.reading_model.specs.Reading as model
 use Rattle.reading_model.specs.Reading.{Piece, End, earleme_after}
 use Rattle.reading_model.proofs.One.{reading_is_one}
-use Rattle.scanless.specs.Reading.{HoldsPieces, IsReadingOf}
+use Rattle.scanless.specs.Reading.{HoldsPieces, IsReadingOfWith}
 use Rattle.scanless.specs.declared.reading.Ending.TheVariants.{End as AtEnd}
 use Rattle.words_model.specs.Words.{Telling, Job, ValuesAsked, Asks}
 use Rattle.words_model.specs.Words.Telling.{Values}
 use Rattle.words_model.proofs.Asked.{asks_once}
-use Rattle.run_model.specs.Inputs.{IsInputText}
+use Rattle.run_model.specs.Inputs.{IsInputText, input_limit}
 use Rattle.run_model.specs.Listing.{first_of}
 use Rattle.run_model.specs.Outside.{Stream}
 use Rattle.run_model.specs.Runs.{Supplied}
@@ -101,29 +101,29 @@ module _ (b : Built) (recce : Recognizer) (is : IsRecognizer recce) (pieces : Li
         omega (arith, r, m, gives);
   }
 
-module _ (b : Built) (asked : ValuesAsked) (cs : List ℕ) (spans : List Span) (f : Forest) (has : HasForest b asked.ranking cs spans f) (forest : IsForest f) where
-  pub lists_within : (recce : Recognizer) (held_spans : List Span) → IsRecognizer recce → IsReadingOf b cs recce held_spans AtEnd → (read built after : ℕ)
+module _ (b : Built) (asked : ValuesAsked) (given cs : List ℕ) (spans : List Span) (f : Forest) (has : HasForest b given asked.ranking cs spans f) (forest : IsForest f) where
+  pub lists_within : (recce : Recognizer) (held_spans : List Span) → IsRecognizer recce → IsReadingOfWith b given cs recce held_spans AtEnd → (read built after : ℕ)
       → ((n : ℕ) → IsCountOf (IsExpanded recce.flat (edges_of recce) (allowed_by b.g1 asked.ranking recce.flat (edges_of recce)) (top_of recce) (earleme_of recce)) n → built ≤ read + n)
       → ((trees : List Tree) → IsListing f trees → after ≤ built + sum_by choices (first_of asked.first trees))
-      → GoesOnWithin (Values asked) b cs recce read after
+      → GoesOnWithin (Values asked) b given cs recce read after
   lists_within recce held_spans is reading read built after builds gives =
-      let (trees, l) = some_listing b asked.ranking cs spans f has forest in
-      let (same, ends) = reading_is_one b [] cs reading.pieces has.pieces End End reading.is_reading has.of.reading in
+      let (trees, l) = some_listing b given asked.ranking cs spans f has forest in
+      let (same, ends) = reading_is_one b given cs reading.pieces has.pieces End End reading.is_reading has.reading in
       let holds : HoldsPieces b has.pieces recce = subst (λ (ps : List Piece). HoldsPieces b ps recce) same reading.holds in
       record {
         pieces = has.pieces;
-        reading = has.of.reading;
+        reading = has.reading;
         within = λ before reads. record {
           trees = trees;
-          all = listed b asked.ranking cs spans f has trees l;
+          all = listed b given asked.ranking cs spans f has trees l;
           within = within b recce is has.pieces holds asked.ranking (sum_by choices (first_of asked.first trees)) before read built after reads builds (gives trees l);
         };
       }
 
 -- the characters are those of the bytes
-pub bytes_within : (what : Telling) (b : Built) (bytes : List ℕ) → IsInputText bytes → (recce : Recognizer) (before middle after : ℕ) → TakesAtMost recce before middle
-    → GoesOnWithin what b (chars bytes) recce middle after → InputWithin what b bytes before after
-bytes_within what b bytes text recce before middle after reads goes =
+pub bytes_within : (what : Telling) (b : Built) (given bytes : List ℕ) → IsInputText (input_limit given) bytes → (recce : Recognizer) (before middle after : ℕ) → TakesAtMost recce before middle
+    → GoesOnWithin what b given (chars bytes) recce middle after → InputWithin what b given bytes before after
+bytes_within what b given bytes text recce before middle after reads goes =
     record { pieces = goes.pieces; read = record { text = text; reading = goes.reading }; within = goes.within before reads }
 
 -- THE RUN

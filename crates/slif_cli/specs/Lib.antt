@@ -2,3 +2,4 @@ pub mod Stops
 pub mod Tasks
 pub mod Places
 pub mod Refusals
+pub mod Giving

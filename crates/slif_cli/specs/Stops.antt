@@ -1,13 +1,13 @@
 -- What is known where a part of the work stops.
-use Rattle.std.specs.Prelude.{◌≡◌, ℕ, List, [], ◌∷◌, ◌++◌, ◌⊎◌, Option, ⊤, ◌<◌, length, codes}
+use Rattle.std.specs.Prelude.{◌≡◌, ℕ, List, [], ◌∷◌, ◌++◌, ◌⊎◌, Option, ⊤, ◌<◌, length}
 use Rattle.std.specs.List.{concat}
 use Rattle.std.specs.Io.KnownBytes.{Appends}
-use Rattle.grammar_model.specs.declared.limits.TheConstants.{LONGEST_INPUT}
 use Rattle.outside_model.specs.Causes.{Rose}
 use Rattle.outside_model.specs.Told.{ToldFile, Holds, FileHolds, AppendsPrefix}
 use Rattle.words_model.specs.Words.{Job, InputFrom, Asks}
 use Rattle.words_model.specs.Words.InputFrom.{Nowhere, StandardInput, FileNamed}
 use Rattle.run_model.specs.Refused.{IsRefused}
+use Rattle.run_model.specs.Inputs.{longer_text}
 use Rattle.run_model.specs.Checking as checks
 use Rattle.run_model.specs.Outcome.{Outcome, usage, refused}
 use Rattle.run_model.specs.Outside.{Stream, Disk}
@@ -67,21 +67,21 @@ names_from StandardInput = []
 names_from (FileNamed name) = name ∷ []
 
 -- where the bytes of the input were not read
-abbrev pub ReadStops : (from : InputFrom) → (List ℕ → ToldFile) → Option (List ℕ) → (Files Input : Type 0) → Stop → Type 0
-ReadStops from file left Files Input =
-    StopsBy (OfInput (λ text. (text ≡ codes "input is longer than 16777216 bytes") × InputHolds from file left (λ bytes. LONGEST_INPUT < length bytes)))
+abbrev pub ReadStops : (limit : ℕ) (from : InputFrom) → (List ℕ → ToldFile) → Option (List ℕ) → (Files Input : Type 0) → Stop → Type 0
+ReadStops limit from file left Files Input =
+    StopsBy (OfInput (λ text. (text ≡ longer_text limit) × InputHolds from file left (λ bytes. limit < length bytes)))
     (λ asked. Files × (from ≡ FileNamed asked)) (Files ⊎ Input) ⊥ ⊤
 
 -- where those of a file were not read
-abbrev pub FileStops : List ℕ → ToldFile → (Files : Type 0) → Stop → Type 0
-FileStops name told Files =
-    StopsBy (OfInput (λ text. (text ≡ codes "input is longer than 16777216 bytes") × FileHolds told (λ bytes. LONGEST_INPUT < length bytes)))
+abbrev pub FileStops : (limit : ℕ) → List ℕ → ToldFile → (Files : Type 0) → Stop → Type 0
+FileStops limit name told Files =
+    StopsBy (OfInput (λ text. (text ≡ longer_text limit) × FileHolds told (λ bytes. limit < length bytes)))
     (λ asked. Files × (asked ≡ name)) Files ⊥ ⊤
 
 -- where those of the standard input were not read
-abbrev pub SourceStops : Option (List ℕ) → (Input : Type 0) → Stop → Type 0
-SourceStops left Input =
-    StopsBy (OfInput (λ text. (text ≡ codes "input is longer than 16777216 bytes") × Holds left (λ bytes. LONGEST_INPUT < length bytes)))
+abbrev pub SourceStops : (limit : ℕ) → Option (List ℕ) → (Input : Type 0) → Stop → Type 0
+SourceStops limit left Input =
+    StopsBy (OfInput (λ text. (text ≡ longer_text limit) × Holds left (λ bytes. limit < length bytes)))
     (λ name. ⊥) Input ⊥ ⊤
 
 -- an outcome over what may be the input

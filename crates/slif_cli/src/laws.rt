@@ -1,5 +1,5 @@
 //! Laws of what a run means. Each is shown by a contract alone, and its function does nothing.
-ghost use Rattle.run_model.specs.Laws.{HasOutcome, HasOneOutcome, HasOneEnd, HasEnd, StatusesOccur, GoingOnIsWhole, PagesFollow};
+ghost use Rattle.run_model.specs.Laws.{HasOutcome, HasOneOutcome, HasOneEnd, HasEnd, StatusesOccur, GoingOnIsWhole, NoNamesAskNothing, PagesFollow};
 
 /// Whatever the words, the grammar and the input are, there is an outcome.
 pub fn has_outcome()
@@ -34,4 +34,9 @@ pub fn going_on_is_whole()
 /// Pages of job `more`, each from the place that the one before it told, follow one another.
 pub fn pages_follow()
     ensures { PagesFollow }
+{}
+
+/// Where no names are given, grammars are accepted and refused as for jobs without them.
+pub fn no_names_ask_nothing()
+    ensures { NoNamesAskNothing }
 {}

@@ -2,6 +2,7 @@
 #![tactic(auto)]
 
 mod checking;
+mod giving;
 mod grammar;
 mod inputs;
 mod laws;
@@ -14,7 +15,8 @@ mod working;
 mod writing;
 
 pub use laws::{
-    going_on_is_whole, has_end, has_outcome, one_end, one_outcome, pages_follow, statuses_occur,
+    going_on_is_whole, has_end, has_outcome, no_names_ask_nothing, one_end, one_outcome,
+    pages_follow, statuses_occur,
 };
 pub use messages::{FAULT, OUT_OF_MEMORY};
 pub use top::run;

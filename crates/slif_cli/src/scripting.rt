@@ -12,6 +12,7 @@ ghost use Rattle.slif_cli.specs.Stops.{Does, MayRead, StopsAt, WriteStops, names
 use crate::inputs::read_bytes;
 use crate::stop::Stop;
 use command_line::InputFrom;
+use grammar_model::LONGEST_INPUT;
 use marpa_script::play_script;
 use slif_base::{Files, Sink, Source, Steps};
 use std::alloc::Global;
@@ -38,7 +39,7 @@ pub fn play_input<'a, F: Files, I: Source, O: Sink, L: Ledger>(
     ensures asks { AsksAmong (F.asked files.old) (F.asked files.new) (names_from (input_of from.entry)) }
     ensures input { (input.new ≡ input.old) ⊎ (input_of from.entry ≡ StandardInput) }
 {
-    let bytes = read_bytes(alloc, from, files, input)?;
+    let bytes = read_bytes(alloc, from, LONGEST_INPUT, files, input)?;
     play_bytes(alloc, bytes, out, steps)
 }
 

@@ -1,18 +1,19 @@
 // What is told of an input.
-ghost use Rattle.std.specs.Prelude.{◌≡◌, ◌≢◌, ◌≤◌, ◌⊎◌, length, IfErr, OnOk};
+ghost use Rattle.std.specs.Prelude.{◌≡◌, ◌≢◌, ◌≤◌, ◌⊎◌, ◌<◌, ◌↔◌, length, is_some, IsTrue, IfErr, OnOk};
 ghost use Rattle.grammar_model.specs.declared.limits.TheConstants.{LONGEST_INPUT};
 ghost use Rattle.outside_model.specs.Causes.{Rose};
 ghost use Rattle.outside_model.specs.Told.{SameFiles, AsksAmong};
 ghost use Rattle.words_model.specs.Words.InputFrom.{Nowhere, StandardInput, FileNamed};
+ghost use Rattle.run_model.specs.Inputs.{input_limit};
 ghost use Rattle.run_model.specs.Outcome.{IsInputOutcome};
 ghost use Rattle.run_model.specs.Within.{InputWithin};
 ghost use Rattle.command_line.specs.Jobs.{telling_of, input_of};
 ghost use Rattle.run_model.specs.Outside.{stream};
 ghost use Rattle.valuator.specs.Told.{states};
 ghost use Rattle.value_lines.specs.Writing.{AreBothTellers};
-ghost use Rattle.scanless.specs.Reading.{IsReadingOf};
 ghost use Rattle.scanless.specs.declared.reading.Ending.TheVariants.{End};
 ghost use Rattle.slif_cli.specs.Stops.{Does, InputHolds, MayRead, StopsAt, WriteStops, names_from};
+ghost use Rattle.text_reading.specs.Parts.{IsSomeReading, ForGiven};
 ghost use Rattle.slif_cli.specs.Tasks.{TellsReading, GoesOnWithin};
 
 mod expecting;
@@ -23,6 +24,7 @@ mod places;
 mod reporting;
 mod values;
 
+use crate::giving::{limit_with, read_with};
 use crate::inputs::read_bytes;
 use crate::stop::Stop;
 use crate::telling::expecting::write_expected;
@@ -31,17 +33,21 @@ use crate::telling::paging::write_more;
 use crate::telling::reporting::write_report;
 use crate::telling::values::write_values;
 use command_line::{InputFrom, Telling};
+use grammar_core::SymbolId;
 use scanless::{Prepared, Reading};
 use slif_base::{Chars, Files, Sink, Source, Steps};
+use slippers::Supplier;
 use std::alloc::Global;
 use std::sync::ledger::Ledger;
-use text_reading::{input_chars, read_text};
+use text_reading::input_chars;
 use valuator::Teller;
 
 /// Reads the input and writes what is told of it.
 pub fn tell_input<'a, F: Files, I: Source, O: Sink, L: Ledger>(
     alloc: Global,
     prepared: &Prepared,
+    lexemes: &[SymbolId],
+    supplier: Option<Box<dyn Supplier>>,
     what: Telling<'_>,
     from: InputFrom<'a>,
     files: &mut F,
@@ -50,16 +56,18 @@ pub fn tell_input<'a, F: Files, I: Source, O: Sink, L: Ledger>(
     tellers: Vec<Box<dyn Teller>>,
     steps: &mut Steps<L>,
 ) -> Result<(), Stop<'a>>
+    requires names { length lexemes.now ≤ 8 }
+    requires both { IsTrue (is_some supplier) ↔ (0 < length lexemes.now) }
     requires somewhere { input_of from ≢ Nowhere }
     requires tellers { AreBothTellers (states tellers.items shows held) }
-    ensures done { OnOk result (Does (MayRead (IsInputOutcome (telling_of what.entry) prepared.now) (input_of from.entry) (F.told files.old) (I.left input.old))
+    ensures done { OnOk result (Does (MayRead (IsInputOutcome (telling_of what.entry) prepared.now lexemes.now) (input_of from.entry) (F.told files.old) (I.left input.old))
         (O.contents out.old) (O.contents out.new)) }
-    ensures stops { IfErr result (StopsAt (MayRead (IsInputOutcome (telling_of what.entry) prepared.now) (input_of from.entry) (F.told files.old) (I.left input.old))
+    ensures stops { IfErr result (StopsAt (MayRead (IsInputOutcome (telling_of what.entry) prepared.now lexemes.now) (input_of from.entry) (F.told files.old) (I.left input.old))
         (λ asked. Rose (F.fault_count files.old) (F.fault_count files.new) × (input_of from.entry ≡ FileNamed asked))
         (Rose (F.fault_count files.old) (F.fault_count files.new) ⊎ Rose (I.fault_count input.old) (I.fault_count input.new))
         (stream O.contents O.fault_count out.old) (stream O.contents O.fault_count out.new)) }
     ensures counted { OnOk result (InputHolds (input_of from.entry) (F.told files.old) (I.left input.old)
-        (λ bytes. InputWithin (telling_of what.entry) prepared.now bytes steps.old steps.new)) }
+        (λ bytes. InputWithin (telling_of what.entry) prepared.now lexemes.now bytes steps.old steps.new)) }
     ensures later { F.fault_count files.old ≤ F.fault_count files.new }
     ensures input_later { I.fault_count input.old ≤ I.fault_count input.new }
     ensures out_later { O.fault_count out.old ≤ O.fault_count out.new }
@@ -67,30 +75,37 @@ pub fn tell_input<'a, F: Files, I: Source, O: Sink, L: Ledger>(
     ensures asks { AsksAmong (F.asked files.old) (F.asked files.new) (names_from (input_of from.entry)) }
     ensures input { (input.new ≡ input.old) ⊎ (input_of from.entry ≡ StandardInput) }
 {
-    let bytes = read_bytes(alloc, from, files, input)?;
-    tell_bytes(alloc, prepared, what, bytes, out, tellers, steps)
+    let limit = limit_with(lexemes);
+    let bytes = read_bytes(alloc, from, limit, files, input)?;
+    tell_bytes(
+        alloc, prepared, lexemes, supplier, what, bytes, out, tellers, steps,
+    )
 }
 
 // Writes what is told of the bytes of an input.
 fn tell_bytes<'a, O: Sink, L: Ledger>(
     alloc: Global,
     prepared: &Prepared,
+    lexemes: &[SymbolId],
+    supplier: Option<Box<dyn Supplier>>,
     what: Telling<'_>,
     bytes: Vec<u8>,
     out: &mut O,
     tellers: Vec<Box<dyn Teller>>,
     steps: &mut Steps<L>,
 ) -> Result<(), Stop<'a>>
-    requires few { length bytes.items ≤ LONGEST_INPUT }
+    requires names { length lexemes.now ≤ 8 }
+    requires both { IsTrue (is_some supplier) ↔ (0 < length lexemes.now) }
+    requires few { length bytes.items ≤ input_limit lexemes.now }
     requires tellers { AreBothTellers (states tellers.items shows held) }
-    ensures done { OnOk result (Does (IsInputOutcome (telling_of what.entry) prepared.now bytes.items) (O.contents out.old) (O.contents out.new)) }
-    ensures stops { IfErr result (WriteStops (IsInputOutcome (telling_of what.entry) prepared.now bytes.items)
+    ensures done { OnOk result (Does (IsInputOutcome (telling_of what.entry) prepared.now lexemes.now bytes.items) (O.contents out.old) (O.contents out.new)) }
+    ensures stops { IfErr result (WriteStops (IsInputOutcome (telling_of what.entry) prepared.now lexemes.now bytes.items)
         (stream O.contents O.fault_count out.old) (stream O.contents O.fault_count out.new)) }
-    ensures counted { OnOk result (InputWithin (telling_of what.entry) prepared.now bytes.items steps.old steps.new) }
+    ensures counted { OnOk result (InputWithin (telling_of what.entry) prepared.now lexemes.now bytes.items steps.old steps.new) }
     ensures out_later { O.fault_count out.old ≤ O.fault_count out.new }
 {
     let chars = input_chars(alloc, bytes)?;
-    let reading = read_text(alloc, prepared, &chars, steps)?;
+    let reading = read_with(alloc, prepared, &chars, lexemes, supplier, steps)?;
     let told = tell_reading(alloc, prepared, what, &chars, &reading, out, tellers, steps);
     drop(reading);
     told
@@ -108,12 +123,22 @@ fn tell_reading<'a, O: Sink, L: Ledger>(
     steps: &mut Steps<L>,
 ) -> Result<(), Stop<'a>>
     requires few { length chars.now ≤ LONGEST_INPUT }
-    requires read { IsReadingOf prepared.now chars.now reading.now.recce reading.now.spans.items End }
+    requires read { IsSomeReading prepared.now chars.now reading.now.recce reading.now.spans.items
+        End }
     requires tellers { AreBothTellers (states tellers.items shows held) }
-    ensures done { OnOk result (Does (TellsReading (telling_of what.entry) prepared.now chars.now) (O.contents out.old) (O.contents out.new)) }
-    ensures stops { IfErr result (WriteStops (TellsReading (telling_of what.entry) prepared.now chars.now)
-        (stream O.contents O.fault_count out.old) (stream O.contents O.fault_count out.new)) }
-    ensures counted { OnOk result (GoesOnWithin (telling_of what.entry) prepared.now chars.now reading.now.recce steps.old steps.new) }
+    ensures done { ForGiven prepared.now chars.now reading.now.recce
+        reading.now.spans.items End
+        (λ given. OnOk result (Does (TellsReading (telling_of what.entry) prepared.now given chars.now)
+        (O.contents out.old) (O.contents out.new))) }
+    ensures stops { ForGiven prepared.now chars.now reading.now.recce
+        reading.now.spans.items End
+        (λ given. IfErr result (WriteStops
+        (TellsReading (telling_of what.entry) prepared.now given chars.now)
+        (stream O.contents O.fault_count out.old) (stream O.contents O.fault_count out.new))) }
+    ensures counted { ForGiven prepared.now chars.now reading.now.recce
+        reading.now.spans.items End
+        (λ given. OnOk result (GoesOnWithin (telling_of what.entry) prepared.now given chars.now
+        reading.now.recce steps.old steps.new)) }
     ensures out_later { O.fault_count out.old ≤ O.fault_count out.new }
 {
     match what {

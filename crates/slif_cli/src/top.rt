@@ -1,18 +1,19 @@
 // The top call.
-ghost use Rattle.std.specs.Prelude.{◌≡◌, ◌≤◌, ◌≢◌, ◌⊎◌, ℕ, List, [], ◌∷◌, Option, Some, IsTrue, is_some, map, string_bytes, option_copied, OnOk, IfErr};
+ghost use Rattle.std.specs.Prelude.{◌≡◌, ◌≤◌, ◌≢◌, ◌⊎◌, ℕ, List, [], ◌∷◌, Option, Some, IsTrue, is_some, map, string_bytes, option_copied, length, OnOk, IfErr};
 ghost use Rattle.outside_model.specs.Told.{SameFiles, AsksAmong};
 ghost use Rattle.words_model.specs.Words as asked_words;
 ghost use Rattle.words_model.specs.Words.{Asks, Nowhere};
 ghost use Rattle.run_model.specs.Outside.{Outside, Stream, stream, disk};
 ghost use Rattle.run_model.specs.Runs.{Runs, AsksNames, ReadsInput};
 ghost use Rattle.run_model.specs.Within.{RunsWithin};
-ghost use Rattle.command_line.specs.Jobs.{job_of, telling_of, input_of};
+ghost use Rattle.command_line.specs.Jobs.{job_of, names_told, telling_of, input_of};
 ghost use Rattle.valuator.specs.Told.{states};
 ghost use Rattle.value_lines.specs.Writing.{AreBothTellers};
 ghost use Rattle.slif_cli.specs.Stops.{Does, MayHave, WorkStops, DoesJob, JobStops};
 ghost use Rattle.slif_cli.specs.Tasks.{IsCheckJob, IsTellJob};
 
 use crate::checking::write_check;
+use crate::giving::{kept, lexemes_given};
 use crate::grammar::load_grammar;
 use crate::messages::report;
 use crate::scripting::play_input;
@@ -21,12 +22,14 @@ use crate::telling::tell_input;
 use crate::working::work_of_size;
 use command_line::{InputFrom, Job, Task, Telling, read_words};
 use slif_base::{Files, Sink, Source, Steps};
+use slippers::Supplier;
 use std::alloc::Global;
 use std::sync::ledger::Ledger;
 use valuator::Teller;
 
 /// Does what the words ask for, and answers the status. The words are those after the program's own name. Of the tellers that of
-/// the kind asked for is kept, and the other is dropped before any value is told.
+/// the kind asked for is kept, and the other is dropped before any value is told. The supplier is told the lexemes that job `slip` gives;
+/// each other job drops it at once.
 pub fn run<F: Files, I: Source, O: Sink, E: Sink, L: Ledger>(
     alloc: Global,
     words: &[String],
@@ -35,6 +38,7 @@ pub fn run<F: Files, I: Source, O: Sink, E: Sink, L: Ledger>(
     out: &mut O,
     err: &mut E,
     tellers: Vec<Box<dyn Teller>>,
+    supplier: Box<dyn Supplier>,
     steps: &mut Steps<L>,
 ) -> u8
     requires tellers { AreBothTellers (states tellers.items shows held) }
@@ -56,7 +60,7 @@ pub fn run<F: Files, I: Source, O: Sink, E: Sink, L: Ledger>(
     ensures input { (input.new ≡ input.old) ⊎ ReadsInput (map string_bytes words.now) (F.told files.old) }
     ensures held { SameFiles (F.told files.old) (F.told files.new) }
 {
-    match do_words(alloc, words, files, input, out, tellers, steps) {
+    match do_words(alloc, words, files, input, out, tellers, supplier, steps) {
         Ok(()) => 0,
         Err(stop) => report(alloc, stop, err),
     }
@@ -70,6 +74,7 @@ fn do_words<'a, F: Files, I: Source, O: Sink, L: Ledger>(
     input: &mut I,
     out: &mut O,
     tellers: Vec<Box<dyn Teller>>,
+    supplier: Box<dyn Supplier>,
     steps: &mut Steps<L>,
 ) -> Result<(), Stop<'a>>
     requires tellers { AreBothTellers (states tellers.items shows held) }
@@ -88,7 +93,7 @@ fn do_words<'a, F: Files, I: Source, O: Sink, L: Ledger>(
         Ok(None) => return Err(Stop::Refused(Refusal::Usage)),
         Err(_) => return Err(Stop::NoMemory),
     };
-    do_task(alloc, job, files, input, out, tellers, steps)
+    do_task(alloc, job, files, input, out, tellers, supplier, steps)
 }
 
 fn do_task<'a, F: Files, I: Source, O: Sink, L: Ledger>(
@@ -98,6 +103,7 @@ fn do_task<'a, F: Files, I: Source, O: Sink, L: Ledger>(
     input: &mut I,
     out: &mut O,
     tellers: Vec<Box<dyn Teller>>,
+    supplier: Box<dyn Supplier>,
     steps: &mut Steps<L>,
 ) -> Result<(), Stop<'a>>
     requires asked { (words : List (List ℕ)) × Asks words (job_of job) }
@@ -113,15 +119,25 @@ fn do_task<'a, F: Files, I: Source, O: Sink, L: Ledger>(
     ensures held { SameFiles (F.told files.old) (F.told files.new) }
 {
     match job.task {
-        Task::Check => check_grammar(alloc, grammar_file(job.grammar), files, out),
-        Task::Tell(what) => {
+        Task::Check => {
+            drop(supplier);
+            check_grammar(alloc, grammar_file(job.grammar), files, out)
+        }
+        Task::Tell { given, what } => {
             let grammar = grammar_file(job.grammar);
+            let supplier = kept(given, supplier);
             tell_by(
-                alloc, grammar, what, job.input, files, input, out, tellers, steps,
+                alloc, grammar, given, supplier, what, job.input, files, input, out, tellers, steps,
             )
         }
-        Task::Work { size } => work_of_size(alloc, size, out, steps),
-        Task::Script => play_input(alloc, job.input, files, input, out, steps),
+        Task::Work { size } => {
+            drop(supplier);
+            work_of_size(alloc, size, out, steps)
+        }
+        Task::Script => {
+            drop(supplier);
+            play_input(alloc, job.input, files, input, out, steps)
+        }
     }
 }
 
@@ -161,6 +177,8 @@ fn check_grammar<'a, F: Files, O: Sink>(
 fn tell_by<'a, F: Files, I: Source, O: Sink, L: Ledger>(
     alloc: Global,
     grammar: &'a str,
+    names: Option<&'a str>,
+    supplier: Option<Box<dyn Supplier>>,
     what: Telling<'_>,
     from: InputFrom<'a>,
     files: &mut F,
@@ -169,25 +187,28 @@ fn tell_by<'a, F: Files, I: Source, O: Sink, L: Ledger>(
     tellers: Vec<Box<dyn Teller>>,
     steps: &mut Steps<L>,
 ) -> Result<(), Stop<'a>>
+    requires both { is_some supplier ≡ is_some names }
+    requires few { length (names_told names) ≤ 8 }
     requires somewhere { input_of from ≢ Nowhere }
     requires tellers { AreBothTellers (states tellers.items shows held) }
-    ensures done { OnOk result ((job : asked_words.Job) → IsTellJob job grammar.now (input_of from.entry) (telling_of what.entry) →
+    ensures done { OnOk result ((job : asked_words.Job) → IsTellJob job grammar.now (input_of from.entry) (names_told names.entry) (telling_of what.entry) →
         DoesJob job (F.told files.old) (I.left input.old) (O.contents out.old) (O.contents out.new)) }
-    ensures stops { IfErr result (λ stop. (job : asked_words.Job) → IsTellJob job grammar.now (input_of from.entry) (telling_of what.entry) → JobStops job
+    ensures stops { IfErr result (λ stop. (job : asked_words.Job) → IsTellJob job grammar.now (input_of from.entry) (names_told names.entry) (telling_of what.entry) → JobStops job
         (disk F.told F.fault_count files.old) (disk F.told F.fault_count files.new)
         (stream I.left I.fault_count input.old) (stream I.left I.fault_count input.new)
         (stream O.contents O.fault_count out.old) (stream O.contents O.fault_count out.new) stop) }
-    ensures counted { OnOk result ((job : asked_words.Job) → IsTellJob job grammar.now (input_of from.entry) (telling_of what.entry) →
+    ensures counted { OnOk result ((job : asked_words.Job) → IsTellJob job grammar.now (input_of from.entry) (names_told names.entry) (telling_of what.entry) →
         (words : List (List ℕ)) → Asks words job → RunsWithin words (F.told files.old) (I.left input.old) steps.old steps.new) }
-    ensures asks { (job : asked_words.Job) → IsTellJob job grammar.now (input_of from.entry) (telling_of what.entry) →
+    ensures asks { (job : asked_words.Job) → IsTellJob job grammar.now (input_of from.entry) (names_told names.entry) (telling_of what.entry) →
         (words : List (List ℕ)) → Asks words job → AsksNames words (F.told files.old) (F.asked files.old) (F.asked files.new) }
-    ensures input { (input.new ≡ input.old) ⊎ ((job : asked_words.Job) → IsTellJob job grammar.now (input_of from.entry) (telling_of what.entry) →
+    ensures input { (input.new ≡ input.old) ⊎ ((job : asked_words.Job) → IsTellJob job grammar.now (input_of from.entry) (names_told names.entry) (telling_of what.entry) →
         (words : List (List ℕ)) → Asks words job → ReadsInput words (F.told files.old)) }
     ensures held { SameFiles (F.told files.old) (F.told files.new) }
 {
     let prepared = load_grammar(alloc, grammar, files)?;
+    let lexemes = lexemes_given(alloc, &prepared, names)?;
     let told = tell_input(
-        alloc, &prepared, what, from, files, input, out, tellers, steps,
+        alloc, &prepared, &lexemes, supplier, what, from, files, input, out, tellers, steps,
     );
     drop(prepared);
     told

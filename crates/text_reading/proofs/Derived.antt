@@ -32,7 +32,7 @@ use Rattle.forest_laws.proofs.Exact.{forests_have_lists}
 use Rattle.forest_laws.proofs.Reading as reading
 use Rattle.language_model.specs.Building.{Built}
 use Rattle.reading_model.specs.Reading.{edges_of, earleme_after}
-use Rattle.scanless.specs.Reading.{IsReadingOf}
+use Rattle.scanless.specs.Reading.{IsReadingOfWith}
 use Rattle.scanless.specs.declared.reading.Ending.TheVariants.{End as AtEnd}
 use Rattle.run_model.specs.Listing.{AreDerivations}
 use Rattle.run_model.specs.Telling.{no_derivation_text}
@@ -91,9 +91,9 @@ all_as w v es gs r s k p q ts same_w same_e same_r same_k same_p d =
 
 -- WHERE THE FOREST IS BUILT
 
-module _ (b : Built) (ranking : Ranking) (cs : List ℕ) (recce : Recognizer) (spans : List Span) (few : length cs ≤ LONGEST_INPUT) (read : IsReadingOf b cs recce spans AtEnd) where
+module _ (b : Built) (given : List ℕ) (ranking : Ranking) (cs : List ℕ) (recce : Recognizer) (spans : List Span) (few : length cs ≤ LONGEST_INPUT) (read : IsReadingOfWith b given cs recce spans AtEnd) where
   pub has_forest : (f : Forest) → IsForest f → (w : Grammar) → w ≡ b.g1 → f.written ≡ w → f.flat ≡ recce.flat → f.start ≡ recce.start → f.edges ≡ recce.edges → f.place ≡ earleme_of recce → f.ranking ≡ ranking
-      → HasForest b ranking cs spans f
+      → HasForest b given ranking cs spans f
   has_forest f is w same written flat start edges place ranked =
       let start_is = start ∙ read.holds.start in
       let edges_are = edges ∙ read.holds.edges in
@@ -101,8 +101,10 @@ module _ (b : Built) (ranking : Ranking) (cs : List ℕ) (recce : Recognizer) (s
       let some = has_derivation f is in
       record {
         pieces = read.pieces;
+        reading = read.is_reading;
         of = record {
           few = few;
+          given = given;
           reading = read.is_reading;
           spans_are = read.spans_are;
           written = written ∙ same;
@@ -134,7 +136,7 @@ module _ (b : Built) (ranking : Ranking) (cs : List ℕ) (recce : Recognizer) (s
   none_sorted = tt
 
   pub no_derivation : TreesAreDerivations → IsChecked b.g1 → IsRecognizer recce → (HasTree recce → ⊥) → (text : List ℕ) (place : Option Place) (expected : List ℕ) →
-      AreExpectedOf b recce expected → text ≡ no_derivation_text b.g1 expected → place ≡ None → IsNoDerivation b ranking cs text place expected
+      AreExpectedOf b recce expected → text ≡ no_derivation_text b.g1 expected → place ≡ None → IsNoDerivation b given ranking cs text place expected
   no_derivation law checked is none text place expected are told where_is = record {
     pieces = read.pieces;
     reading = read.is_reading;
@@ -154,7 +156,7 @@ steps_within recce ranking w g before after same within = subst (λ (x : Grammar
 
 -- WHAT THE FOREST LISTS
 
-module _ (b : Built) (ranking : Ranking) (cs : List ℕ) (spans : List Span) (f : Forest) (has : HasForest b ranking cs spans f) where
+module _ (b : Built) (given : List ℕ) (ranking : Ranking) (cs : List ℕ) (spans : List Span) (f : Forest) (has : HasForest b given ranking cs spans f) where
   pub listed : (trees : List Tree) → IsListing f trees → AreDerivations b ranking has.pieces trees
   listed trees l =
       all_as f.written b.g1 f.edges (edges_of has.pieces) f.ranking ranking f.start f.place (earleme_after has.pieces) trees

@@ -1,4 +1,5 @@
 mod Refusing
 pub mod InputLemmas
+pub mod NamedRows
 pub mod Derived
 mod OneLine

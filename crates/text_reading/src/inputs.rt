@@ -86,10 +86,11 @@ pub fn whole<'p>(
     requires few { length chars.now ≤ LONGEST_INPUT }
     requires read { IsSomeReading prepared.now chars.now reading.recce reading.spans.items
         reading.ending }
-    ensures same { IfOk result (λ r. r ≡ reading) }
-    ensures end { OnOk result (reading.ending ≡ End) }
+    ensures same { IfOk result (λ r. r ≡ reading.entry) }
+    ensures end { OnOk result (reading.entry.ending ≡ End) }
     ensures refused { IfErr result (λ refusal.
-        ForGiven prepared.now chars.now reading.recce reading.spans.items reading.ending
+        ForGiven prepared.now chars.now reading.entry.recce reading.entry.spans.items
+        reading.entry.ending
         (λ given. TellsInput (IsStopText prepared.now given chars.now) refusal)) }
 {
     match ended(alloc, prepared, chars, &reading) {

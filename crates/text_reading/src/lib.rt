@@ -4,12 +4,16 @@
 mod forests;
 mod grammar;
 mod inputs;
+mod lexemes;
 mod lines;
 mod phrases;
 mod refusal;
+mod supplying;
 
 pub use forests::forest_of;
 pub use grammar::{grammar_of, long_grammar_text, read_grammar};
 pub use inputs::{append_names, input_chars, input_too_long, long_input_text, read_text, whole};
+pub use lexemes::lexeme_named;
 pub use lines::append_in_line;
 pub use refusal::{Place, Refusal};
+pub use supplying::read_supplied;

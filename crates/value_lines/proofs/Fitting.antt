@@ -71,11 +71,11 @@ module _ (b : Built) (checked : IsChecked b.g1) (ranges : IsInRange b) (cs : Lis
       (subst (λ (g : Grammar). Derives g (Held f.edges) (slot_of (slice_index_or g.starts f.start 0)) 0 f.place tree) of.written of_f)))
 
   pub spans_are : AreSpans (length cs) spans
-  spans_are = (spans_fit b cs pieces spans of.few of.reading of.spans_are).0
+  spans_are = (spans_fit b of.given cs pieces spans of.few of.reading of.spans_are).0
 
   steps_are : (new : Iteration) → new.forest ≡ f → (given : List Tree) (tree : Tree) → AreGiven new (given ++ tree ∷ []) → AreSteps b.g1 (length spans) (steps_of tree)
   steps_are new same given tree are =
-      let count = (spans_fit b cs pieces spans of.few of.reading of.spans_are).1 in
+      let count = (spans_fit b of.given cs pieces spans of.few of.reading of.spans_are).1 in
       steps_fit b pieces start (earleme_after pieces) (length spans) tree start_known (omega (arith, count)) (derived new same given tree are)
 
   -- what the iterator told of where it stands

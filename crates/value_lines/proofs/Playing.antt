@@ -12,7 +12,7 @@ use Rattle.grammar_model.specs.declared.limits.TheConstants.{LAST_PLACE, LONGEST
 use Rattle.grammar_core.specs.declared.steps.Span.{Span}
 use Rattle.earley_sets.proofs.Membership.{Contains-map_from}
 use Rattle.language_model.specs.Building.{Built}
-use Rattle.reading_model.specs.Reading.{Piece, Token, Skipped, earleme_after, edges_from, edges_of, spans_from, End, IsReading, HasEnded}
+use Rattle.reading_model.specs.Reading.{Piece, Token, Skipped, earleme_after, edges_from, edges_of, spans_from, End, IsReadingWith, HasEnded}
 use Rattle.run_model.specs.Listing.{token_at_span}
 use Rattle.scanless.specs.Reading.{span_of}
 use Rattle.valuator.specs.Play.{tokens_of, AreSpans, OnePlace, AreSteps}
@@ -41,9 +41,9 @@ spans_count at [] = refl
 spans_count at (Token n symbols ∷ pieces) = ap suc (spans_count (at + n) pieces)
 spans_count at (Skipped n ∷ pieces) = spans_count (at + n) pieces
 
-pub spans_fit : (b : Built) (cs : List ℕ) (pieces : List Piece) (spans : List Span) → length cs ≤ LONGEST_INPUT → IsReading b cs pieces End → map span_of spans ≡ spans_from 0 pieces →
+pub spans_fit : (b : Built) (given cs : List ℕ) (pieces : List Piece) (spans : List Span) → length cs ≤ LONGEST_INPUT → IsReadingWith b given cs pieces End → map span_of spans ≡ spans_from 0 pieces →
     AreSpans (length cs) spans × (length spans ≡ earleme_after pieces)
-spans_fit b cs pieces spans few (HasEnded r end) are = (
+spans_fit b given cs pieces spans few (HasEnded r end) are = (
   inside_fit (length cs) spans few (subst (AreInside (length cs)) (sym are) (spans_inside (length cs) 0 pieces (let e = characters_are r in omega (arith, e)))),
   sym (length-map spans span_of) ∙ (ap length are ∙ spans_count 0 pieces),
 )

@@ -4,8 +4,8 @@ ghost use Rattle.grammar_model.specs.Values.{name_of};
 ghost use Rattle.run_model.specs.Outcome.{done};
 ghost use Rattle.run_model.specs.Outside.{stream};
 ghost use Rattle.words_model.specs.Words.Telling.{Expected};
-ghost use Rattle.scanless.specs.Reading.{IsReadingOf};
 ghost use Rattle.scanless.specs.declared.reading.Ending.TheVariants.{End};
+ghost use Rattle.text_reading.specs.Parts.{IsSomeReading, ForGiven};
 ghost use Rattle.slif_cli.specs.Stops.{Does, WriteStops};
 ghost use Rattle.slif_cli.specs.Tasks.{TellsReading};
 
@@ -24,10 +24,15 @@ pub fn write_expected<'a, O: Sink>(
     reading: &Reading<'_>,
     out: &mut O,
 ) -> Result<(), Stop<'a>>
-    requires { IsReadingOf prepared.now chars.now reading.now.recce reading.now.spans.items End }
-    ensures done { OnOk result (Does (TellsReading Expected prepared.now chars.now) (O.contents out.old) (O.contents out.new)) }
-    ensures stops { IfErr result (WriteStops (TellsReading Expected prepared.now chars.now)
-        (stream O.contents O.fault_count out.old) (stream O.contents O.fault_count out.new)) }
+    requires { IsSomeReading prepared.now chars.now reading.now.recce reading.now.spans.items End }
+    ensures done { ForGiven prepared.now chars.now reading.now.recce
+        reading.now.spans.items End
+        (λ given. OnOk result (Does (TellsReading Expected prepared.now given chars.now)
+        (O.contents out.old) (O.contents out.new))) }
+    ensures stops { ForGiven prepared.now chars.now reading.now.recce
+        reading.now.spans.items End
+        (λ given. IfErr result (WriteStops (TellsReading Expected prepared.now given chars.now)
+        (stream O.contents O.fault_count out.old) (stream O.contents O.fault_count out.new))) }
     ensures out_later { O.fault_count out.old ≤ O.fault_count out.new }
 {
     let lines = expected_lines(alloc, prepared, chars, reading)?;
@@ -41,8 +46,11 @@ fn expected_lines(
     chars: &Chars,
     reading: &Reading<'_>,
 ) -> Result<Vec<Vec<u8>>, AllocError>
-    requires { IsReadingOf prepared.now chars.now reading.now.recce reading.now.spans.items End }
-    ensures { IfOk result (λ lines. TellsReading Expected prepared.now chars.now (done (map (λ l. l.items) lines.items))) }
+    requires { IsSomeReading prepared.now chars.now reading.now.recce reading.now.spans.items End }
+    ensures { ForGiven prepared.now chars.now reading.now.recce
+        reading.now.spans.items End
+        (λ given. IfOk result (λ lines. TellsReading Expected prepared.now given chars.now
+        (done (map (λ l. l.items) lines.items)))) }
 {
     // The characters stand in the contract alone.
     let _ = chars;

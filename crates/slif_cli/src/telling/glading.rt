@@ -6,8 +6,8 @@ ghost use Rattle.grammar_model.specs.declared.limits.TheConstants.{LONGEST_INPUT
 ghost use Rattle.run_model.specs.Outside.{stream};
 ghost use Rattle.run_model.specs.Glades.{glade_line};
 ghost use Rattle.words_model.specs.Words.Telling.{Glades};
-ghost use Rattle.scanless.specs.Reading.{IsReadingOf};
 ghost use Rattle.scanless.specs.declared.reading.Ending.TheVariants.{End};
+ghost use Rattle.text_reading.specs.Parts.{IsSomeReading, ForGiven};
 ghost use Rattle.slif_cli.specs.Stops.{Does, WriteStops, LinesStop};
 ghost use Rattle.slif_cli.specs.Tasks.{TellsReading, GoesOnWithin};
 
@@ -33,11 +33,20 @@ pub fn write_glades<'a, O: Sink, L: Ledger>(
     steps: &mut Steps<L>,
 ) -> Result<(), Stop<'a>>
     requires few { length chars.now ≤ LONGEST_INPUT }
-    requires read { IsReadingOf prepared.now chars.now reading.now.recce reading.now.spans.items End }
-    ensures done { OnOk result (Does (TellsReading Glades prepared.now chars.now) (O.contents out.old) (O.contents out.new)) }
-    ensures stops { IfErr result (WriteStops (TellsReading Glades prepared.now chars.now)
-        (stream O.contents O.fault_count out.old) (stream O.contents O.fault_count out.new)) }
-    ensures counted { OnOk result (GoesOnWithin Glades prepared.now chars.now reading.now.recce steps.old steps.new) }
+    requires read { IsSomeReading prepared.now chars.now reading.now.recce reading.now.spans.items
+        End }
+    ensures done { ForGiven prepared.now chars.now reading.now.recce
+        reading.now.spans.items End
+        (λ given. OnOk result (Does (TellsReading Glades prepared.now given chars.now)
+        (O.contents out.old) (O.contents out.new))) }
+    ensures stops { ForGiven prepared.now chars.now reading.now.recce
+        reading.now.spans.items End
+        (λ given. IfErr result (WriteStops (TellsReading Glades prepared.now given chars.now)
+        (stream O.contents O.fault_count out.old) (stream O.contents O.fault_count out.new))) }
+    ensures counted { ForGiven prepared.now chars.now reading.now.recce
+        reading.now.spans.items End
+        (λ given. OnOk result (GoesOnWithin Glades prepared.now given chars.now
+        reading.now.recce steps.old steps.new)) }
     ensures out_later { O.fault_count out.old ≤ O.fault_count out.new }
 {
     prepared.known();

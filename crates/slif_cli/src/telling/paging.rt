@@ -17,9 +17,9 @@ ghost use Rattle.valuator.specs.Told.{states};
 ghost use Rattle.value_lines.specs.Lines.{IsForestOf};
 ghost use Rattle.value_lines.specs.Paging.{PageHas, PageStops};
 ghost use Rattle.value_lines.specs.Writing.{AreBothTellers};
-ghost use Rattle.scanless.specs.Reading.{IsReadingOf};
 ghost use Rattle.scanless.specs.declared.reading.Ending.TheVariants.{End};
 ghost use Rattle.slif_cli.specs.Refusals.{IsPageStop};
+ghost use Rattle.text_reading.specs.Parts.{IsSomeReading, ForGiven};
 ghost use Rattle.slif_cli.specs.Stops.{Does, WriteStops};
 ghost use Rattle.slif_cli.specs.Tasks.{TellsReading, GoesOnWithin};
 
@@ -51,17 +51,23 @@ pub fn write_more<'a, O: Sink, L: Ledger>(
     steps: &mut Steps<L>,
 ) -> Result<(), Stop<'a>>
     requires few { length chars.now ≤ LONGEST_INPUT }
-    requires read { IsReadingOf prepared.now chars.now reading.now.recce reading.now.spans.items
+    requires read { IsSomeReading prepared.now chars.now reading.now.recce reading.now.spans.items
         End }
     requires tellers { AreBothTellers (states tellers.items shows held) }
-    ensures done { OnOk result (Does
-        (TellsReading (More (more_of asked.entry)) prepared.now chars.now)
-        (O.contents out.old) (O.contents out.new)) }
-    ensures stops { IfErr result (WriteStops
-        (TellsReading (More (more_of asked.entry)) prepared.now chars.now)
-        (stream O.contents O.fault_count out.old) (stream O.contents O.fault_count out.new)) }
-    ensures counted { OnOk result (GoesOnWithin (More (more_of asked.entry)) prepared.now chars.now
-        reading.now.recce steps.old steps.new) }
+    ensures done { ForGiven prepared.now chars.now reading.now.recce
+        reading.now.spans.items End
+        (λ given. OnOk result (Does
+        (TellsReading (More (more_of asked.entry)) prepared.now given chars.now)
+        (O.contents out.old) (O.contents out.new))) }
+    ensures stops { ForGiven prepared.now chars.now reading.now.recce
+        reading.now.spans.items End
+        (λ given. IfErr result (WriteStops
+        (TellsReading (More (more_of asked.entry)) prepared.now given chars.now)
+        (stream O.contents O.fault_count out.old) (stream O.contents O.fault_count out.new))) }
+    ensures counted { ForGiven prepared.now chars.now reading.now.recce
+        reading.now.spans.items End
+        (λ given. OnOk result (GoesOnWithin (More (more_of asked.entry)) prepared.now given chars.now
+        reading.now.recce steps.old steps.new)) }
     ensures out_later { O.fault_count out.old ≤ O.fault_count out.new }
 {
     let _place = reading.recce.place();

@@ -3,8 +3,8 @@ ghost use Rattle.std.specs.Prelude.{◌≡◌, ◌≤◌, ◌<◌, All, map, len
 ghost use Rattle.run_model.specs.Telling.{report_line, no_set_text};
 ghost use Rattle.run_model.specs.Outside.{stream};
 ghost use Rattle.words_model.specs.Words.Telling.{Report};
-ghost use Rattle.scanless.specs.Reading.{IsReadingOf};
 ghost use Rattle.scanless.specs.declared.reading.Ending.TheVariants.{End};
+ghost use Rattle.text_reading.specs.Parts.{IsSomeReading, ForGiven};
 ghost use Rattle.slif_cli.specs.Stops.{Does, WriteStops};
 ghost use Rattle.slif_cli.specs.Tasks.{TellsReading};
 
@@ -25,10 +25,15 @@ pub fn write_report<'a, O: Sink>(
     reading: &Reading<'_>,
     out: &mut O,
 ) -> Result<(), Stop<'a>>
-    requires { IsReadingOf prepared.now chars.now reading.now.recce reading.now.spans.items End }
-    ensures done { OnOk result (Does (TellsReading (Report at) prepared.now chars.now) (O.contents out.old) (O.contents out.new)) }
-    ensures stops { IfErr result (WriteStops (TellsReading (Report at) prepared.now chars.now)
-        (stream O.contents O.fault_count out.old) (stream O.contents O.fault_count out.new)) }
+    requires { IsSomeReading prepared.now chars.now reading.now.recce reading.now.spans.items End }
+    ensures done { ForGiven prepared.now chars.now reading.now.recce
+        reading.now.spans.items End
+        (λ given. OnOk result (Does (TellsReading (Report at) prepared.now given chars.now)
+        (O.contents out.old) (O.contents out.new))) }
+    ensures stops { ForGiven prepared.now chars.now reading.now.recce
+        reading.now.spans.items End
+        (λ given. IfErr result (WriteStops (TellsReading (Report at) prepared.now given chars.now)
+        (stream O.contents O.fault_count out.old) (stream O.contents O.fault_count out.new))) }
     ensures out_later { O.fault_count out.old ≤ O.fault_count out.new }
 {
     prepared.known();

@@ -10,8 +10,8 @@ ghost use Rattle.run_model.specs.Telling.{stats_lines};
 ghost use Rattle.command_line.specs.Jobs.{asked_of};
 ghost use Rattle.valuator.specs.Told.{states};
 ghost use Rattle.value_lines.specs.Writing.{AreBothTellers};
-ghost use Rattle.scanless.specs.Reading.{IsReadingOf};
 ghost use Rattle.scanless.specs.declared.reading.Ending.TheVariants.{End};
+ghost use Rattle.text_reading.specs.Parts.{IsSomeReading, ForGiven};
 ghost use Rattle.slif_cli.specs.Stops.{Does, WriteStops, LinesStop};
 ghost use Rattle.slif_cli.specs.Tasks.{TellsReading, GoesOnWithin, AreNumbersOf};
 
@@ -40,12 +40,21 @@ pub fn write_values<'a, O: Sink, L: Ledger>(
     steps: &mut Steps<L>,
 ) -> Result<(), Stop<'a>>
     requires few { length chars.now ≤ LONGEST_INPUT }
-    requires read { IsReadingOf prepared.now chars.now reading.now.recce reading.now.spans.items End }
+    requires read { IsSomeReading prepared.now chars.now reading.now.recce reading.now.spans.items
+        End }
     requires tellers { AreBothTellers (states tellers.items shows held) }
-    ensures done { OnOk result (Does (TellsReading (Values (asked_of asked)) prepared.now chars.now) (O.contents out.old) (O.contents out.new)) }
-    ensures stops { IfErr result (WriteStops (TellsReading (Values (asked_of asked)) prepared.now chars.now)
-        (stream O.contents O.fault_count out.old) (stream O.contents O.fault_count out.new)) }
-    ensures counted { OnOk result (GoesOnWithin (Values (asked_of asked)) prepared.now chars.now reading.now.recce steps.old steps.new) }
+    ensures done { ForGiven prepared.now chars.now reading.now.recce
+        reading.now.spans.items End
+        (λ given. OnOk result (Does (TellsReading (Values (asked_of asked)) prepared.now given chars.now)
+        (O.contents out.old) (O.contents out.new))) }
+    ensures stops { ForGiven prepared.now chars.now reading.now.recce
+        reading.now.spans.items End
+        (λ given. IfErr result (WriteStops (TellsReading (Values (asked_of asked)) prepared.now given chars.now)
+        (stream O.contents O.fault_count out.old) (stream O.contents O.fault_count out.new))) }
+    ensures counted { ForGiven prepared.now chars.now reading.now.recce
+        reading.now.spans.items End
+        (λ given. OnOk result (GoesOnWithin (Values (asked_of asked)) prepared.now given chars.now
+        reading.now.recce steps.old steps.new)) }
     ensures out_later { O.fault_count out.old ≤ O.fault_count out.new }
 {
     let _place = reading.recce.place();

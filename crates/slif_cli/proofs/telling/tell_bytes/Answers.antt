@@ -1,7 +1,7 @@
 use Rattle.std.proofs.Common.{ℕ, List, ap, subst, arith, length, chars, refl}
 use Rattle.std.proofs.lemmas.Str.{length-le-encodes, encodes-chars}
 use Rattle.std.proofs.lemmas.Result.{on_ok_weaker, MatchResult-weaker}
-use Rattle.run_model.specs.Inputs.{IsInputText}
+use Rattle.run_model.specs.Inputs.{IsInputText, input_limit}
 use Rattle.run_model.specs.Outcome.{IsInputOutcome}
 use Rattle.run_model.specs.Outcome.IsInputOutcome.{InputRefused}
 use Rattle.run_model.specs.Outside.{stream}
@@ -11,7 +11,7 @@ use Rattle.slif_cli.specs.Refusals.{stop_for}
 use Rattle.slif_cli.specs.Stops.{WriteStops}
 use Rattle.slif_cli.specs.Tasks.{TellsReading, GoesOnWithin}
 use Rattle.command_line.specs.Jobs.{telling_of}
-use Rattle.slif_cli.proofs.InputLemmas.{refused_broken, refused_stop}
+use Rattle.slif_cli.proofs.InputLemmas.{refused_broken, refused_stop, within_all}
 use Rattle.slif_cli.proofs.Refusing.{input_stops_for}
 use Rattle.slif_cli.proofs.Stopping.{does_weaker, stops_weaker, passed_on}
 use Rattle.slif_cli.proofs.TaskLemmas.{input_told}
@@ -23,41 +23,44 @@ returns-in_err-chars-clause-stops g c =
     let b = c.args.prepared.now in
     let bytes = c.args.bytes.items in
     let what = telling_of c.args.what in
+    let given = c.args.lexemes.now in
     let before = stream g.O.Sink.contents g.O.Sink.fault_count c.args.out.now in
     let refusal = c.in_err-chars.field-0.0 in
-    passed_on (WriteStops (IsInputOutcome what b bytes) before before) c.from_residual.result (stop_for refusal) c.from_residual.ensures.1
-    (input_stops_for (IsBrokenText bytes) (IsInputOutcome what b bytes)
-    (λ text place expected broken. InputRefused text (refused_broken b bytes c.requires.few text place expected broken) refl) before refusal c.in_err-chars.ensures.refused)
+    passed_on (WriteStops (IsInputOutcome what b given bytes) before before) c.from_residual.result (stop_for refusal) c.from_residual.ensures.1
+    (input_stops_for (IsBrokenText bytes) (IsInputOutcome what b given bytes)
+    (λ text place expected broken. InputRefused text (refused_broken b given bytes c.requires.few text place expected broken) refl) before refusal c.in_err-chars.ensures.refused)
 
 pub returns-in_err-reading-clause-stops : goal.returns-in_err-reading-clause-stops
 returns-in_err-reading-clause-stops g c =
     let b = c.args.prepared.now in
     let bytes = c.args.bytes.items in
     let what = telling_of c.args.what in
+    let given = c.args.lexemes.now in
     let before = stream g.O.Sink.contents g.O.Sink.fault_count c.args.out.now in
     let refusal = c.in_err-reading.field-0.0 in
-    passed_on (WriteStops (IsInputOutcome what b bytes) before before) c.from_residual-in_err-reading.result (stop_for refusal) c.from_residual-in_err-reading.ensures.1
-    (input_stops_for (IsStopText b (chars bytes)) (IsInputOutcome what b bytes)
-    (λ text place expected stop. InputRefused text (refused_stop b bytes c.requires.few c.in_ok-chars.ensures.utf8 text place expected stop) refl) before refusal
-    (subst (λ (cs : List ℕ). TellsInput (IsStopText b cs) refusal) c.in_ok-chars.ensures.ok c.in_err-reading.ensures.refused))
+    passed_on (WriteStops (IsInputOutcome what b given bytes) before before) c.from_residual-in_err-reading.result (stop_for refusal) c.from_residual-in_err-reading.ensures.1
+    (input_stops_for (IsStopText b given (chars bytes)) (IsInputOutcome what b given bytes)
+    (λ text place expected stop. InputRefused text (refused_stop b given bytes c.requires.few c.in_ok-chars.ensures.utf8 text place expected stop) refl) before refusal
+    (subst (λ (cs : List ℕ). TellsInput (IsStopText b given cs) refusal) c.in_ok-chars.ensures.ok c.in_err-reading.ensures.refused))
 
-pub read_text-requires : goal.read_text-requires
-read_text-requires g c =
+pub read_with-requires-clause-few : goal.read_with-requires-clause-few
+read_with-requires-clause-few g c =
     omega (arith, ap length c.in_ok-chars.ensures.ok, length-le-encodes (chars c.args.bytes.items), ap length (encodes-chars c.args.bytes.items c.in_ok-chars.ensures.utf8), c.requires.few)
 
 pub tell_reading-told-requires-clause-few : goal.tell_reading-told-requires-clause-few
 tell_reading-told-requires-clause-few g c =
-    omega (arith, ap length c.in_ok-chars.ensures.ok, length-le-encodes (chars c.args.bytes.items), ap length (encodes-chars c.args.bytes.items c.in_ok-chars.ensures.utf8), c.requires.few)
+    omega (arith, ap length c.in_ok-chars.ensures.ok, length-le-encodes (chars c.args.bytes.items), ap length (encodes-chars c.args.bytes.items c.in_ok-chars.ensures.utf8), c.requires.few, within_all c.args.lexemes.now)
 
 pub returns-clause-done : goal.returns-clause-done
 returns-clause-done g c =
     let b = c.args.prepared.now in
     let bytes = c.args.bytes.items in
     let what = telling_of c.args.what in
-    let text : IsInputText bytes = record { within = c.requires.few; utf8 = c.in_ok-chars.ensures.utf8 } in
+    let given = c.args.lexemes.now in
+    let text : IsInputText (input_limit given) bytes = record { within = c.requires.few; utf8 = c.in_ok-chars.ensures.utf8 } in
     on_ok_weaker c.tell_reading-told.result
-    (does_weaker (TellsReading what b c.in_ok-chars.chars) (IsInputOutcome what b bytes)
-    (λ o told. input_told what b bytes text o (subst (λ (cs : List ℕ). TellsReading what b cs o) c.in_ok-chars.ensures.ok told)) _ _)
+    (does_weaker (TellsReading what b given c.in_ok-chars.chars) (IsInputOutcome what b given bytes)
+    (λ o told. input_told what b given bytes text o (subst (λ (cs : List ℕ). TellsReading what b given cs o) c.in_ok-chars.ensures.ok told)) _ _)
     c.tell_reading-told.ensures.done
 
 pub returns-clause-stops : goal.returns-clause-stops
@@ -65,10 +68,11 @@ returns-clause-stops g c =
     let b = c.args.prepared.now in
     let bytes = c.args.bytes.items in
     let what = telling_of c.args.what in
-    let text : IsInputText bytes = record { within = c.requires.few; utf8 = c.in_ok-chars.ensures.utf8 } in
+    let given = c.args.lexemes.now in
+    let text : IsInputText (input_limit given) bytes = record { within = c.requires.few; utf8 = c.in_ok-chars.ensures.utf8 } in
     MatchResult-weaker c.tell_reading-told.result c.tell_reading-told.ensures.stops (λ _ x. x)
-    (stops_weaker (TellsReading what b c.in_ok-chars.chars) (IsInputOutcome what b bytes)
-    (λ o told. input_told what b bytes text o (subst (λ (cs : List ℕ). TellsReading what b cs o) c.in_ok-chars.ensures.ok told))
+    (stops_weaker (TellsReading what b given c.in_ok-chars.chars) (IsInputOutcome what b given bytes)
+    (λ o told. input_told what b given bytes text o (subst (λ (cs : List ℕ). TellsReading what b given cs o) c.in_ok-chars.ensures.ok told))
     (λ name. ⊥) (λ name. ⊥) ⊥ ⊥ (λ name x. x) (λ x. x)
     (stream g.O.Sink.contents g.O.Sink.fault_count c.args.out.now) (stream g.O.Sink.contents g.O.Sink.fault_count c.tell_reading-told.new.out))
 
@@ -76,8 +80,9 @@ pub returns-clause-counted : goal.returns-clause-counted
 returns-clause-counted g c =
     let b = c.args.prepared.now in
     let what = telling_of c.args.what in
-    let text : IsInputText c.args.bytes.items = record { within = c.requires.few; utf8 = c.in_ok-chars.ensures.utf8 } in
+    let given = c.args.lexemes.now in
+    let text : IsInputText (input_limit given) c.args.bytes.items = record { within = c.requires.few; utf8 = c.in_ok-chars.ensures.utf8 } in
     on_ok_weaker c.tell_reading-told.result
-    (λ goes. bytes_within what b c.args.bytes.items text c.in_ok-reading.reading.recce c.args.steps.now c.read_text.new.steps c.tell_reading-told.new.steps c.in_ok-reading.ensures.counted
-    (subst (λ (cs : List ℕ). GoesOnWithin what b cs c.in_ok-reading.reading.recce c.read_text.new.steps c.tell_reading-told.new.steps) c.in_ok-chars.ensures.ok goes))
+    (λ goes. bytes_within what b given c.args.bytes.items text c.in_ok-reading.reading.recce c.args.steps.now c.read_text.new.steps c.tell_reading-told.new.steps c.in_ok-reading.ensures.counted
+    (subst (λ (cs : List ℕ). GoesOnWithin what b given cs c.in_ok-reading.reading.recce c.read_text.new.steps c.tell_reading-told.new.steps) c.in_ok-chars.ensures.ok goes))
     c.tell_reading-told.ensures.counted

@@ -7,7 +7,7 @@ use Rattle.words_model.specs.Words.InputFrom.{FileNamed}
 use Rattle.run_model.specs.Outcome.{IsWorkOutcome, IsScriptOutcome}
 use Rattle.run_model.specs.Outside.{stream}
 use Rattle.run_model.specs.Runs.{MayOpen}
-use Rattle.command_line.specs.Jobs.{job_of, task_of, telling_of, input_of}
+use Rattle.command_line.specs.Jobs.{job_of, task_of, names_told, telling_of, input_of}
 use Rattle.slif_cli.specs.Stops.{MayHave, MayRead}
 use Rattle.slif_cli.specs.Tasks.{IsCheckJob, IsTellJob, IsScriptJob}
 use Rattle.slif_cli.proofs.JobLemmas.{asks_names, asks_nothing, worked, works_within, checks_within, fitted_as, copied_some}
@@ -47,36 +47,41 @@ returns-in-Check-clause-counted g c =
 pub grammar_file-grammar-requires : goal.grammar_file-grammar-requires
 grammar_file-grammar-requires g c =
     let (words, asks) = c.requires.asked in
-    copied_some c.args.job.grammar (fitted_as words (job_of c.args.job) asks (model.Tell (telling_of c.in-Tell.what)) (ap task_of c.in-Tell.is)).0
+    copied_some c.args.job.grammar (fitted_as words (job_of c.args.job) asks (model.Tell (names_told c.in-Tell.given) (telling_of c.in-Tell.what)) (ap task_of c.in-Tell.is)).0
 
 pub tell_by-requires-clause-somewhere : goal.tell_by-requires-clause-somewhere
 tell_by-requires-clause-somewhere g c =
     let (words, asks) = c.requires.asked in
-    (fitted_as words (job_of c.args.job) asks (model.Tell (telling_of c.in-Tell.what)) (ap task_of c.in-Tell.is)).1
+    (fitted_as words (job_of c.args.job) asks (model.Tell (names_told c.in-Tell.given) (telling_of c.in-Tell.what)) (ap task_of c.in-Tell.is)).1
+
+pub tell_by-requires-clause-few : goal.tell_by-requires-clause-few
+tell_by-requires-clause-few g c =
+    let (words, asks) = c.requires.asked in
+    (fitted_as words (job_of c.args.job) asks (model.Tell (names_told c.in-Tell.given) (telling_of c.in-Tell.what)) (ap task_of c.in-Tell.is)).2
 
 pub returns-in-Tell-clause-done : goal.returns-in-Tell-clause-done
 returns-in-Tell-clause-done g c =
-    let is_job : IsTellJob (job_of c.args.job) c.grammar_file-grammar.result.now (input_of c.args.job.input) (telling_of c.in-Tell.what) = record { named = c.grammar_file-grammar.ensures; input = λ i. input_of c.args.job.input; task = ap task_of c.in-Tell.is } in
+    let is_job : IsTellJob (job_of c.args.job) c.grammar_file-grammar.result.now (input_of c.args.job.input) (names_told c.in-Tell.given) (telling_of c.in-Tell.what) = record { named = c.grammar_file-grammar.ensures; input = λ i. input_of c.args.job.input; task = ap task_of c.in-Tell.is } in
     on_ok_weaker c.tell_by.result (λ does. does (job_of c.args.job) is_job) c.tell_by.ensures.done
 
 pub returns-in-Tell-clause-stops : goal.returns-in-Tell-clause-stops
 returns-in-Tell-clause-stops g c =
-    let is_job : IsTellJob (job_of c.args.job) c.grammar_file-grammar.result.now (input_of c.args.job.input) (telling_of c.in-Tell.what) = record { named = c.grammar_file-grammar.ensures; input = λ i. input_of c.args.job.input; task = ap task_of c.in-Tell.is } in
+    let is_job : IsTellJob (job_of c.args.job) c.grammar_file-grammar.result.now (input_of c.args.job.input) (names_told c.in-Tell.given) (telling_of c.in-Tell.what) = record { named = c.grammar_file-grammar.ensures; input = λ i. input_of c.args.job.input; task = ap task_of c.in-Tell.is } in
     MatchResult-weaker c.tell_by.result c.tell_by.ensures.stops (λ _ x. x) (λ stop stops. stops (job_of c.args.job) is_job)
 
 pub returns-in-Tell-clause-asks : goal.returns-in-Tell-clause-asks
 returns-in-Tell-clause-asks g c =
-    let is_job : IsTellJob (job_of c.args.job) c.grammar_file-grammar.result.now (input_of c.args.job.input) (telling_of c.in-Tell.what) = record { named = c.grammar_file-grammar.ensures; input = λ i. input_of c.args.job.input; task = ap task_of c.in-Tell.is } in
+    let is_job : IsTellJob (job_of c.args.job) c.grammar_file-grammar.result.now (input_of c.args.job.input) (names_told c.in-Tell.given) (telling_of c.in-Tell.what) = record { named = c.grammar_file-grammar.ensures; input = λ i. input_of c.args.job.input; task = ap task_of c.in-Tell.is } in
     c.tell_by.ensures.asks (job_of c.args.job) is_job
 
 pub returns-in-Tell-clause-input : goal.returns-in-Tell-clause-input
 returns-in-Tell-clause-input g c =
-    let is_job : IsTellJob (job_of c.args.job) c.grammar_file-grammar.result.now (input_of c.args.job.input) (telling_of c.in-Tell.what) = record { named = c.grammar_file-grammar.ensures; input = λ i. input_of c.args.job.input; task = ap task_of c.in-Tell.is } in
+    let is_job : IsTellJob (job_of c.args.job) c.grammar_file-grammar.result.now (input_of c.args.job.input) (names_told c.in-Tell.given) (telling_of c.in-Tell.what) = record { named = c.grammar_file-grammar.ensures; input = λ i. input_of c.args.job.input; task = ap task_of c.in-Tell.is } in
     elim c.tell_by.ensures.input [ inl same ↦ inl same | inr reads ↦ inr (reads (job_of c.args.job) is_job) ]
 
 pub returns-in-Tell-clause-counted : goal.returns-in-Tell-clause-counted
 returns-in-Tell-clause-counted g c =
-    let is_job : IsTellJob (job_of c.args.job) c.grammar_file-grammar.result.now (input_of c.args.job.input) (telling_of c.in-Tell.what) = record { named = c.grammar_file-grammar.ensures; input = λ i. input_of c.args.job.input; task = ap task_of c.in-Tell.is } in
+    let is_job : IsTellJob (job_of c.args.job) c.grammar_file-grammar.result.now (input_of c.args.job.input) (names_told c.in-Tell.given) (telling_of c.in-Tell.what) = record { named = c.grammar_file-grammar.ensures; input = λ i. input_of c.args.job.input; task = ap task_of c.in-Tell.is } in
     on_ok_weaker c.tell_by.result (λ within. within (job_of c.args.job) is_job) c.tell_by.ensures.counted
 
 pub work_of_size-requires : goal.work_of_size-requires

@@ -16,15 +16,15 @@ forest_of-requires-clause-few g c = own_few c.args.size c.requires.size c.args.c
 
 pub no_memory-requires : goal.no_memory-requires
 no_memory-requires g c =
-    input_memory (IsNoDerivation c.args.prepared.now RuleRanks c.args.chars.now)
-    (own_derived c.args.size c.requires.size c.args.prepared.now c.requires.grammar c.args.chars.now c.requires.chars RuleRanks) c.in-Err.refusal c.in-Err.ensures.refused
+    input_memory (IsNoDerivation c.args.prepared.now [] RuleRanks c.args.chars.now)
+    (own_derived c.args.size c.requires.size c.args.prepared.now c.requires.grammar c.args.chars.now c.requires.chars RuleRanks) c.in-Err.refusal (c.in-Err.ensures.refused [] c.requires.read)
 
 pub returns-clause-line : goal.returns-clause-line
 returns-clause-line g c =
     let b = c.args.prepared.now in
     let cs = c.args.chars.now in
     let spans = c.args.reading.now.spans.items in
-    let has = c.in-Ok.ensures.forest in
+    let has = c.in-Ok.ensures.forest [] c.requires.read in
     let numbers = has_numbers b cs spans c.in-Ok.forest has.pieces has.of RuleRanks has.ranking_is c.known.ensures c.in_ok-stats.stats c.in_ok-stats.ensures in
     IfOk-weaker c.work_line.result
     (λ (line : Vec ℕ Global). line.items ≡ work_line c.args.size (numbers_of c.in_ok-stats.stats) c.in-Ok-count_derivations.values)
@@ -41,6 +41,6 @@ returns-clause-counted g c =
     IfOk-weaker c.work_line.result
     (λ (line : Vec ℕ Global). line.items ≡ work_line c.args.size (numbers_of c.in_ok-stats.stats) c.in-Ok-count_derivations.values)
     (λ (line : Vec ℕ Global). (before : ℕ) → TakesAtMost read.recce before c.args.steps.now → WorkWithin b c.args.size before c.count_derivations.new.steps)
-    (λ line told before reads. own_within c.args.size c.requires.size b c.requires.grammar cs c.requires.chars read.spans.items c.in-Ok.forest c.in-Ok.ensures.forest c.known.ensures
+    (λ line told before reads. own_within c.args.size c.requires.size b c.requires.grammar cs c.requires.chars read.spans.items c.in-Ok.forest (c.in-Ok.ensures.forest [] c.requires.read) c.known.ensures
     read.recce c.place-place.ensures.is read.spans.items c.requires.read before _ _ _ c.forest_of.ensures.counted c.in-Ok-count_derivations.ensures.counted reads)
     c.work_line.ensures

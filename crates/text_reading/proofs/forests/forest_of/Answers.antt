@@ -8,17 +8,17 @@ use Rattle.text_reading.proofs.InputLemmas.{input_weaker}
 use Rattle.text_reading.proofs.forests.forest_of.Goals as goal
 
 pub returns-in-Ok-clause-forest : goal.returns-in-Ok-clause-forest
-returns-in-Ok-clause-forest g c =
+returns-in-Ok-clause-forest g c given read =
     let r = c.in-Ok.ensures.reading in
-    has_forest c.args.prepared.now c.args.ranking c.args.chars.now c.args.reading.now.recce c.args.reading.now.spans.items c.requires.few c.requires.read
+    has_forest c.args.prepared.now given c.args.ranking c.args.chars.now c.args.reading.now.recce c.args.reading.now.spans.items c.requires.few read
     c.in-Ok.forest c.in-Ok.ensures.forest c.written.result.now c.written.ensures r.0 r.1 r.2 r.3 r.4 r.5
 
 pub returns-in_ok-no_derivation-in-Err-NoParse-clause-refused : goal.returns-in_ok-no_derivation-in-Err-NoParse-clause-refused
-returns-in_ok-no_derivation-in-Err-NoParse-clause-refused g c =
+returns-in_ok-no_derivation-in-Err-NoParse-clause-refused g c given read =
     input_weaker
     (λ text place expected. AreExpectedOf c.args.prepared.now c.args.reading.now.recce expected × (text ≡ no_derivation_text c.args.prepared.now.g1 expected) × (place ≡ None))
-    (IsNoDerivation c.args.prepared.now c.args.ranking c.args.chars.now)
-    (λ text place expected told. no_derivation c.args.prepared.now c.args.ranking c.args.chars.now c.args.reading.now.recce c.args.reading.now.spans.items c.requires.few c.requires.read
+    (IsNoDerivation c.args.prepared.now given c.args.ranking c.args.chars.now)
+    (λ text place expected told. no_derivation c.args.prepared.now given c.args.ranking c.args.chars.now c.args.reading.now.recce c.args.reading.now.spans.items c.requires.few read
     c.trees_are_derivations.ensures c.flat-flat.ensures.checked c.place-place.ensures.is (c.in-Err-NoParse.ensures.no_parse.0 (ap Err c.in-Err-NoParse.field-0-is)) text place expected told.0 told.1 told.2)
     c.in_ok-no_derivation-in-Err-NoParse.field-0 c.in_ok-no_derivation-in-Err-NoParse.ensures
 

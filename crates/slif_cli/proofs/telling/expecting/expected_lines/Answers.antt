@@ -11,18 +11,18 @@ use Rattle.slif_cli.proofs.telling.expecting.expected_lines.Goals as goal
 pub name_lines-requires : goal.name_lines-requires
 name_lines-requires c =
     let b = c.args.prepared.now in
-    let read = c.requires in
+    let read = c.requires.1 in
     known_in b c.known.ensures.ranges c.written.result.now c.deref.result.now c.in_ok-symbols.symbols.items c.written.ensures c.deref.ensures.value
     (expected_known b c.known.ensures.ranges read.pieces c.in_ok-symbols.symbols.items (c.in_ok-symbols.ensures read.pieces read.holds))
 
 pub returns : goal.returns
-returns c =
+returns c given is_read =
     let b = c.args.prepared.now in
-    let read = c.requires in
+    let read = is_read in
     let items : Vec ℕ Global → List ℕ = λ l. l.items in
     IfOk-weaker c.name_lines.result
     (λ (lines : Vec (Vec ℕ Global) Global). map items lines.items ≡ map (λ s. name_of c.written.result.now s ++ 10 ∷ []) c.deref.result.now)
-    (λ (lines : Vec (Vec ℕ Global) Global). TellsReading Expected b c.args.chars.now (done (map items lines.items)))
+    (λ (lines : Vec (Vec ℕ Global) Global). TellsReading Expected b given c.args.chars.now (done (map items lines.items)))
     (λ lines told. record {
       pieces = read.pieces;
       reading = read.is_reading;
