@@ -1,6 +1,6 @@
 //! A grammar, ready to read with.
 ghost use Rattle.std.specs.Prelude.{◌≡◌, ◌<◌, ◌≤◌, ◌↔◌, ◌++◌, [], length, OnOk, IfOk, IfErr, IfSome, IsNone};
-ghost use Rattle.grammar_model.specs.Grammar.{rule_at};
+ghost use Rattle.grammar_model.specs.Grammar.{lhs_of, rule_at};
 ghost use Rattle.grammar_model.specs.Values.{name_of};
 ghost use Rattle.run_model.specs.Refused.{Accepted};
 ghost use Rattle.run_model.specs.Given.{IsLexeme, NamesNoLexeme};
@@ -65,6 +65,32 @@ impl Grammar {
         ensures none { IsNone result → NamesNoLexeme self.now name.now }
     {
         lexeme_named(&self.prepared, name)
+    }
+
+    /// How many symbols there are.
+    pub fn symbol_count(&self) -> usize
+        ensures { result ≡ length self.now.g1.names }
+    {
+        self.prepared.written().symbol_count()
+    }
+
+    /// How many rules there are.
+    pub fn rule_count(&self) -> usize
+        ensures { result ≡ length self.now.g1.rules }
+    {
+        self.prepared.written().rule_count()
+    }
+
+    /// A rule's left side, where there is such a rule.
+    pub fn left(&self, rule: RuleId) -> Option<SymbolId>
+        ensures left { IfSome result (λ symbol. symbol ≡ lhs_of (rule_at self.now.g1 rule)) }
+        ensures none { IsNone result ↔ (length self.now.g1.rules ≤ rule) }
+    {
+        let written = self.prepared.written();
+        if rule.0 as usize >= written.rule_count() {
+            return None;
+        }
+        Some(written.lhs(rule.0 as usize))
     }
 
     /// Appends a rule as it is written: its left side and the names of its parts; a sequence with its sign, and its separator where it has
