@@ -79,7 +79,7 @@ pub fn reading_of<'g>(
       grammar = prepared.now;
       lexemes = lexemes.now;
       characters = chars;
-      spans = tokens.spans.items;
+      spans = tokens.entry.spans.items;
     }) }
 {
     match Vec::from_slice(alloc, lexemes) {
