@@ -71,14 +71,14 @@ parted [] tree m = absurd m
 parted (t ∷ ts) tree (inl e) = record { front = []; rest = ts; is = ap (λ x. x ∷ ts) e }
 parted (t ∷ ts) tree (inr m) = let r = parted ts tree m in record { front = t ∷ r.front; rest = r.rest; is = ap (λ l. t ∷ l) r.is }
 
-module _ (b : Built) (checked : IsChecked b.g1) (ranges : IsInRange b) (cs : List ℕ) (spans : List Span) (f : Forest) (has : HasForest b f.ranking cs spans f) where
+module _ (b : Built) (checked : IsChecked b.g1) (ranges : IsInRange b) (lexemes cs : List ℕ) (spans : List Span) (f : Forest) (has : HasForest b lexemes f.ranking cs spans f) where
   can_play : (front rest : List Tree) (tree : Tree) → IsListing f ((front ++ tree ∷ []) ++ rest) → AreSteps b.g1 (length spans) (steps_of tree)
   can_play front rest tree listing =
       let are : AreGiven (at_steps f (steps_of tree)) (front ++ tree ∷ []) =
       record { first = record { rest = rest; listing = listing }; are_before = record { front = front; last = tree; is = refl; steps_are = refl } } in
       fitting.can_play b checked ranges cs spans f has.pieces has.of (at_steps f (steps_of tree)) refl front (tree, are, refl) (steps_of tree) refl
 
-  way_at : (steps : List Step) (given : List Tree) → AreGiven (at_steps f steps) given → IsUnderWay b cs spans (at_steps f steps)
+  way_at : (steps : List Step) (given : List Tree) → AreGiven (at_steps f steps) given → IsUnderWay b lexemes cs spans (at_steps f steps)
   way_at steps given are =
       let ends : EndsAt given steps = are.are_before in
       let listing : IsListing f ((ends.front ++ ends.last ∷ []) ++ are.first.rest) = subst (λ ts. IsListing f (ts ++ are.first.rest)) ends.is are.first.listing in
@@ -124,32 +124,32 @@ module _ (b : Built) (checked : IsChecked b.g1) (ranges : IsInRange b) (cs : Lis
 
 -- GOING TO ONE
 
-module _ (b : Built) (checked : IsChecked b.g1) (ranges : IsInRange b) (cs : List ℕ) (spans : List Span) (old new : Iteration) (way : IsUnderWay b cs spans old) (steps : List Step) where
+module _ (b : Built) (checked : IsChecked b.g1) (ranges : IsInRange b) (lexemes cs : List ℕ) (spans : List Span) (old new : Iteration) (way : IsUnderWay b lexemes cs spans old) (steps : List Step) where
   abbrev Found : Type 0
   Found = (new ≡ at_steps old.forest steps) × ((given : List Tree) × AreGiven new given)
 
-  found_way : Found → IsUnderWay b cs spans new
+  found_way : Found → IsUnderWay b lexemes cs spans new
   found_way (is, (given, are)) =
-      subst (IsUnderWay b cs spans) (sym is) (way_at b checked ranges cs spans old.forest way.has steps given (subst (λ (i : Iteration). AreGiven i given) is are))
+      subst (IsUnderWay b lexemes cs spans) (sym is) (way_at b checked ranges lexemes cs spans old.forest way.has steps given (subst (λ (i : Iteration). AreGiven i given) is are))
 
   pub goes_to : {E : Type 0} (r : Result Bool E) → IfOk r (λ found. IsTrue found → Found) → IfOk r (λ found. IsFalse found → (new ≡ old) × HasNone old.forest steps) → OnErr r (new ≡ old) →
-      IsUnderWay b cs spans new
+      IsUnderWay b lexemes cs spans new
   goes_to (Ok true) found missed err = found_way (found refl)
-  goes_to (Ok false) found missed err = subst (IsUnderWay b cs spans) (sym (missed refl).0) way
-  goes_to (Err e) found missed err = subst (IsUnderWay b cs spans) (sym err) way
+  goes_to (Ok false) found missed err = subst (IsUnderWay b lexemes cs spans) (sym (missed refl).0) way
+  goes_to (Err e) found missed err = subst (IsUnderWay b lexemes cs spans) (sym err) way
 
 -- none of all derivations has a cursor
-pub lacks : (b : Built) (checked : IsChecked b.g1) (ranges : IsInRange b) (cs : List ℕ) (spans : List Span) (it : Iteration) (way : IsUnderWay b cs spans it) (text : List ℕ) →
-    NoneHas b checked ranges cs spans it.forest way.has text → LacksCursor (seen b cs spans it way) text
-lacks b checked ranges cs spans it way text none = record {
+pub lacks : (b : Built) (checked : IsChecked b.g1) (ranges : IsInRange b) (lexemes cs : List ℕ) (spans : List Span) (it : Iteration) (way : IsUnderWay b lexemes cs spans it) (text : List ℕ) →
+    NoneHas b checked ranges lexemes cs spans it.forest way.has text → LacksCursor (seen b lexemes cs spans it way) text
+lacks b checked ranges lexemes cs spans it way text none = record {
   trees = way.given ++ way.are.first.rest;
-  all = all_of b cs spans it way (way.given ++ way.are.first.rest) way.are.first.listing;
+  all = all_of b lexemes cs spans it way (way.given ++ way.are.first.rest) way.are.first.listing;
   none = none (way.given ++ way.are.first.rest) way.are.first.listing;
 }
 
-pub missed_told : {E : Type 0} (b : Built) (checked : IsChecked b.g1) (ranges : IsInRange b) (cs : List ℕ) (spans : List Span) (old new : Iteration) (way : IsUnderWay b cs spans old) (text : List ℕ) (steps : List Step) →
+pub missed_told : {E : Type 0} (b : Built) (checked : IsChecked b.g1) (ranges : IsInRange b) (lexemes cs : List ℕ) (spans : List Span) (old new : Iteration) (way : IsUnderWay b lexemes cs spans old) (text : List ℕ) (steps : List Step) →
     ((tree : Tree) × Spells text tree × (steps ≡ steps_of tree)) → (r : Result Bool E) → IfOk r (λ found. IsFalse found → (new ≡ old) × HasNone old.forest steps) →
-    IfOk r (λ found. IsFalse found → LacksCursor (seen b cs spans old way) text)
-missed_told b checked ranges cs spans old new way text steps (tree, spells, are) (Ok found) missed = λ no.
-    lacks b checked ranges cs spans old way text (none_stepped b checked ranges cs spans old.forest way.has text steps tree spells are (missed no).1)
-missed_told b checked ranges cs spans old new way text steps told (Err e) missed = missed
+    IfOk r (λ found. IsFalse found → LacksCursor (seen b lexemes cs spans old way) text)
+missed_told b checked ranges lexemes cs spans old new way text steps (tree, spells, are) (Ok found) missed = λ no.
+    lacks b checked ranges lexemes cs spans old way text (none_stepped b checked ranges lexemes cs spans old.forest way.has text steps tree spells are (missed no).1)
+missed_told b checked ranges lexemes cs spans old new way text steps told (Err e) missed = missed

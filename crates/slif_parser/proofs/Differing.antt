@@ -13,11 +13,11 @@ use Rattle.glade_laws.specs.Groups.{start_of}
 use Rattle.text_reading.specs.Parts.{HasForest}
 use Rattle.slif_parser.specs.Readings.{AreGladesOf}
 
-pub glades_read : (b : Built) (ranking : Ranking) (cs : List ℕ) (spans : List Span) (f : Forest) (has : HasForest b ranking cs spans f) (glades : List Glade) → AreGlades f.written f.edges (start_of f) f.place glades →
-    AreGladesOf (record { grammar = b; characters = cs; spans = spans }) glades
-glades_read b ranking cs spans f has glades are = record {
+pub glades_read : (b : Built) (ranking : Ranking) (lexemes cs : List ℕ) (spans : List Span) (f : Forest) (has : HasForest b lexemes ranking cs spans f) (glades : List Glade) → AreGlades f.written f.edges (start_of f) f.place glades →
+    AreGladesOf (record { grammar = b; lexemes = lexemes; characters = cs; spans = spans }) glades
+glades_read b ranking lexemes cs spans f has glades are = record {
   pieces = has.pieces;
-  reading = has.of.reading;
+  reading = has.reading;
   are = subst (λ (g : Grammar). AreGlades g (edges_of has.pieces) (slice_index_or g.starts 0 0) (earleme_after has.pieces) glades) has.of.written
       (subst (λ n. AreGlades f.written (edges_of has.pieces) (slice_index_or f.written.starts n 0) (earleme_after has.pieces) glades) has.of.start
       (subst (λ (es : List Edge). AreGlades f.written es (start_of f) (earleme_after has.pieces) glades) has.of.edges

@@ -19,9 +19,9 @@ use Rattle.slif_parser.specs.Readings.{AreAll, IsNext, IsPrefixOfAll}
 
 -- THE BEGINNING
 
-pub under_way : (b : Built) (cs : List ℕ) (spans : List Span) (f : Forest) (it : Iteration) → HasForest b f.ranking cs spans f → it ≡ begun f → AreGiven it [] → IsUnderWay b cs spans it
-under_way b cs spans f it has is none = record {
-  has = subst (λ (g : Forest). HasForest b g.ranking cs spans g) (sym (ap (λ (i : Iteration). i.forest) is)) has;
+pub under_way : (b : Built) (lexemes cs : List ℕ) (spans : List Span) (f : Forest) (it : Iteration) → HasForest b lexemes f.ranking cs spans f → it ≡ begun f → AreGiven it [] → IsUnderWay b lexemes cs spans it
+under_way b lexemes cs spans f it has is none = record {
+  has = subst (λ (g : Forest). HasForest b lexemes g.ranking cs spans g) (sym (ap (λ (i : Iteration). i.forest) is)) has;
   given = [];
   are = none;
   steps = subst (λ o. IfSome o (AreSteps b.g1 (length spans))) (sym (ap (λ (i : Iteration). i.current) is)) tt;
@@ -32,12 +32,12 @@ under_way b cs spans f it has is none = record {
 given_between : (it new : Iteration) (given : List Tree) → new ≡ between it → IsListing new.forest given → AreGiven it given → AreGiven new given
 given_between it new given is all are = subst (λ (i : Iteration). AreGiven i given) (sym is) (record { first = are.first; are_before = subst (λ (i : Iteration). IsListing i.forest given) is all })
 
-module _ (b : Built) (checked : IsChecked b.g1) (ranges : IsInRange b) (cs : List ℕ) (spans : List Span) where
-  module _ (old new : Iteration) (way : IsUnderWay b cs spans old) (same : new.forest ≡ old.forest) where
-    has_same : HasForest b new.forest.ranking cs spans new.forest
-    has_same = subst (λ (g : Forest). HasForest b g.ranking cs spans g) (sym same) way.has
+module _ (b : Built) (checked : IsChecked b.g1) (ranges : IsInRange b) (lexemes cs : List ℕ) (spans : List Span) where
+  module _ (old new : Iteration) (way : IsUnderWay b lexemes cs spans old) (same : new.forest ≡ old.forest) where
+    has_same : HasForest b lexemes new.forest.ranking cs spans new.forest
+    has_same = subst (λ (g : Forest). HasForest b lexemes g.ranking cs spans g) (sym same) way.has
 
-    answered : (more : Bool) → IsAnswer new way.given more → (more ≡ false → new ≡ between old) → IsUnderWay b cs spans new
+    answered : (more : Bool) → IsAnswer new way.given more → (more ≡ false → new ≡ between old) → IsUnderWay b lexemes cs spans new
     answered true (tree, are, is) end = record {
       has = has_same;
       given = way.given ++ tree ∷ [];
@@ -52,19 +52,19 @@ module _ (b : Built) (checked : IsChecked b.g1) (ranges : IsInRange b) (cs : Lis
       steps = subst (λ o. IfSome o (AreSteps b.g1 (length spans))) (sym (ap (λ (i : Iteration). i.current) (end refl))) tt;
     }
 
-  pub goes_on : {E : Type 0} (r : Result Bool E) (old new : Iteration) → IsUnderWay b cs spans old → new.forest ≡ old.forest → IfOk r (λ more. (given : List Tree) → AreGiven old given → IsAnswer new given more) →
-      IfOk r (λ more. IsFalse more → new ≡ between old) → OnErr r (new ≡ old) → IsUnderWay b cs spans new
+  pub goes_on : {E : Type 0} (r : Result Bool E) (old new : Iteration) → IsUnderWay b lexemes cs spans old → new.forest ≡ old.forest → IfOk r (λ more. (given : List Tree) → AreGiven old given → IsAnswer new given more) →
+      IfOk r (λ more. IsFalse more → new ≡ between old) → OnErr r (new ≡ old) → IsUnderWay b lexemes cs spans new
   goes_on (Ok more) old new way same answer end err = answered old new way same more (answer way.given way.are) end
-  goes_on (Err e) old new way same answer end err = subst (IsUnderWay b cs spans) (sym err) way
+  goes_on (Err e) old new way same answer end err = subst (IsUnderWay b lexemes cs spans) (sym err) way
 
 -- WHAT IS GIVEN
 
-module _ (b : Built) (cs : List ℕ) (spans : List Span) (it : Iteration) (way : IsUnderWay b cs spans it) where
+module _ (b : Built) (lexemes cs : List ℕ) (spans : List Span) (it : Iteration) (way : IsUnderWay b lexemes cs spans it) where
   abbrev pub seen : DerivationsOf
-  seen = record { read = record { grammar = b; characters = cs; spans = spans }; iteration = it }
+  seen = record { read = record { grammar = b; lexemes = lexemes; characters = cs; spans = spans }; iteration = it }
 
   pub all_of : (trees : List Tree) → IsListing it.forest trees → AreAll seen trees
-  all_of trees l = record { pieces = way.has.pieces; reading = way.has.of.reading; all = listed b it.forest.ranking cs spans it.forest way.has trees l }
+  all_of trees l = record { pieces = way.has.pieces; reading = way.has.reading; all = listed b lexemes it.forest.ranking cs spans it.forest way.has trees l }
 
   pub prefix_of_all : (given : List Tree) → AreGiven it given → IsPrefixOfAll seen given
   prefix_of_all given are = (are.first.rest, all_of (given ++ are.first.rest) are.first.listing)
@@ -76,7 +76,7 @@ module _ (b : Built) (cs : List ℕ) (spans : List Span) (it : Iteration) (way :
   -- the list of all is not empty
   some_listed : IsListing it.forest [] → ⊥
   some_listed l =
-      let all = listed b it.forest.ranking cs spans it.forest way.has [] l in
+      let all = listed b lexemes it.forest.ranking cs spans it.forest way.has [] l in
       let (k, lt, e) = (all.each way.has.tree).1 way.has.chosen in
       omega (arith, lt)
 
@@ -92,5 +92,5 @@ module _ (b : Built) (cs : List ℕ) (spans : List Span) (it : Iteration) (way :
 
 -- THE TOKENS
 
-pub spans_known : (b : Built) (checked : IsChecked b.g1) (ranges : IsInRange b) (cs : List ℕ) (spans : List Span) (it : Iteration) → IsUnderWay b cs spans it → AreSpans (length cs) spans
-spans_known b checked ranges cs spans it way = fitting.spans_are b checked ranges cs spans it.forest way.has.pieces way.has.of
+pub spans_known : (b : Built) (checked : IsChecked b.g1) (ranges : IsInRange b) (lexemes cs : List ℕ) (spans : List Span) (it : Iteration) → IsUnderWay b lexemes cs spans it → AreSpans (length cs) spans
+spans_known b checked ranges lexemes cs spans it way = fitting.spans_are b checked ranges cs spans it.forest way.has.pieces way.has.of

@@ -9,7 +9,7 @@ use Rattle.cursor_model.specs.Cursor.{cursor_of}
 use Rattle.language_model.specs.Building.{Built}
 use Rattle.grammar_core.specs.declared.steps.Span.{Span}
 use Rattle.glade_model.specs.Glades.{Glade, AreGlades}
-use Rattle.reading_model.specs.Reading.{Piece, End, IsReading, earleme_after, edges_of, spans_from}
+use Rattle.reading_model.specs.Reading.{Piece, End, IsReadingWith, earleme_after, edges_of, spans_from}
 use Rattle.run_model.specs.Inputs.{IsRead}
 use Rattle.run_model.specs.Listing.{AreDerivations}
 use Rattle.scanless.specs.Reading.{span_of}
@@ -19,18 +19,19 @@ use Rattle.valuator.specs.Play.{tokens_of}
 use Rattle.tree_fold.specs.Values.{HasValue, Fails, IsAsked}
 use Rattle.slif_parser.specs.Views.{Read, ForestOf, DerivationsOf}
 
--- the bytes are read to their end in these pieces, and this is seen of it
-pub record IsReadAs (b : Built) (bytes : List ℕ) (r : Read) : Type 0 where
+-- the bytes are read to their end in these pieces, with these lexemes given, and this is seen of it
+pub record IsReadAs (b : Built) (lexemes bytes : List ℕ) (r : Read) : Type 0 where
   pub grammar_is : r.grammar ≡ b
+  pub lexemes_are : r.lexemes ≡ lexemes
   pub characters_are : r.characters ≡ chars bytes
   pub pieces : List Piece
-  pub is : IsRead b bytes pieces
+  pub is : IsRead b lexemes bytes pieces
   pub spans_are : map span_of r.spans ≡ spans_from 0 pieces
 
 -- the forest of the derivations, of which there is one
 pub record IsForestAs (r : Read) (ranking : Ranking) (f : ForestOf) : Type 0 where
   pub read_is : f.read ≡ r
-  pub has : HasForest r.grammar ranking r.characters r.spans f.forest
+  pub has : HasForest r.grammar r.lexemes ranking r.characters r.spans f.forest
 
 -- no derivation was given yet
 pub record IsBegun (f : ForestOf) (d : DerivationsOf) : Type 0 where
@@ -41,7 +42,7 @@ pub record IsBegun (f : ForestOf) (d : DerivationsOf) : Type 0 where
 -- the list is that of all derivations, in the declared order
 pub record AreAll (d : DerivationsOf) (trees : List Tree) : Type 0 where
   pub pieces : List Piece
-  pub reading : IsReading d.read.grammar d.read.characters pieces End
+  pub reading : IsReadingWith d.read.grammar d.read.lexemes d.read.characters pieces End
   pub all : AreDerivations d.read.grammar d.iteration.forest.ranking pieces trees
 
 -- these are the first of them
@@ -75,7 +76,7 @@ pub record LacksCursor (d : DerivationsOf) (cursor : List ℕ) : Type 0 where
 -- where the derivations of what is read differ; the places count tokens
 pub record AreGladesOf (r : Read) (glades : List Glade) : Type 0 where
   pub pieces : List Piece
-  pub reading : IsReading r.grammar r.characters pieces End
+  pub reading : IsReadingWith r.grammar r.lexemes r.characters pieces End
   pub are : AreGlades r.grammar.g1 (edges_of pieces) (slice_index_or r.grammar.g1.starts 0 0) (earleme_after pieces) glades
 
 -- WHERE TOKENS LIE

@@ -10,7 +10,7 @@ ghost use Rattle.text_reading.specs.Parts.{HasForest};
 ghost use Rattle.tree_fold.specs.Failing.{IsFailure};
 ghost use Rattle.slif_parser.specs.Readings.{IsAt, IsNext, IsPrefixOfAll, LacksCursor, ValueBy, FailsBy, IsAskedBy};
 
-use crate::{FoldError, NoMemory, Semantics, Span, TreeStep};
+use crate::{FoldError, NoMemory, Semantics, Span, SymbolId, TreeStep};
 use scanless::Prepared;
 use slif_base::{Chars, Steps};
 use std::alloc::{AllocError, Global};
@@ -24,6 +24,7 @@ use tree_iter::TreeIter;
 #[derive(Drop)]
 pub struct Derivations<'f> {
     prepared: &'f Prepared,
+    lexemes: &'f [SymbolId],
     chars: &'f Chars,
     spans: &'f [Span],
     iter: TreeIter<'f>,
@@ -37,13 +38,15 @@ impl<'f> Model for Derivations<'f> {
     ghost view = { λ d. record {
       read = record {
         grammar = d.prepared.now;
+        lexemes = d.lexemes.now;
         characters = d.chars.now;
         spans = d.spans.now;
       };
       iteration = d.iter;
     } };
 
-    ghost invariant = { λ d. IsUnderWay d.prepared.now d.chars.now d.spans.now d.iter };
+    ghost invariant = { λ d. IsUnderWay d.prepared.now d.lexemes.now d.chars.now d.spans.now
+        d.iter };
 }
 
 // Goes on, on a counter of its own.
@@ -100,14 +103,17 @@ impl<'f> Derivations<'f> {
     pub(crate) fn of(
         alloc: Global,
         prepared: &'f Prepared,
+        lexemes: &'f [SymbolId],
         chars: &'f Chars,
         spans: &'f [Span],
         forest: &'f bocage::Forest<'f>,
     ) -> Result<Derivations<'f>, NoMemory>
-        requires { HasForest prepared.now forest.now.ranking chars.now spans.now forest.now }
+        requires { HasForest prepared.now lexemes.now forest.now.ranking chars.now spans.now
+            forest.now }
         ensures view { IfOk result (λ d. d ≡ record {
           read = record {
             grammar = prepared.now;
+            lexemes = lexemes.now;
             characters = chars.now;
             spans = spans.now;
           };
@@ -118,6 +124,7 @@ impl<'f> Derivations<'f> {
         let iter = TreeIter::new(alloc, forest)?;
         Ok(Derivations {
             prepared,
+            lexemes,
             chars,
             spans,
             iter,

@@ -6,7 +6,7 @@ ghost use Rattle.slif_parser.specs.Readings.{AreGladesOf, IsForestAs, IsBegun, e
 
 use crate::{Derivations, NoMemory, Ranking, Reading};
 use glades::{Glade, report_glades};
-use grammar_core::Span;
+use grammar_core::{Span, SymbolId};
 use scanless::Prepared;
 use slif_base::{Chars, Steps};
 use std::alloc::Global;
@@ -18,6 +18,7 @@ use text_reading::{Refusal, forest_of};
 #[derive(Drop)]
 pub struct Forest<'r> {
     prepared: &'r Prepared,
+    lexemes: &'r [SymbolId],
     chars: &'r Chars,
     spans: &'r [Span],
     forest: bocage::Forest<'r>,
@@ -32,14 +33,15 @@ impl<'r> Model for Forest<'r> {
     ghost view = { λ f. record {
       read = record {
         grammar = f.prepared.now;
+        lexemes = f.lexemes.now;
         characters = f.chars.now;
         spans = f.spans.now;
       };
       forest = f.forest;
     } };
 
-    ghost invariant = { λ f. HasForest f.prepared.now f.forest.ranking f.chars.now f.spans.now
-        f.forest };
+    ghost invariant = { λ f. HasForest f.prepared.now f.lexemes.now f.forest.ranking f.chars.now
+        f.spans.now f.forest };
 }
 
 /// Builds the forest of a reading, on a counter of its own.
@@ -54,7 +56,8 @@ pub fn forest_with<'r, L: Ledger>(
     requires some { 0 < blank.parts }
     ensures forest { IfOk result (IsForestAs reading.now ranking) }
     ensures refused { IfErr result (TellsInput
-        (IsNoDerivation reading.now.grammar ranking reading.now.characters)) }
+        (IsNoDerivation reading.now.grammar reading.now.lexemes ranking
+        reading.now.characters)) }
 {
     let mut steps = Steps::<L>::of_blank(blank);
     match forest_of(
@@ -68,6 +71,7 @@ pub fn forest_with<'r, L: Ledger>(
     ) {
         Ok(forest) => Ok(Forest {
             prepared: reading.prepared,
+            lexemes: reading.lexemes.as_slice(),
             chars: &reading.chars,
             spans: reading.tokens.spans.as_slice(),
             forest,
@@ -98,7 +102,14 @@ impl<'r> Forest<'r> {
     pub fn derivations(&self, alloc: Global) -> Result<Derivations<'_>, NoMemory>
         ensures { IfOk result (IsBegun self.now) }
     {
-        Derivations::of(alloc, self.prepared, self.chars, self.spans, &self.forest)
+        Derivations::of(
+            alloc,
+            self.prepared,
+            self.lexemes,
+            self.chars,
+            self.spans,
+            &self.forest,
+        )
     }
 
     /// Where the derivations differ: each symbol over tokens that a derivation uses and whose trees have more than one shape, with the first

@@ -8,6 +8,7 @@ mod forest;
 mod grammar;
 mod reading;
 mod rules;
+mod supplying;
 
 pub use derivations::Derivations;
 pub use error::ParseError;
@@ -17,6 +18,7 @@ pub use grammar::Grammar;
 pub use grammar_core::{RuleId, Span, SymbolId, TreeStep};
 pub use grammar_model::Ranking;
 pub use reading::Reading;
+pub use slippers::{ListSupplier, Supplier};
 pub use std::alloc::AllocError as NoMemory;
 pub use text_reading::Place;
 pub use tree_fold::{FoldError, Semantics, Token};

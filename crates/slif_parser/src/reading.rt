@@ -1,13 +1,14 @@
 //! An input that is read to its end.
-ghost use Rattle.std.specs.Prelude.{◌≡◌, ◌<◌, IfOk, IfErr, OnOk, IsUtf8, chars as chars_in};
+ghost use Rattle.std.specs.Prelude.{◌≡◌, ◌<◌, [], IfOk, IfErr, OnOk, IsUtf8, chars as chars_in};
 ghost use Rattle.text_reading.specs.Refusals.{IsInputRefusedAt, IsNoDerivation, TellsInput as TellsRefusal};
 ghost use Rattle.text_reading.specs.Parts.{IsBrokenText};
 ghost use Rattle.slif_parser.specs.Errors.{TellsInput};
 ghost use Rattle.slif_parser.specs.Readings.{IsReadAs, IsForestAs};
+ghost use Rattle.slif_parser.specs.Views.{IsHeld};
 
 use crate::error::error_of;
 use crate::forest::forest_with;
-use crate::{Forest, ParseError, Ranking};
+use crate::{Forest, NoMemory, ParseError, Ranking, SymbolId};
 use bumpalo::Bump;
 use grammar_model::LONGEST_INPUT;
 use scanless::Prepared;
@@ -17,9 +18,11 @@ use std::marker::{Brand, Model};
 use std::sync::ledger::{Blank, Ledger};
 use text_reading::{Refusal, input_chars, input_too_long, read_text};
 
-/// An input that is read to its end. It is seen as the grammar, the characters, and the spans of the tokens.
+/// An input that is read to its end. It is seen as the grammar, the lexemes that were given for it, the characters, and the spans of the
+/// tokens.
 pub struct Reading<'g> {
     pub(crate) prepared: &'g Prepared,
+    pub(crate) lexemes: Vec<SymbolId>,
     pub(crate) chars: Chars,
     pub(crate) tokens: scanless::Reading<'g>,
     pub(crate) arena: Bump,
@@ -30,6 +33,7 @@ impl<'g> Drop for Reading<'g> {
     fn drop(self) {
         let Reading {
             prepared: _,
+            lexemes: _,
             chars: _,
             tokens: _,
             arena: _,
@@ -44,20 +48,53 @@ impl<'g> Model for Reading<'g> {
 
     ghost view = { λ r. record {
       grammar = r.prepared.now;
+      lexemes = r.lexemes.items;
       characters = r.chars;
       spans = r.tokens.spans.items;
     } };
 
-    ghost invariant = { λ r. IsHeld r.prepared.now r.chars r.tokens.recce r.tokens.spans.items };
+    ghost invariant = { λ r. IsHeld r.prepared.now r.lexemes.items r.chars r.tokens.recce
+        r.tokens.spans.items };
 }
 
-// The characters of an input, which is copied.
-fn copied_chars(alloc: Global, input: &[u8]) -> Result<Chars, Refusal>
+/// The characters of an input, which is copied.
+pub fn copied_chars(alloc: Global, input: &[u8]) -> Result<Chars, Refusal>
     ensures utf8 { OnOk result (IsUtf8 input.now) }
     ensures ok { IfOk result (λ chars. chars ≡ chars_in input.now) }
     ensures refused { IfErr result (TellsRefusal (IsBrokenText input.now)) }
 {
     input_chars(alloc, Vec::from_slice(alloc, input)?)
+}
+
+/// What is read of an input, with the lexemes that were given, which are copied.
+pub fn reading_of<'g>(
+    alloc: Global,
+    prepared: &'g Prepared,
+    lexemes: &[SymbolId],
+    chars: Chars,
+    tokens: scanless::Reading<'g>,
+) -> Result<Reading<'g>, NoMemory>
+    requires { IsHeld prepared.now lexemes.now chars tokens.recce tokens.spans.items }
+    ensures { IfOk result (λ r. r ≡ record {
+      grammar = prepared.now;
+      lexemes = lexemes.now;
+      characters = chars;
+      spans = tokens.entry.spans.items;
+    }) }
+{
+    match Vec::from_slice(alloc, lexemes) {
+        Ok(lexemes) => Ok(Reading {
+            prepared,
+            lexemes,
+            chars,
+            tokens,
+            arena: Bump::new(alloc),
+        }),
+        Err(error) => {
+            drop(tokens);
+            Err(error)
+        }
+    }
 }
 
 /// Reads the bytes of an input, on a counter of its own.
@@ -70,11 +107,11 @@ pub fn read_bytes<'g, L: Ledger>(
     requires name { blank.name ≡ L.name }
     requires parts { blank.parts ≡ L.parts }
     requires some { 0 < blank.parts }
-    ensures read { IfOk result (IsReadAs prepared.now input.now) }
-    ensures refused { IfErr result (TellsRefusal (IsInputRefusedAt prepared.now input.now)) }
+    ensures read { IfOk result (IsReadAs prepared.now [] input.now) }
+    ensures refused { IfErr result (TellsRefusal (IsInputRefusedAt prepared.now [] input.now)) }
 {
     if input.len() > LONGEST_INPUT {
-        return Err(input_too_long(alloc));
+        return Err(input_too_long(alloc, LONGEST_INPUT));
     }
     let chars = match copied_chars(alloc, input) {
         Ok(chars) => chars,
@@ -84,6 +121,7 @@ pub fn read_bytes<'g, L: Ledger>(
     match read_text(alloc, prepared, &chars, &mut steps) {
         Ok(tokens) => Ok(Reading {
             prepared,
+            lexemes: Vec::new(alloc),
             chars,
             tokens,
             arena: Bump::new(alloc),
@@ -98,7 +136,7 @@ impl<'g> Reading<'g> {
     pub fn forest(&self, alloc: Global, ranking: Ranking) -> Result<Forest<'_>, ParseError>
         ensures forest { IfOk result (IsForestAs self.now ranking) }
         ensures refused { IfErr result (TellsInput
-            (IsNoDerivation self.now.grammar ranking self.now.characters)) }
+            (IsNoDerivation self.now.grammar self.now.lexemes ranking self.now.characters)) }
     {
         match forest_with::<Brand>(Blank::new(1), alloc, self, ranking) {
             Ok(forest) => Ok(forest),

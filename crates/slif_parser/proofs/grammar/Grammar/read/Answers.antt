@@ -1,4 +1,4 @@
-use Rattle.std.proofs.Common.{subst}
+use Rattle.std.proofs.Common.{subst, []}
 use Rattle.text_reading.specs.Refusals.{IsInputRefusedAt}
 use Rattle.slif_parser.specs.Errors.{TellsInput}
 use Rattle.slif_parser.proofs.Telling.{input_told}
@@ -6,5 +6,5 @@ use Rattle.slif_parser.proofs.grammar.Grammar.read.Goals as goal
 
 pub returns-in-Err-clause-refused : goal.returns-in-Err-clause-refused
 returns-in-Err-clause-refused c =
-    subst (λ b. TellsInput (IsInputRefusedAt b c.args.input.now) c.error_of.result) c.self.view_is
-    (input_told (IsInputRefusedAt c.self.inside.prepared c.args.input.now) c.in-Err.refusal c.error_of.result c.error_of.ensures c.in-Err.ensures.refused)
+    subst (λ b. TellsInput (IsInputRefusedAt b [] c.args.input.now) c.error_of.result) c.self.view_is
+    (input_told (IsInputRefusedAt c.self.inside.prepared [] c.args.input.now) c.in-Err.refusal c.error_of.result c.error_of.ensures c.in-Err.ensures.refused)
