@@ -61,7 +61,7 @@ returns-clause-done g c =
     on_ok_weaker c.tell_reading-told.result
     (does_weaker (TellsReading what b given c.in_ok-chars.chars) (IsInputOutcome what b given bytes)
     (λ o told. input_told what b given bytes text o (subst (λ (cs : List ℕ). TellsReading what b given cs o) c.in_ok-chars.ensures.ok told)) _ _)
-    c.tell_reading-told.ensures.done
+    (c.tell_reading-told.ensures.done given c.in_ok-reading.ensures.read)
 
 pub returns-clause-stops : goal.returns-clause-stops
 returns-clause-stops g c =
@@ -70,7 +70,7 @@ returns-clause-stops g c =
     let what = telling_of c.args.what in
     let given = c.args.lexemes.now in
     let text : IsInputText (input_limit given) bytes = record { within = c.requires.few; utf8 = c.in_ok-chars.ensures.utf8 } in
-    MatchResult-weaker c.tell_reading-told.result c.tell_reading-told.ensures.stops (λ _ x. x)
+    MatchResult-weaker c.tell_reading-told.result (c.tell_reading-told.ensures.stops given c.in_ok-reading.ensures.read) (λ _ x. x)
     (stops_weaker (TellsReading what b given c.in_ok-chars.chars) (IsInputOutcome what b given bytes)
     (λ o told. input_told what b given bytes text o (subst (λ (cs : List ℕ). TellsReading what b given cs o) c.in_ok-chars.ensures.ok told))
     (λ name. ⊥) (λ name. ⊥) ⊥ ⊥ (λ name x. x) (λ x. x)
@@ -83,6 +83,6 @@ returns-clause-counted g c =
     let given = c.args.lexemes.now in
     let text : IsInputText (input_limit given) c.args.bytes.items = record { within = c.requires.few; utf8 = c.in_ok-chars.ensures.utf8 } in
     on_ok_weaker c.tell_reading-told.result
-    (λ goes. bytes_within what b given c.args.bytes.items text c.in_ok-reading.reading.recce c.args.steps.now c.read_text.new.steps c.tell_reading-told.new.steps c.in_ok-reading.ensures.counted
-    (subst (λ (cs : List ℕ). GoesOnWithin what b given cs c.in_ok-reading.reading.recce c.read_text.new.steps c.tell_reading-told.new.steps) c.in_ok-chars.ensures.ok goes))
-    c.tell_reading-told.ensures.counted
+    (λ goes. bytes_within what b given c.args.bytes.items text c.in_ok-reading.reading.recce c.args.steps.now c.read_with.new.steps c.tell_reading-told.new.steps c.in_ok-reading.ensures.counted
+    (subst (λ (cs : List ℕ). GoesOnWithin what b given cs c.in_ok-reading.reading.recce c.read_with.new.steps c.tell_reading-told.new.steps) c.in_ok-chars.ensures.ok goes))
+    (c.tell_reading-told.ensures.counted given c.in_ok-reading.ensures.read)
