@@ -85,6 +85,7 @@ def jobs():
     yield "work", ["work", "--size", "1000"], b"", 0
     yield "glades", ["glades", "--grammar", str(ROOT / "examples/sum.slif")], b"1+1+1+1+1+1", 0
     yield "script", ["script"], b"symbol S\nsymbol a\nrule S S a\nrule S a\nstart S\nprecompute\n" + b"alternative a 1\ncomplete\n" * 100 + b"report 100\ntrees 1\n", 0
+    yield "slip", ["slip", "--grammar", JSON, "--give", "':','}'"], text[:1000], None
     yield "no job", ["nothing"], b"", 2
     yield "stopped", ["run", "--grammar", JSON], b'["a", \x01]', 1
 

@@ -75,6 +75,7 @@ def cases():
     yield "work", ["work", "--size", "3"], b"", None
     yield "glades", ["glades", "--grammar", str(examples / "sum.slif")], b"1+1+1+1", None
     yield "script", ["script"], SCRIPT, None
+    yield "slip", ["slip", "--grammar", "{}", "--give", "semi"], b"12;3", "S ::= X+\nX ::= N semi\nN ~ [\\d]\nsemi ~ ';'\n"
     yield "usage", ["nothing"], b"", None
     yield "stopped", ["run", "--grammar", json], b"[1, ?]", None
     yield "statement", ["check", "--grammar", "{}"], b"", broken

@@ -1,6 +1,7 @@
 //! The outside fails at each call in turn.
 use crate::devices::{CANNOT_READ, CANNOT_WRITE, Case, all_break, line_breaks};
 use crate::runs::{ends, run_of};
+use crate::suppliers::{SEMICOLON_LINES, SEMICOLONS};
 use run_scenes::{
     CHECKED, CHECKED_LINES, COMPARED, COMPARED_LINES, COUNTED, COUNTED_LINES, Device, EXPECTED,
     EXPECTED_LINES, Given, REPORTED, REPORTED_LINES, SCRIPT, SCRIPTED, SCRIPTED_LINES, SUM,
@@ -44,7 +45,7 @@ const NAMED_SCRIPTED: Given<'static> = Given {
 // script eight) and one that finds nothing.
 type Job = (Given<'static>, &'static [u8], u8, u8);
 
-static JOBS: [Job; 14] = [
+static JOBS: [Job; 15] = [
     (SUM, SUM_LINES, 3, 4),
     (COUNTED, COUNTED_LINES, 3, 4),
     (TREES, TREE_LINES, 3, 4),
@@ -59,6 +60,7 @@ static JOBS: [Job; 14] = [
     (NAMED_COMPARED, COMPARED_LINES, 6, 0),
     (SCRIPTED, SCRIPTED_LINES, 0, 18),
     (NAMED_SCRIPTED, SCRIPTED_LINES, 3, 0),
+    (SEMICOLONS, SEMICOLON_LINES, 3, 3),
 ];
 
 // Whether each call of a device fails as it should in a job.

@@ -1,6 +1,7 @@
 //! Grammars and inputs that are a byte too long, and such as are just not.
 use crate::devices::{CANNOT_READ, Case, all_break};
 use crate::runs::ends;
+use crate::suppliers::SEMICOLONS;
 use run_scenes::{
     CHECKED, COMPARED, Device, EXPECTED, Given, REPORTED, SCRIPTED, SUM, SUMS, TREES,
 };
@@ -11,9 +12,14 @@ const LONGEST_GRAMMAR: usize = 1_048_576;
 
 const LONGEST_INPUT: usize = 16_777_216;
 
+// Of job `slip`.
+const LONGEST_GIVEN: usize = 1_048_576;
+
 const LONG_GRAMMAR: &[u8] = b"slif: grammar: longer than 1048576 bytes\n";
 
 const LONG_INPUT: &[u8] = b"slif: input is longer than 16777216 bytes\n";
+
+const LONG_GIVEN: &[u8] = b"slif: input is longer than 1048576 bytes\n";
 
 const CHECKED_SUMS: &[u8] = b"accepted: 2 rules, 2 lexemes, 0 discards\nE\n";
 
@@ -226,5 +232,24 @@ fn a_script_is_as_long_as_it_may_be(rt: HostRuntime) -> Result<(), Fail> {
         ..SCRIPTED
     };
     assert!(rt; ends(alloc, &given, 0, b"bad line\n", b"")?);
+    Ok(())
+}
+
+// Whether job `slip` ends so over an input.
+fn supplied_ends(alloc: Global, input: &[u8], line: &[u8]) -> Result<bool, AllocError> {
+    let given = Given {
+        input,
+        gives: GIVES,
+        ..SEMICOLONS
+    };
+    ends(alloc, &given, 1, b"", line)
+}
+
+#[test]
+fn an_input_with_lexemes_given_is_too_long(rt: HostRuntime) -> Result<(), Fail> {
+    let alloc = rt.alloc();
+    let long = letters(alloc, LONGEST_GIVEN + 1)?;
+    assert!(rt; supplied_ends(alloc, &long, LONG_GIVEN)?);
+    assert!(rt; supplied_ends(alloc, &long[..LONGEST_GIVEN], STOPPED)?);
     Ok(())
 }

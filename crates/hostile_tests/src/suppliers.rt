@@ -34,14 +34,15 @@ impl Supplier for Refusing {
 
 const OUT_OF_MEMORY: &[u8] = b"slif: out of memory\n";
 
-const SEMICOLONS: Given<'static> = Given {
+/// Two of three semicolons are supplied.
+pub(crate) const SEMICOLONS: Given<'static> = Given {
     words: &["slip", "--grammar", "g.slif", "--give", "semi"],
     grammar: b":default ::= action => ::array\nS ::= X+\nX ::= N semi\nN ~ [\\d]\nsemi ~ ';'\n",
     input: b"12;3",
     ..SUM
 };
 
-const SEMICOLON_LINES: &[u8] = b"[[\"1\",\"\"],[\"2\",\";\"],[\"3\",\"\"]]\n";
+pub(crate) const SEMICOLON_LINES: &[u8] = b"[[\"1\",\"\"],[\"2\",\";\"],[\"3\",\"\"]]\n";
 
 fn supplier_refusing(
     alloc: Global,
