@@ -49,19 +49,27 @@ fn is_more_left_out(asked: MoreAsked<'_>) -> bool {
         && asked.after == "0"
 }
 
-// Whether the task is the one that is wanted.
+// Whether what is told is what is wanted.
+fn is_telling(what: Telling<'_>, wanted: Asked) -> bool {
+    match (what, wanted) {
+        (Telling::Values(asked), Asked::AllGiven) => is_all_given(asked),
+        (Telling::Values(asked), Asked::AllLeftOut) => is_all_left_out(asked),
+        (Telling::Expected, Asked::Expect) => true,
+        (Telling::Report { at }, Asked::Progress) => at == 16_777_216,
+        (Telling::Glades, Asked::Glades) => true,
+        (Telling::More(asked), Asked::MoreGiven) => is_more_given(asked),
+        (Telling::More(asked), Asked::MoreLeftOut) => is_more_left_out(asked),
+        _ => false,
+    }
+}
+
+// Whether the task is the one that is wanted, with nothing supplied.
 fn is_task(task: Task<'_>, wanted: Asked) -> bool {
     match (task, wanted) {
-        (Task::Tell(Telling::Values(asked)), Asked::AllGiven) => is_all_given(asked),
-        (Task::Tell(Telling::Values(asked)), Asked::AllLeftOut) => is_all_left_out(asked),
+        (Task::Tell { given: None, what }, _) => is_telling(what, wanted),
         (Task::Check, Asked::Check) => true,
-        (Task::Tell(Telling::Expected), Asked::Expect) => true,
-        (Task::Tell(Telling::Report { at }), Asked::Progress) => at == 16_777_216,
-        (Task::Tell(Telling::Glades), Asked::Glades) => true,
         (Task::Work { size }, Asked::Work) => size == 100_000,
         (Task::Script, Asked::Script) => true,
-        (Task::Tell(Telling::More(asked)), Asked::MoreGiven) => is_more_given(asked),
-        (Task::Tell(Telling::More(asked)), Asked::MoreLeftOut) => is_more_left_out(asked),
         _ => false,
     }
 }
