@@ -1,4 +1,4 @@
--- The hidden items that are given for a place are the expanded ones.
+-- The hidden items that are given for a place are expanded ones.
 use Rattle.std.proofs.Common.{◌≡◌, ◌≢◌, ◌⊎◌, inl, inr, ◌↔◌, ℕ, zero, suc, ◌+◌, ◌<◌, ◌≤◌, List, [], ◌∷◌, Some, length, map, take, get_or, Contains, slice_get, refl, sym, ◌∙◌, ap, subst, arith}
 use Rattle.std.specs.Prelude.{sum}
 use Rattle.std.proofs.lemmas.Bool.{cases_lt}
@@ -17,17 +17,17 @@ use Rattle.recognizer_model.specs.Nodes.{Placed}
 use Rattle.recognizer_model.proofs.Over.{hidden_whole}
 use Rattle.earley_sets.specs.Recognizer.{Recognizer, IsRecognizer, earleme_of, set_at, edges_of, top_of}
 use Rattle.earley_sets.proofs.Membership.{found_at}
-use Rattle.forest_parts.specs.Hidden.{IsHiddenFrom, RisesWithin, RisesBy}
+use Rattle.forest_parts.specs.Hidden.{IsHiddenFrom, RisesWithin}
 use Rattle.forest_parts.proofs.Sets.{at_top, goes}
 use Rattle.bocage.specs.declared.rows.AlternativeRow.{AlternativeRow}
 use Rattle.bocage.specs.declared.walk.Found.{Found}
 use Rattle.bocage.specs.Walk.{IsRead, IsUsedIn, node_of_item, top_key}
 use Rattle.bocage.specs.Chains.{EndsAt}
 use Rattle.bocage.specs.Ends.{IsGoing}
-use Rattle.bocage.specs.Expanded.{IsExpandedIn, IsExpandedAt, IsExpandedFrom}
+use Rattle.bocage.specs.Expanded.{IsExpandedIn, IsGivenIn, IsGivenAt, IsGivenFrom}
 use Rattle.bocage.proofs.Splits.{used_met, used_within}
 use Rattle.bocage.proofs.Asking.{IsAsked, asked, least_asked}
-use Rattle.forest_parts.proofs.Counting.{at_place, none_at_least, none_counted, at_least_of, count_of, at_least_both, count_both, at_least_placed, count_placed}
+use Rattle.forest_parts.proofs.Counting.{at_place, none_counted, rises_none, at_least_of, count_of, at_least_both, count_both, at_least_placed, count_placed}
 
 module _ (w : Grammar) (ranking : Ranking) (r : Recognizer) (read : IsRead w r) (end first : ℕ) (f : Found) (table : List (List AlternativeRow)) (going : IsGoing w ranking r end first f table) (nodes : List ℕ)
     (listed : (n : ℕ) → Contains nodes n ↔ ((n < first) × EndsAt f.keys.keys end n)) where
@@ -54,10 +54,6 @@ module _ (w : Grammar) (ranking : Ranking) (r : Recognizer) (read : IsRead w r) 
       let e : other ≡ key = cc in
       (going.used key (got_item f.keys.keys n key (sym at)), sym (ap (λ (z : NodeKey). z.end) e) ∙ same)
 
-  -- where no node is listed nothing is expanded
-  pub none_expanded : end ≢ earleme_of r → ((n : ℕ) → Contains nodes n → ⊥) → (item : Item) → IsExpandedAt w ranking r end item → ⊥
-  none_expanded inner none item (hidden, (key, used, same, le)) = let (n, k, h, at, low) = reached inner key used same in none n h
-
   -- the least origin is that of one of the listed nodes
   pub least_met : (lowest least : ℕ) → end ≢ earleme_of r → lowest ≡ end → 0 < length nodes → least ≤ lowest →
       (least ≡ lowest) ⊎ ((n : ℕ) × (key : NodeKey) × Contains nodes n × (slice_get f.keys.keys n ≡ Some key) × (key.origin ≡ least)) →
@@ -70,97 +66,50 @@ module _ (w : Grammar) (ranking : Ranking) (r : Recognizer) (read : IsRead w r) 
       let low = (used_within w ranking r read key used).forward in
       (key, used, same, omega arith)
 
-  module _ (least : ℕ) (low : (n : ℕ) (key : NodeKey) → Contains nodes n → slice_get f.keys.keys n ≡ Some key → least ≤ key.origin) (whole : end ≡ earleme_of r → least ≡ 0)
-      (met : end ≢ earleme_of r → (key : NodeKey) × IsUsedIn w ranking r key × (key.end ≡ end) × (key.origin ≤ least)) where
-    -- at any place, or at the last one
-    same_or_not : (end ≡ earleme_of r) ⊎ (end ≢ earleme_of r)
-    same_or_not = elim (cases_lt end (earleme_of r)) [
-      | inl lt ↦ inr (λ e. let q : end ≡ earleme_of r = e in absurd (omega arith))
-      | inr ge ↦ elim (cases_lt (earleme_of r) end) [ inl gt ↦ inr (λ e. let q : end ≡ earleme_of r = e in absurd (omega arith)) | inr le ↦ inl (omega arith) ]
-    ]
+  -- at any place, or at the last one
+  same_or_not : (end ≡ earleme_of r) ⊎ (end ≢ earleme_of r)
+  same_or_not = elim (cases_lt end (earleme_of r)) [
+    | inl lt ↦ inr (λ e. let q : end ≡ earleme_of r = e in absurd (omega arith))
+    | inr ge ↦ elim (cases_lt (earleme_of r) end) [ inl gt ↦ inr (λ e. let q : end ≡ earleme_of r = e in absurd (omega arith)) | inr le ↦ inl (omega arith) ]
+  ]
 
-    pub hidden_expanded : (item : Item) → IsHiddenFrom r end least item → IsExpandedAt w ranking r end item
-    hidden_expanded item (hidden, le) = (
-      hidden,
-      elim same_or_not [
-        | inl e ↦
-            let lt = (hidden_whole r.flat (edges_of r) (top_of r) (at_top r read.is) (goes r read.is) hidden).1 in
-            (top_key r, going.used (top_key r) (going.top (omega arith)), sym e, omega arith)
-        | inr inner ↦ let (key, used, same, below) = met inner in (key, used, same, omega arith)
-      ],
-    )
-
-    pub expanded_hidden : (item : Item) → IsExpandedAt w ranking r end item → IsHiddenFrom r end least item
-    expanded_hidden item (hidden, (key, used, same, le)) = (
-      hidden,
-      elim same_or_not [
-        | inl e ↦ let z = whole e in omega arith
-        | inr inner ↦ let (n, k, h, at, below) = reached inner key used same in let l = low n k h at in omega arith
-      ],
-    )
-
-  -- what was given for the place is what is expanded there
-  pub given_expanded : (lowest least : ℕ) → ((n : ℕ) (key : NodeKey) → Contains nodes n → slice_get f.keys.keys n ≡ Some key → least ≤ key.origin) → least ≤ lowest →
-      (least ≡ lowest) ⊎ ((n : ℕ) × (key : NodeKey) × Contains nodes n × (slice_get f.keys.keys n ≡ Some key) × (key.origin ≡ least)) →
-      (end ≡ earleme_of r → lowest ≡ 0) → (end ≢ earleme_of r → (lowest ≡ end) × (0 < length nodes)) → (item : Item) → IsHiddenFrom r end least item ↔ IsExpandedAt w ranking r end item
-  given_expanded lowest least low le met whole inner item =
-      let whole' : end ≡ earleme_of r → least ≡ 0 = λ e. (let z = whole e in omega arith) in
-      let met' : end ≢ earleme_of r → (key : NodeKey) × IsUsedIn w ranking r key × (key.end ≡ end) × (key.origin ≤ least) = λ n. (let (is, some) = inner n in least_met lowest least n is some le met) in
-      (hidden_expanded least low whole' met' item, expanded_hidden least low whole' met' item)
+  -- what is given for the place is expanded there
+  pub given_expanded : (lowest least : ℕ) → least ≤ lowest → (least ≡ lowest) ⊎ ((n : ℕ) × (key : NodeKey) × Contains nodes n × (slice_get f.keys.keys n ≡ Some key) × (key.origin ≡ least)) →
+      (end ≢ earleme_of r → (lowest ≡ end) × (0 < length nodes)) → (item : Item) → IsHiddenFrom r end least item → IsExpandedIn w ranking r (at_place end item)
+  given_expanded lowest least le met inner item (hidden, late) = (
+    hidden,
+    elim same_or_not [
+      | inl e ↦
+          let lt = (hidden_whole r.flat (edges_of r) (top_of r) (at_top r read.is) (goes r read.is) hidden).1 in
+          (top_key r, going.used (top_key r) (going.top (omega arith)), sym e, omega arith)
+      | inr n ↦
+          let (is, some) = inner n in
+          let (key, used, same, below) = least_met lowest least n is some le met in
+          (key, used, same, omega arith)
+    ],
+  )
 
 -- one place more
 module _ (w : Grammar) (ranking : Ranking) (r : Recognizer) where
   abbrev at_end : (end : ℕ) → Placed → Type 0
-  at_end end p = IsExpandedIn w ranking r p × (p.place ≡ end)
+  at_end end p = IsGivenIn w ranking r p × (p.place ≡ end)
 
-  here : (end : ℕ) (item : Item) → IsExpandedAt w ranking r end item → at_end end (at_place end item)
+  here : (end : ℕ) (item : Item) → IsGivenAt w ranking r end item → at_end end (at_place end item)
   here end item h = (h, refl)
 
-  out : (end : ℕ) (p : Placed) → at_end end p → (p.place ≡ end) × IsExpandedAt w ranking r end p.item
-  out end p (h, e) = (e, subst (λ (z : Placed). IsExpandedIn w ranking r z) (λ i. record { place = e i; item = p.item }) h)
-
-  apart : (end : ℕ) (p : Placed) → IsExpandedFrom w ranking r (suc end) p → at_end end p → ⊥
-  apart end p (h, le) (h', e) = absurd (omega arith)
-
-  later : (end : ℕ) (p : Placed) → IsExpandedFrom w ranking r (suc end) p → IsExpandedFrom w ranking r end p
-  later end p (h, le) = (h, omega arith)
-
-  now : (end : ℕ) (p : Placed) → at_end end p → IsExpandedFrom w ranking r end p
-  now end p (h, e) = (h, omega arith)
-
-  parted : (end : ℕ) (p : Placed) → IsExpandedFrom w ranking r end p → IsExpandedFrom w ranking r (suc end) p ⊎ at_end end p
-  parted end p (h, le) = elim (cases_lt end p.place) [ inl lt ↦ inl (h, omega arith) | inr ge ↦ inr (h, omega arith) ]
-
-  pub within_more : (end k l m : ℕ) → RisesWithin (IsExpandedFrom w ranking r (suc end)) k l → RisesWithin (IsExpandedAt w ranking r end) l m → RisesWithin (IsExpandedFrom w ranking r end) k m
+  pub within_more : (end k l m : ℕ) → RisesWithin (IsGivenFrom w ranking r (suc end)) k l → RisesWithin (IsGivenAt w ranking r end) l m → RisesWithin (IsGivenFrom w ranking r end) k m
   within_more end k l m (a, some, e) (b, more, e') = (
     a + b,
-    at_least_both (IsExpandedFrom w ranking r (suc end)) (at_end end) (IsExpandedFrom w ranking r end) (apart end) (later end) (now end) a b some (at_least_placed end (IsExpandedAt w ranking r end) (at_end end) (here end) b more),
+    at_least_both (IsGivenFrom w ranking r (suc end)) (at_end end) (IsGivenFrom w ranking r end) (λ p (h, le) (h', e). absurd (omega arith)) (λ p (h, le). (h, omega arith)) (λ p (h, e). (h, omega arith)) a b some
+        (at_least_placed end (IsGivenAt w ranking r end) (at_end end) (here end) b more),
     omega arith,
   )
 
-  pub count_more : (end k l : ℕ) → IsCountOf (IsExpandedFrom w ranking r (suc end)) k → RisesBy (IsExpandedAt w ranking r end) k l → IsCountOf (IsExpandedFrom w ranking r end) l
-  count_more end k l some (n, more, e) =
-      subst (λ z. IsCountOf (IsExpandedFrom w ranking r end) z) (sym e)
-      (count_both (IsExpandedFrom w ranking r (suc end)) (at_end end) (IsExpandedFrom w ranking r end) (apart end) (later end) (now end) k n (parted end) some (count_placed end (IsExpandedAt w ranking r end) (at_end end) (here end) n (out end) more))
+  pub within_first : (end k l : ℕ) → RisesWithin (IsGivenAt w ranking r end) k l → RisesWithin (IsGivenFrom w ranking r end) k l
+  within_first end k l h = within_more end k k l (rises_none (IsGivenFrom w ranking r (suc end)) k) h
 
-  -- after the last place nothing is expanded
-  pub none_behind : IsRead w r → IsCountOf (IsExpandedFrom w ranking r (suc (earleme_of r))) 0
-  none_behind read = none_counted (IsExpandedFrom w ranking r (suc (earleme_of r))) (λ p ((hidden, (key, used, same, low)), le). (let w = (used_within w ranking r read key used).inside in absurd (omega arith)))
-
-  pub none_within : (k : ℕ) → RisesWithin (IsExpandedFrom w ranking r (suc (earleme_of r))) k k
-  none_within k = (0, none_at_least (IsExpandedFrom w ranking r (suc (earleme_of r))), omega arith)
-
-  pub within_first : (end k l : ℕ) → end ≡ earleme_of r → RisesWithin (IsExpandedAt w ranking r end) k l → RisesWithin (IsExpandedFrom w ranking r end) k l
-  within_first end k l e h = within_more end k k l (subst (λ p. RisesWithin (IsExpandedFrom w ranking r (suc p)) k k) (sym e) (none_within k)) h
-
-  pub count_first : IsRead w r → (end k l : ℕ) → end ≡ earleme_of r → k ≡ 0 → RisesBy (IsExpandedAt w ranking r end) k l → IsCountOf (IsExpandedFrom w ranking r end) l
-  count_first read end k l e z h = count_more end 0 l (subst (λ p. IsCountOf (IsExpandedFrom w ranking r (suc p)) 0) (sym e) (none_behind read)) (subst (λ m. RisesBy (IsExpandedAt w ranking r end) m l) z h)
-
-  pub within_all : (end k l : ℕ) → RisesWithin (IsExpandedFrom w ranking r end) k l → RisesWithin (IsExpandedIn w ranking r) k l
-  within_all end k l (n, some, e) = (n, at_least_of (IsExpandedFrom w ranking r end) (IsExpandedIn w ranking r) n (λ p h. h.0) some, e)
-
-  pub count_all : (n : ℕ) → IsCountOf (IsExpandedFrom w ranking r 0) n → IsCountOf (IsExpandedIn w ranking r) n
-  count_all n all = count_of (IsExpandedFrom w ranking r 0) (IsExpandedIn w ranking r) n (λ p. ((λ h. h.0), (λ h. (h, omega arith)))) all
+  pub within_all : (end k l : ℕ) → RisesWithin (IsGivenFrom w ranking r end) k l → RisesWithin (IsGivenIn w ranking r) k l
+  within_all end k l (n, some, e) = (n, at_least_of (IsGivenFrom w ranking r end) (IsGivenIn w ranking r) n (λ p h. h.0) some, e)
 
 -- the kept items of the first places
 module _ (r : Recognizer) (is : IsRecognizer r) where

@@ -13,4 +13,5 @@ pub mod Telling
 pub mod Asking
 pub mod Expanding
 pub mod Needing
+pub mod HiddenNodes
 pub mod Whole

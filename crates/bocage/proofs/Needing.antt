@@ -11,6 +11,7 @@ use Rattle.recognizer_model.specs.FlatDerives.{Derives, Token, Null, Rule}
 use Rattle.recognizer_model.specs.Items.{InSet, IsWhole, after, advanced}
 use Rattle.recognizer_model.specs.Leo.{IsLeo, IsNotLeo, LeadsTo}
 use Rattle.recognizer_model.specs.Chosen.{allowed_by}
+use Rattle.recognizer_model.specs.Counts.{IsListOf}
 use Rattle.recognizer_model.specs.Nodes.{IsMet, Whole, Before, Last}
 use Rattle.recognizer_model.proofs.Leo.{past_end, origin_below}
 use Rattle.recognizer_model.proofs.Leaving.{leaves_some}
@@ -21,10 +22,11 @@ use Rattle.earley_sets.specs.Below.{LeadsUp}
 use Rattle.earley_sets.proofs.Recognizing.{only}
 use Rattle.forest_parts.specs.declared.parts.Part.{Part}
 use Rattle.forest_parts.specs.Parts.{IsPartAt, IsPartBy, IsWholeOf}
-use Rattle.forest_parts.specs.Unasked.{AreUnasked}
-use Rattle.forest_parts.specs.Needed.{AreBelowAsked}
+use Rattle.forest_parts.specs.Unasked.{IsAskedFor, Met, Over}
+use Rattle.forest_parts.specs.Needed.{IsBelowAsked}
 use Rattle.forest_parts.proofs.Sets.{at_top, goes, waits_exact}
 use Rattle.forest_parts.proofs.Listed.{leo_known, kept_or_hidden, stays}
+use Rattle.forest_parts.proofs.Tops.{below_hidden}
 use Rattle.bocage.specs.declared.rows.AlternativeRow.{AlternativeRow}
 use Rattle.bocage.specs.declared.walk.Known.{Known}
 use Rattle.bocage.specs.declared.walk.Found.{Found}
@@ -78,7 +80,7 @@ leads_whole : (r : Recognizer) {i x : ℕ} {t : Item} → LeadsTo r.flat (edges_
 leads_whole r (LeadsTo.Last leo none) = leo.last
 leads_whole r (LeadsTo.On leo more) = leads_whole r more
 
--- WHICH TOPMOST ITEMS MAY BE THOSE OF NODES
+-- ITEMS THAT ARE ASKED FOR
 
 module _ (w : Grammar) (ranking : Ranking) (r : Recognizer) (read : IsRead w r) (end first : ℕ) (f : Found) (table : List (List AlternativeRow)) (going : IsGoing w ranking r end first f table) where
   null_of : {x p q : ℕ} {t : Tree} → Derives r.flat (edges_of r) x p q t → q ≤ p → IsNullable r.flat x
@@ -86,52 +88,52 @@ module _ (w : Grammar) (ranking : Ranking) (r : Recognizer) (read : IsRead w r) 
   null_of (Null n) le = n
   null_of (Rule is left lt s) le = absurd (omega arith)
 
-  module _ (le : end ≤ earleme_of r) (items : List Item) (un : AreUnasked r f.keys.keys end items) where
-    -- neither the item of a used node that ends here is one without a node, nor is the topmost one that it leads up to
-    record IsFree (item : Item) : Type 0 where
-      free : ¬ Contains items item
-      above : IsWhole r.flat item → (t : Item) → LeadsUp r end item t → ¬ Contains items t
+  module _ (le : end ≤ earleme_of r) where
+    -- the item of a used node that ends here is asked for, and so is the topmost one that it leads up to
+    record AreAsked (item : Item) : Type 0 where
+      itself : IsAskedFor r f.keys.keys end item
+      above : IsWhole r.flat item → (t : Item) → LeadsUp r end item t → IsAskedFor r f.keys.keys end t
 
     -- where a whole item leads, its only parent does
-    led : {m x : ℕ} {t : Item} (parent : Item) → LeadsTo r.flat (edges_of r) (top_of r) m x t → m < end → InSet r.flat (edges_of r) (top_of r) m parent → after r.flat parent ≡ Some x → IsFree (advanced parent) → ¬ Contains items t
-    led {m = m} parent (LeadsTo.Last {item = leo} l none) lt inside e is c =
-        is.free (subst (λ z. Contains items (advanced z)) (sym (l.only parent inside e)) c)
-    led {m = m} {t = t} parent (LeadsTo.On {item = leo} l more) lt inside e is c =
+    led : {m x : ℕ} {t : Item} (parent : Item) → LeadsTo r.flat (edges_of r) (top_of r) m x t → m < end → InSet r.flat (edges_of r) (top_of r) m parent → after r.flat parent ≡ Some x → AreAsked (advanced parent) → IsAskedFor r f.keys.keys end t
+    led {m = m} parent (LeadsTo.Last {item = leo} l none) lt inside e are =
+        subst (λ z. IsAskedFor r f.keys.keys end (advanced z)) (l.only parent inside e) are.itself
+    led {m = m} {t = t} parent (LeadsTo.On {item = leo} l more) lt inside e are =
         let same = l.only parent inside e in
         let low = origin_below r.flat (edges_of r) (top_of r) (at_top r read.is) (goes r read.is) inside in
-        is.above (subst (λ z. IsWhole r.flat (advanced z)) (sym same) l.last) t (omega arith, subst (λ (z : Item). LeadsTo r.flat (edges_of r) (top_of r) z.origin (lhs_of r.flat z.rule) t) (sym same) more) c
+        are.above (subst (λ z. IsWhole r.flat (advanced z)) (sym same) l.last) t (omega arith, subst (λ (z : Item). LeadsTo r.flat (edges_of r) (top_of r) z.origin (lhs_of r.flat z.rule) t) (sym same) more)
 
-    is_free : {rule d p q : ℕ} → IsMet r.flat (edges_of r) (allowed_by w ranking r.flat (edges_of r)) (top_of r) (earleme_of r) rule d p q → 0 < d → q ≡ end → IsFree (record { rule = rule; dot = d; origin = p })
-    is_free (Whole lt s) some same = record {
-      free = λ c. un.unmet (record { rule = top_of r; dot = length (rhs_of r.flat (top_of r)); origin = 0 }) c (subst (λ z. Contains f.keys.keys (record { rule = top_of r; dot = length (rhs_of r.flat (top_of r)); origin = 0; end = z })) same (going.top lt));
+    are_asked : {rule d p q : ℕ} → IsMet r.flat (edges_of r) (allowed_by w ranking r.flat (edges_of r)) (top_of r) (earleme_of r) rule d p q → 0 < d → q ≡ end → AreAsked (record { rule = rule; dot = d; origin = p })
+    are_asked (Whole lt s) some same = record {
+      itself = Met (subst (λ z. Contains f.keys.keys (record { rule = top_of r; dot = length (rhs_of r.flat (top_of r)); origin = 0; end = z })) same (going.top lt));
       above = λ full t up. absurd (outermost up.1);
     }
       where
         outermost : {i : ℕ} {t : Item} → LeadsTo r.flat (edges_of r) (top_of r) i (lhs_of r.flat (top_of r)) t → ⊥
         outermost (LeadsTo.Last {item = leo} l none) = (at_top r read.is).outermost leo.rule leo.dot l.waits
         outermost (LeadsTo.On {item = leo} l more) = (at_top r read.is).outermost leo.rule leo.dot l.waits
-    is_free (Before {r = rule} {d = d} {p = p} {m = m} {q = q} {x = x} {cs = cs} {t = tr'} met s e tr) some same = record {
-      free = λ c. elim (cases_lt m q) [
-        | inl lt ↦ un.unmet (record { rule = rule; dot = d; origin = p }) c (subst (λ z. Contains f.keys.keys (record { rule = rule; dot = d; origin = p; end = z })) same
+    are_asked (Before {r = rule} {d = d} {p = p} {m = m} {q = q} {x = x} {cs = cs} {t = tr'} met s e tr) some same = record {
+      itself = elim (cases_lt m q) [
+        | inl lt ↦ Met (subst (λ z. Contains f.keys.keys (record { rule = rule; dot = d; origin = p; end = z })) same
             (asked w ranking r read (suc end) f.keys.keys f.wholes.items table (λ n k at le. going.visited n k at (omega arith)) (λ k lt' e'. subst (λ z. Contains f.keys.keys z) (sym e') (going.top lt')) met (omega arith) s e tr some))
         | inr ge ↦
             let ahead = derives_forward r read.is tr in
-            (is_free met (omega arith) (omega arith)).free (un.closed (record { rule = rule; dot = d; origin = p }) (record { rule = rule; dot = suc d; origin = p }) c (inl ((x, e, null_of tr (omega arith)), refl)))
+            Over (inl ((x, e, null_of tr (omega arith)), refl)) (are_asked met (omega arith) (omega arith)).itself
       ];
       above = λ full t up. absurd (past_end (rhs_of r.flat rule) d x full e);
     }
-    is_free (Last {r = rule} {r' = rule'} {d = d} {p = p} {m = m} {q = q} {cs = cs} {cs' = cs'} met s e is lt s' best) some same =
-        let ih : IsFree (record { rule = rule; dot = suc d; origin = p }) = is_free met (omega arith) same in
+    are_asked (Last {r = rule} {r' = rule'} {d = d} {p = p} {m = m} {q = q} {cs = cs} {cs' = cs'} met s e is lt s' best) some same =
+        let ih : AreAsked (record { rule = rule; dot = suc d; origin = p }) = are_asked met (omega arith) same in
         record {
-          free = λ c. elim (leo_known r read.is end le m (lhs_of r.flat rule') (omega arith)) [
+          itself = elim (leo_known r read.is end le m (lhs_of r.flat rule') (omega arith)) [
             | inl (leo, l) ↦
                 let node : NodeKey = record { rule = rule'; dot = length (rhs_of r.flat rule'); origin = m; end = q } in
                 let (t, leads, used) = above_used r.flat (edges_of r) (allowed_by w ranking r.flat (edges_of r)) (top_of r) (at_top r read.is) (goes r read.is) (earleme_of r)
                 (only r.flat r.edges read.is.flat read.is.forward) read.is.flat.no_rules
                 (leaves_some r.flat w read.is.flat r.edges (λ s p q h. read.is.forward (record { symbol = s; from = p; to = q }) h) ranking)
                 node (leo_known r read.is q (omega arith)) ((used_met w ranking r read node).1 (some, Last met s e is lt s' best)) refl leo l in
-                led parent leads (omega arith) inside e ih (un.closed whole t c (inr (refl, inl (omega arith, leads))))
-            | inr none ↦ ih.free (un.closed whole (advanced parent) c (inr (refl, inr (λ other (before, (leo, l, q)). none leo l, (parent, there, e, refl)))))
+                Over (inr (refl, inl (omega arith, leads))) (led parent leads (omega arith) inside e ih)
+            | inr none ↦ Over (inr (refl, inr ((λ other (before, (leo, l, q)). none leo l), (parent, there, e, refl)))) ih.itself
           ];
           above = λ full t (before, leads). led parent leads (omega arith) inside e ih;
         }
@@ -160,10 +162,10 @@ module _ (w : Grammar) (ranking : Ranking) (r : Recognizer) (read : IsRead w r) 
     ]
 
     -- so all that is needed is listed
-    pub needed_are : end ≤ earleme_of r → (items : List Item) → AreBelowAsked r f.keys.keys end least items → AreNeeded w ranking r end least items
-    needed_are le items (unasked, un, below) = record {
-      hidden = below.hidden;
-      all = λ t item stands used. below.all t item stands (late t used, (is_free le unasked un ((used_met w ranking r read (node_of t end)).0 used).1 ((used_met w ranking r read (node_of t end)).0 used).0 refl).free);
+    pub needed_are : end ≤ earleme_of r → (items : List Item) → IsListOf (IsBelowAsked r f.keys.keys end least) items → AreNeeded w ranking r end least items
+    needed_are le items lists = record {
+      hidden = λ item h. below_hidden r read.is f.keys.keys end least item ((lists.exact item).0 h);
+      all = λ t item stands used. (let (some, met) = (used_met w ranking r read (node_of t end)).0 used in (lists.exact item).1 (t, stands, (late t used, (are_asked le met some refl).itself)));
     }
 
 -- THE PARTS THAT ARE LISTED BY IT

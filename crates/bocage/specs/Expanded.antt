@@ -1,19 +1,32 @@
--- Expanded items of the places where nodes end.
+-- Hidden items of the places where nodes end: the expanded ones, and those that are items of nodes.
 use Rattle.std.specs.Prelude.{ℕ, ◌≤◌}
 use Rattle.recognizer_model.specs.declared.Item.{Item}
 use Rattle.grammar_model.specs.declared.Ranking.{Ranking}
+use Rattle.grammar_model.specs.declared.Ranking.TheVariants.{None as NoRanks}
 use Rattle.grammar_model.specs.Grammar.{Grammar}
+use Rattle.recognizer_model.specs.Below.{node_of}
+use Rattle.recognizer_model.specs.Leo.{IsHidden}
 use Rattle.recognizer_model.specs.Chosen.{allowed_by}
 use Rattle.recognizer_model.specs.Nodes.{Placed, IsExpanded}
 use Rattle.earley_sets.specs.Recognizer.{Recognizer, earleme_of, edges_of, top_of}
+use Rattle.bocage.specs.Walk.{IsUsedIn}
 
 abbrev pub IsExpandedIn : Grammar → Ranking → Recognizer → Placed → Type 0
 IsExpandedIn w ranking r p = IsExpanded r.flat (edges_of r) (allowed_by w ranking r.flat (edges_of r)) (top_of r) (earleme_of r) p
 
--- an expanded item of one place
-abbrev pub IsExpandedAt : Grammar → Ranking → Recognizer → (end : ℕ) → Item → Type 0
-IsExpandedAt w ranking r end item = IsExpandedIn w ranking r (record { place = end; item = item })
+-- a hidden item, and some derivation of the whole has its node, whatever the ranks
+abbrev pub IsHiddenNode : Grammar → Recognizer → Placed → Type 0
+IsHiddenNode w r p =
+    IsHidden r.flat (edges_of r) (top_of r) p.place p.item × IsUsedIn w NoRanks r (node_of p.item p.place)
 
--- an expanded item of a place or of one after it
-abbrev pub IsExpandedFrom : Grammar → Ranking → Recognizer → (end : ℕ) → Placed → Type 0
-IsExpandedFrom w ranking r end p = IsExpandedIn w ranking r p × (end ≤ p.place)
+-- a hidden item of both kinds
+abbrev pub IsGivenIn : Grammar → Ranking → Recognizer → Placed → Type 0
+IsGivenIn w ranking r p = IsExpandedIn w ranking r p × IsHiddenNode w r p
+
+-- such an item of one place
+abbrev pub IsGivenAt : Grammar → Ranking → Recognizer → (end : ℕ) → Item → Type 0
+IsGivenAt w ranking r end item = IsGivenIn w ranking r (record { place = end; item = item })
+
+-- such an item of a place or of one after it
+abbrev pub IsGivenFrom : Grammar → Ranking → Recognizer → (end : ℕ) → Placed → Type 0
+IsGivenFrom w ranking r end p = IsGivenIn w ranking r p × (end ≤ p.place)

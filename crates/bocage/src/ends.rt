@@ -3,7 +3,7 @@ ghost use Rattle.std.specs.Prelude.{◌≡◌, ◌≢◌, AllPairs, ℕ, ◌<◌
 ghost use Rattle.recognizer_model.specs.declared.NodeKey.{NodeKey as TheKey};
 ghost use Rattle.earley_sets.specs.Recognizer.{IsRecognizer, earleme_of, set_at};
 ghost use Rattle.forest_parts.specs.Hidden.{RisesWithin};
-ghost use Rattle.bocage.specs.Expanded.{IsExpandedIn, IsExpandedAt};
+ghost use Rattle.bocage.specs.Expanded.{IsGivenIn, IsGivenAt};
 ghost use Rattle.bocage.specs.Needed.{AreNeeded};
 ghost use Rattle.bocage.specs.Walk.{Knows, IsUsedIn, IsRead, GrowsBy, top_key};
 ghost use Rattle.bocage.specs.Chains.{AreChained, EndsAt};
@@ -308,7 +308,7 @@ fn visit_end<'a, L: Ledger>(
     ensures chained { OnOk result (AreChained found.new.keys.keys work.new.chains.heads.items work.new.chains.below.items) }
     ensures visited { OnOk result (AreVisited w.now ranking recce.now end found.new (map (λ r. r.now) table.new.items)) }
     ensures grows { OnOk result (GrowsBy (IsUsedIn w.now ranking recce.now) found.old.keys.keys found.new.keys.keys) }
-    ensures counted { RisesWithin (IsExpandedAt w.now ranking recce.now end) steps.old steps.new }
+    ensures counted { RisesWithin (IsGivenAt w.now ranking recce.now end) steps.old steps.new }
 {
     list_nodes(&found.keys, first, end, &mut work.chains, &mut work.nodes)?;
     let whole = end == recce.place();
@@ -350,7 +350,7 @@ pub fn walk<'a, L: Ledger>(
     requires below { work.old.chains.below.items ≡ [] }
     ensures visited { IfOk result (λ table. AreVisited w.now ranking recce.now 0 found.new (map (λ r. r.now) table.items)) }
     ensures grows { OnOk result (GrowsBy (IsUsedIn w.now ranking recce.now) found.old.keys.keys found.new.keys.keys) }
-    ensures counted { RisesWithin (IsExpandedIn w.now ranking recce.now) steps.old steps.new }
+    ensures counted { RisesWithin (IsGivenIn w.now ranking recce.now) steps.old steps.new }
 {
     let mut table = Vec::new(alloc);
     let earleme = recce.place();

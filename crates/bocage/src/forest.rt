@@ -8,7 +8,7 @@ ghost use Rattle.recognizer_model.specs.Nodes.{IsExpanded, IsStats};
 ghost use Rattle.earley_sets.specs.Recognizer.{HasTree, earleme_of, edges_of, top_of};
 ghost use Rattle.forest_model.specs.Forest.{IsForest, IsNode, allowed_of, edges_of as forest_edges, top_of as forest_top};
 ghost use Rattle.forest_parts.specs.Hidden.{RisesWithin};
-ghost use Rattle.bocage.specs.Expanded.{IsExpandedIn};
+ghost use Rattle.bocage.specs.Expanded.{IsHiddenNode, IsGivenIn};
 ghost use Rattle.bocage.specs.Rows.{cause_told};
 ghost use Rattle.bocage.specs.Readers.{alternative_at, node_at};
 ghost use Rattle.bocage.specs.declared.refusal.ForestRefusal.TheVariants.{NoParse};
@@ -155,6 +155,8 @@ impl<'a> Forest<'a> {
         ensures reading { IfOk result (λ f. (f.written ≡ w.now) × (f.flat ≡ recce.now.flat) × (f.start ≡ recce.now.start) × (f.edges ≡ recce.now.edges) × (f.place ≡ earleme_of recce.now) × (f.ranking ≡ ranking)) }
         ensures no_parse { (result ≡ Err NoParse) ↔ (¬ HasTree recce.now) }
         ensures counted { (n : ℕ) → IsCountOf (IsExpanded recce.now.flat (edges_of recce.now) (allowed_by w.now ranking recce.now.flat (edges_of recce.now)) (top_of recce.now) (earleme_of recce.now)) n → steps.new ≤ steps.old + n }
+        ensures needed { (n : ℕ) → IsCountOf (IsHiddenNode w.now recce.now) n →
+            steps.new ≤ steps.old + n }
     {
         if !recce.at_end() {
             return Err(ForestRefusal::NoParse);
@@ -176,7 +178,7 @@ impl<'a> Forest<'a> {
         requires tree { HasTree recce.now }
         ensures reading { IfOk result (λ f. (f.written ≡ w.now) × (f.flat ≡ recce.now.flat) × (f.start ≡ recce.now.start) × (f.edges ≡ recce.now.edges) × (f.place ≡ earleme_of recce.now) × (f.ranking ≡ ranking)) }
         ensures forest { IfOk result (λ f. IsForest f) }
-        ensures counted { RisesWithin (IsExpandedIn w.now ranking recce.now) steps.old steps.new }
+        ensures counted { RisesWithin (IsGivenIn w.now ranking recce.now) steps.old steps.new }
     {
         let mut found = Found::new(alloc);
         let mut work = Work::new(alloc);
@@ -204,7 +206,7 @@ impl<'a> Forest<'a> {
         requires below { work.old.chains.below.items ≡ [] }
         ensures reading { IfOk result (λ f. (f.written ≡ w.now) × (f.flat ≡ recce.now.flat) × (f.start ≡ recce.now.start) × (f.edges ≡ recce.now.edges) × (f.place ≡ earleme_of recce.now) × (f.ranking ≡ ranking)) }
         ensures forest { IfOk result (λ f. IsForest f) }
-        ensures counted { RisesWithin (IsExpandedIn w.now ranking recce.now) steps.old steps.new }
+        ensures counted { RisesWithin (IsGivenIn w.now ranking recce.now) steps.old steps.new }
     {
         let root = begin(recce, &mut found.keys)?;
         let table = walk(alloc, recce, w, ranking, arena, found, work, steps)?;

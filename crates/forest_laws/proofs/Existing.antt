@@ -34,7 +34,7 @@ use Rattle.forest_laws.proofs.Used.{nodes_in, in_tree, from_tree, first_in}
 use Rattle.forest_laws.proofs.Moved.{alternatives_to}
 use Rattle.recognizer_model.proofs.Sources.{rule_there}
 
-same_key : (x y : NodeKey) → IsDecided (x ≡ y)
+pub same_key : (x y : NodeKey) → IsDecided (x ≡ y)
 same_key x y =
     moved (λ (a, (b, (c, d))) i. record { rule = a i; dot = b i; origin = c i; end = d i })
     (λ e. (ap (λ (u : NodeKey). u.rule) e, (ap (λ (u : NodeKey). u.dot) e, (ap (λ (u : NodeKey). u.origin) e, ap (λ (u : NodeKey). u.end) e))))

@@ -1,12 +1,11 @@
--- Topmost items that may be those of nodes, as the nodes tell that were met so far.
+-- Topmost items that nodes ask for, as those tell that were met so far, and the hidden items below them.
 use Rattle.std.specs.Prelude.{◌≡◌, ℕ, ◌≤◌, List, Contains, ◌↔◌}
 use Rattle.recognizer_model.specs.declared.Item.{Item}
 use Rattle.recognizer_model.specs.declared.NodeKey.{NodeKey}
 use Rattle.recognizer_model.specs.Items.{IsWhole}
 use Rattle.earley_sets.specs.Recognizer.{Recognizer, set_at}
 use Rattle.earley_sets.specs.Below.{LeadsUp, StandsBelow}
-use Rattle.forest_parts.specs.Hidden.{IsHiddenFrom}
-use Rattle.forest_parts.specs.Unasked.{AreUnasked}
+use Rattle.forest_parts.specs.Unasked.{IsAskedFor}
 
 -- a whole item that begins at `least` or after it, and may be that of a node
 abbrev pub MayBeUsed : (unasked : List Item) → (least : ℕ) → Item → Type 0
@@ -21,11 +20,8 @@ pub record AreTops (r : Recognizer) (unasked : List Item) (end least : ℕ) (abo
   pub tops : (topmost : Item) → Contains above topmost ↔ ((item : Item) × (Contains (set_at r end) item × IsWhole r.flat item) × LeadsOver r unasked end least item topmost)
   pub bottoms : (item : Item) → Contains below item ↔ ((other : Item) × (Contains (set_at r end) other × IsWhole r.flat other) × ((item ≡ other) × ((topmost : Item) × LeadsOver r unasked end least other topmost)))
 
--- hidden items that begin at `least` or after it, and all that stand below topmost ones which may be those of nodes
-pub record AreBelow (r : Recognizer) (unasked : List Item) (end least : ℕ) (items : List Item) : Type 0 where
-  pub hidden : (item : Item) → Contains items item → IsHiddenFrom r end least item
-  pub all : (topmost item : Item) → StandsBelow r end topmost item → MayBeUsed unasked least topmost → Contains items item
-
--- that for items without a node
-abbrev pub AreBelowAsked : Recognizer → List NodeKey → (end least : ℕ) → List Item → Type 0
-AreBelowAsked r keys end least items = (unasked : List Item) × AreUnasked r keys end unasked × AreBelow r unasked end least items
+-- a hidden item below a topmost one that begins at `least` or after it, and is asked for
+abbrev pub IsBelowAsked : Recognizer → List NodeKey → (end least : ℕ) → Item → Type 0
+IsBelowAsked r keys end least item =
+    (topmost : Item) × StandsBelow r end topmost item ×
+    ((least ≤ topmost.origin) × IsAskedFor r keys end topmost)

@@ -1,12 +1,13 @@
--- Items without a node that ends at a place: none was met, and none can be asked for by one that ends there.
+-- Items without a node that ends at a place: none was met, and none can be asked for by one there; and items that are.
 use Rattle.std.specs.Prelude.{◌≡◌, ℕ, ◌≤◌, List, ◌++◌, Some, Contains, ◌⊎◌}
 use Rattle.recognizer_model.specs.declared.Item.{Item}
 use Rattle.recognizer_model.specs.declared.NodeKey.{NodeKey}
-use Rattle.recognizer_model.specs.Flat.{IsRule, lhs_of, IsNullable}
+use Rattle.recognizer_model.specs.Flat.{lhs_of, IsNullable}
 use Rattle.recognizer_model.specs.Items.{after, IsWhole, advanced}
 use Rattle.recognizer_model.specs.Below.{node_of}
 use Rattle.earley_sets.specs.Recognizer.{Recognizer, earleme_of, set_at}
-use Rattle.earley_sets.specs.Below.{StepsTo, LeadsUp}
+use Rattle.earley_sets.specs.Kept.{IsItem}
+use Rattle.earley_sets.specs.Below.{StepsTo, LeadsUp, IsBottom}
 
 -- the item with one part more, which may span nothing
 abbrev pub IsAfterNothing : Recognizer → (item other : Item) → Type 0
@@ -25,7 +26,7 @@ abbrev pub IsAbove : Recognizer → (end : ℕ) → (item other : Item) → Type
 IsAbove r end item other = IsAfterNothing r item other ⊎ (IsWhole r.flat item × IsOver r end item other)
 
 abbrev pub IsPlaced : Recognizer → Item → Type 0
-IsPlaced r item = IsRule r.flat item.rule × (item.origin ≤ earleme_of r)
+IsPlaced r item = IsItem r.flat item × (item.origin ≤ earleme_of r)
 
 -- no node of such an item was met, and what stands above it is one, too
 pub record AreUnasked (r : Recognizer) (keys : List NodeKey) (end : ℕ) (items : List Item) : Type 0 where
@@ -33,8 +34,35 @@ pub record AreUnasked (r : Recognizer) (keys : List NodeKey) (end : ℕ) (items 
   pub unmet : (item : Item) → Contains items item → ¬ Contains keys (node_of item end)
   pub closed : (item other : Item) → Contains items item → IsAbove r end item other → Contains items other
 
--- all items with the property are there, after those that were
+-- a node of the item was met, or one of an item that stands above it, however far
+pub data IsAskedFor (r : Recognizer) (keys : List NodeKey) (end : ℕ) : Item → Type 0 where
+  Met : {item : Item} → Contains keys (node_of item end) → IsAskedFor r keys end item
+  Over : {item other : Item} → IsAbove r end item other → IsAskedFor r keys end other →
+      IsAskedFor r keys end item
+
+-- items that are not asked for, and items that are
+pub record AreParted (r : Recognizer) (keys : List NodeKey) (end : ℕ)
+    (unasked asked : List Item) : Type 0 where
+  pub are_unasked : AreUnasked r keys end unasked
+  pub are_asked : (item : Item) → Contains asked item → IsAskedFor r keys end item
+
+abbrev pub IsTold : (unasked asked : List Item) → Item → Type 0
+IsTold unasked asked item = Contains unasked item ⊎ Contains asked item
+
+-- those with the property are told, too
+pub record Tells (r : Recognizer) (keys : List NodeKey) (end : ℕ) (P : Item → Type 0)
+    (unasked asked unasked' asked' : List Item) : Type 0 where
+  pub parted : AreParted r keys end unasked' asked'
+  pub keeps : (item : Item) → IsTold unasked asked item → IsTold unasked' asked' item
+  pub tells : (item : Item) → P item → IsTold unasked' asked' item
+
+-- a topmost item that a whole kept one leads up to, and that begins at `least` or after it
+abbrev pub IsTopmostFrom : Recognizer → (end least : ℕ) → Item → Type 0
+IsTopmostFrom r end least topmost = ((item : Item) × IsBottom r end topmost item) × (least ≤ topmost.origin)
+
+-- exactly the items with the property are there, after those that were
 pub record Takes (r : Recognizer) (P : Item → Type 0) (old new : List Item) : Type 0 where
   pub begins : (more : List Item) × (new ≡ old ++ more)
   pub all : (item : Item) → P item → Contains new item
+  pub only : (item : Item) → Contains new item → Contains old item ⊎ P item
   pub placed : (item : Item) → Contains new item → Contains old item ⊎ IsPlaced r item

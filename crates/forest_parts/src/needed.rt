@@ -1,10 +1,11 @@
-//! The hidden items of a place that may be needed: those below topmost items that may be those of nodes, as the nodes tell that were met so far.
+//! The hidden items of a place that are needed: those below topmost items that are asked for, as the nodes tell that were met so far.
 ghost use Rattle.std.specs.Prelude.{◌≡◌, ℕ, ◌≤◌, ◌⊎◌, ◌↔◌, IfOk, OnOk, IsTrue, Contains};
 ghost use Rattle.recognizer_model.specs.declared.Item.{Item as TheItem};
 ghost use Rattle.recognizer_model.specs.Flat.{IsRule};
+ghost use Rattle.recognizer_model.specs.Counts.{IsListOf};
 ghost use Rattle.earley_sets.specs.Recognizer.{IsRecognizer, earleme_of};
-ghost use Rattle.forest_parts.specs.Hidden.{IsHiddenFrom, RisesWithin};
-ghost use Rattle.forest_parts.specs.Needed.{MayBeUsed, LeadsOver, AreTops, AreBelowAsked};
+ghost use Rattle.forest_parts.specs.Hidden.{RisesWithin};
+ghost use Rattle.forest_parts.specs.Needed.{MayBeUsed, LeadsOver, AreTops, IsBelowAsked};
 
 use crate::NodeKeys;
 use crate::unasked::{ItemSet, list_unasked};
@@ -69,7 +70,7 @@ fn list_tops(
     Ok(())
 }
 
-/// Lists hidden items that begin at a place or after it: all that stand below topmost ones which may be those of nodes.
+/// Lists the hidden items below topmost ones that are asked for and begin at `least` or after it.
 pub fn list_needed<L: Ledger>(
     alloc: Global,
     recce: &Recce<'_>,
@@ -82,8 +83,10 @@ pub fn list_needed<L: Ledger>(
 ) -> Result<Vec<Item>, AllocError>
     requires is { IsRecognizer recce.now }
     requires end { end ≤ earleme_of recce.now }
-    ensures below { IfOk result (λ items. AreBelowAsked recce.now keys.now.keys end least items.items) }
-    ensures counted { RisesWithin (IsHiddenFrom recce.now end least) steps.old steps.new }
+    ensures exact { IfOk result (λ items.
+        IsListOf (IsBelowAsked recce.now keys.now.keys end least) items.items) }
+    ensures counted { RisesWithin (IsBelowAsked recce.now keys.now.keys end least)
+        steps.old steps.new }
 {
     let unasked = list_unasked(alloc, recce, keys, end, least)?;
     list_tops(recce, &unasked, end, least, tops, bottoms)?;

@@ -1,11 +1,14 @@
 //! The items of a place that no node can ask for, as the nodes tell that were met so far.
-ghost use Rattle.std.specs.Prelude.{◌≡◌, ℕ, ◌≤◌, ◌↔◌, IfOk, OnOk, IsTrue, Contains, Some};
+ghost use Rattle.std.specs.Prelude.{◌≡◌, ℕ, ◌≤◌, ◌↔◌, ◌⊎◌, IfOk, OnOk, IsTrue, Contains, Some};
 ghost use Rattle.recognizer_model.specs.declared.Item.{Item as TheItem};
 ghost use Rattle.recognizer_model.specs.Flat.{IsRule, lhs_of, IsNullable};
 ghost use Rattle.recognizer_model.specs.Items.{after, advanced as item_after, IsWhole};
 ghost use Rattle.recognizer_model.specs.Below.{node_of};
 ghost use Rattle.earley_sets.specs.Recognizer.{IsRecognizer, earleme_of, set_at};
+ghost use Rattle.earley_sets.specs.Kept.{IsItem};
+ghost use Rattle.earley_sets.specs.Below.{LeadsUp};
 ghost use Rattle.forest_parts.specs.Unasked.{AreUnasked, IsAbove, IsOver, IsAfterNothing, IsAwaiting, Takes};
+ghost use Rattle.forest_parts.specs.Unasked.{AreParted, Tells, IsAskedFor, IsTopmostFrom};
 
 use crate::NodeKeys;
 use earley_sets::Recce;
@@ -97,7 +100,7 @@ fn put_above(
 ) -> Result<(), AllocFailed<Item>>
     requires is { IsRecognizer recce.now }
     requires end { end ≤ earleme_of recce.now }
-    requires rule { IsRule recce.now.flat item.rule }
+    requires item { IsItem recce.now.flat item }
     requires origin { item.origin ≤ earleme_of recce.now }
     ensures { OnOk result (Takes recce.now (IsAbove recce.now end item) items.old.keys items.new.keys) }
 {
@@ -118,10 +121,11 @@ fn note_unasked(
 ) -> Result<(), AllocFailed<Item>>
     requires is { IsRecognizer recce.now }
     requires end { end ≤ earleme_of recce.now }
-    requires rule { IsRule recce.now.flat item.rule }
+    requires item { IsItem recce.now.flat item }
     requires origin { item.origin ≤ earleme_of recce.now }
-    requires unasked { AreUnasked recce.now keys.now.keys end unasked.old.keys }
-    ensures { OnOk result (AreUnasked recce.now keys.now.keys end unasked.new.keys) }
+    requires parted { AreParted recce.now keys.now.keys end unasked.old.keys asked.old.keys }
+    ensures { OnOk result (Tells recce.now keys.now.keys end (λ x. x ≡ item)
+        unasked.old.keys asked.old.keys unasked.new.keys asked.new.keys) }
 {
     let first = unasked.len();
     unasked.insert(item)?;
@@ -153,8 +157,10 @@ fn look_at_top(
     requires is { IsRecognizer recce.now }
     requires end { end ≤ earleme_of recce.now }
     requires rule { IsRule recce.now.flat item.rule }
-    requires unasked { AreUnasked recce.now keys.now.keys end unasked.old.keys }
-    ensures { OnOk result (AreUnasked recce.now keys.now.keys end unasked.new.keys) }
+    requires parted { AreParted recce.now keys.now.keys end unasked.old.keys asked.old.keys }
+    ensures { OnOk result (Tells recce.now keys.now.keys end
+        (λ x. LeadsUp recce.now end item x × (least ≤ x.origin))
+        unasked.old.keys asked.old.keys unasked.new.keys asked.new.keys) }
 {
     if let Some(top) = recce.topmost(end, item) {
         if least <= top.origin && !asked.contains(&top) {
@@ -175,8 +181,9 @@ fn look_at_tops(
 ) -> Result<(), AllocFailed<Item>>
     requires is { IsRecognizer recce.now }
     requires end { end ≤ earleme_of recce.now }
-    requires unasked { AreUnasked recce.now keys.now.keys end unasked.old.keys }
-    ensures { OnOk result (AreUnasked recce.now keys.now.keys end unasked.new.keys) }
+    requires parted { AreParted recce.now keys.now.keys end unasked.old.keys asked.old.keys }
+    ensures { OnOk result (Tells recce.now keys.now.keys end (IsTopmostFrom recce.now end least)
+        unasked.old.keys asked.old.keys unasked.new.keys asked.new.keys) }
 {
     let set = recce.whole(end);
     for k in 0..set.len() {
@@ -185,7 +192,7 @@ fn look_at_tops(
     Ok(())
 }
 
-/// Items that no node asks for whose end is the place. Of the topmost items that begin at `least` or after it, all are told that none asks for.
+/// Items that no node asks for whose end is the place: all such topmost ones from `least` on are among them.
 pub fn list_unasked(
     alloc: Global,
     recce: &Recce<'_>,
@@ -195,7 +202,10 @@ pub fn list_unasked(
 ) -> Result<ItemSet, AllocError>
     requires is { IsRecognizer recce.now }
     requires end { end ≤ earleme_of recce.now }
-    ensures { IfOk result (λ items. AreUnasked recce.now keys.now.keys end items.keys) }
+    ensures unasked { IfOk result (λ items. AreUnasked recce.now keys.now.keys end items.keys) }
+    ensures asked { IfOk result (λ items. (top : TheItem) →
+        IsTopmostFrom recce.now end least top →
+        Contains items.keys top ⊎ IsAskedFor recce.now keys.now.keys end top) }
 {
     let mut unasked = IndexSet::with_hasher(alloc, BuildHasherDefault::new());
     let mut asked = IndexSet::with_hasher(alloc, BuildHasherDefault::new());

@@ -1,10 +1,12 @@
 -- A reading by an accepted grammar has the counts that bound its steps, and no others.
+use Rattle.std.specs.Prelude.{slice_index_or}
 use Rattle.std.proofs.Common.{◌≡◌, ℕ, List, length, Some, slice_get, sym, ◌∙◌, subst}
 use Rattle.std.proofs.lemmas.Option.{same_Some}
 use Rattle.grammar_model.specs.Derives.{Held}
 use Rattle.recognizer_model.specs.declared.Item.{Item}
 use Rattle.grammar_model.specs.Grammar.{Grammar}
 use Rattle.grammar_model.specs.declared.Ranking.{Ranking}
+use Rattle.grammar_model.specs.declared.Ranking.TheVariants.{None as NoRanks}
 use Rattle.recognizer_model.specs.Flat.{FlatGrammar}
 use Rattle.recognizer_model.specs.Chosen.{allowed_by}
 use Rattle.recognizer_model.specs.FlatForm.{FlatEdges}
@@ -16,37 +18,46 @@ use Rattle.language_model.specs.Building.{Built}
 use Rattle.reading_model.specs.Reading.{Piece, edges_of, earleme_after}
 use Rattle.reading_laws.proofs.Candidates.{pieces_forward}
 use Rattle.reading_laws.proofs.Short.{built_are_short}
-use Rattle.run_model.specs.Steps.{IsPlacedLink, IsLeoPair}
+use Rattle.run_model.specs.Steps.{IsPlacedLink, IsLeoPair, IsHiddenNode}
 use Rattle.number_laws.specs.Counts.{Counts, HasCounts, CountsExist, CountsAreOne, CountsBoundSteps}
-use Rattle.number_laws.proofs.Exist.{numbers_exist}
-use Rattle.number_laws.proofs.Flat.{is_flat}
+use Rattle.number_laws.proofs.Exist.{told, top_is}
+use Rattle.number_laws.proofs.Flat.{flattened, is_flat}
 use Rattle.number_laws.proofs.Linked.{link_list, pair_list}
 use Rattle.number_laws.proofs.Lists.{count_of}
 use Rattle.number_laws.proofs.One.{one_flat}
+use Rattle.number_laws.proofs.Placed.{hidden_list}
+use Rattle.number_laws.proofs.Used.{used_list}
 use Rattle.recognizer_model.proofs.Counting.{one_count}
 
 pub counts_exist : CountsExist
 counts_exist b ranking pieces built accepted =
-    let (n, h) = numbers_exist b ranking pieces built accepted in
-    let f = h.flat in
+    let checked = accepted.checked.structural in
+    let (f, is) = flattened b.g1 checked accepted.structural in
+    let flat = is_flat b.g1 checked accepted.structural (built_are_short b built) f is in
     let edges = edges_of pieces in
     let E = FlatEdges f (Held edges) in
-    let flat = is_flat b.g1 accepted.checked.structural accepted.structural (built_are_short b built) f h.is in
-    let is_top = (flat.tops 0 h.top h.top_is).is_top in
+    let top = slice_index_or f.tops 0 0 in
+    let place = earleme_after pieces in
+    let top_is = top_is b.g1 checked f flat is.made edges (pieces_forward pieces) ranking place in
+    let is_top = (flat.tops 0 top top_is).is_top in
     let goes = flat_forward f (Held edges) (pieces_forward pieces) in
     let edge = flat_decided f (Held edges) (held_decided edges) in
-    let sets : (j : ℕ) → (items : List Item) × IsListOf (InSet f E h.top j) items = λ j. item_sets_exist f edges h.top j (pieces_forward pieces) in
-    let (links, links_are) = link_list f E h.top is_top goes edge sets (earleme_after pieces) in
-    let (pairs, pairs_are) = pair_list f E h.top is_top goes edge sets (earleme_after pieces) in (
-      record { links = length links; pairs = length pairs; expanded = n.expanded },
+    let sets : (j : ℕ) → (items : List Item) × IsListOf (InSet f E top j) items = λ j. item_sets_exist f edges top j (pieces_forward pieces) in
+    let (n, stats) = told b.g1 checked f flat is.made edges (pieces_forward pieces) ranking place in
+    let (keys, used) = used_list b.g1 checked f flat is.made edges (pieces_forward pieces) NoRanks place in
+    let (links, links_are) = link_list f E top is_top goes edge sets place in
+    let (pairs, pairs_are) = pair_list f E top is_top goes edge sets place in
+    let (hidden, hidden_are) = hidden_list f E top is_top goes edge sets (allowed_by b.g1 NoRanks f E) place keys used in (
+      record { links = length links; pairs = length pairs; expanded = n.expanded; hidden = length hidden },
       record {
         flat = f;
-        is = h.is;
-        top = h.top;
-        top_is = h.top_is;
-        links = count_of (IsPlacedLink f E h.top (earleme_after pieces)) links links_are;
-        pairs = count_of (IsLeoPair f E h.top (earleme_after pieces)) pairs pairs_are;
-        expanded = h.numbers.hidden_items;
+        is = is;
+        top = top;
+        top_is = top_is;
+        links = count_of (IsPlacedLink f E top place) links links_are;
+        pairs = count_of (IsLeoPair f E top place) pairs pairs_are;
+        expanded = stats.hidden_items;
+        hidden = count_of (IsHiddenNode b.g1 f E top place) hidden hidden_are;
       },
     )
 
@@ -55,9 +66,10 @@ record IsCounted (w : Grammar) (ranking : Ranking) (pieces : List Piece) (n : Co
   links : IsCountOf (IsPlacedLink f (FlatEdges f (Held (edges_of pieces))) top (earleme_after pieces)) n.links
   pairs : IsCountOf (IsLeoPair f (FlatEdges f (Held (edges_of pieces))) top (earleme_after pieces)) n.pairs
   expanded : IsCountOf (IsExpanded f (FlatEdges f (Held (edges_of pieces))) (allowed_by w ranking f (FlatEdges f (Held (edges_of pieces)))) top (earleme_after pieces)) n.expanded
+  hidden : IsCountOf (IsHiddenNode w f (FlatEdges f (Held (edges_of pieces))) top (earleme_after pieces)) n.hidden
 
 counted : (b : Built) (ranking : Ranking) (pieces : List Piece) (n : Counts) (h : HasCounts b ranking pieces n) → IsCounted b.g1 ranking pieces n h.flat h.top
-counted b ranking pieces n h = record { links = h.links; pairs = h.pairs; expanded = h.expanded }
+counted b ranking pieces n h = record { links = h.links; pairs = h.pairs; expanded = h.expanded; hidden = h.hidden }
 
 -- what holds of a flat grammar and its first top holds of the same grammar's
 moved_to : (P : FlatGrammar → ℕ → Type 0) (f g : FlatGrammar) (s t : ℕ) → f ≡ g → slice_get f.tops 0 ≡ Some s → slice_get g.tops 0 ≡ Some t → P f s → P g t
@@ -73,10 +85,11 @@ counts_are_one b ranking pieces m n x y =
     let links : m.links ≡ n.links = one_count (IsPlacedLink y.flat E y.top (earleme_after pieces)) m.links n.links moved.links y.links in
     let pairs : m.pairs ≡ n.pairs = one_count (IsLeoPair y.flat E y.top (earleme_after pieces)) m.pairs n.pairs moved.pairs y.pairs in
     let expanded : m.expanded ≡ n.expanded = one_count (IsExpanded y.flat E (allowed_by b.g1 ranking y.flat E) y.top (earleme_after pieces)) m.expanded n.expanded moved.expanded y.expanded in
-    λ i. record { links = links i; pairs = pairs i; expanded = expanded i }
+    let hidden : m.hidden ≡ n.hidden = one_count (IsHiddenNode b.g1 y.flat E y.top (earleme_after pieces)) m.hidden n.hidden moved.hidden y.hidden in
+    λ i. record { links = links i; pairs = pairs i; expanded = expanded i; hidden = hidden i }
 
 pub counts_bound_steps : CountsBoundSteps
 counts_bound_steps b ranking pieces n looks before after x within =
     let same = one_flat b x.flat within.flat x.is within.is in
     let moved = moved_to (IsCounted b.g1 ranking pieces n) x.flat within.flat x.top within.top same x.top_is within.top_is (counted b ranking pieces n x) in
-    within.few n.links n.pairs n.expanded moved.links moved.pairs moved.expanded
+    (within.few n.links n.pairs n.expanded moved.links moved.pairs moved.expanded, within.needed n.links n.pairs n.hidden moved.links moved.pairs moved.hidden)

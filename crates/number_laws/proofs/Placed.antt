@@ -1,5 +1,5 @@
 -- The items that the reduced sets of a reading keep, and the hidden ones that are counted, have lists, where each place has a list of
--- its items and the used nodes have a list.
+-- its items and the used nodes have a list; so do the hidden ones that have a used node.
 use Rattle.std.proofs.Common.{arith, ◌≡◌, ℕ, suc, ◌≤◌, List, map, flat_map, ap, subst}
 use Rattle.grammar_model.specs.Derives.{Edges}
 use Rattle.recognizer_model.specs.declared.Item.{Item}
@@ -7,17 +7,19 @@ use Rattle.recognizer_model.specs.declared.NodeKey.{NodeKey}
 use Rattle.recognizer_model.specs.Flat.{FlatGrammar}
 use Rattle.recognizer_model.specs.Items.{InSet}
 use Rattle.recognizer_model.specs.Contexts.{IsTop}
-use Rattle.recognizer_model.specs.Leo.{InReduced, GoesForward}
+use Rattle.recognizer_model.specs.Leo.{InReduced, IsHidden, GoesForward}
+use Rattle.recognizer_model.specs.Below.{node_of}
 use Rattle.recognizer_model.specs.Counts.{IsListOf}
 use Rattle.recognizer_model.specs.Chosen.{Allowed}
 use Rattle.recognizer_model.specs.Nodes.{IsUsed, Placed, IsExpanded}
 use Rattle.recognizer_model.proofs.Leo.{reduced_inside}
 use Rattle.finite_sets.specs.Decided.{IsDecided}
 use Rattle.finite_sets.proofs.Deciding.{both, moved, equal, at_most}
-use Rattle.finite_sets.proofs.Members.{Among, among_from, contains_from, among_map, among_flat_map, values, among_values, some_among}
+use Rattle.finite_sets.proofs.Members.{Among, among_from, contains_from, among_map, among_flat_map, values, among_values, some_among, member}
 use Rattle.number_laws.proofs.Lists.{list_of}
 use Rattle.number_laws.proofs.Kept.{in_set, kept_decided, hidden_decided, hidden_inside}
 use Rattle.grammar_laws.proofs.ItemSets.{same_item}
+use Rattle.forest_laws.proofs.Existing.{same_key}
 
 same_placed : (x y : Placed) → IsDecided (x ≡ y)
 same_placed x y =
@@ -52,4 +54,19 @@ module _ (g : FlatGrammar) (E : Edges) (top : ℕ) (is_top : IsTop g top) (forwa
     expanded_list =
         list_of (IsExpanded g E allowed top place) same_placed expanded_decided (items_at (map (λ n. n.end) used))
         (λ p (hidden, (n, u, e, le)). in_items (map (λ n. n.end) used) p (subst (λ k. Among k (map (λ (n : NodeKey). n.end) used)) e (among_map (λ (n : NodeKey). n.end) n used (among_from used n ((are.exact n).1 u))))
+        (hidden_inside g E top is_top forward edge sets p.place p.item hidden))
+
+    abbrev pub HasNode : Placed → Type 0
+    HasNode p = IsHidden g E top p.place p.item × IsUsed g E allowed top place (node_of p.item p.place)
+
+    has_node : (p : Placed) → IsDecided (HasNode p)
+    has_node p =
+        let n = node_of p.item p.place in
+        both (hidden_decided g E top is_top forward edge sets p.place p.item)
+        (moved (λ m. (are.exact n).0 (contains_from used n m)) (λ u. among_from used n ((are.exact n).1 u)) (member same_key n used))
+
+    pub hidden_list : (xs : List Placed) × IsListOf HasNode xs
+    hidden_list =
+        list_of HasNode same_placed has_node (items_at (map (λ n. n.end) used))
+        (λ p (hidden, u). in_items (map (λ n. n.end) used) p (among_map (λ (n : NodeKey). n.end) (node_of p.item p.place) used (among_from used (node_of p.item p.place) ((are.exact (node_of p.item p.place)).1 u)))
         (hidden_inside g E top is_top forward edge sets p.place p.item hidden))

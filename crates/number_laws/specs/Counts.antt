@@ -1,5 +1,5 @@
--- What the bound on the steps of a run counts: the links of the sets after the first, the Leo pairs, and the hidden items that begin no
--- earlier than a used node with the same end.
+-- What the bounds on the steps of a run count: the links of the sets after the first, the Leo pairs, the hidden items that begin no
+-- earlier than a used node with the same end, and those of which some derivation has the node.
 use Rattle.std.specs.Prelude.{◌≡◌, ℕ, ◌+◌, ◌≤◌, List, Some, slice_get}
 use Rattle.grammar_model.specs.Derives.{Held}
 use Rattle.grammar_model.specs.declared.Ranking.{Ranking}
@@ -13,12 +13,13 @@ use Rattle.language_model.specs.Building.{Built}
 use Rattle.language_model.specs.Texts.{IsBuilt}
 use Rattle.reading_model.specs.Accepted.{IsAccepted}
 use Rattle.reading_model.specs.Reading.{Piece, edges_of, earleme_after}
-use Rattle.run_model.specs.Steps.{IsPlacedLink, IsLeoPair, IsWithinLooks}
+use Rattle.run_model.specs.Steps.{IsPlacedLink, IsLeoPair, IsHiddenNode, IsWithinLooks}
 
 pub record Counts : Type 0 where
   pub links : ℕ
   pub pairs : ℕ
   pub expanded : ℕ
+  pub hidden : ℕ
 
 -- the counts of a reading in these pieces
 pub record HasCounts (b : Built) (ranking : Ranking) (pieces : List Piece) (n : Counts) : Type 0 where
@@ -29,6 +30,7 @@ pub record HasCounts (b : Built) (ranking : Ranking) (pieces : List Piece) (n : 
   pub links : IsCountOf (IsPlacedLink flat (FlatEdges flat (Held (edges_of pieces))) top (earleme_after pieces)) n.links
   pub pairs : IsCountOf (IsLeoPair flat (FlatEdges flat (Held (edges_of pieces))) top (earleme_after pieces)) n.pairs
   pub expanded : IsCountOf (IsExpanded flat (FlatEdges flat (Held (edges_of pieces))) (allowed_by b.g1 ranking flat (FlatEdges flat (Held (edges_of pieces)))) top (earleme_after pieces)) n.expanded
+  pub hidden : IsCountOf (IsHiddenNode b.g1 flat (FlatEdges flat (Held (edges_of pieces))) top (earleme_after pieces)) n.hidden
 
 -- a reading has its counts
 abbrev pub CountsExist : Type 0
@@ -38,7 +40,7 @@ CountsExist = (b : Built) (ranking : Ranking) (pieces : List Piece) → IsBuilt 
 abbrev pub CountsAreOne : Type 0
 CountsAreOne = (b : Built) (ranking : Ranking) (pieces : List Piece) (m n : Counts) → HasCounts b ranking pieces m → HasCounts b ranking pieces n → m ≡ n
 
--- and they bound the steps of a reading and what is looked at after it
+-- and they bound the steps of a reading and what is looked at after it, by the hidden items of either kind
 abbrev pub CountsBoundSteps : Type 0
 CountsBoundSteps = (b : Built) (ranking : Ranking) (pieces : List Piece) (n : Counts) (looks before after : ℕ) → HasCounts b ranking pieces n → IsWithinLooks b ranking pieces looks before after →
-    after ≤ before + n.links + n.pairs + n.expanded + looks
+    (after ≤ before + n.links + n.pairs + n.expanded + looks) × (after ≤ before + n.links + n.pairs + n.hidden + looks)

@@ -5,14 +5,17 @@ use Rattle.std.specs.Prelude.{◌≡◌, ℕ, ◌+◌, ◌<◌, ◌≤◌, List,
 use Rattle.std.specs.List.{sum_by}
 use Rattle.grammar_model.specs.Trees.{Tree}
 use Rattle.grammar_model.specs.Derives.{Edges, Held}
+use Rattle.grammar_model.specs.Grammar.{Grammar}
 use Rattle.grammar_model.specs.declared.Ranking.{Ranking}
+use Rattle.grammar_model.specs.declared.Ranking.TheVariants.{None as NoRanks}
 use Rattle.recognizer_model.specs.declared.Item.{Item}
 use Rattle.recognizer_model.specs.Flat.{FlatGrammar}
 use Rattle.recognizer_model.specs.Chosen.{allowed_by}
 use Rattle.recognizer_model.specs.FlatForm.{FlatEdges}
-use Rattle.recognizer_model.specs.Leo.{IsLeo}
+use Rattle.recognizer_model.specs.Leo.{IsLeo, IsHidden}
+use Rattle.recognizer_model.specs.Below.{node_of}
 use Rattle.recognizer_model.specs.Links.{Link, IsLink, choices}
-use Rattle.recognizer_model.specs.Nodes.{IsExpanded}
+use Rattle.recognizer_model.specs.Nodes.{Placed, IsUsed, IsExpanded}
 use Rattle.recognizer_model.specs.Counts.{IsCountOf}
 use Rattle.flat_model.specs.Flattened.{IsFlattened}
 use Rattle.language_model.specs.Building.{Built}
@@ -34,8 +37,14 @@ pub record PlacedSymbol : Type 0 where
 abbrev pub IsLeoPair : (g : FlatGrammar) (E : Edges) (top place : ℕ) → PlacedSymbol → Type 0
 IsLeoPair g E top place p = (p.place ≤ place) × ((item : Item) × IsLeo g E top p.place p.symbol item)
 
+-- a hidden item, and some derivation of the whole has its node, whatever the ranks
+abbrev pub IsHiddenNode : Grammar → (g : FlatGrammar) (E : Edges) (top place : ℕ) → Placed → Type 0
+IsHiddenNode w g E top place p =
+    IsHidden g E top p.place p.item × IsUsed g E (allowed_by w NoRanks g E) top place (node_of p.item p.place)
+
 -- a reading in these pieces, and then so many looks: at most a step for each link of the sets after the first, for each Leo pair, for each
--- hidden item that begins no earlier than a used node with the same end, and for each look
+-- look, and for each hidden item that begins no earlier than a used node with the same end; and, in place of these, for each hidden item
+-- that has a node
 pub record IsWithinLooks (b : Built) (ranking : Ranking) (pieces : List Piece) (looks before after : ℕ) : Type 0 where
   pub flat : FlatGrammar
   pub is : IsFlattened b.g1 flat
@@ -46,6 +55,11 @@ pub record IsWithinLooks (b : Built) (ranking : Ranking) (pieces : List Piece) (
       IsCountOf (IsLeoPair flat (FlatEdges flat (Held (edges_of pieces))) top (earleme_after pieces)) pairs →
       IsCountOf (IsExpanded flat (FlatEdges flat (Held (edges_of pieces))) (allowed_by b.g1 ranking flat (FlatEdges flat (Held (edges_of pieces)))) top (earleme_after pieces)) expanded →
       after ≤ before + links + pairs + expanded + looks
+  pub needed : (links pairs hidden : ℕ) →
+      IsCountOf (IsPlacedLink flat (FlatEdges flat (Held (edges_of pieces))) top (earleme_after pieces)) links →
+      IsCountOf (IsLeoPair flat (FlatEdges flat (Held (edges_of pieces))) top (earleme_after pieces)) pairs →
+      IsCountOf (IsHiddenNode b.g1 flat (FlatEdges flat (Held (edges_of pieces))) top (earleme_after pieces)) hidden →
+      after ≤ before + links + pairs + hidden + looks
 
 -- where derivations are given, there is a look for each of their choices
 abbrev pub IsWithinSteps : Built → Ranking → List Piece → (given : List Tree) → (before after : ℕ) → Type 0

@@ -10,11 +10,9 @@ use Rattle.grammar_model.specs.declared.Edge.{Edge}
 use Rattle.grammar_model.specs.declared.Ranking.TheVariants.{Rule as RuleRanks}
 use Rattle.grammar_core.specs.declared.steps.Span.{Span}
 use Rattle.grammar_core.specs.Written.{symbols_of, IsLevelled}
-use Rattle.recognizer_model.specs.Counts.{IsCountOf}
-use Rattle.recognizer_model.specs.Chosen.{allowed_by}
-use Rattle.recognizer_model.specs.Nodes.{IsExpanded, IsStats, IsUsed}
+use Rattle.recognizer_model.specs.Nodes.{IsStats, IsUsed}
 use Rattle.recognizer_model.proofs.Counting.{one_count}
-use Rattle.earley_sets.specs.Recognizer.{Recognizer, IsRecognizer, edges_of as held_edges, top_of as held_top, earleme_of}
+use Rattle.earley_sets.specs.Recognizer.{Recognizer, IsRecognizer}
 use Rattle.language_model.specs.Building.{Built}
 use Rattle.reading_model.specs.Reading.{End, edges_of, earleme_after}
 use Rattle.reading_model.proofs.One.{reading_is_one}
@@ -33,6 +31,7 @@ use Rattle.text_reading.specs.declared.refusal.Place.{Place}
 use Rattle.text_reading.specs.Refusals.{IsNoDerivation}
 use Rattle.text_reading.proofs.Derived.{listed, some_listing}
 use Rattle.slif_cli.specs.Tasks.{TellsReading, HasForest, GoesOnWithin}
+use Rattle.text_reading.specs.Parts.{BuildsWithin}
 use Rattle.slif_cli.proofs.Numbered.{nodes_counted}
 use Rattle.slif_cli.proofs.Within.{within}
 
@@ -84,7 +83,7 @@ module _ (b : Built) (given cs : List ℕ) (spans : List Span) (f : Forest) (has
     counted = nodes_counted b RuleRanks has.pieces cs spans f has.of has.ranking_is is n numbers
 
     pub compares_within : (recce : Recognizer) (held_spans : List Span) → IsRecognizer recce → IsReadingOfWith b given cs recce held_spans AtEnd → (read built after : ℕ)
-        → ((k : ℕ) → IsCountOf (IsExpanded recce.flat (held_edges recce) (allowed_by b.g1 RuleRanks recce.flat (held_edges recce)) (held_top recce) (earleme_of recce)) k → built ≤ read + k)
+        → BuildsWithin b.g1 RuleRanks recce read built
         → after ≤ built + length f.nodes → GoesOnWithin Glades b given cs recce read after
     compares_within recce held_spans recognizes reading read built after builds looks =
         let (same, ends) = reading_is_one b given cs reading.pieces has.pieces End End reading.is_reading has.reading in

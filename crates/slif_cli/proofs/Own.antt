@@ -11,11 +11,8 @@ use Rattle.grammar_model.specs.declared.Ranking.TheVariants.{Rule as RuleRanks}
 use Rattle.grammar_model.proofs.ChosenOnce.{chosen_unique}
 use Rattle.grammar_model.specs.declared.limits.TheConstants.{LONGEST_INPUT}
 use Rattle.grammar_core.specs.declared.steps.Span.{Span}
-use Rattle.recognizer_model.specs.Counts.{IsCountOf}
 use Rattle.recognizer_model.specs.Links.{choices}
-use Rattle.recognizer_model.specs.Chosen.{allowed_by}
-use Rattle.recognizer_model.specs.Nodes.{IsExpanded}
-use Rattle.earley_sets.specs.Recognizer.{Recognizer, IsRecognizer, edges_of as held_edges, top_of, earleme_of}
+use Rattle.earley_sets.specs.Recognizer.{Recognizer, IsRecognizer}
 use Rattle.earley_sets.specs.Counted.{TakesAtMost}
 use Rattle.scanless.specs.Reading.{HoldsPieces, IsReadingOf}
 use Rattle.scanless.specs.declared.reading.Ending.TheVariants.{End as AtEnd}
@@ -35,7 +32,7 @@ use Rattle.run_model.specs.Within.{WorkWithin}
 use Rattle.run_model.proofs.Accepted.{one_built, not_refused}
 use Rattle.work_laws.proofs.Working.{work_has_one}
 use Rattle.text_reading.specs.Refusals.{TellsGrammar, TellsInput, IsRefusedAt, IsNoDerivation}
-use Rattle.text_reading.specs.Parts.{IsBrokenText, IsStopText, HasForest}
+use Rattle.text_reading.specs.Parts.{IsBrokenText, IsStopText, HasForest, BuildsWithin}
 use Rattle.text_reading.specs.declared.refusal.Place.{Place}
 use Rattle.text_reading.specs.declared.refusal.Refusal.{Refusal}
 use Rattle.text_reading.specs.declared.refusal.Refusal.TheVariants.{Grammar, Input, NoMemory}
@@ -141,7 +138,7 @@ module _ (size : ℕ) (sized : size ≤ 100000) where
             }
 
         pub own_within : (recce : Recognizer) → IsRecognizer recce → (held_spans : List Span) → IsReadingOf b cs recce held_spans AtEnd → (before read built after : ℕ)
-            → ((n : ℕ) → IsCountOf (IsExpanded recce.flat (held_edges recce) (allowed_by b.g1 RuleRanks recce.flat (held_edges recce)) (top_of recce) (earleme_of recce)) n → built ≤ read + n)
+            → BuildsWithin b.g1 RuleRanks recce read built
             → ((trees : List Tree) → IsListing f trees → after ≤ built + sum_by choices (take 4294967295 trees))
             → TakesAtMost recce before read → WorkWithin b size before after
         own_within recce recognizes held_spans reading before read built after builds gives reads =

@@ -14,10 +14,7 @@ use Rattle.grammar_core.specs.Written.{IsWritten}
 use Rattle.grammar_core.specs.declared.steps.Span.{Span}
 use Rattle.cursor_model.specs.Rest.{IsPlaceOf, NamesNone}
 use Rattle.recognizer_model.specs.Links.{choices}
-use Rattle.recognizer_model.specs.Counts.{IsCountOf}
-use Rattle.recognizer_model.specs.Chosen.{allowed_by}
-use Rattle.recognizer_model.specs.Nodes.{IsExpanded}
-use Rattle.earley_sets.specs.Recognizer.{Recognizer, IsRecognizer, edges_of as held_edges, top_of as held_top, earleme_of}
+use Rattle.earley_sets.specs.Recognizer.{Recognizer, IsRecognizer}
 use Rattle.earley_sets.specs.Counted.{TakesAtMost}
 use Rattle.forest_model.specs.Forest.{Forest, IsForest}
 use Rattle.forest_model.specs.Listing.{IsListing}
@@ -47,6 +44,7 @@ use Rattle.slif_cli.specs.Refusals.{IsPageStop}
 use Rattle.slif_cli.specs.Stops.{Does, WriteStops, IsPrefix, AppendsPrefixOf}
 use Rattle.slif_cli.specs.Stops.IsPrefix.{Nothing}
 use Rattle.slif_cli.specs.Tasks.{TellsReading, HasForest, GoesOnWithin}
+use Rattle.text_reading.specs.Parts.{BuildsWithin}
 use Rattle.slif_cli.specs.declared.stop.Refusal.TheVariants.{Usage, Grammar as BadGrammar, Input as BadInput}
 use Rattle.slif_cli.specs.declared.stop.Stop.{Stop}
 use Rattle.slif_cli.specs.declared.stop.Stop.TheVariants.{Refused, OpenFault, ReadFault, WriteFault, NoMemory}
@@ -144,10 +142,11 @@ module _ (asked : MoreAsked) (b : Built) (lexemes cs : List ℕ) (spans : List S
     top = w.top;
     top_is = w.top_is;
     few = λ links pairs expanded l p e. (let few = w.few links pairs expanded l p e in omega (arith, few));
+    needed = λ links pairs hidden l p h. (let few = w.needed links pairs hidden l p h in omega (arith, few));
   }
 
   pub more_within : (recce : Recognizer) (held_spans : List Span) → IsRecognizer recce → IsReadingOfWith b lexemes cs recce held_spans AtEnd → (read built after : ℕ)
-      → ((n : ℕ) → IsCountOf (IsExpanded recce.flat (held_edges recce) (allowed_by b.g1 asked.ranking recce.flat (held_edges recce)) (held_top recce) (earleme_of recce)) n → built ≤ read + n)
+      → BuildsWithin b.g1 asked.ranking recce read built
       → ((trees given rest : List Tree) → IsListing f trees → IsPlaceOf asked.after trees given rest →
       after ≤ built + 7 * last_steps given + sum_by choices (first_of asked.first rest ++ take 1 (beyond asked.first rest)))
       → (trees given rest : List Tree) → IsListing f trees → IsPlaceOf asked.after trees given rest → GoesOnWithin (More asked) b lexemes cs recce read after

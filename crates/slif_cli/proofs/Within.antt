@@ -33,13 +33,14 @@ use Rattle.run_model.specs.Inputs.{IsInputText, input_limit}
 use Rattle.run_model.specs.Listing.{first_of}
 use Rattle.run_model.specs.Outside.{Stream}
 use Rattle.run_model.specs.Runs.{Supplied}
-use Rattle.run_model.specs.Steps.{IsPlacedLink, IsLeoPair, IsWithinLooks}
+use Rattle.run_model.specs.Steps.{IsPlacedLink, IsLeoPair, IsHiddenNode, IsWithinLooks}
 use Rattle.run_model.specs.Within.{DoesWithin, RunsWithin, InputWithin}
 use Rattle.slif_cli.specs.Stops.{Reports}
 use Rattle.slif_cli.specs.Tasks.{HasForest, GoesOnWithin}
 use Rattle.slif_cli.specs.declared.stop.Refusal.TheVariants.{Usage, Grammar as BadGrammar, Input as BadInput}
 use Rattle.slif_cli.specs.declared.stop.Stop.{Stop}
 use Rattle.slif_cli.specs.declared.stop.Stop.TheVariants.{Refused, OpenFault, ReadFault, WriteFault, NoMemory}
+use Rattle.text_reading.specs.Parts.{BuildsWithin}
 use Rattle.text_reading.proofs.Derived.{listed, some_listing}
 
 -- THE SAME COUNT OF OTHER VALUES
@@ -85,7 +86,7 @@ module _ (b : Built) (recce : Recognizer) (is : IsRecognizer recce) (pieces : Li
       (λ p l. l) (λ q l. l) (λ p. refl) (λ q. refl) n count
 
   pub within : (ranking : Ranking) (looks before read built after : ℕ) → TakesAtMost recce before read
-      → ((n : ℕ) → IsCountOf (IsExpanded recce.flat (edges_of recce) (allowed_by b.g1 ranking recce.flat (edges_of recce)) (top_of recce) (earleme_of recce)) n → built ≤ read + n)
+      → BuildsWithin b.g1 ranking recce read built
       → after ≤ built + looks → IsWithinLooks b ranking pieces looks before after
   within ranking looks before read built after reads builds gives = record {
     flat = recce.flat;
@@ -93,17 +94,28 @@ module _ (b : Built) (recce : Recognizer) (is : IsRecognizer recce) (pieces : Li
     top = top_of recce;
     top_is = subst (λ n. slice_get recce.flat.tops n ≡ Some (top_of recce)) holds.start (slice_get-get_or recce.flat.tops recce.start 0 is.start);
     few = λ links pairs expanded l p e.
-        let links_are = as_held (λ es place. IsCountOf (IsPlacedLink recce.flat (FlatEdges recce.flat (Held es)) (top_of recce) place) links) l in
-        let pairs_are = as_held (λ es place. IsCountOf (IsLeoPair recce.flat (FlatEdges recce.flat (Held es)) (top_of recce) place) pairs) p in
         let expanded_are = as_held (λ es place. IsCountOf (IsExpanded recce.flat (FlatEdges recce.flat (Held es)) (allowed_by b.g1 ranking recce.flat (FlatEdges recce.flat (Held es))) (top_of recce) place) expanded) e in
-        let r = reads links pairs (links_held links links_are) (pairs_held pairs pairs_are) in
-        let m = builds expanded expanded_are in
+        let r = sets links pairs l p in
+        let m = builds.expanded expanded expanded_are in
+        omega (arith, r, m, gives);
+    needed = λ links pairs hidden l p h.
+        let hidden_are = as_held (λ es place. IsCountOf (IsHiddenNode b.g1 recce.flat (FlatEdges recce.flat (Held es)) (top_of recce) place) hidden) h in
+        let r = sets links pairs l p in
+        let m = builds.needed hidden hidden_are in
         omega (arith, r, m, gives);
   }
+    where
+      -- what the sets take
+      sets : (links pairs : ℕ) → IsCountOf (IsPlacedLink recce.flat (FlatEdges recce.flat (Held (model.edges_of pieces))) (top_of recce) (earleme_after pieces)) links
+          → IsCountOf (IsLeoPair recce.flat (FlatEdges recce.flat (Held (model.edges_of pieces))) (top_of recce) (earleme_after pieces)) pairs → read ≤ before + links + pairs
+      sets links pairs l p =
+          let links_are = as_held (λ es place. IsCountOf (IsPlacedLink recce.flat (FlatEdges recce.flat (Held es)) (top_of recce) place) links) l in
+          let pairs_are = as_held (λ es place. IsCountOf (IsLeoPair recce.flat (FlatEdges recce.flat (Held es)) (top_of recce) place) pairs) p in
+          reads links pairs (links_held links links_are) (pairs_held pairs pairs_are)
 
 module _ (b : Built) (asked : ValuesAsked) (given cs : List ℕ) (spans : List Span) (f : Forest) (has : HasForest b given asked.ranking cs spans f) (forest : IsForest f) where
   pub lists_within : (recce : Recognizer) (held_spans : List Span) → IsRecognizer recce → IsReadingOfWith b given cs recce held_spans AtEnd → (read built after : ℕ)
-      → ((n : ℕ) → IsCountOf (IsExpanded recce.flat (edges_of recce) (allowed_by b.g1 asked.ranking recce.flat (edges_of recce)) (top_of recce) (earleme_of recce)) n → built ≤ read + n)
+      → BuildsWithin b.g1 asked.ranking recce read built
       → ((trees : List Tree) → IsListing f trees → after ≤ built + sum_by choices (first_of asked.first trees))
       → GoesOnWithin (Values asked) b given cs recce read after
   lists_within recce held_spans is reading read built after builds gives =

@@ -22,16 +22,6 @@ use std::alloc::{AllocError, Global};
 use std::sync::ledger::Ledger;
 use text_reading::{lexeme_named, read_supplied, read_text};
 
-/// The supplier, where names are given; else it is let go.
-pub fn kept(names: Option<&str>, supplier: Box<dyn Supplier>) -> Option<Box<dyn Supplier>>
-    ensures { is_some result ≡ is_some names.entry }
-{
-    match names {
-        Some(_) => Some(supplier),
-        None => None,
-    }
-}
-
 /// The lexemes with the names that are given.
 pub fn lexemes_given<'a>(
     alloc: Global,

@@ -4,6 +4,7 @@
 mod checking;
 mod giving;
 mod grammar;
+mod hands;
 mod inputs;
 mod laws;
 mod messages;

@@ -25,6 +25,7 @@ mod reporting;
 mod values;
 
 use crate::giving::{limit_with, read_with};
+use crate::hands::Hands;
 use crate::inputs::read_bytes;
 use crate::stop::Stop;
 use crate::telling::expecting::write_expected;
@@ -36,7 +37,6 @@ use command_line::{InputFrom, Telling};
 use grammar_core::SymbolId;
 use scanless::{Prepared, Reading};
 use slif_base::{Chars, Files, Sink, Source, Steps};
-use slippers::Supplier;
 use std::alloc::Global;
 use std::sync::ledger::Ledger;
 use text_reading::input_chars;
@@ -47,19 +47,18 @@ pub fn tell_input<'a, F: Files, I: Source, O: Sink, L: Ledger>(
     alloc: Global,
     prepared: &Prepared,
     lexemes: &[SymbolId],
-    supplier: Option<Box<dyn Supplier>>,
     what: Telling<'_>,
     from: InputFrom<'a>,
     files: &mut F,
     input: &mut I,
     out: &mut O,
-    tellers: Vec<Box<dyn Teller>>,
+    hands: Hands,
     steps: &mut Steps<L>,
 ) -> Result<(), Stop<'a>>
     requires names { length lexemes.now ≤ 8 }
-    requires both { IsTrue (is_some supplier) ↔ (0 < length lexemes.now) }
+    requires both { IsTrue (is_some hands.supplier) ↔ (0 < length lexemes.now) }
     requires somewhere { input_of from ≢ Nowhere }
-    requires tellers { AreBothTellers (states tellers.items shows held) }
+    requires tellers { AreBothTellers (states hands.tellers.items shows held) }
     ensures done { OnOk result (Does (MayRead (IsInputOutcome (telling_of what.entry) prepared.now lexemes.now) (input_of from.entry) (F.told files.old) (I.left input.old))
         (O.contents out.old) (O.contents out.new)) }
     ensures stops { IfErr result (StopsAt (MayRead (IsInputOutcome (telling_of what.entry) prepared.now lexemes.now) (input_of from.entry) (F.told files.old) (I.left input.old))
@@ -77,9 +76,7 @@ pub fn tell_input<'a, F: Files, I: Source, O: Sink, L: Ledger>(
 {
     let limit = limit_with(lexemes);
     let bytes = read_bytes(alloc, from, limit, files, input)?;
-    tell_bytes(
-        alloc, prepared, lexemes, supplier, what, bytes, out, tellers, steps,
-    )
+    tell_bytes(alloc, prepared, lexemes, what, bytes, out, hands, steps)
 }
 
 // Writes what is told of the bytes of an input.
@@ -87,17 +84,16 @@ fn tell_bytes<'a, O: Sink, L: Ledger>(
     alloc: Global,
     prepared: &Prepared,
     lexemes: &[SymbolId],
-    supplier: Option<Box<dyn Supplier>>,
     what: Telling<'_>,
     bytes: Vec<u8>,
     out: &mut O,
-    tellers: Vec<Box<dyn Teller>>,
+    hands: Hands,
     steps: &mut Steps<L>,
 ) -> Result<(), Stop<'a>>
     requires names { length lexemes.now ≤ 8 }
-    requires both { IsTrue (is_some supplier) ↔ (0 < length lexemes.now) }
+    requires both { IsTrue (is_some hands.supplier) ↔ (0 < length lexemes.now) }
     requires few { length bytes.items ≤ input_limit lexemes.now }
-    requires tellers { AreBothTellers (states tellers.items shows held) }
+    requires tellers { AreBothTellers (states hands.tellers.items shows held) }
     ensures done { OnOk result (Does (IsInputOutcome (telling_of what.entry) prepared.now lexemes.now bytes.items) (O.contents out.old) (O.contents out.new)) }
     ensures stops { IfErr result (WriteStops (IsInputOutcome (telling_of what.entry) prepared.now lexemes.now bytes.items)
         (stream O.contents O.fault_count out.old) (stream O.contents O.fault_count out.new)) }
@@ -105,8 +101,17 @@ fn tell_bytes<'a, O: Sink, L: Ledger>(
     ensures out_later { O.fault_count out.old ≤ O.fault_count out.new }
 {
     let chars = input_chars(alloc, bytes)?;
-    let reading = read_with(alloc, prepared, &chars, lexemes, supplier, steps)?;
-    let told = tell_reading(alloc, prepared, what, &chars, &reading, out, tellers, steps);
+    let reading = read_with(alloc, prepared, &chars, lexemes, hands.supplier, steps)?;
+    let told = tell_reading(
+        alloc,
+        prepared,
+        what,
+        &chars,
+        &reading,
+        out,
+        hands.tellers,
+        steps,
+    );
     drop(reading);
     told
 }

@@ -13,8 +13,9 @@ ghost use Rattle.slif_cli.specs.Stops.{Does, MayHave, WorkStops, DoesJob, JobSto
 ghost use Rattle.slif_cli.specs.Tasks.{IsCheckJob, IsTellJob};
 
 use crate::checking::write_check;
-use crate::giving::{kept, lexemes_given};
+use crate::giving::lexemes_given;
 use crate::grammar::load_grammar;
+use crate::hands::Hands;
 use crate::messages::report;
 use crate::scripting::play_input;
 use crate::stop::{Refusal, Stop};
@@ -60,7 +61,11 @@ pub fn run<F: Files, I: Source, O: Sink, E: Sink, L: Ledger>(
     ensures input { (input.new ≡ input.old) ⊎ ReadsInput (map string_bytes words.now) (F.told files.old) }
     ensures held { SameFiles (F.told files.old) (F.told files.new) }
 {
-    match do_words(alloc, words, files, input, out, tellers, supplier, steps) {
+    let hands = Hands {
+        tellers,
+        supplier: Some(supplier),
+    };
+    match do_words(alloc, words, files, input, out, hands, steps) {
         Ok(()) => 0,
         Err(stop) => report(alloc, stop, err),
     }
@@ -73,11 +78,11 @@ fn do_words<'a, F: Files, I: Source, O: Sink, L: Ledger>(
     files: &mut F,
     input: &mut I,
     out: &mut O,
-    tellers: Vec<Box<dyn Teller>>,
-    supplier: Box<dyn Supplier>,
+    hands: Hands,
     steps: &mut Steps<L>,
 ) -> Result<(), Stop<'a>>
-    requires tellers { AreBothTellers (states tellers.items shows held) }
+    requires supplier { IsTrue (is_some hands.supplier) }
+    requires tellers { AreBothTellers (states hands.tellers.items shows held) }
     ensures done { OnOk result (Does (MayHave (map string_bytes words.now) (F.told files.old) (I.left input.old)) (O.contents out.old) (O.contents out.new)) }
     ensures stops { IfErr result (WorkStops (map string_bytes words.now)
         (disk F.told F.fault_count files.old) (disk F.told F.fault_count files.new)
@@ -93,7 +98,7 @@ fn do_words<'a, F: Files, I: Source, O: Sink, L: Ledger>(
         Ok(None) => return Err(Stop::Refused(Refusal::Usage)),
         Err(_) => return Err(Stop::NoMemory),
     };
-    do_task(alloc, job, files, input, out, tellers, supplier, steps)
+    do_task(alloc, job, files, input, out, hands, steps)
 }
 
 fn do_task<'a, F: Files, I: Source, O: Sink, L: Ledger>(
@@ -102,12 +107,12 @@ fn do_task<'a, F: Files, I: Source, O: Sink, L: Ledger>(
     files: &mut F,
     input: &mut I,
     out: &mut O,
-    tellers: Vec<Box<dyn Teller>>,
-    supplier: Box<dyn Supplier>,
+    hands: Hands,
     steps: &mut Steps<L>,
 ) -> Result<(), Stop<'a>>
     requires asked { (words : List (List ℕ)) × Asks words (job_of job) }
-    requires tellers { AreBothTellers (states tellers.items shows held) }
+    requires supplier { IsTrue (is_some hands.supplier) }
+    requires tellers { AreBothTellers (states hands.tellers.items shows held) }
     ensures done { OnOk result (DoesJob (job_of job.entry) (F.told files.old) (I.left input.old) (O.contents out.old) (O.contents out.new)) }
     ensures stops { IfErr result (JobStops (job_of job.entry)
         (disk F.told F.fault_count files.old) (disk F.told F.fault_count files.new)
@@ -120,22 +125,25 @@ fn do_task<'a, F: Files, I: Source, O: Sink, L: Ledger>(
 {
     match job.task {
         Task::Check => {
-            drop(supplier);
+            drop(hands);
             check_grammar(alloc, grammar_file(job.grammar), files, out)
         }
         Task::Tell { given, what } => {
             let grammar = grammar_file(job.grammar);
-            let supplier = kept(given, supplier);
+            let hands = Hands {
+                supplier: given.and(hands.supplier),
+                tellers: hands.tellers,
+            };
             tell_by(
-                alloc, grammar, given, supplier, what, job.input, files, input, out, tellers, steps,
+                alloc, grammar, given, what, job.input, files, input, out, hands, steps,
             )
         }
         Task::Work { size } => {
-            drop(supplier);
+            drop(hands);
             work_of_size(alloc, size, out, steps)
         }
         Task::Script => {
-            drop(supplier);
+            drop(hands);
             play_input(alloc, job.input, files, input, out, steps)
         }
     }
@@ -178,19 +186,18 @@ fn tell_by<'a, F: Files, I: Source, O: Sink, L: Ledger>(
     alloc: Global,
     grammar: &'a str,
     names: Option<&'a str>,
-    supplier: Option<Box<dyn Supplier>>,
     what: Telling<'_>,
     from: InputFrom<'a>,
     files: &mut F,
     input: &mut I,
     out: &mut O,
-    tellers: Vec<Box<dyn Teller>>,
+    hands: Hands,
     steps: &mut Steps<L>,
 ) -> Result<(), Stop<'a>>
-    requires both { is_some supplier ≡ is_some names }
+    requires both { is_some hands.supplier ≡ is_some names }
     requires few { length (names_told names) ≤ 8 }
     requires somewhere { input_of from ≢ Nowhere }
-    requires tellers { AreBothTellers (states tellers.items shows held) }
+    requires tellers { AreBothTellers (states hands.tellers.items shows held) }
     ensures done { OnOk result ((job : asked_words.Job) → IsTellJob job grammar.now (input_of from.entry) (names_told names.entry) (telling_of what.entry) →
         DoesJob job (F.told files.old) (I.left input.old) (O.contents out.old) (O.contents out.new)) }
     ensures stops { IfErr result (λ stop. (job : asked_words.Job) → IsTellJob job grammar.now (input_of from.entry) (names_told names.entry) (telling_of what.entry) → JobStops job
@@ -208,7 +215,7 @@ fn tell_by<'a, F: Files, I: Source, O: Sink, L: Ledger>(
     let prepared = load_grammar(alloc, grammar, files)?;
     let lexemes = lexemes_given(alloc, &prepared, names)?;
     let told = tell_input(
-        alloc, &prepared, &lexemes, supplier, what, from, files, input, out, tellers, steps,
+        alloc, &prepared, &lexemes, what, from, files, input, out, hands, steps,
     );
     drop(prepared);
     told

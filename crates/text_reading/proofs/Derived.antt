@@ -14,17 +14,14 @@ use Rattle.grammar_model.specs.Chosen.{AreChosen}
 use Rattle.grammar_model.specs.declared.limits.TheConstants.{LONGEST_INPUT}
 use Rattle.grammar_core.specs.declared.steps.Span.{Span}
 use Rattle.recognizer_model.specs.declared.flat.FlatSymbol.TheVariants.{Top}
-use Rattle.recognizer_model.specs.Chosen.{allowed_by}
-use Rattle.recognizer_model.specs.Counts.{IsCountOf}
 use Rattle.recognizer_model.specs.Flat.{lhs_of}
-use Rattle.recognizer_model.specs.Nodes.{IsExpanded}
 use Rattle.flat_model.specs.Flattened.{IsFlattened}
 use Rattle.recognizer_model.specs.FlatForm.{StandsFor, symbol_at, tree_of}
 use Rattle.recognizer_model.proofs.FlatFormLaw.{flat_form}
 use Rattle.recognizer_model.proofs.FlatChosen.{chosen_form}
 use Rattle.recognizer_model.proofs.Leaving.{leaves_some}
 use Rattle.earley_sets.specs.Laws.{TreesAreDerivations}
-use Rattle.earley_sets.specs.Recognizer.{Recognizer, IsRecognizer, HasTree, earleme_of, edges_of as held_edges, top_of as held_top}
+use Rattle.earley_sets.specs.Recognizer.{Recognizer, IsRecognizer, HasTree, earleme_of}
 use Rattle.forest_model.specs.Forest.{Forest, IsForest, top_of}
 use Rattle.forest_model.specs.Listing.{IsListing}
 use Rattle.forest_laws.specs.Lists.{trees_by}
@@ -38,7 +35,7 @@ use Rattle.run_model.specs.Listing.{AreDerivations}
 use Rattle.run_model.specs.Telling.{no_derivation_text}
 use Rattle.text_reading.specs.declared.refusal.Place.{Place}
 use Rattle.text_reading.specs.Refusals.{IsNoDerivation}
-use Rattle.text_reading.specs.Parts.{IsChosenOf, HasForest, AreExpectedOf}
+use Rattle.text_reading.specs.Parts.{IsChosenOf, HasForest, BuildsWithin, AreExpectedOf}
 
 -- A FOREST HAS A DERIVATION
 
@@ -147,12 +144,8 @@ module _ (b : Built) (given : List ℕ) (ranking : Ranking) (cs : List ℕ) (rec
   }
 
 -- the steps of a forest, by an equal grammar
-abbrev StepsWithin : Recognizer → Ranking → Grammar → (before after : ℕ) → Type 0
-StepsWithin recce ranking w before after =
-    (n : ℕ) → IsCountOf (IsExpanded recce.flat (held_edges recce) (allowed_by w ranking recce.flat (held_edges recce)) (held_top recce) (earleme_of recce)) n → after ≤ before + n
-
-pub steps_within : (recce : Recognizer) (ranking : Ranking) (w g : Grammar) (before after : ℕ) → w ≡ g → StepsWithin recce ranking w before after → StepsWithin recce ranking g before after
-steps_within recce ranking w g before after same within = subst (λ (x : Grammar). StepsWithin recce ranking x before after) same within
+pub builds_within : (recce : Recognizer) (ranking : Ranking) (w g : Grammar) (before after : ℕ) → w ≡ g → BuildsWithin w ranking recce before after → BuildsWithin g ranking recce before after
+builds_within recce ranking w g before after same within = subst (λ (x : Grammar). BuildsWithin x ranking recce before after) same within
 
 -- WHAT THE FOREST LISTS
 

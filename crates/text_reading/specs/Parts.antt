@@ -1,5 +1,5 @@
 -- What is known where a part of the way from bytes to what is read stops.
-use Rattle.std.specs.Prelude.{◌≡◌, ℕ, List, [], ◌∷◌, ◌++◌, Option, Some, None, map, codes, decimal, IsUtf8, slice_index_or}
+use Rattle.std.specs.Prelude.{◌≡◌, ℕ, ◌+◌, ◌≤◌, List, [], ◌∷◌, ◌++◌, Option, Some, None, map, codes, decimal, IsUtf8, slice_index_or}
 use Rattle.std.specs.Str.{IsValidUpTo}
 use Rattle.grammar_model.specs.Grammar.{Grammar, slot_of}
 use Rattle.grammar_model.specs.Trees.{Tree}
@@ -8,7 +8,9 @@ use Rattle.grammar_model.specs.declared.Edge.{Edge}
 use Rattle.grammar_model.specs.declared.Ranking.{Ranking}
 use Rattle.grammar_model.specs.Chosen.{IsChosen}
 use Rattle.grammar_core.specs.declared.steps.Span.{Span}
+use Rattle.recognizer_model.specs.Counts.{IsCountOf}
 use Rattle.earley_sets.specs.Recognizer.{Recognizer}
+use Rattle.bocage.specs.Expanded.{IsExpandedIn, IsHiddenNode}
 use Rattle.language_model.specs.declared.token.Token.{Token}
 use Rattle.language_model.specs.Tokens.{AreTokens, IsBadPlace, spelled_at}
 use Rattle.language_model.specs.Description.{Statement, Describes, IsBadStatement}
@@ -108,3 +110,9 @@ pub record HasForest (b : Built) (given : List ℕ) (ranking : Ranking) (cs : Li
   pub ranking_is : f.ranking ≡ ranking
   pub tree : Tree
   pub chosen : IsChosenOf b.g1 (edges_of pieces) ranking 0 (earleme_after pieces) tree
+
+-- the steps of a reading's forest: at most one for each hidden item that begins no earlier than a used node with the same end, and at
+-- most one for each that has a node
+pub record BuildsWithin (w : Grammar) (ranking : Ranking) (r : Recognizer) (before after : ℕ) : Type 0 where
+  pub expanded : (n : ℕ) → IsCountOf (IsExpandedIn w ranking r) n → after ≤ before + n
+  pub needed : (n : ℕ) → IsCountOf (IsHiddenNode w r) n → after ≤ before + n

@@ -1,14 +1,10 @@
 // The forest of a reading.
-ghost use Rattle.std.specs.Prelude.{◌≡◌, ◌≤◌, ◌+◌, ℕ, None, length, IfOk, IfErr};
+ghost use Rattle.std.specs.Prelude.{◌≡◌, ◌≤◌, None, length, IfOk, IfErr};
 ghost use Rattle.grammar_model.specs.declared.limits.TheConstants.{LONGEST_INPUT};
-ghost use Rattle.recognizer_model.specs.Counts.{IsCountOf};
-ghost use Rattle.recognizer_model.specs.Chosen.{allowed_by};
-ghost use Rattle.recognizer_model.specs.Nodes.{IsExpanded};
-ghost use Rattle.earley_sets.specs.Recognizer.{edges_of, top_of, earleme_of};
 ghost use Rattle.scanless.specs.declared.reading.Ending.TheVariants.{End};
 ghost use Rattle.run_model.specs.Telling.{no_derivation_text};
 ghost use Rattle.text_reading.specs.Refusals.{TellsInput, IsNoDerivation};
-ghost use Rattle.text_reading.specs.Parts.{HasForest, HoldsSome, AreExpectedOf, IsSomeReading, ForGiven};
+ghost use Rattle.text_reading.specs.Parts.{HasForest, BuildsWithin, HoldsSome, AreExpectedOf, IsSomeReading, ForGiven};
 
 use crate::Refusal;
 use crate::inputs::append_names;
@@ -40,14 +36,8 @@ pub fn forest_of<'r, L: Ledger>(
     ensures refused { IfErr result (λ refusal.
         ForGiven prepared.now chars.now reading.now.recce reading.now.spans.items End
         (λ given. TellsInput (IsNoDerivation prepared.now given ranking chars.now) refusal)) }
-    ensures counted { (n : ℕ) →
-        IsCountOf
-        (IsExpanded reading.now.recce.flat (edges_of reading.now.recce)
-        (allowed_by prepared.now.g1 ranking reading.now.recce.flat
-        (edges_of reading.now.recce))
-        (top_of reading.now.recce) (earleme_of reading.now.recce))
-        n →
-        steps.new ≤ steps.old + n }
+    ensures counted { BuildsWithin prepared.now.g1 ranking reading.now.recce
+        steps.old steps.new }
 {
     trees_are_derivations();
     prepared.known();

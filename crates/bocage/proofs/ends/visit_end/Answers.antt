@@ -2,19 +2,20 @@ use Rattle.std.proofs.Common.{◌≡◌, ◌∙◌, ◌<◌, ◌↔◌, ◌==◌
 use Rattle.std.proofs.lemmas.Bool.{eqb-true}
 use Rattle.std.proofs.lemmas.Result.{on_ok_weaker, IfOk-from_err}
 use Rattle.recognizer_model.specs.declared.Item.{Item}
-use Rattle.forest_parts.specs.Hidden.{IsHiddenFrom}
+use Rattle.forest_parts.specs.Needed.{IsBelowAsked}
 use Rattle.bocage.specs.declared.chains.Chains.{Chains}
 use Rattle.bocage.specs.Chains.{EndsAt, AreChained}
-use Rattle.bocage.specs.Expanded.{IsExpandedAt}
+use Rattle.bocage.specs.Expanded.{IsGivenAt}
 use Rattle.bocage.specs.Needed.{AreNeeded}
 use Rattle.bocage.specs.Walk.{IsUsedIn}
 use Rattle.bocage.proofs.Chained.{chained_more}
 use Rattle.bocage.proofs.Visiting.{none_visited}
 use Rattle.forest_parts.proofs.Counting.{rises_of, rises_none}
+use Rattle.forest_parts.proofs.Tops.{below_hidden}
+use Rattle.bocage.proofs.HiddenNodes.{asked_node}
 use Rattle.bocage.proofs.Expanding.{given_expanded}
 use Rattle.bocage.proofs.Needing.{needed_are}
 use Rattle.bocage.proofs.ends.visit_end.Goals.{then-whole, else-whole, else-is_empty-via-then-is_empty+else-not-whole, else-is_empty-via-else-is_empty}
-use Rattle.bocage.proofs.ends.visit_end.Given as given
 use Rattle.bocage.proofs.Growing.{grows_none}
 use Rattle.bocage.proofs.ends.visit_end.Goals as goal
 
@@ -53,38 +54,41 @@ positive b (suc n) e f = omega arith
 
 pub returns-in_err-hidden-clause-counted : goal.returns-in_err-hidden-clause-counted
 returns-in_err-hidden-clause-counted g c =
-    rises_of (IsHiddenFrom c.args.recce.now c.args.end c.least_origin-least.result) (IsExpandedAt c.args.w.now c.args.ranking c.args.recce.now c.args.end) c.args.steps.now c.list_needed.new.steps
-    (λ item h. (given_expanded c.args.w.now c.args.ranking c.args.recce.now c.requires.read c.args.end c.args.first c.args.found.now (map (λ r. r.now) c.args.table.now.items) c.requires.going c.deref.result.now
-    (λ n. subst (λ (l : List ℕ). Contains l n ↔ ((n < c.args.first) × EndsAt c.args.found.now.keys.keys c.args.end n)) (sym c.deref.ensures.value) (c.in_ok-list_nodes.ensures.listed n))
-    c.if-whole.lowest c.least_origin-least.result c.least_origin-least.ensures.nodes c.least_origin-least.ensures.bound c.least_origin-least.ensures.met
-    (λ e. elim c.if-whole.branch [ then-whole w ↦ w.lowest-is | else-whole w ↦ absurd (w.if-whole.false (e ∙ sym c.place.ensures.place)) ])
-    (λ n. (
-      elim c.if-whole.branch [ then-whole w ↦ absurd (n (w.if-whole.true ∙ c.place.ensures.place)) | else-whole w ↦ w.lowest-is ],
-      elim c.else-is_empty.branch [
-        | else-is_empty-via-then-is_empty+else-not-whole w ↦ absurd (n (w.if-not-whole.false ∙ c.place.ensures.place))
-        | else-is_empty-via-else-is_empty w ↦ subst (λ (l : List ℕ). 0 < length l) (c.as_slice.ensures.value ∙ sym c.deref.ensures.value) (positive c.is_empty.result (length c.as_slice.result.now) c.is_empty.ensures w.if-is_empty.false)
-      ],
+    rises_of (IsBelowAsked c.args.recce.now c.args.found.now.keys.keys c.args.end c.least_origin-least.result) (IsGivenAt c.args.w.now c.args.ranking c.args.recce.now c.args.end) c.args.steps.now c.list_needed.new.steps
+    (λ item h. (
+      given_expanded c.args.w.now c.args.ranking c.args.recce.now c.requires.read c.args.end c.args.first c.args.found.now (map (λ r. r.now) c.args.table.now.items) c.requires.going c.deref.result.now
+          (λ n. subst (λ (l : List ℕ). Contains l n ↔ ((n < c.args.first) × EndsAt c.args.found.now.keys.keys c.args.end n)) (sym c.deref.ensures.value) (c.in_ok-list_nodes.ensures.listed n))
+          c.if-whole.lowest c.least_origin-least.result c.least_origin-least.ensures.bound c.least_origin-least.ensures.met
+          (λ n. (
+            elim c.if-whole.branch [ then-whole w ↦ absurd (n (w.if-whole.true ∙ c.place.ensures.place)) | else-whole w ↦ w.lowest-is ],
+            elim c.else-is_empty.branch [
+              | else-is_empty-via-then-is_empty+else-not-whole w ↦ absurd (n (w.if-not-whole.false ∙ c.place.ensures.place))
+              | else-is_empty-via-else-is_empty w ↦ subst (λ (l : List ℕ). 0 < length l) (c.as_slice.ensures.value ∙ sym c.deref.ensures.value) (positive c.is_empty.result (length c.as_slice.result.now) c.is_empty.ensures w.if-is_empty.false)
+            ],
+          ))
+          item (below_hidden c.args.recce.now c.requires.read.is c.args.found.now.keys.keys c.args.end c.least_origin-least.result item h),
+      asked_node c.args.w.now c.args.recce.now c.requires.read c.args.end c.requires.end c.args.ranking c.args.found.now.keys.keys c.requires.going.used c.least_origin-least.result item h,
     ))
-    item).0 h)
     c.in_err-hidden.ensures.counted
-
-is_given : (g : given.Over) → (c : goal.After-drop-hidden g) → (item : Item) → IsHiddenFrom c.args.recce.now c.args.end c.least_origin-least.result item ↔ IsExpandedAt c.args.w.now c.args.ranking c.args.recce.now c.args.end item
-is_given g c =
-    given_expanded c.args.w.now c.args.ranking c.args.recce.now c.requires.read c.args.end c.args.first c.args.found.now (map (λ r. r.now) c.args.table.now.items) c.requires.going c.deref.result.now
-    (λ n. subst (λ (l : List ℕ). Contains l n ↔ ((n < c.args.first) × EndsAt c.args.found.now.keys.keys c.args.end n)) (sym c.deref.ensures.value) (c.in_ok-list_nodes.ensures.listed n))
-    c.if-whole.lowest c.least_origin-least.result c.least_origin-least.ensures.nodes c.least_origin-least.ensures.bound c.least_origin-least.ensures.met
-    (λ e. elim c.if-whole.branch [ then-whole w ↦ w.lowest-is | else-whole w ↦ absurd (w.if-whole.false (e ∙ sym c.place.ensures.place)) ])
-    (λ n. (
-      elim c.if-whole.branch [ then-whole w ↦ absurd (n (w.if-whole.true ∙ c.place.ensures.place)) | else-whole w ↦ w.lowest-is ],
-      elim c.else-is_empty.branch [
-        | else-is_empty-via-then-is_empty+else-not-whole w ↦ absurd (n (w.if-not-whole.false ∙ c.place.ensures.place))
-        | else-is_empty-via-else-is_empty w ↦ subst (λ (l : List ℕ). 0 < length l) (c.as_slice.ensures.value ∙ sym c.deref.ensures.value) (positive c.is_empty.result (length c.as_slice.result.now) c.is_empty.ensures w.if-is_empty.false)
-      ],
-    ))
 
 pub returns-clause-counted : goal.returns-clause-counted
 returns-clause-counted g c =
-    rises_of (IsHiddenFrom c.args.recce.now c.args.end c.least_origin-least.result) (IsExpandedAt c.args.w.now c.args.ranking c.args.recce.now c.args.end) c.args.steps.now c.list_needed.new.steps (λ item. (is_given g c item).0) c.in_ok-hidden.ensures.counted
+    rises_of (IsBelowAsked c.args.recce.now c.args.found.now.keys.keys c.args.end c.least_origin-least.result) (IsGivenAt c.args.w.now c.args.ranking c.args.recce.now c.args.end) c.args.steps.now c.list_needed.new.steps
+    (λ item h. (
+      given_expanded c.args.w.now c.args.ranking c.args.recce.now c.requires.read c.args.end c.args.first c.args.found.now (map (λ r. r.now) c.args.table.now.items) c.requires.going c.deref.result.now
+          (λ n. subst (λ (l : List ℕ). Contains l n ↔ ((n < c.args.first) × EndsAt c.args.found.now.keys.keys c.args.end n)) (sym c.deref.ensures.value) (c.in_ok-list_nodes.ensures.listed n))
+          c.if-whole.lowest c.least_origin-least.result c.least_origin-least.ensures.bound c.least_origin-least.ensures.met
+          (λ n. (
+            elim c.if-whole.branch [ then-whole w ↦ absurd (n (w.if-whole.true ∙ c.place.ensures.place)) | else-whole w ↦ w.lowest-is ],
+            elim c.else-is_empty.branch [
+              | else-is_empty-via-then-is_empty+else-not-whole w ↦ absurd (n (w.if-not-whole.false ∙ c.place.ensures.place))
+              | else-is_empty-via-else-is_empty w ↦ subst (λ (l : List ℕ). 0 < length l) (c.as_slice.ensures.value ∙ sym c.deref.ensures.value) (positive c.is_empty.result (length c.as_slice.result.now) c.is_empty.ensures w.if-is_empty.false)
+            ],
+          ))
+          item (below_hidden c.args.recce.now c.requires.read.is c.args.found.now.keys.keys c.args.end c.least_origin-least.result item h),
+      asked_node c.args.w.now c.args.recce.now c.requires.read c.args.end c.requires.end c.args.ranking c.args.found.now.keys.keys c.requires.going.used c.least_origin-least.result item h,
+    ))
+    c.in_ok-hidden.ensures.counted
 
 pub returns-clause-chained : goal.returns-clause-chained
 returns-clause-chained g c =
@@ -129,7 +133,7 @@ visit_from-requires-clause-hidden g c =
       | then-whole w ↦ let z = w.lowest-is in omega arith
       | else-whole w ↦ absurd (w.if-whole.false (e ∙ sym c.place.ensures.place))
     ]))
-    c.requires.end c.in_ok-hidden.hidden.items c.in_ok-hidden.ensures.below)
+    c.requires.end c.in_ok-hidden.hidden.items c.in_ok-hidden.ensures.exact)
 
 pub visit_from-requires-clause-read : goal.visit_from-requires-clause-read
 visit_from-requires-clause-read g c = c.requires.read
@@ -147,7 +151,7 @@ pub returns-clause-grows : goal.returns-clause-grows
 returns-clause-grows g c = c.visit_from.ensures.grows
 
 pub returns-in_err-list_nodes-clause-counted : goal.returns-in_err-list_nodes-clause-counted
-returns-in_err-list_nodes-clause-counted g c = rises_none (IsExpandedAt c.args.w.now c.args.ranking c.args.recce.now c.args.end) c.args.steps.now
+returns-in_err-list_nodes-clause-counted g c = rises_none (IsGivenAt c.args.w.now c.args.ranking c.args.recce.now c.args.end) c.args.steps.now
 
 pub returns-then-not-whole-clause-counted : goal.returns-then-not-whole-clause-counted
-returns-then-not-whole-clause-counted g c = rises_none (IsExpandedAt c.args.w.now c.args.ranking c.args.recce.now c.args.end) c.args.steps.now
+returns-then-not-whole-clause-counted g c = rises_none (IsGivenAt c.args.w.now c.args.ranking c.args.recce.now c.args.end) c.args.steps.now

@@ -1,4 +1,4 @@
-use Rattle.std.proofs.Common.{◌≡◌, ◌∙◌, ◌≤◌, Some, length, sym, ap, subst, arith}
+use Rattle.std.proofs.Common.{◌≡◌, ◌∙◌, ◌≤◌, Some, length, sym, ap, refl, subst, arith}
 use Rattle.std.proofs.lemmas.Option.{slice_get_within}
 use Rattle.finite_sets.proofs.Lists.{got_item, got_at}
 use Rattle.recognizer_model.specs.declared.Item.{Item}
@@ -34,8 +34,8 @@ loop-k-preserved c =
     let low = origin_below c.args.recce.now.flat (edges_of c.args.recce.now) (top_of c.args.recce.now) (at_top c.args.recce.now c.requires.is) (goes c.args.recce.now c.requires.is) inside in
     let within = c.requires.origin in
     takes_more c.args.recce.now (λ (w x : Item). x ≡ advanced w) c.waiting-waiting.result c.loop-k.k c.args.items.now.keys c.loop-k.items.keys c.insert.new.self.keys c.at.result (advanced c.at.result) c.loop-k.invariant c.at.ensures
-    (subst (λ (z : Item). Adds c.loop-k.items.keys c.insert.new.self.keys z) c.advanced.ensures (adds_key c.loop-k.items.keys c.insert.new.self.keys _ c.in_ok-insert.ensures.keys)) (λ x e. e)
-    ((found_item c.args.recce.now c.requires.is c.args.item.origin c.at.result inside).is_rule, omega arith)
+    (subst (λ (z : Item). Adds c.loop-k.items.keys c.insert.new.self.keys z) c.advanced.ensures (adds_key c.loop-k.items.keys c.insert.new.self.keys _ c.in_ok-insert.ensures.keys)) refl (λ x e. e)
+    (record { is_rule = (found_item c.args.recce.now c.requires.is c.args.item.origin c.at.result inside).is_rule; within = (let lt = slice_get_within (rhs_of c.args.recce.now.flat c.at.result.rule) c.at.result.dot c.lhs.result waits in omega arith) }, omega arith)
 
 pub returns : goal.returns
 returns c =
@@ -44,4 +44,7 @@ returns c =
     (λ x (w, kept, waits, e). (let (i, at) = found_at c.waiting-waiting.result w ((c.waiting-waiting.ensures w).1 (kept, waits ∙ ap Some (sym (c.lhs.ensures ∙ ap (λ (g : FlatGrammar). lhs_of g c.args.item.rule) c.flat-flat.ensures)))) in
     let (lt, same) = got_at c.waiting-waiting.result i w w (sym at) in
     (i, w, omega arith, at, e)))
+    (λ x (i, w, lt, at, e).
+    (let (kept, waits) = (c.waiting-waiting.ensures w).0 (got_item c.waiting-waiting.result i w (sym at)) in
+    (w, kept, waits ∙ ap Some (c.lhs.ensures ∙ ap (λ (g : FlatGrammar). lhs_of g c.args.item.rule) c.flat-flat.ensures), e)))
     c.loop-k.invariant

@@ -11,6 +11,7 @@ use Rattle.forest_parts.proofs.unasked.put_over.Goals as goal
 pub returns-in_ok-insert-in-Some : goal.returns-in_ok-insert-in-Some
 returns-in_ok-insert-in-Some c =
     takes_one c.args.recce.now (IsOver c.args.recce.now c.args.end c.args.item) c.args.items.now.keys c.insert.new.self.keys c.in-Some.top (adds_key c.args.items.now.keys c.insert.new.self.keys _ c.in_ok-insert-in-Some.ensures.keys)
+    (inl c.in-Some.ensures.some)
     (λ x p. elim p [
       | inl up ↦ leads_same c.args.recce.now c.requires.is c.args.end c.args.item x c.in-Some.top up c.in-Some.ensures.some
       | inr (still, w) ↦ absurd (leads_none c.args.recce.now c.args.end c.args.item c.in-Some.top c.in-Some.ensures.some still)
@@ -24,5 +25,6 @@ returns-in-None c =
     (λ x p. elim p [
       | inl up ↦ absurd (leads_none c.args.recce.now c.args.end c.args.item x up (c.topmost.ensures.none (subst (λ (o : Option Item). IsNone o) (sym c.in-None.is) refl)))
       | inr (still, w) ↦ w
-    ]) t)
+    ])
+    (λ x w. inr (c.topmost.ensures.none (subst (λ (o : Option Item). IsNone o) (sym c.in-None.is) refl), w)) t)
     c.put_awaiting.ensures

@@ -109,8 +109,8 @@ tell_input-told-requires-clause-names g c =
 
 pub tell_input-told-requires-clause-both : goal.tell_input-told-requires-clause-both
 tell_input-told-requires-clause-both g c =
-    subst (λ (xs : List ℕ). IsTrue (is_some c.args.supplier) ↔ (0 < length xs)) (sym c.deref.ensures.value)
-    (both_given c.in_ok-prepared.prepared c.args.names (is_some c.args.supplier) c.in_ok-lexemes.lexemes.items c.requires.both c.in_ok-lexemes.ensures.given)
+    subst (λ (xs : List ℕ). IsTrue (is_some c.args.hands.supplier) ↔ (0 < length xs)) (sym c.deref.ensures.value)
+    (both_given c.in_ok-prepared.prepared c.args.names (is_some c.args.hands.supplier) c.in_ok-lexemes.lexemes.items c.requires.both c.in_ok-lexemes.ensures.given)
 
 pub returns-in_err-lexemes-clause-stops : goal.returns-in_err-lexemes-clause-stops
 returns-in_err-lexemes-clause-stops g c =

@@ -3,7 +3,7 @@ use Rattle.run_model.specs.Telling.{no_derivation_text}
 use Rattle.std.proofs.Common.{◌≡◌, None}
 use Rattle.text_reading.specs.Refusals.{IsNoDerivation}
 use Rattle.text_reading.specs.Parts.{AreExpectedOf}
-use Rattle.text_reading.proofs.Derived.{has_forest, no_derivation, steps_within}
+use Rattle.text_reading.proofs.Derived.{has_forest, no_derivation, builds_within}
 use Rattle.text_reading.proofs.InputLemmas.{input_weaker}
 use Rattle.text_reading.proofs.forests.forest_of.Goals as goal
 
@@ -23,13 +23,13 @@ returns-in_ok-no_derivation-in-Err-NoParse-clause-refused g c given read =
     c.in_ok-no_derivation-in-Err-NoParse.field-0 c.in_ok-no_derivation-in-Err-NoParse.ensures
 
 pub returns-in-Ok-clause-counted : goal.returns-in-Ok-clause-counted
-returns-in-Ok-clause-counted g c = steps_within c.args.reading.now.recce c.args.ranking c.written.result.now c.args.prepared.now.g1 _ _ c.written.ensures c.build.ensures.counted
+returns-in-Ok-clause-counted g c = builds_within c.args.reading.now.recce c.args.ranking c.written.result.now c.args.prepared.now.g1 _ _ c.written.ensures (record { expanded = c.build.ensures.counted; needed = c.build.ensures.needed })
 
 pub returns-in_ok-no_derivation-in-Err-NoParse-clause-counted : goal.returns-in_ok-no_derivation-in-Err-NoParse-clause-counted
-returns-in_ok-no_derivation-in-Err-NoParse-clause-counted g c = steps_within c.args.reading.now.recce c.args.ranking c.written.result.now c.args.prepared.now.g1 _ _ c.written.ensures c.build.ensures.counted
+returns-in_ok-no_derivation-in-Err-NoParse-clause-counted g c = builds_within c.args.reading.now.recce c.args.ranking c.written.result.now c.args.prepared.now.g1 _ _ c.written.ensures (record { expanded = c.build.ensures.counted; needed = c.build.ensures.needed })
 
 pub returns-in_err-no_derivation-in-Err-NoParse-clause-counted : goal.returns-in_err-no_derivation-in-Err-NoParse-clause-counted
-returns-in_err-no_derivation-in-Err-NoParse-clause-counted g c = steps_within c.args.reading.now.recce c.args.ranking c.written.result.now c.args.prepared.now.g1 _ _ c.written.ensures c.build.ensures.counted
+returns-in_err-no_derivation-in-Err-NoParse-clause-counted g c = builds_within c.args.reading.now.recce c.args.ranking c.written.result.now c.args.prepared.now.g1 _ _ c.written.ensures (record { expanded = c.build.ensures.counted; needed = c.build.ensures.needed })
 
 pub returns-in-Err-NoMemory-clause-counted : goal.returns-in-Err-NoMemory-clause-counted
-returns-in-Err-NoMemory-clause-counted g c = steps_within c.args.reading.now.recce c.args.ranking c.written.result.now c.args.prepared.now.g1 _ _ c.written.ensures c.build.ensures.counted
+returns-in-Err-NoMemory-clause-counted g c = builds_within c.args.reading.now.recce c.args.ranking c.written.result.now c.args.prepared.now.g1 _ _ c.written.ensures (record { expanded = c.build.ensures.counted; needed = c.build.ensures.needed })

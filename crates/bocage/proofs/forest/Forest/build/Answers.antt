@@ -1,13 +1,27 @@
-use Rattle.bocage.specs.Expanded.{IsExpandedIn}
-use Rattle.forest_parts.proofs.Counting.{rises_most}
+use Rattle.bocage.specs.Expanded.{IsExpandedIn, IsHiddenNode, IsGivenIn}
+use Rattle.forest_parts.proofs.Counting.{rises_of, rises_most}
 use Rattle.std.proofs.lemmas.Result.{IfOk-from_err}
 use Rattle.bocage.proofs.forest.Forest.build.Goals as goal
 
 pub returns-clause-counted : goal.returns-clause-counted
-returns-clause-counted g c n all = rises_most (IsExpandedIn c.args.w.now c.args.ranking c.args.recce.now) c.args.steps.now c.grow.new.steps n c.grow.ensures.counted all
+returns-clause-counted g c n all =
+    rises_most (IsExpandedIn c.args.w.now c.args.ranking c.args.recce.now) c.args.steps.now c.grow.new.steps n
+    (rises_of (IsGivenIn c.args.w.now c.args.ranking c.args.recce.now) (IsExpandedIn c.args.w.now c.args.ranking c.args.recce.now) c.args.steps.now c.grow.new.steps (λ p h. h.0) c.grow.ensures.counted) all
+
+pub returns-clause-needed : goal.returns-clause-needed
+returns-clause-needed g c n all =
+    rises_most (IsHiddenNode c.args.w.now c.args.recce.now) c.args.steps.now c.grow.new.steps n
+    (rises_of (IsGivenIn c.args.w.now c.args.ranking c.args.recce.now) (IsHiddenNode c.args.w.now c.args.recce.now) c.args.steps.now c.grow.new.steps (λ p h. h.1) c.grow.ensures.counted) all
 
 pub returns-in_err-grow-clause-counted : goal.returns-in_err-grow-clause-counted
-returns-in_err-grow-clause-counted g c n all = rises_most (IsExpandedIn c.args.w.now c.args.ranking c.args.recce.now) c.args.steps.now c.grow.new.steps n c.grow.ensures.counted all
+returns-in_err-grow-clause-counted g c n all =
+    rises_most (IsExpandedIn c.args.w.now c.args.ranking c.args.recce.now) c.args.steps.now c.grow.new.steps n
+    (rises_of (IsGivenIn c.args.w.now c.args.ranking c.args.recce.now) (IsExpandedIn c.args.w.now c.args.ranking c.args.recce.now) c.args.steps.now c.grow.new.steps (λ p h. h.0) c.grow.ensures.counted) all
+
+pub returns-in_err-grow-clause-needed : goal.returns-in_err-grow-clause-needed
+returns-in_err-grow-clause-needed g c n all =
+    rises_most (IsHiddenNode c.args.w.now c.args.recce.now) c.args.steps.now c.grow.new.steps n
+    (rises_of (IsGivenIn c.args.w.now c.args.ranking c.args.recce.now) (IsHiddenNode c.args.w.now c.args.recce.now) c.args.steps.now c.grow.new.steps (λ p h. h.1) c.grow.ensures.counted) all
 
 pub returns-in_err-grow-clause-forest : goal.returns-in_err-grow-clause-forest
 returns-in_err-grow-clause-forest g c = IfOk-from_err _ _ c.from_residual.ensures.0
