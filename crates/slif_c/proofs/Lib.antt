@@ -1,0 +1,4 @@
+pub mod Words
+mod Overlaying
+mod Gathering
+mod Telling

@@ -1,0 +1,106 @@
+/* slif.h: reading by a grammar, from C. Link with libslif.a or with libslif.so; docs/C.md is the guide. */
+#ifndef SLIF_H
+#define SLIF_H
+
+#include <stdbool.h>
+#include <stddef.h>
+#include <stdint.h>
+
+#ifdef __cplusplus
+extern "C" {
+#endif
+
+/* What a call answers. The first four are the statuses of the program slif. */
+enum {
+    SLIF_OK = 0,
+    SLIF_INPUT = 1,     /* the input is refused, or has no derivation; *fault tells why */
+    SLIF_GRAMMAR = 3,   /* the grammar is refused; *fault tells why */
+    SLIF_NO_MEMORY = 5, /* all that was given is as it was */
+    SLIF_EMPTY = 6,     /* the handle is empty */
+    SLIF_RANGE = 7      /* there is no symbol, rule, derivation or step of that number */
+};
+
+/* How ranks of rules count, as --rank of the program says. Any other number is SLIF_RANK_HIGH. */
+enum { SLIF_RANK_NONE = 0, SLIF_RANK_RULE = 1, SLIF_RANK_HIGH = 2 };
+
+/* What a step is. */
+enum { SLIF_TOKEN = 0, SLIF_NULLED = 1, SLIF_RULE = 2 };
+
+/* Handles. `slif_grammar g = SLIF_NEW;` makes an empty one, and so does each `.._free`. A program reads and writes no member
+   and copies no handle: two copies would free one block twice. */
+typedef struct { void *slif_at; bool slif_full; } slif_grammar;
+typedef struct { void *slif_at; bool slif_full; } slif_parse;
+#define SLIF_NEW { 0, false }
+
+/* What is told of a refusal: line and column from 1, columns in characters, or zeros where the fault has no place; the
+   length of the message in bytes; how many lexemes could come next. It is written where a call answers SLIF_INPUT or
+   SLIF_GRAMMAR, and left as it was by every other answer. */
+typedef struct {
+    uint32_t line, column;
+    size_t message, expected;
+} slif_fault;
+
+/* A step of a derivation; children stand before their rule. `number` is a symbol where the step is a token or spans nothing,
+   else a rule, from 0 in the order of the grammar's text; `children` says how many of the newest values are the rule's.
+   `from` and `to` count tokens, `start` and `length` characters, `byte` and `bytes` bytes of the input. */
+typedef struct {
+    uint32_t kind, number, children, from, to, start, length;
+    size_t byte, bytes;
+} slif_step;
+
+/* Lengths are told in full where room is short, as by snprintf, and nothing is written past the room. A pointer with a count
+   is not null and is aligned, also where the count is 0; the functions of the second half allow null. What pointers of one
+   call lead to does not overlap, and does not change while the call runs. */
+
+/* Makes a grammar of its text, in UTF-8. What the handle had before is let go, unless the text is refused. */
+uint32_t slif_grammar_new(const uint8_t *text, size_t length, slif_grammar *grammar, slif_fault *fault,
+                          uint8_t *message, size_t message_room);
+void slif_grammar_free(slif_grammar *grammar);
+uint32_t slif_grammar_counts(slif_grammar *grammar, size_t *symbols, size_t *rules);
+uint32_t slif_symbol_name(slif_grammar *grammar, uint32_t symbol, uint8_t *name, size_t room, size_t *length);
+uint32_t slif_rule_left(slif_grammar *grammar, uint32_t rule, uint32_t *left);
+
+/* Reads an input, in UTF-8, and keeps at most `most` of its derivations, in the declared order, behind the first `skip`.
+   What the handle had before is let go, unless the input is refused. */
+uint32_t slif_parse_new(slif_grammar *grammar, const uint8_t *input, size_t length, uint32_t rank, uint64_t skip,
+                        uint64_t most, slif_parse *parse, slif_fault *fault, uint8_t *message, size_t message_room,
+                        uint32_t *expected, size_t expected_room);
+void slif_parse_free(slif_parse *parse);
+
+/* How many derivations are kept, and whether there are more behind them. */
+uint32_t slif_parse_counts(slif_parse *parse, uint64_t *derivations, bool *more);
+
+/* Copies the steps of a derivation from step `from` on; *count is how many there are from there on. */
+uint32_t slif_parse_steps(slif_parse *parse, uint64_t derivation, size_t from, slif_step *steps, size_t room,
+                          size_t *count);
+
+/* The same for callers that have null pointers: a null `text`, `input`, `message` or `expected` has count 0 whatever its
+   count says, and a null `fault` is told nothing. */
+static inline const uint8_t *slif_bytes(const void *bytes) {
+    static const uint8_t none = 0;
+    return bytes ? (const uint8_t *)bytes : &none;
+}
+
+static inline uint32_t slif_grammar_make(slif_grammar *grammar, const void *text, size_t length, slif_fault *fault,
+                                         char *message, size_t room) {
+    uint8_t none;
+    slif_fault untold;
+    return slif_grammar_new(slif_bytes(text), text ? length : 0, grammar, fault ? fault : &untold,
+                            message ? (uint8_t *)message : &none, message ? room : 0);
+}
+
+static inline uint32_t slif_parse_make(slif_parse *parse, slif_grammar *grammar, const void *input, size_t length,
+                                       uint32_t rank, uint64_t skip, uint64_t most, slif_fault *fault, char *message,
+                                       size_t room, uint32_t *expected, size_t expected_room) {
+    uint8_t none;
+    uint32_t no_symbol;
+    slif_fault untold;
+    return slif_parse_new(grammar, slif_bytes(input), input ? length : 0, rank, skip, most, parse,
+                          fault ? fault : &untold, message ? (uint8_t *)message : &none, message ? room : 0,
+                          expected ? expected : &no_symbol, expected ? expected_room : 0);
+}
+
+#ifdef __cplusplus
+}
+#endif
+#endif

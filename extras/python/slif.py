@@ -1,0 +1,304 @@
+"""Reading by a grammar: the library libslif, through ctypes. Nothing else is needed.
+
+A grammar is made of its text, and reads inputs:
+
+>>> grammar = Grammar('''
+... lexeme default = latm => 1
+... Sum ::= Number | Sum '+' Number
+... Number ~ [0-9]+
+... ''')
+>>> parse = grammar.parse("1+20+3")
+>>> parse.first.tree()
+('Sum', ('Sum', ('Sum', '1'), '+', '20'), '+', '3')
+
+A value is made by a class with a method for each symbol that it knows, children before their rule:
+
+>>> class Sums(Fold):
+...     def Number(self, text):
+...         return int(text)
+...     def Sum(self, left, *more):
+...         return left + more[1] if more else left
+>>> parse.first.fold(Sums())
+24
+
+A refusal tells its place and what could stand there:
+
+>>> grammar.parse("1+x")
+Traceback (most recent call last):
+    ...
+slif.InputError: input stopped at line 1 column 3; found: none; expected: Number
+>>> try:
+...     grammar.parse("1+x")
+... except SlifError as error:
+...     error.line, error.column, error.expected
+(1, 3, ['Number'])
+
+An ambiguous input has several derivations, in the declared order:
+
+>>> twice = Grammar("E ::= E '+' E | '1'")
+>>> for derivation in twice.derivations("1+1+1"):
+...     print(derivation.tree())
+('E', ('E', ('E', '1'), '+', ('E', '1')), '+', ('E', '1'))
+('E', ('E', '1'), '+', ('E', ('E', '1'), '+', ('E', '1')))
+
+The shared object is looked for by the name in the variable SLIF_LIBRARY, or else as libslif.so.0, where the system looks for libraries.
+"""
+from __future__ import annotations
+
+import ctypes
+import os
+import struct
+from typing import Any, Iterator, NamedTuple, Optional, Sequence, Union
+
+__all__ = ["Derivation", "Fold", "Grammar", "GrammarError", "InputError", "NULLED", "Parse", "RULE", "SlifError", "Step", "TOKEN"]
+
+Text = Union[str, bytes]
+
+TOKEN, NULLED, RULE = 0, 1, 2
+
+_OK, _INPUT, _GRAMMAR, _NO_MEMORY = 0, 1, 3, 5
+_RANKS = {"none": 0, "rule": 1, "high": 2}
+_MESSAGE, _EXPECTED = 4096, 1024
+_STEP = struct.Struct("@7I2N")
+
+
+class _Handle(ctypes.Structure):
+    _fields_ = [("at", ctypes.c_void_p), ("full", ctypes.c_bool)]
+
+
+class _Fault(ctypes.Structure):
+    _fields_ = [("line", ctypes.c_uint32), ("column", ctypes.c_uint32), ("message", ctypes.c_size_t), ("expected", ctypes.c_size_t)]
+
+
+_u32, _u64, _size, _pointer = ctypes.c_uint32, ctypes.c_uint64, ctypes.c_size_t, ctypes.c_void_p
+_CALLS = {
+    "slif_grammar_new": [_pointer, _size, _pointer, _pointer, _pointer, _size],
+    "slif_grammar_free": [_pointer],
+    "slif_grammar_counts": [_pointer, _pointer, _pointer],
+    "slif_symbol_name": [_pointer, _u32, _pointer, _size, _pointer],
+    "slif_rule_left": [_pointer, _u32, _pointer],
+    "slif_parse_new": [_pointer, _pointer, _size, _u32, _u64, _u64, _pointer, _pointer, _pointer, _size, _pointer, _size],
+    "slif_parse_free": [_pointer],
+    "slif_parse_counts": [_pointer, _pointer, _pointer],
+    "slif_parse_steps": [_pointer, _u64, _size, _pointer, _size, _pointer],
+}
+
+
+def _library() -> ctypes.CDLL:
+    library = ctypes.CDLL(os.environ.get("SLIF_LIBRARY", "libslif.so.0"))
+    for name, types in _CALLS.items():
+        call = getattr(library, name)
+        call.argtypes, call.restype = types, None if name.endswith("_free") else _u32
+    return library
+
+
+_lib = _library()
+_by = ctypes.byref
+
+
+class Step(NamedTuple):
+    """A step of a derivation; children stand before their rule. `number` is a symbol where `kind` is TOKEN or NULLED, else a rule, from 0 in
+    the order of the grammar's text; `children` says how many of the newest values are the rule's. `start_token` and `end_token` count tokens,
+    `start` and `length` characters, `byte` and `bytes` bytes of the input."""
+
+    kind: int
+    number: int
+    children: int
+    start_token: int
+    end_token: int
+    start: int
+    length: int
+    byte: int
+    bytes: int
+
+
+class SlifError(Exception):
+    """A refusal: its message, its line and column from 1, or None where it has no place, and the names of the lexemes that could come next."""
+
+    def __init__(self, message: str, line: Optional[int] = None, column: Optional[int] = None, expected: Sequence[str] = ()):
+        super().__init__(message)
+        self.line, self.column, self.expected = line, column, list(expected)
+
+
+class GrammarError(SlifError):
+    """The text is no grammar."""
+
+
+class InputError(SlifError):
+    """The input is not read to its end, or has no derivation."""
+
+
+class Fold:
+    """How a value is made of a derivation. A class of your own has a method for each symbol that it knows, by the symbol's name: that of a
+    lexeme takes its text, that of a left side the values of the children. What has no method goes to one of the three below."""
+
+    def rule(self, left: str, number: int, children: list[Any]) -> Any:
+        """The value of a rule: its left side and the values of its children."""
+        return (left, *children)
+
+    def token(self, name: str, text: str) -> Any:
+        """The value of a token: its text."""
+        return text
+
+    def nulled(self, name: str) -> Any:
+        """The value of a symbol that spans nothing: None."""
+        return None
+
+
+class Derivation:
+    """A derivation of an input, by its steps."""
+
+    def __init__(self, grammar: Grammar, data: bytes, raw: ctypes.Array):
+        self._grammar, self._data, self._raw = grammar, data, raw
+
+    @property
+    def steps(self) -> list[Step]:
+        """The steps, children before their rule.
+
+        >>> [step.kind for step in Grammar("E ::= E '+' E | '1'").parse("1+1").first.steps]
+        [0, 2, 0, 0, 2, 2]
+        """
+        return [Step(*step) for step in _STEP.iter_unpack(self._raw)]
+
+    def fold(self, semantics: Fold) -> Any:
+        """The value of the derivation. It is made by one walk over the steps, whatever the depth of the tree.
+
+        >>> class Depth(Fold):
+        ...     def rule(self, left, number, children):
+        ...         return 1 + max(children)
+        ...     def token(self, name, text):
+        ...         return 0
+        >>> Grammar("E ::= E '+' E | '1'").parse("1+1+1").first.fold(Depth())
+        3
+        """
+        names, lefts, data, held = self._grammar.symbols, self._grammar.lefts, self._data, []
+        of_symbol = [getattr(semantics, name, None) if name.isidentifier() and name not in _RESERVED else None for name in names]
+        of_rule = [of_symbol[left] for left in lefts]
+        for kind, number, count, _, _, _, _, byte, size in _STEP.iter_unpack(self._raw):
+            if kind == RULE:
+                cut = len(held) - count
+                children = held[cut:]
+                del held[cut:]
+                method = of_rule[number]
+                held.append(method(*children) if method else semantics.rule(names[lefts[number]], number, children))
+            elif kind == TOKEN:
+                text = data[byte:byte + size].decode()
+                method = of_symbol[number]
+                held.append(method(text) if method else semantics.token(names[number], text))
+            else:
+                held.append(semantics.nulled(names[number]))
+        return held.pop()
+
+    def tree(self) -> Any:
+        """The derivation as tuples, a left side and its parts; texts for tokens, and None for what spans nothing."""
+        return self.fold(Fold())
+
+
+_RESERVED = {"rule", "token", "nulled"}
+
+
+class Parse:
+    """An input that is read, with some of its derivations; `more` says whether there are more behind them."""
+
+    def __init__(self, grammar: Grammar, data: bytes, handle: _Handle):
+        self._grammar, self._data, self._handle = grammar, data, handle
+        count, more = _u64(), ctypes.c_bool()
+        _lib.slif_parse_counts(_by(handle), _by(count), _by(more))
+        self._count, self.more = count.value, more.value
+
+    def __len__(self) -> int:
+        """How many derivations are kept."""
+        return self._count
+
+    def __getitem__(self, k: int) -> Derivation:
+        if not 0 <= k < self._count:
+            raise IndexError(k)
+        total = _size()
+        _lib.slif_parse_steps(_by(self._handle), k, 0, _by(_u64()), 0, _by(total))
+        raw = ctypes.create_string_buffer(total.value * _STEP.size)
+        _lib.slif_parse_steps(_by(self._handle), k, 0, raw, total, _by(total))
+        return Derivation(self._grammar, self._data, raw)
+
+    def derivations(self) -> Iterator[Derivation]:
+        """Those that are kept."""
+        return (self[k] for k in range(self._count))
+
+    @property
+    def first(self) -> Derivation:
+        return self[0]
+
+    def __del__(self) -> None:
+        _lib.slif_parse_free(_by(self._handle))
+
+
+class Grammar:
+    """A grammar, of its text.
+
+    >>> grammar = Grammar("E ::= E '+' E | '1'")
+    >>> grammar.symbols, [grammar.symbols[left] for left in grammar.lefts]
+    (['E', "'+'", "'1'"], ['E', 'E'])
+    >>> Grammar("E ::= F")
+    Traceback (most recent call last):
+        ...
+    slif.GrammarError: grammar: no rule for F at line 1 column 7
+    """
+
+    def __init__(self, text: Text):
+        data = _encoded(text)
+        self._handle, fault, message = _Handle(None, False), _Fault(), ctypes.create_string_buffer(_MESSAGE)
+        answer = _lib.slif_grammar_new(data, len(data), _by(self._handle), _by(fault), message, _MESSAGE)
+        self._stop(answer, fault, message, ())
+        symbols, rules = _size(), _size()
+        _lib.slif_grammar_counts(_by(self._handle), _by(symbols), _by(rules))
+        self.symbols: list[str] = [self._name(k) for k in range(symbols.value)]
+        self.lefts: list[int] = [self._left(k) for k in range(rules.value)]
+
+    def _name(self, symbol: int) -> str:
+        length = _size()
+        _lib.slif_symbol_name(_by(self._handle), symbol, _by(_u64()), 0, _by(length))
+        name = ctypes.create_string_buffer(length.value + 1)
+        _lib.slif_symbol_name(_by(self._handle), symbol, name, length, _by(length))
+        return name.raw[:length.value].decode()
+
+    def _left(self, rule: int) -> int:
+        left = _u32()
+        _lib.slif_rule_left(_by(self._handle), rule, _by(left))
+        return left.value
+
+    def _stop(self, answer: int, fault: _Fault, message: ctypes.Array, expected: Sequence[int]) -> None:
+        if answer == _OK:
+            return
+        if answer == _NO_MEMORY:
+            raise MemoryError
+        text = message.raw[:min(fault.message, _MESSAGE)].decode(errors="ignore")
+        line, column = (fault.line, fault.column) if fault.line else (None, None)
+        if answer == _GRAMMAR:
+            raise GrammarError(text, line, column)
+        raise InputError(text, line, column, [self.symbols[k] for k in expected[:min(fault.expected, _EXPECTED)]])
+
+    def parse(self, text: Text, *, rank: str = "rule", skip: int = 0, most: int = 1) -> Parse:
+        """Reads a text, and keeps at most `most` of its derivations, behind the first `skip`; `rank` is none, rule or high."""
+        data = _encoded(text)
+        handle, fault, message, expected = _Handle(None, False), _Fault(), ctypes.create_string_buffer(_MESSAGE), (_u32 * _EXPECTED)()
+        answer = _lib.slif_parse_new(_by(self._handle), data, len(data), _RANKS[rank], skip, most, _by(handle), _by(fault), message, _MESSAGE, expected, _EXPECTED)
+        self._stop(answer, fault, message, expected)
+        return Parse(self, data, handle)
+
+    def derivations(self, text: Text, *, rank: str = "rule") -> Iterator[Derivation]:
+        """All derivations of a text, one after another. They come in batches, each as large as all before it, and the text is read for each."""
+        skip, most = 0, 1
+        while True:
+            parse = self.parse(text, rank=rank, skip=skip, most=most)
+            yield from parse.derivations()
+            if not parse.more:
+                return
+            skip += most
+            most = skip
+
+    def __del__(self) -> None:
+        if hasattr(self, "_handle"):
+            _lib.slif_grammar_free(_by(self._handle))
+
+
+def _encoded(text: Text) -> bytes:
+    return text.encode() if isinstance(text, str) else bytes(text)
