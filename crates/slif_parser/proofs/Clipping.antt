@@ -2,7 +2,10 @@
 use Rattle.std.proofs.Common.{◌≡◌, ◌∙◌, inl, inr, ℕ, zero, suc, ◌-◌, List, [], length, take, drop, min, sym, ap, refl, arith, length-drop}
 use Rattle.std.specs.Prelude.{slice_range}
 use Rattle.std.proofs.lemmas.Bool.{cases_lt}
-use Rattle.std.proofs.lemmas.List.{take_all, drop_all}
+use Rattle.std.proofs.lemmas.List.{take_all, drop_all, take_min}
+use Rattle.outside_model.specs.Places.{line_after, column_after}
+use Rattle.text_reading.specs.Refusals.{place_in}
+use Rattle.text_reading.specs.declared.refusal.Place.{Place}
 
 nothing : (n : ℕ) → ◌≡◌ {A = List ℕ} (take n []) []
 nothing zero = refl
@@ -33,3 +36,12 @@ clipped cs start end to from e f = elim (cases_lt (length cs) end) [
             ap (λ n. take (to - from) (drop n cs)) stays ∙ ap (λ n. take n (drop start cs)) (let d : to - from ≡ end - start = omega (arith, same, stays) in d)
       ]
 ]
+
+-- the place of a character, which is taken for the end where it lies behind that
+pub placed : (cs : List ℕ) (character at line column : ℕ) → at ≡ min character (length cs) → line ≡ line_after (take at cs) → column ≡ column_after (take at cs) → record { line = line; column = column } ≡ place_in cs character
+placed cs character at line column is line_is column_is =
+    let same : take at cs ≡ take character cs = ap (λ n. take n cs) is ∙ take_min character cs in
+    ap (λ l. at_column l column) (line_is ∙ ap line_after same) ∙ ap (at_column (line_after (take character cs))) (column_is ∙ ap column_after same)
+  where
+    at_column : ℕ → ℕ → Place
+    at_column l c = record { line = l; column = c }

@@ -1,6 +1,6 @@
 //! An input that is read to its end.
 ghost use Rattle.std.specs.Prelude.{◌≡◌, ◌<◌, [], IfOk, IfErr, OnOk, IsUtf8, chars as chars_in};
-ghost use Rattle.text_reading.specs.Refusals.{IsInputRefusedAt, IsNoDerivation, TellsInput as TellsRefusal};
+ghost use Rattle.text_reading.specs.Refusals.{IsInputRefusedAt, IsNoDerivation, TellsInput as TellsRefusal, place_in};
 ghost use Rattle.text_reading.specs.Parts.{IsBrokenText};
 ghost use Rattle.slif_parser.specs.Errors.{TellsInput};
 ghost use Rattle.slif_parser.specs.Readings.{IsReadAs, IsForestAs};
@@ -16,7 +16,7 @@ use slif_base::{Chars, Steps};
 use std::alloc::Global;
 use std::marker::{Brand, Model};
 use std::sync::ledger::{Blank, Ledger};
-use text_reading::{Refusal, input_chars, input_too_long, read_text};
+use text_reading::{Place, Refusal, input_chars, input_too_long, read_text};
 
 /// An input that is read to its end. It is seen as the grammar, the lexemes that were given for it, the characters, and the spans of the
 /// tokens.
@@ -142,5 +142,14 @@ impl<'g> Reading<'g> {
             Ok(forest) => Ok(forest),
             Err(refusal) => Err(error_of(alloc, refusal)),
         }
+    }
+
+    /// The line and the column of a character, or of the end where it lies behind that.
+    pub fn place(&self, character: u32) -> Place
+        ensures { result ≡ place_in self.now.characters character }
+    {
+        let at = (character as usize).min(self.chars.len());
+        let (line, column) = self.chars.line_column(at);
+        Place { line, column }
     }
 }
