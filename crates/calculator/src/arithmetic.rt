@@ -1,25 +1,19 @@
 // What the parts of an expression are worth.
+ghost use Rattle.std.specs.Prelude.{◌≡◌, Ok, Err, IfOk};
+ghost use Rattle.calculator.specs.Worth.{IsFitting, NumberGives, NameGives, TokenGives, OperationGives, RuleGives};
 
 use crate::error::CalculationError;
 use crate::function::Function;
 use slif_parser::{RuleId, Semantics, SymbolId, Token};
 
-// The rules, by their numbers: from 0, in the order of the grammar's text.
-const NUMBER: RuleId = RuleId(0);
+// The rules of two numbers, by their numbers: from 0, in the order of the grammar's text.
+const PRODUCT: u32 = 4;
 
-const GROUP: RuleId = RuleId(1);
+const QUOTIENT: u32 = 5;
 
-const CALL: RuleId = RuleId(2);
+const SUM: u32 = 6;
 
-const NEGATION: RuleId = RuleId(3);
-
-const PRODUCT: RuleId = RuleId(4);
-
-const QUOTIENT: RuleId = RuleId(5);
-
-const SUM: RuleId = RuleId(6);
-
-const DIFFERENCE: RuleId = RuleId(7);
+const DIFFERENCE: u32 = 7;
 
 /// The value of a part: a number; or a function or a sign, with its column.
 #[derive(Clone, Copy, Debug)]
@@ -31,12 +25,12 @@ pub(crate) enum Value {
 
 impl Value {
     /// The number, where it is one.
-    pub(crate) fn number(self) -> Result<i64, CalculationError> {
+    pub(crate) fn number(self) -> Result<i64, CalculationError>
+        ensures { IfOk result (λ n. self ≡ Value.Number n) }
+    {
         match self {
             Value::Number(number) => Ok(number),
-            Value::Function { column, .. } | Value::Sign { column } => {
-                Err(CalculationError::NoNumber { column })
-            }
+            Value::Function { .. } | Value::Sign { .. } => Err(CalculationError::NoNumber),
         }
     }
 }
@@ -50,11 +44,13 @@ impl Semantics for Arithmetic {
 
     type Error = CalculationError;
 
-    ghost token_gives = { λ _ _ _ _ _ _. Unit {0} };
+    ghost use Rattle.calculator.specs.declared.error.CalculationError.TheVariants.{NoNumber};
 
-    ghost nulled_gives = { λ _ _ _ _ _. Unit {0} };
+    ghost token_gives = { λ before after symbol name token result. TokenGives name token result };
 
-    ghost rule_gives = { λ _ _ _ _ _ _. Unit {0} };
+    ghost nulled_gives = { λ before after symbol name result. result ≡ Err NoNumber };
+
+    ghost rule_gives = { λ before after rule name children result. RuleGives rule children result };
 
     fn token(&mut self, token: Token<'_>) -> Result<Value, CalculationError> {
         let column = token.start.saturating_add(1);
@@ -67,7 +63,7 @@ impl Semantics for Arithmetic {
 
     // No symbol of the grammar spans nothing.
     fn nulled(&mut self, _symbol: SymbolId, _name: &str) -> Result<Value, CalculationError> {
-        Err(CalculationError::NoNumber { column: 1 })
+        Err(CalculationError::NoNumber)
     }
 
     fn rule(
@@ -76,51 +72,72 @@ impl Semantics for Arithmetic {
         _name: &str,
         children: Vec<Value>,
     ) -> Result<Value, CalculationError>
-        ensures { Unit {0} }
+        ensures { RuleGives rule children.items result }
     {
-        let number = match (rule, children.as_slice()) {
-            (NUMBER, [number]) | (GROUP, [_, number, _]) => number.number()?,
-            (CALL, [Value::Function { function, column }, _, number, _]) => {
-                function.of(number.number()?, *column)?
+        match children.as_slice() {
+            [Value::Number(number)]
+            | [Value::Sign { .. }, Value::Number(number), Value::Sign { .. }] => {
+                Ok(Value::Number(*number))
             }
-            (NEGATION, [Value::Sign { column }, number]) => negated(number.number()?, *column)?,
-            (_, [left, Value::Sign { column }, right]) => {
-                operation(rule, left.number()?, right.number()?, *column)?
+            [
+                Value::Function { function, column },
+                Value::Sign { .. },
+                Value::Number(number),
+                Value::Sign { .. },
+            ] => function.of(*number, *column),
+            [Value::Sign { column }, Value::Number(number)] => {
+                fitting(number.checked_neg(), *column)
             }
-            _ => return Err(CalculationError::NoNumber { column: 1 }),
-        };
-        Ok(Value::Number(number))
+            [Value::Number(left), Value::Sign { column }, Value::Number(right)] => {
+                operation(rule.0, *left, *right, *column)
+            }
+            _ => Err(CalculationError::NoNumber),
+        }
     }
 }
 
-fn whole_number(text: &str, column: u32) -> Result<Value, CalculationError> {
+fn whole_number(text: &str, column: u32) -> Result<Value, CalculationError>
+    ensures { NumberGives text.now column result }
+{
     match text.parse::<i64>() {
         Ok(number) => Ok(Value::Number(number)),
         Err(_) => Err(CalculationError::TooLarge { column }),
     }
 }
 
-fn function_named(name: &str, column: u32) -> Result<Value, CalculationError> {
+fn function_named(name: &str, column: u32) -> Result<Value, CalculationError>
+    ensures { NameGives name.now column result }
+{
     match Function::named(name) {
         Some(function) => Ok(Value::Function { function, column }),
         None => Err(CalculationError::NoFunction { column }),
     }
 }
 
-fn negated(number: i64, column: u32) -> Result<i64, CalculationError> {
-    number
-        .checked_neg()
-        .ok_or(CalculationError::TooLarge { column })
+/// What was computed, or that it is too large.
+pub(crate) fn fitting(number: Option<i64>, column: u32) -> Result<Value, CalculationError>
+    ensures { IsFitting number column result }
+{
+    match number {
+        Some(number) => Ok(Value::Number(number)),
+        None => Err(CalculationError::TooLarge { column }),
+    }
 }
 
-fn operation(rule: RuleId, left: i64, right: i64, column: u32) -> Result<i64, CalculationError> {
-    let result = match rule {
-        PRODUCT => left.checked_mul(right),
-        QUOTIENT if right == 0 => return Err(CalculationError::DivisionByZero { column }),
-        QUOTIENT => left.checked_div(right),
-        SUM => left.checked_add(right),
-        DIFFERENCE => left.checked_sub(right),
-        _ => return Err(CalculationError::NoNumber { column }),
-    };
-    result.ok_or(CalculationError::TooLarge { column })
+fn operation(
+    rule: u32,
+    left: i64,
+    right: i64,
+    column: u32,
+) -> Result<Value, CalculationError>
+    ensures { OperationGives rule left right column result }
+{
+    match rule {
+        PRODUCT => fitting(left.checked_mul(right), column),
+        QUOTIENT if right == 0 => Err(CalculationError::DivisionByZero { column }),
+        QUOTIENT => fitting(left.checked_div(right), column),
+        SUM => fitting(left.checked_add(right), column),
+        DIFFERENCE => fitting(left.checked_sub(right), column),
+        _ => Err(CalculationError::NoNumber),
+    }
 }

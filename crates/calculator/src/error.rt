@@ -16,8 +16,8 @@ pub(crate) enum CalculationError {
     NoFunction { column: u32 },
     #[error("a number is too large at column {column}")]
     TooLarge { column: u32 },
-    #[error("no number at column {column}")]
-    NoNumber { column: u32 },
+    #[error("no number")]
+    NoNumber,
     #[error("out of memory")]
     NoMemory(#[from] NoMemory),
 }

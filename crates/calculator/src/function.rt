@@ -1,5 +1,7 @@
 // The functions that an expression may call.
+ghost use Rattle.calculator.specs.Worth.{IsFunctionNamed, CallGives, IsRoot};
 
+use crate::arithmetic::{Value, fitting};
 use crate::error::CalculationError;
 
 #[derive(Clone, Copy, Debug)]
@@ -12,7 +14,9 @@ pub(crate) enum Function {
 
 impl Function {
     /// The function of that name.
-    pub(crate) fn named(name: &str) -> Option<Function> {
+    pub(crate) fn named(name: &str) -> Option<Function>
+        ensures { IsFunctionNamed name.now result }
+    {
         match name {
             "abs" => Some(Function::Magnitude),
             "sqrt" => Some(Function::Root),
@@ -21,17 +25,22 @@ impl Function {
     }
 
     /// What it makes of a number. Its name stands in that column.
-    pub(crate) fn of(self, number: i64, column: u32) -> Result<i64, CalculationError> {
+    pub(crate) fn of(self, number: i64, column: u32) -> Result<Value, CalculationError>
+        ensures { CallGives self number column result }
+    {
         match self {
-            Function::Magnitude => number
-                .checked_abs()
-                .ok_or(CalculationError::TooLarge { column }),
-            Function::Root => root(number).ok_or(CalculationError::NoRoot { column }),
+            Function::Magnitude => fitting(number.checked_abs(), column),
+            Function::Root => match root(number) {
+                Some(root) => Ok(Value::Number(root)),
+                None => Err(CalculationError::NoRoot { column }),
+            },
         }
     }
 }
 
-fn root(number: i64) -> Option<i64> {
+fn root(number: i64) -> Option<i64>
+    ensures { IsRoot number result }
+{
     let square = u64::try_from(number).ok()?;
     let root = square.isqrt();
     if root * root == square {

@@ -1,6 +1,9 @@
 //! A calculator: it writes the value of each of its words, or why it has none. It shows how a program reads by a grammar of its own.
 #![tactic(auto)]
 
+ghost use Rattle.std.specs.Prelude.{IfOk};
+ghost use Rattle.calculator.specs.Expressions.{IsFirstWorth, IsWorth};
+
 mod arithmetic;
 mod error;
 mod function;
@@ -27,14 +30,18 @@ spaces ~ [\\s]+
 ";
 
 /// The value of an expression.
-fn value_of(alloc: Global, grammar: &Grammar, expression: &str) -> Result<i64, CalculationError> {
+fn value_of(alloc: Global, grammar: &Grammar, expression: &str) -> Result<i64, CalculationError>
+    ensures { IfOk result (IsWorth grammar.now expression.now) }
+{
     let reading = grammar.read(alloc, expression.as_bytes())?;
     let value = value_of_reading(alloc, &reading);
     drop(reading);
     value
 }
 
-fn value_of_reading(alloc: Global, reading: &Reading<'_>) -> Result<i64, CalculationError> {
+fn value_of_reading(alloc: Global, reading: &Reading<'_>) -> Result<i64, CalculationError>
+    ensures { IfOk result (IsFirstWorth reading.now) }
+{
     let forest = reading.forest(alloc, Ranking::Rule)?;
     let value = first_value(alloc, &forest);
     drop(forest);
@@ -42,11 +49,14 @@ fn value_of_reading(alloc: Global, reading: &Reading<'_>) -> Result<i64, Calcula
 }
 
 /// The value of the first derivation. There is one, and the grammar gives no more.
-fn first_value(alloc: Global, forest: &Forest<'_>) -> Result<i64, CalculationError> {
+fn first_value(alloc: Global, forest: &Forest<'_>) -> Result<i64, CalculationError>
+    ensures { IfOk result (IsFirstWorth forest.now.read) }
+{
     let mut derivations = forest.derivations(alloc)?;
     if !derivations.next()? {
         unreachable!();
     }
+    derivations.known();
     derivations.fold(alloc, &mut Arithmetic)?.number()
 }
 

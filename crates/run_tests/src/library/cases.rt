@@ -1,7 +1,10 @@
 //! Whether a grammar and an input come to what is wanted of them. Each function owns one thing, hands it on by reference, and lets it go
 //! by a call, which is proved once for each type and not part by part.
+ghost use Rattle.std.specs.Prelude.{◌≡◌, ℕ, pos, IfOk, IsSome};
+ghost use Rattle.run_tests.specs.Differences.{IsCurrent, the_tokens, left_first, right_first};
+
 use crate::library::differences::Differences;
-use slif_parser::{Derivations, Forest, Grammar, ParseError, Place, Ranking, Reading};
+use slif_parser::{Derivations, FoldError, Forest, Grammar, NoMemory, ParseError, Place, Ranking, Reading};
 use std::alloc::Global;
 use std::test::Fail;
 
@@ -57,12 +60,26 @@ fn is_refused(
     Ok(is_next(grammar, error, case.next) && is_told(alloc, error, case)?)
 }
 
+// The value of the current derivation. That of `9-3-2` is 4 where the left difference comes first, and 8 where the right one does.
+fn current_value(
+    alloc: Global,
+    derivations: &Derivations<'_>,
+) -> Result<i64, FoldError<NoMemory>>
+    requires { IsSome derivations.now.iteration.current }
+    ensures left { IfOk result (λ v. (number minus : ℕ) →
+        IsCurrent derivations.now the_tokens (left_first number minus) → v ≡ pos 4) }
+    ensures right { IfOk result (λ v. (number minus : ℕ) →
+        IsCurrent derivations.now the_tokens (right_first number minus) → v ≡ pos 8) }
+{
+    derivations.fold(alloc, &mut Differences)
+}
+
 // The value of the next derivation, if there is one.
 fn next_value(alloc: Global, derivations: &mut Derivations<'_>) -> Result<Option<i64>, Fail> {
     if !derivations.next()? {
         return Ok(None);
     }
-    Ok(Some(derivations.fold(alloc, &mut Differences)?))
+    Ok(Some(current_value(alloc, derivations)?))
 }
 
 fn are_values(

@@ -1,4 +1,6 @@
 //! The values of differences.
+ghost use Rattle.std.specs.Prelude.{◌≡◌, Ok, pos};
+ghost use Rattle.run_tests.specs.Differences.{NumberGives, difference};
 use slif_parser::{NoMemory, RuleId, Semantics, SymbolId, Token};
 
 /// Differences of whole numbers. A sign is 0.
@@ -10,11 +12,12 @@ impl Semantics for Differences {
 
     type Error = NoMemory;
 
-    ghost token_gives = { λ _ _ _ _ _ _. Unit {0} };
+    ghost token_gives = { λ before after symbol name token result. NumberGives token.text result };
 
-    ghost nulled_gives = { λ _ _ _ _ _. Unit {0} };
+    ghost nulled_gives = { λ before after symbol name result. result ≡ Ok (pos 0) };
 
-    ghost rule_gives = { λ _ _ _ _ _ _. Unit {0} };
+    ghost rule_gives = { λ before after rule name children result.
+        result ≡ Ok (difference children) };
 
     fn token(&mut self, token: Token<'_>) -> Result<i64, NoMemory> {
         Ok(token.text.parse::<i64>().unwrap_or(0))
@@ -25,7 +28,7 @@ impl Semantics for Differences {
     }
 
     fn rule(&mut self, _rule: RuleId, _name: &str, children: Vec<i64>) -> Result<i64, NoMemory>
-        ensures { Unit {0} }
+        ensures { result ≡ Ok (difference children.items) }
     {
         match children.as_slice() {
             [one] => Ok(*one),

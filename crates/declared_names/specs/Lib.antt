@@ -1,0 +1,4 @@
+pub mod Scope
+pub mod Names
+pub mod Faults
+pub mod Order
