@@ -19,13 +19,14 @@ use Rattle.run_model.specs.Runs.Fault.{CannotOpen, CannotRead, CannotWrite}
 use Rattle.run_model.specs.Runs.OutAtFault.{OutEmpty, OutBroken}
 use Rattle.run_model.specs.Runs.ErrAtFault.{ErrWhole, ErrBroken}
 use Rattle.run_model.proofs.Told.{IsPlain, plain_at, plain_told}
-use Rattle.slif_cli.specs.Stops.{Does, MayHave, IsPrefix, WorkStops, Tells, Reports, refusal_outcome}
-use Rattle.slif_cli.specs.Stops.IsPrefix.{Nothing as NothingYet, Prefix as PrefixYet}
+use Rattle.tellings.specs.Stops.{Does, IsPrefix, refusal_outcome}
+use Rattle.slif_cli.specs.Stops.{MayHave, WorkStops, Tells, Reports}
+use Rattle.tellings.specs.Stops.IsPrefix.{Nothing as NothingYet, Prefix as PrefixYet}
 use Rattle.slif_cli.specs.Stops.Tells.{Whole, Part}
-use Rattle.slif_cli.specs.declared.stop.Refusal.{Refusal}
-use Rattle.slif_cli.specs.declared.stop.Refusal.TheVariants.{Usage, Grammar as BadGrammar, Input as BadInput}
-use Rattle.slif_cli.specs.declared.stop.Stop.{Stop}
-use Rattle.slif_cli.specs.declared.stop.Stop.TheVariants.{Refused, OpenFault, ReadFault, WriteFault, NoMemory}
+use Rattle.tellings.specs.declared.stop.Refusal.{Refusal}
+use Rattle.tellings.specs.declared.stop.Refusal.TheVariants.{Usage, Grammar as BadGrammar, Input as BadInput}
+use Rattle.tellings.specs.declared.stop.Stop.{Stop}
+use Rattle.tellings.specs.declared.stop.Stop.TheVariants.{Refused, OpenFault, ReadFault, WriteFault, NoMemory}
 
 -- the ways in which a run ends
 data Ends (words : List (List ℕ)) (before after : Outside) (status : ℕ) : Type 0 where

@@ -1,7 +1,5 @@
--- What is told of an input that is refused, and the names of symbols.
-use Rattle.std.proofs.Common.{◌≡◌, ℕ, ◌≤◌, ◌++◌, [], ◌∷◌, List, Option, length, map, ap, ◌∙◌, chars, IsUtf8, lit≤}
-use Rattle.grammar_model.specs.Grammar.{Grammar}
-use Rattle.grammar_model.specs.Values.{name_of}
+-- What is told of an input that is refused.
+use Rattle.std.proofs.Common.{ℕ, ◌≤◌, [], ◌∷◌, List, Option, length, chars, IsUtf8, lit≤}
 use Rattle.grammar_model.specs.declared.limits.TheConstants.{LONGEST_INPUT}
 use Rattle.language_model.specs.Building.{Built}
 use Rattle.run_model.specs.Inputs.{input_limit, IsInputRefused, NotUtf8, ReadingStops}
@@ -19,6 +17,3 @@ module _ (b : Built) (given bytes : List ℕ) (within : length bytes ≤ input_l
 
   pub refused_stop : IsUtf8 bytes → (text : List ℕ) (place : Option Place) (expected : List ℕ) → IsStopText b given (chars bytes) text place expected → IsInputRefused b given bytes text
   refused_stop utf8 text place expected stop = ReadingStops stop.pieces stop.at stop.found expected (record { within = within; utf8 = utf8 }) stop.reading stop.told
-
-pub names_as : (b : Built) (w : Grammar) (xs ys : List ℕ) (lines : List (List ℕ)) → w ≡ b.g1 → xs ≡ ys → lines ≡ map (λ s. name_of w s ++ 10 ∷ []) xs → lines ≡ map (λ s. name_of b.g1 s ++ 10 ∷ []) ys
-names_as b w xs ys lines same is e = e ∙ ap (λ (g : Grammar). map (λ s. name_of g s ++ 10 ∷ []) xs) same ∙ ap (map (λ s. name_of b.g1 s ++ 10 ∷ [])) is

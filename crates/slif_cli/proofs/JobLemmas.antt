@@ -23,11 +23,12 @@ use Rattle.run_model.specs.Within.{DoesWithin, RunsWithin}
 use Rattle.run_model.specs.Runs.MayOpen.{OfGrammar}
 use Rattle.run_model.specs.Runs.MayAsk.{ForNothing, ForGrammar}
 use Rattle.run_model.proofs.Accepted.{for_none, not_refused}
-use Rattle.slif_cli.specs.Stops.{LoadStops, MayHave, WorkStops, refusal_outcome}
+use Rattle.tellings.specs.Stops.{refusal_outcome}
+use Rattle.slif_cli.specs.Stops.{LoadStops, MayHave, WorkStops}
 use Rattle.slif_cli.specs.Tasks.{WorksWithin, IsCheckJob}
-use Rattle.slif_cli.specs.declared.stop.Stop.{Stop}
+use Rattle.tellings.specs.declared.stop.Stop.{Stop}
 use Rattle.slif_cli.proofs.GrammarLaws.{grammar_laws}
-use Rattle.slif_cli.proofs.Stopping.{stops_as, of_grammar, nothing_appended}
+use Rattle.tellings.proofs.Stopping.{stops_as, of_grammar, nothing_appended}
 use Rattle.slif_cli.proofs.Within.{runs_within}
 
 -- what is so of a job that is asked for, by its task

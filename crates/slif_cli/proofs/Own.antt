@@ -38,7 +38,7 @@ use Rattle.text_reading.specs.declared.refusal.Refusal.{Refusal}
 use Rattle.text_reading.specs.declared.refusal.Refusal.TheVariants.{Grammar, Input, NoMemory}
 use Rattle.slif_cli.proofs.GrammarLaws.{grammar_laws}
 use Rattle.text_reading.proofs.Derived.{listed, some_listing}
-use Rattle.slif_cli.proofs.Within.{within}
+use Rattle.tellings.proofs.Within.{within}
 
 pub work_length : (n : ℕ) → length (work_input n) ≡ 3 * n + 1
 work_length n =

@@ -1,19 +1,15 @@
--- How the work stops where a grammar or an input is refused.
-use Rattle.std.proofs.Common.{◌≡◌, ℕ, ◌<◌, List, Option, length, codes}
+-- How the work stops where a grammar is refused.
+use Rattle.std.proofs.Common.{◌≡◌, ℕ, ◌<◌, List, length, codes}
 use Rattle.grammar_model.specs.declared.limits.TheConstants.{LONGEST_GRAMMAR}
 use Rattle.outside_model.specs.Told.{ToldFile, MayHold, FileHolds}
-use Rattle.slif_base.proofs.Bytes.{appends_none}
 use Rattle.run_model.specs.Texts.{TooLong}
 use Rattle.run_model.specs.Refused.{IsRefused, ByText}
-use Rattle.run_model.specs.Outcome.{Outcome, refused}
-use Rattle.run_model.specs.Outside.{Stream}
-use Rattle.text_reading.specs.declared.refusal.Place.{Place}
+use Rattle.run_model.specs.Outcome.{refused}
 use Rattle.text_reading.specs.declared.refusal.Refusal.{Refusal}
 use Rattle.text_reading.specs.declared.refusal.Refusal.TheVariants.{Grammar, Input, NoMemory}
-use Rattle.text_reading.specs.Refusals.{TellsGrammar, TellsInput, IsRefusedAt}
-use Rattle.slif_cli.specs.Refusals.{stop_for}
-use Rattle.slif_cli.specs.Stops.{LoadStops, WriteStops}
-use Rattle.slif_cli.proofs.Stopping.{nothing_appended}
+use Rattle.text_reading.specs.Refusals.{TellsGrammar, IsRefusedAt}
+use Rattle.tellings.specs.Refusals.{stop_for}
+use Rattle.slif_cli.specs.Stops.{LoadStops}
 
 -- the bytes of the file are refused as a grammar
 pub load_stops_for : (name : List ℕ) (told : ToldFile) (Files : Type 0) (bytes : List ℕ) → MayHold told bytes → (r : Refusal) → TellsGrammar (IsRefusedAt bytes) r → LoadStops name told Files (stop_for r)
@@ -23,10 +19,3 @@ load_stops_for name told Files bytes held NoMemory tells = tt
 
 pub too_long_text : (told : ToldFile) (text : List ℕ) → FileHolds told (λ bytes. LONGEST_GRAMMAR < length bytes) → text ≡ codes "grammar: longer than 1048576 bytes" → FileHolds told (λ bytes. IsRefused bytes text)
 too_long_text told text held is = record { bytes = held.bytes; may_hold = held.may_hold; holds = ByText TooLong held.holds is }
-
--- the input is refused, and nothing was written
-pub input_stops_for : (P : List ℕ → Option Place → List ℕ → Type 0) (Q : Outcome → Type 0) → ((text : List ℕ) (place : Option Place) (expected : List ℕ) → P text place expected → Q (refused 1 text))
-    → (out : Stream) (r : Refusal) → TellsInput P r → WriteStops Q out out (stop_for r)
-input_stops_for P Q f out (Grammar text place) tells = absurd tells
-input_stops_for P Q f out (Input text place expected) tells = (f text.items place expected.items tells, appends_none out.bytes)
-input_stops_for P Q f out NoMemory tells = nothing_appended Q out.bytes

@@ -27,13 +27,14 @@ use Rattle.marpa_script.specs.declared.refusal.ScriptRefusal.{ScriptRefusal}
 use Rattle.marpa_script.specs.declared.refusal.ScriptRefusal.TheVariants.{WriteFault, NoMemory}
 use Rattle.text_reading.specs.declared.refusal.Place.{Place}
 use Rattle.text_reading.specs.Parts.{IsBrokenText}
-use Rattle.slif_cli.specs.Refusals.{script_stop}
-use Rattle.slif_cli.specs.Stops.{Does, AppendsPrefixOf, Prefix, MayHave, MayRead, ReadStops, StopsAt, WriteStops, names_from, refusal_outcome}
+use Rattle.tellings.specs.Refusals.{script_stop}
+use Rattle.tellings.specs.Stops.{Does, AppendsPrefixOf, StopsAt, WriteStops, refusal_outcome}
+use Rattle.slif_cli.specs.Stops.{Prefix, MayHave, MayRead, ReadStops, names_from}
 use Rattle.slif_cli.specs.Tasks.{IsScriptJob}
-use Rattle.slif_cli.specs.declared.stop.Stop.{Stop}
+use Rattle.tellings.specs.declared.stop.Stop.{Stop}
 use Rattle.slif_cli.proofs.JobLemmas.{fitted_as}
 use Rattle.slif_cli.proofs.Within.{runs_within}
-use Rattle.slif_cli.proofs.Stopping.{stops_as, of_input, nothing_appended}
+use Rattle.tellings.proofs.Stopping.{stops_as, of_input, nothing_appended}
 
 -- THE INPUT
 

@@ -23,15 +23,17 @@ use Rattle.run_model.specs.Runs.MayOpen.{OfInput}
 use Rattle.run_model.specs.Runs.MayAsk.{ForGrammar, ForInput}
 use Rattle.run_model.proofs.Accepted.{one_built}
 use Rattle.run_model.proofs.Given.{all_at, given_named}
-use Rattle.slif_cli.specs.Stops.{InputHolds, MayHave, MayRead, ReadStops, StopsAt, WorkStops, names_from, refusal_outcome}
+use Rattle.tellings.specs.Stops.{StopsAt, refusal_outcome}
+use Rattle.slif_cli.specs.Stops.{InputHolds, MayHave, MayRead, ReadStops, WorkStops, names_from}
 use Rattle.slif_cli.specs.Giving.{IsUnnamed, NamesStop}
-use Rattle.slif_cli.specs.Tasks.{IsTellJob, TellsReading}
-use Rattle.slif_cli.specs.declared.stop.Stop.{Stop}
+use Rattle.tellings.specs.Telling.{TellsReading}
+use Rattle.slif_cli.specs.Tasks.{IsTellJob}
+use Rattle.tellings.specs.declared.stop.Stop.{Stop}
 use Rattle.slif_cli.proofs.GrammarLaws.{grammar_laws}
 use Rattle.slif_cli.proofs.JobLemmas.{GoesOnWithNone, held_by_all, refused_for}
 use Rattle.slif_cli.proofs.Named.{first_among}
 use Rattle.slif_cli.proofs.Within.{runs_within}
-use Rattle.slif_cli.proofs.Stopping.{stops_as, of_grammar, of_input, nothing_appended}
+use Rattle.tellings.proofs.Stopping.{stops_as, of_grammar, of_input, nothing_appended}
 
 -- THE INPUT
 

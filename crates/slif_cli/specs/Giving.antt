@@ -3,8 +3,8 @@ use Rattle.std.specs.Prelude.{◌≡◌, ℕ, List, ⊤}
 use Rattle.language_model.specs.Building.{Built}
 use Rattle.reading_model.specs.First.{IsFirstWith}
 use Rattle.run_model.specs.Given.{NamesNoLexeme, unnamed_text}
-use Rattle.slif_cli.specs.Stops.{StopsBy, OfGrammar}
-use Rattle.slif_cli.specs.declared.stop.Stop.{Stop}
+use Rattle.tellings.specs.Stops.{StopsBy, OfGrammar}
+use Rattle.tellings.specs.declared.stop.Stop.{Stop}
 
 -- the first of the names that is no lexeme's, and what is told of it
 pub record IsUnnamed (b : Built) (names : List (List ℕ)) (text : List ℕ) : Type 0 where

@@ -4,14 +4,14 @@ ghost use Rattle.grammar_model.specs.Values.{name_of};
 ghost use Rattle.run_model.specs.Outcome.{IsCheckOutcome};
 ghost use Rattle.run_model.specs.Checking.{IsRowOf, AreRows, AreCheckLines, head_line, row_line, word_if};
 ghost use Rattle.run_model.specs.Outside.{stream};
-ghost use Rattle.slif_cli.specs.Stops.{Does, WriteStops, told_row};
+ghost use Rattle.tellings.specs.Stops.{Does, WriteStops};
+ghost use Rattle.slif_cli.specs.Stops.{told_row};
 
-use crate::stop::Stop;
-use crate::writing::write_lines;
 use grammar_core::{SymbolId, Written};
 use scanless::Prepared;
 use slif_base::Sink;
 use std::alloc::{AllocError, Global};
+use tellings::{Stop, write_lines};
 
 /// What a left side can do.
 #[derive(Clone, Copy, Debug)]

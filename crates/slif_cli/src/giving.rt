@@ -10,9 +10,8 @@ ghost use Rattle.scanless.specs.declared.reading.Ending.TheVariants.{End};
 ghost use Rattle.text_reading.specs.Parts.{IsStopText};
 ghost use Rattle.text_reading.specs.Refusals.{TellsInput};
 ghost use Rattle.slif_cli.specs.Giving.{NamesStop};
-ghost use Rattle.slif_cli.specs.Stops.{StopsBy, OfGrammar};
+ghost use Rattle.tellings.specs.Stops.{StopsBy, OfGrammar};
 
-use crate::stop::{Refusal, Stop};
 use grammar_core::SymbolId;
 use grammar_model::{LONGEST_GIVEN, LONGEST_INPUT};
 use scanless::{Prepared, Reading};
@@ -20,6 +19,7 @@ use slif_base::{Chars, Steps};
 use slippers::Supplier;
 use std::alloc::{AllocError, Global};
 use std::sync::ledger::Ledger;
+use tellings::{Refusal, Stop};
 use text_reading::{lexeme_named, read_supplied, read_text};
 
 /// The lexemes with the names that are given.

@@ -5,11 +5,11 @@ ghost use Rattle.outside_model.specs.Told.{FileHolds, SameFiles, AsksAmong, Adds
 ghost use Rattle.run_model.specs.Refused.{Accepted};
 ghost use Rattle.slif_cli.specs.Stops.{LoadStops};
 
-use crate::stop::{Refusal, Stop};
 use grammar_model::LONGEST_GRAMMAR;
 use scanless::Prepared;
 use slif_base::{FileRefusal, Files, read_named};
 use std::alloc::Global;
+use tellings::{Refusal, Stop};
 use text_reading::{long_grammar_text, read_grammar};
 
 /// Reads the grammar from the named file.

@@ -7,10 +7,10 @@ ghost use Rattle.run_model.specs.Runs.{InputMayBe};
 ghost use Rattle.command_line.specs.Jobs.{input_of};
 ghost use Rattle.slif_cli.specs.Stops.{ReadStops, FileStops, SourceStops, names_from};
 
-use crate::stop::{Refusal, Stop};
 use command_line::InputFrom;
 use slif_base::{FileRefusal, Files, ReadRefusal, Source, read_all, read_named};
 use std::alloc::Global;
+use tellings::{Refusal, Stop};
 use text_reading::long_input_text;
 
 /// The bytes of the input, which is somewhere, where they are at most so many.

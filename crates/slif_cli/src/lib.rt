@@ -9,11 +9,9 @@ mod inputs;
 mod laws;
 mod messages;
 mod scripting;
-mod stop;
 mod telling;
 mod top;
 mod working;
-mod writing;
 
 pub use laws::{
     going_on_is_whole, has_end, has_outcome, no_names_ask_nothing, one_end, one_outcome,

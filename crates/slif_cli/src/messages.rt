@@ -4,12 +4,13 @@ ghost use Rattle.run_model.specs.Outside.{stream};
 ghost use Rattle.run_model.specs.Runs.{fault_line};
 ghost use Rattle.run_model.specs.Runs.Fault.{CannotOpen};
 ghost use Rattle.run_model.specs.Outcome.{message};
-ghost use Rattle.slif_cli.specs.Stops.{Reports, Tells, refusal_outcome};
+ghost use Rattle.tellings.specs.Stops.{refusal_outcome};
+ghost use Rattle.slif_cli.specs.Stops.{Reports, Tells};
 
-use crate::stop::{Refusal, Stop};
 use command_line::USAGE;
 use slif_base::{Sink, write_all};
 use std::alloc::{AllocError, Global};
+use tellings::{Refusal, Stop};
 use text_reading::append_in_line;
 
 /// The status of a fault of the outside.

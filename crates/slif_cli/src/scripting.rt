@@ -7,16 +7,17 @@ ghost use Rattle.words_model.specs.Words.InputFrom.{Nowhere, StandardInput, File
 ghost use Rattle.run_model.specs.Outcome.{IsScriptOutcome};
 ghost use Rattle.run_model.specs.Outside.{stream};
 ghost use Rattle.command_line.specs.Jobs.{input_of};
-ghost use Rattle.slif_cli.specs.Stops.{Does, MayRead, StopsAt, WriteStops, names_from};
+ghost use Rattle.tellings.specs.Stops.{Does, StopsAt, WriteStops};
+ghost use Rattle.slif_cli.specs.Stops.{MayRead, names_from};
 
 use crate::inputs::read_bytes;
-use crate::stop::Stop;
 use command_line::InputFrom;
 use grammar_model::LONGEST_INPUT;
 use marpa_script::play_script;
 use slif_base::{Files, Sink, Source, Steps};
 use std::alloc::Global;
 use std::sync::ledger::Ledger;
+use tellings::Stop;
 use text_reading::input_chars;
 
 /// Reads the input and writes the answers to its lines.

@@ -1,6 +1,5 @@
-// What is told of an input.
+// What is told of an input, from its file on.
 ghost use Rattle.std.specs.Prelude.{◌≡◌, ◌≢◌, ◌≤◌, ◌⊎◌, ◌<◌, ◌↔◌, length, is_some, IsTrue, IfErr, OnOk};
-ghost use Rattle.grammar_model.specs.declared.limits.TheConstants.{LONGEST_INPUT};
 ghost use Rattle.outside_model.specs.Causes.{Rose};
 ghost use Rattle.outside_model.specs.Told.{SameFiles, AsksAmong};
 ghost use Rattle.words_model.specs.Words.InputFrom.{Nowhere, StandardInput, FileNamed};
@@ -11,36 +10,20 @@ ghost use Rattle.command_line.specs.Jobs.{telling_of, input_of};
 ghost use Rattle.run_model.specs.Outside.{stream};
 ghost use Rattle.valuator.specs.Told.{states};
 ghost use Rattle.value_lines.specs.Writing.{AreBothTellers};
-ghost use Rattle.scanless.specs.declared.reading.Ending.TheVariants.{End};
-ghost use Rattle.slif_cli.specs.Stops.{Does, InputHolds, MayRead, StopsAt, WriteStops, names_from};
-ghost use Rattle.text_reading.specs.Parts.{IsSomeReading, ForGiven};
-ghost use Rattle.slif_cli.specs.Tasks.{TellsReading, GoesOnWithin};
-
-mod expecting;
-mod glade_lines;
-mod glading;
-mod paging;
-mod places;
-mod reporting;
-mod values;
+ghost use Rattle.tellings.specs.Stops.{Does, StopsAt, WriteStops};
+ghost use Rattle.slif_cli.specs.Stops.{InputHolds, MayRead, names_from};
 
 use crate::giving::{limit_with, read_with};
 use crate::hands::Hands;
 use crate::inputs::read_bytes;
-use crate::stop::Stop;
-use crate::telling::expecting::write_expected;
-use crate::telling::glading::write_glades;
-use crate::telling::paging::write_more;
-use crate::telling::reporting::write_report;
-use crate::telling::values::write_values;
 use command_line::{InputFrom, Telling};
 use grammar_core::SymbolId;
-use scanless::{Prepared, Reading};
-use slif_base::{Chars, Files, Sink, Source, Steps};
+use scanless::Prepared;
+use slif_base::{Files, Sink, Source, Steps};
 use std::alloc::Global;
 use std::sync::ledger::Ledger;
+use tellings::{Stop, tell_reading};
 use text_reading::input_chars;
-use valuator::Teller;
 
 /// Reads the input and writes what is told of it.
 pub fn tell_input<'a, F: Files, I: Source, O: Sink, L: Ledger>(
@@ -114,47 +97,4 @@ fn tell_bytes<'a, O: Sink, L: Ledger>(
     );
     drop(reading);
     told
-}
-
-// Writes what is told of characters that are read to their end.
-fn tell_reading<'a, O: Sink, L: Ledger>(
-    alloc: Global,
-    prepared: &Prepared,
-    what: Telling<'_>,
-    chars: &Chars,
-    reading: &Reading<'_>,
-    out: &mut O,
-    tellers: Vec<Box<dyn Teller>>,
-    steps: &mut Steps<L>,
-) -> Result<(), Stop<'a>>
-    requires few { length chars.now ≤ LONGEST_INPUT }
-    requires read { IsSomeReading prepared.now chars.now reading.now.recce reading.now.spans.items
-        End }
-    requires tellers { AreBothTellers (states tellers.items shows held) }
-    ensures done { ForGiven prepared.now chars.now reading.now.recce
-        reading.now.spans.items End
-        (λ given. OnOk result (Does (TellsReading (telling_of what.entry) prepared.now given chars.now)
-        (O.contents out.old) (O.contents out.new))) }
-    ensures stops { ForGiven prepared.now chars.now reading.now.recce
-        reading.now.spans.items End
-        (λ given. IfErr result (WriteStops
-        (TellsReading (telling_of what.entry) prepared.now given chars.now)
-        (stream O.contents O.fault_count out.old) (stream O.contents O.fault_count out.new))) }
-    ensures counted { ForGiven prepared.now chars.now reading.now.recce
-        reading.now.spans.items End
-        (λ given. OnOk result (GoesOnWithin (telling_of what.entry) prepared.now given chars.now
-        reading.now.recce steps.old steps.new)) }
-    ensures out_later { O.fault_count out.old ≤ O.fault_count out.new }
-{
-    match what {
-        Telling::Values(asked) => write_values(
-            alloc, prepared, asked, chars, reading, out, tellers, steps,
-        ),
-        Telling::More(asked) => write_more(
-            alloc, prepared, asked, chars, reading, out, tellers, steps,
-        ),
-        Telling::Expected => write_expected(alloc, prepared, chars, reading, out),
-        Telling::Report { at } => write_report(alloc, prepared, at, chars, reading, out),
-        Telling::Glades => write_glades(alloc, prepared, chars, reading, out, steps),
-    }
 }

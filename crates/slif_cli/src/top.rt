@@ -9,7 +9,8 @@ ghost use Rattle.run_model.specs.Within.{RunsWithin};
 ghost use Rattle.command_line.specs.Jobs.{job_of, names_told, telling_of, input_of};
 ghost use Rattle.valuator.specs.Told.{states};
 ghost use Rattle.value_lines.specs.Writing.{AreBothTellers};
-ghost use Rattle.slif_cli.specs.Stops.{Does, MayHave, WorkStops, DoesJob, JobStops};
+ghost use Rattle.tellings.specs.Stops.{Does};
+ghost use Rattle.slif_cli.specs.Stops.{MayHave, WorkStops, DoesJob, JobStops};
 ghost use Rattle.slif_cli.specs.Tasks.{IsCheckJob, IsTellJob};
 
 use crate::checking::write_check;
@@ -18,7 +19,6 @@ use crate::grammar::load_grammar;
 use crate::hands::Hands;
 use crate::messages::report;
 use crate::scripting::play_input;
-use crate::stop::{Refusal, Stop};
 use crate::telling::tell_input;
 use crate::working::work_of_size;
 use command_line::{InputFrom, Job, Task, Telling, read_words};
@@ -26,6 +26,7 @@ use slif_base::{Files, Sink, Source, Steps};
 use slippers::Supplier;
 use std::alloc::Global;
 use std::sync::ledger::Ledger;
+use tellings::{Refusal, Stop};
 use valuator::Teller;
 
 /// Does what the words ask for, and answers the status. The words are those after the program's own name. Of the tellers that of

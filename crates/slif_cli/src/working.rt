@@ -8,17 +8,16 @@ ghost use Rattle.run_model.specs.Within.{WorkWithin};
 ghost use Rattle.run_model.specs.Outside.{stream};
 ghost use Rattle.scanless.specs.Reading.{IsReadingOf};
 ghost use Rattle.scanless.specs.declared.reading.Ending.TheVariants.{End};
-ghost use Rattle.slif_cli.specs.Stops.{Does, WriteStops};
+ghost use Rattle.tellings.specs.Stops.{Does, WriteStops};
 ghost use Rattle.slif_cli.specs.Tasks.{WorksWithin};
 
-use crate::stop::Stop;
-use crate::writing::write_lines;
 use bumpalo::Bump;
 use grammar_model::Ranking;
 use scanless::{Prepared, Reading};
 use slif_base::{Chars, Sink, Steps};
 use std::alloc::{AllocError, Global};
 use std::sync::ledger::Ledger;
+use tellings::{Stop, write_lines};
 use text_reading::{Refusal, forest_of, input_chars, read_grammar, read_text};
 use value_lines::{count_derivations, work_line};
 

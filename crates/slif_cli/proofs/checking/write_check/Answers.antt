@@ -3,7 +3,7 @@ use Rattle.std.proofs.lemmas.Result.{on_ok_weaker, MatchResult-weaker}
 use Rattle.run_model.specs.Outside.{stream}
 use Rattle.run_model.specs.Checking.{AreCheckLines}
 use Rattle.run_model.specs.Outcome.{IsCheckOutcome, done}
-use Rattle.slif_cli.proofs.Stopping.{lines_done, lines_stop}
+use Rattle.tellings.proofs.Stopping.{lines_done, lines_stop}
 use Rattle.slif_cli.proofs.checking.write_check.Goals as goal
 
 pub returns-clause-done : goal.returns-clause-done

@@ -3,9 +3,9 @@ use Rattle.std.specs.List.{slice_split}
 use Rattle.std.proofs.lemmas.Iterator.Splits.{YieldsList-from_str_split}
 use Rattle.words_model.specs.Words.{names_between}
 use Rattle.slif_cli.specs.Giving.{IsUnnamed}
-use Rattle.slif_cli.specs.Stops.{OfGrammar}
+use Rattle.tellings.specs.Stops.{OfGrammar}
 use Rattle.slif_cli.proofs.Named.{AreSoFar, Yields, turned, ended, none_so_far, one_more, all_so_far, first_unnamed}
-use Rattle.slif_cli.proofs.Stopping.{stops_as, of_grammar}
+use Rattle.tellings.proofs.Stopping.{stops_as, of_grammar}
 use Rattle.slif_cli.proofs.giving.lexemes_named.Goals as goal
 
 pub loop-name-init : goal.loop-name-init

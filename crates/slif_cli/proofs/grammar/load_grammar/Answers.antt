@@ -1,10 +1,10 @@
 use Rattle.std.proofs.Common.{Err, ap, subst, sym}
 use Rattle.outside_model.specs.Causes.{Rose}
 use Rattle.outside_model.specs.Told.{MayHold}
-use Rattle.slif_cli.specs.Refusals.{stop_for}
+use Rattle.tellings.specs.Refusals.{stop_for}
 use Rattle.slif_cli.specs.Stops.{LoadStops}
 use Rattle.slif_cli.proofs.Refusing.{load_stops_for, too_long_text}
-use Rattle.slif_cli.proofs.Stopping.{passed_on}
+use Rattle.tellings.proofs.Stopping.{passed_on}
 use Rattle.slif_cli.proofs.grammar.load_grammar.Goals as goal
 
 pub returns-in_err-read_grammar-in-Ok-clause-stops : goal.returns-in_err-read_grammar-in-Ok-clause-stops

@@ -4,10 +4,10 @@ use Rattle.std.proofs.lemmas.Str.{length-le-encodes, encodes-chars}
 use Rattle.run_model.specs.Outcome.{IsScriptOutcome}
 use Rattle.run_model.specs.Outside.{stream}
 use Rattle.text_reading.specs.Parts.{IsBrokenText}
-use Rattle.slif_cli.specs.Refusals.{stop_for, script_stop}
-use Rattle.slif_cli.specs.Stops.{WriteStops}
-use Rattle.slif_cli.proofs.Refusing.{input_stops_for}
-use Rattle.slif_cli.proofs.Stopping.{passed_on}
+use Rattle.tellings.specs.Refusals.{stop_for, script_stop}
+use Rattle.tellings.specs.Stops.{WriteStops}
+use Rattle.tellings.proofs.Refusing.{input_stops_for}
+use Rattle.tellings.proofs.Stopping.{passed_on}
 use Rattle.slif_cli.proofs.ScriptLemmas.{refused_broken, all_answered, broken_off}
 use Rattle.slif_cli.proofs.scripting.play_bytes.Goals as goal
 

@@ -5,9 +5,10 @@ use Rattle.words_model.specs.Words.InputFrom.{FileNamed}
 use Rattle.run_model.specs.Outside.{stream}
 use Rattle.run_model.specs.Outcome.{IsScriptOutcome}
 use Rattle.run_model.specs.Runs.{InputMayBe}
-use Rattle.slif_cli.specs.Stops.{MayRead, StopsAt}
+use Rattle.tellings.specs.Stops.{StopsAt}
+use Rattle.slif_cli.specs.Stops.{MayRead}
 use Rattle.command_line.specs.Jobs.{input_of}
-use Rattle.slif_cli.proofs.Stopping.{does_weaker, stops_weaker, passed_on}
+use Rattle.tellings.proofs.Stopping.{does_weaker, stops_weaker, passed_on}
 use Rattle.slif_cli.proofs.TaskLemmas.{may_read}
 use Rattle.slif_cli.proofs.ScriptLemmas.{unread}
 use Rattle.slif_cli.proofs.scripting.play_input.Goals as goal

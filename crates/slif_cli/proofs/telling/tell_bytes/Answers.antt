@@ -7,13 +7,13 @@ use Rattle.run_model.specs.Outcome.IsInputOutcome.{InputRefused}
 use Rattle.run_model.specs.Outside.{stream}
 use Rattle.text_reading.specs.Parts.{IsBrokenText, IsStopText}
 use Rattle.text_reading.specs.Refusals.{TellsInput}
-use Rattle.slif_cli.specs.Refusals.{stop_for}
-use Rattle.slif_cli.specs.Stops.{WriteStops}
-use Rattle.slif_cli.specs.Tasks.{TellsReading, GoesOnWithin}
+use Rattle.tellings.specs.Refusals.{stop_for}
+use Rattle.tellings.specs.Stops.{WriteStops}
+use Rattle.tellings.specs.Telling.{TellsReading, GoesOnWithin}
 use Rattle.command_line.specs.Jobs.{telling_of}
 use Rattle.slif_cli.proofs.InputLemmas.{refused_broken, refused_stop, within_all}
-use Rattle.slif_cli.proofs.Refusing.{input_stops_for}
-use Rattle.slif_cli.proofs.Stopping.{does_weaker, stops_weaker, passed_on}
+use Rattle.tellings.proofs.Refusing.{input_stops_for}
+use Rattle.tellings.proofs.Stopping.{does_weaker, stops_weaker, passed_on}
 use Rattle.slif_cli.proofs.TaskLemmas.{input_told}
 use Rattle.slif_cli.proofs.Within.{bytes_within}
 use Rattle.slif_cli.proofs.telling.tell_bytes.Goals as goal

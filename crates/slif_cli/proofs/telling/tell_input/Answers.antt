@@ -5,9 +5,10 @@ use Rattle.words_model.specs.Words.InputFrom.{FileNamed}
 use Rattle.run_model.specs.Outside.{stream}
 use Rattle.run_model.specs.Outcome.{IsInputOutcome}
 use Rattle.run_model.specs.Runs.{InputMayBe}
-use Rattle.slif_cli.specs.Stops.{MayRead, ReadStops, StopsAt}
+use Rattle.tellings.specs.Stops.{StopsAt}
+use Rattle.slif_cli.specs.Stops.{MayRead, ReadStops}
 use Rattle.command_line.specs.Jobs.{telling_of, input_of}
-use Rattle.slif_cli.proofs.Stopping.{does_weaker, stops_weaker, passed_on}
+use Rattle.tellings.proofs.Stopping.{does_weaker, stops_weaker, passed_on}
 use Rattle.slif_cli.proofs.TaskLemmas.{may_read, unread}
 use Rattle.slif_cli.proofs.telling.tell_input.Goals as goal
 

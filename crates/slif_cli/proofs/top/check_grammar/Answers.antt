@@ -8,7 +8,7 @@ use Rattle.run_model.specs.Runs.{MayOpen}
 use Rattle.slif_cli.specs.Stops.{MayHave, JobStops}
 use Rattle.slif_cli.specs.Tasks.{IsCheckJob}
 use Rattle.slif_cli.proofs.JobLemmas.{checked, load_stops}
-use Rattle.slif_cli.proofs.Stopping.{does_weaker, stops_weaker, passed_on}
+use Rattle.tellings.proofs.Stopping.{does_weaker, stops_weaker, passed_on}
 use Rattle.slif_cli.proofs.top.check_grammar.Goals as goal
 
 pub returns-clause-done : goal.returns-clause-done

@@ -12,7 +12,7 @@ use Rattle.slif_cli.specs.Stops.{MayHave, MayRead}
 use Rattle.slif_cli.specs.Tasks.{IsCheckJob, IsTellJob, IsScriptJob}
 use Rattle.slif_cli.proofs.JobLemmas.{asks_names, asks_nothing, worked, works_within, checks_within, fitted_as, copied_some}
 use Rattle.slif_cli.proofs.ScriptLemmas.{played, plays_within, reads_input, opens_input, asks_input}
-use Rattle.slif_cli.proofs.Stopping.{does_weaker, stops_weaker}
+use Rattle.tellings.proofs.Stopping.{does_weaker, stops_weaker}
 use Rattle.slif_cli.proofs.top.do_task.Goals as goal
 
 pub grammar_file-requires : goal.grammar_file-requires

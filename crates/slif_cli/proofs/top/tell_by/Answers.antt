@@ -14,7 +14,7 @@ use Rattle.slif_cli.specs.Tasks.{IsTellJob}
 use Rattle.command_line.specs.Jobs.{names_told, telling_of, input_of}
 use Rattle.slif_cli.proofs.JobLemmas.{load_stops, asks_names}
 use Rattle.slif_cli.proofs.Named.{few_given, both_given}
-use Rattle.slif_cli.proofs.Stopping.{does_weaker, stops_weaker, passed_on}
+use Rattle.tellings.proofs.Stopping.{does_weaker, stops_weaker, passed_on}
 use Rattle.slif_cli.proofs.TaskLemmas.{told, unnamed_stops, tells_within, read_before, held_before, rose_earlier, reads_input, opens_input, asks_both}
 use Rattle.slif_cli.proofs.top.tell_by.Goals as goal
 

@@ -2,7 +2,7 @@ use Rattle.std.proofs.Common.{[], ◌∷◌}
 use Rattle.std.proofs.lemmas.Result.{on_ok_weaker, MatchResult-weaker}
 use Rattle.run_model.specs.Outside.{stream}
 use Rattle.run_model.specs.Outcome.{IsWorkOutcome}
-use Rattle.slif_cli.proofs.Stopping.{lines_done, lines_stop, memory_stops}
+use Rattle.tellings.proofs.Stopping.{lines_done, lines_stop, memory_stops}
 use Rattle.slif_cli.proofs.working.work_of_size.Goals as goal
 
 pub returns-clause-done : goal.returns-clause-done

@@ -1,0 +1,12 @@
+pub mod Compared
+pub mod Derived
+pub mod Lines
+pub mod NameLines
+pub mod Numbered
+pub mod Paged
+pub mod Placed
+pub mod Refusing
+pub mod Reported
+pub mod Spelled
+pub mod Stopping
+pub mod Within

@@ -1,0 +1,4 @@
+pub mod Stops
+pub mod Refusals
+pub mod Places
+pub mod Telling
