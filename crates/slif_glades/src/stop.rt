@@ -9,7 +9,7 @@ pub(crate) enum Stop {
     #[error("usage: slif_glades --grammar FILE [--input FILE] [--all]")]
     Usage,
     #[error(transparent)]
-    Parse(#[from] ParseError),
+    Parse(ParseError),
     #[error("cannot open a file")]
     OpenFault,
     #[error("read fault")]
@@ -34,6 +34,11 @@ impl Stop {
 }
 
 impl From<AllocError> for Stop {
+    ghost use Rattle.std.specs.Prelude.{◌≡◌};
+    ghost use Rattle.slif_glades.specs.declared.stop.Stop.TheVariants.{NoMemory};
+
+    ghost from_gives = { λ _ stop. stop ≡ NoMemory };
+
     fn from(_error: AllocError) -> Stop {
         Stop::NoMemory
     }
@@ -46,6 +51,11 @@ impl<T: Drop> From<AllocFailed<T>> for Stop {
 }
 
 impl From<WriteFault> for Stop {
+    ghost use Rattle.std.specs.Prelude.{◌≡◌};
+    ghost use Rattle.slif_glades.specs.declared.stop.Stop.TheVariants.{WriteFault};
+
+    ghost from_gives = { λ _ stop. stop ≡ WriteFault };
+
     fn from(_fault: WriteFault) -> Stop {
         Stop::WriteFault
     }
