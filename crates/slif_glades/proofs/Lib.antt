@@ -4,3 +4,5 @@ pub mod Parts
 pub mod Stopping
 pub mod Marked
 pub mod Reports
+pub mod One
+pub mod Few

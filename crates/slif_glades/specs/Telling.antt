@@ -39,9 +39,14 @@ IsToldOfReading all g r text = (f : ForestOf) × IsForestAs r Rule f × IsTold a
 abbrev pub IsToldOfInput : (all : Bool) → Built → (input text : List ℕ) → Type 0
 IsToldOfInput all b input text = (r : Read) × IsReadAs b [] input r × IsToldOfReading all b.g1 r text
 
--- of an input that is read to its end, by a grammar that is accepted
+-- the one text that has P
+pub record IsOnly (P : List ℕ → Type 0) (text : List ℕ) : Type 0 where
+  pub has : P text
+  pub only : (other : List ℕ) → P other → other ≡ text
+
+-- the one text that tells the glades of an input that is read to its end, by a grammar that is accepted
 abbrev pub IsToldOf : (all : Bool) (grammar input text : List ℕ) → Type 0
-IsToldOf all grammar input text = (b : Built) × Accepted grammar b × IsToldOfInput all b input text
+IsToldOf all grammar input text = (b : Built) × Accepted grammar b × IsOnly (IsToldOfInput all b input) text
 
 -- REFUSALS
 

@@ -6,7 +6,7 @@ ghost use Rattle.grammar_model.specs.declared.limits.TheConstants.{LONGEST_INPUT
 ghost use Rattle.run_model.specs.Outside.{stream};
 ghost use Rattle.slif_glades.specs.Lines.{AreLinesOf};
 ghost use Rattle.slif_glades.specs.Told.{marked_text, told_text};
-ghost use Rattle.slif_glades.specs.Telling.{AreMarked, IsTold, IsToldOf, IsToldOfInput, IsToldOfReading, IsInputRefused, IsReadingRefused, IsRefused, Stops, TextStops, Writes};
+ghost use Rattle.slif_glades.specs.Telling.{AreMarked, IsTold, IsToldOf, IsToldOfInput, IsToldOfReading, IsInputRefused, IsOnly, IsReadingRefused, IsRefused, Stops, TextStops, Writes};
 
 use crate::glade_text::glade_text;
 use crate::lines::Lines;
@@ -47,9 +47,9 @@ fn tell_input<K: Sink>(
     all: bool,
     out: &mut K,
 ) -> Result<(), Stop>
-    ensures told { OnOk result (Writes (IsToldOfInput all grammar.now input.now)
+    ensures told { OnOk result (Writes (IsOnly (IsToldOfInput all grammar.now input.now))
         (K.contents out.old) (K.contents out.new)) }
-    ensures stops { IfErr result (Stops (IsToldOfInput all grammar.now input.now)
+    ensures stops { IfErr result (Stops (IsOnly (IsToldOfInput all grammar.now input.now))
         (IsInputRefused grammar.now input.now) (stream K.contents K.fault_count out.old)
         (stream K.contents K.fault_count out.new)) }
 {
