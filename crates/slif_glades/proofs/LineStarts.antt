@@ -1,5 +1,5 @@
 -- The lines of characters, by where they begin.
-use Rattle.std.proofs.Common.{◌≡◌, ◌∙◌, ℕ, zero, suc, ◌+◌, ◌-◌, ◌<◌, ◌≤◌, ◌==◌, Bool, true, false, cond, List, [], ◌∷◌, ◌++◌, length, get_or, take, refl, sym, ap, subst, arith, if◌then◌else◌, append_assoc, append-nil, IsUtf8, leb, leb-true, leb-false}
+use Rattle.std.proofs.Common.{◌≡◌, ◌∙◌, ℕ, zero, suc, ◌+◌, ◌-◌, ◌<◌, ◌≤◌, ◌==◌, Bool, true, false, cond, List, [], ◌∷◌, ◌++◌, length, get_or, take, refl, sym, ap, subst, arith, append_assoc, append-nil, IsUtf8, leb, leb-true, leb-false}
 use borrow.Author.Tests.{eqb-true}
 use Rattle.std.specs.Str.{chars}
 use Rattle.std.specs.Char.{encode_utf8}
@@ -11,12 +11,12 @@ use Rattle.std.specs.List.Sorted.{IsNonDecreasingBy, IsPartitionPoint}
 use Rattle.std.proofs.Math.Seq.{take-suc}
 use Rattle.outside_model.specs.Places.{line_after, column_after}
 use Rattle.slif_base.proofs.Lines.{line_break, line_same, column_break, column_same}
-use Rattle.slif_glades.specs.Lines.{starts_from, line_starts}
+use Rattle.slif_glades.specs.Lines.{behind, starts_from, line_starts}
 
 -- THE STARTS RISE
 
-above_by : (b : Bool) (base : ℕ) (S : List ℕ) → ((k : ℕ) → k < length S → suc base < get_or S k 0) → (k : ℕ) → k < length (if b then suc base ∷ S else S)
-    → base < get_or (if b then suc base ∷ S else S) k 0
+above_by : (b : Bool) (base : ℕ) (S : List ℕ) → ((k : ℕ) → k < length S → suc base < get_or S k 0) → (k : ℕ) → k < length (behind b (suc base) ++ S)
+    → base < get_or (behind b (suc base) ++ S) k 0
 above_by true base S above zero h = omega arith
 above_by true base S above (suc k) h = let x : suc base < get_or S k 0 = above k (omega arith) in omega arith
 above_by false base S above k h = let x : suc base < get_or S k 0 = above k h in omega arith
@@ -26,7 +26,7 @@ above base [] k h = absurd (omega arith)
 above base (c ∷ cs) k h = above_by (c == 10) base (starts_from (suc base) cs) (above (suc base) cs) k h
 
 rise_by : (b : Bool) (base : ℕ) (S : List ℕ) → ((k : ℕ) → k < length S → suc base < get_or S k 0) → ((i j : ℕ) → i ≤ j → j < length S → get_or S i 0 ≤ get_or S j 0)
-    → (i j : ℕ) → i ≤ j → j < length (if b then suc base ∷ S else S) → get_or (if b then suc base ∷ S else S) i 0 ≤ get_or (if b then suc base ∷ S else S) j 0
+    → (i j : ℕ) → i ≤ j → j < length (behind b (suc base) ++ S) → get_or (behind b (suc base) ++ S) i 0 ≤ get_or (behind b (suc base) ++ S) j 0
 rise_by true base S above rise zero zero le h = omega arith
 rise_by true base S above rise zero (suc j) le h = let x : suc base < get_or S j 0 = above j (omega arith) in omega arith
 rise_by true base S above rise (suc i) zero le h = absurd (omega arith)
@@ -48,8 +48,8 @@ are_rising cs = IsNonDecreasingBy-from_default (λ x. x) (line_starts cs) 0 (sta
 -- THE LINE: so many begin at the character or before
 
 count_by_test : (b : Bool) (base at n k : ℕ) (S : List ℕ) → ((j : ℕ) → j ≤ length S → ((i : ℕ) → i < j → get_or S i 0 ≤ suc base + at) → ((i : ℕ) → j ≤ i → i < length S → suc base + at < get_or S i 0) → n ≡ j)
-    → k ≤ length (if b then suc base ∷ S else S) → ((i : ℕ) → i < k → get_or (if b then suc base ∷ S else S) i 0 ≤ base + suc at)
-    → ((i : ℕ) → k ≤ i → i < length (if b then suc base ∷ S else S) → base + suc at < get_or (if b then suc base ∷ S else S) i 0) → cond b 1 0 + n ≡ k
+    → k ≤ length (behind b (suc base) ++ S) → ((i : ℕ) → i < k → get_or (behind b (suc base) ++ S) i 0 ≤ base + suc at)
+    → ((i : ℕ) → k ≤ i → i < length (behind b (suc base) ++ S) → base + suc at < get_or (behind b (suc base) ++ S) i 0) → cond b 1 0 + n ≡ k
 count_by_test true base at n zero S known le low high = let x : base + suc at < suc base = high 0 (omega arith) (omega arith) in absurd (omega arith)
 count_by_test true base at n (suc k) S known le low high =
     let x : n ≡ k = known k (omega arith) (λ i h. let y = low (suc i) (omega arith) in omega (arith, y)) (λ i h l. let y = high (suc i) (omega arith) (omega arith) in omega (arith, y)) in omega arith
@@ -80,13 +80,13 @@ line_between cs at k S same le point =
 -- THE COLUMN: counted from where the line begins
 
 -- the line behind an LF begins there
-next_by : (b : Bool) (base at n : ℕ) (S : List ℕ) → get_or S n 0 ≡ suc base + suc at → get_or (if b then suc base ∷ S else S) (cond b 1 0 + n) 0 ≡ base + suc (suc at)
+next_by : (b : Bool) (base at n : ℕ) (S : List ℕ) → get_or S n 0 ≡ suc base + suc at → get_or (behind b (suc base) ++ S) (cond b 1 0 + n) 0 ≡ base + suc (suc at)
 next_by true base at n S e = let index : 1 + n ≡ suc n = omega arith in ap (λ (i : ℕ). get_or (suc base ∷ S) i 0) index ∙ e ∙ omega arith
 next_by false base at n S e = let index : 0 + n ≡ n = omega arith in ap (λ (i : ℕ). get_or S i 0) index ∙ e ∙ omega arith
 
 next_start : (base at : ℕ) (cs : List ℕ) → at < length cs → (get_or cs at 0 == 10) ≡ true → get_or (starts_from base cs) (count_by (λ c. c == 10) (take at cs)) 0 ≡ base + suc at
 next_start base at [] h e = absurd (omega arith)
-next_start base zero (c ∷ cs) h e = ap (λ (b : Bool). get_or (if b then suc base ∷ starts_from (suc base) cs else starts_from (suc base) cs) 0 0) e ∙ omega arith
+next_start base zero (c ∷ cs) h e = ap (λ (b : Bool). get_or (behind b (suc base) ++ starts_from (suc base) cs) 0 0) e ∙ omega arith
 next_start base (suc at) (c ∷ cs) h e =
     ap (λ (n : ℕ). get_or (starts_from base (c ∷ cs)) n 0) (sum_by-cons (λ c. cond (c == 10) 1 0) c (take at cs))
     ∙ next_by (c == 10) base at (count_by (λ c. c == 10) (take at cs)) (starts_from (suc base) cs) (next_start (suc base) at cs (omega arith) e)
@@ -130,17 +130,11 @@ module _ (at : ℕ) (bytes rest out : List ℕ) (c : ℕ) (utf8 : IsUtf8 bytes) 
   index : at + 1 ≡ suc at
   index = omega arith
 
-  pub starts_break : (out' whole : List ℕ) → c ≡ 10 → out' ≡ out ++ (at + 1) ∷ [] → out ++ starts_from at (chars bytes) ≡ whole → out' ++ starts_from (at + 1) (chars rest) ≡ whole
-  starts_break out' whole is step w =
-      let all : starts_from at (chars bytes) ≡ suc at ∷ starts_from (suc at) (chars rest) = ap (starts_from at) (chars_past_char bytes rest c utf8 e ∙ ap (λ (c : ℕ). c ∷ chars rest) is) in
-      ap (λ o. o ++ starts_from (at + 1) (chars rest)) step ∙ append_assoc out ((at + 1) ∷ []) (starts_from (at + 1) (chars rest))
-      ∙ ap (λ (n : ℕ). out ++ n ∷ starts_from n (chars rest)) index ∙ ap (λ s. out ++ s) (sym all) ∙ w
-
-  pub starts_same : (whole : List ℕ) → (c == 10) ≡ false → out ++ starts_from at (chars bytes) ≡ whole → out ++ starts_from (at + 1) (chars rest) ≡ whole
-  starts_same whole is w =
-      let all : starts_from at (chars bytes) ≡ starts_from (suc at) (chars rest) =
-      ap (starts_from at) (chars_past_char bytes rest c utf8 e) ∙ ap (λ (b : Bool). if b then suc at ∷ starts_from (suc at) (chars rest) else starts_from (suc at) (chars rest)) is in
-      ap (λ (n : ℕ). out ++ starts_from n (chars rest)) index ∙ ap (λ s. out ++ s) (sym all) ∙ w
+  pub starts_step : (out' whole : List ℕ) → out' ≡ out ++ behind (c == 10) (at + 1) → out ++ starts_from at (chars bytes) ≡ whole → out' ++ starts_from (at + 1) (chars rest) ≡ whole
+  starts_step out' whole step w =
+      let all : starts_from at (chars bytes) ≡ behind (c == 10) (suc at) ++ starts_from (suc at) (chars rest) = ap (starts_from at) (chars_past_char bytes rest c utf8 e) in
+      ap (λ o. o ++ starts_from (at + 1) (chars rest)) step ∙ append_assoc out (behind (c == 10) (at + 1)) (starts_from (at + 1) (chars rest))
+      ∙ ap (λ (n : ℕ). out ++ (behind (c == 10) n ++ starts_from n (chars rest))) index ∙ ap (λ s. out ++ s) (sym all) ∙ w
 
   pub one_further : (n : ℕ) → at + length (chars bytes) ≡ n → at + 1 + length (chars rest) ≡ n
   one_further n h = omega (arith, ap length (chars_past_char bytes rest c utf8 e))

@@ -1,7 +1,7 @@
 // Where the lines of a text begin, in characters.
-ghost use Rattle.std.specs.Prelude.{◌≡◌, ◌^◌, ◌<◌, ◌≤◌, ◌-◌, List, ℕ, chars, length, take, slice_index, IfOk};
+ghost use Rattle.std.specs.Prelude.{◌≡◌, ◌^◌, ◌<◌, ◌≤◌, ◌-◌, List, ℕ, chars, ◌++◌, ◌==◌, length, take, slice_index, IfOk, OnOk};
 ghost use Rattle.outside_model.specs.Places.{line_after, column_after};
-ghost use Rattle.slif_glades.specs.Lines.{AreLinesOf};
+ghost use Rattle.slif_glades.specs.Lines.{AreLinesOf, behind};
 
 use std::alloc::{AllocError, Global};
 
@@ -10,6 +10,16 @@ use std::alloc::{AllocError, Global};
 pub(crate) struct Lines {
     starts: Vec<u32>,
     end: u32,
+}
+
+// Notes that a line begins behind a character, where that is a line's end.
+fn note(c: char, place: u32, starts: &mut Vec<u32>) -> Result<(), AllocError>
+    ensures { OnOk result (starts.new.items ≡ starts.old.items ++ behind (c == 10) place) }
+{
+    if c == '\n' {
+        starts.push(place)?;
+    }
+    Ok(())
 }
 
 impl Lines {
@@ -23,9 +33,7 @@ impl Lines {
         let mut at: u32 = 0;
         for c in text.chars() {
             at += 1;
-            if c == '\n' {
-                starts.push(at)?;
-            }
+            note(c, at, &mut starts)?;
         }
         Ok(Lines { starts, end: at })
     }

@@ -1,17 +1,6 @@
 use Rattle.std.proofs.lemmas.Str.{IsUtf8-past_char}
-use Rattle.std.proofs.lemmas.Bool.{ne_eqb}
-use Rattle.slif_glades.proofs.LineStarts.{starts_break, starts_same, one_further, starts_end}
+use Rattle.slif_glades.proofs.LineStarts.{starts_step, one_further, starts_end}
 use Rattle.slif_glades.proofs.lines.Lines.of.Goals as goal
-
-pub loop-c-preserved-in-Continue-branch-2 : goal.loop-c-preserved-in-Continue-branch-2
-loop-c-preserved-in-Continue-branch-2 c =
-    let utf8 = c.loop-c.invariant.utf8 in
-    let parts = c.in-Some.ensures.steps.0 in
-    record {
-      utf8 = IsUtf8-past_char _ _ c.in-Some.c utf8 parts;
-      at = one_further _ _ _ c.loop-c.starts.items c.in-Some.c utf8 parts _ c.loop-c.invariant.at;
-      starts = starts_break _ _ _ _ c.in-Some.c utf8 parts _ _ c.if-c-eq10.true c.in_ok-push-2.ensures.items c.loop-c.invariant.starts;
-    }
 
 pub loop-c-preserved : goal.loop-c-preserved
 loop-c-preserved c =
@@ -20,7 +9,7 @@ loop-c-preserved c =
     record {
       utf8 = IsUtf8-past_char _ _ c.in-Some.c utf8 parts;
       at = one_further _ _ _ c.loop-c.starts.items c.in-Some.c utf8 parts _ c.loop-c.invariant.at;
-      starts = starts_same _ _ _ _ c.in-Some.c utf8 parts _ (ne_eqb c.in-Some.c 10 c.if-c-eq10.false) c.loop-c.invariant.starts;
+      starts = starts_step _ _ _ _ c.in-Some.c utf8 parts _ _ c.in_ok-note.ensures c.loop-c.invariant.starts;
     }
 
 pub returns : goal.returns
