@@ -12,6 +12,7 @@ use Rattle.run_model.specs.Refused.{Accepted}
 use Rattle.run_model.specs.Outside.{Stream}
 use Rattle.text_reading.specs.Refusals.{IsRefusedAt, IsInputRefusedAt, IsNoDerivation}
 use Rattle.slif_parser.specs.declared.error.ParseError.{ParseError}
+use Rattle.slif_parser.specs.declared.error.ParseError.TheVariants.{Grammar as OfGrammar, Input as OfInput, NoMemory as NoRoomToTell}
 use Rattle.slif_parser.specs.Errors.{TellsGrammar, TellsInput}
 use Rattle.slif_parser.specs.Views.{Read, ForestOf}
 use Rattle.slif_parser.specs.Readings.{IsReadAs, IsForestAs, AreGladesOf}
@@ -73,6 +74,17 @@ pub record Writes (P : List ℕ → Type 0) (before after : Option (List ℕ)) :
 pub data WritesPart (P : List ℕ → Type 0) (before after : Option (List ℕ)) : Type 0 where
   Nothing : Appends before after [] → WritesPart P before after
   Part : (text : List ℕ) → P text → AppendsPrefix before after text → WritesPart P before after
+
+-- the status that the program ends with
+abbrev pub status_of : Stop → ℕ
+status_of (Parse (OfInput message place expected)) = 1
+status_of Usage = 2
+status_of (Parse (OfGrammar message place)) = 3
+status_of OpenFault = 4
+status_of ReadFault = 4
+status_of WriteFault = 4
+status_of (Parse NoRoomToTell) = 5
+status_of NoMemory = 5
 
 -- what is so of a stop, by its kind: of an error, of a write that failed, and where there is no memory
 abbrev pub StopsBy : (Refuses : ParseError → Type 0) (Unwritten NoRoom : Type 0) → Stop → Type 0

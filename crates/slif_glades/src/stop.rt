@@ -1,7 +1,10 @@
 // Why the program ended early, and its status then.
+ghost use Rattle.std.specs.Prelude.{◌≡◌};
+ghost use Rattle.slif_glades.specs.Telling.{status_of};
+
 use slif_base::{FileRefusal, ReadRefusal, WriteFault};
 use slif_parser::ParseError;
-use std::alloc::{AllocError, AllocFailed};
+use std::alloc::AllocError;
 use thiserror::Error;
 
 #[derive(Debug, Drop, Error)]
@@ -22,7 +25,9 @@ pub(crate) enum Stop {
 
 impl Stop {
     /// The status that the program ends with, as `slif` has it.
-    pub(crate) fn status(&self) -> u8 {
+    pub(crate) fn status(&self) -> u8
+        ensures { result ≡ status_of self.now }
+    {
         match self {
             Stop::Parse(ParseError::Input { .. }) => 1,
             Stop::Usage => 2,
@@ -40,12 +45,6 @@ impl From<AllocError> for Stop {
     ghost from_gives = { λ _ stop. stop ≡ NoMemory };
 
     fn from(_error: AllocError) -> Stop {
-        Stop::NoMemory
-    }
-}
-
-impl<T: Drop> From<AllocFailed<T>> for Stop {
-    fn from(_error: AllocFailed<T>) -> Stop {
         Stop::NoMemory
     }
 }
