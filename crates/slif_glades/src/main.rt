@@ -1,7 +1,9 @@
 //! Tells where an input is ambiguous by a grammar, and how, for people.
 #![tactic(auto)]
 
+mod glade_text;
 mod lines;
+mod pieces;
 mod stop;
 mod telling;
 mod words;

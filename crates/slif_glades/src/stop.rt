@@ -1,7 +1,10 @@
 // Why the program ended early, and its status then.
+ghost use Rattle.std.specs.Prelude.{◌≡◌};
+ghost use Rattle.slif_glades.specs.Telling.{status_of};
+
 use slif_base::{FileRefusal, ReadRefusal, WriteFault};
 use slif_parser::ParseError;
-use std::alloc::{AllocError, AllocFailed};
+use std::alloc::AllocError;
 use thiserror::Error;
 
 #[derive(Debug, Drop, Error)]
@@ -9,7 +12,7 @@ pub(crate) enum Stop {
     #[error("usage: slif_glades --grammar FILE [--input FILE] [--all]")]
     Usage,
     #[error(transparent)]
-    Parse(#[from] ParseError),
+    Parse(ParseError),
     #[error("cannot open a file")]
     OpenFault,
     #[error("read fault")]
@@ -22,7 +25,9 @@ pub(crate) enum Stop {
 
 impl Stop {
     /// The status that the program ends with, as `slif` has it.
-    pub(crate) fn status(&self) -> u8 {
+    pub(crate) fn status(&self) -> u8
+        ensures { result ≡ status_of self.now }
+    {
         match self {
             Stop::Parse(ParseError::Input { .. }) => 1,
             Stop::Usage => 2,
@@ -34,18 +39,22 @@ impl Stop {
 }
 
 impl From<AllocError> for Stop {
+    ghost use Rattle.std.specs.Prelude.{◌≡◌};
+    ghost use Rattle.slif_glades.specs.declared.stop.Stop.TheVariants.{NoMemory};
+
+    ghost from_gives = { λ _ stop. stop ≡ NoMemory };
+
     fn from(_error: AllocError) -> Stop {
         Stop::NoMemory
     }
 }
 
-impl<T: Drop> From<AllocFailed<T>> for Stop {
-    fn from(_error: AllocFailed<T>) -> Stop {
-        Stop::NoMemory
-    }
-}
-
 impl From<WriteFault> for Stop {
+    ghost use Rattle.std.specs.Prelude.{◌≡◌};
+    ghost use Rattle.slif_glades.specs.declared.stop.Stop.TheVariants.{WriteFault};
+
+    ghost from_gives = { λ _ stop. stop ≡ WriteFault };
+
     fn from(_fault: WriteFault) -> Stop {
         Stop::WriteFault
     }
