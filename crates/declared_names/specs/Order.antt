@@ -26,7 +26,7 @@ pub record HasFirst (read : Read) (P : List Mention → Type 0) : Type 0 where
   pub all : AreAll derivations (first ∷ others)
   pub holds : P (mentions_of (tokens_of read.characters read.spans) first)
 
--- the names of the first derivation have this fault
+-- the names of the first derivation have this fault, or memory ran out
 abbrev pub IsFaultIn : Read → Fault → Type 0
 IsFaultIn read fault.NoMemory = Unit {0}
 IsFaultIn read f = HasFirst read (λ mentions. IsFaultOf mentions f)
