@@ -1,2 +1,3 @@
 pub mod Worth
+pub mod Faults
 pub mod Expressions

@@ -21,6 +21,11 @@ abbrev pub IsFitting : Option ℤ → (column : ℕ) → Result Value Calculatio
 IsFitting (Some n) column r = r ≡ Ok (Number n)
 IsFitting None column r = r ≡ Err (TooLarge column)
 
+-- the number that a value is, if it is one
+abbrev pub IsNumberOf : Value → Result ℤ CalculationError → Type 0
+IsNumberOf (Number n) r = r ≡ Ok n
+IsNumberOf v r = r ≡ Err NoNumber
+
 -- TOKENS
 
 -- columns count characters from 1
@@ -68,6 +73,7 @@ pub record OperationGives (rule : ℕ) (left right : ℤ) (column : ℕ) (r : Re
   pub by_zero : rule ≡ QUOTIENT → right ≡ pos 0 → r ≡ Err (DivisionByZero column)
   pub sum : rule ≡ SUM → Gives (left +ℤ right) column r
   pub difference : rule ≡ DIFFERENCE → Gives (left -ℤ right) column r
+  pub other : rule ≢ PRODUCT → rule ≢ QUOTIENT → rule ≢ SUM → rule ≢ DIFFERENCE → r ≡ Err NoNumber
 
 -- a number; one in brackets; a call; a negation; an operation
 abbrev pub RuleGives : (rule : ℕ) → List Value → Result Value CalculationError → Type 0

@@ -1,6 +1,6 @@
 // What the parts of an expression are worth.
-ghost use Rattle.std.specs.Prelude.{◌≡◌, Ok, Err, IfOk};
-ghost use Rattle.calculator.specs.Worth.{IsFitting, NumberGives, NameGives, TokenGives, OperationGives, RuleGives};
+ghost use Rattle.std.specs.Prelude.{◌≡◌, Err};
+ghost use Rattle.calculator.specs.Worth.{IsFitting, IsNumberOf, NumberGives, NameGives, TokenGives, OperationGives, RuleGives};
 
 use crate::error::CalculationError;
 use crate::function::Function;
@@ -26,7 +26,7 @@ pub(crate) enum Value {
 impl Value {
     /// The number, where it is one.
     pub(crate) fn number(self) -> Result<i64, CalculationError>
-        ensures { IfOk result (λ n. self ≡ Value.Number n) }
+        ensures { IsNumberOf self result }
     {
         match self {
             Value::Number(number) => Ok(number),
@@ -76,9 +76,11 @@ impl Semantics for Arithmetic {
     {
         match children.as_slice() {
             [Value::Number(number)]
-            | [Value::Sign { .. }, Value::Number(number), Value::Sign { .. }] => {
-                Ok(Value::Number(*number))
-            }
+            | [
+                Value::Sign { .. },
+                Value::Number(number),
+                Value::Sign { .. },
+            ] => { Ok(Value::Number(*number)) }
             [
                 Value::Function { function, column },
                 Value::Sign { .. },
@@ -88,9 +90,11 @@ impl Semantics for Arithmetic {
             [Value::Sign { column }, Value::Number(number)] => {
                 fitting(number.checked_neg(), *column)
             }
-            [Value::Number(left), Value::Sign { column }, Value::Number(right)] => {
-                operation(rule.0, *left, *right, *column)
-            }
+            [
+                Value::Number(left),
+                Value::Sign { column },
+                Value::Number(right),
+            ] => { operation(rule.0, *left, *right, *column) }
             _ => Err(CalculationError::NoNumber),
         }
     }
@@ -124,12 +128,7 @@ pub(crate) fn fitting(number: Option<i64>, column: u32) -> Result<Value, Calcula
     }
 }
 
-fn operation(
-    rule: u32,
-    left: i64,
-    right: i64,
-    column: u32,
-) -> Result<Value, CalculationError>
+fn operation(rule: u32, left: i64, right: i64, column: u32) -> Result<Value, CalculationError>
     ensures { OperationGives rule left right column result }
 {
     match rule {

@@ -1,8 +1,9 @@
 //! A calculator: it writes the value of each of its words, or why it has none. It shows how a program reads by a grammar of its own.
 #![tactic(auto)]
 
-ghost use Rattle.std.specs.Prelude.{IfOk};
-ghost use Rattle.calculator.specs.Expressions.{IsFirstWorth, IsWorth};
+ghost use Rattle.std.specs.Prelude.{◌≡◌, IfOk, IfErr};
+ghost use Rattle.grammar_model.specs.declared.Ranking.TheVariants.{Rule};
+ghost use Rattle.calculator.specs.Expressions.{IsFirstWorth, IsFirstFault, IsFaultOfReading, IsWorth, IsFaultOf};
 
 mod arithmetic;
 mod error;
@@ -31,7 +32,8 @@ spaces ~ [\\s]+
 
 /// The value of an expression.
 fn value_of(alloc: Global, grammar: &Grammar, expression: &str) -> Result<i64, CalculationError>
-    ensures { IfOk result (IsWorth grammar.now expression.now) }
+    ensures worth { IfOk result (IsWorth grammar.now expression.now) }
+    ensures fault { IfErr result (IsFaultOf grammar.now expression.now) }
 {
     let reading = grammar.read(alloc, expression.as_bytes())?;
     let value = value_of_reading(alloc, &reading);
@@ -40,7 +42,8 @@ fn value_of(alloc: Global, grammar: &Grammar, expression: &str) -> Result<i64, C
 }
 
 fn value_of_reading(alloc: Global, reading: &Reading<'_>) -> Result<i64, CalculationError>
-    ensures { IfOk result (IsFirstWorth reading.now) }
+    ensures worth { IfOk result (IsFirstWorth reading.now) }
+    ensures fault { IfErr result (IsFaultOfReading reading.now) }
 {
     let forest = reading.forest(alloc, Ranking::Rule)?;
     let value = first_value(alloc, &forest);
@@ -50,7 +53,9 @@ fn value_of_reading(alloc: Global, reading: &Reading<'_>) -> Result<i64, Calcula
 
 /// The value of the first derivation. There is one, and the grammar gives no more.
 fn first_value(alloc: Global, forest: &Forest<'_>) -> Result<i64, CalculationError>
-    ensures { IfOk result (IsFirstWorth forest.now.read) }
+    requires { forest.now.forest.ranking ≡ Rule }
+    ensures worth { IfOk result (IsFirstWorth forest.now.read) }
+    ensures fault { IfErr result (IsFirstFault forest.now.read) }
 {
     let mut derivations = forest.derivations(alloc)?;
     if !derivations.next()? {

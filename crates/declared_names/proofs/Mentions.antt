@@ -68,8 +68,10 @@ declared_more before after mentions name start behind missing added = record {
 -- one is used
 used_more : (scope : Scope) (mentions : List Mention) (name : List ℕ) (start first : ℕ) → IsBehind scope mentions → Declares scope name first → IsBehind scope (mentions ++ Used name start ∷ [])
 used_more scope mentions name start first behind has = record {
-  holds = λ n s. (λ d. Contains-append_left mentions (Used name start ∷ []) (Declared n s) ((behind.holds n s).0 d),
-      λ c. elim (Contains-push_cases mentions (Used name start) (Declared n s) c) [ inl old ↦ (behind.holds n s).1 old | inr new ↦ cc ]);
+  holds = λ n s. (
+    λ d. Contains-append_left mentions (Used name start ∷ []) (Declared n s) ((behind.holds n s).0 d),
+    λ c. elim (Contains-push_cases mentions (Used name start) (Declared n s) c) [ inl old ↦ (behind.holds n s).1 old | inr new ↦ cc ],
+  );
   first = λ b a n s e. elim (split_last mentions (Used name start) b (Used n s) a e) [
     | inl (same, is) ↦
         let name_is : name ≡ n = cc in

@@ -20,12 +20,13 @@ use Rattle.declared_names.specs.Faults.{IsFaultOf}
 pub record HasFirst (read : Read) (P : List Mention → Type 0) : Type 0 where
   pub derivations : DerivationsOf
   pub of : derivations.read ≡ read
+  pub ranked : derivations.iteration.forest.ranking ≡ Rule
   pub first : Tree
   pub others : List Tree
   pub all : AreAll derivations (first ∷ others)
   pub holds : P (mentions_of (tokens_of read.characters read.spans) first)
 
--- the names of the first derivation have this fault
+-- the names of the first derivation have this fault, or memory ran out
 abbrev pub IsFaultIn : Read → Fault → Type 0
 IsFaultIn read fault.NoMemory = Unit {0}
 IsFaultIn read f = HasFirst read (λ mentions. IsFaultOf mentions f)
@@ -35,7 +36,7 @@ AreInOrder mentions = AreDeclaredFirst mentions × AreDeclaredOnce mentions
 
 -- the text is read, and its names are in order
 abbrev pub IsInOrder : Built → (bytes : List ℕ) → Type 0
-IsInOrder b bytes = (read : Read) × IsReadAs b bytes read × HasFirst read AreInOrder
+IsInOrder b bytes = (read : Read) × IsReadAs b [] bytes read × HasFirst read AreInOrder
 
 -- the fault, with the line and the column of its places
 abbrev pub IsPlaced : (characters : List ℕ) → Fault → Stop → Type 0
@@ -45,10 +46,10 @@ IsPlaced cs fault.NoMemory stop = stop ≡ NoMemory
 
 -- there is no derivation, or the names of the first have a fault
 pub data IsStopOfReading (read : Read) (stop : Stop) : Type 0 where
-  OfDerivations : (error : ParseError) → stop ≡ Parse error → TellsInput (IsNoDerivation read.grammar Rule read.characters) error → IsStopOfReading read stop
+  OfDerivations : (error : ParseError) → stop ≡ Parse error → TellsInput (IsNoDerivation read.grammar read.lexemes Rule read.characters) error → IsStopOfReading read stop
   OfNames : (f : Fault) → IsFaultIn read f → IsPlaced read.characters f stop → IsStopOfReading read stop
 
 -- the text is not read, or what is read is not in order
 pub data IsStopOf (b : Built) (bytes : List ℕ) (stop : Stop) : Type 0 where
-  OfInput : (error : ParseError) → stop ≡ Parse error → TellsInput (IsInputRefusedAt b bytes) error → IsStopOf b bytes stop
-  OfReading : (read : Read) → IsReadAs b bytes read → IsStopOfReading read stop → IsStopOf b bytes stop
+  OfInput : (error : ParseError) → stop ≡ Parse error → TellsInput (IsInputRefusedAt b [] bytes) error → IsStopOf b bytes stop
+  OfReading : (read : Read) → IsReadAs b [] bytes read → IsStopOfReading read stop → IsStopOf b bytes stop

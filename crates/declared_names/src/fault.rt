@@ -5,9 +5,16 @@ use std::alloc::{AllocError, AllocFailed};
 #[derive(Debug, Drop)]
 pub(crate) enum Fault {
     /// It is used, and not declared before.
-    NotDeclared { name: String, start: u32 },
+    NotDeclared {
+        name: String,
+        start: u32,
+    },
     /// It is declared, and was declared before, where `first` is.
-    DeclaredTwice { name: String, start: u32, first: u32 },
+    DeclaredTwice {
+        name: String,
+        start: u32,
+        first: u32,
+    },
     NoMemory,
 }
 

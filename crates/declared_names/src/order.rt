@@ -1,5 +1,6 @@
 // Whether a text is in order: each of its names is declared before it is used, and once.
-ghost use Rattle.std.specs.Prelude.{OnOk, IfErr};
+ghost use Rattle.std.specs.Prelude.{◌≡◌, OnOk, IfErr};
+ghost use Rattle.grammar_model.specs.declared.Ranking.TheVariants.{Rule};
 ghost use Rattle.declared_names.specs.Order.{HasFirst, AreInOrder, IsFaultIn, IsInOrder, IsPlaced, IsStopOfReading, IsStopOf};
 
 use crate::fault::Fault;
@@ -42,6 +43,7 @@ fn look_at_reading(alloc: Global, reading: &Reading<'_>) -> Result<(), Stop>
 
 /// Looks at the first derivation. There is one, and the grammar gives no more.
 fn look_at_first(alloc: Global, forest: &Forest<'_>) -> Result<(), Fault>
+    requires { forest.now.forest.ranking ≡ Rule }
     ensures ok { OnOk result (HasFirst forest.now.read AreInOrder) }
     ensures err { IfErr result (IsFaultIn forest.now.read) }
 {

@@ -91,12 +91,7 @@ impl Semantics for Scope {
         Ok(Value::Nothing)
     }
 
-    fn rule(
-        &mut self,
-        rule: RuleId,
-        _name: &str,
-        mut children: Vec<Value>,
-    ) -> Result<Value, Fault>
+    fn rule(&mut self, rule: RuleId, _name: &str, mut children: Vec<Value>) -> Result<Value, Fault>
         ensures { RuleGives self.old self.new rule children.items result }
     {
         match (rule.0, children.pop()) {

@@ -8,7 +8,10 @@ pub(crate) enum Stop {
     #[error(transparent)]
     Parse(ParseError),
     #[error("{name} at line {} column {} is not declared before", .place.line, .place.column)]
-    NotDeclared { name: String, place: Place },
+    NotDeclared {
+        name: String,
+        place: Place,
+    },
     #[error("{name} at line {} column {} is declared already, at line {} column {}", .place.line, .place.column, .first.line, .first.column)]
     DeclaredTwice {
         name: String,

@@ -1,10 +1,10 @@
 -- What 9-3-2 is worth.
-use Rattle.std.proofs.Common.{◌≡◌, ◌<◌, ◌^◌, ℕ, ℤ, pos, List, [], ◌∷◌, ◌++◌, Result, Ok, Err, refl, sym, ◌∙◌, ap, subst, codes, lit<}
+use Rattle.std.proofs.Common.{◌≡◌, ◌<◌, ◌^◌, ℕ, ℤ, pos, List, [], ◌∷◌, Result, Ok, Err, refl, sym, ◌∙◌, ap, subst, lit<}
 use Rattle.std.specs.Prelude.{IfOk}
 use Rattle.std.specs.Int.{w64, int_wrapping_sub}
 use Rattle.std.specs.Str.Parse.{IsNumeral, digits_value}
 use Rattle.grammar_model.specs.Grammar.{Grammar}
-use Rattle.grammar_model.specs.Trees.{Tree, Children, Leaf, Node, NoChild, Child}
+use Rattle.grammar_model.specs.Trees.{Tree}
 use Rattle.grammar_model.specs.Values.{Token, token_at}
 use Rattle.valuator.specs.Play.{tokens_of}
 use Rattle.tree_fold.specs.Values.{HasValue}

@@ -1,5 +1,5 @@
 -- The values of differences.
-use Rattle.std.specs.Prelude.{◌≡◌, ◌^◌, ◌<◌, ℕ, ℤ, pos, List, [], ◌∷◌, Result, Ok, Option, Some, codes}
+use Rattle.std.specs.Prelude.{◌≡◌, ◌^◌, ◌<◌, ℕ, ℤ, pos, List, [], ◌∷◌, Result, Ok, Some, codes}
 use Rattle.std.specs.Int.{w64, int_wrapping_sub, int_wrapping_neg}
 use Rattle.std.specs.Str.Parse.{IsNumeral, digits_value}
 use Rattle.grammar_model.specs.Trees.{Tree, Leaf, Node, NoChild, Child}

@@ -4,7 +4,9 @@ ghost use Rattle.std.specs.Prelude.{◌≡◌, ℕ, pos, IfOk, IsSome};
 ghost use Rattle.run_tests.specs.Differences.{IsCurrent, the_tokens, left_first, right_first};
 
 use crate::library::differences::Differences;
-use slif_parser::{Derivations, FoldError, Forest, Grammar, NoMemory, ParseError, Place, Ranking, Reading};
+use slif_parser::{
+    Derivations, FoldError, Forest, Grammar, NoMemory, ParseError, Place, Ranking, Reading,
+};
 use std::alloc::Global;
 use std::test::Fail;
 
@@ -61,10 +63,7 @@ fn is_refused(
 }
 
 // The value of the current derivation. That of `9-3-2` is 4 where the left difference comes first, and 8 where the right one does.
-fn current_value(
-    alloc: Global,
-    derivations: &Derivations<'_>,
-) -> Result<i64, FoldError<NoMemory>>
+fn current_value(alloc: Global, derivations: &Derivations<'_>) -> Result<i64, FoldError<NoMemory>>
     requires { IsSome derivations.now.iteration.current }
     ensures left { IfOk result (λ v. (number minus : ℕ) →
         IsCurrent derivations.now the_tokens (left_first number minus) → v ≡ pos 4) }

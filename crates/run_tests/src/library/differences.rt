@@ -1,6 +1,7 @@
 //! The values of differences.
 ghost use Rattle.std.specs.Prelude.{◌≡◌, Ok, pos};
 ghost use Rattle.run_tests.specs.Differences.{NumberGives, difference};
+
 use slif_parser::{NoMemory, RuleId, Semantics, SymbolId, Token};
 
 /// Differences of whole numbers. A sign is 0.
