@@ -5,12 +5,13 @@
 
 FILE is the static library that `rt lib` writes in crates/slif_c. With --built that which was written there is taken, and nothing is tested where none
 was; without either it is made first, over what was proved before. A C compiler is wanted; valgrind is used where it is there. Tested are: what the object needs and exports; each call, by clib/test.c, which writes clib/test.out;
-want of memory at each allocation, by clib/no_memory.c; both under valgrind; the INI reader of docs/C.md; the examples in the texts of the Python modules.
+want of memory at each allocation, by clib/no_memory.c; both under valgrind; the program that stands in docs/C.md, and the INI reader; the examples in the texts of the Python
+modules.
 
 With --rounds it measures, in processor time and in turn with the program `slif` where that is built: JSON of 1 MB, a short input read again and
 again by one grammar, and JSON of 1 MB folded to objects by Python, beside lark where that is installed.
 """
-import argparse, json, os, pathlib, re, shutil, subprocess, sys, tempfile, time
+import argparse, os, pathlib, re, shutil, subprocess, sys, tempfile, textwrap, time
 
 sys.dont_write_bytecode = True
 HERE = pathlib.Path(__file__).resolve().parent
@@ -23,6 +24,7 @@ LIBC = {"memcpy", "memmove", "memset"}
 INI = "; two servers\n[web]\nhost = example.org  ; the first\nport =\n\n[mail.old]\nmotto = small and fast"
 INI_OUT = "web.host=example.org\nweb.port=\nmail.old.motto=small and fast\n"
 INI_BAD = "ini:2:6: input stopped at line 2 column 6; found: none; expected: '='\nini: '=' could stand there\n"
+SUM_BAD = "sum: input stopped at line 1 column 3; found: none; expected: number\n"
 failures = []
 
 
@@ -60,10 +62,10 @@ def look_at_names(library, shared):
     tell("the shared library exports what the header declares", exported == declared(), f"{sorted(exported)} and {sorted(declared())}")
 
 
-def compiled(at, source, *libraries):
+def compiled(at, source, *libraries, of=None):
     made = at / source.stem
     done = run([CC, "-std=gnu11", "-O2", "-Wall", "-Wextra", "-I", EXTRAS / "c", source, *libraries, "-lpthread", "-o", made])
-    tell(f"{source.relative_to(ROOT)} compiles without a warning", done.returncode == 0 and not done.stderr, done.stderr.decode())
+    tell(f"{of or source.relative_to(ROOT)} compiles without a warning", done.returncode == 0 and not done.stderr, done.stderr.decode())
     return made
 
 
@@ -84,6 +86,15 @@ def test_c(at, library):
         passes("valgrind finds nothing in the second", [*words, no_memory])
     else:
         print("     (valgrind is not there)")
+
+
+def test_guide(at):
+    """The program that stands in docs/C.md, from its first line to the next of the text."""
+    (at / "sum.c").write_text(textwrap.dedent(re.search(r"^    /\* sum.*?(?=^\S)", (ROOT / "docs/C.md").read_text(), re.M | re.S)[0]))
+    sum = compiled(at, at / "sum.c", at / "libslif.a", of="the program of docs/C.md")
+    passes("the program of docs/C.md adds", [sum, "1+20+3"], "24\n")
+    done = run([sum, "1+x"])
+    tell("and refuses", (done.returncode, done.stderr.decode()) == (1, SUM_BAD), done.stderr.decode())
 
 
 def test_ini(at):
@@ -208,6 +219,7 @@ def main():
         if not failures:
             look_at_names(library, at / "libslif.so.0")
             test_c(at, library)
+            test_guide(at)
             test_ini(at)
             test_python(at)
             test_install(at)
