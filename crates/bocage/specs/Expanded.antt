@@ -1,5 +1,5 @@
 -- Hidden items of the places where nodes end: the expanded ones, and those that are items of nodes.
-use Rattle.std.specs.Prelude.{ℕ, ◌≤◌}
+use Rattle.std.specs.Prelude.{◌≡◌, ℕ, ◌≤◌}
 use Rattle.recognizer_model.specs.declared.Item.{Item}
 use Rattle.grammar_model.specs.declared.Ranking.{Ranking}
 use Rattle.grammar_model.specs.declared.Ranking.TheVariants.{None as NoRanks}
@@ -9,10 +9,16 @@ use Rattle.recognizer_model.specs.Leo.{IsHidden}
 use Rattle.recognizer_model.specs.Chosen.{allowed_by}
 use Rattle.recognizer_model.specs.Nodes.{Placed, IsExpanded}
 use Rattle.earley_sets.specs.Recognizer.{Recognizer, earleme_of, edges_of, top_of}
+use Rattle.forest_model.specs.Forest.{Forest}
 use Rattle.bocage.specs.Walk.{IsUsedIn}
 
 abbrev pub IsExpandedIn : Grammar → Ranking → Recognizer → Placed → Type 0
 IsExpandedIn w ranking r p = IsExpanded r.flat (edges_of r) (allowed_by w ranking r.flat (edges_of r)) (top_of r) (earleme_of r) p
+
+-- the forest is of what the recognizer holds, by that grammar and ranking
+abbrev pub IsOver : Grammar → Ranking → Recognizer → Forest → Type 0
+IsOver w ranking r f =
+    (f.written ≡ w) × (f.flat ≡ r.flat) × (f.start ≡ r.start) × (f.edges ≡ r.edges) × (f.place ≡ earleme_of r) × (f.ranking ≡ ranking)
 
 -- a hidden item, and some derivation of the whole has its node, whatever the ranks
 abbrev pub IsHiddenNode : Grammar → Recognizer → Placed → Type 0

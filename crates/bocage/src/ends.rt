@@ -123,7 +123,8 @@ fn visit_listed<'a>(
     requires noted { AreNoted known.now found.old }
     ensures goes { OnOk result (Goes known.now found.old found.new (map (λ r. r.now) table.old.items) (map (λ r. r.now) table.new.items)) }
     ensures have { OnOk result ((n : ℕ) (key : TheKey) → Contains nodes.now n → slice_get found.old.keys.keys n ≡ Some key →
-        HasRow known.now.written.now known.now.ranking known.now.recce.now found.new.keys.keys found.new.wholes.items (map (λ r. r.now) table.new.items) n key) }
+        HasRow known.now.written.now known.now.ranking known.now.recce.now found.new.keys.keys
+        found.new.wholes.items (map (λ r. r.now) table.new.items) n key) }
 {
     for node in nodes {
         visit(known, arena, *node, found, table)?;
@@ -146,7 +147,8 @@ fn visit_here<'a>(
     requires noted { AreNoted known.now found.old }
     ensures goes { OnOk result (Goes known.now found.old found.new (map (λ r. r.now) table.old.items) (map (λ r. r.now) table.new.items)) }
     ensures has { OnOk result (key.end ≡ known.now.end →
-        HasRow known.now.written.now known.now.ranking known.now.recce.now found.new.keys.keys found.new.wholes.items (map (λ r. r.now) table.new.items) node key) }
+        HasRow known.now.written.now known.now.ranking known.now.recce.now found.new.keys.keys
+        found.new.wholes.items (map (λ r. r.now) table.new.items) node key) }
 {
     if key.end == known.end {
         visit(known, arena, node, found, table)?;
@@ -165,10 +167,13 @@ fn visit_new<'a>(
     requires knows { Knows known.now }
     requires first { first ≤ length found.old.keys.keys }
     requires noted { AreNoted known.now found.old }
-    requires nodes { (n : ℕ) (key : TheKey) → first ≤ n → slice_get found.old.keys.keys n ≡ Some key → key.end ≡ known.now.end → IsReady known.now found.old.keys.keys n }
+    requires nodes { (n : ℕ) (key : TheKey) → first ≤ n →
+        slice_get found.old.keys.keys n ≡ Some key → key.end ≡ known.now.end →
+        IsReady known.now found.old.keys.keys n }
     ensures goes { OnOk result (Goes known.now found.old found.new (map (λ r. r.now) table.old.items) (map (λ r. r.now) table.new.items)) }
     ensures have { OnOk result ((n : ℕ) (key : TheKey) → first ≤ n → slice_get found.new.keys.keys n ≡ Some key → key.end ≡ known.now.end →
-        HasRow known.now.written.now known.now.ranking known.now.recce.now found.new.keys.keys found.new.wholes.items (map (λ r. r.now) table.new.items) n key) }
+        HasRow known.now.written.now known.now.ranking known.now.recce.now found.new.keys.keys
+        found.new.wholes.items (map (λ r. r.now) table.new.items) n key) }
 {
     for node in first..usize::MAX {
         let Some(key) = found.keys.get_index(node).copied() else {
@@ -237,7 +242,8 @@ fn visit_gathered<'a>(
     requires nodes { (n : ℕ) → Contains nodes.now n ↔ ((n < first) × EndsAt found.old.keys.keys known.now.end n) }
     requires least { (n : ℕ) (key : TheKey) → Contains nodes.now n → slice_get found.old.keys.keys n ≡ Some key → known.now.least ≤ key.origin }
     requires whole { known.now.end ≡ earleme_of known.now.recce.now → known.now.least ≡ 0 }
-    ensures visited { OnOk result (AreVisited known.now.written.now known.now.ranking known.now.recce.now known.now.end found.new (map (λ r. r.now) table.new.items)) }
+    ensures visited { OnOk result (AreVisited known.now.written.now known.now.ranking
+        known.now.recce.now known.now.end found.new (map (λ r. r.now) table.new.items)) }
     ensures grows { OnOk result (GrowsBy (IsUsedIn known.now.written.now known.now.ranking known.now.recce.now) found.old.keys.keys found.new.keys.keys) }
 {
     forget(known.groups.len(), &mut found.causes)?;

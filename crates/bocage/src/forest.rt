@@ -3,12 +3,11 @@ ghost use Rattle.std.specs.Prelude.{◌≡◌, ℕ, ◌+◌, ◌<◌, ◌≤◌,
 ghost use Rattle.grammar_model.specs.Checked.{IsChecked};
 ghost use Rattle.recognizer_model.specs.FlatForm.{IsFlatOf};
 ghost use Rattle.recognizer_model.specs.Counts.{IsCountOf};
-ghost use Rattle.recognizer_model.specs.Chosen.{allowed_by};
-ghost use Rattle.recognizer_model.specs.Nodes.{IsExpanded, IsStats};
-ghost use Rattle.earley_sets.specs.Recognizer.{HasTree, earleme_of, edges_of, top_of};
+ghost use Rattle.recognizer_model.specs.Nodes.{IsStats};
+ghost use Rattle.earley_sets.specs.Recognizer.{HasTree};
 ghost use Rattle.forest_model.specs.Forest.{IsForest, IsNode, allowed_of, edges_of as forest_edges, top_of as forest_top};
 ghost use Rattle.forest_parts.specs.Hidden.{RisesWithin};
-ghost use Rattle.bocage.specs.Expanded.{IsHiddenNode, IsGivenIn};
+ghost use Rattle.bocage.specs.Expanded.{IsExpandedIn, IsHiddenNode, IsGivenIn, IsOver};
 ghost use Rattle.bocage.specs.Rows.{cause_told};
 ghost use Rattle.bocage.specs.Readers.{alternative_at, node_at};
 ghost use Rattle.bocage.specs.declared.refusal.ForestRefusal.TheVariants.{NoParse};
@@ -132,9 +131,28 @@ impl<'a> Model for Forest<'a> {
 
     ghost Value = { Forest };
 
-    ghost view = { λ f. record { written = f.written.now; flat = f.recce.now.flat; start = f.recce.now.start; edges = f.recce.now.edges; place = earleme_of f.recce.now; ranking = f.ranking; nodes = nodes_of f.wholes.items f.keys.items (map (λ r. r.now) f.table.items); root = f.root } };
+    ghost view = { λ f. record {
+      written = f.written.now;
+      flat = f.recce.now.flat;
+      start = f.recce.now.start;
+      edges = f.recce.now.edges;
+      place = earleme_of f.recce.now;
+      ranking = f.ranking;
+      nodes = nodes_of f.wholes.items f.keys.items (map (λ r. r.now) f.table.items);
+      root = f.root;
+    } };
 
-    ghost invariant = { λ f. IsForest (record { written = f.written.now; flat = f.recce.now.flat; start = f.recce.now.start; edges = f.recce.now.edges; place = earleme_of f.recce.now; ranking = f.ranking; nodes = nodes_of f.wholes.items f.keys.items (map (λ r. r.now) f.table.items); root = f.root }) × IsTable f.keys.items (map (λ r. r.now) f.table.items) f.wholes.items };
+    ghost invariant = { λ f. IsForest (record {
+      written = f.written.now;
+      flat = f.recce.now.flat;
+      start = f.recce.now.start;
+      edges = f.recce.now.edges;
+      place = earleme_of f.recce.now;
+      ranking = f.ranking;
+      nodes = nodes_of f.wholes.items f.keys.items (map (λ r. r.now) f.table.items);
+      root = f.root;
+    }) ×
+        IsTable f.keys.items (map (λ r. r.now) f.table.items) f.wholes.items };
 }
 
 impl<'a> Forest<'a> {
@@ -152,9 +170,10 @@ impl<'a> Forest<'a> {
         requires checked { IsChecked w.now }
         requires flat { IsFlatOf recce.now.flat w.now }
         ensures forest { IfOk result (λ f. IsForest f) }
-        ensures reading { IfOk result (λ f. (f.written ≡ w.now) × (f.flat ≡ recce.now.flat) × (f.start ≡ recce.now.start) × (f.edges ≡ recce.now.edges) × (f.place ≡ earleme_of recce.now) × (f.ranking ≡ ranking)) }
+        ensures reading { IfOk result (λ f. IsOver w.now ranking recce.now f) }
         ensures no_parse { (result ≡ Err NoParse) ↔ (¬ HasTree recce.now) }
-        ensures counted { (n : ℕ) → IsCountOf (IsExpanded recce.now.flat (edges_of recce.now) (allowed_by w.now ranking recce.now.flat (edges_of recce.now)) (top_of recce.now) (earleme_of recce.now)) n → steps.new ≤ steps.old + n }
+        ensures counted { (n : ℕ) → IsCountOf (IsExpandedIn w.now ranking recce.now) n →
+            steps.new ≤ steps.old + n }
         ensures needed { (n : ℕ) → IsCountOf (IsHiddenNode w.now recce.now) n →
             steps.new ≤ steps.old + n }
     {
@@ -176,7 +195,7 @@ impl<'a> Forest<'a> {
         requires checked { IsChecked w.now }
         requires flat { IsFlatOf recce.now.flat w.now }
         requires tree { HasTree recce.now }
-        ensures reading { IfOk result (λ f. (f.written ≡ w.now) × (f.flat ≡ recce.now.flat) × (f.start ≡ recce.now.start) × (f.edges ≡ recce.now.edges) × (f.place ≡ earleme_of recce.now) × (f.ranking ≡ ranking)) }
+        ensures reading { IfOk result (λ f. IsOver w.now ranking recce.now f) }
         ensures forest { IfOk result (λ f. IsForest f) }
         ensures counted { RisesWithin (IsGivenIn w.now ranking recce.now) steps.old steps.new }
     {
@@ -204,7 +223,7 @@ impl<'a> Forest<'a> {
         requires none { found.old.keys.keys ≡ [] }
         requires heads { work.old.chains.heads.items ≡ [] }
         requires below { work.old.chains.below.items ≡ [] }
-        ensures reading { IfOk result (λ f. (f.written ≡ w.now) × (f.flat ≡ recce.now.flat) × (f.start ≡ recce.now.start) × (f.edges ≡ recce.now.edges) × (f.place ≡ earleme_of recce.now) × (f.ranking ≡ ranking)) }
+        ensures reading { IfOk result (λ f. IsOver w.now ranking recce.now f) }
         ensures forest { IfOk result (λ f. IsForest f) }
         ensures counted { RisesWithin (IsGivenIn w.now ranking recce.now) steps.old steps.new }
     {
@@ -240,7 +259,9 @@ impl<'a> Forest<'a> {
     /// The numbers of the reading: its places, its items and nodes, and the hidden items that end with a node and begin no earlier than one.
     /// The last are counted here, since a forest asks for no more than it needs.
     pub fn stats(&self, alloc: Global) -> Result<Stats, AllocError>
-        ensures { IfOk result (λ s. IsStats self.now.flat (forest_edges self.now) (allowed_of self.now) (forest_top self.now) self.now.place s.tokens s.kept s.nodes s.expanded) }
+        ensures { IfOk result (λ s. IsStats self.now.flat (forest_edges self.now)
+            (allowed_of self.now) (forest_top self.now) self.now.place
+            s.tokens s.kept s.nodes s.expanded) }
     {
         let tokens = u128::from(self.recce.place());
         let expanded = count_expanded(alloc, self.recce, &self.keys)?;
@@ -296,7 +317,9 @@ impl<'a> Forest<'a> {
         steps: &mut Steps<L>,
     ) -> Option<(usize, Alternatives<'_>)>
         requires { node < length self.now.nodes }
-        ensures at { IfSome result (λ r. (position (λ a. a.start == start) (node_at self.now node).alternatives ≡ Some r.0) × (r.1 ≡ (node_at self.now node).alternatives)) }
+        ensures at { IfSome result (λ r.
+            (position (λ a. a.start == start) (node_at self.now node).alternatives ≡ Some r.0) ×
+            (r.1 ≡ (node_at self.now node).alternatives)) }
         ensures none { IsNone result → position (λ a. a.start == start) (node_at self.now node).alternatives ≡ None }
         ensures counted { steps.new ≡ steps.old + 1 }
     {

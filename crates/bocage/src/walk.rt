@@ -167,7 +167,8 @@ fn noted_cause(causes: &[Option<CauseRow>], at: usize) -> Option<CauseRow>
 fn note_cause(causes: &mut Vec<Option<CauseRow>>, at: usize, cause: CauseRow)
     requires { at < length causes.old.items }
     ensures long { length causes.new.items ≡ length causes.old.items }
-    ensures each { (n : ℕ) (held : TheCauseRow) → slice_get causes.new.items n ≡ Some (Some held) → (slice_get causes.old.items n ≡ Some (Some held)) ⊎ ((n ≡ at) × (held ≡ cause)) }
+    ensures each { (n : ℕ) (held : TheCauseRow) → slice_get causes.new.items n ≡ Some (Some held) →
+        (slice_get causes.old.items n ≡ Some (Some held)) ⊎ ((n ≡ at) × (held ≡ cause)) }
 {
     causes[at] = Some(cause);
 }

@@ -130,7 +130,8 @@ pub fn lexeme_rows(
     requires few { length symbols.now ≤ MOST_ENTRIES }
     requires few_starts { length starts.now ≤ MOST_ENTRIES }
     ensures { IfOk result (λ rows. map row_of rows.items ≡ map (λ name. row_from symbols.now starts.now
-        (adverbs_at (map (λ p. p.0) (flat_map lexeme_parts (map statement_of statements.now))) (map (λ p. p.1) (flat_map lexeme_parts (map statement_of statements.now))) name)
+        (adverbs_at (map (λ p. p.0) (flat_map lexeme_parts (map statement_of statements.now)))
+        (map (λ p. p.1) (flat_map lexeme_parts (map statement_of statements.now))) name)
         (building.value_of (codes "latm") (flat_map lexeme_default_adverbs (map statement_of statements.now))) name) lexemes.now) }
 {
     let own = own_adverbs(alloc, statements)?;

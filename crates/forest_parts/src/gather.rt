@@ -124,7 +124,8 @@ fn put_kept(
     requires flat { IsFlatOf recce.now.flat w.now }
     requires end { end ≤ earleme_of recce.now }
     ensures { OnOk result ((p : ThePart) → Contains parts.new.items p ↔
-        (Contains parts.old.items p ⊎ ((item : TheItem) × Contains (set_at recce.now end) item × ((least ≤ item.origin) × IsWholeOf w.now ranking recce.now.flat end item p)))) }
+        (Contains parts.old.items p ⊎ ((item : TheItem) × Contains (set_at recce.now end) item ×
+        ((least ≤ item.origin) × IsWholeOf w.now ranking recce.now.flat end item p)))) }
 {
     let set = recce.whole(end);
     for k in 0..set.len() {
@@ -146,7 +147,8 @@ fn put_given(
     requires flat { IsFlatOf recce.now.flat w.now }
     requires items { AreItems recce.now.flat given.now }
     ensures { OnOk result ((p : ThePart) → Contains parts.new.items p ↔
-        (Contains parts.old.items p ⊎ ((item : TheItem) × Contains given.now item × ((least ≤ item.origin) × IsWholeOf w.now ranking recce.now.flat end item p)))) }
+        (Contains parts.old.items p ⊎ ((item : TheItem) × Contains given.now item ×
+        ((least ≤ item.origin) × IsWholeOf w.now ranking recce.now.flat end item p)))) }
 {
     for item in given {
         put_whole(recce, w, ranking, end, least, *item, parts)?;
@@ -169,7 +171,9 @@ fn put_wholes(
     requires end { end ≤ earleme_of recce.now }
     requires hidden { (item : TheItem) → Contains hidden.now item → IsHidden recce.now.flat (edges_of recce.now) (top_of recce.now) end item }
     ensures { OnOk result ((p : ThePart) → Contains parts.new.items p ↔
-        (Contains parts.old.items p ⊎ ((item : TheItem) × (Contains (set_at recce.now end) item ⊎ Contains hidden.now item) × ((least ≤ item.origin) × IsWholeOf w.now ranking recce.now.flat end item p)))) }
+        (Contains parts.old.items p ⊎ ((item : TheItem) ×
+        (Contains (set_at recce.now end) item ⊎ Contains hidden.now item) ×
+        ((least ≤ item.origin) × IsWholeOf w.now ranking recce.now.flat end item p)))) }
 {
     put_kept(recce, w, ranking, end, least, parts)?;
     put_given(recce, w, ranking, end, least, hidden, parts)

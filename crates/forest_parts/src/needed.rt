@@ -35,7 +35,8 @@ fn put_top(
     requires is { IsRecognizer recce.now }
     requires end { end ≤ earleme_of recce.now }
     requires rule { IsRule recce.now.flat item.rule }
-    ensures tops { OnOk result ((x : TheItem) → Contains tops.new.items x ↔ (Contains tops.old.items x ⊎ LeadsOver recce.now unasked.now.keys end least item x)) }
+    ensures tops { OnOk result ((x : TheItem) → Contains tops.new.items x ↔
+        (Contains tops.old.items x ⊎ LeadsOver recce.now unasked.now.keys end least item x)) }
     ensures bottoms { OnOk result ((x : TheItem) → Contains bottoms.new.items x ↔
         (Contains bottoms.old.items x ⊎ ((x ≡ item) × ((top : TheItem) × LeadsOver recce.now unasked.now.keys end least item top)))) }
 {

@@ -140,7 +140,9 @@ fn answer_sequence(
     line: &mut Vec<u8>,
 ) -> Result<(), AllocError>
     requires room { length w.old.rules < MOST_ENTRIES }
-    ensures { OnOk result (says (building w.new) line.new.items ≡ sequence_reply (building w.old) lhs.now item.now plus (option_copied separator.entry) proper) }
+    ensures { OnOk result (says (building w.new) line.new.items ≡
+        sequence_reply (building w.old) lhs.now item.now plus (option_copied separator.entry)
+        proper) }
 {
     let Some(left) = w.symbol_named(lhs) else {
         return put("bad name", line);

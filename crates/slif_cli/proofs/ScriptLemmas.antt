@@ -27,9 +27,8 @@ use Rattle.marpa_script.specs.declared.refusal.ScriptRefusal.{ScriptRefusal}
 use Rattle.marpa_script.specs.declared.refusal.ScriptRefusal.TheVariants.{WriteFault, NoMemory}
 use Rattle.text_reading.specs.declared.refusal.Place.{Place}
 use Rattle.text_reading.specs.Parts.{IsBrokenText}
-use Rattle.tellings.specs.Refusals.{script_stop}
-use Rattle.tellings.specs.Stops.{Does, AppendsPrefixOf, StopsAt, WriteStops, refusal_outcome}
-use Rattle.slif_cli.specs.Stops.{Prefix, MayHave, MayRead, ReadStops, names_from}
+use Rattle.tellings.specs.Stops.{Does, AppendsPrefixOf, StopsAt, WriteStops, Prefix, refusal_outcome}
+use Rattle.slif_cli.specs.Stops.{script_stop, MayHave, MayRead, ReadStops, names_from}
 use Rattle.slif_cli.specs.Tasks.{IsScriptJob}
 use Rattle.tellings.specs.declared.stop.Stop.{Stop}
 use Rattle.slif_cli.proofs.JobLemmas.{fitted_as}

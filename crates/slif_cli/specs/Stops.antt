@@ -12,6 +12,8 @@ use Rattle.run_model.specs.Outcome.{Outcome}
 use Rattle.run_model.specs.Outside.{Stream, Disk}
 use Rattle.run_model.specs.Runs.{MayEnd, MayOpen, InputMayBe, fault_line, memory_line}
 use Rattle.run_model.specs.Runs.Fault.{CannotOpen, CannotRead, CannotWrite}
+use Rattle.marpa_script.specs.declared.refusal.ScriptRefusal as script
+use Rattle.marpa_script.specs.declared.refusal.ScriptRefusal.TheVariants as unanswered
 use Rattle.slif_cli.specs.declared.checking.SymbolRow.{SymbolRow}
 use Rattle.tellings.specs.declared.stop.Stop.{Stop}
 use Rattle.tellings.specs.declared.stop.Stop.TheVariants.{Refused, OpenFault, ReadFault, WriteFault, NoMemory}
@@ -23,6 +25,11 @@ told_row r = record { symbol = r.symbol; nullable = r.nullable; productive = r.p
 -- where the grammar was not read from the file of the name
 abbrev pub LoadStops : List ℕ → ToldFile → (Files : Type 0) → Stop → Type 0
 LoadStops name told Files = StopsBy (OfGrammar (λ text. FileHolds told (λ bytes. IsRefused bytes text))) (λ asked. Files × (asked ≡ name)) Files ⊥ ⊤
+
+-- answers to a script that were not all written
+abbrev pub script_stop : script.ScriptRefusal → Stop
+script_stop unanswered.WriteFault = WriteFault
+script_stop unanswered.NoMemory = NoMemory
 
 -- THE INPUT
 

@@ -8,12 +8,12 @@ ghost use Rattle.run_model.specs.Outcome.{IsScriptOutcome};
 ghost use Rattle.run_model.specs.Outside.{stream};
 ghost use Rattle.command_line.specs.Jobs.{input_of};
 ghost use Rattle.tellings.specs.Stops.{Does, StopsAt, WriteStops};
-ghost use Rattle.slif_cli.specs.Stops.{MayRead, names_from};
+ghost use Rattle.slif_cli.specs.Stops.{MayRead, names_from, script_stop};
 
 use crate::inputs::read_bytes;
 use command_line::InputFrom;
 use grammar_model::LONGEST_INPUT;
-use marpa_script::play_script;
+use marpa_script::{ScriptRefusal, play_script};
 use slif_base::{Files, Sink, Source, Steps};
 use std::alloc::Global;
 use std::sync::ledger::Ledger;
@@ -57,6 +57,18 @@ fn play_bytes<'a, O: Sink, L: Ledger>(
         (stream O.contents O.fault_count out.old) (stream O.contents O.fault_count out.new)) }
 {
     let chars = input_chars(alloc, bytes)?;
-    play_script(alloc, &chars, out, steps)?;
-    Ok(())
+    match play_script(alloc, &chars, out, steps) {
+        Ok(()) => Ok(()),
+        Err(refusal) => Err(stop_of(refusal)),
+    }
+}
+
+// How the work stops where the answers were not all written.
+fn stop_of<'a>(refusal: ScriptRefusal) -> Stop<'a>
+    ensures { result ≡ script_stop refusal }
+{
+    match refusal {
+        ScriptRefusal::WriteFault => Stop::WriteFault,
+        ScriptRefusal::NoMemory => Stop::NoMemory,
+    }
 }

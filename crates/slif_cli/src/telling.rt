@@ -42,9 +42,13 @@ pub fn tell_input<'a, F: Files, I: Source, O: Sink, L: Ledger>(
     requires both { IsTrue (is_some hands.supplier) ↔ (0 < length lexemes.now) }
     requires somewhere { input_of from ≢ Nowhere }
     requires tellers { AreBothTellers (states hands.tellers.items shows held) }
-    ensures done { OnOk result (Does (MayRead (IsInputOutcome (telling_of what.entry) prepared.now lexemes.now) (input_of from.entry) (F.told files.old) (I.left input.old))
+    ensures done { OnOk result (Does
+        (MayRead (IsInputOutcome (telling_of what.entry) prepared.now lexemes.now)
+        (input_of from.entry) (F.told files.old) (I.left input.old))
         (O.contents out.old) (O.contents out.new)) }
-    ensures stops { IfErr result (StopsAt (MayRead (IsInputOutcome (telling_of what.entry) prepared.now lexemes.now) (input_of from.entry) (F.told files.old) (I.left input.old))
+    ensures stops { IfErr result (StopsAt
+        (MayRead (IsInputOutcome (telling_of what.entry) prepared.now lexemes.now)
+        (input_of from.entry) (F.told files.old) (I.left input.old))
         (λ asked. Rose (F.fault_count files.old) (F.fault_count files.new) × (input_of from.entry ≡ FileNamed asked))
         (Rose (F.fault_count files.old) (F.fault_count files.new) ⊎ Rose (I.fault_count input.old) (I.fault_count input.new))
         (stream O.contents O.fault_count out.old) (stream O.contents O.fault_count out.new)) }

@@ -119,7 +119,8 @@ fn do_task<'a, F: Files, I: Source, O: Sink, L: Ledger>(
         (disk F.told F.fault_count files.old) (disk F.told F.fault_count files.new)
         (stream I.left I.fault_count input.old) (stream I.left I.fault_count input.new)
         (stream O.contents O.fault_count out.old) (stream O.contents O.fault_count out.new)) }
-    ensures counted { OnOk result ((words : List (List ℕ)) → Asks words (job_of job.entry) → RunsWithin words (F.told files.old) (I.left input.old) steps.old steps.new) }
+    ensures counted { OnOk result ((words : List (List ℕ)) → Asks words (job_of job.entry) →
+        RunsWithin words (F.told files.old) (I.left input.old) steps.old steps.new) }
     ensures asks { (words : List (List ℕ)) → Asks words (job_of job.entry) → AsksNames words (F.told files.old) (F.asked files.old) (F.asked files.new) }
     ensures input { (input.new ≡ input.old) ⊎ ((words : List (List ℕ)) → Asks words (job_of job.entry) → ReadsInput words (F.told files.old)) }
     ensures held { SameFiles (F.told files.old) (F.told files.new) }
@@ -201,7 +202,9 @@ fn tell_by<'a, F: Files, I: Source, O: Sink, L: Ledger>(
     requires tellers { AreBothTellers (states hands.tellers.items shows held) }
     ensures done { OnOk result ((job : asked_words.Job) → IsTellJob job grammar.now (input_of from.entry) (names_told names.entry) (telling_of what.entry) →
         DoesJob job (F.told files.old) (I.left input.old) (O.contents out.old) (O.contents out.new)) }
-    ensures stops { IfErr result (λ stop. (job : asked_words.Job) → IsTellJob job grammar.now (input_of from.entry) (names_told names.entry) (telling_of what.entry) → JobStops job
+    ensures stops { IfErr result (λ stop. (job : asked_words.Job) →
+        IsTellJob job grammar.now (input_of from.entry) (names_told names.entry)
+        (telling_of what.entry) → JobStops job
         (disk F.told F.fault_count files.old) (disk F.told F.fault_count files.new)
         (stream I.left I.fault_count input.old) (stream I.left I.fault_count input.new)
         (stream O.contents O.fault_count out.old) (stream O.contents O.fault_count out.new) stop) }
@@ -209,7 +212,9 @@ fn tell_by<'a, F: Files, I: Source, O: Sink, L: Ledger>(
         (words : List (List ℕ)) → Asks words job → RunsWithin words (F.told files.old) (I.left input.old) steps.old steps.new) }
     ensures asks { (job : asked_words.Job) → IsTellJob job grammar.now (input_of from.entry) (names_told names.entry) (telling_of what.entry) →
         (words : List (List ℕ)) → Asks words job → AsksNames words (F.told files.old) (F.asked files.old) (F.asked files.new) }
-    ensures input { (input.new ≡ input.old) ⊎ ((job : asked_words.Job) → IsTellJob job grammar.now (input_of from.entry) (names_told names.entry) (telling_of what.entry) →
+    ensures input { (input.new ≡ input.old) ⊎ ((job : asked_words.Job) →
+        IsTellJob job grammar.now (input_of from.entry) (names_told names.entry)
+        (telling_of what.entry) →
         (words : List (List ℕ)) → Asks words job → ReadsInput words (F.told files.old)) }
     ensures held { SameFiles (F.told files.old) (F.told files.new) }
 {

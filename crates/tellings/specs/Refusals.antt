@@ -6,8 +6,6 @@ use Rattle.value_lines.specs.declared.writing.WriteRefusal as lines
 use Rattle.value_lines.specs.declared.writing.WriteRefusal.TheVariants as unwritten
 use Rattle.value_lines.specs.declared.page.PageRefusal as page
 use Rattle.value_lines.specs.declared.page.PageRefusal.TheVariants as unpaged
-use Rattle.marpa_script.specs.declared.refusal.ScriptRefusal as script
-use Rattle.marpa_script.specs.declared.refusal.ScriptRefusal.TheVariants as unanswered
 use Rattle.tellings.specs.Stops.{StopsBy, OfInput}
 use Rattle.tellings.specs.declared.stop.Refusal.TheVariants.{Grammar as BadGrammar, Input as BadInput}
 use Rattle.tellings.specs.declared.stop.Stop.{Stop}
@@ -31,8 +29,3 @@ IsPageStop unpaged.NoSuchPlace stop =
     (λ name. ⊥) ⊥ ⊥ ⊤ stop
 IsPageStop unpaged.WriteFault stop = stop ≡ WriteFault
 IsPageStop unpaged.NoMemory stop = stop ≡ NoMemory
-
--- answers that were not all written
-abbrev pub script_stop : script.ScriptRefusal → Stop
-script_stop unanswered.WriteFault = WriteFault
-script_stop unanswered.NoMemory = NoMemory

@@ -1,5 +1,4 @@
 // Why the work stopped.
-use marpa_script::ScriptRefusal;
 use std::alloc::AllocError;
 use value_lines::WriteRefusal;
 
@@ -65,20 +64,6 @@ impl<'a> From<WriteRefusal> for Stop<'a> {
         match refusal {
             WriteRefusal::WriteFault => Stop::WriteFault,
             WriteRefusal::NoMemory => Stop::NoMemory,
-        }
-    }
-}
-
-impl<'a> From<ScriptRefusal> for Stop<'a> {
-    ghost use Rattle.std.specs.Prelude.{◌≡◌};
-    ghost use Rattle.tellings.specs.Refusals.{script_stop};
-
-    ghost from_gives = { λ refusal stop. stop ≡ script_stop refusal };
-
-    fn from(refusal: ScriptRefusal) -> Stop<'a> {
-        match refusal {
-            ScriptRefusal::WriteFault => Stop::WriteFault,
-            ScriptRefusal::NoMemory => Stop::NoMemory,
         }
     }
 }

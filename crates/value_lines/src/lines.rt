@@ -32,8 +32,12 @@ fn finish(teller: &mut Box<dyn Teller>, line: &mut Vec<u8>) -> Result<(), NoMemo
 // Appends the line of the one value that the one teller holds, which then holds nothing.
 fn finish_first(tellers: &mut Vec<Box<dyn Teller>>, line: &mut Vec<u8>) -> Result<(), NoMemory>
     requires { (show : Show) × (v : Value) × (states tellers.old.items shows held ≡ (show, v ∷ []) ∷ []) }
-    ensures line { (show : Show) (v : Value) → states tellers.old.items shows held ≡ (show, v ∷ []) ∷ [] → OnOk result (line.new.items ≡ line.old.items ++ (text_of v ++ 10 ∷ [])) }
-    ensures tellers { (show : Show) (v : Value) → states tellers.old.items shows held ≡ (show, v ∷ []) ∷ [] → OnOk result (states tellers.new.items shows held ≡ (show, []) ∷ []) }
+    ensures line { (show : Show) (v : Value) →
+        states tellers.old.items shows held ≡ (show, v ∷ []) ∷ [] →
+        OnOk result (line.new.items ≡ line.old.items ++ (text_of v ++ 10 ∷ [])) }
+    ensures tellers { (show : Show) (v : Value) →
+        states tellers.old.items shows held ≡ (show, v ∷ []) ∷ [] →
+        OnOk result (states tellers.new.items shows held ≡ (show, []) ∷ []) }
 {
     finish(&mut tellers[0], line)
 }
@@ -48,7 +52,9 @@ fn append_line(
     requires list { AreSteps player.old.grammar (length player.old.spans) (map step_of list.now) }
     requires tellers { (show : Show) × (states tellers.old.items shows held ≡ (show, []) ∷ []) }
     ensures tellers { OnOk result (states tellers.new.items shows held ≡ states tellers.old.items shows held) }
-    ensures line { (show : Show) (t : Tree) → states tellers.old.items shows held ≡ (show, []) ∷ [] → map step_of list.now ≡ steps_of t → OnOk result (line.new.items ≡
+    ensures line { (show : Show) (t : Tree) →
+        states tellers.old.items shows held ≡ (show, []) ∷ [] →
+        map step_of list.now ≡ steps_of t → OnOk result (line.new.items ≡
         line.old.items ++ (text_of (value_of show player.old.grammar player.old.meaning (tokens_of player.old.chars player.old.spans) t) ++ 10 ∷ [])) }
     ensures player { player.new ≡ player.old }
 {
@@ -71,7 +77,9 @@ pub fn next_line<L: Ledger>(
     requires given { (given : List Tree) × AreGiven iter.old given }
     requires tellers { (show : Show) × (states tellers.old.items shows held ≡ (show, []) ∷ []) }
     ensures line { IfOk result (λ more. (show : Show) (pieces : List Piece) (given : List Tree) → states tellers.old.items shows held ≡ (show, []) ∷ [] →
-        IsForestOf prepared.now player.old.chars player.old.spans iter.old.forest pieces → AreGiven iter.old given → IsLineOf prepared.now show player.old.chars pieces iter.new given line.new.items more) }
+        IsForestOf prepared.now player.old.chars player.old.spans iter.old.forest pieces →
+        AreGiven iter.old given →
+        IsLineOf prepared.now show player.old.chars pieces iter.new given line.new.items more) }
     ensures answer { IfOk result (λ more. (given : List Tree) → AreGiven iter.old given → IsAnswer iter.new given more) }
     ensures counted { IfOk result (λ more. (given : List Tree) → AreGiven iter.old given → AreFew iter.new given more steps.old steps.new) }
     ensures forest { iter.new.forest ≡ iter.old.forest }

@@ -54,7 +54,9 @@ pub fn write_derivations<O: Sink, L: Ledger>(
 ) -> Result<(), WriteRefusal>
     requires forest { (pieces : List Piece) × IsForestOf prepared.now chars.now spans.now forest.now pieces }
     requires tellers { AreBothTellers (states tellers.items shows held) }
-    ensures written { OnOk result (TextHas prepared.now show chars.now spans.now forest.now first (λ text. Appends (O.contents out.old) (O.contents out.new) text)) }
+    ensures written { OnOk result
+        (TextHas prepared.now show chars.now spans.now forest.now first
+        (λ text. Appends (O.contents out.old) (O.contents out.new) text)) }
     ensures stops { IfErr result (λ refusal. TextHas prepared.now show chars.now spans.now forest.now first
         (λ text. TextStops (stream O.contents O.fault_count out.old) (stream O.contents O.fault_count out.new) refusal text)) }
     ensures counted { OnOk result ((trees : List Tree) → IsListing forest.now trees → steps.new ≤ steps.old + sum_by choices (first_of first trees)) }
