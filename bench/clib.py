@@ -1,16 +1,18 @@
 #!/usr/bin/env python3
 """Builds the library for C, links it and tests it, and the Python module over it.
 
-    bench/clib.py [--library FILE | --built] [--rounds N]
+    bench/clib.py [--library FILE | --gate] [--rounds N]
 
-FILE is the static library that `rt lib` writes in crates/slif_c. With --built that which was written there is taken, and nothing is tested where none
-was; without either it is made first, over what was proved before. A C compiler is wanted; valgrind is used where it is there. Tested are: what the object needs and exports; each call, by clib/test.c, which writes clib/test.out;
-want of memory at each allocation, by clib/no_memory.c; both under valgrind; the INI reader of docs/C.md; the examples in the texts of the Python modules.
+FILE is the static library that `rt lib` writes in crates/slif_c; without it that is made first, over what was proved before. `rt ci` proves it and makes
+none. With --gate it is made over the libraries that `rt ci` left here in a clean clone: the crate is proved once more, and none below it; where other
+libraries stand here, or none, nothing is tested. A C compiler is wanted; valgrind is used where it is there. Tested are: what the object needs and
+exports; each call, by clib/test.c, which writes clib/test.out; want of memory at each allocation, by clib/no_memory.c; both under valgrind; the program
+that stands in docs/C.md, and the INI reader; the examples in the texts of the Python modules.
 
 With --rounds it measures, in processor time and in turn with the program `slif` where that is built: JSON of 1 MB, a short input read again and
 again by one grammar, and JSON of 1 MB folded to objects by Python, beside lark where that is installed.
 """
-import argparse, json, os, pathlib, re, shutil, subprocess, sys, tempfile, time
+import argparse, os, pathlib, re, shutil, subprocess, sys, tempfile, textwrap, time
 
 sys.dont_write_bytecode = True
 HERE = pathlib.Path(__file__).resolve().parent
@@ -23,6 +25,7 @@ LIBC = {"memcpy", "memmove", "memset"}
 INI = "; two servers\n[web]\nhost = example.org  ; the first\nport =\n\n[mail.old]\nmotto = small and fast"
 INI_OUT = "web.host=example.org\nweb.port=\nmail.old.motto=small and fast\n"
 INI_BAD = "ini:2:6: input stopped at line 2 column 6; found: none; expected: '='\nini: '=' could stand there\n"
+SUM_BAD = "sum: input stopped at line 1 column 3; found: none; expected: number\n"
 failures = []
 
 
@@ -34,13 +37,47 @@ def tell(what, is_right, why=""):
 
 def run(words, **more):
     more = {"stdin": subprocess.DEVNULL, **more} if "input" not in more else more
-    return subprocess.run([str(word) for word in words], stdout=subprocess.PIPE, stderr=subprocess.PIPE, timeout=600, **more)
+    return subprocess.run([str(word) for word in words], stdout=subprocess.PIPE, stderr=subprocess.PIPE, **{"timeout": 600, **more})
 
 
 def made_library():
     """The static library, made by the toolchain over what it has kept."""
-    done = run(["rt", "lib"], cwd=ROOT / "crates/slif_c")
+    done = run(["rt", "lib"], timeout=7200, cwd=ROOT / "crates/slif_c")
     tell("rt lib makes the static library", done.returncode == 0, done.stdout.decode()[-1000:] + done.stderr.decode()[-1000:])
+    return BUILT
+
+
+def uses():
+    """What each crate uses, by crates.txt."""
+    rows = re.findall(r"^(\w+)[^:\n#]*:(.*)", (ROOT / "crates.txt").read_text(), re.M)
+    return {name: words.split() for name, words in rows}
+
+
+def left_by_gate():
+    """The folders of the libraries below, by their crates, where each is as `rt ci` leaves it: without a stamp; else none."""
+    used, below, left = uses(), {}, ["slif_c"]
+    while left:
+        for name in used[left.pop()]:
+            if name in used and name not in below:
+                below[name] = ROOT / f"crates/{name}/out/rlib"
+                left.append(name)
+    stand = all((at / f"{name}.rlib/format").exists() and not (at / "stamp").exists() for name, at in below.items())
+    return below if stand else {}
+
+
+def made_over(below):
+    """The static library, made over these: the crate alone is proved."""
+    kit = pathlib.Path(os.path.realpath(shutil.which("rt"))).parent.parent
+    words = ["--crate-name", "slif_c", "src/lib.rt", "--crate-type", "staticlib", "--links", "slif_c=", "--extern", f"std={kit}/rlibs/std.rlib"]
+    words += ["-L", f"dependency={kit}/rlibs", "--antt-project", f"{kit}/rattle/logic/antt-project.json", "--logic-built", f"{kit}/logic_built"]
+    for name, at in below.items():
+        words += ["-L", f"dependency={at}"]
+    for name in uses()["slif_c"]:
+        words += ["--extern", f"{name}={below.get(name, kit / 'rlibs')}/{name}.rlib"]
+    words += ["--jobs", "2", "--toolchain", f"{kit}/toolchain", "--backend", "llvm", "-o", BUILT]
+    BUILT.parent.mkdir(exist_ok=True)
+    done = run([kit / "bin/rattle", "build", *words], timeout=7200, cwd=ROOT / "crates/slif_c")
+    tell("the static library is made over what the gate left", done.returncode == 0, done.stdout.decode()[-1000:] + done.stderr.decode()[-1000:])
     return BUILT
 
 
@@ -60,10 +97,10 @@ def look_at_names(library, shared):
     tell("the shared library exports what the header declares", exported == declared(), f"{sorted(exported)} and {sorted(declared())}")
 
 
-def compiled(at, source, *libraries):
+def compiled(at, source, *libraries, of=None):
     made = at / source.stem
     done = run([CC, "-std=gnu11", "-O2", "-Wall", "-Wextra", "-I", EXTRAS / "c", source, *libraries, "-lpthread", "-o", made])
-    tell(f"{source.relative_to(ROOT)} compiles without a warning", done.returncode == 0 and not done.stderr, done.stderr.decode())
+    tell(f"{of or source.relative_to(ROOT)} compiles without a warning", done.returncode == 0 and not done.stderr, done.stderr.decode())
     return made
 
 
@@ -84,6 +121,15 @@ def test_c(at, library):
         passes("valgrind finds nothing in the second", [*words, no_memory])
     else:
         print("     (valgrind is not there)")
+
+
+def test_guide(at):
+    """The program that stands in docs/C.md, from its first line to the next of the text."""
+    (at / "sum.c").write_text(textwrap.dedent(re.search(r"^    /\* sum.*?(?=^\S)", (ROOT / "docs/C.md").read_text(), re.M | re.S)[0]))
+    sum = compiled(at, at / "sum.c", at / "libslif.a", of="the program of docs/C.md")
+    passes("the program of docs/C.md adds", [sum, "1+20+3"], "24\n")
+    done = run([sum, "1+x"])
+    tell("and refuses", (done.returncode, done.stderr.decode()) == (1, SUM_BAD), done.stderr.decode())
 
 
 def test_ini(at):
@@ -189,16 +235,17 @@ def measure(at, rounds):
 def main():
     words = argparse.ArgumentParser()
     words.add_argument("--library", type=pathlib.Path)
-    words.add_argument("--built", action="store_true")
+    words.add_argument("--gate", action="store_true")
     words.add_argument("--rounds", type=int, default=0)
     asked = words.parse_args()
     if not shutil.which(CC):
         print("there is no C compiler: nothing is tested")
         return 0
-    if asked.built and not BUILT.exists():
-        print("the library for C was not built here: it is not tested")
+    below = left_by_gate() if asked.gate else {}
+    if asked.gate and not below:
+        print("the libraries that `rt ci` leaves are not here: the library for C is not tested")
         return 0
-    library = asked.library.resolve() if asked.library else BUILT if asked.built else made_library()
+    library = asked.library.resolve() if asked.library else made_over(below) if asked.gate else made_library()
     if failures:
         return 1
     with tempfile.TemporaryDirectory() as room:
@@ -208,6 +255,7 @@ def main():
         if not failures:
             look_at_names(library, at / "libslif.so.0")
             test_c(at, library)
+            test_guide(at)
             test_ini(at)
             test_python(at)
             test_install(at)

@@ -48,14 +48,18 @@ typedef struct {
     size_t byte, bytes;
 } slif_step;
 
-/* Lengths are told in full where room is short, as by snprintf, and nothing is written past the room. A pointer with a count
-   is not null and is aligned, also where the count is 0; the functions of the second half allow null. What pointers of one
-   call lead to does not overlap, and does not change while the call runs. */
+/* Lengths are told in full where room is short, as by snprintf, and nothing is written past the room; but no zero is written
+   behind a message or a name. A pointer with a count is not null and is aligned, also where the count is 0; the functions of the
+   second half allow null. What pointers of one call lead to does not overlap, and does not change while the call runs. No two
+   calls over one handle run at once, not even two that only ask. */
 
 /* Makes a grammar of its text, in UTF-8. What the handle had before is let go, unless the text is refused. */
 uint32_t slif_grammar_new(const uint8_t *text, size_t length, slif_grammar *grammar, slif_fault *fault,
                           uint8_t *message, size_t message_room);
 void slif_grammar_free(slif_grammar *grammar);
+
+/* How many symbols and rules there are; a symbol's name, in UTF-8; the symbol on a rule's left side. Rules are those with `::=`,
+   an alternative each, from 0 in the order of the text; symbols are numbered as they first stand in statements with `::=`. */
 uint32_t slif_grammar_counts(slif_grammar *grammar, size_t *symbols, size_t *rules);
 uint32_t slif_symbol_name(slif_grammar *grammar, uint32_t symbol, uint8_t *name, size_t room, size_t *length);
 uint32_t slif_rule_left(slif_grammar *grammar, uint32_t rule, uint32_t *left);

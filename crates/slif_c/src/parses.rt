@@ -115,7 +115,8 @@ pub extern "C" fn slif_parse_new(
     expected: &mut [u32],
 ) -> u32
     ensures same { grammar.new.held ≡ grammar.old.held }
-    ensures empty { grammar.old.held ≡ None → result ≡ 6 }
+    ensures empty { grammar.old.held ≡ None → (result ≡ 6) × (fault.new ≡ fault.old) ×
+        (message.new ≡ message.old) × (expected.new ≡ expected.old) }
     ensures parsed { IfSome grammar.old.held (λ b. result ≡ 0 →
         Holds parse.new.held (IsParsed b input.now (ranking_of ranking) skip most)) }
     ensures untold { IfSome grammar.old.held (λ b. result ≡ 0 → (fault.new ≡ fault.old) ×
