@@ -30,8 +30,8 @@ returns-in-Ok-clause-done g c =
     let same = ap encode_utf8_all c.in_ok-chars.ensures.ok ∙ encodes-chars bytes utf8 in
     all_answered bytes c.requires utf8 _ same _ _ c.in-Ok.ensures.played
 
-pub returns-in-Err-clause-stops : goal.returns-in-Err-clause-stops
-returns-in-Err-clause-stops g c =
+pub returns-clause-stops : goal.returns-clause-stops
+returns-clause-stops g c =
     let bytes = c.args.bytes.items in
     let utf8 = c.in_ok-chars.ensures.utf8 in
     let same = ap encode_utf8_all c.in_ok-chars.ensures.ok ∙ encodes-chars bytes utf8 in
