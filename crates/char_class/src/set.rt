@@ -53,7 +53,9 @@ impl Model for CharSet {
 
     ghost view = { λ s. record { negated = s.negated; caseless = s.caseless; items = s.items.items } };
 
-    ghost invariant = { λ s. HasBits (record { negated = s.negated; caseless = s.caseless; items = s.items.items }) s.ascii × HasCodes s.caseless s.items.items s.folded.items × Rises s.folded.items };
+    ghost invariant = { λ s.
+        HasBits (record { negated = s.negated; caseless = s.caseless; items = s.items.items }) s.ascii ×
+        HasCodes s.caseless s.items.items s.folded.items × Rises s.folded.items };
 }
 
 fn some_item_has_code(items: &[ClassItem], code: u32) -> bool

@@ -32,7 +32,10 @@ fn lacks(matches: &ArgMatches<'_>, option: &str) -> bool
 
 // Whether each of these options with values is among the options of a job, or not given.
 fn allows(matches: &ArgMatches<'_>, options: &[&str], all: &[&str]) -> bool
-    ensures { result ≡ list_all (λ option. is_one_of (names_of options.now) option.now || not (is_some (first_value (found_of matches.now) option.now))) all.now }
+    ensures { result ≡ list_all
+        (λ option. is_one_of (names_of options.now) option.now
+        || not (is_some (first_value (found_of matches.now) option.now)))
+        all.now }
 {
     all.iter().all(|option| is_among(options, *option) || lacks(matches, *option))
 }

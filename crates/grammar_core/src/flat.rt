@@ -57,9 +57,22 @@ impl Model for Flat {
 
     ghost Value = { FlatGrammar };
 
-    ghost view = { λ f. record { symbols = f.symbols.items; nullable = f.nullable.items; rules = f.rules.items; tops = f.tops.items } };
+    ghost view = { λ f.
+        record { symbols = f.symbols.items; nullable = f.nullable.items; rules = f.rules.items; tops = f.tops.items } };
 
-    ghost invariant = { λ f. IsFlat (record { symbols = f.symbols.items; nullable = f.nullable.items; rules = f.rules.items; tops = f.tops.items }) × IsArranged (record { symbols = f.symbols.items; nullable = f.nullable.items; rules = f.rules.items; tops = f.tops.items }) };
+    ghost invariant = { λ f.
+        IsFlat (record {
+          symbols = f.symbols.items;
+          nullable = f.nullable.items;
+          rules = f.rules.items;
+          tops = f.tops.items;
+        }) ×
+        IsArranged (record {
+          symbols = f.symbols.items;
+          nullable = f.nullable.items;
+          rules = f.rules.items;
+          tops = f.tops.items;
+        }) };
 }
 
 impl Flat {

@@ -27,7 +27,16 @@ impl Model for Rule {
 
     ghost Value = { PlainRule };
 
-    ghost view = { λ r. record { lhs = r.lhs; rhs = r.rhs.items; level = r.level; groups = r.groups; assoc = r.assoc; rank = r.rank; null_high = r.null_high } };
+    ghost view = { λ r.
+        record {
+          lhs = r.lhs;
+          rhs = r.rhs.items;
+          level = r.level;
+          groups = r.groups;
+          assoc = r.assoc;
+          rank = r.rank;
+          null_high = r.null_high;
+        } };
 }
 
 /// A rule for items of one symbol, one or more or none or more, with or without separators between them.
@@ -49,7 +58,16 @@ impl Model for SeqRule {
 
     ghost Value = { SequenceRule };
 
-    ghost view = { λ r. record { lhs = r.lhs; item = r.item; plus = r.plus; separator = r.separator; proper = r.proper; rank = r.rank; null_high = r.null_high } };
+    ghost view = { λ r.
+        record {
+          lhs = r.lhs;
+          item = r.item;
+          plus = r.plus;
+          separator = r.separator;
+          proper = r.proper;
+          rank = r.rank;
+          null_high = r.null_high;
+        } };
 }
 
 /// A rule of a written grammar.
