@@ -9,7 +9,7 @@ use Rattle.cursor_model.specs.Cursor.{cursor_of}
 use Rattle.language_model.specs.Building.{Built}
 use Rattle.grammar_core.specs.declared.steps.Span.{Span}
 use Rattle.glade_model.specs.Glades.{Glade, AreGlades}
-use Rattle.reading_model.specs.Reading.{Piece, End, IsReadingWith, earleme_after, edges_of, spans_from}
+use Rattle.reading_model.specs.Reading.{Piece, End, IsReadingWith, AreExpected, earleme_after, edges_of, spans_from}
 use Rattle.run_model.specs.Inputs.{IsRead}
 use Rattle.run_model.specs.Listing.{AreDerivations}
 use Rattle.scanless.specs.Reading.{span_of}
@@ -78,6 +78,12 @@ pub record AreGladesOf (r : Read) (glades : List Glade) : Type 0 where
   pub pieces : List Piece
   pub reading : IsReadingWith r.grammar r.lexemes r.characters pieces End
   pub are : AreGlades r.grammar.g1 (edges_of pieces) (slice_index_or r.grammar.g1.starts 0 0) (earleme_after pieces) glades
+
+-- the lexemes that could come next, by the bytes of their names
+pub record AreExpectedNext (r : Read) (symbols : List ℕ) : Type 0 where
+  pub pieces : List Piece
+  pub reading : IsReadingWith r.grammar r.lexemes r.characters pieces End
+  pub are : AreExpected r.grammar pieces symbols
 
 -- WHERE TOKENS LIE
 

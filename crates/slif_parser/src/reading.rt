@@ -3,7 +3,7 @@ ghost use Rattle.std.specs.Prelude.{◌≡◌, ◌<◌, [], IfOk, IfErr, OnOk, I
 ghost use Rattle.text_reading.specs.Refusals.{IsInputRefusedAt, IsNoDerivation, TellsInput as TellsRefusal, place_in};
 ghost use Rattle.text_reading.specs.Parts.{IsBrokenText};
 ghost use Rattle.slif_parser.specs.Errors.{TellsInput};
-ghost use Rattle.slif_parser.specs.Readings.{IsReadAs, IsForestAs};
+ghost use Rattle.slif_parser.specs.Readings.{IsReadAs, IsForestAs, AreExpectedNext};
 ghost use Rattle.slif_parser.specs.Views.{IsHeld};
 
 use crate::error::error_of;
@@ -11,7 +11,7 @@ use crate::forest::forest_with;
 use crate::{Forest, NoMemory, ParseError, Ranking, SymbolId};
 use bumpalo::Bump;
 use grammar_model::LONGEST_INPUT;
-use scanless::Prepared;
+use scanless::{Prepared, expected_lexemes};
 use slif_base::{Chars, Steps};
 use std::alloc::Global;
 use std::marker::{Brand, Model};
@@ -142,6 +142,14 @@ impl<'g> Reading<'g> {
             Ok(forest) => Ok(forest),
             Err(refusal) => Err(error_of(alloc, refusal)),
         }
+    }
+
+    /// The lexemes that could come after the input, each once, by the bytes of their names. That of an input which
+    /// is refused stands in its error.
+    pub fn expected(&self, alloc: Global) -> Result<Vec<SymbolId>, NoMemory>
+        ensures { IfOk result (λ symbols. AreExpectedNext self.now symbols.items) }
+    {
+        expected_lexemes(alloc, self.prepared, &self.tokens.recce)
     }
 
     /// The line and the column of a character, or of the end where it lies behind that.
