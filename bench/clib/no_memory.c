@@ -39,41 +39,44 @@ static int stop(const char *what, uint32_t answer, long n, long held) {
     return 1;
 }
 
-/* Whether the call answers `wanted` in the end, and else that there is no memory, with all as it was. */
-static int try_grammar(slif_grammar *grammar, const char *text, uint32_t wanted) {
-    long held = live;
-    bool full = grammar->slif_full;
-    for (long n = 0;; n++) {
-        char message[100];
-        slif_fault fault = { 7, 7, 7, 7 };
-        left = n;
-        uint32_t answer = slif_grammar_make(grammar, text, strlen(text), &fault, message, sizeof message);
-        left = -1;
-        if (answer == wanted) return printf("grammar: %u after %ld failures\n", answer, n), 0;
-        if (n == MOST || answer != SLIF_NO_MEMORY || live != held || grammar->slif_full != full || fault.line != 7) return stop("grammar", answer, n, held);
+/* What is called, and over what. */
+enum call { GRAMMAR, PARSE, EXPECTED };
+static const char *const NAMES[] = { "grammar", "input", "expected" };
+
+static slif_grammar grammar = SLIF_NEW;
+static slif_parse parsed = SLIF_NEW;
+
+static uint32_t answer_of(enum call call, const char *text, slif_fault *fault) {
+    char message[100];
+    uint32_t symbols[8];
+    size_t count;
+    switch (call) {
+    case GRAMMAR: return slif_grammar_make(&grammar, text, strlen(text), fault, message, sizeof message);
+    case PARSE: return slif_parse_make(&parsed, &grammar, text, strlen(text), 0, 0, 10, fault, message, sizeof message, 0, 0);
+    default: return slif_expect(&grammar, text, strlen(text), symbols, 8, &count, fault, message, sizeof message);
     }
 }
 
-static int try_parse(slif_grammar *grammar, slif_parse *parse, const char *input, uint32_t wanted) {
+/* Whether the call answers `wanted` in the end, and else that there is no memory, with all as it was. */
+static int try_call(enum call call, const char *text, uint32_t wanted) {
     long held = live;
-    bool full = parse->slif_full;
+    bool has_grammar = grammar.slif_full, has_parse = parsed.slif_full;
     for (long n = 0;; n++) {
-        char message[100];
         slif_fault fault = { 7, 7, 7, 7 };
         left = n;
-        uint32_t answer = slif_parse_make(parse, grammar, input, strlen(input), 0, 0, 10, &fault, message, sizeof message, 0, 0);
+        uint32_t answer = answer_of(call, text, &fault);
         left = -1;
-        if (answer == wanted) return printf("input: %u after %ld failures\n", answer, n), 0;
-        if (n == MOST || answer != SLIF_NO_MEMORY || live != held || parse->slif_full != full || fault.line != 7) return stop("input", answer, n, held);
+        if (answer == wanted) return printf("%s: %u after %ld failures\n", NAMES[call], answer, n), 0;
+        bool same = live == held && grammar.slif_full == has_grammar && parsed.slif_full == has_parse && fault.line == 7;
+        if (n == MOST || answer != SLIF_NO_MEMORY || !same) return stop(NAMES[call], answer, n, held);
     }
 }
 
 int main(void) {
-    slif_grammar grammar = SLIF_NEW;
-    slif_parse parse = SLIF_NEW;
-    if (try_grammar(&grammar, SUM, SLIF_OK) || try_grammar(&grammar, WRONG, SLIF_GRAMMAR)) return 1;
-    if (try_parse(&grammar, &parse, "1+1+1", SLIF_OK) || try_parse(&grammar, &parse, "1+2", SLIF_INPUT)) return 1;
-    slif_parse_free(&parse);
+    if (try_call(GRAMMAR, SUM, SLIF_OK) || try_call(GRAMMAR, WRONG, SLIF_GRAMMAR)) return 1;
+    if (try_call(PARSE, "1+1+1", SLIF_OK) || try_call(PARSE, "1+2", SLIF_INPUT)) return 1;
+    if (try_call(EXPECTED, "1+", SLIF_OK) || try_call(EXPECTED, "1+2", SLIF_INPUT)) return 1;
+    slif_parse_free(&parsed);
     slif_grammar_free(&grammar);
     printf("%ld blocks left\n", live);
     return live != 0;

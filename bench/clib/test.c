@@ -141,6 +141,29 @@ static void short_room(void) {
     slif_grammar_free(&grammar);
 }
 
+/* What could come after an input, whole or not, and where reading stops. */
+static void expecting(void) {
+    slif_grammar grammar = grammar_of("E ::= E '+' E | '(' E ')' | '1'\n");
+    slif_fault fault = { 7, 7, 7, 7 };
+    char message[ROOM];
+    uint32_t symbols[4] = { 77, 77, 77, 77 };
+    uint8_t name[8];
+    size_t count = 9, length;
+    CHECK(slif_expect(&grammar, "(1", 2, symbols, 4, &count, &fault, message, ROOM) == SLIF_OK && count == 2 && fault.line == 7);
+    for (size_t k = 0; k < count; k++) {
+        CHECK(slif_symbol_name(&grammar, symbols[k], name, sizeof name, &length) == SLIF_OK);
+        printf("%s%.*s", k ? " " : "after `(1`: ", (int)length, name);
+    }
+    printf("\n");
+    CHECK(symbols[2] == 77);
+    CHECK(slif_expect(&grammar, "", 0, symbols, 1, &count, 0, 0, 0) == SLIF_OK && count == 2 && symbols[2] == 77);
+    CHECK(slif_expect(&grammar, 0, 5, 0, 5, &count, 0, 0, 5) == SLIF_OK && count == 2);
+    tell_refusal(slif_expect(&grammar, "1+x", 3, symbols, 4, &count, &fault, message, ROOM), &fault, message, symbols);
+    CHECK(count == 2);
+    slif_grammar_free(&grammar);
+    CHECK(slif_expect(&grammar, "1", 1, symbols, 4, &count, &fault, message, ROOM) == SLIF_EMPTY && fault.column == 3);
+}
+
 /* Bytes of no sense, by a fixed generator. */
 static void noise(void) {
     static const char ALPHABET[] = "E ::=|'+1~[]()\\\n#\xc3\xa9\xff";
@@ -203,6 +226,7 @@ int main(void) {
     refuse_input("1\x80", 2);
     refuse_input(0, 5);
     short_room();
+    expecting();
     noise();
     threads();
     puts("all well");

@@ -78,8 +78,14 @@ uint32_t slif_parse_counts(slif_parse *parse, uint64_t *derivations, bool *more)
 uint32_t slif_parse_steps(slif_parse *parse, uint64_t derivation, size_t from, slif_step *steps, size_t room,
                           size_t *count);
 
-/* The same for callers that have null pointers: a null `text`, `input`, `message` or `expected` has count 0 whatever its
-   count says, and a null `fault` is told nothing. */
+/* Reads an input, in UTF-8, and tells which lexemes could come after it, by the bytes of their names; *count is how many they are,
+   and as many are copied as there is room for. Where the answer is SLIF_INPUT *count is left as it was, and `symbols` has the
+   first of the lexemes that could come at the fault, which says how many they are. */
+uint32_t slif_expected(slif_grammar *grammar, const uint8_t *input, size_t length, uint32_t *symbols, size_t room,
+                       size_t *count, slif_fault *fault, uint8_t *message, size_t message_room);
+
+/* The same for callers that have null pointers: a null `text`, `input`, `symbols`, `message` or `expected` has count 0 whatever
+   its count says, and a null `fault` is told nothing. */
 static inline const uint8_t *slif_bytes(const void *bytes) {
     static const uint8_t none = 0;
     return bytes ? (const uint8_t *)bytes : &none;
@@ -102,6 +108,16 @@ static inline uint32_t slif_parse_make(slif_parse *parse, slif_grammar *grammar,
     return slif_parse_new(grammar, slif_bytes(input), input ? length : 0, rank, skip, most, parse,
                           fault ? fault : &untold, message ? (uint8_t *)message : &none, message ? room : 0,
                           expected ? expected : &no_symbol, expected ? expected_room : 0);
+}
+
+static inline uint32_t slif_expect(slif_grammar *grammar, const void *input, size_t length, uint32_t *symbols,
+                                   size_t room, size_t *count, slif_fault *fault, char *message, size_t message_room) {
+    uint8_t none;
+    uint32_t no_symbol;
+    slif_fault untold;
+    return slif_expected(grammar, slif_bytes(input), input ? length : 0, symbols ? symbols : &no_symbol,
+                         symbols ? room : 0, count, fault ? fault : &untold, message ? (uint8_t *)message : &none,
+                         message ? message_room : 0);
 }
 
 #ifdef __cplusplus

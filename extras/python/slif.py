@@ -81,6 +81,7 @@ _CALLS = {
     "slif_parse_free": [_pointer],
     "slif_parse_counts": [_pointer, _pointer, _pointer],
     "slif_parse_steps": [_pointer, _u64, _size, _pointer, _size, _pointer],
+    "slif_expected": [_pointer, _pointer, _size, _pointer, _size, _pointer, _pointer, _pointer, _size],
 }
 
 
@@ -283,6 +284,18 @@ class Grammar:
         answer = _lib.slif_parse_new(_by(self._handle), data, len(data), _RANKS[rank], skip, most, _by(handle), _by(fault), message, _MESSAGE, expected, _EXPECTED)
         self._stop(answer, fault, message, expected)
         return Parse(self, data, handle)
+
+    def expected(self, text: Text) -> list[str]:
+        """The names of the lexemes that could come after a text, which need have no derivation: what a line editor could offer.
+
+        >>> Grammar("E ::= E '+' E | '(' E ')' | '1'").expected("(1")
+        ["')'", "'+'"]
+        """
+        data, room = _encoded(text), len(self.symbols)
+        count, fault, message, symbols = _size(), _Fault(), ctypes.create_string_buffer(_MESSAGE), (_u32 * max(room, 1))()
+        answer = _lib.slif_expected(_by(self._handle), data, len(data), symbols, room, _by(count), _by(fault), message, _MESSAGE)
+        self._stop(answer, fault, message, symbols)
+        return [self.symbols[k] for k in symbols[:count.value]]
 
     def derivations(self, text: Text, *, rank: str = "rule") -> Iterator[Derivation]:
         """All derivations of a text, one after another. They come in batches, each as large as all before it, and the text is read for each."""

@@ -8,7 +8,7 @@ use Rattle.language_model.specs.Building.{Built}
 use Rattle.reading_model.specs.Reading.{Piece, End, IsReadingWith}
 use Rattle.run_model.specs.Listing.{AreDerivations}
 use Rattle.slif_parser.specs.Views.{Read}
-use Rattle.slif_parser.specs.Readings.{IsReadAs}
+use Rattle.slif_parser.specs.Readings.{IsReadAs, AreExpectedNext}
 use Rattle.slif_c.specs.Steps.{laid}
 use Rattle.slif_c.specs.declared.steps.Step.{Step}
 use Rattle.slif_c.specs.declared.parse.Parse.{Parse}
@@ -32,3 +32,7 @@ pub record AreSome (r : Read) (ranking : Ranking) (skip most : ℕ) (p : Parse) 
 -- the input is read, and those of its derivations are kept
 abbrev pub IsParsed : Built → (bytes : List ℕ) → Ranking → (skip most : ℕ) → Parse → Type 0
 IsParsed b bytes ranking skip most p = (r : Read) × IsReadAs b [] bytes r × AreSome r ranking skip most p
+
+-- the input is read, and these are the lexemes that could come after it
+abbrev pub AreExpectedAfter : Built → (bytes symbols : List ℕ) → Type 0
+AreExpectedAfter b bytes symbols = (r : Read) × IsReadAs b [] bytes r × AreExpectedNext r symbols

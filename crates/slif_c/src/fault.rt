@@ -38,8 +38,8 @@ fn fault_at(place: Option<Place>, message: &str, expected: usize) -> Fault
     }
 }
 
-// Copies the numbers of as many of the first symbols as there is room for.
-fn copy_numbers(from: &[SymbolId], to: &mut [u32])
+/// Copies the numbers of as many of the first symbols as there is room for.
+pub fn copy_numbers(from: &[SymbolId], to: &mut [u32])
     ensures { to.new ≡ overlaid from.now to.old }
 {
     let count = from.len().min(to.len());

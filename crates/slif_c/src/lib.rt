@@ -4,6 +4,7 @@
 mod codes;
 mod copying;
 mod derivations;
+mod expecting;
 mod fault;
 mod grammar_handle;
 mod grammars;
