@@ -5,8 +5,9 @@
     bench/statement.py --list     prints each file of definitions that the theorem rests on, and its definitions
     bench/statement.py --count    prints how many there are
 
-The theorem is the contract of `run`. What it cites is followed through the imports of the files of definitions, down to the standard library. A definition
-is load-bearing where another file cites it: the page names each of these. The others serve the file that they stand in, and may be named.
+The theorem is the contract of `run`. What it cites is followed through the imports of the files of definitions, down to the standard library, and so are
+the clauses of the traits whose ghost members it cites. A definition is load-bearing where another file cites it: the page names each of these, with
+those traits, and with the types and constants of the program that the definitions cite. The others serve the file that they stand in, and may be named.
 """
 import argparse, pathlib, re, sys
 
@@ -117,13 +118,60 @@ def cited(names, mods, text, where):
     return found
 
 
-def closure():
-    """Each definition that the theorem rests on, with those that cite it."""
+def contract():
+    """The text of the call's contract, with its file's."""
     text = TOP.read_text()
     at = text.index(CALL)
-    clause = text[at : text.index("\n{\n", at)]
+    return text[at : text.index("\n{\n", at)], text
+
+
+def source_of(crate, words):
+    """The file of a crate's sources in which something is declared by these words, and the text from there on."""
+    for path in sorted((ROOT / "crates" / crate / "src").rglob("*.rt") if crate else ROOT.glob("crates/*/src/**/*.rt")):
+        text = path.read_text()
+        found = re.search(rf"^pub {words}\b", text, re.M)
+        if found:
+            return path, text, text[found.start() :]
+    return None
+
+
+def traits():
+    """The traits whose ghost members the contract cites: each with its file, that file's text, and its clauses."""
+    clause, _ = contract()
+    for owner, name in re.findall(r"\b(\w+): (\w+)", clause.split("(")[0]) + [("", name) for name in re.findall(r"dyn (\w+)", clause)]:
+        found = source_of(None, f"trait {name}")
+        if found:
+            path, text, rest = found
+            body = rest[: rest.index("\n}\n")]
+            if any(re.search(rf"(?<![\w.]){owner + '[.]' if owner else ''}{member}\b", clause) for member in re.findall(r"ghost (\w+):", body)):
+                yield name, path, text, body
+
+
+def declared(citing):
+    """The types and the constants of the program that these definitions cite: each with its file."""
+    found = set()
+    for name, it in citing:
+        here = module(name)
+        for word in re.findall(r"[^\W\d][\w'.-]*", re.sub(r"--.*|\"[^\"]*\"", "", here.blocks[it])):
+            parts = word.split(".")
+            path = ".".join(here.names[parts[0]]) if parts[0] in here.names else here.modules.get(parts[0], "")
+            words = path.split(".")
+            if "declared" not in words:
+                continue
+            kind = words[-1] if "TheConstants" in words else next((it for it in words[words.index("declared") + 1 :] if it[0].isupper()), None)
+            at = kind and source_of(words[1], rf"(?:struct|enum|const) {kind}")
+            if at:
+                found.add((str(at[0].relative_to(ROOT)), kind))
+    return found
+
+
+def closure():
+    """Each definition that the theorem rests on, with those that cite it."""
+    clause, text = contract()
     names, mods = imports_of(text)
     citing, left = {}, [(it, ("", "run")) for it in cited(names, mods, clause, None)]
+    for name, path, text, body in traits():
+        left += [(it, (str(path), name)) for it in cited(*imports_of(text), body, None)]
     while left:
         it, by = left.pop()
         new = it not in citing
@@ -157,12 +205,13 @@ def main():
     page, bad, place = PAGE.read_text(), 0, None
     told = set()
     for line in page.splitlines():
-        found = re.search(r"`(crates/\w+/specs/[\w/]+\.antt)`", line)
+        found = re.search(r"`(crates/\w+/(?:specs|src)/[\w/]+\.(?:antt|rt))`", line)
         place = found[1] if found else place
         if line.startswith("- `") and place:
             told |= {(place, name) for name in re.findall(r"`([^`]+)`", line.split(":")[0])}
-    wanted = {(short(it[0]), it[1]) for it in bearing}
-    there = {(short(it[0]), it[1]) for it in citing}
+    beside = declared(citing) | {(str(path.relative_to(ROOT)), name) for name, path, _, _ in traits()}
+    wanted = {(short(it[0]), it[1]) for it in bearing} | beside
+    there = {(short(it[0]), it[1]) for it in citing} | beside
     for path, name in sorted(wanted - told):
         bad += 1
         print(f"docs/STATEMENT.md lacks {name} of {path}")
