@@ -58,6 +58,10 @@ trees 9
 """
 
 
+# a derivation of `1+1+1+1`
+PLACE = "t2.r1,1.t1.t2.r1,1.r0,3.t1.t2.r1,1.r0,3.t1.t2.r1,1.r0,3"
+
+
 def cases():
     """One run of each job, and those of a grammar and an input that are refused."""
     examples = ROOT / "examples"
@@ -74,6 +78,8 @@ def cases():
     yield "progress", ["progress", "--at", "2", "--grammar", json], text, None
     yield "work", ["work", "--size", "3"], b"", None
     yield "glades", ["glades", "--grammar", str(examples / "sum.slif")], b"1+1+1+1", None
+    yield "more", ["more", "--grammar", str(examples / "sum.slif"), "--after", "0", "--first", "2"], b"1+1+1+1", None
+    yield "more after", ["more", "--grammar", str(examples / "sum.slif"), "--after", PLACE], b"1+1+1+1", None
     yield "script", ["script"], SCRIPT, None
     yield "slip", ["slip", "--grammar", "{}", "--give", "semi"], b"12;3", "S ::= X+\nX ::= N semi\nN ~ [\\d]\nsemi ~ ';'\n"
     yield "usage", ["nothing"], b"", None
