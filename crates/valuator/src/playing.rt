@@ -67,13 +67,14 @@ fn name_in<'p>(w: &'p Written, symbol: SymbolId) -> &'p str
 }
 
 /// What a step is told by.
-#[derive(Clone, Copy)]
+#[derive(Drop)]
 struct Sheet<'p> {
     meaning: &'p Meaning,
     w: &'p Written,
     spans: &'p [Span],
     chars: &'p Chars,
-    nulling: &'p [Option<RuleId>],
+    // of each symbol, the rule that nulls it
+    nulling: Vec<Option<RuleId>>,
 }
 
 /// Tells the values of a token.
@@ -174,7 +175,7 @@ fn tell_nulled(
 ) -> Result<(), NoMemory>
     requires meaning { IsMeaningOf p.now.w.now (meaning_of p.now.meaning.now) }
     requires spans { AreSpans (length p.now.chars.now) p.now.spans.now }
-    requires nulling { AreFirst p.now.w.now (length p.now.w.now.rules) p.now.nulling.now }
+    requires nulling { AreFirst p.now.w.now (length p.now.w.now.rules) p.now.nulling.items }
     requires symbol { symbol < length p.now.w.now.names }
     requires at { at ≤ length p.now.spans.now }
     ensures ok { OnOk result (held teller.new ≡ held teller.old ++ value_of_nulled
@@ -184,7 +185,7 @@ fn tell_nulled(
 {
     let name = name_in(p.w, symbol);
     let start = end_of(p.spans, p.chars, at);
-    let action = nulling_action(p.w, p.meaning, p.nulling, symbol);
+    let action = nulling_action(p.w, p.meaning, &p.nulling, symbol);
     pass_nulling(teller, name, start, at, action)
 }
 
@@ -249,7 +250,7 @@ fn tell(
 ) -> Result<(), NoMemory>
     requires meaning { IsMeaningOf p.now.w.now (meaning_of p.now.meaning.now) }
     requires spans { AreSpans (length p.now.chars.now) p.now.spans.now }
-    requires nulling { AreFirst p.now.w.now (length p.now.w.now.rules) p.now.nulling.now }
+    requires nulling { AreFirst p.now.w.now (length p.now.w.now.rules) p.now.nulling.items }
     requires step { CanTell p.now.w.now (length p.now.spans.now) (held_count (held teller.old))
         (step_of step.now) }
     ensures ok { OnOk result (held teller.new ≡ told (shows teller.old) p.now.w.now
@@ -278,7 +279,7 @@ fn tell_all(
 ) -> Result<(), NoMemory>
     requires meaning { IsMeaningOf p.now.w.now (meaning_of p.now.meaning.now) }
     requires spans { AreSpans (length p.now.chars.now) p.now.spans.now }
-    requires nulling { AreFirst p.now.w.now (length p.now.w.now.rules) p.now.nulling.now }
+    requires nulling { AreFirst p.now.w.now (length p.now.w.now.rules) p.now.nulling.items }
     requires step { EachCanTell p.now.w.now (length p.now.spans.now)
         (states tellers.old.items shows held) (step_of step.now) }
     ensures ok { OnOk result (states tellers.new.items shows held ≡ advanced
@@ -301,7 +302,7 @@ fn tell_steps(
 ) -> Result<(), NoMemory>
     requires meaning { IsMeaningOf p.now.w.now (meaning_of p.now.meaning.now) }
     requires spans { AreSpans (length p.now.chars.now) p.now.spans.now }
-    requires nulling { AreFirst p.now.w.now (length p.now.w.now.rules) p.now.nulling.now }
+    requires nulling { AreFirst p.now.w.now (length p.now.w.now.rules) p.now.nulling.items }
     requires steps { EachCanTellAll p.now.w.now (length p.now.spans.now)
         (states tellers.old.items shows held) (map step_of list.now) }
     ensures ok { OnOk result (states tellers.new.items shows held ≡ advanced
@@ -319,12 +320,7 @@ fn tell_steps(
 /// its rules mean, the characters and the tokens' spans.
 #[derive(Drop)]
 pub struct Player<'p> {
-    meaning: &'p Meaning,
-    w: &'p Written,
-    spans: &'p [Span],
-    chars: &'p Chars,
-    // of each symbol, the rule that nulls it
-    nulling: Vec<Option<RuleId>>,
+    sheet: Sheet<'p>,
     // of the children of the sequence told last, which are items
     shown: Vec<bool>,
 }
@@ -336,14 +332,14 @@ impl<'p> Model for Player<'p> {
     ghost Value = { Score };
 
     ghost view = { λ p. record {
-      grammar = p.w.now;
-      meaning = meaning_of p.meaning.now;
-      chars = p.chars.now;
-      spans = p.spans.now;
+      grammar = p.sheet.w.now;
+      meaning = meaning_of p.sheet.meaning.now;
+      chars = p.sheet.chars.now;
+      spans = p.sheet.spans.now;
     } };
 
-    ghost invariant = { λ p. IsReady p.w.now (meaning_of p.meaning.now) p.chars.now p.spans.now
-        p.nulling.items };
+    ghost invariant = { λ p. IsReady p.sheet.w.now (meaning_of p.sheet.meaning.now)
+        p.sheet.chars.now p.sheet.spans.now p.sheet.nulling.items };
 }
 
 impl<'p> Player<'p> {
@@ -366,12 +362,15 @@ impl<'p> Player<'p> {
             }) }
     {
         let nulling = nulling_rules(alloc, w)?;
-        Ok(Player {
+        let sheet = Sheet {
             meaning,
             w,
             spans,
             chars,
             nulling,
+        };
+        Ok(Player {
+            sheet,
             shown: Vec::new(alloc),
         })
     }
@@ -412,14 +411,7 @@ impl<'p> Player<'p> {
             (states tellers.old.items shows held)) }
         ensures score { self.new ≡ self.old }
     {
-        let p = Sheet {
-            meaning: self.meaning,
-            w: self.w,
-            spans: self.spans,
-            chars: self.chars,
-            nulling: self.nulling.as_slice(),
-        };
-        tell_steps(&p, &mut self.shown, list, tellers)
+        tell_steps(&self.sheet, &mut self.shown, list, tellers)
     }
 }
 
