@@ -6,9 +6,10 @@
 JSON, SQL, Lua, CSV, logs, right and left recursion, alone and over the same tokens, one long string, languages of many keywords and of many levels, all values of an
 ambiguous sum, expressions by an operator table, nested brackets. All read the same files in turn. The least times and the greatest memory are printed, and the ratio of the processor times: less than 1 is faster than
 Marpa::R2. The two have to write the same lines, in any order, and as many as there are derivations; bison's parser is a recognizer here. With `--only` those cases are run whose
-name has the word. Debian has Marpa::R2 as libmarpa-r2-perl.
+name has the word. Debian has Marpa::R2 as libmarpa-r2-perl. Where a case has ten times the size of one before it, the growth of the processor time from that to this is printed, of the program and of Marpa::R2.
+Languages of 20,000 keywords are read by the program alone: Marpa::R2 takes over two minutes before its first token.
 """
-import argparse, pathlib, sys, tempfile
+import argparse, pathlib, re, sys, tempfile
 
 import glr, inputs
 from measuring import BINARY, HERE, ROOT, best, document, has_marpa
@@ -44,22 +45,23 @@ def cases():
     """The name, the grammar, the input, and the number of derivations."""
     json = (ROOT / "examples/json.slif").read_text()
     operators = (ROOT / "examples/operators.slif").read_text()
-    for kilobytes in (10, 100, 1000):
-        yield f"JSON {kilobytes} KB", json, document(1000 * kilobytes), 1
+    for kilobytes in (10, 100, 1000, 10_000):
+        yield f"JSON {kilobytes:,} KB", json, document(1000 * kilobytes), 1
     for name in ("sql", "lua", "log"):
         grammar = (HERE / f"grammars/{name}.slif").read_text()
         for kilobytes in (10, 100, 1000):
-            yield f"{name.upper()} {kilobytes} KB", grammar, getattr(inputs, name)(1000 * kilobytes), 1
+            yield f"{name.upper()} {kilobytes:,} KB", grammar, getattr(inputs, name)(1000 * kilobytes), 1
     csv = (ROOT / "examples/csv.slif").read_text()
-    for kilobytes in (100, 1000):
-        yield f"CSV {kilobytes} KB", csv, inputs.csv(1000 * kilobytes), 1
+    for kilobytes in (100, 1000, 10_000):
+        yield f"CSV {kilobytes:,} KB", csv, inputs.csv(1000 * kilobytes), 1
     yield "string of 1 MB", json, '["' + "a long text " * 83_333 + '"]', 1
     for length in (1000, 10_000, 100_000):
         yield f"right recursion {length:,}", RIGHT, "x" * length, 1
-    for count in (100, 200, 1000):
-        yield f"keywords {count:,}", *inputs.keywords(count, 1000), 1
+    for count, tokens in ((100, 1000), (200, 1000), (1000, 1000), (1000, 30_000), (20_000, 1000), (20_000, 10_000)):
+        yield f"keywords {count:,}, {tokens:,}", *inputs.keywords(count, tokens), 1
     for count in (20, 40, 80):
-        yield f"levels {count}", *inputs.levels(count, 1600), 1
+        for tokens in (1600, 16_000):
+            yield f"levels {count}, {tokens:,}", *inputs.levels(count, tokens), 1
     for length in (50_000, 100_000):
         yield f"left or right {length:,}, left", BOTH, "x" * length + "y", 1
         yield f"left or right {length:,}, right", BOTH, "x" * length + "z", 1
@@ -71,6 +73,17 @@ def cases():
     yield "operators 100 KB", operators, expression(100_000), 1
     for depth in (1000, 10_000, 100_000):
         yield f"brackets {depth:,}", BRACKETS, "(" * depth + "x" + ")" * depth, 1
+
+
+def tenth(name):
+    """The name of the case of a tenth of the size, which is the last number of a name."""
+    return re.sub(r"([0-9,]*[0-9])([^0-9]*)$", lambda m: f"{int(m[1].replace(',', '')) // 10:,}{m[2]}", name)
+
+
+def growth(times, name):
+    """How many times as long each took as for a tenth of the size, where that was timed."""
+    before = times.get(tenth(name), [])
+    return "".join(f"  x{now / max(then, 0.001):.1f}" for now, then in zip(times[name], before))
 
 
 def fault_of(results, count):
@@ -90,8 +103,8 @@ def main():
     options.add_argument("--rounds", type=int, default=3)
     options.add_argument("--only", default="")
     options = options.parse_args()
-    marpa, bison, bad = has_marpa(), glr.has_bison(), 0
-    print(f"{'what':26}{'seconds':>9}{'cpu':>8}{'MB':>6}" + (f"{'marpa s':>11}{'cpu':>8}{'MB':>6}{'ratio':>8}" if marpa else "    (Marpa::R2 is not installed)")
+    marpa, bison, bad, times = has_marpa(), glr.has_bison(), 0, {}
+    print(f"{'what':29}{'seconds':>9}{'cpu':>8}{'MB':>6}" + (f"{'marpa s':>11}{'cpu':>8}{'MB':>6}{'ratio':>8}" if marpa else "    (Marpa::R2 is not installed)")
           + (f"{'bison s':>11}{'cpu':>8}{'MB':>6}" if bison else "    (bison is not installed)"))
     with tempfile.TemporaryDirectory() as folder:
         grammar, path = pathlib.Path(folder) / "g.slif", pathlib.Path(folder) / "input.txt"
@@ -101,7 +114,8 @@ def main():
             grammar.write_text(source)
             path.write_text(text)
             commands = [[options.binary, "run", "--grammar", str(grammar), "--input", str(path)]]
-            if marpa:
+            beside = marpa and not name.startswith("keywords 20,000")
+            if beside:
                 commands.append(["perl", str(HERE / "marpa_run.pl"), str(grammar), str(path)])
             results = best(commands, options.rounds)
             has_twin = bison and name.split()[0] in glr.GRAMMARS
@@ -110,12 +124,13 @@ def main():
             if counted and (counted[3] != 0 or count == 1 and counted[4] != "1\n"):
                 fault = f"bison's parser: status {counted[3]}, {counted[4]!r}"
             bad += fault is not None
-            line = f"{name:26}{results[0][0]:>9.3f}{results[0][1]:>8.3f}{results[0][2]:>6.0f}"
-            if marpa:
+            times[name] = [result[1] for result in results]
+            line = f"{name:29}{results[0][0]:>9.3f}{results[0][1]:>8.3f}{results[0][2]:>6.0f}"
+            if beside:
                 line += f"{results[1][0]:>11.3f}{results[1][1]:>8.3f}{results[1][2]:>6.0f}{results[0][1] / results[1][1]:>8.2f}"
             if counted:
                 line += f"{counted[0]:>11.3f}{counted[1]:>8.3f}{counted[2]:>6.0f}"
-            print(line + (f"  WRONG: {fault}" if fault else ""), flush=True)
+            print(line + growth(times, name) + (f"  WRONG: {fault}" if fault else ""), flush=True)
     return 1 if bad else 0
 
 

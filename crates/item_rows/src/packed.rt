@@ -152,6 +152,25 @@ fn count_below(packed: &[u64], bound: u64) -> usize
     }
 }
 
+// How many numbers are below a bound, where so many are. Of those after them a few are gone through, and then all are searched.
+fn count_below_from(packed: &[u64], start: usize, bound: u64) -> usize
+    requires row { Rises packed.now }
+    requires start { start ≤ length packed.now }
+    requires below { (k : ℕ) → k < start → slice_index packed.now k < bound }
+    ensures bound { result ≤ length packed.now }
+    ensures below { (k : ℕ) → k < result → slice_index packed.now k < bound }
+    ensures above { (k : ℕ) → result ≤ k → k < length packed.now →
+        bound ≤ slice_index packed.now k }
+{
+    let near = start.saturating_add(FEW).min(packed.len());
+    for place in start..near {
+        if packed[place] >= bound {
+            return place;
+        }
+    }
+    count_below(packed, bound)
+}
+
 // How many dotted rules are before a bound, of a few.
 fn count_few_before(begun: &[u32], bound: u32) -> usize
     requires { Rises begun.now }
@@ -181,6 +200,24 @@ fn count_before(begun: &[u32], bound: u32) -> usize
     }
 }
 
+// How many dotted rules are before a bound, where so many are.
+fn count_before_from(begun: &[u32], start: usize, bound: u32) -> usize
+    requires row { Rises begun.now }
+    requires start { start ≤ length begun.now }
+    requires below { (k : ℕ) → k < start → slice_index begun.now k < bound }
+    ensures bound { result ≤ length begun.now }
+    ensures below { (k : ℕ) → k < result → slice_index begun.now k < bound }
+    ensures above { (k : ℕ) → result ≤ k → k < length begun.now → bound ≤ slice_index begun.now k }
+{
+    let near = start.saturating_add(FEW).min(begun.len());
+    for place in start..near {
+        if begun[place] >= bound {
+            return place;
+        }
+    }
+    count_before(begun, bound)
+}
+
 // The packed items whose dotted rules are of a span.
 fn within_span(packed: &[u64], span: Span) -> &[u64]
     requires row { Rises packed.now }
@@ -193,7 +230,7 @@ fn within_span(packed: &[u64], span: Span) -> &[u64]
     let low = first_of(span.start);
     let high = first_of(span.end);
     let start = count_below(packed, low);
-    let end = count_below(packed, high);
+    let end = count_below_from(packed, start, high);
     between(packed, start, end)
 }
 
@@ -206,7 +243,7 @@ fn dotted_within(begun: &[u32], span: Span) -> &[u32]
         Contains result.now k ↔ (Contains begun.now k × (span.start ≤ k) × (k < span.end)) }
 {
     let start = count_before(begun, span.start);
-    let end = count_before(begun, span.end);
+    let end = count_before_from(begun, start, span.end);
     between(begun, start, end)
 }
 

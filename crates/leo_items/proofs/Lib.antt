@@ -6,3 +6,4 @@ pub mod Growing
 pub mod Loops
 pub mod Hiding
 pub mod Below
+pub mod Noting

@@ -36,25 +36,35 @@ pub fn pair_above(flat: &Flat, item: Item) -> Pair
     }
 }
 
+// A way is noted from so many steps on: a shorter one is found as fast again.
+const LONG: usize = 8;
+
+/// Where a way ends, and how many steps were walked of it after the first.
+#[derive(Clone, Copy)]
+pub struct Way {
+    pub top: Item,
+    pub walked: usize,
+}
+
 /// Goes on from a step to the topmost item, or to one that is noted.
-pub fn find(flat: &Flat, rows: &Rows<'_>, memo: &Memo, pair: Pair, step: Item) -> Item
+pub fn find(flat: &Flat, rows: &Rows<'_>, memo: &Memo, pair: Pair, step: Item) -> Way
     requires rows { HasRows flat.now rows.now }
     requires nulled { AreNulled flat.now rows.now.sets }
     requires memo { IsMemo flat.now rows.now.sets memo.now }
     requires set { pair.set < length rows.now.sets }
     requires step { IsStepIn flat.now rows.now.sets pair.set pair.symbol (Some step) }
-    ensures { LeadsIn flat.now rows.now.sets pair.set pair.symbol result }
+    ensures { LeadsIn flat.now rows.now.sets pair.set pair.symbol result.top }
 {
     flat.known();
     let mut top = step;
-    for _ in 0..usize::MAX {
+    for walked in 0..usize::MAX {
         let above = pair_above(flat, top);
         if let Some(found) = memo.get(above) {
-            return found;
+            return Way { top: found, walked };
         }
         match step_in(flat, rows, above) {
             Some(next) => top = next,
-            None => return top,
+            None => return Way { top, walked },
         }
     }
     unreachable!()
@@ -109,6 +119,29 @@ fn note<L: Ledger>(
     unreachable!()
 }
 
+// Notes where a way ends, if it is long.
+fn note_long<L: Ledger>(
+    flat: &Flat,
+    rows: &Rows<'_>,
+    memo: &mut Memo,
+    pair: Pair,
+    way: Way,
+    steps: &mut Steps<L>,
+) -> Result<(), AllocError>
+    requires rows { HasRows flat.now rows.now }
+    requires nulled { AreNulled flat.now rows.now.sets }
+    requires memo { IsMemo flat.now rows.now.sets memo.old }
+    requires set { pair.set < length rows.now.sets }
+    requires leads { LeadsIn flat.now rows.now.sets pair.set pair.symbol way.top }
+    ensures memo { NotesMore flat.now rows.now.sets memo.old memo.new }
+    ensures counted { steps.new + length memo.old ≡ steps.old + length memo.new }
+{
+    if way.walked < LONG {
+        return Ok(());
+    }
+    note(flat, rows, memo, pair, way.top, steps)
+}
+
 /// The topmost item of a pair with this step.
 pub fn topmost<L: Ledger>(
     flat: &Flat,
@@ -130,7 +163,7 @@ pub fn topmost<L: Ledger>(
     if let Some(top) = memo.get(pair) {
         return Ok(top);
     }
-    let top = find(flat, rows, memo, pair, step);
-    note(flat, rows, memo, pair, top, steps)?;
-    Ok(top)
+    let way = find(flat, rows, memo, pair, step);
+    note_long(flat, rows, memo, pair, way, steps)?;
+    Ok(way.top)
 }

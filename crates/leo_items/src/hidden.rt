@@ -177,7 +177,7 @@ pub fn top_above(
         return Some(top);
     }
     let step = step_in(flat, rows, pair)?;
-    Some(find(flat, rows, memo, pair, step))
+    Some(find(flat, rows, memo, pair, step).top)
 }
 
 // Puts the items that are not there yet.

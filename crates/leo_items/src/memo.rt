@@ -45,6 +45,9 @@ impl Memo {
     pub fn get(&self, pair: Pair) -> Option<Item>
         ensures { result ≡ noted self.now pair }
     {
+        if self.tops.is_empty() {
+            return None;
+        }
         self.tops.get(&pair).copied()
     }
 

@@ -1,11 +1,12 @@
 -- The starts that are done in a row.
-use Rattle.std.proofs.Common.{◌≡◌, ◌↔◌, ◌⊎◌, inl, inr, ℕ, ◌+◌, ◌<◌, ◌++◌, List, [], ◌∷◌, length, take, get_or, Some, Contains, slice_get, refl, sym, ap, ◌∙◌, subst}
+use Rattle.std.proofs.Common.{◌≡◌, ◌↔◌, ◌⊎◌, inl, inr, ℕ, ◌+◌, ◌<◌, ◌++◌, List, [], ◌∷◌, length, take, get_or, Some, Contains, slice_get, refl, sym, ap, ◌∙◌, subst, zero, suc, arith}
 use Rattle.std.specs.List.Sorted.{IsStrictlySortedBy}
 use Rattle.std.specs.Ordering.{nat_cmp}
 use Rattle.std.proofs.lemmas.List.{take_more}
 use Rattle.finite_sets.proofs.Lists.{Contains-none}
 use Rattle.recognizer_model.specs.declared.thread.Thread.{Thread}
-use Rattle.recognizer_model.specs.Flat.{FlatGrammar}
+use Rattle.recognizer_model.specs.Flat.{FlatGrammar, IsRule}
+use Rattle.recognizer_model.specs.Threads.{IsTopRule}
 use Rattle.threads.proofs.Listing.{contains_next, contains_pushed}
 use Rattle.lexer.specs.Machines.{IsMatch}
 use Rattle.lexer.specs.Reading.{IsDoneIn}
@@ -89,4 +90,45 @@ pub done_in : (g : FlatGrammar) (row : List Thread) (done : List ℕ) → DoneTo
 done_in g row done h k = (
   λ (r, top, c). elim ((h r).0 c) [ inl n ↦ absurd (Contains-none r n) | inr (th, i, m, e) ↦ (th, i, m, top ∙ ap Some (sym e)) ],
   λ (th, i, m, top). (th.rule, top, (h th.rule).1 (inr (th, i, m, refl))),
+)
+
+-- they are top rules
+pub done_rules : (g : FlatGrammar) (row : List Thread) (done : List ℕ) → DoneTo g [] row done → ((th : Thread) → Contains row th → IsRule g th.rule) → (r : ℕ) → Contains done r → IsRule g r × IsTopRule g r
+done_rules g row done h rules r c = elim ((h r).0 c) [
+  | inl n ↦ absurd (Contains-none r n)
+  | inr (th, i, (dot, label, top), e) ↦ (subst (IsRule g) e (rules th i), subst (IsTopRule g) e top)
+]
+
+one_done : (g : FlatGrammar) (rule k s : ℕ) → slice_get g.tops k ≡ Some s → Contains (rule ∷ []) s → slice_get g.tops k ≡ Some rule
+one_done g rule k s top (zero, lt, e) = top ∙ ap Some (sym e)
+one_done g rule k s top (suc i, lt, e) = absurd (omega arith)
+
+-- one rule alone is done
+pub done_alone : (g : FlatGrammar) (done : List ℕ) (d k : ℕ) → length done ≡ 1 → IsDoneBy g done k ↔ (slice_get g.tops k ≡ Some (get_or done 0 d))
+done_alone g [] d k e = absurd (omega arith)
+done_alone g (rule ∷ []) d k e = ((λ (s, top, c). one_done g rule k s top c), (λ top. (rule, top, (0, omega arith, refl))))
+done_alone g (rule ∷ other ∷ more) d k e = absurd (omega arith)
+
+-- the start of a top rule, among some candidates
+module _ (g : FlatGrammar) (rule : ℕ) (candidates : List ℕ) where
+  abbrev pub AreStartOf : List ℕ → Type 0
+  AreStartOf matched = (k : ℕ) → Contains matched k ↔ (Contains candidates k × (slice_get g.tops k ≡ Some rule))
+
+  pub no_start : (matched : List ℕ) → matched ≡ [] → ((k : ℕ) → Contains candidates k → slice_get g.tops k ≡ Some rule → ⊥) → AreStartOf matched
+  no_start matched e none k = ((λ h. absurd (Contains-none k (subst (λ l. Contains l k) e h))), (λ (h, top). absurd (none k h top)))
+
+  pub one_start : (matched : List ℕ) (start : ℕ) → matched ≡ start ∷ [] → Contains candidates start → ((k : ℕ) → (slice_get g.tops k ≡ Some rule) ↔ (Some start ≡ Some k)) → AreStartOf matched
+  one_start matched start e there tops k = (
+    λ h. elim ((contains_pushed [] matched start k e).0 h) [
+      | inl n ↦ absurd (Contains-none k n)
+      | inr same ↦ (subst (Contains candidates) same there, (tops k).1 (ap Some same))
+    ],
+    λ (h, top). (contains_pushed [] matched start k e).1 (inr (let same = (tops k).0 top in cc)),
+  )
+
+-- one rule alone is done: its start is what is done
+pub start_done : (g : FlatGrammar) (done candidates matched : List ℕ) → length done ≡ 1 → AreStartOf g (get_or done 0 0) candidates matched → (k : ℕ) → Contains matched k ↔ (Contains candidates k × IsDoneBy g done k)
+start_done g done candidates matched e are k = (
+  λ h. (let (a, top) = (are k).0 h in (a, (done_alone g done 0 k e).1 top)),
+  λ (a, d). (are k).1 (a, (done_alone g done 0 k e).0 d),
 )

@@ -5,6 +5,7 @@ ghost use Rattle.std.specs.Ordering.{nat_cmp};
 ghost use Rattle.grammar_model.specs.declared.limits.TheConstants.{LONGEST_INPUT};
 ghost use Rattle.recognizer_model.specs.declared.thread.Thread.{Thread as AThread};
 ghost use Rattle.recognizer_model.specs.Flat.{IsRule};
+ghost use Rattle.recognizer_model.specs.Threads.{IsTopRule};
 ghost use Rattle.threads.specs.Lists.{list_at};
 ghost use Rattle.threads.specs.Steps.{IsBegin};
 ghost use Rattle.lexer.specs.Lexical.{IsLongestMatch, IsUnmatched};
@@ -16,6 +17,7 @@ use crate::machine::{Machine, begin, forget_if_full, new_machine, step};
 use crate::next::STATES;
 use crate::table::Lexical;
 use grammar_core::Flat;
+use recognizer_model::FlatSource;
 use slif_base::Chars;
 use std::alloc::{AllocError, Global};
 use std::marker::Model;
@@ -136,8 +138,53 @@ fn is_done(flat: &Flat, done: &[u32], candidate: u32) -> bool
     done.contains(&flat.top(candidate as usize))
 }
 
-// Lists the candidates whose rules are done.
-fn list_matched(
+// The start of a top rule.
+fn start_of(flat: &Flat, rule: u32) -> Option<u32>
+    requires rule { IsRule flat.now rule }
+    requires top { IsTopRule flat.now rule }
+    ensures { (k : ℕ) → (slice_get flat.now.tops k ≡ Some rule) ↔ (result ≡ Some k) }
+{
+    flat.known();
+    match flat.origin_of(rule) {
+        FlatSource::Top(start) => Some(start),
+        FlatSource::Written(_) => None,
+    }
+}
+
+fn is_one_of(candidates: &[u32], start: u32) -> bool
+    ensures { IsTrue result ↔ Contains candidates.now start }
+{
+    candidates.contains(&start)
+}
+
+// Lists the start of the only rule that is done, if it is one of the candidates.
+fn list_start(
+    flat: &Flat,
+    done: &[u32],
+    candidates: &[u32],
+    matched: &mut Vec<u32>,
+) -> Result<(), AllocError>
+    requires one { length done.now ≡ 1 }
+    requires rules { (r : ℕ) → Contains done.now r → IsRule flat.now r × IsTopRule flat.now r }
+    requires empty { matched.old.items ≡ [] }
+    ensures exact { OnOk result ((k : ℕ) →
+        Contains matched.new.items k ↔
+        (Contains candidates.now k ×
+        ((r : ℕ) × (slice_get flat.now.tops k ≡ Some r) × Contains done.now r))) }
+    ensures sorted { OnOk result (IsStrictlySortedBy nat_cmp matched.new.items) }
+{
+    let Some(start) = start_of(flat, done[0]) else {
+        return Ok(());
+    };
+    if !is_one_of(candidates, start) {
+        return Ok(());
+    }
+    matched.push(start)?;
+    Ok(())
+}
+
+// Lists the candidates whose rules are done, each looked for among several rules.
+fn list_of_several(
     flat: &Flat,
     done: &[u32],
     candidates: &[u32],
@@ -158,6 +205,29 @@ fn list_matched(
         }
     }
     Ok(())
+}
+
+// Lists the candidates whose rules are done. One rule leads to its start.
+fn list_matched(
+    flat: &Flat,
+    done: &[u32],
+    candidates: &[u32],
+    matched: &mut Vec<u32>,
+) -> Result<(), AllocError>
+    requires rules { (r : ℕ) → Contains done.now r → IsRule flat.now r × IsTopRule flat.now r }
+    requires candidates { (k : ℕ) → Contains candidates.now k → k < length flat.now.tops }
+    requires empty { matched.old.items ≡ [] }
+    ensures exact { OnOk result ((k : ℕ) →
+        Contains matched.new.items k ↔
+        (Contains candidates.now k ×
+        ((r : ℕ) × (slice_get flat.now.tops k ≡ Some r) × Contains done.now r))) }
+    ensures sorted { OnOk result (IsStrictlySortedBy nat_cmp candidates.now →
+        IsStrictlySortedBy nat_cmp matched.new.items) }
+{
+    if done.len() == 1 {
+        return list_start(flat, done, candidates, matched);
+    }
+    list_of_several(flat, done, candidates, matched)
 }
 
 // Lists the candidates that are done in a row, in their order, in place of what the lists held.

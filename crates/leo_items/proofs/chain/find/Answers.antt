@@ -6,8 +6,8 @@ use Rattle.leo_items.proofs.Chains.{passed_first, passed_on}
 use Rattle.leo_items.proofs.Falling.{far_bound, step_falls, symbol_there}
 use Rattle.leo_items.proofs.chain.find.Goals as goal
 
-pub loop-init : goal.loop-init
-loop-init c = record {
+pub loop-walked-init : goal.loop-walked-init
+loop-walked-init c = record {
   passed = λ are. passed_first c.args.flat.now c.args.rows.now.sets are c.args.pair.set c.args.pair.symbol c.args.step c.requires.set c.requires.step;
   short = λ flat. (
       let (item, leo, same) = c.requires.step in
@@ -17,29 +17,29 @@ loop-init c = record {
 }
 
 pub pair_above-above-requires : goal.pair_above-above-requires
-pair_above-above-requires c = (c.loop.invariant.passed c.requires.rows.are).rule
+pair_above-above-requires c = (c.loop-walked.invariant.passed c.requires.rows.are).rule
 
 pub step_in-requires-clause-set : goal.step_in-requires-clause-set
-step_in-requires-clause-set c = subst (λ (p : Pair). p.set < length c.args.rows.now.sets) (sym c.pair_above-above.ensures) (c.loop.invariant.passed c.requires.rows.are).inside
+step_in-requires-clause-set c = subst (λ (p : Pair). p.set < length c.args.rows.now.sets) (sym c.pair_above-above.ensures) (c.loop-walked.invariant.passed c.requires.rows.are).inside
 
 pub returns-in-Some : goal.returns-in-Some
 returns-in-Some c =
     let (lt, leads) = c.requires.memo.leads c.pair_above-above.result c.in-Some.found (sym c.get.ensures ∙ c.in-Some.is) in
-    (c.loop.invariant.passed c.requires.rows.are).on c.in-Some.found (subst (λ (p : Pair). LeadsIn c.args.flat.now c.args.rows.now.sets p.set p.symbol c.in-Some.found) c.pair_above-above.ensures leads)
+    (c.loop-walked.invariant.passed c.requires.rows.are).on c.in-Some.found (subst (λ (p : Pair). LeadsIn c.args.flat.now c.args.rows.now.sets p.set p.symbol c.in-Some.found) c.pair_above-above.ensures leads)
 
-pub loop-preserved : goal.loop-preserved
-loop-preserved c =
+pub loop-walked-preserved : goal.loop-walked-preserved
+loop-walked-preserved c =
     let next = subst (λ (p : Pair). IsStepIn c.args.flat.now c.args.rows.now.sets p.set p.symbol (Some c.in-Some-step_in.next)) c.pair_above-above.ensures c.in-Some-step_in.ensures in
     record {
-      passed = λ are. passed_on c.args.flat.now c.args.rows.now.sets are c.args.pair.set c.args.pair.symbol c.loop.top c.in-Some-step_in.next (c.loop.invariant.passed are) next;
+      passed = λ are. passed_on c.args.flat.now c.args.rows.now.sets are c.args.pair.set c.args.pair.symbol c.loop-walked.top c.in-Some-step_in.next (c.loop-walked.invariant.passed are) next;
       short = λ flat. (
-          let falls = step_falls c.args.flat.now flat c.args.rows.now.sets c.requires.rows.are c.requires.nulled c.loop.top.origin (lhs_of c.args.flat.now c.loop.top.rule) c.in-Some-step_in.next next in
-          let before = c.loop.invariant.short flat in
+          let falls = step_falls c.args.flat.now flat c.args.rows.now.sets c.requires.rows.are c.requires.nulled c.loop-walked.top.origin (lhs_of c.args.flat.now c.loop-walked.top.rule) c.in-Some-step_in.next next in
+          let before = c.loop-walked.invariant.short flat in
           omega (arith, falls, before));
     }
 
 pub returns-in-None : goal.returns-in-None
-returns-in-None c = (c.loop.invariant.passed c.requires.rows.are).here (subst (λ (p : Pair). IsNotLeoIn c.args.flat.now c.args.rows.now.sets p.set p.symbol) c.pair_above-above.ensures c.in-None.ensures)
+returns-in-None c = (c.loop-walked.invariant.passed c.requires.rows.are).here (subst (λ (p : Pair). IsNotLeoIn c.args.flat.now c.args.rows.now.sets p.set p.symbol) c.pair_above-above.ensures c.in-None.ensures)
 
 pub unreachable-requires : goal.unreachable-requires
-unreachable-requires c = let b = c.loop.invariant.short c.known.ensures.flat in let end = c.loop-test.false in omega (arith, b, end)
+unreachable-requires c = let b = c.loop-walked.invariant.short c.known.ensures.flat in let end = c.loop-walked-test.false in omega (arith, b, end)

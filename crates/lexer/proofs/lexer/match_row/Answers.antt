@@ -1,6 +1,12 @@
 use Rattle.std.proofs.Common.{◌↔◌, ℕ, List, Contains, subst}
-use Rattle.lexer.proofs.Done.{DoneTo, IsDoneBy, done_in}
+use Rattle.lexer.proofs.Done.{DoneTo, IsDoneBy, done_in, done_rules}
 use Rattle.lexer.proofs.lexer.match_row.Goals as goal
+
+pub list_matched-requires-clause-rules : goal.list_matched-requires-clause-rules
+list_matched-requires-clause-rules c = λ r h.
+    let done = c.list_done.new.done.items in
+    done_rules c.args.flat.now c.args.row.now done (subst (λ (l : List ℕ). DoneTo c.args.flat.now l c.args.row.now done) c.clear.ensures.items c.in_ok-list_done.ensures) c.requires.row r
+    (subst (λ (l : List ℕ). Contains l r) c.deref.ensures.value h)
 
 pub returns-clause-exact : goal.returns-clause-exact
 returns-clause-exact c = λ k.

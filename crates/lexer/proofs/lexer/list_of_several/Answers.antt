@@ -4,8 +4,8 @@ use Rattle.std.specs.declared.alloc.Global.{Global}
 use Rattle.std.proofs.lemmas.List.Elements.{Contains-get_or}
 use Rattle.std.proofs.lemmas.List.{take_all}
 use Rattle.lexer.proofs.Done.{MatchedTo, matched_none, matched_more, matched_skip}
-use Rattle.lexer.proofs.lexer.list_matched.Goals.{then-is_done+in_ok-push, else-is_done}
-use Rattle.lexer.proofs.lexer.list_matched.Goals as goal
+use Rattle.lexer.proofs.lexer.list_of_several.Goals.{then-is_done+in_ok-push, else-is_done}
+use Rattle.lexer.proofs.lexer.list_of_several.Goals as goal
 
 pub is_done-requires : goal.is_done-requires
 is_done-requires c = c.requires.candidates _ (Contains-get_or c.args.candidates.now c.loop-candidate.candidate-index 0 (omega arith))
