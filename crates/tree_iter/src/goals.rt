@@ -59,6 +59,7 @@ pub fn goal_row<'f>(rows: &[GoalRow<'f>], k: usize) -> GoalRow<'f>
 }
 
 // Puts a goal on top of those below.
+#[inline(always)]
 fn push_goal<'f>(
     rows: &mut Vec<GoalRow<'f>>,
     goal: Goal<'f>,
@@ -101,6 +102,7 @@ fn cause_goal(symbol: u32, start: u32, end: u32, cause: Cause<'_>) -> Goal<'_>
 }
 
 // Puts the goals of an alternative, the predecessor on top.
+#[inline(always)]
 fn put_alternative<'f>(
     rows: &mut Vec<GoalRow<'f>>,
     forest: &'f Forest<'f>,
@@ -132,6 +134,7 @@ fn put_alternative<'f>(
 }
 
 // Puts the goals of a whole rule, its parts on top.
+#[inline(always)]
 fn put_whole<'f>(
     rows: &mut Vec<GoalRow<'f>>,
     forest: &'f Forest<'f>,
@@ -193,6 +196,7 @@ fn node_of(nodes: &[u32], at: usize) -> u32
 }
 
 /// Puts an option of a fork on top of the goals after it.
+#[inline(always)]
 pub fn put_option<'f>(
     rows: &mut Vec<GoalRow<'f>>,
     forest: &'f Forest<'f>,

@@ -93,6 +93,7 @@ impl<'f> Walk<'f> {
     }
 
     /// Makes room for what an option adds.
+    #[inline(always)]
     pub fn reserve(&mut self) -> Result<(), NoMemory>
         ensures room { OnOk result ((vec_len self.new.goals + 2 ≤ vec_capacity self.new.goals) ×
             (vec_len self.new.choices < vec_capacity self.new.choices)) }
@@ -105,6 +106,7 @@ impl<'f> Walk<'f> {
 
     /// Chooses an option of a fork, in place of the row of the fork unless a choice goes back to that, and keeps the choice where there
     /// is another option.
+    #[inline(always)]
     pub fn choose_opened(&mut self, fork: Fork<'f>, opened: &Opened<'f>, at: usize, behind: usize)
         requires about { IsAbout self.old (fork_of fork) behind }
         requires is { goal_opened opened.now ≡ fork_of fork }
@@ -146,6 +148,7 @@ impl<'f> Walk<'f> {
     }
 
     /// Writes a step.
+    #[inline(always)]
     pub fn write(&mut self, step: FlatStep, behind: usize) -> Result<(), NoMemory>
         requires { IsAbout self.old (Write (flat_step step)) behind }
         ensures goes { Goes self.old self.new }

@@ -149,6 +149,7 @@ fn rule_effect(
 }
 
 // What a step does after those that left these counts.
+#[inline(always)]
 fn effect_of(rows: &[CountRow], flat: &Flat, written: &Written, step: FlatStep) -> Effect
     requires flat_of { IsFlatOf flat.now written.now }
     requires step { IsStepOf flat.now (flat_step step) }
@@ -200,6 +201,7 @@ fn make_room<T>(rows: &mut Vec<T>) -> Result<(), NoMemory>
 }
 
 // Puts what a step does after the others.
+#[inline(always)]
 fn put_effect(counts: &mut Vec<CountRow>, steps: &mut Vec<TreeStep>, effect: Effect)
     requires room { vec_len counts.old < vec_capacity counts.old }
     requires room_of_steps { vec_len steps.old < vec_capacity steps.old }
@@ -218,6 +220,7 @@ fn put_effect(counts: &mut Vec<CountRow>, steps: &mut Vec<TreeStep>, effect: Eff
 
 /// Writes a step after the others. Rows are numbered in 32 bits, and after room for 2^32 of them one more counts as too many for
 /// memory.
+#[inline(always)]
 pub fn write_step(
     counts: &mut Vec<CountRow>,
     steps: &mut Vec<TreeStep>,
