@@ -11,7 +11,7 @@ use Rattle.earley_sets.specs.Recognizer.{Recognizer, IsRecognizer, earleme_of, e
 use Rattle.forest_parts.specs.Unasked.{IsOutranked}
 use Rattle.forest_parts.proofs.Sets.{kept_inside, in_full}
 
-not_higher : (x y : ℤ) → x <ℤ y → y ≤ℤ x → ⊥
+pub not_higher : (x y : ℤ) → x <ℤ y → y ≤ℤ x → ⊥
 not_higher x y lt le = omega (arith, ints)
 
 module _ (w : Grammar) (r : Recognizer) (is : IsRecognizer r) (end : ℕ) (le : end ≤ earleme_of r) (item : Item) where
