@@ -1,5 +1,5 @@
 //! Least sets by rules, found in one walk through the rules' bodies.
-ghost use Rattle.std.specs.Prelude.{◌≡◌, ℕ, ◌<◌, ◌≤◌, ◌^◌, length, slice_index, All, Contains, IfOk, OnOk};
+ghost use Rattle.std.specs.Prelude.{◌≡◌, ℕ, ◌<◌, ◌≤◌, ◌^◌, length, slice_index, All, Contains, IfOk, OnOk, OnErr};
 ghost use Rattle.horn_clauses.specs.Least.{IsLeastSet, AreBelow, IsSearch, Waits, Advances, HasVisited};
 ghost use Rattle.horn_clauses.specs.Rows.{HasPlaces, HasAddedAll};
 
@@ -143,14 +143,23 @@ fn search_rows(
     Ok(found)
 }
 
+// Nothing, for clauses that 32 bits number. More count as too many for memory.
+fn are_numbered(clauses: &Clauses) -> Result<(), AllocError>
+    ensures ok { OnOk result (length clauses.now < 2 ^ 32) }
+    ensures err { OnErr result (2 ^ 32 ≤ length clauses.now) }
+{
+    if clauses.len() > u32::MAX as usize {
+        return Err(AllocError);
+    }
+    Ok(())
+}
+
 /// The least set that the clauses make.
 pub fn least_set(alloc: Global, clauses: &Clauses, bound: usize) -> Result<NumberSet, AllocError>
     requires { AreBelow bound clauses.now }
     ensures { IfOk result (λ found. IsLeastSet clauses.now found) }
 {
-    if clauses.len() > u32::MAX as usize {
-        return Err(AllocError);
-    }
+    are_numbered(clauses)?;
     let rows = occurrences(alloc, clauses, bound)?;
     search_rows(alloc, clauses, &rows)
 }

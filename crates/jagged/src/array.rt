@@ -86,7 +86,8 @@ fn put<T: Copy>(items: &mut Vec<T>, first: usize, row: &[T]) -> Result<(), Alloc
 
 // Where a row ends that stands after the last one.
 fn end_behind<T>(last: u32, row: &[T]) -> Result<u32, AllocError>
-    ensures { IfOk result (λ end. end ≡ last + length row.now) }
+    ensures ok { IfOk result (λ end. end ≡ last + length row.now) }
+    ensures err { OnErr result (4294967296 ≤ last + length row.now) }
 {
     let count = row.len();
     if count < 4_294_967_296 && last as usize + count < 4_294_967_296 {

@@ -1,5 +1,5 @@
 // The characters of a text.
-ghost use Rattle.std.specs.Prelude.{◌≡◌, ◌^◌, ◌<◌, ◌≤◌, length, take, slice_range, slice_index, encode_utf8_all, string_bytes, IsUtf8, MatchOption, IfOk, IfErr, OnOk};
+ghost use Rattle.std.specs.Prelude.{◌≡◌, ◌^◌, ◌<◌, ◌≤◌, length, take, slice_range, slice_index, encode_utf8_all, string_bytes, IsUtf8, MatchOption, IfOk, IfErr, OnOk, OnErr};
 ghost use Rattle.std.specs.Str.{IsAscii, IsCharBoundary, chars};
 ghost use Rattle.slif_base.specs.Characters.{starts_from, RefusesText};
 ghost use Rattle.outside_model.specs.Places.{line_after, column_after};
@@ -65,6 +65,17 @@ fn starts_of(alloc: Global, text: &str) -> Result<Vec<u32>, AllocError>
     Ok(starts)
 }
 
+// Nothing, for a text whose places 32 bits tell. A longer one counts as too large for memory.
+fn fits(text: &str) -> Result<(), AllocError>
+    ensures ok { OnOk result (length text.now < 2 ^ 32) }
+    ensures err { OnErr result (2 ^ 32 ≤ length text.now) }
+{
+    if text.len() > u32::MAX as usize {
+        return Err(AllocError);
+    }
+    Ok(())
+}
+
 /// Where each character begins, and where the text ends; none where each character is one byte.
 fn known_starts(alloc: Global, text: &str) -> Result<Option<Vec<u32>>, AllocError>
     ensures { IfOk result (λ known. MatchOption known (IsAscii text.now) (λ starts. starts.items ≡
@@ -73,9 +84,7 @@ fn known_starts(alloc: Global, text: &str) -> Result<Option<Vec<u32>>, AllocErro
     if text.is_ascii() {
         return Ok(None);
     }
-    if text.len() > u32::MAX as usize {
-        return Err(AllocError);
-    }
+    fits(text)?;
     let starts = starts_of(alloc, text)?;
     Ok(Some(starts))
 }

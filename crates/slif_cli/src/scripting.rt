@@ -21,6 +21,7 @@ use tellings::Stop;
 use text_reading::input_chars;
 
 /// Reads the input and writes the answers to its lines.
+#[inline(never)]
 pub fn play_input<'a, F: Files, I: Source, O: Sink, L: Ledger>(
     alloc: Global,
     from: InputFrom<'a>,

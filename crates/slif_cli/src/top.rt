@@ -162,7 +162,8 @@ fn grammar_file<'a>(name: Option<&'a str>) -> &'a str
     }
 }
 
-// Checks the grammar of that name.
+// Checks the grammar of that name. Each job has a frame of its own, so that none needs the room of another.
+#[inline(never)]
 fn check_grammar<'a, F: Files, O: Sink>(
     alloc: Global,
     name: &'a str,
@@ -184,6 +185,7 @@ fn check_grammar<'a, F: Files, O: Sink>(
 }
 
 // Reads the grammar of that name and the input, and writes what is told of the input.
+#[inline(never)]
 fn tell_by<'a, F: Files, I: Source, O: Sink, L: Ledger>(
     alloc: Global,
     grammar: &'a str,

@@ -24,6 +24,7 @@ use value_lines::{count_derivations, work_line};
 const GRAMMAR: &[u8] = b"L ::= I L | I\nI ::= 'a' | '(' L ')'\n";
 
 /// Reads an input of that size, and writes the line of its numbers and of how many derivations it has.
+#[inline(never)]
 pub fn work_of_size<'a, O: Sink, L: Ledger>(
     alloc: Global,
     size: u32,

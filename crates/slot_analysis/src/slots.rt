@@ -1,5 +1,5 @@
 //! Numbers for the slots of a grammar.
-ghost use Rattle.std.specs.Prelude.{◌≡◌, ℕ, suc, ◌+◌, ◌<◌, ◌≤◌, ◌^◌, length, slice_index, IfOk, IsTrue, ◌↔◌};
+ghost use Rattle.std.specs.Prelude.{◌≡◌, ℕ, suc, ◌+◌, ◌<◌, ◌≤◌, ◌^◌, length, slice_index, IfOk, IsTrue, ◌↔◌, OnErr, OnOk};
 ghost use Rattle.grammar_model.specs.Grammar.{rule_at, lhs_of, level_of, child_slot, child_level, tighter, occurs, own_level};
 ghost use Rattle.grammar_core.specs.Rules.{groups_of};
 ghost use Rattle.slot_analysis.specs.Slots.{number, end_of, IsNumbering, IsNumbered, body_count};
@@ -24,6 +24,17 @@ fn rooms_of(alloc: Global, w: &Packed<'_>) -> Result<Vec<u32>, AllocError>
     Ok(rooms)
 }
 
+// A sum of rooms. One that 32 bits do not hold counts as too many for memory.
+fn sum_of(sum: u32, room: u32) -> Result<u32, AllocError>
+    ensures ok { IfOk result (λ next. next ≡ sum + room) }
+    ensures err { OnErr result (2 ^ 32 ≤ sum + room) }
+{
+    match sum.checked_add(room) {
+        Some(next) => Ok(next),
+        None => Err(AllocError),
+    }
+}
+
 // The sums of the rooms before each symbol, and of all.
 fn sums_of(alloc: Global, rooms: &[u32]) -> Result<Vec<u32>, AllocError>
     ensures length { IfOk result (λ sums. length sums.items ≡ suc (length rooms.now)) }
@@ -35,10 +46,7 @@ fn sums_of(alloc: Global, rooms: &[u32]) -> Result<Vec<u32>, AllocError>
     let mut sum = 0u32;
     sums.push(sum)?;
     for room in rooms {
-        sum = match sum.checked_add(*room) {
-            Some(next) => next,
-            None => return Err(AllocError),
-        };
+        sum = sum_of(sum, *room)?;
         sums.push(sum)?;
     }
     Ok(sums)

@@ -1,5 +1,5 @@
 //! Steps from the starts, as clauses.
-ghost use Rattle.std.specs.Prelude.{◌≡◌, ℕ, suc, ◌+◌, ◌-◌, ◌<◌, ◌≤◌, ◌^◌, [], length, slice_index, false, Contains, IfOk, OnOk, IsTrue, ◌↔◌};
+ghost use Rattle.std.specs.Prelude.{◌≡◌, ℕ, suc, ◌+◌, ◌-◌, ◌<◌, ◌≤◌, ◌^◌, [], length, slice_index, false, Contains, IfOk, OnOk, OnErr, IsTrue, ◌↔◌};
 ghost use Rattle.grammar_model.specs.Grammar.{rule_at, lhs_of, level_of, child_slot, slot_count};
 ghost use Rattle.grammar_model.specs.Analysis.{IsLive};
 ghost use Rattle.slot_analysis.specs.Slots.{number, end_of, IsNumbering, fact_clause};
@@ -194,6 +194,17 @@ fn steps_of(
     Ok(clauses)
 }
 
+// Nothing, for so many slots that 32 bits tell two numbers of each. More count as too many for memory.
+fn fit_twice(total: u32) -> Result<(), AllocError>
+    ensures ok { OnOk result (total < 2 ^ 31) }
+    ensures err { OnErr result (2 ^ 31 ≤ total) }
+{
+    if total > u32::MAX / 2 {
+        return Err(AllocError);
+    }
+    Ok(())
+}
+
 /// The numbers of the accessible slots, and past them those of the slots in use.
 pub fn reach_of(
     alloc: Global,
@@ -209,9 +220,7 @@ pub fn reach_of(
         2 ^ 32) }
 {
     let total = bases[w.symbol_count()];
-    if total > u32::MAX / 2 {
-        return Err(AllocError);
-    }
+    fit_twice(total)?;
     let clauses = steps_of(alloc, w, bases, productive, total)?;
     let found = least_set(alloc, &clauses, (total + total) as usize)?;
     Ok(found)

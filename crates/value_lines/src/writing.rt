@@ -1,5 +1,5 @@
 // Writing the lines of the derivations of a reading.
-ghost use Rattle.std.specs.Prelude.{◌≡◌, ◌≤◌, ◌+◌, ◌↔◌, ◌∷◌, [], List, map, IfErr, IfOk, IfSome, IsTrue, OnErr, OnOk};
+ghost use Rattle.std.specs.Prelude.{◌≡◌, ◌≤◌, ◌+◌, ◌^◌, suc, ◌↔◌, ◌∷◌, [], List, map, IfErr, IfOk, IfSome, IsNone, IsTrue, OnErr, OnOk};
 ghost use Rattle.std.specs.List.{concat, sum_by};
 ghost use Rattle.std.specs.Io.KnownBytes.{Appends};
 ghost use Rattle.grammar_model.specs.Trees.{Tree};
@@ -174,7 +174,8 @@ pub fn keep_teller(show: Show, tellers: &mut Vec<Box<dyn Teller>>)
 
 // How many lines are written at most.
 fn limit_of(first: Option<u32>) -> u64
-    ensures { IfSome first (λ n. result ≡ n) }
+    ensures some { IfSome first (λ n. result ≡ n) }
+    ensures none { IsNone first → suc result ≡ 2 ^ 64 }
 {
     match first {
         Some(count) => u64::from(count),

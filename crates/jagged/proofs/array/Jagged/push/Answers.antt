@@ -32,10 +32,10 @@ returns-in_err-push-clause-err g c =
 pub invariant_of-self-2 : goal.invariant_of-self-2
 invariant_of-self-2 g c =
     put_more_ends c.self.inside.ends.items c.self.inside.items.items c.self.invariant c.last-last.result (c.last-last.ensures ∙ ap (λ (l : List ℕ). last_end 0 l) c.deref.ensures.value)
-    c.args.row.now c.put.new.items.items c.push.new.self.items c.in_ok-put.ensures.ok _ refl (c.in_ok-push.ensures.items ∙ ap (λ (e : ℕ). c.self.inside.ends.items ++ e ∷ []) c.in_ok-end.ensures)
+    c.args.row.now c.put.new.items.items c.push.new.self.items c.in_ok-put.ensures.ok _ refl (c.in_ok-push.ensures.items ∙ ap (λ (e : ℕ). c.self.inside.ends.items ++ e ∷ []) c.in_ok-end.ensures.ok)
 
 pub returns-clause-ok : goal.returns-clause-ok
 returns-clause-ok g c =
     put_more_view c.self.inside.ends.items c.self.inside.items.items c.self.invariant c.last-last.result (c.last-last.ensures ∙ ap (λ (l : List ℕ). last_end 0 l) c.deref.ensures.value)
-    c.args.row.now c.put.new.items.items c.push.new.self.items c.in_ok-put.ensures.ok _ refl (c.in_ok-push.ensures.items ∙ ap (λ (e : ℕ). c.self.inside.ends.items ++ e ∷ []) c.in_ok-end.ensures)
+    c.args.row.now c.put.new.items.items c.push.new.self.items c.in_ok-put.ensures.ok _ refl (c.in_ok-push.ensures.items ∙ ap (λ (e : ℕ). c.self.inside.ends.items ++ e ∷ []) c.in_ok-end.ensures.ok)
     ∙ ap (λ (l : List (List _)). l ++ c.args.row.now ∷ []) c.self.view_is

@@ -1,5 +1,5 @@
-use Rattle.run_tests.proofs.Differing.{left_told, right_told}
-use Rattle.run_tests.proofs.library.cases.current_value.Goals as goal
+use Rattle.library_tests.proofs.Differing.{left_told, right_told}
+use Rattle.library_tests.proofs.cases.current_value.Goals as goal
 
 pub returns-clause-left : goal.returns-clause-left
 returns-clause-left c = left_told _ _ _ c.args.derivations.now c.fold.result _ _ c.fold.ensures.value

@@ -1,5 +1,5 @@
 //! What is told of grammars and inputs that are refused.
-use crate::library::cases::{Case, SUM, is_so};
+use crate::cases::{Case, SUM, is_so};
 use slif_parser::Place;
 use std::test::Fail;
 

@@ -1,5 +1,5 @@
 //! Derivations of an ambiguous input, one after another, each with its value.
-use crate::library::cases::{Case, SUM, is_so};
+use crate::cases::{Case, SUM, is_so};
 use std::test::Fail;
 
 const DIFFERENCES: Case = Case {

@@ -1,6 +1,6 @@
 //! The values of differences.
 ghost use Rattle.std.specs.Prelude.{◌≡◌, Ok, pos};
-ghost use Rattle.run_tests.specs.Differences.{NumberGives, difference};
+ghost use Rattle.library_tests.specs.Differences.{NumberGives, difference};
 
 use slif_parser::{NoMemory, RuleId, Semantics, SymbolId, Token};
 

@@ -1,9 +1,9 @@
 //! Whether a grammar and an input come to what is wanted of them. Each function owns one thing, hands it on by reference, and lets it go
 //! by a call, which is proved once for each type and not part by part.
 ghost use Rattle.std.specs.Prelude.{◌≡◌, ℕ, pos, IfOk, IsSome};
-ghost use Rattle.run_tests.specs.Differences.{IsCurrent, the_tokens, left_first, right_first};
+ghost use Rattle.library_tests.specs.Differences.{IsCurrent, the_tokens, left_first, right_first};
 
-use crate::library::differences::Differences;
+use crate::differences::Differences;
 use slif_parser::{
     Derivations, FoldError, Forest, Grammar, NoMemory, ParseError, Place, Ranking, Reading,
 };

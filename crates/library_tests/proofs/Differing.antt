@@ -10,7 +10,7 @@ use Rattle.valuator.specs.Play.{tokens_of}
 use Rattle.tree_fold.specs.Values.{HasValue}
 use Rattle.slif_parser.specs.Views.{DerivationsOf}
 use Rattle.slif_parser.specs.Readings.{ValueBy}
-use Rattle.run_tests.specs.Differences.{NumberGives, IsCurrent, difference, the_tokens, number_at, minus_of, left_first, right_first}
+use Rattle.library_tests.specs.Differences.{NumberGives, IsCurrent, difference, the_tokens, number_at, minus_of, left_first, right_first}
 
 abbrev same_result : (E : Type 0) → Result ℤ E → Result ℤ E → Type 0
 same_result E r s = r ≡ s

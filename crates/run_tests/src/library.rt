@@ -1,6 +1,0 @@
-//! The library's front.
-mod cases;
-mod cursors;
-mod differences;
-mod read;
-mod refused;
