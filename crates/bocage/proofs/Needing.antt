@@ -26,7 +26,7 @@ use Rattle.forest_parts.specs.Unasked.{IsOutranked, IsAskedFor, Met, Over}
 use Rattle.forest_parts.specs.Needed.{IsBelowAsked}
 use Rattle.forest_parts.proofs.Sets.{at_top, goes, waits_exact}
 use Rattle.forest_parts.proofs.Listed.{leo_known, kept_or_hidden, stays}
-use Rattle.forest_parts.proofs.Outranked.{not_outranked}
+use Rattle.forest_parts.proofs.LeftOut.{not_outranked}
 use Rattle.forest_parts.proofs.Tops.{below_hidden}
 use Rattle.bocage.specs.declared.rows.AlternativeRow.{AlternativeRow}
 use Rattle.bocage.specs.declared.walk.Known.{Known}
