@@ -1,9 +1,0 @@
-use Rattle.std.proofs.Common.{ℕ, ◌≤◌, ◌<◌}
-use Rattle.forest_parts.specs.Unasked.{IsHigher}
-use Rattle.forest_parts.proofs.outranked.has_higher.Given as goal
-
-abbrev pub invariant-loop-rule : goal.invariant-loop-rule
-invariant-loop-rule l = record {
-  low : l.rules.start ≤ l.rule;
-  none : (r : ℕ) → l.rules.start ≤ r → r < l.rule → ¬ IsHigher l.w l.recce l.end l.item r;
-}
