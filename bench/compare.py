@@ -3,7 +3,7 @@
 
     bench/compare.py [--binary crates/slif/out/slif] [--rounds 3] [--only WORD]
 
-JSON, SQL, Lua, CSV, logs, right and left recursion, alone and over the same tokens, one long string, languages of many keywords and of many levels, all values of an
+JSON, SQL, Lua, CSV, logs, right and left recursion, alone, over the same tokens and with ranks between them, one long string, languages of many keywords and of many levels, all values of an
 ambiguous sum, expressions by an operator table, nested brackets. All read the same files in turn. The least times and the greatest memory are printed, and the ratio of the processor times: less than 1 is faster than
 Marpa::R2. The two have to write the same lines, in any order, and as many as there are derivations; bison's parser is a recognizer here. With `--only` those cases are run whose
 name has the word. Debian has Marpa::R2 as libmarpa-r2-perl. Where a case has ten times the size of one before it, the growth of the processor time from that to this is printed, of the program and of Marpa::R2.
@@ -19,6 +19,7 @@ RIGHT = FIRST + "L ::= x L | x\nx ~ 'x'\n"
 LEFT = FIRST + "L ::= L x | x\nx ~ 'x'\n"
 BOTH = FIRST + "S ::= A 'y' | L 'z'\nA ::= A x | x\nL ::= x L | x\nx ~ 'x'\n"
 WAITED = FIRST + "S ::= A 'y' | M\nM ::= L | L 'z'\nA ::= A x | x\nL ::= x L | x\nx ~ 'x'\n"
+RANKED = FIRST + "A ::= A x rank => 1 | L\nL ::= x L | x\nx ~ 'x'\n"
 STATEMENTS = FIRST + """statement ::= exprs ';' | names '=' exprs ';'
 exprs ::= expr+ separator => comma
 names ::= name comma names | name
@@ -42,7 +43,7 @@ def expression(size):
 
 
 def cases():
-    """The name, the grammar, the input, and the number of derivations."""
+    """The name, the grammar, the input, and the number of derivations; and what `--rank` is, if not `rule`."""
     json = (ROOT / "examples/json.slif").read_text()
     operators = (ROOT / "examples/operators.slif").read_text()
     for kilobytes in (10, 100, 1000, 10_000):
@@ -63,10 +64,12 @@ def cases():
         for tokens in (1600, 16_000):
             yield f"levels {count}, {tokens:,}", *inputs.levels(count, tokens), 1
     for length in (50_000, 100_000):
-        yield f"left or right {length:,}, left", BOTH, "x" * length + "y", 1
-        yield f"left or right {length:,}, right", BOTH, "x" * length + "z", 1
-        yield f"left or waited for {length:,}", WAITED, "x" * length + "y", 1
+        yield f"both recursions {length:,}, left", BOTH, "x" * length + "y", 1
+        yield f"both recursions {length:,}, right", BOTH, "x" * length + "z", 1
+        yield f"recursion waited for {length:,}", WAITED, "x" * length + "y", 1
         yield f"names of a statement {length:,}", STATEMENTS, ",".join("n" * length) + ";", 1
+    for length in (2000, 4000, 50_000, 100_000):
+        yield f"recursion by rank {length:,}", RANKED, "x" * length, 1, "high"
     yield "left recursion 1,000,000", LEFT, "x" * 1_000_000, 1
     yield "sum of 11 operands", SUM, "+".join("12345678901"), 16_796
     yield "sum of 12 operands", SUM, "+".join("123456789012"), 58_786
@@ -108,15 +111,17 @@ def main():
           + (f"{'bison s':>11}{'cpu':>8}{'MB':>6}" if bison else "    (bison is not installed)"))
     with tempfile.TemporaryDirectory() as folder:
         grammar, path = pathlib.Path(folder) / "g.slif", pathlib.Path(folder) / "input.txt"
-        for name, source, text, count in cases():
+        for name, source, text, count, *rank in cases():
             if options.only not in name:
                 continue
             grammar.write_text(source)
             path.write_text(text)
-            commands = [[options.binary, "run", "--grammar", str(grammar), "--input", str(path)]]
-            beside = marpa and not name.startswith("keywords 20,000")
+            chosen = ["--rank", *rank] if rank else []
+            commands = [[options.binary, "run", "--grammar", str(grammar), "--input", str(path), *chosen]]
+            # Marpa::R2 takes over three minutes of 20,000 lexemes, and of a long input that ranks choose from time with the square of its length
+            beside = marpa and not name.startswith("keywords 20,000") and not (rank and len(text) > 4000)
             if beside:
-                commands.append(["perl", str(HERE / "marpa_run.pl"), str(grammar), str(path)])
+                commands.append(["perl", str(HERE / "marpa_run.pl"), str(grammar), str(path), *(["high_rule_only"] if rank else [])])
             results = best(commands, options.rounds)
             has_twin = bison and name.split()[0] in glr.GRAMMARS
             counted = best([[glr.build(name, folder), str(path)]], options.rounds)[0] if has_twin else None

@@ -67,15 +67,15 @@ module _ (w : Grammar) (r : Recognizer) (read : IsRead w r) where
         completes whole leo there full lt at waits (down more (advanced leo) refl refl (InSet.Complete there full lt at waits) l.last (omega arith) met)
 
     -- where one above it has its node it has its own
-    under : (item other : Item) → IsAbove r end item other → IsIn end item → item.origin < end → (IsIn end other → other.origin < end → HasNode other) → HasNode item
-    under item other (inl ((x, e, null), q)) there lt met =
+    under : (ranking : Ranking) (item other : Item) → IsAbove w ranking r end item other → IsIn end item → item.origin < end → (IsIn end other → other.origin < end → HasNode other) → HasNode item
+    under ranking item other (inl ((x, e, null), q)) there lt met =
         let next = subst (λ z. IsIn end z → z.origin < end → HasNode z) q met in
         let is = (in_full r read.is end item).0 there in
         Before (next (InSet.Skip there e null) lt) is.spans e (Null null)
-    under item other (inr (full, inl (before, leads))) there lt met =
+    under ranking item other (inr (full, best, inl (before, leads))) there lt met =
         let low = leads_back r.flat (edges_of r) (λ a b c. ⊥) (top_of r) (at_top r read.is) (goes r read.is) 0 leads in
         down leads item refl refl there full lt (λ h. met h (omega arith))
-    under item other (inr (full, inr (still, (waiting, kept, waits, q)))) there lt met =
+    under ranking item other (inr (full, best, inr (still, (waiting, kept, waits, q)))) there lt met =
         let next = subst (λ z. IsIn end z → z.origin < end → HasNode z) q met in
         let at = kept_inside r read.is item.origin waiting (omega arith) kept in
         let low = origin_below r.flat (edges_of r) (top_of r) (at_top r read.is) (goes r read.is) at in
@@ -83,12 +83,12 @@ module _ (w : Grammar) (r : Recognizer) (read : IsRead w r) where
 
     module _ (ranking : Ranking) (keys : List NodeKey) (used : (key : NodeKey) → Contains keys key → IsUsedIn w ranking r key) where
       -- so an item that is asked for has it
-      asked_met : {item : Item} → IsAskedFor r keys end item → IsIn end item → item.origin < end → HasNode item
+      asked_met : {item : Item} → IsAskedFor w ranking r keys end item → IsIn end item → item.origin < end → HasNode item
       asked_met (Met {item = item} h) there lt = met_without ranking ((used_met w ranking r read (node_of item end)).0 (used (node_of item end) h)).1
-      asked_met (Over {item = item} {other = other} above asked) there lt = under item other above there lt (asked_met asked)
+      asked_met (Over {item = item} {other = other} above asked) there lt = under ranking item other above there lt (asked_met asked)
 
       -- and so has what is hidden below one that is asked for
-      pub asked_node : (least : ℕ) (item : Item) → IsBelowAsked r keys end least item → IsHiddenNode w r (at_place end item)
+      pub asked_node : (least : ℕ) (item : Item) → IsBelowAsked w ranking r keys end least item → IsHiddenNode w r (at_place end item)
       asked_node least item (t, (hidden, leads), (late, asked)) =
           let (full, lt) = hidden_whole r.flat (edges_of r) (top_of r) (at_top r read.is) (goes r read.is) hidden in
           let low = leads_back r.flat (edges_of r) (λ a b c. ⊥) (top_of r) (at_top r read.is) (goes r read.is) 0 leads in (

@@ -14,4 +14,5 @@ pub mod Asking
 pub mod Expanding
 pub mod Needing
 pub mod HiddenNodes
+pub mod Allowed
 pub mod Whole

@@ -22,10 +22,11 @@ use Rattle.earley_sets.specs.Below.{LeadsUp}
 use Rattle.earley_sets.proofs.Recognizing.{only}
 use Rattle.forest_parts.specs.declared.parts.Part.{Part}
 use Rattle.forest_parts.specs.Parts.{IsPartAt, IsPartBy, IsWholeOf}
-use Rattle.forest_parts.specs.Unasked.{IsAskedFor, Met, Over}
+use Rattle.forest_parts.specs.Unasked.{IsOutranked, IsAskedFor, Met, Over}
 use Rattle.forest_parts.specs.Needed.{IsBelowAsked}
 use Rattle.forest_parts.proofs.Sets.{at_top, goes, waits_exact}
 use Rattle.forest_parts.proofs.Listed.{leo_known, kept_or_hidden, stays}
+use Rattle.forest_parts.proofs.LeftOut.{not_outranked}
 use Rattle.forest_parts.proofs.Tops.{below_hidden}
 use Rattle.bocage.specs.declared.rows.AlternativeRow.{AlternativeRow}
 use Rattle.bocage.specs.declared.walk.Known.{Known}
@@ -91,13 +92,13 @@ module _ (w : Grammar) (ranking : Ranking) (r : Recognizer) (read : IsRead w r) 
   module _ (le : end ≤ earleme_of r) where
     -- the item of a used node that ends here is asked for, and so is the topmost one that it leads up to
     record AreAsked (item : Item) : Type 0 where
-      itself : IsAskedFor r f.keys.keys end item
-      above : IsWhole r.flat item → (t : Item) → LeadsUp r end item t → IsAskedFor r f.keys.keys end t
+      itself : IsAskedFor w ranking r f.keys.keys end item
+      above : IsWhole r.flat item → (t : Item) → LeadsUp r end item t → IsAskedFor w ranking r f.keys.keys end t
 
     -- where a whole item leads, its only parent does
-    led : {m x : ℕ} {t : Item} (parent : Item) → LeadsTo r.flat (edges_of r) (top_of r) m x t → m < end → InSet r.flat (edges_of r) (top_of r) m parent → after r.flat parent ≡ Some x → AreAsked (advanced parent) → IsAskedFor r f.keys.keys end t
+    led : {m x : ℕ} {t : Item} (parent : Item) → LeadsTo r.flat (edges_of r) (top_of r) m x t → m < end → InSet r.flat (edges_of r) (top_of r) m parent → after r.flat parent ≡ Some x → AreAsked (advanced parent) → IsAskedFor w ranking r f.keys.keys end t
     led {m = m} parent (LeadsTo.Last {item = leo} l none) lt inside e are =
-        subst (λ z. IsAskedFor r f.keys.keys end (advanced z)) (l.only parent inside e) are.itself
+        subst (λ z. IsAskedFor w ranking r f.keys.keys end (advanced z)) (l.only parent inside e) are.itself
     led {m = m} {t = t} parent (LeadsTo.On {item = leo} l more) lt inside e are =
         let same = l.only parent inside e in
         let low = origin_below r.flat (edges_of r) (top_of r) (at_top r read.is) (goes r read.is) inside in
@@ -132,8 +133,8 @@ module _ (w : Grammar) (ranking : Ranking) (r : Recognizer) (read : IsRead w r) 
                 (only r.flat r.edges read.is.flat read.is.forward) read.is.flat.no_rules
                 (leaves_some r.flat w read.is.flat r.edges (λ s p q h. read.is.forward (record { symbol = s; from = p; to = q }) h) ranking)
                 node (leo_known r read.is q (omega arith)) ((used_met w ranking r read node).1 (some, Last met s e is lt s' best)) refl leo l in
-                Over (inr (refl, inl (omega arith, leads))) (led parent leads (omega arith) inside e ih)
-            | inr none ↦ Over (inr (refl, inr ((λ other (before, (leo, l, q)). none leo l), (parent, there, e, refl)))) ih.itself
+                Over (inr (refl, chosen, inl (omega arith, leads))) (led parent leads (omega arith) inside e ih)
+            | inr none ↦ Over (inr (refl, chosen, inr ((λ other (before, (leo, l, q)). none leo l), (parent, there, e, refl)))) ih.itself
           ];
           above = λ full t (before, leads). led parent leads (omega arith) inside e ih;
         }
@@ -143,6 +144,9 @@ module _ (w : Grammar) (ranking : Ranking) (r : Recognizer) (read : IsRead w r) 
 
         whole : Item
         whole = record { rule = rule'; dot = length (rhs_of r.flat rule'); origin = m }
+
+        chosen : ¬ IsOutranked w ranking r end whole
+        chosen = not_outranked w r read.is end le whole ranking (subst (λ z. allowed_by w ranking r.flat (edges_of r) rule' m z) same best)
 
         there : Contains (set_at r m) parent
         there =
@@ -162,9 +166,9 @@ module _ (w : Grammar) (ranking : Ranking) (r : Recognizer) (read : IsRead w r) 
     ]
 
     -- so all that is needed is listed
-    pub needed_are : end ≤ earleme_of r → (items : List Item) → IsListOf (IsBelowAsked r f.keys.keys end least) items → AreNeeded w ranking r end least items
+    pub needed_are : end ≤ earleme_of r → (items : List Item) → IsListOf (IsBelowAsked w ranking r f.keys.keys end least) items → AreNeeded w ranking r end least items
     needed_are le items lists = record {
-      hidden = λ item h. below_hidden r read.is f.keys.keys end least item ((lists.exact item).0 h);
+      hidden = λ item h. below_hidden w ranking r read.is f.keys.keys end least item ((lists.exact item).0 h);
       all = λ t item stands used. (let (some, met) = (used_met w ranking r read (node_of t end)).0 used in (lists.exact item).1 (t, stands, (late t used, (are_asked le met some refl).itself)));
     }
 

@@ -9,6 +9,7 @@ use Rattle.recognizer_model.specs.Leo.{IsHidden}
 use Rattle.recognizer_model.specs.Chosen.{allowed_by}
 use Rattle.recognizer_model.specs.Nodes.{Placed, IsExpanded}
 use Rattle.earley_sets.specs.Recognizer.{Recognizer, earleme_of, edges_of, top_of}
+use Rattle.earley_sets.specs.Below.{StandsBelow}
 use Rattle.forest_model.specs.Forest.{Forest}
 use Rattle.bocage.specs.Walk.{IsUsedIn}
 
@@ -25,9 +26,19 @@ abbrev pub IsHiddenNode : Grammar → Recognizer → Placed → Type 0
 IsHiddenNode w r p =
     IsHidden r.flat (edges_of r) (top_of r) p.place p.item × IsUsedIn w NoRanks r (node_of p.item p.place)
 
--- a hidden item of both kinds
+-- a hidden item below a topmost one whose rule the ranking allows over its span
+abbrev pub IsBelowAllowed : Grammar → Ranking → Recognizer → Placed → Type 0
+IsBelowAllowed w ranking r p =
+    (topmost : Item) × StandsBelow r p.place topmost p.item ×
+    allowed_by w ranking r.flat (edges_of r) topmost.rule topmost.origin p.place
+
+-- such an item that is that of a node, too
+abbrev pub IsChosenHidden : Grammar → Ranking → Recognizer → Placed → Type 0
+IsChosenHidden w ranking r p = IsHiddenNode w r p × IsBelowAllowed w ranking r p
+
+-- and an expanded one
 abbrev pub IsGivenIn : Grammar → Ranking → Recognizer → Placed → Type 0
-IsGivenIn w ranking r p = IsExpandedIn w ranking r p × IsHiddenNode w r p
+IsGivenIn w ranking r p = IsExpandedIn w ranking r p × IsChosenHidden w ranking r p
 
 -- such an item of one place
 abbrev pub IsGivenAt : Grammar → Ranking → Recognizer → (end : ℕ) → Item → Type 0

@@ -326,6 +326,8 @@ fn visit_end<'a, L: Ledger>(
     let hidden = list_needed(
         alloc,
         recce,
+        w,
+        ranking,
         &found.keys,
         end,
         least,

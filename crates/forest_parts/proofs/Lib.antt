@@ -7,6 +7,7 @@ pub mod Ranks
 pub mod Spans
 pub mod Listed
 pub mod NodeKeys
+pub mod LeftOut
 pub mod Counting
 pub mod Lowest
 pub mod Tops

@@ -3,6 +3,8 @@ use Rattle.std.proofs.Common.{◌≡◌, ◌⊎◌, inl, inr, ℕ, zero, suc, �
 use Rattle.std.proofs.lemmas.Bool.{cases_lt}
 use Rattle.std.proofs.lemmas.List.Elements.{Contains-append_left}
 use Rattle.finite_sets.proofs.Lists.{Contains-none, got_item, got_at}
+use Rattle.grammar_model.specs.declared.Ranking.{Ranking}
+use Rattle.grammar_model.specs.Grammar.{Grammar}
 use Rattle.recognizer_model.specs.declared.Item.{Item}
 use Rattle.recognizer_model.specs.declared.NodeKey.{NodeKey}
 use Rattle.recognizer_model.specs.Below.{node_of}
@@ -76,21 +78,21 @@ module _ (r : Recognizer) where
       }
 
 -- of these items the first k are unmet, and what stands above them is there
-pub record AreUnaskedTo (r : Recognizer) (keys : List NodeKey) (end : ℕ) (items : List Item) (k : ℕ) : Type 0 where
+pub record AreUnaskedTo (w : Grammar) (ranking : Ranking) (r : Recognizer) (keys : List NodeKey) (end : ℕ) (items : List Item) (k : ℕ) : Type 0 where
   pub within : k ≤ length items
   pub placed : (item : Item) → Contains items item → IsPlaced r item
   pub unmet : (i : ℕ) (item : Item) → i < k → slice_get items i ≡ Some item → ¬ Contains keys (node_of item end)
-  pub closed : (i : ℕ) (item other : Item) → i < k → slice_get items i ≡ Some item → IsAbove r end item other → Contains items other
+  pub closed : (i : ℕ) (item other : Item) → i < k → slice_get items i ≡ Some item → IsAbove w ranking r end item other → Contains items other
 
-module _ (r : Recognizer) (keys : List NodeKey) (end : ℕ) where
-  pub unasked_none : (items : List Item) → items ≡ [] → AreUnasked r keys end items
+module _ (w : Grammar) (ranking : Ranking) (r : Recognizer) (keys : List NodeKey) (end : ℕ) where
+  pub unasked_none : (items : List Item) → items ≡ [] → AreUnasked w ranking r keys end items
   unasked_none items e = record {
     placed = λ x h. absurd (Contains-none x (subst (λ l. Contains l x) e h));
     unmet = λ x h. absurd (Contains-none x (subst (λ l. Contains l x) e h));
     closed = λ x y h. absurd (Contains-none x (subst (λ l. Contains l x) e h));
   }
 
-  pub unasked_begun : (old new : List Item) (item : Item) → AreUnasked r keys end old → Adds old new item → IsPlaced r item → AreUnaskedTo r keys end new (length old)
+  pub unasked_begun : (old new : List Item) (item : Item) → AreUnasked w ranking r keys end old → Adds old new item → IsPlaced r item → AreUnaskedTo w ranking r keys end new (length old)
   unasked_begun old new item are adds is =
       let (more, e) = Adds-begins old new item adds in
       let back : (i : ℕ) (x : Item) → i < length old → slice_get new i ≡ Some x → Contains old x = λ i x lt at. got_item old i x (sym (get_below old more i x (subst (λ l. slice_get l i ≡ Some x) e at) lt)) in
@@ -101,7 +103,7 @@ module _ (r : Recognizer) (keys : List NodeKey) (end : ℕ) where
         closed = λ i x y lt at above. kept r old new (more, e) y (are.closed x y (back i x lt at) above);
       }
 
-  pub unasked_more : (items new : List Item) (k : ℕ) (item : Item) → AreUnaskedTo r keys end items k → slice_get items k ≡ Some item → (¬ Contains keys (node_of item end)) → Takes r (IsAbove r end item) items new → AreUnaskedTo r keys end new (k + 1)
+  pub unasked_more : (items new : List Item) (k : ℕ) (item : Item) → AreUnaskedTo w ranking r keys end items k → slice_get items k ≡ Some item → (¬ Contains keys (node_of item end)) → Takes r (IsAbove w ranking r end item) items new → AreUnaskedTo w ranking r keys end new (k + 1)
   unasked_more items new k item are at unmet t =
       let (more, e) = t.begins in
       let there = got_item items k item (sym at) in
@@ -117,11 +119,11 @@ module _ (r : Recognizer) (keys : List NodeKey) (end : ℕ) where
         ];
         closed = λ i x y lt here above. elim (cases_lt i k) [
           | inl less ↦ kept r items new (more, e) y (are.closed i x y less (back i x (omega arith) here) above)
-          | inr ge ↦ (let q : i ≡ k = omega arith in t.all y (subst (λ z. IsAbove r end z y) (sym (last i x q (back i x (omega arith) here))) above))
+          | inr ge ↦ (let q : i ≡ k = omega arith in t.all y (subst (λ z. IsAbove w ranking r end z y) (sym (last i x q (back i x (omega arith) here))) above))
         ];
       }
 
-  pub unasked_done : (items : List Item) (k : ℕ) → AreUnaskedTo r keys end items k → length items ≤ k → AreUnasked r keys end items
+  pub unasked_done : (items : List Item) (k : ℕ) → AreUnaskedTo w ranking r keys end items k → length items ≤ k → AreUnasked w ranking r keys end items
   unasked_done items k are le = record {
     placed = are.placed;
     unmet = λ x h. (let (i, at) = found_at items x h in let (below, same) = got_at items i x x (sym at) in are.unmet i x (omega arith) at);
@@ -131,53 +133,53 @@ module _ (r : Recognizer) (keys : List NodeKey) (end : ℕ) where
 -- ITEMS THAT ARE ASKED FOR
 
 -- no item without a node is
-pub unasked_never : (r : Recognizer) (keys : List NodeKey) (end : ℕ) (items : List Item) → AreUnasked r keys end items → {item : Item} → Contains items item → IsAskedFor r keys end item → ⊥
-unasked_never r keys end items un c (Met {item = item} h) = un.unmet item c h
-unasked_never r keys end items un c (Over {item = item} {other = other} above a) = unasked_never r keys end items un (un.closed item other c above) a
+pub unasked_never : (w : Grammar) (ranking : Ranking) (r : Recognizer) (keys : List NodeKey) (end : ℕ) (items : List Item) → AreUnasked w ranking r keys end items → {item : Item} → Contains items item → IsAskedFor w ranking r keys end item → ⊥
+unasked_never w ranking r keys end items un c (Met {item = item} h) = un.unmet item c h
+unasked_never w ranking r keys end items un c (Over {item = item} {other = other} above a) = unasked_never w ranking r keys end items un (un.closed item other c above) a
 
-module _ (r : Recognizer) (keys : List NodeKey) (end : ℕ) where
+module _ (w : Grammar) (ranking : Ranking) (r : Recognizer) (keys : List NodeKey) (end : ℕ) where
   -- where one of them is asked for, the first of those that were put is
   abbrev pub LeadBack : (old items : List Item) → Item → Type 0
-  LeadBack old items item = (x : Item) → Contains items x → Contains old x ⊎ (IsAskedFor r keys end x → IsAskedFor r keys end item)
+  LeadBack old items item = (x : Item) → Contains items x → Contains old x ⊎ (IsAskedFor w ranking r keys end x → IsAskedFor w ranking r keys end item)
 
   pub back_begun : (old new : List Item) (item : Item) → Adds old new item → LeadBack old new item
-  back_begun old new item adds x h = elim ((Adds-has old new item x adds).0 h) [ inl o ↦ inl o | inr e ↦ inr (λ a. subst (IsAskedFor r keys end) (sym e) a) ]
+  back_begun old new item adds x h = elim ((Adds-has old new item x adds).0 h) [ inl o ↦ inl o | inr e ↦ inr (λ a. subst (IsAskedFor w ranking r keys end) (sym e) a) ]
 
-  pub back_more : (old items new : List Item) (item next : Item) → AreUnasked r keys end old → LeadBack old items item → Contains items next → Takes r (IsAbove r end next) items new → LeadBack old new item
+  pub back_more : (old items new : List Item) (item next : Item) → AreUnasked w ranking r keys end old → LeadBack old items item → Contains items next → Takes r (IsAbove w ranking r end next) items new → LeadBack old new item
   back_more old items new item next un back there t x h = elim (t.only x h) [
     | inl o ↦ back x o
     | inr above ↦ elim (back next there) [ inl o ↦ inl (un.closed next x o above) | inr f ↦ inr (λ a. f (Over above a)) ]
   ]
 
-  pub back_asked : (old items : List Item) (item next : Item) → AreUnasked r keys end old → LeadBack old items item → Contains items next → IsAskedFor r keys end next → IsAskedFor r keys end item
-  back_asked old items item next un back there a = elim (back next there) [ inl o ↦ absurd (unasked_never r keys end old un o a) | inr f ↦ f a ]
+  pub back_asked : (old items : List Item) (item next : Item) → AreUnasked w ranking r keys end old → LeadBack old items item → Contains items next → IsAskedFor w ranking r keys end next → IsAskedFor w ranking r keys end item
+  back_asked old items item next un back there a = elim (back next there) [ inl o ↦ absurd (unasked_never w ranking r keys end old un o a) | inr f ↦ f a ]
 
   -- what is told of one item more
-  pub tells_unasked : (unasked unasked' asked : List Item) (item : Item) → AreParted r keys end unasked asked → ((x : Item) → Contains unasked x → Contains unasked' x) → AreUnasked r keys end unasked' → Contains unasked' item →
-      Tells r keys end (λ x. x ≡ item) unasked asked unasked' asked
+  pub tells_unasked : (unasked unasked' asked : List Item) (item : Item) → AreParted w ranking r keys end unasked asked → ((x : Item) → Contains unasked x → Contains unasked' x) → AreUnasked w ranking r keys end unasked' → Contains unasked' item →
+      Tells w ranking r keys end (λ x. x ≡ item) unasked asked unasked' asked
   tells_unasked unasked unasked' asked item are kept un there = record {
     parted = record { are_unasked = un; are_asked = are.are_asked };
     keeps = λ x h. elim h [ inl u ↦ inl (kept x u) | inr a ↦ inr a ];
     tells = λ x e. inl (subst (Contains unasked') (sym e) there);
   }
 
-  pub tells_asked : (unasked asked asked' : List Item) (item : Item) → AreParted r keys end unasked asked → Adds asked asked' item → IsAskedFor r keys end item → Tells r keys end (λ x. x ≡ item) unasked asked unasked asked'
+  pub tells_asked : (unasked asked asked' : List Item) (item : Item) → AreParted w ranking r keys end unasked asked → Adds asked asked' item → IsAskedFor w ranking r keys end item → Tells w ranking r keys end (λ x. x ≡ item) unasked asked unasked asked'
   tells_asked unasked asked asked' item are adds is = record {
-    parted = record { are_unasked = are.are_unasked; are_asked = λ x h. elim ((Adds-has asked asked' item x adds).0 h) [ inl o ↦ are.are_asked x o | inr e ↦ subst (IsAskedFor r keys end) e is ] };
+    parted = record { are_unasked = are.are_unasked; are_asked = λ x h. elim ((Adds-has asked asked' item x adds).0 h) [ inl o ↦ are.are_asked x o | inr e ↦ subst (IsAskedFor w ranking r keys end) e is ] };
     keeps = λ x h. elim h [ inl u ↦ inl u | inr a ↦ inr ((Adds-has asked asked' item x adds).1 (inl a)) ];
     tells = λ x e. inr ((Adds-has asked asked' item x adds).1 (inr (sym e)));
   }
 
   -- what was told already
-  pub tells_none : (P : Item → Type 0) (unasked asked : List Item) → AreParted r keys end unasked asked → ((x : Item) → P x → IsTold unasked asked x) → Tells r keys end P unasked asked unasked asked
+  pub tells_none : (P : Item → Type 0) (unasked asked : List Item) → AreParted w ranking r keys end unasked asked → ((x : Item) → P x → IsTold unasked asked x) → Tells w ranking r keys end P unasked asked unasked asked
   tells_none P unasked asked are told = record { parted = are; keeps = λ x h. h; tells = told }
 
-  pub tells_of : (P Q : Item → Type 0) (unasked asked unasked' asked' : List Item) → ((x : Item) → Q x → P x) → Tells r keys end P unasked asked unasked' asked' → Tells r keys end Q unasked asked unasked' asked'
+  pub tells_of : (P Q : Item → Type 0) (unasked asked unasked' asked' : List Item) → ((x : Item) → Q x → P x) → Tells w ranking r keys end P unasked asked unasked' asked' → Tells w ranking r keys end Q unasked asked unasked' asked'
   tells_of P Q unasked asked unasked' asked' f t = record { parted = t.parted; keeps = t.keeps; tells = λ x q. t.tells x (f x q) }
 
   -- one item more of a list
-  pub tells_more : (R : Item → Item → Type 0) (ys : List Item) (k : ℕ) (u a u' a' u'' a'' : List Item) (y : Item) → Tells r keys end (ByFirst R ys k) u a u' a' → slice_get ys k ≡ Some y → Tells r keys end (R y) u' a' u'' a'' →
-      Tells r keys end (ByFirst R ys (k + 1)) u a u'' a''
+  pub tells_more : (R : Item → Item → Type 0) (ys : List Item) (k : ℕ) (u a u' a' u'' a'' : List Item) (y : Item) → Tells w ranking r keys end (ByFirst R ys k) u a u' a' → slice_get ys k ≡ Some y → Tells w ranking r keys end (R y) u' a' u'' a'' →
+      Tells w ranking r keys end (ByFirst R ys (k + 1)) u a u'' a''
   tells_more R ys k u a u' a' u'' a'' y first at t = record {
     parted = t.parted;
     keeps = λ x h. t.keeps x (first.keeps x h);

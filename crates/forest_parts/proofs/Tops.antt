@@ -1,6 +1,8 @@
 -- Topmost items that may be those of nodes, and the hidden items below them.
 use Rattle.std.proofs.Common.{◌≡◌, ◌⊎◌, inl, inr, ◌↔◌, ℕ, ◌+◌, ◌≤◌, List, length, Contains, refl, sym, subst, arith, Vec, Global, Result, Ok, Err}
 use Rattle.std.specs.Prelude.{IfOk, OnErr}
+use Rattle.grammar_model.specs.declared.Ranking.{Ranking}
+use Rattle.grammar_model.specs.Grammar.{Grammar}
 use Rattle.recognizer_model.specs.declared.Item.{Item}
 use Rattle.recognizer_model.specs.Items.{advanced}
 use Rattle.recognizer_model.specs.Leo.{LeadsTo}
@@ -32,16 +34,16 @@ module _ (r : Recognizer) (is : IsRecognizer r) (unasked : List Item) (end least
   )
 
   -- where it is told which of them are asked for, exactly the hidden ones below those are listed
-  module _ (keys : List NodeKey) (un : AreUnasked r keys end unasked) (told : (t : Item) → IsTopmostFrom r end least t → Contains unasked t ⊎ IsAskedFor r keys end t) where
-    top_asked : (t : Item) → Contains tops t → (least ≤ t.origin) × IsAskedFor r keys end t
+  module _ (w : Grammar) (ranking : Ranking) (keys : List NodeKey) (un : AreUnasked w ranking r keys end unasked) (told : (t : Item) → IsTopmostFrom r end least t → Contains unasked t ⊎ IsAskedFor w ranking r keys end t) where
+    top_asked : (t : Item) → Contains tops t → (least ≤ t.origin) × IsAskedFor w ranking r keys end t
     top_asked t h = let (item, kept, (up, (late, free))) = (are.tops t).0 h in (late, elim (told t ((item, (kept.0, kept.1, up.0, up.1)), late)) [ inl c ↦ absurd (free c) | inr a ↦ a ])
 
-    asked_top : (t item : Item) → StandsBelow r end t item → least ≤ t.origin → IsAskedFor r keys end t → Contains tops t
+    asked_top : (t item : Item) → StandsBelow r end t item → least ≤ t.origin → IsAskedFor w ranking r keys end t → Contains tops t
     asked_top t item stands late asked =
         let (b, (c, full, lt, leads)) = bottom_of r is end le {j = end} {item = item} {t = t} refl (stands.0).0 (λ c. (stands.0).1 ((kept_exact r is end le item).0 c)) stands.1 in
-        (are.tops t).1 (b, (c, full), ((lt, leads), (late, λ c. unasked_never r keys end unasked un c asked)))
+        (are.tops t).1 (b, (c, full), ((lt, leads), (late, λ c. unasked_never w ranking r keys end unasked un c asked)))
 
-    pub below_exact : (items : List Item) → IsListOf (StandsBelowOf r end tops) items → IsListOf (IsBelowAsked r keys end least) items
+    pub below_exact : (items : List Item) → IsListOf (StandsBelowOf r end tops) items → IsListOf (IsBelowAsked w ranking r keys end least) items
     below_exact items lists = record {
       once = lists.once;
       exact = λ item. (
@@ -52,13 +54,13 @@ module _ (r : Recognizer) (is : IsRecognizer r) (unasked : List Item) (end least
 
     -- so as many are counted as there are, whether there was memory for them or not
     pub below_counted : {F : Type 0} (old new : ℕ) (o : Result (Vec Item Global) F) → IfOk o (λ items. IsListOf (StandsBelowOf r end tops) items.items) → IfOk o (λ items. new ≡ old + length items.items) → OnErr o (new ≡ old) →
-        RisesWithin (IsBelowAsked r keys end least) old new
+        RisesWithin (IsBelowAsked w ranking r keys end least) old new
     below_counted old new (Ok items) lists more err = let all = below_exact items.items lists in (length items.items, (items.items, all.once, (λ item h. (all.exact item).0 h), refl), more)
-    below_counted old new (Err e) lists more err = (0, none_at_least (IsBelowAsked r keys end least), (let same : new ≡ old = err in omega arith))
+    below_counted old new (Err e) lists more err = (0, none_at_least (IsBelowAsked w ranking r keys end least), (let same : new ≡ old = err in omega arith))
 
 -- what is below one that is asked for is hidden, and begins no earlier
-pub below_hidden : (r : Recognizer) (is : IsRecognizer r) (keys : List NodeKey) (end least : ℕ) (item : Item) → IsBelowAsked r keys end least item → IsHiddenFrom r end least item
-below_hidden r is keys end least item (t, (hidden, leads), (late, asked)) = (
+pub below_hidden : (w : Grammar) (ranking : Ranking) (r : Recognizer) (is : IsRecognizer r) (keys : List NodeKey) (end least : ℕ) (item : Item) → IsBelowAsked w ranking r keys end least item → IsHiddenFrom r end least item
+below_hidden w ranking r is keys end least item (t, (hidden, leads), (late, asked)) = (
   hidden,
   (let low = leads_back r.flat (edges_of r) (λ a b c. ⊥) (top_of r) (at_top r is) (goes r is) 0 leads in omega arith),
 )

@@ -1,5 +1,7 @@
 -- Topmost items that nodes ask for, as those tell that were met so far, and the hidden items below them.
 use Rattle.std.specs.Prelude.{◌≡◌, ℕ, ◌≤◌, List, Contains, ◌↔◌}
+use Rattle.grammar_model.specs.declared.Ranking.{Ranking}
+use Rattle.grammar_model.specs.Grammar.{Grammar}
 use Rattle.recognizer_model.specs.declared.Item.{Item}
 use Rattle.recognizer_model.specs.declared.NodeKey.{NodeKey}
 use Rattle.recognizer_model.specs.Items.{IsWhole}
@@ -21,7 +23,7 @@ pub record AreTops (r : Recognizer) (unasked : List Item) (end least : ℕ) (abo
   pub bottoms : (item : Item) → Contains below item ↔ ((other : Item) × (Contains (set_at r end) other × IsWhole r.flat other) × ((item ≡ other) × ((topmost : Item) × LeadsOver r unasked end least other topmost)))
 
 -- a hidden item below a topmost one that begins at `least` or after it, and is asked for
-abbrev pub IsBelowAsked : Recognizer → List NodeKey → (end least : ℕ) → Item → Type 0
-IsBelowAsked r keys end least item =
+abbrev pub IsBelowAsked : Grammar → Ranking → Recognizer → List NodeKey → (end least : ℕ) → Item → Type 0
+IsBelowAsked w ranking r keys end least item =
     (topmost : Item) × StandsBelow r end topmost item ×
-    ((least ≤ topmost.origin) × IsAskedFor r keys end topmost)
+    ((least ≤ topmost.origin) × IsAskedFor w ranking r keys end topmost)

@@ -6,6 +6,7 @@ mod gather;
 mod groups;
 mod keys;
 mod needed;
+mod outranked;
 mod parts;
 mod unasked;
 

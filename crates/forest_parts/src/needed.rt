@@ -2,6 +2,7 @@
 ghost use Rattle.std.specs.Prelude.{◌≡◌, ℕ, ◌≤◌, ◌⊎◌, ◌↔◌, IfOk, OnOk, IsTrue, Contains};
 ghost use Rattle.recognizer_model.specs.declared.Item.{Item as TheItem};
 ghost use Rattle.recognizer_model.specs.Flat.{IsRule};
+ghost use Rattle.recognizer_model.specs.FlatForm.{IsFlatOf};
 ghost use Rattle.recognizer_model.specs.Counts.{IsListOf};
 ghost use Rattle.earley_sets.specs.Recognizer.{IsRecognizer, earleme_of};
 ghost use Rattle.forest_parts.specs.Hidden.{RisesWithin};
@@ -10,6 +11,8 @@ ghost use Rattle.forest_parts.specs.Needed.{MayBeUsed, LeadsOver, AreTops, IsBel
 use crate::NodeKeys;
 use crate::unasked::{ItemSet, list_unasked};
 use earley_sets::Recce;
+use grammar_core::Written;
+use grammar_model::Ranking;
 use recognizer_model::Item;
 use slif_base::Steps;
 use std::alloc::{AllocError, Global};
@@ -75,6 +78,8 @@ fn list_tops(
 pub fn list_needed<L: Ledger>(
     alloc: Global,
     recce: &Recce<'_>,
+    w: &Written,
+    ranking: Ranking,
     keys: &NodeKeys,
     end: u32,
     least: u32,
@@ -83,13 +88,14 @@ pub fn list_needed<L: Ledger>(
     steps: &mut Steps<L>,
 ) -> Result<Vec<Item>, AllocError>
     requires is { IsRecognizer recce.now }
+    requires flat { IsFlatOf recce.now.flat w.now }
     requires end { end ≤ earleme_of recce.now }
     ensures exact { IfOk result (λ items.
-        IsListOf (IsBelowAsked recce.now keys.now.keys end least) items.items) }
-    ensures counted { RisesWithin (IsBelowAsked recce.now keys.now.keys end least)
+        IsListOf (IsBelowAsked w.now ranking recce.now keys.now.keys end least) items.items) }
+    ensures counted { RisesWithin (IsBelowAsked w.now ranking recce.now keys.now.keys end least)
         steps.old steps.new }
 {
-    let unasked = list_unasked(alloc, recce, keys, end, least)?;
+    let unasked = list_unasked(alloc, recce, w, ranking, keys, end, least)?;
     list_tops(recce, &unasked, end, least, tops, bottoms)?;
     drop(unasked);
     recce.below(alloc, end, tops, bottoms, steps)

@@ -2,16 +2,20 @@
 ghost use Rattle.std.specs.Prelude.{◌≡◌, ℕ, ◌≤◌, ◌↔◌, ◌⊎◌, IfOk, OnOk, IsTrue, Contains, Some};
 ghost use Rattle.recognizer_model.specs.declared.Item.{Item as TheItem};
 ghost use Rattle.recognizer_model.specs.Flat.{IsRule, lhs_of, IsNullable};
+ghost use Rattle.recognizer_model.specs.FlatForm.{IsFlatOf};
 ghost use Rattle.recognizer_model.specs.Items.{after, advanced as item_after, IsWhole};
 ghost use Rattle.recognizer_model.specs.Below.{node_of};
 ghost use Rattle.earley_sets.specs.Recognizer.{IsRecognizer, earleme_of, set_at};
 ghost use Rattle.earley_sets.specs.Kept.{IsItem};
 ghost use Rattle.earley_sets.specs.Below.{LeadsUp};
-ghost use Rattle.forest_parts.specs.Unasked.{AreUnasked, IsAbove, IsOver, IsAfterNothing, IsAwaiting, Takes};
+ghost use Rattle.forest_parts.specs.Unasked.{AreUnasked, IsAbove, IsOver, IsOverChosen, IsAfterNothing, IsAwaiting, Takes};
 ghost use Rattle.forest_parts.specs.Unasked.{AreParted, Tells, IsAskedFor, IsTopmostFrom};
 
 use crate::NodeKeys;
+use crate::outranked::is_outranked;
 use earley_sets::Recce;
+use grammar_core::Written;
+use grammar_model::Ranking;
 use indexmap::IndexSet;
 use leo_items::{NearHasher, advanced};
 use recognizer_model::{Item, NodeKey};
@@ -91,28 +95,55 @@ fn put_over(
     }
 }
 
-// Puts the items of which one has a node where an item has one.
-fn put_above(
+// Puts what a whole item leads to, unless the ranking leaves it out.
+fn put_chosen(
     recce: &Recce<'_>,
+    w: &Written,
+    ranking: Ranking,
     end: u32,
     item: Item,
     items: &mut ItemSet,
 ) -> Result<(), AllocFailed<Item>>
     requires is { IsRecognizer recce.now }
+    requires flat { IsFlatOf recce.now.flat w.now }
+    requires end { end ≤ earleme_of recce.now }
+    requires rule { IsRule recce.now.flat item.rule }
+    requires origin { item.origin ≤ earleme_of recce.now }
+    ensures { OnOk result (Takes recce.now (IsOverChosen w.now ranking recce.now end item) items.old.keys items.new.keys) }
+{
+    if is_outranked(recce, w, ranking, end, item) {
+        return Ok(());
+    }
+    put_over(recce, end, item, items)
+}
+
+// Puts the items of which one has a node where an item has one.
+fn put_above(
+    recce: &Recce<'_>,
+    w: &Written,
+    ranking: Ranking,
+    end: u32,
+    item: Item,
+    items: &mut ItemSet,
+) -> Result<(), AllocFailed<Item>>
+    requires is { IsRecognizer recce.now }
+    requires flat { IsFlatOf recce.now.flat w.now }
     requires end { end ≤ earleme_of recce.now }
     requires item { IsItem recce.now.flat item }
     requires origin { item.origin ≤ earleme_of recce.now }
-    ensures { OnOk result (Takes recce.now (IsAbove recce.now end item) items.old.keys items.new.keys) }
+    ensures { OnOk result (Takes recce.now (IsAbove w.now ranking recce.now end item) items.old.keys items.new.keys) }
 {
     match recce.flat().part(item.rule, item.dot) {
         Some(symbol) => put_after_nothing(recce, item, symbol, items),
-        None => put_over(recce, end, item, items),
+        None => put_chosen(recce, w, ranking, end, item, items),
     }
 }
 
 // Adds an item and all that stand above it, if no node is among them; else notes that the item may be asked for.
 fn note_unasked(
     recce: &Recce<'_>,
+    w: &Written,
+    ranking: Ranking,
     keys: &NodeKeys,
     end: u32,
     item: Item,
@@ -120,11 +151,12 @@ fn note_unasked(
     asked: &mut ItemSet,
 ) -> Result<(), AllocFailed<Item>>
     requires is { IsRecognizer recce.now }
+    requires flat { IsFlatOf recce.now.flat w.now }
     requires end { end ≤ earleme_of recce.now }
     requires item { IsItem recce.now.flat item }
     requires origin { item.origin ≤ earleme_of recce.now }
-    requires parted { AreParted recce.now keys.now.keys end unasked.old.keys asked.old.keys }
-    ensures { OnOk result (Tells recce.now keys.now.keys end (λ x. x ≡ item)
+    requires parted { AreParted w.now ranking recce.now keys.now.keys end unasked.old.keys asked.old.keys }
+    ensures { OnOk result (Tells w.now ranking recce.now keys.now.keys end (λ x. x ≡ item)
         unasked.old.keys asked.old.keys unasked.new.keys asked.new.keys) }
 {
     let first = unasked.len();
@@ -138,7 +170,7 @@ fn note_unasked(
             asked.insert(item)?;
             return Ok(());
         }
-        put_above(recce, end, next, unasked)?;
+        put_above(recce, w, ranking, end, next, unasked)?;
     }
     let _count = unasked.len();
     unreachable!()
@@ -147,6 +179,8 @@ fn note_unasked(
 // Looks at the topmost item that an item leads up to, if it begins at `least` or after it.
 fn look_at_top(
     recce: &Recce<'_>,
+    w: &Written,
+    ranking: Ranking,
     keys: &NodeKeys,
     end: u32,
     least: u32,
@@ -155,16 +189,17 @@ fn look_at_top(
     asked: &mut ItemSet,
 ) -> Result<(), AllocFailed<Item>>
     requires is { IsRecognizer recce.now }
+    requires flat { IsFlatOf recce.now.flat w.now }
     requires end { end ≤ earleme_of recce.now }
     requires rule { IsRule recce.now.flat item.rule }
-    requires parted { AreParted recce.now keys.now.keys end unasked.old.keys asked.old.keys }
-    ensures { OnOk result (Tells recce.now keys.now.keys end
+    requires parted { AreParted w.now ranking recce.now keys.now.keys end unasked.old.keys asked.old.keys }
+    ensures { OnOk result (Tells w.now ranking recce.now keys.now.keys end
         (λ x. LeadsUp recce.now end item x × (least ≤ x.origin))
         unasked.old.keys asked.old.keys unasked.new.keys asked.new.keys) }
 {
     if let Some(top) = recce.topmost(end, item) {
         if least <= top.origin && !asked.contains(&top) {
-            note_unasked(recce, keys, end, top, unasked, asked)?;
+            note_unasked(recce, w, ranking, keys, end, top, unasked, asked)?;
         }
     }
     Ok(())
@@ -173,6 +208,8 @@ fn look_at_top(
 // Looks at all topmost items.
 fn look_at_tops(
     recce: &Recce<'_>,
+    w: &Written,
+    ranking: Ranking,
     keys: &NodeKeys,
     end: u32,
     least: u32,
@@ -180,14 +217,25 @@ fn look_at_tops(
     asked: &mut ItemSet,
 ) -> Result<(), AllocFailed<Item>>
     requires is { IsRecognizer recce.now }
+    requires flat { IsFlatOf recce.now.flat w.now }
     requires end { end ≤ earleme_of recce.now }
-    requires parted { AreParted recce.now keys.now.keys end unasked.old.keys asked.old.keys }
-    ensures { OnOk result (Tells recce.now keys.now.keys end (IsTopmostFrom recce.now end least)
+    requires parted { AreParted w.now ranking recce.now keys.now.keys end unasked.old.keys asked.old.keys }
+    ensures { OnOk result (Tells w.now ranking recce.now keys.now.keys end (IsTopmostFrom recce.now end least)
         unasked.old.keys asked.old.keys unasked.new.keys asked.new.keys) }
 {
     let set = recce.whole(end);
     for k in 0..set.len() {
-        look_at_top(recce, keys, end, least, set.at(k), unasked, asked)?;
+        look_at_top(
+            recce,
+            w,
+            ranking,
+            keys,
+            end,
+            least,
+            set.at(k),
+            unasked,
+            asked,
+        )?;
     }
     Ok(())
 }
@@ -196,20 +244,32 @@ fn look_at_tops(
 pub fn list_unasked(
     alloc: Global,
     recce: &Recce<'_>,
+    w: &Written,
+    ranking: Ranking,
     keys: &NodeKeys,
     end: u32,
     least: u32,
 ) -> Result<ItemSet, AllocError>
     requires is { IsRecognizer recce.now }
+    requires flat { IsFlatOf recce.now.flat w.now }
     requires end { end ≤ earleme_of recce.now }
-    ensures unasked { IfOk result (λ items. AreUnasked recce.now keys.now.keys end items.keys) }
+    ensures unasked { IfOk result (λ items. AreUnasked w.now ranking recce.now keys.now.keys end items.keys) }
     ensures asked { IfOk result (λ items. (top : TheItem) →
         IsTopmostFrom recce.now end least top →
-        Contains items.keys top ⊎ IsAskedFor recce.now keys.now.keys end top) }
+        Contains items.keys top ⊎ IsAskedFor w.now ranking recce.now keys.now.keys end top) }
 {
     let mut unasked = IndexSet::with_hasher(alloc, BuildHasherDefault::new());
     let mut asked = IndexSet::with_hasher(alloc, BuildHasherDefault::new());
-    look_at_tops(recce, keys, end, least, &mut unasked, &mut asked)?;
+    look_at_tops(
+        recce,
+        w,
+        ranking,
+        keys,
+        end,
+        least,
+        &mut unasked,
+        &mut asked,
+    )?;
     drop(asked);
     Ok(unasked)
 }

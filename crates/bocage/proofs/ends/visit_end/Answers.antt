@@ -13,6 +13,7 @@ use Rattle.bocage.proofs.Visiting.{none_visited}
 use Rattle.forest_parts.proofs.Counting.{rises_of, rises_none}
 use Rattle.forest_parts.proofs.Tops.{below_hidden}
 use Rattle.bocage.proofs.HiddenNodes.{asked_node}
+use Rattle.bocage.proofs.Allowed.{below_allowed}
 use Rattle.bocage.proofs.Expanding.{given_expanded}
 use Rattle.bocage.proofs.Needing.{needed_are}
 use Rattle.bocage.proofs.ends.visit_end.Goals.{then-whole, else-whole, else-is_empty-via-then-is_empty+else-not-whole, else-is_empty-via-else-is_empty}
@@ -54,7 +55,7 @@ positive b (suc n) e f = omega arith
 
 pub returns-in_err-hidden-clause-counted : goal.returns-in_err-hidden-clause-counted
 returns-in_err-hidden-clause-counted g c =
-    rises_of (IsBelowAsked c.args.recce.now c.args.found.now.keys.keys c.args.end c.least_origin-least.result) (IsGivenAt c.args.w.now c.args.ranking c.args.recce.now c.args.end) c.args.steps.now c.list_needed.new.steps
+    rises_of (IsBelowAsked c.args.w.now c.args.ranking c.args.recce.now c.args.found.now.keys.keys c.args.end c.least_origin-least.result) (IsGivenAt c.args.w.now c.args.ranking c.args.recce.now c.args.end) c.args.steps.now c.list_needed.new.steps
     (λ item h. (
       given_expanded c.args.w.now c.args.ranking c.args.recce.now c.requires.read c.args.end c.args.first c.args.found.now (map (λ r. r.now) c.args.table.now.items) c.requires.going c.deref.result.now
           (λ n. subst (λ (l : List ℕ). Contains l n ↔ ((n < c.args.first) × EndsAt c.args.found.now.keys.keys c.args.end n)) (sym c.deref.ensures.value) (c.in_ok-list_nodes.ensures.listed n))
@@ -66,14 +67,17 @@ returns-in_err-hidden-clause-counted g c =
               | else-is_empty-via-else-is_empty w ↦ subst (λ (l : List ℕ). 0 < length l) (c.as_slice.ensures.value ∙ sym c.deref.ensures.value) (positive c.is_empty.result (length c.as_slice.result.now) c.is_empty.ensures w.if-is_empty.false)
             ],
           ))
-          item (below_hidden c.args.recce.now c.requires.read.is c.args.found.now.keys.keys c.args.end c.least_origin-least.result item h),
-      asked_node c.args.w.now c.args.recce.now c.requires.read c.args.end c.requires.end c.args.ranking c.args.found.now.keys.keys c.requires.going.used c.least_origin-least.result item h,
+          item (below_hidden c.args.w.now c.args.ranking c.args.recce.now c.requires.read.is c.args.found.now.keys.keys c.args.end c.least_origin-least.result item h),
+      (
+        asked_node c.args.w.now c.args.recce.now c.requires.read c.args.end c.requires.end c.args.ranking c.args.found.now.keys.keys c.requires.going.used c.least_origin-least.result item h,
+        below_allowed c.args.w.now c.args.recce.now c.requires.read c.args.end c.requires.end c.args.ranking c.args.found.now.keys.keys c.requires.going.used c.least_origin-least.result item h,
+      ),
     ))
     c.in_err-hidden.ensures.counted
 
 pub returns-clause-counted : goal.returns-clause-counted
 returns-clause-counted g c =
-    rises_of (IsBelowAsked c.args.recce.now c.args.found.now.keys.keys c.args.end c.least_origin-least.result) (IsGivenAt c.args.w.now c.args.ranking c.args.recce.now c.args.end) c.args.steps.now c.list_needed.new.steps
+    rises_of (IsBelowAsked c.args.w.now c.args.ranking c.args.recce.now c.args.found.now.keys.keys c.args.end c.least_origin-least.result) (IsGivenAt c.args.w.now c.args.ranking c.args.recce.now c.args.end) c.args.steps.now c.list_needed.new.steps
     (λ item h. (
       given_expanded c.args.w.now c.args.ranking c.args.recce.now c.requires.read c.args.end c.args.first c.args.found.now (map (λ r. r.now) c.args.table.now.items) c.requires.going c.deref.result.now
           (λ n. subst (λ (l : List ℕ). Contains l n ↔ ((n < c.args.first) × EndsAt c.args.found.now.keys.keys c.args.end n)) (sym c.deref.ensures.value) (c.in_ok-list_nodes.ensures.listed n))
@@ -85,8 +89,11 @@ returns-clause-counted g c =
               | else-is_empty-via-else-is_empty w ↦ subst (λ (l : List ℕ). 0 < length l) (c.as_slice.ensures.value ∙ sym c.deref.ensures.value) (positive c.is_empty.result (length c.as_slice.result.now) c.is_empty.ensures w.if-is_empty.false)
             ],
           ))
-          item (below_hidden c.args.recce.now c.requires.read.is c.args.found.now.keys.keys c.args.end c.least_origin-least.result item h),
-      asked_node c.args.w.now c.args.recce.now c.requires.read c.args.end c.requires.end c.args.ranking c.args.found.now.keys.keys c.requires.going.used c.least_origin-least.result item h,
+          item (below_hidden c.args.w.now c.args.ranking c.args.recce.now c.requires.read.is c.args.found.now.keys.keys c.args.end c.least_origin-least.result item h),
+      (
+        asked_node c.args.w.now c.args.recce.now c.requires.read c.args.end c.requires.end c.args.ranking c.args.found.now.keys.keys c.requires.going.used c.least_origin-least.result item h,
+        below_allowed c.args.w.now c.args.recce.now c.requires.read c.args.end c.requires.end c.args.ranking c.args.found.now.keys.keys c.requires.going.used c.least_origin-least.result item h,
+      ),
     ))
     c.in_ok-hidden.ensures.counted
 
@@ -122,6 +129,9 @@ returns-then-not-whole-clause-grows g c = grows_none (IsUsedIn c.args.w.now c.ar
 
 pub list_needed-requires-clause-is : goal.list_needed-requires-clause-is
 list_needed-requires-clause-is g c = c.requires.read.is
+
+pub list_needed-requires-clause-flat : goal.list_needed-requires-clause-flat
+list_needed-requires-clause-flat g c = c.requires.read.flat_of
 
 pub visit_from-requires-clause-hidden : goal.visit_from-requires-clause-hidden
 visit_from-requires-clause-hidden g c =

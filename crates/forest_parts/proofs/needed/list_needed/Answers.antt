@@ -21,10 +21,10 @@ pub returns-clause-exact : goal.returns-clause-exact
 returns-clause-exact g c =
     let tops = subst (λ (l : List Item). AreTops c.args.recce.now c.in_ok-unasked.unasked.keys c.args.end c.args.least l c.deref-2.result.now) (sym c.deref.ensures.value)
     (subst (λ (l : List Item). AreTops c.args.recce.now c.in_ok-unasked.unasked.keys c.args.end c.args.least c.list_tops.new.tops.items l) (sym c.deref-2.ensures.value) c.in_ok-list_tops.ensures) in
-    IfOk-weaker c.below.result _ _ (λ items lists. below_exact c.args.recce.now c.requires.is c.in_ok-unasked.unasked.keys c.args.end c.args.least c.requires.end c.deref.result.now c.deref-2.result.now tops c.args.keys.now.keys c.in_ok-unasked.ensures.unasked c.in_ok-unasked.ensures.asked items.items lists) c.below.ensures.below
+    IfOk-weaker c.below.result _ _ (λ items lists. below_exact c.args.recce.now c.requires.is c.in_ok-unasked.unasked.keys c.args.end c.args.least c.requires.end c.deref.result.now c.deref-2.result.now tops c.args.w.now c.args.ranking c.args.keys.now.keys c.in_ok-unasked.ensures.unasked c.in_ok-unasked.ensures.asked items.items lists) c.below.ensures.below
 
 pub returns-clause-counted : goal.returns-clause-counted
 returns-clause-counted g c =
     let tops = subst (λ (l : List Item). AreTops c.args.recce.now c.in_ok-unasked.unasked.keys c.args.end c.args.least l c.deref-2.result.now) (sym c.deref.ensures.value)
     (subst (λ (l : List Item). AreTops c.args.recce.now c.in_ok-unasked.unasked.keys c.args.end c.args.least c.list_tops.new.tops.items l) (sym c.deref-2.ensures.value) c.in_ok-list_tops.ensures) in
-    below_counted c.args.recce.now c.requires.is c.in_ok-unasked.unasked.keys c.args.end c.args.least c.requires.end c.deref.result.now c.deref-2.result.now tops c.args.keys.now.keys c.in_ok-unasked.ensures.unasked c.in_ok-unasked.ensures.asked c.args.steps.now c.below.new.steps c.below.result c.below.ensures.below c.below.ensures.counted c.below.ensures.err
+    below_counted c.args.recce.now c.requires.is c.in_ok-unasked.unasked.keys c.args.end c.args.least c.requires.end c.deref.result.now c.deref-2.result.now tops c.args.w.now c.args.ranking c.args.keys.now.keys c.in_ok-unasked.ensures.unasked c.in_ok-unasked.ensures.asked c.args.steps.now c.below.new.steps c.below.result c.below.ensures.below c.below.ensures.counted c.below.ensures.err

@@ -5,7 +5,7 @@ use Rattle.forest_parts.proofs.unasked.list_unasked.Goals as goal
 
 pub look_at_tops-requires-clause-parted : goal.look_at_tops-requires-clause-parted
 look_at_tops-requires-clause-parted c = record {
-  are_unasked = unasked_none c.args.recce.now c.args.keys.now.keys c.args.end _ c.with_hasher-unasked.ensures.empty;
+  are_unasked = unasked_none c.args.w.now c.args.ranking c.args.recce.now c.args.keys.now.keys c.args.end _ c.with_hasher-unasked.ensures.empty;
   are_asked = λ x h. absurd (Contains-none x (subst (λ l. Contains l x) c.with_hasher-asked.ensures.empty h));
 }
 

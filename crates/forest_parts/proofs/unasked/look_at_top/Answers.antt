@@ -16,12 +16,12 @@ note_unasked-requires-clause-origin c = (top_rule c.args.recce.now c.requires.is
 
 pub returns-in_default : goal.returns-in_default
 returns-in_default c =
-    tells_none c.args.recce.now c.args.keys.now.keys c.args.end (λ x. LeadsUp c.args.recce.now c.args.end c.args.item x × (c.args.least ≤ x.origin)) c.args.unasked.now.keys c.args.asked.now.keys c.requires.parted
+    tells_none c.args.w.now c.args.ranking c.args.recce.now c.args.keys.now.keys c.args.end (λ x. LeadsUp c.args.recce.now c.args.end c.args.item x × (c.args.least ≤ x.origin)) c.args.unasked.now.keys c.args.asked.now.keys c.requires.parted
     (λ x (up, late). absurd (leads_none c.args.recce.now c.args.end c.args.item x up (c.topmost.ensures.none (subst (λ (o : Option Item). IsNone o) (sym c.in_default.is) refl))))
 
 pub returns-else-least-top : goal.returns-else-least-top
 returns-else-least-top c =
-    tells_none c.args.recce.now c.args.keys.now.keys c.args.end (λ x. LeadsUp c.args.recce.now c.args.end c.args.item x × (c.args.least ≤ x.origin)) c.args.unasked.now.keys c.args.asked.now.keys c.requires.parted
+    tells_none c.args.w.now c.args.ranking c.args.recce.now c.args.keys.now.keys c.args.end (λ x. LeadsUp c.args.recce.now c.args.end c.args.item x × (c.args.least ≤ x.origin)) c.args.unasked.now.keys c.args.asked.now.keys c.requires.parted
     (λ x (up, late).
     (let same = leads_same c.args.recce.now c.requires.is c.args.end c.args.item c.in-Some.top x c.in-Some.ensures.some up in
     elim c.else-least-top.branch [
@@ -33,5 +33,5 @@ returns-else-least-top c =
 
 pub returns-in_ok-note_unasked : goal.returns-in_ok-note_unasked
 returns-in_ok-note_unasked c =
-    tells_of c.args.recce.now c.args.keys.now.keys c.args.end (λ x. x ≡ c.in-Some.top) (λ x. LeadsUp c.args.recce.now c.args.end c.args.item x × (c.args.least ≤ x.origin)) c.args.unasked.now.keys c.args.asked.now.keys c.note_unasked.new.unasked.keys c.note_unasked.new.asked.keys
+    tells_of c.args.w.now c.args.ranking c.args.recce.now c.args.keys.now.keys c.args.end (λ x. x ≡ c.in-Some.top) (λ x. LeadsUp c.args.recce.now c.args.end c.args.item x × (c.args.least ≤ x.origin)) c.args.unasked.now.keys c.args.asked.now.keys c.note_unasked.new.unasked.keys c.note_unasked.new.asked.keys
     (λ x (up, late). leads_same c.args.recce.now c.requires.is c.args.end c.args.item x c.in-Some.top up c.in-Some.ensures.some) c.in_ok-note_unasked.ensures

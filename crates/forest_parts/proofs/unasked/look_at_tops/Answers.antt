@@ -19,18 +19,18 @@ look_at_top-requires-clause-parted c = c.loop-k.invariant.parted
 
 pub loop-k-init : goal.loop-k-init
 loop-k-init c =
-    tells_none c.args.recce.now c.args.keys.now.keys c.args.end (ByFirst (λ (item x : Item). LeadsUp c.args.recce.now c.args.end item x × (c.args.least ≤ x.origin)) c.whole-set.result 0) c.args.unasked.now.keys c.args.asked.now.keys c.requires.parted
+    tells_none c.args.w.now c.args.ranking c.args.recce.now c.args.keys.now.keys c.args.end (ByFirst (λ (item x : Item). LeadsUp c.args.recce.now c.args.end item x × (c.args.least ≤ x.origin)) c.whole-set.result 0) c.args.unasked.now.keys c.args.asked.now.keys c.requires.parted
     (λ x (i, y, lt, at, rel). absurd (omega arith))
 
 pub loop-k-preserved : goal.loop-k-preserved
 loop-k-preserved c =
-    tells_more c.args.recce.now c.args.keys.now.keys c.args.end (λ (item x : Item). LeadsUp c.args.recce.now c.args.end item x × (c.args.least ≤ x.origin)) c.whole-set.result c.loop-k.k c.args.unasked.now.keys c.args.asked.now.keys
+    tells_more c.args.w.now c.args.ranking c.args.recce.now c.args.keys.now.keys c.args.end (λ (item x : Item). LeadsUp c.args.recce.now c.args.end item x × (c.args.least ≤ x.origin)) c.whole-set.result c.loop-k.k c.args.unasked.now.keys c.args.asked.now.keys
     c.loop-k.unasked.keys c.loop-k.asked.keys c.look_at_top.new.unasked.keys c.look_at_top.new.asked.keys c.at.result c.loop-k.invariant c.at.ensures c.in_ok-look_at_top.ensures
 
 pub returns : goal.returns
 returns c =
     let le : length c.whole-set.result ≤ c.loop-k.k = subst (λ n. n ≤ c.loop-k.k) c.len-k-end.ensures c.loop-k-test.false in
-    tells_of c.args.recce.now c.args.keys.now.keys c.args.end (ByFirst (λ (item x : Item). LeadsUp c.args.recce.now c.args.end item x × (c.args.least ≤ x.origin)) c.whole-set.result c.loop-k.k) (IsTopmostFrom c.args.recce.now c.args.end c.args.least)
+    tells_of c.args.w.now c.args.ranking c.args.recce.now c.args.keys.now.keys c.args.end (ByFirst (λ (item x : Item). LeadsUp c.args.recce.now c.args.end item x × (c.args.least ≤ x.origin)) c.whole-set.result c.loop-k.k) (IsTopmostFrom c.args.recce.now c.args.end c.args.least)
     c.args.unasked.now.keys c.args.asked.now.keys c.loop-k.unasked.keys c.loop-k.asked.keys
     (λ x ((item, (here, full, lt, leads)), late).
     (let (i, at) = found_at c.whole-set.result item ((c.whole-set.ensures.exact item).1 (here, full)) in

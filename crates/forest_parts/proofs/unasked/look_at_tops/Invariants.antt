@@ -6,4 +6,4 @@ use Rattle.forest_parts.proofs.Gathering.{ByFirst}
 use Rattle.forest_parts.proofs.unasked.look_at_tops.Given as goal
 
 abbrev pub invariant-loop-k : goal.invariant-loop-k
-invariant-loop-k l = Tells l.recce l.keys.keys l.end (ByFirst (λ (item x : Item). LeadsUp l.recce l.end item x × (l.least ≤ x.origin)) l.set l.k) l.initial.unasked.keys l.initial.asked.keys l.unasked.keys l.asked.keys
+invariant-loop-k l = Tells l.w l.ranking l.recce l.keys.keys l.end (ByFirst (λ (item x : Item). LeadsUp l.recce l.end item x × (l.least ≤ x.origin)) l.set l.k) l.initial.unasked.keys l.initial.asked.keys l.unasked.keys l.asked.keys

@@ -8,7 +8,7 @@ invariant-loop-k l = record {
   few : l.k ≤ length l.unasked.keys;
   begins : (more : List Item) × (l.unasked.keys ≡ l.fn.unasked.keys ++ more);
   there : Contains l.unasked.keys l.item;
-  upto : AreUnaskedTo l.recce l.keys.keys l.end l.unasked.keys l.k;
+  upto : AreUnaskedTo l.w l.ranking l.recce l.keys.keys l.end l.unasked.keys l.k;
   same : l.asked.keys ≡ l.fn.asked.keys;
-  back : LeadBack l.recce l.keys.keys l.end l.fn.unasked.keys l.unasked.keys l.item;
+  back : LeadBack l.w l.ranking l.recce l.keys.keys l.end l.fn.unasked.keys l.unasked.keys l.item;
 }

@@ -7,7 +7,7 @@ use Rattle.recognizer_model.specs.declared.Item.{Item}
 use Rattle.recognizer_model.specs.Items.{IsWhole}
 use Rattle.recognizer_model.proofs.Leo.{past_end}
 use Rattle.earley_sets.specs.Kept.{IsItem}
-use Rattle.forest_parts.specs.Unasked.{IsAfterNothing, IsOver, IsAbove}
+use Rattle.forest_parts.specs.Unasked.{IsAfterNothing, IsOverChosen, IsAbove}
 use Rattle.forest_parts.proofs.Taking.{takes_of, none_differs}
 use Rattle.forest_parts.proofs.unasked.put_above.Goals as goal
 
@@ -24,7 +24,7 @@ pub returns-in-Some : goal.returns-in-Some
 returns-in-Some c =
     let at : part_of c.args.recce.now.flat c.args.item.rule c.args.item.dot ≡ Some c.in-Some.symbol = ap (λ (g : FlatGrammar). part_of g c.args.item.rule c.args.item.dot) (sym c.flat.ensures) ∙ sym c.part.ensures ∙ c.in-Some.is in
     on_ok_weaker c.put_after_nothing.result
-    (λ t. takes_of c.args.recce.now (IsAfterNothing c.args.recce.now c.args.item) (IsAbove c.args.recce.now c.args.end c.args.item) c.args.items.now.keys c.put_after_nothing.new.items.keys
+    (λ t. takes_of c.args.recce.now (IsAfterNothing c.args.recce.now c.args.item) (IsAbove c.args.w.now c.args.ranking c.args.recce.now c.args.end c.args.item) c.args.items.now.keys c.put_after_nothing.new.items.keys
     (λ x p. elim p [
       | inl a ↦ a
       | inr (full, o) ↦ absurd (past_end (rhs_of c.args.recce.now.flat c.args.item.rule) c.args.item.dot c.in-Some.symbol full at)
@@ -35,11 +35,11 @@ returns-in-Some c =
 pub returns-in-None : goal.returns-in-None
 returns-in-None c =
     let at : part_of c.args.recce.now.flat c.args.item.rule c.args.item.dot ≡ None = ap (λ (g : FlatGrammar). part_of g c.args.item.rule c.args.item.dot) (sym c.flat.ensures) ∙ sym c.part.ensures ∙ c.in-None.is in
-    on_ok_weaker c.put_over.result
-    (λ t. takes_of c.args.recce.now (IsOver c.args.recce.now c.args.end c.args.item) (IsAbove c.args.recce.now c.args.end c.args.item) c.args.items.now.keys c.put_over.new.items.keys
+    on_ok_weaker c.put_chosen.result
+    (λ t. takes_of c.args.recce.now (IsOverChosen c.args.w.now c.args.ranking c.args.recce.now c.args.end c.args.item) (IsAbove c.args.w.now c.args.ranking c.args.recce.now c.args.end c.args.item) c.args.items.now.keys c.put_chosen.new.items.keys
     (λ x p. elim p [
       | inl ((s, e, null), q) ↦ absurd (none_differs s _ e at)
       | inr (full, o) ↦ o
     ])
     (λ x o. inr (full_by c.args.recce.now.flat c.args.item c.requires.item at, o)) t)
-    c.put_over.ensures
+    c.put_chosen.ensures

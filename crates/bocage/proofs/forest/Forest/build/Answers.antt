@@ -1,4 +1,4 @@
-use Rattle.bocage.specs.Expanded.{IsExpandedIn, IsHiddenNode, IsGivenIn}
+use Rattle.bocage.specs.Expanded.{IsExpandedIn, IsHiddenNode, IsChosenHidden, IsGivenIn}
 use Rattle.forest_parts.proofs.Counting.{rises_of, rises_most}
 use Rattle.std.proofs.lemmas.Result.{IfOk-from_err}
 use Rattle.bocage.proofs.forest.Forest.build.Goals as goal
@@ -11,7 +11,7 @@ returns-clause-counted g c n all =
 pub returns-clause-needed : goal.returns-clause-needed
 returns-clause-needed g c n all =
     rises_most (IsHiddenNode c.args.w.now c.args.recce.now) c.args.steps.now c.grow.new.steps n
-    (rises_of (IsGivenIn c.args.w.now c.args.ranking c.args.recce.now) (IsHiddenNode c.args.w.now c.args.recce.now) c.args.steps.now c.grow.new.steps (λ p h. h.1) c.grow.ensures.counted) all
+    (rises_of (IsGivenIn c.args.w.now c.args.ranking c.args.recce.now) (IsHiddenNode c.args.w.now c.args.recce.now) c.args.steps.now c.grow.new.steps (λ p (expanded, (node, below)). node) c.grow.ensures.counted) all
 
 pub returns-in_err-grow-clause-counted : goal.returns-in_err-grow-clause-counted
 returns-in_err-grow-clause-counted g c n all =
@@ -21,7 +21,7 @@ returns-in_err-grow-clause-counted g c n all =
 pub returns-in_err-grow-clause-needed : goal.returns-in_err-grow-clause-needed
 returns-in_err-grow-clause-needed g c n all =
     rises_most (IsHiddenNode c.args.w.now c.args.recce.now) c.args.steps.now c.grow.new.steps n
-    (rises_of (IsGivenIn c.args.w.now c.args.ranking c.args.recce.now) (IsHiddenNode c.args.w.now c.args.recce.now) c.args.steps.now c.grow.new.steps (λ p h. h.1) c.grow.ensures.counted) all
+    (rises_of (IsGivenIn c.args.w.now c.args.ranking c.args.recce.now) (IsHiddenNode c.args.w.now c.args.recce.now) c.args.steps.now c.grow.new.steps (λ p (expanded, (node, below)). node) c.grow.ensures.counted) all
 
 pub returns-in_err-grow-clause-forest : goal.returns-in_err-grow-clause-forest
 returns-in_err-grow-clause-forest g c = IfOk-from_err _ _ c.from_residual.ensures.0
@@ -40,3 +40,13 @@ returns-clause-forest g c = c.in_ok-grow.ensures.forest
 
 pub returns-clause-reading : goal.returns-clause-reading
 returns-clause-reading g c = c.in_ok-grow.ensures.reading
+
+pub returns-clause-chosen : goal.returns-clause-chosen
+returns-clause-chosen g c n all =
+    rises_most (IsChosenHidden c.args.w.now c.args.ranking c.args.recce.now) c.args.steps.now c.grow.new.steps n
+    (rises_of (IsGivenIn c.args.w.now c.args.ranking c.args.recce.now) (IsChosenHidden c.args.w.now c.args.ranking c.args.recce.now) c.args.steps.now c.grow.new.steps (λ p h. h.1) c.grow.ensures.counted) all
+
+pub returns-in_err-grow-clause-chosen : goal.returns-in_err-grow-clause-chosen
+returns-in_err-grow-clause-chosen g c n all =
+    rises_most (IsChosenHidden c.args.w.now c.args.ranking c.args.recce.now) c.args.steps.now c.grow.new.steps n
+    (rises_of (IsGivenIn c.args.w.now c.args.ranking c.args.recce.now) (IsChosenHidden c.args.w.now c.args.ranking c.args.recce.now) c.args.steps.now c.grow.new.steps (λ p h. h.1) c.grow.ensures.counted) all
