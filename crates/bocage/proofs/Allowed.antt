@@ -11,7 +11,9 @@ use Rattle.grammar_model.specs.declared.Ranking.TheVariants.{None as NoRanks, Ru
 use Rattle.grammar_model.specs.Grammar.{Grammar}
 use Rattle.recognizer_model.specs.declared.Item.{Item}
 use Rattle.recognizer_model.specs.declared.NodeKey.{NodeKey}
-use Rattle.recognizer_model.specs.Flat.{lhs_of, rhs_of}
+use Rattle.grammar_model.specs.Trees.{Children}
+use Rattle.recognizer_model.specs.Flat.{IsRule, lhs_of, rhs_of}
+use Rattle.recognizer_model.specs.FlatDerives.{Spans}
 use Rattle.recognizer_model.specs.Contexts.{MayStand}
 use Rattle.recognizer_model.specs.Items.{InSet, IsWhole}
 use Rattle.recognizer_model.specs.Leo.{LeadsTo, IsNotLeo, InReduced}
@@ -48,7 +50,7 @@ module _ (w : Grammar) (r : Recognizer) (read : IsRead w r) where
   top_allowed : (ranking : Ranking) → IsAllowed ranking (top_of r) 0 (earleme_of r)
   top_allowed NoRanks = tt
   top_allowed RuleRanks = tt
-  top_allowed HighRanks other children is_rule same spans =
+  top_allowed HighRanks = λ other children is_rule same spans.
       subst (λ z. flat_rank w HighRanks r.flat z ≤ℤ flat_rank w HighRanks r.flat (top_of r)) (sym ((at_top r read.is).alone other is_rule same)) (≤ℤ_refl (flat_rank w HighRanks r.flat (top_of r)))
 
   -- a whole rule that is met is allowed
@@ -62,17 +64,17 @@ module _ (w : Grammar) (r : Recognizer) (read : IsRead w r) where
     still_allowed : (ranking : Ranking) (t : Item) → InSet r.flat (edges_of r) (top_of r) end t → IsStill t → (¬ IsOutranked w ranking r end t) → IsAllowed ranking t.rule t.origin end
     still_allowed NoRanks t there still best = tt
     still_allowed RuleRanks t there still best = tt
-    still_allowed HighRanks t there still best other children is_rule same spans = elim (cases_int (flat_rank w HighRanks r.flat t.rule) (flat_rank w HighRanks r.flat other)) [
-      | inl lt ↦ absurd (best (other, (is_rule, same), (lt, stays r read.is end le whole inside (subst (λ x. IsNotLeo r.flat (edges_of r) (top_of r) t.origin x) (sym same) still))))
+    still_allowed HighRanks t there still best = λ other children is_rule same spans. elim (cases_int (flat_rank w HighRanks r.flat t.rule) (flat_rank w HighRanks r.flat other)) [
+      | inl lt ↦ absurd (best (other, (is_rule, same), (lt, stays r read.is end le (whole other) (inside other children is_rule same spans) (subst (λ x. IsNotLeo r.flat (edges_of r) (top_of r) t.origin x) (sym same) still))))
       | inr ge ↦ ge
     ]
       where
-        whole : Item
-        whole = record { rule = other; dot = length (rhs_of r.flat other); origin = t.origin }
+        whole : ℕ → Item
+        whole other = record { rule = other; dot = length (rhs_of r.flat other); origin = t.origin }
 
-        inside : InSet r.flat (edges_of r) (top_of r) end whole
-        inside =
-            (in_full r read.is end whole).1 (record {
+        inside : (other : ℕ) (children : Children) → IsRule r.flat other → lhs_of r.flat other ≡ lhs_of r.flat t.rule → Spans r.flat (edges_of r) other (length (rhs_of r.flat other)) t.origin end children → InSet r.flat (edges_of r) (top_of r) end (whole other)
+        inside other children is_rule same spans =
+            (in_full r read.is end (whole other)).1 (record {
               is_rule = is_rule;
               may_stand = subst (λ x. MayStand r.flat (edges_of r) (top_of r) x t.origin) (sym same) ((in_full r read.is end t).0 there).may_stand;
               children = children;
@@ -93,7 +95,7 @@ module _ (w : Grammar) (r : Recognizer) (read : IsRead w r) where
       asked_allowed : {t : Item} → IsAskedFor w ranking r keys end t → IsWhole r.flat t → IsStill t → InSet r.flat (edges_of r) (top_of r) end t → IsAllowed ranking t.rule t.origin end
       asked_allowed (Met {item = t} h) full still there = met_allowed ranking ((used_met w ranking r read (node_of t end)).0 (used (node_of t end) h)).1 full
       asked_allowed (Over {item = t} (inl ((x, e, null), q)) asked) full still there = absurd (past_end (rhs_of r.flat t.rule) t.dot x full e)
-      asked_allowed (Over {item = t} (inr (whole, best, over)) asked) full still there = still_allowed ranking t there still best
+      asked_allowed (Over {item = t} (inr (whole, (best, over))) asked) full still there = still_allowed ranking t there still best
 
       -- so what is hidden below one that is asked for stands below one that is allowed
       pub below_allowed : (least : ℕ) (item : Item) → IsBelowAsked w ranking r keys end least item → IsBelowAllowed w ranking r (record { place = end; item = item })

@@ -72,10 +72,10 @@ module _ (w : Grammar) (r : Recognizer) (read : IsRead w r) where
         let next = subst (λ z. IsIn end z → z.origin < end → HasNode z) q met in
         let is = (in_full r read.is end item).0 there in
         Before (next (InSet.Skip there e null) lt) is.spans e (Null null)
-    under ranking item other (inr (full, best, inl (before, leads))) there lt met =
+    under ranking item other (inr (full, (best, inl (before, leads)))) there lt met =
         let low = leads_back r.flat (edges_of r) (λ a b c. ⊥) (top_of r) (at_top r read.is) (goes r read.is) 0 leads in
         down leads item refl refl there full lt (λ h. met h (omega arith))
-    under ranking item other (inr (full, best, inr (still, (waiting, kept, waits, q)))) there lt met =
+    under ranking item other (inr (full, (best, inr (still, (waiting, kept, waits, q))))) there lt met =
         let next = subst (λ z. IsIn end z → z.origin < end → HasNode z) q met in
         let at = kept_inside r read.is item.origin waiting (omega arith) kept in
         let low = origin_below r.flat (edges_of r) (top_of r) (at_top r read.is) (goes r read.is) at in

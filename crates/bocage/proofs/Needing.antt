@@ -133,8 +133,8 @@ module _ (w : Grammar) (ranking : Ranking) (r : Recognizer) (read : IsRead w r) 
                 (only r.flat r.edges read.is.flat read.is.forward) read.is.flat.no_rules
                 (leaves_some r.flat w read.is.flat r.edges (λ s p q h. read.is.forward (record { symbol = s; from = p; to = q }) h) ranking)
                 node (leo_known r read.is q (omega arith)) ((used_met w ranking r read node).1 (some, Last met s e is lt s' best)) refl leo l in
-                Over (inr (refl, chosen, inl (omega arith, leads))) (led parent leads (omega arith) inside e ih)
-            | inr none ↦ Over (inr (refl, chosen, inr ((λ other (before, (leo, l, q)). none leo l), (parent, there, e, refl)))) ih.itself
+                Over (inr (refl, (chosen, inl (omega arith, leads)))) (led parent leads (omega arith) inside e ih)
+            | inr none ↦ Over (inr (refl, (chosen, inr ((λ other (before, (leo, l, q)). none leo l), (parent, there, e, refl))))) ih.itself
           ];
           above = λ full t (before, leads). led parent leads (omega arith) inside e ih;
         }
