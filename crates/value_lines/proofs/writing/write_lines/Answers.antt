@@ -19,7 +19,7 @@ next_line-requires-clause-given g c =
 pub returns-in_default-clause-stops : goal.returns-in_default-clause-stops
 returns-in_default-clause-stops g c =
     λ show pieces before alone of are.
-    let within = within_less c.args.first c.loop-k._k (within_next c.args.first c.limit_of-limit.result c.loop-k._k c.limit_of-limit.ensures c.loop-k-test.true) in
+    let within = within_less c.args.first c.loop-k._k (within_next c.args.first c.limit_of-limit.result c.loop-k._k c.limit_of-limit.ensures.some c.loop-k-test.true) in
     prefix_written c.args.prepared.now show c.args.player.now.chars pieces before c.args.iter.now.forest c.args.first c.loop-k.iter c.loop-k.invariant.forest c.loop-k._k _ _ _ _
     (c.loop-k.invariant.written show pieces before alone of are) within
 
@@ -30,7 +30,7 @@ returns-in_default-write_line-clause-stops g c =
     let w = c.loop-k.invariant.written show pieces before alone of are in
     let line = line_played b show _ _ _ _ pieces _ (before ++ w.given) _ _ c.loop-k.invariant.player c.loop-k.invariant.forest of (λ h. c.in-Ok.ensures.line show pieces (before ++ w.given) (c.loop-k.invariant.tellers ∙ alone) h w.are) in
     let more = subst (IsLineOf b show c.args.player.now.chars pieces c.next_line.new.iter (before ++ w.given) c.next_line.new.line.items) c.if-not-more.false line in
-    let within = within_next c.args.first c.limit_of-limit.result c.loop-k._k c.limit_of-limit.ensures c.loop-k-test.true in
+    let within = within_next c.args.first c.limit_of-limit.result c.loop-k._k c.limit_of-limit.ensures.some c.loop-k-test.true in
     let part = subst (AppendsPrefix (g.O.Sink.contents c.loop-k.out) (g.O.Sink.contents c.write_line.new.out)) c.deref.ensures.value c.in_default-write_line.ensures.prefix in
     let r = line_in_prefix b show c.args.player.now.chars pieces before c.args.iter.now.forest c.args.first c.loop-k.iter c.loop-k.invariant.forest c.loop-k._k _ _ _ _ w
     c.next_line.new.iter c.next_line.new.line.items more (c.in-Ok.ensures.forest ∙ c.loop-k.invariant.forest) within _ part in
@@ -81,14 +81,14 @@ returns-then-not-more-clause-written g c =
     let w = c.loop-k.invariant.written show pieces before alone of are in
     let none = subst (IsAnswer c.next_line.new.iter (before ++ w.given)) c.if-not-more.true (c.in-Ok.ensures.answer (before ++ w.given) w.are) in
     let few = subst (λ m. AreFew c.next_line.new.iter (before ++ w.given) m c.loop-k.steps c.next_line.new.steps) c.if-not-more.true (c.in-Ok.ensures.counted (before ++ w.given) w.are) in
-    let within = within_less c.args.first c.loop-k._k (within_next c.args.first c.limit_of-limit.result c.loop-k._k c.limit_of-limit.ensures c.loop-k-test.true) in
+    let within = within_less c.args.first c.loop-k._k (within_next c.args.first c.limit_of-limit.result c.loop-k._k c.limit_of-limit.ensures.some c.loop-k-test.true) in
     rest_written b show c.args.player.now.chars pieces before c.args.iter.now.forest c.args.first c.loop-k.iter c.loop-k.invariant.forest c.loop-k._k _ _ _ _ w
     c.next_line.new.iter c.next_line.new.steps none within few
 
 pub returns-in-Some-clause-written : goal.returns-in-Some-clause-written
 returns-in-Some-clause-written g c =
     λ show pieces before alone of are.
-    let so_many = so_many_is c.args.first c.in-Some.field-0 c.limit_of-limit.result c.loop-k._k c.in-Some.is c.limit_of-limit.ensures c.loop-k-test.false c.loop-k.auto._k-end in
+    let so_many = so_many_is c.args.first c.in-Some.field-0 c.limit_of-limit.result c.loop-k._k c.in-Some.is c.limit_of-limit.ensures.some c.loop-k-test.false c.loop-k.auto._k-end in
     enough_written c.args.prepared.now show c.args.player.now.chars pieces before c.args.iter.now.forest c.args.first c.loop-k.iter c.loop-k.invariant.forest c.loop-k._k _ _ _ _
     (c.loop-k.invariant.written show pieces before alone of are) so_many
 
