@@ -29,7 +29,12 @@ fn is_enclosed(alternative: &Alternative, left: &str) -> Option<bool> {
     if is_name(first, left) || is_name(last, left) {
         return Some(false);
     }
-    Some(alternative.elements.iter().any(|element| has_name(element, left)))
+    Some(
+        alternative
+            .elements
+            .iter()
+            .any(|element| has_name(element, left)),
+    )
 }
 
 /// Where an alternative begins that has its left side in brackets, and does not say that any group may stand there.

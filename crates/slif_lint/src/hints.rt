@@ -14,7 +14,11 @@ fn look_at_groups<'d>(
     hints: &mut Vec<Hint<'d>>,
 ) -> Result<(), AllocError> {
     match statement {
-        Statement::Rules { left, level, groups } if !level.is_lexical() => {
+        Statement::Rules {
+            left,
+            level,
+            groups,
+        } if !level.is_lexical() => {
             look_at_operators(left.content.as_str(), groups, hints)?;
             look_at_brackets(left.content.as_str(), groups, hints)
         }
@@ -52,10 +56,7 @@ fn first_left(statements: &[Statement]) -> usize {
 }
 
 /// Appends a hint where no statement says how lexemes are looked for, and there are lexical rules.
-fn look_at_latm(
-    statements: &[Statement],
-    hints: &mut Vec<Hint<'_>>,
-) -> Result<(), AllocError> {
+fn look_at_latm(statements: &[Statement], hints: &mut Vec<Hint<'_>>) -> Result<(), AllocError> {
     if !has_lexical(statements) || statements.iter().any(says_latm) {
         return Ok(());
     }

@@ -1,4 +1,7 @@
 // The hints about a grammar's text, written.
+ghost use Rattle.std.specs.Prelude.{IfOk};
+ghost use Rattle.slif_lint.specs.Described.{IsDescriptionOf};
+
 use crate::hint::Hint;
 use crate::hints::hints_of;
 use crate::stop::Stop;
@@ -28,7 +31,9 @@ fn place_of(chars: &Chars, at: usize) -> (u32, u32) {
 }
 
 /// The statements of a grammar's text.
-fn described(alloc: Global, chars: &Chars) -> Result<Description, Stop> {
+fn described(alloc: Global, chars: &Chars) -> Result<Description, Stop>
+    ensures { IfOk result (λ d. IsDescriptionOf d chars.now) }
+{
     let tokens = match tokens(alloc, chars) {
         Ok(tokens) => tokens,
         Err(TokenRefusal::BadToken { at }) => {

@@ -103,7 +103,9 @@ fn lexical_left(statement: &Statement) -> Option<&Spelled> {
 
 /// Whether a grammar has lexical rules.
 pub(crate) fn has_lexical(statements: &[Statement]) -> bool {
-    statements.iter().any(|statement| lexical_left(statement).is_some())
+    statements
+        .iter()
+        .any(|statement| lexical_left(statement).is_some())
 }
 
 /// Appends a hint for each lexical rule whose name no other rule, separator or discard has.

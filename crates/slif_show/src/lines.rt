@@ -67,10 +67,10 @@ impl<S: Source> Lines<S> {
             self.forget();
             seen = self.read.len();
             if !self.read_more()? {
-                break;
+                return Ok((seen, false));
             }
         }
-        Ok((self.read.len(), false))
+        Err(Stop::NoMemory)
     }
 
     /// The bytes of the next line, without its line feed.
@@ -103,7 +103,7 @@ impl<S: Source> Lines<S> {
                 None => return Ok(None),
             }
         }
-        Ok(None)
+        Err(Stop::NoMemory)
     }
 }
 

@@ -62,7 +62,7 @@ fn show_each<S: Source, K: Sink>(
     let mut first = true;
     for _ in 0..u64::MAX {
         let Some(entry) = lines.next_entry(alloc)? else {
-            break;
+            return Ok(());
         };
         out.clear();
         let pushed = push_entry(alloc, form, first, &entry, &mut out);
@@ -71,7 +71,7 @@ fn show_each<S: Source, K: Sink>(
         first = false;
         write_all(sink, out.as_bytes())?;
     }
-    Ok(())
+    Err(Stop::NoMemory)
 }
 
 /// The parts of the values on all lines.
@@ -79,11 +79,11 @@ fn all_parts<S: Source>(alloc: Global, lines: &mut Lines<S>) -> Result<Vec<Part>
     let mut all = Vec::new(alloc);
     for _ in 0..u64::MAX {
         let Some(mut parts) = lines.next_value(alloc)? else {
-            break;
+            return Ok(all);
         };
         all.append(&mut parts)?;
     }
-    Ok(all)
+    Err(Stop::NoMemory)
 }
 
 /// Appends one picture of all trees.
@@ -114,7 +114,7 @@ fn push_first_rules<S: Source>(
     if !is_grammar(&nodes) {
         return Err(Stop::NoGrammar);
     }
-    Ok(push_rules(&nodes, out)?)
+    Ok(push_rules(alloc, &nodes, out)?)
 }
 
 /// Appends where two trees first differ.
@@ -128,7 +128,7 @@ fn push_first_difference(
     let other = nodes_of(alloc, other)?;
     match first_difference(&one, &other) {
         Difference::Same => out.push_str("the same\n"),
-        Difference::Within(at) => push_difference(&one, &other, at, out),
+        Difference::Within(at) => push_difference(alloc, &one, &other, at, out),
         Difference::Apart => out.push_str("nothing in common\n"),
     }
 }

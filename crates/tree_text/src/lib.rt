@@ -12,6 +12,7 @@ mod looks;
 mod nodes;
 mod outlines;
 mod part;
+mod puts;
 mod read;
 mod rules;
 mod svg;

@@ -3,8 +3,9 @@ ghost use Rattle.std.specs.Prelude.{OnOk, string_bytes};
 ghost use Rattle.tree_text.specs.Texts.{Extends};
 
 use crate::labels::push_name;
+use crate::puts::put;
 use crate::{Label, Node};
-use std::alloc::AllocError;
+use std::alloc::{AllocError, Global};
 use std::fmt::Write;
 
 /// How a rule is written.
@@ -76,7 +77,6 @@ fn ends_parts(node: &Node<'_>, depth: usize) -> bool {
 
 /// Appends the parts of the alternative at a place, each after a space.
 fn push_parts(nodes: &[Node<'_>], at: usize, depth: usize, out: &mut String) -> Result<(), AllocError>
-    ensures { OnOk result (Extends (string_bytes out.old) (string_bytes out.new)) }
 {
     for node in nodes.iter().skip(at).skip(1) {
         if ends_parts(node, depth) {
@@ -96,7 +96,6 @@ fn push_piece(
     separates: bool,
     out: &mut String,
 ) -> Result<(), AllocError>
-    ensures { OnOk result (Extends (string_bytes out.old) (string_bytes out.new)) }
 {
     if let Some(text) = part_text(node) {
         out.push_str(if separates { " separator => " } else { " " })?;
@@ -110,7 +109,6 @@ fn push_piece(
 
 /// Appends the item of the sequence at a place, its sign, and its separator where it has one.
 fn push_sequence(nodes: &[Node<'_>], at: usize, depth: usize, out: &mut String) -> Result<(), AllocError>
-    ensures { OnOk result (Extends (string_bytes out.old) (string_bytes out.new)) }
 {
     let mut separates = false;
     let mut named = false;
@@ -131,7 +129,6 @@ fn push_sequence(nodes: &[Node<'_>], at: usize, depth: usize, out: &mut String) 
 
 /// Appends the right side of the rule at a place.
 fn push_right(nodes: &[Node<'_>], at: usize, form: Form, out: &mut String) -> Result<(), AllocError>
-    ensures { OnOk result (Extends (string_bytes out.old) (string_bytes out.new)) }
 {
     let depth = match nodes.get(at) {
         Some(node) => node.depth,
@@ -153,7 +150,6 @@ fn push_rule(
     form: Form,
     out: &mut String,
 ) -> Result<(), AllocError>
-    ensures { OnOk result (Extends (string_bytes out.old) (string_bytes out.new)) }
 {
     write!(out, "{number} ")?;
     push_name(left, out)?;
@@ -170,10 +166,9 @@ pub fn is_grammar(nodes: &[Node<'_>]) -> bool {
     }
 }
 
-/// Appends a line for each structural rule of the grammar that this is the tree of: its number, and the rule as `41 event ::= note marks`.
-pub fn push_rules(nodes: &[Node<'_>], out: &mut String) -> Result<(), AllocError>
-    ensures { OnOk result (Extends (string_bytes out.old) (string_bytes out.new)) }
-{
+/// The lines of the rules.
+fn rules_of(alloc: Global, nodes: &[Node<'_>]) -> Result<String, AllocError> {
+    let mut out = String::new(alloc);
     let mut left = "";
     let mut number = 0u64;
     for (at, node) in nodes.iter().enumerate() {
@@ -186,8 +181,16 @@ pub fn push_rules(nodes: &[Node<'_>], out: &mut String) -> Result<(), AllocError
         if form != Form::Alternative {
             left = left_of(nodes, at);
         }
-        push_rule(number, left, nodes, at, form, out)?;
+        push_rule(number, left, nodes, at, form, &mut out)?;
         number = number.saturating_add(1);
     }
-    Ok(())
+    Ok(out)
+}
+
+/// Appends a line for each structural rule of the grammar that this is the tree of: its number, and the rule as `41 event ::= note marks`.
+pub fn push_rules(alloc: Global, nodes: &[Node<'_>], out: &mut String) -> Result<(), AllocError>
+    ensures { OnOk result (Extends (string_bytes out.old) (string_bytes out.new)) }
+{
+    let rules = rules_of(alloc, nodes)?;
+    put(rules.as_str(), out)
 }

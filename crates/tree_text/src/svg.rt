@@ -5,6 +5,7 @@ ghost use Rattle.tree_text.specs.Texts.{Extends};
 use crate::Node;
 use crate::boxes::{Tile, boxes_of};
 use crate::outlines::{left_of, place};
+use crate::puts::put;
 use std::alloc::{AllocError, Global};
 use std::fmt::Write;
 
@@ -21,7 +22,6 @@ fn row_top(tile: &Tile) -> usize {
 
 /// Appends a character of a text.
 fn push_character(c: char, out: &mut String) -> Result<(), AllocError>
-    ensures { OnOk result (Extends (string_bytes out.old) (string_bytes out.new)) }
 {
     match c {
         '&' => out.push_str("&amp;"),
@@ -32,7 +32,6 @@ fn push_character(c: char, out: &mut String) -> Result<(), AllocError>
 }
 
 fn push_escaped(text: &str, out: &mut String) -> Result<(), AllocError>
-    ensures { OnOk result (Extends (string_bytes out.old) (string_bytes out.new)) }
 {
     for c in text.chars() {
         push_character(c, out)?;
@@ -45,7 +44,6 @@ fn push_line(
     to: &Tile,
     out: &mut String,
 ) -> Result<(), AllocError>
-    ensures { OnOk result (Extends (string_bytes out.old) (string_bytes out.new)) }
 {
     let x1 = from.middle;
     let y1 = row_top(from).saturating_add(BOX);
@@ -58,7 +56,6 @@ fn push_line(
 }
 
 fn push_frame(tile: &Tile, out: &mut String) -> Result<(), AllocError>
-    ensures { OnOk result (Extends (string_bytes out.old) (string_bytes out.new)) }
 {
     let left = left_of(tile);
     let top = row_top(tile);
@@ -70,7 +67,6 @@ fn push_frame(tile: &Tile, out: &mut String) -> Result<(), AllocError>
 }
 
 fn push_box(tile: &Tile, out: &mut String) -> Result<(), AllocError>
-    ensures { OnOk result (Extends (string_bytes out.old) (string_bytes out.new)) }
 {
     let middle = tile.middle;
     let base = row_top(tile).saturating_add(18);
@@ -85,7 +81,6 @@ fn push_box(tile: &Tile, out: &mut String) -> Result<(), AllocError>
 
 /// Appends the line from the box right above, if there is one.
 fn push_edge(tile: &Tile, tiles: &[Tile], out: &mut String) -> Result<(), AllocError>
-    ensures { OnOk result (Extends (string_bytes out.old) (string_bytes out.new)) }
 {
     let Some(above) = tile.above else {
         return Ok(());
@@ -97,7 +92,6 @@ fn push_edge(tile: &Tile, tiles: &[Tile], out: &mut String) -> Result<(), AllocE
 }
 
 fn push_edges(tiles: &[Tile], out: &mut String) -> Result<(), AllocError>
-    ensures { OnOk result (Extends (string_bytes out.old) (string_bytes out.new)) }
 {
     for tile in tiles {
         push_edge(tile, tiles, out)?;
@@ -106,7 +100,6 @@ fn push_edges(tiles: &[Tile], out: &mut String) -> Result<(), AllocError>
 }
 
 fn push_boxes(tiles: &[Tile], out: &mut String) -> Result<(), AllocError>
-    ensures { OnOk result (Extends (string_bytes out.old) (string_bytes out.new)) }
 {
     for tile in tiles {
         push_box(tile, out)?;
@@ -130,7 +123,6 @@ fn size_of(tiles: &[Tile]) -> (i64, usize) {
 
 /// Appends the picture of boxes that have their places.
 fn push_picture(tiles: &[Tile], out: &mut String) -> Result<(), AllocError>
-    ensures { OnOk result (Extends (string_bytes out.old) (string_bytes out.new)) }
 {
     let (width, height) = size_of(tiles);
     write!(
@@ -143,13 +135,20 @@ fn push_picture(tiles: &[Tile], out: &mut String) -> Result<(), AllocError>
     out.push_str("</svg>\n")
 }
 
+/// The picture of some nodes.
+fn picture_of(alloc: Global, nodes: &[Node<'_>]) -> Result<String, AllocError> {
+    let mut tiles = boxes_of(alloc, nodes)?;
+    place(alloc, &mut tiles)?;
+    let mut picture = String::new(alloc);
+    push_picture(&tiles, &mut picture)?;
+    drop(tiles);
+    Ok(picture)
+}
+
 /// Appends a picture: boxes in rows by depth, what is below one under its middle, subtrees as close as their outlines allow, and one tree beside the other.
 pub fn push_svg(alloc: Global, nodes: &[Node<'_>], out: &mut String) -> Result<(), AllocError>
     ensures { OnOk result (Extends (string_bytes out.old) (string_bytes out.new)) }
 {
-    let mut tiles = boxes_of(alloc, nodes)?;
-    place(alloc, &mut tiles)?;
-    let pushed = push_picture(&tiles, out);
-    drop(tiles);
-    pushed
+    let picture = picture_of(alloc, nodes)?;
+    put(picture.as_str(), out)
 }

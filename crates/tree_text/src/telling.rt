@@ -4,8 +4,9 @@ ghost use Rattle.tree_text.specs.Texts.{Extends};
 
 use crate::labels::push_name;
 use crate::looks::name_in;
+use crate::puts::put;
 use crate::{Label, Node};
-use std::alloc::AllocError;
+use std::alloc::{AllocError, Global};
 use std::fmt::Write;
 
 // So many tokens at the front and at the end of a part are told.
@@ -13,7 +14,6 @@ const MANY: usize = 10;
 
 /// Appends how many tokens are in each node right below this one.
 fn push_parts(nodes: &[Node<'_>], at: usize, out: &mut String) -> Result<(), AllocError>
-    ensures { OnOk result (Extends (string_bytes out.old) (string_bytes out.new)) }
 {
     let mut follows = false;
     for node in nodes {
@@ -30,7 +30,6 @@ fn push_parts(nodes: &[Node<'_>], at: usize, out: &mut String) -> Result<(), All
 
 /// Appends the rule of a node, if it has one.
 fn push_rule(label: Label<'_>, out: &mut String) -> Result<(), AllocError>
-    ensures { OnOk result (Extends (string_bytes out.old) (string_bytes out.new)) }
 {
     match label {
         Label::Rule { rule, .. } => write!(out, "rule {rule}"),
@@ -40,7 +39,6 @@ fn push_rule(label: Label<'_>, out: &mut String) -> Result<(), AllocError>
 
 /// Appends the rule of a node, if it has one, and how it cuts its tokens.
 fn push_cut(nodes: &[Node<'_>], at: usize, out: &mut String) -> Result<(), AllocError>
-    ensures { OnOk result (Extends (string_bytes out.old) (string_bytes out.new)) }
 {
     let Some(node) = nodes.get(at) else {
         return Ok(());
@@ -71,7 +69,6 @@ fn push_token(
     tokens: usize,
     out: &mut String,
 ) -> Result<(), AllocError>
-    ensures { OnOk result (Extends (string_bytes out.old) (string_bytes out.new)) }
 {
     if !is_told(place, tokens) {
         return out.push_str(if place == MANY { " .." } else { "" });
@@ -82,7 +79,6 @@ fn push_token(
 
 /// Appends what comes before a part: a bar, where it is not the first, and `()` for a part without tokens.
 fn push_part_begin(first: bool, tokens: usize, out: &mut String) -> Result<(), AllocError>
-    ensures { OnOk result (Extends (string_bytes out.old) (string_bytes out.new)) }
 {
     out.push_str(if first { "" } else { " | " })?;
     out.push_str(if tokens == 0 { "()" } else { "" })
@@ -90,7 +86,6 @@ fn push_part_begin(first: bool, tokens: usize, out: &mut String) -> Result<(), A
 
 /// Appends the texts of the tokens below a node, with bars between its parts.
 fn push_texts(nodes: &[Node<'_>], at: usize, out: &mut String) -> Result<(), AllocError>
-    ensures { OnOk result (Extends (string_bytes out.old) (string_bytes out.new)) }
 {
     let mut first = true;
     let mut before = 0;
@@ -125,7 +120,6 @@ fn is_outside(nodes: &[Node<'_>], at: usize, node: &Node<'_>) -> bool {
 
 /// Appends a line with the rule of a node and the texts of its parts, where it has a rule.
 fn push_reading(nodes: &[Node<'_>], at: usize, out: &mut String) -> Result<(), AllocError>
-    ensures { OnOk result (Extends (string_bytes out.old) (string_bytes out.new)) }
 {
     let Some(node) = nodes.get(at) else {
         return Ok(());
@@ -140,7 +134,6 @@ fn push_reading(nodes: &[Node<'_>], at: usize, out: &mut String) -> Result<(), A
 
 /// Appends the name of a node, and from which token to which it goes.
 fn push_span(node: &Node<'_>, out: &mut String) -> Result<(), AllocError>
-    ensures { OnOk result (Extends (string_bytes out.old) (string_bytes out.new)) }
 {
     let from = node.before;
     let to = from.saturating_add(node.tokens);
@@ -148,9 +141,29 @@ fn push_span(node: &Node<'_>, out: &mut String) -> Result<(), AllocError>
     write!(out, " from {from} to {to}: ")
 }
 
+/// What two trees make of the node at this place, the first of which is given.
+fn difference_of(
+    alloc: Global,
+    node: &Node<'_>,
+    one: &[Node<'_>],
+    other: &[Node<'_>],
+    at: usize,
+) -> Result<String, AllocError> {
+    let mut out = String::new(alloc);
+    push_span(node, &mut out)?;
+    push_cut(one, at, &mut out)?;
+    out.push_str(", ")?;
+    push_cut(other, at, &mut out)?;
+    out.push('\n')?;
+    push_reading(one, at, &mut out)?;
+    push_reading(other, at, &mut out)?;
+    Ok(out)
+}
+
 /// Appends what two trees make of the node at this place, as `E from 0 to 5: rule 0 (3+1+1), rule 0 (1+1+3)`, and a line for each tree with the texts of its
 /// parts, as `  rule 0: 1 + 1 | + | 1`.
 pub fn push_difference(
+    alloc: Global,
     one: &[Node<'_>],
     other: &[Node<'_>],
     at: usize,
@@ -161,11 +174,6 @@ pub fn push_difference(
     let Some(node) = one.get(at) else {
         return Ok(());
     };
-    push_span(node, out)?;
-    push_cut(one, at, out)?;
-    out.push_str(", ")?;
-    push_cut(other, at, out)?;
-    out.push('\n')?;
-    push_reading(one, at, out)?;
-    push_reading(other, at, out)
+    let text = difference_of(alloc, node, one, other, at)?;
+    put(text.as_str(), out)
 }
