@@ -3,4 +3,4 @@ use Rattle.tree_text.specs.Written.{boxes_from}
 use Rattle.tree_text.proofs.dot.push_boxes.Given as goal
 
 abbrev pub invariant-loop-i : goal.invariant-loop-i
-invariant-loop-i l = string_bytes l.out ++ boxes_from l.i-index (drop l.i-index l.nodes) ≡ string_bytes l.fn.out ++ boxes_from 0 l.nodes
+invariant-loop-i l = string_bytes l.out ++ boxes_from l.i (drop l.i l.nodes) ≡ string_bytes l.fn.out ++ boxes_from 0 l.nodes
