@@ -16,12 +16,10 @@ mutual
   value_json (Number n) false rest = refl
   value_json (Text bytes) true rest = refl
   value_json (Text bytes) false rest = refl
-  value_json (ListOf items) true rest = ap (λ t. codes "," ++ (codes "[" ++ t)) (list_json items rest)
-  value_json (ListOf items) false rest = ap (λ t. codes "[" ++ t) (list_json items rest)
-
-  list_json : (vs : Values) (rest : List Part) → parts_json false ((parts_of_all vs ++ Closes ∷ []) ++ rest) ≡ (items_json vs ++ codes "]") ++ parts_json true rest
-  list_json vs rest =
-      ap (parts_json false) (append_assoc (parts_of_all vs) (Closes ∷ []) rest) ∙ all_json vs rest ∙ sym (append_assoc (items_json vs) (codes "]") (parts_json true rest))
+  value_json (ListOf items) true rest =
+      ap (λ t. codes "," ++ (codes "[" ++ t)) (ap (parts_json false) (append_assoc (parts_of_all items) (Closes ∷ []) rest) ∙ all_json items rest ∙ sym (append_assoc (items_json items) (codes "]") (parts_json true rest)))
+  value_json (ListOf items) false rest =
+      ap (λ t. codes "[" ++ t) (ap (parts_json false) (append_assoc (parts_of_all items) (Closes ∷ []) rest) ∙ all_json items rest ∙ sym (append_assoc (items_json items) (codes "]") (parts_json true rest)))
 
   all_json : (vs : Values) (rest : List Part) → parts_json false (parts_of_all vs ++ Closes ∷ rest) ≡ items_json vs ++ (codes "]" ++ parts_json true rest)
   all_json NoValue rest = refl

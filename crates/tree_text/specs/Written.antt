@@ -1,6 +1,6 @@
 -- What is written of labels, of values as JSON, and of trees as lines and as graphs: all as bytes.
 use Rattle.std.specs.Prelude.{ℕ, ◌/◌, ◌%◌, ◌+◌, ◌-◌, ◌==◌, ◌||◌, nat_lt, Bool, true, false, if◌then◌else◌, List, [], ◌∷◌, ◌++◌, take, decimal, codes, Option, Some, None}
-use Rattle.std.specs.Str.{chars, encode_utf8_all}
+use Rattle.std.specs.Str.{chars}
 use Rattle.std.specs.Char.{encode_utf8}
 use Rattle.std.specs.List.{flat_map}
 use Rattle.grammar_model.specs.Text.{hex_digit, is_control}
@@ -106,19 +106,19 @@ abbrev pub parts_json : (follows : Bool) → List Part → List ℕ
 parts_json follows [] = []
 parts_json follows (part ∷ parts) = comma_before follows part ++ (part_json part ++ parts_json (is_followed part) parts)
 
--- LINES
+-- LINES, of which the strokes and the three dots stand in UTF-8
 
 -- the line from a node above to what comes after it, which stands only where that is not the last one
 abbrev pub rail : Bool → List ℕ
 rail true = codes "  "
-rail false = encode_utf8_all (9474 ∷ 32 ∷ [])
+rail false = 226 ∷ 148 ∷ 130 ∷ 32 ∷ []
 
 abbrev pub branch : Bool → List ℕ
-branch true = encode_utf8_all (9492 ∷ 32 ∷ [])
-branch false = encode_utf8_all (9500 ∷ 32 ∷ [])
+branch true = 226 ∷ 148 ∷ 148 ∷ 32 ∷ []
+branch false = 226 ∷ 148 ∷ 156 ∷ 32 ∷ []
 
 abbrev pub depth_text : ℕ → List ℕ
-depth_text depth = encode_utf8_all (8230 ∷ 32 ∷ []) ++ (decimal depth ++ codes " ")
+depth_text depth = 226 ∷ 128 ∷ 166 ∷ 32 ∷ (decimal depth ++ codes " ")
 
 -- the lines from the nodes above, or their number where they are many
 abbrev pub rails : (depth : ℕ) → List Bool → List ℕ
@@ -151,5 +151,8 @@ abbrev pub boxes_from : ℕ → List Node → List ℕ
 boxes_from i [] = []
 boxes_from i (node ∷ nodes) = box i (label_text node.label) ++ (edge node.above i ++ boxes_from (i + 1) nodes)
 
+abbrev pub graph_head : List ℕ
+graph_head = codes "digraph tree {\n  ordering=out;\n  node [shape=box, fontname=\"monospace\"];\n  edge [arrowhead=none];\n"
+
 abbrev pub graph_of : List Node → List ℕ
-graph_of nodes = codes "digraph tree {\n  ordering=out;\n  node [shape=box, fontname=\"monospace\"];\n  edge [arrowhead=none];\n" ++ (boxes_from 0 nodes ++ codes "}\n")
+graph_of nodes = graph_head ++ (boxes_from 0 nodes ++ codes "}\n")

@@ -12,11 +12,7 @@ const DEEP: usize = 60;
 fn push_rail(last: bool, out: &mut String) -> Result<(), AllocError>
     ensures { OnOk result (string_bytes out.new ≡ string_bytes out.old ++ rail last) }
 {
-    if last {
-        put("  ", out)
-    } else {
-        put("│ ", out)
-    }
+    if last { put("  ", out) } else { put("│ ", out) }
 }
 
 fn push_each_rail(ended: &[bool], out: &mut String) -> Result<(), AllocError>
@@ -50,11 +46,7 @@ fn push_rails(depth: usize, ended: &[bool], out: &mut String) -> Result<(), Allo
 fn push_branch(last: bool, out: &mut String) -> Result<(), AllocError>
     ensures { OnOk result (string_bytes out.new ≡ string_bytes out.old ++ branch last) }
 {
-    if last {
-        put("└ ", out)
-    } else {
-        put("├ ", out)
-    }
+    if last { put("└ ", out) } else { put("├ ", out) }
 }
 
 /// Appends what stands in front of a node's label. `ended` tells of the nodes above it, but the first, whether each is the last one, and then of the node, too.

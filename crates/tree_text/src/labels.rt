@@ -104,8 +104,7 @@ pub fn push_label(label: Label<'_>, out: &mut String) -> Result<(), AllocError>
 }
 
 /// Whether a name is this text in quotes.
-fn is_quoted_text(name: &str, text: &str) -> bool
-{
+fn is_quoted_text(name: &str, text: &str) -> bool {
     match name.strip_prefix('\'') {
         Some(rest) => rest.strip_suffix('\'') == Some(text),
         None => false,

@@ -76,8 +76,12 @@ fn ends_parts(node: &Node<'_>, depth: usize) -> bool {
 }
 
 /// Appends the parts of the alternative at a place, each after a space.
-fn push_parts(nodes: &[Node<'_>], at: usize, depth: usize, out: &mut String) -> Result<(), AllocError>
-{
+fn push_parts(
+    nodes: &[Node<'_>],
+    at: usize,
+    depth: usize,
+    out: &mut String,
+) -> Result<(), AllocError> {
     for node in nodes.iter().skip(at).skip(1) {
         if ends_parts(node, depth) {
             break;
@@ -91,25 +95,27 @@ fn push_parts(nodes: &[Node<'_>], at: usize, depth: usize, out: &mut String) -> 
 }
 
 /// Appends a piece of a sequence: its item, its sign, or its separator.
-fn push_piece(
-    node: &Node<'_>,
-    separates: bool,
-    out: &mut String,
-) -> Result<(), AllocError>
-{
+fn push_piece(node: &Node<'_>, separates: bool, out: &mut String) -> Result<(), AllocError> {
     if let Some(text) = part_text(node) {
         out.push_str(if separates { " separator => " } else { " " })?;
         return push_name(text, out);
     }
     match node.label {
-        Label::Token { name: "'*'" | "'+'", text } => push_name(text, out),
+        Label::Token {
+            name: "'*'" | "'+'",
+            text,
+        } => push_name(text, out),
         _ => Ok(()),
     }
 }
 
 /// Appends the item of the sequence at a place, its sign, and its separator where it has one.
-fn push_sequence(nodes: &[Node<'_>], at: usize, depth: usize, out: &mut String) -> Result<(), AllocError>
-{
+fn push_sequence(
+    nodes: &[Node<'_>],
+    at: usize,
+    depth: usize,
+    out: &mut String,
+) -> Result<(), AllocError> {
     let mut separates = false;
     let mut named = false;
     for node in nodes.iter().skip(at).skip(1) {
@@ -128,8 +134,12 @@ fn push_sequence(nodes: &[Node<'_>], at: usize, depth: usize, out: &mut String) 
 }
 
 /// Appends the right side of the rule at a place.
-fn push_right(nodes: &[Node<'_>], at: usize, form: Form, out: &mut String) -> Result<(), AllocError>
-{
+fn push_right(
+    nodes: &[Node<'_>],
+    at: usize,
+    form: Form,
+    out: &mut String,
+) -> Result<(), AllocError> {
     let depth = match nodes.get(at) {
         Some(node) => node.depth,
         None => 0,
@@ -149,8 +159,7 @@ fn push_rule(
     at: usize,
     form: Form,
     out: &mut String,
-) -> Result<(), AllocError>
-{
+) -> Result<(), AllocError> {
     write!(out, "{number} ")?;
     push_name(left, out)?;
     out.push_str(" ::=")?;

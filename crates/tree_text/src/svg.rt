@@ -21,8 +21,7 @@ fn row_top(tile: &Tile) -> usize {
 }
 
 /// Appends a character of a text.
-fn push_character(c: char, out: &mut String) -> Result<(), AllocError>
-{
+fn push_character(c: char, out: &mut String) -> Result<(), AllocError> {
     match c {
         '&' => out.push_str("&amp;"),
         '<' => out.push_str("&lt;"),
@@ -31,20 +30,14 @@ fn push_character(c: char, out: &mut String) -> Result<(), AllocError>
     }
 }
 
-fn push_escaped(text: &str, out: &mut String) -> Result<(), AllocError>
-{
+fn push_escaped(text: &str, out: &mut String) -> Result<(), AllocError> {
     for c in text.chars() {
         push_character(c, out)?;
     }
     Ok(())
 }
 
-fn push_line(
-    from: &Tile,
-    to: &Tile,
-    out: &mut String,
-) -> Result<(), AllocError>
-{
+fn push_line(from: &Tile, to: &Tile, out: &mut String) -> Result<(), AllocError> {
     let x1 = from.middle;
     let y1 = row_top(from).saturating_add(BOX);
     let x2 = to.middle;
@@ -55,8 +48,7 @@ fn push_line(
     )
 }
 
-fn push_frame(tile: &Tile, out: &mut String) -> Result<(), AllocError>
-{
+fn push_frame(tile: &Tile, out: &mut String) -> Result<(), AllocError> {
     let left = left_of(tile);
     let top = row_top(tile);
     let width = tile.width;
@@ -66,8 +58,7 @@ fn push_frame(tile: &Tile, out: &mut String) -> Result<(), AllocError>
     )
 }
 
-fn push_box(tile: &Tile, out: &mut String) -> Result<(), AllocError>
-{
+fn push_box(tile: &Tile, out: &mut String) -> Result<(), AllocError> {
     let middle = tile.middle;
     let base = row_top(tile).saturating_add(18);
     push_frame(tile, out)?;
@@ -80,8 +71,7 @@ fn push_box(tile: &Tile, out: &mut String) -> Result<(), AllocError>
 }
 
 /// Appends the line from the box right above, if there is one.
-fn push_edge(tile: &Tile, tiles: &[Tile], out: &mut String) -> Result<(), AllocError>
-{
+fn push_edge(tile: &Tile, tiles: &[Tile], out: &mut String) -> Result<(), AllocError> {
     let Some(above) = tile.above else {
         return Ok(());
     };
@@ -91,16 +81,14 @@ fn push_edge(tile: &Tile, tiles: &[Tile], out: &mut String) -> Result<(), AllocE
     }
 }
 
-fn push_edges(tiles: &[Tile], out: &mut String) -> Result<(), AllocError>
-{
+fn push_edges(tiles: &[Tile], out: &mut String) -> Result<(), AllocError> {
     for tile in tiles {
         push_edge(tile, tiles, out)?;
     }
     Ok(())
 }
 
-fn push_boxes(tiles: &[Tile], out: &mut String) -> Result<(), AllocError>
-{
+fn push_boxes(tiles: &[Tile], out: &mut String) -> Result<(), AllocError> {
     for tile in tiles {
         push_box(tile, out)?;
     }
@@ -122,8 +110,7 @@ fn size_of(tiles: &[Tile]) -> (i64, usize) {
 }
 
 /// Appends the picture of boxes that have their places.
-fn push_picture(tiles: &[Tile], out: &mut String) -> Result<(), AllocError>
-{
+fn push_picture(tiles: &[Tile], out: &mut String) -> Result<(), AllocError> {
     let (width, height) = size_of(tiles);
     write!(
         out,

@@ -13,8 +13,7 @@ use std::fmt::Write;
 const MANY: usize = 10;
 
 /// Appends how many tokens are in each node right below this one.
-fn push_parts(nodes: &[Node<'_>], at: usize, out: &mut String) -> Result<(), AllocError>
-{
+fn push_parts(nodes: &[Node<'_>], at: usize, out: &mut String) -> Result<(), AllocError> {
     let mut follows = false;
     for node in nodes {
         if node.above != Some(at) {
@@ -29,8 +28,7 @@ fn push_parts(nodes: &[Node<'_>], at: usize, out: &mut String) -> Result<(), All
 }
 
 /// Appends the rule of a node, if it has one.
-fn push_rule(label: Label<'_>, out: &mut String) -> Result<(), AllocError>
-{
+fn push_rule(label: Label<'_>, out: &mut String) -> Result<(), AllocError> {
     match label {
         Label::Rule { rule, .. } => write!(out, "rule {rule}"),
         _ => out.push_str("no rule"),
@@ -38,8 +36,7 @@ fn push_rule(label: Label<'_>, out: &mut String) -> Result<(), AllocError>
 }
 
 /// Appends the rule of a node, if it has one, and how it cuts its tokens.
-fn push_cut(nodes: &[Node<'_>], at: usize, out: &mut String) -> Result<(), AllocError>
-{
+fn push_cut(nodes: &[Node<'_>], at: usize, out: &mut String) -> Result<(), AllocError> {
     let Some(node) = nodes.get(at) else {
         return Ok(());
     };
@@ -63,13 +60,7 @@ fn is_told(place: usize, tokens: usize) -> bool {
 }
 
 /// Appends the text of a token of a part, by how many of its tokens are before it.
-fn push_token(
-    text: &str,
-    place: usize,
-    tokens: usize,
-    out: &mut String,
-) -> Result<(), AllocError>
-{
+fn push_token(text: &str, place: usize, tokens: usize, out: &mut String) -> Result<(), AllocError> {
     if !is_told(place, tokens) {
         return out.push_str(if place == MANY { " .." } else { "" });
     }
@@ -78,15 +69,13 @@ fn push_token(
 }
 
 /// Appends what comes before a part: a bar, where it is not the first, and `()` for a part without tokens.
-fn push_part_begin(first: bool, tokens: usize, out: &mut String) -> Result<(), AllocError>
-{
+fn push_part_begin(first: bool, tokens: usize, out: &mut String) -> Result<(), AllocError> {
     out.push_str(if first { "" } else { " | " })?;
     out.push_str(if tokens == 0 { "()" } else { "" })
 }
 
 /// Appends the texts of the tokens below a node, with bars between its parts.
-fn push_texts(nodes: &[Node<'_>], at: usize, out: &mut String) -> Result<(), AllocError>
-{
+fn push_texts(nodes: &[Node<'_>], at: usize, out: &mut String) -> Result<(), AllocError> {
     let mut first = true;
     let mut before = 0;
     let mut tokens = 0;
@@ -119,8 +108,7 @@ fn is_outside(nodes: &[Node<'_>], at: usize, node: &Node<'_>) -> bool {
 }
 
 /// Appends a line with the rule of a node and the texts of its parts, where it has a rule.
-fn push_reading(nodes: &[Node<'_>], at: usize, out: &mut String) -> Result<(), AllocError>
-{
+fn push_reading(nodes: &[Node<'_>], at: usize, out: &mut String) -> Result<(), AllocError> {
     let Some(node) = nodes.get(at) else {
         return Ok(());
     };
@@ -133,8 +121,7 @@ fn push_reading(nodes: &[Node<'_>], at: usize, out: &mut String) -> Result<(), A
 }
 
 /// Appends the name of a node, and from which token to which it goes.
-fn push_span(node: &Node<'_>, out: &mut String) -> Result<(), AllocError>
-{
+fn push_span(node: &Node<'_>, out: &mut String) -> Result<(), AllocError> {
     let from = node.before;
     let to = from.saturating_add(node.tokens);
     out.push_str(name_in(node.label).unwrap_or("a list"))?;
