@@ -4,7 +4,7 @@ use Rattle.grammar_model.specs.Values.{Value, Values, Undefined, Number, Text, L
 use Rattle.tree_text.specs.Parts.{Part, Opens, Closes, Atom, parts_of, parts_of_all}
 use Rattle.tree_text.specs.Written.{json_of, items_json, json_behind, parts_json}
 
-comma_if : Bool → List ℕ
+abbrev comma_if : Bool → List ℕ
 comma_if true = codes ","
 comma_if false = []
 
