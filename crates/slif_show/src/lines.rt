@@ -60,9 +60,8 @@ impl<S: Source> Lines<S> {
     fn line_end(&mut self) -> Result<(usize, bool), Stop> {
         let mut seen = self.given.min(self.read.len());
         for _ in 0..u64::MAX {
-            let found = self.read[seen..].iter().position(|b| *b == b'\n');
-            if let Some(count) = found {
-                return Ok((seen.saturating_add(count), true));
+            if let Some(end) = line_feed_from(&self.read, seen) {
+                return Ok((end, true));
             }
             self.forget();
             seen = self.read.len();
@@ -105,6 +104,12 @@ impl<S: Source> Lines<S> {
         }
         Err(Stop::NoMemory)
     }
+}
+
+/// Where the next line feed stands, from a place on.
+fn line_feed_from(bytes: &[u8], from: usize) -> Option<usize> {
+    let count = bytes.get(from..)?.iter().position(|b| *b == b'\n')?;
+    Some(from.saturating_add(count))
 }
 
 /// Whether a line tells of the others: the counts of `--stats`, or the place that job `more` goes on from. No value begins so.
