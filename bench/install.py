@@ -3,14 +3,14 @@
 
     bench/install.py [--programs FOLDER]
 
-FOLDER has the programs `slif`, `slif_show` and `slif_glades`; without it those that were built here. Tested are the files and their modes, the programs through
+FOLDER has the programs `slif`, `slif_show`, `slif_glades` and `slif_lint`; without it those that were built here. Tested are the files and their modes, the programs through
 PATH, the manual pages through man, the completions through bash, and the kind of a file through Vim (each where that program is installed);
 a root before the prefix; that nothing is written where a program is missing; and that the pages and CHANGELOG.md name the same version.
 """
 import argparse, json, os, pathlib, re, shutil, subprocess, sys, tempfile
 
 ROOT = pathlib.Path(__file__).resolve().parent.parent
-PROGRAMS = ("slif", "slif_show", "slif_glades")
+PROGRAMS = ("slif", "slif_show", "slif_glades", "slif_lint")
 WANTED = {
     **{f"bin/{name}": 0o755 for name in PROGRAMS},
     **{f"share/man/man1/{name}.1": 0o644 for name in PROGRAMS},

@@ -1,4 +1,4 @@
-# Completions of slif, slif_show and slif_glades for bash. extras/install puts this file where bash-completion looks; anywhere else, source it.
+# Completions of slif, slif_show, slif_glades and slif_lint for bash. extras/install puts this file where bash-completion looks; anywhere else, source it.
 
 # The options that a job takes.
 _slif_options() {
@@ -74,7 +74,7 @@ _slif() {
 _slif_show() {
     COMPREPLY=()
     if ((COMP_CWORD == 1)); then
-        mapfile -t COMPREPLY < <(compgen -W '--json --dot --svg --diff' -- "${COMP_WORDS[1]}")
+        mapfile -t COMPREPLY < <(compgen -W '--json --dot --svg --diff --rules' -- "${COMP_WORDS[1]}")
     fi
 }
 
@@ -95,6 +95,17 @@ _slif_glades() {
     mapfile -t COMPREPLY < <(compgen -W "$left" -- "$word")
 }
 
+_slif_lint() {
+    COMPREPLY=()
+    if ((COMP_CWORD == 1)); then
+        mapfile -t COMPREPLY < <(compgen -W --grammar -- "${COMP_WORDS[1]}")
+    elif ((COMP_CWORD == 2)); then
+        compopt -o filenames 2>/dev/null
+        mapfile -t COMPREPLY < <(compgen -f -- "${COMP_WORDS[2]}")
+    fi
+}
+
 complete -F _slif slif
 complete -F _slif_show slif_show
 complete -F _slif_glades slif_glades
+complete -F _slif_lint slif_lint

@@ -8,6 +8,8 @@ mod plays;
 #[cfg(test)]
 mod read_values;
 #[cfg(test)]
+mod rules;
+#[cfg(test)]
 mod tellers;
 #[cfg(test)]
 mod trees;

@@ -106,18 +106,18 @@ fn a_tree_is_a_graph(rt: HostRuntime) -> Result<(), Fail> {
     Ok(())
 }
 
-// Boxes are 9 wide for each character and 14 more: 41, 59 and 23, the two below 12 apart.
+// Boxes are 9 wide for each character and 14 more: 41, 59 and 23, the two below 12 apart, their middles as far from that of the box above.
 const PICTURE: &str =
-    "<svg xmlns=\"http://www.w3.org/2000/svg\" width=\"114\" height=\"106\" font-family=\"monospace\" font-size=\"14\">\n\
+    "<svg xmlns=\"http://www.w3.org/2000/svg\" width=\"113\" height=\"98\" font-family=\"monospace\" font-size=\"14\">\n\
      <rect width=\"100%\" height=\"100%\" fill=\"#fff\"/>\n\
-     <line x1=\"57\" y1=\"36\" x2=\"39\" y2=\"70\" stroke=\"#888\"/>\n\
-     <line x1=\"57\" y1=\"36\" x2=\"92\" y2=\"70\" stroke=\"#888\"/>\n\
-     <rect x=\"37\" y=\"10\" width=\"41\" height=\"26\" rx=\"4\" fill=\"#fff\" stroke=\"#888\"/>\n\
-     <text x=\"57\" y=\"28\" text-anchor=\"middle\">S 0</text>\n\
-     <rect x=\"10\" y=\"70\" width=\"59\" height=\"26\" rx=\"4\" fill=\"#fff\" stroke=\"#888\"/>\n\
-     <text x=\"39\" y=\"88\" text-anchor=\"middle\">a \"&lt;\"</text>\n\
-     <rect x=\"81\" y=\"70\" width=\"23\" height=\"26\" rx=\"4\" fill=\"#fff\" stroke=\"#888\"/>\n\
-     <text x=\"92\" y=\"88\" text-anchor=\"middle\">n</text>\n\
+     <line x1=\"65\" y1=\"36\" x2=\"39\" y2=\"62\" stroke=\"#888\"/>\n\
+     <line x1=\"65\" y1=\"36\" x2=\"91\" y2=\"62\" stroke=\"#888\"/>\n\
+     <rect x=\"45\" y=\"10\" width=\"41\" height=\"26\" rx=\"4\" fill=\"#fff\" stroke=\"#888\"/>\n\
+     <text x=\"65\" y=\"28\" text-anchor=\"middle\">S 0</text>\n\
+     <rect x=\"10\" y=\"62\" width=\"59\" height=\"26\" rx=\"4\" fill=\"#fff\" stroke=\"#888\"/>\n\
+     <text x=\"39\" y=\"80\" text-anchor=\"middle\">a \"&lt;\"</text>\n\
+     <rect x=\"80\" y=\"62\" width=\"23\" height=\"26\" rx=\"4\" fill=\"#fff\" stroke=\"#888\"/>\n\
+     <text x=\"91\" y=\"80\" text-anchor=\"middle\">n</text>\n\
      </svg>\n";
 
 #[test]
@@ -128,17 +128,39 @@ fn a_tree_is_a_picture(rt: HostRuntime) -> Result<(), Fail> {
 
 // Two trees of one box each, 23 wide and 60 apart.
 const PICTURES: &str =
-    "<svg xmlns=\"http://www.w3.org/2000/svg\" width=\"126\" height=\"46\" font-family=\"monospace\" font-size=\"14\">\n\
+    "<svg xmlns=\"http://www.w3.org/2000/svg\" width=\"125\" height=\"46\" font-family=\"monospace\" font-size=\"14\">\n\
      <rect width=\"100%\" height=\"100%\" fill=\"#fff\"/>\n\
      <rect x=\"10\" y=\"10\" width=\"23\" height=\"26\" rx=\"4\" fill=\"#fff\" stroke=\"#888\"/>\n\
      <text x=\"21\" y=\"28\" text-anchor=\"middle\">n</text>\n\
-     <rect x=\"93\" y=\"10\" width=\"23\" height=\"26\" rx=\"4\" fill=\"#fff\" stroke=\"#888\"/>\n\
-     <text x=\"104\" y=\"28\" text-anchor=\"middle\">m</text>\n\
+     <rect x=\"92\" y=\"10\" width=\"23\" height=\"26\" rx=\"4\" fill=\"#fff\" stroke=\"#888\"/>\n\
+     <text x=\"103\" y=\"28\" text-anchor=\"middle\">m</text>\n\
      </svg>\n";
 
 #[test]
 fn trees_stand_beside_each_other(rt: HostRuntime) -> Result<(), Fail> {
     let texts = ["[\"n\"]", "[\"m\"]"];
     assert!(rt; are_drawn(rt.alloc(), &texts, Drawing::Picture, PICTURES)?);
+    Ok(())
+}
+
+// A has B alone below it, so both stand in one box; the token 'x' has its text as name, and that alone.
+const CHAIN: &str = "[\"A\",0,[\"B\",1,[\"'x'\",\"x\"],[\"n\"]]]";
+
+const CHAIN_PICTURE: &str =
+    "<svg xmlns=\"http://www.w3.org/2000/svg\" width=\"115\" height=\"98\" font-family=\"monospace\" font-size=\"14\">\n\
+     <rect width=\"100%\" height=\"100%\" fill=\"#fff\"/>\n\
+     <line x1=\"57\" y1=\"36\" x2=\"36\" y2=\"62\" stroke=\"#888\"/>\n\
+     <line x1=\"57\" y1=\"36\" x2=\"79\" y2=\"62\" stroke=\"#888\"/>\n\
+     <rect x=\"10\" y=\"10\" width=\"95\" height=\"26\" rx=\"4\" fill=\"#fff\" stroke=\"#888\"/>\n\
+     <text x=\"57\" y=\"28\" text-anchor=\"middle\">A 0 · B 1</text>\n\
+     <rect x=\"16\" y=\"62\" width=\"41\" height=\"26\" rx=\"4\" fill=\"#fff\" stroke=\"#888\"/>\n\
+     <text x=\"36\" y=\"80\" text-anchor=\"middle\">'x'</text>\n\
+     <rect x=\"68\" y=\"62\" width=\"23\" height=\"26\" rx=\"4\" fill=\"#fff\" stroke=\"#888\"/>\n\
+     <text x=\"79\" y=\"80\" text-anchor=\"middle\">n</text>\n\
+     </svg>\n";
+
+#[test]
+fn a_chain_is_a_box(rt: HostRuntime) -> Result<(), Fail> {
+    assert!(rt; are_drawn(rt.alloc(), &[CHAIN], Drawing::Picture, CHAIN_PICTURE)?);
     Ok(())
 }

@@ -29,13 +29,14 @@ fn a_value_is_json(rt: HostRuntime) -> Result<(), Fail> {
 }
 
 fn put_difference(
+    alloc: Global,
     one: &[Node<'_>],
     other: &[Node<'_>],
     out: &mut String,
 ) -> Result<(), AllocError> {
     match first_difference(one, other) {
         Difference::Same => out.push_str("the same"),
-        Difference::Within(at) => push_difference(one, other, at, out),
+        Difference::Within(at) => push_difference(alloc, one, other, at, out),
         Difference::Apart => out.push_str("nothing in common"),
     }
 }
@@ -47,7 +48,7 @@ fn nodes_differ(
     wanted: &str,
 ) -> Result<bool, AllocError> {
     let mut out = String::new(alloc);
-    put_difference(one, other, &mut out)?;
+    put_difference(alloc, one, other, &mut out)?;
     Ok(out.as_str() == wanted)
 }
 
@@ -90,7 +91,7 @@ static ROWS: &[Row] = &[
     (
         LEFT,
         RIGHT,
-        "E from 0 to 5: rule 0 (3+1+1), rule 0 (1+1+3)\n",
+        "E from 0 to 5: rule 0 (3+1+1), rule 0 (1+1+3)\n  rule 0: 1 + 1 | + | 1\n  rule 0: 1 | + | 1 + 1\n",
     ),
     (LEFT, LEFT, "the same"),
     ("[\"A\",0]", "[\"B\",0]", "nothing in common"),
@@ -108,7 +109,7 @@ fn differences_are_told(rt: HostRuntime) -> Result<(), Fail> {
 const SMALLEST: &Row = &(
     "[\"S\",0,[\"A\",1,[\"B\",2,[\"x\",\"x\"]],[\"y\",\"y\"]],[\"B\",2,[\"x\",\"x\"]]]",
     "[\"S\",0,[\"A\",1,[\"B\",2,[\"x\",\"x\"]],[\"y\",\"y\"]],[\"B\",3,[\"C\",4,[\"x\",\"x\"]]]]",
-    "B from 2 to 3: rule 2 (1), rule 3 (1)\n",
+    "B from 2 to 3: rule 2 (1), rule 3 (1)\n  rule 2: x\n  rule 3: x\n",
 );
 
 #[test]
@@ -121,7 +122,7 @@ fn the_smallest_node_is_told(rt: HostRuntime) -> Result<(), Fail> {
 const ONE_MORE: &Row = &(
     "[\"S\",0,[\"L\",1,[\"x\",\"x\"]],[\"y\",\"y\"]]",
     "[\"S\",0,[\"L\",1,[\"x\",\"x\"],[\"n\"]],[\"y\",\"y\"]]",
-    "L from 0 to 1: rule 1 (1), rule 1 (1+0)\n",
+    "L from 0 to 1: rule 1 (1), rule 1 (1+0)\n  rule 1: x\n  rule 1: x | ()\n",
 );
 
 #[test]

@@ -1,88 +1,13 @@
-// The lines of the input, shown one after another.
-ghost use Rattle.std.specs.Prelude.{map, IfOk};
-ghost use Rattle.tree_text.specs.Parts.{part_of};
-ghost use Rattle.tree_text.specs.Reading.{IsRead};
-
+// What is shown of the lines of the input.
+use crate::lines::{Entry, Lines};
 use crate::stop::Stop;
 use crate::words::Form;
-use slif_base::{Sink, write_all};
+use slif_base::{Sink, Source, write_all};
 use std::alloc::{AllocError, Global};
 use tree_text::{
-    Difference, Part, ReadRefusal, first_difference, nodes_of, push_difference, push_dot,
-    push_indented, push_json, push_svg, read_value,
+    Difference, Part, first_difference, is_grammar, nodes_of, push_difference, push_dot,
+    push_indented, push_json, push_rules, push_svg,
 };
-
-/// What is left of the lines.
-#[derive(Clone, Copy)]
-struct Lines<'t> {
-    rest: &'t [u8],
-    /// How many lines were taken.
-    taken: usize,
-}
-
-/// The prefix of some bytes up to a line feed, and what is after it.
-fn split_line(bytes: &[u8]) -> (&[u8], &[u8]) {
-    let end = match bytes.iter().position(|b| *b == b'\n') {
-        Some(end) => end,
-        None => bytes.len(),
-    };
-    match bytes.split_at_checked(end) {
-        Some((line, [_, rest @ ..])) => (line, rest),
-        _ => (bytes, &[]),
-    }
-}
-
-impl<'t> Lines<'t> {
-    fn next_line(&mut self) -> Option<&'t [u8]> {
-        if self.rest.is_empty() {
-            return None;
-        }
-        let (line, rest) = split_line(self.rest);
-        self.taken = self.taken.saturating_add(1);
-        self.rest = rest;
-        Some(line)
-    }
-
-    /// The parts of the value on the next line.
-    fn next_value(&mut self, alloc: Global) -> Result<Option<Vec<Part>>, Stop> {
-        let Some(bytes) = self.next_line() else {
-            return Ok(None);
-        };
-        let line = self.taken;
-        match std::str::from_utf8(bytes) {
-            Ok(text) => Ok(Some(value_of(alloc, line, text)?)),
-            Err(error) => Err(Stop::NotValue {
-                line,
-                column: column_behind(bytes, error.valid_up_to()),
-            }),
-        }
-    }
-}
-
-/// The column after the longest prefix of a line that is UTF-8.
-fn column_behind(line: &[u8], len: usize) -> usize {
-    let Some(prefix) = line.get(..len) else {
-        return 1;
-    };
-    match std::str::from_utf8(prefix) {
-        Ok(text) => text.chars().count().saturating_add(1),
-        Err(_) => 1,
-    }
-}
-
-/// The parts of the value whose text a line is.
-fn value_of(alloc: Global, line: usize, text: &str) -> Result<Vec<Part>, Stop>
-    ensures { IfOk result (λ parts. IsRead text.now (map part_of parts.items)) }
-{
-    match read_value(alloc, text) {
-        Ok(parts) => Ok(parts),
-        Err(ReadRefusal::NotValue { left }) => Err(Stop::NotValue {
-            line,
-            column: text.chars().count().saturating_sub(left).saturating_add(1),
-        }),
-        Err(ReadRefusal::NoMemory) => Err(Stop::NoMemory),
-    }
-}
 
 /// Appends a tree in this form, after an empty line where it is not the first.
 fn push_tree(
@@ -102,55 +27,94 @@ fn push_tree(
     push_indented(alloc, &nodes, out)
 }
 
-fn show_each<K: Sink>(
+/// Appends a line that tells of the others, as it stands. JSON has no place for it.
+fn push_note(form: Form, first: bool, note: &str, out: &mut String) -> Result<(), AllocError> {
+    if let Form::Json = form {
+        return Ok(());
+    }
+    out.push_str(if first { "" } else { "\n" })?;
+    out.push_str(note)?;
+    out.push('\n')
+}
+
+/// Appends what is shown of a line.
+fn push_entry(
     alloc: Global,
     form: Form,
-    lines: &mut Lines<'_>,
+    first: bool,
+    entry: &Entry,
+    out: &mut String,
+) -> Result<(), AllocError> {
+    match entry {
+        Entry::Value(parts) => push_tree(alloc, form, first, parts, out),
+        Entry::Note(note) => push_note(form, first, note.as_str(), out),
+    }
+}
+
+/// Writes each line as soon as it is read.
+fn show_each<S: Source, K: Sink>(
+    alloc: Global,
+    form: Form,
+    lines: &mut Lines<S>,
     sink: &mut K,
 ) -> Result<(), Stop> {
     let mut out = String::new(alloc);
     let mut first = true;
     for _ in 0..u64::MAX {
-        let Some(parts) = lines.next_value(alloc)? else {
-            break;
+        let Some(entry) = lines.next_entry(alloc)? else {
+            return Ok(());
         };
         out.clear();
-        let pushed = push_tree(alloc, form, first, &parts, &mut out);
-        drop(parts);
+        let pushed = push_entry(alloc, form, first, &entry, &mut out);
+        drop(entry);
         pushed?;
         first = false;
         write_all(sink, out.as_bytes())?;
     }
-    Ok(())
+    Err(Stop::NoMemory)
 }
 
 /// The parts of the values on all lines.
-fn all_parts(alloc: Global, lines: &mut Lines<'_>) -> Result<Vec<Part>, Stop> {
+fn all_parts<S: Source>(alloc: Global, lines: &mut Lines<S>) -> Result<Vec<Part>, Stop> {
     let mut all = Vec::new(alloc);
     for _ in 0..u64::MAX {
         let Some(mut parts) = lines.next_value(alloc)? else {
-            break;
+            return Ok(all);
         };
         all.append(&mut parts)?;
     }
-    Ok(all)
+    Err(Stop::NoMemory)
 }
 
 /// Appends one picture of all trees.
-fn push_picture(
+fn push_picture<S: Source>(
     alloc: Global,
     form: Form,
-    lines: &mut Lines<'_>,
+    lines: &mut Lines<S>,
     out: &mut String,
-) -> Result<(), Stop> {
+) -> Result<usize, Stop> {
     let parts = all_parts(alloc, lines)?;
     let nodes = nodes_of(alloc, &parts)?;
-    let pushed = if let Form::Dot = form {
-        push_dot(alloc, &nodes, out)
-    } else {
-        push_svg(alloc, &nodes, out)
-    };
-    Ok(pushed?)
+    if let Form::Dot = form {
+        push_dot(alloc, &nodes, out)?;
+        return Ok(0);
+    }
+    push_svg(alloc, &nodes, out)?;
+    Ok(nodes.len())
+}
+
+/// Appends the rules of the grammar whose tree the first line is.
+fn push_first_rules<S: Source>(
+    alloc: Global,
+    lines: &mut Lines<S>,
+    out: &mut String,
+) -> Result<(), Stop> {
+    let parts = lines.next_value(alloc)?.ok_or(Stop::NoGrammar)?;
+    let nodes = nodes_of(alloc, &parts)?;
+    if !is_grammar(&nodes) {
+        return Err(Stop::NoGrammar);
+    }
+    Ok(push_rules(alloc, &nodes, out)?)
 }
 
 /// Appends where two trees first differ.
@@ -164,50 +128,56 @@ fn push_first_difference(
     let other = nodes_of(alloc, other)?;
     match first_difference(&one, &other) {
         Difference::Same => out.push_str("the same\n"),
-        Difference::Within(at) => push_difference(&one, &other, at, out),
+        Difference::Within(at) => push_difference(alloc, &one, &other, at, out),
         Difference::Apart => out.push_str("nothing in common\n"),
     }
 }
 
 /// Appends where the trees on the first two lines first differ.
-fn push_comparison(alloc: Global, lines: &mut Lines<'_>, out: &mut String) -> Result<(), Stop> {
+fn push_comparison<S: Source>(
+    alloc: Global,
+    lines: &mut Lines<S>,
+    out: &mut String,
+) -> Result<(), Stop> {
     let one = lines.next_value(alloc)?.ok_or(Stop::NoTwoTrees)?;
     let other = lines.next_value(alloc)?.ok_or(Stop::NoTwoTrees)?;
     push_first_difference(alloc, &one, &other, out)?;
     Ok(())
 }
 
-/// Writes what this form tells of all trees together.
-fn show_all<K: Sink>(
+/// Writes what this form tells of all trees together, and gives how many nodes the picture has, if it is one.
+fn show_all<S: Source, K: Sink>(
     alloc: Global,
     form: Form,
-    lines: &mut Lines<'_>,
+    lines: &mut Lines<S>,
     sink: &mut K,
-) -> Result<(), Stop> {
+) -> Result<usize, Stop> {
     let mut out = String::new(alloc);
-    let pushed = if let Form::Difference = form {
-        push_comparison(alloc, lines, &mut out)
-    } else {
-        push_picture(alloc, form, lines, &mut out)
-    };
-    pushed?;
+    let mut drawn = 0;
+    match form {
+        Form::Difference => push_comparison(alloc, lines, &mut out)?,
+        Form::Rules => push_first_rules(alloc, lines, &mut out)?,
+        _ => drawn = push_picture(alloc, form, lines, &mut out)?,
+    }
     write_all(sink, out.as_bytes())?;
-    Ok(())
+    Ok(drawn)
 }
 
-/// Writes the lines of the input in this form.
-pub(crate) fn show<K: Sink>(
+/// Writes the lines of the input in this form, and gives how many nodes the picture has, if it is one.
+pub(crate) fn show<S: Source + Drop, K: Sink>(
     alloc: Global,
     form: Form,
-    input: &[u8],
+    source: S,
     sink: &mut K,
-) -> Result<(), Stop> {
-    let mut lines = Lines {
-        rest: input,
-        taken: 0,
-    };
+) -> Result<usize, Stop> {
+    let mut lines = Lines::new(alloc, source);
     match form {
-        Form::Indent | Form::Json => show_each(alloc, form, &mut lines, sink),
-        Form::Dot | Form::Svg | Form::Difference => show_all(alloc, form, &mut lines, sink),
+        Form::Indent | Form::Json => {
+            show_each(alloc, form, &mut lines, sink)?;
+            Ok(0)
+        }
+        Form::Dot | Form::Svg | Form::Difference | Form::Rules => {
+            show_all(alloc, form, &mut lines, sink)
+        }
     }
 }

@@ -1,16 +1,18 @@
 // Why the program ended early, and its status then.
-use slif_base::{ReadRefusal, WriteFault};
+use slif_base::WriteFault;
 use std::alloc::{AllocError, AllocFailed};
 use thiserror::Error;
 
 #[derive(Clone, Copy, Debug, PartialEq, Eq, Error)]
 pub(crate) enum Stop {
-    #[error("usage: slif_show [--json | --dot | --svg | --diff]")]
+    #[error("usage: slif_show [--json | --dot | --svg | --diff | --rules]")]
     Usage,
     #[error("line {line} column {column}: not a value")]
     NotValue { line: usize, column: usize },
     #[error("there are no two trees")]
     NoTwoTrees,
+    #[error("there is no tree of a grammar by slif.slif")]
+    NoGrammar,
     #[error("read fault")]
     ReadFault,
     #[error("write fault")]
@@ -23,7 +25,7 @@ impl Stop {
     /// The status that the program ends with.
     pub(crate) fn status(self) -> u8 {
         match self {
-            Stop::NotValue { .. } | Stop::NoTwoTrees => 1,
+            Stop::NotValue { .. } | Stop::NoTwoTrees | Stop::NoGrammar => 1,
             Stop::Usage => 2,
             Stop::ReadFault | Stop::WriteFault => 4,
             Stop::NoMemory => 5,
@@ -46,14 +48,5 @@ impl<T: Drop> From<AllocFailed<T>> for Stop {
 impl From<WriteFault> for Stop {
     fn from(_fault: WriteFault) -> Stop {
         Stop::WriteFault
-    }
-}
-
-impl From<ReadRefusal> for Stop {
-    fn from(refusal: ReadRefusal) -> Stop {
-        match refusal {
-            ReadRefusal::ReadFault => Stop::ReadFault,
-            ReadRefusal::TooLarge | ReadRefusal::NoMemory => Stop::NoMemory,
-        }
     }
 }

@@ -10,6 +10,7 @@ pub(crate) enum Form {
     Dot,
     Svg,
     Difference,
+    Rules,
 }
 
 fn form_named(word: &str) -> Option<Form> {
@@ -18,6 +19,7 @@ fn form_named(word: &str) -> Option<Form> {
         "--dot" => Some(Form::Dot),
         "--svg" => Some(Form::Svg),
         "--diff" => Some(Form::Difference),
+        "--rules" => Some(Form::Rules),
         _ => None,
     }
 }

@@ -7,3 +7,5 @@ pub mod Words
 pub mod Differences
 pub mod Texts
 pub mod Nested
+mod Eaches
+mod Jsons

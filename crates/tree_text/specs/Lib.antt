@@ -4,4 +4,5 @@ pub mod Reading
 pub mod Looks
 pub mod Differences
 pub mod Texts
+pub mod Written
 pub mod Nested

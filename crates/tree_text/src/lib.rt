@@ -1,6 +1,7 @@
 //! The texts of values, read back, and trees among them, shown.
 #![tactic(auto)]
 
+mod boxes;
 mod characters;
 mod difference;
 mod dot;
@@ -9,8 +10,11 @@ mod json;
 mod labels;
 mod looks;
 mod nodes;
+mod outlines;
 mod part;
+mod puts;
 mod read;
+mod rules;
 mod svg;
 mod telling;
 
@@ -22,5 +26,6 @@ pub use labels::push_label;
 pub use nodes::{Label, Node, nodes_of};
 pub use part::{Part, ReadRefusal};
 pub use read::read_value;
+pub use rules::{is_grammar, push_rules};
 pub use svg::push_svg;
 pub use telling::push_difference;

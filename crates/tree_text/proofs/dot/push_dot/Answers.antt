@@ -1,11 +1,13 @@
-use Rattle.tree_text.proofs.Texts.{appended, joined, pushed, behind}
+use Rattle.std.proofs.Common.{◌∙◌, ◌++◌, ap, codes, append_assoc, string_bytes}
+use Rattle.std.proofs.lemmas.Result.{on_ok_weaker}
+use Rattle.tree_text.specs.Written.{boxes_from, graph_head}
 use Rattle.tree_text.proofs.dot.push_dot.Goals as goal
 
-pub loop-i-init : goal.loop-i-init
-loop-i-init c = appended _ _ _ c.in_ok-push_str.ensures.bytes
-
-pub loop-i-preserved : goal.loop-i-preserved
-loop-i-preserved c = joined _ _ _ (joined _ _ _ c.loop-i.invariant c.in_ok-push_box.ensures) c.in_ok-push_edge.ensures
-
 pub returns : goal.returns
-returns c = behind _ _ _ _ c.loop-i.invariant (pushed _ _ _ _ c.push_str-2.ensures.bytes)
+returns c =
+    let out = string_bytes c.args.out.now in
+    let boxes = boxes_from 0 c.args.nodes.now in
+    on_ok_weaker c.put-2.result
+    (λ e. e ∙ ap (λ t. t ++ codes "}\n") c.in_ok-push_boxes.ensures ∙ ap (λ t. (t ++ boxes) ++ codes "}\n") c.in_ok-put.ensures
+    ∙ ap (λ t. t ++ codes "}\n") (append_assoc out graph_head boxes) ∙ append_assoc out (graph_head ++ boxes) (codes "}\n")
+    ∙ ap (λ t. out ++ t) (append_assoc graph_head boxes (codes "}\n"))) c.put-2.ensures

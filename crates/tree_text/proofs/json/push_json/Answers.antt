@@ -1,11 +1,9 @@
-use Rattle.tree_text.proofs.Texts.{stays, appended, joined, pushed, behind}
+use Rattle.std.proofs.Common.{◌∙◌, ◌++◌, ap, codes, append_assoc, string_bytes}
+use Rattle.std.proofs.lemmas.Result.{on_ok_weaker}
+use Rattle.tree_text.proofs.Jsons.{json_is}
 use Rattle.tree_text.proofs.json.push_json.Goals as goal
 
-pub loop-part-init : goal.loop-part-init
-loop-part-init c = stays _
-
-pub loop-part-preserved : goal.loop-part-preserved
-loop-part-preserved c = joined _ _ _ (joined _ _ _ c.loop-part.invariant (appended _ _ _ c.in_ok-push_str.ensures.bytes)) c.in_ok-push_part.ensures
-
 pub returns : goal.returns
-returns c = behind _ _ _ _ c.loop-part.invariant (pushed _ _ _ _ c.push.ensures.bytes)
+returns c = λ value e. on_ok_weaker c.put.result
+    (λ w. w ∙ ap (λ t. t ++ codes "\n") c.in_ok-push_parts.ensures ∙ append_assoc (string_bytes c.args.out.now) _ (codes "\n")
+    ∙ ap (λ t. string_bytes c.args.out.now ++ (t ++ codes "\n")) (json_is value _ e)) c.put.ensures

@@ -1,11 +1,15 @@
-use Rattle.tree_text.proofs.Texts.{stays, joined}
+use Rattle.std.proofs.lemmas.Str.{IsUtf8-past_char}
+use Rattle.tree_text.specs.Written.{visible}
+use Rattle.tree_text.proofs.Eaches.{each_step, each_end}
 use Rattle.tree_text.proofs.labels.push_name.Goals as goal
 
-pub loop-c-init : goal.loop-c-init
-loop-c-init c = stays _
-
 pub loop-c-preserved : goal.loop-c-preserved
-loop-c-preserved c = joined _ _ _ c.loop-c.invariant c.in_ok-push_visible.ensures
+loop-c-preserved c =
+    let parts = c.in-Some.ensures.steps.0 in
+    record {
+      utf8 = IsUtf8-past_char _ _ c.in-Some.c c.loop-c.invariant.utf8 parts;
+      written = each_step visible _ _ _ _ _ c.in-Some.c c.loop-c.invariant.utf8 parts c.in_ok-push_visible.ensures c.loop-c.invariant.written;
+    }
 
 pub returns : goal.returns
-returns c = c.loop-c.invariant
+returns c = each_end visible _ _ _ c.in-None.ensures.steps.0.0 c.loop-c.invariant.written
