@@ -79,13 +79,14 @@ uint32_t slif_parse_steps(slif_parse *parse, uint64_t derivation, size_t from, s
                           size_t *count);
 
 /* Reads an input, in UTF-8, and tells which lexemes could come after it, by the bytes of their names; *count is how many they are,
-   and as many are copied as there is room for. Where the answer is SLIF_INPUT *count is left as it was, and `symbols` has the
-   first of the lexemes that could come at the fault, which says how many they are. */
+   and as many are copied as there is room for. The input need have no derivation. Where the answer is SLIF_INPUT *count is left
+   as it was, and `symbols` has, as far as there is room, the lexemes that could come at the place where reading stopped;
+   fault->expected is how many they are. */
 uint32_t slif_expected(slif_grammar *grammar, const uint8_t *input, size_t length, uint32_t *symbols, size_t room,
                        size_t *count, slif_fault *fault, uint8_t *message, size_t message_room);
 
 /* The same for callers that have null pointers: a null `text`, `input`, `symbols`, `message` or `expected` has count 0 whatever
-   its count says, and a null `fault` is told nothing. */
+   its count says, and a null `fault` is told nothing. A handle and `count` are not null. */
 static inline const uint8_t *slif_bytes(const void *bytes) {
     static const uint8_t none = 0;
     return bytes ? (const uint8_t *)bytes : &none;

@@ -286,7 +286,8 @@ class Grammar:
         return Parse(self, data, handle)
 
     def expected(self, text: Text) -> list[str]:
-        """The names of the lexemes that could come after a text, which need have no derivation: what a line editor could offer.
+        """The names of the lexemes that could come after a text, by their bytes: what a line editor could offer. The text need have no
+        derivation; where reading stops before its end that is an InputError, whose `expected` are those that could come at that place.
 
         >>> Grammar("E ::= E '+' E | '(' E ')' | '1'").expected("(1")
         ["')'", "'+'"]
