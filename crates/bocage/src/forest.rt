@@ -7,7 +7,7 @@ ghost use Rattle.recognizer_model.specs.Nodes.{IsStats};
 ghost use Rattle.earley_sets.specs.Recognizer.{HasTree};
 ghost use Rattle.forest_model.specs.Forest.{IsForest, IsNode, allowed_of, edges_of as forest_edges, top_of as forest_top};
 ghost use Rattle.forest_parts.specs.Hidden.{RisesWithin};
-ghost use Rattle.bocage.specs.Expanded.{IsExpandedIn, IsHiddenNode, IsChosenHidden, IsGivenIn, IsOver};
+ghost use Rattle.bocage.specs.Expanded.{IsExpandedIn, IsHiddenNode, IsGivenIn, IsOver};
 ghost use Rattle.bocage.specs.Rows.{cause_told};
 ghost use Rattle.bocage.specs.Readers.{alternative_at, node_at};
 ghost use Rattle.bocage.specs.declared.refusal.ForestRefusal.TheVariants.{NoParse};
@@ -176,8 +176,7 @@ impl<'a> Forest<'a> {
             steps.new ≤ steps.old + n }
         ensures needed { (n : ℕ) → IsCountOf (IsHiddenNode w.now recce.now) n →
             steps.new ≤ steps.old + n }
-        ensures chosen { (n : ℕ) → IsCountOf (IsChosenHidden w.now ranking recce.now) n →
-            steps.new ≤ steps.old + n }
+        ensures given { RisesWithin (IsGivenIn w.now ranking recce.now) steps.old steps.new }
     {
         if !recce.at_end() {
             return Err(ForestRefusal::NoParse);

@@ -1,4 +1,4 @@
-use Rattle.bocage.specs.Expanded.{IsExpandedIn, IsHiddenNode, IsChosenHidden, IsGivenIn}
+use Rattle.bocage.specs.Expanded.{IsExpandedIn, IsHiddenNode, IsGivenIn}
 use Rattle.forest_parts.proofs.Counting.{rises_of, rises_most}
 use Rattle.std.proofs.lemmas.Result.{IfOk-from_err}
 use Rattle.bocage.proofs.forest.Forest.build.Goals as goal
@@ -41,12 +41,8 @@ returns-clause-forest g c = c.in_ok-grow.ensures.forest
 pub returns-clause-reading : goal.returns-clause-reading
 returns-clause-reading g c = c.in_ok-grow.ensures.reading
 
-pub returns-clause-chosen : goal.returns-clause-chosen
-returns-clause-chosen g c n all =
-    rises_most (IsChosenHidden c.args.w.now c.args.ranking c.args.recce.now) c.args.steps.now c.grow.new.steps n
-    (rises_of (IsGivenIn c.args.w.now c.args.ranking c.args.recce.now) (IsChosenHidden c.args.w.now c.args.ranking c.args.recce.now) c.args.steps.now c.grow.new.steps (λ p h. h.1) c.grow.ensures.counted) all
+pub returns-clause-given : goal.returns-clause-given
+returns-clause-given g c = c.grow.ensures.counted
 
-pub returns-in_err-grow-clause-chosen : goal.returns-in_err-grow-clause-chosen
-returns-in_err-grow-clause-chosen g c n all =
-    rises_most (IsChosenHidden c.args.w.now c.args.ranking c.args.recce.now) c.args.steps.now c.grow.new.steps n
-    (rises_of (IsGivenIn c.args.w.now c.args.ranking c.args.recce.now) (IsChosenHidden c.args.w.now c.args.ranking c.args.recce.now) c.args.steps.now c.grow.new.steps (λ p h. h.1) c.grow.ensures.counted) all
+pub returns-in_err-grow-clause-given : goal.returns-in_err-grow-clause-given
+returns-in_err-grow-clause-given g c = c.grow.ensures.counted
