@@ -144,8 +144,8 @@ impl<'g> Reading<'g> {
         }
     }
 
-    /// The lexemes that could come after the input, each once, by the bytes of their names. That of an input which
-    /// is refused stands in its error.
+    /// The lexemes that could come after the input, each once, by the bytes of their names. Those of an input
+    /// that is refused stand in its error.
     pub fn expected(&self, alloc: Global) -> Result<Vec<SymbolId>, NoMemory>
         ensures { IfOk result (λ symbols. AreExpectedNext self.now symbols.items) }
     {
