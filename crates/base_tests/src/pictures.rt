@@ -1,7 +1,8 @@
 //! Trees as lines, graphs and pictures.
 use std::alloc::{AllocError, Global};
 use std::test::Fail;
-use tree_text::{Node, Part, ReadRefusal, nodes_of, push_dot, push_indented, push_svg, read_value};
+use tree_pictures::push_svg;
+use tree_text::{Node, Part, ReadRefusal, nodes_of, push_dot, push_indented, read_value};
 
 // How trees are drawn.
 #[derive(Clone, Copy)]

@@ -1,7 +1,8 @@
 //! The rules of a grammar, by the tree of its text.
 use std::alloc::{AllocError, Global};
 use std::test::Fail;
-use tree_text::{Part, ReadRefusal, is_grammar, nodes_of, push_rules, read_value};
+use tree_pictures::push_rules;
+use tree_text::{Part, ReadRefusal, nodes_of, read_value};
 
 // The tree of this text, by examples/slif.slif:
 //     s ::= a 'x' | ('(') <b c> (')') rank => 1
@@ -18,8 +19,8 @@ const RULES: &str =
 fn parts_have_rules(alloc: Global, parts: &[Part], wanted: &str) -> Result<bool, AllocError> {
     let nodes = nodes_of(alloc, parts)?;
     let mut out = String::new(alloc);
-    push_rules(alloc, &nodes, &mut out)?;
-    Ok(is_grammar(&nodes) && out.as_str() == wanted)
+    let told = push_rules(alloc, &nodes, &mut out)?;
+    Ok(told && out.as_str() == wanted)
 }
 
 fn has_rules(alloc: Global, text: &str, wanted: &str) -> Result<bool, ReadRefusal> {

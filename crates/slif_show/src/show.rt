@@ -4,9 +4,10 @@ use crate::stop::Stop;
 use crate::words::Form;
 use slif_base::{Sink, Source, write_all};
 use std::alloc::{AllocError, Global};
+use tree_pictures::{push_rules, push_svg};
 use tree_text::{
-    Difference, Part, first_difference, is_grammar, nodes_of, push_difference, push_dot,
-    push_indented, push_json, push_rules, push_svg,
+    Difference, Part, first_difference, nodes_of, push_difference, push_dot, push_indented,
+    push_json,
 };
 
 /// Appends a tree in this form, after an empty line where it is not the first.
@@ -111,10 +112,10 @@ fn push_first_rules<S: Source>(
 ) -> Result<(), Stop> {
     let parts = lines.next_value(alloc)?.ok_or(Stop::NoGrammar)?;
     let nodes = nodes_of(alloc, &parts)?;
-    if !is_grammar(&nodes) {
+    if !push_rules(alloc, &nodes, out)? {
         return Err(Stop::NoGrammar);
     }
-    Ok(push_rules(alloc, &nodes, out)?)
+    Ok(())
 }
 
 /// Appends where two trees first differ.

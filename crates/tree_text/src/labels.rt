@@ -33,7 +33,7 @@ fn push_visible(c: char, out: &mut String) -> Result<(), AllocError>
 }
 
 /// Appends a name, or a text without quotes, so that it stands in one line.
-pub(crate) fn push_name(name: &str, out: &mut String) -> Result<(), AllocError>
+pub fn push_name(name: &str, out: &mut String) -> Result<(), AllocError>
     ensures { OnOk result (string_bytes out.new ≡ string_bytes out.old ++ name_text name.now) }
 {
     for c in name.chars() {
@@ -100,21 +100,5 @@ pub fn push_label(label: Label<'_>, out: &mut String) -> Result<(), AllocError>
         Label::Undefined => put("undef", out),
         Label::Number(n) => put_number(n, out),
         Label::Text(text) => push_quoted(text, out),
-    }
-}
-
-/// Whether a name is this text in quotes.
-fn is_quoted_text(name: &str, text: &str) -> bool {
-    match name.strip_prefix('\'') {
-        Some(rest) => rest.strip_suffix('\'') == Some(text),
-        None => false,
-    }
-}
-
-/// Appends a label as it stands in a picture, where a token with its text as name has that alone.
-pub(crate) fn push_short_label(label: Label<'_>, out: &mut String) -> Result<(), AllocError> {
-    match label {
-        Label::Token { name, text } if is_quoted_text(name, text) => push_name(name, out),
-        _ => push_label(label, out),
     }
 }

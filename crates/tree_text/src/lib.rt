@@ -1,7 +1,6 @@
 //! The texts of values, read back, and trees among them, shown.
 #![tactic(auto)]
 
-mod boxes;
 mod characters;
 mod difference;
 mod dot;
@@ -10,22 +9,17 @@ mod json;
 mod labels;
 mod looks;
 mod nodes;
-mod outlines;
 mod part;
 mod puts;
 mod read;
-mod rules;
-mod svg;
 mod telling;
 
 pub use difference::{Difference, first_difference};
 pub use dot::push_dot;
 pub use indent::push_indented;
 pub use json::push_json;
-pub use labels::push_label;
+pub use labels::{push_label, push_name};
 pub use nodes::{Label, Node, nodes_of};
 pub use part::{Part, ReadRefusal};
 pub use read::read_value;
-pub use rules::{is_grammar, push_rules};
-pub use svg::push_svg;
 pub use telling::push_difference;

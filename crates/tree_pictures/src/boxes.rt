@@ -1,7 +1,6 @@
 // The boxes of a picture: of each node one, but a chain of nodes, each the only one right below the one before, has one box.
-use crate::Node;
-use crate::labels::push_short_label;
 use std::alloc::{AllocError, Global};
+use tree_text::{Label, Node, push_label, push_name};
 
 // Sizes in pixels: of a character, and around a label.
 const CHARACTER: usize = 9;
@@ -23,6 +22,22 @@ pub(crate) struct Tile {
     pub(crate) middle: i64,
     /// How far what is below it is moved to the right.
     pub(crate) shift: i64,
+}
+
+/// Whether a name is this text in quotes.
+fn is_quoted_text(name: &str, text: &str) -> bool {
+    match name.strip_prefix('\'') {
+        Some(rest) => rest.strip_suffix('\'') == Some(text),
+        None => false,
+    }
+}
+
+/// Appends a label as it stands in a picture, where a token with its text as name has that alone.
+fn push_short_label(label: Label<'_>, out: &mut String) -> Result<(), AllocError> {
+    match label {
+        Label::Token { name, text } if is_quoted_text(name, text) => push_name(name, out),
+        _ => push_label(label, out),
+    }
 }
 
 /// How many nodes are right below each node.

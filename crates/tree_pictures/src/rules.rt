@@ -1,12 +1,11 @@
 // The rules of a grammar, by the tree of its text in the language of grammars.
-ghost use Rattle.std.specs.Prelude.{OnOk, string_bytes};
+ghost use Rattle.std.specs.Prelude.{◌≡◌, IfOk, IsFalse, OnOk, string_bytes};
 ghost use Rattle.tree_text.specs.Texts.{Extends};
 
-use crate::labels::push_name;
 use crate::puts::put;
-use crate::{Label, Node};
 use std::alloc::{AllocError, Global};
 use std::fmt::Write;
+use tree_text::{Label, Node, push_name};
 
 /// How a rule is written.
 #[derive(Clone, Copy, PartialEq, Eq)]
@@ -168,7 +167,7 @@ fn push_rule(
 }
 
 /// Whether nodes are a grammar's tree, by `slif.slif`.
-pub fn is_grammar(nodes: &[Node<'_>]) -> bool {
+fn is_grammar(nodes: &[Node<'_>]) -> bool {
     match nodes.first() {
         Some(node) => rule_name(node) == Some("grammar"),
         None => false,
@@ -197,9 +196,15 @@ fn rules_of(alloc: Global, nodes: &[Node<'_>]) -> Result<String, AllocError> {
 }
 
 /// Appends a line for each structural rule of the grammar that this is the tree of: its number, and the rule as `41 event ::= note marks`.
-pub fn push_rules(alloc: Global, nodes: &[Node<'_>], out: &mut String) -> Result<(), AllocError>
-    ensures { OnOk result (Extends (string_bytes out.old) (string_bytes out.new)) }
+/// Answers whether the nodes are a grammar's tree; where they are not, nothing is appended.
+pub fn push_rules(alloc: Global, nodes: &[Node<'_>], out: &mut String) -> Result<bool, AllocError>
+    ensures extends { OnOk result (Extends (string_bytes out.old) (string_bytes out.new)) }
+    ensures none { IfOk result (λ told. IsFalse told → out.new ≡ out.old) }
 {
+    if !is_grammar(nodes) {
+        return Ok(false);
+    }
     let rules = rules_of(alloc, nodes)?;
-    put(rules.as_str(), out)
+    put(rules.as_str(), out)?;
+    Ok(true)
 }

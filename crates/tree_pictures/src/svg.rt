@@ -2,12 +2,12 @@
 ghost use Rattle.std.specs.Prelude.{OnOk, string_bytes};
 ghost use Rattle.tree_text.specs.Texts.{Extends};
 
-use crate::Node;
 use crate::boxes::{Tile, boxes_of};
 use crate::outlines::{left_of, place};
 use crate::puts::put;
 use std::alloc::{AllocError, Global};
 use std::fmt::Write;
+use tree_text::Node;
 
 // Sizes in pixels: at the picture's edge, of a box and of a row.
 const MARGIN: usize = 10;

@@ -1,6 +1,0 @@
-use Rattle.std.proofs.lemmas.Result.{on_ok_weaker}
-use Rattle.tree_text.proofs.Texts.{appended}
-use Rattle.tree_text.proofs.svg.push_svg.Goals as goal
-
-pub returns : goal.returns
-returns c = on_ok_weaker c.put.result (λ e. appended _ _ _ e) c.put.ensures
