@@ -160,7 +160,7 @@ def test_install(at):
     """What is installed links, with the words that pkg-config has of it."""
     programs, prefix = at / "programs", at / "prefix"
     programs.mkdir()
-    for name in ("slif", "slif_show", "slif_glades"):
+    for name in ("slif", "slif_show", "slif_glades", "slif_lint"):
         (programs / name).write_text("")
         (programs / name).chmod(0o755)
     done = run([EXTRAS / "install", "--programs", programs, "--library", at, prefix])
