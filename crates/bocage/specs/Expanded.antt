@@ -2,16 +2,13 @@
 use Rattle.std.specs.Prelude.{◌≡◌, ℕ, ◌≤◌}
 use Rattle.recognizer_model.specs.declared.Item.{Item}
 use Rattle.grammar_model.specs.declared.Ranking.{Ranking}
-use Rattle.grammar_model.specs.declared.Ranking.TheVariants.{None as NoRanks}
 use Rattle.grammar_model.specs.Grammar.{Grammar}
-use Rattle.recognizer_model.specs.Below.{node_of}
-use Rattle.recognizer_model.specs.Leo.{IsHidden}
+use Rattle.recognizer_model.specs.Below as model
 use Rattle.recognizer_model.specs.Chosen.{allowed_by}
 use Rattle.recognizer_model.specs.Nodes.{Placed, IsExpanded}
 use Rattle.earley_sets.specs.Recognizer.{Recognizer, earleme_of, edges_of, top_of}
 use Rattle.earley_sets.specs.Below.{StandsBelow}
 use Rattle.forest_model.specs.Forest.{Forest}
-use Rattle.bocage.specs.Walk.{IsUsedIn}
 
 abbrev pub IsExpandedIn : Grammar → Ranking → Recognizer → Placed → Type 0
 IsExpandedIn w ranking r p = IsExpanded r.flat (edges_of r) (allowed_by w ranking r.flat (edges_of r)) (top_of r) (earleme_of r) p
@@ -23,8 +20,7 @@ IsOver w ranking r f =
 
 -- a hidden item, and some derivation of the whole has its node, whatever the ranks
 abbrev pub IsHiddenNode : Grammar → Recognizer → Placed → Type 0
-IsHiddenNode w r p =
-    IsHidden r.flat (edges_of r) (top_of r) p.place p.item × IsUsedIn w NoRanks r (node_of p.item p.place)
+IsHiddenNode w r = model.IsHiddenNode w r.flat (edges_of r) (top_of r) (earleme_of r)
 
 -- a hidden item below a topmost one whose rule the ranking allows over its span
 abbrev pub IsBelowAllowed : Grammar → Ranking → Recognizer → Placed → Type 0

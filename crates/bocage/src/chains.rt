@@ -2,9 +2,9 @@
 ghost use Rattle.std.specs.Prelude.{◌≡◌, ◌≢◌, ℕ, List, ◌<◌, ◌≤◌, ◌↔◌, ◌∷◌, ◌++◌, [], length, OnOk, Contains, slice_index_or, slice_set};
 ghost use Rattle.bocage.specs.Chains.{AreChained, EndsAt, IsChain};
 
-use crate::rows::number;
 use forest_parts::{NodeKeys, key_at};
 use recognizer_model::NodeKey;
+use slif_base::number;
 use std::alloc::{AllocError, AllocFailed, Global};
 
 /// Nodes by the places where they end: the newest of each place, and for each node the one before it that ends at the same place. Each

@@ -7,10 +7,10 @@ ghost use Rattle.forest_parts.specs.declared.groups.Group.{Group as TheGroup};
 ghost use Rattle.bocage.specs.declared.joins.Join.{Join as TheJoin};
 ghost use Rattle.bocage.specs.Joins.{join_cmp, predecessor_of_join, before_item, IsJoinOf, AreJoins};
 
-use crate::rows::number;
 use earley_sets::Recce;
 use forest_parts::Group;
 use recognizer_model::Item;
+use slif_base::number;
 use std::alloc::AllocError;
 
 /// An item that waits where a group begins, for its symbol.

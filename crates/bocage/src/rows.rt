@@ -1,9 +1,7 @@
 //! Alternatives, and the nodes of whole rules that they have.
-ghost use Rattle.std.specs.Prelude.{◌≡◌, ◌<◌, ◌≤◌, ◌==◌, length, position, slice_index_or, slice_get, map, Some, IfOk};
+ghost use Rattle.std.specs.Prelude.{◌≡◌, ◌<◌, ◌≤◌, ◌==◌, length, position, slice_index_or, slice_get, map, Some};
 ghost use Rattle.forest_parts.specs.Lists.{between};
 ghost use Rattle.bocage.specs.Rows.{cause_told, cause_of, IsCauseWithin, no_alternative};
-
-use std::alloc::AllocError;
 
 /// The cause of an alternative: what the last part is. Nodes of whole rules are in the declared order of their rules.
 #[derive(Clone, Copy)]
@@ -74,15 +72,5 @@ pub fn cause_at(row: AlternativeRow, wholes: &[u32]) -> Cause<'_>
         CauseRow::Edge => Cause::Edge,
         CauseRow::Nothing => Cause::Nothing,
         CauseRow::Wholes { first, end } => Cause::Wholes(wholes_between(wholes, first, end)),
-    }
-}
-
-/// A count as a number. One that 32 bits do not hold counts as too many for memory.
-pub fn number(count: usize) -> Result<u32, AllocError>
-    ensures { IfOk result (λ n. n ≡ count) }
-{
-    match u32::try_from(count) {
-        Ok(number) => Ok(number),
-        Err(_) => Err(AllocError),
     }
 }

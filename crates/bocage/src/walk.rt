@@ -8,13 +8,14 @@ ghost use Rattle.bocage.specs.Joins.{predecessor_of_join};
 ghost use Rattle.bocage.specs.Walk.{FitsPart, GrowsBy, whole_keys, AddsWholes, IsPredecessorFound, IsCauseFound, node_of_item, Knows, Lists, AreNoted, IsCauseNoted, AreJoinsOf, IsNext, IsNew, BeginsIn, MayBegin, ListsKey, IsBegun, is_high, IsUsedIn};
 
 use crate::joins::{Join, joins_of};
-use crate::rows::{AlternativeRow, CauseRow, number};
+use crate::rows::{AlternativeRow, CauseRow};
 use earley_sets::Recce;
 use forest_parts::{Group, NodeKeys, Part, is_null_high, parts_between};
 use grammar_core::{Flat, Written};
 use grammar_model::Ranking;
 use indexmap::IndexSet;
 use recognizer_model::{Item, NodeKey};
+use slif_base::number;
 use smallvec::SmallVec;
 use std::alloc::{AllocError, Global};
 use std::hash::BuildHasherDefault;

@@ -12,7 +12,8 @@ use Rattle.recognizer_model.specs.Links.{Link, Predicts, Skips, Scans, Completes
 use Rattle.recognizer_model.proofs.Over.{AgreeTo, agree_below, same_reduced, same_none, same_leads}
 use Rattle.earley_sets.specs.Scanning.{GoForward}
 use Rattle.earley_sets.specs.Recognizer.{Recognizer, IsRecognizer, earleme_of, edges_of, top_of, made, IsLeoPair}
-use Rattle.earley_sets.specs.Counted.{PlacedLink, IsLinkOf, CountsFrom, TakesAtMost}
+use Rattle.recognizer_model.specs.Links.{PlacedLink}
+use Rattle.earley_sets.specs.Counted.{IsLinkOf, CountsFrom, TakesAtMost}
 use Rattle.earley_sets.proofs.ByRows.{goes_forward}
 use Rattle.earley_sets.proofs.Recognizing.{top_is_top}
 use Rattle.earley_sets.proofs.Rising.{rises_none, rises_as, rises_over, rises_on, rises_moved, different_are_few}

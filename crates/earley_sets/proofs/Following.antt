@@ -9,7 +9,7 @@ use Rattle.recognizer_model.specs.Items.{after, advanced}
 use Rattle.recognizer_model.specs.Counts.{IsListOf}
 use Rattle.item_rows.specs.Rows.{row_at}
 use Rattle.earley_sets.specs.Kept.{IsItem, AreRows}
-use Rattle.leo_items.specs.declared.memo.Pair.{Pair}
+use Rattle.recognizer_model.specs.declared.Pair.{Pair}
 use Rattle.leo_items.specs.ByRows.{IsNotLeoIn, LeadsIn, pair_of}
 use Rattle.leo_items.proofs.Chains.{has_leo, leads_one, leads_item}
 use Rattle.earley_sets.specs.Closing.{IsAdvancedOver, IsSkipped, IsDone, Follows, Predicts, Skips, Completes, Leaps, GoesOn}

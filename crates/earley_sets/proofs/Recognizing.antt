@@ -37,7 +37,7 @@ use Rattle.item_rows.specs.Rows.{ItemRows, row_at}
 use Rattle.earley_sets.specs.Kept.{AreRows, IsRowOf, IsAwaited, IsAwaitedTerminal}
 use Rattle.recognizer_model.proofs.Leo.{reduced_inside, keeps_waiting}
 use Rattle.recognizer_model.proofs.Over.{AgreeTo, agree_back, same_leo, same_reduced, top_kept}
-use Rattle.leo_items.specs.declared.memo.Pair.{Pair}
+use Rattle.recognizer_model.specs.declared.Pair.{Pair}
 use Rattle.leo_items.specs.Memo.{Note, pairs_of}
 use Rattle.leo_items.specs.ByRows.{IsMemo}
 use Rattle.leo_items.proofs.Chains.{memo_stays, memo_none, memo_pairs}

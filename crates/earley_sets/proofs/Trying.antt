@@ -16,7 +16,7 @@ use Rattle.recognizer_model.specs.Contexts.{IsTop}
 use Rattle.recognizer_model.specs.Counts.{IsListOf}
 use Rattle.recognizer_model.specs.Leo.{InReduced}
 use Rattle.recognizer_model.specs.Links.{Link, Predicts, Skips, Scans, Completes, Leaps, IsLink}
-use Rattle.leo_items.specs.declared.memo.Pair.{Pair}
+use Rattle.recognizer_model.specs.declared.Pair.{Pair}
 use Rattle.leo_items.specs.ByRows.{pair_of}
 use Rattle.earley_sets.specs.Kept.{IsItem}
 use Rattle.earley_sets.specs.Scanning.{GoForward, AreReduced}

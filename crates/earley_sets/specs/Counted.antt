@@ -1,17 +1,13 @@
 -- How many steps the sets of a recognizer take.
-use Rattle.std.specs.Prelude.{ℕ, ◌+◌, ◌<◌, ◌≤◌}
+use Rattle.std.specs.Prelude.{ℕ, ◌+◌, ◌≤◌}
 use Rattle.recognizer_model.specs.Counts.{IsCountOf}
-use Rattle.recognizer_model.specs.Links.{Link, IsLink}
+use Rattle.recognizer_model.specs.Links.{PlacedLink, IsPlacedLink}
 use Rattle.earley_sets.specs.Tried.{RisesBy}
 use Rattle.earley_sets.specs.Recognizer.{Recognizer, earleme_of, edges_of, top_of, made, IsLeoPair}
 
-pub record PlacedLink : Type 0 where
-  pub place : ℕ
-  pub link : Link
-
 -- a link of the set of a place after the first
 abbrev pub IsLinkOf : Recognizer → PlacedLink → Type 0
-IsLinkOf r p = (0 < p.place) × (p.place ≤ earleme_of r) × IsLink r.flat (edges_of r) (top_of r) p.place p.link
+IsLinkOf r = IsPlacedLink r.flat (edges_of r) (top_of r) (earleme_of r)
 
 -- as many steps as tries of different links, and one for each pair that was noted
 abbrev pub CountsFrom : Recognizer → (before after : ℕ) → Type 0

@@ -8,15 +8,16 @@ use Rattle.grammar_model.specs.Derives.{Edges, Held, Derives}
 use Rattle.grammar_model.specs.Acceptable.{IsAcceptable}
 use Rattle.grammar_model.specs.declared.limits.TheConstants.{LAST_PLACE}
 use Rattle.recognizer_model.specs.declared.Item.{Item}
+use Rattle.recognizer_model.specs.declared.Pair.{Pair}
 use Rattle.recognizer_model.specs.Flat.{FlatGrammar, lhs_of, rhs_of}
 use Rattle.recognizer_model.specs.declared.flat.FlatSymbol.TheVariants.{Terminal}
 use Rattle.recognizer_model.specs.FlatForm.{FlatEdges}
 use Rattle.recognizer_model.specs.View.{grammar_view}
 use Rattle.recognizer_model.specs.Invariant.{IsFlat}
-use Rattle.recognizer_model.specs.Leo.{InReduced, IsLeo}
+use Rattle.recognizer_model.specs.Leo.{InReduced}
+use Rattle.recognizer_model.specs.Links as model
 use Rattle.recognizer_model.specs.Counts.{IsListOf}
 use Rattle.item_rows.specs.Kept.{AreRows}
-use Rattle.leo_items.specs.declared.memo.Pair.{Pair}
 use Rattle.leo_items.specs.Memo.{Note}
 use Rattle.leo_items.specs.ByRows.{IsMemo}
 
@@ -63,7 +64,7 @@ HasTree r = (tree : Tree) × Derives (grammar_view r.flat) (edges_of r) (slot_of
 
 -- a pair of a place so far has a Leo item
 abbrev pub IsLeoPair : Recognizer → Pair → Type 0
-IsLeoPair r pair = (pair.set ≤ earleme_of r) × ((item : Item) × IsLeo r.flat (edges_of r) (top_of r) pair.set pair.symbol item)
+IsLeoPair r = model.IsLeoPair r.flat (edges_of r) (top_of r) (earleme_of r)
 
 pub record IsRecognizer (r : Recognizer) : Type 0 where
   pub flat : IsFlat r.flat

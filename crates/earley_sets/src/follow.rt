@@ -10,8 +10,8 @@ ghost use Rattle.earley_sets.specs.Tried.{RisesBy, IsWaiting, MakesSkip, RisesBy
 
 use grammar_core::Flat;
 use item_rows::{Row, Rows};
-use leo_items::{Memo, Pair, advanced, leo_of, pair_above, topmost};
-use recognizer_model::Item;
+use leo_items::{Memo, advanced, leo_of, pair_above, topmost};
+use recognizer_model::{Item, Pair};
 use slif_base::Steps;
 use std::alloc::{AllocError, AllocFailed};
 use std::sync::ledger::Ledger;

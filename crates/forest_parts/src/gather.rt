@@ -1,5 +1,5 @@
 //! What may be the cause in a node that ends at a place: the edges and the whole rules that end there.
-ghost use Rattle.std.specs.Prelude.{◌≡◌, ◌<◌, ◌≤◌, ◌+◌, ◌↔◌, ◌⊎◌, IfOk, OnOk, Contains};
+ghost use Rattle.std.specs.Prelude.{◌≡◌, ◌<◌, ◌≤◌, ◌+◌, ◌^◌, ◌↔◌, ◌⊎◌, IfOk, OnOk, OnErr, Contains};
 ghost use Rattle.std.specs.List.Sorted.{IsStrictlySortedBy};
 ghost use Rattle.grammar_model.specs.declared.Edge.{Edge as TheEdge};
 ghost use Rattle.recognizer_model.specs.declared.Item.{Item as TheItem};
@@ -20,6 +20,17 @@ use slif_base::Steps;
 use std::alloc::{AllocError, Global};
 use std::sync::ledger::Ledger;
 
+// A count raised. One that 64 bits do not hold counts as too many for memory.
+fn raised(count: u64, more: u64) -> Result<u64, AllocError>
+    ensures ok { IfOk result (λ sum. sum ≡ count + more) }
+    ensures err { OnErr result (2 ^ 64 ≤ count + more) }
+{
+    match count.checked_add(more) {
+        Some(sum) => Ok(sum),
+        None => Err(AllocError),
+    }
+}
+
 /// Lists the hidden items of a place that begin at another or after it, and adds how many they are.
 pub fn list_hidden<L: Ledger>(
     alloc: Global,
@@ -35,10 +46,7 @@ pub fn list_hidden<L: Ledger>(
     ensures counted { RisesWithin (IsHiddenFrom recce.now end least) steps.old steps.new }
 {
     let hidden = recce.expand(alloc, end, least, steps)?;
-    let Some(sum) = expanded.checked_add(hidden.as_slice().len() as u64) else {
-        return Err(AllocError);
-    };
-    *expanded = sum;
+    *expanded = raised(*expanded, hidden.as_slice().len() as u64)?;
     Ok(hidden)
 }
 

@@ -6,11 +6,12 @@ ghost use Rattle.glades.specs.declared.heads.Head.{Head};
 ghost use Rattle.glades.specs.Links.{AreKnown, AreLinks, AreNotes, IsNote};
 ghost use Rattle.glades.specs.Heads.{AreHeads, IsNoteOf, IsSlotAt, IsTold, PutsHead, head_cmp, last_place};
 
-use crate::links::{Link, number};
+use crate::links::Link;
 use crate::seconds::has_second;
 use bocage::Forest;
 use grammar_core::FlatSymbol;
 use grammar_model::SymbolId;
+use slif_base::number;
 use std::alloc::{AllocError, Global};
 
 /// A group of a slot over a span, by its first node. The derived order is that of glades: `back` is how far the end lies before the

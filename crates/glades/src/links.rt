@@ -9,7 +9,7 @@ ghost use Rattle.glades.specs.Links.{AreLinks, AreNotes, all_noted, link_by, lin
 
 use bocage::{Alternatives, Cause, Forest};
 use grammar_core::FlatSymbol;
-use slif_base::Steps;
+use slif_base::{Steps, number};
 use std::alloc::{AllocError, Global};
 use std::sync::ledger::Ledger;
 
@@ -145,16 +145,6 @@ fn visit<L: Ledger>(
         .links
         .push(first_two(ends_with_list(forest, node), &alternatives))?;
     Ok(())
-}
-
-/// A number of a node. One that 32 bits do not hold counts as too many for memory.
-pub fn number(node: usize) -> Result<u32, AllocError>
-    ensures { IfOk result (λ n. n ≡ node) }
-{
-    match u32::try_from(node) {
-        Ok(number) => Ok(number),
-        Err(_) => Err(AllocError),
-    }
 }
 
 /// Looks at each node once.

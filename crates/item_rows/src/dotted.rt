@@ -1,5 +1,5 @@
 //! The dotted rules of a flat grammar, numbered in the order of rows, so that an item is a number and an origin.
-ghost use Rattle.std.specs.Prelude.{◌≡◌, ◌≢◌, ◌≤◌, ◌<◌, ◌/◌, ◌+◌, ◌^◌, ℕ, suc, [], length, Some, slice_get, Contains, IfOk, IfSome, IsNone, IsTrue, ◌↔◌, OnOk};
+ghost use Rattle.std.specs.Prelude.{◌≡◌, ◌≢◌, ◌≤◌, ◌<◌, ◌/◌, ◌+◌, ◌^◌, ℕ, suc, [], length, Some, slice_get, Contains, IfOk, IfSome, IsNone, IsTrue, ◌↔◌, OnOk, OnErr};
 ghost use Rattle.std.specs.List.{AllPairs};
 ghost use Rattle.recognizer_model.specs.declared.Item.{Item as TheItem};
 ghost use Rattle.recognizer_model.specs.Flat.{IsRule, rhs_of};
@@ -67,7 +67,8 @@ impl<'g> Model for DottedRules<'g> {
 
 // How many items there are, if 32 bits can tell it.
 fn count(items: &[Item]) -> Result<u32, AllocError>
-    ensures { IfOk result (λ n. n ≡ length items.now) }
+    ensures ok { IfOk result (λ n. n ≡ length items.now) }
+    ensures err { OnErr result (2 ^ 32 ≤ length items.now) }
 {
     let count = items.len();
     if count < 4_294_967_296 {

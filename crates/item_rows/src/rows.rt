@@ -220,7 +220,8 @@ fn list_of<'r>(lists: &'r Jagged<u32>, begun: &[u32], j: usize) -> &'r [u32]
 }
 
 fn add(count: usize, more: usize) -> Result<usize, AllocError>
-    ensures { IfOk result (λ sum. sum ≡ count + more) }
+    ensures ok { IfOk result (λ sum. sum ≡ count + more) }
+    ensures err { OnErr result (2 ^ 64 ≤ count + more) }
 {
     match count.checked_add(more) {
         Some(sum) => Ok(sum),

@@ -15,7 +15,7 @@ use Rattle.recognizer_model.specs.Items.{after, advanced}
 use Rattle.recognizer_model.specs.Counts.{IsListOf}
 use Rattle.item_rows.specs.Rows.{row_at}
 use Rattle.item_rows.specs.Kept.{IsItem, AreRows}
-use Rattle.leo_items.specs.declared.memo.Pair.{Pair}
+use Rattle.recognizer_model.specs.declared.Pair.{Pair}
 use Rattle.leo_items.specs.Memo.{Note, same_pair, noted, pairs_of}
 use Rattle.leo_items.specs.Steps.{IsStep}
 use Rattle.leo_items.specs.ByRows.{IsLeoIn, IsNotLeoIn, LeadsIn, IsStepIn, IsMemo, NotesMore, pair_of}

@@ -1,6 +1,6 @@
 -- Of no notes nothing is noted.
 use Rattle.std.proofs.Common.{◌≡◌, ℕ, [], ◌∷◌, List, length, None, refl, arith}
-use Rattle.leo_items.specs.declared.memo.Pair.{Pair}
+use Rattle.recognizer_model.specs.declared.Pair.{Pair}
 use Rattle.leo_items.specs.Memo.{Note, noted}
 
 pub none_noted : (notes : List Note) (pair : Pair) → length notes ≡ 0 → None ≡ noted notes pair

@@ -4,7 +4,7 @@ use Rattle.recognizer_model.specs.declared.Item.{Item}
 use Rattle.recognizer_model.specs.Flat.{FlatGrammar, lhs_of, part_of, IsNullable}
 use Rattle.recognizer_model.specs.Items.{after, IsWhole, advanced}
 use Rattle.item_rows.specs.Rows.{row_at}
-use Rattle.leo_items.specs.declared.memo.Pair.{Pair}
+use Rattle.recognizer_model.specs.declared.Pair.{Pair}
 use Rattle.leo_items.specs.Memo.{Note, noted, pairs_of}
 
 -- the only item of the row that waits for the symbol, and it waits for nothing after that

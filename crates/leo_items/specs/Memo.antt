@@ -2,7 +2,7 @@
 use Rattle.std.specs.Prelude.{Bool, ◌==◌, ◌&&◌, List, Option}
 use Rattle.std.specs.Map.{lookup, keys_of}
 use Rattle.recognizer_model.specs.declared.Item.{Item}
-use Rattle.leo_items.specs.declared.memo.Pair.{Pair}
+use Rattle.recognizer_model.specs.declared.Pair.{Pair}
 
 abbrev pub Note : Type 0
 Note = Pair × Item

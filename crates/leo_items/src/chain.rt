@@ -7,10 +7,10 @@ ghost use Rattle.leo_items.specs.Memo.{noted};
 ghost use Rattle.leo_items.specs.ByRows.{IsStepIn, LeadsIn, IsMemo, NotesMore, AreNulled, pair_of};
 
 use crate::leo_of;
-use crate::memo::{Memo, Pair};
+use crate::memo::Memo;
 use grammar_core::Flat;
 use item_rows::Rows;
-use recognizer_model::Item;
+use recognizer_model::{Item, Pair};
 use slif_base::Steps;
 use std::alloc::AllocError;
 use std::sync::ledger::Ledger;

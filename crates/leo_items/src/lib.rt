@@ -15,7 +15,7 @@ pub use chain::{pair_above, step_in, topmost};
 use grammar_core::Flat;
 pub use hidden::{list_below, list_hidden, single_step, top_above};
 use item_rows::Row;
-pub use memo::{Memo, Pair};
+pub use memo::Memo;
 pub use near::NearHasher;
 use recognizer_model::Item;
 

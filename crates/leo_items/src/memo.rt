@@ -4,17 +4,10 @@ ghost use Rattle.leo_items.specs.Memo.{noted};
 
 use crate::NearHasher;
 use indexmap::IndexMap;
-use recognizer_model::Item;
+use recognizer_model::{Item, Pair};
 use std::alloc::{AllocFailed, Global};
 use std::hash::BuildHasherDefault;
 use std::marker::Model;
-
-/// A set and a symbol.
-#[derive(Clone, Copy, PartialEq, Eq, Hash)]
-pub struct Pair {
-    pub set: u32,
-    pub symbol: u32,
-}
 
 /// An item for each pair that was noted.
 #[derive(Drop)]

@@ -18,7 +18,8 @@ use Rattle.language_model.specs.Building.{Built}
 use Rattle.reading_model.specs.Reading.{Piece, edges_of, earleme_after}
 use Rattle.reading_laws.proofs.Candidates.{pieces_forward}
 use Rattle.reading_laws.proofs.Short.{built_are_short}
-use Rattle.run_model.specs.Steps.{IsPlacedLink, IsLeoPair, IsHiddenNode}
+use Rattle.recognizer_model.specs.Below.{IsHiddenNode}
+use Rattle.recognizer_model.specs.Links.{IsPlacedLink, IsLeoPair}
 use Rattle.number_laws.specs.Counts.{Counts, HasCounts, CountsExist, CountsAreOne, CountsBoundSteps}
 use Rattle.number_laws.proofs.Exist.{told, top_is}
 use Rattle.number_laws.proofs.Flat.{flattened, is_flat}

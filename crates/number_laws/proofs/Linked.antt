@@ -2,14 +2,14 @@
 use Rattle.std.proofs.Common.{arith, ◌≡◌, inl, inr, ℕ, zero, suc, ◌≤◌, List, ◌∷◌, ◌++◌, map, flat_map, length, Option, Some, None, slice_get, refl, sym, ◌∙◌, ap, subst}
 use Rattle.grammar_model.specs.Derives.{Edges}
 use Rattle.recognizer_model.specs.declared.Item.{Item}
+use Rattle.recognizer_model.specs.declared.Pair.{Pair}
 use Rattle.recognizer_model.specs.Flat.{FlatGrammar, IsRule, lhs_of, rhs_of, IsNullable}
 use Rattle.recognizer_model.specs.Items.{after, InSet}
 use Rattle.recognizer_model.specs.Contexts.{IsTop}
 use Rattle.recognizer_model.specs.Leo.{IsLeo, InReduced, GoesForward}
-use Rattle.recognizer_model.specs.Links.{Link, Predicts, Skips, Scans, Completes, Leaps, IsCompleted, IsLink}
+use Rattle.recognizer_model.specs.Links.{Link, Predicts, Skips, Scans, Completes, Leaps, IsCompleted, IsLink, PlacedLink, IsPlacedLink, IsLeoPair}
 use Rattle.recognizer_model.specs.Counts.{IsListOf}
 use Rattle.recognizer_model.proofs.Leo.{reduced_inside}
-use Rattle.run_model.specs.Steps.{PlacedLink, IsPlacedLink, PlacedSymbol, IsLeoPair}
 use Rattle.finite_sets.specs.Decided.{IsDecided}
 use Rattle.finite_sets.proofs.Deciding.{both, moved, equal, less, at_most}
 use Rattle.finite_sets.proofs.Members.{Among, among_left, among_right, among_map, among_flat_map, values, among_values}
@@ -64,10 +64,10 @@ same_placed_link x y =
     moved (λ (a, b) i. record { place = a i; link = b i }) (λ e. (ap (λ (u : PlacedLink). u.place) e, ap (λ (u : PlacedLink). u.link) e))
     (both (equal x.place y.place) (same_link x.link y.link))
 
-same_placed_symbol : (x y : PlacedSymbol) → IsDecided (x ≡ y)
-same_placed_symbol x y =
-    moved (λ (a, b) i. record { place = a i; symbol = b i }) (λ e. (ap (λ (u : PlacedSymbol). u.place) e, ap (λ (u : PlacedSymbol). u.symbol) e))
-    (both (equal x.place y.place) (equal x.symbol y.symbol))
+same_pair : (x y : Pair) → IsDecided (x ≡ y)
+same_pair x y =
+    moved (λ (a, b) i. record { set = a i; symbol = b i }) (λ e. (ap (λ (u : Pair). u.set) e, ap (λ (u : Pair). u.symbol) e))
+    (both (equal x.set y.set) (equal x.symbol y.symbol))
 
 -- the symbol that an option holds
 held : Option ℕ → ℕ
@@ -149,13 +149,13 @@ module _ (g : FlatGrammar) (E : Edges) (top : ℕ) (is_top : IsTop g top) (forwa
         (λ p (some, le, is). among_flat_map links_at p.place p (values (λ j. j) (suc place)) (among_values (λ j. j) (suc place) p.place (omega (arith, le)))
         (among_map (λ l. record { place = p.place; link = l }) p.link links (in_links p.place p.link le is)))
 
-    symbols_at : ℕ → List PlacedSymbol
-    symbols_at j = map (λ item. record { place = j; symbol = held (after g item) }) (sets j).0
+    symbols_at : ℕ → List Pair
+    symbols_at j = map (λ item. record { set = j; symbol = held (after g item) }) (sets j).0
 
-    pub pair_list : (xs : List PlacedSymbol) × IsListOf (IsLeoPair g E top place) xs
+    pub pair_list : (xs : List Pair) × IsListOf (IsLeoPair g E top place) xs
     unfolding symbols_at
     pair_list =
-        list_of (IsLeoPair g E top place) same_placed_symbol (λ p. both (at_most p.place place) (leo_decided p.place p.symbol)) (flat_map symbols_at (values (λ j. j) (suc place)))
-        (λ p (le, (item, leo)). among_flat_map symbols_at p.place p (values (λ j. j) (suc place)) (among_values (λ j. j) (suc place) p.place (omega (arith, le)))
-        (subst (λ x. Among (record { place = p.place; symbol = x }) (symbols_at p.place)) (held_is (after g item) p.symbol leo.waits)
-        (among_map (λ item. record { place = p.place; symbol = held (after g item) }) item (sets p.place).0 (in_set g E top is_top forward edge sets p.place item leo.inside))))
+        list_of (IsLeoPair g E top place) same_pair (λ p. both (at_most p.set place) (leo_decided p.set p.symbol)) (flat_map symbols_at (values (λ j. j) (suc place)))
+        (λ p (le, (item, leo)). among_flat_map symbols_at p.set p (values (λ j. j) (suc place)) (among_values (λ j. j) (suc place) p.set (omega (arith, le)))
+        (subst (λ x. Among (record { set = p.set; symbol = x }) (symbols_at p.set)) (held_is (after g item) p.symbol leo.waits)
+        (among_map (λ item. record { set = p.set; symbol = held (after g item) }) item (sets p.set).0 (in_set g E top is_top forward edge sets p.set item leo.inside))))

@@ -3,16 +3,16 @@ use Rattle.std.proofs.Common.{arith, ◌≡◌, ◌⊎◌, inl, inr, ℕ, zero, 
 use Rattle.grammar_model.specs.declared.Edge.{Edge}
 use Rattle.grammar_model.specs.Derives.{Edges, Held}
 use Rattle.recognizer_model.specs.declared.Item.{Item}
+use Rattle.recognizer_model.specs.declared.Pair.{Pair}
 use Rattle.recognizer_model.specs.declared.flat.FlatSymbol.TheVariants.{Terminal}
 use Rattle.recognizer_model.specs.Flat.{IsRule, IsNullable, lhs_of, rhs_of, part_of}
 use Rattle.recognizer_model.specs.FlatForm.{FlatEdges}
 use Rattle.recognizer_model.specs.Items.{after, IsWhole, first_item, advanced, InSet}
 use Rattle.recognizer_model.specs.Contexts.{IsTop}
 use Rattle.recognizer_model.specs.Leo.{IsLeo, IsNotLeo, LeadsTo, InReduced, GoesForward}
-use Rattle.recognizer_model.specs.Links.{Link, Predicts, Skips, Scans, Completes, Leaps, IsLink}
+use Rattle.recognizer_model.specs.Links.{Link, Predicts, Skips, Scans, Completes, Leaps, IsLink, PlacedLink, IsPlacedLink, IsLeoPair}
 use Rattle.recognizer_model.proofs.Leo.{reduced_inside, leo_of}
 use Rattle.recognizer_model.proofs.Once.{leads_one}
-use Rattle.run_model.specs.Steps.{PlacedLink, IsPlacedLink, PlacedSymbol, IsLeoPair}
 use Rattle.finite_sets.proofs.Members.{Among, among_from, contains_from, Once}
 use Rattle.number_laws.specs.RightRecursion.{right, tokens, RightRecursionCounts, RightRecursionRow}
 use Rattle.recognizer_model.proofs.Counting.{list_is, one_count}
@@ -115,10 +115,10 @@ links_length : (k : ℕ) → length (links k) ≡ 5 * k
 links_length zero = refl
 links_length (suc k) = let e = links_length k in omega (arith, e)
 
-abbrev pair_at : ℕ → PlacedSymbol
-pair_at j = record { place = j; symbol = 1 }
+abbrev pair_at : ℕ → Pair
+pair_at j = record { set = j; symbol = 1 }
 
-abbrev pairs : ℕ → List PlacedSymbol
+abbrev pairs : ℕ → List Pair
 pairs zero = pair_at 0 ∷ []
 pairs (suc k) = pair_at (suc k) ∷ pairs k
 
@@ -155,7 +155,7 @@ links_fall : (k : ℕ) → Falls (λ p. 6 * p.place + kind p.link) (6 * suc k) (
 links_fall zero = tt
 links_fall (suc k) = (omega arith, (omega arith, (omega arith, (omega arith, (omega arith, falls_below (λ p. 6 * p.place + kind p.link) (6 * suc k) (6 * suc k + 1) (links k) (omega arith) (links_fall k))))))
 
-pairs_fall : (k : ℕ) → Falls (λ p. p.place) (suc k) (pairs k)
+pairs_fall : (k : ℕ) → Falls (λ p. p.set) (suc k) (pairs k)
 pairs_fall zero = (omega arith, tt)
 pairs_fall (suc k) = (omega arith, pairs_fall k)
 
@@ -421,24 +421,24 @@ module _ (n : ℕ) where
       by (inr (inl (r, d, e))) = e
       by (inr (inr (r, d, e))) = e
 
-  abbrev Paired : ℕ → PlacedSymbol → Type 0
+  abbrev Paired : ℕ → Pair → Type 0
   Paired k p = IsLeoPair right (FlatEdges right (Held (tokens n))) 2 k p
 
-  from_pairs : (k : ℕ) → k ≤ n → (p : PlacedSymbol) → Among p (pairs k) → IsLeoPair right (FlatEdges right (Held (tokens n))) 2 k p
+  from_pairs : (k : ℕ) → k ≤ n → (p : Pair) → Among p (pairs k) → IsLeoPair right (FlatEdges right (Held (tokens n))) 2 k p
   from_pairs zero le p (inl e) = subst (Paired 0) e (omega arith, (waiting 0, leo 0 le))
   from_pairs zero le p (inr m) = absurd m
   from_pairs (suc k) le p (inl e) = subst (Paired (suc k)) e (omega arith, (waiting (suc k), leo (suc k) le))
   from_pairs (suc k) le p (inr m) = let (below, is) = from_pairs k (omega (arith, le)) p m in (omega (arith, below), is)
 
-  to_pairs : (p : PlacedSymbol) → IsLeoPair right (FlatEdges right (Held (tokens n))) 2 n p → Among p (pairs n)
+  to_pairs : (p : Pair) → IsLeoPair right (FlatEdges right (Held (tokens n))) 2 n p → Among p (pairs n)
   to_pairs p (le, (i, is)) =
-      let one = leo_s p.place p.symbol i le is in
-      subst (λ x. Among (record { place = p.place; symbol = x }) (pairs n)) (sym one) (pairs_up n p.place le)
+      let one = leo_s p.set p.symbol i le is in
+      subst (λ x. Among (record { set = p.set; symbol = x }) (pairs n)) (sym one) (pairs_up n p.set le)
 
 pub right_recursion_counts : RightRecursionCounts
 right_recursion_counts n = (
   (links n, list_is (IsPlacedLink right (FlatEdges right (Held (tokens n))) 2 n) (links n) (once_falling (λ p. 6 * p.place + kind p.link) (6 * suc n) (links n) (links_fall n)) (from_links n n (omega arith)) (to_links n n), links_length n),
-  (pairs n, list_is (IsLeoPair right (FlatEdges right (Held (tokens n))) 2 n) (pairs n) (once_falling (λ p. p.place) (suc n) (pairs n) (pairs_fall n)) (from_pairs n n (omega arith)) (to_pairs n), pairs_length n),
+  (pairs n, list_is (IsLeoPair right (FlatEdges right (Held (tokens n))) 2 n) (pairs n) (once_falling (λ p. p.set) (suc n) (pairs n) (pairs_fall n)) (from_pairs n n (omega arith)) (to_pairs n), pairs_length n),
 )
 
 pub right_recursion_row : RightRecursionRow

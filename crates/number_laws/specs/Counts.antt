@@ -13,7 +13,9 @@ use Rattle.language_model.specs.Building.{Built}
 use Rattle.language_model.specs.Texts.{IsBuilt}
 use Rattle.reading_model.specs.Accepted.{IsAccepted}
 use Rattle.reading_model.specs.Reading.{Piece, edges_of, earleme_after}
-use Rattle.run_model.specs.Steps.{IsPlacedLink, IsLeoPair, IsHiddenNode, IsWithinLooks}
+use Rattle.recognizer_model.specs.Below.{IsHiddenNode}
+use Rattle.recognizer_model.specs.Links.{IsPlacedLink, IsLeoPair}
+use Rattle.run_model.specs.Steps.{IsWithinLooks}
 
 pub record Counts : Type 0 where
   pub links : ℕ

@@ -8,7 +8,7 @@ use Rattle.recognizer_model.specs.declared.flat.FlatSource.TheVariants.{Written,
 use Rattle.recognizer_model.specs.Flat.{FlatGrammar}
 use Rattle.recognizer_model.specs.FlatForm.{FlatEdges}
 use Rattle.recognizer_model.specs.Counts.{IsCountOf}
-use Rattle.run_model.specs.Steps.{IsPlacedLink, IsLeoPair}
+use Rattle.recognizer_model.specs.Links.{IsPlacedLink, IsLeoPair}
 
 -- S ::= a S, S ::= a, and the top of S
 abbrev pub right : FlatGrammar

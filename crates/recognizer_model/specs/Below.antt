@@ -8,10 +8,11 @@ use Rattle.recognizer_model.specs.FlatForm.{FlatEdges}
 use Rattle.grammar_model.specs.Grammar.{Grammar}
 use Rattle.grammar_model.specs.declared.Edge.{Edge}
 use Rattle.grammar_model.specs.declared.Ranking.{Ranking}
+use Rattle.grammar_model.specs.declared.Ranking.TheVariants.{None as NoRanks}
 use Rattle.grammar_model.specs.Derives.{Edges, Held}
 use Rattle.recognizer_model.specs.Leo.{LeadsTo, InReduced, IsHidden, LeoIsKnown}
 use Rattle.recognizer_model.specs.Chosen.{Allowed, LeavesSome, allowed_by}
-use Rattle.recognizer_model.specs.Nodes.{IsUsed, IsExpanded}
+use Rattle.recognizer_model.specs.Nodes.{Placed, IsUsed, IsExpanded}
 use Rattle.recognizer_model.specs.Laws.{IsSound}
 
 -- a hidden item below another: completions of its symbol lead there in the end
@@ -25,6 +26,11 @@ item_of n = record { rule = n.rule; dot = n.dot; origin = n.origin }
 -- the node of an item of that set
 abbrev pub node_of : Item → (end : ℕ) → NodeKey
 node_of item end = record { rule = item.rule; dot = item.dot; origin = item.origin; end = end }
+
+-- a hidden item, and some derivation of the whole has its node, whatever the ranks
+abbrev pub IsHiddenNode : Grammar → (g : FlatGrammar) (E : Edges) (top place : ℕ) → Placed → Type 0
+IsHiddenNode w g E top place p =
+    IsHidden g E top p.place p.item × IsUsed g E (allowed_by w NoRanks g E) top place (node_of p.item p.place)
 
 -- a hidden item below one that is kept, and the node of that with the same end is used
 pub record IsBelowUsed (g : FlatGrammar) (E : Edges) (allowed : Allowed) (top place end : ℕ) (item : Item) : Type 0 where

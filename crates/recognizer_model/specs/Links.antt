@@ -1,11 +1,12 @@
 -- The links between items, and what they are counted by.
-use Rattle.std.specs.Prelude.{◌≡◌, ℕ, ◌+◌, ◌*◌, ◌<◌, Some}
+use Rattle.std.specs.Prelude.{◌≡◌, ℕ, ◌+◌, ◌*◌, ◌<◌, ◌≤◌, Some}
 use Rattle.recognizer_model.specs.declared.Item.{Item}
+use Rattle.recognizer_model.specs.declared.Pair.{Pair}
 use Rattle.grammar_model.specs.Trees.{Tree, Children, Leaf, Nulled, Node, NoChild, Child, child_count}
 use Rattle.recognizer_model.specs.Flat.{FlatGrammar, IsRule, lhs_of, IsNullable}
 use Rattle.grammar_model.specs.Derives.{Edges}
 use Rattle.recognizer_model.specs.Items.{after, IsWhole}
-use Rattle.recognizer_model.specs.Leo.{InReduced, IsNotLeo, LeadsTo}
+use Rattle.recognizer_model.specs.Leo.{IsLeo, InReduced, IsNotLeo, LeadsTo}
 
 abbrev mutual
   -- at least the choices of rules and splits that a derivation makes
@@ -26,6 +27,10 @@ pub data Link : Type 0 where
   Completes : (whole item : Item) → Link
   Leaps : (whole : Item) → Link
 
+pub record PlacedLink : Type 0 where
+  pub place : ℕ
+  pub link : Link
+
 abbrev pub IsCompleted : (g : FlatGrammar) (E : Edges) (top place : ℕ) → Item → Type 0
 IsCompleted g E top place whole = InReduced g E top place whole × IsWhole g whole × (whole.origin < place)
 
@@ -36,3 +41,11 @@ IsLink g E top place (Scans item from) = (x : ℕ) × InReduced g E top from ite
 IsLink g E top place (Completes whole item) = IsCompleted g E top place whole × IsNotLeo g E top whole.origin (lhs_of g whole.rule) ×
     InReduced g E top whole.origin item × (after g item ≡ Some (lhs_of g whole.rule))
 IsLink g E top place (Leaps whole) = IsCompleted g E top place whole × ((topmost : Item) × LeadsTo g E top whole.origin (lhs_of g whole.rule) topmost)
+
+-- a link of the set of a place after the first
+abbrev pub IsPlacedLink : (g : FlatGrammar) (E : Edges) (top place : ℕ) → PlacedLink → Type 0
+IsPlacedLink g E top place p = (0 < p.place) × (p.place ≤ place) × IsLink g E top p.place p.link
+
+-- the symbol has a Leo item in the set
+abbrev pub IsLeoPair : (g : FlatGrammar) (E : Edges) (top place : ℕ) → Pair → Type 0
+IsLeoPair g E top place pair = (pair.set ≤ place) × ((item : Item) × IsLeo g E top pair.set pair.symbol item)

@@ -24,6 +24,13 @@ pub struct NodeKey {
     pub end: u32,
 }
 
+/// A set, by its place, and a symbol.
+#[derive(Clone, Copy, PartialEq, Eq, Hash)]
+pub struct Pair {
+    pub set: u32,
+    pub symbol: u32,
+}
+
 /// A line of a progress report: an item in terms of written rules.
 #[derive(Clone, Copy, PartialEq, Eq, PartialOrd, Ord)]
 pub struct ReportLine {

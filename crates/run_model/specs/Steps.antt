@@ -1,46 +1,22 @@
 -- How many steps a reading and its derivations may take. A step is a try to add an item to a set, a Leo pair that is noted, a
 -- hidden item that is brought back, or a look at the alternatives of a forest's node.
 -- Sources: Leo 1991 (linear work on right recursion); the Libmarpa manual (bocage, tree).
-use Rattle.std.specs.Prelude.{◌≡◌, ℕ, ◌+◌, ◌<◌, ◌≤◌, List, Some, slice_get}
+use Rattle.std.specs.Prelude.{◌≡◌, ℕ, ◌+◌, ◌≤◌, List, Some, slice_get}
 use Rattle.std.specs.List.{sum_by}
 use Rattle.grammar_model.specs.Trees.{Tree}
-use Rattle.grammar_model.specs.Derives.{Edges, Held}
+use Rattle.grammar_model.specs.Derives.{Held}
 use Rattle.grammar_model.specs.Grammar.{Grammar}
 use Rattle.grammar_model.specs.declared.Ranking.{Ranking}
-use Rattle.grammar_model.specs.declared.Ranking.TheVariants.{None as NoRanks}
-use Rattle.recognizer_model.specs.declared.Item.{Item}
 use Rattle.recognizer_model.specs.Flat.{FlatGrammar}
 use Rattle.recognizer_model.specs.Chosen.{allowed_by}
 use Rattle.recognizer_model.specs.FlatForm.{FlatEdges}
-use Rattle.recognizer_model.specs.Leo.{IsLeo, IsHidden}
-use Rattle.recognizer_model.specs.Below.{node_of}
-use Rattle.recognizer_model.specs.Links.{Link, IsLink, choices}
-use Rattle.recognizer_model.specs.Nodes.{Placed, IsUsed, IsExpanded}
+use Rattle.recognizer_model.specs.Below.{IsHiddenNode}
+use Rattle.recognizer_model.specs.Links.{IsPlacedLink, IsLeoPair, choices}
+use Rattle.recognizer_model.specs.Nodes.{IsExpanded}
 use Rattle.recognizer_model.specs.Counts.{IsCountOf}
 use Rattle.flat_model.specs.Flattened.{IsFlattened}
 use Rattle.language_model.specs.Building.{Built}
 use Rattle.reading_model.specs.Reading.{Piece, edges_of, earleme_after}
-
-pub record PlacedLink : Type 0 where
-  pub place : ℕ
-  pub link : Link
-
--- a link of the set of a place after the first
-abbrev pub IsPlacedLink : (g : FlatGrammar) (E : Edges) (top place : ℕ) → PlacedLink → Type 0
-IsPlacedLink g E top place p = (0 < p.place) × (p.place ≤ place) × IsLink g E top p.place p.link
-
-pub record PlacedSymbol : Type 0 where
-  pub place : ℕ
-  pub symbol : ℕ
-
--- the symbol has a Leo item in the set of the place
-abbrev pub IsLeoPair : (g : FlatGrammar) (E : Edges) (top place : ℕ) → PlacedSymbol → Type 0
-IsLeoPair g E top place p = (p.place ≤ place) × ((item : Item) × IsLeo g E top p.place p.symbol item)
-
--- a hidden item, and some derivation of the whole has its node, whatever the ranks
-abbrev pub IsHiddenNode : Grammar → (g : FlatGrammar) (E : Edges) (top place : ℕ) → Placed → Type 0
-IsHiddenNode w g E top place p =
-    IsHidden g E top p.place p.item × IsUsed g E (allowed_by w NoRanks g E) top place (node_of p.item p.place)
 
 -- a reading in these pieces, and then so many looks: at most a step for each link of the sets after the first, for each Leo pair, for each
 -- look, and for each hidden item that begins no earlier than a used node with the same end; and, in place of these, for each hidden item

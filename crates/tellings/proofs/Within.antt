@@ -1,9 +1,7 @@
 -- How many steps a reading and what is told of it take.
 use Rattle.std.proofs.Common.{◌≡◌, ℕ, ◌+◌, ◌≤◌, List, [], ◌∷◌, Some, map, refl, sym, ap, subst, ◌∙◌, arith, slice_get}
 use Rattle.std.specs.List.{sum_by}
-use Rattle.std.proofs.lemmas.List.{length-map}
 use Rattle.std.proofs.lemmas.Option.{slice_get-get_or}
-use Rattle.finite_sets.proofs.Members.{Among, Once, among_from, contains_from, among_map, among_map_from, once_pairs, pairs_once}
 use Rattle.grammar_model.specs.Trees.{Tree}
 use Rattle.grammar_model.specs.Derives.{Held}
 use Rattle.grammar_model.specs.declared.Edge.{Edge}
@@ -14,9 +12,8 @@ use Rattle.recognizer_model.specs.Counts.{IsCountOf}
 use Rattle.recognizer_model.specs.Links.{choices}
 use Rattle.recognizer_model.specs.Chosen.{allowed_by}
 use Rattle.recognizer_model.specs.Nodes.{IsExpanded}
-use Rattle.earley_sets.specs.Recognizer as held
 use Rattle.earley_sets.specs.Recognizer.{Recognizer, IsRecognizer, edges_of, top_of, earleme_of}
-use Rattle.earley_sets.specs.Counted.{TakesAtMost, IsLinkOf}
+use Rattle.earley_sets.specs.Counted.{TakesAtMost}
 use Rattle.forest_model.specs.Forest.{Forest, IsForest}
 use Rattle.forest_model.specs.Listing.{IsListing}
 use Rattle.language_model.specs.Building.{Built}
@@ -28,33 +25,12 @@ use Rattle.scanless.specs.declared.reading.Ending.TheVariants.{End as AtEnd}
 use Rattle.words_model.specs.Words.{ValuesAsked}
 use Rattle.words_model.specs.Words.Telling.{Values}
 use Rattle.run_model.specs.Listing.{first_of}
-use Rattle.run_model.specs.Steps.{IsPlacedLink, IsLeoPair, IsHiddenNode, IsWithinLooks}
+use Rattle.recognizer_model.specs.Below.{IsHiddenNode}
+use Rattle.recognizer_model.specs.Links.{IsPlacedLink, IsLeoPair}
+use Rattle.run_model.specs.Steps.{IsWithinLooks}
 use Rattle.tellings.specs.Telling.{HasForest, GoesOnWithin}
 use Rattle.text_reading.specs.Parts.{BuildsWithin}
 use Rattle.text_reading.proofs.Derived.{listed, some_listing}
-
--- THE SAME COUNT OF OTHER VALUES
-
-module _ {X Y : Type 0} (P : X → Type 0) (Q : Y → Type 0) (f : X → Y) (g : Y → X) (to : (x : X) → P x → Q (f x)) (from : (y : Y) → Q y → P (g y)) (back : (x : X) → g (f x) ≡ x) (there : (y : Y) → f (g y) ≡ y) where
-  once_map : (xs : List X) → Once xs → Once (map f xs)
-  once_map [] once = tt
-  once_map (x ∷ xs) (fresh, once) = (
-    λ m. (let (y, among, e) = among_map_from f (f x) xs m in fresh (subst (λ z. Among z xs) (sym (back y) ∙ ap g e ∙ back x) among)),
-    once_map xs once,
-  )
-
-  counts_over : (n : ℕ) → IsCountOf P n → IsCountOf Q n
-  counts_over n (xs, is, count) = (
-    map f xs,
-    record {
-      once = once_pairs (map f xs) (once_map xs (pairs_once xs is.once));
-      exact = λ y. (
-        λ c. (let (x, among, e) = among_map_from f y xs (among_from (map f xs) y c) in subst Q e (to x ((is.exact x).0 (contains_from xs x among)))),
-        λ q. contains_from (map f xs) y (subst (λ z. Among z (map f xs)) (there y) (among_map f (g y) xs (among_from xs (g y) ((is.exact (g y)).1 (from y q))))),
-      );
-    },
-    length-map xs f ∙ count,
-  )
 
 -- A READING AND WHAT FOLLOWS IT
 
@@ -62,18 +38,6 @@ module _ (b : Built) (recce : Recognizer) (is : IsRecognizer recce) (pieces : Li
   -- what is so of the edges and the place of the pieces is so of those that are held
   as_held : (P : List Edge → ℕ → Type 0) → P (model.edges_of pieces) (earleme_after pieces) → P recce.edges (earleme_of recce)
   as_held P p = subst (λ (es : List Edge). P es (earleme_of recce)) (sym holds.edges) (subst (P (model.edges_of pieces)) (sym holds.place) p)
-
-  links_held : (n : ℕ) → IsCountOf (IsPlacedLink recce.flat (edges_of recce) (top_of recce) (earleme_of recce)) n → IsCountOf (IsLinkOf recce) n
-  links_held n count =
-      counts_over (IsPlacedLink recce.flat (edges_of recce) (top_of recce) (earleme_of recce)) (IsLinkOf recce)
-      (λ p. record { place = p.place; link = p.link }) (λ q. record { place = q.place; link = q.link })
-      (λ p l. l) (λ q l. l) (λ p. refl) (λ q. refl) n count
-
-  pairs_held : (n : ℕ) → IsCountOf (IsLeoPair recce.flat (edges_of recce) (top_of recce) (earleme_of recce)) n → IsCountOf (held.IsLeoPair recce) n
-  pairs_held n count =
-      counts_over (IsLeoPair recce.flat (edges_of recce) (top_of recce) (earleme_of recce)) (held.IsLeoPair recce)
-      (λ p. record { set = p.place; symbol = p.symbol }) (λ q. record { place = q.set; symbol = q.symbol })
-      (λ p l. l) (λ q l. l) (λ p. refl) (λ q. refl) n count
 
   pub within : (ranking : Ranking) (looks before read built after : ℕ) → TakesAtMost recce before read
       → BuildsWithin b.g1 ranking recce read built
@@ -101,7 +65,7 @@ module _ (b : Built) (recce : Recognizer) (is : IsRecognizer recce) (pieces : Li
       sets links pairs l p =
           let links_are = as_held (λ es place. IsCountOf (IsPlacedLink recce.flat (FlatEdges recce.flat (Held es)) (top_of recce) place) links) l in
           let pairs_are = as_held (λ es place. IsCountOf (IsLeoPair recce.flat (FlatEdges recce.flat (Held es)) (top_of recce) place) pairs) p in
-          reads links pairs (links_held links links_are) (pairs_held pairs pairs_are)
+          reads links pairs links_are pairs_are
 
 module _ (b : Built) (asked : ValuesAsked) (given cs : List ℕ) (spans : List Span) (f : Forest) (has : HasForest b given asked.ranking cs spans f) (forest : IsForest f) where
   pub lists_within : (recce : Recognizer) (held_spans : List Span) → IsRecognizer recce → IsReadingOfWith b given cs recce held_spans AtEnd → (read built after : ℕ)

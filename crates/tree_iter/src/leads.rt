@@ -6,6 +6,7 @@ ghost use Rattle.forest_laws.specs.Guide.{all_ends, ends_after, step_from, top_o
 ghost use Rattle.tree_iter.specs.Leads.{AreEnds, AreRows};
 
 use grammar_core::TreeStep;
+use slif_base::number;
 use std::alloc::{AllocError as NoMemory, Global};
 
 /// Of a step, where its tree begins, and after how many steps the tree before it ends; 0 is none.
@@ -67,9 +68,7 @@ pub fn leads_of(alloc: Global, to: &[TreeStep]) -> Result<Vec<LeadRow>, NoMemory
     ensures rows { IfOk result (λ rows. AreRows rows.items (map step_of to.now)) }
     ensures few { OnOk result (length to.now < 2 ^ 32) }
 {
-    if to.len() > u32::MAX as usize {
-        return Err(NoMemory);
-    }
+    number(to.len())?;
     let mut rows = Vec::with_capacity(alloc, to.len())?;
     for step in to {
         let row = row_of(&rows, *step);

@@ -9,6 +9,7 @@ ghost use Rattle.forest_laws.specs.Written.{is_list_rule as is_rule_of_list, rul
 ghost use Rattle.tree_iter.specs.Writing.{flat_step, IsStepOf, IsCounted, AreOnTop, AreTakenOff, IsEffect, AreDone};
 
 use grammar_core::{Flat, FlatSource, FlatSymbol, SymbolId, TreeStep, Written};
+use slif_base::number;
 use std::alloc::AllocError as NoMemory;
 
 /// A step of a flat derivation, by the numbers of flat symbols and rules.
@@ -241,9 +242,7 @@ pub fn write_step(
 {
     make_room(counts)?;
     make_room(steps)?;
-    if counts.as_slice().len() > u32::MAX as usize {
-        return Err(NoMemory);
-    }
+    number(counts.as_slice().len())?;
     let effect = effect_of(counts, flat, written, step);
     put_effect(counts, steps, effect);
     Ok(())

@@ -1,6 +1,6 @@
 use Rattle.std.proofs.Common.{◌<◌, refl, sym, subst, arith, length}
 use Rattle.std.proofs.lemmas.Result.{on_ok_weaker}
-use Rattle.leo_items.specs.declared.memo.Pair.{Pair}
+use Rattle.recognizer_model.specs.declared.Pair.{Pair}
 use Rattle.earley_sets.specs.Tried.{MakesLink}
 use Rattle.earley_sets.proofs.Following.{goes_skipped, goes_done, goes_nowhere}
 use Rattle.earley_sets.proofs.Rising.{rises_none}

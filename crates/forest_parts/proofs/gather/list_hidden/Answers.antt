@@ -8,7 +8,7 @@ returns-in_default-clause-counted g c =
 
 pub returns-clause-expanded : goal.returns-clause-expanded
 returns-clause-expanded g c =
-    let (lt, e) = c.in-Some.ensures in
+    let e = c.in_ok-raised.ensures.ok in
     let l = ap (λ (l : List Item). length l) c.as_slice.ensures.value in
     (length c.in_ok-hidden.hidden.items, (c.in_ok-hidden.hidden.items, c.in_ok-hidden.ensures.hidden, refl), omega arith)
 

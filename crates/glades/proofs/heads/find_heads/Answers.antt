@@ -8,18 +8,18 @@ use Rattle.glades.proofs.heads.find_heads.Goals as goal
 pub put_head-requires-clause-note : goal.put_head-requires-clause-note
 put_head-requires-clause-note c =
     not_noted c.args.forest.now c.known.ensures c.requires.links.by_rules c.args.notes.now c.requires.notes c.in_ok-number.field-0 c.note_at-note.result
-    (subst (λ n. slice_get c.args.notes.now n ≡ Some c.note_at-note.result) (sym c.in_ok-number.ensures) c.note_at-note.ensures)
+    (subst (λ n. slice_get c.args.notes.now n ≡ Some c.note_at-note.result) (sym c.in_ok-number.ensures.ok) c.note_at-note.ensures)
 
 pub put_head-requires-clause-node : goal.put_head-requires-clause-node
 put_head-requires-clause-node c =
-    let number = c.in_ok-number.ensures in
+    let number = c.in_ok-number.ensures.ok in
     let below = c.loop-node-test.true in
     let long = c.requires.notes.long in
     omega (arith, number, below, long)
 
 pub loop-node-preserved : goal.loop-node-preserved
 loop-node-preserved c =
-    let number = c.in_ok-number.ensures in
+    let number = c.in_ok-number.ensures.ok in
     record {
       each = λ head h. elim (c.in_ok-put_head.ensures.puts.each head h) [ inl o ↦ c.loop-node.invariant.each head o | inr k ↦ k ];
       all = λ n slot p q k lt. elim (cases_lt n c.loop-node.node) [

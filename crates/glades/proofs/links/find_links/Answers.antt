@@ -13,7 +13,7 @@ none_some e = cc
 
 pub loop-node-preserved : goal.loop-node-preserved
 loop-node-preserved g c =
-    let number : c.in_ok-number.field-0 ≡ c.loop-node.node = c.in_ok-number.ensures in
+    let number : c.in_ok-number.field-0 ≡ c.loop-node.node = c.in_ok-number.ensures.ok in
     let below = c.loop-node-test.true in
     let count = c.node_count-count.ensures in
     let lt : c.loop-node.node < length c.args.forest.now.nodes = omega (arith, below, count) in

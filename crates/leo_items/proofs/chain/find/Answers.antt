@@ -1,5 +1,5 @@
 use Rattle.std.proofs.Common.{rules, arith, ◌<◌, ◌∙◌, sym, subst, length, Some}
-use Rattle.leo_items.specs.declared.memo.Pair.{Pair}
+use Rattle.recognizer_model.specs.declared.Pair.{Pair}
 use Rattle.leo_items.specs.ByRows.{IsStepIn, IsNotLeoIn, LeadsIn}
 use Rattle.recognizer_model.specs.Flat.{lhs_of}
 use Rattle.leo_items.proofs.Chains.{passed_first, passed_on}

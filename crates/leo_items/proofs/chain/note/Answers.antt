@@ -1,5 +1,5 @@
 use Rattle.std.proofs.Common.{rules, arith, ◌+◌, ◌≤◌, sym, ap, subst, length, length-append, ◌∷◌, []}
-use Rattle.leo_items.specs.declared.memo.Pair.{Pair}
+use Rattle.recognizer_model.specs.declared.Pair.{Pair}
 use Rattle.leo_items.specs.ByRows.{NotesMore}
 use Rattle.leo_items.proofs.Chains.{has_leo, notable_above, notes_more, no_more}
 use Rattle.leo_items.proofs.Falling.{far, far_bound, step_falls, symbol_there}

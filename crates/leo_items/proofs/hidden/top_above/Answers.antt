@@ -1,6 +1,6 @@
 use Rattle.std.proofs.Common.{◌<◌, ◌∙◌, sym, subst, arith, length}
 use Rattle.recognizer_model.specs.Flat.{lhs_of}
-use Rattle.leo_items.specs.declared.memo.Pair.{Pair}
+use Rattle.recognizer_model.specs.declared.Pair.{Pair}
 use Rattle.leo_items.specs.ByRows.{LeadsIn}
 use Rattle.leo_items.proofs.hidden.top_above.Goals as goal
 

@@ -38,7 +38,7 @@ invariant_of-result c =
           let size = c.in_ok-list_sorted.ensures.length in
           let a = ap (λ (l : List Item). length l) c.deref-2.ensures.value in
           let b = ap (λ (l : List Item). length l) c.deref.ensures.value in
-          let counted = c.in_ok-_count.ensures in
+          let counted = c.in_ok-_count.ensures.ok in
           omega arith);
       differ = rules_differ g listed firsts n c.in_ok-list_all.ensures rules same once;
       all = all_numbered g listed firsts n c.in_ok-list_all.ensures rules same once c.in_ok-numbers.numbers.items numbers refl;

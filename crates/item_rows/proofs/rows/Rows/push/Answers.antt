@@ -48,7 +48,7 @@ invariant_of-self-2 c =
     c.in_ok-count.count
     (let all = row_length c.self.inside.dotted.rules (length c.self.inside.kernels) c.pack_row.new.packed.items (list_at c.self.inside.lists c.args.begun) in
     let list = ap (λ (l : List ℕ). length l) c.row.ensures in
-    let sum = c.in_ok-count.ensures in
+    let sum = c.in_ok-count.ensures.ok in
     let own = c.len.ensures in
     omega arith))
 
