@@ -19,6 +19,7 @@ use crate::grammar::load_grammar;
 use crate::hands::Hands;
 use crate::messages::report;
 use crate::scripting::play_input;
+use crate::streams::{StandardError, StandardOutput};
 use crate::telling::tell_input;
 use crate::working::work_of_size;
 use command_line::{InputFrom, Job, Task, Telling, read_words};
@@ -32,7 +33,7 @@ use valuator::Teller;
 /// Does what the words ask for, and answers the status. The words are those after the program's own name. Of the tellers that of
 /// the kind asked for is kept, and the other is dropped before any value is told. The supplier is told the lexemes that job `slip` gives;
 /// each other job drops it at once.
-pub fn run<F: Files, I: Source, O: Sink, E: Sink, L: Ledger>(
+pub fn run<F: Files, I: Source, O: StandardOutput, E: StandardError, L: Ledger>(
     alloc: Global,
     words: &[String],
     files: &mut F,
@@ -57,7 +58,8 @@ pub fn run<F: Files, I: Source, O: Sink, E: Sink, L: Ledger>(
           err = stream E.contents E.fault_count err.new;
         } in
         Runs (map string_bytes words.now) before after result }
-    ensures counted { result ≡ 0 → RunsWithin (map string_bytes words.now) (F.told files.old) (I.left input.old) steps.old steps.new }
+    ensures counted { result ≡ 0 → RunsWithin (map string_bytes words.now) (F.told files.old) (I.left input.old)
+        (O.contents out.old) (O.contents out.new) steps.old steps.new }
     ensures asks { AsksNames (map string_bytes words.now) (F.told files.old) (F.asked files.old) (F.asked files.new) }
     ensures input { (input.new ≡ input.old) ⊎ ReadsInput (map string_bytes words.now) (F.told files.old) }
     ensures held { SameFiles (F.told files.old) (F.told files.new) }
@@ -89,7 +91,8 @@ fn do_words<'a, F: Files, I: Source, O: Sink, L: Ledger>(
         (disk F.told F.fault_count files.old) (disk F.told F.fault_count files.new)
         (stream I.left I.fault_count input.old) (stream I.left I.fault_count input.new)
         (stream O.contents O.fault_count out.old) (stream O.contents O.fault_count out.new)) }
-    ensures counted { OnOk result (RunsWithin (map string_bytes words.now) (F.told files.old) (I.left input.old) steps.old steps.new) }
+    ensures counted { OnOk result (RunsWithin (map string_bytes words.now) (F.told files.old) (I.left input.old)
+        (O.contents out.old) (O.contents out.new) steps.old steps.new) }
     ensures asks { AsksNames (map string_bytes words.now) (F.told files.old) (F.asked files.old) (F.asked files.new) }
     ensures input { (input.new ≡ input.old) ⊎ ReadsInput (map string_bytes words.now) (F.told files.old) }
     ensures held { SameFiles (F.told files.old) (F.told files.new) }
@@ -120,7 +123,8 @@ fn do_task<'a, F: Files, I: Source, O: Sink, L: Ledger>(
         (stream I.left I.fault_count input.old) (stream I.left I.fault_count input.new)
         (stream O.contents O.fault_count out.old) (stream O.contents O.fault_count out.new)) }
     ensures counted { OnOk result ((words : List (List ℕ)) → Asks words (job_of job.entry) →
-        RunsWithin words (F.told files.old) (I.left input.old) steps.old steps.new) }
+        RunsWithin words (F.told files.old) (I.left input.old)
+        (O.contents out.old) (O.contents out.new) steps.old steps.new) }
     ensures asks { (words : List (List ℕ)) → Asks words (job_of job.entry) → AsksNames words (F.told files.old) (F.asked files.old) (F.asked files.new) }
     ensures input { (input.new ≡ input.old) ⊎ ((words : List (List ℕ)) → Asks words (job_of job.entry) → ReadsInput words (F.told files.old)) }
     ensures held { SameFiles (F.told files.old) (F.told files.new) }
@@ -211,7 +215,8 @@ fn tell_by<'a, F: Files, I: Source, O: Sink, L: Ledger>(
         (stream I.left I.fault_count input.old) (stream I.left I.fault_count input.new)
         (stream O.contents O.fault_count out.old) (stream O.contents O.fault_count out.new) stop) }
     ensures counted { OnOk result ((job : asked_words.Job) → IsTellJob job grammar.now (input_of from.entry) (names_told names.entry) (telling_of what.entry) →
-        (words : List (List ℕ)) → Asks words job → RunsWithin words (F.told files.old) (I.left input.old) steps.old steps.new) }
+        (words : List (List ℕ)) → Asks words job → RunsWithin words (F.told files.old) (I.left input.old)
+        (O.contents out.old) (O.contents out.new) steps.old steps.new) }
     ensures asks { (job : asked_words.Job) → IsTellJob job grammar.now (input_of from.entry) (names_told names.entry) (telling_of what.entry) →
         (words : List (List ℕ)) → Asks words job → AsksNames words (F.told files.old) (F.asked files.old) (F.asked files.new) }
     ensures input { (input.new ≡ input.old) ⊎ ((job : asked_words.Job) →
