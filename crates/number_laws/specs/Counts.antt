@@ -5,10 +5,10 @@ use Rattle.grammar_model.specs.Derives.{Held}
 use Rattle.grammar_model.specs.declared.Ranking.{Ranking}
 use Rattle.recognizer_model.specs.Flat.{FlatGrammar}
 use Rattle.recognizer_model.specs.Chosen.{allowed_by}
-use Rattle.recognizer_model.specs.FlatForm.{FlatEdges}
+use Rattle.recognizer_model.specs.FlatForm.{IsFlatOf, FlatEdges}
+use Rattle.recognizer_model.specs.Invariant.{IsFlat}
 use Rattle.recognizer_model.specs.Nodes.{IsExpanded}
 use Rattle.recognizer_model.specs.Counts.{IsCountOf}
-use Rattle.flat_model.specs.Flattened.{IsFlattened}
 use Rattle.language_model.specs.Building.{Built}
 use Rattle.language_model.specs.Texts.{IsBuilt}
 use Rattle.reading_model.specs.Accepted.{IsAccepted}
@@ -26,7 +26,8 @@ pub record Counts : Type 0 where
 -- the counts of a reading in these pieces
 pub record HasCounts (b : Built) (ranking : Ranking) (pieces : List Piece) (n : Counts) : Type 0 where
   pub flat : FlatGrammar
-  pub is : IsFlattened b.g1 flat
+  pub is : IsFlat flat
+  pub of : IsFlatOf flat b.g1
   pub top : ℕ
   pub top_is : slice_get flat.tops 0 ≡ Some top
   pub links : IsCountOf (IsPlacedLink flat (FlatEdges flat (Held (edges_of pieces))) top (earleme_after pieces)) n.links
