@@ -1,6 +1,7 @@
 -- Grammars that are refused: by their tokens, their statements, what these describe, and the check of what is built of them.
-use Rattle.std.proofs.Common.{◌≡◌, ◌∙◌, ◌==◌, ℕ, ◌+◌, ◌<◌, true, false, List, [], ◌∷◌, ◌++◌, length, ap, drop, codes, chars, map, nat_lt, Some, None, IsAscii, IsTrue, refl, sym, subst, arith, lit<, lit≤}
-use Rattle.std.specs.List.{list_all}
+use Rattle.std.proofs.Common.{◌≡◌, ◌∙◌, ◌==◌, ℕ, ◌<◌, true, false, List, [], ◌∷◌, ◌++◌, length, ap, codes, map, Some, None, IsAscii, refl, sym, subst, arith, lit<, lit≤}
+use Rattle.std.specs.Fmt.{digits}
+use Rattle.std.specs.Str.{chars}
 use Rattle.std.proofs.lemmas.Str.{chars-IsAscii, IsUtf8-from_ascii}
 use Rattle.unicode.specs.Binary.{is_white_space}
 use Rattle.ucd_perl.specs.Perl.{is_word_byte}
@@ -8,24 +9,21 @@ use Rattle.ucd_perl.proofs.PerlLemmas.{is_word_char-ascii}
 use Rattle.ucd_props.specs.Ranges.{white_space_ranges}
 use Rattle.ucd_table.specs.Rows.{in_ranges}
 use Rattle.grammar_model.specs.Checked.{Refusal, NoRules, NoStart, StartNotLhs, SequenceLhs, Duplicate, CountedNullable, UnproductiveStart, Cyclic, IsFault, kind_of}
-use Rattle.language_model.specs.declared.token.TokenKind.{TokenKind}
 use Rattle.language_model.specs.declared.token.TokenKind.TheVariants.{Word, Mark}
 use Rattle.language_model.specs.declared.token.Token.{Token}
-use Rattle.language_model.specs.Tokens.{Spelled, IsLongest, AreTokens, IsBadPlace, spelled_at, is_word}
+use Rattle.language_model.specs.Tokens.{AreTokens, IsBadPlace, spelled_at, is_word}
 use Rattle.language_model.specs.Layout.{layout_len}
-use Rattle.language_model.specs.Description.{Statement, Start, Default, LexemeDefault, Lexeme, Discard, Empty, Quantified, Rules, Bare, Alternative, Describes, Spells, IsBadStatement, cut, tokens_of}
+use Rattle.language_model.specs.Description.{Statement, Start, Default, LexemeDefault, Lexeme, Discard, Empty, Quantified, Rules, Bare, Describes, Spells, IsBadStatement, cut, tokens_of}
 use Rattle.language_model.specs.Building.{LexemeNotDefined, faults_of, built_of}
-use Rattle.language_model.specs.Texts.{IsText, HasDescription}
+use Rattle.language_model.specs.Texts.{HasDescription}
 use Rattle.reading_model.specs.Accepted.{Structural}
 use Rattle.dsl_tokens.specs.Scanning.{token_at, word_at, mark_at}
 use Rattle.dsl_tokens.proofs.LongestLemmas.{IsLongest-found, none_found, not_word}
-use Rattle.words_model.specs.Words.{Job, StandardInput, ValuesAsked, Tell, Values}
 use Rattle.run_model.specs.Texts.{place_text}
 use Rattle.run_model.specs.Texts.TextFault.{BadToken, BadStatement}
 use Rattle.run_model.specs.Refused.{IsRefused, build_text}
 use Rattle.run_model.specs.Refused.IsRefused.{ByText, ByDescription, ByGrammars}
 use Rattle.run_model.specs.Given.IsRefusedFor.{ForGrammar}
-use Rattle.run_model.specs.Outcome.{IsOutcome, refused}
 use Rattle.run_model.specs.Outcome.IsOutcome.{OfJob}
 use Rattle.run_model.specs.Outcome.IsGrammarOutcome.{GrammarRefused}
 use Rattle.work_laws.proofs.Text.{ascii_of}
@@ -33,7 +31,7 @@ use Rattle.outcome_laws.specs.Laws.{Refuses}
 use Rattle.outcome_laws.proofs.Telling.{job}
 
 of_refusal : (grammar text : List ℕ) → IsRefused grammar text → Refuses grammar text
-of_refusal grammar text is input = OfJob job refl (GrammarRefused text (ForGrammar is) refl) refl
+of_refusal grammar text is input = OfJob job refl (GrammarRefused text (ForGrammar is) refl)
 
 -- ---- no token
 
@@ -48,11 +46,15 @@ bad_place : IsBadPlace (codes "$") 0
 unfolding layout_len is_white_space in_ranges white_space_ranges
 bad_place = record { before = []; lead = refl; within = lit< tt; none = none_found (codes "$") 0 (lit< tt) dollar_none }
 
+token_told : codes "grammar: bad token at line 1 column 1" ≡ codes "grammar: bad token at " ++ place_text (codes "$") 0
+unfolding digits
+token_told = refl
+
 pub bad_token : Refuses (codes "$") (codes "grammar: bad token at line 1 column 1")
 bad_token = of_refusal (codes "$") (codes "grammar: bad token at line 1 column 1")
     (ByText (BadToken 0)
     (record { text = record { within = lit≤ tt; utf8 = IsUtf8-from_ascii (codes "$") dollar_ascii }; bad = subst (λ text. IsBadPlace text 0) (sym (chars-IsAscii (codes "$") dollar_ascii)) bad_place })
-    (ap (λ cs. codes "grammar: bad token at " ++ place_text cs 0) (sym (chars-IsAscii (codes "$") dollar_ascii))))
+    (token_told ∙ ap (λ cs. codes "grammar: bad token at " ++ place_text cs 0) (sym (chars-IsAscii (codes "$") dollar_ascii))))
 
 -- ---- no statement
 
@@ -86,6 +88,10 @@ a_bad : IsBadStatement (map (spelled_at (codes "a")) (record { kind = Word; from
 unfolding cut lib.Utf8.encode
 a_bad = record { good = []; bad = record { kind = Word; content = codes "a"; at = 0 }; behind = []; rest = []; pieces = refl; statements = []; described = tt; none = too_few; place = refl }
 
+statement_told : codes "grammar: bad statement at line 1 column 1" ≡ codes "grammar: bad statement at " ++ place_text (codes "a") 0
+unfolding digits
+statement_told = refl
+
 pub bad_statement : Refuses (codes "a") (codes "grammar: bad statement at line 1 column 1")
 bad_statement = of_refusal (codes "a") (codes "grammar: bad statement at line 1 column 1")
     (ByText (BadStatement 0)
@@ -94,7 +100,7 @@ bad_statement = of_refusal (codes "a") (codes "grammar: bad statement at line 1 
       has = record { text = record { within = lit≤ tt; utf8 = IsUtf8-from_ascii (codes "a") a_ascii }; are = subst (λ text. AreTokens text (record { kind = Word; from = 0; to = 1 } ∷ [])) (sym (chars-IsAscii (codes "a") a_ascii)) a_tokens };
       bad = subst (λ text. IsBadStatement (map (spelled_at text) (record { kind = Word; from = 0; to = 1 } ∷ [])) 0) (sym (chars-IsAscii (codes "a") a_ascii)) a_bad;
     })
-    (ap (λ cs. codes "grammar: bad statement at " ++ place_text cs 0) (sym (chars-IsAscii (codes "a") a_ascii))))
+    (statement_told ∙ ap (λ cs. codes "grammar: bad statement at " ++ place_text cs 0) (sym (chars-IsAscii (codes "a") a_ascii))))
 
 -- ---- a description with a fault
 
@@ -146,10 +152,14 @@ first_fault : faults_of (lexical_statement ∷ []) ≡ LexemeNotDefined (record 
 unfolding chars
 first_fault = refl
 
+description_told : codes "grammar: no rule for b at line 1 column 5" ≡ codes "grammar: " ++ build_text (codes "a ~ b") (LexemeNotDefined (record { name = codes "b"; at = 4 }))
+unfolding digits
+description_told = refl
+
 pub bad_description : Refuses (codes "a ~ b") (codes "grammar: no rule for b at line 1 column 5")
 bad_description = of_refusal (codes "a ~ b") (codes "grammar: no rule for b at line 1 column 5")
     (ByDescription (lexical_statement ∷ []) lexical_description (LexemeNotDefined (record { name = codes "b"; at = 4 })) [] first_fault
-    (ap (λ cs. codes "grammar: " ++ build_text cs (LexemeNotDefined (record { name = codes "b"; at = 4 }))) (sym (chars-IsAscii (codes "a ~ b") lexical_ascii))))
+    (description_told ∙ ap (λ cs. codes "grammar: " ++ build_text cs (LexemeNotDefined (record { name = codes "b"; at = 4 }))) (sym (chars-IsAscii (codes "a ~ b") lexical_ascii))))
 
 -- ---- grammars that are not accepted
 
@@ -172,15 +182,15 @@ nothing_faultless : faults_of [] ≡ []
 unfolding chars
 nothing_faultless = refl
 
+no_rules : length (built_of []).g1.rules ≡ 0
+unfolding chars
+no_rules = refl
+
 pub bad_grammar : Refuses [] (codes "grammar: no rules")
 bad_grammar = of_refusal [] (codes "grammar: no rules")
     (ByGrammars [] nothing_described (built_of []) (record { described = ([], nothing_described); faultless = nothing_faultless; is = refl }) (Structural NoRules)
     (record { fault = no_rules; first = none_before }) refl)
   where
-    no_rules : length (built_of []).g1.rules ≡ 0
-    unfolding chars
-    no_rules = refl
-
     none_before : (other : Refusal) → kind_of other < 1 → IsFault (built_of []).g1 other → ⊥
     none_before NoRules lt f = omega (arith, lt)
     none_before NoStart lt f = omega (arith, lt)

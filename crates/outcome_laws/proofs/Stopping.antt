@@ -1,15 +1,15 @@
 -- An input at which reading stops: of its three characters two are taken, and the third is no terminal's.
-use Rattle.std.proofs.Common.{◌≡◌, ◌↔◌, ℕ, zero, suc, ◌+◌, ◌<◌, List, [], ◌∷◌, ◌++◌, length, slice_get, Contains, Some, IsAscii, refl, sym, ◌∙◌, ap, subst, arith, lit<, lit≤}
-use Rattle.std.specs.Prelude.{chars, codes}
+use Rattle.std.proofs.Common.{◌≡◌, ℕ, zero, suc, ◌+◌, List, [], ◌∷◌, ◌++◌, length, slice_get, Contains, Some, IsAscii, refl, sym, ◌∙◌, ap, subst, arith, lit<, lit≤}
+use Rattle.std.specs.Prelude.{codes}
+use Rattle.std.specs.Fmt.{digits}
 use Rattle.std.specs.List.Sorted.{IsStrictlySortedBy}
 use Rattle.std.proofs.lemmas.Option.{same_Some}
 use Rattle.std.proofs.lemmas.Str.{chars-IsAscii, IsUtf8-from_ascii}
 use Rattle.finite_sets.proofs.Lists.{Contains-none}
-use Rattle.grammar_model.specs.Grammar.{slot_of}
 use Rattle.grammar_model.specs.Trees.{Tree}
-use Rattle.grammar_model.specs.Derives.{Line, Derives}
+use Rattle.grammar_model.specs.Derives.{Line}
 use Rattle.language_model.specs.Building.{LexemeRow}
-use Rattle.reading_model.specs.Reading.{Piece, IsNext, IsLongest, IsFound, AreFound, AreExpected, TakesNothing, Reads, Begin, Stopped, HasStopped, IsReading}
+use Rattle.reading_model.specs.Reading.{IsNext, IsLongest, IsFound, AreFound, AreExpected, TakesNothing, Reads, Begin, Stopped, HasStopped, IsReading}
 use Rattle.run_model.specs.Jobs.{work_grammar}
 use Rattle.run_model.specs.Inputs.IsInputRefused.{ReadingStops}
 use Rattle.run_model.specs.Outcome.{IsOutcome, refused}
@@ -24,7 +24,7 @@ use Rattle.work_laws.proofs.Text.{ascii_of}
 use Rattle.work_laws.proofs.Building.{work_g1, work_built, row}
 use Rattle.work_laws.proofs.Working.{work_accepted}
 use Rattle.work_laws.proofs.Shapes.{IsRun, Last, More, Letter, Bracket, run_derives}
-use Rattle.work_laws.proofs.Pieces.{one, ones, ones_spelled, line_edges}
+use Rattle.work_laws.proofs.Pieces.{ones, ones_spelled, line_edges}
 use Rattle.work_laws.proofs.Matching.{spelling, matched}
 use Rattle.work_laws.proofs.Reading.{candidate_below, taken}
 use Rattle.outcome_laws.proofs.Telling.{job}
@@ -114,10 +114,17 @@ text_ascii = ascii_of text refl
 stops : IsReading work_built text (ones before) (Stopped 2 [] (3 ∷ 4 ∷ 2 ∷ []))
 stops = HasStopped reads (lit< tt) takes_nothing (λ symbol c may. Contains-none symbol c) found expected
 
+told : codes "input stopped at line 1 column 3; found: none; expected: '(', ')', 'a'" ≡ stop_text work_g1 text 2 [] (3 ∷ 4 ∷ 2 ∷ [])
+unfolding digits
+told = refl
+
 pub stopped : IsOutcome run_words work_grammar text (refused 1 (codes "input stopped at line 1 column 3; found: none; expected: '(', ')', 'a'"))
 stopped =
-    OfJob job refl (GrammarAccepted work_built (for_none work_grammar work_built work_accepted)
-    ([], none_given work_built, InputRefused (codes "input stopped at line 1 column 3; found: none; expected: '(', ')', 'a'")
-    (ReadingStops (ones before) 2 [] (3 ∷ 4 ∷ 2 ∷ []) (record { within = lit≤ tt; utf8 = IsUtf8-from_ascii text text_ascii })
-    (subst (λ cs. IsReading work_built cs (ones before) (Stopped 2 [] (3 ∷ 4 ∷ 2 ∷ []))) (sym (chars-IsAscii text text_ascii)) stops)
-    (ap (λ cs. stop_text work_g1 cs 2 [] (3 ∷ 4 ∷ 2 ∷ [])) (sym (chars-IsAscii text text_ascii)))) refl))
+    OfJob job refl (GrammarAccepted work_built (for_none work_grammar work_built work_accepted) (
+      [],
+      none_given work_built,
+      InputRefused (codes "input stopped at line 1 column 3; found: none; expected: '(', ')', 'a'")
+          (ReadingStops (ones before) 2 [] (3 ∷ 4 ∷ 2 ∷ []) (record { within = lit≤ tt; utf8 = IsUtf8-from_ascii text text_ascii })
+          (subst (λ cs. IsReading work_built cs (ones before) (Stopped 2 [] (3 ∷ 4 ∷ 2 ∷ []))) (sym (chars-IsAscii text text_ascii)) stops)
+          (told ∙ ap (λ cs. stop_text work_g1 cs 2 [] (3 ∷ 4 ∷ 2 ∷ [])) (sym (chars-IsAscii text text_ascii)))) refl,
+    ))

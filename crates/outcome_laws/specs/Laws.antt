@@ -10,7 +10,7 @@ abbrev pub Refuses : (grammar text : List ℕ) → Type 0
 Refuses grammar text = (input : List ℕ) → IsOutcome run_words grammar input (refused 3 text)
 
 pub record OutcomesOccur : Type 0 where
-  pub value : IsOutcome run_words work_grammar (codes "a") (done (codes "null\n" ∷ []))
+  pub value : IsOutcome run_words work_grammar (codes "a") (done (codes "undef\n" ∷ []))
   pub stopped : IsOutcome run_words work_grammar (codes "(ab") (refused 1 (codes "input stopped at line 1 column 3; found: none; expected: '(', ')', 'a'"))
   pub bad_token : Refuses (codes "$") (codes "grammar: bad token at line 1 column 1")
   pub bad_statement : Refuses (codes "a") (codes "grammar: bad statement at line 1 column 1")

@@ -1,5 +1,5 @@
 -- What is counted of a reading is counted alike by each flat form.
-use Rattle.std.proofs.Common.{◌≡◌, ◌∙◌, ℕ, ◌≤◌, List, Some, slice_get, ap, sym, refl, subst}
+use Rattle.std.proofs.Common.{◌≡◌, ◌∙◌, ℕ, ◌≤◌, List, ap, sym, subst}
 use Rattle.grammar_model.specs.Grammar.{Grammar}
 use Rattle.grammar_model.specs.declared.Edge.{Edge}
 use Rattle.grammar_model.specs.declared.Ranking.{Ranking}
@@ -14,7 +14,7 @@ use Rattle.recognizer_model.specs.Leo.{InReduced, IsHidden}
 use Rattle.recognizer_model.specs.Links.{IsPlacedLink, IsLeoPair}
 use Rattle.recognizer_model.specs.Nodes.{Placed, IsUsed, IsExpanded}
 use Rattle.recognizer_model.specs.Counts.{IsCountOf}
-use Rattle.renaming_laws.specs.Laws.{AreForms, edges_in, NumbersOfAnyForm, CountsAlike, CountsOfAnyForm}
+use Rattle.renaming_laws.specs.Laws.{AreForms, edges_in, NumbersOfAnyForm, CountsOfAnyForm}
 use Rattle.renaming_laws.proofs.Renamed.{Renamed, flip, renamed, named_again}
 use Rattle.renaming_laws.proofs.Sets.{reduced_rule, expanded_rule, reduced_there, hidden_there}
 use Rattle.renaming_laws.proofs.Trees.{Keeps, ranking_there, key_named, used_there, used_rule}

@@ -1,6 +1,5 @@
 -- Two flat forms of one grammar are the same under other names: their symbols stand for the same, and their rules are the same by these.
-use Rattle.std.proofs.Common.{◌≡◌, ◌≢◌, ◌∙◌, ◌↔◌, inl, inr, ℕ, zero, suc, ◌<◌, ◌≤◌, List, [], ◌∷◌, length, map, slice_get, slice_index_or, Some, None, true, Contains, ap, sym, refl, subst, arith}
-use Rattle.std.proofs.lemmas.List.{length-map}
+use Rattle.std.proofs.Common.{◌≡◌, ◌∙◌, inl, inr, ℕ, zero, suc, ◌<◌, List, [], ◌∷◌, length, map, slice_get, slice_index_or, Some, true, Contains, ap, sym, refl, subst, arith}
 use Rattle.std.proofs.lemmas.Option.{same_Some, none-some, slice_get-get_or, slice_get_within}
 use Rattle.finite_sets.specs.Decided.{IsDecided}
 use Rattle.finite_sets.proofs.Deciding.{less}
@@ -10,10 +9,9 @@ use Rattle.grammar_model.specs.Grammar.{Grammar}
 use Rattle.grammar_model.specs.Derives.{Edges}
 use Rattle.recognizer_model.specs.declared.flat.FlatSymbol.{FlatSymbol}
 use Rattle.recognizer_model.specs.declared.flat.FlatSymbol.TheVariants.{Terminal, Top}
-use Rattle.recognizer_model.specs.Flat.{FlatGrammar, FlatRule, no_rule, IsRule, lhs_of, rhs_of, source_of, part_of, IsNullable}
-use Rattle.recognizer_model.specs.FlatForm.{IsFlatOf, IsSymbolOf, IsRuleOf, NamedRule, SpansNothing, symbol_at, named, FlatEdges}
+use Rattle.recognizer_model.specs.Flat.{FlatGrammar, FlatRule, no_rule, IsRule, lhs_of, rhs_of, IsNullable}
+use Rattle.recognizer_model.specs.FlatForm.{IsFlatOf, NamedRule, symbol_at, named, FlatEdges}
 use Rattle.recognizer_model.specs.Invariant.{IsFlat}
-use Rattle.recognizer_model.specs.Counts.{IsListOf}
 use Rattle.renaming_laws.proofs.Renamed.{Names, Renamed}
 
 -- ---- lists
@@ -137,10 +135,10 @@ module _ (f g : FlatGrammar) (w : Grammar) (flat : IsFlat f) (other : IsFlat g) 
     right = right_is;
     source = λ r is. ap (λ (n : NamedRule). n.source) (rule_is r is).1;
     edge = λ x p q (t, e, held). (
-        t,
-        (let (lt, at) = get_index f.symbols x (Top 0) (Terminal t) e in symbol_is x lt ∙ ap (λ (s : FlatSymbol). Some s) at),
-        held,
-      );
+      t,
+      (let (lt, at) = get_index f.symbols x (Top 0) (Terminal t) e in symbol_is x lt ∙ ap (λ (s : FlatSymbol). Some s) at),
+      held,
+    );
   }
 
   -- the top of one start

@@ -1,5 +1,5 @@
 -- Links, Leo pairs and placed items under other names.
-use Rattle.std.proofs.Common.{◌≡◌, ◌∙◌, ℕ, suc, ◌<◌, ◌≤◌, length, Some, ap, sym, refl, subst}
+use Rattle.std.proofs.Common.{◌≡◌, ◌∙◌, ℕ, ◌<◌, length, Some, ap, sym, subst}
 use Rattle.grammar_model.specs.Derives.{Edges}
 use Rattle.recognizer_model.specs.declared.Item.{Item}
 use Rattle.recognizer_model.specs.declared.Pair.{Pair}
@@ -7,7 +7,7 @@ use Rattle.recognizer_model.specs.Flat.{FlatGrammar, IsRule, lhs_of}
 use Rattle.recognizer_model.specs.Leo.{IsLeo, LeadsTo}
 use Rattle.recognizer_model.specs.Links.{Link, Predicts, Skips, Scans, Completes, Leaps, IsCompleted, IsLink, PlacedLink, IsPlacedLink, IsLeoPair}
 use Rattle.recognizer_model.specs.Nodes.{Placed}
-use Rattle.renaming_laws.proofs.Renamed.{Renamed, flip, renamed, named_again, part_there, whole_there, left_there}
+use Rattle.renaming_laws.proofs.Renamed.{Renamed, renamed, named_again, part_there, whole_there, left_there}
 use Rattle.renaming_laws.proofs.Sets.{in_set_rule, reduced_rule, reduced_there, leads_there, none_there, leo_there}
 
 pub link_named : (ℕ → ℕ) → Link → Link
@@ -37,8 +37,7 @@ module _ {f g : FlatGrammar} {E F : Edges} (ren : Renamed f g E F) (top : ℕ) (
   link_there j (Skips item) (x, k, a, n) = (ren.symbol x, reduced_there ren top is_rule k, part_there ren.there item.rule item.dot x (reduced_rule f E top is_rule k) a, ren.there.marked x n)
   link_there j (Scans item from) (x, k, a, e) = (ren.symbol x, reduced_there ren top is_rule k, part_there ren.there item.rule item.dot x (reduced_rule f E top is_rule k) a, ren.there.edge x from j e)
   link_there j (Completes whole item) (c, none, k, a) =
-      let of = reduced_rule f E top is_rule c.0 in
-      (
+      let of = reduced_rule f E top is_rule c.0 in (
         completed_there j whole c,
         none_there ren top is_rule whole.rule of none,
         reduced_there ren top is_rule k,

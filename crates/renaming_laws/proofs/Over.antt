@@ -1,8 +1,8 @@
 -- The same count of other values.
-use Rattle.std.proofs.Common.{◌≡◌, ◌≢◌, ◌∙◌, ℕ, List, [], ◌∷◌, length, map, Contains, refl, sym, ap, subst, inl, inr}
+use Rattle.std.proofs.Common.{◌≡◌, ◌∙◌, ℕ, List, [], ◌∷◌, map, refl, sym, ap, subst, inl, inr}
 use Rattle.std.proofs.lemmas.List.{length-map}
 use Rattle.finite_sets.proofs.Members.{Among, Once, among_from, contains_from, among_map, among_map_from, once_pairs, pairs_once}
-use Rattle.recognizer_model.specs.Counts.{IsListOf, IsCountOf}
+use Rattle.recognizer_model.specs.Counts.{IsCountOf}
 
 once_map : {X Y : Type 0} (to : X → Y) (from : Y → X) (xs : List X) → ((x : X) → Among x xs → from (to x) ≡ x) → Once xs → Once (map to xs)
 once_map to from [] back once = tt

@@ -1,12 +1,12 @@
 -- Flat grammars that differ in the numbers of their symbols and rules: a name there and back for each, and the edges by the same.
-use Rattle.std.proofs.Common.{◌≡◌, ◌∙◌, ℕ, suc, ◌<◌, ◌≤◌, length, map, slice_get, Some, ap, sym, refl, subst}
-use Rattle.finite_sets.proofs.Lists.{get_map, get_index}
+use Rattle.std.proofs.Common.{◌≡◌, ◌∙◌, ℕ, ◌<◌, length, map, slice_get, Some, ap, sym}
+use Rattle.finite_sets.proofs.Lists.{get_map}
 use Rattle.std.proofs.lemmas.List.{length-map}
 use Rattle.grammar_model.specs.Derives.{Edges}
 use Rattle.recognizer_model.specs.declared.Item.{Item}
 use Rattle.recognizer_model.specs.Flat.{FlatGrammar, IsRule, lhs_of, rhs_of, part_of, source_of, IsNullable}
 use Rattle.recognizer_model.specs.Invariant.{IsFlat}
-use Rattle.recognizer_model.specs.Items.{after, IsWhole}
+use Rattle.recognizer_model.specs.Items.{IsWhole}
 
 -- one way
 pub record Names (f g : FlatGrammar) (E F : Edges) (symbol rule : ℕ → ℕ) : Type 0 where

@@ -1,9 +1,9 @@
 -- The items of sets, Leo items, the reduced sets and what they hide, under other names.
-use Rattle.std.proofs.Common.{◌≡◌, ◌∙◌, ℕ, suc, ◌<◌, length, Some, ap, sym, refl, subst}
+use Rattle.std.proofs.Common.{◌≡◌, ◌∙◌, ℕ, ◌<◌, length, Some, ap, sym, subst}
 use Rattle.grammar_model.specs.Derives.{Edges}
 use Rattle.recognizer_model.specs.declared.Item.{Item}
-use Rattle.recognizer_model.specs.Flat.{FlatGrammar, IsRule, lhs_of, rhs_of}
-use Rattle.recognizer_model.specs.Items.{after, IsWhole, first_item, advanced, InSet, Start, Predict, Skip, Scan, Complete}
+use Rattle.recognizer_model.specs.Flat.{FlatGrammar, IsRule, lhs_of}
+use Rattle.recognizer_model.specs.Items.{after, advanced, InSet, Start, Predict, Skip, Scan, Complete}
 use Rattle.recognizer_model.specs.Leo.{IsLeo, IsNotLeo, LeadsTo, Last, On, InReduced, InExpanded, Kept, Step, IsHidden}
 use Rattle.renaming_laws.proofs.Renamed.{Names, Renamed, flip, renamed, named_again, part_there, whole_there, left_there}
 

@@ -1,15 +1,14 @@
 -- Derivations, and the nodes that they have, under other names.
-use Rattle.std.proofs.Common.{◌≡◌, ◌∙◌, ℕ, suc, ◌<◌, length, Some, ap, sym, refl, subst}
-use Rattle.std.specs.Prelude.{◌≤ℤ◌, ℤ, ⊤}
+use Rattle.std.proofs.Common.{◌≡◌, ◌∙◌, ℕ, suc, length, ap, sym, refl, subst}
+use Rattle.std.specs.Prelude.{◌≤ℤ◌, ℤ}
 use Rattle.grammar_model.specs.Grammar.{Grammar, rule_at}
 use Rattle.grammar_model.specs.declared.Ranking.{Ranking}
 use Rattle.grammar_model.specs.declared.Ranking.TheVariants.{None as NoRanks, Rule as RuleRanks, High as HighRanks}
 use Rattle.grammar_model.specs.Order.{rank_by}
 use Rattle.grammar_model.specs.Trees.{Tree, Children, Leaf, Nulled, Node, NoChild, Child, child_count, from_of}
 use Rattle.grammar_model.specs.Derives.{Edges}
-use Rattle.recognizer_model.specs.declared.Item.{Item}
 use Rattle.recognizer_model.specs.declared.NodeKey.{NodeKey}
-use Rattle.recognizer_model.specs.Flat.{FlatGrammar, IsRule, lhs_of, rhs_of, source_of}
+use Rattle.recognizer_model.specs.Flat.{FlatGrammar, IsRule, lhs_of, rhs_of}
 use Rattle.recognizer_model.specs.declared.flat.FlatSource.{FlatSource}
 use Rattle.recognizer_model.specs.FlatForm.{source_number}
 use Rattle.recognizer_model.specs.FlatDerives.{Derives, Spans, Token, Null, Rule, Nothing, More}
@@ -43,6 +42,7 @@ count_same symbol rule (Child prefix last) = ap suc (count_same symbol rule pref
 module _ {f g : FlatGrammar} {E F : Edges} {symbol rule : ℕ → ℕ} (names : Names f g E F symbol rule) where
   mutual
     unfolding tree_named children_named
+
     pub derives_there : {x p q : ℕ} {t : Tree} → Derives f E x p q t → Derives g F (symbol x) p q (tree_named symbol rule t)
     derives_there (Token {x = x} {p = p} {q = q} e) = Token (names.edge x p q e)
     derives_there (Null {x = x} n) = Null (names.marked x n)
@@ -101,6 +101,7 @@ Keeps rule f allowed other = (r p q : ℕ) → IsRule f r → allowed r p q → 
 module _ {f g : FlatGrammar} {E F : Edges} {symbol rule : ℕ → ℕ} (names : Names f g E F symbol rule) (allowed other : Allowed) (keeps : Keeps rule f allowed other) where
   mutual
     unfolding tree_named children_named
+
     pub allowed_there : {x p q : ℕ} {t : Tree} → Derives f E x p q t → AreAllowed allowed t → AreAllowed other (tree_named symbol rule t)
     allowed_there (Token e) a = tt
     allowed_there (Null n) a = tt
