@@ -20,7 +20,7 @@ use Rattle.reading_laws.proofs.Candidates.{pieces_forward}
 use Rattle.reading_laws.proofs.Short.{built_are_short}
 use Rattle.recognizer_model.specs.Below.{IsHiddenNode}
 use Rattle.recognizer_model.specs.Links.{IsPlacedLink, IsLeoPair}
-use Rattle.number_laws.specs.Counts.{Counts, HasCounts, CountsExist, CountsAreOne, CountsBoundSteps}
+use Rattle.number_laws.specs.Counts.{Counts, HasCounts, LinksAreCounted, CountsExist, CountsAreOne, CountsBoundSteps}
 use Rattle.number_laws.proofs.Exist.{told, top_is}
 use Rattle.number_laws.proofs.Flat.{flattened, is_flat}
 use Rattle.number_laws.proofs.Linked.{link_list, pair_list}
@@ -29,6 +29,16 @@ use Rattle.renaming_laws.proofs.Alike.{counts_of_any_form}
 use Rattle.number_laws.proofs.Placed.{hidden_list}
 use Rattle.number_laws.proofs.Used.{used_list}
 use Rattle.recognizer_model.proofs.Counting.{one_count}
+
+pub links_are_counted : LinksAreCounted
+links_are_counted f edges top place is_top forward =
+    let E = FlatEdges f (Held edges) in
+    let goes = flat_forward f (Held edges) forward in
+    let edge = flat_decided f (Held edges) (held_decided edges) in
+    let sets : (j : ℕ) → (items : List Item) × IsListOf (InSet f E top j) items = λ j. item_sets_exist f edges top j forward in
+    let (links, links_are) = link_list f E top is_top goes edge sets place in
+    let (pairs, pairs_are) = pair_list f E top is_top goes edge sets place in
+    ((length links, count_of (IsPlacedLink f E top place) links links_are), (length pairs, count_of (IsLeoPair f E top place) pairs pairs_are))
 
 pub counts_exist : CountsExist
 counts_exist b ranking pieces built accepted =
