@@ -1,3 +1,4 @@
 mod Refusing
 mod Stopping
 mod Telling
+mod Library

@@ -24,7 +24,7 @@ use Rattle.work_laws.proofs.Reading.{all_read}
 use Rattle.work_laws.proofs.Input.{input_chars, input_utf8, input_length, input_spelled}
 
 -- no rule of the grammar has a rank of its own
-no_ranks : (i : ℕ) → rank_of (rule_at work_g1 i) ≡ pos 0
+pub no_ranks : (i : ℕ) → rank_of (rule_at work_g1 i) ≡ pos 0
 no_ranks zero = refl
 no_ranks (suc zero) = refl
 no_ranks (suc (suc zero)) = refl
