@@ -9,3 +9,4 @@ pub mod Texts
 pub mod Nested
 mod Eaches
 mod Jsons
+mod Found

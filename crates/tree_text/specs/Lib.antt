@@ -6,3 +6,4 @@ pub mod Differences
 pub mod Texts
 pub mod Written
 pub mod Nested
+pub mod Telling
