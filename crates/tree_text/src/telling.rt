@@ -230,18 +230,6 @@ fn push_reading(nodes: &[Node<'_>], at: usize, out: &mut String) -> Result<(), A
     push_node_reading(node, nodes, at, out)
 }
 
-fn push_readings(
-    one: &[Node<'_>],
-    other: &[Node<'_>],
-    at: usize,
-    out: &mut String,
-) -> Result<(), AllocError>
-    ensures { OnOk result (string_bytes out.new ≡ string_bytes out.old ++ readings one.now other.now at) }
-{
-    push_reading(one, at, out)?;
-    push_reading(other, at, out)
-}
-
 fn push_called(label: Label<'_>, out: &mut String) -> Result<(), AllocError>
     ensures { OnOk result (string_bytes out.new ≡ string_bytes out.old ++ called (looks.name_in label.entry)) }
 {
@@ -300,7 +288,8 @@ fn difference_of(
     let mut text = String::new(alloc);
     push_span(node, &mut text)?;
     push_cuts(one, other, at, &mut text)?;
-    push_readings(one, other, at, &mut text)?;
+    push_reading(one, at, &mut text)?;
+    push_reading(other, at, &mut text)?;
     Ok(text)
 }
 
