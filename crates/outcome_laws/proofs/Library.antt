@@ -1,5 +1,5 @@
 -- The input `(aa)` as the library has it: read, listed and folded.
-use Rattle.std.proofs.Common.{◌≡◌, ◌∙◌, ℕ, zero, suc, ◌<◌, List, [], ◌∷◌, ◌++◌, length, Contains, Some, None, false, IsAscii, inr, pos, map, slice_index_or, slice_get, refl, sym, ap, subst, arith, lit<, lit≤}
+use Rattle.std.proofs.Common.{◌≡◌, ℕ, zero, suc, ◌+◌, ◌<◌, List, [], ◌∷◌, Contains, Some, None, false, IsAscii, inr, pos, slice_get, refl, sym, subst, arith, lit<, lit≤}
 use Rattle.std.specs.Prelude.{codes}
 use Rattle.std.specs.Str.{chars}
 use Rattle.std.specs.List.Sorted.{IsStrictlySortedBy}
@@ -10,11 +10,8 @@ use Rattle.grammar_model.specs.declared.Ranking.TheVariants.{Rule as RuleRanks}
 use Rattle.grammar_model.specs.Grammar.{slot_of}
 use Rattle.grammar_model.specs.Trees.{Tree, Leaf, Node, NoChild, Child}
 use Rattle.grammar_model.specs.Derives.{Held, Line, Derives}
-use Rattle.grammar_model.specs.Chosen.{AreChosen}
 use Rattle.grammar_model.proofs.ChosenOnce.{alike_chosen}
-use Rattle.grammar_core.specs.declared.steps.Span.{Span}
-use Rattle.reading_model.specs.Reading.{End, HasEnded, IsReading, earleme_after, edges_of}
-use Rattle.recognizer_model.specs.Flat.{FlatGrammar}
+use Rattle.reading_model.specs.Reading.{End, HasEnded, IsReading, edges_of}
 use Rattle.forest_model.specs.Forest.{Forest}
 use Rattle.run_model.specs.Inputs.{IsRead}
 use Rattle.run_model.specs.Listing.{AreDerivations}

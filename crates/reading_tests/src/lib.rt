@@ -17,3 +17,5 @@ mod numbers;
 mod readings;
 #[cfg(test)]
 mod reports;
+#[cfg(test)]
+mod steps;
