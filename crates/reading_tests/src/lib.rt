@@ -17,5 +17,3 @@ mod numbers;
 mod readings;
 #[cfg(test)]
 mod reports;
-#[cfg(test)]
-mod steps;
