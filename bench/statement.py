@@ -135,16 +135,28 @@ def source_of(crate, words):
     return None
 
 
+def with_supertraits(name):
+    """A trait and those that it is a part of: each with its file, that file's text, and its clauses."""
+    found = source_of(None, f"trait {name}")
+    if found:
+        path, text, rest = found
+        head = rest[: rest.index("{")]
+        yield name, path, text, "" if rest[len(head) :].startswith("{}") else rest[: rest.index("\n}\n")]
+        for other in re.findall(r"\w+", head.partition(":")[2]):
+            yield from with_supertraits(other)
+
+
 def traits():
-    """The traits whose ghost members the contract cites: each with its file, that file's text, and its clauses."""
+    """The traits whose ghost members the contract cites, or by which it tells parts of the outside apart: each with its file, that file's text, and its clauses."""
     clause, _ = contract()
+    seen = set()
     for owner, name in re.findall(r"\b(\w+): (\w+)", clause.split("(")[0]) + [("", name) for name in re.findall(r"dyn (\w+)", clause)]:
-        found = source_of(None, f"trait {name}")
-        if found:
-            path, text, rest = found
-            body = rest[: rest.index("\n}\n")]
-            if any(re.search(rf"(?<![\w.]){owner + '[.]' if owner else ''}{member}\b", clause) for member in re.findall(r"ghost (\w+):", body)):
-                yield name, path, text, body
+        for part, path, text, body in with_supertraits(name):
+            members = re.findall(r"ghost (\w+):", body)
+            cites = any(re.search(rf"(?<![\w.]){owner + '[.]' if owner else ''}{member}\b", clause) for member in members)
+            if (cites or part == name and not body) and part not in seen:
+                seen.add(part)
+                yield part, path, text, body
 
 
 def declared(citing):

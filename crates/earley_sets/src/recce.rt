@@ -458,9 +458,8 @@ impl<'g> Recce<'g> {
     /// The items of a set that wait for a symbol.
     pub fn waiting(&self, j: u32, symbol: u32) -> SetView<'_>
         requires { j ≤ earleme_of self.now }
-        ensures { (item : Item) →
-            Contains result item ↔
-            (Contains (set_at self.now j) item × (after self.now.flat item ≡ Some symbol)) }
+        ensures { IsListOf (λ item. Contains (set_at self.now j) item ×
+            (after self.now.flat item ≡ Some symbol)) result }
     {
         SetView {
             row: self.rows.waiting(j as usize, symbol),

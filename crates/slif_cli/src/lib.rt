@@ -9,6 +9,7 @@ mod inputs;
 mod laws;
 mod messages;
 mod scripting;
+mod streams;
 mod telling;
 mod top;
 mod working;
@@ -18,4 +19,5 @@ pub use laws::{
     pages_follow, statuses_occur,
 };
 pub use messages::{FAULT, OUT_OF_MEMORY};
+pub use streams::{StandardError, StandardOutput};
 pub use top::run;

@@ -19,6 +19,7 @@ use crate::grammar::load_grammar;
 use crate::hands::Hands;
 use crate::messages::report;
 use crate::scripting::play_input;
+use crate::streams::{StandardError, StandardOutput};
 use crate::telling::tell_input;
 use crate::working::work_of_size;
 use command_line::{InputFrom, Job, Task, Telling, read_words};
@@ -32,7 +33,7 @@ use valuator::Teller;
 /// Does what the words ask for, and answers the status. The words are those after the program's own name. Of the tellers that of
 /// the kind asked for is kept, and the other is dropped before any value is told. The supplier is told the lexemes that job `slip` gives;
 /// each other job drops it at once.
-pub fn run<F: Files, I: Source, O: Sink, E: Sink, L: Ledger>(
+pub fn run<F: Files, I: Source, O: StandardOutput, E: StandardError, L: Ledger>(
     alloc: Global,
     words: &[String],
     files: &mut F,

@@ -60,6 +60,10 @@ pub enum FoldError<E> {
 }
 
 impl<E: fmt::Display> fmt::Display for FoldError<E> {
+    ghost use Rattle.tree_fold.specs.Shown.{fold_text};
+
+    ghost output = { fold_text E.output };
+
     fn fmt<W: fmt::Write>(&self, f: &mut fmt::Formatter<W>) -> fmt::Result {
         match self {
             FoldError::Semantics(error) => write!(f, "{error}"),

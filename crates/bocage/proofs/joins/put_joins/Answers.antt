@@ -20,4 +20,4 @@ returns c =
     gains_same (λ (j : Join). (item : Item) × Contains c.waiting-waiting.result item × ((j.group ≡ c.args.number) × (predecessor_of_join j ≡ item) × (c.args.least ≤ item.origin)))
     (λ (j : Join). (j.group ≡ c.args.number) × IsJoinOf c.args.recce.now c.args.least c.args.group j) c.args.joins.now.items c.loop-k.joins.items
     (first_all (λ (item : Item) (j : Join). (j.group ≡ c.args.number) × (predecessor_of_join j ≡ item) × (c.args.least ≤ item.origin)) c.waiting-waiting.result c.loop-k.k c.args.joins.now.items c.loop-k.joins.items c.loop-k.invariant le)
-    (joins_are c.args.recce.now c.args.least c.args.number c.args.group c.waiting-waiting.result c.waiting-waiting.ensures)
+    (joins_are c.args.recce.now c.args.least c.args.number c.args.group c.waiting-waiting.result c.waiting-waiting.ensures.exact)

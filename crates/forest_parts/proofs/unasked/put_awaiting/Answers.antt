@@ -20,7 +20,7 @@ loop-k-init c = takes_none c.args.recce.now (ByFirst (λ (w x : Item). x ≡ adv
 
 pub advanced-requires : goal.advanced-requires
 advanced-requires c =
-    let (kept, waits) = (c.waiting-waiting.ensures c.at.result).0 (got_item c.waiting-waiting.result c.loop-k.k c.at.result (sym c.at.ensures)) in
+    let (kept, waits) = (c.waiting-waiting.ensures.exact c.at.result).0 (got_item c.waiting-waiting.result c.loop-k.k c.at.result (sym c.at.ensures)) in
     let inside = kept_inside c.args.recce.now c.requires.is c.args.item.origin c.at.result c.requires.origin kept in
     let is_rule = (found_item c.args.recce.now c.requires.is c.args.item.origin c.at.result inside).is_rule in
     let lt = slice_get_within (rhs_of c.args.recce.now.flat c.at.result.rule) c.at.result.dot c.lhs.result waits in
@@ -29,7 +29,7 @@ advanced-requires c =
 
 pub loop-k-preserved : goal.loop-k-preserved
 loop-k-preserved c =
-    let (kept, waits) = (c.waiting-waiting.ensures c.at.result).0 (got_item c.waiting-waiting.result c.loop-k.k c.at.result (sym c.at.ensures)) in
+    let (kept, waits) = (c.waiting-waiting.ensures.exact c.at.result).0 (got_item c.waiting-waiting.result c.loop-k.k c.at.result (sym c.at.ensures)) in
     let inside : InSet c.args.recce.now.flat (edges_of c.args.recce.now) (top_of c.args.recce.now) c.args.item.origin c.at.result = kept_inside c.args.recce.now c.requires.is c.args.item.origin c.at.result c.requires.origin kept in
     let low = origin_below c.args.recce.now.flat (edges_of c.args.recce.now) (top_of c.args.recce.now) (at_top c.args.recce.now c.requires.is) (goes c.args.recce.now c.requires.is) inside in
     let within = c.requires.origin in
@@ -41,10 +41,10 @@ pub returns : goal.returns
 returns c =
     let le : length c.waiting-waiting.result ≤ c.loop-k.k = subst (λ n. n ≤ c.loop-k.k) c.len-k-end.ensures c.loop-k-test.false in
     takes_of c.args.recce.now (ByFirst (λ (w x : Item). x ≡ advanced w) c.waiting-waiting.result c.loop-k.k) (IsAwaiting c.args.recce.now c.args.item) c.args.items.now.keys c.loop-k.items.keys
-    (λ x (w, kept, waits, e). (let (i, at) = found_at c.waiting-waiting.result w ((c.waiting-waiting.ensures w).1 (kept, waits ∙ ap Some (sym (c.lhs.ensures ∙ ap (λ (g : FlatGrammar). lhs_of g c.args.item.rule) c.flat-flat.ensures)))) in
+    (λ x (w, kept, waits, e). (let (i, at) = found_at c.waiting-waiting.result w ((c.waiting-waiting.ensures.exact w).1 (kept, waits ∙ ap Some (sym (c.lhs.ensures ∙ ap (λ (g : FlatGrammar). lhs_of g c.args.item.rule) c.flat-flat.ensures)))) in
     let (lt, same) = got_at c.waiting-waiting.result i w w (sym at) in
     (i, w, omega arith, at, e)))
     (λ x (i, w, lt, at, e).
-    (let (kept, waits) = (c.waiting-waiting.ensures w).0 (got_item c.waiting-waiting.result i w (sym at)) in
+    (let (kept, waits) = (c.waiting-waiting.ensures.exact w).0 (got_item c.waiting-waiting.result i w (sym at)) in
     (w, kept, waits ∙ ap Some (c.lhs.ensures ∙ ap (λ (g : FlatGrammar). lhs_of g c.args.item.rule) c.flat-flat.ensures), e)))
     c.loop-k.invariant
