@@ -1,0 +1,13 @@
+use Rattle.std.proofs.Common.{rules, ◌≡◌, ℕ, ◌<◌, ◌++◌, ◌∷◌, [], length, take, Some, slice_get, IfOk, OnOk, OnErr, ◌+◌, ◌-◌, ◌*◌, ◌≤◌, ◌/◌, ◌%◌, Bool, true, false, nat_eq, nat_lt, List, slice_index_or, slice_set, bit_and, bit_or, Fits, w8, w32, w64, Bor, MutBor}
+use Rattle.kernels.specs.Slots.{Rises, placed_all, AreSlotted}
+use Rattle.kernels.specs.Shapes.{kernel_at, IsShapeAt}
+use Rattle.kernels.specs.declared.shapes.Shape.{Shape as TheShape}
+use Rattle.kernels.proofs.shapes.Kernels.begun.Goals as goal
+
+-- src/shapes.rt:96:9
+pub shape_at-requires : goal.shape_at-requires
+shape_at-requires c = ?
+
+-- src/shapes.rt:92:5
+pub returns : goal.returns
+returns c = ?
