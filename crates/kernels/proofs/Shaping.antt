@@ -53,7 +53,7 @@ module _ (shapes : List Shape) where
   shaped_length (k ∷ kinds) (o ∷ rows) (is, are) = let (a, b) = shaped_length kinds rows are in (ap suc a, ap suc b)
 
   -- the kernel of a row: its number, and its shape
-  record IsKernelAt (kinds : List ℕ) (origins : List (List ℕ)) (j : ℕ) : Type 0 where
+  pub record IsKernelAt (kinds : List ℕ) (origins : List (List ℕ)) (j : ℕ) : Type 0 where
     pub kind : ℕ
     pub has : slice_get kinds j ≡ Some kind
     pub shaped : IsShaped shapes kind (list_at origins j)
@@ -67,3 +67,79 @@ module _ (shapes : List Shape) where
   shaped_at (k ∷ kinds) (o ∷ rows) (suc j) (is, are) lt =
       let at = shaped_at kinds rows j are (omega arith) in
       record { kind = at.kind; has = at.has; shaped = at.shaped; is = at.is }
+
+  pub at_kinds : (kinds : List ℕ) (origins : List (List ℕ)) (j : ℕ) → AreShaped shapes kinds origins → j < length kinds → (kind : ℕ) × (slice_get kinds j ≡ Some kind) × (kind < length shapes)
+  at_kinds kinds origins j are lt =
+      let at = shaped_at kinds origins j are lt in
+      (at.kind, at.has, (get_index shapes at.kind at.shaped.shape at.shaped.shape at.shaped.is).0)
+
+-- a kernel that is read
+module _ (shapes : List Shape) (kinds : List ℕ) (origins : List (List ℕ)) (view : List Kernel) (are : AreShaped shapes kinds origins) (seen : kernels_of shapes kinds origins ≡ view) (j : ℕ) (lt : j < length view) where
+  pub in_kinds : j < length kinds
+  in_kinds = let (a, b) = shaped_length shapes kinds origins are in let s = ap length seen in omega arith
+
+  pub in_origins : j < length origins
+  in_origins = let (a, b) = shaped_length shapes kinds origins are in let s = ap length seen in omega arith
+
+  module _ (shape : Shape) (told : (kind : ℕ) → slice_get kinds j ≡ Some kind → slice_get shapes kind ≡ Some shape) where
+    read : IsKernelAt shapes kinds origins j
+    read = shaped_at shapes kinds origins j are in_kinds
+
+    here : slice_get shapes read.kind ≡ Some shape
+    here = told read.kind read.has
+
+    same : read.shaped.shape ≡ shape
+    same = let e : Some read.shaped.shape ≡ Some shape = sym read.shaped.is ∙ here in cc
+
+    pub slotted_here : AreSlotted (list_at origins j) shape.slotted.items
+    slotted_here = subst (λ (s : Shape). AreSlotted (list_at origins j) s.slotted.items) same read.shaped.slotted
+
+    kernel_here : kernel_at view j ≡ kernel_of (Some shape) (list_at origins j)
+    kernel_here = ap (λ (v : List Kernel). kernel_at v j) (sym seen) ∙ (read.is ∙ ap (λ s. kernel_of s (list_at origins j)) here)
+
+    pub packed_here : placed_all (list_at origins j) shape.slotted.items ≡ (kernel_at view j).packed
+    packed_here = ap (λ (k : Kernel). k.packed) (sym kernel_here)
+
+    pub begun_here : shape.begun ≡ (kernel_at view j).begun
+    begun_here = ap (λ (k : Kernel). k.begun) (sym kernel_here)
+
+-- more shapes
+module _ (old new : List Shape) (kept : (k : ℕ) (s : Shape) → slice_get old k ≡ Some s → slice_get new k ≡ Some s) where
+  pub shaped_still : (kinds : List ℕ) (origins : List (List ℕ)) → AreShaped old kinds origins → AreShaped new kinds origins
+  shaped_still [] [] are = are
+  shaped_still [] (o ∷ rows) are = absurd are
+  shaped_still (k ∷ kinds) [] are = absurd are
+  shaped_still (k ∷ kinds) (o ∷ rows) (is, are) = (record { shape = is.shape; is = kept k is.shape is.is; slotted = is.slotted }, shaped_still kinds rows are)
+
+  pub kernels_still : (kinds : List ℕ) (origins : List (List ℕ)) → AreShaped old kinds origins → kernels_of new kinds origins ≡ kernels_of old kinds origins
+  kernels_still [] [] are = refl
+  kernels_still [] (o ∷ rows) are = absurd are
+  kernels_still (k ∷ kinds) [] are = absurd are
+  kernels_still (k ∷ kinds) (o ∷ rows) (is, are) =
+      let rest = kernels_still kinds rows are in
+      let head : kernel_of (slice_get new k) o ≡ kernel_of (slice_get old k) o = ap (λ s. kernel_of s o) (kept k is.shape is.is ∙ sym is.is) in
+      λ i. head i ∷ rest i
+
+-- one kernel more
+module _ (shapes : List Shape) (kind : ℕ) (row : List ℕ) (shape : Shape) (is : IsShapeAt shapes shape kind) (slotted : AreSlotted row shape.slotted.items) where
+  shaped_new : IsShaped shapes kind row
+  shaped_new = record { shape = is.found; is = is.is; slotted = subst (AreSlotted row) (sym is.slotted) slotted }
+
+  pub shaped_pushed : (kinds : List ℕ) (origins : List (List ℕ)) → AreShaped shapes kinds origins → AreShaped shapes (kinds ++ kind ∷ []) (origins ++ row ∷ [])
+  shaped_pushed [] [] are = (shaped_new, tt)
+  shaped_pushed [] (o ∷ rows) are = absurd are
+  shaped_pushed (k ∷ kinds) [] are = absurd are
+  shaped_pushed (k ∷ kinds) (o ∷ rows) (first, are) = (first, shaped_pushed kinds rows are)
+
+  module _ (packed : List ℕ) (same : placed_all row shape.slotted.items ≡ packed) where
+    kernel_new : kernel_of (slice_get shapes kind) row ≡ record { begun = shape.begun; packed = packed }
+    kernel_new =
+        ap (λ s. kernel_of s row) is.is
+        ∙ (λ i. record { begun = is.begun i; packed = (ap (placed_all row) is.slotted ∙ same) i })
+
+    pub kernels_pushed : (kinds : List ℕ) (origins : List (List ℕ)) → AreShaped shapes kinds origins →
+        kernels_of shapes (kinds ++ kind ∷ []) (origins ++ row ∷ []) ≡ kernels_of shapes kinds origins ++ (record { begun = shape.begun; packed = packed }) ∷ []
+    kernels_pushed [] [] are = λ i. kernel_new i ∷ []
+    kernels_pushed [] (o ∷ rows) are = absurd are
+    kernels_pushed (k ∷ kinds) [] are = absurd are
+    kernels_pushed (k ∷ kinds) (o ∷ rows) (first, are) = ap (λ l. kernel_of (slice_get shapes k) o ∷ l) (kernels_pushed kinds rows are)

@@ -13,7 +13,7 @@ use std::marker::Model;
 
 /// What rows have alike: the number of the list that they share, and their own items. Of an item the number of its dotted rule is told,
 /// and a slot, the place of its origin among the origins of the row.
-#[derive(Clone, PartialEq, Eq, Hash, Drop)]
+#[derive(PartialEq, Eq, Hash, Drop)]
 pub struct Shape {
     pub begun: u32,
     pub slotted: Vec<u64>,
@@ -135,6 +135,17 @@ fn shape_at<'r>(shapes: &'r IndexSet<Shape>, kinds: &[u32], j: usize) -> &'r Sha
     }
 }
 
+fn copy_of(shape: &Shape) -> Result<Shape, AllocError>
+    ensures begun { IfOk result (λ copy. copy.begun ≡ shape.now.begun) }
+    ensures slotted { IfOk result (λ copy. copy.slotted.items ≡ shape.now.slotted.items) }
+{
+    let slotted = shape.slotted.clone()?;
+    Ok(Shape {
+        begun: shape.begun,
+        slotted,
+    })
+}
+
 // The number of a shape, which becomes a new one if there is none like it.
 fn number_of(shapes: &mut IndexSet<Shape>, shape: &Shape) -> Result<u32, AllocError>
     ensures number { IfOk result (λ n. IsShapeAt shapes.new.keys shape.now n) }
@@ -144,7 +155,7 @@ fn number_of(shapes: &mut IndexSet<Shape>, shape: &Shape) -> Result<u32, AllocEr
     if let Some(at) = shapes.get_index_of(shape) {
         return number(at);
     }
-    let copy = shape.clone()?;
+    let copy = copy_of(shape)?;
     let (at, _) = shapes.insert_full(copy)?;
     number(at)
 }

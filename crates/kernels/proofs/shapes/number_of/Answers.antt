@@ -1,17 +1,24 @@
-use Rattle.std.proofs.Common.{rules, ◌≡◌, ℕ, ◌<◌, ◌++◌, ◌∷◌, [], length, take, Some, slice_get, IfOk, OnOk, OnErr, ◌+◌, ◌-◌, ◌*◌, ◌≤◌, ◌/◌, ◌%◌, Bool, true, false, nat_eq, nat_lt, List, slice_index_or, slice_set, bit_and, bit_or, Fits, w8, w32, w64, Bor, MutBor}
-use Rattle.kernels.specs.Slots.{Rises, placed_all, AreSlotted}
-use Rattle.kernels.specs.Shapes.{kernel_at, IsShapeAt}
-use Rattle.kernels.specs.declared.shapes.Shape.{Shape as TheShape}
+use Rattle.std.proofs.Common.{◌≡◌, ◌∙◌, ℕ, Some, slice_get, sym}
+use Rattle.std.specs.Prelude.{Result, Ok, Err, IfOk}
+use Rattle.std.specs.declared.alloc.AllocError.{AllocError}
+use Rattle.kernels.specs.declared.shapes.Shape.{Shape}
+use Rattle.kernels.specs.Shapes.{IsShapeAt}
+use Rattle.kernels.proofs.Shaping.{found_shape, stored_shape, shapes_kept}
 use Rattle.kernels.proofs.shapes.number_of.Goals as goal
 
--- src/shapes.rt:145:9
 pub returns-in-Some-clause-number : goal.returns-in-Some-clause-number
-returns-in-Some-clause-number c = ?
+returns-in-Some-clause-number c = go c.number.result c.number.ensures.ok
+  where
+    go : (r : Result ℕ AllocError) → IfOk r (λ n. n ≡ c.in-Some.at) → IfOk r (λ n. IsShapeAt c.args.shapes.now.keys c.args.shape.now n)
+    go (Ok n) e = found_shape c.args.shapes.now.keys c.args.shape.now n c.in-Some.at c.in-Some.ensures.index e
+    go (Err f) e = tt
 
--- src/shapes.rt:139:1
 pub returns-clause-number : goal.returns-clause-number
-returns-clause-number c = ?
+returns-clause-number c = go c.number-2.result c.number-2.ensures.ok
+  where
+    go : (r : Result ℕ AllocError) → IfOk r (λ n. n ≡ c.in_ok-at.at) → IfOk r (λ n. IsShapeAt c.insert_full.new.self.keys c.args.shape.now n)
+    go (Ok n) e = stored_shape c.insert_full.new.self.keys c.in_ok-copy.copy c.args.shape.now n c.in_ok-at.at c.in_ok-at.ensures.stored c.in_ok-copy.ensures.begun c.in_ok-copy.ensures.slotted e
+    go (Err f) e = tt
 
--- src/shapes.rt:139:1
 pub returns-clause-kept : goal.returns-clause-kept
-returns-clause-kept c = ?
+returns-clause-kept c = shapes_kept c.args.shapes.now.keys c.insert_full.new.self.keys c.in_ok-copy.copy c.in_ok-at.ensures.keys

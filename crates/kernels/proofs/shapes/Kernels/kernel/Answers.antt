@@ -1,21 +1,25 @@
-use Rattle.std.proofs.Common.{rules, ◌≡◌, ℕ, ◌<◌, ◌++◌, ◌∷◌, [], length, take, Some, slice_get, IfOk, OnOk, OnErr, ◌+◌, ◌-◌, ◌*◌, ◌≤◌, ◌/◌, ◌%◌, Bool, true, false, nat_eq, nat_lt, List, slice_index_or, slice_set, bit_and, bit_or, Fits, w8, w32, w64, Bor, MutBor}
-use Rattle.kernels.specs.Slots.{Rises, placed_all, AreSlotted}
-use Rattle.kernels.specs.Shapes.{kernel_at, IsShapeAt}
-use Rattle.kernels.specs.declared.shapes.Shape.{Shape as TheShape}
+use Rattle.std.proofs.Common.{◌≡◌, ◌<◌, ◌∙◌, ℕ, List, Some, length, slice_get, sym, subst}
+use Rattle.kernels.specs.Slots.{placed_all, AreSlotted}
+use Rattle.kernels.proofs.Shaping.{at_kinds, in_kinds, in_origins, slotted_here, packed_here}
 use Rattle.kernels.proofs.shapes.Kernels.kernel.Goals as goal
 
--- src/shapes.rt:84:13
 pub shape_at-shape-requires : goal.shape_at-shape-requires
-shape_at-shape-requires c = ?
+shape_at-shape-requires c =
+    subst (λ (l : List ℕ). (kind : ℕ) × (slice_get l c.args.j ≡ Some kind) × (kind < length c.self.inside.shapes.keys)) (sym c.deref.ensures.value)
+    (at_kinds c.self.inside.shapes.keys c.self.inside.kinds.items c.self.inside.origins c.args.j c.self.invariant (in_kinds c.self.inside.shapes.keys c.self.inside.kinds.items c.self.inside.origins c.args.self.now c.self.invariant c.self.view_is c.args.j c.requires))
 
--- src/shapes.rt:87:22
 pub row-requires : goal.row-requires
-row-requires c = ?
+row-requires c = in_origins c.self.inside.shapes.keys c.self.inside.kinds.items c.self.inside.origins c.args.self.now c.self.invariant c.self.view_is c.args.j c.requires
 
--- src/shapes.rt:78:5
 pub returns-clause-slotted : goal.returns-clause-slotted
-returns-clause-slotted c = ?
+returns-clause-slotted c =
+    subst (λ (l : List ℕ). AreSlotted l c.deref-2.result.now) (sym c.row.ensures)
+    (subst (AreSlotted _) (sym c.deref-2.ensures.value)
+    (slotted_here c.self.inside.shapes.keys c.self.inside.kinds.items c.self.inside.origins c.args.self.now c.self.invariant c.self.view_is c.args.j c.requires c.shape_at-shape.result.now
+    (λ kind e. c.shape_at-shape.ensures kind (subst (λ (l : List ℕ). slice_get l c.args.j ≡ Some kind) (sym c.deref.ensures.value) e))))
 
--- src/shapes.rt:78:5
 pub returns-clause-packed : goal.returns-clause-packed
-returns-clause-packed c = ?
+returns-clause-packed c =
+    (λ i. placed_all (c.row.ensures i) (c.deref-2.ensures.value i))
+    ∙ packed_here c.self.inside.shapes.keys c.self.inside.kinds.items c.self.inside.origins c.args.self.now c.self.invariant c.self.view_is c.args.j c.requires c.shape_at-shape.result.now
+    (λ kind e. c.shape_at-shape.ensures kind (subst (λ (l : List ℕ). slice_get l c.args.j ≡ Some kind) (sym c.deref.ensures.value) e))

@@ -1,41 +1,56 @@
-use Rattle.std.proofs.Common.{rules, ◌≡◌, ℕ, ◌<◌, ◌++◌, ◌∷◌, [], length, take, Some, slice_get, IfOk, OnOk, OnErr, ◌+◌, ◌-◌, ◌*◌, ◌≤◌, ◌/◌, ◌%◌, Bool, true, false, nat_eq, nat_lt, List, slice_index_or, slice_set, bit_and, bit_or, Fits, w8, w32, w64, Bor, MutBor}
-use Rattle.kernels.specs.Slots.{Rises, placed_all, AreSlotted}
-use Rattle.kernels.specs.Shapes.{kernel_at, IsShapeAt}
-use Rattle.kernels.specs.declared.shapes.Shape.{Shape as TheShape}
+use Rattle.std.proofs.Common.{◌≡◌, ◌∙◌, ◌++◌, ◌∷◌, [], ◌%◌, ℕ, List, Some, Contains, slice_get, sym, ap, subst}
+use Rattle.finite_sets.proofs.Clauses.{on_err}
+use Rattle.kernels.specs.Slots.{placed_all, AreSlotted}
+use Rattle.kernels.specs.Shapes.{kernels_of, AreShaped}
+use Rattle.kernels.proofs.Shaping.{shaped_still, kernels_still, shaped_pushed, kernels_pushed}
 use Rattle.kernels.proofs.shapes.Kernels.push.Goals as goal
 
--- src/shapes.rt:115:9
 pub list_slotted-requires-clause-all : goal.list_slotted-requires-clause-all
-list_slotted-requires-clause-all c = ?
+list_slotted-requires-clause-all c n h = subst (λ (l : List ℕ). Contains l (n % 4294967296)) (sym c.deref.ensures.value) (c.in_ok-list_origins.ensures.all n h)
 
--- src/shapes.rt:117:20
 pub invariant_of-self-in_err-kind : goal.invariant_of-self-in_err-kind
-invariant_of-self-in_err-kind c = ?
+invariant_of-self-in_err-kind c = shaped_still c.self.inside.shapes.keys c.number_of.new.shapes.keys c.number_of.ensures.kept c.self.inside.kinds.items c.self.inside.origins c.self.invariant
 
--- src/shapes.rt:117:20
 pub returns-in_err-kind-clause-err : goal.returns-in_err-kind-clause-err
-returns-in_err-kind-clause-err c = ?
+returns-in_err-kind-clause-err c =
+    on_err c.from_residual-in_err-kind.result
+    (kernels_still c.self.inside.shapes.keys c.number_of.new.shapes.keys c.number_of.ensures.kept c.self.inside.kinds.items c.self.inside.origins c.self.invariant ∙ c.self.view_is)
 
--- src/shapes.rt:118:9
 pub invariant_of-self-in_err-reserve : goal.invariant_of-self-in_err-reserve
-invariant_of-self-in_err-reserve c = ?
+invariant_of-self-in_err-reserve c =
+    subst (λ (l : List ℕ). AreShaped c.number_of.new.shapes.keys l c.self.inside.origins) (sym c.reserve.ensures.items)
+    (shaped_still c.self.inside.shapes.keys c.number_of.new.shapes.keys c.number_of.ensures.kept c.self.inside.kinds.items c.self.inside.origins c.self.invariant)
 
--- src/shapes.rt:118:9
 pub returns-in_err-reserve-clause-err : goal.returns-in_err-reserve-clause-err
-returns-in_err-reserve-clause-err c = ?
+returns-in_err-reserve-clause-err c =
+    on_err c.from_residual-in_err-reserve.result
+    (ap (λ (l : List ℕ). kernels_of c.number_of.new.shapes.keys l c.self.inside.origins) c.reserve.ensures.items
+    ∙ (kernels_still c.self.inside.shapes.keys c.number_of.new.shapes.keys c.number_of.ensures.kept c.self.inside.kinds.items c.self.inside.origins c.self.invariant ∙ c.self.view_is))
 
--- src/shapes.rt:119:9
 pub invariant_of-self-in_err-push : goal.invariant_of-self-in_err-push
-invariant_of-self-in_err-push c = ?
+invariant_of-self-in_err-push c =
+    subst (λ (o : List (List ℕ)). AreShaped c.number_of.new.shapes.keys c.reserve.new.self.items o) (sym c.in_err-push.ensures.err)
+    (subst (λ (l : List ℕ). AreShaped c.number_of.new.shapes.keys l c.self.inside.origins) (sym c.reserve.ensures.items)
+    (shaped_still c.self.inside.shapes.keys c.number_of.new.shapes.keys c.number_of.ensures.kept c.self.inside.kinds.items c.self.inside.origins c.self.invariant))
 
--- src/shapes.rt:119:9
 pub returns-in_err-push-clause-err : goal.returns-in_err-push-clause-err
-returns-in_err-push-clause-err c = ?
+returns-in_err-push-clause-err c =
+    on_err c.from_residual-in_err-push.result
+    ((λ i. kernels_of c.number_of.new.shapes.keys (c.reserve.ensures.items i) (c.in_err-push.ensures.err i))
+    ∙ (kernels_still c.self.inside.shapes.keys c.number_of.new.shapes.keys c.number_of.ensures.kept c.self.inside.kinds.items c.self.inside.origins c.self.invariant ∙ c.self.view_is))
 
--- src/shapes.rt:108:5
 pub invariant_of-self-2 : goal.invariant_of-self-2
-invariant_of-self-2 c = ?
+invariant_of-self-2 c =
+    subst (λ (o : List (List ℕ)). AreShaped c.number_of.new.shapes.keys c.push_reserved.new.self.items o) (sym (c.in_ok-push.ensures.ok ∙ ap (λ (l : List ℕ). c.self.inside.origins ++ l ∷ []) c.deref-2.ensures.value))
+    (subst (λ (l : List ℕ). AreShaped c.number_of.new.shapes.keys l (c.self.inside.origins ++ c.list_origins.new.origins.items ∷ [])) (sym (c.push_reserved.ensures.items ∙ ap (λ (l : List ℕ). l ++ c.in_ok-kind.kind ∷ []) c.reserve.ensures.items))
+    (shaped_pushed c.number_of.new.shapes.keys c.in_ok-kind.kind c.list_origins.new.origins.items _ c.in_ok-kind.ensures.number (subst (λ (l : List ℕ). AreSlotted l c.list_slotted.new.slotted.items) c.deref.ensures.value c.in_ok-list_slotted.ensures.slotted) c.self.inside.kinds.items c.self.inside.origins
+    (shaped_still c.self.inside.shapes.keys c.number_of.new.shapes.keys c.number_of.ensures.kept c.self.inside.kinds.items c.self.inside.origins c.self.invariant)))
 
--- src/shapes.rt:108:5
 pub returns-clause-ok : goal.returns-clause-ok
-returns-clause-ok c = ?
+returns-clause-ok c =
+    (λ i. kernels_of c.number_of.new.shapes.keys ((c.push_reserved.ensures.items ∙ ap (λ (l : List ℕ). l ++ c.in_ok-kind.kind ∷ []) c.reserve.ensures.items) i) ((c.in_ok-push.ensures.ok ∙ ap (λ (l : List ℕ). c.self.inside.origins ++ l ∷ []) c.deref-2.ensures.value) i))
+    ∙ (kernels_pushed c.number_of.new.shapes.keys c.in_ok-kind.kind c.list_origins.new.origins.items _ c.in_ok-kind.ensures.number (subst (λ (l : List ℕ). AreSlotted l c.list_slotted.new.slotted.items) c.deref.ensures.value c.in_ok-list_slotted.ensures.slotted) c.args.packed.now
+        (subst (λ (l : List ℕ). placed_all l c.list_slotted.new.slotted.items ≡ c.args.packed.now) c.deref.ensures.value c.in_ok-list_slotted.ensures.packed) c.self.inside.kinds.items c.self.inside.origins
+        (shaped_still c.self.inside.shapes.keys c.number_of.new.shapes.keys c.number_of.ensures.kept c.self.inside.kinds.items c.self.inside.origins c.self.invariant)
+    ∙ ap (λ l. l ++ (record { begun = c.args.begun; packed = c.args.packed.now }) ∷ [])
+        (kernels_still c.self.inside.shapes.keys c.number_of.new.shapes.keys c.number_of.ensures.kept c.self.inside.kinds.items c.self.inside.origins c.self.invariant ∙ c.self.view_is))
