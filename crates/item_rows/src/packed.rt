@@ -72,7 +72,7 @@ pub fn row_of<'r>(
     requires parts { IsRowOfParts rules.now earleme
         (placed_all kernel.origins.now kernel.slotted.now) begun.now }
     ensures { result ≡ row_items rules.now earleme
-        (placed_all kernel.origins.now kernel.slotted.now) begun.now }
+        (placed_all kernel.entry.origins.now kernel.entry.slotted.now) begun.now }
 {
     Row {
         rules,
@@ -289,7 +289,7 @@ fn narrowed<'r>(
         (placed_all kernel.origins.now kernel.slotted.now) begun.now }
     requires order { span.start ≤ span.end }
     ensures { (own others : List ℕ) ×
-        AreWithin (placed_all kernel.origins.now kernel.slotted.now) begun.now span own others ×
+        AreWithin (placed_all kernel.entry.origins.now kernel.entry.slotted.now) begun.now span own others ×
         (result ≡ row_items dotted.now.rules earleme own others) }
 {
     let own = Kernel {
@@ -313,7 +313,7 @@ pub fn waiting<'r>(
         (placed_all kernel.origins.now kernel.slotted.now) begun.now }
     ensures { IsListOf
         (λ item. Contains (row_items dotted.now.rules earleme
-            (placed_all kernel.origins.now kernel.slotted.now) begun.now) item ×
+            (placed_all kernel.entry.origins.now kernel.entry.slotted.now) begun.now) item ×
         (after dotted.now.flat item ≡ Some symbol))
         result }
 {
@@ -333,7 +333,7 @@ pub fn whole<'r>(
         (placed_all kernel.origins.now kernel.slotted.now) begun.now }
     ensures { IsListOf
         (λ item. Contains (row_items dotted.now.rules earleme
-            (placed_all kernel.origins.now kernel.slotted.now) begun.now) item ×
+            (placed_all kernel.entry.origins.now kernel.entry.slotted.now) begun.now) item ×
         IsWhole dotted.now.flat item)
         result }
 {
@@ -353,7 +353,7 @@ pub fn scanned<'r>(
         (placed_all kernel.origins.now kernel.slotted.now) begun.now }
     ensures { IsListOf
         (λ item. Contains (row_items dotted.now.rules earleme
-            (placed_all kernel.origins.now kernel.slotted.now) begun.now) item ×
+            (placed_all kernel.entry.origins.now kernel.entry.slotted.now) begun.now) item ×
         WaitsForTerminal dotted.now.flat item)
         result }
 {
@@ -372,7 +372,7 @@ fn has_slotted(slotted: &[u64], number: u64) -> bool
 fn has_own(kernel: Kernel<'_>, number: u64) -> bool
     requires { AreSlotted kernel.origins.now kernel.slotted.now }
     ensures { IsTrue result ↔
-        Contains (placed_all kernel.origins.now kernel.slotted.now) number }
+        Contains (placed_all kernel.entry.origins.now kernel.entry.slotted.now) number }
 {
     match slot_of(kernel.origins, (number % ORIGINS) as u32) {
         Some(slot) => has_slotted(kernel.slotted, number / ORIGINS * ORIGINS + slot as u64),
@@ -400,7 +400,7 @@ pub fn contains(
         (placed_all kernel.origins.now kernel.slotted.now) begun.now }
     ensures { IsTrue result ↔
         Contains (row_items dotted.now.rules earleme
-            (placed_all kernel.origins.now kernel.slotted.now) begun.now) item }
+            (placed_all kernel.entry.origins.now kernel.entry.slotted.now) begun.now) item }
 {
     dotted.known();
     match dotted.pack(item) {

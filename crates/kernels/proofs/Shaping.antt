@@ -1,5 +1,5 @@
 -- Kernels by their shapes.
-use Rattle.std.proofs.Common.{◌≡◌, ◌↔◌, ◌⊎◌, inl, inr, ℕ, zero, suc, ◌+◌, ◌<◌, ◌≤◌, ◌++◌, List, [], ◌∷◌, length, take, Bool, true, false, ◌&&◌, nat_eq, if◌then◌else◌, Option, Some, None, slice_get, Contains, refl, sym, ◌∙◌, ap, subst, arith}
+use Rattle.std.proofs.Common.{◌≡◌, ℕ, zero, suc, ◌<◌, ◌++◌, List, [], ◌∷◌, length, Bool, true, false, nat_eq, if◌then◌else◌, Some, slice_get, refl, sym, ◌∙◌, ap, subst, arith}
 use Rattle.std.specs.Prelude.{slice_index_or}
 use Rattle.std.specs.List.{position, list_any}
 use Rattle.std.specs.Cmp.Lexicographic.{pointwise}
@@ -14,7 +14,7 @@ use Rattle.jagged.specs.Rows.{row_at as list_at}
 use Rattle.kernels.specs.declared.shapes.Shape.{Shape}
 use Rattle.kernels.specs.contracts.shapes.ShapePartialEq.TheImpl as derived
 use Rattle.kernels.specs.Slots.{placed_all, AreSlotted}
-use Rattle.kernels.specs.Shapes.{Kernel, no_kernel, kernel_at, kernel_of, kernels_of, IsShaped, AreShaped, IsShapeAt}
+use Rattle.kernels.specs.Shapes.{Kernel, kernel_at, kernel_of, kernels_of, IsShaped, AreShaped, IsShapeAt}
 
 -- shapes that are the same
 abbrev pub shape_eq : Shape → Shape → Bool

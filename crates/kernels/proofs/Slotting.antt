@@ -1,17 +1,17 @@
 -- Slots in place of origins, and back.
-use Rattle.std.proofs.Common.{◌≡◌, ◌≢◌, ◌==◌, inl, inr, ◌↔◌, ℕ, zero, suc, ◌+◌, ◌*◌, ◌/◌, ◌%◌, ◌^◌, ◌<◌, ◌≤◌, ◌++◌, Bool, List, [], ◌∷◌, length, map, take, get_or, Some, slice_get, Contains, refl, sym, ◌∙◌, ap, subst, arith}
+use Rattle.std.proofs.Common.{◌≡◌, inl, inr, ◌↔◌, ℕ, ◌+◌, ◌*◌, ◌/◌, ◌%◌, ◌^◌, ◌<◌, ◌++◌, List, [], ◌∷◌, length, map, take, get_or, Some, slice_get, Contains, sym, ◌∙◌, ap, subst, arith}
 use Rattle.std.specs.Prelude.{slice_index_or, nat_eq}
 use Rattle.std.specs.Ordering.{nat_cmp}
-use Rattle.std.specs.List.{AllPairs, dedup}
+use Rattle.std.specs.List.{dedup}
 use Rattle.std.specs.List.Sorted.{IsPermutation, IsSorted}
 use Rattle.std.proofs.lemmas.Bool.{cases_lt}
 use Rattle.std.proofs.lemmas.List.{get_or-map, take_more}
 use Rattle.std.proofs.lemmas.List.Sorted.{Contains-permutation, IsPermutation-sym}
 use Rattle.std.proofs.lemmas.List.Kept.{AllPairs-from_increasing, Contains-dedup_nat, Contains-from_dedup}
 use Rattle.std.proofs.lemmas.Map.Keys.{IsStrictlyIncreasing-dedup}
-use Rattle.finite_sets.proofs.Lists.{get_index, get_item}
+use Rattle.finite_sets.proofs.Lists.{get_index}
 use Rattle.kernels.specs.Slots.{Rises, placed, placed_all, AreOrigins, AreSlotted}
-use Rattle.kernels.proofs.Numbers.{map_length, map_has, map_from, map_more, index_any, in_order, at_least}
+use Rattle.kernels.proofs.Numbers.{map_length, map_has, map_from, map_more, index_any, at_least}
 
 -- an origin that is there, at its slot
 pub origin_small : (origins : List ℕ) → AreOrigins origins → (slot : ℕ) → slot < length origins → slice_index_or origins slot 0 < 4294967296

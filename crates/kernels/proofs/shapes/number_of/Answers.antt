@@ -1,7 +1,6 @@
-use Rattle.std.proofs.Common.{◌≡◌, ◌∙◌, ℕ, Some, slice_get, sym}
+use Rattle.std.proofs.Common.{◌≡◌, ℕ}
 use Rattle.std.specs.Prelude.{Result, Ok, Err, IfOk}
 use Rattle.std.specs.declared.alloc.AllocError.{AllocError}
-use Rattle.kernels.specs.declared.shapes.Shape.{Shape}
 use Rattle.kernels.specs.Shapes.{IsShapeAt}
 use Rattle.kernels.proofs.Shaping.{found_shape, stored_shape, shapes_kept}
 use Rattle.kernels.proofs.shapes.number_of.Goals as goal

@@ -1,4 +1,4 @@
-use Rattle.std.proofs.Common.{length, sym, ap, arith}
+use Rattle.std.proofs.Common.{length, ap, arith}
 use Rattle.kernels.proofs.Shaping.{shaped_length}
 use Rattle.kernels.proofs.shapes.Kernels.len.Goals as goal
 

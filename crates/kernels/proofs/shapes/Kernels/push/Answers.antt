@@ -1,4 +1,4 @@
-use Rattle.std.proofs.Common.{◌≡◌, ◌∙◌, ◌++◌, ◌∷◌, [], ◌%◌, ℕ, List, Some, Contains, slice_get, sym, ap, subst}
+use Rattle.std.proofs.Common.{◌≡◌, ◌∙◌, ◌++◌, ◌∷◌, [], ◌%◌, ℕ, List, Contains, sym, ap, subst}
 use Rattle.finite_sets.proofs.Clauses.{on_err}
 use Rattle.kernels.specs.Slots.{placed_all, AreSlotted}
 use Rattle.kernels.specs.Shapes.{kernels_of, AreShaped}
