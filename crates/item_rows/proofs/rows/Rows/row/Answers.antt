@@ -1,0 +1,31 @@
+use Rattle.std.proofs.Common.{◌∙◌, sym, ap, subst, List, arith}
+use Rattle.recognizer_model.specs.declared.Item.{Item}
+use Rattle.kernels.specs.Slots.{placed_all}
+use Rattle.item_rows.specs.Dotted.{row_items, IsRowOfParts}
+use Rattle.item_rows.proofs.Holding.{in_kernels, list_there, fits, parts_here, items_here}
+use Rattle.item_rows.proofs.rows.Rows.row.Goals as goal
+
+pub kernel-kernel-requires : goal.kernel-kernel-requires
+kernel-kernel-requires c = in_kernels c.self.inside.dotted.flat c.self.inside.dotted.rules c.self.inside.lists c.self.inside.kernels c.args.self.now c.self.view_is c.args.j c.requires
+
+pub begun-requires : goal.begun-requires
+begun-requires c = in_kernels c.self.inside.dotted.flat c.self.inside.dotted.rules c.self.inside.lists c.self.inside.kernels c.args.self.now c.self.view_is c.args.j c.requires
+
+pub row-begun-requires : goal.row-begun-requires
+row-begun-requires c = list_there c.self.inside.dotted.flat c.self.inside.dotted.rules c.self.inside.lists c.self.inside.kernels c.args.self.now c.self.view_is c.self.inside.count c.self.invariant c.args.j c.requires c.begun.result c.begun.ensures
+
+pub overflow_cast-j : goal.overflow_cast-j
+overflow_cast-j c = let f = fits c.self.inside.dotted.flat c.self.inside.dotted.rules c.self.inside.lists c.self.inside.kernels c.args.self.now c.self.view_is c.self.inside.count c.self.invariant c.args.j c.requires in omega arith
+
+pub row_of-requires-clause-parts : goal.row_of-requires-clause-parts
+row_of-requires-clause-parts c =
+    subst (λ (l : List Item). IsRowOfParts l c.args.j (placed_all c.kernel-kernel.result.origins.now c.kernel-kernel.result.slotted.now) c.row-begun.result.now) (sym c.rules.ensures)
+    (parts_here c.self.inside.dotted.flat c.self.inside.dotted.rules c.self.inside.lists c.self.inside.kernels c.args.self.now c.self.view_is c.self.inside.count c.self.invariant c.args.j c.requires c.begun.result c.begun.ensures
+    (placed_all c.kernel-kernel.result.origins.now c.kernel-kernel.result.slotted.now) c.row-begun.result.now c.kernel-kernel.ensures.packed c.row-begun.ensures)
+
+pub returns : goal.returns
+returns c =
+    c.row_of.ensures
+    ∙ (ap (λ (l : List Item). row_items l c.args.j (placed_all c.kernel-kernel.result.origins.now c.kernel-kernel.result.slotted.now) c.row-begun.result.now) c.rules.ensures
+    ∙ items_here c.self.inside.dotted.flat c.self.inside.dotted.rules c.self.inside.lists c.self.inside.kernels c.args.self.now c.self.view_is c.self.inside.count c.self.invariant c.args.j c.requires c.begun.result c.begun.ensures
+    (placed_all c.kernel-kernel.result.origins.now c.kernel-kernel.result.slotted.now) c.row-begun.result.now c.kernel-kernel.ensures.packed c.row-begun.ensures)
