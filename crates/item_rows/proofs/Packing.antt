@@ -1,5 +1,5 @@
 -- Rows of packed items.
-use Rattle.std.proofs.Common.{rules, ◌≡◌, ◌≢◌, ◌==◌, inl, inr, ◌↔◌, ℕ, zero, suc, ◌+◌, ◌-◌, ◌/◌, ◌%◌, ◌<◌, ◌≤◌, ◌++◌, true, List, [], ◌∷◌, length, map, take, drop, get_or, Contains, refl, sym, ◌∙◌, ap, subst, arith}
+use Rattle.std.proofs.Common.{rules, ◌≡◌, ◌≢◌, ◌==◌, inl, inr, ◌↔◌, ℕ, ◌+◌, ◌-◌, ◌/◌, ◌%◌, ◌<◌, ◌≤◌, ◌++◌, true, List, [], ◌∷◌, length, map, take, drop, get_or, Contains, refl, sym, ◌∙◌, ap, subst, arith}
 use Rattle.std.specs.Prelude.{nat_lt, slice_index, slice_index_or, Result, Ok, Err, MatchResult, is_ok, IsTrue}
 use Rattle.std.specs.Ordering.{nat_cmp}
 use Rattle.std.specs.Cmp.{IsEquivalence}
@@ -27,6 +27,7 @@ pub pack_more : (rules items : List Item) (packed new : List ℕ) (k n : ℕ) (d
     map (unpacked rules) new ≡ take (k + 1) items
 pack_more rules items packed new k n d before is same lt =
     ap (map (unpacked rules)) is ∙ (map_more (unpacked rules) packed (n ∷ []) ∙ (ap (λ l. l ++ unpacked rules n ∷ []) before ∙ (ap (λ x. take k items ++ x ∷ []) same ∙ sym (take_more items k d lt))))
+
 -- numbers that rise
 module _ (row : List ℕ) (rises : Rises row) where
   pub below_parted : (bound : ℕ) → IsPartitionedBy (λ n. nat_lt n bound) row

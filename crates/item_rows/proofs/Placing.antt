@@ -1,5 +1,5 @@
 -- Rows whose own items are slotted.
-use Rattle.std.proofs.Common.{◌≡◌, ◌↔◌, ℕ, ◌/◌, ◌%◌, ◌<◌, ◌≤◌, List, length, map, Contains, sym, ◌∙◌, ap, subst, arith}
+use Rattle.std.proofs.Common.{◌↔◌, ℕ, ◌/◌, ◌<◌, ◌≤◌, List, length, Contains, ap, subst, arith}
 use Rattle.recognizer_model.specs.declared.Item.{Item}
 use Rattle.item_rows.specs.declared.dotted.Span.{Span}
 use Rattle.kernels.specs.Slots.{Rises, placed, placed_all, AreSlotted}

@@ -36,7 +36,7 @@ impl<'r> Model for Row<'r> {
 
     ghost invariant = { λ r. AreSlotted r.kernel.origins.now r.kernel.slotted.now ×
         IsRowOfParts r.rules.now r.earleme
-            (placed_all r.kernel.origins.now r.kernel.slotted.now) r.begun.now };
+        (placed_all r.kernel.origins.now r.kernel.slotted.now) r.begun.now };
 }
 
 impl<'r> Row<'r> {
@@ -62,12 +62,7 @@ impl<'r> Row<'r> {
 }
 
 /// A row of two parts.
-pub fn row_of<'r>(
-    rules: &'r [Item],
-    kernel: Kernel<'r>,
-    begun: &'r [u32],
-    earleme: u32,
-) -> Row<'r>
+pub fn row_of<'r>(rules: &'r [Item], kernel: Kernel<'r>, begun: &'r [u32], earleme: u32) -> Row<'r>
     requires slotted { AreSlotted kernel.origins.now kernel.slotted.now }
     requires parts { IsRowOfParts rules.now earleme
         (placed_all kernel.origins.now kernel.slotted.now) begun.now }
@@ -313,7 +308,7 @@ pub fn waiting<'r>(
         (placed_all kernel.origins.now kernel.slotted.now) begun.now }
     ensures { IsListOf
         (λ item. Contains (row_items dotted.now.rules earleme
-            (placed_all kernel.entry.origins.now kernel.entry.slotted.now) begun.now) item ×
+        (placed_all kernel.entry.origins.now kernel.entry.slotted.now) begun.now) item ×
         (after dotted.now.flat item ≡ Some symbol))
         result }
 {
@@ -333,7 +328,7 @@ pub fn whole<'r>(
         (placed_all kernel.origins.now kernel.slotted.now) begun.now }
     ensures { IsListOf
         (λ item. Contains (row_items dotted.now.rules earleme
-            (placed_all kernel.entry.origins.now kernel.entry.slotted.now) begun.now) item ×
+        (placed_all kernel.entry.origins.now kernel.entry.slotted.now) begun.now) item ×
         IsWhole dotted.now.flat item)
         result }
 {
@@ -353,7 +348,7 @@ pub fn scanned<'r>(
         (placed_all kernel.origins.now kernel.slotted.now) begun.now }
     ensures { IsListOf
         (λ item. Contains (row_items dotted.now.rules earleme
-            (placed_all kernel.entry.origins.now kernel.entry.slotted.now) begun.now) item ×
+        (placed_all kernel.entry.origins.now kernel.entry.slotted.now) begun.now) item ×
         WaitsForTerminal dotted.now.flat item)
         result }
 {
@@ -400,7 +395,7 @@ pub fn contains(
         (placed_all kernel.origins.now kernel.slotted.now) begun.now }
     ensures { IsTrue result ↔
         Contains (row_items dotted.now.rules earleme
-            (placed_all kernel.entry.origins.now kernel.entry.slotted.now) begun.now) item }
+        (placed_all kernel.entry.origins.now kernel.entry.slotted.now) begun.now) item }
 {
     dotted.known();
     match dotted.pack(item) {

@@ -1,13 +1,14 @@
 -- Slots in place of origins, and back.
-use Rattle.std.proofs.Common.{◌≡◌, inl, inr, ◌↔◌, ℕ, ◌+◌, ◌*◌, ◌/◌, ◌%◌, ◌^◌, ◌<◌, ◌++◌, List, [], ◌∷◌, length, map, take, get_or, Some, slice_get, Contains, sym, ◌∙◌, ap, subst, arith}
+use Rattle.std.proofs.Common.{◌≡◌, inl, inr, ◌↔◌, ℕ, ◌+◌, ◌*◌, ◌/◌, ◌%◌, ◌<◌, ◌++◌, List, [], ◌∷◌, length, map, take, get_or, Some, slice_get, Contains, sym, ◌∙◌, ap, subst, arith}
 use Rattle.std.specs.Prelude.{slice_index_or, nat_eq}
 use Rattle.std.specs.Ordering.{nat_cmp}
 use Rattle.std.specs.List.{dedup}
 use Rattle.std.specs.List.Sorted.{IsPermutation, IsSorted}
 use Rattle.std.proofs.lemmas.Bool.{cases_lt}
 use Rattle.std.proofs.lemmas.List.{get_or-map, take_more}
-use Rattle.std.proofs.lemmas.List.Sorted.{Contains-permutation, IsPermutation-sym}
-use Rattle.std.proofs.lemmas.List.Kept.{AllPairs-from_increasing, Contains-dedup_nat, Contains-from_dedup}
+use Rattle.std.proofs.lemmas.List.Sorted.{Contains-permutation}
+use Rattle.std.proofs.lemmas.List.Elements.{Contains-push_cases}
+use Rattle.std.proofs.lemmas.List.Kept.{AllPairs-from_increasing, Contains-dedup_nat}
 use Rattle.std.proofs.lemmas.Map.Keys.{IsStrictlyIncreasing-dedup}
 use Rattle.finite_sets.proofs.Lists.{get_index}
 use Rattle.kernels.specs.Slots.{Rises, placed, placed_all, AreOrigins, AreSlotted}
@@ -122,23 +123,23 @@ module _ (origins slotted : List ℕ) (are : AreSlotted origins slotted) (n : �
       none (m % 4294967296, lt, index_any origins (m % 4294967296) (n % 4294967296) 0 lt ∙ e)
 
 -- origins that are sorted, each once
-module _ (packed listed sorted : List ℕ) (is : listed ≡ map (λ n. n % 4294967296) packed) (moved : IsPermutation listed sorted) (order : IsSorted nat_cmp sorted) where
-  pub sorted_origins : AreOrigins (dedup nat_eq sorted)
-  sorted_origins = record { rise = AllPairs-from_increasing (dedup nat_eq sorted) (IsStrictlyIncreasing-dedup sorted order); small = small }
-    where
-      small : (o : ℕ) → Contains (dedup nat_eq sorted) o → o < 2 ^ 32
-      small o h =
-          let c = Contains-permutation sorted listed o (back moved) (Contains-from_dedup nat_eq sorted o h) in
-          let (n, a, e) = map_from (λ n. n % 4294967296) packed o (subst (λ (l : List ℕ). Contains l o) is c) in
-          omega arith
-        where
-          back : IsPermutation listed sorted → IsPermutation sorted listed
-          back p = IsPermutation-sym listed sorted p
+module _ (listed sorted new : List ℕ) (moved : IsPermutation listed sorted) (order : IsSorted nat_cmp sorted) (is : new ≡ dedup nat_eq sorted) where
+  pub sorted_origins : ((k d : ℕ) → k < length new → slice_index_or new k d < 4294967296) → AreOrigins new
+  sorted_origins small = record {
+    rise = subst Rises (sym is) (AllPairs-from_increasing (dedup nat_eq sorted) (IsStrictlyIncreasing-dedup sorted order));
+    small = λ o (k, lt, e). (let s = small k o lt in omega arith);
+  }
 
-  pub sorted_all : (n : ℕ) → Contains packed n → Contains (dedup nat_eq sorted) (n % 4294967296)
-  sorted_all n h =
-      Contains-dedup_nat sorted (n % 4294967296)
-      (Contains-permutation listed sorted (n % 4294967296) moved (subst (λ (l : List ℕ). Contains l (n % 4294967296)) (sym is) (map_has (λ n. n % 4294967296) packed n h)))
+  pub sorted_all : (o : ℕ) → Contains listed o → Contains new o
+  sorted_all o h = subst (λ (l : List ℕ). Contains l o) (sym is) (Contains-dedup_nat sorted o (Contains-permutation listed sorted o moved h))
+
+-- the origin of one item more is listed
+pub more_listed : (packed old new : List ℕ) (k : ℕ) → ((n : ℕ) → Contains (take k packed) n → Contains old (n % 4294967296)) → k < length packed → ((o : ℕ) → Contains old o → Contains new o) → Contains new (slice_index_or packed k 0 % 4294967296) →
+    (n : ℕ) → Contains (take (k + 1) packed) n → Contains new (n % 4294967296)
+more_listed packed old new k before lt keeps here n h = elim (Contains-push_cases (take k packed) (slice_index_or packed k 0) n (subst (λ (l : List ℕ). Contains l n) (take_more packed k 0 lt) h)) [
+  | inl o ↦ keeps (n % 4294967296) (before n o)
+  | inr same ↦ subst (λ m. Contains new (m % 4294967296)) same here
+]
 
 -- one item more has its slot
 module _ (origins packed slotted new : List ℕ) (are : AreOrigins origins) (k slot : ℕ) (before : placed_all origins slotted ≡ take k packed) (lt : k < length packed)

@@ -1,11 +1,14 @@
 //! Origins in order, and packed items with slots in place of their origins.
-ghost use Rattle.std.specs.Prelude.{◌≡◌, ℕ, ◌%◌, map, Some, slice_get, Contains, IfSome, IsNone, OnOk};
+ghost use Rattle.std.specs.Prelude.{◌≡◌, ◌⊎◌, ℕ, ◌%◌, Some, IsTrue, slice_get, Contains, IfSome, IsNone, OnOk};
 ghost use Rattle.kernels.specs.Slots.{Rises, placed_all, AreOrigins, AreSlotted};
 
 use std::alloc::AllocFailed;
 
 /// How many origins there may be. A packed item is the number of its dotted rule times this, and its origin.
 pub const ORIGINS: u64 = 4_294_967_296;
+
+// Among so many origins one is looked for before it is listed.
+const FEW: usize = 8;
 
 /// The slot of an origin.
 pub fn slot_of(origins: &[u32], origin: u32) -> Option<u32>
@@ -31,13 +34,33 @@ pub fn list_origins(packed: &[u64], origins: &mut Vec<u32>) -> Result<(), AllocF
     Ok(())
 }
 
+// Whether an origin stands among a few.
+fn is_among_few(origins: &[u32], origin: u32) -> bool
+    ensures { IsTrue result → Contains origins.now origin }
+{
+    origins.len() <= FEW && origins.contains(&origin)
+}
+
+// Lists an origin, unless it stands among a few.
+fn list_origin(origins: &mut Vec<u32>, origin: u32) -> Result<(), AllocFailed<u32>>
+    ensures { OnOk result ((o : ℕ) → Contains origins.old.items o ⊎ (origin ≡ o) →
+        Contains origins.new.items o) }
+{
+    if is_among_few(origins, origin) {
+        return Ok(());
+    }
+    origins.push(origin)?;
+    Ok(())
+}
+
 // Lists the origin of each of packed items, in place of what it held.
 fn list_all(packed: &[u64], origins: &mut Vec<u32>) -> Result<(), AllocFailed<u32>>
-    ensures { OnOk result (origins.new.items ≡ map (λ n. n % 4294967296) packed.now) }
+    ensures { OnOk result ((n : ℕ) → Contains packed.now n →
+        Contains origins.new.items (n % 4294967296)) }
 {
     origins.clear();
     for n in packed {
-        origins.push((*n % ORIGINS) as u32)?;
+        list_origin(origins, (*n % ORIGINS) as u32)?;
     }
     Ok(())
 }

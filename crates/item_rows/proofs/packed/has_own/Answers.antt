@@ -1,10 +1,9 @@
-use Rattle.std.proofs.Common.{◌%◌, ◌∙◌, refl, arith, false}
-use Rattle.finite_sets.proofs.Lists.{get_index}
-use Rattle.kernels.proofs.Slotting.{slot_small, slot_there, slot_absent}
+use Rattle.std.proofs.Common.{refl}
+use Rattle.kernels.proofs.Slotting.{slot_there, slot_absent}
 use Rattle.item_rows.proofs.packed.has_own.Goals as goal
 
 pub returns-in-Some : goal.returns-in-Some
-returns-in-Some c = 
+returns-in-Some c =
     let (to, from) = slot_there c.args.kernel.origins.now c.args.kernel.slotted.now c.requires c.args.number c.in-Some.slot c.in-Some.ensures.some in
     (λ t. to (c.has_slotted.ensures.0 t), λ h. c.has_slotted.ensures.1 (from h))
 

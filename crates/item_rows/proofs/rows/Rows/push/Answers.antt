@@ -1,4 +1,4 @@
-use Rattle.std.proofs.Common.{◌≡◌, ◌++◌, ◌∷◌, [], ◌∙◌, sym, ap, subst, ℕ, List, length, arith}
+use Rattle.std.proofs.Common.{◌++◌, ◌∷◌, [], ◌∙◌, sym, ap, subst, ℕ, List, length, arith}
 use Rattle.kernels.specs.Shapes.{Kernel}
 use Rattle.jagged.specs.Rows.{row_at as list_at}
 use Rattle.item_rows.specs.Rows.{ItemRows}

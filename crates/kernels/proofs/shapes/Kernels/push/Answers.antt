@@ -50,7 +50,7 @@ pub returns-clause-ok : goal.returns-clause-ok
 returns-clause-ok c =
     (λ i. kernels_of c.number_of.new.shapes.keys ((c.push_reserved.ensures.items ∙ ap (λ (l : List ℕ). l ++ c.in_ok-kind.kind ∷ []) c.reserve.ensures.items) i) ((c.in_ok-push.ensures.ok ∙ ap (λ (l : List ℕ). c.self.inside.origins ++ l ∷ []) c.deref-2.ensures.value) i))
     ∙ (kernels_pushed c.number_of.new.shapes.keys c.in_ok-kind.kind c.list_origins.new.origins.items _ c.in_ok-kind.ensures.number (subst (λ (l : List ℕ). AreSlotted l c.list_slotted.new.slotted.items) c.deref.ensures.value c.in_ok-list_slotted.ensures.slotted) c.args.packed.now
-        (subst (λ (l : List ℕ). placed_all l c.list_slotted.new.slotted.items ≡ c.args.packed.now) c.deref.ensures.value c.in_ok-list_slotted.ensures.packed) c.self.inside.kinds.items c.self.inside.origins
-        (shaped_still c.self.inside.shapes.keys c.number_of.new.shapes.keys c.number_of.ensures.kept c.self.inside.kinds.items c.self.inside.origins c.self.invariant)
+    (subst (λ (l : List ℕ). placed_all l c.list_slotted.new.slotted.items ≡ c.args.packed.now) c.deref.ensures.value c.in_ok-list_slotted.ensures.packed) c.self.inside.kinds.items c.self.inside.origins
+    (shaped_still c.self.inside.shapes.keys c.number_of.new.shapes.keys c.number_of.ensures.kept c.self.inside.kinds.items c.self.inside.origins c.self.invariant)
     ∙ ap (λ l. l ++ (record { begun = c.args.begun; packed = c.args.packed.now }) ∷ [])
-        (kernels_still c.self.inside.shapes.keys c.number_of.new.shapes.keys c.number_of.ensures.kept c.self.inside.kinds.items c.self.inside.origins c.self.invariant ∙ c.self.view_is))
+    (kernels_still c.self.inside.shapes.keys c.number_of.new.shapes.keys c.number_of.ensures.kept c.self.inside.kinds.items c.self.inside.origins c.self.invariant ∙ c.self.view_is))
