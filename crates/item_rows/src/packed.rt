@@ -284,12 +284,13 @@ fn narrowed<'r>(
         (placed_all kernel.origins.now kernel.slotted.now) begun.now }
     requires order { span.start ≤ span.end }
     ensures { (own others : List ℕ) ×
-        AreWithin (placed_all kernel.entry.origins.now kernel.entry.slotted.now) begun.now span own others ×
+        AreWithin (placed_all kernel.entry.origins.now kernel.entry.slotted.now) begun.now span own
+        others ×
         (result ≡ row_items dotted.now.rules earleme own others) }
 {
     let own = Kernel {
         slotted: within_span(kernel.slotted, span),
-        origins: kernel.origins,
+        ..kernel
     };
     let others = dotted_within(begun, span);
     row_of(dotted.rules(), own, others, earleme)

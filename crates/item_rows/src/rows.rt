@@ -96,7 +96,7 @@ impl<'g> Rows<'g> {
         ensures { result ≡ row_at self.now.sets j }
     {
         let kernel = self.kernels.kernel(j);
-        let begun = self.lists.row(self.kernels.begun(j) as usize);
+        let begun = self.lists.row(kernel.begun as usize);
         row_of(self.dotted.rules(), kernel, begun, j as u32)
     }
 
@@ -109,7 +109,7 @@ impl<'g> Rows<'g> {
             result }
     {
         let kernel = self.kernels.kernel(j);
-        let begun = self.lists.row(self.kernels.begun(j) as usize);
+        let begun = self.lists.row(kernel.begun as usize);
         waiting(&self.dotted, kernel, begun, j as u32, symbol)
     }
 
@@ -120,7 +120,7 @@ impl<'g> Rows<'g> {
             (λ item. Contains (row_at self.now.sets j) item × IsWhole self.now.flat item) result }
     {
         let kernel = self.kernels.kernel(j);
-        let begun = self.lists.row(self.kernels.begun(j) as usize);
+        let begun = self.lists.row(kernel.begun as usize);
         whole(&self.dotted, kernel, begun, j as u32)
     }
 
@@ -132,7 +132,7 @@ impl<'g> Rows<'g> {
             result }
     {
         let kernel = self.kernels.kernel(j);
-        let begun = self.lists.row(self.kernels.begun(j) as usize);
+        let begun = self.lists.row(kernel.begun as usize);
         scanned(&self.dotted, kernel, begun, j as u32)
     }
 
@@ -142,7 +142,7 @@ impl<'g> Rows<'g> {
         ensures { IsTrue result ↔ Contains (row_at self.now.sets j) item }
     {
         let kernel = self.kernels.kernel(j);
-        let begun = self.lists.row(self.kernels.begun(j) as usize);
+        let begun = self.lists.row(kernel.begun as usize);
         contains(&self.dotted, kernel, begun, j as u32, item)
     }
 

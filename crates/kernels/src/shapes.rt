@@ -19,14 +19,15 @@ pub struct Shape {
     pub slotted: Vec<u64>,
 }
 
-/// A kernel: slotted items, and the origins of their slots.
+/// A kernel: the number of the list that its row shares, slotted items, and the origins of their slots.
 #[derive(Clone, Copy)]
 pub struct Kernel<'r> {
+    pub begun: u32,
     pub slotted: &'r [u64],
     pub origins: &'r [u32],
 }
 
-/// Kernels, each with the number of the list that its row shares. A shape is held once, and stays.
+/// Kernels. A shape is held once, and stays.
 #[derive(Drop)]
 pub struct Kernels {
     shapes: IndexSet<Shape>,
@@ -77,23 +78,17 @@ impl Kernels {
     /// A kernel, by its row's number.
     pub fn kernel(&self, j: usize) -> Kernel<'_>
         requires { j < length self.now }
+        ensures begun { result.begun ≡ (kernel_at self.now j).begun }
         ensures slotted { AreSlotted result.origins.now result.slotted.now }
         ensures packed { placed_all result.origins.now result.slotted.now ≡
             (kernel_at self.now j).packed }
     {
         let shape = shape_at(&self.shapes, &self.kinds, j);
         Kernel {
+            begun: shape.begun,
             slotted: &shape.slotted,
             origins: self.origins.row(j),
         }
-    }
-
-    /// The number of the list that a row shares, by the row's number.
-    pub fn begun(&self, j: usize) -> u32
-        requires { j < length self.now }
-        ensures { result ≡ (kernel_at self.now j).begun }
-    {
-        shape_at(&self.shapes, &self.kinds, j).begun
     }
 
     /// Lets all kernels go but the first.

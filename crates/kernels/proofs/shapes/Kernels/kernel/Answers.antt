@@ -1,6 +1,6 @@
 use Rattle.std.proofs.Common.{◌≡◌, ◌<◌, ◌∙◌, ℕ, List, Some, length, slice_get, sym, subst}
 use Rattle.kernels.specs.Slots.{placed_all, AreSlotted}
-use Rattle.kernels.proofs.Shaping.{at_kinds, in_kinds, in_origins, slotted_here, packed_here}
+use Rattle.kernels.proofs.Shaping.{at_kinds, in_kinds, in_origins, slotted_here, packed_here, begun_here}
 use Rattle.kernels.proofs.shapes.Kernels.kernel.Goals as goal
 
 pub shape_at-shape-requires : goal.shape_at-shape-requires
@@ -22,4 +22,9 @@ pub returns-clause-packed : goal.returns-clause-packed
 returns-clause-packed c =
     (λ i. placed_all (c.row.ensures i) (c.deref-2.ensures.value i))
     ∙ packed_here c.self.inside.shapes.keys c.self.inside.kinds.items c.self.inside.origins c.args.self.now c.self.invariant c.self.view_is c.args.j c.requires c.shape_at-shape.result.now
+    (λ kind e. c.shape_at-shape.ensures kind (subst (λ (l : List ℕ). slice_get l c.args.j ≡ Some kind) (sym c.deref.ensures.value) e))
+
+pub returns-clause-begun : goal.returns-clause-begun
+returns-clause-begun c =
+    begun_here c.self.inside.shapes.keys c.self.inside.kinds.items c.self.inside.origins c.args.self.now c.self.invariant c.self.view_is c.args.j c.requires c.shape_at-shape.result.now
     (λ kind e. c.shape_at-shape.ensures kind (subst (λ (l : List ℕ). slice_get l c.args.j ≡ Some kind) (sym c.deref.ensures.value) e))
