@@ -1,5 +1,5 @@
 -- The items of a set that are not kept and lead to some items: what single steps lead to from the kept ones that do.
-use Rattle.std.proofs.Common.{◌≡◌, ◌≢◌, ◌↔◌, ◌⊎◌, inl, inr, ℕ, ◌-◌, ◌<◌, ◌++◌, List, [], Contains, sym, ◌∙◌, ap, subst, arith}
+use Rattle.std.proofs.Common.{◌≡◌, ◌≢◌, ◌↔◌, ◌⊎◌, inl, inr, ℕ, ◌<◌, ◌++◌, List, [], Contains, sym, ◌∙◌, ap, subst, arith}
 use Rattle.std.specs.List.{AllPairs}
 use Rattle.std.proofs.lemmas.List.Elements.{Contains-append_right, Contains-append_cases}
 use Rattle.finite_sets.proofs.Lists.{Contains-none}
@@ -8,7 +8,7 @@ use Rattle.recognizer_model.specs.Flat.{FlatGrammar, lhs_of}
 use Rattle.recognizer_model.specs.Items.{advanced}
 use Rattle.recognizer_model.specs.Counts.{IsListOf}
 use Rattle.item_rows.specs.Rows.{row_at}
-use Rattle.item_rows.specs.Kept.{IsItem, AreItems, AreRows}
+use Rattle.item_rows.specs.Kept.{AreItems, AreRows}
 use Rattle.leo_items.specs.ByRows.{IsLeoIn, IsNotLeoIn, LeadsIn}
 use Rattle.leo_items.proofs.Chains.{has_leo, leo_inside, leads_item}
 use Rattle.leo_items.specs.Closed.{Grows, IsReached, Seed}

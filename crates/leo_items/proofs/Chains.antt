@@ -114,7 +114,7 @@ noted_more (n ∷ ns) p q t u e = by (same_pair q n.0) refl e (noted_more ns p q
     by true h e' rest = inl (ap (λ b. cond b (Some n.1) (noted ns q)) h ∙ e')
     by false h e' rest = elim (rest e') [ inl o ↦ inl (ap (λ b. cond b (Some n.1) (noted ns q)) h ∙ o) | inr m ↦ inr m ]
 
-same_pair-laws : IsEquivalence same_pair
+pub same_pair-laws : IsEquivalence same_pair
 same_pair-laws = search (comparing, rules)
 
 -- a pair of which nothing is noted is none of them

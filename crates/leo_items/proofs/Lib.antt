@@ -7,3 +7,4 @@ pub mod Loops
 pub mod Hiding
 pub mod Below
 pub mod Noting
+pub mod Ways

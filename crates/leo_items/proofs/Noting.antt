@@ -1,5 +1,5 @@
 -- Of no notes nothing is noted.
-use Rattle.std.proofs.Common.{◌≡◌, ℕ, [], ◌∷◌, List, length, None, refl, arith}
+use Rattle.std.proofs.Common.{◌≡◌, [], ◌∷◌, List, length, None, refl, arith}
 use Rattle.recognizer_model.specs.declared.Pair.{Pair}
 use Rattle.leo_items.specs.Memo.{Note, noted}
 

@@ -1,10 +1,11 @@
 //! Where completions lead in the end, over the rows of the places so far.
-ghost use Rattle.std.specs.Prelude.{◌≡◌, ℕ, ◌<◌, ◌+◌, ◌++◌, ◌∷◌, [], length, Some, None, IfOk, OnOk, OnErr};
+ghost use Rattle.std.specs.Prelude.{◌≡◌, ℕ, ◌<◌, ◌+◌, ◌++◌, ◌∷◌, ◌⊎◌, [], length, Some, None, IfOk, OnOk, OnErr};
 ghost use Rattle.recognizer_model.specs.declared.Item.{Item as TheItem};
 ghost use Rattle.recognizer_model.specs.Flat.{IsRule};
 ghost use Rattle.item_rows.specs.Kept.{HasRows};
 ghost use Rattle.leo_items.specs.Memo.{noted};
 ghost use Rattle.leo_items.specs.ByRows.{IsStepIn, LeadsIn, IsMemo, NotesMore, AreNulled, pair_of};
+ghost use Rattle.leo_items.specs.Ways.{IsWay};
 
 use crate::leo_of;
 use crate::memo::Memo;
@@ -53,7 +54,8 @@ pub fn find(flat: &Flat, rows: &Rows<'_>, memo: &Memo, pair: Pair, step: Item) -
     requires memo { IsMemo flat.now rows.now.sets memo.now }
     requires set { pair.set < length rows.now.sets }
     requires step { IsStepIn flat.now rows.now.sets pair.set pair.symbol (Some step) }
-    ensures { LeadsIn flat.now rows.now.sets pair.set pair.symbol result.top }
+    ensures leads { LeadsIn flat.now rows.now.sets pair.set pair.symbol result.top }
+    ensures way { IsWay flat.now rows.now.sets memo.now result.walked step result.top }
 {
     flat.known();
     let mut top = step;
@@ -102,6 +104,7 @@ fn note<L: Ledger>(
     requires set { pair.set < length rows.now.sets }
     requires leads { LeadsIn flat.now rows.now.sets pair.set pair.symbol top }
     ensures memo { NotesMore flat.now rows.now.sets memo.old memo.new }
+    ensures noted { OnOk result (noted memo.new pair ≡ Some top) }
     ensures counted { steps.new + length memo.old ≡ steps.old + length memo.new }
 {
     flat.known();
@@ -134,6 +137,7 @@ fn note_long<L: Ledger>(
     requires set { pair.set < length rows.now.sets }
     requires leads { LeadsIn flat.now rows.now.sets pair.set pair.symbol way.top }
     ensures memo { NotesMore flat.now rows.now.sets memo.old memo.new }
+    ensures noted { OnOk result ((noted memo.new pair ≡ Some way.top) ⊎ (way.walked < LONG)) }
     ensures counted { steps.new + length memo.old ≡ steps.old + length memo.new }
 {
     if way.walked < LONG {
@@ -158,6 +162,9 @@ pub fn topmost<L: Ledger>(
     requires step { IsStepIn flat.now rows.now.sets pair.set pair.symbol (Some step) }
     ensures leads { IfOk result (λ top. LeadsIn flat.now rows.now.sets pair.set pair.symbol top) }
     ensures memo { NotesMore flat.now rows.now.sets memo.old memo.new }
+    ensures noted { IfOk result (λ top. (noted memo.new pair ≡ Some top) ⊎
+        ((walked : ℕ) × (walked < LONG) ×
+        IsWay flat.now rows.now.sets memo.old walked step top)) }
     ensures counted { steps.new + length memo.old ≡ steps.old + length memo.new }
 {
     if let Some(top) = memo.get(pair) {

@@ -20,15 +20,25 @@ use Rattle.reading_laws.proofs.Candidates.{pieces_forward}
 use Rattle.reading_laws.proofs.Short.{built_are_short}
 use Rattle.recognizer_model.specs.Below.{IsHiddenNode}
 use Rattle.recognizer_model.specs.Links.{IsPlacedLink, IsLeoPair}
-use Rattle.number_laws.specs.Counts.{Counts, HasCounts, CountsExist, CountsAreOne, CountsBoundSteps}
+use Rattle.number_laws.specs.Counts.{Counts, HasCounts, LinksAreCounted, CountsExist, CountsAreOne, CountsBoundSteps}
 use Rattle.number_laws.proofs.Exist.{told, top_is}
 use Rattle.number_laws.proofs.Flat.{flattened, is_flat}
 use Rattle.number_laws.proofs.Linked.{link_list, pair_list}
 use Rattle.number_laws.proofs.Lists.{count_of}
-use Rattle.number_laws.proofs.One.{one_flat}
+use Rattle.renaming_laws.proofs.Alike.{counts_of_any_form}
 use Rattle.number_laws.proofs.Placed.{hidden_list}
 use Rattle.number_laws.proofs.Used.{used_list}
 use Rattle.recognizer_model.proofs.Counting.{one_count}
+
+pub links_are_counted : LinksAreCounted
+links_are_counted f edges top place is_top forward =
+    let E = FlatEdges f (Held edges) in
+    let goes = flat_forward f (Held edges) forward in
+    let edge = flat_decided f (Held edges) (held_decided edges) in
+    let sets : (j : ℕ) → (items : List Item) × IsListOf (InSet f E top j) items = λ j. item_sets_exist f edges top j forward in
+    let (links, links_are) = link_list f E top is_top goes edge sets place in
+    let (pairs, pairs_are) = pair_list f E top is_top goes edge sets place in
+    ((length links, count_of (IsPlacedLink f E top place) links links_are), (length pairs, count_of (IsLeoPair f E top place) pairs pairs_are))
 
 pub counts_exist : CountsExist
 counts_exist b ranking pieces built accepted =
@@ -52,7 +62,8 @@ counts_exist b ranking pieces built accepted =
       record { links = length links; pairs = length pairs; expanded = n.expanded; hidden = length hidden },
       record {
         flat = f;
-        is = is;
+        is = flat;
+        of = is.made;
         top = top;
         top_is = top_is;
         links = count_of (IsPlacedLink f E top place) links links_are;
@@ -62,35 +73,21 @@ counts_exist b ranking pieces built accepted =
       },
     )
 
--- the counts by a flat grammar, whose first top it is
-record IsCounted (w : Grammar) (ranking : Ranking) (pieces : List Piece) (n : Counts) (f : FlatGrammar) (top : ℕ) : Type 0 where
-  links : IsCountOf (IsPlacedLink f (FlatEdges f (Held (edges_of pieces))) top (earleme_after pieces)) n.links
-  pairs : IsCountOf (IsLeoPair f (FlatEdges f (Held (edges_of pieces))) top (earleme_after pieces)) n.pairs
-  expanded : IsCountOf (IsExpanded f (FlatEdges f (Held (edges_of pieces))) (allowed_by w ranking f (FlatEdges f (Held (edges_of pieces)))) top (earleme_after pieces)) n.expanded
-  hidden : IsCountOf (IsHiddenNode w f (FlatEdges f (Held (edges_of pieces))) top (earleme_after pieces)) n.hidden
-
-counted : (b : Built) (ranking : Ranking) (pieces : List Piece) (n : Counts) (h : HasCounts b ranking pieces n) → IsCounted b.g1 ranking pieces n h.flat h.top
-counted b ranking pieces n h = record { links = h.links; pairs = h.pairs; expanded = h.expanded; hidden = h.hidden }
-
--- what holds of a flat grammar and its first top holds of the same grammar's
-moved_to : (P : FlatGrammar → ℕ → Type 0) (f g : FlatGrammar) (s t : ℕ) → f ≡ g → slice_get f.tops 0 ≡ Some s → slice_get g.tops 0 ≡ Some t → P f s → P g t
-moved_to P f g s t same s_is t_is p =
-    let top : s ≡ t = same_Some s t (sym s_is ∙ (λ i. slice_get (same i).tops 0) ∙ t_is) in
-    subst (λ x. P g x) top (subst (λ f. P f s) same p)
-
 pub counts_are_one : CountsAreOne
 counts_are_one b ranking pieces m n x y =
-    let same = one_flat b x.flat y.flat x.is y.is in
-    let moved = moved_to (IsCounted b.g1 ranking pieces m) x.flat y.flat x.top y.top same x.top_is y.top_is (counted b ranking pieces m x) in
+    let moved = counts_of_any_form b.g1 (edges_of pieces) ranking 0 (earleme_after pieces) x.flat y.flat x.top y.top
+    (record { flat = x.is; of = x.of; top_is = x.top_is; other_flat = y.is; other_of = y.of; other_is = y.top_is }) in
     let E = FlatEdges y.flat (Held (edges_of pieces)) in
-    let links : m.links ≡ n.links = one_count (IsPlacedLink y.flat E y.top (earleme_after pieces)) m.links n.links moved.links y.links in
-    let pairs : m.pairs ≡ n.pairs = one_count (IsLeoPair y.flat E y.top (earleme_after pieces)) m.pairs n.pairs moved.pairs y.pairs in
-    let expanded : m.expanded ≡ n.expanded = one_count (IsExpanded y.flat E (allowed_by b.g1 ranking y.flat E) y.top (earleme_after pieces)) m.expanded n.expanded moved.expanded y.expanded in
-    let hidden : m.hidden ≡ n.hidden = one_count (IsHiddenNode b.g1 y.flat E y.top (earleme_after pieces)) m.hidden n.hidden moved.hidden y.hidden in
+    let links : m.links ≡ n.links = one_count (IsPlacedLink y.flat E y.top (earleme_after pieces)) m.links n.links (moved.links m.links x.links) y.links in
+    let pairs : m.pairs ≡ n.pairs = one_count (IsLeoPair y.flat E y.top (earleme_after pieces)) m.pairs n.pairs (moved.pairs m.pairs x.pairs) y.pairs in
+    let expanded : m.expanded ≡ n.expanded = one_count (IsExpanded y.flat E (allowed_by b.g1 ranking y.flat E) y.top (earleme_after pieces)) m.expanded n.expanded (moved.expanded m.expanded x.expanded) y.expanded in
+    let hidden : m.hidden ≡ n.hidden = one_count (IsHiddenNode b.g1 y.flat E y.top (earleme_after pieces)) m.hidden n.hidden (moved.hidden m.hidden x.hidden) y.hidden in
     λ i. record { links = links i; pairs = pairs i; expanded = expanded i; hidden = hidden i }
 
 pub counts_bound_steps : CountsBoundSteps
 counts_bound_steps b ranking pieces n looks before after x within =
-    let same = one_flat b x.flat within.flat x.is within.is in
-    let moved = moved_to (IsCounted b.g1 ranking pieces n) x.flat within.flat x.top within.top same x.top_is within.top_is (counted b ranking pieces n x) in
-    (within.few n.links n.pairs n.expanded moved.links moved.pairs moved.expanded, within.needed n.links n.pairs n.hidden moved.links moved.pairs moved.hidden)
+    let moved = counts_of_any_form b.g1 (edges_of pieces) ranking 0 (earleme_after pieces) x.flat within.flat x.top within.top
+    (record { flat = x.is; of = x.of; top_is = x.top_is; other_flat = within.is; other_of = within.of; other_is = within.top_is }) in
+    let links = moved.links n.links x.links in
+    let pairs = moved.pairs n.pairs x.pairs in
+    (within.few n.links n.pairs n.expanded links pairs (moved.expanded n.expanded x.expanded), within.needed n.links n.pairs n.hidden links pairs (moved.hidden n.hidden x.hidden))

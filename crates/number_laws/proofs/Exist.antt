@@ -61,4 +61,4 @@ numbers_exist b ranking pieces built accepted =
     let (f, is) = flattened b.g1 checked accepted.structural in
     let flat = is_flat b.g1 checked accepted.structural (built_are_short b built) f is in
     let (n, stats) = told b.g1 checked f flat is.made (edges_of pieces) (pieces_forward pieces) ranking (earleme_after pieces) in
-    (n, record { flat = f; is = is; top = slice_index_or f.tops 0 0; top_is = top_is b.g1 checked f flat is.made (edges_of pieces) (pieces_forward pieces) ranking (earleme_after pieces); numbers = stats })
+    (n, record { flat = f; is = flat; of = is.made; top = slice_index_or f.tops 0 0; top_is = top_is b.g1 checked f flat is.made (edges_of pieces) (pieces_forward pieces) ranking (earleme_after pieces); numbers = stats })

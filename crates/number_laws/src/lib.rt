@@ -2,7 +2,7 @@
 #![tactic(auto)]
 
 ghost use Rattle.number_laws.specs.Applied.{NumbersApply};
-ghost use Rattle.number_laws.specs.Counts.{CountsExist, CountsAreOne, CountsBoundSteps};
+ghost use Rattle.number_laws.specs.Counts.{LinksAreCounted, CountsExist, CountsAreOne, CountsBoundSteps};
 ghost use Rattle.number_laws.specs.Laws.{NumbersExist, NumbersAreOne};
 ghost use Rattle.number_laws.specs.RightRecursion.{RightRecursionCounts, RightRecursionRow};
 
@@ -19,6 +19,11 @@ pub fn numbers_are_one()
 /// The numbers of one token that is read by a chain of rules.
 pub fn numbers_apply()
     ensures { NumbersApply }
+{}
+
+/// The links and the Leo pairs of the sets have counts, over edges of any length.
+pub fn links_are_counted()
+    ensures { LinksAreCounted }
 {}
 
 /// Each reading by accepted grammars has the counts that bound its steps.

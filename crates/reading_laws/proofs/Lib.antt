@@ -6,3 +6,4 @@ pub mod Accepted
 pub mod Short
 pub mod Lists
 pub mod ListsApplied
+mod Some

@@ -1,5 +1,5 @@
 -- What is built of a text has right sides of at most a thousand parts.
-use Rattle.std.proofs.Common.{arith, ◌≡◌, inl, inr, ℕ, ◌+◌, ◌≤◌, false, List, [], ◌∷◌, ◌++◌, length, map, sym, subst}
+use Rattle.std.proofs.Common.{arith, ◌≡◌, inl, inr, ℕ, ◌≤◌, false, List, [], ◌∷◌, ◌++◌, length, map, sym, subst}
 use Rattle.std.specs.Prelude.{flat_map, filter}
 use Rattle.std.proofs.lemmas.List.{length-map}
 use Rattle.finite_sets.proofs.Members.{among_filter_from, among_left, among_right, among_either, among_map, among_map_from, among_flat_map_from, among_at, Among}

@@ -5,7 +5,7 @@
 ghost use Rattle.reading_model.specs.Laws.{AcceptedHaveNoFault, GrammarFaultIsOne};
 ghost use Rattle.reading_laws.specs.Applied.{ReadingApplies};
 ghost use Rattle.reading_laws.specs.Laws.{MatchesAreDecided, ReadingExists};
-ghost use Rattle.reading_laws.specs.Lists.{BuiltAreShort, StartsAreListed, DerivationsAreListed, ListingApplies};
+ghost use Rattle.reading_laws.specs.Lists.{BuiltAreShort, StartsAreListed, DerivationsAreListed, PiecesLeaveSome, ListingApplies};
 
 /// It is decided whether a start of the lexical grammar matches the characters between two places.
 pub fn matches_are_decided()
@@ -45,6 +45,11 @@ pub fn starts_are_listed()
 /// The derivations of any pieces have a list, in the declared order.
 pub fn derivations_are_listed()
     ensures { DerivationsAreListed }
+{}
+
+/// What is read has a chosen derivation wherever it has any.
+pub fn pieces_leave_some()
+    ensures { PiecesLeaveSome }
 {}
 
 /// The derivations of a separated list have a list.

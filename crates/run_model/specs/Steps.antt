@@ -9,12 +9,12 @@ use Rattle.grammar_model.specs.Grammar.{Grammar}
 use Rattle.grammar_model.specs.declared.Ranking.{Ranking}
 use Rattle.recognizer_model.specs.Flat.{FlatGrammar}
 use Rattle.recognizer_model.specs.Chosen.{allowed_by}
-use Rattle.recognizer_model.specs.FlatForm.{FlatEdges}
+use Rattle.recognizer_model.specs.FlatForm.{IsFlatOf, FlatEdges}
+use Rattle.recognizer_model.specs.Invariant.{IsFlat}
 use Rattle.recognizer_model.specs.Below.{IsHiddenNode}
 use Rattle.recognizer_model.specs.Links.{IsPlacedLink, IsLeoPair, choices}
 use Rattle.recognizer_model.specs.Nodes.{IsExpanded}
 use Rattle.recognizer_model.specs.Counts.{IsCountOf}
-use Rattle.flat_model.specs.Flattened.{IsFlattened}
 use Rattle.language_model.specs.Building.{Built}
 use Rattle.reading_model.specs.Reading.{Piece, edges_of, earleme_after}
 
@@ -23,7 +23,8 @@ use Rattle.reading_model.specs.Reading.{Piece, edges_of, earleme_after}
 -- that has a node
 pub record IsWithinLooks (b : Built) (ranking : Ranking) (pieces : List Piece) (looks before after : ℕ) : Type 0 where
   pub flat : FlatGrammar
-  pub is : IsFlattened b.g1 flat
+  pub is : IsFlat flat
+  pub of : IsFlatOf flat b.g1
   pub top : ℕ
   pub top_is : slice_get flat.tops 0 ≡ Some top
   pub few : (links pairs expanded : ℕ) →

@@ -1,8 +1,5 @@
 -- What can be taken at a place of a text, as a program looks for it.
-use Rattle.std.specs.Prelude.{◌≡◌, ℕ, ◌+◌, ◌<◌, ◌≤◌, ◌≤ℤ◌, ◌⊎◌, ◌↔◌, ◌++◌, List, [], ◌∷◌, length, map, Option, Some, None, Contains, slice_get}
-use Rattle.std.specs.List.Sorted.{IsStrictlySortedBy}
-use Rattle.std.specs.Ordering.{nat_cmp}
-use Rattle.grammar_model.specs.Values.{name_of}
+use Rattle.std.specs.Prelude.{◌≡◌, ℕ, ◌+◌, ◌<◌, ◌≤◌, ◌≤ℤ◌, ◌↔◌, List, length, Option, Some, None, Contains, slice_get}
 use Rattle.recognizer_model.specs.FlatForm.{IsFlatOf}
 use Rattle.recognizer_model.specs.Invariant.{IsFlat}
 use Rattle.language_model.specs.Building.{Built, LexemeRow}

@@ -40,6 +40,15 @@ impl<'p> Work<'p> {
             kept: Vec::new(alloc),
         })
     }
+
+    /// The same, out of the frames of those who hold it.
+    #[inline(never)]
+    pub fn boxed(alloc: Global, p: &'p Prepared) -> Result<Box<Work<'p>, Global>, AllocError>
+        ensures { IfOk result (λ work. IsLexerOf p.now work.value.lexer) }
+    {
+        let work = Work::new(alloc, p)?;
+        Ok(Box::new(alloc, work)?)
+    }
 }
 
 fn lexer_of<'p>(alloc: Global, p: &'p Prepared) -> Result<Option<Lexer<'p>>, AllocError>

@@ -51,7 +51,7 @@ pub struct Reader<'p> {
     recce: Recce<'p>,
     spans: Vec<Span>,
     at: usize,
-    work: Work<'p>,
+    work: Box<Work<'p>, Global>,
 }
 
 impl<'p> Model for Reader<'p> {
@@ -67,7 +67,7 @@ impl<'p> Model for Reader<'p> {
       at = r.at;
     } };
 
-    ghost invariant = { λ r. IsLexerOf r.prepared.now r.work.lexer };
+    ghost invariant = { λ r. IsLexerOf r.prepared.now r.work.value.lexer };
 }
 
 impl<'p> Reader<'p> {
@@ -80,7 +80,7 @@ impl<'p> Reader<'p> {
     {
         p.known();
         let recce = Recce::new(alloc, p.flat(), 0)?;
-        match Work::new(alloc, p) {
+        match Work::boxed(alloc, p) {
             Ok(work) => Ok(Reader {
                 prepared: p,
                 recce,

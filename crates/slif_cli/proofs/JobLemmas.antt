@@ -23,12 +23,12 @@ use Rattle.run_model.specs.Within.{DoesWithin, RunsWithin}
 use Rattle.run_model.specs.Runs.MayOpen.{OfGrammar}
 use Rattle.run_model.specs.Runs.MayAsk.{ForNothing, ForGrammar}
 use Rattle.run_model.proofs.Accepted.{for_none, not_refused}
-use Rattle.tellings.specs.Stops.{refusal_outcome}
+use Rattle.tellings.specs.Stops.{Does, refusal_outcome}
 use Rattle.slif_cli.specs.Stops.{LoadStops, MayHave, WorkStops}
 use Rattle.slif_cli.specs.Tasks.{WorksWithin, IsCheckJob}
 use Rattle.tellings.specs.declared.stop.Stop.{Stop}
 use Rattle.slif_cli.proofs.GrammarLaws.{grammar_laws}
-use Rattle.tellings.proofs.Stopping.{stops_as, of_grammar, nothing_appended}
+use Rattle.tellings.proofs.Stopping.{does_weaker, stops_as, of_grammar, nothing_appended}
 use Rattle.slif_cli.proofs.Within.{runs_within}
 
 -- what is so of a job that is asked for, by its task
@@ -163,9 +163,9 @@ module _ (words : List (List ℕ)) (job : Job) (name : List ℕ) (is_job : IsChe
   )
 
   -- its steps are not told
-  pub checks_within : (outcome : Outcome) (before after : ℕ) → MayHave words file left outcome → RunsWithin words file left before after
-  checks_within outcome before after (may, is) =
-      runs_within words job asks file left before after may.grammar may.input may.supplied (subst (λ (t : Task). DoesWithin t may.grammar may.input before after) (sym is_job.task) tt)
+  pub checks_within : (out out_after : Option (List ℕ)) (before after : ℕ) → Does (MayHave words file left) out out_after → RunsWithin words file left out out_after before after
+  checks_within out out_after before after d =
+      runs_within words job asks file left out out_after before after d (subst (λ (t : Task). DoesWithin t d.is.0.grammar d.is.0.input before after) (sym is_job.task) tt)
 
 -- WORK
 
@@ -184,6 +184,7 @@ module _ (words : List (List ℕ)) (job : Job) (size : ℕ) (is_job : job.task �
   pub worked : (o : Outcome) → IsWorkOutcome size o → MayHave words file left o
   worked o is = (record { grammar = []; input = []; outcome = o; supplied = supplied; is_outcome = OfJob job asks (subst (λ (t : Task). IsTaskOutcome t [] [] o) (sym is_job) is) }, refl)
 
-  pub works_within : (before after : ℕ) → WorksWithin size before after → RunsWithin words file left before after
-  works_within before after within =
-      runs_within words job asks file left before after [] [] supplied (subst (λ (t : Task). DoesWithin t [] [] before after) (sym is_job) within)
+  pub works_within : (out out_after : Option (List ℕ)) (before after : ℕ) → Does (IsWorkOutcome size) out out_after × WorksWithin size before after → RunsWithin words file left out out_after before after
+  works_within out out_after before after (d, within) =
+      let e = does_weaker (IsWorkOutcome size) (MayHave words file left) worked out out_after d in
+      runs_within words job asks file left out out_after before after e (subst (λ (t : Task). DoesWithin t e.is.0.grammar e.is.0.input before after) (sym is_job) within)

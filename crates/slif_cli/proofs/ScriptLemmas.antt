@@ -33,7 +33,7 @@ use Rattle.slif_cli.specs.Tasks.{IsScriptJob}
 use Rattle.tellings.specs.declared.stop.Stop.{Stop}
 use Rattle.slif_cli.proofs.JobLemmas.{fitted_as}
 use Rattle.slif_cli.proofs.Within.{runs_within}
-use Rattle.tellings.proofs.Stopping.{stops_as, of_input, nothing_appended}
+use Rattle.tellings.proofs.Stopping.{does_weaker, stops_as, of_input, nothing_appended}
 
 -- THE INPUT
 
@@ -106,9 +106,10 @@ module _ (words : List (List ℕ)) (job : Job) (from : InputFrom) (is_job : IsSc
   )
 
   -- its steps are not told
-  pub plays_within : (o : Outcome) (before after : ℕ) → MayRead IsScriptOutcome from file left o → RunsWithin words file left before after
-  plays_within o before after may =
-      runs_within words job asks file left before after [] may.bytes (supplied may.bytes may.may_be) (subst (λ (t : Task). DoesWithin t [] may.bytes before after) (sym is_job.task) tt)
+  pub plays_within : (out out_after : Option (List ℕ)) (before after : ℕ) → Does (MayRead IsScriptOutcome from file left) out out_after → RunsWithin words file left out out_after before after
+  plays_within out out_after before after d =
+      let e = does_weaker (MayRead IsScriptOutcome from file left) (MayHave words file left) played out out_after d in
+      runs_within words job asks file left out out_after before after e (subst (λ (t : Task). DoesWithin t e.is.0.grammar e.is.0.input before after) (sym is_job.task) tt)
 
   pub reads_input : from ≡ StandardInput → ReadsInput words file
   reads_input standard = record { job = job; asks = asks; standard = is_job.input ∙ standard; goes_on = goes_on }

@@ -18,13 +18,13 @@ use Rattle.run_model.specs.Outcome.IsGrammarOutcome.{GrammarAccepted}
 use Rattle.run_model.specs.Inputs.{input_limit, IsInputText, TooLong}
 use Rattle.run_model.specs.Outside.{Stream, Disk}
 use Rattle.run_model.specs.Runs.{MayOpen, InputMayBe, Supplied, AsksNames, ReadsInput, GoesOn}
-use Rattle.run_model.specs.Within.{InputWithin, DoesWithin, RunsWithin}
+use Rattle.run_model.specs.Within.{DoesWithin, RunsWithin}
 use Rattle.run_model.specs.Runs.MayOpen.{OfInput}
 use Rattle.run_model.specs.Runs.MayAsk.{ForGrammar, ForInput}
 use Rattle.run_model.proofs.Accepted.{one_built}
 use Rattle.run_model.proofs.Given.{all_at, given_named}
 use Rattle.tellings.specs.Stops.{StopsAt, refusal_outcome}
-use Rattle.slif_cli.specs.Stops.{InputHolds, MayHave, MayRead, ReadStops, WorkStops, names_from}
+use Rattle.slif_cli.specs.Stops.{InputHolds, ToldWithin, MayHave, MayRead, ReadStops, WorkStops, names_from}
 use Rattle.slif_cli.specs.Giving.{IsUnnamed, NamesStop}
 use Rattle.tellings.specs.Telling.{TellsReading}
 use Rattle.slif_cli.specs.Tasks.{IsTellJob}
@@ -32,7 +32,6 @@ use Rattle.tellings.specs.declared.stop.Stop.{Stop}
 use Rattle.slif_cli.proofs.GrammarLaws.{grammar_laws}
 use Rattle.slif_cli.proofs.JobLemmas.{GoesOnWithNone, held_by_all, refused_for}
 use Rattle.slif_cli.proofs.Named.{first_among}
-use Rattle.slif_cli.proofs.Within.{runs_within}
 use Rattle.tellings.proofs.Stopping.{stops_as, of_grammar, of_input, nothing_appended}
 
 -- THE INPUT
@@ -126,9 +125,22 @@ module _ (words : List (List ℕ)) (job : Job) (name : List ℕ) (from : InputFr
         (subst (λ (f : InputFrom). InputMayBe f file left bytes) (sym is_job.input) may_be);
   }
 
-  pub tells_within : (before after : ℕ) → InputHolds from file left (λ bytes. InputWithin what b given bytes before after) → RunsWithin words file left before after
-  tells_within before after may =
-      runs_within words job asks file left before after held.bytes may.bytes (supplied may.bytes may.may_be) (subst (λ (t : Task). DoesWithin t held.bytes may.bytes before after) (sym is_job.task) (b, accepted_for, (given, are, may.holds)))
+  pub tells_within : (out out_after : Option (List ℕ)) (before after : ℕ) → InputHolds from file left (ToldWithin what b given out out_after before after) → RunsWithin words file left out out_after before after
+  tells_within out out_after before after may =
+      let (d, within) = may.holds in
+      record {
+        may = record {
+          grammar = held.bytes;
+          input = may.bytes;
+          outcome = d.outcome;
+          supplied = supplied may.bytes may.may_be;
+          is_outcome = OfJob job asks (subst (λ (t : Task). IsTaskOutcome t held.bytes may.bytes d.outcome) (sym is_job.task) (GrammarAccepted b accepted_for (given, are, d.is)));
+        };
+        status_is = d.status_is;
+        written = d.out;
+        does = λ other others. subst (λ (j : Job). DoesWithin j.task held.bytes may.bytes before after) (asks_once words job other asks others)
+            (subst (λ (t : Task). DoesWithin t held.bytes may.bytes before after) (sym is_job.task) (b, accepted_for, (given, are, within)));
+      }
 
   pub told : (o : Outcome) → MayRead (IsInputOutcome what b given) from file left o → MayHave words file left o
   told o may = (

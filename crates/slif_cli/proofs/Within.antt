@@ -1,5 +1,7 @@
 -- How many steps a run takes.
-use Rattle.std.proofs.Common.{◌≡◌, ℕ, List, Option, inl, inr, subst, arith, chars}
+use Rattle.std.proofs.Common.{◌≡◌, ◌∙◌, ℕ, List, Option, Result, Ok, Err, inl, inr, ap, sym, subst, arith, chars}
+use Rattle.std.specs.Prelude.{OnOk}
+use Rattle.std.specs.Io.KnownBytes.{Appends}
 use Rattle.outside_model.specs.Told.{ToldFile}
 use Rattle.earley_sets.specs.Recognizer.{Recognizer}
 use Rattle.earley_sets.specs.Counted.{TakesAtMost}
@@ -8,9 +10,10 @@ use Rattle.words_model.specs.Words.{Telling, Job, Asks}
 use Rattle.words_model.proofs.Asked.{asks_once}
 use Rattle.run_model.specs.Inputs.{IsInputText, input_limit}
 use Rattle.run_model.specs.Outside.{Stream}
-use Rattle.run_model.specs.Runs.{Supplied}
+use Rattle.run_model.specs.Outcome.{Outcome}
 use Rattle.run_model.specs.Within.{DoesWithin, RunsWithin, InputWithin}
-use Rattle.slif_cli.specs.Stops.{Reports}
+use Rattle.slif_cli.specs.Stops.{MayHave, Reports}
+use Rattle.tellings.specs.Stops.{Does}
 use Rattle.tellings.specs.Telling.{GoesOnWithin}
 use Rattle.tellings.specs.declared.stop.Refusal.TheVariants.{Usage, Grammar as BadGrammar, Input as BadInput}
 use Rattle.tellings.specs.declared.stop.Stop.{Stop}
@@ -24,14 +27,19 @@ bytes_within what b given bytes text recce before middle after reads goes =
 
 -- THE RUN
 
-module _ (words : List (List ℕ)) (job : Job) (asks : Asks words job) (file : List ℕ → ToldFile) (left : Option (List ℕ)) (before after : ℕ) where
-  pub runs_within : (grammar input : List ℕ) → Supplied words file left grammar input → DoesWithin job.task grammar input before after → RunsWithin words file left before after
-  runs_within grammar input supplied does = record {
-    grammar = grammar;
-    input = input;
-    supplied = supplied;
-    does = λ other others. subst (λ (j : Job). DoesWithin j.task grammar input before after) (asks_once words job other asks others) does;
+module _ (words : List (List ℕ)) (job : Job) (asks : Asks words job) (file : List ℕ → ToldFile) (left out out_after : Option (List ℕ)) (before after : ℕ) where
+  pub runs_within : (d : Does (MayHave words file left) out out_after) → DoesWithin job.task d.is.0.grammar d.is.0.input before after → RunsWithin words file left out out_after before after
+  runs_within d does = record {
+    may = d.is.0;
+    status_is = ap (λ (o : Outcome). o.status) d.is.1 ∙ d.status_is;
+    written = subst (λ (o : Outcome). Appends out out_after o.out) (sym d.is.1) d.out;
+    does = λ other others. subst (λ (j : Job). DoesWithin j.task d.is.0.grammar d.is.0.input before after) (asks_once words job other asks others) does;
   }
+
+-- of what is so where something was done, both
+pub on_ok_both : {T E : Type 0} {A B : Type 0} (r : Result T E) → OnOk r A → OnOk r B → OnOk r (A × B)
+on_ok_both (Ok x) a b = (a, b)
+on_ok_both (Err e) a b = tt
 
 -- what is told of a stop is no success
 pub not_done : (before after : Stream) (status : ℕ) (stop : Stop) → Reports before after status stop → status ≡ 0 → ⊥

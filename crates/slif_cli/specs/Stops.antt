@@ -3,13 +3,15 @@ use Rattle.std.specs.Prelude.{◌≡◌, ℕ, List, [], ◌∷◌, ◌++◌, ◌
 use Rattle.std.specs.Io.KnownBytes.{Appends}
 use Rattle.outside_model.specs.Causes.{Rose}
 use Rattle.outside_model.specs.Told.{ToldFile, Holds, FileHolds, AppendsPrefix}
-use Rattle.words_model.specs.Words.{Job, InputFrom, Asks}
+use Rattle.language_model.specs.Building.{Built}
+use Rattle.words_model.specs.Words.{Telling, Job, InputFrom, Asks}
 use Rattle.words_model.specs.Words.InputFrom.{Nowhere, StandardInput, FileNamed}
 use Rattle.run_model.specs.Refused.{IsRefused}
 use Rattle.run_model.specs.Inputs.{longer_text}
 use Rattle.run_model.specs.Checking as checks
-use Rattle.run_model.specs.Outcome.{Outcome}
+use Rattle.run_model.specs.Outcome.{Outcome, IsInputOutcome}
 use Rattle.run_model.specs.Outside.{Stream, Disk}
+use Rattle.run_model.specs.Within.{InputWithin}
 use Rattle.run_model.specs.Runs.{MayEnd, MayOpen, InputMayBe, fault_line, memory_line}
 use Rattle.run_model.specs.Runs.Fault.{CannotOpen, CannotRead, CannotWrite}
 use Rattle.marpa_script.specs.declared.refusal.ScriptRefusal as script
@@ -66,6 +68,11 @@ SourceStops limit left Input =
 -- an outcome over what may be the input
 abbrev pub MayRead : (List ℕ → Outcome → Type 0) → (from : InputFrom) → (List ℕ → ToldFile) → Option (List ℕ) → Outcome → Type 0
 MayRead P from file left outcome = InputHolds from file left (λ bytes. P bytes outcome)
+
+-- what is told of these bytes was written, and the steps are within the bound for it
+abbrev pub ToldWithin : Telling → Built → (given : List ℕ) → (out out_after : Option (List ℕ)) → (before after : ℕ) → List ℕ → Type 0
+ToldWithin what b given out out_after before after bytes =
+    Does (IsInputOutcome what b given bytes) out out_after × InputWithin what b given bytes before after
 
 -- JOBS
 

@@ -11,7 +11,7 @@ ghost use Rattle.run_model.specs.Outside.{stream};
 ghost use Rattle.valuator.specs.Told.{states};
 ghost use Rattle.value_lines.specs.Writing.{AreBothTellers};
 ghost use Rattle.tellings.specs.Stops.{Does, StopsAt, WriteStops};
-ghost use Rattle.slif_cli.specs.Stops.{InputHolds, MayRead, names_from};
+ghost use Rattle.slif_cli.specs.Stops.{InputHolds, ToldWithin, MayRead, names_from};
 
 use crate::giving::{limit_with, read_with};
 use crate::hands::Hands;
@@ -53,7 +53,8 @@ pub fn tell_input<'a, F: Files, I: Source, O: Sink, L: Ledger>(
         (Rose (F.fault_count files.old) (F.fault_count files.new) ⊎ Rose (I.fault_count input.old) (I.fault_count input.new))
         (stream O.contents O.fault_count out.old) (stream O.contents O.fault_count out.new)) }
     ensures counted { OnOk result (InputHolds (input_of from.entry) (F.told files.old) (I.left input.old)
-        (λ bytes. InputWithin (telling_of what.entry) prepared.now lexemes.now bytes steps.old steps.new)) }
+        (ToldWithin (telling_of what.entry) prepared.now lexemes.now
+        (O.contents out.old) (O.contents out.new) steps.old steps.new)) }
     ensures later { F.fault_count files.old ≤ F.fault_count files.new }
     ensures input_later { I.fault_count input.old ≤ I.fault_count input.new }
     ensures out_later { O.fault_count out.old ≤ O.fault_count out.new }

@@ -58,7 +58,8 @@ pub fn run<F: Files, I: Source, O: StandardOutput, E: StandardError, L: Ledger>(
           err = stream E.contents E.fault_count err.new;
         } in
         Runs (map string_bytes words.now) before after result }
-    ensures counted { result ≡ 0 → RunsWithin (map string_bytes words.now) (F.told files.old) (I.left input.old) steps.old steps.new }
+    ensures counted { result ≡ 0 → RunsWithin (map string_bytes words.now) (F.told files.old) (I.left input.old)
+        (O.contents out.old) (O.contents out.new) steps.old steps.new }
     ensures asks { AsksNames (map string_bytes words.now) (F.told files.old) (F.asked files.old) (F.asked files.new) }
     ensures input { (input.new ≡ input.old) ⊎ ReadsInput (map string_bytes words.now) (F.told files.old) }
     ensures held { SameFiles (F.told files.old) (F.told files.new) }
@@ -90,7 +91,8 @@ fn do_words<'a, F: Files, I: Source, O: Sink, L: Ledger>(
         (disk F.told F.fault_count files.old) (disk F.told F.fault_count files.new)
         (stream I.left I.fault_count input.old) (stream I.left I.fault_count input.new)
         (stream O.contents O.fault_count out.old) (stream O.contents O.fault_count out.new)) }
-    ensures counted { OnOk result (RunsWithin (map string_bytes words.now) (F.told files.old) (I.left input.old) steps.old steps.new) }
+    ensures counted { OnOk result (RunsWithin (map string_bytes words.now) (F.told files.old) (I.left input.old)
+        (O.contents out.old) (O.contents out.new) steps.old steps.new) }
     ensures asks { AsksNames (map string_bytes words.now) (F.told files.old) (F.asked files.old) (F.asked files.new) }
     ensures input { (input.new ≡ input.old) ⊎ ReadsInput (map string_bytes words.now) (F.told files.old) }
     ensures held { SameFiles (F.told files.old) (F.told files.new) }
@@ -121,7 +123,8 @@ fn do_task<'a, F: Files, I: Source, O: Sink, L: Ledger>(
         (stream I.left I.fault_count input.old) (stream I.left I.fault_count input.new)
         (stream O.contents O.fault_count out.old) (stream O.contents O.fault_count out.new)) }
     ensures counted { OnOk result ((words : List (List ℕ)) → Asks words (job_of job.entry) →
-        RunsWithin words (F.told files.old) (I.left input.old) steps.old steps.new) }
+        RunsWithin words (F.told files.old) (I.left input.old)
+        (O.contents out.old) (O.contents out.new) steps.old steps.new) }
     ensures asks { (words : List (List ℕ)) → Asks words (job_of job.entry) → AsksNames words (F.told files.old) (F.asked files.old) (F.asked files.new) }
     ensures input { (input.new ≡ input.old) ⊎ ((words : List (List ℕ)) → Asks words (job_of job.entry) → ReadsInput words (F.told files.old)) }
     ensures held { SameFiles (F.told files.old) (F.told files.new) }
@@ -212,7 +215,8 @@ fn tell_by<'a, F: Files, I: Source, O: Sink, L: Ledger>(
         (stream I.left I.fault_count input.old) (stream I.left I.fault_count input.new)
         (stream O.contents O.fault_count out.old) (stream O.contents O.fault_count out.new) stop) }
     ensures counted { OnOk result ((job : asked_words.Job) → IsTellJob job grammar.now (input_of from.entry) (names_told names.entry) (telling_of what.entry) →
-        (words : List (List ℕ)) → Asks words job → RunsWithin words (F.told files.old) (I.left input.old) steps.old steps.new) }
+        (words : List (List ℕ)) → Asks words job → RunsWithin words (F.told files.old) (I.left input.old)
+        (O.contents out.old) (O.contents out.new) steps.old steps.new) }
     ensures asks { (job : asked_words.Job) → IsTellJob job grammar.now (input_of from.entry) (names_told names.entry) (telling_of what.entry) →
         (words : List (List ℕ)) → Asks words job → AsksNames words (F.told files.old) (F.asked files.old) (F.asked files.new) }
     ensures input { (input.new ≡ input.old) ⊎ ((job : asked_words.Job) →

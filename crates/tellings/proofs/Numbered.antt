@@ -1,7 +1,7 @@
 -- The numbers of a reading, and what the forest of the reading has of them.
-use Rattle.std.proofs.Common.{◌≡◌, ℕ, List, Some, map, length, refl, sym, ◌∙◌, subst, slice_get}
+use Rattle.std.proofs.Common.{◌≡◌, ℕ, List, Some, map, length, refl, subst, slice_get}
 use Rattle.std.proofs.lemmas.List.{length-map}
-use Rattle.std.proofs.lemmas.Option.{same_Some, slice_get-get_or}
+use Rattle.std.proofs.lemmas.Option.{slice_get-get_or}
 use Rattle.grammar_model.specs.Grammar.{Grammar}
 use Rattle.grammar_model.specs.Derives.{Held}
 use Rattle.grammar_model.specs.declared.Edge.{Edge}
@@ -22,7 +22,8 @@ use Rattle.forest_model.specs.Forest.{Forest, IsForest, top_of}
 use Rattle.bocage.specs.declared.forest.Stats.{Stats}
 use Rattle.run_model.specs.Numbers.{Numbers, HasNumbers}
 use Rattle.number_laws.proofs.Exist.{numbers_exist}
-use Rattle.number_laws.proofs.One.{numbers_are_one, one_flat}
+use Rattle.number_laws.proofs.One.{numbers_are_one}
+use Rattle.renaming_laws.proofs.Alike.{numbers_of_any_form}
 use Rattle.value_lines.specs.Counts.{numbers_of}
 use Rattle.value_lines.specs.Lines.{IsForestOf}
 use Rattle.value_lines.proofs.Counting.{has_numbers}
@@ -33,36 +34,25 @@ module _ (b : Built) (ranking : Ranking) (pieces : List Piece) where
   HasNodes g top count =
       IsCountOf (IsUsed g (FlatEdges g (Held (edges_of pieces))) (allowed_by b.g1 ranking g (FlatEdges g (Held (edges_of pieces)))) top (earleme_after pieces)) count
 
-  -- by a flat grammar, whose first top it is
-  record Counts (count : ℕ) (g : FlatGrammar) : Type 0 where
-    top : ℕ
-    top_is : slice_get g.tops 0 ≡ Some top
-    nodes : HasNodes g top count
-
-  one_of : (m n : ℕ) (g : FlatGrammar) → Counts m g → Counts n g → m ≡ n
-  one_of m n g x y =
-      let same : x.top ≡ y.top = same_Some x.top y.top (sym x.top_is ∙ y.top_is) in
-      one_count (IsUsed g (FlatEdges g (Held (edges_of pieces))) (allowed_by b.g1 ranking g (FlatEdges g (Held (edges_of pieces)))) y.top (earleme_after pieces)) m n
-      (subst (λ t. HasNodes g t m) same x.nodes) y.nodes
-
   module _ (cs : List ℕ) (spans : List Span) (f : Forest) (of : IsForestOf b cs spans f pieces) (ranked : f.ranking ≡ ranking) (is : IsForest f) where
-    own : Counts (length f.nodes) f.flat
+    top_told : slice_get f.flat.tops 0 ≡ Some (top_of f)
+    top_told = subst (λ n. slice_get f.flat.tops n ≡ Some (top_of f)) of.start (slice_get-get_or f.flat.tops f.start 0 is.derived.start)
+
+    own : HasNodes f.flat (top_of f) (length f.nodes)
     own =
         let told = λ (g : Grammar) (r : Ranking) (es : List Edge) (n : ℕ).
         IsCountOf (IsUsed f.flat (FlatEdges f.flat (Held es)) (allowed_by g r f.flat (FlatEdges f.flat (Held es))) (top_of f) n) (length f.nodes) in
-        record {
-          top = top_of f;
-          top_is = subst (λ n. slice_get f.flat.tops n ≡ Some (top_of f)) of.start (slice_get-get_or f.flat.tops f.start 0 is.derived.start);
-          nodes = subst (λ (g : Grammar). told g ranking (edges_of pieces) (earleme_after pieces)) of.written
-              (subst (λ (r : Ranking). told f.written r (edges_of pieces) (earleme_after pieces)) ranked
-              (subst (λ (es : List Edge). told f.written f.ranking es (earleme_after pieces)) of.edges
-              (subst (told f.written f.ranking f.edges) of.place (map (λ n. n.key) f.nodes, is.used, length-map f.nodes (λ n. n.key)))));
-        }
+        subst (λ (g : Grammar). told g ranking (edges_of pieces) (earleme_after pieces)) of.written
+        (subst (λ (r : Ranking). told f.written r (edges_of pieces) (earleme_after pieces)) ranked
+        (subst (λ (es : List Edge). told f.written f.ranking es (earleme_after pieces)) of.edges
+        (subst (told f.written f.ranking f.edges) of.place (map (λ n. n.key) f.nodes, is.used, length-map f.nodes (λ n. n.key)))))
 
     pub nodes_counted : (n : Numbers) → HasNumbers b ranking pieces n → n.nodes ≡ length f.nodes
     nodes_counted n numbers =
-        let told : Counts n.nodes numbers.flat = record { top = numbers.top; top_is = numbers.top_is; nodes = numbers.numbers.used_nodes } in
-        one_of n.nodes (length f.nodes) f.flat (subst (Counts n.nodes) (one_flat b numbers.flat f.flat numbers.is of.flat) told) own
+        let here = numbers_of_any_form b.g1 (edges_of pieces) ranking 0 (earleme_after pieces) n.tokens n.kept n.nodes n.expanded numbers.flat f.flat numbers.top (top_of f)
+        (record { flat = numbers.is; of = numbers.of; top_is = numbers.top_is; other_flat = is.derived.flat; other_of = of.flat.made; other_is = top_told }) numbers.numbers in
+        one_count (IsUsed f.flat (FlatEdges f.flat (Held (edges_of pieces))) (allowed_by b.g1 ranking f.flat (FlatEdges f.flat (Held (edges_of pieces)))) (top_of f) (earleme_after pieces))
+        n.nodes (length f.nodes) here.used_nodes own
 
 -- the numbers that a forest tells are those of its reading
 pub same_numbers : (f : Forest) → IsForest f → (s : Stats) → IsStats f.flat (forest.edges_of f) (forest.allowed_of f) (top_of f) f.place s.tokens s.kept s.nodes s.expanded

@@ -139,6 +139,7 @@ module _ (asked : MoreAsked) (b : Built) (lexemes cs : List ℕ) (spans : List S
   moved pieces looks extra before after w = record {
     flat = w.flat;
     is = w.is;
+    of = w.of;
     top = w.top;
     top_is = w.top_is;
     few = λ links pairs expanded l p e. (let few = w.few links pairs expanded l p e in omega (arith, few));

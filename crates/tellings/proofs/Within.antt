@@ -44,7 +44,8 @@ module _ (b : Built) (recce : Recognizer) (is : IsRecognizer recce) (pieces : Li
       → after ≤ built + looks → IsWithinLooks b ranking pieces looks before after
   within ranking looks before read built after reads builds gives = record {
     flat = recce.flat;
-    is = holds.flat;
+    is = is.flat;
+    of = holds.flat.made;
     top = top_of recce;
     top_is = subst (λ n. slice_get recce.flat.tops n ≡ Some (top_of recce)) holds.start (slice_get-get_or recce.flat.tops recce.start 0 is.start);
     few = λ links pairs expanded l p e.

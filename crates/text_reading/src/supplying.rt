@@ -35,6 +35,7 @@ fn told_supplier(
 
 /// Reads a text to its end, where the supplier is asked for these lexemes as reading is stuck. It is told them before, and let go at the
 /// end.
+#[inline(never)]
 pub fn read_supplied<'p, L: Ledger>(
     alloc: Global,
     prepared: &'p Prepared,

@@ -1,41 +1,44 @@
 // The boxes of a picture: of each node one, but a chain of nodes, each the only one right below the one before, has one box.
+ghost use Rattle.std.specs.Prelude.{◌≡◌, ◌++◌, ◌+◌, ◌<◌, IfOk, OnOk, string_bytes, slice_index, length, map, drop};
+ghost use Rattle.tree_pictures.specs.Boxes as boxes;
+ghost use Rattle.tree_pictures.specs.Boxes.{is_quoted, short_label, is_behind, dot, label_behind, box_label, labels_from, places_from, place_of, aboves_from, AreBoxes};
+
+use crate::puts::put;
 use std::alloc::{AllocError, Global};
 use tree_text::{Label, Node, push_label, push_name};
 
-// Sizes in pixels: of a character, and around a label.
-const CHARACTER: usize = 9;
-
-const PADDING: usize = 14;
-
-/// A box, with the text that stands in it.
+/// The boxes of a picture.
 #[derive(Drop)]
-pub(crate) struct Tile {
-    pub(crate) label: String,
-    pub(crate) width: usize,
-    /// The box right above it.
-    pub(crate) above: Option<usize>,
-    /// How many boxes are above it.
-    pub(crate) row: usize,
-    /// How many boxes are right below it.
-    pub(crate) below: usize,
-    /// Where its middle is.
-    pub(crate) middle: i64,
-    /// How far what is below it is moved to the right.
-    pub(crate) shift: i64,
+pub(crate) struct Boxes {
+    /// The text of each.
+    pub(crate) labels: Vec<String>,
+    /// The box right above each.
+    pub(crate) aboves: Vec<Option<usize>>,
 }
 
 /// Whether a name is this text in quotes.
-fn is_quoted_text(name: &str, text: &str) -> bool {
-    match name.strip_prefix('\'') {
-        Some(rest) => rest.strip_suffix('\'') == Some(text),
-        None => false,
-    }
+fn is_quoted(alloc: Global, name: &str, text: &str) -> Result<bool, AllocError>
+    ensures { IfOk result (λ quoted. quoted ≡ is_quoted name.now text.now) }
+{
+    let mut quoted = String::new(alloc);
+    put("'", &mut quoted)?;
+    put(text, &mut quoted)?;
+    put("'", &mut quoted)?;
+    Ok(name == quoted.as_str())
 }
 
 /// Appends a label as it stands in a picture, where a token with its text as name has that alone.
-fn push_short_label(label: Label<'_>, out: &mut String) -> Result<(), AllocError> {
+fn push_short_label(alloc: Global, label: Label<'_>, out: &mut String) -> Result<(), AllocError>
+    ensures { OnOk result (string_bytes out.new ≡ string_bytes out.old ++ short_label label.entry) }
+{
     match label {
-        Label::Token { name, text } if is_quoted_text(name, text) => push_name(name, out),
+        Label::Token { name, text } => {
+            if is_quoted(alloc, name, text)? {
+                push_name(name, out)
+            } else {
+                push_label(label, out)
+            }
+        }
         _ => push_label(label, out),
     }
 }
@@ -54,98 +57,144 @@ fn counts_below(alloc: Global, nodes: &[Node<'_>]) -> Result<Vec<usize>, AllocEr
     Ok(counts)
 }
 
-fn count_at(counts: &[usize], i: usize) -> usize {
-    match counts.get(i) {
-        Some(count) => *count,
-        None => 0,
+fn count_at(counts: &[usize], i: usize) -> usize
+    ensures { result ≡ slice_index counts.now i }
+{
+    counts.get(i).copied().unwrap_or(0)
+}
+
+fn is_behind(above: Option<usize>, i: usize) -> bool
+    ensures { result ≡ boxes.is_behind above i }
+{
+    match above {
+        Some(above) => i > 0 && above == i - 1,
+        None => false,
     }
 }
 
-/// The box of the node right above, where a node stands in it, too: it is the only one there, and there are others below it.
-fn shared_box(nodes: &[Node<'_>], counts: &[usize], places: &[usize], i: usize) -> Option<usize> {
-    let node = nodes.get(i)?;
-    let above = node.above?;
-    if count_at(counts, above) == 1 && count_at(counts, i) > 0 {
-        places.get(above).copied()
-    } else {
-        None
-    }
+/// Whether the node at a place stands in the box of the one before it: it is the only one right below that one, and there are others below it.
+fn shares(counts: &[usize], i: usize, node: &Node<'_>) -> bool
+    ensures { result ≡ boxes.shares counts.now i node.now }
+{
+    is_behind(node.above, i)
+        && count_at(counts, i.saturating_sub(1)) == 1
+        && count_at(counts, i) > 0
 }
 
-/// Makes a box as wide as its text.
-fn widen(tile: &mut Tile) {
-    tile.width = tile
-        .label
-        .chars()
-        .count()
-        .saturating_mul(CHARACTER)
-        .saturating_add(PADDING);
-}
-
-/// Appends the label of a node to a box that others stand in.
-fn add_to_box(node: &Node<'_>, at: usize, tiles: &mut Vec<Tile>) -> Result<(), AllocError> {
-    let Some(tile) = tiles.get_mut(at) else {
-        return Ok(());
-    };
-    tile.label.push_str(" · ")?;
-    push_short_label(node.label, &mut tile.label)?;
-    widen(tile);
-    Ok(())
-}
-
-/// Counts a box below another one, and gives the row under it.
-fn row_under(above: Option<usize>, tiles: &mut Vec<Tile>) -> usize {
-    let Some(above) = above else {
-        return 0;
-    };
-    let Some(tile) = tiles.get_mut(above) else {
-        return 0;
-    };
-    tile.below = tile.below.saturating_add(1);
-    tile.row.saturating_add(1)
-}
-
-/// Puts a node into a box of its own, under this one.
-fn add_box(
+/// Appends what is in a box behind its first node, which is the one before this place.
+fn push_behind(
     alloc: Global,
-    node: &Node<'_>,
-    above: Option<usize>,
-    tiles: &mut Vec<Tile>,
-) -> Result<(), AllocError> {
-    let mut label = String::new(alloc);
-    push_short_label(node.label, &mut label)?;
-    let row = row_under(above, tiles);
-    let mut tile = Tile {
-        label,
-        width: 0,
-        above,
-        row,
-        below: 0,
-        middle: 0,
-        shift: 0,
-    };
-    widen(&mut tile);
-    tiles.push(tile)?;
+    counts: &[usize],
+    nodes: &[Node<'_>],
+    from: usize,
+    out: &mut String,
+) -> Result<(), AllocError>
+    ensures { OnOk result (string_bytes out.new ≡ string_bytes out.old ++ label_behind counts.now from
+        (drop from nodes.now)) }
+{
+    for i in from..nodes.len() {
+        let node = &nodes[i];
+        if !shares(counts, i, node) {
+            return Ok(());
+        }
+        put(" · ", out)?;
+        push_short_label(alloc, node.label, out)?;
+    }
     Ok(())
+}
+
+/// The text of the box whose first node is at this place.
+fn label_of(
+    alloc: Global,
+    counts: &[usize],
+    nodes: &[Node<'_>],
+    i: usize,
+    node: &Node<'_>,
+) -> Result<String, AllocError>
+    requires { i < length nodes.now }
+    ensures { IfOk result (λ text. string_bytes text ≡ box_label counts.now i node.now
+        (drop (i + 1) nodes.now)) }
+{
+    let mut label = String::new(alloc);
+    push_short_label(alloc, node.label, &mut label)?;
+    push_behind(alloc, counts, nodes, i + 1, &mut label)?;
+    Ok(label)
+}
+
+/// The text of each box.
+fn labels_of(alloc: Global, counts: &[usize], nodes: &[Node<'_>]) -> Result<Vec<String>, AllocError>
+    ensures { IfOk result (λ labels. map string_bytes labels.items ≡ labels_from counts.now 0 nodes.now) }
+{
+    let mut labels = Vec::new(alloc);
+    for (i, node) in nodes.iter().enumerate() {
+        if shares(counts, i, node) {
+            continue;
+        }
+        labels.push(label_of(alloc, counts, nodes, i, node)?)?;
+    }
+    Ok(labels)
+}
+
+/// The box that each node stands in.
+fn places_of(alloc: Global, counts: &[usize], nodes: &[Node<'_>]) -> Result<Vec<usize>, AllocError>
+    ensures { IfOk result (λ places. places.items ≡ places_from counts.now 0 0 nodes.now) }
+{
+    let mut places = Vec::new(alloc);
+    let mut boxes = 0usize;
+    for (i, node) in nodes.iter().enumerate() {
+        if !shares(counts, i, node) {
+            boxes += 1;
+        }
+        places.push(boxes.saturating_sub(1))?;
+    }
+    Ok(places)
+}
+
+fn place_of(places: &[usize], node: Option<usize>) -> Option<usize>
+    ensures { result ≡ place_of places.now node }
+{
+    match node {
+        Some(node) => places.get(node).copied(),
+        None => None,
+    }
+}
+
+/// The box right above each box.
+fn aboves_of(
+    alloc: Global,
+    counts: &[usize],
+    nodes: &[Node<'_>],
+    places: &[usize],
+) -> Result<Vec<Option<usize>>, AllocError>
+    ensures { IfOk result (λ aboves. aboves.items ≡ aboves_from counts.now places.now 0 nodes.now) }
+{
+    let mut aboves = Vec::new(alloc);
+    for (i, node) in nodes.iter().enumerate() {
+        if !shares(counts, i, node) {
+            aboves.push(place_of(places, node.above))?;
+        }
+    }
+    Ok(aboves)
+}
+
+/// The boxes of some nodes, in their order, by how many nodes are counted right below each node.
+fn boxes_by(alloc: Global, counts: &[usize], nodes: &[Node<'_>]) -> Result<Boxes, AllocError>
+    ensures boxes { IfOk result (λ all. AreBoxes nodes.now (map string_bytes all.labels.items)
+        all.aboves.items) }
+    ensures each { IfOk result (λ all. length all.labels.items ≡ length all.aboves.items) }
+{
+    let labels = labels_of(alloc, counts, nodes)?;
+    let places = places_of(alloc, counts, nodes)?;
+    let aboves = aboves_of(alloc, counts, nodes, &places)?;
+    Ok(Boxes { labels, aboves })
 }
 
 /// The boxes of some nodes, in their order.
-pub(crate) fn boxes_of(alloc: Global, nodes: &[Node<'_>]) -> Result<Vec<Tile>, AllocError> {
+pub(crate) fn boxes_of(alloc: Global, nodes: &[Node<'_>]) -> Result<Boxes, AllocError>
+    ensures boxes { IfOk result (λ all. AreBoxes nodes.now (map string_bytes all.labels.items)
+        all.aboves.items) }
+    ensures each { IfOk result (λ all. length all.labels.items ≡ length all.aboves.items) }
+{
     let counts = counts_below(alloc, nodes)?;
-    let mut places: Vec<usize> = Vec::new(alloc);
-    let mut tiles = Vec::new(alloc);
-    for (i, node) in nodes.iter().enumerate() {
-        if let Some(shared) = shared_box(nodes, &counts, &places, i) {
-            add_to_box(node, shared, &mut tiles)?;
-            places.push(shared)?;
-            continue;
-        }
-        let above = match node.above {
-            Some(above) => places.get(above).copied(),
-            None => None,
-        };
-        places.push(tiles.len())?;
-        add_box(alloc, node, above, &mut tiles)?;
-    }
-    Ok(tiles)
+    boxes_by(alloc, &counts, nodes)
 }

@@ -1,5 +1,7 @@
 // Where the boxes of a picture stand: what is below a box under its middle, and beside one another as close as outlines allow.
-use crate::boxes::Tile;
+ghost use Rattle.std.specs.Prelude.{◌≡◌, IfOk, length};
+
+use crate::boxes::Boxes;
 use std::alloc::{AllocError, Global};
 
 // Sizes in pixels: between neighbours, between trees, and at the picture's edge.
@@ -8,6 +10,28 @@ const GAP: i64 = 12;
 const BETWEEN: i64 = 60;
 
 const MARGIN: i64 = 10;
+
+// Of a character, and around a text.
+const CHARACTER: usize = 9;
+
+const PADDING: usize = 14;
+
+/// Where a box stands.
+#[derive(Clone, Copy)]
+pub(crate) struct Tile {
+    pub(crate) width: usize,
+    /// The box right above it.
+    above: Option<usize>,
+    /// How many boxes are above it.
+    pub(crate) row: usize,
+    /// How many boxes are right below it.
+    below: usize,
+    /// Where its middle is, and where it begins.
+    pub(crate) middle: i64,
+    pub(crate) left: i64,
+    /// How far what is below it is moved to the right.
+    shift: i64,
+}
 
 /// Where the first box of a row begins, and where the last one ends.
 #[derive(Clone, Copy)]
@@ -187,13 +211,52 @@ fn middle_of(tile: &Tile, tiles: &[Tile]) -> i64 {
 }
 
 /// Where a box begins.
-pub(crate) fn left_of(tile: &Tile) -> i64 {
+fn left_of(tile: &Tile) -> i64 {
     let half = i64::try_from(tile.width / 2).unwrap_or(i64::MAX);
     tile.middle.saturating_sub(half)
 }
 
+/// How wide a box of this text is.
+fn width_of(label: &str) -> usize {
+    let count = label.chars().count();
+    count.saturating_mul(CHARACTER).saturating_add(PADDING)
+}
+
+/// Counts a box below another one, and gives the row under it.
+fn row_under(above: Option<usize>, tiles: &mut [Tile]) -> usize {
+    let Some(above) = above else {
+        return 0;
+    };
+    let Some(tile) = tiles.get_mut(above) else {
+        return 0;
+    };
+    tile.below = tile.below.saturating_add(1);
+    tile.row.saturating_add(1)
+}
+
+/// The boxes in their rows, each where its neighbours are not yet known.
+fn in_rows(alloc: Global, boxes: &Boxes) -> Result<Vec<Tile>, AllocError>
+    ensures { IfOk result (λ tiles. length tiles.items ≡ length boxes.now.labels.items) }
+{
+    let mut tiles = Vec::new(alloc);
+    for (i, label) in boxes.labels.iter().enumerate() {
+        let above = boxes.aboves.get(i).copied().flatten();
+        let row = row_under(above, &mut tiles);
+        tiles.push(Tile {
+            width: width_of(label.as_str()),
+            above,
+            row,
+            below: 0,
+            middle: 0,
+            left: 0,
+            shift: 0,
+        })?;
+    }
+    Ok(tiles)
+}
+
 /// Gives each box its place, from a margin on.
-pub(crate) fn place(alloc: Global, tiles: &mut [Tile]) -> Result<(), AllocError> {
+fn set_places(alloc: Global, tiles: &mut [Tile]) -> Result<(), AllocError> {
     set_distances(alloc, tiles)?;
     let mut least = 0i64;
     for i in 0..tiles.len() {
@@ -206,6 +269,16 @@ pub(crate) fn place(alloc: Global, tiles: &mut [Tile]) -> Result<(), AllocError>
     }
     for tile in tiles.iter_mut() {
         tile.middle = tile.middle.saturating_sub(least).saturating_add(MARGIN);
+        tile.left = left_of(tile);
     }
     Ok(())
+}
+
+/// The place of each box.
+pub(crate) fn placed(alloc: Global, boxes: &Boxes) -> Result<Vec<Tile>, AllocError>
+    ensures { IfOk result (λ tiles. length tiles.items ≡ length boxes.now.labels.items) }
+{
+    let mut tiles = in_rows(alloc, boxes)?;
+    set_places(alloc, &mut tiles)?;
+    Ok(tiles)
 }

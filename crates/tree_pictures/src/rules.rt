@@ -1,10 +1,12 @@
 // The rules of a grammar, by the tree of its text in the language of grammars.
-ghost use Rattle.std.specs.Prelude.{◌≡◌, IfOk, IsFalse, OnOk, string_bytes};
-ghost use Rattle.tree_text.specs.Texts.{Extends};
+ghost use Rattle.std.specs.Prelude.{◌≡◌, ◌++◌, ◌||◌, ◌≤◌, ◌<◌, length, drop, if◌then◌else◌, [], false, IfOk, OnOk, string_bytes, option_map, codes};
+ghost use Rattle.std.specs.List.{prefix_len};
+ghost use Rattle.tree_pictures.specs.Rules as rules;
+ghost use Rattle.tree_pictures.specs.Rules.{part_piece, alternative_text, piece_of, sequence_from, right_text, rule_line, line_of, number_from, lines_from, rules_text};
+ghost use Rattle.tree_text.specs.Telling.{text_if, is_deeper};
 
-use crate::puts::put;
+use crate::puts::{put, put_number};
 use std::alloc::{AllocError, Global};
-use std::fmt::Write;
 use tree_text::{Label, Node, push_name};
 
 /// How a rule is written.
@@ -16,28 +18,63 @@ enum Form {
     Empty,
 }
 
-/// The name of a symbol, if a node is a rule's.
-fn rule_name<'p>(node: &Node<'p>) -> Option<&'p str> {
+/// Whether a node is that of a rule whose symbol has this name.
+fn is_rule(node: &Node<'_>, wanted: &str) -> bool
+    ensures { result ≡ rules.is_rule wanted.now node.now }
+{
     match node.label {
-        Label::Rule { name, .. } => Some(name),
-        _ => None,
+        Label::Rule { name, .. } => name == wanted,
+        _ => false,
     }
+}
+
+/// Whether a node is a token with this text.
+fn has_text(node: &Node<'_>, wanted: &str) -> bool
+    ensures { result ≡ rules.has_text wanted.now node.now.label }
+{
+    match node.label {
+        Label::Token { text, .. } => text == wanted,
+        _ => false,
+    }
+}
+
+fn is_part_name(name: &str) -> bool
+    ensures { result ≡ rules.is_part_name name.now }
+{
+    name == "word" || name == "angle" || name == "quote" || name == "class"
+}
+
+fn is_sign_name(name: &str) -> bool
+    ensures { result ≡ rules.is_sign_name name.now }
+{
+    name == "'*'" || name == "'+'"
 }
 
 /// The text of a name, a quoted text or a class of the grammar.
-fn part_text<'p>(node: &Node<'p>) -> Option<&'p str> {
+fn part_text<'p>(node: &Node<'p>) -> Option<&'p str>
+    ensures { option_map (λ t. t.now) result ≡ rules.part_text node.now }
+{
     match node.label {
-        Label::Token { name, text } => match name {
-            "word" | "angle" | "quote" | "class" => Some(text),
-            _ => None,
-        },
+        Label::Token { name, text } if is_part_name(name) => Some(text),
         _ => None,
     }
 }
 
-/// The left side of the statement at a place.
-fn left_of<'p>(nodes: &[Node<'p>], at: usize) -> &'p str {
-    for node in nodes.iter().skip(at) {
+/// The text of the sign of a sequence.
+fn sign_text<'p>(node: &Node<'p>) -> Option<&'p str>
+    ensures { option_map (λ t. t.now) result ≡ rules.text_in rules.is_sign_name node.now.label }
+{
+    match node.label {
+        Label::Token { name, text } if is_sign_name(name) => Some(text),
+        _ => None,
+    }
+}
+
+/// The left side of a statement, by the nodes from its first one on.
+fn left_of<'p>(nodes: &[Node<'p>]) -> &'p str
+    ensures { result.now ≡ rules.left_of nodes.now }
+{
+    for node in nodes {
         if let Some(text) = part_text(node) {
             return text;
         }
@@ -45,161 +82,294 @@ fn left_of<'p>(nodes: &[Node<'p>], at: usize) -> &'p str {
     ""
 }
 
-/// Whether the statement at a place is of a rule with `::=`: its sign stands before its first adverb, and before the next statement.
-fn is_structural(nodes: &[Node<'_>], at: usize) -> bool {
-    for node in nodes.iter().skip(at) {
-        if let Label::Token { text, .. } = node.label {
-            match text {
-                "::=" => return true,
-                "~" => return false,
-                _ => (),
-            }
+/// Whether a statement is of a rule with `::=`: its sign stands before its first adverb, and before the next statement.
+fn is_structural(nodes: &[Node<'_>]) -> bool
+    ensures { result ≡ rules.is_structural nodes.now }
+{
+    for node in nodes {
+        if has_text(node, "::=") {
+            return true;
+        }
+        if has_text(node, "~") {
+            return false;
         }
     }
     false
 }
 
-fn form_at(nodes: &[Node<'_>], at: usize) -> Option<Form> {
-    let node = nodes.get(at)?;
-    match rule_name(node)? {
-        "alternative" => Some(Form::Alternative),
-        "sequence" => Some(Form::Sequence),
-        "empty" if is_structural(nodes, at) => Some(Form::Empty),
-        _ => None,
+/// How the rule of a node is written, which is the first one of the nodes.
+fn form_of(node: &Node<'_>, nodes: &[Node<'_>]) -> Option<Form>
+    ensures { result ≡ rules.form_of node.now nodes.now }
+{
+    if is_rule(node, "alternative") {
+        Some(Form::Alternative)
+    } else if is_rule(node, "sequence") {
+        Some(Form::Sequence)
+    } else if is_rule(node, "empty") && is_structural(nodes) {
+        Some(Form::Empty)
+    } else {
+        None
     }
 }
 
-/// Whether a rule's parts end in front of this node: its adverbs come, or it is not below the rule's.
-fn ends_parts(node: &Node<'_>, depth: usize) -> bool {
-    node.depth <= depth || rule_name(node) == Some("rule_adverbs")
+fn is_statement(form: Option<Form>) -> bool
+    ensures { result ≡ rules.is_statement form }
+{
+    match form {
+        Some(Form::Sequence) | Some(Form::Empty) => true,
+        _ => false,
+    }
 }
 
-/// Appends the parts of the alternative at a place, each after a space.
-fn push_parts(
-    nodes: &[Node<'_>],
-    at: usize,
-    depth: usize,
-    out: &mut String,
-) -> Result<(), AllocError> {
-    for node in nodes.iter().skip(at).skip(1) {
-        if ends_parts(node, depth) {
-            break;
+fn push_part(node: &Node<'_>, out: &mut String) -> Result<(), AllocError>
+    ensures { OnOk result (string_bytes out.new ≡ string_bytes out.old ++ part_piece node.now) }
+{
+    match part_text(node) {
+        Some(text) => {
+            put(" ", out)?;
+            push_name(text, out)
         }
-        if let Some(text) = part_text(node) {
-            out.push(' ')?;
-            push_name(text, out)?;
-        }
+        None => Ok(()),
+    }
+}
+
+fn is_in_parts(node: &Node<'_>, depth: usize) -> bool
+    ensures { result ≡ rules.is_in_parts depth node.now }
+{
+    depth < node.depth && !is_rule(node, "rule_adverbs")
+}
+
+fn count_parts(nodes: &[Node<'_>], depth: usize) -> usize
+    ensures within { result ≤ length nodes.now }
+    ensures count { result ≡ prefix_len (rules.is_in_parts depth) nodes.now }
+{
+    let mut count = 0;
+    while count < nodes.len() && is_in_parts(&nodes[count], depth) {
+        count += 1;
+    }
+    count
+}
+
+fn count_below(nodes: &[Node<'_>], depth: usize) -> usize
+    ensures within { result ≤ length nodes.now }
+    ensures count { result ≡ prefix_len (is_deeper depth) nodes.now }
+{
+    let mut count = 0;
+    while count < nodes.len() && depth < nodes[count].depth {
+        count += 1;
+    }
+    count
+}
+
+/// The nodes below a rule's in front of its adverbs, of those behind it.
+fn parts_of<'n, 'p: 'n>(nodes: &'n [Node<'p>], depth: usize) -> &'n [Node<'p>]
+    ensures { result.now ≡ rules.parts_of depth nodes.now }
+{
+    let count = count_parts(nodes, depth);
+    &nodes[..count]
+}
+
+/// The nodes below one of this depth, of those behind it.
+fn below_of<'n, 'p: 'n>(nodes: &'n [Node<'p>], depth: usize) -> &'n [Node<'p>]
+    ensures { result.now ≡ rules.below_of depth nodes.now }
+{
+    let count = count_below(nodes, depth);
+    &nodes[..count]
+}
+
+/// Appends the parts of an alternative, each after a space.
+fn push_alternative(nodes: &[Node<'_>], depth: usize, out: &mut String) -> Result<(), AllocError>
+    ensures { OnOk result (string_bytes out.new ≡ string_bytes out.old ++ alternative_text depth
+        nodes.now) }
+{
+    let parts = parts_of(nodes, depth);
+    for node in parts {
+        push_part(node, out)?;
     }
     Ok(())
+}
+
+fn push_sign(node: &Node<'_>, out: &mut String) -> Result<(), AllocError>
+    ensures { OnOk result (string_bytes out.new ≡ string_bytes out.old ++ rules.sign_text
+        (rules.text_in rules.is_sign_name node.now.label)) }
+{
+    match sign_text(node) {
+        Some(text) => push_name(text, out),
+        None => Ok(()),
+    }
 }
 
 /// Appends a piece of a sequence: its item, its sign, or its separator.
-fn push_piece(node: &Node<'_>, separates: bool, out: &mut String) -> Result<(), AllocError> {
-    if let Some(text) = part_text(node) {
-        out.push_str(if separates { " separator => " } else { " " })?;
-        return push_name(text, out);
-    }
-    match node.label {
-        Label::Token {
-            name: "'*'" | "'+'",
-            text,
-        } => push_name(text, out),
-        _ => Ok(()),
+fn push_piece(node: &Node<'_>, separates: bool, out: &mut String) -> Result<(), AllocError>
+    ensures { OnOk result (string_bytes out.new ≡ string_bytes out.old ++ piece_of
+        (rules.part_text node.now) separates node.now) }
+{
+    match part_text(node) {
+        Some(text) => {
+            put(if separates { " separator => " } else { " " }, out)?;
+            push_name(text, out)
+        }
+        None => push_sign(node, out),
     }
 }
 
-/// Appends the item of the sequence at a place, its sign, and its separator where it has one.
-fn push_sequence(
-    nodes: &[Node<'_>],
-    at: usize,
-    depth: usize,
+fn push_piece_if(
+    named: bool,
+    node: &Node<'_>,
+    separates: bool,
     out: &mut String,
-) -> Result<(), AllocError> {
+) -> Result<(), AllocError>
+    ensures { OnOk result (string_bytes out.new ≡ string_bytes out.old ++ text_if named
+        (piece_of (rules.part_text node.now) separates node.now)) }
+{
+    if named {
+        push_piece(node, separates, out)
+    } else {
+        Ok(())
+    }
+}
+
+fn is_part(node: &Node<'_>) -> bool
+    ensures { result ≡ rules.is_some (rules.part_text node.now) }
+{
+    part_text(node).is_some()
+}
+
+/// Appends the item of a sequence, its sign, and its separator where it has one. They come after its left side.
+fn push_sequence(nodes: &[Node<'_>], depth: usize, out: &mut String) -> Result<(), AllocError>
+    ensures { OnOk result (string_bytes out.new ≡ string_bytes out.old ++ sequence_from false false
+        (rules.below_of depth nodes.now)) }
+{
     let mut separates = false;
     let mut named = false;
-    for node in nodes.iter().skip(at).skip(1) {
-        if node.depth <= depth {
-            break;
-        }
-        if rule_name(node) == Some("separator") {
-            separates = true;
-        }
-        if named {
-            push_piece(node, separates, out)?;
-        }
-        named = named || part_text(node).is_some();
+    let below = below_of(nodes, depth);
+    for node in below {
+        separates = separates || is_rule(node, "separator");
+        push_piece_if(named, node, separates, out)?;
+        named = named || is_part(node);
     }
     Ok(())
 }
 
-/// Appends the right side of the rule at a place.
+/// Appends the right side of a rule, by its depth and the nodes behind its own.
 fn push_right(
-    nodes: &[Node<'_>],
-    at: usize,
     form: Form,
+    depth: usize,
+    nodes: &[Node<'_>],
     out: &mut String,
-) -> Result<(), AllocError> {
-    let depth = match nodes.get(at) {
-        Some(node) => node.depth,
-        None => 0,
-    };
+) -> Result<(), AllocError>
+    ensures { OnOk result (string_bytes out.new ≡ string_bytes out.old ++ right_text form depth
+        nodes.now) }
+{
     match form {
-        Form::Alternative => push_parts(nodes, at, depth, out),
-        Form::Sequence => push_sequence(nodes, at, depth, out),
+        Form::Alternative => push_alternative(nodes, depth, out),
+        Form::Sequence => push_sequence(nodes, depth, out),
         Form::Empty => Ok(()),
     }
 }
 
 /// Appends the line of a rule.
 fn push_rule(
-    number: u64,
+    number: usize,
     left: &str,
-    nodes: &[Node<'_>],
-    at: usize,
     form: Form,
+    node: &Node<'_>,
+    nodes: &[Node<'_>],
     out: &mut String,
-) -> Result<(), AllocError> {
-    write!(out, "{number} ")?;
+) -> Result<(), AllocError>
+    ensures { OnOk result (string_bytes out.new ≡ string_bytes out.old ++ rule_line number left.now
+        form node.now nodes.now) }
+{
+    put_number(number as u64, out)?;
+    put(" ", out)?;
     push_name(left, out)?;
-    out.push_str(" ::=")?;
-    push_right(nodes, at, form, out)?;
-    out.push('\n')
+    put(" ::=", out)?;
+    push_right(form, node.depth, nodes, out)?;
+    put("\n", out)
+}
+
+/// Appends the line of a node, if it is a rule's.
+fn push_line(
+    number: usize,
+    left: &str,
+    form: Option<Form>,
+    node: &Node<'_>,
+    nodes: &[Node<'_>],
+    out: &mut String,
+) -> Result<(), AllocError>
+    ensures { OnOk result (string_bytes out.new ≡ string_bytes out.old ++ line_of number left.now
+        form node.now nodes.now) }
+{
+    match form {
+        Some(form) => push_rule(number, left, form, node, nodes, out),
+        None => Ok(()),
+    }
+}
+
+/// The left side of the statement that the first node stands in, by that of the nodes before it and by how its rule is written.
+fn left_from<'p>(left: &'p str, node: &Node<'p>, nodes: &[Node<'p>], form: Option<Form>) -> &'p str
+    ensures { result.now ≡ (if rules.is_rule (codes "rules") node.now || rules.is_statement form
+        then rules.left_of nodes.now else left.now) }
+{
+    if is_rule(node, "rules") || is_statement(form) {
+        left_of(nodes)
+    } else {
+        left
+    }
 }
 
 /// Whether nodes are a grammar's tree, by `slif.slif`.
-fn is_grammar(nodes: &[Node<'_>]) -> bool {
-    match nodes.first() {
-        Some(node) => rule_name(node) == Some("grammar"),
+fn is_grammar(nodes: &[Node<'_>]) -> bool
+    ensures { result ≡ rules.is_grammar nodes.now }
+{
+    match nodes.split_first() {
+        Some((node, _)) => is_rule(node, "grammar"),
         None => false,
     }
 }
 
-/// The lines of the rules.
-fn rules_of(alloc: Global, nodes: &[Node<'_>]) -> Result<String, AllocError> {
-    let mut out = String::new(alloc);
-    let mut left = "";
-    let mut number = 0u64;
-    for (at, node) in nodes.iter().enumerate() {
-        if rule_name(node) == Some("rules") {
-            left = left_of(nodes, at);
-        }
-        let Some(form) = form_at(nodes, at) else {
-            continue;
-        };
-        if form != Form::Alternative {
-            left = left_of(nodes, at);
-        }
-        push_rule(number, left, nodes, at, form, &mut out)?;
-        number = number.saturating_add(1);
+/// The nodes from this place on.
+fn from<'n, 'p: 'n>(nodes: &'n [Node<'p>], i: usize) -> &'n [Node<'p>]
+    requires { i ≤ length nodes.now }
+    ensures { result.now ≡ drop i nodes.now }
+{
+    &nodes[i..]
+}
+
+/// The number of the next rule, by whether there is one.
+fn number_behind(number: usize, form: Option<Form>) -> usize
+    requires { number < 18446744073709551615 }
+    ensures { result ≡ number_from number form }
+{
+    match form {
+        Some(_) => number + 1,
+        None => number,
     }
-    Ok(out)
+}
+
+/// The lines of the rules.
+fn rules_of(alloc: Global, nodes: &[Node<'_>]) -> Result<String, AllocError>
+    ensures { IfOk result (λ text. string_bytes text ≡ lines_from 0 [] nodes.now) }
+{
+    let mut text = String::new(alloc);
+    let mut left = "";
+    let mut number = 0usize;
+    for (i, node) in nodes.iter().enumerate() {
+        let rest = from(nodes, i);
+        let form = form_of(node, rest);
+        left = left_from(left, node, rest, form);
+        push_line(number, left, form, node, from(nodes, i + 1), &mut text)?;
+        number = number_behind(number, form);
+    }
+    Ok(text)
 }
 
 /// Appends a line for each structural rule of the grammar that this is the tree of: its number, and the rule as `41 event ::= note marks`.
 /// Answers whether the nodes are a grammar's tree; where they are not, nothing is appended.
 pub fn push_rules(alloc: Global, nodes: &[Node<'_>], out: &mut String) -> Result<bool, AllocError>
-    ensures extends { OnOk result (Extends (string_bytes out.old) (string_bytes out.new)) }
-    ensures none { IfOk result (λ told. IsFalse told → out.new ≡ out.old) }
+    ensures written { OnOk result (string_bytes out.new ≡ string_bytes out.old ++ rules_text
+        nodes.now) }
+    ensures told { IfOk result (λ told. told ≡ rules.is_grammar nodes.now) }
 {
     if !is_grammar(nodes) {
         return Ok(false);

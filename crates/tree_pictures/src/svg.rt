@@ -1,140 +1,276 @@
 // A tree as a picture.
-ghost use Rattle.std.specs.Prelude.{OnOk, string_bytes};
-ghost use Rattle.tree_text.specs.Texts.{Extends};
+ghost use Rattle.std.specs.Prelude.{◌≡◌, ◌+◌, ◌++◌, IfOk, OnOk, string_bytes, option_map, slice_get, length, map, decimal};
+ghost use Rattle.std.specs.Fmt.{signed_decimal};
+ghost use Rattle.tree_pictures.specs.Pictures as pictures;
+ghost use Rattle.tree_pictures.specs.Pictures.{escaped, escaped_text, line_begin, line_end, frame_begin, frame_end, text_begin, text_line, picture_head, IsPicture};
+ghost use Rattle.tree_pictures.specs.Boxes.{IsDrawing, AddsDrawing};
 
-use crate::boxes::{Tile, boxes_of};
-use crate::outlines::{left_of, place};
-use crate::puts::put;
+use crate::boxes::boxes_of;
+use crate::outlines::{Tile, placed};
+use crate::puts::{put, put_char, put_long, put_number, put_signed};
 use std::alloc::{AllocError, Global};
-use std::fmt::Write;
 use tree_text::Node;
 
 // Sizes in pixels: at the picture's edge, of a box and of a row.
-const MARGIN: usize = 10;
+const MARGIN: u128 = 10;
 
-const BOX: usize = 26;
+const BOX: u128 = 26;
 
-const ROW: usize = 52;
+const ROW: u128 = 52;
 
-fn row_top(tile: &Tile) -> usize {
-    tile.row.saturating_mul(ROW).saturating_add(MARGIN)
+fn row_top(tile: &Tile) -> u128
+    ensures { result ≡ pictures.row_top tile.now }
+{
+    tile.row as u128 * ROW + MARGIN
+}
+
+fn put_top(tile: &Tile, out: &mut String) -> Result<(), AllocError>
+    ensures { OnOk result (string_bytes out.new ≡ string_bytes out.old ++ decimal (pictures.row_top
+        tile.now)) }
+{
+    put_long(row_top(tile), out)
+}
+
+fn put_middle(tile: &Tile, out: &mut String) -> Result<(), AllocError>
+    ensures { OnOk result (string_bytes out.new ≡ string_bytes out.old ++ signed_decimal
+        tile.now.middle) }
+{
+    put_signed(tile.middle, out)
 }
 
 /// Appends a character of a text.
-fn push_character(c: char, out: &mut String) -> Result<(), AllocError> {
+fn push_character(c: char, out: &mut String) -> Result<(), AllocError>
+    ensures { OnOk result (string_bytes out.new ≡ string_bytes out.old ++ escaped c) }
+{
     match c {
-        '&' => out.push_str("&amp;"),
-        '<' => out.push_str("&lt;"),
-        '>' => out.push_str("&gt;"),
-        _ => out.push(c),
+        '&' => put("&amp;", out),
+        '<' => put("&lt;", out),
+        '>' => put("&gt;", out),
+        _ => put_char(c, out),
     }
 }
 
-fn push_escaped(text: &str, out: &mut String) -> Result<(), AllocError> {
+fn push_escaped(text: &str, out: &mut String) -> Result<(), AllocError>
+    ensures { OnOk result (string_bytes out.new ≡ string_bytes out.old ++ escaped_text text.now) }
+{
     for c in text.chars() {
         push_character(c, out)?;
     }
     Ok(())
 }
 
-fn push_line(from: &Tile, to: &Tile, out: &mut String) -> Result<(), AllocError> {
-    let x1 = from.middle;
-    let y1 = row_top(from).saturating_add(BOX);
-    let x2 = to.middle;
-    let y2 = row_top(to);
-    write!(
-        out,
-        "<line x1=\"{x1}\" y1=\"{y1}\" x2=\"{x2}\" y2=\"{y2}\" stroke=\"#888\"/>\n"
-    )
+fn push_line_begin(tile: &Tile, out: &mut String) -> Result<(), AllocError>
+    ensures { OnOk result (string_bytes out.new ≡ string_bytes out.old ++ line_begin tile.now) }
+{
+    put("<line x1=\"", out)?;
+    put_middle(tile, out)?;
+    put("\" y1=\"", out)?;
+    put_long(row_top(tile) + BOX, out)
 }
 
-fn push_frame(tile: &Tile, out: &mut String) -> Result<(), AllocError> {
-    let left = left_of(tile);
-    let top = row_top(tile);
-    let width = tile.width;
-    write!(
-        out,
-        "<rect x=\"{left}\" y=\"{top}\" width=\"{width}\" height=\"{BOX}\" rx=\"4\" fill=\"#fff\" stroke=\"#888\"/>\n"
-    )
+fn push_line_end(tile: &Tile, out: &mut String) -> Result<(), AllocError>
+    ensures { OnOk result (string_bytes out.new ≡ string_bytes out.old ++ line_end tile.now) }
+{
+    put("\" x2=\"", out)?;
+    put_middle(tile, out)?;
+    put("\" y2=\"", out)?;
+    put_top(tile, out)?;
+    put("\" stroke=\"#888\"/>\n", out)
 }
 
-fn push_box(tile: &Tile, out: &mut String) -> Result<(), AllocError> {
-    let middle = tile.middle;
-    let base = row_top(tile).saturating_add(18);
-    push_frame(tile, out)?;
-    write!(
-        out,
-        "<text x=\"{middle}\" y=\"{base}\" text-anchor=\"middle\">"
-    )?;
-    push_escaped(tile.label.as_str(), out)?;
-    out.push_str("</text>\n")
-}
-
-/// Appends the line from the box right above, if there is one.
-fn push_edge(tile: &Tile, tiles: &[Tile], out: &mut String) -> Result<(), AllocError> {
-    let Some(above) = tile.above else {
-        return Ok(());
-    };
-    match tiles.get(above) {
-        Some(above) => push_line(above, tile, out),
+/// Appends a line from a box to another one, where both are there.
+fn push_line(from: Option<&Tile>, to: &Tile, out: &mut String) -> Result<(), AllocError>
+    ensures { OnOk result (string_bytes out.new ≡ string_bytes out.old ++ pictures.line_from
+        (option_map (λ t. t.now) from.entry) to.now) }
+{
+    match from {
+        Some(from) => {
+            push_line_begin(from, out)?;
+            push_line_end(to, out)
+        }
         None => Ok(()),
     }
 }
 
-fn push_edges(tiles: &[Tile], out: &mut String) -> Result<(), AllocError> {
-    for tile in tiles {
-        push_edge(tile, tiles, out)?;
+/// The box at a place.
+fn tile_at<'t>(tiles: &'t [Tile], at: usize) -> Option<&'t Tile>
+    ensures { option_map (λ t. t.now) result ≡ slice_get tiles.now at }
+{
+    tiles.get(at)
+}
+
+/// Appends the line from the box right above, if there is one.
+fn push_edge(
+    tiles: &[Tile],
+    above: Option<usize>,
+    tile: &Tile,
+    out: &mut String,
+) -> Result<(), AllocError>
+    ensures { OnOk result (string_bytes out.new ≡ string_bytes out.old ++ pictures.edge tiles.now above
+        tile.now) }
+{
+    match above {
+        Some(above) => push_line(tile_at(tiles, above), tile, out),
+        None => Ok(()),
+    }
+}
+
+fn push_edges(tiles: &[Tile], aboves: &[Option<usize>], out: &mut String) -> Result<(), AllocError>
+    requires { length tiles.now ≡ length aboves.now }
+    ensures { OnOk result (string_bytes out.new ≡ string_bytes out.old ++ pictures.edges tiles.now
+        aboves.now tiles.now) }
+{
+    for (i, tile) in tiles.iter().enumerate() {
+        push_edge(tiles, aboves[i], tile, out)?;
     }
     Ok(())
 }
 
-fn push_boxes(tiles: &[Tile], out: &mut String) -> Result<(), AllocError> {
-    for tile in tiles {
-        push_box(tile, out)?;
+fn push_frame_begin(tile: &Tile, out: &mut String) -> Result<(), AllocError>
+    ensures { OnOk result (string_bytes out.new ≡ string_bytes out.old ++ frame_begin tile.now) }
+{
+    put("<rect x=\"", out)?;
+    put_signed(tile.left, out)?;
+    put("\" y=\"", out)?;
+    put_long(row_top(tile), out)
+}
+
+fn push_frame_end(tile: &Tile, out: &mut String) -> Result<(), AllocError>
+    ensures { OnOk result (string_bytes out.new ≡ string_bytes out.old ++ frame_end tile.now) }
+{
+    put("\" width=\"", out)?;
+    put_number(tile.width as u64, out)?;
+    put(
+        "\" height=\"26\" rx=\"4\" fill=\"#fff\" stroke=\"#888\"/>\n",
+        out,
+    )
+}
+
+fn push_text_begin(tile: &Tile, out: &mut String) -> Result<(), AllocError>
+    ensures { OnOk result (string_bytes out.new ≡ string_bytes out.old ++ text_begin tile.now) }
+{
+    put("<text x=\"", out)?;
+    put_middle(tile, out)?;
+    put("\" y=\"", out)?;
+    put_long(row_top(tile) + 18, out)
+}
+
+fn push_text(tile: &Tile, label: &str, out: &mut String) -> Result<(), AllocError>
+    ensures { OnOk result (string_bytes out.new ≡ string_bytes out.old ++ text_line tile.now label.now) }
+{
+    push_text_begin(tile, out)?;
+    put("\" text-anchor=\"middle\">", out)?;
+    push_escaped(label, out)?;
+    put("</text>\n", out)
+}
+
+fn push_box(tile: &Tile, label: &str, out: &mut String) -> Result<(), AllocError>
+    ensures { OnOk result (string_bytes out.new ≡ string_bytes out.old ++ pictures.box tile.now
+        label.now) }
+{
+    push_frame_begin(tile, out)?;
+    push_frame_end(tile, out)?;
+    push_text(tile, label, out)
+}
+
+/// Appends a box with its text, if it is there.
+fn push_box_in(tile: Option<&Tile>, label: &str, out: &mut String) -> Result<(), AllocError>
+    ensures { OnOk result (string_bytes out.new ≡ string_bytes out.old ++ pictures.box_in
+        (option_map (λ t. t.now) tile.entry) label.now) }
+{
+    match tile {
+        Some(tile) => push_box(tile, label, out),
+        None => Ok(()),
+    }
+}
+
+fn push_boxes(tiles: &[Tile], labels: &[String], out: &mut String) -> Result<(), AllocError>
+    ensures { OnOk result (string_bytes out.new ≡ string_bytes out.old ++ pictures.boxes tiles.now 0
+        (map string_bytes labels.now)) }
+{
+    for (i, label) in labels.iter().enumerate() {
+        push_box_in(tile_at(tiles, i), label.as_str(), out)?;
     }
     Ok(())
 }
 
-/// How wide and how high the picture is.
-fn size_of(tiles: &[Tile]) -> (i64, usize) {
-    let mut width = 0i64;
-    let mut height = 0usize;
+/// How wide and how high a picture is.
+#[derive(Clone, Copy)]
+struct Size {
+    width: i64,
+    height: u128,
+}
+
+fn size_of(tiles: &[Tile]) -> Size {
+    let mut size = Size {
+        width: 0,
+        height: 0,
+    };
     for tile in tiles {
-        let right = left_of(tile)
+        let right = tile
+            .left
             .saturating_add(i64::try_from(tile.width).unwrap_or(i64::MAX))
             .saturating_add(10);
-        width = width.max(right);
-        height = height.max(row_top(tile).saturating_add(BOX + MARGIN));
+        size.width = size.width.max(right);
+        size.height = size.height.max(row_top(tile) + BOX + MARGIN);
     }
-    (width, height)
+    size
 }
 
-/// Appends the picture of boxes that have their places.
-fn push_picture(tiles: &[Tile], out: &mut String) -> Result<(), AllocError> {
-    let (width, height) = size_of(tiles);
-    write!(
+fn put_width(size: &Size, out: &mut String) -> Result<(), AllocError>
+    ensures { OnOk result (string_bytes out.new ≡ string_bytes out.old ++ signed_decimal
+        size.now.width) }
+{
+    put_signed(size.width, out)
+}
+
+fn push_head(size: &Size, out: &mut String) -> Result<(), AllocError>
+    ensures { OnOk result (string_bytes out.new ≡ string_bytes out.old ++ picture_head size.now.width
+        size.now.height) }
+{
+    put("<svg xmlns=\"http://www.w3.org/2000/svg\" width=\"", out)?;
+    put_width(size, out)?;
+    put("\" height=\"", out)?;
+    put_long(size.height, out)?;
+    put(
+        "\" font-family=\"monospace\" font-size=\"14\">\n<rect width=\"100%\" height=\"100%\" fill=\"#fff\"/>\n",
         out,
-        "<svg xmlns=\"http://www.w3.org/2000/svg\" width=\"{width}\" height=\"{height}\" font-family=\"monospace\" font-size=\"14\">\n"
-    )?;
-    out.push_str("<rect width=\"100%\" height=\"100%\" fill=\"#fff\"/>\n")?;
-    push_edges(tiles, out)?;
-    push_boxes(tiles, out)?;
-    out.push_str("</svg>\n")
+    )
+}
+
+/// The picture of boxes that have their places.
+fn draw(
+    alloc: Global,
+    tiles: &[Tile],
+    labels: &[String],
+    aboves: &[Option<usize>],
+) -> Result<String, AllocError>
+    requires { length tiles.now ≡ length aboves.now }
+    ensures { IfOk result (λ text. IsPicture tiles.now (map string_bytes labels.now) aboves.now
+        (string_bytes text)) }
+{
+    let size = size_of(tiles);
+    let mut text = String::new(alloc);
+    push_head(&size, &mut text)?;
+    push_edges(tiles, aboves, &mut text)?;
+    push_boxes(tiles, labels, &mut text)?;
+    put("</svg>\n", &mut text)?;
+    Ok(text)
 }
 
 /// The picture of some nodes.
-fn picture_of(alloc: Global, nodes: &[Node<'_>]) -> Result<String, AllocError> {
-    let mut tiles = boxes_of(alloc, nodes)?;
-    place(alloc, &mut tiles)?;
-    let mut picture = String::new(alloc);
-    push_picture(&tiles, &mut picture)?;
-    drop(tiles);
-    Ok(picture)
+fn picture_of(alloc: Global, nodes: &[Node<'_>]) -> Result<String, AllocError>
+    ensures { IfOk result (λ text. IsDrawing nodes.now (string_bytes text)) }
+{
+    let boxes = boxes_of(alloc, nodes)?;
+    let tiles = placed(alloc, &boxes)?;
+    let text = draw(alloc, &tiles, &boxes.labels, &boxes.aboves)?;
+    Ok(text)
 }
 
 /// Appends a picture: boxes in rows by depth, what is below one under its middle, subtrees as close as their outlines allow, and one tree beside the other.
 pub fn push_svg(alloc: Global, nodes: &[Node<'_>], out: &mut String) -> Result<(), AllocError>
-    ensures { OnOk result (Extends (string_bytes out.old) (string_bytes out.new)) }
+    ensures { OnOk result (AddsDrawing nodes.now (string_bytes out.old) (string_bytes out.new)) }
 {
     let picture = picture_of(alloc, nodes)?;
     put(picture.as_str(), out)

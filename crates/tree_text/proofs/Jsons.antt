@@ -1,7 +1,7 @@
 -- The JSON of a value is that of its parts.
 use Rattle.std.proofs.Common.{◌≡◌, Bool, true, false, List, ℕ, [], ◌∷◌, ◌++◌, refl, sym, ap, ◌∙◌, codes, append_assoc, append-nil}
 use Rattle.grammar_model.specs.Values.{Value, Values, Undefined, Number, Text, ListOf, NoValue, MoreValues}
-use Rattle.tree_text.specs.Parts.{Part, Opens, Closes, Atom, parts_of, parts_of_all}
+use Rattle.tree_text.specs.Parts.{Part, Closes, parts_of, parts_of_all}
 use Rattle.tree_text.specs.Written.{json_of, items_json, json_behind, parts_json}
 
 abbrev comma_if : Bool → List ℕ

@@ -5,7 +5,7 @@ pub mod Quoted
 pub mod Reading
 pub mod Words
 pub mod Differences
-pub mod Texts
 pub mod Nested
 mod Eaches
 mod Jsons
+mod Found

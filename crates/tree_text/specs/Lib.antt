@@ -3,6 +3,6 @@ pub mod Prefixes
 pub mod Reading
 pub mod Looks
 pub mod Differences
-pub mod Texts
 pub mod Written
 pub mod Nested
+pub mod Telling

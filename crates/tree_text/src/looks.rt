@@ -27,7 +27,7 @@ fn number_in(label: Label<'_>) -> Option<u64>
     }
 }
 
-fn text_in<'p>(label: Label<'p>) -> Option<&'p str>
+pub(crate) fn text_in<'p>(label: Label<'p>) -> Option<&'p str>
     ensures { option_map (λ t. t.now) result ≡ looks.text_in label.entry }
 {
     match label {

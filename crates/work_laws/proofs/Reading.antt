@@ -30,7 +30,7 @@ is_row : (l : LexemeRow) → Contains work_built.lexemes l → (n : ℕ) × (n <
 is_row l (n, lt, e) = (n, lt, sym (row_is n l lt) ∙ e)
 
 -- what is looked for is one of the three starts
-candidate_below : (pieces : List Piece) (start : ℕ) → IsCandidate work_built pieces start → start < 3
+pub candidate_below : (pieces : List Piece) (start : ℕ) → IsCandidate work_built pieces start → start < 3
 candidate_below pieces start (ADiscard (k, lt, e)) = absurd (omega (arith, lt))
 candidate_below pieces start (ALexeme l has is why) =
     let (n, lt, e) = is_row l has in

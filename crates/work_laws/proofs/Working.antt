@@ -24,7 +24,7 @@ use Rattle.work_laws.proofs.Reading.{all_read}
 use Rattle.work_laws.proofs.Input.{input_chars, input_utf8, input_length, input_spelled}
 
 -- no rule of the grammar has a rank of its own
-no_ranks : (i : ℕ) → rank_of (rule_at work_g1 i) ≡ pos 0
+pub no_ranks : (i : ℕ) → rank_of (rule_at work_g1 i) ≡ pos 0
 no_ranks zero = refl
 no_ranks (suc zero) = refl
 no_ranks (suc (suc zero)) = refl
@@ -69,10 +69,10 @@ module _ (size : ℕ) where
           let r : IsRun (word size) 0 (3 * size + 1) u = subst (λ z. IsRun (word size) 0 z u) work_place (run_of (word size) (Held (edges_of (ones (word size)))) (edges_of_ones (word size)) u 0 (earleme_after (ones (word size))) d) in
           (0, lit< tt, (same_run (word_run size).1 r (word_stops size) (word_stops size)).1)
 
-work_accepted : Accepted work_grammar work_built
+pub work_accepted : Accepted work_grammar work_built
 work_accepted = record { description = work_description; has = has_description; built = is_built_of; accepted = is_accepted }
 
-is_read : (size : ℕ) → 3 * size < LONGEST_INPUT → IsRead work_built [] (work_input size) (ones (word size))
+pub is_read : (size : ℕ) → 3 * size < LONGEST_INPUT → IsRead work_built [] (work_input size) (ones (word size))
 is_read size few =
     let long = input_length size in
     let count = word_length size in

@@ -22,11 +22,11 @@ loop-k-preserved c =
     (gains_same (λ (j : Join). (j.group ≡ c.in_ok-at.at) × IsJoinOf c.args.recce.now c.args.least (get_or c.args.groups.now c.loop-k.k no_group) j)
     (λ (j : Join). (g : Group) × (slice_get c.args.groups.now c.loop-k.k ≡ Some g) × (j.group ≡ c.loop-k.k) × IsJoinOf c.args.recce.now c.args.least g j) c.loop-k.joins.items c.put_joins.new.joins.items c.in_ok-put_joins.ensures
     (λ j. (
-      λ (e, is). (get_or c.args.groups.now c.loop-k.k no_group, at, e ∙ c.in_ok-at.ensures, is),
+      λ (e, is). (get_or c.args.groups.now c.loop-k.k no_group, at, e ∙ c.in_ok-at.ensures.ok, is),
       λ (g, held, e, is). (
           let one : Some g ≡ Some (get_or c.args.groups.now c.loop-k.k no_group) = sym held ∙ at in
           let q : g ≡ get_or c.args.groups.now c.loop-k.k no_group = cc in
-          (e ∙ sym c.in_ok-at.ensures, subst (λ (z : Group). IsJoinOf c.args.recce.now c.args.least z j) q is)
+          (e ∙ sym c.in_ok-at.ensures.ok, subst (λ (z : Group). IsJoinOf c.args.recce.now c.args.least z j) q is)
           ),
     )))
 

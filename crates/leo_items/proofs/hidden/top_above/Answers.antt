@@ -1,5 +1,4 @@
 use Rattle.std.proofs.Common.{◌<◌, ◌∙◌, sym, subst, arith, length}
-use Rattle.recognizer_model.specs.Flat.{lhs_of}
 use Rattle.recognizer_model.specs.declared.Pair.{Pair}
 use Rattle.leo_items.specs.ByRows.{LeadsIn}
 use Rattle.leo_items.proofs.hidden.top_above.Goals as goal

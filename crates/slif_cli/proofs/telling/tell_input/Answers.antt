@@ -10,6 +10,7 @@ use Rattle.slif_cli.specs.Stops.{MayRead, ReadStops}
 use Rattle.command_line.specs.Jobs.{telling_of, input_of}
 use Rattle.tellings.proofs.Stopping.{does_weaker, stops_weaker, passed_on}
 use Rattle.slif_cli.proofs.TaskLemmas.{may_read, unread}
+use Rattle.slif_cli.proofs.Within.{on_ok_both}
 use Rattle.slif_cli.proofs.telling.tell_input.Goals as goal
 
 pub returns-clause-done : goal.returns-clause-done
@@ -61,4 +62,4 @@ returns-clause-counted g c =
     let file = g.F.Files.told c.args.files.now in
     let left = g.I.Source.left c.args.input.now in
     let may_be : InputMayBe from file left c.in_ok-bytes.bytes.items = c.in_ok-bytes.ensures.read in
-    on_ok_weaker c.tell_bytes.result (λ within. record { bytes = c.in_ok-bytes.bytes.items; may_be = may_be; holds = within }) c.tell_bytes.ensures.counted
+    on_ok_weaker c.tell_bytes.result (λ both. record { bytes = c.in_ok-bytes.bytes.items; may_be = may_be; holds = both }) (on_ok_both c.tell_bytes.result c.tell_bytes.ensures.done c.tell_bytes.ensures.counted)

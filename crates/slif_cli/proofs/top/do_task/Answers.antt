@@ -11,6 +11,7 @@ use Rattle.command_line.specs.Jobs.{job_of, task_of, names_told, telling_of, inp
 use Rattle.slif_cli.specs.Stops.{MayHave, MayRead}
 use Rattle.slif_cli.specs.Tasks.{IsCheckJob, IsTellJob, IsScriptJob}
 use Rattle.slif_cli.proofs.JobLemmas.{asks_names, asks_nothing, worked, works_within, checks_within, fitted_as, copied_some}
+use Rattle.slif_cli.proofs.Within.{on_ok_both}
 use Rattle.slif_cli.proofs.ScriptLemmas.{played, plays_within, reads_input, opens_input, asks_input}
 use Rattle.tellings.proofs.Stopping.{does_weaker, stops_weaker}
 use Rattle.slif_cli.proofs.top.do_task.Goals as goal
@@ -41,7 +42,8 @@ returns-in-Check-clause-counted g c =
     let file = g.F.Files.told c.args.files.now in
     let left = g.I.Source.left c.args.input.now in
     on_ok_weaker c.check_grammar.result
-    (λ does words asks. let d = does (job_of c.args.job) is_job left words asks in checks_within words (job_of c.args.job) c.grammar_file.result.now is_job asks file left d.outcome c.args.steps.now c.args.steps.now d.is)
+    (λ does words asks. checks_within words (job_of c.args.job) c.grammar_file.result.now is_job asks file left (g.O.Sink.contents c.args.out.now) (g.O.Sink.contents c.check_grammar.new.out)
+    c.args.steps.now c.args.steps.now (does (job_of c.args.job) is_job left words asks))
     c.check_grammar.ensures.done
 
 pub grammar_file-grammar-requires : goal.grammar_file-grammar-requires
@@ -118,7 +120,8 @@ returns-in-Work-clause-counted g c =
     let file = g.F.Files.told c.args.files.now in
     let left = g.I.Source.left c.args.input.now in
     on_ok_weaker c.work_of_size.result
-    (λ within words asks. works_within words (job_of c.args.job) size (ap task_of c.in-Work.is) asks file left c.args.steps.now c.work_of_size.new.steps within) c.work_of_size.ensures.counted
+    (λ both words asks. works_within words (job_of c.args.job) size (ap task_of c.in-Work.is) asks file left (g.O.Sink.contents c.args.out.now) (g.O.Sink.contents c.work_of_size.new.out)
+    c.args.steps.now c.work_of_size.new.steps both) (on_ok_both c.work_of_size.result c.work_of_size.ensures.done c.work_of_size.ensures.counted)
 
 pub play_input-requires : goal.play_input-requires
 play_input-requires g c =
@@ -167,4 +170,5 @@ returns-in-Script-clause-counted g c =
     let file = g.F.Files.told c.args.files.now in
     let left = g.I.Source.left c.args.input.now in
     on_ok_weaker c.play_input.result
-    (λ does words asks. plays_within words (job_of c.args.job) (input_of c.args.job.input) is_job asks file left does.outcome c.args.steps.now c.play_input.new.steps does.is) c.play_input.ensures.done
+    (λ does words asks. plays_within words (job_of c.args.job) (input_of c.args.job.input) is_job asks file left (g.O.Sink.contents c.args.out.now) (g.O.Sink.contents c.play_input.new.out)
+    c.args.steps.now c.play_input.new.steps does) c.play_input.ensures.done

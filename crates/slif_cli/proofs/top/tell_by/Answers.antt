@@ -6,10 +6,9 @@ use Rattle.words_model.specs.Words.InputFrom.{FileNamed}
 use Rattle.run_model.specs.Outside.{stream, disk}
 use Rattle.run_model.specs.Outcome.{IsInputOutcome}
 use Rattle.run_model.specs.Given.{AreGiven}
-use Rattle.run_model.specs.Within.{InputWithin}
 use Rattle.run_model.specs.Runs.{MayOpen}
 use Rattle.words_model.specs.Words.{Job}
-use Rattle.slif_cli.specs.Stops.{MayHave, MayRead, JobStops}
+use Rattle.slif_cli.specs.Stops.{ToldWithin, MayHave, MayRead, JobStops}
 use Rattle.slif_cli.specs.Tasks.{IsTellJob}
 use Rattle.command_line.specs.Jobs.{names_told, telling_of, input_of}
 use Rattle.slif_cli.proofs.JobLemmas.{load_stops, asks_names}
@@ -97,9 +96,11 @@ returns-clause-counted g c =
     let names = names_told c.args.names in
     let given = c.deref.result.now in
     let are = subst (λ (xs : List ℕ). AreGiven b names xs) (sym c.deref.ensures.value) c.in_ok-lexemes.ensures.given in
+    let out = g.O.Sink.contents c.args.out.now in
+    let out_after = g.O.Sink.contents c.tell_input-told.new.out in
     on_ok_weaker c.tell_input-told.result
-    (λ within job is_job words asks. tells_within words job c.args.grammar.now from names what is_job asks file left b c.in_ok-prepared.ensures.read given are c.args.steps.now c.tell_input-told.new.steps
-    (held_before from file (g.F.Files.told c.load_grammar.new.files) c.in_ok-prepared.ensures.held left (λ bytes. InputWithin what b given bytes c.args.steps.now c.tell_input-told.new.steps) within))
+    (λ within job is_job words asks. tells_within words job c.args.grammar.now from names what is_job asks file left b c.in_ok-prepared.ensures.read given are out out_after c.args.steps.now c.tell_input-told.new.steps
+    (held_before from file (g.F.Files.told c.load_grammar.new.files) c.in_ok-prepared.ensures.held left (ToldWithin what b given out out_after c.args.steps.now c.tell_input-told.new.steps) within))
     c.tell_input-told.ensures.counted
 
 pub tell_input-told-requires-clause-names : goal.tell_input-told-requires-clause-names

@@ -1,0 +1,4 @@
+mod Refusing
+mod Stopping
+mod Telling
+mod Library

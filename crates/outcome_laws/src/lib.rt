@@ -1,0 +1,15 @@
+//! Outcomes that are written out. They are shown by a contract alone, and its function does nothing.
+#![tactic(auto)]
+
+ghost use Rattle.outcome_laws.specs.Laws.{OutcomesOccur};
+ghost use Rattle.outcome_laws.specs.Library.{LibraryOccurs};
+
+/// A value, a reading that stops, and each way in which a grammar can be refused come about, with these lines.
+pub fn outcomes_occur()
+    ensures { OutcomesOccur }
+{}
+
+/// What the library's contracts speak of comes about: an input is read, all its derivations are listed, and a fold has a value.
+pub fn library_occurs()
+    ensures { LibraryOccurs }
+{}

@@ -1,0 +1,7 @@
+mod Renamed
+mod Sets
+mod Trees
+mod Over
+mod Links
+mod Forms
+pub mod Alike
