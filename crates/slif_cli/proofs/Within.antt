@@ -37,9 +37,9 @@ module _ (words : List (List ℕ)) (job : Job) (asks : Asks words job) (file : L
   }
 
 -- of what is so where something was done, both
-pub on_ok_both : {T E : Type 0} {A B : Type 0} (r : Result T E) → OnOk r A → OnOk r B → OnOk r (A × B)
-on_ok_both (Ok x) a b = (a, b)
-on_ok_both (Err e) a b = tt
+pub on_ok_both : {T E : Type 0} (A B : Type 0) (r : Result T E) → OnOk r A → OnOk r B → OnOk r (A × B)
+on_ok_both A B (Ok x) a b = (a, b)
+on_ok_both A B (Err e) a b = tt
 
 -- what is told of a stop is no success
 pub not_done : (before after : Stream) (status : ℕ) (stop : Stop) → Reports before after status stop → status ≡ 0 → ⊥

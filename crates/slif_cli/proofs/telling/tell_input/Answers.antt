@@ -5,7 +5,8 @@ use Rattle.words_model.specs.Words.InputFrom.{FileNamed}
 use Rattle.run_model.specs.Outside.{stream}
 use Rattle.run_model.specs.Outcome.{IsInputOutcome}
 use Rattle.run_model.specs.Runs.{InputMayBe}
-use Rattle.tellings.specs.Stops.{StopsAt}
+use Rattle.run_model.specs.Within.{InputWithin}
+use Rattle.tellings.specs.Stops.{Does, StopsAt}
 use Rattle.slif_cli.specs.Stops.{MayRead, ReadStops}
 use Rattle.command_line.specs.Jobs.{telling_of, input_of}
 use Rattle.tellings.proofs.Stopping.{does_weaker, stops_weaker, passed_on}
@@ -62,4 +63,6 @@ returns-clause-counted g c =
     let file = g.F.Files.told c.args.files.now in
     let left = g.I.Source.left c.args.input.now in
     let may_be : InputMayBe from file left c.in_ok-bytes.bytes.items = c.in_ok-bytes.ensures.read in
-    on_ok_weaker c.tell_bytes.result (λ both. record { bytes = c.in_ok-bytes.bytes.items; may_be = may_be; holds = both }) (on_ok_both c.tell_bytes.result c.tell_bytes.ensures.done c.tell_bytes.ensures.counted)
+    on_ok_weaker c.tell_bytes.result (λ both. record { bytes = c.in_ok-bytes.bytes.items; may_be = may_be; holds = both }) (on_ok_both
+    (Does (IsInputOutcome (telling_of c.args.what) c.args.prepared.now c.args.lexemes.now c.in_ok-bytes.bytes.items) (g.O.Sink.contents c.args.out.now) (g.O.Sink.contents c.tell_bytes.new.out))
+    (InputWithin (telling_of c.args.what) c.args.prepared.now c.args.lexemes.now c.in_ok-bytes.bytes.items c.args.steps.now c.tell_bytes.new.steps) c.tell_bytes.result c.tell_bytes.ensures.done c.tell_bytes.ensures.counted)

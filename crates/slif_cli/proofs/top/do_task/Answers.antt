@@ -9,7 +9,8 @@ use Rattle.run_model.specs.Outside.{stream}
 use Rattle.run_model.specs.Runs.{MayOpen}
 use Rattle.command_line.specs.Jobs.{job_of, task_of, names_told, telling_of, input_of}
 use Rattle.slif_cli.specs.Stops.{MayHave, MayRead}
-use Rattle.slif_cli.specs.Tasks.{IsCheckJob, IsTellJob, IsScriptJob}
+use Rattle.tellings.specs.Stops.{Does}
+use Rattle.slif_cli.specs.Tasks.{IsCheckJob, IsTellJob, IsScriptJob, WorksWithin}
 use Rattle.slif_cli.proofs.JobLemmas.{asks_names, asks_nothing, worked, works_within, checks_within, fitted_as, copied_some}
 use Rattle.slif_cli.proofs.Within.{on_ok_both}
 use Rattle.slif_cli.proofs.ScriptLemmas.{played, plays_within, reads_input, opens_input, asks_input}
@@ -121,7 +122,9 @@ returns-in-Work-clause-counted g c =
     let left = g.I.Source.left c.args.input.now in
     on_ok_weaker c.work_of_size.result
     (λ both words asks. works_within words (job_of c.args.job) size (ap task_of c.in-Work.is) asks file left (g.O.Sink.contents c.args.out.now) (g.O.Sink.contents c.work_of_size.new.out)
-    c.args.steps.now c.work_of_size.new.steps both) (on_ok_both c.work_of_size.result c.work_of_size.ensures.done c.work_of_size.ensures.counted)
+    c.args.steps.now c.work_of_size.new.steps both) (on_ok_both
+    (Does (IsWorkOutcome size) (g.O.Sink.contents c.args.out.now) (g.O.Sink.contents c.work_of_size.new.out)) (WorksWithin size c.args.steps.now c.work_of_size.new.steps)
+    c.work_of_size.result c.work_of_size.ensures.done c.work_of_size.ensures.counted)
 
 pub play_input-requires : goal.play_input-requires
 play_input-requires g c =
