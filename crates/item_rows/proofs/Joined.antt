@@ -10,10 +10,11 @@ use Rattle.std.proofs.lemmas.Option.{slice_get-get_or}
 use Rattle.recognizer_model.specs.declared.Item.{Item}
 use Rattle.recognizer_model.specs.Counts.{IsListOf}
 use Rattle.item_rows.specs.declared.dotted.Span.{Span}
+use Rattle.kernels.specs.Slots.{Rises}
 use Rattle.item_rows.specs.Rows.{IsBegunAt}
-use Rattle.item_rows.specs.Dotted.{dotted_at, unpacked, begun_at, row_items, IsPacked, Rises, IsPackedRow, AreDotted, IsRowOfParts, DifferInDots, IsSpanOf, AreWithin}
-use Rattle.item_rows.proofs.Listed.{index_any}
-use Rattle.item_rows.proofs.Packing.{map_length, map_has, map_from, part_of_kind, packed_there, packed_absent}
+use Rattle.item_rows.specs.Dotted.{dotted_at, unpacked, begun_at, row_items, IsPacked, IsPackedRow, AreDotted, IsRowOfParts, DifferInDots, IsSpanOf, AreWithin}
+use Rattle.kernels.proofs.Numbers.{map_length, map_has, map_from, index_any}
+use Rattle.item_rows.proofs.Packing.{part_of_kind, packed_there, packed_absent}
 
 -- two lists of different values
 module _ {A : Type 0} where
@@ -178,6 +179,9 @@ module _ (rules : List Item) (earleme : ℕ) (packed begun : List ℕ) (is : IsR
   }
 
   module _ (differ : DifferInDots rules) (item : Item) (n : ℕ) (number : IsPacked rules n item) where
+    pub contains_first : Contains packed n → Contains (row_items rules earleme packed begun) item
+    contains_first h = Contains-append_left (map (unpacked rules) packed) (map (begun_at rules earleme) begun) item ((packed_there rules differ packed is.first item n number).0 h)
+
     pub contains_second : item.origin ≡ earleme → Contains begun (n / 4294967296) → Contains (row_items rules earleme packed begun) item
     contains_second o h = Contains-append_right (map (unpacked rules) packed) (map (begun_at rules earleme) begun) item ((begun_there rules differ earleme begun is.second item n number).0 (o, h))
 

@@ -5,6 +5,7 @@ pub mod Listed
 pub mod Marking
 pub mod Ordered
 pub mod Packing
+pub mod Placing
 pub mod Ruled
 pub mod Sorting
 pub mod Viewing

@@ -14,6 +14,7 @@ use Rattle.item_rows.specs.Kept.{IsItem}
 use Rattle.item_rows.specs.Order.{or_end, symbol_or_end}
 use Rattle.item_rows.specs.Dotted.{no_item, dotted_at, DifferInDots, AddsDots, IsListedAt, AreListed, AreNumbers, IsNumbered, IsSpan, IsWholeSpan, AreSpans}
 use Rattle.recognizer_model.proofs.Sources.{rule_there}
+use Rattle.kernels.proofs.Numbers.{index_any}
 
 module _ {A : Type 0} where
   pub get_more : (xs ys : List A) (k : ℕ) (x : A) → slice_get xs k ≡ Some x → slice_get (xs ++ ys) k ≡ Some x
@@ -32,11 +33,6 @@ module _ {A : Type 0} where
 
   some_same : (a b : A) → Some a ≡ Some b → a ≡ b
   some_same a b e = cc
-
-  pub index_any : (xs : List A) (k : ℕ) (d e : A) → k < length xs → slice_index_or xs k d ≡ slice_index_or xs k e
-  index_any [] k d e lt = absurd (omega arith)
-  index_any (x ∷ xs) zero d e lt = refl
-  index_any (x ∷ xs) (suc k) d e lt = index_any xs k d e (omega arith)
 
   pub within : (xs : List A) (k : ℕ) (x : A) → slice_get xs k ≡ Some x → k < length xs
   within xs k x e = (get_index xs k x x e).0

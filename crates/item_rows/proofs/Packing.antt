@@ -1,5 +1,5 @@
 -- Rows of packed items.
-use Rattle.std.proofs.Common.{rules, ◌≡◌, ◌≢◌, ◌==◌, inl, inr, ◌↔◌, ℕ, zero, suc, ◌+◌, ◌-◌, ◌/◌, ◌%◌, ◌<◌, ◌≤◌, ◌++◌, true, List, [], ◌∷◌, length, map, take, drop, get_or, Contains, refl, sym, ◌∙◌, ap, subst, arith}
+use Rattle.std.proofs.Common.{rules, ◌≡◌, ◌≢◌, ◌==◌, inl, inr, ◌↔◌, ℕ, ◌+◌, ◌-◌, ◌/◌, ◌%◌, ◌<◌, ◌≤◌, ◌++◌, true, List, [], ◌∷◌, length, map, take, drop, get_or, Contains, refl, sym, ◌∙◌, ap, subst, arith}
 use Rattle.std.specs.Prelude.{nat_lt, slice_index, slice_index_or, Result, Ok, Err, MatchResult, is_ok, IsTrue}
 use Rattle.std.specs.Ordering.{nat_cmp}
 use Rattle.std.specs.Cmp.{IsEquivalence}
@@ -17,45 +17,23 @@ use Rattle.grammar_core.proofs.Placed.{part_from, part_to, part_length, found_at
 use Rattle.recognizer_model.specs.declared.Item.{Item}
 use Rattle.recognizer_model.specs.Counts.{IsListOf}
 use Rattle.item_rows.specs.declared.dotted.Span.{Span}
-use Rattle.item_rows.specs.Dotted.{unpacked, IsPacked, Rises, IsPackedRow, DifferInDots, IsSpanOf}
+use Rattle.kernels.specs.Slots.{Rises}
+use Rattle.item_rows.specs.Dotted.{unpacked, IsPacked, IsPackedRow, DifferInDots, IsSpanOf}
 use Rattle.item_rows.proofs.Items.{once_permuted}
-use Rattle.item_rows.proofs.Listed.{index_any}
-
-module _ {A B : Type 0} (f : A → B) where
-  pub map_length : (xs : List A) → length (map f xs) ≡ length xs
-  map_length [] = refl
-  map_length (x ∷ xs) = ap suc (map_length xs)
-
-  pub map_has : (xs : List A) (x : A) → Contains xs x → Contains (map f xs) (f x)
-  map_has xs x (k, lt, e) = (k, (let l = map_length xs in omega arith), get_or-map f xs k x (f x) lt ∙ ap f e)
-
-  pub map_from : (xs : List A) (y : B) → Contains (map f xs) y → (x : A) × Contains xs x × (f x ≡ y)
-  map_from [] y (k, lt, e) = absurd (omega arith)
-  map_from (x ∷ xs) y (zero, lt, e) = (x, (0, omega arith, refl), e)
-  map_from (x ∷ xs) y (suc k, lt, e) = let (z, (j, b, h), same) = map_from xs y (k, omega arith, e) in (z, (suc j, omega arith, h), same)
+use Rattle.kernels.proofs.Numbers.{map_length, map_has, map_from, map_more, index_any, in_order}
 
 -- one more number is packed
 pub pack_more : (rules items : List Item) (packed new : List ℕ) (k n : ℕ) (d : Item) → map (unpacked rules) packed ≡ take k items → new ≡ packed ++ n ∷ [] → unpacked rules n ≡ get_or items k d → k < length items →
     map (unpacked rules) new ≡ take (k + 1) items
 pack_more rules items packed new k n d before is same lt =
-    ap (map (unpacked rules)) is ∙ (map_append packed (n ∷ []) ∙ (ap (λ l. l ++ unpacked rules n ∷ []) before ∙ (ap (λ x. take k items ++ x ∷ []) same ∙ sym (take_more items k d lt))))
-  where
-    map_append : (xs ys : List ℕ) → map (unpacked rules) (xs ++ ys) ≡ map (unpacked rules) xs ++ map (unpacked rules) ys
-    map_append [] ys = refl
-    map_append (x ∷ xs) ys = ap (λ l. unpacked rules x ∷ l) (map_append xs ys)
+    ap (map (unpacked rules)) is ∙ (map_more (unpacked rules) packed (n ∷ []) ∙ (ap (λ l. l ++ unpacked rules n ∷ []) before ∙ (ap (λ x. take k items ++ x ∷ []) same ∙ sym (take_more items k d lt))))
 
 -- numbers that rise
 module _ (row : List ℕ) (rises : Rises row) where
-  pub in_order : (i j : ℕ) → i ≤ j → j < length row → get_or row i 0 ≤ get_or row j 0
-  in_order i j le lt = elim (cases_lt i j) [
-    | inl l ↦ let r = rises i j 0 l lt in omega arith
-    | inr l ↦ let same : i ≡ j = omega arith in let e = ap (λ k. get_or row k 0) same in omega arith
-  ]
-
   pub below_parted : (bound : ℕ) → IsPartitionedBy (λ n. nat_lt n bound) row
   below_parted bound i j d le lt e =
       let h = ltb-true _ _ e in
-      let o = in_order i j le lt in
+      let o = in_order row rises i j le lt in
       let a = index_any row i d 0 (omega arith) in
       let b = index_any row j d 0 lt in
       lt-ltb _ _ (omega arith)
@@ -95,7 +73,7 @@ module _ (row : List ℕ) (rises : Rises row) where
             (elim (cases_lt k end) [ inl l ↦ l | inr l ↦ let p = a2 k l lt in absurd (omega arith) ]) is
 
   pub search_tells : (n : ℕ) (r : Result ℕ ℕ) → IsBinarySearchResult (λ y. nat_cmp y n) row r → IsTrue (is_ok r) ↔ Contains row n
-  search_tells n r h = go r (searched row n r h in_order)
+  search_tells n r h = go r (searched row n r h (in_order row rises))
     where
       go : (r : Result ℕ ℕ) → MatchResult r (λ i. (i < length row) × (get_or row i 0 ≡ n)) (λ i. (i ≤ length row) × ((k : ℕ) → k < i → get_or row k 0 < n) × ((k : ℕ) → i ≤ k → k < length row → n < get_or row k 0)) →
           IsTrue (is_ok r) ↔ Contains row n

@@ -1,6 +1,6 @@
 -- Items packed into numbers: the number of a dotted rule in the order of rows, and an origin.
 use Rattle.std.specs.Prelude.{◌≡◌, ◌≢◌, ℕ, ◌+◌, ◌/◌, ◌%◌, ◌++◌, ◌<◌, ◌≤◌, ◌^◌, ◌↔◌, List, length, map, Some, slice_get, slice_index_or, Contains}
-use Rattle.std.specs.List.{AllPairs}
+use Rattle.kernels.specs.Slots.{Rises}
 use Rattle.recognizer_model.specs.declared.Item.{Item}
 use Rattle.recognizer_model.specs.Flat.{FlatGrammar, rhs_of, part_of}
 use Rattle.item_rows.specs.Kept.{IsItem, StandsForTerminal}
@@ -23,9 +23,6 @@ unpacked rules n = record { rule = (dotted_at rules (n / 4294967296)).rule; dot 
 
 abbrev pub IsPacked : List Item → (n : ℕ) → Item → Type 0
 IsPacked rules n item = (n / 4294967296 < length rules) × (unpacked rules n ≡ item)
-
-abbrev pub Rises : List ℕ → Type 0
-Rises row = AllPairs (λ m n. m < n) row
 
 -- packed items in order, each once, with dotted rules of so many
 pub record IsPackedRow (count : ℕ) (row : List ℕ) : Type 0 where

@@ -1,20 +1,19 @@
 //! The dotted rules of a flat grammar, numbered in the order of rows, so that an item is a number and an origin.
-ghost use Rattle.std.specs.Prelude.{◌≡◌, ◌≢◌, ◌≤◌, ◌<◌, ◌/◌, ◌+◌, ◌^◌, ℕ, suc, [], length, Some, slice_get, Contains, IfOk, IfSome, IsNone, IsTrue, ◌↔◌, OnOk, OnErr};
+ghost use Rattle.std.specs.Prelude.{◌≡◌, ◌≢◌, ◌≤◌, ◌<◌, ◌/◌, ◌%◌, ◌+◌, ◌^◌, ℕ, suc, [], length, Some, slice_get, Contains, IfOk, IfSome, IsNone, IsTrue, ◌↔◌, OnOk, OnErr};
 ghost use Rattle.std.specs.List.{AllPairs};
 ghost use Rattle.recognizer_model.specs.declared.Item.{Item as TheItem};
 ghost use Rattle.recognizer_model.specs.Flat.{IsRule, rhs_of};
 ghost use Rattle.item_rows.specs.Order.{IsInOrder};
 ghost use Rattle.item_rows.specs.Kept.{IsItem, StandsForTerminal};
+ghost use Rattle.kernels.specs.Slots.{placed};
 ghost use Rattle.item_rows.specs.Dotted.{AddsDots, AreListed, AreNumbers, IsSpan, IsWholeSpan, IsTerminalSpan, AreSpans, IsTable, IsPacked, DifferInDots, dotted_at, begun_at, unpacked};
 
 use crate::order::{PAST_SYMBOLS, below, list_sorted, number_of};
 use grammar_core::{Flat, FlatSymbol};
+use kernels::ORIGINS;
 use recognizer_model::Item;
 use std::alloc::{AllocError, AllocFailed, Global};
 use std::marker::Model;
-
-// How many origins there may be.
-const ORIGINS: u64 = 4_294_967_296;
 
 /// The dotted rules that wait for a symbol: the number of the first, and where they end.
 #[derive(Clone, Copy)]
@@ -241,16 +240,17 @@ fn span_at(spans: &[Span], place: usize) -> Option<Span>
     spans.get(place).copied()
 }
 
-/// The item that is packed into a number.
-pub fn unpack(rules: &[Item], packed: u64) -> Item
-    requires { packed / 4294967296 < length rules.now }
-    ensures { result ≡ unpacked rules.now packed }
+/// The item of a slotted number: its dotted rule, with the origin of its slot.
+pub fn unpack(rules: &[Item], origins: &[u32], slotted: u64) -> Item
+    requires number { slotted / 4294967296 < length rules.now }
+    requires slot { slotted % 4294967296 < length origins.now }
+    ensures { result ≡ unpacked rules.now (placed origins.now slotted) }
 {
-    let dotted = rules[(packed / ORIGINS) as usize];
+    let dotted = rules[(slotted / ORIGINS) as usize];
     Item {
         rule: dotted.rule,
         dot: dotted.dot,
-        origin: (packed % ORIGINS) as u32,
+        origin: origins[(slotted % ORIGINS) as usize],
     }
 }
 

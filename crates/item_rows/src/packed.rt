@@ -1,13 +1,15 @@
-//! Rows of two parts: packed items, and the numbers of dotted rules that begin at the row's place.
+//! Rows of two parts: items of their own, and the numbers of dotted rules that begin at the row's place.
 ghost use Rattle.std.specs.Prelude.{◌≡◌, ◌≢◌, ℕ, List, ◌<◌, ◌≤◌, ◌-◌, ◌*◌, ◌/◌, ◌↔◌, [], length, map, take, drop, slice_index, slice_get, Some, IsTrue, OnOk, Contains};
 ghost use Rattle.std.specs.List.{AllPairs};
 ghost use Rattle.recognizer_model.specs.declared.Item.{Item as TheItem};
 ghost use Rattle.recognizer_model.specs.Counts.{IsListOf};
 ghost use Rattle.recognizer_model.specs.Items.{after, IsWhole};
 ghost use Rattle.item_rows.specs.Kept.{AreItems, IsAwaited, WaitsForTerminal};
-ghost use Rattle.item_rows.specs.Dotted.{unpacked, IsPackedRow, AreDotted, IsRowOfParts, AreWithin, row_items, Rises};
+ghost use Rattle.kernels.specs.Slots.{Rises, placed_all, AreSlotted};
+ghost use Rattle.item_rows.specs.Dotted.{unpacked, IsPackedRow, AreDotted, IsRowOfParts, AreWithin, row_items};
 
 use crate::dotted::{DottedRules, Span, begin, unpack};
+use kernels::{Kernel, ORIGINS, slot_of};
 use recognizer_model::Item;
 use std::alloc::{AllocError, AllocFailed};
 use std::marker::Model;
@@ -16,7 +18,7 @@ use std::marker::Model;
 #[derive(Drop)]
 pub struct Row<'r> {
     rules: &'r [Item],
-    packed: &'r [u64],
+    kernel: Kernel<'r>,
     begun: &'r [u32],
     earleme: u32,
 }
@@ -24,13 +26,17 @@ pub struct Row<'r> {
 impl<'r> Model for Row<'r> {
     ghost use Rattle.std.specs.Prelude.{List};
     ghost use Rattle.recognizer_model.specs.declared.Item.{Item};
+    ghost use Rattle.kernels.specs.Slots.{placed_all, AreSlotted};
     ghost use Rattle.item_rows.specs.Dotted.{row_items, IsRowOfParts};
 
     ghost Value = { List Item };
 
-    ghost view = { λ r. row_items r.rules.now r.earleme r.packed.now r.begun.now };
+    ghost view = { λ r. row_items r.rules.now r.earleme
+        (placed_all r.kernel.origins.now r.kernel.slotted.now) r.begun.now };
 
-    ghost invariant = { λ r. IsRowOfParts r.rules.now r.earleme r.packed.now r.begun.now };
+    ghost invariant = { λ r. AreSlotted r.kernel.origins.now r.kernel.slotted.now ×
+        IsRowOfParts r.rules.now r.earleme
+        (placed_all r.kernel.origins.now r.kernel.slotted.now) r.begun.now };
 }
 
 impl<'r> Row<'r> {
@@ -38,7 +44,7 @@ impl<'r> Row<'r> {
     pub fn len(&self) -> usize
         ensures { result ≡ length self.now }
     {
-        self.packed.len() + self.begun.len()
+        self.kernel.slotted.len() + self.begun.len()
     }
 
     /// An item, by its number.
@@ -46,9 +52,9 @@ impl<'r> Row<'r> {
         requires { k < length self.now }
         ensures { slice_get self.now k ≡ Some result }
     {
-        let own = self.packed.len();
+        let own = self.kernel.slotted.len();
         if k < own {
-            unpack(self.rules, self.packed[k])
+            unpack(self.rules, self.kernel.origins, self.kernel.slotted[k])
         } else {
             begin(self.rules, self.begun[k - own], self.earleme)
         }
@@ -56,13 +62,16 @@ impl<'r> Row<'r> {
 }
 
 /// A row of two parts.
-pub fn row_of<'r>(rules: &'r [Item], packed: &'r [u64], begun: &'r [u32], earleme: u32) -> Row<'r>
-    requires { IsRowOfParts rules.now earleme packed.now begun.now }
-    ensures { result ≡ row_items rules.now earleme packed.now begun.now }
+pub fn row_of<'r>(rules: &'r [Item], kernel: Kernel<'r>, begun: &'r [u32], earleme: u32) -> Row<'r>
+    requires slotted { AreSlotted kernel.origins.now kernel.slotted.now }
+    requires parts { IsRowOfParts rules.now earleme
+        (placed_all kernel.origins.now kernel.slotted.now) begun.now }
+    ensures { result ≡ row_items rules.now earleme
+        (placed_all kernel.entry.origins.now kernel.entry.slotted.now) begun.now }
 {
     Row {
         rules,
-        packed,
+        kernel,
         begun,
         earleme,
     }
@@ -265,17 +274,24 @@ fn first_of(number: u32) -> u64
 // The items of a row whose dotted rules are of a span.
 fn narrowed<'r>(
     dotted: &'r DottedRules<'_>,
-    packed: &'r [u64],
+    kernel: Kernel<'r>,
     begun: &'r [u32],
     earleme: u32,
     span: Span,
 ) -> Row<'r>
-    requires row { IsRowOfParts dotted.now.rules earleme packed.now begun.now }
+    requires slotted { AreSlotted kernel.origins.now kernel.slotted.now }
+    requires row { IsRowOfParts dotted.now.rules earleme
+        (placed_all kernel.origins.now kernel.slotted.now) begun.now }
     requires order { span.start ≤ span.end }
-    ensures { (own others : List ℕ) × AreWithin packed.now begun.now span own others ×
+    ensures { (own others : List ℕ) ×
+        AreWithin (placed_all kernel.entry.origins.now kernel.entry.slotted.now) begun.now span own
+        others ×
         (result ≡ row_items dotted.now.rules earleme own others) }
 {
-    let own = within_span(packed, span);
+    let own = Kernel {
+        slotted: within_span(kernel.slotted, span),
+        ..kernel
+    };
     let others = dotted_within(begun, span);
     row_of(dotted.rules(), own, others, earleme)
 }
@@ -283,60 +299,81 @@ fn narrowed<'r>(
 /// The items of a row that wait for a symbol.
 pub fn waiting<'r>(
     dotted: &'r DottedRules<'_>,
-    packed: &'r [u64],
+    kernel: Kernel<'r>,
     begun: &'r [u32],
     earleme: u32,
     symbol: u32,
 ) -> Row<'r>
-    requires { IsRowOfParts dotted.now.rules earleme packed.now begun.now }
+    requires slotted { AreSlotted kernel.origins.now kernel.slotted.now }
+    requires row { IsRowOfParts dotted.now.rules earleme
+        (placed_all kernel.origins.now kernel.slotted.now) begun.now }
     ensures { IsListOf
-        (λ item. Contains (row_items dotted.now.rules earleme packed.now begun.now) item ×
+        (λ item. Contains (row_items dotted.now.rules earleme
+        (placed_all kernel.entry.origins.now kernel.entry.slotted.now) begun.now) item ×
         (after dotted.now.flat item ≡ Some symbol))
         result }
 {
     dotted.known();
-    narrowed(dotted, packed, begun, earleme, dotted.span(symbol))
+    narrowed(dotted, kernel, begun, earleme, dotted.span(symbol))
 }
 
 /// The items of a row with the dot at the end.
 pub fn whole<'r>(
     dotted: &'r DottedRules<'_>,
-    packed: &'r [u64],
+    kernel: Kernel<'r>,
     begun: &'r [u32],
     earleme: u32,
 ) -> Row<'r>
-    requires { IsRowOfParts dotted.now.rules earleme packed.now begun.now }
+    requires slotted { AreSlotted kernel.origins.now kernel.slotted.now }
+    requires row { IsRowOfParts dotted.now.rules earleme
+        (placed_all kernel.origins.now kernel.slotted.now) begun.now }
     ensures { IsListOf
-        (λ item. Contains (row_items dotted.now.rules earleme packed.now begun.now) item ×
+        (λ item. Contains (row_items dotted.now.rules earleme
+        (placed_all kernel.entry.origins.now kernel.entry.slotted.now) begun.now) item ×
         IsWhole dotted.now.flat item)
         result }
 {
     dotted.known();
-    narrowed(dotted, packed, begun, earleme, dotted.whole())
+    narrowed(dotted, kernel, begun, earleme, dotted.whole())
 }
 
 /// The items of a row that wait for terminals.
 pub fn scanned<'r>(
     dotted: &'r DottedRules<'_>,
-    packed: &'r [u64],
+    kernel: Kernel<'r>,
     begun: &'r [u32],
     earleme: u32,
 ) -> Row<'r>
-    requires { IsRowOfParts dotted.now.rules earleme packed.now begun.now }
+    requires slotted { AreSlotted kernel.origins.now kernel.slotted.now }
+    requires row { IsRowOfParts dotted.now.rules earleme
+        (placed_all kernel.origins.now kernel.slotted.now) begun.now }
     ensures { IsListOf
-        (λ item. Contains (row_items dotted.now.rules earleme packed.now begun.now) item ×
+        (λ item. Contains (row_items dotted.now.rules earleme
+        (placed_all kernel.entry.origins.now kernel.entry.slotted.now) begun.now) item ×
         WaitsForTerminal dotted.now.flat item)
         result }
 {
     dotted.known();
-    narrowed(dotted, packed, begun, earleme, dotted.scanned())
+    narrowed(dotted, kernel, begun, earleme, dotted.scanned())
 }
 
-fn has_packed(packed: &[u64], number: u64) -> bool
-    requires { Rises packed.now }
-    ensures { IsTrue result ↔ Contains packed.now number }
+fn has_slotted(slotted: &[u64], number: u64) -> bool
+    requires { Rises slotted.now }
+    ensures { IsTrue result ↔ Contains slotted.now number }
 {
-    packed.binary_search(&number).is_ok()
+    slotted.binary_search(&number).is_ok()
+}
+
+// Whether a packed item is one of a kernel.
+fn has_own(kernel: Kernel<'_>, number: u64) -> bool
+    requires { AreSlotted kernel.origins.now kernel.slotted.now }
+    ensures { IsTrue result ↔
+        Contains (placed_all kernel.entry.origins.now kernel.entry.slotted.now) number }
+{
+    match slot_of(kernel.origins, (number % ORIGINS) as u32) {
+        Some(slot) => has_slotted(kernel.slotted, number / ORIGINS * ORIGINS + slot as u64),
+        None => false,
+    }
 }
 
 fn has_dotted(begun: &[u32], number: u32) -> bool
@@ -349,20 +386,23 @@ fn has_dotted(begun: &[u32], number: u32) -> bool
 /// Whether an item is in a row.
 pub fn contains(
     dotted: &DottedRules<'_>,
-    packed: &[u64],
+    kernel: Kernel<'_>,
     begun: &[u32],
     earleme: u32,
     item: Item,
 ) -> bool
-    requires { IsRowOfParts dotted.now.rules earleme packed.now begun.now }
+    requires slotted { AreSlotted kernel.origins.now kernel.slotted.now }
+    requires row { IsRowOfParts dotted.now.rules earleme
+        (placed_all kernel.origins.now kernel.slotted.now) begun.now }
     ensures { IsTrue result ↔
-        Contains (row_items dotted.now.rules earleme packed.now begun.now) item }
+        Contains (row_items dotted.now.rules earleme
+        (placed_all kernel.entry.origins.now kernel.entry.slotted.now) begun.now) item }
 {
     dotted.known();
     match dotted.pack(item) {
         Some(number) => {
-            has_packed(packed, number)
-                || item.origin == earleme && has_dotted(begun, (number / 4_294_967_296) as u32)
+            has_own(kernel, number)
+                || item.origin == earleme && has_dotted(begun, (number / ORIGINS) as u32)
         }
         None => false,
     }

@@ -1,17 +1,17 @@
 //! Rows of items, and the lists that they share.
-ghost use Rattle.std.specs.Prelude.{◌≡◌, ◌≢◌, ℕ, List, ◌<◌, ◌≤◌, ◌↔◌, ◌⊎◌, ◌++◌, ◌∷◌, [], length, map, sum, take, slice_index_or, ◌+◌, ◌^◌, Some, Contains, IsTrue, IfOk, OnOk, OnErr};
+ghost use Rattle.std.specs.Prelude.{◌≡◌, ◌≢◌, ℕ, List, ◌<◌, ◌≤◌, ◌↔◌, ◌⊎◌, ◌++◌, ◌∷◌, [], length, map, sum, ◌+◌, ◌^◌, Some, Contains, IsTrue, IfOk, OnOk, OnErr};
 ghost use Rattle.std.specs.List.{AllPairs};
 ghost use Rattle.recognizer_model.specs.declared.Item.{Item as TheItem};
 ghost use Rattle.recognizer_model.specs.Counts.{IsListOf};
 ghost use Rattle.recognizer_model.specs.Items.{after, IsWhole};
 ghost use Rattle.item_rows.specs.Rows.{row_at, shared_at, with_row, IsBegunAt};
-ghost use Rattle.item_rows.specs.Held.{shared_by};
 ghost use Rattle.item_rows.specs.Kept.{AreItems, IsAwaited, WaitsForTerminal};
 
 use crate::dotted::DottedRules;
 use crate::packed::{Row, contains, list_dotted, pack_row, row_of, scanned, waiting, whole};
 use grammar_core::Flat;
 use jagged::Jagged;
+use kernels::Kernels;
 use recognizer_model::Item;
 use std::alloc::{AllocError, Global};
 use std::marker::Model;
@@ -19,10 +19,8 @@ use std::marker::Model;
 /// Rows of items of a flat grammar. A row is a list of its own and one that rows share.
 pub struct Rows<'g> {
     dotted: DottedRules<'g>,
-    // the packed items that are a row's own, row by row
-    kernels: Jagged<u64>,
-    // the number of the list that a row shares, row by row
-    begun: Vec<u32>,
+    // the items that are a row's own, and the number of the list that it shares, row by row
+    kernels: Kernels,
     // the lists that rows share
     lists: Jagged<u32>,
     // how many items the rows have together
@@ -37,7 +35,6 @@ impl<'g> Drop for Rows<'g> {
         let Rows {
             dotted: _,
             kernels: _,
-            begun: _,
             lists: _,
             count: _,
             next: _,
@@ -54,11 +51,11 @@ impl<'g> Model for Rows<'g> {
 
     ghost view = { λ r. record {
       flat = r.dotted.flat;
-      sets = rows_from r.dotted.rules r.lists r.begun.items 0 r.kernels;
+      sets = rows_from r.dotted.rules r.lists 0 r.kernels;
       shared = lists_from r.dotted.rules r.lists;
     } };
 
-    ghost invariant = { λ r. AreHeld r.dotted.rules r.lists r.begun.items r.kernels r.count };
+    ghost invariant = { λ r. AreHeld r.dotted.rules r.lists r.kernels r.count };
 }
 
 impl<'g> Rows<'g> {
@@ -71,8 +68,7 @@ impl<'g> Rows<'g> {
         lists.push(&[])?;
         Ok(Rows {
             dotted,
-            kernels: Jagged::new(alloc),
-            begun: Vec::new(alloc),
+            kernels: Kernels::new(alloc),
             lists,
             count: 0,
             next: Vec::new(alloc),
@@ -99,9 +95,9 @@ impl<'g> Rows<'g> {
         requires { j < length self.now.sets }
         ensures { result ≡ row_at self.now.sets j }
     {
-        let packed = self.kernels.row(j);
-        let begun = list_of(&self.lists, &self.begun, j);
-        row_of(self.dotted.rules(), packed, begun, j as u32)
+        let kernel = self.kernels.kernel(j);
+        let begun = self.lists.row(kernel.begun as usize);
+        row_of(self.dotted.rules(), kernel, begun, j as u32)
     }
 
     /// The items of a row that wait for a symbol.
@@ -112,9 +108,9 @@ impl<'g> Rows<'g> {
             (after self.now.flat item ≡ Some symbol))
             result }
     {
-        let packed = self.kernels.row(j);
-        let begun = list_of(&self.lists, &self.begun, j);
-        waiting(&self.dotted, packed, begun, j as u32, symbol)
+        let kernel = self.kernels.kernel(j);
+        let begun = self.lists.row(kernel.begun as usize);
+        waiting(&self.dotted, kernel, begun, j as u32, symbol)
     }
 
     /// The items of a row with the dot at the end.
@@ -123,9 +119,9 @@ impl<'g> Rows<'g> {
         ensures { IsListOf
             (λ item. Contains (row_at self.now.sets j) item × IsWhole self.now.flat item) result }
     {
-        let packed = self.kernels.row(j);
-        let begun = list_of(&self.lists, &self.begun, j);
-        whole(&self.dotted, packed, begun, j as u32)
+        let kernel = self.kernels.kernel(j);
+        let begun = self.lists.row(kernel.begun as usize);
+        whole(&self.dotted, kernel, begun, j as u32)
     }
 
     /// The items of a row that wait for terminals.
@@ -135,9 +131,9 @@ impl<'g> Rows<'g> {
             (λ item. Contains (row_at self.now.sets j) item × WaitsForTerminal self.now.flat item)
             result }
     {
-        let packed = self.kernels.row(j);
-        let begun = list_of(&self.lists, &self.begun, j);
-        scanned(&self.dotted, packed, begun, j as u32)
+        let kernel = self.kernels.kernel(j);
+        let begun = self.lists.row(kernel.begun as usize);
+        scanned(&self.dotted, kernel, begun, j as u32)
     }
 
     /// Whether an item is in a row.
@@ -145,9 +141,9 @@ impl<'g> Rows<'g> {
         requires { j < length self.now.sets }
         ensures { IsTrue result ↔ Contains (row_at self.now.sets j) item }
     {
-        let packed = self.kernels.row(j);
-        let begun = list_of(&self.lists, &self.begun, j);
-        contains(&self.dotted, packed, begun, j as u32, item)
+        let kernel = self.kernels.kernel(j);
+        let begun = self.lists.row(kernel.begun as usize);
+        contains(&self.dotted, kernel, begun, j as u32, item)
     }
 
     /// Keeps the first row alone, and the lists that rows share.
@@ -155,8 +151,7 @@ impl<'g> Rows<'g> {
         requires { 0 < length self.old.sets }
         ensures { self.new ≡ record self.old { sets = row_at self.old.sets 0 ∷ [] } }
     {
-        let own = self.kernels.row(0).len();
-        let count = own + list_of(&self.lists, &self.begun, 0).len();
+        let count = self.row(0).len();
         self.kernels.keep_first();
         self.count = count;
     }
@@ -203,20 +198,10 @@ impl<'g> Rows<'g> {
         pack_row(&self.dotted, items, &mut self.next)?;
         let size = self.next.len() + self.lists.row(begun as usize).len();
         let count = add(self.count, size)?;
-        put_number(&mut self.begun, earleme, begun)?;
-        self.kernels.push(&self.next)?;
+        self.kernels.push(&self.next, begun)?;
         self.count = count;
         Ok(())
     }
-}
-
-// The list that a row shares.
-fn list_of<'r>(lists: &'r Jagged<u32>, begun: &[u32], j: usize) -> &'r [u32]
-    requires place { j < length begun.now }
-    requires known { (k : ℕ) → k ≤ j → slice_index_or begun.now k 0 < length lists.now }
-    ensures { result.now ≡ shared_by lists.now begun.now j }
-{
-    lists.row(begun[j] as usize)
 }
 
 fn add(count: usize, more: usize) -> Result<usize, AllocError>
@@ -227,16 +212,4 @@ fn add(count: usize, more: usize) -> Result<usize, AllocError>
         Some(sum) => Ok(sum),
         None => Err(AllocError),
     }
-}
-
-// Puts the number of a list after the first numbers.
-fn put_number(numbers: &mut Vec<u32>, first: usize, number: u32) -> Result<(), AllocError>
-    requires { first ≤ length numbers.old.items }
-    ensures ok { OnOk result (numbers.new.items ≡ take first numbers.old.items ++ number ∷ []) }
-    ensures long { first ≤ length numbers.new.items }
-    ensures same { take first numbers.new.items ≡ take first numbers.old.items }
-{
-    numbers.truncate(first);
-    numbers.push(number)?;
-    Ok(())
 }

@@ -4,11 +4,12 @@ use Rattle.recognizer_model.specs.Flat.{rhs_of}
 use Rattle.recognizer_model.specs.Items.{IsWhole}
 use Rattle.recognizer_model.specs.Counts.{IsListOf}
 use Rattle.item_rows.specs.Dotted.{row_items}
+use Rattle.kernels.specs.Slots.{placed_all}
 use Rattle.item_rows.proofs.Joined.{row_of_kind}
 use Rattle.item_rows.proofs.packed.whole.Goals as goal
 
 pub returns : goal.returns
 returns c =
     let (own, others, within, is) = c.narrowed.ensures in
-    subst (λ (l : List Item). IsListOf (λ item. Contains (row_items c.args.dotted.now.rules c.args.earleme c.args.packed.now c.args.begun.now) item × IsWhole c.args.dotted.now.flat item) l) (sym is)
-    (row_of_kind c.args.dotted.now.rules c.args.earleme c.args.packed.now c.args.begun.now c.requires c.known.ensures.differ (λ rule dot. dot ≡ length (rhs_of c.args.dotted.now.flat rule)) c.whole.result c.whole.ensures own others within)
+    subst (λ (l : List Item). IsListOf (λ item. Contains (row_items c.args.dotted.now.rules c.args.earleme (placed_all c.args.kernel.origins.now c.args.kernel.slotted.now) c.args.begun.now) item × IsWhole c.args.dotted.now.flat item) l) (sym is)
+    (row_of_kind c.args.dotted.now.rules c.args.earleme (placed_all c.args.kernel.origins.now c.args.kernel.slotted.now) c.args.begun.now c.requires.row c.known.ensures.differ (λ rule dot. dot ≡ length (rhs_of c.args.dotted.now.flat rule)) c.whole.result c.whole.ensures own others within)

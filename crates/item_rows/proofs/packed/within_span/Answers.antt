@@ -1,5 +1,5 @@
 use Rattle.std.proofs.Common.{ℕ, sym, subst, List, Contains, arith}
-use Rattle.item_rows.specs.Dotted.{Rises}
+use Rattle.kernels.specs.Slots.{Rises}
 use Rattle.item_rows.proofs.Packing.{part_order, part_exact, part_rises}
 use Rattle.item_rows.proofs.packed.within_span.Goals as goal
 

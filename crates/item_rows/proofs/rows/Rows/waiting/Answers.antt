@@ -3,31 +3,29 @@ use Rattle.recognizer_model.specs.declared.Item.{Item}
 use Rattle.recognizer_model.specs.Flat.{FlatGrammar}
 use Rattle.recognizer_model.specs.Items.{after}
 use Rattle.recognizer_model.specs.Counts.{IsListOf}
+use Rattle.kernels.specs.Slots.{placed_all}
 use Rattle.item_rows.specs.Rows.{row_at}
-use Rattle.item_rows.proofs.Holding.{same_flat, in_kernels, in_begun, numbers_below, fits, parts_here, items_here}
+use Rattle.item_rows.proofs.Holding.{same_flat, in_kernels, list_there, fits, parts_here, items_here}
 use Rattle.item_rows.proofs.rows.Rows.waiting.Goals as goal
 
-pub row-packed-requires : goal.row-packed-requires
-row-packed-requires c = in_kernels c.self.inside.dotted.flat c.self.inside.dotted.rules c.self.inside.lists c.self.inside.begun.items c.self.inside.kernels c.args.self.now c.self.view_is c.args.j c.requires
+pub kernel-kernel-requires : goal.kernel-kernel-requires
+kernel-kernel-requires c = in_kernels c.self.inside.dotted.flat c.self.inside.dotted.rules c.self.inside.lists c.self.inside.kernels c.args.self.now c.self.view_is c.args.j c.requires
 
-pub list_of-begun-requires-clause-place : goal.list_of-begun-requires-clause-place
-list_of-begun-requires-clause-place c = in_begun c.self.inside.dotted.flat c.self.inside.dotted.rules c.self.inside.lists c.self.inside.begun.items c.self.inside.kernels c.args.self.now c.self.view_is c.self.inside.count c.self.invariant c.args.j c.requires c.deref.result.now c.deref.ensures.value
-
-pub list_of-begun-requires-clause-known : goal.list_of-begun-requires-clause-known
-list_of-begun-requires-clause-known c = numbers_below c.self.inside.dotted.flat c.self.inside.dotted.rules c.self.inside.lists c.self.inside.begun.items c.self.inside.kernels c.args.self.now c.self.view_is c.self.inside.count c.self.invariant c.args.j c.requires c.deref.result.now c.deref.ensures.value
+pub row-begun-requires : goal.row-begun-requires
+row-begun-requires c = list_there c.self.inside.dotted.flat c.self.inside.dotted.rules c.self.inside.lists c.self.inside.kernels c.args.self.now c.self.view_is c.self.inside.count c.self.invariant c.args.j c.requires c.kernel-kernel.result.begun c.kernel-kernel.ensures.begun
 
 pub overflow_cast-j : goal.overflow_cast-j
-overflow_cast-j c = let f = fits c.self.inside.dotted.flat c.self.inside.dotted.rules c.self.inside.lists c.self.inside.begun.items c.self.inside.kernels c.args.self.now c.self.view_is c.self.inside.count c.self.invariant c.args.j c.requires in omega arith
+overflow_cast-j c = let f = fits c.self.inside.dotted.flat c.self.inside.dotted.rules c.self.inside.lists c.self.inside.kernels c.args.self.now c.self.view_is c.self.inside.count c.self.invariant c.args.j c.requires in omega arith
 
-pub waiting-requires : goal.waiting-requires
-waiting-requires c =
-    parts_here c.self.inside.dotted.flat c.self.inside.dotted.rules c.self.inside.lists c.self.inside.begun.items c.self.inside.kernels c.args.self.now c.self.view_is c.self.inside.count c.self.invariant c.args.j c.requires c.deref.result.now c.deref.ensures.value
-    c.row-packed.result.now c.list_of-begun.result.now c.row-packed.ensures c.list_of-begun.ensures
+pub waiting-requires-clause-row : goal.waiting-requires-clause-row
+waiting-requires-clause-row c =
+    parts_here c.self.inside.dotted.flat c.self.inside.dotted.rules c.self.inside.lists c.self.inside.kernels c.args.self.now c.self.view_is c.self.inside.count c.self.invariant c.args.j c.requires c.kernel-kernel.result.begun c.kernel-kernel.ensures.begun
+    (placed_all c.kernel-kernel.result.origins.now c.kernel-kernel.result.slotted.now) c.row-begun.result.now c.kernel-kernel.ensures.packed c.row-begun.ensures
 
 pub returns : goal.returns
 returns c =
     subst (λ (f : FlatGrammar). IsListOf (λ item. Contains (row_at c.args.self.now.sets c.args.j) item × (after f item ≡ Some c.args.symbol)) c.waiting.result)
-    (same_flat c.self.inside.dotted.flat c.self.inside.dotted.rules c.self.inside.lists c.self.inside.begun.items c.self.inside.kernels c.args.self.now c.self.view_is)
+    (same_flat c.self.inside.dotted.flat c.self.inside.dotted.rules c.self.inside.lists c.self.inside.kernels c.args.self.now c.self.view_is)
     (subst (λ (l : List Item). IsListOf (λ item. Contains l item × (after c.self.inside.dotted.flat item ≡ Some c.args.symbol)) c.waiting.result)
-    (items_here c.self.inside.dotted.flat c.self.inside.dotted.rules c.self.inside.lists c.self.inside.begun.items c.self.inside.kernels c.args.self.now c.self.view_is c.self.inside.count c.self.invariant c.args.j c.requires c.deref.result.now c.deref.ensures.value
-    c.row-packed.result.now c.list_of-begun.result.now c.row-packed.ensures c.list_of-begun.ensures) c.waiting.ensures)
+    (items_here c.self.inside.dotted.flat c.self.inside.dotted.rules c.self.inside.lists c.self.inside.kernels c.args.self.now c.self.view_is c.self.inside.count c.self.invariant c.args.j c.requires c.kernel-kernel.result.begun c.kernel-kernel.ensures.begun
+    (placed_all c.kernel-kernel.result.origins.now c.kernel-kernel.result.slotted.now) c.row-begun.result.now c.kernel-kernel.ensures.packed c.row-begun.ensures) c.waiting.ensures)

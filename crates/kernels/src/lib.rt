@@ -1,0 +1,8 @@
+//! What rows of items have of their own, held by shapes, which many rows have alike, and origins.
+#![tactic(auto)]
+
+mod shapes;
+mod slots;
+
+pub use shapes::{Kernel, Kernels};
+pub use slots::{ORIGINS, slot_of};
