@@ -5,7 +5,7 @@ what it writes. Nothing of the toolchain is needed.
     bench/examples.py [--programs FOLDER] [--page FILE ..]
 
 FOLDER has the programs `slif` and `slif_show`; without it those are taken that were built here, as crates/slif/out/slif. An example that calls
-another program (`slif_glades`, `slif_lint`, `calculator`) is left out, and counted, where that program is not there.
+another program (`slif_glades`, `slif_lint`, `calculator`, `ini_json`) is left out, and counted, where that program is not there.
 
 An indented block whose first line is a comment with a name, as `# sum.slif`, is a file of that name; of one as `# words.script` that line is no
 part. Of a manual page the blocks between `.nf` and `.fi` are taken. A line of a block that begins with `$` is a command, and the lines below it are all that it writes, to standard
@@ -17,7 +17,7 @@ import argparse, os, pathlib, re, subprocess, sys, tempfile
 INDENT = "    "
 ROOT = pathlib.Path(__file__).resolve().parent.parent
 PAGES = ["README.md", "docs/LANGUAGE.md", "docs/LIBRARY.md", "docs/slif.1", "docs/slif_show.1", "docs/slif_glades.1", "docs/slif_lint.1"]
-PROGRAMS = ["slif", "slif_show", "slif_glades", "slif_lint", "calculator"]
+PROGRAMS = ["slif", "slif_show", "slif_glades", "slif_lint", "calculator", "ini_json"]
 
 
 def blocks_of(page):

@@ -1,0 +1,4 @@
+pub mod Settings
+pub mod Json
+pub mod Nodes
+pub mod Texts
