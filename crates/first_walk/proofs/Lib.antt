@@ -1,0 +1,12 @@
+pub mod Firsts
+pub mod Heads
+pub mod Rules
+pub mod Parts
+pub mod Listing
+pub mod Choosing
+pub mod Numbers
+pub mod Goings
+pub mod Orders
+pub mod Choices
+pub mod Backwards
+pub mod Counts

@@ -1,0 +1,11 @@
+//! The first derivation of a reading, by a walk from the last place to the first, without a forest.
+#![tactic(auto)]
+
+mod laws;
+mod place;
+mod steps;
+mod walk;
+
+pub use laws::walks_are_first;
+pub use steps::FlatStep;
+pub use walk::{Walked, first_derivation};
