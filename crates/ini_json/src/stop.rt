@@ -18,6 +18,7 @@ impl Stop {
         match self {
             Stop::Parse(ParseError::NoMemory) => 5,
             Stop::Parse(_) => 1,
+            Stop::Outside(error) if error.kind() == io::ErrorKind::OutOfMemory => 5,
             Stop::Outside(_) => 4,
         }
     }
