@@ -1,5 +1,5 @@
 -- Over reduced sets, what is not kept and leads to an item are the hidden items below it.
-use Rattle.std.proofs.Common.{◌≡◌, ◌↔◌, ℕ, ◌-◌, ◌<◌, ◌≤◌, List, length, Contains, subst, arith}
+use Rattle.std.proofs.Common.{◌≡◌, ◌↔◌, ℕ, ◌-◌, ◌<◌, ◌≤◌, List, length, Contains, refl, subst, arith}
 use Rattle.std.specs.Prelude.{slice_index}
 use Rattle.grammar_model.specs.declared.Edge.{Edge as HeldEdge}
 use Rattle.grammar_model.specs.Derives.{Held}
@@ -8,19 +8,20 @@ use Rattle.recognizer_model.specs.Flat.{FlatGrammar, lhs_of}
 use Rattle.recognizer_model.specs.FlatForm.{FlatEdges}
 use Rattle.recognizer_model.specs.Items.{IsWhole, advanced}
 use Rattle.recognizer_model.specs.Contexts.{IsTop}
-use Rattle.recognizer_model.specs.Leo.{IsLeo, LeadsTo}
+use Rattle.recognizer_model.specs.Leo.{IsLeo, LeadsTo, GoesForward, InReduced, IsHidden}
 use Rattle.recognizer_model.specs.Below.{IsBelow}
 use Rattle.recognizer_model.specs.Counts.{IsListOf}
 use Rattle.recognizer_model.proofs.Over.{hidden_whole}
+use Rattle.recognizer_model.proofs.Leo.{origin_below}
 use Rattle.item_rows.specs.Rows.{row_at}
 use Rattle.item_rows.specs.Kept.{AreRows}
 use Rattle.leo_items.specs.Memo.{Note}
 use Rattle.earley_sets.specs.Scanning.{GoForward, AreReduced}
-use Rattle.leo_items.specs.Hidden.{IsSingleStep}
+use Rattle.leo_items.specs.Hidden.{IsSingleStep, SomeStepsTwice}
 use Rattle.leo_items.specs.Hidden.{LeadsUpIn, IsBottomIn, IsBelowIn, IsBottomOf, IsBelowOf}
 use Rattle.earley_sets.specs.Recognizer.{IsKept}
 use Rattle.earley_sets.proofs.ByRows.{goes_forward, to_leo, from_leo, to_leads, from_leads}
-use Rattle.earley_sets.proofs.Hiding.{hidden_is}
+use Rattle.earley_sets.proofs.Hiding.{hidden_is, expanded_kept}
 use Rattle.earley_sets.proofs.Recognizing.{recognizer, kept_top, kept_sets}
 
 -- over reduced sets these are the hidden items below the item
@@ -67,11 +68,44 @@ module _ (g : FlatGrammar) (start : ℕ) (edges : List HeldEdge) (rows : List (L
   up_there item topmost = subst (λ t. LeadsUpIn g rows j item topmost ↔ ((item.origin < j) × LeadsTo g (FlatEdges g (Held edges)) t item.origin (lhs_of g item.rule) topmost)) k.top_is
       (up_is g edges top (kept_top g start edges rows top notes k) k.is.forward rows k.rows (kept_sets g start edges rows top notes k) j there topmost item)
 
-  pub step_there : (item other : Item) →
-      IsSingleStep g rows j 0 item other ↔ ((item.origin < j) × ((leo : Item) × IsLeo g (FlatEdges g (Held edges)) (slice_index g.tops start) item.origin (lhs_of g item.rule) leo × (other ≡ advanced leo)))
+  abbrev StepsThere : (item other : Item) → Type 0
+  StepsThere item other = (item.origin < j) × ((leo : Item) × IsLeo g (FlatEdges g (Held edges)) (slice_index g.tops start) item.origin (lhs_of g item.rule) leo × (other ≡ advanced leo))
+
+  pub step_there : (item other : Item) → IsSingleStep g rows j 0 item other ↔ StepsThere item other
   step_there item other =
       subst (λ t. IsSingleStep g rows j 0 item other ↔ ((item.origin < j) × ((leo : Item) × IsLeo g (FlatEdges g (Held edges)) t item.origin (lhs_of g item.rule) leo × (other ≡ advanced leo)))) k.top_is
       (step_is g edges top (kept_top g start edges rows top notes k) k.is.forward rows k.rows (kept_sets g start edges rows top notes k) j there other item)
+
+  -- two single steps from a kept whole item, by rows and by sets
+  module _ (from : ℕ) where
+    abbrev pub TwiceThere : Type 0
+    TwiceThere = (item : Item) × (Contains (row_at rows j) item × IsWhole g item) × ((step : Item) × (StepsThere item step × (from ≤ step.origin)) × ((next : Item) × StepsThere step next))
+
+    pub twice_there : SomeStepsTwice g rows j from ↔ TwiceThere
+    twice_there = (
+      λ (item, is, (step, (lt, up, le), (next, n))). (item, is, (step, ((step_there item step).0 (lt, up, omega arith), le), (next, (step_there step next).0 n))),
+      λ (item, is, (step, (s, le), (next, n))). (item, is, (step, (let (lt, up, low) = (step_there item step).1 s in (lt, up, le)), (next, (step_there step next).1 n))),
+    )
+
+    -- where there are none, nothing is hidden that begins there or after it
+    pub none_there : (¬ TwiceThere) → (item : Item) → from ≤ item.origin → ¬ IsHidden g (FlatEdges g (Held edges)) (slice_index g.tops start) j item
+    none_there none item le hidden = hidden.1 (expanded_kept g (FlatEdges g (Held edges)) (slice_index g.tops start) is_top forward from (λ whole leo above k w lt l low up. none (
+      whole,
+      ((k_exact whole).1 k, w),
+      (advanced leo, ((lt, (leo, l, refl)), low), (advanced above, (before whole leo lt l, (above, up, refl)))),
+    )) hidden.0 le)
+      where
+        is_top : IsTop g (slice_index g.tops start)
+        is_top = subst (IsTop g) k.top_is (kept_top g start edges rows top notes k)
+
+        forward : GoesForward (FlatEdges g (Held edges))
+        forward = goes_forward g edges top (kept_top g start edges rows top notes k) k.is.forward
+
+        k_exact : (item : Item) → Contains (row_at rows j) item ↔ InReduced g (FlatEdges g (Held edges)) (slice_index g.tops start) j item
+        k_exact = (k.is.exact j there).exact
+
+        before : (whole leo : Item) → whole.origin < j → IsLeo g (FlatEdges g (Held edges)) (slice_index g.tops start) whole.origin (lhs_of g whole.rule) leo → leo.origin < j
+        before whole leo lt l = let low = origin_below g (FlatEdges g (Held edges)) (slice_index g.tops start) is_top forward l.inside in omega arith
 
   abbrev IsBottomThere : (topmost item : Item) → Type 0
   IsBottomThere topmost item = Contains (row_at rows j) item × IsWhole g item × (item.origin < j) × LeadsTo g (FlatEdges g (Held edges)) (slice_index g.tops start) item.origin (lhs_of g item.rule) topmost

@@ -1,13 +1,13 @@
 -- Over reduced sets, what single steps lead to from whole items are the hidden items.
 use Rattle.std.proofs.Common.{◌≡◌, ◌↔◌, ◌⊎◌, inl, inr, ℕ, ◌<◌, ◌≤◌, List, length, Contains, refl, sym, subst, arith}
 use Rattle.grammar_model.specs.declared.Edge.{Edge as HeldEdge}
-use Rattle.grammar_model.specs.Derives.{Held}
+use Rattle.grammar_model.specs.Derives.{Edges, Held}
 use Rattle.recognizer_model.specs.declared.Item.{Item}
 use Rattle.recognizer_model.specs.Flat.{FlatGrammar, lhs_of}
 use Rattle.recognizer_model.specs.FlatForm.{FlatEdges}
 use Rattle.recognizer_model.specs.Items.{IsWhole, InSet}
 use Rattle.recognizer_model.specs.Contexts.{IsTop}
-use Rattle.recognizer_model.specs.Leo.{InReduced, InExpanded, IsHidden}
+use Rattle.recognizer_model.specs.Leo.{IsLeo, LeadsTo, GoesForward, InReduced, InExpanded, IsHidden}
 use Rattle.recognizer_model.specs.Counts.{IsListOf}
 use Rattle.recognizer_model.proofs.Leo.{origin_below, reduced_inside, expanded_inside, expands_to_all}
 use Rattle.recognizer_model.proofs.Over.{hidden_whole}
@@ -55,3 +55,15 @@ module _ (g : FlatGrammar) (edges : List HeldEdge) (top : ℕ) (is_top : IsTop g
         elim (decide (row_at rows earleme) item) [ inl c ↦ inl c | inr none ↦ inr ((lists.exact item).1 (in_stepped x refl w le, none)) ]
         ),
   )
+
+-- where no two single steps lead on from a kept whole item, of which the first leads to one that begins at a place or after it, all items of the expanded set that begin so are kept
+module _ (g : FlatGrammar) (E : Edges) (top : ℕ) (is_top : IsTop g top) (forward : GoesForward E) (from : ℕ) where
+  abbrev pub NoneStepsTwice : (j : ℕ) → Type 0
+  NoneStepsTwice j = (whole leo above : Item) → InReduced g E top j whole → IsWhole g whole → whole.origin < j → IsLeo g E top whole.origin (lhs_of g whole.rule) leo → from ≤ leo.origin → ¬ IsLeo g E top leo.origin (lhs_of g leo.rule) above
+
+  pub expanded_kept : {j : ℕ} {item : Item} → NoneStepsTwice j → InExpanded g E top j item → from ≤ item.origin → InReduced g E top j item
+  expanded_kept none (InExpanded.Kept k) le = k
+  expanded_kept none (InExpanded.Step {whole = before} {item = leo} x whole lt l) le =
+      let low = origin_below g E top is_top forward l.inside in
+      let k = expanded_kept none x (omega (arith, low, le)) in
+      InReduced.Leap k whole lt (LeadsTo.Last l (λ above up. none before leo above k whole lt l le up))

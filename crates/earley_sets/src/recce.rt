@@ -17,7 +17,7 @@ ghost use Rattle.item_rows.specs.Heads.{AreHeads};
 ghost use Rattle.earley_sets.specs.Begun.{AreLists};
 ghost use Rattle.earley_sets.specs.Scanning.{GoForward, AreReduced, AddsRow};
 ghost use Rattle.earley_sets.specs.Tried.{RisesByLinks};
-ghost use Rattle.earley_sets.specs.Below.{StepsTo, LeadsUp, IsBottom, IsBottomOf, StandsBelowOf};
+ghost use Rattle.earley_sets.specs.Below.{StepsTo, SomeStepsTwice, LeadsUp, IsBottom, IsBottomOf, StandsBelowOf};
 ghost use Rattle.earley_sets.specs.Recognizer.{Recognizer, earleme_of, set_at, edges_of, top_of, made, new_edge, IsExpected, HasTree, IsRecognizer};
 ghost use Rattle.earley_sets.specs.declared.recce.AlternativeRefusal.TheVariants.{Unexpected, Duplicate, BadLength};
 
@@ -28,7 +28,7 @@ use item_rows::{
     Heads, Marks, Row, Rows, ascending, is_marked, list_heads, mark_row, new_marks, symbol_of,
     take_marks,
 };
-use leo_items::{Memo, list_below, list_hidden, top_above};
+use leo_items::{Memo, list_below, list_hidden, some_steps_twice, top_above};
 use recognizer_model::Item;
 use slif_base::Steps;
 use std::alloc::{AllocError, Global};
@@ -504,9 +504,23 @@ impl<'g> Recce<'g> {
         ensures counted { IfOk result (λ items. steps.new ≡ steps.old + length items.items) }
         ensures err { OnErr result (steps.new ≡ steps.old) }
     {
+        if !some_steps_twice(self.flat, &self.rows, j, from) {
+            return Ok(Vec::new(alloc));
+        }
         let hidden = list_hidden(alloc, self.flat, &self.rows, j, from)?;
         count(&hidden, steps);
         Ok(hidden)
+    }
+
+    /// Whether a set may have hidden items that begin at a place or after it: whether two single steps lead on from a whole item that is
+    /// kept, the first to such an item.
+    pub fn may_hide(&self, j: u32, from: u32) -> bool
+        requires { j ≤ earleme_of self.now }
+        ensures exact { IsTrue result ↔ SomeStepsTwice self.now j from }
+        ensures none { (¬ IsTrue result) → (item : Item) → from ≤ item.origin →
+            ¬ IsHidden self.now.flat (edges_of self.now) (top_of self.now) j item }
+    {
+        some_steps_twice(self.flat, &self.rows, j, from)
     }
 
     /// The item of a set to which completions of a whole one lead in the end, if one step alone leads on from it.

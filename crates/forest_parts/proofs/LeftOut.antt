@@ -1,5 +1,5 @@
 -- An item that the ranking leaves out stands in no chosen derivation where it does.
-use Rattle.std.proofs.Common.{◌≡◌, ℕ, ℤ, ◌≤◌, ◌≤ℤ◌, ◌<ℤ◌, Contains, length, arith}
+use Rattle.std.proofs.Common.{ℕ, ℤ, ◌≤◌, ◌≤ℤ◌, ◌<ℤ◌, length, arith}
 use Rattle.std.proofs.lemmas.Int.{ints}
 use Rattle.grammar_model.specs.declared.Ranking.{Ranking}
 use Rattle.grammar_model.specs.declared.Ranking.TheVariants.{None as NoRanks, Rule as RuleRanks, High as HighRanks}

@@ -1,12 +1,13 @@
 -- Topmost items that may be those of nodes, and the hidden items below them.
-use Rattle.std.proofs.Common.{◌≡◌, ◌⊎◌, inl, inr, ◌↔◌, ℕ, ◌+◌, ◌≤◌, List, length, Contains, refl, sym, subst, arith, Vec, Global, Result, Ok, Err}
+use Rattle.std.proofs.Common.{◌≡◌, ◌⊎◌, inl, inr, ◌↔◌, ℕ, ◌+◌, ◌≤◌, List, [], length, Contains, refl, sym, subst, arith, Vec, Global, Result, Ok, Err}
 use Rattle.std.specs.Prelude.{IfOk, OnErr}
 use Rattle.grammar_model.specs.declared.Ranking.{Ranking}
 use Rattle.grammar_model.specs.Grammar.{Grammar}
 use Rattle.recognizer_model.specs.declared.Item.{Item}
 use Rattle.recognizer_model.specs.Items.{advanced}
-use Rattle.recognizer_model.specs.Leo.{LeadsTo}
+use Rattle.recognizer_model.specs.Leo.{LeadsTo, IsHidden}
 use Rattle.recognizer_model.specs.Counts.{IsListOf}
+use Rattle.finite_sets.proofs.Lists.{Contains-none}
 use Rattle.recognizer_model.proofs.Once.{leads_one}
 use Rattle.recognizer_model.proofs.Below.{leads_back}
 use Rattle.earley_sets.specs.Recognizer.{Recognizer, IsRecognizer, earleme_of, edges_of, top_of}
@@ -64,6 +65,14 @@ below_hidden w ranking r is keys end least item (t, (hidden, leads), (late, aske
   hidden,
   (let low = leads_back r.flat (edges_of r) (λ a b c. ⊥) (top_of r) (at_top r is) (goes r is) 0 leads in omega arith),
 )
+
+-- where nothing is hidden from there on, nothing is below one that is asked for
+pub none_below : (w : Grammar) (ranking : Ranking) (r : Recognizer) (is : IsRecognizer r) (keys : List NodeKey) (end least : ℕ) → ((item : Item) → least ≤ item.origin → ¬ IsHidden r.flat (edges_of r) (top_of r) end item) → (items : List Item) → items ≡ [] →
+    IsListOf (IsBelowAsked w ranking r keys end least) items
+none_below w ranking r is keys end least none items empty = subst (IsListOf (IsBelowAsked w ranking r keys end least)) (sym empty) (record {
+  once = λ i j d lt below e. absurd (omega arith);
+  exact = λ item. (λ h. absurd (Contains-none item h), λ below. (let (hidden, late) = below_hidden w ranking r is keys end least item below in absurd (none item late hidden)));
+})
 
 -- THE TOPMOST ITEM OF ONE
 

@@ -95,6 +95,9 @@ pub fn list_needed<L: Ledger>(
     ensures counted { RisesWithin (IsBelowAsked w.now ranking recce.now keys.now.keys end least)
         steps.old steps.new }
 {
+    if !recce.may_hide(end, least) {
+        return Ok(Vec::new(alloc));
+    }
     let unasked = list_unasked(alloc, recce, w, ranking, keys, end, least)?;
     list_tops(recce, &unasked, end, least, tops, bottoms)?;
     drop(unasked);

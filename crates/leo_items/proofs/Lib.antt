@@ -8,3 +8,4 @@ pub mod Hiding
 pub mod Below
 pub mod Noting
 pub mod Ways
+pub mod Twice

@@ -50,3 +50,11 @@ IsBottomOf g rows earleme tops item = (topmost : Item) × Contains tops topmost 
 
 abbrev pub IsBelowOf : FlatGrammar → List (List Item) → (earleme : ℕ) → (tops : List Item) → Item → Type 0
 IsBelowOf g rows earleme tops item = (topmost : Item) × Contains tops topmost × IsBelowIn g rows earleme topmost item
+
+-- two single steps lead on from the item, and the first leads to one that begins at `from` or after it
+abbrev pub StepsTwice : FlatGrammar → List (List Item) → (earleme from : ℕ) → Item → Type 0
+StepsTwice g rows earleme from item = (step : Item) × IsSingleStep g rows earleme from item step × ((next : Item) × IsSingleStep g rows earleme 0 step next)
+
+-- from a whole item of the row they do
+abbrev pub SomeStepsTwice : FlatGrammar → List (List Item) → (earleme from : ℕ) → Type 0
+SomeStepsTwice g rows earleme from = (item : Item) × (Contains (row_at rows earleme) item × IsWhole g item) × StepsTwice g rows earleme from item

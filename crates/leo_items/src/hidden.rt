@@ -6,7 +6,7 @@ ghost use Rattle.recognizer_model.specs.Counts.{IsListOf};
 ghost use Rattle.item_rows.specs.Kept.{AreItems, HasRows};
 ghost use Rattle.leo_items.specs.ByRows.{IsMemo, AreNulled};
 ghost use Rattle.leo_items.specs.Closed.{IsReached, Grows};
-ghost use Rattle.leo_items.specs.Hidden.{IsFrom, IsSingleStep, NoneLeadsOn, IsHiddenIn, LeadsUpIn, IsBottomIn, IsBottomOf, IsBelowOf};
+ghost use Rattle.leo_items.specs.Hidden.{IsFrom, IsSingleStep, NoneLeadsOn, IsHiddenIn, LeadsUpIn, IsBottomIn, IsBottomOf, IsBelowOf, StepsTwice, SomeStepsTwice};
 
 use crate::chain::{find, pair_above, step_in};
 use crate::{Memo, NearHasher};
@@ -178,6 +178,37 @@ pub fn top_above(
     }
     let step = step_in(flat, rows, pair)?;
     Some(find(flat, rows, memo, pair, step).top)
+}
+
+// Whether two single steps lead on from an item, the first to one that begins at a place or after it.
+fn steps_twice(flat: &Flat, rows: &Rows<'_>, earleme: u32, from: u32, item: Item) -> bool
+    requires rows { HasRows flat.now rows.now }
+    requires earleme { earleme < length rows.now.sets }
+    requires rule { IsRule flat.now item.rule }
+    ensures { IsTrue result ↔ StepsTwice flat.now rows.now.sets earleme from item }
+{
+    if item.origin < from {
+        return false;
+    }
+    match single_step(flat, rows, earleme, from, item) {
+        Some(step) => single_step(flat, rows, earleme, 0, step).is_some(),
+        None => false,
+    }
+}
+
+/// Whether two single steps lead on from a whole item of a set, the first to one that begins at a place or after it.
+pub fn some_steps_twice(flat: &Flat, rows: &Rows<'_>, earleme: u32, from: u32) -> bool
+    requires rows { HasRows flat.now rows.now }
+    requires earleme { earleme < length rows.now.sets }
+    ensures { IsTrue result ↔ SomeStepsTwice flat.now rows.now.sets earleme from }
+{
+    let whole = rows.whole(earleme as usize);
+    for k in 0..whole.len() {
+        if steps_twice(flat, rows, earleme, from, whole.at(k)) {
+            return true;
+        }
+    }
+    false
 }
 
 // Puts the items that are not there yet.

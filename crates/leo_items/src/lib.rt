@@ -13,7 +13,7 @@ ghost use Rattle.leo_items.specs.Steps.{IsStep, StepsAreLeo};
 
 pub use chain::{pair_above, step_in, topmost};
 use grammar_core::Flat;
-pub use hidden::{list_below, list_hidden, single_step, top_above};
+pub use hidden::{list_below, list_hidden, single_step, some_steps_twice, top_above};
 use item_rows::Row;
 pub use memo::Memo;
 pub use near::NearHasher;

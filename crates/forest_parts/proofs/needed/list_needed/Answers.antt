@@ -1,8 +1,8 @@
-use Rattle.std.proofs.Common.{List, sym, subst}
+use Rattle.std.proofs.Common.{true≢false, ◌∙◌, List, sym, subst}
 use Rattle.std.proofs.lemmas.Result.{IfOk-weaker}
 use Rattle.recognizer_model.specs.declared.Item.{Item}
 use Rattle.forest_parts.specs.Needed.{AreTops}
-use Rattle.forest_parts.proofs.Tops.{top_bottom, bottoms_are, below_exact, below_counted}
+use Rattle.forest_parts.proofs.Tops.{top_bottom, bottoms_are, below_exact, below_counted, none_below}
 use Rattle.forest_parts.proofs.needed.list_needed.Goals as goal
 
 pub below-requires-clause-bottoms : goal.below-requires-clause-bottoms
@@ -28,3 +28,7 @@ returns-clause-counted g c =
     let tops = subst (λ (l : List Item). AreTops c.args.recce.now c.in_ok-unasked.unasked.keys c.args.end c.args.least l c.deref-2.result.now) (sym c.deref.ensures.value)
     (subst (λ (l : List Item). AreTops c.args.recce.now c.in_ok-unasked.unasked.keys c.args.end c.args.least c.list_tops.new.tops.items l) (sym c.deref-2.ensures.value) c.in_ok-list_tops.ensures) in
     below_counted c.args.recce.now c.requires.is c.in_ok-unasked.unasked.keys c.args.end c.args.least c.requires.end c.deref.result.now c.deref-2.result.now tops c.args.w.now c.args.ranking c.args.keys.now.keys c.in_ok-unasked.ensures.unasked c.in_ok-unasked.ensures.asked c.args.steps.now c.below.new.steps c.below.result c.below.ensures.below c.below.ensures.counted c.below.ensures.err
+
+pub returns-then-not-may_hide-clause-exact : goal.returns-then-not-may_hide-clause-exact
+returns-then-not-may_hide-clause-exact g c =
+    none_below c.args.w.now c.args.ranking c.args.recce.now c.requires.is c.args.keys.now.keys c.args.end c.args.least (c.may_hide.ensures.none (λ t. true≢false (sym t ∙ c.if-not-may_hide.true))) c.new.result.items c.new.ensures.items
